@@ -1,0 +1,47 @@
+use Rattle.std.specs.Prelude.{true, ◌≡◌, ℕ, List, [], map, filter, slice_get, Some}
+use Rattle.std.specs.List.{AllByRecursion}
+use Rattle.mq_core.specs.Event.{Event, time_of, job_of}
+use Rattle.mq_core.specs.Machine.{Emission, Visit, after, opened}
+use Rattle.mq_core.specs.Laws.{NotBefore, Rises, is_arrival_at, alone}
+use Rattle.mq_core.specs.Served.{served_from, passed_from}
+use Rattle.mq_core.specs.StandardTable.{standard}
+use Rattle.mq_core.specs.declared.model.Demand.{Demand}
+use Rattle.mq_core.specs.declared.model.Kind.TheVariants.{Source, Server}
+use Rattle.mq_core.specs.declared.model.Node.{Node}
+use Rattle.mq_core.specs.declared.model.Plan.{Plan}
+use Rattle.mq_core.specs.declared.model.Rows.{Rows}
+
+-- the time and the job of each visit, and of each arrival at a node
+abbrev pub came : List Visit → List (ℕ × ℕ)
+came visits = map {B = ℕ × ℕ} (λ (x : Visit). (x.arrive, x.job)) visits
+
+abbrev pub come_at : ℕ → List Event → List (ℕ × ℕ)
+come_at v events = map {B = ℕ × ℕ} (λ e. (time_of e, job_of e)) (filter (is_arrival_at v) events)
+
+-- these are arrivals at a node, by time, and at one time by port
+pub record IsLoad (v : ℕ) (arrivals : List Event) : Type 0 where
+  pub here : AllByRecursion (λ e. is_arrival_at v e ≡ true) arrivals
+  pub ordered : Rises NotBefore arrivals
+
+-- a run of a node alone gave these visits for its arrivals, and this was let out
+pub record LetsOut (visits : List Visit) (emitted : List Emission) (arrivals : List Event) (v : ℕ) (expected : List Emission) : Type 0 where
+  pub visited : came visits ≡ come_at v arrivals
+  pub left : emitted ≡ expected
+
+-- a source alone: each visit leaves when it came, in the order of arrival
+abbrev pub SourcesPassOn : Type 0
+SourcesPassOn =
+    (plan : Plan) (rows : Rows) (v : ℕ) (node : Node) → slice_get plan.net.nodes v ≡ Some node → node.kind ≡ Source →
+    (arrivals : List Event) → IsLoad v arrivals → (count : ℕ) →
+    let end = after count (alone (standard plan rows)) (opened (alone (standard plan rows)) arrivals) in
+    end.pending ≡ [] →
+    LetsOut (end.stations v).visits (end.stations v).emitted arrivals v (passed_from (λ _ _. 0) 0 (end.stations v).visits)
+
+-- a server alone: each visit leaves at the greater of its arrival and the last departure, plus its demand, in the order of arrival
+abbrev pub ServersServe : Type 0
+ServersServe =
+    (plan : Plan) (rows : Rows) (v : ℕ) (node : Node) (demand : Demand) → slice_get plan.net.nodes v ≡ Some node → node.kind ≡ Server demand →
+    (arrivals : List Event) → IsLoad v arrivals → (count : ℕ) →
+    let end = after count (alone (standard plan rows)) (opened (alone (standard plan rows)) arrivals) in
+    end.pending ≡ [] →
+    LetsOut (end.stations v).visits (end.stations v).emitted arrivals v (served_from rows demand 0 0 (end.stations v).visits)

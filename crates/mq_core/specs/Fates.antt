@@ -1,0 +1,95 @@
+use Rattle.std.specs.List.{AllByRecursion}
+use Rattle.std.specs.Prelude.{◌≤◌, ◌+◌, ◌⊎◌, ◌≡◌, ℕ, ◌<◌, ◌==◌, List, [], ◌∷◌, ◌++◌, length, find, Option, Some, slice_get, IsSome}
+use Rattle.std.specs.Option.{option_map}
+use Rattle.mq_core.specs.Machine.{Visit, Emission, State}
+use Rattle.mq_core.specs.Local.{Local}
+use Rattle.mq_core.specs.Standard.{demand_of_visit, standard_jobs}
+use Rattle.mq_core.specs.StandardTable.{run_of}
+use Rattle.mq_core.specs.Tallies.{greatest_below, sum_below, sojourns, found_or, still_there, arrival_or}
+use Rattle.mq_core.specs.Theorems.{IsReadFor}
+use Rattle.mq_core.specs.declared.model.Demand.{Demand}
+use Rattle.mq_core.specs.declared.model.Fate.{Fate}
+use Rattle.mq_core.specs.declared.model.Fate.TheVariants.{Departs}
+use Rattle.mq_core.specs.declared.model.Kind.{Kind}
+use Rattle.mq_core.specs.declared.model.Kind.TheVariants.{Server}
+use Rattle.mq_core.specs.declared.model.Node.{Node}
+use Rattle.mq_core.specs.declared.model.Plan.{Plan}
+use Rattle.mq_core.specs.declared.model.Rows.{Rows}
+
+-- what an emission says of a visit: a loss station emits a lost one on output 1
+abbrev pub fate_by : Kind → Emission → Fate
+fate_by _ m = Departs m.time
+
+-- the fate of a position, once it was let out
+abbrev pub fate_of : Kind → List Emission → ℕ → Option Fate
+fate_of kind emitted position = option_map (fate_by kind) (find (λ m. m.position == position) emitted)
+
+-- nothing is pending, each visit has its fate, and no node holds a job
+pub record IsEnded (plan : Plan) (rows : Rows) (s : State Local) : Type 0 where
+  pub nothing : s.pending ≡ []
+  pub fates : (v : ℕ) (node : Node) (position : ℕ) → slice_get plan.net.nodes v ≡ Some node → position < length (s.stations v).visits → IsSome (fate_of node.kind (s.stations v).emitted position)
+  pub empty : (v : ℕ) → standard_jobs plan rows v (s.stations v).visits (s.stations v).local ≡ 0
+
+-- after the steps of a run all is over
+abbrev pub RunEnds : Type 0
+RunEnds = (plan : Plan) (rows : Rows) → IsReadFor plan.net rows → IsEnded plan rows (run_of plan rows)
+
+-- the area of each node is the sum of the sojourns of its visits
+abbrev pub AreasAreSojourns : Type 0
+AreasAreSojourns =
+    (plan : Plan) (rows : Rows) → IsReadFor plan.net rows → (v : ℕ) → v < length plan.net.nodes →
+    let end = (run_of plan rows).stations v in
+    end.area ≡ sojourns (run_of plan rows).clock end.visits end.emitted
+
+-- each visit found as many as the earlier ones that leave later than it came
+abbrev pub FoundsAreCounts : Type 0
+FoundsAreCounts =
+    (plan : Plan) (rows : Rows) → IsReadFor plan.net rows → (v : ℕ) → v < length plan.net.nodes →
+    let end = (run_of plan rows).stations v in
+    (position : ℕ) → position < length end.visits →
+    found_or 0 (slice_get end.visits position) ≡ still_there (arrival_or 0 (slice_get end.visits position)) end.emitted position
+
+-- the demand of each job where a server serves it, and 0 at a source or a split
+abbrev pub service_of : Rows → Kind → Option Visit → ℕ
+service_of rows (Server demand) visit = demand_of_visit rows demand visit
+service_of rows _ visit = 0
+
+-- the busy tally of each node is the sum of its services
+abbrev pub BusyIsServices : Type 0
+BusyIsServices =
+    (plan : Plan) (rows : Rows) → IsReadFor plan.net rows → (v : ℕ) (node : Node) → slice_get plan.net.nodes v ≡ Some node →
+    let end = (run_of plan rows).stations v in
+    end.busy ≡ sum_below (length end.visits) (λ position. service_of rows node.kind (slice_get end.visits position))
+
+-- the peak of a server is the greatest found of its visits, plus 1
+abbrev pub PeakIsGreatest : Type 0
+PeakIsGreatest =
+    (plan : Plan) (rows : Rows) (v : ℕ) (node : Node) (demand : Demand) → slice_get plan.net.nodes v ≡ Some node → node.kind ≡ Server demand →
+    let end = (run_of plan rows).stations v in
+    end.peak ≡ greatest_below (length end.visits) (λ position. found_or 0 (slice_get end.visits position) + 1)
+
+-- a visit that comes at this time, or an emission at it
+pub record ComesAt (s : State Local) (time : ℕ) : Type 0 where
+  pub node : ℕ
+  pub position : ℕ
+  pub inside : position < length (s.stations node).visits
+  pub at : arrival_or 0 (slice_get (s.stations node).visits position) ≡ time
+
+pub record LeavesAt (s : State Local) (time : ℕ) : Type 0 where
+  pub node : ℕ
+  pub before : List Emission
+  pub emission : Emission
+  pub after : List Emission
+  pub inside : (s.stations node).emitted ≡ before ++ emission ∷ after
+  pub at : emission.time ≡ time
+
+-- the span is the greatest time of a visit: none comes or leaves later, and one comes or leaves then, or there is none
+pub record IsLatest (plan : Plan) (s : State Local) (span : ℕ) : Type 0 where
+  pub came : (v : ℕ) → v < length plan.net.nodes → AllByRecursion (λ (x : Visit). x.arrive ≤ span) (s.stations v).visits
+  pub left : (v : ℕ) → v < length plan.net.nodes → AllByRecursion (λ (m : Emission). m.time ≤ span) (s.stations v).emitted
+  pub reached : (span ≡ 0) ⊎ (ComesAt s span ⊎ LeavesAt s span)
+
+abbrev pub SpanIsLatest : Type 0
+SpanIsLatest =
+    (plan : Plan) (rows : Rows) → IsReadFor plan.net rows →
+    IsLatest plan (run_of plan rows) (run_of plan rows).clock

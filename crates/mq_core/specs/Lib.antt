@@ -1,0 +1,17 @@
+pub mod Event
+pub mod Machine
+pub mod Laws
+pub mod Names
+pub mod Sound
+pub mod Wiring
+pub mod Run
+pub mod Theorems
+pub mod Local
+pub mod Standard
+pub mod OnTime
+pub mod StandardTable
+pub mod Served
+pub mod Fates
+pub mod Alone
+pub mod Tallies
+pub mod Results

@@ -1,0 +1,8 @@
+use Rattle.std.specs.Prelude.{ℕ, List, []}
+
+-- what a node keeps: the positions at a server, the one in service first
+pub record Local : Type 0 where
+  pub queue : List ℕ
+
+abbrev pub empty : Local
+empty = record { queue = [] }

@@ -1,0 +1,130 @@
+use Rattle.std.specs.Prelude.{ℕ, suc, ◌-◌, nat_lt, max, Bool, true, false, if◌then◌else◌, List, [], ◌∷◌, ◌++◌, length, map, sum, sum_by, count_by, fold, position, Option, Some, None, slice_get, slice_index}
+use Rattle.std.specs.Option.{option_to_list}
+use Rattle.std.specs.List.{flat_map}
+use Rattle.mq_core.specs.Machine.{Visit, Emission, Station}
+use Rattle.mq_core.specs.Laws.{stream_of}
+use Rattle.mq_core.specs.Local.{Local}
+use Rattle.mq_core.specs.Standard.{demand_of_job}
+use Rattle.mq_core.specs.StandardTable.{run_of}
+use Rattle.mq_core.specs.Fates.{fate_of}
+use Rattle.mq_core.specs.declared.model.Fate.{Fate}
+use Rattle.mq_core.specs.declared.model.Fate.TheVariants.{Departs, Lost}
+use Rattle.mq_core.specs.declared.model.Kind.{Kind}
+use Rattle.mq_core.specs.declared.model.Kind.TheVariants.{Source, Server, Split}
+use Rattle.mq_core.specs.declared.model.Node.{Node}
+use Rattle.mq_core.specs.declared.model.Visits.{Visits}
+use Rattle.mq_core.specs.declared.model.Stream.{Stream}
+use Rattle.mq_core.specs.declared.model.Plan.{Plan}
+use Rattle.mq_core.specs.declared.model.Rows.{Rows}
+
+-- the time in service of a job that never waits
+abbrev pub bare_time : Rows → Kind → ℕ → ℕ
+bare_time rows Source job = 0
+bare_time rows (Split route) job = 0
+bare_time rows (Server demand) job = demand_of_job rows demand job
+
+-- the fates of the positions from this one on, one for each visit that has its fate
+abbrev pub fates_from : Kind → List Emission → ℕ → List Visit → List Fate
+fates_from kind emitted position [] = []
+fates_from kind emitted position (visit ∷ visits) =
+    option_to_list (fate_of kind emitted position) ++ fates_from kind emitted (suc position) visits
+
+-- the visits of a node
+abbrev pub visits_of : Kind → Station Local → Visits
+visits_of kind s =
+    record {
+      job = map (λ (x : Visit). x.job) s.visits;
+      arrive = map (λ (x : Visit). x.arrive) s.visits;
+      found = map (λ (x : Visit). x.found) s.visits;
+      fate = fates_from kind s.emitted 0 s.visits;
+    }
+
+-- the stream of an output
+abbrev pub stream_from : Station Local → ℕ → Stream
+stream_from s out =
+    record {
+      job = map (λ (m : Emission). m.job) (stream_of out s.emitted);
+      time = map (λ (m : Emission). m.time) (stream_of out s.emitted);
+    }
+
+-- how long a visit waited; one that is lost didn't
+abbrev pub wait_of : Rows → Kind → Visit → Fate → ℕ
+wait_of rows kind visit (Departs time) = time - visit.arrive - bare_time rows kind visit.job
+wait_of rows kind visit Lost = 0
+
+abbrev pub waits_of : Rows → Kind → List Visit → List Fate → List ℕ
+waits_of rows kind [] fates = []
+waits_of rows kind (visit ∷ visits) [] = []
+waits_of rows kind (visit ∷ visits) (fate ∷ fates) = wait_of rows kind visit fate ∷ waits_of rows kind visits fates
+
+abbrev pub is_lost : Fate → Bool
+is_lost (Departs time) = false
+is_lost Lost = true
+
+-- the totals of a node; its number, its area and its busy tally are those of the run
+pub record Totals : Type 0 where
+  pub came : ℕ
+  pub left : ℕ
+  pub lost : ℕ
+  pub wait : ℕ
+  pub longest : ℕ
+  pub busy : ℕ
+  pub area : ℕ
+  pub peak : ℕ
+
+abbrev pub peak_of : Kind → ℕ → ℕ
+peak_of Source peak = 0
+peak_of (Split route) peak = 0
+peak_of _ peak = peak
+
+abbrev pub totals_of : Rows → Kind → Station Local → Totals
+totals_of rows kind s =
+    let fates = fates_from kind s.emitted 0 s.visits in
+    let lost = count_by is_lost fates in
+    let waits = waits_of rows kind s.visits fates in
+    record {
+      came = length s.visits;
+      left = length s.visits - lost;
+      lost = lost;
+      wait = sum waits;
+      longest = fold max 0 waits;
+      busy = s.busy;
+      area = s.area;
+      peak = peak_of kind s.peak;
+    }
+
+-- what leaves by an output: its number, and the time since the rows
+abbrev pub exit_of : Rows → Station Local → ℕ → ℕ × ℕ
+exit_of rows s out =
+    let stream = stream_of out s.emitted in
+    (length stream, sum_by (λ (m : Emission). m.time - slice_index rows.time m.job) stream)
+
+-- a departure after the bound
+pub record Late : Type 0 where
+  pub node : ℕ
+  pub position : ℕ
+  pub time : ℕ
+
+abbrev pub late_fate : ℕ → ℕ → ℕ → Option Fate → List Late
+late_fate bound node position None = []
+late_fate bound node position (Some Lost) = []
+late_fate bound node position (Some (Departs time)) = if nat_lt bound time then record { node = node; position = position; time = time } ∷ [] else []
+
+-- the visits of a node that depart after the bound, from this position on
+abbrev pub late_from : ℕ → ℕ → Kind → List Emission → ℕ → List Visit → List Late
+late_from bound node kind emitted position [] = []
+late_from bound node kind emitted position (visit ∷ visits) =
+    late_fate bound node position (fate_of kind emitted position) ++ late_from bound node kind emitted (suc position) visits
+
+abbrev pub late_at : ℕ → ℕ → Option Node → Station Local → List Late
+late_at bound v None s = []
+late_at bound v (Some node) s = late_from bound v node.kind s.emitted 0 s.visits
+
+abbrev pub first_of : List Late → Option Late
+first_of [] = None
+first_of (late ∷ lates) = Some late
+
+-- the first departure after the bound, by rank of the node and then position
+abbrev pub past_of : Plan → Rows → Option Late
+past_of plan rows =
+    first_of (flat_map (λ v. late_at plan.net.bound v (slice_get plan.net.nodes v) ((run_of plan rows).stations v)) plan.order)

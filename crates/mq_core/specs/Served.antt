@@ -1,0 +1,22 @@
+use Rattle.std.specs.Prelude.{ℕ, suc, ◌+◌, max, List, [], ◌∷◌}
+use Rattle.mq_core.specs.Machine.{Visit, Emission}
+use Rattle.mq_core.specs.Standard.{demand_of_job}
+use Rattle.mq_core.specs.declared.model.Demand.{Demand}
+use Rattle.mq_core.specs.declared.model.Rows.{Rows}
+
+-- when a visit leaves a server that the visit before it left at this time
+abbrev pub served : Rows → Demand → ℕ → Visit → ℕ
+served rows demand last visit = max visit.arrive last + demand_of_job rows demand visit.job
+
+-- what these visits let out, the first at this position: each leaves when it is served
+abbrev pub served_from : Rows → Demand → ℕ → ℕ → List Visit → List Emission
+served_from rows demand position last [] = []
+served_from rows demand position last (visit ∷ visits) =
+    record { out = 0; position = position; job = visit.job; time = served rows demand last visit }
+    ∷ served_from rows demand (suc position) (served rows demand last visit) visits
+
+-- what these visits let out where each goes on at once by this output, the first at this position
+abbrev pub passed_from : (Visit → ℕ → ℕ) → ℕ → List Visit → List Emission
+passed_from out position [] = []
+passed_from out position (visit ∷ visits) =
+    record { out = out visit position; position = position; job = visit.job; time = visit.arrive } ∷ passed_from out (suc position) visits
