@@ -15,3 +15,4 @@ pub mod Fates
 pub mod Alone
 pub mod Tallies
 pub mod Results
+pub mod Columns

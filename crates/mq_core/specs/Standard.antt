@@ -58,11 +58,21 @@ abbrev pub source_on : List Visit → Local → Event → Reaction Local
 source_on visits local (Arrive time node port job) = passes_on local 0 (latest visits)
 source_on visits local (Finish time node server position) = quiet local
 
--- the output that a route gives
+-- the output that a route gives to a value at a position
+abbrev pub output_at : Route → ℕ → ℕ → ℕ
+output_at (Modulo outputs column) value position = value % outputs
+output_at (Turn outputs) value position = position % outputs
+output_at (Cut column thresholds) value position = count_by (λ threshold. nat_le threshold value) thresholds
+
+-- the value that a route looks at; by turns it looks at none
+abbrev pub route_value : Rows → Route → ℕ → ℕ
+route_value rows (Modulo outputs column) job = value_of rows column job
+route_value rows (Turn outputs) job = 0
+route_value rows (Cut column thresholds) job = value_of rows column job
+
+-- the output that a route gives to a job at a position
 abbrev pub output_by : Rows → Route → ℕ → ℕ → ℕ
-output_by rows (Modulo outputs column) job position = value_of rows column job % outputs
-output_by rows (Turn outputs) job position = position % outputs
-output_by rows (Cut column thresholds) job position = count_by (λ threshold. nat_le threshold (value_of rows column job)) thresholds
+output_by rows route job position = output_at route (route_value rows route job) position
 
 abbrev pub split_on : Rows → Route → List Visit → Local → Event → Reaction Local
 split_on rows route visits local (Arrive time node port job) = passes_on local (output_by rows route job (latest visits)) (latest visits)

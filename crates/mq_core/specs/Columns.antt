@@ -1,0 +1,204 @@
+-- A run in columns: what the code keeps of it, one item a visit, by position.
+use Rattle.std.specs.Prelude.{◌≡◌, ◌≤◌, ℕ, zero, suc, ◌+◌, ◌-◌, nat_lt, max, Bool, false, List, [], ◌∷◌, ◌++◌, length, map, filter, sum, count_by, fold, ◌==◌, slice_index, if◌then◌else◌}
+use Rattle.std.specs.List.{zip}
+use Rattle.mq_core.specs.Laws.{Rises, in_order_of}
+use Rattle.mq_core.specs.Local.{Local}
+use Rattle.mq_core.specs.Machine.{State}
+use Rattle.mq_core.specs.Results.{Totals, bare_time, is_lost, visits_of, stream_from}
+use Rattle.mq_core.specs.Sound.{outputs_in}
+use Rattle.mq_core.specs.Standard.{demand_of_job, output_by}
+use Rattle.mq_core.specs.StandardTable.{run_of}
+use Rattle.mq_core.specs.declared.model.Demand.{Demand}
+use Rattle.mq_core.specs.declared.model.Fate.{Fate}
+use Rattle.mq_core.specs.declared.model.Fate.TheVariants.{Departs, Lost}
+use Rattle.mq_core.specs.declared.model.Kind.{Kind}
+use Rattle.mq_core.specs.declared.model.Kind.TheVariants.{Source, Server, Split}
+use Rattle.mq_core.specs.declared.model.Node.{Node}
+use Rattle.mq_core.specs.declared.model.Plan.{Plan}
+use Rattle.mq_core.specs.declared.model.Route.{Route}
+use Rattle.mq_core.specs.declared.model.Rows.{Rows}
+use Rattle.mq_core.specs.declared.model.Run.{Run}
+use Rattle.mq_core.specs.declared.model.Stream.{Stream}
+use Rattle.mq_core.specs.declared.model.Visits.{Visits}
+
+-- Streams. One job and one time an item, and the times never fall.
+pub record IsStream (stream : Stream) : Type 0 where
+  pub even : length stream.job ≡ length stream.time
+  pub rising : Rises (λ a b. a ≤ b) stream.time
+
+-- the time and the job of each item
+abbrev pub pairs_of : Stream → List (ℕ × ℕ)
+pairs_of stream = zip stream.time stream.job
+
+-- these by time, those of one time in their order
+abbrev pub by_first : List (ℕ × ℕ) → List (ℕ × ℕ)
+by_first pairs = in_order_of (λ (p : ℕ × ℕ). p.0) pairs
+
+-- the rows of a source, in file order, from this job on
+abbrev pub rows_at : ℕ → ℕ → List ℕ → List ℕ → List (ℕ × ℕ)
+rows_at node job [] times = []
+rows_at node job (source ∷ sources) [] = []
+rows_at node job (source ∷ sources) (time ∷ times) =
+    if source == node then (time, job) ∷ rows_at node (suc job) sources times else rows_at node (suc job) sources times
+
+-- Departures. A server's, by Lindley's recurrence: from the last departure, the arrivals and the demands.
+abbrev pub lindley : ℕ → List ℕ → List ℕ → List ℕ
+lindley last [] demands = []
+lindley last (arrive ∷ arrives) [] = []
+lindley last (arrive ∷ arrives) (demand ∷ demands) = (max arrive last + demand) ∷ lindley (max arrive last + demand) arrives demands
+
+-- the fates of the visits of a node, which has these jobs at these times
+abbrev pub column_fates : Rows → Kind → List ℕ → List ℕ → List Fate
+column_fates rows Source job arrive = map (λ time. Departs time) arrive
+column_fates rows (Server demand) job arrive = map (λ time. Departs time) (lindley 0 arrive (map (demand_of_job rows demand) job))
+column_fates rows (Split route) job arrive = map (λ time. Departs time) arrive
+
+-- it departs after this time
+abbrev pub departs_after : ℕ → Fate → Bool
+departs_after time (Departs departure) = nat_lt time departure
+departs_after time Lost = false
+
+-- how many of the earlier visits, these first, depart after each arrival
+abbrev pub founds_from : List Fate → List ℕ → List Fate → List ℕ
+founds_from before [] fates = []
+founds_from before (arrive ∷ arrives) [] = []
+founds_from before (arrive ∷ arrives) (fate ∷ fates) =
+    count_by (departs_after arrive) before ∷ founds_from (before ++ fate ∷ []) arrives fates
+
+abbrev pub founds_of : List ℕ → List Fate → List ℕ
+founds_of arrive fate = founds_from [] arrive fate
+
+-- the visits of a node, which has these jobs at these times
+abbrev pub column_visits : Rows → Kind → List ℕ → List ℕ → Visits
+column_visits rows kind job arrive =
+    let fate = column_fates rows kind job arrive in
+    record { job = job; arrive = arrive; found = founds_of arrive fate; fate = fate }
+
+-- Outputs. The output by which each job leaves, the first at this position.
+abbrev pub routes_from : Rows → Route → ℕ → List ℕ → List ℕ
+routes_from rows route position [] = []
+routes_from rows route position (job ∷ jobs) = output_by rows route job position ∷ routes_from rows route (suc position) jobs
+
+abbrev pub column_outs : Rows → Kind → List ℕ → List ℕ
+column_outs rows Source job = map (λ _. 0) job
+column_outs rows (Server demand) job = map (λ _. 0) job
+column_outs rows (Split route) job = routes_from rows route 0 job
+
+-- the items, of these that stand beside their outputs, whose output is this one
+abbrev pub picked : ℕ → List ℕ → List ℕ → List ℕ
+picked out [] items = []
+picked out (o ∷ outs) [] = []
+picked out (o ∷ outs) (item ∷ items) = if o == out then item ∷ picked out outs items else picked out outs items
+
+abbrev pub time_of_fate : Fate → ℕ
+time_of_fate (Departs time) = time
+time_of_fate Lost = 0
+
+-- what leaves a node by an output, where the node has these jobs at these times
+abbrev pub column_stream : Rows → Kind → List ℕ → List ℕ → ℕ → Stream
+column_stream rows kind job arrive out =
+    let outs = column_outs rows kind job in
+    record {
+      job = picked out outs job;
+      time = picked out outs (map time_of_fate (column_fates rows kind job arrive));
+    }
+
+-- Totals. How long each visit waited, stayed and was served.
+abbrev pub column_wait : Rows → Kind → ℕ → ℕ → Fate → ℕ
+column_wait rows kind job arrive (Departs time) = time - arrive - bare_time rows kind job
+column_wait rows kind job arrive Lost = 0
+
+abbrev pub column_waits : Rows → Kind → List ℕ → List ℕ → List Fate → List ℕ
+column_waits rows kind [] arrives fates = []
+column_waits rows kind (job ∷ jobs) [] fates = []
+column_waits rows kind (job ∷ jobs) (arrive ∷ arrives) [] = []
+column_waits rows kind (job ∷ jobs) (arrive ∷ arrives) (fate ∷ fates) = column_wait rows kind job arrive fate ∷ column_waits rows kind jobs arrives fates
+
+abbrev pub column_sojourn : ℕ → Fate → ℕ
+column_sojourn arrive (Departs time) = time - arrive
+column_sojourn arrive Lost = 0
+
+abbrev pub column_sojourns : List ℕ → List Fate → List ℕ
+column_sojourns [] fates = []
+column_sojourns (arrive ∷ arrives) [] = []
+column_sojourns (arrive ∷ arrives) (fate ∷ fates) = column_sojourn arrive fate ∷ column_sojourns arrives fates
+
+-- the demand of a job where a server serves it, and 0 at a source or a split
+abbrev pub service_time : Rows → Kind → ℕ → ℕ
+service_time rows Source job = 0
+service_time rows (Server demand) job = demand_of_job rows demand job
+service_time rows (Split route) job = 0
+
+abbrev pub column_service : Rows → Kind → ℕ → Fate → ℕ
+column_service rows kind job (Departs time) = service_time rows kind job
+column_service rows kind job Lost = 0
+
+abbrev pub column_services : Rows → Kind → List ℕ → List Fate → List ℕ
+column_services rows kind [] fates = []
+column_services rows kind (job ∷ jobs) [] = []
+column_services rows kind (job ∷ jobs) (fate ∷ fates) = column_service rows kind job fate ∷ column_services rows kind jobs fates
+
+-- the greatest found of a visit that isn't lost, plus 1, or 0
+abbrev pub one_more : ℕ → Fate → ℕ
+one_more found (Departs time) = found + 1
+one_more found Lost = 0
+
+abbrev pub column_numbers : List ℕ → List Fate → List ℕ
+column_numbers [] fates = []
+column_numbers (found ∷ founds) [] = []
+column_numbers (found ∷ founds) (fate ∷ fates) = one_more found fate ∷ column_numbers founds fates
+
+abbrev pub column_peak : Kind → List ℕ → List Fate → ℕ
+column_peak Source founds fates = 0
+column_peak (Server demand) founds fates = fold max 0 (column_numbers founds fates)
+column_peak (Split route) founds fates = 0
+
+abbrev pub column_totals : Rows → Kind → Visits → Totals
+column_totals rows kind visits =
+    let lost = count_by is_lost visits.fate in
+    let waits = column_waits rows kind visits.job visits.arrive visits.fate in
+    record {
+      came = length visits.job;
+      left = length visits.job - lost;
+      lost = lost;
+      wait = sum waits;
+      longest = fold max 0 waits;
+      busy = sum (column_services rows kind visits.job visits.fate);
+      area = sum (column_sojourns visits.arrive visits.fate);
+      peak = column_peak kind visits.found visits.fate;
+    }
+
+-- what leaves by an output: its number, and the sum of the times since the rows
+abbrev pub stream_sojourns : Rows → List ℕ → List ℕ → List ℕ
+stream_sojourns rows [] times = []
+stream_sojourns rows (job ∷ jobs) [] = []
+stream_sojourns rows (job ∷ jobs) (time ∷ times) = (time - slice_index rows.time job) ∷ stream_sojourns rows jobs times
+
+abbrev pub column_exit : Rows → Stream → ℕ × ℕ
+column_exit rows stream = (length stream.job, sum (stream_sojourns rows stream.job stream.time))
+
+-- the greatest time of a visit, or 0
+abbrev pub greatest_time : Visits → ℕ
+greatest_time visits = max (fold max 0 visits.arrive) (fold max 0 (map time_of_fate visits.fate))
+
+abbrev pub column_span : List Visits → ℕ
+column_span visits = fold max 0 (map greatest_time visits)
+
+-- The columns of a state, node by node from this one on.
+abbrev pub visits_by_node : State Local → ℕ → List Node → List Visits
+visits_by_node end node [] = []
+visits_by_node end node (n ∷ nodes) = visits_of n.kind (end.stations node) ∷ visits_by_node end (suc node) nodes
+
+-- the streams of this many outputs
+abbrev pub streams_below : State Local → ℕ → ℕ → List Stream
+streams_below end node zero = []
+streams_below end node (suc outs) = streams_below end node outs ++ stream_from (end.stations node) outs ∷ []
+
+abbrev pub streams_by_node : State Local → ℕ → List Node → List (List Stream)
+streams_by_node end node [] = []
+streams_by_node end node (n ∷ nodes) = streams_below end node (outputs_in n.kind) ∷ streams_by_node end (suc node) nodes
+
+-- what a run gives is the event list's run in columns
+pub record IsRunOf (plan : Plan) (rows : Rows) (run : Run) : Type 0 where
+  pub visits : run.visits ≡ visits_by_node (run_of plan rows) 0 plan.net.nodes
+  pub outputs : run.outputs ≡ streams_by_node (run_of plan rows) 0 plan.net.nodes
