@@ -1,5 +1,5 @@
 -- A run in columns: what the code keeps of it, one item a visit, by position.
-use Rattle.std.specs.Prelude.{◌≡◌, ◌≤◌, ℕ, zero, suc, ◌+◌, ◌-◌, nat_lt, max, Bool, false, List, [], ◌∷◌, ◌++◌, length, map, filter, sum, count_by, fold, ◌==◌, slice_index, if◌then◌else◌}
+use Rattle.std.specs.Prelude.{◌≡◌, ◌≤◌, ◌^◌, All, ℕ, zero, suc, ◌+◌, ◌-◌, nat_lt, max, Bool, false, List, [], ◌∷◌, ◌++◌, length, map, filter, sum, count_by, fold, ◌==◌, slice_index, if◌then◌else◌}
 use Rattle.std.specs.List.{zip}
 use Rattle.mq_core.specs.Laws.{Rises, in_order_of}
 use Rattle.mq_core.specs.Local.{Local}
@@ -40,6 +40,13 @@ rows_at node job [] times = []
 rows_at node job (source ∷ sources) [] = []
 rows_at node job (source ∷ sources) (time ∷ times) =
     if source == node then (time, job) ∷ rows_at node (suc job) sources times else rows_at node (suc job) sources times
+
+-- What a station can work on: arrivals and one demand each, in their limits.
+pub record IsSoundLoad (times demands : List ℕ) : Type 0 where
+  pub few : length times ≤ 1048576
+  pub each : length demands ≡ length times
+  pub early : All (λ time. time ≤ 2 ^ 60) times
+  pub small : All (λ demand. demand ≤ 2 ^ 36) demands
 
 -- Departures. A server's, by Lindley's recurrence: from the last departure, the arrivals and the demands.
 abbrev pub lindley : ℕ → List ℕ → List ℕ → List ℕ
