@@ -1,0 +1,6 @@
+use Rattle.std.proofs.Common.{◌≡◌, ◌++◌, drop}
+use Rattle.mq_split.specs.Outs.{outs_from}
+use Rattle.mq_split.proofs.outs_of.Given as goal
+
+abbrev pub invariant-loop-at : goal.invariant-loop-at
+invariant-loop-at l = l.outs.items ++ outs_from l.route l.at (drop l.at l.values) ≡ outs_from l.route 0 l.values
