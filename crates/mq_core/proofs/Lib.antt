@@ -8,6 +8,7 @@ pub mod Arrivals
 pub mod Second
 pub mod Third
 pub mod Wired
+pub mod Soundness
 pub mod Whole
 pub mod Kept
 pub mod Serves

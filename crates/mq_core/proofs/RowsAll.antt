@@ -1,9 +1,9 @@
-use Rattle.std.proofs.Common.{◌≡◌, ℕ, zero, suc, ◌<◌, false, List, [], ◌∷◌, map, Some, sym, refl, ◌∙◌, arith}
-use Rattle.std.specs.Prelude.{slice_get, IsTrue}
+use Rattle.std.proofs.Common.{◌≡◌, ℕ, zero, suc, ◌<◌, false, List, [], ◌∷◌, map, Some, refl, arith}
+use Rattle.std.specs.Prelude.{IsTrue}
 use Rattle.mq_core.specs.Event.{is_below, place_of, sooner_of, earliest}
 use Rattle.mq_core.specs.Machine.{Visit, Emission, step, after}
 use Rattle.mq_core.specs.Sound.{is_sound}
-use Rattle.mq_core.specs.Wiring.{is_source_kind, first_ready, ranked_after, rank_in, inputs_of, port_reading, reader_from, has, ranking, SourcesReadNothing}
+use Rattle.mq_core.specs.Wiring.{is_source_kind, first_ready, ranked_after, rank_in, port_reading, reader_from, has, ranking}
 use Rattle.mq_core.specs.Standard.{standard_opening, standard_handle, standard_jobs, standard_working}
 use Rattle.mq_core.specs.StandardTable.{run_of}
 use Rattle.mq_core.specs.Results.{totals_of, past_of, exit_of}
@@ -23,17 +23,6 @@ whole zero h = refl
 whole (suc zero) h = refl
 whole (suc (suc n)) h = absurd (omega arith)
 
-only : (kind : Kind) (v q u out : ℕ) → slice_get (inputs_of (nodes kind) v) q ≡ Some (u, out) → (v ≡ 1) × (q ≡ 0)
-only kind zero q u out h = absurd cc
-only kind (suc zero) zero u out h = (refl, refl)
-only kind (suc zero) (suc q) u out h = absurd cc
-only kind (suc (suc v)) q u out h = absurd cc
-
-sources : (kind : Kind) → is_source_kind kind ≡ false → SourcesReadNothing (nodes kind)
-sources kind k zero h = refl
-sources kind k (suc zero) h = absurd cc
-sources kind k (suc (suc v)) h = absurd cc
-
 ranked : (kind : Kind) → 0 ∷ 1 ∷ [] ≡ ranking (nodes kind)
 unfolding ranked_after first_ready
 ranked kind = refl
@@ -50,8 +39,6 @@ station columns bound kind k sound =
       sound = sound;
       ranked = ranked kind;
       whole = whole;
-      read_once = λ u out v q w r h k. let a = only kind v q u out h in let b = only kind w r u out k in (a.0 ∙ sym b.0, a.1 ∙ sym b.1);
-      sources = sources kind k;
     }
 
 abbrev rows_of : List ℕ → List (List ℕ) → Rows

@@ -1,6 +1,6 @@
 ghost use Rattle.std.specs.Prelude.{◌≡◌, ℕ, ◌<◌, length, IsTrue};
 ghost use Rattle.mq_core.specs.Sound.{is_sound};
-ghost use Rattle.mq_core.specs.Wiring.{has, ranking, IsReadOnce, SourcesReadNothing};
+ghost use Rattle.mq_core.specs.Wiring.{has, ranking};
 
 use mq_base::List;
 
@@ -52,8 +52,6 @@ pub struct Plan {
     ghost sound: { IsTrue (is_sound net) },
     ghost ranked: { order ≡ ranking net.nodes },
     ghost whole: { (n : ℕ) → n < length net.nodes → IsTrue (has order n) },
-    ghost read_once: { IsReadOnce net.nodes },
-    ghost sources: { SourcesReadNothing net.nodes },
 }
 
 #[derive(Drop)]
