@@ -23,6 +23,11 @@ bare_time rows Source job = 0
 bare_time rows (Split route) job = 0
 bare_time rows (Server demand) job = demand_of_job rows demand job
 
+-- the servers of a node, by which its utilisation is reckoned; none at a source or a split
+abbrev pub servers_in : Kind → ℕ
+servers_in (Server demand) = 1
+servers_in _ = 0
+
 -- the fates of the positions from this one on, one for each visit that has its fate
 abbrev pub fates_from : Kind → List Emission → ℕ → List Visit → List Fate
 fates_from kind emitted position [] = []

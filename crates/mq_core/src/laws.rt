@@ -1,4 +1,5 @@
 ghost use Rattle.mq_core.specs.Theorems.{EventsGoForward, ArrivalsAreRead, NodesRunAlone, VisitsAreArrivals};
+ghost use Rattle.mq_core.specs.NetworkRun.{RunsAreOfNetworks};
 ghost use Rattle.mq_core.specs.Alone.{ServersServe, SourcesPassOn};
 ghost use Rattle.mq_core.specs.Fates.{AreasAreSojourns, BusyIsServices, FoundsAreCounts, PeakIsGreatest, RunEnds, SpanIsLatest};
 
@@ -62,4 +63,9 @@ pub fn span_is_latest()
 /// The visits of a node are its arrivals.
 pub fn visits_are_arrivals<H: Handlers>()
     ensures { VisitsAreArrivals H.opening H.handle H.jobs H.working }
+{}
+
+/// The run of a plan, and its first departure past the bound, are those of its network.
+pub fn runs_are_of_networks()
+    ensures { RunsAreOfNetworks }
 {}
