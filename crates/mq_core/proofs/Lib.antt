@@ -19,7 +19,7 @@ pub mod AloneRuns
 pub mod Areas
 pub mod Tallied
 pub mod NetworkRuns
-pub mod RowsAll
+pub mod WorkedRows
 pub mod Founds
 pub mod Busy
 pub mod Peak
