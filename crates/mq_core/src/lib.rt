@@ -1,13 +1,15 @@
 // The types of models and runs, and the event list that says what a run is.
 #![tactic(auto)]
 
-mod calls;
+mod demands;
 mod handlers;
+mod kinds;
 mod laws;
 mod model;
 
-pub use calls::{bare_of, demand_of, outputs_of, servers_of};
+pub use demands::{bare_of, demand_of};
 pub use handlers::{Handlers, Standard};
+pub use kinds::{outputs_of, servers_of};
 pub use laws::{
     areas_are_sojourns, arrivals_are_read, busy_is_services, events_go_forward, founds_are_counts,
     nodes_run_alone, peak_is_greatest, runs_are_of_networks, servers_serve, sources_pass_on,
