@@ -18,6 +18,7 @@ pub mod Ends
 pub mod AloneRuns
 pub mod Areas
 pub mod Tallied
+pub mod Plans
 pub mod NetworkRuns
 pub mod WorkedRows
 pub mod Founds

@@ -18,3 +18,4 @@ pub mod Tallies
 pub mod Results
 pub mod Columns
 pub mod NetworkRun
+pub mod PlanLaws
