@@ -22,3 +22,4 @@ pub mod Founds
 pub mod Busy
 pub mod Peak
 pub mod Span
+pub mod ColumnFlow

@@ -1,6 +1,7 @@
 ghost use Rattle.mq_core.specs.Theorems.{EventsGoForward, ArrivalsAreRead, NodesRunAlone, VisitsAreArrivals};
 ghost use Rattle.mq_core.specs.Alone.{ServersServe, SourcesPassOn};
 ghost use Rattle.mq_core.specs.Fates.{AreasAreSojourns, BusyIsServices, FoundsAreCounts, PeakIsGreatest, RunEnds, SpanIsLatest};
+ghost use Rattle.mq_core.specs.ColumnLaws.{NodesFlow};
 
 use crate::handlers::Handlers;
 
@@ -62,4 +63,9 @@ pub fn span_is_latest()
 /// The visits of a node are its arrivals.
 pub fn visits_are_arrivals<H: Handlers>()
     ensures { VisitsAreArrivals H.opening H.handle H.jobs H.working }
+{}
+
+/// What a node lets out is the recurrence of its kind over its visits.
+pub fn nodes_flow()
+    ensures { NodesFlow }
 {}
