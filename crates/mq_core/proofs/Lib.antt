@@ -23,3 +23,5 @@ pub mod Busy
 pub mod Peak
 pub mod Span
 pub mod ColumnFlow
+pub mod ColumnNumbers
+pub mod ColumnsEqual

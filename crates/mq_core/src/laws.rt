@@ -1,7 +1,7 @@
 ghost use Rattle.mq_core.specs.Theorems.{EventsGoForward, ArrivalsAreRead, NodesRunAlone, VisitsAreArrivals};
 ghost use Rattle.mq_core.specs.Alone.{ServersServe, SourcesPassOn};
 ghost use Rattle.mq_core.specs.Fates.{AreasAreSojourns, BusyIsServices, FoundsAreCounts, PeakIsGreatest, RunEnds, SpanIsLatest};
-ghost use Rattle.mq_core.specs.ColumnLaws.{NodesFlow};
+ghost use Rattle.mq_core.specs.ColumnLaws.{NodesAreColumns, NodesFlow};
 
 use crate::handlers::Handlers;
 
@@ -68,4 +68,9 @@ pub fn visits_are_arrivals<H: Handlers>()
 /// What a node lets out is the recurrence of its kind over its visits.
 pub fn nodes_flow()
     ensures { NodesFlow }
+{}
+
+/// The visits and the streams of a node are the columns that its jobs and their times of arrival give.
+pub fn nodes_are_columns()
+    ensures { NodesAreColumns }
 {}
