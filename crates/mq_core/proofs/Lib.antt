@@ -25,3 +25,4 @@ pub mod Span
 pub mod ColumnFlow
 pub mod ColumnNumbers
 pub mod ColumnsEqual
+pub mod ColumnMerges

@@ -1,11 +1,14 @@
-use Rattle.std.specs.Prelude.{◌≡◌, ℕ, List, map, slice_get, Some}
-use Rattle.mq_core.specs.Columns.{column_visits, column_stream}
+use Rattle.std.specs.Prelude.{◌≡◌, ℕ, true, false, List, ◌++◌, length, map, slice_get, Some}
+use Rattle.std.specs.List.{zip, flat_map}
+use Rattle.mq_core.specs.Columns.{by_first, column_visits, column_stream, pairs_of, rows_at}
 use Rattle.mq_core.specs.Local.{Local}
-use Rattle.mq_core.specs.Machine.{Visit, Station}
+use Rattle.mq_core.specs.Machine.{Visit, Station, State}
 use Rattle.mq_core.specs.Results.{visits_of, stream_from}
 use Rattle.mq_core.specs.Served.{flow_of}
 use Rattle.mq_core.specs.StandardTable.{run_of}
 use Rattle.mq_core.specs.Theorems.{IsReadFor}
+use Rattle.mq_core.specs.Wiring.{is_source_kind}
+use Rattle.mq_core.specs.declared.model.Input.{Input}
 use Rattle.mq_core.specs.declared.model.Kind.{Kind}
 use Rattle.mq_core.specs.declared.model.Node.{Node}
 use Rattle.mq_core.specs.declared.model.Plan.{Plan}
@@ -34,3 +37,21 @@ abbrev pub NodesAreColumns : Type 0
 NodesAreColumns =
     (plan : Plan) (rows : Rows) → IsReadFor plan.net rows → (v : ℕ) (node : Node) → slice_get plan.net.nodes v ≡ Some node →
     IsInColumns rows node.kind ((run_of plan rows).stations v)
+
+-- the arrivals at a node by time: the rows of a source in file order, or what the ports of another read, port after port
+pub record IsMerged (rows : Rows) (v : ℕ) (node : Node) (end : State Local) : Type 0 where
+  pub source : is_source_kind node.kind ≡ true → zip (arrives_of (end.stations v).visits) (jobs_of (end.stations v).visits) ≡ by_first (rows_at v 0 rows.source rows.time)
+  pub other : is_source_kind node.kind ≡ false → zip (arrives_of (end.stations v).visits) (jobs_of (end.stations v).visits) ≡ by_first (flat_map (λ (i : Input). pairs_of (stream_from (end.stations i.node) i.out)) node.inputs)
+
+abbrev pub ArrivalsAreStreams : Type 0
+ArrivalsAreStreams =
+    (plan : Plan) (rows : Rows) → IsReadFor plan.net rows → (v : ℕ) (node : Node) → slice_get plan.net.nodes v ≡ Some node →
+    IsMerged rows v node (run_of plan rows)
+
+-- a merge of a merge with more is the merge of all, and a merge has as many items
+pub record IsMerge (xs ys : List (ℕ × ℕ)) : Type 0 where
+  pub twice : by_first (by_first xs ++ ys) ≡ by_first (xs ++ ys)
+  pub long : length (by_first xs) ≡ length xs
+
+abbrev pub MergesTwice : Type 0
+MergesTwice = (xs ys : List (ℕ × ℕ)) → IsMerge xs ys

@@ -1,7 +1,7 @@
 ghost use Rattle.mq_core.specs.Theorems.{EventsGoForward, ArrivalsAreRead, NodesRunAlone, VisitsAreArrivals};
 ghost use Rattle.mq_core.specs.Alone.{ServersServe, SourcesPassOn};
 ghost use Rattle.mq_core.specs.Fates.{AreasAreSojourns, BusyIsServices, FoundsAreCounts, PeakIsGreatest, RunEnds, SpanIsLatest};
-ghost use Rattle.mq_core.specs.ColumnLaws.{NodesAreColumns, NodesFlow};
+ghost use Rattle.mq_core.specs.ColumnLaws.{ArrivalsAreStreams, MergesTwice, NodesAreColumns, NodesFlow};
 
 use crate::handlers::Handlers;
 
@@ -73,4 +73,14 @@ pub fn nodes_flow()
 /// The visits and the streams of a node are the columns that its jobs and their times of arrival give.
 pub fn nodes_are_columns()
     ensures { NodesAreColumns }
+{}
+
+/// The arrivals at a node are the rows of a source, or the streams that it reads, by time.
+pub fn arrivals_are_streams()
+    ensures { ArrivalsAreStreams }
+{}
+
+/// A merge of a merge with more is the merge of all.
+pub fn merges_twice()
+    ensures { MergesTwice }
 {}
