@@ -26,3 +26,4 @@ pub mod ColumnFlow
 pub mod ColumnNumbers
 pub mod ColumnsEqual
 pub mod ColumnMerges
+pub mod ColumnOrder

@@ -1,6 +1,7 @@
-use Rattle.std.specs.Prelude.{◌≡◌, ℕ, true, false, List, ◌++◌, length, map, slice_get, Some}
+use Rattle.std.specs.Prelude.{◌≡◌, ◌≤◌, ℕ, true, false, List, ◌++◌, length, map, slice_get, Some}
 use Rattle.std.specs.List.{zip, flat_map}
-use Rattle.mq_core.specs.Columns.{by_first, column_visits, column_stream, pairs_of, rows_at}
+use Rattle.mq_core.specs.Columns.{IsStream, by_first, column_visits, column_stream, pairs_of, rows_at}
+use Rattle.mq_core.specs.Laws.{Rises}
 use Rattle.mq_core.specs.Local.{Local}
 use Rattle.mq_core.specs.Machine.{Visit, Station, State}
 use Rattle.mq_core.specs.Results.{visits_of, stream_from}
@@ -55,3 +56,11 @@ pub record IsMerge (xs ys : List (ℕ × ℕ)) : Type 0 where
 
 abbrev pub MergesTwice : Type 0
 MergesTwice = (xs ys : List (ℕ × ℕ)) → IsMerge xs ys
+
+-- the arrivals and the streams of a node never go back in time
+pub record IsInOrder (s : Station Local) : Type 0 where
+  pub arrivals : Rises (λ a b. a ≤ b) (arrives_of s.visits)
+  pub streams : (out : ℕ) → IsStream (stream_from s out)
+
+abbrev pub StreamsRise : Type 0
+StreamsRise = (plan : Plan) (rows : Rows) (v : ℕ) → IsInOrder ((run_of plan rows).stations v)

@@ -1,7 +1,7 @@
 ghost use Rattle.mq_core.specs.Theorems.{EventsGoForward, ArrivalsAreRead, NodesRunAlone, VisitsAreArrivals};
 ghost use Rattle.mq_core.specs.Alone.{ServersServe, SourcesPassOn};
 ghost use Rattle.mq_core.specs.Fates.{AreasAreSojourns, BusyIsServices, FoundsAreCounts, PeakIsGreatest, RunEnds, SpanIsLatest};
-ghost use Rattle.mq_core.specs.ColumnLaws.{ArrivalsAreStreams, MergesTwice, NodesAreColumns, NodesFlow};
+ghost use Rattle.mq_core.specs.ColumnLaws.{ArrivalsAreStreams, MergesTwice, NodesAreColumns, NodesFlow, StreamsRise};
 
 use crate::handlers::Handlers;
 
@@ -83,4 +83,9 @@ pub fn arrivals_are_streams()
 /// A merge of a merge with more is the merge of all.
 pub fn merges_twice()
     ensures { MergesTwice }
+{}
+
+/// The arrivals and the streams of a node never go back in time.
+pub fn streams_rise()
+    ensures { StreamsRise }
 {}

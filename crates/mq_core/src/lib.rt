@@ -10,6 +10,6 @@ pub use laws::{
     areas_are_sojourns, arrivals_are_read, arrivals_are_streams, busy_is_services,
     events_go_forward, founds_are_counts, merges_twice, nodes_are_columns, nodes_flow,
     nodes_run_alone, peak_is_greatest, servers_serve, sources_pass_on, span_is_latest,
-    the_run_ends, visits_are_arrivals,
+    streams_rise, the_run_ends, visits_are_arrivals,
 };
 pub use model::{Demand, Fate, Input, Kind, Network, Node, Plan, Route, Rows, Run, Stream, Visits};
