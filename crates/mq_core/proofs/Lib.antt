@@ -27,3 +27,5 @@ pub mod ColumnNumbers
 pub mod ColumnsEqual
 pub mod ColumnMerges
 pub mod ColumnOrder
+pub mod ColumnJobs
+pub mod ColumnTimes

@@ -1,5 +1,5 @@
-use Rattle.std.specs.Prelude.{◌≡◌, ◌≤◌, ℕ, true, false, List, ◌++◌, length, map, slice_get, Some}
-use Rattle.std.specs.List.{zip, flat_map}
+use Rattle.std.specs.Prelude.{◌≡◌, ◌<◌, ◌≤◌, ⊤, ℕ, true, false, List, ◌++◌, length, map, slice_get, Some}
+use Rattle.std.specs.List.{AllByRecursion, zip, flat_map}
 use Rattle.mq_core.specs.Columns.{IsStream, by_first, column_visits, column_stream, pairs_of, rows_at}
 use Rattle.mq_core.specs.Laws.{Rises}
 use Rattle.mq_core.specs.Local.{Local}
@@ -9,11 +9,14 @@ use Rattle.mq_core.specs.Served.{flow_of}
 use Rattle.mq_core.specs.StandardTable.{run_of}
 use Rattle.mq_core.specs.Theorems.{IsReadFor}
 use Rattle.mq_core.specs.Wiring.{is_source_kind}
+use Rattle.mq_core.specs.declared.model.Fate.{Fate}
+use Rattle.mq_core.specs.declared.model.Fate.TheVariants.{Departs, Lost}
 use Rattle.mq_core.specs.declared.model.Input.{Input}
 use Rattle.mq_core.specs.declared.model.Kind.{Kind}
 use Rattle.mq_core.specs.declared.model.Node.{Node}
 use Rattle.mq_core.specs.declared.model.Plan.{Plan}
 use Rattle.mq_core.specs.declared.model.Rows.{Rows}
+use Rattle.mq_core.specs.declared.model.Visits.{Visits}
 
 -- what a node lets out is the recurrence of its kind over its visits
 abbrev pub NodesFlow : Type 0
@@ -64,3 +67,27 @@ pub record IsInOrder (s : Station Local) : Type 0 where
 
 abbrev pub StreamsRise : Type 0
 StreamsRise = (plan : Plan) (rows : Rows) (v : ℕ) → IsInOrder ((run_of plan rows).stations v)
+
+-- the job of each visit is a row
+abbrev pub JobsAreRows : Type 0
+JobsAreRows =
+    (plan : Plan) (rows : Rows) (v : ℕ) →
+    AllByRecursion (λ job. job < length rows.time) (jobs_of ((run_of plan rows).stations v).visits)
+
+-- no earlier than this time, or lost
+abbrev pub LeavesFrom : ℕ → Fate → Type 0
+LeavesFrom arrive (Departs time) = arrive ≤ time
+LeavesFrom arrive Lost = ⊤
+
+-- the columns have one item a visit, and none departs before it came: item by item, and by position
+pub record IsInTime (visits : Visits) : Type 0 where
+  pub jobs : length visits.job ≡ length visits.arrive
+  pub founds : length visits.found ≡ length visits.arrive
+  pub fates : length visits.fate ≡ length visits.arrive
+  pub each : AllByRecursion (λ (p : ℕ × Fate). LeavesFrom p.0 p.1) (zip visits.arrive visits.fate)
+  pub at : (position arrive time : ℕ) → slice_get visits.arrive position ≡ Some arrive → slice_get visits.fate position ≡ Some (Departs time) → arrive ≤ time
+
+abbrev pub DepartsInTime : Type 0
+DepartsInTime =
+    (plan : Plan) (rows : Rows) → IsReadFor plan.net rows → (v : ℕ) (node : Node) → slice_get plan.net.nodes v ≡ Some node →
+    IsInTime (visits_of node.kind ((run_of plan rows).stations v))

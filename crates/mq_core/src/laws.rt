@@ -1,7 +1,7 @@
 ghost use Rattle.mq_core.specs.Theorems.{EventsGoForward, ArrivalsAreRead, NodesRunAlone, VisitsAreArrivals};
 ghost use Rattle.mq_core.specs.Alone.{ServersServe, SourcesPassOn};
 ghost use Rattle.mq_core.specs.Fates.{AreasAreSojourns, BusyIsServices, FoundsAreCounts, PeakIsGreatest, RunEnds, SpanIsLatest};
-ghost use Rattle.mq_core.specs.ColumnLaws.{ArrivalsAreStreams, MergesTwice, NodesAreColumns, NodesFlow, StreamsRise};
+ghost use Rattle.mq_core.specs.ColumnLaws.{ArrivalsAreStreams, DepartsInTime, JobsAreRows, MergesTwice, NodesAreColumns, NodesFlow, StreamsRise};
 
 use crate::handlers::Handlers;
 
@@ -88,4 +88,14 @@ pub fn merges_twice()
 /// The arrivals and the streams of a node never go back in time.
 pub fn streams_rise()
     ensures { StreamsRise }
+{}
+
+/// The job of each visit is a row.
+pub fn jobs_are_rows()
+    ensures { JobsAreRows }
+{}
+
+/// No visit departs before it came, and the columns of a node have one item a visit.
+pub fn departs_in_time()
+    ensures { DepartsInTime }
 {}
