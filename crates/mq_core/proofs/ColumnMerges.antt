@@ -1,5 +1,5 @@
-use Rattle.std.proofs.Common.{◌≡◌, ℕ, zero, suc, ◌+◌, Bool, true, false, cond, eqb, ltb, List, [], ◌∷◌, ◌++◌, map, length, Option, Some, None, sym, refl, ap, ◌∙◌, subst, arith}
-use Rattle.std.proofs.lemmas.List.{map-append}
+use Rattle.std.proofs.Common.{◌≡◌, ℕ, suc, Bool, true, false, cond, eqb, ltb, List, [], ◌∷◌, ◌++◌, map, length, Option, Some, None, sym, refl, ap, ◌∙◌}
+use Rattle.std.proofs.lemmas.List.{map-append, length-map}
 use Rattle.std.specs.Prelude.{filter, slice_get, ◌*◌}
 use Rattle.std.specs.List.{zip, flat_map}
 use Rattle.mq_core.specs.ColumnLaws.{ArrivalsAreStreams, MergesTwice, jobs_of, arrives_of}
@@ -8,13 +8,13 @@ use Rattle.mq_core.specs.Event.{Event, time_of, job_of}
 use Rattle.mq_core.specs.Event.Event.{Arrive}
 use Rattle.mq_core.specs.Laws.{in_order_of, insert_by, is_arrival_at, stream_of, brought, read_by, by_time}
 use Rattle.mq_core.specs.Local.{Local}
-use Rattle.mq_core.specs.Machine.{Visit, Emission, State, Station, opened}
+use Rattle.mq_core.specs.Machine.{Visit, Emission, State, opened}
 use Rattle.mq_core.specs.Results.{stream_from}
 use Rattle.mq_core.specs.Run.{starts, starts_from}
 use Rattle.mq_core.specs.StandardTable.{standard, run_of}
 use Rattle.mq_core.specs.OnTime.{standard-on_time}
 use Rattle.mq_core.specs.Theorems.{arrivals_at, IsReadFor}
-use Rattle.mq_core.specs.Wiring.{inputs_of, outputs_read, is_source, is_source_kind}
+use Rattle.mq_core.specs.Wiring.{outputs_read, is_source}
 use Rattle.mq_core.specs.declared.model.Input.{Input}
 use Rattle.mq_core.specs.declared.model.Node.{Node}
 use Rattle.mq_core.specs.declared.model.Plan.{Plan}
@@ -53,10 +53,10 @@ pub merges-twice : MergesTwice
 merges-twice xs ys = record { twice = in_order_of-append_left (λ (p : ℕ × ℕ). p.0) xs ys; long = in_order_of-length (λ (p : ℕ × ℕ). p.0) xs }
 
 -- the time and the job of a visit, and of an event
-abbrev visit_pair : Visit → ℕ × ℕ
+abbrev pub visit_pair : Visit → ℕ × ℕ
 visit_pair x = (x.arrive, x.job)
 
-abbrev event_pair : Event → ℕ × ℕ
+abbrev pub event_pair : Event → ℕ × ℕ
 event_pair e = (time_of e, job_of e)
 
 zip-visits : (visits : List Visit) → zip (arrives_of visits) (jobs_of visits) ≡ map visit_pair visits
@@ -87,12 +87,18 @@ read-pairs end v port (i ∷ is) =
     ∙ (λ k. brought-pairs v port stream k ++ read-pairs end v (suc port) is k)
 
 -- the visits of a node, by time and job, are its arrivals
-visits-read : (plan : Plan) (rows : Rows) → IsReadFor plan.net rows → (v : ℕ) → map visit_pair ((run_of plan rows).stations v).visits ≡ map event_pair (arrivals_at plan rows (run_of plan rows) v)
+pub visits-read : (plan : Plan) (rows : Rows) → IsReadFor plan.net rows → (v : ℕ) → map visit_pair ((run_of plan rows).stations v).visits ≡ map event_pair (arrivals_at plan rows (run_of plan rows) v)
 visits-read plan rows read v =
     let t = standard plan rows in
     let count = 9 * length plan.net.nodes * length rows.time in
     visits-handled t v count (opened t (starts rows))
     ∙ ap (map event_pair) (arrivals-read plan rows t (standard-on_time plan rows) refl refl count v read (nothing-pending plan rows read))
+
+-- none comes where no node is
+pub visits-nowhere : (plan : Plan) (rows : Rows) → IsReadFor plan.net rows → (v : ℕ) → slice_get plan.net.nodes v ≡ None → length ((run_of plan rows).stations v).visits ≡ 0
+visits-nowhere plan rows read v e =
+    sym (length-map ((run_of plan rows).stations v).visits visit_pair)
+    ∙ ap length (visits-read plan rows read v ∙ ap (λ o. map event_pair (by_time (cond (is_source o) (filter (is_arrival_at v) (starts rows)) (read_by (run_of plan rows) v 0 (outputs_read o))))) e)
 
 pub arrivals-are-streams : ArrivalsAreStreams
 arrivals-are-streams plan rows read v node e =

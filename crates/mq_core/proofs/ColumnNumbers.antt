@@ -1,18 +1,16 @@
-use Rattle.std.proofs.Common.{◌≡◌, ℕ, suc, ◌+◌, ◌≤◌, ◌<◌, Bool, true, false, cond, eqb, List, [], ◌∷◌, ◌++◌, map, length, Option, Some, None, sym, refl, ap, ◌∙◌, subst, arith, eq-eqb, eqb-true}
+use Rattle.std.proofs.Common.{◌≡◌, ℕ, suc, ◌+◌, ◌≤◌, ◌<◌, false, cond, eqb, List, [], ◌∷◌, ◌++◌, map, length, Some, sym, refl, ap, ◌∙◌, arith, eq-eqb}
 use Rattle.std.proofs.lemmas.Bool.Decides.{nat_tests}
 use Rattle.std.proofs.lemmas.List.Sums.{sum_by-append}
-use Rattle.std.specs.Prelude.{filter, find, slice_get, max, count_by}
+use Rattle.std.specs.Prelude.{slice_get, count_by}
 use Rattle.mq_core.specs.ColumnLaws.{jobs_of, arrives_of}
-use Rattle.mq_core.specs.Columns.{lindley, column_fates, departs_after, founds_from, routes_from, column_outs, picked, time_of_fate}
+use Rattle.mq_core.specs.Columns.{departs_after, founds_from}
 use Rattle.mq_core.specs.Fates.{fate_by}
 use Rattle.mq_core.specs.Machine.{Visit, Emission}
 use Rattle.mq_core.specs.Results.{fates_from}
 use Rattle.mq_core.specs.Served.{served, served_from, passed_from, flow_of}
-use Rattle.mq_core.specs.Standard.{demand_of_job, output_by}
-use Rattle.mq_core.specs.Tallies.{sum_below, emission_at, arrival_or, found_or, one_if_later, still_there}
+use Rattle.mq_core.specs.Tallies.{emission_at, arrival_or, found_or, one_if_later, still_there}
 use Rattle.mq_core.specs.declared.model.Demand.{Demand}
 use Rattle.mq_core.specs.declared.model.Fate.{Fate}
-use Rattle.mq_core.specs.declared.model.Fate.TheVariants.{Departs}
 use Rattle.mq_core.specs.declared.model.Kind.{Kind}
 use Rattle.mq_core.specs.declared.model.Kind.TheVariants.{Source, Server, Split}
 use Rattle.mq_core.specs.declared.model.Rows.{Rows}

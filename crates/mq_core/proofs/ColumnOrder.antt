@@ -2,14 +2,13 @@ use Rattle.std.proofs.Common.{◌≡◌, ℕ, ◌*◌, ◌≤◌, List, [], ◌�
 use Rattle.std.proofs.lemmas.List.{length-map}
 use Rattle.std.specs.List.{AllByRecursion as Each}
 use Rattle.mq_core.specs.ColumnLaws.{StreamsRise}
-use Rattle.mq_core.specs.Event.{Event}
 use Rattle.mq_core.specs.Event.Event.{Arrive, Finish}
 use Rattle.mq_core.specs.Laws.{Rises, stream_of}
-use Rattle.mq_core.specs.Machine.{Visit, Emission, Table, Station, emissions_at}
+use Rattle.mq_core.specs.Machine.{Visit, Emission, Table, emissions_at}
 use Rattle.mq_core.specs.OnTime.{standard-on_time}
 use Rattle.mq_core.specs.Run.{starts}
 use Rattle.mq_core.specs.StandardTable.{standard, run_of}
-use Rattle.mq_core.proofs.Each.{Each-append, Each-weaker, Each-any, Each-map}
+use Rattle.mq_core.proofs.Each.{Each-append, Each-weaker, Each-map}
 use Rattle.mq_core.proofs.Forward.{emissions-now}
 use Rattle.mq_core.proofs.Kept.{Fact, Keeps, kept}
 use Rattle.mq_core.proofs.Rising.{Rises-append, Rises-filter}

@@ -5,11 +5,11 @@ use Rattle.std.specs.List.{AllByRecursion as Each, zip}
 use Rattle.mq_core.specs.ColumnLaws.{DepartsInTime, LeavesFrom, jobs_of, arrives_of}
 use Rattle.mq_core.specs.Columns.{lindley, column_fates}
 use Rattle.mq_core.specs.Machine.{Visit}
-use Rattle.mq_core.specs.Results.{fates_from, visits_of}
+use Rattle.mq_core.specs.Results.{fates_from}
 use Rattle.mq_core.specs.Standard.{demand_of_job}
 use Rattle.mq_core.specs.StandardTable.{run_of}
 use Rattle.mq_core.specs.declared.model.Fate.{Fate}
-use Rattle.mq_core.specs.declared.model.Fate.TheVariants.{Departs, Lost}
+use Rattle.mq_core.specs.declared.model.Fate.TheVariants.{Departs}
 use Rattle.mq_core.specs.declared.model.Kind.{Kind}
 use Rattle.mq_core.specs.declared.model.Kind.TheVariants.{Source, Server, Split}
 use Rattle.mq_core.specs.declared.model.Rows.{Rows}

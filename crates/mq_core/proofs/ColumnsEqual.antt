@@ -1,5 +1,5 @@
-use Rattle.std.proofs.Common.{◌≡◌, ℕ, zero, suc, ◌<◌, Bool, true, false, cond, eqb, List, [], ◌∷◌, map, length, Some, None, sym, refl, ap, ◌∙◌, subst, arith, zero-add}
-use Rattle.std.specs.Prelude.{filter, slice_get}
+use Rattle.std.proofs.Common.{◌≡◌, ℕ, zero, suc, ◌<◌, Bool, true, false, cond, eqb, List, [], ◌∷◌, map, length, Some, sym, refl, ap, ◌∙◌, arith, zero-add}
+use Rattle.std.specs.Prelude.{slice_get}
 use Rattle.mq_core.specs.ColumnLaws.{NodesAreColumns, jobs_of, arrives_of}
 use Rattle.mq_core.specs.Columns.{lindley, column_fates, column_visits, column_stream, founds_of, routes_from, column_outs, picked, time_of_fate}
 use Rattle.mq_core.specs.Fates.{fate_by}
@@ -12,7 +12,6 @@ use Rattle.mq_core.specs.Standard.{demand_of_job, output_by}
 use Rattle.mq_core.specs.StandardTable.{run_of}
 use Rattle.mq_core.specs.Tallies.{arrival_or, found_or, still_there}
 use Rattle.mq_core.specs.declared.model.Demand.{Demand}
-use Rattle.mq_core.specs.declared.model.Fate.{Fate}
 use Rattle.mq_core.specs.declared.model.Fate.TheVariants.{Departs}
 use Rattle.mq_core.specs.declared.model.Kind.{Kind}
 use Rattle.mq_core.specs.declared.model.Kind.TheVariants.{Source, Server, Split}
@@ -95,7 +94,7 @@ station-stream rows kind s out flow =
     ∙ (λ i. picked out (outs i) ((times-fates kind (flow_of rows kind s.visits) ∙ ap (map time_of_fate) (flow-fates rows kind s.visits)) i))) in
     λ i. record { job = jobs i; time = times i }
 
-some-inside : (nodes : List Node) (v : ℕ) (node : Node) → slice_get nodes v ≡ Some node → v < length nodes
+pub some-inside : (nodes : List Node) (v : ℕ) (node : Node) → slice_get nodes v ≡ Some node → v < length nodes
 some-inside [] v node h = absurd cc
 some-inside (n ∷ nodes) zero node h = omega arith
 some-inside (n ∷ nodes) (suc v) node h = let l = some-inside nodes v node h in omega arith

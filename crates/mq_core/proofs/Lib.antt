@@ -29,3 +29,4 @@ pub mod ColumnMerges
 pub mod ColumnOrder
 pub mod ColumnJobs
 pub mod ColumnTimes
+pub mod ColumnFew

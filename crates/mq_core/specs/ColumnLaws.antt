@@ -91,3 +91,9 @@ abbrev pub DepartsInTime : Type 0
 DepartsInTime =
     (plan : Plan) (rows : Rows) → IsReadFor plan.net rows → (v : ℕ) (node : Node) → slice_get plan.net.nodes v ≡ Some node →
     IsInTime (visits_of node.kind ((run_of plan rows).stations v))
+
+-- a job visits a node at most once
+abbrev pub VisitsAreFew : Type 0
+VisitsAreFew =
+    (plan : Plan) (rows : Rows) → IsReadFor plan.net rows → (v : ℕ) →
+    length ((run_of plan rows).stations v).visits ≤ length rows.time

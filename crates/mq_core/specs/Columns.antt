@@ -1,5 +1,5 @@
 -- A run in columns: what the code keeps of it, one item a visit, by position.
-use Rattle.std.specs.Prelude.{◌≡◌, ◌≤◌, ℕ, zero, suc, ◌+◌, ◌-◌, nat_lt, max, Bool, false, List, [], ◌∷◌, ◌++◌, length, map, filter, sum, count_by, fold, ◌==◌, slice_index, if◌then◌else◌}
+use Rattle.std.specs.Prelude.{◌≡◌, ◌≤◌, ℕ, zero, suc, ◌+◌, ◌-◌, nat_lt, max, Bool, false, List, [], ◌∷◌, ◌++◌, length, map, sum, count_by, fold, ◌==◌, slice_index, if◌then◌else◌}
 use Rattle.std.specs.List.{zip}
 use Rattle.mq_core.specs.Laws.{Rises, in_order_of}
 use Rattle.mq_core.specs.Local.{Local}
@@ -8,7 +8,6 @@ use Rattle.mq_core.specs.Results.{Totals, bare_time, is_lost, visits_of, stream_
 use Rattle.mq_core.specs.Sound.{outputs_in}
 use Rattle.mq_core.specs.Standard.{demand_of_job, output_by}
 use Rattle.mq_core.specs.StandardTable.{run_of}
-use Rattle.mq_core.specs.declared.model.Demand.{Demand}
 use Rattle.mq_core.specs.declared.model.Fate.{Fate}
 use Rattle.mq_core.specs.declared.model.Fate.TheVariants.{Departs, Lost}
 use Rattle.mq_core.specs.declared.model.Kind.{Kind}

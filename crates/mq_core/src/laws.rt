@@ -1,7 +1,7 @@
 ghost use Rattle.mq_core.specs.Theorems.{EventsGoForward, ArrivalsAreRead, NodesRunAlone, VisitsAreArrivals};
 ghost use Rattle.mq_core.specs.Alone.{ServersServe, SourcesPassOn};
 ghost use Rattle.mq_core.specs.Fates.{AreasAreSojourns, BusyIsServices, FoundsAreCounts, PeakIsGreatest, RunEnds, SpanIsLatest};
-ghost use Rattle.mq_core.specs.ColumnLaws.{ArrivalsAreStreams, DepartsInTime, JobsAreRows, MergesTwice, NodesAreColumns, NodesFlow, StreamsRise};
+ghost use Rattle.mq_core.specs.ColumnLaws.{ArrivalsAreStreams, DepartsInTime, JobsAreRows, MergesTwice, NodesAreColumns, NodesFlow, StreamsRise, VisitsAreFew};
 
 use crate::handlers::Handlers;
 
@@ -98,4 +98,9 @@ pub fn jobs_are_rows()
 /// No visit departs before it came, and the columns of a node have one item a visit.
 pub fn departs_in_time()
     ensures { DepartsInTime }
+{}
+
+/// A job visits a node at most once.
+pub fn visits_are_few()
+    ensures { VisitsAreFew }
 {}

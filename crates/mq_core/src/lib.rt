@@ -10,6 +10,6 @@ pub use laws::{
     areas_are_sojourns, arrivals_are_read, arrivals_are_streams, busy_is_services, departs_in_time,
     events_go_forward, founds_are_counts, jobs_are_rows, merges_twice, nodes_are_columns,
     nodes_flow, nodes_run_alone, peak_is_greatest, servers_serve, sources_pass_on, span_is_latest,
-    streams_rise, the_run_ends, visits_are_arrivals,
+    streams_rise, the_run_ends, visits_are_arrivals, visits_are_few,
 };
 pub use model::{Demand, Fate, Input, Kind, Network, Node, Plan, Route, Rows, Run, Stream, Visits};
