@@ -1,4 +1,4 @@
-use Rattle.std.specs.Prelude.{◌≡◌, ◌<◌, ◌≤◌, ⊤, ℕ, true, false, List, ◌++◌, length, map, slice_get, Some}
+use Rattle.std.specs.Prelude.{◌≡◌, ◌<◌, ◌≤◌, ⊤, ℕ, false, List, ◌++◌, length, map, slice_get, Some}
 use Rattle.std.specs.List.{AllByRecursion, zip, flat_map}
 use Rattle.mq_core.specs.Columns.{IsStream, by_first, column_visits, column_stream, pairs_of, rows_at}
 use Rattle.mq_core.specs.Laws.{Rises}
@@ -13,6 +13,7 @@ use Rattle.mq_core.specs.declared.model.Fate.{Fate}
 use Rattle.mq_core.specs.declared.model.Fate.TheVariants.{Departs, Lost}
 use Rattle.mq_core.specs.declared.model.Input.{Input}
 use Rattle.mq_core.specs.declared.model.Kind.{Kind}
+use Rattle.mq_core.specs.declared.model.Kind.TheVariants.{Source}
 use Rattle.mq_core.specs.declared.model.Node.{Node}
 use Rattle.mq_core.specs.declared.model.Plan.{Plan}
 use Rattle.mq_core.specs.declared.model.Rows.{Rows}
@@ -44,7 +45,7 @@ NodesAreColumns =
 
 -- the arrivals at a node by time: the rows of a source in file order, or what the ports of another read, port after port
 pub record IsMerged (rows : Rows) (v : ℕ) (node : Node) (end : State Local) : Type 0 where
-  pub source : is_source_kind node.kind ≡ true → zip (arrives_of (end.stations v).visits) (jobs_of (end.stations v).visits) ≡ by_first (rows_at v 0 rows.source rows.time)
+  pub source : node.kind ≡ Source → zip (arrives_of (end.stations v).visits) (jobs_of (end.stations v).visits) ≡ by_first (rows_at v 0 rows.source rows.time)
   pub other : is_source_kind node.kind ≡ false → zip (arrives_of (end.stations v).visits) (jobs_of (end.stations v).visits) ≡ by_first (flat_map (λ (i : Input). pairs_of (stream_from (end.stations i.node) i.out)) node.inputs)
 
 abbrev pub ArrivalsAreStreams : Type 0
