@@ -25,3 +25,11 @@ pub mod Founds
 pub mod Busy
 pub mod Peak
 pub mod Span
+pub mod ColumnFlow
+pub mod ColumnNumbers
+pub mod ColumnsEqual
+pub mod ColumnMerges
+pub mod ColumnOrder
+pub mod ColumnJobs
+pub mod ColumnTimes
+pub mod ColumnFew

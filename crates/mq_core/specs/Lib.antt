@@ -19,3 +19,4 @@ pub mod Results
 pub mod Columns
 pub mod NetworkRun
 pub mod PlanLaws
+pub mod ColumnLaws

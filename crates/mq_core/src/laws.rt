@@ -3,6 +3,7 @@ ghost use Rattle.mq_core.specs.NetworkRun.{RunsAreOfNetworks};
 ghost use Rattle.mq_core.specs.PlanLaws.{NodesAreInLimits, OrdersRank, RowsTellDemands};
 ghost use Rattle.mq_core.specs.Alone.{ServersServe, SourcesPassOn};
 ghost use Rattle.mq_core.specs.Fates.{AreasAreSojourns, BusyIsServices, FoundsAreCounts, PeakIsGreatest, RunEnds, SpanIsLatest};
+ghost use Rattle.mq_core.specs.ColumnLaws.{ArrivalsAreStreams, DepartsInTime, JobsAreRows, MergesTwice, NodesAreColumns, NodesFlow, StreamsRise, VisitsAreFew};
 
 use crate::handlers::Handlers;
 
@@ -86,4 +87,44 @@ pub fn orders_rank()
 /// 2^36.
 pub fn rows_tell_demands()
     ensures { RowsTellDemands }
+{}
+
+/// What a node lets out is the recurrence of its kind over its visits.
+pub fn nodes_flow()
+    ensures { NodesFlow }
+{}
+
+/// The visits and the streams of a node are the columns that its jobs and their times of arrival give.
+pub fn nodes_are_columns()
+    ensures { NodesAreColumns }
+{}
+
+/// The arrivals at a node are the rows of a source, or the streams that it reads, by time.
+pub fn arrivals_are_streams()
+    ensures { ArrivalsAreStreams }
+{}
+
+/// A merge of a merge with more is the merge of all.
+pub fn merges_twice()
+    ensures { MergesTwice }
+{}
+
+/// The arrivals and the streams of a node never go back in time.
+pub fn streams_rise()
+    ensures { StreamsRise }
+{}
+
+/// The job of each visit is a row.
+pub fn jobs_are_rows()
+    ensures { JobsAreRows }
+{}
+
+/// No visit departs before it came, and the columns of a node have one item a visit.
+pub fn departs_in_time()
+    ensures { DepartsInTime }
+{}
+
+/// A job visits a node at most once.
+pub fn visits_are_few()
+    ensures { VisitsAreFew }
 {}
