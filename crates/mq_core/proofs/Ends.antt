@@ -244,7 +244,7 @@ module _ (plan : Plan) (rows : Rows) (read : IsReadFor plan.net rows) where
           omega arith
 
   -- what holds of each node at the end
-  end-fact : (v : ℕ) → node_fact rows (slice_get plan.net.nodes v) v ((run_of plan rows).stations v) [] (run_of plan rows).clock
+  pub end-fact : (v : ℕ) → node_fact rows (slice_get plan.net.nodes v) v ((run_of plan rows).stations v) [] (run_of plan rows).clock
   end-fact v =
       subst (λ l. node_fact rows (slice_get plan.net.nodes v) v ((run_of plan rows).stations v) (filter (is_finish_at v) l) (run_of plan rows).clock) nothing-pending
       (kept (standard plan rows) fact (standard-keeps plan rows (reader_from 0 plan.net.nodes)) (standard-on_time plan rows) (feeds_forward plan (standard plan rows) refl refl) (starts rows) (starts-arrive 0 rows.source rows.time) (9 * length plan.net.nodes * length rows.time) v)

@@ -22,3 +22,8 @@ pub mod Founds
 pub mod Busy
 pub mod Peak
 pub mod Span
+pub mod NumberLists
+pub mod NumberFates
+pub mod NumberTotals
+pub mod NumberSpan
+pub mod NumberPast

@@ -1,14 +1,13 @@
 -- A run in columns: what the code keeps of it, one item a visit, by position.
-use Rattle.std.specs.Prelude.{◌≡◌, ◌≤◌, ℕ, zero, suc, ◌+◌, ◌-◌, nat_lt, max, Bool, false, List, [], ◌∷◌, ◌++◌, length, map, filter, sum, count_by, fold, ◌==◌, slice_index, if◌then◌else◌}
+use Rattle.std.specs.Prelude.{◌≡◌, ◌≤◌, ℕ, zero, suc, ◌+◌, ◌-◌, nat_lt, max, Bool, false, List, [], ◌∷◌, ◌++◌, length, map, sum, count_by, fold, ◌==◌, slice_index, if◌then◌else◌, Some}
 use Rattle.std.specs.List.{zip}
 use Rattle.mq_core.specs.Laws.{Rises, in_order_of}
 use Rattle.mq_core.specs.Local.{Local}
 use Rattle.mq_core.specs.Machine.{State}
-use Rattle.mq_core.specs.Results.{Totals, bare_time, is_lost, visits_of, stream_from}
+use Rattle.mq_core.specs.Results.{Totals, Late, late_fate, bare_time, is_lost, visits_of, stream_from}
 use Rattle.mq_core.specs.Sound.{outputs_in}
 use Rattle.mq_core.specs.Standard.{demand_of_job, output_by}
 use Rattle.mq_core.specs.StandardTable.{run_of}
-use Rattle.mq_core.specs.declared.model.Demand.{Demand}
 use Rattle.mq_core.specs.declared.model.Fate.{Fate}
 use Rattle.mq_core.specs.declared.model.Fate.TheVariants.{Departs, Lost}
 use Rattle.mq_core.specs.declared.model.Kind.{Kind}
@@ -183,6 +182,16 @@ greatest_time visits = max (fold max 0 visits.arrive) (fold max 0 (map time_of_f
 
 abbrev pub column_span : List Visits → ℕ
 column_span visits = fold max 0 (map greatest_time visits)
+
+-- Late visits. Those of these fates, the first at this position, that are a departure after the bound.
+abbrev pub column_late_from : ℕ → ℕ → ℕ → List Fate → List Late
+column_late_from bound node position [] = []
+column_late_from bound node position (fate ∷ fates) =
+    late_fate bound node position (Some fate) ++ column_late_from bound node (suc position) fates
+
+-- the visits of a node that depart after the bound, in order
+abbrev pub column_late : ℕ → ℕ → Visits → List Late
+column_late bound node visits = column_late_from bound node 0 visits.fate
 
 -- The columns of a state, node by node from this one on.
 abbrev pub visits_by_node : State Local → ℕ → List Node → List Visits

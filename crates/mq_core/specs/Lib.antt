@@ -16,3 +16,4 @@ pub mod Alone
 pub mod Tallies
 pub mod Results
 pub mod Columns
+pub mod NumberLaws

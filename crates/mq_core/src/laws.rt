@@ -1,6 +1,7 @@
 ghost use Rattle.mq_core.specs.Theorems.{EventsGoForward, ArrivalsAreRead, NodesRunAlone, VisitsAreArrivals};
 ghost use Rattle.mq_core.specs.Alone.{ServersServe, SourcesPassOn};
 ghost use Rattle.mq_core.specs.Fates.{AreasAreSojourns, BusyIsServices, FoundsAreCounts, PeakIsGreatest, RunEnds, SpanIsLatest};
+ghost use Rattle.mq_core.specs.NumberLaws.{ExitsAreStreams, LateIsFirst, LateIsNone, OnTimeGrows, PastIsColumns, PastIsFirst, PastIsNone, SpanIsColumns, TotalsAreColumns};
 
 use crate::handlers::Handlers;
 
@@ -62,4 +63,49 @@ pub fn span_is_latest()
 /// The visits of a node are its arrivals.
 pub fn visits_are_arrivals<H: Handlers>()
     ensures { VisitsAreArrivals H.opening H.handle H.jobs H.working }
+{}
+
+/// The totals of a node are those of its columns.
+pub fn totals_are_columns()
+    ensures { TotalsAreColumns }
+{}
+
+/// What leaves by an output is what its stream says.
+pub fn exits_are_streams()
+    ensures { ExitsAreStreams }
+{}
+
+/// The span is the greatest time in the columns.
+pub fn span_is_columns()
+    ensures { SpanIsColumns }
+{}
+
+/// The first departure after the bound is the first in the columns, by rank and then position.
+pub fn past_is_columns()
+    ensures { PastIsColumns }
+{}
+
+/// Where no node below a rank has a late visit, the first of the node at that rank is the first of all.
+pub fn past_is_first()
+    ensures { PastIsFirst }
+{}
+
+/// Where no node has a late visit, no departure passes the bound.
+pub fn past_is_none()
+    ensures { PastIsNone }
+{}
+
+/// That no node below a rank has a late visit, one rank further.
+pub fn on_time_grows()
+    ensures { OnTimeGrows }
+{}
+
+/// A departure after the bound, before which no other is, is the first late visit of its node.
+pub fn late_is_first()
+    ensures { LateIsFirst }
+{}
+
+/// A node none of whose departures is after the bound has no late visit.
+pub fn late_is_none()
+    ensures { LateIsNone }
 {}
