@@ -27,3 +27,10 @@ pub mod NumberFates
 pub mod NumberTotals
 pub mod NumberSpan
 pub mod NumberPast
+pub mod ColumnFlow
+pub mod ColumnNumbers
+pub mod ColumnsEqual
+pub mod ColumnMerges
+pub mod ColumnOrder
+pub mod ColumnJobs
+pub mod ColumnTimes

@@ -17,3 +17,4 @@ pub mod Tallies
 pub mod Results
 pub mod Columns
 pub mod NumberLaws
+pub mod ColumnLaws

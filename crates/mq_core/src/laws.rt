@@ -2,6 +2,7 @@ ghost use Rattle.mq_core.specs.Theorems.{EventsGoForward, ArrivalsAreRead, Nodes
 ghost use Rattle.mq_core.specs.Alone.{ServersServe, SourcesPassOn};
 ghost use Rattle.mq_core.specs.Fates.{AreasAreSojourns, BusyIsServices, FoundsAreCounts, PeakIsGreatest, RunEnds, SpanIsLatest};
 ghost use Rattle.mq_core.specs.NumberLaws.{ExitsAreStreams, LateIsFirst, LateIsNone, OnTimeGrows, PastIsColumns, PastIsFirst, PastIsNone, SpanIsColumns, TotalsAreColumns};
+ghost use Rattle.mq_core.specs.ColumnLaws.{ArrivalsAreStreams, DepartsInTime, JobsAreRows, MergesTwice, NodesAreColumns, NodesFlow, StreamsRise};
 
 use crate::handlers::Handlers;
 
@@ -108,4 +109,39 @@ pub fn late_is_first()
 /// A node none of whose departures is after the bound has no late visit.
 pub fn late_is_none()
     ensures { LateIsNone }
+{}
+
+/// What a node lets out is the recurrence of its kind over its visits.
+pub fn nodes_flow()
+    ensures { NodesFlow }
+{}
+
+/// The visits and the streams of a node are the columns that its jobs and their times of arrival give.
+pub fn nodes_are_columns()
+    ensures { NodesAreColumns }
+{}
+
+/// The arrivals at a node are the rows of a source, or the streams that it reads, by time.
+pub fn arrivals_are_streams()
+    ensures { ArrivalsAreStreams }
+{}
+
+/// A merge of a merge with more is the merge of all.
+pub fn merges_twice()
+    ensures { MergesTwice }
+{}
+
+/// The arrivals and the streams of a node never go back in time.
+pub fn streams_rise()
+    ensures { StreamsRise }
+{}
+
+/// The job of each visit is a row.
+pub fn jobs_are_rows()
+    ensures { JobsAreRows }
+{}
+
+/// No visit departs before it came, and the columns of a node have one item a visit.
+pub fn departs_in_time()
+    ensures { DepartsInTime }
 {}
