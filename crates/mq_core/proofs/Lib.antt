@@ -34,3 +34,4 @@ pub mod ColumnMerges
 pub mod ColumnOrder
 pub mod ColumnJobs
 pub mod ColumnTimes
+pub mod NumberRuns

@@ -143,10 +143,10 @@ late-first bound node k (suc position) time (Departs t ∷ fates) here l h =
     rw (le-ltb bound t (h 0 t (omega arith) refl))
     (late-shift bound node k position time fates (late-first bound node (suc k) position time fates here l (λ p t u e. h (suc p) t (omega arith) e)))
 
-late-none : (bound node k : ℕ) (fates : List Fate) → ((p t : ℕ) → slice_get fates p ≡ Some (Departs t) → t ≤ bound) → first_of (column_late_from bound node k fates) ≡ None
+late-none : (bound node k : ℕ) (fates : List Fate) → ((p t : ℕ) → p < length fates → slice_get fates p ≡ Some (Departs t) → t ≤ bound) → first_of (column_late_from bound node k fates) ≡ None
 late-none bound node k [] h = refl
-late-none bound node k (Lost ∷ fates) h = late-none bound node (suc k) fates (λ p t e. h (suc p) t e)
-late-none bound node k (Departs t ∷ fates) h = rw (le-ltb bound t (h 0 t refl)) (late-none bound node (suc k) fates (λ p t e. h (suc p) t e))
+late-none bound node k (Lost ∷ fates) h = late-none bound node (suc k) fates (λ p t u e. h (suc p) t (omega arith) e)
+late-none bound node k (Departs t ∷ fates) h = rw (le-ltb bound t (h 0 t (omega arith) refl)) (late-none bound node (suc k) fates (λ p t u e. h (suc p) t (omega arith) e))
 
 pub late-is_first : LateIsFirst
 late-is_first bound node visits position time here l h =

@@ -18,3 +18,4 @@ pub mod Results
 pub mod Columns
 pub mod NumberLaws
 pub mod ColumnLaws
+pub mod RunLaws

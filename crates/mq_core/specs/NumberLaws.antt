@@ -83,5 +83,5 @@ LateIsFirst =
 abbrev pub LateIsNone : Type 0
 LateIsNone =
     (bound node : ℕ) (visits : Visits) →
-    ((position departure : ℕ) → slice_get visits.fate position ≡ Some (Departs departure) → departure ≤ bound) →
+    ((position departure : ℕ) → position < length visits.fate → slice_get visits.fate position ≡ Some (Departs departure) → departure ≤ bound) →
     first_of (column_late bound node visits) ≡ None

@@ -3,6 +3,7 @@ ghost use Rattle.mq_core.specs.Alone.{ServersServe, SourcesPassOn};
 ghost use Rattle.mq_core.specs.Fates.{AreasAreSojourns, BusyIsServices, FoundsAreCounts, PeakIsGreatest, RunEnds, SpanIsLatest};
 ghost use Rattle.mq_core.specs.NumberLaws.{ExitsAreStreams, LateIsFirst, LateIsNone, OnTimeGrows, PastIsColumns, PastIsFirst, PastIsNone, SpanIsColumns, TotalsAreColumns};
 ghost use Rattle.mq_core.specs.ColumnLaws.{ArrivalsAreStreams, DepartsInTime, JobsAreRows, MergesTwice, NodesAreColumns, NodesFlow, StreamsRise};
+ghost use Rattle.mq_core.specs.RunLaws.{ColumnsMakeRuns, OutputsHaveStreams, RunsHaveColumns, StreamsMakeOutputs};
 
 use crate::handlers::Handlers;
 
@@ -144,4 +145,24 @@ pub fn jobs_are_rows()
 /// No visit departs before it came, and the columns of a node have one item a visit.
 pub fn departs_in_time()
     ensures { DepartsInTime }
+{}
+
+/// A run in columns has the columns of each node at its place.
+pub fn runs_have_columns()
+    ensures { RunsHaveColumns }
+{}
+
+/// As many columns as there are nodes, with those of each node at its place, are the run in columns.
+pub fn columns_make_runs()
+    ensures { ColumnsMakeRuns }
+{}
+
+/// The streams of a node have that of each output at its place.
+pub fn outputs_have_streams()
+    ensures { OutputsHaveStreams }
+{}
+
+/// As many streams as there are outputs, with that of each at its place, are the streams of a node.
+pub fn streams_make_outputs()
+    ensures { StreamsMakeOutputs }
 {}
