@@ -25,6 +25,11 @@ pub mod Founds
 pub mod Busy
 pub mod Peak
 pub mod Span
+pub mod NumberLists
+pub mod NumberFates
+pub mod NumberTotals
+pub mod NumberSpan
+pub mod NumberPast
 pub mod ColumnFlow
 pub mod ColumnNumbers
 pub mod ColumnsEqual
@@ -33,3 +38,4 @@ pub mod ColumnOrder
 pub mod ColumnJobs
 pub mod ColumnTimes
 pub mod ColumnFew
+pub mod NumberRuns

@@ -1,10 +1,10 @@
 -- A run in columns: what the code keeps of it, one item a visit, by position.
-use Rattle.std.specs.Prelude.{◌≡◌, ◌≤◌, ℕ, zero, suc, ◌+◌, ◌-◌, nat_lt, max, Bool, false, List, [], ◌∷◌, ◌++◌, length, map, sum, count_by, fold, ◌==◌, slice_index, if◌then◌else◌}
+use Rattle.std.specs.Prelude.{◌≡◌, ◌≤◌, ◌^◌, All, ℕ, zero, suc, ◌+◌, ◌-◌, nat_lt, max, Bool, false, List, [], ◌∷◌, ◌++◌, length, map, sum, count_by, fold, ◌==◌, slice_index, if◌then◌else◌, Some}
 use Rattle.std.specs.List.{zip}
 use Rattle.mq_core.specs.Laws.{Rises, in_order_of}
 use Rattle.mq_core.specs.Local.{Local}
 use Rattle.mq_core.specs.Machine.{State}
-use Rattle.mq_core.specs.Results.{Totals, bare_time, is_lost, visits_of, stream_from}
+use Rattle.mq_core.specs.Results.{Totals, Late, late_fate, bare_time, is_lost, visits_of, stream_from}
 use Rattle.mq_core.specs.Sound.{outputs_in}
 use Rattle.mq_core.specs.Standard.{demand_of_job, output_by}
 use Rattle.mq_core.specs.StandardTable.{run_of}
@@ -39,6 +39,13 @@ rows_at node job [] times = []
 rows_at node job (source ∷ sources) [] = []
 rows_at node job (source ∷ sources) (time ∷ times) =
     if source == node then (time, job) ∷ rows_at node (suc job) sources times else rows_at node (suc job) sources times
+
+-- What a station can work on: arrivals and one demand each, in their limits.
+pub record IsSoundLoad (times demands : List ℕ) : Type 0 where
+  pub few : length times ≤ 1048576
+  pub each : length demands ≡ length times
+  pub early : All (λ time. time ≤ 2 ^ 60) times
+  pub small : All (λ demand. demand ≤ 2 ^ 36) demands
 
 -- Departures. A server's, by Lindley's recurrence: from the last departure, the arrivals and the demands.
 abbrev pub lindley : ℕ → List ℕ → List ℕ → List ℕ
@@ -195,6 +202,16 @@ greatest_time visits = max (fold max 0 visits.arrive) (fold max 0 (map time_of_f
 -- the greatest time of a visit to any node, or 0
 abbrev pub column_span : List Visits → ℕ
 column_span visits = fold max 0 (map greatest_time visits)
+
+-- Late visits. Those of these fates, the first at this position, that are a departure after the bound.
+abbrev pub column_late_from : ℕ → ℕ → ℕ → List Fate → List Late
+column_late_from bound node position [] = []
+column_late_from bound node position (fate ∷ fates) =
+    late_fate bound node position (Some fate) ++ column_late_from bound node (suc position) fates
+
+-- the visits of a node that depart after the bound, in order
+abbrev pub column_late : ℕ → ℕ → Visits → List Late
+column_late bound node visits = column_late_from bound node 0 visits.fate
 
 -- The columns of a state, node by node from this one on.
 abbrev pub visits_by_node : State Local → ℕ → List Node → List Visits

@@ -19,4 +19,6 @@ pub mod Results
 pub mod Columns
 pub mod NetworkRun
 pub mod PlanLaws
+pub mod NumberLaws
 pub mod ColumnLaws
+pub mod RunLaws

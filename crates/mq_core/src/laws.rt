@@ -4,6 +4,9 @@ ghost use Rattle.mq_core.specs.PlanLaws.{NodesAreInLimits, OrdersRank, RowsTellD
 ghost use Rattle.mq_core.specs.Alone.{ServersServe, SourcesPassOn};
 ghost use Rattle.mq_core.specs.Fates.{AreasAreSojourns, BusyIsServices, FoundsAreCounts, PeakIsGreatest, RunEnds, SpanIsLatest};
 ghost use Rattle.mq_core.specs.ColumnLaws.{ArrivalsAreStreams, DepartsInTime, JobsAreRows, MergesTwice, NodesAreColumns, NodesFlow, StreamsRise, VisitsAreFew};
+ghost use Rattle.mq_core.specs.NumberLaws.{ExitsAreStreams, LateIsFirst, LateIsNone, OnTimeGrows, PastIsColumns, PastIsFirst, PastIsNone, SpanIsColumns, TotalsAreColumns};
+ghost use Rattle.mq_core.specs.ColumnLaws.{ArrivalsAreStreams, DepartsInTime, JobsAreRows, MergesTwice, NodesAreColumns, NodesFlow, StreamsRise};
+ghost use Rattle.mq_core.specs.RunLaws.{ColumnsMakeRuns, OutputsHaveStreams, RunsHaveColumns, StreamsMakeOutputs};
 
 use crate::handlers::Handlers;
 
@@ -89,6 +92,51 @@ pub fn rows_tell_demands()
     ensures { RowsTellDemands }
 {}
 
+/// The totals of a node are those of its columns.
+pub fn totals_are_columns()
+    ensures { TotalsAreColumns }
+{}
+
+/// What leaves by an output is what its stream says.
+pub fn exits_are_streams()
+    ensures { ExitsAreStreams }
+{}
+
+/// The span is the greatest time in the columns.
+pub fn span_is_columns()
+    ensures { SpanIsColumns }
+{}
+
+/// The first departure after the bound is the first in the columns, by rank and then position.
+pub fn past_is_columns()
+    ensures { PastIsColumns }
+{}
+
+/// Where no node below a rank has a late visit, the first of the node at that rank is the first of all.
+pub fn past_is_first()
+    ensures { PastIsFirst }
+{}
+
+/// Where no node has a late visit, no departure passes the bound.
+pub fn past_is_none()
+    ensures { PastIsNone }
+{}
+
+/// That no node below a rank has a late visit, one rank further.
+pub fn on_time_grows()
+    ensures { OnTimeGrows }
+{}
+
+/// A departure after the bound, before which no other is, is the first late visit of its node.
+pub fn late_is_first()
+    ensures { LateIsFirst }
+{}
+
+/// A node none of whose departures is after the bound has no late visit.
+pub fn late_is_none()
+    ensures { LateIsNone }
+{}
+
 /// What a node lets out is the recurrence of its kind over its visits.
 pub fn nodes_flow()
     ensures { NodesFlow }
@@ -127,4 +175,24 @@ pub fn departs_in_time()
 /// A job visits a node at most once.
 pub fn visits_are_few()
     ensures { VisitsAreFew }
+{}
+
+/// A run in columns has the columns of each node at its place.
+pub fn runs_have_columns()
+    ensures { RunsHaveColumns }
+{}
+
+/// As many columns as there are nodes, with those of each node at its place, are the run in columns.
+pub fn columns_make_runs()
+    ensures { ColumnsMakeRuns }
+{}
+
+/// The streams of a node have that of each output at its place.
+pub fn outputs_have_streams()
+    ensures { OutputsHaveStreams }
+{}
+
+/// As many streams as there are outputs, with that of each at its place, are the streams of a node.
+pub fn streams_make_outputs()
+    ensures { StreamsMakeOutputs }
 {}
