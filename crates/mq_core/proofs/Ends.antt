@@ -40,7 +40,7 @@ node_load onward None local = 0
 node_load onward (Some node) local = kind_load onward node.kind local
 
 -- at most one emission where at most one position is let out
-emission-one : (now out position : ℕ) (o : Option Visit) → length (emission_of now out position o ++ []) ≤ 1
+pub emission-one : (now out position : ℕ) (o : Option Visit) → length (emission_of now out position o ++ []) ≤ 1
 emission-one now out position None = omega arith
 emission-one now out position (Some x) = omega arith
 
@@ -53,7 +53,7 @@ pub joins-length : (rows : Rows) (demand : Demand) (visits : List Visit) (local 
 joins-length rows demand visits local now [] position = refl
 joins-length rows demand visits local now (front ∷ queue) position = omega (arith, length-append queue (position ∷ []))
 
-joins-emits : (rows : Rows) (demand : Demand) (visits : List Visit) (local : Local) (now : ℕ) (queue : List ℕ) (position : ℕ) → emissions_of now visits (joins rows demand visits local now queue position).releases ≡ []
+pub joins-emits : (rows : Rows) (demand : Demand) (visits : List Visit) (local : Local) (now : ℕ) (queue : List ℕ) (position : ℕ) → emissions_of now visits (joins rows demand visits local now queue position).releases ≡ []
 joins-emits rows demand visits local now [] position = refl
 joins-emits rows demand visits local now (front ∷ queue) position = refl
 
@@ -119,11 +119,11 @@ load-opening onward (Some node) = go node.kind
     go (Server demand) = omega arith
     go (Split route) = refl
 
-sum_below-zero : (n : ℕ) (f : ℕ → ℕ) → ((k : ℕ) → f k ≡ 0) → sum_below n f ≡ 0
+pub sum_below-zero : (n : ℕ) (f : ℕ → ℕ) → ((k : ℕ) → f k ≡ 0) → sum_below n f ≡ 0
 sum_below-zero zero f h = refl
 sum_below-zero (suc n) f h = omega (arith, h n, sum_below-zero n f h)
 
-starts-weight : (weight : ℕ → ℕ) (most : ℕ) → ((v : ℕ) → weight v ≤ most) → (job : ℕ) (sources times : List ℕ) → sum_over (weigh weight) (starts_from job sources times) ≤ most * length times
+pub starts-weight : (weight : ℕ → ℕ) (most : ℕ) → ((v : ℕ) → weight v ≤ most) → (job : ℕ) (sources times : List ℕ) → sum_over (weigh weight) (starts_from job sources times) ≤ most * length times
 starts-weight weight most h job [] times = omega arith
 starts-weight weight most h job (s ∷ ss) [] = omega arith
 starts-weight weight most h job (s ∷ ss) (t ∷ ts) =
@@ -132,12 +132,12 @@ starts-weight weight most h job (s ∷ ss) (t ∷ ts) =
     let c = mul-suc most (length ts) in
     omega arith
 
-starts-inside : (size job : ℕ) (sources times : List ℕ) → ((k source : ℕ) → slice_get sources k ≡ Some source → source < size) → Each (λ f. node_of f < size) (starts_from job sources times)
+pub starts-inside : (size job : ℕ) (sources times : List ℕ) → ((k source : ℕ) → slice_get sources k ≡ Some source → source < size) → Each (λ f. node_of f < size) (starts_from job sources times)
 starts-inside size job [] times h = tt
 starts-inside size job (s ∷ ss) [] h = tt
 starts-inside size job (s ∷ ss) (t ∷ ts) h = (h zero s refl, starts-inside size (suc job) ss ts (λ k. h (suc k)))
 
-source-inside : (nodes : List Node) (v : ℕ) → is_source (slice_get nodes v) ≡ true → v < length nodes
+pub source-inside : (nodes : List Node) (v : ℕ) → is_source (slice_get nodes v) ≡ true → v < length nodes
 source-inside [] v h = absurd cc
 source-inside (node ∷ nodes) zero h = omega arith
 source-inside (node ∷ nodes) (suc v) h = let l = source-inside nodes v h in omega arith
@@ -210,7 +210,7 @@ module _ (plan : Plan) (rows : Rows) (read : IsReadFor plan.net rows) where
       let c : length plan.order ≤ size = subst (λ xs. length xs ≤ size) (sym plan.ranked) (let d = ranked-length size plan.net.nodes [] in omega arith) in
       omega arith
 
-  falls : Falls (standard plan rows) fact size weight onward load
+  falls : Falls (standard plan rows) fact 1 size weight onward load
   unfolding standard_opening standard_handle
   falls =
       record {
@@ -231,7 +231,7 @@ module _ (plan : Plan) (rows : Rows) (read : IsReadFor plan.net rows) where
   pub nothing-pending : (run_of plan rows).pending ≡ []
   unfolding standard_opening
   nothing-pending =
-      done-from_start (standard plan rows) fact (standard-keeps plan rows (reader_from 0 plan.net.nodes)) (standard-on_time plan rows) (feeds_forward plan (standard plan rows) refl refl) size weight onward load falls
+      done-from_start (standard plan rows) fact (standard-keeps plan rows (reader_from 0 plan.net.nodes)) (standard-on_time plan rows) (feeds_forward plan (standard plan rows) refl refl) 1 size weight onward load falls (omega arith)
       (starts rows) (starts-arrive 0 rows.source rows.time)
       (starts-inside size 0 rows.source rows.time (λ k source e. source-inside plan.net.nodes source (read.sources k source e)))
       (9 * length plan.net.nodes * length rows.time)
@@ -244,7 +244,7 @@ module _ (plan : Plan) (rows : Rows) (read : IsReadFor plan.net rows) where
           omega arith
 
   -- what holds of each node at the end
-  end-fact : (v : ℕ) → node_fact rows (slice_get plan.net.nodes v) v ((run_of plan rows).stations v) [] (run_of plan rows).clock
+  pub end-fact : (v : ℕ) → node_fact rows (slice_get plan.net.nodes v) v ((run_of plan rows).stations v) [] (run_of plan rows).clock
   end-fact v =
       subst (λ l. node_fact rows (slice_get plan.net.nodes v) v ((run_of plan rows).stations v) (filter (is_finish_at v) l) (run_of plan rows).clock) nothing-pending
       (kept (standard plan rows) fact (standard-keeps plan rows (reader_from 0 plan.net.nodes)) (standard-on_time plan rows) (feeds_forward plan (standard plan rows) refl refl) (starts rows) (starts-arrive 0 rows.source rows.time) (9 * length plan.net.nodes * length rows.time) v)

@@ -75,6 +75,7 @@ pub record ComesAt (s : State Local) (time : ℕ) : Type 0 where
   pub inside : position < length (s.stations node).visits
   pub at : arrival_or 0 (slice_get (s.stations node).visits position) ≡ time
 
+-- an emission of a node at this time
 pub record LeavesAt (s : State Local) (time : ℕ) : Type 0 where
   pub node : ℕ
   pub before : List Emission
@@ -89,6 +90,7 @@ pub record IsLatest (plan : Plan) (s : State Local) (span : ℕ) : Type 0 where
   pub left : (v : ℕ) → v < length plan.net.nodes → AllByRecursion (λ (m : Emission). m.time ≤ span) (s.stations v).emitted
   pub reached : (span ≡ 0) ⊎ (ComesAt s span ⊎ LeavesAt s span)
 
+-- the clock at the end is the span
 abbrev pub SpanIsLatest : Type 0
 SpanIsLatest =
     (plan : Plan) (rows : Rows) → IsReadFor plan.net rows →

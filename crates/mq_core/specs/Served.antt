@@ -1,7 +1,9 @@
 use Rattle.std.specs.Prelude.{ℕ, suc, ◌+◌, max, List, [], ◌∷◌}
 use Rattle.mq_core.specs.Machine.{Visit, Emission}
-use Rattle.mq_core.specs.Standard.{demand_of_job}
+use Rattle.mq_core.specs.Standard.{demand_of_job, output_by}
 use Rattle.mq_core.specs.declared.model.Demand.{Demand}
+use Rattle.mq_core.specs.declared.model.Kind.{Kind}
+use Rattle.mq_core.specs.declared.model.Kind.TheVariants.{Source, Server, Split}
 use Rattle.mq_core.specs.declared.model.Rows.{Rows}
 
 -- when a visit leaves a server that the visit before it left at this time
@@ -20,3 +22,9 @@ abbrev pub passed_from : (Visit → ℕ → ℕ) → ℕ → List Visit → List
 passed_from out position [] = []
 passed_from out position (visit ∷ visits) =
     record { out = out visit position; position = position; job = visit.job; time = visit.arrive } ∷ passed_from out (suc position) visits
+
+-- what these visits let out at a node of each kind, in the order of leaving
+abbrev pub flow_of : Rows → Kind → List Visit → List Emission
+flow_of rows Source visits = passed_from (λ _ _. 0) 0 visits
+flow_of rows (Server demand) visits = served_from rows demand 0 0 visits
+flow_of rows (Split route) visits = passed_from (λ visit position. output_by rows route visit.job position) 0 visits

@@ -1,6 +1,12 @@
 ghost use Rattle.mq_core.specs.Theorems.{EventsGoForward, ArrivalsAreRead, NodesRunAlone, VisitsAreArrivals};
+ghost use Rattle.mq_core.specs.NetworkRun.{RunsAreOfNetworks};
+ghost use Rattle.mq_core.specs.PlanLaws.{NodesAreInLimits, OrdersRank, RowsTellDemands};
 ghost use Rattle.mq_core.specs.Alone.{ServersServe, SourcesPassOn};
 ghost use Rattle.mq_core.specs.Fates.{AreasAreSojourns, BusyIsServices, FoundsAreCounts, PeakIsGreatest, RunEnds, SpanIsLatest};
+ghost use Rattle.mq_core.specs.ColumnLaws.{ArrivalsAreStreams, DepartsInTime, JobsAreRows, MergesTwice, NodesAreColumns, NodesFlow, StreamsRise, VisitsAreFew};
+ghost use Rattle.mq_core.specs.NumberLaws.{ExitsAreStreams, LateIsFirst, LateIsNone, OnTimeGrows, PastIsColumns, PastIsFirst, PastIsNone, SpanIsColumns, TotalsAreColumns};
+ghost use Rattle.mq_core.specs.ColumnLaws.{ArrivalsAreStreams, DepartsInTime, JobsAreRows, MergesTwice, NodesAreColumns, NodesFlow, StreamsRise};
+ghost use Rattle.mq_core.specs.RunLaws.{ColumnsMakeRuns, OutputsHaveStreams, RunsHaveColumns, StreamsMakeOutputs};
 
 use crate::handlers::Handlers;
 
@@ -62,4 +68,131 @@ pub fn span_is_latest()
 /// The visits of a node are its arrivals.
 pub fn visits_are_arrivals<H: Handlers>()
     ensures { VisitsAreArrivals H.opening H.handle H.jobs H.working }
+{}
+
+/// The run of a plan, and its first departure past the bound, are those of its network.
+pub fn runs_are_of_networks()
+    ensures { RunsAreOfNetworks }
+{}
+
+/// Each node of a plan is in its limits: its numbers, its outputs and servers, at most 8 of each,
+/// and its ports, at most 8, which name outputs of the network.
+pub fn nodes_are_in_limits()
+    ensures { NodesAreInLimits }
+{}
+
+/// The order of a plan has each node once, behind all that it reads.
+pub fn orders_rank()
+    ensures { OrdersRank }
+{}
+
+/// Rows that are read for a network tell what each job asks for: each value is there, and at most
+/// 2^36.
+pub fn rows_tell_demands()
+    ensures { RowsTellDemands }
+{}
+
+/// The totals of a node are those of its columns.
+pub fn totals_are_columns()
+    ensures { TotalsAreColumns }
+{}
+
+/// What leaves by an output is what its stream says.
+pub fn exits_are_streams()
+    ensures { ExitsAreStreams }
+{}
+
+/// The span is the greatest time in the columns.
+pub fn span_is_columns()
+    ensures { SpanIsColumns }
+{}
+
+/// The first departure after the bound is the first in the columns, by rank and then position.
+pub fn past_is_columns()
+    ensures { PastIsColumns }
+{}
+
+/// Where no node below a rank has a late visit, the first of the node at that rank is the first of all.
+pub fn past_is_first()
+    ensures { PastIsFirst }
+{}
+
+/// Where no node has a late visit, no departure passes the bound.
+pub fn past_is_none()
+    ensures { PastIsNone }
+{}
+
+/// That no node below a rank has a late visit, one rank further.
+pub fn on_time_grows()
+    ensures { OnTimeGrows }
+{}
+
+/// A departure after the bound, before which no other is, is the first late visit of its node.
+pub fn late_is_first()
+    ensures { LateIsFirst }
+{}
+
+/// A node none of whose departures is after the bound has no late visit.
+pub fn late_is_none()
+    ensures { LateIsNone }
+{}
+
+/// What a node lets out is the recurrence of its kind over its visits.
+pub fn nodes_flow()
+    ensures { NodesFlow }
+{}
+
+/// The visits and the streams of a node are the columns that its jobs and their times of arrival give.
+pub fn nodes_are_columns()
+    ensures { NodesAreColumns }
+{}
+
+/// The arrivals at a node are the rows of a source, or the streams that it reads, by time.
+pub fn arrivals_are_streams()
+    ensures { ArrivalsAreStreams }
+{}
+
+/// A merge of a merge with more is the merge of all.
+pub fn merges_twice()
+    ensures { MergesTwice }
+{}
+
+/// The arrivals and the streams of a node never go back in time.
+pub fn streams_rise()
+    ensures { StreamsRise }
+{}
+
+/// The job of each visit is a row.
+pub fn jobs_are_rows()
+    ensures { JobsAreRows }
+{}
+
+/// No visit departs before it came, and the columns of a node have one item a visit.
+pub fn departs_in_time()
+    ensures { DepartsInTime }
+{}
+
+/// A job visits a node at most once.
+pub fn visits_are_few()
+    ensures { VisitsAreFew }
+{}
+
+/// A run in columns has the columns of each node at its place.
+pub fn runs_have_columns()
+    ensures { RunsHaveColumns }
+{}
+
+/// As many columns as there are nodes, with those of each node at its place, are the run in columns.
+pub fn columns_make_runs()
+    ensures { ColumnsMakeRuns }
+{}
+
+/// The streams of a node have that of each output at its place.
+pub fn outputs_have_streams()
+    ensures { OutputsHaveStreams }
+{}
+
+/// As many streams as there are outputs, with that of each at its place, are the streams of a node.
+pub fn streams_make_outputs()
+    ensures { StreamsMakeOutputs }
 {}

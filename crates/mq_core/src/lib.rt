@@ -1,14 +1,23 @@
 // The types of models and runs, and the event list that says what a run is.
 #![tactic(auto)]
 
+mod demands;
 mod handlers;
+mod kinds;
 mod laws;
 mod model;
 
+pub use demands::{bare_of, demand_of};
 pub use handlers::{Handlers, Standard};
+pub use kinds::{outputs_of, servers_of};
 pub use laws::{
-    areas_are_sojourns, arrivals_are_read, busy_is_services, events_go_forward, founds_are_counts,
-    nodes_run_alone, peak_is_greatest, servers_serve, sources_pass_on, span_is_latest,
-    the_run_ends, visits_are_arrivals,
+    areas_are_sojourns, arrivals_are_read, arrivals_are_streams, busy_is_services,
+    columns_make_runs, departs_in_time, events_go_forward, exits_are_streams, founds_are_counts,
+    jobs_are_rows, late_is_first, late_is_none, merges_twice, nodes_are_columns,
+    nodes_are_in_limits, nodes_flow, nodes_run_alone, on_time_grows, orders_rank,
+    outputs_have_streams, past_is_columns, past_is_first, past_is_none, peak_is_greatest,
+    rows_tell_demands, runs_are_of_networks, runs_have_columns, servers_serve, sources_pass_on,
+    span_is_columns, span_is_latest, streams_make_outputs, streams_rise, the_run_ends,
+    totals_are_columns, visits_are_arrivals, visits_are_few,
 };
 pub use model::{Demand, Fate, Input, Kind, Network, Node, Plan, Route, Rows, Run, Stream, Visits};

@@ -1,0 +1,108 @@
+use Rattle.std.proofs.Common.{◌≡◌, ℕ, zero, suc, ◌<◌, Bool, true, false, cond, eqb, List, [], ◌∷◌, map, length, Some, sym, refl, ap, ◌∙◌, arith, zero-add}
+use Rattle.std.specs.Prelude.{slice_get}
+use Rattle.mq_core.specs.ColumnLaws.{NodesAreColumns, jobs_of, arrives_of}
+use Rattle.mq_core.specs.Columns.{lindley, column_fates, column_visits, column_stream, founds_of, routes_from, column_outs, picked, time_of_fate}
+use Rattle.mq_core.specs.Fates.{fate_by}
+use Rattle.mq_core.specs.Laws.{stream_of}
+use Rattle.mq_core.specs.Local.{Local}
+use Rattle.mq_core.specs.Machine.{Visit, Emission, Station}
+use Rattle.mq_core.specs.Results.{fates_from, visits_of, stream_from}
+use Rattle.mq_core.specs.Served.{served, served_from, passed_from, flow_of}
+use Rattle.mq_core.specs.Standard.{demand_of_job, output_by}
+use Rattle.mq_core.specs.StandardTable.{run_of}
+use Rattle.mq_core.specs.Tallies.{arrival_or, found_or, still_there}
+use Rattle.mq_core.specs.declared.model.Demand.{Demand}
+use Rattle.mq_core.specs.declared.model.Fate.TheVariants.{Departs}
+use Rattle.mq_core.specs.declared.model.Kind.{Kind}
+use Rattle.mq_core.specs.declared.model.Kind.TheVariants.{Source, Server, Split}
+use Rattle.mq_core.specs.declared.model.Node.{Node}
+use Rattle.mq_core.specs.declared.model.Route.{Route}
+use Rattle.mq_core.specs.declared.model.Rows.{Rows}
+use Rattle.mq_core.proofs.ColumnFlow.{nodes-flow}
+use Rattle.mq_core.proofs.ColumnNumbers.{flow-numbered, fates-numbered, jobs-numbered, founds-numbered}
+use Rattle.mq_core.proofs.Tallied.{founds-are-counts}
+
+-- the fates of the flow, kind by kind
+passed-fates : (kind : Kind) (out : Visit → ℕ → ℕ) (k : ℕ) (visits : List Visit) → map (fate_by kind) (passed_from out k visits) ≡ map (λ time. Departs time) (arrives_of visits)
+passed-fates kind out k [] = refl
+passed-fates kind out k (x ∷ xs) = ap (λ l. Departs x.arrive ∷ l) (passed-fates kind out (suc k) xs)
+
+served-fates : (kind : Kind) (rows : Rows) (demand : Demand) (k last : ℕ) (visits : List Visit) → map (fate_by kind) (served_from rows demand k last visits) ≡ map (λ time. Departs time) (lindley last (arrives_of visits) (map (demand_of_job rows demand) (jobs_of visits)))
+served-fates kind rows demand k last [] = refl
+served-fates kind rows demand k last (x ∷ xs) = ap (λ l. Departs (served rows demand last x) ∷ l) (served-fates kind rows demand (suc k) (served rows demand last x) xs)
+
+pub flow-fates : (rows : Rows) (kind : Kind) (visits : List Visit) → map (fate_by kind) (flow_of rows kind visits) ≡ column_fates rows kind (jobs_of visits) (arrives_of visits)
+flow-fates rows Source visits = passed-fates Source _ 0 visits
+flow-fates rows (Server demand) visits = served-fates (Server demand) rows demand 0 0 visits
+flow-fates rows (Split route) visits = passed-fates (Split route) _ 0 visits
+
+-- the outputs of the flow, kind by kind
+source-outs : (k : ℕ) (visits : List Visit) → map (λ (m : Emission). m.out) (passed_from (λ _ _. 0) k visits) ≡ map (λ _. 0) (jobs_of visits)
+source-outs k [] = refl
+source-outs k (x ∷ xs) = ap (λ l. 0 ∷ l) (source-outs (suc k) xs)
+
+server-outs : (rows : Rows) (demand : Demand) (k last : ℕ) (visits : List Visit) → map (λ (m : Emission). m.out) (served_from rows demand k last visits) ≡ map (λ _. 0) (jobs_of visits)
+server-outs rows demand k last [] = refl
+server-outs rows demand k last (x ∷ xs) = ap (λ l. 0 ∷ l) (server-outs rows demand (suc k) (served rows demand last x) xs)
+
+split-outs : (rows : Rows) (route : Route) (k : ℕ) (visits : List Visit) → map (λ (m : Emission). m.out) (passed_from (λ x p. output_by rows route x.job p) k visits) ≡ routes_from rows route k (jobs_of visits)
+split-outs rows route k [] = refl
+split-outs rows route k (x ∷ xs) = ap (λ l. output_by rows route x.job k ∷ l) (split-outs rows route (suc k) xs)
+
+flow-outs : (rows : Rows) (kind : Kind) (visits : List Visit) → map (λ (m : Emission). m.out) (flow_of rows kind visits) ≡ column_outs rows kind (jobs_of visits)
+flow-outs rows Source visits = source-outs 0 visits
+flow-outs rows (Server demand) visits = server-outs rows demand 0 0 visits
+flow-outs rows (Split route) visits = split-outs rows route 0 visits
+
+-- the emissions by an output are picked by their outputs
+picked-stream : (out : ℕ) (f : Emission → ℕ) (ms : List Emission) → map f (stream_of out ms) ≡ picked out (map (λ (m : Emission). m.out) ms) (map f ms)
+picked-stream out f [] = refl
+picked-stream out f (m ∷ ms) = go (eqb m.out out) (picked-stream out f ms)
+  where
+    go : (b : Bool) → map f (stream_of out ms) ≡ picked out (map (λ (n : Emission). n.out) ms) (map f ms) → map f (cond b (m ∷ stream_of out ms) (stream_of out ms)) ≡ cond b (f m ∷ picked out (map (λ (n : Emission). n.out) ms) (map f ms)) (picked out (map (λ (n : Emission). n.out) ms) (map f ms))
+    go true ih = ap (λ l. f m ∷ l) ih
+    go false ih = ih
+
+times-fates : (kind : Kind) (ms : List Emission) → map (λ (m : Emission). m.time) ms ≡ map time_of_fate (map (fate_by kind) ms)
+times-fates kind [] = refl
+times-fates kind (m ∷ ms) = ap (λ l. m.time ∷ l) (times-fates kind ms)
+
+-- a station that let out its flow stands in columns
+station-visits : (rows : Rows) (kind : Kind) (s : Station Local) → s.emitted ≡ flow_of rows kind s.visits →
+    ((j : ℕ) → j < length s.visits → found_or 0 (slice_get s.visits j) ≡ still_there (arrival_or 0 (slice_get s.visits j)) s.emitted j) →
+    visits_of kind s ≡ column_visits rows kind (jobs_of s.visits) (arrives_of s.visits)
+station-visits rows kind s flow found =
+    let numbered = flow-numbered rows kind s.visits in
+    let fates : fates_from kind s.emitted 0 s.visits ≡ column_fates rows kind (jobs_of s.visits) (arrives_of s.visits) =
+    ap (λ l. fates_from kind l 0 s.visits) flow ∙ (fates-numbered kind 0 (flow_of rows kind s.visits) (flow_of rows kind s.visits) s.visits numbered (λ q l. refl) ∙ flow-fates rows kind s.visits) in
+    let founds : map (λ (x : Visit). x.found) s.visits ≡ founds_of (arrives_of s.visits) (column_fates rows kind (jobs_of s.visits) (arrives_of s.visits)) =
+    founds-numbered kind 0 (flow_of rows kind s.visits) (flow_of rows kind s.visits) [] s.visits numbered (λ q l. refl) (λ time. refl)
+    (λ j l. found j l ∙ (λ i. still_there (arrival_or 0 (slice_get s.visits j)) (flow i) (sym (zero-add j) i)))
+    ∙ ap (founds_of (arrives_of s.visits)) (flow-fates rows kind s.visits) in
+    λ i. record { job = jobs_of s.visits; arrive = arrives_of s.visits; found = founds i; fate = fates i }
+
+station-stream : (rows : Rows) (kind : Kind) (s : Station Local) (out : ℕ) → s.emitted ≡ flow_of rows kind s.visits → stream_from s out ≡ column_stream rows kind (jobs_of s.visits) (arrives_of s.visits) out
+station-stream rows kind s out flow =
+    let outs = flow-outs rows kind s.visits in
+    let jobs : map (λ (m : Emission). m.job) (stream_of out s.emitted) ≡ picked out (column_outs rows kind (jobs_of s.visits)) (jobs_of s.visits) =
+    ap (λ l. map (λ (m : Emission). m.job) (stream_of out l)) flow
+    ∙ (picked-stream out (λ (m : Emission). m.job) (flow_of rows kind s.visits)
+    ∙ (λ i. picked out (outs i) (jobs-numbered 0 (flow_of rows kind s.visits) s.visits (flow-numbered rows kind s.visits) i))) in
+    let times : map (λ (m : Emission). m.time) (stream_of out s.emitted) ≡ picked out (column_outs rows kind (jobs_of s.visits)) (map time_of_fate (column_fates rows kind (jobs_of s.visits) (arrives_of s.visits))) =
+    ap (λ l. map (λ (m : Emission). m.time) (stream_of out l)) flow
+    ∙ (picked-stream out (λ (m : Emission). m.time) (flow_of rows kind s.visits)
+    ∙ (λ i. picked out (outs i) ((times-fates kind (flow_of rows kind s.visits) ∙ ap (map time_of_fate) (flow-fates rows kind s.visits)) i))) in
+    λ i. record { job = jobs i; time = times i }
+
+pub some-inside : (nodes : List Node) (v : ℕ) (node : Node) → slice_get nodes v ≡ Some node → v < length nodes
+some-inside [] v node h = absurd cc
+some-inside (n ∷ nodes) zero node h = omega arith
+some-inside (n ∷ nodes) (suc v) node h = let l = some-inside nodes v node h in omega arith
+
+pub nodes-are-columns : NodesAreColumns
+nodes-are-columns plan rows read v node e =
+    let flow = nodes-flow plan rows read v node e in
+    record {
+      visits = station-visits rows node.kind ((run_of plan rows).stations v) flow (founds-are-counts plan rows read v (some-inside plan.net.nodes v node e));
+      stream = λ out. station-stream rows node.kind ((run_of plan rows).stations v) out flow;
+    }

@@ -1,0 +1,5 @@
+use Rattle.mq_core.proofs.ColumnMerges.{arrivals-are-streams}
+use Rattle.mq_core.proofs.laws.arrivals_are_streams.Goals as goal
+
+pub returns : goal.returns
+returns c = arrivals-are-streams

@@ -1,0 +1,5 @@
+use Rattle.mq_core.proofs.NumberRuns.{columns-make_runs}
+use Rattle.mq_core.proofs.laws.columns_make_runs.Goals as goal
+
+pub returns : goal.returns
+returns c = columns-make_runs

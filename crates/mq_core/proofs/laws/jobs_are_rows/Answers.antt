@@ -1,0 +1,5 @@
+use Rattle.mq_core.proofs.ColumnJobs.{jobs-are-rows}
+use Rattle.mq_core.proofs.laws.jobs_are_rows.Goals as goal
+
+pub returns : goal.returns
+returns c = jobs-are-rows

@@ -1,0 +1,5 @@
+use Rattle.mq_core.proofs.ColumnMerges.{merges-twice}
+use Rattle.mq_core.proofs.laws.merges_twice.Goals as goal
+
+pub returns : goal.returns
+returns c = merges-twice

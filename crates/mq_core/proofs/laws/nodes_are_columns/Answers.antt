@@ -1,0 +1,5 @@
+use Rattle.mq_core.proofs.ColumnsEqual.{nodes-are-columns}
+use Rattle.mq_core.proofs.laws.nodes_are_columns.Goals as goal
+
+pub returns : goal.returns
+returns c = nodes-are-columns

@@ -1,0 +1,5 @@
+use Rattle.mq_core.proofs.ColumnFlow.{nodes-flow}
+use Rattle.mq_core.proofs.laws.nodes_flow.Goals as goal
+
+pub returns : goal.returns
+returns c = nodes-flow

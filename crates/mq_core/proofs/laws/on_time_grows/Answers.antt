@@ -1,0 +1,5 @@
+use Rattle.mq_core.proofs.NumberPast.{on_time-grows}
+use Rattle.mq_core.proofs.laws.on_time_grows.Goals as goal
+
+pub returns : goal.returns
+returns c = on_time-grows

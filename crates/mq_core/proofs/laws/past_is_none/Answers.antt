@@ -1,0 +1,5 @@
+use Rattle.mq_core.proofs.NumberPast.{past-is_none}
+use Rattle.mq_core.proofs.laws.past_is_none.Goals as goal
+
+pub returns : goal.returns
+returns c = past-is_none

@@ -1,0 +1,5 @@
+use Rattle.mq_core.proofs.ColumnOrder.{streams-rise}
+use Rattle.mq_core.proofs.laws.streams_rise.Goals as goal
+
+pub returns : goal.returns
+returns c = streams-rise

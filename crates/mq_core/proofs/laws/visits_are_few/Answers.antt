@@ -1,0 +1,5 @@
+use Rattle.mq_core.proofs.ColumnFew.{visits-are-few}
+use Rattle.mq_core.proofs.laws.visits_are_few.Goals as goal
+
+pub returns : goal.returns
+returns c = visits-are-few

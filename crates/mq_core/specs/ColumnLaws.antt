@@ -1,0 +1,100 @@
+use Rattle.std.specs.Prelude.{◌≡◌, ◌<◌, ◌≤◌, ⊤, ℕ, false, List, ◌++◌, length, map, slice_get, Some}
+use Rattle.std.specs.List.{AllByRecursion, zip, flat_map}
+use Rattle.mq_core.specs.Columns.{IsStream, by_first, column_visits, column_stream, pairs_of, rows_at}
+use Rattle.mq_core.specs.Laws.{Rises}
+use Rattle.mq_core.specs.Local.{Local}
+use Rattle.mq_core.specs.Machine.{Visit, Station, State}
+use Rattle.mq_core.specs.Results.{visits_of, stream_from}
+use Rattle.mq_core.specs.Served.{flow_of}
+use Rattle.mq_core.specs.StandardTable.{run_of}
+use Rattle.mq_core.specs.Theorems.{IsReadFor}
+use Rattle.mq_core.specs.Wiring.{is_source_kind}
+use Rattle.mq_core.specs.declared.model.Fate.{Fate}
+use Rattle.mq_core.specs.declared.model.Fate.TheVariants.{Departs, Lost}
+use Rattle.mq_core.specs.declared.model.Input.{Input}
+use Rattle.mq_core.specs.declared.model.Kind.{Kind}
+use Rattle.mq_core.specs.declared.model.Kind.TheVariants.{Source}
+use Rattle.mq_core.specs.declared.model.Node.{Node}
+use Rattle.mq_core.specs.declared.model.Plan.{Plan}
+use Rattle.mq_core.specs.declared.model.Rows.{Rows}
+use Rattle.mq_core.specs.declared.model.Visits.{Visits}
+
+-- what a node lets out is the recurrence of its kind over its visits
+abbrev pub NodesFlow : Type 0
+NodesFlow =
+    (plan : Plan) (rows : Rows) → IsReadFor plan.net rows → (v : ℕ) (node : Node) → slice_get plan.net.nodes v ≡ Some node →
+    let s = (run_of plan rows).stations v in
+    s.emitted ≡ flow_of rows node.kind s.visits
+
+-- the jobs of these visits, and when they came
+abbrev pub jobs_of : List Visit → List ℕ
+jobs_of visits = map (λ (x : Visit). x.job) visits
+
+abbrev pub arrives_of : List Visit → List ℕ
+arrives_of visits = map (λ (x : Visit). x.arrive) visits
+
+-- the visits and the streams of a node are the columns that its jobs and their times of arrival give
+pub record IsInColumns (rows : Rows) (kind : Kind) (s : Station Local) : Type 0 where
+  pub visits : visits_of kind s ≡ column_visits rows kind (jobs_of s.visits) (arrives_of s.visits)
+  pub stream : (out : ℕ) → stream_from s out ≡ column_stream rows kind (jobs_of s.visits) (arrives_of s.visits) out
+
+abbrev pub NodesAreColumns : Type 0
+NodesAreColumns =
+    (plan : Plan) (rows : Rows) → IsReadFor plan.net rows → (v : ℕ) (node : Node) → slice_get plan.net.nodes v ≡ Some node →
+    IsInColumns rows node.kind ((run_of plan rows).stations v)
+
+-- the arrivals at a node by time: the rows of a source in file order, or what the ports of another read, port after port
+pub record IsMerged (rows : Rows) (v : ℕ) (node : Node) (end : State Local) : Type 0 where
+  pub source : node.kind ≡ Source → zip (arrives_of (end.stations v).visits) (jobs_of (end.stations v).visits) ≡ by_first (rows_at v 0 rows.source rows.time)
+  pub other : is_source_kind node.kind ≡ false → zip (arrives_of (end.stations v).visits) (jobs_of (end.stations v).visits) ≡ by_first (flat_map (λ (i : Input). pairs_of (stream_from (end.stations i.node) i.out)) node.inputs)
+
+abbrev pub ArrivalsAreStreams : Type 0
+ArrivalsAreStreams =
+    (plan : Plan) (rows : Rows) → IsReadFor plan.net rows → (v : ℕ) (node : Node) → slice_get plan.net.nodes v ≡ Some node →
+    IsMerged rows v node (run_of plan rows)
+
+-- a merge of a merge with more is the merge of all, and a merge has as many items
+pub record IsMerge (xs ys : List (ℕ × ℕ)) : Type 0 where
+  pub twice : by_first (by_first xs ++ ys) ≡ by_first (xs ++ ys)
+  pub long : length (by_first xs) ≡ length xs
+
+abbrev pub MergesTwice : Type 0
+MergesTwice = (xs ys : List (ℕ × ℕ)) → IsMerge xs ys
+
+-- the arrivals and the streams of a node never go back in time
+pub record IsInOrder (s : Station Local) : Type 0 where
+  pub arrivals : Rises (λ a b. a ≤ b) (arrives_of s.visits)
+  pub streams : (out : ℕ) → IsStream (stream_from s out)
+
+abbrev pub StreamsRise : Type 0
+StreamsRise = (plan : Plan) (rows : Rows) (v : ℕ) → IsInOrder ((run_of plan rows).stations v)
+
+-- the job of each visit is a row
+abbrev pub JobsAreRows : Type 0
+JobsAreRows =
+    (plan : Plan) (rows : Rows) (v : ℕ) →
+    AllByRecursion (λ job. job < length rows.time) (jobs_of ((run_of plan rows).stations v).visits)
+
+-- no earlier than this time, or lost
+abbrev pub LeavesFrom : ℕ → Fate → Type 0
+LeavesFrom arrive (Departs time) = arrive ≤ time
+LeavesFrom arrive Lost = ⊤
+
+-- the columns have one item a visit, and none departs before it came: item by item, and by position
+pub record IsInTime (visits : Visits) : Type 0 where
+  pub jobs : length visits.job ≡ length visits.arrive
+  pub founds : length visits.found ≡ length visits.arrive
+  pub fates : length visits.fate ≡ length visits.arrive
+  pub each : AllByRecursion (λ (p : ℕ × Fate). LeavesFrom p.0 p.1) (zip visits.arrive visits.fate)
+  pub at : (position arrive time : ℕ) → slice_get visits.arrive position ≡ Some arrive → slice_get visits.fate position ≡ Some (Departs time) → arrive ≤ time
+
+abbrev pub DepartsInTime : Type 0
+DepartsInTime =
+    (plan : Plan) (rows : Rows) → IsReadFor plan.net rows → (v : ℕ) (node : Node) → slice_get plan.net.nodes v ≡ Some node →
+    IsInTime (visits_of node.kind ((run_of plan rows).stations v))
+
+-- a job visits a node at most once
+abbrev pub VisitsAreFew : Type 0
+VisitsAreFew =
+    (plan : Plan) (rows : Rows) → IsReadFor plan.net rows → (v : ℕ) →
+    length ((run_of plan rows).stations v).visits ≤ length rows.time

@@ -1,0 +1,87 @@
+-- That the numbers worked out from columns are the run's own tallies.
+use Rattle.std.specs.Prelude.{◌≡◌, ◌<◌, ◌≤◌, ◌+◌, ℕ, List, [], length, Option, Some, None, slice_get}
+use Rattle.std.specs.List.{flat_map}
+use Rattle.mq_core.specs.Columns.{column_totals, column_exit, column_span, column_late, visits_by_node}
+use Rattle.mq_core.specs.Local.{Local}
+use Rattle.mq_core.specs.Machine.{Station}
+use Rattle.mq_core.specs.Results.{Late, totals_of, exit_of, visits_of, stream_from, first_of, past_of}
+use Rattle.mq_core.specs.StandardTable.{run_of}
+use Rattle.mq_core.specs.Theorems.{IsReadFor}
+use Rattle.mq_core.specs.declared.model.Fate.TheVariants.{Departs}
+use Rattle.mq_core.specs.declared.model.Node.{Node}
+use Rattle.mq_core.specs.declared.model.Plan.{Plan}
+use Rattle.mq_core.specs.declared.model.Rows.{Rows}
+use Rattle.mq_core.specs.declared.model.Visits.{Visits}
+
+-- the totals of a node are those of its columns
+abbrev pub TotalsAreColumns : Type 0
+TotalsAreColumns =
+    (plan : Plan) (rows : Rows) → IsReadFor plan.net rows → (v : ℕ) (node : Node) → slice_get plan.net.nodes v ≡ Some node →
+    let end = (run_of plan rows).stations v in
+    totals_of rows node.kind end ≡ column_totals rows node.kind (visits_of node.kind end)
+
+-- what leaves by an output is what its stream says
+abbrev pub ExitsAreStreams : Type 0
+ExitsAreStreams =
+    (rows : Rows) (s : Station Local) (out : ℕ) → exit_of rows s out ≡ column_exit rows (stream_from s out)
+
+-- the span is the greatest time in the columns
+abbrev pub SpanIsColumns : Type 0
+SpanIsColumns =
+    (plan : Plan) (rows : Rows) → IsReadFor plan.net rows →
+    (run_of plan rows).clock ≡ column_span (visits_by_node (run_of plan rows) 0 plan.net.nodes)
+
+-- the late visits of a node of a plan, of which these are the columns
+abbrev pub late_in : Plan → ℕ → Option Visits → List Late
+late_in plan v None = []
+late_in plan v (Some visits) = column_late plan.net.bound v visits
+
+-- the late visits of the run, by rank of the node and then position
+abbrev pub run_late : Plan → Rows → List ℕ → List Late
+run_late plan rows order = flat_map (λ v. late_in plan v (slice_get (visits_by_node (run_of plan rows) 0 plan.net.nodes) v)) order
+
+-- none of the first nodes, as many as this by rank, has a late visit
+abbrev pub IsOnTimeBelow : Plan → Rows → ℕ → Type 0
+IsOnTimeBelow plan rows rank =
+    (r v : ℕ) (node : Node) → r < rank → slice_get plan.order r ≡ Some v → slice_get plan.net.nodes v ≡ Some node →
+    first_of (column_late plan.net.bound v (visits_of node.kind ((run_of plan rows).stations v))) ≡ None
+
+-- one node more
+abbrev pub OnTimeGrows : Type 0
+OnTimeGrows =
+    (plan : Plan) (rows : Rows) (rank v : ℕ) (node : Node) →
+    slice_get plan.order rank ≡ Some v → slice_get plan.net.nodes v ≡ Some node → IsOnTimeBelow plan rows rank →
+    first_of (column_late plan.net.bound v (visits_of node.kind ((run_of plan rows).stations v))) ≡ None →
+    IsOnTimeBelow plan rows (rank + 1)
+
+-- the first departure after the bound is the first in the columns
+abbrev pub PastIsColumns : Type 0
+PastIsColumns =
+    (plan : Plan) (rows : Rows) → IsReadFor plan.net rows → past_of plan rows ≡ first_of (run_late plan rows plan.order)
+
+-- where the nodes of the lower ranks have no late visit, it is the first of the next node that has one
+abbrev pub PastIsFirst : Type 0
+PastIsFirst =
+    (plan : Plan) (rows : Rows) → IsReadFor plan.net rows → (rank v : ℕ) (node : Node) (late : Late) →
+    slice_get plan.order rank ≡ Some v → slice_get plan.net.nodes v ≡ Some node → IsOnTimeBelow plan rows rank →
+    first_of (column_late plan.net.bound v (visits_of node.kind ((run_of plan rows).stations v))) ≡ Some late →
+    past_of plan rows ≡ Some late
+
+-- where no node has a late visit there is none
+abbrev pub PastIsNone : Type 0
+PastIsNone =
+    (plan : Plan) (rows : Rows) → IsReadFor plan.net rows → IsOnTimeBelow plan rows (length plan.order) → past_of plan rows ≡ None
+
+-- a departure after the bound, where none before it is, is the first late visit
+abbrev pub LateIsFirst : Type 0
+LateIsFirst =
+    (bound node : ℕ) (visits : Visits) (position time : ℕ) → slice_get visits.fate position ≡ Some (Departs time) → bound < time →
+    ((earlier departure : ℕ) → earlier < position → slice_get visits.fate earlier ≡ Some (Departs departure) → departure ≤ bound) →
+    first_of (column_late bound node visits) ≡ Some (record { node = node; position = position; time = time })
+
+-- where no departure is after the bound there is no late visit
+abbrev pub LateIsNone : Type 0
+LateIsNone =
+    (bound node : ℕ) (visits : Visits) →
+    ((position departure : ℕ) → position < length visits.fate → slice_get visits.fate position ≡ Some (Departs departure) → departure ≤ bound) →
+    first_of (column_late bound node visits) ≡ None

@@ -1,0 +1,42 @@
+-- That a run in columns and the columns of its nodes say the same.
+use Rattle.std.specs.Prelude.{◌≡◌, ◌<◌, ℕ, List, length, Some, slice_get}
+use Rattle.mq_core.specs.Columns.{IsRunOf, streams_below}
+use Rattle.mq_core.specs.Local.{Local}
+use Rattle.mq_core.specs.Machine.{State}
+use Rattle.mq_core.specs.Results.{visits_of, stream_from}
+use Rattle.mq_core.specs.Sound.{outputs_in}
+use Rattle.mq_core.specs.StandardTable.{run_of}
+use Rattle.mq_core.specs.declared.model.Node.{Node}
+use Rattle.mq_core.specs.declared.model.Plan.{Plan}
+use Rattle.mq_core.specs.declared.model.Rows.{Rows}
+use Rattle.mq_core.specs.declared.model.Run.{Run}
+use Rattle.mq_core.specs.declared.model.Stream.{Stream}
+
+-- a run in columns has those of a node at its place
+pub record HasColumns (end : State Local) (run : Run) (v : ℕ) (node : Node) : Type 0 where
+  pub visits : slice_get run.visits v ≡ Some (visits_of node.kind (end.stations v))
+  pub outputs : slice_get run.outputs v ≡ Some (streams_below end v (outputs_in node.kind))
+
+abbrev pub RunsHaveColumns : Type 0
+RunsHaveColumns =
+    (plan : Plan) (rows : Rows) (run : Run) → IsRunOf plan rows run → (v : ℕ) (node : Node) → slice_get plan.net.nodes v ≡ Some node →
+    HasColumns (run_of plan rows) run v node
+
+-- what has as many as there are nodes, and those of each node, is the run in columns
+abbrev pub ColumnsMakeRuns : Type 0
+ColumnsMakeRuns =
+    (plan : Plan) (rows : Rows) (run : Run) → length run.visits ≡ length plan.net.nodes → length run.outputs ≡ length plan.net.nodes →
+    ((v : ℕ) (node : Node) → slice_get plan.net.nodes v ≡ Some node → HasColumns (run_of plan rows) run v node) →
+    IsRunOf plan rows run
+
+-- the streams of a node have that of each output at its place
+abbrev pub OutputsHaveStreams : Type 0
+OutputsHaveStreams =
+    (end : State Local) (v outs out : ℕ) → out < outs → slice_get (streams_below end v outs) out ≡ Some (stream_from (end.stations v) out)
+
+-- as many streams as there are outputs, with that of each, are the streams of the node
+abbrev pub StreamsMakeOutputs : Type 0
+StreamsMakeOutputs =
+    (end : State Local) (v outs : ℕ) (streams : List Stream) → length streams ≡ outs →
+    ((out : ℕ) → out < outs → slice_get streams out ≡ Some (stream_from (end.stations v) out)) →
+    streams ≡ streams_below end v outs
