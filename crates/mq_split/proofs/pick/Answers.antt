@@ -1,14 +1,16 @@
-use Rattle.std.proofs.Common.{rules, ◌≡◌, ◌<◌, ◌≤◌, ◌^◌, ℕ, length, count_by, nat_le, IfOk, IsTrue, ◌+◌, ◌-◌, ◌*◌, ◌/◌, ◌%◌, Bool, true, false, nat_eq, nat_lt, List, [], ◌∷◌, ◌++◌, slice_index_or, slice_set, bit_and, bit_or, Fits, w8, w32, w64, Bor, MutBor}
-use Rattle.mq_core.specs.Columns.{IsStream}
-use Rattle.mq_core.specs.Sound.{is_sound_route, outputs_by}
-use Rattle.mq_core.specs.Standard.{output_at}
-use Rattle.mq_split.specs.Outs.{AreParts, outs_from, picked_stream}
+use Rattle.mq_split.proofs.Parts.{picked-skip, picked-take}
 use Rattle.mq_split.proofs.pick.Goals as goal
 
--- src/lib.rt:73:5
 pub loop-at-preserved-then-outs-at : goal.loop-at-preserved-then-outs-at
-loop-at-preserved-then-outs-at c = ?
+loop-at-preserved-then-outs-at c =
+    record {
+      jobs = picked-skip c.args.out c.loop-at.at _ c.args.outs.now c.args.stream.now.job _ c.loop-at-test.true c.requires.jobs c.if-outs-at.true c.loop-at.invariant.jobs;
+      times = picked-skip c.args.out c.loop-at.at _ c.args.outs.now c.args.stream.now.time _ c.loop-at-test.true c.requires.times c.if-outs-at.true c.loop-at.invariant.times;
+    }
 
--- src/lib.rt:73:5
 pub loop-at-preserved : goal.loop-at-preserved
-loop-at-preserved c = ?
+loop-at-preserved c =
+    record {
+      jobs = picked-take c.args.out c.loop-at.at c.get.result.now _ _ c.args.outs.now c.args.stream.now.job _ c.loop-at-test.true c.get.ensures c.if-outs-at.false c.in_ok-push.ensures.ok c.loop-at.invariant.jobs;
+      times = picked-take c.args.out c.loop-at.at c.get-in-loop-at.result.now _ _ c.args.outs.now c.args.stream.now.time _ c.loop-at-test.true c.get-in-loop-at.ensures c.if-outs-at.false c.in_ok-push-2.ensures.ok c.loop-at.invariant.times;
+    }

@@ -6,5 +6,5 @@ use Rattle.mq_split.proofs.split.Given as goal
 abbrev pub invariant-loop-out : goal.invariant-loop-out
 invariant-loop-out l = record {
   count : length l.streams ≡ l.out;
-  parts : (k : ℕ) → k < l.out → slice_get l.streams k ≡ Some (picked_stream l.outs.items l.stream k)
+  parts : (k : ℕ) → k < l.out → slice_get l.streams k ≡ Some (picked_stream l.outs.items l.stream k);
 }

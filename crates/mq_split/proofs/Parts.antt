@@ -1,0 +1,78 @@
+-- One job more, of the outputs and of what is picked.
+use Rattle.std.proofs.Common.{◌≡◌, ℕ, zero, suc, ◌+◌, ◌<◌, ◌≤◌, ◌⊎◌, inl, inr, List, [], ◌∷◌, ◌++◌, length, get_or, drop, Some, refl, sym, ap, ◌∙◌, arith, drop-cons, append_assoc}
+use Rattle.std.specs.Prelude.{slice_get}
+use Rattle.std.proofs.lemmas.Option.{slice_get_within, get_or_from_slice_get}
+use Rattle.std.proofs.lemmas.Bool.Decides.{nat_tests}
+use Rattle.std.proofs.lemmas.List.{append-nil, drop_all}
+use Rattle.std.proofs.lemmas.Bool.{cases_lt}
+use Rattle.mq_core.specs.Columns.{picked}
+use Rattle.mq_core.specs.Standard.{output_at}
+use Rattle.mq_core.specs.declared.model.Route.{Route}
+use Rattle.mq_split.specs.Outs.{outs_from}
+
+drop_at : (xs : List ℕ) (i x : ℕ) → slice_get xs i ≡ Some x → drop i xs ≡ x ∷ drop (i + 1) xs
+drop_at xs i x h =
+    let within = slice_get_within xs i x h in
+    let next : suc i ≡ i + 1 = omega arith in
+    drop-cons xs i 0 within ∙ (ap (λ y. y ∷ drop (suc i) xs) (get_or_from_slice_get xs i x 0 h) ∙ ap (λ n. x ∷ drop n xs) next)
+
+pub length-outs_from : (route : Route) (position : ℕ) (values : List ℕ) → length (outs_from route position values) ≡ length values
+length-outs_from route position [] = refl
+length-outs_from route position (value ∷ values) = let e = length-outs_from route (suc position) values in omega arith
+
+-- the output of the next job
+pub outs-next : (route : Route) (done done' values : List ℕ) (i value : ℕ) → slice_get values i ≡ Some value → done' ≡ done ++ output_at route value i ∷ [] → done ++ outs_from route i (drop i values) ≡ outs_from route 0 values →
+    done' ++ outs_from route (i + 1) (drop (i + 1) values) ≡ outs_from route 0 values
+outs-next route done done' values i value h p k =
+    let next : suc i ≡ i + 1 = omega arith in
+    ap (λ l. l ++ outs_from route (i + 1) (drop (i + 1) values)) p
+    ∙ (append_assoc done _ _
+    ∙ (ap (λ n. done ++ output_at route value i ∷ outs_from route n (drop (i + 1) values)) (sym next)
+    ∙ (ap (λ l. done ++ outs_from route i l) (sym (drop_at values i value h)) ∙ k)))
+
+pub outs-all : (route : Route) (done values : List ℕ) (i : ℕ) → length values ≤ i → done ++ outs_from route i (drop i values) ≡ outs_from route 0 values → done ≡ outs_from route 0 values
+outs-all route done values i l h = sym (append-nil done) ∙ (ap (λ v. done ++ outs_from route i v) (sym (drop_all i values l)) ∙ h)
+
+drop_next : (xs : List ℕ) (i : ℕ) → i < length xs → drop i xs ≡ get_or xs i 0 ∷ drop (i + 1) xs
+drop_next xs i l = let next : suc i ≡ i + 1 = omega arith in drop-cons xs i 0 l ∙ ap (λ n. get_or xs i 0 ∷ drop n xs) next
+
+picked-yes : (out o item : ℕ) (outs items : List ℕ) → o ≡ out → picked out (o ∷ outs) (item ∷ items) ≡ item ∷ picked out outs items
+picked-yes out o item outs items e = grind (arith, nat_tests)
+
+picked-no : (out o item : ℕ) (outs items : List ℕ) → (o ≡ out → ⊥) → picked out (o ∷ outs) (item ∷ items) ≡ picked out outs items
+picked-no out o item outs items e = grind (arith, nat_tests)
+
+-- an item that goes elsewhere
+pub picked-skip : (out i : ℕ) (done outs items all : List ℕ) → i < length outs → length items ≡ length outs → (get_or outs i 0 ≡ out → ⊥) → done ++ picked out (drop i outs) (drop i items) ≡ all →
+    done ++ picked out (drop (i + 1) outs) (drop (i + 1) items) ≡ all
+picked-skip out i done outs items all l same e h =
+    let within : i < length items = omega arith in
+    ap (λ l. done ++ l) (sym (picked-no out (get_or outs i 0) (get_or items i 0) (drop (i + 1) outs) (drop (i + 1) items) e) ∙ sym (ap (λ (p : List ℕ × List ℕ). picked out p.0 p.1) (λ k. ((drop_next outs i l k), (drop_next items i within k))))) ∙ h
+
+-- an item that goes here
+pub picked-take : (out i item : ℕ) (done done' outs items all : List ℕ) → i < length outs → slice_get items i ≡ Some item → get_or outs i 0 ≡ out → done' ≡ done ++ item ∷ [] → done ++ picked out (drop i outs) (drop i items) ≡ all →
+    done' ++ picked out (drop (i + 1) outs) (drop (i + 1) items) ≡ all
+picked-take out i item done done' outs items all a b e p h =
+    ap (λ l. l ++ picked out (drop (i + 1) outs) (drop (i + 1) items)) p
+    ∙ (append_assoc done _ _
+    ∙ (ap (λ l. done ++ l) (sym (picked-yes out (get_or outs i 0) item (drop (i + 1) outs) (drop (i + 1) items) e) ∙ sym (ap (λ (p : List ℕ × List ℕ). picked out p.0 p.1) (λ k. ((drop_next outs i a k), (drop_at items i item b k))))) ∙ h))
+
+pub picked-all : (out i : ℕ) (done outs items all : List ℕ) → length outs ≤ i → done ++ picked out (drop i outs) (drop i items) ≡ all → done ≡ all
+picked-all out i done outs items all l h = sym (append-nil done) ∙ (ap (λ v. done ++ picked out v (drop i items)) (sym (drop_all i outs l)) ∙ h)
+
+get-push : {X : Type 0} (xs : List X) (x : X) (k : ℕ) → k < length xs → slice_get (xs ++ x ∷ []) k ≡ slice_get xs k
+get-push [] x k l = absurd (omega arith)
+get-push (y ∷ xs) x zero l = refl
+get-push (y ∷ xs) x (suc k) l = get-push xs x k (omega arith)
+
+get-last : {X : Type 0} (xs : List X) (x : X) → slice_get (xs ++ x ∷ []) (length xs) ≡ Some x
+get-last [] x = refl
+get-last (y ∷ xs) x = get-last xs x
+
+-- one stream more
+pub parts-next : {X : Type 0} (xs xs' : List X) (x : X) (part : ℕ → X) (n : ℕ) → length xs ≡ n → xs' ≡ xs ++ x ∷ [] → x ≡ part n → ((k : ℕ) → k < n → slice_get xs k ≡ Some (part k)) → (k : ℕ) → k < n + 1 → slice_get xs' k ≡ Some (part k)
+parts-next xs xs' x part n count p e h k l = ap (λ ys. slice_get ys k) p ∙ go (cases_lt k n)
+  where
+    go : (k < n) ⊎ (n ≤ k) → slice_get (xs ++ x ∷ []) k ≡ Some (part k)
+    go (inl m) = get-push xs x k (omega arith) ∙ h k m
+    go (inr m) = let at : k ≡ length xs = omega arith in let same : n ≡ k = omega arith in ap (slice_get (xs ++ x ∷ [])) at ∙ (get-last xs x ∙ ap Some (e ∙ ap part same))
