@@ -1,0 +1,83 @@
+-- The text of a report: a head, the jobs and the span, a line for each node by rank, and a line for each output that
+-- no input reads, by rank of its node and then output. Words are separated by one space, and each line ends with a line feed.
+use Rattle.std.specs.Prelude.{ℕ, zero, suc, ◌+◌, ◌*◌, ◌/◌, ◌%◌, ◌==◌, ◌&&◌, Bool, if◌then◌else◌, List, [], ◌∷◌, ◌++◌, length, Option, Some, None, slice_get, codes, decimal}
+use Rattle.std.specs.List.{flat_map, list_any}
+use Rattle.mq_core.specs.Local.{Local}
+use Rattle.mq_core.specs.Machine.{State, Station}
+use Rattle.mq_core.specs.NetworkRun.{run_in}
+use Rattle.mq_core.specs.Results.{Totals, totals_of, exit_of, servers_in}
+use Rattle.mq_core.specs.Sound.{outputs_in}
+use Rattle.mq_core.specs.Wiring.{ranking}
+use Rattle.mq_core.specs.declared.model.Input.{Input}
+use Rattle.mq_core.specs.declared.model.Kind.{Kind}
+use Rattle.mq_core.specs.declared.model.Kind.TheVariants.{Source, Server, Split}
+use Rattle.mq_core.specs.declared.model.Network.{Network}
+use Rattle.mq_core.specs.declared.model.Node.{Node}
+use Rattle.mq_core.specs.declared.model.Rows.{Rows}
+
+abbrev pub head_line : List ℕ
+head_line = codes "mpsim report 1" ++ 10 ∷ []
+
+-- how many jobs there are, and the time at which the last event happens
+abbrev pub jobs_line : ℕ → ℕ → List ℕ
+jobs_line jobs span = codes "jobs " ++ decimal jobs ++ codes " span " ++ decimal span ++ 10 ∷ []
+
+abbrev pub kind_word : Kind → List ℕ
+kind_word Source = codes "source"
+kind_word (Server demand) = codes "server"
+kind_word (Split route) = codes "split"
+
+-- a number of ten-thousandths: the digits before the last four, at least one, a point, and four digits
+abbrev pub ten_thousandths : ℕ → List ℕ
+ten_thousandths n = decimal (n / 10000) ++ 46 ∷ (48 + n / 1000 % 10) ∷ (48 + n / 100 % 10) ∷ (48 + n / 10 % 10) ∷ (48 + n % 10) ∷ []
+
+-- the share of the servers' time in which they work, in ten-thousandths, rounded down; 0 where the span is 0
+abbrev pub utilisation : ℕ → ℕ → ℕ → ℕ
+utilisation busy servers span = if span == 0 then 0 else 10000 * busy / (servers * span)
+
+-- a dash where the node has no servers
+abbrev pub utilisation_text : ℕ → ℕ → ℕ → List ℕ
+utilisation_text busy servers span = if servers == 0 then codes "-" else ten_thousandths (utilisation busy servers span)
+
+abbrev pub node_line : List ℕ → Kind → Totals → ℕ → List ℕ
+node_line name kind totals span =
+    codes "node " ++ name ++ codes " " ++ kind_word kind
+    ++ codes " in " ++ decimal totals.came ++ codes " out " ++ decimal totals.left ++ codes " lost " ++ decimal totals.lost
+    ++ codes " wait " ++ decimal totals.wait ++ codes " max " ++ decimal totals.longest
+    ++ codes " busy " ++ decimal totals.busy ++ codes " area " ++ decimal totals.area ++ codes " peak " ++ decimal totals.peak
+    ++ codes " util " ++ utilisation_text totals.busy (servers_in kind) span ++ 10 ∷ []
+
+-- the name and the output, the number of jobs that left by it, and the sum of their times in the network
+abbrev pub exit_line : List ℕ → ℕ → ℕ × ℕ → List ℕ
+exit_line name out exit =
+    codes "exit " ++ name ++ codes "." ++ decimal out ++ codes " " ++ decimal exit.0 ++ codes " sojourn " ++ decimal exit.1 ++ 10 ∷ []
+
+-- some input reads this output of the node
+abbrev pub is_read : List Node → ℕ → ℕ → Bool
+is_read nodes v out = list_any (λ (node : Node). list_any (λ (i : Input). (i.node == v) && (i.out == out)) node.inputs) nodes
+
+-- the lines of the outputs below this one that no input reads
+abbrev pub exit_lines : List Node → Rows → ℕ → List ℕ → Station Local → ℕ → List ℕ
+exit_lines nodes rows v name station zero = []
+exit_lines nodes rows v name station (suc out) =
+    exit_lines nodes rows v name station out ++ (if is_read nodes v out then [] else exit_line name out (exit_of rows station out))
+
+-- the line of a node of the network, and the lines of its exits
+abbrev pub line_at : Rows → State Local → ℕ → Option Node → List ℕ
+line_at rows end v None = []
+line_at rows end v (Some node) = node_line node.name node.kind (totals_of rows node.kind (end.stations v)) end.clock
+
+abbrev pub exits_at : List Node → Rows → State Local → ℕ → Option Node → List ℕ
+exits_at nodes rows end v None = []
+exits_at nodes rows end v (Some node) = exit_lines nodes rows v node.name (end.stations v) (outputs_in node.kind)
+
+-- the report of a state, with the nodes in this order
+abbrev pub report_text : Network → List ℕ → Rows → State Local → List ℕ
+report_text net order rows end =
+    head_line ++ jobs_line (length rows.time) end.clock
+    ++ flat_map (λ v. line_at rows end v (slice_get net.nodes v)) order
+    ++ flat_map (λ v. exits_at net.nodes rows end v (slice_get net.nodes v)) order
+
+-- the report of the sequential event-list run of a network over rows
+abbrev pub report_in : Network → Rows → List ℕ
+report_in net rows = report_text net (ranking net.nodes) rows (run_in net rows)
