@@ -1,0 +1,94 @@
+-- How a call may end, for each answer of the definitions.
+use Rattle.std.specs.Prelude.{◌≡◌, ◌≢◌, ◌<◌, ◌+◌, ◌^◌, ℕ, true, false, List, Option, Some, IfSome, ⊥}
+use Rattle.std.specs.Io.KnownBytes.{append_known}
+use Rattle.mq_base.specs.Outside.{TakesPrefix, next_count}
+use Rattle.mq_core.specs.declared.model.Network.{Network}
+use Rattle.mq_model.specs.Model.{model_fault}
+use Rattle.mq_model.specs.declared.fault.ModelFault.TheVariants as model
+use Rattle.mq_trace.specs.Trace.{trace_fault}
+use Rattle.mq_trace.specs.declared.fault.TraceFault.TheVariants as trace
+use Rattle.mq_top.specs.Answer.{Answer}
+use Rattle.mq_top.specs.Answer.Answer.{ModelRefused, TraceRefused, PassesBound, Reported}
+use Rattle.mq_top.specs.declared.outcome.Outcome.{Outcome}
+use Rattle.mq_top.specs.declared.outcome.Outcome.TheVariants.{Done, Usage, Model, Trace, Past, ReadFault, WriteFault, Memory}
+
+-- what a sink had taken, and has taken now, each where it is told, and its sure bytes then and now
+pub record Taken : Type 0 where
+  pub before : Option (List ℕ)
+  pub now : Option (List ℕ)
+  pub sure_before : ℕ
+  pub sure_now : ℕ
+
+-- the call ends with the answer, or with a fault of a device or want of memory on the way to it; what the output
+-- gained is the whole report after Done, a first part of it after a fault of the output, and nothing after all else
+abbrev pub Ends : Answer → Outcome → Taken → Type 0
+Ends (ModelRefused f) (Model g) t = f ≡ g
+Ends (ModelRefused f) (ReadFault false) t = Unit {0}
+Ends (ModelRefused f) Memory t = Unit {0}
+Ends (ModelRefused f) _ t = ⊥
+Ends (TraceRefused f) (Trace g) t = f ≡ g
+Ends (TraceRefused f) (ReadFault second) t = Unit {0}
+Ends (TraceRefused f) Memory t = Unit {0}
+Ends (TraceRefused f) _ t = ⊥
+Ends (PassesBound late) (Past f) t = late ≡ record { node = f.node; position = f.position; time = f.time }
+Ends (PassesBound late) (ReadFault second) t = Unit {0}
+Ends (PassesBound late) Memory t = Unit {0}
+Ends (PassesBound late) _ t = ⊥
+Ends (Reported text) Done t = t.now ≡ append_known t.before text
+Ends (Reported text) WriteFault t = TakesPrefix t.before t.now t.sure_before t.sure_now text
+Ends (Reported text) (ReadFault second) t = Unit {0}
+Ends (Reported text) Memory t = Unit {0}
+Ends (Reported text) _ t = ⊥
+
+-- how many reads a call made, by its outcome; want of memory may come before each of them
+abbrev pub Reads : Outcome → ℕ → ℕ → Type 0
+Reads (Usage f) before now = now ≡ before
+Reads (Model f) before now = now ≡ next_count before
+Reads (ReadFault false) before now = now ≡ next_count before
+Reads Memory before now = Unit {0}
+Reads _ before now = now ≡ next_count (next_count before)
+
+-- The count of faults rose in this read of a call, from 1. It is stated where the number of reads is below 2 ^ 63 at entry.
+abbrev pub FailedAt : (place reads reads' faults' : ℕ) → Type 0
+FailedAt place reads reads' faults' = reads < 2 ^ 63 → (reads' ≡ reads + place) × (faults' ≡ reads')
+
+-- the output's bytes are those of before, but after Done and after a fault of the output
+abbrev pub Untouched : Outcome → Option (List ℕ) → Option (List ℕ) → Type 0
+Untouched Done before now = Unit {0}
+Untouched WriteFault before now = Unit {0}
+Untouched _ before now = now ≡ before
+
+-- the status with which the program ends
+abbrev pub status_of : Outcome → ℕ
+status_of Done = 0
+status_of (Usage f) = 2
+status_of (Model f) = 3
+status_of (Trace f) = 4
+status_of (Past f) = 5
+status_of (ReadFault second) = 6
+status_of WriteFault = 7
+status_of Memory = 8
+
+-- how an accepted command may end before the trace is read, where this is told of the model
+abbrev pub RefusesModel : Outcome → Option (List ℕ) → Type 0
+RefusesModel (Model f) told = (f ≢ model.Memory) × IfSome told (λ bytes. model_fault bytes ≡ Some f)
+RefusesModel (ReadFault false) told = Unit {0}
+RefusesModel Memory told = Unit {0}
+RefusesModel _ told = ⊥
+
+-- how it may end before the run, where this is told of the trace
+abbrev pub RefusesTrace : Network → Outcome → Option (List ℕ) → Type 0
+RefusesTrace net (Trace f) told = (f ≢ trace.Memory) × IfSome told (λ bytes. trace_fault net bytes ≡ Some f)
+RefusesTrace net (ReadFault true) told = Unit {0}
+RefusesTrace net Memory told = Unit {0}
+RefusesTrace net _ told = ⊥
+
+-- an outcome that comes once the model was accepted
+abbrev pub IsLate : Outcome → Type 0
+IsLate Done = Unit {0}
+IsLate (Trace f) = f ≢ trace.Memory
+IsLate (Past f) = Unit {0}
+IsLate (ReadFault true) = Unit {0}
+IsLate WriteFault = Unit {0}
+IsLate Memory = Unit {0}
+IsLate _ = ⊥

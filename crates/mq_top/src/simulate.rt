@@ -1,0 +1,202 @@
+// The call that the program makes.
+ghost use Rattle.std.specs.Prelude.{◌≡◌, ◌≢◌, ◌⊎◌, ◌+◌, ◌-◌, ◌^◌, ◌<◌, ◌≤◌, ◌↔◌, ℕ, List, Bool, true, false, length, map, Err, IsErrOf, IfOk, IfErr, IfSome, OnOk, OnErr, Some, None};
+ghost use Rattle.std.specs.Io.KnownBytes.{append_known};
+ghost use Rattle.mq_base.specs.Outside.{next_count, Rose, TakesPrefix};
+ghost use Rattle.mq_core.specs.NetworkRun.{past_in};
+ghost use Rattle.mq_core.specs.Theorems.{IsReadFor};
+ghost use Rattle.mq_model.specs.Model.{model_fault};
+ghost use Rattle.mq_model.specs.NetworkOf.{network_in};
+ghost use Rattle.mq_report.specs.Text.{report_in};
+ghost use Rattle.mq_trace.specs.Trace.{trace_fault, rows_in};
+ghost use Rattle.mq_top.specs.Answer.{answer, answer_over, run_answer};
+ghost use Rattle.mq_top.specs.Answer.Answer.{Reported};
+ghost use Rattle.mq_top.specs.Ends.{Ends, FailedAt, IsLate, Reads, RefusesModel, RefusesTrace, Untouched};
+ghost use Rattle.mq_top.specs.Lines.{PutsLine, line_text, name_of as name_of_outcome};
+ghost use Rattle.mq_top.specs.Words.{refuses_words, Names};
+
+use crate::line::{name_of, put_line};
+use crate::outcome::{Outcome, UsageFault};
+use crate::words::names_of;
+use mq_base::{FileFault, Files, Sink};
+use mq_core::{Network, Plan, Rows, runs_are_of_networks};
+use mq_engine::{RunFault, run};
+use mq_model::{ModelFault, read_model};
+use mq_report::report;
+use mq_trace::{TraceFault, read_trace};
+use std::alloc::Global;
+
+const MODEL_LIMIT: u64 = 65_536;
+
+const TRACE_LIMIT: u64 = 134_217_728;
+
+// Reads the model of this name, and judges it.
+fn accept_model<F: Files>(alloc: Global, name: &str, files: &mut F) -> Result<Plan, Outcome>
+    ensures counted { F.reads files.new ≡ next_count (F.reads files.old) }
+    ensures later { F.faults files.old ≤ F.faults files.new }
+    ensures failed { IsErrOf result (Outcome.ReadFault false) → F.faults files.new ≡ F.reads files.new }
+    ensures sure { F.is_sure files.old name.now ≡ true → F.faults files.new ≡ F.faults files.old }
+    ensures rose { IsErrOf result (Outcome.ReadFault false) → Rose (F.faults files.old) (F.faults files.new) }
+    ensures quiet { IsErrOf result (Outcome.ReadFault false) ⊎ (F.faults files.new ≡ F.faults files.old) }
+    ensures same_told { (n : List ℕ) → F.told files.new n ≡ F.told files.old n }
+    ensures same_sure { (n : List ℕ) → F.is_sure files.new n ≡ F.is_sure files.old n }
+
+    ensures accepted { IfOk result (λ plan. IfSome (F.told files.old name.now) (λ bytes. (model_fault bytes ≡ None) × (plan.net ≡ network_in bytes))) }
+    ensures refused { IfErr result (λ outcome. RefusesModel outcome (F.told files.old name.now)) }
+{
+    let mut bytes = Vec::new(alloc);
+    match files.read(name, MODEL_LIMIT, &mut bytes) {
+        Ok(()) => {}
+        Err(FileFault::Failed) => return Err(Outcome::ReadFault { second: false }),
+        Err(FileFault::TooLong) => return Err(Outcome::Model(ModelFault::TooLong)),
+        Err(FileFault::Memory) => return Err(Outcome::Memory),
+    }
+    match read_model(alloc, &bytes) {
+        Ok(plan) => Ok(plan),
+        Err(ModelFault::Memory) => Err(Outcome::Memory),
+        Err(fault) => Err(Outcome::Model(fault)),
+    }
+}
+
+// Reads the trace of this name, and judges it for a network.
+fn accept_trace<F: Files>(
+    alloc: Global,
+    net: &Network,
+    name: &str,
+    files: &mut F,
+) -> Result<Rows, Outcome>
+    requires nodes { length net.now.nodes < 2 ^ 32 }
+    requires columns { length net.now.columns ≤ 16 }
+    ensures counted { F.reads files.new ≡ next_count (F.reads files.old) }
+    ensures later { F.faults files.old ≤ F.faults files.new }
+    ensures failed { IsErrOf result (Outcome.ReadFault true) → F.faults files.new ≡ F.reads files.new }
+    ensures sure { F.is_sure files.old name.now ≡ true → F.faults files.new ≡ F.faults files.old }
+    ensures rose { IsErrOf result (Outcome.ReadFault true) → Rose (F.faults files.old) (F.faults files.new) }
+    ensures quiet { IsErrOf result (Outcome.ReadFault true) ⊎ (F.faults files.new ≡ F.faults files.old) }
+
+    ensures read { IfOk result (λ rows. IsReadFor net.now rows) }
+    ensures accepted { IfOk result (λ rows. IfSome (F.told files.old name.now) (λ bytes. (trace_fault net.now bytes ≡ None) × (rows ≡ rows_in net.now bytes))) }
+    ensures refused { IfErr result (λ outcome. RefusesTrace net.now outcome (F.told files.old name.now)) }
+{
+    let mut bytes = Vec::new(alloc);
+    match files.read(name, TRACE_LIMIT, &mut bytes) {
+        Ok(()) => {}
+        Err(FileFault::Failed) => return Err(Outcome::ReadFault { second: true }),
+        Err(FileFault::TooLong) => return Err(Outcome::Trace(TraceFault::TooLong)),
+        Err(FileFault::Memory) => return Err(Outcome::Memory),
+    }
+    match read_trace(alloc, &bytes, net) {
+        Ok(rows) => Ok(rows),
+        Err(TraceFault::Memory) => Err(Outcome::Memory),
+        Err(fault) => Err(Outcome::Trace(fault)),
+    }
+}
+
+// Runs a plan over its rows, and writes the report.
+fn report_run<O: Sink>(alloc: Global, plan: &Plan, rows: &Rows, out: &mut O) -> Outcome
+    requires { IsReadFor plan.now.net rows.now }
+    ensures ends { Ends (run_answer plan.now.net rows.now (past_in plan.now.net rows.now)) result (record { before = O.taken out.old; now = O.taken out.new; sure_before = O.sure out.old; sure_now = O.sure out.new }) }
+    ensures unread { (second : Bool) → result ≢ Outcome.ReadFault second }
+    ensures later { O.faults out.old ≤ O.faults out.new }
+    ensures rose { result ≡ Outcome.WriteFault → Rose (O.faults out.old) (O.faults out.new) }
+    ensures sure { length (report_in plan.now.net rows.now) ≤ O.sure out.old → O.faults out.new ≡ O.faults out.old }
+    ensures untouched { Untouched result (O.taken out.old) (O.taken out.new) }
+{
+    runs_are_of_networks();
+    let run = match run(alloc, plan, rows) {
+        Ok(run) => run,
+        Err(RunFault::Past(fault)) => return Outcome::Past(fault),
+        Err(RunFault::Memory) => return Outcome::Memory,
+    };
+    match report(plan, rows, &run, out) {
+        Ok(()) => Outcome::Done,
+        Err(_) => Outcome::WriteFault,
+    }
+}
+
+// Reads the trace of this name for a plan, runs it, and writes the report.
+fn run_trace<F: Files, O: Sink>(
+    alloc: Global,
+    plan: &Plan,
+    name: &str,
+    files: &mut F,
+    out: &mut O,
+) -> Outcome
+    ensures ends { IfSome (F.told files.old name.now) (λ trace. Ends (answer_over plan.now.net trace) result (record { before = O.taken out.old; now = O.taken out.new; sure_before = O.sure out.old; sure_now = O.sure out.new })) }
+    ensures late { IsLate result }
+    ensures counted { F.reads files.new ≡ next_count (F.reads files.old) }
+    ensures files_later { F.faults files.old ≤ F.faults files.new }
+    ensures failed { result ≡ Outcome.ReadFault true → F.faults files.new ≡ F.reads files.new }
+    ensures files_rose { result ≡ Outcome.ReadFault true → Rose (F.faults files.old) (F.faults files.new) }
+    ensures sure_name { F.is_sure files.old name.now ≡ true → F.faults files.new ≡ F.faults files.old }
+
+    ensures later { O.faults out.old ≤ O.faults out.new }
+    ensures rose { result ≡ Outcome.WriteFault → Rose (O.faults out.old) (O.faults out.new) }
+    ensures sure { (trace text : List ℕ) → F.told files.old name.now ≡ Some trace → answer_over plan.now.net trace ≡ Reported text → length text ≤ O.sure out.old → O.faults out.new ≡ O.faults out.old }
+    ensures untouched { Untouched result (O.taken out.old) (O.taken out.new) }
+{
+    plans_are_small();
+    match accept_trace(alloc, &plan.net, name, files) {
+        Ok(rows) => report_run(alloc, plan, &rows, out),
+        Err(outcome) => outcome,
+    }
+}
+
+/// Reads the model and the trace that the words name, runs the network over the rows, and writes
+/// the report: the same as that of a sequential event list. The words are those behind the
+/// program's name.
+///
+/// Every outcome but `Done` puts one line on `err`, whose faults change no outcome. All memory is
+/// taken before the first byte is written; `out` gains the whole report with `Done`, a first part
+/// of it with `WriteFault`, and else nothing.
+pub fn simulate<F: Files, O: Sink, E: Sink>(
+    alloc: Global,
+    words: &[&str],
+    files: &mut F,
+    out: &mut O,
+    err: &mut E,
+) -> Outcome
+    // A finished run has written exactly the report of the event list, and a run ends otherwise only with the fault
+    // that the definitions give, or with a fault of a device or want of memory.
+    ensures ends { (m t model trace : List ℕ) → Names (map (λ w. w.now) words.now) m t → F.told files.old m ≡ Some model → F.told files.old t ≡ Some trace →
+        Ends (answer model trace) result (record { before = O.taken out.old; now = O.taken out.new; sure_before = O.sure out.old; sure_now = O.sure out.new }) }
+
+    // The words are refused exactly so, and a model is refused whatever is told of the trace.
+    ensures usage { (result ≡ Outcome.Usage UsageFault.Words) ↔ IsTrue (refuses_words (map (λ w. w.now) words.now)) }
+    ensures model { (m t model : List ℕ) (fault : ModelFault) → Names (map (λ w. w.now) words.now) m t → F.told files.old m ≡ Some model → model_fault model ≡ Some fault →
+        RefusesModel result (Some model) }
+    ensures model_only { (m t model : List ℕ) (fault : ModelFault) → Names (map (λ w. w.now) words.now) m t → F.told files.old m ≡ Some model → result ≡ Outcome.Model fault → model_fault model ≡ Some fault }
+    ensures never { (result ≢ Outcome.Model ModelFault.Memory) × (result ≢ Outcome.Trace TraceFault.Memory) }
+
+    // A fault of a device is counted.
+    ensures first { result ≡ Outcome.ReadFault false → FailedAt 1 (F.reads files.old) (F.reads files.new) (F.faults files.new) × Rose (F.faults files.old) (F.faults files.new) }
+    ensures second { result ≡ Outcome.ReadFault true → FailedAt 2 (F.reads files.old) (F.reads files.new) (F.faults files.new) × Rose (F.faults files.old) (F.faults files.new) }
+    ensures reads { Reads result (F.reads files.old) (F.reads files.new) }
+    ensures unread { IsTrue (refuses_words (map (λ w. w.now) words.now)) → files.new ≡ files.old }
+    ensures sure_names { (m t : List ℕ) → Names (map (λ w. w.now) words.now) m t → F.is_sure files.old m ≡ true → F.is_sure files.old t ≡ true → F.faults files.new ≡ F.faults files.old }
+    ensures write { result ≡ Outcome.WriteFault → Rose (O.faults out.old) (O.faults out.new) }
+    ensures sure { (m t model trace text : List ℕ) → Names (map (λ w. w.now) words.now) m t → F.told files.old m ≡ Some model → F.told files.old t ≡ Some trace → answer model trace ≡ Reported text →
+        length text ≤ O.sure out.old → O.faults out.new ≡ O.faults out.old }
+
+    // What the two outputs gain.
+    ensures untouched { Untouched result (O.taken out.old) (O.taken out.new) }
+    ensures line { (name : List ℕ) × PutsLine (E.taken err.old) (E.taken err.new) (E.sure err.old) (E.sure err.new) (E.faults err.old) (E.faults err.new) (line_text name result) }
+    ensures named { (m t model : List ℕ) → Names (map (λ w. w.now) words.now) m t → F.told files.old m ≡ Some model →
+        PutsLine (E.taken err.old) (E.taken err.new) (E.sure err.old) (E.sure err.new) (E.faults err.old) (E.faults err.new) (line_text (name_of_outcome (network_in model) result) result) }
+{
+    let Some((model, trace)) = names_of(words) else {
+        let outcome = Outcome::Usage(UsageFault::Words);
+        put_line(err, &[], &outcome);
+        return outcome;
+    };
+    match accept_model(alloc, model, files) {
+        Ok(plan) => {
+            let outcome = run_trace(alloc, &plan, trace, files, out);
+            put_line(err, name_of(&plan.net, &outcome), &outcome);
+            outcome
+        }
+        Err(outcome) => {
+            put_line(err, &[], &outcome);
+            outcome
+        }
+    }
+}

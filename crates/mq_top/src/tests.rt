@@ -1,0 +1,40 @@
+use crate::{Outcome, UsageFault, simulate};
+use mq_base::{MemFile, MemFiles, MemSink, OutOfMemory};
+use mq_engine::PastFault;
+use mq_model::ModelFault;
+use mq_trace::TraceFault;
+use std::alloc::Global;
+use std::test::Fail;
+
+mod faults;
+mod networks;
+
+// A model and a trace, and what the call puts out.
+struct Ran {
+    outcome: Outcome,
+    out: MemSink,
+    err: MemSink,
+}
+
+// The files `m` and `t` with these bytes.
+fn files_of(alloc: Global, model: &[u8], trace: &[u8], failing: &[u64]) -> Result<MemFiles, OutOfMemory> {
+    let mut files = Vec::new(alloc);
+    files.push(MemFile {
+        name: String::from_str(alloc, "m")?,
+        bytes: Vec::from_slice(alloc, model)?,
+    })?;
+    files.push(MemFile {
+        name: String::from_str(alloc, "t")?,
+        bytes: Vec::from_slice(alloc, trace)?,
+    })?;
+    Ok(MemFiles::new(files, Vec::from_slice(alloc, failing)?))
+}
+
+// The call over these two files.
+fn ran(alloc: Global, model: &[u8], trace: &[u8]) -> Result<Ran, OutOfMemory> {
+    let mut files = files_of(alloc, model, trace, &[])?;
+    let mut out = MemSink::new(alloc, 65_536, Vec::new(alloc));
+    let mut err = MemSink::new(alloc, 65_536, Vec::new(alloc));
+    let outcome = simulate(alloc, &["m", "t"], &mut files, &mut out, &mut err);
+    Ok(Ran { outcome, out, err })
+}
