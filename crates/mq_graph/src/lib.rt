@@ -6,3 +6,6 @@ mod order;
 
 pub use laws::cycles_are_left;
 pub use order::{RankFault, rank};
+
+#[cfg(test)]
+mod tests;

@@ -1,6 +1,7 @@
-ghost use Rattle.std.specs.Prelude.{◌≡◌, ◌<◌, ◌≤◌, length};
+ghost use Rattle.std.specs.Prelude.{◌≡◌, ◌<◌, ◌≤◌, ℕ, length, IsErrOf, OnOk};
 ghost use Rattle.std.specs.List.{list_all};
 ghost use Rattle.mq_core.specs.Wiring.{has, first_ready, ranking};
+ghost use Rattle.mq_graph.specs.Cycle.{HasCycle};
 ghost use Rattle.mq_graph.specs.Rank.{AreWired, Answers, first_outside};
 
 use mq_base::{List, OutOfMemory};
@@ -37,7 +38,10 @@ fn is_ranked(order: &[u32], node: u32) -> bool
 fn is_ready(node: &Node, order: &[u32]) -> bool
     ensures { result ≡ list_all (λ (i : Input). has order.now i.node) node.now.inputs }
 {
-    node.inputs.as_slice().iter().all(|input| is_ranked(order, input.node))
+    node.inputs
+        .as_slice()
+        .iter()
+        .all(|input| is_ranked(order, input.node))
 }
 
 // The first declared node that isn't ranked yet and all of whose inputs are.
@@ -64,16 +68,18 @@ fn first_outside(order: &[u32], count: u32) -> Option<u32>
 /// The nodes by rank: again and again the first declared node that isn't ranked yet and all of
 /// whose inputs are gets the next rank.
 ///
-/// `Cycle` comes exactly where this stops before all nodes are ranked, and names the first declared
-/// node that is left.
+/// `Cycle` comes exactly where this stops before all nodes are ranked, which is where the inputs hold
+/// a cycle, and names the first declared node that is left.
 pub fn rank(alloc: Global, net: &Network) -> Result<List<u32>, RankFault>
     requires few { length net.now.nodes ≤ 64 }
     requires wired { AreWired net.now.nodes }
-    ensures { Answers net.now.nodes result }
+    ensures order { Answers net.now.nodes result }
+    ensures feed_forward { OnOk result (¬ HasCycle net.now.nodes) }
+    ensures cycle { (node : ℕ) → IsErrOf result (RankFault.Cycle node) → HasCycle net.now.nodes }
 {
     let nodes = net.nodes.as_slice();
     let mut order = List::new(alloc);
-    for turn in 0..nodes.len() {
+    for _turn in 0..nodes.len() {
         if let Some(node) = first_ready(nodes, order.as_slice()) {
             order.push(node)?;
         }
