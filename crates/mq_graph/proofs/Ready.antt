@@ -6,7 +6,7 @@ use Rattle.std.specs.List.{All, list_all}
 use Rattle.std.proofs.lemmas.Option.{get_or_from_slice_get, slice_get-map, slice_get_within}
 use Rattle.mq_core.specs.declared.model.Input.{Input}
 use Rattle.mq_core.specs.declared.model.Node.{Node}
-use Rattle.mq_core.specs.Wiring.{has, first_ready, inputs_of, outputs_read}
+use Rattle.mq_core.specs.Wiring.{has, first_ready, outputs_read}
 use Rattle.mq_graph.specs.Cycle.{Reads}
 use Rattle.mq_graph.specs.Rank.{AreWired}
 

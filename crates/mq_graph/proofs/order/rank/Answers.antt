@@ -1,7 +1,7 @@
-use Rattle.std.proofs.Common.{◌≡◌, ◌≤◌, ℕ, length, sym, ◌∙◌, subst, ap, arith, Some, None}
+use Rattle.std.proofs.Common.{◌≡◌, length, ap, arith, Some, None}
 use Rattle.std.specs.Prelude.{is_some}
 use Rattle.std.proofs.lemmas.List.{append-nil}
-use Rattle.mq_core.specs.Wiring.{first_ready, ranked_after, ranking}
+use Rattle.mq_core.specs.Wiring.{first_ready}
 use Rattle.mq_graph.specs.Rank.{first_outside}
 use Rattle.mq_graph.proofs.Cycles.{cycles-left}
 use Rattle.mq_graph.proofs.Turns.{next_turn, last_turn, has_all, left_is}
