@@ -1,13 +1,12 @@
 -- The records of a text, one after the other.
-use Rattle.std.proofs.Common.{◌≡◌, ◌∙◌, sym, ap, refl, ℕ, zero, suc, ◌+◌, ◌<◌, ◌≤◌, List, [], ◌∷◌, ◌++◌, length, Bool, true, false, Option, Some, None, Bor, arith, inl, inr, add-one}
+use Rattle.std.proofs.Common.{◌≡◌, ◌∙◌, sym, ap, refl, ℕ, zero, suc, ◌+◌, ◌<◌, ◌≤◌, List, [], ◌∷◌, length, Bool, true, false, Option, Some, None, Bor, arith, inl, inr, add-one}
 use Rattle.std.proofs.lemmas.Bool.{cases_Bool}
-use Rattle.std.proofs.lemmas.Grind.{common_steps}
 use Rattle.csv.specs.Machine.{Read, step, is_end, ends_at_end, in_field, next_record, field_after, fields_after}
-use Rattle.csv.specs.Reading.{Reached, ReadRecord, Ready, default_config, has_failed, reader_state, records_from, records_next, source_of}
+use Rattle.csv.specs.Reading.{Reached, ReadRecord, Ready, default_config, reader_state, records_from, records_next}
 use Rattle.csv.specs.declared.parser.State.{State}
 use Rattle.csv.specs.declared.parser.State.TheVariants as st
 use Rattle.csv.proofs.ReadFacts.{rows-end, rows-more}
-use Rattle.mq_trace.specs.Records.{IsBetween, Record, Takes, TextReader, known_records, records_at, records_left, text_left}
+use Rattle.mq_trace.specs.Records.{IsBetween, Record, Takes, TextReader, known_records, records_at, records_left}
 
 -- a byte that ends a record, in a field, leaves the machine between two records
 field_between : (c : ℕ) → is_end (in_field default_config c).1 ≡ true → ends_at_end (in_field default_config c).0 ≡ false

@@ -26,14 +26,14 @@ pub struct Header {
 }
 
 /// Whether one of these names is this one.
-pub fn is_listed(names: &[List<u8>], name: &[u8]) -> bool
+fn is_listed(names: &[List<u8>], name: &[u8]) -> bool
     ensures { result ≡ is_among names.now name.now }
 {
     names.iter().any(|other| other.as_slice() == name)
 }
 
 /// The same, of names in a text.
-pub fn is_seen(names: &[&[u8]], name: &[u8]) -> bool
+fn is_seen(names: &[&[u8]], name: &[u8]) -> bool
     ensures { result ≡ list_any (λ other. bytes_eq other.now name.now) names.now }
 {
     names.iter().any(|other| *other == name)

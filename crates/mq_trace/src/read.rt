@@ -40,7 +40,7 @@ fn push_values(lists: &mut [List<u64>], places: &[usize], values: &[u64]) -> Res
     Ok(())
 }
 
-/// Reads the data records.
+/// Reads the data records that are left. The last turn of the loop is the record that is one too many.
 fn read_rows(
     alloc: Global,
     reader: &mut Reader<&[u8]>,
@@ -73,7 +73,15 @@ fn read_rows(
     unreachable!()
 }
 
-/// Reads a trace for a network.
+/// Reads a trace for the network of a plan. The row of job j is data record j + 1, in the order of the text.
+///
+/// After at most one byte order mark the text is comma-separated records, as `csv` reads them. The first is the
+/// header: `source`, `time` and up to 16 columns of distinct names. Each other record has as many fields: the name
+/// of a source node, a time of at most 2^60 ticks and, in each column that the model names, a number of at most 2^36.
+/// The fields of other columns aren't read.
+///
+/// A text is refused for its first fault: its length, the least faulty field of the header, the least column of the
+/// model that the header lacks, or the first faulty record.
 pub fn read_trace(alloc: Global, bytes: &[u8], net: &Network) -> Result<Rows, TraceFault>
     requires nodes { length net.now.nodes < 2 ^ 32 }
     requires columns { length net.now.columns ≤ 16 }

@@ -1,8 +1,10 @@
 // A data record of a trace.
 
-ghost use Rattle.std.specs.Prelude.{◌≡◌, ◌≢◌, ◌+◌, ◌^◌, ◌<◌, ◌≤◌, ℕ, length, get_or, true, false, None, Some, IfOk, IfErr, drop};
+ghost use Rattle.std.specs.Prelude.{◌&&◌, ◌≡◌, ◌≢◌, ◌+◌, ◌^◌, ◌<◌, ◌≤◌, ℕ, length, get_or, true, false, None, Some, IfOk, IfErr, drop};
 ghost use Rattle.std.specs.Str.Parse.{digits_value};
+ghost use Rattle.std.specs.Str.{bytes_eq};
 ghost use Rattle.csv.specs.Records.{fields_of};
+ghost use Rattle.mq_core.specs.Wiring.{is_source_kind};
 ghost use Rattle.mq_trace.specs.Header.{columns_of, field_of};
 ghost use Rattle.mq_trace.specs.Trace.{Tells, bad_value, row_fault, source_named};
 ghost use Rattle.mq_trace.specs.Reading.{IsHeaderOf, HoldsValues};
@@ -10,15 +12,24 @@ ghost use Rattle.mq_trace.specs.Reading.{IsHeaderOf, HoldsValues};
 use crate::fault::TraceFault;
 use crate::header::Header;
 use csv::ByteRecord;
-use mq_base::{List, read_number};
-use mq_core::{Kind, Network};
+use mq_base::read_number;
+use mq_core::{Kind, Network, Node};
 
-/// The node of a source's name.
+/// Whether a node is the source of this name.
+fn is_source_named(node: &Node, name: &[u8]) -> bool
+    ensures { result ≡ (is_source_kind node.now.kind && bytes_eq node.now.name name.now) }
+{
+    matches!(node.kind, Kind::Source) && node.name.as_slice() == name
+}
+
+/// The source node of this name, if there is one.
 fn find_source(net: &Network, name: &[u8]) -> Option<usize>
     ensures { result ≡ source_named net.now name.now }
 {
-    net.nodes.as_slice().iter().position(|node| matches!(node.kind, Kind::Source)
-        && node.name.as_slice() == name)
+    net.nodes
+        .as_slice()
+        .iter()
+        .position(|node| is_source_named(node, name))
 }
 
 #[tactic(auto, using(crate::proofs::TraceFacts::value_steps))]

@@ -88,9 +88,7 @@ fn an_accepted_trace_gives_its_rows(rt: HostRuntime) -> Result<(), Fail> {
         b"\"source\",\"time\",\"d\"\r\n\"src\",7,4\r\n",
         b"source,time,note,d\nsrc,7,\"a, b\",4\n",
     ] {
-        let Ok(rows) = read(rt.alloc(), bytes) else {
-            panic!(rt; "refused");
-        };
+        let rows = read(rt.alloc(), bytes)?;
         assert_eq!(rt; rows.source.as_slice(), [0].as_slice());
         assert_eq!(rt; rows.time.as_slice(), [7].as_slice());
         assert_eq!(rt; rows.demands.len(), 1);
@@ -101,9 +99,8 @@ fn an_accepted_trace_gives_its_rows(rt: HostRuntime) -> Result<(), Fail> {
 
 #[test]
 fn rows_stand_in_the_order_of_the_file(rt: HostRuntime) -> Result<(), Fail> {
-    let Ok(rows) = read(rt.alloc(), b"source,time,d\nsrc,0,4\nsrc,1,1\nsrc,2,3\n") else {
-        panic!(rt; "refused");
-    };
+    let bytes = b"source,time,d\nsrc,0,4\nsrc,1,1\nsrc,2,3\n";
+    let rows = read(rt.alloc(), bytes)?;
     assert_eq!(rt; rows.source.as_slice(), [0, 0, 0].as_slice());
     assert_eq!(rt; rows.time.as_slice(), [0, 1, 2].as_slice());
     assert_eq!(rt; rows.demands.len(), 1);

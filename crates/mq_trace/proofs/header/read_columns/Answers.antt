@@ -1,10 +1,8 @@
-use Rattle.std.proofs.Common.{rules, ◌≡◌, ◌≢◌, ◌∙◌, arith, refl, ap, sym, Some, length, take, [], ◌∷◌, false, true, Bor, List, ℕ, ◌+◌}
+use Rattle.std.proofs.Common.{rules, ◌≡◌, ◌≢◌, ◌∙◌, arith, refl, [], ◌∷◌, true, Bor, List, ℕ, ◌+◌}
 use Rattle.std.specs.Result.{is_ok}
-use Rattle.std.specs.Prelude.{map, option_map}
 use Rattle.std.proofs.lemmas.Grind.{common_steps}
 use Rattle.std.proofs.lemmas.List.{map-append}
 use Rattle.csv.specs.Records.{fields_of}
-use Rattle.mq_trace.specs.Header.{columns_of}
 use Rattle.mq_trace.proofs.TraceFacts.{bad_column_end, columns_done, column_is_new, column_repeats, got}
 use Rattle.mq_trace.proofs.header.read_columns.Goals as goal
 

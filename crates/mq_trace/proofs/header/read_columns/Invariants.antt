@@ -1,4 +1,4 @@
-use Rattle.std.proofs.Common.{◌≡◌, ◌+◌, ◌-◌, ◌≤◌, [], length, map, take, drop}
+use Rattle.std.proofs.Common.{◌≡◌, ◌+◌, ◌-◌, ◌≤◌, map, take, drop}
 use Rattle.csv.specs.Records.{fields_of}
 use Rattle.mq_trace.specs.Header.{bad_column, bad_header, columns_of}
 use Rattle.mq_trace.proofs.header.read_columns.Given as goal

@@ -1,8 +1,7 @@
-use Rattle.std.proofs.Common.{rules, ◌≡◌, ◌≢◌, ◌∙◌, ◌<◌, ◌+◌, arith, refl, ap, sym, Some, None, ℕ, List, Bor, length, take, [], ◌∷◌, false, true, get_or, below_more}
-use Rattle.std.specs.Prelude.{map, option_map}
+use Rattle.std.proofs.Common.{rules, ◌≡◌, ◌∙◌, ◌<◌, arith, refl, ap, sym, ℕ, List, Bor, length, [], true, get_or, below_more}
+use Rattle.std.specs.Prelude.{map}
 use Rattle.std.specs.Result.{is_ok}
-use Rattle.std.proofs.lemmas.Grind.{common_steps}
-use Rattle.std.proofs.lemmas.List.{map-append, take_more, take_all}
+use Rattle.std.proofs.lemmas.List.{take_all}
 use Rattle.std.proofs.lemmas.Simd.{map-map}
 use Rattle.std.specs.List.{position_or_len}
 use Rattle.std.specs.Str.{bytes_eq}

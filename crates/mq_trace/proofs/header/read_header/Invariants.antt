@@ -1,4 +1,4 @@
-use Rattle.std.proofs.Common.{◌≡◌, ◌<◌, ℕ, map, take, get_or, length, [], true}
+use Rattle.std.proofs.Common.{◌≡◌, ◌<◌, ℕ, map, take, get_or, [], true}
 use Rattle.std.specs.List.{position_or_len}
 use Rattle.std.specs.Str.{bytes_eq}
 use Rattle.csv.specs.Records.{fields_of}

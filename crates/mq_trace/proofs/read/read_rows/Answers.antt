@@ -1,13 +1,9 @@
-use Rattle.std.proofs.Common.{rules, ◌≡◌, ◌∙◌, ◌+◌, arith, refl, ap, [], ◌∷◌, length, take, drop, ◌++◌, List, sym, append_assoc, append-nil, true, false, length-append}
-use Rattle.std.specs.Prelude.{map}
-use Rattle.std.specs.Option.{option_or}
-use Rattle.std.proofs.lemmas.Grind.{common_steps}
+use Rattle.std.proofs.Common.{rules, ◌≡◌, ◌∙◌, arith, refl, ap, [], ◌∷◌, length, ◌++◌, sym, append_assoc, append-nil, true, false, length-append}
 use Rattle.std.proofs.lemmas.List.{length-map}
 use Rattle.std.proofs.lemmas.Result.{err_from_is_err_and}
 use Rattle.csv.specs.Records.{fields_of}
 use Rattle.mq_trace.specs.Records.{records_left}
 use Rattle.mq_trace.proofs.RowFacts.{so_far_all, so_far_more, so_far_none, column_stands, small_row, first_fault, reads_few, written_back}
-use Rattle.mq_trace.proofs.TraceFacts.{rows_fault_append}
 use Rattle.mq_trace.proofs.read.read_rows.Goals as goal
 
 pub loop-number-init : goal.loop-number-init

@@ -1,4 +1,4 @@
-use Rattle.std.proofs.Common.{◌≡◌, ◌+◌, ◌<◌, ◌≤◌, ◌++◌, ℕ, List, length}
+use Rattle.std.proofs.Common.{◌≡◌, ◌+◌, ◌≤◌, ◌++◌, List, length}
 use Rattle.csv.specs.Records.{fields_of}
 use Rattle.mq_trace.specs.Reading.{RowsSoFar}
 use Rattle.mq_trace.specs.Records.{IsBetween, Record, records_left}

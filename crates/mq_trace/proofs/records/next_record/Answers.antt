@@ -1,4 +1,4 @@
-use Rattle.std.proofs.Common.{rules, ◌≡◌, inl}
+use Rattle.std.proofs.Common.{inl}
 use Rattle.mq_trace.proofs.RecordFacts.{takes}
 use Rattle.mq_trace.proofs.records.next_record.Goals as goal
 

@@ -1,4 +1,4 @@
-use Rattle.std.proofs.Common.{rules, refl, sym, ◌∙◌, ap}
+use Rattle.std.proofs.Common.{refl}
 use Rattle.mq_trace.specs.Records.{records_at}
 use Rattle.mq_trace.proofs.records.text_reader.Goals as goal
 

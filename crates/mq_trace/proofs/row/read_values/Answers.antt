@@ -1,10 +1,10 @@
-use Rattle.std.proofs.Common.{rules, ◌≡◌, ◌+◌, ◌<◌, ◌≤◌, ◌^◌, ℕ, length, get_or, true, false, None, Some, drop, arith, ◌∙◌, inl, inr, sym, refl, []}
+use Rattle.std.proofs.Common.{rules, ◌≡◌, ◌+◌, ◌<◌, ◌^◌, length, get_or, false, None, drop, arith, ◌∙◌, inl, inr, sym, refl, []}
 use Rattle.std.specs.Prelude.{is_none}
 use Rattle.std.proofs.lemmas.Grind.{common_steps}
 use Rattle.csv.specs.Records.{fields_of}
 use Rattle.mq_base.specs.Text.{number_of}
 use Rattle.mq_trace.specs.Header.{columns_of}
-use Rattle.mq_trace.proofs.TraceFacts.{field_at_is, got, hold_more, later_field, length_noted, number_value, value_goes_on, value_is_bad}
+use Rattle.mq_trace.proofs.TraceFacts.{got, hold_more, later_field, length_noted, number_value, value_goes_on, value_is_bad}
 use Rattle.mq_trace.proofs.row.read_values.Goals as goal
 use Rattle.mq_trace.proofs.row.read_values.Goals.{then-reads+in-Some+in-Some-read_number, else-reads}
 
