@@ -4,10 +4,12 @@
 
 mod exits;
 mod laws;
+mod occupancy;
 mod spans;
 mod tallies;
 
 pub use exits::{Exit, leaving};
 pub use laws::{runs_give_streams, runs_give_visits};
+pub use occupancy::found;
 pub use spans::span;
 pub use tallies::{NodeTotals, totals};
