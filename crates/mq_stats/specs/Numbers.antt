@@ -1,6 +1,5 @@
 -- What the numbers of a node are worked out from, and how they are read.
-use Rattle.std.specs.Prelude.{◌≡◌, ◌<◌, ◌≤◌, length}
-use Rattle.std.specs.List.{AllByRecursion}
+use Rattle.std.specs.Prelude.{◌≡◌, ◌<◌, ◌≤◌, All, length}
 use Rattle.mq_core.specs.Asked.{HasDemands}
 use Rattle.mq_core.specs.Results.{Totals}
 use Rattle.mq_core.specs.declared.model.Kind.{Kind}
@@ -16,12 +15,12 @@ pub record AreVisits (rows : Rows) (kind : Kind) (visits : Visits) : Type 0 wher
   pub arrives : length visits.arrive ≡ length visits.job
   pub founds : length visits.found ≡ length visits.job
   pub fates : length visits.fate ≡ length visits.job
-  pub told : AllByRecursion (λ job. HasDemands rows kind job) visits.job
-  pub small : AllByRecursion (λ found. found ≤ 1048576) visits.found
+  pub told : All (λ job. HasDemands rows kind job) visits.job
+  pub small : All (λ found. found ≤ 1048576) visits.found
 
 -- a stream of jobs of these rows, each at most once
 pub record AreLeaving (rows : Rows) (stream : Stream) : Type 0 where
-  pub jobs : AllByRecursion (λ job. job < length rows.time) stream.job
+  pub jobs : All (λ job. job < length rows.time) stream.job
   pub few : length stream.job ≤ 1048576
   pub even : length stream.job ≡ length stream.time
 

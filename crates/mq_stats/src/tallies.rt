@@ -1,5 +1,4 @@
-ghost use Rattle.std.specs.Prelude.{◌≡◌, ◌<◌, ◌≤◌, ◌^◌, length, max, fold, sum, count_by};
-ghost use Rattle.std.specs.List.{AllByRecursion};
+ghost use Rattle.std.specs.Prelude.{◌≡◌, ◌<◌, ◌≤◌, ◌^◌, All, length, max, fold, sum, count_by};
 ghost use Rattle.mq_core.specs.Asked.{HasDemands};
 ghost use Rattle.mq_core.specs.Columns.{
   column_numbers,
@@ -157,7 +156,7 @@ fn number_after(found: u32, fate: Fate) -> u32
 
 // The greatest number of jobs just after a visit came, or 0.
 fn greatest_number(visits: &Visits) -> u32
-    requires small { AllByRecursion (λ found. found ≤ 1048576) visits.now.found }
+    requires small { All (λ found. found ≤ 1048576) visits.now.found }
     requires fates { length visits.now.fate ≡ length visits.now.found }
     ensures { result ≡ fold max 0 (column_numbers visits.now.found visits.now.fate) }
 {
@@ -170,7 +169,7 @@ fn greatest_number(visits: &Visits) -> u32
 
 // The greatest number of jobs in a node of this kind, where it holds any.
 fn peak_of(kind: &Kind, visits: &Visits) -> u32
-    requires small { AllByRecursion (λ found. found ≤ 1048576) visits.now.found }
+    requires small { All (λ found. found ≤ 1048576) visits.now.found }
     requires fates { length visits.now.fate ≡ length visits.now.found }
     ensures { result ≡ column_peak kind.now visits.now.found visits.now.fate }
 {
