@@ -1,5 +1,5 @@
 -- What a visit found, from the departures that are gone.
-use Rattle.std.proofs.Common.{◌≡◌, ℕ, zero, suc, ◌+◌, ◌<◌, ◌≤◌, Bool, true, false, cond, List, [], ◌∷◌, ◌++◌, length, drop, take, Some, refl, sym, ap, ◌∙◌, subst, arith, append_assoc}
+use Rattle.std.proofs.Common.{◌≡◌, ℕ, zero, suc, ◌+◌, ◌<◌, ◌≤◌, false, cond, List, [], ◌∷◌, ◌++◌, length, drop, take, Some, refl, sym, ap, ◌∙◌, subst, arith, append_assoc}
 use Rattle.std.specs.Prelude.{count_by, nat_lt, slice_get}
 use Rattle.std.specs.List.{AllByRecursion as Each, zip}
 use Rattle.std.specs.List.Sorted.{IsPermutation}
@@ -80,7 +80,7 @@ founds-next done done' all arrives fates i arrive found fate a f n p h =
     let count = count_by (departs_after arrive) (take i fates) in
     let rest = founds_from (take (i + 1) fates) (drop (i + 1) arrives) (drop (i + 1) fates) in
     let here : founds_from (take i fates) (drop i arrives) (drop i fates) ≡ count ∷ founds_from (take i fates ++ fate ∷ []) (drop (i + 1) arrives) (drop (i + 1) fates) =
-        λ k. founds_from (take i fates) (drop_at arrives i arrive a k) (drop_at fates i fate f k) in
+    λ k. founds_from (take i fates) (drop_at arrives i arrive a k) (drop_at fates i fate f k) in
     let next : founds_from (take i fates) (drop i arrives) (drop i fates) ≡ count ∷ rest = here ∙ ap (λ before. count ∷ founds_from before (drop (i + 1) arrives) (drop (i + 1) fates)) (sym (take_at fates i fate f)) in
     ap (λ l. l ++ rest) p
     ∙ (append_assoc done (found ∷ []) rest

@@ -1,7 +1,6 @@
 -- One step of a loop over columns, and its end.
-use Rattle.std.proofs.Common.{◌≡◌, ℕ, zero, suc, subst, ◌+◌, List, [], ◌∷◌, drop, Some, sym, ap, ◌∙◌, arith, drop-cons, max}
+use Rattle.std.proofs.Common.{◌≡◌, ℕ, suc, ◌+◌, List, ◌∷◌, drop, Some, sym, ap, ◌∙◌, arith, drop-cons, max}
 use Rattle.std.specs.Prelude.{slice_get, fold, slice_index, ◌-◌}
-use Rattle.std.specs.List.{AllByRecursion as Each}
 use Rattle.std.specs.Ordering.{ord_max, nat_cmp}
 use Rattle.std.proofs.lemmas.Bool.Decides.{nat_tests}
 use Rattle.std.proofs.lemmas.Option.{slice_get_within, get_or_from_slice_get}

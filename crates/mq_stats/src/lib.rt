@@ -7,6 +7,8 @@ mod laws;
 mod occupancy;
 mod spans;
 mod tallies;
+#[cfg(test)]
+mod tests;
 
 pub use exits::{Exit, leaving};
 pub use laws::{runs_give_streams, runs_give_visits};

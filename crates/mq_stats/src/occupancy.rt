@@ -74,11 +74,7 @@ fn one_if_stays(fate: &Fate) -> usize
 /// Only earlier visits can have departed before a visit comes. Of those that depart at its very
 /// time, the ones that come later are told by their position, so one pass over the departures in
 /// their order tells how many are gone.
-pub fn found(
-    alloc: Global,
-    arrive: &List<u64>,
-    fate: &List<Fate>,
-) -> Result<List<u32>, OutOfMemory>
+pub fn found(alloc: Global, arrive: &List<u64>, fate: &List<Fate>) -> Result<List<u32>, OutOfMemory>
     requires even { length fate.now ≡ length arrive.now }
     requires few { length arrive.now ≤ 1048576 }
     requires arrive { Rises (λ a b. a ≤ b) arrive.now }

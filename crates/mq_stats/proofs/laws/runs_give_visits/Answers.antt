@@ -1,4 +1,4 @@
-use Rattle.std.proofs.Common.{◌<◌, ◌≤◌, length, map, arith, subst}
+use Rattle.std.proofs.Common.{◌<◌, length, arith, subst}
 use Rattle.std.proofs.lemmas.List.{length-map}
 use Rattle.mq_core.specs.Asked.{HasDemands}
 use Rattle.mq_core.specs.ColumnLaws.{jobs_of, arrives_of}

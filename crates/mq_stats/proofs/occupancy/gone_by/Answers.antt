@@ -1,4 +1,4 @@
-use Rattle.std.proofs.Common.{◌≤◌, ◌<◌, length, sym, ◌∙◌, arith, count_by}
+use Rattle.std.proofs.Common.{◌≤◌, sym, ◌∙◌, arith, count_by}
 use Rattle.mq_stats.proofs.Counts.{not-gone, one-gone}
 use Rattle.mq_stats.specs.Departures.{is_gone}
 use Rattle.mq_stats.proofs.occupancy.gone_by.Goals as goal
