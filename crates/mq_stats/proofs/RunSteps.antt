@@ -1,11 +1,18 @@
 -- What is known of the columns of a run.
-use Rattle.std.proofs.Common.{◌≡◌, ℕ, suc, ◌+◌, ◌≤◌, Bool, true, false, List, [], ◌∷◌, ◌++◌, length, sym, subst, arith, length-append}
+use Rattle.std.proofs.Common.{◌≡◌, ℕ, suc, ◌+◌, ◌≤◌, Bool, true, false, List, [], ◌∷◌, ◌++◌, length, sym, ap, subst, arith, length-append}
 use Rattle.std.specs.Prelude.{All, ◌==◌, if◌then◌else◌}
 use Rattle.std.specs.List.{AllByRecursion as Each}
 use Rattle.std.proofs.lemmas.List.Elements.{All-nil, All-cons}
 use Rattle.std.proofs.lemmas.List.Sums.{count_by-le-length}
-use Rattle.mq_core.specs.Columns.{departs_after, founds_from, founds_of, picked}
+use Rattle.mq_core.specs.Columns.{column_visits, departs_after, founds_from, picked}
 use Rattle.mq_core.specs.declared.model.Fate.{Fate}
+use Rattle.mq_core.specs.declared.model.Kind.{Kind}
+use Rattle.mq_core.specs.declared.model.Rows.{Rows}
+use Rattle.mq_core.specs.declared.model.Visits.{Visits}
+
+pub each-so : {X : Type 0} (P Q : X → Type 0) → ((x : X) → P x → Q x) → (xs : List X) → Each P xs → All Q xs
+each-so P Q f [] h = All-nil Q
+each-so P Q f (x ∷ xs) h = All-cons Q x xs (f x h.0) (each-so P Q f xs h.1)
 
 -- no visit finds more than came
 founds-small : (limit : ℕ) (before : List Fate) (arrives : List ℕ) (fates : List Fate) → length before + length arrives ≤ limit → All (λ found. found ≤ limit) (founds_from before arrives fates)
@@ -16,8 +23,10 @@ founds-small limit before (arrive ∷ arrives) (fate ∷ fates) l =
     let few = count_by-le-length (departs_after arrive) before in
     All-cons (λ found. found ≤ limit) _ _ (omega arith) (founds-small limit (before ++ fate ∷ []) arrives fates (omega arith))
 
-pub founds-fit : (founds arrives : List ℕ) (fates : List Fate) → founds ≡ founds_of arrives fates → length arrives ≤ 1048576 → All (λ found. found ≤ 1048576) founds
-founds-fit founds arrives fates e l = subst (All (λ found. found ≤ 1048576)) (sym e) (founds-small 1048576 [] arrives fates (omega arith))
+pub columns-small : (rows : Rows) (kind : Kind) (jobs arrives : List ℕ) (visits : Visits) → visits ≡ column_visits rows kind jobs arrives → length arrives ≤ 1048576 → All (λ found. found ≤ 1048576) visits.found
+columns-small rows kind jobs arrives visits e l =
+    let columns = column_visits rows kind jobs arrives in
+    subst (All (λ found. found ≤ 1048576)) (sym (ap (λ v. v.found) e)) (founds-small 1048576 [] arrives columns.fate (omega arith))
 
 -- what is picked is among the items, and no more
 pub Each-picked : (P : ℕ → Type 0) (out : ℕ) (outs items : List ℕ) → Each P items → Each P (picked out outs items)

@@ -1,8 +1,8 @@
 ghost use Rattle.mq_stats.specs.RunNumbers.{RunsGiveStreams, RunsGiveVisits};
 
 use mq_core::{
-    departs_in_time, jobs_are_rows, nodes_are_columns, nodes_are_in_limits, streams_rise,
-    visits_are_few,
+    departs_in_time, jobs_are_rows, nodes_are_columns, nodes_are_in_limits, rows_tell_demands,
+    streams_rise, visits_are_few,
 };
 
 /// The visits of each node of a run are such that their totals are told.
@@ -13,6 +13,7 @@ pub fn runs_give_visits()
     jobs_are_rows();
     nodes_are_columns();
     nodes_are_in_limits();
+    rows_tell_demands();
     visits_are_few();
 }
 

@@ -4,10 +4,14 @@
 
 mod exits;
 mod laws;
+mod occupancy;
 mod spans;
 mod tallies;
+#[cfg(test)]
+mod tests;
 
 pub use exits::{Exit, leaving};
 pub use laws::{runs_give_streams, runs_give_visits};
+pub use occupancy::found;
 pub use spans::span;
 pub use tallies::{NodeTotals, totals};

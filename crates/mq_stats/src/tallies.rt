@@ -1,4 +1,4 @@
-ghost use Rattle.std.specs.Prelude.{◌≡◌, ◌<◌, ◌≤◌, ◌-◌, ◌^◌, All, length, max, fold, sum, count_by};
+ghost use Rattle.std.specs.Prelude.{◌≡◌, ◌<◌, ◌≤◌, ◌^◌, All, length, max, fold, sum, count_by};
 ghost use Rattle.mq_core.specs.Asked.{HasDemands};
 ghost use Rattle.mq_core.specs.Columns.{
   column_numbers,
@@ -65,10 +65,7 @@ fn wait_of(rows: &Rows, kind: &Kind, job: u32, arrive: u64, fate: Fate) -> u64
 
 // The sum and the greatest of the waiting times.
 fn waits_of(rows: &Rows, kind: &Kind, visits: &Visits) -> (u128, u64)
-    requires told { All (λ job. HasDemands rows.now kind.now job) visits.now.job }
-    requires few { length visits.now.job ≤ 1048576 }
-    requires arrives { length visits.now.arrive ≡ length visits.now.job }
-    requires fates { length visits.now.fate ≡ length visits.now.job }
+    requires { AreVisits rows.now kind.now visits.now }
     ensures total { result.0 ≡ sum (column_waits rows.now kind.now visits.now.job visits.now.arrive visits.now.fate) }
     ensures longest { result.1 ≡ fold max 0 (column_waits rows.now kind.now visits.now.job visits.now.arrive visits.now.fate) }
 {
@@ -111,9 +108,7 @@ fn service_of(rows: &Rows, kind: &Kind, job: u32, fate: Fate) -> u64
 
 // The sum of the services.
 fn busy_of(rows: &Rows, kind: &Kind, visits: &Visits) -> u128
-    requires told { All (λ job. HasDemands rows.now kind.now job) visits.now.job }
-    requires few { length visits.now.job ≤ 1048576 }
-    requires fates { length visits.now.fate ≡ length visits.now.job }
+    requires { AreVisits rows.now kind.now visits.now }
     ensures total { result ≡ sum (column_services rows.now kind.now visits.now.job visits.now.fate) }
     ensures small { result ≤ 2 ^ 84 }
 {
@@ -150,7 +145,7 @@ fn area_of(visits: &Visits) -> u128
 
 // The number of jobs just after a visit came; 0 for a lost one.
 fn number_after(found: u32, fate: Fate) -> u32
-    requires { found < 2 ^ 32 - 1 }
+    requires { found ≤ 1048576 }
     ensures { result ≡ one_more found fate }
 {
     match fate {
@@ -161,7 +156,7 @@ fn number_after(found: u32, fate: Fate) -> u32
 
 // The greatest number of jobs just after a visit came, or 0.
 fn greatest_number(visits: &Visits) -> u32
-    requires small { All (λ found. found < 2 ^ 32 - 1) visits.now.found }
+    requires small { All (λ found. found ≤ 1048576) visits.now.found }
     requires fates { length visits.now.fate ≡ length visits.now.found }
     ensures { result ≡ fold max 0 (column_numbers visits.now.found visits.now.fate) }
 {
@@ -174,7 +169,7 @@ fn greatest_number(visits: &Visits) -> u32
 
 // The greatest number of jobs in a node of this kind, where it holds any.
 fn peak_of(kind: &Kind, visits: &Visits) -> u32
-    requires small { All (λ found. found < 2 ^ 32 - 1) visits.now.found }
+    requires small { All (λ found. found ≤ 1048576) visits.now.found }
     requires fates { length visits.now.fate ≡ length visits.now.found }
     ensures { result ≡ column_peak kind.now visits.now.found visits.now.fate }
 {
@@ -192,7 +187,6 @@ pub fn totals(rows: &Rows, kind: &Kind, visits: &Visits) -> NodeTotals
     ensures totals { totals_from result ≡ column_totals rows.now kind.now visits.now }
     ensures small { result.busy < 2 ^ 100 }
 {
-    rows_tell_demands();
     let came = visits.job.len() as u32;
     let lost = lost_of(visits.fate.as_slice()) as u32;
     let (wait, longest) = waits_of(rows, kind, visits);

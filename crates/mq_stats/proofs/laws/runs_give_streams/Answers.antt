@@ -1,11 +1,11 @@
 use Rattle.std.proofs.Common.{◌<◌, length, ap, sym, subst, arith}
-use Rattle.std.specs.List.{AllByRecursion}
+use Rattle.std.specs.Prelude.{All}
 use Rattle.std.proofs.lemmas.List.{length-map}
 use Rattle.mq_core.specs.ColumnLaws.{jobs_of}
 use Rattle.mq_core.specs.Columns.{column_outs}
 use Rattle.mq_core.specs.Machine.{Visit}
 use Rattle.mq_core.specs.StandardTable.{run_of}
-use Rattle.mq_stats.proofs.RunSteps.{Each-picked, length-picked}
+use Rattle.mq_stats.proofs.RunSteps.{each-so, Each-picked, length-picked}
 use Rattle.mq_stats.proofs.laws.runs_give_streams.Goals as goal
 
 pub returns : goal.returns
@@ -20,7 +20,7 @@ returns c plan rows read v node there out =
     let count = read.count in
     let long = ap length same in
     record {
-      jobs = subst (AllByRecursion (λ job. job < length rows.time)) (sym same) (Each-picked (λ job. job < length rows.time) out outs jobs (c.jobs_are_rows.ensures plan rows v));
+      jobs = subst (All (λ job. job < length rows.time)) (sym same) (each-so (λ job. job < length rows.time) _ (λ _ below. below) _ (Each-picked (λ job. job < length rows.time) out outs jobs (c.jobs_are_rows.ensures plan rows v)));
       few = omega arith;
       even = ((c.streams_rise.ensures plan rows v).streams out).even;
     }
