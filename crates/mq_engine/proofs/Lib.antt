@@ -1,0 +1,4 @@
+pub mod Lists
+pub mod Sorted
+pub mod Gone
+pub mod Leaves
