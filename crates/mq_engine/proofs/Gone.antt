@@ -1,7 +1,6 @@
 -- Who is gone: where nothing falls, the first ones.
 use Rattle.std.proofs.Common.{◌≡◌, ℕ, zero, suc, ◌+◌, ◌-◌, ◌<◌, ◌≤◌, ◌⊎◌, inl, inr, Bool, true, false, cond, List, [], ◌∷◌, ◌++◌, length, get_or, take, drop, map, Some, sym, refl, ap, ◌∙◌, subst, arith, append_assoc}
 use Rattle.std.specs.Prelude.{count_by, nat_lt, slice_get}
-use Rattle.std.specs.List.{AllByRecursion as Each}
 use Rattle.std.specs.Option.{option_map}
 use Rattle.std.proofs.lemmas.Bool.{cases_lt}
 use Rattle.std.proofs.lemmas.Bool.Decides.{nat_tests}
@@ -16,6 +15,12 @@ use Rattle.mq_core.specs.declared.model.Fate.TheVariants.{Departs, Lost}
 use Rattle.mq_engine.specs.Turns.{LeaveInOrder}
 use Rattle.mq_engine.proofs.Lists.{drop_at, Each-get}
 
+one-more : (n : ℕ) → 1 + n ≡ suc n
+one-more n = omega arith
+
+none-more : (n : ℕ) → 0 + n ≡ n
+none-more n = omega arith
+
 -- how many of the first pass a test that some fail and then all pass
 count-behind : (test : Fate → Bool) (fates : List Fate) (at gone : ℕ) → at ≤ length fates → gone ≤ at → ((k : ℕ) (f : Fate) → k < gone → slice_get fates k ≡ Some f → test f ≡ false) → ((k : ℕ) (f : Fate) → gone ≤ k → k < at → slice_get fates k ≡ Some f → test f ≡ true) →
     count_by test (take at fates) ≡ at - gone
@@ -28,20 +33,14 @@ count-behind test (f ∷ fs) (suc at) zero l m a b =
     counted here ∙ (omega arith)
   where
     counted : test f ≡ true → count_by test (f ∷ take at fs) ≡ suc (count_by test (take at fs))
-    counted e =
-        let more = sum_by-cons (λ x. cond (test x) 1 0) f (take at fs) in
-        let one : cond (test f) 1 0 ≡ 1 = ap (λ (b : Bool). cond b 1 0) e in
-        omega arith
+    counted e = sum_by-cons (λ x. cond (test x) 1 0) f (take at fs) ∙ (ap (λ (b : Bool). cond b 1 0 + count_by test (take at fs)) e ∙ one-more (count_by test (take at fs)))
 count-behind test (f ∷ fs) (suc at) (suc gone) l m a b =
     let here : test f ≡ false = a 0 f (omega arith) refl in
     let rest = count-behind test fs at gone (omega arith) (omega arith) (λ k g n e. a (suc k) g (omega arith) e) (λ k g n u e. b (suc k) g (omega arith) (omega arith) e) in
     passed here ∙ (omega arith)
   where
     passed : test f ≡ false → count_by test (f ∷ take at fs) ≡ count_by test (take at fs)
-    passed e =
-        let more = sum_by-cons (λ x. cond (test x) 1 0) f (take at fs) in
-        let none : cond (test f) 1 0 ≡ 0 = ap (λ (b : Bool). cond b 1 0) e in
-        omega arith
+    passed e = sum_by-cons (λ x. cond (test x) 1 0) f (take at fs) ∙ (ap (λ (b : Bool). cond b 1 0 + count_by test (take at fs)) e ∙ none-more (count_by test (take at fs)))
 
 pub Rises-get : (xs : List ℕ) (i j a b : ℕ) → Rises (λ x y. x ≤ y) xs → i ≤ j → slice_get xs i ≡ Some a → slice_get xs j ≡ Some b → a ≤ b
 Rises-get [] i j a b h l p q = absurd cc

@@ -9,20 +9,20 @@ ghost use Rattle.mq_engine.specs.Answer.{IsCause};
 
 mod arrivals;
 mod fault;
-mod occupancy;
 mod late;
+mod laws;
+mod occupancy;
 mod stations;
 mod turns;
 
+use crate::arrivals::arrivals_at;
+use crate::laws::core_laws;
+use crate::turns::turn;
 pub use fault::{PastFault, RunFault};
-pub use occupancy::found;
-
 use mq_base::{List, OutOfMemory};
 use mq_core::{Plan, Rows, Run, Stream, Visits};
+pub use occupancy::found;
 use std::alloc::Global;
-
-use crate::arrivals::arrivals_at;
-use crate::turns::turn;
 
 // As many lists of visits as there are nodes, with none in them.
 fn no_visits(alloc: Global, nodes: usize) -> Result<Vec<Visits>, OutOfMemory>
@@ -66,6 +66,7 @@ pub fn run(alloc: Global, plan: &Plan, rows: &Rows) -> Result<Run, RunFault>
     ensures on_time { IfOk result (λ run. past_of plan.now rows.now ≡ None) }
     ensures cause { IfErr result (λ fault. IsCause plan.now rows.now fault) }
 {
+    core_laws();
     let mut visits = no_visits(alloc, plan.net.nodes.len())?;
     let mut outputs = no_streams(alloc, plan.net.nodes.len())?;
     for rank in 0..plan.order.len() {

@@ -11,11 +11,7 @@ use std::alloc::Global;
 /// How many jobs each visit found in the node: of the earlier visits, those that depart after its
 /// arrival. Arrivals and departures never fall, so that those who are gone are always the first
 /// ones. It refuses for want of memory alone.
-pub fn found(
-    alloc: Global,
-    arrive: &List<u64>,
-    fate: &List<Fate>,
-) -> Result<List<u32>, OutOfMemory>
+pub fn found(alloc: Global, arrive: &List<u64>, fate: &List<Fate>) -> Result<List<u32>, OutOfMemory>
     requires even { length fate.now ≡ length arrive.now }
     requires few { length arrive.now ≤ 1048576 }
     requires arrive { Rises (λ a b. a ≤ b) arrive.now }

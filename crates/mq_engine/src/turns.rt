@@ -5,8 +5,8 @@ ghost use Rattle.mq_engine.specs.Answer.{IsLateIn};
 ghost use Rattle.mq_engine.specs.Turns.{IsLoad, IsTurn};
 
 use crate::RunFault;
-use crate::occupancy::found;
 use crate::late::first_late;
+use crate::occupancy::found;
 use crate::stations::leaving;
 use mq_base::List;
 use mq_core::{Kind, Network, Rows, Stream, Visits};

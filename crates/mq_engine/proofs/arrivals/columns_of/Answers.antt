@@ -1,6 +1,5 @@
-use Rattle.std.proofs.Common.{◌≡◌, ℕ, sym, ap, ◌∙◌, map, subst, length}
+use Rattle.std.proofs.Common.{◌≡◌, ℕ, ◌∙◌, map}
 use Rattle.std.specs.List.{zip}
-use Rattle.std.proofs.lemmas.List.{length-map}
 use Rattle.mq_engine.proofs.Lists.{map-all, zip-map}
 use Rattle.mq_engine.proofs.Sorted.{rising-stream}
 use Rattle.mq_engine.proofs.arrivals.columns_of.Goals as goal

@@ -1,4 +1,4 @@
-use Rattle.std.proofs.Common.{◌≡◌, ◌++◌, ◌∷◌, [], ◌∙◌, ap, subst, sym, drop, arith}
+use Rattle.std.proofs.Common.{◌≡◌, ◌++◌, ◌∙◌, ap, subst, sym, drop, arith}
 use Rattle.mq_core.specs.Columns.{rows_at}
 use Rattle.mq_engine.proofs.Sorted.{rows-skip, rows-take}
 use Rattle.mq_engine.proofs.arrivals.rows_of.Goals as goal

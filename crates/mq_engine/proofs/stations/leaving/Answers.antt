@@ -1,6 +1,5 @@
 use Rattle.std.proofs.Common.{sym, subst}
 use Rattle.std.proofs.lemmas.Result.{IfOk-weaker}
-use Rattle.mq_core.specs.declared.model.Kind.TheVariants.{Source}
 use Rattle.mq_engine.specs.Turns.{IsLeaving}
 use Rattle.mq_engine.proofs.stations.leaving.Goals as goal
 

@@ -1,4 +1,4 @@
-use Rattle.std.proofs.Common.{◌≡◌, sym, ap, ◌∙◌}
+use Rattle.std.proofs.Common.{◌∙◌}
 use Rattle.mq_engine.proofs.Leaves.{passes-on}
 use Rattle.mq_engine.proofs.stations.passed_on.Goals as goal
 

@@ -1,5 +1,4 @@
-use Rattle.std.proofs.Common.{◌≡◌, ◌≤◌, length, sym, ap, ◌∙◌, subst, arith}
-use Rattle.mq_core.specs.declared.model.Fate.{Fate}
+use Rattle.std.proofs.Common.{◌≡◌, length, sym, ap, ◌∙◌, subst, arith}
 use Rattle.mq_engine.specs.Turns.{LeaveInOrder}
 use Rattle.mq_engine.proofs.Leaves.{fates-in_order, fates-length}
 use Rattle.mq_engine.proofs.turns.turn.Goals as goal
