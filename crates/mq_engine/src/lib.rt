@@ -82,3 +82,6 @@ pub fn run(alloc: Global, plan: &Plan, rows: &Rows) -> Result<Run, RunFault>
         outputs: List::from_vec(outputs),
     })
 }
+
+#[cfg(test)]
+mod tests;
