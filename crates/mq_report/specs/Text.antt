@@ -27,9 +27,13 @@ kind_word Source = codes "source"
 kind_word (Server demand) = codes "server"
 kind_word (Split route) = codes "split"
 
+-- four digits
+abbrev pub last_digits : ℕ → List ℕ
+last_digits n = (48 + n / 1000) ∷ (48 + n / 100 % 10) ∷ (48 + n / 10 % 10) ∷ (48 + n % 10) ∷ []
+
 -- a number of ten-thousandths: the digits before the last four, at least one, a point, and four digits
 abbrev pub ten_thousandths : ℕ → List ℕ
-ten_thousandths n = decimal (n / 10000) ++ 46 ∷ (48 + n / 1000 % 10) ∷ (48 + n / 100 % 10) ∷ (48 + n / 10 % 10) ∷ (48 + n % 10) ∷ []
+ten_thousandths n = decimal (n / 10000) ++ 46 ∷ last_digits (n % 10000)
 
 -- the share of the servers' time in which they work, in ten-thousandths, rounded down; 0 where the span is 0
 abbrev pub utilisation : ℕ → ℕ → ℕ → ℕ
@@ -39,13 +43,16 @@ utilisation busy servers span = if span == 0 then 0 else 10000 * busy / (servers
 abbrev pub utilisation_text : ℕ → ℕ → ℕ → List ℕ
 utilisation_text busy servers span = if servers == 0 then codes "-" else ten_thousandths (utilisation busy servers span)
 
-abbrev pub node_line : List ℕ → Kind → Totals → ℕ → List ℕ
-node_line name kind totals span =
+-- a node's totals, each behind its word
+abbrev pub node_numbers : List ℕ → Kind → Totals → List ℕ
+node_numbers name kind totals =
     codes "node " ++ name ++ codes " " ++ kind_word kind
     ++ codes " in " ++ decimal totals.came ++ codes " out " ++ decimal totals.left ++ codes " lost " ++ decimal totals.lost
     ++ codes " wait " ++ decimal totals.wait ++ codes " max " ++ decimal totals.longest
     ++ codes " busy " ++ decimal totals.busy ++ codes " area " ++ decimal totals.area ++ codes " peak " ++ decimal totals.peak
-    ++ codes " util " ++ utilisation_text totals.busy (servers_in kind) span ++ 10 ∷ []
+
+abbrev pub node_line : List ℕ → Kind → Totals → ℕ → List ℕ
+node_line name kind totals span = node_numbers name kind totals ++ codes " util " ++ utilisation_text totals.busy (servers_in kind) span ++ 10 ∷ []
 
 -- the name and the output, the number of jobs that left by it, and the sum of their times in the network
 abbrev pub exit_line : List ℕ → ℕ → ℕ × ℕ → List ℕ
