@@ -15,11 +15,11 @@ use Rattle.mq_core.specs.declared.model.Network.{Network}
 use Rattle.mq_core.specs.declared.model.Node.{Node}
 use Rattle.mq_core.specs.declared.model.Rows.{Rows}
 
-abbrev pub head_line : List ℕ
+unfoldable pub head_line : List ℕ
 head_line = codes "mpsim report 1" ++ 10 ∷ []
 
 -- how many jobs there are, and the time at which the last event happens
-abbrev pub jobs_line : ℕ → ℕ → List ℕ
+unfoldable pub jobs_line : ℕ → ℕ → List ℕ
 jobs_line jobs span = codes "jobs " ++ decimal jobs ++ codes " span " ++ decimal span ++ 10 ∷ []
 
 abbrev pub kind_word : Kind → List ℕ
@@ -31,31 +31,42 @@ kind_word (Split route) = codes "split"
 abbrev pub last_digits : ℕ → List ℕ
 last_digits n = (48 + n / 1000) ∷ (48 + n / 100 % 10) ∷ (48 + n / 10 % 10) ∷ (48 + n % 10) ∷ []
 
--- a number of ten-thousandths: the digits before the last four, at least one, a point, and four digits
-abbrev pub ten_thousandths : ℕ → List ℕ
-ten_thousandths n = decimal (n / 10000) ++ 46 ∷ last_digits (n % 10000)
+-- a number of ten-thousandths: the digits before the last four, at least one, a point, four digits, and the line's end
+unfoldable pub ten_thousandths : ℕ → List ℕ
+ten_thousandths n = decimal (n / 10000) ++ 46 ∷ (last_digits (n % 10000) ++ 10 ∷ [])
 
 -- the share of the servers' time in which they work, in ten-thousandths, rounded down; 0 where the span is 0
 abbrev pub utilisation : ℕ → ℕ → ℕ → ℕ
 utilisation busy servers span = if span == 0 then 0 else 10000 * busy / (servers * span)
 
--- a dash where the node has no servers
-abbrev pub utilisation_text : ℕ → ℕ → ℕ → List ℕ
-utilisation_text busy servers span = if servers == 0 then codes "-" else ten_thousandths (utilisation busy servers span)
+-- a dash where the node has no servers, and the line's end
+unfoldable pub utilisation_text : ℕ → ℕ → ℕ → List ℕ
+utilisation_text busy servers span = if servers == 0 then codes "-" ++ 10 ∷ [] else ten_thousandths (utilisation busy servers span)
 
--- a node's totals, each behind its word
-abbrev pub node_numbers : List ℕ → Kind → Totals → List ℕ
-node_numbers name kind totals =
-    codes "node " ++ name ++ codes " " ++ kind_word kind
-    ++ codes " in " ++ decimal totals.came ++ codes " out " ++ decimal totals.left ++ codes " lost " ++ decimal totals.lost
-    ++ codes " wait " ++ decimal totals.wait ++ codes " max " ++ decimal totals.longest
-    ++ codes " busy " ++ decimal totals.busy ++ codes " area " ++ decimal totals.area ++ codes " peak " ++ decimal totals.peak
+-- The parts of a node's line, each up to a word behind it: its name and kind, its counts, those lost, its waits, and its tallies.
+unfoldable pub node_words : List ℕ → List ℕ → List ℕ
+node_words name word = codes "node " ++ name ++ codes " " ++ word ++ codes " in "
+
+unfoldable pub node_counts : Totals → List ℕ
+node_counts totals = decimal totals.came ++ codes " out " ++ decimal totals.left ++ codes " lost "
+
+unfoldable pub node_losses : Totals → List ℕ
+node_losses totals = decimal totals.lost ++ codes " wait "
+
+unfoldable pub node_waits : Totals → List ℕ
+node_waits totals = decimal totals.wait ++ codes " max " ++ decimal totals.longest ++ codes " busy "
+
+unfoldable pub node_tallies : Totals → List ℕ
+node_tallies totals = decimal totals.busy ++ codes " area " ++ decimal totals.area ++ codes " peak " ++ decimal totals.peak ++ codes " util "
+
+abbrev pub node_numbers : Totals → List ℕ
+node_numbers totals = node_counts totals ++ (node_losses totals ++ (node_waits totals ++ node_tallies totals))
 
 abbrev pub node_line : List ℕ → Kind → Totals → ℕ → List ℕ
-node_line name kind totals span = node_numbers name kind totals ++ codes " util " ++ utilisation_text totals.busy (servers_in kind) span ++ 10 ∷ []
+node_line name kind totals span = node_words name (kind_word kind) ++ (node_numbers totals ++ utilisation_text totals.busy (servers_in kind) span)
 
 -- the name and the output, the number of jobs that left by it, and the sum of their times in the network
-abbrev pub exit_line : List ℕ → ℕ → ℕ × ℕ → List ℕ
+unfoldable pub exit_line : List ℕ → ℕ → ℕ × ℕ → List ℕ
 exit_line name out exit =
     codes "exit " ++ name ++ codes "." ++ decimal out ++ codes " " ++ decimal exit.0 ++ codes " sojourn " ++ decimal exit.1 ++ 10 ∷ []
 
