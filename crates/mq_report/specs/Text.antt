@@ -1,7 +1,7 @@
 -- The text of a report: a head, the jobs and the span, a line for each node by rank, and a line for each output that
 -- no input reads, by rank of its node and then output. Words are separated by one space, and each line ends with a line feed.
 use Rattle.std.specs.Prelude.{ℕ, zero, suc, ◌+◌, ◌*◌, ◌/◌, ◌%◌, ◌==◌, ◌&&◌, Bool, if◌then◌else◌, List, [], ◌∷◌, ◌++◌, length, Option, Some, None, slice_get, codes, decimal}
-use Rattle.std.specs.List.{flat_map, list_any}
+use Rattle.std.specs.List.{list_any}
 use Rattle.mq_core.specs.Local.{Local}
 use Rattle.mq_core.specs.Machine.{State, Station}
 use Rattle.mq_core.specs.NetworkRun.{run_in}
@@ -74,27 +74,42 @@ exit_line name out exit =
 abbrev pub is_read : List Node → ℕ → ℕ → Bool
 is_read nodes v out = list_any (λ (node : Node). list_any (λ (i : Input). (i.node == v) && (i.out == out)) node.inputs) nodes
 
--- the lines of the outputs below this one that no input reads
-abbrev pub exit_lines : List Node → Rows → ℕ → List ℕ → Station Local → ℕ → List ℕ
-exit_lines nodes rows v name station zero = []
-exit_lines nodes rows v name station (suc out) =
-    exit_lines nodes rows v name station out ++ (if is_read nodes v out then [] else exit_line name out (exit_of rows station out))
+-- the line of an output that no input reads
+abbrev pub exit_lines_at : List Node → Rows → ℕ → List ℕ → Station Local → ℕ → List ℕ
+exit_lines_at nodes rows v name station out = if is_read nodes v out then [] else exit_line name out (exit_of rows station out)
 
--- the line of a node of the network, and the lines of its exits
+-- the same for this many outputs, from this one on
+unfoldable pub exit_lines : List Node → Rows → ℕ → List ℕ → Station Local → ℕ → ℕ → List ℕ
+exit_lines nodes rows v name station out zero = []
+exit_lines nodes rows v name station out (suc more) = exit_lines_at nodes rows v name station out ++ exit_lines nodes rows v name station (out + 1) more
+
+abbrev pub line_of : Rows → State Local → ℕ → Node → List ℕ
+line_of rows end v node = node_line node.name node.kind (totals_of rows node.kind (end.stations v)) end.clock
+
+-- the line of a node of the network
 abbrev pub line_at : Rows → State Local → ℕ → Option Node → List ℕ
 line_at rows end v None = []
-line_at rows end v (Some node) = node_line node.name node.kind (totals_of rows node.kind (end.stations v)) end.clock
+line_at rows end v (Some node) = line_of rows end v node
 
+-- the lines of these nodes
+abbrev pub nodes_text : Network → Rows → State Local → List ℕ → List ℕ
+nodes_text net rows end [] = []
+nodes_text net rows end (v ∷ order) = line_at rows end v (slice_get net.nodes v) ++ nodes_text net rows end order
+
+-- the lines of the exits of a node of the network
 abbrev pub exits_at : List Node → Rows → State Local → ℕ → Option Node → List ℕ
 exits_at nodes rows end v None = []
-exits_at nodes rows end v (Some node) = exit_lines nodes rows v node.name (end.stations v) (outputs_in node.kind)
+exits_at nodes rows end v (Some node) = exit_lines nodes rows v node.name (end.stations v) 0 (outputs_in node.kind)
+
+-- the lines of the exits of these nodes
+abbrev pub exits_text : Network → Rows → State Local → List ℕ → List ℕ
+exits_text net rows end [] = []
+exits_text net rows end (v ∷ order) = exits_at net.nodes rows end v (slice_get net.nodes v) ++ exits_text net rows end order
 
 -- the report of a state, with the nodes in this order
 abbrev pub report_text : Network → List ℕ → Rows → State Local → List ℕ
 report_text net order rows end =
-    head_line ++ jobs_line (length rows.time) end.clock
-    ++ flat_map (λ v. line_at rows end v (slice_get net.nodes v)) order
-    ++ flat_map (λ v. exits_at net.nodes rows end v (slice_get net.nodes v)) order
+    (head_line ++ jobs_line (length rows.time) end.clock) ++ (nodes_text net rows end order ++ exits_text net rows end order)
 
 -- the report of the sequential event-list run of a network over rows
 abbrev pub report_in : Network → Rows → List ℕ

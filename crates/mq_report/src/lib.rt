@@ -1,5 +1,6 @@
 //! The report of a run.
 #![tactic(auto)]
 
-pub mod lines;
+mod lines;
+mod report;
 
