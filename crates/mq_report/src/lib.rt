@@ -3,4 +3,3 @@
 
 mod lines;
 mod report;
-

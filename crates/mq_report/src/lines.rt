@@ -199,10 +199,7 @@ fn add_losses<O: Sink>(
     add_pieces(
         out,
         pending,
-        &[
-            Piece::Number(totals.lost as u128),
-            Piece::Text(b" wait "),
-        ],
+        &[Piece::Number(totals.lost as u128), Piece::Text(b" wait ")],
     )
 }
 

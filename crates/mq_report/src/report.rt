@@ -22,8 +22,8 @@ ghost use Rattle.mq_report.specs.Text.{
 use crate::lines::{add_exit, add_head, add_node};
 use mq_base::{Gather, Sink, SinkFault, add_pieces, flush};
 use mq_core::{
-    Input, Node, Plan, Rows, Run, exits_are_streams, nodes_are_in_limits, orders_rank, outputs_of,
-    outputs_have_streams, runs_are_of_networks, runs_have_columns, span_is_columns,
+    Input, Node, Plan, Rows, Run, exits_are_streams, nodes_are_in_limits, orders_rank,
+    outputs_have_streams, outputs_of, runs_are_of_networks, runs_have_columns, span_is_columns,
     totals_are_columns,
 };
 use mq_stats::{Exit, NodeTotals, leaving, runs_give_streams, runs_give_visits, span, totals};
