@@ -1,2 +1,3 @@
 pub mod FormFacts
 pub mod LineFacts
+pub mod ExampleFacts
