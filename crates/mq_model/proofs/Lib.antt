@@ -1,3 +1,4 @@
 pub mod FormFacts
 pub mod LineFacts
 pub mod ExampleFacts
+pub mod ReadFacts

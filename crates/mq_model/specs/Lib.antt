@@ -1,6 +1,6 @@
-pub mod Number
 pub mod Form
 pub mod Lines
+pub mod Reading
 pub mod Said
 pub mod Left
 pub mod NetworkOf

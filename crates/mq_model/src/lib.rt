@@ -3,8 +3,13 @@
 
 mod fault;
 mod laws;
+mod line;
+mod parts;
 mod said;
+mod word;
 
 pub use fault::ModelFault;
 pub use laws::{examples_are_answered, first_bad_word};
+pub use line::{LineFault, read_line};
+pub use parts::Stop;
 pub use said::{Said, SaidDemand, SaidInput, SaidKind, SaidRoute};
