@@ -1,10 +1,13 @@
 -- The words from a place on, and what one word does.
-use Rattle.std.proofs.Common.{◌≡◌, ◌∙◌, sym, ap, refl, ℕ, zero, suc, ◌+◌, ◌<◌, ◌≤◌, List, [], ◌∷◌, ◌++◌, length, drop, map, Bool, true, false, Option, Some, None, Result, Ok, Err, Bor, arith, append_assoc, ◌-◌}
-use Rattle.std.specs.Prelude.{slice_get, ◌&&◌, not, nat_lt, get_or, codes}
+use Rattle.std.proofs.Common.{◌≡◌, ◌∙◌, sym, ap, refl, ℕ, zero, suc, ◌+◌, ◌<◌, ◌≤◌, List, [], ◌∷◌, ◌++◌, length, drop, map, Bool, true, false, Option, Some, None, Result, Ok, Err, Bor, arith, append_assoc, ◌-◌, inl, inr}
+use Rattle.std.specs.Prelude.{slice_get, ◌&&◌, not, nat_le, nat_lt, get_or, codes}
 use Rattle.std.specs.Char.{is_ascii_lowercase}
 use Rattle.std.specs.List.{list_all}
 use Rattle.std.specs.Str.{bytes_eq}
-use Rattle.mq_model.specs.Lines.{bound_line, inputs, input_of, is_input, is_key, line, node_line, server_kind, source_line}
+use Rattle.std.proofs.lemmas.Bool.{cases_Bool}
+use Rattle.mq_base.specs.Text.{is_number, number_of}
+use Rattle.mq_model.specs.declared.said.SaidRoute.TheVariants.{Turn}
+use Rattle.mq_model.specs.Lines.{a_route, counted_route, cut_route, greatest_demand, is_above, is_from_to, is_up_to, modulo_route, rising, thresholds, value_of, way_of, bound_line, inputs, input_of, is_input, is_key, line, node_line, server_kind, source_line, split_kind}
 use Rattle.mq_core.specs.Names.{is_name, is_name_byte}
 use Rattle.std.proofs.lemmas.Grind.{common_steps}
 use Rattle.mq_model.specs.Form.{◌>>=◌, Form, Word, stop, word, maybe, one, read, up_to, whole}
@@ -166,11 +169,17 @@ line_source all ws w e a h = read_maybe_no _ _ _ all ws w e a ∙ read_maybe_yes
 pub line_server : (all ws : List Word) (w : Word) → all ≡ w ∷ ws → is_key (codes "bound") w ≡ false → is_key (codes "source") w ≡ false → is_key (codes "server") w ≡ true
     → read line all ≡ read (node_line server_kind) ws
 unfolding line
-line_server all ws w e a b h = read_maybe_no _ _ _ all ws w e a ∙ read_maybe_no _ _ _ all ws w e b ∙ read_word_yes _ _ all ws w e h
+line_server all ws w e a b h = read_maybe_no _ _ _ all ws w e a ∙ read_maybe_no _ _ _ all ws w e b ∙ read_maybe_yes _ _ _ all ws w e h
 
-pub line_other : (all ws : List Word) (w : Word) → all ≡ w ∷ ws → is_key (codes "bound") w ≡ false → is_key (codes "source") w ≡ false → is_key (codes "server") w ≡ false → read line all ≡ Err all
+pub line_split : (all ws : List Word) (w : Word) → all ≡ w ∷ ws → is_key (codes "bound") w ≡ false → is_key (codes "source") w ≡ false → is_key (codes "server") w ≡ false → is_key (codes "split") w ≡ true
+    → read line all ≡ read (node_line split_kind) ws
 unfolding line
-line_other all ws w e a b h = read_maybe_no _ _ _ all ws w e a ∙ read_maybe_no _ _ _ all ws w e b ∙ read_word_no _ _ all ws w e h
+line_split all ws w e a b c h = read_maybe_no _ _ _ all ws w e a ∙ read_maybe_no _ _ _ all ws w e b ∙ read_maybe_no _ _ _ all ws w e c ∙ read_word_yes _ _ all ws w e h
+
+pub line_other : (all ws : List Word) (w : Word) → all ≡ w ∷ ws → is_key (codes "bound") w ≡ false → is_key (codes "source") w ≡ false → is_key (codes "server") w ≡ false → is_key (codes "split") w ≡ false
+    → read line all ≡ Err all
+unfolding line
+line_other all ws w e a b c h = read_maybe_no _ _ _ all ws w e a ∙ read_maybe_no _ _ _ all ws w e b ∙ read_maybe_no _ _ _ all ws w e c ∙ read_word_no _ _ all ws w e h
 
 pub tail_length : (words : List (Bor (List ℕ))) (at : ℕ) → at ≤ length words → at + 1 + length (words_from words at) ≡ length (map (λ (w : Bor (List ℕ)). w.now) words) + 1
 tail_length words at h = grind (arith, common_steps)
@@ -184,3 +193,87 @@ whole_more r x words at h e = whole_left r x (words_from words at) _ _ e (words_
 
 pub whole_fault : {A : Type 0} (r : Result (A × List Word) (List Word)) (left : List Word) → r ≡ Err left → whole r ≡ Err left
 whole_fault r left e = rw e refl
+
+-- numbers
+pub number_some : (w : Word) (limit v : ℕ) → number_of w limit ≡ Some v → (is_number w limit ≡ true) × (v ≡ value_of w)
+number_some w limit v h =
+    elim (cases_Bool (is_number w limit)) [
+      | inl good ↦ (good, let k = rw good at h in cc)
+      | inr bad ↦ let k = rw bad at h in absurd (cc)
+    ]
+
+pub number_none : (w : Word) (limit : ℕ) → number_of w limit ≡ None → is_number w limit ≡ false
+number_none w limit h =
+    elim (cases_Bool (is_number w limit)) [
+      | inl good ↦ let k = rw good at h in absurd (cc)
+      | inr bad ↦ bad
+    ]
+
+pub below_least : (w : Word) (least most v : ℕ) → is_number w most ≡ true → v ≡ value_of w → v < least → is_from_to least most w ≡ false
+below_least w least most v good is h = let low : nat_le least (value_of w) ≡ false = grind (arith, common_steps, is, h) in rw (good, low) refl
+
+pub from_least : (w : Word) (least most v : ℕ) → is_number w most ≡ true → v ≡ value_of w → least ≤ v → is_from_to least most w ≡ true
+from_least w least most v good is h = let low : nat_le least (value_of w) ≡ true = grind (arith, common_steps, is, h) in rw (good, low) refl
+
+-- further thresholds
+pub rising_zero : (last : ℕ) (ws : List Word) → read (rising 0 last) ws ≡ Ok ([], ws)
+unfolding read rising
+rising_zero last ws = refl
+
+pub rising_none : (n last : ℕ) (all : List Word) → all ≡ [] → read (rising n last) all ≡ Ok ([], all)
+unfolding read rising
+rising_none zero last all h = refl
+rising_none (suc n) last all h = elim (cases_Bool (nat_lt last greatest_demand)) [ inl room ↦ rw (room, h) refl | inr full ↦ rw full refl ]
+
+pub rising_no : (n last : ℕ) (all ws : List Word) (w : Word) → all ≡ w ∷ ws → is_above last w ≡ false → read (rising n last) all ≡ Ok ([], all)
+unfolding read rising
+rising_no zero last all ws w e h = refl
+rising_no (suc n) last all ws w e h = elim (cases_Bool (nat_lt last greatest_demand)) [ inl room ↦ rw (room, e, h) refl | inr full ↦ rw full refl ]
+
+above_has_room : (last : ℕ) (w : Word) → is_above last w ≡ true → nat_lt last greatest_demand ≡ true
+above_has_room last w h = grind (arith, common_steps, h)
+
+pub rising_yes : (n last : ℕ) (all ws : List Word) (w : Word) → 0 < n → all ≡ w ∷ ws → is_above last w ≡ true
+    → read (rising n last) all ≡ with_front (value_of w ∷ []) (read (rising (n - 1) (value_of w)) ws)
+unfolding read rising
+rising_yes zero last all ws w some e h = absurd (omega arith)
+rising_yes (suc n) last all ws w some e h =
+    let back : suc n - 1 ≡ n = omega arith in
+    rw (back, above_has_room last w h, e, h, read_then (rising n (value_of w)) (λ more. stop (value_of w ∷ more)) ws) (front_of (value_of w) (read (rising n (value_of w)) ws))
+
+pub thresholds_first : (all ws : List Word) (n : ℕ) → read (one (is_up_to greatest_demand) value_of) all ≡ Ok (n, ws) → read thresholds all ≡ with_front (n ∷ []) (read (rising 6 n) ws)
+unfolding read thresholds
+thresholds_first all ws n h = rw (read_then, h, read_then) (front_of n (read (rising 6 n) ws))
+
+pub thresholds_fault : (all l : List Word) → read (one (is_up_to greatest_demand) value_of) all ≡ Err l → read thresholds all ≡ Err l
+unfolding read thresholds
+thresholds_fault all l h = rw (read_then, h) refl
+
+-- the ways of a route
+pub way_mod : (n : ℕ) (all ws : List Word) (w : Word) → all ≡ w ∷ ws → is_key (codes "mod") w ≡ true → read (way_of n) all ≡ read (modulo_route n) ws
+unfolding way_of
+way_mod n all ws w e h = read_maybe_yes _ _ _ all ws w e h
+
+pub way_turn : (n : ℕ) (all ws : List Word) (w : Word) → all ≡ w ∷ ws → is_key (codes "mod") w ≡ false → is_key (codes "turn") w ≡ true → read (way_of n) all ≡ Ok (Turn n, ws)
+unfolding way_of read ◌>>=◌
+way_turn n all ws w e a h = rw (e, a, h) refl
+
+pub way_other : (n : ℕ) (all ws : List Word) (w : Word) → all ≡ w ∷ ws → is_key (codes "mod") w ≡ false → is_key (codes "turn") w ≡ false → read (way_of n) all ≡ Err all
+unfolding way_of read ◌>>=◌
+way_other n all ws w e a h = rw (e, a, h) refl
+
+pub way_none : (n : ℕ) (all : List Word) → all ≡ [] → read (way_of n) all ≡ Err all
+unfolding way_of read ◌>>=◌
+way_none n all e = rw e refl
+
+pub route_cut : (all ws : List Word) (w : Word) → all ≡ w ∷ ws → is_key (codes "cut") w ≡ true → read a_route all ≡ read cut_route ws
+unfolding a_route
+route_cut all ws w e h = read_maybe_yes _ _ _ all ws w e h
+
+pub route_counted : (all ws : List Word) (w : Word) → all ≡ w ∷ ws → is_key (codes "cut") w ≡ false → read a_route all ≡ read counted_route all
+unfolding a_route
+route_counted all ws w e h = read_maybe_no _ _ _ all ws w e h
+
+pub route_none : (all : List Word) → all ≡ [] → read a_route all ≡ Err all
+unfolding a_route counted_route read ◌>>=◌
+route_none all e = rw e refl

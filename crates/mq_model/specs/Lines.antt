@@ -93,17 +93,21 @@ cut_route = do
   cuts ← thresholds
   stop (Cut column cuts)
 
+unfoldable pub modulo_route : ℕ → Form SaidRoute
+modulo_route outputs = a_name >>= λ column. stop (Modulo outputs column)
+
+unfoldable pub way_of : ℕ → Form SaidRoute
+way_of outputs = maybe (is_key (codes "mod")) (λ _. modulo_route outputs) (key (codes "turn") >>= λ _. stop (Turn outputs))
+
 unfoldable pub counted_route : Form SaidRoute
-counted_route = do
-  outputs ← one (is_from_to 2 8) value_of
-  maybe (is_key (codes "mod")) (λ _. a_name >>= λ column. stop (Modulo outputs column)) (key (codes "turn") >>= λ _. stop (Turn outputs))
+counted_route = one (is_from_to 2 8) value_of >>= way_of
+
+unfoldable pub a_route : Form SaidRoute
+a_route = maybe (is_key (codes "cut")) (λ _. cut_route) counted_route
 
 -- The kinds: what stands between the name and the inputs.
 abbrev pub server_kind : Form SaidKind
 server_kind = a_demand >>= λ demand. stop (Server demand)
-
-unfoldable pub a_route : Form SaidRoute
-a_route = maybe (is_key (codes "cut")) (λ _. cut_route) counted_route
 
 abbrev pub split_kind : Form SaidKind
 split_kind = a_route >>= λ route. stop (Split route)

@@ -5,6 +5,7 @@ mod fault;
 mod laws;
 mod line;
 mod parts;
+mod route;
 mod said;
 mod word;
 

@@ -1,10 +1,11 @@
 // A line, by its first word.
 ghost use Rattle.std.specs.Prelude.{◌≡◌, ◌≤◌, length};
 ghost use Rattle.mq_model.specs.Form.{read, whole};
-ghost use Rattle.mq_model.specs.Lines.{bound_line, line, node_line, server_kind, source_line};
+ghost use Rattle.mq_model.specs.Lines.{bound_line, line, node_line, server_kind, source_line, split_kind};
 ghost use Rattle.mq_model.specs.Reading.{Reads, ReadsLine, words_from};
 
 use crate::parts::{Stop, read_demand, read_inputs, read_name, word_at};
+use crate::route::read_route;
 use crate::said::{Said, SaidKind};
 use mq_base::{List, read_number};
 use std::alloc::Global;
@@ -21,6 +22,22 @@ fn read_server(alloc: Global, words: &[&[u8]], at: &mut usize) -> Result<Said, S
     Ok(Said::Node {
         name,
         kind: SaidKind::Server(demand),
+        reads,
+    })
+}
+
+/// Reads what stands behind `split`.
+#[tactic(auto, using(crate::proofs::ReadFacts::reading), unfolding(crate::specs::Lines::node_line))]
+fn read_split(alloc: Global, words: &[&[u8]], at: &mut usize) -> Result<Said, Stop>
+    ensures reads { Reads result (words_from words.now at.new) (read (node_line split_kind) (words_from words.now at.old)) }
+    ensures within { at.old ≤ length words.now → at.new ≤ length words.now }
+{
+    let name = read_name(alloc, words, at)?;
+    let route = read_route(alloc, words, at)?;
+    let reads = read_inputs(alloc, words, at)?;
+    Ok(Said::Node {
+        name,
+        kind: SaidKind::Split(route),
         reads,
     })
 }
@@ -74,6 +91,10 @@ fn read_first(alloc: Global, words: &[&[u8]], at: &mut usize) -> Result<Said, St
     if word == b"server".as_slice() {
         *at += 1;
         return read_server(alloc, words, at);
+    }
+    if word == b"split".as_slice() {
+        *at += 1;
+        return read_split(alloc, words, at);
     }
     Err(Stop::Word)
 }

@@ -6,8 +6,8 @@ ghost use Rattle.mq_model.specs.Reading.{Reads, words_from};
 
 use crate::said::{SaidDemand, SaidInput};
 use crate::word::{copied, demand_said, input_said, is_demand, is_input, is_name};
-use mq_base::{List, read_number};
-use std::alloc::{AllocError, AllocFailed, Global};
+use mq_base::{List, OutOfMemory, read_number};
+use std::alloc::{AllocError, Global};
 
 /// Why no line was read.
 #[derive(Clone, Copy, Debug, PartialEq, Eq)]
@@ -17,17 +17,6 @@ pub enum Stop {
     Memory,
 }
 
-impl<T: Drop> From<AllocFailed<T>> for Stop {
-    ghost use Rattle.mq_model.specs.declared.parts.Stop.TheVariants.{Memory};
-    ghost use Rattle.std.specs.Prelude.{◌≡◌};
-
-    ghost from_gives = { λ _ e. e ≡ Memory };
-
-    fn from(_: AllocFailed<T>) -> Stop {
-        Stop::Memory
-    }
-}
-
 impl From<AllocError> for Stop {
     ghost use Rattle.mq_model.specs.declared.parts.Stop.TheVariants.{Memory};
     ghost use Rattle.std.specs.Prelude.{◌≡◌};
@@ -35,6 +24,17 @@ impl From<AllocError> for Stop {
     ghost from_gives = { λ _ e. e ≡ Memory };
 
     fn from(_: AllocError) -> Stop {
+        Stop::Memory
+    }
+}
+
+impl From<OutOfMemory> for Stop {
+    ghost use Rattle.mq_model.specs.declared.parts.Stop.TheVariants.{Memory};
+    ghost use Rattle.std.specs.Prelude.{◌≡◌};
+
+    ghost from_gives = { λ _ e. e ≡ Memory };
+
+    fn from(_: OutOfMemory) -> Stop {
         Stop::Memory
     }
 }
