@@ -5,4 +5,5 @@ pub mod Said
 pub mod Left
 pub mod NetworkOf
 pub mod Model
+pub mod Front
 pub mod Examples
