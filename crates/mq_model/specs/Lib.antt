@@ -2,7 +2,6 @@ pub mod Form
 pub mod Lines
 pub mod Reading
 pub mod Said
-pub mod Left
 pub mod NetworkOf
 pub mod Model
 pub mod Front

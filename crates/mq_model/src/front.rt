@@ -1,10 +1,11 @@
 // What the lines so far say, and one line more.
-ghost use Rattle.std.specs.Prelude.{◌≡◌, ◌≤◌, ◌+◌, ◌++◌, ◌∷◌, [], IfErr, IfOk, List as Items, None, length, map, ℕ};
-ghost use Rattle.std.specs.List.{fold, list_all};
+ghost use Rattle.std.specs.Prelude.{◌≡◌, ◌≤◌, ◌++◌, IfErr, IfOk, None, Ok, length};
+ghost use Rattle.std.specs.List.{list_all};
 ghost use Rattle.mq_base.specs.Text.{words_of};
-ghost use Rattle.mq_model.specs.Front.{AddsLine, IsFront, name_fault};
-ghost use Rattle.mq_model.specs.Model.{Answers, Tells, begins_bound, begins_comment, is_allowed, is_head, words_fault};
-ghost use Rattle.mq_model.specs.NetworkOf.{said_of};
+ghost use Rattle.mq_model.specs.Form.{read, whole};
+ghost use Rattle.mq_model.specs.Front.{AddsLine, added_fault, grammar_fault, name_fault, with_said};
+ghost use Rattle.mq_model.specs.Lines.{line};
+ghost use Rattle.mq_model.specs.Model.{Tells, begins_bound, begins_comment, is_allowed, is_head};
 ghost use Rattle.mq_model.specs.Reading.{texts};
 ghost use Rattle.mq_model.specs.Said.{added, columns_after, declared, is_among, mentioned};
 
@@ -137,4 +138,62 @@ fn add_columns(alloc: Global, said: &Said, columns: &mut List<List<u8>>) -> Resu
         | SaidKind::Server(SaidDemand::Fixed(_))
         | SaidKind::Split(SaidRoute::Turn { .. }) => Ok(()),
     }
+}
+
+/// What the words of a line say.
+fn read_words(alloc: Global, words: &[&[u8]], number: u32, has_bound: bool) -> Result<Said, ModelFault>
+    requires { length words.now ≤ 65536 }
+    ensures ok { IfOk result (λ said. (grammar_fault number has_bound (texts words.now) ≡ None) × (whole (read line (texts words.now)) ≡ Ok said)) }
+    ensures err { IfErr result (λ e. Tells e (grammar_fault number has_bound (texts words.now))) }
+{
+    if has_bound && begins_bound(words) {
+        return Err(ModelFault::BadLine { line: number, word: 1 });
+    }
+    match read_line(alloc, words) {
+        Ok(said) => Ok(said),
+        Err(LineFault::Word(word)) => Err(ModelFault::BadLine {
+            line: number,
+            word: word as u32,
+        }),
+        Err(LineFault::Memory) => Err(ModelFault::Memory),
+    }
+}
+
+/// Adds what a line says.
+fn add_said(alloc: Global, said: Said, number: u32, front: &mut Front) -> Result<(), ModelFault>
+    ensures ok { IfOk result (λ _. (added_fault front.old number said ≡ None) × (front.new ≡ with_said front.old number said)) }
+    ensures err { IfErr result (λ e. Tells e (added_fault front.old number said)) }
+{
+    add_name(alloc, &said, number, &mut front.names)?;
+    add_columns(alloc, &said, &mut front.columns)?;
+    if front.columns.len() > 16 {
+        return Err(ModelFault::TooMany { line: number });
+    }
+    front.saids.push(said)?;
+    front.lines.push(number)?;
+    Ok(())
+}
+
+/// Reads one line more.
+pub fn read_next(alloc: Global, line: &[u8], number: u32, front: &mut Front) -> Result<(), ModelFault>
+    requires { length line.now ≤ 65536 }
+    ensures { AddsLine result number line.now front.old front.new }
+{
+    let words = split_words(alloc, line)?;
+    if begins_comment(words.as_slice()) {
+        return Ok(());
+    }
+    if !all_allowed(line) {
+        return Err(ModelFault::BadByte { line: number });
+    }
+    if !front.has_head {
+        if !is_head(words.as_slice()) {
+            return Err(ModelFault::BadHead { line: number });
+        }
+        front.has_head = true;
+        return Ok(());
+    }
+    let said = read_words(alloc, words.as_slice(), number, front.has_bound)?;
+    front.has_bound = front.has_bound || begins_bound(words.as_slice());
+    add_said(alloc, said, number, front)
 }
