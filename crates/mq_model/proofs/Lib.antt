@@ -1,5 +1,6 @@
 pub mod FormFacts
 pub mod LineFacts
 pub mod SoundColumns
+pub mod SoundInputs
 pub mod SoundLines
 pub mod SoundText
