@@ -1,5 +1,7 @@
 pub mod FormFacts
 pub mod LineFacts
+pub mod NamesBack
+pub mod NetworkBack
 pub mod SoundColumns
 pub mod SoundInputs
 pub mod SoundLines

@@ -5,3 +5,4 @@ pub mod Said
 pub mod Left
 pub mod NetworkOf
 pub mod Model
+pub mod SaidOf
