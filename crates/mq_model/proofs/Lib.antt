@@ -3,3 +3,10 @@ pub mod LineFacts
 pub mod ExampleFacts
 pub mod ReadFacts
 pub mod TextFacts
+pub mod NamesBack
+pub mod NetworkBack
+pub mod SoundColumns
+pub mod SoundInputs
+pub mod SoundLines
+pub mod SoundNetwork
+pub mod SoundText

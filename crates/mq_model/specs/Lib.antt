@@ -6,3 +6,4 @@ pub mod NetworkOf
 pub mod Model
 pub mod Front
 pub mod Examples
+pub mod SaidOf
