@@ -10,3 +10,4 @@ pub mod SoundInputs
 pub mod SoundLines
 pub mod SoundNetwork
 pub mod SoundText
+pub mod FrontFacts
