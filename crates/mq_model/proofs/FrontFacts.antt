@@ -162,8 +162,8 @@ add_skipped before l front is skipped =
     and_true true b h = sym h
     and_true false b h = refl
 
-pub head_is_none : (before : List (List ℕ)) (l : List ℕ) (front : Front) → IsFront before front → front.has_head ≡ false → list_all is_skipped before ≡ true
-head_is_none before l front is none = let e : not (list_all is_skipped before) ≡ false = sym is.head ∙ none in not_false (list_all is_skipped before) e
+pub head_is_none : (before : List (List ℕ)) (front : Front) → IsFront before front → front.has_head ≡ false → list_all is_skipped before ≡ true
+head_is_none before front is none = let e : not (list_all is_skipped before) ≡ false = sym is.head ∙ none in not_false (list_all is_skipped before) e
   where
     not_false : (b : Bool) → not b ≡ false → b ≡ true
     not_false true h = refl
@@ -174,9 +174,9 @@ pub add_head : (before : List (List ℕ)) (l : List ℕ) (front : Front) → IsF
 unfolding line_fault
 add_head before l front is none allowed head =
     let unskipped = head_not_skipped (words_of l) head in
-    (rw (unskipped, allowed, head_is_none before l front is none, head) refl,
+    (rw (unskipped, allowed, head_is_none before front is none, head) refl,
     add_nothing before l front true is (nothing_said l (λ said e. head_says_nothing (words_of l) said head e)) (head_no_bound (words_of l) head)
-    (rw (unskipped, head_is_none before l front is none) refl))
+    (rw (unskipped, head_is_none before front is none) refl))
 
 -- faults
 pub byte_fault : (before : List (List ℕ)) (l : List ℕ) (number : ℕ) → number ≡ length before + 1 → begins_comment (words_of l) ≡ false → list_all is_allowed l ≡ false → line_fault before l ≡ Some (BadByte number)
@@ -186,9 +186,9 @@ byte_fault before l number n unskipped bad = rw (unskipped, bad, n) refl
 pub head_fault : (before : List (List ℕ)) (l : List ℕ) (number : ℕ) (front : Front) → IsFront before front → number ≡ length before + 1 → begins_comment (words_of l) ≡ false → list_all is_allowed l ≡ true → front.has_head ≡ false
     → is_head (words_of l) ≡ false → line_fault before l ≡ Some (BadHead number)
 unfolding line_fault
-head_fault before l number front is n unskipped allowed none bad = rw (unskipped, allowed, head_is_none before l front is none, bad, n) refl
+head_fault before l number front is n unskipped allowed none bad = rw (unskipped, allowed, head_is_none before front is none, bad, n) refl
 
-has_head_is : (before : List (List ℕ)) (front : Front) → IsFront before front → front.has_head ≡ true → list_all is_skipped before ≡ false
+pub has_head_is : (before : List (List ℕ)) (front : Front) → IsFront before front → front.has_head ≡ true → list_all is_skipped before ≡ false
 has_head_is before front is some = not_true (list_all is_skipped before) (sym is.head ∙ some)
   where
     not_true : (b : Bool) → not b ≡ true → b ≡ false
@@ -293,3 +293,18 @@ pub adds_told : (before : List (List ℕ)) (l : List ℕ) (number : ℕ) (said :
     → Adds r (line_fault before l) (before ++ l ∷ []) new
 adds_told before l number said old new (Ok u) good bad same front = (same ∙ good.0, rw good.1 (front good.0))
 adds_told before l number said old new (Err e) good bad same front = λ h. same ∙ bad h
+
+pub front_of_nothing : (saids : List Said) (lines : List ℕ) (names columns : List Word) → saids ≡ [] → lines ≡ [] → names ≡ [] → columns ≡ []
+    → IsFront [] (record { has_head = false; has_bound = false; saids = saids; lines = lines; names = names; columns = columns })
+unfolding distinct_after
+front_of_nothing saids lines names columns no_saids no_lines no_names no_columns =
+    record {
+      head = refl;
+      bound = refl;
+      saids = no_saids;
+      lines = no_lines;
+      names = no_names;
+      columns = no_columns;
+      few_names = rw no_names (omega arith);
+      few_columns = rw no_columns (omega arith);
+    }

@@ -2,7 +2,6 @@ pub mod FormFacts
 pub mod LineFacts
 pub mod ExampleFacts
 pub mod ReadFacts
-pub mod TextFacts
 pub mod NamesBack
 pub mod NetworkBack
 pub mod SoundColumns
@@ -11,3 +10,4 @@ pub mod SoundLines
 pub mod SoundNetwork
 pub mod SoundText
 pub mod FrontFacts
+pub mod TextFacts

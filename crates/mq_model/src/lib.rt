@@ -8,6 +8,7 @@ mod line;
 mod parts;
 mod route;
 mod said;
+mod text;
 mod word;
 
 pub use fault::ModelFault;
