@@ -8,6 +8,7 @@ pub mod Arrivals
 pub mod Second
 pub mod Third
 pub mod Wired
+pub mod Soundness
 pub mod Whole
 pub mod Kept
 pub mod Serves
@@ -17,7 +18,9 @@ pub mod Ends
 pub mod AloneRuns
 pub mod Areas
 pub mod Tallied
-pub mod RowsAll
+pub mod Plans
+pub mod NetworkRuns
+pub mod WorkedRows
 pub mod Founds
 pub mod Busy
 pub mod Peak

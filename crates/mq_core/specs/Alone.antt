@@ -15,6 +15,7 @@ use Rattle.mq_core.specs.declared.model.Rows.{Rows}
 abbrev pub came : List Visit → List (ℕ × ℕ)
 came visits = map {B = ℕ × ℕ} (λ (x : Visit). (x.arrive, x.job)) visits
 
+-- the time and the job of each arrival at a node
 abbrev pub come_at : ℕ → List Event → List (ℕ × ℕ)
 come_at v events = map {B = ℕ × ℕ} (λ e. (time_of e, job_of e)) (filter (is_arrival_at v) events)
 

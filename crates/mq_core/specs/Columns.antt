@@ -1,5 +1,5 @@
 -- A run in columns: what the code keeps of it, one item a visit, by position.
-use Rattle.std.specs.Prelude.{◌≡◌, ◌≤◌, ℕ, zero, suc, ◌+◌, ◌-◌, nat_lt, max, Bool, false, List, [], ◌∷◌, ◌++◌, length, map, filter, sum, count_by, fold, ◌==◌, slice_index, if◌then◌else◌}
+use Rattle.std.specs.Prelude.{◌≡◌, ◌≤◌, ℕ, zero, suc, ◌+◌, ◌-◌, nat_lt, max, Bool, false, List, [], ◌∷◌, ◌++◌, length, map, sum, count_by, fold, ◌==◌, slice_index, if◌then◌else◌}
 use Rattle.std.specs.List.{zip}
 use Rattle.mq_core.specs.Laws.{Rises, in_order_of}
 use Rattle.mq_core.specs.Local.{Local}
@@ -8,7 +8,6 @@ use Rattle.mq_core.specs.Results.{Totals, bare_time, is_lost, visits_of, stream_
 use Rattle.mq_core.specs.Sound.{outputs_in}
 use Rattle.mq_core.specs.Standard.{demand_of_job, output_by}
 use Rattle.mq_core.specs.StandardTable.{run_of}
-use Rattle.mq_core.specs.declared.model.Demand.{Demand}
 use Rattle.mq_core.specs.declared.model.Fate.{Fate}
 use Rattle.mq_core.specs.declared.model.Fate.TheVariants.{Departs, Lost}
 use Rattle.mq_core.specs.declared.model.Kind.{Kind}
@@ -65,6 +64,7 @@ founds_from before (arrive ∷ arrives) [] = []
 founds_from before (arrive ∷ arrives) (fate ∷ fates) =
     count_by (departs_after arrive) before ∷ founds_from (before ++ fate ∷ []) arrives fates
 
+-- what each visit found, from its arrival and the fates of those before it
 abbrev pub founds_of : List ℕ → List Fate → List ℕ
 founds_of arrive fate = founds_from [] arrive fate
 
@@ -79,6 +79,7 @@ abbrev pub routes_from : Rows → Route → ℕ → List ℕ → List ℕ
 routes_from rows route position [] = []
 routes_from rows route position (job ∷ jobs) = output_by rows route job position ∷ routes_from rows route (suc position) jobs
 
+-- the output by which each job leaves a node of this kind
 abbrev pub column_outs : Rows → Kind → List ℕ → List ℕ
 column_outs rows Source job = map (λ _. 0) job
 column_outs rows (Server demand) job = map (λ _. 0) job
@@ -90,6 +91,7 @@ picked out [] items = []
 picked out (o ∷ outs) [] = []
 picked out (o ∷ outs) (item ∷ items) = if o == out then item ∷ picked out outs items else picked out outs items
 
+-- the time of a departure; 0 for a lost visit, which has none
 abbrev pub time_of_fate : Fate → ℕ
 time_of_fate (Departs time) = time
 time_of_fate Lost = 0
@@ -108,16 +110,19 @@ abbrev pub column_wait : Rows → Kind → ℕ → ℕ → Fate → ℕ
 column_wait rows kind job arrive (Departs time) = time - arrive - bare_time rows kind job
 column_wait rows kind job arrive Lost = 0
 
+-- the wait of each visit
 abbrev pub column_waits : Rows → Kind → List ℕ → List ℕ → List Fate → List ℕ
 column_waits rows kind [] arrives fates = []
 column_waits rows kind (job ∷ jobs) [] fates = []
 column_waits rows kind (job ∷ jobs) (arrive ∷ arrives) [] = []
 column_waits rows kind (job ∷ jobs) (arrive ∷ arrives) (fate ∷ fates) = column_wait rows kind job arrive fate ∷ column_waits rows kind jobs arrives fates
 
+-- how long a visit stayed; a lost one didn't
 abbrev pub column_sojourn : ℕ → Fate → ℕ
 column_sojourn arrive (Departs time) = time - arrive
 column_sojourn arrive Lost = 0
 
+-- the sojourn of each visit
 abbrev pub column_sojourns : List ℕ → List Fate → List ℕ
 column_sojourns [] fates = []
 column_sojourns (arrive ∷ arrives) [] = []
@@ -129,30 +134,35 @@ service_time rows Source job = 0
 service_time rows (Server demand) job = demand_of_job rows demand job
 service_time rows (Split route) job = 0
 
+-- how long a visit was served; a lost one wasn't
 abbrev pub column_service : Rows → Kind → ℕ → Fate → ℕ
 column_service rows kind job (Departs time) = service_time rows kind job
 column_service rows kind job Lost = 0
 
+-- the service of each visit
 abbrev pub column_services : Rows → Kind → List ℕ → List Fate → List ℕ
 column_services rows kind [] fates = []
 column_services rows kind (job ∷ jobs) [] = []
 column_services rows kind (job ∷ jobs) (fate ∷ fates) = column_service rows kind job fate ∷ column_services rows kind jobs fates
 
--- the greatest found of a visit that isn't lost, plus 1, or 0
+-- the number just after a visit came; 0 for a lost one
 abbrev pub one_more : ℕ → Fate → ℕ
 one_more found (Departs time) = found + 1
 one_more found Lost = 0
 
+-- for each visit the number in the node just after it came; 0 for a lost one
 abbrev pub column_numbers : List ℕ → List Fate → List ℕ
 column_numbers [] fates = []
 column_numbers (found ∷ founds) [] = []
 column_numbers (found ∷ founds) (fate ∷ fates) = one_more found fate ∷ column_numbers founds fates
 
+-- the greatest number just after an arrival; 0 at a source or a split, which hold no job
 abbrev pub column_peak : Kind → List ℕ → List Fate → ℕ
 column_peak Source founds fates = 0
 column_peak (Server demand) founds fates = fold max 0 (column_numbers founds fates)
 column_peak (Split route) founds fates = 0
 
+-- the totals of a node, from its visits alone
 abbrev pub column_totals : Rows → Kind → Visits → Totals
 column_totals rows kind visits =
     let lost = count_by is_lost visits.fate in
@@ -174,6 +184,7 @@ stream_sojourns rows [] times = []
 stream_sojourns rows (job ∷ jobs) [] = []
 stream_sojourns rows (job ∷ jobs) (time ∷ times) = (time - slice_index rows.time job) ∷ stream_sojourns rows jobs times
 
+-- how many leave by an output, and the sum of their times since their rows
 abbrev pub column_exit : Rows → Stream → ℕ × ℕ
 column_exit rows stream = (length stream.job, sum (stream_sojourns rows stream.job stream.time))
 
@@ -181,6 +192,7 @@ column_exit rows stream = (length stream.job, sum (stream_sojourns rows stream.j
 abbrev pub greatest_time : Visits → ℕ
 greatest_time visits = max (fold max 0 visits.arrive) (fold max 0 (map time_of_fate visits.fate))
 
+-- the greatest time of a visit to any node, or 0
 abbrev pub column_span : List Visits → ℕ
 column_span visits = fold max 0 (map greatest_time visits)
 
@@ -194,6 +206,7 @@ abbrev pub streams_below : State Local → ℕ → ℕ → List Stream
 streams_below end node zero = []
 streams_below end node (suc outs) = streams_below end node outs ++ stream_from (end.stations node) outs ∷ []
 
+-- the streams of each node's outputs, node by node from this one on
 abbrev pub streams_by_node : State Local → ℕ → List Node → List (List Stream)
 streams_by_node end node [] = []
 streams_by_node end node (n ∷ nodes) = streams_below end node (outputs_in n.kind) ∷ streams_by_node end (suc node) nodes

@@ -16,7 +16,7 @@ use Rattle.mq_core.specs.declared.model.Node.{Node}
 use Rattle.mq_core.specs.declared.model.Plan.{Plan}
 use Rattle.mq_core.specs.declared.model.Rows.{Rows}
 
--- what an emission says of a visit: a loss station emits a lost one on output 1
+-- what an emission says of a visit: it departs then
 abbrev pub fate_by : Kind → Emission → Fate
 fate_by _ m = Departs m.time
 
@@ -75,6 +75,7 @@ pub record ComesAt (s : State Local) (time : ℕ) : Type 0 where
   pub inside : position < length (s.stations node).visits
   pub at : arrival_or 0 (slice_get (s.stations node).visits position) ≡ time
 
+-- an emission of a node at this time
 pub record LeavesAt (s : State Local) (time : ℕ) : Type 0 where
   pub node : ℕ
   pub before : List Emission
@@ -89,6 +90,7 @@ pub record IsLatest (plan : Plan) (s : State Local) (span : ℕ) : Type 0 where
   pub left : (v : ℕ) → v < length plan.net.nodes → AllByRecursion (λ (m : Emission). m.time ≤ span) (s.stations v).emitted
   pub reached : (span ≡ 0) ⊎ (ComesAt s span ⊎ LeavesAt s span)
 
+-- the clock at the end is the span
 abbrev pub SpanIsLatest : Type 0
 SpanIsLatest =
     (plan : Plan) (rows : Rows) → IsReadFor plan.net rows →

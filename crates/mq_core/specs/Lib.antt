@@ -10,9 +10,12 @@ pub mod Local
 pub mod Standard
 pub mod OnTime
 pub mod StandardTable
+pub mod Asked
 pub mod Served
 pub mod Fates
 pub mod Alone
 pub mod Tallies
 pub mod Results
 pub mod Columns
+pub mod NetworkRun
+pub mod PlanLaws

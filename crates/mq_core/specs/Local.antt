@@ -4,5 +4,6 @@ use Rattle.std.specs.Prelude.{ℕ, List, []}
 pub record Local : Type 0 where
   pub queue : List ℕ
 
+-- nothing kept
 abbrev pub empty : Local
 empty = record { queue = [] }

@@ -4,6 +4,7 @@ use Rattle.std.specs.Char.{is_ascii_digit, is_ascii_lowercase}
 use Rattle.std.specs.List.{list_all}
 use Rattle.std.specs.Str.{bytes_eq}
 
+-- a small letter, a digit or an underscore
 abbrev pub is_name_byte : ℕ → Bool
 is_name_byte b = is_ascii_lowercase b || is_ascii_digit b || (b == 95)
 

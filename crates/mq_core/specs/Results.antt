@@ -23,6 +23,11 @@ bare_time rows Source job = 0
 bare_time rows (Split route) job = 0
 bare_time rows (Server demand) job = demand_of_job rows demand job
 
+-- the servers of a node, by which its utilisation is reckoned; none at a source or a split
+abbrev pub servers_in : Kind → ℕ
+servers_in (Server demand) = 1
+servers_in _ = 0
+
 -- the fates of the positions from this one on, one for each visit that has its fate
 abbrev pub fates_from : Kind → List Emission → ℕ → List Visit → List Fate
 fates_from kind emitted position [] = []
@@ -52,11 +57,13 @@ abbrev pub wait_of : Rows → Kind → Visit → Fate → ℕ
 wait_of rows kind visit (Departs time) = time - visit.arrive - bare_time rows kind visit.job
 wait_of rows kind visit Lost = 0
 
+-- the wait of each visit, beside its fate
 abbrev pub waits_of : Rows → Kind → List Visit → List Fate → List ℕ
 waits_of rows kind [] fates = []
 waits_of rows kind (visit ∷ visits) [] = []
 waits_of rows kind (visit ∷ visits) (fate ∷ fates) = wait_of rows kind visit fate ∷ waits_of rows kind visits fates
 
+-- whether a visit was lost
 abbrev pub is_lost : Fate → Bool
 is_lost (Departs time) = false
 is_lost Lost = true
@@ -72,11 +79,13 @@ pub record Totals : Type 0 where
   pub area : ℕ
   pub peak : ℕ
 
+-- the peak that is told of a node: 0 at a source or a split, else the tally
 abbrev pub peak_of : Kind → ℕ → ℕ
 peak_of Source peak = 0
 peak_of (Split route) peak = 0
 peak_of _ peak = peak
 
+-- the totals of a node, from its visits, its fates and its tallies
 abbrev pub totals_of : Rows → Kind → Station Local → Totals
 totals_of rows kind s =
     let fates = fates_from kind s.emitted 0 s.visits in
@@ -105,6 +114,7 @@ pub record Late : Type 0 where
   pub position : ℕ
   pub time : ℕ
 
+-- the departure of a position, where it has one that passes the bound
 abbrev pub late_fate : ℕ → ℕ → ℕ → Option Fate → List Late
 late_fate bound node position None = []
 late_fate bound node position (Some Lost) = []
@@ -116,10 +126,12 @@ late_from bound node kind emitted position [] = []
 late_from bound node kind emitted position (visit ∷ visits) =
     late_fate bound node position (fate_of kind emitted position) ++ late_from bound node kind emitted (suc position) visits
 
+-- the same at a node; none where there is no such node
 abbrev pub late_at : ℕ → ℕ → Option Node → Station Local → List Late
 late_at bound v None s = []
 late_at bound v (Some node) s = late_from bound v node.kind s.emitted 0 s.visits
 
+-- the first of these, if there is one
 abbrev pub first_of : List Late → Option Late
 first_of [] = None
 first_of (late ∷ lates) = Some late

@@ -13,6 +13,7 @@ use Rattle.mq_core.specs.declared.model.Kind.TheVariants.{Source, Server, Split}
 use Rattle.mq_core.specs.declared.model.Node.{Node}
 use Rattle.mq_core.specs.declared.model.Network.{Network}
 
+-- a number between two limits, with both
 abbrev pub is_within : ℕ → ℕ → ℕ → Bool
 is_within low high n = nat_le low n && nat_le n high
 
@@ -21,32 +22,36 @@ abbrev pub is_sound_demand : ℕ → Demand → Bool
 is_sound_demand columns (Column column) = nat_lt column columns
 is_sound_demand columns (Fixed demand) = nat_le demand (2 ^ 36)
 
--- each number is greater than the one before it
+-- each number is greater than the one before it, and the first than this one
 abbrev pub rises_from : ℕ → List ℕ → Bool
 rises_from last [] = true
 rises_from last (n ∷ ns) = nat_lt last n && rises_from n ns
 
+-- each number is greater than the one before it
 abbrev pub rises : List ℕ → Bool
 rises [] = true
 rises (n ∷ ns) = rises_from n ns
 
+-- 2 to 8 outputs, a column that there is, and thresholds that rise and are in their limit
 abbrev pub is_sound_route : ℕ → Route → Bool
 is_sound_route columns (Modulo outputs column) = is_within 2 8 outputs && nat_lt column columns
 is_sound_route columns (Turn outputs) = is_within 2 8 outputs
 is_sound_route columns (Cut column thresholds) =
     nat_lt column columns && is_within 1 7 (length thresholds) && rises thresholds && list_all (λ threshold. nat_le threshold (2 ^ 36)) thresholds
 
+-- the numbers of a kind are in their ranges
 abbrev pub is_sound_kind : ℕ → Kind → Bool
 is_sound_kind columns Source = true
 is_sound_kind columns (Server demand) = is_sound_demand columns demand
 is_sound_kind columns (Split route) = is_sound_route columns route
 
--- how many outputs a kind has
+-- how many outputs a route chooses from
 abbrev pub outputs_by : Route → ℕ
 outputs_by (Modulo outputs column) = outputs
 outputs_by (Turn outputs) = outputs
 outputs_by (Cut column thresholds) = length thresholds + 1
 
+-- how many outputs a kind has
 abbrev pub outputs_in : Kind → ℕ
 outputs_in (Split route) = outputs_by route
 outputs_in _ = 1
@@ -61,6 +66,7 @@ abbrev pub is_sound_count : Kind → ℕ → Bool
 is_sound_count Source inputs = inputs == 0
 is_sound_count _ inputs = is_within 1 8 inputs
 
+-- a kind in its ranges, as many ports as it may have, inputs that are outputs of the network, and a name
 abbrev pub is_sound_node : ℕ → List Node → Node → Bool
 is_sound_node columns nodes node =
     is_sound_kind columns node.kind && is_sound_count node.kind (length node.inputs)
@@ -72,19 +78,22 @@ abbrev pub are_distinct : {X : Type 0} → (X → X → Bool) → List X → Boo
 are_distinct same [] = true
 are_distinct same (x ∷ xs) = not (list_any (same x) xs) && are_distinct same xs
 
+-- two inputs read the same output
 abbrev pub same_input : Input → Input → Bool
 same_input i j = (i.node == j.node) && (i.out == j.out)
 
--- the columns that a demand, a route or a kind mentions, in order
+-- the columns that a demand mentions
 abbrev pub columns_of_demand : Demand → List ℕ
 columns_of_demand (Column column) = column ∷ []
 columns_of_demand (Fixed demand) = []
 
+-- the columns that a route mentions
 abbrev pub columns_of_route : Route → List ℕ
 columns_of_route (Modulo outputs column) = column ∷ []
 columns_of_route (Turn outputs) = []
 columns_of_route (Cut column thresholds) = column ∷ []
 
+-- the columns that a kind mentions
 abbrev pub columns_of_kind : Kind → List ℕ
 columns_of_kind Source = []
 columns_of_kind (Server demand) = columns_of_demand demand
@@ -94,9 +103,10 @@ columns_of_kind (Split route) = columns_of_route route
 abbrev pub mentions_from : ℕ → ℕ → List ℕ → Bool
 mentions_from next columns [] = next == columns
 mentions_from next columns (column ∷ more) =
-    (column == next) && mentions_from (suc next) columns more || nat_lt column next && mentions_from next columns more
+    ((column == next) && mentions_from (suc next) columns more) || (nat_lt column next && mentions_from next columns more)
 
--- the limits and ranges of a network
+-- a network in its limits: 1 to 64 nodes, at most 16 columns, a bound of at most 2^60, a source, distinct names,
+-- sound nodes, no output that is read twice, and its columns all mentioned and in order of first mention
 abbrev pub is_sound : Network → Bool
 is_sound net =
     is_within 1 64 (length net.nodes) && nat_le (length net.columns) 16 && nat_le net.bound (2 ^ 60)

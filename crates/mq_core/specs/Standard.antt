@@ -1,4 +1,4 @@
-use Rattle.std.specs.Prelude.{ℕ, ◌+◌, ◌-◌, ◌%◌, nat_le, Bool, true, false, List, [], ◌∷◌, ◌++◌, length, count_by, Option, Some, None, slice_get, slice_index}
+use Rattle.std.specs.Prelude.{ℕ, ◌+◌, ◌-◌, ◌%◌, nat_le, List, [], ◌∷◌, ◌++◌, length, count_by, Option, Some, None, slice_get, slice_index}
 use Rattle.mq_core.specs.Event.{Event}
 use Rattle.mq_core.specs.Event.Event.{Arrive, Finish}
 use Rattle.mq_core.specs.Machine.{Visit, Service, Reaction}
@@ -18,6 +18,7 @@ abbrev pub column_value : Option (List ℕ) → ℕ → ℕ
 column_value None job = 0
 column_value (Some values) job = slice_index values job
 
+-- the value of a job in the column of this number
 abbrev pub value_of : Rows → ℕ → ℕ → ℕ
 value_of rows column job = column_value (slice_get rows.demands column) job
 
@@ -31,16 +32,13 @@ abbrev pub demand_of_visit : Rows → Demand → Option Visit → ℕ
 demand_of_visit rows demand None = 0
 demand_of_visit rows demand (Some visit) = demand_of_job rows demand visit.job
 
+-- the demand of the visit at a position
 abbrev pub demand_at : Rows → Demand → List Visit → ℕ → ℕ
 demand_at rows demand visits position = demand_of_visit rows demand (slice_get visits position)
 
 -- the position of the latest visit
 abbrev pub latest : List Visit → ℕ
 latest visits = length visits - 1
-
-abbrev pub job_of_visit : Option Visit → ℕ
-job_of_visit None = 0
-job_of_visit (Some visit) = visit.job
 
 -- nothing happens
 abbrev pub quiet : Local → Reaction Local
@@ -54,6 +52,7 @@ passes_on local out position = record { local = local; releases = record { out =
 abbrev pub begins : Rows → Demand → List Visit → ℕ → ℕ → Service
 begins rows demand visits now position = record { server = 0; position = position; time = now + demand_at rows demand visits position }
 
+-- a source lets each job out as it comes
 abbrev pub source_on : List Visit → Local → Event → Reaction Local
 source_on visits local (Arrive time node port job) = passes_on local 0 (latest visits)
 source_on visits local (Finish time node server position) = quiet local
@@ -74,16 +73,17 @@ route_value rows (Cut column thresholds) job = value_of rows column job
 abbrev pub output_by : Rows → Route → ℕ → ℕ → ℕ
 output_by rows route job position = output_at route (route_value rows route job) position
 
+-- a split lets each job out as it comes, by the output of its route
 abbrev pub split_on : Rows → Route → List Visit → Local → Event → Reaction Local
 split_on rows route visits local (Arrive time node port job) = passes_on local (output_by rows route job (latest visits)) (latest visits)
 split_on rows route visits local (Finish time node server position) = quiet local
 
--- the front of a list begins its service
+-- the front of a queue begins its service
 abbrev pub front_begins : Rows → Demand → List Visit → ℕ → List ℕ → List Service
 front_begins rows demand visits now [] = []
 front_begins rows demand visits now (position ∷ queue) = begins rows demand visits now position ∷ []
 
--- the position joins the list, and begins if it is alone
+-- the position joins the queue, and begins if it is alone
 abbrev pub joins : Rows → Demand → List Visit → Local → ℕ → List ℕ → ℕ → Reaction Local
 joins rows demand visits local now [] position =
     record { local = record local { queue = position ∷ [] }; releases = []; services = begins rows demand visits now position ∷ [] }
@@ -100,6 +100,7 @@ front_leaves rows demand visits local now (front ∷ queue) =
       services = front_begins rows demand visits now queue;
     }
 
+-- a server: an arrival joins the queue, and at a finish the front leaves
 abbrev pub server_on : Rows → Demand → List Visit → Local → ℕ → Event → Reaction Local
 server_on rows demand visits local now (Arrive time node port job) = joins rows demand visits local now local.queue (latest visits)
 server_on rows demand visits local now (Finish time node server position) = front_leaves rows demand visits local now local.queue
@@ -119,10 +120,7 @@ abbrev pub jobs_in : Kind → List Visit → Local → ℕ
 jobs_in (Server demand) visits local = length local.queue
 jobs_in _ visits local = 0
 
-abbrev pub is_busy : List ℕ → Bool
-is_busy [] = false
-is_busy (front ∷ queue) = true
-
+-- 1 where the queue holds a job
 abbrev pub one_if_some : List ℕ → ℕ
 one_if_some [] = 0
 one_if_some (front ∷ queue) = 1
@@ -137,26 +135,33 @@ abbrev pub node_on : Rows → Option Node → List Visit → Local → ℕ → E
 node_on rows None visits local now event = quiet local
 node_on rows (Some node) visits local now event = kind_on rows node.kind visits local now event
 
+-- the same at a node; where there is none nothing is kept
 abbrev pub node_opening : Option Node → Local
 node_opening None = empty
 node_opening (Some node) = kind_opening node.kind
 
+-- the number of jobs at a node; where there is none 0
 abbrev pub node_jobs : Option Node → List Visit → Local → ℕ
 node_jobs None visits local = 0
 node_jobs (Some node) visits local = jobs_in node.kind visits local
 
+-- the number of working servers at a node; where there is none 0
 abbrev pub node_working : Option Node → Local → ℕ
 node_working None local = 0
 node_working (Some node) local = working_in node.kind local
 
+-- what a node of a plan keeps at the start
 unfoldable pub standard_opening : Plan → ℕ → Local
 standard_opening plan node = node_opening (slice_get plan.net.nodes node)
 
+-- what a node of a plan does at an event
 unfoldable pub standard_handle : Plan → Rows → ℕ → List Visit → Local → ℕ → Event → Reaction Local
 standard_handle plan rows node visits local now event = node_on rows (slice_get plan.net.nodes node) visits local now event
 
+-- the number of jobs in a node of a plan
 unfoldable pub standard_jobs : Plan → Rows → ℕ → List Visit → Local → ℕ
 standard_jobs plan rows node visits local = node_jobs (slice_get plan.net.nodes node) visits local
 
+-- the number of working servers of a node of a plan
 unfoldable pub standard_working : Plan → Rows → ℕ → List Visit → Local → ℕ
 standard_working plan rows node visits local = node_working (slice_get plan.net.nodes node) local

@@ -1,4 +1,6 @@
 ghost use Rattle.mq_core.specs.Theorems.{EventsGoForward, ArrivalsAreRead, NodesRunAlone, VisitsAreArrivals};
+ghost use Rattle.mq_core.specs.NetworkRun.{RunsAreOfNetworks};
+ghost use Rattle.mq_core.specs.PlanLaws.{NodesAreInLimits, OrdersRank, RowsTellDemands};
 ghost use Rattle.mq_core.specs.Alone.{ServersServe, SourcesPassOn};
 ghost use Rattle.mq_core.specs.Fates.{AreasAreSojourns, BusyIsServices, FoundsAreCounts, PeakIsGreatest, RunEnds, SpanIsLatest};
 
@@ -62,4 +64,26 @@ pub fn span_is_latest()
 /// The visits of a node are its arrivals.
 pub fn visits_are_arrivals<H: Handlers>()
     ensures { VisitsAreArrivals H.opening H.handle H.jobs H.working }
+{}
+
+/// The run of a plan, and its first departure past the bound, are those of its network.
+pub fn runs_are_of_networks()
+    ensures { RunsAreOfNetworks }
+{}
+
+/// Each node of a plan is in its limits: its numbers, its outputs and servers, at most 8 of each,
+/// and its ports, at most 8, which name outputs of the network.
+pub fn nodes_are_in_limits()
+    ensures { NodesAreInLimits }
+{}
+
+/// The order of a plan has each node once, behind all that it reads.
+pub fn orders_rank()
+    ensures { OrdersRank }
+{}
+
+/// Rows that are read for a network tell what each job asks for: each value is there, and at most
+/// 2^36.
+pub fn rows_tell_demands()
+    ensures { RowsTellDemands }
 {}

@@ -1,90 +1,134 @@
 ghost use Rattle.std.specs.Prelude.{◌≡◌, ℕ, ◌<◌, length, IsTrue};
 ghost use Rattle.mq_core.specs.Sound.{is_sound};
-ghost use Rattle.mq_core.specs.Wiring.{has, ranking, IsReadOnce, SourcesReadNothing};
+ghost use Rattle.mq_core.specs.Wiring.{has, ranking};
 
 use mq_base::List;
 
-/// Where a demand comes from: a column of the trace, or a fixed number.
+/// The service demand of a job, in ticks.
 #[derive(Clone, Copy)]
 pub enum Demand {
+    /// The job's value in this column of the model, from 0.
     Column(u8),
+    /// The same number for each job, at most 2^36.
     Fixed(u64),
 }
 
+/// What a port reads: an output of a node.
 #[derive(Clone, Copy)]
 pub struct Input {
+    /// The node, by order of declaration, from 0.
     pub node: u32,
+    /// Its output, from 0.
     pub out: u8,
 }
 
+/// How a split chooses the output of a job.
 #[derive(Drop)]
 pub enum Route {
+    /// The job's value in a column, modulo the number of outputs, which is 2 to 8.
     Modulo { outputs: u8, column: u8 },
+    /// The job's position modulo the number of outputs, which is 2 to 8: by turns.
     Turn { outputs: u8 },
+    /// How many of 1 to 7 rising thresholds, each at most 2^36, are at most the job's value in a
+    /// column. There is one more output than thresholds.
     Cut { column: u8, thresholds: List<u64> },
 }
 
+/// What a node is.
 #[derive(Drop)]
 pub enum Kind {
+    /// Where jobs come from: one for each of its rows in the trace, at that row's time.
     Source,
+    /// One server with an unlimited queue, first come first served.
     Server(Demand),
+    /// Sends each job on at once, by one of its outputs.
     Split(Route),
 }
 
+/// A node of a network.
 #[derive(Drop)]
 pub struct Node {
+    /// 1 to 32 bytes: a small letter, and then small letters, digits and underscores.
     pub name: List<u8>,
     pub kind: Kind,
+    /// What each port reads, by port: 1 to 8, and none at a source.
     pub inputs: List<Input>,
 }
 
+/// A queueing network, as a model text declares it.
 #[derive(Drop)]
 pub struct Network {
+    /// The nodes in order of declaration.
     pub nodes: List<Node>,
+    /// The names of the columns that the nodes mention, in order of first mention.
     pub columns: List<List<u8>>,
+    /// The latest time, in ticks, at which a job may depart.
     pub bound: u64,
 }
 
+/// A network that is sound and has no cycle, with its nodes in an order of simulation.
+///
+/// The type keeps the limits and ranges of the network: 1 to 64 nodes, of which one is a source, at
+/// most 16 columns, a bound of at most 2^60, distinct names, inputs that name an output of the
+/// network, no output that is read twice, and columns that are all mentioned, in order of first
+/// mention. It also keeps that `order` is the ranking of the nodes and holds them all.
 #[derive(Drop)]
 pub struct Plan {
     pub net: Network,
+    /// The nodes by rank: each behind all that it reads, and of those that may come next always
+    /// the first declared.
     pub order: List<u32>,
     ghost sound: { IsTrue (is_sound net) },
     ghost ranked: { order ≡ ranking net.nodes },
     ghost whole: { (n : ℕ) → n < length net.nodes → IsTrue (has order n) },
-    ghost read_once: { IsReadOnce net.nodes },
-    ghost sources: { SourcesReadNothing net.nodes },
 }
 
+/// The rows of a trace, one item a job, in file order.
+///
+/// Rows that are read for a network have lists of one length, at most 1,048,576.
 #[derive(Drop)]
 pub struct Rows {
+    /// The source node of each job.
     pub source: List<u32>,
+    /// When each job comes, in ticks, at most 2^60. The times may stand in any order.
     pub time: List<u64>,
+    /// For each column of the model the value of each job, at most 2^36.
     pub demands: List<List<u64>>,
 }
 
+/// Jobs that go along a connection, by time: two lists of one length, whose times never fall.
 #[derive(Drop)]
 pub struct Stream {
     pub job: List<u32>,
+    /// When each job passes, in ticks.
     pub time: List<u64>,
 }
 
+/// How a visit ends.
 #[derive(Clone, Copy)]
 pub enum Fate {
+    /// The job leaves the node at this time, in ticks.
     Departs(u64),
+    /// The job found no place and was lost when it came.
     Lost,
 }
 
+/// The visits of jobs to a node: four lists of one length, one item a visit, by position.
 #[derive(Drop)]
 pub struct Visits {
     pub job: List<u32>,
+    /// When each job came, in ticks. The times never fall.
     pub arrive: List<u64>,
+    /// How many jobs were in the node just before each came.
     pub found: List<u32>,
     pub fate: List<Fate>,
 }
 
+/// What a run gives.
 #[derive(Drop)]
 pub struct Run {
+    /// The visits to each node, by order of declaration.
     pub visits: List<Visits>,
+    /// What left each node by each of its outputs, by node and output.
     pub outputs: List<List<Stream>>,
 }

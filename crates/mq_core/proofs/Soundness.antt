@@ -1,0 +1,149 @@
+use Rattle.std.proofs.Common.{◌≡◌, ℕ, zero, suc, Bool, true, false, List, [], ◌∷◌, ◌++◌, length, Option, Some, None, sym, refl, ap, ◌∙◌, subst, eq-eqb, eqb-true, arith}
+use Rattle.std.proofs.lemmas.Bool.{and_parts}
+use Rattle.std.proofs.lemmas.List.Folds.{list_any-append}
+use Rattle.std.specs.Prelude.{◌&&◌, ◌||◌, ◌==◌, not, map, slice_get, IsTrue}
+use Rattle.std.specs.List.{flat_map, list_all, list_any}
+use Rattle.mq_core.specs.Names.{is_name}
+use Rattle.mq_core.specs.Sound.{is_sound, is_sound_count, is_sound_node, is_output, are_distinct, same_input, mentions_from, columns_of_kind}
+use Rattle.mq_core.specs.Wiring.{inputs_of, is_source, is_source_kind, outputs_read, IsReadOnce, SourcesReadNothing}
+use Rattle.mq_core.specs.declared.model.Input.{Input}
+use Rattle.mq_core.specs.declared.model.Kind.{Kind}
+use Rattle.mq_core.specs.declared.model.Kind.TheVariants.{Source, Server, Split}
+use Rattle.mq_core.specs.declared.model.Network.{Network}
+use Rattle.mq_core.specs.declared.model.Node.{Node}
+use Rattle.mq_core.proofs.Pending.{some_inj}
+
+abbrev pair_of : Input → ℕ × ℕ
+pair_of i = (i.node, i.out)
+
+-- the inputs of all nodes, one after another
+abbrev all_inputs : List Node → List Input
+all_inputs nodes = flat_map (λ (node : Node). node.inputs) nodes
+
+-- one of these inputs is this output
+abbrev reads : List Input → ℕ → ℕ → Bool
+reads is u out = list_any (λ (i : Input). (u == i.node) && (out == i.out)) is
+
+first : (a b : Bool) → (a && b) ≡ true → a ≡ true
+first a b h = (and_parts a b h).0
+
+second : (a b : Bool) → (a && b) ≡ true → b ≡ true
+second a b h = (and_parts a b h).1
+
+-- an output that a port reads is among the inputs
+reads-at : (is : List Input) (u out q : ℕ) → slice_get (map pair_of is) q ≡ Some (u, out) → reads is u out ≡ true
+reads-at [] u out q h = absurd cc
+reads-at (i ∷ is) u out zero h =
+    let e = some_inj (pair_of i) (u, out) h in
+    rw (eq-eqb u i.node (sym (ap (λ (x : ℕ × ℕ). x.0) e)), eq-eqb out i.out (sym (ap (λ (x : ℕ × ℕ). x.1) e))) refl
+reads-at (i ∷ is) u out (suc q) h = go ((u == i.node) && (out == i.out)) (reads-at is u out q h)
+  where
+    go : (b : Bool) → reads is u out ≡ true → (b || reads is u out) ≡ true
+    go true e = refl
+    go false e = e
+
+or-left : (a b : Bool) → a ≡ true → (a || b) ≡ true
+or-left true b h = refl
+or-left false b h = absurd cc
+
+or-right : (a b : Bool) → b ≡ true → (a || b) ≡ true
+or-right true b h = refl
+or-right false b h = h
+
+-- an output that a node reads is among the inputs of all
+reads-somewhere : (nodes : List Node) (v q u out : ℕ) → slice_get (inputs_of nodes v) q ≡ Some (u, out) → reads (all_inputs nodes) u out ≡ true
+reads-somewhere [] v q u out h = absurd cc
+reads-somewhere (node ∷ nodes) zero q u out h =
+    list_any-append (λ (i : Input). (u == i.node) && (out == i.out)) node.inputs (all_inputs nodes)
+    ∙ or-left (reads node.inputs u out) (reads (all_inputs nodes) u out) (reads-at node.inputs u out q h)
+reads-somewhere (node ∷ nodes) (suc v) q u out h =
+    list_any-append (λ (i : Input). (u == i.node) && (out == i.out)) node.inputs (all_inputs nodes)
+    ∙ or-right (reads node.inputs u out) (reads (all_inputs nodes) u out) (reads-somewhere nodes v q u out h)
+
+not-both : (b : Bool) → not b ≡ true → b ≡ true → ⊥
+not-both true h k = absurd cc
+not-both false h k = absurd cc
+
+-- of distinct inputs none reads what a later one reads
+distinct-apart : (is js : List Input) (u out q : ℕ) → are_distinct same_input (is ++ js) ≡ true → slice_get (map pair_of is) q ≡ Some (u, out) → reads js u out ≡ true → ⊥
+distinct-apart [] js u out q d h k = absurd cc
+distinct-apart (i ∷ is) js u out zero d h k =
+    let e = some_inj (pair_of i) (u, out) h in
+    let no = first (not (list_any (same_input i) (is ++ js))) (are_distinct same_input (is ++ js)) d in
+    not-both (reads (is ++ js) u out) (subst (λ (x : ℕ × ℕ). not (reads (is ++ js) x.0 x.1) ≡ true) e no)
+    (list_any-append (λ (j : Input). (u == j.node) && (out == j.out)) is js ∙ or-right (reads is u out) (reads js u out) k)
+distinct-apart (i ∷ is) js u out (suc q) d h k =
+    distinct-apart is js u out q (second (not (list_any (same_input i) (is ++ js))) (are_distinct same_input (is ++ js)) d) h k
+
+-- of distinct inputs those of the nodes behind the first are distinct
+distinct-behind : (is js : List Input) → are_distinct same_input (is ++ js) ≡ true → are_distinct same_input js ≡ true
+distinct-behind [] js d = d
+distinct-behind (i ∷ is) js d = distinct-behind is js (second (not (list_any (same_input i) (is ++ js))) (are_distinct same_input (is ++ js)) d)
+
+-- distinct inputs that read one output stand at one place
+distinct-place : (is js : List Input) (u out q r : ℕ) → are_distinct same_input (is ++ js) ≡ true → slice_get (map pair_of is) q ≡ Some (u, out) → slice_get (map pair_of is) r ≡ Some (u, out) → q ≡ r
+distinct-place [] js u out q r d h k = absurd cc
+distinct-place (i ∷ is) js u out zero zero d h k = refl
+distinct-place (i ∷ is) js u out zero (suc r) d h k =
+    absurd (distinct-apart (i ∷ []) (is ++ js) u out 0 d h (list_any-append (λ (j : Input). (u == j.node) && (out == j.out)) is js ∙ or-left (reads is u out) (reads js u out) (reads-at is u out r k)))
+distinct-place (i ∷ is) js u out (suc q) zero d h k =
+    absurd (distinct-apart (i ∷ []) (is ++ js) u out 0 d k (list_any-append (λ (j : Input). (u == j.node) && (out == j.out)) is js ∙ or-left (reads is u out) (reads js u out) (reads-at is u out q h)))
+distinct-place (i ∷ is) js u out (suc q) (suc r) d h k =
+    ap suc (distinct-place is js u out q r (second (not (list_any (same_input i) (is ++ js))) (are_distinct same_input (is ++ js)) d) h k)
+
+distinct-read_once : (nodes : List Node) → are_distinct same_input (all_inputs nodes) ≡ true → IsReadOnce nodes
+distinct-read_once [] d u out v q w r h k = absurd cc
+distinct-read_once (node ∷ nodes) d u out zero q zero r h k = (refl, distinct-place node.inputs (all_inputs nodes) u out q r d h k)
+distinct-read_once (node ∷ nodes) d u out zero q (suc w) r h k = absurd (distinct-apart node.inputs (all_inputs nodes) u out q d h (reads-somewhere nodes w r u out k))
+distinct-read_once (node ∷ nodes) d u out (suc v) q zero r h k = absurd (distinct-apart node.inputs (all_inputs nodes) u out r d k (reads-somewhere nodes v q u out h))
+distinct-read_once (node ∷ nodes) d u out (suc v) q (suc w) r h k =
+    let both = distinct-read_once nodes (distinct-behind node.inputs (all_inputs nodes) d) u out v q w r h k in
+    (ap suc both.0, both.1)
+
+-- the parts of a sound network that its wiring needs
+record Parts (net : Network) : Type 0 where
+  each : list_all (is_sound_node (length net.columns) net.nodes) net.nodes ≡ true
+  distinct : are_distinct same_input (all_inputs net.nodes) ≡ true
+
+parts : (net : Network) → IsTrue (is_sound net) → Parts net
+parts net sound =
+    let a = and_parts _ (mentions_from 0 (length net.columns) (flat_map (λ (node : Node). columns_of_kind node.kind) net.nodes)) sound in
+    let b = and_parts _ (are_distinct same_input (all_inputs net.nodes)) a.0 in
+    let c = and_parts _ (list_all (is_sound_node (length net.columns) net.nodes) net.nodes) b.0 in
+    record { each = c.1; distinct = b.1 }
+
+-- in a sound network no output is read twice
+pub sound-read_once : (net : Network) → IsTrue (is_sound net) → IsReadOnce net.nodes
+sound-read_once net sound = distinct-read_once net.nodes (parts net sound).distinct
+
+-- what holds of each node holds of this one
+node-at : (columns : ℕ) (all nodes : List Node) (v : ℕ) (node : Node) → list_all (is_sound_node columns all) nodes ≡ true → slice_get nodes v ≡ Some node → is_sound_node columns all node ≡ true
+node-at columns all [] v node h e = absurd cc
+node-at columns all (n ∷ nodes) zero node h e = subst (λ m. is_sound_node columns all m ≡ true) (some_inj n node e) (first (is_sound_node columns all n) (list_all (is_sound_node columns all) nodes) h)
+node-at columns all (n ∷ nodes) (suc v) node h e = node-at columns all nodes v node (second (is_sound_node columns all n) (list_all (is_sound_node columns all) nodes) h) e
+
+-- each node of a sound network is sound
+pub sound-node : (net : Network) → IsTrue (is_sound net) → (v : ℕ) (node : Node) → slice_get net.nodes v ≡ Some node → IsTrue (is_sound_node (length net.columns) net.nodes node)
+sound-node net sound v node e = node-at (length net.columns) net.nodes net.nodes v node (parts net sound).each e
+
+none-read : (is : List Input) → (length is == 0) ≡ true → map pair_of is ≡ []
+none-read [] h = refl
+none-read (i ∷ is) h = let e = eqb-true (length (i ∷ is)) 0 h in absurd (omega arith)
+
+-- in a sound network a source reads nothing
+pub sound-sources : (net : Network) → IsTrue (is_sound net) → SourcesReadNothing net.nodes
+sound-sources net sound v h = go (slice_get net.nodes v) refl h
+  where
+    source-reads : (kind : Kind) (is : List Input) → is_source_kind kind ≡ true → is_sound_count kind (length is) ≡ true → map pair_of is ≡ []
+    source-reads Source is s h = none-read is h
+    source-reads (Server demand) is s h = absurd cc
+    source-reads (Split route) is s h = absurd cc
+
+    go : (o : Option Node) → slice_get net.nodes v ≡ o → is_source o ≡ true → outputs_read o ≡ []
+    go None e s = absurd cc
+    go (Some node) e s =
+        let whole = sound-node net sound v node e in
+        let a = and_parts _ (is_name node.name) whole in
+        let b = and_parts _ (list_all (λ (i : Input). is_output (slice_get net.nodes i.node) i.out) node.inputs) a.0 in
+        let c = and_parts _ (is_sound_count node.kind (length node.inputs)) b.0 in
+        source-reads node.kind node.inputs s c.1

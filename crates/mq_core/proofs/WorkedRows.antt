@@ -1,0 +1,260 @@
+-- Small networks worked by hand: each row below says what a run of one gives, and holds by computing the event list.
+use Rattle.std.proofs.Common.{◌≡◌, ℕ, zero, suc, ◌<◌, List, [], ◌∷◌, Some, None, map, refl, arith}
+use Rattle.std.specs.Prelude.{IsTrue, codes}
+use Rattle.mq_core.specs.Columns.{column_exit, column_span, column_stream, column_totals, column_visits, visits_by_node}
+use Rattle.mq_core.specs.Event.{earliest, is_below, place_of, sooner_of}
+use Rattle.mq_core.specs.Local.{Local}
+use Rattle.mq_core.specs.Machine.{Emission, State, Visit, after, step}
+use Rattle.mq_core.specs.NetworkRun.{past_in, run_in}
+use Rattle.mq_core.specs.Results.{exit_of, past_of, stream_from, totals_of}
+use Rattle.mq_core.specs.Sound.{is_sound}
+use Rattle.mq_core.specs.Standard.{output_at, standard_handle, standard_jobs, standard_opening, standard_working}
+use Rattle.mq_core.specs.Wiring.{first_ready, has, port_reading, rank_in, ranked_after, ranking, reader_from}
+use Rattle.mq_core.specs.declared.model.Demand.TheVariants.{Column, Fixed}
+use Rattle.mq_core.specs.declared.model.Fate.TheVariants.{Departs}
+use Rattle.mq_core.specs.declared.model.Input.{Input}
+use Rattle.mq_core.specs.declared.model.Kind.{Kind}
+use Rattle.mq_core.specs.declared.model.Kind.TheVariants.{Server, Source, Split}
+use Rattle.mq_core.specs.declared.model.Network.{Network}
+use Rattle.mq_core.specs.declared.model.Node.{Node}
+use Rattle.mq_core.specs.declared.model.Plan.{Plan}
+use Rattle.mq_core.specs.declared.model.Route.TheVariants.{Cut, Modulo, Turn}
+use Rattle.mq_core.specs.declared.model.Rows.{Rows}
+use Rattle.mq_core.specs.declared.model.Stream.{Stream}
+use Rattle.mq_core.specs.declared.model.Visits.{Visits}
+
+abbrev node_of : List ℕ → Kind → List Input → Node
+node_of name kind inputs = record { name = name; kind = kind; inputs = inputs }
+
+-- the first output of a node
+abbrev from : ℕ → Input
+from node = record { node = node; out = 0 }
+
+abbrev net_of : List (List ℕ) → ℕ → List Node → Network
+net_of columns bound nodes = record { nodes = nodes; columns = columns; bound = bound }
+
+abbrev rows_of : List ℕ → List ℕ → List (List ℕ) → Rows
+rows_of sources times demands = record { source = sources; time = times; demands = demands }
+
+-- what a row tells of a node: who left it, by which output and when, what each visit found, and the tallies
+record Seen : Type 0 where
+  left : List (ℕ × ℕ × ℕ)
+  found : List ℕ
+  area : ℕ
+  busy : ℕ
+  peak : ℕ
+
+abbrev seen : State Local → ℕ → Seen
+seen end v =
+    record {
+      left = map {B = ℕ × ℕ × ℕ} (λ (m : Emission). (m.job, m.out, m.time)) (end.stations v).emitted;
+      found = map (λ (x : Visit). x.found) (end.stations v).visits;
+      area = (end.stations v).area;
+      busy = (end.stations v).busy;
+      peak = (end.stations v).peak;
+    }
+
+-- a run that ended at this time: nothing is pending
+abbrev EndsAt : State Local → ℕ → Type 0
+EndsAt end span = (end.clock ≡ span) × (end.pending ≡ [])
+
+-- one source and one server
+abbrev desk_net : ℕ → Network
+desk_net bound = net_of (codes "d" ∷ []) bound (node_of (codes "src") Source [] ∷ node_of (codes "desk") (Server (Column 0)) (from 0 ∷ []) ∷ [])
+
+desk-sound : (IsTrue (is_sound (desk_net 7))) × (IsTrue (is_sound (desk_net (1152921504606846976))))
+desk-sound = (refl, refl)
+
+-- No rows.
+abbrev no_rows : Rows
+no_rows = rows_of [] [] ([] ∷ [])
+
+empty-row : EndsAt (run_in (desk_net 7) no_rows) 0 × (seen (run_in (desk_net 7) no_rows) 1 ≡ record { left = []; found = []; area = 0; busy = 0; peak = 0 })
+unfolding after step earliest sooner_of is_below place_of rank_in reader_from port_reading ranked_after first_ready
+empty-row = ((refl, refl), refl)
+
+-- Three rows, of which two wait.
+abbrev three : Rows
+three = rows_of (0 ∷ 0 ∷ 0 ∷ []) (0 ∷ 1 ∷ 2 ∷ []) ((4 ∷ 1 ∷ 3 ∷ []) ∷ [])
+
+abbrev desk_run : State Local
+desk_run = run_in (desk_net 100) three
+
+ordinary-row : EndsAt desk_run 8
+    × (seen desk_run 0 ≡ record { left = (0, 0, 0) ∷ (1, 0, 1) ∷ (2, 0, 2) ∷ []; found = 0 ∷ 0 ∷ 0 ∷ []; area = 0; busy = 0; peak = 0 })
+    × (seen desk_run 1 ≡ record { left = (0, 0, 4) ∷ (1, 0, 5) ∷ (2, 0, 8) ∷ []; found = 0 ∷ 1 ∷ 2 ∷ []; area = 14; busy = 8; peak = 3 })
+unfolding after step earliest sooner_of is_below place_of rank_in reader_from port_reading ranked_after first_ready
+ordinary-row = ((refl, refl), refl, refl)
+
+ordinary-totals : totals_of three (Server (Column 0)) (desk_run.stations 1) ≡ record { came = 3; left = 3; lost = 0; wait = 6; longest = 3; busy = 8; area = 14; peak = 3 }
+unfolding after step earliest sooner_of is_below place_of rank_in reader_from port_reading ranked_after first_ready
+ordinary-totals = refl
+
+ordinary-exit : exit_of three (desk_run.stations 1) 0 ≡ (3, 14)
+unfolding after step earliest sooner_of is_below place_of rank_in reader_from port_reading ranked_after first_ready
+ordinary-exit = refl
+
+-- the same in columns
+abbrev desk_visits : Visits
+desk_visits =
+    record { job = 0 ∷ 1 ∷ 2 ∷ []; arrive = 0 ∷ 1 ∷ 2 ∷ []; found = 0 ∷ 1 ∷ 2 ∷ []; fate = Departs 4 ∷ Departs 5 ∷ Departs 8 ∷ [] }
+
+abbrev source_visits : Visits
+source_visits =
+    record { job = 0 ∷ 1 ∷ 2 ∷ []; arrive = 0 ∷ 1 ∷ 2 ∷ []; found = 0 ∷ 0 ∷ 0 ∷ []; fate = Departs 0 ∷ Departs 1 ∷ Departs 2 ∷ [] }
+
+abbrev desk_stream : Stream
+desk_stream = record { job = 0 ∷ 1 ∷ 2 ∷ []; time = 4 ∷ 5 ∷ 8 ∷ [] }
+
+ordinary-visits : (visits_by_node desk_run 0 (desk_net 100).nodes ≡ source_visits ∷ desk_visits ∷ []) × (stream_from (desk_run.stations 1) 0 ≡ desk_stream)
+unfolding after step earliest sooner_of is_below place_of rank_in reader_from port_reading ranked_after first_ready
+ordinary-visits = (refl, refl)
+
+ordinary-columns : (column_visits three (Server (Column 0)) (0 ∷ 1 ∷ 2 ∷ []) (0 ∷ 1 ∷ 2 ∷ []) ≡ desk_visits)
+    × (column_visits three Source (0 ∷ 1 ∷ 2 ∷ []) (0 ∷ 1 ∷ 2 ∷ []) ≡ source_visits)
+    × (column_stream three (Server (Column 0)) (0 ∷ 1 ∷ 2 ∷ []) (0 ∷ 1 ∷ 2 ∷ []) 0 ≡ desk_stream)
+    × (column_totals three (Server (Column 0)) desk_visits ≡ record { came = 3; left = 3; lost = 0; wait = 6; longest = 3; busy = 8; area = 14; peak = 3 })
+    × (column_totals three Source source_visits ≡ record { came = 3; left = 3; lost = 0; wait = 0; longest = 0; busy = 0; area = 0; peak = 0 })
+    × (column_exit three desk_stream ≡ (3, 14)) × (column_span (source_visits ∷ desk_visits ∷ []) ≡ 8)
+ordinary-columns = (refl, refl, refl, refl, refl, refl, refl)
+
+-- The same rows in reverse: they go by time, and each keeps its number.
+abbrev reversed : Rows
+reversed = rows_of (0 ∷ 0 ∷ 0 ∷ []) (2 ∷ 1 ∷ 0 ∷ []) ((3 ∷ 1 ∷ 4 ∷ []) ∷ [])
+
+reversed-row : seen (run_in (desk_net 100) reversed) 1 ≡ record { left = (2, 0, 4) ∷ (1, 0, 5) ∷ (0, 0, 8) ∷ []; found = 0 ∷ 1 ∷ 2 ∷ []; area = 14; busy = 8; peak = 3 }
+unfolding after step earliest sooner_of is_below place_of rank_in reader_from port_reading ranked_after first_ready
+reversed-row = refl
+
+-- Two sources at one time: the server reads b before a, so b's job is the first.
+abbrev tie_net : Network
+tie_net =
+    net_of (codes "d" ∷ []) 100
+    (node_of (codes "a") Source [] ∷ node_of (codes "b") Source [] ∷ node_of (codes "q") (Server (Column 0)) (from 1 ∷ from 0 ∷ []) ∷ [])
+
+abbrev tie_rows : Rows
+tie_rows = rows_of (0 ∷ 1 ∷ []) (5 ∷ 5 ∷ []) ((2 ∷ 3 ∷ []) ∷ [])
+
+tie-row : IsTrue (is_sound tie_net) × EndsAt (run_in tie_net tie_rows) 10
+    × (seen (run_in tie_net tie_rows) 2 ≡ record { left = (1, 0, 8) ∷ (0, 0, 10) ∷ []; found = 0 ∷ 1 ∷ []; area = 8; busy = 5; peak = 2 })
+    × (totals_of tie_rows (Server (Column 0)) ((run_in tie_net tie_rows).stations 2) ≡ record { came = 2; left = 2; lost = 0; wait = 3; longest = 3; busy = 5; area = 8; peak = 2 })
+unfolding after step earliest sooner_of is_below place_of rank_in reader_from port_reading ranked_after first_ready
+tie-row = (refl, (refl, refl), refl, refl)
+
+-- Two arrivals at one time with no demand: the first has left when the second comes.
+abbrev no_demand : Rows
+no_demand = rows_of (0 ∷ 0 ∷ []) (3 ∷ 3 ∷ []) ((0 ∷ 0 ∷ []) ∷ [])
+
+finish-first-row : EndsAt (run_in (desk_net 100) no_demand) 3
+    × (seen (run_in (desk_net 100) no_demand) 1 ≡ record { left = (0, 0, 3) ∷ (1, 0, 3) ∷ []; found = 0 ∷ 0 ∷ []; area = 0; busy = 0; peak = 1 })
+unfolding after step earliest sooner_of is_below place_of rank_in reader_from port_reading ranked_after first_ready
+finish-first-row = ((refl, refl), refl)
+
+-- The third departure passes the bound.
+past-row : past_in (desk_net 7) three ≡ Some (record { node = 1; position = 2; time = 8 })
+unfolding after step earliest sooner_of is_below place_of rank_in reader_from port_reading ranked_after first_ready
+past-row = refl
+
+-- a departure at the bound doesn't pass it
+at-bound-row : past_in (desk_net 8) three ≡ None
+unfolding after step earliest sooner_of is_below place_of rank_in reader_from port_reading ranked_after first_ready
+at-bound-row = refl
+
+-- a row later than the bound passes it at its source
+past-source-row : past_in (desk_net 1) three ≡ Some (record { node = 0; position = 2; time = 2 })
+unfolding after step earliest sooner_of is_below place_of rank_in reader_from port_reading ranked_after first_ready
+past-source-row = refl
+
+-- Two departures pass the bound: that of the lower rank is named, though it is the smaller.
+abbrev two_desks : Network
+two_desks =
+    net_of [] 5
+    (node_of (codes "a") Source [] ∷ node_of (codes "b") Source [] ∷ node_of (codes "qb") (Server (Fixed 7)) (from 1 ∷ [])
+    ∷ node_of (codes "qa") (Server (Fixed 9)) (from 0 ∷ []) ∷ [])
+
+two-past-row : IsTrue (is_sound two_desks) × (past_in two_desks (rows_of (0 ∷ 1 ∷ []) (0 ∷ 0 ∷ []) []) ≡ Some (record { node = 2; position = 0; time = 7 }))
+unfolding after step earliest sooner_of is_below place_of rank_in reader_from port_reading ranked_after first_ready
+two-past-row = (refl, refl)
+
+-- A split by two thresholds.
+abbrev cut_net : Network
+cut_net = net_of (codes "k" ∷ []) 100 (node_of (codes "src") Source [] ∷ node_of (codes "p") (Split (Cut 0 (10 ∷ 20 ∷ []))) (from 0 ∷ []) ∷ [])
+
+abbrev cut_rows : Rows
+cut_rows = rows_of (0 ∷ 0 ∷ 0 ∷ []) (0 ∷ 1 ∷ 2 ∷ []) ((9 ∷ 10 ∷ 20 ∷ []) ∷ [])
+
+abbrev cut_end : State Local
+cut_end = run_in cut_net cut_rows
+
+cut-row : IsTrue (is_sound cut_net) × EndsAt cut_end 2
+    × (seen cut_end 1 ≡ record { left = (0, 0, 0) ∷ (1, 1, 1) ∷ (2, 2, 2) ∷ []; found = 0 ∷ 0 ∷ 0 ∷ []; area = 0; busy = 0; peak = 0 })
+    × (map {B = ℕ × ℕ} (exit_of cut_rows (cut_end.stations 1)) (0 ∷ 1 ∷ 2 ∷ []) ≡ (1, 0) ∷ (1, 0) ∷ (1, 0) ∷ [])
+    × (column_stream cut_rows (Split (Cut 0 (10 ∷ 20 ∷ []))) (0 ∷ 1 ∷ 2 ∷ []) (0 ∷ 1 ∷ 2 ∷ []) 2 ≡ record { job = 2 ∷ []; time = 2 ∷ [] })
+unfolding after step earliest sooner_of is_below place_of rank_in reader_from port_reading ranked_after first_ready
+cut-row = (refl, (refl, refl), refl, refl, refl)
+
+-- the three routes
+routes-row : (map (λ value. output_at (Modulo 3 0) value 0) (6 ∷ 7 ∷ 8 ∷ []) ≡ 0 ∷ 1 ∷ 2 ∷ [])
+    × (map (output_at (Turn 2) 0) (0 ∷ 1 ∷ 2 ∷ []) ≡ 0 ∷ 1 ∷ 0 ∷ [])
+    × (map (λ value. output_at (Cut 0 (10 ∷ 20 ∷ [])) value 0) (9 ∷ 10 ∷ 20 ∷ []) ≡ 0 ∷ 1 ∷ 2 ∷ [])
+routes-row = (refl, refl, refl)
+
+-- Sources alone: the span is the time of the latest row.
+abbrev sources_net : Network
+sources_net = net_of [] 100 (node_of (codes "a") Source [] ∷ node_of (codes "b") Source [] ∷ [])
+
+abbrev sources_rows : Rows
+sources_rows = rows_of (0 ∷ 1 ∷ 0 ∷ 1 ∷ []) (0 ∷ 9 ∷ 4 ∷ 2 ∷ []) []
+
+sources-row : IsTrue (is_sound sources_net) × EndsAt (run_in sources_net sources_rows) 9
+    × (seen (run_in sources_net sources_rows) 0 ≡ record { left = (0, 0, 0) ∷ (2, 0, 4) ∷ []; found = 0 ∷ 0 ∷ []; area = 0; busy = 0; peak = 0 })
+    × (seen (run_in sources_net sources_rows) 1 ≡ record { left = (3, 0, 2) ∷ (1, 0, 9) ∷ []; found = 0 ∷ 0 ∷ []; area = 0; busy = 0; peak = 0 })
+    × (exit_of sources_rows ((run_in sources_net sources_rows).stations 1) 0 ≡ (2, 0))
+unfolding after step earliest sooner_of is_below place_of rank_in reader_from port_reading ranked_after first_ready
+sources-row = (refl, (refl, refl), refl, refl, refl)
+
+-- A server that is declared before its source is ranked behind it.
+abbrev backward_net : Network
+backward_net = net_of [] 100 (node_of (codes "q") (Server (Fixed 1)) (from 1 ∷ []) ∷ node_of (codes "s") Source [] ∷ [])
+
+backward-row : IsTrue (is_sound backward_net) × (ranking backward_net.nodes ≡ 1 ∷ 0 ∷ [])
+    × (seen (run_in backward_net (rows_of (1 ∷ 1 ∷ []) (4 ∷ 4 ∷ []) [])) 0 ≡ record { left = (0, 0, 5) ∷ (1, 0, 6) ∷ []; found = 0 ∷ 1 ∷ []; area = 3; busy = 2; peak = 2 })
+unfolding after step earliest sooner_of is_below place_of rank_in reader_from port_reading ranked_after first_ready
+backward-row = (refl, refl, refl)
+
+-- A ring is never ranked: its nodes are left out.
+ring-row : ranking (node_of (codes "s") Source [] ∷ node_of (codes "a") (Server (Fixed 1)) (from 0 ∷ from 2 ∷ []) ∷ node_of (codes "b") (Server (Fixed 1)) (from 1 ∷ []) ∷ []) ≡ 0 ∷ []
+unfolding ranked_after first_ready
+ring-row = refl
+
+-- Two servers in series.
+abbrev chain_net : Network
+chain_net =
+    net_of [] 100
+    (node_of (codes "src") Source [] ∷ node_of (codes "first") (Server (Fixed 2)) (from 0 ∷ []) ∷ node_of (codes "second") (Server (Fixed 3)) (from 1 ∷ []) ∷ [])
+
+abbrev chain_end : State Local
+chain_end = run_in chain_net (rows_of (0 ∷ 0 ∷ []) (0 ∷ 1 ∷ []) [])
+
+chain-row : IsTrue (is_sound chain_net) × EndsAt chain_end 8
+    × (seen chain_end 1 ≡ record { left = (0, 0, 2) ∷ (1, 0, 4) ∷ []; found = 0 ∷ 1 ∷ []; area = 5; busy = 4; peak = 2 })
+    × (seen chain_end 2 ≡ record { left = (0, 0, 5) ∷ (1, 0, 8) ∷ []; found = 0 ∷ 1 ∷ []; area = 7; busy = 6; peak = 2 })
+unfolding after step earliest sooner_of is_below place_of rank_in reader_from port_reading ranked_after first_ready
+chain-row = (refl, (refl, refl), refl, refl)
+
+-- A plan of the first network, whose run is computed as that of the network is.
+desk-whole : (n : ℕ) → n < 2 → IsTrue (has (0 ∷ 1 ∷ []) n)
+desk-whole zero h = refl
+desk-whole (suc zero) h = refl
+desk-whole (suc (suc n)) h = absurd (omega arith)
+
+desk-ranked : 0 ∷ 1 ∷ [] ≡ ranking (desk_net 7).nodes
+unfolding ranked_after first_ready
+desk-ranked = refl
+
+abbrev desk_plan : Plan
+desk_plan = record { net = desk_net 7; order = 0 ∷ 1 ∷ []; sound = refl; ranked = desk-ranked; whole = desk-whole }
+
+plan-row : past_of desk_plan three ≡ Some (record { node = 1; position = 2; time = 8 })
+unfolding after step earliest sooner_of is_below place_of standard_opening standard_handle standard_jobs standard_working rank_in reader_from port_reading
+plan-row = refl

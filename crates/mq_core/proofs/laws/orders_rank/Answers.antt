@@ -1,0 +1,5 @@
+use Rattle.mq_core.proofs.Plans.{orders-rank}
+use Rattle.mq_core.proofs.laws.orders_rank.Goals as goal
+
+pub returns : goal.returns
+returns c = orders-rank

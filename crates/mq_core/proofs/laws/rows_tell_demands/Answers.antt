@@ -1,0 +1,5 @@
+use Rattle.mq_core.proofs.Plans.{rows-tell-demands}
+use Rattle.mq_core.proofs.laws.rows_tell_demands.Goals as goal
+
+pub returns : goal.returns
+returns c = rows-tell-demands

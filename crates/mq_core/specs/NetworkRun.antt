@@ -1,0 +1,39 @@
+-- The run of a network over rows, for whoever has a network and no plan.
+use Rattle.std.specs.Prelude.{◌≡◌, ◌*◌, length, slice_get, Option}
+use Rattle.std.specs.List.{flat_map}
+use Rattle.mq_core.specs.Machine.{Table, State, after, opened}
+use Rattle.mq_core.specs.Local.{Local}
+use Rattle.mq_core.specs.Results.{Late, first_of, late_at, past_of}
+use Rattle.mq_core.specs.Run.{starts}
+use Rattle.mq_core.specs.Standard.{node_on, node_opening, node_jobs, node_working}
+use Rattle.mq_core.specs.StandardTable.{run_of}
+use Rattle.mq_core.specs.Wiring.{ranking, rank_in, reader_from}
+use Rattle.mq_core.specs.declared.model.Network.{Network}
+use Rattle.mq_core.specs.declared.model.Plan.{Plan}
+use Rattle.mq_core.specs.declared.model.Rows.{Rows}
+
+-- the handlers of the kinds, over the nodes, the wiring and the ranking of a network
+abbrev pub network_table : Network → Rows → Table Local
+network_table net rows =
+    record {
+      opening = λ v. node_opening (slice_get net.nodes v);
+      handle = λ v visits local now event. node_on rows (slice_get net.nodes v) visits local now event;
+      jobs = λ v visits local. node_jobs (slice_get net.nodes v) visits local;
+      working = λ v visits local. node_working (slice_get net.nodes v) local;
+      reader = reader_from 0 net.nodes;
+      rank = rank_in (ranking net.nodes);
+    }
+
+-- the state after 9 steps for each node and row: enough that nothing is pending
+abbrev pub run_in : Network → Rows → State Local
+run_in net rows = after (9 * length net.nodes * length rows.time) (network_table net rows) (opened (network_table net rows) (starts rows))
+
+-- the first departure after the bound, by rank of the node and then position
+abbrev pub past_in : Network → Rows → Option Late
+past_in net rows =
+    first_of (flat_map (λ v. late_at net.bound v (slice_get net.nodes v) ((run_in net rows).stations v)) (ranking net.nodes))
+
+-- the run of a plan is that of its network, and so is its first departure after the bound
+abbrev pub RunsAreOfNetworks : Type 0
+RunsAreOfNetworks =
+    (plan : Plan) (rows : Rows) → (run_of plan rows ≡ run_in plan.net rows) × (past_of plan rows ≡ past_in plan.net rows)

@@ -1,0 +1,54 @@
+-- What the type of a plan, and rows that are read for a network, give to whoever goes over them.
+use Rattle.std.specs.Prelude.{◌≡◌, ◌≤◌, ◌<◌, ◌^◌, ℕ, false, IsTrue, List, length, take, Some, slice_get}
+use Rattle.mq_core.specs.Asked.{HasDemand, HasDemands, HasValue}
+use Rattle.mq_core.specs.Results.{servers_in}
+use Rattle.mq_core.specs.Sound.{is_sound_demand, is_sound_kind, outputs_in}
+use Rattle.mq_core.specs.Standard.{demand_of_job, value_of}
+use Rattle.mq_core.specs.Theorems.{IsReadFor}
+use Rattle.mq_core.specs.Wiring.{has, inputs_of}
+use Rattle.mq_core.specs.declared.model.Demand.{Demand}
+use Rattle.mq_core.specs.declared.model.Input.{Input}
+use Rattle.mq_core.specs.declared.model.Kind.{Kind}
+use Rattle.mq_core.specs.declared.model.Network.{Network}
+use Rattle.mq_core.specs.declared.model.Node.{Node}
+use Rattle.mq_core.specs.declared.model.Plan.{Plan}
+use Rattle.mq_core.specs.declared.model.Rows.{Rows}
+
+-- an input names a node of the network, and an output that it has
+pub record NamesOutput (net : Network) (input : Input) : Type 0 where
+  pub node : Node
+  pub there : slice_get net.nodes input.node ≡ Some node
+  pub out : input.out < outputs_in node.kind
+
+-- a node in its limits, whose inputs are outputs of the network
+pub record IsInLimits (net : Network) (node : Node) : Type 0 where
+  pub kind : IsTrue (is_sound_kind (length net.columns) node.kind)
+  pub outputs : outputs_in node.kind ≤ 8
+  pub servers : servers_in node.kind ≤ 8
+  pub ports : length node.inputs ≤ 8
+  pub reads : (port : ℕ) (input : Input) → slice_get node.inputs port ≡ Some input → NamesOutput net input
+
+-- each node of a plan is in its limits
+abbrev pub NodesAreInLimits : Type 0
+NodesAreInLimits = (plan : Plan) (v : ℕ) (node : Node) → slice_get plan.net.nodes v ≡ Some node → IsInLimits plan.net node
+
+-- what stands at a rank is a node that doesn't stand before it, while all that it reads do
+pub record IsRankedBehind (nodes : List Node) (before : List ℕ) (v : ℕ) : Type 0 where
+  pub inside : v < length nodes
+  pub once : has before v ≡ false
+  pub reads : (port : ℕ) (i : ℕ × ℕ) → slice_get (inputs_of nodes v) port ≡ Some i → IsTrue (has before i.0)
+
+-- the order of a plan has each node once, behind all that it reads
+abbrev pub OrdersRank : Type 0
+OrdersRank =
+    (plan : Plan) (rank v : ℕ) → slice_get plan.order rank ≡ Some v → IsRankedBehind plan.net.nodes (take rank plan.order) v
+
+-- the rows tell what a job asks for at each node of the network, in its limit
+pub record Tells (net : Network) (rows : Rows) (job : ℕ) : Type 0 where
+  pub value : (column : ℕ) → column < length net.columns → HasValue rows column job × (value_of rows column job ≤ 2 ^ 36)
+  pub demand : (demand : Demand) → IsTrue (is_sound_demand (length net.columns) demand) → HasDemand rows demand job × (demand_of_job rows demand job ≤ 2 ^ 36)
+  pub kind : (kind : Kind) → IsTrue (is_sound_kind (length net.columns) kind) → HasDemands rows kind job
+
+-- rows that are read for a network tell what each of their jobs asks for
+abbrev pub RowsTellDemands : Type 0
+RowsTellDemands = (net : Network) (rows : Rows) → IsReadFor net rows → (job : ℕ) → job < length rows.source → Tells net rows job

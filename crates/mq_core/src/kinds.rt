@@ -1,0 +1,39 @@
+ghost use Rattle.std.specs.Prelude.{◌≡◌, ◌≤◌};
+ghost use Rattle.mq_core.specs.Results.{servers_in};
+ghost use Rattle.mq_core.specs.Sound.{outputs_by, outputs_in};
+
+use crate::model::{Kind, Route};
+
+/// How many outputs a node of this kind has: those that its route chooses from at a split, else 1.
+///
+/// They are at most 8, as every kind of a plan has it.
+pub fn outputs_of(kind: &Kind) -> u8
+    requires { outputs_in kind.now ≤ 8 }
+    ensures { result ≡ outputs_in kind.now }
+{
+    match kind {
+        Kind::Source | Kind::Server(_) => 1,
+        Kind::Split(route) => outputs_of_route(route),
+    }
+}
+
+fn outputs_of_route(route: &Route) -> u8
+    requires { outputs_by route.now ≤ 8 }
+    ensures { result ≡ outputs_by route.now }
+{
+    match route {
+        Route::Modulo { outputs, .. } | Route::Turn { outputs } => *outputs,
+        Route::Cut { thresholds, .. } => thresholds.len() as u8 + 1,
+    }
+}
+
+/// How many servers a node of this kind has, by which its utilisation is reckoned; 0 at a source
+/// or a split, which have none.
+pub fn servers_of(kind: &Kind) -> u8
+    ensures { result ≡ servers_in kind.now }
+{
+    match kind {
+        Kind::Server(_) => 1,
+        Kind::Source | Kind::Split(_) => 0,
+    }
+}
