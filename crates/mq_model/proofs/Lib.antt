@@ -11,3 +11,4 @@ pub mod SoundNetwork
 pub mod SoundText
 pub mod FrontFacts
 pub mod TextFacts
+pub mod InputFacts

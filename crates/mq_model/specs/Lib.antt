@@ -5,5 +5,6 @@ pub mod Said
 pub mod NetworkOf
 pub mod Model
 pub mod Front
+pub mod Placed
 pub mod Examples
 pub mod SaidOf

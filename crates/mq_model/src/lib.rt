@@ -3,8 +3,10 @@
 
 mod fault;
 mod front;
+mod inputs;
 mod laws;
 mod line;
+mod network;
 mod parts;
 mod route;
 mod said;

@@ -18,6 +18,13 @@ pub fn copied(alloc: Global, bytes: &[u8]) -> Result<List<u8>, AllocError>
     Ok(List::from_vec(bytes.to_vec(alloc)?))
 }
 
+/// A list of these numbers.
+pub fn copied_numbers(alloc: Global, numbers: &[u64]) -> Result<List<u64>, AllocError>
+    ensures { IfOk result (λ v. v ≡ numbers.now) }
+{
+    Ok(List::from_vec(numbers.to_vec(alloc)?))
+}
+
 /// Whether these bytes may stand in a name, behind its first.
 fn all_in_names(bytes: &[u8]) -> bool
     ensures { result ≡ list_all is_name_byte bytes.now }
