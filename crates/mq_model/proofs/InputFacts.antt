@@ -1,5 +1,5 @@
 -- The inputs of lines, one by one.
-use Rattle.std.proofs.Common.{◌≡◌, ◌∙◌, sym, ap, refl, subst, ℕ, zero, suc, ◌+◌, ◌<◌, ◌≤◌, List, [], ◌∷◌, ◌++◌, length, drop, take, map, get_or, Bool, true, false, cond, Option, Some, None, arith, inl, inr, append_assoc, append-nil}
+use Rattle.std.proofs.Common.{◌≡◌, ◌∙◌, sym, ap, refl, subst, ℕ, zero, suc, ◌+◌, ◌-◌, ◌<◌, ◌≤◌, List, [], ◌∷◌, ◌++◌, length, drop, take, map, get_or, Bool, true, false, cond, Option, Some, None, arith, inl, inr, append_assoc, append-nil}
 use Rattle.std.specs.Prelude.{◌||◌, not, slice_get}
 use Rattle.std.specs.List.{flat_map, list_any, enumerate_from}
 use Rattle.std.specs.Option.{MatchOption}
@@ -19,6 +19,7 @@ use Rattle.mq_model.specs.declared.fault.ModelFault.{ModelFault}
 use Rattle.mq_model.specs.declared.fault.ModelFault.TheVariants.{OutputTaken, UnknownInput}
 use Rattle.mq_model.specs.declared.said.SaidInput.{SaidInput}
 use Rattle.mq_model.specs.declared.said.Said.{Said}
+use Rattle.mq_model.specs.declared.said.Said.TheVariants.{Bound, Node}
 
 -- one input
 pub unknown_here : (saids : List Said) (taken : List SaidInput) (n port : ℕ) (input : SaidInput) (reads : List SaidInput) (more : List PlacedInput) → list_any (gives input) saids ≡ false
@@ -116,10 +117,63 @@ lines_fine saids lines taken at h =
 -- what is kept of lines, and the definitions over lines
 pub placed_are : (n : ℕ) (ls : List (List ℕ)) → placed_inputs (numbers_from n ls) (saids_of ls) ≡ flat_map reads_of_line (enumerate_from n ls)
 placed_are n [] = refl
-placed_are n (l ∷ ls) = by_said (said_of l) (placed_are (n + 1) ls)
+placed_are n (l ∷ ls) = by_said (said_of l) (subst (λ m. placed_inputs (numbers_from (suc n) ls) (saids_of ls) ≡ flat_map reads_of_line (enumerate_from m ls)) (sym (add-one n)) (placed_are (suc n) ls))
   where
-    by_said : (o : Option Said) → placed_inputs (numbers_from (n + 1) ls) (saids_of ls) ≡ flat_map reads_of_line (enumerate_from (n + 1) ls)
-        → placed_inputs (elim o [ None ↦ numbers_from (n + 1) ls | Some said ↦ n ∷ numbers_from (n + 1) ls ]) (cons_option o (saids_of ls))
+    by_said : (o : Option Said) → placed_inputs (numbers_from (suc n) ls) (saids_of ls) ≡ flat_map reads_of_line (enumerate_from (n + 1) ls)
+        → placed_inputs (elim o [ None ↦ numbers_from (suc n) ls | Some said ↦ n ∷ numbers_from (suc n) ls ]) (cons_option o (saids_of ls))
         ≡ elim o as (λ _. List PlacedInput) [ None ↦ [] | Some said ↦ map (λ (port, input). (n, port, input)) (enumerate_from 0 (reads_of said)) ] ++ flat_map reads_of_line (enumerate_from (n + 1) ls)
     by_said None h = h
     by_said (Some said) h = ap (λ more. placed_from n 0 (reads_of said) ++ more) h
+
+pub declaring_are : (n : ℕ) (ls : List (List ℕ)) → declaring (numbers_from n ls) (saids_of ls) ≡ flat_map node_line_at (enumerate_from n ls)
+declaring_are n [] = refl
+declaring_are n (l ∷ ls) = by_said (said_of l) (subst (λ m. declaring (numbers_from (suc n) ls) (saids_of ls) ≡ flat_map node_line_at (enumerate_from m ls)) (sym (add-one n)) (declaring_are (suc n) ls))
+  where
+    by_said : (o : Option Said) → declaring (numbers_from (suc n) ls) (saids_of ls) ≡ flat_map node_line_at (enumerate_from (n + 1) ls)
+        → declaring (elim o [ None ↦ numbers_from (suc n) ls | Some said ↦ n ∷ numbers_from (suc n) ls ]) (cons_option o (saids_of ls))
+        ≡ elim o as (λ _. List ℕ) [ None ↦ [] | Some said ↦ map (λ name. n) (declared said) ] ++ flat_map node_line_at (enumerate_from (n + 1) ls)
+    by_said None h = h
+    by_said (Some said) h = ap (λ more. map (λ name. n) (declared said) ++ more) h
+
+pub beside_are : (n : ℕ) (ls : List (List ℕ)) → length (numbers_from n ls) ≡ length (saids_of ls)
+beside_are n [] = refl
+beside_are n (l ∷ ls) = by_said (said_of l) (beside_are (suc n) ls)
+  where
+    by_said : (o : Option Said) → length (numbers_from (suc n) ls) ≡ length (saids_of ls)
+        → length (elim o as (λ _. List ℕ) [ None ↦ numbers_from (suc n) ls | Some said ↦ n ∷ numbers_from (suc n) ls ]) ≡ length (cons_option o (saids_of ls))
+    by_said None h = h
+    by_said (Some said) h = ap suc h
+
+-- the line of a node
+declaring_here : (saids : List Said) (lines : List ℕ) (at n : ℕ) (said : Said) → at < length saids → length lines ≡ length saids → said ≡ get_or saids at said → n ≡ get_or lines at 0
+    → declaring (drop at lines) (drop at saids) ≡ map (λ name. n) (declared said) ++ declaring (drop (at + 1) lines) (drop (at + 1) saids)
+declaring_here saids lines at n said less beside is number =
+    let first = (item_at saids at said less is).0 in
+    let second : drop at lines ≡ n ∷ drop (at + 1) lines = rw (add-one, number) (drop-cons lines at 0 (omega arith)) in
+    rw (first, second) refl
+
+pub line_here : (saids : List Said) (lines : List ℕ) (at n left : ℕ) (said : Said) → at < length saids → length lines ≡ length saids → said ≡ get_or saids at said → n ≡ get_or lines at 0 → length (declared said) ≡ 1
+    → left ≡ 0 → get_or (declaring (drop at lines) (drop at saids)) left 0 ≡ n
+line_here saids lines at n left (Bound b) less beside is number one none = absurd (omega (arith, one))
+line_here saids lines at n left (Node name kind reads) less beside is number one none = rw (declaring_here saids lines at n (Node name kind reads) less beside is number, none) refl
+
+pub line_later : (saids : List Said) (lines : List ℕ) (at n left : ℕ) (said : Said) → at < length saids → length lines ≡ length saids → said ≡ get_or saids at said → n ≡ get_or lines at 0 → length (declared said) ≡ 1
+    → 0 < left → get_or (declaring (drop at lines) (drop at saids)) left 0 ≡ get_or (declaring (drop (at + 1) lines) (drop (at + 1) saids)) (left - 1) 0
+line_later saids lines at n zero said less beside is number one some = absurd (omega arith)
+line_later saids lines at n (suc left) (Bound b) less beside is number one some = absurd (omega (arith, one))
+line_later saids lines at n (suc left) (Node name kind reads) less beside is number one some =
+    let back : suc left - 1 ≡ left = omega arith in
+    rw (declaring_here saids lines at n (Node name kind reads) less beside is number, back) refl
+
+pub line_of_none : (saids : List Said) (lines : List ℕ) (at n left : ℕ) (said : Said) → at < length saids → length lines ≡ length saids → said ≡ get_or saids at said → n ≡ get_or lines at 0 → declared said ≡ []
+    → get_or (declaring (drop at lines) (drop at saids)) left 0 ≡ get_or (declaring (drop (at + 1) lines) (drop (at + 1) saids)) left 0
+line_of_none saids lines at n left said less beside is number none = rw (declaring_here saids lines at n said less beside is number, none) refl
+
+declaring_none : (lines : List ℕ) → declaring lines [] ≡ []
+declaring_none [] = refl
+declaring_none (n ∷ lines) = refl
+
+pub line_past : (saids : List Said) (lines : List ℕ) (at left : ℕ) → length saids ≤ at → get_or (declaring (drop at lines) (drop at saids)) left 0 ≡ 0
+line_past saids lines at left h =
+    let none : drop at saids ≡ [] = grind (arith, common_steps, h) in
+    rw (none, declaring_none (drop at lines)) refl

@@ -1,10 +1,13 @@
 -- What lines say, beside the numbers of the lines.
-use Rattle.std.specs.Prelude.{◌≡◌, ◌+◌, ◌≤◌, ◌∷◌, ◌++◌, [], ℕ, List, length, map, Option, Some, None}
+use Rattle.std.specs.Prelude.{◌≡◌, ◌+◌, ◌≤◌, ◌∷◌, ◌++◌, [], ℕ, List, length, map, Option, Some, None, get_or, option_map}
 use Rattle.std.specs.List.{enumerate_from}
 use Rattle.std.specs.Option.{MatchOption}
+use Rattle.mq_core.specs.declared.model.Node.{Node}
+use Rattle.mq_graph.specs.Rank.{left_node}
 use Rattle.mq_model.specs.Model.{PlacedInput, inputs_fault}
 use Rattle.mq_model.specs.Said.{declared, reads_of}
 use Rattle.mq_model.specs.declared.fault.ModelFault.{ModelFault}
+use Rattle.mq_model.specs.declared.fault.ModelFault.TheVariants.{Cycle}
 use Rattle.mq_model.specs.declared.said.SaidInput.{SaidInput}
 use Rattle.mq_model.specs.declared.said.Said.{Said}
 
@@ -34,3 +37,7 @@ abbrev pub FaultOfReads : Option ModelFault → List Said → List SaidInput →
 FaultOfReads result saids taken n port reads =
     (more : List PlacedInput)
     → MatchOption result (inputs_fault saids taken (placed_from n port reads ++ more) ≡ inputs_fault saids (taken ++ reads) more) (λ e. inputs_fault saids taken (placed_from n port reads ++ more) ≡ Some e)
+
+-- the first node that the ranking leaves, with the line that declares it
+abbrev pub cycle_of : List ℕ → List Said → List Node → Option ModelFault
+cycle_of lines saids nodes = option_map (λ node. Cycle (get_or (declaring lines saids) node 0) node) (left_node nodes)

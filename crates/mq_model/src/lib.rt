@@ -8,6 +8,7 @@ mod laws;
 mod line;
 mod network;
 mod parts;
+mod read;
 mod route;
 mod said;
 mod text;
@@ -15,6 +16,5 @@ mod word;
 
 pub use fault::ModelFault;
 pub use laws::{examples_are_answered, first_bad_word};
-pub use line::{LineFault, read_line};
-pub use parts::Stop;
+pub use read::read_model;
 pub use said::{Said, SaidDemand, SaidInput, SaidKind, SaidRoute};
