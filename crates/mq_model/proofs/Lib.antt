@@ -1,9 +1,13 @@
+pub mod ExampleFacts
 pub mod FormFacts
+pub mod InputsBack
 pub mod LineFacts
 pub mod NamesBack
 pub mod NetworkBack
+pub mod ReadFacts
 pub mod SoundColumns
 pub mod SoundInputs
 pub mod SoundLines
 pub mod SoundNetwork
 pub mod SoundText
+pub mod TextBack

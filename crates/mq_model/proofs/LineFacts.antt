@@ -7,7 +7,7 @@ use Rattle.mq_model.specs.Form.{◌>>=◌, Form, Word, stop, word, maybe, one, u
 use Rattle.mq_model.specs.declared.said.SaidDemand.{SaidDemand}
 use Rattle.mq_model.specs.declared.said.SaidKind.{SaidKind}
 use Rattle.mq_model.specs.declared.said.SaidKind.TheVariants.{Server}
-use Rattle.mq_model.specs.Lines.{key, is_input, input_of, is_up_to, a_name, a_demand, inputs, rising, cut_route, counted_route, split_kind, node_line, line, is_key, is_from_to, greatest_demand, value_of}
+use Rattle.mq_model.specs.Lines.{key, is_input, input_of, is_up_to, a_name, a_demand, inputs, rising, thresholds, a_route, cut_route, counted_route, modulo_route, way_of, split_kind, node_line, line, is_key, is_from_to, greatest_demand, value_of}
 
 live_weak : {A : Type 0} (must : Bool) (f : Form A) → IsLive true f → IsLive must f
 unfolding IsLive
@@ -71,22 +71,36 @@ live_rising (suc n) last =
       | inr full ↦ rw full (live_stop _)
     ]
 
+live_thresholds : IsLive true thresholds
+unfolding thresholds
+live_thresholds = live_then true (one (is_up_to greatest_demand) value_of) _ (live_one _ _ (codes "0") refl) (λ first. live_then true (rising 6 first) _ (live_rising 6 first) (λ more. live_stop _))
+
 live_cut : IsLive true cut_route
 unfolding cut_route
-live_cut = live_then true a_name _ live_name (λ column. live_then true (one (is_up_to greatest_demand) value_of) _ (live_one _ _ (codes "0") refl) (λ first. live_then true (rising 6 first) _ (live_rising 6 first) (λ more. live_stop _)))
+live_cut = live_then true a_name _ live_name (λ column. live_then true thresholds _ live_thresholds (λ cuts. live_stop _))
+
+live_modulo : (outputs : ℕ) → IsLive true (modulo_route outputs)
+unfolding modulo_route
+live_modulo outputs = live_then true a_name _ live_name (λ column. live_stop _)
+
+live_way : (outputs : ℕ) → IsLive true (way_of outputs)
+unfolding way_of
+live_way outputs = live_maybe true _ _ _ (codes "mod") refl (λ _ _. live_modulo outputs) (live_weak false _ (live_behind (codes "turn") _ (λ _. live_stop _)))
 
 live_counted : IsLive true counted_route
 unfolding counted_route
-live_counted = live_then true (one (is_from_to 2 8) value_of) _ (live_one _ _ (codes "2") refl)
-    (λ outputs. live_maybe true _ _ _ (codes "mod") refl (λ _ _. live_then true a_name _ live_name (λ column. live_stop _)) (live_weak false _ (live_behind (codes "turn") _ (λ _. live_stop _))))
+live_counted = live_then true (one (is_from_to 2 8) value_of) _ (live_one _ _ (codes "2") refl) live_way
 
 live_node : (kind : Form SaidKind) → IsLive true kind → IsLive true (node_line kind)
 unfolding node_line
 live_node kind live = live_then true a_name _ live_name (λ name. live_then true kind _ live (λ said. live_then true inputs _ live_inputs (λ reads. live_stop _)))
 
+live_route : IsLive true a_route
+unfolding a_route
+live_route = live_maybe true _ _ _ (codes "cut") refl (λ _ _. live_cut) (live_weak false _ live_counted)
+
 live_split : IsLive true split_kind
-unfolding split_kind
-live_split = live_then true (maybe (is_key (codes "cut")) (λ _. cut_route) counted_route) _ (live_maybe true _ _ _ (codes "cut") refl (λ _ _. live_cut) (live_weak false _ live_counted)) (λ route. live_stop _)
+live_split = live_then true a_route _ live_route (λ route. live_stop _)
 
 live_plain : (k : SaidDemand → SaidKind) → IsLive true (node_line (a_demand >>= λ d. stop (k d)))
 live_plain k = live_node _ (live_then true a_demand _ live_demand (λ d. live_stop _))

@@ -1,5 +1,5 @@
 -- From numbers to names and back.
-use Rattle.std.proofs.Common.{◌≡◌, ◌∙◌, sym, ap, refl, subst, ℕ, zero, suc, ◌+◌, ◌<◌, ◌≤◌, List, [], ◌∷◌, ◌++◌, length, get_or, true, false, arith, inl, inr, append_assoc, length-append}
+use Rattle.std.proofs.Common.{◌≡◌, ◌∙◌, sym, ap, refl, subst, ℕ, zero, suc, ◌+◌, ◌<◌, ◌≤◌, List, [], ◌∷◌, ◌++◌, length, get_or, Bool, true, false, arith, inl, inr, append_assoc, length-append}
 use Rattle.std.specs.Prelude.{map, ◌&&◌, ◌||◌, ◌==◌, nat_lt}
 use Rattle.std.specs.List.{list_any}
 use Rattle.std.specs.Str.{bytes_eq}
@@ -24,15 +24,15 @@ number_again (name ∷ names) (suc n) d distinct h =
     let again = number_again names n d alone.1 below in
     rw other (omega arith)
 
--- the names before a name are other names
-pub others_before : (front : List Word) (name : Word) (back : List Word) → are_distinct bytes_eq (front ++ name ∷ back) ≡ true → is_among front name ≡ false
-others_before [] name back distinct = refl
-others_before (other ∷ front) name back distinct =
+-- the items before one of distinct items are other items
+pub others_before : {X : Type 0} (same : X → X → Bool) (front : List X) (x : X) (back : List X) → are_distinct same (front ++ x ∷ back) ≡ true → list_any (λ y. same y x) front ≡ false
+others_before same [] x back distinct = refl
+others_before same (y ∷ front) x back distinct =
     let alone = and_parts _ _ distinct in
-    let none : (list_any (bytes_eq other) front || list_any (bytes_eq other) (name ∷ back)) ≡ false = sym (list_any-append (bytes_eq other) front (name ∷ back)) ∙ not-true _ alone.0 in
-    let behind : (bytes_eq other name || list_any (bytes_eq other) back) ≡ false = (or_parts _ _ none).1 in
-    let here : bytes_eq other name ≡ false = (or_parts _ _ behind).0 in
-    rw here (others_before front name back alone.1)
+    let none : (list_any (same y) front || list_any (same y) (x ∷ back)) ≡ false = sym (list_any-append (same y) front (x ∷ back)) ∙ not-true _ alone.0 in
+    let behind : (same y x || list_any (same y) back) ≡ false = (or_parts _ _ none).1 in
+    let here : same y x ≡ false = (or_parts _ _ behind).0 in
+    rw here (others_before same front x back alone.1)
 
 -- mentions start within the columns
 pub mentions_within : (next columns : ℕ) (mentions : List ℕ) → mentions_from next columns mentions ≡ true → next ≤ columns
@@ -85,6 +85,6 @@ columns_again front back columns (column ∷ more) is distinct h =
         absurd (omega arith)
     first (name ∷ rest) is here said again =
         let name_so : name_at columns column ≡ name = rw (here, is) (get_behind front name rest []) in
-        let new : is_among front name ≡ false = others_before front name rest (subst (λ cs. are_distinct bytes_eq cs ≡ true) is distinct) in
+        let new : is_among front name ≡ false = others_before bytes_eq front name rest (subst (λ cs. are_distinct bytes_eq cs ≡ true) is distinct) in
         let count : suc (length front) ≡ length (front ++ name ∷ []) = omega arith ∙ sym (length-append front (name ∷ [])) in
         rw (name_so, new) (ap (λ more. name ∷ more) (again name rest is (subst (λ n. mentions_from n (length columns) more ≡ true) count said)))

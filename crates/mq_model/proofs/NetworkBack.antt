@@ -1,11 +1,13 @@
 -- What the lines of a sound network say declares this network again.
 use Rattle.std.proofs.Common.{◌≡◌, ◌∙◌, sym, ap, refl, ℕ, zero, suc, ◌<◌, List, [], ◌∷◌, ◌++◌, length, true, arith}
-use Rattle.std.specs.Prelude.{map, slice_get}
-use Rattle.std.specs.List.{list_all, flat_map}
+use Rattle.std.specs.Prelude.{map, slice_get, nat_le, ◌^◌}
+use Rattle.std.specs.List.{list_all, flat_map, list_any}
 use Rattle.std.specs.Str.{bytes_eq}
 use Rattle.std.proofs.lemmas.Bool.{and_parts, ltb-true}
 use Rattle.std.proofs.lemmas.List.{map-append, length-map}
-use Rattle.mq_core.specs.Sound.{are_distinct, columns_of_kind, is_output, is_sound, is_sound_kind, is_sound_node, mentions_from}
+use Rattle.mq_core.specs.Names.{is_name}
+use Rattle.mq_core.specs.Sound.{are_distinct, columns_of_kind, is_output, is_sound, is_sound_kind, is_sound_node, is_within, mentions_from, same_input}
+use Rattle.mq_core.specs.Wiring.{is_source_kind}
 use Rattle.mq_core.specs.declared.model.Demand.TheVariants as demand
 use Rattle.mq_core.specs.declared.model.Input.{Input}
 use Rattle.mq_core.specs.declared.model.Kind.{Kind}
@@ -19,7 +21,7 @@ use Rattle.mq_model.specs.Said.{columns_of, distinct_after, mentioned, mentions_
 use Rattle.mq_model.specs.SaidOf.{input_by, kind_by, name_at, names_in, node_by, saids_in}
 use Rattle.mq_model.proofs.NamesBack.{columns_again, number_again}
 
-names_said : (names columns : List Word) (nodes : List Node) → names_of (map (node_by names columns) nodes) ≡ map (λ (node : Node). node.name) nodes
+pub names_said : (names columns : List Word) (nodes : List Node) → names_of (map (node_by names columns) nodes) ≡ map (λ (node : Node). node.name) nodes
 names_said names columns [] = refl
 names_said names columns (node ∷ nodes) = ap (λ more. node.name ∷ more) (names_said names columns nodes)
 
@@ -52,7 +54,7 @@ kind_again columns (kind.Split (route.Cut column thresholds)) distinct sound =
     let count = and_parts _ _ rising.0 in
     ap (λ n. kind.Split (route.Cut n thresholds)) (number_again columns column [] distinct (ltb-true _ _ count.0))
 
-output_within : (nodes : List Node) (n out : ℕ) → is_output (slice_get nodes n) out ≡ true → n < length nodes
+pub output_within : (nodes : List Node) (n out : ℕ) → is_output (slice_get nodes n) out ≡ true → n < length nodes
 output_within [] n out h = absurd (cc)
 output_within (node ∷ nodes) zero out h = omega arith
 output_within (node ∷ nodes) (suc n) out h = let below = output_within nodes n out h in omega arith
@@ -78,32 +80,52 @@ nodes_again names columns all (node ∷ nodes) named size distinct h =
     ∙ ap (λ is. record { name = node.name; kind = node.kind; inputs = is } ∷ flat_map (nodes_in names columns) (map (node_by names columns) nodes)) (inputs_again names all node.inputs named size inputs.1)
     ∙ ap (λ more. node ∷ more) (nodes_again names columns all nodes named size distinct both.1)
 
--- The parts of a sound network that are needed here.
-record HasOrder (net : Network) : Type 0 where
-  named : are_distinct bytes_eq (names_in net) ≡ true
-  distinct : are_distinct bytes_eq net.columns ≡ true
-  nodes : list_all (is_sound_node (length net.columns) net.nodes) net.nodes ≡ true
-  mentions : mentions_from 0 (length net.columns) (flat_map (λ (node : Node). columns_of_kind node.kind) net.nodes) ≡ true
+-- The parts of a sound network.
+pub record HasParts (net : Network) : Type 0 where
+  pub size : is_within 1 64 (length net.nodes) ≡ true
+  pub few_columns : nat_le (length net.columns) 16 ≡ true
+  pub bound : nat_le net.bound (2 ^ 60) ≡ true
+  pub source : list_any (λ (node : Node). is_source_kind node.kind) net.nodes ≡ true
+  pub named : are_distinct bytes_eq (names_in net) ≡ true
+  pub column_names : list_all is_name net.columns ≡ true
+  pub distinct : are_distinct bytes_eq net.columns ≡ true
+  pub nodes : list_all (is_sound_node (length net.columns) net.nodes) net.nodes ≡ true
+  pub once : are_distinct same_input (flat_map (λ (node : Node). node.inputs) net.nodes) ≡ true
+  pub mentions : mentions_from 0 (length net.columns) (flat_map (λ (node : Node). columns_of_kind node.kind) net.nodes) ≡ true
 
-has_order : (net : Network) → is_sound net ≡ true → HasOrder net
-has_order net sound =
+pub has_parts : (net : Network) → is_sound net ≡ true → HasParts net
+has_parts net sound =
     let mentions = and_parts _ _ sound in
     let once = and_parts _ _ mentions.0 in
     let nodes = and_parts _ _ once.0 in
     let distinct = and_parts _ _ nodes.0 in
     let column_names = and_parts _ _ distinct.0 in
     let named = and_parts _ _ column_names.0 in
-    record { named = named.1; distinct = distinct.1; nodes = nodes.1; mentions = mentions.1 }
+    let source = and_parts _ _ named.0 in
+    let bound = and_parts _ _ source.0 in
+    let few_columns = and_parts _ _ bound.0 in
+    record {
+      size = few_columns.0;
+      few_columns = few_columns.1;
+      bound = bound.1;
+      source = source.1;
+      named = named.1;
+      column_names = column_names.1;
+      distinct = distinct.1;
+      nodes = nodes.1;
+      once = once.1;
+      mentions = mentions.1;
+    }
 
 -- the network of what a sound network says is this network
 pub network_again : (net : Network) → is_sound net ≡ true → network_of (saids_in net) ≡ net
 network_again net sound =
-    let order = has_order net sound in
+    let parts = has_parts net sound in
     let names : List Word = names_in net in
     let names_are : names_of (saids_in net) ≡ names = names_said names net.columns net.nodes in
     let mentions_are : flat_map mentioned (saids_in net) ≡ map (name_at net.columns) (flat_map (λ (node : Node). columns_of_kind node.kind) net.nodes) = all_mentions_said names net.columns net.nodes in
-    let columns_are : columns_of (saids_in net) ≡ net.columns = ap (distinct_after []) mentions_are ∙ columns_again [] net.columns net.columns _ refl order.distinct order.mentions in
-    let nodes_are : flat_map (nodes_in names net.columns) (saids_in net) ≡ net.nodes = nodes_again names net.columns net.nodes net.nodes order.named (length-map net.nodes _) order.distinct order.nodes in
+    let columns_are : columns_of (saids_in net) ≡ net.columns = ap (distinct_after []) mentions_are ∙ columns_again [] net.columns net.columns _ refl parts.distinct parts.mentions in
+    let nodes_are : flat_map (nodes_in names net.columns) (saids_in net) ≡ net.nodes = nodes_again names net.columns net.nodes net.nodes parts.named (length-map net.nodes _) parts.distinct parts.nodes in
     let by_names : nodes_of (saids_in net) ≡ net.nodes =
     ap (λ all. flat_map (nodes_in all (columns_of (saids_in net))) (saids_in net)) names_are ∙ ap (λ columns. flat_map (nodes_in names columns) (saids_in net)) columns_are ∙ nodes_are in
     ap (λ nodes. record { nodes = nodes; columns = columns_of (saids_in net); bound = net.bound }) by_names ∙ ap (λ columns. record { nodes = net.nodes; columns = columns; bound = net.bound }) columns_are

@@ -20,7 +20,7 @@ use Rattle.mq_model.proofs.SoundColumns.{name_is, bytes_eq_comm, are_distinct_pu
 use Rattle.mq_model.proofs.SoundText.{cond_none}
 
 -- The inputs of the text are those of its lines.
-abbrev input_at : PlacedInput → SaidInput
+abbrev pub input_at : PlacedInput → SaidInput
 input_at read = read.2
 
 numbered : (i n : ℕ) (inputs : List SaidInput) → map input_at (map (λ (port, input). (i, port, input)) (enumerate_from n inputs)) ≡ inputs
@@ -34,7 +34,7 @@ reads_at n (Some said) = map (λ (port, input). (n, port, input)) (enumerate_fro
 reads_here : (n : ℕ) (l : List ℕ) (o : Option Said) → said_of l ≡ o → reads_of_line (n, l) ≡ reads_at n o
 reads_here n l o says = ap (reads_at n) says
 
-reads_from : (n : ℕ) (ls : List (List ℕ)) → map input_at (flat_map reads_of_line (enumerate_from n ls)) ≡ flat_map reads_of (saids_of ls)
+pub reads_from : (n : ℕ) (ls : List (List ℕ)) → map input_at (flat_map reads_of_line (enumerate_from n ls)) ≡ flat_map reads_of (saids_of ls)
 reads_from n [] = refl
 reads_from n (l ∷ ls) = map-append input_at (reads_of_line (n, l)) (flat_map reads_of_line (enumerate_from (n + 1) ls)) ∙ go (said_of l) refl (reads_from (n + 1) ls)
   where
@@ -48,14 +48,14 @@ reads_from n (l ∷ ls) = map-append input_at (reads_of_line (n, l)) (flat_map r
         rw (here, says, later) refl
 
 -- a test fails with its arguments changed round
-list_any_turned : {X : Type 0} (same : X → X → Bool) (y : X) (xs : List X) → ((x : X) → same x y ≡ true → same y x ≡ true) → list_any (same y) xs ≡ false → list_any (λ x. same x y) xs ≡ false
+pub list_any_turned : {X : Type 0} (same : X → X → Bool) (y : X) (xs : List X) → ((x : X) → same x y ≡ true → same y x ≡ true) → list_any (same y) xs ≡ false → list_any (λ x. same x y) xs ≡ false
 list_any_turned same y [] turn h = refl
 list_any_turned same y (x ∷ xs) turn h =
     let (other, others) = or_parts (same y x) (list_any (same y) xs) h in
     let here : same x y ≡ false = false_from_ne_true (same x y) (λ yes. both_ways _ other (turn x yes)) in
     rw here (list_any_turned same y xs turn others)
 
-same_input_turned : (a b : SaidInput) → is_same_input a b ≡ true → is_same_input b a ≡ true
+pub same_input_turned : (a b : SaidInput) → is_same_input a b ≡ true → is_same_input b a ≡ true
 same_input_turned a b h = let both = and_parts _ _ h in and_from _ _ (bytes_eq_comm a.name b.name both.0) (eq-eqb b.out a.out (sym (eqb-true a.out b.out both.1)))
 
 -- Each input names an output that there is, and no two the same.

@@ -6,8 +6,8 @@ use Rattle.std.proofs.lemmas.Bool.{cases_Bool, and_parts, and_from, le-leb}
 use Rattle.mq_core.specs.Names.{is_name}
 use Rattle.mq_core.specs.Sound.{is_within, rises, rises_from}
 use Rattle.mq_model.specs.Form.{◌>>=◌, Form, Word, stop, word, maybe, one, up_to, read, whole}
-use Rattle.mq_model.specs.Number.{is_number}
-use Rattle.mq_model.specs.Lines.{key, is_input, input_of, is_demand, demand_of, is_from_to, is_up_to, a_name, a_demand, inputs, rising, cut_route, counted_route, server_kind, split_kind, node_line, bound_line, source_line, line, is_key, is_above, greatest_demand, value_of}
+use Rattle.mq_base.specs.Text.{is_number}
+use Rattle.mq_model.specs.Lines.{key, is_input, input_of, is_demand, demand_of, is_from_to, is_up_to, a_name, a_demand, inputs, rising, cut_route, counted_route, server_kind, split_kind, a_route, thresholds, way_of, modulo_route, node_line, bound_line, source_line, line, is_key, is_above, greatest_demand, value_of}
 use Rattle.mq_model.specs.declared.said.SaidDemand.{SaidDemand}
 use Rattle.mq_model.specs.declared.said.SaidDemand.TheVariants.{Column, Fixed}
 use Rattle.mq_model.specs.declared.said.SaidRoute.{SaidRoute}
@@ -181,23 +181,32 @@ keeps_rising (suc n) last =
       | inr full ↦ rw full none
     ]
 
+keeps_thresholds : Keeps AreSoundThresholds thresholds
+unfolding thresholds
+keeps_thresholds =
+    keeps_then (λ n. nat_le n (2 ^ 36) ≡ true) AreSoundThresholds (one (is_up_to greatest_demand) value_of) _ (keeps_one _ (is_up_to greatest_demand) value_of (λ w h. number_within w greatest_demand h))
+    (λ first small. keeps_then (AreAbove 6 first) AreSoundThresholds (rising 6 first) _ (keeps_rising 6 first)
+    (λ more are. keeps_stop AreSoundThresholds (first ∷ more)
+    (let few : length more ≤ 6 = are.few in
+    (and_from _ _ (le-leb 1 (length (first ∷ more)) (omega arith)) (le-leb (length (first ∷ more)) 7 (omega arith)), are.rise, and_from _ _ small are.small))))
+
 keeps_cut : Keeps IsSoundRoute cut_route
 unfolding cut_route
 keeps_cut =
     keeps_then (λ name. is_name name ≡ true) IsSoundRoute a_name _ keeps_name
-    (λ column named. keeps_then (λ n. nat_le n (2 ^ 36) ≡ true) IsSoundRoute (one (is_up_to greatest_demand) value_of) _ (keeps_one _ (is_up_to greatest_demand) value_of (λ w h. number_within w greatest_demand h))
-    (λ first small. keeps_then (AreAbove 6 first) IsSoundRoute (rising 6 first) _ (keeps_rising 6 first)
-    (λ more are. keeps_stop IsSoundRoute (Cut column (first ∷ more))
-    (let few : length more ≤ 6 = are.few in
-    (named, (and_from _ _ (le-leb 1 (length (first ∷ more)) (omega arith)) (le-leb (length (first ∷ more)) 7 (omega arith)), are.rise, and_from _ _ small are.small))))))
+    (λ column named. keeps_then AreSoundThresholds IsSoundRoute thresholds _ keeps_thresholds (λ cuts sound. keeps_stop IsSoundRoute (Cut column cuts) (named, sound)))
+
+keeps_way : (outputs : ℕ) → is_within 2 8 outputs ≡ true → Keeps IsSoundRoute (way_of outputs)
+unfolding way_of modulo_route
+keeps_way outputs within =
+    keeps_maybe IsSoundRoute (is_key (codes "mod")) _ _
+    (λ _ _. keeps_then (λ name. is_name name ≡ true) IsSoundRoute a_name _ keeps_name (λ column named. keeps_stop IsSoundRoute (Modulo outputs column) (within, named)))
+    (keeps_then IsAny IsSoundRoute (key (codes "turn")) _ (keeps_key (codes "turn")) (λ _ _. keeps_stop IsSoundRoute (Turn outputs) within))
 
 keeps_counted : Keeps IsSoundRoute counted_route
 unfolding counted_route
 keeps_counted =
-    keeps_then (λ outputs. is_within 2 8 outputs ≡ true) IsSoundRoute (one (is_from_to 2 8) value_of) _ (keeps_one _ (is_from_to 2 8) value_of (λ w h. within_from_to 2 8 w h))
-    (λ outputs within. keeps_maybe IsSoundRoute (is_key (codes "mod")) _ _
-    (λ _ _. keeps_then (λ name. is_name name ≡ true) IsSoundRoute a_name _ keeps_name (λ column named. keeps_stop IsSoundRoute (Modulo outputs column) (within, named)))
-    (keeps_then IsAny IsSoundRoute (key (codes "turn")) _ (keeps_key (codes "turn")) (λ _ _. keeps_stop IsSoundRoute (Turn outputs) within)))
+    keeps_then (λ outputs. is_within 2 8 outputs ≡ true) IsSoundRoute (one (is_from_to 2 8) value_of) way_of (keeps_one _ (is_from_to 2 8) value_of (λ w h. within_from_to 2 8 w h)) keeps_way
 
 -- a kind that reads at 1 to 8 ports
 abbrev ReadsSome : SaidKind → Type 0
@@ -206,11 +215,12 @@ ReadsSome kind = IsSoundKind kind × ((reads : ℕ) → is_within 1 8 reads ≡ 
 keeps_server : Keeps ReadsSome server_kind
 keeps_server = keeps_then IsSoundDemand ReadsSome a_demand _ keeps_demand (λ demand sound. keeps_stop ReadsSome (Server demand) (sound, λ reads h. h))
 
+keeps_route : Keeps IsSoundRoute a_route
+unfolding a_route
+keeps_route = keeps_maybe IsSoundRoute (is_key (codes "cut")) _ _ (λ _ _. keeps_cut) keeps_counted
+
 keeps_split : Keeps ReadsSome split_kind
-unfolding split_kind
-keeps_split =
-    keeps_then IsSoundRoute ReadsSome (maybe (is_key (codes "cut")) (λ _. cut_route) counted_route) _ (keeps_maybe IsSoundRoute (is_key (codes "cut")) _ _ (λ _ _. keeps_cut) keeps_counted)
-    (λ route sound. keeps_stop ReadsSome (Split route) (sound, λ reads h. h))
+keeps_split = keeps_then IsSoundRoute ReadsSome a_route _ keeps_route (λ route sound. keeps_stop ReadsSome (Split route) (sound, λ reads h. h))
 
 keeps_node : (kind : Form SaidKind) → Keeps ReadsSome kind → Keeps IsSoundSaid (node_line kind)
 unfolding node_line

@@ -40,13 +40,13 @@ or_none None y h = (refl, h)
 or_none (Some a) y h = absurd (cc)
 
 -- neither an empty line, nor a comment, nor the head says anything
-skipped_says_nothing : (ws : List Word) (said : Said) → begins_comment ws ≡ true → whole (read line ws) ≡ Ok said → ⊥
+pub skipped_says_nothing : (ws : List Word) (said : Said) → begins_comment ws ≡ true → whole (read line ws) ≡ Ok said → ⊥
 unfolding read line
 skipped_says_nothing [] said h e = cc
 skipped_says_nothing ([] ∷ ws) said h e = cc
 skipped_says_nothing ((b ∷ more) ∷ ws) said h e = let k = rw (eqb-true b 35 h) at e in cc
 
-head_says_nothing : (ws : List Word) (said : Said) → is_head ws ≡ true → whole (read line ws) ≡ Ok said → ⊥
+pub head_says_nothing : (ws : List Word) (said : Said) → is_head ws ≡ true → whole (read line ws) ≡ Ok said → ⊥
 unfolding read line
 head_says_nothing [] said h e = cc
 head_says_nothing (w ∷ []) said h e = cc
@@ -85,7 +85,7 @@ clean_line before l said none says =
     ]
 
 -- what one more line says
-saids_more : (before : List (List ℕ)) (l : List ℕ) → saids_of (before ++ l ∷ []) ≡ saids_of before ++ saids_of (l ∷ [])
+pub saids_more : (before : List (List ℕ)) (l : List ℕ) → saids_of (before ++ l ∷ []) ≡ saids_of before ++ saids_of (l ∷ [])
 saids_more before l = filter_map-append said_of before (l ∷ [])
 
 pub clean_lines : (before ls : List (List ℕ)) → lines_fault before ls ≡ None → AreClean (saids_of before) (saids_of ls)

@@ -1,8 +1,9 @@
-pub mod Number
 pub mod Form
 pub mod Lines
+pub mod Reading
 pub mod Said
 pub mod Left
 pub mod NetworkOf
 pub mod Model
 pub mod SaidOf
+pub mod Examples

@@ -3,7 +3,7 @@ use Rattle.std.specs.Prelude.{◌-◌, ◌^◌, ◌∷◌, ◌||◌, ◌&&◌, �
 use Rattle.std.specs.Str.{bytes_eq}
 use Rattle.std.specs.Str.Parse.{digits_value}
 use Rattle.mq_core.specs.Names.{is_name}
-use Rattle.mq_model.specs.Number.{is_number}
+use Rattle.mq_base.specs.Text.{is_number}
 use Rattle.mq_model.specs.declared.said.SaidDemand.{SaidDemand}
 use Rattle.mq_model.specs.declared.said.SaidDemand.TheVariants.{Column, Fixed}
 use Rattle.mq_model.specs.declared.said.SaidInput.{SaidInput}
@@ -81,26 +81,36 @@ rising zero last = stop []
 rising (suc n) last =
     if nat_lt last greatest_demand then maybe (is_above last) (λ w. rising n (value_of w) >>= λ more. stop (value_of w ∷ more)) (stop []) else stop []
 
+unfoldable pub thresholds : Form (List ℕ)
+thresholds = do
+  first ← one (is_up_to greatest_demand) value_of
+  more ← rising 6 first
+  stop (first ∷ more)
+
 unfoldable pub cut_route : Form SaidRoute
 cut_route = do
   column ← a_name
-  first ← one (is_up_to greatest_demand) value_of
-  more ← rising 6 first
-  stop (Cut column (first ∷ more))
+  cuts ← thresholds
+  stop (Cut column cuts)
+
+unfoldable pub modulo_route : ℕ → Form SaidRoute
+modulo_route outputs = a_name >>= λ column. stop (Modulo outputs column)
+
+unfoldable pub way_of : ℕ → Form SaidRoute
+way_of outputs = maybe (is_key (codes "mod")) (λ _. modulo_route outputs) (key (codes "turn") >>= λ _. stop (Turn outputs))
 
 unfoldable pub counted_route : Form SaidRoute
-counted_route = do
-  outputs ← one (is_from_to 2 8) value_of
-  maybe (is_key (codes "mod")) (λ _. a_name >>= λ column. stop (Modulo outputs column)) (key (codes "turn") >>= λ _. stop (Turn outputs))
+counted_route = one (is_from_to 2 8) value_of >>= way_of
+
+unfoldable pub a_route : Form SaidRoute
+a_route = maybe (is_key (codes "cut")) (λ _. cut_route) counted_route
 
 -- The kinds: what stands between the name and the inputs.
 abbrev pub server_kind : Form SaidKind
 server_kind = a_demand >>= λ demand. stop (Server demand)
 
-unfoldable pub split_kind : Form SaidKind
-split_kind = do
-  route ← maybe (is_key (codes "cut")) (λ _. cut_route) counted_route
-  stop (Split route)
+abbrev pub split_kind : Form SaidKind
+split_kind = a_route >>= λ route. stop (Split route)
 
 unfoldable pub node_line : Form SaidKind → Form Said
 node_line kind = do
