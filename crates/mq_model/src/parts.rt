@@ -119,3 +119,4 @@ pub fn read_inputs(alloc: Global, words: &[&[u8]], at: &mut usize) -> Result<Lis
     }
     Ok(reads)
 }
+
