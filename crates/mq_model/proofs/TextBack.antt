@@ -30,7 +30,7 @@ AreSaid [] (said ∷ saids) = ⊥
 AreSaid (l ∷ ls) [] = ⊥
 AreSaid (l ∷ ls) (said ∷ saids) = Says l said × AreSaid ls saids
 
-says_so : (l : List ℕ) (said : Said) → Says l said → said_of l ≡ Some said
+pub says_so : (l : List ℕ) (said : Said) → Says l said → said_of l ≡ Some said
 says_so l said h = ap (λ (r : Result Said (List Word)). elim r [ Ok said ↦ Some said | Err left ↦ None ]) h.says
 
 pub saids_said : (ls : List (List ℕ)) (saids : List Said) → AreSaid ls saids → saids_of ls ≡ saids
@@ -79,7 +79,7 @@ new_name before saids (Node name kind reads) few =
     let most = few.names in
     (or_from _ _ fresh refl, and_left _ _ (lt-leb 64 (length (names_of before)) (omega arith)))
 
-is_new : (before saids : List Said) (said : Said) → AreFew (before ++ said ∷ saids) → IsNew before said
+pub is_new : (before saids : List Said) (said : Said) → AreFew (before ++ said ∷ saids) → IsNew before said
 is_new before saids said few =
     let name = new_name before saids said few in
     let first : flat_map mentioned (before ++ said ∷ saids) ≡ flat_map mentioned (before ++ said ∷ []) ++ flat_map mentioned saids =
@@ -93,7 +93,7 @@ no_said_fault : (n : ℕ) (before : List Said) (said : Said) → IsNew before sa
 no_said_fault n before said h = rw (h.0, h.1) refl
 
 -- a line behind the head, and no second bound
-no_line_fault : (before : List (List ℕ)) (l : List ℕ) (said : Said) → list_all is_skipped before ≡ false → Says l said → IsNew (saids_of before) said
+pub no_line_fault : (before : List (List ℕ)) (l : List ℕ) (said : Said) → list_all is_skipped before ≡ false → Says l said → IsNew (saids_of before) said
     → (begins_bound (words_of l) && list_any (λ k. begins_bound (words_of k)) before) ≡ false → line_fault before l ≡ None
 unfolding line_fault
 no_line_fault before l said headed says new once =
@@ -105,7 +105,7 @@ no_line_fault before l said headed says new once =
 abbrev pub AreNodes : List Said → Type 0
 AreNodes saids = list_any is_bound saids ≡ false
 
-headed_more : (before : List (List ℕ)) (l : List ℕ) → list_all is_skipped before ≡ false → list_all is_skipped (before ++ l ∷ []) ≡ false
+pub headed_more : (before : List (List ℕ)) (l : List ℕ) → list_all is_skipped before ≡ false → list_all is_skipped (before ++ l ∷ []) ≡ false
 headed_more [] l h = absurd (cc)
 headed_more (k ∷ before) l h =
     elim (and_cases (is_skipped k) (list_all is_skipped before) h) [
@@ -117,7 +117,7 @@ headed_more (k ∷ before) l h =
     and_right_at true b e = e
     and_right_at false b e = refl
 
-no_lines_fault : (before ls : List (List ℕ)) (saids : List Said) → list_all is_skipped before ≡ false → AreSaid ls saids → AreNodes saids → AreFew (saids_of before ++ saids) → lines_fault before ls ≡ None
+pub no_lines_fault : (before ls : List (List ℕ)) (saids : List Said) → list_all is_skipped before ≡ false → AreSaid ls saids → AreNodes saids → AreFew (saids_of before ++ saids) → lines_fault before ls ≡ None
 unfolding lines_fault
 no_lines_fault before [] saids headed said nodes few = rw headed refl
 no_lines_fault before (l ∷ ls) [] headed said nodes few = absurd said
@@ -130,7 +130,7 @@ no_lines_fault before (l ∷ ls) (s ∷ saids) headed said nodes few =
     rw here (no_lines_fault (before ++ l ∷ []) ls saids (headed_more before l headed) said.1 other.1 few_more)
 
 -- A head, a bound and nodes.
-head_first : (head : List ℕ) → list_all is_allowed head ≡ true → is_head (words_of head) ≡ true → line_fault [] head ≡ None
+pub head_first : (head : List ℕ) → list_all is_allowed head ≡ true → is_head (words_of head) ≡ true → line_fault [] head ≡ None
 unfolding line_fault
 head_first head allowed is =
     elim (cases_Bool (is_skipped head)) [

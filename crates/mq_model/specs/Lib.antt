@@ -1,3 +1,4 @@
+pub mod SaidOf
 pub mod Form
 pub mod Lines
 pub mod Reading
@@ -5,5 +6,4 @@ pub mod Said
 pub mod Left
 pub mod NetworkOf
 pub mod Model
-pub mod SaidOf
 pub mod Examples
