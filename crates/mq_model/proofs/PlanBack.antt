@@ -9,7 +9,7 @@ use Rattle.mq_core.specs.Sound.{are_distinct, is_sound}
 use Rattle.mq_core.specs.declared.model.Network.{Network}
 use Rattle.mq_core.specs.declared.model.Node.{Node}
 use Rattle.mq_model.specs.Form.{Word, read, whole}
-use Rattle.mq_model.specs.Left.{left_node}
+use Rattle.mq_graph.specs.Rank.{left_node}
 use Rattle.mq_model.specs.Lines.{line}
 use Rattle.mq_model.specs.Model.{begins_bound, begins_comment, cycle_fault, inputs_fault, is_allowed, is_head, is_skipped, lines_fault, model_fault, reads_of_text, source_fault, text_fault}
 use Rattle.mq_model.specs.NetworkOf.{network_in, network_of, nodes_of, said_of, saids_of, without_mark}

@@ -3,7 +3,7 @@ pub mod Form
 pub mod Lines
 pub mod Reading
 pub mod Said
-pub mod Left
 pub mod NetworkOf
 pub mod Model
 pub mod Examples
+pub mod Front

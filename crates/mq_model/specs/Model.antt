@@ -6,7 +6,7 @@ use Rattle.std.specs.Str.{bytes_eq}
 use Rattle.mq_base.specs.Text.{lines_of, words_of}
 use Rattle.mq_model.specs.NetworkOf.{nodes_of, said_of, saids_of, without_mark}
 use Rattle.mq_model.specs.Form.{Word, read, whole}
-use Rattle.mq_model.specs.Left.{left_node}
+use Rattle.mq_graph.specs.Rank.{left_node}
 use Rattle.mq_model.specs.Lines.{line}
 use Rattle.mq_model.specs.Said.{columns_of, declared, gives, is_among, is_same_input, is_source, names_of, reads_of}
 use Rattle.mq_model.specs.declared.fault.ModelFault.{ModelFault}

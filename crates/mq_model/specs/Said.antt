@@ -52,6 +52,14 @@ distinct_after before (name ∷ more) = if is_among before name then distinct_af
 abbrev pub columns_of : List Said → List Word
 columns_of saids = distinct_after [] (flat_map mentioned saids)
 
+-- columns, and a name behind them where it isn't among them
+abbrev pub added : List Word → Word → List Word
+added columns name = if is_among columns name then columns else columns ++ name ∷ []
+
+abbrev pub columns_after : List Word → List Word → List Word
+columns_after columns [] = columns
+columns_after columns (name ∷ names) = columns_after (added columns name) names
+
 -- the inputs of a line, by port
 abbrev pub reads_of : Said → List SaidInput
 reads_of (Bound n) = []
