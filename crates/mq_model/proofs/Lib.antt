@@ -13,3 +13,4 @@ pub mod LineFacts
 pub mod ExampleFacts
 pub mod ReadFacts
 pub mod TextFacts
+pub mod FrontFacts

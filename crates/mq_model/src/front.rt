@@ -194,6 +194,6 @@ pub fn read_next(alloc: Global, line: &[u8], number: u32, front: &mut Front) -> 
         return Ok(());
     }
     let said = read_words(alloc, words.as_slice(), number, front.has_bound)?;
-    front.has_bound = front.has_bound || begins_bound(words.as_slice());
+    front.has_bound |= begins_bound(words.as_slice());
     add_said(alloc, said, number, front)
 }
