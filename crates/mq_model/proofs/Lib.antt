@@ -2,6 +2,7 @@ pub mod InputsBack
 pub mod NamesBack
 pub mod NetworkBack
 pub mod PlanBack
+pub mod PrintedLines
 pub mod SoundColumns
 pub mod SoundInputs
 pub mod SoundLines

@@ -1,3 +1,4 @@
+pub mod Printed
 pub mod SaidOf
 pub mod Form
 pub mod Lines
