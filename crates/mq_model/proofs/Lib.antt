@@ -3,6 +3,7 @@ pub mod NamesBack
 pub mod NetworkBack
 pub mod PlanBack
 pub mod PrintedLines
+pub mod PrintedNetwork
 pub mod SoundColumns
 pub mod SoundInputs
 pub mod SoundLines
