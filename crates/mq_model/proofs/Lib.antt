@@ -4,6 +4,7 @@ pub mod NetworkBack
 pub mod PlanBack
 pub mod PrintedLines
 pub mod PrintedNetwork
+pub mod PrintedText
 pub mod SoundColumns
 pub mod SoundInputs
 pub mod SoundLines

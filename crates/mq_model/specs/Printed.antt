@@ -1,6 +1,9 @@
--- The words of a line.
-use Rattle.std.specs.Prelude.{◌∷◌, ◌++◌, ◌==◌, [], List, map, if◌then◌else◌, codes, decimal}
+-- The canonical text of a network.
+use Rattle.std.specs.Prelude.{ℕ, ◌∷◌, ◌++◌, ◌==◌, [], List, map, if◌then◌else◌, codes, decimal}
+use Rattle.std.specs.List.{flat_map, join_with_byte}
+use Rattle.mq_core.specs.declared.model.Network.{Network}
 use Rattle.mq_model.specs.Form.{Word}
+use Rattle.mq_model.specs.SaidOf.{saids_in}
 use Rattle.mq_model.specs.declared.said.SaidDemand.{SaidDemand}
 use Rattle.mq_model.specs.declared.said.SaidDemand.TheVariants.{Column, Fixed}
 use Rattle.mq_model.specs.declared.said.SaidInput.{SaidInput}
@@ -36,3 +39,14 @@ node_words name (Split route) reads = codes "split" ∷ name ∷ route_words rou
 abbrev pub said_words : Said → List Word
 said_words (Bound n) = codes "bound" ∷ decimal n ∷ []
 said_words (Node name kind reads) = node_words name kind reads
+
+-- the words with a space between each two, and a line feed
+abbrev pub line_text : List Word → List ℕ
+line_text words = join_with_byte 32 words ++ 10 ∷ []
+
+abbrev pub head_words : List Word
+head_words = codes "model" ∷ codes "1" ∷ []
+
+-- the head, the bound, and the nodes in order of declaration
+abbrev pub printed : Network → List ℕ
+printed net = flat_map line_text (head_words ∷ map said_words (saids_in net))
