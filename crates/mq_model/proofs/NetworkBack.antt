@@ -1,10 +1,11 @@
 -- What the lines of a sound network say declares this network again.
 use Rattle.std.proofs.Common.{◌≡◌, ◌∙◌, sym, ap, refl, ℕ, zero, suc, ◌<◌, List, [], ◌∷◌, ◌++◌, length, true, arith}
 use Rattle.std.specs.Prelude.{map, slice_get, nat_le, ◌^◌}
-use Rattle.std.specs.List.{list_all, flat_map, list_any}
+use Rattle.std.specs.List.{All, list_all, flat_map, list_any}
 use Rattle.std.specs.Str.{bytes_eq}
 use Rattle.std.proofs.lemmas.Bool.{and_parts, ltb-true}
 use Rattle.std.proofs.lemmas.List.{map-append, length-map}
+use Rattle.mq_graph.specs.Rank.{AreWired}
 use Rattle.mq_core.specs.Names.{is_name}
 use Rattle.mq_core.specs.Sound.{are_distinct, columns_of_kind, is_output, is_sound, is_sound_kind, is_sound_node, is_within, mentions_from, same_input}
 use Rattle.mq_core.specs.Wiring.{is_source_kind}
@@ -129,3 +130,21 @@ network_again net sound =
     let by_names : nodes_of (saids_in net) ≡ net.nodes =
     ap (λ all. flat_map (nodes_in all (columns_of (saids_in net))) (saids_in net)) names_are ∙ ap (λ columns. flat_map (nodes_in names columns) (saids_in net)) columns_are ∙ nodes_are in
     ap (λ nodes. record { nodes = nodes; columns = columns_of (saids_in net); bound = net.bound }) by_names ∙ ap (λ columns. record { nodes = net.nodes; columns = columns; bound = net.bound }) columns_are
+
+inputs_wired : (nodes : List Node) (inputs : List Input) → list_all (λ (i : Input). is_output (slice_get nodes i.node) i.out) inputs ≡ true → All (λ (i : Input). i.node < length nodes) inputs
+inputs_wired nodes [] h k d within = absurd (omega arith)
+inputs_wired nodes (i ∷ inputs) h zero d within = let both = and_parts _ _ h in output_within nodes i.node i.out both.0
+inputs_wired nodes (i ∷ inputs) h (suc k) d within = let both = and_parts _ _ h in inputs_wired nodes inputs both.1 k d (omega arith)
+
+nodes_wired : (columns : ℕ) (all nodes : List Node) → list_all (is_sound_node columns all) nodes ≡ true → All (λ (node : Node). All (λ (i : Input). i.node < length all) node.inputs) nodes
+nodes_wired columns all [] h k d within = absurd (omega arith)
+nodes_wired columns all (node ∷ nodes) h zero d within =
+    let both = and_parts _ _ h in
+    let name = and_parts _ _ both.0 in
+    let inputs = and_parts _ _ name.0 in
+    inputs_wired all node.inputs inputs.1
+nodes_wired columns all (node ∷ nodes) h (suc k) d within = let both = and_parts _ _ h in nodes_wired columns all nodes both.1 k d (omega arith)
+
+-- each input of a sound network names a node
+pub sound_is_wired : (net : Network) → is_sound net ≡ true → AreWired net.nodes
+sound_is_wired net sound = nodes_wired (length net.columns) net.nodes net.nodes (has_parts net sound).nodes

@@ -1,3 +1,5 @@
+pub mod Printed
+pub mod SaidOf
 pub mod Form
 pub mod Lines
 pub mod Reading
@@ -7,4 +9,3 @@ pub mod Model
 pub mod Front
 pub mod Placed
 pub mod Examples
-pub mod SaidOf
