@@ -18,3 +18,5 @@ pub mod TextBack
 pub mod TextFacts
 pub mod FrontFacts
 pub mod InputFacts
+pub mod CanonicalFacts
+pub mod SpacedWords

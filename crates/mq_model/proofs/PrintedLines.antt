@@ -179,7 +179,7 @@ cut_again : (column : Word) (cuts : List ℕ) (rest : List Word) → is_name col
 unfolding cut_route read
 cut_again column cuts rest named sound = rw (read_then, name_again column (map decimal cuts ++ codes "from" ∷ rest) named, read_then, thresholds_again cuts rest sound) refl
 
-route_again : (route : SaidRoute) (rest : List Word) → IsSoundRoute route → read a_route (route_words route (codes "from" ∷ rest)) ≡ Ok (route, codes "from" ∷ rest)
+route_again : (route : SaidRoute) (rest : List Word) → IsSoundRoute route → read a_route (route_words route ++ codes "from" ∷ rest) ≡ Ok (route, codes "from" ∷ rest)
 route_again (Modulo outputs column) rest sound =
     let ws : List Word = column ∷ codes "from" ∷ rest in
     counted_again (Modulo outputs column) outputs (codes "mod" ∷ ws) (codes "from" ∷ rest) sound.0
@@ -200,9 +200,9 @@ server_again : (d : SaidDemand) (more : List Word) → IsSoundDemand d → read 
 unfolding read
 server_again d more sound = rw (read_then, a_demand_again d more sound) refl
 
-split_again : (route : SaidRoute) (rest : List Word) → IsSoundRoute route → read split_kind (route_words route (codes "from" ∷ rest)) ≡ Ok (Split route, codes "from" ∷ rest)
+split_again : (route : SaidRoute) (rest : List Word) → IsSoundRoute route → read split_kind (route_words route ++ codes "from" ∷ rest) ≡ Ok (Split route, codes "from" ∷ rest)
 unfolding read
-split_again route rest sound = rw (read_then a_route _ (route_words route (codes "from" ∷ rest)), route_again route rest sound) refl
+split_again route rest sound = rw (read_then a_route _ (route_words route ++ codes "from" ∷ rest), route_again route rest sound) refl
 
 bound_again : (n : ℕ) → nat_le n (2 ^ 60) ≡ true → read bound_line (decimal n ∷ []) ≡ Ok (Bound n, [])
 bound_again n small =
@@ -227,6 +227,6 @@ line_again (Node name (Server d) reads) sound are =
     ap whole (line_server (codes "server" ∷ ws) ws (codes "server") refl refl refl refl
     ∙ node_again name server_kind (Server d) reads (demand_word d ∷ inputs_words reads) sound.0 (server_again d (inputs_words reads) sound.1) (inputs_again reads sound.2 are))
 line_again (Node name (Split route) reads) sound are =
-    let ws : List Word = name ∷ route_words route (inputs_words reads) in
+    let ws : List Word = name ∷ (route_words route ++ inputs_words reads) in
     ap whole (line_split (codes "split" ∷ ws) ws (codes "split") refl refl refl refl refl
-    ∙ node_again name split_kind (Split route) reads (route_words route (inputs_words reads)) sound.0 (split_again route (map input_word reads) sound.1) (inputs_again reads sound.2 are))
+    ∙ node_again name split_kind (Split route) reads (route_words route ++ inputs_words reads) sound.0 (split_again route (map input_word reads) sound.1) (inputs_again reads sound.2 are))

@@ -125,7 +125,7 @@ outputs_solid outputs within =
     let most : outputs ≤ 8 = leb-true _ _ (and_parts _ _ within).1 in
     solid 1 (decimal outputs) (omega arith) (decimal_short outputs 8 1 most (omega arith) (omega arith) (omega arith))
 
-route_solid : (route : SaidRoute) (more : List Word) → IsSoundRoute route → list_all is_solid more ≡ true → list_all is_solid (route_words route more) ≡ true
+route_solid : (route : SaidRoute) (more : List Word) → IsSoundRoute route → list_all is_solid more ≡ true → list_all is_solid (route_words route ++ more) ≡ true
 route_solid (Modulo outputs column) more sound all = and_from _ _ (outputs_solid outputs sound.0) (and_from _ _ refl (and_from _ _ (solid 32 column (omega arith) (name_short column sound.1)) all))
 route_solid (Turn outputs) more sound all = and_from _ _ (outputs_solid outputs sound) (and_from _ _ refl all)
 route_solid (Cut column cuts) more sound all =

@@ -9,3 +9,4 @@ pub mod Model
 pub mod Front
 pub mod Placed
 pub mod Examples
+pub mod Canonical

@@ -1,9 +1,11 @@
--- The canonical text of a network.
+-- The canonical text of a network: the line `model 1`, the bound, and a line for each node in order of declaration.
+-- Numbers are decimal, without leading zeros.
 use Rattle.std.specs.Prelude.{ℕ, ◌∷◌, ◌++◌, ◌==◌, [], List, map, if◌then◌else◌, codes, decimal}
 use Rattle.std.specs.List.{flat_map, join_with_byte}
 use Rattle.mq_core.specs.declared.model.Network.{Network}
+use Rattle.mq_core.specs.declared.model.Node.{Node as NetNode}
 use Rattle.mq_model.specs.Form.{Word}
-use Rattle.mq_model.specs.SaidOf.{saids_in}
+use Rattle.mq_model.specs.SaidOf.{names_in, node_by, saids_in}
 use Rattle.mq_model.specs.declared.said.SaidDemand.{SaidDemand}
 use Rattle.mq_model.specs.declared.said.SaidDemand.TheVariants.{Column, Fixed}
 use Rattle.mq_model.specs.declared.said.SaidInput.{SaidInput}
@@ -19,34 +21,42 @@ abbrev pub demand_word : SaidDemand → Word
 demand_word (Column name) = name
 demand_word (Fixed n) = 61 ∷ decimal n
 
--- a node's name; behind it, for an output above 0, a point and its number
+-- output 0 of a node is its name; behind it, for an output above 0, a point and the output's number
 abbrev pub input_word : SaidInput → Word
 input_word input = if input.out == 0 then input.name else input.name ++ 46 ∷ decimal input.out
 
 abbrev pub inputs_words : List SaidInput → List Word
 inputs_words reads = codes "from" ∷ map input_word reads
 
-abbrev pub route_words : SaidRoute → List Word → List Word
-route_words (Modulo outputs column) more = decimal outputs ∷ codes "mod" ∷ column ∷ more
-route_words (Turn outputs) more = decimal outputs ∷ codes "turn" ∷ more
-route_words (Cut column thresholds) more = codes "cut" ∷ column ∷ (map decimal thresholds ++ more)
+abbrev pub route_words : SaidRoute → List Word
+route_words (Modulo outputs column) = decimal outputs ∷ codes "mod" ∷ column ∷ []
+route_words (Turn outputs) = decimal outputs ∷ codes "turn" ∷ []
+route_words (Cut column thresholds) = codes "cut" ∷ column ∷ map decimal thresholds
 
 abbrev pub node_words : Word → SaidKind → List SaidInput → List Word
 node_words name Source reads = codes "source" ∷ name ∷ []
 node_words name (Server d) reads = codes "server" ∷ name ∷ demand_word d ∷ inputs_words reads
-node_words name (Split route) reads = codes "split" ∷ name ∷ route_words route (inputs_words reads)
+node_words name (Split route) reads = codes "split" ∷ name ∷ (route_words route ++ inputs_words reads)
 
 abbrev pub said_words : Said → List Word
 said_words (Bound n) = codes "bound" ∷ decimal n ∷ []
 said_words (Node name kind reads) = node_words name kind reads
 
--- the words with a space between each two, and a line feed
+-- a line: the words with one space between each two, and a line feed
 abbrev pub line_text : List Word → List ℕ
 line_text words = join_with_byte 32 words ++ 10 ∷ []
 
 abbrev pub head_words : List Word
 head_words = codes "model" ∷ codes "1" ∷ []
 
--- the head, the bound, and the nodes in order of declaration
+-- the head, and what the network says, line by line
 abbrev pub printed : Network → List ℕ
 printed net = flat_map line_text (head_words ∷ map said_words (saids_in net))
+
+-- Parts of a text. Words behind the first of a line, each behind a space.
+abbrev pub spaced : List Word → List ℕ
+spaced words = flat_map (λ word. 32 ∷ word) words
+
+-- the lines of these nodes of a network
+abbrev pub nodes_text : Network → List NetNode → List ℕ
+nodes_text net nodes = flat_map line_text (map said_words (map (node_by (names_in net) net.columns) nodes))

@@ -8,6 +8,7 @@ mod laws;
 mod line;
 mod network;
 mod parts;
+mod print;
 mod read;
 mod route;
 mod said;
@@ -15,6 +16,7 @@ mod text;
 mod word;
 
 pub use fault::ModelFault;
-pub use laws::{examples_are_answered, first_bad_word};
+pub use laws::{examples_are_answered, first_bad_word, printed_models_are_read};
+pub use print::print_model;
 pub use read::read_model;
 pub use said::{Said, SaidDemand, SaidInput, SaidKind, SaidRoute};
