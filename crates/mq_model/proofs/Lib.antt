@@ -18,3 +18,4 @@ pub mod TextBack
 pub mod TextFacts
 pub mod FrontFacts
 pub mod InputFacts
+pub mod ReadModel
