@@ -18,3 +18,6 @@ pub use fault::ModelFault;
 pub use laws::{examples_are_answered, first_bad_word};
 pub use read::read_model;
 pub use said::{Said, SaidDemand, SaidInput, SaidKind, SaidRoute};
+
+#[cfg(test)]
+mod tests;

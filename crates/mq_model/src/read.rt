@@ -56,7 +56,12 @@ fn line_of(saids: &[Said], lines: &[u32], node: u32) -> u32
 }
 
 /// The nodes by rank, where no node is left.
-fn order_of(alloc: Global, net: &Network, saids: &[Said], lines: &[u32]) -> Result<List<u32>, ModelFault>
+fn order_of(
+    alloc: Global,
+    net: &Network,
+    saids: &[Said],
+    lines: &[u32],
+) -> Result<List<u32>, ModelFault>
     requires few { length net.now.nodes ≤ 64 }
     requires wired { AreWired net.now.nodes }
     requires beside { length lines.now ≡ length saids.now }
