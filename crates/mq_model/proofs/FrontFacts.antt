@@ -153,10 +153,11 @@ add_nothing before l front head is none no_bound has_head =
 -- a line that is skipped, and the head
 pub add_skipped : (before : List (List ℕ)) (l : List ℕ) (front : Front) → IsFront before front → begins_comment (words_of l) ≡ true → (line_fault before l ≡ None) × IsFront (before ++ l ∷ []) front
 unfolding line_fault
-add_skipped before l front is skipped =
-    (rw skipped refl,
-    add_nothing before l front front.has_head is (nothing_said l (λ said e. skipped_says_nothing (words_of l) said skipped e)) (skipped_no_bound (words_of l) skipped)
-    (is.head ∙ ap not (and_true (list_all is_skipped before) (is_skipped l) skipped)))
+add_skipped before l front is skipped = (
+  rw skipped refl,
+  add_nothing before l front front.has_head is (nothing_said l (λ said e. skipped_says_nothing (words_of l) said skipped e)) (skipped_no_bound (words_of l) skipped)
+      (is.head ∙ ap not (and_true (list_all is_skipped before) (is_skipped l) skipped)),
+)
   where
     and_true : (a b : Bool) → b ≡ true → a ≡ (a && b)
     and_true true b h = sym h
@@ -173,10 +174,11 @@ pub add_head : (before : List (List ℕ)) (l : List ℕ) (front : Front) → IsF
     → (line_fault before l ≡ None) × IsFront (before ++ l ∷ []) (record { has_head = true; has_bound = front.has_bound; saids = front.saids; lines = front.lines; names = front.names; columns = front.columns })
 unfolding line_fault
 add_head before l front is none allowed head =
-    let unskipped = head_not_skipped (words_of l) head in
-    (rw (unskipped, allowed, head_is_none before front is none, head) refl,
-    add_nothing before l front true is (nothing_said l (λ said e. head_says_nothing (words_of l) said head e)) (head_no_bound (words_of l) head)
-    (rw (unskipped, head_is_none before front is none) refl))
+    let unskipped = head_not_skipped (words_of l) head in (
+      rw (unskipped, allowed, head_is_none before front is none, head) refl,
+      add_nothing before l front true is (nothing_said l (λ said e. head_says_nothing (words_of l) said head e)) (head_no_bound (words_of l) head)
+          (rw (unskipped, head_is_none before front is none) refl),
+    )
 
 -- faults
 pub byte_fault : (before : List (List ℕ)) (l : List ℕ) (number : ℕ) → number ≡ length before + 1 → begins_comment (words_of l) ≡ false → list_all is_allowed l ≡ false → line_fault before l ≡ Some (BadByte number)
@@ -207,12 +209,13 @@ grammar_is before ws number front e is n h = first (begins_bound ws) (whole (rea
   where
     bound : Bool
     bound = list_any (λ l. begins_bound (words_of l)) before
+
     first : (b : Bool) (r : Result Said (List Word)) → cond (b && bound) (Some (BadLine (length before + 1) 1)) (unread_fault (length before + 1) ws r) ≡ Some e
         → cond (b && bound) (Some (BadLine (length before + 1) 1)) (read_fault before ws r) ≡ Some e
     first b r h = elim (cases_Bool (b && bound)) [
-        | inl bad ↦ rw bad (rw bad at h)
-        | inr good ↦ rw good (second r (rw good at h))
-      ]
+      | inl bad ↦ rw bad (rw bad at h)
+      | inr good ↦ rw good (second r (rw good at h))
+    ]
       where
         second : (r : Result Said (List Word)) → unread_fault (length before + 1) ws r ≡ Some e → read_fault before ws r ≡ Some e
         second (Ok said) h = absurd (cc)

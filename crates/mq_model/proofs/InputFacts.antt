@@ -1,6 +1,6 @@
 -- The inputs of lines, one by one.
-use Rattle.std.proofs.Common.{◌≡◌, ◌∙◌, sym, ap, refl, subst, ℕ, zero, suc, ◌+◌, ◌-◌, ◌<◌, ◌≤◌, List, [], ◌∷◌, ◌++◌, length, drop, take, map, get_or, Bool, true, false, cond, Option, Some, None, arith, inl, inr, append_assoc, append-nil}
-use Rattle.std.specs.Prelude.{◌||◌, not, slice_get}
+use Rattle.std.proofs.Common.{◌≡◌, ◌≢◌, ◌∙◌, sym, ap, refl, subst, ℕ, zero, suc, ◌+◌, ◌-◌, ◌<◌, ◌≤◌, List, [], ◌∷◌, ◌++◌, length, drop, take, map, get_or, Bool, true, false, cond, Option, Some, None, arith, inl, inr, append_assoc, append-nil}
+use Rattle.std.specs.Prelude.{◌||◌, nat_lt}
 use Rattle.std.specs.List.{flat_map, list_any, enumerate_from}
 use Rattle.std.specs.Option.{MatchOption}
 use Rattle.std.proofs.lemmas.Bool.{cases_Bool}
@@ -152,22 +152,23 @@ declaring_here saids lines at n said less beside is number =
     let second : drop at lines ≡ n ∷ drop (at + 1) lines = rw (add-one, number) (drop-cons lines at 0 (omega arith)) in
     rw (first, second) refl
 
-pub line_here : (saids : List Said) (lines : List ℕ) (at n left : ℕ) (said : Said) → at < length saids → length lines ≡ length saids → said ≡ get_or saids at said → n ≡ get_or lines at 0 → length (declared said) ≡ 1
-    → left ≡ 0 → get_or (declaring (drop at lines) (drop at saids)) left 0 ≡ n
-line_here saids lines at n left (Bound b) less beside is number one none = absurd (omega (arith, one))
-line_here saids lines at n left (Node name kind reads) less beside is number one none = rw (declaring_here saids lines at n (Node name kind reads) less beside is number, none) refl
+pub line_here : (saids : List Said) (lines : List ℕ) (at n left : ℕ) (said : Said) → at < length saids → length lines ≡ length saids → said ≡ get_or saids at said → n ≡ get_or lines at 0
+    → nat_lt 0 (length (declared said)) ≡ true → left ≡ 0 → get_or (declaring (drop at lines) (drop at saids)) left 0 ≡ n
+line_here saids lines at n left (Bound b) less beside is number node none = absurd (cc)
+line_here saids lines at n left (Node name kind reads) less beside is number node none = rw (declaring_here saids lines at n (Node name kind reads) less beside is number, none) refl
 
-pub line_later : (saids : List Said) (lines : List ℕ) (at n left : ℕ) (said : Said) → at < length saids → length lines ≡ length saids → said ≡ get_or saids at said → n ≡ get_or lines at 0 → length (declared said) ≡ 1
-    → 0 < left → get_or (declaring (drop at lines) (drop at saids)) left 0 ≡ get_or (declaring (drop (at + 1) lines) (drop (at + 1) saids)) (left - 1) 0
-line_later saids lines at n zero said less beside is number one some = absurd (omega arith)
-line_later saids lines at n (suc left) (Bound b) less beside is number one some = absurd (omega (arith, one))
-line_later saids lines at n (suc left) (Node name kind reads) less beside is number one some =
+pub line_later : (saids : List Said) (lines : List ℕ) (at n left : ℕ) (said : Said) → at < length saids → length lines ≡ length saids → said ≡ get_or saids at said → n ≡ get_or lines at 0
+    → nat_lt 0 (length (declared said)) ≡ true → left ≢ 0 → get_or (declaring (drop at lines) (drop at saids)) left 0 ≡ get_or (declaring (drop (at + 1) lines) (drop (at + 1) saids)) (left - 1) 0
+line_later saids lines at n zero said less beside is number node some = absurd (some refl)
+line_later saids lines at n (suc left) (Bound b) less beside is number node some = absurd (cc)
+line_later saids lines at n (suc left) (Node name kind reads) less beside is number node some =
     let back : suc left - 1 ≡ left = omega arith in
     rw (declaring_here saids lines at n (Node name kind reads) less beside is number, back) refl
 
-pub line_of_none : (saids : List Said) (lines : List ℕ) (at n left : ℕ) (said : Said) → at < length saids → length lines ≡ length saids → said ≡ get_or saids at said → n ≡ get_or lines at 0 → declared said ≡ []
-    → get_or (declaring (drop at lines) (drop at saids)) left 0 ≡ get_or (declaring (drop (at + 1) lines) (drop (at + 1) saids)) left 0
-line_of_none saids lines at n left said less beside is number none = rw (declaring_here saids lines at n said less beside is number, none) refl
+pub line_of_none : (saids : List Said) (lines : List ℕ) (at n left : ℕ) (said : Said) → at < length saids → length lines ≡ length saids → said ≡ get_or saids at said → n ≡ get_or lines at 0
+    → nat_lt 0 (length (declared said)) ≡ false → get_or (declaring (drop at lines) (drop at saids)) left 0 ≡ get_or (declaring (drop (at + 1) lines) (drop (at + 1) saids)) left 0
+line_of_none saids lines at n left (Bound b) less beside is number none = rw (declaring_here saids lines at n (Bound b) less beside is number) refl
+line_of_none saids lines at n left (Node name kind reads) less beside is number none = absurd (cc)
 
 declaring_none : (lines : List ℕ) → declaring lines [] ≡ []
 declaring_none [] = refl

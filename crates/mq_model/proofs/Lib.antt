@@ -20,3 +20,4 @@ pub mod FrontFacts
 pub mod InputFacts
 pub mod CanonicalFacts
 pub mod SpacedWords
+pub mod ReadModel

@@ -106,7 +106,7 @@ input_solid input h =
           let short = name.short in
           let size : length (input.name ++ 46 ∷ decimal input.out) ≡ length input.name + length (46 ∷ decimal input.out) = length-append input.name (46 ∷ decimal input.out) in
           rw other (solid 34 (input.name ++ 46 ∷ decimal input.out) (omega arith)
-              (record { some = omega arith; short = omega arith; visible = list_all-append is_visible input.name (46 ∷ decimal input.out) ∙ and_from _ _ name.visible number.visible }))
+          (record { some = omega arith; short = omega arith; visible = list_all-append is_visible input.name (46 ∷ decimal input.out) ∙ and_from _ _ name.visible number.visible }))
     ]
 
 inputs_solid : (reads : List SaidInput) → AreInputs reads → list_all is_solid (map input_word reads) ≡ true
@@ -209,11 +209,13 @@ all_solid (said ∷ saids) h = (said_solid said h.0 h.1, all_solid saids h.2)
 all_said : (saids : List Said) → AreInRange saids → AreSaid (map (join_with_byte 32) (map said_words saids)) saids
 all_said [] h = tt
 all_said (said ∷ saids) h =
-    let solid = said_solid said h.0 h.1 in
-    (record {
-      allowed = all_through is_plain is_allowed (join_with_byte 32 (said_words said)) plain_allowed (joined_plain (said_words said) solid);
-      says = rw (words_again (said_words said) solid) (line_again said h.0 h.1);
-    }, all_said saids h.2)
+    let solid = said_solid said h.0 h.1 in (
+      record {
+        allowed = all_through is_plain is_allowed (join_with_byte 32 (said_words said)) plain_allowed (joined_plain (said_words said) solid);
+        says = rw (words_again (said_words said) solid) (line_again said h.0 h.1);
+      },
+      all_said saids h.2,
+    )
 
 -- The length: at most 35 bytes a word, and 20 words a line.
 line_length : (ws : List Word) → list_all is_solid ws ≡ true → 0 < length ws → length (line_text ws) ≤ 35 * length ws
@@ -229,7 +231,7 @@ line_length (w ∷ v ∷ ws) h some =
     let short : length w ≤ 34 = leb-true _ _ counts.1 in
     let again : length (join_with_byte 32 (v ∷ ws) ++ 10 ∷ []) ≤ 35 * length (v ∷ ws) = line_length (v ∷ ws) both.1 (omega arith) in
     let size : length (line_text (w ∷ v ∷ ws)) ≡ length w + length (32 ∷ (join_with_byte 32 (v ∷ ws) ++ 10 ∷ [])) =
-        ap length (append_assoc w (32 ∷ join_with_byte 32 (v ∷ ws)) (10 ∷ [])) ∙ length-append w (32 ∷ (join_with_byte 32 (v ∷ ws) ++ 10 ∷ [])) in
+    ap length (append_assoc w (32 ∷ join_with_byte 32 (v ∷ ws)) (10 ∷ [])) ∙ length-append w (32 ∷ (join_with_byte 32 (v ∷ ws) ++ 10 ∷ [])) in
     omega arith
 
 record IsFew (ws : List Word) : Type 0 where
@@ -263,7 +265,7 @@ text_length (said ∷ saids) h =
     let line = line_length (said_words said) (said_solid said h.0 h.1) words.some in
     let again = text_length saids h.2 in
     let size : length (line_text (said_words said) ++ flat_map line_text (map said_words saids)) ≡ length (line_text (said_words said)) + length (flat_map line_text (map said_words saids)) =
-        length-append (line_text (said_words said)) (flat_map line_text (map said_words saids)) in
+    length-append (line_text (said_words said)) (flat_map line_text (map said_words saids)) in
     omega arith
 
 printed_short : (net : Network) → is_sound net ≡ true → length (printed net) ≤ 65536
@@ -278,5 +280,5 @@ pub printed_again : (net : Network) → is_sound net ≡ true → left_node net.
 printed_again net sound left =
     let range = said_in_range net sound in
     let lines : lines_of (without_mark (printed net)) ≡ codes "model 1" ∷ map (join_with_byte 32) (map said_words (saids_in net)) =
-        lines_again (head_words ∷ map said_words (saids_in net)) (refl, all_solid (saids_in net) range) in
+    lines_again (head_words ∷ map said_words (saids_in net)) (refl, all_solid (saids_in net) range) in
     text_again net (printed net) (codes "model 1") (map (join_with_byte 32) (map said_words (saids_in net))) sound left (printed_short net sound) lines refl refl (all_said (saids_in net) range)

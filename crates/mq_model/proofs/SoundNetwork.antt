@@ -164,12 +164,15 @@ record IsSoundText (saids : List Said) : Type 0 where
   inputs : AreInputs saids [] (flat_map reads_of saids)
   source : list_any is_source saids ≡ true
 
+sound_parts : (ls : List (List ℕ)) → lines_fault [] ls ≡ None → inputs_fault (saids_of ls) [] (reads_of_text ls) ≡ None → list_any is_source (saids_of ls) ≡ true → IsSoundText (saids_of ls)
+sound_parts ls lines inputs source = record { sound = told_are_sound ls lines; few = told_are_few ls lines; inputs = told_are_inputs ls inputs; source = source }
+
 sound_text : (ls : List (List ℕ)) → text_fault ls ≡ None → IsSoundText (saids_of ls)
 sound_text ls none =
     let lines = or_none (lines_fault [] ls) _ none in
     let inputs = or_none (inputs_fault (saids_of ls) [] (reads_of_text ls)) _ lines.1 in
     let sources = or_none (source_fault (saids_of ls)) (cycle_fault ls) inputs.1 in
-    record { sound = told_are_sound ls lines.0; few = told_are_few ls lines.0; inputs = told_are_inputs ls inputs.0; source = some_source (list_any is_source (saids_of ls)) sources.0 }
+    sound_parts ls lines.0 inputs.0 (some_source (list_any is_source (saids_of ls)) sources.0)
   where
     some_source : (b : Bool) → cond b None (Some NoSource) ≡ None → b ≡ true
     some_source true h = refl
@@ -204,3 +207,13 @@ pub fault_free_is_sound : (text : List ℕ) → model_fault text ≡ None → Is
 fault_free_is_sound text none =
     let short = cond_none (nat_lt 65536 (length text)) TooLong (text_fault (lines_of (without_mark text))) none in
     network_sound (saids_of (lines_of (without_mark text))) (sound_text (lines_of (without_mark text)) short.1)
+
+-- the same before the nodes are ranked
+pub unranked_is_sound : (ls : List (List ℕ)) → lines_fault [] ls ≡ None → inputs_fault (saids_of ls) [] (reads_of_text ls) ≡ None → list_any is_source (saids_of ls) ≡ true → IsTrue (is_sound (network_of (saids_of ls)))
+unranked_is_sound ls lines inputs source = network_sound (saids_of ls) (sound_parts ls lines inputs source)
+
+pub unranked_is_small : (ls : List (List ℕ)) → lines_fault [] ls ≡ None → inputs_fault (saids_of ls) [] (reads_of_text ls) ≡ None → list_any is_source (saids_of ls) ≡ true → length (nodes_of (saids_of ls)) ≤ 64
+unranked_is_small ls lines inputs source =
+    let named = names_are (names_of (saids_of ls)) (columns_of (saids_of ls)) (saids_of ls) in
+    let size : length (nodes_of (saids_of ls)) ≡ length (names_of (saids_of ls)) = sym (length-map (nodes_of (saids_of ls)) node_name) ∙ ap length named in
+    rw size ((told_are_few ls lines).names)

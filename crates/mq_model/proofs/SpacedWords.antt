@@ -3,6 +3,7 @@ use Rattle.std.proofs.Common.{◌≡◌, ◌∙◌, sym, ap, refl, ℕ, List, []
 use Rattle.std.specs.Prelude.{OnOk, codes, map}
 use Rattle.std.specs.List.{join_with_byte}
 use Rattle.mq_core.specs.declared.model.Demand.{Demand}
+use Rattle.mq_core.specs.declared.model.Input.{Input}
 use Rattle.mq_core.specs.declared.model.Kind.TheVariants.{Server, Split}
 use Rattle.mq_core.specs.declared.model.Network.{Network}
 use Rattle.mq_core.specs.declared.model.Node.{Node}
@@ -30,21 +31,21 @@ behind old first name more =
     append_assoc (old ++ first) (32 ∷ name) (spaced more) ∙ append_assoc old first (32 ∷ name ++ spaced more) ∙ ap (λ l. old ++ (first ++ 32 ∷ l)) (sym (joined name more))
 
 -- What a text is after the words of a server's line, where they are added part by part, and of a split's.
-pub server_text : (net : Network) (node : Node) (d : Demand) (old start front end : List ℕ) → node.kind ≡ Server d
-    → start ≡ old ++ codes "server" ++ 32 ∷ node.name → front ≡ start ++ 32 ∷ demand_word (demand_by net.columns d) → end ≡ front ++ spaced (inputs_words (map (input_by (names_in net)) node.inputs))
+pub server_text : (net : Network) (node : Node) (d : Demand) (reads : List Input) (old start front end : List ℕ) → node.kind ≡ Server d → reads ≡ node.inputs
+    → start ≡ old ++ codes "server" ++ 32 ∷ node.name → front ≡ start ++ 32 ∷ demand_word (demand_by net.columns d) → end ≡ front ++ spaced (inputs_words (map (input_by (names_in net)) reads))
     → end ≡ old ++ join_with_byte 32 (said_words (node_by (names_in net) net.columns node))
-server_text net node d old start front end is first second third =
-    let inputs : List Word = inputs_words (map (input_by (names_in net)) node.inputs) in
+server_text net node d reads old start front end is all first second third =
+    let inputs : List Word = inputs_words (map (input_by (names_in net)) reads) in
     let demand : Word = demand_word (demand_by net.columns d) in
-    rw is (third ∙ ap (λ l. l ++ spaced inputs) (second ∙ ap (λ l. l ++ 32 ∷ demand) first)
+    rw (is, ← all) (third ∙ ap (λ l. l ++ spaced inputs) (second ∙ ap (λ l. l ++ 32 ∷ demand) first)
     ∙ append_assoc (old ++ codes "server" ++ 32 ∷ node.name) (32 ∷ demand) (spaced inputs) ∙ behind old (codes "server") node.name (demand ∷ inputs))
 
-pub split_text : (net : Network) (node : Node) (r : Route) (old start front end : List ℕ) → node.kind ≡ Split r
-    → start ≡ old ++ codes "split" ++ 32 ∷ node.name → front ≡ start ++ spaced (route_words (route_by net.columns r)) → end ≡ front ++ spaced (inputs_words (map (input_by (names_in net)) node.inputs))
+pub split_text : (net : Network) (node : Node) (r : Route) (reads : List Input) (old start front end : List ℕ) → node.kind ≡ Split r → reads ≡ node.inputs
+    → start ≡ old ++ codes "split" ++ 32 ∷ node.name → front ≡ start ++ spaced (route_words (route_by net.columns r)) → end ≡ front ++ spaced (inputs_words (map (input_by (names_in net)) reads))
     → end ≡ old ++ join_with_byte 32 (said_words (node_by (names_in net) net.columns node))
-split_text net node r old start front end is first second third =
-    let inputs : List Word = inputs_words (map (input_by (names_in net)) node.inputs) in
+split_text net node r reads old start front end is all first second third =
+    let inputs : List Word = inputs_words (map (input_by (names_in net)) reads) in
     let route : List Word = route_words (route_by net.columns r) in
     let begun : List ℕ = old ++ codes "split" ++ 32 ∷ node.name in
-    rw is (third ∙ ap (λ l. l ++ spaced inputs) (second ∙ ap (λ l. l ++ spaced route) first)
+    rw (is, ← all) (third ∙ ap (λ l. l ++ spaced inputs) (second ∙ ap (λ l. l ++ spaced route) first)
     ∙ append_assoc begun (spaced route) (spaced inputs) ∙ ap (λ l. begun ++ l) (sym (spaced_more route inputs)) ∙ behind old (codes "split") node.name (route ++ inputs))

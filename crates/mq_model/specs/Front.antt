@@ -51,13 +51,13 @@ grammar_fault n has_bound ws = if begins_bound ws && has_bound then Some (BadLin
 -- What a line says is added.
 abbrev pub with_said : Front → ℕ → Said → Front
 with_said old number said = record {
-    has_head = old.has_head;
-    has_bound = old.has_bound;
-    saids = old.saids ++ said ∷ [];
-    lines = old.lines ++ number ∷ [];
-    names = old.names ++ declared said;
-    columns = columns_after old.columns (mentioned said);
-  }
+  has_head = old.has_head;
+  has_bound = old.has_bound;
+  saids = old.saids ++ said ∷ [];
+  lines = old.lines ++ number ∷ [];
+  names = old.names ++ declared said;
+  columns = columns_after old.columns (mentioned said);
+}
 
 abbrev pub added_fault : Front → ℕ → Said → Option ModelFault
 added_fault old number said = option_or (name_fault number old.names said) (columns_fault number (columns_after old.columns (mentioned said)))

@@ -3,9 +3,8 @@
 use Rattle.std.specs.Prelude.{ℕ, ◌∷◌, ◌++◌, ◌==◌, [], List, map, if◌then◌else◌, codes, decimal}
 use Rattle.std.specs.List.{flat_map, join_with_byte}
 use Rattle.mq_core.specs.declared.model.Network.{Network}
-use Rattle.mq_core.specs.declared.model.Node.{Node as NetNode}
 use Rattle.mq_model.specs.Form.{Word}
-use Rattle.mq_model.specs.SaidOf.{names_in, node_by, saids_in}
+use Rattle.mq_model.specs.SaidOf.{saids_in}
 use Rattle.mq_model.specs.declared.said.SaidDemand.{SaidDemand}
 use Rattle.mq_model.specs.declared.said.SaidDemand.TheVariants.{Column, Fixed}
 use Rattle.mq_model.specs.declared.said.SaidInput.{SaidInput}
@@ -53,10 +52,6 @@ head_words = codes "model" ∷ codes "1" ∷ []
 abbrev pub printed : Network → List ℕ
 printed net = flat_map line_text (head_words ∷ map said_words (saids_in net))
 
--- Parts of a text. Words behind the first of a line, each behind a space.
+-- words behind others in a line: each behind a space
 abbrev pub spaced : List Word → List ℕ
 spaced words = flat_map (λ word. 32 ∷ word) words
-
--- the lines of these nodes of a network
-abbrev pub nodes_text : Network → List NetNode → List ℕ
-nodes_text net nodes = flat_map line_text (map said_words (map (node_by (names_in net) net.columns) nodes))

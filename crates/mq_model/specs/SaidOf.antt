@@ -20,6 +20,7 @@ use Rattle.mq_model.specs.declared.said.SaidKind.TheVariants.{Source, Server, Sp
 use Rattle.mq_model.specs.declared.said.Said.{Said}
 use Rattle.mq_model.specs.declared.said.Said.TheVariants as said
 
+-- the name of this number; where there is none, it is empty
 abbrev pub name_at : List Word → ℕ → Word
 name_at names n = get_or names n []
 
@@ -40,9 +41,11 @@ kind_by columns (kind.Split r) = Split (route_by columns r)
 abbrev pub input_by : List Word → Input → SaidInput
 input_by names input = record { name = name_at names input.node; out = input.out }
 
+-- the line of a node
 abbrev pub node_by : List Word → List Word → Node → Said
 node_by names columns node = said.Node node.name (kind_by columns node.kind) (map (input_by names) node.inputs)
 
+-- the names of the nodes
 abbrev pub names_in : Network → List Word
 names_in net = map (λ (node : Node). node.name) net.nodes
 

@@ -94,7 +94,12 @@ fn is_among(names: &[List<u8>], name: &[u8]) -> bool
 }
 
 /// Adds the name of the node that a line declares.
-fn add_name(alloc: Global, said: &Said, number: u32, names: &mut List<List<u8>>) -> Result<(), ModelFault>
+fn add_name(
+    alloc: Global,
+    said: &Said,
+    number: u32,
+    names: &mut List<List<u8>>,
+) -> Result<(), ModelFault>
     ensures ok { IfOk result (λ _. (name_fault number names.old said.now ≡ None) × (names.new ≡ names.old ++ declared said.now)) }
     ensures err { IfErr result (λ e. Tells e (name_fault number names.old said.now)) }
 {
@@ -112,7 +117,11 @@ fn add_name(alloc: Global, said: &Said, number: u32, names: &mut List<List<u8>>)
 }
 
 /// Adds a column, where it isn't among these.
-fn add_column(alloc: Global, name: &List<u8>, columns: &mut List<List<u8>>) -> Result<(), ModelFault>
+fn add_column(
+    alloc: Global,
+    name: &List<u8>,
+    columns: &mut List<List<u8>>,
+) -> Result<(), ModelFault>
     ensures ok { IfOk result (λ _. columns.new ≡ added columns.old name.now) }
     ensures err { IfErr result (λ e. e ≡ ModelFault.Memory) }
 {
@@ -141,13 +150,21 @@ fn add_columns(alloc: Global, said: &Said, columns: &mut List<List<u8>>) -> Resu
 }
 
 /// What the words of a line say.
-fn read_words(alloc: Global, words: &[&[u8]], number: u32, has_bound: bool) -> Result<Said, ModelFault>
+fn read_words(
+    alloc: Global,
+    words: &[&[u8]],
+    number: u32,
+    has_bound: bool,
+) -> Result<Said, ModelFault>
     requires { length words.now ≤ 65536 }
     ensures ok { IfOk result (λ said. (grammar_fault number has_bound (texts words.now) ≡ None) × (whole (read line (texts words.now)) ≡ Ok said)) }
     ensures err { IfErr result (λ e. Tells e (grammar_fault number has_bound (texts words.now))) }
 {
     if has_bound && begins_bound(words) {
-        return Err(ModelFault::BadLine { line: number, word: 1 });
+        return Err(ModelFault::BadLine {
+            line: number,
+            word: 1,
+        });
     }
     match read_line(alloc, words) {
         Ok(said) => Ok(said),
@@ -175,7 +192,12 @@ fn add_said(alloc: Global, said: Said, number: u32, front: &mut Front) -> Result
 }
 
 /// Reads one line more.
-pub fn read_next(alloc: Global, line: &[u8], number: u32, front: &mut Front) -> Result<(), ModelFault>
+pub fn read_next(
+    alloc: Global,
+    line: &[u8],
+    number: u32,
+    front: &mut Front,
+) -> Result<(), ModelFault>
     requires { length line.now ≤ 65536 }
     ensures { AddsLine result number line.now front.old front.new }
 {

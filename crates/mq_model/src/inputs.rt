@@ -82,7 +82,12 @@ fn is_taken(saids: &[Said], reads: &[SaidInput], input: &SaidInput) -> bool
 }
 
 /// The first fault of the inputs of a line, which stands behind these lines.
-fn reads_fault(saids: &[Said], before: &[Said], reads: &[SaidInput], line: u32) -> Option<ModelFault>
+fn reads_fault(
+    saids: &[Said],
+    before: &[Said],
+    reads: &[SaidInput],
+    line: u32,
+) -> Option<ModelFault>
     requires { length reads.now ≤ 8 }
     ensures { FaultOfReads result saids.now (flat_map reads_of before.now) line 0 reads.now }
 {

@@ -70,7 +70,11 @@ fn kind_in(alloc: Global, columns: &[List<u8>], kind: &SaidKind) -> Result<Kind,
 }
 
 /// The inputs of a node, by port.
-fn inputs_in(alloc: Global, names: &[List<u8>], reads: &[SaidInput]) -> Result<List<Input>, ModelFault>
+fn inputs_in(
+    alloc: Global,
+    names: &[List<u8>],
+    reads: &[SaidInput],
+) -> Result<List<Input>, ModelFault>
     requires { length names.now ≤ 64 }
     ensures ok { IfOk result (λ inputs. inputs ≡ map (input_in names.now) reads.now) }
     ensures err { IfErr result (λ e. e ≡ ModelFault.Memory) }
@@ -86,7 +90,12 @@ fn inputs_in(alloc: Global, names: &[List<u8>], reads: &[SaidInput]) -> Result<L
 }
 
 /// The nodes that lines declare, by the names of the nodes and of the columns.
-fn nodes_in(alloc: Global, names: &[List<u8>], columns: &[List<u8>], saids: &[Said]) -> Result<List<Node>, ModelFault>
+fn nodes_in(
+    alloc: Global,
+    names: &[List<u8>],
+    columns: &[List<u8>],
+    saids: &[Said],
+) -> Result<List<Node>, ModelFault>
     requires few { length names.now ≤ 64 }
     requires few_columns { length columns.now ≤ 16 }
     ensures ok { IfOk result (λ nodes. nodes ≡ flat_map (nodes_in names.now columns.now) saids.now) }
@@ -118,7 +127,12 @@ fn bound_of(saids: &[Said]) -> u64
 }
 
 /// The network that lines declare, whose nodes and columns have these names.
-pub fn network_of(alloc: Global, names: &[List<u8>], columns: List<List<u8>>, saids: &[Said]) -> Result<Network, ModelFault>
+pub fn network_of(
+    alloc: Global,
+    names: &[List<u8>],
+    columns: List<List<u8>>,
+    saids: &[Said],
+) -> Result<Network, ModelFault>
     requires names { names.now ≡ names_of saids.now }
     requires columns { columns ≡ columns_of saids.now }
     requires few { length names.now ≤ 64 }

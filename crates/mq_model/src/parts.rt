@@ -119,4 +119,3 @@ pub fn read_inputs(alloc: Global, words: &[&[u8]], at: &mut usize) -> Result<Lis
     }
     Ok(reads)
 }
-

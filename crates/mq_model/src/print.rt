@@ -1,7 +1,7 @@
 // The canonical text of a plan.
 ghost use Rattle.std.specs.Prelude.{◌≡◌, ◌∷◌, ◌++◌, [], IfOk, OnOk, codes, decimal, map};
 ghost use Rattle.std.specs.List.{join_with_byte};
-ghost use Rattle.mq_model.specs.Printed.{demand_word, input_word, inputs_words, line_text, nodes_text, printed, route_words, said_words, spaced};
+ghost use Rattle.mq_model.specs.Printed.{demand_word, input_word, inputs_words, line_text, printed, route_words, said_words, spaced};
 ghost use Rattle.mq_model.specs.SaidOf.{demand_by, input_by, name_at, names_in, node_by, route_by};
 
 use itoa::Buffer;
@@ -9,7 +9,7 @@ use mq_base::{List, OutOfMemory};
 use mq_core::{Demand, Input, Kind, Network, Node, Plan, Route};
 use std::alloc::Global;
 
-/// The name of a node.
+/// The name of a node, by its number; where there is no such node, it is empty.
 fn node_name(net: &Network, node: u32) -> &[u8]
     ensures { result.now ≡ name_at (names_in net.now) node }
 {
@@ -19,7 +19,7 @@ fn node_name(net: &Network, node: u32) -> &[u8]
     }
 }
 
-/// The name of a column.
+/// The name of a column, by its number; where there is no such column, it is empty.
 fn column_name(net: &Network, column: u8) -> &[u8]
     ensures { result.now ≡ name_at net.now.columns column }
 {

@@ -1,11 +1,11 @@
 // The reader of a model text.
-ghost use Rattle.std.specs.Prelude.{◌≡◌, ◌<◌, ◌≤◌, IfErr, IfOk, IsTrue, None, drop, get_or, length};
-ghost use Rattle.std.specs.Option.{option_map};
+ghost use Rattle.std.specs.Prelude.{◌≡◌, ◌≤◌, IfErr, IfOk, None, get_or, length, nat_lt};
 ghost use Rattle.mq_core.specs.Wiring.{ranking};
-ghost use Rattle.mq_graph.specs.Rank.{AreWired, HasAll, left_node};
+ghost use Rattle.mq_graph.specs.Rank.{AreWired, HasAll};
 ghost use Rattle.mq_model.specs.Model.{Tells, model_fault};
 ghost use Rattle.mq_model.specs.NetworkOf.{network_in, without_mark};
 ghost use Rattle.mq_model.specs.Placed.{cycle_of, declaring};
+ghost use Rattle.mq_model.specs.Said.{declared};
 
 use crate::fault::ModelFault;
 use crate::front::Front;
@@ -28,6 +28,15 @@ fn without_mark(text: &[u8]) -> &[u8]
     }
 }
 
+fn is_node(said: &Said) -> bool
+    ensures { result ≡ nat_lt 0 (length (declared said.now)) }
+{
+    match said {
+        Said::Bound(_) => false,
+        Said::Node { .. } => true,
+    }
+}
+
 /// The number of the line that declares a node.
 fn line_of(saids: &[Said], lines: &[u32], node: u32) -> u32
     requires { length lines.now ≡ length saids.now }
@@ -35,18 +44,24 @@ fn line_of(saids: &[Said], lines: &[u32], node: u32) -> u32
 {
     let mut left = node;
     for (at, said) in saids.iter().enumerate() {
-        if let Said::Node { .. } = said {
-            if left == 0 {
-                return lines[at];
-            }
-            left -= 1;
+        if !is_node(said) {
+            continue;
         }
+        if left == 0 {
+            return lines[at];
+        }
+        left -= 1;
     }
     0
 }
 
 /// The nodes by rank, where no node is left.
-fn order_of(alloc: Global, net: &Network, saids: &[Said], lines: &[u32]) -> Result<List<u32>, ModelFault>
+fn order_of(
+    alloc: Global,
+    net: &Network,
+    saids: &[Said],
+    lines: &[u32],
+) -> Result<List<u32>, ModelFault>
     requires few { length net.now.nodes ≤ 64 }
     requires wired { AreWired net.now.nodes }
     requires beside { length lines.now ≡ length saids.now }

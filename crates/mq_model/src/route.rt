@@ -93,7 +93,12 @@ fn read_outputs(words: &[&[u8]], at: &mut usize) -> Result<u8, Stop>
 }
 
 /// Reads what stands behind `mod`.
-fn read_modulo(alloc: Global, words: &[&[u8]], at: &mut usize, outputs: u8) -> Result<SaidRoute, Stop>
+fn read_modulo(
+    alloc: Global,
+    words: &[&[u8]],
+    at: &mut usize,
+    outputs: u8,
+) -> Result<SaidRoute, Stop>
     ensures reads { Reads result (words_from words.now at.new) (read (modulo_route outputs) (words_from words.now at.old)) }
     ensures within { at.old ≤ length words.now → at.new ≤ length words.now }
 {

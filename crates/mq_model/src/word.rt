@@ -68,7 +68,9 @@ pub fn demand_said(alloc: Global, word: &[u8]) -> Result<SaidDemand, AllocError>
     ensures { IfOk result (λ d. is_demand word.now ≡ true → d ≡ demand_of word.now) }
 {
     match word {
-        [b'=', digits @ ..] => Ok(SaidDemand::Fixed(read_number(digits, GREATEST_DEMAND).unwrap_or(0))),
+        [b'=', digits @ ..] => Ok(SaidDemand::Fixed(read_number(digits, GREATEST_DEMAND).unwrap_or(
+            0,
+        ))),
         _ => Ok(SaidDemand::Column(copied(alloc, word)?)),
     }
 }
@@ -110,4 +112,3 @@ pub fn input_said(alloc: Global, word: &[u8]) -> Result<SaidInput, AllocError>
         out: out.wrapping_sub(b'0'),
     })
 }
-
