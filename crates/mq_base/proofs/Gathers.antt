@@ -1,20 +1,10 @@
 -- How the texts that one writer gathers add up. In each lemma t, s and f are a sink's taken bytes, its sure bytes and
 -- its count of faults, at first, then, and at last; p is what is pending.
-use Rattle.std.proofs.Common.{◌≡◌, ℕ, ◌+◌, ◌≤◌, List, [], ◌++◌, length, refl, ap, ◌∙◌, arith, length-append, sym, append_assoc}
+use Rattle.std.proofs.Common.{◌≡◌, ℕ, ◌+◌, ◌≤◌, List, [], ◌++◌, length, ap, ◌∙◌, arith, length-append, sym, append_assoc}
 use Rattle.std.specs.declared.option.Option.{Option}
-use Rattle.std.specs.Io.KnownBytes.{append_known}
-use Rattle.std.specs.declared.option.Option.TheVariants.{None, Some}
 use Rattle.std.proofs.lemmas.List.{append-nil}
 use Rattle.mq_base.specs.Outside.{TakesFirst, TakesPrefix, GoesOut}
 use Rattle.mq_base.proofs.Puts.{takes_both, takes_part, takes_front}
-
-known_and_none : (t : Option (List ℕ)) → t ≡ append_known t []
-known_and_none None = refl
-known_and_none (Some had) = ap Some (sym (append-nil had))
-
--- nothing was put yet
-pub goes_start : (t : Option (List ℕ)) (s : ℕ) (p : List ℕ) → GoesOut t t s s p p
-goes_start t s p = record { done = []; took = record { at_most = omega arith; gained = known_and_none t; spent = omega arith }; split = refl }
 
 -- a further text, behind what was pending
 pub goes_more : (t t' t'' : Option (List ℕ)) (s s' s'' : ℕ) (text piece p p' : List ℕ) → GoesOut t t' s s' text p
@@ -32,6 +22,20 @@ goes_part t t' t'' s s' s'' text piece p h part =
     let cut : text ++ piece ≡ h.done ++ (p ++ piece) = ap (λ front. front ++ piece) h.split ∙ append_assoc h.done p piece in
     rw cut (takes_part t t' t'' s s' s'' h.done (p ++ piece) h.took part)
 
+-- Two writers, one after the other: the first adds `text` behind p, the second `more` behind what is pending then.
+pub goes_both : (t t' t'' : Option (List ℕ)) (s s' s'' : ℕ) (p p' p'' text more : List ℕ) → GoesOut t t' s s' (p ++ text) p'
+    → GoesOut t' t'' s' s'' (p' ++ more) p'' → GoesOut t t'' s s'' (p ++ (text ++ more)) p''
+goes_both t t' t'' s s' s'' p p' p'' text more h k = rw (← append_assoc p text more) (goes_more t t' t'' s s' s'' (p ++ text) more p' p'' h k)
+
+-- the first was refused
+pub front_goes : (t t' : Option (List ℕ)) (s s' : ℕ) (p text more : List ℕ) → TakesPrefix t t' s s' (p ++ text) → TakesPrefix t t' s s' (p ++ (text ++ more))
+front_goes t t' s s' p text more part = rw (← append_assoc p text more) (takes_front t t' s s' (p ++ text) more part)
+
+-- the second was refused
+pub goes_front : (t t' t'' : Option (List ℕ)) (s s' s'' : ℕ) (p p' text more : List ℕ) → GoesOut t t' s s' (p ++ text) p'
+    → TakesPrefix t' t'' s' s'' (p' ++ more) → TakesPrefix t t'' s s'' (p ++ (text ++ more))
+goes_front t t' t'' s s' s'' p p' text more h part = rw (← append_assoc p text more) (goes_part t t' t'' s s' s'' (p ++ text) more p' h part)
+
 -- what was pending went out, and then a text of its own
 pub goes_whole : (t t' t'' : Option (List ℕ)) (s s' s'' : ℕ) (p text left : List ℕ) → TakesFirst t t' s s' p (length p) → left ≡ []
     → TakesFirst t' t'' s' s'' text (length text) → GoesOut t t'' s s'' (p ++ text) left
@@ -41,14 +45,18 @@ goes_whole t t' t'' s s' s'' p text left first none second = record {
   split = sym (ap (λ rest. (p ++ text) ++ rest) none ∙ append-nil (p ++ text));
 }
 
--- What is pending goes out: the whole text is taken, or a first part of it.
-pub goes_flushed : (t t' t'' : Option (List ℕ)) (s s' s'' : ℕ) (text p : List ℕ) → GoesOut t t' s s' text p → TakesFirst t' t'' s' s'' p (length p)
-    → TakesFirst t t'' s s'' text (length text)
-goes_flushed t t' t'' s s' s'' text p h rest = rw h.split (takes_both t t' t'' s s' s'' h.done p h.took rest)
+-- What is pending goes out, behind a writer that began with nothing pending: the sink takes the whole text, or a first part of it.
+pub all_flushed : (t t' t'' : Option (List ℕ)) (s s' s'' : ℕ) (p p' text : List ℕ) → p ≡ [] → GoesOut t t' s s' (p ++ text) p'
+    → TakesFirst t' t'' s' s'' p' (length p') → TakesFirst t t'' s s'' text (length text)
+all_flushed t t' t'' s s' s'' p p' text none h rest =
+    let whole : text ≡ h.done ++ p' = sym (ap (λ front. front ++ text) none) ∙ h.split in
+    rw whole (takes_both t t' t'' s s' s'' h.done p' h.took rest)
 
-pub goes_flushed_part : (t t' t'' : Option (List ℕ)) (s s' s'' : ℕ) (text p : List ℕ) → GoesOut t t' s s' text p → TakesPrefix t' t'' s' s'' p
-    → TakesPrefix t t'' s s'' text
-goes_flushed_part t t' t'' s s' s'' text p h rest = rw h.split (takes_part t t' t'' s s' s'' h.done p h.took rest)
+pub part_flushed : (t t' t'' : Option (List ℕ)) (s s' s'' : ℕ) (p p' text : List ℕ) → p ≡ [] → GoesOut t t' s s' (p ++ text) p'
+    → TakesPrefix t' t'' s' s'' p' → TakesPrefix t t'' s s'' text
+part_flushed t t' t'' s s' s'' p p' text none h rest =
+    let whole : text ≡ h.done ++ p' = sym (ap (λ front. front ++ text) none) ∙ h.split in
+    rw whole (takes_part t t' t'' s s' s'' h.done p' h.took rest)
 
 -- where a writer of several texts stands: `rest` is what it has still to add of the whole text
 pub record Gathers (t t' : Option (List ℕ)) (s s' f f' : ℕ) (all p rest : List ℕ) : Type 0 where
@@ -57,10 +65,6 @@ pub record Gathers (t t' : Option (List ℕ)) (s s' f f' : ℕ) (all p rest : Li
   pub cut : all ≡ text ++ rest
   pub later : f ≤ f'
   pub calm : length all ≤ s → f' ≡ f
-
--- nothing is added yet
-pub gathers_start : (t : Option (List ℕ)) (s f : ℕ) (p rest : List ℕ) → Gathers t t s s f f (p ++ rest) p rest
-gathers_start t s f p rest = record { text = p; goes = goes_start t s p; cut = refl; later = omega arith; calm = λ room. refl }
 
 -- one more text was added
 pub gathers_more : (t t' t'' : Option (List ℕ)) (s s' s'' f f' f'' : ℕ) (all p p' left piece rest : List ℕ) → left ≡ piece ++ rest
@@ -88,9 +92,3 @@ pub gathers_part : (t t' t'' : Option (List ℕ)) (s s' s'' f f' : ℕ) (all p l
 gathers_part t t' t'' s s' s'' f f' all p left piece rest next h part =
     let cut : all ≡ (h.text ++ piece) ++ rest = h.cut ∙ ap (λ tail. h.text ++ tail) next ∙ sym (append_assoc h.text piece rest) in
     rw cut (takes_front t t'' s s'' (h.text ++ piece) rest (goes_part t t' t'' s s' s'' h.text piece p h.goes part))
-
--- all is added
-pub gathers_all : (t t' : Option (List ℕ)) (s s' f f' : ℕ) (all p rest : List ℕ) → rest ≡ [] → Gathers t t' s s' f f' all p rest → GoesOut t t' s s' all p
-gathers_all t t' s s' f f' all p rest none h =
-    let whole : all ≡ h.text = h.cut ∙ ap (λ tail. h.text ++ tail) none ∙ append-nil h.text in
-    rw whole h.goes

@@ -160,6 +160,11 @@ at-bound-row : past_in (desk_net 8) three ≡ None
 unfolding after step earliest sooner_of is_below place_of rank_in reader_from port_reading ranked_after first_ready
 at-bound-row = refl
 
+-- a row later than the bound passes it at its source
+past-source-row : past_in (desk_net 1) three ≡ Some (record { node = 0; position = 2; time = 2 })
+unfolding after step earliest sooner_of is_below place_of rank_in reader_from port_reading ranked_after first_ready
+past-source-row = refl
+
 -- Two departures pass the bound: that of the lower rank is named, though it is the smaller.
 abbrev two_desks : Network
 two_desks =

@@ -16,7 +16,7 @@ use Rattle.mq_core.specs.declared.model.Node.{Node}
 use Rattle.mq_core.specs.declared.model.Plan.{Plan}
 use Rattle.mq_core.specs.declared.model.Rows.{Rows}
 
--- what an emission says of a visit: a loss station emits a lost one on output 1
+-- what an emission says of a visit: it departs then
 abbrev pub fate_by : Kind → Emission → Fate
 fate_by _ m = Departs m.time
 

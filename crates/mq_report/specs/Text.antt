@@ -1,7 +1,7 @@
 -- The text of a report: a head, the jobs and the span, a line for each node by rank, and a line for each output that
 -- no input reads, by rank of its node and then output. Words are separated by one space, and each line ends with a line feed.
 use Rattle.std.specs.Prelude.{ℕ, zero, suc, ◌+◌, ◌*◌, ◌/◌, ◌%◌, ◌==◌, ◌&&◌, Bool, if◌then◌else◌, List, [], ◌∷◌, ◌++◌, length, Option, Some, None, slice_get, codes, decimal}
-use Rattle.std.specs.List.{flat_map, list_any}
+use Rattle.std.specs.List.{list_any}
 use Rattle.mq_core.specs.Local.{Local}
 use Rattle.mq_core.specs.Machine.{State, Station}
 use Rattle.mq_core.specs.NetworkRun.{run_in}
@@ -15,11 +15,11 @@ use Rattle.mq_core.specs.declared.model.Network.{Network}
 use Rattle.mq_core.specs.declared.model.Node.{Node}
 use Rattle.mq_core.specs.declared.model.Rows.{Rows}
 
-abbrev pub head_line : List ℕ
+unfoldable pub head_line : List ℕ
 head_line = codes "mpsim report 1" ++ 10 ∷ []
 
 -- how many jobs there are, and the time at which the last event happens
-abbrev pub jobs_line : ℕ → ℕ → List ℕ
+unfoldable pub jobs_line : ℕ → ℕ → List ℕ
 jobs_line jobs span = codes "jobs " ++ decimal jobs ++ codes " span " ++ decimal span ++ 10 ∷ []
 
 abbrev pub kind_word : Kind → List ℕ
@@ -27,28 +27,46 @@ kind_word Source = codes "source"
 kind_word (Server demand) = codes "server"
 kind_word (Split route) = codes "split"
 
--- a number of ten-thousandths: the digits before the last four, at least one, a point, and four digits
-abbrev pub ten_thousandths : ℕ → List ℕ
-ten_thousandths n = decimal (n / 10000) ++ 46 ∷ (48 + n / 1000 % 10) ∷ (48 + n / 100 % 10) ∷ (48 + n / 10 % 10) ∷ (48 + n % 10) ∷ []
+-- four digits
+abbrev pub last_digits : ℕ → List ℕ
+last_digits n = (48 + n / 1000) ∷ (48 + n / 100 % 10) ∷ (48 + n / 10 % 10) ∷ (48 + n % 10) ∷ []
+
+-- a number of ten-thousandths: the digits before the last four, at least one, a point, four digits, and the line's end
+unfoldable pub ten_thousandths : ℕ → List ℕ
+ten_thousandths n = decimal (n / 10000) ++ 46 ∷ (last_digits (n % 10000) ++ 10 ∷ [])
 
 -- the share of the servers' time in which they work, in ten-thousandths, rounded down; 0 where the span is 0
 abbrev pub utilisation : ℕ → ℕ → ℕ → ℕ
 utilisation busy servers span = if span == 0 then 0 else 10000 * busy / (servers * span)
 
--- a dash where the node has no servers
-abbrev pub utilisation_text : ℕ → ℕ → ℕ → List ℕ
-utilisation_text busy servers span = if servers == 0 then codes "-" else ten_thousandths (utilisation busy servers span)
+-- a dash where the node has no servers, and the line's end
+unfoldable pub utilisation_text : ℕ → ℕ → ℕ → List ℕ
+utilisation_text busy servers span = if servers == 0 then codes "-" ++ 10 ∷ [] else ten_thousandths (utilisation busy servers span)
+
+-- The parts of a node's line, each up to a word behind it: its name and kind, its counts, those lost, its waits, and its tallies.
+unfoldable pub node_words : List ℕ → List ℕ → List ℕ
+node_words name word = codes "node " ++ name ++ codes " " ++ word ++ codes " in "
+
+unfoldable pub node_counts : Totals → List ℕ
+node_counts totals = decimal totals.came ++ codes " out " ++ decimal totals.left ++ codes " lost "
+
+unfoldable pub node_losses : Totals → List ℕ
+node_losses totals = decimal totals.lost ++ codes " wait "
+
+unfoldable pub node_waits : Totals → List ℕ
+node_waits totals = decimal totals.wait ++ codes " max " ++ decimal totals.longest ++ codes " busy "
+
+unfoldable pub node_tallies : Totals → List ℕ
+node_tallies totals = decimal totals.busy ++ codes " area " ++ decimal totals.area ++ codes " peak " ++ decimal totals.peak ++ codes " util "
+
+abbrev pub node_numbers : Totals → List ℕ
+node_numbers totals = node_counts totals ++ (node_losses totals ++ (node_waits totals ++ node_tallies totals))
 
 abbrev pub node_line : List ℕ → Kind → Totals → ℕ → List ℕ
-node_line name kind totals span =
-    codes "node " ++ name ++ codes " " ++ kind_word kind
-    ++ codes " in " ++ decimal totals.came ++ codes " out " ++ decimal totals.left ++ codes " lost " ++ decimal totals.lost
-    ++ codes " wait " ++ decimal totals.wait ++ codes " max " ++ decimal totals.longest
-    ++ codes " busy " ++ decimal totals.busy ++ codes " area " ++ decimal totals.area ++ codes " peak " ++ decimal totals.peak
-    ++ codes " util " ++ utilisation_text totals.busy (servers_in kind) span ++ 10 ∷ []
+node_line name kind totals span = node_words name (kind_word kind) ++ (node_numbers totals ++ utilisation_text totals.busy (servers_in kind) span)
 
 -- the name and the output, the number of jobs that left by it, and the sum of their times in the network
-abbrev pub exit_line : List ℕ → ℕ → ℕ × ℕ → List ℕ
+unfoldable pub exit_line : List ℕ → ℕ → ℕ × ℕ → List ℕ
 exit_line name out exit =
     codes "exit " ++ name ++ codes "." ++ decimal out ++ codes " " ++ decimal exit.0 ++ codes " sojourn " ++ decimal exit.1 ++ 10 ∷ []
 
@@ -56,27 +74,42 @@ exit_line name out exit =
 abbrev pub is_read : List Node → ℕ → ℕ → Bool
 is_read nodes v out = list_any (λ (node : Node). list_any (λ (i : Input). (i.node == v) && (i.out == out)) node.inputs) nodes
 
--- the lines of the outputs below this one that no input reads
-abbrev pub exit_lines : List Node → Rows → ℕ → List ℕ → Station Local → ℕ → List ℕ
-exit_lines nodes rows v name station zero = []
-exit_lines nodes rows v name station (suc out) =
-    exit_lines nodes rows v name station out ++ (if is_read nodes v out then [] else exit_line name out (exit_of rows station out))
+-- the line of an output that no input reads
+abbrev pub exit_lines_at : List Node → Rows → ℕ → List ℕ → Station Local → ℕ → List ℕ
+exit_lines_at nodes rows v name station out = if is_read nodes v out then [] else exit_line name out (exit_of rows station out)
 
--- the line of a node of the network, and the lines of its exits
+-- the same for this many outputs, from this one on
+unfoldable pub exit_lines : List Node → Rows → ℕ → List ℕ → Station Local → ℕ → ℕ → List ℕ
+exit_lines nodes rows v name station out zero = []
+exit_lines nodes rows v name station out (suc more) = exit_lines_at nodes rows v name station out ++ exit_lines nodes rows v name station (out + 1) more
+
+abbrev pub line_of : Rows → State Local → ℕ → Node → List ℕ
+line_of rows end v node = node_line node.name node.kind (totals_of rows node.kind (end.stations v)) end.clock
+
+-- the line of a node of the network
 abbrev pub line_at : Rows → State Local → ℕ → Option Node → List ℕ
 line_at rows end v None = []
-line_at rows end v (Some node) = node_line node.name node.kind (totals_of rows node.kind (end.stations v)) end.clock
+line_at rows end v (Some node) = line_of rows end v node
 
+-- the lines of these nodes
+abbrev pub nodes_text : Network → Rows → State Local → List ℕ → List ℕ
+nodes_text net rows end [] = []
+nodes_text net rows end (v ∷ order) = line_at rows end v (slice_get net.nodes v) ++ nodes_text net rows end order
+
+-- the lines of the exits of a node of the network
 abbrev pub exits_at : List Node → Rows → State Local → ℕ → Option Node → List ℕ
 exits_at nodes rows end v None = []
-exits_at nodes rows end v (Some node) = exit_lines nodes rows v node.name (end.stations v) (outputs_in node.kind)
+exits_at nodes rows end v (Some node) = exit_lines nodes rows v node.name (end.stations v) 0 (outputs_in node.kind)
+
+-- the lines of the exits of these nodes
+abbrev pub exits_text : Network → Rows → State Local → List ℕ → List ℕ
+exits_text net rows end [] = []
+exits_text net rows end (v ∷ order) = exits_at net.nodes rows end v (slice_get net.nodes v) ++ exits_text net rows end order
 
 -- the report of a state, with the nodes in this order
 abbrev pub report_text : Network → List ℕ → Rows → State Local → List ℕ
 report_text net order rows end =
-    head_line ++ jobs_line (length rows.time) end.clock
-    ++ flat_map (λ v. line_at rows end v (slice_get net.nodes v)) order
-    ++ flat_map (λ v. exits_at net.nodes rows end v (slice_get net.nodes v)) order
+    (head_line ++ jobs_line (length rows.time) end.clock) ++ (nodes_text net rows end order ++ exits_text net rows end order)
 
 -- the report of the sequential event-list run of a network over rows
 abbrev pub report_in : Network → Rows → List ℕ

@@ -1,2 +1,5 @@
 //! The report of a run.
 #![tactic(auto)]
+
+mod lines;
+mod report;

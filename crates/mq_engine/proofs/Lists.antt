@@ -1,0 +1,117 @@
+-- Lists by place, and what a loop has made of one so far.
+use Rattle.std.proofs.Common.{◌==◌, ◌||◌, subst, ◌≡◌, ◌≢◌, ℕ, zero, suc, ◌+◌, ◌<◌, ◌≤◌, Bool, true, false, IsTrue, List, [], ◌∷◌, ◌++◌, length, get_or, set, take, drop, map, Some, sym, refl, ap, ◌∙◌, arith, eqb-true, append_assoc}
+use Rattle.std.specs.Prelude.{slice_get}
+use Rattle.std.specs.List.{AllByRecursion as Each, flat_map, zip}
+use Rattle.std.proofs.lemmas.Bool.Decides.{nat_tests}
+use Rattle.std.proofs.lemmas.List.{append-nil}
+use Rattle.mq_core.proofs.Pending.{some_inj}
+use Rattle.mq_core.specs.Wiring.{has}
+
+pub drop_at : {X : Type 0} (xs : List X) (i : ℕ) (x : X) → slice_get xs i ≡ Some x → drop i xs ≡ x ∷ drop (suc i) xs
+drop_at [] i x h = absurd cc
+drop_at (y ∷ ys) zero x h = ap (λ z. z ∷ ys) (some_inj y x h)
+drop_at (y ∷ ys) (suc i) x h = drop_at ys i x h
+
+-- one item more, of what a map has made so far
+map-next : {X Y : Type 0} (f : X → Y) (xs : List X) (i : ℕ) (x : X) → slice_get xs i ≡ Some x → map f (take (suc i) xs) ≡ map f (take i xs) ++ f x ∷ []
+map-next f [] i x h = absurd cc
+map-next f (y ∷ ys) zero x h = ap (λ z. f z ∷ []) (some_inj y x h)
+map-next f (y ∷ ys) (suc i) x h = ap (λ l. f y ∷ l) (map-next f ys i x h)
+
+pub map-more : {X Y : Type 0} (f : X → Y) (xs : List X) (i : ℕ) (x : X) (done done' : List Y) → slice_get xs i ≡ Some x → done' ≡ done ++ f x ∷ [] → done ≡ map f (take i xs) → done' ≡ map f (take (i + 1) xs)
+map-more f xs i x done done' h p k =
+    let next : suc i ≡ i + 1 = omega arith in
+    p ∙ (ap (λ l. l ++ f x ∷ []) k ∙ (sym (map-next f xs i x h) ∙ ap (λ n. map f (take n xs)) next))
+
+pub take-all : {X : Type 0} (xs : List X) (i : ℕ) → length xs ≤ i → take i xs ≡ xs
+take-all [] zero h = refl
+take-all [] (suc i) h = refl
+take-all (x ∷ xs) zero h = absurd (omega arith)
+take-all (x ∷ xs) (suc i) h = ap (λ l. x ∷ l) (take-all xs i (omega arith))
+
+pub map-all : {X Y : Type 0} (f : X → Y) (xs : List X) (i : ℕ) (done : List Y) → length xs ≤ i → done ≡ map f (take i xs) → done ≡ map f xs
+map-all f xs i done h k = k ∙ ap (map f) (take-all xs i h)
+
+flat_map-next : {X Y : Type 0} (f : X → List Y) (xs : List X) (i : ℕ) (x : X) → slice_get xs i ≡ Some x → flat_map f (take (suc i) xs) ≡ flat_map f (take i xs) ++ f x
+flat_map-next f [] i x h = absurd cc
+flat_map-next f (y ∷ ys) zero x h = append-nil (f y) ∙ ap f (some_inj y x h)
+flat_map-next f (y ∷ ys) (suc i) x h = ap (λ l. f y ++ l) (flat_map-next f ys i x h) ∙ sym (append_assoc (f y) (flat_map f (take i ys)) (f x))
+
+pub flat_map-more : {X Y : Type 0} (f : X → List Y) (xs : List X) (i : ℕ) (x : X) → slice_get xs i ≡ Some x → flat_map f (take (i + 1) xs) ≡ flat_map f (take i xs) ++ f x
+flat_map-more f xs i x h = let next : i + 1 ≡ suc i = omega arith in ap (λ n. flat_map f (take n xs)) next ∙ flat_map-next f xs i x h
+
+-- two functions that agree on the items of a list
+pub flat_map-same : {X Y : Type 0} (f g : X → List Y) (xs : List X) → ((k : ℕ) (x : X) → slice_get xs k ≡ Some x → f x ≡ g x) → flat_map f xs ≡ flat_map g xs
+flat_map-same f g [] h = refl
+flat_map-same f g (x ∷ xs) h = (λ k. h zero x refl k ++ flat_map-same f g xs (λ j y e. h (suc j) y e) k)
+
+pub Each-get : {X : Type 0} (P : X → Type 0) (xs : List X) (k : ℕ) (x : X) → Each P xs → slice_get xs k ≡ Some x → P x
+Each-get P [] k x h e = absurd cc
+Each-get P (y ∷ ys) zero x h e = subst P (some_inj y x e) h.0
+Each-get P (y ∷ ys) (suc k) x h e = Each-get P ys k x h.1 e
+
+pub Each-at : {X : Type 0} (P : X → Type 0) (xs : List X) → ((k : ℕ) (x : X) → slice_get xs k ≡ Some x → P x) → Each P xs
+Each-at P [] h = tt
+Each-at P (x ∷ xs) h = (h zero x refl, Each-at P xs (λ k y e. h (suc k) y e))
+
+pub Each-get_or : {X : Type 0} (P : X → Type 0) (xs : List X) → Each P xs → (k : ℕ) (d : X) → k < length xs → P (get_or xs k d)
+Each-get_or P [] h k d l = absurd (omega arith)
+Each-get_or P (x ∷ xs) h zero d l = h.0
+Each-get_or P (x ∷ xs) h (suc k) d l = Each-get_or P xs h.1 k d (omega arith)
+
+-- a place that is written
+pub get-set_same : {X : Type 0} (xs : List X) (i : ℕ) (x : X) → i < length xs → slice_get (set xs i x) i ≡ Some x
+get-set_same [] i x l = absurd (omega arith)
+get-set_same (y ∷ ys) zero x l = refl
+get-set_same (y ∷ ys) (suc i) x l = get-set_same ys i x (omega arith)
+
+pub get-set_other : {X : Type 0} (xs : List X) (i j : ℕ) (x : X) → j ≢ i → slice_get (set xs i x) j ≡ slice_get xs j
+get-set_other [] i j x l = refl
+get-set_other (y ∷ ys) zero zero x l = absurd (l refl)
+get-set_other (y ∷ ys) zero (suc j) x l = refl
+get-set_other (y ∷ ys) (suc i) zero x l = refl
+get-set_other (y ∷ ys) (suc i) (suc j) x l = get-set_other ys i j x (λ e. l (ap suc e))
+
+-- what a list has, and what its front has
+pub has-place : (xs : List ℕ) (n : ℕ) → IsTrue (has xs n) → (q : ℕ) × (slice_get xs q ≡ Some n)
+has-place [] n h = absurd cc
+has-place (m ∷ ms) n h = go (m == n) refl (λ k. has-place ms n k) h
+  where
+    go : (b : Bool) → (m == n) ≡ b → (IsTrue (has ms n) → (q : ℕ) × (slice_get ms q ≡ Some n)) → IsTrue (b || has ms n) → (q : ℕ) × (slice_get (m ∷ ms) q ≡ Some n)
+    go true e ih k = (0, ap Some (eqb-true m n e))
+    go false e ih k = (suc (ih k).0, (ih k).1)
+
+pub get-take : {X : Type 0} (xs : List X) (rank q : ℕ) (x : X) → slice_get (take rank xs) q ≡ Some x → (q < rank) × (slice_get xs q ≡ Some x)
+get-take [] zero q x h = absurd cc
+get-take [] (suc rank) q x h = absurd cc
+get-take (y ∷ ys) zero q x h = absurd cc
+get-take (y ∷ ys) (suc rank) zero x h = (omega arith, h)
+get-take (y ∷ ys) (suc rank) (suc q) x h = let r = get-take ys rank q x h in (let l = r.0 in omega arith, r.1)
+
+pub has-front : (xs : List ℕ) (rank q n : ℕ) → q < rank → slice_get xs q ≡ Some n → has (take rank xs) n ≡ true
+has-front [] rank q n l h = absurd cc
+has-front (m ∷ ms) zero q n l h = absurd (omega arith)
+has-front (m ∷ ms) (suc rank) zero n l h = let e = some_inj m n h in grind (arith, nat_tests)
+has-front (m ∷ ms) (suc rank) (suc q) n l h = let ih = has-front ms rank q n (omega arith) h in grind (arith, nat_tests)
+
+-- both lists of a zip, where they are as long
+pub zip-first : (ts js : List ℕ) → length js ≡ length ts → map (λ (p : ℕ × ℕ). p.0) (zip ts js) ≡ ts
+zip-first [] js h = refl
+zip-first (t ∷ ts) [] h = absurd (omega arith)
+zip-first (t ∷ ts) (j ∷ js) h = ap (λ l. t ∷ l) (zip-first ts js (omega arith))
+
+zip-second : (ts js : List ℕ) → length js ≡ length ts → map (λ (p : ℕ × ℕ). p.1) (zip ts js) ≡ js
+zip-second [] [] h = refl
+zip-second [] (j ∷ js) h = absurd (omega arith)
+zip-second (t ∷ ts) [] h = refl
+zip-second (t ∷ ts) (j ∷ js) h = ap (λ l. j ∷ l) (zip-second ts js (omega arith))
+
+pub zip-times : (ts js us ks : List ℕ) → length js ≡ length ts → length ks ≡ length us → zip ts js ≡ zip us ks → ts ≡ us
+zip-times ts js us ks a b h = sym (zip-first ts js a) ∙ (ap (map (λ (p : ℕ × ℕ). p.0)) h ∙ zip-first us ks b)
+
+pub zip-jobs : (ts js us ks : List ℕ) → length js ≡ length ts → length ks ≡ length us → zip ts js ≡ zip us ks → js ≡ ks
+zip-jobs ts js us ks a b h = sym (zip-second ts js a) ∙ (ap (map (λ (p : ℕ × ℕ). p.1)) h ∙ zip-second us ks b)
+
+pub zip-map : (ps : List (ℕ × ℕ)) → zip (map (λ (p : ℕ × ℕ). p.0) ps) (map (λ (p : ℕ × ℕ). p.1) ps) ≡ ps
+zip-map [] = refl
+zip-map (p ∷ ps) = ap (λ l. p ∷ l) (zip-map ps)

@@ -1,0 +1,13 @@
+use Rattle.std.proofs.Common.{◌≤◌, length, arith}
+use Rattle.mq_engine.proofs.Gone.{finding-next, finding-ends}
+use Rattle.mq_engine.proofs.occupancy.found.Goals as goal
+
+pub loop-at-preserved : goal.loop-at-preserved
+loop-at-preserved c =
+    finding-next c.args.arrive.now c.args.fate.now c.loop-at.found _ c.loop-at.gone c.loop-at.at c.get.result.now c.gone_by-gone.result c.requires.even c.requires.arrive c.requires.fate c.get.ensures c.loop-at.invariant
+    (record { from = c.gone_by-gone.ensures.from; below = c.gone_by-gone.ensures.below; gone = c.gone_by-gone.ensures.gone; stays = c.gone_by-gone.ensures.stays }) c.in_ok-push.ensures.ok
+
+pub returns : goal.returns
+returns c =
+    let over : length c.args.arrive.now ≤ c.loop-at.at = omega arith in
+    finding-ends c.args.arrive.now c.args.fate.now c.loop-at.found c.loop-at.gone c.loop-at.at over c.loop-at.invariant

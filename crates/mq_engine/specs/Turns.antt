@@ -1,0 +1,79 @@
+-- What one turn of the engine makes of a node, in columns alone.
+use Rattle.std.specs.Prelude.{◌≡◌, ◌<◌, ◌≤◌, ◌^◌, ℕ, IsTrue, if◌then◌else◌, List, [], length, map, Option, Some, None, slice_get}
+use Rattle.std.specs.List.{AllByRecursion, flat_map}
+use Rattle.mq_core.specs.Columns.{IsStream, pairs_of, rows_at, column_fates, column_stream, column_visits, time_of_fate}
+use Rattle.mq_core.specs.Laws.{Rises}
+use Rattle.mq_core.specs.PlanLaws.{Tells}
+use Rattle.mq_core.specs.Sound.{is_sound_kind, outputs_in}
+use Rattle.mq_core.specs.Wiring.{is_source_kind}
+use Rattle.mq_core.specs.declared.model.Fate.{Fate}
+use Rattle.mq_core.specs.declared.model.Fate.TheVariants.{Departs}
+use Rattle.mq_core.specs.declared.model.Input.{Input}
+use Rattle.mq_core.specs.declared.model.Kind.{Kind}
+use Rattle.mq_core.specs.declared.model.Network.{Network}
+use Rattle.mq_core.specs.declared.model.Node.{Node}
+use Rattle.mq_core.specs.declared.model.Rows.{Rows}
+use Rattle.mq_core.specs.declared.model.Stream.{Stream}
+use Rattle.mq_core.specs.declared.model.Visits.{Visits}
+
+-- the items of the stream of an output, where a node has these streams
+abbrev pub pairs_by : Option Stream → List (ℕ × ℕ)
+pairs_by None = []
+pairs_by (Some stream) = pairs_of stream
+
+abbrev pub pairs_in : Option (List Stream) → ℕ → List (ℕ × ℕ)
+pairs_in None out = []
+pairs_in (Some streams) out = pairs_by (slice_get streams out)
+
+-- what a port reads, where the nodes have these streams
+abbrev pub pairs_read : List (List Stream) → Input → List (ℕ × ℕ)
+pairs_read outputs input = pairs_in (slice_get outputs input.node) input.out
+
+-- what comes to a node: the rows of a source, in file order, or what the ports of another node read, port after port
+abbrev pub arriving : Rows → ℕ → Node → List (List Stream) → List (ℕ × ℕ)
+arriving rows v node outputs =
+    if is_source_kind node.kind then rows_at v 0 rows.source rows.time else flat_map (pairs_read outputs) node.inputs
+
+-- an input reads a stream that is there
+pub record IsThere (outputs : List (List Stream)) (input : Input) : Type 0 where
+  pub node : input.node < length outputs
+  pub out : (streams : List Stream) → slice_get outputs input.node ≡ Some streams → input.out < length streams
+
+-- each stream is one, with times in their limit
+pub record IsEarlyStream (stream : Stream) : Type 0 where
+  pub ordered : IsStream stream
+  pub early : AllByRecursion (λ time. time ≤ 2 ^ 60) stream.time
+
+abbrev pub AreEarly : List (List Stream) → Type 0
+AreEarly outputs = (u out : ℕ) (streams : List Stream) (stream : Stream) → slice_get outputs u ≡ Some streams → slice_get streams out ≡ Some stream → IsEarlyStream stream
+
+-- the rows tell what each of these jobs asks for
+abbrev pub AreTold : Network → Rows → List ℕ → Type 0
+AreTold net rows jobs = (k job : ℕ) → slice_get jobs k ≡ Some job → Tells net rows job
+
+-- arrivals that a node of this kind can work on: in order, few and early, and the rows tell what each job asks for
+pub record IsLoad (net : Network) (rows : Rows) (kind : Kind) (arrivals : Stream) : Type 0 where
+  pub sound : IsTrue (is_sound_kind (length net.columns) kind)
+  pub ordered : IsEarlyStream arrivals
+  pub few : length arrivals.time ≤ 1048576
+  pub told : AreTold net rows arrivals.job
+
+-- none is lost, and none leaves before one ahead of it
+pub record LeaveInOrder (fates : List Fate) : Type 0 where
+  pub depart : fates ≡ map (λ time. Departs time) (map time_of_fate fates)
+  pub rising : Rises (λ a b. a ≤ b) (map time_of_fate fates)
+
+-- the streams are those of the columns, one per output
+pub record AreStreams (rows : Rows) (kind : Kind) (arrivals : Stream) (streams : List Stream) : Type 0 where
+  pub count : length streams ≡ outputs_in kind
+  pub each : (out : ℕ) → out < outputs_in kind → slice_get streams out ≡ Some (column_stream rows kind arrivals.job arrivals.time out)
+
+-- what leaves a station: the fate of each arrival, and the streams by output
+pub record IsLeaving (rows : Rows) (kind : Kind) (arrivals : Stream) (fates : List Fate) (streams : List Stream) : Type 0 where
+  pub leave : fates ≡ column_fates rows kind arrivals.job arrivals.time
+  pub outflow : AreStreams rows kind arrivals streams
+
+-- what a turn makes of a node: the columns of its arrivals
+pub record IsTurn (rows : Rows) (kind : Kind) (arrivals : Stream) (visits : Visits) (streams : List Stream) : Type 0 where
+  pub columns : visits ≡ column_visits rows kind arrivals.job arrivals.time
+  pub outflow : AreStreams rows kind arrivals streams

@@ -1,0 +1,119 @@
+ghost use Rattle.std.specs.Prelude.{◌≡◌, ◌<◌, ◌≤◌, ℕ, length, IfOk, Some, slice_get};
+ghost use Rattle.std.specs.List.{flat_map};
+ghost use Rattle.mq_core.specs.Columns.{IsStream, by_first, pairs_of, rows_at};
+ghost use Rattle.mq_core.specs.Laws.{Rises};
+ghost use Rattle.mq_core.specs.declared.model.Input.{Input as Port};
+ghost use Rattle.mq_engine.specs.Turns.{AreEarly, IsEarlyStream, IsThere, arriving, pairs_read};
+
+use mq_base::{List, OutOfMemory};
+use mq_core::{Input, Kind, Node, Rows, Stream, merges_twice};
+use mq_merge::merge_two;
+use std::alloc::Global;
+
+// The arrivals at a node: the rows of a source, or the streams that the ports of another node read,
+// where the nodes have these streams. They come by time, and those of one time in file order or by
+// port.
+pub fn arrivals_at(
+    alloc: Global,
+    rows: &Rows,
+    number: u32,
+    node: &Node,
+    outputs: &[List<Stream>],
+) -> Result<Stream, OutOfMemory>
+    requires even { length rows.now.source ≡ length rows.now.time }
+    requires few { length rows.now.time ≤ 1048576 }
+    requires there { (port : ℕ) (input : Port) → slice_get node.now.inputs port ≡ Some input → IsThere outputs.now input }
+    requires early { AreEarly outputs.now }
+    ensures stream { IfOk result (λ stream. IsStream stream) }
+    ensures items { IfOk result (λ stream. pairs_of stream ≡ by_first (arriving rows.now number node.now outputs.now)) }
+{
+    match node.kind {
+        Kind::Source => rows_by_time(alloc, number, &rows.source, &rows.time),
+        _ => merged(alloc, &node.inputs, outputs),
+    }
+}
+
+// The rows of a source by time, those of one time in file order.
+fn rows_by_time(
+    alloc: Global,
+    node: u32,
+    source: &List<u32>,
+    time: &List<u64>,
+) -> Result<Stream, OutOfMemory>
+    requires even { length source.now ≡ length time.now }
+    requires few { length time.now ≤ 1048576 }
+    ensures stream { IfOk result (λ stream. IsStream stream) }
+    ensures items { IfOk result (λ stream. pairs_of stream ≡ by_first (rows_at node 0 source.now time.now)) }
+{
+    let mut rows = rows_of(alloc, node, source, time)?;
+    rows.sort_by_key(|row| row.0)?;
+    columns_of(alloc, &rows)
+}
+
+// The time and the job of each row of a source, in file order.
+fn rows_of(
+    alloc: Global,
+    node: u32,
+    source: &List<u32>,
+    time: &List<u64>,
+) -> Result<Vec<(u64, u32)>, OutOfMemory>
+    requires even { length source.now ≡ length time.now }
+    requires few { length time.now ≤ 1048576 }
+    ensures { IfOk result (λ rows. rows.items ≡ rows_at node 0 source.now time.now) }
+{
+    let mut rows = Vec::new(alloc);
+    for job in 0..source.len() {
+        if *source.get(job) == node {
+            rows.push((*time.get(job), job as u32))?;
+        }
+    }
+    Ok(rows)
+}
+
+// The stream of items that are by time.
+fn columns_of(alloc: Global, items: &[(u64, u32)]) -> Result<Stream, OutOfMemory>
+    requires { Rises (λ p q. p.0 ≤ q.0) items.now }
+    ensures stream { IfOk result (λ stream. IsStream stream) }
+    ensures items { IfOk result (λ stream. pairs_of stream ≡ items.now) }
+{
+    let mut job = List::new(alloc);
+    let mut time = List::new(alloc);
+    for item in items {
+        time.push(item.0)?;
+        job.push(item.1)?;
+    }
+    Ok(Stream { job, time })
+}
+
+// What these ports read, by time and then port.
+fn merged(
+    alloc: Global,
+    inputs: &List<Input>,
+    outputs: &[List<Stream>],
+) -> Result<Stream, OutOfMemory>
+    requires there { (port : ℕ) (input : Port) → slice_get inputs.now port ≡ Some input → IsThere outputs.now input }
+    requires early { AreEarly outputs.now }
+    ensures stream { IfOk result (λ stream. IsStream stream) }
+    ensures items { IfOk result (λ stream. pairs_of stream ≡ by_first (flat_map (pairs_read outputs.now) inputs.now)) }
+{
+    merges_twice();
+    let mut merged = Stream {
+        job: List::new(alloc),
+        time: List::new(alloc),
+    };
+    for port in 0..inputs.len() {
+        let input = inputs.get(port);
+        merged = merge_two(alloc, &merged, stream_of(outputs, input))?;
+    }
+    Ok(merged)
+}
+
+// The stream that an input reads.
+fn stream_of<'a>(outputs: &'a [List<Stream>], input: &Input) -> &'a Stream
+    requires there { IsThere outputs.now input.now }
+    requires early { AreEarly outputs.now }
+    ensures stream { IsEarlyStream result.now }
+    ensures items { pairs_of result.now ≡ pairs_read outputs.now input.now }
+{
+    outputs[input.node as usize].get(input.out as usize)
+}

@@ -1,0 +1,27 @@
+ghost use Rattle.mq_engine.specs.CoreLaws.{CoreLaws};
+
+use mq_core::{
+    arrivals_are_streams, columns_make_runs, jobs_are_rows, nodes_are_columns, nodes_are_in_limits,
+    on_time_grows, orders_rank, outputs_have_streams, past_is_first, past_is_none,
+    rows_tell_demands, streams_make_outputs, streams_rise, visits_are_few,
+};
+
+// The laws of runs that the engine rests on. It does nothing when it runs.
+pub fn core_laws()
+    ensures { CoreLaws }
+{
+    nodes_are_in_limits();
+    orders_rank();
+    rows_tell_demands();
+    arrivals_are_streams();
+    visits_are_few();
+    jobs_are_rows();
+    nodes_are_columns();
+    streams_rise();
+    outputs_have_streams();
+    streams_make_outputs();
+    columns_make_runs();
+    on_time_grows();
+    past_is_first();
+    past_is_none();
+}

@@ -1,0 +1,161 @@
+ghost use Rattle.std.specs.Prelude.{◌≡◌, ◌∷◌, [], length, map, IfOk, IsTrue};
+ghost use Rattle.mq_core.specs.Columns.{IsStream};
+ghost use Rattle.mq_core.specs.PlanLaws.{Tells};
+ghost use Rattle.mq_core.specs.Sound.{is_sound_demand, is_sound_route};
+ghost use Rattle.mq_core.specs.Standard.{demand_of_job, route_value};
+ghost use Rattle.mq_core.specs.declared.model.Fate.TheVariants.{Departs};
+ghost use Rattle.mq_core.specs.declared.model.Rows.{Rows as TheRows};
+ghost use Rattle.mq_engine.specs.Turns.{AreTold, IsLeaving, IsLoad};
+
+use mq_base::{List, OutOfMemory};
+use mq_core::{Demand, Fate, Kind, Network, Route, Rows, Stream, demand_of};
+use mq_server::departures;
+use mq_split::split;
+use std::alloc::Global;
+
+// What leaves a station: the fate of each arrival, and the streams by output.
+#[derive(Drop)]
+pub struct Outflow {
+    pub fates: List<Fate>,
+    pub streams: List<Stream>,
+}
+
+// What leaves a station of this kind, of these arrivals. A further kind adds its case here.
+pub fn leaving(
+    alloc: Global,
+    net: &Network,
+    rows: &Rows,
+    kind: &Kind,
+    arrivals: &Stream,
+) -> Result<Outflow, OutOfMemory>
+    requires { IsLoad net.now rows.now kind.now arrivals.now }
+    ensures { IfOk result (λ leaving. IsLeaving rows.now kind.now arrivals.now leaving.fates leaving.streams) }
+{
+    match kind {
+        Kind::Source => passed_on(alloc, arrivals),
+        Kind::Server(demand) => served(alloc, net, rows, demand, arrivals),
+        Kind::Split(route) => routed(alloc, net, rows, route, arrivals),
+    }
+}
+
+// What leaves a source: each job goes on as it comes.
+fn passed_on(alloc: Global, arrivals: &Stream) -> Result<Outflow, OutOfMemory>
+    requires { IsStream arrivals.now }
+    ensures { IfOk result (λ leaving. (rows : TheRows) → IsLeaving rows Kind.Source arrivals.now leaving.fates leaving.streams) }
+{
+    let departs = List::from_vec(Vec::from_slice(alloc, arrivals.time.as_slice())?);
+    let fates = fates_of(alloc, &departs)?;
+    let streams = one_stream(alloc, &arrivals.job, departs)?;
+    Ok(Outflow { fates, streams })
+}
+
+// What leaves a server.
+fn served(
+    alloc: Global,
+    net: &Network,
+    rows: &Rows,
+    demand: &Demand,
+    arrivals: &Stream,
+) -> Result<Outflow, OutOfMemory>
+    requires { IsLoad net.now rows.now (Kind.Server demand.now) arrivals.now }
+    ensures { IfOk result (λ leaving. IsLeaving rows.now (Kind.Server demand.now) arrivals.now leaving.fates leaving.streams) }
+{
+    let demands = demands_of(alloc, net, rows, demand, &arrivals.job)?;
+    let departs = departures(alloc, arrivals, &demands)?;
+    let fates = fates_of(alloc, &departs)?;
+    let streams = one_stream(alloc, &arrivals.job, departs)?;
+    Ok(Outflow { fates, streams })
+}
+
+// What leaves a split: each job goes on as it comes, by the output of its route.
+fn routed(
+    alloc: Global,
+    net: &Network,
+    rows: &Rows,
+    route: &Route,
+    arrivals: &Stream,
+) -> Result<Outflow, OutOfMemory>
+    requires { IsLoad net.now rows.now (Kind.Split route.now) arrivals.now }
+    ensures { IfOk result (λ leaving. IsLeaving rows.now (Kind.Split route.now) arrivals.now leaving.fates leaving.streams) }
+{
+    let values = values_of(alloc, net, rows, route, &arrivals.job)?;
+    let streams = split(alloc, arrivals, &values, route)?;
+    let fates = fates_of(alloc, &arrivals.time)?;
+    Ok(Outflow { fates, streams })
+}
+
+// The demand of each job, in ticks.
+fn demands_of(
+    alloc: Global,
+    net: &Network,
+    rows: &Rows,
+    demand: &Demand,
+    jobs: &List<u32>,
+) -> Result<List<u64>, OutOfMemory>
+    requires demand { IsTrue (is_sound_demand (length net.now.columns) demand.now) }
+    requires told { AreTold net.now rows.now jobs.now }
+    ensures { IfOk result (λ demands. demands ≡ map (demand_of_job rows.now demand.now) jobs.now) }
+{
+    let mut demands = List::new(alloc);
+    for at in 0..jobs.len() {
+        demands.push(demand_of(rows, demand, *jobs.get(at)))?;
+    }
+    Ok(demands)
+}
+
+// The value of each job that the route looks at; by turns it looks at none.
+fn values_of(
+    alloc: Global,
+    net: &Network,
+    rows: &Rows,
+    route: &Route,
+    jobs: &List<u32>,
+) -> Result<List<u64>, OutOfMemory>
+    requires route { IsTrue (is_sound_route (length net.now.columns) route.now) }
+    requires told { AreTold net.now rows.now jobs.now }
+    ensures { IfOk result (λ values. values ≡ map (route_value rows.now route.now) jobs.now) }
+{
+    let mut values = List::new(alloc);
+    for at in 0..jobs.len() {
+        values.push(value_by(net, rows, route, *jobs.get(at)))?;
+    }
+    Ok(values)
+}
+
+fn value_by(net: &Network, rows: &Rows, route: &Route, job: u32) -> u64
+    requires route { IsTrue (is_sound_route (length net.now.columns) route.now) }
+    requires told { Tells net.now rows.now job }
+    ensures { result ≡ route_value rows.now route.now job }
+{
+    match route {
+        Route::Turn { .. } => 0,
+        Route::Modulo { column, .. } | Route::Cut { column, .. } => {
+            demand_of(rows, &Demand::Column(*column), job)
+        }
+    }
+}
+
+// The fates of visits that depart at these times.
+fn fates_of(alloc: Global, departs: &List<u64>) -> Result<List<Fate>, OutOfMemory>
+    ensures { IfOk result (λ fates. fates ≡ map (λ time. Departs time) departs.now) }
+{
+    let mut fates = List::new(alloc);
+    for at in 0..departs.len() {
+        fates.push(Fate::Departs(*departs.get(at)))?;
+    }
+    Ok(fates)
+}
+
+// The streams of a node with one output, by which these jobs leave at these times.
+fn one_stream(
+    alloc: Global,
+    jobs: &List<u32>,
+    departs: List<u64>,
+) -> Result<List<Stream>, OutOfMemory>
+    ensures { IfOk result (λ streams. streams ≡ record { job = jobs.now; time = departs } ∷ []) }
+{
+    let job = List::from_vec(Vec::from_slice(alloc, jobs.as_slice())?);
+    let mut streams = List::new(alloc);
+    streams.push(Stream { job, time: departs })?;
+    Ok(streams)
+}

@@ -1,0 +1,115 @@
+-- Every line of the table can be completed from wherever it stands.
+use Rattle.std.proofs.Common.{◌≡◌, refl, ℕ, zero, suc, ◌∷◌, Bool, true, false, inl, inr}
+use Rattle.std.specs.Prelude.{codes, nat_lt}
+use Rattle.std.proofs.lemmas.Bool.{cases_Bool}
+use Rattle.std.proofs.lemmas.Slice.Eq.{bytes_eq-Decides}
+use Rattle.mq_model.specs.Form.{◌>>=◌, Form, Word, stop, word, maybe, one, up_to, IsLive}
+use Rattle.mq_model.specs.declared.said.SaidDemand.{SaidDemand}
+use Rattle.mq_model.specs.declared.said.SaidKind.{SaidKind}
+use Rattle.mq_model.specs.declared.said.SaidKind.TheVariants.{Server}
+use Rattle.mq_model.specs.Lines.{key, is_input, input_of, is_up_to, a_name, a_demand, inputs, rising, thresholds, a_route, cut_route, counted_route, modulo_route, way_of, split_kind, node_line, line, is_key, is_from_to, greatest_demand, value_of}
+
+live_weak : {A : Type 0} (must : Bool) (f : Form A) → IsLive true f → IsLive must f
+unfolding IsLive
+live_weak true f live = live
+live_weak false (stop a) live = tt
+live_weak false (word p f) live = (tt, live.1)
+live_weak false (maybe p f g) live = (tt, live.1, live.2)
+
+live_then : {A B : Type 0} (must : Bool) (f : Form A) (more : A → Form B) → IsLive must f → ((a : A) → IsLive true (more a)) → IsLive must (f >>= more)
+unfolding IsLive ◌>>=◌
+live_then must (stop a) more live next = live_weak must (more a) (next a)
+live_then must (word p f) more live next = (live.0, λ w h. live_then true (f w) more (live.1 w h) next)
+live_then must (maybe p f g) more live next = (live.0, λ w h. live_then true (f w) more (live.1 w h) next, live_then false g more live.2 next)
+
+live_one : {A : Type 0} (p : Word → Bool) (value : Word → A) (w : Word) → p w ≡ true → IsLive true (one p value)
+unfolding IsLive
+live_one p value w h = ((w, h), λ v k. tt)
+
+live_up_to : {A : Type 0} (n : ℕ) (p : Word → Bool) (value : Word → A) (w : Word) → p w ≡ true → IsLive true (up_to n p value)
+unfolding IsLive up_to
+live_up_to zero p value w h = tt
+live_up_to (suc n) p value w h = ((w, h), λ v k. live_then true (up_to n p value) (λ more. stop (value v ∷ more)) (live_up_to n p value w h) (λ more. tt), tt)
+
+live_maybe : {A : Type 0} (must : Bool) (p : Word → Bool) (f : Word → Form A) (g : Form A) (w : Word) → p w ≡ true → ((v : Word) → p v ≡ true → IsLive true (f v)) → IsLive false g → IsLive must (maybe p f g)
+unfolding IsLive
+live_maybe true p f g w h next other = ((w, h), next, other)
+live_maybe false p f g w h next other = (tt, next, other)
+
+live_word : {A : Type 0} (must : Bool) (p : Word → Bool) (f : Word → Form A) (w : Word) → p w ≡ true → ((v : Word) → p v ≡ true → IsLive true (f v)) → IsLive must (word p f)
+unfolding IsLive
+live_word true p f w h next = ((w, h), next)
+live_word false p f w h next = (tt, next)
+
+live_stop : {A : Type 0} (a : A) → IsLive true (stop a)
+unfolding IsLive
+live_stop a = tt
+
+same_key : (k : Word) → is_key k k ≡ true
+same_key k = (bytes_eq-Decides k k).1 refl
+
+-- a key word, and more
+live_behind : {A : Type 0} (k : Word) (more : Unit {0} → Form A) → ((u : Unit {0}) → IsLive true (more u)) → IsLive true (key k >>= more)
+live_behind k more next = live_then true (key k) more (live_word true (is_key k) (λ _. stop tt) k (same_key k) (λ v h. live_stop tt)) next
+
+live_name : IsLive true a_name
+live_name = live_one _ _ (codes "a") refl
+
+live_demand : IsLive true a_demand
+live_demand = live_one _ _ (codes "=0") refl
+
+live_inputs : IsLive true inputs
+unfolding inputs
+live_inputs = live_behind (codes "from") _ (λ _. live_then true (one is_input input_of) _ (live_one _ _ (codes "a") refl) (λ first. live_then true (up_to 7 is_input input_of) _ (live_up_to 7 _ _ (codes "a") refl) (λ more. live_stop _)))
+
+live_rising : (n last : ℕ) → IsLive true (rising n last)
+unfolding rising
+live_rising zero last = live_stop _
+live_rising (suc n) last =
+    elim (cases_Bool (nat_lt last greatest_demand)) [
+      | inl room ↦ rw room (live_maybe true _ _ _ (codes "68719476736") room (λ w h. live_then true (rising n (value_of w)) _ (live_rising n (value_of w)) (λ more. live_stop _)) (live_weak false (stop _) (live_stop _)))
+      | inr full ↦ rw full (live_stop _)
+    ]
+
+live_thresholds : IsLive true thresholds
+unfolding thresholds
+live_thresholds = live_then true (one (is_up_to greatest_demand) value_of) _ (live_one _ _ (codes "0") refl) (λ first. live_then true (rising 6 first) _ (live_rising 6 first) (λ more. live_stop _))
+
+live_cut : IsLive true cut_route
+unfolding cut_route
+live_cut = live_then true a_name _ live_name (λ column. live_then true thresholds _ live_thresholds (λ cuts. live_stop _))
+
+live_modulo : (outputs : ℕ) → IsLive true (modulo_route outputs)
+unfolding modulo_route
+live_modulo outputs = live_then true a_name _ live_name (λ column. live_stop _)
+
+live_way : (outputs : ℕ) → IsLive true (way_of outputs)
+unfolding way_of
+live_way outputs = live_maybe true _ _ _ (codes "mod") refl (λ _ _. live_modulo outputs) (live_weak false _ (live_behind (codes "turn") _ (λ _. live_stop _)))
+
+live_counted : IsLive true counted_route
+unfolding counted_route
+live_counted = live_then true (one (is_from_to 2 8) value_of) _ (live_one _ _ (codes "2") refl) live_way
+
+live_node : (kind : Form SaidKind) → IsLive true kind → IsLive true (node_line kind)
+unfolding node_line
+live_node kind live = live_then true a_name _ live_name (λ name. live_then true kind _ live (λ said. live_then true inputs _ live_inputs (λ reads. live_stop _)))
+
+live_route : IsLive true a_route
+unfolding a_route
+live_route = live_maybe true _ _ _ (codes "cut") refl (λ _ _. live_cut) (live_weak false _ live_counted)
+
+live_split : IsLive true split_kind
+live_split = live_then true a_route _ live_route (λ route. live_stop _)
+
+live_plain : (k : SaidDemand → SaidKind) → IsLive true (node_line (a_demand >>= λ d. stop (k d)))
+live_plain k = live_node _ (live_then true a_demand _ live_demand (λ d. live_stop _))
+
+-- the whole table can be completed
+pub live_line : IsLive true line
+unfolding line
+live_line =
+    live_maybe true _ _ _ (codes "bound") refl (λ _ _. live_one _ _ (codes "0") refl)
+    (live_maybe false _ _ _ (codes "source") refl (λ _ _. live_then true a_name _ live_name (λ name. live_stop _))
+    (live_maybe false _ _ _ (codes "server") refl (λ _ _. live_plain Server)
+    (live_word false _ _ (codes "split") refl (λ _ _. live_node _ live_split))))

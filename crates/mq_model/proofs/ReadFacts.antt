@@ -1,0 +1,279 @@
+-- The words from a place on, and what one word does.
+use Rattle.std.proofs.Common.{◌≡◌, ◌∙◌, sym, ap, refl, ℕ, zero, suc, ◌+◌, ◌<◌, ◌≤◌, List, [], ◌∷◌, ◌++◌, length, drop, map, Bool, true, false, Some, None, Result, Ok, Err, Bor, arith, append_assoc, ◌-◌, inl, inr}
+use Rattle.std.specs.Prelude.{slice_get, ◌&&◌, not, nat_le, nat_lt, get_or, codes}
+use Rattle.std.specs.Char.{is_ascii_lowercase}
+use Rattle.std.specs.List.{list_all}
+use Rattle.std.specs.Str.{bytes_eq}
+use Rattle.std.proofs.lemmas.Bool.{cases_Bool}
+use Rattle.mq_base.specs.Text.{is_number, number_of}
+use Rattle.mq_model.specs.declared.said.SaidRoute.TheVariants.{Turn}
+use Rattle.mq_model.specs.Lines.{a_route, counted_route, cut_route, greatest_demand, is_above, is_from_to, is_up_to, modulo_route, rising, thresholds, value_of, way_of, bound_line, inputs, input_of, is_input, is_key, line, node_line, server_kind, source_line, split_kind}
+use Rattle.mq_core.specs.Names.{is_name, is_name_byte}
+use Rattle.std.proofs.lemmas.Grind.{common_steps}
+use Rattle.mq_model.specs.Form.{◌>>=◌, Form, Word, stop, word, maybe, one, read, up_to, whole}
+use Rattle.mq_model.specs.Reading.{Reads, words_from}
+use Rattle.mq_model.specs.declared.parts.Stop.{Stop}
+use Rattle.mq_model.specs.declared.parts.Stop.TheVariants as why
+use Rattle.mq_model.proofs.FormFacts.{go_on, read_then}
+
+pub words_more : (words : List (Bor (List ℕ))) (at : ℕ) (w : Bor (List ℕ)) → slice_get words at ≡ Some w → words_from words at ≡ w.now ∷ words_from words (at + 1)
+words_more [] at w h = cc
+words_more (x ∷ words) zero w h = let e : x ≡ w = cc in grind (arith, common_steps, e)
+words_more (x ∷ words) (suc at) w h = let again = words_more words at w h in grind (arith, common_steps, again)
+
+pub words_none : (words : List (Bor (List ℕ))) (at : ℕ) → slice_get words at ≡ None → words_from words at ≡ []
+words_none [] zero h = refl
+words_none [] (suc at) h = refl
+words_none (x ∷ words) zero h = cc
+words_none (x ∷ words) (suc at) h = let again = words_none words at h in grind (arith, common_steps, again)
+
+pub read_one_none : {A : Type 0} (p : Word → Bool) (value : Word → A) (ws : List Word) → ws ≡ [] → read (one p value) ws ≡ Err ws
+unfolding read
+read_one_none p value [] h = refl
+read_one_none p value (w ∷ ws) h = cc
+
+pub read_one_no : {A : Type 0} (p : Word → Bool) (value : Word → A) (all ws : List Word) (w : Word) → all ≡ w ∷ ws → p w ≡ false → read (one p value) all ≡ Err all
+unfolding read
+read_one_no p value all ws w e h = rw (e, h) refl
+
+pub read_one_yes : {A : Type 0} (p : Word → Bool) (value : Word → A) (all ws : List Word) (w : Word) → all ≡ w ∷ ws → p w ≡ true → read (one p value) all ≡ Ok (value w, ws)
+unfolding read
+read_one_yes p value all ws w e h = rw (e, h) refl
+
+pub ruleset reading = (common_steps, words_more, words_none, read_one_none, read_one_no, read_one_yes, read_then)
+
+-- a word with a byte, by its parts
+pub name_parts : (w : Word) → 1 ≤ length w
+    → is_name w ≡ (is_ascii_lowercase (get_or w 0 0) && list_all is_name_byte (drop 1 w) && nat_lt (length (drop 1 w)) 32 && not (bytes_eq w (102 ∷ 114 ∷ 111 ∷ 109 ∷ [])))
+name_parts [] h = absurd (omega arith)
+name_parts (b ∷ more) h = refl
+
+-- the words at a place in range
+pub words_at : (words : List (Bor (List ℕ))) (at : ℕ) (d : Bor (List ℕ)) → at < length words → words_from words at ≡ (get_or words at d).now ∷ words_from words (at + 1)
+words_at [] at d h = absurd (omega arith)
+words_at (x ∷ words) zero d h = grind (arith, common_steps)
+words_at (x ∷ words) (suc at) d h = let again = words_at words at d (omega arith) in grind (arith, common_steps, again)
+
+pub words_past : (words : List (Bor (List ℕ))) (at : ℕ) → length words ≤ at → words_from words at ≡ []
+words_past words at h = grind (arith, common_steps)
+
+pub ruleset names = (common_steps, name_parts)
+
+pub ruleset places = (common_steps, words_at, words_past)
+
+-- the value of a reading, behind these
+abbrev pub with_front : {A : Type 0} → List A → Result (List A × List Word) (List Word) → Result (List A × List Word) (List Word)
+with_front front (Ok (more, rest)) = Ok (front ++ more, rest)
+with_front front (Err left) = Err left
+
+pub with_front_twice : {A : Type 0} (a b : List A) (r : Result (List A × List Word) (List Word)) → with_front a (with_front b r) ≡ with_front (a ++ b) r
+with_front_twice a b (Ok (more, rest)) = ap (λ all. Ok (all, rest)) (sym (append_assoc a b more))
+with_front_twice a b (Err left) = refl
+
+pub up_to_zero : {A : Type 0} (p : Word → Bool) (value : Word → A) (ws : List Word) → read (up_to 0 p value) ws ≡ Ok ([], ws)
+unfolding read up_to
+up_to_zero p value ws = refl
+
+pub up_to_none : {A : Type 0} (n : ℕ) (p : Word → Bool) (value : Word → A) (all : List Word) → all ≡ [] → read (up_to n p value) all ≡ Ok ([], all)
+unfolding read up_to
+up_to_none zero p value all h = refl
+up_to_none (suc n) p value [] h = refl
+up_to_none (suc n) p value (w ∷ ws) h = cc
+
+pub up_to_no : {A : Type 0} (n : ℕ) (p : Word → Bool) (value : Word → A) (all ws : List Word) (w : Word) → all ≡ w ∷ ws → p w ≡ false → read (up_to n p value) all ≡ Ok ([], all)
+unfolding read up_to
+up_to_no zero p value all ws w e h = refl
+up_to_no (suc n) p value all ws w e h = rw (e, h) refl
+
+pub front_of : {A : Type 0} (first : A) (r : Result (List A × List Word) (List Word)) → go_on r (λ more. stop (first ∷ more)) ≡ with_front (first ∷ []) r
+unfolding read
+front_of first (Ok (more, rest)) = refl
+front_of first (Err left) = refl
+
+pub up_to_yes : {A : Type 0} (n : ℕ) (p : Word → Bool) (value : Word → A) (all ws : List Word) (w : Word) → 0 < n → all ≡ w ∷ ws → p w ≡ true
+    → read (up_to n p value) all ≡ with_front (value w ∷ []) (read (up_to (n - 1) p value) ws)
+unfolding read up_to
+up_to_yes zero p value all ws w some e h = absurd (omega arith)
+up_to_yes (suc n) p value all ws w some e h = let back : suc n - 1 ≡ n = omega arith in rw (back, e, h, read_then (up_to n p value) (λ more. stop (value w ∷ more)) ws) (front_of (value w) (read (up_to n p value) ws))
+
+-- the inputs: the key word, one input, and at most 7 more
+pub inputs_none : (all : List Word) → all ≡ [] → read inputs all ≡ Err all
+unfolding read inputs ◌>>=◌
+inputs_none [] h = refl
+inputs_none (w ∷ ws) h = cc
+
+pub inputs_no_key : (all ws : List Word) (w : Word) → all ≡ w ∷ ws → is_key (102 ∷ 114 ∷ 111 ∷ 109 ∷ []) w ≡ false → read inputs all ≡ Err all
+unfolding read inputs ◌>>=◌
+inputs_no_key all ws w e h = rw (e, h) refl
+
+pub inputs_no_first : (all ws : List Word) (w : Word) → all ≡ w ∷ ws → is_key (102 ∷ 114 ∷ 111 ∷ 109 ∷ []) w ≡ true → ws ≡ [] → read inputs all ≡ Err ws
+unfolding read inputs ◌>>=◌
+inputs_no_first all ws w e h none = rw (e, h, none) refl
+
+pub inputs_bad_first : (all ws more : List Word) (w v : Word) → all ≡ w ∷ ws → is_key (102 ∷ 114 ∷ 111 ∷ 109 ∷ []) w ≡ true → ws ≡ v ∷ more → is_input v ≡ false → read inputs all ≡ Err ws
+unfolding read inputs ◌>>=◌
+inputs_bad_first all ws more w v e h f no_way = rw (e, h, f, no_way) refl
+
+pub inputs_first : (all ws more : List Word) (w v : Word) → all ≡ w ∷ ws → is_key (102 ∷ 114 ∷ 111 ∷ 109 ∷ []) w ≡ true → ws ≡ v ∷ more → is_input v ≡ true
+    → read inputs all ≡ with_front (input_of v ∷ []) (read (up_to 7 is_input input_of) more)
+unfolding read inputs ◌>>=◌
+inputs_first all ws more w v e h f yes_way = rw (e, h, f, yes_way, read_then (up_to 7 is_input input_of) (λ rest. stop (input_of v ∷ rest)) more) (front_of (input_of v) (read (up_to 7 is_input input_of) more))
+
+pub keyed : (w k lit : Word) → lit ≡ k → false ≡ not (bytes_eq w lit) → is_key k w ≡ true
+keyed w k lit e h = let same : bytes_eq w lit ≡ true = grind (arith, common_steps, h) in rw (← e) same
+
+pub not_keyed : (w k lit : Word) → lit ≡ k → true ≡ not (bytes_eq w lit) → is_key k w ≡ false
+not_keyed w k lit e h = let other : bytes_eq w lit ≡ false = grind (arith, common_steps, h) in rw (← e) other
+
+-- a fault within a part is the fault of the whole
+pub stops : {X Y : Type 0} (e : Stop) (left : List Word) (part : Result (X × List Word) (List Word)) (all : Result (Y × List Word) (List Word))
+    → Reads {X = X} (Err e) left part → ((l : List Word) → part ≡ Err l → all ≡ Err l) → Reads {X = Y} (Err e) left all
+stops why.Word left part all reads follows = follows left reads
+stops why.Memory left part all reads follows = tt
+
+-- the first way, or the second
+pub read_maybe_yes : {A : Type 0} (p : Word → Bool) (f : Word → Form A) (g : Form A) (all ws : List Word) (w : Word) → all ≡ w ∷ ws → p w ≡ true → read (maybe p f g) all ≡ read (f w) ws
+unfolding read
+read_maybe_yes p f g all ws w e h = rw (e, h) refl
+
+pub read_maybe_no : {A : Type 0} (p : Word → Bool) (f : Word → Form A) (g : Form A) (all ws : List Word) (w : Word) → all ≡ w ∷ ws → p w ≡ false → read (maybe p f g) all ≡ read g all
+unfolding read
+read_maybe_no p f g all ws w e h = rw (e, h) refl
+
+pub read_maybe_none : {A : Type 0} (p : Word → Bool) (f : Word → Form A) (g : Form A) (all : List Word) → all ≡ [] → read (maybe p f g) all ≡ read g all
+unfolding read
+read_maybe_none p f g all e = rw e refl
+
+pub read_word_yes : {A : Type 0} (p : Word → Bool) (f : Word → Form A) (all ws : List Word) (w : Word) → all ≡ w ∷ ws → p w ≡ true → read (word p f) all ≡ read (f w) ws
+unfolding read
+read_word_yes p f all ws w e h = rw (e, h) refl
+
+pub read_word_no : {A : Type 0} (p : Word → Bool) (f : Word → Form A) (all ws : List Word) (w : Word) → all ≡ w ∷ ws → p w ≡ false → read (word p f) all ≡ Err all
+unfolding read
+read_word_no p f all ws w e h = rw (e, h) refl
+
+pub read_word_none : {A : Type 0} (p : Word → Bool) (f : Word → Form A) (all : List Word) → all ≡ [] → read (word p f) all ≡ Err all
+unfolding read
+read_word_none p f all e = rw e refl
+
+pub ruleset choices = (common_steps, read_maybe_yes, read_maybe_no, read_maybe_none, read_word_yes, read_word_no, read_word_none)
+
+pub line_bound : (all ws : List Word) (w : Word) → all ≡ w ∷ ws → is_key (codes "bound") w ≡ true → read line all ≡ read bound_line ws
+unfolding line
+line_bound all ws w e h = read_maybe_yes _ _ _ all ws w e h
+
+pub line_source : (all ws : List Word) (w : Word) → all ≡ w ∷ ws → is_key (codes "bound") w ≡ false → is_key (codes "source") w ≡ true → read line all ≡ read source_line ws
+unfolding line
+line_source all ws w e a h = read_maybe_no _ _ _ all ws w e a ∙ read_maybe_yes _ _ _ all ws w e h
+
+pub line_server : (all ws : List Word) (w : Word) → all ≡ w ∷ ws → is_key (codes "bound") w ≡ false → is_key (codes "source") w ≡ false → is_key (codes "server") w ≡ true
+    → read line all ≡ read (node_line server_kind) ws
+unfolding line
+line_server all ws w e a b h = read_maybe_no _ _ _ all ws w e a ∙ read_maybe_no _ _ _ all ws w e b ∙ read_maybe_yes _ _ _ all ws w e h
+
+pub line_split : (all ws : List Word) (w : Word) → all ≡ w ∷ ws → is_key (codes "bound") w ≡ false → is_key (codes "source") w ≡ false → is_key (codes "server") w ≡ false → is_key (codes "split") w ≡ true
+    → read line all ≡ read (node_line split_kind) ws
+unfolding line
+line_split all ws w e a b c h = read_maybe_no _ _ _ all ws w e a ∙ read_maybe_no _ _ _ all ws w e b ∙ read_maybe_no _ _ _ all ws w e c ∙ read_word_yes _ _ all ws w e h
+
+pub line_other : (all ws : List Word) (w : Word) → all ≡ w ∷ ws → is_key (codes "bound") w ≡ false → is_key (codes "source") w ≡ false → is_key (codes "server") w ≡ false → is_key (codes "split") w ≡ false
+    → read line all ≡ Err all
+unfolding line
+line_other all ws w e a b c h = read_maybe_no _ _ _ all ws w e a ∙ read_maybe_no _ _ _ all ws w e b ∙ read_maybe_no _ _ _ all ws w e c ∙ read_word_no _ _ all ws w e h
+
+pub tail_length : (words : List (Bor (List ℕ))) (at : ℕ) → at ≤ length words → at + 1 + length (words_from words at) ≡ length (map (λ (w : Bor (List ℕ)). w.now) words) + 1
+tail_length words at h = grind (arith, common_steps)
+
+whole_left : {A : Type 0} (r : Result (A × List Word) (List Word)) (x : A) (left ws : List Word) (w : Word) → r ≡ Ok (x, left) → left ≡ w ∷ ws → whole r ≡ Err left
+whole_left r x left ws w e h = rw (e, h) refl
+
+-- words are left behind a line
+pub whole_more : {A : Type 0} (r : Result (A × List Word) (List Word)) (x : A) (words : List (Bor (List ℕ))) (at : ℕ) → at < length words → r ≡ Ok (x, words_from words at) → whole r ≡ Err (words_from words at)
+whole_more r x words at h e = whole_left r x (words_from words at) _ _ e (words_at words at (record { ref_ptr = (0, 0); now = [] }) h)
+
+pub whole_fault : {A : Type 0} (r : Result (A × List Word) (List Word)) (left : List Word) → r ≡ Err left → whole r ≡ Err left
+whole_fault r left e = rw e refl
+
+-- numbers
+pub number_some : (w : Word) (limit v : ℕ) → number_of w limit ≡ Some v → (is_number w limit ≡ true) × (v ≡ value_of w)
+number_some w limit v h =
+    elim (cases_Bool (is_number w limit)) [
+      | inl good ↦ (good, let k = rw good at h in cc)
+      | inr bad ↦ let k = rw bad at h in absurd (cc)
+    ]
+
+pub number_none : (w : Word) (limit : ℕ) → number_of w limit ≡ None → is_number w limit ≡ false
+number_none w limit h =
+    elim (cases_Bool (is_number w limit)) [
+      | inl good ↦ let k = rw good at h in absurd (cc)
+      | inr bad ↦ bad
+    ]
+
+pub below_least : (w : Word) (least most v : ℕ) → is_number w most ≡ true → v ≡ value_of w → v < least → is_from_to least most w ≡ false
+below_least w least most v good is h = let low : nat_le least (value_of w) ≡ false = grind (arith, common_steps, is, h) in rw (good, low) refl
+
+pub from_least : (w : Word) (least most v : ℕ) → is_number w most ≡ true → v ≡ value_of w → least ≤ v → is_from_to least most w ≡ true
+from_least w least most v good is h = let low : nat_le least (value_of w) ≡ true = grind (arith, common_steps, is, h) in rw (good, low) refl
+
+-- further thresholds
+pub rising_zero : (last : ℕ) (ws : List Word) → read (rising 0 last) ws ≡ Ok ([], ws)
+unfolding read rising
+rising_zero last ws = refl
+
+pub rising_none : (n last : ℕ) (all : List Word) → all ≡ [] → read (rising n last) all ≡ Ok ([], all)
+unfolding read rising
+rising_none zero last all h = refl
+rising_none (suc n) last all h = elim (cases_Bool (nat_lt last greatest_demand)) [ inl room ↦ rw (room, h) refl | inr full ↦ rw full refl ]
+
+pub rising_no : (n last : ℕ) (all ws : List Word) (w : Word) → all ≡ w ∷ ws → is_above last w ≡ false → read (rising n last) all ≡ Ok ([], all)
+unfolding read rising
+rising_no zero last all ws w e h = refl
+rising_no (suc n) last all ws w e h = elim (cases_Bool (nat_lt last greatest_demand)) [ inl room ↦ rw (room, e, h) refl | inr full ↦ rw full refl ]
+
+above_has_room : (last : ℕ) (w : Word) → is_above last w ≡ true → nat_lt last greatest_demand ≡ true
+above_has_room last w h = grind (arith, common_steps, h)
+
+pub rising_yes : (n last : ℕ) (all ws : List Word) (w : Word) → 0 < n → all ≡ w ∷ ws → is_above last w ≡ true
+    → read (rising n last) all ≡ with_front (value_of w ∷ []) (read (rising (n - 1) (value_of w)) ws)
+unfolding read rising
+rising_yes zero last all ws w some e h = absurd (omega arith)
+rising_yes (suc n) last all ws w some e h =
+    let back : suc n - 1 ≡ n = omega arith in
+    rw (back, above_has_room last w h, e, h, read_then (rising n (value_of w)) (λ more. stop (value_of w ∷ more)) ws) (front_of (value_of w) (read (rising n (value_of w)) ws))
+
+pub thresholds_first : (all ws : List Word) (n : ℕ) → read (one (is_up_to greatest_demand) value_of) all ≡ Ok (n, ws) → read thresholds all ≡ with_front (n ∷ []) (read (rising 6 n) ws)
+unfolding read thresholds
+thresholds_first all ws n h = rw (read_then, h, read_then) (front_of n (read (rising 6 n) ws))
+
+pub thresholds_fault : (all l : List Word) → read (one (is_up_to greatest_demand) value_of) all ≡ Err l → read thresholds all ≡ Err l
+unfolding read thresholds
+thresholds_fault all l h = rw (read_then, h) refl
+
+-- the ways of a route
+pub way_mod : (n : ℕ) (all ws : List Word) (w : Word) → all ≡ w ∷ ws → is_key (codes "mod") w ≡ true → read (way_of n) all ≡ read (modulo_route n) ws
+unfolding way_of
+way_mod n all ws w e h = read_maybe_yes _ _ _ all ws w e h
+
+pub way_turn : (n : ℕ) (all ws : List Word) (w : Word) → all ≡ w ∷ ws → is_key (codes "mod") w ≡ false → is_key (codes "turn") w ≡ true → read (way_of n) all ≡ Ok (Turn n, ws)
+unfolding way_of read ◌>>=◌
+way_turn n all ws w e a h = rw (e, a, h) refl
+
+pub way_other : (n : ℕ) (all ws : List Word) (w : Word) → all ≡ w ∷ ws → is_key (codes "mod") w ≡ false → is_key (codes "turn") w ≡ false → read (way_of n) all ≡ Err all
+unfolding way_of read ◌>>=◌
+way_other n all ws w e a h = rw (e, a, h) refl
+
+pub way_none : (n : ℕ) (all : List Word) → all ≡ [] → read (way_of n) all ≡ Err all
+unfolding way_of read ◌>>=◌
+way_none n all e = rw e refl
+
+pub route_cut : (all ws : List Word) (w : Word) → all ≡ w ∷ ws → is_key (codes "cut") w ≡ true → read a_route all ≡ read cut_route ws
+unfolding a_route
+route_cut all ws w e h = read_maybe_yes _ _ _ all ws w e h
+
+pub route_counted : (all ws : List Word) (w : Word) → all ≡ w ∷ ws → is_key (codes "cut") w ≡ false → read a_route all ≡ read counted_route all
+unfolding a_route
+route_counted all ws w e h = read_maybe_no _ _ _ all ws w e h
+
+pub route_none : (all : List Word) → all ≡ [] → read a_route all ≡ Err all
+unfolding a_route counted_route read ◌>>=◌
+route_none all e = rw e refl

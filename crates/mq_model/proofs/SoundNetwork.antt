@@ -1,0 +1,219 @@
+-- The network of a text without a fault is sound.
+use Rattle.std.proofs.Common.{◌≡◌, ◌∙◌, sym, ap, refl, subst, ℕ, ◌<◌, ◌≤◌, ◌^◌, List, [], ◌∷◌, ◌++◌, length, Bool, true, false, cond, Some, None, arith, inl, inr, append_assoc, IsTrue}
+use Rattle.std.specs.Prelude.{map, nat_lt, nat_le, slice_get}
+use Rattle.std.specs.List.{list_all, list_any, flat_map}
+use Rattle.std.specs.Str.{bytes_eq}
+use Rattle.std.proofs.lemmas.Bool.{cases_Bool, and_parts, and_from, or_left, or_right, lt-ltb, le-leb}
+use Rattle.std.proofs.lemmas.List.{append-nil, map-append, length-map}
+use Rattle.std.proofs.lemmas.List.Folds.{list_all-append, list_any-append}
+use Rattle.mq_core.specs.Names.{is_name}
+use Rattle.mq_core.specs.Sound.{are_distinct, columns_of_kind, is_output, is_sound, is_sound_count, is_sound_kind, is_sound_node, is_within, mentions_from, same_input}
+use Rattle.mq_core.specs.Wiring.{is_source_kind}
+use Rattle.mq_core.specs.declared.model.Input.{Input}
+use Rattle.mq_core.specs.declared.model.Node.{Node}
+use Rattle.mq_base.specs.Text.{lines_of}
+use Rattle.mq_model.specs.Form.{Word}
+use Rattle.mq_model.specs.Model.{cycle_fault, inputs_fault, lines_fault, model_fault, reads_of_text, source_fault, text_fault}
+use Rattle.mq_model.specs.NetworkOf.{bound_of, input_in, kind_in, network_in, network_of, nodes_in, nodes_of, number_in, saids_of, without_mark}
+use Rattle.mq_model.specs.Said.{columns_of, distinct_after, gives, is_among, is_source, mentioned, mentions_of_kind, names_of, reads_of}
+use Rattle.mq_model.specs.declared.fault.ModelFault.TheVariants.{TooLong, NoSource}
+use Rattle.mq_model.specs.declared.said.SaidDemand.TheVariants.{Column, Fixed}
+use Rattle.mq_model.specs.declared.said.SaidInput.{SaidInput}
+use Rattle.mq_model.specs.declared.said.SaidKind.{SaidKind}
+use Rattle.mq_model.specs.declared.said.SaidKind.TheVariants.{Source, Server, Split}
+use Rattle.mq_model.specs.declared.said.SaidRoute.TheVariants.{Modulo, Turn, Cut}
+use Rattle.mq_model.specs.declared.said.Said.{Said}
+use Rattle.mq_model.specs.declared.said.Said.TheVariants as said
+use Rattle.mq_model.proofs.SoundColumns.{are_distinct_after, list_all_after, mentions_in_order, place_in_front, same_name}
+use Rattle.mq_model.proofs.SoundInputs.{AreInputs, given_among, given_output, numbers_distinct, told_are_inputs}
+use Rattle.mq_model.proofs.SoundLines.{IsSoundKind, is_sound_reads}
+use Rattle.mq_model.proofs.SoundText.{AreFew, AreSound, cond_none, or_none, told_are_few, told_are_sound}
+
+-- What the nodes have of the lines.
+abbrev node_name : Node → Word
+node_name node = node.name
+
+names_are : (names columns : List Word) (saids : List Said) → map (λ (node : Node). node.name) (flat_map (nodes_in names columns) saids) ≡ names_of saids
+names_are names columns [] = refl
+names_are names columns (said.Bound n ∷ saids) = names_are names columns saids
+names_are names columns (said.Node name kind reads ∷ saids) = ap (λ more. name ∷ more) (names_are names columns saids)
+
+inputs_are : (names columns : List Word) (saids : List Said) → flat_map (λ (node : Node). node.inputs) (flat_map (nodes_in names columns) saids) ≡ map (input_in names) (flat_map reads_of saids)
+inputs_are names columns [] = refl
+inputs_are names columns (said.Bound n ∷ saids) = inputs_are names columns saids
+inputs_are names columns (said.Node name kind reads ∷ saids) =
+    ap (λ more. map (input_in names) reads ++ more) (inputs_are names columns saids) ∙ sym (map-append (input_in names) reads (flat_map reads_of saids))
+
+columns_are : (columns : List Word) (kind : SaidKind) → columns_of_kind (kind_in columns kind) ≡ map (number_in columns) (mentions_of_kind kind)
+columns_are columns Source = refl
+columns_are columns (Server (Column name)) = refl
+columns_are columns (Server (Fixed n)) = refl
+columns_are columns (Split (Modulo outputs column)) = refl
+columns_are columns (Split (Turn outputs)) = refl
+columns_are columns (Split (Cut column thresholds)) = refl
+
+mentions_are : (names columns : List Word) (saids : List Said) → flat_map (λ (node : Node). columns_of_kind node.kind) (flat_map (nodes_in names columns) saids) ≡ map (number_in columns) (flat_map mentioned saids)
+mentions_are names columns [] = refl
+mentions_are names columns (said.Bound n ∷ saids) = mentions_are names columns saids
+mentions_are names columns (said.Node name kind reads ∷ saids) =
+    ap (λ front. front ++ flat_map (λ (node : Node). columns_of_kind node.kind) (flat_map (nodes_in names columns) saids)) (columns_are columns kind)
+    ∙ ap (λ more. map (number_in columns) (mentions_of_kind kind) ++ more) (mentions_are names columns saids)
+    ∙ sym (map-append (number_in columns) (mentions_of_kind kind) (flat_map mentioned saids))
+
+sources_are : (names columns : List Word) (saids : List Said) → list_any is_source saids ≡ true → list_any (λ (node : Node). is_source_kind node.kind) (flat_map (nodes_in names columns) saids) ≡ true
+sources_are names columns [] h = absurd (cc)
+sources_are names columns (said.Bound n ∷ saids) h = sources_are names columns saids h
+sources_are names columns (said.Node name Source reads ∷ saids) h = refl
+sources_are names columns (said.Node name (Server d) reads ∷ saids) h = sources_are names columns saids h
+sources_are names columns (said.Node name (Split route) reads ∷ saids) h = sources_are names columns saids h
+
+some_node : {X : Type 0} (p : X → Bool) (xs : List X) → list_any p xs ≡ true → 1 ≤ length xs
+some_node p [] h = absurd (cc)
+some_node p (x ∷ xs) h = omega arith
+
+bound_small : (saids : List Said) → AreSound saids → nat_le (bound_of saids) (2 ^ 60) ≡ true
+bound_small [] sound = refl
+bound_small (said.Bound n ∷ saids) sound = sound.0
+bound_small (said.Node name kind reads ∷ saids) sound = bound_small saids sound.1
+
+-- Columns: the mentioned names are names, and among the columns.
+kind_names : (kind : SaidKind) → IsSoundKind kind → list_all is_name (mentions_of_kind kind) ≡ true
+kind_names Source sound = refl
+kind_names (Server (Column name)) sound = and_from _ _ sound refl
+kind_names (Server (Fixed n)) sound = refl
+kind_names (Split (Modulo outputs column)) sound = and_from _ _ sound.1 refl
+kind_names (Split (Turn outputs)) sound = refl
+kind_names (Split (Cut column thresholds)) sound = and_from _ _ sound.0 refl
+
+mentioned_names : (saids : List Said) → AreSound saids → list_all is_name (flat_map mentioned saids) ≡ true
+mentioned_names [] sound = refl
+mentioned_names (said.Bound n ∷ saids) sound = mentioned_names saids sound.1
+mentioned_names (said.Node name kind reads ∷ saids) sound =
+    list_all-append is_name (mentions_of_kind kind) (flat_map mentioned saids) ∙ and_from _ _ (kind_names kind sound.0.1) (mentioned_names saids sound.1)
+
+all_among : (before names all : List Word) → all ≡ before ++ distinct_after before names → list_all (is_among all) names ≡ true
+unfolding distinct_after
+all_among before [] all is = refl
+all_among before (name ∷ more) all is =
+    elim (cases_Bool (is_among before name)) [
+      | inl known ↦
+          let is_so : all ≡ before ++ distinct_after before more = rw known at is in
+          let here : is_among all name ≡ true = rw is_so (list_any-append (λ other. bytes_eq other name) before (distinct_after before more) ∙ or_left _ _ known) in
+          and_from _ _ here (all_among before more all is_so)
+      | inr new ↦
+          let is_so : all ≡ before ++ name ∷ distinct_after (before ++ name ∷ []) more = rw new at is in
+          let here : is_among all name ≡ true =
+          rw is_so (list_any-append (λ other. bytes_eq other name) before (name ∷ distinct_after (before ++ name ∷ []) more) ∙ or_right _ _ (or_left _ _ (same_name name))) in
+          and_from _ _ here (all_among (before ++ name ∷ []) more all (is_so ∙ sym (append_assoc before (name ∷ []) _)))
+    ]
+
+number_below : (names : List Word) (name : Word) → is_among names name ≡ true → nat_lt (number_in names name) (length names) ≡ true
+number_below names name h =
+    let below = place_in_front (λ other. bytes_eq other name) names [] h in
+    lt-ltb _ _ (subst (λ all. number_in all name < length names) (append-nil names) below)
+
+-- Nodes are in their ranges.
+kind_sound : (columns : List Word) (kind : SaidKind) → IsSoundKind kind → list_all (is_among columns) (mentions_of_kind kind) ≡ true → is_sound_kind (length columns) (kind_in columns kind) ≡ true
+kind_sound columns Source sound among = refl
+kind_sound columns (Server (Column name)) sound among = number_below columns name (and_parts _ _ among).0
+kind_sound columns (Server (Fixed n)) sound among = sound
+kind_sound columns (Split (Modulo outputs column)) sound among = and_from _ _ sound.0 (number_below columns column (and_parts _ _ among).0)
+kind_sound columns (Split (Turn outputs)) sound among = sound
+kind_sound columns (Split (Cut column thresholds)) sound among =
+    and_from _ _ (and_from _ _ (and_from _ _ (number_below columns column (and_parts _ _ among).0) sound.1.0) sound.1.1) sound.1.2
+
+count_sound : (columns : List Word) (kind : SaidKind) (reads : ℕ) → is_sound_reads kind reads ≡ true → is_sound_count (kind_in columns kind) reads ≡ true
+count_sound columns Source reads h = h
+count_sound columns (Server d) reads h = h
+count_sound columns (Split route) reads h = h
+
+outputs_sound : (names : List Word) (nodes : List Node) (inputs : List SaidInput) → list_all (λ (i : SaidInput). is_output (slice_get nodes (number_in names i.name)) i.out) inputs ≡ true
+    → list_all (λ (i : Input). is_output (slice_get nodes i.node) i.out) (map (input_in names) inputs) ≡ true
+outputs_sound names nodes [] h = refl
+outputs_sound names nodes (input ∷ inputs) h = let both = and_parts _ _ h in and_from _ _ both.0 (outputs_sound names nodes inputs both.1)
+
+nodes_sound : (names columns : List Word) (nodes : List Node) (saids : List Said) → AreSound saids → list_all (is_among columns) (flat_map mentioned saids) ≡ true
+    → list_all (λ (i : SaidInput). is_output (slice_get nodes (number_in names i.name)) i.out) (flat_map reads_of saids) ≡ true
+    → list_all (is_sound_node (length columns) nodes) (flat_map (nodes_in names columns) saids) ≡ true
+nodes_sound names columns nodes [] sound among outputs = refl
+nodes_sound names columns nodes (said.Bound n ∷ saids) sound among outputs = nodes_sound names columns nodes saids sound.1 among outputs
+nodes_sound names columns nodes (said.Node name kind reads ∷ saids) sound among outputs =
+    let mentions = and_parts _ _ (sym (list_all-append (is_among columns) (mentions_of_kind kind) (flat_map mentioned saids)) ∙ among) in
+    let given = and_parts _ _ (sym (list_all-append (λ (i : SaidInput). is_output (slice_get nodes (number_in names i.name)) i.out) reads (flat_map reads_of saids)) ∙ outputs) in
+    let count : is_sound_count (kind_in columns kind) (length (map (input_in names) reads)) ≡ true = rw (length-map reads (input_in names)) (count_sound columns kind (length reads) sound.0.2) in
+    and_from _ _
+    (and_from _ _ (and_from _ _ (and_from _ _ (kind_sound columns kind sound.0.1 mentions.0) count) (outputs_sound names nodes reads given.0)) sound.0.0)
+    (nodes_sound names columns nodes saids sound.1 mentions.1 given.1)
+
+-- Inputs: given ones name outputs, and are among the names.
+all_outputs : (names columns : List Word) (saids : List Said) (inputs : List SaidInput) → are_distinct bytes_eq (names_of saids) ≡ true → list_all (λ (i : SaidInput). list_any (gives i) saids) inputs ≡ true
+    → list_all (λ (i : SaidInput). is_output (slice_get (flat_map (nodes_in names columns) saids) (number_in (names_of saids) i.name)) i.out) inputs ≡ true
+all_outputs names columns saids [] distinct h = refl
+all_outputs names columns saids (input ∷ inputs) distinct h =
+    let both = and_parts _ _ h in
+    and_from _ _ (given_output names columns input saids distinct both.0) (all_outputs names columns saids inputs distinct both.1)
+
+all_named : (saids : List Said) (inputs : List SaidInput) → list_all (λ (i : SaidInput). list_any (gives i) saids) inputs ≡ true → list_all (λ (i : SaidInput). is_among (names_of saids) i.name) inputs ≡ true
+all_named saids [] h = refl
+all_named saids (input ∷ inputs) h = let both = and_parts _ _ h in and_from _ _ (given_among input saids both.0) (all_named saids inputs both.1)
+
+-- The parts that a text without a fault has.
+record IsSoundText (saids : List Said) : Type 0 where
+  sound : AreSound saids
+  few : AreFew saids
+  inputs : AreInputs saids [] (flat_map reads_of saids)
+  source : list_any is_source saids ≡ true
+
+sound_parts : (ls : List (List ℕ)) → lines_fault [] ls ≡ None → inputs_fault (saids_of ls) [] (reads_of_text ls) ≡ None → list_any is_source (saids_of ls) ≡ true → IsSoundText (saids_of ls)
+sound_parts ls lines inputs source = record { sound = told_are_sound ls lines; few = told_are_few ls lines; inputs = told_are_inputs ls inputs; source = source }
+
+sound_text : (ls : List (List ℕ)) → text_fault ls ≡ None → IsSoundText (saids_of ls)
+sound_text ls none =
+    let lines = or_none (lines_fault [] ls) _ none in
+    let inputs = or_none (inputs_fault (saids_of ls) [] (reads_of_text ls)) _ lines.1 in
+    let sources = or_none (source_fault (saids_of ls)) (cycle_fault ls) inputs.1 in
+    sound_parts ls lines.0 inputs.0 (some_source (list_any is_source (saids_of ls)) sources.0)
+  where
+    some_source : (b : Bool) → cond b None (Some NoSource) ≡ None → b ≡ true
+    some_source true h = refl
+    some_source false h = absurd (cc)
+
+network_sound : (saids : List Said) → IsSoundText saids → is_sound (network_of saids) ≡ true
+network_sound saids text =
+    let names : List Word = names_of saids in
+    let columns : List Word = columns_of saids in
+    let reads : List SaidInput = flat_map reads_of saids in
+    let named = names_are names columns saids in
+    let size : length (nodes_of saids) ≡ length names = sym (length-map (nodes_of saids) node_name) ∙ ap length named in
+    let few : length names ≤ 64 = text.few.names in
+    let source = sources_are names columns saids text.source in
+    let some : 1 ≤ length (nodes_of saids) = some_node (λ (node : Node). is_source_kind node.kind) (nodes_of saids) source in
+    let within : is_within 1 64 (length (nodes_of saids)) ≡ true = and_from _ _ (le-leb _ _ some) (le-leb _ _ (omega arith)) in
+    let few_columns = le-leb _ _ text.few.columns in
+    let bound = bound_small saids text.sound in
+    let distinct : are_distinct bytes_eq (map (λ (node : Node). node.name) (nodes_of saids)) ≡ true = rw named text.few.distinct in
+    let column_names = list_all_after is_name [] (flat_map mentioned saids) (mentioned_names saids text.sound) in
+    let columns_distinct = are_distinct_after [] (flat_map mentioned saids) refl in
+    let among = all_among [] (flat_map mentioned saids) columns refl in
+    let nodes = nodes_sound names columns (nodes_of saids) saids text.sound among (all_outputs names columns saids reads text.few.distinct text.inputs.given) in
+    let once : are_distinct same_input (flat_map (λ (node : Node). node.inputs) (nodes_of saids)) ≡ true =
+    rw (inputs_are names columns saids) (numbers_distinct names reads (all_named saids reads text.inputs.given) (text.inputs.distinct refl)) in
+    let mentions : mentions_from 0 (length columns) (flat_map (λ (node : Node). columns_of_kind node.kind) (nodes_of saids)) ≡ true =
+    rw (mentions_are names columns saids) (mentions_in_order [] (flat_map mentioned saids) columns refl) in
+    and_from _ _ (and_from _ _ (and_from _ _ (and_from _ _ (and_from _ _ (and_from _ _ (and_from _ _ (and_from _ _ (and_from _ _ within few_columns) bound) source) distinct) column_names) columns_distinct) nodes) once) mentions
+
+-- A text without a fault declares a network in its ranges and limits.
+pub fault_free_is_sound : (text : List ℕ) → model_fault text ≡ None → IsTrue (is_sound (network_in text))
+fault_free_is_sound text none =
+    let short = cond_none (nat_lt 65536 (length text)) TooLong (text_fault (lines_of (without_mark text))) none in
+    network_sound (saids_of (lines_of (without_mark text))) (sound_text (lines_of (without_mark text)) short.1)
+
+-- the same before the nodes are ranked
+pub unranked_is_sound : (ls : List (List ℕ)) → lines_fault [] ls ≡ None → inputs_fault (saids_of ls) [] (reads_of_text ls) ≡ None → list_any is_source (saids_of ls) ≡ true → IsTrue (is_sound (network_of (saids_of ls)))
+unranked_is_sound ls lines inputs source = network_sound (saids_of ls) (sound_parts ls lines inputs source)
+
+pub unranked_is_small : (ls : List (List ℕ)) → lines_fault [] ls ≡ None → inputs_fault (saids_of ls) [] (reads_of_text ls) ≡ None → list_any is_source (saids_of ls) ≡ true → length (nodes_of (saids_of ls)) ≤ 64
+unranked_is_small ls lines inputs source =
+    let named = names_are (names_of (saids_of ls)) (columns_of (saids_of ls)) (saids_of ls) in
+    let size : length (nodes_of (saids_of ls)) ≡ length (names_of (saids_of ls)) = sym (length-map (nodes_of (saids_of ls)) node_name) ∙ ap length named in
+    rw size ((told_are_few ls lines).names)

@@ -1,0 +1,64 @@
+-- Texts, each with its first fault.
+use Rattle.std.specs.Prelude.{◌≡◌, ◌^◌, ◌∷◌, ◌++◌, [], ℕ, zero, suc, List, replicate, Option, Some, None, codes}
+use Rattle.std.specs.Fmt.{decimal}
+use Rattle.mq_core.specs.declared.model.Kind.TheVariants.{Source}
+use Rattle.mq_core.specs.declared.model.Network.{Network}
+use Rattle.mq_model.specs.Model.{model_fault}
+use Rattle.mq_model.specs.NetworkOf.{network_in}
+use Rattle.mq_model.specs.declared.fault.ModelFault.{ModelFault}
+use Rattle.mq_model.specs.declared.fault.ModelFault.TheVariants.{TooLong, BadByte, BadHead, BadLine, NameTwice, TooMany, UnknownInput, OutputTaken, NoSource, Cycle}
+
+abbrev pub Example : Type 0
+Example = List ℕ × Option ModelFault
+
+abbrev pub AllAnswered : List Example → Type 0
+AllAnswered [] = Unit {0}
+AllAnswered ((text, fault) ∷ examples) = (model_fault text ≡ fault) × AllAnswered examples
+
+-- lines that declare this many sources
+abbrev pub source_lines : ℕ → List ℕ
+source_lines zero = []
+source_lines (suc n) = codes "source s" ++ decimal n ++ 10 ∷ source_lines n
+
+abbrev pub line_examples : List Example
+line_examples =
+    ([], Some (BadHead 1))
+    ∷ (codes "model 2\n", Some (BadHead 1))
+    ∷ (codes "# x\n\n", Some (BadHead 3))
+    ∷ (codes "# x\n\nmodel 1\nsource a\nsource a\n", Some (NameTwice 5))
+    ∷ (codes "model 1\nsource s\ntandem t =1 from s\n", Some (BadLine 3 1))
+    ∷ (codes "model 1\nsource s\nserver q =1\n", Some (BadLine 3 4))
+    ∷ (codes "model 1\nsource s\nserver q =99999999999 from s\n", Some (BadLine 3 3))
+    ∷ (codes "model 1\nsource s\nsplit p cut k 5 5 from s\n", Some (BadLine 3 6))
+    ∷ (codes "model 1\nsource s\nsplit p cut k 68719476736 7 from s\n", Some (BadLine 3 6))
+    ∷ (codes "model 1\nsource s\nsplit p 9 turn from s\n", Some (BadLine 3 3))
+    ∷ (codes "model 1\nsource s\nserver f =1 from a b c d e f g h i\n", Some (BadLine 3 13))
+    ∷ (codes "model 1\nsource from\n", Some (BadLine 2 2))
+    ∷ (codes "model 1\nbound 1\nbound 1\nsource s\n", Some (BadLine 3 1))
+    ∷ (codes "model 1\nbound 1152921504606846977\n", Some (BadLine 2 2))
+    ∷ (codes "model 1\n" ++ source_lines 65, Some (TooMany 66))
+    ∷ (codes "model 1\nsource s" ++ (128 ∷ []), Some (BadByte 2))
+    ∷ (replicate 65537 10, Some TooLong)
+    ∷ []
+
+abbrev pub input_examples : List Example
+input_examples =
+    (codes "model 1\nserver q =1 from s\n", Some (UnknownInput 2 0))
+    ∷ (codes "model 1\nsource s\nserver q =1 from s.1\n", Some (UnknownInput 3 0))
+    ∷ (codes "model 1\nsource s\nserver q =1 from s\nserver r =1 from s\n", Some (OutputTaken 4 0))
+    ∷ (codes "model 1\nsource s\nserver q =1 from s s.0\n", Some (OutputTaken 3 1))
+    ∷ (codes "model 1\n", Some NoSource)
+    ∷ (codes "model 1\nserver a =1 from b\nserver b =1 from a\n", Some NoSource)
+    ∷ (codes "model 1\n\nsource s\nserver a =1 from b\nserver b =1 from a\n", Some (Cycle 4 1))
+    ∷ (codes "model 1\r\n\tsource  s\r\n", None)
+    ∷ (codes "model 1\nbound 1000\nsource s\nserver q d from s\nsplit p cut k 5 6 from q\nsplit r 2 mod k from p\nsplit t 2 turn from p.2\n", None)
+    ∷ []
+
+-- the network of a text with carriage returns and a tab
+abbrev pub one_source : Network
+one_source = record { nodes = record { name = codes "s"; kind = Source; inputs = [] } ∷ []; columns = []; bound = 2 ^ 60 }
+
+pub record AreAnswered : Type 0 where
+  pub lines : AllAnswered line_examples
+  pub inputs : AllAnswered input_examples
+  pub network : network_in (codes "model 1\r\n\tsource  s\r\n") ≡ one_source

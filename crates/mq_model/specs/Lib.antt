@@ -1,0 +1,12 @@
+pub mod Printed
+pub mod SaidOf
+pub mod Form
+pub mod Lines
+pub mod Reading
+pub mod Said
+pub mod NetworkOf
+pub mod Model
+pub mod Front
+pub mod Placed
+pub mod Examples
+pub mod Canonical

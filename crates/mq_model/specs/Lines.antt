@@ -1,0 +1,135 @@
+-- The grammar of a model's lines.
+use Rattle.std.specs.Prelude.{◌-◌, ◌^◌, ◌∷◌, ◌||◌, ◌&&◌, ◌==◌, [], ℕ, zero, suc, List, length, take, get_or, Bool, false, if◌then◌else◌, nat_le, nat_lt, codes}
+use Rattle.std.specs.Str.{bytes_eq}
+use Rattle.std.specs.Str.Parse.{digits_value}
+use Rattle.mq_core.specs.Names.{is_name}
+use Rattle.mq_base.specs.Text.{is_number}
+use Rattle.mq_model.specs.declared.said.SaidDemand.{SaidDemand}
+use Rattle.mq_model.specs.declared.said.SaidDemand.TheVariants.{Column, Fixed}
+use Rattle.mq_model.specs.declared.said.SaidInput.{SaidInput}
+use Rattle.mq_model.specs.declared.said.SaidRoute.{SaidRoute}
+use Rattle.mq_model.specs.declared.said.SaidRoute.TheVariants.{Modulo, Turn, Cut}
+use Rattle.mq_model.specs.declared.said.SaidKind.{SaidKind}
+use Rattle.mq_model.specs.declared.said.SaidKind.TheVariants.{Source, Server, Split}
+use Rattle.mq_model.specs.declared.said.Said.{Said}
+use Rattle.mq_model.specs.declared.said.Said.TheVariants.{Bound, Node}
+use Rattle.mq_model.specs.Form.{◌>>=◌, Form, Word, stop, word, maybe, one, up_to}
+
+-- Classes of words. A number of at most this.
+abbrev pub is_up_to : ℕ → Word → Bool
+is_up_to limit w = is_number w limit
+
+-- from this to that
+abbrev pub is_from_to : ℕ → ℕ → Word → Bool
+is_from_to least most w = is_number w most && nat_le least (digits_value 10 w)
+
+abbrev pub value_of : Word → ℕ
+value_of w = digits_value 10 w
+
+abbrev pub is_key : Word → Word → Bool
+is_key key w = bytes_eq w key
+
+abbrev pub greatest_demand : ℕ
+greatest_demand = 2 ^ 36
+
+-- a column, or an equals sign and a number
+abbrev pub is_demand : Word → Bool
+is_demand [] = false
+is_demand (b ∷ more) = if b == 61 then is_number more greatest_demand else is_name (b ∷ more)
+
+abbrev pub demand_of : Word → SaidDemand
+demand_of [] = Fixed 0
+demand_of (b ∷ more) = if b == 61 then Fixed (value_of more) else Column (b ∷ more)
+
+-- a name, or a name, a point and a digit from 0 to 7
+abbrev pub last_byte : Word → ℕ
+last_byte w = get_or w (length w - 1) 0
+
+abbrev pub ends_in_output : Word → Bool
+ends_in_output w = nat_le 2 (length w) && (get_or w (length w - 2) 0 == 46) && nat_le 48 (last_byte w) && nat_le (last_byte w) 55
+
+abbrev pub is_input : Word → Bool
+is_input w = is_name w || (ends_in_output w && is_name (take (length w - 2) w))
+
+abbrev pub input_of : Word → SaidInput
+input_of w = if is_name w then record { name = w; out = 0 } else record { name = take (length w - 2) w; out = last_byte w - 48 }
+
+-- Parts of lines. A word that is this one.
+abbrev pub key : Word → Form (Unit {0})
+key k = word (is_key k) (λ _. stop tt)
+
+abbrev pub a_name : Form Word
+a_name = one is_name (λ w. w)
+
+abbrev pub a_demand : Form SaidDemand
+a_demand = one is_demand demand_of
+
+-- the inputs, which end a line
+unfoldable pub inputs : Form (List SaidInput)
+inputs = do
+  _ ← key (codes "from")
+  first ← one is_input input_of
+  more ← up_to 7 is_input input_of
+  stop (first ∷ more)
+
+-- at most n further thresholds, each above the one before
+abbrev pub is_above : ℕ → Word → Bool
+is_above last w = is_number w greatest_demand && nat_lt last (digits_value 10 w)
+
+unfoldable pub rising : ℕ → ℕ → Form (List ℕ)
+rising zero last = stop []
+rising (suc n) last =
+    if nat_lt last greatest_demand then maybe (is_above last) (λ w. rising n (value_of w) >>= λ more. stop (value_of w ∷ more)) (stop []) else stop []
+
+unfoldable pub thresholds : Form (List ℕ)
+thresholds = do
+  first ← one (is_up_to greatest_demand) value_of
+  more ← rising 6 first
+  stop (first ∷ more)
+
+unfoldable pub cut_route : Form SaidRoute
+cut_route = do
+  column ← a_name
+  cuts ← thresholds
+  stop (Cut column cuts)
+
+unfoldable pub modulo_route : ℕ → Form SaidRoute
+modulo_route outputs = a_name >>= λ column. stop (Modulo outputs column)
+
+unfoldable pub way_of : ℕ → Form SaidRoute
+way_of outputs = maybe (is_key (codes "mod")) (λ _. modulo_route outputs) (key (codes "turn") >>= λ _. stop (Turn outputs))
+
+unfoldable pub counted_route : Form SaidRoute
+counted_route = one (is_from_to 2 8) value_of >>= way_of
+
+unfoldable pub a_route : Form SaidRoute
+a_route = maybe (is_key (codes "cut")) (λ _. cut_route) counted_route
+
+-- The kinds: what stands between the name and the inputs.
+abbrev pub server_kind : Form SaidKind
+server_kind = a_demand >>= λ demand. stop (Server demand)
+
+abbrev pub split_kind : Form SaidKind
+split_kind = a_route >>= λ route. stop (Split route)
+
+unfoldable pub node_line : Form SaidKind → Form Said
+node_line kind = do
+  name ← a_name
+  said ← kind
+  reads ← inputs
+  stop (Node name said reads)
+
+-- the rest of a line of its own
+abbrev pub bound_line : Form Said
+bound_line = one (is_up_to (2 ^ 60)) (λ w. Bound (value_of w))
+
+abbrev pub source_line : Form Said
+source_line = a_name >>= λ name. stop (Node name Source [])
+
+-- The table: a line by its first word.
+unfoldable pub line : Form Said
+line =
+    maybe (is_key (codes "bound")) (λ _. bound_line)
+    (maybe (is_key (codes "source")) (λ _. source_line)
+    (maybe (is_key (codes "server")) (λ _. node_line server_kind)
+    (word (is_key (codes "split")) (λ _. node_line split_kind))))

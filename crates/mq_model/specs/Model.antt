@@ -1,0 +1,124 @@
+-- The first fault of a text.
+use Rattle.std.specs.Prelude.{◌≡◌, ◌≢◌, ◌+◌, ◌-◌, ◌∷◌, ◌++◌, ◌||◌, ◌&&◌, ◌==◌, [], ℕ, List, length, map, get_or, Bool, true, false, not, if◌then◌else◌, nat_le, nat_lt, Option, Some, None, Result, Ok, Err, option_map, codes}
+use Rattle.std.specs.List.{list_all, list_any, flat_map, enumerate_from}
+use Rattle.std.specs.Option.{option_or}
+use Rattle.std.specs.Str.{bytes_eq}
+use Rattle.mq_base.specs.Text.{lines_of, words_of}
+use Rattle.mq_model.specs.NetworkOf.{nodes_of, said_of, saids_of, without_mark}
+use Rattle.mq_model.specs.Form.{Word, read, whole}
+use Rattle.mq_graph.specs.Rank.{left_node}
+use Rattle.mq_model.specs.Lines.{line}
+use Rattle.mq_model.specs.Said.{columns_of, declared, gives, is_among, is_same_input, is_source, names_of, reads_of}
+use Rattle.mq_model.specs.declared.fault.ModelFault.{ModelFault}
+use Rattle.mq_model.specs.declared.fault.ModelFault.TheVariants.{TooLong, BadByte, BadHead, BadLine, NameTwice, TooMany, UnknownInput, OutputTaken, NoSource, Cycle, Memory}
+use Rattle.mq_model.specs.declared.said.SaidInput.{SaidInput}
+use Rattle.mq_model.specs.declared.said.Said.{Said}
+
+-- Lines. The words of an empty line or of a comment.
+abbrev pub begins_comment : List Word → Bool
+begins_comment [] = true
+begins_comment ([] ∷ ws) = false
+begins_comment ((b ∷ more) ∷ ws) = b == 35
+
+abbrev pub is_skipped : List ℕ → Bool
+is_skipped l = begins_comment (words_of l)
+
+abbrev pub is_allowed : ℕ → Bool
+is_allowed b = (b == 9) || (nat_le 32 b && nat_le b 126)
+
+abbrev pub is_head : List Word → Bool
+is_head [] = false
+is_head (w ∷ []) = false
+is_head (w ∷ v ∷ []) = bytes_eq w (codes "model") && bytes_eq v (codes "1")
+is_head (w ∷ v ∷ u ∷ ws) = false
+
+-- the number of the first word with which the words begin no line, if there is one
+unfoldable pub bad_word : List Word → Option ℕ
+bad_word ws = elim (whole (read line ws)) [ Ok said ↦ None | Err left ↦ Some (length ws - length left + 1) ]
+
+abbrev pub begins_bound : List Word → Bool
+begins_bound [] = false
+begins_bound (w ∷ ws) = bytes_eq w (codes "bound")
+
+-- a line that declares the 65th node, or names a 17th column
+abbrev pub is_too_many : List Said → Said → Bool
+is_too_many before said = (nat_le 64 (length (names_of before)) && not (length (declared said) == 0)) || nat_lt 16 (length (columns_of (before ++ said ∷ [])))
+
+-- the fault of line n, which says this behind lines without a fault
+abbrev pub said_fault : ℕ → List Said → Said → Option ModelFault
+said_fault n before said =
+    if list_any (is_among (names_of before)) (declared said) then Some (NameTwice n)
+    else if is_too_many before said then Some (TooMany n)
+    else None
+
+-- the fault of a line's words, as the table reads them, behind these lines
+abbrev pub read_fault : List (List ℕ) → List Word → Result Said (List Word) → Option ModelFault
+read_fault before ws (Err left) = Some (BadLine (length before + 1) (length ws - length left + 1))
+read_fault before ws (Ok said) = said_fault (length before + 1) (saids_of before) said
+
+abbrev pub words_fault : List (List ℕ) → List Word → Option ModelFault
+words_fault before ws =
+    if begins_bound ws && list_any (λ l. begins_bound (words_of l)) before then Some (BadLine (length before + 1) 1)
+    else read_fault before ws (whole (read line ws))
+
+-- the fault of a line behind these lines, which have none
+unfoldable pub line_fault : List (List ℕ) → List ℕ → Option ModelFault
+line_fault before l =
+    if is_skipped l then None
+    else if not (list_all is_allowed l) then Some (BadByte (length before + 1))
+    else if list_all is_skipped before then (if is_head (words_of l) then None else Some (BadHead (length before + 1)))
+    else words_fault before (words_of l)
+
+unfoldable pub lines_fault : List (List ℕ) → List (List ℕ) → Option ModelFault
+lines_fault before [] = if list_all is_skipped before then Some (BadHead (length before + 1)) else None
+lines_fault before (l ∷ ls) = option_or (line_fault before l) (lines_fault (before ++ l ∷ []) ls)
+
+-- Inputs, each with the number of its line and its port.
+abbrev pub PlacedInput : Type 0
+PlacedInput = ℕ × ℕ × SaidInput
+
+abbrev pub reads_of_line : ℕ × List ℕ → List PlacedInput
+reads_of_line (i, l) = elim (said_of l) [ None ↦ [] | Some said ↦ map (λ (port, input). (i, port, input)) (enumerate_from 0 (reads_of said)) ]
+
+abbrev pub reads_of_text : List (List ℕ) → List PlacedInput
+reads_of_text lines = flat_map reads_of_line (enumerate_from 1 lines)
+
+-- the first fault of these inputs, behind those that are taken
+unfoldable pub inputs_fault : List Said → List SaidInput → List PlacedInput → Option ModelFault
+inputs_fault saids taken [] = None
+inputs_fault saids taken (read ∷ more) =
+    if not (list_any (gives read.2) saids) then Some (UnknownInput read.0 read.1)
+    else if list_any (is_same_input read.2) taken then Some (OutputTaken read.0 read.1)
+    else inputs_fault saids (taken ++ read.2 ∷ []) more
+
+-- Sources and cycles.
+abbrev pub source_fault : List Said → Option ModelFault
+source_fault saids = if list_any is_source saids then None else Some NoSource
+
+-- the numbers of the lines that declare nodes, by node
+abbrev pub node_line_at : ℕ × List ℕ → List ℕ
+node_line_at (i, l) = elim (said_of l) [ None ↦ [] | Some said ↦ map (λ name. i) (declared said) ]
+
+abbrev pub node_lines : List (List ℕ) → List ℕ
+node_lines lines = flat_map node_line_at (enumerate_from 1 lines)
+
+abbrev pub cycle_fault : List (List ℕ) → Option ModelFault
+cycle_fault lines = option_map (λ node. Cycle (get_or (node_lines lines) node 0) node) (left_node (nodes_of (saids_of lines)))
+
+-- The whole text.
+abbrev pub text_fault : List (List ℕ) → Option ModelFault
+text_fault lines =
+    option_or (lines_fault [] lines)
+    (option_or (inputs_fault (saids_of lines) [] (reads_of_text lines))
+    (option_or (source_fault (saids_of lines)) (cycle_fault lines)))
+
+abbrev pub model_fault : List ℕ → Option ModelFault
+model_fault text = if nat_lt 65536 (length text) then Some TooLong else text_fault (lines_of (without_mark text))
+
+-- Unless memory ran out, the error is this fault; without one it is this value.
+abbrev pub Tells : ModelFault → Option ModelFault → Type 0
+Tells e fault = e ≢ Memory → fault ≡ Some e
+
+abbrev pub Answers : {A : Type 0} → Result A ModelFault → Option ModelFault → A → Type 0
+Answers (Ok x) fault said = (fault ≡ None) × (x ≡ said)
+Answers (Err e) fault said = Tells e fault

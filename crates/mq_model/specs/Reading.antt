@@ -1,0 +1,27 @@
+-- How the code's readers of words follow a form.
+use Rattle.std.specs.Prelude.{◌≡◌, ◌+◌, ℕ, List, length, drop, map, Result, Ok, Err}
+use Rattle.std.specs.Borrow.{Bor}
+use Rattle.mq_model.specs.Form.{Word}
+use Rattle.mq_model.specs.declared.parts.Stop.{Stop}
+use Rattle.mq_model.specs.declared.parts.Stop.TheVariants as why
+use Rattle.mq_model.specs.declared.line.LineFault.{LineFault}
+use Rattle.mq_model.specs.declared.line.LineFault.TheVariants as fault
+
+abbrev pub texts : List (Bor (List ℕ)) → List Word
+texts words = map (λ w. w.now) words
+
+-- the words from a place on
+abbrev pub words_from : List (Bor (List ℕ)) → ℕ → List Word
+words_from words at = drop at (texts words)
+
+-- What was read, and what is left, is what the form says; and the fault is at its place, unless memory ran out.
+abbrev pub Reads : {X : Type 0} → Result X Stop → List Word → Result (X × List Word) (List Word) → Type 0
+Reads (Ok x) left said = said ≡ Ok (x, left)
+Reads (Err why.Word) left said = said ≡ Err left
+Reads (Err why.Memory) left said = Unit {0}
+
+-- The same of a whole line; a fault tells the number of its word.
+abbrev pub ReadsLine : {X : Type 0} → Result X LineFault → List Word → Result X (List Word) → Type 0
+ReadsLine (Ok x) words said = said ≡ Ok x
+ReadsLine (Err fault.Memory) words said = Unit {0}
+ReadsLine (Err (fault.Word n)) words said = (left : List Word) × (said ≡ Err left) × (n + length left ≡ length words + 1)

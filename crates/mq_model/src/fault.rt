@@ -1,0 +1,63 @@
+// Why a text is no model.
+use mq_base::OutOfMemory;
+use std::alloc::{AllocError, AllocFailed};
+
+/// The first fault of a text. Lines and words count from 1; inputs, by their port, and nodes, in order of declaration, from 0.
+#[derive(Clone, Copy, Debug, PartialEq, Eq)]
+pub enum ModelFault {
+    /// The text has more than 65,536 bytes.
+    TooLong,
+    /// The line holds a byte other than tab and the bytes 32 to 126.
+    BadByte { line: u32 },
+    /// The first line that is neither empty nor a comment isn't `model 1`; the line after the last, where there is none.
+    BadHead { line: u32 },
+    /// The line isn't in the grammar: so many of its words begin no line, and fewer do.
+    BadLine { line: u32, word: u32 },
+    /// An earlier line declares a node of this name.
+    NameTwice { line: u32 },
+    /// The line declares the 65th node, or names a 17th column.
+    TooMany { line: u32 },
+    /// No node has the input's name, or the node has no such output.
+    UnknownInput { line: u32, input: u32 },
+    /// An earlier input names the same output.
+    OutputTaken { line: u32, input: u32 },
+    /// No source is declared.
+    NoSource,
+    /// The node, declared by this line, is the first that stands on or behind a cycle.
+    Cycle { line: u32, node: u32 },
+    /// Memory ran out.
+    Memory,
+}
+
+impl From<AllocError> for ModelFault {
+    ghost use Rattle.mq_model.specs.declared.fault.ModelFault.TheVariants.{Memory};
+    ghost use Rattle.std.specs.Prelude.{◌≡◌};
+
+    ghost from_gives = { λ _ e. e ≡ Memory };
+
+    fn from(_: AllocError) -> ModelFault {
+        ModelFault::Memory
+    }
+}
+
+impl<T: Drop> From<AllocFailed<T>> for ModelFault {
+    ghost use Rattle.mq_model.specs.declared.fault.ModelFault.TheVariants.{Memory};
+    ghost use Rattle.std.specs.Prelude.{◌≡◌};
+
+    ghost from_gives = { λ _ e. e ≡ Memory };
+
+    fn from(_: AllocFailed<T>) -> ModelFault {
+        ModelFault::Memory
+    }
+}
+
+impl From<OutOfMemory> for ModelFault {
+    ghost use Rattle.mq_model.specs.declared.fault.ModelFault.TheVariants.{Memory};
+    ghost use Rattle.std.specs.Prelude.{◌≡◌};
+
+    ghost from_gives = { λ _ e. e ≡ Memory };
+
+    fn from(_: OutOfMemory) -> ModelFault {
+        ModelFault::Memory
+    }
+}

@@ -1,0 +1,221 @@
+// What the lines so far say, and one line more.
+ghost use Rattle.std.specs.Prelude.{◌≡◌, ◌≤◌, ◌++◌, IfErr, IfOk, None, Ok, length};
+ghost use Rattle.std.specs.List.{list_all};
+ghost use Rattle.mq_base.specs.Text.{words_of};
+ghost use Rattle.mq_model.specs.Form.{read, whole};
+ghost use Rattle.mq_model.specs.Front.{AddsLine, added_fault, grammar_fault, name_fault, with_said};
+ghost use Rattle.mq_model.specs.Lines.{line};
+ghost use Rattle.mq_model.specs.Model.{Tells, begins_bound, begins_comment, is_allowed, is_head};
+ghost use Rattle.mq_model.specs.Reading.{texts};
+ghost use Rattle.mq_model.specs.Said.{added, columns_after, declared, is_among, mentioned};
+
+use crate::fault::ModelFault;
+use crate::line::{LineFault, read_line};
+use crate::said::{Said, SaidDemand, SaidKind, SaidRoute};
+use crate::word::copied;
+use mq_base::{List, next_word};
+use std::alloc::Global;
+
+/// What the lines so far say: their heads and bounds, each line of the grammar with its number,
+/// and the names of nodes and columns in order of declaration and of first mention.
+#[derive(Drop)]
+pub struct Front {
+    pub has_head: bool,
+    pub has_bound: bool,
+    pub saids: List<Said>,
+    pub lines: List<u32>,
+    pub names: List<List<u8>>,
+    pub columns: List<List<u8>>,
+}
+
+/// The words of a line.
+fn split_words<'a>(alloc: Global, line: &'a [u8]) -> Result<Vec<&'a [u8]>, ModelFault>
+    ensures words { IfOk result (λ v. texts v.items ≡ words_of line.now) }
+    ensures few { IfOk result (λ v. length v.items ≤ length line.now) }
+    ensures memory { IfErr result (λ e. e ≡ ModelFault.Memory) }
+{
+    let mut words = Vec::new(alloc);
+    let mut from = 0;
+    while let Some(span) = next_word(line, from, line.len()) {
+        words.push(&line[span.start..span.end])?;
+        from = span.next;
+    }
+    Ok(words)
+}
+
+/// Whether a line may hold these bytes.
+fn all_allowed(line: &[u8]) -> bool
+    ensures { result ≡ list_all is_allowed line.now }
+{
+    line.iter().all(|b| *b == b'\t' || (*b >= 32 && *b <= 126))
+}
+
+/// Whether the words of a line are none, or those of a comment.
+fn begins_comment(words: &[&[u8]]) -> bool
+    ensures { result ≡ begins_comment (texts words.now) }
+{
+    let Some(word) = words.first() else {
+        return true;
+    };
+    match word.first() {
+        Some(byte) => *byte == b'#',
+        None => false,
+    }
+}
+
+/// Whether these are the words of the head.
+fn is_head(words: &[&[u8]]) -> bool
+    ensures { result ≡ is_head (texts words.now) }
+{
+    if words.len() != 2 {
+        return false;
+    }
+    if words[0] != b"model".as_slice() {
+        return false;
+    }
+    words[1] == b"1".as_slice()
+}
+
+/// Whether a line begins as a bound does.
+fn begins_bound(words: &[&[u8]]) -> bool
+    ensures { result ≡ begins_bound (texts words.now) }
+{
+    let Some(word) = words.first() else {
+        return false;
+    };
+    *word == b"bound".as_slice()
+}
+
+/// Whether a name is among these.
+fn is_among(names: &[List<u8>], name: &[u8]) -> bool
+    ensures { result ≡ is_among names.now name.now }
+{
+    names.iter().any(|other| other.as_slice() == name)
+}
+
+/// Adds the name of the node that a line declares.
+fn add_name(
+    alloc: Global,
+    said: &Said,
+    number: u32,
+    names: &mut List<List<u8>>,
+) -> Result<(), ModelFault>
+    ensures ok { IfOk result (λ _. (name_fault number names.old said.now ≡ None) × (names.new ≡ names.old ++ declared said.now)) }
+    ensures err { IfErr result (λ e. Tells e (name_fault number names.old said.now)) }
+{
+    let Said::Node { name, .. } = said else {
+        return Ok(());
+    };
+    if is_among(names.as_slice(), name.as_slice()) {
+        return Err(ModelFault::NameTwice { line: number });
+    }
+    if names.len() >= 64 {
+        return Err(ModelFault::TooMany { line: number });
+    }
+    names.push(copied(alloc, name.as_slice())?)?;
+    Ok(())
+}
+
+/// Adds a column, where it isn't among these.
+fn add_column(
+    alloc: Global,
+    name: &List<u8>,
+    columns: &mut List<List<u8>>,
+) -> Result<(), ModelFault>
+    ensures ok { IfOk result (λ _. columns.new ≡ added columns.old name.now) }
+    ensures err { IfErr result (λ e. e ≡ ModelFault.Memory) }
+{
+    if !is_among(columns.as_slice(), name.as_slice()) {
+        columns.push(copied(alloc, name.as_slice())?)?;
+    }
+    Ok(())
+}
+
+/// Adds the columns that a line mentions.
+fn add_columns(alloc: Global, said: &Said, columns: &mut List<List<u8>>) -> Result<(), ModelFault>
+    ensures ok { IfOk result (λ _. columns.new ≡ columns_after columns.old (mentioned said.now)) }
+    ensures err { IfErr result (λ e. e ≡ ModelFault.Memory) }
+{
+    let Said::Node { kind, .. } = said else {
+        return Ok(());
+    };
+    match kind {
+        SaidKind::Server(SaidDemand::Column(column))
+        | SaidKind::Split(SaidRoute::Modulo { column, .. })
+        | SaidKind::Split(SaidRoute::Cut { column, .. }) => add_column(alloc, column, columns),
+        SaidKind::Source
+        | SaidKind::Server(SaidDemand::Fixed(_))
+        | SaidKind::Split(SaidRoute::Turn { .. }) => Ok(()),
+    }
+}
+
+/// What the words of a line say.
+fn read_words(
+    alloc: Global,
+    words: &[&[u8]],
+    number: u32,
+    has_bound: bool,
+) -> Result<Said, ModelFault>
+    requires { length words.now ≤ 65536 }
+    ensures ok { IfOk result (λ said. (grammar_fault number has_bound (texts words.now) ≡ None) × (whole (read line (texts words.now)) ≡ Ok said)) }
+    ensures err { IfErr result (λ e. Tells e (grammar_fault number has_bound (texts words.now))) }
+{
+    if has_bound && begins_bound(words) {
+        return Err(ModelFault::BadLine {
+            line: number,
+            word: 1,
+        });
+    }
+    match read_line(alloc, words) {
+        Ok(said) => Ok(said),
+        Err(LineFault::Word(word)) => Err(ModelFault::BadLine {
+            line: number,
+            word: word as u32,
+        }),
+        Err(LineFault::Memory) => Err(ModelFault::Memory),
+    }
+}
+
+/// Adds what a line says.
+fn add_said(alloc: Global, said: Said, number: u32, front: &mut Front) -> Result<(), ModelFault>
+    ensures ok { IfOk result (λ _. (added_fault front.old number said ≡ None) × (front.new ≡ with_said front.old number said)) }
+    ensures err { IfErr result (λ e. Tells e (added_fault front.old number said)) }
+{
+    add_name(alloc, &said, number, &mut front.names)?;
+    add_columns(alloc, &said, &mut front.columns)?;
+    if front.columns.len() > 16 {
+        return Err(ModelFault::TooMany { line: number });
+    }
+    front.saids.push(said)?;
+    front.lines.push(number)?;
+    Ok(())
+}
+
+/// Reads one line more.
+pub fn read_next(
+    alloc: Global,
+    line: &[u8],
+    number: u32,
+    front: &mut Front,
+) -> Result<(), ModelFault>
+    requires { length line.now ≤ 65536 }
+    ensures { AddsLine result number line.now front.old front.new }
+{
+    let words = split_words(alloc, line)?;
+    if begins_comment(words.as_slice()) {
+        return Ok(());
+    }
+    if !all_allowed(line) {
+        return Err(ModelFault::BadByte { line: number });
+    }
+    if !front.has_head {
+        if !is_head(words.as_slice()) {
+            return Err(ModelFault::BadHead { line: number });
+        }
+        front.has_head = true;
+        return Ok(());
+    }
+    let said = read_words(alloc, words.as_slice(), number, front.has_bound)?;
+    front.has_bound |= begins_bound(words.as_slice());
+    add_said(alloc, said, number, front)
+}

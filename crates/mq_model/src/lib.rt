@@ -1,0 +1,25 @@
+//! The model text: its grammar, its first fault, and the network that it declares.
+#![tactic(auto)]
+
+mod fault;
+mod front;
+mod inputs;
+mod laws;
+mod line;
+mod network;
+mod parts;
+mod print;
+mod read;
+mod route;
+mod said;
+mod text;
+mod word;
+
+pub use fault::ModelFault;
+pub use laws::{examples_are_answered, first_bad_word, printed_models_are_read};
+pub use print::print_model;
+pub use read::read_model;
+pub use said::{Said, SaidDemand, SaidInput, SaidKind, SaidRoute};
+
+#[cfg(test)]
+mod tests;

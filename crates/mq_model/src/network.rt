@@ -1,0 +1,149 @@
+// The network that lines declare: names become numbers.
+ghost use Rattle.std.specs.Prelude.{◌≡◌, ◌≤◌, IfErr, IfOk, length, map};
+ghost use Rattle.std.specs.List.{flat_map};
+ghost use Rattle.mq_model.specs.NetworkOf.{bound_of, demand_in, input_in, kind_in, network_of, nodes_in, number_in, route_in};
+ghost use Rattle.mq_model.specs.Said.{columns_of, names_of};
+
+use crate::fault::ModelFault;
+use crate::said::{Said, SaidDemand, SaidInput, SaidKind, SaidRoute};
+use crate::word::{copied, copied_numbers};
+use mq_base::List;
+use mq_core::{Demand, Input, Kind, Network, Node, Route};
+use std::alloc::Global;
+
+/// The place of a name among these, or their number.
+fn number_in(names: &[List<u8>], name: &[u8]) -> usize
+    ensures at { result ≡ number_in names.now name.now }
+    ensures within { result ≤ length names.now }
+{
+    names
+        .iter()
+        .take_while(|other| other.as_slice() != name)
+        .count()
+}
+
+fn column_in(columns: &[List<u8>], name: &List<u8>) -> u8
+    requires { length columns.now ≤ 16 }
+    ensures { result ≡ number_in columns.now name.now }
+{
+    number_in(columns, name.as_slice()) as u8
+}
+
+fn demand_in(columns: &[List<u8>], demand: &SaidDemand) -> Demand
+    requires { length columns.now ≤ 16 }
+    ensures { result ≡ demand_in columns.now demand.now }
+{
+    match demand {
+        SaidDemand::Column(name) => Demand::Column(column_in(columns, name)),
+        SaidDemand::Fixed(ticks) => Demand::Fixed(*ticks),
+    }
+}
+
+fn route_in(alloc: Global, columns: &[List<u8>], route: &SaidRoute) -> Result<Route, ModelFault>
+    requires { length columns.now ≤ 16 }
+    ensures ok { IfOk result (λ r. r ≡ route_in columns.now route.now) }
+    ensures err { IfErr result (λ e. e ≡ ModelFault.Memory) }
+{
+    match route {
+        SaidRoute::Modulo { outputs, column } => Ok(Route::Modulo {
+            outputs: *outputs,
+            column: column_in(columns, column),
+        }),
+        SaidRoute::Turn { outputs } => Ok(Route::Turn { outputs: *outputs }),
+        SaidRoute::Cut { column, thresholds } => Ok(Route::Cut {
+            column: column_in(columns, column),
+            thresholds: copied_numbers(alloc, thresholds.as_slice())?,
+        }),
+    }
+}
+
+fn kind_in(alloc: Global, columns: &[List<u8>], kind: &SaidKind) -> Result<Kind, ModelFault>
+    requires { length columns.now ≤ 16 }
+    ensures ok { IfOk result (λ k. k ≡ kind_in columns.now kind.now) }
+    ensures err { IfErr result (λ e. e ≡ ModelFault.Memory) }
+{
+    match kind {
+        SaidKind::Source => Ok(Kind::Source),
+        SaidKind::Server(demand) => Ok(Kind::Server(demand_in(columns, demand))),
+        SaidKind::Split(route) => Ok(Kind::Split(route_in(alloc, columns, route)?)),
+    }
+}
+
+/// The inputs of a node, by port.
+fn inputs_in(
+    alloc: Global,
+    names: &[List<u8>],
+    reads: &[SaidInput],
+) -> Result<List<Input>, ModelFault>
+    requires { length names.now ≤ 64 }
+    ensures ok { IfOk result (λ inputs. inputs ≡ map (input_in names.now) reads.now) }
+    ensures err { IfErr result (λ e. e ≡ ModelFault.Memory) }
+{
+    let mut inputs = List::new(alloc);
+    for read in reads {
+        inputs.push(Input {
+            node: number_in(names, read.name.as_slice()) as u32,
+            out: read.out,
+        })?;
+    }
+    Ok(inputs)
+}
+
+/// The nodes that lines declare, by the names of the nodes and of the columns.
+fn nodes_in(
+    alloc: Global,
+    names: &[List<u8>],
+    columns: &[List<u8>],
+    saids: &[Said],
+) -> Result<List<Node>, ModelFault>
+    requires few { length names.now ≤ 64 }
+    requires few_columns { length columns.now ≤ 16 }
+    ensures ok { IfOk result (λ nodes. nodes ≡ flat_map (nodes_in names.now columns.now) saids.now) }
+    ensures err { IfErr result (λ e. e ≡ ModelFault.Memory) }
+{
+    let mut nodes = List::new(alloc);
+    for said in saids {
+        if let Said::Node { name, kind, reads } = said {
+            nodes.push(Node {
+                name: copied(alloc, name.as_slice())?,
+                kind: kind_in(alloc, columns, kind)?,
+                inputs: inputs_in(alloc, names, reads.as_slice())?,
+            })?;
+        }
+    }
+    Ok(nodes)
+}
+
+/// The bound that the first line of this kind says, or 2^60.
+fn bound_of(saids: &[Said]) -> u64
+    ensures { result ≡ bound_of saids.now }
+{
+    for said in saids {
+        if let Said::Bound(bound) = said {
+            return *bound;
+        }
+    }
+    1 << 60
+}
+
+/// The network that lines declare, whose nodes and columns have these names.
+pub fn network_of(
+    alloc: Global,
+    names: &[List<u8>],
+    columns: List<List<u8>>,
+    saids: &[Said],
+) -> Result<Network, ModelFault>
+    requires names { names.now ≡ names_of saids.now }
+    requires columns { columns ≡ columns_of saids.now }
+    requires few { length names.now ≤ 64 }
+    requires few_columns { length columns ≤ 16 }
+    ensures ok { IfOk result (λ net. net ≡ network_of saids.now) }
+    ensures err { IfErr result (λ e. e ≡ ModelFault.Memory) }
+{
+    let nodes = nodes_in(alloc, names, columns.as_slice(), saids)?;
+    Ok(Network {
+        nodes,
+        columns,
+        bound: bound_of(saids),
+    })
+}

@@ -1,0 +1,179 @@
+// The canonical text of a plan.
+ghost use Rattle.std.specs.Prelude.{◌≡◌, ◌∷◌, ◌++◌, [], IfOk, OnOk, codes, decimal, map};
+ghost use Rattle.std.specs.List.{join_with_byte};
+ghost use Rattle.mq_model.specs.Printed.{demand_word, input_word, inputs_words, line_text, printed, route_words, said_words, spaced};
+ghost use Rattle.mq_model.specs.SaidOf.{demand_by, input_by, name_at, names_in, node_by, route_by};
+
+use itoa::Buffer;
+use mq_base::{List, OutOfMemory};
+use mq_core::{Demand, Input, Kind, Network, Node, Plan, Route};
+use std::alloc::Global;
+
+/// The name of a node, by its number; where there is no such node, it is empty.
+fn node_name(net: &Network, node: u32) -> &[u8]
+    ensures { result.now ≡ name_at (names_in net.now) node }
+{
+    match net.nodes.as_slice().get(node as usize) {
+        Some(node) => node.name.as_slice(),
+        None => b"",
+    }
+}
+
+/// The name of a column, by its number; where there is no such column, it is empty.
+fn column_name(net: &Network, column: u8) -> &[u8]
+    ensures { result.now ≡ name_at net.now.columns column }
+{
+    match net.columns.as_slice().get(column as usize) {
+        Some(name) => name.as_slice(),
+        None => b"",
+    }
+}
+
+fn push_digits(text: &mut Vec<u8>, number: u64) -> Result<(), OutOfMemory>
+    ensures { OnOk result (text.new.items ≡ text.old.items ++ decimal number) }
+{
+    text.extend_from_slice(Buffer::new().format(number).as_bytes())?;
+    Ok(())
+}
+
+/// Adds a word behind a space.
+fn push_word(text: &mut Vec<u8>, word: &[u8]) -> Result<(), OutOfMemory>
+    ensures { OnOk result (text.new.items ≡ text.old.items ++ 32 ∷ word.now) }
+{
+    text.push(b' ')?;
+    text.extend_from_slice(word)?;
+    Ok(())
+}
+
+/// Adds a number behind a space.
+fn push_number(text: &mut Vec<u8>, number: u64) -> Result<(), OutOfMemory>
+    ensures { OnOk result (text.new.items ≡ text.old.items ++ 32 ∷ decimal number) }
+{
+    text.push(b' ')?;
+    push_digits(text, number)
+}
+
+fn push_demand(text: &mut Vec<u8>, net: &Network, demand: &Demand) -> Result<(), OutOfMemory>
+    ensures { OnOk result (text.new.items ≡ text.old.items ++ 32 ∷ demand_word (demand_by net.now.columns demand.now)) }
+{
+    match demand {
+        Demand::Column(column) => push_word(text, column_name(net, *column)),
+        Demand::Fixed(ticks) => {
+            push_word(text, b"=")?;
+            push_digits(text, *ticks)
+        }
+    }
+}
+
+fn push_input(text: &mut Vec<u8>, net: &Network, input: &Input) -> Result<(), OutOfMemory>
+    ensures { OnOk result (text.new.items ≡ text.old.items ++ 32 ∷ input_word (input_by (names_in net.now) input.now)) }
+{
+    push_word(text, node_name(net, input.node))?;
+    if input.out == 0 {
+        return Ok(());
+    }
+    text.push(b'.')?;
+    push_digits(text, input.out as u64)
+}
+
+/// Adds `from` and the inputs, each behind a space.
+fn push_inputs(text: &mut Vec<u8>, net: &Network, inputs: &[Input]) -> Result<(), OutOfMemory>
+    ensures { OnOk result (text.new.items ≡ text.old.items ++ spaced (inputs_words (map (input_by (names_in net.now)) inputs.now))) }
+{
+    push_word(text, b"from")?;
+    for input in inputs {
+        push_input(text, net, input)?;
+    }
+    Ok(())
+}
+
+fn push_numbers(text: &mut Vec<u8>, numbers: &[u64]) -> Result<(), OutOfMemory>
+    ensures { OnOk result (text.new.items ≡ text.old.items ++ spaced (map decimal numbers.now)) }
+{
+    for number in numbers {
+        push_number(text, *number)?;
+    }
+    Ok(())
+}
+
+fn push_route(text: &mut Vec<u8>, net: &Network, route: &Route) -> Result<(), OutOfMemory>
+    ensures { OnOk result (text.new.items ≡ text.old.items ++ spaced (route_words (route_by net.now.columns route.now))) }
+{
+    match route {
+        Route::Modulo { outputs, column } => {
+            push_number(text, *outputs as u64)?;
+            push_word(text, b"mod")?;
+            push_word(text, column_name(net, *column))
+        }
+        Route::Turn { outputs } => {
+            push_number(text, *outputs as u64)?;
+            push_word(text, b"turn")
+        }
+        Route::Cut { column, thresholds } => {
+            push_word(text, b"cut")?;
+            push_word(text, column_name(net, *column))?;
+            push_numbers(text, thresholds.as_slice())
+        }
+    }
+}
+
+/// Adds the first word of a line and the node's name.
+fn push_start(text: &mut Vec<u8>, kind: &[u8], node: &Node) -> Result<(), OutOfMemory>
+    ensures { OnOk result (text.new.items ≡ text.old.items ++ kind.now ++ 32 ∷ node.now.name) }
+{
+    text.extend_from_slice(kind)?;
+    push_word(text, node.name.as_slice())
+}
+
+/// Adds the words of a node's line.
+fn push_node_words(text: &mut Vec<u8>, net: &Network, node: &Node) -> Result<(), OutOfMemory>
+    ensures { OnOk result (text.new.items ≡ text.old.items ++ join_with_byte 32 (said_words (node_by (names_in net.now) net.now.columns node.now))) }
+{
+    match &node.kind {
+        Kind::Source => push_start(text, b"source", node),
+        Kind::Server(demand) => {
+            push_start(text, b"server", node)?;
+            push_demand(text, net, demand)?;
+            push_inputs(text, net, node.inputs.as_slice())
+        }
+        Kind::Split(route) => {
+            push_start(text, b"split", node)?;
+            push_route(text, net, route)?;
+            push_inputs(text, net, node.inputs.as_slice())
+        }
+    }
+}
+
+fn push_node(text: &mut Vec<u8>, net: &Network, node: &Node) -> Result<(), OutOfMemory>
+    ensures { OnOk result (text.new.items ≡ text.old.items ++ line_text (said_words (node_by (names_in net.now) net.now.columns node.now))) }
+{
+    push_node_words(text, net, node)?;
+    text.push(b'\n')?;
+    Ok(())
+}
+
+/// Adds the head and the bound.
+fn push_head(text: &mut Vec<u8>, bound: u64) -> Result<(), OutOfMemory>
+    ensures { OnOk result (text.new.items ≡ text.old.items ++ codes "model 1\nbound " ++ decimal bound ++ 10 ∷ []) }
+{
+    text.extend_from_slice(b"model 1\nbound ")?;
+    push_digits(text, bound)?;
+    text.push(b'\n')?;
+    Ok(())
+}
+
+/// The canonical text of a plan, which `read_model` reads as the plan again.
+///
+/// It has the head, the bound, and a line for each node in order of declaration. Each line's words
+/// have one space between each two, and numbers have no leading zeros.
+pub fn print_model(alloc: Global, plan: &Plan) -> Result<List<u8>, OutOfMemory>
+    ensures { IfOk result (λ text. text ≡ printed plan.now.net) }
+{
+    let net = &plan.net;
+    let mut text = Vec::new(alloc);
+    push_head(&mut text, net.bound)?;
+    for node in net.nodes.as_slice() {
+        push_node(&mut text, net, node)?;
+    }
+    Ok(List::from_vec(text))
+}

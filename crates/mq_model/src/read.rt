@@ -1,0 +1,109 @@
+// The reader of a model text.
+ghost use Rattle.std.specs.Prelude.{◌≡◌, ◌≤◌, IfErr, IfOk, None, get_or, length, nat_lt};
+ghost use Rattle.mq_core.specs.Wiring.{ranking};
+ghost use Rattle.mq_graph.specs.Rank.{AreWired, HasAll};
+ghost use Rattle.mq_model.specs.Model.{Tells, model_fault};
+ghost use Rattle.mq_model.specs.NetworkOf.{network_in, without_mark};
+ghost use Rattle.mq_model.specs.Placed.{cycle_of, declaring};
+ghost use Rattle.mq_model.specs.Said.{declared};
+
+use crate::fault::ModelFault;
+use crate::front::Front;
+use crate::inputs::{has_source, inputs_fault};
+use crate::network::network_of;
+use crate::said::Said;
+use crate::text::read_lines;
+use mq_base::List;
+use mq_core::{Network, Plan};
+use mq_graph::{RankFault, rank};
+use std::alloc::Global;
+
+/// A text without a byte order mark at its start.
+fn without_mark(text: &[u8]) -> &[u8]
+    ensures { result.now ≡ without_mark text.now }
+{
+    match text {
+        [0xEF, 0xBB, 0xBF, rest @ ..] => rest,
+        _ => text,
+    }
+}
+
+fn is_node(said: &Said) -> bool
+    ensures { result ≡ nat_lt 0 (length (declared said.now)) }
+{
+    match said {
+        Said::Bound(_) => false,
+        Said::Node { .. } => true,
+    }
+}
+
+/// The number of the line that declares a node.
+fn line_of(saids: &[Said], lines: &[u32], node: u32) -> u32
+    requires { length lines.now ≡ length saids.now }
+    ensures { result ≡ get_or (declaring lines.now saids.now) node 0 }
+{
+    let mut left = node;
+    for (at, said) in saids.iter().enumerate() {
+        if !is_node(said) {
+            continue;
+        }
+        if left == 0 {
+            return lines[at];
+        }
+        left -= 1;
+    }
+    0
+}
+
+/// The nodes by rank, where no node is left.
+fn order_of(
+    alloc: Global,
+    net: &Network,
+    saids: &[Said],
+    lines: &[u32],
+) -> Result<List<u32>, ModelFault>
+    requires few { length net.now.nodes ≤ 64 }
+    requires wired { AreWired net.now.nodes }
+    requires beside { length lines.now ≡ length saids.now }
+    ensures ok { IfOk result (λ order. (cycle_of lines.now saids.now net.now.nodes ≡ None) × (order ≡ ranking net.now.nodes) × HasAll order net.now.nodes) }
+    ensures err { IfErr result (λ e. Tells e (cycle_of lines.now saids.now net.now.nodes)) }
+{
+    match rank(alloc, net) {
+        Ok(order) => Ok(order),
+        Err(RankFault::Cycle { node }) => Err(ModelFault::Cycle {
+            line: line_of(saids, lines, node),
+            node,
+        }),
+        Err(RankFault::Memory) => Err(ModelFault::Memory),
+    }
+}
+
+/// Reads a model text of at most 65,536 bytes.
+///
+/// The plan is that of the network that the text declares. A fault is the first one of the text:
+/// first its length, then its lines in order, then its inputs, its sources and its cycles.
+pub fn read_model(alloc: Global, bytes: &[u8]) -> Result<Plan, ModelFault>
+    ensures ok { IfOk result (λ plan. (model_fault bytes.now ≡ None) × (plan.net ≡ network_in bytes.now)) }
+    ensures err { IfErr result (λ e. Tells e (model_fault bytes.now)) }
+{
+    if bytes.len() > 65_536 {
+        return Err(ModelFault::TooLong);
+    }
+    let front = read_lines(alloc, without_mark(bytes))?;
+    let Front {
+        saids,
+        lines,
+        names,
+        columns,
+        ..
+    } = front;
+    if let Some(fault) = inputs_fault(saids.as_slice(), lines.as_slice()) {
+        return Err(fault);
+    }
+    if !has_source(saids.as_slice()) {
+        return Err(ModelFault::NoSource);
+    }
+    let net = network_of(alloc, names.as_slice(), columns, saids.as_slice())?;
+    let order = order_of(alloc, &net, saids.as_slice(), lines.as_slice())?;
+    Ok(Plan { net, order })
+}

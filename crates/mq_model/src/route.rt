@@ -1,0 +1,152 @@
+// The route of a split.
+ghost use Rattle.std.specs.Prelude.{◌≡◌, ◌≤◌, MatchOption, false, length, true};
+ghost use Rattle.mq_model.specs.Form.{one, read};
+ghost use Rattle.mq_model.specs.Lines.{a_route, counted_route, cut_route, greatest_demand, is_above, is_from_to, is_up_to, modulo_route, thresholds, value_of, way_of};
+ghost use Rattle.mq_model.specs.Reading.{Reads, words_from};
+
+use crate::parts::{Stop, read_name, word_at};
+use crate::said::SaidRoute;
+use crate::word::GREATEST_DEMAND;
+use mq_base::{List, read_number};
+use std::alloc::Global;
+
+/// The number that a word says, where it is above this one and at most 2^36.
+fn number_above(word: &[u8], last: u64) -> Option<u64>
+    ensures { MatchOption result (is_above last word.now ≡ false) (λ n. (is_above last word.now ≡ true) × (n ≡ value_of word.now)) }
+{
+    let Some(number) = read_number(word, GREATEST_DEMAND) else {
+        return None;
+    };
+    if number <= last {
+        return None;
+    }
+    Some(number)
+}
+
+/// Reads a threshold.
+#[tactic(auto, using(crate::proofs::ReadFacts::choices))]
+fn read_threshold(words: &[&[u8]], at: &mut usize) -> Result<u64, Stop>
+    ensures reads { Reads result (words_from words.now at.new) (read (one (is_up_to greatest_demand) value_of) (words_from words.now at.old)) }
+    ensures within { at.old ≤ length words.now → at.new ≤ length words.now }
+{
+    let Some(word) = word_at(words, *at) else {
+        return Err(Stop::Word);
+    };
+    let Some(value) = read_number(word, GREATEST_DEMAND) else {
+        return Err(Stop::Word);
+    };
+    *at += 1;
+    Ok(value)
+}
+
+/// Reads 1 to 7 thresholds, each above the one before.
+#[tactic(auto, using(crate::proofs::ReadFacts::choices))]
+fn read_thresholds(alloc: Global, words: &[&[u8]], at: &mut usize) -> Result<List<u64>, Stop>
+    ensures reads { Reads result (words_from words.now at.new) (read thresholds (words_from words.now at.old)) }
+    ensures within { at.old ≤ length words.now → at.new ≤ length words.now }
+{
+    let mut last = read_threshold(words, at)?;
+    let mut cuts = List::new(alloc);
+    cuts.push(last)?;
+    for count in 0..6u8 {
+        let Some(word) = word_at(&*words, *at) else {
+            return Ok(cuts);
+        };
+        let Some(next) = number_above(word, last) else {
+            return Ok(cuts);
+        };
+        cuts.push(next)?;
+        last = next;
+        *at += 1;
+    }
+    Ok(cuts)
+}
+
+/// Reads what stands behind `cut`.
+#[tactic(auto, using(crate::proofs::ReadFacts::reading), unfolding(crate::specs::Lines::cut_route))]
+fn read_cut(alloc: Global, words: &[&[u8]], at: &mut usize) -> Result<SaidRoute, Stop>
+    ensures reads { Reads result (words_from words.now at.new) (read cut_route (words_from words.now at.old)) }
+    ensures within { at.old ≤ length words.now → at.new ≤ length words.now }
+{
+    let column = read_name(alloc, words, at)?;
+    let thresholds = read_thresholds(alloc, words, at)?;
+    Ok(SaidRoute::Cut { column, thresholds })
+}
+
+/// Reads the number of outputs.
+#[tactic(auto, using(crate::proofs::ReadFacts::choices))]
+fn read_outputs(words: &[&[u8]], at: &mut usize) -> Result<u8, Stop>
+    ensures reads { Reads result (words_from words.now at.new) (read (one (is_from_to 2 8) value_of) (words_from words.now at.old)) }
+    ensures within { at.old ≤ length words.now → at.new ≤ length words.now }
+{
+    let Some(word) = word_at(words, *at) else {
+        return Err(Stop::Word);
+    };
+    let Some(outputs) = read_number(word, 8) else {
+        return Err(Stop::Word);
+    };
+    if outputs < 2 {
+        return Err(Stop::Word);
+    }
+    *at += 1;
+    Ok(outputs as u8)
+}
+
+/// Reads what stands behind `mod`.
+fn read_modulo(
+    alloc: Global,
+    words: &[&[u8]],
+    at: &mut usize,
+    outputs: u8,
+) -> Result<SaidRoute, Stop>
+    ensures reads { Reads result (words_from words.now at.new) (read (modulo_route outputs) (words_from words.now at.old)) }
+    ensures within { at.old ≤ length words.now → at.new ≤ length words.now }
+{
+    let column = read_name(alloc, words, at)?;
+    Ok(SaidRoute::Modulo { outputs, column })
+}
+
+/// Reads what stands behind the number of outputs.
+#[tactic(auto, using(crate::proofs::ReadFacts::choices), unfolding(crate::specs::Lines::way_of))]
+fn read_way(alloc: Global, words: &[&[u8]], at: &mut usize, outputs: u8) -> Result<SaidRoute, Stop>
+    ensures reads { Reads result (words_from words.now at.new) (read (way_of outputs) (words_from words.now at.old)) }
+    ensures within { at.old ≤ length words.now → at.new ≤ length words.now }
+{
+    let Some(word) = word_at(words, *at) else {
+        return Err(Stop::Word);
+    };
+    if word == b"mod".as_slice() {
+        *at += 1;
+        return read_modulo(alloc, words, at, outputs);
+    }
+    if word == b"turn".as_slice() {
+        *at += 1;
+        return Ok(SaidRoute::Turn { outputs });
+    }
+    Err(Stop::Word)
+}
+
+/// Reads a route by the number of its outputs.
+fn read_counted(alloc: Global, words: &[&[u8]], at: &mut usize) -> Result<SaidRoute, Stop>
+    ensures reads { Reads result (words_from words.now at.new) (read counted_route (words_from words.now at.old)) }
+    ensures within { at.old ≤ length words.now → at.new ≤ length words.now }
+{
+    let outputs = read_outputs(words, at)?;
+    read_way(alloc, words, at, outputs)
+}
+
+/// Reads a route.
+#[tactic(auto, using(crate::proofs::ReadFacts::choices), unfolding(crate::specs::Lines::a_route))]
+pub fn read_route(alloc: Global, words: &[&[u8]], at: &mut usize) -> Result<SaidRoute, Stop>
+    ensures reads { Reads result (words_from words.now at.new) (read a_route (words_from words.now at.old)) }
+    ensures within { at.old ≤ length words.now → at.new ≤ length words.now }
+{
+    let Some(word) = word_at(words, *at) else {
+        return Err(Stop::Word);
+    };
+    if word == b"cut".as_slice() {
+        *at += 1;
+        return read_cut(alloc, words, at);
+    }
+    read_counted(alloc, words, at)
+}

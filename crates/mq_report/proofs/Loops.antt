@@ -1,0 +1,59 @@
+-- What is left of a report in a loop over ranks, or over outputs.
+use Rattle.std.proofs.Common.{◌≡◌, ℕ, zero, suc, ◌+◌, ◌-◌, ◌<◌, ◌≤◌, List, [], ◌∷◌, ◌++◌, length, get_or, drop, Some, refl, sym, ap, ◌∙◌, arith, drop-cons, subst, length-append}
+use Rattle.std.specs.declared.option.Option.{Option}
+use Rattle.std.proofs.lemmas.List.{append-nil}
+use Rattle.mq_base.specs.Outside.{GoesOut}
+use Rattle.mq_base.proofs.Gathers.{Gathers}
+use Rattle.std.specs.Prelude.{slice_get}
+use Rattle.std.proofs.lemmas.Option.{slice_get_within, get_or_from_slice_get}
+use Rattle.mq_core.specs.Local.{Local}
+use Rattle.mq_core.specs.Machine.{State, Station}
+use Rattle.mq_core.specs.Sound.{outputs_in}
+use Rattle.mq_core.specs.declared.model.Network.{Network}
+use Rattle.mq_core.specs.declared.model.Node.{Node}
+use Rattle.mq_core.specs.declared.model.Rows.{Rows}
+use Rattle.mq_report.specs.Text.{line_of, line_at, nodes_text, exit_lines, exit_lines_at, exits_at, exits_text}
+
+drop_at : (xs : List ℕ) (i x : ℕ) → slice_get xs i ≡ Some x → drop i xs ≡ x ∷ drop (i + 1) xs
+drop_at xs i x h =
+    let within = slice_get_within xs i x h in
+    let next : suc i ≡ i + 1 = omega arith in
+    drop-cons xs i 0 within ∙ (ap (λ y. y ∷ drop (suc i) xs) (get_or_from_slice_get xs i x 0 h) ∙ ap (λ n. x ∷ drop n xs) next)
+
+-- the node of the next rank
+pub nodes-next : (net : Network) (rows : Rows) (end : State Local) (order : List ℕ) (rank v : ℕ) (node : Node) → slice_get order rank ≡ Some v → slice_get net.nodes v ≡ Some node →
+    nodes_text net rows end (drop rank order) ≡ line_of rows end v node ++ nodes_text net rows end (drop (rank + 1) order)
+nodes-next net rows end order rank v node h there =
+    ap (nodes_text net rows end) (drop_at order rank v h) ∙ ap (λ o. line_at rows end v o ++ nodes_text net rows end (drop (rank + 1) order)) there
+
+pub exits-next : (net : Network) (rows : Rows) (end : State Local) (order : List ℕ) (rank v : ℕ) (node : Node) → slice_get order rank ≡ Some v → slice_get net.nodes v ≡ Some node →
+    exits_text net rows end (drop rank order) ≡ exit_lines net.nodes rows v node.name (end.stations v) 0 (outputs_in node.kind) ++ exits_text net rows end (drop (rank + 1) order)
+exits-next net rows end order rank v node h there =
+    ap (exits_text net rows end) (drop_at order rank v h) ∙ ap (λ o. exits_at net.nodes rows end v o ++ exits_text net rows end (drop (rank + 1) order)) there
+
+-- the next output
+pub outputs-next : (nodes : List Node) (rows : Rows) (v : ℕ) (name : List ℕ) (station : Station Local) (out outs : ℕ) → out < outs →
+    exit_lines nodes rows v name station out (outs - out) ≡ exit_lines_at nodes rows v name station out ++ exit_lines nodes rows v name station (out + 1) (outs - (out + 1))
+unfolding exit_lines
+outputs-next nodes rows v name station out outs l =
+    let next : outs - out ≡ suc (outs - (out + 1)) = omega arith in
+    ap (exit_lines nodes rows v name station out) next
+
+-- where a further text is refused, the count of faults stands still as long as the whole has room
+pub gathers_calm : (t t' : Option (List ℕ)) (s s' f f' f'' : ℕ) (all p left piece rest : List ℕ) → left ≡ piece ++ rest → Gathers t t' s s' f f' all p left → (length (p ++ piece) ≤ s' → f'' ≡ f') → length all ≤ s → f'' ≡ f
+gathers_calm t t' s s' f f' f'' all p left piece rest next h calm room =
+    let cut : all ≡ h.text ++ (piece ++ rest) = h.cut ∙ ap (λ tail. h.text ++ tail) next in
+    let split : h.text ≡ h.goes.done ++ p = h.goes.split in
+    let long : length all ≡ length h.text + (length piece + length rest) = ap length cut ∙ (length-append h.text (piece ++ rest) ∙ ap (λ n. length h.text + n) (length-append piece rest)) in
+    let long_text : length h.text ≡ length h.goes.done + length p = ap length split ∙ length-append h.goes.done p in
+    let long_next : length (p ++ piece) ≡ length p + length piece = length-append p piece in
+    let spent : s ≤ s' + length h.goes.done = h.goes.took.spent in
+    calm (omega arith) ∙ h.calm room
+
+-- nothing is left to add
+pub gathers_all : (t t' : Option (List ℕ)) (s s' f f' : ℕ) (all p rest : List ℕ) → rest ≡ [] → Gathers t t' s s' f f' all p rest → GoesOut t t' s s' all p
+gathers_all t t' s s' f f' all p rest none h = subst (λ l. GoesOut t t' s s' l p) (sym (append-nil h.text) ∙ (ap (λ l. h.text ++ l) (sym none) ∙ sym h.cut)) h.goes
+
+pub no_outputs : (nodes : List Node) (rows : Rows) (v : ℕ) (name : List ℕ) (station : Station Local) (out outs : ℕ) → outs ≤ out → exit_lines nodes rows v name station out (outs - out) ≡ []
+unfolding exit_lines
+no_outputs nodes rows v name station out outs l = let none : outs - out ≡ 0 = omega arith in ap (exit_lines nodes rows v name station out) none

@@ -1,0 +1,16 @@
+use Rattle.std.proofs.Common.{◌≡◌, ◌++◌}
+use Rattle.mq_base.proofs.Gathers.{goes_both, front_goes, goes_front}
+use Rattle.mq_base.proofs.Puts.{on_err, on_err_more, on_ok_more}
+use Rattle.mq_core.specs.Results.{servers_in}
+use Rattle.mq_report.specs.Text.{node_counts, node_losses, node_waits, node_tallies, kind_word}
+use Rattle.mq_stats.specs.Numbers.{totals_from}
+use Rattle.mq_report.proofs.lines.add_numbers.Goals as goal
+
+pub returns-in_err-add_counts-clause-err : goal.returns-in_err-add_counts-clause-err
+returns-in_err-add_counts-clause-err g c = on_err _ _ (front_goes _ _ _ _ _ (node_counts (totals_from c.args.totals.now)) (node_losses (totals_from c.args.totals.now) ++ (node_waits (totals_from c.args.totals.now) ++ node_tallies (totals_from c.args.totals.now))) c.in_err-add_counts.ensures.err)
+
+pub returns-clause-ok : goal.returns-clause-ok
+returns-clause-ok g c = on_ok_more _ _ _ (goes_both _ _ _ _ _ _ _ _ _ (node_counts (totals_from c.args.totals.now)) (node_losses (totals_from c.args.totals.now) ++ (node_waits (totals_from c.args.totals.now) ++ node_tallies (totals_from c.args.totals.now))) c.in_ok-add_counts.ensures.ok) c.add_rest.ensures.ok
+
+pub returns-clause-err : goal.returns-clause-err
+returns-clause-err g c = on_err_more _ _ _ (goes_front _ _ _ _ _ _ _ _ (node_counts (totals_from c.args.totals.now)) (node_losses (totals_from c.args.totals.now) ++ (node_waits (totals_from c.args.totals.now) ++ node_tallies (totals_from c.args.totals.now))) c.in_ok-add_counts.ensures.ok) c.add_rest.ensures.err

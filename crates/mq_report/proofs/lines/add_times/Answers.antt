@@ -1,0 +1,15 @@
+use Rattle.std.proofs.Common.{◌≡◌, ◌++◌}
+use Rattle.mq_base.proofs.Gathers.{goes_both, front_goes, goes_front}
+use Rattle.mq_base.proofs.Puts.{on_err, on_err_more, on_ok_more}
+use Rattle.mq_report.specs.Text.{node_waits, node_tallies}
+use Rattle.mq_stats.specs.Numbers.{totals_from}
+use Rattle.mq_report.proofs.lines.add_times.Goals as goal
+
+pub returns-in_err-add_waits-clause-err : goal.returns-in_err-add_waits-clause-err
+returns-in_err-add_waits-clause-err g c = on_err _ _ (front_goes _ _ _ _ _ (node_waits (totals_from c.args.totals.now)) (node_tallies (totals_from c.args.totals.now)) c.in_err-add_waits.ensures.err)
+
+pub returns-clause-ok : goal.returns-clause-ok
+returns-clause-ok g c = on_ok_more _ _ _ (goes_both _ _ _ _ _ _ _ _ _ (node_waits (totals_from c.args.totals.now)) (node_tallies (totals_from c.args.totals.now)) c.in_ok-add_waits.ensures.ok) c.add_tallies.ensures.ok
+
+pub returns-clause-err : goal.returns-clause-err
+returns-clause-err g c = on_err_more _ _ _ (goes_front _ _ _ _ _ _ _ _ (node_waits (totals_from c.args.totals.now)) (node_tallies (totals_from c.args.totals.now)) c.in_ok-add_waits.ensures.ok) c.add_tallies.ensures.err

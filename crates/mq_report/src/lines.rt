@@ -1,0 +1,375 @@
+// The lines of a report.
+ghost use Rattle.std.specs.Prelude.{◌≡◌, ◌≤◌, ◌<◌, ◌*◌, ◌^◌, ◌++◌, ◌∷◌, [], length, codes, OnOk, OnErr};
+ghost use Rattle.mq_base.specs.Outside.{GoesOut, Rose, TakesPrefix};
+ghost use Rattle.mq_report.specs.Text.{
+  exit_line,
+  head_line,
+  jobs_line,
+  kind_word as word_of_kind,
+  last_digits,
+  node_counts,
+  node_line,
+  node_losses,
+  node_numbers,
+  node_tallies,
+  node_waits,
+  node_words,
+  ten_thousandths,
+  utilisation as utilisation_of,
+  utilisation_text,
+};
+ghost use Rattle.mq_core.specs.Results.{servers_in};
+ghost use Rattle.mq_stats.specs.Numbers.{totals_from};
+
+use mq_base::{Gather, Piece, Sink, SinkFault, add_pieces};
+use mq_core::{Kind, servers_of};
+use mq_stats::{Exit, NodeTotals};
+
+/// Adds the head, and the line of the jobs and the span.
+#[tactic(auto, unfolding(crate::specs::Text::head_line, crate::specs::Text::jobs_line))]
+pub fn add_head<O: Sink>(
+    out: &mut O,
+    pending: &mut Gather,
+    jobs: usize,
+    span: u64,
+) -> Result<(), SinkFault>
+    ensures ok { OnOk result (GoesOut (O.taken out.old) (O.taken out.new) (O.sure out.old) (O.sure out.new) (pending.old ++ (head_line ++ jobs_line jobs span)) pending.new) }
+    ensures err { OnErr result (TakesPrefix (O.taken out.old) (O.taken out.new) (O.sure out.old) (O.sure out.new) (pending.old ++ (head_line ++ jobs_line jobs span))) }
+    ensures later { O.faults out.old ≤ O.faults out.new }
+    ensures rose { OnErr result (Rose (O.faults out.old) (O.faults out.new)) }
+    ensures sure { length (pending.old ++ (head_line ++ jobs_line jobs span)) ≤ O.sure out.old → O.faults out.new ≡ O.faults out.old }
+{
+    add_pieces(
+        out,
+        pending,
+        &[
+            Piece::Text(b"mpsim report 1\njobs "),
+            Piece::Number(jobs as u128),
+            Piece::Text(b" span "),
+            Piece::Number(span as u128),
+            Piece::Text(b"\n"),
+        ],
+    )
+}
+
+fn kind_word(kind: &Kind) -> &'static [u8]
+    ensures { result.now ≡ word_of_kind kind.now }
+{
+    match kind {
+        Kind::Source => b"source",
+        Kind::Server(_) => b"server",
+        Kind::Split(_) => b"split",
+    }
+}
+
+// The share of their time in which servers work, in ten-thousandths, rounded down.
+fn utilisation(busy: u128, servers: u8, span: u64) -> u128
+    requires busy { busy < 2 ^ 100 }
+    requires servers { 0 < servers }
+    ensures { result ≡ utilisation_of busy servers span }
+{
+    if span == 0 {
+        return 0;
+    }
+    10_000 * busy / (servers as u128 * span as u128)
+}
+
+// The last four digits of a number below 10,000, as text.
+fn four_digits(n: u128) -> [u8; 4]
+    requires { n < 10000 }
+    ensures { result ≡ last_digits n }
+{
+    [
+        (48 + n / 1000) as u8,
+        (48 + n / 100 % 10) as u8,
+        (48 + n / 10 % 10) as u8,
+        (48 + n % 10) as u8,
+    ]
+}
+
+// Adds a number of ten-thousandths, and the end of the line.
+#[tactic(auto, unfolding(crate::specs::Text::ten_thousandths))]
+fn add_share<O: Sink>(out: &mut O, pending: &mut Gather, share: u128) -> Result<(), SinkFault>
+    ensures ok { OnOk result (GoesOut (O.taken out.old) (O.taken out.new) (O.sure out.old) (O.sure out.new) (pending.old ++ ten_thousandths share) pending.new) }
+    ensures err { OnErr result (TakesPrefix (O.taken out.old) (O.taken out.new) (O.sure out.old) (O.sure out.new) (pending.old ++ ten_thousandths share)) }
+    ensures later { O.faults out.old ≤ O.faults out.new }
+    ensures rose { OnErr result (Rose (O.faults out.old) (O.faults out.new)) }
+    ensures sure { length (pending.old ++ ten_thousandths share) ≤ O.sure out.old → O.faults out.new ≡ O.faults out.old }
+{
+    let digits = four_digits(share % 10_000);
+    add_pieces(
+        out,
+        pending,
+        &[
+            Piece::Number(share / 10_000),
+            Piece::Text(b"."),
+            Piece::Text(&digits),
+            Piece::Text(b"\n"),
+        ],
+    )
+}
+
+// Adds the utilisation, a dash where there are no servers, and the end of the line.
+#[tactic(auto, unfolding(crate::specs::Text::utilisation_text))]
+fn add_utilisation<O: Sink>(
+    out: &mut O,
+    pending: &mut Gather,
+    busy: u128,
+    servers: u8,
+    span: u64,
+) -> Result<(), SinkFault>
+    requires { busy < 2 ^ 100 }
+    ensures ok { OnOk result (GoesOut (O.taken out.old) (O.taken out.new) (O.sure out.old) (O.sure out.new) (pending.old ++ utilisation_text busy servers span) pending.new) }
+    ensures err { OnErr result (TakesPrefix (O.taken out.old) (O.taken out.new) (O.sure out.old) (O.sure out.new) (pending.old ++ utilisation_text busy servers span)) }
+    ensures later { O.faults out.old ≤ O.faults out.new }
+    ensures rose { OnErr result (Rose (O.faults out.old) (O.faults out.new)) }
+    ensures sure { length (pending.old ++ utilisation_text busy servers span) ≤ O.sure out.old → O.faults out.new ≡ O.faults out.old }
+{
+    if servers == 0 {
+        return add_pieces(out, pending, &[Piece::Text(b"-\n")]);
+    }
+    add_share(out, pending, utilisation(busy, servers, span))
+}
+
+// Adds a node's name and the word of its kind.
+#[tactic(auto, unfolding(crate::specs::Text::node_words))]
+fn add_words<O: Sink>(
+    out: &mut O,
+    pending: &mut Gather,
+    name: &[u8],
+    kind: &Kind,
+) -> Result<(), SinkFault>
+    ensures ok { OnOk result (GoesOut (O.taken out.old) (O.taken out.new) (O.sure out.old) (O.sure out.new) (pending.old ++ node_words name.now (word_of_kind kind.now)) pending.new) }
+    ensures err { OnErr result (TakesPrefix (O.taken out.old) (O.taken out.new) (O.sure out.old) (O.sure out.new) (pending.old ++ node_words name.now (word_of_kind kind.now))) }
+    ensures later { O.faults out.old ≤ O.faults out.new }
+    ensures rose { OnErr result (Rose (O.faults out.old) (O.faults out.new)) }
+    ensures sure { length (pending.old ++ node_words name.now (word_of_kind kind.now)) ≤ O.sure out.old → O.faults out.new ≡ O.faults out.old }
+{
+    add_pieces(
+        out,
+        pending,
+        &[
+            Piece::Text(b"node "),
+            Piece::Text(name),
+            Piece::Text(b" "),
+            Piece::Text(kind_word(kind)),
+            Piece::Text(b" in "),
+        ],
+    )
+}
+
+// Adds a node's counts.
+#[tactic(auto, unfolding(crate::specs::Text::node_counts))]
+fn add_counts<O: Sink>(
+    out: &mut O,
+    pending: &mut Gather,
+    totals: &NodeTotals,
+) -> Result<(), SinkFault>
+    ensures ok { OnOk result (GoesOut (O.taken out.old) (O.taken out.new) (O.sure out.old) (O.sure out.new) (pending.old ++ node_counts (totals_from totals.now)) pending.new) }
+    ensures err { OnErr result (TakesPrefix (O.taken out.old) (O.taken out.new) (O.sure out.old) (O.sure out.new) (pending.old ++ node_counts (totals_from totals.now))) }
+    ensures later { O.faults out.old ≤ O.faults out.new }
+    ensures rose { OnErr result (Rose (O.faults out.old) (O.faults out.new)) }
+    ensures sure { length (pending.old ++ node_counts (totals_from totals.now)) ≤ O.sure out.old → O.faults out.new ≡ O.faults out.old }
+{
+    add_pieces(
+        out,
+        pending,
+        &[
+            Piece::Number(totals.came as u128),
+            Piece::Text(b" out "),
+            Piece::Number(totals.left as u128),
+            Piece::Text(b" lost "),
+        ],
+    )
+}
+
+// Adds the number of those lost.
+#[tactic(auto, unfolding(crate::specs::Text::node_losses))]
+fn add_losses<O: Sink>(
+    out: &mut O,
+    pending: &mut Gather,
+    totals: &NodeTotals,
+) -> Result<(), SinkFault>
+    ensures ok { OnOk result (GoesOut (O.taken out.old) (O.taken out.new) (O.sure out.old) (O.sure out.new) (pending.old ++ node_losses (totals_from totals.now)) pending.new) }
+    ensures err { OnErr result (TakesPrefix (O.taken out.old) (O.taken out.new) (O.sure out.old) (O.sure out.new) (pending.old ++ node_losses (totals_from totals.now))) }
+    ensures later { O.faults out.old ≤ O.faults out.new }
+    ensures rose { OnErr result (Rose (O.faults out.old) (O.faults out.new)) }
+    ensures sure { length (pending.old ++ node_losses (totals_from totals.now)) ≤ O.sure out.old → O.faults out.new ≡ O.faults out.old }
+{
+    add_pieces(
+        out,
+        pending,
+        &[Piece::Number(totals.lost as u128), Piece::Text(b" wait ")],
+    )
+}
+
+// Adds a node's waits.
+#[tactic(auto, unfolding(crate::specs::Text::node_waits))]
+fn add_waits<O: Sink>(
+    out: &mut O,
+    pending: &mut Gather,
+    totals: &NodeTotals,
+) -> Result<(), SinkFault>
+    ensures ok { OnOk result (GoesOut (O.taken out.old) (O.taken out.new) (O.sure out.old) (O.sure out.new) (pending.old ++ node_waits (totals_from totals.now)) pending.new) }
+    ensures err { OnErr result (TakesPrefix (O.taken out.old) (O.taken out.new) (O.sure out.old) (O.sure out.new) (pending.old ++ node_waits (totals_from totals.now))) }
+    ensures later { O.faults out.old ≤ O.faults out.new }
+    ensures rose { OnErr result (Rose (O.faults out.old) (O.faults out.new)) }
+    ensures sure { length (pending.old ++ node_waits (totals_from totals.now)) ≤ O.sure out.old → O.faults out.new ≡ O.faults out.old }
+{
+    add_pieces(
+        out,
+        pending,
+        &[
+            Piece::Number(totals.wait),
+            Piece::Text(b" max "),
+            Piece::Number(totals.longest as u128),
+            Piece::Text(b" busy "),
+        ],
+    )
+}
+
+// Adds a node's tallies.
+#[tactic(auto, unfolding(crate::specs::Text::node_tallies))]
+fn add_tallies<O: Sink>(
+    out: &mut O,
+    pending: &mut Gather,
+    totals: &NodeTotals,
+) -> Result<(), SinkFault>
+    ensures ok { OnOk result (GoesOut (O.taken out.old) (O.taken out.new) (O.sure out.old) (O.sure out.new) (pending.old ++ node_tallies (totals_from totals.now)) pending.new) }
+    ensures err { OnErr result (TakesPrefix (O.taken out.old) (O.taken out.new) (O.sure out.old) (O.sure out.new) (pending.old ++ node_tallies (totals_from totals.now))) }
+    ensures later { O.faults out.old ≤ O.faults out.new }
+    ensures rose { OnErr result (Rose (O.faults out.old) (O.faults out.new)) }
+    ensures sure { length (pending.old ++ node_tallies (totals_from totals.now)) ≤ O.sure out.old → O.faults out.new ≡ O.faults out.old }
+{
+    add_pieces(
+        out,
+        pending,
+        &[
+            Piece::Number(totals.busy),
+            Piece::Text(b" area "),
+            Piece::Number(totals.area),
+            Piece::Text(b" peak "),
+            Piece::Number(totals.peak as u128),
+            Piece::Text(b" util "),
+        ],
+    )
+}
+
+// Adds a node's waits and tallies.
+fn add_times<O: Sink>(
+    out: &mut O,
+    pending: &mut Gather,
+    totals: &NodeTotals,
+) -> Result<(), SinkFault>
+    ensures ok { OnOk result (GoesOut (O.taken out.old) (O.taken out.new) (O.sure out.old) (O.sure out.new) (pending.old ++ (node_waits (totals_from totals.now) ++ node_tallies (totals_from totals.now))) pending.new) }
+    ensures err { OnErr result (TakesPrefix (O.taken out.old) (O.taken out.new) (O.sure out.old) (O.sure out.new) (pending.old ++ (node_waits (totals_from totals.now) ++ node_tallies (totals_from totals.now)))) }
+    ensures later { O.faults out.old ≤ O.faults out.new }
+    ensures rose { OnErr result (Rose (O.faults out.old) (O.faults out.new)) }
+    ensures sure { length (pending.old ++ (node_waits (totals_from totals.now) ++ node_tallies (totals_from totals.now))) ≤ O.sure out.old → O.faults out.new ≡ O.faults out.old }
+{
+    add_waits(out, pending, totals)?;
+    add_tallies(out, pending, totals)
+}
+
+// Adds the number of those lost, and a node's waits and tallies.
+fn add_rest<O: Sink>(
+    out: &mut O,
+    pending: &mut Gather,
+    totals: &NodeTotals,
+) -> Result<(), SinkFault>
+    ensures ok { OnOk result (GoesOut (O.taken out.old) (O.taken out.new) (O.sure out.old) (O.sure out.new) (pending.old ++ (node_losses (totals_from totals.now) ++ (node_waits (totals_from totals.now) ++ node_tallies (totals_from totals.now)))) pending.new) }
+    ensures err { OnErr result (TakesPrefix (O.taken out.old) (O.taken out.new) (O.sure out.old) (O.sure out.new) (pending.old ++ (node_losses (totals_from totals.now) ++ (node_waits (totals_from totals.now) ++ node_tallies (totals_from totals.now))))) }
+    ensures later { O.faults out.old ≤ O.faults out.new }
+    ensures rose { OnErr result (Rose (O.faults out.old) (O.faults out.new)) }
+    ensures sure { length (pending.old ++ (node_losses (totals_from totals.now) ++ (node_waits (totals_from totals.now) ++ node_tallies (totals_from totals.now)))) ≤ O.sure out.old → O.faults out.new ≡ O.faults out.old }
+{
+    add_losses(out, pending, totals)?;
+    add_times(out, pending, totals)
+}
+
+// Adds a node's totals, each behind its word.
+fn add_numbers<O: Sink>(
+    out: &mut O,
+    pending: &mut Gather,
+    totals: &NodeTotals,
+) -> Result<(), SinkFault>
+    ensures ok { OnOk result (GoesOut (O.taken out.old) (O.taken out.new) (O.sure out.old) (O.sure out.new) (pending.old ++ node_numbers (totals_from totals.now)) pending.new) }
+    ensures err { OnErr result (TakesPrefix (O.taken out.old) (O.taken out.new) (O.sure out.old) (O.sure out.new) (pending.old ++ node_numbers (totals_from totals.now))) }
+    ensures later { O.faults out.old ≤ O.faults out.new }
+    ensures rose { OnErr result (Rose (O.faults out.old) (O.faults out.new)) }
+    ensures sure { length (pending.old ++ node_numbers (totals_from totals.now)) ≤ O.sure out.old → O.faults out.new ≡ O.faults out.old }
+{
+    add_counts(out, pending, totals)?;
+    add_rest(out, pending, totals)
+}
+
+// Adds a node's totals and its utilisation.
+fn add_totals<O: Sink>(
+    out: &mut O,
+    pending: &mut Gather,
+    kind: &Kind,
+    totals: &NodeTotals,
+    span: u64,
+) -> Result<(), SinkFault>
+    requires { totals.now.busy < 2 ^ 100 }
+    ensures ok { OnOk result (GoesOut (O.taken out.old) (O.taken out.new) (O.sure out.old) (O.sure out.new) (pending.old ++ (node_numbers (totals_from totals.now) ++ utilisation_text totals.now.busy (servers_in kind.now) span)) pending.new) }
+    ensures err { OnErr result (TakesPrefix (O.taken out.old) (O.taken out.new) (O.sure out.old) (O.sure out.new) (pending.old ++ (node_numbers (totals_from totals.now) ++ utilisation_text totals.now.busy (servers_in kind.now) span))) }
+    ensures later { O.faults out.old ≤ O.faults out.new }
+    ensures rose { OnErr result (Rose (O.faults out.old) (O.faults out.new)) }
+    ensures sure { length (pending.old ++ (node_numbers (totals_from totals.now) ++ utilisation_text totals.now.busy (servers_in kind.now) span)) ≤ O.sure out.old → O.faults out.new ≡ O.faults out.old }
+{
+    add_numbers(out, pending, totals)?;
+    add_utilisation(out, pending, totals.busy, servers_of(kind), span)
+}
+
+/// Adds the line of a node.
+pub fn add_node<O: Sink>(
+    out: &mut O,
+    pending: &mut Gather,
+    name: &[u8],
+    kind: &Kind,
+    totals: &NodeTotals,
+    span: u64,
+) -> Result<(), SinkFault>
+    requires { totals.now.busy < 2 ^ 100 }
+    ensures ok { OnOk result (GoesOut (O.taken out.old) (O.taken out.new) (O.sure out.old) (O.sure out.new) (pending.old ++ node_line name.now kind.now (totals_from totals.now) span) pending.new) }
+    ensures err { OnErr result (TakesPrefix (O.taken out.old) (O.taken out.new) (O.sure out.old) (O.sure out.new) (pending.old ++ node_line name.now kind.now (totals_from totals.now) span)) }
+    ensures later { O.faults out.old ≤ O.faults out.new }
+    ensures rose { OnErr result (Rose (O.faults out.old) (O.faults out.new)) }
+    ensures sure { length (pending.old ++ node_line name.now kind.now (totals_from totals.now) span) ≤ O.sure out.old → O.faults out.new ≡ O.faults out.old }
+{
+    add_words(out, pending, name, kind)?;
+    add_totals(out, pending, kind, totals, span)
+}
+
+/// Adds the line of an exit.
+#[tactic(auto, unfolding(crate::specs::Text::exit_line))]
+pub fn add_exit<O: Sink>(
+    out: &mut O,
+    pending: &mut Gather,
+    name: &[u8],
+    output: u8,
+    exit: &Exit,
+) -> Result<(), SinkFault>
+    ensures ok { OnOk result (GoesOut (O.taken out.old) (O.taken out.new) (O.sure out.old) (O.sure out.new) (pending.old ++ exit_line name.now output (exit.now.count, exit.now.sojourn)) pending.new) }
+    ensures err { OnErr result (TakesPrefix (O.taken out.old) (O.taken out.new) (O.sure out.old) (O.sure out.new) (pending.old ++ exit_line name.now output (exit.now.count, exit.now.sojourn))) }
+    ensures later { O.faults out.old ≤ O.faults out.new }
+    ensures rose { OnErr result (Rose (O.faults out.old) (O.faults out.new)) }
+    ensures sure { length (pending.old ++ exit_line name.now output (exit.now.count, exit.now.sojourn)) ≤ O.sure out.old → O.faults out.new ≡ O.faults out.old }
+{
+    add_pieces(
+        out,
+        pending,
+        &[
+            Piece::Text(b"exit "),
+            Piece::Text(name),
+            Piece::Text(b"."),
+            Piece::Number(output as u128),
+            Piece::Text(b" "),
+            Piece::Number(exit.count as u128),
+            Piece::Text(b" sojourn "),
+            Piece::Number(exit.sojourn),
+            Piece::Text(b"\n"),
+        ],
+    )
+}

@@ -1,0 +1,277 @@
+// The whole report.
+ghost use Rattle.std.specs.Prelude.{◌≡◌, ◌≤◌, ◌<◌, ◌^◌, ◌++◌, ◌==◌, ◌&&◌, [], length, OnOk, OnErr, Some, slice_get};
+ghost use Rattle.std.specs.List.{list_any};
+ghost use Rattle.mq_base.specs.Outside.{GoesOut, Rose, TakesFirst, TakesPrefix};
+ghost use Rattle.mq_core.specs.Columns.{IsRunOf};
+ghost use Rattle.mq_core.specs.Results.{exit_of, totals_of};
+ghost use Rattle.mq_core.specs.Sound.{outputs_in};
+ghost use Rattle.mq_core.specs.StandardTable.{run_of};
+ghost use Rattle.mq_core.specs.Theorems.{IsReadFor};
+ghost use Rattle.mq_stats.specs.Numbers.{totals_from};
+ghost use Rattle.mq_report.specs.Text.{
+  exit_lines,
+  exit_lines_at,
+  exits_text,
+  is_read as reads_output,
+  line_of,
+  nodes_text,
+  report_in,
+  report_text,
+};
+
+use crate::lines::{add_exit, add_head, add_node};
+use mq_base::{Gather, Sink, SinkFault, add_pieces, flush};
+use mq_core::{
+    Input, Node, Plan, Rows, Run, exits_are_streams, nodes_are_in_limits, orders_rank,
+    outputs_have_streams, outputs_of, runs_are_of_networks, runs_have_columns, span_is_columns,
+    totals_are_columns,
+};
+use mq_stats::{Exit, NodeTotals, leaving, runs_give_streams, runs_give_visits, span, totals};
+
+// Whether one of these inputs reads the output of the node.
+fn reads(inputs: &[Input], node: u32, output: u8) -> bool
+    ensures { result ≡ list_any (λ i. (i.node == node) && (i.out == output)) inputs.now }
+{
+    inputs
+        .iter()
+        .any(|input| input.node == node && input.out == output)
+}
+
+// Whether some input reads the output of the node.
+fn is_read(nodes: &[Node], node: u32, output: u8) -> bool
+    ensures { result ≡ reads_output nodes.now node output }
+{
+    nodes
+        .iter()
+        .any(|other| reads(other.inputs.as_slice(), node, output))
+}
+
+// The totals of a node over the run.
+fn totals_at(plan: &Plan, rows: &Rows, run: &Run, node: u32, declared: &Node) -> NodeTotals
+    requires read { IsReadFor plan.now.net rows.now }
+    requires run { IsRunOf plan.now rows.now run.now }
+    requires there { slice_get plan.now.net.nodes node ≡ Some declared.now }
+    ensures totals { totals_from result ≡ totals_of rows.now declared.now.kind ((run_of plan.now rows.now).stations node) }
+    ensures small { result.busy < 2 ^ 100 }
+{
+    runs_have_columns();
+    runs_give_visits();
+    totals_are_columns();
+    totals(rows, &declared.kind, run.visits.get(node as usize))
+}
+
+// Adds the line of a node.
+fn add_node_at<O: Sink>(
+    out: &mut O,
+    pending: &mut Gather,
+    plan: &Plan,
+    rows: &Rows,
+    run: &Run,
+    node: u32,
+    declared: &Node,
+    span: u64,
+) -> Result<(), SinkFault>
+    requires read { IsReadFor plan.now.net rows.now }
+    requires run { IsRunOf plan.now rows.now run.now }
+    requires there { slice_get plan.now.net.nodes node ≡ Some declared.now }
+    requires span { span ≡ (run_of plan.now rows.now).clock }
+    ensures ok { OnOk result (GoesOut (O.taken out.old) (O.taken out.new) (O.sure out.old) (O.sure out.new) (pending.old ++ line_of rows.now (run_of plan.now rows.now) node declared.now) pending.new) }
+    ensures err { OnErr result (TakesPrefix (O.taken out.old) (O.taken out.new) (O.sure out.old) (O.sure out.new) (pending.old ++ line_of rows.now (run_of plan.now rows.now) node declared.now)) }
+    ensures later { O.faults out.old ≤ O.faults out.new }
+    ensures rose { OnErr result (Rose (O.faults out.old) (O.faults out.new)) }
+    ensures sure { length (pending.old ++ line_of rows.now (run_of plan.now rows.now) node declared.now) ≤ O.sure out.old → O.faults out.new ≡ O.faults out.old }
+{
+    let totals = totals_at(plan, rows, run, node, declared);
+    add_node(
+        out,
+        pending,
+        declared.name.as_slice(),
+        &declared.kind,
+        &totals,
+        span,
+    )
+}
+
+// Adds the lines of the nodes, by rank.
+fn add_nodes<O: Sink>(
+    out: &mut O,
+    pending: &mut Gather,
+    plan: &Plan,
+    rows: &Rows,
+    run: &Run,
+    span: u64,
+) -> Result<(), SinkFault>
+    requires read { IsReadFor plan.now.net rows.now }
+    requires run { IsRunOf plan.now rows.now run.now }
+    requires span { span ≡ (run_of plan.now rows.now).clock }
+    ensures ok { OnOk result (GoesOut (O.taken out.old) (O.taken out.new) (O.sure out.old) (O.sure out.new) (pending.old ++ nodes_text plan.now.net rows.now (run_of plan.now rows.now) plan.now.order) pending.new) }
+    ensures err { OnErr result (TakesPrefix (O.taken out.old) (O.taken out.new) (O.sure out.old) (O.sure out.new) (pending.old ++ nodes_text plan.now.net rows.now (run_of plan.now rows.now) plan.now.order)) }
+    ensures later { O.faults out.old ≤ O.faults out.new }
+    ensures rose { OnErr result (Rose (O.faults out.old) (O.faults out.new)) }
+    ensures sure { length (pending.old ++ nodes_text plan.now.net rows.now (run_of plan.now rows.now) plan.now.order) ≤ O.sure out.old → O.faults out.new ≡ O.faults out.old }
+{
+    orders_rank();
+    for rank in 0..plan.order.len() {
+        let node = *plan.order.get(rank);
+        let declared = plan.net.nodes.get(node as usize);
+        add_node_at(out, pending, plan, rows, run, node, declared, span)?;
+    }
+    Ok(())
+}
+
+// What leaves a node by an output over the run.
+fn exit_at(plan: &Plan, rows: &Rows, run: &Run, node: u32, declared: &Node, output: u8) -> Exit
+    requires read { IsReadFor plan.now.net rows.now }
+    requires run { IsRunOf plan.now rows.now run.now }
+    requires there { slice_get plan.now.net.nodes node ≡ Some declared.now }
+    requires output { output < outputs_in declared.now.kind }
+    ensures { (result.count, result.sojourn) ≡ exit_of rows.now ((run_of plan.now rows.now).stations node) output }
+{
+    exits_are_streams();
+    outputs_have_streams();
+    runs_give_streams();
+    runs_have_columns();
+    leaving(rows, run.outputs.get(node as usize).get(output as usize))
+}
+
+// Adds the line of an output that no input reads.
+fn add_exit_at<O: Sink>(
+    out: &mut O,
+    pending: &mut Gather,
+    plan: &Plan,
+    rows: &Rows,
+    run: &Run,
+    node: u32,
+    declared: &Node,
+    output: u8,
+) -> Result<(), SinkFault>
+    requires read { IsReadFor plan.now.net rows.now }
+    requires run { IsRunOf plan.now rows.now run.now }
+    requires there { slice_get plan.now.net.nodes node ≡ Some declared.now }
+    requires output { output < outputs_in declared.now.kind }
+    ensures ok { OnOk result (GoesOut (O.taken out.old) (O.taken out.new) (O.sure out.old) (O.sure out.new) (pending.old ++ exit_lines_at plan.now.net.nodes rows.now node declared.now.name ((run_of plan.now rows.now).stations node) output) pending.new) }
+    ensures err { OnErr result (TakesPrefix (O.taken out.old) (O.taken out.new) (O.sure out.old) (O.sure out.new) (pending.old ++ exit_lines_at plan.now.net.nodes rows.now node declared.now.name ((run_of plan.now rows.now).stations node) output)) }
+    ensures later { O.faults out.old ≤ O.faults out.new }
+    ensures rose { OnErr result (Rose (O.faults out.old) (O.faults out.new)) }
+    ensures sure { length (pending.old ++ exit_lines_at plan.now.net.nodes rows.now node declared.now.name ((run_of plan.now rows.now).stations node) output) ≤ O.sure out.old → O.faults out.new ≡ O.faults out.old }
+{
+    if is_read(plan.net.nodes.as_slice(), node, output) {
+        return add_pieces(out, pending, &[]);
+    }
+    let exit = exit_at(plan, rows, run, node, declared, output);
+    add_exit(out, pending, declared.name.as_slice(), output, &exit)
+}
+
+// Adds the lines of the outputs of a node that no input reads.
+fn add_exits_at<O: Sink>(
+    out: &mut O,
+    pending: &mut Gather,
+    plan: &Plan,
+    rows: &Rows,
+    run: &Run,
+    node: u32,
+    declared: &Node,
+) -> Result<(), SinkFault>
+    requires read { IsReadFor plan.now.net rows.now }
+    requires run { IsRunOf plan.now rows.now run.now }
+    requires there { slice_get plan.now.net.nodes node ≡ Some declared.now }
+    ensures ok { OnOk result (GoesOut (O.taken out.old) (O.taken out.new) (O.sure out.old) (O.sure out.new) (pending.old ++ exit_lines plan.now.net.nodes rows.now node declared.now.name ((run_of plan.now rows.now).stations node) 0 (outputs_in declared.now.kind)) pending.new) }
+    ensures err { OnErr result (TakesPrefix (O.taken out.old) (O.taken out.new) (O.sure out.old) (O.sure out.new) (pending.old ++ exit_lines plan.now.net.nodes rows.now node declared.now.name ((run_of plan.now rows.now).stations node) 0 (outputs_in declared.now.kind))) }
+    ensures later { O.faults out.old ≤ O.faults out.new }
+    ensures rose { OnErr result (Rose (O.faults out.old) (O.faults out.new)) }
+    ensures sure { length (pending.old ++ exit_lines plan.now.net.nodes rows.now node declared.now.name ((run_of plan.now rows.now).stations node) 0 (outputs_in declared.now.kind)) ≤ O.sure out.old → O.faults out.new ≡ O.faults out.old }
+{
+    nodes_are_in_limits();
+    for output in 0..outputs_of(&declared.kind) {
+        add_exit_at(out, pending, plan, rows, run, node, declared, output)?;
+    }
+    Ok(())
+}
+
+// Adds the lines of the exits, by rank of their nodes.
+fn add_exits<O: Sink>(
+    out: &mut O,
+    pending: &mut Gather,
+    plan: &Plan,
+    rows: &Rows,
+    run: &Run,
+) -> Result<(), SinkFault>
+    requires read { IsReadFor plan.now.net rows.now }
+    requires run { IsRunOf plan.now rows.now run.now }
+    ensures ok { OnOk result (GoesOut (O.taken out.old) (O.taken out.new) (O.sure out.old) (O.sure out.new) (pending.old ++ exits_text plan.now.net rows.now (run_of plan.now rows.now) plan.now.order) pending.new) }
+    ensures err { OnErr result (TakesPrefix (O.taken out.old) (O.taken out.new) (O.sure out.old) (O.sure out.new) (pending.old ++ exits_text plan.now.net rows.now (run_of plan.now rows.now) plan.now.order)) }
+    ensures later { O.faults out.old ≤ O.faults out.new }
+    ensures rose { OnErr result (Rose (O.faults out.old) (O.faults out.new)) }
+    ensures sure { length (pending.old ++ exits_text plan.now.net rows.now (run_of plan.now rows.now) plan.now.order) ≤ O.sure out.old → O.faults out.new ≡ O.faults out.old }
+{
+    orders_rank();
+    for rank in 0..plan.order.len() {
+        let node = *plan.order.get(rank);
+        let declared = plan.net.nodes.get(node as usize);
+        add_exits_at(out, pending, plan, rows, run, node, declared)?;
+    }
+    Ok(())
+}
+
+// Adds the lines of the nodes, and those of the exits.
+fn add_network<O: Sink>(
+    out: &mut O,
+    pending: &mut Gather,
+    plan: &Plan,
+    rows: &Rows,
+    run: &Run,
+    span: u64,
+) -> Result<(), SinkFault>
+    requires read { IsReadFor plan.now.net rows.now }
+    requires run { IsRunOf plan.now rows.now run.now }
+    requires span { span ≡ (run_of plan.now rows.now).clock }
+    ensures ok { OnOk result (GoesOut (O.taken out.old) (O.taken out.new) (O.sure out.old) (O.sure out.new) (pending.old ++ (nodes_text plan.now.net rows.now (run_of plan.now rows.now) plan.now.order ++ exits_text plan.now.net rows.now (run_of plan.now rows.now) plan.now.order)) pending.new) }
+    ensures err { OnErr result (TakesPrefix (O.taken out.old) (O.taken out.new) (O.sure out.old) (O.sure out.new) (pending.old ++ (nodes_text plan.now.net rows.now (run_of plan.now rows.now) plan.now.order ++ exits_text plan.now.net rows.now (run_of plan.now rows.now) plan.now.order))) }
+    ensures later { O.faults out.old ≤ O.faults out.new }
+    ensures rose { OnErr result (Rose (O.faults out.old) (O.faults out.new)) }
+    ensures sure { length (pending.old ++ (nodes_text plan.now.net rows.now (run_of plan.now rows.now) plan.now.order ++ exits_text plan.now.net rows.now (run_of plan.now rows.now) plan.now.order)) ≤ O.sure out.old → O.faults out.new ≡ O.faults out.old }
+{
+    add_nodes(out, pending, plan, rows, run, span)?;
+    add_exits(out, pending, plan, rows, run)
+}
+
+// Adds the whole report.
+fn add_report<O: Sink>(
+    out: &mut O,
+    pending: &mut Gather,
+    plan: &Plan,
+    rows: &Rows,
+    run: &Run,
+) -> Result<(), SinkFault>
+    requires read { IsReadFor plan.now.net rows.now }
+    requires run { IsRunOf plan.now rows.now run.now }
+    ensures ok { OnOk result (GoesOut (O.taken out.old) (O.taken out.new) (O.sure out.old) (O.sure out.new) (pending.old ++ report_text plan.now.net plan.now.order rows.now (run_of plan.now rows.now)) pending.new) }
+    ensures err { OnErr result (TakesPrefix (O.taken out.old) (O.taken out.new) (O.sure out.old) (O.sure out.new) (pending.old ++ report_text plan.now.net plan.now.order rows.now (run_of plan.now rows.now))) }
+    ensures later { O.faults out.old ≤ O.faults out.new }
+    ensures rose { OnErr result (Rose (O.faults out.old) (O.faults out.new)) }
+    ensures sure { length (pending.old ++ report_text plan.now.net plan.now.order rows.now (run_of plan.now rows.now)) ≤ O.sure out.old → O.faults out.new ≡ O.faults out.old }
+{
+    span_is_columns();
+    let span = span(&run.visits);
+    add_head(out, pending, rows.time.len(), span)?;
+    add_network(out, pending, plan, rows, run, span)
+}
+
+/// Writes the report of a run: the counts and times of each node by rank, and what leaves by each
+/// output that no input reads. It takes no memory of its own.
+///
+/// After a fault the sink took a first part of the report.
+pub fn report<O: Sink>(plan: &Plan, rows: &Rows, run: &Run, out: &mut O) -> Result<(), SinkFault>
+    requires read { IsReadFor plan.now.net rows.now }
+    requires run { IsRunOf plan.now rows.now run.now }
+    ensures ok { OnOk result (TakesFirst (O.taken out.old) (O.taken out.new) (O.sure out.old) (O.sure out.new) (report_in plan.now.net rows.now) (length (report_in plan.now.net rows.now))) }
+    ensures err { OnErr result (TakesPrefix (O.taken out.old) (O.taken out.new) (O.sure out.old) (O.sure out.new) (report_in plan.now.net rows.now)) }
+    ensures later { O.faults out.old ≤ O.faults out.new }
+    ensures rose { OnErr result (Rose (O.faults out.old) (O.faults out.new)) }
+    ensures sure { length (report_in plan.now.net rows.now) ≤ O.sure out.old → O.faults out.new ≡ O.faults out.old }
+{
+    let mut pending = Gather::new();
+    runs_are_of_networks();
+    add_report(out, &mut pending, plan, rows, run)?;
+    flush(out, &mut pending)
+}

@@ -1,0 +1,4 @@
+pub mod Steps
+pub mod RunSteps
+pub mod Counts
+pub mod Founds

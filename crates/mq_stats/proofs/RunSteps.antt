@@ -1,0 +1,48 @@
+-- What is known of the columns of a run.
+use Rattle.std.proofs.Common.{◌≡◌, ℕ, suc, ◌+◌, ◌≤◌, Bool, true, false, List, [], ◌∷◌, ◌++◌, length, sym, ap, subst, arith, length-append}
+use Rattle.std.specs.Prelude.{All, ◌==◌, if◌then◌else◌}
+use Rattle.std.specs.List.{AllByRecursion as Each}
+use Rattle.std.proofs.lemmas.List.Elements.{All-nil, All-cons}
+use Rattle.std.proofs.lemmas.List.Sums.{count_by-le-length}
+use Rattle.mq_core.specs.Columns.{column_visits, departs_after, founds_from, picked}
+use Rattle.mq_core.specs.declared.model.Fate.{Fate}
+use Rattle.mq_core.specs.declared.model.Kind.{Kind}
+use Rattle.mq_core.specs.declared.model.Rows.{Rows}
+use Rattle.mq_core.specs.declared.model.Visits.{Visits}
+
+pub each-so : {X : Type 0} (P Q : X → Type 0) → ((x : X) → P x → Q x) → (xs : List X) → Each P xs → All Q xs
+each-so P Q f [] h = All-nil Q
+each-so P Q f (x ∷ xs) h = All-cons Q x xs (f x h.0) (each-so P Q f xs h.1)
+
+-- no visit finds more than came
+founds-small : (limit : ℕ) (before : List Fate) (arrives : List ℕ) (fates : List Fate) → length before + length arrives ≤ limit → All (λ found. found ≤ limit) (founds_from before arrives fates)
+founds-small limit before [] fates l = All-nil _
+founds-small limit before (arrive ∷ arrives) [] l = All-nil _
+founds-small limit before (arrive ∷ arrives) (fate ∷ fates) l =
+    let grown = length-append before (fate ∷ []) in
+    let few = count_by-le-length (departs_after arrive) before in
+    All-cons (λ found. found ≤ limit) _ _ (omega arith) (founds-small limit (before ++ fate ∷ []) arrives fates (omega arith))
+
+pub columns-small : (rows : Rows) (kind : Kind) (jobs arrives : List ℕ) (visits : Visits) → visits ≡ column_visits rows kind jobs arrives → length arrives ≤ 1048576 → All (λ found. found ≤ 1048576) visits.found
+columns-small rows kind jobs arrives visits e l =
+    let columns = column_visits rows kind jobs arrives in
+    subst (All (λ found. found ≤ 1048576)) (sym (ap (λ v. v.found) e)) (founds-small 1048576 [] arrives columns.fate (omega arith))
+
+-- what is picked is among the items, and no more
+pub Each-picked : (P : ℕ → Type 0) (out : ℕ) (outs items : List ℕ) → Each P items → Each P (picked out outs items)
+Each-picked P out [] items h = tt
+Each-picked P out (o ∷ outs) [] h = tt
+Each-picked P out (o ∷ outs) (item ∷ items) h = go (o == out) (Each-picked P out outs items h.1)
+  where
+    go : (b : Bool) → Each P (picked out outs items) → Each P (if b then item ∷ picked out outs items else picked out outs items)
+    go true k = (h.0, k)
+    go false k = k
+
+pub length-picked : (out : ℕ) (outs items : List ℕ) → length (picked out outs items) ≤ length items
+length-picked out [] items = omega arith
+length-picked out (o ∷ outs) [] = omega arith
+length-picked out (o ∷ outs) (item ∷ items) = go (o == out) (length-picked out outs items)
+  where
+    go : (b : Bool) → length (picked out outs items) ≤ length items → length (if b then item ∷ picked out outs items else picked out outs items) ≤ suc (length items)
+    go true k = omega arith
+    go false k = omega arith

@@ -1,0 +1,50 @@
+-- One step of a loop over columns, and its end.
+use Rattle.std.proofs.Common.{◌≡◌, ℕ, suc, ◌+◌, List, ◌∷◌, drop, Some, sym, ap, ◌∙◌, arith, drop-cons, max}
+use Rattle.std.specs.Prelude.{slice_get, fold, slice_index, ◌-◌}
+use Rattle.std.specs.Ordering.{ord_max, nat_cmp}
+use Rattle.std.proofs.lemmas.Bool.Decides.{nat_tests}
+use Rattle.std.proofs.lemmas.Option.{slice_get_within, get_or_from_slice_get}
+use Rattle.mq_core.specs.Columns.{column_wait, column_waits, column_service, column_services, column_sojourn, column_sojourns, one_more, column_numbers, stream_sojourns}
+use Rattle.mq_core.specs.declared.model.Fate.{Fate}
+use Rattle.mq_core.specs.declared.model.Kind.{Kind}
+use Rattle.mq_core.specs.declared.model.Rows.{Rows}
+
+-- what is left from a place on begins with the item there
+pub drop_at : {X : Type 0} (xs : List X) (i : ℕ) (x : X) → slice_get xs i ≡ Some x → drop i xs ≡ x ∷ drop (i + 1) xs
+drop_at xs i x h =
+    let within = slice_get_within xs i x h in
+    let next : suc i ≡ i + 1 = omega arith in
+    drop-cons xs i x within ∙ (ap (λ y. y ∷ drop (suc i) xs) (get_or_from_slice_get xs i x x h) ∙ ap (λ n. x ∷ drop n xs) next)
+
+-- what the code's `max` gives
+pub max_is : (a b : ℕ) → ord_max nat_cmp a b ≡ max a b
+max_is a b = grind (arith, nat_tests)
+
+-- Sums and greatest numbers. What is added so far, with what is left, is all.
+pub adds : (total added x all : ℕ) (rest rest' : List ℕ) → added ≡ x → rest ≡ x ∷ rest' → fold (λ a y. a + y) total rest ≡ all → fold (λ a y. a + y) (total + added) rest' ≡ all
+adds total added x all rest rest' m e h = ap (λ n. fold (λ a y. a + y) (total + n) rest') m ∙ (sym (ap (fold (λ a y. a + y) total) e) ∙ h)
+
+-- the greatest so far, with what is left, is the greatest of all
+pub grows : (greatest greatest' seen x all : ℕ) (rest rest' : List ℕ) → greatest' ≡ ord_max nat_cmp greatest seen → seen ≡ x → rest ≡ x ∷ rest' → fold max greatest rest ≡ all → fold max greatest' rest' ≡ all
+grows greatest greatest' seen x all rest rest' m w e h = ap (λ n. fold max n rest') (m ∙ (max_is greatest seen ∙ ap (max greatest) w)) ∙ (sym (ap (fold max greatest) e) ∙ h)
+
+-- Columns. What is left of each begins with the item of its visit.
+pub waits-at : (rows : Rows) (kind : Kind) (jobs arrives : List ℕ) (fates : List Fate) (i job arrive : ℕ) (fate : Fate) → slice_get jobs i ≡ Some job → slice_get arrives i ≡ Some arrive → slice_get fates i ≡ Some fate →
+    column_waits rows kind (drop i jobs) (drop i arrives) (drop i fates) ≡ column_wait rows kind job arrive fate ∷ column_waits rows kind (drop (i + 1) jobs) (drop (i + 1) arrives) (drop (i + 1) fates)
+waits-at rows kind jobs arrives fates i job arrive fate j a f = λ k. column_waits rows kind (drop_at jobs i job j k) (drop_at arrives i arrive a k) (drop_at fates i fate f k)
+
+pub services-at : (rows : Rows) (kind : Kind) (jobs : List ℕ) (fates : List Fate) (i job : ℕ) (fate : Fate) → slice_get jobs i ≡ Some job → slice_get fates i ≡ Some fate →
+    column_services rows kind (drop i jobs) (drop i fates) ≡ column_service rows kind job fate ∷ column_services rows kind (drop (i + 1) jobs) (drop (i + 1) fates)
+services-at rows kind jobs fates i job fate j f = λ k. column_services rows kind (drop_at jobs i job j k) (drop_at fates i fate f k)
+
+pub sojourns-at : (arrives : List ℕ) (fates : List Fate) (i arrive : ℕ) (fate : Fate) → slice_get arrives i ≡ Some arrive → slice_get fates i ≡ Some fate →
+    column_sojourns (drop i arrives) (drop i fates) ≡ column_sojourn arrive fate ∷ column_sojourns (drop (i + 1) arrives) (drop (i + 1) fates)
+sojourns-at arrives fates i arrive fate a f = λ k. column_sojourns (drop_at arrives i arrive a k) (drop_at fates i fate f k)
+
+pub numbers-at : (founds : List ℕ) (fates : List Fate) (i found : ℕ) (fate : Fate) → slice_get founds i ≡ Some found → slice_get fates i ≡ Some fate →
+    column_numbers (drop i founds) (drop i fates) ≡ one_more found fate ∷ column_numbers (drop (i + 1) founds) (drop (i + 1) fates)
+numbers-at founds fates i found fate a f = λ k. column_numbers (drop_at founds i found a k) (drop_at fates i fate f k)
+
+pub leaves-at : (rows : Rows) (jobs times : List ℕ) (i job time : ℕ) → slice_get jobs i ≡ Some job → slice_get times i ≡ Some time →
+    stream_sojourns rows (drop i jobs) (drop i times) ≡ (time - slice_index rows.time job) ∷ stream_sojourns rows (drop (i + 1) jobs) (drop (i + 1) times)
+leaves-at rows jobs times i job time j t = λ k. stream_sojourns rows (drop_at jobs i job j k) (drop_at times i time t k)

@@ -1,0 +1,12 @@
+use Rattle.std.proofs.Common.{arith}
+use Rattle.mq_stats.proofs.Steps.{adds, sojourns-at}
+use Rattle.mq_stats.proofs.tallies.area_of.Goals as goal
+
+pub loop-at-preserved : goal.loop-at-preserved
+loop-at-preserved c =
+    record {
+      so_far =
+          adds c.loop-at.total _ _ _ _ _ c.sojourn_of.ensures
+          (sojourns-at c.args.visits.now.arrive c.args.visits.now.fate c.loop-at.at _ _ c.get.ensures c.get-in-loop-at.ensures) c.loop-at.invariant.so_far;
+      small = omega arith;
+    }

@@ -1,0 +1,28 @@
+ghost use Rattle.mq_stats.specs.RunNumbers.{RunsGiveStreams, RunsGiveVisits};
+
+use mq_core::{
+    departs_in_time, jobs_are_rows, nodes_are_columns, nodes_are_in_limits, rows_tell_demands,
+    streams_rise, visits_are_few,
+};
+
+/// The visits of each node of a run are such that their totals are told.
+pub fn runs_give_visits()
+    ensures { RunsGiveVisits }
+{
+    departs_in_time();
+    jobs_are_rows();
+    nodes_are_columns();
+    nodes_are_in_limits();
+    rows_tell_demands();
+    visits_are_few();
+}
+
+/// What leaves each node of a run by each output is such that its exit is told.
+pub fn runs_give_streams()
+    ensures { RunsGiveStreams }
+{
+    jobs_are_rows();
+    nodes_are_columns();
+    streams_rise();
+    visits_are_few();
+}

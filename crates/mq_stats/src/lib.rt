@@ -1,0 +1,17 @@
+//! The numbers of a run, worked out from its columns: what each visit found, the totals of a node,
+//! what leaves by an output, and the time span.
+#![tactic(auto)]
+
+mod exits;
+mod laws;
+mod occupancy;
+mod spans;
+mod tallies;
+#[cfg(test)]
+mod tests;
+
+pub use exits::{Exit, leaving};
+pub use laws::{runs_give_streams, runs_give_visits};
+pub use occupancy::found;
+pub use spans::span;
+pub use tallies::{NodeTotals, totals};

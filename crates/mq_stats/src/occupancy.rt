@@ -1,0 +1,94 @@
+ghost use Rattle.std.specs.Prelude.{◌≡◌, ◌≤◌, length, cond, count_by, IfOk};
+ghost use Rattle.std.specs.List.{AllByRecursion, zip};
+ghost use Rattle.std.specs.List.Sorted.{IsPermutation};
+ghost use Rattle.mq_core.specs.ColumnLaws.{LeavesFrom};
+ghost use Rattle.mq_core.specs.Columns.{founds_of};
+ghost use Rattle.mq_core.specs.Laws.{Rises};
+ghost use Rattle.mq_stats.specs.Departures.{Ascends, departures_from, is_gone, stays};
+
+use mq_base::{List, OutOfMemory};
+use mq_core::Fate;
+use std::alloc::Global;
+
+// The departures of the visits that aren't lost, by position, each with its position.
+fn departures_of(alloc: Global, fates: &List<Fate>) -> Result<Vec<(u64, u32)>, OutOfMemory>
+    requires few { length fates.now ≤ 1048576 }
+    ensures { IfOk result (λ departures. departures.items ≡ departures_from 0 fates.now) }
+{
+    let mut departures = Vec::new(alloc);
+    for at in 0..fates.len() {
+        match fates.get(at) {
+            Fate::Departs(time) => departures.push((*time, at as u32))?,
+            Fate::Lost => {}
+        }
+    }
+    Ok(departures)
+}
+
+// The same by time, those of one time by position.
+fn departures_in_order(alloc: Global, fates: &List<Fate>) -> Result<Vec<(u64, u32)>, OutOfMemory>
+    requires few { length fates.now ≤ 1048576 }
+    ensures all { IfOk result (λ departures. IsPermutation (departures_from 0 fates.now) departures.items) }
+    ensures order { IfOk result (λ departures. Ascends departures.items) }
+{
+    let mut departures = departures_of(alloc, fates)?;
+    departures.sort()?;
+    Ok(departures)
+}
+
+// Whether a visit departed before the time, or at it and before the position.
+fn gone(departure: (u64, u32), time: u64, position: u32) -> bool
+    ensures { result ≡ is_gone time position departure }
+{
+    departure.0 < time || (departure.0 == time && departure.1 < position)
+}
+
+// How many departures are gone by a time and a position, where as many as `from` are.
+fn gone_by(departures: &[(u64, u32)], from: usize, time: u64, position: u32) -> usize
+    requires order { Ascends departures.now }
+    requires from { from ≤ count_by (is_gone time position) departures.now }
+    ensures { result ≡ count_by (is_gone time position) departures.now }
+{
+    for place in from..departures.len() {
+        if !gone(departures[place], time, position) {
+            return place;
+        }
+    }
+    departures.len()
+}
+
+// 1 for a visit that isn't lost, and 0 for one that is.
+fn one_if_stays(fate: &Fate) -> usize
+    ensures { result ≡ cond (stays fate.now) 1 0 }
+{
+    match fate {
+        Fate::Departs(_) => 1,
+        Fate::Lost => 0,
+    }
+}
+
+/// How many jobs each visit found in the node: of the earlier visits, those that depart after its
+/// arrival. Jobs may leave in any order; no time of arrival falls, and no job leaves before it
+/// came. It refuses for want of memory alone.
+///
+/// Only earlier visits can have departed before a visit comes. Of those that depart at its very
+/// time, the ones that come later are told by their position, so one pass over the departures in
+/// their order tells how many are gone.
+pub fn found(alloc: Global, arrive: &List<u64>, fate: &List<Fate>) -> Result<List<u32>, OutOfMemory>
+    requires even { length fate.now ≡ length arrive.now }
+    requires few { length arrive.now ≤ 1048576 }
+    requires arrive { Rises (λ a b. a ≤ b) arrive.now }
+    requires fate { AllByRecursion (λ p. LeavesFrom p.0 p.1) (zip arrive.now fate.now) }
+    ensures { IfOk result (λ found. found ≡ founds_of arrive.now fate.now) }
+{
+    let departures = departures_in_order(alloc, fate)?;
+    let mut found = List::new(alloc);
+    let mut stayed = 0;
+    let mut gone = 0;
+    for at in 0..arrive.len() {
+        gone = gone_by(&departures, gone, *arrive.get(at), at as u32);
+        found.push((stayed - gone) as u32)?;
+        stayed += one_if_stays(fate.get(at));
+    }
+    Ok(found)
+}

@@ -1,0 +1,56 @@
+ghost use Rattle.std.specs.Prelude.{◌≡◌, max, fold, map};
+ghost use Rattle.mq_core.specs.Columns.{column_span, greatest_time, time_of_fate};
+
+use mq_base::List;
+use mq_core::{Fate, Visits};
+
+// The time of a departure; 0 for a lost visit, which has none.
+fn time_of(fate: &Fate) -> u64
+    ensures { result ≡ time_of_fate fate.now }
+{
+    match fate {
+        Fate::Departs(time) => *time,
+        Fate::Lost => 0,
+    }
+}
+
+// The greatest of these times, or 0.
+fn latest(times: &[u64]) -> u64
+    ensures { result ≡ fold max 0 times.now }
+{
+    let mut latest = 0;
+    for time in times {
+        latest = latest.max(*time);
+    }
+    latest
+}
+
+// The greatest time of a departure, or 0.
+fn latest_departure(fates: &[Fate]) -> u64
+    ensures { result ≡ fold max 0 (map time_of_fate fates.now) }
+{
+    let mut latest = 0;
+    for fate in fates {
+        latest = latest.max(time_of(fate));
+    }
+    latest
+}
+
+// The greatest time of a visit, or 0.
+fn latest_visit(visits: &Visits) -> u64
+    ensures { result ≡ greatest_time visits.now }
+{
+    latest(visits.arrive.as_slice()).max(latest_departure(visits.fate.as_slice()))
+}
+
+/// The time span of a run: the greatest time, in ticks, at which a job comes to a node or leaves
+/// one, or 0 where there is no visit.
+pub fn span(visits: &List<Visits>) -> u64
+    ensures { result ≡ column_span visits.now }
+{
+    let mut span = 0;
+    for node in visits.as_slice() {
+        span = span.max(latest_visit(node));
+    }
+    span
+}

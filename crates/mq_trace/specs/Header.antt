@@ -1,0 +1,37 @@
+-- The header of a trace: its columns, its least faulty field and the least column that it lacks.
+use Rattle.std.specs.Prelude.{◌+◌, ◌∷◌, ◌++◌, ◌||◌, ◌==◌, [], ℕ, List, drop, get_or, Bool, not, Option, Some, None, if◌then◌else◌, position, codes}
+use Rattle.std.specs.List.{list_any}
+use Rattle.std.specs.Str.{bytes_eq}
+use Rattle.mq_core.specs.declared.model.Network.{Network}
+use Rattle.mq_trace.specs.Records.{Record}
+
+-- one of these texts is this one
+abbrev pub is_among : List (List ℕ) → List ℕ → Bool
+is_among names name = list_any (λ other. bytes_eq other name) names
+
+-- the field at a place of a record, from 0
+abbrev pub field_of : Record → ℕ → List ℕ
+field_of r place = get_or r place []
+
+-- the columns of a header stand behind `source` and `time`
+abbrev pub columns_of : Record → List (List ℕ)
+columns_of header = drop 2 header
+
+-- of these columns, which have numbers from here on, the first that repeats an earlier one or is field 19
+unfoldable pub bad_column : ℕ → List (List ℕ) → List (List ℕ) → Option ℕ
+bad_column number before [] = None
+bad_column number before (name ∷ more) =
+    if (number == 19) || is_among before name then Some number else bad_column (number + 1) (before ++ name ∷ []) more
+
+-- the least faulty field of a header, from 1
+unfoldable pub bad_header : Record → Option ℕ
+bad_header [] = Some 1
+bad_header (first ∷ []) = if bytes_eq first (codes "source") then Some 2 else Some 1
+bad_header (first ∷ second ∷ columns) =
+    if not (bytes_eq first (codes "source")) then Some 1
+    else if not (bytes_eq second (codes "time")) then Some 2
+    else bad_column 3 [] columns
+
+-- the least column of the model that the header lacks
+abbrev pub missing_column : Network → Record → Option ℕ
+missing_column net header = position (λ name. not (is_among (columns_of header) name)) net.columns

@@ -1,0 +1,119 @@
+// The header of a trace.
+
+ghost use Rattle.std.specs.Prelude.{◌≡◌, ◌+◌, ◌<◌, ◌≤◌, length, map, drop, get_or, List, IfOk, IfErr, None, option_map, position};
+ghost use Rattle.std.specs.List.{list_any};
+ghost use Rattle.std.specs.Str.{bytes_eq};
+ghost use Rattle.csv.specs.Records.{fields_of};
+ghost use Rattle.mq_trace.specs.Header.{bad_header, columns_of, is_among};
+ghost use Rattle.mq_trace.specs.Trace.{Tells, header_fault};
+ghost use Rattle.mq_trace.specs.Reading.{IsHeaderOf};
+
+use crate::fault::TraceFault;
+use csv::ByteRecord;
+use mq_base::List;
+use mq_core::Network;
+use std::alloc::{AllocError, Global};
+
+/// What the data records are read by.
+#[derive(Drop)]
+pub struct Header {
+    /// The header itself.
+    pub names: ByteRecord,
+    /// Of each column behind the time, whether the model names it.
+    pub reads: Vec<bool>,
+    /// Of each column of the model, its place behind the time.
+    pub places: Vec<usize>,
+}
+
+/// Whether one of these names is this one.
+fn is_listed(names: &[List<u8>], name: &[u8]) -> bool
+    ensures { result ≡ is_among names.now name.now }
+{
+    names.iter().any(|other| other.as_slice() == name)
+}
+
+/// The same, of names in a text.
+fn is_seen(names: &[&[u8]], name: &[u8]) -> bool
+    ensures { result ≡ list_any (λ other. bytes_eq other.now name.now) names.now }
+{
+    names.iter().any(|other| *other == name)
+}
+
+/// Where a name stands among these, if it does.
+fn place_among(names: &[&[u8]], name: &[u8]) -> Option<usize>
+    ensures { result ≡ position (λ other. bytes_eq other.now name.now) names.now }
+{
+    names.iter().position(|other| *other == name)
+}
+
+#[tactic(auto, using(crate::proofs::TraceFacts::column_steps), unfolding(crate::specs::Header::bad_header))]
+/// The columns of a header without a fault in its fields.
+fn read_columns<'a>(alloc: Global, row: &'a ByteRecord) -> Result<Vec<&'a [u8]>, TraceFault>
+    ensures ok { IfOk result (λ v. (bad_header (fields_of row.now) ≡ None) × (map (λ s. s.now) v.items ≡ columns_of (fields_of row.now))) }
+    ensures size { IfOk result (λ _. (2 ≤ length (fields_of row.now)) × (length (fields_of row.now) ≤ 18)) }
+    ensures err { IfErr result (λ e. Tells e (option_map (λ n. TraceFault.BadHeader n) (bad_header (fields_of row.now)))) }
+{
+    let Some(first) = row.get(0) else {
+        return Err(TraceFault::BadHeader { field: 1 });
+    };
+    if first != b"source".as_slice() {
+        return Err(TraceFault::BadHeader { field: 1 });
+    }
+    let Some(second) = row.get(1) else {
+        return Err(TraceFault::BadHeader { field: 2 });
+    };
+    if second != b"time".as_slice() {
+        return Err(TraceFault::BadHeader { field: 2 });
+    }
+    let mut columns = Vec::new(alloc);
+    for place in 2..row.len() {
+        let Some(name) = row.get(place) else {
+            unreachable!()
+        };
+        if place == 18 {
+            return Err(TraceFault::BadHeader { field: 19 });
+        }
+        if is_seen(columns.as_slice(), name) {
+            return Err(TraceFault::BadHeader {
+                field: place as u32 + 1,
+            });
+        }
+        columns.push(name)?;
+    }
+    Ok(columns)
+}
+
+/// Of each column of a text, whether it is among these names.
+fn listed(alloc: Global, names: &[List<u8>], columns: &[&[u8]]) -> Result<Vec<bool>, AllocError>
+    ensures { IfOk result (λ v. v.items ≡ map (λ column. is_among names.now column.now) columns.now) }
+{
+    columns
+        .iter()
+        .map(|column| is_listed(names, column))
+        .collect(alloc)
+}
+
+/// Reads a header for a network.
+pub fn read_header(alloc: Global, names: ByteRecord, net: &Network) -> Result<Header, TraceFault>
+    requires { length net.now.columns ≤ 16 }
+    ensures ok { IfOk result (λ h. (header_fault net.now (fields_of names) ≡ None) × (fields_of h.names ≡ fields_of names) × IsHeaderOf net.now h) }
+    ensures err { IfErr result (λ e. Tells e (header_fault net.now (fields_of names))) }
+{
+    let columns = read_columns(alloc, &names)?;
+    let mut places = Vec::new(alloc);
+    let mut column = 0u32;
+    for name in net.columns.as_slice() {
+        let Some(place) = place_among(columns.as_slice(), name.as_slice()) else {
+            return Err(TraceFault::MissingColumn { column });
+        };
+        places.push(place)?;
+        column += 1;
+    }
+    let reads = listed(alloc, net.columns.as_slice(), columns.as_slice())?;
+    drop(columns);
+    Ok(Header {
+        names,
+        reads,
+        places,
+    })
+}

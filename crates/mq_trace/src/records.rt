@@ -1,0 +1,33 @@
+// The records of a text, one after the other.
+
+ghost use Rattle.std.specs.Prelude.{◌≡◌, IfErr, IfOk};
+ghost use Rattle.csv.specs.Records.{fields_of};
+ghost use Rattle.csv.specs.Reading.{default_config, records, strip_bom};
+ghost use Rattle.mq_trace.specs.Records.{IsBetween, Takes, records_left};
+
+use crate::fault::TraceFault;
+use csv::{ByteRecord, Reader, ReaderBuilder};
+use std::alloc::Global;
+
+/// A reader at the start of a text. The header is a record like the others, and records may differ in length.
+pub fn text_reader(alloc: Global, text: &[u8]) -> Reader<&[u8]>
+    ensures between { IsBetween result }
+    ensures all { records_left result ≡ records default_config (strip_bom text.now) }
+{
+    ReaderBuilder::new()
+        .has_headers(false)
+        .flexible(true)
+        .from_reader(alloc, text)
+}
+
+/// Reads the next record, if there is one. Bytes in memory are always read, so an error is want of memory.
+pub fn next_record(reader: &mut Reader<&[u8]>, row: &mut ByteRecord) -> Result<bool, TraceFault>
+    requires { IsBetween reader.old }
+    ensures found { IfOk result (λ found. Takes reader.old reader.new found (fields_of row.new)) }
+    ensures memory { IfErr result (λ e. e ≡ TraceFault.Memory) }
+{
+    let Ok(found) = reader.read_byte_record(row) else {
+        return Err(TraceFault::Memory);
+    };
+    Ok(found)
+}
