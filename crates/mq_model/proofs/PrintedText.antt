@@ -171,7 +171,7 @@ words_again [] h = refl
 words_again (w ∷ []) h = let own = (and_parts _ _ h).0 in words_of-last w (no_blank w own) (some_byte w own)
 words_again (w ∷ v ∷ ws) h =
     let both = and_parts _ _ h in
-    words_of-word w (join_with_byte 32 (v ∷ ws)) (no_blank w both.0) (some_byte w both.0) ∙ ap (λ more. w ∷ more) (words_again (v ∷ ws) both.1)
+    words_of-word w (join_with_byte 32 (v ∷ ws)) 32 (no_blank w both.0) (some_byte w both.0) refl ∙ ap (λ more. w ∷ more) (words_again (v ∷ ws) both.1)
 
 solid_plain : (w : Word) → is_solid w ≡ true → list_all is_plain w ≡ true
 solid_plain w h = all_through is_visible is_plain w visible_plain (and_parts _ _ h).1

@@ -2,4 +2,6 @@
 #![tactic(auto)]
 
 mod lines;
-mod report;
+mod sections;
+
+pub use sections::report;

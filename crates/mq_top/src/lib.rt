@@ -3,11 +3,11 @@
 
 mod line;
 mod outcome;
-mod simulate;
+mod stages;
 mod words;
 
 #[cfg(test)]
 mod tests;
 
 pub use outcome::{Outcome, UsageFault};
-pub use simulate::simulate;
+pub use stages::simulate;

@@ -6,8 +6,8 @@ use Rattle.mq_core.specs.Local.{Local}
 use Rattle.mq_core.specs.Machine.{State}
 use Rattle.mq_core.specs.StandardTable.{run_of}
 use Rattle.mq_report.specs.Text.{report_in, report_text}
-use Rattle.mq_report.proofs.report.report.Given as Given
-use Rattle.mq_report.proofs.report.report.Goals as goal
+use Rattle.mq_report.proofs.sections.report.Given as Given
+use Rattle.mq_report.proofs.sections.report.Goals as goal
 
 -- the report of the plan's run is that of its network
 text_is : (g : Given.Over) (c : goal.After-flush g) → report_text c.args.plan.now.net c.args.plan.now.order c.args.rows.now (run_of c.args.plan.now c.args.rows.now) ≡ report_in c.args.plan.now.net c.args.rows.now

@@ -4,8 +4,8 @@ use Rattle.mq_base.proofs.Puts.{on_err, on_err_more, on_ok_more}
 use Rattle.mq_core.specs.Columns.{column_span}
 use Rattle.mq_core.specs.StandardTable.{run_of}
 use Rattle.mq_report.specs.Text.{head_line, jobs_line, nodes_text, exits_text}
-use Rattle.mq_report.proofs.report.add_report.Given as Given
-use Rattle.mq_report.proofs.report.add_report.Goals as goal
+use Rattle.mq_report.proofs.sections.add_report.Given as Given
+use Rattle.mq_report.proofs.sections.add_report.Goals as goal
 
 pub add_network-requires-clause-span : goal.add_network-requires-clause-span
 add_network-requires-clause-span g c = c.span-span.ensures ∙ (ap column_span c.requires.run.visits ∙ sym (c.span_is_columns.ensures c.args.plan.now c.args.rows.now c.requires.read))

@@ -3,7 +3,7 @@ use Rattle.mq_core.specs.Columns.{column_exit}
 use Rattle.mq_core.specs.StandardTable.{run_of}
 use Rattle.mq_stats.specs.Numbers.{AreLeaving}
 use Rattle.mq_report.proofs.Runs.{outputs_inside, stream_inside, stream_is}
-use Rattle.mq_report.proofs.report.exit_at.Goals as goal
+use Rattle.mq_report.proofs.sections.exit_at.Goals as goal
 
 pub get-requires : goal.get-requires
 get-requires c = outputs_inside c.runs_have_columns.ensures c.args.plan.now c.args.rows.now c.args.run.now c.args.node c.args.declared.now c.requires.run c.requires.there

@@ -1,4 +1,4 @@
-// The whole report.
+// The sections of a report, and the whole.
 ghost use Rattle.std.specs.Prelude.{◌≡◌, ◌≤◌, ◌<◌, ◌^◌, ◌++◌, ◌==◌, ◌&&◌, [], length, OnOk, OnErr, Some, slice_get};
 ghost use Rattle.std.specs.List.{list_any};
 ghost use Rattle.mq_base.specs.Outside.{GoesOut, Rose, TakesFirst, TakesPrefix};

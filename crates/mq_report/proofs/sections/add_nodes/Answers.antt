@@ -3,7 +3,7 @@ use Rattle.mq_base.proofs.Gathers.{gathers_more, gathers_part}
 use Rattle.mq_base.proofs.Puts.{on_err}
 use Rattle.mq_core.specs.StandardTable.{run_of}
 use Rattle.mq_report.proofs.Loops.{nodes-next, exits-next, outputs-next, gathers_calm, gathers_all, no_outputs}
-use Rattle.mq_report.proofs.report.add_nodes.Goals as goal
+use Rattle.mq_report.proofs.sections.add_nodes.Goals as goal
 
 pub get-declared-requires : goal.get-declared-requires
 get-declared-requires g c = (c.orders_rank.ensures c.args.plan.now _ _ c.get-node.ensures).inside

@@ -2,7 +2,7 @@ use Rattle.std.proofs.Common.{◌≡◌, ◌∙◌, sym, ap, subst}
 use Rattle.mq_core.specs.Columns.{column_totals}
 use Rattle.mq_stats.specs.Numbers.{AreVisits}
 use Rattle.mq_report.proofs.Runs.{visits_inside, visits_are}
-use Rattle.mq_report.proofs.report.totals_at.Goals as goal
+use Rattle.mq_report.proofs.sections.totals_at.Goals as goal
 
 pub get-requires : goal.get-requires
 get-requires c = visits_inside c.runs_have_columns.ensures c.args.plan.now c.args.rows.now c.args.run.now c.args.node c.args.declared.now c.requires.run c.requires.there

@@ -1,4 +1,4 @@
-// The call that the program makes.
+// The call that the program makes, stage by stage.
 ghost use Rattle.std.specs.Prelude.{◌≡◌, ◌≢◌, ◌⊎◌, ◌+◌, ◌-◌, ◌^◌, ◌<◌, ◌≤◌, ◌↔◌, ℕ, List, Bool, true, false, length, map, Err, IsErrOf, IfOk, IfErr, IfSome, OnOk, OnErr, Some, None};
 ghost use Rattle.std.specs.Io.KnownBytes.{append_known};
 ghost use Rattle.mq_base.specs.Outside.{next_count, Rose, TakesPrefix};
@@ -18,7 +18,7 @@ use crate::line::{name_of, put_line};
 use crate::outcome::{Outcome, UsageFault};
 use crate::words::names_of;
 use mq_base::{FileFault, Files, Sink};
-use mq_core::{Network, Plan, Rows, runs_are_of_networks};
+use mq_core::{Plan, Rows, runs_are_of_networks};
 use mq_engine::{RunFault, run};
 use mq_model::{ModelFault, read_model};
 use mq_report::report;
@@ -57,15 +57,13 @@ fn accept_model<F: Files>(alloc: Global, name: &str, files: &mut F) -> Result<Pl
     }
 }
 
-// Reads the trace of this name, and judges it for a network.
+// Reads the trace of this name, and judges it for the network of a plan.
 fn accept_trace<F: Files>(
     alloc: Global,
-    net: &Network,
+    plan: &Plan,
     name: &str,
     files: &mut F,
 ) -> Result<Rows, Outcome>
-    requires nodes { length net.now.nodes < 2 ^ 32 }
-    requires columns { length net.now.columns ≤ 16 }
     ensures counted { F.reads files.new ≡ next_count (F.reads files.old) }
     ensures later { F.faults files.old ≤ F.faults files.new }
     ensures failed { IsErrOf result (Outcome.ReadFault true) → F.faults files.new ≡ F.reads files.new }
@@ -73,9 +71,9 @@ fn accept_trace<F: Files>(
     ensures rose { IsErrOf result (Outcome.ReadFault true) → Rose (F.faults files.old) (F.faults files.new) }
     ensures quiet { IsErrOf result (Outcome.ReadFault true) ⊎ (F.faults files.new ≡ F.faults files.old) }
 
-    ensures read { IfOk result (λ rows. IsReadFor net.now rows) }
-    ensures accepted { IfOk result (λ rows. IfSome (F.told files.old name.now) (λ bytes. (trace_fault net.now bytes ≡ None) × (rows ≡ rows_in net.now bytes))) }
-    ensures refused { IfErr result (λ outcome. RefusesTrace net.now outcome (F.told files.old name.now)) }
+    ensures read { IfOk result (λ rows. IsReadFor plan.now.net rows) }
+    ensures accepted { IfOk result (λ rows. IfSome (F.told files.old name.now) (λ bytes. (trace_fault plan.now.net bytes ≡ None) × (rows ≡ rows_in plan.now.net bytes))) }
+    ensures refused { IfErr result (λ outcome. RefusesTrace plan.now.net outcome (F.told files.old name.now)) }
 {
     let mut bytes = Vec::new(alloc);
     match files.read(name, TRACE_LIMIT, &mut bytes) {
@@ -84,7 +82,7 @@ fn accept_trace<F: Files>(
         Err(FileFault::TooLong) => return Err(Outcome::Trace(TraceFault::TooLong)),
         Err(FileFault::Memory) => return Err(Outcome::Memory),
     }
-    match read_trace(alloc, &bytes, net) {
+    match read_trace(alloc, &bytes, &plan.net) {
         Ok(rows) => Ok(rows),
         Err(TraceFault::Memory) => Err(Outcome::Memory),
         Err(fault) => Err(Outcome::Trace(fault)),
@@ -134,8 +132,7 @@ fn run_trace<F: Files, O: Sink>(
     ensures sure { (trace text : List ℕ) → F.told files.old name.now ≡ Some trace → answer_over plan.now.net trace ≡ Reported text → length text ≤ O.sure out.old → O.faults out.new ≡ O.faults out.old }
     ensures untouched { Untouched result (O.taken out.old) (O.taken out.new) }
 {
-    plans_are_small();
-    match accept_trace(alloc, &plan.net, name, files) {
+    match accept_trace(alloc, plan, name, files) {
         Ok(rows) => report_run(alloc, plan, &rows, out),
         Err(outcome) => outcome,
     }
