@@ -1,8 +1,8 @@
 -- The examples, computed.
-use Rattle.std.proofs.Common.{◌≡◌, refl}
+use Rattle.std.proofs.Common.{refl}
 use Rattle.std.specs.Fmt.{digits}
 use Rattle.mq_core.specs.Wiring.{first_ready, ranked_after}
-use Rattle.mq_model.specs.Examples.{AreAnswered, input_examples, line_examples}
+use Rattle.mq_model.specs.Examples.{AreAnswered}
 use Rattle.mq_model.specs.Form.{◌>>=◌, read, up_to}
 use Rattle.mq_model.specs.Lines.{counted_route, cut_route, inputs, line, node_line, rising, thresholds, a_route, modulo_route, way_of}
 use Rattle.mq_model.specs.Model.{inputs_fault, line_fault, lines_fault}

@@ -1,17 +1,16 @@
 -- One line more.
-use Rattle.std.proofs.Common.{◌≡◌, ◌≢◌, ◌∙◌, sym, ap, refl, subst, ℕ, zero, suc, ◌+◌, ◌-◌, ◌<◌, ◌≤◌, List, [], ◌∷◌, ◌++◌, length, Bool, true, false, cond, Option, Some, None, Result, Ok, Err, arith, inl, inr, append_assoc, append-nil, length-append}
+use Rattle.std.proofs.Common.{◌≡◌, ◌∙◌, sym, ap, refl, ℕ, suc, ◌+◌, ◌-◌, ◌≤◌, List, [], ◌∷◌, ◌++◌, length, Bool, true, false, cond, Option, Some, None, Result, Ok, Err, arith, inl, inr, append_assoc, append-nil, length-append}
 use Rattle.std.specs.Prelude.{◌&&◌, ◌||◌, ◌==◌, not, nat_le, nat_lt, codes, IfOk, IfErr}
 use Rattle.std.specs.List.{list_all, list_any, flat_map}
 use Rattle.std.specs.Option.{option_or}
-use Rattle.std.proofs.lemmas.Bool.{cases_Bool, and_parts, and_cases, eqb-true, leb-false, ltb-false}
-use Rattle.std.proofs.lemmas.Grind.{common_steps, flat_map-append}
-use Rattle.std.proofs.lemmas.List.Elements.{filter_map-append}
+use Rattle.std.proofs.lemmas.Bool.{cases_Bool, and_parts, eqb-true, leb-false, ltb-false}
+use Rattle.std.proofs.lemmas.Grind.{flat_map-append}
 use Rattle.std.proofs.lemmas.List.Folds.{list_all-append, list_any-append}
 use Rattle.mq_base.specs.Text.{words_of}
 use Rattle.mq_model.specs.Form.{Word, read, whole}
 use Rattle.mq_model.specs.Front.{Adds, IsFront, added_fault, columns_fault, grammar_fault, name_fault, numbers_from, unread_fault, with_said}
 use Rattle.mq_model.specs.Lines.{line}
-use Rattle.mq_model.specs.Model.{begins_bound, begins_comment, is_allowed, is_head, is_skipped, is_too_many, Tells, line_fault, read_fault, said_fault, words_fault}
+use Rattle.mq_model.specs.Model.{begins_bound, begins_comment, is_allowed, is_head, is_skipped, Tells, line_fault, read_fault, said_fault, words_fault}
 use Rattle.mq_model.specs.NetworkOf.{said_of, saids_of}
 use Rattle.mq_model.specs.Said.{added, columns_after, columns_of, declared, distinct_after, is_among, mentioned, names_of}
 use Rattle.mq_model.specs.declared.fault.ModelFault.{ModelFault}

@@ -1,11 +1,11 @@
 -- What the lines of a sound network say is in its ranges.
-use Rattle.std.proofs.Common.{◌≡◌, ◌∙◌, sym, ap, refl, subst, ℕ, zero, suc, ◌+◌, ◌<◌, ◌≤◌, List, [], ◌∷◌, length, get_or, Bool, true, false, arith}
-use Rattle.std.specs.Prelude.{map, ◌&&◌, ◌==◌, nat_lt, nat_le, slice_get}
+use Rattle.std.proofs.Common.{◌≡◌, refl, ℕ, zero, suc, ◌<◌, ◌≤◌, List, [], ◌∷◌, length, get_or, Bool, true, arith}
+use Rattle.std.specs.Prelude.{map, slice_get}
 use Rattle.std.specs.List.{list_all}
-use Rattle.std.proofs.lemmas.Bool.{and_parts, and_from, leb-true, le-leb, ltb-true, eqb-true}
+use Rattle.std.proofs.lemmas.Bool.{and_parts, and_from, leb-true, ltb-true}
 use Rattle.std.proofs.lemmas.List.{length-map}
 use Rattle.mq_core.specs.Names.{is_name}
-use Rattle.mq_core.specs.Sound.{is_output, is_sound, is_sound_count, is_sound_kind, is_sound_node, is_within, outputs_in}
+use Rattle.mq_core.specs.Sound.{is_output, is_sound, is_sound_count, is_sound_kind, is_sound_node, outputs_in}
 use Rattle.mq_core.specs.declared.model.Demand.TheVariants as demand
 use Rattle.mq_core.specs.declared.model.Input.{Input}
 use Rattle.mq_core.specs.declared.model.Kind.{Kind}
@@ -15,10 +15,10 @@ use Rattle.mq_core.specs.declared.model.Node.{Node}
 use Rattle.mq_core.specs.declared.model.Route.TheVariants as route
 use Rattle.mq_model.specs.Form.{Word}
 use Rattle.mq_model.specs.Said.{reads_of}
-use Rattle.mq_model.specs.SaidOf.{input_by, kind_by, name_at, names_in, node_by, saids_in}
+use Rattle.mq_model.specs.SaidOf.{input_by, kind_by, names_in, node_by, saids_in}
 use Rattle.mq_model.specs.declared.said.Said.{Said}
 use Rattle.mq_model.proofs.NetworkBack.{has_parts, output_within}
-use Rattle.mq_model.proofs.PrintedLines.{AreInputs, IsInput}
+use Rattle.mq_model.proofs.PrintedLines.{AreInputs}
 use Rattle.mq_model.proofs.SoundLines.{IsSoundKind, IsSoundSaid, is_sound_reads}
 
 pub all_at : {X : Type 0} (p : X → Bool) (xs : List X) (k : ℕ) (d : X) → list_all p xs ≡ true → k < length xs → p (get_or xs k d) ≡ true

@@ -1,20 +1,20 @@
 -- The canonical text of a sound network has no fault and declares it again.
-use Rattle.std.proofs.Common.{◌≡◌, ◌∙◌, sym, ap, refl, subst, ℕ, zero, suc, ◌+◌, ◌*◌, ◌-◌, ◌<◌, ◌≤◌, ◌^◌, List, [], ◌∷◌, ◌++◌, length, get_or, Bool, true, false, Option, Some, None, Result, Ok, Err, arith, inl, inr, append_assoc, length-append}
-use Rattle.std.specs.Prelude.{codes, decimal, ◌&&◌, ◌||◌, ◌==◌, not, nat_lt, nat_le, map}
+use Rattle.std.proofs.Common.{◌≡◌, ◌∙◌, ap, refl, ℕ, ◌+◌, ◌*◌, ◌-◌, ◌<◌, ◌≤◌, ◌^◌, List, [], ◌∷◌, ◌++◌, length, get_or, Bool, true, false, None, arith, inl, inr, append_assoc, length-append}
+use Rattle.std.specs.Prelude.{codes, decimal, ◌&&◌, ◌==◌, nat_lt, nat_le, map}
 use Rattle.std.specs.Char.{is_ascii_digit, is_ascii_lowercase}
 use Rattle.std.specs.List.{All, list_all, flat_map, join_with_byte}
 use Rattle.std.specs.Str.Lines.{strip_carriage_return}
-use Rattle.std.proofs.lemmas.Bool.{cases_Bool, and_parts, and_from, leb-true, le-leb, ltb-true, lt-ltb, not-true, ne_eqb, eqb-true}
+use Rattle.std.proofs.lemmas.Bool.{cases_Bool, and_parts, and_from, leb-true, le-leb, ltb-true, lt-ltb}
 use Rattle.std.proofs.lemmas.Fmt.{decimal_nonempty, length-decimal-le}
 use Rattle.std.proofs.lemmas.Grind.{common_steps}
 use Rattle.std.proofs.lemmas.List.Folds.{list_all-append}
-use Rattle.mq_base.specs.Text.{is_blank, is_number, lines_of, words_of}
+use Rattle.mq_base.specs.Text.{is_blank, lines_of, words_of}
 use Rattle.mq_base.proofs.LinesLemmas.{lines_of-line, words_of-last, words_of-word}
 use Rattle.mq_core.specs.Names.{is_name, is_name_byte}
 use Rattle.mq_core.specs.Sound.{is_within}
 use Rattle.mq_model.specs.Form.{Word}
 use Rattle.mq_model.specs.Model.{is_allowed, model_fault}
-use Rattle.mq_model.specs.Printed.{demand_word, head_words, input_word, inputs_words, line_text, node_words, printed, route_words, said_words}
+use Rattle.mq_model.specs.Printed.{demand_word, head_words, input_word, inputs_words, line_text, printed, route_words, said_words}
 use Rattle.mq_model.specs.declared.said.SaidDemand.{SaidDemand}
 use Rattle.mq_model.specs.declared.said.SaidDemand.TheVariants.{Column, Fixed}
 use Rattle.mq_model.specs.declared.said.SaidInput.{SaidInput}
@@ -26,7 +26,7 @@ use Rattle.mq_model.specs.declared.said.Said.TheVariants.{Bound, Node}
 use Rattle.mq_model.specs.Said.{reads_of}
 use Rattle.mq_model.proofs.PrintedLines.{AreInputs, IsInput, line_again, number_again}
 use Rattle.mq_model.proofs.PrintedNetwork.{AreInRange, all_at, said_in_range}
-use Rattle.mq_model.proofs.TextBack.{AreSaid, Says}
+use Rattle.mq_model.proofs.TextBack.{AreSaid}
 use Rattle.mq_graph.specs.Rank.{left_node}
 use Rattle.mq_core.specs.declared.model.Network.{Network}
 use Rattle.mq_core.specs.Sound.{is_sound}
@@ -35,7 +35,7 @@ use Rattle.mq_model.specs.SaidOf.{names_in, node_by, saids_in}
 use Rattle.mq_model.proofs.NetworkBack.{has_parts}
 use Rattle.std.proofs.lemmas.List.{length-map}
 use Rattle.mq_model.proofs.PlanBack.{text_again}
-use Rattle.mq_model.proofs.SoundLines.{AreSoundThresholds, IsSoundDemand, IsSoundRoute, IsSoundSaid}
+use Rattle.mq_model.proofs.SoundLines.{IsSoundDemand, IsSoundRoute, IsSoundSaid}
 
 -- Words: 1 to 34 visible bytes.
 abbrev pub is_visible : ℕ → Bool

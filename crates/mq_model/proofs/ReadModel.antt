@@ -1,5 +1,5 @@
 -- What the lines of a text say, and the whole text.
-use Rattle.std.proofs.Common.{◌≡◌, ◌∙◌, sym, ap, refl, subst, ℕ, ◌≤◌, List, [], ◌∷◌, length, Bool, true, false, cond, Option, Some, None, IsTrue, arith}
+use Rattle.std.proofs.Common.{◌≡◌, ◌∙◌, sym, ap, refl, subst, ℕ, ◌≤◌, List, [], ◌∷◌, length, true, false, Some, None, IsTrue, arith}
 use Rattle.std.specs.Prelude.{◌==◌, nat_le, nat_lt, get_or, option_map}
 use Rattle.std.specs.List.{list_any}
 use Rattle.std.specs.Option.{option_or}

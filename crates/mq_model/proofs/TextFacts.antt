@@ -1,11 +1,11 @@
 -- The words of a line and the lines of a text, taken off one by one.
-use Rattle.std.proofs.Common.{◌≡◌, ◌∙◌, sym, ap, refl, ℕ, zero, suc, ◌+◌, ◌<◌, ◌≤◌, List, [], ◌∷◌, ◌++◌, length, drop, take, map, Bool, true, false, Option, Some, None, Bor, arith, append_assoc, append-nil, length-append, ◌-◌}
+use Rattle.std.proofs.Common.{◌≡◌, ◌∙◌, sym, refl, ℕ, ◌+◌, ◌<◌, ◌≤◌, List, [], ◌∷◌, ◌++◌, length, drop, true, false, Some, None, Bor, arith, append_assoc, append-nil, length-append}
 use Rattle.std.specs.List.{slice_range}
 use Rattle.std.proofs.lemmas.Grind.{common_steps}
 use Rattle.mq_base.specs.Text.{lines_of, words_of}
 use Rattle.mq_model.specs.Form.{Word}
 use Rattle.mq_model.specs.Front.{IsFront}
-use Rattle.mq_model.specs.Model.{is_skipped, line_fault, lines_fault}
+use Rattle.mq_model.specs.Model.{line_fault, lines_fault}
 use Rattle.mq_model.specs.declared.fault.ModelFault.{ModelFault}
 use Rattle.mq_model.specs.declared.fault.ModelFault.TheVariants.{BadHead}
 use Rattle.mq_model.specs.declared.front.Front.{Front}

@@ -1,6 +1,5 @@
-use Rattle.std.proofs.Common.{rules, sym, refl, ◌≡◌, ◌≤◌, ◌∙◌, ◌+◌, ◌++◌, ◌∷◌, [], length, map, append_assoc, append-nil, arith}
+use Rattle.std.proofs.Common.{refl, arith}
 use Rattle.std.proofs.lemmas.Grind.{common_steps}
-use Rattle.mq_model.specs.Reading.{texts}
 use Rattle.mq_model.proofs.TextFacts.{all_words, last_words, more_words}
 use Rattle.mq_model.proofs.front.split_words.Goals as goal
 

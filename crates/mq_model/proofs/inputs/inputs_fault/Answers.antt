@@ -1,5 +1,5 @@
-use Rattle.std.proofs.Common.{rules, sym, ◌≡◌, ◌∙◌, refl, drop, take, ◌∷◌, ◌++◌, ◌+◌, [], get_or, arith}
-use Rattle.mq_model.proofs.InputFacts.{line_faulty, line_fine, lines_fine, narrow_at, placed_are}
+use Rattle.std.proofs.Common.{sym, ◌∙◌, refl, get_or}
+use Rattle.mq_model.proofs.InputFacts.{line_faulty, line_fine, lines_fine, narrow_at}
 use Rattle.mq_model.proofs.inputs.inputs_fault.Goals as goal
 
 pub reads_fault-requires : goal.reads_fault-requires

@@ -1,4 +1,4 @@
-use Rattle.std.proofs.Common.{rules, sym, ◌≡◌, ◌∙◌, refl, drop, take, ◌∷◌, ◌++◌, ◌+◌, []}
+use Rattle.std.proofs.Common.{sym, ◌∙◌}
 use Rattle.mq_model.proofs.InputFacts.{fine_input, taken_input, unknown_input}
 use Rattle.mq_model.proofs.inputs.reads_fault.Goals as goal
 

@@ -1,4 +1,4 @@
-use Rattle.std.proofs.Common.{rules, sym, ◌≡◌, ◌∙◌, refl, arith, true, false, ◌^◌}
+use Rattle.std.proofs.Common.{◌≡◌, ◌∙◌, refl, arith, true, false, ◌^◌}
 use Rattle.std.proofs.lemmas.Grind.{common_steps}
 use Rattle.mq_base.specs.Text.{is_number}
 use Rattle.mq_model.specs.Lines.{is_up_to, value_of}

@@ -1,4 +1,4 @@
-use Rattle.std.proofs.Common.{rules, sym, ◌≡◌, ◌∙◌, refl, arith}
+use Rattle.std.proofs.Common.{sym}
 use Rattle.mq_model.proofs.ReadFacts.{line_bound, line_other, line_server, line_source, line_split}
 use Rattle.mq_model.proofs.line.read_first.Goals as goal
 

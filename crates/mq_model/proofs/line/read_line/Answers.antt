@@ -1,4 +1,4 @@
-use Rattle.std.proofs.Common.{rules, sym, ◌≡◌, ◌∙◌, refl, arith}
+use Rattle.std.proofs.Common.{arith}
 use Rattle.mq_model.specs.Reading.{words_from}
 use Rattle.mq_model.proofs.ReadFacts.{tail_length, whole_fault, whole_more}
 use Rattle.mq_model.proofs.line.read_line.Goals as goal

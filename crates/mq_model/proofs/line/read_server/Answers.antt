@@ -1,7 +1,7 @@
-use Rattle.std.proofs.Common.{rules, sym, ◌≡◌, ◌∙◌, refl, ap, arith, List}
+use Rattle.std.proofs.Common.{refl}
 use Rattle.std.proofs.lemmas.Result.{err_from_is_err_and}
 use Rattle.mq_model.specs.Form.{read}
-use Rattle.mq_model.specs.Lines.{inputs, node_line, server_kind}
+use Rattle.mq_model.specs.Lines.{inputs, node_line}
 use Rattle.mq_model.specs.Reading.{words_from}
 use Rattle.mq_model.proofs.FormFacts.{read_then}
 use Rattle.mq_model.proofs.ReadFacts.{stops}

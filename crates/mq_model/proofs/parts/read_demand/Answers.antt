@@ -1,4 +1,4 @@
-use Rattle.std.proofs.Common.{rules, sym, ◌≡◌, ◌∙◌, refl, ap}
+use Rattle.std.proofs.Common.{sym, ◌∙◌, refl}
 use Rattle.mq_model.specs.Lines.{is_demand, demand_of}
 use Rattle.mq_model.proofs.ReadFacts.{read_one_no, read_one_yes}
 use Rattle.mq_model.proofs.parts.read_demand.Goals as goal

@@ -1,10 +1,6 @@
-use Rattle.std.proofs.Common.{rules, sym, ◌≡◌, ◌∙◌, refl, ap, arith, length, [], ◌∷◌, true, false, ◌<◌, ◌-◌, ◌+◌, List, append-nil}
-use Rattle.std.proofs.lemmas.Grind.{common_steps}
-use Rattle.mq_model.specs.Form.{read, up_to}
-use Rattle.mq_model.specs.Lines.{inputs, input_of, is_input, is_key}
-use Rattle.mq_model.specs.Reading.{words_from}
-use Rattle.mq_model.specs.declared.said.SaidInput.{SaidInput}
-use Rattle.mq_model.proofs.ReadFacts.{inputs_none, inputs_no_key, inputs_no_first, inputs_bad_first, inputs_first, keyed, not_keyed, up_to_none, up_to_no, up_to_yes, up_to_zero, with_front, with_front_twice}
+use Rattle.std.proofs.Common.{sym, ◌≡◌, ◌∙◌, refl, arith, ◌-◌, ◌+◌, append-nil}
+use Rattle.mq_model.specs.Lines.{input_of, is_input}
+use Rattle.mq_model.proofs.ReadFacts.{inputs_none, inputs_no_key, inputs_no_first, inputs_bad_first, inputs_first, keyed, not_keyed, up_to_none, up_to_no, up_to_yes, up_to_zero, with_front_twice}
 use Rattle.mq_model.proofs.parts.read_inputs.Goals as goal
 
 pub returns-in_default-clause-reads : goal.returns-in_default-clause-reads

@@ -1,6 +1,5 @@
-use Rattle.std.proofs.Common.{rules, sym, ◌≡◌, ◌∙◌, refl, ap}
+use Rattle.std.proofs.Common.{sym, ◌∙◌, refl}
 use Rattle.mq_core.specs.Names.{is_name}
-use Rattle.mq_model.specs.Reading.{words_from}
 use Rattle.mq_model.proofs.ReadFacts.{read_one_no, read_one_yes}
 use Rattle.mq_model.proofs.parts.read_name.Goals as goal
 

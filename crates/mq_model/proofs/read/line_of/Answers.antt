@@ -1,4 +1,4 @@
-use Rattle.std.proofs.Common.{rules, sym, ◌≡◌, ◌∙◌, refl, get_or}
+use Rattle.std.proofs.Common.{sym, ◌∙◌, refl, get_or}
 use Rattle.mq_model.proofs.InputFacts.{line_later, line_of_none}
 use Rattle.mq_model.proofs.read.line_of.Goals as goal
 

@@ -1,6 +1,6 @@
-use Rattle.std.proofs.Common.{rules, sym, ◌≡◌, ◌∙◌, refl}
+use Rattle.std.proofs.Common.{sym, ◌∙◌}
 use Rattle.std.proofs.lemmas.Result.{err_from_is_err_and}
-use Rattle.mq_model.proofs.ReadModel.{kept, kept_beside, kept_input, kept_narrow, kept_no_source, too_long, unranked}
+use Rattle.mq_model.proofs.ReadModel.{kept, kept_beside, kept_input, kept_narrow, kept_no_source, unranked}
 use Rattle.mq_model.proofs.read.read_model.Goals as goal
 
 pub inputs_fault-requires-clause-beside : goal.inputs_fault-requires-clause-beside

@@ -1,4 +1,4 @@
-use Rattle.std.proofs.Common.{rules, sym, ◌≡◌, ◌∙◌, refl, arith, true, false, ◌&&◌, ◌<◌, ◌^◌}
+use Rattle.std.proofs.Common.{sym, ◌∙◌, refl}
 use Rattle.mq_model.specs.Lines.{is_from_to, value_of}
 use Rattle.mq_model.proofs.ReadFacts.{below_least, from_least, number_none, number_some, read_one_no, read_one_yes}
 use Rattle.mq_model.proofs.route.read_outputs.Goals as goal

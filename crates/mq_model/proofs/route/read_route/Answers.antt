@@ -1,4 +1,4 @@
-use Rattle.std.proofs.Common.{sym, ◌≡◌, ◌∙◌, refl}
+use Rattle.std.proofs.Common.{sym}
 use Rattle.mq_model.proofs.ReadFacts.{route_counted, route_cut, route_none}
 use Rattle.mq_model.proofs.route.read_route.Goals as goal
 

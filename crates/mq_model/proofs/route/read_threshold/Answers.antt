@@ -1,4 +1,4 @@
-use Rattle.std.proofs.Common.{rules, sym, ◌≡◌, ◌∙◌, refl, arith, true, false, ◌&&◌, ◌<◌, ◌^◌}
+use Rattle.std.proofs.Common.{sym, ◌≡◌, ◌∙◌, refl, false}
 use Rattle.mq_base.specs.Text.{is_number}
 use Rattle.mq_model.specs.Lines.{greatest_demand, is_up_to, value_of}
 use Rattle.mq_model.proofs.ReadFacts.{number_none, number_some, read_one_no, read_one_yes}

@@ -1,4 +1,4 @@
-use Rattle.std.proofs.Common.{rules, sym, ◌≡◌, ◌∙◌, refl, ap, arith, length, [], ◌∷◌, true, false, ◌<◌, ◌-◌, ◌+◌, List, append-nil}
+use Rattle.std.proofs.Common.{◌≡◌, ◌∙◌, refl, arith, ◌-◌, ◌+◌, append-nil}
 use Rattle.std.proofs.lemmas.Result.{err_from_is_err_and}
 use Rattle.mq_model.specs.Form.{one, read}
 use Rattle.mq_model.specs.Lines.{greatest_demand, is_up_to, value_of}

@@ -1,4 +1,4 @@
-use Rattle.std.proofs.Common.{rules, sym, ◌≡◌, ◌∙◌, refl, arith, true, false, ◌&&◌, ◌<◌, ◌^◌}
+use Rattle.std.proofs.Common.{sym}
 use Rattle.mq_model.proofs.ReadFacts.{way_mod, way_none, way_other, way_turn}
 use Rattle.mq_model.proofs.route.read_way.Goals as goal
 

@@ -1,5 +1,3 @@
-use Rattle.std.proofs.Common.{refl, arith}
-use Rattle.std.proofs.lemmas.Grind.{common_steps}
 use Rattle.mq_model.proofs.FrontFacts.{front_of_nothing}
 use Rattle.mq_model.proofs.text.no_lines.Goals as goal
 
