@@ -1,5 +1,5 @@
 -- The line that each outcome puts on the error output.
-use Rattle.std.specs.Prelude.{◌≡◌, ℕ, List, [], ◌∷◌, ◌++◌, codes, decimal, true, false, Option, Some, None, slice_get, ¬_}
+use Rattle.std.specs.Prelude.{◌≡◌, ℕ, List, [], ◌∷◌, ◌++◌, codes, decimal, true, false, Option, Some, None, slice_get}
 use Rattle.std.specs.Io.KnownBytes.{append_known}
 use Rattle.mq_base.specs.Outside.{TakesPrefix, Rose}
 use Rattle.mq_core.specs.declared.model.Network.{Network}

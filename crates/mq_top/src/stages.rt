@@ -1,5 +1,5 @@
 // The call that the program makes, stage by stage.
-ghost use Rattle.std.specs.Prelude.{◌≡◌, ◌≢◌, ◌⊎◌, ◌+◌, ◌-◌, ◌^◌, ◌<◌, ◌≤◌, ◌↔◌, ℕ, List, Bool, true, false, length, map, Err, IsErrOf, IfOk, IfErr, IfSome, OnOk, OnErr, Some, None};
+ghost use Rattle.std.specs.Prelude.{◌≡◌, ◌≢◌, ◌⊎◌, ◌+◌, ◌-◌, ◌^◌, ◌<◌, ◌≤◌, ◌↔◌, ℕ, List, Bool, true, false, length, map, Err, IsErrOf, IfOk, IfErr, IfSome, IsTrue, Some, None};
 ghost use Rattle.std.specs.Io.KnownBytes.{append_known};
 ghost use Rattle.mq_base.specs.Outside.{next_count, Rose, TakesPrefix};
 ghost use Rattle.mq_core.specs.NetworkRun.{past_in};
