@@ -1,5 +1,5 @@
 // The lines on the error output.
-ghost use Rattle.std.specs.Prelude.{◌≡◌, ◌++◌, length, decimal, OnOk, OnErr};
+ghost use Rattle.std.specs.Prelude.{◌≡◌, [], ◌∷◌, ◌++◌, length, decimal, OnOk, OnErr};
 ghost use Rattle.mq_base.specs.Outside.{Rose, TakesFirst, TakesPrefix};
 ghost use Rattle.mq_base.specs.Pieces.{pieces_text};
 ghost use Rattle.mq_top.specs.Lines.{PutsLine, line_text, model_line, trace_line, past_line, name_of as name_of_outcome};
@@ -50,24 +50,29 @@ fn put_pieces<E: Sink>(err: &mut E, pieces: &[Piece<'_>])
 
 // Puts a line that has no number.
 fn put_text<E: Sink>(err: &mut E, text: &[u8])
-    ensures { PutsLine (E.taken err.old) (E.taken err.new) (E.sure err.old) (E.sure err.new) (E.faults err.old) (E.faults err.new) text.now }
+    ensures { PutsLine (E.taken err.old) (E.taken err.new) (E.sure err.old) (E.sure err.new) (E.faults err.old) (E.faults err.new) (text.now ++ 10 ∷ []) }
 {
-    put_pieces(err, &[Piece::Text(text)]);
+    put_pieces(err, &[Piece::Text(text), Piece::Text(b"\n")]);
 }
 
 // Puts a line with a name in it.
-fn put_named<E: Sink>(err: &mut E, front: &[u8], name: &[u8], back: &[u8])
-    ensures { PutsLine (E.taken err.old) (E.taken err.new) (E.sure err.old) (E.sure err.new) (E.faults err.old) (E.faults err.new) (front.now ++ name.now ++ back.now) }
+fn put_named<'a, E: Sink>(err: &mut E, front: &'a [u8], name: &'a [u8], back: &'a [u8])
+    ensures { PutsLine (E.taken err.old) (E.taken err.new) (E.sure err.old) (E.sure err.new) (E.faults err.old) (E.faults err.new) (front.now ++ name.now ++ back.now ++ 10 ∷ []) }
 {
     put_pieces(
         err,
-        &[Piece::Text(front), Piece::Text(name), Piece::Text(back)],
+        &[
+            Piece::Text(front),
+            Piece::Text(name),
+            Piece::Text(back),
+            Piece::Text(b"\n"),
+        ],
     );
 }
 
 // Puts a line with a number in it.
 fn put_numbered<'a, E: Sink>(err: &mut E, front: &'a [u8], number: u32, back: &'a [u8])
-    ensures { PutsLine (E.taken err.old) (E.taken err.new) (E.sure err.old) (E.sure err.new) (E.faults err.old) (E.faults err.new) (front.now ++ decimal number ++ back.now) }
+    ensures { PutsLine (E.taken err.old) (E.taken err.new) (E.sure err.old) (E.sure err.new) (E.faults err.old) (E.faults err.new) (front.now ++ decimal number ++ back.now ++ 10 ∷ []) }
 {
     put_pieces(
         err,
@@ -75,6 +80,7 @@ fn put_numbered<'a, E: Sink>(err: &mut E, front: &'a [u8], number: u32, back: &'
             Piece::Text(front),
             Piece::Number(number as u128),
             Piece::Text(back),
+            Piece::Text(b"\n"),
         ],
     );
 }
@@ -88,7 +94,7 @@ fn put_numbered_twice<'a, E: Sink>(
     part: u32,
     back: &'a [u8],
 )
-    ensures { PutsLine (E.taken err.old) (E.taken err.new) (E.sure err.old) (E.sure err.new) (E.faults err.old) (E.faults err.new) (front.now ++ decimal whole ++ middle.now ++ decimal part ++ back.now) }
+    ensures { PutsLine (E.taken err.old) (E.taken err.new) (E.sure err.old) (E.sure err.new) (E.faults err.old) (E.faults err.new) (front.now ++ decimal whole ++ middle.now ++ decimal part ++ back.now ++ 10 ∷ []) }
 {
     put_pieces(
         err,
@@ -98,6 +104,7 @@ fn put_numbered_twice<'a, E: Sink>(
             Piece::Text(middle),
             Piece::Number(part as u128),
             Piece::Text(back),
+            Piece::Text(b"\n"),
         ],
     );
 }
@@ -126,29 +133,29 @@ fn put_model_line<E: Sink>(err: &mut E, fault: &ModelFault)
 {
     let front = b"mpsim: model line ";
     match fault {
-        ModelFault::TooLong => put_text(err, b"mpsim: model: longer than 65536 bytes\n"),
-        ModelFault::BadByte { line } => put_numbered(err, front, *line, b": byte not allowed\n"),
-        ModelFault::BadHead { line } => put_numbered(err, front, *line, b": expected model 1\n"),
+        ModelFault::TooLong => put_text(err, b"mpsim: model: longer than 65536 bytes"),
+        ModelFault::BadByte { line } => put_numbered(err, front, *line, b": byte not allowed"),
+        ModelFault::BadHead { line } => put_numbered(err, front, *line, b": expected model 1"),
         ModelFault::BadLine { line, word } => {
-            put_numbered_twice(err, front, *line, b": word ", *word, b" not allowed\n")
+            put_numbered_twice(err, front, *line, b": word ", *word, b" not allowed")
         }
         ModelFault::NameTwice { line } => {
-            put_numbered(err, front, *line, b": name declared twice\n")
+            put_numbered(err, front, *line, b": name declared twice")
         }
         ModelFault::TooMany { line } => {
-            put_numbered(err, front, *line, b": too many nodes or columns\n")
+            put_numbered(err, front, *line, b": too many nodes or columns")
         }
         ModelFault::UnknownInput { line, input } => {
-            put_numbered_twice(err, front, *line, b": input ", *input, b" unknown\n")
+            put_numbered_twice(err, front, *line, b": input ", *input, b" unknown")
         }
         ModelFault::OutputTaken { line, input } => {
-            put_numbered_twice(err, front, *line, b": input ", *input, b" already read\n")
+            put_numbered_twice(err, front, *line, b": input ", *input, b" already read")
         }
-        ModelFault::NoSource => put_text(err, b"mpsim: model: no source\n"),
+        ModelFault::NoSource => put_text(err, b"mpsim: model: no source"),
         ModelFault::Cycle { line, .. } => {
-            put_numbered(err, front, *line, b": node on or behind a cycle\n")
+            put_numbered(err, front, *line, b": node on or behind a cycle")
         }
-        ModelFault::Memory => put_text(err, b"mpsim: out of memory\n"),
+        ModelFault::Memory => put_text(err, b"mpsim: out of memory"),
     }
 }
 
@@ -158,24 +165,24 @@ fn put_trace_line<E: Sink>(err: &mut E, name: &[u8], fault: &TraceFault)
 {
     let front = b"mpsim: trace record ";
     match fault {
-        TraceFault::TooLong => put_text(err, b"mpsim: trace: longer than 134217728 bytes\n"),
+        TraceFault::TooLong => put_text(err, b"mpsim: trace: longer than 134217728 bytes"),
         TraceFault::BadHeader { field } => {
-            put_numbered(err, b"mpsim: trace header: field ", *field, b" not allowed\n")
+            put_numbered(err, b"mpsim: trace header: field ", *field, b" not allowed")
         }
         TraceFault::MissingColumn { .. } => {
-            put_named(err, b"mpsim: trace header: column ", name, b" missing\n")
+            put_named(err, b"mpsim: trace header: column ", name, b" missing")
         }
-        TraceFault::TooManyRows => put_text(err, b"mpsim: trace: more than 1048576 records\n"),
+        TraceFault::TooManyRows => put_text(err, b"mpsim: trace: more than 1048576 records"),
         TraceFault::BadCount { row } => {
-            put_numbered(err, front, *row, b": wrong number of fields\n")
+            put_numbered(err, front, *row, b": wrong number of fields")
         }
         TraceFault::UnknownSource { row } => {
-            put_numbered(err, front, *row, b": unknown source\n")
+            put_numbered(err, front, *row, b": unknown source")
         }
         TraceFault::BadNumber { row, field } => {
-            put_numbered_twice(err, front, *row, b": field ", *field, b" is not a number in range\n")
+            put_numbered_twice(err, front, *row, b": field ", *field, b" is not a number in range")
         }
-        TraceFault::Memory => put_text(err, b"mpsim: out of memory\n"),
+        TraceFault::Memory => put_text(err, b"mpsim: out of memory"),
     }
 }
 
@@ -186,13 +193,13 @@ pub fn put_line<E: Sink>(err: &mut E, name: &[u8], outcome: &Outcome)
 {
     match outcome {
         Outcome::Done => put_pieces(err, &[]),
-        Outcome::Usage(_) => put_text(err, b"mpsim: usage: mpsim MODEL TRACE\n"),
+        Outcome::Usage(_) => put_text(err, b"mpsim: usage: mpsim MODEL TRACE"),
         Outcome::Model(fault) => put_model_line(err, fault),
         Outcome::Trace(fault) => put_trace_line(err, name, fault),
         Outcome::Past(fault) => put_past_line(err, name, fault),
-        Outcome::ReadFault { second: false } => put_text(err, b"mpsim: cannot read the model\n"),
-        Outcome::ReadFault { second: true } => put_text(err, b"mpsim: cannot read the trace\n"),
-        Outcome::WriteFault => put_text(err, b"mpsim: cannot write the report\n"),
-        Outcome::Memory => put_text(err, b"mpsim: out of memory\n"),
+        Outcome::ReadFault { second: false } => put_text(err, b"mpsim: cannot read the model"),
+        Outcome::ReadFault { second: true } => put_text(err, b"mpsim: cannot read the trace"),
+        Outcome::WriteFault => put_text(err, b"mpsim: cannot write the report"),
+        Outcome::Memory => put_text(err, b"mpsim: out of memory"),
     }
 }
