@@ -176,11 +176,16 @@ fn put_trace_line<E: Sink>(err: &mut E, name: &[u8], fault: &TraceFault)
         TraceFault::BadCount { row } => {
             put_numbered(err, front, *row, b": wrong number of fields")
         }
-        TraceFault::UnknownSource { row } => {
-            put_numbered(err, front, *row, b": unknown source")
-        }
+        TraceFault::UnknownSource { row } => { put_numbered(err, front, *row, b": unknown source") }
         TraceFault::BadNumber { row, field } => {
-            put_numbered_twice(err, front, *row, b": field ", *field, b" is not a number in range")
+            put_numbered_twice(
+                err,
+                front,
+                *row,
+                b": field ",
+                *field,
+                b" is not a number in range",
+            )
         }
         TraceFault::Memory => put_text(err, b"mpsim: out of memory"),
     }

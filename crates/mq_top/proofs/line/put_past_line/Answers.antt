@@ -8,8 +8,8 @@ puts_seven : (t t' : Option (List ℕ)) (s s' f f' : ℕ) (a b c d e x y : List 
     → PutsLine t t' s s' f f' (a ++ (b ++ (c ++ (d ++ (e ++ (x ++ y)))))) → PutsLine t t' s s' f f' (a ++ b ++ c ++ d ++ e ++ x ++ y)
 puts_seven t t' s s' f f' a b c d e x y h =
     rw (append_assoc (a ++ b ++ c ++ d ++ e) x y ∙ append_assoc (a ++ b ++ c ++ d) e (x ++ y) ∙ append_assoc (a ++ b ++ c) d (e ++ (x ++ y))
-      ∙ append_assoc (a ++ b) c (d ++ (e ++ (x ++ y))) ∙ append_assoc a b (c ++ (d ++ (e ++ (x ++ y)))))
-      h
+    ∙ append_assoc (a ++ b) c (d ++ (e ++ (x ++ y))) ∙ append_assoc a b (c ++ (d ++ (e ++ (x ++ y)))))
+    h
 
 pub returns : goal.returns
 returns g c =
