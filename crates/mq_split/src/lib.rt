@@ -11,6 +11,9 @@ use mq_base::{List, OutOfMemory};
 use mq_core::{Route, Stream};
 use std::alloc::Global;
 
+#[cfg(test)]
+mod tests;
+
 // How many of the thresholds are at most the value.
 fn passed(thresholds: &[u64], value: u64) -> usize
     ensures count { result ≡ count_by (λ threshold. nat_le threshold value) thresholds.now }
