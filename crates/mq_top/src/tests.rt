@@ -18,7 +18,12 @@ struct Answered {
 }
 
 // The files `m` and `t` with these bytes.
-fn files_of(alloc: Global, model: &[u8], trace: &[u8], failing: &[u64]) -> Result<MemFiles, OutOfMemory> {
+fn files_of(
+    alloc: Global,
+    model: &[u8],
+    trace: &[u8],
+    failing: &[u64],
+) -> Result<MemFiles, OutOfMemory> {
     let mut files = Vec::new(alloc);
     files.push(MemFile {
         name: String::from_str(alloc, "m")?,
