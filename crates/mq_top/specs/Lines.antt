@@ -4,6 +4,7 @@ use Rattle.std.specs.Io.KnownBytes.{append_known}
 use Rattle.mq_base.specs.Outside.{TakesPrefix, Rose}
 use Rattle.mq_core.specs.declared.model.Network.{Network}
 use Rattle.mq_core.specs.declared.model.Node.{Node}
+use Rattle.mq_engine.specs.declared.fault.PastFault.{PastFault}
 use Rattle.mq_model.specs.declared.fault.ModelFault.{ModelFault}
 use Rattle.mq_model.specs.declared.fault.ModelFault.TheVariants as model
 use Rattle.mq_trace.specs.declared.fault.TraceFault.{TraceFault}
@@ -35,13 +36,17 @@ trace_line name (trace.UnknownSource r) = codes "mpsim: trace record " ++ decima
 trace_line name (trace.BadNumber r f) = codes "mpsim: trace record " ++ decimal r ++ codes ": field " ++ decimal f ++ codes " is not a number in range" ++ 10 ∷ []
 trace_line name trace.Memory = codes "mpsim: out of memory" ++ 10 ∷ []
 
+-- with the name of the node
+abbrev pub past_line : List ℕ → PastFault → List ℕ
+past_line name f = codes "mpsim: node " ++ name ++ codes " position " ++ decimal f.position ++ codes " passes the bound at time " ++ decimal f.time ++ 10 ∷ []
+
 -- the line of an outcome, with the name that it speaks of
 abbrev pub line_text : List ℕ → Outcome → List ℕ
 line_text name Done = []
 line_text name (Usage f) = codes "mpsim: usage: mpsim MODEL TRACE" ++ 10 ∷ []
 line_text name (Model f) = model_line f
 line_text name (Trace f) = trace_line name f
-line_text name (Past f) = codes "mpsim: node " ++ name ++ codes " position " ++ decimal f.position ++ codes " passes the bound at time " ++ decimal f.time ++ 10 ∷ []
+line_text name (Past f) = past_line name f
 line_text name (ReadFault false) = codes "mpsim: cannot read the model" ++ 10 ∷ []
 line_text name (ReadFault true) = codes "mpsim: cannot read the trace" ++ 10 ∷ []
 line_text name WriteFault = codes "mpsim: cannot write the report" ++ 10 ∷ []

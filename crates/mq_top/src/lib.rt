@@ -4,10 +4,9 @@
 mod line;
 mod outcome;
 mod stages;
-mod words;
-
 #[cfg(test)]
 mod tests;
+mod words;
 
 pub use outcome::{Outcome, UsageFault};
 pub use stages::simulate;

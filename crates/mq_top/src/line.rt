@@ -1,11 +1,13 @@
 // The lines on the error output.
-ghost use Rattle.std.specs.Prelude.{◌≡◌, OnOk, OnErr};
+ghost use Rattle.std.specs.Prelude.{◌≡◌, [], ◌∷◌, ◌++◌, length, decimal, OnOk, OnErr};
+ghost use Rattle.mq_base.specs.Outside.{Rose, TakesFirst, TakesPrefix};
 ghost use Rattle.mq_base.specs.Pieces.{pieces_text};
-ghost use Rattle.mq_top.specs.Lines.{PutsLine, line_text, model_line, trace_line, name_of as name_of_outcome};
+ghost use Rattle.mq_top.specs.Lines.{PutsLine, line_text, model_line, trace_line, past_line, name_of as name_of_outcome};
 
 use crate::outcome::Outcome;
 use mq_base::{Gather, Piece, Sink, SinkFault, add_pieces, flush};
 use mq_core::Network;
+use mq_engine::PastFault;
 use mq_model::ModelFault;
 use mq_trace::TraceFault;
 
@@ -28,32 +30,132 @@ pub fn name_of<'a>(net: &'a Network, outcome: &Outcome) -> &'a [u8]
     }
 }
 
+// Puts these pieces, and says whether all of them went out.
+fn try_pieces<E: Sink>(err: &mut E, pieces: &[Piece<'_>]) -> Result<(), SinkFault>
+    ensures ok { OnOk result (TakesFirst (E.taken err.old) (E.taken err.new) (E.sure err.old) (E.sure err.new) (pieces_text pieces.now) (length (pieces_text pieces.now))) }
+    ensures err { OnErr result (TakesPrefix (E.taken err.old) (E.taken err.new) (E.sure err.old) (E.sure err.new) (pieces_text pieces.now)) }
+    ensures rose { OnErr result (Rose (E.faults err.old) (E.faults err.new)) }
+{
+    let mut pending = Gather::new();
+    add_pieces(err, &mut pending, pieces)?;
+    flush(err, &mut pending)
+}
+
 // Puts these pieces, which are a line. What becomes of it changes nothing.
 fn put_pieces<E: Sink>(err: &mut E, pieces: &[Piece<'_>])
     ensures { PutsLine (E.taken err.old) (E.taken err.new) (E.sure err.old) (E.sure err.new) (E.faults err.old) (E.faults err.new) (pieces_text pieces.now) }
 {
-    let mut pending = Gather::new();
-    if add_pieces(err, &mut pending, pieces).is_ok() {
-        let _ = flush(err, &mut pending);
-    }
+    let _ = try_pieces(err, pieces);
+}
+
+// Puts a line that has no number.
+fn put_text<E: Sink>(err: &mut E, text: &[u8])
+    ensures { PutsLine (E.taken err.old) (E.taken err.new) (E.sure err.old) (E.sure err.new) (E.faults err.old) (E.faults err.new) (text.now ++ 10 ∷ []) }
+{
+    put_pieces(err, &[Piece::Text(text), Piece::Text(b"\n")]);
+}
+
+// Puts a line with a name in it.
+fn put_named<'a, E: Sink>(err: &mut E, front: &'a [u8], name: &'a [u8], back: &'a [u8])
+    ensures { PutsLine (E.taken err.old) (E.taken err.new) (E.sure err.old) (E.sure err.new) (E.faults err.old) (E.faults err.new) (front.now ++ name.now ++ back.now ++ 10 ∷ []) }
+{
+    put_pieces(
+        err,
+        &[
+            Piece::Text(front),
+            Piece::Text(name),
+            Piece::Text(back),
+            Piece::Text(b"\n"),
+        ],
+    );
+}
+
+// Puts a line with a number in it.
+fn put_numbered<'a, E: Sink>(err: &mut E, front: &'a [u8], number: u32, back: &'a [u8])
+    ensures { PutsLine (E.taken err.old) (E.taken err.new) (E.sure err.old) (E.sure err.new) (E.faults err.old) (E.faults err.new) (front.now ++ decimal number ++ back.now ++ 10 ∷ []) }
+{
+    put_pieces(
+        err,
+        &[
+            Piece::Text(front),
+            Piece::Number(number as u128),
+            Piece::Text(back),
+            Piece::Text(b"\n"),
+        ],
+    );
+}
+
+// Puts a line with two numbers in it: the number of a line or record, and that of a part of it.
+fn put_numbered_twice<'a, E: Sink>(
+    err: &mut E,
+    front: &'a [u8],
+    whole: u32,
+    middle: &'a [u8],
+    part: u32,
+    back: &'a [u8],
+)
+    ensures { PutsLine (E.taken err.old) (E.taken err.new) (E.sure err.old) (E.sure err.new) (E.faults err.old) (E.faults err.new) (front.now ++ decimal whole ++ middle.now ++ decimal part ++ back.now ++ 10 ∷ []) }
+{
+    put_pieces(
+        err,
+        &[
+            Piece::Text(front),
+            Piece::Number(whole as u128),
+            Piece::Text(middle),
+            Piece::Number(part as u128),
+            Piece::Text(back),
+            Piece::Text(b"\n"),
+        ],
+    );
+}
+
+// Puts the line of a node that passes the bound.
+fn put_past_line<E: Sink>(err: &mut E, name: &[u8], fault: &PastFault)
+    ensures { PutsLine (E.taken err.old) (E.taken err.new) (E.sure err.old) (E.sure err.new) (E.faults err.old) (E.faults err.new) (past_line name.now fault.now) }
+{
+    put_pieces(
+        err,
+        &[
+            Piece::Text(b"mpsim: node "),
+            Piece::Text(name),
+            Piece::Text(b" position "),
+            Piece::Number(fault.position as u128),
+            Piece::Text(b" passes the bound at time "),
+            Piece::Number(fault.time as u128),
+            Piece::Text(b"\n"),
+        ],
+    );
 }
 
 // Puts the line of a model's fault.
 fn put_model_line<E: Sink>(err: &mut E, fault: &ModelFault)
     ensures { PutsLine (E.taken err.old) (E.taken err.new) (E.sure err.old) (E.sure err.new) (E.faults err.old) (E.faults err.new) (model_line fault.now) }
 {
+    let front = b"mpsim: model line ";
     match fault {
-        ModelFault::TooLong => put_pieces(err, &[Piece::Text(b"mpsim: model: longer than 65536 bytes\n")]),
-        ModelFault::BadByte { line } => put_pieces(err, &[Piece::Text(b"mpsim: model line "), Piece::Number(*line as u128), Piece::Text(b": byte not allowed\n")]),
-        ModelFault::BadHead { line } => put_pieces(err, &[Piece::Text(b"mpsim: model line "), Piece::Number(*line as u128), Piece::Text(b": expected model 1\n")]),
-        ModelFault::BadLine { line, word } => put_pieces(err, &[Piece::Text(b"mpsim: model line "), Piece::Number(*line as u128), Piece::Text(b": word "), Piece::Number(*word as u128), Piece::Text(b" not allowed\n")]),
-        ModelFault::NameTwice { line } => put_pieces(err, &[Piece::Text(b"mpsim: model line "), Piece::Number(*line as u128), Piece::Text(b": name declared twice\n")]),
-        ModelFault::TooMany { line } => put_pieces(err, &[Piece::Text(b"mpsim: model line "), Piece::Number(*line as u128), Piece::Text(b": too many nodes or columns\n")]),
-        ModelFault::UnknownInput { line, input } => put_pieces(err, &[Piece::Text(b"mpsim: model line "), Piece::Number(*line as u128), Piece::Text(b": input "), Piece::Number(*input as u128), Piece::Text(b" unknown\n")]),
-        ModelFault::OutputTaken { line, input } => put_pieces(err, &[Piece::Text(b"mpsim: model line "), Piece::Number(*line as u128), Piece::Text(b": input "), Piece::Number(*input as u128), Piece::Text(b" already read\n")]),
-        ModelFault::NoSource => put_pieces(err, &[Piece::Text(b"mpsim: model: no source\n")]),
-        ModelFault::Cycle { line, .. } => put_pieces(err, &[Piece::Text(b"mpsim: model line "), Piece::Number(*line as u128), Piece::Text(b": node on or behind a cycle\n")]),
-        ModelFault::Memory => put_pieces(err, &[Piece::Text(b"mpsim: out of memory\n")]),
+        ModelFault::TooLong => put_text(err, b"mpsim: model: longer than 65536 bytes"),
+        ModelFault::BadByte { line } => put_numbered(err, front, *line, b": byte not allowed"),
+        ModelFault::BadHead { line } => put_numbered(err, front, *line, b": expected model 1"),
+        ModelFault::BadLine { line, word } => {
+            put_numbered_twice(err, front, *line, b": word ", *word, b" not allowed")
+        }
+        ModelFault::NameTwice { line } => {
+            put_numbered(err, front, *line, b": name declared twice")
+        }
+        ModelFault::TooMany { line } => {
+            put_numbered(err, front, *line, b": too many nodes or columns")
+        }
+        ModelFault::UnknownInput { line, input } => {
+            put_numbered_twice(err, front, *line, b": input ", *input, b" unknown")
+        }
+        ModelFault::OutputTaken { line, input } => {
+            put_numbered_twice(err, front, *line, b": input ", *input, b" already read")
+        }
+        ModelFault::NoSource => put_text(err, b"mpsim: model: no source"),
+        ModelFault::Cycle { line, .. } => {
+            put_numbered(err, front, *line, b": node on or behind a cycle")
+        }
+        ModelFault::Memory => put_text(err, b"mpsim: out of memory"),
     }
 }
 
@@ -61,15 +163,31 @@ fn put_model_line<E: Sink>(err: &mut E, fault: &ModelFault)
 fn put_trace_line<E: Sink>(err: &mut E, name: &[u8], fault: &TraceFault)
     ensures { PutsLine (E.taken err.old) (E.taken err.new) (E.sure err.old) (E.sure err.new) (E.faults err.old) (E.faults err.new) (trace_line name.now fault.now) }
 {
+    let front = b"mpsim: trace record ";
     match fault {
-        TraceFault::TooLong => put_pieces(err, &[Piece::Text(b"mpsim: trace: longer than 134217728 bytes\n")]),
-        TraceFault::BadHeader { field } => put_pieces(err, &[Piece::Text(b"mpsim: trace header: field "), Piece::Number(*field as u128), Piece::Text(b" not allowed\n")]),
-        TraceFault::MissingColumn { .. } => put_pieces(err, &[Piece::Text(b"mpsim: trace header: column "), Piece::Text(name), Piece::Text(b" missing\n")]),
-        TraceFault::TooManyRows => put_pieces(err, &[Piece::Text(b"mpsim: trace: more than 1048576 records\n")]),
-        TraceFault::BadCount { row } => put_pieces(err, &[Piece::Text(b"mpsim: trace record "), Piece::Number(*row as u128), Piece::Text(b": wrong number of fields\n")]),
-        TraceFault::UnknownSource { row } => put_pieces(err, &[Piece::Text(b"mpsim: trace record "), Piece::Number(*row as u128), Piece::Text(b": unknown source\n")]),
-        TraceFault::BadNumber { row, field } => put_pieces(err, &[Piece::Text(b"mpsim: trace record "), Piece::Number(*row as u128), Piece::Text(b": field "), Piece::Number(*field as u128), Piece::Text(b" is not a number in range\n")]),
-        TraceFault::Memory => put_pieces(err, &[Piece::Text(b"mpsim: out of memory\n")]),
+        TraceFault::TooLong => put_text(err, b"mpsim: trace: longer than 134217728 bytes"),
+        TraceFault::BadHeader { field } => {
+            put_numbered(err, b"mpsim: trace header: field ", *field, b" not allowed")
+        }
+        TraceFault::MissingColumn { .. } => {
+            put_named(err, b"mpsim: trace header: column ", name, b" missing")
+        }
+        TraceFault::TooManyRows => put_text(err, b"mpsim: trace: more than 1048576 records"),
+        TraceFault::BadCount { row } => {
+            put_numbered(err, front, *row, b": wrong number of fields")
+        }
+        TraceFault::UnknownSource { row } => { put_numbered(err, front, *row, b": unknown source") }
+        TraceFault::BadNumber { row, field } => {
+            put_numbered_twice(
+                err,
+                front,
+                *row,
+                b": field ",
+                *field,
+                b" is not a number in range",
+            )
+        }
+        TraceFault::Memory => put_text(err, b"mpsim: out of memory"),
     }
 }
 
@@ -80,13 +198,13 @@ pub fn put_line<E: Sink>(err: &mut E, name: &[u8], outcome: &Outcome)
 {
     match outcome {
         Outcome::Done => put_pieces(err, &[]),
-        Outcome::Usage(_) => put_pieces(err, &[Piece::Text(b"mpsim: usage: mpsim MODEL TRACE\n")]),
+        Outcome::Usage(_) => put_text(err, b"mpsim: usage: mpsim MODEL TRACE"),
         Outcome::Model(fault) => put_model_line(err, fault),
         Outcome::Trace(fault) => put_trace_line(err, name, fault),
-        Outcome::Past(fault) => put_pieces(err, &[Piece::Text(b"mpsim: node "), Piece::Text(name), Piece::Text(b" position "), Piece::Number(fault.position as u128), Piece::Text(b" passes the bound at time "), Piece::Number(fault.time as u128), Piece::Text(b"\n")]),
-        Outcome::ReadFault { second: false } => put_pieces(err, &[Piece::Text(b"mpsim: cannot read the model\n")]),
-        Outcome::ReadFault { second: true } => put_pieces(err, &[Piece::Text(b"mpsim: cannot read the trace\n")]),
-        Outcome::WriteFault => put_pieces(err, &[Piece::Text(b"mpsim: cannot write the report\n")]),
-        Outcome::Memory => put_pieces(err, &[Piece::Text(b"mpsim: out of memory\n")]),
+        Outcome::Past(fault) => put_past_line(err, name, fault),
+        Outcome::ReadFault { second: false } => put_text(err, b"mpsim: cannot read the model"),
+        Outcome::ReadFault { second: true } => put_text(err, b"mpsim: cannot read the trace"),
+        Outcome::WriteFault => put_text(err, b"mpsim: cannot write the report"),
+        Outcome::Memory => put_text(err, b"mpsim: out of memory"),
     }
 }

@@ -52,8 +52,10 @@ fn accept_model<F: Files>(alloc: Global, name: &str, files: &mut F) -> Result<Pl
     }
     match read_model(alloc, &bytes) {
         Ok(plan) => Ok(plan),
-        Err(ModelFault::Memory) => Err(Outcome::Memory),
-        Err(fault) => Err(Outcome::Model(fault)),
+        Err(fault) => match fault {
+            ModelFault::Memory => Err(Outcome::Memory),
+            fault => Err(Outcome::Model(fault)),
+        },
     }
 }
 
@@ -84,8 +86,10 @@ fn accept_trace<F: Files>(
     }
     match read_trace(alloc, &bytes, &plan.net) {
         Ok(rows) => Ok(rows),
-        Err(TraceFault::Memory) => Err(Outcome::Memory),
-        Err(fault) => Err(Outcome::Trace(fault)),
+        Err(fault) => match fault {
+            TraceFault::Memory => Err(Outcome::Memory),
+            fault => Err(Outcome::Trace(fault)),
+        },
     }
 }
 

@@ -10,14 +10,20 @@ mod faults;
 mod networks;
 
 // A model and a trace, and what the call puts out.
-struct Ran {
+#[derive(Drop)]
+struct Answered {
     outcome: Outcome,
     out: MemSink,
     err: MemSink,
 }
 
 // The files `m` and `t` with these bytes.
-fn files_of(alloc: Global, model: &[u8], trace: &[u8], failing: &[u64]) -> Result<MemFiles, OutOfMemory> {
+fn files_of(
+    alloc: Global,
+    model: &[u8],
+    trace: &[u8],
+    failing: &[u64],
+) -> Result<MemFiles, OutOfMemory> {
     let mut files = Vec::new(alloc);
     files.push(MemFile {
         name: String::from_str(alloc, "m")?,
@@ -31,10 +37,10 @@ fn files_of(alloc: Global, model: &[u8], trace: &[u8], failing: &[u64]) -> Resul
 }
 
 // The call over these two files.
-fn ran(alloc: Global, model: &[u8], trace: &[u8]) -> Result<Ran, OutOfMemory> {
+fn ran(alloc: Global, model: &[u8], trace: &[u8]) -> Result<Answered, OutOfMemory> {
     let mut files = files_of(alloc, model, trace, &[])?;
     let mut out = MemSink::new(alloc, 65_536, Vec::new(alloc));
     let mut err = MemSink::new(alloc, 65_536, Vec::new(alloc));
     let outcome = simulate(alloc, &["m", "t"], &mut files, &mut out, &mut err);
-    Ok(Ran { outcome, out, err })
+    Ok(Answered { outcome, out, err })
 }

@@ -58,21 +58,33 @@ const REFUSALS: [(&[u8], &[u8], Outcome, u8, &[u8]); 9] = [
     (
         b"model 1\nbound 7\nsource src\nserver desk d from src\n",
         ORDINARY,
-        Outcome::Past(PastFault { node: 1, position: 2, time: 8 }),
+        Outcome::Past(PastFault {
+            node: 1,
+            position: 2,
+            time: 8,
+        }),
         5,
         b"mpsim: node desk position 2 passes the bound at time 8\n",
     ),
     (
         b"model 1\nbound 5\nsource a\nsource b\nserver qb =7 from b\nserver qa =9 from a\n",
         b"source,time\na,0\nb,0\n",
-        Outcome::Past(PastFault { node: 2, position: 0, time: 7 }),
+        Outcome::Past(PastFault {
+            node: 2,
+            position: 0,
+            time: 7,
+        }),
         5,
         b"mpsim: node qb position 0 passes the bound at time 7\n",
     ),
     (
         b"model 1\nbound 1\nsource src\n",
         ORDINARY,
-        Outcome::Past(PastFault { node: 0, position: 2, time: 2 }),
+        Outcome::Past(PastFault {
+            node: 0,
+            position: 2,
+            time: 2,
+        }),
         5,
         b"mpsim: node src position 2 passes the bound at time 2\n",
     ),
@@ -101,7 +113,10 @@ fn words_are_two_names(rt: HostRuntime) -> Result<(), Fail> {
         let outcome = simulate(alloc, words, &mut files, &mut out, &mut err);
         assert_eq!(rt; outcome, Outcome::Usage(UsageFault::Words));
         assert_eq!(rt; outcome.status(), 2);
-        assert_eq!(rt; err.bytes(), b"mpsim: usage: mpsim MODEL TRACE\n".as_slice());
+        assert_eq!(rt;
+            err.bytes(),
+            b"mpsim: usage: mpsim MODEL TRACE\n".as_slice()
+        );
         assert!(rt; out.bytes().is_empty());
     }
     Ok(())
