@@ -8,6 +8,9 @@ use mq_base::{List, OutOfMemory};
 use mq_core::Stream;
 use std::alloc::Global;
 
+#[cfg(test)]
+mod tests;
+
 /// When each job leaves a server that serves the jobs one by one in the order of the stream: one
 /// departure a job, by position, in ticks. A job begins at its arrival or when the job before it
 /// leaves, whichever is later, and takes its demand, in ticks of service (Lindley's recurrence).
