@@ -1,5 +1,5 @@
 -- How a call may end, for each answer of the definitions.
-use Rattle.std.specs.Prelude.{◌≡◌, ◌≢◌, ◌<◌, ◌+◌, ◌^◌, ℕ, true, false, List, Option, Some, IfSome}
+use Rattle.std.specs.Prelude.{◌≡◌, ◌≢◌, ◌⊎◌, ◌<◌, ◌+◌, ◌^◌, ℕ, true, false, List, Option, Some, IfSome}
 use Rattle.std.specs.Io.KnownBytes.{append_known}
 use Rattle.mq_base.specs.Outside.{TakesPrefix, next_count}
 use Rattle.mq_core.specs.declared.model.Network.{Network}
@@ -19,8 +19,8 @@ pub record Taken : Type 0 where
   pub sure_before : ℕ
   pub sure_now : ℕ
 
--- the call ends with the answer, or with a fault of a device or want of memory on the way to it; what the output
--- gained is the whole report after Done, a first part of it after a fault of the output, and nothing after all else
+-- the call ends with the answer, or with a fault of a device or want of memory on the way to it; the output gained the
+-- whole report after Done, and a first part of it after a fault of the output
 abbrev pub Ends : Answer → Outcome → Taken → Type 0
 Ends (ModelRefused f) (Model g) t = f ≡ g
 Ends (ModelRefused f) (ReadFault false) t = Unit {0}
@@ -40,20 +40,24 @@ Ends (Reported text) (ReadFault second) t = Unit {0}
 Ends (Reported text) Memory t = Unit {0}
 Ends (Reported text) _ t = ⊥
 
+-- no read, one or two
+abbrev pub AtMostTwo : ℕ → ℕ → Type 0
+AtMostTwo before now = (now ≡ before) ⊎ ((now ≡ next_count before) ⊎ (now ≡ next_count (next_count before)))
+
 -- how many reads a call made, by its outcome; want of memory may come before each of them
 abbrev pub Reads : Outcome → ℕ → ℕ → Type 0
 Reads (Usage f) before now = now ≡ before
 Reads (Model f) before now = now ≡ next_count before
 Reads (ReadFault false) before now = now ≡ next_count before
-Reads Memory before now = Unit {0}
+Reads Memory before now = AtMostTwo before now
 Reads _ before now = now ≡ next_count (next_count before)
 
 -- The count of faults rose in this read of a call, from 1. It is stated where the number of reads is below 2 ^ 63 at entry.
 abbrev pub FailedAt : (place reads reads' faults' : ℕ) → Type 0
 FailedAt place reads reads' faults' = reads < 2 ^ 63 → (reads' ≡ reads + place) × (faults' ≡ reads')
 
--- the output's bytes are those of before, but after Done and after a fault of the output
-abbrev pub Untouched : Outcome → Option (List ℕ) → Option (List ℕ) → Type 0
+-- after every outcome but these two all is as before
+abbrev pub Untouched : {A : Type 0} → Outcome → A → A → Type 0
 Untouched Done before now = Unit {0}
 Untouched WriteFault before now = Unit {0}
 Untouched _ before now = now ≡ before

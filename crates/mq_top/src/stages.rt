@@ -101,7 +101,7 @@ fn report_run<O: Sink>(alloc: Global, plan: &Plan, rows: &Rows, out: &mut O) -> 
     ensures later { O.faults out.old ≤ O.faults out.new }
     ensures rose { result ≡ Outcome.WriteFault → Rose (O.faults out.old) (O.faults out.new) }
     ensures sure { length (report_in plan.now.net rows.now) ≤ O.sure out.old → O.faults out.new ≡ O.faults out.old }
-    ensures untouched { Untouched result (O.taken out.old) (O.taken out.new) }
+    ensures untouched { Untouched result out.old out.new }
 {
     runs_are_of_networks();
     let run = match run(alloc, plan, rows) {
@@ -134,7 +134,7 @@ fn run_trace<F: Files, O: Sink>(
     ensures later { O.faults out.old ≤ O.faults out.new }
     ensures rose { result ≡ Outcome.WriteFault → Rose (O.faults out.old) (O.faults out.new) }
     ensures sure { (trace text : List ℕ) → F.told files.old name.now ≡ Some trace → answer_over plan.now.net trace ≡ Reported text → length text ≤ O.sure out.old → O.faults out.new ≡ O.faults out.old }
-    ensures untouched { Untouched result (O.taken out.old) (O.taken out.new) }
+    ensures untouched { Untouched result out.old out.new }
 {
     match accept_trace(alloc, plan, name, files) {
         Ok(rows) => report_run(alloc, plan, &rows, out),
@@ -172,14 +172,18 @@ pub fn simulate<F: Files, O: Sink, E: Sink>(
     ensures first { result ≡ Outcome.ReadFault false → FailedAt 1 (F.reads files.old) (F.reads files.new) (F.faults files.new) × Rose (F.faults files.old) (F.faults files.new) }
     ensures second { result ≡ Outcome.ReadFault true → FailedAt 2 (F.reads files.old) (F.reads files.new) (F.faults files.new) × Rose (F.faults files.old) (F.faults files.new) }
     ensures reads { Reads result (F.reads files.old) (F.reads files.new) }
+    ensures first_name { (m t : List ℕ) → Names (map (λ w. w.now) words.now) m t → F.is_sure files.old m ≡ true → F.faults files.old < 2 ^ 64 - 1 → result ≢ Outcome.ReadFault false }
+    ensures second_name { (m t : List ℕ) → Names (map (λ w. w.now) words.now) m t → F.is_sure files.old t ≡ true → F.faults files.old < 2 ^ 64 - 1 → result ≢ Outcome.ReadFault true }
     ensures unread { IsTrue (refuses_words (map (λ w. w.now) words.now)) → files.new ≡ files.old }
     ensures sure_names { (m t : List ℕ) → Names (map (λ w. w.now) words.now) m t → F.is_sure files.old m ≡ true → F.is_sure files.old t ≡ true → F.faults files.new ≡ F.faults files.old }
+    ensures files_later { F.faults files.old ≤ F.faults files.new }
+    ensures out_later { O.faults out.old ≤ O.faults out.new }
     ensures write { result ≡ Outcome.WriteFault → Rose (O.faults out.old) (O.faults out.new) }
     ensures sure { (m t model trace text : List ℕ) → Names (map (λ w. w.now) words.now) m t → F.told files.old m ≡ Some model → F.told files.old t ≡ Some trace → answer model trace ≡ Reported text →
         length text ≤ O.sure out.old → O.faults out.new ≡ O.faults out.old }
 
     // What the two outputs gain.
-    ensures untouched { Untouched result (O.taken out.old) (O.taken out.new) }
+    ensures untouched { Untouched result out.old out.new }
     ensures line { (name : List ℕ) × PutsLine (E.taken err.old) (E.taken err.new) (E.sure err.old) (E.sure err.new) (E.faults err.old) (E.faults err.new) (line_text name result) }
     ensures named { (m t model : List ℕ) → Names (map (λ w. w.now) words.now) m t → F.told files.old m ≡ Some model →
         PutsLine (E.taken err.old) (E.taken err.new) (E.sure err.old) (E.sure err.new) (E.faults err.old) (E.faults err.new) (line_text (name_of_outcome (network_in model) result) result) }
