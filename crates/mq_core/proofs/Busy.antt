@@ -6,7 +6,8 @@ use Rattle.mq_core.specs.Event.{Event, time_of, earliest, sooner_of}
 use Rattle.mq_core.specs.Event.Event.{Arrive, Finish}
 use Rattle.mq_core.specs.Machine.{Visit, Emission, State, Station, finishes_of}
 use Rattle.mq_core.specs.Local.{Local}
-use Rattle.mq_core.specs.Standard.{demand_of_visit, demand_at, joins, front_leaves, front_begins, latest, one_if_some, kind_on, node_on, kind_opening, node_opening, working_in, node_working, standard_opening, standard_handle, standard_jobs, standard_working}
+use Rattle.mq_core.specs.Handling.{demand_of_visit, demand_at, joins, front_leaves, front_begins, latest, one_if_some}
+use Rattle.mq_core.specs.Standard.{kind_on, node_on, kind_opening, node_opening, working_in, node_working, standard_opening, standard_handle, standard_jobs, standard_working}
 use Rattle.mq_core.specs.StandardTable.{standard, run_of}
 use Rattle.mq_core.specs.OnTime.{standard-on_time}
 use Rattle.mq_core.specs.Wiring.{reader_from}

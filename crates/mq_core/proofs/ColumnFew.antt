@@ -7,7 +7,8 @@ use Rattle.mq_core.specs.Local.{Local}
 use Rattle.mq_core.specs.Machine.{Visit, Station, emissions_of}
 use Rattle.mq_core.specs.OnTime.{standard-on_time}
 use Rattle.mq_core.specs.Run.{starts}
-use Rattle.mq_core.specs.Standard.{kind_on, node_on, front_leaves, latest, output_by, kind_opening, node_opening, node_jobs, jobs_in, standard_opening, standard_handle, standard_jobs}
+use Rattle.mq_core.specs.Handling.{front_leaves, latest}
+use Rattle.mq_core.specs.Standard.{kind_on, node_on, output_by, kind_opening, node_opening, node_jobs, jobs_in, standard_opening, standard_handle, standard_jobs}
 use Rattle.mq_core.specs.StandardTable.{standard, run_of}
 use Rattle.mq_core.specs.Theorems.{IsReadFor}
 use Rattle.mq_core.specs.Wiring.{rank_in, reader_from}

@@ -3,10 +3,11 @@ use Rattle.std.proofs.lemmas.List.{length-map}
 use Rattle.std.specs.Prelude.{slice_get, max}
 use Rattle.std.specs.List.{AllByRecursion as Each, zip}
 use Rattle.mq_core.specs.ColumnLaws.{DepartsInTime, LeavesFrom, jobs_of, arrives_of}
-use Rattle.mq_core.specs.Columns.{lindley, column_fates}
+use Rattle.mq_core.specs.Columns.{column_fates}
+use Rattle.mq_core.specs.Recurrences.{lindley}
 use Rattle.mq_core.specs.Machine.{Visit}
 use Rattle.mq_core.specs.Results.{fates_from}
-use Rattle.mq_core.specs.Standard.{demand_of_job}
+use Rattle.mq_core.specs.Handling.{demand_of_job}
 use Rattle.mq_core.specs.StandardTable.{run_of}
 use Rattle.mq_core.specs.declared.model.Fate.{Fate}
 use Rattle.mq_core.specs.declared.model.Fate.TheVariants.{Departs}

@@ -1,14 +1,16 @@
 use Rattle.std.proofs.Common.{◌≡◌, ℕ, zero, suc, ◌<◌, Bool, true, false, cond, eqb, List, [], ◌∷◌, map, length, Some, sym, refl, ap, ◌∙◌, arith, zero-add}
 use Rattle.std.specs.Prelude.{slice_get}
 use Rattle.mq_core.specs.ColumnLaws.{NodesAreColumns, jobs_of, arrives_of}
-use Rattle.mq_core.specs.Columns.{lindley, column_fates, column_visits, column_stream, founds_of, routes_from, column_outs, picked, time_of_fate}
+use Rattle.mq_core.specs.Columns.{column_fates, column_visits, column_stream, founds_of, routes_from, column_outs, picked, time_of_fate}
+use Rattle.mq_core.specs.Recurrences.{lindley}
 use Rattle.mq_core.specs.Fates.{fate_by}
 use Rattle.mq_core.specs.Laws.{stream_of}
 use Rattle.mq_core.specs.Local.{Local}
 use Rattle.mq_core.specs.Machine.{Visit, Emission, Station}
 use Rattle.mq_core.specs.Results.{fates_from, visits_of, stream_from}
 use Rattle.mq_core.specs.Served.{served, served_from, passed_from, flow_of}
-use Rattle.mq_core.specs.Standard.{demand_of_job, output_by}
+use Rattle.mq_core.specs.Handling.{demand_of_job}
+use Rattle.mq_core.specs.Standard.{output_by}
 use Rattle.mq_core.specs.StandardTable.{run_of}
 use Rattle.mq_core.specs.Tallies.{arrival_or, found_or, still_there}
 use Rattle.mq_core.specs.declared.model.Demand.{Demand}

@@ -7,7 +7,8 @@ use Rattle.mq_core.specs.Event.{Event, node_of, earliest}
 use Rattle.mq_core.specs.Event.Event.{Arrive, Finish}
 use Rattle.mq_core.specs.Machine.{Visit, Emission, Station, opened, emissions_of, emission_of}
 use Rattle.mq_core.specs.Local.{Local}
-use Rattle.mq_core.specs.Standard.{kind_on, node_on, joins, front_leaves, latest, output_by, kind_opening, node_opening, standard_opening, standard_handle, standard_jobs, node_jobs, jobs_in}
+use Rattle.mq_core.specs.Handling.{joins, front_leaves, latest}
+use Rattle.mq_core.specs.Standard.{kind_on, node_on, output_by, kind_opening, node_opening, standard_opening, standard_handle, standard_jobs, node_jobs, jobs_in}
 use Rattle.mq_core.specs.StandardTable.{standard, run_of}
 use Rattle.mq_core.specs.OnTime.{standard-on_time}
 use Rattle.mq_core.specs.Served.{served, served_from, passed_from}

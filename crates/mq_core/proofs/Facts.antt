@@ -6,7 +6,8 @@ use Rattle.mq_core.specs.Event.{Event, time_of, earliest}
 use Rattle.mq_core.specs.Event.Event.{Arrive, Finish}
 use Rattle.mq_core.specs.Machine.{Visit, Emission, Reaction, Table, Station, finishes_of, emissions_of, emission_of}
 use Rattle.mq_core.specs.Local.{Local}
-use Rattle.mq_core.specs.Standard.{latest, kind_on, kind_opening, node_opening, node_on, output_by, standard_opening, standard_handle, standard_jobs}
+use Rattle.mq_core.specs.Handling.{latest}
+use Rattle.mq_core.specs.Standard.{kind_on, kind_opening, node_opening, node_on, output_by, standard_opening, standard_handle, standard_jobs}
 use Rattle.mq_core.specs.StandardTable.{standard}
 use Rattle.mq_core.specs.Served.{passed_from}
 use Rattle.mq_core.specs.declared.model.Kind.{Kind}

@@ -20,6 +20,7 @@ pub mod Areas
 pub mod Tallied
 pub mod Plans
 pub mod NetworkRuns
+pub mod RecurrenceRows
 pub mod WorkedRows
 pub mod Founds
 pub mod Busy

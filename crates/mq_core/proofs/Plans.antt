@@ -11,7 +11,7 @@ use Rattle.mq_core.specs.Names.{is_name}
 use Rattle.mq_core.specs.PlanLaws.{NamesOutput, NodesAreInLimits, IsRankedBehind, OrdersRank, RowsTellDemands}
 use Rattle.mq_core.specs.Results.{servers_in}
 use Rattle.mq_core.specs.Sound.{is_output, is_sound_count, is_sound_demand, is_sound_kind, is_within, outputs_in, rises}
-use Rattle.mq_core.specs.Standard.{demand_of_job, value_of, column_value}
+use Rattle.mq_core.specs.Handling.{demand_of_job, value_of, column_value}
 use Rattle.mq_core.specs.Theorems.{IsReadFor}
 use Rattle.mq_core.specs.Wiring.{first_ready, has, inputs_of, ranked_after}
 use Rattle.mq_core.specs.declared.model.Demand.{Demand}

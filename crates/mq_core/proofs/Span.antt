@@ -5,7 +5,8 @@ use Rattle.mq_core.specs.Event.{Event, earliest}
 use Rattle.mq_core.specs.Event.Event.{Arrive, Finish}
 use Rattle.mq_core.specs.Machine.{Visit, Emission, Table, State, Station, after, happens, until, opened, emissions_at, emissions_of, emission_of}
 use Rattle.mq_core.specs.Local.{Local}
-use Rattle.mq_core.specs.Standard.{front_leaves, node_on, kind_on, standard_handle, standard_jobs}
+use Rattle.mq_core.specs.Handling.{front_leaves}
+use Rattle.mq_core.specs.Standard.{node_on, kind_on, standard_handle, standard_jobs}
 use Rattle.mq_core.specs.StandardTable.{standard, run_of}
 use Rattle.mq_core.specs.OnTime.{standard-on_time}
 use Rattle.mq_core.specs.Laws.{is_finish_at, IsPunctual, IsFeedForward}

@@ -4,7 +4,8 @@ use Rattle.std.specs.Prelude.{slice_get}
 use Rattle.mq_core.specs.Event.{Event}
 use Rattle.mq_core.specs.Machine.{Release, emissions_of, emission_of, Visit, Emission, Station}
 use Rattle.mq_core.specs.Local.{Local}
-use Rattle.mq_core.specs.Standard.{front_leaves, kind_on, node_on, latest, standard_handle, jobs_in, node_jobs, output_by, standard_jobs}
+use Rattle.mq_core.specs.Handling.{front_leaves, latest}
+use Rattle.mq_core.specs.Standard.{kind_on, node_on, standard_handle, jobs_in, node_jobs, output_by, standard_jobs}
 use Rattle.mq_core.specs.StandardTable.{standard}
 use Rattle.mq_core.specs.OnTime.{standard-on_time}
 use Rattle.mq_core.specs.Served.{served, served_from, passed_from}

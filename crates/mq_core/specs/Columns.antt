@@ -4,9 +4,11 @@ use Rattle.std.specs.List.{zip}
 use Rattle.mq_core.specs.Laws.{Rises, in_order_of}
 use Rattle.mq_core.specs.Local.{Local}
 use Rattle.mq_core.specs.Machine.{State}
+use Rattle.mq_core.specs.Recurrences.{lindley}
 use Rattle.mq_core.specs.Results.{Totals, Late, late_fate, bare_time, is_lost, visits_of, stream_from}
 use Rattle.mq_core.specs.Sound.{outputs_in}
-use Rattle.mq_core.specs.Standard.{demand_of_job, output_by}
+use Rattle.mq_core.specs.Handling.{demand_of_job}
+use Rattle.mq_core.specs.Standard.{output_by}
 use Rattle.mq_core.specs.StandardTable.{run_of}
 use Rattle.mq_core.specs.declared.model.Fate.{Fate}
 use Rattle.mq_core.specs.declared.model.Fate.TheVariants.{Departs, Lost}
@@ -46,12 +48,6 @@ pub record IsSoundLoad (times demands : List ℕ) : Type 0 where
   pub each : length demands ≡ length times
   pub early : All (λ time. time ≤ 2 ^ 60) times
   pub small : All (λ demand. demand ≤ 2 ^ 36) demands
-
--- Departures. A server's, by Lindley's recurrence: from the last departure, the arrivals and the demands.
-abbrev pub lindley : ℕ → List ℕ → List ℕ → List ℕ
-lindley last [] demands = []
-lindley last (arrive ∷ arrives) [] = []
-lindley last (arrive ∷ arrives) (demand ∷ demands) = (max arrive last + demand) ∷ lindley (max arrive last + demand) arrives demands
 
 -- the fates of the visits of a node, which has these jobs at these times
 abbrev pub column_fates : Rows → Kind → List ℕ → List ℕ → List Fate

@@ -3,7 +3,8 @@ use Rattle.std.specs.Prelude.{◌≤◌, ◌+◌, ◌⊎◌, ◌≡◌, ℕ, ◌
 use Rattle.std.specs.Option.{option_map}
 use Rattle.mq_core.specs.Machine.{Visit, Emission, State}
 use Rattle.mq_core.specs.Local.{Local}
-use Rattle.mq_core.specs.Standard.{demand_of_visit, standard_jobs}
+use Rattle.mq_core.specs.Handling.{demand_of_visit}
+use Rattle.mq_core.specs.Standard.{standard_jobs}
 use Rattle.mq_core.specs.StandardTable.{run_of}
 use Rattle.mq_core.specs.Tallies.{greatest_below, sum_below, sojourns, found_or, still_there, arrival_or}
 use Rattle.mq_core.specs.Theorems.{IsReadFor}

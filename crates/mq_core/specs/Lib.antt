@@ -7,10 +7,16 @@ pub mod Wiring
 pub mod Run
 pub mod Theorems
 pub mod Local
+pub mod Handling
+pub mod DelayHandler
+pub mod LossHandler
+pub mod TandemHandler
+pub mod ForkJoinHandler
 pub mod Standard
 pub mod OnTime
 pub mod StandardTable
 pub mod Asked
+pub mod Recurrences
 pub mod Served
 pub mod Fates
 pub mod Alone

@@ -5,7 +5,8 @@ use Rattle.mq_core.specs.Event.{Event}
 use Rattle.mq_core.specs.Event.Event.{Arrive, Finish}
 use Rattle.mq_core.specs.Machine.{Visit, Service}
 use Rattle.mq_core.specs.Local.{Local}
-use Rattle.mq_core.specs.Standard.{joins, front_begins, front_leaves, kind_on, node_on, latest, standard_handle}
+use Rattle.mq_core.specs.Handling.{joins, front_begins, front_leaves, latest}
+use Rattle.mq_core.specs.Standard.{kind_on, node_on, standard_handle}
 use Rattle.mq_core.specs.Run.{IsOnTime}
 use Rattle.mq_core.specs.declared.model.Demand.{Demand}
 use Rattle.mq_core.specs.declared.model.Kind.{Kind}

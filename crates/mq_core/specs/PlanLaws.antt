@@ -3,7 +3,7 @@ use Rattle.std.specs.Prelude.{◌≡◌, ◌≤◌, ◌<◌, ◌^◌, ℕ, false
 use Rattle.mq_core.specs.Asked.{HasDemand, HasDemands, HasValue}
 use Rattle.mq_core.specs.Results.{servers_in}
 use Rattle.mq_core.specs.Sound.{is_sound_demand, is_sound_kind, outputs_in}
-use Rattle.mq_core.specs.Standard.{demand_of_job, value_of}
+use Rattle.mq_core.specs.Handling.{demand_of_job, value_of}
 use Rattle.mq_core.specs.Theorems.{IsReadFor}
 use Rattle.mq_core.specs.Wiring.{has, inputs_of}
 use Rattle.mq_core.specs.declared.model.Demand.{Demand}

@@ -1,6 +1,7 @@
 use Rattle.std.specs.Prelude.{ℕ, suc, ◌+◌, max, List, [], ◌∷◌}
 use Rattle.mq_core.specs.Machine.{Visit, Emission}
-use Rattle.mq_core.specs.Standard.{demand_of_job, output_by}
+use Rattle.mq_core.specs.Handling.{demand_of_job}
+use Rattle.mq_core.specs.Standard.{output_by}
 use Rattle.mq_core.specs.declared.model.Demand.{Demand}
 use Rattle.mq_core.specs.declared.model.Kind.{Kind}
 use Rattle.mq_core.specs.declared.model.Kind.TheVariants.{Source, Server, Split}
@@ -22,6 +23,13 @@ abbrev pub passed_from : (Visit → ℕ → ℕ) → ℕ → List Visit → List
 passed_from out position [] = []
 passed_from out position (visit ∷ visits) =
     record { out = out visit position; position = position; job = visit.job; time = visit.arrive } ∷ passed_from out (suc position) visits
+
+-- what these visits let out by output 0 at these times, the first at this position
+abbrev pub leaving_from : ℕ → List ℕ → List Visit → List Emission
+leaving_from position [] visits = []
+leaving_from position (time ∷ times) [] = []
+leaving_from position (time ∷ times) (visit ∷ visits) =
+    record { out = 0; position = position; job = visit.job; time = time } ∷ leaving_from (suc position) times visits
 
 -- what these visits let out at a node of each kind, in the order of leaving
 abbrev pub flow_of : Rows → Kind → List Visit → List Emission

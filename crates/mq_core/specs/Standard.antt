@@ -1,10 +1,10 @@
-use Rattle.std.specs.Prelude.{ℕ, ◌+◌, ◌-◌, ◌%◌, nat_le, List, [], ◌∷◌, ◌++◌, length, count_by, Option, Some, None, slice_get, slice_index}
+use Rattle.std.specs.Prelude.{ℕ, ◌%◌, nat_le, List, length, count_by, Option, Some, None, slice_get}
 use Rattle.mq_core.specs.Event.{Event}
 use Rattle.mq_core.specs.Event.Event.{Arrive, Finish}
-use Rattle.mq_core.specs.Machine.{Visit, Service, Reaction}
+use Rattle.mq_core.specs.Machine.{Visit, Reaction}
 use Rattle.mq_core.specs.Local.{Local, empty}
+use Rattle.mq_core.specs.Handling.{value_of, latest, quiet, passes_on, joins, front_leaves, one_if_some}
 use Rattle.mq_core.specs.declared.model.Demand.{Demand}
-use Rattle.mq_core.specs.declared.model.Demand.TheVariants.{Column, Fixed}
 use Rattle.mq_core.specs.declared.model.Route.{Route}
 use Rattle.mq_core.specs.declared.model.Route.TheVariants.{Modulo, Turn, Cut}
 use Rattle.mq_core.specs.declared.model.Kind.{Kind}
@@ -12,45 +12,6 @@ use Rattle.mq_core.specs.declared.model.Kind.TheVariants.{Source, Server, Split}
 use Rattle.mq_core.specs.declared.model.Node.{Node}
 use Rattle.mq_core.specs.declared.model.Plan.{Plan}
 use Rattle.mq_core.specs.declared.model.Rows.{Rows}
-
--- the value of a job in a column
-abbrev pub column_value : Option (List ℕ) → ℕ → ℕ
-column_value None job = 0
-column_value (Some values) job = slice_index values job
-
--- the value of a job in the column of this number
-abbrev pub value_of : Rows → ℕ → ℕ → ℕ
-value_of rows column job = column_value (slice_get rows.demands column) job
-
--- what a job asks for
-abbrev pub demand_of_job : Rows → Demand → ℕ → ℕ
-demand_of_job rows (Column column) job = value_of rows column job
-demand_of_job rows (Fixed demand) job = demand
-
--- the demand of the job at a position
-abbrev pub demand_of_visit : Rows → Demand → Option Visit → ℕ
-demand_of_visit rows demand None = 0
-demand_of_visit rows demand (Some visit) = demand_of_job rows demand visit.job
-
--- the demand of the visit at a position
-abbrev pub demand_at : Rows → Demand → List Visit → ℕ → ℕ
-demand_at rows demand visits position = demand_of_visit rows demand (slice_get visits position)
-
--- the position of the latest visit
-abbrev pub latest : List Visit → ℕ
-latest visits = length visits - 1
-
--- nothing happens
-abbrev pub quiet : Local → Reaction Local
-quiet local = record { local = local; releases = []; services = [] }
-
--- a position goes on at once
-abbrev pub passes_on : Local → ℕ → ℕ → Reaction Local
-passes_on local out position = record { local = local; releases = record { out = out; position = position } ∷ []; services = [] }
-
--- a service that starts now
-abbrev pub begins : Rows → Demand → List Visit → ℕ → ℕ → Service
-begins rows demand visits now position = record { server = 0; position = position; time = now + demand_at rows demand visits position }
 
 -- a source lets each job out as it comes
 abbrev pub source_on : List Visit → Local → Event → Reaction Local
@@ -78,28 +39,6 @@ abbrev pub split_on : Rows → Route → List Visit → Local → Event → Reac
 split_on rows route visits local (Arrive time node port job) = passes_on local (output_by rows route job (latest visits)) (latest visits)
 split_on rows route visits local (Finish time node server position) = quiet local
 
--- the front of a queue begins its service
-abbrev pub front_begins : Rows → Demand → List Visit → ℕ → List ℕ → List Service
-front_begins rows demand visits now [] = []
-front_begins rows demand visits now (position ∷ queue) = begins rows demand visits now position ∷ []
-
--- the position joins the queue, and begins if it is alone
-abbrev pub joins : Rows → Demand → List Visit → Local → ℕ → List ℕ → ℕ → Reaction Local
-joins rows demand visits local now [] position =
-    record { local = record local { queue = position ∷ [] }; releases = []; services = begins rows demand visits now position ∷ [] }
-joins rows demand visits local now (front ∷ queue) position =
-    record { local = record local { queue = (front ∷ queue) ++ position ∷ [] }; releases = []; services = [] }
-
--- the front leaves, and the next begins
-abbrev pub front_leaves : Rows → Demand → List Visit → Local → ℕ → List ℕ → Reaction Local
-front_leaves rows demand visits local now [] = quiet local
-front_leaves rows demand visits local now (front ∷ queue) =
-    record {
-      local = record local { queue = queue };
-      releases = record { out = 0; position = front } ∷ [];
-      services = front_begins rows demand visits now queue;
-    }
-
 -- a server: an arrival joins the queue, and at a finish the front leaves
 abbrev pub server_on : Rows → Demand → List Visit → Local → ℕ → Event → Reaction Local
 server_on rows demand visits local now (Arrive time node port job) = joins rows demand visits local now local.queue (latest visits)
@@ -119,11 +58,6 @@ kind_opening _ = empty
 abbrev pub jobs_in : Kind → List Visit → Local → ℕ
 jobs_in (Server demand) visits local = length local.queue
 jobs_in _ visits local = 0
-
--- 1 where the queue holds a job
-abbrev pub one_if_some : List ℕ → ℕ
-one_if_some [] = 0
-one_if_some (front ∷ queue) = 1
 
 -- the number of its working servers
 abbrev pub working_in : Kind → Local → ℕ

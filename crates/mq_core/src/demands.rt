@@ -1,7 +1,7 @@
 ghost use Rattle.std.specs.Prelude.{◌≡◌};
 ghost use Rattle.mq_core.specs.Asked.{HasDemand, HasDemands};
 ghost use Rattle.mq_core.specs.Results.{bare_time};
-ghost use Rattle.mq_core.specs.Standard.{demand_of_job};
+ghost use Rattle.mq_core.specs.Handling.{demand_of_job};
 
 use crate::model::{Demand, Kind, Rows};
 

@@ -34,6 +34,15 @@ pub enum Route {
     Cut { column: u8, thresholds: List<u64> },
 }
 
+/// A stage of a tandem: one server, and the places before and at it.
+#[derive(Clone, Copy)]
+pub struct Stage {
+    /// How many jobs the stage holds, with the one in service, 1 to 4; 0 at the first stage, which
+    /// has an unlimited queue.
+    pub places: u8,
+    pub demand: Demand,
+}
+
 /// What a node is.
 #[derive(Drop)]
 pub enum Kind {

@@ -2,7 +2,8 @@
 #![tactic(auto)]
 
 ghost use Rattle.std.specs.Prelude.{◌≡◌, ◌+◌, ◌*◌, ◌^◌, ◌≤◌, IfOk};
-ghost use Rattle.mq_core.specs.Columns.{lindley, IsSoundLoad};
+ghost use Rattle.mq_core.specs.Columns.{IsSoundLoad};
+ghost use Rattle.mq_core.specs.Recurrences.{lindley};
 
 use mq_base::{List, OutOfMemory};
 use mq_core::Stream;

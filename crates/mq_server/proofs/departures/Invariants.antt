@@ -1,5 +1,5 @@
 use Rattle.std.proofs.Common.{◌≡◌, ◌+◌, ◌*◌, ◌^◌, ◌≤◌, ◌++◌, drop}
-use Rattle.mq_core.specs.Columns.{lindley}
+use Rattle.mq_core.specs.Recurrences.{lindley}
 use Rattle.mq_server.proofs.departures.Given as goal
 
 -- the departures so far and those of what is left are all

@@ -1,5 +1,5 @@
 use Rattle.std.proofs.Common.{ap, ◌∙◌, ◌++◌, ◌∷◌, []}
-use Rattle.mq_core.specs.Standard.{demand_of_job}
+use Rattle.mq_core.specs.Handling.{demand_of_job}
 use Rattle.mq_engine.proofs.Lists.{map-more}
 use Rattle.mq_engine.proofs.stations.demands_of.Goals as goal
 

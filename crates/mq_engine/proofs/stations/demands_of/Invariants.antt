@@ -1,5 +1,5 @@
 use Rattle.std.proofs.Common.{◌≡◌, map, take}
-use Rattle.mq_core.specs.Standard.{demand_of_job}
+use Rattle.mq_core.specs.Handling.{demand_of_job}
 use Rattle.mq_engine.proofs.stations.demands_of.Given as goal
 
 abbrev pub invariant-loop-at : goal.invariant-loop-at

@@ -1,0 +1,33 @@
+-- The recurrences of the stations, computed on cases worked by hand.
+use Rattle.std.proofs.Common.{◌≡◌, ℕ, List, [], ◌∷◌, refl}
+use Rattle.mq_core.specs.Recurrences.{lindley, delayed, loss_fates, fork_departs, tandem_departs}
+use Rattle.mq_core.specs.declared.model.Fate.{Fate}
+use Rattle.mq_core.specs.declared.model.Fate.TheVariants.{Departs, Lost}
+
+server-row : lindley 0 (0 ∷ 1 ∷ 2 ∷ []) (4 ∷ 1 ∷ 3 ∷ []) ≡ 4 ∷ 5 ∷ 8 ∷ []
+server-row = refl
+
+delay-row : delayed (0 ∷ 1 ∷ []) (5 ∷ 1 ∷ []) ≡ 5 ∷ 2 ∷ []
+delay-row = refl
+
+-- every other arrival is lost, and one that comes when its place is left is admitted
+loss-row : loss_fates 1 [] (0 ∷ 1 ∷ 2 ∷ 3 ∷ []) (2 ∷ 2 ∷ 2 ∷ 2 ∷ []) ≡ Departs 2 ∷ Lost ∷ Departs 4 ∷ Lost ∷ []
+loss-row = refl
+
+-- the calls at a trunk of two places
+trunk-row : loss_fates 2 [] (2 ∷ 3 ∷ 6 ∷ 7 ∷ 9 ∷ 10 ∷ []) (6 ∷ 5 ∷ 4 ∷ 3 ∷ 2 ∷ 1 ∷ []) ≡ Departs 8 ∷ Departs 13 ∷ Lost ∷ Lost ∷ Departs 15 ∷ Lost ∷ []
+trunk-row = refl
+
+fork-row : fork_departs (0 ∷ 1 ∷ []) (((2 ∷ 2 ∷ []) ∷ []) ∷ ((3 ∷ 3 ∷ []) ∷ []) ∷ []) ≡ 3 ∷ 6 ∷ []
+fork-row = refl
+
+-- a branch of two servers beside one of a single server
+series-row : fork_departs (0 ∷ 1 ∷ []) (((1 ∷ 1 ∷ []) ∷ (2 ∷ 2 ∷ []) ∷ []) ∷ ((4 ∷ 4 ∷ []) ∷ []) ∷ []) ≡ 4 ∷ 8 ∷ []
+series-row = refl
+
+tandem-row : tandem_departs (0 ∷ 1 ∷ []) ([] ∷ [] ∷ []) (0 ∷ 0 ∷ 0 ∷ []) ((1 ∷ 1 ∷ 1 ∷ []) ∷ (3 ∷ 3 ∷ 3 ∷ []) ∷ []) ≡ 4 ∷ 7 ∷ 10 ∷ []
+tandem-row = refl
+
+-- the second job is done early at the first stage and stays there, so the third begins late
+blocked-row : tandem_departs (0 ∷ 1 ∷ []) ([] ∷ [] ∷ []) (0 ∷ 0 ∷ 0 ∷ []) ((1 ∷ 1 ∷ 5 ∷ []) ∷ (3 ∷ 1 ∷ 1 ∷ []) ∷ []) ≡ 4 ∷ 5 ∷ 10 ∷ []
+blocked-row = refl

@@ -1,0 +1,102 @@
+-- When jobs depart from a station, from their arrivals and their demands, by position.
+use Rattle.std.specs.Prelude.{ℕ, ◌+◌, ◌-◌, max, nat_le, Bool, true, if◌then◌else◌, List, [], ◌∷◌, map, Option, Some, None, slice_get}
+use Rattle.mq_core.specs.declared.model.Fate.{Fate}
+use Rattle.mq_core.specs.declared.model.Fate.TheVariants.{Departs, Lost}
+
+-- from a server, by Lindley's recurrence: from the last departure, the arrivals and the demands
+abbrev pub lindley : ℕ → List ℕ → List ℕ → List ℕ
+lindley last [] demands = []
+lindley last (arrive ∷ arrives) [] = []
+lindley last (arrive ∷ arrives) (demand ∷ demands) = (max arrive last + demand) ∷ lindley (max arrive last + demand) arrives demands
+
+-- from a delay: each leaves its demand after it came
+abbrev pub delayed : List ℕ → List ℕ → List ℕ
+delayed [] demands = []
+delayed (arrive ∷ arrives) [] = []
+delayed (arrive ∷ arrives) (demand ∷ demands) = (arrive + demand) ∷ delayed arrives demands
+
+-- a time, or 0 where there is none
+abbrev pub time_or_none : Option ℕ → ℕ
+time_or_none None = 0
+time_or_none (Some time) = time
+
+-- no time, or one that is past
+abbrev pub is_past : ℕ → Option ℕ → Bool
+is_past now None = true
+is_past now (Some time) = nat_le time now
+
+-- an arrival is admitted where fewer than all places were taken before it, or the last admitted but as many as the places
+-- has left by then; these are the departures of those admitted before it, the latest first
+abbrev pub is_admitted : ℕ → List ℕ → ℕ → Bool
+is_admitted places left arrive = is_past arrive (slice_get left (places - 1))
+
+-- how the arrivals at a loss station fare: those admitted are served in turn, the others are lost
+abbrev pub loss_fates : ℕ → List ℕ → List ℕ → List ℕ → List Fate
+loss_fates places left [] demands = []
+loss_fates places left (arrive ∷ arrives) [] = []
+loss_fates places left (arrive ∷ arrives) (demand ∷ demands) =
+    if is_admitted places left arrive
+    then (let time = max arrive (time_or_none (slice_get left 0)) + demand in Departs time ∷ loss_fates places (time ∷ left) arrives demands)
+    else (Lost ∷ loss_fates places left arrives demands)
+
+-- from servers in series: what leaves one arrives at the next
+abbrev pub in_series : List ℕ → List (List ℕ) → List ℕ
+in_series arrive [] = arrive
+in_series arrive (demands ∷ more) = in_series (lindley 0 arrive demands) more
+
+-- place by place the later of two times
+abbrev pub later_of : List ℕ → List ℕ → List ℕ
+later_of [] times = []
+later_of (time ∷ times) [] = []
+later_of (time ∷ times) (other ∷ others) = max time other ∷ later_of times others
+
+-- from a fork-join: a job leaves once it has gone through every branch, each of servers in series
+abbrev pub fork_departs : List ℕ → List (List (List ℕ)) → List ℕ
+fork_departs arrive [] = arrive
+fork_departs arrive (branch ∷ branches) = later_of (in_series arrive branch) (fork_departs arrive branches)
+
+-- when a stage has room for one more: when the job left it that came as many before as it has places. These are its places
+-- and the departures from it, the latest first, and then those of the stages behind it; behind the last there is always room
+abbrev pub room_in : List ℕ → List (List ℕ) → ℕ
+room_in [] left = 0
+room_in (places ∷ more) [] = 0
+room_in (places ∷ more) (times ∷ left) = time_or_none (slice_get times (places - 1))
+
+-- when a job that comes at this time leaves each of these stages, by their places, its demand at each, and the departures
+-- from each before it, the latest first: it is served behind the job before it, and then stays until the next stage has room
+abbrev pub stage_departs : ℕ → List ℕ → List ℕ → List (List ℕ) → List ℕ
+stage_departs came [] demands left = []
+stage_departs came (places ∷ more) [] left = []
+stage_departs came (places ∷ more) (demand ∷ demands) [] = []
+stage_departs came (places ∷ more) (demand ∷ demands) (times ∷ left) =
+    let time = max (max came (time_or_none (slice_get times 0)) + demand) (room_in more left) in
+    time ∷ stage_departs time more demands left
+
+-- each of these departures before those of its stage
+abbrev pub each_before : List ℕ → List (List ℕ) → List (List ℕ)
+each_before [] left = []
+each_before (time ∷ times) [] = []
+each_before (time ∷ times) (earlier ∷ left) = (time ∷ earlier) ∷ each_before times left
+
+-- the last of some times, or 0
+abbrev pub last_time : List ℕ → ℕ
+last_time [] = 0
+last_time (time ∷ []) = time
+last_time (time ∷ (next ∷ times)) = last_time (next ∷ times)
+
+-- the first item of each list, or 0
+abbrev pub firsts : List (List ℕ) → List ℕ
+firsts lists = map (λ list. time_or_none (slice_get list 0)) lists
+
+-- a list without its first item
+abbrev pub rest : List ℕ → List ℕ
+rest [] = []
+rest (item ∷ items) = items
+
+-- from the last stage of a tandem, by the places of the stages, the departures from each so far, the latest first, the
+-- arrivals, and the demands at each stage
+abbrev pub tandem_departs : List ℕ → List (List ℕ) → List ℕ → List (List ℕ) → List ℕ
+tandem_departs places left [] demands = []
+tandem_departs places left (arrive ∷ arrives) demands =
+    let times = stage_departs arrive places (firsts demands) left in
+    last_time times ∷ tandem_departs places (each_before times left) arrives (map rest demands)
