@@ -4,7 +4,7 @@ use Rattle.std.specs.Prelude.{slice_get, max}
 use Rattle.std.specs.List.{AllByRecursion as Each, zip}
 use Rattle.mq_core.specs.ColumnLaws.{DepartsInTime, LeavesFrom, jobs_of, arrives_of}
 use Rattle.mq_core.specs.Columns.{column_fates}
-use Rattle.mq_core.specs.Recurrences.{lindley}
+use Rattle.mq_core.specs.Recurrences.{lindley, delayed}
 use Rattle.mq_core.specs.Machine.{Visit}
 use Rattle.mq_core.specs.Results.{fates_from}
 use Rattle.mq_core.specs.Handling.{demand_of_job}
@@ -12,7 +12,7 @@ use Rattle.mq_core.specs.StandardTable.{run_of}
 use Rattle.mq_core.specs.declared.model.Fate.{Fate}
 use Rattle.mq_core.specs.declared.model.Fate.TheVariants.{Departs}
 use Rattle.mq_core.specs.declared.model.Kind.{Kind}
-use Rattle.mq_core.specs.declared.model.Kind.TheVariants.{Source, Server, Split}
+use Rattle.mq_core.specs.declared.model.Kind.TheVariants.{Source, Server, Delay, Split}
 use Rattle.mq_core.specs.declared.model.Rows.{Rows}
 use Rattle.mq_core.specs.declared.model.Visits.{Visits}
 use Rattle.mq_core.proofs.ColumnsEqual.{nodes-are-columns}
@@ -34,9 +34,14 @@ when-served : (rows : Rows) (last : ℕ) (demand : ℕ → ℕ) (visits : List V
 when-served rows last demand [] = record { even = omega arith; each = tt }
 when-served rows last demand (x ∷ xs) = cons x.arrive (max x.arrive last + demand x.job) (arrives_of xs) _ (omega arith) (when-served rows (max x.arrive last + demand x.job) demand xs)
 
+when-delayed : (demand : ℕ → ℕ) (visits : List Visit) → FatesInTime (arrives_of visits) (map (λ time. Departs time) (delayed (arrives_of visits) (map demand (jobs_of visits))))
+when-delayed demand [] = record { even = omega arith; each = tt }
+when-delayed demand (x ∷ xs) = cons x.arrive (x.arrive + demand x.job) (arrives_of xs) _ (omega arith) (when-delayed demand xs)
+
 fates-in-time : (rows : Rows) (kind : Kind) (visits : List Visit) → FatesInTime (arrives_of visits) (column_fates rows kind (jobs_of visits) (arrives_of visits))
 fates-in-time rows Source visits = at-once (arrives_of visits)
 fates-in-time rows (Server demand) visits = when-served rows 0 (demand_of_job rows demand) visits
+fates-in-time rows (Delay demand) visits = when-delayed (demand_of_job rows demand) visits
 fates-in-time rows (Split route) visits = at-once (arrives_of visits)
 
 by-position : (arrive : List ℕ) (fate : List Fate) → Each (λ (p : ℕ × Fate). LeavesFrom p.0 p.1) (zip arrive fate) → (k a d : ℕ) → slice_get arrive k ≡ Some a → slice_get fate k ≡ Some (Departs d) → a ≤ d

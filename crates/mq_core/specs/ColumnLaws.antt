@@ -5,7 +5,7 @@ use Rattle.mq_core.specs.Laws.{Rises}
 use Rattle.mq_core.specs.Local.{Local}
 use Rattle.mq_core.specs.Machine.{Visit, Station, State}
 use Rattle.mq_core.specs.Results.{visits_of, stream_from}
-use Rattle.mq_core.specs.Served.{flow_of}
+use Rattle.mq_core.specs.Served.{flow_of, in_leaving_order}
 use Rattle.mq_core.specs.StandardTable.{run_of}
 use Rattle.mq_core.specs.Theorems.{IsReadFor}
 use Rattle.mq_core.specs.Wiring.{is_source_kind}
@@ -19,12 +19,12 @@ use Rattle.mq_core.specs.declared.model.Plan.{Plan}
 use Rattle.mq_core.specs.declared.model.Rows.{Rows}
 use Rattle.mq_core.specs.declared.model.Visits.{Visits}
 
--- what a node lets out is the recurrence of its kind over its visits
+-- what a node lets out is the recurrence of its kind over its visits, in the order of leaving
 abbrev pub NodesFlow : Type 0
 NodesFlow =
     (plan : Plan) (rows : Rows) → IsReadFor plan.net rows → (v : ℕ) (node : Node) → slice_get plan.net.nodes v ≡ Some node →
     let s = (run_of plan rows).stations v in
-    s.emitted ≡ flow_of rows node.kind s.visits
+    s.emitted ≡ in_leaving_order node.kind (flow_of rows node.kind s.visits)
 
 -- the jobs of these visits, and when they came
 abbrev pub jobs_of : List Visit → List ℕ

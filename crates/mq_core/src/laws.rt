@@ -1,7 +1,7 @@
 ghost use Rattle.mq_core.specs.Theorems.{EventsGoForward, ArrivalsAreRead, NodesRunAlone, VisitsAreArrivals};
 ghost use Rattle.mq_core.specs.NetworkRun.{RunsAreOfNetworks};
 ghost use Rattle.mq_core.specs.PlanLaws.{NodesAreInLimits, OrdersRank, RowsTellDemands};
-ghost use Rattle.mq_core.specs.Alone.{ServersServe, SourcesPassOn};
+ghost use Rattle.mq_core.specs.Alone.{NodesFlowAlone};
 ghost use Rattle.mq_core.specs.Fates.{AreasAreSojourns, BusyIsServices, FoundsAreCounts, PeakIsGreatest, RunEnds, SpanIsLatest};
 ghost use Rattle.mq_core.specs.ColumnLaws.{ArrivalsAreStreams, DepartsInTime, JobsAreRows, MergesTwice, NodesAreColumns, NodesFlow, StreamsRise, VisitsAreFew};
 ghost use Rattle.mq_core.specs.NumberLaws.{ExitsAreStreams, LateIsFirst, LateIsNone, OnTimeGrows, PastIsColumns, PastIsFirst, PastIsNone, SpanIsColumns, TotalsAreColumns};
@@ -35,14 +35,9 @@ pub fn areas_are_sojourns()
     ensures { AreasAreSojourns }
 {}
 
-/// A source alone lets each visit out when it came.
-pub fn sources_pass_on()
-    ensures { SourcesPassOn }
-{}
-
-/// A server alone lets each visit out by the recurrence.
-pub fn servers_serve()
-    ensures { ServersServe }
+/// A node alone lets out the recurrence of its kind over its visits, in the order of leaving.
+pub fn nodes_flow_alone()
+    ensures { NodesFlowAlone }
 {}
 
 /// Each visit found as many as the earlier ones that leave later than it came.
