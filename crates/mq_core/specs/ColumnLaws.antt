@@ -1,6 +1,6 @@
 use Rattle.std.specs.Prelude.{◌≡◌, ◌<◌, ◌≤◌, ⊤, ℕ, false, List, ◌++◌, length, map, slice_get, Some}
 use Rattle.std.specs.List.{AllByRecursion, zip, flat_map}
-use Rattle.mq_core.specs.Columns.{IsStream, by_first, column_visits, column_stream, pairs_of, rows_at, stream_in_order}
+use Rattle.mq_core.specs.Columns.{IsStream, by_first, column_fates, column_visits, column_stream, pairs_of, rows_at, stream_in_order}
 use Rattle.mq_core.specs.Laws.{Rises}
 use Rattle.mq_core.specs.Local.{Local}
 use Rattle.mq_core.specs.Machine.{Visit, Station, State}
@@ -89,6 +89,15 @@ JobsAreRows =
 abbrev pub LeavesFrom : ℕ → Fate → Type 0
 LeavesFrom arrive (Departs time) = arrive ≤ time
 LeavesFrom arrive Lost = ⊤
+
+-- as many fates as arrivals, and no departure before its arrival
+pub record FatesInTime (arrive : List ℕ) (fate : List Fate) : Type 0 where
+  pub even : length fate ≡ length arrive
+  pub each : AllByRecursion (λ (p : ℕ × Fate). LeavesFrom p.0 p.1) (zip arrive fate)
+
+-- the fates of jobs that come to a node at these times
+abbrev pub FatesAreInTime : Type 0
+FatesAreInTime = (rows : Rows) (kind : Kind) (job arrive : List ℕ) → length job ≡ length arrive → FatesInTime arrive (column_fates rows kind job arrive)
 
 -- the columns have one item a visit, and none departs before it came: item by item, and by position
 pub record IsInTime (visits : Visits) : Type 0 where

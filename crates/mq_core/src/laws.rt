@@ -3,7 +3,7 @@ ghost use Rattle.mq_core.specs.NetworkRun.{RunsAreOfNetworks};
 ghost use Rattle.mq_core.specs.PlanLaws.{NodesAreInLimits, OrdersRank, RowsTellDemands};
 ghost use Rattle.mq_core.specs.Alone.{NodesFlowAlone};
 ghost use Rattle.mq_core.specs.Fates.{AreasAreSojourns, BusyIsServices, FoundsAreCounts, PeakIsGreatest, RunEnds, SpanIsLatest};
-ghost use Rattle.mq_core.specs.ColumnLaws.{ArrivalsAreStreams, DepartsInTime, JobsAreRows, MergesTwice, NodesAreColumns, NodesFlow, OrdersKeepItems, StreamsRise, VisitsAreFew};
+ghost use Rattle.mq_core.specs.ColumnLaws.{ArrivalsAreStreams, DepartsInTime, FatesAreInTime, JobsAreRows, MergesTwice, NodesAreColumns, NodesFlow, OrdersKeepItems, StreamsRise, VisitsAreFew};
 ghost use Rattle.mq_core.specs.NumberLaws.{ExitsAreStreams, LateIsFirst, LateIsNone, OnTimeGrows, PastIsColumns, PastIsFirst, PastIsNone, SpanIsColumns, TotalsAreColumns};
 ghost use Rattle.mq_core.specs.RunLaws.{ColumnsMakeRuns, OutputsHaveStreams, RunsHaveColumns, StreamsMakeOutputs};
 
@@ -164,6 +164,11 @@ pub fn streams_rise()
 /// The job of each visit is a row.
 pub fn jobs_are_rows()
     ensures { JobsAreRows }
+{}
+
+/// No job departs from a node before it came.
+pub fn fates_are_in_time()
+    ensures { FatesAreInTime }
 {}
 
 /// No visit departs before it came, and the columns of a node have one item a visit.
