@@ -10,6 +10,7 @@ ghost use Rattle.mq_engine.specs.Turns.{AreTold, IsLeaving, IsLoad};
 
 use mq_base::{List, OutOfMemory};
 use mq_core::{Demand, Fate, Kind, Network, Route, Rows, Stream, demand_of};
+use mq_delay::delay;
 use mq_server::departures;
 use mq_split::split;
 use std::alloc::Global;
@@ -35,6 +36,7 @@ pub fn leaving(
     match kind {
         Kind::Source => passed_on(alloc, arrivals),
         Kind::Server(demand) => served(alloc, net, rows, demand, arrivals),
+        Kind::Delay(demand) => held(alloc, net, rows, demand, arrivals),
         Kind::Split(route) => routed(alloc, net, rows, route, arrivals),
     }
 }
@@ -65,6 +67,24 @@ fn served(
     let departs = departures(alloc, arrivals, &demands)?;
     let fates = fates_of(alloc, &departs)?;
     let streams = one_stream(alloc, &arrivals.job, departs)?;
+    Ok(Outflow { fates, streams })
+}
+
+// What leaves a delay.
+fn held(
+    alloc: Global,
+    net: &Network,
+    rows: &Rows,
+    demand: &Demand,
+    arrivals: &Stream,
+) -> Result<Outflow, OutOfMemory>
+    requires { IsLoad net.now rows.now (Kind.Delay demand.now) arrivals.now }
+    ensures { IfOk result (λ leaving. IsLeaving rows.now (Kind.Delay demand.now) arrivals.now leaving.fates leaving.streams) }
+{
+    let demands = demands_of(alloc, net, rows, demand, &arrivals.job)?;
+    let delayed = delay(alloc, arrivals, &demands)?;
+    let fates = fates_of(alloc, &delayed.departs)?;
+    let streams = only(alloc, delayed.leaving)?;
     Ok(Outflow { fates, streams })
 }
 
@@ -156,7 +176,14 @@ fn one_stream(
     ensures { IfOk result (λ streams. streams ≡ record { job = jobs.now; time = departs } ∷ []) }
 {
     let job = List::from_vec(Vec::from_slice(alloc, jobs.as_slice())?);
+    only(alloc, Stream { job, time: departs })
+}
+
+// The streams of a node with one output, of which this is the stream.
+fn only(alloc: Global, stream: Stream) -> Result<List<Stream>, OutOfMemory>
+    ensures { IfOk result (λ streams. streams ≡ stream ∷ []) }
+{
     let mut streams = List::new(alloc);
-    streams.push(Stream { job, time: departs })?;
+    streams.push(stream)?;
     Ok(streams)
 }
