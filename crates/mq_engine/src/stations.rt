@@ -13,7 +13,7 @@ use mq_core::{Demand, Fate, Kind, Network, Route, Rows, Stream, demand_of};
 use mq_delay::delay;
 use mq_server::departures;
 use mq_split::split;
-use std::alloc::Global;
+use std::alloc::{AllocError, Global};
 
 // What leaves a station: the fate of each arrival, and the streams by output.
 #[derive(Drop)]
@@ -117,11 +117,11 @@ fn demands_of(
     requires told { AreTold net.now rows.now jobs.now }
     ensures { IfOk result (λ demands. demands ≡ map (demand_of_job rows.now demand.now) jobs.now) }
 {
-    let mut demands = List::from_vec(Vec::with_capacity(alloc, jobs.len())?);
+    let mut demands = Vec::with_capacity(alloc, jobs.len())?;
     for at in 0..jobs.len() {
-        demands.push(demand_of(rows, demand, *jobs.get(at)))?;
+        demands.push_reserved(demand_of(rows, demand, *jobs.get(at)));
     }
-    Ok(demands)
+    Ok(List::from_vec(demands))
 }
 
 // The value of each job that the route looks at; by turns it looks at none.
@@ -136,11 +136,11 @@ fn values_of(
     requires told { AreTold net.now rows.now jobs.now }
     ensures { IfOk result (λ values. values ≡ map (route_value rows.now route.now) jobs.now) }
 {
-    let mut values = List::from_vec(Vec::with_capacity(alloc, jobs.len())?);
+    let mut values = Vec::with_capacity(alloc, jobs.len())?;
     for at in 0..jobs.len() {
-        values.push(value_by(net, rows, route, *jobs.get(at)))?;
+        values.push_reserved(value_by(net, rows, route, *jobs.get(at)));
     }
-    Ok(values)
+    Ok(List::from_vec(values))
 }
 
 fn value_by(net: &Network, rows: &Rows, route: &Route, job: u32) -> u64
@@ -160,11 +160,15 @@ fn value_by(net: &Network, rows: &Rows, route: &Route, job: u32) -> u64
 fn fates_of(alloc: Global, departs: &List<u64>) -> Result<List<Fate>, OutOfMemory>
     ensures { IfOk result (λ fates. fates ≡ map (λ time. Departs time) departs.now) }
 {
-    let mut fates = List::from_vec(Vec::with_capacity(alloc, departs.len())?);
-    for at in 0..departs.len() {
-        fates.push(Fate::Departs(*departs.get(at)))?;
-    }
-    Ok(fates)
+    let fates = departing(alloc, departs.as_slice())?;
+    Ok(List::from_vec(fates))
+}
+
+// A departure at each of these times.
+fn departing(alloc: Global, times: &[u64]) -> Result<Vec<Fate>, AllocError>
+    ensures { IfOk result (λ fates. fates.items ≡ map (λ time. Departs time) times.now) }
+{
+    times.iter().map(|time| Fate::Departs(*time)).collect(alloc)
 }
 
 // The streams of a node with one output, by which these jobs leave at these times.
