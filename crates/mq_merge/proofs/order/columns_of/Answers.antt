@@ -1,8 +1,8 @@
 use Rattle.std.proofs.Common.{◌≡◌, ℕ, ◌∙◌, map}
 use Rattle.std.specs.List.{zip}
-use Rattle.mq_engine.proofs.Lists.{map-all, zip-map}
-use Rattle.mq_engine.proofs.Sorted.{rising-stream}
-use Rattle.mq_engine.proofs.arrivals.columns_of.Goals as goal
+use Rattle.mq_merge.proofs.Lists.{map-all, zip-map}
+use Rattle.mq_merge.proofs.Sorted.{rising-stream}
+use Rattle.mq_merge.proofs.order.columns_of.Goals as goal
 
 times : (c : goal.After-loop-item) → c.loop-item.time ≡ map (λ (p : ℕ × ℕ). p.0) c.args.items.now
 times c = map-all (λ (p : ℕ × ℕ). p.0) c.args.items.now c.loop-item.item-index c.loop-item.time c.loop-item-test.false c.loop-item.invariant.times

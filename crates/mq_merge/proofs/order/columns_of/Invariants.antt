@@ -1,5 +1,5 @@
 use Rattle.std.proofs.Common.{◌≡◌, ℕ, map, take}
-use Rattle.mq_engine.proofs.arrivals.columns_of.Given as goal
+use Rattle.mq_merge.proofs.order.columns_of.Given as goal
 
 abbrev pub invariant-loop-item : goal.invariant-loop-item
 invariant-loop-item l = record {

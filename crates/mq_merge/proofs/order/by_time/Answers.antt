@@ -5,8 +5,8 @@ use Rattle.std.specs.List.Sorted.{IsNonDecreasingBy, IsStableByKey}
 use Rattle.std.specs.Ordering.{nat_cmp}
 use Rattle.mq_core.specs.Columns.{by_first}
 use Rattle.mq_core.specs.Laws.{Rises}
-use Rattle.mq_delay.proofs.Sorted.{sorts-by_first, rises-sorted}
-use Rattle.mq_delay.proofs.leaving_of.Goals as goal
+use Rattle.mq_merge.proofs.Sorted.{sorts-by_first, rises-sorted}
+use Rattle.mq_merge.proofs.order.by_time.Goals as goal
 
 pub columns_of-requires : goal.columns_of-requires
 columns_of-requires c =
