@@ -46,3 +46,4 @@ pub mod ColumnJobs
 pub mod ColumnTimes
 pub mod ColumnFew
 pub mod NumberRuns
+pub mod Reordered
