@@ -47,3 +47,4 @@ pub mod ColumnTimes
 pub mod ColumnFew
 pub mod NumberRuns
 pub mod Reordered
+pub mod LossFlow

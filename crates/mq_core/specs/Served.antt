@@ -4,6 +4,8 @@ use Rattle.mq_core.specs.Machine.{Visit, Emission}
 use Rattle.mq_core.specs.Handling.{demand_of_job}
 use Rattle.mq_core.specs.Standard.{output_by}
 use Rattle.mq_core.specs.declared.model.Demand.{Demand}
+use Rattle.mq_core.specs.declared.model.Fate.{Fate}
+use Rattle.mq_core.specs.declared.model.Fate.TheVariants.{Departs, Lost}
 use Rattle.mq_core.specs.declared.model.Kind.{Kind}
 use Rattle.mq_core.specs.declared.model.Kind.TheVariants.{Source, Server, Delay, Split}
 use Rattle.mq_core.specs.declared.model.Rows.{Rows}
@@ -38,6 +40,17 @@ leaving_from position [] visits = []
 leaving_from position (time ∷ times) [] = []
 leaving_from position (time ∷ times) (visit ∷ visits) =
     record { out = 0; position = position; job = visit.job; time = time } ∷ leaving_from (suc position) times visits
+
+-- what a visit lets out that fares so: by output 0 as it departs, or by output 1 at once where it is lost
+abbrev pub faring_by : ℕ → Fate → Visit → Emission
+faring_by position (Departs time) visit = record { out = 0; position = position; job = visit.job; time = time }
+faring_by position Lost visit = record { out = 1; position = position; job = visit.job; time = visit.arrive }
+
+-- what these visits let out that fare so, the first at this position
+abbrev pub faring_from : ℕ → List Fate → List Visit → List Emission
+faring_from position [] visits = []
+faring_from position (fate ∷ fates) [] = []
+faring_from position (fate ∷ fates) (visit ∷ visits) = faring_by position fate visit ∷ faring_from (suc position) fates visits
 
 -- what these visits let out at a node of each kind, by position
 abbrev pub flow_of : Rows → Kind → List Visit → List Emission
