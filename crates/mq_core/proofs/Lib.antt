@@ -48,3 +48,4 @@ pub mod ColumnFew
 pub mod NumberRuns
 pub mod Reordered
 pub mod LossFlow
+pub mod Loses
