@@ -49,3 +49,5 @@ pub mod NumberRuns
 pub mod Reordered
 pub mod LossFlow
 pub mod Loses
+pub mod Releases
+pub mod LossTallies

@@ -362,7 +362,7 @@ next-begins rows demand v visits now time (m ∷ ms) at c held =
     λ i. Finish (moment i) v 0 m.position ∷ []
 
 -- a finish lets the front out
-front-emission : (visits : List Visit) (now : ℕ) (m : Emission) → m.time ≡ now → ToLeave visits m → emission_of now 0 m.position (slice_get visits m.position) ++ [] ≡ m ∷ []
+pub front-emission : (visits : List Visit) (now : ℕ) (m : Emission) → m.time ≡ now → ToLeave visits m → emission_of now 0 m.position (slice_get visits m.position) ++ [] ≡ m ∷ []
 front-emission visits now m at held =
     ap (λ o. emission_of now 0 m.position o ++ []) held.own
     ∙ (λ i. record { out = sym held.out i; position = m.position; job = held.job i; time = sym at i } ∷ [])
