@@ -51,3 +51,4 @@ pub mod LossFlow
 pub mod Loses
 pub mod Releases
 pub mod LossTallies
+pub mod LossBusy

@@ -182,7 +182,7 @@ module _ (rows : Rows) (places : ℕ) (demand : Demand) (v : ℕ) (visits : List
       go (m ∷ ms) c = let r = chained-from rows demand m.time ms c in (r.1, r.2)
 
   -- a place is free exactly where the queue is shorter than the places
-  place-free : has_place places (all_left rows places demand visits) now ≡ ltb (length queue) places
+  pub place-free : has_place places (all_left rows places demand visits) now ≡ ltb (length queue) places
   place-free =
       ap (λ n. ltb n places)
       (h.taken now (omega arith)

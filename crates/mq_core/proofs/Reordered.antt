@@ -115,6 +115,16 @@ times_at-numbered k p (m ∷ ms) (x ∷ xs) n l u = go (eqb k p) refl (times_at-
         above : (a b : ℕ) → (a ≡ b → ⊥) → a ≤ b → suc a ≤ b
         above a b h l = omega arith
 
+-- and none of a position past them
+pub times_at-beyond : (k p : ℕ) (ms : List Emission) (xs : List Visit) → Numbered k ms xs → k + length xs ≤ p → times_at p ms ≡ 0
+times_at-beyond k p [] [] n l = refl
+times_at-beyond k p [] (x ∷ xs) n l = absurd n
+times_at-beyond k p (m ∷ ms) [] n l = absurd n
+times_at-beyond k p (m ∷ ms) (x ∷ xs) n l =
+    let ih = times_at-beyond (suc k) p ms xs n.2 (omega arith) in
+    let at = n.0 in
+    rw (neq-eqb m.position p (λ e. omega arith)) (omega arith)
+
 -- a position of which there is none isn't found
 pub emission_at-none : (p : ℕ) (ms : List Emission) → times_at p ms ≡ 0 → emission_at ms p ≡ None
 emission_at-none p [] h = refl
