@@ -52,3 +52,5 @@ pub mod Loses
 pub mod Releases
 pub mod LossTallies
 pub mod LossBusy
+pub mod LossColumns
+pub mod Unlost

@@ -20,7 +20,7 @@ use Rattle.mq_core.proofs.Each.{Each-weaker}
 use Rattle.mq_core.proofs.Loses.{Losing, ToLeave, front_finish, all_fared, front-emission}
 use Rattle.mq_core.proofs.LossFlow.{has_place, fared, fared-numbered, fared-fates}
 use Rattle.mq_core.proofs.Releases.{emissions-one, times-few, joins-longer, joins-nothing, release-own, release-none}
-use Rattle.mq_core.proofs.Reordered.{times_at, times_at-append, times_at-in_order, times_at-numbered, emission_at-some, emission_at-in_order, staying-coming}
+use Rattle.mq_core.proofs.Reordered.{times_at, times_at-append, times_at-in_order, times_at-numbered, times_at-once, emission_at-some, emission_at-in_order, staying-coming}
 use Rattle.mq_core.proofs.Serves.{latest-push, joins-releases, pair-inj}
 
 -- an arrival either joins the queue, or is let out at once
@@ -128,6 +128,12 @@ losing-done rows places demand v visits queue emitted now h = go h.coming h.left
     go : (coming : List Emission) → emitted ++ coming ≡ in_order_of (λ (m : Emission). m.time) (all_fared rows places demand visits) → queue ≡ map (λ (m : Emission). m.position) coming → [] ≡ front_finish v coming → (queue ≡ []) × (emitted ≡ in_order_of (λ (m : Emission). m.time) (all_fared rows places demand visits))
     go [] a w n = (w, sym (append-nil emitted) ∙ a)
     go (m ∷ ms) a w n = absurd cc
+
+-- each position is found as if all left by position
+pub losing-same : (rows : Rows) (places : ℕ) (demand : Demand) (v : ℕ) (visits : List Visit) (queue : List ℕ) (emitted : List Emission) (now : ℕ) → Losing rows places demand v visits queue emitted [] now → (q : ℕ) → emission_at emitted q ≡ emission_at (all_fared rows places demand visits) q
+losing-same rows places demand v visits queue emitted now h q =
+    ap (λ l. emission_at l q) (losing-done rows places demand v visits queue emitted now h).1
+    ∙ emission_at-in_order (λ (m : Emission). m.time) q (all_fared rows places demand visits) (times_at-once q (all_fared rows places demand visits) visits (fared-numbered (has_place places) rows demand 0 [] visits))
 
 -- then each position is found
 pub losing-found : (rows : Rows) (places : ℕ) (demand : Demand) (v : ℕ) (visits : List Visit) (queue : List ℕ) (emitted : List Emission) (now : ℕ) → Losing rows places demand v visits queue emitted [] now → (p : ℕ) → p < length visits → (m : Emission) × (emission_at emitted p ≡ Some m)

@@ -125,6 +125,20 @@ times_at-beyond k p (m ∷ ms) (x ∷ xs) n l =
     let at = n.0 in
     rw (neq-eqb m.position p (λ e. omega arith)) (omega arith)
 
+-- so there is one at most
+pub times_at-once : (p : ℕ) (ms : List Emission) (xs : List Visit) → Numbered 0 ms xs → times_at p ms ≤ 1
+times_at-once p ms xs n = go (ltb p (length xs)) refl
+  where
+    below : (a b : ℕ) → ltb a b ≡ true → a < 0 + b
+    below a b h = grind (arith, nat_tests)
+
+    beyond : (a b : ℕ) → ltb a b ≡ false → 0 + b ≤ a
+    beyond a b h = grind (arith, nat_tests)
+
+    go : (b : Bool) → ltb p (length xs) ≡ b → times_at p ms ≤ 1
+    go true e = let one = times_at-numbered 0 p ms xs n (omega arith) (below p (length xs) e) in omega arith
+    go false e = let none = times_at-beyond 0 p ms xs n (beyond p (length xs) e) in omega arith
+
 -- a position of which there is none isn't found
 pub emission_at-none : (p : ℕ) (ms : List Emission) → times_at p ms ≡ 0 → emission_at ms p ≡ None
 emission_at-none p [] h = refl
