@@ -1,0 +1,4 @@
+pub mod Departing
+pub mod Guesses
+pub mod Rows
+pub mod Windowed
