@@ -23,6 +23,15 @@ round-none places left [] demands = refl
 round-none places left (arrive ∷ arrives) [] = refl
 round-none places left (arrive ∷ arrives) (demand ∷ demands) = refl
 
+-- no more depart than a guess admits
+pub departures-few : (left times demands : List ℕ) (guess : List Bool) → length (departures_from left times demands guess) ≤ length guess
+departures-few left [] demands guess = omega arith
+departures-few left (arrive ∷ arrives) [] guess = omega arith
+departures-few left (arrive ∷ arrives) (demand ∷ demands) [] = omega arith
+departures-few left (arrive ∷ arrives) (demand ∷ demands) (true ∷ guess) =
+    let h = departures-few (departure_behind left arrive demand ∷ left) arrives demands guess in omega arith
+departures-few left (arrive ∷ arrives) (demand ∷ demands) (false ∷ guess) = let h = departures-few left arrives demands guess in omega arith
+
 -- the departures of a guess and of more behind it
 pub departures-append : (left times demands : List ℕ) (guess more : List Bool) → length demands ≡ length times →
     departures_from left times demands (guess ++ more)
@@ -72,12 +81,12 @@ early-all left (arrive ∷ arrives) [] guess count a e h = let l = h.limit in re
 early-all left (arrive ∷ arrives) (demand ∷ demands) [] count a e h = let l = h.limit in record { limit = omega arith }
 early-all left (arrive ∷ arrives) (demand ∷ demands) (true ∷ guess) count a e h =
     let first : ℕ = departure_behind left arrive demand in
-    let next : IsEarly (first ∷ left) (count + 1) = record { limit = early-next left count arrive demand (All-head _ arrive arrives a) (All-head _ demand demands e) h } in
-    let onward = early-all (first ∷ left) arrives demands guess (count + 1) (All-tail _ arrive arrives a) (All-tail _ demand demands e) next in
+    let next : IsEarly (first ∷ left) (count + 1) = record { limit = early-next left count arrive demand (All-head (λ x. x ≤ 2 ^ 60) arrive arrives a) (All-head (λ x. x ≤ 2 ^ 36) demand demands e) h } in
+    let onward = early-all (first ∷ left) arrives demands guess (count + 1) (All-tail (λ x. x ≤ 2 ^ 60) arrive arrives a) (All-tail (λ x. x ≤ 2 ^ 36) demand demands e) next in
     let number : count + 1 + length guess ≡ count + length (true ∷ guess) = omega arith in
     subst (λ (p : List ℕ × ℕ). IsEarly p.0 p.1) (λ k. (sym (behind-cons first (departures_from (first ∷ left) arrives demands guess) left) k, number k)) onward
 early-all left (arrive ∷ arrives) (demand ∷ demands) (false ∷ guess) count a e h =
-    let onward = early-all left arrives demands guess (count + 1) (All-tail _ arrive arrives a) (All-tail _ demand demands e) (early-same left count h) in
+    let onward = early-all left arrives demands guess (count + 1) (All-tail (λ x. x ≤ 2 ^ 60) arrive arrives a) (All-tail (λ x. x ≤ 2 ^ 36) demand demands e) (early-same left count h) in
     let number : count + 1 + length guess ≡ count + length (false ∷ guess) = omega arith in
     subst (λ (n : ℕ). IsEarly (reverse (departures_from left arrives demands guess) ++ left) n) number onward
 
@@ -85,7 +94,8 @@ early-all left (arrive ∷ arrives) (demand ∷ demands) (false ∷ guess) count
 pub departures-early : (times demands : List ℕ) (guess : List Bool) → All (λ time. time ≤ 2 ^ 60) times → All (λ demand. demand ≤ 2 ^ 36) demands →
     IsEarly (reverse (departures_from [] times demands guess)) (length guess)
 departures-early times demands guess a e =
-    subst (λ (ls : List ℕ). IsEarly ls (length guess)) (append-nil (reverse (departures_from [] times demands guess)))
+    let none : 0 + length guess ≡ length guess = omega arith in
+    subst (λ (p : List ℕ × ℕ). IsEarly p.0 p.1) (λ k. (append-nil (reverse (departures_from [] times demands guess)) k, none k))
       (early-all [] times demands guess 0 a e (record { limit = omega arith }))
 
 -- the departures of those that are admitted are those that the admission gives

@@ -1,4 +1,6 @@
 pub mod Departing
 pub mod Guesses
+pub mod Looping
 pub mod Rows
+pub mod Standing
 pub mod Windowed

@@ -13,9 +13,10 @@ unchanged_in (false ∷ outcome) = 0
 abbrev pub settled_in : List Bool → ℕ
 settled_in outcome = min (unchanged_in outcome + 1) (length outcome)
 
--- the length of the next window: twice this one where the whole of it was settled, and else as many places as were settled
-abbrev pub next_width : List Bool → ℕ
-next_width outcome = if settled_in outcome == length outcome then 2 * length outcome else settled_in outcome
+-- the length of the window behind one of which so many places were settled: twice as long where these are all, and else as
+-- many as were settled
+abbrev pub next_width : ℕ → ℕ → ℕ
+next_width settled width = if settled == width then 2 * width else settled
 
 -- what one round makes of a window: it begins behind the settled places, and all of it, up to the last arrival, is guessed
 -- admitted
@@ -35,7 +36,7 @@ one_window places times demands stand =
     let outcome = window_after places times demands stand.settled stand.width in
     record {
       settled = stand.settled ++ take (settled_in outcome) outcome;
-      width = next_width outcome;
+      width = next_width (settled_in outcome) (length outcome);
       judged = stand.judged + length outcome;
     }
 

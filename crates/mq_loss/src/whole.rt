@@ -73,12 +73,7 @@ fn same(guess: &List<bool>, other: &List<bool>) -> bool
     requires { length guess.now ≡ length other.now }
     ensures { IsTrue result ↔ (guess.now ≡ other.now) }
 {
-    for at in 0..guess.len() {
-        if *guess.get(at) != *other.get(at) {
-            return false;
-        }
-    }
-    true
+    guess.as_slice() == other.as_slice()
 }
 
 /// Which arrivals of the stream a loss station with these places admits, and when they depart:

@@ -2,7 +2,7 @@ ghost use Rattle.std.specs.Prelude.{◌≡◌, ◌+◌, ◌-◌, ◌*◌, ◌^�
 ghost use Rattle.mq_core.specs.Columns.{IsSoundLoad};
 ghost use Rattle.mq_core.specs.Recurrences.{time_or_none};
 ghost use Rattle.mq_loss.specs.Rounds.{IsSettled, all_admitted, departures_from, departures_of, round_from};
-ghost use Rattle.mq_loss.specs.Windows.{IsWindowRun, one_window, settled_in, stand_of, unchanged_in};
+ghost use Rattle.mq_loss.specs.Windows.{IsWindowRun, next_width, one_window, settled_in, stand_of, unchanged_in};
 
 use crate::answer::Settled;
 use crate::judging::{judge, serve};
@@ -69,6 +69,18 @@ fn keep(
     Ok(())
 }
 
+// The length of the window behind one of which so many places were settled.
+fn width_after(settled: usize, width: usize) -> usize
+    requires { width ≤ 2 ^ 34 }
+    ensures { result ≡ next_width settled width }
+{
+    if settled == width {
+        2 * width
+    } else {
+        settled
+    }
+}
+
 // Settles the next window, of this length or what is left, and gives the length of the one after it.
 fn settle_window<L: Ledger>(
     alloc: Global,
@@ -111,11 +123,7 @@ fn settle_window<L: Ledger>(
     keep(&mut settled.admitted, &outcome, count)?;
     settled.rounds += 1;
     settled.judged += outcome.len() as u64;
-    Ok(if count == outcome.len() {
-        2 * count
-    } else {
-        count
-    })
+    Ok(width_after(count, outcome.len()))
 }
 
 /// Which arrivals of the stream a loss station with these places admits, and when they depart:
@@ -154,7 +162,7 @@ pub fn settle<L: Ledger>(
         judged: 0,
     };
     let mut width = first as usize;
-    while settled.admitted.len() < stream.time.len() {
+    'window: while settled.admitted.len() < stream.time.len() {
         width = settle_window(alloc, stream, demands, places, width, &mut settled, steps)?;
     }
     Ok(settled)
