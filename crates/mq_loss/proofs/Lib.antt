@@ -2,5 +2,6 @@ pub mod Departing
 pub mod Guesses
 pub mod Looping
 pub mod Rows
+pub mod Running
 pub mod Standing
 pub mod Windowed

@@ -4,7 +4,7 @@ use Rattle.std.specs.Prelude.{min, reverse}
 use Rattle.std.proofs.lemmas.Bool.Decides.{nat_tests}
 use Rattle.mq_core.specs.Recurrences.{is_admitted}
 use Rattle.mq_loss.specs.Rounds.{admission_from, all_admitted, departure_behind, departures_from, left_behind, round_from}
-use Rattle.mq_loss.specs.Windows.{settled_in, unchanged_in}
+use Rattle.mq_loss.specs.Windows.{next_width, settled_in, unchanged_in}
 use Rattle.mq_loss.proofs.Departing.{behind-cons, departures-none}
 use Rattle.mq_loss.proofs.Guesses.{admission-next}
 
@@ -96,3 +96,14 @@ departures-length width left (arrive ∷ arrives) [] d = absurd (omega arith)
 departures-length zero left (arrive ∷ arrives) (demand ∷ demands) d = omega arith
 departures-length (suc width) left (arrive ∷ arrives) (demand ∷ demands) d =
     let h = departures-length width (departure_behind left arrive demand ∷ left) arrives demands (omega arith) in omega arith
+
+-- a window that has a place settles one or more, and no more than it has
+pub settles-some : (outcome : List Bool) → 1 ≤ length outcome → (1 ≤ settled_in outcome) × (settled_in outcome ≤ length outcome)
+settles-some outcome l = (omega arith, omega arith)
+
+-- the next window has a place, and at most twice as many as were settled
+pub width-some : (settled width : ℕ) → 1 ≤ settled → settled ≤ width → 1 ≤ next_width settled width
+width-some settled width l m = grind (arith, nat_tests)
+
+pub width-most : (settled width : ℕ) → settled ≤ width → next_width settled width ≤ 2 * settled
+width-most settled width m = grind (arith, nat_tests)
