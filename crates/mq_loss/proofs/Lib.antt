@@ -1,6 +1,7 @@
 pub mod Departing
 pub mod Guesses
 pub mod Looping
+pub mod Repeating
 pub mod Rows
 pub mod Running
 pub mod Standing

@@ -9,7 +9,7 @@ use Rattle.mq_core.specs.Columns.{IsSoundLoad}
 use Rattle.mq_core.specs.Recurrences.{is_admitted}
 use Rattle.mq_loss.specs.Rounds.{all_admitted, departure_behind, departures_from, left_behind, round_from}
 use Rattle.mq_loss.specs.Windows.{unchanged_in}
-use Rattle.mq_loss.proofs.Departing.{departures-none, round-none}
+use Rattle.mq_loss.proofs.Departing.{IsEarly, departures-none, early-next, early-same, round-none}
 
 -- what is left from a place on begins with the item there
 pub drop_at : {X : Type 0} (xs : List X) (i : ℕ) (x : X) → slice_get xs i ≡ Some x → drop i xs ≡ x ∷ drop (i + 1) xs
@@ -95,3 +95,49 @@ keep-next first done done' outcome at x t p h =
     let more : take (at + 1) outcome ≡ take at outcome ++ x ∷ [] =
       ap (λ n. take n outcome) (sym next) ∙ (take-suc outcome at x within ∙ ap (λ y. take at outcome ++ y ∷ []) (get_or_from_slice_get outcome at x x t)) in
     p ∙ (ap (λ xs. xs ++ x ∷ []) h ∙ (append_assoc first (take at outcome) (x ∷ []) ∙ ap (λ xs. first ++ xs) (sym more)))
+
+-- what departs behind these, with one arrival more
+pub left-next : (departs departs' : List ℕ) (admit : Bool) (arrive demand : ℕ) → departs' ≡ departs ++ departures_from (reverse departs) (arrive ∷ []) (demand ∷ []) (admit ∷ []) →
+    reverse departs' ≡ left_behind admit (reverse departs) arrive demand
+left-next departs departs' true arrive demand h = last-first departs departs' (departure_behind (reverse departs) arrive demand) h
+left-next departs departs' false arrive demand h = ap reverse (h ∙ append-nil departs)
+
+pub left-early : (left : List ℕ) (admit : Bool) (at arrive demand : ℕ) → IsItem arrive demand → IsEarly left at → IsEarly (left_behind admit left arrive demand) (at + 1)
+left-early left true at arrive demand i h = record { limit = early-next left at arrive demand i.early i.small h }
+left-early left false at arrive demand i h = early-same left at h
+
+-- an arrival is judged, and departs where the guess admits it
+pub round-next : (places : ℕ) (done done' all guess : List Bool) (left left' times demands : List ℕ) (at arrive demand : ℕ) (admit : Bool) →
+    slice_get times at ≡ Some arrive → slice_get demands at ≡ Some demand → slice_get guess at ≡ Some admit → done' ≡ done ++ is_admitted places left arrive ∷ [] → left' ≡ left_behind admit left arrive demand →
+    done ++ round_from places left (drop at times) (drop at demands) (drop at guess) ≡ all →
+    done' ++ round_from places left' (drop (at + 1) times) (drop (at + 1) demands) (drop (at + 1) guess) ≡ all
+round-next places done done' all guess left left' times demands at arrive demand admit t d a p l h =
+    ap (λ (q : List Bool × List ℕ). q.0 ++ round_from places q.1 (drop (at + 1) times) (drop (at + 1) demands) (drop (at + 1) guess)) (λ k. (p k, l k))
+    ∙ (append_assoc done (is_admitted places left arrive ∷ []) (round_from places (left_behind admit left arrive demand) (drop (at + 1) times) (drop (at + 1) demands) (drop (at + 1) guess))
+    ∙ (sym (ap (λ (q : List ℕ × (List ℕ × List Bool)). done ++ round_from places left q.0 q.1.0 q.1.1) (λ k. (drop_at times at arrive t k, (drop_at demands at demand d k, drop_at guess at admit a k)))) ∙ h))
+
+one-departs : (left times demands : List ℕ) (guess : List Bool) (arrive demand : ℕ) (admit : Bool) →
+    departures_from left (arrive ∷ []) (demand ∷ []) (admit ∷ []) ++ departures_from (left_behind admit left arrive demand) times demands guess ≡ departures_from left (arrive ∷ times) (demand ∷ demands) (admit ∷ guess)
+one-departs left times demands guess arrive demand true = refl
+one-departs left times demands guess arrive demand false = refl
+
+pub departures-next : (done done' all : List ℕ) (guess : List Bool) (left left' times demands : List ℕ) (at arrive demand : ℕ) (admit : Bool) →
+    slice_get times at ≡ Some arrive → slice_get demands at ≡ Some demand → slice_get guess at ≡ Some admit → done' ≡ done ++ departures_from left (arrive ∷ []) (demand ∷ []) (admit ∷ []) → left' ≡ left_behind admit left arrive demand →
+    done ++ departures_from left (drop at times) (drop at demands) (drop at guess) ≡ all →
+    done' ++ departures_from left' (drop (at + 1) times) (drop (at + 1) demands) (drop (at + 1) guess) ≡ all
+departures-next done done' all guess left left' times demands at arrive demand admit t d a p l h =
+    ap (λ (q : List ℕ × List ℕ). q.0 ++ departures_from q.1 (drop (at + 1) times) (drop (at + 1) demands) (drop (at + 1) guess)) (λ k. (p k, l k))
+    ∙ (append_assoc done (departures_from left (arrive ∷ []) (demand ∷ []) (admit ∷ [])) _
+    ∙ (ap (λ ds. done ++ ds) (one-departs left (drop (at + 1) times) (drop (at + 1) demands) (drop (at + 1) guess) arrive demand admit)
+    ∙ (sym (ap (λ (q : List ℕ × (List ℕ × List Bool)). done ++ departures_from left q.0 q.1.0 q.1.1) (λ k. (drop_at times at arrive t k, (drop_at demands at demand d k, drop_at guess at admit a k)))) ∙ h)))
+
+-- at the end nothing is left
+pub round-all : (places i : ℕ) (done all : List Bool) (left times demands : List ℕ) (guess : List Bool) → length times ≤ i →
+    done ++ round_from places left (drop i times) demands guess ≡ all → done ≡ all
+round-all places i done all left times demands guess l h =
+    sym (append-nil done) ∙ (ap (λ (ts : List ℕ). done ++ round_from places left ts demands guess) (sym (drop_all i times l)) ∙ h)
+
+pub departures-all : (i : ℕ) (done all left times demands : List ℕ) (guess : List Bool) → length times ≤ i →
+    done ++ departures_from left (drop i times) demands guess ≡ all → done ≡ all
+departures-all i done all left times demands guess l h =
+    sym (append-nil done) ∙ (ap (λ (ts : List ℕ). done ++ departures_from left ts demands guess) (sym (drop_all i times l)) ∙ h)

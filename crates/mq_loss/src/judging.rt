@@ -1,6 +1,6 @@
 ghost use Rattle.std.specs.Prelude.{◌≡◌, ◌+◌, ◌^◌, ◌≤◌, ◌++◌, ◌∷◌, [], reverse, slice_get, OnOk};
 ghost use Rattle.mq_core.specs.Recurrences.{is_admitted, time_or_none};
-ghost use Rattle.mq_loss.specs.Rounds.{departure_behind};
+ghost use Rattle.mq_loss.specs.Rounds.{departure_behind, departures_from};
 
 use mq_base::{List, OutOfMemory, Steps};
 use std::sync::ledger::Ledger;
@@ -46,4 +46,22 @@ pub fn serve(departs: &mut List<u64>, arrive: u64, demand: u64) -> Result<(), Ou
 {
     let begins = last_of(departs).max(arrive);
     departs.push(begins + demand)
+}
+
+// The same where the job is admitted; else the departures stay.
+pub fn follow(
+    departs: &mut List<u64>,
+    admit: bool,
+    arrive: u64,
+    demand: u64,
+) -> Result<(), OutOfMemory>
+    requires last { time_or_none (slice_get (reverse departs.old) 0) ≤ 2 ^ 61 }
+    requires arrive { arrive ≤ 2 ^ 60 }
+    requires demand { demand ≤ 2 ^ 36 }
+    ensures { OnOk result (departs.new ≡ departs.old ++ departures_from (reverse departs.old) (arrive ∷ []) (demand ∷ []) (admit ∷ [])) }
+{
+    if admit {
+        serve(departs, arrive, demand)?;
+    }
+    Ok(())
 }

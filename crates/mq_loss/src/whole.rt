@@ -3,7 +3,7 @@ ghost use Rattle.mq_core.specs.Columns.{IsSoundLoad};
 ghost use Rattle.mq_loss.specs.Rounds.{IsSettled, IsWholeRun, all_admitted, departures_of, round_of};
 
 use crate::answer::Settled;
-use crate::judging::{finds_place, serve};
+use crate::judging::{finds_place, follow};
 use mq_base::{List, OutOfMemory};
 use mq_core::Stream;
 use std::alloc::Global;
@@ -40,10 +40,10 @@ pub fn round(
     let mut departs = List::new(alloc);
     for at in 0..stream.time.len() {
         let arrive = *stream.time.get(at);
+        let demand = *demands.get(at);
+        let admit = *guess.get(at);
         answer.push(finds_place(&departs, places, arrive))?;
-        if *guess.get(at) {
-            serve(&mut departs, arrive, *demands.get(at))?;
-        }
+        follow(&mut departs, admit, arrive, demand)?;
     }
     Ok(answer)
 }
@@ -61,9 +61,10 @@ fn departures(
 {
     let mut departs = List::new(alloc);
     for at in 0..stream.time.len() {
-        if *admitted.get(at) {
-            serve(&mut departs, *stream.time.get(at), *demands.get(at))?;
-        }
+        let arrive = *stream.time.get(at);
+        let demand = *demands.get(at);
+        let admit = *admitted.get(at);
+        follow(&mut departs, admit, arrive, demand)?;
     }
     Ok(departs)
 }
