@@ -53,10 +53,16 @@ fn rows_by_time(
 }
 
 // How many rows come from a source.
-fn rows_from(node: u32, source: &[u32]) -> usize
+fn count_of(node: u32, source: &List<u32>) -> usize
     ensures { result ≡ count_by (λ other. other == node) source.now }
 {
-    source.iter().filter(|other| **other == node).count()
+    let mut count = 0;
+    for at in 0..source.len() {
+        if *source.get(at) == node {
+            count += 1;
+        }
+    }
+    count
 }
 
 // The rows of a source, in file order.
@@ -71,18 +77,18 @@ fn rows_of(
     ensures even { IfOk result (λ rows. length rows.job ≡ length rows.time) }
     ensures items { IfOk result (λ rows. pairs_of rows ≡ rows_at node 0 source.now time.now) }
 {
-    let count = rows_from(node, source.as_slice());
-    let mut jobs = List::from_vec(Vec::with_capacity(alloc, count)?);
-    let mut times = List::from_vec(Vec::with_capacity(alloc, count)?);
+    let count = count_of(node, source);
+    let mut jobs = Vec::with_capacity(alloc, count)?;
+    let mut times = Vec::with_capacity(alloc, count)?;
     for job in 0..source.len() {
         if *source.get(job) == node {
-            jobs.push(job as u32)?;
-            times.push(*time.get(job))?;
+            jobs.push_reserved(job as u32);
+            times.push_reserved(*time.get(job));
         }
     }
     Ok(Stream {
-        job: jobs,
-        time: times,
+        job: List::from_vec(jobs),
+        time: List::from_vec(times),
     })
 }
 
