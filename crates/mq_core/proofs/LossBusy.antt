@@ -1,28 +1,25 @@
 -- How busy a loss station is.
-use Rattle.std.proofs.Common.{◌≡◌, ℕ, zero, suc, ◌+◌, ◌-◌, ◌*◌, ◌<◌, ◌≤◌, max, Bool, true, false, cond, eqb, ltb, List, [], ◌∷◌, ◌++◌, length, map, Option, Some, None, sym, refl, ap, ◌∙◌, subst, arith, length-append}
+use Rattle.std.proofs.Common.{◌≡◌, ℕ, suc, ◌+◌, ◌-◌, ◌*◌, ◌<◌, ◌≤◌, Bool, true, false, cond, eqb, ltb, List, [], ◌∷◌, ◌++◌, length, map, Some, sym, refl, ap, ◌∙◌, subst, arith}
 use Rattle.std.proofs.lemmas.Bool.Decides.{nat_tests}
 use Rattle.std.proofs.lemmas.List.{append-nil}
 use Rattle.std.specs.Prelude.{slice_get}
 use Rattle.std.specs.List.{AllByRecursion as Each}
 use Rattle.mq_core.specs.Event.{Event, time_of, earliest, sooner_of}
 use Rattle.mq_core.specs.Event.Event.{Arrive, Finish}
-use Rattle.mq_core.specs.Machine.{Visit, Emission, emissions_of, emission_of, finishes_of}
+use Rattle.mq_core.specs.Machine.{Visit, Emission, finishes_of}
 use Rattle.mq_core.specs.Local.{Local}
 use Rattle.mq_core.specs.Handling.{demand_of_job, demand_of_visit, demand_at, latest, joins, passes_on, front_leaves, front_begins, one_if_some}
 use Rattle.mq_core.specs.LossHandler.{loss_on}
-use Rattle.mq_core.specs.Tallies.{sum_below, greatest_below, emission_at, found_or}
+use Rattle.mq_core.specs.Tallies.{sum_below, emission_at}
 use Rattle.mq_core.specs.declared.model.Demand.{Demand}
 use Rattle.mq_core.specs.declared.model.Rows.{Rows}
 use Rattle.mq_core.proofs.Areas.{get-front, get-last, sum-same}
-use Rattle.mq_core.proofs.ColumnNumbers.{Numbered, numbered-inside}
-use Rattle.mq_core.proofs.Each.{Each-weaker}
-use Rattle.mq_core.proofs.EmissionsAt.{neq-eqb, found-behind, other-behind}
-use Rattle.mq_core.proofs.Loses.{Losing, ToLeave, front_finish, chained_behind, all_fared, all_left, front-emission, place-free}
-use Rattle.mq_core.proofs.LossFlow.{leaves_at, fate_if, fared, fared-push, fared-numbered, has_place}
+use Rattle.mq_core.proofs.ColumnNumbers.{Numbered}
+use Rattle.mq_core.proofs.EmissionsAt.{neq-eqb}
+use Rattle.mq_core.proofs.Loses.{Losing, ToLeave, front_finish, all_fared, all_left, place-free}
+use Rattle.mq_core.proofs.LossFlow.{leaves_at, fate_if, fared-push, fared-numbered, has_place}
 use Rattle.mq_core.proofs.NumberLists.{sum_below-first}
-use Rattle.mq_core.proofs.Releases.{joins-longer, joins-nothing}
 use Rattle.mq_core.proofs.Remaining.{remaining}
-use Rattle.mq_core.proofs.Reordered.{times_at, times_at-append, times_at-in_order, times_at-beyond, emission_at-none}
 use Rattle.mq_core.proofs.Serves.{latest-push, pair-inj}
 use Rattle.mq_core.proofs.Unlost.{unless_out}
 use Rattle.mq_core.specs.Served.{faring_by}

@@ -1,30 +1,22 @@
 -- The peak of a loss station.
-use Rattle.std.proofs.Common.{◌≡◌, ℕ, zero, suc, ◌+◌, ◌-◌, ◌*◌, ◌<◌, ◌≤◌, max, Bool, true, false, cond, eqb, ltb, List, [], ◌∷◌, ◌++◌, length, map, Option, Some, None, sym, refl, ap, ◌∙◌, subst, arith, length-append}
-use Rattle.std.proofs.lemmas.Bool.Decides.{nat_tests}
+use Rattle.std.proofs.Common.{◌≡◌, ℕ, zero, suc, ◌+◌, ◌<◌, ◌≤◌, max, Bool, true, false, cond, eqb, ltb, List, [], ◌∷◌, ◌++◌, length, map, Some, None, sym, refl, ap, ◌∙◌, subst, arith, length-append}
 use Rattle.std.proofs.lemmas.List.{append-nil}
 use Rattle.std.specs.Prelude.{slice_get}
 use Rattle.std.specs.List.{AllByRecursion as Each}
 use Rattle.mq_core.specs.Event.{Event, time_of, earliest, sooner_of}
 use Rattle.mq_core.specs.Event.Event.{Arrive, Finish}
-use Rattle.mq_core.specs.Machine.{Visit, Emission, emissions_of, emission_of, finishes_of}
+use Rattle.mq_core.specs.Machine.{Visit, Emission, emissions_of, emission_of}
 use Rattle.mq_core.specs.Local.{Local}
-use Rattle.mq_core.specs.Handling.{demand_of_job, demand_of_visit, demand_at, latest, joins, passes_on, front_leaves, front_begins, one_if_some}
+use Rattle.mq_core.specs.Handling.{latest, joins, passes_on, front_leaves}
 use Rattle.mq_core.specs.LossHandler.{loss_on}
-use Rattle.mq_core.specs.Tallies.{sum_below, greatest_below, emission_at, found_or}
+use Rattle.mq_core.specs.Tallies.{greatest_below, emission_at, found_or}
 use Rattle.mq_core.specs.declared.model.Demand.{Demand}
 use Rattle.mq_core.specs.declared.model.Rows.{Rows}
-use Rattle.mq_core.proofs.Areas.{get-front, get-last, sum-same}
-use Rattle.mq_core.proofs.ColumnNumbers.{Numbered, numbered-inside}
-use Rattle.mq_core.proofs.Each.{Each-weaker}
-use Rattle.mq_core.proofs.EmissionsAt.{neq-eqb, found-behind, other-behind}
-use Rattle.mq_core.proofs.Loses.{Losing, ToLeave, front_finish, chained_behind, all_fared, all_left, front-emission, place-free}
-use Rattle.mq_core.proofs.LossFlow.{leaves_at, fate_if, fared, fared-push, fared-numbered, has_place}
-use Rattle.mq_core.proofs.NumberLists.{sum_below-first}
+use Rattle.mq_core.proofs.Areas.{get-front, get-last}
+use Rattle.mq_core.proofs.EmissionsAt.{found-behind, other-behind}
+use Rattle.mq_core.proofs.Loses.{Losing, ToLeave, front_finish, front-emission}
 use Rattle.mq_core.proofs.Releases.{joins-longer, joins-nothing}
-use Rattle.mq_core.proofs.Remaining.{remaining}
-use Rattle.mq_core.proofs.Reordered.{times_at, times_at-append, times_at-in_order, times_at-beyond, emission_at-none}
 use Rattle.mq_core.proofs.Serves.{latest-push, pair-inj}
-use Rattle.mq_core.specs.Served.{faring_by}
 use Rattle.mq_core.proofs.LossTallies.{losing-new}
 use Rattle.mq_core.proofs.Unlost.{unless_out}
 
@@ -60,9 +52,6 @@ module _ (rows : Rows) (places : ℕ) (demand : Demand) (v : ℕ) where
       (max peak (length (loss_on rows places demand (visits ++ x ∷ []) local now (Arrive now v port x.job)).local.queue))
   peaked-arrives port local visits emitted fs now peak x found h k = go (ltb (length local.queue) places)
     where
-      value : List Emission → ℕ → ℕ
-      value es p = unless_out (emission_at es p) (found_or 0 (slice_get (visits ++ x ∷ []) p) + 1)
-
       size : length (visits ++ x ∷ []) ≡ suc (length visits)
       size = omega (arith, length-append visits (x ∷ []))
 

@@ -1,5 +1,5 @@
 -- Small networks with a loss station, worked by hand: each row below holds by computing the event list.
-use Rattle.std.proofs.Common.{◌≡◌, ℕ, false, List, [], ◌∷◌, refl}
+use Rattle.std.proofs.Common.{◌≡◌, ℕ, false, [], ◌∷◌, refl}
 use Rattle.std.specs.Prelude.{IsTrue, codes}
 use Rattle.mq_core.specs.Columns.{column_exit, column_stream, column_totals, column_visits}
 use Rattle.mq_core.specs.Event.{earliest, is_below, place_of, sooner_of}

@@ -1,5 +1,5 @@
 -- What a loss station weighs, how many it holds, whom it lets out, and how it ends.
-use Rattle.std.proofs.Common.{◌≡◌, ℕ, zero, suc, ◌+◌, ◌*◌, ◌<◌, ◌≤◌, Bool, true, false, cond, eqb, ltb, List, [], ◌∷◌, ◌++◌, length, map, Option, Some, None, sym, refl, ap, ◌∙◌, subst, arith, length-append}
+use Rattle.std.proofs.Common.{◌≡◌, ℕ, suc, ◌+◌, ◌*◌, ◌<◌, ◌≤◌, Bool, true, false, cond, ltb, List, [], ◌∷◌, ◌++◌, length, map, Some, None, sym, refl, ap, ◌∙◌, subst, arith}
 use Rattle.std.proofs.Math.Nat.{suc-mul}
 use Rattle.std.proofs.lemmas.List.{append-nil, length-map}
 use Rattle.std.specs.Prelude.{slice_get}
@@ -7,7 +7,7 @@ use Rattle.std.specs.List.{AllByRecursion as Each}
 use Rattle.mq_core.specs.Event.{Event, time_of, earliest, sooner_of}
 use Rattle.mq_core.specs.Event.Event.{Arrive, Finish}
 use Rattle.mq_core.specs.Machine.{Visit, Emission, emissions_of, emission_of}
-use Rattle.mq_core.specs.Laws.{Rises, in_order_of}
+use Rattle.mq_core.specs.Laws.{in_order_of}
 use Rattle.mq_core.specs.Local.{Local}
 use Rattle.mq_core.specs.Handling.{demand_of_job, latest, joins, passes_on, front_leaves}
 use Rattle.mq_core.specs.LossHandler.{loss_on}
@@ -18,7 +18,7 @@ use Rattle.mq_core.specs.declared.model.Demand.{Demand}
 use Rattle.mq_core.specs.declared.model.Rows.{Rows}
 use Rattle.mq_core.proofs.Each.{Each-weaker}
 use Rattle.mq_core.proofs.Loses.{Losing, ToLeave, front_finish, all_fared, front-emission}
-use Rattle.mq_core.proofs.LossFlow.{has_place, fared, fared-numbered, fared-fates}
+use Rattle.mq_core.proofs.LossFlow.{has_place, fared-numbered, fared-fates}
 use Rattle.mq_core.proofs.Releases.{emissions-one, times-few, joins-longer, joins-nothing, release-own, release-none}
 use Rattle.mq_core.proofs.Reordered.{times_at, times_at-append, times_at-in_order, times_at-numbered, times_at-beyond, times_at-once, emission_at-none, emission_at-in_order, staying-coming}
 use Rattle.mq_core.proofs.Serves.{latest-push, joins-releases, pair-inj}
