@@ -30,7 +30,7 @@ use Rattle.mq_core.proofs.Delays.{delaying-done}
 use Rattle.mq_core.proofs.DelayNumbers.{delaying-fewer}
 use Rattle.mq_core.proofs.Flows.{kind-flow}
 use Rattle.mq_core.proofs.LossTallies.{losing-arrives-falls, losing-ends-falls, losing-done}
-use Rattle.mq_core.proofs.Serves.{Serving, positions, next_finish, last_served, serving-done}
+use Rattle.mq_core.proofs.Serves.{positions, next_finish, last_served, serving-done}
 use Rattle.mq_core.proofs.Facts.{kind_fact, node_fact, standard-keeps}
 use Rattle.mq_core.proofs.Falls.{Falls, total, weigh, sum_over, done-from_start}
 use Rattle.mq_core.proofs.Wired.{feeds_forward, rank_in-has, has_inputs, reads-from}
