@@ -1,14 +1,16 @@
 -- What becomes of the arrivals at a loss station.
 use Rattle.std.proofs.Common.{◌≡◌, ℕ, zero, suc, ◌+◌, ◌<◌, ◌≤◌, Bool, true, false, List, [], ◌∷◌, ◌++◌, length, drop, map, Some, None, sym, refl, ap, ◌∙◌, subst, arith, append_assoc}
-use Rattle.std.specs.Prelude.{slice_get}
+use Rattle.std.specs.Prelude.{IsTrue, nat_le, slice_get}
 use Rattle.std.proofs.lemmas.List.{append-nil, drop_all, length-map}
 use Rattle.mq_core.specs.Columns.{column_fates, column_outs, column_stream, leaving_time, leaving_times, out_of_fate, picked}
 use Rattle.mq_core.specs.Handling.{demand_of_job}
 use Rattle.mq_core.specs.Recurrences.{loss_fates}
+use Rattle.mq_core.specs.Sound.{is_sound_demand, is_sound_kind, is_within}
 use Rattle.mq_core.specs.declared.model.Demand.{Demand}
 use Rattle.mq_core.specs.declared.model.Fate.{Fate}
 use Rattle.mq_core.specs.declared.model.Fate.TheVariants.{Departs, Lost}
 use Rattle.mq_core.specs.declared.model.Kind.TheVariants.{Loss}
+use Rattle.mq_core.specs.declared.model.Network.{Network}
 use Rattle.mq_core.specs.declared.model.Rows.{Rows}
 use Rattle.mq_core.specs.declared.model.Stream.{Stream}
 use Rattle.mq_loss.specs.Rounds.{IsSettled, admits, departures_in}
@@ -93,3 +95,12 @@ loses rows places demand arrivals all outs fates streams f o j t e =
     at zero l = ap Some (part 0)
     at (suc zero) l = ap Some (part 1)
     at (suc (suc out)) l = absurd (omega arith)
+
+pub sound-demand : (net : Network) (places : ℕ) (demand : Demand) → IsTrue (is_sound_kind (length net.columns) (Loss places demand)) → IsTrue (is_sound_demand (length net.columns) demand)
+sound-demand net places demand h = (and_parts (is_within 1 1048576 places) (is_sound_demand (length net.columns) demand) h).1
+
+pub some-places : (net : Network) (places : ℕ) (demand : Demand) → IsTrue (is_sound_kind (length net.columns) (Loss places demand)) → 1 ≤ places
+some-places net places demand h =
+    let a = and_parts (is_within 1 1048576 places) (is_sound_demand (length net.columns) demand) h in
+    let b = (and_parts (nat_le 1 places) (nat_le places 1048576) a.0).0 in
+    grind (arith, nat_tests)

@@ -8,7 +8,7 @@ ghost use Rattle.mq_loss.specs.Rounds.{IsSettled};
 
 use crate::stations::{Outflow, demands_of};
 use mq_base::{List, OutOfMemory, Steps};
-use mq_core::{Demand, Fate, Network, Rows, Stream};
+use mq_core::{Demand, Fate, Network, Rows, Stream, fates_are_in_time};
 use mq_loss::{Settled, settle};
 use mq_split::pick;
 use std::alloc::Global;
@@ -31,6 +31,7 @@ pub fn admitted_or_lost(
     requires { IsLoad net.now rows.now (Loss places demand.now) arrivals.now }
     ensures { IfOk result (λ leaving. IsLeaving rows.now (Loss places demand.now) arrivals.now leaving.fates leaving.streams) }
 {
+    fates_are_in_time();
     let demands = demands_of(alloc, net, rows, demand, &arrivals.job)?;
     let settled = settled::<Brand>(alloc, arrivals, &demands, places, Blank::new(1))?;
     let fates = fates_of(alloc, &settled.admitted, &settled.departs)?;
