@@ -15,6 +15,7 @@ pub mod Kept
 pub mod Serves
 pub mod Delays
 pub mod TandemTimes
+pub mod TandemStages
 pub mod Facts
 pub mod Flows
 pub mod Remaining
