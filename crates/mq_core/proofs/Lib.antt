@@ -16,6 +16,7 @@ pub mod Serves
 pub mod Delays
 pub mod TandemTimes
 pub mod TandemStages
+pub mod TandemSweep
 pub mod Facts
 pub mod Flows
 pub mod Remaining
