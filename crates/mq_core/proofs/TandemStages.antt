@@ -137,7 +137,7 @@ stages-agree rows v staying visits visits' time time' n same get server came (st
     }, stages-agree rows v staying visits visits' (λ s. time (suc s)) (λ s. time' (suc s)) n (λ s. same (suc s)) get (server + 1) a.left stages lines emitted fs now (omega arith) h.1)
 
 -- the same where the finishes of these servers are the same, and less is said of those that stay
-front-other : (v : ℕ) (staying staying' : Type 0) (server left end : ℕ) (fs fs' : List Event) (now here : ℕ) (done : Bool) → (staying → staying') → filter (is_finish_of server) fs' ≡ filter (is_finish_of server) fs → Front v staying server left end fs now here done → Front v staying' server left end fs' now here done
+pub front-other : (v : ℕ) (staying staying' : Type 0) (server left end : ℕ) (fs fs' : List Event) (now here : ℕ) (done : Bool) → (staying → staying') → filter (is_finish_of server) fs' ≡ filter (is_finish_of server) fs → Front v staying server left end fs now here done → Front v staying' server left end fs' now here done
 front-other v staying staying' server left end fs fs' now zero done f e h = (h.0, e ∙ h.1)
 front-other v staying staying' server left end fs fs' now (suc here) false f e h = e ∙ h
 front-other v staying staying' server left end fs fs' now (suc here) true f e h = (e ∙ h.0, h.1, f h.2)
