@@ -17,6 +17,7 @@ pub mod Delays
 pub mod TandemTimes
 pub mod TandemStages
 pub mod TandemSweep
+pub mod TandemOrder
 pub mod Tandems
 pub mod Facts
 pub mod Flows
