@@ -19,6 +19,7 @@ pub mod TandemStages
 pub mod TandemSweep
 pub mod TandemOrder
 pub mod Tandems
+pub mod TandemFlow
 pub mod Facts
 pub mod Flows
 pub mod Remaining

@@ -41,7 +41,7 @@ downs-get f zero (suc k) = refl
 downs-get f (suc places) (suc k) = downs-get f places k
 
 -- when the job at k leaves each of these stages
-abbrev across : (ℕ → ℕ → ℕ) → List Stage → ℕ → List ℕ
+abbrev pub across : (ℕ → ℕ → ℕ) → List Stage → ℕ → List ℕ
 across left [] k = []
 across left (stage ∷ stages) k = left 0 k ∷ across (λ s. left (suc s)) stages k
 

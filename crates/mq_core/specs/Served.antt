@@ -1,12 +1,14 @@
-use Rattle.std.specs.Prelude.{ℕ, suc, ◌+◌, max, List, [], ◌∷◌}
+use Rattle.std.specs.Prelude.{ℕ, suc, ◌+◌, max, List, [], ◌∷◌, map}
 use Rattle.mq_core.specs.Laws.{in_order_of}
 use Rattle.mq_core.specs.Machine.{Visit, Emission}
 use Rattle.mq_core.specs.Handling.{demand_of_job}
+use Rattle.mq_core.specs.Recurrences.{tandem_departs}
 use Rattle.mq_core.specs.Standard.{output_by}
 use Rattle.mq_core.specs.declared.model.Demand.{Demand}
 use Rattle.mq_core.specs.declared.model.Kind.{Kind}
 use Rattle.mq_core.specs.declared.model.Kind.TheVariants.{Source, Server, Delay, Split}
 use Rattle.mq_core.specs.declared.model.Rows.{Rows}
+use Rattle.mq_core.specs.declared.model.Stage.{Stage}
 
 -- when a visit leaves a server that the visit before it left at this time
 abbrev pub served : Rows → Demand → ℕ → Visit → ℕ
@@ -38,6 +40,17 @@ leaving_from position [] visits = []
 leaving_from position (time ∷ times) [] = []
 leaving_from position (time ∷ times) (visit ∷ visits) =
     record { out = 0; position = position; job = visit.job; time = time } ∷ leaving_from (suc position) times visits
+
+-- when these jobs, which come at these times, leave a tandem
+abbrev pub tandem_times : Rows → List Stage → List ℕ → List ℕ → List ℕ
+tandem_times rows stages jobs arrives =
+    tandem_departs (map (λ (stage : Stage). stage.places) stages) (map (λ _. []) stages) arrives
+    (map (λ (stage : Stage). map (demand_of_job rows stage.demand) jobs) stages)
+
+-- what these visits let out at a tandem, each when it leaves the last stage
+abbrev pub tandem_flow : Rows → List Stage → List Visit → List Emission
+tandem_flow rows stages visits =
+    leaving_from 0 (tandem_times rows stages (map (λ (x : Visit). x.job) visits) (map (λ (x : Visit). x.arrive) visits)) visits
 
 -- what these visits let out at a node of each kind, by position
 abbrev pub flow_of : Rows → Kind → List Visit → List Emission
