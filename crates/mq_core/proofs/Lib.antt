@@ -20,6 +20,8 @@ pub mod TandemSweep
 pub mod TandemOrder
 pub mod Tandems
 pub mod TandemFlow
+pub mod TandemNumbers
+pub mod TandemLoad
 pub mod Facts
 pub mod Flows
 pub mod Remaining

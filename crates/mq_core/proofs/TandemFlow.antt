@@ -116,6 +116,14 @@ outs-some visits f (suc out) p l u = go (eqb out p) refl (outs-some visits f out
         less : (out ≡ p → ⊥) → p < out
         less other = omega arith
 
+pub outs-length : (visits : List Visit) (f : ℕ → ℕ) (out : ℕ) → out ≤ length visits → length (outs visits f out) ≡ out
+outs-length visits f zero l = refl
+outs-length visits f (suc out) l =
+    let x = some-visit visits out (omega arith) in
+    let old = outs-length visits f out (omega arith) in
+    let more = length-append (outs visits f out) (record { out = 0; position = out; job = x.0.job; time = f out } ∷ []) in
+    ap (λ o. length (outs visits f out ++ emission_of (f out) 0 out o)) x.1 ∙ omega arith
+
 -- the first summands are 0, and the others 1
 sum-split : (n out : ℕ) (f : ℕ → ℕ) → out ≤ n → ((k : ℕ) → k < out → f k ≡ 0) → ((k : ℕ) → out ≤ k → f k ≡ 1) → sum_below n f + out ≡ n
 sum-split zero out f l none one = omega arith

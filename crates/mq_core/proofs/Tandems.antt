@@ -176,6 +176,12 @@ module _ (rows : Rows) (v : ℕ) (visits : List Visit) (emitted : List Emission)
   front-ends staying q left end (suc here) false e f = (one q end left e f).2
   front-ends staying q left end (suc here) true e f = absurd (none q e f.0)
 
+  -- and it wasn't done before
+  pub front-served : (staying : Type 0) (q left end here : ℕ) (done : Bool) → ending ≡ q → Front v staying q left end fs now here done → (done ≡ false) × (1 ≤ here)
+  front-served staying q left end zero done e f = absurd (none q e f.1)
+  front-served staying q left end (suc here) false e f = (refl, omega arith)
+  front-served staying q left end (suc here) true e f = absurd (none q e f.0)
+
   -- the sweep moves nobody before it
   marked-from : (time : ℕ → ℕ → ℕ) (server came q : ℕ) (stages : List Stage) (lines : List Line) → ending ≡ server + q → q < length stages → Stages rows v Blocked visits time server came stages lines emitted fs now → (position ≤ came) × MovesFrom position now (sweep rows visits now server stages (marked q lines))
   marked-from time server came q [] lines e l h = absurd (omega arith)
@@ -199,7 +205,7 @@ module _ (rows : Rows) (v : ℕ) (visits : List Visit) (emitted : List Emission)
       (moves-from rows visits now server stage stages line a.left a.here position (sweep rows visits now (server + 1) stages (marked q lines)) low ih.1))
 
   -- the server of the finish is one of the stages
-  ending-below : (stages : List Stage) (lines : List Line) → Tandeming rows stages v visits lines emitted fs now → ending < length stages
+  pub ending-below : (stages : List Stage) (lines : List Line) → Tandeming rows stages v visits lines emitted fs now → ending < length stages
   ending-below stages lines h =
       let l = earliest-each (λ f. is_finish_below (length stages) f ≡ true) rank fs rest (Finish now v ending position) first h.only in
       grind (arith, nat_tests)
