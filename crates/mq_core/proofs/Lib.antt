@@ -26,6 +26,7 @@ pub mod Facts
 pub mod Flows
 pub mod Remaining
 pub mod DelayNumbers
+pub mod TandemBusy
 pub mod Falls
 pub mod Ends
 pub mod AloneRuns

@@ -7,11 +7,11 @@ use Rattle.mq_core.specs.Event.Event.{Finish}
 use Rattle.mq_core.specs.Machine.{Visit, Emission, Release, Service, emission_of, emissions_of}
 use Rattle.mq_core.specs.Local.{Local, Line}
 use Rattle.mq_core.specs.Handling.{latest, begins_alone}
-use Rattle.mq_core.specs.TandemHandler.{Swept, has_room, leaves, moves, sweep, marked, tandem_arrives}
+use Rattle.mq_core.specs.TandemHandler.{Swept, has_room, leaves, moves, sweep, marked, tandem_arrives, held_in}
 use Rattle.mq_core.specs.declared.model.Stage.{Stage}
 use Rattle.mq_core.specs.declared.model.Rows.{Rows}
 use Rattle.mq_core.proofs.TandemFlow.{outs-length}
-use Rattle.mq_core.proofs.TandemNumbers.{held, held-cons, stages-number}
+use Rattle.mq_core.proofs.TandemNumbers.{held-cons, stages-number}
 use Rattle.mq_core.proofs.TandemStages.{upwards-length, Blocked, Stages}
 use Rattle.mq_core.proofs.TandemTimes.{ended, time_at}
 use Rattle.mq_core.proofs.Tandems.{Tandeming, tandeming-ends, ending-below, front-served}
@@ -95,7 +95,7 @@ tandeming-arrives_falls rows onward (stage ∷ stages) v local visits more (line
 
 -- and brings one job in
 pub tandeming-arrives_more : (rows : Rows) (stages : List Stage) (v : ℕ) (local : Local) (visits more : List Visit) (lines : List Line) (emitted : List Emission) (fs : List Event) (now : ℕ) → Tandeming rows stages v visits lines emitted fs now →
-    held (tandem_arrives rows more local now stages lines).local.lines ≡ held lines + 1
+    held_in (tandem_arrives rows more local now stages lines).local.lines ≡ held_in lines + 1
 tandeming-arrives_more rows [] v local visits more lines emitted fs now h = absurd (let k = h.sound.some in omega arith)
 tandeming-arrives_more rows (stage ∷ stages) v local visits more [] emitted fs now h = absurd h.tidy
 tandeming-arrives_more rows (stage ∷ stages) v local visits more (line ∷ lines) emitted fs now h =
@@ -104,7 +104,7 @@ tandeming-arrives_more rows (stage ∷ stages) v local visits more (line ∷ lin
 module _ (rows : Rows) (v : ℕ) (visits : List Visit) (emitted : List Emission) (rank : ℕ → ℕ) (fs rest : List Event) (now ending position : ℕ) (first : earliest rank fs ≡ Some (Finish now v ending position, rest)) where
   -- a mark takes one finish
   marked-lighter : (onward : ℕ) (time : ℕ → ℕ → ℕ) (server came q : ℕ) (stages : List Stage) (lines : List Line) → ending ≡ server + q → q < length stages → Stages rows v Blocked visits time server came stages lines emitted fs now →
-      (load_in onward stages (marked q lines) + 1 ≤ load_in onward stages lines) × (1 ≤ held lines)
+      (load_in onward stages (marked q lines) + 1 ≤ load_in onward stages lines) × (1 ≤ held_in lines)
   marked-lighter onward time server came q [] lines e l h = absurd (omega arith)
   marked-lighter onward time server came q (stage ∷ stages) [] e l h = absurd h
   marked-lighter onward time server came zero (stage ∷ stages) (line ∷ lines) e l h =
@@ -134,7 +134,7 @@ module _ (rows : Rows) (v : ℕ) (visits : List Visit) (emitted : List Emission)
 
   -- a finish lets out as many jobs as it takes from those inside
   pub tandeming-fewer : (stages : List Stage) (lines : List Line) → Tandeming rows stages v visits lines emitted fs now →
-      held (sweep rows visits now 0 stages (marked ending lines)).lines + length (emissions_of now visits (sweep rows visits now 0 stages (marked ending lines)).releases) ≡ held lines
+      held_in (sweep rows visits now 0 stages (marked ending lines)).lines + length (emissions_of now visits (sweep rows visits now 0 stages (marked ending lines)).releases) ≡ held_in lines
   tandeming-fewer stages lines h =
       let after = tandeming-ends rows v visits emitted rank fs rest now ending position first stages lines h in
       let old = stages-number rows v visits (time_at rows stages visits) 0 (length visits) stages lines emitted fs now h.tidy in
@@ -148,11 +148,11 @@ module _ (rows : Rows) (v : ℕ) (visits : List Visit) (emitted : List Emission)
 
   -- a finish lets something out, or leaves a job inside
   pub tandeming-shows : (stages : List Stage) (lines : List Line) → Tandeming rows stages v visits lines emitted fs now →
-      ((m : Emission) × (more : List Emission) × (emissions_of now visits (sweep rows visits now 0 stages (marked ending lines)).releases ≡ m ∷ more)) ⊎ (0 < held (sweep rows visits now 0 stages (marked ending lines)).lines)
+      ((m : Emission) × (more : List Emission) × (emissions_of now visits (sweep rows visits now 0 stages (marked ending lines)).releases ≡ m ∷ more)) ⊎ (0 < held_in (sweep rows visits now 0 stages (marked ending lines)).lines)
   tandeming-shows stages lines h =
       go (emissions_of now visits (sweep rows visits now 0 stages (marked ending lines)).releases) (tandeming-fewer stages lines h)
       (marked-lighter 0 (time_at rows stages visits) 0 (length visits) ending stages lines (omega arith) (ending-below rows v visits emitted rank fs rest now ending position first stages lines h) h.tidy).1
     where
-      go : (ms : List Emission) → held (sweep rows visits now 0 stages (marked ending lines)).lines + length ms ≡ held lines → 1 ≤ held lines → ((m : Emission) × (more : List Emission) × (ms ≡ m ∷ more)) ⊎ (0 < held (sweep rows visits now 0 stages (marked ending lines)).lines)
+      go : (ms : List Emission) → held_in (sweep rows visits now 0 stages (marked ending lines)).lines + length ms ≡ held_in lines → 1 ≤ held_in lines → ((m : Emission) × (more : List Emission) × (ms ≡ m ∷ more)) ⊎ (0 < held_in (sweep rows visits now 0 stages (marked ending lines)).lines)
       go [] e l = inr (omega arith)
       go (m ∷ more) e l = inl (m, more, refl)

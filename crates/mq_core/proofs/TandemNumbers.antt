@@ -11,7 +11,7 @@ use Rattle.mq_core.specs.Local.{Local, Line}
 use Rattle.mq_core.specs.Handling.{latest}
 use Rattle.mq_core.specs.Served.{tandem_flow}
 use Rattle.mq_core.specs.Tallies.{staying, arrival_or, emission_at}
-use Rattle.mq_core.specs.TandemHandler.{Swept, has_room, leaves, moves, sweep, marked, tandem_arrives}
+use Rattle.mq_core.specs.TandemHandler.{Swept, has_room, leaves, moves, sweep, marked, tandem_arrives, held_in}
 use Rattle.mq_core.specs.declared.model.Stage.{Stage}
 use Rattle.mq_core.specs.declared.model.Rows.{Rows}
 use Rattle.mq_core.proofs.TandemFlow.{outs-flow, staying-outs}
@@ -20,16 +20,12 @@ use Rattle.mq_core.proofs.TandemTimes.{ended, time_at}
 use Rattle.mq_core.proofs.TandemOrder.{MovesFrom}
 use Rattle.mq_core.proofs.Tandems.{HavePlaces, Tandeming, finish-moves, finish-behind}
 
--- how many jobs are in these stages
-abbrev pub held : List Line → ℕ
-held lines = length (flat_map (λ (line : Line). line.queue) lines)
-
-pub held-cons : (line : Line) (lines : List Line) → held (line ∷ lines) ≡ length line.queue + held lines
+pub held-cons : (line : Line) (lines : List Line) → held_in (line ∷ lines) ≡ length line.queue + held_in lines
 held-cons line lines = length-append line.queue (flat_map (λ (l : Line). l.queue) lines)
 
 -- those that came and aren't here were let out
 pub stages-number : (rows : Rows) (v : ℕ) (visits : List Visit) (time : ℕ → ℕ → ℕ) (server came : ℕ) (stages : List Stage) (lines : List Line) (emitted : List Emission) (fs : List Event) (now : ℕ) → Stages rows v Blocked visits time server came stages lines emitted fs now →
-    (out : ℕ) × (held lines + out ≡ came) × (emitted ≡ outs visits (time (length stages)) out)
+    (out : ℕ) × (held_in lines + out ≡ came) × (emitted ≡ outs visits (time (length stages)) out)
 stages-number rows v visits time server came [] [] emitted fs now h = (came, omega arith, h.0)
 stages-number rows v visits time server came [] (line ∷ lines) emitted fs now h = absurd h
 stages-number rows v visits time server came (stage ∷ stages) [] emitted fs now h = absurd h
@@ -42,7 +38,7 @@ stages-number rows v visits time server came (stage ∷ stages) (line ∷ lines)
     (more.0, omega (arith, held-cons line lines), more.2)
 
 -- the number of jobs is that of the visits that haven't left
-pub tandeming-number : (rows : Rows) (stages : List Stage) (v : ℕ) (visits : List Visit) (lines : List Line) (emitted : List Emission) (fs : List Event) (now : ℕ) → Tandeming rows stages v visits lines emitted fs now → held lines ≡ staying visits emitted
+pub tandeming-number : (rows : Rows) (stages : List Stage) (v : ℕ) (visits : List Visit) (lines : List Line) (emitted : List Emission) (fs : List Event) (now : ℕ) → Tandeming rows stages v visits lines emitted fs now → held_in lines ≡ staying visits emitted
 tandeming-number rows stages v visits lines emitted fs now h =
     let k = stages-number rows v visits (time_at rows stages visits) 0 (length visits) stages lines emitted fs now h.tidy in
     let e = k.1 in
@@ -80,15 +76,19 @@ settled rows v visits time server came (stage ∷ stages) (line ∷ lines) emitt
         full (next ∷ more) (l ∷ ls) b (inl e) g = absurd cc
         full (next ∷ more) (l ∷ ls) b (inr e) g = absurd cc
 
-held-none : (lines : List Line) → Each (λ (line : Line). line.queue ≡ []) lines → held lines ≡ 0
+held-none : (lines : List Line) → Each (λ (line : Line). line.queue ≡ []) lines → held_in lines ≡ 0
 held-none [] h = refl
 held-none (line ∷ lines) h = omega (arith, held-cons line lines, ap length h.0, held-none lines h.1)
 
--- a tandem that has nothing to finish is empty, and let out every visit
-pub tandeming-done : (rows : Rows) (stages : List Stage) (v : ℕ) (visits : List Visit) (lines : List Line) (emitted : List Emission) (now : ℕ) → Tandeming rows stages v visits lines emitted [] now → (held lines ≡ 0) × (emitted ≡ tandem_flow rows stages visits)
+-- a tandem that has nothing to finish has no job at any stage
+pub tandeming-empty : (rows : Rows) (stages : List Stage) (v : ℕ) (visits : List Visit) (lines : List Line) (emitted : List Emission) (now : ℕ) → Tandeming rows stages v visits lines emitted [] now → Each (λ (line : Line). line.queue ≡ []) lines
+tandeming-empty rows stages v visits lines emitted now h = settled rows v visits (time_at rows stages visits) 0 (length visits) stages lines emitted now h.sound.places h.tidy
+
+-- it let out every visit
+pub tandeming-done : (rows : Rows) (stages : List Stage) (v : ℕ) (visits : List Visit) (lines : List Line) (emitted : List Emission) (now : ℕ) → Tandeming rows stages v visits lines emitted [] now → (held_in lines ≡ 0) × (emitted ≡ tandem_flow rows stages visits)
 tandeming-done rows [] v visits lines emitted now h = absurd (let k = h.sound.some in omega arith)
 tandeming-done rows (stage ∷ stages) v visits lines emitted now h =
-    let none = held-none lines (settled rows v visits (time_at rows (stage ∷ stages) visits) 0 (length visits) (stage ∷ stages) lines emitted now h.sound.places h.tidy) in
+    let none = held-none lines (tandeming-empty rows (stage ∷ stages) v visits lines emitted now h) in
     let k = stages-number rows v visits (time_at rows (stage ∷ stages) visits) 0 (length visits) (stage ∷ stages) lines emitted [] now h.tidy in
     let e = k.1 in
     let all : k.0 ≡ length visits = omega arith in

@@ -9,7 +9,7 @@ use Rattle.mq_core.specs.Event.Event.{Arrive, Finish}
 use Rattle.mq_core.specs.Machine.{Visit, Emission, Service, emissions_of, finishes_of}
 use Rattle.mq_core.specs.Local.{Local, Line}
 use Rattle.mq_core.specs.Handling.{latest, begins_alone}
-use Rattle.mq_core.specs.TandemHandler.{has_room, moves, sweep, marked, tandem_arrives}
+use Rattle.mq_core.specs.TandemHandler.{has_room, moves, sweep, marked, tandem_arrives, empty_lines}
 use Rattle.mq_core.specs.Tallies.{arrival_or}
 use Rattle.mq_core.specs.declared.model.Demand.{Demand}
 use Rattle.mq_core.specs.declared.model.Stage.{Stage}
@@ -49,16 +49,12 @@ pub record Tandeming (rows : Rows) (stages : List Stage) (v : ℕ) (visits : Lis
   pub only : Each (λ f. is_finish_below (length stages) f ≡ true) fs
   pub behind : Each (λ f. CameBefore visits (place_in f) (time_of f)) fs
 
--- as many empty stages
-abbrev pub no_lines : List Stage → List Line
-no_lines stages = map (λ _. record { queue = []; done = false }) stages
-
-stages-open : (rows : Rows) (v : ℕ) (time : ℕ → ℕ → ℕ) (server : ℕ) (stages : List Stage) → Stages rows v Blocked [] time server 0 stages (no_lines stages) [] [] 0
+stages-open : (rows : Rows) (v : ℕ) (time : ℕ → ℕ → ℕ) (server : ℕ) (stages : List Stage) → Stages rows v Blocked [] time server 0 stages (empty_lines stages) [] [] 0
 stages-open rows v time server [] = (refl, λ k l. absurd (omega arith))
 stages-open rows v time server (stage ∷ stages) =
     (record { left = 0; here = 0; parts = omega arith; waiting = refl; front = (refl, refl); before = λ k l. absurd (omega arith) }, stages-open rows v (λ s. time (suc s)) (server + 1) stages)
 
-pub tandeming-opens : (rows : Rows) (stages : List Stage) (v : ℕ) → AreStages stages → Tandeming rows stages v [] (no_lines stages) [] [] 0
+pub tandeming-opens : (rows : Rows) (stages : List Stage) (v : ℕ) → AreStages stages → Tandeming rows stages v [] (empty_lines stages) [] [] 0
 tandeming-opens rows stages v sound = record { sound = sound; tidy = stages-open rows v (time_at rows stages []) 0 stages; only = tt; behind = tt }
 
 pub tandeming-waits : (rows : Rows) (stages : List Stage) (v : ℕ) (visits : List Visit) (lines : List Line) (emitted : List Emission) (fs : List Event) (now later : ℕ) → now ≤ later → Tandeming rows stages v visits lines emitted fs now → Tandeming rows stages v visits lines emitted fs later
@@ -151,7 +147,7 @@ module _ (rows : Rows) (v : ℕ) (visits : List Visit) (emitted : List Emission)
   front-marked staying q left end (suc here) false e f = let k = one q end left e f in (k.1, (let l = k.0 in omega arith), inl k.0)
   front-marked staying q left end (suc here) true e f = absurd (none q e f.0)
 
-  marked-keep : (time : ℕ → ℕ → ℕ) (server came q : ℕ) (stages : List Stage) (lines : List Line) → ending ≡ server + q → Stages rows v Blocked visits time server came stages lines emitted fs now → Stages rows v (BlockedUntil now) visits time server came stages (marked q lines) emitted rest now
+  pub marked-keep : (time : ℕ → ℕ → ℕ) (server came q : ℕ) (stages : List Stage) (lines : List Line) → ending ≡ server + q → Stages rows v Blocked visits time server came stages lines emitted fs now → Stages rows v (BlockedUntil now) visits time server came stages (marked q lines) emitted rest now
   marked-keep time server came q [] [] e h = h
   marked-keep time server came q [] (line ∷ lines) e h = absurd h
   marked-keep time server came q (stage ∷ stages) [] e h = absurd h
