@@ -1,4 +1,4 @@
-ghost use Rattle.std.specs.Prelude.{◌≡◌, ◌<◌, ◌≤◌, ℕ, length, IfOk, IsTrue, Some, slice_get};
+ghost use Rattle.std.specs.Prelude.{◌≡◌, ◌==◌, ◌<◌, ◌≤◌, ℕ, count_by, length, IfOk, IsTrue, Some, slice_get};
 ghost use Rattle.std.specs.List.{flat_map};
 ghost use Rattle.mq_core.specs.Columns.{IsStream, by_first, pairs_of, rows_at};
 ghost use Rattle.mq_core.specs.Laws.{Rises};
@@ -53,6 +53,13 @@ fn rows_by_time(
     Ok(sorted)
 }
 
+// How many rows come from a source.
+fn rows_from(node: u32, source: &[u32]) -> usize
+    ensures { result ≡ count_by (λ other. other == node) source.now }
+{
+    source.iter().filter(|other| **other == node).count()
+}
+
 // The rows of a source, in file order.
 fn rows_of(
     alloc: Global,
@@ -65,8 +72,9 @@ fn rows_of(
     ensures even { IfOk result (λ rows. length rows.job ≡ length rows.time) }
     ensures items { IfOk result (λ rows. pairs_of rows ≡ rows_at node 0 source.now time.now) }
 {
-    let mut jobs = List::new(alloc);
-    let mut times = List::new(alloc);
+    let count = rows_from(node, source.as_slice());
+    let mut jobs = List::from_vec(Vec::with_capacity(alloc, count)?);
+    let mut times = List::from_vec(Vec::with_capacity(alloc, count)?);
     for job in 0..source.len() {
         if *source.get(job) == node {
             jobs.push(job as u32)?;
@@ -102,7 +110,7 @@ fn items_of(alloc: Global, rows: &Stream) -> Result<Vec<(u64, u32)>, OutOfMemory
     requires even { length rows.now.job ≡ length rows.now.time }
     ensures { IfOk result (λ items. items.items ≡ pairs_of rows.now) }
 {
-    let mut items = Vec::new(alloc);
+    let mut items = Vec::with_capacity(alloc, rows.time.len())?;
     for at in 0..rows.time.len() {
         items.push((*rows.time.get(at), *rows.job.get(at)))?;
     }
@@ -115,8 +123,8 @@ fn columns_of(alloc: Global, items: &[(u64, u32)]) -> Result<Stream, OutOfMemory
     ensures stream { IfOk result (λ stream. IsStream stream) }
     ensures items { IfOk result (λ stream. pairs_of stream ≡ items.now) }
 {
-    let mut job = List::new(alloc);
-    let mut time = List::new(alloc);
+    let mut job = List::from_vec(Vec::with_capacity(alloc, items.len())?);
+    let mut time = List::from_vec(Vec::with_capacity(alloc, items.len())?);
     for item in items {
         time.push(item.0)?;
         job.push(item.1)?;

@@ -71,7 +71,7 @@ fn service_at(rows: &Rows, kind: &Kind, job: u32) -> u64
 {
     match kind {
         Kind::Source | Kind::Split(_) => 0,
-        Kind::Server(demand) => demand_of(rows, demand, job),
+        Kind::Server(demand) | Kind::Delay(demand) => demand_of(rows, demand, job),
     }
 }
 
@@ -114,7 +114,7 @@ fn peak_of(kind: &Kind, greatest: u32, visits: &Visits) -> u32
 {
     match kind {
         Kind::Source | Kind::Split(_) => 0,
-        Kind::Server(_) => greatest,
+        Kind::Server(_) | Kind::Delay(_) => greatest,
     }
 }
 
