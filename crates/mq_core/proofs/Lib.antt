@@ -14,6 +14,7 @@ pub mod Whole
 pub mod Kept
 pub mod Serves
 pub mod Delays
+pub mod StageDemands
 pub mod TandemTimes
 pub mod TandemStages
 pub mod TandemSweep

@@ -7,10 +7,11 @@ use Rattle.mq_core.specs.Machine.{Visit, Service}
 use Rattle.mq_core.specs.Local.{Local}
 use Rattle.mq_core.specs.Handling.{joins, passes_on, front_begins, front_leaves, latest}
 use Rattle.mq_core.specs.Standard.{kind_on, node_on, standard_handle}
+use Rattle.mq_core.specs.TandemOnTime.{tandem-late}
 use Rattle.mq_core.specs.Run.{IsOnTime}
 use Rattle.mq_core.specs.declared.model.Demand.{Demand}
 use Rattle.mq_core.specs.declared.model.Kind.{Kind}
-use Rattle.mq_core.specs.declared.model.Kind.TheVariants.{Source, Server, Delay, Loss, Split}
+use Rattle.mq_core.specs.declared.model.Kind.TheVariants.{Source, Server, Delay, Loss, Tandem, Split}
 use Rattle.mq_core.specs.declared.model.Node.{Node}
 use Rattle.mq_core.specs.declared.model.Rows.{Rows}
 
@@ -43,6 +44,7 @@ kind-late rows (Delay demand) visits local now (Arrive t n q j) = (omega arith, 
 kind-late rows (Delay demand) visits local now (Finish t n q j) = tt
 kind-late rows (Loss places demand) visits local now (Arrive t n q j) = loss-late rows places demand visits local now (nat_lt (length local.queue) places)
 kind-late rows (Loss places demand) visits local now (Finish t n q j) = front_leaves-late rows demand visits local now local.queue
+kind-late rows (Tandem stages) visits local now event = tandem-late rows stages visits local now event
 kind-late rows (Split route) visits local now (Arrive t n q j) = tt
 kind-late rows (Split route) visits local now (Finish t n q j) = tt
 

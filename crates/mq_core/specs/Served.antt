@@ -8,7 +8,7 @@ use Rattle.mq_core.specs.declared.model.Demand.{Demand}
 use Rattle.mq_core.specs.declared.model.Fate.{Fate}
 use Rattle.mq_core.specs.declared.model.Fate.TheVariants.{Departs, Lost}
 use Rattle.mq_core.specs.declared.model.Kind.{Kind}
-use Rattle.mq_core.specs.declared.model.Kind.TheVariants.{Source, Server, Delay, Loss, Split}
+use Rattle.mq_core.specs.declared.model.Kind.TheVariants.{Source, Server, Delay, Loss, Tandem, Split}
 use Rattle.mq_core.specs.declared.model.Rows.{Rows}
 use Rattle.mq_core.specs.declared.model.Stage.{Stage}
 
@@ -72,6 +72,7 @@ flow_of rows (Server demand) visits = served_from rows demand 0 0 visits
 flow_of rows (Delay demand) visits = delayed_from rows demand 0 visits
 flow_of rows (Loss places demand) visits =
     faring_from 0 (loss_fates places [] (map (λ (x : Visit). x.arrive) visits) (map (λ (x : Visit). demand_of_job rows demand x.job) visits)) visits
+flow_of rows (Tandem stages) visits = tandem_flow rows stages visits
 flow_of rows (Split route) visits = passed_from (λ visit position. output_by rows route visit.job position) 0 visits
 
 -- the order in which a node lets out: by time and then position at a delay or a loss station, else by position

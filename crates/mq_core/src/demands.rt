@@ -1,9 +1,10 @@
 ghost use Rattle.std.specs.Prelude.{◌≡◌};
-ghost use Rattle.mq_core.specs.Asked.{HasDemand, HasDemands};
+ghost use Rattle.mq_core.specs.Asked.{HasDemand, HasDemands, HasStageDemands};
 ghost use Rattle.mq_core.specs.Results.{bare_time};
-ghost use Rattle.mq_core.specs.Handling.{demand_of_job};
+ghost use Rattle.mq_core.specs.Handling.{demand_of_job, demand_of_stages};
 
-use crate::model::{Demand, Kind, Rows};
+use crate::model::{Demand, Kind, Rows, Stage};
+use mq_base::List;
 
 /// The service demand of a job, in ticks: its value in the column, or the fixed number.
 ///
@@ -19,9 +20,11 @@ pub fn demand_of(rows: &Rows, demand: &Demand, job: u32) -> u64
 }
 
 /// The bare time of a job at a node of this kind, in ticks: how long it stays where it never
-/// waits. That is its demand at a server, a delay or a loss station, and 0 at a source or a split.
+/// waits. That is its demand at a server, a delay or a loss station, the sum of its demands at a
+/// tandem, and 0 at a source or a split.
 ///
-/// The rows have each column that the kind's demands name, and the column has the job.
+/// The rows have each column that the kind's demands name, and the column has the job. At a tandem
+/// the stages are at most 8, and each demand is at most 2^36.
 pub fn bare_of(rows: &Rows, kind: &Kind, job: u32) -> u64
     requires { HasDemands rows.now kind.now job }
     ensures { result ≡ bare_time rows.now kind.now job }
@@ -30,5 +33,18 @@ pub fn bare_of(rows: &Rows, kind: &Kind, job: u32) -> u64
         Kind::Source | Kind::Split(_) => 0,
         Kind::Server(demand) | Kind::Delay(demand) => demand_of(rows, demand, job),
         Kind::Loss { demand, .. } => demand_of(rows, demand, job),
+        Kind::Tandem(stages) => bare_of_stages(rows, stages, job),
     }
+}
+
+// The sum of what a job asks for at these stages.
+fn bare_of_stages(rows: &Rows, stages: &List<Stage>, job: u32) -> u64
+    requires { HasStageDemands rows.now stages.now job }
+    ensures { result ≡ demand_of_stages rows.now stages.now job }
+{
+    let mut total = 0;
+    for at in 0..stages.len() {
+        total += demand_of(rows, &stages.get(at).demand, job);
+    }
+    total
 }

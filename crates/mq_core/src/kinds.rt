@@ -15,6 +15,7 @@ pub fn outputs_of(kind: &Kind) -> u8
     match kind {
         Kind::Source | Kind::Server(_) | Kind::Delay(_) => 1,
         Kind::Loss { .. } => 2,
+        Kind::Tandem(_) => 1,
         Kind::Split(route) => outputs_of_route(route),
     }
 }
@@ -29,14 +30,18 @@ fn outputs_of_route(route: &Route) -> u8
     }
 }
 
-/// How many servers a node of this kind has, by which its utilisation is reckoned; 0 at a source,
-/// a delay or a split, which have none.
+/// How many servers a node of this kind has, by which its utilisation is reckoned: one for each
+/// stage of a tandem, and 0 at a source, a delay or a split, which have none.
+///
+/// They are at most 8, as every kind of a plan has it.
 pub fn servers_of(kind: &Kind) -> u8
+    requires { servers_in kind.now ≤ 8 }
     ensures { result ≡ servers_in kind.now }
 {
     match kind {
         Kind::Server(_) => 1,
         Kind::Loss { .. } => 1,
+        Kind::Tandem(stages) => stages.len() as u8,
         Kind::Source | Kind::Delay(_) | Kind::Split(_) => 0,
     }
 }

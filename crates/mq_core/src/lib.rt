@@ -20,4 +20,6 @@ pub use laws::{
     streams_make_outputs, streams_rise, the_run_ends, totals_are_columns, visits_are_arrivals,
     visits_are_few,
 };
-pub use model::{Demand, Fate, Input, Kind, Network, Node, Plan, Route, Rows, Run, Stream, Visits};
+pub use model::{
+    Demand, Fate, Input, Kind, Network, Node, Plan, Route, Rows, Run, Stage, Stream, Visits,
+};

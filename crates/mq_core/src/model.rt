@@ -55,6 +55,9 @@ pub enum Kind {
     /// One server, and places for 1 to 1,048,576 jobs, with the one in service. A job that finds all
     /// of them taken is lost: it leaves at once, by output 1.
     Loss { places: u32, demand: Demand },
+    /// Stages in series, 2 to 4: a job that is served stays at its stage until the next has a place
+    /// for it.
+    Tandem(List<Stage>),
     /// Sends each job on at once, by one of its outputs.
     Split(Route),
 }
