@@ -15,7 +15,7 @@ use Rattle.mq_core.specs.Tallies.{sum_below}
 use Rattle.mq_core.specs.Theorems.{IsReadFor}
 use Rattle.mq_core.specs.Wiring.{rank_in, reader_from}
 use Rattle.mq_core.specs.declared.model.Kind.{Kind}
-use Rattle.mq_core.specs.declared.model.Kind.TheVariants.{Source, Server, Delay, Loss, Split}
+use Rattle.mq_core.specs.declared.model.Kind.TheVariants.{Source, Server, Delay, Loss, Tandem, Split}
 use Rattle.mq_core.specs.declared.model.Node.{Node}
 use Rattle.mq_core.specs.declared.model.Plan.{Plan}
 use Rattle.mq_core.specs.declared.model.Rows.{Rows}
@@ -23,6 +23,7 @@ use Rattle.mq_core.proofs.ColumnMerges.{visits-nowhere}
 use Rattle.mq_core.proofs.ColumnsEqual.{some-inside}
 use Rattle.mq_core.proofs.Ends.{emission-one, joins-length, joins-emits, starts-weight, starts-inside, source-inside, sum_below-zero}
 use Rattle.mq_core.proofs.DelayNumbers.{delaying-fewer}
+use Rattle.mq_core.proofs.TandemLoad.{held-empty, tandem_arrives-few, tandeming-fewer}
 use Rattle.mq_core.proofs.Facts.{kind_fact, node_fact, standard-keeps}
 use Rattle.mq_core.proofs.Falls.{Falls, never-grows-from_start}
 use Rattle.mq_core.proofs.Kept.{Fact}
@@ -43,6 +44,7 @@ node-arrives-few rows (Some node) local earlier visits now port job v = go node.
         let b = ap length (joins-emits rows demand visits local now local.queue (latest visits)) in
         omega arith
     go (Loss places demand) = losing-arrives-few rows places demand local visits now port job v
+    go (Tandem stages) = tandem_arrives-few rows visits local now stages local.lines refl
     go (Delay demand) = let a = length-append local.scheduled (latest visits ∷ []) in omega arith
     go (Split route) = let l = emission-one now (output_by rows route job (latest visits)) (latest visits) (slice_get visits (latest visits)) in omega arith
 
@@ -61,6 +63,7 @@ node-ends-few rows (Some node) rank v server position s fs rest now h first = go
         serve [] e = let l = ap length e in omega arith
         serve (front ∷ queue) e = let l = emission-one now 0 front (slice_get s.visits front) in omega arith
     go (Loss places demand) h = losing-ends-few rows demand s.visits s.local now
+    go (Tandem stages) h = let all = tandeming-fewer rows v s.visits s.emitted rank fs rest now server position first stages s.local.lines h in omega arith
     go (Delay demand) h =
         let less = delaying-fewer rows demand v rank server position s.visits s.local.scheduled s.emitted fs rest now first h in
         let out = emission-one now 0 position (slice_get s.visits position) in
@@ -183,6 +186,7 @@ module _ (plan : Plan) (rows : Rows) (read : IsReadFor plan.net rows) (v : ℕ) 
           kind (Server demand) = omega arith
           kind (Delay demand) = omega arith
           kind (Loss places demand) = omega arith
+          kind (Tandem stages) = held-empty stages
           kind (Split route) = refl
 
       own : (r u jobs number : ℕ) → cond (ltb r r) jobs (cond (eqb u u) number 0) ≡ number

@@ -11,7 +11,7 @@ use Rattle.mq_core.specs.Standard.{kind_on, kind_opening, node_opening, node_on,
 use Rattle.mq_core.specs.StandardTable.{standard}
 use Rattle.mq_core.specs.Served.{passed_from}
 use Rattle.mq_core.specs.declared.model.Kind.{Kind}
-use Rattle.mq_core.specs.declared.model.Kind.TheVariants.{Source, Server, Delay, Loss, Split}
+use Rattle.mq_core.specs.declared.model.Kind.TheVariants.{Source, Server, Delay, Loss, Tandem, Split}
 use Rattle.mq_core.specs.declared.model.Node.{Node}
 use Rattle.mq_core.specs.declared.model.Plan.{Plan}
 use Rattle.mq_core.specs.declared.model.Rows.{Rows}
@@ -19,6 +19,7 @@ use Rattle.mq_core.proofs.Kept.{Fact, Keeps}
 use Rattle.mq_core.proofs.Loses.{Losing, losing-opens, losing-waits, losing-arrives, losing-ends}
 use Rattle.mq_core.proofs.Soundness.{HasPlaces, sound-places}
 use Rattle.mq_core.proofs.Delays.{Delaying, delaying-opens, delaying-waits, delaying-arrives, delaying-ends}
+use Rattle.mq_core.proofs.Tandems.{Tandeming, tandeming-opens, tandeming-waits, tandeming-arrives, tandeming-ends}
 use Rattle.mq_core.proofs.Serves.{Serving, serving-opens, serving-waits, serving-arrives, serving-ends, slice_get-middle, latest-push}
 
 -- every visit went on at once, and nothing is pending
@@ -54,6 +55,7 @@ kind_fact rows Source v s fs now = Passing (λ _ _. 0) s.visits s.emitted fs
 kind_fact rows (Server demand) v s fs now = Serving rows demand v s.visits s.local.queue s.emitted fs now
 kind_fact rows (Delay demand) v s fs now = Delaying rows demand v s.visits s.local.scheduled s.emitted fs now
 kind_fact rows (Loss places demand) v s fs now = (1 ≤ places) × Losing rows places demand v s.visits s.local.queue s.emitted fs now
+kind_fact rows (Tandem stages) v s fs now = Tandeming rows stages v s.visits s.local.lines s.emitted fs now
 kind_fact rows (Split route) v s fs now = Passing (λ x p. output_by rows route x.job p) s.visits s.emitted fs
 
 abbrev pub node_fact : Rows → Option Node → Fact Local
@@ -65,6 +67,7 @@ kind-opens rows Source v some = record { left = refl; none = refl }
 kind-opens rows (Server demand) v some = serving-opens rows demand v
 kind-opens rows (Delay demand) v some = delaying-opens rows demand v
 kind-opens rows (Loss places demand) v some = (some, losing-opens rows places demand v)
+kind-opens rows (Tandem stages) v some = tandeming-opens rows stages v some
 kind-opens rows (Split route) v some = record { left = refl; none = refl }
 
 kind-waits : (rows : Rows) (kind : Kind) (v : ℕ) (s : Station Local) (area busy : ℕ) (fs : List Event) (now later : ℕ) → now ≤ later → kind_fact rows kind v s fs now → kind_fact rows kind v (record s { area = area; busy = busy }) fs later
@@ -72,6 +75,7 @@ kind-waits rows Source v s area busy fs now later l h = h
 kind-waits rows (Server demand) v s area busy fs now later l h = serving-waits rows demand v s.visits s.local.queue s.emitted fs now later l h
 kind-waits rows (Delay demand) v s area busy fs now later l h = delaying-waits rows demand v s.visits s.local.scheduled s.emitted fs now later l h
 kind-waits rows (Loss places demand) v s area busy fs now later l h = (h.0, losing-waits rows places demand v s.visits s.local.queue s.emitted fs now later l h.1)
+kind-waits rows (Tandem stages) v s area busy fs now later l h = tandeming-waits rows stages v s.visits s.local.lines s.emitted fs now later l h
 kind-waits rows (Split route) v s area busy fs now later l h = h
 
 -- a node after what a handler says
@@ -84,6 +88,7 @@ kind-arrives peak rows Source v port s fs now x at soon h = passing-arrives (λ 
 kind-arrives peak rows (Server demand) v port s fs now x at soon h = serving-arrives rows demand v s.local s.visits s.local.queue s.emitted fs now x at soon h
 kind-arrives peak rows (Delay demand) v port s fs now x at soon h = delaying-arrives rows demand v s.visits s.local.scheduled s.emitted fs now x at soon h
 kind-arrives peak rows (Loss places demand) v port s fs now x at soon h = (h.0, losing-arrives rows places demand v port s.local s.visits s.emitted fs now x at soon h.1)
+kind-arrives peak rows (Tandem stages) v port s fs now x at soon h = tandeming-arrives rows stages v s.local s.visits s.local.lines s.emitted fs now x at soon h
 kind-arrives peak rows (Split route) v port s fs now x at soon h = passing-arrives (λ y p. output_by rows route y.job p) v now (output_by rows route x.job (latest (s.visits ++ x ∷ []))) s.visits s.emitted fs x at refl h
 
 no_finish : (rank : ℕ → ℕ) (fs rest : List Event) (e : Event) → fs ≡ [] → earliest rank fs ≡ Some (e, rest) → ⊥
@@ -96,6 +101,7 @@ kind-ends peak rows Source rank v server position s fs rest now first h = absurd
 kind-ends peak rows (Server demand) rank v server position s fs rest now first h = serving-ends rows demand rank v server position s.local s.visits s.local.queue s.emitted fs rest now first h
 kind-ends peak rows (Delay demand) rank v server position s fs rest now first h = delaying-ends rows demand rank v server position s.visits s.local.scheduled s.emitted fs rest now first h
 kind-ends peak rows (Loss places demand) rank v server position s fs rest now first h = (h.0, losing-ends rows places demand rank v server position s.local s.visits s.local.queue s.emitted fs rest now first h.1)
+kind-ends peak rows (Tandem stages) rank v server position s fs rest now first h = tandeming-ends rows v s.visits s.emitted rank fs rest now server position first stages s.local.lines h
 kind-ends peak rows (Split route) rank v server position s fs rest now first h = absurd (no_finish rank fs rest _ h.none first)
 
 -- the standard handlers under any wiring

@@ -21,6 +21,7 @@ pub mod TandemSweep
 pub mod TandemOrder
 pub mod Tandems
 pub mod TandemFlow
+pub mod TandemColumns
 pub mod TandemNumbers
 pub mod TandemLoad
 pub mod Facts

@@ -10,7 +10,7 @@ use Rattle.mq_core.specs.Machine.{Visit, Emission, Release, Service, finishes_of
 use Rattle.mq_core.specs.Local.{Local, Line}
 use Rattle.mq_core.specs.Handling.{demand_of_visit, demand_at, latest, begins_at, begins_alone, stages_of_visit}
 use Rattle.mq_core.specs.Tallies.{sum_below}
-use Rattle.mq_core.specs.TandemHandler.{Swept, has_room, leaves, moves, sweep, marked, tandem_arrives, one_if_serving, serving_in}
+use Rattle.mq_core.specs.TandemHandler.{Swept, has_room, leaves, moves, sweep, marked, tandem_arrives, empty_lines, one_if_serving, serving_in}
 use Rattle.mq_core.specs.declared.model.Stage.{Stage}
 use Rattle.mq_core.specs.declared.model.Rows.{Rows}
 use Rattle.mq_core.proofs.Areas.{get-front, sum-same}
@@ -78,6 +78,15 @@ begun_in rows visits came [] lines = 0
 begun_in rows visits came (stage ∷ stages) [] = 0
 begun_in rows visits came (stage ∷ stages) (line ∷ lines) =
     sum_below (came - (length line.queue - 1)) (λ p. demand_at rows stage.demand visits p) + begun_in rows visits (came - length line.queue) stages lines
+
+pub begun-empty : (rows : Rows) (visits : List Visit) (stages : List Stage) → begun_in rows visits 0 stages (empty_lines stages) ≡ 0
+begun-empty rows visits [] = refl
+begun-empty rows visits (stage ∷ stages) =
+    let a : 0 - (0 - 1) ≡ 0 = omega arith in
+    let b = ap (λ n. sum_below n (λ p. demand_at rows stage.demand visits p)) a in
+    let c : 0 - 0 ≡ 0 = omega arith in
+    let d = ap (λ n. begun_in rows visits n stages (empty_lines stages)) c in
+    omega (arith, b, d, begun-empty rows visits stages)
 
 -- a mark begins nothing
 marked-begun : (rows : Rows) (visits : List Visit) (came q : ℕ) (stages : List Stage) (lines : List Line) → begun_in rows visits came stages (marked q lines) ≡ begun_in rows visits came stages lines

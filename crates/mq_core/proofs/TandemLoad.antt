@@ -7,7 +7,7 @@ use Rattle.mq_core.specs.Event.Event.{Finish}
 use Rattle.mq_core.specs.Machine.{Visit, Emission, Release, Service, emission_of, emissions_of}
 use Rattle.mq_core.specs.Local.{Local, Line}
 use Rattle.mq_core.specs.Handling.{latest, begins_alone}
-use Rattle.mq_core.specs.TandemHandler.{Swept, has_room, leaves, moves, sweep, marked, tandem_arrives, held_in}
+use Rattle.mq_core.specs.TandemHandler.{Swept, has_room, leaves, moves, sweep, marked, tandem_arrives, empty_lines, held_in}
 use Rattle.mq_core.specs.declared.model.Stage.{Stage}
 use Rattle.mq_core.specs.declared.model.Rows.{Rows}
 use Rattle.mq_core.proofs.TandemFlow.{outs-length}
@@ -80,6 +80,22 @@ emissions-few now visits (r ∷ releases) = go (slice_get visits r.position) (em
     go : (o : Option Visit) → length (emissions_of now visits releases) ≤ length releases → length (emission_of now r.out r.position o ++ emissions_of now visits releases) ≤ suc (length releases)
     go None ih = omega arith
     go (Some x) ih = omega arith
+
+pub load-empty : (onward : ℕ) (stages : List Stage) → load_in onward stages (empty_lines stages) ≡ 0
+load-empty onward [] = refl
+load-empty onward (stage ∷ stages) = omega (arith, load-empty onward stages)
+
+pub held-empty : (stages : List Stage) → held_in (empty_lines stages) ≡ 0
+held-empty [] = refl
+held-empty (stage ∷ stages) = held-empty stages
+
+-- an arrival brings at most one job in
+pub tandem_arrives-few : (rows : Rows) (visits : List Visit) (local : Local) (now : ℕ) (stages : List Stage) (lines : List Line) → local.lines ≡ lines →
+    held_in (tandem_arrives rows visits local now stages lines).local.lines + length (emissions_of now visits (tandem_arrives rows visits local now stages lines).releases) ≤ held_in lines + 1
+tandem_arrives-few rows visits local now [] lines e = let a = ap held_in e in omega arith
+tandem_arrives-few rows visits local now (stage ∷ stages) [] e = let a = ap held_in e in omega arith
+tandem_arrives-few rows visits local now (stage ∷ stages) (line ∷ lines) e =
+    omega (arith, length-append line.queue (latest visits ∷ []), held-cons (record line { queue = line.queue ++ latest visits ∷ [] }) lines, held-cons line lines)
 
 -- an arrival weighs more than what it leaves
 pub tandeming-arrives_falls : (rows : Rows) (onward : ℕ) (stages : List Stage) (v : ℕ) (local : Local) (visits more : List Visit) (lines : List Line) (emitted : List Emission) (fs : List Event) (now : ℕ) → Tandeming rows stages v visits lines emitted fs now →

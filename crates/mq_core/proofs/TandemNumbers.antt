@@ -18,7 +18,8 @@ use Rattle.mq_core.proofs.TandemFlow.{outs-flow, staying-outs}
 use Rattle.mq_core.proofs.TandemStages.{upwards, upwards-length, outs, Blocked, Front, AtStage, Stages}
 use Rattle.mq_core.proofs.TandemTimes.{ended, time_at}
 use Rattle.mq_core.proofs.TandemOrder.{MovesFrom}
-use Rattle.mq_core.proofs.Tandems.{HavePlaces, Tandeming, finish-moves, finish-behind}
+use Rattle.mq_core.proofs.Soundness.{LaterPlaces}
+use Rattle.mq_core.proofs.Tandems.{Tandeming, finish-moves, finish-behind}
 
 pub held-cons : (line : Line) (lines : List Line) → held_in (line ∷ lines) ≡ length line.queue + held_in lines
 held-cons line lines = length-append line.queue (flat_map (λ (l : Line). l.queue) lines)
@@ -47,7 +48,7 @@ tandeming-number rows stages v visits lines emitted fs now h =
     omega arith
 
 -- with nothing pending no stage holds a job
-settled : (rows : Rows) (v : ℕ) (visits : List Visit) (time : ℕ → ℕ → ℕ) (server came : ℕ) (stages : List Stage) (lines : List Line) (emitted : List Emission) (now : ℕ) → HavePlaces stages → Stages rows v Blocked visits time server came stages lines emitted [] now → Each (λ (line : Line). line.queue ≡ []) lines
+settled : (rows : Rows) (v : ℕ) (visits : List Visit) (time : ℕ → ℕ → ℕ) (server came : ℕ) (stages : List Stage) (lines : List Line) (emitted : List Emission) (now : ℕ) → LaterPlaces stages → Stages rows v Blocked visits time server came stages lines emitted [] now → Each (λ (line : Line). line.queue ≡ []) lines
 settled rows v visits time server came [] [] emitted now places h = tt
 settled rows v visits time server came [] (line ∷ lines) emitted now places h = absurd h
 settled rows v visits time server came (stage ∷ stages) [] emitted now places h = absurd h
@@ -56,7 +57,7 @@ settled rows v visits time server came (stage ∷ stages) (line ∷ lines) emitt
     let none = settled rows v visits (λ s. time (suc s)) (server + 1) a.left stages lines emitted now (later stages places) h.1 in
     (a.waiting ∙ go a.left a.here line.done (room stages lines places none) a.front, none)
   where
-    later : (more : List Stage) → Each (λ (s : Stage). 1 ≤ s.places) more → HavePlaces more
+    later : (more : List Stage) → Each (λ (s : Stage). 1 ≤ s.places) more → LaterPlaces more
     later [] k = tt
     later (next ∷ more) k = k.1
 

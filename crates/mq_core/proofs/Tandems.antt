@@ -19,6 +19,7 @@ use Rattle.mq_core.proofs.Delays.{CameBefore, place_in}
 use Rattle.mq_core.proofs.Each.{Each-append, Each-both, Each-front, Each-back, Each-map}
 use Rattle.mq_core.proofs.Pending.{earliest-splits, earliest-filter, filter-earliest_other}
 use Rattle.mq_core.proofs.DelayNumbers.{earliest-each}
+use Rattle.mq_core.proofs.Soundness.{AreStages}
 use Rattle.mq_core.proofs.Serves.{latest-push, pair-inj}
 use Rattle.mq_core.proofs.TandemTimes.{ended, time_at, times-solve, time-same}
 use Rattle.mq_core.proofs.TandemStages.{is_finish_of, Blocked, BlockedUntil, Front, AtStage, Stages, stages-wait, stages-agree, stages-other, front-other}
@@ -29,17 +30,6 @@ use Rattle.mq_core.proofs.TandemSweep.{IsWithin, begins_alone-within, stages-ent
 abbrev pub is_finish_below : ℕ → Event → Bool
 is_finish_below servers (Arrive time node port job) = false
 is_finish_below servers (Finish time node server position) = nat_lt server servers
-
--- each stage after the first has a place
-abbrev pub HavePlaces : List Stage → Type 0
-HavePlaces [] = Unit {0}
-HavePlaces (stage ∷ stages) = Each (λ (s : Stage). 1 ≤ s.places) stages
-
--- at least one stage and at most 8, and each after the first has a place
-pub record AreStages (stages : List Stage) : Type 0 where
-  pub some : 1 ≤ length stages
-  pub few : length stages ≤ 8
-  pub places : HavePlaces stages
 
 -- a tandem: its stages are in order, no other finish is pending than those of its servers, and who is behind a job in
 -- service came before that ends

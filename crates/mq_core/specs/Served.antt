@@ -54,11 +54,12 @@ faring_from position [] visits = []
 faring_from position (fate ∷ fates) [] = []
 faring_from position (fate ∷ fates) (visit ∷ visits) = faring_by position fate visit ∷ faring_from (suc position) fates visits
 
--- when these jobs, which come at these times, leave a tandem
+-- when these jobs, which come at these times, leave a tandem; with no stage they go on as they come
 abbrev pub tandem_times : Rows → List Stage → List ℕ → List ℕ → List ℕ
-tandem_times rows stages jobs arrives =
-    tandem_departs (map (λ (stage : Stage). stage.places) stages) (map (λ _. []) stages) arrives
-    (map (λ (stage : Stage). map (demand_of_job rows stage.demand) jobs) stages)
+tandem_times rows [] jobs arrives = arrives
+tandem_times rows (stage ∷ stages) jobs arrives =
+    tandem_departs (map (λ (s : Stage). s.places) (stage ∷ stages)) (map (λ _. []) (stage ∷ stages)) arrives
+    (map (λ (s : Stage). map (demand_of_job rows s.demand) jobs) (stage ∷ stages))
 
 -- what these visits let out at a tandem, each when it leaves the last stage
 abbrev pub tandem_flow : Rows → List Stage → List Visit → List Emission
