@@ -38,6 +38,7 @@ pub mod Plans
 pub mod NetworkRuns
 pub mod RecurrenceRows
 pub mod WorkedRows
+pub mod TandemRows
 pub mod EmissionsAt
 pub mod Founds
 pub mod Busy
