@@ -1,8 +1,8 @@
-use Rattle.std.proofs.Common.{◌≡◌, inl, ℕ, zero, suc, ◌+◌, ◌<◌, Bool, true, false, cond, eqb, List, [], ◌∷◌, length, Some, sym, refl, ap, ◌∙◌, subst, arith, eq-eqb}
+use Rattle.std.proofs.Common.{◌≡◌, inl, ℕ, zero, suc, ◌+◌, false, cond, eqb, List, [], ◌∷◌, Some, sym, refl, ap, ◌∙◌, subst, arith, eq-eqb}
 use Rattle.std.specs.Prelude.{slice_get}
 use Rattle.mq_core.specs.ColumnLaws.{NodesFlow}
 use Rattle.mq_core.specs.Machine.{Visit, Emission}
-use Rattle.mq_core.specs.Served.{flow_of, in_leaving_order}
+use Rattle.mq_core.specs.Served.{flow_of}
 use Rattle.mq_core.specs.StandardTable.{run_of}
 use Rattle.mq_core.specs.Tallies.{emission_at}
 use Rattle.mq_core.specs.Theorems.{IsReadFor}

@@ -11,9 +11,7 @@ use Rattle.mq_core.specs.Handling.{demand_of_job}
 use Rattle.mq_core.specs.StandardTable.{run_of}
 use Rattle.mq_core.specs.declared.model.Fate.{Fate}
 use Rattle.mq_core.specs.declared.model.Fate.TheVariants.{Departs, Lost}
-use Rattle.mq_core.specs.declared.model.Kind.{Kind}
 use Rattle.mq_core.specs.declared.model.Kind.TheVariants.{Source, Server, Delay, Loss, Tandem, Split}
-use Rattle.mq_core.specs.declared.model.Rows.{Rows}
 use Rattle.mq_core.specs.declared.model.Visits.{Visits}
 use Rattle.mq_core.proofs.ColumnsEqual.{nodes-are-columns}
 use Rattle.mq_core.proofs.Pending.{some_inj}

@@ -14,11 +14,10 @@ use Rattle.mq_core.specs.Tallies.{sum_below, greatest_below, emission_at, found_
 use Rattle.mq_core.specs.declared.model.Demand.{Demand}
 use Rattle.mq_core.specs.declared.model.Rows.{Rows}
 use Rattle.mq_core.proofs.Areas.{get-front, get-last, sum-same}
-use Rattle.mq_core.proofs.ColumnNumbers.{Numbered, numbered-inside}
-use Rattle.mq_core.proofs.Each.{Each-weaker}
+use Rattle.mq_core.proofs.ColumnNumbers.{Numbered}
 use Rattle.mq_core.proofs.EmissionsAt.{neq-eqb, found-behind, other-behind}
-use Rattle.mq_core.proofs.Loses.{Losing, ToLeave, front_finish, chained_behind, all_fared, all_left, front-emission, place-free}
-use Rattle.mq_core.proofs.LossFlow.{leaves_at, fate_if, fared, fared-push, fared-numbered, has_place}
+use Rattle.mq_core.proofs.Loses.{Losing, ToLeave, front_finish, all_fared, all_left, front-emission, place-free}
+use Rattle.mq_core.proofs.LossFlow.{leaves_at, fate_if, fared-push, fared-numbered, has_place}
 use Rattle.mq_core.proofs.NumberLists.{sum_below-first}
 use Rattle.mq_core.proofs.Releases.{joins-longer, joins-nothing}
 use Rattle.mq_core.proofs.Remaining.{remaining}

@@ -1,9 +1,9 @@
 -- The flow of a loss station: its fates, its outputs and its times, and that neither output goes back in time.
 use Rattle.std.proofs.Common.{◌≡◌, inl, inr, ℕ, suc, ◌+◌, ◌≤◌, max, Bool, true, false, cond, eqb, List, [], ◌∷◌, map, length, sym, refl, ap, ◌∙◌, arith, eqb-true}
-use Rattle.std.specs.Prelude.{filter, slice_get}
+use Rattle.std.specs.Prelude.{slice_get}
 use Rattle.std.specs.List.{AllByRecursion as Each}
 use Rattle.mq_core.specs.ColumnLaws.{arrives_of}
-use Rattle.mq_core.specs.Columns.{leaving_times, out_of_fate}
+use Rattle.mq_core.specs.Columns.{out_of_fate}
 use Rattle.mq_core.specs.Fates.{fate_by}
 use Rattle.mq_core.specs.Handling.{demand_of_job}
 use Rattle.mq_core.specs.Laws.{Rises, in_order_of, stream_of}

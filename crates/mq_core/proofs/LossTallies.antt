@@ -1,5 +1,5 @@
 -- What a loss station weighs, how many it holds, whom it lets out, and how it ends.
-use Rattle.std.proofs.Common.{◌≡◌, ℕ, zero, suc, ◌+◌, ◌*◌, ◌<◌, ◌≤◌, Bool, true, false, cond, eqb, ltb, List, [], ◌∷◌, ◌++◌, length, map, Option, Some, None, sym, refl, ap, ◌∙◌, subst, arith, length-append}
+use Rattle.std.proofs.Common.{◌≡◌, ℕ, suc, ◌+◌, ◌*◌, ◌<◌, ◌≤◌, Bool, true, false, cond, ltb, List, [], ◌∷◌, ◌++◌, length, map, Some, sym, refl, ap, ◌∙◌, subst, arith}
 use Rattle.std.proofs.Math.Nat.{suc-mul}
 use Rattle.std.proofs.lemmas.List.{append-nil, length-map}
 use Rattle.std.specs.Prelude.{slice_get}
@@ -7,7 +7,7 @@ use Rattle.std.specs.List.{AllByRecursion as Each}
 use Rattle.mq_core.specs.Event.{Event, time_of, earliest, sooner_of}
 use Rattle.mq_core.specs.Event.Event.{Arrive, Finish}
 use Rattle.mq_core.specs.Machine.{Visit, Emission, emissions_of, emission_of}
-use Rattle.mq_core.specs.Laws.{Rises, in_order_of}
+use Rattle.mq_core.specs.Laws.{in_order_of}
 use Rattle.mq_core.specs.Local.{Local}
 use Rattle.mq_core.specs.Handling.{demand_of_job, latest, joins, passes_on, front_leaves}
 use Rattle.mq_core.specs.LossHandler.{loss_on}
@@ -18,7 +18,7 @@ use Rattle.mq_core.specs.declared.model.Demand.{Demand}
 use Rattle.mq_core.specs.declared.model.Rows.{Rows}
 use Rattle.mq_core.proofs.Each.{Each-weaker}
 use Rattle.mq_core.proofs.Loses.{Losing, ToLeave, front_finish, all_fared, front-emission}
-use Rattle.mq_core.proofs.LossFlow.{has_place, fared, fared-numbered, fared-fates}
+use Rattle.mq_core.proofs.LossFlow.{has_place, fared-numbered, fared-fates}
 use Rattle.mq_core.proofs.Releases.{emissions-one, times-few, joins-longer, joins-nothing, release-own, release-none}
 use Rattle.mq_core.proofs.Reordered.{times_at, times_at-append, times_at-in_order, times_at-numbered, times_at-once, emission_at-some, emission_at-in_order, staying-coming}
 use Rattle.mq_core.proofs.Serves.{latest-push, joins-releases, pair-inj}
@@ -139,8 +139,8 @@ losing-same rows places demand v visits queue emitted now h q =
 pub losing-found : (rows : Rows) (places : ℕ) (demand : Demand) (v : ℕ) (visits : List Visit) (queue : List ℕ) (emitted : List Emission) (now : ℕ) → Losing rows places demand v visits queue emitted [] now → (p : ℕ) → p < length visits → (m : Emission) × (emission_at emitted p ≡ Some m)
 losing-found rows places demand v visits queue emitted now h p l =
     let one = ap (times_at p) (losing-done rows places demand v visits queue emitted now h).1
-        ∙ (times_at-in_order (λ (m : Emission). m.time) p (all_fared rows places demand visits)
-        ∙ times_at-numbered 0 p (all_fared rows places demand visits) visits (fared-numbered (has_place places) rows demand 0 [] visits) (omega arith) (omega arith)) in
+    ∙ (times_at-in_order (λ (m : Emission). m.time) p (all_fared rows places demand visits)
+    ∙ times_at-numbered 0 p (all_fared rows places demand visits) visits (fared-numbered (has_place places) rows demand 0 [] visits) (omega arith) (omega arith)) in
     emission_at-some p emitted (omega arith)
 
 -- the same by the rule that looks at the last departures

@@ -1,4 +1,4 @@
-use Rattle.std.proofs.Common.{◌≡◌, ◌≢◌, ◌⊎◌, inl, inr, ℕ, zero, suc, ◌+◌, ◌*◌, ◌<◌, ◌≤◌, Bool, true, false, cond, eqb, List, [], ◌∷◌, ◌++◌, length, map, Option, Some, None, sym, refl, ap, ◌∙◌, subst, arith, max, fold, slice_get, find, option_map, filter, eq-eqb, ne_eqb, le_antisymm, length-append}
+use Rattle.std.proofs.Common.{◌≡◌, ◌⊎◌, inl, inr, ℕ, zero, suc, ◌+◌, ◌*◌, ◌<◌, ◌≤◌, Bool, true, false, cond, eqb, List, [], ◌∷◌, ◌++◌, length, map, Option, Some, None, sym, refl, ap, ◌∙◌, subst, arith, max, fold, slice_get, find, option_map, filter, le_antisymm, length-append}
 use Rattle.std.proofs.lemmas.List.{append-nil}
 use Rattle.std.specs.List.{AllByRecursion as Each}
 use Rattle.mq_core.specs.Columns.{time_of_fate, greatest_time, column_span, visits_by_node}
@@ -14,12 +14,11 @@ use Rattle.mq_core.specs.OnTime.{standard-on_time}
 use Rattle.mq_core.specs.Results.{fates_from, visits_of}
 use Rattle.mq_core.specs.Run.{starts}
 use Rattle.mq_core.specs.Served.{flow_of}
-use Rattle.mq_core.specs.Standard.{node_on, output_by, standard_handle, standard_jobs, standard_opening}
+use Rattle.mq_core.specs.Standard.{node_on, standard_handle, standard_jobs, standard_opening}
 use Rattle.mq_core.specs.StandardTable.{standard, run_of}
 use Rattle.mq_core.specs.Tallies.{emission_at, arrival_or}
 use Rattle.mq_core.specs.Theorems.{IsReadFor}
 use Rattle.mq_core.specs.Wiring.{is_source, outputs_read}
-use Rattle.mq_core.specs.declared.model.Demand.{Demand}
 use Rattle.mq_core.specs.declared.model.Fate.TheVariants.{Departs, Lost}
 use Rattle.mq_core.specs.declared.model.Kind.{Kind}
 use Rattle.mq_core.specs.declared.model.Kind.TheVariants.{Source, Server, Delay, Loss, Tandem, Split}
@@ -31,7 +30,6 @@ use Rattle.mq_core.proofs.Each.{Each-map}
 use Rattle.mq_core.proofs.ColumnFlow.{nodes-flow, node-leaves}
 use Rattle.mq_core.proofs.ColumnNumbers.{LeavesAs, flow-numbered, order-own}
 use Rattle.mq_core.proofs.Ends.{nothing-pending}
-use Rattle.mq_core.proofs.Facts.{kind_fact, node_fact}
 use Rattle.mq_core.proofs.Kept.{Keeps, kept}
 use Rattle.mq_core.proofs.NumberFates.{LetOut, all-let_out, fates-cons}
 use Rattle.mq_core.proofs.NumberLists.{greatest-least, greatest-bounds}

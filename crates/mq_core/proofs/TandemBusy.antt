@@ -1,14 +1,14 @@
 -- How busy a tandem is: the demands of all services that have begun, less what is left of them.
-use Rattle.std.proofs.Common.{◌≡◌, ℕ, zero, suc, ◌+◌, ◌-◌, ◌*◌, ◌<◌, ◌≤◌, Bool, true, false, cond, eqb, ltb, leb, List, [], ◌∷◌, ◌++◌, length, Option, Some, None, sym, refl, ap, ◌∙◌, subst, arith, length-append}
+use Rattle.std.proofs.Common.{◌≡◌, ℕ, zero, suc, ◌+◌, ◌-◌, ◌*◌, ◌<◌, ◌≤◌, Bool, true, false, cond, eqb, leb, List, [], ◌∷◌, ◌++◌, length, Option, Some, None, sym, refl, ap, ◌∙◌, subst, arith, length-append}
 use Rattle.std.proofs.lemmas.Bool.Decides.{nat_tests}
-use Rattle.std.proofs.lemmas.List.{append-nil, map-append}
+use Rattle.std.proofs.lemmas.List.{map-append}
 use Rattle.std.specs.Prelude.{filter, slice_get, nat_le, nat_lt, ◌&&◌}
 use Rattle.std.specs.List.{AllByRecursion as Each}
 use Rattle.mq_core.specs.Event.{Event, time_of, earliest}
 use Rattle.mq_core.specs.Event.Event.{Arrive, Finish}
 use Rattle.mq_core.specs.Machine.{Visit, Emission, Release, Service, finishes_of}
 use Rattle.mq_core.specs.Local.{Local, Line}
-use Rattle.mq_core.specs.Handling.{demand_of_visit, demand_at, latest, begins_at, begins_alone, stages_of_visit}
+use Rattle.mq_core.specs.Handling.{demand_of_visit, demand_at, begins_at, begins_alone, stages_of_visit}
 use Rattle.mq_core.specs.Tallies.{sum_below}
 use Rattle.mq_core.specs.TandemHandler.{Swept, has_room, leaves, moves, sweep, marked, tandem_arrives, empty_lines, one_if_serving, serving_in}
 use Rattle.mq_core.specs.declared.model.Stage.{Stage}
@@ -20,7 +20,7 @@ use Rattle.mq_core.proofs.Remaining.{remaining, remaining-append, remaining-wait
 use Rattle.mq_core.proofs.Serves.{latest-push}
 use Rattle.mq_core.proofs.TandemNumbers.{tandeming-empty}
 use Rattle.mq_core.proofs.TandemStages.{is_finish_of, upwards, upwards-length, Staying, Blocked, BlockedUntil, Front, AtStage, Stages}
-use Rattle.mq_core.proofs.TandemSweep.{Sweeping, sweep-keeps}
+use Rattle.mq_core.proofs.TandemSweep.{sweep-keeps}
 use Rattle.mq_core.proofs.TandemTimes.{ended, time_at, times-solve, Solved}
 use Rattle.mq_core.proofs.Tandems.{Tandeming, is_finish_below, marked-keep}
 

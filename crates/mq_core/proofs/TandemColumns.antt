@@ -1,5 +1,5 @@
 -- The times of a tandem in columns: one a visit, and none before its arrival.
-use Rattle.std.proofs.Common.{◌≡◌, ℕ, zero, suc, ◌+◌, ◌≤◌, List, [], ◌∷◌, map, length, Option, Some, None, sym, refl, ap, ◌∙◌, arith, max}
+use Rattle.std.proofs.Common.{◌≡◌, ℕ, suc, ◌+◌, ◌≤◌, List, [], ◌∷◌, map, length, sym, refl, ap, ◌∙◌, arith, max}
 use Rattle.std.proofs.lemmas.List.{length-map}
 use Rattle.std.specs.Prelude.{slice_get}
 use Rattle.mq_core.specs.Handling.{demand_of_job}
@@ -55,9 +55,10 @@ departs-late : (p : ℕ) (places : List ℕ) (left : List (List ℕ)) (arrives :
 departs-late p places left [] demands e f = tt
 departs-late p places left (arrive ∷ arrives) demands e f =
     let asked : length (firsts demands) ≡ suc (length places) = length-map demands _ ∙ e in
-    let times = stage_departs-length arrive (p ∷ places) (firsts demands) left asked f in
-    (late (firsts demands) left asked f,
-    departs-late p places (each_before (stage_departs arrive (p ∷ places) (firsts demands) left) left) arrives (map rest demands) (length-map demands rest ∙ e) (each_before-length (stage_departs arrive (p ∷ places) (firsts demands) left) left (times ∙ sym f) ∙ f))
+    let times = stage_departs-length arrive (p ∷ places) (firsts demands) left asked f in (
+      late (firsts demands) left asked f,
+      departs-late p places (each_before (stage_departs arrive (p ∷ places) (firsts demands) left) left) arrives (map rest demands) (length-map demands rest ∙ e) (each_before-length (stage_departs arrive (p ∷ places) (firsts demands) left) left (times ∙ sym f) ∙ f),
+    )
   where
     late : (asked : List ℕ) (gone : List (List ℕ)) → length asked ≡ suc (length places) → length gone ≡ suc (length places) → arrive ≤ last_time (stage_departs arrive (p ∷ places) asked gone)
     late [] gone e f = absurd (omega arith)

@@ -1,16 +1,16 @@
 -- The times of the last stage of a tandem are those of its recurrence, and so is what it lets out in all.
-use Rattle.std.proofs.Common.{◌≡◌, ℕ, zero, suc, ◌+◌, ◌<◌, ◌≤◌, Bool, true, false, eqb, List, [], ◌∷◌, ◌++◌, length, Option, Some, None, sym, refl, ap, ◌∙◌, subst, arith, append_assoc, length-append}
+use Rattle.std.proofs.Common.{◌≡◌, ℕ, zero, suc, ◌+◌, ◌<◌, ◌≤◌, Bool, true, false, eqb, List, [], ◌∷◌, ◌++◌, length, Some, None, sym, refl, ap, ◌∙◌, arith, append_assoc, length-append}
 use Rattle.std.proofs.lemmas.Bool.Decides.{nat_tests}
 use Rattle.std.proofs.lemmas.List.{append-nil}
 use Rattle.std.specs.Prelude.{slice_get, map}
 use Rattle.mq_core.specs.Machine.{Visit, Emission, emission_of}
-use Rattle.mq_core.specs.Handling.{demand_of_job, demand_of_visit}
-use Rattle.mq_core.specs.Recurrences.{time_or_none, stage_departs, each_before, firsts, rest, last_time, tandem_departs}
-use Rattle.mq_core.specs.Served.{leaving_from, tandem_times, tandem_flow}
+use Rattle.mq_core.specs.Handling.{demand_of_job}
+use Rattle.mq_core.specs.Recurrences.{stage_departs, each_before, firsts, rest, last_time, tandem_departs}
+use Rattle.mq_core.specs.Served.{leaving_from, tandem_flow}
 use Rattle.mq_core.specs.Tallies.{sum_below, emission_at, one_if_none, staying}
 use Rattle.mq_core.specs.declared.model.Stage.{Stage}
 use Rattle.mq_core.specs.declared.model.Rows.{Rows}
-use Rattle.mq_core.proofs.EmissionsAt.{neq-eqb, found-behind, other-behind}
+use Rattle.mq_core.proofs.EmissionsAt.{found-behind, other-behind}
 use Rattle.mq_core.proofs.Serves.{slice_get-middle}
 use Rattle.mq_core.proofs.TandemTimes.{across, places_of, asked_of, row_of, history, time_at, row-is_across}
 use Rattle.mq_core.proofs.TandemStages.{outs}
@@ -102,16 +102,18 @@ outs-some visits f (suc out) p l u = go (eqb out p) refl (outs-some visits f out
 
     go : (b : Bool) → eqb out p ≡ b → (out ≤ length visits → p < out → (o : Emission) × (emission_at (outs visits f out) p ≡ Some o)) → (o : Emission) × (emission_at (outs visits f (suc out)) p ≡ Some o)
     go true e ih =
-        let same : out ≡ p = grind (arith, nat_tests) in
-        (record { out = 0; position = out; job = x.0.job; time = f out },
-        ap (λ o. emission_at (outs visits f out ++ emission_of (f out) 0 out o) p) x.1
-        ∙ found-behind p (outs visits f out) (record { out = 0; position = out; job = x.0.job; time = f out }) same (outs-none visits f out p (omega arith) (omega arith)))
+        let same : out ≡ p = grind (arith, nat_tests) in (
+          record { out = 0; position = out; job = x.0.job; time = f out },
+          ap (λ o. emission_at (outs visits f out ++ emission_of (f out) 0 out o) p) x.1
+              ∙ found-behind p (outs visits f out) (record { out = 0; position = out; job = x.0.job; time = f out }) same (outs-none visits f out p (omega arith) (omega arith)),
+        )
     go false e ih =
         let other : out ≡ p → ⊥ = grind (arith, nat_tests) in
-        let old = ih (omega arith) (less other) in
-        (old.0,
-        ap (λ o. emission_at (outs visits f out ++ emission_of (f out) 0 out o) p) x.1
-        ∙ (other-behind p (outs visits f out) (record { out = 0; position = out; job = x.0.job; time = f out }) other ∙ old.1))
+        let old = ih (omega arith) (less other) in (
+          old.0,
+          ap (λ o. emission_at (outs visits f out ++ emission_of (f out) 0 out o) p) x.1
+              ∙ (other-behind p (outs visits f out) (record { out = 0; position = out; job = x.0.job; time = f out }) other ∙ old.1),
+        )
       where
         less : (out ≡ p → ⊥) → p < out
         less other = omega arith

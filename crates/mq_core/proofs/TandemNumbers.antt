@@ -1,23 +1,20 @@
 -- What a tandem holds, what it still weighs, whom it lets out at an event, and what it let out at its end.
-use Rattle.std.proofs.Common.{◌≡◌, ◌⊎◌, inl, inr, ℕ, zero, suc, ◌+◌, ◌-◌, ◌*◌, ◌<◌, ◌≤◌, Bool, true, false, cond, eqb, List, [], ◌∷◌, ◌++◌, length, Option, Some, None, sym, refl, ap, ◌∙◌, subst, arith, length-append, eqb-true}
-use Rattle.std.proofs.Math.Nat.{suc-mul, add-mul}
+use Rattle.std.proofs.Common.{◌≡◌, ◌⊎◌, inl, inr, ℕ, zero, suc, ◌+◌, ◌<◌, ◌≤◌, Bool, true, false, cond, eqb, List, [], ◌∷◌, ◌++◌, length, Option, Some, None, refl, ap, ◌∙◌, arith, length-append, eqb-true}
 use Rattle.std.proofs.lemmas.Bool.Decides.{nat_tests}
-use Rattle.std.specs.Prelude.{slice_get, ◌&&◌}
+use Rattle.std.specs.Prelude.{slice_get}
 use Rattle.std.specs.List.{AllByRecursion as Each, flat_map}
 use Rattle.mq_core.specs.Event.{Event, earliest}
-use Rattle.mq_core.specs.Event.Event.{Arrive, Finish}
-use Rattle.mq_core.specs.Machine.{Visit, Emission, Release, Service, emission_of, emissions_of}
+use Rattle.mq_core.specs.Event.Event.{Finish}
+use Rattle.mq_core.specs.Machine.{Visit, Emission, Release, emission_of, emissions_of}
 use Rattle.mq_core.specs.Local.{Local, Line}
-use Rattle.mq_core.specs.Handling.{latest}
 use Rattle.mq_core.specs.Served.{tandem_flow}
 use Rattle.mq_core.specs.Tallies.{staying, arrival_or, emission_at}
-use Rattle.mq_core.specs.TandemHandler.{Swept, has_room, leaves, moves, sweep, marked, tandem_arrives, held_in}
+use Rattle.mq_core.specs.TandemHandler.{has_room, sweep, marked, tandem_arrives, held_in}
 use Rattle.mq_core.specs.declared.model.Stage.{Stage}
 use Rattle.mq_core.specs.declared.model.Rows.{Rows}
 use Rattle.mq_core.proofs.TandemFlow.{outs-flow, staying-outs}
-use Rattle.mq_core.proofs.TandemStages.{upwards, upwards-length, outs, Blocked, Front, AtStage, Stages}
+use Rattle.mq_core.proofs.TandemStages.{upwards, upwards-length, outs, Blocked, Front, Stages}
 use Rattle.mq_core.proofs.TandemTimes.{ended, time_at}
-use Rattle.mq_core.proofs.TandemOrder.{MovesFrom}
 use Rattle.mq_core.proofs.Soundness.{LaterPlaces}
 use Rattle.mq_core.proofs.Tandems.{Tandeming, finish-moves, finish-behind}
 

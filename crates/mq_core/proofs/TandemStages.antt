@@ -1,5 +1,5 @@
 -- What holds of the stages of a tandem between two events.
-use Rattle.std.proofs.Common.{◌≡◌, ◌⊎◌, inl, inr, ℕ, zero, suc, ◌+◌, ◌<◌, ◌≤◌, Bool, true, false, eqb, List, [], ◌∷◌, ◌++◌, length, Option, Some, None, sym, refl, ap, ◌∙◌, subst, arith, max, eq-eqb}
+use Rattle.std.proofs.Common.{◌≡◌, ◌⊎◌, ℕ, zero, suc, ◌+◌, ◌<◌, ◌≤◌, Bool, true, false, eqb, List, [], ◌∷◌, ◌++◌, length, sym, refl, ap, ◌∙◌, subst, arith, max, eq-eqb}
 use Rattle.std.proofs.lemmas.Bool.Decides.{nat_tests}
 use Rattle.std.proofs.lemmas.List.{append-nil}
 use Rattle.std.proofs.lemmas.List.Elements.{filter-append}
@@ -87,15 +87,17 @@ stages-wait rows v staying visits time server came [] [] emitted fs now later l 
 stages-wait rows v staying visits time server came [] (line ∷ lines) emitted fs now later l h = absurd h
 stages-wait rows v staying visits time server came (stage ∷ stages) [] emitted fs now later l h = absurd h
 stages-wait rows v staying visits time server came (stage ∷ stages) (line ∷ lines) emitted fs now later l h =
-    let a = h.0 in
-    (record {
-      left = a.left;
-      here = a.here;
-      parts = a.parts;
-      waiting = a.waiting;
-      front = front-waits v _ server a.left _ fs now later a.here line.done l a.front;
-      before = λ k u. let e = a.before k u in omega arith;
-    }, stages-wait rows v staying visits (λ s. time (suc s)) (server + 1) a.left stages lines emitted fs now later l h.1)
+    let a = h.0 in (
+      record {
+        left = a.left;
+        here = a.here;
+        parts = a.parts;
+        waiting = a.waiting;
+        front = front-waits v _ server a.left _ fs now later a.here line.done l a.front;
+        before = λ k u. let e = a.before k u in omega arith;
+      },
+      stages-wait rows v staying visits (λ s. time (suc s)) (server + 1) a.left stages lines emitted fs now later l h.1,
+    )
 
 -- the same where other visits and times agree on all that came
 front-end : (v : ℕ) (staying : ℕ → Type 0) (server left end end' : ℕ) (fs : List Event) (now here : ℕ) (done : Bool) → (1 ≤ here → end' ≡ end) → Front v (staying end) server left end fs now here done → Front v (staying end') server left end' fs now here done
@@ -126,15 +128,17 @@ stages-agree rows v staying visits visits' time time' n same get server came [] 
 stages-agree rows v staying visits visits' time time' n same get server came (stage ∷ stages) [] emitted fs now l h = absurd h
 stages-agree rows v staying visits visits' time time' n same get server came (stage ∷ stages) (line ∷ lines) emitted fs now l h =
     let a = h.0 in
-    let p = a.parts in
-    (record {
-      left = a.left;
-      here = a.here;
-      parts = a.parts;
-      waiting = a.waiting;
-      front = front-end v (staying stages lines) server a.left _ _ fs now a.here line.done (λ some. ended-same rows visits visits' time time' stage n a.left same get (omega arith)) a.front;
-      before = λ k u. let e = a.before k u in let f = same 0 k (omega arith) in omega arith;
-    }, stages-agree rows v staying visits visits' (λ s. time (suc s)) (λ s. time' (suc s)) n (λ s. same (suc s)) get (server + 1) a.left stages lines emitted fs now (omega arith) h.1)
+    let p = a.parts in (
+      record {
+        left = a.left;
+        here = a.here;
+        parts = a.parts;
+        waiting = a.waiting;
+        front = front-end v (staying stages lines) server a.left _ _ fs now a.here line.done (λ some. ended-same rows visits visits' time time' stage n a.left same get (omega arith)) a.front;
+        before = λ k u. let e = a.before k u in let f = same 0 k (omega arith) in omega arith;
+      },
+      stages-agree rows v staying visits visits' (λ s. time (suc s)) (λ s. time' (suc s)) n (λ s. same (suc s)) get (server + 1) a.left stages lines emitted fs now (omega arith) h.1,
+    )
 
 -- the same where the finishes of these servers are the same, and less is said of those that stay
 pub front-other : (v : ℕ) (staying staying' : Type 0) (server left end : ℕ) (fs fs' : List Event) (now here : ℕ) (done : Bool) → (staying → staying') → filter (is_finish_of server) fs' ≡ filter (is_finish_of server) fs → Front v staying server left end fs now here done → Front v staying' server left end fs' now here done
@@ -149,15 +153,17 @@ stages-other rows v staying staying' visits time server came [] [] emitted fs fs
 stages-other rows v staying staying' visits time server came [] (line ∷ lines) emitted fs fs' now f e h = absurd h
 stages-other rows v staying staying' visits time server came (stage ∷ stages) [] emitted fs fs' now f e h = absurd h
 stages-other rows v staying staying' visits time server came (stage ∷ stages) (line ∷ lines) emitted fs fs' now f e h =
-    let a = h.0 in
-    (record {
-      left = a.left;
-      here = a.here;
-      parts = a.parts;
-      waiting = a.waiting;
-      front = front-other v _ _ server a.left _ fs fs' now a.here line.done (f stages lines _) (e server (omega arith)) a.front;
-      before = a.before;
-    }, stages-other rows v staying staying' visits (λ s. time (suc s)) (server + 1) a.left stages lines emitted fs fs' now f (λ q l. e q (omega arith)) h.1)
+    let a = h.0 in (
+      record {
+        left = a.left;
+        here = a.here;
+        parts = a.parts;
+        waiting = a.waiting;
+        front = front-other v _ _ server a.left _ fs fs' now a.here line.done (f stages lines _) (e server (omega arith)) a.front;
+        before = a.before;
+      },
+      stages-other rows v staying staying' visits (λ s. time (suc s)) (server + 1) a.left stages lines emitted fs fs' now f (λ q l. e q (omega arith)) h.1,
+    )
 
 -- those that came to the first of these stages came by now
 pub came-by : (rows : Rows) (v : ℕ) (staying : Staying) (visits : List Visit) (time : ℕ → ℕ → ℕ) (server came : ℕ) (stages : List Stage) (lines : List Line) (emitted : List Emission) (fs : List Event) (now : ℕ) →
@@ -182,15 +188,17 @@ one_finish v server position time = filter-yes (is_finish_of server) (Finish tim
 pub stage-entered : (rows : Rows) (v : ℕ) (staying : ℕ → Type 0) (visits : List Visit) (time : ℕ → ℕ → ℕ) (server came : ℕ) (stage : Stage) (line : Line) (fs : List Event) (now : ℕ) → time 0 came ≡ now →
     (a : AtStage rows v staying visits time server came stage line fs now) → ((k : ℕ) → k < a.left → time 1 k ≤ now) →
     (b : AtStage rows v staying visits time server (suc came) stage (record line { queue = line.queue ++ came ∷ [] }) (fs ++ finishes_of v (begins_alone rows stage.demand visits now server line.queue came)) now) × (b.left ≡ a.left)
-stage-entered rows v staying visits time server came stage line fs now at a gone =
-    (record {
-      left = a.left;
-      here = suc a.here;
-      parts = let p = a.parts in omega arith;
-      waiting = ap (λ l. l ++ came ∷ []) a.waiting ∙ (ap (λ n. upwards a.left a.here ++ n ∷ []) a.parts ∙ upwards-push a.left a.here);
-      front = go a.here line.queue a.parts a.waiting a.front;
-      before = λ k l. by k (eqb k came) refl l;
-    }, refl)
+stage-entered rows v staying visits time server came stage line fs now at a gone = (
+  record {
+    left = a.left;
+    here = suc a.here;
+    parts = let p = a.parts in omega arith;
+    waiting = ap (λ l. l ++ came ∷ []) a.waiting ∙ (ap (λ n. upwards a.left a.here ++ n ∷ []) a.parts ∙ upwards-push a.left a.here);
+    front = go a.here line.queue a.parts a.waiting a.front;
+    before = λ k l. by k (eqb k came) refl l;
+  },
+  refl,
+)
   where
     by : (k : ℕ) (b : Bool) → eqb k came ≡ b → k < suc came → time 0 k ≤ now
     by k true e l = let f : k ≡ came = grind (arith, nat_tests) in let g = ap (time 0) f in omega arith

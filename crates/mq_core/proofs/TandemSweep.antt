@@ -17,7 +17,7 @@ use Rattle.mq_core.specs.declared.model.Stage.{Stage}
 use Rattle.mq_core.specs.declared.model.Rows.{Rows}
 use Rattle.mq_core.proofs.Each.{Each-append, Each-weaker, Each-map, filter-none}
 use Rattle.mq_core.proofs.TandemTimes.{ago, ago-at, ago-below, ended, room, Solved}
-use Rattle.mq_core.proofs.TandemStages.{is_finish_of, upwards, upwards-length, outs, Staying, Blocked, BlockedUntil, Front, AtStage, Stages, stages-other, stage-entered, came-by, ended-now, one_finish}
+use Rattle.mq_core.proofs.TandemStages.{is_finish_of, upwards, upwards-length, Blocked, BlockedUntil, Front, AtStage, Stages, stages-other, stage-entered, came-by, ended-now, one_finish}
 
 -- a service of one of these servers: from the first of them on, below the second
 abbrev pub IsWithin : ℕ → ℕ → Service → Type 0
@@ -64,10 +64,12 @@ pub stages-entered : (rows : Rows) (v : ℕ) (visits : List Visit) (time : ℕ �
     Stages rows v Blocked visits time server (suc came) (stage ∷ stages) (record line { queue = line.queue ++ came ∷ [] } ∷ lines) emitted (fs ++ finishes_of v (begins_alone rows stage.demand visits now server line.queue came)) now
 stages-entered rows v visits time server came stage stages line lines emitted fs now at h =
     let b = stage-entered rows v (Blocked stages lines) visits time server came stage line fs now at h.0 (came-by rows v Blocked visits (λ s. time (suc s)) (server + 1) h.0.left stages lines emitted fs now h.1) in
-    let new = begins_alone rows stage.demand visits now server line.queue came in
-    (b.0, subst (λ k. Stages rows v Blocked visits (λ s. time (suc s)) (server + 1) k stages lines emitted (fs ++ finishes_of v (begins_alone rows stage.demand visits now server line.queue came)) now) (sym b.1)
-    (stages-other rows v Blocked Blocked visits (λ s. time (suc s)) (server + 1) h.0.left stages lines emitted fs (fs ++ finishes_of v (begins_alone rows stage.demand visits now server line.queue came)) now (λ more rest end k. k)
-    (λ q l. filter-further v q server (server + 1) fs new (begins_alone-within rows stage.demand visits now server line.queue came server (server + 1) (omega arith) (omega arith)) (inr l)) h.1))
+    let new = begins_alone rows stage.demand visits now server line.queue came in (
+      b.0,
+      subst (λ k. Stages rows v Blocked visits (λ s. time (suc s)) (server + 1) k stages lines emitted (fs ++ finishes_of v (begins_alone rows stage.demand visits now server line.queue came)) now) (sym b.1)
+          (stages-other rows v Blocked Blocked visits (λ s. time (suc s)) (server + 1) h.0.left stages lines emitted fs (fs ++ finishes_of v (begins_alone rows stage.demand visits now server line.queue came)) now (λ more rest end k. k)
+          (λ q l. filter-further v q server (server + 1) fs new (begins_alone-within rows stage.demand visits now server line.queue came server (server + 1) (omega arith) (omega arith)) (inr l)) h.1),
+    )
 
 -- a job that leaves a stage now goes to the next, or out of the node
 leaves-keep : (rows : Rows) (v : ℕ) (visits : List Visit) (time : ℕ → ℕ → ℕ) (server came : ℕ) (stages : List Stage) (lines : List Line) (releases : List Release) (services : List Service) (emitted : List Emission) (fs : List Event) (now : ℕ) → time 0 came ≡ now →
@@ -76,10 +78,11 @@ leaves-keep : (rows : Rows) (v : ℕ) (visits : List Visit) (time : ℕ → ℕ 
     (leaves rows visits now server stages came (record { lines = lines; releases = releases; services = services })).lines
     (emitted ++ emissions_of now visits (leaves rows visits now server stages came (record { lines = lines; releases = releases; services = services })).releases)
     (fs ++ finishes_of v (leaves rows visits now server stages came (record { lines = lines; releases = releases; services = services })).services) now
-leaves-keep rows v visits time server came [] [] releases services emitted fs now at h =
-    (sym (emissions-more now visits emitted releases (record { out = 0; position = came } ∷ []))
-    ∙ (λ i. h.0 i ++ append-nil (emission_of ((sym at) i) 0 came (slice_get visits came)) i),
-    λ k l. by k (eqb k came) refl l)
+leaves-keep rows v visits time server came [] [] releases services emitted fs now at h = (
+  sym (emissions-more now visits emitted releases (record { out = 0; position = came } ∷ []))
+      ∙ (λ i. h.0 i ++ append-nil (emission_of ((sym at) i) 0 came (slice_get visits came)) i),
+  λ k l. by k (eqb k came) refl l,
+)
   where
     by : (k : ℕ) (b : Bool) → eqb k came ≡ b → k < suc came → time 0 k ≤ now
     by k true e l = let f : k ≡ came = grind (arith, nat_tests) in let g = ap (time 0) f in omega arith
@@ -153,10 +156,12 @@ module _ (rows : Rows) (v : ℕ) (visits : List Visit) (time : ℕ → ℕ → �
       Sweeping rows v visits time server came (stage ∷ stages) (line ∷ lines) emitted fs now (went here)
   goes here p w f r =
       record {
-        tidy = (record { left = suc a.left; here = here; parts = omega arith; waiting = refl; front = front here p; before = a.before },
-        stages-other rows v Blocked Blocked visits (λ s. time (suc s)) (server + 1) (suc a.left) stages gone.lines (emitted ++ emissions_of now visits gone.releases) (fs ++ finishes_of v gone.services) (fs ++ finishes_of v (gone.services ++ new here)) now (λ more rest end k. k)
-        (λ q l. ap (filter (is_finish_of q)) (sym (finishes-more v fs gone.services (new here))) ∙ filter-further v q server (server + 1) (fs ++ finishes_of v gone.services) (new here) (begins_at-within rows stage.demand visits now server (upwards (suc a.left) here) server (server + 1) (omega arith) (omega arith)) (inr l))
-        behind);
+        tidy = (
+          record { left = suc a.left; here = here; parts = omega arith; waiting = refl; front = front here p; before = a.before },
+          stages-other rows v Blocked Blocked visits (λ s. time (suc s)) (server + 1) (suc a.left) stages gone.lines (emitted ++ emissions_of now visits gone.releases) (fs ++ finishes_of v gone.services) (fs ++ finishes_of v (gone.services ++ new here)) now (λ more rest end k. k)
+              (λ q l. ap (filter (is_finish_of q)) (sym (finishes-more v fs gone.services (new here))) ∙ filter-further v q server (server + 1) (fs ++ finishes_of v gone.services) (new here) (begins_at-within rows stage.demand visits now server (upwards (suc a.left) here) server (server + 1) (omega arith) (omega arith)) (inr l))
+              behind,
+        );
         within = Each-append (IsWithin server (server + length (stage ∷ stages))) gone.services (new here) (wider gone.services inside) (begins_at-within rows stage.demand visits now server (upwards (suc a.left) here) server (server + length (stage ∷ stages)) (omega arith) (omega arith));
         freed = λ b o. full b o;
       }

@@ -1,5 +1,5 @@
 -- When each job leaves each stage of a tandem, by its position, and the equations that these times solve.
-use Rattle.std.proofs.Common.{◌≡◌, ℕ, zero, suc, ◌+◌, ◌-◌, ◌<◌, ◌≤◌, List, [], ◌∷◌, ◌++◌, length, Option, Some, None, sym, refl, ap, ◌∙◌, subst, arith, max}
+use Rattle.std.proofs.Common.{◌≡◌, ℕ, zero, suc, ◌+◌, ◌-◌, ◌<◌, ◌≤◌, List, [], ◌∷◌, ◌++◌, length, Option, sym, refl, ap, ◌∙◌, arith, max}
 use Rattle.std.specs.Prelude.{slice_get, map}
 use Rattle.mq_core.specs.Machine.{Visit}
 use Rattle.mq_core.specs.Handling.{demand_of_visit, demand_at}
@@ -119,10 +119,11 @@ solved-from : (rows : Rows) (visits : List Visit) (stages : List Stage) (time : 
     ((k : ℕ) → across (λ s. time (suc s)) stages k ≡ stage_departs (time 0 k) (places_of stages) (asked_of rows stages (slice_get visits k)) (columns (λ s. time (suc s)) stages k)) →
     Solved rows visits time stages
 solved-from rows visits [] time h = tt
-solved-from rows visits (stage ∷ stages) time h =
-    (λ k. (cons-inj _ _ _ _ (h k)).0 ∙ first k,
-    solved-from rows visits stages (λ s. time (suc s)) (λ k.
-    (cons-inj _ _ _ _ (h k)).1 ∙ ap (λ t. stage_departs t (places_of stages) (asked_of rows stages (slice_get visits k)) (columns (λ s. time (suc (suc s))) stages k)) (sym (cons-inj _ _ _ _ (h k)).0)))
+solved-from rows visits (stage ∷ stages) time h = (
+  λ k. (cons-inj _ _ _ _ (h k)).0 ∙ first k,
+  solved-from rows visits stages (λ s. time (suc s)) (λ k.
+      (cons-inj _ _ _ _ (h k)).1 ∙ ap (λ t. stage_departs t (places_of stages) (asked_of rows stages (slice_get visits k)) (columns (λ s. time (suc (suc s))) stages k)) (sym (cons-inj _ _ _ _ (h k)).0)),
+)
   where
     behind : (more : List Stage) (k : ℕ) → room_in (places_of more) (columns (λ s. time (suc (suc s))) more k) ≡ room (λ s. time (suc s)) more k
     behind [] k = refl

@@ -1,8 +1,8 @@
 -- A tandem between two events, and what an event makes of it.
-use Rattle.std.proofs.Common.{◌≡◌, ◌⊎◌, inl, inr, ℕ, zero, suc, ◌+◌, ◌<◌, ◌≤◌, Bool, true, false, eqb, List, [], ◌∷◌, ◌++◌, length, Option, Some, None, sym, refl, ap, ◌∙◌, subst, arith, eq-eqb, length-append}
+use Rattle.std.proofs.Common.{◌≡◌, ◌⊎◌, inl, inr, ℕ, zero, suc, ◌+◌, ◌<◌, ◌≤◌, Bool, true, false, eqb, List, [], ◌∷◌, ◌++◌, length, Some, sym, refl, ap, ◌∙◌, subst, arith, eq-eqb, length-append}
 use Rattle.std.proofs.lemmas.Bool.Decides.{nat_tests}
 use Rattle.std.proofs.lemmas.List.{append-nil}
-use Rattle.std.specs.Prelude.{slice_get, filter, map, nat_lt}
+use Rattle.std.specs.Prelude.{slice_get, filter, nat_lt}
 use Rattle.std.specs.List.{AllByRecursion as Each}
 use Rattle.mq_core.specs.Event.{Event, time_of, earliest, sooner_of}
 use Rattle.mq_core.specs.Event.Event.{Arrive, Finish}
@@ -22,7 +22,7 @@ use Rattle.mq_core.proofs.DelayNumbers.{earliest-each}
 use Rattle.mq_core.proofs.Soundness.{AreStages}
 use Rattle.mq_core.proofs.Serves.{latest-push, pair-inj}
 use Rattle.mq_core.proofs.TandemTimes.{ended, time_at, times-solve, time-same}
-use Rattle.mq_core.proofs.TandemStages.{is_finish_of, Blocked, BlockedUntil, Front, AtStage, Stages, stages-wait, stages-agree, stages-other, front-other}
+use Rattle.mq_core.proofs.TandemStages.{is_finish_of, Blocked, BlockedUntil, Front, Stages, stages-wait, stages-agree, stages-other, front-other}
 use Rattle.mq_core.proofs.TandemOrder.{IsFrom, MovesFrom, moves-from, unmoved, sweep-unmoved}
 use Rattle.mq_core.proofs.TandemSweep.{IsWithin, begins_alone-within, stages-entered, sweep-keeps, Sweeping}
 
@@ -142,13 +142,15 @@ module _ (rows : Rows) (v : ℕ) (visits : List Visit) (emitted : List Emission)
   marked-keep time server came q [] (line ∷ lines) e h = absurd h
   marked-keep time server came q (stage ∷ stages) [] e h = absurd h
   marked-keep time server came zero (stage ∷ stages) (line ∷ lines) e h =
-      let a = h.0 in
-      (record { left = a.left; here = a.here; parts = a.parts; waiting = a.waiting; front = front-marked (Blocked stages lines (ended rows visits time stage a.left)) server a.left (ended rows visits time stage a.left) a.here line.done (omega arith) a.front; before = a.before },
-      stages-other rows v Blocked (BlockedUntil now) visits (λ s. time (suc s)) (server + 1) a.left stages lines emitted fs rest now (λ more behind end k. inr k) (λ j l. others j (λ k. omega arith)) h.1)
+      let a = h.0 in (
+        record { left = a.left; here = a.here; parts = a.parts; waiting = a.waiting; front = front-marked (Blocked stages lines (ended rows visits time stage a.left)) server a.left (ended rows visits time stage a.left) a.here line.done (omega arith) a.front; before = a.before },
+        stages-other rows v Blocked (BlockedUntil now) visits (λ s. time (suc s)) (server + 1) a.left stages lines emitted fs rest now (λ more behind end k. inr k) (λ j l. others j (λ k. omega arith)) h.1,
+      )
   marked-keep time server came (suc q) (stage ∷ stages) (line ∷ lines) e h =
-      let a = h.0 in
-      (record { left = a.left; here = a.here; parts = a.parts; waiting = a.waiting; front = front-other v _ _ server a.left _ fs rest now a.here line.done (λ k. inr (marked-room q stages lines ∙ k)) (others server (λ k. omega arith)) a.front; before = a.before },
-      marked-keep (λ s. time (suc s)) (server + 1) a.left q stages lines (omega arith) h.1)
+      let a = h.0 in (
+        record { left = a.left; here = a.here; parts = a.parts; waiting = a.waiting; front = front-other v _ _ server a.left _ fs rest now a.here line.done (λ k. inr (marked-room q stages lines ∙ k)) (others server (λ k. omega arith)) a.front; before = a.before },
+        marked-keep (λ s. time (suc s)) (server + 1) a.left q stages lines (omega arith) h.1,
+      )
 
   rest-only : (P : Event → Type 0) → Each P fs → Each P rest
   rest-only P h =
@@ -176,19 +178,21 @@ module _ (rows : Rows) (v : ℕ) (visits : List Visit) (emitted : List Emission)
       let a = h.0 in
       let p = a.parts in
       let same = front-ends (Blocked stages lines (ended rows visits time stage a.left)) server a.left (ended rows visits time stage a.left) a.here line.done (omega arith) a.front in
-      let still = sweep-unmoved rows v visits (λ s. time (suc s)) (server + 1) a.left stages lines emitted fs now h.1 in
-      (omega arith,
-      subst (λ later. MovesFrom position now (moves rows visits now server stage stages (record line { done = true }) line.queue later)) (sym still)
-      (subst (λ queue. MovesFrom position now (moves rows visits now server stage stages (record line { done = true }) queue (unmoved lines))) (sym a.waiting)
-      (moves-from rows visits now server stage stages (record line { done = true }) a.left a.here position (unmoved lines) (omega arith) (tt, tt))))
+      let still = sweep-unmoved rows v visits (λ s. time (suc s)) (server + 1) a.left stages lines emitted fs now h.1 in (
+        omega arith,
+        subst (λ later. MovesFrom position now (moves rows visits now server stage stages (record line { done = true }) line.queue later)) (sym still)
+            (subst (λ queue. MovesFrom position now (moves rows visits now server stage stages (record line { done = true }) queue (unmoved lines))) (sym a.waiting)
+            (moves-from rows visits now server stage stages (record line { done = true }) a.left a.here position (unmoved lines) (omega arith) (tt, tt))),
+      )
   marked-from time server came (suc q) (stage ∷ stages) (line ∷ lines) e l h =
       let a = h.0 in
       let p = a.parts in
       let ih = marked-from (λ s. time (suc s)) (server + 1) a.left q stages lines (omega arith) (omega arith) h.1 in
-      let low = ih.0 in
-      (omega arith,
-      subst (λ queue. MovesFrom position now (moves rows visits now server stage stages line queue (sweep rows visits now (server + 1) stages (marked q lines)))) (sym a.waiting)
-      (moves-from rows visits now server stage stages line a.left a.here position (sweep rows visits now (server + 1) stages (marked q lines)) low ih.1))
+      let low = ih.0 in (
+        omega arith,
+        subst (λ queue. MovesFrom position now (moves rows visits now server stage stages line queue (sweep rows visits now (server + 1) stages (marked q lines)))) (sym a.waiting)
+            (moves-from rows visits now server stage stages line a.left a.here position (sweep rows visits now (server + 1) stages (marked q lines)) low ih.1),
+      )
 
   -- the server of the finish is one of the stages
   pub ending-below : (stages : List Stage) (lines : List Line) → Tandeming rows stages v visits lines emitted fs now → ending < length stages

@@ -1,5 +1,5 @@
 -- Where no visit is lost, and who is lost at a loss station.
-use Rattle.std.proofs.Common.{◌≡◌, ℕ, Bool, true, false, cond, eqb, List, Option, Some, None, refl, ap}
+use Rattle.std.proofs.Common.{◌≡◌, ℕ, Bool, true, false, cond, eqb, Option, Some, None, refl, ap}
 use Rattle.std.specs.Option.{option_map}
 use Rattle.mq_core.specs.Fates.{fate_by, unless_lost}
 use Rattle.mq_core.specs.Machine.{Emission}
