@@ -13,7 +13,7 @@ use mq_core::{Demand, Fate, Kind, Network, Route, Rows, Stream, demand_of};
 use mq_delay::delay;
 use mq_server::departures;
 use mq_split::split;
-use std::alloc::{AllocError, Global};
+use std::alloc::Global;
 
 // What leaves a station: the fate of each arrival, and the streams by output.
 #[derive(Drop)]
@@ -65,6 +65,7 @@ fn served(
 {
     let demands = demands_of(alloc, net, rows, demand, &arrivals.job)?;
     let departs = departures(alloc, arrivals, &demands)?;
+    drop(demands);
     let fates = fates_of(alloc, &departs)?;
     let streams = one_stream(alloc, &arrivals.job, departs)?;
     Ok(Outflow { fates, streams })
@@ -160,15 +161,11 @@ fn value_by(net: &Network, rows: &Rows, route: &Route, job: u32) -> u64
 fn fates_of(alloc: Global, departs: &List<u64>) -> Result<List<Fate>, OutOfMemory>
     ensures { IfOk result (λ fates. fates ≡ map (λ time. Departs time) departs.now) }
 {
-    let fates = departing(alloc, departs.as_slice())?;
+    let mut fates = Vec::with_capacity(alloc, departs.len())?;
+    for at in 0..departs.len() {
+        fates.push_reserved(Fate::Departs(*departs.get(at)));
+    }
     Ok(List::from_vec(fates))
-}
-
-// A departure at each of these times.
-fn departing(alloc: Global, times: &[u64]) -> Result<Vec<Fate>, AllocError>
-    ensures { IfOk result (λ fates. fates.items ≡ map (λ time. Departs time) times.now) }
-{
-    times.iter().map(|time| Fate::Departs(*time)).collect(alloc)
 }
 
 // The streams of a node with one output, by which these jobs leave at these times.
