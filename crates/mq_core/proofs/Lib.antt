@@ -22,6 +22,8 @@ pub mod Plans
 pub mod NetworkRuns
 pub mod RecurrenceRows
 pub mod WorkedRows
+pub mod ForkServers
+pub mod ForkSeries
 pub mod Founds
 pub mod Busy
 pub mod Peak
