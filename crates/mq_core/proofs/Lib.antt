@@ -24,6 +24,7 @@ pub mod RecurrenceRows
 pub mod WorkedRows
 pub mod ForkServers
 pub mod ForkSeries
+pub mod ForkBranches
 pub mod Founds
 pub mod Busy
 pub mod Peak
