@@ -25,6 +25,7 @@ pub mod WorkedRows
 pub mod ForkServers
 pub mod ForkSeries
 pub mod ForkBranches
+pub mod Joins
 pub mod Founds
 pub mod Busy
 pub mod Peak
