@@ -225,7 +225,7 @@ pub record Forks (rows : Rows) (v server : ℕ) (demands : List (List Demand)) (
 
 module _ (rows : Rows) (v : ℕ) where
   -- a finish at none of these branches moves nothing
-  branching-still : (all : List Visit) (now finished server : ℕ) (demands : List (List Demand)) (visits : List Visit) (branches : List Branch) (endeds : List (List Visit)) (pend : ℕ → List Event) → finished < server → Branching rows v server demands visits branches endeds pend now →
+  pub branching-still : (all : List Visit) (now finished server : ℕ) (demands : List (List Demand)) (visits : List Visit) (branches : List Branch) (endeds : List (List Visit)) (pend : ℕ → List Event) → finished < server → Branching rows v server demands visits branches endeds pend now →
       each_branch (λ first ds queues. finishes_at rows all now finished first ds queues) server demands branches ≡ record { branches = branches; services = [] }
   branching-still all now finished server [] visits branches endeds pend l h = ap (λ b. record { branches = b; services = [] }) (sym h.0)
   branching-still all now finished server (ds ∷ more) visits [] endeds pend l h = absurd h
@@ -255,7 +255,7 @@ module _ (rows : Rows) (v : ℕ) where
       go (inl k) = (0, inl (ap (later_visits e) same ∙ k, refl))
       go (inr (z, k, a, l)) = (1, inr (z, ap (later_visits e) same ∙ k, refl, a, place ∙ l))
 
-  some-endeds : (server now : ℕ) (ds : List Demand) (more : List (List Demand)) (visits : List Visit) (branches : List Branch) (endeds : List (List Visit)) (pend : ℕ → List Event) → Branching rows v server (ds ∷ more) visits branches endeds pend now → (f : List Visit) × (fs : List (List Visit)) × (endeds ≡ f ∷ fs)
+  pub some-endeds : (server now : ℕ) (ds : List Demand) (more : List (List Demand)) (visits : List Visit) (branches : List Branch) (endeds : List (List Visit)) (pend : ℕ → List Event) → Branching rows v server (ds ∷ more) visits branches endeds pend now → (f : List Visit) × (fs : List (List Visit)) × (endeds ≡ f ∷ fs)
   some-endeds server now ds more visits [] endeds pend h = absurd h
   some-endeds server now ds more visits (b ∷ bs) [] pend h = absurd h
   some-endeds server now ds more visits (b ∷ bs) (f ∷ fs) pend h = (f, fs, refl)

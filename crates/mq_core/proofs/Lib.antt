@@ -26,6 +26,7 @@ pub mod ForkServers
 pub mod ForkSeries
 pub mod ForkBranches
 pub mod Joins
+pub mod JoinLoads
 pub mod Founds
 pub mod Busy
 pub mod Peak
