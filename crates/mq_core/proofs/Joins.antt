@@ -88,6 +88,18 @@ goes_in-behind rows v all now server position (d ∷ ds) (queue ∷ queues) = be
 served-finishes : (v count : ℕ) (services : List Service) → Each (Within 0 (0 + count)) services → Each (IsServed count) (finishes_of v services)
 served-finishes v count services h = Each-map (Within 0 (0 + count)) (IsServed count) (λ (s : Service). Finish s.time v s.server s.position) (λ s k. let u = k.1 in omega arith) services h
 
+-- an arrival joins every branch, and goes through none
+pub joining-enters : (rows : Rows) (demands : List (List Demand)) (v port : ℕ) (local : Local) (visits : List Visit) (emitted : List Emission) (fs : List Event) (now : ℕ) (x : Visit) → x.arrive ≡ now → (h : Joining rows demands v visits local.branches emitted fs now) →
+    Branching rows v 0 demands (visits ++ x ∷ []) (fork_on rows demands (visits ++ x ∷ []) local now (Arrive now v port x.job)).local.branches h.endeds
+    (λ j. filter (is_at_server j) (fs ++ finishes_of v (fork_on rows demands (visits ++ x ∷ []) local now (Arrive now v port x.job)).services)) now
+joining-enters rows demands v port local visits emitted fs now x at h =
+    branching-arrives rows v (visits ++ x ∷ []) now (latest (visits ++ x ∷ [])) 0 demands visits local.branches h.endeds (λ j. filter (is_at_server j) fs) (λ j. filter (is_at_server j) (fs ++ finishes_of v services)) x h.shape.filled at (latest-push visits x)
+    (λ d. ap (demand_at rows d (visits ++ x ∷ [])) (latest-push visits x) ∙ demand_of-push rows d visits x)
+    (λ j l. filter-append (is_at_server j) fs (finishes_of v services)) h.branching
+  where
+    services : List Service
+    services = (fork_on rows demands (visits ++ x ∷ []) local now (Arrive now v port x.job)).services
+
 -- an arrival at a fork-join
 pub joining-arrives : (rows : Rows) (demands : List (List Demand)) (v port : ℕ) (local : Local) (visits : List Visit) (emitted : List Emission) (fs : List Event) (now : ℕ) (x : Visit) → x.arrive ≡ now → Each (λ f. now < time_of f) fs → Joining rows demands v visits local.branches emitted fs now →
     Joining rows demands v (visits ++ x ∷ [])
@@ -98,10 +110,7 @@ joining-arrives rows demands v port local visits emitted fs now x at soon h =
     record {
       shape = h.shape;
       endeds = h.endeds;
-      branching =
-          branching-arrives rows v (visits ++ x ∷ []) now (latest (visits ++ x ∷ [])) 0 demands visits local.branches h.endeds (λ j. filter (is_at_server j) fs) (λ j. filter (is_at_server j) (fs ++ finishes_of v services)) x h.shape.filled at place
-          (λ d. ap (demand_at rows d (visits ++ x ∷ [])) place ∙ demand_of-push rows d visits x)
-          (λ j l. filter-append (is_at_server j) fs (finishes_of v services)) h.branching;
+      branching = joining-enters rows demands v port local visits emitted fs now x at h;
       inside = Each-append _ fs (finishes_of v services) h.inside (served-finishes v (count_of demands) services (each_branch-within part 0 demands local.branches (λ first ds queues. goes_in-within rows v (visits ++ x ∷ []) now first (latest (visits ++ x ∷ [])) ds queues)));
       behind = Each-append _ fs (finishes_of v services)
           (Each-both _ _ _ (λ f late before p l u. earlier f late before p l u) fs soon h.behind)

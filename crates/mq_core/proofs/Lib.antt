@@ -27,6 +27,7 @@ pub mod ForkSeries
 pub mod ForkBranches
 pub mod Joins
 pub mod JoinLoads
+pub mod JoinTallies
 pub mod Founds
 pub mod Busy
 pub mod Peak
