@@ -1,14 +1,15 @@
-use Rattle.std.proofs.Common.{◌≡◌, ℕ, zero, suc, ◌<◌, Bool, true, false, cond, eqb, List, [], ◌∷◌, map, length, Some, sym, refl, ap, ◌∙◌, arith, zero-add}
+use Rattle.std.proofs.Common.{◌≡◌, ℕ, zero, suc, ◌+◌, ◌<◌, Bool, true, false, cond, eqb, List, [], ◌∷◌, map, length, Some, sym, refl, ap, ◌∙◌, arith, zero-add}
 use Rattle.std.specs.Prelude.{slice_get}
+use Rattle.std.specs.List.{zip}
 use Rattle.mq_core.specs.ColumnLaws.{NodesAreColumns, jobs_of, arrives_of}
-use Rattle.mq_core.specs.Columns.{column_fates, column_visits, column_stream, founds_of, routes_from, column_outs, picked, time_of_fate}
-use Rattle.mq_core.specs.Recurrences.{lindley}
+use Rattle.mq_core.specs.Columns.{by_first, stream_in_order, column_fates, column_visits, column_stream, founds_of, routes_from, column_outs, picked, time_of_fate}
+use Rattle.mq_core.specs.Recurrences.{lindley, delayed}
 use Rattle.mq_core.specs.Fates.{fate_by}
-use Rattle.mq_core.specs.Laws.{stream_of}
+use Rattle.mq_core.specs.Laws.{stream_of, in_order_of}
 use Rattle.mq_core.specs.Local.{Local}
 use Rattle.mq_core.specs.Machine.{Visit, Emission, Station}
 use Rattle.mq_core.specs.Results.{fates_from, visits_of, stream_from}
-use Rattle.mq_core.specs.Served.{served, served_from, passed_from, flow_of}
+use Rattle.mq_core.specs.Served.{served, served_from, passed_from, delayed_from, flow_of, in_leaving_order}
 use Rattle.mq_core.specs.Handling.{demand_of_job}
 use Rattle.mq_core.specs.Standard.{output_by}
 use Rattle.mq_core.specs.StandardTable.{run_of}
@@ -16,12 +17,14 @@ use Rattle.mq_core.specs.Tallies.{arrival_or, found_or, still_there}
 use Rattle.mq_core.specs.declared.model.Demand.{Demand}
 use Rattle.mq_core.specs.declared.model.Fate.TheVariants.{Departs}
 use Rattle.mq_core.specs.declared.model.Kind.{Kind}
-use Rattle.mq_core.specs.declared.model.Kind.TheVariants.{Source, Server, Split}
+use Rattle.mq_core.specs.declared.model.Kind.TheVariants.{Source, Server, Delay, Split}
 use Rattle.mq_core.specs.declared.model.Node.{Node}
 use Rattle.mq_core.specs.declared.model.Route.{Route}
 use Rattle.mq_core.specs.declared.model.Rows.{Rows}
+use Rattle.mq_core.specs.declared.model.Stream.{Stream}
 use Rattle.mq_core.proofs.ColumnFlow.{nodes-flow}
-use Rattle.mq_core.proofs.ColumnNumbers.{flow-numbered, fates-numbered, jobs-numbered, founds-numbered}
+use Rattle.mq_core.proofs.ColumnNumbers.{flow-numbered, order-found, fates-numbered, jobs-numbered, founds-numbered}
+use Rattle.mq_core.proofs.Orders.{filter-order, in_order_of-map}
 use Rattle.mq_core.proofs.Tallied.{founds-are-counts}
 
 -- the fates of the flow, kind by kind
@@ -33,9 +36,14 @@ served-fates : (kind : Kind) (rows : Rows) (demand : Demand) (k last : ℕ) (vis
 served-fates kind rows demand k last [] = refl
 served-fates kind rows demand k last (x ∷ xs) = ap (λ l. Departs (served rows demand last x) ∷ l) (served-fates kind rows demand (suc k) (served rows demand last x) xs)
 
+delayed-fates : (kind : Kind) (rows : Rows) (demand : Demand) (k : ℕ) (visits : List Visit) → map (fate_by kind) (delayed_from rows demand k visits) ≡ map (λ time. Departs time) (delayed (arrives_of visits) (map (demand_of_job rows demand) (jobs_of visits)))
+delayed-fates kind rows demand k [] = refl
+delayed-fates kind rows demand k (x ∷ xs) = ap (λ l. Departs (x.arrive + demand_of_job rows demand x.job) ∷ l) (delayed-fates kind rows demand (suc k) xs)
+
 pub flow-fates : (rows : Rows) (kind : Kind) (visits : List Visit) → map (fate_by kind) (flow_of rows kind visits) ≡ column_fates rows kind (jobs_of visits) (arrives_of visits)
 flow-fates rows Source visits = passed-fates Source _ 0 visits
 flow-fates rows (Server demand) visits = served-fates (Server demand) rows demand 0 0 visits
+flow-fates rows (Delay demand) visits = delayed-fates (Delay demand) rows demand 0 visits
 flow-fates rows (Split route) visits = passed-fates (Split route) _ 0 visits
 
 -- the outputs of the flow, kind by kind
@@ -47,6 +55,10 @@ server-outs : (rows : Rows) (demand : Demand) (k last : ℕ) (visits : List Visi
 server-outs rows demand k last [] = refl
 server-outs rows demand k last (x ∷ xs) = ap (λ l. 0 ∷ l) (server-outs rows demand (suc k) (served rows demand last x) xs)
 
+delay-outs : (rows : Rows) (demand : Demand) (k : ℕ) (visits : List Visit) → map (λ (m : Emission). m.out) (delayed_from rows demand k visits) ≡ map (λ _. 0) (jobs_of visits)
+delay-outs rows demand k [] = refl
+delay-outs rows demand k (x ∷ xs) = ap (λ l. 0 ∷ l) (delay-outs rows demand (suc k) xs)
+
 split-outs : (rows : Rows) (route : Route) (k : ℕ) (visits : List Visit) → map (λ (m : Emission). m.out) (passed_from (λ x p. output_by rows route x.job p) k visits) ≡ routes_from rows route k (jobs_of visits)
 split-outs rows route k [] = refl
 split-outs rows route k (x ∷ xs) = ap (λ l. output_by rows route x.job k ∷ l) (split-outs rows route (suc k) xs)
@@ -54,6 +66,7 @@ split-outs rows route k (x ∷ xs) = ap (λ l. output_by rows route x.job k ∷ 
 flow-outs : (rows : Rows) (kind : Kind) (visits : List Visit) → map (λ (m : Emission). m.out) (flow_of rows kind visits) ≡ column_outs rows kind (jobs_of visits)
 flow-outs rows Source visits = source-outs 0 visits
 flow-outs rows (Server demand) visits = server-outs rows demand 0 0 visits
+flow-outs rows (Delay demand) visits = delay-outs rows demand 0 visits
 flow-outs rows (Split route) visits = split-outs rows route 0 visits
 
 -- the emissions by an output are picked by their outputs
@@ -70,31 +83,68 @@ times-fates kind [] = refl
 times-fates kind (m ∷ ms) = ap (λ l. m.time ∷ l) (times-fates kind ms)
 
 -- a station that let out its flow stands in columns
-station-visits : (rows : Rows) (kind : Kind) (s : Station Local) → s.emitted ≡ flow_of rows kind s.visits →
+station-visits : (rows : Rows) (kind : Kind) (s : Station Local) → s.emitted ≡ in_leaving_order kind (flow_of rows kind s.visits) →
     ((j : ℕ) → j < length s.visits → found_or 0 (slice_get s.visits j) ≡ still_there (arrival_or 0 (slice_get s.visits j)) s.emitted j) →
     visits_of kind s ≡ column_visits rows kind (jobs_of s.visits) (arrives_of s.visits)
 station-visits rows kind s flow found =
     let numbered = flow-numbered rows kind s.visits in
+    let order = order-found kind 0 (flow_of rows kind s.visits) s.visits numbered in
     let fates : fates_from kind s.emitted 0 s.visits ≡ column_fates rows kind (jobs_of s.visits) (arrives_of s.visits) =
-    ap (λ l. fates_from kind l 0 s.visits) flow ∙ (fates-numbered kind 0 (flow_of rows kind s.visits) (flow_of rows kind s.visits) s.visits numbered (λ q l. refl) ∙ flow-fates rows kind s.visits) in
+    ap (λ l. fates_from kind l 0 s.visits) flow ∙ (fates-numbered kind 0 (in_leaving_order kind (flow_of rows kind s.visits)) (flow_of rows kind s.visits) s.visits numbered (λ q l. order q) ∙ flow-fates rows kind s.visits) in
     let founds : map (λ (x : Visit). x.found) s.visits ≡ founds_of (arrives_of s.visits) (column_fates rows kind (jobs_of s.visits) (arrives_of s.visits)) =
-    founds-numbered kind 0 (flow_of rows kind s.visits) (flow_of rows kind s.visits) [] s.visits numbered (λ q l. refl) (λ time. refl)
+    founds-numbered kind 0 (in_leaving_order kind (flow_of rows kind s.visits)) (flow_of rows kind s.visits) [] s.visits numbered (λ q l. order q) (λ time. refl)
     (λ j l. found j l ∙ (λ i. still_there (arrival_or 0 (slice_get s.visits j)) (flow i) (sym (zero-add j) i)))
     ∙ ap (founds_of (arrives_of s.visits)) (flow-fates rows kind s.visits) in
     λ i. record { job = jobs_of s.visits; arrive = arrives_of s.visits; found = founds i; fate = fates i }
 
-station-stream : (rows : Rows) (kind : Kind) (s : Station Local) (out : ℕ) → s.emitted ≡ flow_of rows kind s.visits → stream_from s out ≡ column_stream rows kind (jobs_of s.visits) (arrives_of s.visits) out
-station-stream rows kind s out flow =
-    let outs = flow-outs rows kind s.visits in
-    let jobs : map (λ (m : Emission). m.job) (stream_of out s.emitted) ≡ picked out (column_outs rows kind (jobs_of s.visits)) (jobs_of s.visits) =
-    ap (λ l. map (λ (m : Emission). m.job) (stream_of out l)) flow
-    ∙ (picked-stream out (λ (m : Emission). m.job) (flow_of rows kind s.visits)
-    ∙ (λ i. picked out (outs i) (jobs-numbered 0 (flow_of rows kind s.visits) s.visits (flow-numbered rows kind s.visits) i))) in
-    let times : map (λ (m : Emission). m.time) (stream_of out s.emitted) ≡ picked out (column_outs rows kind (jobs_of s.visits)) (map time_of_fate (column_fates rows kind (jobs_of s.visits) (arrives_of s.visits))) =
-    ap (λ l. map (λ (m : Emission). m.time) (stream_of out l)) flow
-    ∙ (picked-stream out (λ (m : Emission). m.time) (flow_of rows kind s.visits)
-    ∙ (λ i. picked out (outs i) ((times-fates kind (flow_of rows kind s.visits) ∙ ap (map time_of_fate) (flow-fates rows kind s.visits)) i))) in
+-- the jobs and the times of what leaves by an output
+stream_in : ℕ → List Emission → Stream
+stream_in out ms = record { job = map (λ (m : Emission). m.job) (stream_of out ms); time = map (λ (m : Emission). m.time) (stream_of out ms) }
+
+-- the stream of the flow by position stands in columns
+flow-stream : (rows : Rows) (kind : Kind) (visits : List Visit) (out : ℕ) → stream_in out (flow_of rows kind visits) ≡ record { job = picked out (column_outs rows kind (jobs_of visits)) (jobs_of visits); time = picked out (column_outs rows kind (jobs_of visits)) (map time_of_fate (column_fates rows kind (jobs_of visits) (arrives_of visits))) }
+unfolding stream_in
+flow-stream rows kind visits out =
+    let outs = flow-outs rows kind visits in
+    let jobs : map (λ (m : Emission). m.job) (stream_of out (flow_of rows kind visits)) ≡ picked out (column_outs rows kind (jobs_of visits)) (jobs_of visits) =
+    picked-stream out (λ (m : Emission). m.job) (flow_of rows kind visits)
+    ∙ (λ i. picked out (outs i) (jobs-numbered 0 (flow_of rows kind visits) visits (flow-numbered rows kind visits) i)) in
+    let times : map (λ (m : Emission). m.time) (stream_of out (flow_of rows kind visits)) ≡ picked out (column_outs rows kind (jobs_of visits)) (map time_of_fate (column_fates rows kind (jobs_of visits) (arrives_of visits))) =
+    picked-stream out (λ (m : Emission). m.time) (flow_of rows kind visits)
+    ∙ (λ i. picked out (outs i) ((times-fates kind (flow_of rows kind visits) ∙ ap (map time_of_fate) (flow-fates rows kind visits)) i)) in
     λ i. record { job = jobs i; time = times i }
+
+-- the time and the job of an emission
+abbrev pair : Emission → ℕ × ℕ
+pair m = (m.time, m.job)
+
+zip-pairs : (ms : List Emission) → zip (map (λ (m : Emission). m.time) ms) (map (λ (m : Emission). m.job) ms) ≡ map {B = ℕ × ℕ} pair ms
+zip-pairs [] = refl
+zip-pairs (m ∷ ms) = ap (λ l. pair m ∷ l) (zip-pairs ms)
+
+-- a part of the pairs is the same part of the emissions
+pairs-part : (part : ℕ × ℕ → ℕ) (own : Emission → ℕ) → ((m : Emission) → part (pair m) ≡ own m) → (ms : List Emission) → map part (map {B = ℕ × ℕ} pair ms) ≡ map own ms
+pairs-part part own h [] = refl
+pairs-part part own h (m ∷ ms) = λ i. h m i ∷ pairs-part part own h ms i
+
+-- the order of leaving goes over to a stream
+order-stream : (kind : Kind) (ms : List Emission) (out : ℕ) → stream_in out (in_leaving_order kind ms) ≡ stream_in_order kind (stream_in out ms)
+unfolding stream_in
+order-stream Source ms out = refl
+order-stream (Server demand) ms out = refl
+order-stream (Split route) ms out = refl
+order-stream (Delay demand) ms out =
+    let sorted = filter-order (λ (m : Emission). m.time) (λ (m : Emission). eqb m.out out) ms in
+    let pairs : map {B = ℕ × ℕ} pair (in_order_of (λ (m : Emission). m.time) (stream_of out ms)) ≡ by_first (zip (map (λ (m : Emission). m.time) (stream_of out ms)) (map (λ (m : Emission). m.job) (stream_of out ms))) =
+    in_order_of-map {Y = ℕ × ℕ} pair (λ (m : Emission). m.time) (λ (p : ℕ × ℕ). p.0) (λ m. refl) (stream_of out ms) ∙ ap by_first (sym (zip-pairs (stream_of out ms))) in
+    let jobs = ap (map (λ (m : Emission). m.job)) sorted ∙ (sym (pairs-part (λ (p : ℕ × ℕ). p.1) (λ (m : Emission). m.job) (λ m. refl) (in_order_of (λ (m : Emission). m.time) (stream_of out ms))) ∙ ap (map (λ (p : ℕ × ℕ). p.1)) pairs) in
+    let times = ap (map (λ (m : Emission). m.time)) sorted ∙ (sym (pairs-part (λ (p : ℕ × ℕ). p.0) (λ (m : Emission). m.time) (λ m. refl) (in_order_of (λ (m : Emission). m.time) (stream_of out ms))) ∙ ap (map (λ (p : ℕ × ℕ). p.0)) pairs) in
+    λ i. record { job = jobs i; time = times i }
+
+station-stream : (rows : Rows) (kind : Kind) (s : Station Local) (out : ℕ) → s.emitted ≡ in_leaving_order kind (flow_of rows kind s.visits) → stream_from s out ≡ column_stream rows kind (jobs_of s.visits) (arrives_of s.visits) out
+unfolding stream_in
+station-stream rows kind s out flow =
+    ap (stream_in out) flow ∙ (order-stream kind (flow_of rows kind s.visits) out ∙ ap (stream_in_order kind) (flow-stream rows kind s.visits out))
 
 pub some-inside : (nodes : List Node) (v : ℕ) (node : Node) → slice_get nodes v ≡ Some node → v < length nodes
 some-inside [] v node h = absurd cc

@@ -13,7 +13,7 @@ use Rattle.mq_core.specs.NumberLaws.{SpanIsColumns}
 use Rattle.mq_core.specs.OnTime.{standard-on_time}
 use Rattle.mq_core.specs.Results.{fates_from, visits_of}
 use Rattle.mq_core.specs.Run.{starts}
-use Rattle.mq_core.specs.Served.{served, served_from, passed_from}
+use Rattle.mq_core.specs.Served.{flow_of}
 use Rattle.mq_core.specs.Standard.{node_on, output_by, standard_handle, standard_jobs, standard_opening}
 use Rattle.mq_core.specs.StandardTable.{standard, run_of}
 use Rattle.mq_core.specs.Tallies.{emission_at, arrival_or}
@@ -27,7 +27,9 @@ use Rattle.mq_core.specs.declared.model.Plan.{Plan}
 use Rattle.mq_core.specs.declared.model.Rows.{Rows}
 use Rattle.mq_core.proofs.AloneRuns.{visits-handled}
 use Rattle.mq_core.proofs.Each.{Each-map}
-use Rattle.mq_core.proofs.Ends.{nothing-pending, end-fact, serving-done}
+use Rattle.mq_core.proofs.ColumnFlow.{nodes-flow}
+use Rattle.mq_core.proofs.ColumnNumbers.{flow-numbered, order-own}
+use Rattle.mq_core.proofs.Ends.{nothing-pending}
 use Rattle.mq_core.proofs.Facts.{kind_fact, node_fact}
 use Rattle.mq_core.proofs.Kept.{Keeps, kept}
 use Rattle.mq_core.proofs.NumberFates.{LetOut, all-let_out, fates-cons}
@@ -43,10 +45,6 @@ at-map f [] i x h = absurd cc
 at-map f (y ∷ xs) zero x h = let same : y ≡ x = cc in ap (λ z. Some (f z)) same
 at-map f (y ∷ xs) (suc i) x h = at-map f xs i x h
 
-at-middle : (before after : List Emission) (m : Emission) → slice_get (before ++ m ∷ after) (length before) ≡ Some m
-at-middle [] after m = refl
-at-middle (n ∷ before) after m = at-middle before after m
-
 found-each : (P : Emission → Type 0) (test : Emission → Bool) (ms : List Emission) (m : Emission) → Each P ms → find test ms ≡ Some m → P m
 found-each P test [] m h e = absurd cc
 found-each P test (n ∷ ms) m h e = go (test n) e (found-each P test ms m h.1)
@@ -54,30 +52,6 @@ found-each P test (n ∷ ms) m h e = go (test n) e (found-each P test ms m h.1)
     go : (b : Bool) → cond b (Some n) (find test ms) ≡ Some m → (find test ms ≡ Some m → P m) → P m
     go true e rest = subst P (let same : n ≡ m = cc in same) h.0
     go false e rest = rest e
-
--- the emissions stand in the order of their positions, from this one on
-abbrev InPlaces : ℕ → List Emission → Type 0
-InPlaces k [] = Unit {0}
-InPlaces k (m ∷ ms) = (m.position ≡ k) × InPlaces (suc k) ms
-
-served-places : (rows : Rows) (demand : Demand) (k last : ℕ) (xs : List Visit) → InPlaces k (served_from rows demand k last xs) × (length (served_from rows demand k last xs) ≡ length xs)
-served-places rows demand k last [] = (tt, refl)
-served-places rows demand k last (x ∷ xs) = let rest = served-places rows demand (suc k) (served rows demand last x) xs in ((refl, rest.0), ap suc rest.1)
-
-passed-places : (out : Visit → ℕ → ℕ) (k : ℕ) (xs : List Visit) → InPlaces k (passed_from out k xs) × (length (passed_from out k xs) ≡ length xs)
-passed-places out k [] = (tt, refl)
-passed-places out k (x ∷ xs) = let rest = passed-places out (suc k) xs in ((refl, rest.0), ap suc rest.1)
-
--- each is found by its position
-place-found : (k i : ℕ) (ms : List Emission) (m : Emission) → InPlaces k ms → slice_get ms i ≡ Some m → emission_at ms (k + i) ≡ Some m
-place-found k i [] m h e = absurd cc
-place-found k zero (n ∷ ms) m h e =
-    let own : n.position ≡ k + zero = (let a = h.0 in omega arith) in
-    rw (eq-eqb n.position (k + zero) own) e
-place-found k (suc i) (n ∷ ms) m h e =
-    let other : n.position ≢ k + suc i = (λ q. let a = h.0 in let b : ⊥ = omega arith in b) in
-    rw (ne_eqb n.position (k + suc i) other)
-    (let same : suc k + i ≡ k + suc i = omega arith in subst (λ p. emission_at ms p ≡ Some m) same (place-found (suc k) i ms m h.1 e))
 
 -- the fate of a position is in the column
 fate-at : (kind : Kind) (emitted : List Emission) (k i : ℕ) (xs : List Visit) (m : Emission) → LetOut emitted k xs → i < length xs → emission_at emitted (k + i) ≡ Some m → slice_get (fates_from kind emitted k xs) i ≡ Some (fate_by kind m)
@@ -157,26 +131,15 @@ module _ (plan : Plan) (rows : Rows) (read : IsReadFor plan.net rows) where
       let two = column-within v node here in
       omega arith
 
-  -- at the end the emissions of a node stand by position, one for each visit
-  in-places : (v : ℕ) (node : Node) → slice_get plan.net.nodes v ≡ Some node → InPlaces 0 (end.stations v).emitted × (length (end.stations v).emitted ≡ length (end.stations v).visits)
-  in-places v node here = go node.kind (subst (λ o. node_fact rows o v (end.stations v) [] end.clock) here (end-fact plan rows read v))
-    where
-      moved : (emitted other : List Emission) (n : ℕ) → emitted ≡ other → InPlaces 0 other × (length other ≡ n) → InPlaces 0 emitted × (length emitted ≡ n)
-      moved emitted other n same h = subst (λ ms. InPlaces 0 ms × (length ms ≡ n)) (sym same) h
-
-      go : (kind : Kind) → kind_fact rows kind v ((run_of plan rows).stations v) [] (run_of plan rows).clock → InPlaces 0 ((run_of plan rows).stations v).emitted × (length ((run_of plan rows).stations v).emitted ≡ length ((run_of plan rows).stations v).visits)
-      go Source h = moved _ _ _ h.left (passed-places (λ _ _. 0) 0 ((run_of plan rows).stations v).visits)
-      go (Server demand) h = moved _ _ _ (serving-done rows demand v ((run_of plan rows).stations v).visits _ ((run_of plan rows).stations v).emitted _ h).1 (served-places rows demand 0 0 ((run_of plan rows).stations v).visits)
-      go (Split route) h = moved _ _ _ h.left (passed-places (λ x p. output_by rows route x.job p) 0 ((run_of plan rows).stations v).visits)
-
   leaves-within : (v : ℕ) (node : Node) (before after : List Emission) (m : Emission) → slice_get plan.net.nodes v ≡ Some node → (end.stations v).emitted ≡ before ++ m ∷ after → m.time ≤ column_span (visits_by_node end 0 plan.net.nodes)
   leaves-within v node before after m here inside =
-      let places = in-places v node here in
-      let size : length before < length (end.stations v).visits = (let a = places.1 in let b = ap length inside in omega (arith, length-append before (m ∷ after))) in
-      let at : slice_get (end.stations v).emitted (length before) ≡ Some m = ap (λ l. slice_get l (length before)) inside ∙ at-middle before after m in
-      let found = place-found 0 (length before) (end.stations v).emitted m places.0 at in
-      let fate = fate-at node.kind (end.stations v).emitted 0 (length before) (end.stations v).visits m (all-let_out plan rows read v node here) size found in
-      let one : m.time ≤ fold max 0 (map time_of_fate (fates_from node.kind (end.stations v).emitted 0 (end.stations v).visits)) = greatest-bounds (map time_of_fate (fates_from node.kind (end.stations v).emitted 0 (end.stations v).visits)) (length before) m.time (at-map time_of_fate (fates_from node.kind (end.stations v).emitted 0 (end.stations v).visits) (length before) (fate_by node.kind m) fate) in
+      let flow = nodes-flow plan rows read v node here in
+      let own = order-own node.kind (flow_of rows node.kind (end.stations v).visits) (end.stations v).visits (flow-numbered rows node.kind (end.stations v).visits) before after m (sym flow ∙ inside) in
+      let place : m.position ≡ 0 + m.position = omega arith in
+      let found : emission_at (end.stations v).emitted (0 + m.position) ≡ Some m = ap (emission_at (end.stations v).emitted) (sym place) ∙ (ap (λ l. emission_at l m.position) flow ∙ own.0) in
+      let size = own.1 in
+      let fate = fate-at node.kind (end.stations v).emitted 0 m.position (end.stations v).visits m (all-let_out plan rows read v node here) size found in
+      let one : m.time ≤ fold max 0 (map time_of_fate (fates_from node.kind (end.stations v).emitted 0 (end.stations v).visits)) = greatest-bounds (map time_of_fate (fates_from node.kind (end.stations v).emitted 0 (end.stations v).visits)) m.position m.time (at-map time_of_fate (fates_from node.kind (end.stations v).emitted 0 (end.stations v).visits) m.position (fate_by node.kind m) fate) in
       let two = column-within v node here in
       omega arith
 

@@ -5,7 +5,7 @@ use Rattle.mq_core.specs.Columns.{column_waits, column_sojourn, column_sojourns,
 use Rattle.mq_core.specs.Machine.{Visit, Emission, Station}
 use Rattle.mq_core.specs.Local.{Local}
 use Rattle.mq_core.specs.Laws.{stream_of}
-use Rattle.mq_core.specs.Fates.{service_of}
+use Rattle.mq_core.specs.Fates.{holds_jobs, service_of}
 use Rattle.mq_core.specs.NumberLaws.{TotalsAreColumns, ExitsAreStreams}
 use Rattle.mq_core.specs.Results.{fates_from, wait_of, waits_of, is_lost, peak_of}
 use Rattle.mq_core.specs.StandardTable.{run_of}
@@ -13,7 +13,7 @@ use Rattle.mq_core.specs.Tallies.{sum_below, greatest_below, emission_at, arriva
 use Rattle.mq_core.specs.declared.model.Fate.{Fate}
 use Rattle.mq_core.specs.declared.model.Fate.TheVariants.{Departs, Lost}
 use Rattle.mq_core.specs.declared.model.Kind.{Kind}
-use Rattle.mq_core.specs.declared.model.Kind.TheVariants.{Source, Server, Split}
+use Rattle.mq_core.specs.declared.model.Kind.TheVariants.{Source, Server, Delay, Split}
 use Rattle.mq_core.specs.declared.model.Node.{Node}
 use Rattle.mq_core.specs.declared.model.Rows.{Rows}
 use Rattle.mq_core.proofs.Busy.{busy-is_services}
@@ -56,6 +56,7 @@ area-columns kind now visits emitted out =
 service-column : (rows : Rows) (kind : Kind) (x : Visit) (time : ℕ) → service_of rows kind (Some x) ≡ column_service rows kind x.job (Departs time)
 service-column rows Source x time = refl
 service-column rows (Server demand) x time = refl
+service-column rows (Delay demand) x time = refl
 service-column rows (Split route) x time = refl
 
 busy-columns : (rows : Rows) (kind : Kind) (visits : List Visit) (emitted : List Emission) → LetOut emitted 0 visits → sum_below (length visits) (λ p. service_of rows kind (slice_get visits p)) ≡ sum (column_services rows kind (map (λ (x : Visit). x.job) visits) (fates_from kind emitted 0 visits))
@@ -100,7 +101,8 @@ totals-are_columns plan rows read v node here =
 
     peak : (kind : Kind) → node.kind ≡ kind → peak_of kind ((run_of plan rows).stations v).peak ≡ column_peak kind (map (λ (x : Visit). x.found) ((run_of plan rows).stations v).visits) (fates_from node.kind ((run_of plan rows).stations v).emitted 0 ((run_of plan rows).stations v).visits)
     peak Source same = refl
-    peak (Server demand) same = peak-is_greatest plan rows v node demand here same ∙ numbers-columns node.kind ((run_of plan rows).stations v).visits ((run_of plan rows).stations v).emitted out
+    peak (Server demand) same = peak-is_greatest plan rows v node here (ap holds_jobs same) ∙ numbers-columns node.kind ((run_of plan rows).stations v).visits ((run_of plan rows).stations v).emitted out
+    peak (Delay demand) same = peak-is_greatest plan rows v node here (ap holds_jobs same) ∙ numbers-columns node.kind ((run_of plan rows).stations v).visits ((run_of plan rows).stations v).emitted out
     peak (Split route) same = refl
 
 -- the sum over a stream is the sum over its columns

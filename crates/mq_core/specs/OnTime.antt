@@ -10,7 +10,7 @@ use Rattle.mq_core.specs.Standard.{kind_on, node_on, standard_handle}
 use Rattle.mq_core.specs.Run.{IsOnTime}
 use Rattle.mq_core.specs.declared.model.Demand.{Demand}
 use Rattle.mq_core.specs.declared.model.Kind.{Kind}
-use Rattle.mq_core.specs.declared.model.Kind.TheVariants.{Source, Server, Split}
+use Rattle.mq_core.specs.declared.model.Kind.TheVariants.{Source, Server, Delay, Split}
 use Rattle.mq_core.specs.declared.model.Node.{Node}
 use Rattle.mq_core.specs.declared.model.Rows.{Rows}
 
@@ -35,6 +35,8 @@ kind-late rows Source visits local now (Arrive t n q j) = tt
 kind-late rows Source visits local now (Finish t n q j) = tt
 kind-late rows (Server demand) visits local now (Arrive t n q j) = joins-late rows demand visits local now local.queue (latest visits)
 kind-late rows (Server demand) visits local now (Finish t n q j) = front_leaves-late rows demand visits local now local.queue
+kind-late rows (Delay demand) visits local now (Arrive t n q j) = (omega arith, tt)
+kind-late rows (Delay demand) visits local now (Finish t n q j) = tt
 kind-late rows (Split route) visits local now (Arrive t n q j) = tt
 kind-late rows (Split route) visits local now (Finish t n q j) = tt
 

@@ -12,7 +12,7 @@ pub fn outputs_of(kind: &Kind) -> u8
     ensures { result ≡ outputs_in kind.now }
 {
     match kind {
-        Kind::Source | Kind::Server(_) => 1,
+        Kind::Source | Kind::Server(_) | Kind::Delay(_) => 1,
         Kind::Split(route) => outputs_of_route(route),
     }
 }
@@ -27,13 +27,13 @@ fn outputs_of_route(route: &Route) -> u8
     }
 }
 
-/// How many servers a node of this kind has, by which its utilisation is reckoned; 0 at a source
-/// or a split, which have none.
+/// How many servers a node of this kind has, by which its utilisation is reckoned; 0 at a source,
+/// a delay or a split, which have none.
 pub fn servers_of(kind: &Kind) -> u8
     ensures { result ≡ servers_in kind.now }
 {
     match kind {
         Kind::Server(_) => 1,
-        Kind::Source | Kind::Split(_) => 0,
+        Kind::Source | Kind::Delay(_) | Kind::Split(_) => 0,
     }
 }

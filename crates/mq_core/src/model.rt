@@ -50,6 +50,8 @@ pub enum Kind {
     Source,
     /// One server with an unlimited queue, first come first served.
     Server(Demand),
+    /// Serves each job at once, for as long as it asks, however many there are.
+    Delay(Demand),
     /// Sends each job on at once, by one of its outputs.
     Split(Route),
 }

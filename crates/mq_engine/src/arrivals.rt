@@ -1,4 +1,4 @@
-ghost use Rattle.std.specs.Prelude.{◌≡◌, ◌<◌, ◌≤◌, ℕ, length, IfOk, Some, slice_get};
+ghost use Rattle.std.specs.Prelude.{◌≡◌, ◌==◌, ◌<◌, ◌≤◌, ℕ, count_by, length, IfOk, IsTrue, Some, slice_get};
 ghost use Rattle.std.specs.List.{flat_map};
 ghost use Rattle.mq_core.specs.Columns.{IsStream, by_first, pairs_of, rows_at};
 ghost use Rattle.mq_core.specs.Laws.{Rises};
@@ -45,29 +45,76 @@ fn rows_by_time(
     ensures stream { IfOk result (λ stream. IsStream stream) }
     ensures items { IfOk result (λ stream. pairs_of stream ≡ by_first (rows_at node 0 source.now time.now)) }
 {
-    let mut rows = rows_of(alloc, node, source, time)?;
-    rows.sort_by_key(|row| row.0)?;
-    columns_of(alloc, &rows)
+    let rows = rows_of(alloc, node, source, time)?;
+    if rises(&rows.time) {
+        return Ok(rows);
+    }
+    let sorted = sorted(alloc, &rows)?;
+    Ok(sorted)
 }
 
-// The time and the job of each row of a source, in file order.
+// How many rows come from a source.
+fn rows_from(node: u32, source: &[u32]) -> usize
+    ensures { result ≡ count_by (λ other. other == node) source.now }
+{
+    source.iter().filter(|other| **other == node).count()
+}
+
+// The rows of a source, in file order.
 fn rows_of(
     alloc: Global,
     node: u32,
     source: &List<u32>,
     time: &List<u64>,
-) -> Result<Vec<(u64, u32)>, OutOfMemory>
+) -> Result<Stream, OutOfMemory>
     requires even { length source.now ≡ length time.now }
     requires few { length time.now ≤ 1048576 }
-    ensures { IfOk result (λ rows. rows.items ≡ rows_at node 0 source.now time.now) }
+    ensures even { IfOk result (λ rows. length rows.job ≡ length rows.time) }
+    ensures items { IfOk result (λ rows. pairs_of rows ≡ rows_at node 0 source.now time.now) }
 {
-    let mut rows = Vec::new(alloc);
+    let count = rows_from(node, source.as_slice());
+    let mut jobs = List::from_vec(Vec::with_capacity(alloc, count)?);
+    let mut times = List::from_vec(Vec::with_capacity(alloc, count)?);
     for job in 0..source.len() {
         if *source.get(job) == node {
-            rows.push((*time.get(job), job as u32))?;
+            jobs.push(job as u32)?;
+            times.push(*time.get(job))?;
         }
     }
-    Ok(rows)
+    Ok(Stream {
+        job: jobs,
+        time: times,
+    })
+}
+
+// Whether no time falls.
+fn rises(times: &List<u64>) -> bool
+    ensures { IsTrue result → Rises (λ a b. a ≤ b) times.now }
+{
+    times.as_slice().is_sorted()
+}
+
+// The items of a stream by time, those of one time in their order.
+fn sorted(alloc: Global, rows: &Stream) -> Result<Stream, OutOfMemory>
+    requires even { length rows.now.job ≡ length rows.now.time }
+    ensures stream { IfOk result (λ stream. IsStream stream) }
+    ensures items { IfOk result (λ stream. pairs_of stream ≡ by_first (pairs_of rows.now)) }
+{
+    let mut items = items_of(alloc, rows)?;
+    items.sort_by_key(|item| item.0)?;
+    columns_of(alloc, &items)
+}
+
+// The time and the job of each item of a stream.
+fn items_of(alloc: Global, rows: &Stream) -> Result<Vec<(u64, u32)>, OutOfMemory>
+    requires even { length rows.now.job ≡ length rows.now.time }
+    ensures { IfOk result (λ items. items.items ≡ pairs_of rows.now) }
+{
+    let mut items = Vec::with_capacity(alloc, rows.time.len())?;
+    for at in 0..rows.time.len() {
+        items.push((*rows.time.get(at), *rows.job.get(at)))?;
+    }
+    Ok(items)
 }
 
 // The stream of items that are by time.
@@ -76,8 +123,8 @@ fn columns_of(alloc: Global, items: &[(u64, u32)]) -> Result<Stream, OutOfMemory
     ensures stream { IfOk result (λ stream. IsStream stream) }
     ensures items { IfOk result (λ stream. pairs_of stream ≡ items.now) }
 {
-    let mut job = List::new(alloc);
-    let mut time = List::new(alloc);
+    let mut job = List::from_vec(Vec::with_capacity(alloc, items.len())?);
+    let mut time = List::from_vec(Vec::with_capacity(alloc, items.len())?);
     for item in items {
         time.push(item.0)?;
         job.push(item.1)?;

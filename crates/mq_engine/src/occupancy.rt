@@ -18,7 +18,7 @@ pub fn found(alloc: Global, arrive: &List<u64>, fate: &List<Fate>) -> Result<Lis
     requires fate { LeaveInOrder fate.now }
     ensures { IfOk result (λ found. found ≡ founds_of arrive.now fate.now) }
 {
-    let mut found = List::new(alloc);
+    let mut found = List::from_vec(Vec::with_capacity(alloc, arrive.len())?);
     let mut gone = 0;
     for at in 0..arrive.len() {
         gone = gone_by(*arrive.get(at), fate, gone, at);

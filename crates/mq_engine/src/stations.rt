@@ -97,7 +97,7 @@ fn demands_of(
     requires told { AreTold net.now rows.now jobs.now }
     ensures { IfOk result (λ demands. demands ≡ map (demand_of_job rows.now demand.now) jobs.now) }
 {
-    let mut demands = List::new(alloc);
+    let mut demands = List::from_vec(Vec::with_capacity(alloc, jobs.len())?);
     for at in 0..jobs.len() {
         demands.push(demand_of(rows, demand, *jobs.get(at)))?;
     }
@@ -116,7 +116,7 @@ fn values_of(
     requires told { AreTold net.now rows.now jobs.now }
     ensures { IfOk result (λ values. values ≡ map (route_value rows.now route.now) jobs.now) }
 {
-    let mut values = List::new(alloc);
+    let mut values = List::from_vec(Vec::with_capacity(alloc, jobs.len())?);
     for at in 0..jobs.len() {
         values.push(value_by(net, rows, route, *jobs.get(at)))?;
     }
@@ -140,7 +140,7 @@ fn value_by(net: &Network, rows: &Rows, route: &Route, job: u32) -> u64
 fn fates_of(alloc: Global, departs: &List<u64>) -> Result<List<Fate>, OutOfMemory>
     ensures { IfOk result (λ fates. fates ≡ map (λ time. Departs time) departs.now) }
 {
-    let mut fates = List::new(alloc);
+    let mut fates = List::from_vec(Vec::with_capacity(alloc, departs.len())?);
     for at in 0..departs.len() {
         fates.push(Fate::Departs(*departs.get(at)))?;
     }

@@ -58,7 +58,7 @@ fn outs_of(alloc: Global, values: &List<u64>, route: &Route) -> Result<Vec<u8>, 
     requires few { length values.now ≤ 1048576 }
     ensures { IfOk result (λ outs. outs.items ≡ outs_from route.now 0 values.now) }
 {
-    let mut outs = Vec::new(alloc);
+    let mut outs = Vec::with_capacity(alloc, values.len())?;
     for at in 0..values.len() {
         outs.push(route_of(route, *values.get(at), at as u32))?;
     }

@@ -1,5 +1,5 @@
 -- What is known of the columns of a run.
-use Rattle.std.proofs.Common.{◌≡◌, ℕ, suc, ◌+◌, ◌≤◌, Bool, true, false, List, [], ◌∷◌, ◌++◌, length, sym, ap, subst, arith, length-append}
+use Rattle.std.proofs.Common.{◌≡◌, ℕ, suc, ◌+◌, ◌≤◌, Bool, true, false, List, [], ◌∷◌, ◌++◌, length, sym, refl, ap, subst, arith, length-append}
 use Rattle.std.specs.Prelude.{All, ◌==◌, if◌then◌else◌}
 use Rattle.std.specs.List.{AllByRecursion as Each}
 use Rattle.std.proofs.lemmas.List.Elements.{All-nil, All-cons}
@@ -46,3 +46,15 @@ length-picked out (o ∷ outs) (item ∷ items) = go (o == out) (length-picked o
     go : (b : Bool) → length (picked out outs items) ≤ length items → length (if b then item ∷ picked out outs items else picked out outs items) ≤ suc (length items)
     go true k = omega arith
     go false k = omega arith
+
+-- as many are picked of two lists of one length
+pub picked-even : (out : ℕ) (outs items others : List ℕ) → length others ≡ length items → length (picked out outs items) ≡ length (picked out outs others)
+picked-even out [] items others e = refl
+picked-even out (o ∷ outs) [] [] e = refl
+picked-even out (o ∷ outs) [] (other ∷ others) e = absurd (omega arith)
+picked-even out (o ∷ outs) (item ∷ items) [] e = absurd (omega arith)
+picked-even out (o ∷ outs) (item ∷ items) (other ∷ others) e = go (o == out) (picked-even out outs items others (omega arith))
+  where
+    go : (b : Bool) → length (picked out outs items) ≡ length (picked out outs others) → length (if b then item ∷ picked out outs items else picked out outs items) ≡ length (if b then other ∷ picked out outs others else picked out outs others)
+    go true k = omega arith
+    go false k = k

@@ -1,13 +1,13 @@
 -- One step of a loop over columns, and its end.
-use Rattle.std.proofs.Common.{◌≡◌, ℕ, suc, ◌+◌, List, ◌∷◌, drop, Some, sym, ap, ◌∙◌, arith, drop-cons, max}
-use Rattle.std.specs.Prelude.{slice_get, fold, slice_index, ◌-◌}
-use Rattle.std.specs.Ordering.{ord_max, nat_cmp}
-use Rattle.std.proofs.lemmas.Bool.Decides.{nat_tests}
+use Rattle.std.proofs.Common.{◌≡◌, ℕ, suc, ◌+◌, List, ◌∷◌, cond, drop, Some, sym, ap, ◌∙◌, arith, drop-cons, max}
+use Rattle.std.specs.Prelude.{slice_get, fold, slice_index, ◌-◌, count_by}
 use Rattle.std.proofs.lemmas.Option.{slice_get_within, get_or_from_slice_get}
 use Rattle.mq_core.specs.Columns.{column_wait, column_waits, column_service, column_services, column_sojourn, column_sojourns, one_more, column_numbers, stream_sojourns}
+use Rattle.mq_core.specs.Results.{is_lost}
 use Rattle.mq_core.specs.declared.model.Fate.{Fate}
 use Rattle.mq_core.specs.declared.model.Kind.{Kind}
 use Rattle.mq_core.specs.declared.model.Rows.{Rows}
+use Rattle.mq_stats.proofs.Counts.{count-cons}
 
 -- what is left from a place on begins with the item there
 pub drop_at : {X : Type 0} (xs : List X) (i : ℕ) (x : X) → slice_get xs i ≡ Some x → drop i xs ≡ x ∷ drop (i + 1) xs
@@ -16,17 +16,19 @@ drop_at xs i x h =
     let next : suc i ≡ i + 1 = omega arith in
     drop-cons xs i x within ∙ (ap (λ y. y ∷ drop (suc i) xs) (get_or_from_slice_get xs i x x h) ∙ ap (λ n. x ∷ drop n xs) next)
 
--- what the code's `max` gives
-pub max_is : (a b : ℕ) → ord_max nat_cmp a b ≡ max a b
-max_is a b = grind (arith, nat_tests)
-
 -- Sums and greatest numbers. What is added so far, with what is left, is all.
 pub adds : (total added x all : ℕ) (rest rest' : List ℕ) → added ≡ x → rest ≡ x ∷ rest' → fold (λ a y. a + y) total rest ≡ all → fold (λ a y. a + y) (total + added) rest' ≡ all
 adds total added x all rest rest' m e h = ap (λ n. fold (λ a y. a + y) (total + n) rest') m ∙ (sym (ap (fold (λ a y. a + y) total) e) ∙ h)
 
+-- what is counted so far, with what is left, is all
+pub counts : (lost added all : ℕ) (fates : List Fate) (i : ℕ) (fate : Fate) → added ≡ cond (is_lost fate) 1 0 → slice_get fates i ≡ Some fate → lost + count_by is_lost (drop i fates) ≡ all → lost + added + count_by is_lost (drop (i + 1) fates) ≡ all
+counts lost added all fates i fate m f h =
+    let e = ap (count_by is_lost) (drop_at fates i fate f) ∙ count-cons is_lost fate (drop (i + 1) fates) in
+    omega arith
+
 -- the greatest so far, with what is left, is the greatest of all
-pub grows : (greatest greatest' seen x all : ℕ) (rest rest' : List ℕ) → greatest' ≡ ord_max nat_cmp greatest seen → seen ≡ x → rest ≡ x ∷ rest' → fold max greatest rest ≡ all → fold max greatest' rest' ≡ all
-grows greatest greatest' seen x all rest rest' m w e h = ap (λ n. fold max n rest') (m ∙ (max_is greatest seen ∙ ap (max greatest) w)) ∙ (sym (ap (fold max greatest) e) ∙ h)
+pub grows : (greatest greatest' seen x all : ℕ) (rest rest' : List ℕ) → greatest' ≡ max greatest seen → seen ≡ x → rest ≡ x ∷ rest' → fold max greatest rest ≡ all → fold max greatest' rest' ≡ all
+grows greatest greatest' seen x all rest rest' m w e h = ap (λ n. fold max n rest') (m ∙ ap (max greatest) w) ∙ (sym (ap (fold max greatest) e) ∙ h)
 
 -- Columns. What is left of each begins with the item of its visit.
 pub waits-at : (rows : Rows) (kind : Kind) (jobs arrives : List ℕ) (fates : List Fate) (i job arrive : ℕ) (fate : Fate) → slice_get jobs i ≡ Some job → slice_get arrives i ≡ Some arrive → slice_get fates i ≡ Some fate →

@@ -1,4 +1,4 @@
-ghost use Rattle.std.specs.Prelude.{◌≡◌, ◌<◌, ◌≤◌, ◌^◌, All, length, max, fold, sum, count_by};
+ghost use Rattle.std.specs.Prelude.{◌≡◌, ◌<◌, ◌≤◌, ◌^◌, max, fold, cond};
 ghost use Rattle.mq_core.specs.Asked.{HasDemands};
 ghost use Rattle.mq_core.specs.Columns.{
   column_numbers,
@@ -39,14 +39,15 @@ pub struct NodeTotals {
     pub peak: u32,
 }
 
-// How many of the visits were lost.
-fn lost_of(fates: &[Fate]) -> usize
-    ensures { result ≡ count_by is_lost fates.now }
+// 1 for a lost visit, and 0 for another.
+fn one_if_lost(fate: Fate) -> u32
+    ensures value { result ≡ cond (is_lost fate) 1 0 }
+    ensures most { result ≤ 1 }
 {
-    fates
-        .iter()
-        .filter(|fate| matches!(**fate, Fate::Lost))
-        .count()
+    match fate {
+        Fate::Departs(_) => 0,
+        Fate::Lost => 1,
+    }
 }
 
 // How long a visit waited, in ticks: its sojourn less the time that it would have stayed anyway.
@@ -63,27 +64,6 @@ fn wait_of(rows: &Rows, kind: &Kind, job: u32, arrive: u64, fate: Fate) -> u64
     }
 }
 
-// The sum and the greatest of the waiting times.
-fn waits_of(rows: &Rows, kind: &Kind, visits: &Visits) -> (u128, u64)
-    requires { AreVisits rows.now kind.now visits.now }
-    ensures total { result.0 ≡ sum (column_waits rows.now kind.now visits.now.job visits.now.arrive visits.now.fate) }
-    ensures longest { result.1 ≡ fold max 0 (column_waits rows.now kind.now visits.now.job visits.now.arrive visits.now.fate) }
-{
-    let mut total: u128 = 0;
-    let mut longest = 0;
-    for at in 0..visits.job.len() {
-        let (job, arrive, fate) = (
-            *visits.job.get(at),
-            *visits.arrive.get(at),
-            *visits.fate.get(at),
-        );
-        let wait = wait_of(rows, kind, job, arrive, fate);
-        total += wait as u128;
-        longest = longest.max(wait);
-    }
-    (total, longest)
-}
-
 // How long a node of this kind serves a job that it doesn't lose, in ticks.
 fn service_at(rows: &Rows, kind: &Kind, job: u32) -> u64
     requires { HasDemands rows.now kind.now job }
@@ -91,7 +71,7 @@ fn service_at(rows: &Rows, kind: &Kind, job: u32) -> u64
 {
     match kind {
         Kind::Source | Kind::Split(_) => 0,
-        Kind::Server(demand) => demand_of(rows, demand, job),
+        Kind::Server(demand) | Kind::Delay(demand) => demand_of(rows, demand, job),
     }
 }
 
@@ -106,20 +86,6 @@ fn service_of(rows: &Rows, kind: &Kind, job: u32, fate: Fate) -> u64
     }
 }
 
-// The sum of the services.
-fn busy_of(rows: &Rows, kind: &Kind, visits: &Visits) -> u128
-    requires { AreVisits rows.now kind.now visits.now }
-    ensures total { result ≡ sum (column_services rows.now kind.now visits.now.job visits.now.fate) }
-    ensures small { result ≤ 2 ^ 84 }
-{
-    let mut total: u128 = 0;
-    for at in 0..visits.job.len() {
-        let (job, fate) = (*visits.job.get(at), *visits.fate.get(at));
-        total += service_of(rows, kind, job, fate) as u128;
-    }
-    total
-}
-
 // How long a visit stayed, in ticks.
 fn sojourn_of(arrive: u64, fate: Fate) -> u64
     ensures { result ≡ column_sojourn arrive fate }
@@ -128,19 +94,6 @@ fn sojourn_of(arrive: u64, fate: Fate) -> u64
         Fate::Departs(time) => time.saturating_sub(arrive),
         Fate::Lost => 0,
     }
-}
-
-// The sum of the sojourns.
-fn area_of(visits: &Visits) -> u128
-    requires few { length visits.now.arrive ≤ 1048576 }
-    requires fates { length visits.now.fate ≡ length visits.now.arrive }
-    ensures { result ≡ sum (column_sojourns visits.now.arrive visits.now.fate) }
-{
-    let mut total: u128 = 0;
-    for at in 0..visits.arrive.len() {
-        total += sojourn_of(*visits.arrive.get(at), *visits.fate.get(at)) as u128;
-    }
-    total
 }
 
 // The number of jobs just after a visit came; 0 for a lost one.
@@ -154,32 +107,18 @@ fn number_after(found: u32, fate: Fate) -> u32
     }
 }
 
-// The greatest number of jobs just after a visit came, or 0.
-fn greatest_number(visits: &Visits) -> u32
-    requires small { All (λ found. found ≤ 1048576) visits.now.found }
-    requires fates { length visits.now.fate ≡ length visits.now.found }
-    ensures { result ≡ fold max 0 (column_numbers visits.now.found visits.now.fate) }
-{
-    let mut greatest = 0;
-    for at in 0..visits.found.len() {
-        greatest = greatest.max(number_after(*visits.found.get(at), *visits.fate.get(at)));
-    }
-    greatest
-}
-
-// The greatest number of jobs in a node of this kind, where it holds any.
-fn peak_of(kind: &Kind, visits: &Visits) -> u32
-    requires small { All (λ found. found ≤ 1048576) visits.now.found }
-    requires fates { length visits.now.fate ≡ length visits.now.found }
+// The peak of a node of this kind, where this is the greatest number of jobs just after a visit came.
+fn peak_of(kind: &Kind, greatest: u32, visits: &Visits) -> u32
+    requires { greatest ≡ fold max 0 (column_numbers visits.now.found visits.now.fate) }
     ensures { result ≡ column_peak kind.now visits.now.found visits.now.fate }
 {
     match kind {
         Kind::Source | Kind::Split(_) => 0,
-        Kind::Server(_) => greatest_number(visits),
+        Kind::Server(_) | Kind::Delay(_) => greatest,
     }
 }
 
-/// The totals of a node of this kind, from its visits alone.
+/// The totals of a node of this kind, from its visits alone, in one pass over them.
 ///
 /// The busy time is below 2^100 ticks.
 pub fn totals(rows: &Rows, kind: &Kind, visits: &Visits) -> NodeTotals
@@ -188,16 +127,27 @@ pub fn totals(rows: &Rows, kind: &Kind, visits: &Visits) -> NodeTotals
     ensures small { result.busy < 2 ^ 100 }
 {
     let came = visits.job.len() as u32;
-    let lost = lost_of(visits.fate.as_slice()) as u32;
-    let (wait, longest) = waits_of(rows, kind, visits);
+    let (mut lost, mut longest, mut greatest) = (0u32, 0u64, 0u32);
+    let (mut wait, mut busy, mut area) = (0u128, 0u128, 0u128);
+    for at in 0..visits.job.len() {
+        let (job, arrive) = (*visits.job.get(at), *visits.arrive.get(at));
+        let (found, fate) = (*visits.found.get(at), *visits.fate.get(at));
+        let waited = wait_of(rows, kind, job, arrive, fate);
+        lost += one_if_lost(fate);
+        wait += waited as u128;
+        longest = longest.max(waited);
+        busy += service_of(rows, kind, job, fate) as u128;
+        area += sojourn_of(arrive, fate) as u128;
+        greatest = greatest.max(number_after(found, fate));
+    }
     NodeTotals {
         came,
         left: came - lost,
         lost,
         wait,
         longest,
-        busy: busy_of(rows, kind, visits),
-        area: area_of(visits),
-        peak: peak_of(kind, visits),
+        busy,
+        area,
+        peak: peak_of(kind, greatest, visits),
     }
 }

@@ -1,0 +1,71 @@
+-- Lists by place, and what a loop has made of them so far.
+use Rattle.std.proofs.Common.{◌≡◌, ℕ, zero, suc, ◌+◌, ◌<◌, ◌≤◌, ◌^◌, List, [], ◌∷◌, ◌++◌, length, take, drop, map, Some, sym, refl, ap, ◌∙◌, arith, append_assoc, subst}
+use Rattle.std.specs.Prelude.{slice_get}
+use Rattle.std.specs.List.{zip}
+use Rattle.std.proofs.lemmas.List.{append-nil, drop_all}
+use Rattle.std.proofs.lemmas.List.Elements.{All-get_or}
+use Rattle.std.proofs.lemmas.Option.{slice_get_within, get_or_from_slice_get}
+use Rattle.mq_core.proofs.Pending.{some_inj}
+use Rattle.mq_core.specs.Columns.{IsSoundLoad}
+use Rattle.mq_core.specs.Recurrences.{delayed}
+
+pub drop_at : {X : Type 0} (xs : List X) (i : ℕ) (x : X) → slice_get xs i ≡ Some x → drop i xs ≡ x ∷ drop (suc i) xs
+drop_at [] i x h = absurd cc
+drop_at (y ∷ ys) zero x h = ap (λ z. z ∷ ys) (some_inj y x h)
+drop_at (y ∷ ys) (suc i) x h = drop_at ys i x h
+
+-- the departures so far with those of what is left, one job further
+pub delayed-next : (done done' all times demands : List ℕ) (i time demand : ℕ) → slice_get times i ≡ Some time → slice_get demands i ≡ Some demand → done' ≡ done ++ (time + demand) ∷ [] →
+    done ++ delayed (drop i times) (drop i demands) ≡ all → done' ++ delayed (drop (i + 1) times) (drop (i + 1) demands) ≡ all
+delayed-next done done' all times demands i time demand t d p h =
+    let next : i + 1 ≡ suc i = omega arith in
+    ap (λ xs. xs ++ delayed (drop (i + 1) times) (drop (i + 1) demands)) p
+    ∙ (append_assoc done _ _
+    ∙ (ap (λ n. done ++ (time + demand) ∷ delayed (drop n times) (drop n demands)) next
+    ∙ (sym (λ k. done ++ delayed (drop_at times i time t k) (drop_at demands i demand d k)) ∙ h)))
+
+-- at the end nothing is left
+pub delayed-all : (done all times demands : List ℕ) (i : ℕ) → length times ≤ i → done ++ delayed (drop i times) (drop i demands) ≡ all → done ≡ all
+delayed-all done all times demands i l h = sym (append-nil done) ∙ (ap (λ xs. done ++ delayed xs (drop i demands)) (sym (drop_all i times l)) ∙ h)
+
+-- a departure is in its limit
+pub early : (times demands : List ℕ) (i time demand : ℕ) → IsSoundLoad times demands → slice_get times i ≡ Some time → slice_get demands i ≡ Some demand → time + demand < 2 ^ 64
+early times demands i time demand load t d =
+    let a = slice_get_within times i time t in
+    let b = slice_get_within demands i demand d in
+    let c : time ≤ 2 ^ 60 = subst (λ x. x ≤ 2 ^ 60) (get_or_from_slice_get times i time 0 t) (All-get_or (λ x. x ≤ 2 ^ 60) times i 0 a load.early) in
+    let e : demand ≤ 2 ^ 36 = subst (λ x. x ≤ 2 ^ 36) (get_or_from_slice_get demands i demand 0 d) (All-get_or (λ x. x ≤ 2 ^ 36) demands i 0 b load.small) in
+    omega arith
+
+-- there are as many departures as arrivals
+pub length-delayed : (times demands : List ℕ) → length demands ≡ length times → length (delayed times demands) ≡ length times
+length-delayed [] demands h = refl
+length-delayed (time ∷ times) [] h = absurd (omega arith)
+length-delayed (time ∷ times) (demand ∷ demands) h = ap suc (length-delayed times demands (omega arith))
+
+-- the items so far with those of what is left, one item further
+pub zip-next : (done done' all : List (ℕ × ℕ)) (times jobs : List ℕ) (i time job : ℕ) → slice_get times i ≡ Some time → slice_get jobs i ≡ Some job → done' ≡ done ++ (time, job) ∷ [] →
+    done ++ zip (drop i times) (drop i jobs) ≡ all → done' ++ zip (drop (i + 1) times) (drop (i + 1) jobs) ≡ all
+zip-next done done' all times jobs i time job t j p h =
+    let next : i + 1 ≡ suc i = omega arith in
+    ap (λ xs. xs ++ zip (drop (i + 1) times) (drop (i + 1) jobs)) p
+    ∙ (append_assoc done _ _
+    ∙ (ap (λ n. done ++ (time, job) ∷ zip (drop n times) (drop n jobs)) next
+    ∙ (sym (λ k. done ++ zip (drop_at times i time t k) (drop_at jobs i job j k)) ∙ h)))
+
+pub zip-all : (done all : List (ℕ × ℕ)) (times jobs : List ℕ) (i : ℕ) → length times ≤ i → done ++ zip (drop i times) (drop i jobs) ≡ all → done ≡ all
+zip-all done all times jobs i l h = sym (append-nil done) ∙ (ap (λ xs. done ++ zip xs (drop i jobs)) (sym (drop_all i times l)) ∙ h)
+
+-- a list of pairs, from both its columns
+pub zip-map : (ps : List (ℕ × ℕ)) → zip (map (λ (p : ℕ × ℕ). p.0) ps) (map (λ (p : ℕ × ℕ). p.1) ps) ≡ ps
+zip-map [] = refl
+zip-map (p ∷ ps) = ap (λ l. p ∷ l) (zip-map ps)
+
+take-all : {X : Type 0} (xs : List X) (i : ℕ) → length xs ≤ i → take i xs ≡ xs
+take-all [] zero h = refl
+take-all [] (suc i) h = refl
+take-all (x ∷ xs) zero h = absurd (omega arith)
+take-all (x ∷ xs) (suc i) h = ap (λ l. x ∷ l) (take-all xs i (omega arith))
+
+pub map-all : {X Y : Type 0} (f : X → Y) (xs : List X) (i : ℕ) (done : List Y) → length xs ≤ i → done ≡ map f (take i xs) → done ≡ map f xs
+map-all f xs i done h k = k ∙ ap (map f) (take-all xs i h)
