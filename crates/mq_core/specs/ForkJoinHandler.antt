@@ -1,4 +1,5 @@
-use Rattle.std.specs.Prelude.{ℕ, ◌+◌, ◌==◌, min, nat_lt, if◌then◌else◌, List, [], ◌∷◌, ◌++◌, length}
+use Rattle.std.specs.Prelude.{ℕ, ◌+◌, ◌==◌, min, nat_lt, Bool, true, false, if◌then◌else◌, List, [], ◌∷◌, ◌++◌, length, count_by}
+use Rattle.std.specs.List.{flat_map}
 use Rattle.mq_core.specs.Event.{Event}
 use Rattle.mq_core.specs.Event.Event.{Arrive, Finish}
 use Rattle.mq_core.specs.Machine.{Visit, Service, Reaction}
@@ -61,6 +62,15 @@ abbrev pub least_through : List Branch → ℕ
 least_through [] = 0
 least_through (branch ∷ []) = branch.through
 least_through (branch ∷ (next ∷ branches)) = min branch.through (least_through (next ∷ branches))
+
+-- a server has a job
+abbrev pub is_busy : List ℕ → Bool
+is_busy [] = false
+is_busy (front ∷ queue) = true
+
+-- how many servers have a job
+abbrev pub busy_servers : List Branch → ℕ
+busy_servers branches = count_by is_busy (flat_map (λ (branch : Branch). branch.queues) branches)
 
 -- a fork-join: an arrival joins every branch; a finish moves a job on, and a position goes out once it is through all
 abbrev pub fork_on : Rows → List (List Demand) → List Visit → Local → ℕ → Event → Reaction Local
