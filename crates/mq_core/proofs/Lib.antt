@@ -25,6 +25,8 @@ pub mod Joins
 pub mod JoinLoads
 pub mod JoinTallies
 pub mod JoinBusy
+pub mod ForkTimes
+pub mod JoinEnds
 pub mod Falls
 pub mod Ends
 pub mod AloneRuns

@@ -1,7 +1,8 @@
-use Rattle.std.specs.Prelude.{ℕ, suc, ◌+◌, max, List, [], ◌∷◌}
+use Rattle.std.specs.Prelude.{ℕ, suc, ◌+◌, max, List, [], ◌∷◌, map}
 use Rattle.mq_core.specs.Laws.{in_order_of}
 use Rattle.mq_core.specs.Machine.{Visit, Emission}
 use Rattle.mq_core.specs.Handling.{demand_of_job}
+use Rattle.mq_core.specs.Recurrences.{fork_departs}
 use Rattle.mq_core.specs.Standard.{output_by}
 use Rattle.mq_core.specs.declared.model.Demand.{Demand}
 use Rattle.mq_core.specs.declared.model.Kind.{Kind}
@@ -38,6 +39,15 @@ leaving_from position [] visits = []
 leaving_from position (time ∷ times) [] = []
 leaving_from position (time ∷ times) (visit ∷ visits) =
     record { out = 0; position = position; job = visit.job; time = time } ∷ leaving_from (suc position) times visits
+
+-- what each of these jobs asks for at each server of each branch of a fork-join
+abbrev pub branch_demands : Rows → List (List Demand) → List ℕ → List (List (List ℕ))
+branch_demands rows branches job = map (λ demands. map (λ demand. map (demand_of_job rows demand) job) demands) branches
+
+-- what these visits let out at a fork-join: each leaves once it has gone through every branch
+abbrev pub joined_from : Rows → List (List Demand) → List Visit → List Emission
+joined_from rows branches visits =
+    leaving_from 0 (fork_departs (map (λ (visit : Visit). visit.arrive) visits) (branch_demands rows branches (map (λ (visit : Visit). visit.job) visits))) visits
 
 -- what these visits let out at a node of each kind, by position
 abbrev pub flow_of : Rows → Kind → List Visit → List Emission
