@@ -15,7 +15,7 @@ use Rattle.mq_core.specs.Run.{starts}
 use Rattle.mq_core.specs.Laws.{is_finish_at}
 use Rattle.mq_core.specs.Fates.{service_of, BusyIsServices}
 use Rattle.mq_core.specs.declared.model.Kind.{Kind}
-use Rattle.mq_core.specs.declared.model.Kind.TheVariants.{Source, Server, Delay, Split}
+use Rattle.mq_core.specs.declared.model.Kind.TheVariants.{Source, Server, Delay, ForkJoin, Split}
 use Rattle.mq_core.specs.declared.model.Node.{Node}
 use Rattle.mq_core.specs.declared.model.Plan.{Plan}
 use Rattle.mq_core.proofs.Kept.{Keeps, kept}
@@ -29,6 +29,8 @@ use Rattle.mq_core.specs.declared.model.Demand.{Demand}
 use Rattle.mq_core.specs.declared.model.Rows.{Rows}
 use Rattle.mq_core.proofs.DelayNumbers.{asked, delaying-busy_waits, delaying-busy_arrives, delaying-busy_ends}
 use Rattle.mq_core.proofs.Serves.{Serving, serving-done, positions, next_finish, last_served, pair-inj, latest-push}
+use Rattle.mq_core.proofs.JoinBusy.{branches_begun, joining-busy_opens, joining-busy_waits, joining-busy_arrives, joining-busy_ends}
+use Rattle.mq_core.proofs.JoinServices.{joining-busy_done}
 use Rattle.mq_core.proofs.Areas.{get-front, sum-same}
 use Rattle.mq_core.proofs.Remaining.{remaining}
 
@@ -115,6 +117,7 @@ abbrev pub kind_busy : Rows → Kind → Station Local → List Event → ℕ �
 kind_busy rows Source s fs now = s.busy ≡ 0
 kind_busy rows (Server demand) s fs now = s.busy + remaining now fs ≡ begun rows demand s.visits s.local.queue
 kind_busy rows (Delay demand) s fs now = s.busy + remaining now fs ≡ asked rows demand s.visits
+kind_busy rows (ForkJoin branches) s fs now = s.busy + remaining now fs ≡ branches_begun rows s.visits (length s.visits) branches s.local.branches
 kind_busy rows (Split route) s fs now = s.busy ≡ 0
 
 abbrev pub node_busy : Rows → Option Node → Station Local → List Event → ℕ → Type 0
@@ -129,6 +132,7 @@ busy-opens rows (Some node) v = go node.kind
     go Source = refl
     go (Server demand) = refl
     go (Delay demand) = refl
+    go (ForkJoin branches) = joining-busy_opens rows branches v
     go (Split route) = refl
 
 node_busy-waits : (rows : Rows) (o : Option Node) (v area : ℕ) (s : Station Local) (fs : List Event) (now later : ℕ) → now ≤ later → Each (λ f. later ≤ time_of f) fs → node_fact rows o v s fs now → node_busy rows o s fs now → node_busy rows o (record s { area = area; busy = s.busy + node_working o s.local * (later - now) }) fs later
@@ -139,6 +143,7 @@ node_busy-waits rows (Some node) v area s fs now later l f h b = go node.kind h 
     go Source h b = omega arith
     go (Server demand) h b = busy-waits rows demand v s.visits s.local.queue s.emitted fs now later s.busy l f h b
     go (Delay demand) h b = delaying-busy_waits rows demand v s.visits s.local.scheduled s.emitted fs now later s.busy l f h b
+    go (ForkJoin branches) h b = joining-busy_waits rows branches v s.visits s.local.branches s.emitted fs now later s.busy l f h b
     go (Split route) h b = omega arith
 
 node_busy-arrives : (peak : ℕ) (rows : Rows) (o : Option Node) (v port : ℕ) (s : Station Local) (fs : List Event) (now : ℕ) (x : Visit) → node_fact rows o v s fs now → node_busy rows o s fs now →
@@ -150,6 +155,7 @@ node_busy-arrives peak rows (Some node) v port s fs now x h b = go node.kind h b
     go Source h b = b
     go (Server demand) h b = busy-arrives rows demand v s.local s.visits s.local.queue s.emitted fs now s.busy x h b
     go (Delay demand) h b = delaying-busy_arrives rows demand v s.visits fs now s.busy x b
+    go (ForkJoin branches) h b = joining-busy_arrives rows branches v port s.local s.visits fs now s.busy x b
     go (Split route) h b = b
 
 node_busy-ends : (peak : ℕ) (rows : Rows) (o : Option Node) (rank : ℕ → ℕ) (v server position : ℕ) (s : Station Local) (fs rest : List Event) (now : ℕ) → earliest rank fs ≡ Some (Finish now v server position, rest) → node_fact rows o v s fs now → node_busy rows o s fs now →
@@ -161,6 +167,7 @@ node_busy-ends peak rows (Some node) rank v server position s fs rest now first 
     go Source h b = b
     go (Server demand) h b = busy-ends rows demand v s.local rank server position s.visits s.local.queue s.emitted fs rest now s.busy first h b
     go (Delay demand) h b = delaying-busy_ends rows demand v rank server position s.visits fs rest now s.busy first b
+    go (ForkJoin branches) h b = joining-busy_ends rows branches v rank server position s.local s.visits s.emitted fs rest now s.busy first h b
     go (Split route) h b = b
 
 busy-keeps : (plan : Plan) (rows : Rows) → Keeps (standard plan rows) (λ v s fs now. node_fact rows (slice_get plan.net.nodes v) v s fs now × node_busy rows (slice_get plan.net.nodes v) s fs now)
@@ -196,6 +203,7 @@ busy-is_services plan rows read v node here =
     go Source h k = k ∙ sym (no_sum (length ((run_of plan rows).stations v).visits))
     go (Split route) h k = k ∙ sym (no_sum (length ((run_of plan rows).stations v).visits))
     go (Delay demand) h k = omega arith
+    go (ForkJoin branches) h k = joining-busy_done rows branches v ((run_of plan rows).stations v).visits ((run_of plan rows).stations v).local.branches ((run_of plan rows).stations v).emitted _ _ h k
     go (Server demand) h k =
         let d = (serving-done rows demand v ((run_of plan rows).stations v).visits _ ((run_of plan rows).stations v).emitted _ h).0 in
         let e = ap (λ q. sum_below (length ((run_of plan rows).stations v).visits - (length q - 1)) (λ p. demand_at rows demand ((run_of plan rows).stations v).visits p)) d in

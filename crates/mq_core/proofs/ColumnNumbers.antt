@@ -8,15 +8,16 @@ use Rattle.mq_core.specs.Columns.{departs_after, founds_from}
 use Rattle.mq_core.specs.Fates.{fate_by}
 use Rattle.mq_core.specs.Machine.{Visit, Emission}
 use Rattle.mq_core.specs.Results.{fates_from}
-use Rattle.mq_core.specs.Served.{served, served_from, passed_from, delayed_from, flow_of, in_leaving_order}
+use Rattle.mq_core.specs.Served.{served, served_from, passed_from, delayed_from, leaving_from, flow_of, in_leaving_order}
 use Rattle.mq_core.specs.Tallies.{emission_at, arrival_or, found_or, one_if_later, still_there}
 use Rattle.mq_core.specs.declared.model.Demand.{Demand}
 use Rattle.mq_core.specs.declared.model.Fate.{Fate}
 use Rattle.mq_core.specs.declared.model.Kind.{Kind}
-use Rattle.mq_core.specs.declared.model.Kind.TheVariants.{Source, Server, Delay, Split}
+use Rattle.mq_core.specs.declared.model.Kind.TheVariants.{Source, Server, Delay, ForkJoin, Split}
 use Rattle.mq_core.specs.declared.model.Rows.{Rows}
 use Rattle.mq_core.proofs.Each.{Each-weaker, Each-filter, filter-none, filter-yes}
 use Rattle.mq_core.proofs.EmissionsAt.{neq-eqb}
+use Rattle.mq_core.proofs.ForkTimes.{joined-long}
 use Rattle.mq_core.proofs.Orders.{filter-order, short-order}
 
 -- one emission a visit, by position from this one on, with its job
@@ -38,10 +39,17 @@ delayed-numbered : (rows : Rows) (demand : Demand) (k : ℕ) (visits : List Visi
 delayed-numbered rows demand k [] = tt
 delayed-numbered rows demand k (x ∷ xs) = (refl, refl, delayed-numbered rows demand (suc k) xs)
 
+leaving-numbered : (k : ℕ) (times : List ℕ) (visits : List Visit) → length times ≡ length visits → Numbered k (leaving_from k times visits) visits
+leaving-numbered k [] [] e = tt
+leaving-numbered k [] (x ∷ xs) e = absurd (omega arith)
+leaving-numbered k (t ∷ ts) [] e = absurd (omega arith)
+leaving-numbered k (t ∷ ts) (x ∷ xs) e = (refl, refl, leaving-numbered (suc k) ts xs (omega arith))
+
 pub flow-numbered : (rows : Rows) (kind : Kind) (visits : List Visit) → Numbered 0 (flow_of rows kind visits) visits
 flow-numbered rows Source visits = passed-numbered _ 0 visits
 flow-numbered rows (Server demand) visits = served-numbered rows demand 0 0 visits
 flow-numbered rows (Delay demand) visits = delayed-numbered rows demand 0 visits
+flow-numbered rows (ForkJoin branches) visits = leaving-numbered 0 _ visits (joined-long rows branches visits)
 flow-numbered rows (Split route) visits = passed-numbered _ 0 visits
 
 -- the emission of each position
@@ -98,6 +106,7 @@ order-parts (Server demand) k ms visits n q = refl
 order-parts (Delay demand) k ms visits n q =
     filter-order (λ (m : Emission). m.time) (λ (m : Emission). eqb m.position q) ms
     ∙ short-order (λ (m : Emission). m.time) (filter (λ (m : Emission). eqb m.position q) ms) (numbered-once k q ms visits n)
+order-parts (ForkJoin branches) k ms visits n q = refl
 order-parts (Split route) k ms visits n q = refl
 
 -- each position is found as if all left by position

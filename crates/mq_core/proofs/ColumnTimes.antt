@@ -12,9 +12,10 @@ use Rattle.mq_core.specs.StandardTable.{run_of}
 use Rattle.mq_core.specs.declared.model.Fate.{Fate}
 use Rattle.mq_core.specs.declared.model.Fate.TheVariants.{Departs}
 use Rattle.mq_core.specs.declared.model.Kind.{Kind}
-use Rattle.mq_core.specs.declared.model.Kind.TheVariants.{Source, Server, Delay, Split}
+use Rattle.mq_core.specs.declared.model.Kind.TheVariants.{Source, Server, Delay, ForkJoin, Split}
 use Rattle.mq_core.specs.declared.model.Rows.{Rows}
 use Rattle.mq_core.specs.declared.model.Visits.{Visits}
+use Rattle.mq_core.proofs.ForkTimes.{when-joined}
 use Rattle.mq_core.proofs.ColumnsEqual.{nodes-are-columns}
 use Rattle.mq_core.proofs.Pending.{some_inj}
 
@@ -41,6 +42,7 @@ pub fates-in_time : FatesAreInTime
 fates-in_time rows Source job arrive e = at-once arrive
 fates-in_time rows (Server demand) job arrive e = when-served 0 (demand_of_job rows demand) job arrive e
 fates-in_time rows (Delay demand) job arrive e = when-delayed (demand_of_job rows demand) job arrive e
+fates-in_time rows (ForkJoin branches) job arrive e = when-joined rows branches job arrive e
 fates-in_time rows (Split route) job arrive e = at-once arrive
 
 by-position : (arrive : List ℕ) (fate : List Fate) → Each (λ (p : ℕ × Fate). LeavesFrom p.0 p.1) (zip arrive fate) → (k a d : ℕ) → slice_get arrive k ≡ Some a → slice_get fate k ≡ Some (Departs d) → a ≤ d

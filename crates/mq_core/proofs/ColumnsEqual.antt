@@ -17,11 +17,12 @@ use Rattle.mq_core.specs.Tallies.{arrival_or, found_or, still_there}
 use Rattle.mq_core.specs.declared.model.Demand.{Demand}
 use Rattle.mq_core.specs.declared.model.Fate.TheVariants.{Departs}
 use Rattle.mq_core.specs.declared.model.Kind.{Kind}
-use Rattle.mq_core.specs.declared.model.Kind.TheVariants.{Source, Server, Delay, Split}
+use Rattle.mq_core.specs.declared.model.Kind.TheVariants.{Source, Server, Delay, ForkJoin, Split}
 use Rattle.mq_core.specs.declared.model.Node.{Node}
 use Rattle.mq_core.specs.declared.model.Route.{Route}
 use Rattle.mq_core.specs.declared.model.Rows.{Rows}
 use Rattle.mq_core.specs.declared.model.Stream.{Stream}
+use Rattle.mq_core.proofs.ForkTimes.{joined-fates, joined-outs}
 use Rattle.mq_core.proofs.ColumnFlow.{nodes-flow}
 use Rattle.mq_core.proofs.ColumnNumbers.{flow-numbered, order-found, fates-numbered, jobs-numbered, founds-numbered}
 use Rattle.mq_core.proofs.Orders.{filter-order, in_order_of-map}
@@ -44,6 +45,7 @@ pub flow-fates : (rows : Rows) (kind : Kind) (visits : List Visit) → map (fate
 flow-fates rows Source visits = passed-fates Source _ 0 visits
 flow-fates rows (Server demand) visits = served-fates (Server demand) rows demand 0 0 visits
 flow-fates rows (Delay demand) visits = delayed-fates (Delay demand) rows demand 0 visits
+flow-fates rows (ForkJoin branches) visits = joined-fates (ForkJoin branches) rows branches visits
 flow-fates rows (Split route) visits = passed-fates (Split route) _ 0 visits
 
 -- the outputs of the flow, kind by kind
@@ -67,6 +69,7 @@ flow-outs : (rows : Rows) (kind : Kind) (visits : List Visit) → map (λ (m : E
 flow-outs rows Source visits = source-outs 0 visits
 flow-outs rows (Server demand) visits = server-outs rows demand 0 0 visits
 flow-outs rows (Delay demand) visits = delay-outs rows demand 0 visits
+flow-outs rows (ForkJoin branches) visits = joined-outs rows branches visits
 flow-outs rows (Split route) visits = split-outs rows route 0 visits
 
 -- the emissions by an output are picked by their outputs
@@ -132,6 +135,7 @@ order-stream : (kind : Kind) (ms : List Emission) (out : ℕ) → stream_in out 
 unfolding stream_in
 order-stream Source ms out = refl
 order-stream (Server demand) ms out = refl
+order-stream (ForkJoin branches) ms out = refl
 order-stream (Split route) ms out = refl
 order-stream (Delay demand) ms out =
     let sorted = filter-order (λ (m : Emission). m.time) (λ (m : Emission). eqb m.out out) ms in

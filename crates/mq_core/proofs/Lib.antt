@@ -14,6 +14,7 @@ pub mod Whole
 pub mod Kept
 pub mod Serves
 pub mod Delays
+pub mod Shapes
 pub mod Facts
 pub mod Flows
 pub mod Remaining
@@ -26,7 +27,9 @@ pub mod JoinLoads
 pub mod JoinTallies
 pub mod JoinBusy
 pub mod ForkTimes
+pub mod ForkSums
 pub mod JoinEnds
+pub mod JoinServices
 pub mod Falls
 pub mod Ends
 pub mod AloneRuns

@@ -8,7 +8,7 @@ use Rattle.mq_core.specs.Sound.{is_sound, is_sound_count, is_sound_node, is_outp
 use Rattle.mq_core.specs.Wiring.{inputs_of, is_source, is_source_kind, outputs_read, IsReadOnce, SourcesReadNothing}
 use Rattle.mq_core.specs.declared.model.Input.{Input}
 use Rattle.mq_core.specs.declared.model.Kind.{Kind}
-use Rattle.mq_core.specs.declared.model.Kind.TheVariants.{Source, Server, Delay, Split}
+use Rattle.mq_core.specs.declared.model.Kind.TheVariants.{Source, Server, Delay, ForkJoin, Split}
 use Rattle.mq_core.specs.declared.model.Network.{Network}
 use Rattle.mq_core.specs.declared.model.Node.{Node}
 use Rattle.mq_core.proofs.Pending.{some_inj}
@@ -138,6 +138,7 @@ sound-sources net sound v h = go (slice_get net.nodes v) refl h
     source-reads Source is s h = none-read is h
     source-reads (Server demand) is s h = absurd cc
     source-reads (Delay demand) is s h = absurd cc
+    source-reads (ForkJoin branches) is s h = absurd cc
     source-reads (Split route) is s h = absurd cc
 
     go : (o : Option Node) → slice_get net.nodes v ≡ o → is_source o ≡ true → outputs_read o ≡ []

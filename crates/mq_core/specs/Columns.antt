@@ -1,11 +1,12 @@
 -- A run in columns: what the code keeps of it, one item a visit, by position.
-use Rattle.std.specs.Prelude.{◌≡◌, ◌≤◌, ◌^◌, All, ℕ, zero, suc, ◌+◌, ◌-◌, nat_lt, max, Bool, false, List, [], ◌∷◌, ◌++◌, length, map, sum, count_by, fold, ◌==◌, slice_index, if◌then◌else◌, Some}
-use Rattle.std.specs.List.{zip}
+use Rattle.std.specs.Prelude.{◌≡◌, ◌≤◌, ◌^◌, All, ℕ, zero, suc, ◌+◌, ◌-◌, nat_lt, max, Bool, false, List, [], ◌∷◌, ◌++◌, length, map, sum, sum_by, count_by, fold, ◌==◌, slice_index, if◌then◌else◌, Some}
+use Rattle.std.specs.List.{flat_map, zip}
 use Rattle.mq_core.specs.Laws.{Rises, in_order_of}
 use Rattle.mq_core.specs.Local.{Local}
 use Rattle.mq_core.specs.Machine.{State}
-use Rattle.mq_core.specs.Recurrences.{lindley, delayed}
+use Rattle.mq_core.specs.Recurrences.{lindley, delayed, fork_departs}
 use Rattle.mq_core.specs.Results.{Totals, Late, late_fate, bare_time, is_lost, visits_of, stream_from}
+use Rattle.mq_core.specs.Served.{branch_demands}
 use Rattle.mq_core.specs.Sound.{outputs_in}
 use Rattle.mq_core.specs.Handling.{demand_of_job}
 use Rattle.mq_core.specs.Standard.{output_by}
@@ -13,7 +14,7 @@ use Rattle.mq_core.specs.StandardTable.{run_of}
 use Rattle.mq_core.specs.declared.model.Fate.{Fate}
 use Rattle.mq_core.specs.declared.model.Fate.TheVariants.{Departs, Lost}
 use Rattle.mq_core.specs.declared.model.Kind.{Kind}
-use Rattle.mq_core.specs.declared.model.Kind.TheVariants.{Source, Server, Delay, Split}
+use Rattle.mq_core.specs.declared.model.Kind.TheVariants.{Source, Server, Delay, ForkJoin, Split}
 use Rattle.mq_core.specs.declared.model.Node.{Node}
 use Rattle.mq_core.specs.declared.model.Plan.{Plan}
 use Rattle.mq_core.specs.declared.model.Route.{Route}
@@ -54,6 +55,7 @@ abbrev pub column_fates : Rows → Kind → List ℕ → List ℕ → List Fate
 column_fates rows Source job arrive = map (λ time. Departs time) arrive
 column_fates rows (Server demand) job arrive = map (λ time. Departs time) (lindley 0 arrive (map (demand_of_job rows demand) job))
 column_fates rows (Delay demand) job arrive = map (λ time. Departs time) (delayed arrive (map (demand_of_job rows demand) job))
+column_fates rows (ForkJoin branches) job arrive = map (λ time. Departs time) (fork_departs arrive (branch_demands rows branches job))
 column_fates rows (Split route) job arrive = map (λ time. Departs time) arrive
 
 -- it departs after this time
@@ -88,6 +90,7 @@ abbrev pub column_outs : Rows → Kind → List ℕ → List ℕ
 column_outs rows Source job = map (λ _. 0) job
 column_outs rows (Server demand) job = map (λ _. 0) job
 column_outs rows (Delay demand) job = map (λ _. 0) job
+column_outs rows (ForkJoin branches) job = map (λ _. 0) job
 column_outs rows (Split route) job = routes_from rows route 0 job
 
 -- the items, of these that stand beside their outputs, whose output is this one
@@ -152,6 +155,7 @@ abbrev pub service_time : Rows → Kind → ℕ → ℕ
 service_time rows Source job = 0
 service_time rows (Server demand) job = demand_of_job rows demand job
 service_time rows (Delay demand) job = demand_of_job rows demand job
+service_time rows (ForkJoin branches) job = sum_by (λ demand. demand_of_job rows demand job) (flat_map (λ demands. demands) branches)
 service_time rows (Split route) job = 0
 
 -- how long a visit was served; a lost one wasn't
@@ -181,6 +185,7 @@ abbrev pub column_peak : Kind → List ℕ → List Fate → ℕ
 column_peak Source founds fates = 0
 column_peak (Server demand) founds fates = fold max 0 (column_numbers founds fates)
 column_peak (Delay demand) founds fates = fold max 0 (column_numbers founds fates)
+column_peak (ForkJoin branches) founds fates = fold max 0 (column_numbers founds fates)
 column_peak (Split route) founds fates = 0
 
 -- the totals of a node, from its visits alone

@@ -1,9 +1,9 @@
-use Rattle.std.specs.Prelude.{ℕ, ◌+◌, ◌==◌, min, nat_lt, Bool, true, false, if◌then◌else◌, List, [], ◌∷◌, ◌++◌, length, count_by}
+use Rattle.std.specs.Prelude.{ℕ, ◌+◌, ◌==◌, min, nat_lt, Bool, true, false, if◌then◌else◌, List, [], ◌∷◌, ◌++◌, length, map, count_by}
 use Rattle.std.specs.List.{flat_map}
 use Rattle.mq_core.specs.Event.{Event}
 use Rattle.mq_core.specs.Event.Event.{Arrive, Finish}
 use Rattle.mq_core.specs.Machine.{Visit, Service, Reaction}
-use Rattle.mq_core.specs.Local.{Local, Branch}
+use Rattle.mq_core.specs.Local.{Local, Branch, empty}
 use Rattle.mq_core.specs.Handling.{latest, begins_at, begins_alone}
 use Rattle.mq_core.specs.declared.model.Demand.{Demand}
 use Rattle.mq_core.specs.declared.model.Rows.{Rows}
@@ -62,6 +62,10 @@ abbrev pub least_through : List Branch → ℕ
 least_through [] = 0
 least_through (branch ∷ []) = branch.through
 least_through (branch ∷ (next ∷ branches)) = min branch.through (least_through (next ∷ branches))
+
+-- what a fork-join keeps at the start: nobody at any server, and nobody through
+abbrev pub fork_opening : List (List Demand) → Local
+fork_opening branches = record empty { branches = map (λ demands. record { queues = map (λ _. []) demands; through = 0 }) branches }
 
 -- a server has a job
 abbrev pub is_busy : List ℕ → Bool

@@ -6,7 +6,7 @@ use Rattle.mq_core.specs.Recurrences.{fork_departs}
 use Rattle.mq_core.specs.Standard.{output_by}
 use Rattle.mq_core.specs.declared.model.Demand.{Demand}
 use Rattle.mq_core.specs.declared.model.Kind.{Kind}
-use Rattle.mq_core.specs.declared.model.Kind.TheVariants.{Source, Server, Delay, Split}
+use Rattle.mq_core.specs.declared.model.Kind.TheVariants.{Source, Server, Delay, ForkJoin, Split}
 use Rattle.mq_core.specs.declared.model.Rows.{Rows}
 
 -- when a visit leaves a server that the visit before it left at this time
@@ -54,6 +54,7 @@ abbrev pub flow_of : Rows → Kind → List Visit → List Emission
 flow_of rows Source visits = passed_from (λ _ _. 0) 0 visits
 flow_of rows (Server demand) visits = served_from rows demand 0 0 visits
 flow_of rows (Delay demand) visits = delayed_from rows demand 0 visits
+flow_of rows (ForkJoin branches) visits = joined_from rows branches visits
 flow_of rows (Split route) visits = passed_from (λ visit position. output_by rows route visit.job position) 0 visits
 
 -- the order in which a node lets out: by time and then position at a delay, else by position
