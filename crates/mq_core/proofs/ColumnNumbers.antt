@@ -18,10 +18,11 @@ use Rattle.mq_core.specs.declared.model.Demand.{Demand}
 use Rattle.mq_core.specs.declared.model.Fate.{Fate}
 use Rattle.mq_core.specs.declared.model.Fate.TheVariants.{Departs, Lost}
 use Rattle.mq_core.specs.declared.model.Kind.{Kind}
-use Rattle.mq_core.specs.declared.model.Kind.TheVariants.{Source, Server, Delay, Loss, Tandem, Split}
+use Rattle.mq_core.specs.declared.model.Kind.TheVariants.{Source, Server, Delay, Loss, Tandem, ForkJoin, Split}
 use Rattle.mq_core.specs.declared.model.Rows.{Rows}
 use Rattle.mq_core.proofs.Each.{Each-weaker, Each-filter, filter-none, filter-yes}
 use Rattle.mq_core.proofs.EmissionsAt.{neq-eqb}
+use Rattle.mq_core.proofs.ForkTimes.{joined-long}
 use Rattle.mq_core.proofs.Orders.{filter-order, short-order}
 use Rattle.mq_core.proofs.TandemColumns.{tandem_times-length}
 use Rattle.std.proofs.lemmas.List.{length-map}
@@ -76,6 +77,7 @@ flow-numbered rows (Server demand) visits = served-numbered rows demand 0 0 visi
 flow-numbered rows (Delay demand) visits = delayed-numbered rows demand 0 visits
 flow-numbered rows (Loss places demand) visits = faring-numbered 0 _ visits (loss-even places [] (λ x. x.arrive) (λ x. demand_of_job rows demand x.job) visits)
 flow-numbered rows (Tandem stages) visits = leaving-numbered 0 _ visits (tandem_times-length rows stages (jobs_of visits) (arrives_of visits) ∙ length-map visits (λ (x : Visit). x.arrive))
+flow-numbered rows (ForkJoin branches) visits = leaving-numbered 0 _ visits (joined-long rows branches visits)
 flow-numbered rows (Split route) visits = passed-numbered _ 0 visits
 
 -- the emission of each position
@@ -136,6 +138,7 @@ order-parts (Delay demand) k ms visits n q =
 order-parts (Loss places demand) k ms visits n q =
     filter-order (λ (m : Emission). m.time) (λ (m : Emission). eqb m.position q) ms
     ∙ short-order (λ (m : Emission). m.time) (filter (λ (m : Emission). eqb m.position q) ms) (numbered-once k q ms visits n)
+order-parts (ForkJoin branches) k ms visits n q = refl
 order-parts (Split route) k ms visits n q = refl
 
 -- each position is found as if all left by position

@@ -11,11 +11,14 @@ use Rattle.mq_core.specs.Handling.{demand_of_job}
 use Rattle.mq_core.specs.StandardTable.{run_of}
 use Rattle.mq_core.specs.declared.model.Fate.{Fate}
 use Rattle.mq_core.specs.declared.model.Fate.TheVariants.{Departs, Lost}
-use Rattle.mq_core.specs.declared.model.Kind.TheVariants.{Source, Server, Delay, Loss, Tandem, Split}
+use Rattle.mq_core.specs.declared.model.Kind.TheVariants.{Source, Server, Delay, Loss, Tandem, ForkJoin, Split}
+use Rattle.mq_core.specs.declared.model.Kind.{Kind}
+use Rattle.mq_core.specs.declared.model.Rows.{Rows}
 use Rattle.mq_core.specs.declared.model.Visits.{Visits}
+use Rattle.mq_core.proofs.ForkTimes.{fates-at_least, when-joined}
 use Rattle.mq_core.proofs.ColumnsEqual.{nodes-are-columns}
 use Rattle.mq_core.proofs.Pending.{some_inj}
-use Rattle.mq_core.proofs.TandemColumns.{AreLate, tandem_times-late}
+use Rattle.mq_core.proofs.TandemColumns.{tandem_times-late}
 use Rattle.mq_core.specs.Served.{tandem_times}
 
 cons : (a d : ℕ) (later : List ℕ) (fs : List Fate) → a ≤ d → FatesInTime later fs → FatesInTime (a ∷ later) (Departs d ∷ fs)
@@ -50,18 +53,13 @@ when-lost places demand left (j ∷ js) (a ∷ later) e = go (is_admitted places
     go true ih = cons a time later _ (omega arith) (ih (time ∷ left))
     go false ih = record { even = ap suc (ih left).even; each = (tt, (ih left).each) }
 
-when-late : (arrive times : List ℕ) → AreLate arrive times → FatesInTime arrive (map (λ time. Departs time) times)
-when-late [] [] h = record { even = omega arith; each = tt }
-when-late [] (time ∷ times) h = absurd h
-when-late (a ∷ later) [] h = absurd h
-when-late (a ∷ later) (time ∷ times) h = cons a time later _ h.0 (when-late later times h.1)
-
 pub fates-in_time : FatesAreInTime
 fates-in_time rows Source job arrive e = at-once arrive
 fates-in_time rows (Server demand) job arrive e = when-served 0 (demand_of_job rows demand) job arrive e
 fates-in_time rows (Delay demand) job arrive e = when-delayed (demand_of_job rows demand) job arrive e
 fates-in_time rows (Loss places demand) job arrive e = when-lost places (demand_of_job rows demand) [] job arrive e
-fates-in_time rows (Tandem stages) job arrive e = when-late arrive (tandem_times rows stages job arrive) (tandem_times-late rows stages job arrive)
+fates-in_time rows (Tandem stages) job arrive e = fates-at_least arrive (tandem_times rows stages job arrive) (tandem_times-late rows stages job arrive)
+fates-in_time rows (ForkJoin branches) job arrive e = when-joined rows branches job arrive e
 fates-in_time rows (Split route) job arrive e = at-once arrive
 
 by-position : (arrive : List ℕ) (fate : List Fate) → Each (λ (p : ℕ × Fate). LeavesFrom p.0 p.1) (zip arrive fate) → (k a d : ℕ) → slice_get arrive k ≡ Some a → slice_get fate k ≡ Some (Departs d) → a ≤ d

@@ -17,7 +17,7 @@ use Rattle.mq_core.specs.Tallies.{arrival_or, found_or, still_there}
 use Rattle.mq_core.specs.declared.model.Demand.{Demand}
 use Rattle.mq_core.specs.declared.model.Fate.TheVariants.{Departs}
 use Rattle.mq_core.specs.declared.model.Kind.{Kind}
-use Rattle.mq_core.specs.declared.model.Kind.TheVariants.{Source, Server, Delay, Loss, Tandem, Split}
+use Rattle.mq_core.specs.declared.model.Kind.TheVariants.{Source, Server, Delay, Loss, Tandem, ForkJoin, Split}
 use Rattle.mq_core.specs.declared.model.Node.{Node}
 use Rattle.mq_core.specs.declared.model.Route.{Route}
 use Rattle.mq_core.specs.declared.model.Rows.{Rows}
@@ -29,6 +29,7 @@ use Rattle.mq_core.proofs.Each.{Each-any}
 use Rattle.mq_core.proofs.LossColumns.{faring-fates, faring-outs, loss-stream}
 use Rattle.mq_core.proofs.Unlost.{Departing}
 use Rattle.mq_core.proofs.ColumnNumbers.{EachLeaves, LeavesAs, Numbered, loss-even, flow-numbered, order-found, fates-numbered, jobs-numbered, founds-numbered}
+use Rattle.mq_core.proofs.ForkTimes.{joined-long}
 use Rattle.mq_core.proofs.Orders.{filter-order, in_order_of-map}
 use Rattle.mq_core.proofs.Tallied.{founds-are-counts}
 use Rattle.mq_core.proofs.TandemColumns.{tandem_times-length}
@@ -70,6 +71,7 @@ flow-fates rows (Server demand) visits = served-fates (Server demand) (λ m. ref
 flow-fates rows (Delay demand) visits = delayed-fates (Delay demand) (λ m. refl) rows demand 0 visits
 flow-fates rows (Loss places demand) visits = faring-fates places demand 0 _ visits (even-fates rows places demand visits) ∙ ap (loss_fates places [] (arrives_of visits)) (demands-of rows demand visits)
 flow-fates rows (Tandem stages) visits = leaving-fates (Tandem stages) (λ m. refl) 0 _ visits (tandem-even rows stages visits)
+flow-fates rows (ForkJoin branches) visits = leaving-fates (ForkJoin branches) (λ m. refl) 0 _ visits (joined-long rows branches visits)
 flow-fates rows (Split route) visits = passed-fates (Split route) (λ m. refl) _ 0 visits
 
 -- the outputs of the flow, kind by kind
@@ -101,6 +103,7 @@ flow-outs rows (Server demand) visits = server-outs rows demand 0 0 visits
 flow-outs rows (Delay demand) visits = delay-outs rows demand 0 visits
 flow-outs rows (Loss places demand) visits = faring-outs 0 _ visits (even-fates rows places demand visits) ∙ ap (λ d. map out_of_fate (loss_fates places [] (arrives_of visits) d)) (demands-of rows demand visits)
 flow-outs rows (Tandem stages) visits = leaving-outs 0 _ visits (tandem-even rows stages visits)
+flow-outs rows (ForkJoin branches) visits = leaving-outs 0 _ visits (joined-long rows branches visits)
 flow-outs rows (Split route) visits = split-outs rows route 0 visits
 
 -- the emissions by an output are picked by their outputs
@@ -179,6 +182,7 @@ flow-stands rows (Server demand) visits rise = tt
 flow-stands rows (Delay demand) visits rise = tt
 flow-stands rows (Loss places demand) visits rise = λ out. loss-stream rows places demand visits out rise
 flow-stands rows (Tandem stages) visits rise = tt
+flow-stands rows (ForkJoin branches) visits rise = tt
 flow-stands rows (Split route) visits rise = tt
 
 -- the order of leaving goes over to a stream
@@ -187,6 +191,7 @@ unfolding stream_in
 order-stream Source ms out h = refl
 order-stream (Server demand) ms out h = refl
 order-stream (Tandem stages) ms out h = refl
+order-stream (ForkJoin branches) ms out h = refl
 order-stream (Split route) ms out h = refl
 order-stream (Loss places demand) ms out h =
     let stands = filter-order (λ (m : Emission). m.time) (λ (m : Emission). eqb m.out out) ms ∙ h out in

@@ -20,7 +20,7 @@ use Rattle.mq_core.specs.Fates.{fate_of, IsEnded}
 use Rattle.mq_core.specs.Tallies.{sum_below, emission_at}
 use Rattle.mq_core.specs.declared.model.Demand.{Demand}
 use Rattle.mq_core.specs.declared.model.Kind.{Kind}
-use Rattle.mq_core.specs.declared.model.Kind.TheVariants.{Source, Server, Delay, Loss, Tandem, Split}
+use Rattle.mq_core.specs.declared.model.Kind.TheVariants.{Source, Server, Delay, Loss, Tandem, ForkJoin, Split}
 use Rattle.mq_core.specs.declared.model.Node.{Node}
 use Rattle.mq_core.specs.declared.model.Plan.{Plan}
 use Rattle.mq_core.specs.declared.model.Rows.{Rows}
@@ -30,9 +30,11 @@ use Rattle.mq_core.proofs.Delays.{delaying-done}
 use Rattle.mq_core.proofs.DelayNumbers.{delaying-fewer}
 use Rattle.mq_core.proofs.Flows.{kind-flow}
 use Rattle.mq_core.proofs.LossTallies.{losing-arrives-falls, losing-ends-falls, losing-done}
-use Rattle.mq_core.proofs.Serves.{positions, next_finish, last_served, serving-done}
+use Rattle.mq_core.proofs.Serves.{positions, next_finish, last_served, serving-done, Serving}
 use Rattle.mq_core.proofs.TandemLoad.{load_in, load-empty, tandeming-arrives_falls, tandeming-ends_falls}
 use Rattle.mq_core.proofs.TandemNumbers.{tandeming-done}
+use Rattle.mq_core.proofs.JoinEnds.{joining-done}
+use Rattle.mq_core.proofs.JoinLoads.{fork_load, fork_load-opening, joining-arrives-falls, joining-ends-falls}
 use Rattle.mq_core.proofs.Facts.{kind_fact, node_fact, standard-keeps}
 use Rattle.mq_core.proofs.Falls.{Falls, total, weigh, sum_over, done-from_start}
 use Rattle.mq_core.proofs.Wired.{feeds_forward, rank_in-has, has_inputs, reads-from}
@@ -45,6 +47,7 @@ kind_load onward (Server demand) local = length local.queue * (onward + 1)
 kind_load onward (Delay demand) local = length local.scheduled * (onward + 1)
 kind_load onward (Loss places demand) local = length local.queue * (onward + 1)
 kind_load onward (Tandem stages) local = load_in onward stages local.lines
+kind_load onward (ForkJoin branches) local = fork_load onward branches local
 kind_load onward _ local = 0
 
 abbrev pub node_load : ℕ → Option Node → Local → ℕ
@@ -91,6 +94,7 @@ node-arrives-falls rows (Some node) onward s fs visits now port job v fact = go 
         omega arith
     go (Loss places demand) f = losing-arrives-falls rows places demand onward s.local visits now port job v
     go (Tandem stages) f = tandeming-arrives_falls rows onward stages v s.local s.visits visits s.local.lines s.emitted fs now f
+    go (ForkJoin branches) f = joining-arrives-falls rows branches onward v port job s.local s.visits visits s.emitted fs now f
     go (Split route) f = let l = times-one _ onward (emission-one now (output_by rows route job (latest visits)) (latest visits) (slice_get visits (latest visits))) in omega arith
 
 -- a finish at a node weighs more than what it leaves
@@ -108,6 +112,7 @@ node-ends-falls rows (Some node) onward v s fs rest rank now server position fac
     go (Split route) f = absurd (none f.none)
     go (Loss places demand) f = losing-ends-falls rows places demand onward rank v server position s.local s.visits s.local.queue s.emitted fs rest now first f.1
     go (Tandem stages) f = tandeming-ends_falls rows v s.visits s.emitted rank fs rest now server position first onward stages s.local.lines f
+    go (ForkJoin branches) f = joining-ends-falls rows branches rank onward v server position s.local s.visits s.emitted fs rest now first f
     go (Delay demand) f =
         let less = delaying-fewer rows demand v rank server position s.visits s.local.scheduled s.emitted fs rest now first f in
         let was = ap (λ n. n * (onward + 1)) less in
@@ -147,6 +152,7 @@ load-opening onward (Some node) = go node.kind
     go (Delay demand) = omega arith
     go (Loss places demand) = omega arith
     go (Tandem stages) = load-empty onward stages
+    go (ForkJoin branches) = fork_load-opening onward branches
     go (Split route) = refl
 
 pub sum_below-zero : (n : ℕ) (f : ℕ → ℕ) → ((k : ℕ) → f k ≡ 0) → sum_below n f ≡ 0
@@ -298,4 +304,5 @@ module _ (plan : Plan) (rows : Rows) (read : IsReadFor plan.net rows) where
           go (Delay demand) h = ap length (delaying-done rows demand v ((run_of plan rows).stations v).visits _ ((run_of plan rows).stations v).emitted _ h).0
           go (Loss places demand) h = ap length (losing-done rows places demand v ((run_of plan rows).stations v).visits _ ((run_of plan rows).stations v).emitted _ h.1).0
           go (Tandem stages) h = (tandeming-done rows stages v ((run_of plan rows).stations v).visits _ ((run_of plan rows).stations v).emitted _ h).0
+          go (ForkJoin branches) h = (joining-done rows branches v ((run_of plan rows).stations v).visits ((run_of plan rows).stations v).local.branches ((run_of plan rows).stations v).emitted _ h).0
           go (Split route) h = refl

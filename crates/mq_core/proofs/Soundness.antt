@@ -9,7 +9,7 @@ use Rattle.mq_core.specs.Sound.{are_sound_stages, is_sound, is_sound_count, is_s
 use Rattle.mq_core.specs.Wiring.{inputs_of, is_source, is_source_kind, outputs_read, IsReadOnce, SourcesReadNothing}
 use Rattle.mq_core.specs.declared.model.Input.{Input}
 use Rattle.mq_core.specs.declared.model.Kind.{Kind}
-use Rattle.mq_core.specs.declared.model.Kind.TheVariants.{Source, Server, Delay, Loss, Tandem, Split}
+use Rattle.mq_core.specs.declared.model.Kind.TheVariants.{Source, Server, Delay, Loss, Tandem, ForkJoin, Split}
 use Rattle.mq_core.specs.declared.model.Network.{Network}
 use Rattle.mq_core.specs.declared.model.Node.{Node}
 use Rattle.mq_core.specs.declared.model.Stage.{Stage}
@@ -142,6 +142,7 @@ sound-sources net sound v h = go (slice_get net.nodes v) refl h
     source-reads (Delay demand) is s h = absurd cc
     source-reads (Loss places demand) is s h = absurd cc
     source-reads (Tandem stages) is s h = absurd cc
+    source-reads (ForkJoin branches) is s h = absurd cc
     source-reads (Split route) is s h = absurd cc
 
     go : (o : Option Node) → slice_get net.nodes v ≡ o → is_source o ≡ true → outputs_read o ≡ []
@@ -210,6 +211,7 @@ sound-kind_places columns (Loss places demand) h =
     let b : nat_le 1 places ≡ true = (and_parts (nat_le 1 places) (nat_le places 1048576) a.0).0 in
     grind (arith, nat_tests)
 sound-kind_places columns (Tandem stages) h = sound-stages columns stages h
+sound-kind_places columns (ForkJoin branches) h = tt
 sound-kind_places columns (Split route) h = tt
 
 -- each node of a sound network has its places

@@ -16,7 +16,7 @@ use Rattle.mq_core.specs.Run.{starts}
 use Rattle.mq_core.specs.Fates.{ComesAt, LeavesAt, SpanIsLatest}
 use Rattle.mq_core.specs.declared.model.Demand.{Demand}
 use Rattle.mq_core.specs.declared.model.Kind.{Kind}
-use Rattle.mq_core.specs.declared.model.Kind.TheVariants.{Source, Server, Delay, Loss, Tandem, Split}
+use Rattle.mq_core.specs.declared.model.Kind.TheVariants.{Source, Server, Delay, Loss, Tandem, ForkJoin, Split}
 use Rattle.mq_core.specs.declared.model.Node.{Node}
 use Rattle.mq_core.specs.declared.model.Rows.{Rows}
 use Rattle.mq_core.proofs.Areas.{Areas, keeps-areas, get-last}
@@ -24,6 +24,7 @@ use Rattle.mq_core.proofs.DelayNumbers.{delaying-emits}
 use Rattle.mq_core.proofs.TandemLoad.{tandeming-shows}
 use Rattle.mq_core.proofs.Facts.{kind_fact, node_fact, standard-keeps}
 use Rattle.mq_core.proofs.Forward.{emissions-now}
+use Rattle.mq_core.proofs.JoinLoads.{joining-shows}
 use Rattle.mq_core.proofs.Kept.{Fact, Keeps, Holds, kept, holds-until, holds-happens, holds-start}
 use Rattle.mq_core.proofs.LossTallies.{losing-emits}
 use Rattle.mq_core.proofs.Pending.{earliest-filter}
@@ -111,6 +112,7 @@ node-emits rows (Some node) rank v server position s fs rest now h first = go no
     go (Loss places demand) h = inl (losing-emits rows places demand rank v server position s.local s.visits s.local.queue s.emitted fs rest now first h.1)
     go (Tandem stages) h = tandeming-shows rows v s.visits s.emitted rank fs rest now server position first stages s.local.lines h
     go (Delay demand) h = inl (_, [], delaying-emits rows demand v rank server position s.visits s.local.scheduled s.emitted fs rest now first h)
+    go (ForkJoin branches) h = joining-shows rows branches rank v server position s.local s.visits s.emitted fs rest now first h
     go (Split route) h = absurd (none h.none)
 
 pub span-is_latest : SpanIsLatest

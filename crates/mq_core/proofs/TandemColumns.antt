@@ -7,6 +7,7 @@ use Rattle.mq_core.specs.Recurrences.{time_or_none, room_in, stage_departs, each
 use Rattle.mq_core.specs.Served.{tandem_times}
 use Rattle.mq_core.specs.declared.model.Stage.{Stage}
 use Rattle.mq_core.specs.declared.model.Rows.{Rows}
+use Rattle.mq_core.proofs.ForkTimes.{AtLeast, at_least-refl}
 
 tandem_departs-length : (places : List ℕ) (left : List (List ℕ)) (arrives : List ℕ) (demands : List (List ℕ)) → length (tandem_departs places left arrives demands) ≡ length arrives
 tandem_departs-length places left [] demands = refl
@@ -17,17 +18,6 @@ pub tandem_times-length : (rows : Rows) (stages : List Stage) (jobs arrives : Li
 tandem_times-length rows [] jobs arrives = refl
 tandem_times-length rows (stage ∷ stages) jobs arrives =
     tandem_departs-length (map (λ (s : Stage). s.places) (stage ∷ stages)) (map (λ _. []) (stage ∷ stages)) arrives (map (λ (s : Stage). map (demand_of_job rows s.demand) jobs) (stage ∷ stages))
-
--- as many times as arrivals, and none before its arrival
-abbrev pub AreLate : List ℕ → List ℕ → Type 0
-AreLate [] [] = Unit {0}
-AreLate [] (time ∷ times) = ⊥
-AreLate (arrive ∷ arrives) [] = ⊥
-AreLate (arrive ∷ arrives) (time ∷ times) = (arrive ≤ time) × AreLate arrives times
-
-late-self : (arrives : List ℕ) → AreLate arrives arrives
-late-self [] = tt
-late-self (arrive ∷ arrives) = (omega arith, late-self arrives)
 
 stage_departs-length : (came : ℕ) (places demands : List ℕ) (left : List (List ℕ)) → length demands ≡ length places → length left ≡ length places → length (stage_departs came places demands left) ≡ length places
 stage_departs-length came [] demands left e f = refl
@@ -51,7 +41,7 @@ last-late came p d (q ∷ places) (next ∷ demands) times (more ∷ left) e f =
     let l = last-late (max (max came (time_or_none (slice_get times 0)) + d) (room_in (q ∷ places) (more ∷ left))) q next places demands more left (omega arith) (omega arith) in
     omega arith
 
-departs-late : (p : ℕ) (places : List ℕ) (left : List (List ℕ)) (arrives : List ℕ) (demands : List (List ℕ)) → length demands ≡ suc (length places) → length left ≡ suc (length places) → AreLate arrives (tandem_departs (p ∷ places) left arrives demands)
+departs-late : (p : ℕ) (places : List ℕ) (left : List (List ℕ)) (arrives : List ℕ) (demands : List (List ℕ)) → length demands ≡ suc (length places) → length left ≡ suc (length places) → AtLeast arrives (tandem_departs (p ∷ places) left arrives demands)
 departs-late p places left [] demands e f = tt
 departs-late p places left (arrive ∷ arrives) demands e f =
     let asked : length (firsts demands) ≡ suc (length places) = length-map demands _ ∙ e in
@@ -65,8 +55,8 @@ departs-late p places left (arrive ∷ arrives) demands e f =
     late (d ∷ asked) [] e f = absurd (omega arith)
     late (d ∷ asked) (times ∷ gone) e f = last-late arrive p d places asked times gone (omega arith) (omega arith)
 
-pub tandem_times-late : (rows : Rows) (stages : List Stage) (jobs arrives : List ℕ) → AreLate arrives (tandem_times rows stages jobs arrives)
-tandem_times-late rows [] jobs arrives = late-self arrives
+pub tandem_times-late : (rows : Rows) (stages : List Stage) (jobs arrives : List ℕ) → AtLeast arrives (tandem_times rows stages jobs arrives)
+tandem_times-late rows [] jobs arrives = at_least-refl arrives
 tandem_times-late rows (stage ∷ stages) jobs arrives =
     departs-late stage.places (map (λ (s : Stage). s.places) stages) (map (λ _. []) (stage ∷ stages)) arrives (map (λ (s : Stage). map (demand_of_job rows s.demand) jobs) (stage ∷ stages))
     (ap suc (length-map stages _ ∙ sym (length-map stages (λ (s : Stage). s.places)))) (ap suc (length-map stages _ ∙ sym (length-map stages (λ (s : Stage). s.places))))

@@ -6,7 +6,7 @@ use Rattle.mq_core.specs.Machine.{Emission}
 use Rattle.mq_core.specs.declared.model.Demand.{Demand}
 use Rattle.mq_core.specs.declared.model.Fate.TheVariants.{Departs, Lost}
 use Rattle.mq_core.specs.declared.model.Kind.{Kind}
-use Rattle.mq_core.specs.declared.model.Kind.TheVariants.{Source, Server, Delay, Loss, Tandem, Split}
+use Rattle.mq_core.specs.declared.model.Kind.TheVariants.{Source, Server, Delay, Loss, Tandem, ForkJoin, Split}
 use Rattle.mq_core.proofs.LossBusy.{unless_out}
 
 -- whether a node of this kind may lose a visit
@@ -24,6 +24,7 @@ departing (Server demand) h m = refl
 departing (Delay demand) h m = refl
 departing (Loss places demand) h m = absurd cc
 departing (Tandem stages) h m = refl
+departing (ForkJoin branches) h m = refl
 departing (Split route) h m = refl
 
 -- then each number counts

@@ -2,13 +2,13 @@ use Rattle.std.specs.Prelude.{ℕ, suc, ◌+◌, max, List, [], ◌∷◌, map}
 use Rattle.mq_core.specs.Laws.{in_order_of}
 use Rattle.mq_core.specs.Machine.{Visit, Emission}
 use Rattle.mq_core.specs.Handling.{demand_of_job}
-use Rattle.mq_core.specs.Recurrences.{loss_fates, tandem_departs}
+use Rattle.mq_core.specs.Recurrences.{loss_fates, tandem_departs, fork_departs}
 use Rattle.mq_core.specs.Standard.{output_by}
 use Rattle.mq_core.specs.declared.model.Demand.{Demand}
 use Rattle.mq_core.specs.declared.model.Fate.{Fate}
 use Rattle.mq_core.specs.declared.model.Fate.TheVariants.{Departs, Lost}
 use Rattle.mq_core.specs.declared.model.Kind.{Kind}
-use Rattle.mq_core.specs.declared.model.Kind.TheVariants.{Source, Server, Delay, Loss, Tandem, Split}
+use Rattle.mq_core.specs.declared.model.Kind.TheVariants.{Source, Server, Delay, Loss, Tandem, ForkJoin, Split}
 use Rattle.mq_core.specs.declared.model.Rows.{Rows}
 use Rattle.mq_core.specs.declared.model.Stage.{Stage}
 
@@ -66,6 +66,15 @@ abbrev pub tandem_flow : Rows → List Stage → List Visit → List Emission
 tandem_flow rows stages visits =
     leaving_from 0 (tandem_times rows stages (map (λ (x : Visit). x.job) visits) (map (λ (x : Visit). x.arrive) visits)) visits
 
+-- what each of these jobs asks for at each server of each branch of a fork-join
+abbrev pub branch_demands : Rows → List (List Demand) → List ℕ → List (List (List ℕ))
+branch_demands rows branches job = map (λ demands. map (λ demand. map (demand_of_job rows demand) job) demands) branches
+
+-- what these visits let out at a fork-join: each leaves once it has gone through every branch
+abbrev pub joined_from : Rows → List (List Demand) → List Visit → List Emission
+joined_from rows branches visits =
+    leaving_from 0 (fork_departs (map (λ (visit : Visit). visit.arrive) visits) (branch_demands rows branches (map (λ (visit : Visit). visit.job) visits))) visits
+
 -- what these visits let out at a node of each kind, by position
 abbrev pub flow_of : Rows → Kind → List Visit → List Emission
 flow_of rows Source visits = passed_from (λ _ _. 0) 0 visits
@@ -74,6 +83,7 @@ flow_of rows (Delay demand) visits = delayed_from rows demand 0 visits
 flow_of rows (Loss places demand) visits =
     faring_from 0 (loss_fates places [] (map (λ (x : Visit). x.arrive) visits) (map (λ (x : Visit). demand_of_job rows demand x.job) visits)) visits
 flow_of rows (Tandem stages) visits = tandem_flow rows stages visits
+flow_of rows (ForkJoin branches) visits = joined_from rows branches visits
 flow_of rows (Split route) visits = passed_from (λ visit position. output_by rows route visit.job position) 0 visits
 
 -- the order in which a node lets out: by time and then position at a delay or a loss station, else by position
