@@ -30,7 +30,7 @@ use Rattle.mq_core.proofs.Delays.{delaying-done}
 use Rattle.mq_core.proofs.DelayNumbers.{delaying-fewer}
 use Rattle.mq_core.proofs.Flows.{kind-flow}
 use Rattle.mq_core.proofs.LossTallies.{losing-arrives-falls, losing-ends-falls, losing-done}
-use Rattle.mq_core.proofs.Serves.{positions, next_finish, last_served, serving-done, Serving}
+use Rattle.mq_core.proofs.Serves.{positions, next_finish, last_served, serving-done}
 use Rattle.mq_core.proofs.TandemLoad.{load_in, load-empty, tandeming-arrives_falls, tandeming-ends_falls}
 use Rattle.mq_core.proofs.TandemNumbers.{tandeming-done}
 use Rattle.mq_core.proofs.JoinEnds.{joining-done}

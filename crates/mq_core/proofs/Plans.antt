@@ -190,6 +190,7 @@ tells-demand net rows read job below (Fixed demand) h = (tt, let t : nat_le dema
 tells-stages : (net : Network) (rows : Rows) → IsReadFor net rows → (job : ℕ) → job < length rows.source → (stages : List Stage) → Each (λ (stage : Stage). is_sound_demand (length net.columns) stage.demand ≡ true) stages →
     Each (λ (stage : Stage). HasDemand rows stage.demand job × (demand_of_job rows stage.demand job ≤ 2 ^ 36)) stages
 tells-stages net rows read job below stages h = Each-weaker _ _ (λ (stage : Stage) k. tells-demand net rows read job below stage.demand k) stages h
+
 -- the demands of all branches, one after another
 tells-demands : (net : Network) (rows : Rows) → IsReadFor net rows → (job : ℕ) → job < length rows.source → (demands : List Demand) → list_all (is_sound_demand (length net.columns)) demands ≡ true → Each (λ demand. HasDemand rows demand job × (demand_of_job rows demand job ≤ 2 ^ 36)) demands
 tells-demands net rows read job below [] h = tt

@@ -4,9 +4,8 @@ ghost use Rattle.std.specs.List.{flat_map};
 ghost use Rattle.mq_core.specs.Results.{bare_time};
 ghost use Rattle.mq_core.specs.Handling.{demand_of_job, demand_of_stages};
 
-use mq_base::List;
-
 use crate::model::{Demand, Kind, Rows, Stage};
+use mq_base::List;
 
 /// The service demand of a job, in ticks: its value in the column, or the fixed number.
 ///
