@@ -15,7 +15,7 @@ use Rattle.mq_core.specs.declared.model.Kind.TheVariants.{Source, Server, Delay,
 use Rattle.mq_core.specs.declared.model.Node.{Node}
 use Rattle.mq_core.specs.declared.model.Plan.{Plan}
 use Rattle.mq_core.specs.declared.model.Rows.{Rows}
-use Rattle.mq_core.proofs.Joins.{IsForked, Joining, joining-opens, joining-waits, joining-arrives, joining-ends}
+use Rattle.mq_core.proofs.Joins.{Joining, joining-opens, joining-waits, joining-arrives, joining-ends}
 use Rattle.mq_core.proofs.Kept.{Fact, Keeps}
 use Rattle.mq_core.proofs.Shapes.{IsShaped, node-shaped}
 use Rattle.mq_core.proofs.Delays.{Delaying, delaying-opens, delaying-waits, delaying-arrives, delaying-ends}

@@ -39,6 +39,7 @@ pub mod Plans
 pub mod NetworkRuns
 pub mod RecurrenceRows
 pub mod WorkedRows
+pub mod ForkRows
 pub mod EmissionsAt
 pub mod Founds
 pub mod Busy

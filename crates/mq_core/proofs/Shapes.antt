@@ -1,11 +1,11 @@
 -- What the lists of a plan's nodes must be, so that the facts of their kinds hold from the start.
-use Rattle.std.proofs.Common.{◌≡◌, ℕ, ◌+◌, ◌<◌, ◌≤◌, Bool, true, List, [], ◌∷◌, length, Option, Some, None, refl, arith, length-append}
+use Rattle.std.proofs.Common.{◌≡◌, ℕ, ◌<◌, ◌≤◌, true, List, [], ◌∷◌, length, Option, Some, None, refl, arith, length-append}
 use Rattle.std.proofs.lemmas.Bool.{and_parts}
 use Rattle.std.proofs.lemmas.Bool.Decides.{nat_tests}
 use Rattle.std.specs.Prelude.{◌&&◌, nat_le, slice_get, IfSome}
 use Rattle.std.specs.List.{AllByRecursion as Each, flat_map, list_all}
 use Rattle.mq_core.specs.Names.{is_name}
-use Rattle.mq_core.specs.Sound.{is_within, is_sound_count, is_sound_demand, is_sound_kind, is_sound_node, is_output, are_sound_branches}
+use Rattle.mq_core.specs.Sound.{is_within, is_sound_count, is_sound_demand, is_sound_kind, is_output, are_sound_branches}
 use Rattle.mq_core.specs.declared.model.Demand.{Demand}
 use Rattle.mq_core.specs.declared.model.Input.{Input}
 use Rattle.mq_core.specs.declared.model.Kind.{Kind}

@@ -49,7 +49,7 @@ FoundsAreCounts =
     (position : ℕ) → position < length end.visits →
     found_or 0 (slice_get end.visits position) ≡ still_there (arrival_or 0 (slice_get end.visits position)) end.emitted position
 
--- the demand of each job where a server serves it, and 0 at a source or a split
+-- what each job asks of the servers of a node, and 0 at a source or a split
 abbrev pub service_of : Rows → Kind → Option Visit → ℕ
 service_of rows (Server demand) visit = demand_of_visit rows demand visit
 service_of rows (Delay demand) visit = demand_of_visit rows demand visit

@@ -4,9 +4,8 @@ ghost use Rattle.mq_core.specs.Asked.{AreTold, HasDemand, HasDemands};
 ghost use Rattle.mq_core.specs.Results.{bare_time};
 ghost use Rattle.mq_core.specs.Handling.{demand_of_job};
 
-use mq_base::List;
-
 use crate::model::{Demand, Kind, Rows};
+use mq_base::List;
 
 /// The service demand of a job, in ticks: its value in the column, or the fixed number.
 ///

@@ -3,9 +3,8 @@ ghost use Rattle.std.specs.List.{flat_map};
 ghost use Rattle.mq_core.specs.Results.{servers_in};
 ghost use Rattle.mq_core.specs.Sound.{outputs_by, outputs_in};
 
-use mq_base::List;
-
 use crate::model::{Demand, Kind, Route};
+use mq_base::List;
 
 /// How many outputs a node of this kind has: those that its route chooses from at a split, else 1.
 ///
