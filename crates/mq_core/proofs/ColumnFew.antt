@@ -15,7 +15,7 @@ use Rattle.mq_core.specs.Tallies.{sum_below}
 use Rattle.mq_core.specs.Theorems.{IsReadFor}
 use Rattle.mq_core.specs.Wiring.{rank_in, reader_from}
 use Rattle.mq_core.specs.declared.model.Kind.{Kind}
-use Rattle.mq_core.specs.declared.model.Kind.TheVariants.{Source, Server, Delay, ForkJoin, Split}
+use Rattle.mq_core.specs.declared.model.Kind.TheVariants.{Source, Server, Delay, Loss, ForkJoin, Split}
 use Rattle.mq_core.specs.declared.model.Node.{Node}
 use Rattle.mq_core.specs.declared.model.Plan.{Plan}
 use Rattle.mq_core.specs.declared.model.Rows.{Rows}
@@ -28,6 +28,7 @@ use Rattle.mq_core.proofs.JoinLoads.{joining-ends-few}
 use Rattle.mq_core.proofs.JoinTallies.{joining-more}
 use Rattle.mq_core.proofs.Falls.{Falls, never-grows-from_start}
 use Rattle.mq_core.proofs.Kept.{Fact}
+use Rattle.mq_core.proofs.LossTallies.{losing-arrives-few, losing-ends-few}
 use Rattle.mq_core.proofs.Whole.{starts-arrive}
 use Rattle.mq_core.proofs.Wired.{feeds_forward, has_inputs, reads-from}
 
@@ -49,6 +50,7 @@ node-arrives-few rows (Some node) s fs x now port v at fact = go node.kind fact
         let a = joins-length rows demand visits local now local.queue (latest visits) in
         let b = ap length (joins-emits rows demand visits local now local.queue (latest visits)) in
         omega arith
+    go (Loss places demand) f = losing-arrives-few rows places demand local visits now port x.job v
     go (ForkJoin branches) f = let more = joining-more rows branches v port s.local s.visits s.emitted fs now x at f in omega arith
     go (Delay demand) f = let a = length-append local.scheduled (latest visits ∷ []) in omega arith
     go (Split route) f = let l = emission-one now (output_by rows route x.job (latest visits)) (latest visits) (slice_get visits (latest visits)) in omega arith
@@ -68,6 +70,7 @@ node-ends-few rows (Some node) rank v server position s fs rest now h first = go
         serve : (queue : List ℕ) → s.local.queue ≡ queue → length (front_leaves rows demand s.visits s.local now queue).local.queue + length (emissions_of now s.visits (front_leaves rows demand s.visits s.local now queue).releases) ≤ length queue
         serve [] e = let l = ap length e in omega arith
         serve (front ∷ queue) e = let l = emission-one now 0 front (slice_get s.visits front) in omega arith
+    go (Loss places demand) h = losing-ends-few rows demand s.visits s.local now
     go (Delay demand) h =
         let less = delaying-fewer rows demand v rank server position s.visits s.local.scheduled s.emitted fs rest now first h in
         let out = emission-one now 0 position (slice_get s.visits position) in
@@ -189,6 +192,7 @@ module _ (plan : Plan) (rows : Rows) (read : IsReadFor plan.net rows) (v : ℕ) 
           kind Source = refl
           kind (Server demand) = omega arith
           kind (Delay demand) = omega arith
+          kind (Loss places demand) = omega arith
           kind (ForkJoin branches) = omega arith
           kind (Split route) = refl
 

@@ -1,18 +1,18 @@
-use Rattle.std.proofs.Common.{◌≡◌, ℕ, zero, suc, ◌+◌, ◌≤◌, List, [], ◌∷◌, map, length, Some, sym, ap, ◌∙◌, subst, arith}
+use Rattle.std.proofs.Common.{◌≡◌, ℕ, zero, suc, ◌+◌, ◌≤◌, Bool, true, false, cond, List, [], ◌∷◌, map, length, Some, sym, ap, ◌∙◌, subst, arith}
 use Rattle.std.proofs.lemmas.List.{length-map}
 use Rattle.std.specs.Prelude.{slice_get, max}
 use Rattle.std.specs.List.{AllByRecursion as Each, zip}
 use Rattle.mq_core.specs.ColumnLaws.{DepartsInTime, FatesAreInTime, FatesInTime, LeavesFrom, jobs_of, arrives_of}
 use Rattle.mq_core.specs.Columns.{column_fates}
-use Rattle.mq_core.specs.Recurrences.{lindley, delayed}
+use Rattle.mq_core.specs.Recurrences.{lindley, delayed, is_admitted, loss_fates, time_or_none}
 use Rattle.mq_core.specs.Machine.{Visit}
 use Rattle.mq_core.specs.Results.{fates_from}
 use Rattle.mq_core.specs.Handling.{demand_of_job}
 use Rattle.mq_core.specs.StandardTable.{run_of}
 use Rattle.mq_core.specs.declared.model.Fate.{Fate}
-use Rattle.mq_core.specs.declared.model.Fate.TheVariants.{Departs}
+use Rattle.mq_core.specs.declared.model.Fate.TheVariants.{Departs, Lost}
 use Rattle.mq_core.specs.declared.model.Kind.{Kind}
-use Rattle.mq_core.specs.declared.model.Kind.TheVariants.{Source, Server, Delay, ForkJoin, Split}
+use Rattle.mq_core.specs.declared.model.Kind.TheVariants.{Source, Server, Delay, Loss, ForkJoin, Split}
 use Rattle.mq_core.specs.declared.model.Rows.{Rows}
 use Rattle.mq_core.specs.declared.model.Visits.{Visits}
 use Rattle.mq_core.proofs.ForkTimes.{when-joined}
@@ -38,10 +38,24 @@ when-delayed demand [] (a ∷ later) e = absurd (omega arith)
 when-delayed demand (j ∷ js) [] e = absurd (omega arith)
 when-delayed demand (j ∷ js) (a ∷ later) e = cons a (a + demand j) later _ (omega arith) (when-delayed demand js later (omega arith))
 
+when-lost : (places : ℕ) (demand : ℕ → ℕ) (left job arrive : List ℕ) → length job ≡ length arrive → FatesInTime arrive (loss_fates places left arrive (map demand job))
+when-lost places demand left [] [] e = record { even = omega arith; each = tt }
+when-lost places demand left [] (a ∷ later) e = absurd (omega arith)
+when-lost places demand left (j ∷ js) [] e = absurd (omega arith)
+when-lost places demand left (j ∷ js) (a ∷ later) e = go (is_admitted places left a) (λ l. when-lost places demand l js later (omega arith))
+  where
+    time : ℕ
+    time = max a (time_or_none (slice_get left 0)) + demand j
+
+    go : (b : Bool) → ((l : List ℕ) → FatesInTime later (loss_fates places l later (map demand js))) → FatesInTime (a ∷ later) (cond b (Departs time ∷ loss_fates places (time ∷ left) later (map demand js)) (Lost ∷ loss_fates places left later (map demand js)))
+    go true ih = cons a time later _ (omega arith) (ih (time ∷ left))
+    go false ih = record { even = ap suc (ih left).even; each = (tt, (ih left).each) }
+
 pub fates-in_time : FatesAreInTime
 fates-in_time rows Source job arrive e = at-once arrive
 fates-in_time rows (Server demand) job arrive e = when-served 0 (demand_of_job rows demand) job arrive e
 fates-in_time rows (Delay demand) job arrive e = when-delayed (demand_of_job rows demand) job arrive e
+fates-in_time rows (Loss places demand) job arrive e = when-lost places (demand_of_job rows demand) [] job arrive e
 fates-in_time rows (ForkJoin branches) job arrive e = when-joined rows branches job arrive e
 fates-in_time rows (Split route) job arrive e = at-once arrive
 

@@ -20,7 +20,7 @@ use Rattle.mq_core.specs.Fates.{fate_of, IsEnded}
 use Rattle.mq_core.specs.Tallies.{sum_below, emission_at}
 use Rattle.mq_core.specs.declared.model.Demand.{Demand}
 use Rattle.mq_core.specs.declared.model.Kind.{Kind}
-use Rattle.mq_core.specs.declared.model.Kind.TheVariants.{Source, Server, Delay, ForkJoin, Split}
+use Rattle.mq_core.specs.declared.model.Kind.TheVariants.{Source, Server, Delay, Loss, ForkJoin, Split}
 use Rattle.mq_core.specs.declared.model.Node.{Node}
 use Rattle.mq_core.specs.declared.model.Plan.{Plan}
 use Rattle.mq_core.specs.declared.model.Rows.{Rows}
@@ -29,6 +29,7 @@ use Rattle.mq_core.proofs.ColumnNumbers.{flow-numbered, numbered-found, order-fo
 use Rattle.mq_core.proofs.Delays.{delaying-done}
 use Rattle.mq_core.proofs.DelayNumbers.{delaying-fewer}
 use Rattle.mq_core.proofs.Flows.{kind-flow}
+use Rattle.mq_core.proofs.LossTallies.{losing-arrives-falls, losing-ends-falls, losing-done}
 use Rattle.mq_core.proofs.JoinEnds.{joining-done}
 use Rattle.mq_core.proofs.JoinLoads.{fork_load, fork_load-opening, joining-arrives-falls, joining-ends-falls}
 use Rattle.mq_core.proofs.Serves.{Serving, positions, next_finish, last_served, serving-done}
@@ -42,6 +43,7 @@ use Rattle.std.proofs.lemmas.List.{append-nil}
 abbrev pub kind_load : ℕ → Kind → Local → ℕ
 kind_load onward (Server demand) local = length local.queue * (onward + 1)
 kind_load onward (Delay demand) local = length local.scheduled * (onward + 1)
+kind_load onward (Loss places demand) local = length local.queue * (onward + 1)
 kind_load onward (ForkJoin branches) local = fork_load onward branches local
 kind_load onward _ local = 0
 
@@ -90,6 +92,7 @@ node-arrives-falls rows (Some node) onward s fs visits now port job v fact = go 
         let b = ap (λ n. n * (onward + 1)) a in
         let c = suc-mul (length local.scheduled) (onward + 1) in
         omega arith
+    go (Loss places demand) f = losing-arrives-falls rows places demand onward local visits now port job v
     go (ForkJoin branches) f = joining-arrives-falls rows branches onward v port job s.local s.visits visits s.emitted fs now f
     go (Split route) f = let l = times-one _ onward (emission-one now (output_by rows route job (latest visits)) (latest visits) (slice_get visits (latest visits))) in omega arith
 
@@ -106,6 +109,7 @@ node-ends-falls rows (Some node) onward v s fs rest rank now server position fac
     go : (kind : Kind) → kind_fact rows kind v s fs now → kind_load onward kind (kind_on rows kind s.visits s.local now (Finish now v server position)).local + length (emissions_of now s.visits (kind_on rows kind s.visits s.local now (Finish now v server position)).releases) * onward + 1 ≤ kind_load onward kind s.local
     go Source f = absurd (none f.none)
     go (Split route) f = absurd (none f.none)
+    go (Loss places demand) f = losing-ends-falls rows places demand onward rank v server position s.local s.visits s.local.queue s.emitted fs rest now first f.1
     go (ForkJoin branches) f = joining-ends-falls rows branches rank onward v server position s.local s.visits s.emitted fs rest now first f
     go (Delay demand) f =
         let less = delaying-fewer rows demand v rank server position s.visits s.local.scheduled s.emitted fs rest now first f in
@@ -144,6 +148,7 @@ load-opening onward (Some node) = go node.kind
     go Source = refl
     go (Server demand) = omega arith
     go (Delay demand) = omega arith
+    go (Loss places demand) = omega arith
     go (ForkJoin branches) = fork_load-opening onward branches
     go (Split route) = refl
 
@@ -294,5 +299,6 @@ module _ (plan : Plan) (rows : Rows) (read : IsReadFor plan.net rows) where
           go Source h = refl
           go (Server demand) h = ap length (serving-done rows demand v ((run_of plan rows).stations v).visits _ ((run_of plan rows).stations v).emitted _ h).0
           go (Delay demand) h = ap length (delaying-done rows demand v ((run_of plan rows).stations v).visits _ ((run_of plan rows).stations v).emitted _ h).0
+          go (Loss places demand) h = ap length (losing-done rows places demand v ((run_of plan rows).stations v).visits _ ((run_of plan rows).stations v).emitted _ h.1).0
           go (ForkJoin branches) h = (joining-done rows branches v ((run_of plan rows).stations v).visits ((run_of plan rows).stations v).local.branches ((run_of plan rows).stations v).emitted _ h).0
           go (Split route) h = refl

@@ -11,12 +11,13 @@ use Rattle.mq_core.specs.Standard.{kind_on, kind_opening, node_opening, node_on,
 use Rattle.mq_core.specs.StandardTable.{standard}
 use Rattle.mq_core.specs.Served.{passed_from}
 use Rattle.mq_core.specs.declared.model.Kind.{Kind}
-use Rattle.mq_core.specs.declared.model.Kind.TheVariants.{Source, Server, Delay, ForkJoin, Split}
+use Rattle.mq_core.specs.declared.model.Kind.TheVariants.{Source, Server, Delay, Loss, ForkJoin, Split}
 use Rattle.mq_core.specs.declared.model.Node.{Node}
 use Rattle.mq_core.specs.declared.model.Plan.{Plan}
 use Rattle.mq_core.specs.declared.model.Rows.{Rows}
 use Rattle.mq_core.proofs.Joins.{Joining, joining-opens, joining-waits, joining-arrives, joining-ends}
 use Rattle.mq_core.proofs.Kept.{Fact, Keeps}
+use Rattle.mq_core.proofs.Loses.{Losing, losing-opens, losing-waits, losing-arrives, losing-ends}
 use Rattle.mq_core.proofs.Shapes.{IsShaped, node-shaped}
 use Rattle.mq_core.proofs.Delays.{Delaying, delaying-opens, delaying-waits, delaying-arrives, delaying-ends}
 use Rattle.mq_core.proofs.Serves.{Serving, serving-opens, serving-waits, serving-arrives, serving-ends, slice_get-middle, latest-push}
@@ -53,6 +54,7 @@ abbrev pub kind_fact : Rows → Kind → Fact Local
 kind_fact rows Source v s fs now = Passing (λ _ _. 0) s.visits s.emitted fs
 kind_fact rows (Server demand) v s fs now = Serving rows demand v s.visits s.local.queue s.emitted fs now
 kind_fact rows (Delay demand) v s fs now = Delaying rows demand v s.visits s.local.scheduled s.emitted fs now
+kind_fact rows (Loss places demand) v s fs now = (1 ≤ places) × Losing rows places demand v s.visits s.local.queue s.emitted fs now
 kind_fact rows (ForkJoin branches) v s fs now = Joining rows branches v s.visits s.local.branches s.emitted fs now
 kind_fact rows (Split route) v s fs now = Passing (λ x p. output_by rows route x.job p) s.visits s.emitted fs
 
@@ -64,6 +66,7 @@ kind-opens : (rows : Rows) (kind : Kind) (v : ℕ) → IsShaped kind → kind_fa
 kind-opens rows Source v shape = record { left = refl; none = refl }
 kind-opens rows (Server demand) v shape = serving-opens rows demand v
 kind-opens rows (Delay demand) v shape = delaying-opens rows demand v
+kind-opens rows (Loss places demand) v shape = (shape, losing-opens rows places demand v)
 kind-opens rows (ForkJoin branches) v shape = joining-opens rows branches v shape
 kind-opens rows (Split route) v shape = record { left = refl; none = refl }
 
@@ -71,6 +74,7 @@ kind-waits : (rows : Rows) (kind : Kind) (v : ℕ) (s : Station Local) (area bus
 kind-waits rows Source v s area busy fs now later l h = h
 kind-waits rows (Server demand) v s area busy fs now later l h = serving-waits rows demand v s.visits s.local.queue s.emitted fs now later l h
 kind-waits rows (Delay demand) v s area busy fs now later l h = delaying-waits rows demand v s.visits s.local.scheduled s.emitted fs now later l h
+kind-waits rows (Loss places demand) v s area busy fs now later l h = (h.0, losing-waits rows places demand v s.visits s.local.queue s.emitted fs now later l h.1)
 kind-waits rows (ForkJoin branches) v s area busy fs now later l h = joining-waits rows branches v s.visits s.local.branches s.emitted fs now later l h
 kind-waits rows (Split route) v s area busy fs now later l h = h
 
@@ -83,6 +87,7 @@ kind-arrives : (peak : ℕ) (rows : Rows) (kind : Kind) (v port : ℕ) (s : Stat
 kind-arrives peak rows Source v port s fs now x at soon h = passing-arrives (λ _ _. 0) v now 0 s.visits s.emitted fs x at refl h
 kind-arrives peak rows (Server demand) v port s fs now x at soon h = serving-arrives rows demand v s.local s.visits s.local.queue s.emitted fs now x at soon h
 kind-arrives peak rows (Delay demand) v port s fs now x at soon h = delaying-arrives rows demand v s.visits s.local.scheduled s.emitted fs now x at soon h
+kind-arrives peak rows (Loss places demand) v port s fs now x at soon h = (h.0, losing-arrives rows places demand v port s.local s.visits s.emitted fs now x at soon h.1)
 kind-arrives peak rows (ForkJoin branches) v port s fs now x at soon h = joining-arrives rows branches v port s.local s.visits s.emitted fs now x at soon h
 kind-arrives peak rows (Split route) v port s fs now x at soon h = passing-arrives (λ y p. output_by rows route y.job p) v now (output_by rows route x.job (latest (s.visits ++ x ∷ []))) s.visits s.emitted fs x at refl h
 
@@ -95,6 +100,7 @@ kind-ends : (peak : ℕ) (rows : Rows) (kind : Kind) (rank : ℕ → ℕ) (v ser
 kind-ends peak rows Source rank v server position s fs rest now first h = absurd (no_finish rank fs rest _ h.none first)
 kind-ends peak rows (Server demand) rank v server position s fs rest now first h = serving-ends rows demand rank v server position s.local s.visits s.local.queue s.emitted fs rest now first h
 kind-ends peak rows (Delay demand) rank v server position s fs rest now first h = delaying-ends rows demand rank v server position s.visits s.local.scheduled s.emitted fs rest now first h
+kind-ends peak rows (Loss places demand) rank v server position s fs rest now first h = (h.0, losing-ends rows places demand rank v server position s.local s.visits s.local.queue s.emitted fs rest now first h.1)
 kind-ends peak rows (ForkJoin branches) rank v server position s fs rest now first h = joining-ends rows branches rank v server position s.local s.visits s.emitted fs rest now first h
 kind-ends peak rows (Split route) rank v server position s fs rest now first h = absurd (no_finish rank fs rest _ h.none first)
 

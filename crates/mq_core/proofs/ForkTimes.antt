@@ -88,18 +88,18 @@ both-long : (visits : List Visit) → length (map (λ (x : Visit). x.job) visits
 both-long visits = length-map visits (λ (x : Visit). x.job) ∙ sym (length-map visits (λ (x : Visit). x.arrive))
 
 -- the fates of what leaves at some times
-leaving-fates : (kind : Kind) (k : ℕ) (times : List ℕ) (visits : List Visit) → length times ≡ length visits → map (fate_by kind) (leaving_from k times visits) ≡ map (λ time. Departs time) times
-leaving-fates kind k [] visits e = refl
-leaving-fates kind k (t ∷ ts) [] e = absurd (omega arith)
-leaving-fates kind k (t ∷ ts) (x ∷ xs) e = ap (λ l. Departs t ∷ l) (leaving-fates kind (suc k) ts xs (omega arith))
+leaving-fates : (kind : Kind) → ((m : Emission) → fate_by kind m ≡ Departs m.time) → (k : ℕ) (times : List ℕ) (visits : List Visit) → length times ≡ length visits → map (fate_by kind) (leaving_from k times visits) ≡ map (λ time. Departs time) times
+leaving-fates kind by k [] visits e = refl
+leaving-fates kind by k (t ∷ ts) [] e = absurd (omega arith)
+leaving-fates kind by k (t ∷ ts) (x ∷ xs) e = λ i. by (record { out = 0; position = k; job = x.job; time = t }) i ∷ leaving-fates kind by (suc k) ts xs (omega arith) i
 
 -- as many departures as visits
 pub joined-long : (rows : Rows) (branches : List (List Demand)) (visits : List Visit) → length (fork_departs (map (λ (x : Visit). x.arrive) visits) (branch_demands rows branches (map (λ (x : Visit). x.job) visits))) ≡ length visits
 joined-long rows branches visits =
     at_least-length (map (λ (x : Visit). x.arrive) visits) _ (fork-at_least rows branches (map (λ (x : Visit). x.job) visits) (map (λ (x : Visit). x.arrive) visits) (both-long visits)) ∙ length-map visits (λ (x : Visit). x.arrive)
 
-pub joined-fates : (kind : Kind) (rows : Rows) (branches : List (List Demand)) (visits : List Visit) → map (fate_by kind) (joined_from rows branches visits) ≡ map (λ time. Departs time) (fork_departs (map (λ (x : Visit). x.arrive) visits) (branch_demands rows branches (map (λ (x : Visit). x.job) visits)))
-joined-fates kind rows branches visits = leaving-fates kind 0 _ visits (joined-long rows branches visits)
+pub joined-fates : (kind : Kind) → ((m : Emission) → fate_by kind m ≡ Departs m.time) → (rows : Rows) (branches : List (List Demand)) (visits : List Visit) → map (fate_by kind) (joined_from rows branches visits) ≡ map (λ time. Departs time) (fork_departs (map (λ (x : Visit). x.arrive) visits) (branch_demands rows branches (map (λ (x : Visit). x.job) visits)))
+joined-fates kind by rows branches visits = leaving-fates kind by 0 _ visits (joined-long rows branches visits)
 
 leaving-outs : (k : ℕ) (times : List ℕ) (visits : List Visit) → length times ≡ length visits → map (λ (m : Emission). m.out) (leaving_from k times visits) ≡ map (λ _. 0) (map (λ (x : Visit). x.job) visits)
 leaving-outs k [] [] e = refl

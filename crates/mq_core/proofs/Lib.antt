@@ -59,3 +59,11 @@ pub mod ColumnJobs
 pub mod ColumnTimes
 pub mod ColumnFew
 pub mod NumberRuns
+pub mod Reordered
+pub mod LossFlow
+pub mod Loses
+pub mod Releases
+pub mod LossTallies
+pub mod LossBusy
+pub mod LossColumns
+pub mod Unlost

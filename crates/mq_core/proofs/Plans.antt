@@ -18,7 +18,7 @@ use Rattle.mq_core.specs.declared.model.Demand.{Demand}
 use Rattle.mq_core.specs.declared.model.Demand.TheVariants.{Column, Fixed}
 use Rattle.mq_core.specs.declared.model.Input.{Input}
 use Rattle.mq_core.specs.declared.model.Kind.{Kind}
-use Rattle.mq_core.specs.declared.model.Kind.TheVariants.{Source, Server, Delay, ForkJoin, Split}
+use Rattle.mq_core.specs.declared.model.Kind.TheVariants.{Source, Server, Delay, Loss, ForkJoin, Split}
 use Rattle.mq_core.specs.declared.model.Network.{Network}
 use Rattle.mq_core.specs.declared.model.Node.{Node}
 use Rattle.mq_core.specs.declared.model.Route.TheVariants.{Modulo, Turn, Cut}
@@ -110,6 +110,7 @@ kind-outputs : (columns : ℕ) (kind : Kind) → is_sound_kind columns kind ≡ 
 kind-outputs columns Source h = omega arith
 kind-outputs columns (Server demand) h = omega arith
 kind-outputs columns (Delay demand) h = omega arith
+kind-outputs columns (Loss places demand) h = omega arith
 kind-outputs columns (ForkJoin branches) h = omega arith
 kind-outputs columns (Split (Modulo outputs column)) h = within-most 2 8 outputs (and_parts (is_within 2 8 outputs) (nat_lt column columns) h).0
 kind-outputs columns (Split (Turn outputs)) h = within-most 2 8 outputs h
@@ -124,6 +125,7 @@ kind-servers : (columns : ℕ) (kind : Kind) → is_sound_kind columns kind ≡ 
 kind-servers columns Source h = omega arith
 kind-servers columns (Server demand) h = omega arith
 kind-servers columns (Delay demand) h = omega arith
+kind-servers columns (Loss places demand) h = omega arith
 kind-servers columns (ForkJoin branches) h = let l = (branches-shaped columns branches h).few in let e = all-servers branches in omega arith
 kind-servers columns (Split route) h = omega arith
 
@@ -131,6 +133,7 @@ count-ports : (kind : Kind) (inputs : ℕ) → is_sound_count kind inputs ≡ tr
 count-ports Source inputs h = grind (arith, nat_tests)
 count-ports (Server demand) inputs h = within-most 1 8 inputs h
 count-ports (Delay demand) inputs h = within-most 1 8 inputs h
+count-ports (Loss places demand) inputs h = within-most 1 8 inputs h
 count-ports (ForkJoin branches) inputs h = within-most 1 8 inputs h
 count-ports (Split route) inputs h = within-most 1 8 inputs h
 
@@ -199,6 +202,7 @@ tells-kind : (net : Network) (rows : Rows) → IsReadFor net rows → (job : ℕ
 tells-kind net rows read job below Source h = tt
 tells-kind net rows read job below (Server demand) h = (tells-demand net rows read job below demand h).0
 tells-kind net rows read job below (Delay demand) h = (tells-demand net rows read job below demand h).0
+tells-kind net rows read job below (Loss places demand) h = (tells-demand net rows read job below demand (and_parts (is_within 1 1048576 places) (is_sound_demand (length net.columns) demand) h).1).0
 tells-kind net rows read job below (ForkJoin branches) h =
     let a = and_parts _ (nat_le (length (flat_map (λ demands. demands) branches)) 8) h in
     let b = and_parts (is_within 2 8 (length branches)) _ a.0 in

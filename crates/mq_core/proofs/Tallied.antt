@@ -15,12 +15,13 @@ use Rattle.mq_core.specs.Run.{starts}
 use Rattle.mq_core.specs.Fates.{AreasAreSojourns, FoundsAreCounts}
 use Rattle.mq_core.specs.declared.model.Demand.{Demand}
 use Rattle.mq_core.specs.declared.model.Kind.{Kind}
-use Rattle.mq_core.specs.declared.model.Kind.TheVariants.{Source, Server, Delay, ForkJoin, Split}
+use Rattle.mq_core.specs.declared.model.Kind.TheVariants.{Source, Server, Delay, Loss, ForkJoin, Split}
 use Rattle.mq_core.specs.declared.model.Node.{Node}
 use Rattle.mq_core.specs.declared.model.Rows.{Rows}
 use Rattle.mq_core.proofs.Kept.{kept}
 use Rattle.mq_core.proofs.Serves.{Serving, positions, next_finish, last_served, came_before, pair-inj, latest-push, joins-releases}
 use Rattle.mq_core.proofs.DelayNumbers.{delaying-number, delaying-earlier}
+use Rattle.mq_core.proofs.LossTallies.{losing-number, losing-own, losing-earlier}
 use Rattle.mq_core.proofs.Founds.{Founds, keeps-founds}
 use Rattle.mq_core.specs.Event.{time_of, earliest, sooner_of}
 use Rattle.mq_core.specs.Event.Event.{Arrive, Finish}
@@ -83,6 +84,7 @@ node-number rows (Some node) v s fs now there h = go node.kind h
     go Source h = passing-number (λ _ _. 0) s.visits s.emitted fs h
     go (Server demand) h = serving-number rows demand v s.visits s.local.queue s.emitted fs now h
     go (Delay demand) h = delaying-number rows demand v s.visits s.local.scheduled s.emitted fs now h
+    go (Loss places demand) h = losing-number rows places demand v s.visits s.local.queue s.emitted fs now h.1
     go (ForkJoin branches) h = joining-number rows branches v s.visits s.local.branches s.emitted fs now h
     go (Split route) h = passing-number (λ x p. output_by rows route x.job p) s.visits s.emitted fs h
 
@@ -144,6 +146,7 @@ node-own rows (Some node) v port job local visits x now q m e = go node.kind e
     go Source e = one-release now 0 (latest (visits ++ x ∷ [])) q (visits ++ x ∷ []) m e ∙ latest-push visits x
     go (Server demand) e = absurd (no_release now q (visits ++ x ∷ []) _ m (joins-releases rows demand (visits ++ x ∷ []) local now local.queue (latest (visits ++ x ∷ []))) e)
     go (Delay demand) e = absurd cc
+    go (Loss places demand) e = losing-own rows places demand local visits x now port job v q m e
     go (ForkJoin branches) e = absurd cc
     go (Split route) e = one-release now (output_by rows route job (latest (visits ++ x ∷ []))) (latest (visits ++ x ∷ [])) q (visits ++ x ∷ []) m e ∙ latest-push visits x
 
@@ -154,6 +157,7 @@ node-earlier rows (Some node) rank v server position s fs rest now h first q p m
     go : (kind : Kind) → kind_fact rows kind v s fs now → emission_at (emissions_of now s.visits (kind_on rows kind s.visits s.local now (Finish now v server position)).releases) q ≡ Some m → arrival_or 0 (slice_get s.visits p) < now
     go Source h e = absurd cc
     go (Server demand) h e = serving-earlier rows demand rank v server position s.local s.visits s.local.queue s.emitted fs rest now first h q p m e l u
+    go (Loss places demand) h e = losing-earlier rows places demand rank v server position s.local s.visits s.local.queue s.emitted fs rest now first h.1 q p m e l u
     go (ForkJoin branches) h e = joining-earlier rows branches rank v server position s.local s.visits s.emitted fs rest now first h q p m e l u
     go (Delay demand) h e =
         let place : q ≡ position = one-release now 0 position q s.visits m e in

@@ -5,7 +5,7 @@ use Rattle.mq_core.specs.Handling.{demand_of_job}
 use Rattle.mq_core.specs.declared.model.Demand.{Demand}
 use Rattle.mq_core.specs.declared.model.Demand.TheVariants.{Column, Fixed}
 use Rattle.mq_core.specs.declared.model.Kind.{Kind}
-use Rattle.mq_core.specs.declared.model.Kind.TheVariants.{Source, Server, Delay, ForkJoin, Split}
+use Rattle.mq_core.specs.declared.model.Kind.TheVariants.{Source, Server, Delay, Loss, ForkJoin, Split}
 use Rattle.mq_core.specs.declared.model.Rows.{Rows}
 
 -- the rows have this column, and it has a value for this job
@@ -29,5 +29,6 @@ abbrev pub HasDemands : Rows → Kind → ℕ → Type 0
 HasDemands rows Source job = Unit {0}
 HasDemands rows (Server demand) job = HasDemand rows demand job
 HasDemands rows (Delay demand) job = HasDemand rows demand job
+HasDemands rows (Loss places demand) job = HasDemand rows demand job
 HasDemands rows (ForkJoin branches) job = AreTold rows (flat_map (λ demands. demands) branches) job
 HasDemands rows (Split route) job = Unit {0}

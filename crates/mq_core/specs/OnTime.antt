@@ -1,17 +1,17 @@
 use Rattle.std.proofs.Common.{ℕ, ◌+◌, ◌≤◌, Bool, true, false, List, [], ◌∷◌, ◌++◌, length, Option, Some, None, arith}
-use Rattle.std.specs.Prelude.{slice_get, ◌==◌, if◌then◌else◌}
+use Rattle.std.specs.Prelude.{slice_get, nat_lt, ◌==◌, if◌then◌else◌}
 use Rattle.std.specs.List.{AllByRecursion as Each}
 use Rattle.mq_core.specs.Event.{Event}
 use Rattle.mq_core.specs.Event.Event.{Arrive, Finish}
 use Rattle.mq_core.specs.Machine.{Visit, Service}
 use Rattle.mq_core.specs.Local.{Local, Branch}
-use Rattle.mq_core.specs.Handling.{joins, front_begins, front_leaves, latest, begins_at, begins_alone}
+use Rattle.mq_core.specs.Handling.{joins, passes_on, front_begins, front_leaves, latest, begins_at, begins_alone}
 use Rattle.mq_core.specs.ForkJoinHandler.{Moved, goes_in, goes_on, finishes_at, each_branch, fork_on}
 use Rattle.mq_core.specs.Standard.{kind_on, node_on, standard_handle}
 use Rattle.mq_core.specs.Run.{IsOnTime}
 use Rattle.mq_core.specs.declared.model.Demand.{Demand}
 use Rattle.mq_core.specs.declared.model.Kind.{Kind}
-use Rattle.mq_core.specs.declared.model.Kind.TheVariants.{Source, Server, Delay, ForkJoin, Split}
+use Rattle.mq_core.specs.declared.model.Kind.TheVariants.{Source, Server, Delay, Loss, ForkJoin, Split}
 use Rattle.mq_core.specs.declared.model.Node.{Node}
 use Rattle.mq_core.specs.declared.model.Rows.{Rows}
 
@@ -30,6 +30,10 @@ front_begins-late rows demand visits now (front ∷ queue) = (omega arith, tt)
 front_leaves-late : (rows : Rows) (demand : Demand) (visits : List Visit) (local : Local) (now : ℕ) (queue : List ℕ) → Late now (front_leaves rows demand visits local now queue).services
 front_leaves-late rows demand visits local now [] = tt
 front_leaves-late rows demand visits local now (front ∷ queue) = front_begins-late rows demand visits now queue
+
+loss-late : (rows : Rows) (places : ℕ) (demand : Demand) (visits : List Visit) (local : Local) (now : ℕ) (b : Bool) → Late now (if b then joins rows demand visits local now local.queue (latest visits) else passes_on local 1 (latest visits)).services
+loss-late rows places demand visits local now true = joins-late rows demand visits local now local.queue (latest visits)
+loss-late rows places demand visits local now false = tt
 
 late-append : (now : ℕ) (one two : List Service) → Late now one → Late now two → Late now (one ++ two)
 late-append now [] two h k = k
@@ -79,6 +83,8 @@ kind-late rows (Server demand) visits local now (Arrive t n q j) = joins-late ro
 kind-late rows (Server demand) visits local now (Finish t n q j) = front_leaves-late rows demand visits local now local.queue
 kind-late rows (Delay demand) visits local now (Arrive t n q j) = (omega arith, tt)
 kind-late rows (Delay demand) visits local now (Finish t n q j) = tt
+kind-late rows (Loss places demand) visits local now (Arrive t n q j) = loss-late rows places demand visits local now (nat_lt (length local.queue) places)
+kind-late rows (Loss places demand) visits local now (Finish t n q j) = front_leaves-late rows demand visits local now local.queue
 kind-late rows (ForkJoin branches) visits local now event = fork-late rows branches visits local now event
 kind-late rows (Split route) visits local now (Arrive t n q j) = tt
 kind-late rows (Split route) visits local now (Finish t n q j) = tt

@@ -6,7 +6,8 @@ ghost use Rattle.mq_core.specs.Sound.{outputs_by, outputs_in};
 use crate::model::{Demand, Kind, Route};
 use mq_base::List;
 
-/// How many outputs a node of this kind has: those that its route chooses from at a split, else 1.
+/// How many outputs a node of this kind has: those that its route chooses from at a split, 2 at a
+/// loss station, of which the second is for those that are lost, else 1.
 ///
 /// They are at most 8, as every kind of a plan has it.
 pub fn outputs_of(kind: &Kind) -> u8
@@ -15,6 +16,7 @@ pub fn outputs_of(kind: &Kind) -> u8
 {
     match kind {
         Kind::Source | Kind::Server(_) | Kind::Delay(_) | Kind::ForkJoin(_) => 1,
+        Kind::Loss { .. } => 2,
         Kind::Split(route) => outputs_of_route(route),
     }
 }
@@ -39,6 +41,7 @@ pub fn servers_of(kind: &Kind) -> u8
 {
     match kind {
         Kind::Server(_) => 1,
+        Kind::Loss { .. } => 1,
         Kind::ForkJoin(branches) => servers_of_branches(branches),
         Kind::Source | Kind::Delay(_) | Kind::Split(_) => 0,
     }

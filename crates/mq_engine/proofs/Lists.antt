@@ -1,6 +1,7 @@
 -- Lists by place, and what a loop has made of one so far.
-use Rattle.std.proofs.Common.{◌==◌, ◌||◌, subst, ◌≡◌, ◌≢◌, ℕ, zero, suc, ◌+◌, ◌<◌, ◌≤◌, Bool, true, false, IsTrue, List, [], ◌∷◌, ◌++◌, length, get_or, set, take, drop, map, Some, sym, refl, ap, ◌∙◌, arith, eqb-true, append_assoc}
-use Rattle.std.specs.Prelude.{slice_get}
+use Rattle.std.proofs.Common.{◌==◌, ◌||◌, subst, ◌≡◌, ◌≢◌, ℕ, zero, suc, ◌+◌, ◌<◌, ◌≤◌, Bool, true, false, cond, IsTrue, List, [], ◌∷◌, ◌++◌, length, get_or, set, take, drop, map, Some, sym, refl, ap, ◌∙◌, arith, eqb-true, append_assoc}
+use Rattle.std.specs.Prelude.{count_by, slice_get}
+use Rattle.std.proofs.lemmas.List.Sums.{sum_by-cons}
 use Rattle.std.specs.List.{AllByRecursion as Each, flat_map, zip}
 use Rattle.std.proofs.lemmas.Bool.Decides.{nat_tests}
 use Rattle.std.proofs.lemmas.List.{append-nil}
@@ -11,6 +12,12 @@ pub drop_at : {X : Type 0} (xs : List X) (i : ℕ) (x : X) → slice_get xs i �
 drop_at [] i x h = absurd cc
 drop_at (y ∷ ys) zero x h = ap (λ z. z ∷ ys) (some_inj y x h)
 drop_at (y ∷ ys) (suc i) x h = drop_at ys i x h
+
+-- those that pass a test, of what is left from a place on
+pub count-at : {X : Type 0} (p : X → Bool) (xs : List X) (i : ℕ) (x : X) → slice_get xs i ≡ Some x → count_by p (drop i xs) ≡ cond (p x) 1 0 + count_by p (drop (i + 1) xs)
+count-at p xs i x h =
+    let next : suc i ≡ i + 1 = omega arith in
+    ap (count_by p) (drop_at xs i x h) ∙ (sum_by-cons (λ y. cond (p y) 1 0) x (drop (suc i) xs) ∙ ap (λ n. cond (p x) 1 0 + count_by p (drop n xs)) next)
 
 -- one item more, of what a map has made so far
 map-next : {X Y : Type 0} (f : X → Y) (xs : List X) (i : ℕ) (x : X) → slice_get xs i ≡ Some x → map f (take (suc i) xs) ≡ map f (take i xs) ++ f x ∷ []

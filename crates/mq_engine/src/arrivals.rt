@@ -7,7 +7,7 @@ ghost use Rattle.mq_engine.specs.Turns.{AreEarly, IsEarlyStream, IsThere, arrivi
 
 use mq_base::{List, OutOfMemory};
 use mq_core::{Input, Kind, Node, Rows, Stream, merges_twice};
-use mq_merge::merge_two;
+use mq_merge::{by_time, merge_two};
 use std::alloc::Global;
 
 // The arrivals at a node: the rows of a source, or the streams that the ports of another node read,
@@ -49,15 +49,20 @@ fn rows_by_time(
     if rises(&rows.time) {
         return Ok(rows);
     }
-    let sorted = sorted(alloc, &rows)?;
-    Ok(sorted)
+    by_time(alloc, &rows.job, &rows.time)
 }
 
 // How many rows come from a source.
-fn rows_from(node: u32, source: &[u32]) -> usize
+fn count_of(node: u32, source: &List<u32>) -> usize
     ensures { result ≡ count_by (λ other. other == node) source.now }
 {
-    source.iter().filter(|other| **other == node).count()
+    let mut count = 0;
+    for at in 0..source.len() {
+        if *source.get(at) == node {
+            count += 1;
+        }
+    }
+    count
 }
 
 // The rows of a source, in file order.
@@ -72,18 +77,18 @@ fn rows_of(
     ensures even { IfOk result (λ rows. length rows.job ≡ length rows.time) }
     ensures items { IfOk result (λ rows. pairs_of rows ≡ rows_at node 0 source.now time.now) }
 {
-    let count = rows_from(node, source.as_slice());
-    let mut jobs = List::from_vec(Vec::with_capacity(alloc, count)?);
-    let mut times = List::from_vec(Vec::with_capacity(alloc, count)?);
+    let count = count_of(node, source);
+    let mut jobs = Vec::with_capacity(alloc, count)?;
+    let mut times = Vec::with_capacity(alloc, count)?;
     for job in 0..source.len() {
         if *source.get(job) == node {
-            jobs.push(job as u32)?;
-            times.push(*time.get(job))?;
+            jobs.push_reserved(job as u32);
+            times.push_reserved(*time.get(job));
         }
     }
     Ok(Stream {
-        job: jobs,
-        time: times,
+        job: List::from_vec(jobs),
+        time: List::from_vec(times),
     })
 }
 
@@ -92,44 +97,6 @@ fn rises(times: &List<u64>) -> bool
     ensures { IsTrue result → Rises (λ a b. a ≤ b) times.now }
 {
     times.as_slice().is_sorted()
-}
-
-// The items of a stream by time, those of one time in their order.
-fn sorted(alloc: Global, rows: &Stream) -> Result<Stream, OutOfMemory>
-    requires even { length rows.now.job ≡ length rows.now.time }
-    ensures stream { IfOk result (λ stream. IsStream stream) }
-    ensures items { IfOk result (λ stream. pairs_of stream ≡ by_first (pairs_of rows.now)) }
-{
-    let mut items = items_of(alloc, rows)?;
-    items.sort_by_key(|item| item.0)?;
-    columns_of(alloc, &items)
-}
-
-// The time and the job of each item of a stream.
-fn items_of(alloc: Global, rows: &Stream) -> Result<Vec<(u64, u32)>, OutOfMemory>
-    requires even { length rows.now.job ≡ length rows.now.time }
-    ensures { IfOk result (λ items. items.items ≡ pairs_of rows.now) }
-{
-    let mut items = Vec::with_capacity(alloc, rows.time.len())?;
-    for at in 0..rows.time.len() {
-        items.push((*rows.time.get(at), *rows.job.get(at)))?;
-    }
-    Ok(items)
-}
-
-// The stream of items that are by time.
-fn columns_of(alloc: Global, items: &[(u64, u32)]) -> Result<Stream, OutOfMemory>
-    requires { Rises (λ p q. p.0 ≤ q.0) items.now }
-    ensures stream { IfOk result (λ stream. IsStream stream) }
-    ensures items { IfOk result (λ stream. pairs_of stream ≡ items.now) }
-{
-    let mut job = List::from_vec(Vec::with_capacity(alloc, items.len())?);
-    let mut time = List::from_vec(Vec::with_capacity(alloc, items.len())?);
-    for item in items {
-        time.push(item.0)?;
-        job.push(item.1)?;
-    }
-    Ok(Stream { job, time })
 }
 
 // What these ports read, by time and then port.

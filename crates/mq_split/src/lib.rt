@@ -60,7 +60,7 @@ fn outs_of(alloc: Global, values: &List<u64>, route: &Route) -> Result<Vec<u8>, 
 {
     let mut outs = Vec::with_capacity(alloc, values.len())?;
     for at in 0..values.len() {
-        outs.push(route_of(route, *values.get(at), at as u32))?;
+        outs.push_reserved(route_of(route, *values.get(at), at as u32));
     }
     Ok(outs)
 }
@@ -71,8 +71,9 @@ fn pick(alloc: Global, stream: &Stream, outs: &[u8], out: u8) -> Result<Stream, 
     requires times { length stream.now.time ≡ length outs.now }
     ensures { IfOk result (λ part. part ≡ picked_stream outs.now stream.now out) }
 {
-    let mut job = List::new(alloc);
-    let mut time = List::new(alloc);
+    let count = outs.iter().filter(|other| **other == out).count();
+    let mut job = List::from_vec(Vec::with_capacity(alloc, count)?);
+    let mut time = List::from_vec(Vec::with_capacity(alloc, count)?);
     for at in 0..outs.len() {
         if outs[at] != out {
             continue;

@@ -1,4 +1,4 @@
-ghost use Rattle.std.specs.Prelude.{◌≡◌, ◌<◌, ◌≤◌, ◌^◌, max, fold, cond};
+ghost use Rattle.std.specs.Prelude.{◌≡◌, ◌<◌, ◌≤◌, ◌^◌, All, length, max, fold, sum, cond, count_by};
 ghost use Rattle.mq_core.specs.Asked.{HasDemands};
 ghost use Rattle.mq_core.specs.Columns.{
   column_numbers,
@@ -71,7 +71,9 @@ fn service_at(rows: &Rows, kind: &Kind, job: u32) -> u64
 {
     match kind {
         Kind::Source | Kind::Split(_) => 0,
-        Kind::Server(demand) | Kind::Delay(demand) => demand_of(rows, demand, job),
+        Kind::Server(demand) | Kind::Delay(demand) | Kind::Loss { demand, .. } => {
+            demand_of(rows, demand, job)
+        }
     }
 }
 
@@ -107,6 +109,97 @@ fn number_after(found: u32, fate: Fate) -> u32
     }
 }
 
+// What is counted, added up and greatest over visits, whatever the kind of the node.
+#[derive(Clone, Copy)]
+struct Stays {
+    lost: u32,
+    area: u128,
+    longest: u64,
+    greatest: u32,
+}
+
+// The lost visits, the sum and the greatest of the sojourns, and the greatest number of jobs just
+// after a visit came.
+fn stays_of(visits: &Visits) -> Stays
+    requires few { length visits.now.arrive ≤ 1048576 }
+    requires founds { length visits.now.found ≡ length visits.now.arrive }
+    requires fates { length visits.now.fate ≡ length visits.now.arrive }
+    requires small { All (λ found. found ≤ 1048576) visits.now.found }
+    ensures lost { result.lost ≡ count_by is_lost visits.now.fate }
+    ensures some { result.lost ≤ length visits.now.arrive }
+    ensures area { result.area ≡ sum (column_sojourns visits.now.arrive visits.now.fate) }
+    ensures longest { result.longest ≡ fold max 0 (column_sojourns visits.now.arrive visits.now.fate) }
+    ensures greatest { result.greatest ≡ fold max 0 (column_numbers visits.now.found visits.now.fate) }
+{
+    let (mut lost, mut longest, mut greatest) = (0u32, 0u64, 0u32);
+    let mut area = 0u128;
+    for at in 0..visits.arrive.len() {
+        let fate = *visits.fate.get(at);
+        let stayed = sojourn_of(*visits.arrive.get(at), fate);
+        lost += one_if_lost(fate);
+        area += stayed as u128;
+        longest = longest.max(stayed);
+        greatest = greatest.max(number_after(*visits.found.get(at), fate));
+    }
+    Stays {
+        lost,
+        area,
+        longest,
+        greatest,
+    }
+}
+
+// The sum and the greatest of the waiting times, and the sum of the services.
+#[derive(Clone, Copy)]
+struct Waits {
+    wait: u128,
+    longest: u64,
+    busy: u128,
+}
+
+// The waits at a node of this kind, one visit after another.
+fn each_wait(rows: &Rows, kind: &Kind, visits: &Visits) -> Waits
+    requires { AreVisits rows.now kind.now visits.now }
+    ensures wait { result.wait ≡ sum (column_waits rows.now kind.now visits.now.job visits.now.arrive visits.now.fate) }
+    ensures longest { result.longest ≡ fold max 0 (column_waits rows.now kind.now visits.now.job visits.now.arrive visits.now.fate) }
+    ensures busy { result.busy ≡ sum (column_services rows.now kind.now visits.now.job visits.now.fate) }
+    ensures small { result.busy ≤ 2 ^ 84 }
+{
+    let (mut wait, mut longest, mut busy) = (0u128, 0u64, 0u128);
+    for at in 0..visits.job.len() {
+        let (job, fate) = (*visits.job.get(at), *visits.fate.get(at));
+        let waited = wait_of(rows, kind, job, *visits.arrive.get(at), fate);
+        wait += waited as u128;
+        longest = longest.max(waited);
+        busy += service_of(rows, kind, job, fate) as u128;
+    }
+    Waits {
+        wait,
+        longest,
+        busy,
+    }
+}
+
+// The waits at a node of this kind. A source and a split serve no job, so that each stay there is a wait.
+fn waits_of(rows: &Rows, kind: &Kind, visits: &Visits, stays: &Stays) -> Waits
+    requires visits { AreVisits rows.now kind.now visits.now }
+    requires area { stays.now.area ≡ sum (column_sojourns visits.now.arrive visits.now.fate) }
+    requires longest { stays.now.longest ≡ fold max 0 (column_sojourns visits.now.arrive visits.now.fate) }
+    ensures wait { result.wait ≡ sum (column_waits rows.now kind.now visits.now.job visits.now.arrive visits.now.fate) }
+    ensures longest { result.longest ≡ fold max 0 (column_waits rows.now kind.now visits.now.job visits.now.arrive visits.now.fate) }
+    ensures busy { result.busy ≡ sum (column_services rows.now kind.now visits.now.job visits.now.fate) }
+    ensures small { result.busy ≤ 2 ^ 84 }
+{
+    match kind {
+        Kind::Source | Kind::Split(_) => Waits {
+            wait: stays.area,
+            longest: stays.longest,
+            busy: 0,
+        },
+        _ => each_wait(rows, kind, visits),
+    }
+}
+
 // The peak of a node of this kind, where this is the greatest number of jobs just after a visit came.
 fn peak_of(kind: &Kind, greatest: u32, visits: &Visits) -> u32
     requires { greatest ≡ fold max 0 (column_numbers visits.now.found visits.now.fate) }
@@ -114,11 +207,11 @@ fn peak_of(kind: &Kind, greatest: u32, visits: &Visits) -> u32
 {
     match kind {
         Kind::Source | Kind::Split(_) => 0,
-        Kind::Server(_) | Kind::Delay(_) => greatest,
+        Kind::Server(_) | Kind::Delay(_) | Kind::Loss { .. } => greatest,
     }
 }
 
-/// The totals of a node of this kind, from its visits alone, in one pass over them.
+/// The totals of a node of this kind, from its visits alone.
 ///
 /// The busy time is below 2^100 ticks.
 pub fn totals(rows: &Rows, kind: &Kind, visits: &Visits) -> NodeTotals
@@ -127,27 +220,16 @@ pub fn totals(rows: &Rows, kind: &Kind, visits: &Visits) -> NodeTotals
     ensures small { result.busy < 2 ^ 100 }
 {
     let came = visits.job.len() as u32;
-    let (mut lost, mut longest, mut greatest) = (0u32, 0u64, 0u32);
-    let (mut wait, mut busy, mut area) = (0u128, 0u128, 0u128);
-    for at in 0..visits.job.len() {
-        let (job, arrive) = (*visits.job.get(at), *visits.arrive.get(at));
-        let (found, fate) = (*visits.found.get(at), *visits.fate.get(at));
-        let waited = wait_of(rows, kind, job, arrive, fate);
-        lost += one_if_lost(fate);
-        wait += waited as u128;
-        longest = longest.max(waited);
-        busy += service_of(rows, kind, job, fate) as u128;
-        area += sojourn_of(arrive, fate) as u128;
-        greatest = greatest.max(number_after(found, fate));
-    }
+    let stays = stays_of(visits);
+    let waits = waits_of(rows, kind, visits, &stays);
     NodeTotals {
         came,
-        left: came - lost,
-        lost,
-        wait,
-        longest,
-        busy,
-        area,
-        peak: peak_of(kind, greatest, visits),
+        left: came - stays.lost,
+        lost: stays.lost,
+        wait: waits.wait,
+        longest: waits.longest,
+        busy: waits.busy,
+        area: stays.area,
+        peak: peak_of(kind, stays.greatest, visits),
     }
 }

@@ -1,27 +1,52 @@
-use Rattle.std.proofs.Common.{◌≡◌, ◌++◌, ◌∙◌, ap, sym, drop, arith, ℕ, suc, List, ◌∷◌, [], length, length-append}
+use Rattle.std.proofs.Common.{◌≡◌, ◌<◌, ◌==◌, ◌++◌, ◌∙◌, ◌∷◌, [], true, false, ap, sym, drop, arith}
 use Rattle.std.specs.List.{zip}
+use Rattle.std.specs.Vec.{vec_len, vec_capacity}
+use Rattle.std.proofs.lemmas.Bool.Decides.{nat_tests}
 use Rattle.mq_core.specs.Columns.{rows_at}
-use Rattle.mq_engine.proofs.Lists.{zip-push}
+use Rattle.mq_engine.proofs.Lists.{count-at, zip-push}
 use Rattle.mq_engine.proofs.Sorted.{rows-skip, rows-take}
 use Rattle.mq_engine.proofs.arrivals.rows_of.Goals as goal
-use Rattle.mq_engine.proofs.arrivals.rows_of.Goals.{then-get-node+in_ok-push+in_ok-push-2, else-get-node}
+use Rattle.mq_engine.proofs.arrivals.rows_of.Goals.{then-get-node, else-get-node}
 
-grew : (xs ys : List ℕ) (x : ℕ) → ys ≡ xs ++ x ∷ [] → length ys ≡ suc (length xs)
-grew xs ys x h = let e = ap length h ∙ length-append xs (x ∷ []) in omega arith
+pub push_reserved-requires : goal.push_reserved-requires
+push_reserved-requires c =
+    let next = count-at (λ other. other == c.args.node) c.args.source.now c.loop-job.job c.get.result.now c.get.ensures in
+    let here : (c.get.result.now == c.args.node) ≡ true = grind (arith, nat_tests) in
+    let left = rw here at next in
+    omega arith
 
 pub loop-job-preserved : goal.loop-job-preserved
 loop-job-preserved c =
+    let i = c.loop-job.invariant in
+    let next = count-at (λ other. other == c.args.node) c.args.source.now c.loop-job.job c.get.result.now c.get.ensures in
     elim c.if-get-node.branch [
-      | then-get-node+in_ok-push+in_ok-push-2 w ↦ (
+      | then-get-node w ↦ (
+          let here : (c.get.result.now == c.args.node) ≡ true = let e = w.if-get-node.true in grind (arith, nat_tests) in
+          let left = rw here at next in
           let time = w.get-then-get-node.result.now in
-          let jobs : c.if-get-node.jobs ≡ c.loop-job.jobs ++ c.loop-job.job ∷ [] = w.jobs-is ∙ w.in_ok-push.ensures.ok in
-          let times : c.if-get-node.times ≡ c.loop-job.times ++ time ∷ [] = w.times-is ∙ w.in_ok-push-2.ensures.ok in
+          let jobs : c.if-get-node.jobs.items ≡ c.loop-job.jobs.items ++ c.loop-job.job ∷ [] = ap (λ v. v.items) w.jobs-is ∙ w.push_reserved.ensures.items in
+          let times : c.if-get-node.times.items ≡ c.loop-job.times.items ++ time ∷ [] = ap (λ v. v.items) w.times-is ∙ w.push_reserved-then-get-node.ensures.items in
+          let jobs_len = ap vec_len w.jobs-is ∙ w.push_reserved.ensures.len in
+          let times_len = ap vec_len w.times-is ∙ w.push_reserved-then-get-node.ensures.len in
+          let jobs_room = ap vec_capacity w.jobs-is ∙ w.push_reserved.ensures.capacity in
+          let times_room = ap vec_capacity w.times-is ∙ w.push_reserved-then-get-node.ensures.capacity in
           record {
-            even = let a = grew _ _ _ jobs in let b = grew _ _ _ times in omega arith;
-            items = rows-take c.args.node c.loop-job.job c.get.result.now time (zip c.loop-job.times c.loop-job.jobs) (zip c.if-get-node.times c.if-get-node.jobs) c.args.source.now c.args.time.now _ c.get.ensures w.get-then-get-node.ensures w.if-get-node.true (zip-push c.loop-job.times c.loop-job.jobs _ _ time c.loop-job.job c.loop-job.invariant.even times jobs) c.loop-job.invariant.items;
+            even = omega arith;
+            items = rows-take c.args.node c.loop-job.job c.get.result.now time (zip c.loop-job.times.items c.loop-job.jobs.items) (zip c.if-get-node.times.items c.if-get-node.jobs.items) c.args.source.now c.args.time.now _ c.get.ensures w.get-then-get-node.ensures w.if-get-node.true (zip-push c.loop-job.times.items c.loop-job.jobs.items _ _ time c.loop-job.job (omega arith) times jobs) i.items;
+            room = omega arith;
+            space = omega arith;
           })
-      | else-get-node w ↦ record {
-        even = ap length w.jobs-is ∙ (c.loop-job.invariant.even ∙ sym (ap length w.times-is));
-        items = rows-skip c.args.node c.loop-job.job c.get.result.now (zip c.if-get-node.times c.if-get-node.jobs) c.args.source.now c.args.time.now _ c.get.ensures (omega arith) w.if-get-node.false (ap (λ l. l ++ rows_at c.args.node c.loop-job.job (drop c.loop-job.job c.args.source.now) (drop c.loop-job.job c.args.time.now)) (λ k. zip (w.times-is k) (w.jobs-is k)) ∙ c.loop-job.invariant.items);
-      }
+      | else-get-node w ↦ (
+          let elsewhere : (c.get.result.now == c.args.node) ≡ false = let e = w.if-get-node.false in grind (arith, nat_tests) in
+          let left = rw elsewhere at next in
+          let jobs_len = ap vec_len w.jobs-is in
+          let times_len = ap vec_len w.times-is in
+          let jobs_room = ap vec_capacity w.jobs-is in
+          let times_room = ap vec_capacity w.times-is in
+          record {
+            even = omega arith;
+            items = rows-skip c.args.node c.loop-job.job c.get.result.now (zip c.if-get-node.times.items c.if-get-node.jobs.items) c.args.source.now c.args.time.now _ c.get.ensures (omega arith) w.if-get-node.false (ap (λ l. l ++ rows_at c.args.node c.loop-job.job (drop c.loop-job.job c.args.source.now) (drop c.loop-job.job c.args.time.now)) (λ k. zip (ap (λ v. v.items) w.times-is k) (ap (λ v. v.items) w.jobs-is k)) ∙ i.items);
+            room = omega arith;
+            space = omega arith;
+          })
     ]
