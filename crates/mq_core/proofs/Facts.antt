@@ -18,7 +18,6 @@ use Rattle.mq_core.specs.declared.model.Rows.{Rows}
 use Rattle.mq_core.proofs.Joins.{Joining, joining-opens, joining-waits, joining-arrives, joining-ends}
 use Rattle.mq_core.proofs.Kept.{Fact, Keeps}
 use Rattle.mq_core.proofs.Loses.{Losing, losing-opens, losing-waits, losing-arrives, losing-ends}
-use Rattle.mq_core.proofs.Soundness.{HasPlaces, sound-places}
 use Rattle.mq_core.proofs.Shapes.{IsShaped, node-shaped}
 use Rattle.mq_core.proofs.Delays.{Delaying, delaying-opens, delaying-waits, delaying-arrives, delaying-ends}
 use Rattle.mq_core.proofs.Tandems.{Tandeming, tandeming-opens, tandeming-waits, tandeming-arrives, tandeming-ends}
@@ -65,14 +64,14 @@ abbrev pub node_fact : Rows → Option Node → Fact Local
 node_fact rows None v s fs now = fs ≡ []
 node_fact rows (Some node) v s fs now = kind_fact rows node.kind v s fs now
 
-kind-opens : (rows : Rows) (kind : Kind) (v : ℕ) → HasPlaces kind → IsShaped kind → kind_fact rows kind v (record { local = kind_opening kind; visits = []; emitted = []; area = 0; busy = 0; peak = 0 }) [] 0
-kind-opens rows Source v some shape = record { left = refl; none = refl }
-kind-opens rows (Server demand) v some shape = serving-opens rows demand v
-kind-opens rows (Delay demand) v some shape = delaying-opens rows demand v
-kind-opens rows (Loss places demand) v some shape = (some, losing-opens rows places demand v)
-kind-opens rows (Tandem stages) v some shape = tandeming-opens rows stages v some
-kind-opens rows (ForkJoin branches) v some shape = joining-opens rows branches v shape
-kind-opens rows (Split route) v some shape = record { left = refl; none = refl }
+kind-opens : (rows : Rows) (kind : Kind) (v : ℕ) → IsShaped kind → kind_fact rows kind v (record { local = kind_opening kind; visits = []; emitted = []; area = 0; busy = 0; peak = 0 }) [] 0
+kind-opens rows Source v shape = record { left = refl; none = refl }
+kind-opens rows (Server demand) v shape = serving-opens rows demand v
+kind-opens rows (Delay demand) v shape = delaying-opens rows demand v
+kind-opens rows (Loss places demand) v shape = (shape, losing-opens rows places demand v)
+kind-opens rows (Tandem stages) v shape = tandeming-opens rows stages v shape
+kind-opens rows (ForkJoin branches) v shape = joining-opens rows branches v shape
+kind-opens rows (Split route) v shape = record { left = refl; none = refl }
 
 kind-waits : (rows : Rows) (kind : Kind) (v : ℕ) (s : Station Local) (area busy : ℕ) (fs : List Event) (now later : ℕ) → now ≤ later → kind_fact rows kind v s fs now → kind_fact rows kind v (record s { area = area; busy = busy }) fs later
 kind-waits rows Source v s area busy fs now later l h = h
@@ -125,9 +124,9 @@ node-ends : (peak : ℕ) (rows : Rows) (o : Option Node) (rank : ℕ → ℕ) (v
 node-ends peak rows None rank v server position s fs rest now first h = absurd (no_finish rank fs rest _ h first)
 node-ends peak rows (Some node) rank v server position s fs rest now first h = kind-ends peak rows node.kind rank v server position s fs rest now first h
 
-node-opens : (rows : Rows) (o : Option Node) (v : ℕ) → ((node : Node) → o ≡ Some node → HasPlaces node.kind) → IfSome o (λ node. IsShaped node.kind) → node_fact rows o v (record { local = node_opening o; visits = []; emitted = []; area = 0; busy = 0; peak = 0 }) [] 0
-node-opens rows None v some shape = refl
-node-opens rows (Some node) v some shape = kind-opens rows node.kind v (some node refl) shape
+node-opens : (rows : Rows) (o : Option Node) (v : ℕ) → IfSome o (λ node. IsShaped node.kind) → node_fact rows o v (record { local = node_opening o; visits = []; emitted = []; area = 0; busy = 0; peak = 0 }) [] 0
+node-opens rows None v shape = refl
+node-opens rows (Some node) v shape = kind-opens rows node.kind v shape
 
 node-waits : (rows : Rows) (o : Option Node) (v : ℕ) (s : Station Local) (area busy : ℕ) (fs : List Event) (now later : ℕ) → now ≤ later → node_fact rows o v s fs now → node_fact rows o v (record s { area = area; busy = busy }) fs later
 node-waits rows None v s area busy fs now later l h = h
@@ -137,7 +136,7 @@ pub standard-keeps : (plan : Plan) (rows : Rows) (reader : ℕ → ℕ → Optio
 unfolding standard_opening standard_handle
 standard-keeps plan rows reader =
     record {
-      opens = λ v. node-opens rows (slice_get plan.net.nodes v) v (sound-places plan.net plan.sound v) (node-shaped plan v);
+      opens = λ v. node-opens rows (slice_get plan.net.nodes v) v (node-shaped plan v);
       waits = λ v s fs now later h l _. node-waits rows (slice_get plan.net.nodes v) v s _ _ fs now later l h;
       arrives = λ v port job s fs now h soon. node-arrives _ rows (slice_get plan.net.nodes v) v port s fs now (record { job = job; arrive = now; found = standard_jobs plan rows v s.visits s.local }) refl soon h;
       ends = λ v server position s fs rest now h first. node-ends _ rows (slice_get plan.net.nodes v) (wired_by plan rows reader).rank v server position s fs rest now first h;

@@ -1,6 +1,6 @@
 -- The branches of a fork-join between two events, and who went through all of them.
-use Rattle.std.proofs.Common.{◌≡◌, ◌⊎◌, inl, inr, ℕ, zero, suc, ◌+◌, ◌<◌, ◌≤◌, Bool, true, false, cond, ltb, List, [], ◌∷◌, ◌++◌, length, Some, sym, refl, ap, ◌∙◌, subst, arith, length-append, max, min}
-use Rattle.std.proofs.lemmas.Bool.Decides.{nat_tests}
+use Rattle.std.proofs.Common.{◌≡◌, ◌⊎◌, inl, inr, ℕ, zero, suc, ◌+◌, ◌<◌, ◌≤◌, Bool, true, false, ltb, List, [], ◌∷◌, ◌++◌, length, Some, sym, refl, ap, ◌∙◌, subst, arith, length-append, max, min}
+use Rattle.std.proofs.lemmas.Bool.{ltb-true, ltb-false}
 use Rattle.std.proofs.lemmas.List.{append-nil}
 use Rattle.std.specs.Prelude.{slice_get, filter}
 use Rattle.std.specs.List.{AllByRecursion as Each}
@@ -12,9 +12,9 @@ use Rattle.mq_core.specs.Handling.{demand_of_job, demand_at}
 use Rattle.mq_core.specs.ForkJoinHandler.{Moved, Forked, goes_in, finishes_at, each_branch, least_through}
 use Rattle.mq_core.specs.declared.model.Demand.{Demand}
 use Rattle.mq_core.specs.declared.model.Rows.{Rows}
-use Rattle.mq_core.proofs.Each.{Each-append, Each-weaker, Each-any}
-use Rattle.mq_core.proofs.ForkServers.{Stands, Series, Asks, Lets, is_at_server, departing, departing-get, other-finishes, finishes-append}
-use Rattle.mq_core.proofs.ForkSeries.{Within, Behind, Moves, series-waits, series-same, series-joins, series-still, series-ends, goes_in-within, finishes_at-within}
+use Rattle.mq_core.proofs.Each.{Each-append, Each-weaker}
+use Rattle.mq_core.proofs.ForkServers.{Series, Asks, Lets, is_at_server, departing, departing-get, get-first, other-finishes, finishes-append}
+use Rattle.mq_core.proofs.ForkSeries.{Within, Behind, series-waits, series-same, series-joins, series-still, series-ends, goes_in-within, finishes_at-within}
 
 -- place by place the later of two visits, with the job of the first
 abbrev pub later_visits : List Visit → List Visit → List Visit
@@ -100,11 +100,6 @@ module _ (rows : Rows) (v : ℕ) where
   series-within server now [] visits queues ended pend h = subst (Each (λ (x : Visit). x.arrive ≤ now)) h.1 h.2
   series-within server now (d ∷ ds) visits [] ended pend h = absurd h
   series-within server now (d ∷ ds) visits (queue ∷ queues) ended pend (gone, here, h, rest) = series-within (server + 1) now ds (departing rows d 0 gone) queues ended pend rest
-
-  get-first : (k : ℕ) (xs ys : List Visit) (x : Visit) → slice_get xs k ≡ Some x → slice_get (xs ++ ys) k ≡ Some x
-  get-first k [] ys x e = absurd cc
-  get-first zero (x' ∷ xs) ys x e = e
-  get-first (suc k) (x' ∷ xs) ys x e = get-first k xs ys x e
 
   -- who went through a branch has the job of its visit
   series-alike : (server now : ℕ) (demands : List Demand) (visits : List Visit) (queues : List (List ℕ)) (ended : List Visit) (pend : ℕ → List Event) → Series rows v server demands visits queues ended pend now → Alike visits ended
@@ -195,12 +190,11 @@ module _ (rows : Rows) (v : ℕ) where
   branching-arrives all now position server (ds ∷ more) visits [] endeds pend new x filled at place asks add h = absurd h
   branching-arrives all now position server (ds ∷ more) visits (b ∷ bs) [] pend new x filled at place asks add h = absurd h
   branching-arrives all now position server (ds ∷ more) visits (b ∷ bs) (e ∷ es) pend new x filled at place asks add h =
-      let first = first_of ds b.queues filled.0 h.0 (add-first v server (length ds) pend new (goes_in rows all now server ds b.queues position).services rest.services (Each-weaker _ _ (λ s k. k.0) rest.services (each_branch-within part (server + length ds) more bs (λ f ds queues. goes_in-within rows v all now f position ds queues))) add) in
-      (
+      let first = first_of ds b.queues filled.0 h.0 (add-first v server (length ds) pend new (goes_in rows all now server ds b.queues position).services rest.services (Each-weaker _ _ (λ s k. k.0) rest.services (each_branch-within part (server + length ds) more bs (λ f ds queues. goes_in-within rows v all now f position ds queues))) add) in (
         first.0,
         ap (λ n. b.through + n) first.1 ∙ (let zero_more : b.through + 0 ≡ b.through = omega arith in zero_more ∙ h.1),
         branching-arrives all now position (server + length ds) more visits bs es pend new x filled.1 at place asks
-        (add-behind v server (length ds) pend new (goes_in rows all now server ds b.queues position).services rest.services (Each-weaker _ _ (λ s k. k.1) (goes_in rows all now server ds b.queues position).services (goes_in-within rows v all now server position ds b.queues)) add) h.2,
+            (add-behind v server (length ds) pend new (goes_in rows all now server ds b.queues position).services rest.services (Each-weaker _ _ (λ s k. k.1) (goes_in rows all now server ds b.queues position).services (goes_in-within rows v all now server position ds b.queues)) add) h.2,
       )
     where
       part : ℕ → List Demand → List (List ℕ) → Moved
@@ -291,12 +285,6 @@ module _ (rows : Rows) (v : ℕ) where
       adds-behind : (j : ℕ) → server + length ds ≤ j → new j ≡ pend j ++ filter (is_at_server j) (finishes_of v rest.services)
       adds-behind = add-behind v server (length ds) pend new moved.services rest.services (Each-weaker _ _ (λ s k. k.1) moved.services (finishes_at-within rows v all now finished server ds b.queues)) add
 
-      within : (a b : ℕ) → ltb a b ≡ true → a < b
-      within a b e = grind (arith, nat_tests)
-
-      beyond : (a b : ℕ) → ltb a b ≡ false → b ≤ a
-      beyond a b e = grind (arith, nat_tests)
-
       at-first : finished < server + length ds → Forks rows v server (ds ∷ more) visits (e ∷ es) new now position (put moved b rest)
       at-first u =
           let still = branching-still all now finished (server + length ds) more visits bs es old u h.2 in
@@ -345,5 +333,5 @@ module _ (rows : Rows) (v : ℕ) where
           ((j : ℕ) → server + length ds ≤ j → new j ≡ pend j ++ filter (is_at_server j) (finishes_of v rest.services)) →
           Branching rows v (server + length ds) more visits bs es old now → Forks rows v (server + length ds) more visits es new now position rest) →
           Forks rows v server (ds ∷ more) visits (e ∷ es) new now position (put moved b rest)
-      go true c ih = at-first (within finished (server + length ds) c)
-      go false c ih = let l = beyond finished (server + length ds) c in at-others l (ih l (omega arith) asks first same adds-behind h.2)
+      go true c ih = at-first (ltb-true finished (server + length ds) c)
+      go false c ih = let l = ltb-false finished (server + length ds) c in at-others l (ih l (omega arith) asks first same adds-behind h.2)

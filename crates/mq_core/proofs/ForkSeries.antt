@@ -1,5 +1,5 @@
 -- Servers in series take their steps: a visit comes in, time goes by, the front of one goes on.
-use Rattle.std.proofs.Common.{◌≡◌, ◌⊎◌, inl, inr, ℕ, zero, suc, ◌+◌, ◌<◌, ◌≤◌, Bool, true, false, cond, eqb, eq-eqb, eqb-true, List, [], ◌∷◌, ◌++◌, length, Some, sym, refl, ap, ◌∙◌, subst, arith, append_assoc, length-append}
+use Rattle.std.proofs.Common.{◌≡◌, ◌⊎◌, inl, inr, ℕ, suc, ◌+◌, ◌<◌, ◌≤◌, Bool, true, false, cond, eqb, eq-eqb, eqb-true, List, [], ◌∷◌, ◌++◌, length, Some, sym, refl, ap, ◌∙◌, subst, arith}
 use Rattle.std.proofs.lemmas.List.{append-nil}
 use Rattle.std.specs.Prelude.{slice_get, filter}
 use Rattle.std.specs.List.{AllByRecursion as Each}
@@ -12,8 +12,8 @@ use Rattle.mq_core.specs.Served.{served}
 use Rattle.mq_core.specs.declared.model.Demand.{Demand}
 use Rattle.mq_core.specs.declared.model.Rows.{Rows}
 use Rattle.mq_core.proofs.Each.{Each-append, Each-weaker, not_true}
-use Rattle.mq_core.proofs.Serves.{last_served, last_served-push, positions, slice_get-middle}
-use Rattle.mq_core.proofs.ForkServers.{Stands, Series, Asks, Lets, is_at_server, departing, departing-length, departing-push, departing-within, departing-get, next_at, own-finishes, other-finishes, finishes-append, begins_alone-own, begins_at-own, begins_alone-behind, stands-arrives, stands-ends}
+use Rattle.mq_core.proofs.Serves.{last_served, positions, slice_get-middle}
+use Rattle.mq_core.proofs.ForkServers.{Stands, Series, Asks, Lets, is_at_server, departing, departing-length, departing-push, departing-get, get-first, own-finishes, other-finishes, finishes-append, begins_alone-own, begins_at-own, begins_alone-behind, stands-arrives, stands-ends}
 
 -- a service of a server from the first number on and below the second
 abbrev pub Within : ℕ → ℕ → Service → Type 0
@@ -27,38 +27,35 @@ module _ (rows : Rows) (v : ℕ) where
   pub series-waits : (server now later : ℕ) (demands : List Demand) (visits : List Visit) (queues : List (List ℕ)) (ended : List Visit) (pend : ℕ → List Event) → now ≤ later → Series rows v server demands visits queues ended pend now → Series rows v server demands visits queues ended pend later
   series-waits server now later [] visits queues ended pend l h = (h.0, h.1, Each-weaker _ _ (λ x k. omega arith) visits h.2)
   series-waits server now later (d ∷ ds) visits [] ended pend l h = absurd h
-  series-waits server now later (d ∷ ds) visits (queue ∷ queues) ended pend l (gone, here, h, rest) =
-      (
-        gone,
-        here,
-        record { parts = h.parts; waiting = h.waiting; next = h.next; before = (let low = h.before in omega arith); came = Each-weaker _ _ (λ x k. omega arith) visits h.came },
-        series-waits (server + 1) now later ds (departing rows d 0 gone) queues ended pend l rest,
-      )
+  series-waits server now later (d ∷ ds) visits (queue ∷ queues) ended pend l (gone, here, h, rest) = (
+    gone,
+    here,
+    record { parts = h.parts; waiting = h.waiting; next = h.next; before = (let low = h.before in omega arith); came = Each-weaker _ _ (λ x k. omega arith) visits h.came },
+    series-waits (server + 1) now later ds (departing rows d 0 gone) queues ended pend l rest,
+  )
 
   -- only what is pending at these servers matters
   pub series-same : (server now : ℕ) (demands : List Demand) (visits : List Visit) (queues : List (List ℕ)) (ended : List Visit) (pend new : ℕ → List Event) → ((j : ℕ) → server ≤ j → j < server + length demands → new j ≡ pend j) →
       Series rows v server demands visits queues ended pend now → Series rows v server demands visits queues ended new now
   series-same server now [] visits queues ended pend new e h = h
   series-same server now (d ∷ ds) visits [] ended pend new e h = absurd h
-  series-same server now (d ∷ ds) visits (queue ∷ queues) ended pend new e (gone, here, h, rest) =
-      (
-        gone,
-        here,
-        record { parts = h.parts; waiting = h.waiting; next = e server (omega arith) (omega arith) ∙ h.next; before = h.before; came = h.came },
-        series-same (server + 1) now ds (departing rows d 0 gone) queues ended pend new (λ j l u. e j (omega arith) (omega arith)) rest,
-      )
+  series-same server now (d ∷ ds) visits (queue ∷ queues) ended pend new e (gone, here, h, rest) = (
+    gone,
+    here,
+    record { parts = h.parts; waiting = h.waiting; next = e server (omega arith) (omega arith) ∙ h.next; before = h.before; came = h.came },
+    series-same (server + 1) now ds (departing rows d 0 gone) queues ended pend new (λ j l u. e j (omega arith) (omega arith)) rest,
+  )
 
   -- a visit comes to the first of some servers
   pub series-joins : (all : List Visit) (now server position : ℕ) (d : Demand) (ds : List Demand) (visits : List Visit) (queue : List ℕ) (queues : List (List ℕ)) (ended : List Visit) (pend new : ℕ → List Event) (x : Visit) → x.arrive ≡ now → position ≡ length visits → demand_at rows d all position ≡ demand_of_job rows d x.job →
       ((j : ℕ) → server ≤ j → j < server + suc (length ds) → new j ≡ pend j ++ filter (is_at_server j) (finishes_of v (begins_alone rows d all now server queue position))) →
       Series rows v server (d ∷ ds) visits (queue ∷ queues) ended pend now → Series rows v server (d ∷ ds) (visits ++ x ∷ []) ((queue ++ position ∷ []) ∷ queues) ended new now
-  series-joins all now server position d ds visits queue queues ended pend new x at place asks add (gone, here, h, rest) =
-      (
-        gone,
-        here ++ x ∷ [],
-        stands-arrives rows v all d now server position visits queue gone here (pend server) (new server) x at place asks (add server (omega arith) (omega arith) ∙ ap (λ l. pend server ++ l) (own-finishes v server (begins_alone rows d all now server queue position) (begins_alone-own rows v d all now server queue position))) h,
-        series-same (server + 1) now ds (departing rows d 0 gone) queues ended pend new (λ j l u. add j (omega arith) (omega arith) ∙ (ap (λ l. pend j ++ l) (other-finishes v j (begins_alone rows d all now server queue position) (Each-weaker _ _ (λ s e k. omega arith) (begins_alone rows d all now server queue position) (begins_alone-own rows v d all now server queue position))) ∙ append-nil (pend j))) rest,
-      )
+  series-joins all now server position d ds visits queue queues ended pend new x at place asks add (gone, here, h, rest) = (
+    gone,
+    here ++ x ∷ [],
+    stands-arrives rows v all d now server position visits queue gone here (pend server) (new server) x at place asks (add server (omega arith) (omega arith) ∙ ap (λ l. pend server ++ l) (own-finishes v server (begins_alone rows d all now server queue position) (begins_alone-own rows v d all now server queue position))) h,
+    series-same (server + 1) now ds (departing rows d 0 gone) queues ended pend new (λ j l u. add j (omega arith) (omega arith) ∙ (ap (λ l. pend j ++ l) (other-finishes v j (begins_alone rows d all now server queue position) (Each-weaker _ _ (λ s e k. omega arith) (begins_alone rows d all now server queue position) (begins_alone-own rows v d all now server queue position))) ∙ append-nil (pend j))) rest,
+  )
 
 -- servers in series after an event: what goes through, and that what begins is behind the position that finished
 pub record Moves (rows : Rows) (v server : ℕ) (demands : List Demand) (visits ended : List Visit) (new : ℕ → List Event) (now position : ℕ) (moved : Moved) : Type 0 where
@@ -151,11 +148,6 @@ module _ (rows : Rows) (v : ℕ) where
   asks-on all d visits gone here parts asks e k z h =
       let r = departing-get rows d 0 k gone z h in
       asks e k r.0 (ap (λ l. slice_get l k) parts ∙ get-first k gone here r.0 r.1) ∙ ap (demand_of_job rows e) (sym r.2)
-    where
-      get-first : (k : ℕ) (xs ys : List Visit) (x : Visit) → slice_get xs k ≡ Some x → slice_get (xs ++ ys) k ≡ Some x
-      get-first k [] ys x e = absurd cc
-      get-first zero (x' ∷ xs) ys x e = e
-      get-first (suc k) (x' ∷ xs) ys x e = get-first k xs ys x e
 
   goes_on-within : (all : List Visit) (now server : ℕ) (d : Demand) (ds : List Demand) (queue : List ℕ) (queues : List (List ℕ)) → Each (Within server (server + suc (length ds))) (goes_on rows all now server d ds queue queues).services
   goes_on-within all now server d ds [] queues = tt

@@ -1,18 +1,17 @@
 -- A branch of a fork-join between two events: servers in series.
-use Rattle.std.proofs.Common.{◌≡◌, ◌⊎◌, inl, inr, ℕ, zero, suc, ◌+◌, ◌<◌, ◌≤◌, Bool, true, false, eqb, eq-eqb, eqb-true, List, [], ◌∷◌, ◌++◌, length, Some, sym, refl, ap, ◌∙◌, subst, arith, append_assoc, length-append, max}
-use Rattle.std.proofs.lemmas.List.{append-nil, map-append}
+use Rattle.std.proofs.Common.{◌≡◌, ◌⊎◌, ℕ, zero, suc, ◌+◌, ◌≤◌, Bool, false, eqb, eq-eqb, eqb-true, List, [], ◌∷◌, ◌++◌, length, Some, sym, refl, ap, ◌∙◌, subst, arith, append_assoc, length-append, max}
+use Rattle.std.proofs.lemmas.List.{map-append}
 use Rattle.std.proofs.lemmas.List.Elements.{filter-append}
 use Rattle.std.specs.Prelude.{slice_get, filter, ◌==◌}
 use Rattle.std.specs.List.{AllByRecursion as Each}
 use Rattle.mq_core.specs.Event.{Event, time_of, earliest, sooner_of}
 use Rattle.mq_core.specs.Event.Event.{Arrive, Finish}
 use Rattle.mq_core.specs.Machine.{Visit, Service, finishes_of}
-use Rattle.mq_core.specs.Handling.{demand_of_job, demand_of_visit, demand_at, begins_at, begins_alone}
-use Rattle.mq_core.specs.ForkJoinHandler.{goes_in, goes_on}
+use Rattle.mq_core.specs.Handling.{demand_of_job, demand_at, begins_at, begins_alone}
 use Rattle.mq_core.specs.Served.{served}
 use Rattle.mq_core.specs.declared.model.Demand.{Demand}
 use Rattle.mq_core.specs.declared.model.Rows.{Rows}
-use Rattle.mq_core.proofs.Each.{Each-append, Each-back, Each-weaker, not_true}
+use Rattle.mq_core.proofs.Each.{Each-append, Each-back, not_true}
 use Rattle.mq_core.proofs.Serves.{last_served, last_served-push, length-push, max-least, positions, positions-push, pair-inj, slice_get-middle}
 
 -- a finish of this server
@@ -77,6 +76,12 @@ pub departing-get : (rows : Rows) (demand : Demand) (last k : ℕ) (xs : List Vi
 departing-get rows demand last k [] z h = absurd cc
 departing-get rows demand last zero (x ∷ xs) z h = (x, refl, (let e : record x { arrive = served rows demand last x } ≡ z = cc in ap (λ (y : Visit). y.job) (sym e)))
 departing-get rows demand last (suc k) (x ∷ xs) z h = departing-get rows demand (served rows demand last x) k xs z h
+
+-- a visit at a place of the first list
+pub get-first : (k : ℕ) (xs ys : List Visit) (x : Visit) → slice_get xs k ≡ Some x → slice_get (xs ++ ys) k ≡ Some x
+get-first k [] ys x e = absurd cc
+get-first zero (x' ∷ xs) ys x e = e
+get-first (suc k) (x' ∷ xs) ys x e = get-first k xs ys x e
 
 -- the finishes of other servers
 pub other-finishes : (v j : ℕ) (services : List Service) → Each (λ (s : Service). s.server ≡ j → ⊥) services → filter (is_at_server j) (finishes_of v services) ≡ []
@@ -158,8 +163,7 @@ module _ (rows : Rows) (v : ℕ) where
       let both = pair-inj (Finish (served rows demand (last_served rows demand 0 gone) y) v server (length gone), []) (Finish now v finished position, pend) one in
       let time : served rows demand (last_served rows demand 0 gone) y ≡ now = ap time_of both.0 in
       let final : last_served rows demand 0 (gone ++ y ∷ []) ≡ now = last_served-push rows demand 0 gone y ∙ time in
-      let parts : visits ≡ (gone ++ y ∷ []) ++ ys = h.parts ∙ sym (append_assoc gone (y ∷ []) ys) in
-      (
+      let parts : visits ≡ (gone ++ y ∷ []) ++ ys = h.parts ∙ sym (append_assoc gone (y ∷ []) ys) in (
         record {
           parts = parts;
           waiting = ap (λ k. positions k ys) (sym (length-push gone y));

@@ -1,9 +1,9 @@
 -- One step of a loop over the servers or the branches of a fork-join.
-use Rattle.std.proofs.Common.{◌≡◌, ℕ, zero, suc, ◌+◌, ◌*◌, ◌≤◌, ◌^◌, List, [], ◌∷◌, ◌++◌, drop, fold, length, map, max, Some, sym, ap, ◌∙◌, subst, arith, drop-cons, length-append}
+use Rattle.std.proofs.Common.{◌≡◌, ℕ, zero, suc, ◌+◌, List, [], ◌∷◌, drop, fold, length, map, max, Some, sym, ap, ◌∙◌, subst, arith, drop-cons, length-append}
 use Rattle.std.proofs.lemmas.Option.{slice_get_within, get_or_from_slice_get}
 use Rattle.std.specs.Prelude.{slice_get, sum_by}
 use Rattle.std.specs.List.{AllByRecursion as Each, flat_map}
-use Rattle.mq_core.specs.Asked.{AreTold, HasDemand}
+use Rattle.mq_core.specs.Asked.{AreTold}
 use Rattle.mq_core.specs.Handling.{demand_of_job}
 use Rattle.mq_core.specs.declared.model.Demand.{Demand}
 use Rattle.mq_core.specs.declared.model.Rows.{Rows}

@@ -1,27 +1,28 @@
 -- How long the servers of a fork-join are busy.
-use Rattle.std.proofs.Common.{◌≡◌, ◌⊎◌, inl, inr, ℕ, zero, suc, ◌+◌, ◌-◌, ◌*◌, ◌<◌, ◌≤◌, Bool, true, false, cond, eqb, ltb, eq-eqb, eqb-true, List, [], ◌∷◌, ◌++◌, length, Some, sym, refl, ap, ◌∙◌, subst, arith, length-append, map}
+use Rattle.std.proofs.Common.{◌≡◌, inr, ℕ, zero, suc, ◌+◌, ◌-◌, ◌*◌, ◌<◌, ◌≤◌, Bool, true, false, cond, eqb, ltb, eq-eqb, eqb-true, List, [], ◌∷◌, ◌++◌, length, Some, sym, refl, ap, ◌∙◌, subst, arith, length-append, map}
+use Rattle.std.proofs.lemmas.Bool.{ltb-true, ltb-false}
 use Rattle.std.proofs.lemmas.Bool.Decides.{nat_tests}
 use Rattle.std.proofs.lemmas.List.{map-append}
 use Rattle.std.proofs.lemmas.List.Sums.{sum_by-append, sum_by-cons}
-use Rattle.std.specs.Prelude.{slice_get, filter, count_by}
+use Rattle.std.specs.Prelude.{filter, count_by}
 use Rattle.std.specs.List.{AllByRecursion as Each, flat_map}
 use Rattle.mq_core.specs.Event.{Event, time_of, earliest, sooner_of}
 use Rattle.mq_core.specs.Event.Event.{Arrive, Finish}
 use Rattle.mq_core.specs.Machine.{Visit, Emission, Service, finishes_of}
 use Rattle.mq_core.specs.Local.{Local, Branch}
-use Rattle.mq_core.specs.Handling.{demand_of_visit, demand_at, begins_at, begins_alone, latest}
+use Rattle.mq_core.specs.Handling.{demand_of_visit, demand_at, begins_at, begins_alone}
 use Rattle.mq_core.specs.ForkJoinHandler.{Moved, Forked, is_busy, busy_servers, goes_in, goes_on, finishes_at, each_branch, fork_on}
 use Rattle.mq_core.specs.Tallies.{sum_below}
 use Rattle.mq_core.specs.declared.model.Demand.{Demand}
 use Rattle.mq_core.specs.declared.model.Rows.{Rows}
 use Rattle.mq_core.proofs.Areas.{get-front, sum-same}
-use Rattle.mq_core.proofs.Each.{not_true}
 use Rattle.mq_core.proofs.Pending.{earliest-splits, earliest-filter}
 use Rattle.mq_core.proofs.Remaining.{remaining, remaining-append, remaining-waits}
-use Rattle.mq_core.proofs.Serves.{last_served, latest-push, positions, pair-inj}
-use Rattle.mq_core.proofs.ForkServers.{Stands, Series, is_at_server, next_at, place_in, departing, departing-length}
+use Rattle.mq_core.proofs.Serves.{last_served, latest-push, positions}
+use Rattle.mq_core.proofs.ForkServers.{Stands, Series, is_at_server, next_at, departing, departing-length}
 use Rattle.mq_core.proofs.ForkSeries.{series-still}
 use Rattle.mq_core.proofs.ForkBranches.{Branching, count_of, branching-still}
+use Rattle.mq_core.proofs.JoinLoads.{positions-length}
 use Rattle.mq_core.proofs.Joins.{IsServed, Joining, taken-each}
 
 -- the sum of f over this many numbers from the first on
@@ -187,10 +188,6 @@ remaining-taken now rank fs rest e first =
     let b = ap (remaining now) k.left ∙ remaining-append now k.front k.back in
     omega arith
 
-positions-length : (k : ℕ) (xs : List Visit) → length (positions k xs) ≡ length xs
-positions-length k [] = refl
-positions-length k (x ∷ xs) = ap suc (positions-length (suc k) xs)
-
 module _ (rows : Rows) (v now : ℕ) (all : List Visit) where
   -- the front of a server goes on, and the one behind it begins
   goes_on-begun : (server n k : ℕ) (d : Demand) (ds : List Demand) (ys : List Visit) (queues : List (List ℕ)) → n ≡ suc (k + length ys) →
@@ -265,12 +262,6 @@ module _ (rows : Rows) (v now : ℕ) (all : List Visit) where
   ends-begun rank finished position server rest (ds ∷ more) visits (b ∷ bs) (e ∷ es) pend low high first h =
       go (ltb finished (server + length ds)) refl (λ l u. ends-begun rank finished position (server + length ds) rest more visits bs es pend l u first h.2)
     where
-      within : (a b : ℕ) → ltb a b ≡ true → a < b
-      within a b e = grind (arith, nat_tests)
-
-      beyond : (a b : ℕ) → ltb a b ≡ false → b ≤ a
-      beyond a b e = grind (arith, nat_tests)
-
       moved : Moved
       moved = finishes_at rows all now finished server ds b.queues
 
@@ -281,7 +272,7 @@ module _ (rows : Rows) (v now : ℕ) (all : List Visit) where
           (server + length ds ≤ finished → finished < (server + length ds) + count_of more → branches_begun rows all (length visits) more others.branches ≡ branches_begun rows all (length visits) more bs + work v now others.services) →
           series_begun rows all (length visits) ds moved.queues + branches_begun rows all (length visits) more others.branches ≡ (series_begun rows all (length visits) ds b.queues + branches_begun rows all (length visits) more bs) + work v now (moved.services ++ others.services)
       go true c ih =
-          let u = within finished (server + length ds) c in
+          let u = ltb-true finished (server + length ds) c in
           let a = series-begun rank server finished position rest ds visits b.queues e pend low u first h.0 in
           let still = branching-still rows v all now finished (server + length ds) more visits bs es pend u h.2 in
           let w = work-append v now moved.services others.services in
@@ -289,7 +280,7 @@ module _ (rows : Rows) (v now : ℕ) (all : List Visit) where
           let l = ap (λ (f : Forked). work v now f.services) still in
           omega arith
       go false c ih =
-          let low' = beyond finished (server + length ds) c in
+          let low' = ltb-false finished (server + length ds) c in
           let still = series-still rows v all now finished server ds visits b.queues e pend (inr low') h.0 in
           let r = ih low' (omega arith) in
           let w = work-append v now moved.services others.services in
@@ -328,12 +319,12 @@ module _ (rows : Rows) (demands : List (List Demand)) (v : ℕ) where
   joining-busy_arrives port local visits fs now busy x e =
       subst (λ k. busy + remaining now (fs ++ finishes_of v (forked k).services) ≡ branches_begun rows (visits ++ x ∷ []) (length (visits ++ x ∷ [])) demands (forked k).branches) (sym (latest-push visits x))
       (
-        let a = remaining-append now fs (finishes_of v (forked (length visits)).services) in
-        let b = arrives-begun rows v now (visits ++ x ∷ []) 0 (length visits) demands local.branches in
-        let c = begun-front rows visits x (length visits) demands local.branches (omega arith) in
-        let d : length (visits ++ x ∷ []) ≡ suc (length visits) = omega (arith, length-append visits (x ∷ [])) in
-        let f = ap (λ n. branches_begun rows (visits ++ x ∷ []) n demands (forked (length visits)).branches) d in
-        omega arith
+      let a = remaining-append now fs (finishes_of v (forked (length visits)).services) in
+      let b = arrives-begun rows v now (visits ++ x ∷ []) 0 (length visits) demands local.branches in
+      let c = begun-front rows visits x (length visits) demands local.branches (omega arith) in
+      let d : length (visits ++ x ∷ []) ≡ suc (length visits) = omega (arith, length-append visits (x ∷ [])) in
+      let f = ap (λ n. branches_begun rows (visits ++ x ∷ []) n demands (forked (length visits)).branches) d in
+      omega arith
       )
     where
       forked : ℕ → Forked

@@ -1,7 +1,7 @@
 -- A fork-join that has nothing to finish is empty, and let out every visit by its recurrence.
-use Rattle.std.proofs.Common.{◌≡◌, ℕ, zero, suc, ◌+◌, ◌-◌, ◌<◌, ◌≤◌, List, [], ◌∷◌, ◌++◌, length, map, Some, sym, refl, ap, ◌∙◌, subst, arith, max}
+use Rattle.std.proofs.Common.{◌≡◌, ℕ, zero, suc, ◌+◌, ◌-◌, ◌<◌, List, [], ◌∷◌, length, map, sym, refl, ap, ◌∙◌, arith, max}
 use Rattle.std.proofs.lemmas.List.{append-nil, length-map}
-use Rattle.std.specs.Prelude.{slice_get, filter}
+use Rattle.std.specs.Prelude.{filter}
 use Rattle.mq_core.specs.Event.{Event}
 use Rattle.mq_core.specs.Handling.{demand_of_job}
 use Rattle.mq_core.specs.Local.{Branch}
@@ -12,10 +12,9 @@ use Rattle.mq_core.specs.Served.{served, passed_from, leaving_from, branch_deman
 use Rattle.mq_core.specs.declared.model.Demand.{Demand}
 use Rattle.mq_core.specs.declared.model.Rows.{Rows}
 use Rattle.mq_core.proofs.Pending.{some_inj}
-use Rattle.mq_core.proofs.Serves.{last_served, positions}
-use Rattle.mq_core.proofs.ForkServers.{Stands, Series, is_at_server, departing, next_at}
+use Rattle.mq_core.proofs.ForkServers.{Series, is_at_server, departing}
 use Rattle.mq_core.proofs.ForkBranches.{Branching, Alike, joined, later_visits, joined-alike}
-use Rattle.mq_core.proofs.ForkTimes.{at_least-refl, in_series-at_least, later-self, demands-long}
+use Rattle.mq_core.proofs.ForkTimes.{in_series-at_least, later-self, demands-long}
 use Rattle.mq_core.proofs.Joins.{Joining}
 use Rattle.mq_core.proofs.JoinLoads.{count_in, most_inside, most-staying}
 
@@ -83,10 +82,9 @@ passed-leaving k (z ∷ zs) (x ∷ xs) h =
 pub joining-done : (rows : Rows) (demands : List (List Demand)) (v : ℕ) (visits : List Visit) (branches : List Branch) (emitted : List Emission) (now : ℕ) → Joining rows demands v visits branches emitted [] now → (length visits - least_through branches ≡ 0) × (emitted ≡ joined_from rows demands visits)
 joining-done rows demands v visits branches emitted now h =
     let done = branching-done rows v 0 now demands visits branches h.endeds (λ j. filter (is_at_server j) []) (λ j. refl) h.branching in
-    let most = most-staying rows v 0 now demands visits branches h.endeds (λ j. filter (is_at_server j) []) h.shape.some h.branching in
-    (
+    let most = most-staying rows v 0 now demands visits branches h.endeds (λ j. filter (is_at_server j) []) h.shape.some h.branching in (
       sym most.0 ∙ done.1,
       h.left
-      ∙ (passed-leaving 0 (joined h.endeds) visits (joined-alike rows v 0 now demands visits branches h.endeds (λ j. filter (is_at_server j) []) h.branching)
-      ∙ ap (λ l. leaving_from 0 l visits) (ap (λ l. map (λ (x : Visit). x.arrive) (joined l)) done.0 ∙ joined-times rows demands visits h.shape.some)),
+          ∙ (passed-leaving 0 (joined h.endeds) visits (joined-alike rows v 0 now demands visits branches h.endeds (λ j. filter (is_at_server j) []) h.branching)
+          ∙ ap (λ l. leaving_from 0 l visits) (ap (λ l. map (λ (x : Visit). x.arrive) (joined l)) done.0 ∙ joined-times rows demands visits h.shape.some)),
     )

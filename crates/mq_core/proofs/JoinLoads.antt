@@ -1,9 +1,9 @@
 -- How many jobs a fork-join holds, and how many finishes are still to come.
-use Rattle.std.proofs.Common.{◌≡◌, ◌⊎◌, inl, inr, ℕ, zero, suc, ◌+◌, ◌-◌, ◌*◌, ◌<◌, ◌≤◌, Bool, true, false, cond, eqb, ltb, eq-eqb, eqb-true, List, [], ◌∷◌, ◌++◌, length, Option, Some, None, sym, refl, ap, ◌∙◌, subst, arith, length-append, map, max, min}
+use Rattle.std.proofs.Common.{◌≡◌, ◌⊎◌, inl, inr, ℕ, zero, suc, ◌+◌, ◌-◌, ◌*◌, ◌<◌, ◌≤◌, Bool, true, false, cond, eqb, ltb, eq-eqb, eqb-true, List, [], ◌∷◌, ◌++◌, length, Option, Some, None, sym, refl, ap, ◌∙◌, subst, arith, length-append, map, max}
+use Rattle.std.proofs.lemmas.Bool.{ltb-true, ltb-false}
 use Rattle.std.proofs.lemmas.Bool.Decides.{nat_tests}
 use Rattle.std.proofs.Math.Nat.{suc-mul, add-mul}
 use Rattle.std.specs.Prelude.{slice_get, filter}
-use Rattle.std.specs.List.{AllByRecursion as Each}
 use Rattle.mq_core.specs.Event.{Event, earliest, sooner_of}
 use Rattle.mq_core.specs.Event.Event.{Arrive, Finish}
 use Rattle.mq_core.specs.Machine.{Visit, Emission, emissions_of, emission_of, finishes_of}
@@ -16,8 +16,8 @@ use Rattle.mq_core.proofs.Serves.{positions}
 use Rattle.mq_core.proofs.ForkServers.{Stands, Series, Lets, is_at_server, departing, departing-length}
 use Rattle.mq_core.proofs.ForkSeries.{series-still}
 use Rattle.mq_core.proofs.Pending.{earliest-filter}
-use Rattle.mq_core.proofs.ForkBranches.{Branching, Forks, count_of, joined, joined-length, branching-still}
-use Rattle.mq_core.proofs.Joins.{IsForked, IsServed, Joining, rises, taken-each, joining-arrives, joining-ends, joining-forks}
+use Rattle.mq_core.proofs.ForkBranches.{Branching, Forks, count_of, joined-length, branching-still}
+use Rattle.mq_core.proofs.Joins.{IsServed, Joining, rises, taken-each, joining-forks}
 
 -- the jobs at some servers
 abbrev pub count_in : List (List ℕ) → ℕ
@@ -103,7 +103,7 @@ joining-arrives-falls rows demands onward v port job local earlier visits emitte
     let c = h.shape.few in
     omega arith
 
-positions-length : (k : ℕ) (xs : List Visit) → length (positions k xs) ≡ length xs
+pub positions-length : (k : ℕ) (xs : List Visit) → length (positions k xs) ≡ length xs
 positions-length k [] = refl
 positions-length k (x ∷ xs) = ap suc (positions-length (suc k) xs)
 
@@ -177,22 +177,16 @@ module _ (rows : Rows) (v : ℕ) where
   branches-falls all rank now finished position server rest (ds ∷ more) visits (b ∷ bs) (e ∷ es) pend low high first h =
       go (ltb finished (server + length ds)) refl (λ l u. branches-falls all rank now finished position (server + length ds) rest more visits bs es pend l u first h.2)
     where
-      within : (a b : ℕ) → ltb a b ≡ true → a < b
-      within a b e = grind (arith, nat_tests)
-
-      beyond : (a b : ℕ) → ltb a b ≡ false → b ≤ a
-      beyond a b e = grind (arith, nat_tests)
-
       go : (c : Bool) → ltb finished (server + length ds) ≡ c →
           (server + length ds ≤ finished → finished < (server + length ds) + count_of more → branches_load more (each_branch (λ first ds queues. finishes_at rows all now finished first ds queues) (server + length ds) more bs).branches + 1 ≤ branches_load more bs) →
           branches_load (ds ∷ more) (each_branch (λ first ds queues. finishes_at rows all now finished first ds queues) server (ds ∷ more) (b ∷ bs)).branches + 1 ≤ branches_load (ds ∷ more) (b ∷ bs)
       go true c ih =
-          let u = within finished (server + length ds) c in
+          let u = ltb-true finished (server + length ds) c in
           let a = series-falls all rank now server finished position rest ds visits b.queues e pend low u first h.0 in
           let still = ap (λ (f : Forked). branches_load more f.branches) (branching-still rows v all now finished (server + length ds) more visits bs es pend u h.2) in
           omega arith
       go false c ih =
-          let l = beyond finished (server + length ds) c in
+          let l = ltb-false finished (server + length ds) c in
           let still = ap (λ (m : Moved). series_load ds m.queues) (series-still rows v all now finished server ds visits b.queues e pend (inr l) h.0) in
           let r = ih l (omega arith) in
           omega arith
@@ -315,12 +309,6 @@ joining-shows rows demands rank v server position local visits emitted fs rest n
     falling : Falling demands visits local.branches (fork_on rows demands visits local now (Finish now v server position)).local.branches
     falling = joining-falling rows demands rank v server position local visits emitted fs rest now first h
 
-    within : (a b : ℕ) → ltb a b ≡ true → a < b
-    within a b e = grind (arith, nat_tests)
-
-    beyond : (a b : ℕ) → ltb a b ≡ false → b ≤ a
-    beyond a b e = grind (arith, nat_tests)
-
     inside : least_through local.branches < length visits
     inside = go (most_inside local.branches) refl
       where
@@ -337,6 +325,9 @@ joining-shows rows demands rank v server position local visits emitted fs rest n
         ((m : Emission) × (more : List Emission) × (emissions_of now visits (rises (least_through local.branches) (least_through after)) ≡ m ∷ more)) ⊎ (0 < length visits - least_through after)
     go true e None s = absurd (some-visit (least_through local.branches) visits inside s)
     go true e (Some x) s =
-        inl (record { out = 0; position = least_through local.branches; job = x.job; time = now }, [],
-        ap (λ b. emissions_of now visits (cond b (record { out = 0; position = least_through local.branches } ∷ []) [])) e ∙ ap (λ o. emission_of now 0 (least_through local.branches) o ++ []) s)
-    go false e o s = inr (let a = beyond (least_through local.branches) (least_through after) e in let b = inside in omega arith)
+        inl (
+          record { out = 0; position = least_through local.branches; job = x.job; time = now },
+          [],
+          ap (λ b. emissions_of now visits (cond b (record { out = 0; position = least_through local.branches } ∷ []) [])) e ∙ ap (λ o. emission_of now 0 (least_through local.branches) o ++ []) s,
+        )
+    go false e o s = inr (let a = ltb-false (least_through local.branches) (least_through after) e in let b = inside in omega arith)

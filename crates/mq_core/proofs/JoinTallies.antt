@@ -1,9 +1,9 @@
 -- The number in a fork-join, and what it lets out.
-use Rattle.std.proofs.Common.{◌≡◌, ◌⊎◌, inl, inr, ℕ, zero, suc, ◌+◌, ◌-◌, ◌<◌, ◌≤◌, Bool, true, false, cond, eqb, ltb, eqb-true, List, [], ◌∷◌, ◌++◌, length, Option, Some, None, sym, refl, ap, ◌∙◌, subst, arith, length-append}
+use Rattle.std.proofs.Common.{◌≡◌, inl, inr, ℕ, zero, suc, ◌+◌, ◌-◌, ◌<◌, ◌≤◌, Bool, true, false, cond, eqb, ltb, eqb-true, List, [], ◌∷◌, ◌++◌, length, Option, Some, None, sym, refl, ap, ◌∙◌, subst, arith}
+use Rattle.std.proofs.lemmas.Bool.{ltb-true, ltb-false}
 use Rattle.std.proofs.lemmas.Bool.Decides.{nat_tests}
 use Rattle.std.specs.Prelude.{slice_get, filter}
-use Rattle.std.specs.List.{AllByRecursion as Each}
-use Rattle.mq_core.specs.Event.{Event, time_of, earliest}
+use Rattle.mq_core.specs.Event.{Event, earliest}
 use Rattle.mq_core.specs.Event.Event.{Arrive, Finish}
 use Rattle.mq_core.specs.Machine.{Visit, Emission, emissions_of, emission_of, finishes_of}
 use Rattle.mq_core.specs.Local.{Local, Branch}
@@ -12,14 +12,12 @@ use Rattle.mq_core.specs.Served.{passed_from}
 use Rattle.mq_core.specs.Tallies.{sum_below, emission_at, one_if_none, staying, arrival_or}
 use Rattle.mq_core.specs.declared.model.Demand.{Demand}
 use Rattle.mq_core.specs.declared.model.Rows.{Rows}
+use Rattle.mq_core.proofs.EmissionsAt.{neq-eqb}
 use Rattle.mq_core.proofs.Serves.{length-push}
 use Rattle.mq_core.proofs.ForkServers.{Lets, is_at_server}
 use Rattle.mq_core.proofs.ForkBranches.{Forks, joined, joined-length}
-use Rattle.mq_core.proofs.Joins.{CameBefore, Joining, rises, taken-each, joining-enters, joining-forks}
+use Rattle.mq_core.proofs.Joins.{CameBefore, Joining, taken-each, joining-enters, joining-forks}
 use Rattle.mq_core.proofs.JoinLoads.{most-staying}
-
-neq-eqb : (a b : ℕ) → (a ≡ b → ⊥) → eqb a b ≡ false
-neq-eqb a b h = grind (arith, nat_tests)
 
 -- a position is among those let out exactly if it is below their number
 let_out-found : (k p : ℕ) (xs : List Visit) → k ≤ p → p < k + length xs → one_if_none (emission_at (passed_from (λ _ _. 0) k xs) p) ≡ 0
@@ -42,15 +40,9 @@ sum-behind : (a n : ℕ) (f : ℕ → ℕ) → ((k : ℕ) → k < a → f k ≡ 
 sum-behind a zero f h k = omega arith
 sum-behind a (suc n) f h k = go (ltb n a) refl (sum-behind a n f h k)
   where
-    within : (a b : ℕ) → ltb a b ≡ true → a < b
-    within a b e = grind (arith, nat_tests)
-
-    beyond : (a b : ℕ) → ltb a b ≡ false → b ≤ a
-    beyond a b e = grind (arith, nat_tests)
-
     go : (b : Bool) → ltb n a ≡ b → sum_below n f ≡ n - a → f n + sum_below n f ≡ suc n - a
-    go true e ih = let l = within n a e in let z = h n l in omega arith
-    go false e ih = let l = beyond n a e in let z = k n l in omega arith
+    go true e ih = let l = ltb-true n a e in let z = h n l in omega arith
+    go false e ih = let l = ltb-false n a e in let z = k n l in omega arith
 
 -- the number in a fork-join is that of its visits that haven't left
 pub joining-number : (rows : Rows) (demands : List (List Demand)) (v : ℕ) (visits : List Visit) (branches : List Branch) (emitted : List Emission) (fs : List Event) (now : ℕ) → Joining rows demands v visits branches emitted fs now → length visits - least_through branches ≡ staying visits emitted
@@ -93,9 +85,6 @@ joining-earlier rows demands rank v server position local visits emitted fs rest
     forks : Forks rows v 0 demands visits h.endeds pend now position (each_branch (λ first ds queues. finishes_at rows visits now server first ds queues) 0 demands local.branches)
     forks = joining-forks rows demands rank v server position visits local.branches emitted fs rest now first h
 
-    within : (a b : ℕ) → ltb a b ≡ true → a < b
-    within a b e = grind (arith, nat_tests)
-
     place : least_through local.branches < least_through after → position ≡ least_through local.branches
     place k =
         which forks.lets (joined-length rows v 0 now demands visits local.branches h.endeds (λ j. filter (is_at_server j) fs) h.branching) (joined-length rows v 0 now demands visits after forks.laters pend forks.branching)
@@ -116,6 +105,6 @@ joining-earlier rows demands rank v server position local visits emitted fs rest
     go true i =
         let here = subst (λ b. emission_at (emissions_of now visits (cond b (record { out = 0; position = least_through local.branches } ∷ []) [])) q ≡ Some m) i e in
         let spot = own (slice_get visits (least_through local.branches)) here in
-        let at = place (within (least_through local.branches) (least_through after) i) in
+        let at = place (ltb-true (least_through local.branches) (least_through after) i) in
         (taken-each (CameBefore visits) rank fs rest (Finish now v server position) first h.behind).0 p (omega arith) u
     go false i = absurd (let none = subst (λ b. emission_at (emissions_of now visits (cond b (record { out = 0; position = least_through local.branches } ∷ []) [])) q ≡ Some m) i e in cc)

@@ -1,5 +1,5 @@
 -- A fork-join between two events, and the steps that keep what is said of it.
-use Rattle.std.proofs.Common.{◌≡◌, ◌⊎◌, inl, inr, ℕ, zero, suc, ◌+◌, ◌<◌, ◌≤◌, Bool, true, false, cond, eqb, ltb, eq-eqb, eqb-true, List, [], ◌∷◌, ◌++◌, length, Option, Some, None, sym, refl, ap, ◌∙◌, subst, arith, length-append, map}
+use Rattle.std.proofs.Common.{◌≡◌, inl, inr, ℕ, suc, ◌+◌, ◌<◌, ◌≤◌, Bool, true, false, cond, eqb, ltb, eq-eqb, eqb-true, List, [], ◌∷◌, ◌++◌, length, Some, sym, refl, ap, ◌∙◌, subst, arith, map}
 use Rattle.std.proofs.lemmas.Bool.Decides.{nat_tests}
 use Rattle.std.proofs.lemmas.List.{append-nil}
 use Rattle.std.proofs.lemmas.List.Elements.{filter-append}
@@ -9,17 +9,17 @@ use Rattle.mq_core.specs.Event.{Event, time_of, earliest}
 use Rattle.mq_core.specs.Event.Event.{Arrive, Finish}
 use Rattle.mq_core.specs.Machine.{Visit, Emission, Service, Release, finishes_of, emissions_of, emission_of}
 use Rattle.mq_core.specs.Local.{Local, Branch}
-use Rattle.mq_core.specs.Handling.{demand_of_job, demand_of_visit, demand_at, latest}
+use Rattle.mq_core.specs.Handling.{demand_of_visit, demand_at, latest}
 use Rattle.mq_core.specs.ForkJoinHandler.{Moved, Forked, goes_in, finishes_at, each_branch, least_through, fork_on}
 use Rattle.mq_core.specs.Served.{passed_from}
 use Rattle.mq_core.specs.Tallies.{arrival_or}
 use Rattle.mq_core.specs.declared.model.Demand.{Demand}
 use Rattle.mq_core.specs.declared.model.Rows.{Rows}
 use Rattle.mq_core.proofs.Areas.{get-front}
-use Rattle.mq_core.proofs.Each.{Each-append, Each-back, Each-front, Each-both, Each-map, Each-weaker, not_true}
+use Rattle.mq_core.proofs.Each.{Each-append, Each-back, Each-front, Each-both, Each-map, not_true}
 use Rattle.mq_core.proofs.Pending.{earliest-splits, earliest-filter, filter-earliest_other}
 use Rattle.mq_core.proofs.Serves.{demand_of-push, latest-push, length-push, slice_get-middle}
-use Rattle.mq_core.proofs.ForkServers.{Series, Asks, Lets, is_at_server, departing, place_in, begins_alone-behind}
+use Rattle.mq_core.proofs.ForkServers.{Series, Lets, is_at_server, place_in, begins_alone-behind}
 use Rattle.mq_core.proofs.ForkSeries.{Within, Behind, goes_in-within, finishes_at-within}
 use Rattle.mq_core.proofs.ForkBranches.{Branching, Forks, Alike, joined, count_of, branching-waits, branching-arrives, branching-ends, each_branch-within, joined-alike, joined-length}
 

@@ -51,6 +51,7 @@ pub mod NetworkRuns
 pub mod RecurrenceRows
 pub mod WorkedRows
 pub mod TandemRows
+pub mod ForkRows
 pub mod EmissionsAt
 pub mod Founds
 pub mod Busy

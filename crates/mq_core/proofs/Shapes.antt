@@ -1,11 +1,11 @@
--- What the lists of a plan's nodes must be, so that the facts of their kinds hold from the start.
-use Rattle.std.proofs.Common.{◌≡◌, ℕ, ◌+◌, ◌<◌, ◌≤◌, Bool, true, List, [], ◌∷◌, length, Option, Some, None, refl, arith, length-append}
+-- What the places and the lists of a plan's nodes must be, so that the facts of their kinds hold from the start.
+use Rattle.std.proofs.Common.{◌≡◌, ℕ, ◌<◌, ◌≤◌, true, List, [], ◌∷◌, length, Option, Some, None, refl, arith, length-append}
 use Rattle.std.proofs.lemmas.Bool.{and_parts}
 use Rattle.std.proofs.lemmas.Bool.Decides.{nat_tests}
 use Rattle.std.specs.Prelude.{◌&&◌, nat_le, slice_get, IfSome}
 use Rattle.std.specs.List.{AllByRecursion as Each, flat_map, list_all}
 use Rattle.mq_core.specs.Names.{is_name}
-use Rattle.mq_core.specs.Sound.{is_within, is_sound_count, is_sound_demand, is_sound_kind, is_sound_node, is_output, are_sound_branches}
+use Rattle.mq_core.specs.Sound.{is_within, is_sound_count, is_sound_demand, is_sound_kind, is_output, are_sound_branches}
 use Rattle.mq_core.specs.declared.model.Demand.{Demand}
 use Rattle.mq_core.specs.declared.model.Input.{Input}
 use Rattle.mq_core.specs.declared.model.Kind.{Kind}
@@ -14,10 +14,12 @@ use Rattle.mq_core.specs.declared.model.Node.{Node}
 use Rattle.mq_core.specs.declared.model.Plan.{Plan}
 use Rattle.mq_core.proofs.ForkBranches.{count_of}
 use Rattle.mq_core.proofs.Joins.{IsForked}
-use Rattle.mq_core.proofs.Soundness.{sound-node}
+use Rattle.mq_core.proofs.Soundness.{AreStages, sound-node, sound-stages}
 
--- the lists of a kind are as long as they must be
+-- a loss station has a place, a tandem its stages, and the lists of a fork-join are as long as they must be
 abbrev pub IsShaped : Kind → Type 0
+IsShaped (Loss places demand) = 1 ≤ places
+IsShaped (Tandem stages) = AreStages stages
 IsShaped (ForkJoin branches) = IsForked branches
 IsShaped _ = Unit {0}
 
@@ -56,8 +58,11 @@ kind-shaped : (columns : ℕ) (kind : Kind) → is_sound_kind columns kind ≡ t
 kind-shaped columns Source h = tt
 kind-shaped columns (Server demand) h = tt
 kind-shaped columns (Delay demand) h = tt
-kind-shaped columns (Loss places demand) h = tt
-kind-shaped columns (Tandem stages) h = tt
+kind-shaped columns (Loss places demand) h =
+    let a = and_parts (is_within 1 1048576 places) (is_sound_demand columns demand) h in
+    let b : nat_le 1 places ≡ true = (and_parts (nat_le 1 places) (nat_le places 1048576) a.0).0 in
+    grind (arith, nat_tests)
+kind-shaped columns (Tandem stages) h = sound-stages columns stages h
 kind-shaped columns (ForkJoin branches) h = branches-shaped columns branches h
 kind-shaped columns (Split route) h = tt
 

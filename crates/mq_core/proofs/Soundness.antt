@@ -165,12 +165,6 @@ pub record AreStages (stages : List Stage) : Type 0 where
   pub few : length stages ≤ 8
   pub places : LaterPlaces stages
 
--- what the range of a kind gives to a node of it: a loss station has a place, and a tandem has its stages
-abbrev pub HasPlaces : Kind → Type 0
-HasPlaces (Loss places demand) = 1 ≤ places
-HasPlaces (Tandem stages) = AreStages stages
-HasPlaces _ = Unit {0}
-
 pub sound-stages : (columns : ℕ) (stages : List Stage) → are_sound_stages columns stages ≡ true → AreStages stages
 sound-stages columns [] h = absurd cc
 sound-stages columns (stage ∷ stages) h =
@@ -201,24 +195,3 @@ sound-stages_demands columns (stage ∷ stages) h =
     each (next ∷ more) k =
         let a = and_parts (is_sound_stage columns 1 4 next) (list_all (is_sound_stage columns 1 4) more) k in
         ((and_parts (is_within 1 4 next.places) (is_sound_demand columns next.demand) a.0).1, each more a.1)
-
-sound-kind_places : (columns : ℕ) (kind : Kind) → is_sound_kind columns kind ≡ true → HasPlaces kind
-sound-kind_places columns Source h = tt
-sound-kind_places columns (Server demand) h = tt
-sound-kind_places columns (Delay demand) h = tt
-sound-kind_places columns (Loss places demand) h =
-    let a = and_parts (is_within 1 1048576 places) (is_sound_demand columns demand) h in
-    let b : nat_le 1 places ≡ true = (and_parts (nat_le 1 places) (nat_le places 1048576) a.0).0 in
-    grind (arith, nat_tests)
-sound-kind_places columns (Tandem stages) h = sound-stages columns stages h
-sound-kind_places columns (ForkJoin branches) h = tt
-sound-kind_places columns (Split route) h = tt
-
--- each node of a sound network has its places
-pub sound-places : (net : Network) → IsTrue (is_sound net) → (v : ℕ) (node : Node) → slice_get net.nodes v ≡ Some node → HasPlaces node.kind
-sound-places net sound v node e =
-    let whole = sound-node net sound v node e in
-    let a = and_parts _ (is_name node.name) whole in
-    let b = and_parts _ (list_all (λ (i : Input). is_output (slice_get net.nodes i.node) i.out) node.inputs) a.0 in
-    let c = and_parts _ (is_sound_count node.kind (length node.inputs)) b.0 in
-    sound-kind_places (length net.columns) node.kind c.0

@@ -1,4 +1,4 @@
-use Rattle.std.proofs.Common.{◌≤◌, arith}
+use Rattle.std.proofs.Common.{arith}
 use Rattle.mq_core.proofs.ForkSums.{servers-next}
 use Rattle.mq_core.proofs.kinds.servers_of_branches.Goals as goal
 
