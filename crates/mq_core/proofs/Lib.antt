@@ -77,5 +77,7 @@ pub mod Loses
 pub mod Releases
 pub mod LossTallies
 pub mod LossBusy
+pub mod LossPeak
 pub mod LossColumns
 pub mod Unlost
+pub mod LossRows

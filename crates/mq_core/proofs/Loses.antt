@@ -6,7 +6,7 @@ use Rattle.std.specs.Prelude.{slice_get}
 use Rattle.std.specs.List.{AllByRecursion as Each}
 use Rattle.mq_core.specs.Event.{Event, time_of, earliest, sooner_of}
 use Rattle.mq_core.specs.Event.Event.{Arrive, Finish}
-use Rattle.mq_core.specs.Machine.{Visit, Emission, Reaction, finishes_of, emissions_of, emission_of}
+use Rattle.mq_core.specs.Machine.{Visit, Emission, finishes_of, emissions_of, emission_of}
 use Rattle.mq_core.specs.Laws.{in_order_of}
 use Rattle.mq_core.specs.Local.{Local}
 use Rattle.mq_core.specs.Handling.{demand_of_job, demand_of_visit, demand_at, latest, joins, passes_on, front_leaves, front_begins}
@@ -341,9 +341,6 @@ pub losing-arrives : (rows : Rows) (places : ℕ) (demand : Demand) (v port : �
     (fs ++ finishes_of v (loss_on rows places demand (visits ++ x ∷ []) local now (Arrive now v port x.job)).services) now
 losing-arrives rows places demand v port local visits emitted fs now x at soon h = go (ltb (length local.queue) places) refl
   where
-    answer : Bool → Reaction Local
-    answer b = cond b (joins rows demand (visits ++ x ∷ []) local now local.queue (latest (visits ++ x ∷ []))) (passes_on local 1 (latest (visits ++ x ∷ [])))
-
     go : (b : Bool) → ltb (length local.queue) places ≡ b → Losing rows places demand v (visits ++ x ∷ []) (cond b (joins rows demand (visits ++ x ∷ []) local now local.queue (latest (visits ++ x ∷ []))) (passes_on local 1 (latest (visits ++ x ∷ [])))).local.queue
         (emitted ++ emissions_of now (visits ++ x ∷ []) (cond b (joins rows demand (visits ++ x ∷ []) local now local.queue (latest (visits ++ x ∷ []))) (passes_on local 1 (latest (visits ++ x ∷ [])))).releases)
         (fs ++ finishes_of v (cond b (joins rows demand (visits ++ x ∷ []) local now local.queue (latest (visits ++ x ∷ []))) (passes_on local 1 (latest (visits ++ x ∷ [])))).services) now

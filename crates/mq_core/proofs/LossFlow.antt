@@ -141,12 +141,6 @@ fared-fates rows (suc places) demand k left (x ∷ xs) some r =
     admitted : is_admitted (suc places) left x.arrive ≡ has_place (suc places) left x.arrive
     admitted = ap (λ n. is_past x.arrive (slice_get left n)) one ∙ admitted-place places x.arrive left r
 
-    fates : List ℕ → List Fate
-    fates l = loss_fates (suc places) l (map (λ (y : Visit). y.arrive) xs) (map (λ (y : Visit). demand_of_job rows demand y.job) xs)
-
-    time : ℕ
-    time = leaves_at rows demand left x
-
     go : (b : Bool) → b ≡ is_admitted (suc places) left x.arrive →
         ((l : List ℕ) → Rises (λ a b. b ≤ a) l → fared (has_place (suc places)) rows demand (suc k) l xs ≡ faring_from (suc k) (loss_fates (suc places) l (map (λ (y : Visit). y.arrive) xs) (map (λ (y : Visit). demand_of_job rows demand y.job) xs)) xs) →
         faring_by k (fate_if b (leaves_at rows demand left x)) x ∷ fared (has_place (suc places)) rows demand (suc k) (left_if b (leaves_at rows demand left x) left) xs

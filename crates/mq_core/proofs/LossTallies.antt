@@ -1,5 +1,5 @@
 -- What a loss station weighs, how many it holds, whom it lets out, and how it ends.
-use Rattle.std.proofs.Common.{◌≡◌, ℕ, suc, ◌+◌, ◌*◌, ◌<◌, ◌≤◌, Bool, true, false, cond, ltb, List, [], ◌∷◌, ◌++◌, length, map, Some, sym, refl, ap, ◌∙◌, subst, arith}
+use Rattle.std.proofs.Common.{◌≡◌, ℕ, suc, ◌+◌, ◌*◌, ◌<◌, ◌≤◌, Bool, true, false, cond, ltb, List, [], ◌∷◌, ◌++◌, length, map, Some, None, sym, refl, ap, ◌∙◌, subst, arith}
 use Rattle.std.proofs.Math.Nat.{suc-mul}
 use Rattle.std.proofs.lemmas.List.{append-nil, length-map}
 use Rattle.std.specs.Prelude.{slice_get}
@@ -20,7 +20,7 @@ use Rattle.mq_core.proofs.Each.{Each-weaker}
 use Rattle.mq_core.proofs.Loses.{Losing, ToLeave, front_finish, all_fared, front-emission}
 use Rattle.mq_core.proofs.LossFlow.{has_place, fared-numbered, fared-fates}
 use Rattle.mq_core.proofs.Releases.{emissions-one, times-few, joins-longer, joins-nothing, release-own, release-none}
-use Rattle.mq_core.proofs.Reordered.{times_at, times_at-append, times_at-in_order, times_at-numbered, times_at-once, emission_at-some, emission_at-in_order, staying-coming}
+use Rattle.mq_core.proofs.Reordered.{times_at, times_at-append, times_at-in_order, times_at-numbered, times_at-beyond, times_at-once, emission_at-none, emission_at-in_order, staying-coming}
 use Rattle.mq_core.proofs.Serves.{latest-push, joins-releases, pair-inj}
 
 -- an arrival either joins the queue, or is let out at once
@@ -77,6 +77,15 @@ losing-once rows places demand v visits queue emitted fs now h p l =
     ∙ (ap (times_at p) h.left
     ∙ (times_at-in_order (λ (m : Emission). m.time) p (all_fared rows places demand visits)
     ∙ times_at-numbered 0 p (all_fared rows places demand visits) visits (fared-numbered (has_place places) rows demand 0 [] visits) (omega arith) (omega arith)))
+
+-- no position is let out before it came
+pub losing-new : (rows : Rows) (places : ℕ) (demand : Demand) (v : ℕ) (visits : List Visit) (queue : List ℕ) (emitted : List Emission) (fs : List Event) (now : ℕ) → Losing rows places demand v visits queue emitted fs now → emission_at emitted (length visits) ≡ None
+losing-new rows places demand v visits queue emitted fs now h =
+    let a = times_at-beyond 0 (length visits) (all_fared rows places demand visits) visits (fared-numbered (has_place places) rows demand 0 [] visits) (omega arith) in
+    let b = times_at-in_order (λ (m : Emission). m.time) (length visits) (all_fared rows places demand visits) in
+    let c = times_at-append (length visits) emitted h.coming in
+    let d = ap (times_at (length visits)) h.left in
+    emission_at-none (length visits) emitted (omega arith)
 
 -- the number in it is that of the visits that haven't left
 pub losing-number : (rows : Rows) (places : ℕ) (demand : Demand) (v : ℕ) (visits : List Visit) (queue : List ℕ) (emitted : List Emission) (fs : List Event) (now : ℕ) → Losing rows places demand v visits queue emitted fs now → length queue ≡ staying visits emitted
@@ -135,15 +144,7 @@ losing-same rows places demand v visits queue emitted now h q =
     ap (λ l. emission_at l q) (losing-done rows places demand v visits queue emitted now h).1
     ∙ emission_at-in_order (λ (m : Emission). m.time) q (all_fared rows places demand visits) (times_at-once q (all_fared rows places demand visits) visits (fared-numbered (has_place places) rows demand 0 [] visits))
 
--- then each position is found
-pub losing-found : (rows : Rows) (places : ℕ) (demand : Demand) (v : ℕ) (visits : List Visit) (queue : List ℕ) (emitted : List Emission) (now : ℕ) → Losing rows places demand v visits queue emitted [] now → (p : ℕ) → p < length visits → (m : Emission) × (emission_at emitted p ≡ Some m)
-losing-found rows places demand v visits queue emitted now h p l =
-    let one = ap (times_at p) (losing-done rows places demand v visits queue emitted now h).1
-    ∙ (times_at-in_order (λ (m : Emission). m.time) p (all_fared rows places demand visits)
-    ∙ times_at-numbered 0 p (all_fared rows places demand visits) visits (fared-numbered (has_place places) rows demand 0 [] visits) (omega arith) (omega arith)) in
-    emission_at-some p emitted (omega arith)
-
--- the same by the rule that looks at the last departures
+-- and those are its recurrence, by the rule that looks at the last departures
 pub losing-flow : (rows : Rows) (places : ℕ) (demand : Demand) (v : ℕ) (visits : List Visit) (queue : List ℕ) (emitted : List Emission) (now : ℕ) → 1 ≤ places → Losing rows places demand v visits queue emitted [] now →
     emitted ≡ in_order_of (λ (m : Emission). m.time) (faring_from 0 (loss_fates places [] (map (λ (x : Visit). x.arrive) visits) (map (λ (x : Visit). demand_of_job rows demand x.job) visits)) visits)
 losing-flow rows places demand v visits queue emitted now some h =

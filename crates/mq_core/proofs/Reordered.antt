@@ -9,11 +9,9 @@ use Rattle.mq_core.specs.Laws.{Rises, in_order_of, insert_by}
 use Rattle.mq_core.specs.Machine.{Visit, Emission}
 use Rattle.mq_core.specs.Tallies.{sum_below, emission_at, one_if_none, staying}
 use Rattle.mq_core.proofs.Each.{Each-weaker, filter-none, filter-yes, filter-no}
+use Rattle.mq_core.proofs.EmissionsAt.{neq-eqb}
 use Rattle.mq_core.proofs.Rising.{Rises-append, same_by_key, filter-in_order_of, Rises-in_order_of}
 use Rattle.mq_core.proofs.ColumnNumbers.{Numbered}
-
-neq-eqb : (a b : ℕ) → (a ≡ b → ⊥) → eqb a b ≡ false
-neq-eqb a b h = grind (arith, nat_tests)
 
 Rises-front : {X : Type 0} (R : X → X → Type 0) (xs ys : List X) → Rises R (xs ++ ys) → Rises R xs
 Rises-front R [] ys h = tt

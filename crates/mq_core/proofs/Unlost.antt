@@ -7,7 +7,11 @@ use Rattle.mq_core.specs.declared.model.Demand.{Demand}
 use Rattle.mq_core.specs.declared.model.Fate.TheVariants.{Departs, Lost}
 use Rattle.mq_core.specs.declared.model.Kind.{Kind}
 use Rattle.mq_core.specs.declared.model.Kind.TheVariants.{Source, Server, Delay, Loss, Tandem, ForkJoin, Split}
-use Rattle.mq_core.proofs.LossBusy.{unless_out}
+
+-- this number, or 0 for one that left by the output of the lost
+abbrev pub unless_out : Option Emission → ℕ → ℕ
+unless_out None n = n
+unless_out (Some m) n = cond (eqb m.out 1) 0 n
 
 -- whether a node of this kind may lose a visit
 abbrev pub loses : Kind → Bool

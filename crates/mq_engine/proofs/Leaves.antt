@@ -4,7 +4,7 @@ use Rattle.std.specs.Prelude.{IsTrue, nat_lt, slice_get}
 use Rattle.std.specs.List.{AllByRecursion as Each, zip}
 use Rattle.std.proofs.lemmas.Bool.Decides.{nat_tests}
 use Rattle.std.proofs.lemmas.List.{length-map}
-use Rattle.mq_core.specs.Columns.{IsSoundLoad, IsStream, column_fates, column_late_from, column_outs, column_stream, by_first, pairs_of, picked, routes_from, stream_in_order, time_of_fate}
+use Rattle.mq_core.specs.Columns.{IsSoundLoad, IsStream, column_fates, column_late_from, column_outs, column_stream, by_first, leaving_times, pairs_of, picked, routes_from, stream_in_order, time_of_fate}
 use Rattle.mq_core.specs.Recurrences.{lindley, delayed}
 use Rattle.mq_core.specs.Laws.{Rises}
 use Rattle.mq_core.specs.Results.{Late, first_of, late_fate}
@@ -26,9 +26,11 @@ use Rattle.mq_engine.specs.Turns.{AreStreams, IsLeaving, IsLoad}
 use Rattle.mq_engine.proofs.Lists.{drop_at, Each-get_or}
 
 -- a departure of each time is at that time
-pub times-back : (times : List ℕ) → map time_of_fate (map (λ time. Departs time) times) ≡ times
-times-back [] = refl
-times-back (t ∷ ts) = ap (λ l. t ∷ l) (times-back ts)
+times-back : (arrives times : List ℕ) → length times ≡ length arrives → leaving_times arrives (map (λ time. Departs time) times) ≡ times
+times-back [] [] e = refl
+times-back [] (t ∷ ts) e = absurd (omega arith)
+times-back (a ∷ rest) [] e = refl
+times-back (a ∷ rest) (t ∷ ts) e = ap (λ l. t ∷ l) (times-back rest ts (omega arith))
 
 -- where there is one output, all leave by it
 picked-all : (jobs items : List ℕ) → length items ≡ length jobs → picked 0 (map (λ _. 0) jobs) items ≡ items
@@ -37,9 +39,9 @@ picked-all [] (i ∷ is) e = absurd (omega arith)
 picked-all (j ∷ js) [] e = refl
 picked-all (j ∷ js) (i ∷ is) e = ap (λ l. i ∷ l) (picked-all js is (omega arith))
 
-pub one-stream : (rows : Rows) (kind : Kind) (arrivals : Stream) (departs : List ℕ) (streams : List Stream) → outputs_in kind ≡ 1 → column_outs rows kind arrivals.job ≡ map (λ _. 0) arrivals.job → column_fates rows kind arrivals.job arrivals.time ≡ map (λ time. Departs time) departs →
+pub one-stream : (rows : Rows) (kind : Kind) (arrivals : Stream) (departs : List ℕ) (streams : List Stream) → length arrivals.job ≡ length arrivals.time → outputs_in kind ≡ 1 → column_outs rows kind arrivals.job arrivals.time ≡ map (λ _. 0) arrivals.job → column_fates rows kind arrivals.job arrivals.time ≡ map (λ time. Departs time) departs →
     length departs ≡ length arrivals.job → streams ≡ stream_in_order kind (record { job = arrivals.job; time = departs }) ∷ [] → AreStreams rows kind arrivals streams
-one-stream rows kind arrivals departs streams one outs fates even e =
+one-stream rows kind arrivals departs streams same one outs fates even e =
     record {
       count = ap length e ∙ sym one;
       each = λ out l. ap (λ (s : List Stream). slice_get s out) e ∙ only out (subst (λ n. out < n) one l);
@@ -47,9 +49,9 @@ one-stream rows kind arrivals departs streams one outs fates even e =
   where
     stream : column_stream rows kind arrivals.job arrivals.time 0 ≡ stream_in_order kind (record { job = arrivals.job; time = departs })
     stream =
-        let jobs : picked 0 (column_outs rows kind arrivals.job) arrivals.job ≡ arrivals.job = ap (λ l. picked 0 l arrivals.job) outs ∙ picked-all arrivals.job arrivals.job refl in
-        let times : picked 0 (column_outs rows kind arrivals.job) (map time_of_fate (column_fates rows kind arrivals.job arrivals.time)) ≡ departs =
-        (λ k. picked 0 (outs k) (map time_of_fate (fates k))) ∙ (ap (picked 0 (map (λ _. 0) arrivals.job)) (times-back departs) ∙ picked-all arrivals.job departs even) in
+        let jobs : picked 0 (column_outs rows kind arrivals.job arrivals.time) arrivals.job ≡ arrivals.job = ap (λ l. picked 0 l arrivals.job) outs ∙ picked-all arrivals.job arrivals.job refl in
+        let times : picked 0 (column_outs rows kind arrivals.job arrivals.time) (leaving_times arrivals.time (column_fates rows kind arrivals.job arrivals.time)) ≡ departs =
+        (λ k. picked 0 (outs k) (leaving_times arrivals.time (fates k))) ∙ (ap (picked 0 (map (λ _. 0) arrivals.job)) (times-back arrivals.time departs (even ∙ same)) ∙ picked-all arrivals.job departs even) in
         λ k. stream_in_order kind (record { job = jobs k; time = times k })
 
     only : (out : ℕ) → out < 1 → slice_get (stream_in_order kind (record { job = arrivals.job; time = departs }) ∷ []) out ≡ Some (column_stream rows kind arrivals.job arrivals.time out)
@@ -61,8 +63,8 @@ outs-routes : (rows : Rows) (route : Route) (position : ℕ) (jobs : List ℕ) �
 outs-routes rows route position [] = refl
 outs-routes rows route position (j ∷ js) = ap (λ l. output_by rows route j position ∷ l) (outs-routes rows route (suc position) js)
 
-pub split-streams : (rows : Rows) (route : Route) (arrivals : Stream) (values : List ℕ) (streams : List Stream) → values ≡ map (route_value rows route) arrivals.job → AreParts route arrivals values streams → AreStreams rows (Split route) arrivals streams
-split-streams rows route arrivals values streams e h =
+pub split-streams : (rows : Rows) (route : Route) (arrivals : Stream) (values : List ℕ) (streams : List Stream) → IsStream arrivals → values ≡ map (route_value rows route) arrivals.job → AreParts route arrivals values streams → AreStreams rows (Split route) arrivals streams
+split-streams rows route arrivals values streams s e h =
     record {
       count = h.count;
       each = λ out l. h.parts out l ∙ ap Some (part out);
@@ -72,7 +74,7 @@ split-streams rows route arrivals values streams e h =
     outs = ap (outs_from route 0) e ∙ outs-routes rows route 0 arrivals.job
 
     part : (out : ℕ) → record { job = picked out (outs_from route 0 values) arrivals.job; time = picked out (outs_from route 0 values) arrivals.time } ≡ column_stream rows (Split route) arrivals.job arrivals.time out
-    part out = λ k. record { job = picked out (outs k) arrivals.job; time = picked out (outs k) (sym (times-back arrivals.time) k) }
+    part out = λ k. record { job = picked out (outs k) arrivals.job; time = picked out (outs k) (sym (times-back arrivals.time arrivals.time refl) k) }
 
 -- the recurrence of a server
 pub lindley-length : (last : ℕ) (arrives demands : List ℕ) → length demands ≡ length arrives → length (lindley last arrives demands) ≡ length arrives
@@ -133,7 +135,7 @@ pub passes-on : (rows : Rows) (arrivals : Stream) (fates : List Fate) (departs :
 passes-on rows arrivals fates departs streams s d f e =
     record {
       leave = f ∙ ap (map (λ time. Departs time)) d;
-      outflow = one-stream rows Source arrivals departs streams refl refl (ap (map (λ time. Departs time)) (sym d)) (ap length d ∙ sym s.even) e;
+      outflow = one-stream rows Source arrivals departs streams s.even refl refl (ap (map (λ time. Departs time)) (sym d)) (ap length d ∙ sym s.even) e;
     }
 
 pub serves : (rows : Rows) (demand : Demand) (arrivals : Stream) (fates : List Fate) (demands departs : List ℕ) (streams : List Stream) → IsStream arrivals → demands ≡ map (demand_of_job rows demand) arrivals.job → departs ≡ lindley 0 arrivals.time demands → fates ≡ map (λ time. Departs time) departs →
@@ -143,11 +145,11 @@ serves rows demand arrivals fates demands departs streams s m d f e =
     let even : length (map (demand_of_job rows demand) arrivals.job) ≡ length arrivals.time = length-map arrivals.job _ ∙ s.even in
     record {
       leave = f ∙ ap (map (λ time. Departs time)) by;
-      outflow = one-stream rows (Server demand) arrivals departs streams refl refl (ap (map (λ time. Departs time)) (sym by)) (ap length by ∙ (lindley-length 0 arrivals.time _ even ∙ sym s.even)) e;
+      outflow = one-stream rows (Server demand) arrivals departs streams s.even refl refl (ap (map (λ time. Departs time)) (sym by)) (ap length by ∙ (lindley-length 0 arrivals.time _ even ∙ sym s.even)) e;
     }
 
-pub splits : (rows : Rows) (route : Route) (arrivals : Stream) (fates : List Fate) (values : List ℕ) (streams : List Stream) → values ≡ map (route_value rows route) arrivals.job → fates ≡ map (λ time. Departs time) arrivals.time → AreParts route arrivals values streams → IsLeaving rows (Split route) arrivals fates streams
-splits rows route arrivals fates values streams v f h = record { leave = f; outflow = split-streams rows route arrivals values streams v h }
+pub splits : (rows : Rows) (route : Route) (arrivals : Stream) (fates : List Fate) (values : List ℕ) (streams : List Stream) → IsStream arrivals → values ≡ map (route_value rows route) arrivals.job → fates ≡ map (λ time. Departs time) arrivals.time → AreParts route arrivals values streams → IsLeaving rows (Split route) arrivals fates streams
+splits rows route arrivals fates values streams s v f h = record { leave = f; outflow = split-streams rows route arrivals values streams s v h }
 
 -- a stream is told by its pairs
 jobs-back : (times jobs : List ℕ) → length jobs ≡ length times → map (λ (p : ℕ × ℕ). p.1) (zip times jobs) ≡ jobs
@@ -176,5 +178,5 @@ holds rows demand arrivals fates demands departs leaving streams s m d f stream 
     let time : leaving.time ≡ map (λ (p : ℕ × ℕ). p.0) (by_first (zip departs arrivals.job)) = sym (moments-back leaving.time leaving.job stream.even) ∙ ap (map (λ (p : ℕ × ℕ). p.0)) pairs in
     record {
       leave = f ∙ ap (map (λ time. Departs time)) by;
-      outflow = one-stream rows (Delay demand) arrivals departs streams refl refl (ap (map (λ time. Departs time)) (sym by)) (ap length by ∙ (delayed-length arrivals.time _ even ∙ sym s.even)) (e ∙ (λ k. record { job = job k; time = time k } ∷ []));
+      outflow = one-stream rows (Delay demand) arrivals departs streams s.even refl refl (ap (map (λ time. Departs time)) (sym by)) (ap length by ∙ (delayed-length arrivals.time _ even ∙ sym s.even)) (e ∙ (λ k. record { job = job k; time = time k } ∷ []));
     }

@@ -11,6 +11,7 @@ mod arrivals;
 mod fault;
 mod late;
 mod laws;
+mod losses;
 mod stations;
 mod turns;
 

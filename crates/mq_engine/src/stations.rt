@@ -8,6 +8,7 @@ ghost use Rattle.mq_core.specs.declared.model.Fate.TheVariants.{Departs};
 ghost use Rattle.mq_core.specs.declared.model.Rows.{Rows as TheRows};
 ghost use Rattle.mq_engine.specs.Turns.{AreTold, IsLeaving, IsLoad};
 
+use crate::losses::admitted_or_lost;
 use mq_base::{List, OutOfMemory};
 use mq_core::{Demand, Fate, Kind, Network, Route, Rows, Stream, demand_of};
 use mq_delay::delay;
@@ -37,6 +38,9 @@ pub fn leaving(
         Kind::Source => passed_on(alloc, arrivals),
         Kind::Server(demand) => served(alloc, net, rows, demand, arrivals),
         Kind::Delay(demand) => held(alloc, net, rows, demand, arrivals),
+        Kind::Loss { places, demand } => {
+            admitted_or_lost(alloc, net, rows, *places, demand, arrivals)
+        }
         Kind::Split(route) => routed(alloc, net, rows, route, arrivals),
     }
 }
@@ -107,7 +111,7 @@ fn routed(
 }
 
 // The demand of each job, in ticks.
-fn demands_of(
+pub fn demands_of(
     alloc: Global,
     net: &Network,
     rows: &Rows,

@@ -1,12 +1,11 @@
 -- The departures that a guess gives: in parts, in number, and their limit.
-use Rattle.std.proofs.Common.{◌≡◌, ℕ, zero, suc, ◌+◌, ◌-◌, ◌*◌, ◌^◌, ◌≤◌, Bool, true, false, List, [], ◌∷◌, ◌++◌, length, take, drop, refl, sym, ap, ◌∙◌, subst, arith, max, append_assoc}
+use Rattle.std.proofs.Common.{◌≡◌, ℕ, ◌+◌, ◌*◌, ◌^◌, ◌≤◌, Bool, true, false, List, [], ◌∷◌, ◌++◌, length, drop, refl, sym, ap, ◌∙◌, subst, arith, append_assoc}
 use Rattle.std.specs.Prelude.{All, reverse, slice_get, if◌then◌else◌}
 use Rattle.std.proofs.lemmas.List.{reverse-append, append-nil}
 use Rattle.std.proofs.lemmas.List.Elements.{All-head, All-tail}
 use Rattle.mq_core.specs.Recurrences.{is_admitted, loss_fates, time_or_none}
-use Rattle.mq_core.specs.declared.model.Fate.{Fate}
 use Rattle.mq_core.specs.declared.model.Fate.TheVariants.{Departs, Lost}
-use Rattle.mq_loss.specs.Rounds.{admits, admission_from, all_admitted, departure_behind, departures_from, departures_in, left_behind, round_from}
+use Rattle.mq_loss.specs.Rounds.{admission_from, departure_behind, departures_from, departures_in, left_behind, round_from}
 use Rattle.mq_loss.proofs.Guesses.{admission-next}
 
 -- one more in front of those behind which others depart
@@ -36,7 +35,7 @@ departures-few left (arrive ∷ arrives) (demand ∷ demands) (false ∷ guess) 
 pub departures-append : (left times demands : List ℕ) (guess more : List Bool) → length demands ≡ length times →
     departures_from left times demands (guess ++ more)
     ≡ departures_from left times demands guess
-      ++ departures_from (reverse (departures_from left times demands guess) ++ left) (drop (length guess) times) (drop (length guess) demands) more
+    ++ departures_from (reverse (departures_from left times demands guess) ++ left) (drop (length guess) times) (drop (length guess) demands) more
 departures-append left times demands [] more d =
     ap (λ ds. ds ++ departures_from (reverse ds ++ left) times demands more) (sym (departures-none left times demands))
 departures-append left [] demands (admit ∷ guess) more d = refl
@@ -96,7 +95,7 @@ pub departures-early : (times demands : List ℕ) (guess : List Bool) → All (�
 departures-early times demands guess a e =
     let none : 0 + length guess ≡ length guess = omega arith in
     subst (λ (p : List ℕ × ℕ). IsEarly p.0 p.1) (λ k. (append-nil (reverse (departures_from [] times demands guess)) k, none k))
-      (early-all [] times demands guess 0 a e (record { limit = omega arith }))
+    (early-all [] times demands guess 0 a e (record { limit = omega arith }))
 
 -- the departures of those that are admitted are those that the admission gives
 verdict-departs : (places : ℕ) (left : List ℕ) (arrive demand : ℕ) (arrives demands : List ℕ) (b : Bool) →

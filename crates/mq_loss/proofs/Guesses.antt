@@ -1,10 +1,9 @@
 -- How a round mends a guess, by induction on the arrivals.
-use Rattle.std.proofs.Common.{◌≡◌, ℕ, zero, suc, ◌+◌, ◌-◌, Bool, true, false, List, [], ◌∷◌, length, take, map, refl, sym, ap, ◌∙◌, subst, arith, max}
+use Rattle.std.proofs.Common.{◌≡◌, ℕ, zero, suc, Bool, true, false, List, [], ◌∷◌, length, take, map, refl, sym, ap, ◌∙◌, subst, arith}
 use Rattle.std.specs.Prelude.{if◌then◌else◌}
 use Rattle.mq_core.specs.Recurrences.{is_admitted, loss_fates}
-use Rattle.mq_core.specs.declared.model.Fate.{Fate}
 use Rattle.mq_core.specs.declared.model.Fate.TheVariants.{Departs, Lost}
-use Rattle.mq_loss.specs.Rounds.{admits, admission_from, departure_behind, departures_from, departures_in, left_behind, round_from}
+use Rattle.mq_loss.specs.Rounds.{admits, admission_from, departure_behind, left_behind, round_from}
 
 by-verdict : (places : ℕ) (left : List ℕ) (arrive demand : ℕ) (arrives demands : List ℕ) (b : Bool) →
     map admits (if b then (Departs (departure_behind left arrive demand) ∷ loss_fates places (departure_behind left arrive demand ∷ left) arrives demands) else (Lost ∷ loss_fates places left arrives demands))
@@ -22,8 +21,8 @@ admission-next places left arrive demand arrives demands = by-verdict places lef
 step : (count places : ℕ) (left : List ℕ) (arrive demand : ℕ) (arrives demands : List ℕ) (admit verdict : Bool) (guess : List Bool) →
     admit ∷ take count guess ≡ verdict ∷ take count (admission_from places (left_behind verdict left arrive demand) arrives demands) →
     (take count guess ≡ take count (admission_from places (left_behind admit left arrive demand) arrives demands) →
-      take (suc count) (round_from places (left_behind admit left arrive demand) arrives demands guess)
-      ≡ take (suc count) (admission_from places (left_behind admit left arrive demand) arrives demands)) →
+    take (suc count) (round_from places (left_behind admit left arrive demand) arrives demands guess)
+    ≡ take (suc count) (admission_from places (left_behind admit left arrive demand) arrives demands)) →
     take (suc (suc count)) (verdict ∷ round_from places (left_behind admit left arrive demand) arrives demands guess)
     ≡ take (suc (suc count)) (verdict ∷ admission_from places (left_behind verdict left arrive demand) arrives demands)
 step count places left arrive demand arrives demands admit verdict guess h more =
@@ -43,8 +42,8 @@ grows zero places left (arrive ∷ arrives) (demand ∷ demands) (admit ∷ gues
     ap (take 1) (sym (admission-next places left arrive demand arrives demands))
 grows (suc count) places left (arrive ∷ arrives) (demand ∷ demands) (admit ∷ guess) d g h =
     step count places left arrive demand arrives demands admit (is_admitted places left arrive) guess
-      (h ∙ ap (take (suc count)) (admission-next places left arrive demand arrives demands))
-      (grows count places (left_behind admit left arrive demand) arrives demands guess (omega arith) (omega arith))
+    (h ∙ ap (take (suc count)) (admission-next places left arrive demand arrives demands))
+    (grows count places (left_behind admit left arrive demand) arrives demands guess (omega arith) (omega arith))
     ∙ ap (take (suc (suc count))) (sym (admission-next places left arrive demand arrives demands))
 
 -- what a round leaves as it is, is the admission
@@ -71,4 +70,4 @@ right-stays places left (arrive ∷ arrives) (demand ∷ demands) d =
     let verdict : Bool = is_admitted places left arrive in
     let next = admission-next places left arrive demand arrives demands in
     subst (λ (guess : List Bool). round_from places left (arrive ∷ arrives) (demand ∷ demands) guess ≡ guess) (sym next)
-      (ap (λ xs. verdict ∷ xs) (right-stays places (left_behind verdict left arrive demand) arrives demands (omega arith)))
+    (ap (λ xs. verdict ∷ xs) (right-stays places (left_behind verdict left arrive demand) arrives demands (omega arith)))

@@ -1,6 +1,7 @@
 pub mod Departing
 pub mod Guesses
 pub mod Looping
+pub mod Reading
 pub mod Repeating
 pub mod Rows
 pub mod Running

@@ -1,7 +1,7 @@
 -- One item further in the loops over arrivals.
-use Rattle.std.proofs.Common.{◌≡◌, ℕ, zero, suc, ◌+◌, ◌-◌, ◌*◌, ◌^◌, ◌<◌, ◌≤◌, Bool, true, false, List, [], ◌∷◌, ◌++◌, length, get_or, take, drop, refl, Some, sym, ap, ◌∙◌, subst, arith, drop-cons, append_assoc}
+use Rattle.std.proofs.Common.{◌≡◌, ℕ, suc, ◌+◌, ◌^◌, ◌<◌, ◌≤◌, Bool, true, false, List, [], ◌∷◌, ◌++◌, length, get_or, take, drop, refl, Some, sym, ap, ◌∙◌, subst, arith, drop-cons, append_assoc}
 use Rattle.std.proofs.Math.Seq.{take-suc}
-use Rattle.std.specs.Prelude.{All, replicate, reverse, slice_get}
+use Rattle.std.specs.Prelude.{reverse, slice_get}
 use Rattle.std.proofs.lemmas.Option.{slice_get_within, get_or_from_slice_get}
 use Rattle.std.proofs.lemmas.List.{append-nil, drop_all, reverse-append}
 use Rattle.std.proofs.lemmas.List.Elements.{All-get_or}
@@ -93,7 +93,7 @@ keep-next first done done' outcome at x t p h =
     let within = slice_get_within outcome at x t in
     let next : suc at ≡ at + 1 = omega arith in
     let more : take (at + 1) outcome ≡ take at outcome ++ x ∷ [] =
-      ap (λ n. take n outcome) (sym next) ∙ (take-suc outcome at x within ∙ ap (λ y. take at outcome ++ y ∷ []) (get_or_from_slice_get outcome at x x t)) in
+    ap (λ n. take n outcome) (sym next) ∙ (take-suc outcome at x within ∙ ap (λ y. take at outcome ++ y ∷ []) (get_or_from_slice_get outcome at x x t)) in
     p ∙ (ap (λ xs. xs ++ x ∷ []) h ∙ (append_assoc first (take at outcome) (x ∷ []) ∙ ap (λ xs. first ++ xs) (sym more)))
 
 -- what departs behind these, with one arrival more

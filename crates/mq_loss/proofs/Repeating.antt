@@ -1,12 +1,11 @@
 -- A run of rounds over all arrivals: what holds between two of them, and at the end.
-use Rattle.std.proofs.Common.{◌≡◌, ℕ, zero, suc, ◌+◌, ◌-◌, ◌*◌, ◌<◌, ◌≤◌, ◌⊎◌, inl, inr, Bool, true, false, List, [], ◌∷◌, length, take, refl, sym, ap, ◌∙◌, subst, arith, below_more}
+use Rattle.std.proofs.Common.{◌≡◌, ℕ, zero, suc, ◌+◌, ◌<◌, ◌≤◌, ◌⊎◌, inl, inr, Bool, true, false, List, [], ◌∷◌, length, take, refl, sym, ap, ◌∙◌, subst, arith, below_more}
 use Rattle.std.specs.Prelude.{if◌then◌else◌, ◌≢◌, ◌↔◌, IsTrue}
 use Rattle.std.proofs.lemmas.Bool.{cases_lt}
 use Rattle.std.proofs.lemmas.List.{length-map, length-replicate, take_all}
 use Rattle.mq_core.specs.Recurrences.{is_admitted, loss_fates}
-use Rattle.mq_core.specs.declared.model.Fate.{Fate}
 use Rattle.mq_core.specs.declared.model.Fate.TheVariants.{Departs, Lost}
-use Rattle.mq_loss.specs.Rounds.{IsSettled, IsWholeRun, admission, admits, all_admitted, departure_behind, departures_in, departures_of, guess_after, left_behind, round_from, round_of}
+use Rattle.mq_loss.specs.Rounds.{IsSettled, admission, admits, all_admitted, departure_behind, departures_of, guess_after, left_behind, round_from, round_of}
 use Rattle.mq_loss.specs.declared.answer.Settled.{Settled}
 use Rattle.mq_loss.proofs.Departing.{admission-departs}
 use Rattle.mq_loss.proofs.Guesses.{grows, right-stays, stays-right}
@@ -73,8 +72,8 @@ still-few places times demands rounds guess d g h a differ = go (cases_lt rounds
     go : (rounds < length times) ⊎ (length times ≤ rounds) → rounds < length times
     go (inl l) = l
     go (inr l) =
-      let is : guess ≡ admission places times demands = sym (take_all rounds guess (omega arith)) ∙ (h ∙ take_all rounds (admission places times demands) (omega arith)) in
-      absurd (differ (ap (round_of places times demands) is ∙ (right-stays places [] times demands d ∙ sym is)))
+        let is : guess ≡ admission places times demands = sym (take_all rounds guess (omega arith)) ∙ (h ∙ take_all rounds (admission places times demands) (omega arith)) in
+        absurd (differ (ap (round_of places times demands) is ∙ (right-stays places [] times demands d ∙ sym is)))
 
 differs : (stays : Bool) → stays ≡ false → stays ≡ true → ⊥
 differs stays f t = cc
@@ -87,25 +86,25 @@ repeats places times demands rounds guess next stays d h e test =
     let going = h.going refl in
     let reached : next ≡ guess_after places times demands (suc rounds) = e ∙ ap (round_of places times demands) h.reached in
     let whole : length (admission places times demands) ≡ length times =
-      length-map (loss_fates places [] times demands) admits ∙ fates-length places [] times demands d in
+    length-map (loss_fates places [] times demands) admits ∙ fates-length places [] times demands d in
     record {
       reached = reached ∙ ap (guess_after places times demands) more;
       right = subst (λ (n : ℕ). take n next ≡ take n (admission places times demands)) more (ap (take (suc rounds)) e ∙ grows rounds places [] times demands guess d h.number h.right);
       number = ap length e ∙ round-length places [] times demands guess d h.number;
       few = (let a = going.few in omega arith);
       going = λ f.
-        record {
-          few = (let a = still-few places times demands rounds guess d h.number h.right whole (λ s. differs stays f (test.1 (e ∙ s))) in omega arith);
-          changed = below_more _ rounds going.changed (λ s. differs stays f (test.1 (reached ∙ (s ∙ sym h.reached))));
-        };
+          record {
+            few = (let a = still-few places times demands rounds guess d h.number h.right whole (λ s. differs stays f (test.1 (e ∙ s))) in omega arith);
+            changed = below_more _ rounds going.changed (λ s. differs stays f (test.1 (reached ∙ (s ∙ sym h.reached))));
+          };
       ended = λ f.
-        record {
-          some = omega arith;
-          changed = λ round l. going.changed round (omega arith);
-          unchanged = λ round k.
-            (let at : rounds ≡ round = omega arith in
-             subst (λ (n : ℕ). guess_after places times demands (suc n) ≡ guess_after places times demands n) at (sym reached ∙ (test.0 f ∙ h.reached)));
-        };
+          record {
+            some = omega arith;
+            changed = λ round l. going.changed round (omega arith);
+            unchanged = λ round k.
+                (let at : rounds ≡ round = omega arith in
+                subst (λ (n : ℕ). guess_after places times demands (suc n) ≡ guess_after places times demands n) at (sym reached ∙ (test.0 f ∙ h.reached)));
+          };
     }
 
 -- a last round that changed nothing left the admission
@@ -115,7 +114,7 @@ ended-right places times demands rounds guess d h = go rounds h.reached (h.ended
     go : (rounds : ℕ) → guess ≡ guess_after places times demands rounds → IsEnded places times demands rounds → guess ≡ admission places times demands
     go zero e k = absurd (omega (arith, k.some))
     go (suc round) e k =
-      e ∙ (k.unchanged round refl ∙ stays-right places [] times demands (guess_after places times demands round) d (guess-length places times demands round d) (k.unchanged round refl))
+        e ∙ (k.unchanged round refl ∙ stays-right places [] times demands (guess_after places times demands round) d (guess-length places times demands round d) (k.unchanged round refl))
 
 pub settled-whole : (places : ℕ) (times demands : List ℕ) (settled : Settled) → length demands ≡ length times → settled.admitted ≡ admission places times demands →
     settled.departs ≡ departures_of times demands settled.admitted → IsSettled places times demands settled

@@ -1,7 +1,7 @@
 -- Rounds and windows, computed on a case worked by hand: one place, each served for 2 ticks, one arrival a tick.
-use Rattle.std.proofs.Common.{◌≡◌, ℕ, Bool, true, false, List, [], ◌∷◌, refl}
+use Rattle.std.proofs.Common.{◌≡◌, ℕ, true, false, List, [], ◌∷◌, refl}
 use Rattle.mq_loss.specs.Rounds.{admission, departures_of, guess_after, round_of}
-use Rattle.mq_loss.specs.Windows.{Stand, after_windows}
+use Rattle.mq_loss.specs.Windows.{after_windows}
 
 abbrev times : List ℕ
 times = 0 ∷ 1 ∷ 2 ∷ 3 ∷ []

@@ -1,5 +1,5 @@
 -- What one window makes of the settled places and their departures.
-use Rattle.std.proofs.Common.{◌≡◌, ℕ, zero, suc, ◌+◌, ◌-◌, ◌*◌, ◌<◌, ◌≤◌, Bool, true, false, List, [], ◌∷◌, ◌++◌, length, take, drop, refl, sym, ap, ◌∙◌, subst, arith, length-drop, length-append, append_assoc}
+use Rattle.std.proofs.Common.{◌≡◌, ℕ, zero, suc, ◌+◌, ◌-◌, ◌≤◌, Bool, List, [], ◌∷◌, ◌++◌, length, take, drop, refl, sym, ap, ◌∙◌, arith, length-drop, length-append}
 use Rattle.std.specs.Prelude.{min, reverse}
 use Rattle.std.proofs.Math.Seq.{take-append-add}
 use Rattle.std.proofs.lemmas.List.{append-nil}
@@ -45,19 +45,19 @@ window-is places times demands settled width count departs departs' outcome d wi
     let longer : length departs' ≡ length departs + count = ap length more ∙ (length-append departs _ ∙ ap (λ n. length departs + n) (departures-length count (reverse departs) times' demands' same ∙ sym whole)) in
     record {
       outcome_is =
-        round-behind places [] times demands settled (all_admitted width) d
-        ∙ (ap (λ (ls : List ℕ). round_from places ls times' demands' (all_admitted width)) front
-        ∙ (round-cut width count places (reverse departs) times' demands' same cut ∙ sym o));
+          round-behind places [] times demands settled (all_admitted width) d
+          ∙ (ap (λ (ls : List ℕ). round_from places ls times' demands' (all_admitted width)) front
+          ∙ (round-cut width count places (reverse departs) times' demands' same cut ∙ sym o));
       number = number;
       longer = longer;
       kept =
-        ap (take (length departs + unchanged_in outcome)) more
-        ∙ (take-append-add departs _ (unchanged_in outcome)
-        ∙ (ap (λ (os : List Bool). departs ++ take (unchanged_in os) (departures_from (reverse departs) times' demands' (all_admitted count))) o
-        ∙ (ap (λ ds. departs ++ ds) (sym (window-departs count places (reverse departs) times' demands' same))
-        ∙ (ap (λ (os : List Bool). departs ++ departures_from (reverse departs) times' demands' (take (settled_in os) os)) (sym o)
-        ∙ (ap (λ (q : List ℕ × List ℕ). q.0 ++ departures_from q.1 times' demands' (take (settled_in outcome) outcome)) (λ k. (left k, sym front k))
-        ∙ sym (departures-append [] times demands settled (take (settled_in outcome) outcome) d))))));
+          ap (take (length departs + unchanged_in outcome)) more
+          ∙ (take-append-add departs _ (unchanged_in outcome)
+          ∙ (ap (λ (os : List Bool). departs ++ take (unchanged_in os) (departures_from (reverse departs) times' demands' (all_admitted count))) o
+          ∙ (ap (λ ds. departs ++ ds) (sym (window-departs count places (reverse departs) times' demands' same))
+          ∙ (ap (λ (os : List Bool). departs ++ departures_from (reverse departs) times' demands' (take (settled_in os) os)) (sym o)
+          ∙ (ap (λ (q : List ℕ × List ℕ). q.0 ++ departures_from q.1 times' demands' (take (settled_in outcome) outcome)) (λ k. (left k, sym front k))
+          ∙ sym (departures-append [] times demands settled (take (settled_in outcome) outcome) d))))));
     }
 
 -- where the run stands behind the window

@@ -1,5 +1,5 @@
 -- What the round of a window settles is right, by induction on the window.
-use Rattle.std.proofs.Common.{◌≡◌, ℕ, zero, suc, ◌+◌, ◌-◌, ◌*◌, ◌<◌, ◌≤◌, Bool, true, false, List, [], ◌∷◌, ◌++◌, length, take, drop, refl, sym, ap, ◌∙◌, subst, arith, max}
+use Rattle.std.proofs.Common.{◌≡◌, ℕ, zero, suc, ◌*◌, ◌≤◌, Bool, true, false, List, [], ◌∷◌, ◌++◌, length, take, drop, refl, sym, ap, ◌∙◌, subst, arith}
 use Rattle.std.specs.Prelude.{min, reverse}
 use Rattle.std.proofs.lemmas.Bool.Decides.{nat_tests}
 use Rattle.mq_core.specs.Recurrences.{is_admitted}
@@ -34,15 +34,15 @@ right-step places left arrive demand arrives demands outcome true e h =
     let count : ℕ = settled_in outcome in
     let ds = departures_from (first ∷ left) arrives demands (take count outcome) in
     subst (λ (n : ℕ). IsRight places left (arrive ∷ arrives) (demand ∷ demands) (true ∷ outcome) n) (sym (settled-more outcome))
-      (ap (λ (ls : List ℕ). true ∷ (take count outcome ++ admission_from places ls (drop count arrives) (drop count demands))) (behind-cons first ds left)
-      ∙ (ap (λ xs. true ∷ xs) h
-      ∙ (ap (λ (b : Bool). b ∷ admission_from places (left_behind b left arrive demand) arrives demands) (sym e)
-      ∙ sym (admission-next places left arrive demand arrives demands))))
+    (ap (λ (ls : List ℕ). true ∷ (take count outcome ++ admission_from places ls (drop count arrives) (drop count demands))) (behind-cons first ds left)
+    ∙ (ap (λ xs. true ∷ xs) h
+    ∙ (ap (λ (b : Bool). b ∷ admission_from places (left_behind b left arrive demand) arrives demands) (sym e)
+    ∙ sym (admission-next places left arrive demand arrives demands))))
 right-step places left arrive demand arrives demands outcome false e h =
     subst (λ (n : ℕ). IsRight places left (arrive ∷ arrives) (demand ∷ demands) (false ∷ outcome) n) (sym (settled-one outcome))
-      (ap (λ (ds : List ℕ). false ∷ admission_from places (reverse ds ++ left) arrives demands) (departures-none left arrives demands)
-      ∙ (ap (λ (b : Bool). b ∷ admission_from places (left_behind b left arrive demand) arrives demands) (sym e)
-      ∙ sym (admission-next places left arrive demand arrives demands)))
+    (ap (λ (ds : List ℕ). false ∷ admission_from places (reverse ds ++ left) arrives demands) (departures-none left arrives demands)
+    ∙ (ap (λ (b : Bool). b ∷ admission_from places (left_behind b left arrive demand) arrives demands) (sym e)
+    ∙ sym (admission-next places left arrive demand arrives demands)))
 
 pub window-right : (width places : ℕ) (left times demands : List ℕ) → length demands ≡ length times →
     let outcome = round_from places left times demands (all_admitted width) in
@@ -52,8 +52,8 @@ window-right width places left (arrive ∷ arrives) [] d = absurd (omega arith)
 window-right zero places left (arrive ∷ arrives) (demand ∷ demands) d = refl
 window-right (suc width) places left (arrive ∷ arrives) (demand ∷ demands) d =
     right-step places left arrive demand arrives demands (round_from places (departure_behind left arrive demand ∷ left) arrives demands (all_admitted width))
-      (is_admitted places left arrive) refl
-      (window-right width places (departure_behind left arrive demand ∷ left) arrives demands (omega arith))
+    (is_admitted places left arrive) refl
+    (window-right width places (departure_behind left arrive demand ∷ left) arrives demands (omega arith))
 
 departs-step : (width : ℕ) (left : List ℕ) (arrive demand : ℕ) (arrives demands : List ℕ) (outcome : List Bool) (b : Bool) →
     let first = departure_behind left arrive demand in
@@ -77,8 +77,8 @@ window-departs width places left (arrive ∷ arrives) [] d = absurd (omega arith
 window-departs zero places left (arrive ∷ arrives) (demand ∷ demands) d = refl
 window-departs (suc width) places left (arrive ∷ arrives) (demand ∷ demands) d =
     departs-step width left arrive demand arrives demands (round_from places (departure_behind left arrive demand ∷ left) arrives demands (all_admitted width))
-      (is_admitted places left arrive)
-      (window-departs width places (departure_behind left arrive demand ∷ left) arrives demands (omega arith))
+    (is_admitted places left arrive)
+    (window-departs width places (departure_behind left arrive demand ∷ left) arrives demands (omega arith))
 
 -- a window is cut to what is left
 pub window-length : (width places : ℕ) (left times demands : List ℕ) → length demands ≡ length times →

@@ -6,13 +6,13 @@
 mod answer;
 mod judging;
 mod laws;
-mod whole;
-mod windows;
 #[cfg(test)]
 mod tests;
+mod whole;
+mod windows;
 
 pub use answer::Settled;
 pub use judging::judge;
-pub use laws::{guesses_grow, one_guess_stays};
+pub use laws::{guessed_are_served, guesses_grow, one_guess_stays, rounds_judge_each};
 pub use whole::{round, settle_whole};
 pub use windows::settle;

@@ -55,11 +55,7 @@ fn unchanged_of(outcome: &[bool]) -> usize
 }
 
 // Puts the first `count` of these behind those that are settled.
-fn keep(
-    admitted: &mut List<bool>,
-    outcome: &List<bool>,
-    count: usize,
-) -> Result<(), OutOfMemory>
+fn keep(admitted: &mut List<bool>, outcome: &List<bool>, count: usize) -> Result<(), OutOfMemory>
     requires { count ≤ length outcome.now }
     ensures { OnOk result (admitted.new ≡ admitted.old ++ take count outcome.now) }
 {
@@ -74,11 +70,7 @@ fn width_after(settled: usize, width: usize) -> usize
     requires { width ≤ 2 ^ 34 }
     ensures { result ≡ next_width settled width }
 {
-    if settled == width {
-        2 * width
-    } else {
-        settled
-    }
+    if settled == width { 2 * width } else { settled }
 }
 
 // Settles the next window, of this length or what is left, and gives the length of the one after it.

@@ -65,8 +65,9 @@ fn outs_of(alloc: Global, values: &List<u64>, route: &Route) -> Result<Vec<u8>, 
     Ok(outs)
 }
 
-// The items of a stream whose output is this one.
-fn pick(alloc: Global, stream: &Stream, outs: &[u8], out: u8) -> Result<Stream, OutOfMemory>
+/// The items, in their order, whose output is this one. `outs` has the output of each, by position;
+/// the jobs and the times of the stream are as many. It refuses for want of memory alone.
+pub fn pick(alloc: Global, stream: &Stream, outs: &[u8], out: u8) -> Result<Stream, OutOfMemory>
     requires jobs { length stream.now.job ≡ length outs.now }
     requires times { length stream.now.time ≡ length outs.now }
     ensures { IfOk result (λ part. part ≡ picked_stream outs.now stream.now out) }

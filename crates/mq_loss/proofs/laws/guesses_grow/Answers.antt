@@ -1,4 +1,4 @@
-use Rattle.std.proofs.Common.{◌≡◌, ℕ, suc, ◌+◌, Bool, List, length, arith, subst, take, []}
+use Rattle.std.proofs.Common.{◌≡◌, ℕ, suc, ◌+◌, arith, subst, []}
 use Rattle.mq_loss.specs.Laws.{IsRightOn}
 use Rattle.mq_loss.specs.Rounds.{round_of}
 use Rattle.mq_loss.proofs.Guesses.{grows}

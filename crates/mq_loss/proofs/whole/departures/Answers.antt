@@ -1,4 +1,4 @@
-use Rattle.std.proofs.Common.{◌≡◌, ◌++◌, ◌+◌, ◌≤◌, ℕ, Bool, List, length, sym, subst, arith}
+use Rattle.std.proofs.Common.{◌≡◌, ◌+◌, ◌≤◌, ℕ, Bool, List, length, sym, subst, arith}
 use Rattle.std.specs.Prelude.{reverse}
 use Rattle.mq_loss.specs.Rounds.{left_behind}
 use Rattle.mq_loss.proofs.Departing.{IsEarly}

@@ -8,7 +8,7 @@ use Rattle.mq_loss.proofs.whole.departures.Given as goal
 abbrev pub invariant-loop-at : goal.invariant-loop-at
 invariant-loop-at l = record {
   so_far :
-    l.departs ++ departures_from (reverse l.departs) (drop l.at l.stream.time) (drop l.at l.demands) (drop l.at l.admitted)
-    ≡ departures_of l.stream.time l.demands l.admitted;
+      l.departs ++ departures_from (reverse l.departs) (drop l.at l.stream.time) (drop l.at l.demands) (drop l.at l.admitted)
+      ≡ departures_of l.stream.time l.demands l.admitted;
   early : IsEarly (reverse l.departs) l.at;
 }

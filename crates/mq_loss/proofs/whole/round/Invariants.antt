@@ -8,7 +8,7 @@ use Rattle.mq_loss.proofs.whole.round.Given as goal
 abbrev pub invariant-loop-at : goal.invariant-loop-at
 invariant-loop-at l = record {
   so_far :
-    l.answer ++ round_from l.places (reverse l.departs) (drop l.at l.stream.time) (drop l.at l.demands) (drop l.at l.guess)
-    ≡ round_of l.places l.stream.time l.demands l.guess;
+      l.answer ++ round_from l.places (reverse l.departs) (drop l.at l.stream.time) (drop l.at l.demands) (drop l.at l.guess)
+      ≡ round_of l.places l.stream.time l.demands l.guess;
   early : IsEarly (reverse l.departs) l.at;
 }

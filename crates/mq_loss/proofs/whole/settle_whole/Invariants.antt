@@ -1,4 +1,4 @@
-use Rattle.std.proofs.Common.{◌≡◌, ◌+◌, ◌-◌, length}
+use Rattle.std.proofs.Common.{◌+◌, ◌-◌, length}
 use Rattle.mq_loss.proofs.Repeating.{IsRepeating}
 use Rattle.mq_loss.proofs.whole.settle_whole.Given as goal
 

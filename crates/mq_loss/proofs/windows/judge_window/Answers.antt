@@ -1,4 +1,4 @@
-use Rattle.std.proofs.Common.{◌≡◌, ◌+◌, ◌-◌, ◌≤◌, ◌++◌, suc, ℕ, List, [], ◌∷◌, ap, ◌∙◌, arith, subst, sym}
+use Rattle.std.proofs.Common.{◌≡◌, ◌+◌, ◌-◌, ◌++◌, suc, ℕ, List, [], ◌∷◌, ap, ◌∙◌, arith, subst, sym}
 use Rattle.mq_core.specs.Recurrences.{is_admitted}
 use Rattle.std.specs.Prelude.{reverse}
 use Rattle.mq_loss.specs.Rounds.{departure_behind}

@@ -1,4 +1,4 @@
-use Rattle.std.proofs.Common.{◌≡◌, ℕ, ◌+◌, ◌-◌, ◌<◌, ◌≤◌, Bool, List, [], length, refl, sym, ap, ◌∙◌, subst, arith}
+use Rattle.std.proofs.Common.{ℕ, ◌+◌, ◌<◌, ◌≤◌, Bool, List, [], length, sym, ap, ◌∙◌, subst, arith}
 use Rattle.mq_loss.specs.Rounds.{departures_of}
 use Rattle.mq_loss.specs.Windows.{stand_of}
 use Rattle.mq_loss.proofs.Departing.{departures-none}
@@ -22,7 +22,7 @@ onward : (g : _) (c : In_ok-width g) →
 onward g c =
     let left : length c.window.settled.admitted < length c.args.stream.now.time = omega arith in
     goes-on c.args.places c.args.stream.now.time c.args.demands.now c.args.first c.window.settled.rounds (stand_of c.window.settled c.window.width) (stand_of c.settle_window.new.settled c.in_ok-width.width)
-      c.requires.load.each c.window.invariant.stands left c.in_ok-width.ensures.stand
+    c.requires.load.each c.window.invariant.stands left c.in_ok-width.ensures.stand
 
 pub window-smaller : goal.window-smaller
 window-smaller g c =

@@ -1,4 +1,4 @@
-use Rattle.std.proofs.Common.{◌≡◌, ◌+◌, ◌-◌, ◌≤◌, ◌++◌, ℕ, List, [], Bool, length, take, drop, ap, sym, ◌∙◌, arith, subst}
+use Rattle.std.proofs.Common.{◌≡◌, ◌+◌, ◌-◌, ◌≤◌, ◌++◌, ℕ, List, [], length, take, drop, ap, sym, ◌∙◌, arith, subst}
 use Rattle.std.specs.Prelude.{min, reverse}
 use Rattle.mq_loss.specs.Rounds.{all_admitted, departures_from, departures_of, round_from}
 use Rattle.mq_loss.specs.Windows.{next_width, settled_in, unchanged_in}
@@ -12,7 +12,7 @@ pub judge_window-requires-clause-early : goal.judge_window-requires-clause-early
 judge_window-requires-clause-early g c =
     let load = c.requires.load in
     let early : IsEarly (reverse (departures_of c.args.stream.now.time c.args.demands.now c.args.settled.now.admitted)) (length c.args.settled.now.admitted) =
-      departures-early c.args.stream.now.time c.args.demands.now c.args.settled.now.admitted load.early load.small in
+    departures-early c.args.stream.now.time c.args.demands.now c.args.settled.now.admitted load.early load.small in
     let now : IsEarly (reverse c.args.settled.now.departs) c.len-from.result = subst (λ (q : List ℕ × ℕ). IsEarly (reverse q.0) q.1) (λ k. (sym c.requires.departs k, sym c.len-from.ensures k)) early in
     now.limit
 
@@ -29,8 +29,8 @@ window g c =
     let cut : count ≡ min c.args.width (length times - length c.args.settled.now.admitted) = omega arith in
     let at : from ≡ length c.args.settled.now.admitted = c.len-from.ensures in
     window-is c.args.places times demands c.args.settled.now.admitted c.args.width count c.args.settled.now.departs c.judge_window.new.departs c.in_ok-outcome.outcome c.requires.load.each within cut c.requires.departs
-      (c.in_ok-outcome.ensures.outcome ∙ ap (λ n. round_from c.args.places left (drop n times) (drop n demands) (all_admitted count)) at)
-      (c.in_ok-outcome.ensures.departs ∙ ap (λ n. c.args.settled.now.departs ++ departures_from left (drop n times) (drop n demands) (all_admitted count)) at)
+    (c.in_ok-outcome.ensures.outcome ∙ ap (λ n. round_from c.args.places left (drop n times) (drop n demands) (all_admitted count)) at)
+    (c.in_ok-outcome.ensures.departs ∙ ap (λ n. c.args.settled.now.departs ++ departures_from left (drop n times) (drop n demands) (all_admitted count)) at)
 
 -- it left no more as it was than it judged
 unchanged : (g : _) (c : After-unchanged_of-unchanged g) → c.unchanged_of-unchanged.result ≤ c.min-to.result - c.len-from.result
@@ -62,20 +62,20 @@ overflow_add-left g c =
     let few = c.requires.load.few in
     let within = c.requires.within in
     let left : length c.args.settled.now.departs ≤ length c.args.settled.now.admitted =
-      subst (λ (ds : List ℕ). length ds ≤ length c.args.settled.now.admitted) (sym c.requires.departs) (departures-few [] c.args.stream.now.time c.args.demands.now c.args.settled.now.admitted) in
+    subst (λ (ds : List ℕ). length ds ≤ length c.args.settled.now.admitted) (sym c.requires.departs) (departures-few [] c.args.stream.now.time c.args.demands.now c.args.settled.now.admitted) in
     let now = c.len-left.ensures in
     omega arith
 
 pub returns-clause-stand : goal.returns-clause-stand
 returns-clause-stand g c =
     stands c.args.places c.args.stream.now.time c.args.demands.now c.args.settled.now.admitted c.keep.new.admitted c.in_ok-outcome.outcome c.args.width c.width_after.result c.args.settled.now.judged _ c.min-count.result
-      (window g (goal.at.returns-clause-stand g c).After-unchanged_of-unchanged).outcome_is (count g (goal.at.returns-clause-stand g c).After-min-count) c.in_ok-keep.ensures (c.width_after.ensures ∙ ap (next_width c.min-count.result) c.len-4.ensures) (ap (λ n. c.args.settled.now.judged + n) c.len-3.ensures)
+    (window g (goal.at.returns-clause-stand g c).After-unchanged_of-unchanged).outcome_is (count g (goal.at.returns-clause-stand g c).After-min-count) c.in_ok-keep.ensures (c.width_after.ensures ∙ ap (next_width c.min-count.result) c.len-4.ensures) (ap (λ n. c.args.settled.now.judged + n) c.len-3.ensures)
 
 pub returns-clause-departs : goal.returns-clause-departs
 returns-clause-departs g c =
     let is : c.unchanged_of-unchanged.result ≡ unchanged_in c.in_ok-outcome.outcome = c.unchanged_of-unchanged.ensures ∙ ap unchanged_in c.as_slice.ensures in
     let kept : c.keep.new.admitted ≡ c.args.settled.now.admitted ++ take (settled_in c.in_ok-outcome.outcome) c.in_ok-outcome.outcome =
-      c.in_ok-keep.ensures ∙ ap (λ n. c.args.settled.now.admitted ++ take n c.in_ok-outcome.outcome) (count g (goal.at.returns-clause-departs g c).After-min-count) in
+    c.in_ok-keep.ensures ∙ ap (λ n. c.args.settled.now.admitted ++ take n c.in_ok-outcome.outcome) (count g (goal.at.returns-clause-departs g c).After-min-count) in
     c.truncate.ensures
     ∙ (ap (λ (q : ℕ × ℕ). take (q.0 + q.1) c.judge_window.new.departs) (λ k. (c.len-left.ensures k, is k))
     ∙ ((window g (goal.at.returns-clause-departs g c).After-unchanged_of-unchanged).kept ∙ ap (departures_of c.args.stream.now.time c.args.demands.now) (sym kept)))
