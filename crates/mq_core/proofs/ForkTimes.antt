@@ -3,14 +3,12 @@ use Rattle.std.proofs.Common.{◌≡◌, ℕ, suc, ◌+◌, ◌≤◌, List, [],
 use Rattle.std.proofs.lemmas.List.{length-map}
 use Rattle.std.specs.List.{AllByRecursion as Each}
 use Rattle.mq_core.specs.ColumnLaws.{FatesInTime}
-use Rattle.mq_core.specs.Fates.{fate_by}
 use Rattle.mq_core.specs.Handling.{demand_of_job}
-use Rattle.mq_core.specs.Machine.{Visit, Emission}
+use Rattle.mq_core.specs.Machine.{Visit}
 use Rattle.mq_core.specs.Recurrences.{lindley, in_series, later_of, fork_departs}
-use Rattle.mq_core.specs.Served.{leaving_from, branch_demands, joined_from}
+use Rattle.mq_core.specs.Served.{branch_demands}
 use Rattle.mq_core.specs.declared.model.Demand.{Demand}
 use Rattle.mq_core.specs.declared.model.Fate.TheVariants.{Departs}
-use Rattle.mq_core.specs.declared.model.Kind.{Kind}
 use Rattle.mq_core.specs.declared.model.Rows.{Rows}
 
 -- one time an arrival, and none before it
