@@ -15,7 +15,7 @@ use Rattle.mq_core.specs.Run.{starts}
 use Rattle.mq_core.specs.Laws.{is_finish_at}
 use Rattle.mq_core.specs.Fates.{fate_of, service_of, unless_lost, BusyIsServices}
 use Rattle.mq_core.specs.declared.model.Kind.{Kind}
-use Rattle.mq_core.specs.declared.model.Kind.TheVariants.{Source, Server, Delay, Loss, Split}
+use Rattle.mq_core.specs.declared.model.Kind.TheVariants.{Source, Server, Delay, Loss, Tandem, ForkJoin, Split}
 use Rattle.mq_core.specs.declared.model.Node.{Node}
 use Rattle.mq_core.specs.declared.model.Plan.{Plan}
 use Rattle.mq_core.proofs.Kept.{Keeps, kept}
@@ -29,6 +29,9 @@ use Rattle.mq_core.specs.declared.model.Demand.{Demand}
 use Rattle.mq_core.specs.declared.model.Rows.{Rows}
 use Rattle.mq_core.proofs.DelayNumbers.{asked, delaying-busy_waits, delaying-busy_arrives, delaying-busy_ends}
 use Rattle.mq_core.proofs.Serves.{Serving, serving-done, positions, next_finish, last_served, pair-inj, latest-push}
+use Rattle.mq_core.proofs.TandemBusy.{begun_in, begun-empty, tandeming-busy_waits, tandeming-busy_arrives, tandeming-busy_ends, tandeming-served}
+use Rattle.mq_core.proofs.JoinBusy.{branches_begun, joining-busy_opens, joining-busy_waits, joining-busy_arrives, joining-busy_ends}
+use Rattle.mq_core.proofs.JoinServices.{joining-busy_done}
 use Rattle.mq_core.proofs.Areas.{get-front, sum-same}
 use Rattle.mq_core.proofs.Remaining.{remaining}
 use Rattle.mq_core.proofs.LossBusy.{LossBusy, losing-busy_waits, losing-busy_arrives, losing-busy_ends, losing-busy_done}
@@ -119,6 +122,8 @@ kind_busy rows Source s fs now = s.busy ≡ 0
 kind_busy rows (Server demand) s fs now = s.busy + remaining now fs ≡ begun rows demand s.visits s.local.queue
 kind_busy rows (Delay demand) s fs now = s.busy + remaining now fs ≡ asked rows demand s.visits
 kind_busy rows (Loss places demand) s fs now = LossBusy rows places demand s.visits s.local.queue fs now s.busy
+kind_busy rows (Tandem stages) s fs now = s.busy + remaining now fs ≡ begun_in rows s.visits (length s.visits) stages s.local.lines
+kind_busy rows (ForkJoin branches) s fs now = s.busy + remaining now fs ≡ branches_begun rows s.visits (length s.visits) branches s.local.branches
 kind_busy rows (Split route) s fs now = s.busy ≡ 0
 
 abbrev pub node_busy : Rows → Option Node → Station Local → List Event → ℕ → Type 0
@@ -134,6 +139,8 @@ busy-opens rows (Some node) v = go node.kind
     go (Server demand) = refl
     go (Delay demand) = refl
     go (Loss places demand) = refl
+    go (Tandem stages) = omega (arith, begun-empty rows [] stages)
+    go (ForkJoin branches) = joining-busy_opens rows branches v
     go (Split route) = refl
 
 node_busy-waits : (rows : Rows) (o : Option Node) (v area : ℕ) (s : Station Local) (fs : List Event) (now later : ℕ) → now ≤ later → Each (λ f. later ≤ time_of f) fs → node_fact rows o v s fs now → node_busy rows o s fs now → node_busy rows o (record s { area = area; busy = s.busy + node_working o s.local * (later - now) }) fs later
@@ -144,7 +151,9 @@ node_busy-waits rows (Some node) v area s fs now later l f h b = go node.kind h 
     go Source h b = omega arith
     go (Server demand) h b = busy-waits rows demand v s.visits s.local.queue s.emitted fs now later s.busy l f h b
     go (Loss places demand) h b = losing-busy_waits rows places demand v s.visits s.local.queue s.emitted fs now later s.busy l f h.1 b
+    go (Tandem stages) h b = tandeming-busy_waits rows stages v s.visits s.local.lines s.emitted fs now later s.busy l f h b
     go (Delay demand) h b = delaying-busy_waits rows demand v s.visits s.local.scheduled s.emitted fs now later s.busy l f h b
+    go (ForkJoin branches) h b = joining-busy_waits rows branches v s.visits s.local.branches s.emitted fs now later s.busy l f h b
     go (Split route) h b = omega arith
 
 node_busy-arrives : (peak : ℕ) (rows : Rows) (o : Option Node) (v port : ℕ) (s : Station Local) (fs : List Event) (now : ℕ) (x : Visit) → x.arrive ≡ now → Each (λ f. now < time_of f) fs → node_fact rows o v s fs now → node_busy rows o s fs now →
@@ -156,7 +165,9 @@ node_busy-arrives peak rows (Some node) v port s fs now x at soon h b = go node.
     go Source h b = b
     go (Server demand) h b = busy-arrives rows demand v s.local s.visits s.local.queue s.emitted fs now s.busy x h b
     go (Loss places demand) h b = losing-busy_arrives rows places demand v port s.local s.visits s.emitted fs now s.busy x at soon h.1 b
+    go (Tandem stages) h b = tandeming-busy_arrives rows stages v s.local s.visits s.local.lines s.emitted fs now s.busy x h b
     go (Delay demand) h b = delaying-busy_arrives rows demand v s.visits fs now s.busy x b
+    go (ForkJoin branches) h b = joining-busy_arrives rows branches v port s.local s.visits fs now s.busy x b
     go (Split route) h b = b
 
 node_busy-ends : (peak : ℕ) (rows : Rows) (o : Option Node) (rank : ℕ → ℕ) (v server position : ℕ) (s : Station Local) (fs rest : List Event) (now : ℕ) → earliest rank fs ≡ Some (Finish now v server position, rest) → node_fact rows o v s fs now → node_busy rows o s fs now →
@@ -168,7 +179,9 @@ node_busy-ends peak rows (Some node) rank v server position s fs rest now first 
     go Source h b = b
     go (Server demand) h b = busy-ends rows demand v s.local rank server position s.visits s.local.queue s.emitted fs rest now s.busy first h b
     go (Loss places demand) h b = losing-busy_ends rows places demand v s.local rank server position s.visits s.local.queue s.emitted fs rest now s.busy first h.1 b
+    go (Tandem stages) h b = tandeming-busy_ends rows rank stages v server position s.visits s.local.lines s.emitted fs rest now s.busy first h b
     go (Delay demand) h b = delaying-busy_ends rows demand v rank server position s.visits fs rest now s.busy first b
+    go (ForkJoin branches) h b = joining-busy_ends rows branches v rank server position s.local s.visits s.emitted fs rest now s.busy first h b
     go (Split route) h b = b
 
 busy-keeps : (plan : Plan) (rows : Rows) → Keeps (standard plan rows) (λ v s fs now. node_fact rows (slice_get plan.net.nodes v) v s fs now × node_busy rows (slice_get plan.net.nodes v) s fs now)
@@ -208,6 +221,13 @@ busy-is_services plan rows read v node here =
     go Source h k = k ∙ (sym (no_sum (length ((run_of plan rows).stations v).visits)) ∙ whole Source (λ m. refl))
     go (Split route) h k = k ∙ (sym (no_sum (length ((run_of plan rows).stations v).visits)) ∙ whole (Split route) (λ m. refl))
     go (Delay demand) h k = let all = whole (Delay demand) (λ m. refl) in omega arith
+    go (Tandem stages) h k =
+        let all = whole (Tandem stages) (λ m. refl) in
+        let served = tandeming-served rows stages v ((run_of plan rows).stations v).visits _ ((run_of plan rows).stations v).emitted _ h in
+        omega arith
+    go (ForkJoin branches) h k =
+        let all = whole (ForkJoin branches) (λ m. refl) in
+        joining-busy_done rows branches v ((run_of plan rows).stations v).visits ((run_of plan rows).stations v).local.branches ((run_of plan rows).stations v).emitted _ _ h k ∙ all
     go (Loss places demand) h k =
         let visits = ((run_of plan rows).stations v).visits in
         let emitted = ((run_of plan rows).stations v).emitted in

@@ -7,7 +7,7 @@ use Rattle.mq_core.specs.StandardTable.{run_of}
 use Rattle.mq_core.specs.Tallies.{emission_at}
 use Rattle.mq_core.specs.Theorems.{IsReadFor}
 use Rattle.mq_core.specs.declared.model.Kind.{Kind}
-use Rattle.mq_core.specs.declared.model.Kind.TheVariants.{Source, Server, Delay, Loss, Split}
+use Rattle.mq_core.specs.declared.model.Kind.TheVariants.{Source, Server, Delay, Loss, Tandem, ForkJoin, Split}
 use Rattle.mq_core.specs.declared.model.Node.{Node}
 use Rattle.mq_core.specs.declared.model.Plan.{Plan}
 use Rattle.mq_core.specs.declared.model.Rows.{Rows}
@@ -36,6 +36,8 @@ flow-leaves rows Source visits = departing-leaves Source (λ m. refl) _ visits
 flow-leaves rows (Server demand) visits = departing-leaves (Server demand) (λ m. refl) _ visits
 flow-leaves rows (Delay demand) visits = departing-leaves (Delay demand) (λ m. refl) _ visits
 flow-leaves rows (Loss places demand) visits = faring-leaves places demand 0 _ visits
+flow-leaves rows (Tandem stages) visits = departing-leaves (Tandem stages) (λ m. refl) _ visits
+flow-leaves rows (ForkJoin branches) visits = departing-leaves (ForkJoin branches) (λ m. refl) _ visits
 flow-leaves rows (Split route) visits = departing-leaves (Split route) (λ m. refl) _ visits
 
 -- the same of the visit and the emission of a position

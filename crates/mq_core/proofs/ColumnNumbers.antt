@@ -12,17 +12,20 @@ use Rattle.mq_core.specs.Laws.{Rises}
 use Rattle.mq_core.specs.Machine.{Visit, Emission}
 use Rattle.mq_core.specs.Recurrences.{is_admitted, loss_fates, time_or_none}
 use Rattle.mq_core.specs.Results.{fates_from}
-use Rattle.mq_core.specs.Served.{served, served_from, passed_from, delayed_from, faring_from, flow_of, in_leaving_order}
+use Rattle.mq_core.specs.Served.{served, served_from, passed_from, delayed_from, faring_from, leaving_from, flow_of, in_leaving_order}
 use Rattle.mq_core.specs.Tallies.{emission_at, arrival_or, found_or, one_if_later, still_there}
 use Rattle.mq_core.specs.declared.model.Demand.{Demand}
 use Rattle.mq_core.specs.declared.model.Fate.{Fate}
 use Rattle.mq_core.specs.declared.model.Fate.TheVariants.{Departs, Lost}
 use Rattle.mq_core.specs.declared.model.Kind.{Kind}
-use Rattle.mq_core.specs.declared.model.Kind.TheVariants.{Source, Server, Delay, Loss, Split}
+use Rattle.mq_core.specs.declared.model.Kind.TheVariants.{Source, Server, Delay, Loss, Tandem, ForkJoin, Split}
 use Rattle.mq_core.specs.declared.model.Rows.{Rows}
 use Rattle.mq_core.proofs.Each.{Each-weaker, Each-filter, filter-none, filter-yes}
 use Rattle.mq_core.proofs.EmissionsAt.{neq-eqb}
+use Rattle.mq_core.proofs.ForkTimes.{joined-long}
 use Rattle.mq_core.proofs.Orders.{filter-order, short-order}
+use Rattle.mq_core.proofs.TandemColumns.{tandem_times-length}
+use Rattle.std.proofs.lemmas.List.{length-map}
 
 -- one emission a visit, by position from this one on, with its job
 abbrev pub Numbered : ℕ → List Emission → List Visit → Type 0
@@ -62,11 +65,19 @@ faring-numbered k (fate ∷ fates) [] e = absurd (omega arith)
 faring-numbered k (Departs time ∷ fates) (x ∷ xs) e = (refl, refl, faring-numbered (suc k) fates xs (omega arith))
 faring-numbered k (Lost ∷ fates) (x ∷ xs) e = (refl, refl, faring-numbered (suc k) fates xs (omega arith))
 
+leaving-numbered : (k : ℕ) (times : List ℕ) (visits : List Visit) → length times ≡ length visits → Numbered k (leaving_from k times visits) visits
+leaving-numbered k [] [] e = tt
+leaving-numbered k [] (x ∷ xs) e = absurd (omega arith)
+leaving-numbered k (time ∷ times) [] e = absurd (omega arith)
+leaving-numbered k (time ∷ times) (x ∷ xs) e = (refl, refl, leaving-numbered (suc k) times xs (omega arith))
+
 pub flow-numbered : (rows : Rows) (kind : Kind) (visits : List Visit) → Numbered 0 (flow_of rows kind visits) visits
 flow-numbered rows Source visits = passed-numbered _ 0 visits
 flow-numbered rows (Server demand) visits = served-numbered rows demand 0 0 visits
 flow-numbered rows (Delay demand) visits = delayed-numbered rows demand 0 visits
 flow-numbered rows (Loss places demand) visits = faring-numbered 0 _ visits (loss-even places [] (λ x. x.arrive) (λ x. demand_of_job rows demand x.job) visits)
+flow-numbered rows (Tandem stages) visits = leaving-numbered 0 _ visits (tandem_times-length rows stages (jobs_of visits) (arrives_of visits) ∙ length-map visits (λ (x : Visit). x.arrive))
+flow-numbered rows (ForkJoin branches) visits = leaving-numbered 0 _ visits (joined-long rows branches visits)
 flow-numbered rows (Split route) visits = passed-numbered _ 0 visits
 
 -- the emission of each position
@@ -120,12 +131,14 @@ found-head q (m ∷ ms) = go (eqb m.position q) (found-head q ms)
 order-parts : (kind : Kind) (k : ℕ) (ms : List Emission) (visits : List Visit) → Numbered k ms visits → (q : ℕ) → filter (λ (m : Emission). eqb m.position q) (in_leaving_order kind ms) ≡ filter (λ (m : Emission). eqb m.position q) ms
 order-parts Source k ms visits n q = refl
 order-parts (Server demand) k ms visits n q = refl
+order-parts (Tandem stages) k ms visits n q = refl
 order-parts (Delay demand) k ms visits n q =
     filter-order (λ (m : Emission). m.time) (λ (m : Emission). eqb m.position q) ms
     ∙ short-order (λ (m : Emission). m.time) (filter (λ (m : Emission). eqb m.position q) ms) (numbered-once k q ms visits n)
 order-parts (Loss places demand) k ms visits n q =
     filter-order (λ (m : Emission). m.time) (λ (m : Emission). eqb m.position q) ms
     ∙ short-order (λ (m : Emission). m.time) (filter (λ (m : Emission). eqb m.position q) ms) (numbered-once k q ms visits n)
+order-parts (ForkJoin branches) k ms visits n q = refl
 order-parts (Split route) k ms visits n q = refl
 
 -- each position is found as if all left by position

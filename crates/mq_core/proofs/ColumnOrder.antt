@@ -9,7 +9,7 @@ use Rattle.mq_core.specs.Machine.{Visit, Emission, Table, emissions_at}
 use Rattle.mq_core.specs.OnTime.{standard-on_time}
 use Rattle.mq_core.specs.Run.{starts}
 use Rattle.mq_core.specs.StandardTable.{standard, run_of}
-use Rattle.mq_core.specs.declared.model.Kind.TheVariants.{Source, Server, Delay, Loss, Split}
+use Rattle.mq_core.specs.declared.model.Kind.TheVariants.{Source, Server, Delay, Loss, Tandem, ForkJoin, Split}
 use Rattle.mq_core.proofs.Each.{Each-append, Each-weaker, Each-map}
 use Rattle.mq_core.proofs.Forward.{emissions-now}
 use Rattle.mq_core.proofs.Kept.{Fact, Keeps, kept}
@@ -95,6 +95,8 @@ pub orders-keep_items : OrdersKeepItems
 orders-keep_items Source stream = record { jobs = λ limit h. h; times = λ limit h. h; many = λ e. refl }
 orders-keep_items (Server demand) stream = record { jobs = λ limit h. h; times = λ limit h. h; many = λ e. refl }
 orders-keep_items (Loss places demand) stream = record { jobs = λ limit h. h; times = λ limit h. h; many = λ e. refl }
+orders-keep_items (Tandem stages) stream = record { jobs = λ limit h. h; times = λ limit h. h; many = λ e. refl }
+orders-keep_items (ForkJoin branches) stream = record { jobs = λ limit h. h; times = λ limit h. h; many = λ e. refl }
 orders-keep_items (Split route) stream = record { jobs = λ limit h. h; times = λ limit h. h; many = λ e. refl }
 orders-keep_items (Delay demand) stream =
     record {

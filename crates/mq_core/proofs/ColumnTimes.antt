@@ -11,10 +11,13 @@ use Rattle.mq_core.specs.Handling.{demand_of_job}
 use Rattle.mq_core.specs.StandardTable.{run_of}
 use Rattle.mq_core.specs.declared.model.Fate.{Fate}
 use Rattle.mq_core.specs.declared.model.Fate.TheVariants.{Departs, Lost}
-use Rattle.mq_core.specs.declared.model.Kind.TheVariants.{Source, Server, Delay, Loss, Split}
+use Rattle.mq_core.specs.declared.model.Kind.TheVariants.{Source, Server, Delay, Loss, Tandem, ForkJoin, Split}
 use Rattle.mq_core.specs.declared.model.Visits.{Visits}
+use Rattle.mq_core.proofs.ForkTimes.{fates-at_least, when-joined}
 use Rattle.mq_core.proofs.ColumnsEqual.{nodes-are-columns}
 use Rattle.mq_core.proofs.Pending.{some_inj}
+use Rattle.mq_core.proofs.TandemColumns.{tandem_times-late}
+use Rattle.mq_core.specs.Served.{tandem_times}
 
 cons : (a d : ℕ) (later : List ℕ) (fs : List Fate) → a ≤ d → FatesInTime later fs → FatesInTime (a ∷ later) (Departs d ∷ fs)
 cons a d later fs l h = record { even = ap suc h.even; each = (l, h.each) }
@@ -53,6 +56,8 @@ fates-in_time rows Source job arrive e = at-once arrive
 fates-in_time rows (Server demand) job arrive e = when-served 0 (demand_of_job rows demand) job arrive e
 fates-in_time rows (Delay demand) job arrive e = when-delayed (demand_of_job rows demand) job arrive e
 fates-in_time rows (Loss places demand) job arrive e = when-lost places (demand_of_job rows demand) [] job arrive e
+fates-in_time rows (Tandem stages) job arrive e = fates-at_least arrive (tandem_times rows stages job arrive) (tandem_times-late rows stages job arrive)
+fates-in_time rows (ForkJoin branches) job arrive e = when-joined rows branches job arrive e
 fates-in_time rows (Split route) job arrive e = at-once arrive
 
 by-position : (arrive : List ℕ) (fate : List Fate) → Each (λ (p : ℕ × Fate). LeavesFrom p.0 p.1) (zip arrive fate) → (k a d : ℕ) → slice_get arrive k ≡ Some a → slice_get fate k ≡ Some (Departs d) → a ≤ d

@@ -9,7 +9,7 @@ use Rattle.mq_core.specs.Laws.{Rises, stream_of, in_order_of}
 use Rattle.mq_core.specs.Local.{Local}
 use Rattle.mq_core.specs.Machine.{Visit, Emission, Station}
 use Rattle.mq_core.specs.Results.{fates_from, visits_of, stream_from}
-use Rattle.mq_core.specs.Served.{served, served_from, passed_from, delayed_from, flow_of, in_leaving_order}
+use Rattle.mq_core.specs.Served.{served, served_from, passed_from, delayed_from, leaving_from, tandem_times, flow_of, in_leaving_order}
 use Rattle.mq_core.specs.Handling.{demand_of_job}
 use Rattle.mq_core.specs.Standard.{output_by}
 use Rattle.mq_core.specs.StandardTable.{run_of}
@@ -17,10 +17,11 @@ use Rattle.mq_core.specs.Tallies.{arrival_or, found_or, still_there}
 use Rattle.mq_core.specs.declared.model.Demand.{Demand}
 use Rattle.mq_core.specs.declared.model.Fate.TheVariants.{Departs}
 use Rattle.mq_core.specs.declared.model.Kind.{Kind}
-use Rattle.mq_core.specs.declared.model.Kind.TheVariants.{Source, Server, Delay, Loss, Split}
+use Rattle.mq_core.specs.declared.model.Kind.TheVariants.{Source, Server, Delay, Loss, Tandem, ForkJoin, Split}
 use Rattle.mq_core.specs.declared.model.Node.{Node}
 use Rattle.mq_core.specs.declared.model.Route.{Route}
 use Rattle.mq_core.specs.declared.model.Rows.{Rows}
+use Rattle.mq_core.specs.declared.model.Stage.{Stage}
 use Rattle.mq_core.specs.declared.model.Stream.{Stream}
 use Rattle.mq_core.proofs.ColumnFlow.{nodes-flow, flow-leaves}
 use Rattle.mq_core.proofs.ColumnOrder.{streams-rise}
@@ -28,8 +29,11 @@ use Rattle.mq_core.proofs.Each.{Each-any}
 use Rattle.mq_core.proofs.LossColumns.{faring-fates, faring-outs, loss-stream}
 use Rattle.mq_core.proofs.Unlost.{Departing}
 use Rattle.mq_core.proofs.ColumnNumbers.{EachLeaves, LeavesAs, Numbered, loss-even, flow-numbered, order-found, fates-numbered, jobs-numbered, founds-numbered}
+use Rattle.mq_core.proofs.ForkTimes.{joined-long}
 use Rattle.mq_core.proofs.Orders.{filter-order, in_order_of-map}
 use Rattle.mq_core.proofs.Tallied.{founds-are-counts}
+use Rattle.mq_core.proofs.TandemColumns.{tandem_times-length}
+use Rattle.std.proofs.lemmas.List.{length-map}
 
 -- the fates of the flow, kind by kind
 passed-fates : (kind : Kind) → Departing kind → (out : Visit → ℕ → ℕ) (k : ℕ) (visits : List Visit) → map (fate_by kind) (passed_from out k visits) ≡ map (λ time. Departs time) (arrives_of visits)
@@ -51,11 +55,23 @@ demands-of rows demand (x ∷ xs) = ap (λ l. demand_of_job rows demand x.job �
 even-fates : (rows : Rows) (places : ℕ) (demand : Demand) (visits : List Visit) → length (loss_fates places [] (map (λ (x : Visit). x.arrive) visits) (map (λ (x : Visit). demand_of_job rows demand x.job) visits)) ≡ length visits
 even-fates rows places demand visits = loss-even places [] (λ x. x.arrive) (λ x. demand_of_job rows demand x.job) visits
 
+leaving-fates : (kind : Kind) → Departing kind → (k : ℕ) (times : List ℕ) (visits : List Visit) → length times ≡ length visits → map (fate_by kind) (leaving_from k times visits) ≡ map (λ time. Departs time) times
+leaving-fates kind by k [] visits e = refl
+leaving-fates kind by k (time ∷ times) [] e = absurd (omega arith)
+leaving-fates kind by k (time ∷ times) (x ∷ xs) e =
+    λ i. by (record { out = 0; position = k; job = x.job; time = time }) i ∷ leaving-fates kind by (suc k) times xs (omega arith) i
+
+-- a time for each visit
+tandem-even : (rows : Rows) (stages : List Stage) (visits : List Visit) → length (tandem_times rows stages (jobs_of visits) (arrives_of visits)) ≡ length visits
+tandem-even rows stages visits = tandem_times-length rows stages (jobs_of visits) (arrives_of visits) ∙ length-map visits (λ (x : Visit). x.arrive)
+
 pub flow-fates : (rows : Rows) (kind : Kind) (visits : List Visit) → map (fate_by kind) (flow_of rows kind visits) ≡ column_fates rows kind (jobs_of visits) (arrives_of visits)
 flow-fates rows Source visits = passed-fates Source (λ m. refl) _ 0 visits
 flow-fates rows (Server demand) visits = served-fates (Server demand) (λ m. refl) rows demand 0 0 visits
 flow-fates rows (Delay demand) visits = delayed-fates (Delay demand) (λ m. refl) rows demand 0 visits
 flow-fates rows (Loss places demand) visits = faring-fates places demand 0 _ visits (even-fates rows places demand visits) ∙ ap (loss_fates places [] (arrives_of visits)) (demands-of rows demand visits)
+flow-fates rows (Tandem stages) visits = leaving-fates (Tandem stages) (λ m. refl) 0 _ visits (tandem-even rows stages visits)
+flow-fates rows (ForkJoin branches) visits = leaving-fates (ForkJoin branches) (λ m. refl) 0 _ visits (joined-long rows branches visits)
 flow-fates rows (Split route) visits = passed-fates (Split route) (λ m. refl) _ 0 visits
 
 -- the outputs of the flow, kind by kind
@@ -75,11 +91,19 @@ split-outs : (rows : Rows) (route : Route) (k : ℕ) (visits : List Visit) → m
 split-outs rows route k [] = refl
 split-outs rows route k (x ∷ xs) = ap (λ l. output_by rows route x.job k ∷ l) (split-outs rows route (suc k) xs)
 
+leaving-outs : (k : ℕ) (times : List ℕ) (visits : List Visit) → length times ≡ length visits → map (λ (m : Emission). m.out) (leaving_from k times visits) ≡ map (λ _. 0) (jobs_of visits)
+leaving-outs k [] [] e = refl
+leaving-outs k [] (x ∷ xs) e = absurd (omega arith)
+leaving-outs k (time ∷ times) [] e = absurd (omega arith)
+leaving-outs k (time ∷ times) (x ∷ xs) e = ap (λ l. 0 ∷ l) (leaving-outs (suc k) times xs (omega arith))
+
 flow-outs : (rows : Rows) (kind : Kind) (visits : List Visit) → map (λ (m : Emission). m.out) (flow_of rows kind visits) ≡ column_outs rows kind (jobs_of visits) (arrives_of visits)
 flow-outs rows Source visits = source-outs 0 visits
 flow-outs rows (Server demand) visits = server-outs rows demand 0 0 visits
 flow-outs rows (Delay demand) visits = delay-outs rows demand 0 visits
 flow-outs rows (Loss places demand) visits = faring-outs 0 _ visits (even-fates rows places demand visits) ∙ ap (λ d. map out_of_fate (loss_fates places [] (arrives_of visits) d)) (demands-of rows demand visits)
+flow-outs rows (Tandem stages) visits = leaving-outs 0 _ visits (tandem-even rows stages visits)
+flow-outs rows (ForkJoin branches) visits = leaving-outs 0 _ visits (joined-long rows branches visits)
 flow-outs rows (Split route) visits = split-outs rows route 0 visits
 
 -- the emissions by an output are picked by their outputs
@@ -157,6 +181,8 @@ flow-stands rows Source visits rise = tt
 flow-stands rows (Server demand) visits rise = tt
 flow-stands rows (Delay demand) visits rise = tt
 flow-stands rows (Loss places demand) visits rise = λ out. loss-stream rows places demand visits out rise
+flow-stands rows (Tandem stages) visits rise = tt
+flow-stands rows (ForkJoin branches) visits rise = tt
 flow-stands rows (Split route) visits rise = tt
 
 -- the order of leaving goes over to a stream
@@ -164,6 +190,8 @@ order-stream : (kind : Kind) (ms : List Emission) (out : ℕ) → StandsByOutput
 unfolding stream_in
 order-stream Source ms out h = refl
 order-stream (Server demand) ms out h = refl
+order-stream (Tandem stages) ms out h = refl
+order-stream (ForkJoin branches) ms out h = refl
 order-stream (Split route) ms out h = refl
 order-stream (Loss places demand) ms out h =
     let stands = filter-order (λ (m : Emission). m.time) (λ (m : Emission). eqb m.out out) ms ∙ h out in

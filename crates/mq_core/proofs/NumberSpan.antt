@@ -21,7 +21,7 @@ use Rattle.mq_core.specs.Theorems.{IsReadFor}
 use Rattle.mq_core.specs.Wiring.{is_source, outputs_read}
 use Rattle.mq_core.specs.declared.model.Fate.TheVariants.{Departs, Lost}
 use Rattle.mq_core.specs.declared.model.Kind.{Kind}
-use Rattle.mq_core.specs.declared.model.Kind.TheVariants.{Source, Server, Delay, Loss, Split}
+use Rattle.mq_core.specs.declared.model.Kind.TheVariants.{Source, Server, Delay, Loss, Tandem, ForkJoin, Split}
 use Rattle.mq_core.specs.declared.model.Node.{Node}
 use Rattle.mq_core.specs.declared.model.Plan.{Plan}
 use Rattle.mq_core.specs.declared.model.Rows.{Rows}
@@ -69,6 +69,8 @@ early-fate : (kind : Kind) (now : ℕ) (m : Emission) → m.time ≤ now → tim
 early-fate Source now m l = l
 early-fate (Server demand) now m l = l
 early-fate (Delay demand) now m l = l
+early-fate (Tandem stages) now m l = l
+early-fate (ForkJoin branches) now m l = l
 early-fate (Loss places demand) now m l = go (eqb m.out 1)
   where
     go : (b : Bool) → time_of_fate (cond b Lost (Departs m.time)) ≤ now

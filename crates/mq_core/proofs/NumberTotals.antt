@@ -14,7 +14,7 @@ use Rattle.mq_core.specs.Tallies.{sum_below, greatest_below, emission_at, arriva
 use Rattle.mq_core.specs.declared.model.Fate.{Fate}
 use Rattle.mq_core.specs.declared.model.Fate.TheVariants.{Departs, Lost}
 use Rattle.mq_core.specs.declared.model.Kind.{Kind}
-use Rattle.mq_core.specs.declared.model.Kind.TheVariants.{Source, Server, Delay, Loss, Split}
+use Rattle.mq_core.specs.declared.model.Kind.TheVariants.{Source, Server, Delay, Loss, Tandem, ForkJoin, Split}
 use Rattle.mq_core.specs.declared.model.Node.{Node}
 use Rattle.mq_core.specs.declared.model.Rows.{Rows}
 use Rattle.mq_core.proofs.Busy.{busy-is_services}
@@ -65,6 +65,8 @@ service-column rows Source x time = refl
 service-column rows (Server demand) x time = refl
 service-column rows (Delay demand) x time = refl
 service-column rows (Loss places demand) x time = refl
+service-column rows (Tandem stages) x time = refl
+service-column rows (ForkJoin branches) x time = refl
 service-column rows (Split route) x time = refl
 
 busy-columns : (rows : Rows) (kind : Kind) (visits : List Visit) (emitted : List Emission) → LetOut emitted 0 visits → sum_below (length visits) (λ p. unless_lost (fate_of kind emitted p) (service_of rows kind (slice_get visits p))) ≡ sum (column_services rows kind (map (λ (x : Visit). x.job) visits) (fates_from kind emitted 0 visits))
@@ -120,6 +122,8 @@ totals-are_columns plan rows read v node here =
     peak (Server demand) same = peak-is_greatest plan rows v node here (ap holds_jobs same) ∙ numbers-columns node.kind ((run_of plan rows).stations v).visits ((run_of plan rows).stations v).emitted out
     peak (Delay demand) same = peak-is_greatest plan rows v node here (ap holds_jobs same) ∙ numbers-columns node.kind ((run_of plan rows).stations v).visits ((run_of plan rows).stations v).emitted out
     peak (Loss places demand) same = peak-is_greatest plan rows v node here (ap holds_jobs same) ∙ numbers-columns node.kind ((run_of plan rows).stations v).visits ((run_of plan rows).stations v).emitted out
+    peak (Tandem stages) same = peak-is_greatest plan rows v node here (ap holds_jobs same) ∙ numbers-columns node.kind ((run_of plan rows).stations v).visits ((run_of plan rows).stations v).emitted out
+    peak (ForkJoin branches) same = peak-is_greatest plan rows v node here (ap holds_jobs same) ∙ numbers-columns node.kind ((run_of plan rows).stations v).visits ((run_of plan rows).stations v).emitted out
     peak (Split route) same = refl
 
 -- the sum over a stream is the sum over its columns

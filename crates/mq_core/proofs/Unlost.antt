@@ -6,7 +6,7 @@ use Rattle.mq_core.specs.Machine.{Emission}
 use Rattle.mq_core.specs.declared.model.Demand.{Demand}
 use Rattle.mq_core.specs.declared.model.Fate.TheVariants.{Departs, Lost}
 use Rattle.mq_core.specs.declared.model.Kind.{Kind}
-use Rattle.mq_core.specs.declared.model.Kind.TheVariants.{Source, Server, Delay, Loss, Split}
+use Rattle.mq_core.specs.declared.model.Kind.TheVariants.{Source, Server, Delay, Loss, Tandem, ForkJoin, Split}
 
 -- this number, or 0 for one that left by the output of the lost
 abbrev pub unless_out : Option Emission → ℕ → ℕ
@@ -27,6 +27,8 @@ departing Source h m = refl
 departing (Server demand) h m = refl
 departing (Delay demand) h m = refl
 departing (Loss places demand) h m = absurd cc
+departing (Tandem stages) h m = refl
+departing (ForkJoin branches) h m = refl
 departing (Split route) h m = refl
 
 -- then each number counts

@@ -1,9 +1,9 @@
-use Rattle.std.specs.List.{AllByRecursion}
-use Rattle.std.specs.Prelude.{◌≤◌, ◌+◌, ◌⊎◌, ◌≡◌, ℕ, ◌<◌, ◌==◌, List, [], ◌∷◌, ◌++◌, length, find, Option, Some, None, slice_get, if◌then◌else◌, IsSome, IsTrue, Bool, true, false}
+use Rattle.std.specs.List.{AllByRecursion, flat_map}
+use Rattle.std.specs.Prelude.{◌≤◌, ◌+◌, ◌⊎◌, ◌≡◌, ℕ, ◌<◌, ◌==◌, List, [], ◌∷◌, ◌++◌, length, find, Option, Some, None, slice_get, if◌then◌else◌, IsSome, IsTrue, Bool, true, false, sum_by}
 use Rattle.std.specs.Option.{option_map}
 use Rattle.mq_core.specs.Machine.{Visit, Emission, State}
 use Rattle.mq_core.specs.Local.{Local}
-use Rattle.mq_core.specs.Handling.{demand_of_visit}
+use Rattle.mq_core.specs.Handling.{demand_of_visit, stages_of_visit}
 use Rattle.mq_core.specs.Standard.{standard_jobs}
 use Rattle.mq_core.specs.StandardTable.{run_of}
 use Rattle.mq_core.specs.Tallies.{greatest_below, sum_below, sojourns, found_or, still_there, arrival_or}
@@ -11,7 +11,7 @@ use Rattle.mq_core.specs.Theorems.{IsReadFor}
 use Rattle.mq_core.specs.declared.model.Fate.{Fate}
 use Rattle.mq_core.specs.declared.model.Fate.TheVariants.{Departs, Lost}
 use Rattle.mq_core.specs.declared.model.Kind.{Kind}
-use Rattle.mq_core.specs.declared.model.Kind.TheVariants.{Source, Server, Delay, Loss, Split}
+use Rattle.mq_core.specs.declared.model.Kind.TheVariants.{Source, Server, Delay, Loss, Tandem, ForkJoin, Split}
 use Rattle.mq_core.specs.declared.model.Node.{Node}
 use Rattle.mq_core.specs.declared.model.Plan.{Plan}
 use Rattle.mq_core.specs.declared.model.Rows.{Rows}
@@ -50,11 +50,13 @@ FoundsAreCounts =
     (position : ℕ) → position < length end.visits →
     found_or 0 (slice_get end.visits position) ≡ still_there (arrival_or 0 (slice_get end.visits position)) end.emitted position
 
--- the demand of each job where a server serves it, and 0 at a source or a split
+-- the demand of each job where a server serves it, at a tandem of all its stages, and 0 at a source or a split
 abbrev pub service_of : Rows → Kind → Option Visit → ℕ
 service_of rows (Server demand) visit = demand_of_visit rows demand visit
 service_of rows (Delay demand) visit = demand_of_visit rows demand visit
 service_of rows (Loss places demand) visit = demand_of_visit rows demand visit
+service_of rows (Tandem stages) visit = stages_of_visit rows stages visit
+service_of rows (ForkJoin branches) visit = sum_by (λ demand. demand_of_visit rows demand visit) (flat_map (λ demands. demands) branches)
 service_of rows _ visit = 0
 
 -- this number, but 0 for a visit that is lost
