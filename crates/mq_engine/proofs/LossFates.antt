@@ -1,7 +1,10 @@
 -- What becomes of the arrivals at a loss station.
 use Rattle.std.proofs.Common.{◌≡◌, ℕ, zero, suc, ◌+◌, ◌<◌, ◌≤◌, Bool, true, false, List, [], ◌∷◌, ◌++◌, length, drop, map, Some, None, sym, refl, ap, ◌∙◌, subst, arith, append_assoc}
 use Rattle.std.specs.Prelude.{IsTrue, nat_le, slice_get}
-use Rattle.std.proofs.lemmas.List.{append-nil, drop_all, length-map}
+use Rattle.std.proofs.lemmas.Bool.{and_parts}
+use Rattle.std.proofs.lemmas.Bool.Decides.{nat_tests}
+use Rattle.std.proofs.lemmas.List.{append-nil, drop_all}
+use Rattle.mq_core.specs.ColumnLaws.{FatesAreInTime}
 use Rattle.mq_core.specs.Columns.{column_fates, column_outs, column_stream, leaving_time, leaving_times, out_of_fate, picked}
 use Rattle.mq_core.specs.Handling.{demand_of_job}
 use Rattle.mq_core.specs.Recurrences.{loss_fates}
@@ -104,3 +107,9 @@ some-places net places demand h =
     let a = and_parts (is_within 1 1048576 places) (is_sound_demand (length net.columns) demand) h in
     let b = (and_parts (nat_le 1 places) (nat_le places 1048576) a.0).0 in
     grind (arith, nat_tests)
+
+-- there is one an arrival
+pub settled-many : FatesAreInTime → (rows : Rows) (places : ℕ) (demand : Demand) (arrivals : Stream) (demands : List ℕ) (settled : Settled) (fates : List Fate) → length arrivals.job ≡ length arrivals.time → demands ≡ map (demand_of_job rows demand) arrivals.job → IsSettled places arrivals.time demands settled →
+    fates ≡ fates_by settled.admitted settled.departs → length fates ≡ length arrivals.time
+settled-many law rows places demand arrivals demands settled fates e m s f =
+    ap length (settled-fates rows places demand arrivals demands settled fates m s f) ∙ (law rows (Loss places demand) arrivals.job arrivals.time e).even

@@ -3,7 +3,7 @@ use Rattle.std.proofs.lemmas.List.{length-map}
 use Rattle.mq_core.specs.Columns.{column_fates, out_of_fate}
 use Rattle.mq_core.specs.declared.model.Kind.TheVariants.{Loss}
 use Rattle.mq_engine.proofs.Leaves.{load-sound}
-use Rattle.mq_engine.proofs.LossFates.{settled-fates, sound-demand, some-places, loses}
+use Rattle.mq_engine.proofs.LossFates.{settled-fates, settled-many, sound-demand, some-places, loses}
 use Rattle.mq_engine.proofs.losses.admitted_or_lost.Goals as goal
 
 pub settled-requires-clause-load : goal.settled-requires-clause-load
@@ -12,12 +12,5 @@ settled-requires-clause-load c = load-sound c.args.net.now c.args.rows.now (Loss
 pub settled-requires-clause-places : goal.settled-requires-clause-places
 settled-requires-clause-places c = some-places c.args.net.now c.args.places c.args.demand.now c.requires.sound
 
--- the fates are those of the columns, one an arrival
-fates : (c : goal.After-in_ok-fates) → c.in_ok-fates.fates ≡ column_fates c.args.rows.now (Loss c.args.places c.args.demand.now) c.args.arrivals.now.job c.args.arrivals.now.time
-fates c = settled-fates c.args.rows.now c.args.places c.args.demand.now c.args.arrivals.now _ c.in_ok-settled.settled c.in_ok-fates.fates c.in_ok-demands.ensures c.in_ok-settled.ensures c.in_ok-fates.ensures
-
-many : (c : goal.After-in_ok-fates) → length c.in_ok-fates.fates ≡ length c.args.arrivals.now.time
-many c = ap length (fates c) ∙ (c.fates_are_in_time.ensures c.args.rows.now (Loss c.args.places c.args.demand.now) c.args.arrivals.now.job c.args.arrivals.now.time c.requires.ordered.ordered.even).even
-
 pub times_of-requires : goal.times_of-requires
-times_of-requires c = many c
+times_of-requires c = settled-many c.fates_are_in_time.ensures c.args.rows.now c.args.places c.args.demand.now c.args.arrivals.now _ c.in_ok-settled.settled c.in_ok-fates.fates c.requires.ordered.ordered.even c.in_ok-demands.ensures c.in_ok-settled.ensures c.in_ok-fates.ensures
