@@ -1,7 +1,7 @@
 use Rattle.std.proofs.Common.{◌≡◌, ℕ, zero, suc, ◌+◌, ◌<◌, ◌≤◌, ◌^◌, Bool, true, false, cond, List, [], ◌∷◌, ◌++◌, length, take, Option, Some, None, sym, refl, ◌∙◌, subst, arith, add-zero, zero-add, append_assoc}
 use Rattle.std.proofs.lemmas.Bool.{and_parts}
 use Rattle.std.proofs.lemmas.Bool.Decides.{nat_tests}
-use Rattle.std.proofs.lemmas.List.{append-nil}
+use Rattle.std.proofs.lemmas.List.{append-nil, length-map}
 use Rattle.std.proofs.lemmas.Option.{slice_get-get_or}
 use Rattle.std.specs.Prelude.{◌&&◌, not, nat_lt, nat_le, slice_get, slice_index}
 use Rattle.std.specs.Option.{option_to_list}
@@ -25,7 +25,7 @@ use Rattle.mq_core.specs.declared.model.Route.TheVariants.{Modulo, Turn, Cut}
 use Rattle.mq_core.specs.declared.model.Rows.{Rows}
 use Rattle.mq_core.specs.declared.model.Stage.{Stage}
 use Rattle.mq_core.proofs.Pending.{some_inj}
-use Rattle.mq_core.proofs.Each.{Each-weaker, Each-append}
+use Rattle.mq_core.proofs.Each.{Each-weaker, Each-append, Each-map}
 use Rattle.mq_core.proofs.Soundness.{sound-node, sound-stages, sound-stages_demands}
 use Rattle.mq_core.proofs.Shapes.{all-servers, branches-shaped}
 use Rattle.mq_core.proofs.Wired.{all-inputs}
@@ -214,9 +214,9 @@ tells-kind net rows read job below (Loss places demand) h = (tells-demand net ro
 tells-kind net rows read job below (Tandem stages) h =
     let told = tells-stages net rows read job below stages (sound-stages_demands (length net.columns) stages h) in
     record {
-      few = (sound-stages (length net.columns) stages h).few;
-      each = Each-weaker _ _ (λ (stage : Stage) k. k.0) stages told;
-      small = Each-weaker _ _ (λ (stage : Stage) k. k.1) stages told;
+      few = let l = (sound-stages (length net.columns) stages h).few in let m = length-map stages (λ (stage : Stage). stage.demand) in omega arith;
+      each = Each-map _ _ (λ (stage : Stage). stage.demand) (λ stage k. k.0) stages told;
+      small = Each-map _ _ (λ (stage : Stage). stage.demand) (λ stage k. k.1) stages told;
     }
 tells-kind net rows read job below (ForkJoin branches) h =
     let a = and_parts _ (nat_le (length (flat_map (λ demands. demands) branches)) 8) h in

@@ -1,5 +1,5 @@
 -- Which demands the rows tell.
-use Rattle.std.specs.Prelude.{◌≡◌, ◌≤◌, ◌^◌, ℕ, ◌<◌, List, length, Some, slice_get}
+use Rattle.std.specs.Prelude.{◌≡◌, ◌≤◌, ◌^◌, ℕ, ◌<◌, List, length, map, Some, slice_get}
 use Rattle.std.specs.List.{AllByRecursion, flat_map}
 use Rattle.mq_core.specs.Handling.{demand_of_job}
 use Rattle.mq_core.specs.declared.model.Demand.{Demand}
@@ -19,12 +19,6 @@ abbrev pub HasDemand : Rows → Demand → ℕ → Type 0
 HasDemand rows (Column column) job = HasValue rows column job
 HasDemand rows (Fixed demand) job = Unit {0}
 
--- the rows tell what this job asks for at each of these stages: at most 2^36 at each, and there are at most 8
-pub record HasStageDemands (rows : Rows) (stages : List Stage) (job : ℕ) : Type 0 where
-  pub few : length stages ≤ 8
-  pub each : AllByRecursion (λ (stage : Stage). HasDemand rows stage.demand job) stages
-  pub small : AllByRecursion (λ (stage : Stage). demand_of_job rows stage.demand job ≤ 2 ^ 36) stages
-
 -- the rows tell these demands of this job, at most 8, each at most 2^36: so they can be added
 pub record AreTold (rows : Rows) (demands : List Demand) (job : ℕ) : Type 0 where
   pub few : length demands ≤ 8
@@ -37,6 +31,6 @@ HasDemands rows Source job = Unit {0}
 HasDemands rows (Server demand) job = HasDemand rows demand job
 HasDemands rows (Delay demand) job = HasDemand rows demand job
 HasDemands rows (Loss places demand) job = HasDemand rows demand job
-HasDemands rows (Tandem stages) job = HasStageDemands rows stages job
+HasDemands rows (Tandem stages) job = AreTold rows (map (λ (stage : Stage). stage.demand) stages) job
 HasDemands rows (ForkJoin branches) job = AreTold rows (flat_map (λ demands. demands) branches) job
 HasDemands rows (Split route) job = Unit {0}

@@ -1,14 +1,14 @@
-use Rattle.std.proofs.Common.{ℕ, ◌≤◌, List, [], ◌∷◌, Option, Some, None, arith, ◌+◌, Bool, true, false, ◌++◌, length}
+use Rattle.std.proofs.Common.{ℕ, ◌≤◌, List, [], ◌∷◌, Option, Some, None, arith, ◌+◌, Bool, true, false, length}
 use Rattle.std.specs.Prelude.{slice_get, nat_lt, length, Bool, true, false, if◌then◌else◌, ◌==◌}
 use Rattle.std.specs.List.{AllByRecursion as Each}
 use Rattle.mq_core.specs.Event.{Event}
 use Rattle.mq_core.specs.Event.Event.{Arrive, Finish}
 use Rattle.mq_core.specs.Machine.{Visit, Service}
 use Rattle.mq_core.specs.Local.{Local, Branch}
-use Rattle.mq_core.specs.Handling.{joins, passes_on, front_begins, front_leaves, latest, begins_at, begins_alone}
+use Rattle.mq_core.specs.Handling.{joins, passes_on, front_begins, front_leaves, latest, begins_at}
 use Rattle.mq_core.specs.ForkJoinHandler.{Moved, goes_in, goes_on, finishes_at, each_branch, fork_on}
 use Rattle.mq_core.specs.Standard.{kind_on, node_on, standard_handle}
-use Rattle.mq_core.specs.TandemOnTime.{tandem-late}
+use Rattle.mq_core.specs.TandemOnTime.{both-late, begins_at-late, begins_alone-late, tandem-late}
 use Rattle.mq_core.specs.Run.{IsOnTime}
 use Rattle.mq_core.specs.declared.model.Demand.{Demand}
 use Rattle.mq_core.specs.declared.model.Kind.{Kind}
@@ -36,18 +36,6 @@ loss-late : (rows : Rows) (places : ℕ) (demand : Demand) (visits : List Visit)
 loss-late rows places demand visits local now true = joins-late rows demand visits local now local.queue (latest visits)
 loss-late rows places demand visits local now false = tt
 
-late-append : (now : ℕ) (one two : List Service) → Late now one → Late now two → Late now (one ++ two)
-late-append now [] two h k = k
-late-append now (s ∷ one) two h k = (h.0, late-append now one two h.1 k)
-
-begins_at-late : (rows : Rows) (demand : Demand) (visits : List Visit) (now server : ℕ) (queue : List ℕ) → Late now (begins_at rows demand visits now server queue)
-begins_at-late rows demand visits now server [] = tt
-begins_at-late rows demand visits now server (position ∷ queue) = (omega arith, tt)
-
-begins_alone-late : (rows : Rows) (demand : Demand) (visits : List Visit) (now server : ℕ) (queue : List ℕ) (position : ℕ) → Late now (begins_alone rows demand visits now server queue position)
-begins_alone-late rows demand visits now server [] position = (omega arith, tt)
-begins_alone-late rows demand visits now server (front ∷ queue) position = tt
-
 goes_in-late : (rows : Rows) (visits : List Visit) (now server : ℕ) (demands : List Demand) (queues : List (List ℕ)) (position : ℕ) → Late now (goes_in rows visits now server demands queues position).services
 goes_in-late rows visits now server [] queues position = tt
 goes_in-late rows visits now server (demand ∷ demands) [] position = tt
@@ -56,7 +44,7 @@ goes_in-late rows visits now server (demand ∷ demands) (queue ∷ queues) posi
 goes_on-late : (rows : Rows) (visits : List Visit) (now server : ℕ) (demand : Demand) (demands : List Demand) (queue : List ℕ) (queues : List (List ℕ)) → Late now (goes_on rows visits now server demand demands queue queues).services
 goes_on-late rows visits now server demand demands [] queues = tt
 goes_on-late rows visits now server demand demands (front ∷ queue) queues =
-    late-append now (begins_at rows demand visits now server queue) _ (begins_at-late rows demand visits now server queue) (goes_in-late rows visits now (server + 1) demands queues front)
+    both-late now (begins_at rows demand visits now server queue) _ (begins_at-late rows demand visits now server queue) (goes_in-late rows visits now (server + 1) demands queues front)
 
 finishes_at-late : (rows : Rows) (visits : List Visit) (now finished server : ℕ) (demands : List Demand) (queues : List (List ℕ)) → Late now (finishes_at rows visits now finished server demands queues).services
 finishes_at-late rows visits now finished server [] queues = tt
@@ -71,7 +59,7 @@ each_branch-late : (now : ℕ) (part : ℕ → List Demand → List (List ℕ) �
 each_branch-late now part server [] branches h = tt
 each_branch-late now part server (demands ∷ more) [] h = tt
 each_branch-late now part server (demands ∷ more) (branch ∷ branches) h =
-    late-append now (part server demands branch.queues).services _ (h server demands branch.queues) (each_branch-late now part (server + length demands) more branches h)
+    both-late now (part server demands branch.queues).services _ (h server demands branch.queues) (each_branch-late now part (server + length demands) more branches h)
 
 fork-late : (rows : Rows) (demands : List (List Demand)) (visits : List Visit) (local : Local) (now : ℕ) (event : Event) → Late now (fork_on rows demands visits local now event).services
 fork-late rows demands visits local now (Arrive t n q j) = each_branch-late now (λ server ds queues. goes_in rows visits now server ds queues (latest visits)) 0 demands local.branches (λ first ds queues. goes_in-late rows visits now first ds queues (latest visits))

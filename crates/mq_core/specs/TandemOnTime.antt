@@ -12,18 +12,18 @@ use Rattle.mq_core.specs.declared.model.Stage.{Stage}
 use Rattle.mq_core.specs.declared.model.Rows.{Rows}
 
 -- none of these services ends before now
-abbrev Late : ℕ → List Service → Type 0
+abbrev pub Late : ℕ → List Service → Type 0
 Late now services = Each (λ (s : Service). now ≤ s.time) services
 
-both-late : (now : ℕ) (services more : List Service) → Late now services → Late now more → Late now (services ++ more)
+pub both-late : (now : ℕ) (services more : List Service) → Late now services → Late now more → Late now (services ++ more)
 both-late now [] more h k = k
 both-late now (s ∷ services) more h k = (h.0, both-late now services more h.1 k)
 
-begins_at-late : (rows : Rows) (demand : Demand) (visits : List Visit) (now server : ℕ) (queue : List ℕ) → Late now (begins_at rows demand visits now server queue)
+pub begins_at-late : (rows : Rows) (demand : Demand) (visits : List Visit) (now server : ℕ) (queue : List ℕ) → Late now (begins_at rows demand visits now server queue)
 begins_at-late rows demand visits now server [] = tt
 begins_at-late rows demand visits now server (position ∷ queue) = (omega arith, tt)
 
-begins_alone-late : (rows : Rows) (demand : Demand) (visits : List Visit) (now server : ℕ) (queue : List ℕ) (position : ℕ) → Late now (begins_alone rows demand visits now server queue position)
+pub begins_alone-late : (rows : Rows) (demand : Demand) (visits : List Visit) (now server : ℕ) (queue : List ℕ) (position : ℕ) → Late now (begins_alone rows demand visits now server queue position)
 begins_alone-late rows demand visits now server [] position = (omega arith, tt)
 begins_alone-late rows demand visits now server (front ∷ queue) position = tt
 

@@ -1,5 +1,5 @@
 ghost use Rattle.std.specs.Prelude.{◌≡◌, fold, map, max, sum_by};
-ghost use Rattle.mq_core.specs.Asked.{HasDemand, HasDemands, HasStageDemands, AreTold};
+ghost use Rattle.mq_core.specs.Asked.{HasDemand, HasDemands, AreTold};
 ghost use Rattle.std.specs.List.{flat_map};
 ghost use Rattle.mq_core.specs.Results.{bare_time};
 ghost use Rattle.mq_core.specs.Handling.{demand_of_job, demand_of_stages};
@@ -65,7 +65,7 @@ fn sum_of(rows: &Rows, demands: &List<Demand>, job: u32) -> u64
 
 // The sum of what a job asks for at these stages.
 fn bare_of_stages(rows: &Rows, stages: &List<Stage>, job: u32) -> u64
-    requires { HasStageDemands rows.now stages.now job }
+    requires { AreTold rows.now (map (λ stage. stage.demand) stages.now) job }
     ensures { result ≡ demand_of_stages rows.now stages.now job }
 {
     let mut total = 0;
