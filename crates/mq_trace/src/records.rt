@@ -21,7 +21,6 @@ pub fn text_reader(alloc: Global, text: &[u8]) -> Reader<&[u8]>
 }
 
 /// Reads the next record, if there is one. Bytes in memory are always read, so an error is want of memory.
-#[inline(always)]
 pub fn next_record(reader: &mut Reader<&[u8]>, row: &mut ByteRecord) -> Result<bool, TraceFault>
     requires { IsBetween reader.old }
     ensures found { IfOk result (λ found. Takes reader.old reader.new found (fields_of row.new)) }
