@@ -1,0 +1,15 @@
+use Rattle.std.proofs.Common.{length, sym, ap, ◌∙◌, subst}
+use Rattle.std.proofs.lemmas.Result.{IfOk-weaker}
+use Rattle.mq_engine.specs.Turns.{LeaveInOrder}
+use Rattle.mq_engine.proofs.Gone.{passing-finds_none}
+use Rattle.mq_engine.proofs.Leaves.{fates-in_order, fates-length}
+use Rattle.mq_engine.proofs.turns.found_at.Goals as goal
+
+pub returns-in-Source : goal.returns-in-Source
+returns-in-Source c = IfOk-weaker c.nobody.result _ _ (λ x e. e ∙ sym (passing-finds_none c.args.rows.now c.args.kind.now c.args.arrivals.now.job c.args.arrivals.now.time c.args.fates.now c.in-Source.is c.requires.stream.rising c.requires.fates)) c.nobody.ensures
+
+pub found-requires-clause-even : goal.found-requires-clause-even
+found-requires-clause-even c = ap length c.requires.fates ∙ fates-length c.args.rows.now c.args.kind.now c.args.arrivals.now.job c.args.arrivals.now.time c.requires.stream.even
+
+pub found-requires-clause-fate : goal.found-requires-clause-fate
+found-requires-clause-fate c = subst LeaveInOrder (sym c.requires.fates) (fates-in_order c.args.rows.now c.args.kind.now c.args.arrivals.now.job c.args.arrivals.now.time c.requires.stream.rising)
