@@ -55,11 +55,9 @@ fn wait_of(rows: &Rows, kind: &Kind, job: u32, arrive: u64, fate: Fate) -> u64
     requires { HasDemands rows.now kind.now job }
     ensures { result ≡ column_wait rows.now kind.now job arrive fate }
 {
+    let bare = bare_of(rows, kind, job);
     match fate {
-        Fate::Departs(time) => {
-            let sojourn = time.saturating_sub(arrive);
-            sojourn.saturating_sub(bare_of(rows, kind, job))
-        }
+        Fate::Departs(time) => time.saturating_sub(arrive).saturating_sub(bare),
         Fate::Lost => 0,
     }
 }
@@ -82,8 +80,9 @@ fn service_of(rows: &Rows, kind: &Kind, job: u32, fate: Fate) -> u64
     requires { HasDemands rows.now kind.now job }
     ensures { result ≡ column_service rows.now kind.now job fate }
 {
+    let service = service_at(rows, kind, job);
     match fate {
-        Fate::Departs(_) => service_at(rows, kind, job),
+        Fate::Departs(_) => service,
         Fate::Lost => 0,
     }
 }
@@ -168,10 +167,11 @@ fn each_wait(rows: &Rows, kind: &Kind, visits: &Visits) -> Waits
     let (mut wait, mut longest, mut busy) = (0u128, 0u64, 0u128);
     for at in 0..visits.job.len() {
         let (job, fate) = (*visits.job.get(at), *visits.fate.get(at));
+        let served = service_of(rows, kind, job, fate);
         let waited = wait_of(rows, kind, job, *visits.arrive.get(at), fate);
+        busy += served as u128;
         wait += waited as u128;
         longest = longest.max(waited);
-        busy += service_of(rows, kind, job, fate) as u128;
     }
     Waits {
         wait,

@@ -1,4 +1,4 @@
-use Rattle.std.proofs.Common.{◌≡◌, ◌<◌, ◌==◌, ◌++◌, ◌∙◌, ◌∷◌, [], true, false, ap, sym, drop, arith}
+use Rattle.std.proofs.Common.{◌≡◌, ◌==◌, ◌++◌, ◌∙◌, ◌∷◌, [], true, false, ap, drop, arith}
 use Rattle.std.specs.List.{zip}
 use Rattle.std.specs.Vec.{vec_len, vec_capacity}
 use Rattle.std.proofs.lemmas.Bool.Decides.{nat_tests}

@@ -9,7 +9,7 @@ loop-at-preserved c =
     record {
       wait = adds c.loop-at.wait _ _ _ _ _ c.wait_of-waited.ensures waits c.loop-at.invariant.wait;
       longest = grows c.loop-at.longest c.max-longest.result c.wait_of-waited.result _ _ _ _ c.max-longest.ensures c.wait_of-waited.ensures waits c.loop-at.invariant.longest;
-      busy = adds c.loop-at.busy _ _ _ _ _ c.service_of.ensures (services-at c.args.rows.now c.args.kind.now visits.job visits.fate c.loop-at.at _ _ c.get.ensures c.get-in-loop-at.ensures) c.loop-at.invariant.busy;
+      busy = adds c.loop-at.busy _ _ _ _ _ c.service_of-served.ensures (services-at c.args.rows.now c.args.kind.now visits.job visits.fate c.loop-at.at _ _ c.get.ensures c.get-in-loop-at.ensures) c.loop-at.invariant.busy;
       small = omega arith;
       small_busy = omega arith;
     }
