@@ -7,10 +7,9 @@ use Rattle.mq_core.specs.Event.Event.{Arrive, Finish}
 use Rattle.mq_core.specs.Machine.{Visit, Table, State, after, handled, happens, opened}
 use Rattle.mq_core.specs.Local.{Local}
 use Rattle.mq_core.specs.Laws.{is_arrival_at, is_finish_at, alone, IsFeedForward}
-use Rattle.mq_core.specs.Alone.{IsLoad, came, come_at, ServersServe, SourcesPassOn}
+use Rattle.mq_core.specs.Alone.{IsLoad, came, come_at, NodesFlowAlone}
 use Rattle.mq_core.specs.StandardTable.{standard}
 use Rattle.mq_core.specs.OnTime.{standard-on_time}
-use Rattle.mq_core.specs.declared.model.Kind.TheVariants.{Server}
 use Rattle.mq_core.specs.declared.model.Plan.{Plan}
 use Rattle.mq_core.specs.declared.model.Rows.{Rows}
 use Rattle.mq_core.proofs.Steps.{after-some, after-none, after-zero, handled-zero, handled-some, handled-none}
@@ -19,7 +18,7 @@ use Rattle.mq_core.proofs.Each.{Each-weaker, filter-all}
 use Rattle.mq_core.proofs.Second.{alone-arrivals}
 use Rattle.mq_core.proofs.Kept.{kept}
 use Rattle.mq_core.proofs.Facts.{kind_fact, node_fact, standard-keeps}
-use Rattle.mq_core.proofs.Ends.{serving-done}
+use Rattle.mq_core.proofs.Flows.{kind-flow}
 
 -- an event appends a visit where it is an arrival at the node
 visits-event : {L : Type 0} (t : Table L) (s : State L) (e : Event) (rest : List Event) (v : ℕ) → came ((happens t s (e, rest)).stations v).visits ≡ came (s.stations v).visits ++ come_at v (e ∷ [])
@@ -76,26 +75,12 @@ lone-visits plan rows v arrivals load count done =
     visits-handled (alone (standard plan rows)) v count (opened (alone (standard plan rows)) arrivals)
     ∙ ap (map {B = ℕ × ℕ} (λ e. (time_of e, job_of e))) (alone-arrivals (standard plan rows) (standard-on_time plan rows) v arrivals load.here load.ordered count done ∙ sym (filter-all (is_arrival_at v) arrivals load.here))
 
-pub servers-serve : ServersServe
-servers-serve plan rows v node demand here kind arrivals load count done =
+pub nodes-flow_alone : NodesFlowAlone
+nodes-flow_alone plan rows v node here arrivals load count done =
     let fact = lone-fact plan rows arrivals (Each-weaker _ _ (not_finish v) arrivals load.here) count v in
     let one = subst (λ o. node_fact rows o v (end.stations v) (filter (is_finish_at v) end.pending) end.clock) here fact in
-    let two = subst (λ k. kind_fact rows k v (end.stations v) (filter (is_finish_at v) end.pending) end.clock) kind one in
-    let three = subst (λ l. kind_fact rows (Server demand) v (end.stations v) (filter (is_finish_at v) l) end.clock) done two in
-    record {
-      visited = lone-visits plan rows v arrivals load count done;
-      left = (serving-done rows demand v (end.stations v).visits _ (end.stations v).emitted end.clock three).1;
-    }
-  where
-    end : State Local
-    end = after count (alone (standard plan rows)) (opened (alone (standard plan rows)) arrivals)
-
-pub sources-pass_on : SourcesPassOn
-sources-pass_on plan rows v node here kind arrivals load count done =
-    let fact = lone-fact plan rows arrivals (Each-weaker _ _ (not_finish v) arrivals load.here) count v in
-    let one = subst (λ o. node_fact rows o v (end.stations v) (filter (is_finish_at v) end.pending) end.clock) here fact in
-    let two = subst (λ k. kind_fact rows k v (end.stations v) (filter (is_finish_at v) end.pending) end.clock) kind one in
-    record { visited = lone-visits plan rows v arrivals load count done; left = two.left }
+    let two = subst (λ l. kind_fact rows node.kind v (end.stations v) (filter (is_finish_at v) l) end.clock) done one in
+    record { visited = lone-visits plan rows v arrivals load count done; left = kind-flow rows node.kind v (end.stations v) end.clock two }
   where
     end : State Local
     end = after count (alone (standard plan rows)) (opened (alone (standard plan rows)) arrivals)

@@ -2,6 +2,7 @@ use Rattle.std.proofs.Common.{◌≡◌, ℕ, zero, suc, ◌+◌, ◌*◌, ◌<�
 use Rattle.std.proofs.lemmas.Bool.Decides.{nat_tests}
 use Rattle.std.specs.Prelude.{slice_get, IfSome}
 use Rattle.mq_core.specs.ColumnLaws.{VisitsAreFew}
+use Rattle.mq_core.specs.Event.{Event, earliest}
 use Rattle.mq_core.specs.Event.Event.{Arrive, Finish}
 use Rattle.mq_core.specs.Local.{Local}
 use Rattle.mq_core.specs.Machine.{Visit, Station, emissions_of}
@@ -10,19 +11,22 @@ use Rattle.mq_core.specs.Run.{starts}
 use Rattle.mq_core.specs.Handling.{front_leaves, latest}
 use Rattle.mq_core.specs.Standard.{kind_on, node_on, output_by, kind_opening, node_opening, node_jobs, jobs_in, standard_opening, standard_handle, standard_jobs}
 use Rattle.mq_core.specs.StandardTable.{standard, run_of}
+use Rattle.mq_core.specs.Tallies.{sum_below}
 use Rattle.mq_core.specs.Theorems.{IsReadFor}
 use Rattle.mq_core.specs.Wiring.{rank_in, reader_from}
 use Rattle.mq_core.specs.declared.model.Kind.{Kind}
-use Rattle.mq_core.specs.declared.model.Kind.TheVariants.{Source, Server, Split}
+use Rattle.mq_core.specs.declared.model.Kind.TheVariants.{Source, Server, Delay, Loss, Split}
 use Rattle.mq_core.specs.declared.model.Node.{Node}
 use Rattle.mq_core.specs.declared.model.Plan.{Plan}
 use Rattle.mq_core.specs.declared.model.Rows.{Rows}
 use Rattle.mq_core.proofs.ColumnMerges.{visits-nowhere}
 use Rattle.mq_core.proofs.ColumnsEqual.{some-inside}
 use Rattle.mq_core.proofs.Ends.{emission-one, joins-length, joins-emits, starts-weight, starts-inside, source-inside, sum_below-zero}
-use Rattle.mq_core.proofs.Facts.{node_fact, standard-keeps}
-use Rattle.mq_core.proofs.Falls.{Falls, sum_below, never-grows-from_start}
+use Rattle.mq_core.proofs.DelayNumbers.{delaying-fewer}
+use Rattle.mq_core.proofs.Facts.{kind_fact, node_fact, standard-keeps}
+use Rattle.mq_core.proofs.Falls.{Falls, never-grows-from_start}
 use Rattle.mq_core.proofs.Kept.{Fact}
+use Rattle.mq_core.proofs.LossTallies.{losing-arrives-few, losing-ends-few}
 use Rattle.mq_core.proofs.Whole.{starts-arrive}
 use Rattle.mq_core.proofs.Wired.{feeds_forward, has_inputs, reads-from}
 
@@ -38,22 +42,29 @@ node-arrives-few rows (Some node) local earlier visits now port job v = go node.
         let a = joins-length rows demand visits local now local.queue (latest visits) in
         let b = ap length (joins-emits rows demand visits local now local.queue (latest visits)) in
         omega arith
+    go (Loss places demand) = losing-arrives-few rows places demand local visits now port job v
+    go (Delay demand) = let a = length-append local.scheduled (latest visits ∷ []) in omega arith
     go (Split route) = let l = emission-one now (output_by rows route job (latest visits)) (latest visits) (slice_get visits (latest visits)) in omega arith
 
 -- a finish lets out no more jobs than it takes from those inside
-node-ends-few : (rows : Rows) (o : Option Node) (local : Local) (visits : List Visit) (now server position v : ℕ) →
-    node_jobs o visits (node_on rows o visits local now (Finish now v server position)).local + length (emissions_of now visits (node_on rows o visits local now (Finish now v server position)).releases) ≤ node_jobs o visits local
-node-ends-few rows None local visits now server position v = omega arith
-node-ends-few rows (Some node) local visits now server position v = go node.kind
+node-ends-few : (rows : Rows) (o : Option Node) (rank : ℕ → ℕ) (v server position : ℕ) (s : Station Local) (fs rest : List Event) (now : ℕ) → node_fact rows o v s fs now → earliest rank fs ≡ Some (Finish now v server position, rest) →
+    node_jobs o s.visits (node_on rows o s.visits s.local now (Finish now v server position)).local + length (emissions_of now s.visits (node_on rows o s.visits s.local now (Finish now v server position)).releases) ≤ node_jobs o s.visits s.local
+node-ends-few rows None rank v server position s fs rest now h first = omega arith
+node-ends-few rows (Some node) rank v server position s fs rest now h first = go node.kind h
   where
-    go : (kind : Kind) → jobs_in kind visits (kind_on rows kind visits local now (Finish now v server position)).local + length (emissions_of now visits (kind_on rows kind visits local now (Finish now v server position)).releases) ≤ jobs_in kind visits local
-    go Source = omega arith
-    go (Split route) = omega arith
-    go (Server demand) = serve local.queue refl
+    go : (kind : Kind) → kind_fact rows kind v s fs now → jobs_in kind s.visits (kind_on rows kind s.visits s.local now (Finish now v server position)).local + length (emissions_of now s.visits (kind_on rows kind s.visits s.local now (Finish now v server position)).releases) ≤ jobs_in kind s.visits s.local
+    go Source h = omega arith
+    go (Split route) h = omega arith
+    go (Server demand) h = serve s.local.queue refl
       where
-        serve : (queue : List ℕ) → local.queue ≡ queue → length (front_leaves rows demand visits local now queue).local.queue + length (emissions_of now visits (front_leaves rows demand visits local now queue).releases) ≤ length queue
+        serve : (queue : List ℕ) → s.local.queue ≡ queue → length (front_leaves rows demand s.visits s.local now queue).local.queue + length (emissions_of now s.visits (front_leaves rows demand s.visits s.local now queue).releases) ≤ length queue
         serve [] e = let l = ap length e in omega arith
-        serve (front ∷ queue) e = let l = emission-one now 0 front (slice_get visits front) in omega arith
+        serve (front ∷ queue) e = let l = emission-one now 0 front (slice_get s.visits front) in omega arith
+    go (Loss places demand) h = losing-ends-few rows demand s.visits s.local now
+    go (Delay demand) h =
+        let less = delaying-fewer rows demand v rank server position s.visits s.local.scheduled s.emitted fs rest now first h in
+        let out = emission-one now 0 position (slice_get s.visits position) in
+        omega arith
 
 -- one where a test passes
 abbrev one_if : Bool → ℕ
@@ -126,7 +137,7 @@ module _ (plan : Plan) (rows : Rows) (read : IsReadFor plan.net rows) (v : ℕ) 
             arrive-few (before u) (eqb u v) (ltb (rank u) (suc (rank v))) (lower (rank u) (rank v)) (λ c. same (rank u) (rank v) (ap rank (eqb-true u v c))) _ _ _ (length s.visits) _
             (node-arrives-few rows (slice_get plan.net.nodes u) s.local s.visits (s.visits ++ x ∷ []) now port job u) (push s.visits x);
         ends = λ u server position s fs rest now l f first.
-            end-few (before u) (eqb u v) _ _ _ (length s.visits) (node-ends-few rows (slice_get plan.net.nodes u) s.local s.visits now server position u);
+            end-few (before u) (eqb u v) _ _ _ (length s.visits) (node-ends-few rows (slice_get plan.net.nodes u) _ u server position s fs rest now f first);
       }
     where
       follow : (n out : ℕ) (r : Option (ℕ × ℕ)) → reader_from 0 plan.net.nodes n out ≡ r → IfSome r (λ to. rank_in plan.order n < rank_in plan.order to.0) → IfSome r (λ to. (to.0 < size) × (weight to.0 ≤ onward n))
@@ -170,6 +181,8 @@ module _ (plan : Plan) (rows : Rows) (read : IsReadFor plan.net rows) (v : ℕ) 
           kind : (k : Kind) → jobs_in k [] (kind_opening k) ≡ 0
           kind Source = refl
           kind (Server demand) = omega arith
+          kind (Delay demand) = omega arith
+          kind (Loss places demand) = omega arith
           kind (Split route) = refl
 
       own : (r u jobs number : ℕ) → cond (ltb r r) jobs (cond (eqb u u) number 0) ≡ number

@@ -21,33 +21,9 @@ use Rattle.mq_core.specs.declared.model.Plan.{Plan}
 use Rattle.mq_core.specs.declared.model.Rows.{Rows}
 use Rattle.mq_core.proofs.AloneRuns.{visits-handled}
 use Rattle.mq_core.proofs.Ends.{nothing-pending}
+use Rattle.mq_core.proofs.Orders.{in_order_of-map, in_order_of-length}
 use Rattle.mq_core.proofs.Rising.{in_order_of-append_left}
 use Rattle.mq_core.proofs.Whole.{arrivals-read}
-
--- a map that keeps the key goes through a sort
-insert-map : {X Y : Type 0} (f : X → Y) (of : X → ℕ) (key : Y → ℕ) → ((x : X) → of x ≡ key (f x)) → (x : X) (xs : List X) → map f (insert_by of x xs) ≡ insert_by key (f x) (map f xs)
-insert-map f of key h x [] = refl
-insert-map f of key h x (y ∷ ys) = rw (h x, h y) (go (ltb (key (f y)) (key (f x))) (insert-map f of key h x ys))
-  where
-    go : (b : Bool) → map f (insert_by of x ys) ≡ insert_by key (f x) (map f ys) → map f (cond b (y ∷ insert_by of x ys) (x ∷ y ∷ ys)) ≡ cond b (f y ∷ insert_by key (f x) (map f ys)) (f x ∷ f y ∷ map f ys)
-    go true ih = ap (λ l. f y ∷ l) ih
-    go false ih = refl
-
-in_order_of-map : {X Y : Type 0} (f : X → Y) (of : X → ℕ) (key : Y → ℕ) → ((x : X) → of x ≡ key (f x)) → (xs : List X) → map f (in_order_of of xs) ≡ in_order_of key (map f xs)
-in_order_of-map f of key h [] = refl
-in_order_of-map f of key h (x ∷ xs) = insert-map f of key h x (in_order_of of xs) ∙ ap (insert_by key (f x)) (in_order_of-map f of key h xs)
-
-insert-length : {X : Type 0} (key : X → ℕ) (x : X) (xs : List X) → length (insert_by key x xs) ≡ suc (length xs)
-insert-length key x [] = refl
-insert-length key x (y ∷ ys) = go (ltb (key y) (key x)) (insert-length key x ys)
-  where
-    go : (b : Bool) → length (insert_by key x ys) ≡ suc (length ys) → length (cond b (y ∷ insert_by key x ys) (x ∷ y ∷ ys)) ≡ suc (suc (length ys))
-    go true ih = ap suc ih
-    go false ih = refl
-
-pub in_order_of-length : {X : Type 0} (key : X → ℕ) (xs : List X) → length (in_order_of key xs) ≡ length xs
-in_order_of-length key [] = refl
-in_order_of-length key (x ∷ xs) = insert-length key x (in_order_of key xs) ∙ ap suc (in_order_of-length key xs)
 
 pub merges-twice : MergesTwice
 merges-twice xs ys = record { twice = in_order_of-append_left (λ (p : ℕ × ℕ). p.0) xs ys; long = in_order_of-length (λ (p : ℕ × ℕ). p.0) xs }

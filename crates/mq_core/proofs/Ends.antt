@@ -1,6 +1,6 @@
 use Rattle.std.proofs.Common.{◌≡◌, ◌≢◌, ℕ, zero, suc, ◌+◌, ◌-◌, ◌*◌, ◌<◌, ◌≤◌, Bool, true, false, eqb, List, [], ◌∷◌, ◌++◌, length, Option, Some, None, sym, refl, ap, ◌∙◌, subst, arith, eq-eqb, length-append}
 use Rattle.std.proofs.Math.Nat.{suc-mul, mul-suc}
-use Rattle.std.specs.Prelude.{filter, slice_get, find, IsSome, IfSome}
+use Rattle.std.specs.Prelude.{filter, not, slice_get, find, IsSome, IfSome}
 use Rattle.std.specs.Option.{option_to_list}
 use Rattle.std.specs.List.{AllByRecursion as Each}
 use Rattle.mq_core.specs.Event.{Event, node_of, earliest}
@@ -11,22 +11,28 @@ use Rattle.mq_core.specs.Handling.{joins, front_leaves, latest}
 use Rattle.mq_core.specs.Standard.{kind_on, node_on, output_by, kind_opening, node_opening, standard_opening, standard_handle, standard_jobs, node_jobs, jobs_in}
 use Rattle.mq_core.specs.StandardTable.{standard, run_of}
 use Rattle.mq_core.specs.OnTime.{standard-on_time}
-use Rattle.mq_core.specs.Served.{served, served_from, passed_from}
+use Rattle.mq_core.specs.Served.{served, served_from, passed_from, flow_of}
 use Rattle.mq_core.specs.Laws.{is_finish_at}
 use Rattle.mq_core.specs.Wiring.{rank_in, first_ready, ranked_after, reader_from, is_source}
 use Rattle.mq_core.specs.Run.{starts, starts_from}
 use Rattle.mq_core.specs.Theorems.{IsReadFor}
 use Rattle.mq_core.specs.Fates.{fate_of, IsEnded}
+use Rattle.mq_core.specs.Tallies.{sum_below, emission_at}
 use Rattle.mq_core.specs.declared.model.Demand.{Demand}
 use Rattle.mq_core.specs.declared.model.Kind.{Kind}
-use Rattle.mq_core.specs.declared.model.Kind.TheVariants.{Source, Server, Split}
+use Rattle.mq_core.specs.declared.model.Kind.TheVariants.{Source, Server, Delay, Loss, Split}
 use Rattle.mq_core.specs.declared.model.Node.{Node}
 use Rattle.mq_core.specs.declared.model.Plan.{Plan}
 use Rattle.mq_core.specs.declared.model.Rows.{Rows}
 use Rattle.mq_core.proofs.Kept.{Fact, kept}
-use Rattle.mq_core.proofs.Serves.{Serving, positions, next_finish, last_served}
+use Rattle.mq_core.proofs.ColumnNumbers.{flow-numbered, numbered-found, order-found}
+use Rattle.mq_core.proofs.Delays.{delaying-done}
+use Rattle.mq_core.proofs.DelayNumbers.{delaying-fewer}
+use Rattle.mq_core.proofs.Flows.{kind-flow}
+use Rattle.mq_core.proofs.LossTallies.{losing-arrives-falls, losing-ends-falls, losing-done}
+use Rattle.mq_core.proofs.Serves.{positions, next_finish, last_served, serving-done}
 use Rattle.mq_core.proofs.Facts.{kind_fact, node_fact, standard-keeps}
-use Rattle.mq_core.proofs.Falls.{Falls, total, weigh, sum_over, sum_below, done-from_start}
+use Rattle.mq_core.proofs.Falls.{Falls, total, weigh, sum_over, done-from_start}
 use Rattle.mq_core.proofs.Wired.{feeds_forward, rank_in-has, has_inputs, reads-from}
 use Rattle.mq_core.proofs.Whole.{starts-arrive}
 use Rattle.std.proofs.lemmas.List.{append-nil}
@@ -34,6 +40,8 @@ use Rattle.std.proofs.lemmas.List.{append-nil}
 -- what the jobs in a node still weigh, where each emission weighs at most this much
 abbrev pub kind_load : ℕ → Kind → Local → ℕ
 kind_load onward (Server demand) local = length local.queue * (onward + 1)
+kind_load onward (Delay demand) local = length local.scheduled * (onward + 1)
+kind_load onward (Loss places demand) local = length local.queue * (onward + 1)
 kind_load onward _ local = 0
 
 abbrev pub node_load : ℕ → Option Node → Local → ℕ
@@ -73,6 +81,12 @@ node-arrives-falls rows (Some node) onward local visits now port job v = go node
         let d = ap (λ n. n * onward) b in
         let e = suc-mul (length local.queue) (onward + 1) in
         omega arith
+    go (Delay demand) =
+        let a : length (local.scheduled ++ latest visits ∷ []) ≡ suc (length local.scheduled) = omega (arith, length-append local.scheduled (latest visits ∷ [])) in
+        let b = ap (λ n. n * (onward + 1)) a in
+        let c = suc-mul (length local.scheduled) (onward + 1) in
+        omega arith
+    go (Loss places demand) = losing-arrives-falls rows places demand onward local visits now port job v
     go (Split route) = let l = times-one _ onward (emission-one now (output_by rows route job (latest visits)) (latest visits) (slice_get visits (latest visits))) in omega arith
 
 -- a finish at a node weighs more than what it leaves
@@ -88,6 +102,13 @@ node-ends-falls rows (Some node) onward v s fs rest rank now server position fac
     go : (kind : Kind) → kind_fact rows kind v s fs now → kind_load onward kind (kind_on rows kind s.visits s.local now (Finish now v server position)).local + length (emissions_of now s.visits (kind_on rows kind s.visits s.local now (Finish now v server position)).releases) * onward + 1 ≤ kind_load onward kind s.local
     go Source f = absurd (none f.none)
     go (Split route) f = absurd (none f.none)
+    go (Loss places demand) f = losing-ends-falls rows places demand onward rank v server position s.local s.visits s.local.queue s.emitted fs rest now first f.1
+    go (Delay demand) f =
+        let less = delaying-fewer rows demand v rank server position s.visits s.local.scheduled s.emitted fs rest now first f in
+        let was = ap (λ n. n * (onward + 1)) less in
+        let one = suc-mul (length (filter (λ p. not (eqb p position)) s.local.scheduled)) (onward + 1) in
+        let out = times-one _ onward (emission-one now 0 position (slice_get s.visits position)) in
+        omega arith
     go (Server demand) f = serve s.local.queue refl
       where
         serve : (queue : List ℕ) → s.local.queue ≡ queue → length (front_leaves rows demand s.visits s.local now queue).local.queue * (onward + 1) + length (emissions_of now s.visits (front_leaves rows demand s.visits s.local now queue).releases) * onward + 1 ≤ length queue * (onward + 1)
@@ -118,6 +139,8 @@ load-opening onward (Some node) = go node.kind
     go : (kind : Kind) → kind_load onward kind (kind_opening kind) ≡ 0
     go Source = refl
     go (Server demand) = omega arith
+    go (Delay demand) = omega arith
+    go (Loss places demand) = omega arith
     go (Split route) = refl
 
 pub sum_below-zero : (n : ℕ) (f : ℕ → ℕ) → ((k : ℕ) → f k ≡ 0) → sum_below n f ≡ 0
@@ -176,14 +199,6 @@ passed-found out k p (x ∷ xs) l u = go (eqb k p) refl (passed-found out (suc k
         let other : k ≢ p = λ q. let c = eq-eqb k p q in absurd cc in
         let r = ih (omega arith) (omega arith) in
         (r.0, rw e r.1)
-
--- a server that has nothing to finish is empty, and let out every visit
-pub serving-done : (rows : Rows) (demand : Demand) (v : ℕ) (visits : List Visit) (queue : List ℕ) (emitted : List Emission) (now : ℕ) → Serving rows demand v visits queue emitted [] now → (queue ≡ []) × (emitted ≡ served_from rows demand 0 0 visits)
-serving-done rows demand v visits queue emitted now h = go h.here h.next h.waiting h.parts
-  where
-    go : (here : List Visit) → [] ≡ next_finish rows demand v (length h.gone) (last_served rows demand 0 h.gone) here → queue ≡ positions (length h.gone) here → visits ≡ h.gone ++ here → (queue ≡ []) × (emitted ≡ served_from rows demand 0 0 visits)
-    go [] n q p = (q, h.left ∙ ap (served_from rows demand 0 0) (sym (p ∙ append-nil h.gone)))
-    go (x ∷ xs) n q p = absurd cc
 
 fate-some : (kind : Kind) (emitted : List Emission) (p : ℕ) (m : Emission) → find (λ (x : Emission). eqb x.position p) emitted ≡ Some m → IsSome (fate_of kind emitted p)
 fate-some kind emitted p m e = rw e refl
@@ -260,22 +275,12 @@ module _ (plan : Plan) (rows : Rows) (read : IsReadFor plan.net rows) where
       }
     where
       has_fate : (v : ℕ) (node : Node) (p : ℕ) → slice_get plan.net.nodes v ≡ Some node → p < length ((run_of plan rows).stations v).visits → kind_fact rows node.kind v ((run_of plan rows).stations v) [] (run_of plan rows).clock → IsSome (fate_of node.kind ((run_of plan rows).stations v).emitted p)
-      has_fate v node p e l f = go node.kind f
-        where
-          z : Station Local
-          z = (run_of plan rows).stations v
-
-          go : (kind : Kind) → kind_fact rows kind v ((run_of plan rows).stations v) [] (run_of plan rows).clock → IsSome (fate_of kind ((run_of plan rows).stations v).emitted p)
-          go Source h =
-              let r = passed-found (λ _ _. 0) 0 p ((run_of plan rows).stations v).visits (omega arith) (omega arith) in
-              fate-some Source _ p r.0 (ap (find (λ (x : Emission). eqb x.position p)) h.left ∙ r.1)
-          go (Server demand) h =
-              let d = serving-done rows demand v ((run_of plan rows).stations v).visits _ ((run_of plan rows).stations v).emitted _ h in
-              let r = served-found rows demand 0 0 p ((run_of plan rows).stations v).visits (omega arith) (omega arith) in
-              fate-some (Server demand) _ p r.0 (ap (find (λ (x : Emission). eqb x.position p)) d.1 ∙ r.1)
-          go (Split route) h =
-              let r = passed-found (λ x q. output_by rows route x.job q) 0 p ((run_of plan rows).stations v).visits (omega arith) (omega arith) in
-              fate-some (Split route) _ p r.0 (ap (find (λ (x : Emission). eqb x.position p)) h.left ∙ r.1)
+      has_fate v node p e l f =
+          let s = (run_of plan rows).stations v in
+          let flow = kind-flow rows node.kind v s (run_of plan rows).clock f in
+          let numbered = flow-numbered rows node.kind s.visits in
+          let one = numbered-found 0 p (flow_of rows node.kind s.visits) s.visits numbered (omega arith) (omega arith) in
+          fate-some node.kind s.emitted p one.0 (ap (λ l. emission_at l p) flow ∙ (order-found node.kind 0 (flow_of rows node.kind s.visits) s.visits numbered p ∙ one.1))
 
       holds_none : (v : ℕ) (o : Option Node) → node_fact rows o v ((run_of plan rows).stations v) [] (run_of plan rows).clock → node_jobs o ((run_of plan rows).stations v).visits ((run_of plan rows).stations v).local ≡ 0
       holds_none v None h = refl
@@ -284,4 +289,6 @@ module _ (plan : Plan) (rows : Rows) (read : IsReadFor plan.net rows) where
           go : (kind : Kind) → kind_fact rows kind v ((run_of plan rows).stations v) [] (run_of plan rows).clock → jobs_in kind ((run_of plan rows).stations v).visits ((run_of plan rows).stations v).local ≡ 0
           go Source h = refl
           go (Server demand) h = ap length (serving-done rows demand v ((run_of plan rows).stations v).visits _ ((run_of plan rows).stations v).emitted _ h).0
+          go (Delay demand) h = ap length (delaying-done rows demand v ((run_of plan rows).stations v).visits _ ((run_of plan rows).stations v).emitted _ h).0
+          go (Loss places demand) h = ap length (losing-done rows places demand v ((run_of plan rows).stations v).visits _ ((run_of plan rows).stations v).emitted _ h.1).0
           go (Split route) h = refl

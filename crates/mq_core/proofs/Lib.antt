@@ -4,6 +4,7 @@ pub mod Pending
 pub mod Steps
 pub mod Forward
 pub mod Rising
+pub mod Orders
 pub mod Arrivals
 pub mod Second
 pub mod Third
@@ -12,7 +13,11 @@ pub mod Soundness
 pub mod Whole
 pub mod Kept
 pub mod Serves
+pub mod Delays
 pub mod Facts
+pub mod Flows
+pub mod Remaining
+pub mod DelayNumbers
 pub mod Falls
 pub mod Ends
 pub mod AloneRuns
@@ -22,6 +27,7 @@ pub mod Plans
 pub mod NetworkRuns
 pub mod RecurrenceRows
 pub mod WorkedRows
+pub mod EmissionsAt
 pub mod Founds
 pub mod Busy
 pub mod Peak
@@ -40,3 +46,13 @@ pub mod ColumnJobs
 pub mod ColumnTimes
 pub mod ColumnFew
 pub mod NumberRuns
+pub mod Reordered
+pub mod LossFlow
+pub mod Loses
+pub mod Releases
+pub mod LossTallies
+pub mod LossBusy
+pub mod LossPeak
+pub mod LossColumns
+pub mod Unlost
+pub mod LossRows

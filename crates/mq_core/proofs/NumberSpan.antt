@@ -1,4 +1,4 @@
-use Rattle.std.proofs.Common.{◌≡◌, ◌≢◌, ◌⊎◌, inl, inr, ℕ, zero, suc, ◌+◌, ◌*◌, ◌<◌, ◌≤◌, Bool, true, false, cond, List, [], ◌∷◌, ◌++◌, length, map, Option, Some, None, sym, refl, ap, ◌∙◌, subst, arith, max, fold, slice_get, find, option_map, filter, eq-eqb, ne_eqb, le_antisymm, length-append}
+use Rattle.std.proofs.Common.{◌≡◌, ◌⊎◌, inl, inr, ℕ, zero, suc, ◌+◌, ◌*◌, ◌<◌, ◌≤◌, Bool, true, false, cond, eqb, List, [], ◌∷◌, ◌++◌, length, map, Option, Some, None, sym, refl, ap, ◌∙◌, subst, arith, max, fold, slice_get, find, option_map, filter, le_antisymm, length-append}
 use Rattle.std.proofs.lemmas.List.{append-nil}
 use Rattle.std.specs.List.{AllByRecursion as Each}
 use Rattle.mq_core.specs.Columns.{time_of_fate, greatest_time, column_span, visits_by_node}
@@ -13,22 +13,23 @@ use Rattle.mq_core.specs.NumberLaws.{SpanIsColumns}
 use Rattle.mq_core.specs.OnTime.{standard-on_time}
 use Rattle.mq_core.specs.Results.{fates_from, visits_of}
 use Rattle.mq_core.specs.Run.{starts}
-use Rattle.mq_core.specs.Served.{served, served_from, passed_from}
-use Rattle.mq_core.specs.Standard.{node_on, output_by, standard_handle, standard_jobs, standard_opening}
+use Rattle.mq_core.specs.Served.{flow_of}
+use Rattle.mq_core.specs.Standard.{node_on, standard_handle, standard_jobs, standard_opening}
 use Rattle.mq_core.specs.StandardTable.{standard, run_of}
 use Rattle.mq_core.specs.Tallies.{emission_at, arrival_or}
 use Rattle.mq_core.specs.Theorems.{IsReadFor}
 use Rattle.mq_core.specs.Wiring.{is_source, outputs_read}
-use Rattle.mq_core.specs.declared.model.Demand.{Demand}
+use Rattle.mq_core.specs.declared.model.Fate.TheVariants.{Departs, Lost}
 use Rattle.mq_core.specs.declared.model.Kind.{Kind}
-use Rattle.mq_core.specs.declared.model.Kind.TheVariants.{Source, Server, Split}
+use Rattle.mq_core.specs.declared.model.Kind.TheVariants.{Source, Server, Delay, Loss, Split}
 use Rattle.mq_core.specs.declared.model.Node.{Node}
 use Rattle.mq_core.specs.declared.model.Plan.{Plan}
 use Rattle.mq_core.specs.declared.model.Rows.{Rows}
 use Rattle.mq_core.proofs.AloneRuns.{visits-handled}
 use Rattle.mq_core.proofs.Each.{Each-map}
-use Rattle.mq_core.proofs.Ends.{nothing-pending, end-fact, serving-done}
-use Rattle.mq_core.proofs.Facts.{kind_fact, node_fact}
+use Rattle.mq_core.proofs.ColumnFlow.{nodes-flow, node-leaves}
+use Rattle.mq_core.proofs.ColumnNumbers.{LeavesAs, flow-numbered, order-own}
+use Rattle.mq_core.proofs.Ends.{nothing-pending}
 use Rattle.mq_core.proofs.Kept.{Keeps, kept}
 use Rattle.mq_core.proofs.NumberFates.{LetOut, all-let_out, fates-cons}
 use Rattle.mq_core.proofs.NumberLists.{greatest-least, greatest-bounds}
@@ -43,10 +44,6 @@ at-map f [] i x h = absurd cc
 at-map f (y ∷ xs) zero x h = let same : y ≡ x = cc in ap (λ z. Some (f z)) same
 at-map f (y ∷ xs) (suc i) x h = at-map f xs i x h
 
-at-middle : (before after : List Emission) (m : Emission) → slice_get (before ++ m ∷ after) (length before) ≡ Some m
-at-middle [] after m = refl
-at-middle (n ∷ before) after m = at-middle before after m
-
 found-each : (P : Emission → Type 0) (test : Emission → Bool) (ms : List Emission) (m : Emission) → Each P ms → find test ms ≡ Some m → P m
 found-each P test [] m h e = absurd cc
 found-each P test (n ∷ ms) m h e = go (test n) e (found-each P test ms m h.1)
@@ -54,30 +51,6 @@ found-each P test (n ∷ ms) m h e = go (test n) e (found-each P test ms m h.1)
     go : (b : Bool) → cond b (Some n) (find test ms) ≡ Some m → (find test ms ≡ Some m → P m) → P m
     go true e rest = subst P (let same : n ≡ m = cc in same) h.0
     go false e rest = rest e
-
--- the emissions stand in the order of their positions, from this one on
-abbrev InPlaces : ℕ → List Emission → Type 0
-InPlaces k [] = Unit {0}
-InPlaces k (m ∷ ms) = (m.position ≡ k) × InPlaces (suc k) ms
-
-served-places : (rows : Rows) (demand : Demand) (k last : ℕ) (xs : List Visit) → InPlaces k (served_from rows demand k last xs) × (length (served_from rows demand k last xs) ≡ length xs)
-served-places rows demand k last [] = (tt, refl)
-served-places rows demand k last (x ∷ xs) = let rest = served-places rows demand (suc k) (served rows demand last x) xs in ((refl, rest.0), ap suc rest.1)
-
-passed-places : (out : Visit → ℕ → ℕ) (k : ℕ) (xs : List Visit) → InPlaces k (passed_from out k xs) × (length (passed_from out k xs) ≡ length xs)
-passed-places out k [] = (tt, refl)
-passed-places out k (x ∷ xs) = let rest = passed-places out (suc k) xs in ((refl, rest.0), ap suc rest.1)
-
--- each is found by its position
-place-found : (k i : ℕ) (ms : List Emission) (m : Emission) → InPlaces k ms → slice_get ms i ≡ Some m → emission_at ms (k + i) ≡ Some m
-place-found k i [] m h e = absurd cc
-place-found k zero (n ∷ ms) m h e =
-    let own : n.position ≡ k + zero = (let a = h.0 in omega arith) in
-    rw (eq-eqb n.position (k + zero) own) e
-place-found k (suc i) (n ∷ ms) m h e =
-    let other : n.position ≢ k + suc i = (λ q. let a = h.0 in let b : ⊥ = omega arith in b) in
-    rw (ne_eqb n.position (k + suc i) other)
-    (let same : suc k + i ≡ k + suc i = omega arith in subst (λ p. emission_at ms p ≡ Some m) same (place-found (suc k) i ms m h.1 e))
 
 -- the fate of a position is in the column
 fate-at : (kind : Kind) (emitted : List Emission) (k i : ℕ) (xs : List Visit) (m : Emission) → LetOut emitted k xs → i < length xs → emission_at emitted (k + i) ≡ Some m → slice_get (fates_from kind emitted k xs) i ≡ Some (fate_by kind m)
@@ -91,12 +64,30 @@ fate-at kind emitted k (suc i) (x ∷ xs) m out l e =
     ap (λ l. slice_get l (suc i)) (fates-cons kind emitted k x xs out.0.0 out.0.1)
     ∙ fate-at kind emitted (suc k) i xs m out.1 (omega arith) (subst (λ p. emission_at emitted p ≡ Some m) place e)
 
+-- a fate is no later than its emission
+early-fate : (kind : Kind) (now : ℕ) (m : Emission) → m.time ≤ now → time_of_fate (fate_by kind m) ≤ now
+early-fate Source now m l = l
+early-fate (Server demand) now m l = l
+early-fate (Delay demand) now m l = l
+early-fate (Loss places demand) now m l = go (eqb m.out 1)
+  where
+    go : (b : Bool) → time_of_fate (cond b Lost (Departs m.time)) ≤ now
+    go true = omega arith
+    go false = l
+early-fate (Split route) now m l = l
+
+-- a number below the length is that of an item
+at-below : (xs : List Visit) (i : ℕ) → i < length xs → (x : Visit) × (slice_get xs i ≡ Some x)
+at-below [] i l = absurd (omega arith)
+at-below (x ∷ xs) zero l = (x, refl)
+at-below (x ∷ xs) (suc i) l = at-below xs i (omega arith)
+
 -- no fate is later than all emissions
 fates-early : (kind : Kind) (now : ℕ) (emitted : List Emission) (k : ℕ) (xs : List Visit) → LetOut emitted k xs → Each (λ (m : Emission). m.time ≤ now) emitted → Each (λ fate. time_of_fate fate ≤ now) (fates_from kind emitted k xs)
 fates-early kind now emitted k [] out h = tt
 fates-early kind now emitted k (x ∷ xs) out h =
     subst (λ l. Each (λ fate. time_of_fate fate ≤ now) l) (sym (fates-cons kind emitted k x xs out.0.0 out.0.1))
-    (found-each (λ (m : Emission). m.time ≤ now) _ emitted out.0.0 h out.0.1, fates-early kind now emitted (suc k) xs out.1 h)
+    (early-fate kind now out.0.0 (found-each (λ (m : Emission). m.time ≤ now) _ emitted out.0.0 h out.0.1), fates-early kind now emitted (suc k) xs out.1 h)
 
 nothing-came : (visits : List Visit) → came visits ≡ [] → visits ≡ []
 nothing-came [] h = refl
@@ -157,28 +148,24 @@ module _ (plan : Plan) (rows : Rows) (read : IsReadFor plan.net rows) where
       let two = column-within v node here in
       omega arith
 
-  -- at the end the emissions of a node stand by position, one for each visit
-  in-places : (v : ℕ) (node : Node) → slice_get plan.net.nodes v ≡ Some node → InPlaces 0 (end.stations v).emitted × (length (end.stations v).emitted ≡ length (end.stations v).visits)
-  in-places v node here = go node.kind (subst (λ o. node_fact rows o v (end.stations v) [] end.clock) here (end-fact plan rows read v))
-    where
-      moved : (emitted other : List Emission) (n : ℕ) → emitted ≡ other → InPlaces 0 other × (length other ≡ n) → InPlaces 0 emitted × (length emitted ≡ n)
-      moved emitted other n same h = subst (λ ms. InPlaces 0 ms × (length ms ≡ n)) (sym same) h
-
-      go : (kind : Kind) → kind_fact rows kind v ((run_of plan rows).stations v) [] (run_of plan rows).clock → InPlaces 0 ((run_of plan rows).stations v).emitted × (length ((run_of plan rows).stations v).emitted ≡ length ((run_of plan rows).stations v).visits)
-      go Source h = moved _ _ _ h.left (passed-places (λ _ _. 0) 0 ((run_of plan rows).stations v).visits)
-      go (Server demand) h = moved _ _ _ (serving-done rows demand v ((run_of plan rows).stations v).visits _ ((run_of plan rows).stations v).emitted _ h).1 (served-places rows demand 0 0 ((run_of plan rows).stations v).visits)
-      go (Split route) h = moved _ _ _ h.left (passed-places (λ x p. output_by rows route x.job p) 0 ((run_of plan rows).stations v).visits)
-
   leaves-within : (v : ℕ) (node : Node) (before after : List Emission) (m : Emission) → slice_get plan.net.nodes v ≡ Some node → (end.stations v).emitted ≡ before ++ m ∷ after → m.time ≤ column_span (visits_by_node end 0 plan.net.nodes)
   leaves-within v node before after m here inside =
-      let places = in-places v node here in
-      let size : length before < length (end.stations v).visits = (let a = places.1 in let b = ap length inside in omega (arith, length-append before (m ∷ after))) in
-      let at : slice_get (end.stations v).emitted (length before) ≡ Some m = ap (λ l. slice_get l (length before)) inside ∙ at-middle before after m in
-      let found = place-found 0 (length before) (end.stations v).emitted m places.0 at in
-      let fate = fate-at node.kind (end.stations v).emitted 0 (length before) (end.stations v).visits m (all-let_out plan rows read v node here) size found in
-      let one : m.time ≤ fold max 0 (map time_of_fate (fates_from node.kind (end.stations v).emitted 0 (end.stations v).visits)) = greatest-bounds (map time_of_fate (fates_from node.kind (end.stations v).emitted 0 (end.stations v).visits)) (length before) m.time (at-map time_of_fate (fates_from node.kind (end.stations v).emitted 0 (end.stations v).visits) (length before) (fate_by node.kind m) fate) in
-      let two = column-within v node here in
-      omega arith
+      let flow = nodes-flow plan rows read v node here in
+      let own = order-own node.kind (flow_of rows node.kind (end.stations v).visits) (end.stations v).visits (flow-numbered rows node.kind (end.stations v).visits) before after m (sym flow ∙ inside) in
+      let place : m.position ≡ 0 + m.position = omega arith in
+      let found : emission_at (end.stations v).emitted (0 + m.position) ≡ Some m = ap (emission_at (end.stations v).emitted) (sym place) ∙ (ap (λ l. emission_at l m.position) flow ∙ own.0) in
+      let size = own.1 in
+      let fate = fate-at node.kind (end.stations v).emitted 0 m.position (end.stations v).visits m (all-let_out plan rows read v node here) size found in
+      let visit = at-below (end.stations v).visits m.position own.1 in
+      go fate visit.0 visit.1 (node-leaves plan rows read v node here m.position visit.0 m visit.1 (ap (emission_at (end.stations v).emitted) place ∙ found))
+    where
+      go : slice_get (fates_from node.kind (end.stations v).emitted 0 (end.stations v).visits) m.position ≡ Some (fate_by node.kind m) → (x : Visit) → slice_get (end.stations v).visits m.position ≡ Some x → LeavesAs node.kind m x → m.time ≤ column_span (visits_by_node end 0 plan.net.nodes)
+      go fate x at (inl e) =
+          let one : time_of_fate (fate_by node.kind m) ≤ fold max 0 (map time_of_fate (fates_from node.kind (end.stations v).emitted 0 (end.stations v).visits)) = greatest-bounds (map time_of_fate (fates_from node.kind (end.stations v).emitted 0 (end.stations v).visits)) m.position (time_of_fate (fate_by node.kind m)) (at-map time_of_fate (fates_from node.kind (end.stations v).emitted 0 (end.stations v).visits) m.position (fate_by node.kind m) fate) in
+          let two = column-within v node here in
+          let three : time_of_fate (fate_by node.kind m) ≡ m.time = ap time_of_fate e in
+          omega arith
+      go fate x at (inr e) = let came = arrives-within v m.position node x here at in let same = e.1 in omega arith
 
   node-early : (v : ℕ) (node : Node) → slice_get plan.net.nodes v ≡ Some node → greatest_time (visits_of node.kind (end.stations v)) ≤ end.clock
   node-early v node here =

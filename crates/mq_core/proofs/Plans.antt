@@ -18,7 +18,7 @@ use Rattle.mq_core.specs.declared.model.Demand.{Demand}
 use Rattle.mq_core.specs.declared.model.Demand.TheVariants.{Column, Fixed}
 use Rattle.mq_core.specs.declared.model.Input.{Input}
 use Rattle.mq_core.specs.declared.model.Kind.{Kind}
-use Rattle.mq_core.specs.declared.model.Kind.TheVariants.{Source, Server, Split}
+use Rattle.mq_core.specs.declared.model.Kind.TheVariants.{Source, Server, Delay, Loss, Split}
 use Rattle.mq_core.specs.declared.model.Network.{Network}
 use Rattle.mq_core.specs.declared.model.Node.{Node}
 use Rattle.mq_core.specs.declared.model.Route.TheVariants.{Modulo, Turn, Cut}
@@ -107,6 +107,8 @@ within-most low high n h = let e = (and_parts (nat_le low n) (nat_le n high) h).
 kind-outputs : (columns : ℕ) (kind : Kind) → is_sound_kind columns kind ≡ true → outputs_in kind ≤ 8
 kind-outputs columns Source h = omega arith
 kind-outputs columns (Server demand) h = omega arith
+kind-outputs columns (Delay demand) h = omega arith
+kind-outputs columns (Loss places demand) h = omega arith
 kind-outputs columns (Split (Modulo outputs column)) h = within-most 2 8 outputs (and_parts (is_within 2 8 outputs) (nat_lt column columns) h).0
 kind-outputs columns (Split (Turn outputs)) h = within-most 2 8 outputs h
 kind-outputs columns (Split (Cut column thresholds)) h =
@@ -119,11 +121,15 @@ kind-outputs columns (Split (Cut column thresholds)) h =
 kind-servers : (columns : ℕ) (kind : Kind) → is_sound_kind columns kind ≡ true → servers_in kind ≤ 8
 kind-servers columns Source h = omega arith
 kind-servers columns (Server demand) h = omega arith
+kind-servers columns (Delay demand) h = omega arith
+kind-servers columns (Loss places demand) h = omega arith
 kind-servers columns (Split route) h = omega arith
 
 count-ports : (kind : Kind) (inputs : ℕ) → is_sound_count kind inputs ≡ true → inputs ≤ 8
 count-ports Source inputs h = grind (arith, nat_tests)
 count-ports (Server demand) inputs h = within-most 1 8 inputs h
+count-ports (Delay demand) inputs h = within-most 1 8 inputs h
+count-ports (Loss places demand) inputs h = within-most 1 8 inputs h
 count-ports (Split route) inputs h = within-most 1 8 inputs h
 
 -- what all inputs have, one has
@@ -175,6 +181,8 @@ tells-demand net rows read job below (Fixed demand) h = (tt, let t : nat_le dema
 tells-kind : (net : Network) (rows : Rows) → IsReadFor net rows → (job : ℕ) → job < length rows.source → (kind : Kind) → is_sound_kind (length net.columns) kind ≡ true → HasDemands rows kind job
 tells-kind net rows read job below Source h = tt
 tells-kind net rows read job below (Server demand) h = (tells-demand net rows read job below demand h).0
+tells-kind net rows read job below (Delay demand) h = (tells-demand net rows read job below demand h).0
+tells-kind net rows read job below (Loss places demand) h = (tells-demand net rows read job below demand (and_parts (is_within 1 1048576 places) (is_sound_demand (length net.columns) demand) h).1).0
 tells-kind net rows read job below (Split route) h = tt
 
 pub rows-tell-demands : RowsTellDemands

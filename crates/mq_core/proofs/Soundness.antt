@@ -1,14 +1,15 @@
 use Rattle.std.proofs.Common.{◌≡◌, ℕ, zero, suc, Bool, true, false, List, [], ◌∷◌, ◌++◌, length, Option, Some, None, sym, refl, ap, ◌∙◌, subst, eq-eqb, eqb-true, arith}
 use Rattle.std.proofs.lemmas.Bool.{and_parts}
+use Rattle.std.proofs.lemmas.Bool.Decides.{nat_tests}
 use Rattle.std.proofs.lemmas.List.Folds.{list_any-append}
-use Rattle.std.specs.Prelude.{◌&&◌, ◌||◌, ◌==◌, not, map, slice_get, IsTrue}
+use Rattle.std.specs.Prelude.{◌≤◌, ◌&&◌, ◌||◌, ◌==◌, nat_le, not, map, slice_get, IsTrue}
 use Rattle.std.specs.List.{flat_map, list_all, list_any}
 use Rattle.mq_core.specs.Names.{is_name}
-use Rattle.mq_core.specs.Sound.{is_sound, is_sound_count, is_sound_node, is_output, are_distinct, same_input, mentions_from, columns_of_kind}
+use Rattle.mq_core.specs.Sound.{is_sound, is_sound_count, is_sound_demand, is_sound_kind, is_sound_node, is_within, is_output, are_distinct, same_input, mentions_from, columns_of_kind}
 use Rattle.mq_core.specs.Wiring.{inputs_of, is_source, is_source_kind, outputs_read, IsReadOnce, SourcesReadNothing}
 use Rattle.mq_core.specs.declared.model.Input.{Input}
 use Rattle.mq_core.specs.declared.model.Kind.{Kind}
-use Rattle.mq_core.specs.declared.model.Kind.TheVariants.{Source, Server, Split}
+use Rattle.mq_core.specs.declared.model.Kind.TheVariants.{Source, Server, Delay, Loss, Split}
 use Rattle.mq_core.specs.declared.model.Network.{Network}
 use Rattle.mq_core.specs.declared.model.Node.{Node}
 use Rattle.mq_core.proofs.Pending.{some_inj}
@@ -137,6 +138,8 @@ sound-sources net sound v h = go (slice_get net.nodes v) refl h
     source-reads : (kind : Kind) (is : List Input) → is_source_kind kind ≡ true → is_sound_count kind (length is) ≡ true → map pair_of is ≡ []
     source-reads Source is s h = none-read is h
     source-reads (Server demand) is s h = absurd cc
+    source-reads (Delay demand) is s h = absurd cc
+    source-reads (Loss places demand) is s h = absurd cc
     source-reads (Split route) is s h = absurd cc
 
     go : (o : Option Node) → slice_get net.nodes v ≡ o → is_source o ≡ true → outputs_read o ≡ []
@@ -147,3 +150,27 @@ sound-sources net sound v h = go (slice_get net.nodes v) refl h
         let b = and_parts _ (list_all (λ (i : Input). is_output (slice_get net.nodes i.node) i.out) node.inputs) a.0 in
         let c = and_parts _ (is_sound_count node.kind (length node.inputs)) b.0 in
         source-reads node.kind node.inputs s c.1
+
+-- what the range of a kind gives to a node of it: a loss station has a place
+abbrev pub HasPlaces : Kind → Type 0
+HasPlaces (Loss places demand) = 1 ≤ places
+HasPlaces _ = Unit {0}
+
+sound-kind_places : (columns : ℕ) (kind : Kind) → is_sound_kind columns kind ≡ true → HasPlaces kind
+sound-kind_places columns Source h = tt
+sound-kind_places columns (Server demand) h = tt
+sound-kind_places columns (Delay demand) h = tt
+sound-kind_places columns (Loss places demand) h =
+    let a = and_parts (is_within 1 1048576 places) (is_sound_demand columns demand) h in
+    let b : nat_le 1 places ≡ true = (and_parts (nat_le 1 places) (nat_le places 1048576) a.0).0 in
+    grind (arith, nat_tests)
+sound-kind_places columns (Split route) h = tt
+
+-- each node of a sound network has its places
+pub sound-places : (net : Network) → IsTrue (is_sound net) → (v : ℕ) (node : Node) → slice_get net.nodes v ≡ Some node → HasPlaces node.kind
+sound-places net sound v node e =
+    let whole = sound-node net sound v node e in
+    let a = and_parts _ (is_name node.name) whole in
+    let b = and_parts _ (list_all (λ (i : Input). is_output (slice_get net.nodes i.node) i.out) node.inputs) a.0 in
+    let c = and_parts _ (is_sound_count node.kind (length node.inputs)) b.0 in
+    sound-kind_places (length net.columns) node.kind c.0

@@ -16,13 +16,15 @@ use Rattle.mq_core.specs.Run.{starts}
 use Rattle.mq_core.specs.Fates.{ComesAt, LeavesAt, SpanIsLatest}
 use Rattle.mq_core.specs.declared.model.Demand.{Demand}
 use Rattle.mq_core.specs.declared.model.Kind.{Kind}
-use Rattle.mq_core.specs.declared.model.Kind.TheVariants.{Source, Server, Split}
+use Rattle.mq_core.specs.declared.model.Kind.TheVariants.{Source, Server, Delay, Loss, Split}
 use Rattle.mq_core.specs.declared.model.Node.{Node}
 use Rattle.mq_core.specs.declared.model.Rows.{Rows}
 use Rattle.mq_core.proofs.Areas.{Areas, keeps-areas, get-last}
+use Rattle.mq_core.proofs.DelayNumbers.{delaying-emits}
 use Rattle.mq_core.proofs.Facts.{kind_fact, node_fact, standard-keeps}
 use Rattle.mq_core.proofs.Forward.{emissions-now}
 use Rattle.mq_core.proofs.Kept.{Fact, Keeps, Holds, kept, holds-until, holds-happens, holds-start}
+use Rattle.mq_core.proofs.LossTallies.{losing-emits}
 use Rattle.mq_core.proofs.Pending.{earliest-filter}
 use Rattle.mq_core.proofs.Serves.{Serving, positions, next_finish, last_served, slice_get-middle}
 use Rattle.mq_core.proofs.Steps.{after-some, after-none, after-zero, station-own}
@@ -92,6 +94,8 @@ node-emits rows (Some node) rank v server position s fs rest now h first = go no
     go : (kind : Kind) → kind_fact rows kind v s fs now → IsFilled (emissions_of now s.visits (kind_on rows kind s.visits s.local now (Finish now v server position)).releases)
     go Source h = absurd (none h.none)
     go (Server demand) h = serving-emits rows demand rank v server position s.local s.visits s.local.queue s.emitted fs rest now first h
+    go (Loss places demand) h = losing-emits rows places demand rank v server position s.local s.visits s.local.queue s.emitted fs rest now first h.1
+    go (Delay demand) h = (_, [], delaying-emits rows demand v rank server position s.visits s.local.scheduled s.emitted fs rest now first h)
     go (Split route) h = absurd (none h.none)
 
 pub span-is_latest : SpanIsLatest

@@ -14,7 +14,7 @@ use Rattle.mq_core.specs.declared.model.Demand.TheVariants.{Column, Fixed}
 use Rattle.mq_core.specs.declared.model.Fate.TheVariants.{Departs}
 use Rattle.mq_core.specs.declared.model.Input.{Input}
 use Rattle.mq_core.specs.declared.model.Kind.{Kind}
-use Rattle.mq_core.specs.declared.model.Kind.TheVariants.{Server, Source, Split}
+use Rattle.mq_core.specs.declared.model.Kind.TheVariants.{Delay, Server, Source, Split}
 use Rattle.mq_core.specs.declared.model.Network.{Network}
 use Rattle.mq_core.specs.declared.model.Node.{Node}
 use Rattle.mq_core.specs.declared.model.Plan.{Plan}
@@ -23,28 +23,28 @@ use Rattle.mq_core.specs.declared.model.Rows.{Rows}
 use Rattle.mq_core.specs.declared.model.Stream.{Stream}
 use Rattle.mq_core.specs.declared.model.Visits.{Visits}
 
-abbrev node_of : List ℕ → Kind → List Input → Node
+abbrev pub node_of : List ℕ → Kind → List Input → Node
 node_of name kind inputs = record { name = name; kind = kind; inputs = inputs }
 
 -- the first output of a node
-abbrev from : ℕ → Input
+abbrev pub from : ℕ → Input
 from node = record { node = node; out = 0 }
 
-abbrev net_of : List (List ℕ) → ℕ → List Node → Network
+abbrev pub net_of : List (List ℕ) → ℕ → List Node → Network
 net_of columns bound nodes = record { nodes = nodes; columns = columns; bound = bound }
 
-abbrev rows_of : List ℕ → List ℕ → List (List ℕ) → Rows
+abbrev pub rows_of : List ℕ → List ℕ → List (List ℕ) → Rows
 rows_of sources times demands = record { source = sources; time = times; demands = demands }
 
 -- what a row tells of a node: who left it, by which output and when, what each visit found, and the tallies
-record Seen : Type 0 where
-  left : List (ℕ × ℕ × ℕ)
-  found : List ℕ
-  area : ℕ
-  busy : ℕ
-  peak : ℕ
+pub record Seen : Type 0 where
+  pub left : List (ℕ × ℕ × ℕ)
+  pub found : List ℕ
+  pub area : ℕ
+  pub busy : ℕ
+  pub peak : ℕ
 
-abbrev seen : State Local → ℕ → Seen
+abbrev pub seen : State Local → ℕ → Seen
 seen end v =
     record {
       left = map {B = ℕ × ℕ × ℕ} (λ (m : Emission). (m.job, m.out, m.time)) (end.stations v).emitted;
@@ -55,7 +55,7 @@ seen end v =
     }
 
 -- a run that ended at this time: nothing is pending
-abbrev EndsAt : State Local → ℕ → Type 0
+abbrev pub EndsAt : State Local → ℕ → Type 0
 EndsAt end span = (end.clock ≡ span) × (end.pending ≡ [])
 
 -- one source and one server
@@ -241,6 +241,26 @@ chain-row : IsTrue (is_sound chain_net) × EndsAt chain_end 8
     × (seen chain_end 2 ≡ record { left = (0, 0, 5) ∷ (1, 0, 8) ∷ []; found = 0 ∷ 1 ∷ []; area = 7; busy = 6; peak = 2 })
 unfolding after step earliest sooner_of is_below place_of rank_in reader_from port_reading ranked_after first_ready
 chain-row = (refl, (refl, refl), refl, refl)
+
+-- A job overtakes another in a delay, and comes first at the server behind it.
+abbrev overtaking_net : Network
+overtaking_net =
+    net_of (codes "d" ∷ []) 100
+    (node_of (codes "src") Source [] ∷ node_of (codes "w") (Delay (Column 0)) (from 0 ∷ []) ∷ node_of (codes "q") (Server (Fixed 2)) (from 1 ∷ []) ∷ [])
+
+abbrev overtaking_rows : Rows
+overtaking_rows = rows_of (0 ∷ 0 ∷ []) (0 ∷ 1 ∷ []) ((5 ∷ 1 ∷ []) ∷ [])
+
+abbrev overtaking_end : State Local
+overtaking_end = run_in overtaking_net overtaking_rows
+
+overtaking-row : IsTrue (is_sound overtaking_net) × EndsAt overtaking_end 7
+    × (seen overtaking_end 1 ≡ record { left = (1, 0, 2) ∷ (0, 0, 5) ∷ []; found = 0 ∷ 1 ∷ []; area = 6; busy = 6; peak = 2 })
+    × (seen overtaking_end 2 ≡ record { left = (1, 0, 4) ∷ (0, 0, 7) ∷ []; found = 0 ∷ 0 ∷ []; area = 4; busy = 4; peak = 1 })
+    × (column_stream overtaking_rows (Delay (Column 0)) (0 ∷ 1 ∷ []) (0 ∷ 1 ∷ []) 0 ≡ record { job = 1 ∷ 0 ∷ []; time = 2 ∷ 5 ∷ [] })
+    × (totals_of overtaking_rows (Delay (Column 0)) (overtaking_end.stations 1) ≡ record { came = 2; left = 2; lost = 0; wait = 0; longest = 0; busy = 6; area = 6; peak = 2 })
+unfolding after step earliest sooner_of is_below place_of rank_in reader_from port_reading ranked_after first_ready
+overtaking-row = (refl, (refl, refl), refl, refl, refl, refl)
 
 -- A plan of the first network, whose run is computed as that of the network is.
 desk-whole : (n : ℕ) → n < 2 → IsTrue (has (0 ∷ 1 ∷ []) n)

@@ -3,10 +3,8 @@ use Rattle.std.specs.List.{AllByRecursion}
 use Rattle.mq_core.specs.Event.{Event, time_of, job_of}
 use Rattle.mq_core.specs.Machine.{Emission, Visit, after, opened}
 use Rattle.mq_core.specs.Laws.{NotBefore, Rises, is_arrival_at, alone}
-use Rattle.mq_core.specs.Served.{served_from, passed_from}
+use Rattle.mq_core.specs.Served.{flow_of, in_leaving_order}
 use Rattle.mq_core.specs.StandardTable.{standard}
-use Rattle.mq_core.specs.declared.model.Demand.{Demand}
-use Rattle.mq_core.specs.declared.model.Kind.TheVariants.{Source, Server}
 use Rattle.mq_core.specs.declared.model.Node.{Node}
 use Rattle.mq_core.specs.declared.model.Plan.{Plan}
 use Rattle.mq_core.specs.declared.model.Rows.{Rows}
@@ -29,20 +27,11 @@ pub record LetsOut (visits : List Visit) (emitted : List Emission) (arrivals : L
   pub visited : came visits ≡ come_at v arrivals
   pub left : emitted ≡ expected
 
--- a source alone: each visit leaves when it came, in the order of arrival
-abbrev pub SourcesPassOn : Type 0
-SourcesPassOn =
-    (plan : Plan) (rows : Rows) (v : ℕ) (node : Node) → slice_get plan.net.nodes v ≡ Some node → node.kind ≡ Source →
+-- a node alone lets out the recurrence of its kind over its visits, in the order of leaving
+abbrev pub NodesFlowAlone : Type 0
+NodesFlowAlone =
+    (plan : Plan) (rows : Rows) (v : ℕ) (node : Node) → slice_get plan.net.nodes v ≡ Some node →
     (arrivals : List Event) → IsLoad v arrivals → (count : ℕ) →
     let end = after count (alone (standard plan rows)) (opened (alone (standard plan rows)) arrivals) in
     end.pending ≡ [] →
-    LetsOut (end.stations v).visits (end.stations v).emitted arrivals v (passed_from (λ _ _. 0) 0 (end.stations v).visits)
-
--- a server alone: each visit leaves at the greater of its arrival and the last departure, plus its demand, in the order of arrival
-abbrev pub ServersServe : Type 0
-ServersServe =
-    (plan : Plan) (rows : Rows) (v : ℕ) (node : Node) (demand : Demand) → slice_get plan.net.nodes v ≡ Some node → node.kind ≡ Server demand →
-    (arrivals : List Event) → IsLoad v arrivals → (count : ℕ) →
-    let end = after count (alone (standard plan rows)) (opened (alone (standard plan rows)) arrivals) in
-    end.pending ≡ [] →
-    LetsOut (end.stations v).visits (end.stations v).emitted arrivals v (served_from rows demand 0 0 (end.stations v).visits)
+    LetsOut (end.stations v).visits (end.stations v).emitted arrivals v (in_leaving_order node.kind (flow_of rows node.kind (end.stations v).visits))

@@ -3,7 +3,7 @@ use Rattle.std.specs.Prelude.{◌≡◌, ℕ, ◌<◌, List, length, Some, slice
 use Rattle.mq_core.specs.declared.model.Demand.{Demand}
 use Rattle.mq_core.specs.declared.model.Demand.TheVariants.{Column, Fixed}
 use Rattle.mq_core.specs.declared.model.Kind.{Kind}
-use Rattle.mq_core.specs.declared.model.Kind.TheVariants.{Source, Server, Split}
+use Rattle.mq_core.specs.declared.model.Kind.TheVariants.{Source, Server, Delay, Loss, Split}
 use Rattle.mq_core.specs.declared.model.Rows.{Rows}
 
 -- the rows have this column, and it has a value for this job
@@ -20,4 +20,6 @@ HasDemand rows (Fixed demand) job = Unit {0}
 abbrev pub HasDemands : Rows → Kind → ℕ → Type 0
 HasDemands rows Source job = Unit {0}
 HasDemands rows (Server demand) job = HasDemand rows demand job
+HasDemands rows (Delay demand) job = HasDemand rows demand job
+HasDemands rows (Loss places demand) job = HasDemand rows demand job
 HasDemands rows (Split route) job = Unit {0}

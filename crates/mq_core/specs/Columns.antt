@@ -4,7 +4,7 @@ use Rattle.std.specs.List.{zip}
 use Rattle.mq_core.specs.Laws.{Rises, in_order_of}
 use Rattle.mq_core.specs.Local.{Local}
 use Rattle.mq_core.specs.Machine.{State}
-use Rattle.mq_core.specs.Recurrences.{lindley}
+use Rattle.mq_core.specs.Recurrences.{lindley, delayed, loss_fates}
 use Rattle.mq_core.specs.Results.{Totals, Late, late_fate, bare_time, is_lost, visits_of, stream_from}
 use Rattle.mq_core.specs.Sound.{outputs_in}
 use Rattle.mq_core.specs.Handling.{demand_of_job}
@@ -13,7 +13,7 @@ use Rattle.mq_core.specs.StandardTable.{run_of}
 use Rattle.mq_core.specs.declared.model.Fate.{Fate}
 use Rattle.mq_core.specs.declared.model.Fate.TheVariants.{Departs, Lost}
 use Rattle.mq_core.specs.declared.model.Kind.{Kind}
-use Rattle.mq_core.specs.declared.model.Kind.TheVariants.{Source, Server, Split}
+use Rattle.mq_core.specs.declared.model.Kind.TheVariants.{Source, Server, Delay, Loss, Split}
 use Rattle.mq_core.specs.declared.model.Node.{Node}
 use Rattle.mq_core.specs.declared.model.Plan.{Plan}
 use Rattle.mq_core.specs.declared.model.Route.{Route}
@@ -53,6 +53,8 @@ pub record IsSoundLoad (times demands : List ℕ) : Type 0 where
 abbrev pub column_fates : Rows → Kind → List ℕ → List ℕ → List Fate
 column_fates rows Source job arrive = map (λ time. Departs time) arrive
 column_fates rows (Server demand) job arrive = map (λ time. Departs time) (lindley 0 arrive (map (demand_of_job rows demand) job))
+column_fates rows (Delay demand) job arrive = map (λ time. Departs time) (delayed arrive (map (demand_of_job rows demand) job))
+column_fates rows (Loss places demand) job arrive = loss_fates places [] arrive (map (demand_of_job rows demand) job)
 column_fates rows (Split route) job arrive = map (λ time. Departs time) arrive
 
 -- it departs after this time
@@ -82,11 +84,18 @@ abbrev pub routes_from : Rows → Route → ℕ → List ℕ → List ℕ
 routes_from rows route position [] = []
 routes_from rows route position (job ∷ jobs) = output_by rows route job position ∷ routes_from rows route (suc position) jobs
 
--- the output by which each job leaves a node of this kind
-abbrev pub column_outs : Rows → Kind → List ℕ → List ℕ
-column_outs rows Source job = map (λ _. 0) job
-column_outs rows (Server demand) job = map (λ _. 0) job
-column_outs rows (Split route) job = routes_from rows route 0 job
+-- the output by which a visit leaves a loss station
+abbrev pub out_of_fate : Fate → ℕ
+out_of_fate (Departs time) = 0
+out_of_fate Lost = 1
+
+-- the output by which each job leaves a node of this kind, which has these jobs at these times
+abbrev pub column_outs : Rows → Kind → List ℕ → List ℕ → List ℕ
+column_outs rows Source job arrive = map (λ _. 0) job
+column_outs rows (Server demand) job arrive = map (λ _. 0) job
+column_outs rows (Delay demand) job arrive = map (λ _. 0) job
+column_outs rows (Loss places demand) job arrive = map out_of_fate (column_fates rows (Loss places demand) job arrive)
+column_outs rows (Split route) job arrive = routes_from rows route 0 job
 
 -- the items, of these that stand beside their outputs, whose output is this one
 abbrev pub picked : ℕ → List ℕ → List ℕ → List ℕ
@@ -99,14 +108,39 @@ abbrev pub time_of_fate : Fate → ℕ
 time_of_fate (Departs time) = time
 time_of_fate Lost = 0
 
+-- when a visit leaves: as it departs, or as it came where it is lost
+abbrev pub leaving_time : ℕ → Fate → ℕ
+leaving_time arrive (Departs time) = time
+leaving_time arrive Lost = arrive
+
+-- when each visit leaves
+abbrev pub leaving_times : List ℕ → List Fate → List ℕ
+leaving_times [] fates = []
+leaving_times (arrive ∷ arrives) [] = []
+leaving_times (arrive ∷ arrives) (fate ∷ fates) = leaving_time arrive fate ∷ leaving_times arrives fates
+
+-- a stream by time, the items of one time in their order
+abbrev pub sorted : Stream → Stream
+sorted stream =
+    let pairs = by_first (pairs_of stream) in
+    record {
+      job = map (λ (p : ℕ × ℕ). p.1) pairs;
+      time = map (λ (p : ℕ × ℕ). p.0) pairs;
+    }
+
+-- jobs and times by position, in the order in which they leave: by time and then position at a delay, else by position
+abbrev pub stream_in_order : Kind → Stream → Stream
+stream_in_order (Delay demand) stream = sorted stream
+stream_in_order _ stream = stream
+
 -- what leaves a node by an output, where the node has these jobs at these times
 abbrev pub column_stream : Rows → Kind → List ℕ → List ℕ → ℕ → Stream
 column_stream rows kind job arrive out =
-    let outs = column_outs rows kind job in
-    record {
+    let outs = column_outs rows kind job arrive in
+    stream_in_order kind (record {
       job = picked out outs job;
-      time = picked out outs (map time_of_fate (column_fates rows kind job arrive));
-    }
+      time = picked out outs (leaving_times arrive (column_fates rows kind job arrive));
+    })
 
 -- Totals. How long each visit waited, stayed and was served.
 abbrev pub column_wait : Rows → Kind → ℕ → ℕ → Fate → ℕ
@@ -135,6 +169,8 @@ column_sojourns (arrive ∷ arrives) (fate ∷ fates) = column_sojourn arrive fa
 abbrev pub service_time : Rows → Kind → ℕ → ℕ
 service_time rows Source job = 0
 service_time rows (Server demand) job = demand_of_job rows demand job
+service_time rows (Delay demand) job = demand_of_job rows demand job
+service_time rows (Loss places demand) job = demand_of_job rows demand job
 service_time rows (Split route) job = 0
 
 -- how long a visit was served; a lost one wasn't
@@ -163,6 +199,8 @@ column_numbers (found ∷ founds) (fate ∷ fates) = one_more found fate ∷ col
 abbrev pub column_peak : Kind → List ℕ → List Fate → ℕ
 column_peak Source founds fates = 0
 column_peak (Server demand) founds fates = fold max 0 (column_numbers founds fates)
+column_peak (Delay demand) founds fates = fold max 0 (column_numbers founds fates)
+column_peak (Loss places demand) founds fates = fold max 0 (column_numbers founds fates)
 column_peak (Split route) founds fates = 0
 
 -- the totals of a node, from its visits alone

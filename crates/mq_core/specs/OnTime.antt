@@ -1,16 +1,16 @@
 use Rattle.std.proofs.Common.{ℕ, ◌≤◌, List, [], ◌∷◌, Option, Some, None, arith}
-use Rattle.std.specs.Prelude.{slice_get}
+use Rattle.std.specs.Prelude.{slice_get, nat_lt, length, Bool, true, false, if◌then◌else◌}
 use Rattle.std.specs.List.{AllByRecursion as Each}
 use Rattle.mq_core.specs.Event.{Event}
 use Rattle.mq_core.specs.Event.Event.{Arrive, Finish}
 use Rattle.mq_core.specs.Machine.{Visit, Service}
 use Rattle.mq_core.specs.Local.{Local}
-use Rattle.mq_core.specs.Handling.{joins, front_begins, front_leaves, latest}
+use Rattle.mq_core.specs.Handling.{joins, passes_on, front_begins, front_leaves, latest}
 use Rattle.mq_core.specs.Standard.{kind_on, node_on, standard_handle}
 use Rattle.mq_core.specs.Run.{IsOnTime}
 use Rattle.mq_core.specs.declared.model.Demand.{Demand}
 use Rattle.mq_core.specs.declared.model.Kind.{Kind}
-use Rattle.mq_core.specs.declared.model.Kind.TheVariants.{Source, Server, Split}
+use Rattle.mq_core.specs.declared.model.Kind.TheVariants.{Source, Server, Delay, Loss, Split}
 use Rattle.mq_core.specs.declared.model.Node.{Node}
 use Rattle.mq_core.specs.declared.model.Rows.{Rows}
 
@@ -30,11 +30,19 @@ front_leaves-late : (rows : Rows) (demand : Demand) (visits : List Visit) (local
 front_leaves-late rows demand visits local now [] = tt
 front_leaves-late rows demand visits local now (front ∷ queue) = front_begins-late rows demand visits now queue
 
+loss-late : (rows : Rows) (places : ℕ) (demand : Demand) (visits : List Visit) (local : Local) (now : ℕ) (b : Bool) → Late now (if b then joins rows demand visits local now local.queue (latest visits) else passes_on local 1 (latest visits)).services
+loss-late rows places demand visits local now true = joins-late rows demand visits local now local.queue (latest visits)
+loss-late rows places demand visits local now false = tt
+
 kind-late : (rows : Rows) (kind : Kind) (visits : List Visit) (local : Local) (now : ℕ) (event : Event) → Late now (kind_on rows kind visits local now event).services
 kind-late rows Source visits local now (Arrive t n q j) = tt
 kind-late rows Source visits local now (Finish t n q j) = tt
 kind-late rows (Server demand) visits local now (Arrive t n q j) = joins-late rows demand visits local now local.queue (latest visits)
 kind-late rows (Server demand) visits local now (Finish t n q j) = front_leaves-late rows demand visits local now local.queue
+kind-late rows (Delay demand) visits local now (Arrive t n q j) = (omega arith, tt)
+kind-late rows (Delay demand) visits local now (Finish t n q j) = tt
+kind-late rows (Loss places demand) visits local now (Arrive t n q j) = loss-late rows places demand visits local now (nat_lt (length local.queue) places)
+kind-late rows (Loss places demand) visits local now (Finish t n q j) = front_leaves-late rows demand visits local now local.queue
 kind-late rows (Split route) visits local now (Arrive t n q j) = tt
 kind-late rows (Split route) visits local now (Finish t n q j) = tt
 

@@ -10,7 +10,7 @@ use Rattle.mq_core.specs.Fates.{fate_of}
 use Rattle.mq_core.specs.declared.model.Fate.{Fate}
 use Rattle.mq_core.specs.declared.model.Fate.TheVariants.{Departs, Lost}
 use Rattle.mq_core.specs.declared.model.Kind.{Kind}
-use Rattle.mq_core.specs.declared.model.Kind.TheVariants.{Source, Server, Split}
+use Rattle.mq_core.specs.declared.model.Kind.TheVariants.{Source, Server, Delay, Loss, Split}
 use Rattle.mq_core.specs.declared.model.Node.{Node}
 use Rattle.mq_core.specs.declared.model.Visits.{Visits}
 use Rattle.mq_core.specs.declared.model.Stream.{Stream}
@@ -22,10 +22,13 @@ abbrev pub bare_time : Rows → Kind → ℕ → ℕ
 bare_time rows Source job = 0
 bare_time rows (Split route) job = 0
 bare_time rows (Server demand) job = demand_of_job rows demand job
+bare_time rows (Delay demand) job = demand_of_job rows demand job
+bare_time rows (Loss places demand) job = demand_of_job rows demand job
 
--- the servers of a node, by which its utilisation is reckoned; none at a source or a split
+-- the servers of a node, by which its utilisation is reckoned; none at a source, a delay or a split
 abbrev pub servers_in : Kind → ℕ
 servers_in (Server demand) = 1
+servers_in (Loss places demand) = 1
 servers_in _ = 0
 
 -- the fates of the positions from this one on, one for each visit that has its fate

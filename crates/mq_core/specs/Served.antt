@@ -1,10 +1,14 @@
-use Rattle.std.specs.Prelude.{ℕ, suc, ◌+◌, max, List, [], ◌∷◌}
+use Rattle.std.specs.Prelude.{ℕ, suc, ◌+◌, max, List, [], ◌∷◌, map}
+use Rattle.mq_core.specs.Laws.{in_order_of}
 use Rattle.mq_core.specs.Machine.{Visit, Emission}
 use Rattle.mq_core.specs.Handling.{demand_of_job}
+use Rattle.mq_core.specs.Recurrences.{loss_fates}
 use Rattle.mq_core.specs.Standard.{output_by}
 use Rattle.mq_core.specs.declared.model.Demand.{Demand}
+use Rattle.mq_core.specs.declared.model.Fate.{Fate}
+use Rattle.mq_core.specs.declared.model.Fate.TheVariants.{Departs, Lost}
 use Rattle.mq_core.specs.declared.model.Kind.{Kind}
-use Rattle.mq_core.specs.declared.model.Kind.TheVariants.{Source, Server, Split}
+use Rattle.mq_core.specs.declared.model.Kind.TheVariants.{Source, Server, Delay, Loss, Split}
 use Rattle.mq_core.specs.declared.model.Rows.{Rows}
 
 -- when a visit leaves a server that the visit before it left at this time
@@ -24,6 +28,13 @@ passed_from out position [] = []
 passed_from out position (visit ∷ visits) =
     record { out = out visit position; position = position; job = visit.job; time = visit.arrive } ∷ passed_from out (suc position) visits
 
+-- what these visits let out at a delay, the first at this position: each leaves its demand after it came
+abbrev pub delayed_from : Rows → Demand → ℕ → List Visit → List Emission
+delayed_from rows demand position [] = []
+delayed_from rows demand position (visit ∷ visits) =
+    record { out = 0; position = position; job = visit.job; time = visit.arrive + demand_of_job rows demand visit.job }
+    ∷ delayed_from rows demand (suc position) visits
+
 -- what these visits let out by output 0 at these times, the first at this position
 abbrev pub leaving_from : ℕ → List ℕ → List Visit → List Emission
 leaving_from position [] visits = []
@@ -31,8 +42,28 @@ leaving_from position (time ∷ times) [] = []
 leaving_from position (time ∷ times) (visit ∷ visits) =
     record { out = 0; position = position; job = visit.job; time = time } ∷ leaving_from (suc position) times visits
 
--- what these visits let out at a node of each kind, in the order of leaving
+-- what a visit lets out that fares so: by output 0 as it departs, or by output 1 at once where it is lost
+abbrev pub faring_by : ℕ → Fate → Visit → Emission
+faring_by position (Departs time) visit = record { out = 0; position = position; job = visit.job; time = time }
+faring_by position Lost visit = record { out = 1; position = position; job = visit.job; time = visit.arrive }
+
+-- what these visits let out that fare so, the first at this position
+abbrev pub faring_from : ℕ → List Fate → List Visit → List Emission
+faring_from position [] visits = []
+faring_from position (fate ∷ fates) [] = []
+faring_from position (fate ∷ fates) (visit ∷ visits) = faring_by position fate visit ∷ faring_from (suc position) fates visits
+
+-- what these visits let out at a node of each kind, by position
 abbrev pub flow_of : Rows → Kind → List Visit → List Emission
 flow_of rows Source visits = passed_from (λ _ _. 0) 0 visits
 flow_of rows (Server demand) visits = served_from rows demand 0 0 visits
+flow_of rows (Delay demand) visits = delayed_from rows demand 0 visits
+flow_of rows (Loss places demand) visits =
+    faring_from 0 (loss_fates places [] (map (λ (x : Visit). x.arrive) visits) (map (λ (x : Visit). demand_of_job rows demand x.job) visits)) visits
 flow_of rows (Split route) visits = passed_from (λ visit position. output_by rows route visit.job position) 0 visits
+
+-- the order in which a node lets out: by time and then position at a delay or a loss station, else by position
+abbrev pub in_leaving_order : Kind → List Emission → List Emission
+in_leaving_order (Delay demand) emissions = in_order_of (λ (m : Emission). m.time) emissions
+in_leaving_order (Loss places demand) emissions = in_order_of (λ (m : Emission). m.time) emissions
+in_leaving_order _ emissions = emissions

@@ -9,7 +9,7 @@ use Rattle.mq_core.specs.declared.model.Input.{Input}
 use Rattle.mq_core.specs.declared.model.Route.{Route}
 use Rattle.mq_core.specs.declared.model.Route.TheVariants.{Modulo, Turn, Cut}
 use Rattle.mq_core.specs.declared.model.Kind.{Kind}
-use Rattle.mq_core.specs.declared.model.Kind.TheVariants.{Source, Server, Split}
+use Rattle.mq_core.specs.declared.model.Kind.TheVariants.{Source, Server, Delay, Loss, Split}
 use Rattle.mq_core.specs.declared.model.Node.{Node}
 use Rattle.mq_core.specs.declared.model.Network.{Network}
 
@@ -43,6 +43,8 @@ is_sound_route columns (Cut column thresholds) =
 abbrev pub is_sound_kind : ℕ → Kind → Bool
 is_sound_kind columns Source = true
 is_sound_kind columns (Server demand) = is_sound_demand columns demand
+is_sound_kind columns (Delay demand) = is_sound_demand columns demand
+is_sound_kind columns (Loss places demand) = is_within 1 1048576 places && is_sound_demand columns demand
 is_sound_kind columns (Split route) = is_sound_route columns route
 
 -- how many outputs a route chooses from
@@ -53,6 +55,7 @@ outputs_by (Cut column thresholds) = length thresholds + 1
 
 -- how many outputs a kind has
 abbrev pub outputs_in : Kind → ℕ
+outputs_in (Loss places demand) = 2
 outputs_in (Split route) = outputs_by route
 outputs_in _ = 1
 
@@ -97,6 +100,8 @@ columns_of_route (Cut column thresholds) = column ∷ []
 abbrev pub columns_of_kind : Kind → List ℕ
 columns_of_kind Source = []
 columns_of_kind (Server demand) = columns_of_demand demand
+columns_of_kind (Delay demand) = columns_of_demand demand
+columns_of_kind (Loss places demand) = columns_of_demand demand
 columns_of_kind (Split route) = columns_of_route route
 
 -- each column is first mentioned after all the columns before it, up to this one

@@ -4,11 +4,13 @@ use Rattle.mq_core.specs.Event.Event.{Arrive, Finish}
 use Rattle.mq_core.specs.Machine.{Visit, Reaction}
 use Rattle.mq_core.specs.Local.{Local, empty}
 use Rattle.mq_core.specs.Handling.{value_of, latest, quiet, passes_on, joins, front_leaves, one_if_some}
+use Rattle.mq_core.specs.DelayHandler.{delay_on}
+use Rattle.mq_core.specs.LossHandler.{loss_on}
 use Rattle.mq_core.specs.declared.model.Demand.{Demand}
 use Rattle.mq_core.specs.declared.model.Route.{Route}
 use Rattle.mq_core.specs.declared.model.Route.TheVariants.{Modulo, Turn, Cut}
 use Rattle.mq_core.specs.declared.model.Kind.{Kind}
-use Rattle.mq_core.specs.declared.model.Kind.TheVariants.{Source, Server, Split}
+use Rattle.mq_core.specs.declared.model.Kind.TheVariants.{Source, Server, Delay, Loss, Split}
 use Rattle.mq_core.specs.declared.model.Node.{Node}
 use Rattle.mq_core.specs.declared.model.Plan.{Plan}
 use Rattle.mq_core.specs.declared.model.Rows.{Rows}
@@ -48,6 +50,8 @@ server_on rows demand visits local now (Finish time node server position) = fron
 abbrev pub kind_on : Rows → Kind → List Visit → Local → ℕ → Event → Reaction Local
 kind_on rows Source visits local now event = source_on visits local event
 kind_on rows (Server demand) visits local now event = server_on rows demand visits local now event
+kind_on rows (Delay demand) visits local now event = delay_on rows demand visits local now event
+kind_on rows (Loss places demand) visits local now event = loss_on rows places demand visits local now event
 kind_on rows (Split route) visits local now event = split_on rows route visits local event
 
 -- what a node of each kind keeps at the start
@@ -57,11 +61,15 @@ kind_opening _ = empty
 -- the number of jobs in a node
 abbrev pub jobs_in : Kind → List Visit → Local → ℕ
 jobs_in (Server demand) visits local = length local.queue
+jobs_in (Delay demand) visits local = length local.scheduled
+jobs_in (Loss places demand) visits local = length local.queue
 jobs_in _ visits local = 0
 
 -- the number of its working servers
 abbrev pub working_in : Kind → Local → ℕ
 working_in (Server demand) local = one_if_some local.queue
+working_in (Delay demand) local = length local.scheduled
+working_in (Loss places demand) local = one_if_some local.queue
 working_in _ local = 0
 
 -- the same at a node; where there is none nothing happens

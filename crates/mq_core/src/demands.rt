@@ -19,7 +19,7 @@ pub fn demand_of(rows: &Rows, demand: &Demand, job: u32) -> u64
 }
 
 /// The bare time of a job at a node of this kind, in ticks: how long it stays where it never
-/// waits. That is its demand at a server, and 0 at a source or a split.
+/// waits. That is its demand at a server, a delay or a loss station, and 0 at a source or a split.
 ///
 /// The rows have each column that the kind's demands name, and the column has the job.
 pub fn bare_of(rows: &Rows, kind: &Kind, job: u32) -> u64
@@ -28,6 +28,7 @@ pub fn bare_of(rows: &Rows, kind: &Kind, job: u32) -> u64
 {
     match kind {
         Kind::Source | Kind::Split(_) => 0,
-        Kind::Server(demand) => demand_of(rows, demand, job),
+        Kind::Server(demand) | Kind::Delay(demand) => demand_of(rows, demand, job),
+        Kind::Loss { demand, .. } => demand_of(rows, demand, job),
     }
 }

@@ -4,7 +4,8 @@ ghost use Rattle.mq_core.specs.Sound.{outputs_by, outputs_in};
 
 use crate::model::{Kind, Route};
 
-/// How many outputs a node of this kind has: those that its route chooses from at a split, else 1.
+/// How many outputs a node of this kind has: those that its route chooses from at a split, 2 at a
+/// loss station, of which the second is for those that are lost, else 1.
 ///
 /// They are at most 8, as every kind of a plan has it.
 pub fn outputs_of(kind: &Kind) -> u8
@@ -12,7 +13,8 @@ pub fn outputs_of(kind: &Kind) -> u8
     ensures { result ≡ outputs_in kind.now }
 {
     match kind {
-        Kind::Source | Kind::Server(_) => 1,
+        Kind::Source | Kind::Server(_) | Kind::Delay(_) => 1,
+        Kind::Loss { .. } => 2,
         Kind::Split(route) => outputs_of_route(route),
     }
 }
@@ -27,13 +29,14 @@ fn outputs_of_route(route: &Route) -> u8
     }
 }
 
-/// How many servers a node of this kind has, by which its utilisation is reckoned; 0 at a source
-/// or a split, which have none.
+/// How many servers a node of this kind has, by which its utilisation is reckoned; 0 at a source,
+/// a delay or a split, which have none.
 pub fn servers_of(kind: &Kind) -> u8
     ensures { result ≡ servers_in kind.now }
 {
     match kind {
         Kind::Server(_) => 1,
-        Kind::Source | Kind::Split(_) => 0,
+        Kind::Loss { .. } => 1,
+        Kind::Source | Kind::Delay(_) | Kind::Split(_) => 0,
     }
 }

@@ -1,11 +1,10 @@
 ghost use Rattle.mq_core.specs.Theorems.{EventsGoForward, ArrivalsAreRead, NodesRunAlone, VisitsAreArrivals};
 ghost use Rattle.mq_core.specs.NetworkRun.{RunsAreOfNetworks};
 ghost use Rattle.mq_core.specs.PlanLaws.{NodesAreInLimits, OrdersRank, RowsTellDemands};
-ghost use Rattle.mq_core.specs.Alone.{ServersServe, SourcesPassOn};
+ghost use Rattle.mq_core.specs.Alone.{NodesFlowAlone};
 ghost use Rattle.mq_core.specs.Fates.{AreasAreSojourns, BusyIsServices, FoundsAreCounts, PeakIsGreatest, RunEnds, SpanIsLatest};
-ghost use Rattle.mq_core.specs.ColumnLaws.{ArrivalsAreStreams, DepartsInTime, JobsAreRows, MergesTwice, NodesAreColumns, NodesFlow, StreamsRise, VisitsAreFew};
+ghost use Rattle.mq_core.specs.ColumnLaws.{ArrivalsAreStreams, DepartsInTime, FatesAreInTime, JobsAreRows, MergesTwice, NodesAreColumns, NodesFlow, OrdersKeepItems, StreamsRise, VisitsAreFew};
 ghost use Rattle.mq_core.specs.NumberLaws.{ExitsAreStreams, LateIsFirst, LateIsNone, OnTimeGrows, PastIsColumns, PastIsFirst, PastIsNone, SpanIsColumns, TotalsAreColumns};
-ghost use Rattle.mq_core.specs.ColumnLaws.{ArrivalsAreStreams, DepartsInTime, JobsAreRows, MergesTwice, NodesAreColumns, NodesFlow, StreamsRise};
 ghost use Rattle.mq_core.specs.RunLaws.{ColumnsMakeRuns, OutputsHaveStreams, RunsHaveColumns, StreamsMakeOutputs};
 
 use crate::handlers::Handlers;
@@ -35,14 +34,9 @@ pub fn areas_are_sojourns()
     ensures { AreasAreSojourns }
 {}
 
-/// A source alone lets each visit out when it came.
-pub fn sources_pass_on()
-    ensures { SourcesPassOn }
-{}
-
-/// A server alone lets each visit out by the recurrence.
-pub fn servers_serve()
-    ensures { ServersServe }
+/// A node alone lets out the recurrence of its kind over its visits, in the order of leaving.
+pub fn nodes_flow_alone()
+    ensures { NodesFlowAlone }
 {}
 
 /// Each visit found as many as the earlier ones that leave later than it came.
@@ -152,6 +146,11 @@ pub fn arrivals_are_streams()
     ensures { ArrivalsAreStreams }
 {}
 
+/// To put a stream in the order of leaving keeps its items.
+pub fn orders_keep_items()
+    ensures { OrdersKeepItems }
+{}
+
 /// A merge of a merge with more is the merge of all.
 pub fn merges_twice()
     ensures { MergesTwice }
@@ -165,6 +164,11 @@ pub fn streams_rise()
 /// The job of each visit is a row.
 pub fn jobs_are_rows()
     ensures { JobsAreRows }
+{}
+
+/// No job departs from a node before it came.
+pub fn fates_are_in_time()
+    ensures { FatesAreInTime }
 {}
 
 /// No visit departs before it came, and the columns of a node have one item a visit.

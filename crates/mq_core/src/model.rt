@@ -50,6 +50,11 @@ pub enum Kind {
     Source,
     /// One server with an unlimited queue, first come first served.
     Server(Demand),
+    /// Serves each job at once, for as long as it asks, however many there are.
+    Delay(Demand),
+    /// One server, and places for 1 to 1,048,576 jobs, with the one in service. A job that finds all
+    /// of them taken is lost: it leaves at once, by output 1.
+    Loss { places: u32, demand: Demand },
     /// Sends each job on at once, by one of its outputs.
     Split(Route),
 }

@@ -1,6 +1,6 @@
 pub mod Lists
 pub mod Sorted
-pub mod Gone
 pub mod Leaves
+pub mod LossFates
 pub mod Early
 pub mod Rounds

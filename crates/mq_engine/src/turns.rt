@@ -6,10 +6,10 @@ ghost use Rattle.mq_engine.specs.Turns.{IsLoad, IsTurn};
 
 use crate::RunFault;
 use crate::late::first_late;
-use crate::occupancy::found;
 use crate::stations::leaving;
 use mq_base::List;
-use mq_core::{Kind, Network, Rows, Stream, Visits};
+use mq_core::{Kind, Network, Rows, Stream, Visits, fates_are_in_time};
+use mq_stats::found;
 use std::alloc::Global;
 
 // What a turn makes of a node.
@@ -34,6 +34,7 @@ pub fn turn(
     ensures on_time { IfOk result (λ turn. first_of (column_late_from net.now.bound number 0 (column_fates rows.now kind.now arrivals.job arrivals.time)) ≡ None) }
     ensures cause { IfErr result (λ fault. IsLateIn net.now.bound number (column_fates rows.now kind.now arrivals.job arrivals.time) fault) }
 {
+    fates_are_in_time();
     let leaving = leaving(alloc, net, rows, kind, &arrivals)?;
     if let Some(past) = first_late(net.bound, number, &leaving.fates) {
         return Err(RunFault::Past(past));

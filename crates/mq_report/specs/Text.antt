@@ -10,7 +10,7 @@ use Rattle.mq_core.specs.Sound.{outputs_in}
 use Rattle.mq_core.specs.Wiring.{ranking}
 use Rattle.mq_core.specs.declared.model.Input.{Input}
 use Rattle.mq_core.specs.declared.model.Kind.{Kind}
-use Rattle.mq_core.specs.declared.model.Kind.TheVariants.{Source, Server, Split}
+use Rattle.mq_core.specs.declared.model.Kind.TheVariants.{Source, Server, Delay, Loss, Split}
 use Rattle.mq_core.specs.declared.model.Network.{Network}
 use Rattle.mq_core.specs.declared.model.Node.{Node}
 use Rattle.mq_core.specs.declared.model.Rows.{Rows}
@@ -25,6 +25,8 @@ jobs_line jobs span = codes "jobs " ++ decimal jobs ++ codes " span " ++ decimal
 abbrev pub kind_word : Kind → List ℕ
 kind_word Source = codes "source"
 kind_word (Server demand) = codes "server"
+kind_word (Delay demand) = codes "delay"
+kind_word (Loss places demand) = codes "loss"
 kind_word (Split route) = codes "split"
 
 -- four digits

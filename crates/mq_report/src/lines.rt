@@ -58,6 +58,8 @@ fn kind_word(kind: &Kind) -> &'static [u8]
     match kind {
         Kind::Source => b"source",
         Kind::Server(_) => b"server",
+        Kind::Delay(_) => b"delay",
+        Kind::Loss { .. } => b"loss",
         Kind::Split(_) => b"split",
     }
 }

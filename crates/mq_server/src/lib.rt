@@ -24,11 +24,11 @@ pub fn departures(
     requires { IsSoundLoad stream.now.time demands.now }
     ensures { IfOk result (λ departs. departs ≡ lindley 0 stream.now.time demands.now) }
 {
-    let mut departs = List::new(alloc);
+    let mut departs = Vec::with_capacity(alloc, demands.len())?;
     let mut last = 0;
     for at in 0..stream.time.len() {
         last = last.max(*stream.time.get(at)) + *demands.get(at);
-        departs.push(last)?;
+        departs.push_reserved(last);
     }
-    Ok(departs)
+    Ok(List::from_vec(departs))
 }

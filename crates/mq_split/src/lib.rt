@@ -58,21 +58,23 @@ fn outs_of(alloc: Global, values: &List<u64>, route: &Route) -> Result<Vec<u8>, 
     requires few { length values.now ≤ 1048576 }
     ensures { IfOk result (λ outs. outs.items ≡ outs_from route.now 0 values.now) }
 {
-    let mut outs = Vec::new(alloc);
+    let mut outs = Vec::with_capacity(alloc, values.len())?;
     for at in 0..values.len() {
-        outs.push(route_of(route, *values.get(at), at as u32))?;
+        outs.push_reserved(route_of(route, *values.get(at), at as u32));
     }
     Ok(outs)
 }
 
-// The items of a stream whose output is this one.
-fn pick(alloc: Global, stream: &Stream, outs: &[u8], out: u8) -> Result<Stream, OutOfMemory>
+/// The items, in their order, whose output is this one. `outs` has the output of each, by position;
+/// the jobs and the times of the stream are as many. It refuses for want of memory alone.
+pub fn pick(alloc: Global, stream: &Stream, outs: &[u8], out: u8) -> Result<Stream, OutOfMemory>
     requires jobs { length stream.now.job ≡ length outs.now }
     requires times { length stream.now.time ≡ length outs.now }
     ensures { IfOk result (λ part. part ≡ picked_stream outs.now stream.now out) }
 {
-    let mut job = List::new(alloc);
-    let mut time = List::new(alloc);
+    let count = outs.iter().filter(|other| **other == out).count();
+    let mut job = List::from_vec(Vec::with_capacity(alloc, count)?);
+    let mut time = List::from_vec(Vec::with_capacity(alloc, count)?);
     for at in 0..outs.len() {
         if outs[at] != out {
             continue;

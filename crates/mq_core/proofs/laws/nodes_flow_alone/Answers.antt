@@ -1,0 +1,5 @@
+use Rattle.mq_core.proofs.AloneRuns.{nodes-flow_alone}
+use Rattle.mq_core.proofs.laws.nodes_flow_alone.Goals as goal
+
+pub returns : goal.returns
+returns c = nodes-flow_alone

@@ -1,7 +1,0 @@
-use Rattle.std.proofs.Common.{◌≡◌, ◌++◌, drop}
-use Rattle.std.specs.List.{zip}
-use Rattle.mq_delay.proofs.items_of.Given as goal
-
--- the items so far and those of what is left are all
-abbrev pub invariant-loop-at : goal.invariant-loop-at
-invariant-loop-at l = l.items.items ++ zip (drop l.at l.departs) (drop l.at l.jobs) ≡ zip l.departs l.jobs
