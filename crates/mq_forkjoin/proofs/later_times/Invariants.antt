@@ -1,0 +1,7 @@
+use Rattle.std.proofs.Common.{◌≡◌, ◌++◌, drop}
+use Rattle.mq_core.specs.Recurrences.{later_of}
+use Rattle.mq_forkjoin.proofs.later_times.Given as goal
+
+-- the later times so far and those of what is left are all
+abbrev pub invariant-loop-at : goal.invariant-loop-at
+invariant-loop-at l = l.later ++ later_of (drop l.at l.one) (drop l.at l.other) ≡ later_of l.one l.other

@@ -1,0 +1,5 @@
+mod Lists
+mod Stopping
+mod Passing
+mod Looking
+mod Working
