@@ -5,6 +5,7 @@
 mod exits;
 mod laws;
 mod occupancy;
+mod services;
 mod spans;
 mod tallies;
 #[cfg(test)]

@@ -16,7 +16,8 @@ ghost use Rattle.mq_core.specs.Columns.{
 ghost use Rattle.mq_core.specs.Results.{is_lost};
 ghost use Rattle.mq_stats.specs.Numbers.{AreVisits, totals_from};
 
-use mq_core::{Fate, Kind, Rows, Visits, bare_of, demand_of, rows_tell_demands};
+use crate::services::sum_of_branches;
+use mq_core::{Fate, Kind, Rows, Visits, bare_of, rows_tell_demands};
 
 /// The totals of a node over a run.
 #[derive(Clone, Copy, Debug, PartialEq, Eq)]
@@ -69,9 +70,10 @@ fn service_at(rows: &Rows, kind: &Kind, job: u32) -> u64
 {
     match kind {
         Kind::Source | Kind::Split(_) => 0,
-        Kind::Server(demand) | Kind::Delay(demand) | Kind::Loss { demand, .. } => {
-            demand_of(rows, demand, job)
+        Kind::Server(_) | Kind::Delay(_) | Kind::Loss { .. } | Kind::Tandem(_) => {
+            bare_of(rows, kind, job)
         }
+        Kind::ForkJoin(branches) => sum_of_branches(rows, branches, job),
     }
 }
 
@@ -207,7 +209,11 @@ fn peak_of(kind: &Kind, greatest: u32, visits: &Visits) -> u32
 {
     match kind {
         Kind::Source | Kind::Split(_) => 0,
-        Kind::Server(_) | Kind::Delay(_) | Kind::Loss { .. } => greatest,
+        Kind::Server(_)
+        | Kind::Delay(_)
+        | Kind::Loss { .. }
+        | Kind::Tandem(_)
+        | Kind::ForkJoin(_) => greatest,
     }
 }
 
