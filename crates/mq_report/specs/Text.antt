@@ -10,7 +10,7 @@ use Rattle.mq_core.specs.Sound.{outputs_in}
 use Rattle.mq_core.specs.Wiring.{ranking}
 use Rattle.mq_core.specs.declared.model.Input.{Input}
 use Rattle.mq_core.specs.declared.model.Kind.{Kind}
-use Rattle.mq_core.specs.declared.model.Kind.TheVariants.{Source, Server, Delay, Loss, Split}
+use Rattle.mq_core.specs.declared.model.Kind.TheVariants.{Source, Server, Delay, Loss, Tandem, ForkJoin, Split}
 use Rattle.mq_core.specs.declared.model.Network.{Network}
 use Rattle.mq_core.specs.declared.model.Node.{Node}
 use Rattle.mq_core.specs.declared.model.Rows.{Rows}
@@ -27,6 +27,8 @@ kind_word Source = codes "source"
 kind_word (Server demand) = codes "server"
 kind_word (Delay demand) = codes "delay"
 kind_word (Loss places demand) = codes "loss"
+kind_word (Tandem stages) = codes "tandem"
+kind_word (ForkJoin branches) = codes "forkjoin"
 kind_word (Split route) = codes "split"
 
 -- four digits

@@ -14,3 +14,9 @@ settled-requires-clause-places c = some-places c.args.net.now c.args.places c.ar
 
 pub times_of-requires : goal.times_of-requires
 times_of-requires c = settled-many c.fates_are_in_time.ensures c.args.rows.now c.args.places c.args.demand.now c.args.arrivals.now _ c.in_ok-settled.settled c.in_ok-fates.fates c.requires.ordered.ordered.even c.in_ok-demands.ensures c.in_ok-settled.ensures c.in_ok-fates.ensures
+
+pub pick-requires-clause-jobs : goal.pick-requires-clause-jobs
+pick-requires-clause-jobs c = ap length ?
+
+pub returns : goal.returns
+returns c = loses c.args.rows.now c.args.places c.args.demand.now c.args.arrivals.now ? c.in_ok-outs.outs.items c.in_ok-fates.fates c.push-2.new.self (settled-fates c.args.rows.now c.args.places c.args.demand.now c.args.arrivals.now _ c.in_ok-settled.settled c.in_ok-fates.fates c.in_ok-demands.ensures c.in_ok-settled.ensures c.in_ok-fates.ensures) c.in_ok-outs.ensures ? ? ?
