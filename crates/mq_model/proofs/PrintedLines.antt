@@ -14,20 +14,20 @@ use Rattle.mq_base.specs.Text.{is_number}
 use Rattle.mq_core.specs.Names.{is_name, is_name_byte}
 use Rattle.mq_core.specs.Sound.{is_within, rises_from}
 use Rattle.mq_model.specs.Form.{Form, Word, one, up_to, read, whole}
-use Rattle.mq_model.specs.Lines.{a_demand, a_name, a_route, bound_line, counted_route, cut_route, demand_of, ends_in_output, greatest_demand, input_of, inputs, is_above, is_demand, is_from_to, is_input, is_key, is_up_to, last_byte, line, modulo_route, node_line, rising, server_kind, source_line, split_kind, thresholds, value_of, way_of}
+use Rattle.mq_model.specs.Lines.{a_demand, a_name, a_route, bound_line, counted_route, cut_route, demand_of, ends_in_output, greatest_demand, input_of, inputs, is_above, is_demand, is_from_to, is_input, is_key, is_up_to, last_byte, line, modulo_route, node_line, rising, delay_kind, server_kind, source_line, split_kind, thresholds, value_of, way_of}
 use Rattle.mq_model.specs.Printed.{demand_word, input_word, inputs_words, route_words, said_words}
 use Rattle.mq_model.specs.Said.{reads_of}
 use Rattle.mq_model.specs.declared.said.SaidDemand.{SaidDemand}
 use Rattle.mq_model.specs.declared.said.SaidDemand.TheVariants.{Column, Fixed}
 use Rattle.mq_model.specs.declared.said.SaidInput.{SaidInput}
 use Rattle.mq_model.specs.declared.said.SaidKind.{SaidKind}
-use Rattle.mq_model.specs.declared.said.SaidKind.TheVariants.{Source, Server, Split}
+use Rattle.mq_model.specs.declared.said.SaidKind.TheVariants.{Source, Server, Delay, Split}
 use Rattle.mq_model.specs.declared.said.SaidRoute.{SaidRoute}
 use Rattle.mq_model.specs.declared.said.SaidRoute.TheVariants.{Modulo, Turn, Cut}
 use Rattle.mq_model.specs.declared.said.Said.{Said}
 use Rattle.mq_model.specs.declared.said.Said.TheVariants.{Bound, Node}
 use Rattle.mq_model.proofs.FormFacts.{read_then}
-use Rattle.mq_model.proofs.ReadFacts.{inputs_first, line_bound, line_server, line_source, line_split, read_one_yes, rising_no, rising_yes, route_counted, route_cut, thresholds_first, up_to_none, up_to_yes, way_mod, way_turn, with_front}
+use Rattle.mq_model.proofs.ReadFacts.{inputs_first, kind_delay, kind_server, kind_split, line_bound, line_kind, line_source, read_one_yes, rising_no, rising_yes, route_counted, route_cut, thresholds_first, up_to_none, up_to_yes, way_mod, way_turn, with_front}
 use Rattle.mq_model.proofs.SoundLines.{AreSoundThresholds, IsSoundDemand, IsSoundRoute, IsSoundSaid}
 
 own : IsNumeralModel (λ ds. list_all is_ascii_digit ds ≡ true) (digits_value 10)
@@ -200,6 +200,10 @@ server_again : (d : SaidDemand) (more : List Word) → IsSoundDemand d → read 
 unfolding read
 server_again d more sound = rw (read_then, a_demand_again d more sound) refl
 
+delay_again : (d : SaidDemand) (more : List Word) → IsSoundDemand d → read delay_kind (demand_word d ∷ more) ≡ Ok (Delay d, more)
+unfolding read
+delay_again d more sound = rw (read_then, a_demand_again d more sound) refl
+
 split_again : (route : SaidRoute) (rest : List Word) → IsSoundRoute route → read split_kind (route_words route ++ codes "from" ∷ rest) ≡ Ok (Split route, codes "from" ∷ rest)
 unfolding read
 split_again route rest sound = rw (read_then a_route _ (route_words route ++ codes "from" ∷ rest), route_again route rest sound) refl
@@ -223,10 +227,11 @@ line_again (Bound n) sound are = ap whole (line_bound (codes "bound" ∷ decimal
 line_again (Node name Source reads) sound are =
     ap whole (line_source (codes "source" ∷ name ∷ []) (name ∷ []) (codes "source") refl refl refl ∙ source_again name sound.0) ∙ ap (λ none. Ok (Node name Source none)) (sym (no_reads reads sound.2))
 line_again (Node name (Server d) reads) sound are =
-    let ws : List Word = name ∷ demand_word d ∷ inputs_words reads in
-    ap whole (line_server (codes "server" ∷ ws) ws (codes "server") refl refl refl refl
-    ∙ node_again name server_kind (Server d) reads (demand_word d ∷ inputs_words reads) sound.0 (server_again d (inputs_words reads) sound.1) (inputs_again reads sound.2 are))
+    ap whole (line_kind _ _ (codes "server") refl refl refl ∙ kind_server _ _ (codes "server") refl refl
+    ∙ node_again name server_kind (Server d) reads _ sound.0 (server_again d (inputs_words reads) sound.1) (inputs_again reads sound.2 are))
+line_again (Node name (Delay d) reads) sound are =
+    ap whole (line_kind _ _ (codes "delay") refl refl refl ∙ kind_delay _ _ (codes "delay") refl refl refl
+    ∙ node_again name delay_kind (Delay d) reads _ sound.0 (delay_again d (inputs_words reads) sound.1) (inputs_again reads sound.2 are))
 line_again (Node name (Split route) reads) sound are =
-    let ws : List Word = name ∷ (route_words route ++ inputs_words reads) in
-    ap whole (line_split (codes "split" ∷ ws) ws (codes "split") refl refl refl refl refl
-    ∙ node_again name split_kind (Split route) reads (route_words route ++ inputs_words reads) sound.0 (split_again route (map input_word reads) sound.1) (inputs_again reads sound.2 are))
+    ap whole (line_kind _ _ (codes "split") refl refl refl ∙ kind_split _ _ (codes "split") refl refl refl refl
+    ∙ node_again name split_kind (Split route) reads _ sound.0 (split_again route (map input_word reads) sound.1) (inputs_again reads sound.2 are))

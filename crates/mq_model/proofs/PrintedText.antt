@@ -14,11 +14,12 @@ use Rattle.mq_core.specs.Names.{is_name, is_name_byte}
 use Rattle.mq_core.specs.Sound.{is_within}
 use Rattle.mq_model.specs.Form.{Word}
 use Rattle.mq_model.specs.Model.{is_allowed, model_fault}
-use Rattle.mq_model.specs.Printed.{demand_word, head_words, input_word, inputs_words, line_text, printed, route_words, said_words}
+use Rattle.mq_model.specs.Printed.{demand_word, first_word, head_words, input_word, inputs_words, kind_words, line_text, printed, reads_words, route_words, said_words}
 use Rattle.mq_model.specs.declared.said.SaidDemand.{SaidDemand}
 use Rattle.mq_model.specs.declared.said.SaidDemand.TheVariants.{Column, Fixed}
 use Rattle.mq_model.specs.declared.said.SaidInput.{SaidInput}
-use Rattle.mq_model.specs.declared.said.SaidKind.TheVariants.{Source, Server, Split}
+use Rattle.mq_model.specs.declared.said.SaidKind.{SaidKind}
+use Rattle.mq_model.specs.declared.said.SaidKind.TheVariants.{Source, Server, Delay, Split}
 use Rattle.mq_model.specs.declared.said.SaidRoute.{SaidRoute}
 use Rattle.mq_model.specs.declared.said.SaidRoute.TheVariants.{Modulo, Turn, Cut}
 use Rattle.mq_model.specs.declared.said.Said.{Said}
@@ -35,7 +36,7 @@ use Rattle.mq_model.specs.SaidOf.{names_in, node_by, saids_in}
 use Rattle.mq_model.proofs.NetworkBack.{has_parts}
 use Rattle.std.proofs.lemmas.List.{length-map}
 use Rattle.mq_model.proofs.PlanBack.{text_again}
-use Rattle.mq_model.proofs.SoundLines.{IsSoundDemand, IsSoundRoute, IsSoundSaid}
+use Rattle.mq_model.proofs.SoundLines.{IsSoundDemand, IsSoundKind, IsSoundRoute, IsSoundSaid, is_sound_reads}
 
 -- Words: 1 to 34 visible bytes.
 abbrev pub is_visible : ℕ → Bool
@@ -125,21 +126,37 @@ outputs_solid outputs within =
     let most : outputs ≤ 8 = leb-true _ _ (and_parts _ _ within).1 in
     solid 1 (decimal outputs) (omega arith) (decimal_short outputs 8 1 most (omega arith) (omega arith) (omega arith))
 
-route_solid : (route : SaidRoute) (more : List Word) → IsSoundRoute route → list_all is_solid more ≡ true → list_all is_solid (route_words route ++ more) ≡ true
-route_solid (Modulo outputs column) more sound all = and_from _ _ (outputs_solid outputs sound.0) (and_from _ _ refl (and_from _ _ (solid 32 column (omega arith) (name_short column sound.1)) all))
-route_solid (Turn outputs) more sound all = and_from _ _ (outputs_solid outputs sound) (and_from _ _ refl all)
-route_solid (Cut column cuts) more sound all =
-    and_from _ _ (solid 32 column (omega arith) (name_short column sound.0)) (list_all-append is_solid (map decimal cuts) more ∙ and_from _ _ (cuts_solid cuts sound.1.2) all)
+route_solid : (route : SaidRoute) → IsSoundRoute route → list_all is_solid (route_words route) ≡ true
+route_solid (Modulo outputs column) sound = and_from _ _ (outputs_solid outputs sound.0) (and_from _ _ refl (and_from _ _ (solid 32 column (omega arith) (name_short column sound.1)) refl))
+route_solid (Turn outputs) sound = and_from _ _ (outputs_solid outputs sound) refl
+route_solid (Cut column cuts) sound = and_from _ _ (solid 32 column (omega arith) (name_short column sound.0)) (cuts_solid cuts sound.1.2)
+
+first_solid : (kind : SaidKind) → is_solid (first_word kind) ≡ true
+first_solid Source = refl
+first_solid (Server d) = refl
+first_solid (Delay d) = refl
+first_solid (Split route) = refl
+
+kind_solid : (kind : SaidKind) → IsSoundKind kind → list_all is_solid (kind_words kind) ≡ true
+kind_solid Source sound = refl
+kind_solid (Server d) sound = and_from _ _ (demand_solid d sound) refl
+kind_solid (Delay d) sound = and_from _ _ (demand_solid d sound) refl
+kind_solid (Split route) sound = route_solid route sound
+
+reads_solid : (kind : SaidKind) (reads : List SaidInput) → AreInputs reads → list_all is_solid (reads_words kind reads) ≡ true
+reads_solid Source reads are = refl
+reads_solid (Server d) reads are = inputs_solid reads are
+reads_solid (Delay d) reads are = inputs_solid reads are
+reads_solid (Split route) reads are = inputs_solid reads are
 
 said_solid : (said : Said) → IsSoundSaid said → AreInputs (reads_of said) → list_all is_solid (said_words said) ≡ true
 said_solid (Bound n) sound are =
     let small : n ≤ 2 ^ 60 = leb-true _ _ sound in
     and_from _ _ (solid 19 (decimal n) (omega arith) (decimal_short n (2 ^ 60) 19 small (omega arith) (omega arith) (omega arith))) refl
-said_solid (Node name Source reads) sound are = and_from _ _ (solid 32 name (omega arith) (name_short name sound.0)) refl
-said_solid (Node name (Server d) reads) sound are =
-    and_from _ _ (solid 32 name (omega arith) (name_short name sound.0)) (and_from _ _ (demand_solid d sound.1) (inputs_solid reads are))
-said_solid (Node name (Split route) reads) sound are =
-    and_from _ _ (solid 32 name (omega arith) (name_short name sound.0)) (route_solid route (inputs_words reads) sound.1 (inputs_solid reads are))
+said_solid (Node name kind reads) sound are =
+    let behind : list_all is_solid (kind_words kind ++ reads_words kind reads) ≡ true =
+    list_all-append is_solid (kind_words kind) (reads_words kind reads) ∙ and_from _ _ (kind_solid kind sound.1) (reads_solid kind reads are) in
+    and_from _ _ (first_solid kind) (and_from _ _ (solid 32 name (omega arith) (name_short name sound.0)) behind)
 
 -- Lines: bytes 32 to 126.
 abbrev is_plain : ℕ → Bool
@@ -217,7 +234,7 @@ all_said (said ∷ saids) h =
       all_said saids h.2,
     )
 
--- The length: at most 35 bytes a word, and 20 words a line.
+-- The length: at most 35 bytes a word, and 26 words a line.
 line_length : (ws : List Word) → list_all is_solid ws ≡ true → 0 < length ws → length (line_text ws) ≤ 35 * length ws
 line_length [] h some = absurd (omega arith)
 line_length (w ∷ []) h some =
@@ -236,7 +253,7 @@ line_length (w ∷ v ∷ ws) h some =
 
 record IsFew (ws : List Word) : Type 0 where
   some : 0 < length ws
-  few : length ws ≤ 20
+  few : length ws ≤ 26
 
 inputs_few : (reads : List SaidInput) → is_within 1 8 (length reads) ≡ true → length (inputs_words reads) ≤ 9
 inputs_few reads count =
@@ -244,20 +261,32 @@ inputs_few reads count =
     let size : length (map input_word reads) ≡ length reads = length-map reads input_word in
     omega arith
 
+reads_few : (kind : SaidKind) (reads : List SaidInput) → is_sound_reads kind (length reads) ≡ true → length (reads_words kind reads) ≤ 9
+reads_few Source reads count = omega arith
+reads_few (Server d) reads count = inputs_few reads count
+reads_few (Delay d) reads count = inputs_few reads count
+reads_few (Split route) reads count = inputs_few reads count
+
+kind_few : (kind : SaidKind) → IsSoundKind kind → length (kind_words kind) ≤ 15
+kind_few Source sound = omega arith
+kind_few (Server d) sound = omega arith
+kind_few (Delay d) sound = omega arith
+kind_few (Split (Modulo outputs column)) sound = omega arith
+kind_few (Split (Turn outputs)) sound = omega arith
+kind_few (Split (Cut column cuts)) sound =
+    let most : length cuts ≤ 7 = leb-true _ _ (and_parts _ _ sound.1.0).1 in
+    let same : length (map decimal cuts) ≡ length cuts = length-map cuts decimal in
+    omega arith
+
 said_few : (said : Said) → IsSoundSaid said → IsFew (said_words said)
 said_few (Bound n) sound = record { some = omega arith; few = omega arith }
-said_few (Node name Source reads) sound = record { some = omega arith; few = omega arith }
-said_few (Node name (Server d) reads) sound = let few = inputs_few reads sound.2 in record { some = omega arith; few = omega arith }
-said_few (Node name (Split (Modulo outputs column)) reads) sound = let few = inputs_few reads sound.2 in record { some = omega arith; few = omega arith }
-said_few (Node name (Split (Turn outputs)) reads) sound = let few = inputs_few reads sound.2 in record { some = omega arith; few = omega arith }
-said_few (Node name (Split (Cut column cuts)) reads) sound =
-    let few = inputs_few reads sound.2 in
-    let most : length cuts ≤ 7 = leb-true _ _ (and_parts _ _ sound.1.1.0).1 in
-    let size : length (map decimal cuts ++ inputs_words reads) ≡ length (map decimal cuts) + length (inputs_words reads) = length-append (map decimal cuts) (inputs_words reads) in
-    let same : length (map decimal cuts) ≡ length cuts = length-map cuts decimal in
+said_few (Node name kind reads) sound =
+    let size : length (kind_words kind ++ reads_words kind reads) ≡ length (kind_words kind) + length (reads_words kind reads) = length-append (kind_words kind) (reads_words kind reads) in
+    let own = kind_few kind sound.1 in
+    let rest = reads_few kind reads sound.2 in
     record { some = omega arith; few = omega arith }
 
-text_length : (saids : List Said) → AreInRange saids → length (flat_map line_text (map said_words saids)) ≤ 700 * length saids
+text_length : (saids : List Said) → AreInRange saids → length (flat_map line_text (map said_words saids)) ≤ 910 * length saids
 text_length [] h = omega arith
 text_length (said ∷ saids) h =
     let words = said_few said h.0 in
@@ -272,7 +301,7 @@ printed_short : (net : Network) → is_sound net ≡ true → length (printed ne
 printed_short net sound =
     let most : length net.nodes ≤ 64 = leb-true _ _ (and_parts _ _ (has_parts net sound).size).1 in
     let count : length (map (node_by (names_in net) net.columns) net.nodes) ≡ length net.nodes = length-map net.nodes _ in
-    let rest : length (flat_map line_text (map said_words (saids_in net))) ≤ 700 * length (saids_in net) = text_length (saids_in net) (said_in_range net sound) in
+    let rest : length (flat_map line_text (map said_words (saids_in net))) ≤ 910 * length (saids_in net) = text_length (saids_in net) (said_in_range net sound) in
     omega arith
 
 -- The canonical text of a sound network without a cycle has no fault, and declares this network.

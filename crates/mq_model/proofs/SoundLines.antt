@@ -7,13 +7,13 @@ use Rattle.mq_core.specs.Names.{is_name}
 use Rattle.mq_core.specs.Sound.{is_within, rises, rises_from}
 use Rattle.mq_model.specs.Form.{◌>>=◌, Form, Word, stop, word, maybe, one, up_to, read, whole}
 use Rattle.mq_base.specs.Text.{is_number}
-use Rattle.mq_model.specs.Lines.{key, is_input, input_of, is_demand, demand_of, is_from_to, is_up_to, a_name, a_demand, inputs, rising, cut_route, counted_route, server_kind, split_kind, a_route, thresholds, way_of, modulo_route, node_line, bound_line, source_line, line, is_key, is_above, greatest_demand, value_of}
+use Rattle.mq_model.specs.Lines.{key, is_input, input_of, is_demand, demand_of, is_from_to, is_up_to, a_name, a_demand, inputs, rising, cut_route, counted_route, server_kind, delay_kind, split_kind, a_route, thresholds, way_of, modulo_route, node_line, bound_line, source_line, kind_line, line, is_key, is_above, greatest_demand, value_of}
 use Rattle.mq_model.specs.declared.said.SaidDemand.{SaidDemand}
 use Rattle.mq_model.specs.declared.said.SaidDemand.TheVariants.{Column, Fixed}
 use Rattle.mq_model.specs.declared.said.SaidRoute.{SaidRoute}
 use Rattle.mq_model.specs.declared.said.SaidRoute.TheVariants.{Modulo, Turn, Cut}
 use Rattle.mq_model.specs.declared.said.SaidKind.{SaidKind}
-use Rattle.mq_model.specs.declared.said.SaidKind.TheVariants.{Source, Server, Split}
+use Rattle.mq_model.specs.declared.said.SaidKind.TheVariants.{Source, Server, Delay, Split}
 use Rattle.mq_model.specs.declared.said.Said.{Said}
 use Rattle.mq_model.specs.declared.said.Said.TheVariants.{Bound, Node}
 
@@ -33,13 +33,13 @@ IsSoundRoute (Cut column thresholds) = (is_name column ≡ true) × AreSoundThre
 abbrev pub IsSoundKind : SaidKind → Type 0
 IsSoundKind Source = Unit {0}
 IsSoundKind (Server demand) = IsSoundDemand demand
+IsSoundKind (Delay demand) = IsSoundDemand demand
 IsSoundKind (Split route) = IsSoundRoute route
 
 -- a source reads nothing, and each other node at 1 to 8 ports
 abbrev pub is_sound_reads : SaidKind → ℕ → Bool
 is_sound_reads Source reads = reads == 0
-is_sound_reads (Server demand) reads = is_within 1 8 reads
-is_sound_reads (Split route) reads = is_within 1 8 reads
+is_sound_reads _ reads = is_within 1 8 reads
 
 abbrev pub IsSoundSaid : Said → Type 0
 IsSoundSaid (Bound n) = nat_le n (2 ^ 60) ≡ true
@@ -215,6 +215,9 @@ ReadsSome kind = IsSoundKind kind × ((reads : ℕ) → is_within 1 8 reads ≡ 
 keeps_server : Keeps ReadsSome server_kind
 keeps_server = keeps_then IsSoundDemand ReadsSome a_demand _ keeps_demand (λ demand sound. keeps_stop ReadsSome (Server demand) (sound, λ reads h. h))
 
+keeps_delay : Keeps ReadsSome delay_kind
+keeps_delay = keeps_then IsSoundDemand ReadsSome a_demand _ keeps_demand (λ demand sound. keeps_stop ReadsSome (Delay demand) (sound, λ reads h. h))
+
 keeps_route : Keeps IsSoundRoute a_route
 unfolding a_route
 keeps_route = keeps_maybe IsSoundRoute (is_key (codes "cut")) _ _ (λ _ _. keeps_cut) keeps_counted
@@ -236,11 +239,16 @@ keeps_bound = keeps_one IsSoundSaid (is_up_to (2 ^ 60)) (λ w. Bound (value_of w
 keeps_source : Keeps IsSoundSaid source_line
 keeps_source = keeps_then (λ name. is_name name ≡ true) IsSoundSaid a_name _ keeps_name (λ name named. keeps_stop IsSoundSaid (Node name Source []) (named, tt, refl))
 
+keeps_kinds : Keeps IsSoundSaid kind_line
+unfolding kind_line
+keeps_kinds =
+    keeps_maybe IsSoundSaid (is_key (codes "server")) _ _ (λ _ _. keeps_node server_kind keeps_server)
+    (keeps_maybe IsSoundSaid (is_key (codes "delay")) _ _ (λ _ _. keeps_node delay_kind keeps_delay)
+    (keeps_word IsSoundSaid (is_key (codes "split")) _ (λ _ _. keeps_node split_kind keeps_split)))
+
 -- what the table says is in its ranges
 pub keeps_line : Keeps IsSoundSaid line
 unfolding line
 keeps_line =
     keeps_maybe IsSoundSaid (is_key (codes "bound")) _ _ (λ _ _. keeps_bound)
-    (keeps_maybe IsSoundSaid (is_key (codes "source")) _ _ (λ _ _. keeps_source)
-    (keeps_maybe IsSoundSaid (is_key (codes "server")) _ _ (λ _ _. keeps_node server_kind keeps_server)
-    (keeps_word IsSoundSaid (is_key (codes "split")) _ (λ _ _. keeps_node split_kind keeps_split))))
+    (keeps_maybe IsSoundSaid (is_key (codes "source")) _ _ (λ _ _. keeps_source) keeps_kinds)

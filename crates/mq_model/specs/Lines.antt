@@ -10,7 +10,7 @@ use Rattle.mq_model.specs.declared.said.SaidInput.{SaidInput}
 use Rattle.mq_model.specs.declared.said.SaidRoute.{SaidRoute}
 use Rattle.mq_model.specs.declared.said.SaidRoute.TheVariants.{Modulo, Turn, Cut}
 use Rattle.mq_model.specs.declared.said.SaidKind.{SaidKind}
-use Rattle.mq_model.specs.declared.said.SaidKind.TheVariants.{Source, Server, Split}
+use Rattle.mq_model.specs.declared.said.SaidKind.TheVariants.{Source, Server, Delay, Split}
 use Rattle.mq_model.specs.declared.said.Said.{Said}
 use Rattle.mq_model.specs.declared.said.Said.TheVariants.{Bound, Node}
 use Rattle.mq_model.specs.Form.{◌>>=◌, Form, Word, stop, word, maybe, one, up_to}
@@ -109,6 +109,9 @@ a_route = maybe (is_key (codes "cut")) (λ _. cut_route) counted_route
 abbrev pub server_kind : Form SaidKind
 server_kind = a_demand >>= λ demand. stop (Server demand)
 
+abbrev pub delay_kind : Form SaidKind
+delay_kind = a_demand >>= λ demand. stop (Delay demand)
+
 abbrev pub split_kind : Form SaidKind
 split_kind = a_route >>= λ route. stop (Split route)
 
@@ -126,10 +129,12 @@ bound_line = one (is_up_to (2 ^ 60)) (λ w. Bound (value_of w))
 abbrev pub source_line : Form Said
 source_line = a_name >>= λ name. stop (Node name Source [])
 
--- The table: a line by its first word.
+-- The table: a line by its first word. Of the kinds that read inputs, and of all lines.
+unfoldable pub kind_line : Form Said
+kind_line =
+    maybe (is_key (codes "server")) (λ _. node_line server_kind)
+    (maybe (is_key (codes "delay")) (λ _. node_line delay_kind)
+    (word (is_key (codes "split")) (λ _. node_line split_kind)))
+
 unfoldable pub line : Form Said
-line =
-    maybe (is_key (codes "bound")) (λ _. bound_line)
-    (maybe (is_key (codes "source")) (λ _. source_line)
-    (maybe (is_key (codes "server")) (λ _. node_line server_kind)
-    (word (is_key (codes "split")) (λ _. node_line split_kind))))
+line = maybe (is_key (codes "bound")) (λ _. bound_line) (maybe (is_key (codes "source")) (λ _. source_line) kind_line)

@@ -36,6 +36,7 @@ pub enum SaidRoute {
 pub enum SaidKind {
     Source,
     Server(SaidDemand),
+    Delay(SaidDemand),
     Split(SaidRoute),
 }
 
