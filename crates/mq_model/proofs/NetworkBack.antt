@@ -35,6 +35,7 @@ mentions_said : (columns : List Word) (k : Kind) → mentions_of_kind (kind_by c
 mentions_said columns kind.Source = refl
 mentions_said columns (kind.Server d) = demand_mentions columns d
 mentions_said columns (kind.Delay d) = demand_mentions columns d
+mentions_said columns (kind.Loss places d) = demand_mentions columns d
 mentions_said columns (kind.Split (route.Modulo outputs column)) = refl
 mentions_said columns (kind.Split (route.Turn outputs)) = refl
 mentions_said columns (kind.Split (route.Cut column thresholds)) = refl
@@ -55,6 +56,7 @@ kind_again : (columns : List Word) (k : Kind) → are_distinct bytes_eq columns 
 kind_again columns kind.Source distinct sound = refl
 kind_again columns (kind.Server d) distinct sound = ap (λ d. kind.Server d) (demand_again columns d distinct sound)
 kind_again columns (kind.Delay d) distinct sound = ap (λ d. kind.Delay d) (demand_again columns d distinct sound)
+kind_again columns (kind.Loss places d) distinct sound = ap (λ d. kind.Loss places d) (demand_again columns d distinct (and_parts _ _ sound).1)
 kind_again columns (kind.Split (route.Modulo outputs column)) distinct sound =
     ap (λ n. kind.Split (route.Modulo outputs n)) (number_again columns column [] distinct (ltb-true _ _ (and_parts _ _ sound).1))
 kind_again columns (kind.Split (route.Turn outputs)) distinct sound = refl

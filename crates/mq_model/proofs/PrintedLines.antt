@@ -14,20 +14,20 @@ use Rattle.mq_base.specs.Text.{is_number}
 use Rattle.mq_core.specs.Names.{is_name, is_name_byte}
 use Rattle.mq_core.specs.Sound.{is_within, rises_from}
 use Rattle.mq_model.specs.Form.{Form, Word, one, up_to, read, whole}
-use Rattle.mq_model.specs.Lines.{a_demand, a_name, a_route, bound_line, counted_route, cut_route, demand_of, ends_in_output, greatest_demand, input_of, inputs, is_above, is_demand, is_from_to, is_input, is_key, is_up_to, last_byte, line, modulo_route, node_line, rising, delay_kind, server_kind, source_line, split_kind, thresholds, value_of, way_of}
+use Rattle.mq_model.specs.Lines.{a_demand, a_name, a_route, bound_line, counted_route, cut_route, demand_of, ends_in_output, greatest_demand, input_of, inputs, is_above, is_demand, is_from_to, is_input, is_key, is_up_to, last_byte, line, modulo_route, node_line, rising, delay_kind, loss_kind, server_kind, source_line, split_kind, thresholds, value_of, way_of}
 use Rattle.mq_model.specs.Printed.{demand_word, input_word, inputs_words, route_words, said_words}
 use Rattle.mq_model.specs.Said.{reads_of}
 use Rattle.mq_model.specs.declared.said.SaidDemand.{SaidDemand}
 use Rattle.mq_model.specs.declared.said.SaidDemand.TheVariants.{Column, Fixed}
 use Rattle.mq_model.specs.declared.said.SaidInput.{SaidInput}
 use Rattle.mq_model.specs.declared.said.SaidKind.{SaidKind}
-use Rattle.mq_model.specs.declared.said.SaidKind.TheVariants.{Source, Server, Delay, Split}
+use Rattle.mq_model.specs.declared.said.SaidKind.TheVariants.{Source, Server, Delay, Loss, Split}
 use Rattle.mq_model.specs.declared.said.SaidRoute.{SaidRoute}
 use Rattle.mq_model.specs.declared.said.SaidRoute.TheVariants.{Modulo, Turn, Cut}
 use Rattle.mq_model.specs.declared.said.Said.{Said}
 use Rattle.mq_model.specs.declared.said.Said.TheVariants.{Bound, Node}
 use Rattle.mq_model.proofs.FormFacts.{read_then}
-use Rattle.mq_model.proofs.ReadFacts.{inputs_first, kind_delay, kind_server, kind_split, line_bound, line_kind, line_source, read_one_yes, rising_no, rising_yes, route_counted, route_cut, thresholds_first, up_to_none, up_to_yes, way_mod, way_turn, with_front}
+use Rattle.mq_model.proofs.ReadFacts.{inputs_first, kind_delay, kind_loss, kind_server, kind_split, line_bound, line_kind, line_source, read_one_yes, rising_no, rising_yes, route_counted, route_cut, thresholds_first, up_to_none, up_to_yes, way_mod, way_turn, with_front}
 use Rattle.mq_model.proofs.SoundLines.{AreSoundThresholds, IsSoundDemand, IsSoundRoute, IsSoundSaid}
 
 own : IsNumeralModel (λ ds. list_all is_ascii_digit ds ≡ true) (digits_value 10)
@@ -123,6 +123,13 @@ a_demand_again d more sound =
     let again = demand_again d sound in
     read_one_yes is_demand demand_of (demand_word d ∷ more) more (demand_word d) refl again.0 ∙ ap (λ said. Ok (said, more)) again.1
 
+within_again : (least most n : ℕ) (more : List Word) → most < 10 ^ 19 → is_within least most n ≡ true → read (one (is_from_to least most) value_of) (decimal n ∷ more) ≡ Ok (n, more)
+within_again least most n more small within =
+    let both = and_parts _ _ within in
+    let again = number_again n most (leb-true _ _ both.1) small in
+    let passes : is_from_to least most (decimal n) ≡ true = and_from _ _ again.0 (subst (λ v. nat_le least v ≡ true) (sym again.1) both.0) in
+    read_one_yes (is_from_to least most) value_of (decimal n ∷ more) more (decimal n) refl passes ∙ ap (λ v. Ok (v, more)) again.1
+
 -- Thresholds, before the word `from`.
 rising_again : (n last : ℕ) (more : List ℕ) (rest : List Word) → length more ≤ n → rises_from last more ≡ true → list_all (λ threshold. nat_le threshold (2 ^ 36)) more ≡ true
     → read (rising n last) (map decimal more ++ codes "from" ∷ rest) ≡ Ok (more, codes "from" ∷ rest)
@@ -151,13 +158,6 @@ thresholds_again (t ∷ more) rest sound =
     thresholds_first (decimal t ∷ behind) behind t first ∙ ap (with_front (t ∷ [])) (rising_again 6 t more rest fits sound.1 all.1)
 
 -- Routes.
-outputs_again : (outputs : ℕ) (more : List Word) → is_within 2 8 outputs ≡ true → read (one (is_from_to 2 8) value_of) (decimal outputs ∷ more) ≡ Ok (outputs, more)
-outputs_again outputs more within =
-    let both = and_parts _ _ within in
-    let again = number_again outputs 8 (leb-true _ _ both.1) (omega arith) in
-    let passes : is_from_to 2 8 (decimal outputs) ≡ true = and_from _ _ again.0 (subst (λ v. nat_le 2 v ≡ true) (sym again.1) both.0) in
-    read_one_yes (is_from_to 2 8) value_of (decimal outputs ∷ more) more (decimal outputs) refl passes ∙ ap (λ v. Ok (v, more)) again.1
-
 no_cut : (outputs : ℕ) → is_within 2 8 outputs ≡ true → is_key (codes "cut") (decimal outputs) ≡ false
 no_cut outputs within =
     let most : outputs ≤ 8 = leb-true _ _ (and_parts _ _ within).1 in
@@ -168,7 +168,7 @@ counted_again : (route : SaidRoute) (outputs : ℕ) (ws rest : List Word) → is
 unfolding counted_route
 counted_again route outputs ws rest within way =
     route_counted (decimal outputs ∷ ws) ws (decimal outputs) refl (no_cut outputs within)
-    ∙ rw (read_then (one (is_from_to 2 8) value_of) way_of (decimal outputs ∷ ws), outputs_again outputs ws within) way
+    ∙ rw (read_then (one (is_from_to 2 8) value_of) way_of (decimal outputs ∷ ws), within_again 2 8 outputs ws (omega arith) within) way
 
 modulo_again : (outputs : ℕ) (column : Word) (rest : List Word) → is_name column ≡ true → read (modulo_route outputs) (column ∷ rest) ≡ Ok (Modulo outputs column, rest)
 unfolding modulo_route read
@@ -204,6 +204,10 @@ delay_again : (d : SaidDemand) (more : List Word) → IsSoundDemand d → read d
 unfolding read
 delay_again d more sound = rw (read_then, a_demand_again d more sound) refl
 
+loss_again : (places : ℕ) (d : SaidDemand) (more : List Word) → is_within 1 1048576 places ≡ true → IsSoundDemand d → read loss_kind (decimal places ∷ demand_word d ∷ more) ≡ Ok (Loss places d, more)
+unfolding loss_kind read
+loss_again places d more within sound = rw (read_then, within_again 1 1048576 places (demand_word d ∷ more) (omega arith) within, read_then, a_demand_again d more sound) refl
+
 split_again : (route : SaidRoute) (rest : List Word) → IsSoundRoute route → read split_kind (route_words route ++ codes "from" ∷ rest) ≡ Ok (Split route, codes "from" ∷ rest)
 unfolding read
 split_again route rest sound = rw (read_then a_route _ (route_words route ++ codes "from" ∷ rest), route_again route rest sound) refl
@@ -232,6 +236,9 @@ line_again (Node name (Server d) reads) sound are =
 line_again (Node name (Delay d) reads) sound are =
     ap whole (line_kind _ _ (codes "delay") refl refl refl ∙ kind_delay _ _ (codes "delay") refl refl refl
     ∙ node_again name delay_kind (Delay d) reads _ sound.0 (delay_again d (inputs_words reads) sound.1) (inputs_again reads sound.2 are))
+line_again (Node name (Loss places d) reads) sound are =
+    ap whole (line_kind _ _ (codes "loss") refl refl refl ∙ kind_loss _ _ (codes "loss") refl refl refl refl
+    ∙ node_again name loss_kind (Loss places d) reads _ sound.0 (loss_again places d (inputs_words reads) sound.1.0 sound.1.1) (inputs_again reads sound.2 are))
 line_again (Node name (Split route) reads) sound are =
-    ap whole (line_kind _ _ (codes "split") refl refl refl ∙ kind_split _ _ (codes "split") refl refl refl refl
+    ap whole (line_kind _ _ (codes "split") refl refl refl ∙ kind_split _ _ (codes "split") refl refl refl refl refl
     ∙ node_again name split_kind (Split route) reads _ sound.0 (split_again route (map input_word reads) sound.1) (inputs_again reads sound.2 are))

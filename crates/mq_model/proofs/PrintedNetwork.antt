@@ -35,6 +35,7 @@ few_outputs : (columns : ℕ) (k : Kind) → is_sound_kind columns k ≡ true �
 few_outputs columns kind.Source h = omega arith
 few_outputs columns (kind.Server d) h = omega arith
 few_outputs columns (kind.Delay d) h = omega arith
+few_outputs columns (kind.Loss places d) h = omega arith
 few_outputs columns (kind.Split (route.Modulo outputs column)) h = leb-true _ _ (and_parts _ _ (and_parts _ _ h).0).1
 few_outputs columns (kind.Split (route.Turn outputs)) h = leb-true _ _ (and_parts _ _ h).1
 few_outputs columns (kind.Split (route.Cut column thresholds)) h =
@@ -64,6 +65,7 @@ kind_said : (columns : List Word) (k : Kind) → list_all is_name columns ≡ tr
 kind_said columns kind.Source named h = tt
 kind_said columns (kind.Server d) named h = demand_said columns d named h
 kind_said columns (kind.Delay d) named h = demand_said columns d named h
+kind_said columns (kind.Loss places d) named h = let both = and_parts _ _ h in (both.0, demand_said columns d named both.1)
 kind_said columns (kind.Split (route.Modulo outputs column)) named h = let both = and_parts _ _ h in (both.0, all_at is_name columns column [] named (ltb-true _ _ both.1))
 kind_said columns (kind.Split (route.Turn outputs)) named h = h
 kind_said columns (kind.Split (route.Cut column thresholds)) named h =
@@ -76,6 +78,7 @@ count_said : (columns : List Word) (k : Kind) (n : ℕ) → is_sound_count k n �
 count_said columns kind.Source n h = h
 count_said columns (kind.Server d) n h = h
 count_said columns (kind.Delay d) n h = h
+count_said columns (kind.Loss places d) n h = h
 count_said columns (kind.Split r) n h = h
 
 inputs_said : (names : List Word) (columns : ℕ) (all : List Node) (inputs : List Input) → list_all is_name names ≡ true → length names ≡ length all → list_all (is_sound_node columns all) all ≡ true

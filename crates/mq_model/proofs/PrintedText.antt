@@ -19,7 +19,7 @@ use Rattle.mq_model.specs.declared.said.SaidDemand.{SaidDemand}
 use Rattle.mq_model.specs.declared.said.SaidDemand.TheVariants.{Column, Fixed}
 use Rattle.mq_model.specs.declared.said.SaidInput.{SaidInput}
 use Rattle.mq_model.specs.declared.said.SaidKind.{SaidKind}
-use Rattle.mq_model.specs.declared.said.SaidKind.TheVariants.{Source, Server, Delay, Split}
+use Rattle.mq_model.specs.declared.said.SaidKind.TheVariants.{Source, Server, Delay, Loss, Split}
 use Rattle.mq_model.specs.declared.said.SaidRoute.{SaidRoute}
 use Rattle.mq_model.specs.declared.said.SaidRoute.TheVariants.{Modulo, Turn, Cut}
 use Rattle.mq_model.specs.declared.said.Said.{Said}
@@ -126,6 +126,11 @@ outputs_solid outputs within =
     let most : outputs ≤ 8 = leb-true _ _ (and_parts _ _ within).1 in
     solid 1 (decimal outputs) (omega arith) (decimal_short outputs 8 1 most (omega arith) (omega arith) (omega arith))
 
+places_solid : (places : ℕ) → is_within 1 1048576 places ≡ true → is_solid (decimal places) ≡ true
+places_solid places within =
+    let most : places ≤ 1048576 = leb-true _ _ (and_parts _ _ within).1 in
+    solid 7 (decimal places) (omega arith) (decimal_short places 1048576 7 most (omega arith) (omega arith) (omega arith))
+
 route_solid : (route : SaidRoute) → IsSoundRoute route → list_all is_solid (route_words route) ≡ true
 route_solid (Modulo outputs column) sound = and_from _ _ (outputs_solid outputs sound.0) (and_from _ _ refl (and_from _ _ (solid 32 column (omega arith) (name_short column sound.1)) refl))
 route_solid (Turn outputs) sound = and_from _ _ (outputs_solid outputs sound) refl
@@ -135,18 +140,21 @@ first_solid : (kind : SaidKind) → is_solid (first_word kind) ≡ true
 first_solid Source = refl
 first_solid (Server d) = refl
 first_solid (Delay d) = refl
+first_solid (Loss places d) = refl
 first_solid (Split route) = refl
 
 kind_solid : (kind : SaidKind) → IsSoundKind kind → list_all is_solid (kind_words kind) ≡ true
 kind_solid Source sound = refl
 kind_solid (Server d) sound = and_from _ _ (demand_solid d sound) refl
 kind_solid (Delay d) sound = and_from _ _ (demand_solid d sound) refl
+kind_solid (Loss places d) sound = and_from _ _ (places_solid places sound.0) (and_from _ _ (demand_solid d sound.1) refl)
 kind_solid (Split route) sound = route_solid route sound
 
 reads_solid : (kind : SaidKind) (reads : List SaidInput) → AreInputs reads → list_all is_solid (reads_words kind reads) ≡ true
 reads_solid Source reads are = refl
 reads_solid (Server d) reads are = inputs_solid reads are
 reads_solid (Delay d) reads are = inputs_solid reads are
+reads_solid (Loss places d) reads are = inputs_solid reads are
 reads_solid (Split route) reads are = inputs_solid reads are
 
 said_solid : (said : Said) → IsSoundSaid said → AreInputs (reads_of said) → list_all is_solid (said_words said) ≡ true
@@ -265,12 +273,14 @@ reads_few : (kind : SaidKind) (reads : List SaidInput) → is_sound_reads kind (
 reads_few Source reads count = omega arith
 reads_few (Server d) reads count = inputs_few reads count
 reads_few (Delay d) reads count = inputs_few reads count
+reads_few (Loss places d) reads count = inputs_few reads count
 reads_few (Split route) reads count = inputs_few reads count
 
 kind_few : (kind : SaidKind) → IsSoundKind kind → length (kind_words kind) ≤ 15
 kind_few Source sound = omega arith
 kind_few (Server d) sound = omega arith
 kind_few (Delay d) sound = omega arith
+kind_few (Loss places d) sound = omega arith
 kind_few (Split (Modulo outputs column)) sound = omega arith
 kind_few (Split (Turn outputs)) sound = omega arith
 kind_few (Split (Cut column cuts)) sound =

@@ -7,13 +7,13 @@ use Rattle.mq_core.specs.Names.{is_name}
 use Rattle.mq_core.specs.Sound.{is_within, rises, rises_from}
 use Rattle.mq_model.specs.Form.{◌>>=◌, Form, Word, stop, word, maybe, one, up_to, read, whole}
 use Rattle.mq_base.specs.Text.{is_number}
-use Rattle.mq_model.specs.Lines.{key, is_input, input_of, is_demand, demand_of, is_from_to, is_up_to, a_name, a_demand, inputs, rising, cut_route, counted_route, server_kind, delay_kind, split_kind, a_route, thresholds, way_of, modulo_route, node_line, bound_line, source_line, kind_line, line, is_key, is_above, greatest_demand, value_of}
+use Rattle.mq_model.specs.Lines.{key, is_input, input_of, is_demand, demand_of, is_from_to, is_up_to, a_name, a_demand, inputs, rising, cut_route, counted_route, server_kind, delay_kind, loss_kind, split_kind, a_route, thresholds, way_of, modulo_route, node_line, bound_line, source_line, kind_line, line, is_key, is_above, greatest_demand, value_of}
 use Rattle.mq_model.specs.declared.said.SaidDemand.{SaidDemand}
 use Rattle.mq_model.specs.declared.said.SaidDemand.TheVariants.{Column, Fixed}
 use Rattle.mq_model.specs.declared.said.SaidRoute.{SaidRoute}
 use Rattle.mq_model.specs.declared.said.SaidRoute.TheVariants.{Modulo, Turn, Cut}
 use Rattle.mq_model.specs.declared.said.SaidKind.{SaidKind}
-use Rattle.mq_model.specs.declared.said.SaidKind.TheVariants.{Source, Server, Delay, Split}
+use Rattle.mq_model.specs.declared.said.SaidKind.TheVariants.{Source, Server, Delay, Loss, Split}
 use Rattle.mq_model.specs.declared.said.Said.{Said}
 use Rattle.mq_model.specs.declared.said.Said.TheVariants.{Bound, Node}
 
@@ -34,6 +34,7 @@ abbrev pub IsSoundKind : SaidKind → Type 0
 IsSoundKind Source = Unit {0}
 IsSoundKind (Server demand) = IsSoundDemand demand
 IsSoundKind (Delay demand) = IsSoundDemand demand
+IsSoundKind (Loss places demand) = (is_within 1 1048576 places ≡ true) × IsSoundDemand demand
 IsSoundKind (Split route) = IsSoundRoute route
 
 -- a source reads nothing, and each other node at 1 to 8 ports
@@ -218,6 +219,12 @@ keeps_server = keeps_then IsSoundDemand ReadsSome a_demand _ keeps_demand (λ de
 keeps_delay : Keeps ReadsSome delay_kind
 keeps_delay = keeps_then IsSoundDemand ReadsSome a_demand _ keeps_demand (λ demand sound. keeps_stop ReadsSome (Delay demand) (sound, λ reads h. h))
 
+keeps_loss : Keeps ReadsSome loss_kind
+unfolding loss_kind
+keeps_loss =
+    keeps_then (λ places. is_within 1 1048576 places ≡ true) ReadsSome (one (is_from_to 1 1048576) value_of) _ (keeps_one _ (is_from_to 1 1048576) value_of (λ w h. within_from_to 1 1048576 w h))
+    (λ places within. keeps_then IsSoundDemand ReadsSome a_demand _ keeps_demand (λ demand sound. keeps_stop ReadsSome (Loss places demand) ((within, sound), λ reads h. h)))
+
 keeps_route : Keeps IsSoundRoute a_route
 unfolding a_route
 keeps_route = keeps_maybe IsSoundRoute (is_key (codes "cut")) _ _ (λ _ _. keeps_cut) keeps_counted
@@ -244,7 +251,8 @@ unfolding kind_line
 keeps_kinds =
     keeps_maybe IsSoundSaid (is_key (codes "server")) _ _ (λ _ _. keeps_node server_kind keeps_server)
     (keeps_maybe IsSoundSaid (is_key (codes "delay")) _ _ (λ _ _. keeps_node delay_kind keeps_delay)
-    (keeps_word IsSoundSaid (is_key (codes "split")) _ (λ _ _. keeps_node split_kind keeps_split)))
+    (keeps_maybe IsSoundSaid (is_key (codes "loss")) _ _ (λ _ _. keeps_node loss_kind keeps_loss)
+    (keeps_word IsSoundSaid (is_key (codes "split")) _ (λ _ _. keeps_node split_kind keeps_split))))
 
 -- what the table says is in its ranges
 pub keeps_line : Keeps IsSoundSaid line

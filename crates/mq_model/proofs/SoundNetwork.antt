@@ -21,7 +21,7 @@ use Rattle.mq_model.specs.declared.said.SaidDemand.{SaidDemand}
 use Rattle.mq_model.specs.declared.said.SaidDemand.TheVariants.{Column, Fixed}
 use Rattle.mq_model.specs.declared.said.SaidInput.{SaidInput}
 use Rattle.mq_model.specs.declared.said.SaidKind.{SaidKind}
-use Rattle.mq_model.specs.declared.said.SaidKind.TheVariants.{Source, Server, Delay, Split}
+use Rattle.mq_model.specs.declared.said.SaidKind.TheVariants.{Source, Server, Delay, Loss, Split}
 use Rattle.mq_model.specs.declared.said.SaidRoute.TheVariants.{Modulo, Turn, Cut}
 use Rattle.mq_model.specs.declared.said.Said.{Said}
 use Rattle.mq_model.specs.declared.said.Said.TheVariants as said
@@ -53,6 +53,7 @@ columns_are : (columns : List Word) (kind : SaidKind) → columns_of_kind (kind_
 columns_are columns Source = refl
 columns_are columns (Server d) = demand_columns columns d
 columns_are columns (Delay d) = demand_columns columns d
+columns_are columns (Loss places d) = demand_columns columns d
 columns_are columns (Split (Modulo outputs column)) = refl
 columns_are columns (Split (Turn outputs)) = refl
 columns_are columns (Split (Cut column thresholds)) = refl
@@ -69,6 +70,7 @@ source_is : (columns : List Word) (kind : SaidKind) → is_source_kind (kind_in 
 source_is columns Source = refl
 source_is columns (Server d) = refl
 source_is columns (Delay d) = refl
+source_is columns (Loss places d) = refl
 source_is columns (Split route) = refl
 
 sources_are : (names columns : List Word) (saids : List Said) → list_any is_source saids ≡ true → list_any (λ (node : Node). is_source_kind node.kind) (flat_map (nodes_in names columns) saids) ≡ true
@@ -98,6 +100,7 @@ kind_names : (kind : SaidKind) → IsSoundKind kind → list_all is_name (mentio
 kind_names Source sound = refl
 kind_names (Server d) sound = demand_names d sound
 kind_names (Delay d) sound = demand_names d sound
+kind_names (Loss places d) sound = demand_names d sound.1
 kind_names (Split (Modulo outputs column)) sound = and_from _ _ sound.1 refl
 kind_names (Split (Turn outputs)) sound = refl
 kind_names (Split (Cut column thresholds)) sound = and_from _ _ sound.0 refl
@@ -138,6 +141,7 @@ kind_sound : (columns : List Word) (kind : SaidKind) → IsSoundKind kind → li
 kind_sound columns Source sound among = refl
 kind_sound columns (Server d) sound among = demand_in_range columns d sound among
 kind_sound columns (Delay d) sound among = demand_in_range columns d sound among
+kind_sound columns (Loss places d) sound among = and_from _ _ sound.0 (demand_in_range columns d sound.1 among)
 kind_sound columns (Split (Modulo outputs column)) sound among = and_from _ _ sound.0 (number_below columns column (and_parts _ _ among).0)
 kind_sound columns (Split (Turn outputs)) sound among = sound
 kind_sound columns (Split (Cut column thresholds)) sound among =
@@ -147,6 +151,7 @@ count_sound : (columns : List Word) (kind : SaidKind) (reads : ℕ) → is_sound
 count_sound columns Source reads h = h
 count_sound columns (Server d) reads h = h
 count_sound columns (Delay d) reads h = h
+count_sound columns (Loss places d) reads h = h
 count_sound columns (Split route) reads h = h
 
 outputs_sound : (names : List Word) (nodes : List Node) (inputs : List SaidInput) → list_all (λ (i : SaidInput). is_output (slice_get nodes (number_in names i.name)) i.out) inputs ≡ true

@@ -30,6 +30,9 @@ line_examples =
     ∷ (codes "model 1\nsource s\nserver q =1\n", Some (BadLine 3 4))
     ∷ (codes "model 1\nsource s\ndelay d =1\n", Some (BadLine 3 4))
     ∷ (codes "model 1\nsource s\ndelay d from s\n", Some (BadLine 3 3))
+    ∷ (codes "model 1\nsource s\nloss l 0 =1 from s\n", Some (BadLine 3 3))
+    ∷ (codes "model 1\nsource s\nloss l 1048577 =1 from s\n", Some (BadLine 3 3))
+    ∷ (codes "model 1\nsource s\nloss l 2 from s\n", Some (BadLine 3 4))
     ∷ (codes "model 1\nsource s\nserver q =99999999999 from s\n", Some (BadLine 3 3))
     ∷ (codes "model 1\nsource s\nsplit p cut k 5 5 from s\n", Some (BadLine 3 6))
     ∷ (codes "model 1\nsource s\nsplit p cut k 68719476736 7 from s\n", Some (BadLine 3 6))
@@ -55,6 +58,8 @@ input_examples =
     ∷ (codes "model 1\r\n\tsource  s\r\n", None)
     ∷ (codes "model 1\nbound 1000\nsource s\nserver q d from s\nsplit p cut k 5 6 from q\nsplit r 2 mod k from p\nsplit t 2 turn from p.2\ndelay w =5 from t.1\n", None)
     ∷ (codes "model 1\nsource s\ndelay d =1 from s\nserver r =1 from d.1\n", Some (UnknownInput 4 0))
+    ∷ (codes "model 1\nsource s\nloss l 1048576 k from s\nserver r =1 from l.1 l\n", None)
+    ∷ (codes "model 1\nsource s\nloss l 1 k from s\nserver r =1 from l.2\n", Some (UnknownInput 4 0))
     ∷ []
 
 -- the network of a text with carriage returns and a tab

@@ -10,7 +10,7 @@ use Rattle.mq_model.specs.declared.said.SaidInput.{SaidInput}
 use Rattle.mq_model.specs.declared.said.SaidRoute.{SaidRoute}
 use Rattle.mq_model.specs.declared.said.SaidRoute.TheVariants.{Modulo, Turn, Cut}
 use Rattle.mq_model.specs.declared.said.SaidKind.{SaidKind}
-use Rattle.mq_model.specs.declared.said.SaidKind.TheVariants.{Source, Server, Delay, Split}
+use Rattle.mq_model.specs.declared.said.SaidKind.TheVariants.{Source, Server, Delay, Loss, Split}
 use Rattle.mq_model.specs.declared.said.Said.{Said}
 use Rattle.mq_model.specs.declared.said.Said.TheVariants.{Bound, Node}
 use Rattle.mq_model.specs.Form.{◌>>=◌, Form, Word, stop, word, maybe, one, up_to}
@@ -112,6 +112,12 @@ server_kind = a_demand >>= λ demand. stop (Server demand)
 abbrev pub delay_kind : Form SaidKind
 delay_kind = a_demand >>= λ demand. stop (Delay demand)
 
+unfoldable pub loss_kind : Form SaidKind
+loss_kind = do
+  places ← one (is_from_to 1 1048576) value_of
+  demand ← a_demand
+  stop (Loss places demand)
+
 abbrev pub split_kind : Form SaidKind
 split_kind = a_route >>= λ route. stop (Split route)
 
@@ -134,7 +140,8 @@ unfoldable pub kind_line : Form Said
 kind_line =
     maybe (is_key (codes "server")) (λ _. node_line server_kind)
     (maybe (is_key (codes "delay")) (λ _. node_line delay_kind)
-    (word (is_key (codes "split")) (λ _. node_line split_kind)))
+    (maybe (is_key (codes "loss")) (λ _. node_line loss_kind)
+    (word (is_key (codes "split")) (λ _. node_line split_kind))))
 
 unfoldable pub line : Form Said
 line = maybe (is_key (codes "bound")) (λ _. bound_line) (maybe (is_key (codes "source")) (λ _. source_line) kind_line)

@@ -21,7 +21,7 @@ use Rattle.mq_model.specs.declared.said.SaidInput.{SaidInput}
 use Rattle.mq_model.specs.declared.said.SaidRoute.{SaidRoute}
 use Rattle.mq_model.specs.declared.said.SaidRoute.TheVariants.{Modulo, Turn, Cut}
 use Rattle.mq_model.specs.declared.said.SaidKind.{SaidKind}
-use Rattle.mq_model.specs.declared.said.SaidKind.TheVariants.{Source, Server, Delay, Split}
+use Rattle.mq_model.specs.declared.said.SaidKind.TheVariants.{Source, Server, Delay, Loss, Split}
 use Rattle.mq_model.specs.declared.said.Said.{Said}
 use Rattle.mq_model.specs.declared.said.Said.TheVariants as said
 
@@ -53,6 +53,7 @@ abbrev pub kind_in : List Word → SaidKind → Kind
 kind_in columns Source = kind.Source
 kind_in columns (Server d) = kind.Server (demand_in columns d)
 kind_in columns (Delay d) = kind.Delay (demand_in columns d)
+kind_in columns (Loss places d) = kind.Loss places (demand_in columns d)
 kind_in columns (Split route) = kind.Split (route_in columns route)
 
 abbrev pub input_in : List Word → SaidInput → Input

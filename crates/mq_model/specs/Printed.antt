@@ -11,7 +11,7 @@ use Rattle.mq_model.specs.declared.said.SaidInput.{SaidInput}
 use Rattle.mq_model.specs.declared.said.SaidRoute.{SaidRoute}
 use Rattle.mq_model.specs.declared.said.SaidRoute.TheVariants.{Modulo, Turn, Cut}
 use Rattle.mq_model.specs.declared.said.SaidKind.{SaidKind}
-use Rattle.mq_model.specs.declared.said.SaidKind.TheVariants.{Source, Server, Delay, Split}
+use Rattle.mq_model.specs.declared.said.SaidKind.TheVariants.{Source, Server, Delay, Loss, Split}
 use Rattle.mq_model.specs.declared.said.Said.{Said}
 use Rattle.mq_model.specs.declared.said.Said.TheVariants.{Bound, Node}
 
@@ -37,6 +37,7 @@ abbrev pub first_word : SaidKind → Word
 first_word Source = codes "source"
 first_word (Server d) = codes "server"
 first_word (Delay d) = codes "delay"
+first_word (Loss places d) = codes "loss"
 first_word (Split route) = codes "split"
 
 -- what stands between the name and the inputs
@@ -44,6 +45,7 @@ abbrev pub kind_words : SaidKind → List Word
 kind_words Source = []
 kind_words (Server d) = demand_word d ∷ []
 kind_words (Delay d) = demand_word d ∷ []
+kind_words (Loss places d) = decimal places ∷ demand_word d ∷ []
 kind_words (Split route) = route_words route
 
 -- a source has no inputs to be read

@@ -9,7 +9,7 @@ use Rattle.mq_model.specs.declared.said.SaidInput.{SaidInput}
 use Rattle.mq_model.specs.declared.said.SaidRoute.{SaidRoute}
 use Rattle.mq_model.specs.declared.said.SaidRoute.TheVariants.{Modulo, Turn, Cut}
 use Rattle.mq_model.specs.declared.said.SaidKind.{SaidKind}
-use Rattle.mq_model.specs.declared.said.SaidKind.TheVariants.{Source, Server, Delay, Split}
+use Rattle.mq_model.specs.declared.said.SaidKind.TheVariants.{Source, Server, Delay, Loss, Split}
 use Rattle.mq_model.specs.declared.said.Said.{Said}
 use Rattle.mq_model.specs.declared.said.Said.TheVariants.{Bound, Node}
 
@@ -35,6 +35,7 @@ abbrev pub mentions_of_kind : SaidKind → List Word
 mentions_of_kind Source = []
 mentions_of_kind (Server d) = mentions_of_demand d
 mentions_of_kind (Delay d) = mentions_of_demand d
+mentions_of_kind (Loss places d) = mentions_of_demand d
 mentions_of_kind (Split route) = mentions_of_route route
 
 abbrev pub mentioned : Said → List Word
@@ -73,6 +74,7 @@ outputs_of_route (Turn outputs) = outputs
 outputs_of_route (Cut column thresholds) = length thresholds + 1
 
 abbrev pub outputs_of : SaidKind → ℕ
+outputs_of (Loss places d) = 2
 outputs_of (Split route) = outputs_of_route route
 outputs_of _ = 1
 

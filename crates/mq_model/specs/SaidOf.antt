@@ -16,7 +16,7 @@ use Rattle.mq_model.specs.declared.said.SaidInput.{SaidInput}
 use Rattle.mq_model.specs.declared.said.SaidRoute.{SaidRoute}
 use Rattle.mq_model.specs.declared.said.SaidRoute.TheVariants.{Modulo, Turn, Cut}
 use Rattle.mq_model.specs.declared.said.SaidKind.{SaidKind}
-use Rattle.mq_model.specs.declared.said.SaidKind.TheVariants.{Source, Server, Delay, Split}
+use Rattle.mq_model.specs.declared.said.SaidKind.TheVariants.{Source, Server, Delay, Loss, Split}
 use Rattle.mq_model.specs.declared.said.Said.{Said}
 use Rattle.mq_model.specs.declared.said.Said.TheVariants as said
 
@@ -37,6 +37,7 @@ abbrev pub kind_by : List Word → Kind → SaidKind
 kind_by columns kind.Source = Source
 kind_by columns (kind.Server d) = Server (demand_by columns d)
 kind_by columns (kind.Delay d) = Delay (demand_by columns d)
+kind_by columns (kind.Loss places d) = Loss places (demand_by columns d)
 kind_by columns (kind.Split r) = Split (route_by columns r)
 
 abbrev pub input_by : List Word → Input → SaidInput

@@ -171,7 +171,8 @@ fn add_of_kind(
 {
     match kind {
         SaidKind::Source => Ok(()),
-        SaidKind::Server(demand) | SaidKind::Delay(demand) => add_of_demand(alloc, demand, columns),
+        SaidKind::Server(demand) | SaidKind::Delay(demand) | SaidKind::Loss { demand, .. } =>
+            add_of_demand(alloc, demand, columns),
         SaidKind::Split(route) => add_of_route(alloc, route, columns),
     }
 }

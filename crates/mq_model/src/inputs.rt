@@ -13,6 +13,7 @@ fn has_output(kind: &SaidKind, out: u8) -> bool
 {
     match kind {
         SaidKind::Source | SaidKind::Server(_) | SaidKind::Delay(_) => out == 0,
+        SaidKind::Loss { .. } => out < 2,
         SaidKind::Split(SaidRoute::Modulo { outputs, .. })
         | SaidKind::Split(SaidRoute::Turn { outputs }) => out < *outputs,
         SaidKind::Split(SaidRoute::Cut { thresholds, .. }) => out as usize <= thresholds.len(),

@@ -7,6 +7,7 @@ ghost use Rattle.mq_model.specs.Reading.{Reads, ReadsLine, form_of, words_from};
 use crate::parts::{Stop, read_demand, read_inputs, read_name, word_at};
 use crate::route::read_route;
 use crate::said::{Said, SaidKind};
+use crate::station::read_loss;
 use mq_base::{List, read_number};
 use std::alloc::Global;
 
@@ -15,6 +16,7 @@ use std::alloc::Global;
 pub enum KindWord {
     Server,
     Delay,
+    Loss,
     Split,
 }
 
@@ -27,6 +29,9 @@ fn kind_word(word: &[u8]) -> Option<KindWord>
     }
     if word == b"delay".as_slice() {
         return Some(KindWord::Delay);
+    }
+    if word == b"loss".as_slice() {
+        return Some(KindWord::Loss);
     }
     if word == b"split".as_slice() {
         return Some(KindWord::Split);
@@ -47,6 +52,7 @@ fn read_kind(
     match first {
         KindWord::Server => Ok(SaidKind::Server(read_demand(alloc, words, at)?)),
         KindWord::Delay => Ok(SaidKind::Delay(read_demand(alloc, words, at)?)),
+        KindWord::Loss => read_loss(alloc, words, at),
         KindWord::Split => Ok(SaidKind::Split(read_route(alloc, words, at)?)),
     }
 }

@@ -66,6 +66,10 @@ fn kind_in(alloc: Global, columns: &[List<u8>], kind: &SaidKind) -> Result<Kind,
         SaidKind::Source => Ok(Kind::Source),
         SaidKind::Server(demand) => Ok(Kind::Server(demand_in(columns, demand))),
         SaidKind::Delay(demand) => Ok(Kind::Delay(demand_in(columns, demand))),
+        SaidKind::Loss { places, demand } => Ok(Kind::Loss {
+            places: *places,
+            demand: demand_in(columns, demand),
+        }),
         SaidKind::Split(route) => Ok(Kind::Split(route_in(alloc, columns, route)?)),
     }
 }

@@ -126,6 +126,7 @@ fn first_word(kind: &Kind) -> &[u8]
         Kind::Source => b"source",
         Kind::Server(_) => b"server",
         Kind::Delay(_) => b"delay",
+        Kind::Loss { .. } => b"loss",
         Kind::Split(_) => b"split",
     }
 }
@@ -137,6 +138,10 @@ fn push_kind(text: &mut Vec<u8>, net: &Network, kind: &Kind) -> Result<(), OutOf
     match kind {
         Kind::Source => Ok(()),
         Kind::Server(demand) | Kind::Delay(demand) => push_demand(text, net, demand),
+        Kind::Loss { places, demand } => {
+            push_number(text, *places as u64)?;
+            push_demand(text, net, demand)
+        }
         Kind::Split(route) => push_route(text, net, route),
     }
 }

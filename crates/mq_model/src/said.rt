@@ -37,6 +37,7 @@ pub enum SaidKind {
     Source,
     Server(SaidDemand),
     Delay(SaidDemand),
+    Loss { places: u32, demand: SaidDemand },
     Split(SaidRoute),
 }
 
