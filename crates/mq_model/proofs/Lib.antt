@@ -6,8 +6,11 @@ pub mod InputsBack
 pub mod NamesBack
 pub mod NetworkBack
 pub mod PlanBack
+pub mod Demands
+pub mod PrintedParts
 pub mod PrintedLines
 pub mod PrintedNetwork
+pub mod PrintedWords
 pub mod PrintedText
 pub mod SoundColumns
 pub mod SoundInputs

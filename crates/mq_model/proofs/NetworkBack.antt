@@ -7,10 +7,8 @@ use Rattle.std.proofs.lemmas.Bool.{and_parts, ltb-true}
 use Rattle.std.proofs.lemmas.List.{map-append, length-map}
 use Rattle.mq_graph.specs.Rank.{AreWired}
 use Rattle.mq_core.specs.Names.{is_name}
-use Rattle.mq_core.specs.Sound.{are_distinct, columns_of_demand, columns_of_kind, is_output, is_sound, is_sound_demand, is_sound_kind, is_sound_node, is_within, mentions_from, same_input}
+use Rattle.mq_core.specs.Sound.{are_distinct, columns_of_kind, is_output, is_sound, is_sound_kind, is_sound_node, is_within, mentions_from, same_input}
 use Rattle.mq_core.specs.Wiring.{is_source_kind}
-use Rattle.mq_core.specs.declared.model.Demand.{Demand}
-use Rattle.mq_core.specs.declared.model.Demand.TheVariants as demand
 use Rattle.mq_core.specs.declared.model.Input.{Input}
 use Rattle.mq_core.specs.declared.model.Kind.{Kind}
 use Rattle.mq_core.specs.declared.model.Kind.TheVariants as kind
@@ -18,18 +16,15 @@ use Rattle.mq_core.specs.declared.model.Network.{Network}
 use Rattle.mq_core.specs.declared.model.Node.{Node}
 use Rattle.mq_core.specs.declared.model.Route.TheVariants as route
 use Rattle.mq_model.specs.Form.{Word}
-use Rattle.mq_model.specs.NetworkOf.{demand_in, input_in, kind_in, network_of, nodes_in, nodes_of, number_in}
-use Rattle.mq_model.specs.Said.{columns_of, distinct_after, mentioned, mentions_of_demand, mentions_of_kind, names_of}
-use Rattle.mq_model.specs.SaidOf.{demand_by, input_by, kind_by, name_at, names_in, node_by, saids_in}
+use Rattle.mq_model.specs.NetworkOf.{input_in, kind_in, network_of, nodes_in, nodes_of, number_in}
+use Rattle.mq_model.specs.Said.{columns_of, distinct_after, mentioned, mentions_of_kind, names_of}
+use Rattle.mq_model.specs.SaidOf.{input_by, kind_by, name_at, names_in, node_by, saids_in}
+use Rattle.mq_model.proofs.Demands.{demand_again, demand_mentions}
 use Rattle.mq_model.proofs.NamesBack.{columns_again, number_again}
 
 pub names_said : (names columns : List Word) (nodes : List Node) → names_of (map (node_by names columns) nodes) ≡ map (λ (node : Node). node.name) nodes
 names_said names columns [] = refl
 names_said names columns (node ∷ nodes) = ap (λ more. node.name ∷ more) (names_said names columns nodes)
-
-demand_mentions : (columns : List Word) (d : Demand) → mentions_of_demand (demand_by columns d) ≡ map (name_at columns) (columns_of_demand d)
-demand_mentions columns (demand.Column column) = refl
-demand_mentions columns (demand.Fixed n) = refl
 
 mentions_said : (columns : List Word) (k : Kind) → mentions_of_kind (kind_by columns k) ≡ map (name_at columns) (columns_of_kind k)
 mentions_said columns kind.Source = refl
@@ -48,10 +43,6 @@ all_mentions_said names columns (node ∷ nodes) =
     ∙ sym (map-append (name_at columns) (columns_of_kind node.kind) (flat_map (λ (node : Node). columns_of_kind node.kind) nodes))
 
 -- Names become the numbers that they came from.
-demand_again : (columns : List Word) (d : Demand) → are_distinct bytes_eq columns ≡ true → is_sound_demand (length columns) d ≡ true → demand_in columns (demand_by columns d) ≡ d
-demand_again columns (demand.Column column) distinct sound = ap (λ n. demand.Column n) (number_again columns column [] distinct (ltb-true _ _ sound))
-demand_again columns (demand.Fixed n) distinct sound = refl
-
 kind_again : (columns : List Word) (k : Kind) → are_distinct bytes_eq columns ≡ true → is_sound_kind (length columns) k ≡ true → kind_in columns (kind_by columns k) ≡ k
 kind_again columns kind.Source distinct sound = refl
 kind_again columns (kind.Server d) distinct sound = ap (λ d. kind.Server d) (demand_again columns d distinct sound)

@@ -1,13 +1,11 @@
 -- What the lines of a sound network say is in its ranges.
-use Rattle.std.proofs.Common.{◌≡◌, refl, ℕ, zero, suc, ◌<◌, ◌≤◌, List, [], ◌∷◌, length, get_or, Bool, true, arith}
+use Rattle.std.proofs.Common.{◌≡◌, refl, ℕ, zero, suc, ◌<◌, ◌≤◌, List, [], ◌∷◌, length, true, arith}
 use Rattle.std.specs.Prelude.{map, slice_get}
 use Rattle.std.specs.List.{list_all}
 use Rattle.std.proofs.lemmas.Bool.{and_parts, and_from, leb-true, ltb-true}
 use Rattle.std.proofs.lemmas.List.{length-map}
 use Rattle.mq_core.specs.Names.{is_name}
-use Rattle.mq_core.specs.Sound.{is_output, is_sound, is_sound_count, is_sound_demand, is_sound_kind, is_sound_node, outputs_in}
-use Rattle.mq_core.specs.declared.model.Demand.{Demand}
-use Rattle.mq_core.specs.declared.model.Demand.TheVariants as demand
+use Rattle.mq_core.specs.Sound.{is_output, is_sound, is_sound_count, is_sound_kind, is_sound_node, outputs_in}
 use Rattle.mq_core.specs.declared.model.Input.{Input}
 use Rattle.mq_core.specs.declared.model.Kind.{Kind}
 use Rattle.mq_core.specs.declared.model.Kind.TheVariants as kind
@@ -16,16 +14,12 @@ use Rattle.mq_core.specs.declared.model.Node.{Node}
 use Rattle.mq_core.specs.declared.model.Route.TheVariants as route
 use Rattle.mq_model.specs.Form.{Word}
 use Rattle.mq_model.specs.Said.{reads_of}
-use Rattle.mq_model.specs.SaidOf.{demand_by, input_by, kind_by, names_in, node_by, saids_in}
+use Rattle.mq_model.specs.SaidOf.{input_by, kind_by, names_in, node_by, saids_in}
 use Rattle.mq_model.specs.declared.said.Said.{Said}
 use Rattle.mq_model.proofs.NetworkBack.{has_parts, output_within}
-use Rattle.mq_model.proofs.PrintedLines.{AreInputs}
-use Rattle.mq_model.proofs.SoundLines.{IsSoundDemand, IsSoundKind, IsSoundSaid, is_sound_reads}
-
-pub all_at : {X : Type 0} (p : X → Bool) (xs : List X) (k : ℕ) (d : X) → list_all p xs ≡ true → k < length xs → p (get_or xs k d) ≡ true
-all_at p [] k d h within = absurd (omega arith)
-all_at p (x ∷ xs) zero d h within = (and_parts _ _ h).0
-all_at p (x ∷ xs) (suc k) d h within = all_at p xs k d (and_parts _ _ h).1 (omega arith)
+use Rattle.mq_model.proofs.Demands.{all_at, demand_said}
+use Rattle.mq_model.proofs.PrintedParts.{AreInputs}
+use Rattle.mq_model.proofs.SoundLines.{IsSoundKind, IsSoundSaid, is_sound_reads}
 
 nodes_named : (columns : ℕ) (all nodes : List Node) → list_all (is_sound_node columns all) nodes ≡ true → list_all is_name (map (λ (node : Node). node.name) nodes) ≡ true
 nodes_named columns all [] h = refl
@@ -56,10 +50,6 @@ small_output columns all (node ∷ nodes) zero out h output =
     let below : out < outputs_in node.kind = ltb-true _ _ output in
     omega arith
 small_output columns all (node ∷ nodes) (suc n) out h output = small_output columns all nodes n out (and_parts _ _ h).1 output
-
-demand_said : (columns : List Word) (d : Demand) → list_all is_name columns ≡ true → is_sound_demand (length columns) d ≡ true → IsSoundDemand (demand_by columns d)
-demand_said columns (demand.Column column) named h = all_at is_name columns column [] named (ltb-true _ _ h)
-demand_said columns (demand.Fixed n) named h = h
 
 kind_said : (columns : List Word) (k : Kind) → list_all is_name columns ≡ true → is_sound_kind (length columns) k ≡ true → IsSoundKind (kind_by columns k)
 kind_said columns kind.Source named h = tt

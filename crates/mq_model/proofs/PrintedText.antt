@@ -1,32 +1,21 @@
 -- The canonical text of a sound network has no fault and declares it again.
-use Rattle.std.proofs.Common.{◌≡◌, ◌∙◌, ap, refl, ℕ, ◌+◌, ◌*◌, ◌-◌, ◌<◌, ◌≤◌, ◌^◌, List, [], ◌∷◌, ◌++◌, length, get_or, Bool, true, false, None, arith, inl, inr, append_assoc, length-append}
-use Rattle.std.specs.Prelude.{codes, decimal, ◌&&◌, ◌==◌, nat_lt, nat_le, map}
-use Rattle.std.specs.Char.{is_ascii_digit, is_ascii_lowercase}
+use Rattle.std.proofs.Common.{◌≡◌, ◌∙◌, ap, refl, ℕ, ◌+◌, ◌*◌, ◌-◌, ◌<◌, ◌≤◌, List, [], ◌∷◌, ◌++◌, length, get_or, Bool, true, false, None, arith, append_assoc, length-append}
+use Rattle.std.specs.Prelude.{codes, ◌&&◌, ◌==◌, nat_le, map}
 use Rattle.std.specs.List.{All, list_all, flat_map, join_with_byte}
 use Rattle.std.specs.Str.Lines.{strip_carriage_return}
-use Rattle.std.proofs.lemmas.Bool.{cases_Bool, and_parts, and_from, leb-true, le-leb, ltb-true, lt-ltb}
-use Rattle.std.proofs.lemmas.Fmt.{decimal_nonempty, length-decimal-le}
+use Rattle.std.proofs.lemmas.Bool.{and_parts, and_from, leb-true, ltb-true}
 use Rattle.std.proofs.lemmas.Grind.{common_steps}
 use Rattle.std.proofs.lemmas.List.Folds.{list_all-append}
 use Rattle.mq_base.specs.Text.{is_blank, lines_of, words_of}
 use Rattle.mq_base.proofs.LinesLemmas.{lines_of-line, words_of-last, words_of-word}
-use Rattle.mq_core.specs.Names.{is_name, is_name_byte}
-use Rattle.mq_core.specs.Sound.{is_within}
 use Rattle.mq_model.specs.Form.{Word}
 use Rattle.mq_model.specs.Model.{is_allowed, model_fault}
-use Rattle.mq_model.specs.Printed.{demand_word, first_word, head_words, input_word, inputs_words, kind_words, line_text, printed, reads_words, route_words, said_words}
-use Rattle.mq_model.specs.declared.said.SaidDemand.{SaidDemand}
-use Rattle.mq_model.specs.declared.said.SaidDemand.TheVariants.{Column, Fixed}
-use Rattle.mq_model.specs.declared.said.SaidInput.{SaidInput}
-use Rattle.mq_model.specs.declared.said.SaidKind.{SaidKind}
-use Rattle.mq_model.specs.declared.said.SaidKind.TheVariants.{Source, Server, Delay, Loss, Split}
-use Rattle.mq_model.specs.declared.said.SaidRoute.{SaidRoute}
-use Rattle.mq_model.specs.declared.said.SaidRoute.TheVariants.{Modulo, Turn, Cut}
+use Rattle.mq_model.specs.Printed.{head_words, line_text, printed, said_words}
 use Rattle.mq_model.specs.declared.said.Said.{Said}
-use Rattle.mq_model.specs.declared.said.Said.TheVariants.{Bound, Node}
-use Rattle.mq_model.specs.Said.{reads_of}
-use Rattle.mq_model.proofs.PrintedLines.{AreInputs, IsInput, line_again, number_again}
-use Rattle.mq_model.proofs.PrintedNetwork.{AreInRange, all_at, said_in_range}
+use Rattle.mq_model.proofs.PrintedLines.{line_again}
+use Rattle.mq_model.proofs.PrintedWords.{is_solid, is_visible, all_through, said_few, said_solid}
+use Rattle.mq_model.proofs.Demands.{all_at}
+use Rattle.mq_model.proofs.PrintedNetwork.{AreInRange, said_in_range}
 use Rattle.mq_model.proofs.TextBack.{AreSaid}
 use Rattle.mq_graph.specs.Rank.{left_node}
 use Rattle.mq_core.specs.declared.model.Network.{Network}
@@ -36,135 +25,6 @@ use Rattle.mq_model.specs.SaidOf.{names_in, node_by, saids_in}
 use Rattle.mq_model.proofs.NetworkBack.{has_parts}
 use Rattle.std.proofs.lemmas.List.{length-map}
 use Rattle.mq_model.proofs.PlanBack.{text_again}
-use Rattle.mq_model.proofs.SoundLines.{IsSoundDemand, IsSoundKind, IsSoundRoute, IsSoundSaid, is_sound_reads}
-
--- Words: 1 to 34 visible bytes.
-abbrev pub is_visible : ℕ → Bool
-is_visible b = nat_lt 32 b && nat_le b 126
-
-abbrev pub is_solid : Word → Bool
-is_solid w = nat_lt 0 (length w) && nat_le (length w) 34 && list_all is_visible w
-
-name_byte_visible : (b : ℕ) → is_name_byte b ≡ true → is_visible b ≡ true
-name_byte_visible b h = grind (arith, common_steps, h)
-
-digit_visible : (b : ℕ) → is_ascii_digit b ≡ true → is_visible b ≡ true
-digit_visible b h = grind (arith, common_steps, h)
-
-all_through : {X : Type 0} (p q : X → Bool) (xs : List X) → ((x : X) → p x ≡ true → q x ≡ true) → list_all p xs ≡ true → list_all q xs ≡ true
-all_through p q [] h all = refl
-all_through p q (x ∷ xs) h all = let both = and_parts _ _ all in and_from _ _ (h x both.0) (all_through p q xs h both.1)
-
-record IsShort (most : ℕ) (w : Word) : Type 0 where
-  some : 0 < length w
-  short : length w ≤ most
-  visible : list_all is_visible w ≡ true
-
-name_short : (w : Word) → is_name w ≡ true → IsShort 32 w
-name_short [] h = absurd (cc)
-name_short (b ∷ more) h =
-    let other = and_parts _ _ h in
-    let count = and_parts _ _ other.0 in
-    let bytes = and_parts _ _ count.0 in
-    let few : length more < 32 = ltb-true _ _ count.1 in
-    let first : is_visible b ≡ true = name_byte_visible b (letter_is b bytes.0) in
-    record { some = omega arith; short = omega arith; visible = and_from _ _ first (all_through is_name_byte is_visible more name_byte_visible bytes.1) }
-  where
-    letter_is : (b : ℕ) → is_ascii_lowercase b ≡ true → is_name_byte b ≡ true
-    letter_is b h = rw h refl
-
-decimal_short : (n limit k : ℕ) → n ≤ limit → limit < 10 ^ 19 → 0 < k → n < 10 ^ k → IsShort k (decimal n)
-decimal_short n limit k h small some fits =
-    let again = number_again n limit h small in
-    let parts = and_parts _ _ again.0 in
-    let digits = and_parts _ _ parts.0 in
-    let wide : n < 2 ^ 64 = omega arith in
-    record { some = decimal_nonempty n wide; short = length-decimal-le k n some fits wide; visible = all_through is_ascii_digit is_visible (decimal n) digit_visible digits.1 }
-
-solid : (most : ℕ) (w : Word) → most ≤ 34 → IsShort most w → is_solid w ≡ true
-solid most w h s =
-    let some = s.some in
-    let short = s.short in
-    and_from _ _ (and_from _ _ (lt-ltb 0 (length w) some) (le-leb (length w) 34 (omega arith))) s.visible
-
-demand_solid : (d : SaidDemand) → IsSoundDemand d → is_solid (demand_word d) ≡ true
-demand_solid (Column name) h = solid 32 name (omega arith) (name_short name h)
-demand_solid (Fixed n) h =
-    let small : n ≤ 2 ^ 36 = leb-true _ _ h in
-    let number = decimal_short n (2 ^ 36) 11 small (omega arith) (omega arith) (omega arith) in
-    let short = number.short in
-    solid 12 (61 ∷ decimal n) (omega arith) (record { some = omega arith; short = omega arith; visible = number.visible })
-
-input_solid : (input : SaidInput) → IsInput input → is_solid (input_word input) ≡ true
-input_solid input h =
-    let name = name_short input.name h.0 in
-    elim (cases_Bool (input.out == 0)) [
-      | inl first ↦ rw first (solid 32 input.name (omega arith) name)
-      | inr other ↦
-          let small = h.1 in
-          let number = decimal_short input.out 7 1 small (omega arith) (omega arith) (omega arith) in
-          let digit = number.short in
-          let short = name.short in
-          let size : length (input.name ++ 46 ∷ decimal input.out) ≡ length input.name + length (46 ∷ decimal input.out) = length-append input.name (46 ∷ decimal input.out) in
-          rw other (solid 34 (input.name ++ 46 ∷ decimal input.out) (omega arith)
-          (record { some = omega arith; short = omega arith; visible = list_all-append is_visible input.name (46 ∷ decimal input.out) ∙ and_from _ _ name.visible number.visible }))
-    ]
-
-inputs_solid : (reads : List SaidInput) → AreInputs reads → list_all is_solid (map input_word reads) ≡ true
-inputs_solid [] are = refl
-inputs_solid (input ∷ reads) are = and_from _ _ (input_solid input are.0) (inputs_solid reads are.1)
-
-cuts_solid : (cuts : List ℕ) → list_all (λ threshold. nat_le threshold (2 ^ 36)) cuts ≡ true → list_all is_solid (map decimal cuts) ≡ true
-cuts_solid [] small = refl
-cuts_solid (t ∷ cuts) small =
-    let both = and_parts _ _ small in
-    let fits : t ≤ 2 ^ 36 = leb-true _ _ both.0 in
-    and_from _ _ (solid 11 (decimal t) (omega arith) (decimal_short t (2 ^ 36) 11 fits (omega arith) (omega arith) (omega arith))) (cuts_solid cuts both.1)
-
-outputs_solid : (outputs : ℕ) → is_within 2 8 outputs ≡ true → is_solid (decimal outputs) ≡ true
-outputs_solid outputs within =
-    let most : outputs ≤ 8 = leb-true _ _ (and_parts _ _ within).1 in
-    solid 1 (decimal outputs) (omega arith) (decimal_short outputs 8 1 most (omega arith) (omega arith) (omega arith))
-
-places_solid : (places : ℕ) → is_within 1 1048576 places ≡ true → is_solid (decimal places) ≡ true
-places_solid places within =
-    let most : places ≤ 1048576 = leb-true _ _ (and_parts _ _ within).1 in
-    solid 7 (decimal places) (omega arith) (decimal_short places 1048576 7 most (omega arith) (omega arith) (omega arith))
-
-route_solid : (route : SaidRoute) → IsSoundRoute route → list_all is_solid (route_words route) ≡ true
-route_solid (Modulo outputs column) sound = and_from _ _ (outputs_solid outputs sound.0) (and_from _ _ refl (and_from _ _ (solid 32 column (omega arith) (name_short column sound.1)) refl))
-route_solid (Turn outputs) sound = and_from _ _ (outputs_solid outputs sound) refl
-route_solid (Cut column cuts) sound = and_from _ _ (solid 32 column (omega arith) (name_short column sound.0)) (cuts_solid cuts sound.1.2)
-
-first_solid : (kind : SaidKind) → is_solid (first_word kind) ≡ true
-first_solid Source = refl
-first_solid (Server d) = refl
-first_solid (Delay d) = refl
-first_solid (Loss places d) = refl
-first_solid (Split route) = refl
-
-kind_solid : (kind : SaidKind) → IsSoundKind kind → list_all is_solid (kind_words kind) ≡ true
-kind_solid Source sound = refl
-kind_solid (Server d) sound = and_from _ _ (demand_solid d sound) refl
-kind_solid (Delay d) sound = and_from _ _ (demand_solid d sound) refl
-kind_solid (Loss places d) sound = and_from _ _ (places_solid places sound.0) (and_from _ _ (demand_solid d sound.1) refl)
-kind_solid (Split route) sound = route_solid route sound
-
-reads_solid : (kind : SaidKind) (reads : List SaidInput) → AreInputs reads → list_all is_solid (reads_words kind reads) ≡ true
-reads_solid Source reads are = refl
-reads_solid (Server d) reads are = inputs_solid reads are
-reads_solid (Delay d) reads are = inputs_solid reads are
-reads_solid (Loss places d) reads are = inputs_solid reads are
-reads_solid (Split route) reads are = inputs_solid reads are
-
-said_solid : (said : Said) → IsSoundSaid said → AreInputs (reads_of said) → list_all is_solid (said_words said) ≡ true
-said_solid (Bound n) sound are =
-    let small : n ≤ 2 ^ 60 = leb-true _ _ sound in
-    and_from _ _ (solid 19 (decimal n) (omega arith) (decimal_short n (2 ^ 60) 19 small (omega arith) (omega arith) (omega arith))) refl
-said_solid (Node name kind reads) sound are =
-    let behind : list_all is_solid (kind_words kind ++ reads_words kind reads) ≡ true =
-    list_all-append is_solid (kind_words kind) (reads_words kind reads) ∙ and_from _ _ (kind_solid kind sound.1) (reads_solid kind reads are) in
-    and_from _ _ (first_solid kind) (and_from _ _ (solid 32 name (omega arith) (name_short name sound.0)) behind)
 
 -- Lines: bytes 32 to 126.
 abbrev is_plain : ℕ → Bool
@@ -258,43 +118,6 @@ line_length (w ∷ v ∷ ws) h some =
     let size : length (line_text (w ∷ v ∷ ws)) ≡ length w + length (32 ∷ (join_with_byte 32 (v ∷ ws) ++ 10 ∷ [])) =
     ap length (append_assoc w (32 ∷ join_with_byte 32 (v ∷ ws)) (10 ∷ [])) ∙ length-append w (32 ∷ (join_with_byte 32 (v ∷ ws) ++ 10 ∷ [])) in
     omega arith
-
-record IsFew (ws : List Word) : Type 0 where
-  some : 0 < length ws
-  few : length ws ≤ 26
-
-inputs_few : (reads : List SaidInput) → is_within 1 8 (length reads) ≡ true → length (inputs_words reads) ≤ 9
-inputs_few reads count =
-    let most : length reads ≤ 8 = leb-true _ _ (and_parts _ _ count).1 in
-    let size : length (map input_word reads) ≡ length reads = length-map reads input_word in
-    omega arith
-
-reads_few : (kind : SaidKind) (reads : List SaidInput) → is_sound_reads kind (length reads) ≡ true → length (reads_words kind reads) ≤ 9
-reads_few Source reads count = omega arith
-reads_few (Server d) reads count = inputs_few reads count
-reads_few (Delay d) reads count = inputs_few reads count
-reads_few (Loss places d) reads count = inputs_few reads count
-reads_few (Split route) reads count = inputs_few reads count
-
-kind_few : (kind : SaidKind) → IsSoundKind kind → length (kind_words kind) ≤ 15
-kind_few Source sound = omega arith
-kind_few (Server d) sound = omega arith
-kind_few (Delay d) sound = omega arith
-kind_few (Loss places d) sound = omega arith
-kind_few (Split (Modulo outputs column)) sound = omega arith
-kind_few (Split (Turn outputs)) sound = omega arith
-kind_few (Split (Cut column cuts)) sound =
-    let most : length cuts ≤ 7 = leb-true _ _ (and_parts _ _ sound.1.0).1 in
-    let same : length (map decimal cuts) ≡ length cuts = length-map cuts decimal in
-    omega arith
-
-said_few : (said : Said) → IsSoundSaid said → IsFew (said_words said)
-said_few (Bound n) sound = record { some = omega arith; few = omega arith }
-said_few (Node name kind reads) sound =
-    let size : length (kind_words kind ++ reads_words kind reads) ≡ length (kind_words kind) + length (reads_words kind reads) = length-append (kind_words kind) (reads_words kind reads) in
-    let own = kind_few kind sound.1 in
-    let rest = reads_few kind reads sound.2 in
-    record { some = omega arith; few = omega arith }
 
 text_length : (saids : List Said) → AreInRange saids → length (flat_map line_text (map said_words saids)) ≤ 910 * length saids
 text_length [] h = omega arith

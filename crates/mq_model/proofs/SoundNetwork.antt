@@ -1,33 +1,32 @@
 -- The network of a text without a fault is sound.
-use Rattle.std.proofs.Common.{◌≡◌, ◌∙◌, sym, ap, refl, subst, ℕ, ◌<◌, ◌≤◌, ◌^◌, List, [], ◌∷◌, ◌++◌, length, Bool, true, false, cond, Some, None, arith, inl, inr, append_assoc, IsTrue}
+use Rattle.std.proofs.Common.{◌≡◌, ◌∙◌, sym, ap, refl, ℕ, ◌≤◌, ◌^◌, List, [], ◌∷◌, ◌++◌, length, Bool, true, false, cond, Some, None, arith, inl, inr, append_assoc, IsTrue}
 use Rattle.std.specs.Prelude.{map, nat_lt, nat_le, slice_get}
 use Rattle.std.specs.List.{list_all, list_any, flat_map}
 use Rattle.std.specs.Str.{bytes_eq}
-use Rattle.std.proofs.lemmas.Bool.{cases_Bool, and_parts, and_from, or_cases, or_left, or_right, lt-ltb, le-leb}
-use Rattle.std.proofs.lemmas.List.{append-nil, map-append, length-map}
+use Rattle.std.proofs.lemmas.Bool.{cases_Bool, and_parts, and_from, or_cases, or_left, or_right, le-leb}
+use Rattle.std.proofs.lemmas.List.{map-append, length-map}
 use Rattle.std.proofs.lemmas.List.Folds.{list_all-append, list_any-append}
 use Rattle.mq_core.specs.Names.{is_name}
-use Rattle.mq_core.specs.Sound.{are_distinct, columns_of_demand, columns_of_kind, is_output, is_sound, is_sound_count, is_sound_demand, is_sound_kind, is_sound_node, is_within, mentions_from, same_input}
+use Rattle.mq_core.specs.Sound.{are_distinct, columns_of_kind, is_output, is_sound, is_sound_count, is_sound_kind, is_sound_node, is_within, mentions_from, same_input}
 use Rattle.mq_core.specs.Wiring.{is_source_kind}
 use Rattle.mq_core.specs.declared.model.Input.{Input}
 use Rattle.mq_core.specs.declared.model.Node.{Node}
 use Rattle.mq_base.specs.Text.{lines_of}
 use Rattle.mq_model.specs.Form.{Word}
 use Rattle.mq_model.specs.Model.{cycle_fault, inputs_fault, lines_fault, model_fault, reads_of_text, source_fault, text_fault}
-use Rattle.mq_model.specs.NetworkOf.{bound_of, demand_in, input_in, kind_in, network_in, network_of, nodes_in, nodes_of, number_in, saids_of, without_mark}
-use Rattle.mq_model.specs.Said.{columns_of, distinct_after, gives, is_among, is_source, is_source_said, mentioned, mentions_of_demand, mentions_of_kind, names_of, reads_of}
+use Rattle.mq_model.specs.NetworkOf.{bound_of, input_in, kind_in, network_in, network_of, nodes_in, nodes_of, number_in, saids_of, without_mark}
+use Rattle.mq_model.specs.Said.{columns_of, distinct_after, gives, is_among, is_source, is_source_said, mentioned, mentions_of_kind, names_of, reads_of}
 use Rattle.mq_model.specs.declared.fault.ModelFault.TheVariants.{TooLong, NoSource}
-use Rattle.mq_model.specs.declared.said.SaidDemand.{SaidDemand}
-use Rattle.mq_model.specs.declared.said.SaidDemand.TheVariants.{Column, Fixed}
 use Rattle.mq_model.specs.declared.said.SaidInput.{SaidInput}
 use Rattle.mq_model.specs.declared.said.SaidKind.{SaidKind}
 use Rattle.mq_model.specs.declared.said.SaidKind.TheVariants.{Source, Server, Delay, Loss, Split}
 use Rattle.mq_model.specs.declared.said.SaidRoute.TheVariants.{Modulo, Turn, Cut}
 use Rattle.mq_model.specs.declared.said.Said.{Said}
 use Rattle.mq_model.specs.declared.said.Said.TheVariants as said
-use Rattle.mq_model.proofs.SoundColumns.{are_distinct_after, list_all_after, mentions_in_order, place_in_front, same_name}
+use Rattle.mq_model.proofs.Demands.{demand_columns, demand_in_range, demand_names, number_below}
+use Rattle.mq_model.proofs.SoundColumns.{are_distinct_after, list_all_after, mentions_in_order, same_name}
 use Rattle.mq_model.proofs.SoundInputs.{AreInputs, given_among, given_output, numbers_distinct, told_are_inputs}
-use Rattle.mq_model.proofs.SoundLines.{IsSoundDemand, IsSoundKind, is_sound_reads}
+use Rattle.mq_model.proofs.SoundLines.{IsSoundKind, is_sound_reads}
 use Rattle.mq_model.proofs.SoundText.{AreFew, AreSound, cond_none, or_none, told_are_few, told_are_sound}
 
 -- What the nodes have of the lines.
@@ -44,10 +43,6 @@ inputs_are names columns [] = refl
 inputs_are names columns (said.Bound n ∷ saids) = inputs_are names columns saids
 inputs_are names columns (said.Node name kind reads ∷ saids) =
     ap (λ more. map (input_in names) reads ++ more) (inputs_are names columns saids) ∙ sym (map-append (input_in names) reads (flat_map reads_of saids))
-
-demand_columns : (columns : List Word) (d : SaidDemand) → columns_of_demand (demand_in columns d) ≡ map (number_in columns) (mentions_of_demand d)
-demand_columns columns (Column name) = refl
-demand_columns columns (Fixed n) = refl
 
 columns_are : (columns : List Word) (kind : SaidKind) → columns_of_kind (kind_in columns kind) ≡ map (number_in columns) (mentions_of_kind kind)
 columns_are columns Source = refl
@@ -92,10 +87,6 @@ bound_small (said.Bound n ∷ saids) sound = sound.0
 bound_small (said.Node name kind reads ∷ saids) sound = bound_small saids sound.1
 
 -- Columns: the mentioned names are names, and among the columns.
-demand_names : (d : SaidDemand) → IsSoundDemand d → list_all is_name (mentions_of_demand d) ≡ true
-demand_names (Column name) sound = and_from _ _ sound refl
-demand_names (Fixed n) sound = refl
-
 kind_names : (kind : SaidKind) → IsSoundKind kind → list_all is_name (mentions_of_kind kind) ≡ true
 kind_names Source sound = refl
 kind_names (Server d) sound = demand_names d sound
@@ -127,16 +118,7 @@ all_among before (name ∷ more) all is =
           and_from _ _ here (all_among (before ++ name ∷ []) more all (is_so ∙ sym (append_assoc before (name ∷ []) _)))
     ]
 
-number_below : (names : List Word) (name : Word) → is_among names name ≡ true → nat_lt (number_in names name) (length names) ≡ true
-number_below names name h =
-    let below = place_in_front (λ other. bytes_eq other name) names [] h in
-    lt-ltb _ _ (subst (λ all. number_in all name < length names) (append-nil names) below)
-
 -- Nodes are in their ranges.
-demand_in_range : (columns : List Word) (d : SaidDemand) → IsSoundDemand d → list_all (is_among columns) (mentions_of_demand d) ≡ true → is_sound_demand (length columns) (demand_in columns d) ≡ true
-demand_in_range columns (Column name) sound among = number_below columns name (and_parts _ _ among).0
-demand_in_range columns (Fixed n) sound among = sound
-
 kind_sound : (columns : List Word) (kind : SaidKind) → IsSoundKind kind → list_all (is_among columns) (mentions_of_kind kind) ≡ true → is_sound_kind (length columns) (kind_in columns kind) ≡ true
 kind_sound columns Source sound among = refl
 kind_sound columns (Server d) sound among = demand_in_range columns d sound among
