@@ -54,6 +54,7 @@ outputs_said columns kind.Source = refl
 outputs_said columns (kind.Server d) = refl
 outputs_said columns (kind.Delay d) = refl
 outputs_said columns (kind.Loss places d) = refl
+outputs_said columns (kind.Tandem stages) = refl
 outputs_said columns (kind.Split (route.Modulo outputs column)) = refl
 outputs_said columns (kind.Split (route.Turn outputs)) = refl
 outputs_said columns (kind.Split (route.Cut column thresholds)) = refl
@@ -111,6 +112,7 @@ source_said columns kind.Source own reads = refl
 source_said columns (kind.Server d) own reads = refl
 source_said columns (kind.Delay d) own reads = refl
 source_said columns (kind.Loss places d) own reads = refl
+source_said columns (kind.Tandem stages) own reads = refl
 source_said columns (kind.Split r) own reads = refl
 
 pub source_back : (names columns : List Word) (nodes : List Node) → list_any (λ (node : Node). is_source_kind node.kind) nodes ≡ true → list_any is_source (map (node_by names columns) nodes) ≡ true

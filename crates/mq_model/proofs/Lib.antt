@@ -7,6 +7,10 @@ pub mod NamesBack
 pub mod NetworkBack
 pub mod PlanBack
 pub mod Demands
+pub mod Lists
+pub mod Stages
+pub mod StageFacts
+pub mod PrintedStages
 pub mod PrintedParts
 pub mod PrintedLines
 pub mod PrintedNetwork

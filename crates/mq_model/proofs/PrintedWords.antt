@@ -1,8 +1,8 @@
 -- The words of a line in its ranges: their bytes, and how many they are.
-use Rattle.std.proofs.Common.{◌≡◌, ◌∙◌, refl, ℕ, ◌+◌, ◌<◌, ◌≤◌, ◌^◌, List, [], ◌∷◌, ◌++◌, length, Bool, true, arith, inl, inr, length-append}
+use Rattle.std.proofs.Common.{◌≡◌, ◌∙◌, refl, ℕ, ◌+◌, ◌*◌, ◌<◌, ◌≤◌, ◌^◌, List, [], ◌∷◌, ◌++◌, length, Bool, true, arith, inl, inr, length-append}
 use Rattle.std.specs.Prelude.{decimal, ◌&&◌, ◌==◌, nat_lt, nat_le, map}
 use Rattle.std.specs.Char.{is_ascii_digit, is_ascii_lowercase}
-use Rattle.std.specs.List.{list_all}
+use Rattle.std.specs.List.{flat_map, list_all}
 use Rattle.std.proofs.lemmas.Bool.{cases_Bool, and_parts, and_from, leb-true, le-leb, ltb-true, lt-ltb}
 use Rattle.std.proofs.lemmas.Fmt.{decimal_nonempty, length-decimal-le}
 use Rattle.std.proofs.lemmas.Grind.{common_steps}
@@ -10,20 +10,22 @@ use Rattle.std.proofs.lemmas.List.Folds.{list_all-append}
 use Rattle.mq_core.specs.Names.{is_name, is_name_byte}
 use Rattle.mq_core.specs.Sound.{is_within}
 use Rattle.mq_model.specs.Form.{Word}
-use Rattle.mq_model.specs.Printed.{demand_word, first_word, input_word, inputs_words, kind_words, reads_words, route_words, said_words}
+use Rattle.mq_model.specs.Printed.{stage_words, stages_words, demand_word, first_word, input_word, inputs_words, kind_words, reads_words, route_words, said_words}
 use Rattle.mq_model.specs.declared.said.SaidDemand.{SaidDemand}
 use Rattle.mq_model.specs.declared.said.SaidDemand.TheVariants.{Column, Fixed}
 use Rattle.mq_model.specs.declared.said.SaidInput.{SaidInput}
+use Rattle.mq_model.specs.declared.said.SaidStage.{SaidStage}
 use Rattle.mq_model.specs.declared.said.SaidKind.{SaidKind}
-use Rattle.mq_model.specs.declared.said.SaidKind.TheVariants.{Source, Server, Delay, Loss, Split}
+use Rattle.mq_model.specs.declared.said.SaidKind.TheVariants.{Source, Server, Delay, Loss, Tandem, Split}
 use Rattle.mq_model.specs.declared.said.SaidRoute.{SaidRoute}
 use Rattle.mq_model.specs.declared.said.SaidRoute.TheVariants.{Modulo, Turn, Cut}
 use Rattle.mq_model.specs.declared.said.Said.{Said}
 use Rattle.mq_model.specs.declared.said.Said.TheVariants.{Bound, Node}
 use Rattle.mq_model.specs.Said.{reads_of}
+use Rattle.mq_model.proofs.Lists.{all_told}
 use Rattle.mq_model.proofs.PrintedParts.{AreInputs, IsInput, number_again}
 use Rattle.std.proofs.lemmas.List.{length-map}
-use Rattle.mq_model.proofs.SoundLines.{IsSoundDemand, IsSoundKind, IsSoundRoute, IsSoundSaid, is_sound_reads}
+use Rattle.mq_model.proofs.SoundLines.{AreSoundStages, IsSoundStage, IsSoundDemand, IsSoundKind, IsSoundRoute, IsSoundSaid, is_sound_reads}
 
 -- Words: 1 to 34 visible bytes.
 abbrev pub is_visible : ℕ → Bool
@@ -118,6 +120,16 @@ places_solid places within =
     let most : places ≤ 1048576 = leb-true _ _ (and_parts _ _ within).1 in
     solid 7 (decimal places) (omega arith) (decimal_short places 1048576 7 most (omega arith) (omega arith) (omega arith))
 
+stage_solid : (stage : SaidStage) → IsSoundStage 1 4 stage → list_all is_solid (stage_words stage) ≡ true
+stage_solid stage sound =
+    let most : stage.places ≤ 4 = leb-true _ _ (and_parts _ _ sound.0).1 in
+    let places : is_solid (decimal stage.places) ≡ true = solid 1 (decimal stage.places) (omega arith) (decimal_short stage.places 4 1 most (omega arith) (omega arith) (omega arith)) in
+    and_from _ _ refl (and_from _ _ places (and_from _ _ (demand_solid stage.demand sound.1) refl))
+
+stages_solid : (stages : List SaidStage) → AreSoundStages stages → list_all is_solid (stages_words stages) ≡ true
+stages_solid [] sound = refl
+stages_solid (stage ∷ stages) sound = and_from _ _ (demand_solid stage.demand sound.0.1) (all_told (IsSoundStage 1 4) stage_words is_solid stage_solid stages sound.2)
+
 route_solid : (route : SaidRoute) → IsSoundRoute route → list_all is_solid (route_words route) ≡ true
 route_solid (Modulo outputs column) sound = and_from _ _ (outputs_solid outputs sound.0) (and_from _ _ refl (and_from _ _ (solid 32 column (omega arith) (name_short column sound.1)) refl))
 route_solid (Turn outputs) sound = and_from _ _ (outputs_solid outputs sound) refl
@@ -128,6 +140,7 @@ first_solid Source = refl
 first_solid (Server d) = refl
 first_solid (Delay d) = refl
 first_solid (Loss places d) = refl
+first_solid (Tandem stages) = refl
 first_solid (Split route) = refl
 
 kind_solid : (kind : SaidKind) → IsSoundKind kind → list_all is_solid (kind_words kind) ≡ true
@@ -135,6 +148,7 @@ kind_solid Source sound = refl
 kind_solid (Server d) sound = and_from _ _ (demand_solid d sound) refl
 kind_solid (Delay d) sound = and_from _ _ (demand_solid d sound) refl
 kind_solid (Loss places d) sound = and_from _ _ (places_solid places sound.0) (and_from _ _ (demand_solid d sound.1) refl)
+kind_solid (Tandem stages) sound = stages_solid stages sound
 kind_solid (Split route) sound = route_solid route sound
 
 reads_solid : (kind : SaidKind) (reads : List SaidInput) → AreInputs reads → list_all is_solid (reads_words kind reads) ≡ true
@@ -142,6 +156,7 @@ reads_solid Source reads are = refl
 reads_solid (Server d) reads are = inputs_solid reads are
 reads_solid (Delay d) reads are = inputs_solid reads are
 reads_solid (Loss places d) reads are = inputs_solid reads are
+reads_solid (Tandem stages) reads are = inputs_solid reads are
 reads_solid (Split route) reads are = inputs_solid reads are
 
 pub said_solid : (said : Said) → IsSoundSaid said → AreInputs (reads_of said) → list_all is_solid (said_words said) ≡ true
@@ -169,13 +184,26 @@ reads_few Source reads count = omega arith
 reads_few (Server d) reads count = inputs_few reads count
 reads_few (Delay d) reads count = inputs_few reads count
 reads_few (Loss places d) reads count = inputs_few reads count
+reads_few (Tandem stages) reads count = inputs_few reads count
 reads_few (Split route) reads count = inputs_few reads count
+
+further_count : (stages : List SaidStage) → length (flat_map stage_words stages) ≡ 3 * length stages
+further_count [] = refl
+further_count (stage ∷ stages) = let again = further_count stages in omega arith
+
+stages_few : (stages : List SaidStage) → AreSoundStages stages → length (stages_words stages) ≤ 15
+stages_few [] sound = omega arith
+stages_few (stage ∷ stages) sound =
+    let most : length stages ≤ 3 = leb-true _ _ (and_parts _ _ sound.1).1 in
+    let count = further_count stages in
+    omega arith
 
 kind_few : (kind : SaidKind) → IsSoundKind kind → length (kind_words kind) ≤ 15
 kind_few Source sound = omega arith
 kind_few (Server d) sound = omega arith
 kind_few (Delay d) sound = omega arith
 kind_few (Loss places d) sound = omega arith
+kind_few (Tandem stages) sound = stages_few stages sound
 kind_few (Split (Modulo outputs column)) sound = omega arith
 kind_few (Split (Turn outputs)) sound = omega arith
 kind_few (Split (Cut column cuts)) sound =

@@ -26,7 +26,9 @@ line_examples =
     ∷ (codes "model 2\n", Some (BadHead 1))
     ∷ (codes "# x\n\n", Some (BadHead 3))
     ∷ (codes "# x\n\nmodel 1\nsource a\nsource a\n", Some (NameTwice 5))
-    ∷ (codes "model 1\nsource s\ntandem t =1 from s\n", Some (BadLine 3 1))
+    ∷ (codes "model 1\nsource s\ntandem t =1 from s\n", Some (BadLine 3 4))
+    ∷ (codes "model 1\nsource s\ntandem t =1 / 5 =1 from s\n", Some (BadLine 3 5))
+    ∷ (codes "model 1\nsource s\ntandem t =1 / 1 =1 / 2 =1 / 3 =1 / 4 =1 from s\n", Some (BadLine 3 13))
     ∷ (codes "model 1\nsource s\nserver q =1\n", Some (BadLine 3 4))
     ∷ (codes "model 1\nsource s\ndelay d =1\n", Some (BadLine 3 4))
     ∷ (codes "model 1\nsource s\ndelay d from s\n", Some (BadLine 3 3))
@@ -58,6 +60,7 @@ input_examples =
     ∷ (codes "model 1\r\n\tsource  s\r\n", None)
     ∷ (codes "model 1\nbound 1000\nsource s\nserver q d from s\nsplit p cut k 5 6 from q\nsplit r 2 mod k from p\nsplit t 2 turn from p.2\ndelay w =5 from t.1\n", None)
     ∷ (codes "model 1\nsource s\ndelay d =1 from s\nserver r =1 from d.1\n", Some (UnknownInput 4 0))
+    ∷ (codes "model 1\nsource s\ntandem t k / 4 =1 / 1 k / 01 j from s\nserver r =1 from t\n", None)
     ∷ (codes "model 1\nsource s\nloss l 1048576 k from s\nserver r =1 from l.1 l\n", None)
     ∷ (codes "model 1\nsource s\nloss l 1 k from s\nserver r =1 from l.2\n", Some (UnknownInput 4 0))
     ∷ []

@@ -9,8 +9,9 @@ use Rattle.mq_model.specs.declared.said.SaidDemand.TheVariants.{Column, Fixed}
 use Rattle.mq_model.specs.declared.said.SaidInput.{SaidInput}
 use Rattle.mq_model.specs.declared.said.SaidRoute.{SaidRoute}
 use Rattle.mq_model.specs.declared.said.SaidRoute.TheVariants.{Modulo, Turn, Cut}
+use Rattle.mq_model.specs.declared.said.SaidStage.{SaidStage}
 use Rattle.mq_model.specs.declared.said.SaidKind.{SaidKind}
-use Rattle.mq_model.specs.declared.said.SaidKind.TheVariants.{Source, Server, Delay, Loss, Split}
+use Rattle.mq_model.specs.declared.said.SaidKind.TheVariants.{Source, Server, Delay, Loss, Tandem, Split}
 use Rattle.mq_model.specs.declared.said.Said.{Said}
 use Rattle.mq_model.specs.declared.said.Said.TheVariants.{Bound, Node}
 use Rattle.mq_model.specs.Form.{◌>>=◌, Form, Word, stop, word, maybe, one, up_to}
@@ -118,6 +119,32 @@ loss_kind = do
   demand ← a_demand
   stop (Loss places demand)
 
+-- the places and the demand of a stage behind a slash
+unfoldable pub a_stage : Form SaidStage
+a_stage = do
+  places ← one (is_from_to 1 4) value_of
+  demand ← a_demand
+  stop (record { places = places; demand = demand })
+
+-- at most n further stages
+unfoldable pub stages : ℕ → Form (List SaidStage)
+stages zero = stop []
+stages (suc n) = maybe (is_key (codes "/")) (λ _. a_stage >>= λ stage. stages n >>= λ more. stop (stage ∷ more)) (stop [])
+
+-- the stages of a tandem whose first has this demand
+unfoldable pub stages_behind : SaidDemand → Form (List SaidStage)
+stages_behind first = do
+  _ ← key (codes "/")
+  second ← a_stage
+  more ← stages 2
+  stop (record { places = 0; demand = first } ∷ second ∷ more)
+
+unfoldable pub tandem_kind : Form SaidKind
+tandem_kind = do
+  first ← a_demand
+  all ← stages_behind first
+  stop (Tandem all)
+
 abbrev pub split_kind : Form SaidKind
 split_kind = a_route >>= λ route. stop (Split route)
 
@@ -141,7 +168,8 @@ kind_line =
     maybe (is_key (codes "server")) (λ _. node_line server_kind)
     (maybe (is_key (codes "delay")) (λ _. node_line delay_kind)
     (maybe (is_key (codes "loss")) (λ _. node_line loss_kind)
-    (word (is_key (codes "split")) (λ _. node_line split_kind))))
+    (maybe (is_key (codes "tandem")) (λ _. node_line tandem_kind)
+    (word (is_key (codes "split")) (λ _. node_line split_kind)))))
 
 unfoldable pub line : Form Said
 line = maybe (is_key (codes "bound")) (λ _. bound_line) (maybe (is_key (codes "source")) (λ _. source_line) kind_line)

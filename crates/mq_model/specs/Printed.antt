@@ -10,8 +10,9 @@ use Rattle.mq_model.specs.declared.said.SaidDemand.TheVariants.{Column, Fixed}
 use Rattle.mq_model.specs.declared.said.SaidInput.{SaidInput}
 use Rattle.mq_model.specs.declared.said.SaidRoute.{SaidRoute}
 use Rattle.mq_model.specs.declared.said.SaidRoute.TheVariants.{Modulo, Turn, Cut}
+use Rattle.mq_model.specs.declared.said.SaidStage.{SaidStage}
 use Rattle.mq_model.specs.declared.said.SaidKind.{SaidKind}
-use Rattle.mq_model.specs.declared.said.SaidKind.TheVariants.{Source, Server, Delay, Loss, Split}
+use Rattle.mq_model.specs.declared.said.SaidKind.TheVariants.{Source, Server, Delay, Loss, Tandem, Split}
 use Rattle.mq_model.specs.declared.said.Said.{Said}
 use Rattle.mq_model.specs.declared.said.Said.TheVariants.{Bound, Node}
 
@@ -32,12 +33,21 @@ route_words (Modulo outputs column) = decimal outputs ∷ codes "mod" ∷ column
 route_words (Turn outputs) = decimal outputs ∷ codes "turn" ∷ []
 route_words (Cut column thresholds) = codes "cut" ∷ column ∷ map decimal thresholds
 
+-- the first stage is its demand, and each further one a slash, its places and its demand
+abbrev pub stage_words : SaidStage → List Word
+stage_words stage = codes "/" ∷ decimal stage.places ∷ demand_word stage.demand ∷ []
+
+abbrev pub stages_words : List SaidStage → List Word
+stages_words [] = []
+stages_words (stage ∷ stages) = demand_word stage.demand ∷ flat_map stage_words stages
+
 -- the first word of a node's line
 abbrev pub first_word : SaidKind → Word
 first_word Source = codes "source"
 first_word (Server d) = codes "server"
 first_word (Delay d) = codes "delay"
 first_word (Loss places d) = codes "loss"
+first_word (Tandem stages) = codes "tandem"
 first_word (Split route) = codes "split"
 
 -- what stands between the name and the inputs
@@ -46,6 +56,7 @@ kind_words Source = []
 kind_words (Server d) = demand_word d ∷ []
 kind_words (Delay d) = demand_word d ∷ []
 kind_words (Loss places d) = decimal places ∷ demand_word d ∷ []
+kind_words (Tandem stages) = stages_words stages
 kind_words (Split route) = route_words route
 
 -- a source has no inputs to be read

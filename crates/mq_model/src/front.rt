@@ -1,6 +1,6 @@
 // What the lines so far say, and one line more.
 ghost use Rattle.std.specs.Prelude.{◌≡◌, ◌≤◌, ◌++◌, IfErr, IfOk, None, Ok, length};
-ghost use Rattle.std.specs.List.{list_all};
+ghost use Rattle.std.specs.List.{flat_map, list_all};
 ghost use Rattle.mq_base.specs.Text.{words_of};
 ghost use Rattle.mq_model.specs.Form.{read, whole};
 ghost use Rattle.mq_model.specs.Front.{AddsLine, added_fault, grammar_fault, name_fault, with_said};
@@ -11,7 +11,7 @@ ghost use Rattle.mq_model.specs.Said.{added, columns_after, declared, is_among, 
 
 use crate::fault::ModelFault;
 use crate::line::{LineFault, read_line};
-use crate::said::{Said, SaidDemand, SaidKind, SaidRoute};
+use crate::said::{Said, SaidDemand, SaidKind, SaidRoute, SaidStage};
 use crate::word::copied;
 use mq_base::{List, next_word};
 use std::alloc::Global;
@@ -145,6 +145,20 @@ fn add_of_demand(
     }
 }
 
+fn add_of_stages(
+    alloc: Global,
+    stages: &[SaidStage],
+    columns: &mut List<List<u8>>,
+) -> Result<(), ModelFault>
+    ensures ok { IfOk result (λ _. columns.new ≡ columns_after columns.old (flat_map (λ (stage : SaidStage). mentions_of_demand stage.demand) stages.now)) }
+    ensures err { IfErr result (λ e. e ≡ ModelFault.Memory) }
+{
+    for stage in stages {
+        add_of_demand(alloc, &stage.demand, columns)?;
+    }
+    Ok(())
+}
+
 fn add_of_route(
     alloc: Global,
     route: &SaidRoute,
@@ -173,6 +187,7 @@ fn add_of_kind(
         SaidKind::Source => Ok(()),
         SaidKind::Server(demand) | SaidKind::Delay(demand) | SaidKind::Loss { demand, .. } =>
             add_of_demand(alloc, demand, columns),
+        SaidKind::Tandem(stages) => add_of_stages(alloc, stages.as_slice(), columns),
         SaidKind::Split(route) => add_of_route(alloc, route, columns),
     }
 }

@@ -7,7 +7,7 @@ ghost use Rattle.mq_model.specs.Reading.{Reads, ReadsLine, form_of, words_from};
 use crate::parts::{Stop, read_demand, read_inputs, read_name, word_at};
 use crate::route::read_route;
 use crate::said::{Said, SaidKind};
-use crate::station::read_loss;
+use crate::station::{read_loss, read_tandem};
 use mq_base::{List, read_number};
 use std::alloc::Global;
 
@@ -17,6 +17,7 @@ pub enum KindWord {
     Server,
     Delay,
     Loss,
+    Tandem,
     Split,
 }
 
@@ -32,6 +33,9 @@ fn kind_word(word: &[u8]) -> Option<KindWord>
     }
     if word == b"loss".as_slice() {
         return Some(KindWord::Loss);
+    }
+    if word == b"tandem".as_slice() {
+        return Some(KindWord::Tandem);
     }
     if word == b"split".as_slice() {
         return Some(KindWord::Split);
@@ -53,6 +57,7 @@ fn read_kind(
         KindWord::Server => Ok(SaidKind::Server(read_demand(alloc, words, at)?)),
         KindWord::Delay => Ok(SaidKind::Delay(read_demand(alloc, words, at)?)),
         KindWord::Loss => read_loss(alloc, words, at),
+        KindWord::Tandem => read_tandem(alloc, words, at),
         KindWord::Split => Ok(SaidKind::Split(read_route(alloc, words, at)?)),
     }
 }

@@ -1,13 +1,13 @@
 // The canonical text of a plan.
 ghost use Rattle.std.specs.Prelude.{◌≡◌, ◌∷◌, ◌++◌, [], IfOk, List, OnOk, codes, decimal, map};
-ghost use Rattle.std.specs.List.{join_with_byte};
+ghost use Rattle.std.specs.List.{flat_map, join_with_byte};
 ghost use Rattle.mq_model.specs.Form.{Word};
-ghost use Rattle.mq_model.specs.Printed.{demand_word, first_word, input_word, inputs_words, kind_words, line_text, printed, reads_words, route_words, said_words, spaced};
-ghost use Rattle.mq_model.specs.SaidOf.{demand_by, input_by, kind_by, name_at, names_in, node_by, route_by};
+ghost use Rattle.mq_model.specs.Printed.{demand_word, first_word, input_word, inputs_words, kind_words, line_text, printed, reads_words, route_words, said_words, spaced, stage_words, stages_words};
+ghost use Rattle.mq_model.specs.SaidOf.{demand_by, input_by, kind_by, name_at, names_in, node_by, route_by, stage_by};
 
 use itoa::Buffer;
 use mq_base::{List, OutOfMemory};
-use mq_core::{Demand, Input, Kind, Network, Node, Plan, Route};
+use mq_core::{Demand, Input, Kind, Network, Node, Plan, Route, Stage};
 use std::alloc::Global;
 
 /// The name of a node, by its number; where there is no such node, it is empty.
@@ -118,6 +118,35 @@ fn push_route(text: &mut Vec<u8>, net: &Network, route: &Route) -> Result<(), Ou
     }
 }
 
+/// Adds a slash, and the places and the demand of a stage.
+fn push_stage(text: &mut Vec<u8>, net: &Network, stage: &Stage) -> Result<(), OutOfMemory>
+    ensures { OnOk result (text.new.items ≡ text.old.items ++ spaced (stage_words (stage_by net.now.columns stage.now))) }
+{
+    push_word(text, b"/")?;
+    push_number(text, stage.places as u64)?;
+    push_demand(text, net, &stage.demand)
+}
+
+fn push_further(text: &mut Vec<u8>, net: &Network, stages: &[Stage]) -> Result<(), OutOfMemory>
+    ensures { OnOk result (text.new.items ≡ text.old.items ++ spaced (flat_map stage_words (map (stage_by net.now.columns) stages.now))) }
+{
+    for stage in stages {
+        push_stage(text, net, stage)?;
+    }
+    Ok(())
+}
+
+/// Adds the stages of a tandem, the first without its places.
+fn push_stages(text: &mut Vec<u8>, net: &Network, stages: &[Stage]) -> Result<(), OutOfMemory>
+    ensures { OnOk result (text.new.items ≡ text.old.items ++ spaced (stages_words (map (stage_by net.now.columns) stages.now))) }
+{
+    let [first, further @ ..] = stages else {
+        return Ok(());
+    };
+    push_demand(text, net, &first.demand)?;
+    push_further(text, net, further)
+}
+
 /// The first word of a node's line.
 fn first_word(kind: &Kind) -> &[u8]
     ensures { (columns : List Word) → result.now ≡ first_word (kind_by columns kind.now) }
@@ -127,6 +156,7 @@ fn first_word(kind: &Kind) -> &[u8]
         Kind::Server(_) => b"server",
         Kind::Delay(_) => b"delay",
         Kind::Loss { .. } => b"loss",
+        Kind::Tandem(_) => b"tandem",
         Kind::Split(_) => b"split",
     }
 }
@@ -142,6 +172,7 @@ fn push_kind(text: &mut Vec<u8>, net: &Network, kind: &Kind) -> Result<(), OutOf
             push_number(text, *places as u64)?;
             push_demand(text, net, demand)
         }
+        Kind::Tandem(stages) => push_stages(text, net, stages.as_slice()),
         Kind::Split(route) => push_route(text, net, route),
     }
 }
