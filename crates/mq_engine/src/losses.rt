@@ -108,11 +108,7 @@ fn outs_of(alloc: Global, fates: &List<Fate>) -> Result<Vec<u8>, OutOfMemory>
 }
 
 // When each job leaves: a lost one when it comes.
-fn times_of(
-    alloc: Global,
-    arrive: &List<u64>,
-    fates: &List<Fate>,
-) -> Result<List<u64>, OutOfMemory>
+fn times_of(alloc: Global, arrive: &List<u64>, fates: &List<Fate>) -> Result<List<u64>, OutOfMemory>
     requires { length fates.now ≡ length arrive.now }
     ensures { IfOk result (λ times. times ≡ leaving_times arrive.now fates.now) }
 {

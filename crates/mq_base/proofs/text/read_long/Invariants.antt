@@ -1,5 +1,0 @@
-use Rattle.mq_base.proofs.DigitsLemmas.{ReadsDigits}
-use Rattle.mq_base.proofs.text.read_long.Given as goal
-
-abbrev pub invariant-loop-byte : goal.invariant-loop-byte
-invariant-loop-byte l = ReadsDigits l.text l.byte-index l.value
