@@ -99,10 +99,7 @@ fn stage_places(alloc: Global, stages: &List<Stage>) -> Result<List<u8>, OutOfMe
 }
 
 // What the servers ask for, branch after branch.
-fn branch_demands(
-    alloc: Global,
-    branches: &List<List<Demand>>,
-) -> Result<List<Demand>, OutOfMemory>
+fn branch_demands(alloc: Global, branches: &List<List<Demand>>) -> Result<List<Demand>, OutOfMemory>
     ensures { IfOk result (λ asked. asked ≡ flat_map (λ demands. demands) branches.now) }
 {
     let mut asked = Vec::new(alloc);
@@ -113,10 +110,7 @@ fn branch_demands(
 }
 
 // How many servers each branch has.
-fn branch_servers(
-    alloc: Global,
-    branches: &List<List<Demand>>,
-) -> Result<List<u8>, OutOfMemory>
+fn branch_servers(alloc: Global, branches: &List<List<Demand>>) -> Result<List<u8>, OutOfMemory>
     requires { All (λ demands. length demands ≤ 4) branches.now }
     ensures { IfOk result (λ servers. servers ≡ map length branches.now) }
 {
