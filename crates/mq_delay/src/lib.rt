@@ -47,9 +47,9 @@ fn departures(
     requires { IsSoundLoad arrive.now demands.now }
     ensures { IfOk result (λ departs. departs ≡ delayed arrive.now demands.now) }
 {
-    let mut departs = List::new(alloc);
+    let mut departs = Vec::with_capacity(alloc, arrive.len())?;
     for at in 0..arrive.len() {
-        departs.push(*arrive.get(at) + *demands.get(at))?;
+        departs.push_reserved(*arrive.get(at) + *demands.get(at));
     }
-    Ok(departs)
+    Ok(List::from_vec(departs))
 }

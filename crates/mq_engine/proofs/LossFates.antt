@@ -3,7 +3,7 @@ use Rattle.std.proofs.Common.{◌≡◌, ℕ, zero, suc, ◌+◌, ◌<◌, ◌�
 use Rattle.std.specs.Prelude.{IsTrue, nat_le, slice_get}
 use Rattle.std.proofs.lemmas.Bool.{and_parts}
 use Rattle.std.proofs.lemmas.Bool.Decides.{nat_tests}
-use Rattle.std.proofs.lemmas.List.{append-nil, drop_all}
+use Rattle.std.proofs.lemmas.List.{append-nil, drop_all, length-map}
 use Rattle.mq_core.specs.ColumnLaws.{FatesAreInTime}
 use Rattle.mq_core.specs.Columns.{column_fates, column_outs, column_stream, leaving_time, leaving_times, out_of_fate, picked}
 use Rattle.mq_core.specs.Handling.{demand_of_job}
@@ -113,3 +113,15 @@ pub settled-many : FatesAreInTime → (rows : Rows) (places : ℕ) (demand : Dem
     fates ≡ fates_by settled.admitted settled.departs → length fates ≡ length arrivals.time
 settled-many law rows places demand arrivals demands settled fates e m s f =
     ap length (settled-fates rows places demand arrivals demands settled fates m s f) ∙ (law rows (Loss places demand) arrivals.job arrivals.time e).even
+
+-- as many jobs, times and outputs
+pub picked-jobs : (arrivals : Stream) (fates : List Fate) (job outs : List ℕ) → job ≡ arrivals.job → outs ≡ map out_of_fate fates → length arrivals.job ≡ length arrivals.time → length fates ≡ length arrivals.time → length job ≡ length outs
+picked-jobs arrivals fates job outs j o e m = ap length j ∙ (e ∙ (sym m ∙ sym (ap length o ∙ length-map fates out_of_fate)))
+
+pub picked-times : (arrivals : Stream) (fates : List Fate) (times outs : List ℕ) → times ≡ leaving_times arrivals.time fates → outs ≡ map out_of_fate fates → length fates ≡ length arrivals.time → length times ≡ length outs
+picked-times arrivals fates times outs t o m = ap length t ∙ (leaving-even arrivals.time fates m ∙ (sym m ∙ sym (ap length o ∙ length-map fates out_of_fate)))
+  where
+    leaving-even : (arrives : List ℕ) (fates : List Fate) → length fates ≡ length arrives → length (leaving_times arrives fates) ≡ length arrives
+    leaving-even [] fates e = refl
+    leaving-even (arrive ∷ arrives) [] e = absurd (omega arith)
+    leaving-even (arrive ∷ arrives) (fate ∷ fates) e = ap suc (leaving-even arrives fates (omega arith))

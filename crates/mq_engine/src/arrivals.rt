@@ -66,6 +66,8 @@ fn count_of(node: u32, source: &List<u32>) -> usize
 }
 
 // The rows of a source, in file order.
+// It is not inlined, so that its loop has the registers to itself.
+#[inline(never)]
 fn rows_of(
     alloc: Global,
     node: u32,

@@ -114,6 +114,8 @@ fn routed(
 }
 
 // The demand of each job, in ticks.
+// Its loop, like others below, is not inlined, so that it has the registers to itself.
+#[inline(never)]
 pub fn demands_of(
     alloc: Global,
     net: &Network,
@@ -133,6 +135,7 @@ pub fn demands_of(
 }
 
 // The value of each job that the route looks at; by turns it looks at none.
+#[inline(never)]
 fn values_of(
     alloc: Global,
     net: &Network,
@@ -165,6 +168,7 @@ fn value_by(net: &Network, rows: &Rows, route: &Route, job: u32) -> u64
 }
 
 // The fates of visits that depart at these times.
+#[inline(never)]
 pub fn fates_of(alloc: Global, departs: &List<u64>) -> Result<List<Fate>, OutOfMemory>
     ensures { IfOk result (λ fates. fates ≡ map (λ time. Departs time) departs.now) }
 {

@@ -63,9 +63,6 @@ servers-fit arrive departs demands branches branch server servers are l at h =
     let here = h.here in
     omega arith
 
-pub inside : (arrive departs : List ℕ) (demands : List (List ℕ)) (branches : List ℕ) (branch server : ℕ) → Forking arrive departs demands branches branch server → server ≤ length demands
-inside arrive departs demands branches branch server h = let here = h.here in omega arith
-
 -- the demands of one server at least say when the jobs come
 pub early : (arrive : List ℕ) (demands : List (List ℕ)) (branches : List ℕ) → AreBranches branches demands → All (λ column. IsSoundLoad arrive column) demands → All (λ time. time ≤ 2 ^ 60) arrive
 early arrive demands branches are load = (All-get_or (λ column. IsSoundLoad arrive column) demands 0 [] one load).early

@@ -70,13 +70,13 @@ fn served(alloc: Global, arrive: &List<u64>, demands: &List<u64>) -> Result<List
     requires small { All (λ demand. demand ≤ 2 ^ 36) demands.now }
     ensures { IfOk result (λ departs. departs ≡ lindley 0 arrive.now demands.now) }
 {
-    let mut departs = List::new(alloc);
+    let mut departs = Vec::with_capacity(alloc, arrive.len())?;
     let mut last = 0;
     for at in 0..arrive.len() {
         last = last.max(*arrive.get(at)) + *demands.get(at);
-        departs.push(last)?;
+        departs.push_reserved(last);
     }
-    Ok(departs)
+    Ok(List::from_vec(departs))
 }
 
 // Place by place the later of two times.
@@ -84,11 +84,11 @@ fn later_times(alloc: Global, one: &List<u64>, other: &List<u64>) -> Result<List
     requires { length one.now ≡ length other.now }
     ensures { IfOk result (λ later. later ≡ later_of one.now other.now) }
 {
-    let mut later = List::new(alloc);
+    let mut later = Vec::with_capacity(alloc, one.len())?;
     for at in 0..one.len() {
-        later.push((*one.get(at)).max(*other.get(at)))?;
+        later.push_reserved((*one.get(at)).max(*other.get(at)));
     }
-    Ok(later)
+    Ok(List::from_vec(later))
 }
 
 fn copy_of(alloc: Global, times: &List<u64>) -> Result<List<u64>, OutOfMemory>

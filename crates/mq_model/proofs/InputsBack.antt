@@ -52,6 +52,9 @@ reads_said names columns (node ∷ nodes) =
 outputs_said : (columns : List Word) (k : Kind) → outputs_of (kind_by columns k) ≡ outputs_in k
 outputs_said columns kind.Source = refl
 outputs_said columns (kind.Server d) = refl
+outputs_said columns (kind.Delay d) = refl
+outputs_said columns (kind.Loss places d) = refl
+outputs_said columns (kind.Tandem stages) = refl
 outputs_said columns (kind.Split (route.Modulo outputs column)) = refl
 outputs_said columns (kind.Split (route.Turn outputs)) = refl
 outputs_said columns (kind.Split (route.Cut column thresholds)) = refl
@@ -107,6 +110,9 @@ distinct_back names nodes (i ∷ inputs) distinct size all apart =
 source_said : (columns : List Word) (k : Kind) (own : Word) (reads : List SaidInput) → is_source (said.Node own (kind_by columns k) reads) ≡ is_source_kind k
 source_said columns kind.Source own reads = refl
 source_said columns (kind.Server d) own reads = refl
+source_said columns (kind.Delay d) own reads = refl
+source_said columns (kind.Loss places d) own reads = refl
+source_said columns (kind.Tandem stages) own reads = refl
 source_said columns (kind.Split r) own reads = refl
 
 pub source_back : (names columns : List Word) (nodes : List Node) → list_any (λ (node : Node). is_source_kind node.kind) nodes ≡ true → list_any is_source (map (node_by names columns) nodes) ≡ true

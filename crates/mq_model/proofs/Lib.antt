@@ -6,8 +6,15 @@ pub mod InputsBack
 pub mod NamesBack
 pub mod NetworkBack
 pub mod PlanBack
+pub mod Demands
+pub mod Lists
+pub mod Stages
+pub mod StageFacts
+pub mod PrintedStages
+pub mod PrintedParts
 pub mod PrintedLines
 pub mod PrintedNetwork
+pub mod PrintedWords
 pub mod PrintedText
 pub mod SoundColumns
 pub mod SoundInputs

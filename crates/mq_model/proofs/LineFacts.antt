@@ -6,8 +6,8 @@ use Rattle.std.proofs.lemmas.Slice.Eq.{bytes_eq-Decides}
 use Rattle.mq_model.specs.Form.{◌>>=◌, Form, Word, stop, word, maybe, one, up_to, IsLive}
 use Rattle.mq_model.specs.declared.said.SaidDemand.{SaidDemand}
 use Rattle.mq_model.specs.declared.said.SaidKind.{SaidKind}
-use Rattle.mq_model.specs.declared.said.SaidKind.TheVariants.{Server}
-use Rattle.mq_model.specs.Lines.{key, is_input, input_of, is_up_to, a_name, a_demand, inputs, rising, thresholds, a_route, cut_route, counted_route, modulo_route, way_of, split_kind, node_line, line, is_key, is_from_to, greatest_demand, value_of}
+use Rattle.mq_model.specs.declared.said.SaidKind.TheVariants.{Server, Delay}
+use Rattle.mq_model.specs.Lines.{key, is_input, input_of, is_up_to, a_name, a_demand, inputs, rising, thresholds, a_route, cut_route, counted_route, modulo_route, way_of, loss_kind, a_stage, stages, stages_behind, tandem_kind, split_kind, node_line, kind_line, line, is_key, is_from_to, greatest_demand, value_of}
 
 live_weak : {A : Type 0} (must : Bool) (f : Form A) → IsLive true f → IsLive must f
 unfolding IsLive
@@ -105,11 +105,41 @@ live_split = live_then true a_route _ live_route (λ route. live_stop _)
 live_plain : (k : SaidDemand → SaidKind) → IsLive true (node_line (a_demand >>= λ d. stop (k d)))
 live_plain k = live_node _ (live_then true a_demand _ live_demand (λ d. live_stop _))
 
+live_loss : IsLive true loss_kind
+unfolding loss_kind
+live_loss = live_then true (one (is_from_to 1 1048576) value_of) _ (live_one _ _ (codes "1") refl) (λ places. live_then true a_demand _ live_demand (λ d. live_stop _))
+
+live_stage : IsLive true a_stage
+unfolding a_stage
+live_stage = live_then true (one (is_from_to 1 4) value_of) _ (live_one _ _ (codes "1") refl) (λ places. live_then true a_demand _ live_demand (λ d. live_stop _))
+
+live_stages : (n : ℕ) → IsLive true (stages n)
+unfolding stages
+live_stages zero = live_stop _
+live_stages (suc n) =
+    live_maybe true _ _ _ (codes "/") refl (λ _ _. live_then true a_stage _ live_stage (λ stage. live_then true (stages n) _ (live_stages n) (λ more. live_stop _))) (live_weak false (stop _) (live_stop _))
+
+live_stages_behind : (first : SaidDemand) → IsLive true (stages_behind first)
+unfolding stages_behind
+live_stages_behind first =
+    live_behind (codes "/") _ (λ _. live_then true a_stage _ live_stage (λ second. live_then true (stages 2) _ (live_stages 2) (λ more. live_stop _)))
+
+live_tandem : IsLive true tandem_kind
+unfolding tandem_kind
+live_tandem = live_then true a_demand _ live_demand (λ first. live_then true (stages_behind first) _ (live_stages_behind first) (λ all. live_stop _))
+
+live_kinds : IsLive false kind_line
+unfolding kind_line
+live_kinds =
+    live_maybe false _ _ _ (codes "server") refl (λ _ _. live_plain Server)
+    (live_maybe false _ _ _ (codes "delay") refl (λ _ _. live_plain Delay)
+    (live_maybe false _ _ _ (codes "loss") refl (λ _ _. live_node _ live_loss)
+    (live_maybe false _ _ _ (codes "tandem") refl (λ _ _. live_node _ live_tandem)
+    (live_word false _ _ (codes "split") refl (λ _ _. live_node _ live_split)))))
+
 -- the whole table can be completed
 pub live_line : IsLive true line
 unfolding line
 live_line =
     live_maybe true _ _ _ (codes "bound") refl (λ _ _. live_one _ _ (codes "0") refl)
-    (live_maybe false _ _ _ (codes "source") refl (λ _ _. live_then true a_name _ live_name (λ name. live_stop _))
-    (live_maybe false _ _ _ (codes "server") refl (λ _ _. live_plain Server)
-    (live_word false _ _ (codes "split") refl (λ _ _. live_node _ live_split))))
+    (live_maybe false _ _ _ (codes "source") refl (λ _ _. live_then true a_name _ live_name (λ name. live_stop _)) live_kinds)

@@ -9,7 +9,6 @@ use Rattle.mq_graph.specs.Rank.{AreWired}
 use Rattle.mq_core.specs.Names.{is_name}
 use Rattle.mq_core.specs.Sound.{are_distinct, columns_of_kind, is_output, is_sound, is_sound_kind, is_sound_node, is_within, mentions_from, same_input}
 use Rattle.mq_core.specs.Wiring.{is_source_kind}
-use Rattle.mq_core.specs.declared.model.Demand.TheVariants as demand
 use Rattle.mq_core.specs.declared.model.Input.{Input}
 use Rattle.mq_core.specs.declared.model.Kind.{Kind}
 use Rattle.mq_core.specs.declared.model.Kind.TheVariants as kind
@@ -20,6 +19,8 @@ use Rattle.mq_model.specs.Form.{Word}
 use Rattle.mq_model.specs.NetworkOf.{input_in, kind_in, network_of, nodes_in, nodes_of, number_in}
 use Rattle.mq_model.specs.Said.{columns_of, distinct_after, mentioned, mentions_of_kind, names_of}
 use Rattle.mq_model.specs.SaidOf.{input_by, kind_by, name_at, names_in, node_by, saids_in}
+use Rattle.mq_model.proofs.Demands.{demand_again, demand_mentions}
+use Rattle.mq_model.proofs.Stages.{stages_again, stages_mentions}
 use Rattle.mq_model.proofs.NamesBack.{columns_again, number_again}
 
 pub names_said : (names columns : List Word) (nodes : List Node) → names_of (map (node_by names columns) nodes) ≡ map (λ (node : Node). node.name) nodes
@@ -28,8 +29,10 @@ names_said names columns (node ∷ nodes) = ap (λ more. node.name ∷ more) (na
 
 mentions_said : (columns : List Word) (k : Kind) → mentions_of_kind (kind_by columns k) ≡ map (name_at columns) (columns_of_kind k)
 mentions_said columns kind.Source = refl
-mentions_said columns (kind.Server (demand.Column column)) = refl
-mentions_said columns (kind.Server (demand.Fixed n)) = refl
+mentions_said columns (kind.Server d) = demand_mentions columns d
+mentions_said columns (kind.Delay d) = demand_mentions columns d
+mentions_said columns (kind.Loss places d) = demand_mentions columns d
+mentions_said columns (kind.Tandem stages) = stages_mentions columns stages
 mentions_said columns (kind.Split (route.Modulo outputs column)) = refl
 mentions_said columns (kind.Split (route.Turn outputs)) = refl
 mentions_said columns (kind.Split (route.Cut column thresholds)) = refl
@@ -44,8 +47,10 @@ all_mentions_said names columns (node ∷ nodes) =
 -- Names become the numbers that they came from.
 kind_again : (columns : List Word) (k : Kind) → are_distinct bytes_eq columns ≡ true → is_sound_kind (length columns) k ≡ true → kind_in columns (kind_by columns k) ≡ k
 kind_again columns kind.Source distinct sound = refl
-kind_again columns (kind.Server (demand.Column column)) distinct sound = ap (λ n. kind.Server (demand.Column n)) (number_again columns column [] distinct (ltb-true _ _ sound))
-kind_again columns (kind.Server (demand.Fixed n)) distinct sound = refl
+kind_again columns (kind.Server d) distinct sound = ap (λ d. kind.Server d) (demand_again columns d distinct sound)
+kind_again columns (kind.Delay d) distinct sound = ap (λ d. kind.Delay d) (demand_again columns d distinct sound)
+kind_again columns (kind.Loss places d) distinct sound = ap (λ d. kind.Loss places d) (demand_again columns d distinct (and_parts _ _ sound).1)
+kind_again columns (kind.Tandem stages) distinct sound = ap (λ all. kind.Tandem all) (stages_again columns stages distinct sound)
 kind_again columns (kind.Split (route.Modulo outputs column)) distinct sound =
     ap (λ n. kind.Split (route.Modulo outputs n)) (number_again columns column [] distinct (ltb-true _ _ (and_parts _ _ sound).1))
 kind_again columns (kind.Split (route.Turn outputs)) distinct sound = refl

@@ -1,127 +1,28 @@
 -- The words of a line say it again.
-use Rattle.std.proofs.Common.{rules, ◌≡◌, ◌∙◌, sym, ap, refl, subst, ℕ, suc, ◌+◌, ◌-◌, ◌<◌, ◌≤◌, ◌^◌, List, [], ◌∷◌, ◌++◌, length, take, get_or, true, false, Ok, arith, inl, inr, length-append}
+use Rattle.std.proofs.Common.{◌≡◌, ◌∙◌, sym, ap, refl, subst, ℕ, ◌-◌, ◌<◌, ◌≤◌, ◌^◌, List, [], ◌∷◌, ◌++◌, length, true, false, Ok, arith}
 use Rattle.std.specs.Prelude.{codes, decimal, ◌==◌, nat_lt, nat_le, map}
-use Rattle.std.specs.Char.{is_ascii_digit}
 use Rattle.std.specs.List.{list_all}
-use Rattle.std.proofs.Math.Seq.{take-append_seam}
-use Rattle.std.proofs.lemmas.Bool.{cases_Bool, and_parts, and_from, and_left, and_right, or_left, or_right, leb-true, le-leb, eq-eqb, eqb-true}
-use Rattle.std.proofs.lemmas.Fmt.{decimal_digit, decimal_nonempty, digits_decimal, digits_value-decimal, length-decimal-le}
-use Rattle.std.proofs.lemmas.Grind.{common_steps}
-use Rattle.std.proofs.lemmas.List.Folds.{list_all-append}
-use Rattle.std.proofs.lemmas.Str.Parse.{IsNumeralModel, numerals_by_value}
-use Rattle.std.specs.Str.Parse.{digits_value}
-use Rattle.mq_base.specs.Text.{is_number}
-use Rattle.mq_core.specs.Names.{is_name, is_name_byte}
+use Rattle.std.proofs.lemmas.Bool.{and_parts, and_from, and_right, leb-true, eqb-true}
+use Rattle.std.proofs.lemmas.Fmt.{decimal_digit}
+use Rattle.mq_core.specs.Names.{is_name}
 use Rattle.mq_core.specs.Sound.{is_within, rises_from}
-use Rattle.mq_model.specs.Form.{Form, Word, one, up_to, read, whole}
-use Rattle.mq_model.specs.Lines.{a_demand, a_name, a_route, bound_line, counted_route, cut_route, demand_of, ends_in_output, greatest_demand, input_of, inputs, is_above, is_demand, is_from_to, is_input, is_key, is_up_to, last_byte, line, modulo_route, node_line, rising, server_kind, source_line, split_kind, thresholds, value_of, way_of}
+use Rattle.mq_model.specs.Form.{Form, Word, one, read, whole}
+use Rattle.mq_model.specs.Lines.{a_route, bound_line, counted_route, cut_route, greatest_demand, inputs, is_above, is_from_to, is_key, is_up_to, line, modulo_route, node_line, rising, delay_kind, loss_kind, tandem_kind, server_kind, source_line, split_kind, thresholds, value_of, way_of}
 use Rattle.mq_model.specs.Printed.{demand_word, input_word, inputs_words, route_words, said_words}
 use Rattle.mq_model.specs.Said.{reads_of}
 use Rattle.mq_model.specs.declared.said.SaidDemand.{SaidDemand}
-use Rattle.mq_model.specs.declared.said.SaidDemand.TheVariants.{Column, Fixed}
 use Rattle.mq_model.specs.declared.said.SaidInput.{SaidInput}
 use Rattle.mq_model.specs.declared.said.SaidKind.{SaidKind}
-use Rattle.mq_model.specs.declared.said.SaidKind.TheVariants.{Source, Server, Split}
+use Rattle.mq_model.specs.declared.said.SaidKind.TheVariants.{Source, Server, Delay, Loss, Tandem, Split}
 use Rattle.mq_model.specs.declared.said.SaidRoute.{SaidRoute}
 use Rattle.mq_model.specs.declared.said.SaidRoute.TheVariants.{Modulo, Turn, Cut}
 use Rattle.mq_model.specs.declared.said.Said.{Said}
 use Rattle.mq_model.specs.declared.said.Said.TheVariants.{Bound, Node}
 use Rattle.mq_model.proofs.FormFacts.{read_then}
-use Rattle.mq_model.proofs.ReadFacts.{inputs_first, line_bound, line_server, line_source, line_split, read_one_yes, rising_no, rising_yes, route_counted, route_cut, thresholds_first, up_to_none, up_to_yes, way_mod, way_turn, with_front}
+use Rattle.mq_model.proofs.ReadFacts.{kind_delay, kind_loss, kind_server, kind_split, kind_tandem, line_bound, line_kind, line_source, read_one_yes, rising_no, rising_yes, route_counted, route_cut, thresholds_first, way_mod, way_turn, with_front}
+use Rattle.mq_model.proofs.PrintedStages.{tandem_again}
+use Rattle.mq_model.proofs.PrintedParts.{a_demand_again, inputs_again, name_again, number_again, within_again, AreInputs}
 use Rattle.mq_model.proofs.SoundLines.{AreSoundThresholds, IsSoundDemand, IsSoundRoute, IsSoundSaid}
-
-own : IsNumeralModel (λ ds. list_all is_ascii_digit ds ≡ true) (digits_value 10)
-own = numerals_by_value _ (search rules)
-
--- a number in decimal is a number, with its value
-pub number_again : (n limit : ℕ) → n ≤ limit → limit < 10 ^ 19 → (is_number (decimal n) limit ≡ true) × (value_of (decimal n) ≡ n)
-number_again n limit h small =
-    let fits : n < 2 ^ 64 = omega arith in
-    let value = digits_value-decimal own n fits in
-    let digits = digits_decimal own n fits in
-    let short = length-decimal-le 19 n (omega arith) (omega arith) fits in
-    let some = decimal_nonempty n fits in
-    (grind (arith, common_steps, value, digits, short, some), value)
-
-name_begins : (b : ℕ) (more : List ℕ) → is_name (b ∷ more) ≡ true → (b == 61) ≡ false
-name_begins b more h = grind (arith, common_steps, h)
-
-pub demand_again : (d : SaidDemand) → IsSoundDemand d → (is_demand (demand_word d) ≡ true) × (demand_of (demand_word d) ≡ d)
-demand_again (Column []) h = absurd (cc)
-demand_again (Column (b ∷ more)) h = let other = name_begins b more h in rw other (h, refl)
-demand_again (Fixed n) h = let again = number_again n (2 ^ 36) (leb-true _ _ h) (omega arith) in (again.0, ap (λ v. Fixed v) again.1)
-
--- Inputs: a name, and an output.
-abbrev pub IsInput : SaidInput → Type 0
-IsInput input = (is_name input.name ≡ true) × (input.out ≤ 7)
-
-abbrev pub AreInputs : List SaidInput → Type 0
-AreInputs [] = Unit {0}
-AreInputs (input ∷ inputs) = IsInput input × AreInputs inputs
-
-get_first : (front : List ℕ) (a b : ℕ) → get_or (front ++ a ∷ b ∷ []) (length front) 0 ≡ a
-get_first [] a b = refl
-get_first (x ∷ front) a b = get_first front a b
-
-get_second : (front : List ℕ) (a b : ℕ) → get_or (front ++ a ∷ b ∷ []) (suc (length front)) 0 ≡ b
-get_second [] a b = refl
-get_second (x ∷ front) a b = get_second front a b
-
-point_is_no_name : (name : Word) (b : ℕ) → is_name (name ++ 46 ∷ b ∷ []) ≡ false
-point_is_no_name [] b = refl
-point_is_no_name (c ∷ more) b =
-    let bytes : list_all is_name_byte (more ++ 46 ∷ b ∷ []) ≡ false = list_all-append is_name_byte more (46 ∷ b ∷ []) ∙ and_right _ _ refl in
-    and_left _ _ (and_left _ _ (and_right _ _ bytes))
-
-point_again : (name : Word) (out : ℕ) → is_name name ≡ true → out ≤ 7 → (is_input (name ++ 46 ∷ (48 + out) ∷ []) ≡ true) × (input_of (name ++ 46 ∷ (48 + out) ∷ []) ≡ record { name = name; out = out })
-point_again name out named small =
-    let w : Word = name ++ 46 ∷ (48 + out) ∷ [] in
-    let size : length w ≡ length name + 2 = length-append name (46 ∷ (48 + out) ∷ []) in
-    let at_point : length w - 2 ≡ length name = omega arith in
-    let at_last : length w - 1 ≡ suc (length name) = omega arith in
-    let point : get_or w (length w - 2) 0 ≡ 46 = ap (λ k. get_or w k 0) at_point ∙ get_first name 46 (48 + out) in
-    let last : last_byte w ≡ 48 + out = ap (λ k. get_or w k 0) at_last ∙ get_second name 46 (48 + out) in
-    let front : take (length w - 2) w ≡ name = ap (λ k. take k w) at_point ∙ take-append_seam name (46 ∷ (48 + out) ∷ []) in
-    let ends : ends_in_output w ≡ true =
-    and_from _ _ (and_from _ _ (and_from _ _ (le-leb 2 (length w) (omega arith)) (eq-eqb _ _ point)) (le-leb 48 (last_byte w) (omega arith))) (le-leb (last_byte w) 55 (omega arith)) in
-    let digit : last_byte w - 48 ≡ out = omega arith in
-    (or_right _ _ (and_from _ _ ends (subst (λ v. is_name v ≡ true) (sym front) named)), by_point w name out (point_is_no_name name (48 + out)) front digit)
-  where
-    by_point : (w name : Word) (out : ℕ) → is_name w ≡ false → take (length w - 2) w ≡ name → last_byte w - 48 ≡ out → input_of w ≡ record { name = name; out = out }
-    by_point w name out none front digit = rw none (ap (λ n. record { name = n; out = last_byte w - 48 }) front ∙ ap (λ k. record { name = name; out = k }) digit)
-
-pub input_again : (input : SaidInput) → IsInput input → (is_input (input_word input) ≡ true) × (input_of (input_word input) ≡ input)
-input_again input h =
-    elim (cases_Bool (input.out == 0)) [
-      | inl first ↦ let zero_is : input.out ≡ 0 = eqb-true _ _ first in rw first (or_left _ _ h.0, rw h.0 (ap (λ k. record { name = input.name; out = k }) (sym zero_is)))
-      | inr other ↦ let digit = decimal_digit input.out (omega arith) in rw (other, digit) (point_again input.name input.out h.0 h.1)
-    ]
-
-up_to_again : (n : ℕ) (reads : List SaidInput) → length reads ≤ n → AreInputs reads → read (up_to n is_input input_of) (map input_word reads) ≡ Ok (reads, [])
-up_to_again n [] few are = up_to_none n is_input input_of [] refl
-up_to_again n (input ∷ reads) few are =
-    let some : 0 < n = omega arith in
-    let fits : length reads ≤ n - 1 = omega arith in
-    let again = input_again input are.0 in
-    up_to_yes n is_input input_of (input_word input ∷ map input_word reads) (map input_word reads) (input_word input) some refl again.0
-    ∙ ap (with_front (input_of (input_word input) ∷ [])) (up_to_again (n - 1) reads fits are.1) ∙ ap (λ first. Ok (first ∷ reads, [])) again.1
-
-inputs_again : (reads : List SaidInput) → is_within 1 8 (length reads) ≡ true → AreInputs reads → read inputs (inputs_words reads) ≡ Ok (reads, [])
-inputs_again [] count are = absurd (cc)
-inputs_again (input ∷ reads) count are =
-    let most : length (input ∷ reads) ≤ 8 = leb-true _ _ (and_parts _ _ count).1 in
-    let fits : length reads ≤ 7 = omega arith in
-    let again = input_again input are.0 in
-    inputs_first (inputs_words (input ∷ reads)) (input_word input ∷ map input_word reads) (map input_word reads) (codes "from") (input_word input) refl refl refl again.0
-    ∙ ap (with_front (input_of (input_word input) ∷ [])) (up_to_again 7 reads fits are.1) ∙ ap (λ first. Ok (first ∷ reads, [])) again.1
-
-name_again : (name : Word) (more : List Word) → is_name name ≡ true → read a_name (name ∷ more) ≡ Ok (name, more)
-name_again name more named = read_one_yes is_name (λ w. w) (name ∷ more) more name refl named
-
-a_demand_again : (d : SaidDemand) (more : List Word) → IsSoundDemand d → read a_demand (demand_word d ∷ more) ≡ Ok (d, more)
-a_demand_again d more sound =
-    let again = demand_again d sound in
-    read_one_yes is_demand demand_of (demand_word d ∷ more) more (demand_word d) refl again.0 ∙ ap (λ said. Ok (said, more)) again.1
 
 -- Thresholds, before the word `from`.
 rising_again : (n last : ℕ) (more : List ℕ) (rest : List Word) → length more ≤ n → rises_from last more ≡ true → list_all (λ threshold. nat_le threshold (2 ^ 36)) more ≡ true
@@ -151,13 +52,6 @@ thresholds_again (t ∷ more) rest sound =
     thresholds_first (decimal t ∷ behind) behind t first ∙ ap (with_front (t ∷ [])) (rising_again 6 t more rest fits sound.1 all.1)
 
 -- Routes.
-outputs_again : (outputs : ℕ) (more : List Word) → is_within 2 8 outputs ≡ true → read (one (is_from_to 2 8) value_of) (decimal outputs ∷ more) ≡ Ok (outputs, more)
-outputs_again outputs more within =
-    let both = and_parts _ _ within in
-    let again = number_again outputs 8 (leb-true _ _ both.1) (omega arith) in
-    let passes : is_from_to 2 8 (decimal outputs) ≡ true = and_from _ _ again.0 (subst (λ v. nat_le 2 v ≡ true) (sym again.1) both.0) in
-    read_one_yes (is_from_to 2 8) value_of (decimal outputs ∷ more) more (decimal outputs) refl passes ∙ ap (λ v. Ok (v, more)) again.1
-
 no_cut : (outputs : ℕ) → is_within 2 8 outputs ≡ true → is_key (codes "cut") (decimal outputs) ≡ false
 no_cut outputs within =
     let most : outputs ≤ 8 = leb-true _ _ (and_parts _ _ within).1 in
@@ -168,7 +62,7 @@ counted_again : (route : SaidRoute) (outputs : ℕ) (ws rest : List Word) → is
 unfolding counted_route
 counted_again route outputs ws rest within way =
     route_counted (decimal outputs ∷ ws) ws (decimal outputs) refl (no_cut outputs within)
-    ∙ rw (read_then (one (is_from_to 2 8) value_of) way_of (decimal outputs ∷ ws), outputs_again outputs ws within) way
+    ∙ rw (read_then (one (is_from_to 2 8) value_of) way_of (decimal outputs ∷ ws), within_again 2 8 outputs ws (omega arith) within) way
 
 modulo_again : (outputs : ℕ) (column : Word) (rest : List Word) → is_name column ≡ true → read (modulo_route outputs) (column ∷ rest) ≡ Ok (Modulo outputs column, rest)
 unfolding modulo_route read
@@ -200,6 +94,14 @@ server_again : (d : SaidDemand) (more : List Word) → IsSoundDemand d → read 
 unfolding read
 server_again d more sound = rw (read_then, a_demand_again d more sound) refl
 
+delay_again : (d : SaidDemand) (more : List Word) → IsSoundDemand d → read delay_kind (demand_word d ∷ more) ≡ Ok (Delay d, more)
+unfolding read
+delay_again d more sound = rw (read_then, a_demand_again d more sound) refl
+
+loss_again : (places : ℕ) (d : SaidDemand) (more : List Word) → is_within 1 1048576 places ≡ true → IsSoundDemand d → read loss_kind (decimal places ∷ demand_word d ∷ more) ≡ Ok (Loss places d, more)
+unfolding loss_kind read
+loss_again places d more within sound = rw (read_then, within_again 1 1048576 places (demand_word d ∷ more) (omega arith) within, read_then, a_demand_again d more sound) refl
+
 split_again : (route : SaidRoute) (rest : List Word) → IsSoundRoute route → read split_kind (route_words route ++ codes "from" ∷ rest) ≡ Ok (Split route, codes "from" ∷ rest)
 unfolding read
 split_again route rest sound = rw (read_then a_route _ (route_words route ++ codes "from" ∷ rest), route_again route rest sound) refl
@@ -223,10 +125,17 @@ line_again (Bound n) sound are = ap whole (line_bound (codes "bound" ∷ decimal
 line_again (Node name Source reads) sound are =
     ap whole (line_source (codes "source" ∷ name ∷ []) (name ∷ []) (codes "source") refl refl refl ∙ source_again name sound.0) ∙ ap (λ none. Ok (Node name Source none)) (sym (no_reads reads sound.2))
 line_again (Node name (Server d) reads) sound are =
-    let ws : List Word = name ∷ demand_word d ∷ inputs_words reads in
-    ap whole (line_server (codes "server" ∷ ws) ws (codes "server") refl refl refl refl
-    ∙ node_again name server_kind (Server d) reads (demand_word d ∷ inputs_words reads) sound.0 (server_again d (inputs_words reads) sound.1) (inputs_again reads sound.2 are))
+    ap whole (line_kind _ _ (codes "server") refl refl refl ∙ kind_server _ _ (codes "server") refl refl
+    ∙ node_again name server_kind (Server d) reads _ sound.0 (server_again d (inputs_words reads) sound.1) (inputs_again reads sound.2 are))
+line_again (Node name (Delay d) reads) sound are =
+    ap whole (line_kind _ _ (codes "delay") refl refl refl ∙ kind_delay _ _ (codes "delay") refl refl refl
+    ∙ node_again name delay_kind (Delay d) reads _ sound.0 (delay_again d (inputs_words reads) sound.1) (inputs_again reads sound.2 are))
+line_again (Node name (Loss places d) reads) sound are =
+    ap whole (line_kind _ _ (codes "loss") refl refl refl ∙ kind_loss _ _ (codes "loss") refl refl refl refl
+    ∙ node_again name loss_kind (Loss places d) reads _ sound.0 (loss_again places d (inputs_words reads) sound.1.0 sound.1.1) (inputs_again reads sound.2 are))
+line_again (Node name (Tandem stages) reads) sound are =
+    ap whole (line_kind _ _ (codes "tandem") refl refl refl ∙ kind_tandem _ _ (codes "tandem") refl refl refl refl refl
+    ∙ node_again name tandem_kind (Tandem stages) reads _ sound.0 (tandem_again stages (map input_word reads) sound.1) (inputs_again reads sound.2 are))
 line_again (Node name (Split route) reads) sound are =
-    let ws : List Word = name ∷ (route_words route ++ inputs_words reads) in
-    ap whole (line_split (codes "split" ∷ ws) ws (codes "split") refl refl refl refl refl
-    ∙ node_again name split_kind (Split route) reads (route_words route ++ inputs_words reads) sound.0 (split_again route (map input_word reads) sound.1) (inputs_again reads sound.2 are))
+    ap whole (line_kind _ _ (codes "split") refl refl refl ∙ kind_split _ _ (codes "split") refl refl refl refl refl refl
+    ∙ node_again name split_kind (Split route) reads _ sound.0 (split_again route (map input_word reads) sound.1) (inputs_again reads sound.2 are))

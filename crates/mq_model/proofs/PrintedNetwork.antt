@@ -1,12 +1,11 @@
 -- What the lines of a sound network say is in its ranges.
-use Rattle.std.proofs.Common.{◌≡◌, refl, ℕ, zero, suc, ◌<◌, ◌≤◌, List, [], ◌∷◌, length, get_or, Bool, true, arith}
+use Rattle.std.proofs.Common.{◌≡◌, refl, ℕ, zero, suc, ◌<◌, ◌≤◌, List, [], ◌∷◌, length, true, arith}
 use Rattle.std.specs.Prelude.{map, slice_get}
 use Rattle.std.specs.List.{list_all}
 use Rattle.std.proofs.lemmas.Bool.{and_parts, and_from, leb-true, ltb-true}
 use Rattle.std.proofs.lemmas.List.{length-map}
 use Rattle.mq_core.specs.Names.{is_name}
 use Rattle.mq_core.specs.Sound.{is_output, is_sound, is_sound_count, is_sound_kind, is_sound_node, outputs_in}
-use Rattle.mq_core.specs.declared.model.Demand.TheVariants as demand
 use Rattle.mq_core.specs.declared.model.Input.{Input}
 use Rattle.mq_core.specs.declared.model.Kind.{Kind}
 use Rattle.mq_core.specs.declared.model.Kind.TheVariants as kind
@@ -18,13 +17,10 @@ use Rattle.mq_model.specs.Said.{reads_of}
 use Rattle.mq_model.specs.SaidOf.{input_by, kind_by, names_in, node_by, saids_in}
 use Rattle.mq_model.specs.declared.said.Said.{Said}
 use Rattle.mq_model.proofs.NetworkBack.{has_parts, output_within}
-use Rattle.mq_model.proofs.PrintedLines.{AreInputs}
+use Rattle.mq_model.proofs.Demands.{all_at, demand_said}
+use Rattle.mq_model.proofs.Stages.{stages_said}
+use Rattle.mq_model.proofs.PrintedParts.{AreInputs}
 use Rattle.mq_model.proofs.SoundLines.{IsSoundKind, IsSoundSaid, is_sound_reads}
-
-pub all_at : {X : Type 0} (p : X → Bool) (xs : List X) (k : ℕ) (d : X) → list_all p xs ≡ true → k < length xs → p (get_or xs k d) ≡ true
-all_at p [] k d h within = absurd (omega arith)
-all_at p (x ∷ xs) zero d h within = (and_parts _ _ h).0
-all_at p (x ∷ xs) (suc k) d h within = all_at p xs k d (and_parts _ _ h).1 (omega arith)
 
 nodes_named : (columns : ℕ) (all nodes : List Node) → list_all (is_sound_node columns all) nodes ≡ true → list_all is_name (map (λ (node : Node). node.name) nodes) ≡ true
 nodes_named columns all [] h = refl
@@ -33,6 +29,9 @@ nodes_named columns all (node ∷ nodes) h = let both = and_parts _ _ h in let o
 few_outputs : (columns : ℕ) (k : Kind) → is_sound_kind columns k ≡ true → outputs_in k ≤ 8
 few_outputs columns kind.Source h = omega arith
 few_outputs columns (kind.Server d) h = omega arith
+few_outputs columns (kind.Delay d) h = omega arith
+few_outputs columns (kind.Loss places d) h = omega arith
+few_outputs columns (kind.Tandem stages) h = omega arith
 few_outputs columns (kind.Split (route.Modulo outputs column)) h = leb-true _ _ (and_parts _ _ (and_parts _ _ h).0).1
 few_outputs columns (kind.Split (route.Turn outputs)) h = leb-true _ _ (and_parts _ _ h).1
 few_outputs columns (kind.Split (route.Cut column thresholds)) h =
@@ -56,8 +55,10 @@ small_output columns all (node ∷ nodes) (suc n) out h output = small_output co
 
 kind_said : (columns : List Word) (k : Kind) → list_all is_name columns ≡ true → is_sound_kind (length columns) k ≡ true → IsSoundKind (kind_by columns k)
 kind_said columns kind.Source named h = tt
-kind_said columns (kind.Server (demand.Column column)) named h = all_at is_name columns column [] named (ltb-true _ _ h)
-kind_said columns (kind.Server (demand.Fixed n)) named h = h
+kind_said columns (kind.Server d) named h = demand_said columns d named h
+kind_said columns (kind.Delay d) named h = demand_said columns d named h
+kind_said columns (kind.Loss places d) named h = let both = and_parts _ _ h in (both.0, demand_said columns d named both.1)
+kind_said columns (kind.Tandem stages) named h = stages_said columns stages named h
 kind_said columns (kind.Split (route.Modulo outputs column)) named h = let both = and_parts _ _ h in (both.0, all_at is_name columns column [] named (ltb-true _ _ both.1))
 kind_said columns (kind.Split (route.Turn outputs)) named h = h
 kind_said columns (kind.Split (route.Cut column thresholds)) named h =
@@ -69,6 +70,9 @@ kind_said columns (kind.Split (route.Cut column thresholds)) named h =
 count_said : (columns : List Word) (k : Kind) (n : ℕ) → is_sound_count k n ≡ true → is_sound_reads (kind_by columns k) n ≡ true
 count_said columns kind.Source n h = h
 count_said columns (kind.Server d) n h = h
+count_said columns (kind.Delay d) n h = h
+count_said columns (kind.Loss places d) n h = h
+count_said columns (kind.Tandem stages) n h = h
 count_said columns (kind.Split r) n h = h
 
 inputs_said : (names : List Word) (columns : ℕ) (all : List Node) (inputs : List Input) → list_all is_name names ≡ true → length names ≡ length all → list_all (is_sound_node columns all) all ≡ true

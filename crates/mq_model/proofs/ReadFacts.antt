@@ -7,7 +7,7 @@ use Rattle.std.specs.Str.{bytes_eq}
 use Rattle.std.proofs.lemmas.Bool.{cases_Bool}
 use Rattle.mq_base.specs.Text.{is_number, number_of}
 use Rattle.mq_model.specs.declared.said.SaidRoute.TheVariants.{Turn}
-use Rattle.mq_model.specs.Lines.{a_route, counted_route, cut_route, greatest_demand, is_above, is_from_to, is_up_to, modulo_route, rising, thresholds, value_of, way_of, bound_line, inputs, input_of, is_input, is_key, line, node_line, server_kind, source_line, split_kind}
+use Rattle.mq_model.specs.Lines.{a_route, counted_route, cut_route, greatest_demand, is_above, is_from_to, is_up_to, modulo_route, rising, thresholds, value_of, way_of, bound_line, inputs, input_of, is_input, is_key, kind_line, line, node_line, delay_kind, loss_kind, server_kind, tandem_kind, source_line, split_kind}
 use Rattle.mq_core.specs.Names.{is_name, is_name_byte}
 use Rattle.std.proofs.lemmas.Grind.{common_steps}
 use Rattle.mq_model.specs.Form.{◌>>=◌, Form, Word, stop, word, maybe, one, read, up_to, whole}
@@ -131,6 +131,15 @@ pub stops : {X Y : Type 0} (e : Stop) (left : List Word) (part : Result (X × Li
 stops why.Word left part all reads follows = follows left reads
 stops why.Memory left part all reads follows = tt
 
+-- a value made of what a part says
+pub then_stop : {A B : Type 0} (f : Form A) (value : A → B) (ws rest : List Word) (a : A) → read f ws ≡ Ok (a, rest) → read (f >>= λ a. stop (value a)) ws ≡ Ok (value a, rest)
+unfolding read
+then_stop f value ws rest a e = rw (read_then, e) refl
+
+pub then_fault : {A B : Type 0} (f : Form A) (more : A → Form B) (ws left : List Word) → read f ws ≡ Err left → read (f >>= more) ws ≡ Err left
+unfolding read
+then_fault f more ws left e = rw (read_then, e) refl
+
 -- the first way, or the second
 pub read_maybe_yes : {A : Type 0} (p : Word → Bool) (f : Word → Form A) (g : Form A) (all ws : List Word) (w : Word) → all ≡ w ∷ ws → p w ≡ true → read (maybe p f g) all ≡ read (f w) ws
 unfolding read
@@ -166,20 +175,43 @@ pub line_source : (all ws : List Word) (w : Word) → all ≡ w ∷ ws → is_ke
 unfolding line
 line_source all ws w e a h = read_maybe_no _ _ _ all ws w e a ∙ read_maybe_yes _ _ _ all ws w e h
 
-pub line_server : (all ws : List Word) (w : Word) → all ≡ w ∷ ws → is_key (codes "bound") w ≡ false → is_key (codes "source") w ≡ false → is_key (codes "server") w ≡ true
-    → read line all ≡ read (node_line server_kind) ws
+pub line_kind : (all ws : List Word) (w : Word) → all ≡ w ∷ ws → is_key (codes "bound") w ≡ false → is_key (codes "source") w ≡ false → read line all ≡ read kind_line all
 unfolding line
-line_server all ws w e a b h = read_maybe_no _ _ _ all ws w e a ∙ read_maybe_no _ _ _ all ws w e b ∙ read_maybe_yes _ _ _ all ws w e h
+line_kind all ws w e a b = read_maybe_no _ _ _ all ws w e a ∙ read_maybe_no _ _ _ all ws w e b
 
-pub line_split : (all ws : List Word) (w : Word) → all ≡ w ∷ ws → is_key (codes "bound") w ≡ false → is_key (codes "source") w ≡ false → is_key (codes "server") w ≡ false → is_key (codes "split") w ≡ true
-    → read line all ≡ read (node_line split_kind) ws
-unfolding line
-line_split all ws w e a b c h = read_maybe_no _ _ _ all ws w e a ∙ read_maybe_no _ _ _ all ws w e b ∙ read_maybe_no _ _ _ all ws w e c ∙ read_word_yes _ _ all ws w e h
+pub line_none : (all : List Word) → all ≡ [] → read line all ≡ Err all
+unfolding line kind_line
+line_none all e =
+    read_maybe_none _ _ _ all e ∙ read_maybe_none _ _ _ all e ∙ read_maybe_none _ _ _ all e ∙ read_maybe_none _ _ _ all e ∙ read_maybe_none _ _ _ all e ∙ read_maybe_none _ _ _ all e ∙ read_word_none _ _ all e
 
-pub line_other : (all ws : List Word) (w : Word) → all ≡ w ∷ ws → is_key (codes "bound") w ≡ false → is_key (codes "source") w ≡ false → is_key (codes "server") w ≡ false → is_key (codes "split") w ≡ false
-    → read line all ≡ Err all
-unfolding line
-line_other all ws w e a b c h = read_maybe_no _ _ _ all ws w e a ∙ read_maybe_no _ _ _ all ws w e b ∙ read_maybe_no _ _ _ all ws w e c ∙ read_word_no _ _ all ws w e h
+-- the kinds that read inputs
+pub kind_server : (all ws : List Word) (w : Word) → all ≡ w ∷ ws → is_key (codes "server") w ≡ true → read kind_line all ≡ read (node_line server_kind) ws
+unfolding kind_line
+kind_server all ws w e h = read_maybe_yes _ _ _ all ws w e h
+
+pub kind_delay : (all ws : List Word) (w : Word) → all ≡ w ∷ ws → is_key (codes "server") w ≡ false → is_key (codes "delay") w ≡ true → read kind_line all ≡ read (node_line delay_kind) ws
+unfolding kind_line
+kind_delay all ws w e a h = read_maybe_no _ _ _ all ws w e a ∙ read_maybe_yes _ _ _ all ws w e h
+
+pub kind_loss : (all ws : List Word) (w : Word) → all ≡ w ∷ ws → is_key (codes "server") w ≡ false → is_key (codes "delay") w ≡ false → is_key (codes "loss") w ≡ true
+    → read kind_line all ≡ read (node_line loss_kind) ws
+unfolding kind_line
+kind_loss all ws w e a b h = read_maybe_no _ _ _ all ws w e a ∙ read_maybe_no _ _ _ all ws w e b ∙ read_maybe_yes _ _ _ all ws w e h
+
+pub kind_tandem : (all ws : List Word) (w : Word) → all ≡ w ∷ ws → is_key (codes "server") w ≡ false → is_key (codes "delay") w ≡ false → is_key (codes "loss") w ≡ false → is_key (codes "tandem") w ≡ true
+    → read kind_line all ≡ read (node_line tandem_kind) ws
+unfolding kind_line
+kind_tandem all ws w e a b c h = read_maybe_no _ _ _ all ws w e a ∙ read_maybe_no _ _ _ all ws w e b ∙ read_maybe_no _ _ _ all ws w e c ∙ read_maybe_yes _ _ _ all ws w e h
+
+pub kind_split : (all ws : List Word) (w : Word) → all ≡ w ∷ ws → is_key (codes "server") w ≡ false → is_key (codes "delay") w ≡ false → is_key (codes "loss") w ≡ false → is_key (codes "tandem") w ≡ false → is_key (codes "split") w ≡ true
+    → read kind_line all ≡ read (node_line split_kind) ws
+unfolding kind_line
+kind_split all ws w e a b c d h = read_maybe_no _ _ _ all ws w e a ∙ read_maybe_no _ _ _ all ws w e b ∙ read_maybe_no _ _ _ all ws w e c ∙ read_maybe_no _ _ _ all ws w e d ∙ read_word_yes _ _ all ws w e h
+
+pub kind_other : (all ws : List Word) (w : Word) → all ≡ w ∷ ws → is_key (codes "server") w ≡ false → is_key (codes "delay") w ≡ false → is_key (codes "loss") w ≡ false → is_key (codes "tandem") w ≡ false → is_key (codes "split") w ≡ false
+    → read kind_line all ≡ Err all
+unfolding kind_line
+kind_other all ws w e a b c d h = read_maybe_no _ _ _ all ws w e a ∙ read_maybe_no _ _ _ all ws w e b ∙ read_maybe_no _ _ _ all ws w e c ∙ read_maybe_no _ _ _ all ws w e d ∙ read_word_no _ _ all ws w e h
 
 pub tail_length : (words : List (Bor (List ℕ))) (at : ℕ) → at ≤ length words → at + 1 + length (words_from words at) ≡ length (map (λ (w : Bor (List ℕ)). w.now) words) + 1
 tail_length words at h = grind (arith, common_steps)

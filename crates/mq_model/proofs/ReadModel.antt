@@ -17,11 +17,13 @@ use Rattle.mq_model.specs.Said.{is_source}
 use Rattle.mq_model.specs.declared.fault.ModelFault.{ModelFault}
 use Rattle.mq_model.specs.declared.fault.ModelFault.TheVariants.{Cycle, NoSource}
 use Rattle.mq_model.specs.declared.front.Front.{Front}
-use Rattle.mq_model.specs.declared.said.SaidKind.TheVariants.{Server, Source, Split}
+use Rattle.mq_model.specs.declared.said.SaidKind.{SaidKind}
+use Rattle.mq_model.specs.declared.said.SaidKind.TheVariants.{Source, Server, Delay, Loss, Tandem, Split}
 use Rattle.mq_model.specs.declared.said.Said.{Said}
 use Rattle.mq_model.specs.declared.said.Said.TheVariants.{Bound, Node}
 use Rattle.mq_model.proofs.InputFacts.{beside_are, declaring_are, placed_are}
 use Rattle.mq_model.proofs.NetworkBack.{sound_is_wired}
+use Rattle.mq_model.proofs.SoundLines.{is_sound_reads}
 use Rattle.mq_model.proofs.SoundNetwork.{unranked_is_small, unranked_is_sound}
 use Rattle.mq_model.proofs.SoundText.{AreSound, told_are_sound}
 
@@ -45,12 +47,18 @@ none_few n h = grind (arith, common_steps, h)
 some_few : (n : ℕ) → is_within 1 8 n ≡ true → n ≤ 8
 some_few n h = let most : nat_le n 8 ≡ true = (and_parts _ _ h).1 in grind (arith, common_steps, most)
 
+few_reads : (kind : SaidKind) (n : ℕ) → is_sound_reads kind n ≡ true → n ≤ 8
+few_reads Source n h = none_few n h
+few_reads (Server d) n h = some_few n h
+few_reads (Delay d) n h = some_few n h
+few_reads (Loss places d) n h = some_few n h
+few_reads (Tandem stages) n h = some_few n h
+few_reads (Split route) n h = some_few n h
+
 narrow : (saids : List Said) → AreSound saids → AreNarrow saids
 narrow [] sound = tt
 narrow (Bound n ∷ saids) sound = (omega arith, narrow saids sound.1)
-narrow (Node name Source reads ∷ saids) sound = (none_few (length reads) sound.0.2, narrow saids sound.1)
-narrow (Node name (Server demand) reads ∷ saids) sound = (some_few (length reads) sound.0.2, narrow saids sound.1)
-narrow (Node name (Split route) reads ∷ saids) sound = (some_few (length reads) sound.0.2, narrow saids sound.1)
+narrow (Node name kind reads ∷ saids) sound = (few_reads kind (length reads) sound.0.2, narrow saids sound.1)
 
 pub kept_beside : (bytes : List ℕ) (front : Front) → Kept bytes front → length front.lines ≡ length front.saids
 kept_beside bytes front k = rw (k.is.lines, k.is.saids) (beside_are 1 (lines_of (without_mark bytes)))

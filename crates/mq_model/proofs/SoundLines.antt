@@ -7,15 +7,17 @@ use Rattle.mq_core.specs.Names.{is_name}
 use Rattle.mq_core.specs.Sound.{is_within, rises, rises_from}
 use Rattle.mq_model.specs.Form.{◌>>=◌, Form, Word, stop, word, maybe, one, up_to, read, whole}
 use Rattle.mq_base.specs.Text.{is_number}
-use Rattle.mq_model.specs.Lines.{key, is_input, input_of, is_demand, demand_of, is_from_to, is_up_to, a_name, a_demand, inputs, rising, cut_route, counted_route, server_kind, split_kind, a_route, thresholds, way_of, modulo_route, node_line, bound_line, source_line, line, is_key, is_above, greatest_demand, value_of}
+use Rattle.mq_model.specs.Lines.{key, is_input, input_of, is_demand, demand_of, is_from_to, is_up_to, a_name, a_demand, inputs, rising, cut_route, counted_route, server_kind, delay_kind, loss_kind, a_stage, stages, stages_behind, tandem_kind, split_kind, a_route, thresholds, way_of, modulo_route, node_line, bound_line, source_line, kind_line, line, is_key, is_above, greatest_demand, value_of}
 use Rattle.mq_model.specs.declared.said.SaidDemand.{SaidDemand}
 use Rattle.mq_model.specs.declared.said.SaidDemand.TheVariants.{Column, Fixed}
 use Rattle.mq_model.specs.declared.said.SaidRoute.{SaidRoute}
 use Rattle.mq_model.specs.declared.said.SaidRoute.TheVariants.{Modulo, Turn, Cut}
+use Rattle.mq_model.specs.declared.said.SaidStage.{SaidStage}
 use Rattle.mq_model.specs.declared.said.SaidKind.{SaidKind}
-use Rattle.mq_model.specs.declared.said.SaidKind.TheVariants.{Source, Server, Split}
+use Rattle.mq_model.specs.declared.said.SaidKind.TheVariants.{Source, Server, Delay, Loss, Tandem, Split}
 use Rattle.mq_model.specs.declared.said.Said.{Said}
 use Rattle.mq_model.specs.declared.said.Said.TheVariants.{Bound, Node}
+use Rattle.mq_model.proofs.Lists.{AreAll}
 
 -- The ranges of what is said.
 abbrev pub IsSoundDemand : SaidDemand → Type 0
@@ -30,16 +32,25 @@ IsSoundRoute (Modulo outputs column) = (is_within 2 8 outputs ≡ true) × (is_n
 IsSoundRoute (Turn outputs) = is_within 2 8 outputs ≡ true
 IsSoundRoute (Cut column thresholds) = (is_name column ≡ true) × AreSoundThresholds thresholds
 
+abbrev pub IsSoundStage : ℕ → ℕ → SaidStage → Type 0
+IsSoundStage low high stage = (is_within low high stage.places ≡ true) × IsSoundDemand stage.demand
+
+abbrev pub AreSoundStages : List SaidStage → Type 0
+AreSoundStages [] = ⊥
+AreSoundStages (stage ∷ stages) = IsSoundStage 0 0 stage × (is_within 1 3 (length stages) ≡ true) × AreAll (IsSoundStage 1 4) stages
+
 abbrev pub IsSoundKind : SaidKind → Type 0
 IsSoundKind Source = Unit {0}
 IsSoundKind (Server demand) = IsSoundDemand demand
+IsSoundKind (Delay demand) = IsSoundDemand demand
+IsSoundKind (Loss places demand) = (is_within 1 1048576 places ≡ true) × IsSoundDemand demand
+IsSoundKind (Tandem stages) = AreSoundStages stages
 IsSoundKind (Split route) = IsSoundRoute route
 
 -- a source reads nothing, and each other node at 1 to 8 ports
 abbrev pub is_sound_reads : SaidKind → ℕ → Bool
 is_sound_reads Source reads = reads == 0
-is_sound_reads (Server demand) reads = is_within 1 8 reads
-is_sound_reads (Split route) reads = is_within 1 8 reads
+is_sound_reads _ reads = is_within 1 8 reads
 
 abbrev pub IsSoundSaid : Said → Type 0
 IsSoundSaid (Bound n) = nat_le n (2 ^ 60) ≡ true
@@ -215,6 +226,51 @@ ReadsSome kind = IsSoundKind kind × ((reads : ℕ) → is_within 1 8 reads ≡ 
 keeps_server : Keeps ReadsSome server_kind
 keeps_server = keeps_then IsSoundDemand ReadsSome a_demand _ keeps_demand (λ demand sound. keeps_stop ReadsSome (Server demand) (sound, λ reads h. h))
 
+keeps_delay : Keeps ReadsSome delay_kind
+keeps_delay = keeps_then IsSoundDemand ReadsSome a_demand _ keeps_demand (λ demand sound. keeps_stop ReadsSome (Delay demand) (sound, λ reads h. h))
+
+keeps_loss : Keeps ReadsSome loss_kind
+unfolding loss_kind
+keeps_loss =
+    keeps_then (λ places. is_within 1 1048576 places ≡ true) ReadsSome (one (is_from_to 1 1048576) value_of) _ (keeps_one _ (is_from_to 1 1048576) value_of (λ w h. within_from_to 1 1048576 w h))
+    (λ places within. keeps_then IsSoundDemand ReadsSome a_demand _ keeps_demand (λ demand sound. keeps_stop ReadsSome (Loss places demand) ((within, sound), λ reads h. h)))
+
+keeps_stage : Keeps (IsSoundStage 1 4) a_stage
+unfolding a_stage
+keeps_stage =
+    keeps_then (λ places. is_within 1 4 places ≡ true) (IsSoundStage 1 4) (one (is_from_to 1 4) value_of) _ (keeps_one _ (is_from_to 1 4) value_of (λ w h. within_from_to 1 4 w h))
+    (λ places within. keeps_then IsSoundDemand (IsSoundStage 1 4) a_demand _ keeps_demand (λ demand sound. keeps_stop (IsSoundStage 1 4) (record { places = places; demand = demand }) (within, sound)))
+
+record AreFewStages (n : ℕ) (all : List SaidStage) : Type 0 where
+  few : length all ≤ n
+  sound : AreAll (IsSoundStage 1 4) all
+
+keeps_stages : (n : ℕ) → Keeps (AreFewStages n) (stages n)
+unfolding stages
+keeps_stages zero = keeps_stop (AreFewStages zero) [] (record { few = omega arith; sound = tt })
+keeps_stages (suc n) =
+    keeps_maybe (AreFewStages (suc n)) (is_key (codes "/")) _ (stop [])
+    (λ w h. keeps_then (IsSoundStage 1 4) (AreFewStages (suc n)) a_stage _ keeps_stage
+    (λ stage own. keeps_then (AreFewStages n) (AreFewStages (suc n)) (stages n) _ (keeps_stages n)
+    (λ more are. keeps_stop (AreFewStages (suc n)) (stage ∷ more) (record { few = let few : length more ≤ n = are.few in omega arith; sound = (own, are.sound) }))))
+    (keeps_stop (AreFewStages (suc n)) [] (record { few = omega arith; sound = tt }))
+
+keeps_behind : (first : SaidDemand) → IsSoundDemand first → Keeps AreSoundStages (stages_behind first)
+unfolding stages_behind
+keeps_behind first sound =
+    keeps_then IsAny AreSoundStages (key (codes "/")) _ (keeps_key (codes "/"))
+    (λ _ _. keeps_then (IsSoundStage 1 4) AreSoundStages a_stage _ keeps_stage
+    (λ second own. keeps_then (AreFewStages 2) AreSoundStages (stages 2) _ (keeps_stages 2)
+    (λ more are. keeps_stop AreSoundStages (record { places = 0; demand = first } ∷ second ∷ more)
+    (let few : length more ≤ 2 = are.few in
+    ((refl, sound), and_from _ _ (le-leb 1 (length (second ∷ more)) (omega arith)) (le-leb (length (second ∷ more)) 3 (omega arith)), (own, are.sound))))))
+
+keeps_tandem : Keeps ReadsSome tandem_kind
+unfolding tandem_kind
+keeps_tandem =
+    keeps_then IsSoundDemand ReadsSome a_demand _ keeps_demand
+    (λ first sound. keeps_then AreSoundStages ReadsSome (stages_behind first) _ (keeps_behind first sound) (λ all are. keeps_stop ReadsSome (Tandem all) (are, λ reads h. h)))
+
 keeps_route : Keeps IsSoundRoute a_route
 unfolding a_route
 keeps_route = keeps_maybe IsSoundRoute (is_key (codes "cut")) _ _ (λ _ _. keeps_cut) keeps_counted
@@ -236,11 +292,18 @@ keeps_bound = keeps_one IsSoundSaid (is_up_to (2 ^ 60)) (λ w. Bound (value_of w
 keeps_source : Keeps IsSoundSaid source_line
 keeps_source = keeps_then (λ name. is_name name ≡ true) IsSoundSaid a_name _ keeps_name (λ name named. keeps_stop IsSoundSaid (Node name Source []) (named, tt, refl))
 
+keeps_kinds : Keeps IsSoundSaid kind_line
+unfolding kind_line
+keeps_kinds =
+    keeps_maybe IsSoundSaid (is_key (codes "server")) _ _ (λ _ _. keeps_node server_kind keeps_server)
+    (keeps_maybe IsSoundSaid (is_key (codes "delay")) _ _ (λ _ _. keeps_node delay_kind keeps_delay)
+    (keeps_maybe IsSoundSaid (is_key (codes "loss")) _ _ (λ _ _. keeps_node loss_kind keeps_loss)
+    (keeps_maybe IsSoundSaid (is_key (codes "tandem")) _ _ (λ _ _. keeps_node tandem_kind keeps_tandem)
+    (keeps_word IsSoundSaid (is_key (codes "split")) _ (λ _ _. keeps_node split_kind keeps_split)))))
+
 -- what the table says is in its ranges
 pub keeps_line : Keeps IsSoundSaid line
 unfolding line
 keeps_line =
     keeps_maybe IsSoundSaid (is_key (codes "bound")) _ _ (λ _ _. keeps_bound)
-    (keeps_maybe IsSoundSaid (is_key (codes "source")) _ _ (λ _ _. keeps_source)
-    (keeps_maybe IsSoundSaid (is_key (codes "server")) _ _ (λ _ _. keeps_node server_kind keeps_server)
-    (keeps_word IsSoundSaid (is_key (codes "split")) _ (λ _ _. keeps_node split_kind keeps_split))))
+    (keeps_maybe IsSoundSaid (is_key (codes "source")) _ _ (λ _ _. keeps_source) keeps_kinds)

@@ -1,10 +1,10 @@
 -- The network of a text without a fault is sound.
-use Rattle.std.proofs.Common.{◌≡◌, ◌∙◌, sym, ap, refl, subst, ℕ, ◌<◌, ◌≤◌, ◌^◌, List, [], ◌∷◌, ◌++◌, length, Bool, true, false, cond, Some, None, arith, inl, inr, append_assoc, IsTrue}
+use Rattle.std.proofs.Common.{◌≡◌, ◌∙◌, sym, ap, refl, ℕ, ◌≤◌, ◌^◌, List, [], ◌∷◌, ◌++◌, length, Bool, true, false, cond, Some, None, arith, inl, inr, append_assoc, IsTrue}
 use Rattle.std.specs.Prelude.{map, nat_lt, nat_le, slice_get}
 use Rattle.std.specs.List.{list_all, list_any, flat_map}
 use Rattle.std.specs.Str.{bytes_eq}
-use Rattle.std.proofs.lemmas.Bool.{cases_Bool, and_parts, and_from, or_left, or_right, lt-ltb, le-leb}
-use Rattle.std.proofs.lemmas.List.{append-nil, map-append, length-map}
+use Rattle.std.proofs.lemmas.Bool.{cases_Bool, and_parts, and_from, or_cases, or_left, or_right, le-leb}
+use Rattle.std.proofs.lemmas.List.{map-append, length-map}
 use Rattle.std.proofs.lemmas.List.Folds.{list_all-append, list_any-append}
 use Rattle.mq_core.specs.Names.{is_name}
 use Rattle.mq_core.specs.Sound.{are_distinct, columns_of_kind, is_output, is_sound, is_sound_count, is_sound_kind, is_sound_node, is_within, mentions_from, same_input}
@@ -15,16 +15,17 @@ use Rattle.mq_base.specs.Text.{lines_of}
 use Rattle.mq_model.specs.Form.{Word}
 use Rattle.mq_model.specs.Model.{cycle_fault, inputs_fault, lines_fault, model_fault, reads_of_text, source_fault, text_fault}
 use Rattle.mq_model.specs.NetworkOf.{bound_of, input_in, kind_in, network_in, network_of, nodes_in, nodes_of, number_in, saids_of, without_mark}
-use Rattle.mq_model.specs.Said.{columns_of, distinct_after, gives, is_among, is_source, mentioned, mentions_of_kind, names_of, reads_of}
+use Rattle.mq_model.specs.Said.{columns_of, distinct_after, gives, is_among, is_source, is_source_said, mentioned, mentions_of_kind, names_of, reads_of}
 use Rattle.mq_model.specs.declared.fault.ModelFault.TheVariants.{TooLong, NoSource}
-use Rattle.mq_model.specs.declared.said.SaidDemand.TheVariants.{Column, Fixed}
 use Rattle.mq_model.specs.declared.said.SaidInput.{SaidInput}
 use Rattle.mq_model.specs.declared.said.SaidKind.{SaidKind}
-use Rattle.mq_model.specs.declared.said.SaidKind.TheVariants.{Source, Server, Split}
+use Rattle.mq_model.specs.declared.said.SaidKind.TheVariants.{Source, Server, Delay, Loss, Tandem, Split}
 use Rattle.mq_model.specs.declared.said.SaidRoute.TheVariants.{Modulo, Turn, Cut}
 use Rattle.mq_model.specs.declared.said.Said.{Said}
 use Rattle.mq_model.specs.declared.said.Said.TheVariants as said
-use Rattle.mq_model.proofs.SoundColumns.{are_distinct_after, list_all_after, mentions_in_order, place_in_front, same_name}
+use Rattle.mq_model.proofs.Demands.{demand_columns, demand_in_range, demand_names, number_below}
+use Rattle.mq_model.proofs.Stages.{stages_columns, stages_in_range, stages_names}
+use Rattle.mq_model.proofs.SoundColumns.{are_distinct_after, list_all_after, mentions_in_order, same_name}
 use Rattle.mq_model.proofs.SoundInputs.{AreInputs, given_among, given_output, numbers_distinct, told_are_inputs}
 use Rattle.mq_model.proofs.SoundLines.{IsSoundKind, is_sound_reads}
 use Rattle.mq_model.proofs.SoundText.{AreFew, AreSound, cond_none, or_none, told_are_few, told_are_sound}
@@ -46,8 +47,10 @@ inputs_are names columns (said.Node name kind reads ∷ saids) =
 
 columns_are : (columns : List Word) (kind : SaidKind) → columns_of_kind (kind_in columns kind) ≡ map (number_in columns) (mentions_of_kind kind)
 columns_are columns Source = refl
-columns_are columns (Server (Column name)) = refl
-columns_are columns (Server (Fixed n)) = refl
+columns_are columns (Server d) = demand_columns columns d
+columns_are columns (Delay d) = demand_columns columns d
+columns_are columns (Loss places d) = demand_columns columns d
+columns_are columns (Tandem stages) = stages_columns columns stages
 columns_are columns (Split (Modulo outputs column)) = refl
 columns_are columns (Split (Turn outputs)) = refl
 columns_are columns (Split (Cut column thresholds)) = refl
@@ -60,12 +63,22 @@ mentions_are names columns (said.Node name kind reads ∷ saids) =
     ∙ ap (λ more. map (number_in columns) (mentions_of_kind kind) ++ more) (mentions_are names columns saids)
     ∙ sym (map-append (number_in columns) (mentions_of_kind kind) (flat_map mentioned saids))
 
+source_is : (columns : List Word) (kind : SaidKind) → is_source_kind (kind_in columns kind) ≡ is_source_said kind
+source_is columns Source = refl
+source_is columns (Server d) = refl
+source_is columns (Delay d) = refl
+source_is columns (Loss places d) = refl
+source_is columns (Tandem stages) = refl
+source_is columns (Split route) = refl
+
 sources_are : (names columns : List Word) (saids : List Said) → list_any is_source saids ≡ true → list_any (λ (node : Node). is_source_kind node.kind) (flat_map (nodes_in names columns) saids) ≡ true
 sources_are names columns [] h = absurd (cc)
 sources_are names columns (said.Bound n ∷ saids) h = sources_are names columns saids h
-sources_are names columns (said.Node name Source reads ∷ saids) h = refl
-sources_are names columns (said.Node name (Server d) reads ∷ saids) h = sources_are names columns saids h
-sources_are names columns (said.Node name (Split route) reads ∷ saids) h = sources_are names columns saids h
+sources_are names columns (said.Node name kind reads ∷ saids) h =
+    elim (or_cases (is_source_said kind) (list_any is_source saids) h) [
+      | inl here ↦ or_left _ _ (source_is columns kind ∙ here)
+      | inr later ↦ or_right _ _ (sources_are names columns saids later)
+    ]
 
 some_node : {X : Type 0} (p : X → Bool) (xs : List X) → list_any p xs ≡ true → 1 ≤ length xs
 some_node p [] h = absurd (cc)
@@ -79,8 +92,10 @@ bound_small (said.Node name kind reads ∷ saids) sound = bound_small saids soun
 -- Columns: the mentioned names are names, and among the columns.
 kind_names : (kind : SaidKind) → IsSoundKind kind → list_all is_name (mentions_of_kind kind) ≡ true
 kind_names Source sound = refl
-kind_names (Server (Column name)) sound = and_from _ _ sound refl
-kind_names (Server (Fixed n)) sound = refl
+kind_names (Server d) sound = demand_names d sound
+kind_names (Delay d) sound = demand_names d sound
+kind_names (Loss places d) sound = demand_names d sound.1
+kind_names (Tandem stages) sound = stages_names stages sound
 kind_names (Split (Modulo outputs column)) sound = and_from _ _ sound.1 refl
 kind_names (Split (Turn outputs)) sound = refl
 kind_names (Split (Cut column thresholds)) sound = and_from _ _ sound.0 refl
@@ -107,16 +122,13 @@ all_among before (name ∷ more) all is =
           and_from _ _ here (all_among (before ++ name ∷ []) more all (is_so ∙ sym (append_assoc before (name ∷ []) _)))
     ]
 
-number_below : (names : List Word) (name : Word) → is_among names name ≡ true → nat_lt (number_in names name) (length names) ≡ true
-number_below names name h =
-    let below = place_in_front (λ other. bytes_eq other name) names [] h in
-    lt-ltb _ _ (subst (λ all. number_in all name < length names) (append-nil names) below)
-
 -- Nodes are in their ranges.
 kind_sound : (columns : List Word) (kind : SaidKind) → IsSoundKind kind → list_all (is_among columns) (mentions_of_kind kind) ≡ true → is_sound_kind (length columns) (kind_in columns kind) ≡ true
 kind_sound columns Source sound among = refl
-kind_sound columns (Server (Column name)) sound among = number_below columns name (and_parts _ _ among).0
-kind_sound columns (Server (Fixed n)) sound among = sound
+kind_sound columns (Server d) sound among = demand_in_range columns d sound among
+kind_sound columns (Delay d) sound among = demand_in_range columns d sound among
+kind_sound columns (Loss places d) sound among = and_from _ _ sound.0 (demand_in_range columns d sound.1 among)
+kind_sound columns (Tandem stages) sound among = stages_in_range columns stages sound among
 kind_sound columns (Split (Modulo outputs column)) sound among = and_from _ _ sound.0 (number_below columns column (and_parts _ _ among).0)
 kind_sound columns (Split (Turn outputs)) sound among = sound
 kind_sound columns (Split (Cut column thresholds)) sound among =
@@ -125,6 +137,9 @@ kind_sound columns (Split (Cut column thresholds)) sound among =
 count_sound : (columns : List Word) (kind : SaidKind) (reads : ℕ) → is_sound_reads kind reads ≡ true → is_sound_count (kind_in columns kind) reads ≡ true
 count_sound columns Source reads h = h
 count_sound columns (Server d) reads h = h
+count_sound columns (Delay d) reads h = h
+count_sound columns (Loss places d) reads h = h
+count_sound columns (Tandem stages) reads h = h
 count_sound columns (Split route) reads h = h
 
 outputs_sound : (names : List Word) (nodes : List Node) (inputs : List SaidInput) → list_all (λ (i : SaidInput). is_output (slice_get nodes (number_in names i.name)) i.out) inputs ≡ true

@@ -11,7 +11,7 @@ use Rattle.std.proofs.lemmas.List.Elements.{filter_map-append}
 use Rattle.mq_base.specs.Text.{words_of}
 use Rattle.mq_core.specs.Sound.{are_distinct}
 use Rattle.mq_model.specs.Form.{Word, read, whole}
-use Rattle.mq_model.specs.Lines.{line}
+use Rattle.mq_model.specs.Lines.{kind_line, line}
 use Rattle.mq_model.specs.Model.{begins_comment, is_allowed, is_head, is_skipped, is_too_many, line_fault, lines_fault, read_fault, said_fault, words_fault}
 use Rattle.mq_model.specs.NetworkOf.{said_of, saids_of}
 use Rattle.mq_model.specs.Said.{columns_of, declared, distinct_after, is_among, names_of}
@@ -41,13 +41,13 @@ or_none (Some a) y h = absurd (cc)
 
 -- neither an empty line, nor a comment, nor the head says anything
 pub skipped_says_nothing : (ws : List Word) (said : Said) → begins_comment ws ≡ true → whole (read line ws) ≡ Ok said → ⊥
-unfolding read line
+unfolding read line kind_line
 skipped_says_nothing [] said h e = cc
 skipped_says_nothing ([] ∷ ws) said h e = cc
 skipped_says_nothing ((b ∷ more) ∷ ws) said h e = let k = rw (eqb-true b 35 h) at e in cc
 
 pub head_says_nothing : (ws : List Word) (said : Said) → is_head ws ≡ true → whole (read line ws) ≡ Ok said → ⊥
-unfolding read line
+unfolding read line kind_line
 head_says_nothing [] said h e = cc
 head_says_nothing (w ∷ []) said h e = cc
 head_says_nothing (w ∷ v ∷ []) said h e = let head = and_parts _ _ h in let k = rw (name_is w (codes "model") head.0) at e in cc

@@ -9,8 +9,9 @@ use Rattle.mq_model.specs.declared.said.SaidDemand.TheVariants.{Column, Fixed}
 use Rattle.mq_model.specs.declared.said.SaidInput.{SaidInput}
 use Rattle.mq_model.specs.declared.said.SaidRoute.{SaidRoute}
 use Rattle.mq_model.specs.declared.said.SaidRoute.TheVariants.{Modulo, Turn, Cut}
+use Rattle.mq_model.specs.declared.said.SaidStage.{SaidStage}
 use Rattle.mq_model.specs.declared.said.SaidKind.{SaidKind}
-use Rattle.mq_model.specs.declared.said.SaidKind.TheVariants.{Source, Server, Split}
+use Rattle.mq_model.specs.declared.said.SaidKind.TheVariants.{Source, Server, Delay, Loss, Tandem, Split}
 use Rattle.mq_model.specs.declared.said.Said.{Said}
 use Rattle.mq_model.specs.declared.said.Said.TheVariants.{Bound, Node}
 use Rattle.mq_model.specs.Form.{◌>>=◌, Form, Word, stop, word, maybe, one, up_to}
@@ -109,6 +110,41 @@ a_route = maybe (is_key (codes "cut")) (λ _. cut_route) counted_route
 abbrev pub server_kind : Form SaidKind
 server_kind = a_demand >>= λ demand. stop (Server demand)
 
+abbrev pub delay_kind : Form SaidKind
+delay_kind = a_demand >>= λ demand. stop (Delay demand)
+
+unfoldable pub loss_kind : Form SaidKind
+loss_kind = do
+  places ← one (is_from_to 1 1048576) value_of
+  demand ← a_demand
+  stop (Loss places demand)
+
+-- the places and the demand of a stage behind a slash
+unfoldable pub a_stage : Form SaidStage
+a_stage = do
+  places ← one (is_from_to 1 4) value_of
+  demand ← a_demand
+  stop (record { places = places; demand = demand })
+
+-- at most n further stages
+unfoldable pub stages : ℕ → Form (List SaidStage)
+stages zero = stop []
+stages (suc n) = maybe (is_key (codes "/")) (λ _. a_stage >>= λ stage. stages n >>= λ more. stop (stage ∷ more)) (stop [])
+
+-- the stages of a tandem whose first has this demand
+unfoldable pub stages_behind : SaidDemand → Form (List SaidStage)
+stages_behind first = do
+  _ ← key (codes "/")
+  second ← a_stage
+  more ← stages 2
+  stop (record { places = 0; demand = first } ∷ second ∷ more)
+
+unfoldable pub tandem_kind : Form SaidKind
+tandem_kind = do
+  first ← a_demand
+  all ← stages_behind first
+  stop (Tandem all)
+
 abbrev pub split_kind : Form SaidKind
 split_kind = a_route >>= λ route. stop (Split route)
 
@@ -126,10 +162,14 @@ bound_line = one (is_up_to (2 ^ 60)) (λ w. Bound (value_of w))
 abbrev pub source_line : Form Said
 source_line = a_name >>= λ name. stop (Node name Source [])
 
--- The table: a line by its first word.
+-- The table: a line by its first word. Of the kinds that read inputs, and of all lines.
+unfoldable pub kind_line : Form Said
+kind_line =
+    maybe (is_key (codes "server")) (λ _. node_line server_kind)
+    (maybe (is_key (codes "delay")) (λ _. node_line delay_kind)
+    (maybe (is_key (codes "loss")) (λ _. node_line loss_kind)
+    (maybe (is_key (codes "tandem")) (λ _. node_line tandem_kind)
+    (word (is_key (codes "split")) (λ _. node_line split_kind)))))
+
 unfoldable pub line : Form Said
-line =
-    maybe (is_key (codes "bound")) (λ _. bound_line)
-    (maybe (is_key (codes "source")) (λ _. source_line)
-    (maybe (is_key (codes "server")) (λ _. node_line server_kind)
-    (word (is_key (codes "split")) (λ _. node_line split_kind))))
+line = maybe (is_key (codes "bound")) (λ _. bound_line) (maybe (is_key (codes "source")) (λ _. source_line) kind_line)

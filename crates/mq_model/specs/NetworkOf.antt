@@ -8,6 +8,7 @@ use Rattle.mq_core.specs.declared.model.Demand.TheVariants as demand
 use Rattle.mq_core.specs.declared.model.Input.{Input}
 use Rattle.mq_core.specs.declared.model.Route.{Route}
 use Rattle.mq_core.specs.declared.model.Route.TheVariants as route
+use Rattle.mq_core.specs.declared.model.Stage.{Stage}
 use Rattle.mq_core.specs.declared.model.Kind.{Kind}
 use Rattle.mq_core.specs.declared.model.Kind.TheVariants as kind
 use Rattle.mq_core.specs.declared.model.Node.{Node}
@@ -20,8 +21,9 @@ use Rattle.mq_model.specs.declared.said.SaidDemand.TheVariants.{Column, Fixed}
 use Rattle.mq_model.specs.declared.said.SaidInput.{SaidInput}
 use Rattle.mq_model.specs.declared.said.SaidRoute.{SaidRoute}
 use Rattle.mq_model.specs.declared.said.SaidRoute.TheVariants.{Modulo, Turn, Cut}
+use Rattle.mq_model.specs.declared.said.SaidStage.{SaidStage}
 use Rattle.mq_model.specs.declared.said.SaidKind.{SaidKind}
-use Rattle.mq_model.specs.declared.said.SaidKind.TheVariants.{Source, Server, Split}
+use Rattle.mq_model.specs.declared.said.SaidKind.TheVariants.{Source, Server, Delay, Loss, Tandem, Split}
 use Rattle.mq_model.specs.declared.said.Said.{Said}
 use Rattle.mq_model.specs.declared.said.Said.TheVariants as said
 
@@ -49,9 +51,15 @@ route_in columns (Modulo outputs column) = route.Modulo outputs (number_in colum
 route_in columns (Turn outputs) = route.Turn outputs
 route_in columns (Cut column thresholds) = route.Cut (number_in columns column) thresholds
 
+abbrev pub stage_in : List Word → SaidStage → Stage
+stage_in columns stage = record { places = stage.places; demand = demand_in columns stage.demand }
+
 abbrev pub kind_in : List Word → SaidKind → Kind
 kind_in columns Source = kind.Source
 kind_in columns (Server d) = kind.Server (demand_in columns d)
+kind_in columns (Delay d) = kind.Delay (demand_in columns d)
+kind_in columns (Loss places d) = kind.Loss places (demand_in columns d)
+kind_in columns (Tandem stages) = kind.Tandem (map (stage_in columns) stages)
 kind_in columns (Split route) = kind.Split (route_in columns route)
 
 abbrev pub input_in : List Word → SaidInput → Input

@@ -10,8 +10,9 @@ use Rattle.mq_model.specs.declared.said.SaidDemand.TheVariants.{Column, Fixed}
 use Rattle.mq_model.specs.declared.said.SaidInput.{SaidInput}
 use Rattle.mq_model.specs.declared.said.SaidRoute.{SaidRoute}
 use Rattle.mq_model.specs.declared.said.SaidRoute.TheVariants.{Modulo, Turn, Cut}
+use Rattle.mq_model.specs.declared.said.SaidStage.{SaidStage}
 use Rattle.mq_model.specs.declared.said.SaidKind.{SaidKind}
-use Rattle.mq_model.specs.declared.said.SaidKind.TheVariants.{Source, Server, Split}
+use Rattle.mq_model.specs.declared.said.SaidKind.TheVariants.{Source, Server, Delay, Loss, Tandem, Split}
 use Rattle.mq_model.specs.declared.said.Said.{Said}
 use Rattle.mq_model.specs.declared.said.Said.TheVariants.{Bound, Node}
 
@@ -32,14 +33,40 @@ route_words (Modulo outputs column) = decimal outputs ∷ codes "mod" ∷ column
 route_words (Turn outputs) = decimal outputs ∷ codes "turn" ∷ []
 route_words (Cut column thresholds) = codes "cut" ∷ column ∷ map decimal thresholds
 
-abbrev pub node_words : Word → SaidKind → List SaidInput → List Word
-node_words name Source reads = codes "source" ∷ name ∷ []
-node_words name (Server d) reads = codes "server" ∷ name ∷ demand_word d ∷ inputs_words reads
-node_words name (Split route) reads = codes "split" ∷ name ∷ (route_words route ++ inputs_words reads)
+-- the first stage is its demand, and each further one a slash, its places and its demand
+abbrev pub stage_words : SaidStage → List Word
+stage_words stage = codes "/" ∷ decimal stage.places ∷ demand_word stage.demand ∷ []
+
+abbrev pub stages_words : List SaidStage → List Word
+stages_words [] = []
+stages_words (stage ∷ stages) = demand_word stage.demand ∷ flat_map stage_words stages
+
+-- the first word of a node's line
+abbrev pub first_word : SaidKind → Word
+first_word Source = codes "source"
+first_word (Server d) = codes "server"
+first_word (Delay d) = codes "delay"
+first_word (Loss places d) = codes "loss"
+first_word (Tandem stages) = codes "tandem"
+first_word (Split route) = codes "split"
+
+-- what stands between the name and the inputs
+abbrev pub kind_words : SaidKind → List Word
+kind_words Source = []
+kind_words (Server d) = demand_word d ∷ []
+kind_words (Delay d) = demand_word d ∷ []
+kind_words (Loss places d) = decimal places ∷ demand_word d ∷ []
+kind_words (Tandem stages) = stages_words stages
+kind_words (Split route) = route_words route
+
+-- a source has no inputs to be read
+abbrev pub reads_words : SaidKind → List SaidInput → List Word
+reads_words Source reads = []
+reads_words _ reads = inputs_words reads
 
 abbrev pub said_words : Said → List Word
 said_words (Bound n) = codes "bound" ∷ decimal n ∷ []
-said_words (Node name kind reads) = node_words name kind reads
+said_words (Node name kind reads) = first_word kind ∷ name ∷ (kind_words kind ++ reads_words kind reads)
 
 -- a line: the words with one space between each two, and a line feed
 abbrev pub line_text : List Word → List ℕ

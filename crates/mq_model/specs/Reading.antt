@@ -1,7 +1,11 @@
 -- How the code's readers of words follow a form.
 use Rattle.std.specs.Prelude.{◌≡◌, ◌+◌, ℕ, List, length, drop, map, Result, Ok, Err}
 use Rattle.std.specs.Borrow.{Bor}
-use Rattle.mq_model.specs.Form.{Word}
+use Rattle.mq_model.specs.Form.{Form, Word}
+use Rattle.mq_model.specs.Lines.{delay_kind, loss_kind, server_kind, split_kind, tandem_kind}
+use Rattle.mq_model.specs.declared.said.SaidKind.{SaidKind}
+use Rattle.mq_model.specs.declared.line.KindWord.{KindWord}
+use Rattle.mq_model.specs.declared.line.KindWord.TheVariants as first
 use Rattle.mq_model.specs.declared.parts.Stop.{Stop}
 use Rattle.mq_model.specs.declared.parts.Stop.TheVariants as why
 use Rattle.mq_model.specs.declared.line.LineFault.{LineFault}
@@ -13,6 +17,14 @@ texts words = map (λ w. w.now) words
 -- the words from a place on
 abbrev pub words_from : List (Bor (List ℕ)) → ℕ → List Word
 words_from words at = drop at (texts words)
+
+-- what may stand behind the name, by a line's first word
+abbrev pub form_of : KindWord → Form SaidKind
+form_of first.Server = server_kind
+form_of first.Delay = delay_kind
+form_of first.Loss = loss_kind
+form_of first.Tandem = tandem_kind
+form_of first.Split = split_kind
 
 -- What was read, and what is left, is what the form says; and the fault is at its place, unless memory ran out.
 abbrev pub Reads : {X : Type 0} → Result X Stop → List Word → Result (X × List Word) (List Word) → Type 0

@@ -8,8 +8,9 @@ use Rattle.mq_model.specs.declared.said.SaidDemand.TheVariants.{Column, Fixed}
 use Rattle.mq_model.specs.declared.said.SaidInput.{SaidInput}
 use Rattle.mq_model.specs.declared.said.SaidRoute.{SaidRoute}
 use Rattle.mq_model.specs.declared.said.SaidRoute.TheVariants.{Modulo, Turn, Cut}
+use Rattle.mq_model.specs.declared.said.SaidStage.{SaidStage}
 use Rattle.mq_model.specs.declared.said.SaidKind.{SaidKind}
-use Rattle.mq_model.specs.declared.said.SaidKind.TheVariants.{Source, Server, Split}
+use Rattle.mq_model.specs.declared.said.SaidKind.TheVariants.{Source, Server, Delay, Loss, Tandem, Split}
 use Rattle.mq_model.specs.declared.said.Said.{Said}
 use Rattle.mq_model.specs.declared.said.Said.TheVariants.{Bound, Node}
 
@@ -34,6 +35,9 @@ mentions_of_route (Cut column thresholds) = column ∷ []
 abbrev pub mentions_of_kind : SaidKind → List Word
 mentions_of_kind Source = []
 mentions_of_kind (Server d) = mentions_of_demand d
+mentions_of_kind (Delay d) = mentions_of_demand d
+mentions_of_kind (Loss places d) = mentions_of_demand d
+mentions_of_kind (Tandem stages) = flat_map (λ (stage : SaidStage). mentions_of_demand stage.demand) stages
 mentions_of_kind (Split route) = mentions_of_route route
 
 abbrev pub mentioned : Said → List Word
@@ -72,9 +76,9 @@ outputs_of_route (Turn outputs) = outputs
 outputs_of_route (Cut column thresholds) = length thresholds + 1
 
 abbrev pub outputs_of : SaidKind → ℕ
-outputs_of Source = 1
-outputs_of (Server d) = 1
+outputs_of (Loss places d) = 2
 outputs_of (Split route) = outputs_of_route route
+outputs_of _ = 1
 
 -- a line declares the node of this input, and the node has the output
 abbrev pub gives : SaidInput → Said → Bool
@@ -84,8 +88,10 @@ gives input (Node name kind reads) = bytes_eq name input.name && nat_lt input.ou
 abbrev pub is_same_input : SaidInput → SaidInput → Bool
 is_same_input a b = bytes_eq a.name b.name && (a.out == b.out)
 
+abbrev pub is_source_said : SaidKind → Bool
+is_source_said Source = true
+is_source_said _ = false
+
 abbrev pub is_source : Said → Bool
 is_source (Bound n) = false
-is_source (Node name Source reads) = true
-is_source (Node name (Server d) reads) = false
-is_source (Node name (Split route) reads) = false
+is_source (Node name kind reads) = is_source_said kind

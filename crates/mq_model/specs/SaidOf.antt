@@ -5,6 +5,7 @@ use Rattle.mq_core.specs.declared.model.Demand.TheVariants as demand
 use Rattle.mq_core.specs.declared.model.Input.{Input}
 use Rattle.mq_core.specs.declared.model.Route.{Route}
 use Rattle.mq_core.specs.declared.model.Route.TheVariants as route
+use Rattle.mq_core.specs.declared.model.Stage.{Stage}
 use Rattle.mq_core.specs.declared.model.Kind.{Kind}
 use Rattle.mq_core.specs.declared.model.Kind.TheVariants as kind
 use Rattle.mq_core.specs.declared.model.Node.{Node}
@@ -15,8 +16,9 @@ use Rattle.mq_model.specs.declared.said.SaidDemand.TheVariants.{Column, Fixed}
 use Rattle.mq_model.specs.declared.said.SaidInput.{SaidInput}
 use Rattle.mq_model.specs.declared.said.SaidRoute.{SaidRoute}
 use Rattle.mq_model.specs.declared.said.SaidRoute.TheVariants.{Modulo, Turn, Cut}
+use Rattle.mq_model.specs.declared.said.SaidStage.{SaidStage}
 use Rattle.mq_model.specs.declared.said.SaidKind.{SaidKind}
-use Rattle.mq_model.specs.declared.said.SaidKind.TheVariants.{Source, Server, Split}
+use Rattle.mq_model.specs.declared.said.SaidKind.TheVariants.{Source, Server, Delay, Loss, Tandem, Split}
 use Rattle.mq_model.specs.declared.said.Said.{Said}
 use Rattle.mq_model.specs.declared.said.Said.TheVariants as said
 
@@ -33,9 +35,15 @@ route_by columns (route.Modulo outputs column) = Modulo outputs (name_at columns
 route_by columns (route.Turn outputs) = Turn outputs
 route_by columns (route.Cut column thresholds) = Cut (name_at columns column) thresholds
 
+abbrev pub stage_by : List Word → Stage → SaidStage
+stage_by columns stage = record { places = stage.places; demand = demand_by columns stage.demand }
+
 abbrev pub kind_by : List Word → Kind → SaidKind
 kind_by columns kind.Source = Source
 kind_by columns (kind.Server d) = Server (demand_by columns d)
+kind_by columns (kind.Delay d) = Delay (demand_by columns d)
+kind_by columns (kind.Loss places d) = Loss places (demand_by columns d)
+kind_by columns (kind.Tandem stages) = Tandem (map (stage_by columns) stages)
 kind_by columns (kind.Split r) = Split (route_by columns r)
 
 abbrev pub input_by : List Word → Input → SaidInput

@@ -1,17 +1,17 @@
 // What the lines so far say, and one line more.
 ghost use Rattle.std.specs.Prelude.{◌≡◌, ◌≤◌, ◌++◌, IfErr, IfOk, None, Ok, length};
-ghost use Rattle.std.specs.List.{list_all};
+ghost use Rattle.std.specs.List.{flat_map, list_all};
 ghost use Rattle.mq_base.specs.Text.{words_of};
 ghost use Rattle.mq_model.specs.Form.{read, whole};
 ghost use Rattle.mq_model.specs.Front.{AddsLine, added_fault, grammar_fault, name_fault, with_said};
 ghost use Rattle.mq_model.specs.Lines.{line};
 ghost use Rattle.mq_model.specs.Model.{Tells, begins_bound, begins_comment, is_allowed, is_head};
 ghost use Rattle.mq_model.specs.Reading.{texts};
-ghost use Rattle.mq_model.specs.Said.{added, columns_after, declared, is_among, mentioned};
+ghost use Rattle.mq_model.specs.Said.{added, columns_after, declared, is_among, mentioned, mentions_of_demand, mentions_of_kind, mentions_of_route};
 
 use crate::fault::ModelFault;
 use crate::line::{LineFault, read_line};
-use crate::said::{Said, SaidDemand, SaidKind, SaidRoute};
+use crate::said::{Said, SaidDemand, SaidKind, SaidRoute, SaidStage};
 use crate::word::copied;
 use mq_base::{List, next_word};
 use std::alloc::Global;
@@ -131,6 +131,67 @@ fn add_column(
     Ok(())
 }
 
+fn add_of_demand(
+    alloc: Global,
+    demand: &SaidDemand,
+    columns: &mut List<List<u8>>,
+) -> Result<(), ModelFault>
+    ensures ok { IfOk result (λ _. columns.new ≡ columns_after columns.old (mentions_of_demand demand.now)) }
+    ensures err { IfErr result (λ e. e ≡ ModelFault.Memory) }
+{
+    match demand {
+        SaidDemand::Column(column) => add_column(alloc, column, columns),
+        SaidDemand::Fixed(_) => Ok(()),
+    }
+}
+
+fn add_of_stages(
+    alloc: Global,
+    stages: &[SaidStage],
+    columns: &mut List<List<u8>>,
+) -> Result<(), ModelFault>
+    ensures ok { IfOk result (λ _. columns.new ≡ columns_after columns.old (flat_map (λ (stage : SaidStage). mentions_of_demand stage.demand) stages.now)) }
+    ensures err { IfErr result (λ e. e ≡ ModelFault.Memory) }
+{
+    for stage in stages {
+        add_of_demand(alloc, &stage.demand, columns)?;
+    }
+    Ok(())
+}
+
+fn add_of_route(
+    alloc: Global,
+    route: &SaidRoute,
+    columns: &mut List<List<u8>>,
+) -> Result<(), ModelFault>
+    ensures ok { IfOk result (λ _. columns.new ≡ columns_after columns.old (mentions_of_route route.now)) }
+    ensures err { IfErr result (λ e. e ≡ ModelFault.Memory) }
+{
+    match route {
+        SaidRoute::Modulo { column, .. } | SaidRoute::Cut { column, .. } => add_column(
+            alloc, column, columns,
+        ),
+        SaidRoute::Turn { .. } => Ok(()),
+    }
+}
+
+fn add_of_kind(
+    alloc: Global,
+    kind: &SaidKind,
+    columns: &mut List<List<u8>>,
+) -> Result<(), ModelFault>
+    ensures ok { IfOk result (λ _. columns.new ≡ columns_after columns.old (mentions_of_kind kind.now)) }
+    ensures err { IfErr result (λ e. e ≡ ModelFault.Memory) }
+{
+    match kind {
+        SaidKind::Source => Ok(()),
+        SaidKind::Server(demand) | SaidKind::Delay(demand) | SaidKind::Loss { demand, .. } =>
+            add_of_demand(alloc, demand, columns),
+        SaidKind::Tandem(stages) => add_of_stages(alloc, stages.as_slice(), columns),
+        SaidKind::Split(route) => add_of_route(alloc, route, columns),
+    }
+}
+
 /// Adds the columns that a line mentions.
 fn add_columns(alloc: Global, said: &Said, columns: &mut List<List<u8>>) -> Result<(), ModelFault>
     ensures ok { IfOk result (λ _. columns.new ≡ columns_after columns.old (mentioned said.now)) }
@@ -139,14 +200,7 @@ fn add_columns(alloc: Global, said: &Said, columns: &mut List<List<u8>>) -> Resu
     let Said::Node { kind, .. } = said else {
         return Ok(());
     };
-    match kind {
-        SaidKind::Server(SaidDemand::Column(column))
-        | SaidKind::Split(SaidRoute::Modulo { column, .. })
-        | SaidKind::Split(SaidRoute::Cut { column, .. }) => add_column(alloc, column, columns),
-        SaidKind::Source
-        | SaidKind::Server(SaidDemand::Fixed(_))
-        | SaidKind::Split(SaidRoute::Turn { .. }) => Ok(()),
-    }
+    add_of_kind(alloc, kind, columns)
 }
 
 /// What the words of a line say.

@@ -12,7 +12,9 @@ fn has_output(kind: &SaidKind, out: u8) -> bool
     ensures { result ≡ nat_lt out (outputs_of kind.now) }
 {
     match kind {
-        SaidKind::Source | SaidKind::Server(_) => out == 0,
+        SaidKind::Source | SaidKind::Server(_) | SaidKind::Delay(_) | SaidKind::Tandem(_) => out
+            == 0,
+        SaidKind::Loss { .. } => out < 2,
         SaidKind::Split(SaidRoute::Modulo { outputs, .. })
         | SaidKind::Split(SaidRoute::Turn { outputs }) => out < *outputs,
         SaidKind::Split(SaidRoute::Cut { thresholds, .. }) => out as usize <= thresholds.len(),

@@ -12,6 +12,7 @@ mod print;
 mod read;
 mod route;
 mod said;
+mod station;
 mod text;
 mod word;
 

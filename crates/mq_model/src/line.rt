@@ -1,45 +1,77 @@
 // A line, by its first word.
-ghost use Rattle.std.specs.Prelude.{◌≡◌, ◌≤◌, length};
-ghost use Rattle.mq_model.specs.Form.{read, whole};
-ghost use Rattle.mq_model.specs.Lines.{bound_line, line, node_line, server_kind, source_line, split_kind};
-ghost use Rattle.mq_model.specs.Reading.{Reads, ReadsLine, words_from};
+ghost use Rattle.std.specs.Prelude.{◌≡◌, ◌≤◌, ◌∷◌, List, Err, MatchOption, length};
+ghost use Rattle.mq_model.specs.Form.{Word, read, whole};
+ghost use Rattle.mq_model.specs.Lines.{bound_line, kind_line, line, node_line, source_line};
+ghost use Rattle.mq_model.specs.Reading.{Reads, ReadsLine, form_of, words_from};
 
 use crate::parts::{Stop, read_demand, read_inputs, read_name, word_at};
 use crate::route::read_route;
 use crate::said::{Said, SaidKind};
+use crate::station::{read_loss, read_tandem};
 use mq_base::{List, read_number};
 use std::alloc::Global;
 
-/// Reads what stands behind `server`.
-#[tactic(auto, using(crate::proofs::ReadFacts::reading), unfolding(crate::specs::Lines::node_line))]
-fn read_server(alloc: Global, words: &[&[u8]], at: &mut usize) -> Result<Said, Stop>
-    ensures reads { Reads result (words_from words.now at.new) (read (node_line server_kind) (words_from words.now at.old)) }
-    ensures within { at.old ≤ length words.now → at.new ≤ length words.now }
-{
-    let name = read_name(alloc, words, at)?;
-    let demand = read_demand(alloc, words, at)?;
-    let reads = read_inputs(alloc, words, at)?;
-    Ok(Said::Node {
-        name,
-        kind: SaidKind::Server(demand),
-        reads,
-    })
+/// The first word of a line whose node reads inputs.
+#[derive(Clone, Copy)]
+pub enum KindWord {
+    Server,
+    Delay,
+    Loss,
+    Tandem,
+    Split,
 }
 
-/// Reads what stands behind `split`.
+/// The kind that a line's first word names, if the node reads inputs.
+fn kind_word(word: &[u8]) -> Option<KindWord>
+    ensures { (all more : List Word) → all ≡ word.now ∷ more → MatchOption result (read kind_line all ≡ Err all) (λ first. read kind_line all ≡ read (node_line (form_of first)) more) }
+{
+    if word == b"server".as_slice() {
+        return Some(KindWord::Server);
+    }
+    if word == b"delay".as_slice() {
+        return Some(KindWord::Delay);
+    }
+    if word == b"loss".as_slice() {
+        return Some(KindWord::Loss);
+    }
+    if word == b"tandem".as_slice() {
+        return Some(KindWord::Tandem);
+    }
+    if word == b"split".as_slice() {
+        return Some(KindWord::Split);
+    }
+    None
+}
+
+/// Reads what stands between the name and the inputs.
+fn read_kind(
+    alloc: Global,
+    words: &[&[u8]],
+    at: &mut usize,
+    first: KindWord,
+) -> Result<SaidKind, Stop>
+    ensures reads { Reads result (words_from words.now at.new) (read (form_of first) (words_from words.now at.old)) }
+    ensures within { at.old ≤ length words.now → at.new ≤ length words.now }
+{
+    match first {
+        KindWord::Server => Ok(SaidKind::Server(read_demand(alloc, words, at)?)),
+        KindWord::Delay => Ok(SaidKind::Delay(read_demand(alloc, words, at)?)),
+        KindWord::Loss => read_loss(alloc, words, at),
+        KindWord::Tandem => read_tandem(alloc, words, at),
+        KindWord::Split => Ok(SaidKind::Split(read_route(alloc, words, at)?)),
+    }
+}
+
+/// Reads what stands behind the first word, where the node reads inputs.
 #[tactic(auto, using(crate::proofs::ReadFacts::reading), unfolding(crate::specs::Lines::node_line))]
-fn read_split(alloc: Global, words: &[&[u8]], at: &mut usize) -> Result<Said, Stop>
-    ensures reads { Reads result (words_from words.now at.new) (read (node_line split_kind) (words_from words.now at.old)) }
+fn read_node(alloc: Global, words: &[&[u8]], at: &mut usize, first: KindWord) -> Result<Said, Stop>
+    ensures reads { Reads result (words_from words.now at.new) (read (node_line (form_of first)) (words_from words.now at.old)) }
     ensures within { at.old ≤ length words.now → at.new ≤ length words.now }
 {
     let name = read_name(alloc, words, at)?;
-    let route = read_route(alloc, words, at)?;
+    let kind = read_kind(alloc, words, at, first)?;
     let reads = read_inputs(alloc, words, at)?;
-    Ok(Said::Node {
-        name,
-        kind: SaidKind::Split(route),
-        reads,
-    })
+    Ok(Said::Node { name, kind, reads })
 }
 
 /// Reads what stands behind `bound`.
@@ -88,15 +120,11 @@ fn read_first(alloc: Global, words: &[&[u8]], at: &mut usize) -> Result<Said, St
         *at += 1;
         return read_source(alloc, words, at);
     }
-    if word == b"server".as_slice() {
-        *at += 1;
-        return read_server(alloc, words, at);
-    }
-    if word == b"split".as_slice() {
-        *at += 1;
-        return read_split(alloc, words, at);
-    }
-    Err(Stop::Word)
+    let Some(first) = kind_word(word) else {
+        return Err(Stop::Word);
+    };
+    *at += 1;
+    read_node(alloc, words, at, first)
 }
 
 /// Why a line is none.

@@ -1,14 +1,14 @@
 // The network that lines declare: names become numbers.
 ghost use Rattle.std.specs.Prelude.{◌≡◌, ◌≤◌, IfErr, IfOk, length, map};
 ghost use Rattle.std.specs.List.{flat_map};
-ghost use Rattle.mq_model.specs.NetworkOf.{bound_of, demand_in, input_in, kind_in, network_of, nodes_in, number_in, route_in};
+ghost use Rattle.mq_model.specs.NetworkOf.{bound_of, demand_in, input_in, kind_in, network_of, nodes_in, number_in, route_in, stage_in};
 ghost use Rattle.mq_model.specs.Said.{columns_of, names_of};
 
 use crate::fault::ModelFault;
-use crate::said::{Said, SaidDemand, SaidInput, SaidKind, SaidRoute};
+use crate::said::{Said, SaidDemand, SaidInput, SaidKind, SaidRoute, SaidStage};
 use crate::word::{copied, copied_numbers};
 use mq_base::List;
-use mq_core::{Demand, Input, Kind, Network, Node, Route};
+use mq_core::{Demand, Input, Kind, Network, Node, Route, Stage};
 use std::alloc::Global;
 
 /// The place of a name among these, or their number.
@@ -57,6 +57,25 @@ fn route_in(alloc: Global, columns: &[List<u8>], route: &SaidRoute) -> Result<Ro
     }
 }
 
+fn stages_in(
+    alloc: Global,
+    columns: &[List<u8>],
+    stages: &[SaidStage],
+) -> Result<List<Stage>, ModelFault>
+    requires { length columns.now ≤ 16 }
+    ensures ok { IfOk result (λ all. all ≡ map (stage_in columns.now) stages.now) }
+    ensures err { IfErr result (λ e. e ≡ ModelFault.Memory) }
+{
+    let mut all = List::new(alloc);
+    for stage in stages {
+        all.push(Stage {
+            places: stage.places,
+            demand: demand_in(columns, &stage.demand),
+        })?;
+    }
+    Ok(all)
+}
+
 fn kind_in(alloc: Global, columns: &[List<u8>], kind: &SaidKind) -> Result<Kind, ModelFault>
     requires { length columns.now ≤ 16 }
     ensures ok { IfOk result (λ k. k ≡ kind_in columns.now kind.now) }
@@ -65,6 +84,12 @@ fn kind_in(alloc: Global, columns: &[List<u8>], kind: &SaidKind) -> Result<Kind,
     match kind {
         SaidKind::Source => Ok(Kind::Source),
         SaidKind::Server(demand) => Ok(Kind::Server(demand_in(columns, demand))),
+        SaidKind::Delay(demand) => Ok(Kind::Delay(demand_in(columns, demand))),
+        SaidKind::Loss { places, demand } => Ok(Kind::Loss {
+            places: *places,
+            demand: demand_in(columns, demand),
+        }),
+        SaidKind::Tandem(stages) => Ok(Kind::Tandem(stages_in(alloc, columns, stages.as_slice())?)),
         SaidKind::Split(route) => Ok(Kind::Split(route_in(alloc, columns, route)?)),
     }
 }

@@ -85,6 +85,42 @@ pub fn read_demand(alloc: Global, words: &[&[u8]], at: &mut usize) -> Result<Sai
     Ok(demand)
 }
 
+/// Reads this word.
+#[tactic(auto, using(crate::proofs::ReadFacts::choices))]
+pub fn read_key(words: &[&[u8]], at: &mut usize, text: &[u8]) -> Result<(), Stop>
+    ensures reads { Reads result (words_from words.now at.new) (read (key text.now) (words_from words.now at.old)) }
+    ensures within { at.old ≤ length words.now → at.new ≤ length words.now }
+{
+    let Some(word) = word_at(words, *at) else {
+        return Err(Stop::Word);
+    };
+    if word != text {
+        return Err(Stop::Word);
+    }
+    *at += 1;
+    Ok(())
+}
+
+/// Reads a number from this least one to this greatest.
+#[tactic(auto, using(crate::proofs::ReadFacts::choices))]
+pub fn read_within(words: &[&[u8]], at: &mut usize, least: u64, most: u64) -> Result<u64, Stop>
+    ensures reads { Reads result (words_from words.now at.new) (read (one (is_from_to least most) value_of) (words_from words.now at.old)) }
+    ensures within { at.old ≤ length words.now → at.new ≤ length words.now }
+    ensures range { IfOk result (λ n. n ≤ most) }
+{
+    let Some(word) = word_at(words, *at) else {
+        return Err(Stop::Word);
+    };
+    let Some(number) = read_number(word, most) else {
+        return Err(Stop::Word);
+    };
+    if number < least {
+        return Err(Stop::Word);
+    }
+    *at += 1;
+    Ok(number)
+}
+
 /// Reads the inputs that end a line.
 #[tactic(auto, using(crate::proofs::ReadFacts::reading))]
 pub fn read_inputs(alloc: Global, words: &[&[u8]], at: &mut usize) -> Result<List<SaidInput>, Stop>

@@ -1,12 +1,13 @@
 // The canonical text of a plan.
-ghost use Rattle.std.specs.Prelude.{◌≡◌, ◌∷◌, ◌++◌, [], IfOk, OnOk, codes, decimal, map};
-ghost use Rattle.std.specs.List.{join_with_byte};
-ghost use Rattle.mq_model.specs.Printed.{demand_word, input_word, inputs_words, line_text, printed, route_words, said_words, spaced};
-ghost use Rattle.mq_model.specs.SaidOf.{demand_by, input_by, name_at, names_in, node_by, route_by};
+ghost use Rattle.std.specs.Prelude.{◌≡◌, ◌∷◌, ◌++◌, [], IfOk, List, OnOk, codes, decimal, map};
+ghost use Rattle.std.specs.List.{flat_map, join_with_byte};
+ghost use Rattle.mq_model.specs.Form.{Word};
+ghost use Rattle.mq_model.specs.Printed.{demand_word, first_word, input_word, inputs_words, kind_words, line_text, printed, reads_words, route_words, said_words, spaced, stage_words, stages_words};
+ghost use Rattle.mq_model.specs.SaidOf.{demand_by, input_by, kind_by, name_at, names_in, node_by, route_by, stage_by};
 
 use itoa::Buffer;
 use mq_base::{List, OutOfMemory};
-use mq_core::{Demand, Input, Kind, Network, Node, Plan, Route};
+use mq_core::{Demand, Input, Kind, Network, Node, Plan, Route, Stage};
 use std::alloc::Global;
 
 /// The name of a node, by its number; where there is no such node, it is empty.
@@ -117,31 +118,83 @@ fn push_route(text: &mut Vec<u8>, net: &Network, route: &Route) -> Result<(), Ou
     }
 }
 
-/// Adds the first word of a line and the node's name.
-fn push_start(text: &mut Vec<u8>, kind: &[u8], node: &Node) -> Result<(), OutOfMemory>
-    ensures { OnOk result (text.new.items ≡ text.old.items ++ kind.now ++ 32 ∷ node.now.name) }
+/// Adds a slash, and the places and the demand of a stage.
+fn push_stage(text: &mut Vec<u8>, net: &Network, stage: &Stage) -> Result<(), OutOfMemory>
+    ensures { OnOk result (text.new.items ≡ text.old.items ++ spaced (stage_words (stage_by net.now.columns stage.now))) }
 {
-    text.extend_from_slice(kind)?;
-    push_word(text, node.name.as_slice())
+    push_word(text, b"/")?;
+    push_number(text, stage.places as u64)?;
+    push_demand(text, net, &stage.demand)
+}
+
+fn push_further(text: &mut Vec<u8>, net: &Network, stages: &[Stage]) -> Result<(), OutOfMemory>
+    ensures { OnOk result (text.new.items ≡ text.old.items ++ spaced (flat_map stage_words (map (stage_by net.now.columns) stages.now))) }
+{
+    for stage in stages {
+        push_stage(text, net, stage)?;
+    }
+    Ok(())
+}
+
+/// Adds the stages of a tandem, the first without its places.
+fn push_stages(text: &mut Vec<u8>, net: &Network, stages: &[Stage]) -> Result<(), OutOfMemory>
+    ensures { OnOk result (text.new.items ≡ text.old.items ++ spaced (stages_words (map (stage_by net.now.columns) stages.now))) }
+{
+    let [first, further @ ..] = stages else {
+        return Ok(());
+    };
+    push_demand(text, net, &first.demand)?;
+    push_further(text, net, further)
+}
+
+/// The first word of a node's line.
+fn first_word(kind: &Kind) -> &[u8]
+    ensures { (columns : List Word) → result.now ≡ first_word (kind_by columns kind.now) }
+{
+    match kind {
+        Kind::Source => b"source",
+        Kind::Server(_) => b"server",
+        Kind::Delay(_) => b"delay",
+        Kind::Loss { .. } => b"loss",
+        Kind::Tandem(_) => b"tandem",
+        Kind::Split(_) => b"split",
+    }
+}
+
+/// Adds what stands between the name and the inputs.
+fn push_kind(text: &mut Vec<u8>, net: &Network, kind: &Kind) -> Result<(), OutOfMemory>
+    ensures { OnOk result (text.new.items ≡ text.old.items ++ spaced (kind_words (kind_by net.now.columns kind.now))) }
+{
+    match kind {
+        Kind::Source => Ok(()),
+        Kind::Server(demand) | Kind::Delay(demand) => push_demand(text, net, demand),
+        Kind::Loss { places, demand } => {
+            push_number(text, *places as u64)?;
+            push_demand(text, net, demand)
+        }
+        Kind::Tandem(stages) => push_stages(text, net, stages.as_slice()),
+        Kind::Split(route) => push_route(text, net, route),
+    }
+}
+
+/// Adds the inputs of a node, which a source has none of.
+fn push_reads(text: &mut Vec<u8>, net: &Network, node: &Node) -> Result<(), OutOfMemory>
+    ensures { OnOk result (text.new.items ≡ text.old.items ++ spaced (reads_words (kind_by net.now.columns node.now.kind) (map (input_by (names_in net.now)) node.now.inputs))) }
+{
+    match &node.kind {
+        Kind::Source => Ok(()),
+        _ => push_inputs(text, net, node.inputs.as_slice()),
+    }
 }
 
 /// Adds the words of a node's line.
 fn push_node_words(text: &mut Vec<u8>, net: &Network, node: &Node) -> Result<(), OutOfMemory>
     ensures { OnOk result (text.new.items ≡ text.old.items ++ join_with_byte 32 (said_words (node_by (names_in net.now) net.now.columns node.now))) }
 {
-    match &node.kind {
-        Kind::Source => push_start(text, b"source", node),
-        Kind::Server(demand) => {
-            push_start(text, b"server", node)?;
-            push_demand(text, net, demand)?;
-            push_inputs(text, net, node.inputs.as_slice())
-        }
-        Kind::Split(route) => {
-            push_start(text, b"split", node)?;
-            push_route(text, net, route)?;
-            push_inputs(text, net, node.inputs.as_slice())
-        }
-    }
+    text.extend_from_slice(first_word(&node.kind))?;
+    push_word(text, node.name.as_slice())?;
+    push_kind(text, net, &node.kind)?;
+    push_reads(text, net, node)
 }
 
 fn push_node(text: &mut Vec<u8>, net: &Network, node: &Node) -> Result<(), OutOfMemory>

@@ -1,10 +1,10 @@
 // The route of a split.
 ghost use Rattle.std.specs.Prelude.{◌≡◌, ◌≤◌, MatchOption, false, length, true};
 ghost use Rattle.mq_model.specs.Form.{one, read};
-ghost use Rattle.mq_model.specs.Lines.{a_route, counted_route, cut_route, greatest_demand, is_above, is_from_to, is_up_to, modulo_route, thresholds, value_of, way_of};
+ghost use Rattle.mq_model.specs.Lines.{a_route, counted_route, cut_route, greatest_demand, is_above, is_up_to, modulo_route, thresholds, value_of, way_of};
 ghost use Rattle.mq_model.specs.Reading.{Reads, words_from};
 
-use crate::parts::{Stop, read_name, word_at};
+use crate::parts::{Stop, read_name, read_within, word_at};
 use crate::said::SaidRoute;
 use crate::word::GREATEST_DEMAND;
 use mq_base::{List, read_number};
@@ -73,25 +73,6 @@ fn read_cut(alloc: Global, words: &[&[u8]], at: &mut usize) -> Result<SaidRoute,
     Ok(SaidRoute::Cut { column, thresholds })
 }
 
-/// Reads the number of outputs.
-#[tactic(auto, using(crate::proofs::ReadFacts::choices))]
-fn read_outputs(words: &[&[u8]], at: &mut usize) -> Result<u8, Stop>
-    ensures reads { Reads result (words_from words.now at.new) (read (one (is_from_to 2 8) value_of) (words_from words.now at.old)) }
-    ensures within { at.old ≤ length words.now → at.new ≤ length words.now }
-{
-    let Some(word) = word_at(words, *at) else {
-        return Err(Stop::Word);
-    };
-    let Some(outputs) = read_number(word, 8) else {
-        return Err(Stop::Word);
-    };
-    if outputs < 2 {
-        return Err(Stop::Word);
-    }
-    *at += 1;
-    Ok(outputs as u8)
-}
-
 /// Reads what stands behind `mod`.
 fn read_modulo(
     alloc: Global,
@@ -131,8 +112,8 @@ fn read_counted(alloc: Global, words: &[&[u8]], at: &mut usize) -> Result<SaidRo
     ensures reads { Reads result (words_from words.now at.new) (read counted_route (words_from words.now at.old)) }
     ensures within { at.old ≤ length words.now → at.new ≤ length words.now }
 {
-    let outputs = read_outputs(words, at)?;
-    read_way(alloc, words, at, outputs)
+    let outputs = read_within(words, at, 2, 8)?;
+    read_way(alloc, words, at, outputs as u8)
 }
 
 /// Reads a route.

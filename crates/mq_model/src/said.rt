@@ -31,11 +31,21 @@ pub enum SaidRoute {
     },
 }
 
+/// A stage of a tandem: its places, 0 at the first, and its demand.
+#[derive(Drop)]
+pub struct SaidStage {
+    pub places: u8,
+    pub demand: SaidDemand,
+}
+
 /// What a node does with its jobs.
 #[derive(Drop)]
 pub enum SaidKind {
     Source,
     Server(SaidDemand),
+    Delay(SaidDemand),
+    Loss { places: u32, demand: SaidDemand },
+    Tandem(List<SaidStage>),
     Split(SaidRoute),
 }
 

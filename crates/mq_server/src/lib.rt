@@ -16,6 +16,8 @@ mod tests;
 /// departure a job, by position, in ticks. A job begins at its arrival or when the job before it
 /// leaves, whichever is later, and takes its demand, in ticks of service (Lindley's recurrence).
 /// It refuses for want of memory alone.
+// It is not inlined, so that its loop has the registers to itself.
+#[inline(never)]
 pub fn departures(
     alloc: Global,
     stream: &Stream,

@@ -53,6 +53,8 @@ fn outputs_of(route: &Route) -> u8
 }
 
 // The output of each job, by position.
+// Its loop, like others below, is not inlined, so that it has the registers to itself.
+#[inline(never)]
 fn outs_of(alloc: Global, values: &List<u64>, route: &Route) -> Result<Vec<u8>, OutOfMemory>
     requires route { (columns : ℕ) × IsTrue (is_sound_route columns route.now) }
     requires few { length values.now ≤ 1048576 }
@@ -80,6 +82,7 @@ fn count_of(outs: &[u8], out: u8) -> usize
 
 /// The items, in their order, whose output is this one. `outs` has the output of each, by position;
 /// the jobs and the times of the stream are as many. It refuses for want of memory alone.
+#[inline(never)]
 pub fn pick(alloc: Global, stream: &Stream, outs: &[u8], out: u8) -> Result<Stream, OutOfMemory>
     requires jobs { length stream.now.job ≡ length outs.now }
     requires times { length stream.now.time ≡ length outs.now }

@@ -121,6 +121,8 @@ struct Stays {
 
 // The lost visits, the sum and the greatest of the sojourns, and the greatest number of jobs just
 // after a visit came.
+// Its loop, like others below, is not inlined, so that it has the registers to itself.
+#[inline(never)]
 fn stays_of(visits: &Visits) -> Stays
     requires few { length visits.now.arrive ≤ 1048576 }
     requires founds { length visits.now.found ≡ length visits.now.arrive }
@@ -159,6 +161,7 @@ struct Waits {
 }
 
 // The waits at a node of this kind, one visit after another.
+#[inline(never)]
 fn each_wait(rows: &Rows, kind: &Kind, visits: &Visits) -> Waits
     requires { AreVisits rows.now kind.now visits.now }
     ensures wait { result.wait ≡ sum (column_waits rows.now kind.now visits.now.job visits.now.arrive visits.now.fate) }

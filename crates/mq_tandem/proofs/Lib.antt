@@ -1,5 +1,5 @@
 mod Lists
-mod Stopping
+mod Rooms
 mod Passing
 mod Looking
 mod Working

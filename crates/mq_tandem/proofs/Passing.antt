@@ -15,12 +15,6 @@ moved (suc count) [] left = left
 moved (suc count) (time ∷ times) [] = []
 moved (suc count) (time ∷ times) (earlier ∷ left) = take 4 (time ∷ earlier) ∷ moved count times left
 
-length-moved : (count : ℕ) (times : List ℕ) (left : List (List ℕ)) → length (moved count times left) ≡ length left
-length-moved zero times left = refl
-length-moved (suc count) [] left = refl
-length-moved (suc count) (time ∷ times) [] = refl
-length-moved (suc count) (time ∷ times) (earlier ∷ left) = ap suc (length-moved count times left)
-
 drop-moved : (count i : ℕ) (times : List ℕ) (left : List (List ℕ)) → count ≤ i → drop i (moved count times left) ≡ drop i left
 drop-moved zero i times left l = refl
 drop-moved (suc count) zero times left l = absurd (omega arith)
@@ -71,9 +65,6 @@ pub record Passing (came : ℕ) (places demands : List ℕ) (before now : List (
 
 pub passing-begins : (came : ℕ) (places demands : List ℕ) (before : List (List ℕ)) → came ≤ 2 ^ 62 → Passing came places demands before before came 0
 passing-begins came places demands before l = record { ahead = refl; reached = refl; latest = refl; early = omega arith }
-
-pub length-passing : (came : ℕ) (places demands : List ℕ) (before now : List (List ℕ)) (time stage : ℕ) → Passing came places demands before now time stage → length now ≡ length before
-length-passing came places demands before now time stage h = ap length h.latest ∙ length-moved stage _ before
 
 -- what the stage has as its latest departures
 pub earlier-passing : (came : ℕ) (places demands : List ℕ) (before now : List (List ℕ)) (time stage : ℕ) → Passing came places demands before now time stage → get_or now stage [] ≡ get_or before stage []

@@ -78,16 +78,6 @@ pub came-early : (arrives : List ℕ) (demands : List (List ℕ)) (places : List
 came-early arrives demands places job came are load h =
     subst (λ n. n ≤ 2 ^ 60) (get_or_from_slice_get arrives job came 0 h) (All-get_or (λ n. n ≤ 2 ^ 60) arrives job 0 (slice_get_within arrives job came h) (load-first arrives demands places are load).early)
 
--- the stages are in the limit of a job that goes through
-pub left-early : (arrives : List ℕ) (demands : List (List ℕ)) (places departs : List ℕ) (left : List (List ℕ)) (job : ℕ) → AreStages places demands → All (λ column. IsSoundLoad arrives column) demands → job < length arrives → Working places arrives demands departs left job → AreEarly (2 ^ 62) left
-left-early arrives demands places departs left job are load l h =
-    let few : length arrives ≤ 1048576 = (load-first arrives demands places are load).few in
-    let limit : 2 ^ 60 + job * 2 ^ 38 ≤ 2 ^ 62 = omega arith in
-    All-weaker (λ earlier. All (λ time. time ≤ 2 ^ 60 + job * 2 ^ 38) earlier) (λ earlier. All (λ time. time ≤ 2 ^ 62) earlier) (λ earlier k. All-weaker (λ time. time ≤ 2 ^ 60 + job * 2 ^ 38) (λ time. time ≤ 2 ^ 62) (λ time j. wider (2 ^ 60 + job * 2 ^ 38) (2 ^ 62) time limit j) earlier k) left h.early
-  where
-    wider : (limit later time : ℕ) → limit ≤ later → time ≤ limit → time ≤ later
-    wider limit later time a b = omega arith
-
 rooms : (places : List ℕ) (demands : List (List ℕ)) → AreStages places demands → HaveRoom (drop 1 places)
 rooms places demands are = record { room = are.room; narrow = are.narrow }
 

@@ -36,13 +36,13 @@ pub fn tandem_departures(
     requires stages { AreStages places.now demands.now }
     ensures { IfOk result (λ departs. departs ≡ tandem_departs places.now (map (λ _. []) places.now) stream.now.time demands.now) }
 {
-    let mut departs = List::new(alloc);
+    let mut departs = Vec::with_capacity(alloc, stream.time.len())?;
     let mut left = none_left(alloc, places)?;
     for job in 0..stream.time.len() {
         let time = pass(&mut left, *stream.time.get(job), demands, places, job);
-        departs.push(time)?;
+        departs.push_reserved(time);
     }
-    Ok(departs)
+    Ok(List::from_vec(departs))
 }
 
 // The stages before any job has left.

@@ -1,4 +1,4 @@
-use Rattle.std.proofs.Common.{◌≤◌, length, arith}
+use Rattle.std.proofs.Common.{◌≤◌, ◌∙◌, length, arith}
 use Rattle.mq_delay.proofs.Lists.{delayed-next, delayed-all, early}
 use Rattle.mq_delay.proofs.departures.Goals as goal
 
@@ -8,9 +8,14 @@ overflow_add-get c =
     omega arith
 
 pub loop-at-preserved : goal.loop-at-preserved
-loop-at-preserved c = delayed-next _ _ _ c.args.arrive.now c.args.demands.now c.loop-at.at _ _ c.get.ensures c.get-in-loop-at.ensures c.in_ok-push.ensures.ok c.loop-at.invariant
+loop-at-preserved c =
+    record {
+      so_far = delayed-next _ _ _ c.args.arrive.now c.args.demands.now c.loop-at.at _ _ c.get.ensures c.get-in-loop-at.ensures c.push_reserved.ensures.items c.loop-at.invariant.so_far;
+      len = omega arith;
+      room = omega arith;
+    }
 
 pub returns : goal.returns
 returns c =
     let ended : length c.args.arrive.now ≤ c.loop-at.at = omega arith in
-    delayed-all _ _ _ _ _ ended c.loop-at.invariant
+    c.from_vec.ensures ∙ delayed-all _ _ _ _ _ ended c.loop-at.invariant.so_far

@@ -1,4 +1,4 @@
-use Rattle.mq_tandem.proofs.Stopping.{room-there}
+use Rattle.mq_tandem.proofs.Rooms.{room-there}
 use Rattle.mq_tandem.proofs.room_at.Goals as goal
 
 pub returns-then-stage-left : goal.returns-then-stage-left

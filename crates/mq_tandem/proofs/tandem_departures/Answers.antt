@@ -4,7 +4,12 @@ use Rattle.mq_tandem.proofs.Working.{working-begins, working-next, working-ends,
 use Rattle.mq_tandem.proofs.tandem_departures.Goals as goal
 
 pub loop-job-init : goal.loop-job-init
-loop-job-init c = working-begins _ _ _ _ _ c.requires.stages c.new-departs.ensures c.in_ok-left.ensures
+loop-job-init c =
+    record {
+      working = working-begins _ _ _ _ _ c.requires.stages c.in_ok-departs.ensures.items c.in_ok-left.ensures;
+      len = c.in_ok-departs.ensures.len;
+      room = omega (arith, c.len.ensures, c.in_ok-departs.ensures.capacity);
+    }
 
 pub pass-time-requires-clause-came : goal.pass-time-requires-clause-came
 pass-time-requires-clause-came c =
@@ -21,9 +26,13 @@ loop-job-preserved c =
     let long : length new ≡ length old = c.pass-time.auto.left ∙ ap length value in
     let time : c.pass-time.result ≡ last_time (stage_departs c.get.result.now c.args.places.now demands old) = c.pass-time.ensures.time ∙ ap (λ left. last_time (stage_departs c.get.result.now c.args.places.now demands left)) value in
     let left : new ≡ map (take 4) (each_before (stage_departs c.get.result.now c.args.places.now demands old) old) = c.pass-time.ensures.left ∙ ap (λ left. map (take 4) (each_before (stage_departs c.get.result.now c.args.places.now demands left) left)) value in
-    working-next _ _ _ _ _ _ _ _ _ _ c.requires.stages c.requires.load c.get.ensures time (written old new c.loop-job.left.len long count ∙ left) c.in_ok-push.ensures.ok c.loop-job.invariant
+    record {
+      working = working-next _ _ _ _ _ _ _ _ _ _ c.requires.stages c.requires.load c.get.ensures time (written old new c.loop-job.left.len long count ∙ left) c.push_reserved.ensures.items c.loop-job.invariant.working;
+      len = omega arith;
+      room = omega arith;
+    }
 
 pub returns : goal.returns
 returns c =
     let ended : length c.args.stream.now.time ≤ c.loop-job.job = omega arith in
-    working-ends _ _ _ _ _ _ ended c.loop-job.invariant
+    c.from_vec.ensures ∙ working-ends _ _ _ _ _ _ ended c.loop-job.invariant.working

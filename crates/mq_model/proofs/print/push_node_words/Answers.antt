@@ -1,12 +1,10 @@
-use Rattle.mq_model.proofs.SpacedWords.{on_ok, server_text, split_text}
+use Rattle.std.proofs.Common.{◌++◌, ap, ◌∙◌}
+use Rattle.mq_model.proofs.SpacedWords.{node_text, on_ok}
 use Rattle.mq_model.proofs.print.push_node_words.Goals as goal
 
-pub returns-in_ok-push_demand-in-Server : goal.returns-in_ok-push_demand-in-Server
-returns-in_ok-push_demand-in-Server c =
-    let said = server_text c.args.net.now c.args.node.now _ _ c.args.text.now.items _ _ c.push_inputs.new.text.items c.in-Server.is c.as_slice.ensures c.in_ok-push_start-in-Server.ensures c.in_ok-push_demand-in-Server.ensures in
-    on_ok c.push_inputs.result said c.push_inputs.ensures
-
-pub returns-in_ok-push_route-in-Split : goal.returns-in_ok-push_route-in-Split
-returns-in_ok-push_route-in-Split c =
-    let said = split_text c.args.net.now c.args.node.now _ _ c.args.text.now.items _ _ c.push_inputs-in-Split.new.text.items c.in-Split.is c.as_slice-in-Split.ensures c.in_ok-push_start-in-Split.ensures c.in_ok-push_route-in-Split.ensures in
-    on_ok c.push_inputs-in-Split.result said c.push_inputs-in-Split.ensures
+pub returns : goal.returns
+returns c =
+    let first = c.first_word.ensures c.args.net.now.columns in
+    let start = c.in_ok-extend_from_slice.ensures.items ∙ ap (λ word. c.args.text.now.items ++ word) first in
+    let named = rw c.as_slice.ensures at c.in_ok-push_word.ensures in
+    on_ok c.push_reads.result (node_text c.args.text.now.items _ c.args.node.now.name _ _ _ _ _ _ start named c.in_ok-push_kind.ensures) c.push_reads.ensures

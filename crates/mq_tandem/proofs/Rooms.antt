@@ -1,7 +1,6 @@
 -- When a stage has room.
-use Rattle.std.proofs.Common.{◌≡◌, ℕ, ◌-◌, ◌<◌, ◌≤◌, List, [], length, get_or, drop, Some, sym, ap, ◌∙◌}
+use Rattle.std.proofs.Common.{◌≡◌, ℕ, ◌-◌, ◌<◌, List, [], length, get_or, drop, Some, sym, ◌∙◌}
 use Rattle.std.specs.Prelude.{slice_get}
-use Rattle.std.proofs.lemmas.List.{drop_all}
 use Rattle.mq_core.specs.Recurrences.{room_in}
 use Rattle.mq_tandem.proofs.Lists.{drop_at, get_within, get_or-time}
 
@@ -9,6 +8,3 @@ pub room-there : (places : List ℕ) (left : List (List ℕ)) (stage count : ℕ
 room-there places left stage count h l =
     get_or-time (get_or left stage []) (count - 1)
     ∙ sym (λ k. room_in (drop_at places stage count h k) (drop_at left stage (get_or left stage []) (get_within left stage [] l) k))
-
-pub room-behind : (places : List ℕ) (left : List (List ℕ)) (stage : ℕ) → length places ≤ stage → 0 ≡ room_in (drop stage places) (drop stage left)
-room-behind places left stage l = ap (λ more. room_in more (drop stage left)) (sym (drop_all stage places l))

@@ -1,0 +1,44 @@
+-- Lists that are made item by item.
+use Rattle.std.proofs.Common.{◌≡◌, ◌∙◌, sym, ap, refl, List, [], ◌∷◌, ◌++◌, Bool, true}
+use Rattle.std.specs.Prelude.{map, ◌&&◌}
+use Rattle.std.specs.List.{list_all, flat_map}
+use Rattle.std.proofs.lemmas.Bool.{and_parts, and_from}
+use Rattle.std.proofs.lemmas.List.{map-append}
+use Rattle.std.proofs.lemmas.List.Folds.{list_all-append}
+
+-- each item has the property
+abbrev pub AreAll : {A : Type 0} → (A → Type 0) → List A → Type 0
+AreAll P [] = Unit {0}
+AreAll P (x ∷ xs) = P x × AreAll P xs
+
+pub all_parts : {X : Type 0} (p : X → Bool) (xs ys : List X) → list_all p (xs ++ ys) ≡ true → (list_all p xs ≡ true) × (list_all p ys ≡ true)
+all_parts p xs ys h = and_parts _ _ (sym (list_all-append p xs ys) ∙ h)
+
+pub all_both : {X : Type 0} (p : X → Bool) (xs ys : List X) → list_all p xs ≡ true → list_all p ys ≡ true → list_all p (xs ++ ys) ≡ true
+all_both p xs ys h k = list_all-append p xs ys ∙ and_from _ _ h k
+
+-- items that are told in two ways
+pub flat_mapped : {A B X Y : Type 0} (f : A → List Y) (g : B → List X) (h : B → A) (v : X → Y) → ((b : B) → f (h b) ≡ map v (g b)) → (bs : List B) → flat_map f (map h bs) ≡ map v (flat_map g bs)
+flat_mapped f g h v each [] = refl
+flat_mapped f g h v each (b ∷ bs) =
+    ap (λ front. front ++ flat_map f (map h bs)) (each b) ∙ ap (λ more. map v (g b) ++ more) (flat_mapped f g h v each bs) ∙ sym (map-append v (g b) (flat_map g bs))
+
+-- what each item tells passes
+pub all_told : {A X : Type 0} (P : A → Type 0) (g : A → List X) (p : X → Bool) → ((a : A) → P a → list_all p (g a) ≡ true) → (xs : List A) → AreAll P xs → list_all p (flat_map g xs) ≡ true
+all_told P g p each [] all = refl
+all_told P g p each (x ∷ xs) all = all_both p (g x) (flat_map g xs) (each x all.0) (all_told P g p each xs all.1)
+
+-- where all that is told passes, so does each item
+pub all_mapped : {A B X : Type 0} (P : B → Type 0) (g : B → List X) (h : B → A) (p : X → Bool) (q : A → Bool) → ((b : B) → P b → list_all p (g b) ≡ true → q (h b) ≡ true)
+    → (bs : List B) → AreAll P bs → list_all p (flat_map g bs) ≡ true → list_all q (map h bs) ≡ true
+all_mapped P g h p q each [] all told = refl
+all_mapped P g h p q each (b ∷ bs) all told = let both = all_parts p (g b) (flat_map g bs) told in and_from _ _ (each b all.0 both.0) (all_mapped P g h p q each bs all.1 both.1)
+
+-- there and back
+pub map_back : {A B : Type 0} (f : A → B) (g : B → A) (q : A → Bool) → ((a : A) → q a ≡ true → g (f a) ≡ a) → (xs : List A) → list_all q xs ≡ true → map g (map f xs) ≡ xs
+map_back f g q each [] h = refl
+map_back f g q each (x ∷ xs) h = let both = and_parts _ _ h in ap (λ y. y ∷ map g (map f xs)) (each x both.0) ∙ ap (λ ys. x ∷ ys) (map_back f g q each xs both.1)
+
+pub all_have : {A B : Type 0} (f : A → B) (q : A → Bool) (P : B → Type 0) → ((a : A) → q a ≡ true → P (f a)) → (xs : List A) → list_all q xs ≡ true → AreAll P (map f xs)
+all_have f q P each [] h = tt
+all_have f q P each (x ∷ xs) h = let both = and_parts _ _ h in (each x both.0, all_have f q P each xs both.1)
