@@ -3,5 +3,6 @@ pub mod Sorted
 pub mod Leaves
 pub mod Passing
 pub mod LossFates
+pub mod StageFacts
 pub mod Early
 pub mod Rounds

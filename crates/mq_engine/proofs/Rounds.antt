@@ -22,7 +22,7 @@ use Rattle.mq_core.specs.Theorems.{IsReadFor}
 use Rattle.mq_core.specs.Wiring.{is_source_kind, outputs_read}
 use Rattle.mq_core.specs.declared.model.Input.{Input}
 use Rattle.mq_core.specs.declared.model.Kind.{Kind}
-use Rattle.mq_core.specs.declared.model.Kind.TheVariants.{Source, Server, Delay, Loss, Split}
+use Rattle.mq_core.specs.declared.model.Kind.TheVariants.{Source, Server, Delay, Loss, Tandem, ForkJoin, Split}
 use Rattle.mq_core.specs.declared.model.Node.{Node}
 use Rattle.mq_core.specs.declared.model.Plan.{Plan}
 use Rattle.mq_core.specs.declared.model.Rows.{Rows}
@@ -93,6 +93,8 @@ source-kind Source e = refl
 source-kind (Server demand) e = absurd cc
 source-kind (Delay demand) e = absurd cc
 source-kind (Loss places demand) e = absurd cc
+source-kind (Tandem stages) e = absurd cc
+source-kind (ForkJoin branches) e = absurd cc
 source-kind (Split route) e = absurd cc
 
 arriving-run : (laws : CoreLaws) (plan : Plan) (rows : Rows) (visits : List Visits) (outputs : List (List Stream)) (rank v : ℕ) (node : Node) → IsReadFor plan.net rows → Reached plan rows visits outputs rank → IsNext plan rank v node →

@@ -12,6 +12,7 @@ mod fault;
 mod late;
 mod laws;
 mod losses;
+mod series;
 mod stations;
 mod turns;
 

@@ -9,6 +9,7 @@ ghost use Rattle.mq_core.specs.declared.model.Rows.{Rows as TheRows};
 ghost use Rattle.mq_engine.specs.Turns.{AreTold, IsLeaving, IsLoad};
 
 use crate::losses::admitted_or_lost;
+use crate::series::{in_branches, in_stages};
 use mq_base::{List, OutOfMemory};
 use mq_core::{Demand, Fate, Kind, Network, Route, Rows, Stream, demand_of};
 use mq_delay::delay;
@@ -41,6 +42,8 @@ pub fn leaving(
         Kind::Loss { places, demand } => {
             admitted_or_lost(alloc, net, rows, *places, demand, arrivals)
         }
+        Kind::Tandem(stages) => in_stages(alloc, net, rows, stages, arrivals),
+        Kind::ForkJoin(branches) => in_branches(alloc, net, rows, branches, arrivals),
         Kind::Split(route) => routed(alloc, net, rows, route, arrivals),
     }
 }
@@ -166,7 +169,7 @@ fn value_by(net: &Network, rows: &Rows, route: &Route, job: u32) -> u64
 
 // The fates of visits that depart at these times.
 #[inline(never)]
-fn fates_of(alloc: Global, departs: &List<u64>) -> Result<List<Fate>, OutOfMemory>
+pub fn fates_of(alloc: Global, departs: &List<u64>) -> Result<List<Fate>, OutOfMemory>
     ensures { IfOk result (λ fates. fates ≡ map (λ time. Departs time) departs.now) }
 {
     let mut fates = Vec::with_capacity(alloc, departs.len())?;
@@ -177,7 +180,7 @@ fn fates_of(alloc: Global, departs: &List<u64>) -> Result<List<Fate>, OutOfMemor
 }
 
 // The streams of a node with one output, by which these jobs leave at these times.
-fn one_stream(
+pub fn one_stream(
     alloc: Global,
     jobs: &List<u32>,
     departs: List<u64>,
