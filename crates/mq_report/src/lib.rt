@@ -1,6 +1,7 @@
 //! The report of a run.
 #![tactic(auto)]
 
+mod jobs;
 mod lines;
 mod sections;
 
