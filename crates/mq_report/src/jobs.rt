@@ -101,8 +101,8 @@ fn add_visit<O: Sink>(
     add_fate(out, pending, wait, fate)
 }
 
-// Adds the lines of the visits to a node, by position.
-fn add_visits<O: Sink>(
+/// Adds the lines of the visits to a node of this name and kind, by position.
+pub fn add_visits<O: Sink>(
     out: &mut O,
     pending: &mut Gather,
     rows: &Rows,

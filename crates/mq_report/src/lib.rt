@@ -4,5 +4,7 @@
 mod jobs;
 mod lines;
 mod sections;
+#[cfg(test)]
+mod tests;
 
 pub use sections::report;
