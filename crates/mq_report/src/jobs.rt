@@ -15,73 +15,50 @@ ghost use Rattle.mq_report.specs.Text.{
   visit_words,
 };
 
-use mq_base::{Gather, Piece, Sink, SinkFault, add_pieces};
+use crate::line::Line;
+use mq_base::{Gather, Sink, SinkFault, add_bytes};
 use mq_core::{Fate, Kind, Node, Plan, Rows, Run, Visits, orders_rank, runs_have_columns};
 use mq_stats::{runs_give_visits, wait_of};
 
-// Adds the first part of a visit's line: the job, the node's name and the time of arrival.
-#[tactic(auto, unfolding(crate::specs::Text::visit_words))]
-fn add_words<O: Sink>(
-    out: &mut O,
-    pending: &mut Gather,
-    name: &[u8],
-    job: u32,
-    arrive: u64,
-) -> Result<(), SinkFault>
-    ensures ok { OnOk result (GoesOut (O.taken out.old) (O.taken out.new) (O.sure out.old) (O.sure out.new) (pending.old ++ visit_words name.now job arrive) pending.new) }
-    ensures err { OnErr result (TakesPrefix (O.taken out.old) (O.taken out.new) (O.sure out.old) (O.sure out.new) (pending.old ++ visit_words name.now job arrive)) }
-    ensures later { O.faults out.old ≤ O.faults out.new }
-    ensures rose { OnErr result (Rose (O.faults out.old) (O.faults out.new)) }
-    ensures sure { length (pending.old ++ visit_words name.now job arrive) ≤ O.sure out.old → O.faults out.new ≡ O.faults out.old }
-{
-    add_pieces(
-        out,
-        pending,
-        &[
-            Piece::Text(b"job "),
-            Piece::Number(job as u128 + 1),
-            Piece::Text(b" "),
-            Piece::Text(name),
-            Piece::Text(b" arrive "),
-            Piece::Number(arrive as u128),
-        ],
-    )
-}
-
-// Adds how a visit ended, and the end of the line.
+// Puts how a visit ended, and the end of its line, in the place of what the line had.
 #[tactic(auto, unfolding(crate::specs::Text::departs_words, crate::specs::Text::lost_words))]
-fn add_fate<O: Sink>(
-    out: &mut O,
-    pending: &mut Gather,
-    wait: u64,
-    fate: Fate,
-) -> Result<(), SinkFault>
-    ensures ok { OnOk result (GoesOut (O.taken out.old) (O.taken out.new) (O.sure out.old) (O.sure out.new) (pending.old ++ fate_words wait fate) pending.new) }
-    ensures err { OnErr result (TakesPrefix (O.taken out.old) (O.taken out.new) (O.sure out.old) (O.sure out.new) (pending.old ++ fate_words wait fate)) }
-    ensures later { O.faults out.old ≤ O.faults out.new }
-    ensures rose { OnErr result (Rose (O.faults out.old) (O.faults out.new)) }
-    ensures sure { length (pending.old ++ fate_words wait fate) ≤ O.sure out.old → O.faults out.new ≡ O.faults out.old }
+fn put_fate(line: &mut Line, wait: u64, fate: Fate)
+    ensures text { line.new ≡ fate_words wait fate }
+    ensures short { length line.new ≤ 55 }
 {
+    line.clear();
     match fate {
-        Fate::Departs(time) => add_pieces(
-            out,
-            pending,
-            &[
-                Piece::Text(b" wait "),
-                Piece::Number(wait as u128),
-                Piece::Text(b" depart "),
-                Piece::Number(time as u128),
-                Piece::Text(b"\n"),
-            ],
-        ),
-        Fate::Lost => add_pieces(out, pending, &[Piece::Text(b" lost\n")]),
+        Fate::Departs(time) => {
+            line.put_text(b"\n");
+            line.put_number(time);
+            line.put_text(b" depart ");
+            line.put_number(wait);
+            line.put_text(b" wait ");
+        }
+        Fate::Lost => line.put_text(b" lost\n"),
     }
 }
 
-// Adds the line of a visit.
+// Puts the job, the node's name and the time of arrival of a visit before how it ended.
+#[tactic(auto, unfolding(crate::specs::Text::visit_words))]
+fn put_words(line: &mut Line, name: &[u8], job: u32, arrive: u64)
+    requires name { length name.now ≤ 32 }
+    requires short { length line.old ≤ 55 }
+    ensures { line.new ≡ visit_words name.now job arrive ++ line.old }
+{
+    line.put_number(arrive);
+    line.put_text(b" arrive ");
+    line.put_text(name);
+    line.put_text(b" ");
+    line.put_number(job as u64 + 1);
+    line.put_text(b"job ");
+}
+
+// Adds the line of a visit, by way of a line whose bytes are of no use any more.
 fn add_visit<O: Sink>(
     out: &mut O,
     pending: &mut Gather,
+    line: &mut Line,
     rows: &Rows,
     name: &[u8],
     kind: &Kind,
@@ -89,16 +66,17 @@ fn add_visit<O: Sink>(
     arrive: u64,
     fate: Fate,
 ) -> Result<(), SinkFault>
-    requires { HasDemands rows.now kind.now job }
+    requires name { length name.now ≤ 32 }
+    requires told { HasDemands rows.now kind.now job }
     ensures ok { OnOk result (GoesOut (O.taken out.old) (O.taken out.new) (O.sure out.old) (O.sure out.new) (pending.old ++ visit_line name.now job arrive (column_wait rows.now kind.now job arrive fate) fate) pending.new) }
     ensures err { OnErr result (TakesPrefix (O.taken out.old) (O.taken out.new) (O.sure out.old) (O.sure out.new) (pending.old ++ visit_line name.now job arrive (column_wait rows.now kind.now job arrive fate) fate)) }
     ensures later { O.faults out.old ≤ O.faults out.new }
     ensures rose { OnErr result (Rose (O.faults out.old) (O.faults out.new)) }
     ensures sure { length (pending.old ++ visit_line name.now job arrive (column_wait rows.now kind.now job arrive fate) fate) ≤ O.sure out.old → O.faults out.new ≡ O.faults out.old }
 {
-    add_words(out, pending, name, job, arrive)?;
-    let wait = wait_of(rows, kind, job, arrive, fate);
-    add_fate(out, pending, wait, fate)
+    put_fate(line, wait_of(rows, kind, job, arrive, fate), fate);
+    put_words(line, name, job, arrive);
+    add_bytes(out, pending, line.as_slice())
 }
 
 /// Adds the lines of the visits to a node of this name and kind, by position.
@@ -110,20 +88,22 @@ pub fn add_visits<O: Sink>(
     kind: &Kind,
     visits: &Visits,
 ) -> Result<(), SinkFault>
-    requires { AreVisits rows.now kind.now visits.now }
+    requires name { length name.now ≤ 32 }
+    requires visits { AreVisits rows.now kind.now visits.now }
     ensures ok { OnOk result (GoesOut (O.taken out.old) (O.taken out.new) (O.sure out.old) (O.sure out.new) (pending.old ++ column_lines rows.now name.now kind.now visits.now.job visits.now.arrive visits.now.fate) pending.new) }
     ensures err { OnErr result (TakesPrefix (O.taken out.old) (O.taken out.new) (O.sure out.old) (O.sure out.new) (pending.old ++ column_lines rows.now name.now kind.now visits.now.job visits.now.arrive visits.now.fate)) }
     ensures later { O.faults out.old ≤ O.faults out.new }
     ensures rose { OnErr result (Rose (O.faults out.old) (O.faults out.new)) }
     ensures sure { length (pending.old ++ column_lines rows.now name.now kind.now visits.now.job visits.now.arrive visits.now.fate) ≤ O.sure out.old → O.faults out.new ≡ O.faults out.old }
 {
+    let mut line = Line::new();
     for at in 0..visits.job.len() {
         let (job, arrive, fate) = (
             *visits.job.get(at),
             *visits.arrive.get(at),
             *visits.fate.get(at),
         );
-        add_visit(out, pending, rows, name, kind, job, arrive, fate)?;
+        add_visit(out, pending, &mut line, rows, name, kind, job, arrive, fate)?;
     }
     Ok(())
 }

@@ -2,6 +2,7 @@
 #![tactic(auto)]
 
 mod jobs;
+mod line;
 mod lines;
 mod sections;
 #[cfg(test)]

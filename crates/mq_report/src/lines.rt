@@ -315,7 +315,8 @@ fn add_totals<O: Sink>(
     totals: &NodeTotals,
     span: u64,
 ) -> Result<(), SinkFault>
-    requires { totals.now.busy < 2 ^ 100 }
+    requires servers { servers_in kind.now ≤ 8 }
+    requires small { totals.now.busy < 2 ^ 100 }
     ensures ok { OnOk result (GoesOut (O.taken out.old) (O.taken out.new) (O.sure out.old) (O.sure out.new) (pending.old ++ (node_numbers (totals_from totals.now) ++ utilisation_text totals.now.busy (servers_in kind.now) span)) pending.new) }
     ensures err { OnErr result (TakesPrefix (O.taken out.old) (O.taken out.new) (O.sure out.old) (O.sure out.new) (pending.old ++ (node_numbers (totals_from totals.now) ++ utilisation_text totals.now.busy (servers_in kind.now) span))) }
     ensures later { O.faults out.old ≤ O.faults out.new }
@@ -335,7 +336,8 @@ pub fn add_node<O: Sink>(
     totals: &NodeTotals,
     span: u64,
 ) -> Result<(), SinkFault>
-    requires { totals.now.busy < 2 ^ 100 }
+    requires servers { servers_in kind.now ≤ 8 }
+    requires small { totals.now.busy < 2 ^ 100 }
     ensures ok { OnOk result (GoesOut (O.taken out.old) (O.taken out.new) (O.sure out.old) (O.sure out.new) (pending.old ++ node_line name.now kind.now (totals_from totals.now) span) pending.new) }
     ensures err { OnErr result (TakesPrefix (O.taken out.old) (O.taken out.new) (O.sure out.old) (O.sure out.new) (pending.old ++ node_line name.now kind.now (totals_from totals.now) span)) }
     ensures later { O.faults out.old ≤ O.faults out.new }

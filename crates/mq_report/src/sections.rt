@@ -83,6 +83,7 @@ fn add_node_at<O: Sink>(
     ensures rose { OnErr result (Rose (O.faults out.old) (O.faults out.new)) }
     ensures sure { length (pending.old ++ line_of rows.now (run_of plan.now rows.now) node declared.now) ≤ O.sure out.old → O.faults out.new ≡ O.faults out.old }
 {
+    nodes_are_in_limits();
     let totals = totals_at(plan, rows, run, node, declared);
     add_node(
         out,

@@ -76,6 +76,7 @@ fn put_lines(
     visits: &Visits,
     out: &mut MemSink,
 ) -> Result<(), SinkFault> {
+    assert!(rt; name.len() < 10);
     assert!(rt; visits.job.len() < 1000);
     assert!(rt; visits.arrive.len() == visits.job.len());
     assert!(rt; visits.found.len() == visits.job.len());

@@ -1,8 +1,9 @@
-use Rattle.std.proofs.Common.{◌≡◌, subst, sym, ap, ◌∙◌}
+use Rattle.std.proofs.Common.{◌≡◌, subst, sym, ap, arith, length, ◌∙◌}
 use Rattle.mq_core.specs.StandardTable.{run_of}
 use Rattle.mq_stats.specs.Numbers.{AreVisits}
 use Rattle.mq_report.specs.Text.{column_lines, node_jobs}
 use Rattle.mq_report.proofs.JobLines.{jobs-are}
+use Rattle.mq_report.proofs.Names.{names-short}
 use Rattle.mq_report.proofs.Runs.{visits_inside, visits_are}
 use Rattle.mq_report.proofs.jobs.add_jobs_at.Given as Given
 use Rattle.mq_report.proofs.jobs.add_jobs_at.Goals as goal
@@ -10,8 +11,14 @@ use Rattle.mq_report.proofs.jobs.add_jobs_at.Goals as goal
 pub get-visits-requires : goal.get-visits-requires
 get-visits-requires g c = visits_inside c.runs_have_columns.ensures c.args.plan.now c.args.rows.now c.args.run.now c.args.node c.args.declared.now c.requires.run c.requires.there
 
-pub add_visits-requires : goal.add_visits-requires
-add_visits-requires g c =
+pub add_visits-requires-clause-name : goal.add_visits-requires-clause-name
+add_visits-requires-clause-name g c =
+    let long : length c.as_slice-name.result.now ≡ length c.args.declared.now.name = ap length c.as_slice-name.ensures in
+    let short = names-short c.args.plan.now c.args.node c.args.declared.now c.requires.there in
+    omega (arith, long, short)
+
+pub add_visits-requires-clause-visits : goal.add_visits-requires-clause-visits
+add_visits-requires-clause-visits g c =
     subst (AreVisits c.args.rows.now c.args.declared.now.kind)
     (visits_are c.runs_have_columns.ensures c.args.plan.now c.args.rows.now c.args.run.now c.args.node c.args.declared.now c.get-visits.result.now c.requires.run c.requires.there c.get-visits.ensures)
     (c.runs_give_visits.ensures c.args.plan.now c.args.rows.now c.requires.read c.args.node c.args.declared.now c.requires.there)

@@ -1,8 +1,8 @@
 use Rattle.std.proofs.Common.{rules, arith}
 use Rattle.mq_report.proofs.tests.put_lines.Goals as goal
 
-pub add_visits-requires : goal.add_visits-requires
-add_visits-requires g c =
+pub add_visits-requires-clause-visits : goal.add_visits-requires-clause-visits
+add_visits-requires-clause-visits g c =
     record {
       few = omega arith;
       arrives = omega arith;

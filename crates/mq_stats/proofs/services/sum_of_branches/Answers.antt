@@ -1,4 +1,4 @@
-use Rattle.std.proofs.Common.{◌≡◌, ◌+◌, ◌≤◌, drop, length, sum_by, ap, arith}
+use Rattle.std.proofs.Common.{◌≤◌, length, sum_by, ap, arith}
 use Rattle.std.specs.List.{flat_map}
 use Rattle.std.proofs.lemmas.List.{drop_all}
 use Rattle.mq_core.proofs.ForkSums.{told-at}
