@@ -1,4 +1,4 @@
-use Rattle.std.proofs.Common.{◌≡◌, ℕ, zero, suc, ◌+◌, ◌-◌, ◌*◌, ◌≤◌, List, [], ◌∷◌, ◌++◌, length, Option, Some, None, sym, refl, ap, ◌∙◌, subst, arith, length-append}
+use Rattle.std.proofs.Common.{◌≡◌, ℕ, zero, suc, ◌+◌, ◌-◌, ◌*◌, ◌<◌, ◌≤◌, List, [], ◌∷◌, ◌++◌, length, Option, Some, None, sym, refl, ap, ◌∙◌, subst, arith, length-append}
 use Rattle.std.proofs.lemmas.List.{append-nil}
 use Rattle.std.specs.Prelude.{slice_get, filter}
 use Rattle.std.specs.List.{AllByRecursion as Each}
@@ -13,9 +13,9 @@ use Rattle.mq_core.specs.OnTime.{standard-on_time}
 use Rattle.mq_core.specs.Wiring.{reader_from}
 use Rattle.mq_core.specs.Run.{starts}
 use Rattle.mq_core.specs.Laws.{is_finish_at}
-use Rattle.mq_core.specs.Fates.{service_of, BusyIsServices}
+use Rattle.mq_core.specs.Fates.{fate_of, service_of, unless_lost, BusyIsServices}
 use Rattle.mq_core.specs.declared.model.Kind.{Kind}
-use Rattle.mq_core.specs.declared.model.Kind.TheVariants.{Source, Server, Delay, Split}
+use Rattle.mq_core.specs.declared.model.Kind.TheVariants.{Source, Server, Delay, Loss, Tandem, ForkJoin, Split}
 use Rattle.mq_core.specs.declared.model.Node.{Node}
 use Rattle.mq_core.specs.declared.model.Plan.{Plan}
 use Rattle.mq_core.proofs.Kept.{Keeps, kept}
@@ -23,14 +23,20 @@ use Rattle.mq_core.proofs.Facts.{kind_fact, node_fact, standard-keeps, after_rea
 use Rattle.mq_core.proofs.Ends.{nothing-pending}
 use Rattle.mq_core.proofs.Wired.{feeds_forward}
 use Rattle.mq_core.proofs.Whole.{starts-arrive}
-use Rattle.mq_core.specs.Tallies.{sum_below}
+use Rattle.mq_core.specs.Tallies.{sum_below, emission_at}
 use Rattle.mq_core.specs.Served.{served}
 use Rattle.mq_core.specs.declared.model.Demand.{Demand}
 use Rattle.mq_core.specs.declared.model.Rows.{Rows}
 use Rattle.mq_core.proofs.DelayNumbers.{asked, delaying-busy_waits, delaying-busy_arrives, delaying-busy_ends}
 use Rattle.mq_core.proofs.Serves.{Serving, serving-done, positions, next_finish, last_served, pair-inj, latest-push}
+use Rattle.mq_core.proofs.TandemBusy.{begun_in, begun-empty, tandeming-busy_waits, tandeming-busy_arrives, tandeming-busy_ends, tandeming-served}
+use Rattle.mq_core.proofs.JoinBusy.{branches_begun, joining-busy_opens, joining-busy_waits, joining-busy_arrives, joining-busy_ends}
+use Rattle.mq_core.proofs.JoinServices.{joining-busy_done}
 use Rattle.mq_core.proofs.Areas.{get-front, sum-same}
 use Rattle.mq_core.proofs.Remaining.{remaining}
+use Rattle.mq_core.proofs.LossBusy.{LossBusy, losing-busy_waits, losing-busy_arrives, losing-busy_ends, losing-busy_done}
+use Rattle.mq_core.proofs.LossTallies.{losing-done, losing-same}
+use Rattle.mq_core.proofs.Unlost.{Departing, departing-whole, lost-out}
 
 -- the demands of the jobs whose service has begun
 abbrev pub begun : Rows → Demand → List Visit → List ℕ → ℕ
@@ -115,6 +121,9 @@ abbrev pub kind_busy : Rows → Kind → Station Local → List Event → ℕ �
 kind_busy rows Source s fs now = s.busy ≡ 0
 kind_busy rows (Server demand) s fs now = s.busy + remaining now fs ≡ begun rows demand s.visits s.local.queue
 kind_busy rows (Delay demand) s fs now = s.busy + remaining now fs ≡ asked rows demand s.visits
+kind_busy rows (Loss places demand) s fs now = LossBusy rows places demand s.visits s.local.queue fs now s.busy
+kind_busy rows (Tandem stages) s fs now = s.busy + remaining now fs ≡ begun_in rows s.visits (length s.visits) stages s.local.lines
+kind_busy rows (ForkJoin branches) s fs now = s.busy + remaining now fs ≡ branches_begun rows s.visits (length s.visits) branches s.local.branches
 kind_busy rows (Split route) s fs now = s.busy ≡ 0
 
 abbrev pub node_busy : Rows → Option Node → Station Local → List Event → ℕ → Type 0
@@ -129,6 +138,9 @@ busy-opens rows (Some node) v = go node.kind
     go Source = refl
     go (Server demand) = refl
     go (Delay demand) = refl
+    go (Loss places demand) = refl
+    go (Tandem stages) = omega (arith, begun-empty rows [] stages)
+    go (ForkJoin branches) = joining-busy_opens rows branches v
     go (Split route) = refl
 
 node_busy-waits : (rows : Rows) (o : Option Node) (v area : ℕ) (s : Station Local) (fs : List Event) (now later : ℕ) → now ≤ later → Each (λ f. later ≤ time_of f) fs → node_fact rows o v s fs now → node_busy rows o s fs now → node_busy rows o (record s { area = area; busy = s.busy + node_working o s.local * (later - now) }) fs later
@@ -138,18 +150,24 @@ node_busy-waits rows (Some node) v area s fs now later l f h b = go node.kind h 
     go : (kind : Kind) → kind_fact rows kind v s fs now → kind_busy rows kind s fs now → kind_busy rows kind (record s { area = area; busy = s.busy + working_in kind s.local * (later - now) }) fs later
     go Source h b = omega arith
     go (Server demand) h b = busy-waits rows demand v s.visits s.local.queue s.emitted fs now later s.busy l f h b
+    go (Loss places demand) h b = losing-busy_waits rows places demand v s.visits s.local.queue s.emitted fs now later s.busy l f h.1 b
+    go (Tandem stages) h b = tandeming-busy_waits rows stages v s.visits s.local.lines s.emitted fs now later s.busy l f h b
     go (Delay demand) h b = delaying-busy_waits rows demand v s.visits s.local.scheduled s.emitted fs now later s.busy l f h b
+    go (ForkJoin branches) h b = joining-busy_waits rows branches v s.visits s.local.branches s.emitted fs now later s.busy l f h b
     go (Split route) h b = omega arith
 
-node_busy-arrives : (peak : ℕ) (rows : Rows) (o : Option Node) (v port : ℕ) (s : Station Local) (fs : List Event) (now : ℕ) (x : Visit) → node_fact rows o v s fs now → node_busy rows o s fs now →
+node_busy-arrives : (peak : ℕ) (rows : Rows) (o : Option Node) (v port : ℕ) (s : Station Local) (fs : List Event) (now : ℕ) (x : Visit) → x.arrive ≡ now → Each (λ f. now < time_of f) fs → node_fact rows o v s fs now → node_busy rows o s fs now →
     node_busy rows o (after_reaction peak s (s.visits ++ x ∷ []) now (node_on rows o (s.visits ++ x ∷ []) s.local now (Arrive now v port x.job))) (fs ++ finishes_of v (node_on rows o (s.visits ++ x ∷ []) s.local now (Arrive now v port x.job)).services) now
-node_busy-arrives peak rows None v port s fs now x h b = tt
-node_busy-arrives peak rows (Some node) v port s fs now x h b = go node.kind h b
+node_busy-arrives peak rows None v port s fs now x at soon h b = tt
+node_busy-arrives peak rows (Some node) v port s fs now x at soon h b = go node.kind h b
   where
     go : (kind : Kind) → kind_fact rows kind v s fs now → kind_busy rows kind s fs now → kind_busy rows kind (after_reaction peak s (s.visits ++ x ∷ []) now (kind_on rows kind (s.visits ++ x ∷ []) s.local now (Arrive now v port x.job))) (fs ++ finishes_of v (kind_on rows kind (s.visits ++ x ∷ []) s.local now (Arrive now v port x.job)).services) now
     go Source h b = b
     go (Server demand) h b = busy-arrives rows demand v s.local s.visits s.local.queue s.emitted fs now s.busy x h b
+    go (Loss places demand) h b = losing-busy_arrives rows places demand v port s.local s.visits s.emitted fs now s.busy x at soon h.1 b
+    go (Tandem stages) h b = tandeming-busy_arrives rows stages v s.local s.visits s.local.lines s.emitted fs now s.busy x h b
     go (Delay demand) h b = delaying-busy_arrives rows demand v s.visits fs now s.busy x b
+    go (ForkJoin branches) h b = joining-busy_arrives rows branches v port s.local s.visits fs now s.busy x b
     go (Split route) h b = b
 
 node_busy-ends : (peak : ℕ) (rows : Rows) (o : Option Node) (rank : ℕ → ℕ) (v server position : ℕ) (s : Station Local) (fs rest : List Event) (now : ℕ) → earliest rank fs ≡ Some (Finish now v server position, rest) → node_fact rows o v s fs now → node_busy rows o s fs now →
@@ -160,7 +178,10 @@ node_busy-ends peak rows (Some node) rank v server position s fs rest now first 
     go : (kind : Kind) → kind_fact rows kind v s fs now → kind_busy rows kind s fs now → kind_busy rows kind (after_reaction peak s s.visits now (kind_on rows kind s.visits s.local now (Finish now v server position))) (rest ++ finishes_of v (kind_on rows kind s.visits s.local now (Finish now v server position)).services) now
     go Source h b = b
     go (Server demand) h b = busy-ends rows demand v s.local rank server position s.visits s.local.queue s.emitted fs rest now s.busy first h b
+    go (Loss places demand) h b = losing-busy_ends rows places demand v s.local rank server position s.visits s.local.queue s.emitted fs rest now s.busy first h.1 b
+    go (Tandem stages) h b = tandeming-busy_ends rows rank stages v server position s.visits s.local.lines s.emitted fs rest now s.busy first h b
     go (Delay demand) h b = delaying-busy_ends rows demand v rank server position s.visits fs rest now s.busy first b
+    go (ForkJoin branches) h b = joining-busy_ends rows branches v rank server position s.local s.visits s.emitted fs rest now s.busy first h b
     go (Split route) h b = b
 
 busy-keeps : (plan : Plan) (rows : Rows) → Keeps (standard plan rows) (λ v s fs now. node_fact rows (slice_get plan.net.nodes v) v s fs now × node_busy rows (slice_get plan.net.nodes v) s fs now)
@@ -170,7 +191,7 @@ busy-keeps plan rows =
     record {
       opens = λ v. (keeps.opens v, busy-opens rows (slice_get plan.net.nodes v) v);
       waits = λ v s fs now later h l f. (keeps.waits v s fs now later h.0 l f, node_busy-waits rows (slice_get plan.net.nodes v) v _ s fs now later l f h.0 h.1);
-      arrives = λ v port job s fs now h f. (keeps.arrives v port job s fs now h.0 f, node_busy-arrives _ rows (slice_get plan.net.nodes v) v port s fs now (record { job = job; arrive = now; found = standard_jobs plan rows v s.visits s.local }) h.0 h.1);
+      arrives = λ v port job s fs now h f. (keeps.arrives v port job s fs now h.0 f, node_busy-arrives _ rows (slice_get plan.net.nodes v) v port s fs now (record { job = job; arrive = now; found = standard_jobs plan rows v s.visits s.local }) refl f h.0 h.1);
       ends = λ v server position s fs rest now h first. (keeps.ends v server position s fs rest now h.0 first, node_busy-ends _ rows (slice_get plan.net.nodes v) _ v server position s fs rest now first h.0 h.1);
     }
 
@@ -192,13 +213,31 @@ busy-is_services plan rows read v node here =
         subst (λ l. node_fact rows (slice_get plan.net.nodes v) v ((run_of plan rows).stations v) (filter (is_finish_at v) l) (run_of plan rows).clock × node_busy rows (slice_get plan.net.nodes v) ((run_of plan rows).stations v) (filter (is_finish_at v) l) (run_of plan rows).clock) (nothing-pending plan rows read)
         (kept (standard plan rows) (λ u s fs now. node_fact rows (slice_get plan.net.nodes u) u s fs now × node_busy rows (slice_get plan.net.nodes u) s fs now) (busy-keeps plan rows) (standard-on_time plan rows) (feeds_forward plan (standard plan rows) refl refl) (starts rows) (starts-arrive 0 rows.source rows.time) (9 * length plan.net.nodes * length rows.time) v)
 
-    go : (kind : Kind) → kind_fact rows kind v ((run_of plan rows).stations v) [] (run_of plan rows).clock → kind_busy rows kind ((run_of plan rows).stations v) [] (run_of plan rows).clock → ((run_of plan rows).stations v).busy ≡ sum_below (length ((run_of plan rows).stations v).visits) (λ p. service_of rows kind (slice_get ((run_of plan rows).stations v).visits p))
-    go Source h k = k ∙ sym (no_sum (length ((run_of plan rows).stations v).visits))
-    go (Split route) h k = k ∙ sym (no_sum (length ((run_of plan rows).stations v).visits))
-    go (Delay demand) h k = omega arith
+    -- where none is lost the services of all count
+    whole : (kind : Kind) → Departing kind → sum_below (length ((run_of plan rows).stations v).visits) (λ p. service_of rows kind (slice_get ((run_of plan rows).stations v).visits p)) ≡ sum_below (length ((run_of plan rows).stations v).visits) (λ p. unless_lost (fate_of kind ((run_of plan rows).stations v).emitted p) (service_of rows kind (slice_get ((run_of plan rows).stations v).visits p)))
+    whole kind by = sum-same (length ((run_of plan rows).stations v).visits) _ _ (λ p l. sym (departing-whole kind by (emission_at ((run_of plan rows).stations v).emitted p) (service_of rows kind (slice_get ((run_of plan rows).stations v).visits p))))
+
+    go : (kind : Kind) → kind_fact rows kind v ((run_of plan rows).stations v) [] (run_of plan rows).clock → kind_busy rows kind ((run_of plan rows).stations v) [] (run_of plan rows).clock → ((run_of plan rows).stations v).busy ≡ sum_below (length ((run_of plan rows).stations v).visits) (λ p. unless_lost (fate_of kind ((run_of plan rows).stations v).emitted p) (service_of rows kind (slice_get ((run_of plan rows).stations v).visits p)))
+    go Source h k = k ∙ (sym (no_sum (length ((run_of plan rows).stations v).visits)) ∙ whole Source (λ m. refl))
+    go (Split route) h k = k ∙ (sym (no_sum (length ((run_of plan rows).stations v).visits)) ∙ whole (Split route) (λ m. refl))
+    go (Delay demand) h k = let all = whole (Delay demand) (λ m. refl) in omega arith
+    go (Tandem stages) h k =
+        let all = whole (Tandem stages) (λ m. refl) in
+        let served = tandeming-served rows stages v ((run_of plan rows).stations v).visits _ ((run_of plan rows).stations v).emitted _ h in
+        omega arith
+    go (ForkJoin branches) h k =
+        let all = whole (ForkJoin branches) (λ m. refl) in
+        joining-busy_done rows branches v ((run_of plan rows).stations v).visits ((run_of plan rows).stations v).local.branches ((run_of plan rows).stations v).emitted _ _ h k ∙ all
+    go (Loss places demand) h k =
+        let visits = ((run_of plan rows).stations v).visits in
+        let emitted = ((run_of plan rows).stations v).emitted in
+        let done = losing-done rows places demand v visits _ emitted _ h.1 in
+        losing-busy_done rows places demand visits emitted (run_of plan rows).clock ((run_of plan rows).stations v).busy (losing-same rows places demand v visits _ emitted _ h.1) (subst (λ q. LossBusy rows places demand visits q [] (run_of plan rows).clock ((run_of plan rows).stations v).busy) done.0 k)
+        ∙ sum-same (length visits) _ _ (λ p l. lost-out places demand (emission_at emitted p) (demand_of_visit rows demand (slice_get visits p)))
     go (Server demand) h k =
         let d = (serving-done rows demand v ((run_of plan rows).stations v).visits _ ((run_of plan rows).stations v).emitted _ h).0 in
         let e = ap (λ q. sum_below (length ((run_of plan rows).stations v).visits - (length q - 1)) (λ p. demand_at rows demand ((run_of plan rows).stations v).visits p)) d in
         let n : length ((run_of plan rows).stations v).visits - (0 - 1) ≡ length ((run_of plan rows).stations v).visits = omega arith in
         let m = ap (λ j. sum_below j (λ p. demand_at rows demand ((run_of plan rows).stations v).visits p)) n in
+        let all = whole (Server demand) (λ m. refl) in
         omega arith

@@ -15,7 +15,7 @@ use Rattle.mq_core.specs.Tallies.{sum_below}
 use Rattle.mq_core.specs.Theorems.{IsReadFor}
 use Rattle.mq_core.specs.Wiring.{rank_in, reader_from}
 use Rattle.mq_core.specs.declared.model.Kind.{Kind}
-use Rattle.mq_core.specs.declared.model.Kind.TheVariants.{Source, Server, Delay, Split}
+use Rattle.mq_core.specs.declared.model.Kind.TheVariants.{Source, Server, Delay, Loss, Tandem, ForkJoin, Split}
 use Rattle.mq_core.specs.declared.model.Node.{Node}
 use Rattle.mq_core.specs.declared.model.Plan.{Plan}
 use Rattle.mq_core.specs.declared.model.Rows.{Rows}
@@ -23,26 +23,39 @@ use Rattle.mq_core.proofs.ColumnMerges.{visits-nowhere}
 use Rattle.mq_core.proofs.ColumnsEqual.{some-inside}
 use Rattle.mq_core.proofs.Ends.{emission-one, joins-length, joins-emits, starts-weight, starts-inside, source-inside, sum_below-zero}
 use Rattle.mq_core.proofs.DelayNumbers.{delaying-fewer}
+use Rattle.mq_core.proofs.TandemLoad.{held-empty, tandem_arrives-few, tandeming-fewer}
 use Rattle.mq_core.proofs.Facts.{kind_fact, node_fact, standard-keeps}
+use Rattle.mq_core.proofs.JoinLoads.{joining-ends-few}
+use Rattle.mq_core.proofs.JoinTallies.{joining-more}
 use Rattle.mq_core.proofs.Falls.{Falls, never-grows-from_start}
 use Rattle.mq_core.proofs.Kept.{Fact}
+use Rattle.mq_core.proofs.LossTallies.{losing-arrives-few, losing-ends-few}
 use Rattle.mq_core.proofs.Whole.{starts-arrive}
 use Rattle.mq_core.proofs.Wired.{feeds_forward, has_inputs, reads-from}
 
 -- an arrival brings one job in, which stays or is let out
-node-arrives-few : (rows : Rows) (o : Option Node) (local : Local) (earlier visits : List Visit) (now port job v : ℕ) →
-    node_jobs o visits (node_on rows o visits local now (Arrive now v port job)).local + length (emissions_of now visits (node_on rows o visits local now (Arrive now v port job)).releases) ≤ node_jobs o earlier local + 1
-node-arrives-few rows None local earlier visits now port job v = omega arith
-node-arrives-few rows (Some node) local earlier visits now port job v = go node.kind
+node-arrives-few : (rows : Rows) (o : Option Node) (s : Station Local) (fs : List Event) (x : Visit) (now port v : ℕ) → x.arrive ≡ now → node_fact rows o v s fs now →
+    node_jobs o (s.visits ++ x ∷ []) (node_on rows o (s.visits ++ x ∷ []) s.local now (Arrive now v port x.job)).local + length (emissions_of now (s.visits ++ x ∷ []) (node_on rows o (s.visits ++ x ∷ []) s.local now (Arrive now v port x.job)).releases) ≤ node_jobs o s.visits s.local + 1
+node-arrives-few rows None s fs x now port v at fact = omega arith
+node-arrives-few rows (Some node) s fs x now port v at fact = go node.kind fact
   where
-    go : (kind : Kind) → jobs_in kind visits (kind_on rows kind visits local now (Arrive now v port job)).local + length (emissions_of now visits (kind_on rows kind visits local now (Arrive now v port job)).releases) ≤ jobs_in kind earlier local + 1
-    go Source = let l = emission-one now 0 (latest visits) (slice_get visits (latest visits)) in omega arith
-    go (Server demand) =
+    local : Local
+    local = s.local
+
+    visits : List Visit
+    visits = s.visits ++ x ∷ []
+
+    go : (kind : Kind) → kind_fact rows kind v s fs now → jobs_in kind visits (kind_on rows kind visits local now (Arrive now v port x.job)).local + length (emissions_of now visits (kind_on rows kind visits local now (Arrive now v port x.job)).releases) ≤ jobs_in kind s.visits local + 1
+    go Source f = let l = emission-one now 0 (latest visits) (slice_get visits (latest visits)) in omega arith
+    go (Server demand) f =
         let a = joins-length rows demand visits local now local.queue (latest visits) in
         let b = ap length (joins-emits rows demand visits local now local.queue (latest visits)) in
         omega arith
-    go (Delay demand) = let a = length-append local.scheduled (latest visits ∷ []) in omega arith
-    go (Split route) = let l = emission-one now (output_by rows route job (latest visits)) (latest visits) (slice_get visits (latest visits)) in omega arith
+    go (Loss places demand) f = losing-arrives-few rows places demand local visits now port x.job v
+    go (Tandem stages) f = tandem_arrives-few rows visits local now stages local.lines refl
+    go (ForkJoin branches) f = let more = joining-more rows branches v port s.local s.visits s.emitted fs now x at f in omega arith
+    go (Delay demand) f = let a = length-append local.scheduled (latest visits ∷ []) in omega arith
+    go (Split route) f = let l = emission-one now (output_by rows route x.job (latest visits)) (latest visits) (slice_get visits (latest visits)) in omega arith
 
 -- a finish lets out no more jobs than it takes from those inside
 node-ends-few : (rows : Rows) (o : Option Node) (rank : ℕ → ℕ) (v server position : ℕ) (s : Station Local) (fs rest : List Event) (now : ℕ) → node_fact rows o v s fs now → earliest rank fs ≡ Some (Finish now v server position, rest) →
@@ -53,11 +66,14 @@ node-ends-few rows (Some node) rank v server position s fs rest now h first = go
     go : (kind : Kind) → kind_fact rows kind v s fs now → jobs_in kind s.visits (kind_on rows kind s.visits s.local now (Finish now v server position)).local + length (emissions_of now s.visits (kind_on rows kind s.visits s.local now (Finish now v server position)).releases) ≤ jobs_in kind s.visits s.local
     go Source h = omega arith
     go (Split route) h = omega arith
+    go (ForkJoin branches) h = joining-ends-few rows branches rank v server position s.local s.visits s.emitted fs rest now first h
     go (Server demand) h = serve s.local.queue refl
       where
         serve : (queue : List ℕ) → s.local.queue ≡ queue → length (front_leaves rows demand s.visits s.local now queue).local.queue + length (emissions_of now s.visits (front_leaves rows demand s.visits s.local now queue).releases) ≤ length queue
         serve [] e = let l = ap length e in omega arith
         serve (front ∷ queue) e = let l = emission-one now 0 front (slice_get s.visits front) in omega arith
+    go (Loss places demand) h = losing-ends-few rows demand s.visits s.local now
+    go (Tandem stages) h = let all = tandeming-fewer rows v s.visits s.emitted rank fs rest now server position first stages s.local.lines h in omega arith
     go (Delay demand) h =
         let less = delaying-fewer rows demand v rank server position s.visits s.local.scheduled s.emitted fs rest now first h in
         let out = emission-one now 0 position (slice_get s.visits position) in
@@ -132,7 +148,7 @@ module _ (plan : Plan) (rows : Rows) (read : IsReadFor plan.net rows) (v : ℕ) 
         arrives = λ u port job s fs now l f.
             let x : Visit = record { job = job; arrive = now; found = standard_jobs plan rows u s.visits s.local } in
             arrive-few (before u) (eqb u v) (ltb (rank u) (suc (rank v))) (lower (rank u) (rank v)) (λ c. same (rank u) (rank v) (ap rank (eqb-true u v c))) _ _ _ (length s.visits) _
-            (node-arrives-few rows (slice_get plan.net.nodes u) s.local s.visits (s.visits ++ x ∷ []) now port job u) (push s.visits x);
+            (node-arrives-few rows (slice_get plan.net.nodes u) s fs x now port u refl f) (push s.visits x);
         ends = λ u server position s fs rest now l f first.
             end-few (before u) (eqb u v) _ _ _ (length s.visits) (node-ends-few rows (slice_get plan.net.nodes u) _ u server position s fs rest now f first);
       }
@@ -179,6 +195,9 @@ module _ (plan : Plan) (rows : Rows) (read : IsReadFor plan.net rows) (v : ℕ) 
           kind Source = refl
           kind (Server demand) = omega arith
           kind (Delay demand) = omega arith
+          kind (Loss places demand) = omega arith
+          kind (Tandem stages) = held-empty stages
+          kind (ForkJoin branches) = omega arith
           kind (Split route) = refl
 
       own : (r u jobs number : ℕ) → cond (ltb r r) jobs (cond (eqb u u) number 0) ≡ number

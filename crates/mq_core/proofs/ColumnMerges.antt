@@ -1,4 +1,4 @@
-use Rattle.std.proofs.Common.{◌≡◌, ℕ, suc, Bool, true, false, cond, eqb, ltb, List, [], ◌∷◌, ◌++◌, map, length, Option, Some, None, sym, refl, ap, ◌∙◌}
+use Rattle.std.proofs.Common.{◌≡◌, ℕ, suc, Bool, true, false, cond, eqb, List, [], ◌∷◌, ◌++◌, map, length, Option, Some, None, sym, refl, ap, ◌∙◌}
 use Rattle.std.proofs.lemmas.List.{map-append, length-map}
 use Rattle.std.specs.Prelude.{filter, slice_get, ◌*◌}
 use Rattle.std.specs.List.{zip, flat_map}
@@ -6,7 +6,7 @@ use Rattle.mq_core.specs.ColumnLaws.{ArrivalsAreStreams, MergesTwice, jobs_of, a
 use Rattle.mq_core.specs.Columns.{by_first, pairs_of, rows_at}
 use Rattle.mq_core.specs.Event.{Event, time_of, job_of}
 use Rattle.mq_core.specs.Event.Event.{Arrive}
-use Rattle.mq_core.specs.Laws.{in_order_of, insert_by, is_arrival_at, stream_of, brought, read_by, by_time}
+use Rattle.mq_core.specs.Laws.{is_arrival_at, stream_of, brought, read_by, by_time}
 use Rattle.mq_core.specs.Local.{Local}
 use Rattle.mq_core.specs.Machine.{Visit, Emission, State, opened}
 use Rattle.mq_core.specs.Results.{stream_from}

@@ -1,4 +1,5 @@
-use Rattle.std.proofs.Common.{◌≡◌, ◌≢◌, ℕ, suc, ◌+◌, ◌≤◌, ◌<◌, Bool, true, false, cond, eqb, List, [], ◌∷◌, ◌++◌, map, length, Option, Some, None, sym, refl, ap, ◌∙◌, subst, arith, eq-eqb, eqb-true, length-append}
+use Rattle.std.proofs.Common.{◌≡◌, ◌≢◌, ◌⊎◌, inl, inr, ℕ, suc, ◌+◌, ◌≤◌, ◌<◌, Bool, true, false, cond, eqb, ltb, max, List, [], ◌∷◌, ◌++◌, map, length, Option, Some, None, sym, refl, ap, ◌∙◌, subst, arith, eq-eqb, eqb-true, length-append}
+use Rattle.std.proofs.lemmas.Bool.Decides.{nat_tests}
 use Rattle.std.proofs.lemmas.List.Elements.{filter-append}
 use Rattle.std.proofs.lemmas.List.Sums.{sum_by-append}
 use Rattle.std.specs.Prelude.{filter, slice_get, count_by}
@@ -6,18 +7,25 @@ use Rattle.std.specs.List.{AllByRecursion as Each}
 use Rattle.mq_core.specs.ColumnLaws.{jobs_of, arrives_of}
 use Rattle.mq_core.specs.Columns.{departs_after, founds_from}
 use Rattle.mq_core.specs.Fates.{fate_by}
+use Rattle.mq_core.specs.Handling.{demand_of_job}
+use Rattle.mq_core.specs.Laws.{Rises}
 use Rattle.mq_core.specs.Machine.{Visit, Emission}
+use Rattle.mq_core.specs.Recurrences.{is_admitted, loss_fates, time_or_none}
 use Rattle.mq_core.specs.Results.{fates_from}
-use Rattle.mq_core.specs.Served.{served, served_from, passed_from, delayed_from, flow_of, in_leaving_order}
+use Rattle.mq_core.specs.Served.{served, served_from, passed_from, delayed_from, faring_from, leaving_from, flow_of, in_leaving_order}
 use Rattle.mq_core.specs.Tallies.{emission_at, arrival_or, found_or, one_if_later, still_there}
 use Rattle.mq_core.specs.declared.model.Demand.{Demand}
 use Rattle.mq_core.specs.declared.model.Fate.{Fate}
+use Rattle.mq_core.specs.declared.model.Fate.TheVariants.{Departs, Lost}
 use Rattle.mq_core.specs.declared.model.Kind.{Kind}
-use Rattle.mq_core.specs.declared.model.Kind.TheVariants.{Source, Server, Delay, Split}
+use Rattle.mq_core.specs.declared.model.Kind.TheVariants.{Source, Server, Delay, Loss, Tandem, ForkJoin, Split}
 use Rattle.mq_core.specs.declared.model.Rows.{Rows}
 use Rattle.mq_core.proofs.Each.{Each-weaker, Each-filter, filter-none, filter-yes}
 use Rattle.mq_core.proofs.EmissionsAt.{neq-eqb}
+use Rattle.mq_core.proofs.ForkTimes.{joined-long}
 use Rattle.mq_core.proofs.Orders.{filter-order, short-order}
+use Rattle.mq_core.proofs.TandemColumns.{tandem_times-length}
+use Rattle.std.proofs.lemmas.List.{length-map}
 
 -- one emission a visit, by position from this one on, with its job
 abbrev pub Numbered : ℕ → List Emission → List Visit → Type 0
@@ -38,10 +46,38 @@ delayed-numbered : (rows : Rows) (demand : Demand) (k : ℕ) (visits : List Visi
 delayed-numbered rows demand k [] = tt
 delayed-numbered rows demand k (x ∷ xs) = (refl, refl, delayed-numbered rows demand (suc k) xs)
 
+-- a loss station has a fate for each visit
+pub loss-even : (places : ℕ) (left : List ℕ) (arrive demand : Visit → ℕ) (visits : List Visit) → length (loss_fates places left (map arrive visits) (map demand visits)) ≡ length visits
+loss-even places left arrive demand [] = refl
+loss-even places left arrive demand (x ∷ xs) = go (is_admitted places left (arrive x)) (λ l. loss-even places l arrive demand xs)
+  where
+    time : ℕ
+    time = max (arrive x) (time_or_none (slice_get left 0)) + demand x
+
+    go : (b : Bool) → ((l : List ℕ) → length (loss_fates places l (map arrive xs) (map demand xs)) ≡ length xs) → length (cond b (Departs time ∷ loss_fates places (time ∷ left) (map arrive xs) (map demand xs)) (Lost ∷ loss_fates places left (map arrive xs) (map demand xs))) ≡ suc (length xs)
+    go true ih = ap suc (ih (time ∷ left))
+    go false ih = ap suc (ih left)
+
+faring-numbered : (k : ℕ) (fates : List Fate) (visits : List Visit) → length fates ≡ length visits → Numbered k (faring_from k fates visits) visits
+faring-numbered k [] [] e = tt
+faring-numbered k [] (x ∷ xs) e = absurd (omega arith)
+faring-numbered k (fate ∷ fates) [] e = absurd (omega arith)
+faring-numbered k (Departs time ∷ fates) (x ∷ xs) e = (refl, refl, faring-numbered (suc k) fates xs (omega arith))
+faring-numbered k (Lost ∷ fates) (x ∷ xs) e = (refl, refl, faring-numbered (suc k) fates xs (omega arith))
+
+leaving-numbered : (k : ℕ) (times : List ℕ) (visits : List Visit) → length times ≡ length visits → Numbered k (leaving_from k times visits) visits
+leaving-numbered k [] [] e = tt
+leaving-numbered k [] (x ∷ xs) e = absurd (omega arith)
+leaving-numbered k (time ∷ times) [] e = absurd (omega arith)
+leaving-numbered k (time ∷ times) (x ∷ xs) e = (refl, refl, leaving-numbered (suc k) times xs (omega arith))
+
 pub flow-numbered : (rows : Rows) (kind : Kind) (visits : List Visit) → Numbered 0 (flow_of rows kind visits) visits
 flow-numbered rows Source visits = passed-numbered _ 0 visits
 flow-numbered rows (Server demand) visits = served-numbered rows demand 0 0 visits
 flow-numbered rows (Delay demand) visits = delayed-numbered rows demand 0 visits
+flow-numbered rows (Loss places demand) visits = faring-numbered 0 _ visits (loss-even places [] (λ x. x.arrive) (λ x. demand_of_job rows demand x.job) visits)
+flow-numbered rows (Tandem stages) visits = leaving-numbered 0 _ visits (tandem_times-length rows stages (jobs_of visits) (arrives_of visits) ∙ length-map visits (λ (x : Visit). x.arrive))
+flow-numbered rows (ForkJoin branches) visits = leaving-numbered 0 _ visits (joined-long rows branches visits)
 flow-numbered rows (Split route) visits = passed-numbered _ 0 visits
 
 -- the emission of each position
@@ -95,9 +131,14 @@ found-head q (m ∷ ms) = go (eqb m.position q) (found-head q ms)
 order-parts : (kind : Kind) (k : ℕ) (ms : List Emission) (visits : List Visit) → Numbered k ms visits → (q : ℕ) → filter (λ (m : Emission). eqb m.position q) (in_leaving_order kind ms) ≡ filter (λ (m : Emission). eqb m.position q) ms
 order-parts Source k ms visits n q = refl
 order-parts (Server demand) k ms visits n q = refl
+order-parts (Tandem stages) k ms visits n q = refl
 order-parts (Delay demand) k ms visits n q =
     filter-order (λ (m : Emission). m.time) (λ (m : Emission). eqb m.position q) ms
     ∙ short-order (λ (m : Emission). m.time) (filter (λ (m : Emission). eqb m.position q) ms) (numbered-once k q ms visits n)
+order-parts (Loss places demand) k ms visits n q =
+    filter-order (λ (m : Emission). m.time) (λ (m : Emission). eqb m.position q) ms
+    ∙ short-order (λ (m : Emission). m.time) (filter (λ (m : Emission). eqb m.position q) ms) (numbered-once k q ms visits n)
+order-parts (ForkJoin branches) k ms visits n q = refl
 order-parts (Split route) k ms visits n q = refl
 
 -- each position is found as if all left by position
@@ -155,31 +196,48 @@ jobs-numbered k [] (x ∷ xs) n = absurd n
 jobs-numbered k (m ∷ ms) [] n = absurd n
 jobs-numbered k (m ∷ ms) (x ∷ xs) n = λ i. n.1 i ∷ jobs-numbered (suc k) ms xs n.2 i
 
--- whoever leaves later than this, one by one
-later-departs : (kind : Kind) (time : ℕ) (m : Emission) → one_if_later time (Some m) ≡ count_by (departs_after time) (fate_by kind m ∷ [])
-later-departs kind time m = omega arith
+-- a visit departs when it is let out, or is lost and let out as it comes
+abbrev pub LeavesAs : Kind → Emission → Visit → Type 0
+LeavesAs kind m x = (fate_by kind m ≡ Departs m.time) ⊎ ((fate_by kind m ≡ Lost) × (m.time ≡ x.arrive))
 
--- what each visit found is the number of the earlier ones that depart after its arrival
-pub founds-numbered : (kind : Kind) (k : ℕ) (emitted ms : List Emission) (before : List Fate) (visits : List Visit) → Numbered k ms visits → FoundAs k emitted ms →
-    ((time : ℕ) → count_by (departs_after time) before ≡ still_there time emitted k) →
+abbrev pub EachLeaves : Kind → List Emission → List Visit → Type 0
+EachLeaves kind [] xs = Unit {0}
+EachLeaves kind (m ∷ ms) [] = Unit {0}
+EachLeaves kind (m ∷ ms) (x ∷ xs) = LeavesAs kind m x × EachLeaves kind ms xs
+
+-- whoever leaves later than this, one by one, where this isn't before it came
+later-departs : (kind : Kind) (time : ℕ) (m : Emission) (x : Visit) → LeavesAs kind m x → x.arrive ≤ time → one_if_later time (Some m) ≡ count_by (departs_after time) (fate_by kind m ∷ [])
+later-departs kind time m x (inl e) l = rw e (omega arith)
+later-departs kind time m x (inr e) l = rw e.0 (not-later time m.time (let at = e.1 in omega arith))
+  where
+    not-later : (a b : ℕ) → b ≤ a → cond (ltb a b) 1 0 ≡ count_by (departs_after a) (Lost ∷ [])
+    not-later a b h = grind (arith, nat_tests)
+
+-- what each visit found is the number of the earlier ones that depart after its arrival, since none came later than it
+pub founds-numbered : (kind : Kind) (k low : ℕ) (emitted ms : List Emission) (before : List Fate) (visits : List Visit) → Numbered k ms visits → FoundAs k emitted ms → EachLeaves kind ms visits → Rises (λ a b. a ≤ b) (low ∷ arrives_of visits) →
+    ((time : ℕ) → low ≤ time → count_by (departs_after time) before ≡ still_there time emitted k) →
     ((j : ℕ) → j < length visits → found_or 0 (slice_get visits j) ≡ still_there (arrival_or 0 (slice_get visits j)) emitted (k + j)) →
     map (λ (x : Visit). x.found) visits ≡ founds_from before (arrives_of visits) (map (fate_by kind) ms)
-founds-numbered kind k emitted [] before [] n h same found = refl
-founds-numbered kind k emitted [] before (x ∷ xs) n h same found = absurd n
-founds-numbered kind k emitted (m ∷ ms) before [] n h same found = absurd n
-founds-numbered kind k emitted (m ∷ ms) before (x ∷ xs) n h same found =
+founds-numbered kind k low emitted [] before [] n h leaves rise same found = refl
+founds-numbered kind k low emitted [] before (x ∷ xs) n h leaves rise same found = absurd n
+founds-numbered kind k low emitted (m ∷ ms) before [] n h leaves rise same found = absurd n
+founds-numbered kind k low emitted (m ∷ ms) before (x ∷ xs) n h leaves rise same found =
     let tail =
-    founds-numbered kind (suc k) emitted ms (before ++ fate_by kind m ∷ []) xs n.2 (found_as-next k emitted ms m n.0 h) more
+    founds-numbered kind (suc k) x.arrive emitted ms (before ++ fate_by kind m ∷ []) xs n.2 (found_as-next k emitted ms m n.0 h) leaves.1 rise.1 more
     (λ j l. let e : k + suc j ≡ suc k + j = omega arith in found (suc j) (omega arith) ∙ ap (still_there (arrival_or 0 (slice_get xs j)) emitted) e) in
     λ i. head i ∷ tail i
   where
-    head : x.found ≡ count_by (departs_after x.arrive) before
-    head = let z : k + 0 ≡ k = omega arith in found 0 (omega arith) ∙ (ap (still_there x.arrive emitted) z ∙ sym (same x.arrive))
+    above : low ≤ x.arrive
+    above = rise.0.0
 
-    more : (time : ℕ) → count_by (departs_after time) (before ++ fate_by kind m ∷ []) ≡ still_there time emitted (suc k)
-    more time =
+    head : x.found ≡ count_by (departs_after x.arrive) before
+    head = let z : k + 0 ≡ k = omega arith in found 0 (omega arith) ∙ (ap (still_there x.arrive emitted) z ∙ sym (same x.arrive above))
+
+    more : (time : ℕ) → x.arrive ≤ time → count_by (departs_after time) (before ++ fate_by kind m ∷ []) ≡ still_there time emitted (suc k)
+    more time l =
+        let up = above in
         let a = sum_by-append (λ f. cond (departs_after time f) 1 0) before (fate_by kind m ∷ []) in
         let b = ap (one_if_later time) (found_as-here k emitted ms m n.0 h) in
-        let c = later-departs kind time m in
-        let d = same time in
+        let c = later-departs kind time m x leaves.0 l in
+        let d = same time (omega arith) in
         omega arith

@@ -1,16 +1,19 @@
-use Rattle.std.proofs.Common.{◌≡◌, ℕ, ◌*◌, ◌≤◌, List, [], ◌∷◌, ◌++◌, map, length, sym, refl, ◌∙◌, arith}
+use Rattle.std.proofs.Common.{◌≡◌, ℕ, suc, ◌*◌, ◌<◌, ◌≤◌, List, [], ◌∷◌, ◌++◌, map, length, sym, refl, ap, ◌∙◌, arith}
 use Rattle.std.proofs.lemmas.List.{length-map}
-use Rattle.std.specs.List.{AllByRecursion as Each}
-use Rattle.mq_core.specs.ColumnLaws.{StreamsRise}
+use Rattle.std.specs.List.{AllByRecursion as Each, zip}
+use Rattle.mq_core.specs.ColumnLaws.{OrdersKeepItems, StreamsRise}
+use Rattle.mq_core.specs.Columns.{by_first, pairs_of}
 use Rattle.mq_core.specs.Event.Event.{Arrive, Finish}
 use Rattle.mq_core.specs.Laws.{Rises, stream_of}
 use Rattle.mq_core.specs.Machine.{Visit, Emission, Table, emissions_at}
 use Rattle.mq_core.specs.OnTime.{standard-on_time}
 use Rattle.mq_core.specs.Run.{starts}
 use Rattle.mq_core.specs.StandardTable.{standard, run_of}
+use Rattle.mq_core.specs.declared.model.Kind.TheVariants.{Source, Server, Delay, Loss, Tandem, ForkJoin, Split}
 use Rattle.mq_core.proofs.Each.{Each-append, Each-weaker, Each-map}
 use Rattle.mq_core.proofs.Forward.{emissions-now}
 use Rattle.mq_core.proofs.Kept.{Fact, Keeps, kept}
+use Rattle.mq_core.proofs.Orders.{Each-order, in_order_of-length}
 use Rattle.mq_core.proofs.Rising.{Rises-append, Rises-filter}
 use Rattle.mq_core.proofs.Whole.{starts-arrive}
 use Rattle.mq_core.proofs.Wired.{feeds_forward}
@@ -69,4 +72,35 @@ streams-rise plan rows v =
         even = length-map (stream_of out s.emitted) (λ (m : Emission). m.job) ∙ sym (length-map (stream_of out s.emitted) (λ (m : Emission). m.time));
         rising = Rises-map _ (stream_of out s.emitted) (Rises-filter _ _ s.emitted h.1.rising);
       };
+    }
+
+-- what the first parts of pairs have, and the second
+zip-first : (P : ℕ → Type 0) (xs ys : List ℕ) → Each P xs → Each (λ (p : ℕ × ℕ). P p.0) (zip xs ys)
+zip-first P [] ys h = tt
+zip-first P (x ∷ xs) [] h = tt
+zip-first P (x ∷ xs) (y ∷ ys) h = (h.0, zip-first P xs ys h.1)
+
+zip-second : (P : ℕ → Type 0) (xs ys : List ℕ) → Each P ys → Each (λ (p : ℕ × ℕ). P p.1) (zip xs ys)
+zip-second P [] ys h = tt
+zip-second P (x ∷ xs) [] h = tt
+zip-second P (x ∷ xs) (y ∷ ys) h = (h.0, zip-second P xs ys h.1)
+
+zip-length : (xs ys : List ℕ) → length ys ≡ length xs → length (zip xs ys) ≡ length ys
+zip-length [] [] e = refl
+zip-length [] (y ∷ ys) e = absurd (omega arith)
+zip-length (x ∷ xs) [] e = refl
+zip-length (x ∷ xs) (y ∷ ys) e = ap suc (zip-length xs ys (omega arith))
+
+pub orders-keep_items : OrdersKeepItems
+orders-keep_items Source stream = record { jobs = λ limit h. h; times = λ limit h. h; many = λ e. refl }
+orders-keep_items (Server demand) stream = record { jobs = λ limit h. h; times = λ limit h. h; many = λ e. refl }
+orders-keep_items (Loss places demand) stream = record { jobs = λ limit h. h; times = λ limit h. h; many = λ e. refl }
+orders-keep_items (Tandem stages) stream = record { jobs = λ limit h. h; times = λ limit h. h; many = λ e. refl }
+orders-keep_items (ForkJoin branches) stream = record { jobs = λ limit h. h; times = λ limit h. h; many = λ e. refl }
+orders-keep_items (Split route) stream = record { jobs = λ limit h. h; times = λ limit h. h; many = λ e. refl }
+orders-keep_items (Delay demand) stream =
+    record {
+      jobs = λ limit h. Each-map _ (λ job. job < limit) (λ (p : ℕ × ℕ). p.1) (λ p l. l) (by_first (pairs_of stream)) (Each-order {X = ℕ × ℕ} _ (λ (p : ℕ × ℕ). p.0) (pairs_of stream) (zip-second (λ job. job < limit) stream.time stream.job h));
+      times = λ limit h. Each-map _ (λ time. time ≤ limit) (λ (p : ℕ × ℕ). p.0) (λ p l. l) (by_first (pairs_of stream)) (Each-order {X = ℕ × ℕ} _ (λ (p : ℕ × ℕ). p.0) (pairs_of stream) (zip-first (λ time. time ≤ limit) stream.time stream.job h));
+      many = λ e. length-map (by_first (pairs_of stream)) (λ (p : ℕ × ℕ). p.1) ∙ (in_order_of-length {X = ℕ × ℕ} (λ (p : ℕ × ℕ). p.0) (pairs_of stream) ∙ zip-length stream.time stream.job e);
     }

@@ -1,17 +1,16 @@
 -- What a delay holds, how busy it is, and what it lets out at an event.
-use Rattle.std.proofs.Common.{◌≡◌, ℕ, suc, ◌+◌, ◌-◌, ◌*◌, ◌<◌, ◌≤◌, true, eqb, List, [], ◌∷◌, ◌++◌, length, map, Some, sym, refl, ap, ◌∙◌, subst, arith, length-append}
-use Rattle.std.proofs.Math.Nat.{suc-mul}
+use Rattle.std.proofs.Common.{◌≡◌, ℕ, suc, ◌+◌, ◌-◌, ◌*◌, ◌<◌, ◌≤◌, true, eqb, List, [], ◌∷◌, ◌++◌, length, Some, sym, ap, ◌∙◌, subst, arith, length-append}
 use Rattle.std.proofs.lemmas.List.{append-nil, length-map}
-use Rattle.std.specs.Prelude.{filter, slice_get, not}
+use Rattle.std.specs.Prelude.{filter, not}
 use Rattle.std.specs.List.{AllByRecursion as Each}
 use Rattle.mq_core.specs.Event.{Event, time_of, earliest}
 use Rattle.mq_core.specs.Event.Event.{Finish}
 use Rattle.mq_core.specs.Handling.{demand_at, demand_of_visit, latest}
 use Rattle.mq_core.specs.Machine.{Visit, Emission, emissions_of}
-use Rattle.mq_core.specs.Tallies.{sum_below, arrival_or, staying}
+use Rattle.mq_core.specs.Tallies.{sum_below, staying}
 use Rattle.mq_core.specs.declared.model.Demand.{Demand}
 use Rattle.mq_core.specs.declared.model.Rows.{Rows}
-use Rattle.mq_core.proofs.Areas.{get-front, get-last, sum-same}
+use Rattle.mq_core.proofs.Areas.{get-front, sum-same}
 use Rattle.mq_core.proofs.Delays.{Delaying, CameBefore, place_in, is_service, to_leave, lets-out, delaying-ends}
 use Rattle.mq_core.proofs.Each.{Each-back}
 use Rattle.mq_core.proofs.Pending.{Splits, earliest-splits}

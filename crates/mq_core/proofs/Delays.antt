@@ -18,7 +18,7 @@ use Rattle.mq_core.proofs.Each.{Each-append, Each-front, Each-back, Each-weaker,
 use Rattle.mq_core.proofs.Pending.{Splits, earliest-splits, filter-earliest_alike, filter-earliest_other}
 use Rattle.mq_core.proofs.Rising.{Rises-append, same_by_key, Rises-in_order_of, filter-in_order_of}
 use Rattle.mq_core.proofs.Serves.{latest-push}
-use Rattle.mq_core.proofs.Areas.{get-front, get-last, sum-same}
+use Rattle.mq_core.proofs.Areas.{get-front, get-last}
 use Rattle.mq_core.proofs.EmissionsAt.{unknown, found-behind, other-behind}
 use Rattle.mq_core.proofs.Falls.{sum_below-one}
 

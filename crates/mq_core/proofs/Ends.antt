@@ -20,7 +20,7 @@ use Rattle.mq_core.specs.Fates.{fate_of, IsEnded}
 use Rattle.mq_core.specs.Tallies.{sum_below, emission_at}
 use Rattle.mq_core.specs.declared.model.Demand.{Demand}
 use Rattle.mq_core.specs.declared.model.Kind.{Kind}
-use Rattle.mq_core.specs.declared.model.Kind.TheVariants.{Source, Server, Delay, Split}
+use Rattle.mq_core.specs.declared.model.Kind.TheVariants.{Source, Server, Delay, Loss, Tandem, ForkJoin, Split}
 use Rattle.mq_core.specs.declared.model.Node.{Node}
 use Rattle.mq_core.specs.declared.model.Plan.{Plan}
 use Rattle.mq_core.specs.declared.model.Rows.{Rows}
@@ -29,7 +29,12 @@ use Rattle.mq_core.proofs.ColumnNumbers.{flow-numbered, numbered-found, order-fo
 use Rattle.mq_core.proofs.Delays.{delaying-done}
 use Rattle.mq_core.proofs.DelayNumbers.{delaying-fewer}
 use Rattle.mq_core.proofs.Flows.{kind-flow}
-use Rattle.mq_core.proofs.Serves.{Serving, positions, next_finish, last_served, serving-done}
+use Rattle.mq_core.proofs.LossTallies.{losing-arrives-falls, losing-ends-falls, losing-done}
+use Rattle.mq_core.proofs.Serves.{positions, next_finish, last_served, serving-done}
+use Rattle.mq_core.proofs.TandemLoad.{load_in, load-empty, tandeming-arrives_falls, tandeming-ends_falls}
+use Rattle.mq_core.proofs.TandemNumbers.{tandeming-done}
+use Rattle.mq_core.proofs.JoinEnds.{joining-done}
+use Rattle.mq_core.proofs.JoinLoads.{fork_load, fork_load-opening, joining-arrives-falls, joining-ends-falls}
 use Rattle.mq_core.proofs.Facts.{kind_fact, node_fact, standard-keeps}
 use Rattle.mq_core.proofs.Falls.{Falls, total, weigh, sum_over, done-from_start}
 use Rattle.mq_core.proofs.Wired.{feeds_forward, rank_in-has, has_inputs, reads-from}
@@ -40,6 +45,9 @@ use Rattle.std.proofs.lemmas.List.{append-nil}
 abbrev pub kind_load : ℕ → Kind → Local → ℕ
 kind_load onward (Server demand) local = length local.queue * (onward + 1)
 kind_load onward (Delay demand) local = length local.scheduled * (onward + 1)
+kind_load onward (Loss places demand) local = length local.queue * (onward + 1)
+kind_load onward (Tandem stages) local = load_in onward stages local.lines
+kind_load onward (ForkJoin branches) local = fork_load onward branches local
 kind_load onward _ local = 0
 
 abbrev pub node_load : ℕ → Option Node → Local → ℕ
@@ -65,26 +73,29 @@ joins-emits rows demand visits local now [] position = refl
 joins-emits rows demand visits local now (front ∷ queue) position = refl
 
 -- an arrival at a node weighs more than what it leaves
-node-arrives-falls : (rows : Rows) (o : Option Node) → (onward : ℕ) (local : Local) (visits : List Visit) (now port job v : ℕ) →
-    node_load onward o (node_on rows o visits local now (Arrive now v port job)).local + length (emissions_of now visits (node_on rows o visits local now (Arrive now v port job)).releases) * onward + 1 ≤ node_load onward o local + (onward + 9)
-node-arrives-falls rows None onward local visits now port job v = omega arith
-node-arrives-falls rows (Some node) onward local visits now port job v = go node.kind
+node-arrives-falls : (rows : Rows) (o : Option Node) → (onward : ℕ) (s : Station Local) (fs : List Event) (visits : List Visit) (now port job v : ℕ) → node_fact rows o v s fs now →
+    node_load onward o (node_on rows o visits s.local now (Arrive now v port job)).local + length (emissions_of now visits (node_on rows o visits s.local now (Arrive now v port job)).releases) * onward + 1 ≤ node_load onward o s.local + (onward + 9)
+node-arrives-falls rows None onward s fs visits now port job v fact = omega arith
+node-arrives-falls rows (Some node) onward s fs visits now port job v fact = go node.kind fact
   where
-    go : (kind : Kind) → kind_load onward kind (kind_on rows kind visits local now (Arrive now v port job)).local + length (emissions_of now visits (kind_on rows kind visits local now (Arrive now v port job)).releases) * onward + 1 ≤ kind_load onward kind local + (onward + 9)
-    go Source = let l = times-one _ onward (emission-one now 0 (latest visits) (slice_get visits (latest visits))) in omega arith
-    go (Server demand) =
-        let a = joins-length rows demand visits local now local.queue (latest visits) in
-        let b = ap length (joins-emits rows demand visits local now local.queue (latest visits)) in
+    go : (kind : Kind) → kind_fact rows kind v s fs now → kind_load onward kind (kind_on rows kind visits s.local now (Arrive now v port job)).local + length (emissions_of now visits (kind_on rows kind visits s.local now (Arrive now v port job)).releases) * onward + 1 ≤ kind_load onward kind s.local + (onward + 9)
+    go Source f = let l = times-one _ onward (emission-one now 0 (latest visits) (slice_get visits (latest visits))) in omega arith
+    go (Server demand) f =
+        let a = joins-length rows demand visits s.local now s.local.queue (latest visits) in
+        let b = ap length (joins-emits rows demand visits s.local now s.local.queue (latest visits)) in
         let c = ap (λ n. n * (onward + 1)) a in
         let d = ap (λ n. n * onward) b in
-        let e = suc-mul (length local.queue) (onward + 1) in
+        let e = suc-mul (length s.local.queue) (onward + 1) in
         omega arith
-    go (Delay demand) =
-        let a : length (local.scheduled ++ latest visits ∷ []) ≡ suc (length local.scheduled) = omega (arith, length-append local.scheduled (latest visits ∷ [])) in
+    go (Delay demand) f =
+        let a : length (s.local.scheduled ++ latest visits ∷ []) ≡ suc (length s.local.scheduled) = omega (arith, length-append s.local.scheduled (latest visits ∷ [])) in
         let b = ap (λ n. n * (onward + 1)) a in
-        let c = suc-mul (length local.scheduled) (onward + 1) in
+        let c = suc-mul (length s.local.scheduled) (onward + 1) in
         omega arith
-    go (Split route) = let l = times-one _ onward (emission-one now (output_by rows route job (latest visits)) (latest visits) (slice_get visits (latest visits))) in omega arith
+    go (Loss places demand) f = losing-arrives-falls rows places demand onward s.local visits now port job v
+    go (Tandem stages) f = tandeming-arrives_falls rows onward stages v s.local s.visits visits s.local.lines s.emitted fs now f
+    go (ForkJoin branches) f = joining-arrives-falls rows branches onward v port job s.local s.visits visits s.emitted fs now f
+    go (Split route) f = let l = times-one _ onward (emission-one now (output_by rows route job (latest visits)) (latest visits) (slice_get visits (latest visits))) in omega arith
 
 -- a finish at a node weighs more than what it leaves
 node-ends-falls : (rows : Rows) (o : Option Node) (onward v : ℕ) (s : Station Local) (fs rest : List Event) (rank : ℕ → ℕ) (now server position : ℕ) → node_fact rows o v s fs now → earliest rank fs ≡ Some (Finish now v server position, rest) → v < v + 1 → (o ≡ None → ⊥) →
@@ -99,6 +110,9 @@ node-ends-falls rows (Some node) onward v s fs rest rank now server position fac
     go : (kind : Kind) → kind_fact rows kind v s fs now → kind_load onward kind (kind_on rows kind s.visits s.local now (Finish now v server position)).local + length (emissions_of now s.visits (kind_on rows kind s.visits s.local now (Finish now v server position)).releases) * onward + 1 ≤ kind_load onward kind s.local
     go Source f = absurd (none f.none)
     go (Split route) f = absurd (none f.none)
+    go (Loss places demand) f = losing-ends-falls rows places demand onward rank v server position s.local s.visits s.local.queue s.emitted fs rest now first f.1
+    go (Tandem stages) f = tandeming-ends_falls rows v s.visits s.emitted rank fs rest now server position first onward stages s.local.lines f
+    go (ForkJoin branches) f = joining-ends-falls rows branches rank onward v server position s.local s.visits s.emitted fs rest now first f
     go (Delay demand) f =
         let less = delaying-fewer rows demand v rank server position s.visits s.local.scheduled s.emitted fs rest now first f in
         let was = ap (λ n. n * (onward + 1)) less in
@@ -136,6 +150,9 @@ load-opening onward (Some node) = go node.kind
     go Source = refl
     go (Server demand) = omega arith
     go (Delay demand) = omega arith
+    go (Loss places demand) = omega arith
+    go (Tandem stages) = load-empty onward stages
+    go (ForkJoin branches) = fork_load-opening onward branches
     go (Split route) = refl
 
 pub sum_below-zero : (n : ℕ) (f : ℕ → ℕ) → ((k : ℕ) → f k ≡ 0) → sum_below n f ≡ 0
@@ -228,7 +245,7 @@ module _ (plan : Plan) (rows : Rows) (read : IsReadFor plan.net rows) where
         follows = λ n out l. follow n out (reader_from 0 plan.net.nodes n out) refl (feeds_forward plan (standard plan rows) refl refl n out);
         waits = λ v elapsed s. refl;
         arrives = λ v port job s fs now l f.
-            let a = node-arrives-falls rows (slice_get plan.net.nodes v) (onward v) s.local (s.visits ++ record { job = job; arrive = now; found = standard_jobs plan rows v s.visits s.local } ∷ []) now port job v in
+            let a = node-arrives-falls rows (slice_get plan.net.nodes v) (onward v) s fs (s.visits ++ record { job = job; arrive = now; found = standard_jobs plan rows v s.visits s.local } ∷ []) now port job v f in
             let b = rank-inside v l in
             omega arith;
         ends = λ v server position s fs rest now l f first.
@@ -285,4 +302,7 @@ module _ (plan : Plan) (rows : Rows) (read : IsReadFor plan.net rows) where
           go Source h = refl
           go (Server demand) h = ap length (serving-done rows demand v ((run_of plan rows).stations v).visits _ ((run_of plan rows).stations v).emitted _ h).0
           go (Delay demand) h = ap length (delaying-done rows demand v ((run_of plan rows).stations v).visits _ ((run_of plan rows).stations v).emitted _ h).0
+          go (Loss places demand) h = ap length (losing-done rows places demand v ((run_of plan rows).stations v).visits _ ((run_of plan rows).stations v).emitted _ h.1).0
+          go (Tandem stages) h = (tandeming-done rows stages v ((run_of plan rows).stations v).visits _ ((run_of plan rows).stations v).emitted _ h).0
+          go (ForkJoin branches) h = (joining-done rows branches v ((run_of plan rows).stations v).visits ((run_of plan rows).stations v).local.branches ((run_of plan rows).stations v).emitted _ h).0
           go (Split route) h = refl

@@ -1,6 +1,6 @@
 use Rattle.std.proofs.Common.{◌≡◌, ℕ, suc, ◌+◌, ◌<◌, ◌≤◌, List, [], ◌∷◌, ◌++◌, length, Option, Some, None, sym, refl, ap, ◌∙◌, subst, arith}
 use Rattle.std.proofs.lemmas.List.{append-nil}
-use Rattle.std.specs.Prelude.{slice_get}
+use Rattle.std.specs.Prelude.{slice_get, IfSome}
 use Rattle.std.specs.List.{AllByRecursion as Each}
 use Rattle.mq_core.specs.Event.{Event, time_of, earliest}
 use Rattle.mq_core.specs.Event.Event.{Arrive, Finish}
@@ -11,12 +11,16 @@ use Rattle.mq_core.specs.Standard.{kind_on, kind_opening, node_opening, node_on,
 use Rattle.mq_core.specs.StandardTable.{standard}
 use Rattle.mq_core.specs.Served.{passed_from}
 use Rattle.mq_core.specs.declared.model.Kind.{Kind}
-use Rattle.mq_core.specs.declared.model.Kind.TheVariants.{Source, Server, Delay, Split}
+use Rattle.mq_core.specs.declared.model.Kind.TheVariants.{Source, Server, Delay, Loss, Tandem, ForkJoin, Split}
 use Rattle.mq_core.specs.declared.model.Node.{Node}
 use Rattle.mq_core.specs.declared.model.Plan.{Plan}
 use Rattle.mq_core.specs.declared.model.Rows.{Rows}
+use Rattle.mq_core.proofs.Joins.{Joining, joining-opens, joining-waits, joining-arrives, joining-ends}
 use Rattle.mq_core.proofs.Kept.{Fact, Keeps}
+use Rattle.mq_core.proofs.Loses.{Losing, losing-opens, losing-waits, losing-arrives, losing-ends}
+use Rattle.mq_core.proofs.Shapes.{IsShaped, node-shaped}
 use Rattle.mq_core.proofs.Delays.{Delaying, delaying-opens, delaying-waits, delaying-arrives, delaying-ends}
+use Rattle.mq_core.proofs.Tandems.{Tandeming, tandeming-opens, tandeming-waits, tandeming-arrives, tandeming-ends}
 use Rattle.mq_core.proofs.Serves.{Serving, serving-opens, serving-waits, serving-arrives, serving-ends, slice_get-middle, latest-push}
 
 -- every visit went on at once, and nothing is pending
@@ -51,22 +55,31 @@ abbrev pub kind_fact : Rows → Kind → Fact Local
 kind_fact rows Source v s fs now = Passing (λ _ _. 0) s.visits s.emitted fs
 kind_fact rows (Server demand) v s fs now = Serving rows demand v s.visits s.local.queue s.emitted fs now
 kind_fact rows (Delay demand) v s fs now = Delaying rows demand v s.visits s.local.scheduled s.emitted fs now
+kind_fact rows (Loss places demand) v s fs now = (1 ≤ places) × Losing rows places demand v s.visits s.local.queue s.emitted fs now
+kind_fact rows (Tandem stages) v s fs now = Tandeming rows stages v s.visits s.local.lines s.emitted fs now
+kind_fact rows (ForkJoin branches) v s fs now = Joining rows branches v s.visits s.local.branches s.emitted fs now
 kind_fact rows (Split route) v s fs now = Passing (λ x p. output_by rows route x.job p) s.visits s.emitted fs
 
 abbrev pub node_fact : Rows → Option Node → Fact Local
 node_fact rows None v s fs now = fs ≡ []
 node_fact rows (Some node) v s fs now = kind_fact rows node.kind v s fs now
 
-kind-opens : (rows : Rows) (kind : Kind) (v : ℕ) → kind_fact rows kind v (record { local = kind_opening kind; visits = []; emitted = []; area = 0; busy = 0; peak = 0 }) [] 0
-kind-opens rows Source v = record { left = refl; none = refl }
-kind-opens rows (Server demand) v = serving-opens rows demand v
-kind-opens rows (Delay demand) v = delaying-opens rows demand v
-kind-opens rows (Split route) v = record { left = refl; none = refl }
+kind-opens : (rows : Rows) (kind : Kind) (v : ℕ) → IsShaped kind → kind_fact rows kind v (record { local = kind_opening kind; visits = []; emitted = []; area = 0; busy = 0; peak = 0 }) [] 0
+kind-opens rows Source v shape = record { left = refl; none = refl }
+kind-opens rows (Server demand) v shape = serving-opens rows demand v
+kind-opens rows (Delay demand) v shape = delaying-opens rows demand v
+kind-opens rows (Loss places demand) v shape = (shape, losing-opens rows places demand v)
+kind-opens rows (Tandem stages) v shape = tandeming-opens rows stages v shape
+kind-opens rows (ForkJoin branches) v shape = joining-opens rows branches v shape
+kind-opens rows (Split route) v shape = record { left = refl; none = refl }
 
 kind-waits : (rows : Rows) (kind : Kind) (v : ℕ) (s : Station Local) (area busy : ℕ) (fs : List Event) (now later : ℕ) → now ≤ later → kind_fact rows kind v s fs now → kind_fact rows kind v (record s { area = area; busy = busy }) fs later
 kind-waits rows Source v s area busy fs now later l h = h
 kind-waits rows (Server demand) v s area busy fs now later l h = serving-waits rows demand v s.visits s.local.queue s.emitted fs now later l h
 kind-waits rows (Delay demand) v s area busy fs now later l h = delaying-waits rows demand v s.visits s.local.scheduled s.emitted fs now later l h
+kind-waits rows (Loss places demand) v s area busy fs now later l h = (h.0, losing-waits rows places demand v s.visits s.local.queue s.emitted fs now later l h.1)
+kind-waits rows (Tandem stages) v s area busy fs now later l h = tandeming-waits rows stages v s.visits s.local.lines s.emitted fs now later l h
+kind-waits rows (ForkJoin branches) v s area busy fs now later l h = joining-waits rows branches v s.visits s.local.branches s.emitted fs now later l h
 kind-waits rows (Split route) v s area busy fs now later l h = h
 
 -- a node after what a handler says
@@ -78,6 +91,9 @@ kind-arrives : (peak : ℕ) (rows : Rows) (kind : Kind) (v port : ℕ) (s : Stat
 kind-arrives peak rows Source v port s fs now x at soon h = passing-arrives (λ _ _. 0) v now 0 s.visits s.emitted fs x at refl h
 kind-arrives peak rows (Server demand) v port s fs now x at soon h = serving-arrives rows demand v s.local s.visits s.local.queue s.emitted fs now x at soon h
 kind-arrives peak rows (Delay demand) v port s fs now x at soon h = delaying-arrives rows demand v s.visits s.local.scheduled s.emitted fs now x at soon h
+kind-arrives peak rows (Loss places demand) v port s fs now x at soon h = (h.0, losing-arrives rows places demand v port s.local s.visits s.emitted fs now x at soon h.1)
+kind-arrives peak rows (Tandem stages) v port s fs now x at soon h = tandeming-arrives rows stages v s.local s.visits s.local.lines s.emitted fs now x at soon h
+kind-arrives peak rows (ForkJoin branches) v port s fs now x at soon h = joining-arrives rows branches v port s.local s.visits s.emitted fs now x at soon h
 kind-arrives peak rows (Split route) v port s fs now x at soon h = passing-arrives (λ y p. output_by rows route y.job p) v now (output_by rows route x.job (latest (s.visits ++ x ∷ []))) s.visits s.emitted fs x at refl h
 
 no_finish : (rank : ℕ → ℕ) (fs rest : List Event) (e : Event) → fs ≡ [] → earliest rank fs ≡ Some (e, rest) → ⊥
@@ -89,6 +105,9 @@ kind-ends : (peak : ℕ) (rows : Rows) (kind : Kind) (rank : ℕ → ℕ) (v ser
 kind-ends peak rows Source rank v server position s fs rest now first h = absurd (no_finish rank fs rest _ h.none first)
 kind-ends peak rows (Server demand) rank v server position s fs rest now first h = serving-ends rows demand rank v server position s.local s.visits s.local.queue s.emitted fs rest now first h
 kind-ends peak rows (Delay demand) rank v server position s fs rest now first h = delaying-ends rows demand rank v server position s.visits s.local.scheduled s.emitted fs rest now first h
+kind-ends peak rows (Loss places demand) rank v server position s fs rest now first h = (h.0, losing-ends rows places demand rank v server position s.local s.visits s.local.queue s.emitted fs rest now first h.1)
+kind-ends peak rows (Tandem stages) rank v server position s fs rest now first h = tandeming-ends rows v s.visits s.emitted rank fs rest now server position first stages s.local.lines h
+kind-ends peak rows (ForkJoin branches) rank v server position s fs rest now first h = joining-ends rows branches rank v server position s.local s.visits s.emitted fs rest now first h
 kind-ends peak rows (Split route) rank v server position s fs rest now first h = absurd (no_finish rank fs rest _ h.none first)
 
 -- the standard handlers under any wiring
@@ -105,9 +124,9 @@ node-ends : (peak : ℕ) (rows : Rows) (o : Option Node) (rank : ℕ → ℕ) (v
 node-ends peak rows None rank v server position s fs rest now first h = absurd (no_finish rank fs rest _ h first)
 node-ends peak rows (Some node) rank v server position s fs rest now first h = kind-ends peak rows node.kind rank v server position s fs rest now first h
 
-node-opens : (rows : Rows) (o : Option Node) (v : ℕ) → node_fact rows o v (record { local = node_opening o; visits = []; emitted = []; area = 0; busy = 0; peak = 0 }) [] 0
-node-opens rows None v = refl
-node-opens rows (Some node) v = kind-opens rows node.kind v
+node-opens : (rows : Rows) (o : Option Node) (v : ℕ) → IfSome o (λ node. IsShaped node.kind) → node_fact rows o v (record { local = node_opening o; visits = []; emitted = []; area = 0; busy = 0; peak = 0 }) [] 0
+node-opens rows None v shape = refl
+node-opens rows (Some node) v shape = kind-opens rows node.kind v shape
 
 node-waits : (rows : Rows) (o : Option Node) (v : ℕ) (s : Station Local) (area busy : ℕ) (fs : List Event) (now later : ℕ) → now ≤ later → node_fact rows o v s fs now → node_fact rows o v (record s { area = area; busy = busy }) fs later
 node-waits rows None v s area busy fs now later l h = h
@@ -117,7 +136,7 @@ pub standard-keeps : (plan : Plan) (rows : Rows) (reader : ℕ → ℕ → Optio
 unfolding standard_opening standard_handle
 standard-keeps plan rows reader =
     record {
-      opens = λ v. node-opens rows (slice_get plan.net.nodes v) v;
+      opens = λ v. node-opens rows (slice_get plan.net.nodes v) v (node-shaped plan v);
       waits = λ v s fs now later h l _. node-waits rows (slice_get plan.net.nodes v) v s _ _ fs now later l h;
       arrives = λ v port job s fs now h soon. node-arrives _ rows (slice_get plan.net.nodes v) v port s fs now (record { job = job; arrive = now; found = standard_jobs plan rows v s.visits s.local }) refl soon h;
       ends = λ v server position s fs rest now h first. node-ends _ rows (slice_get plan.net.nodes v) (wired_by plan rows reader).rank v server position s fs rest now first h;

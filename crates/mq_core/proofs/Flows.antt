@@ -4,10 +4,13 @@ use Rattle.mq_core.specs.Local.{Local}
 use Rattle.mq_core.specs.Machine.{Station}
 use Rattle.mq_core.specs.Served.{flow_of, in_leaving_order}
 use Rattle.mq_core.specs.declared.model.Kind.{Kind}
-use Rattle.mq_core.specs.declared.model.Kind.TheVariants.{Source, Server, Delay, Split}
+use Rattle.mq_core.specs.declared.model.Kind.TheVariants.{Source, Server, Delay, Loss, Tandem, ForkJoin, Split}
 use Rattle.mq_core.specs.declared.model.Rows.{Rows}
 use Rattle.mq_core.proofs.Delays.{delaying-done}
 use Rattle.mq_core.proofs.Facts.{kind_fact}
+use Rattle.mq_core.proofs.LossTallies.{losing-flow}
+use Rattle.mq_core.proofs.TandemNumbers.{tandeming-done}
+use Rattle.mq_core.proofs.JoinEnds.{joining-done}
 use Rattle.mq_core.proofs.Serves.{serving-done}
 
 -- a node with nothing to finish let out the flow of its kind
@@ -15,4 +18,7 @@ pub kind-flow : (rows : Rows) (kind : Kind) (v : ℕ) (s : Station Local) (now :
 kind-flow rows Source v s now h = h.left
 kind-flow rows (Server demand) v s now h = (serving-done rows demand v s.visits _ s.emitted now h).1
 kind-flow rows (Delay demand) v s now h = (delaying-done rows demand v s.visits _ s.emitted now h).1
+kind-flow rows (Loss places demand) v s now h = losing-flow rows places demand v s.visits _ s.emitted now h.0 h.1
+kind-flow rows (Tandem stages) v s now h = (tandeming-done rows stages v s.visits _ s.emitted now h).1
+kind-flow rows (ForkJoin branches) v s now h = (joining-done rows branches v s.visits s.local.branches s.emitted now h).1
 kind-flow rows (Split route) v s now h = h.left

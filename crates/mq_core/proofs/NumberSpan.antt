@@ -1,4 +1,4 @@
-use Rattle.std.proofs.Common.{◌≡◌, ◌≢◌, ◌⊎◌, inl, inr, ℕ, zero, suc, ◌+◌, ◌*◌, ◌<◌, ◌≤◌, Bool, true, false, cond, List, [], ◌∷◌, ◌++◌, length, map, Option, Some, None, sym, refl, ap, ◌∙◌, subst, arith, max, fold, slice_get, find, option_map, filter, eq-eqb, ne_eqb, le_antisymm, length-append}
+use Rattle.std.proofs.Common.{◌≡◌, ◌⊎◌, inl, inr, ℕ, zero, suc, ◌+◌, ◌*◌, ◌<◌, ◌≤◌, Bool, true, false, cond, eqb, List, [], ◌∷◌, ◌++◌, length, map, Option, Some, None, sym, refl, ap, ◌∙◌, subst, arith, max, fold, slice_get, find, option_map, filter, le_antisymm, length-append}
 use Rattle.std.proofs.lemmas.List.{append-nil}
 use Rattle.std.specs.List.{AllByRecursion as Each}
 use Rattle.mq_core.specs.Columns.{time_of_fate, greatest_time, column_span, visits_by_node}
@@ -14,23 +14,22 @@ use Rattle.mq_core.specs.OnTime.{standard-on_time}
 use Rattle.mq_core.specs.Results.{fates_from, visits_of}
 use Rattle.mq_core.specs.Run.{starts}
 use Rattle.mq_core.specs.Served.{flow_of}
-use Rattle.mq_core.specs.Standard.{node_on, output_by, standard_handle, standard_jobs, standard_opening}
+use Rattle.mq_core.specs.Standard.{node_on, standard_handle, standard_jobs, standard_opening}
 use Rattle.mq_core.specs.StandardTable.{standard, run_of}
 use Rattle.mq_core.specs.Tallies.{emission_at, arrival_or}
 use Rattle.mq_core.specs.Theorems.{IsReadFor}
 use Rattle.mq_core.specs.Wiring.{is_source, outputs_read}
-use Rattle.mq_core.specs.declared.model.Demand.{Demand}
+use Rattle.mq_core.specs.declared.model.Fate.TheVariants.{Departs, Lost}
 use Rattle.mq_core.specs.declared.model.Kind.{Kind}
-use Rattle.mq_core.specs.declared.model.Kind.TheVariants.{Source, Server, Split}
+use Rattle.mq_core.specs.declared.model.Kind.TheVariants.{Source, Server, Delay, Loss, Tandem, ForkJoin, Split}
 use Rattle.mq_core.specs.declared.model.Node.{Node}
 use Rattle.mq_core.specs.declared.model.Plan.{Plan}
 use Rattle.mq_core.specs.declared.model.Rows.{Rows}
 use Rattle.mq_core.proofs.AloneRuns.{visits-handled}
 use Rattle.mq_core.proofs.Each.{Each-map}
-use Rattle.mq_core.proofs.ColumnFlow.{nodes-flow}
-use Rattle.mq_core.proofs.ColumnNumbers.{flow-numbered, order-own}
+use Rattle.mq_core.proofs.ColumnFlow.{nodes-flow, node-leaves}
+use Rattle.mq_core.proofs.ColumnNumbers.{LeavesAs, flow-numbered, order-own}
 use Rattle.mq_core.proofs.Ends.{nothing-pending}
-use Rattle.mq_core.proofs.Facts.{kind_fact, node_fact}
 use Rattle.mq_core.proofs.Kept.{Keeps, kept}
 use Rattle.mq_core.proofs.NumberFates.{LetOut, all-let_out, fates-cons}
 use Rattle.mq_core.proofs.NumberLists.{greatest-least, greatest-bounds}
@@ -65,12 +64,32 @@ fate-at kind emitted k (suc i) (x ∷ xs) m out l e =
     ap (λ l. slice_get l (suc i)) (fates-cons kind emitted k x xs out.0.0 out.0.1)
     ∙ fate-at kind emitted (suc k) i xs m out.1 (omega arith) (subst (λ p. emission_at emitted p ≡ Some m) place e)
 
+-- a fate is no later than its emission
+early-fate : (kind : Kind) (now : ℕ) (m : Emission) → m.time ≤ now → time_of_fate (fate_by kind m) ≤ now
+early-fate Source now m l = l
+early-fate (Server demand) now m l = l
+early-fate (Delay demand) now m l = l
+early-fate (Tandem stages) now m l = l
+early-fate (ForkJoin branches) now m l = l
+early-fate (Loss places demand) now m l = go (eqb m.out 1)
+  where
+    go : (b : Bool) → time_of_fate (cond b Lost (Departs m.time)) ≤ now
+    go true = omega arith
+    go false = l
+early-fate (Split route) now m l = l
+
+-- a number below the length is that of an item
+at-below : (xs : List Visit) (i : ℕ) → i < length xs → (x : Visit) × (slice_get xs i ≡ Some x)
+at-below [] i l = absurd (omega arith)
+at-below (x ∷ xs) zero l = (x, refl)
+at-below (x ∷ xs) (suc i) l = at-below xs i (omega arith)
+
 -- no fate is later than all emissions
 fates-early : (kind : Kind) (now : ℕ) (emitted : List Emission) (k : ℕ) (xs : List Visit) → LetOut emitted k xs → Each (λ (m : Emission). m.time ≤ now) emitted → Each (λ fate. time_of_fate fate ≤ now) (fates_from kind emitted k xs)
 fates-early kind now emitted k [] out h = tt
 fates-early kind now emitted k (x ∷ xs) out h =
     subst (λ l. Each (λ fate. time_of_fate fate ≤ now) l) (sym (fates-cons kind emitted k x xs out.0.0 out.0.1))
-    (found-each (λ (m : Emission). m.time ≤ now) _ emitted out.0.0 h out.0.1, fates-early kind now emitted (suc k) xs out.1 h)
+    (early-fate kind now out.0.0 (found-each (λ (m : Emission). m.time ≤ now) _ emitted out.0.0 h out.0.1), fates-early kind now emitted (suc k) xs out.1 h)
 
 nothing-came : (visits : List Visit) → came visits ≡ [] → visits ≡ []
 nothing-came [] h = refl
@@ -139,9 +158,16 @@ module _ (plan : Plan) (rows : Rows) (read : IsReadFor plan.net rows) where
       let found : emission_at (end.stations v).emitted (0 + m.position) ≡ Some m = ap (emission_at (end.stations v).emitted) (sym place) ∙ (ap (λ l. emission_at l m.position) flow ∙ own.0) in
       let size = own.1 in
       let fate = fate-at node.kind (end.stations v).emitted 0 m.position (end.stations v).visits m (all-let_out plan rows read v node here) size found in
-      let one : m.time ≤ fold max 0 (map time_of_fate (fates_from node.kind (end.stations v).emitted 0 (end.stations v).visits)) = greatest-bounds (map time_of_fate (fates_from node.kind (end.stations v).emitted 0 (end.stations v).visits)) m.position m.time (at-map time_of_fate (fates_from node.kind (end.stations v).emitted 0 (end.stations v).visits) m.position (fate_by node.kind m) fate) in
-      let two = column-within v node here in
-      omega arith
+      let visit = at-below (end.stations v).visits m.position own.1 in
+      go fate visit.0 visit.1 (node-leaves plan rows read v node here m.position visit.0 m visit.1 (ap (emission_at (end.stations v).emitted) place ∙ found))
+    where
+      go : slice_get (fates_from node.kind (end.stations v).emitted 0 (end.stations v).visits) m.position ≡ Some (fate_by node.kind m) → (x : Visit) → slice_get (end.stations v).visits m.position ≡ Some x → LeavesAs node.kind m x → m.time ≤ column_span (visits_by_node end 0 plan.net.nodes)
+      go fate x at (inl e) =
+          let one : time_of_fate (fate_by node.kind m) ≤ fold max 0 (map time_of_fate (fates_from node.kind (end.stations v).emitted 0 (end.stations v).visits)) = greatest-bounds (map time_of_fate (fates_from node.kind (end.stations v).emitted 0 (end.stations v).visits)) m.position (time_of_fate (fate_by node.kind m)) (at-map time_of_fate (fates_from node.kind (end.stations v).emitted 0 (end.stations v).visits) m.position (fate_by node.kind m) fate) in
+          let two = column-within v node here in
+          let three : time_of_fate (fate_by node.kind m) ≡ m.time = ap time_of_fate e in
+          omega arith
+      go fate x at (inr e) = let came = arrives-within v m.position node x here at in let same = e.1 in omega arith
 
   node-early : (v : ℕ) (node : Node) → slice_get plan.net.nodes v ≡ Some node → greatest_time (visits_of node.kind (end.stations v)) ≤ end.clock
   node-early v node here =

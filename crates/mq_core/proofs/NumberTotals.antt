@@ -1,11 +1,12 @@
-use Rattle.std.proofs.Common.{◌≡◌, ℕ, zero, suc, ◌+◌, ◌-◌, ◌<◌, List, [], ◌∷◌, length, map, Some, sym, refl, ap, ◌∙◌, subst, arith, max, fold, sum, sum_by, count_by, slice_get, slice_index}
+use Rattle.std.proofs.Common.{◌≡◌, inl, inr, ℕ, zero, suc, ◌+◌, ◌-◌, ◌<◌, List, [], ◌∷◌, length, map, Some, sym, refl, ap, ◌∙◌, subst, arith, max, fold, sum, sum_by, count_by, slice_get, slice_index}
 use Rattle.std.proofs.lemmas.List.{length-map}
+use Rattle.std.specs.Option.{option_map}
 use Rattle.std.proofs.lemmas.List.Sums.{sum_by-cons}
 use Rattle.mq_core.specs.Columns.{column_waits, column_sojourn, column_sojourns, column_service, column_services, one_more, column_numbers, column_peak, stream_sojourns}
 use Rattle.mq_core.specs.Machine.{Visit, Emission, Station}
 use Rattle.mq_core.specs.Local.{Local}
 use Rattle.mq_core.specs.Laws.{stream_of}
-use Rattle.mq_core.specs.Fates.{holds_jobs, service_of}
+use Rattle.mq_core.specs.Fates.{fate_by, fate_of, holds_jobs, service_of, unless_lost}
 use Rattle.mq_core.specs.NumberLaws.{TotalsAreColumns, ExitsAreStreams}
 use Rattle.mq_core.specs.Results.{fates_from, wait_of, waits_of, is_lost, peak_of}
 use Rattle.mq_core.specs.StandardTable.{run_of}
@@ -13,10 +14,12 @@ use Rattle.mq_core.specs.Tallies.{sum_below, greatest_below, emission_at, arriva
 use Rattle.mq_core.specs.declared.model.Fate.{Fate}
 use Rattle.mq_core.specs.declared.model.Fate.TheVariants.{Departs, Lost}
 use Rattle.mq_core.specs.declared.model.Kind.{Kind}
-use Rattle.mq_core.specs.declared.model.Kind.TheVariants.{Source, Server, Delay, Split}
+use Rattle.mq_core.specs.declared.model.Kind.TheVariants.{Source, Server, Delay, Loss, Tandem, ForkJoin, Split}
 use Rattle.mq_core.specs.declared.model.Node.{Node}
 use Rattle.mq_core.specs.declared.model.Rows.{Rows}
 use Rattle.mq_core.proofs.Busy.{busy-is_services}
+use Rattle.mq_core.proofs.ColumnFlow.{node-leaves}
+use Rattle.mq_core.proofs.ColumnNumbers.{LeavesAs}
 use Rattle.mq_core.proofs.NumberFates.{LetOut, all-let_out, values, sum-values, greatest-values}
 use Rattle.mq_core.proofs.Peak.{peak-is_greatest}
 use Rattle.mq_core.proofs.Tallied.{areas-are-sojourns}
@@ -47,29 +50,44 @@ numbers-values (x ∷ xs) (fate ∷ fates) = ap (λ l. one_more x.found fate ∷
 at-own : (emitted : List Emission) (i p : ℕ) (m : Emission) → p ≡ 0 + i → emission_at emitted p ≡ Some m → emission_at emitted i ≡ Some m
 at-own emitted i p m place e = subst (λ q. emission_at emitted q ≡ Some m) (let same : p ≡ i = omega arith in same) e
 
-area-columns : (kind : Kind) (now : ℕ) (visits : List Visit) (emitted : List Emission) → LetOut emitted 0 visits → sojourns now visits emitted ≡ sum (column_sojourns (map (λ (x : Visit). x.arrive) visits) (fates_from kind emitted 0 visits))
-area-columns kind now visits emitted out =
+area-columns : (kind : Kind) (now : ℕ) (visits : List Visit) (emitted : List Emission) → LetOut emitted 0 visits → ((i : ℕ) (x : Visit) (m : Emission) → slice_get visits i ≡ Some x → emission_at emitted i ≡ Some m → LeavesAs kind m x) → sojourns now visits emitted ≡ sum (column_sojourns (map (λ (x : Visit). x.arrive) visits) (fates_from kind emitted 0 visits))
+area-columns kind now visits emitted out leaves =
     sym (ap sum (sojourns-values visits (fates_from kind emitted 0 visits))
     ∙ sum-values kind emitted (λ x fate. column_sojourn x.arrive fate) 0 visits (sojourn now visits emitted) out
-    (λ i p x m place here e. ap (λ o. time_or now o - arrival_or 0 (slice_get visits i)) (at-own emitted i p m place e) ∙ ap (λ o. m.time - arrival_or 0 o) here))
+    (λ i p x m place here e. ap (λ o. time_or now o - arrival_or 0 (slice_get visits i)) (at-own emitted i p m place e) ∙ (ap (λ o. m.time - arrival_or 0 o) here ∙ stays x m (leaves i x m here (at-own emitted i p m place e)))))
+  where
+    stays : (x : Visit) (m : Emission) → LeavesAs kind m x → m.time - x.arrive ≡ column_sojourn x.arrive (fate_by kind m)
+    stays x m (inl e) = ap (column_sojourn x.arrive) (sym e)
+    stays x m (inr e) = let at = e.1 in let none : m.time - x.arrive ≡ 0 = omega arith in none ∙ ap (column_sojourn x.arrive) (sym e.0)
 
 service-column : (rows : Rows) (kind : Kind) (x : Visit) (time : ℕ) → service_of rows kind (Some x) ≡ column_service rows kind x.job (Departs time)
 service-column rows Source x time = refl
 service-column rows (Server demand) x time = refl
 service-column rows (Delay demand) x time = refl
+service-column rows (Loss places demand) x time = refl
+service-column rows (Tandem stages) x time = refl
+service-column rows (ForkJoin branches) x time = refl
 service-column rows (Split route) x time = refl
 
-busy-columns : (rows : Rows) (kind : Kind) (visits : List Visit) (emitted : List Emission) → LetOut emitted 0 visits → sum_below (length visits) (λ p. service_of rows kind (slice_get visits p)) ≡ sum (column_services rows kind (map (λ (x : Visit). x.job) visits) (fates_from kind emitted 0 visits))
+busy-columns : (rows : Rows) (kind : Kind) (visits : List Visit) (emitted : List Emission) → LetOut emitted 0 visits → sum_below (length visits) (λ p. unless_lost (fate_of kind emitted p) (service_of rows kind (slice_get visits p))) ≡ sum (column_services rows kind (map (λ (x : Visit). x.job) visits) (fates_from kind emitted 0 visits))
 busy-columns rows kind visits emitted out =
     sym (ap sum (services-values rows kind visits (fates_from kind emitted 0 visits))
-    ∙ sum-values kind emitted (λ x fate. column_service rows kind x.job fate) 0 visits (λ p. service_of rows kind (slice_get visits p)) out
-    (λ i p x m place here e. ap (service_of rows kind) here ∙ service-column rows kind x m.time))
+    ∙ sum-values kind emitted (λ x fate. column_service rows kind x.job fate) 0 visits (λ p. unless_lost (fate_of kind emitted p) (service_of rows kind (slice_get visits p))) out
+    (λ i p x m place here e. ap (λ o. unless_lost (option_map (fate_by kind) o) (service_of rows kind (slice_get visits i))) (at-own emitted i p m place e) ∙ (ap (λ o. unless_lost (Some (fate_by kind m)) (service_of rows kind o)) here ∙ served x (fate_by kind m))))
+  where
+    served : (x : Visit) (fate : Fate) → unless_lost (Some fate) (service_of rows kind (Some x)) ≡ column_service rows kind x.job fate
+    served x (Departs time) = service-column rows kind x time
+    served x Lost = refl
 
-numbers-columns : (kind : Kind) (visits : List Visit) (emitted : List Emission) → LetOut emitted 0 visits → greatest_below (length visits) (λ p. found_or 0 (slice_get visits p) + 1) ≡ fold max 0 (column_numbers (map (λ (x : Visit). x.found) visits) (fates_from kind emitted 0 visits))
+numbers-columns : (kind : Kind) (visits : List Visit) (emitted : List Emission) → LetOut emitted 0 visits → greatest_below (length visits) (λ p. unless_lost (fate_of kind emitted p) (found_or 0 (slice_get visits p) + 1)) ≡ fold max 0 (column_numbers (map (λ (x : Visit). x.found) visits) (fates_from kind emitted 0 visits))
 numbers-columns kind visits emitted out =
     sym (ap (fold max 0) (numbers-values visits (fates_from kind emitted 0 visits))
-    ∙ greatest-values kind emitted (λ x fate. one_more x.found fate) 0 visits (λ p. found_or 0 (slice_get visits p) + 1) out
-    (λ i p x m place here e. ap (λ o. found_or 0 o + 1) here))
+    ∙ greatest-values kind emitted (λ x fate. one_more x.found fate) 0 visits (λ p. unless_lost (fate_of kind emitted p) (found_or 0 (slice_get visits p) + 1)) out
+    (λ i p x m place here e. ap (λ o. unless_lost (option_map (fate_by kind) o) (found_or 0 (slice_get visits i) + 1)) (at-own emitted i p m place e) ∙ (ap (λ o. unless_lost (Some (fate_by kind m)) (found_or 0 o + 1)) here ∙ number x (fate_by kind m))))
+  where
+    number : (x : Visit) (fate : Fate) → unless_lost (Some fate) (x.found + 1) ≡ one_more x.found fate
+    number x (Departs time) = refl
+    number x Lost = refl
 
 pub node-inside : (nodes : List Node) (v : ℕ) (node : Node) → slice_get nodes v ≡ Some node → v < length nodes
 node-inside [] v node h = absurd cc
@@ -78,7 +96,7 @@ node-inside (n ∷ nodes) (suc v) node h = let one = node-inside nodes v node h 
 
 pub totals-are_columns : TotalsAreColumns
 totals-are_columns plan rows read v node here =
-    let area = areas-are-sojourns plan rows read v (node-inside plan.net.nodes v node here) ∙ area-columns node.kind (run_of plan rows).clock s.visits s.emitted out in
+    let area = areas-are-sojourns plan rows read v (node-inside plan.net.nodes v node here) ∙ area-columns node.kind (run_of plan rows).clock s.visits s.emitted out (node-leaves plan rows read v node here) in
     let busy = busy-is_services plan rows read v node here ∙ busy-columns rows node.kind s.visits s.emitted out in
     let waits = waits-columns rows node.kind s.visits (fates_from node.kind s.emitted 0 s.visits) in
     let size : length s.visits ≡ length (map (λ (x : Visit). x.job) s.visits) = sym (length-map s.visits (λ (x : Visit). x.job)) in
@@ -103,6 +121,9 @@ totals-are_columns plan rows read v node here =
     peak Source same = refl
     peak (Server demand) same = peak-is_greatest plan rows v node here (ap holds_jobs same) ∙ numbers-columns node.kind ((run_of plan rows).stations v).visits ((run_of plan rows).stations v).emitted out
     peak (Delay demand) same = peak-is_greatest plan rows v node here (ap holds_jobs same) ∙ numbers-columns node.kind ((run_of plan rows).stations v).visits ((run_of plan rows).stations v).emitted out
+    peak (Loss places demand) same = peak-is_greatest plan rows v node here (ap holds_jobs same) ∙ numbers-columns node.kind ((run_of plan rows).stations v).visits ((run_of plan rows).stations v).emitted out
+    peak (Tandem stages) same = peak-is_greatest plan rows v node here (ap holds_jobs same) ∙ numbers-columns node.kind ((run_of plan rows).stations v).visits ((run_of plan rows).stations v).emitted out
+    peak (ForkJoin branches) same = peak-is_greatest plan rows v node here (ap holds_jobs same) ∙ numbers-columns node.kind ((run_of plan rows).stations v).visits ((run_of plan rows).stations v).emitted out
     peak (Split route) same = refl
 
 -- the sum over a stream is the sum over its columns

@@ -1,7 +1,6 @@
 -- The recurrences of the stations, computed on cases worked by hand.
-use Rattle.std.proofs.Common.{◌≡◌, ℕ, List, [], ◌∷◌, refl}
+use Rattle.std.proofs.Common.{◌≡◌, [], ◌∷◌, refl}
 use Rattle.mq_core.specs.Recurrences.{lindley, delayed, loss_fates, fork_departs, tandem_departs}
-use Rattle.mq_core.specs.declared.model.Fate.{Fate}
 use Rattle.mq_core.specs.declared.model.Fate.TheVariants.{Departs, Lost}
 
 server-row : lindley 0 (0 ∷ 1 ∷ 2 ∷ []) (4 ∷ 1 ∷ 3 ∷ []) ≡ 4 ∷ 5 ∷ 8 ∷ []

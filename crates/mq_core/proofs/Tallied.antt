@@ -1,7 +1,7 @@
 use Rattle.std.proofs.Common.{◌≡◌, ℕ, zero, suc, ◌+◌, ◌*◌, ◌<◌, ◌≤◌, Bool, true, false, cond, eqb, List, [], ◌∷◌, ◌++◌, length, Option, Some, None, sym, refl, ap, ◌∙◌, subst, arith, eqb-true, length-append}
 use Rattle.std.proofs.lemmas.Bool.Decides.{nat_tests}
 use Rattle.std.specs.Prelude.{slice_get}
-use Rattle.mq_core.specs.Event.{Event}
+use Rattle.mq_core.specs.Event.{Event, time_of, earliest, sooner_of}
 use Rattle.mq_core.specs.Machine.{Release, emissions_of, emission_of, Visit, Emission, Station}
 use Rattle.mq_core.specs.Local.{Local}
 use Rattle.mq_core.specs.Handling.{front_leaves, latest}
@@ -15,19 +15,21 @@ use Rattle.mq_core.specs.Run.{starts}
 use Rattle.mq_core.specs.Fates.{AreasAreSojourns, FoundsAreCounts}
 use Rattle.mq_core.specs.declared.model.Demand.{Demand}
 use Rattle.mq_core.specs.declared.model.Kind.{Kind}
-use Rattle.mq_core.specs.declared.model.Kind.TheVariants.{Source, Server, Delay, Split}
+use Rattle.mq_core.specs.declared.model.Kind.TheVariants.{Source, Server, Delay, Loss, Tandem, ForkJoin, Split}
 use Rattle.mq_core.specs.declared.model.Node.{Node}
 use Rattle.mq_core.specs.declared.model.Rows.{Rows}
 use Rattle.mq_core.proofs.Kept.{kept}
 use Rattle.mq_core.proofs.Serves.{Serving, positions, next_finish, last_served, came_before, pair-inj, latest-push, joins-releases}
 use Rattle.mq_core.proofs.DelayNumbers.{delaying-number, delaying-earlier}
+use Rattle.mq_core.proofs.LossTallies.{losing-number, losing-own, losing-earlier}
+use Rattle.mq_core.proofs.TandemNumbers.{tandeming-number, tandem_arrives-out, tandeming-earlier}
 use Rattle.mq_core.proofs.Founds.{Founds, keeps-founds}
-use Rattle.mq_core.specs.Event.{time_of, earliest, sooner_of}
 use Rattle.mq_core.specs.Event.Event.{Arrive, Finish}
 use Rattle.std.specs.List.{AllByRecursion as Each}
 use Rattle.mq_core.proofs.Facts.{kind_fact, node_fact, standard-keeps, Passing}
 use Rattle.mq_core.proofs.Ends.{served-found, passed-found, inside-some}
 use Rattle.mq_core.proofs.Areas.{Areas, keeps-areas}
+use Rattle.mq_core.proofs.JoinTallies.{joining-number, joining-earlier}
 use Rattle.mq_core.proofs.Wired.{feeds_forward}
 use Rattle.mq_core.proofs.Whole.{starts-arrive}
 
@@ -82,6 +84,9 @@ node-number rows (Some node) v s fs now there h = go node.kind h
     go Source h = passing-number (λ _ _. 0) s.visits s.emitted fs h
     go (Server demand) h = serving-number rows demand v s.visits s.local.queue s.emitted fs now h
     go (Delay demand) h = delaying-number rows demand v s.visits s.local.scheduled s.emitted fs now h
+    go (Loss places demand) h = losing-number rows places demand v s.visits s.local.queue s.emitted fs now h.1
+    go (Tandem stages) h = tandeming-number rows stages v s.visits s.local.lines s.emitted fs now h
+    go (ForkJoin branches) h = joining-number rows branches v s.visits s.local.branches s.emitted fs now h
     go (Split route) h = passing-number (λ x p. output_by rows route x.job p) s.visits s.emitted fs h
 
 pub areas-are-sojourns : AreasAreSojourns
@@ -142,6 +147,9 @@ node-own rows (Some node) v port job local visits x now q m e = go node.kind e
     go Source e = one-release now 0 (latest (visits ++ x ∷ [])) q (visits ++ x ∷ []) m e ∙ latest-push visits x
     go (Server demand) e = absurd (no_release now q (visits ++ x ∷ []) _ m (joins-releases rows demand (visits ++ x ∷ []) local now local.queue (latest (visits ++ x ∷ []))) e)
     go (Delay demand) e = absurd cc
+    go (Loss places demand) e = losing-own rows places demand local visits x now port job v q m e
+    go (Tandem stages) e = absurd (no_release now q (visits ++ x ∷ []) _ m (tandem_arrives-out rows (visits ++ x ∷ []) local now stages local.lines) e)
+    go (ForkJoin branches) e = absurd cc
     go (Split route) e = one-release now (output_by rows route job (latest (visits ++ x ∷ []))) (latest (visits ++ x ∷ [])) q (visits ++ x ∷ []) m e ∙ latest-push visits x
 
 node-earlier : (rows : Rows) (o : Option Node) (rank : ℕ → ℕ) (v server position : ℕ) (s : Station Local) (fs rest : List Event) (now : ℕ) → node_fact rows o v s fs now → earliest rank fs ≡ Some (Finish now v server position, rest) → (q p : ℕ) (m : Emission) → emission_at (emissions_of now s.visits (node_on rows o s.visits s.local now (Finish now v server position)).releases) q ≡ Some m → q < p → p < length s.visits → arrival_or 0 (slice_get s.visits p) < now
@@ -151,6 +159,9 @@ node-earlier rows (Some node) rank v server position s fs rest now h first q p m
     go : (kind : Kind) → kind_fact rows kind v s fs now → emission_at (emissions_of now s.visits (kind_on rows kind s.visits s.local now (Finish now v server position)).releases) q ≡ Some m → arrival_or 0 (slice_get s.visits p) < now
     go Source h e = absurd cc
     go (Server demand) h e = serving-earlier rows demand rank v server position s.local s.visits s.local.queue s.emitted fs rest now first h q p m e l u
+    go (Loss places demand) h e = losing-earlier rows places demand rank v server position s.local s.visits s.local.queue s.emitted fs rest now first h.1 q p m e l u
+    go (Tandem stages) h e = tandeming-earlier rows rank stages v server position s.visits s.local.lines s.emitted fs rest now first h q p m e l u
+    go (ForkJoin branches) h e = joining-earlier rows branches rank v server position s.local s.visits s.emitted fs rest now first h q p m e l u
     go (Delay demand) h e =
         let place : q ≡ position = one-release now 0 position q s.visits m e in
         delaying-earlier rows demand v rank server position s.visits s.local.scheduled s.emitted fs rest now first h p (omega arith) u

@@ -23,28 +23,28 @@ use Rattle.mq_core.specs.declared.model.Rows.{Rows}
 use Rattle.mq_core.specs.declared.model.Stream.{Stream}
 use Rattle.mq_core.specs.declared.model.Visits.{Visits}
 
-abbrev node_of : List ℕ → Kind → List Input → Node
+abbrev pub node_of : List ℕ → Kind → List Input → Node
 node_of name kind inputs = record { name = name; kind = kind; inputs = inputs }
 
 -- the first output of a node
-abbrev from : ℕ → Input
+abbrev pub from : ℕ → Input
 from node = record { node = node; out = 0 }
 
-abbrev net_of : List (List ℕ) → ℕ → List Node → Network
+abbrev pub net_of : List (List ℕ) → ℕ → List Node → Network
 net_of columns bound nodes = record { nodes = nodes; columns = columns; bound = bound }
 
-abbrev rows_of : List ℕ → List ℕ → List (List ℕ) → Rows
+abbrev pub rows_of : List ℕ → List ℕ → List (List ℕ) → Rows
 rows_of sources times demands = record { source = sources; time = times; demands = demands }
 
 -- what a row tells of a node: who left it, by which output and when, what each visit found, and the tallies
-record Seen : Type 0 where
-  left : List (ℕ × ℕ × ℕ)
-  found : List ℕ
-  area : ℕ
-  busy : ℕ
-  peak : ℕ
+pub record Seen : Type 0 where
+  pub left : List (ℕ × ℕ × ℕ)
+  pub found : List ℕ
+  pub area : ℕ
+  pub busy : ℕ
+  pub peak : ℕ
 
-abbrev seen : State Local → ℕ → Seen
+abbrev pub seen : State Local → ℕ → Seen
 seen end v =
     record {
       left = map {B = ℕ × ℕ × ℕ} (λ (m : Emission). (m.job, m.out, m.time)) (end.stations v).emitted;
@@ -55,7 +55,7 @@ seen end v =
     }
 
 -- a run that ended at this time: nothing is pending
-abbrev EndsAt : State Local → ℕ → Type 0
+abbrev pub EndsAt : State Local → ℕ → Type 0
 EndsAt end span = (end.clock ≡ span) × (end.pending ≡ [])
 
 -- one source and one server

@@ -1,6 +1,6 @@
 use Rattle.std.specs.Prelude.{◌≡◌, ◌<◌, ◌≤◌, ⊤, ℕ, false, List, ◌++◌, length, map, slice_get, Some}
 use Rattle.std.specs.List.{AllByRecursion, zip, flat_map}
-use Rattle.mq_core.specs.Columns.{IsStream, by_first, column_visits, column_stream, pairs_of, rows_at}
+use Rattle.mq_core.specs.Columns.{IsStream, by_first, column_fates, column_visits, column_stream, pairs_of, rows_at, stream_in_order}
 use Rattle.mq_core.specs.Laws.{Rises}
 use Rattle.mq_core.specs.Local.{Local}
 use Rattle.mq_core.specs.Machine.{Visit, Station, State}
@@ -17,6 +17,7 @@ use Rattle.mq_core.specs.declared.model.Kind.TheVariants.{Source}
 use Rattle.mq_core.specs.declared.model.Node.{Node}
 use Rattle.mq_core.specs.declared.model.Plan.{Plan}
 use Rattle.mq_core.specs.declared.model.Rows.{Rows}
+use Rattle.mq_core.specs.declared.model.Stream.{Stream}
 use Rattle.mq_core.specs.declared.model.Visits.{Visits}
 
 -- what a node lets out is the recurrence of its kind over its visits, in the order of leaving
@@ -53,6 +54,15 @@ ArrivalsAreStreams =
     (plan : Plan) (rows : Rows) → IsReadFor plan.net rows → (v : ℕ) (node : Node) → slice_get plan.net.nodes v ≡ Some node →
     IsMerged rows v node (run_of plan rows)
 
+-- to put a stream in the order of leaving keeps its items: their number, and what bounds its jobs and its times
+pub record KeepsItems (kind : Kind) (stream : Stream) : Type 0 where
+  pub jobs : (limit : ℕ) → AllByRecursion (λ job. job < limit) stream.job → AllByRecursion (λ job. job < limit) (stream_in_order kind stream).job
+  pub times : (limit : ℕ) → AllByRecursion (λ time. time ≤ limit) stream.time → AllByRecursion (λ time. time ≤ limit) (stream_in_order kind stream).time
+  pub many : length stream.job ≡ length stream.time → length (stream_in_order kind stream).job ≡ length stream.job
+
+abbrev pub OrdersKeepItems : Type 0
+OrdersKeepItems = (kind : Kind) (stream : Stream) → KeepsItems kind stream
+
 -- a merge of a merge with more is the merge of all, and a merge has as many items
 pub record IsMerge (xs ys : List (ℕ × ℕ)) : Type 0 where
   pub twice : by_first (by_first xs ++ ys) ≡ by_first (xs ++ ys)
@@ -79,6 +89,15 @@ JobsAreRows =
 abbrev pub LeavesFrom : ℕ → Fate → Type 0
 LeavesFrom arrive (Departs time) = arrive ≤ time
 LeavesFrom arrive Lost = ⊤
+
+-- as many fates as arrivals, and no departure before its arrival
+pub record FatesInTime (arrive : List ℕ) (fate : List Fate) : Type 0 where
+  pub even : length fate ≡ length arrive
+  pub each : AllByRecursion (λ (p : ℕ × Fate). LeavesFrom p.0 p.1) (zip arrive fate)
+
+-- the fates of jobs that come to a node at these times
+abbrev pub FatesAreInTime : Type 0
+FatesAreInTime = (rows : Rows) (kind : Kind) (job arrive : List ℕ) → length job ≡ length arrive → FatesInTime arrive (column_fates rows kind job arrive)
 
 -- the columns have one item a visit, and none departs before it came: item by item, and by position
 pub record IsInTime (visits : Visits) : Type 0 where

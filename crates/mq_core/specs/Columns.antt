@@ -1,19 +1,20 @@
 -- A run in columns: what the code keeps of it, one item a visit, by position.
-use Rattle.std.specs.Prelude.{◌≡◌, ◌≤◌, ◌^◌, All, ℕ, zero, suc, ◌+◌, ◌-◌, nat_lt, max, Bool, false, List, [], ◌∷◌, ◌++◌, length, map, sum, count_by, fold, ◌==◌, slice_index, if◌then◌else◌, Some}
-use Rattle.std.specs.List.{zip}
+use Rattle.std.specs.Prelude.{◌≡◌, ◌≤◌, ◌^◌, All, ℕ, zero, suc, ◌+◌, ◌-◌, nat_lt, max, Bool, false, List, [], ◌∷◌, ◌++◌, length, map, sum, sum_by, count_by, fold, ◌==◌, slice_index, if◌then◌else◌, Some}
+use Rattle.std.specs.List.{flat_map, zip}
 use Rattle.mq_core.specs.Laws.{Rises, in_order_of}
 use Rattle.mq_core.specs.Local.{Local}
 use Rattle.mq_core.specs.Machine.{State}
-use Rattle.mq_core.specs.Recurrences.{lindley, delayed}
+use Rattle.mq_core.specs.Recurrences.{lindley, delayed, loss_fates, fork_departs}
 use Rattle.mq_core.specs.Results.{Totals, Late, late_fate, bare_time, is_lost, visits_of, stream_from}
+use Rattle.mq_core.specs.Served.{branch_demands, tandem_times}
 use Rattle.mq_core.specs.Sound.{outputs_in}
-use Rattle.mq_core.specs.Handling.{demand_of_job}
+use Rattle.mq_core.specs.Handling.{demand_of_job, demand_of_stages}
 use Rattle.mq_core.specs.Standard.{output_by}
 use Rattle.mq_core.specs.StandardTable.{run_of}
 use Rattle.mq_core.specs.declared.model.Fate.{Fate}
 use Rattle.mq_core.specs.declared.model.Fate.TheVariants.{Departs, Lost}
 use Rattle.mq_core.specs.declared.model.Kind.{Kind}
-use Rattle.mq_core.specs.declared.model.Kind.TheVariants.{Source, Server, Delay, Split}
+use Rattle.mq_core.specs.declared.model.Kind.TheVariants.{Source, Server, Delay, Loss, Tandem, ForkJoin, Split}
 use Rattle.mq_core.specs.declared.model.Node.{Node}
 use Rattle.mq_core.specs.declared.model.Plan.{Plan}
 use Rattle.mq_core.specs.declared.model.Route.{Route}
@@ -54,6 +55,9 @@ abbrev pub column_fates : Rows → Kind → List ℕ → List ℕ → List Fate
 column_fates rows Source job arrive = map (λ time. Departs time) arrive
 column_fates rows (Server demand) job arrive = map (λ time. Departs time) (lindley 0 arrive (map (demand_of_job rows demand) job))
 column_fates rows (Delay demand) job arrive = map (λ time. Departs time) (delayed arrive (map (demand_of_job rows demand) job))
+column_fates rows (Loss places demand) job arrive = loss_fates places [] arrive (map (demand_of_job rows demand) job)
+column_fates rows (Tandem stages) job arrive = map (λ time. Departs time) (tandem_times rows stages job arrive)
+column_fates rows (ForkJoin branches) job arrive = map (λ time. Departs time) (fork_departs arrive (branch_demands rows branches job))
 column_fates rows (Split route) job arrive = map (λ time. Departs time) arrive
 
 -- it departs after this time
@@ -83,12 +87,20 @@ abbrev pub routes_from : Rows → Route → ℕ → List ℕ → List ℕ
 routes_from rows route position [] = []
 routes_from rows route position (job ∷ jobs) = output_by rows route job position ∷ routes_from rows route (suc position) jobs
 
--- the output by which each job leaves a node of this kind
-abbrev pub column_outs : Rows → Kind → List ℕ → List ℕ
-column_outs rows Source job = map (λ _. 0) job
-column_outs rows (Server demand) job = map (λ _. 0) job
-column_outs rows (Delay demand) job = map (λ _. 0) job
-column_outs rows (Split route) job = routes_from rows route 0 job
+-- the output by which a visit leaves a loss station
+abbrev pub out_of_fate : Fate → ℕ
+out_of_fate (Departs time) = 0
+out_of_fate Lost = 1
+
+-- the output by which each job leaves a node of this kind, which has these jobs at these times
+abbrev pub column_outs : Rows → Kind → List ℕ → List ℕ → List ℕ
+column_outs rows Source job arrive = map (λ _. 0) job
+column_outs rows (Server demand) job arrive = map (λ _. 0) job
+column_outs rows (Delay demand) job arrive = map (λ _. 0) job
+column_outs rows (Loss places demand) job arrive = map out_of_fate (column_fates rows (Loss places demand) job arrive)
+column_outs rows (Tandem stages) job arrive = map (λ _. 0) job
+column_outs rows (ForkJoin branches) job arrive = map (λ _. 0) job
+column_outs rows (Split route) job arrive = routes_from rows route 0 job
 
 -- the items, of these that stand beside their outputs, whose output is this one
 abbrev pub picked : ℕ → List ℕ → List ℕ → List ℕ
@@ -100,6 +112,17 @@ picked out (o ∷ outs) (item ∷ items) = if o == out then item ∷ picked out 
 abbrev pub time_of_fate : Fate → ℕ
 time_of_fate (Departs time) = time
 time_of_fate Lost = 0
+
+-- when a visit leaves: as it departs, or as it came where it is lost
+abbrev pub leaving_time : ℕ → Fate → ℕ
+leaving_time arrive (Departs time) = time
+leaving_time arrive Lost = arrive
+
+-- when each visit leaves
+abbrev pub leaving_times : List ℕ → List Fate → List ℕ
+leaving_times [] fates = []
+leaving_times (arrive ∷ arrives) [] = []
+leaving_times (arrive ∷ arrives) (fate ∷ fates) = leaving_time arrive fate ∷ leaving_times arrives fates
 
 -- a stream by time, the items of one time in their order
 abbrev pub sorted : Stream → Stream
@@ -118,10 +141,10 @@ stream_in_order _ stream = stream
 -- what leaves a node by an output, where the node has these jobs at these times
 abbrev pub column_stream : Rows → Kind → List ℕ → List ℕ → ℕ → Stream
 column_stream rows kind job arrive out =
-    let outs = column_outs rows kind job in
+    let outs = column_outs rows kind job arrive in
     stream_in_order kind (record {
       job = picked out outs job;
-      time = picked out outs (map time_of_fate (column_fates rows kind job arrive));
+      time = picked out outs (leaving_times arrive (column_fates rows kind job arrive));
     })
 
 -- Totals. How long each visit waited, stayed and was served.
@@ -147,11 +170,14 @@ column_sojourns [] fates = []
 column_sojourns (arrive ∷ arrives) [] = []
 column_sojourns (arrive ∷ arrives) (fate ∷ fates) = column_sojourn arrive fate ∷ column_sojourns arrives fates
 
--- the demand of a job where a server serves it, and 0 at a source or a split
+-- the demand of a job where a server serves it, at a tandem of all its stages, and 0 at a source or a split
 abbrev pub service_time : Rows → Kind → ℕ → ℕ
 service_time rows Source job = 0
 service_time rows (Server demand) job = demand_of_job rows demand job
 service_time rows (Delay demand) job = demand_of_job rows demand job
+service_time rows (Loss places demand) job = demand_of_job rows demand job
+service_time rows (Tandem stages) job = demand_of_stages rows stages job
+service_time rows (ForkJoin branches) job = sum_by (λ demand. demand_of_job rows demand job) (flat_map (λ demands. demands) branches)
 service_time rows (Split route) job = 0
 
 -- how long a visit was served; a lost one wasn't
@@ -181,6 +207,9 @@ abbrev pub column_peak : Kind → List ℕ → List Fate → ℕ
 column_peak Source founds fates = 0
 column_peak (Server demand) founds fates = fold max 0 (column_numbers founds fates)
 column_peak (Delay demand) founds fates = fold max 0 (column_numbers founds fates)
+column_peak (Loss places demand) founds fates = fold max 0 (column_numbers founds fates)
+column_peak (Tandem stages) founds fates = fold max 0 (column_numbers founds fates)
+column_peak (ForkJoin branches) founds fates = fold max 0 (column_numbers founds fates)
 column_peak (Split route) founds fates = 0
 
 -- the totals of a node, from its visits alone

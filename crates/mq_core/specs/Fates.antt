@@ -1,23 +1,24 @@
-use Rattle.std.specs.List.{AllByRecursion}
-use Rattle.std.specs.Prelude.{◌≤◌, ◌+◌, ◌⊎◌, ◌≡◌, ℕ, ◌<◌, ◌==◌, List, [], ◌∷◌, ◌++◌, length, find, Option, Some, slice_get, IsSome, IsTrue, Bool, true, false}
+use Rattle.std.specs.List.{AllByRecursion, flat_map}
+use Rattle.std.specs.Prelude.{◌≤◌, ◌+◌, ◌⊎◌, ◌≡◌, ℕ, ◌<◌, ◌==◌, List, [], ◌∷◌, ◌++◌, length, find, Option, Some, None, slice_get, if◌then◌else◌, IsSome, IsTrue, Bool, true, false, sum_by}
 use Rattle.std.specs.Option.{option_map}
 use Rattle.mq_core.specs.Machine.{Visit, Emission, State}
 use Rattle.mq_core.specs.Local.{Local}
-use Rattle.mq_core.specs.Handling.{demand_of_visit}
+use Rattle.mq_core.specs.Handling.{demand_of_visit, stages_of_visit}
 use Rattle.mq_core.specs.Standard.{standard_jobs}
 use Rattle.mq_core.specs.StandardTable.{run_of}
 use Rattle.mq_core.specs.Tallies.{greatest_below, sum_below, sojourns, found_or, still_there, arrival_or}
 use Rattle.mq_core.specs.Theorems.{IsReadFor}
 use Rattle.mq_core.specs.declared.model.Fate.{Fate}
-use Rattle.mq_core.specs.declared.model.Fate.TheVariants.{Departs}
+use Rattle.mq_core.specs.declared.model.Fate.TheVariants.{Departs, Lost}
 use Rattle.mq_core.specs.declared.model.Kind.{Kind}
-use Rattle.mq_core.specs.declared.model.Kind.TheVariants.{Source, Server, Delay, Split}
+use Rattle.mq_core.specs.declared.model.Kind.TheVariants.{Source, Server, Delay, Loss, Tandem, ForkJoin, Split}
 use Rattle.mq_core.specs.declared.model.Node.{Node}
 use Rattle.mq_core.specs.declared.model.Plan.{Plan}
 use Rattle.mq_core.specs.declared.model.Rows.{Rows}
 
--- what an emission says of a visit: it departs then
+-- what an emission says of a visit: it departs then, or is lost where a loss station lets it out by output 1
 abbrev pub fate_by : Kind → Emission → Fate
+fate_by (Loss places demand) m = if m.out == 1 then Lost else Departs m.time
 fate_by _ m = Departs m.time
 
 -- the fate of a position, once it was let out
@@ -49,18 +50,27 @@ FoundsAreCounts =
     (position : ℕ) → position < length end.visits →
     found_or 0 (slice_get end.visits position) ≡ still_there (arrival_or 0 (slice_get end.visits position)) end.emitted position
 
--- the demand of each job where a server serves it, and 0 at a source or a split
+-- the demand of each job where a server serves it, at a tandem of all its stages, and 0 at a source or a split
 abbrev pub service_of : Rows → Kind → Option Visit → ℕ
 service_of rows (Server demand) visit = demand_of_visit rows demand visit
 service_of rows (Delay demand) visit = demand_of_visit rows demand visit
+service_of rows (Loss places demand) visit = demand_of_visit rows demand visit
+service_of rows (Tandem stages) visit = stages_of_visit rows stages visit
+service_of rows (ForkJoin branches) visit = sum_by (λ demand. demand_of_visit rows demand visit) (flat_map (λ demands. demands) branches)
 service_of rows _ visit = 0
 
--- the busy tally of each node is the sum of its services
+-- this number, but 0 for a visit that is lost
+abbrev pub unless_lost : Option Fate → ℕ → ℕ
+unless_lost None number = number
+unless_lost (Some (Departs time)) number = number
+unless_lost (Some Lost) number = 0
+
+-- the busy tally of each node is the sum of the services of those that aren't lost
 abbrev pub BusyIsServices : Type 0
 BusyIsServices =
     (plan : Plan) (rows : Rows) → IsReadFor plan.net rows → (v : ℕ) (node : Node) → slice_get plan.net.nodes v ≡ Some node →
     let end = (run_of plan rows).stations v in
-    end.busy ≡ sum_below (length end.visits) (λ position. service_of rows node.kind (slice_get end.visits position))
+    end.busy ≡ sum_below (length end.visits) (λ position. unless_lost (fate_of node.kind end.emitted position) (service_of rows node.kind (slice_get end.visits position)))
 
 -- whether jobs stay in a node of this kind; at a source or a split each goes on when it comes
 abbrev pub holds_jobs : Kind → Bool
@@ -68,12 +78,12 @@ holds_jobs Source = false
 holds_jobs (Split route) = false
 holds_jobs _ = true
 
--- the peak of a node that holds jobs is the greatest found of its visits, plus 1
+-- the peak of a node that holds jobs is the greatest found of its visits that aren't lost, plus 1
 abbrev pub PeakIsGreatest : Type 0
 PeakIsGreatest =
     (plan : Plan) (rows : Rows) (v : ℕ) (node : Node) → slice_get plan.net.nodes v ≡ Some node → IsTrue (holds_jobs node.kind) →
     let end = (run_of plan rows).stations v in
-    end.peak ≡ greatest_below (length end.visits) (λ position. found_or 0 (slice_get end.visits position) + 1)
+    end.peak ≡ greatest_below (length end.visits) (λ position. unless_lost (fate_of node.kind end.emitted position) (found_or 0 (slice_get end.visits position) + 1))
 
 -- a visit that comes at this time, or an emission at it
 pub record ComesAt (s : State Local) (time : ℕ) : Type 0 where

@@ -1,8 +1,9 @@
-use Rattle.std.specs.Prelude.{ℕ, ◌+◌, ◌==◌, min, nat_lt, if◌then◌else◌, List, [], ◌∷◌, ◌++◌, length}
+use Rattle.std.specs.Prelude.{ℕ, ◌+◌, ◌==◌, min, nat_lt, Bool, true, false, if◌then◌else◌, List, [], ◌∷◌, ◌++◌, length, map, count_by}
+use Rattle.std.specs.List.{flat_map}
 use Rattle.mq_core.specs.Event.{Event}
 use Rattle.mq_core.specs.Event.Event.{Arrive, Finish}
 use Rattle.mq_core.specs.Machine.{Visit, Service, Reaction}
-use Rattle.mq_core.specs.Local.{Local, Branch}
+use Rattle.mq_core.specs.Local.{Local, Branch, empty}
 use Rattle.mq_core.specs.Handling.{latest, begins_at, begins_alone}
 use Rattle.mq_core.specs.declared.model.Demand.{Demand}
 use Rattle.mq_core.specs.declared.model.Rows.{Rows}
@@ -61,6 +62,19 @@ abbrev pub least_through : List Branch → ℕ
 least_through [] = 0
 least_through (branch ∷ []) = branch.through
 least_through (branch ∷ (next ∷ branches)) = min branch.through (least_through (next ∷ branches))
+
+-- what a fork-join keeps at the start: nobody at any server, and nobody through
+abbrev pub fork_opening : List (List Demand) → Local
+fork_opening branches = record empty { branches = map (λ demands. record { queues = map (λ _. []) demands; through = 0 }) branches }
+
+-- a server has a job
+abbrev pub is_busy : List ℕ → Bool
+is_busy [] = false
+is_busy (front ∷ queue) = true
+
+-- how many servers have a job
+abbrev pub busy_servers : List Branch → ℕ
+busy_servers branches = count_by is_busy (flat_map (λ (branch : Branch). branch.queues) branches)
 
 -- a fork-join: an arrival joins every branch; a finish moves a job on, and a position goes out once it is through all
 abbrev pub fork_on : Rows → List (List Demand) → List Visit → Local → ℕ → Event → Reaction Local

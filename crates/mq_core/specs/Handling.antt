@@ -5,6 +5,7 @@ use Rattle.mq_core.specs.Local.{Local}
 use Rattle.mq_core.specs.declared.model.Demand.{Demand}
 use Rattle.mq_core.specs.declared.model.Demand.TheVariants.{Column, Fixed}
 use Rattle.mq_core.specs.declared.model.Rows.{Rows}
+use Rattle.mq_core.specs.declared.model.Stage.{Stage}
 
 -- the value of a job in a column
 abbrev pub column_value : Option (List ℕ) → ℕ → ℕ
@@ -19,6 +20,16 @@ value_of rows column job = column_value (slice_get rows.demands column) job
 abbrev pub demand_of_job : Rows → Demand → ℕ → ℕ
 demand_of_job rows (Column column) job = value_of rows column job
 demand_of_job rows (Fixed demand) job = demand
+
+-- what a job asks for at all these stages
+abbrev pub demand_of_stages : Rows → List Stage → ℕ → ℕ
+demand_of_stages rows [] job = 0
+demand_of_stages rows (stage ∷ stages) job = demand_of_job rows stage.demand job + demand_of_stages rows stages job
+
+-- the same of the visit at a position
+abbrev pub stages_of_visit : Rows → List Stage → Option Visit → ℕ
+stages_of_visit rows stages None = 0
+stages_of_visit rows stages (Some visit) = demand_of_stages rows stages visit.job
 
 -- the demand of the job at a position
 abbrev pub demand_of_visit : Rows → Demand → Option Visit → ℕ

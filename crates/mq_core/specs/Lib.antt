@@ -13,6 +13,7 @@ pub mod LossHandler
 pub mod TandemHandler
 pub mod ForkJoinHandler
 pub mod Standard
+pub mod TandemOnTime
 pub mod OnTime
 pub mod StandardTable
 pub mod Asked

@@ -4,13 +4,13 @@ use Rattle.std.specs.List.{flat_map}
 use Rattle.mq_core.specs.Machine.{Visit, Emission, Station}
 use Rattle.mq_core.specs.Laws.{stream_of}
 use Rattle.mq_core.specs.Local.{Local}
-use Rattle.mq_core.specs.Handling.{demand_of_job}
+use Rattle.mq_core.specs.Handling.{demand_of_job, demand_of_stages}
 use Rattle.mq_core.specs.StandardTable.{run_of}
 use Rattle.mq_core.specs.Fates.{fate_of}
 use Rattle.mq_core.specs.declared.model.Fate.{Fate}
 use Rattle.mq_core.specs.declared.model.Fate.TheVariants.{Departs, Lost}
 use Rattle.mq_core.specs.declared.model.Kind.{Kind}
-use Rattle.mq_core.specs.declared.model.Kind.TheVariants.{Source, Server, Delay, Split}
+use Rattle.mq_core.specs.declared.model.Kind.TheVariants.{Source, Server, Delay, Loss, Tandem, ForkJoin, Split}
 use Rattle.mq_core.specs.declared.model.Node.{Node}
 use Rattle.mq_core.specs.declared.model.Visits.{Visits}
 use Rattle.mq_core.specs.declared.model.Stream.{Stream}
@@ -23,10 +23,16 @@ bare_time rows Source job = 0
 bare_time rows (Split route) job = 0
 bare_time rows (Server demand) job = demand_of_job rows demand job
 bare_time rows (Delay demand) job = demand_of_job rows demand job
+bare_time rows (Loss places demand) job = demand_of_job rows demand job
+bare_time rows (Tandem stages) job = demand_of_stages rows stages job
+bare_time rows (ForkJoin branches) job = fold max 0 (map (λ demands. sum_by (λ demand. demand_of_job rows demand job) demands) branches)
 
 -- the servers of a node, by which its utilisation is reckoned; none at a source, a delay or a split
 abbrev pub servers_in : Kind → ℕ
 servers_in (Server demand) = 1
+servers_in (Loss places demand) = 1
+servers_in (Tandem stages) = length stages
+servers_in (ForkJoin branches) = length (flat_map (λ demands. demands) branches)
 servers_in _ = 0
 
 -- the fates of the positions from this one on, one for each visit that has its fate

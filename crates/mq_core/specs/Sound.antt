@@ -9,7 +9,8 @@ use Rattle.mq_core.specs.declared.model.Input.{Input}
 use Rattle.mq_core.specs.declared.model.Route.{Route}
 use Rattle.mq_core.specs.declared.model.Route.TheVariants.{Modulo, Turn, Cut}
 use Rattle.mq_core.specs.declared.model.Kind.{Kind}
-use Rattle.mq_core.specs.declared.model.Kind.TheVariants.{Source, Server, Delay, Split}
+use Rattle.mq_core.specs.declared.model.Kind.TheVariants.{Source, Server, Delay, Loss, Tandem, ForkJoin, Split}
+use Rattle.mq_core.specs.declared.model.Stage.{Stage}
 use Rattle.mq_core.specs.declared.model.Node.{Node}
 use Rattle.mq_core.specs.declared.model.Network.{Network}
 
@@ -39,11 +40,31 @@ is_sound_route columns (Turn outputs) = is_within 2 8 outputs
 is_sound_route columns (Cut column thresholds) =
     nat_lt column columns && is_within 1 7 (length thresholds) && rises thresholds && list_all (λ threshold. nat_le threshold (2 ^ 36)) thresholds
 
+-- a stage with so many places, and a demand that is sound
+abbrev pub is_sound_stage : ℕ → ℕ → ℕ → Stage → Bool
+is_sound_stage columns low high stage = is_within low high stage.places && is_sound_demand columns stage.demand
+
+-- 2 to 4 stages: the first has places 0, which nothing reads, and each other 1 to 4
+abbrev pub are_sound_stages : ℕ → List Stage → Bool
+are_sound_stages columns [] = false
+are_sound_stages columns (stage ∷ stages) =
+    is_sound_stage columns 0 0 stage && is_within 1 3 (length stages) && list_all (is_sound_stage columns 1 4) stages
+
+-- 2 to 8 branches of 1 to 4 servers, at most 8 servers together, and sound demands
+abbrev pub are_sound_branches : ℕ → List (List Demand) → Bool
+are_sound_branches columns branches =
+    is_within 2 8 (length branches)
+    && list_all (λ demands. is_within 1 4 (length demands) && list_all (is_sound_demand columns) demands) branches
+    && nat_le (length (flat_map (λ demands. demands) branches)) 8
+
 -- the numbers of a kind are in their ranges
 abbrev pub is_sound_kind : ℕ → Kind → Bool
 is_sound_kind columns Source = true
 is_sound_kind columns (Server demand) = is_sound_demand columns demand
 is_sound_kind columns (Delay demand) = is_sound_demand columns demand
+is_sound_kind columns (Loss places demand) = is_within 1 1048576 places && is_sound_demand columns demand
+is_sound_kind columns (Tandem stages) = are_sound_stages columns stages
+is_sound_kind columns (ForkJoin branches) = are_sound_branches columns branches
 is_sound_kind columns (Split route) = is_sound_route columns route
 
 -- how many outputs a route chooses from
@@ -54,6 +75,7 @@ outputs_by (Cut column thresholds) = length thresholds + 1
 
 -- how many outputs a kind has
 abbrev pub outputs_in : Kind → ℕ
+outputs_in (Loss places demand) = 2
 outputs_in (Split route) = outputs_by route
 outputs_in _ = 1
 
@@ -99,6 +121,9 @@ abbrev pub columns_of_kind : Kind → List ℕ
 columns_of_kind Source = []
 columns_of_kind (Server demand) = columns_of_demand demand
 columns_of_kind (Delay demand) = columns_of_demand demand
+columns_of_kind (Loss places demand) = columns_of_demand demand
+columns_of_kind (Tandem stages) = flat_map (λ (stage : Stage). columns_of_demand stage.demand) stages
+columns_of_kind (ForkJoin branches) = flat_map columns_of_demand (flat_map (λ demands. demands) branches)
 columns_of_kind (Split route) = columns_of_route route
 
 -- each column is first mentioned after all the columns before it, up to this one

@@ -1,15 +1,18 @@
-use Rattle.std.specs.Prelude.{ℕ, ◌%◌, nat_le, List, length, count_by, Option, Some, None, slice_get}
+use Rattle.std.specs.Prelude.{ℕ, ◌-◌, ◌%◌, nat_le, List, length, count_by, Option, Some, None, slice_get}
 use Rattle.mq_core.specs.Event.{Event}
 use Rattle.mq_core.specs.Event.Event.{Arrive, Finish}
 use Rattle.mq_core.specs.Machine.{Visit, Reaction}
 use Rattle.mq_core.specs.Local.{Local, empty}
 use Rattle.mq_core.specs.Handling.{value_of, latest, quiet, passes_on, joins, front_leaves, one_if_some}
 use Rattle.mq_core.specs.DelayHandler.{delay_on}
+use Rattle.mq_core.specs.LossHandler.{loss_on}
+use Rattle.mq_core.specs.TandemHandler.{tandem_on, empty_lines, held_in, serving_in}
+use Rattle.mq_core.specs.ForkJoinHandler.{fork_on, fork_opening, least_through, busy_servers}
 use Rattle.mq_core.specs.declared.model.Demand.{Demand}
 use Rattle.mq_core.specs.declared.model.Route.{Route}
 use Rattle.mq_core.specs.declared.model.Route.TheVariants.{Modulo, Turn, Cut}
 use Rattle.mq_core.specs.declared.model.Kind.{Kind}
-use Rattle.mq_core.specs.declared.model.Kind.TheVariants.{Source, Server, Delay, Split}
+use Rattle.mq_core.specs.declared.model.Kind.TheVariants.{Source, Server, Delay, Loss, Tandem, ForkJoin, Split}
 use Rattle.mq_core.specs.declared.model.Node.{Node}
 use Rattle.mq_core.specs.declared.model.Plan.{Plan}
 use Rattle.mq_core.specs.declared.model.Rows.{Rows}
@@ -50,22 +53,33 @@ abbrev pub kind_on : Rows → Kind → List Visit → Local → ℕ → Event �
 kind_on rows Source visits local now event = source_on visits local event
 kind_on rows (Server demand) visits local now event = server_on rows demand visits local now event
 kind_on rows (Delay demand) visits local now event = delay_on rows demand visits local now event
+kind_on rows (Loss places demand) visits local now event = loss_on rows places demand visits local now event
+kind_on rows (Tandem stages) visits local now event = tandem_on rows stages visits local now event
+kind_on rows (ForkJoin branches) visits local now event = fork_on rows branches visits local now event
 kind_on rows (Split route) visits local now event = split_on rows route visits local event
 
 -- what a node of each kind keeps at the start
 abbrev pub kind_opening : Kind → Local
+kind_opening (Tandem stages) = record empty { lines = empty_lines stages }
+kind_opening (ForkJoin branches) = fork_opening branches
 kind_opening _ = empty
 
 -- the number of jobs in a node
 abbrev pub jobs_in : Kind → List Visit → Local → ℕ
 jobs_in (Server demand) visits local = length local.queue
 jobs_in (Delay demand) visits local = length local.scheduled
+jobs_in (Loss places demand) visits local = length local.queue
+jobs_in (Tandem stages) visits local = held_in local.lines
+jobs_in (ForkJoin branches) visits local = length visits - least_through local.branches
 jobs_in _ visits local = 0
 
 -- the number of its working servers
 abbrev pub working_in : Kind → Local → ℕ
 working_in (Server demand) local = one_if_some local.queue
 working_in (Delay demand) local = length local.scheduled
+working_in (Loss places demand) local = one_if_some local.queue
+working_in (Tandem stages) local = serving_in local.lines
+working_in (ForkJoin branches) local = busy_servers local.branches
 working_in _ local = 0
 
 -- the same at a node; where there is none nothing happens

@@ -1,4 +1,5 @@
-use Rattle.std.specs.Prelude.{ℕ, zero, suc, ◌+◌, ◌&&◌, nat_lt, Bool, true, false, if◌then◌else◌, List, [], ◌∷◌, ◌++◌, length}
+use Rattle.std.specs.Prelude.{ℕ, zero, suc, ◌+◌, ◌&&◌, nat_lt, Bool, true, false, if◌then◌else◌, List, [], ◌∷◌, ◌++◌, length, map}
+use Rattle.std.specs.List.{flat_map}
 use Rattle.mq_core.specs.Event.{Event}
 use Rattle.mq_core.specs.Event.Event.{Arrive, Finish}
 use Rattle.mq_core.specs.Machine.{Visit, Release, Service, Reaction}
@@ -75,3 +76,21 @@ tandem_on rows stages visits local now (Arrive time node port job) = tandem_arri
 tandem_on rows stages visits local now (Finish time node server position) =
     let swept = sweep rows visits now 0 stages (marked server local.lines) in
     record { local = record local { lines = swept.lines }; releases = swept.releases; services = swept.services }
+
+-- as many empty stages
+abbrev pub empty_lines : List Stage → List Line
+empty_lines stages = map (λ _. record { queue = []; done = false }) stages
+
+-- how many jobs are in these stages
+abbrev pub held_in : List Line → ℕ
+held_in lines = length (flat_map (λ (line : Line). line.queue) lines)
+
+-- 1 where the front of a stage is in service
+abbrev pub one_if_serving : List ℕ → Bool → ℕ
+one_if_serving [] done = 0
+one_if_serving (front ∷ queue) done = if done then 0 else 1
+
+-- how many stages serve a job
+abbrev pub serving_in : List Line → ℕ
+serving_in [] = 0
+serving_in (line ∷ lines) = one_if_serving line.queue line.done + serving_in lines

@@ -1,9 +1,11 @@
-ghost use Rattle.std.specs.Prelude.{◌≡◌};
-ghost use Rattle.mq_core.specs.Asked.{HasDemand, HasDemands};
+ghost use Rattle.std.specs.Prelude.{◌≡◌, fold, map, max, sum_by};
+ghost use Rattle.mq_core.specs.Asked.{HasDemand, HasDemands, AreTold};
+ghost use Rattle.std.specs.List.{flat_map};
 ghost use Rattle.mq_core.specs.Results.{bare_time};
-ghost use Rattle.mq_core.specs.Handling.{demand_of_job};
+ghost use Rattle.mq_core.specs.Handling.{demand_of_job, demand_of_stages};
 
-use crate::model::{Demand, Kind, Rows};
+use crate::model::{Demand, Kind, Rows, Stage};
+use mq_base::List;
 
 /// The service demand of a job, in ticks: its value in the column, or the fixed number.
 ///
@@ -19,9 +21,11 @@ pub fn demand_of(rows: &Rows, demand: &Demand, job: u32) -> u64
 }
 
 /// The bare time of a job at a node of this kind, in ticks: how long it stays where it never
-/// waits. That is its demand at a server or a delay, and 0 at a source or a split.
+/// waits. That is its demand at a server, a delay or a loss station, the sum of its demands at a
+/// tandem, the greatest sum of demands of a branch at a fork-join, and 0 at a source or a split.
 ///
-/// The rows have each column that the kind's demands name, and the column has the job.
+/// The rows have each column that the kind's demands name, and the column has the job. Demands that
+/// are added are at most 8, and each at most 2^36.
 pub fn bare_of(rows: &Rows, kind: &Kind, job: u32) -> u64
     requires { HasDemands rows.now kind.now job }
     ensures { result ≡ bare_time rows.now kind.now job }
@@ -29,5 +33,44 @@ pub fn bare_of(rows: &Rows, kind: &Kind, job: u32) -> u64
     match kind {
         Kind::Source | Kind::Split(_) => 0,
         Kind::Server(demand) | Kind::Delay(demand) => demand_of(rows, demand, job),
+        Kind::Loss { demand, .. } => demand_of(rows, demand, job),
+        Kind::Tandem(stages) => bare_of_stages(rows, stages, job),
+        Kind::ForkJoin(branches) => longest_of(rows, branches, job),
     }
+}
+
+// The greatest sum of what a job asks for at the servers of a branch, in ticks.
+fn longest_of(rows: &Rows, branches: &List<List<Demand>>, job: u32) -> u64
+    requires { AreTold rows.now (flat_map (λ demands. demands) branches.now) job }
+    ensures { result ≡ fold max 0 (map (λ demands. sum_by (λ demand. demand_of_job rows.now demand job) demands) branches.now) }
+{
+    let mut longest = 0u64;
+    for at in 0..branches.len() {
+        longest = longest.max(sum_of(rows, branches.get(at), job));
+    }
+    longest
+}
+
+// The sum of what a job asks for at these servers, in ticks.
+fn sum_of(rows: &Rows, demands: &List<Demand>, job: u32) -> u64
+    requires { AreTold rows.now demands.now job }
+    ensures { result ≡ sum_by (λ demand. demand_of_job rows.now demand job) demands.now }
+{
+    let mut sum = 0;
+    for at in 0..demands.len() {
+        sum += demand_of(rows, demands.get(at), job);
+    }
+    sum
+}
+
+// The sum of what a job asks for at these stages.
+fn bare_of_stages(rows: &Rows, stages: &List<Stage>, job: u32) -> u64
+    requires { AreTold rows.now (map (λ stage. stage.demand) stages.now) job }
+    ensures { result ≡ demand_of_stages rows.now stages.now job }
+{
+    let mut total = 0;
+    for at in 0..stages.len() {
+        total += demand_of(rows, &stages.get(at).demand, job);
+    }
+    total
 }

@@ -1,10 +1,13 @@
-ghost use Rattle.std.specs.Prelude.{◌≡◌, ◌≤◌};
+ghost use Rattle.std.specs.Prelude.{◌≡◌, ◌≤◌, length};
+ghost use Rattle.std.specs.List.{flat_map};
 ghost use Rattle.mq_core.specs.Results.{servers_in};
 ghost use Rattle.mq_core.specs.Sound.{outputs_by, outputs_in};
 
-use crate::model::{Kind, Route};
+use crate::model::{Demand, Kind, Route};
+use mq_base::List;
 
-/// How many outputs a node of this kind has: those that its route chooses from at a split, else 1.
+/// How many outputs a node of this kind has: those that its route chooses from at a split, 2 at a
+/// loss station, of which the second is for those that are lost, else 1.
 ///
 /// They are at most 8, as every kind of a plan has it.
 pub fn outputs_of(kind: &Kind) -> u8
@@ -13,6 +16,8 @@ pub fn outputs_of(kind: &Kind) -> u8
 {
     match kind {
         Kind::Source | Kind::Server(_) | Kind::Delay(_) => 1,
+        Kind::Loss { .. } => 2,
+        Kind::Tandem(_) | Kind::ForkJoin(_) => 1,
         Kind::Split(route) => outputs_of_route(route),
     }
 }
@@ -27,13 +32,31 @@ fn outputs_of_route(route: &Route) -> u8
     }
 }
 
-/// How many servers a node of this kind has, by which its utilisation is reckoned; 0 at a source,
-/// a delay or a split, which have none.
+/// How many servers a node of this kind has, by which its utilisation is reckoned: one for each
+/// stage of a tandem, those of all branches at a fork-join, and 0 at a source, a delay or a split,
+/// which have none.
+///
+/// They are at most 8, as every kind of a plan has it.
 pub fn servers_of(kind: &Kind) -> u8
+    requires { servers_in kind.now ≤ 8 }
     ensures { result ≡ servers_in kind.now }
 {
     match kind {
         Kind::Server(_) => 1,
+        Kind::Loss { .. } => 1,
+        Kind::Tandem(stages) => stages.len() as u8,
+        Kind::ForkJoin(branches) => servers_of_branches(branches),
         Kind::Source | Kind::Delay(_) | Kind::Split(_) => 0,
     }
+}
+
+fn servers_of_branches(branches: &List<List<Demand>>) -> u8
+    requires { length (flat_map (λ demands. demands) branches.now) ≤ 8 }
+    ensures { result ≡ length (flat_map (λ demands. demands) branches.now) }
+{
+    let mut servers = 0;
+    for at in 0..branches.len() {
+        servers += branches.get(at).len() as u8;
+    }
+    servers
 }

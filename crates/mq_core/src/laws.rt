@@ -3,9 +3,8 @@ ghost use Rattle.mq_core.specs.NetworkRun.{RunsAreOfNetworks};
 ghost use Rattle.mq_core.specs.PlanLaws.{NodesAreInLimits, OrdersRank, RowsTellDemands};
 ghost use Rattle.mq_core.specs.Alone.{NodesFlowAlone};
 ghost use Rattle.mq_core.specs.Fates.{AreasAreSojourns, BusyIsServices, FoundsAreCounts, PeakIsGreatest, RunEnds, SpanIsLatest};
-ghost use Rattle.mq_core.specs.ColumnLaws.{ArrivalsAreStreams, DepartsInTime, JobsAreRows, MergesTwice, NodesAreColumns, NodesFlow, StreamsRise, VisitsAreFew};
+ghost use Rattle.mq_core.specs.ColumnLaws.{ArrivalsAreStreams, DepartsInTime, FatesAreInTime, JobsAreRows, MergesTwice, NodesAreColumns, NodesFlow, OrdersKeepItems, StreamsRise, VisitsAreFew};
 ghost use Rattle.mq_core.specs.NumberLaws.{ExitsAreStreams, LateIsFirst, LateIsNone, OnTimeGrows, PastIsColumns, PastIsFirst, PastIsNone, SpanIsColumns, TotalsAreColumns};
-ghost use Rattle.mq_core.specs.ColumnLaws.{ArrivalsAreStreams, DepartsInTime, JobsAreRows, MergesTwice, NodesAreColumns, NodesFlow, StreamsRise};
 ghost use Rattle.mq_core.specs.RunLaws.{ColumnsMakeRuns, OutputsHaveStreams, RunsHaveColumns, StreamsMakeOutputs};
 
 use crate::handlers::Handlers;
@@ -147,6 +146,11 @@ pub fn arrivals_are_streams()
     ensures { ArrivalsAreStreams }
 {}
 
+/// To put a stream in the order of leaving keeps its items.
+pub fn orders_keep_items()
+    ensures { OrdersKeepItems }
+{}
+
 /// A merge of a merge with more is the merge of all.
 pub fn merges_twice()
     ensures { MergesTwice }
@@ -160,6 +164,11 @@ pub fn streams_rise()
 /// The job of each visit is a row.
 pub fn jobs_are_rows()
     ensures { JobsAreRows }
+{}
+
+/// No job departs from a node before it came.
+pub fn fates_are_in_time()
+    ensures { FatesAreInTime }
 {}
 
 /// No visit departs before it came, and the columns of a node have one item a visit.

@@ -52,6 +52,16 @@ pub enum Kind {
     Server(Demand),
     /// Serves each job at once, for as long as it asks, however many there are.
     Delay(Demand),
+    /// One server, and places for 1 to 1,048,576 jobs, with the one in service. A job that finds all
+    /// of them taken is lost: it leaves at once, by output 1.
+    Loss { places: u32, demand: Demand },
+    /// Stages in series, 2 to 4: a job that is served stays at its stage until the next has a place
+    /// for it.
+    Tandem(List<Stage>),
+    /// Branches side by side, each of servers in series with unlimited queues: a job goes through
+    /// all of them at once, and leaves when the last has let it through. There are 2 to 8 branches
+    /// of 1 to 4 servers, at most 8 servers together.
+    ForkJoin(List<List<Demand>>),
     /// Sends each job on at once, by one of its outputs.
     Split(Route),
 }

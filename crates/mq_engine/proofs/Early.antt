@@ -3,8 +3,10 @@ use Rattle.std.proofs.Common.{◌≡◌, ℕ, suc, ◌^◌, ◌≤◌, Bool, tru
 use Rattle.std.specs.Prelude.{slice_get}
 use Rattle.std.specs.List.{AllByRecursion as Each, flat_map, zip}
 use Rattle.mq_core.proofs.Each.{Each-append}
-use Rattle.mq_core.specs.Columns.{IsStream, by_first, pairs_of, picked, rows_at}
+use Rattle.mq_core.specs.Columns.{IsStream, by_first, leaving_times, pairs_of, picked, rows_at, time_of_fate}
 use Rattle.mq_core.specs.Laws.{insert_by}
+use Rattle.mq_core.specs.declared.model.Fate.{Fate}
+use Rattle.mq_core.specs.declared.model.Fate.TheVariants.{Departs, Lost}
 use Rattle.mq_core.specs.declared.model.Input.{Input}
 use Rattle.mq_core.specs.declared.model.Stream.{Stream}
 use Rattle.mq_engine.specs.Turns.{AreEarly, pairs_by, pairs_in, pairs_read}
@@ -78,3 +80,10 @@ picked-early out (o ∷ os) (t ∷ ts) h = go (eqb o out) (picked-early out os t
     go : (b : Bool) → EarlyTimes (picked out os ts) → EarlyTimes (cond b (t ∷ picked out os ts) (picked out os ts))
     go true ih = (h.0, ih)
     go false ih = ih
+
+-- what leaves is early where the arrivals and the departures are
+pub leaving-early : (arrives : List ℕ) (fates : List Fate) → EarlyTimes arrives → EarlyTimes (map time_of_fate fates) → EarlyTimes (leaving_times arrives fates)
+leaving-early [] fates h k = tt
+leaving-early (a ∷ rest) [] h k = tt
+leaving-early (a ∷ rest) (Departs time ∷ fates) h k = (k.0, leaving-early rest fates h.1 k.1)
+leaving-early (a ∷ rest) (Lost ∷ fates) h k = (h.0, leaving-early rest fates h.1 k.1)

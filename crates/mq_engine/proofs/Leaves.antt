@@ -1,34 +1,36 @@
 -- What leaves a station, and which of it is late.
 use Rattle.std.proofs.Common.{◌≡◌, ℕ, zero, suc, ◌+◌, ◌^◌, ◌<◌, ◌≤◌, All, Bool, true, false, cond, List, [], ◌∷◌, ◌++◌, length, drop, map, max, Option, Some, None, sym, refl, ap, ◌∙◌, subst, arith}
-use Rattle.std.specs.Prelude.{nat_lt, slice_get}
-use Rattle.std.specs.List.{AllByRecursion as Each}
+use Rattle.std.specs.Prelude.{IsTrue, nat_lt, slice_get}
+use Rattle.std.specs.List.{AllByRecursion as Each, zip}
 use Rattle.std.proofs.lemmas.Bool.Decides.{nat_tests}
 use Rattle.std.proofs.lemmas.List.{length-map}
-use Rattle.mq_core.specs.Columns.{IsSoundLoad, IsStream, column_fates, column_late_from, column_outs, column_stream, picked, routes_from, time_of_fate}
-use Rattle.mq_core.specs.Recurrences.{lindley}
+use Rattle.mq_core.specs.Columns.{IsSoundLoad, IsStream, column_fates, column_late_from, column_outs, column_stream, by_first, leaving_times, pairs_of, picked, routes_from, stream_in_order, time_of_fate}
+use Rattle.mq_core.specs.Recurrences.{lindley, delayed}
 use Rattle.mq_core.specs.Laws.{Rises}
 use Rattle.mq_core.specs.Results.{Late, first_of, late_fate}
-use Rattle.mq_core.specs.Sound.{outputs_in}
+use Rattle.mq_core.specs.Sound.{is_sound_demand, outputs_in}
 use Rattle.mq_core.specs.Handling.{demand_of_job}
 use Rattle.mq_core.specs.Standard.{output_by, route_value}
 use Rattle.mq_core.specs.declared.model.Demand.{Demand}
 use Rattle.mq_core.specs.declared.model.Fate.{Fate}
 use Rattle.mq_core.specs.declared.model.Fate.TheVariants.{Departs, Lost}
 use Rattle.mq_core.specs.declared.model.Kind.{Kind}
-use Rattle.mq_core.specs.declared.model.Kind.TheVariants.{Source, Server, Split}
+use Rattle.mq_core.specs.declared.model.Kind.TheVariants.{Source, Server, Delay, Split}
 use Rattle.mq_core.specs.declared.model.Network.{Network}
 use Rattle.mq_core.specs.declared.model.Route.{Route}
 use Rattle.mq_core.specs.declared.model.Rows.{Rows}
 use Rattle.mq_core.specs.declared.model.Stream.{Stream}
 use Rattle.mq_core.proofs.Each.{Each-weaker}
 use Rattle.mq_split.specs.Outs.{AreParts, outs_from}
-use Rattle.mq_engine.specs.Turns.{AreStreams, IsLeaving, IsLoad, LeaveInOrder}
+use Rattle.mq_engine.specs.Turns.{AreStreams, IsLeaving, IsLoad}
 use Rattle.mq_engine.proofs.Lists.{drop_at, Each-get_or}
 
 -- a departure of each time is at that time
-pub times-back : (times : List ℕ) → map time_of_fate (map (λ time. Departs time) times) ≡ times
-times-back [] = refl
-times-back (t ∷ ts) = ap (λ l. t ∷ l) (times-back ts)
+times-back : (arrives times : List ℕ) → length times ≡ length arrives → leaving_times arrives (map (λ time. Departs time) times) ≡ times
+times-back [] [] e = refl
+times-back [] (t ∷ ts) e = absurd (omega arith)
+times-back (a ∷ rest) [] e = refl
+times-back (a ∷ rest) (t ∷ ts) e = ap (λ l. t ∷ l) (times-back rest ts (omega arith))
 
 -- where there is one output, all leave by it
 picked-all : (jobs items : List ℕ) → length items ≡ length jobs → picked 0 (map (λ _. 0) jobs) items ≡ items
@@ -37,22 +39,22 @@ picked-all [] (i ∷ is) e = absurd (omega arith)
 picked-all (j ∷ js) [] e = refl
 picked-all (j ∷ js) (i ∷ is) e = ap (λ l. i ∷ l) (picked-all js is (omega arith))
 
-pub one-stream : (rows : Rows) (kind : Kind) (arrivals : Stream) (departs : List ℕ) (streams : List Stream) → outputs_in kind ≡ 1 → column_outs rows kind arrivals.job ≡ map (λ _. 0) arrivals.job → column_fates rows kind arrivals.job arrivals.time ≡ map (λ time. Departs time) departs →
-    length departs ≡ length arrivals.job → streams ≡ record { job = arrivals.job; time = departs } ∷ [] → AreStreams rows kind arrivals streams
-one-stream rows kind arrivals departs streams one outs fates even e =
+pub one-stream : (rows : Rows) (kind : Kind) (arrivals : Stream) (departs : List ℕ) (streams : List Stream) → length arrivals.job ≡ length arrivals.time → outputs_in kind ≡ 1 → column_outs rows kind arrivals.job arrivals.time ≡ map (λ _. 0) arrivals.job → column_fates rows kind arrivals.job arrivals.time ≡ map (λ time. Departs time) departs →
+    length departs ≡ length arrivals.job → streams ≡ stream_in_order kind (record { job = arrivals.job; time = departs }) ∷ [] → AreStreams rows kind arrivals streams
+one-stream rows kind arrivals departs streams same one outs fates even e =
     record {
       count = ap length e ∙ sym one;
       each = λ out l. ap (λ (s : List Stream). slice_get s out) e ∙ only out (subst (λ n. out < n) one l);
     }
   where
-    stream : column_stream rows kind arrivals.job arrivals.time 0 ≡ record { job = arrivals.job; time = departs }
+    stream : column_stream rows kind arrivals.job arrivals.time 0 ≡ stream_in_order kind (record { job = arrivals.job; time = departs })
     stream =
-        let jobs : picked 0 (column_outs rows kind arrivals.job) arrivals.job ≡ arrivals.job = ap (λ l. picked 0 l arrivals.job) outs ∙ picked-all arrivals.job arrivals.job refl in
-        let times : picked 0 (column_outs rows kind arrivals.job) (map time_of_fate (column_fates rows kind arrivals.job arrivals.time)) ≡ departs =
-        (λ k. picked 0 (outs k) (map time_of_fate (fates k))) ∙ (ap (picked 0 (map (λ _. 0) arrivals.job)) (times-back departs) ∙ picked-all arrivals.job departs even) in
-        λ k. record { job = jobs k; time = times k }
+        let jobs : picked 0 (column_outs rows kind arrivals.job arrivals.time) arrivals.job ≡ arrivals.job = ap (λ l. picked 0 l arrivals.job) outs ∙ picked-all arrivals.job arrivals.job refl in
+        let times : picked 0 (column_outs rows kind arrivals.job arrivals.time) (leaving_times arrivals.time (column_fates rows kind arrivals.job arrivals.time)) ≡ departs =
+        (λ k. picked 0 (outs k) (leaving_times arrivals.time (fates k))) ∙ (ap (picked 0 (map (λ _. 0) arrivals.job)) (times-back arrivals.time departs (even ∙ same)) ∙ picked-all arrivals.job departs even) in
+        λ k. stream_in_order kind (record { job = jobs k; time = times k })
 
-    only : (out : ℕ) → out < 1 → slice_get (record { job = arrivals.job; time = departs } ∷ []) out ≡ Some (column_stream rows kind arrivals.job arrivals.time out)
+    only : (out : ℕ) → out < 1 → slice_get (stream_in_order kind (record { job = arrivals.job; time = departs }) ∷ []) out ≡ Some (column_stream rows kind arrivals.job arrivals.time out)
     only zero l = ap Some (sym stream)
     only (suc out) l = absurd (omega arith)
 
@@ -61,8 +63,8 @@ outs-routes : (rows : Rows) (route : Route) (position : ℕ) (jobs : List ℕ) �
 outs-routes rows route position [] = refl
 outs-routes rows route position (j ∷ js) = ap (λ l. output_by rows route j position ∷ l) (outs-routes rows route (suc position) js)
 
-pub split-streams : (rows : Rows) (route : Route) (arrivals : Stream) (values : List ℕ) (streams : List Stream) → values ≡ map (route_value rows route) arrivals.job → AreParts route arrivals values streams → AreStreams rows (Split route) arrivals streams
-split-streams rows route arrivals values streams e h =
+pub split-streams : (rows : Rows) (route : Route) (arrivals : Stream) (values : List ℕ) (streams : List Stream) → IsStream arrivals → values ≡ map (route_value rows route) arrivals.job → AreParts route arrivals values streams → AreStreams rows (Split route) arrivals streams
+split-streams rows route arrivals values streams s e h =
     record {
       count = h.count;
       each = λ out l. h.parts out l ∙ ap Some (part out);
@@ -72,7 +74,7 @@ split-streams rows route arrivals values streams e h =
     outs = ap (outs_from route 0) e ∙ outs-routes rows route 0 arrivals.job
 
     part : (out : ℕ) → record { job = picked out (outs_from route 0 values) arrivals.job; time = picked out (outs_from route 0 values) arrivals.time } ≡ column_stream rows (Split route) arrivals.job arrivals.time out
-    part out = λ k. record { job = picked out (outs k) arrivals.job; time = picked out (outs k) (sym (times-back arrivals.time) k) }
+    part out = λ k. record { job = picked out (outs k) arrivals.job; time = picked out (outs k) (sym (times-back arrivals.time arrivals.time refl) k) }
 
 -- the recurrence of a server
 pub lindley-length : (last : ℕ) (arrives demands : List ℕ) → length demands ≡ length arrives → length (lindley last arrives demands) ≡ length arrives
@@ -80,48 +82,18 @@ lindley-length last [] demands e = refl
 lindley-length last (a ∷ rest) [] e = absurd (omega arith)
 lindley-length last (a ∷ rest) (d ∷ ds) e = ap suc (lindley-length (max a last + d) rest ds (omega arith))
 
-lindley-late : (last : ℕ) (arrives demands : List ℕ) → Each (λ t. last ≤ t) (lindley last arrives demands)
-lindley-late last [] demands = tt
-lindley-late last (a ∷ rest) [] = tt
-lindley-late last (a ∷ rest) (d ∷ ds) =
-    let l : last ≤ max a last + d = omega arith in
-    (l, Each-weaker (λ t. max a last + d ≤ t) (λ t. last ≤ t) (λ t m. omega arith) _ (lindley-late (max a last + d) rest ds))
-
-lindley-rises : (last : ℕ) (arrives demands : List ℕ) → Rises (λ a b. a ≤ b) (lindley last arrives demands)
-lindley-rises last [] demands = tt
-lindley-rises last (a ∷ rest) [] = tt
-lindley-rises last (a ∷ rest) (d ∷ ds) = (lindley-late (max a last + d) rest ds, lindley-rises (max a last + d) rest ds)
-
-departures-in_order : (departs : List ℕ) → Rises (λ a b. a ≤ b) departs → LeaveInOrder (map (λ time. Departs time) departs)
-departures-in_order departs h =
-    record {
-      depart = ap (map (λ time. Departs time)) (sym (times-back departs));
-      rising = subst (Rises (λ a b. a ≤ b)) (sym (times-back departs)) h;
-    }
-
--- no visit leaves a station before one ahead of it
-pub fates-in_order : (rows : Rows) (kind : Kind) (job arrive : List ℕ) → Rises (λ a b. a ≤ b) arrive → LeaveInOrder (column_fates rows kind job arrive)
-fates-in_order rows Source job arrive h = departures-in_order arrive h
-fates-in_order rows (Server demand) job arrive h = departures-in_order _ (lindley-rises 0 arrive (map (demand_of_job rows demand) job))
-fates-in_order rows (Split route) job arrive h = departures-in_order arrive h
-
-pub fates-length : (rows : Rows) (kind : Kind) (job arrive : List ℕ) → length job ≡ length arrive → length (column_fates rows kind job arrive) ≡ length arrive
-fates-length rows Source job arrive e = length-map arrive _
-fates-length rows (Server demand) job arrive e = length-map (lindley 0 arrive (map (demand_of_job rows demand) job)) _ ∙ lindley-length 0 arrive _ (length-map job _ ∙ e)
-fates-length rows (Split route) job arrive e = length-map arrive _
-
--- a server can work on what comes to it
+-- a station can work on what comes to it
 small-demands : (f : ℕ → ℕ) (jobs : List ℕ) → ((k job : ℕ) → slice_get jobs k ≡ Some job → f job ≤ 2 ^ 36) → Each (λ demand. demand ≤ 2 ^ 36) (map f jobs)
 small-demands f [] h = tt
 small-demands f (j ∷ js) h = (h 0 j refl, small-demands f js (λ k job e. h (suc k) job e))
 
-pub load-sound : (net : Network) (rows : Rows) (demand : Demand) (arrivals : Stream) (demands : List ℕ) → IsLoad net rows (Server demand) arrivals → demands ≡ map (demand_of_job rows demand) arrivals.job → IsSoundLoad arrivals.time demands
-load-sound net rows demand arrivals demands h e =
+pub load-sound : (net : Network) (rows : Rows) (kind : Kind) (demand : Demand) (arrivals : Stream) (demands : List ℕ) → IsLoad net rows kind arrivals → IsTrue (is_sound_demand (length net.columns) demand) → demands ≡ map (demand_of_job rows demand) arrivals.job → IsSoundLoad arrivals.time demands
+load-sound net rows kind demand arrivals demands h sound e =
     record {
       few = h.few;
       each = ap length e ∙ (length-map arrivals.job _ ∙ h.ordered.ordered.even);
       early = λ k d l. Each-get_or (λ time. time ≤ 2 ^ 60) arrivals.time h.ordered.early k d l;
-      small = subst (All (λ d. d ≤ 2 ^ 36)) (sym e) (λ k d l. Each-get_or (λ d. d ≤ 2 ^ 36) _ (small-demands (demand_of_job rows demand) arrivals.job (λ j job g. ((h.told j job g).demand demand h.sound).1)) k d l);
+      small = subst (All (λ d. d ≤ 2 ^ 36)) (sym e) (λ k d l. Each-get_or (λ d. d ≤ 2 ^ 36) _ (small-demands (demand_of_job rows demand) arrivals.job (λ j job g. ((h.told j job g).demand demand sound).1)) k d l);
     }
 
 pub departs_inj : (a b : ℕ) → Departs a ≡ Departs b → a ≡ b
@@ -163,7 +135,7 @@ pub passes-on : (rows : Rows) (arrivals : Stream) (fates : List Fate) (departs :
 passes-on rows arrivals fates departs streams s d f e =
     record {
       leave = f ∙ ap (map (λ time. Departs time)) d;
-      outflow = one-stream rows Source arrivals departs streams refl refl (ap (map (λ time. Departs time)) (sym d)) (ap length d ∙ sym s.even) e;
+      outflow = one-stream rows Source arrivals departs streams s.even refl refl (ap (map (λ time. Departs time)) (sym d)) (ap length d ∙ sym s.even) e;
     }
 
 pub serves : (rows : Rows) (demand : Demand) (arrivals : Stream) (fates : List Fate) (demands departs : List ℕ) (streams : List Stream) → IsStream arrivals → demands ≡ map (demand_of_job rows demand) arrivals.job → departs ≡ lindley 0 arrivals.time demands → fates ≡ map (λ time. Departs time) departs →
@@ -173,8 +145,38 @@ serves rows demand arrivals fates demands departs streams s m d f e =
     let even : length (map (demand_of_job rows demand) arrivals.job) ≡ length arrivals.time = length-map arrivals.job _ ∙ s.even in
     record {
       leave = f ∙ ap (map (λ time. Departs time)) by;
-      outflow = one-stream rows (Server demand) arrivals departs streams refl refl (ap (map (λ time. Departs time)) (sym by)) (ap length by ∙ (lindley-length 0 arrivals.time _ even ∙ sym s.even)) e;
+      outflow = one-stream rows (Server demand) arrivals departs streams s.even refl refl (ap (map (λ time. Departs time)) (sym by)) (ap length by ∙ (lindley-length 0 arrivals.time _ even ∙ sym s.even)) e;
     }
 
-pub splits : (rows : Rows) (route : Route) (arrivals : Stream) (fates : List Fate) (values : List ℕ) (streams : List Stream) → values ≡ map (route_value rows route) arrivals.job → fates ≡ map (λ time. Departs time) arrivals.time → AreParts route arrivals values streams → IsLeaving rows (Split route) arrivals fates streams
-splits rows route arrivals fates values streams v f h = record { leave = f; outflow = split-streams rows route arrivals values streams v h }
+pub splits : (rows : Rows) (route : Route) (arrivals : Stream) (fates : List Fate) (values : List ℕ) (streams : List Stream) → IsStream arrivals → values ≡ map (route_value rows route) arrivals.job → fates ≡ map (λ time. Departs time) arrivals.time → AreParts route arrivals values streams → IsLeaving rows (Split route) arrivals fates streams
+splits rows route arrivals fates values streams s v f h = record { leave = f; outflow = split-streams rows route arrivals values streams s v h }
+
+-- a stream is told by its pairs
+jobs-back : (times jobs : List ℕ) → length jobs ≡ length times → map (λ (p : ℕ × ℕ). p.1) (zip times jobs) ≡ jobs
+jobs-back [] [] e = refl
+jobs-back [] (j ∷ js) e = absurd (omega arith)
+jobs-back (t ∷ ts) [] e = absurd (omega arith)
+jobs-back (t ∷ ts) (j ∷ js) e = ap (λ l. j ∷ l) (jobs-back ts js (omega arith))
+
+moments-back : (times jobs : List ℕ) → length jobs ≡ length times → map (λ (p : ℕ × ℕ). p.0) (zip times jobs) ≡ times
+moments-back [] [] e = refl
+moments-back [] (j ∷ js) e = absurd (omega arith)
+moments-back (t ∷ ts) [] e = absurd (omega arith)
+moments-back (t ∷ ts) (j ∷ js) e = ap (λ l. t ∷ l) (moments-back ts js (omega arith))
+
+delayed-length : (arrives demands : List ℕ) → length demands ≡ length arrives → length (delayed arrives demands) ≡ length arrives
+delayed-length [] demands e = refl
+delayed-length (a ∷ rest) [] e = absurd (omega arith)
+delayed-length (a ∷ rest) (d ∷ ds) e = ap suc (delayed-length rest ds (omega arith))
+
+pub holds : (rows : Rows) (demand : Demand) (arrivals : Stream) (fates : List Fate) (demands departs : List ℕ) (leaving : Stream) (streams : List Stream) → IsStream arrivals → demands ≡ map (demand_of_job rows demand) arrivals.job → departs ≡ delayed arrivals.time demands → fates ≡ map (λ time. Departs time) departs →
+    IsStream leaving → pairs_of leaving ≡ by_first (zip departs arrivals.job) → streams ≡ leaving ∷ [] → IsLeaving rows (Delay demand) arrivals fates streams
+holds rows demand arrivals fates demands departs leaving streams s m d f stream pairs e =
+    let by : departs ≡ delayed arrivals.time (map (demand_of_job rows demand) arrivals.job) = d ∙ ap (delayed arrivals.time) m in
+    let even : length (map (demand_of_job rows demand) arrivals.job) ≡ length arrivals.time = length-map arrivals.job _ ∙ s.even in
+    let job : leaving.job ≡ map (λ (p : ℕ × ℕ). p.1) (by_first (zip departs arrivals.job)) = sym (jobs-back leaving.time leaving.job stream.even) ∙ ap (map (λ (p : ℕ × ℕ). p.1)) pairs in
+    let time : leaving.time ≡ map (λ (p : ℕ × ℕ). p.0) (by_first (zip departs arrivals.job)) = sym (moments-back leaving.time leaving.job stream.even) ∙ ap (map (λ (p : ℕ × ℕ). p.0)) pairs in
+    record {
+      leave = f ∙ ap (map (λ time. Departs time)) by;
+      outflow = one-stream rows (Delay demand) arrivals departs streams s.even refl refl (ap (map (λ time. Departs time)) (sym by)) (ap length by ∙ (delayed-length arrivals.time _ even ∙ sym s.even)) (e ∙ (λ k. record { job = job k; time = time k } ∷ []));
+    }

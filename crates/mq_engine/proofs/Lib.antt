@@ -1,6 +1,8 @@
 pub mod Lists
 pub mod Sorted
-pub mod Gone
 pub mod Leaves
+pub mod Passing
+pub mod LossFates
+pub mod StageFacts
 pub mod Early
 pub mod Rounds

@@ -1,6 +1,7 @@
 -- Lists by place, and what a loop has made of one so far.
-use Rattle.std.proofs.Common.{◌==◌, ◌||◌, subst, ◌≡◌, ◌≢◌, ℕ, zero, suc, ◌+◌, ◌<◌, ◌≤◌, Bool, true, false, IsTrue, List, [], ◌∷◌, ◌++◌, length, get_or, set, take, drop, map, Some, sym, refl, ap, ◌∙◌, arith, eqb-true, append_assoc}
-use Rattle.std.specs.Prelude.{slice_get}
+use Rattle.std.proofs.Common.{◌==◌, ◌||◌, subst, ◌≡◌, ◌≢◌, ℕ, zero, suc, ◌+◌, ◌<◌, ◌≤◌, Bool, true, false, cond, IsTrue, List, [], ◌∷◌, ◌++◌, length, get_or, set, take, drop, map, Some, sym, refl, ap, ◌∙◌, arith, eqb-true, append_assoc}
+use Rattle.std.specs.Prelude.{count_by, slice_get}
+use Rattle.std.proofs.lemmas.List.Sums.{sum_by-cons}
 use Rattle.std.specs.List.{AllByRecursion as Each, flat_map, zip}
 use Rattle.std.proofs.lemmas.Bool.Decides.{nat_tests}
 use Rattle.std.proofs.lemmas.List.{append-nil}
@@ -11,6 +12,12 @@ pub drop_at : {X : Type 0} (xs : List X) (i : ℕ) (x : X) → slice_get xs i �
 drop_at [] i x h = absurd cc
 drop_at (y ∷ ys) zero x h = ap (λ z. z ∷ ys) (some_inj y x h)
 drop_at (y ∷ ys) (suc i) x h = drop_at ys i x h
+
+-- those that pass a test, of what is left from a place on
+pub count-at : {X : Type 0} (p : X → Bool) (xs : List X) (i : ℕ) (x : X) → slice_get xs i ≡ Some x → count_by p (drop i xs) ≡ cond (p x) 1 0 + count_by p (drop (i + 1) xs)
+count-at p xs i x h =
+    let next : suc i ≡ i + 1 = omega arith in
+    ap (count_by p) (drop_at xs i x h) ∙ (sum_by-cons (λ y. cond (p y) 1 0) x (drop (suc i) xs) ∙ ap (λ n. cond (p x) 1 0 + count_by p (drop n xs)) next)
 
 -- one item more, of what a map has made so far
 map-next : {X Y : Type 0} (f : X → Y) (xs : List X) (i : ℕ) (x : X) → slice_get xs i ≡ Some x → map f (take (suc i) xs) ≡ map f (take i xs) ++ f x ∷ []
@@ -93,6 +100,25 @@ has-front [] rank q n l h = absurd cc
 has-front (m ∷ ms) zero q n l h = absurd (omega arith)
 has-front (m ∷ ms) (suc rank) zero n l h = let e = some_inj m n h in grind (arith, nat_tests)
 has-front (m ∷ ms) (suc rank) (suc q) n l h = let ih = has-front ms rank q n (omega arith) h in grind (arith, nat_tests)
+
+-- one item more in both lists of a zip
+pub zip-push : (ts js ts' js' : List ℕ) (t j : ℕ) → length js ≡ length ts → ts' ≡ ts ++ t ∷ [] → js' ≡ js ++ j ∷ [] → zip ts' js' ≡ zip ts js ++ (t, j) ∷ []
+zip-push ts js ts' js' t j h a b = (λ k. zip (a k) (b k)) ∙ go ts js h
+  where
+    go : (us ks : List ℕ) → length ks ≡ length us → zip (us ++ t ∷ []) (ks ++ j ∷ []) ≡ zip us ks ++ (t, j) ∷ []
+    go [] [] e = refl
+    go [] (k ∷ ks) e = absurd (omega arith)
+    go (u ∷ us) [] e = absurd (omega arith)
+    go (u ∷ us) (k ∷ ks) e = ap (λ l. (u, k) ∷ l) (go us ks (omega arith))
+
+-- what is left of a zip from a place on begins with the items there
+pub zip-more : (ts js : List ℕ) (i t j : ℕ) (done done' all : List (ℕ × ℕ)) → slice_get ts i ≡ Some t → slice_get js i ≡ Some j → done' ≡ done ++ (t, j) ∷ [] →
+    done ++ zip (drop i ts) (drop i js) ≡ all → done' ++ zip (drop (i + 1) ts) (drop (i + 1) js) ≡ all
+zip-more ts js i t j done done' all a b p h =
+    let next : suc i ≡ i + 1 = omega arith in
+    ap (λ l. l ++ zip (drop (i + 1) ts) (drop (i + 1) js)) p
+    ∙ (append_assoc done _ _
+    ∙ (ap (λ n. done ++ (t, j) ∷ zip (drop n ts) (drop n js)) (sym next) ∙ (ap (λ l. done ++ l) (sym (λ k. zip (drop_at ts i t a k) (drop_at js i j b k))) ∙ h)))
 
 -- both lists of a zip, where they are as long
 pub zip-first : (ts js : List ℕ) → length js ≡ length ts → map (λ (p : ℕ × ℕ). p.0) (zip ts js) ≡ ts

@@ -11,7 +11,7 @@ use Rattle.std.proofs.lemmas.Option.{slice_get-map, slice_get_within}
 use Rattle.mq_core.proofs.Each.{Each-weaker}
 use Rattle.mq_core.proofs.Pending.{some_inj}
 use Rattle.mq_core.specs.ColumnLaws.{arrives_of, jobs_of}
-use Rattle.mq_core.specs.Columns.{IsRunOf, IsStream, by_first, column_fates, column_late, column_late_from, column_outs, column_stream, column_visits, pairs_of, rows_at, streams_below, time_of_fate}
+use Rattle.mq_core.specs.Columns.{IsRunOf, IsStream, by_first, column_fates, column_late, column_late_from, column_outs, column_stream, column_visits, leaving_times, picked, pairs_of, rows_at, streams_below, time_of_fate}
 use Rattle.mq_core.specs.NumberLaws.{IsOnTimeBelow}
 use Rattle.mq_core.specs.Results.{Late, first_of, stream_from, visits_of}
 use Rattle.mq_core.specs.RunLaws.{HasColumns}
@@ -22,7 +22,7 @@ use Rattle.mq_core.specs.Theorems.{IsReadFor}
 use Rattle.mq_core.specs.Wiring.{is_source_kind, outputs_read}
 use Rattle.mq_core.specs.declared.model.Input.{Input}
 use Rattle.mq_core.specs.declared.model.Kind.{Kind}
-use Rattle.mq_core.specs.declared.model.Kind.TheVariants.{Source, Server, Split}
+use Rattle.mq_core.specs.declared.model.Kind.TheVariants.{Source, Server, Delay, Loss, Tandem, ForkJoin, Split}
 use Rattle.mq_core.specs.declared.model.Node.{Node}
 use Rattle.mq_core.specs.declared.model.Plan.{Plan}
 use Rattle.mq_core.specs.declared.model.Rows.{Rows}
@@ -33,7 +33,7 @@ use Rattle.mq_engine.specs.CoreLaws.{CoreLaws}
 use Rattle.mq_engine.specs.Turns.{AreEarly, AreStreams, IsEarlyStream, IsLoad, IsThere, IsTurn, arriving, pairs_by, pairs_in, pairs_read}
 use Rattle.mq_engine.specs.declared.fault.RunFault.{RunFault}
 use Rattle.mq_engine.specs.declared.fault.RunFault.TheVariants.{Past, Memory}
-use Rattle.mq_engine.proofs.Early.{EarlyPairs, EarlyTimes, flat-early, picked-early, reads-early, rows-early, stream-early}
+use Rattle.mq_engine.proofs.Early.{EarlyPairs, EarlyTimes, flat-early, picked-early, reads-early, rows-early, stream-early, leaving-early}
 use Rattle.mq_engine.proofs.Leaves.{none-late}
 use Rattle.mq_engine.proofs.Lists.{Each-at, Each-get, flat_map-same, get-set_other, get-set_same, get-take, has-front, has-place, zip-jobs, zip-times}
 
@@ -91,6 +91,10 @@ pub record IsArrived (plan : Plan) (rows : Rows) (v : ℕ) (arrivals : Stream) :
 source-kind : (kind : Kind) → is_source_kind kind ≡ true → kind ≡ Source
 source-kind Source e = refl
 source-kind (Server demand) e = absurd cc
+source-kind (Delay demand) e = absurd cc
+source-kind (Loss places demand) e = absurd cc
+source-kind (Tandem stages) e = absurd cc
+source-kind (ForkJoin branches) e = absurd cc
 source-kind (Split route) e = absurd cc
 
 arriving-run : (laws : CoreLaws) (plan : Plan) (rows : Rows) (visits : List Visits) (outputs : List (List Stream)) (rank v : ℕ) (node : Node) → IsReadFor plan.net rows → Reached plan rows visits outputs rank → IsNext plan rank v node →
@@ -169,14 +173,16 @@ bound-within plan =
     grind (arith, nat_tests)
 
 -- the streams of a node whose visits are on time are early
-left-early : (plan : Plan) (rows : Rows) (v : ℕ) (node : Node) (arrivals : Stream) (left : List Stream) → AreStreams rows node.kind arrivals left →
+left-early : (laws : CoreLaws) (plan : Plan) (rows : Rows) (v : ℕ) (node : Node) (arrivals : Stream) (left : List Stream) → EarlyTimes arrivals.time → AreStreams rows node.kind arrivals left →
     first_of (column_late_from plan.net.bound v 0 (column_fates rows node.kind arrivals.job arrivals.time)) ≡ None → (out : ℕ) (stream : Stream) → slice_get left out ≡ Some stream → EarlyTimes stream.time
-left-early plan rows v node arrivals left t h out stream e =
+left-early laws plan rows v node arrivals left came t h out stream e =
     let inside : out < outputs_in node.kind = subst (λ m. out < m) t.count (slice_get_within left out stream e) in
     let bound = bound-within plan in
     subst (λ (s : Stream). EarlyTimes s.time) (some_inj _ _ (sym (t.each out inside) ∙ e))
-    (picked-early out (column_outs rows node.kind arrivals.job) (map time_of_fate (column_fates rows node.kind arrivals.job arrivals.time))
-    (Each-weaker (λ time. time ≤ plan.net.bound) (λ time. time ≤ 2 ^ 60) (λ time l. omega arith) _ (none-late plan.net.bound v 0 (column_fates rows node.kind arrivals.job arrivals.time) h)))
+    ((laws.keeps node.kind (record { job = picked out (column_outs rows node.kind arrivals.job arrivals.time) arrivals.job; time = picked out (column_outs rows node.kind arrivals.job arrivals.time) (leaving_times arrivals.time (column_fates rows node.kind arrivals.job arrivals.time)) })).times (2 ^ 60)
+    (picked-early out (column_outs rows node.kind arrivals.job arrivals.time) (leaving_times arrivals.time (column_fates rows node.kind arrivals.job arrivals.time))
+    (leaving-early arrivals.time (column_fates rows node.kind arrivals.job arrivals.time) came
+    (Each-weaker (λ time. time ≤ plan.net.bound) (λ time. time ≤ 2 ^ 60) (λ time l. omega arith) _ (none-late plan.net.bound v 0 (column_fates rows node.kind arrivals.job arrivals.time) h)))))
 
 left-ordered : (laws : CoreLaws) (plan : Plan) (rows : Rows) (v outs out : ℕ) (left : List Stream) (stream : Stream) → left ≡ streams_below (run_of plan rows) v outs → length left ≡ outs → slice_get left out ≡ Some stream → IsStream stream
 left-ordered laws plan rows v outs out left stream e count g =
@@ -254,7 +260,7 @@ reached-next laws plan rows visits outputs rank v node arrivals came left read r
         let g : slice_get left out ≡ Some stream = ap (λ (l : List Stream). slice_get l out) is-left ∙ b in
         record {
           ordered = left-ordered laws plan rows v (outputs_in node.kind) out left stream new.1 t.outflow.count g;
-          early = left-early plan rows v node arrivals left t.outflow late out stream g;
+          early = left-early laws plan rows v node arrivals left (loaded laws plan rows visits outputs rank v node arrivals read r n s e).ordered.early t.outflow late out stream g;
         }
     early u out streams stream a b (inr apart) = r.early u out streams stream (sym (get-set_other outputs v u left apart) ∙ a) b
 

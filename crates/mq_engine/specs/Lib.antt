@@ -1,3 +1,4 @@
 pub mod Answer
 pub mod CoreLaws
+pub mod Losses
 pub mod Turns

@@ -39,7 +39,7 @@ pub record IsThere (outputs : List (List Stream)) (input : Input) : Type 0 where
   pub node : input.node < length outputs
   pub out : (streams : List Stream) → slice_get outputs input.node ≡ Some streams → input.out < length streams
 
--- each stream is one, with times in their limit
+-- a stream whose times are at most 2^60
 pub record IsEarlyStream (stream : Stream) : Type 0 where
   pub ordered : IsStream stream
   pub early : AllByRecursion (λ time. time ≤ 2 ^ 60) stream.time
@@ -57,11 +57,6 @@ pub record IsLoad (net : Network) (rows : Rows) (kind : Kind) (arrivals : Stream
   pub ordered : IsEarlyStream arrivals
   pub few : length arrivals.time ≤ 1048576
   pub told : AreTold net rows arrivals.job
-
--- none is lost, and none leaves before one ahead of it
-pub record LeaveInOrder (fates : List Fate) : Type 0 where
-  pub depart : fates ≡ map (λ time. Departs time) (map time_of_fate fates)
-  pub rising : Rises (λ a b. a ≤ b) (map time_of_fate fates)
 
 -- the streams are those of the columns, one per output
 pub record AreStreams (rows : Rows) (kind : Kind) (arrivals : Stream) (streams : List Stream) : Type 0 where

@@ -1,4 +1,4 @@
-ghost use Rattle.std.specs.Prelude.{◌≡◌, ◌<◌, ◌≤◌, ℕ, length, IfOk, Some, slice_get};
+ghost use Rattle.std.specs.Prelude.{◌≡◌, ◌==◌, ◌<◌, ◌≤◌, ℕ, count_by, length, IfOk, IsTrue, Some, slice_get};
 ghost use Rattle.std.specs.List.{flat_map};
 ghost use Rattle.mq_core.specs.Columns.{IsStream, by_first, pairs_of, rows_at};
 ghost use Rattle.mq_core.specs.Laws.{Rises};
@@ -7,7 +7,7 @@ ghost use Rattle.mq_engine.specs.Turns.{AreEarly, IsEarlyStream, IsThere, arrivi
 
 use mq_base::{List, OutOfMemory};
 use mq_core::{Input, Kind, Node, Rows, Stream, merges_twice};
-use mq_merge::merge_two;
+use mq_merge::{by_time, merge_two};
 use std::alloc::Global;
 
 // The arrivals at a node: the rows of a source, or the streams that the ports of another node read,
@@ -45,44 +45,60 @@ fn rows_by_time(
     ensures stream { IfOk result (λ stream. IsStream stream) }
     ensures items { IfOk result (λ stream. pairs_of stream ≡ by_first (rows_at node 0 source.now time.now)) }
 {
-    let mut rows = rows_of(alloc, node, source, time)?;
-    rows.sort_by_key(|row| row.0)?;
-    columns_of(alloc, &rows)
+    let rows = rows_of(alloc, node, source, time)?;
+    if rises(&rows.time) {
+        return Ok(rows);
+    }
+    by_time(alloc, &rows.job, &rows.time)
 }
 
-// The time and the job of each row of a source, in file order.
+// How many rows come from a source.
+fn count_of(node: u32, source: &List<u32>) -> usize
+    ensures { result ≡ count_by (λ other. other == node) source.now }
+{
+    let mut count = 0;
+    for at in 0..source.len() {
+        if *source.get(at) == node {
+            count += 1;
+        }
+    }
+    count
+}
+
+// The rows of a source, in file order.
+// It is not inlined, so that its loop has the registers to itself.
+#[inline(never)]
 fn rows_of(
     alloc: Global,
     node: u32,
     source: &List<u32>,
     time: &List<u64>,
-) -> Result<Vec<(u64, u32)>, OutOfMemory>
+) -> Result<Stream, OutOfMemory>
     requires even { length source.now ≡ length time.now }
     requires few { length time.now ≤ 1048576 }
-    ensures { IfOk result (λ rows. rows.items ≡ rows_at node 0 source.now time.now) }
+    ensures even { IfOk result (λ rows. length rows.job ≡ length rows.time) }
+    ensures items { IfOk result (λ rows. pairs_of rows ≡ rows_at node 0 source.now time.now) }
 {
-    let mut rows = Vec::new(alloc);
+    let count = count_of(node, source);
+    let mut jobs = Vec::with_capacity(alloc, count)?;
+    let mut times = Vec::with_capacity(alloc, count)?;
     for job in 0..source.len() {
         if *source.get(job) == node {
-            rows.push((*time.get(job), job as u32))?;
+            jobs.push_reserved(job as u32);
+            times.push_reserved(*time.get(job));
         }
     }
-    Ok(rows)
+    Ok(Stream {
+        job: List::from_vec(jobs),
+        time: List::from_vec(times),
+    })
 }
 
-// The stream of items that are by time.
-fn columns_of(alloc: Global, items: &[(u64, u32)]) -> Result<Stream, OutOfMemory>
-    requires { Rises (λ p q. p.0 ≤ q.0) items.now }
-    ensures stream { IfOk result (λ stream. IsStream stream) }
-    ensures items { IfOk result (λ stream. pairs_of stream ≡ items.now) }
+// Whether no time falls.
+fn rises(times: &List<u64>) -> bool
+    ensures { IsTrue result → Rises (λ a b. a ≤ b) times.now }
 {
-    let mut job = List::new(alloc);
-    let mut time = List::new(alloc);
-    for item in items {
-        time.push(item.0)?;
-        job.push(item.1)?;
-    }
-    Ok(Stream { job, time })
+    times.as_slice().is_sorted()
 }
 
 // What these ports read, by time and then port.

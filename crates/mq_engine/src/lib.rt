@@ -11,7 +11,8 @@ mod arrivals;
 mod fault;
 mod late;
 mod laws;
-mod occupancy;
+mod losses;
+mod series;
 mod stations;
 mod turns;
 
@@ -21,7 +22,6 @@ use crate::turns::turn;
 pub use fault::{PastFault, RunFault};
 use mq_base::{List, OutOfMemory};
 use mq_core::{Plan, Rows, Run, Stream, Visits};
-pub use occupancy::found;
 use std::alloc::Global;
 
 // As many lists of visits as there are nodes, with none in them.

@@ -8,8 +8,11 @@ ghost use Rattle.mq_core.specs.declared.model.Fate.TheVariants.{Departs};
 ghost use Rattle.mq_core.specs.declared.model.Rows.{Rows as TheRows};
 ghost use Rattle.mq_engine.specs.Turns.{AreTold, IsLeaving, IsLoad};
 
+use crate::losses::admitted_or_lost;
+use crate::series::{in_branches, in_stages};
 use mq_base::{List, OutOfMemory};
 use mq_core::{Demand, Fate, Kind, Network, Route, Rows, Stream, demand_of};
+use mq_delay::delay;
 use mq_server::departures;
 use mq_split::split;
 use std::alloc::Global;
@@ -35,6 +38,12 @@ pub fn leaving(
     match kind {
         Kind::Source => passed_on(alloc, arrivals),
         Kind::Server(demand) => served(alloc, net, rows, demand, arrivals),
+        Kind::Delay(demand) => held(alloc, net, rows, demand, arrivals),
+        Kind::Loss { places, demand } => {
+            admitted_or_lost(alloc, net, rows, *places, demand, arrivals)
+        }
+        Kind::Tandem(stages) => in_stages(alloc, net, rows, stages, arrivals),
+        Kind::ForkJoin(branches) => in_branches(alloc, net, rows, branches, arrivals),
         Kind::Split(route) => routed(alloc, net, rows, route, arrivals),
     }
 }
@@ -63,8 +72,27 @@ fn served(
 {
     let demands = demands_of(alloc, net, rows, demand, &arrivals.job)?;
     let departs = departures(alloc, arrivals, &demands)?;
+    drop(demands);
     let fates = fates_of(alloc, &departs)?;
     let streams = one_stream(alloc, &arrivals.job, departs)?;
+    Ok(Outflow { fates, streams })
+}
+
+// What leaves a delay.
+fn held(
+    alloc: Global,
+    net: &Network,
+    rows: &Rows,
+    demand: &Demand,
+    arrivals: &Stream,
+) -> Result<Outflow, OutOfMemory>
+    requires { IsLoad net.now rows.now (Kind.Delay demand.now) arrivals.now }
+    ensures { IfOk result (λ leaving. IsLeaving rows.now (Kind.Delay demand.now) arrivals.now leaving.fates leaving.streams) }
+{
+    let demands = demands_of(alloc, net, rows, demand, &arrivals.job)?;
+    let delayed = delay(alloc, arrivals, &demands)?;
+    let fates = fates_of(alloc, &delayed.departs)?;
+    let streams = only(alloc, delayed.leaving)?;
     Ok(Outflow { fates, streams })
 }
 
@@ -86,7 +114,9 @@ fn routed(
 }
 
 // The demand of each job, in ticks.
-fn demands_of(
+// Its loop, like others below, is not inlined, so that it has the registers to itself.
+#[inline(never)]
+pub fn demands_of(
     alloc: Global,
     net: &Network,
     rows: &Rows,
@@ -97,14 +127,15 @@ fn demands_of(
     requires told { AreTold net.now rows.now jobs.now }
     ensures { IfOk result (λ demands. demands ≡ map (demand_of_job rows.now demand.now) jobs.now) }
 {
-    let mut demands = List::new(alloc);
+    let mut demands = Vec::with_capacity(alloc, jobs.len())?;
     for at in 0..jobs.len() {
-        demands.push(demand_of(rows, demand, *jobs.get(at)))?;
+        demands.push_reserved(demand_of(rows, demand, *jobs.get(at)));
     }
-    Ok(demands)
+    Ok(List::from_vec(demands))
 }
 
 // The value of each job that the route looks at; by turns it looks at none.
+#[inline(never)]
 fn values_of(
     alloc: Global,
     net: &Network,
@@ -116,11 +147,11 @@ fn values_of(
     requires told { AreTold net.now rows.now jobs.now }
     ensures { IfOk result (λ values. values ≡ map (route_value rows.now route.now) jobs.now) }
 {
-    let mut values = List::new(alloc);
+    let mut values = Vec::with_capacity(alloc, jobs.len())?;
     for at in 0..jobs.len() {
-        values.push(value_by(net, rows, route, *jobs.get(at)))?;
+        values.push_reserved(value_by(net, rows, route, *jobs.get(at)));
     }
-    Ok(values)
+    Ok(List::from_vec(values))
 }
 
 fn value_by(net: &Network, rows: &Rows, route: &Route, job: u32) -> u64
@@ -137,18 +168,19 @@ fn value_by(net: &Network, rows: &Rows, route: &Route, job: u32) -> u64
 }
 
 // The fates of visits that depart at these times.
-fn fates_of(alloc: Global, departs: &List<u64>) -> Result<List<Fate>, OutOfMemory>
+#[inline(never)]
+pub fn fates_of(alloc: Global, departs: &List<u64>) -> Result<List<Fate>, OutOfMemory>
     ensures { IfOk result (λ fates. fates ≡ map (λ time. Departs time) departs.now) }
 {
-    let mut fates = List::new(alloc);
+    let mut fates = Vec::with_capacity(alloc, departs.len())?;
     for at in 0..departs.len() {
-        fates.push(Fate::Departs(*departs.get(at)))?;
+        fates.push_reserved(Fate::Departs(*departs.get(at)));
     }
-    Ok(fates)
+    Ok(List::from_vec(fates))
 }
 
 // The streams of a node with one output, by which these jobs leave at these times.
-fn one_stream(
+pub fn one_stream(
     alloc: Global,
     jobs: &List<u32>,
     departs: List<u64>,
@@ -156,7 +188,14 @@ fn one_stream(
     ensures { IfOk result (λ streams. streams ≡ record { job = jobs.now; time = departs } ∷ []) }
 {
     let job = List::from_vec(Vec::from_slice(alloc, jobs.as_slice())?);
+    only(alloc, Stream { job, time: departs })
+}
+
+// The streams of a node with one output, of which this is the stream.
+fn only(alloc: Global, stream: Stream) -> Result<List<Stream>, OutOfMemory>
+    ensures { IfOk result (λ streams. streams ≡ stream ∷ []) }
+{
     let mut streams = List::new(alloc);
-    streams.push(Stream { job, time: departs })?;
+    streams.push(stream)?;
     Ok(streams)
 }

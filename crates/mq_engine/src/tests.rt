@@ -1,6 +1,6 @@
 use crate::arrivals::arrivals_at;
 use crate::late::first_late;
-use crate::{PastFault, RunFault, found};
+use crate::{PastFault, RunFault};
 use mq_base::List;
 use mq_core::{Fate, Kind, Node, Rows};
 use std::test::Fail;
@@ -21,17 +21,6 @@ fn the_rows_of_a_source_come_by_time(rt: HostRuntime) -> Result<(), Fail> {
     let arrivals = arrivals_at(alloc, &rows, 0, &node, &[])?;
     assert_eq!(rt; arrivals.time.as_slice(), [0, 1, 2, 2].as_slice());
     assert_eq!(rt; arrivals.job.as_slice(), [4, 1, 0, 3].as_slice());
-    Ok(())
-}
-
-#[test]
-fn visits_find_those_that_leave_later(rt: HostRuntime) -> Result<(), Fail> {
-    let alloc = rt.alloc();
-    let fates = [Fate::Departs(4), Fate::Departs(5), Fate::Departs(8)];
-    let fates = List::from_vec(Vec::from_slice(alloc, &fates)?);
-    let arrive = List::from_vec(Vec::from_slice(alloc, &[0, 1, 5])?);
-    let found = found(alloc, &arrive, &fates)?;
-    assert_eq!(rt; found.as_slice(), [0, 1, 0].as_slice());
     Ok(())
 }
 

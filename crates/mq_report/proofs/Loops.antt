@@ -1,5 +1,5 @@
 -- What is left of a report in a loop over ranks, or over outputs.
-use Rattle.std.proofs.Common.{◌≡◌, ℕ, zero, suc, ◌+◌, ◌-◌, ◌<◌, ◌≤◌, List, [], ◌∷◌, ◌++◌, length, get_or, drop, Some, refl, sym, ap, ◌∙◌, arith, drop-cons, subst, length-append}
+use Rattle.std.proofs.Common.{◌≡◌, ℕ, suc, ◌+◌, ◌-◌, ◌<◌, ◌≤◌, List, [], ◌∷◌, ◌++◌, length, drop, Some, sym, ap, ◌∙◌, arith, drop-cons, subst, length-append}
 use Rattle.std.specs.declared.option.Option.{Option}
 use Rattle.std.proofs.lemmas.List.{append-nil}
 use Rattle.mq_base.specs.Outside.{GoesOut}
@@ -14,11 +14,12 @@ use Rattle.mq_core.specs.declared.model.Node.{Node}
 use Rattle.mq_core.specs.declared.model.Rows.{Rows}
 use Rattle.mq_report.specs.Text.{line_of, line_at, nodes_text, exit_lines, exit_lines_at, exits_at, exits_text}
 
-drop_at : (xs : List ℕ) (i x : ℕ) → slice_get xs i ≡ Some x → drop i xs ≡ x ∷ drop (i + 1) xs
+-- what is left from a place on begins with the item there
+pub drop_at : {X : Type 0} (xs : List X) (i : ℕ) (x : X) → slice_get xs i ≡ Some x → drop i xs ≡ x ∷ drop (i + 1) xs
 drop_at xs i x h =
     let within = slice_get_within xs i x h in
     let next : suc i ≡ i + 1 = omega arith in
-    drop-cons xs i 0 within ∙ (ap (λ y. y ∷ drop (suc i) xs) (get_or_from_slice_get xs i x 0 h) ∙ ap (λ n. x ∷ drop n xs) next)
+    drop-cons xs i x within ∙ (ap (λ y. y ∷ drop (suc i) xs) (get_or_from_slice_get xs i x x h) ∙ ap (λ n. x ∷ drop n xs) next)
 
 -- the node of the next rank
 pub nodes-next : (net : Network) (rows : Rows) (end : State Local) (order : List ℕ) (rank v : ℕ) (node : Node) → slice_get order rank ≡ Some v → slice_get net.nodes v ≡ Some node →

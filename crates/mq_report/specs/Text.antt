@@ -1,16 +1,20 @@
 -- The text of a report: a head, the jobs and the span, a line for each node by rank, and a line for each output that
--- no input reads, by rank of its node and then output. Words are separated by one space, and each line ends with a line feed.
+-- no input reads, by rank of its node and then output. Where the job lines are asked for, a line for each visit follows, by
+-- rank of its node and then position. Words are separated by one space, and each line ends with a line feed.
 use Rattle.std.specs.Prelude.{ℕ, zero, suc, ◌+◌, ◌*◌, ◌/◌, ◌%◌, ◌==◌, ◌&&◌, Bool, if◌then◌else◌, List, [], ◌∷◌, ◌++◌, length, Option, Some, None, slice_get, codes, decimal}
 use Rattle.std.specs.List.{list_any}
 use Rattle.mq_core.specs.Local.{Local}
-use Rattle.mq_core.specs.Machine.{State, Station}
+use Rattle.mq_core.specs.Machine.{State, Station, Visit}
 use Rattle.mq_core.specs.NetworkRun.{run_in}
-use Rattle.mq_core.specs.Results.{Totals, totals_of, exit_of, servers_in}
+use Rattle.mq_core.specs.Columns.{column_wait}
+use Rattle.mq_core.specs.Results.{Totals, totals_of, exit_of, servers_in, wait_of, fates_from}
 use Rattle.mq_core.specs.Sound.{outputs_in}
 use Rattle.mq_core.specs.Wiring.{ranking}
+use Rattle.mq_core.specs.declared.model.Fate.{Fate}
+use Rattle.mq_core.specs.declared.model.Fate.TheVariants.{Departs, Lost}
 use Rattle.mq_core.specs.declared.model.Input.{Input}
 use Rattle.mq_core.specs.declared.model.Kind.{Kind}
-use Rattle.mq_core.specs.declared.model.Kind.TheVariants.{Source, Server, Split}
+use Rattle.mq_core.specs.declared.model.Kind.TheVariants.{Source, Server, Delay, Loss, Tandem, ForkJoin, Split}
 use Rattle.mq_core.specs.declared.model.Network.{Network}
 use Rattle.mq_core.specs.declared.model.Node.{Node}
 use Rattle.mq_core.specs.declared.model.Rows.{Rows}
@@ -25,6 +29,10 @@ jobs_line jobs span = codes "jobs " ++ decimal jobs ++ codes " span " ++ decimal
 abbrev pub kind_word : Kind → List ℕ
 kind_word Source = codes "source"
 kind_word (Server demand) = codes "server"
+kind_word (Delay demand) = codes "delay"
+kind_word (Loss places demand) = codes "loss"
+kind_word (Tandem stages) = codes "tandem"
+kind_word (ForkJoin branches) = codes "forkjoin"
 kind_word (Split route) = codes "split"
 
 -- four digits
@@ -106,11 +114,64 @@ abbrev pub exits_text : Network → Rows → State Local → List ℕ → List �
 exits_text net rows end [] = []
 exits_text net rows end (v ∷ order) = exits_at net.nodes rows end v (slice_get net.nodes v) ++ exits_text net rows end order
 
--- the report of a state, with the nodes in this order
-abbrev pub report_text : Network → List ℕ → Rows → State Local → List ℕ
-report_text net order rows end =
-    (head_line ++ jobs_line (length rows.time) end.clock) ++ (nodes_text net rows end order ++ exits_text net rows end order)
+-- The parts of a visit's line: the job plus 1, the node's name and the time of arrival; and how the visit ended.
+unfoldable pub visit_words : List ℕ → ℕ → ℕ → List ℕ
+visit_words name job arrive = codes "job " ++ decimal (job + 1) ++ codes " " ++ name ++ codes " arrive " ++ decimal arrive
 
--- the report of the sequential event-list run of a network over rows
-abbrev pub report_in : Network → Rows → List ℕ
-report_in net rows = report_text net (ranking net.nodes) rows (run_in net rows)
+unfoldable pub departs_words : ℕ → ℕ → List ℕ
+departs_words wait time = codes " wait " ++ decimal wait ++ codes " depart " ++ decimal time ++ 10 ∷ []
+
+unfoldable pub lost_words : List ℕ
+lost_words = codes " lost" ++ 10 ∷ []
+
+-- the wait and the time of departure, or that the job was lost
+abbrev pub fate_words : ℕ → Fate → List ℕ
+fate_words wait (Departs time) = departs_words wait time
+fate_words wait Lost = lost_words
+
+-- the line of a visit, from its job, its time of arrival, its wait and its fate
+abbrev pub visit_line : List ℕ → ℕ → ℕ → ℕ → Fate → List ℕ
+visit_line name job arrive wait fate = visit_words name job arrive ++ fate_words wait fate
+
+-- the lines of these visits, beside their fates
+abbrev pub visit_lines : Rows → List ℕ → Kind → List Visit → List Fate → List ℕ
+visit_lines rows name kind [] fates = []
+visit_lines rows name kind (visit ∷ visits) [] = []
+visit_lines rows name kind (visit ∷ visits) (fate ∷ fates) =
+    visit_line name visit.job visit.arrive (wait_of rows kind visit fate) fate ++ visit_lines rows name kind visits fates
+
+-- the same from their columns
+abbrev pub column_lines : Rows → List ℕ → Kind → List ℕ → List ℕ → List Fate → List ℕ
+column_lines rows name kind [] arrives fates = []
+column_lines rows name kind (job ∷ jobs) [] fates = []
+column_lines rows name kind (job ∷ jobs) (arrive ∷ arrives) [] = []
+column_lines rows name kind (job ∷ jobs) (arrive ∷ arrives) (fate ∷ fates) =
+    visit_line name job arrive (column_wait rows kind job arrive fate) fate ++ column_lines rows name kind jobs arrives fates
+
+-- the job lines of a node: one for each of its visits, by position
+abbrev pub node_jobs : Rows → Node → Station Local → List ℕ
+node_jobs rows node station = visit_lines rows node.name node.kind station.visits (fates_from node.kind station.emitted 0 station.visits)
+
+-- the job lines of a node of the network
+abbrev pub jobs_at : Rows → State Local → ℕ → Option Node → List ℕ
+jobs_at rows end v None = []
+jobs_at rows end v (Some node) = node_jobs rows node (end.stations v)
+
+-- the job lines of these nodes
+abbrev pub jobs_text : Network → Rows → State Local → List ℕ → List ℕ
+jobs_text net rows end [] = []
+jobs_text net rows end (v ∷ order) = jobs_at rows end v (slice_get net.nodes v) ++ jobs_text net rows end order
+
+-- the job lines of these nodes, where they are asked for
+abbrev pub asked_jobs : Network → Rows → State Local → List ℕ → Bool → List ℕ
+asked_jobs net rows end order jobs = if jobs then jobs_text net rows end order else []
+
+-- the report of a state, with the nodes in this order, and with the job lines where they are asked for
+abbrev pub report_text : Network → List ℕ → Rows → State Local → Bool → List ℕ
+report_text net order rows end jobs =
+    (head_line ++ jobs_line (length rows.time) end.clock)
+    ++ (nodes_text net rows end order ++ (exits_text net rows end order ++ asked_jobs net rows end order jobs))
+
+-- the report of the sequential event-list run of a network over rows, with the job lines where they are asked for
+abbrev pub report_in : Network → Rows → Bool → List ℕ
+report_in net rows jobs = report_text net (ranking net.nodes) rows (run_in net rows) jobs

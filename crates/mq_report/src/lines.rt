@@ -58,6 +58,10 @@ fn kind_word(kind: &Kind) -> &'static [u8]
     match kind {
         Kind::Source => b"source",
         Kind::Server(_) => b"server",
+        Kind::Delay(_) => b"delay",
+        Kind::Loss { .. } => b"loss",
+        Kind::Tandem(_) => b"tandem",
+        Kind::ForkJoin(_) => b"forkjoin",
         Kind::Split(_) => b"split",
     }
 }

@@ -9,6 +9,7 @@ ghost use Rattle.mq_core.specs.StandardTable.{run_of};
 ghost use Rattle.mq_core.specs.Theorems.{IsReadFor};
 ghost use Rattle.mq_stats.specs.Numbers.{totals_from};
 ghost use Rattle.mq_report.specs.Text.{
+  asked_jobs,
   exit_lines,
   exit_lines_at,
   exits_text,
@@ -19,6 +20,7 @@ ghost use Rattle.mq_report.specs.Text.{
   report_text,
 };
 
+use crate::jobs::add_jobs;
 use crate::lines::{add_exit, add_head, add_node};
 use mq_base::{Gather, Sink, SinkFault, add_pieces, flush};
 use mq_core::{
@@ -213,7 +215,51 @@ fn add_exits<O: Sink>(
     Ok(())
 }
 
-// Adds the lines of the nodes, and those of the exits.
+// Adds the job lines, where they are asked for.
+fn add_asked_jobs<O: Sink>(
+    out: &mut O,
+    pending: &mut Gather,
+    plan: &Plan,
+    rows: &Rows,
+    run: &Run,
+    jobs: bool,
+) -> Result<(), SinkFault>
+    requires read { IsReadFor plan.now.net rows.now }
+    requires run { IsRunOf plan.now rows.now run.now }
+    ensures ok { OnOk result (GoesOut (O.taken out.old) (O.taken out.new) (O.sure out.old) (O.sure out.new) (pending.old ++ asked_jobs plan.now.net rows.now (run_of plan.now rows.now) plan.now.order jobs) pending.new) }
+    ensures err { OnErr result (TakesPrefix (O.taken out.old) (O.taken out.new) (O.sure out.old) (O.sure out.new) (pending.old ++ asked_jobs plan.now.net rows.now (run_of plan.now rows.now) plan.now.order jobs)) }
+    ensures later { O.faults out.old ≤ O.faults out.new }
+    ensures rose { OnErr result (Rose (O.faults out.old) (O.faults out.new)) }
+    ensures sure { length (pending.old ++ asked_jobs plan.now.net rows.now (run_of plan.now rows.now) plan.now.order jobs) ≤ O.sure out.old → O.faults out.new ≡ O.faults out.old }
+{
+    if jobs {
+        return add_jobs(out, pending, plan, rows, run);
+    }
+    add_pieces(out, pending, &[])
+}
+
+// Adds the lines of the exits, and the job lines where they are asked for.
+fn add_jobs_behind_exits<O: Sink>(
+    out: &mut O,
+    pending: &mut Gather,
+    plan: &Plan,
+    rows: &Rows,
+    run: &Run,
+    jobs: bool,
+) -> Result<(), SinkFault>
+    requires read { IsReadFor plan.now.net rows.now }
+    requires run { IsRunOf plan.now rows.now run.now }
+    ensures ok { OnOk result (GoesOut (O.taken out.old) (O.taken out.new) (O.sure out.old) (O.sure out.new) (pending.old ++ (exits_text plan.now.net rows.now (run_of plan.now rows.now) plan.now.order ++ asked_jobs plan.now.net rows.now (run_of plan.now rows.now) plan.now.order jobs)) pending.new) }
+    ensures err { OnErr result (TakesPrefix (O.taken out.old) (O.taken out.new) (O.sure out.old) (O.sure out.new) (pending.old ++ (exits_text plan.now.net rows.now (run_of plan.now rows.now) plan.now.order ++ asked_jobs plan.now.net rows.now (run_of plan.now rows.now) plan.now.order jobs))) }
+    ensures later { O.faults out.old ≤ O.faults out.new }
+    ensures rose { OnErr result (Rose (O.faults out.old) (O.faults out.new)) }
+    ensures sure { length (pending.old ++ (exits_text plan.now.net rows.now (run_of plan.now rows.now) plan.now.order ++ asked_jobs plan.now.net rows.now (run_of plan.now rows.now) plan.now.order jobs)) ≤ O.sure out.old → O.faults out.new ≡ O.faults out.old }
+{
+    add_exits(out, pending, plan, rows, run)?;
+    add_asked_jobs(out, pending, plan, rows, run, jobs)
+}
+
+// Adds the lines of the nodes, those of the exits, and the job lines where they are asked for.
 fn add_network<O: Sink>(
     out: &mut O,
     pending: &mut Gather,
@@ -221,18 +267,19 @@ fn add_network<O: Sink>(
     rows: &Rows,
     run: &Run,
     span: u64,
+    jobs: bool,
 ) -> Result<(), SinkFault>
     requires read { IsReadFor plan.now.net rows.now }
     requires run { IsRunOf plan.now rows.now run.now }
     requires span { span ≡ (run_of plan.now rows.now).clock }
-    ensures ok { OnOk result (GoesOut (O.taken out.old) (O.taken out.new) (O.sure out.old) (O.sure out.new) (pending.old ++ (nodes_text plan.now.net rows.now (run_of plan.now rows.now) plan.now.order ++ exits_text plan.now.net rows.now (run_of plan.now rows.now) plan.now.order)) pending.new) }
-    ensures err { OnErr result (TakesPrefix (O.taken out.old) (O.taken out.new) (O.sure out.old) (O.sure out.new) (pending.old ++ (nodes_text plan.now.net rows.now (run_of plan.now rows.now) plan.now.order ++ exits_text plan.now.net rows.now (run_of plan.now rows.now) plan.now.order))) }
+    ensures ok { OnOk result (GoesOut (O.taken out.old) (O.taken out.new) (O.sure out.old) (O.sure out.new) (pending.old ++ (nodes_text plan.now.net rows.now (run_of plan.now rows.now) plan.now.order ++ (exits_text plan.now.net rows.now (run_of plan.now rows.now) plan.now.order ++ asked_jobs plan.now.net rows.now (run_of plan.now rows.now) plan.now.order jobs))) pending.new) }
+    ensures err { OnErr result (TakesPrefix (O.taken out.old) (O.taken out.new) (O.sure out.old) (O.sure out.new) (pending.old ++ (nodes_text plan.now.net rows.now (run_of plan.now rows.now) plan.now.order ++ (exits_text plan.now.net rows.now (run_of plan.now rows.now) plan.now.order ++ asked_jobs plan.now.net rows.now (run_of plan.now rows.now) plan.now.order jobs)))) }
     ensures later { O.faults out.old ≤ O.faults out.new }
     ensures rose { OnErr result (Rose (O.faults out.old) (O.faults out.new)) }
-    ensures sure { length (pending.old ++ (nodes_text plan.now.net rows.now (run_of plan.now rows.now) plan.now.order ++ exits_text plan.now.net rows.now (run_of plan.now rows.now) plan.now.order)) ≤ O.sure out.old → O.faults out.new ≡ O.faults out.old }
+    ensures sure { length (pending.old ++ (nodes_text plan.now.net rows.now (run_of plan.now rows.now) plan.now.order ++ (exits_text plan.now.net rows.now (run_of plan.now rows.now) plan.now.order ++ asked_jobs plan.now.net rows.now (run_of plan.now rows.now) plan.now.order jobs))) ≤ O.sure out.old → O.faults out.new ≡ O.faults out.old }
 {
     add_nodes(out, pending, plan, rows, run, span)?;
-    add_exits(out, pending, plan, rows, run)
+    add_jobs_behind_exits(out, pending, plan, rows, run, jobs)
 }
 
 // Adds the whole report.
@@ -242,36 +289,44 @@ fn add_report<O: Sink>(
     plan: &Plan,
     rows: &Rows,
     run: &Run,
+    jobs: bool,
 ) -> Result<(), SinkFault>
     requires read { IsReadFor plan.now.net rows.now }
     requires run { IsRunOf plan.now rows.now run.now }
-    ensures ok { OnOk result (GoesOut (O.taken out.old) (O.taken out.new) (O.sure out.old) (O.sure out.new) (pending.old ++ report_text plan.now.net plan.now.order rows.now (run_of plan.now rows.now)) pending.new) }
-    ensures err { OnErr result (TakesPrefix (O.taken out.old) (O.taken out.new) (O.sure out.old) (O.sure out.new) (pending.old ++ report_text plan.now.net plan.now.order rows.now (run_of plan.now rows.now))) }
+    ensures ok { OnOk result (GoesOut (O.taken out.old) (O.taken out.new) (O.sure out.old) (O.sure out.new) (pending.old ++ report_text plan.now.net plan.now.order rows.now (run_of plan.now rows.now) jobs) pending.new) }
+    ensures err { OnErr result (TakesPrefix (O.taken out.old) (O.taken out.new) (O.sure out.old) (O.sure out.new) (pending.old ++ report_text plan.now.net plan.now.order rows.now (run_of plan.now rows.now) jobs)) }
     ensures later { O.faults out.old ≤ O.faults out.new }
     ensures rose { OnErr result (Rose (O.faults out.old) (O.faults out.new)) }
-    ensures sure { length (pending.old ++ report_text plan.now.net plan.now.order rows.now (run_of plan.now rows.now)) ≤ O.sure out.old → O.faults out.new ≡ O.faults out.old }
+    ensures sure { length (pending.old ++ report_text plan.now.net plan.now.order rows.now (run_of plan.now rows.now) jobs) ≤ O.sure out.old → O.faults out.new ≡ O.faults out.old }
 {
     span_is_columns();
     let span = span(&run.visits);
     add_head(out, pending, rows.time.len(), span)?;
-    add_network(out, pending, plan, rows, run, span)
+    add_network(out, pending, plan, rows, run, span, jobs)
 }
 
-/// Writes the report of a run: the counts and times of each node by rank, and what leaves by each
-/// output that no input reads. It takes no memory of its own.
+/// Writes the report of a run: the counts and times of each node by rank, what leaves by each
+/// output that no input reads, and, where `jobs` is true, a line for each visit by rank of its node
+/// and then position. It takes no memory of its own.
 ///
 /// After a fault the sink took a first part of the report.
-pub fn report<O: Sink>(plan: &Plan, rows: &Rows, run: &Run, out: &mut O) -> Result<(), SinkFault>
+pub fn report<O: Sink>(
+    plan: &Plan,
+    rows: &Rows,
+    run: &Run,
+    jobs: bool,
+    out: &mut O,
+) -> Result<(), SinkFault>
     requires read { IsReadFor plan.now.net rows.now }
     requires run { IsRunOf plan.now rows.now run.now }
-    ensures ok { OnOk result (TakesFirst (O.taken out.old) (O.taken out.new) (O.sure out.old) (O.sure out.new) (report_in plan.now.net rows.now) (length (report_in plan.now.net rows.now))) }
-    ensures err { OnErr result (TakesPrefix (O.taken out.old) (O.taken out.new) (O.sure out.old) (O.sure out.new) (report_in plan.now.net rows.now)) }
+    ensures ok { OnOk result (TakesFirst (O.taken out.old) (O.taken out.new) (O.sure out.old) (O.sure out.new) (report_in plan.now.net rows.now jobs) (length (report_in plan.now.net rows.now jobs))) }
+    ensures err { OnErr result (TakesPrefix (O.taken out.old) (O.taken out.new) (O.sure out.old) (O.sure out.new) (report_in plan.now.net rows.now jobs)) }
     ensures later { O.faults out.old ≤ O.faults out.new }
     ensures rose { OnErr result (Rose (O.faults out.old) (O.faults out.new)) }
-    ensures sure { length (report_in plan.now.net rows.now) ≤ O.sure out.old → O.faults out.new ≡ O.faults out.old }
+    ensures sure { length (report_in plan.now.net rows.now jobs) ≤ O.sure out.old → O.faults out.new ≡ O.faults out.old }
 {
     let mut pending = Gather::new();
     runs_are_of_networks();
-    add_report(out, &mut pending, plan, rows, run)?;
+    add_report(out, &mut pending, plan, rows, run, jobs)?;
     flush(out, &mut pending)
 }

@@ -16,6 +16,8 @@ mod tests;
 /// departure a job, by position, in ticks. A job begins at its arrival or when the job before it
 /// leaves, whichever is later, and takes its demand, in ticks of service (Lindley's recurrence).
 /// It refuses for want of memory alone.
+// It is not inlined, so that its loop has the registers to itself.
+#[inline(never)]
 pub fn departures(
     alloc: Global,
     stream: &Stream,
@@ -24,11 +26,11 @@ pub fn departures(
     requires { IsSoundLoad stream.now.time demands.now }
     ensures { IfOk result (λ departs. departs ≡ lindley 0 stream.now.time demands.now) }
 {
-    let mut departs = List::new(alloc);
+    let mut departs = Vec::with_capacity(alloc, demands.len())?;
     let mut last = 0;
     for at in 0..stream.time.len() {
         last = last.max(*stream.time.get(at)) + *demands.get(at);
-        departs.push(last)?;
+        departs.push_reserved(last);
     }
-    Ok(departs)
+    Ok(List::from_vec(departs))
 }

@@ -1,6 +1,7 @@
 -- One job more, of the outputs and of what is picked.
-use Rattle.std.proofs.Common.{◌≡◌, ℕ, zero, suc, ◌+◌, ◌<◌, ◌≤◌, ◌⊎◌, inl, inr, List, [], ◌∷◌, ◌++◌, length, get_or, drop, Some, refl, sym, ap, ◌∙◌, arith, drop-cons, append_assoc}
-use Rattle.std.specs.Prelude.{slice_get}
+use Rattle.std.proofs.Common.{◌≡◌, ℕ, zero, suc, ◌+◌, ◌<◌, ◌≤◌, ◌==◌, true, false, cond, ◌⊎◌, inl, inr, List, [], ◌∷◌, ◌++◌, length, get_or, drop, Some, refl, sym, ap, ◌∙◌, arith, drop-cons, append_assoc}
+use Rattle.std.specs.Prelude.{slice_get, count_by}
+use Rattle.std.proofs.lemmas.List.Sums.{sum_by-cons}
 use Rattle.std.proofs.lemmas.Option.{slice_get_within, get_or_from_slice_get}
 use Rattle.std.proofs.lemmas.Bool.Decides.{nat_tests}
 use Rattle.std.proofs.lemmas.List.{append-nil, drop_all}
@@ -35,6 +36,21 @@ outs-all route done values i l h = sym (append-nil done) ∙ (ap (λ v. done ++ 
 
 drop_next : (xs : List ℕ) (i : ℕ) → i < length xs → drop i xs ≡ get_or xs i 0 ∷ drop (i + 1) xs
 drop_next xs i l = let next : suc i ≡ i + 1 = omega arith in drop-cons xs i 0 l ∙ ap (λ n. get_or xs i 0 ∷ drop n xs) next
+
+-- those that go to an output, of what is left from a place on
+count-at : (out : ℕ) (outs : List ℕ) (i : ℕ) → i < length outs → count_by (λ o. o == out) (drop i outs) ≡ cond (get_or outs i 0 == out) 1 0 + count_by (λ o. o == out) (drop (i + 1) outs)
+count-at out outs i l = ap (count_by (λ o. o == out)) (drop_next outs i l) ∙ sum_by-cons (λ o. cond (o == out) 1 0) (get_or outs i 0) (drop (i + 1) outs)
+
+pub count-yes : (out : ℕ) (outs : List ℕ) (i : ℕ) → i < length outs → get_or outs i 0 ≡ out → count_by (λ o. o == out) (drop i outs) ≡ 1 + count_by (λ o. o == out) (drop (i + 1) outs)
+count-yes out outs i l e =
+    let here : (get_or outs i 0 == out) ≡ true = grind (arith, nat_tests) in
+    count-at out outs i l ∙ ap (λ b. cond b 1 0 + count_by (λ o. o == out) (drop (i + 1) outs)) here
+
+pub count-no : (out : ℕ) (outs : List ℕ) (i : ℕ) → i < length outs → (get_or outs i 0 ≡ out → ⊥) → count_by (λ o. o == out) (drop i outs) ≡ count_by (λ o. o == out) (drop (i + 1) outs)
+count-no out outs i l e =
+    let elsewhere : (get_or outs i 0 == out) ≡ false = grind (arith, nat_tests) in
+    let next = count-at out outs i l ∙ ap (λ b. cond b 1 0 + count_by (λ o. o == out) (drop (i + 1) outs)) elsewhere in
+    omega arith
 
 picked-yes : (out o item : ℕ) (outs items : List ℕ) → o ≡ out → picked out (o ∷ outs) (item ∷ items) ≡ item ∷ picked out outs items
 picked-yes out o item outs items e = grind (arith, nat_tests)

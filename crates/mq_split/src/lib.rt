@@ -1,7 +1,7 @@
 //! The split, which sends each job on by one of its outputs.
 #![tactic(auto)]
 
-ghost use Rattle.std.specs.Prelude.{◌≡◌, ◌<◌, ◌≤◌, ◌^◌, ℕ, length, count_by, nat_le, IfOk, IsTrue};
+ghost use Rattle.std.specs.Prelude.{◌≡◌, ◌==◌, ◌<◌, ◌≤◌, ◌^◌, ℕ, length, count_by, nat_le, IfOk, IsTrue};
 ghost use Rattle.mq_core.specs.Columns.{IsStream};
 ghost use Rattle.mq_core.specs.Sound.{is_sound_route, outputs_by};
 ghost use Rattle.mq_core.specs.Standard.{output_at};
@@ -53,34 +53,55 @@ fn outputs_of(route: &Route) -> u8
 }
 
 // The output of each job, by position.
+// Its loop, like others below, is not inlined, so that it has the registers to itself.
+#[inline(never)]
 fn outs_of(alloc: Global, values: &List<u64>, route: &Route) -> Result<Vec<u8>, OutOfMemory>
     requires route { (columns : ℕ) × IsTrue (is_sound_route columns route.now) }
     requires few { length values.now ≤ 1048576 }
     ensures { IfOk result (λ outs. outs.items ≡ outs_from route.now 0 values.now) }
 {
-    let mut outs = Vec::new(alloc);
+    let mut outs = Vec::with_capacity(alloc, values.len())?;
     for at in 0..values.len() {
-        outs.push(route_of(route, *values.get(at), at as u32))?;
+        outs.push_reserved(route_of(route, *values.get(at), at as u32));
     }
     Ok(outs)
 }
 
-// The items of a stream whose output is this one.
-fn pick(alloc: Global, stream: &Stream, outs: &[u8], out: u8) -> Result<Stream, OutOfMemory>
+// How many of these outputs are this one.
+fn count_of(outs: &[u8], out: u8) -> usize
+    ensures { result ≡ count_by (λ other. other == out) outs.now }
+{
+    let mut count = 0;
+    for other in outs {
+        if *other == out {
+            count += 1;
+        }
+    }
+    count
+}
+
+/// The items, in their order, whose output is this one. `outs` has the output of each, by position;
+/// the jobs and the times of the stream are as many. It refuses for want of memory alone.
+#[inline(never)]
+pub fn pick(alloc: Global, stream: &Stream, outs: &[u8], out: u8) -> Result<Stream, OutOfMemory>
     requires jobs { length stream.now.job ≡ length outs.now }
     requires times { length stream.now.time ≡ length outs.now }
     ensures { IfOk result (λ part. part ≡ picked_stream outs.now stream.now out) }
 {
-    let mut job = List::new(alloc);
-    let mut time = List::new(alloc);
+    let count = count_of(outs, out);
+    let mut job = Vec::with_capacity(alloc, count)?;
+    let mut time = Vec::with_capacity(alloc, count)?;
     for at in 0..outs.len() {
         if outs[at] != out {
             continue;
         }
-        job.push(*stream.job.get(at))?;
-        time.push(*stream.time.get(at))?;
+        job.push_reserved(*stream.job.get(at));
+        time.push_reserved(*stream.time.get(at));
     }
-    Ok(Stream { job, time })
+    Ok(Stream {
+        job: List::from_vec(job),
+        time: List::from_vec(time),
+    })
 }
 
 /// The streams that leave a split: one per output, by its number, each with the jobs that its

@@ -2,3 +2,4 @@ pub mod Steps
 pub mod RunSteps
 pub mod Counts
 pub mod Founds
+pub mod Sums

@@ -1,10 +1,10 @@
 -- What is known of the columns of a run.
-use Rattle.std.proofs.Common.{◌≡◌, ℕ, suc, ◌+◌, ◌≤◌, Bool, true, false, List, [], ◌∷◌, ◌++◌, length, sym, ap, subst, arith, length-append}
+use Rattle.std.proofs.Common.{◌≡◌, ℕ, suc, ◌+◌, ◌≤◌, Bool, true, false, List, [], ◌∷◌, ◌++◌, length, sym, refl, ap, subst, arith, length-append}
 use Rattle.std.specs.Prelude.{All, ◌==◌, if◌then◌else◌}
 use Rattle.std.specs.List.{AllByRecursion as Each}
 use Rattle.std.proofs.lemmas.List.Elements.{All-nil, All-cons}
 use Rattle.std.proofs.lemmas.List.Sums.{count_by-le-length}
-use Rattle.mq_core.specs.Columns.{column_visits, departs_after, founds_from, picked}
+use Rattle.mq_core.specs.Columns.{column_visits, departs_after, founds_from, leaving_times, picked}
 use Rattle.mq_core.specs.declared.model.Fate.{Fate}
 use Rattle.mq_core.specs.declared.model.Kind.{Kind}
 use Rattle.mq_core.specs.declared.model.Rows.{Rows}
@@ -46,3 +46,21 @@ length-picked out (o ∷ outs) (item ∷ items) = go (o == out) (length-picked o
     go : (b : Bool) → length (picked out outs items) ≤ length items → length (if b then item ∷ picked out outs items else picked out outs items) ≤ suc (length items)
     go true k = omega arith
     go false k = omega arith
+
+-- as many are picked of two lists of one length
+pub picked-even : (out : ℕ) (outs items others : List ℕ) → length others ≡ length items → length (picked out outs items) ≡ length (picked out outs others)
+picked-even out [] items others e = refl
+picked-even out (o ∷ outs) [] [] e = refl
+picked-even out (o ∷ outs) [] (other ∷ others) e = absurd (omega arith)
+picked-even out (o ∷ outs) (item ∷ items) [] e = absurd (omega arith)
+picked-even out (o ∷ outs) (item ∷ items) (other ∷ others) e = go (o == out) (picked-even out outs items others (omega arith))
+  where
+    go : (b : Bool) → length (picked out outs items) ≡ length (picked out outs others) → length (if b then item ∷ picked out outs items else picked out outs items) ≡ length (if b then other ∷ picked out outs others else picked out outs others)
+    go true k = omega arith
+    go false k = k
+
+-- each visit leaves once
+pub leaving-even : (arrives : List ℕ) (fates : List Fate) → length fates ≡ length arrives → length (leaving_times arrives fates) ≡ length arrives
+leaving-even [] fates e = refl
+leaving-even (arrive ∷ arrives) [] e = absurd (omega arith)
+leaving-even (arrive ∷ arrives) (fate ∷ fates) e = ap suc (leaving-even arrives fates (omega arith))

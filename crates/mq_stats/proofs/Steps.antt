@@ -1,13 +1,17 @@
 -- One step of a loop over columns, and its end.
-use Rattle.std.proofs.Common.{◌≡◌, ℕ, suc, ◌+◌, List, ◌∷◌, drop, Some, sym, ap, ◌∙◌, arith, drop-cons, max}
-use Rattle.std.specs.Prelude.{slice_get, fold, slice_index, ◌-◌}
-use Rattle.std.specs.Ordering.{ord_max, nat_cmp}
-use Rattle.std.proofs.lemmas.Bool.Decides.{nat_tests}
+use Rattle.std.proofs.Common.{◌≡◌, ℕ, suc, ◌+◌, ◌⊎◌, inl, inr, List, [], ◌∷◌, length, refl, cond, drop, Some, sym, ap, ◌∙◌, arith, drop-cons, max}
+use Rattle.std.specs.Prelude.{slice_get, fold, slice_index, ◌-◌, count_by, sum}
 use Rattle.std.proofs.lemmas.Option.{slice_get_within, get_or_from_slice_get}
-use Rattle.mq_core.specs.Columns.{column_wait, column_waits, column_service, column_services, column_sojourn, column_sojourns, one_more, column_numbers, stream_sojourns}
+use Rattle.mq_core.proofs.NumberLists.{sum-cons}
+use Rattle.mq_core.specs.Columns.{column_wait, column_waits, column_service, column_services, column_sojourn, column_sojourns, one_more, column_numbers, service_time, stream_sojourns}
+use Rattle.mq_core.specs.Results.{bare_time, is_lost}
 use Rattle.mq_core.specs.declared.model.Fate.{Fate}
+use Rattle.mq_core.specs.declared.model.Fate.TheVariants.{Departs, Lost}
 use Rattle.mq_core.specs.declared.model.Kind.{Kind}
+use Rattle.mq_core.specs.declared.model.Kind.TheVariants.{Source, Split}
+use Rattle.mq_core.specs.declared.model.Route.{Route}
 use Rattle.mq_core.specs.declared.model.Rows.{Rows}
+use Rattle.mq_stats.proofs.Counts.{count-cons}
 
 -- what is left from a place on begins with the item there
 pub drop_at : {X : Type 0} (xs : List X) (i : ℕ) (x : X) → slice_get xs i ≡ Some x → drop i xs ≡ x ∷ drop (i + 1) xs
@@ -16,17 +20,19 @@ drop_at xs i x h =
     let next : suc i ≡ i + 1 = omega arith in
     drop-cons xs i x within ∙ (ap (λ y. y ∷ drop (suc i) xs) (get_or_from_slice_get xs i x x h) ∙ ap (λ n. x ∷ drop n xs) next)
 
--- what the code's `max` gives
-pub max_is : (a b : ℕ) → ord_max nat_cmp a b ≡ max a b
-max_is a b = grind (arith, nat_tests)
-
 -- Sums and greatest numbers. What is added so far, with what is left, is all.
 pub adds : (total added x all : ℕ) (rest rest' : List ℕ) → added ≡ x → rest ≡ x ∷ rest' → fold (λ a y. a + y) total rest ≡ all → fold (λ a y. a + y) (total + added) rest' ≡ all
 adds total added x all rest rest' m e h = ap (λ n. fold (λ a y. a + y) (total + n) rest') m ∙ (sym (ap (fold (λ a y. a + y) total) e) ∙ h)
 
+-- what is counted so far, with what is left, is all
+pub counts : (lost added all : ℕ) (fates : List Fate) (i : ℕ) (fate : Fate) → added ≡ cond (is_lost fate) 1 0 → slice_get fates i ≡ Some fate → lost + count_by is_lost (drop i fates) ≡ all → lost + added + count_by is_lost (drop (i + 1) fates) ≡ all
+counts lost added all fates i fate m f h =
+    let e = ap (count_by is_lost) (drop_at fates i fate f) ∙ count-cons is_lost fate (drop (i + 1) fates) in
+    omega arith
+
 -- the greatest so far, with what is left, is the greatest of all
-pub grows : (greatest greatest' seen x all : ℕ) (rest rest' : List ℕ) → greatest' ≡ ord_max nat_cmp greatest seen → seen ≡ x → rest ≡ x ∷ rest' → fold max greatest rest ≡ all → fold max greatest' rest' ≡ all
-grows greatest greatest' seen x all rest rest' m w e h = ap (λ n. fold max n rest') (m ∙ (max_is greatest seen ∙ ap (max greatest) w)) ∙ (sym (ap (fold max greatest) e) ∙ h)
+pub grows : (greatest greatest' seen x all : ℕ) (rest rest' : List ℕ) → greatest' ≡ max greatest seen → seen ≡ x → rest ≡ x ∷ rest' → fold max greatest rest ≡ all → fold max greatest' rest' ≡ all
+grows greatest greatest' seen x all rest rest' m w e h = ap (λ n. fold max n rest') (m ∙ ap (max greatest) w) ∙ (sym (ap (fold max greatest) e) ∙ h)
 
 -- Columns. What is left of each begins with the item of its visit.
 pub waits-at : (rows : Rows) (kind : Kind) (jobs arrives : List ℕ) (fates : List Fate) (i job arrive : ℕ) (fate : Fate) → slice_get jobs i ≡ Some job → slice_get arrives i ≡ Some arrive → slice_get fates i ≡ Some fate →
@@ -48,3 +54,35 @@ numbers-at founds fates i found fate a f = λ k. column_numbers (drop_at founds 
 pub leaves-at : (rows : Rows) (jobs times : List ℕ) (i job time : ℕ) → slice_get jobs i ≡ Some job → slice_get times i ≡ Some time →
     stream_sojourns rows (drop i jobs) (drop i times) ≡ (time - slice_index rows.time job) ∷ stream_sojourns rows (drop (i + 1) jobs) (drop (i + 1) times)
 leaves-at rows jobs times i job time j t = λ k. stream_sojourns rows (drop_at jobs i job j k) (drop_at times i time t k)
+
+-- A kind that serves no job: each stay is a wait, and no visit is served.
+pub record Passes (rows : Rows) (kind : Kind) : Type 0 where
+  pub bare : (job : ℕ) → bare_time rows kind job ≡ 0
+  pub service : (job : ℕ) → service_time rows kind job ≡ 0
+
+pub passes : (rows : Rows) (kind : Kind) → (kind ≡ Source) ⊎ ((route : Route) × (kind ≡ Split route)) → Passes rows kind
+passes rows kind (inl e) = record { bare = λ job. ap (λ k. bare_time rows k job) e; service = λ job. ap (λ k. service_time rows k job) e }
+passes rows kind (inr e) = record { bare = λ job. ap (λ k. bare_time rows k job) e.1; service = λ job. ap (λ k. service_time rows k job) e.1 }
+
+wait-is_stay : (rows : Rows) (kind : Kind) (job arrive : ℕ) (fate : Fate) → Passes rows kind → column_wait rows kind job arrive fate ≡ column_sojourn arrive fate
+wait-is_stay rows kind job arrive (Departs time) h = let e = h.bare job in omega arith
+wait-is_stay rows kind job arrive Lost h = refl
+
+pub waits-are_stays : (rows : Rows) (kind : Kind) (jobs arrives : List ℕ) (fates : List Fate) → Passes rows kind → length arrives ≡ length jobs → column_waits rows kind jobs arrives fates ≡ column_sojourns arrives fates
+waits-are_stays rows kind [] [] fates h e = refl
+waits-are_stays rows kind [] (a ∷ arrives) fates h e = absurd (omega arith)
+waits-are_stays rows kind (j ∷ jobs) [] fates h e = refl
+waits-are_stays rows kind (j ∷ jobs) (a ∷ arrives) [] h e = refl
+waits-are_stays rows kind (j ∷ jobs) (a ∷ arrives) (f ∷ fates) h e = λ k. wait-is_stay rows kind j a f h k ∷ waits-are_stays rows kind jobs arrives fates h (omega arith) k
+
+none-served : (rows : Rows) (kind : Kind) (job : ℕ) (fate : Fate) → Passes rows kind → column_service rows kind job fate ≡ 0
+none-served rows kind job (Departs time) h = h.service job
+none-served rows kind job Lost h = refl
+
+pub services-are_none : (rows : Rows) (kind : Kind) (jobs : List ℕ) (fates : List Fate) → Passes rows kind → sum (column_services rows kind jobs fates) ≡ 0
+services-are_none rows kind [] fates h = refl
+services-are_none rows kind (j ∷ jobs) [] h = refl
+services-are_none rows kind (j ∷ jobs) (f ∷ fates) h =
+    let first = none-served rows kind j f h in
+    let rest = services-are_none rows kind jobs fates h in
+    sum-cons (column_service rows kind j f) (column_services rows kind jobs fates) ∙ omega arith

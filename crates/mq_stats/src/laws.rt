@@ -1,8 +1,8 @@
 ghost use Rattle.mq_stats.specs.RunNumbers.{RunsGiveStreams, RunsGiveVisits};
 
 use mq_core::{
-    departs_in_time, jobs_are_rows, nodes_are_columns, nodes_are_in_limits, rows_tell_demands,
-    streams_rise, visits_are_few,
+    departs_in_time, jobs_are_rows, nodes_are_columns, nodes_are_in_limits, orders_keep_items,
+    rows_tell_demands, streams_rise, visits_are_few,
 };
 
 /// The visits of each node of a run are such that their totals are told.
@@ -21,8 +21,10 @@ pub fn runs_give_visits()
 pub fn runs_give_streams()
     ensures { RunsGiveStreams }
 {
+    departs_in_time();
     jobs_are_rows();
     nodes_are_columns();
+    orders_keep_items();
     streams_rise();
     visits_are_few();
 }

@@ -5,6 +5,7 @@
 mod exits;
 mod laws;
 mod occupancy;
+mod services;
 mod spans;
 mod tallies;
 #[cfg(test)]
@@ -14,4 +15,4 @@ pub use exits::{Exit, leaving};
 pub use laws::{runs_give_streams, runs_give_visits};
 pub use occupancy::found;
 pub use spans::span;
-pub use tallies::{NodeTotals, totals};
+pub use tallies::{NodeTotals, totals, wait_of};

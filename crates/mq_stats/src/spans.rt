@@ -26,6 +26,8 @@ fn latest(times: &[u64]) -> u64
 }
 
 // The greatest time of a departure, or 0.
+// It is not inlined, so that its loop has the registers to itself.
+#[inline(never)]
 fn latest_departure(fates: &[Fate]) -> u64
     ensures { result ≡ fold max 0 (map time_of_fate fates.now) }
 {

@@ -1,4 +1,4 @@
-ghost use Rattle.std.specs.Prelude.{◌≡◌, ◌<◌, ◌≤◌, ◌^◌, All, length, max, fold, sum, count_by};
+ghost use Rattle.std.specs.Prelude.{◌≡◌, ◌<◌, ◌≤◌, ◌^◌, All, length, max, fold, sum, cond, count_by};
 ghost use Rattle.mq_core.specs.Asked.{HasDemands};
 ghost use Rattle.mq_core.specs.Columns.{
   column_numbers,
@@ -16,7 +16,8 @@ ghost use Rattle.mq_core.specs.Columns.{
 ghost use Rattle.mq_core.specs.Results.{is_lost};
 ghost use Rattle.mq_stats.specs.Numbers.{AreVisits, totals_from};
 
-use mq_core::{Fate, Kind, Rows, Visits, bare_of, demand_of, rows_tell_demands};
+use crate::services::sum_of_branches;
+use mq_core::{Fate, Kind, Rows, Visits, bare_of, rows_tell_demands};
 
 /// The totals of a node over a run.
 #[derive(Clone, Copy, Debug, PartialEq, Eq)]
@@ -39,49 +40,30 @@ pub struct NodeTotals {
     pub peak: u32,
 }
 
-// How many of the visits were lost.
-fn lost_of(fates: &[Fate]) -> usize
-    ensures { result ≡ count_by is_lost fates.now }
+// 1 for a lost visit, and 0 for another.
+fn one_if_lost(fate: Fate) -> u32
+    ensures value { result ≡ cond (is_lost fate) 1 0 }
+    ensures most { result ≤ 1 }
 {
-    fates
-        .iter()
-        .filter(|fate| matches!(**fate, Fate::Lost))
-        .count()
+    match fate {
+        Fate::Departs(_) => 0,
+        Fate::Lost => 1,
+    }
 }
 
-// How long a visit waited, in ticks: its sojourn less the time that it would have stayed anyway.
-fn wait_of(rows: &Rows, kind: &Kind, job: u32, arrive: u64, fate: Fate) -> u64
+/// How long a visit waited, in ticks: its sojourn less the time that it would have stayed anyway.
+/// A lost visit waited 0.
+///
+/// The rows have each column that the kind's demands name, and the column has the job.
+pub fn wait_of(rows: &Rows, kind: &Kind, job: u32, arrive: u64, fate: Fate) -> u64
     requires { HasDemands rows.now kind.now job }
     ensures { result ≡ column_wait rows.now kind.now job arrive fate }
 {
+    let bare = bare_of(rows, kind, job);
     match fate {
-        Fate::Departs(time) => {
-            let sojourn = time.saturating_sub(arrive);
-            sojourn.saturating_sub(bare_of(rows, kind, job))
-        }
+        Fate::Departs(time) => time.saturating_sub(arrive).saturating_sub(bare),
         Fate::Lost => 0,
     }
-}
-
-// The sum and the greatest of the waiting times.
-fn waits_of(rows: &Rows, kind: &Kind, visits: &Visits) -> (u128, u64)
-    requires { AreVisits rows.now kind.now visits.now }
-    ensures total { result.0 ≡ sum (column_waits rows.now kind.now visits.now.job visits.now.arrive visits.now.fate) }
-    ensures longest { result.1 ≡ fold max 0 (column_waits rows.now kind.now visits.now.job visits.now.arrive visits.now.fate) }
-{
-    let mut total: u128 = 0;
-    let mut longest = 0;
-    for at in 0..visits.job.len() {
-        let (job, arrive, fate) = (
-            *visits.job.get(at),
-            *visits.arrive.get(at),
-            *visits.fate.get(at),
-        );
-        let wait = wait_of(rows, kind, job, arrive, fate);
-        total += wait as u128;
-        longest = longest.max(wait);
-    }
-    (total, longest)
 }
 
 // How long a node of this kind serves a job that it doesn't lose, in ticks.
@@ -91,7 +73,10 @@ fn service_at(rows: &Rows, kind: &Kind, job: u32) -> u64
 {
     match kind {
         Kind::Source | Kind::Split(_) => 0,
-        Kind::Server(demand) => demand_of(rows, demand, job),
+        Kind::Server(_) | Kind::Delay(_) | Kind::Loss { .. } | Kind::Tandem(_) => {
+            bare_of(rows, kind, job)
+        }
+        Kind::ForkJoin(branches) => sum_of_branches(rows, branches, job),
     }
 }
 
@@ -100,24 +85,11 @@ fn service_of(rows: &Rows, kind: &Kind, job: u32, fate: Fate) -> u64
     requires { HasDemands rows.now kind.now job }
     ensures { result ≡ column_service rows.now kind.now job fate }
 {
+    let service = service_at(rows, kind, job);
     match fate {
-        Fate::Departs(_) => service_at(rows, kind, job),
+        Fate::Departs(_) => service,
         Fate::Lost => 0,
     }
-}
-
-// The sum of the services.
-fn busy_of(rows: &Rows, kind: &Kind, visits: &Visits) -> u128
-    requires { AreVisits rows.now kind.now visits.now }
-    ensures total { result ≡ sum (column_services rows.now kind.now visits.now.job visits.now.fate) }
-    ensures small { result ≤ 2 ^ 84 }
-{
-    let mut total: u128 = 0;
-    for at in 0..visits.job.len() {
-        let (job, fate) = (*visits.job.get(at), *visits.fate.get(at));
-        total += service_of(rows, kind, job, fate) as u128;
-    }
-    total
 }
 
 // How long a visit stayed, in ticks.
@@ -128,19 +100,6 @@ fn sojourn_of(arrive: u64, fate: Fate) -> u64
         Fate::Departs(time) => time.saturating_sub(arrive),
         Fate::Lost => 0,
     }
-}
-
-// The sum of the sojourns.
-fn area_of(visits: &Visits) -> u128
-    requires few { length visits.now.arrive ≤ 1048576 }
-    requires fates { length visits.now.fate ≡ length visits.now.arrive }
-    ensures { result ≡ sum (column_sojourns visits.now.arrive visits.now.fate) }
-{
-    let mut total: u128 = 0;
-    for at in 0..visits.arrive.len() {
-        total += sojourn_of(*visits.arrive.get(at), *visits.fate.get(at)) as u128;
-    }
-    total
 }
 
 // The number of jobs just after a visit came; 0 for a lost one.
@@ -154,28 +113,113 @@ fn number_after(found: u32, fate: Fate) -> u32
     }
 }
 
-// The greatest number of jobs just after a visit came, or 0.
-fn greatest_number(visits: &Visits) -> u32
-    requires small { All (λ found. found ≤ 1048576) visits.now.found }
-    requires fates { length visits.now.fate ≡ length visits.now.found }
-    ensures { result ≡ fold max 0 (column_numbers visits.now.found visits.now.fate) }
-{
-    let mut greatest = 0;
-    for at in 0..visits.found.len() {
-        greatest = greatest.max(number_after(*visits.found.get(at), *visits.fate.get(at)));
-    }
-    greatest
+// What is counted, added up and greatest over visits, whatever the kind of the node.
+#[derive(Clone, Copy)]
+struct Stays {
+    lost: u32,
+    area: u128,
+    longest: u64,
+    greatest: u32,
 }
 
-// The greatest number of jobs in a node of this kind, where it holds any.
-fn peak_of(kind: &Kind, visits: &Visits) -> u32
+// The lost visits, the sum and the greatest of the sojourns, and the greatest number of jobs just
+// after a visit came.
+// Its loop, like others below, is not inlined, so that it has the registers to itself.
+#[inline(never)]
+fn stays_of(visits: &Visits) -> Stays
+    requires few { length visits.now.arrive ≤ 1048576 }
+    requires founds { length visits.now.found ≡ length visits.now.arrive }
+    requires fates { length visits.now.fate ≡ length visits.now.arrive }
     requires small { All (λ found. found ≤ 1048576) visits.now.found }
-    requires fates { length visits.now.fate ≡ length visits.now.found }
+    ensures lost { result.lost ≡ count_by is_lost visits.now.fate }
+    ensures some { result.lost ≤ length visits.now.arrive }
+    ensures area { result.area ≡ sum (column_sojourns visits.now.arrive visits.now.fate) }
+    ensures longest { result.longest ≡ fold max 0 (column_sojourns visits.now.arrive visits.now.fate) }
+    ensures greatest { result.greatest ≡ fold max 0 (column_numbers visits.now.found visits.now.fate) }
+{
+    let (mut lost, mut longest, mut greatest) = (0u32, 0u64, 0u32);
+    let mut area = 0u128;
+    for at in 0..visits.arrive.len() {
+        let fate = *visits.fate.get(at);
+        let stayed = sojourn_of(*visits.arrive.get(at), fate);
+        lost += one_if_lost(fate);
+        area += stayed as u128;
+        longest = longest.max(stayed);
+        greatest = greatest.max(number_after(*visits.found.get(at), fate));
+    }
+    Stays {
+        lost,
+        area,
+        longest,
+        greatest,
+    }
+}
+
+// The sum and the greatest of the waiting times, and the sum of the services.
+#[derive(Clone, Copy)]
+struct Waits {
+    wait: u128,
+    longest: u64,
+    busy: u128,
+}
+
+// The waits at a node of this kind, one visit after another.
+#[inline(never)]
+fn each_wait(rows: &Rows, kind: &Kind, visits: &Visits) -> Waits
+    requires { AreVisits rows.now kind.now visits.now }
+    ensures wait { result.wait ≡ sum (column_waits rows.now kind.now visits.now.job visits.now.arrive visits.now.fate) }
+    ensures longest { result.longest ≡ fold max 0 (column_waits rows.now kind.now visits.now.job visits.now.arrive visits.now.fate) }
+    ensures busy { result.busy ≡ sum (column_services rows.now kind.now visits.now.job visits.now.fate) }
+    ensures small { result.busy ≤ 2 ^ 84 }
+{
+    let (mut wait, mut longest, mut busy) = (0u128, 0u64, 0u128);
+    for at in 0..visits.job.len() {
+        let (job, fate) = (*visits.job.get(at), *visits.fate.get(at));
+        let served = service_of(rows, kind, job, fate);
+        let waited = wait_of(rows, kind, job, *visits.arrive.get(at), fate);
+        busy += served as u128;
+        wait += waited as u128;
+        longest = longest.max(waited);
+    }
+    Waits {
+        wait,
+        longest,
+        busy,
+    }
+}
+
+// The waits at a node of this kind. A source and a split serve no job, so that each stay there is a wait.
+fn waits_of(rows: &Rows, kind: &Kind, visits: &Visits, stays: &Stays) -> Waits
+    requires visits { AreVisits rows.now kind.now visits.now }
+    requires area { stays.now.area ≡ sum (column_sojourns visits.now.arrive visits.now.fate) }
+    requires longest { stays.now.longest ≡ fold max 0 (column_sojourns visits.now.arrive visits.now.fate) }
+    ensures wait { result.wait ≡ sum (column_waits rows.now kind.now visits.now.job visits.now.arrive visits.now.fate) }
+    ensures longest { result.longest ≡ fold max 0 (column_waits rows.now kind.now visits.now.job visits.now.arrive visits.now.fate) }
+    ensures busy { result.busy ≡ sum (column_services rows.now kind.now visits.now.job visits.now.fate) }
+    ensures small { result.busy ≤ 2 ^ 84 }
+{
+    match kind {
+        Kind::Source | Kind::Split(_) => Waits {
+            wait: stays.area,
+            longest: stays.longest,
+            busy: 0,
+        },
+        _ => each_wait(rows, kind, visits),
+    }
+}
+
+// The peak of a node of this kind, where this is the greatest number of jobs just after a visit came.
+fn peak_of(kind: &Kind, greatest: u32, visits: &Visits) -> u32
+    requires { greatest ≡ fold max 0 (column_numbers visits.now.found visits.now.fate) }
     ensures { result ≡ column_peak kind.now visits.now.found visits.now.fate }
 {
     match kind {
         Kind::Source | Kind::Split(_) => 0,
-        Kind::Server(_) => greatest_number(visits),
+        Kind::Server(_)
+        | Kind::Delay(_)
+        | Kind::Loss { .. }
+        | Kind::Tandem(_)
+        | Kind::ForkJoin(_) => greatest,
     }
 }
 
@@ -188,16 +232,16 @@ pub fn totals(rows: &Rows, kind: &Kind, visits: &Visits) -> NodeTotals
     ensures small { result.busy < 2 ^ 100 }
 {
     let came = visits.job.len() as u32;
-    let lost = lost_of(visits.fate.as_slice()) as u32;
-    let (wait, longest) = waits_of(rows, kind, visits);
+    let stays = stays_of(visits);
+    let waits = waits_of(rows, kind, visits, &stays);
     NodeTotals {
         came,
-        left: came - lost,
-        lost,
-        wait,
-        longest,
-        busy: busy_of(rows, kind, visits),
-        area: area_of(visits),
-        peak: peak_of(kind, visits),
+        left: came - stays.lost,
+        lost: stays.lost,
+        wait: waits.wait,
+        longest: waits.longest,
+        busy: waits.busy,
+        area: stays.area,
+        peak: peak_of(kind, stays.greatest, visits),
     }
 }

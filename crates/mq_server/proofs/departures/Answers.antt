@@ -1,4 +1,4 @@
-use Rattle.std.proofs.Common.{◌≤◌, length, arith}
+use Rattle.std.proofs.Common.{◌≤◌, ◌∙◌, length, arith}
 use Rattle.mq_server.proofs.Recurrence.{lindley-next, lindley-all, IsEarly, early}
 use Rattle.mq_server.proofs.departures.Goals as goal
 
@@ -10,11 +10,13 @@ overflow_add-last c =
 pub loop-at-preserved : goal.loop-at-preserved
 loop-at-preserved c =
     record {
-      so_far = lindley-next _ _ _ c.args.stream.now.time c.args.demands.now _ _ c.loop-at.at _ _ c.max.ensures c.get.ensures c.get-in-loop-at.ensures c.in_ok-push.ensures.ok c.loop-at.invariant.so_far;
+      so_far = lindley-next _ _ _ c.args.stream.now.time c.args.demands.now _ _ c.loop-at.at _ _ c.max.ensures c.get.ensures c.get-in-loop-at.ensures c.push_reserved.ensures.items c.loop-at.invariant.so_far;
+      len = omega arith;
+      room = omega arith;
       early = (early c.args.stream.now.time c.args.demands.now _ _ c.loop-at.at _ _ c.max.ensures c.requires c.get.ensures c.get-in-loop-at.ensures c.loop-at.invariant.early).limit;
     }
 
 pub returns : goal.returns
 returns c =
     let ended : length c.args.stream.now.time ≤ c.loop-at.at = omega arith in
-    lindley-all _ _ _ _ _ _ ended c.loop-at.invariant.so_far
+    c.from_vec.ensures ∙ lindley-all _ _ _ _ _ _ ended c.loop-at.invariant.so_far

@@ -1,8 +1,7 @@
-use Rattle.std.proofs.Common.{◌≡◌, ◌++◌}
+use Rattle.std.proofs.Common.{◌++◌}
 use Rattle.mq_base.proofs.Gathers.{goes_both, front_goes, goes_front}
 use Rattle.mq_base.proofs.Puts.{on_err, on_err_more, on_ok_more}
-use Rattle.mq_core.specs.Results.{servers_in}
-use Rattle.mq_report.specs.Text.{node_losses, node_waits, node_tallies, kind_word}
+use Rattle.mq_report.specs.Text.{node_losses, node_waits, node_tallies}
 use Rattle.mq_stats.specs.Numbers.{totals_from}
 use Rattle.mq_report.proofs.lines.add_rest.Goals as goal
 

@@ -1,4 +1,3 @@
-use Rattle.std.proofs.Common.{◌≡◌, ◌++◌}
 use Rattle.mq_base.proofs.Gathers.{goes_both, front_goes, goes_front}
 use Rattle.mq_base.proofs.Puts.{on_err, on_err_more, on_ok_more}
 use Rattle.mq_report.specs.Text.{node_waits, node_tallies}

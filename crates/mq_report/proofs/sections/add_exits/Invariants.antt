@@ -1,8 +1,7 @@
-use Rattle.std.proofs.Common.{◌++◌, ◌-◌, drop}
+use Rattle.std.proofs.Common.{◌++◌, drop}
 use Rattle.mq_base.proofs.Gathers.{Gathers}
-use Rattle.mq_core.specs.Sound.{outputs_in}
 use Rattle.mq_core.specs.StandardTable.{run_of}
-use Rattle.mq_report.specs.Text.{exit_lines, exits_text, nodes_text}
+use Rattle.mq_report.specs.Text.{exits_text}
 use Rattle.mq_report.proofs.sections.add_exits.Given as goal
 
 abbrev pub invariant-loop-rank : goal.invariant-loop-rank

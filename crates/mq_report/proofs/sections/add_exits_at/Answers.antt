@@ -1,8 +1,8 @@
-use Rattle.std.proofs.Common.{◌≡◌, ◌++◌, ◌-◌, ◌≤◌, drop, arith, sym, ap, ◌∙◌}
+use Rattle.std.proofs.Common.{◌≤◌, arith}
 use Rattle.mq_base.proofs.Gathers.{gathers_more, gathers_part}
 use Rattle.mq_base.proofs.Puts.{on_err}
 use Rattle.mq_core.specs.StandardTable.{run_of}
-use Rattle.mq_report.proofs.Loops.{nodes-next, exits-next, outputs-next, gathers_calm, gathers_all, no_outputs}
+use Rattle.mq_report.proofs.Loops.{outputs-next, gathers_calm, gathers_all, no_outputs}
 use Rattle.mq_report.proofs.sections.add_exits_at.Goals as goal
 
 pub loop-output-preserved : goal.loop-output-preserved

@@ -1,8 +1,8 @@
-use Rattle.std.proofs.Common.{◌++◌, ◌-◌, drop}
+use Rattle.std.proofs.Common.{◌++◌, ◌-◌}
 use Rattle.mq_base.proofs.Gathers.{Gathers}
 use Rattle.mq_core.specs.Sound.{outputs_in}
 use Rattle.mq_core.specs.StandardTable.{run_of}
-use Rattle.mq_report.specs.Text.{exit_lines, exits_text, nodes_text}
+use Rattle.mq_report.specs.Text.{exit_lines}
 use Rattle.mq_report.proofs.sections.add_exits_at.Given as goal
 
 abbrev pub invariant-loop-output : goal.invariant-loop-output

@@ -1,8 +1,7 @@
-use Rattle.std.proofs.Common.{◌≡◌, ◌++◌, ◌-◌, ◌≤◌, drop, arith, sym, ap, ◌∙◌}
 use Rattle.mq_base.proofs.Gathers.{gathers_more, gathers_part}
 use Rattle.mq_base.proofs.Puts.{on_err}
 use Rattle.mq_core.specs.StandardTable.{run_of}
-use Rattle.mq_report.proofs.Loops.{nodes-next, exits-next, outputs-next, gathers_calm, gathers_all, no_outputs}
+use Rattle.mq_report.proofs.Loops.{nodes-next, gathers_calm}
 use Rattle.mq_report.proofs.sections.add_nodes.Goals as goal
 
 pub get-declared-requires : goal.get-declared-requires

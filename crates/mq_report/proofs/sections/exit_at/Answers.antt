@@ -1,4 +1,4 @@
-use Rattle.std.proofs.Common.{◌≡◌, ◌∙◌, sym, ap, subst}
+use Rattle.std.proofs.Common.{◌∙◌, sym, ap, subst}
 use Rattle.mq_core.specs.Columns.{column_exit}
 use Rattle.mq_core.specs.StandardTable.{run_of}
 use Rattle.mq_stats.specs.Numbers.{AreLeaving}

@@ -1,13 +1,17 @@
-use Rattle.std.proofs.Common.{arith}
-use Rattle.mq_stats.proofs.Steps.{adds, grows, waits-at}
+use Rattle.std.proofs.Common.{◌≡◌, ◌∙◌, ap, sym, max}
+use Rattle.std.specs.Prelude.{fold, sum}
+use Rattle.mq_core.specs.Columns.{column_sojourns, column_waits}
+use Rattle.mq_stats.proofs.Steps.{passes, services-are_none, waits-are_stays}
 use Rattle.mq_stats.proofs.tallies.waits_of.Goals as goal
 
-pub loop-at-preserved : goal.loop-at-preserved
-loop-at-preserved c =
-    let visits = c.args.visits.now in
-    let next = waits-at c.args.rows.now c.args.kind.now visits.job visits.arrive visits.fate c.loop-at.at _ _ _ c.get.ensures c.get-in-loop-at.ensures c.get-in-loop-at-2.ensures in
-    record {
-      total = adds c.loop-at.total _ _ _ _ _ c.wait_of-wait.ensures next c.loop-at.invariant.total;
-      longest = grows c.loop-at.longest _ _ _ _ _ _ c.max-longest.ensures c.wait_of-wait.ensures next c.loop-at.invariant.longest;
-      small = omega arith;
-    }
+stays : (c : goal.In-Source) → column_waits c.args.rows.now c.args.kind.now c.args.visits.now.job c.args.visits.now.arrive c.args.visits.now.fate ≡ column_sojourns c.args.visits.now.arrive c.args.visits.now.fate
+stays c = waits-are_stays c.args.rows.now c.args.kind.now c.args.visits.now.job _ _ (passes c.args.rows.now c.args.kind.now c.in-Source.is) c.requires.visits.arrives
+
+pub returns-in-Source-clause-wait : goal.returns-in-Source-clause-wait
+returns-in-Source-clause-wait c = c.requires.area ∙ sym (ap sum (stays c))
+
+pub returns-in-Source-clause-longest : goal.returns-in-Source-clause-longest
+returns-in-Source-clause-longest c = c.requires.longest ∙ sym (ap (fold max 0) (stays c))
+
+pub returns-in-Source-clause-busy : goal.returns-in-Source-clause-busy
+returns-in-Source-clause-busy c = sym (services-are_none c.args.rows.now c.args.kind.now c.args.visits.now.job c.args.visits.now.fate (passes c.args.rows.now c.args.kind.now c.in-Source.is))

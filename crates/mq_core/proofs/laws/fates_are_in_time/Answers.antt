@@ -1,0 +1,5 @@
+use Rattle.mq_core.proofs.ColumnTimes.{fates-in_time}
+use Rattle.mq_core.proofs.laws.fates_are_in_time.Goals as goal
+
+pub returns : goal.returns
+returns c = fates-in_time

@@ -1,0 +1,5 @@
+use Rattle.mq_core.proofs.ColumnOrder.{orders-keep_items}
+use Rattle.mq_core.proofs.laws.orders_keep_items.Goals as goal
+
+pub returns : goal.returns
+returns c = orders-keep_items

@@ -1,0 +1,55 @@
+//! The delay: each job is served from its arrival on, however many others are.
+#![tactic(auto)]
+
+ghost use Rattle.std.specs.Prelude.{◌≡◌, ◌≤◌, length, IfOk};
+ghost use Rattle.std.specs.List.{zip};
+ghost use Rattle.mq_core.specs.Columns.{IsSoundLoad, IsStream, by_first, pairs_of};
+ghost use Rattle.mq_core.specs.Recurrences.{delayed};
+
+use mq_base::{List, OutOfMemory};
+use mq_core::Stream;
+use mq_merge::by_time;
+use std::alloc::Global;
+
+#[cfg(test)]
+mod tests;
+
+/// What a delay does with its arrivals.
+#[derive(Drop)]
+pub struct Delayed {
+    /// When each job leaves, in ticks: one departure a job, by position.
+    pub departs: List<u64>,
+    /// The jobs as they leave: by departure, those of one departure by position.
+    pub leaving: Stream,
+}
+
+/// When each job leaves a delay, and in which order they do. A job leaves its demand, in ticks of
+/// service, after its arrival, and may overtake others. The stream has one job and one time an
+/// item, and there is one demand a job, by position. It refuses for want of memory alone.
+pub fn delay(alloc: Global, stream: &Stream, demands: &List<u64>) -> Result<Delayed, OutOfMemory>
+    requires load { IsSoundLoad stream.now.time demands.now }
+    requires even { length stream.now.job ≡ length stream.now.time }
+    ensures departs { IfOk result (λ d. d.departs ≡ delayed stream.now.time demands.now) }
+    ensures stream { IfOk result (λ d. IsStream d.leaving) }
+    ensures leaving { IfOk result (λ d. pairs_of d.leaving ≡ by_first (zip d.departs stream.now.job)) }
+{
+    let departs = departures(alloc, &stream.time, demands)?;
+    let leaving = by_time(alloc, &stream.job, &departs)?;
+    Ok(Delayed { departs, leaving })
+}
+
+// When each job leaves, by position.
+fn departures(
+    alloc: Global,
+    arrive: &List<u64>,
+    demands: &List<u64>,
+) -> Result<List<u64>, OutOfMemory>
+    requires { IsSoundLoad arrive.now demands.now }
+    ensures { IfOk result (λ departs. departs ≡ delayed arrive.now demands.now) }
+{
+    let mut departs = Vec::with_capacity(alloc, arrive.len())?;
+    for at in 0..arrive.len() {
+        departs.push_reserved(*arrive.get(at) + *demands.get(at));
+    }
+    Ok(List::from_vec(departs))
+}

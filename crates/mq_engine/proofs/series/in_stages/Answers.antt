@@ -1,0 +1,17 @@
+use Rattle.std.proofs.Common.{length, map}
+use Rattle.mq_core.specs.Handling.{demand_of_job}
+use Rattle.mq_core.specs.declared.model.Kind.TheVariants.{Tandem}
+use Rattle.mq_engine.proofs.StageFacts.{demands-asked, goes-through, loads-sound, sound-stages, stages-are}
+use Rattle.mq_engine.proofs.series.in_stages.Goals as goal
+
+pub columns_of-requires-clause-demands : goal.columns_of-requires-clause-demands
+columns_of-requires-clause-demands c = demands-asked (length c.args.net.now.columns) _ _ c.in_ok-asked.ensures (sound-stages (length c.args.net.now.columns) c.args.stages.now c.requires.sound).asked
+
+pub tandem_departures-requires-clause-load : goal.tandem_departures-requires-clause-load
+tandem_departures-requires-clause-load c = loads-sound c.args.net.now c.args.rows.now (Tandem c.args.stages.now) _ _ c.args.arrivals.now _ c.requires c.in_ok-asked.ensures (sound-stages (length c.args.net.now.columns) c.args.stages.now c.requires.sound).asked c.in_ok-columns.ensures
+
+pub tandem_departures-requires-clause-stages : goal.tandem_departures-requires-clause-stages
+tandem_departures-requires-clause-stages c = stages-are (length c.args.net.now.columns) c.args.stages.now _ _ (λ demand. map (demand_of_job c.args.rows.now demand) c.args.arrivals.now.job) _ c.requires.sound c.in_ok-asked.ensures c.in_ok-places.ensures c.in_ok-columns.ensures
+
+pub returns : goal.returns
+returns c = goes-through c.fates_are_in_time.ensures (length c.args.net.now.columns) c.args.rows.now c.args.stages.now c.args.arrivals.now _ _ _ _ _ _ c.requires.sound c.requires.ordered.ordered c.in_ok-asked.ensures c.in_ok-columns.ensures c.in_ok-places.ensures c.in_ok-departs.ensures c.in_ok-fates.ensures c.in_ok-streams.ensures

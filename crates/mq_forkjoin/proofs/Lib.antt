@@ -1,0 +1,3 @@
+mod Recurrence
+mod Lists
+mod Forking

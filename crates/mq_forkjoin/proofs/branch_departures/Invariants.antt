@@ -1,0 +1,5 @@
+use Rattle.mq_forkjoin.proofs.Recurrence.{Passing}
+use Rattle.mq_forkjoin.proofs.branch_departures.Given as goal
+
+abbrev pub invariant-loop-column : goal.invariant-loop-column
+invariant-loop-column l = Passing l.arrive l.departs l.demands l.column-index

@@ -1,0 +1,9 @@
+use Rattle.mq_forkjoin.proofs.Forking.{Forking}
+use Rattle.mq_forkjoin.proofs.fork_departures.Given as goal
+
+abbrev pub invariant-loop-branch : goal.invariant-loop-branch
+invariant-loop-branch l = Forking l.stream.time l.departs l.demands l.branches l.branch l.end
+
+-- the branches that are left
+abbrev pub decreases-loop-branch : goal.decreases-loop-branch
+decreases-loop-branch l = l.branch

@@ -1,0 +1,36 @@
+use Rattle.std.proofs.Common.{◌≡◌, ◌+◌, ◌-◌, ◌++◌, suc, ℕ, List, [], ◌∷◌, ap, ◌∙◌, arith, subst, sym}
+use Rattle.mq_core.specs.Recurrences.{is_admitted}
+use Rattle.std.specs.Prelude.{reverse}
+use Rattle.mq_loss.specs.Rounds.{departure_behind}
+use Rattle.mq_loss.proofs.Departing.{IsEarly, early-next}
+use Rattle.mq_loss.proofs.Looping.{IsItem, departs-all, departs-next, item-at, last-first, window-all, window-next}
+use Rattle.mq_loss.proofs.windows.judge_window.Goals as goal
+
+pub loop-at-preserved : goal.loop-at-preserved
+loop-at-preserved g c =
+    let arrive : ℕ = c.get-arrive.result.now in
+    let demand : ℕ = c.get.result.now in
+    let at : ℕ = c.loop-at.at in
+    let left : List ℕ = reverse c.loop-at.departs in
+    let rest : ℕ = c.args.to - (at + 1) in
+    let more : c.args.to - at ≡ suc rest = omega arith in
+    let first : reverse c.serve.new.departs ≡ departure_behind left arrive demand ∷ left = last-first _ _ _ c.in_ok-serve.ensures in
+    let item : IsItem arrive demand = item-at c.args.stream.now.time c.args.demands.now at arrive demand c.requires.load c.get-arrive.ensures c.get.ensures in
+    let early : IsEarly (departure_behind left arrive demand ∷ left) (at + 1) = record { limit = early-next left at arrive demand item.early item.small c.loop-at.invariant.early } in
+    let pushed : c.push.new.self ≡ c.loop-at.outcome ++ is_admitted c.args.places left arrive ∷ [] = c.in_ok-push.ensures.ok ∙ ap (λ b. c.loop-at.outcome ++ b ∷ []) c.judge.ensures.answer in
+    record {
+      outcome = window-next c.args.places _ _ _ left _ c.args.stream.now.time c.args.demands.now at (c.args.to - at) rest arrive demand more c.get-arrive.ensures c.get.ensures pushed first c.loop-at.invariant.outcome;
+      departs = departs-next _ _ _ left _ c.args.stream.now.time c.args.demands.now at (c.args.to - at) rest arrive demand more c.get-arrive.ensures c.get.ensures c.in_ok-serve.ensures first c.loop-at.invariant.departs;
+      early = subst (λ (ls : List ℕ). IsEarly ls (at + 1)) (sym first) early;
+      cost = omega arith;
+    }
+
+pub returns-clause-outcome : goal.returns-clause-outcome
+returns-clause-outcome g c =
+    let none : c.args.to - c.loop-at.at ≡ 0 = omega arith in
+    window-all _ _ _ _ _ _ _ none c.loop-at.invariant.outcome
+
+pub returns-clause-departs : goal.returns-clause-departs
+returns-clause-departs g c =
+    let none : c.args.to - c.loop-at.at ≡ 0 = omega arith in
+    departs-all _ _ _ _ _ _ none c.loop-at.invariant.departs

@@ -1,0 +1,18 @@
+//! The loss station: one server and a number of places; an arrival that finds them all taken is
+//! lost. Which arrivals are admitted is settled by rounds of guesses (Greenberg, Lubachevsky and
+//! Mitrani 1991): each round judges every arrival by the departures that a guess gives.
+#![tactic(auto)]
+
+mod answer;
+mod judging;
+mod laws;
+#[cfg(test)]
+mod tests;
+mod whole;
+mod windows;
+
+pub use answer::Settled;
+pub use judging::judge;
+pub use laws::{guessed_are_served, guesses_grow, one_guess_stays, rounds_judge_each};
+pub use whole::{round, settle_whole};
+pub use windows::settle;

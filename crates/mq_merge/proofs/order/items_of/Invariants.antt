@@ -1,0 +1,7 @@
+use Rattle.std.proofs.Common.{◌≡◌, ◌++◌, drop}
+use Rattle.std.specs.List.{zip}
+use Rattle.mq_merge.proofs.order.items_of.Given as goal
+
+-- the items so far and those of what is left are all
+abbrev pub invariant-loop-at : goal.invariant-loop-at
+invariant-loop-at l = l.items.items ++ zip (drop l.at l.times) (drop l.at l.jobs) ≡ zip l.times l.jobs

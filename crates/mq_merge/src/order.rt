@@ -1,0 +1,52 @@
+ghost use Rattle.std.specs.Prelude.{◌≡◌, ◌≤◌, length, IfOk};
+ghost use Rattle.std.specs.List.{zip};
+ghost use Rattle.mq_core.specs.Columns.{IsStream, by_first, pairs_of};
+ghost use Rattle.mq_core.specs.Laws.{Rises};
+
+use mq_base::{List, OutOfMemory};
+use mq_core::Stream;
+use std::alloc::Global;
+
+/// The stream of these jobs, which pass at these times: the jobs by time, those of one time in their
+/// order. The times, in ticks, may stand in any order; there is a job for each. It refuses for want
+/// of memory alone.
+pub fn by_time(alloc: Global, jobs: &List<u32>, times: &List<u64>) -> Result<Stream, OutOfMemory>
+    requires { length times.now ≤ length jobs.now }
+    ensures stream { IfOk result (λ stream. IsStream stream) }
+    ensures items { IfOk result (λ stream. pairs_of stream ≡ by_first (zip times.now jobs.now)) }
+{
+    let mut items = items_of(alloc, jobs, times)?;
+    items.sort_by_key(|item| item.0)?;
+    columns_of(alloc, &items)
+}
+
+// The time of each job, with the job.
+fn items_of(
+    alloc: Global,
+    jobs: &List<u32>,
+    times: &List<u64>,
+) -> Result<Vec<(u64, u32)>, OutOfMemory>
+    requires { length times.now ≤ length jobs.now }
+    ensures { IfOk result (λ items. items.items ≡ zip times.now jobs.now) }
+{
+    let mut items = Vec::new(alloc);
+    for at in 0..times.len() {
+        items.push((*times.get(at), *jobs.get(at)))?;
+    }
+    Ok(items)
+}
+
+// The stream of items that are by time.
+fn columns_of(alloc: Global, items: &[(u64, u32)]) -> Result<Stream, OutOfMemory>
+    requires { Rises (λ p q. p.0 ≤ q.0) items.now }
+    ensures stream { IfOk result (λ stream. IsStream stream) }
+    ensures items { IfOk result (λ stream. pairs_of stream ≡ items.now) }
+{
+    let mut job = List::new(alloc);
+    let mut time = List::new(alloc);
+    for item in items {
+        time.push(item.0)?;
+        job.push(item.1)?;
+    }
+    Ok(Stream { job, time })
+}

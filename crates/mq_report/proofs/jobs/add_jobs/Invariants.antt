@@ -1,0 +1,10 @@
+use Rattle.std.proofs.Common.{◌++◌, drop}
+use Rattle.mq_base.proofs.Gathers.{Gathers}
+use Rattle.mq_core.specs.StandardTable.{run_of}
+use Rattle.mq_report.specs.Text.{jobs_text}
+use Rattle.mq_report.proofs.jobs.add_jobs.Given as goal
+
+abbrev pub invariant-loop-rank : goal.invariant-loop-rank
+invariant-loop-rank g l =
+    Gathers (g.O.Sink.taken l.initial.out) (g.O.Sink.taken l.out) (g.O.Sink.sure l.initial.out) (g.O.Sink.sure l.out)
+    (g.O.Sink.faults l.initial.out) (g.O.Sink.faults l.out) (l.initial.pending ++ jobs_text l.plan.net l.rows (run_of l.plan l.rows) l.plan.order) l.pending (jobs_text l.plan.net l.rows (run_of l.plan l.rows) (drop l.rank l.plan.order))

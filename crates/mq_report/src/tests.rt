@@ -1,0 +1,170 @@
+ghost use Rattle.std.specs.Prelude.{◌≡◌, ◌<◌, ◌≤◌, All, IfOk, IsTrue};
+ghost use Rattle.mq_core.specs.Asked.{HasValue};
+
+use crate::jobs::add_visits;
+use mq_base::{Gather, List, MemSink, OutOfMemory, SinkFault, flush};
+use mq_core::{Demand, Fate, Kind, Rows, Visits};
+use std::alloc::Global;
+use std::process::Abort;
+use std::test::Fail;
+
+fn list<T: Copy + Drop>(alloc: Global, items: &[T]) -> Result<List<T>, OutOfMemory>
+    ensures { IfOk result (λ list. list ≡ items.now) }
+{
+    let mut list = List::new(alloc);
+    for item in items {
+        list.push(*item)?;
+    }
+    Ok(list)
+}
+
+// Rows of one source at these times, with these demands.
+fn rows_at(alloc: Global, times: &[u64], asked: &[u64]) -> Result<Rows, OutOfMemory> {
+    let mut source = List::new(alloc);
+    for _ in times {
+        source.push(0u32)?;
+    }
+    let mut demands = List::new(alloc);
+    demands.push(list(alloc, asked)?)?;
+    Ok(Rows {
+        source,
+        time: list(alloc, times)?,
+        demands,
+    })
+}
+
+// Visits of these jobs at these times, which end so. What each found is told in no line.
+fn visits_of(
+    alloc: Global,
+    jobs: &[u32],
+    times: &[u64],
+    fates: &[Fate],
+) -> Result<Visits, OutOfMemory> {
+    let mut found = List::new(alloc);
+    for _ in jobs {
+        found.push(0u32)?;
+    }
+    Ok(Visits {
+        job: list(alloc, jobs)?,
+        arrive: list(alloc, times)?,
+        found,
+        fate: list(alloc, fates)?,
+    })
+}
+
+fn are_told(rows: &Rows, jobs: &List<u32>) -> bool
+    ensures { IsTrue result → All (λ job. HasValue rows.now 0 job) jobs.now }
+{
+    if rows.demands.is_empty() {
+        return false;
+    }
+    let count = rows.demands.get(0).len();
+    jobs.as_slice().iter().all(|job| (*job as usize) < count)
+}
+
+fn are_small(founds: &List<u32>) -> bool
+    ensures { IsTrue result → All (λ found. found ≤ 1048576) founds.now }
+{
+    founds.as_slice().iter().all(|found| *found <= 1_048_576)
+}
+
+// The job lines of a server of this name with these visits go into the sink.
+fn put_lines(
+    rt: &impl Abort,
+    rows: &Rows,
+    name: &[u8],
+    visits: &Visits,
+    out: &mut MemSink,
+) -> Result<(), SinkFault> {
+    assert!(rt; visits.job.len() < 1000);
+    assert!(rt; visits.arrive.len() == visits.job.len());
+    assert!(rt; visits.found.len() == visits.job.len());
+    assert!(rt; visits.fate.len() == visits.job.len());
+    assert!(rt; are_told(rows, &visits.job));
+    assert!(rt; are_small(&visits.found));
+    let mut pending = Gather::new();
+    let kind = Kind::Server(Demand::Column(0));
+    add_visits(out, &mut pending, rows, name, &kind, visits)?;
+    flush(out, &mut pending)
+}
+
+#[test]
+fn each_visit_has_a_line(rt: HostRuntime) -> Result<(), Fail> {
+    let alloc = rt.alloc();
+    let rows = rows_at(alloc, &[0, 1, 2], &[4, 1, 3])?;
+    let fates = [Fate::Departs(4), Fate::Departs(5), Fate::Departs(8)];
+    let visits = visits_of(alloc, &[0, 1, 2], &[0, 1, 2], &fates)?;
+    let mut out = MemSink::new(alloc, 65_536, Vec::new(alloc));
+    assert_eq!(rt; put_lines(&rt, &rows, b"desk", &visits, &mut out), Ok(()));
+    let wanted = b"job 1 desk arrive 0 wait 0 depart 4
+job 2 desk arrive 1 wait 3 depart 5
+job 3 desk arrive 2 wait 3 depart 8
+";
+    assert_eq!(rt; out.bytes(), wanted.as_slice());
+    Ok(())
+}
+
+#[test]
+fn lines_stand_by_position_and_not_by_job(rt: HostRuntime) -> Result<(), Fail> {
+    let alloc = rt.alloc();
+    let rows = rows_at(alloc, &[5, 5], &[3, 2])?;
+    let fates = [Fate::Departs(8), Fate::Departs(10)];
+    let visits = visits_of(alloc, &[1, 0], &[5, 5], &fates)?;
+    let mut out = MemSink::new(alloc, 65_536, Vec::new(alloc));
+    assert_eq!(rt; put_lines(&rt, &rows, b"q", &visits, &mut out), Ok(()));
+    let wanted = b"job 2 q arrive 5 wait 1 depart 8
+job 1 q arrive 5 wait 2 depart 10
+";
+    assert_eq!(rt; out.bytes(), wanted.as_slice());
+    Ok(())
+}
+
+#[test]
+fn a_lost_visit_has_no_wait_and_no_departure(rt: HostRuntime) -> Result<(), Fail> {
+    let alloc = rt.alloc();
+    let rows = rows_at(alloc, &[0, 1, 2, 3], &[2, 2, 2, 2])?;
+    let fates = [Fate::Departs(2), Fate::Lost, Fate::Departs(4), Fate::Lost];
+    let visits = visits_of(alloc, &[0, 1, 2, 3], &[0, 1, 2, 3], &fates)?;
+    let mut out = MemSink::new(alloc, 65_536, Vec::new(alloc));
+    assert_eq!(rt; put_lines(&rt, &rows, b"l", &visits, &mut out), Ok(()));
+    let wanted = b"job 1 l arrive 0 wait 0 depart 2
+job 2 l arrive 1 lost
+job 3 l arrive 2 wait 0 depart 4
+job 4 l arrive 3 lost
+";
+    assert_eq!(rt; out.bytes(), wanted.as_slice());
+    Ok(())
+}
+
+#[test]
+fn a_node_without_visits_has_no_lines(rt: HostRuntime) -> Result<(), Fail> {
+    let alloc = rt.alloc();
+    let rows = rows_at(alloc, &[0], &[4])?;
+    let visits = visits_of(alloc, &[], &[], &[])?;
+    let mut out = MemSink::new(alloc, 65_536, Vec::new(alloc));
+    assert_eq!(rt; put_lines(&rt, &rows, b"desk", &visits, &mut out), Ok(()));
+    assert_eq!(rt; out.bytes(), b"".as_slice());
+    Ok(())
+}
+
+#[test]
+fn a_fault_among_the_lines_leaves_a_first_part(rt: HostRuntime) -> Result<(), Fail> {
+    let alloc = rt.alloc();
+    let (mut jobs, mut times, mut fates) = (Vec::new(alloc), Vec::new(alloc), Vec::new(alloc));
+    for job in 0u32..200 {
+        jobs.push(job)?;
+        times.push(job as u64)?;
+        fates.push(Fate::Departs(job as u64 + 1))?;
+    }
+    let rows = rows_at(alloc, times.as_slice(), &[1; 200])?;
+    let visits = visits_of(alloc, jobs.as_slice(), times.as_slice(), fates.as_slice())?;
+    let mut out = MemSink::new(alloc, 16, Vec::from_slice(alloc, &[3])?);
+    out.reserve(8192)?;
+    assert_eq!(rt;
+        put_lines(&rt, &rows, b"desk", &visits, &mut out),
+        Err(SinkFault::Failed)
+    );
+    assert_eq!(rt; out.bytes(), b"job 1 desk arrive 0 wait 0 depar".as_slice());
+    assert_eq!(rt; out.faults(), 1);
+    Ok(())
+}

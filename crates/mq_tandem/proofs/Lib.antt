@@ -1,0 +1,5 @@
+mod Lists
+mod Rooms
+mod Passing
+mod Looking
+mod Working

@@ -1,0 +1,92 @@
+-- Lists by place.
+use Rattle.std.proofs.Common.{◌≡◌, ℕ, zero, suc, ◌+◌, ◌<◌, ◌≤◌, List, [], ◌∷◌, ◌++◌, length, get_or, take, drop, map, Option, Some, sym, refl, ap, ◌∙◌, arith}
+use Rattle.std.specs.Prelude.{slice_get}
+use Rattle.mq_core.proofs.Pending.{some_inj}
+use Rattle.mq_core.specs.Recurrences.{time_or_none, firsts, rest}
+
+behind : {X : Type 0} (xs : List X) (i : ℕ) (x : X) → slice_get xs i ≡ Some x → drop i xs ≡ x ∷ drop (suc i) xs
+behind [] i x h = absurd cc
+behind (y ∷ ys) zero x h = ap (λ z. z ∷ ys) (some_inj y x h)
+behind (y ∷ ys) (suc i) x h = behind ys i x h
+
+-- what is left from a place on begins with the item there
+pub drop_at : {X : Type 0} (xs : List X) (i : ℕ) (x : X) → slice_get xs i ≡ Some x → drop i xs ≡ x ∷ drop (i + 1) xs
+drop_at xs i x h = let next : suc i ≡ i + 1 = omega arith in behind xs i x h ∙ ap (λ n. x ∷ drop n xs) next
+
+from-drop : {X : Type 0} (xs ys : List X) (i : ℕ) (x : X) → drop i xs ≡ x ∷ ys → (slice_get xs i ≡ Some x) × (drop (suc i) xs ≡ ys)
+from-drop [] ys zero x h = absurd cc
+from-drop [] ys (suc i) x h = absurd cc
+from-drop (z ∷ zs) ys zero x h = (ap (λ l. slice_get l 0) h, ap (drop 1) h)
+from-drop (z ∷ zs) ys (suc i) x h = from-drop zs ys i x h
+
+-- and the other way round
+pub at_drop : {X : Type 0} (xs ys : List X) (i : ℕ) (x : X) → drop i xs ≡ x ∷ ys → (slice_get xs i ≡ Some x) × (drop (i + 1) xs ≡ ys)
+at_drop xs ys i x h =
+    let r = from-drop xs ys i x h in
+    let next : i + 1 ≡ suc i = omega arith in
+    (r.0, ap (λ n. drop n xs) next ∙ r.1)
+
+pub get_within : {X : Type 0} (xs : List X) (i : ℕ) (d : X) → i < length xs → slice_get xs i ≡ Some (get_or xs i d)
+get_within [] i d l = absurd (omega arith)
+get_within (x ∷ xs) zero d l = refl
+get_within (x ∷ xs) (suc i) d l = get_within xs i d (omega arith)
+
+-- one item more, of what a map has made so far
+map-next : {X Y : Type 0} (f : X → Y) (xs : List X) (i : ℕ) (d : X) → i < length xs → map f (take (suc i) xs) ≡ map f (take i xs) ++ f (get_or xs i d) ∷ []
+map-next f [] i d l = absurd (omega arith)
+map-next f (y ∷ ys) zero d l = refl
+map-next f (y ∷ ys) (suc i) d l = ap (λ l. f y ∷ l) (map-next f ys i d (omega arith))
+
+-- where a map makes the same of each
+pub map-more : {X Y : Type 0} (y : Y) (xs : List X) (i : ℕ) (d : X) (done done' : List Y) → i < length xs → done' ≡ done ++ y ∷ [] → done ≡ map (λ _. y) (take i xs) → done' ≡ map (λ _. y) (take (i + 1) xs)
+map-more y xs i d done done' l p h =
+    let next : suc i ≡ i + 1 = omega arith in
+    p ∙ (ap (λ ys. ys ++ y ∷ []) h ∙ (sym (map-next (λ _. y) xs i d l) ∙ ap (λ n. map (λ _. y) (take n xs)) next))
+
+pub take-all : {X : Type 0} (xs : List X) (i : ℕ) → length xs ≤ i → take i xs ≡ xs
+take-all [] zero h = refl
+take-all [] (suc i) h = refl
+take-all (x ∷ xs) zero h = absurd (omega arith)
+take-all (x ∷ xs) (suc i) h = ap (λ l. x ∷ l) (take-all xs i (omega arith))
+
+pub map-all : {X Y : Type 0} (f : X → Y) (xs : List X) (i : ℕ) (done : List Y) → length xs ≤ i → done ≡ map f (take i xs) → done ≡ map f xs
+map-all f xs i done h k = k ∙ ap (map f) (take-all xs i h)
+
+-- an item or 0
+pub get_or-time : (xs : List ℕ) (i : ℕ) → get_or xs i 0 ≡ time_or_none (slice_get xs i)
+get_or-time [] i = refl
+get_or-time (x ∷ xs) zero = refl
+get_or-time (x ∷ xs) (suc i) = get_or-time xs i
+
+pub get-drop : (xs : List ℕ) (i : ℕ) → slice_get (drop i xs) 0 ≡ slice_get xs i
+get-drop [] zero = refl
+get-drop [] (suc i) = refl
+get-drop (x ∷ xs) zero = refl
+get-drop (x ∷ xs) (suc i) = get-drop xs i
+
+-- the demand of a job at a stage, among those at each
+pub firsts-at : (demands : List (List ℕ)) (job stage : ℕ) (column : List ℕ) (demand : ℕ) → slice_get demands stage ≡ Some column → slice_get column job ≡ Some demand → slice_get (firsts (map (drop job) demands)) stage ≡ Some demand
+firsts-at [] job stage column demand a b = absurd cc
+firsts-at (first ∷ more) job zero column demand a b = ap (λ (time : Option ℕ). Some (time_or_none time)) (get-drop first job ∙ (ap (λ c. slice_get c job) (some_inj first column a) ∙ b))
+firsts-at (first ∷ more) job (suc stage) column demand a b = firsts-at more job stage column demand a b
+
+pub length-firsts : (demands : List (List ℕ)) (job : ℕ) → length (firsts (map (drop job) demands)) ≡ length demands
+length-firsts [] job = refl
+length-firsts (first ∷ more) job = ap suc (length-firsts more job)
+
+rest-drop : (xs : List ℕ) (i : ℕ) → rest (drop i xs) ≡ drop (suc i) xs
+rest-drop [] zero = refl
+rest-drop [] (suc i) = refl
+rest-drop (x ∷ xs) zero = refl
+rest-drop (x ∷ xs) (suc i) = rest-drop xs i
+
+-- the demands of the jobs behind
+pub rests-drop : (demands : List (List ℕ)) (i : ℕ) → map rest (map (drop i) demands) ≡ map (drop (i + 1)) demands
+rests-drop [] i = refl
+rests-drop (first ∷ more) i =
+    let next : suc i ≡ i + 1 = omega arith in
+    λ k. (rest-drop first i ∙ ap (λ n. drop n first) next) k ∷ rests-drop more i k
+
+pub map-drop_0 : (demands : List (List ℕ)) → map (drop 0) demands ≡ demands
+map-drop_0 [] = refl
+map-drop_0 (first ∷ more) = ap (λ l. first ∷ l) (map-drop_0 more)
