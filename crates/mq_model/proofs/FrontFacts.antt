@@ -4,7 +4,7 @@ use Rattle.std.specs.Prelude.{◌&&◌, ◌||◌, ◌==◌, not, nat_le, nat_lt,
 use Rattle.std.specs.List.{list_all, list_any, flat_map}
 use Rattle.std.specs.Option.{option_or}
 use Rattle.std.proofs.lemmas.Bool.{cases_Bool, and_parts, eqb-true, leb-false, ltb-false}
-use Rattle.std.proofs.lemmas.Grind.{flat_map-append}
+use Rattle.std.proofs.lemmas.Grind.{common_steps, flat_map-append}
 use Rattle.std.proofs.lemmas.List.Folds.{list_all-append, list_any-append}
 use Rattle.mq_base.specs.Text.{words_of}
 use Rattle.mq_model.specs.Form.{Word, read, whole}
@@ -57,6 +57,8 @@ distinct_is before (name ∷ names) =
 pub columns_append : (columns xs ys : List Word) → columns_after columns (xs ++ ys) ≡ columns_after (columns_after columns xs) ys
 columns_append columns [] ys = refl
 columns_append columns (x ∷ xs) ys = columns_append (added columns x) xs ys
+
+pub ruleset columns = (common_steps, columns_append)
 
 pub columns_more : (before : List Said) (said : Said) → columns_of (before ++ said ∷ []) ≡ columns_after (columns_of before) (mentioned said)
 columns_more before said =

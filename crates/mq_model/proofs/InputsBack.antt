@@ -55,6 +55,7 @@ outputs_said columns (kind.Server d) = refl
 outputs_said columns (kind.Delay d) = refl
 outputs_said columns (kind.Loss places d) = refl
 outputs_said columns (kind.Tandem stages) = refl
+outputs_said columns (kind.ForkJoin branches) = refl
 outputs_said columns (kind.Split (route.Modulo outputs column)) = refl
 outputs_said columns (kind.Split (route.Turn outputs)) = refl
 outputs_said columns (kind.Split (route.Cut column thresholds)) = refl
@@ -113,6 +114,7 @@ source_said columns (kind.Server d) own reads = refl
 source_said columns (kind.Delay d) own reads = refl
 source_said columns (kind.Loss places d) own reads = refl
 source_said columns (kind.Tandem stages) own reads = refl
+source_said columns (kind.ForkJoin branches) own reads = refl
 source_said columns (kind.Split r) own reads = refl
 
 pub source_back : (names columns : List Word) (nodes : List Node) → list_any (λ (node : Node). is_source_kind node.kind) nodes ≡ true → list_any is_source (map (node_by names columns) nodes) ≡ true

@@ -9,6 +9,9 @@ pub mod PlanBack
 pub mod Demands
 pub mod Lists
 pub mod Stages
+pub mod Branches
+pub mod BranchFacts
+pub mod PrintedBranches
 pub mod StageFacts
 pub mod PrintedStages
 pub mod PrintedParts

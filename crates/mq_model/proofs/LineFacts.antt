@@ -1,5 +1,5 @@
 -- Every line of the table can be completed from wherever it stands.
-use Rattle.std.proofs.Common.{◌≡◌, refl, ℕ, zero, suc, ◌∷◌, Bool, true, false, inl, inr}
+use Rattle.std.proofs.Common.{◌≡◌, refl, ℕ, zero, suc, ◌-◌, ◌∷◌, length, Bool, true, false, inl, inr}
 use Rattle.std.specs.Prelude.{codes, nat_lt}
 use Rattle.std.proofs.lemmas.Bool.{cases_Bool}
 use Rattle.std.proofs.lemmas.Slice.Eq.{bytes_eq-Decides}
@@ -7,7 +7,7 @@ use Rattle.mq_model.specs.Form.{◌>>=◌, Form, Word, stop, word, maybe, one, u
 use Rattle.mq_model.specs.declared.said.SaidDemand.{SaidDemand}
 use Rattle.mq_model.specs.declared.said.SaidKind.{SaidKind}
 use Rattle.mq_model.specs.declared.said.SaidKind.TheVariants.{Server, Delay}
-use Rattle.mq_model.specs.Lines.{key, is_input, input_of, is_up_to, a_name, a_demand, inputs, rising, thresholds, a_route, cut_route, counted_route, modulo_route, way_of, loss_kind, a_stage, stages, stages_behind, tandem_kind, split_kind, node_line, kind_line, line, is_key, is_from_to, greatest_demand, value_of}
+use Rattle.mq_model.specs.Lines.{key, is_input, input_of, is_up_to, a_name, a_demand, inputs, rising, thresholds, a_route, cut_route, counted_route, modulo_route, way_of, loss_kind, a_stage, stages, stages_behind, tandem_kind, a_branch, branches, all_branches, forkjoin_kind, room_of, is_demand, demand_of, split_kind, node_line, kind_line, line, is_key, is_from_to, greatest_demand, value_of}
 
 live_weak : {A : Type 0} (must : Bool) (f : Form A) → IsLive true f → IsLive must f
 unfolding IsLive
@@ -128,6 +128,33 @@ live_tandem : IsLive true tandem_kind
 unfolding tandem_kind
 live_tandem = live_then true a_demand _ live_demand (λ first. live_then true (stages_behind first) _ (live_stages_behind first) (λ all. live_stop _))
 
+live_branch : (left : ℕ) → IsLive true (a_branch left)
+unfolding a_branch
+live_branch left =
+    live_then true a_demand _ live_demand (λ first. live_then true (up_to (room_of left) is_demand demand_of) _ (live_up_to (room_of left) is_demand demand_of (codes "=0") refl) (λ more. live_stop _))
+
+live_branches : (n left : ℕ) → IsLive true (branches n left)
+unfolding branches
+live_branches zero left = live_stop _
+live_branches (suc n) left =
+    elim (cases_Bool (nat_lt 0 left)) [
+      | inl room ↦
+          rw room (live_maybe true _ _ _ (codes "|") refl (λ _ _. live_then true (a_branch left) _ (live_branch left) (λ demands. live_then true (branches n (left - length demands)) _ (live_branches n (left - length demands)) (λ more. live_stop _)))
+          (live_weak false (stop _) (live_stop _)))
+      | inr full ↦ rw full (live_stop _)
+    ]
+
+live_all : IsLive true all_branches
+unfolding all_branches
+live_all =
+    live_then true (a_branch 8) _ (live_branch 8)
+    (λ first. live_behind (codes "|") _ (λ _. live_then true (a_branch (8 - length first)) _ (live_branch (8 - length first))
+    (λ second. live_then true (branches 6 (8 - length first - length second)) _ (live_branches 6 (8 - length first - length second)) (λ more. live_stop _))))
+
+live_forkjoin : IsLive true forkjoin_kind
+unfolding forkjoin_kind
+live_forkjoin = live_then true all_branches _ live_all (λ all. live_stop _)
+
 live_kinds : IsLive false kind_line
 unfolding kind_line
 live_kinds =
@@ -135,7 +162,8 @@ live_kinds =
     (live_maybe false _ _ _ (codes "delay") refl (λ _ _. live_plain Delay)
     (live_maybe false _ _ _ (codes "loss") refl (λ _ _. live_node _ live_loss)
     (live_maybe false _ _ _ (codes "tandem") refl (λ _ _. live_node _ live_tandem)
-    (live_word false _ _ (codes "split") refl (λ _ _. live_node _ live_split)))))
+    (live_maybe false _ _ _ (codes "forkjoin") refl (λ _ _. live_node _ live_forkjoin)
+    (live_word false _ _ (codes "split") refl (λ _ _. live_node _ live_split))))))
 
 -- the whole table can be completed
 pub live_line : IsLive true line

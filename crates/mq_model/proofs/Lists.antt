@@ -3,6 +3,7 @@ use Rattle.std.proofs.Common.{◌≡◌, ◌∙◌, sym, ap, refl, List, [], ◌
 use Rattle.std.specs.Prelude.{map, ◌&&◌}
 use Rattle.std.specs.List.{list_all, flat_map}
 use Rattle.std.proofs.lemmas.Bool.{and_parts, and_from}
+use Rattle.std.proofs.lemmas.Grind.{flat_map-append}
 use Rattle.std.proofs.lemmas.List.{map-append}
 use Rattle.std.proofs.lemmas.List.Folds.{list_all-append}
 
@@ -42,3 +43,8 @@ map_back f g q each (x ∷ xs) h = let both = and_parts _ _ h in ap (λ y. y ∷
 pub all_have : {A B : Type 0} (f : A → B) (q : A → Bool) (P : B → Type 0) → ((a : A) → q a ≡ true → P (f a)) → (xs : List A) → list_all q xs ≡ true → AreAll P (map f xs)
 all_have f q P each [] h = tt
 all_have f q P each (x ∷ xs) h = let both = and_parts _ _ h in (each x both.0, all_have f q P each xs both.1)
+
+-- Lists of lists. What the items of all of them tell.
+pub flat_twice : {A X : Type 0} (f : A → List X) (xss : List (List A)) → flat_map f (flat_map (λ xs. xs) xss) ≡ flat_map (λ xs. flat_map f xs) xss
+flat_twice f [] = refl
+flat_twice f (xs ∷ xss) = flat_map-append f xs (flat_map (λ xs. xs) xss) ∙ ap (λ more. flat_map f xs ++ more) (flat_twice f xss)

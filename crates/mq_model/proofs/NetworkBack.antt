@@ -20,6 +20,7 @@ use Rattle.mq_model.specs.NetworkOf.{input_in, kind_in, network_of, nodes_in, no
 use Rattle.mq_model.specs.Said.{columns_of, distinct_after, mentioned, mentions_of_kind, names_of}
 use Rattle.mq_model.specs.SaidOf.{input_by, kind_by, name_at, names_in, node_by, saids_in}
 use Rattle.mq_model.proofs.Demands.{demand_again, demand_mentions}
+use Rattle.mq_model.proofs.Branches.{branches_again, branches_mentions}
 use Rattle.mq_model.proofs.Stages.{stages_again, stages_mentions}
 use Rattle.mq_model.proofs.NamesBack.{columns_again, number_again}
 
@@ -33,6 +34,7 @@ mentions_said columns (kind.Server d) = demand_mentions columns d
 mentions_said columns (kind.Delay d) = demand_mentions columns d
 mentions_said columns (kind.Loss places d) = demand_mentions columns d
 mentions_said columns (kind.Tandem stages) = stages_mentions columns stages
+mentions_said columns (kind.ForkJoin branches) = branches_mentions columns branches
 mentions_said columns (kind.Split (route.Modulo outputs column)) = refl
 mentions_said columns (kind.Split (route.Turn outputs)) = refl
 mentions_said columns (kind.Split (route.Cut column thresholds)) = refl
@@ -51,6 +53,7 @@ kind_again columns (kind.Server d) distinct sound = ap (λ d. kind.Server d) (de
 kind_again columns (kind.Delay d) distinct sound = ap (λ d. kind.Delay d) (demand_again columns d distinct sound)
 kind_again columns (kind.Loss places d) distinct sound = ap (λ d. kind.Loss places d) (demand_again columns d distinct (and_parts _ _ sound).1)
 kind_again columns (kind.Tandem stages) distinct sound = ap (λ all. kind.Tandem all) (stages_again columns stages distinct sound)
+kind_again columns (kind.ForkJoin branches) distinct sound = ap (λ all. kind.ForkJoin all) (branches_again columns branches distinct sound)
 kind_again columns (kind.Split (route.Modulo outputs column)) distinct sound =
     ap (λ n. kind.Split (route.Modulo outputs n)) (number_again columns column [] distinct (ltb-true _ _ (and_parts _ _ sound).1))
 kind_again columns (kind.Split (route.Turn outputs)) distinct sound = refl

@@ -7,19 +7,20 @@ use Rattle.std.proofs.lemmas.Fmt.{decimal_digit}
 use Rattle.mq_core.specs.Names.{is_name}
 use Rattle.mq_core.specs.Sound.{is_within, rises_from}
 use Rattle.mq_model.specs.Form.{Form, Word, one, read, whole}
-use Rattle.mq_model.specs.Lines.{a_route, bound_line, counted_route, cut_route, greatest_demand, inputs, is_above, is_from_to, is_key, is_up_to, line, modulo_route, node_line, rising, delay_kind, loss_kind, tandem_kind, server_kind, source_line, split_kind, thresholds, value_of, way_of}
+use Rattle.mq_model.specs.Lines.{a_route, bound_line, counted_route, cut_route, greatest_demand, inputs, is_above, is_from_to, is_key, is_up_to, line, modulo_route, node_line, rising, delay_kind, loss_kind, tandem_kind, forkjoin_kind, server_kind, source_line, split_kind, thresholds, value_of, way_of}
 use Rattle.mq_model.specs.Printed.{demand_word, input_word, inputs_words, route_words, said_words}
 use Rattle.mq_model.specs.Said.{reads_of}
 use Rattle.mq_model.specs.declared.said.SaidDemand.{SaidDemand}
 use Rattle.mq_model.specs.declared.said.SaidInput.{SaidInput}
 use Rattle.mq_model.specs.declared.said.SaidKind.{SaidKind}
-use Rattle.mq_model.specs.declared.said.SaidKind.TheVariants.{Source, Server, Delay, Loss, Tandem, Split}
+use Rattle.mq_model.specs.declared.said.SaidKind.TheVariants.{Source, Server, Delay, Loss, Tandem, ForkJoin, Split}
 use Rattle.mq_model.specs.declared.said.SaidRoute.{SaidRoute}
 use Rattle.mq_model.specs.declared.said.SaidRoute.TheVariants.{Modulo, Turn, Cut}
 use Rattle.mq_model.specs.declared.said.Said.{Said}
 use Rattle.mq_model.specs.declared.said.Said.TheVariants.{Bound, Node}
 use Rattle.mq_model.proofs.FormFacts.{read_then}
-use Rattle.mq_model.proofs.ReadFacts.{kind_delay, kind_loss, kind_server, kind_split, kind_tandem, line_bound, line_kind, line_source, read_one_yes, rising_no, rising_yes, route_counted, route_cut, thresholds_first, way_mod, way_turn, with_front}
+use Rattle.mq_model.proofs.ReadFacts.{kind_delay, kind_forkjoin, kind_loss, kind_server, kind_split, kind_tandem, line_bound, line_kind, line_source, read_one_yes, rising_no, rising_yes, route_counted, route_cut, thresholds_first, way_mod, way_turn, with_front}
+use Rattle.mq_model.proofs.PrintedBranches.{forkjoin_again}
 use Rattle.mq_model.proofs.PrintedStages.{tandem_again}
 use Rattle.mq_model.proofs.PrintedParts.{a_demand_again, inputs_again, name_again, number_again, within_again, AreInputs}
 use Rattle.mq_model.proofs.SoundLines.{AreSoundThresholds, IsSoundDemand, IsSoundRoute, IsSoundSaid}
@@ -136,6 +137,9 @@ line_again (Node name (Loss places d) reads) sound are =
 line_again (Node name (Tandem stages) reads) sound are =
     ap whole (line_kind _ _ (codes "tandem") refl refl refl ∙ kind_tandem _ _ (codes "tandem") refl refl refl refl refl
     ∙ node_again name tandem_kind (Tandem stages) reads _ sound.0 (tandem_again stages (map input_word reads) sound.1) (inputs_again reads sound.2 are))
+line_again (Node name (ForkJoin branches) reads) sound are =
+    ap whole (line_kind _ _ (codes "forkjoin") refl refl refl ∙ kind_forkjoin _ _ (codes "forkjoin") refl refl refl refl refl refl
+    ∙ node_again name forkjoin_kind (ForkJoin branches) reads _ sound.0 (forkjoin_again branches (map input_word reads) sound.1) (inputs_again reads sound.2 are))
 line_again (Node name (Split route) reads) sound are =
-    ap whole (line_kind _ _ (codes "split") refl refl refl ∙ kind_split _ _ (codes "split") refl refl refl refl refl refl
+    ap whole (line_kind _ _ (codes "split") refl refl refl ∙ kind_split _ _ (codes "split") refl refl refl refl refl refl refl
     ∙ node_again name split_kind (Split route) reads _ sound.0 (split_again route (map input_word reads) sound.1) (inputs_again reads sound.2 are))

@@ -18,6 +18,7 @@ use Rattle.mq_model.specs.SaidOf.{input_by, kind_by, names_in, node_by, saids_in
 use Rattle.mq_model.specs.declared.said.Said.{Said}
 use Rattle.mq_model.proofs.NetworkBack.{has_parts, output_within}
 use Rattle.mq_model.proofs.Demands.{all_at, demand_said}
+use Rattle.mq_model.proofs.Branches.{branches_said}
 use Rattle.mq_model.proofs.Stages.{stages_said}
 use Rattle.mq_model.proofs.PrintedParts.{AreInputs}
 use Rattle.mq_model.proofs.SoundLines.{IsSoundKind, IsSoundSaid, is_sound_reads}
@@ -32,6 +33,7 @@ few_outputs columns (kind.Server d) h = omega arith
 few_outputs columns (kind.Delay d) h = omega arith
 few_outputs columns (kind.Loss places d) h = omega arith
 few_outputs columns (kind.Tandem stages) h = omega arith
+few_outputs columns (kind.ForkJoin branches) h = omega arith
 few_outputs columns (kind.Split (route.Modulo outputs column)) h = leb-true _ _ (and_parts _ _ (and_parts _ _ h).0).1
 few_outputs columns (kind.Split (route.Turn outputs)) h = leb-true _ _ (and_parts _ _ h).1
 few_outputs columns (kind.Split (route.Cut column thresholds)) h =
@@ -59,6 +61,7 @@ kind_said columns (kind.Server d) named h = demand_said columns d named h
 kind_said columns (kind.Delay d) named h = demand_said columns d named h
 kind_said columns (kind.Loss places d) named h = let both = and_parts _ _ h in (both.0, demand_said columns d named both.1)
 kind_said columns (kind.Tandem stages) named h = stages_said columns stages named h
+kind_said columns (kind.ForkJoin branches) named h = branches_said columns branches named h
 kind_said columns (kind.Split (route.Modulo outputs column)) named h = let both = and_parts _ _ h in (both.0, all_at is_name columns column [] named (ltb-true _ _ both.1))
 kind_said columns (kind.Split (route.Turn outputs)) named h = h
 kind_said columns (kind.Split (route.Cut column thresholds)) named h =
@@ -73,6 +76,7 @@ count_said columns (kind.Server d) n h = h
 count_said columns (kind.Delay d) n h = h
 count_said columns (kind.Loss places d) n h = h
 count_said columns (kind.Tandem stages) n h = h
+count_said columns (kind.ForkJoin branches) n h = h
 count_said columns (kind.Split r) n h = h
 
 inputs_said : (names : List Word) (columns : ℕ) (all : List Node) (inputs : List Input) → list_all is_name names ≡ true → length names ≡ length all → list_all (is_sound_node columns all) all ≡ true

@@ -10,22 +10,22 @@ use Rattle.std.proofs.lemmas.List.Folds.{list_all-append}
 use Rattle.mq_core.specs.Names.{is_name, is_name_byte}
 use Rattle.mq_core.specs.Sound.{is_within}
 use Rattle.mq_model.specs.Form.{Word}
-use Rattle.mq_model.specs.Printed.{stage_words, stages_words, demand_word, first_word, input_word, inputs_words, kind_words, reads_words, route_words, said_words}
+use Rattle.mq_model.specs.Printed.{barred_words, branches_words, stage_words, stages_words, demand_word, first_word, input_word, inputs_words, kind_words, reads_words, route_words, said_words}
 use Rattle.mq_model.specs.declared.said.SaidDemand.{SaidDemand}
 use Rattle.mq_model.specs.declared.said.SaidDemand.TheVariants.{Column, Fixed}
 use Rattle.mq_model.specs.declared.said.SaidInput.{SaidInput}
 use Rattle.mq_model.specs.declared.said.SaidStage.{SaidStage}
 use Rattle.mq_model.specs.declared.said.SaidKind.{SaidKind}
-use Rattle.mq_model.specs.declared.said.SaidKind.TheVariants.{Source, Server, Delay, Loss, Tandem, Split}
+use Rattle.mq_model.specs.declared.said.SaidKind.TheVariants.{Source, Server, Delay, Loss, Tandem, ForkJoin, Split}
 use Rattle.mq_model.specs.declared.said.SaidRoute.{SaidRoute}
 use Rattle.mq_model.specs.declared.said.SaidRoute.TheVariants.{Modulo, Turn, Cut}
 use Rattle.mq_model.specs.declared.said.Said.{Said}
 use Rattle.mq_model.specs.declared.said.Said.TheVariants.{Bound, Node}
 use Rattle.mq_model.specs.Said.{reads_of}
-use Rattle.mq_model.proofs.Lists.{all_told}
+use Rattle.mq_model.proofs.Lists.{AreAll, all_both, all_told}
 use Rattle.mq_model.proofs.PrintedParts.{AreInputs, IsInput, number_again}
 use Rattle.std.proofs.lemmas.List.{length-map}
-use Rattle.mq_model.proofs.SoundLines.{AreSoundStages, IsSoundStage, IsSoundDemand, IsSoundKind, IsSoundRoute, IsSoundSaid, is_sound_reads}
+use Rattle.mq_model.proofs.SoundLines.{AreSoundBranches, IsSoundBranch, AreSoundStages, IsSoundStage, IsSoundDemand, IsSoundKind, IsSoundRoute, IsSoundSaid, is_sound_reads}
 
 -- Words: 1 to 34 visible bytes.
 abbrev pub is_visible : ℕ → Bool
@@ -130,6 +130,16 @@ stages_solid : (stages : List SaidStage) → AreSoundStages stages → list_all 
 stages_solid [] sound = refl
 stages_solid (stage ∷ stages) sound = and_from _ _ (demand_solid stage.demand sound.0.1) (all_told (IsSoundStage 1 4) stage_words is_solid stage_solid stages sound.2)
 
+demands_solid : (demands : List SaidDemand) → AreAll IsSoundDemand demands → list_all is_solid (map demand_word demands) ≡ true
+demands_solid [] sound = refl
+demands_solid (d ∷ demands) sound = and_from _ _ (demand_solid d sound.0) (demands_solid demands sound.1)
+
+branches_solid : (branches : List (List SaidDemand)) → AreSoundBranches branches → list_all is_solid (branches_words branches) ≡ true
+branches_solid [] sound = refl
+branches_solid (demands ∷ branches) sound =
+    all_both is_solid (map demand_word demands) (flat_map barred_words branches) (demands_solid demands sound.1.0.1)
+    (all_told IsSoundBranch barred_words is_solid (λ further own. and_from _ _ refl (demands_solid further own.1)) branches sound.1.1)
+
 route_solid : (route : SaidRoute) → IsSoundRoute route → list_all is_solid (route_words route) ≡ true
 route_solid (Modulo outputs column) sound = and_from _ _ (outputs_solid outputs sound.0) (and_from _ _ refl (and_from _ _ (solid 32 column (omega arith) (name_short column sound.1)) refl))
 route_solid (Turn outputs) sound = and_from _ _ (outputs_solid outputs sound) refl
@@ -141,6 +151,7 @@ first_solid (Server d) = refl
 first_solid (Delay d) = refl
 first_solid (Loss places d) = refl
 first_solid (Tandem stages) = refl
+first_solid (ForkJoin branches) = refl
 first_solid (Split route) = refl
 
 kind_solid : (kind : SaidKind) → IsSoundKind kind → list_all is_solid (kind_words kind) ≡ true
@@ -149,6 +160,7 @@ kind_solid (Server d) sound = and_from _ _ (demand_solid d sound) refl
 kind_solid (Delay d) sound = and_from _ _ (demand_solid d sound) refl
 kind_solid (Loss places d) sound = and_from _ _ (places_solid places sound.0) (and_from _ _ (demand_solid d sound.1) refl)
 kind_solid (Tandem stages) sound = stages_solid stages sound
+kind_solid (ForkJoin branches) sound = branches_solid branches sound
 kind_solid (Split route) sound = route_solid route sound
 
 reads_solid : (kind : SaidKind) (reads : List SaidInput) → AreInputs reads → list_all is_solid (reads_words kind reads) ≡ true
@@ -157,6 +169,7 @@ reads_solid (Server d) reads are = inputs_solid reads are
 reads_solid (Delay d) reads are = inputs_solid reads are
 reads_solid (Loss places d) reads are = inputs_solid reads are
 reads_solid (Tandem stages) reads are = inputs_solid reads are
+reads_solid (ForkJoin branches) reads are = inputs_solid reads are
 reads_solid (Split route) reads are = inputs_solid reads are
 
 pub said_solid : (said : Said) → IsSoundSaid said → AreInputs (reads_of said) → list_all is_solid (said_words said) ≡ true
@@ -185,6 +198,7 @@ reads_few (Server d) reads count = inputs_few reads count
 reads_few (Delay d) reads count = inputs_few reads count
 reads_few (Loss places d) reads count = inputs_few reads count
 reads_few (Tandem stages) reads count = inputs_few reads count
+reads_few (ForkJoin branches) reads count = inputs_few reads count
 reads_few (Split route) reads count = inputs_few reads count
 
 further_count : (stages : List SaidStage) → length (flat_map stage_words stages) ≡ 3 * length stages
@@ -198,12 +212,33 @@ stages_few (stage ∷ stages) sound =
     let count = further_count stages in
     omega arith
 
+barred_count : (branches : List (List SaidDemand)) → length (flat_map barred_words branches) ≡ length branches + length (flat_map (λ demands. demands) branches)
+barred_count [] = refl
+barred_count (demands ∷ branches) =
+    let again = barred_count branches in
+    let own : length (map demand_word demands) ≡ length demands = length-map demands demand_word in
+    let words : length (map demand_word demands ++ flat_map barred_words branches) ≡ length (map demand_word demands) + length (flat_map barred_words branches) = length-append (map demand_word demands) (flat_map barred_words branches) in
+    let size : length (demands ++ flat_map (λ demands. demands) branches) ≡ length demands + length (flat_map (λ demands. demands) branches) = length-append demands (flat_map (λ demands. demands) branches) in
+    omega arith
+
+branches_few : (branches : List (List SaidDemand)) → AreSoundBranches branches → length (branches_words branches) ≤ 15
+branches_few [] sound = omega arith
+branches_few (demands ∷ branches) sound =
+    let most : length (demands ∷ branches) ≤ 8 = leb-true _ _ (and_parts _ _ sound.0).1 in
+    let few : length (demands ++ flat_map (λ demands. demands) branches) ≤ 8 = leb-true _ _ sound.2 in
+    let own : length (map demand_word demands) ≡ length demands = length-map demands demand_word in
+    let words : length (map demand_word demands ++ flat_map barred_words branches) ≡ length (map demand_word demands) + length (flat_map barred_words branches) = length-append (map demand_word demands) (flat_map barred_words branches) in
+    let size : length (demands ++ flat_map (λ demands. demands) branches) ≡ length demands + length (flat_map (λ demands. demands) branches) = length-append demands (flat_map (λ demands. demands) branches) in
+    let count = barred_count branches in
+    omega arith
+
 kind_few : (kind : SaidKind) → IsSoundKind kind → length (kind_words kind) ≤ 15
 kind_few Source sound = omega arith
 kind_few (Server d) sound = omega arith
 kind_few (Delay d) sound = omega arith
 kind_few (Loss places d) sound = omega arith
 kind_few (Tandem stages) sound = stages_few stages sound
+kind_few (ForkJoin branches) sound = branches_few branches sound
 kind_few (Split (Modulo outputs column)) sound = omega arith
 kind_few (Split (Turn outputs)) sound = omega arith
 kind_few (Split (Cut column cuts)) sound =

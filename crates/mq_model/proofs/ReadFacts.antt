@@ -7,7 +7,7 @@ use Rattle.std.specs.Str.{bytes_eq}
 use Rattle.std.proofs.lemmas.Bool.{cases_Bool}
 use Rattle.mq_base.specs.Text.{is_number, number_of}
 use Rattle.mq_model.specs.declared.said.SaidRoute.TheVariants.{Turn}
-use Rattle.mq_model.specs.Lines.{a_route, counted_route, cut_route, greatest_demand, is_above, is_from_to, is_up_to, modulo_route, rising, thresholds, value_of, way_of, bound_line, inputs, input_of, is_input, is_key, kind_line, line, node_line, delay_kind, loss_kind, server_kind, tandem_kind, source_line, split_kind}
+use Rattle.mq_model.specs.Lines.{a_route, counted_route, cut_route, greatest_demand, is_above, is_from_to, is_up_to, modulo_route, rising, thresholds, value_of, way_of, bound_line, inputs, input_of, is_input, is_key, kind_line, line, node_line, delay_kind, forkjoin_kind, loss_kind, server_kind, tandem_kind, source_line, split_kind}
 use Rattle.mq_core.specs.Names.{is_name, is_name_byte}
 use Rattle.std.proofs.lemmas.Grind.{common_steps}
 use Rattle.mq_model.specs.Form.{◌>>=◌, Form, Word, stop, word, maybe, one, read, up_to, whole}
@@ -182,7 +182,7 @@ line_kind all ws w e a b = read_maybe_no _ _ _ all ws w e a ∙ read_maybe_no _ 
 pub line_none : (all : List Word) → all ≡ [] → read line all ≡ Err all
 unfolding line kind_line
 line_none all e =
-    read_maybe_none _ _ _ all e ∙ read_maybe_none _ _ _ all e ∙ read_maybe_none _ _ _ all e ∙ read_maybe_none _ _ _ all e ∙ read_maybe_none _ _ _ all e ∙ read_maybe_none _ _ _ all e ∙ read_word_none _ _ all e
+    read_maybe_none _ _ _ all e ∙ read_maybe_none _ _ _ all e ∙ read_maybe_none _ _ _ all e ∙ read_maybe_none _ _ _ all e ∙ read_maybe_none _ _ _ all e ∙ read_maybe_none _ _ _ all e ∙ read_maybe_none _ _ _ all e ∙ read_word_none _ _ all e
 
 -- the kinds that read inputs
 pub kind_server : (all ws : List Word) (w : Word) → all ≡ w ∷ ws → is_key (codes "server") w ≡ true → read kind_line all ≡ read (node_line server_kind) ws
@@ -203,15 +203,23 @@ pub kind_tandem : (all ws : List Word) (w : Word) → all ≡ w ∷ ws → is_ke
 unfolding kind_line
 kind_tandem all ws w e a b c h = read_maybe_no _ _ _ all ws w e a ∙ read_maybe_no _ _ _ all ws w e b ∙ read_maybe_no _ _ _ all ws w e c ∙ read_maybe_yes _ _ _ all ws w e h
 
-pub kind_split : (all ws : List Word) (w : Word) → all ≡ w ∷ ws → is_key (codes "server") w ≡ false → is_key (codes "delay") w ≡ false → is_key (codes "loss") w ≡ false → is_key (codes "tandem") w ≡ false → is_key (codes "split") w ≡ true
+pub kind_forkjoin : (all ws : List Word) (w : Word) → all ≡ w ∷ ws → is_key (codes "server") w ≡ false → is_key (codes "delay") w ≡ false → is_key (codes "loss") w ≡ false → is_key (codes "tandem") w ≡ false → is_key (codes "forkjoin") w ≡ true
+    → read kind_line all ≡ read (node_line forkjoin_kind) ws
+unfolding kind_line
+kind_forkjoin all ws w e a b c d h =
+    read_maybe_no _ _ _ all ws w e a ∙ read_maybe_no _ _ _ all ws w e b ∙ read_maybe_no _ _ _ all ws w e c ∙ read_maybe_no _ _ _ all ws w e d ∙ read_maybe_yes _ _ _ all ws w e h
+
+pub kind_split : (all ws : List Word) (w : Word) → all ≡ w ∷ ws → is_key (codes "server") w ≡ false → is_key (codes "delay") w ≡ false → is_key (codes "loss") w ≡ false → is_key (codes "tandem") w ≡ false → is_key (codes "forkjoin") w ≡ false → is_key (codes "split") w ≡ true
     → read kind_line all ≡ read (node_line split_kind) ws
 unfolding kind_line
-kind_split all ws w e a b c d h = read_maybe_no _ _ _ all ws w e a ∙ read_maybe_no _ _ _ all ws w e b ∙ read_maybe_no _ _ _ all ws w e c ∙ read_maybe_no _ _ _ all ws w e d ∙ read_word_yes _ _ all ws w e h
+kind_split all ws w e a b c d f h =
+    read_maybe_no _ _ _ all ws w e a ∙ read_maybe_no _ _ _ all ws w e b ∙ read_maybe_no _ _ _ all ws w e c ∙ read_maybe_no _ _ _ all ws w e d ∙ read_maybe_no _ _ _ all ws w e f ∙ read_word_yes _ _ all ws w e h
 
-pub kind_other : (all ws : List Word) (w : Word) → all ≡ w ∷ ws → is_key (codes "server") w ≡ false → is_key (codes "delay") w ≡ false → is_key (codes "loss") w ≡ false → is_key (codes "tandem") w ≡ false → is_key (codes "split") w ≡ false
+pub kind_other : (all ws : List Word) (w : Word) → all ≡ w ∷ ws → is_key (codes "server") w ≡ false → is_key (codes "delay") w ≡ false → is_key (codes "loss") w ≡ false → is_key (codes "tandem") w ≡ false → is_key (codes "forkjoin") w ≡ false → is_key (codes "split") w ≡ false
     → read kind_line all ≡ Err all
 unfolding kind_line
-kind_other all ws w e a b c d h = read_maybe_no _ _ _ all ws w e a ∙ read_maybe_no _ _ _ all ws w e b ∙ read_maybe_no _ _ _ all ws w e c ∙ read_maybe_no _ _ _ all ws w e d ∙ read_word_no _ _ all ws w e h
+kind_other all ws w e a b c d f h =
+    read_maybe_no _ _ _ all ws w e a ∙ read_maybe_no _ _ _ all ws w e b ∙ read_maybe_no _ _ _ all ws w e c ∙ read_maybe_no _ _ _ all ws w e d ∙ read_maybe_no _ _ _ all ws w e f ∙ read_word_no _ _ all ws w e h
 
 pub tail_length : (words : List (Bor (List ℕ))) (at : ℕ) → at ≤ length words → at + 1 + length (words_from words at) ≡ length (map (λ (w : Bor (List ℕ)). w.now) words) + 1
 tail_length words at h = grind (arith, common_steps)

@@ -18,7 +18,7 @@ use Rattle.mq_model.specs.declared.fault.ModelFault.{ModelFault}
 use Rattle.mq_model.specs.declared.fault.ModelFault.TheVariants.{Cycle, NoSource}
 use Rattle.mq_model.specs.declared.front.Front.{Front}
 use Rattle.mq_model.specs.declared.said.SaidKind.{SaidKind}
-use Rattle.mq_model.specs.declared.said.SaidKind.TheVariants.{Source, Server, Delay, Loss, Tandem, Split}
+use Rattle.mq_model.specs.declared.said.SaidKind.TheVariants.{Source, Server, Delay, Loss, Tandem, ForkJoin, Split}
 use Rattle.mq_model.specs.declared.said.Said.{Said}
 use Rattle.mq_model.specs.declared.said.Said.TheVariants.{Bound, Node}
 use Rattle.mq_model.proofs.InputFacts.{beside_are, declaring_are, placed_are}
@@ -53,6 +53,7 @@ few_reads (Server d) n h = some_few n h
 few_reads (Delay d) n h = some_few n h
 few_reads (Loss places d) n h = some_few n h
 few_reads (Tandem stages) n h = some_few n h
+few_reads (ForkJoin branches) n h = some_few n h
 few_reads (Split route) n h = some_few n h
 
 narrow : (saids : List Said) → AreSound saids → AreNarrow saids

@@ -12,7 +12,7 @@ use Rattle.mq_model.specs.NetworkOf.{input_in, kind_in, nodes_in, number_in, sai
 use Rattle.mq_model.specs.Said.{gives, is_among, is_same_input, names_of, outputs_of, reads_of}
 use Rattle.mq_model.specs.declared.said.SaidInput.{SaidInput}
 use Rattle.mq_model.specs.declared.said.SaidKind.{SaidKind}
-use Rattle.mq_model.specs.declared.said.SaidKind.TheVariants.{Source, Server, Delay, Loss, Tandem, Split}
+use Rattle.mq_model.specs.declared.said.SaidKind.TheVariants.{Source, Server, Delay, Loss, Tandem, ForkJoin, Split}
 use Rattle.mq_model.specs.declared.said.SaidRoute.TheVariants.{Modulo, Turn, Cut}
 use Rattle.mq_model.specs.declared.said.Said.{Said}
 use Rattle.mq_model.specs.declared.said.Said.TheVariants as said
@@ -114,6 +114,7 @@ outputs_are columns (Server d) = refl
 outputs_are columns (Delay d) = refl
 outputs_are columns (Loss places d) = refl
 outputs_are columns (Tandem stages) = refl
+outputs_are columns (ForkJoin branches) = refl
 outputs_are columns (Split (Modulo outputs column)) = refl
 outputs_are columns (Split (Turn outputs)) = refl
 outputs_are columns (Split (Cut column thresholds)) = refl

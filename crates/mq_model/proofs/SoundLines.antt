@@ -1,20 +1,20 @@
 -- What a line in the grammar says is in its ranges.
-use Rattle.std.proofs.Common.{◌≡◌, ◌∙◌, sym, ap, refl, subst, ℕ, zero, suc, ◌≤◌, ◌^◌, List, [], ◌∷◌, length, Bool, true, Result, Ok, Err, arith, inl, inr}
+use Rattle.std.proofs.Common.{◌≡◌, ◌∙◌, sym, ap, refl, subst, ℕ, zero, suc, ◌+◌, ◌-◌, ◌≤◌, ◌^◌, List, [], ◌∷◌, ◌++◌, length, length-append, Bool, true, Result, Ok, Err, arith, inl, inr}
 use Rattle.std.specs.Prelude.{◌==◌, nat_lt, nat_le, codes}
-use Rattle.std.specs.List.{list_all}
-use Rattle.std.proofs.lemmas.Bool.{cases_Bool, and_parts, and_from, le-leb}
+use Rattle.std.specs.List.{flat_map, list_all}
+use Rattle.std.proofs.lemmas.Bool.{cases_Bool, and_parts, and_from, le-leb, leb-true, ltb-true, ltb-false}
 use Rattle.mq_core.specs.Names.{is_name}
 use Rattle.mq_core.specs.Sound.{is_within, rises, rises_from}
 use Rattle.mq_model.specs.Form.{◌>>=◌, Form, Word, stop, word, maybe, one, up_to, read, whole}
 use Rattle.mq_base.specs.Text.{is_number}
-use Rattle.mq_model.specs.Lines.{key, is_input, input_of, is_demand, demand_of, is_from_to, is_up_to, a_name, a_demand, inputs, rising, cut_route, counted_route, server_kind, delay_kind, loss_kind, a_stage, stages, stages_behind, tandem_kind, split_kind, a_route, thresholds, way_of, modulo_route, node_line, bound_line, source_line, kind_line, line, is_key, is_above, greatest_demand, value_of}
+use Rattle.mq_model.specs.Lines.{key, is_input, input_of, is_demand, demand_of, is_from_to, is_up_to, a_name, a_demand, inputs, rising, cut_route, counted_route, server_kind, delay_kind, loss_kind, a_stage, stages, stages_behind, tandem_kind, a_branch, branches, all_branches, forkjoin_kind, room_of, split_kind, a_route, thresholds, way_of, modulo_route, node_line, bound_line, source_line, kind_line, line, is_key, is_above, greatest_demand, value_of}
 use Rattle.mq_model.specs.declared.said.SaidDemand.{SaidDemand}
 use Rattle.mq_model.specs.declared.said.SaidDemand.TheVariants.{Column, Fixed}
 use Rattle.mq_model.specs.declared.said.SaidRoute.{SaidRoute}
 use Rattle.mq_model.specs.declared.said.SaidRoute.TheVariants.{Modulo, Turn, Cut}
 use Rattle.mq_model.specs.declared.said.SaidStage.{SaidStage}
 use Rattle.mq_model.specs.declared.said.SaidKind.{SaidKind}
-use Rattle.mq_model.specs.declared.said.SaidKind.TheVariants.{Source, Server, Delay, Loss, Tandem, Split}
+use Rattle.mq_model.specs.declared.said.SaidKind.TheVariants.{Source, Server, Delay, Loss, Tandem, ForkJoin, Split}
 use Rattle.mq_model.specs.declared.said.Said.{Said}
 use Rattle.mq_model.specs.declared.said.Said.TheVariants.{Bound, Node}
 use Rattle.mq_model.proofs.Lists.{AreAll}
@@ -39,12 +39,19 @@ abbrev pub AreSoundStages : List SaidStage → Type 0
 AreSoundStages [] = ⊥
 AreSoundStages (stage ∷ stages) = IsSoundStage 0 0 stage × (is_within 1 3 (length stages) ≡ true) × AreAll (IsSoundStage 1 4) stages
 
+abbrev pub IsSoundBranch : List SaidDemand → Type 0
+IsSoundBranch demands = (is_within 1 4 (length demands) ≡ true) × AreAll IsSoundDemand demands
+
+abbrev pub AreSoundBranches : List (List SaidDemand) → Type 0
+AreSoundBranches branches = (is_within 2 8 (length branches) ≡ true) × AreAll IsSoundBranch branches × (nat_le (length (flat_map (λ demands. demands) branches)) 8 ≡ true)
+
 abbrev pub IsSoundKind : SaidKind → Type 0
 IsSoundKind Source = Unit {0}
 IsSoundKind (Server demand) = IsSoundDemand demand
 IsSoundKind (Delay demand) = IsSoundDemand demand
 IsSoundKind (Loss places demand) = (is_within 1 1048576 places ≡ true) × IsSoundDemand demand
 IsSoundKind (Tandem stages) = AreSoundStages stages
+IsSoundKind (ForkJoin branches) = AreSoundBranches branches
 IsSoundKind (Split route) = IsSoundRoute route
 
 -- a source reads nothing, and each other node at 1 to 8 ports
@@ -271,6 +278,88 @@ keeps_tandem =
     keeps_then IsSoundDemand ReadsSome a_demand _ keeps_demand
     (λ first sound. keeps_then AreSoundStages ReadsSome (stages_behind first) _ (keeps_behind first sound) (λ all are. keeps_stop ReadsSome (Tandem all) (are, λ reads h. h)))
 
+-- at most so many demands
+record AreFewDemands (n : ℕ) (demands : List SaidDemand) : Type 0 where
+  few : length demands ≤ n
+  sound : AreAll IsSoundDemand demands
+
+keeps_demands : (n : ℕ) → Keeps (AreFewDemands n) (up_to n is_demand demand_of)
+unfolding up_to
+keeps_demands zero = keeps_stop (AreFewDemands zero) [] (record { few = omega arith; sound = tt })
+keeps_demands (suc n) =
+    keeps_maybe (AreFewDemands (suc n)) is_demand _ (stop [])
+    (λ w h. keeps_then (AreFewDemands n) (AreFewDemands (suc n)) (up_to n is_demand demand_of) (λ more. stop (demand_of w ∷ more)) (keeps_demands n)
+    (λ more are. keeps_stop (AreFewDemands (suc n)) (demand_of w ∷ more) (record { few = let few : length more ≤ n = are.few in omega arith; sound = (demand_sound w h, are.sound) })))
+    (keeps_stop (AreFewDemands (suc n)) [] (record { few = omega arith; sound = tt }))
+
+room_small : (left : ℕ) → room_of left ≤ 3
+room_small left = elim (cases_Bool (nat_lt 3 left)) [ inl wide ↦ rw wide (omega arith) | inr narrow ↦ let least = ltb-false _ _ narrow in rw narrow (omega arith) ]
+
+room_within : (left : ℕ) → room_of left ≤ left - 1
+room_within left = elim (cases_Bool (nat_lt 3 left)) [ inl wide ↦ let more = ltb-true _ _ wide in rw wide (omega arith) | inr narrow ↦ rw narrow (omega arith) ]
+
+record IsBranchWithin (left : ℕ) (demands : List SaidDemand) : Type 0 where
+  few : length demands ≤ left
+  sound : IsSoundBranch demands
+
+keeps_branch : (left : ℕ) → 1 ≤ left → Keeps (IsBranchWithin left) (a_branch left)
+unfolding a_branch
+keeps_branch left some =
+    keeps_then IsSoundDemand (IsBranchWithin left) a_demand _ keeps_demand
+    (λ first own. keeps_then (AreFewDemands (room_of left)) (IsBranchWithin left) (up_to (room_of left) is_demand demand_of) _ (keeps_demands (room_of left))
+    (λ more are. keeps_stop (IsBranchWithin left) (first ∷ more)
+    (let few : length more ≤ room_of left = are.few in
+    let small = room_small left in
+    let within = room_within left in
+    record { few = omega arith; sound = (and_from _ _ (le-leb 1 (length (first ∷ more)) (omega arith)) (le-leb (length (first ∷ more)) 4 (omega arith)), (own, are.sound)) })))
+
+-- at most so many branches, and at most so many demands in all
+record AreBranchesWithin (n left : ℕ) (branches : List (List SaidDemand)) : Type 0 where
+  few : length branches ≤ n
+  within : length (flat_map (λ demands. demands) branches) ≤ left
+  sound : AreAll IsSoundBranch branches
+
+keeps_branches : (n left : ℕ) → Keeps (AreBranchesWithin n left) (branches n left)
+unfolding branches
+keeps_branches zero left = keeps_stop (AreBranchesWithin zero left) [] (record { few = omega arith; within = omega arith; sound = tt })
+keeps_branches (suc n) left =
+    let none = keeps_stop (AreBranchesWithin (suc n) left) [] (record { few = omega arith; within = omega arith; sound = tt }) in
+    elim (cases_Bool (nat_lt 0 left)) [
+      | inl room ↦
+          rw room (keeps_maybe (AreBranchesWithin (suc n) left) (is_key (codes "|")) _ (stop [])
+          (λ w h. keeps_then (IsBranchWithin left) (AreBranchesWithin (suc n) left) (a_branch left) _ (keeps_branch left (ltb-true _ _ room))
+          (λ demands own. keeps_then (AreBranchesWithin n (left - length demands)) (AreBranchesWithin (suc n) left) (branches n (left - length demands)) _ (keeps_branches n (left - length demands))
+          (λ more are. keeps_stop (AreBranchesWithin (suc n) left) (demands ∷ more)
+          (let short : length more ≤ n = are.few in
+          let own_few : length demands ≤ left = own.few in
+          let later : length (flat_map (λ demands. demands) more) ≤ left - length demands = are.within in
+          let size : length (demands ++ flat_map (λ demands. demands) more) ≡ length demands + length (flat_map (λ demands. demands) more) = length-append demands (flat_map (λ demands. demands) more) in
+          record { few = omega arith; within = omega arith; sound = (own.sound, are.sound) }))))
+          none)
+      | inr full ↦ rw full none
+    ]
+
+keeps_all : Keeps AreSoundBranches all_branches
+unfolding all_branches
+keeps_all =
+    keeps_then (IsBranchWithin 8) AreSoundBranches (a_branch 8) _ (keeps_branch 8 (omega arith))
+    (λ first one. let most : length first ≤ 4 = leb-true _ _ (and_parts _ _ one.sound.0).1 in
+    keeps_then IsAny AreSoundBranches (key (codes "|")) _ (keeps_key (codes "|"))
+    (λ _ _. keeps_then (IsBranchWithin (8 - length first)) AreSoundBranches (a_branch (8 - length first)) _ (keeps_branch (8 - length first) (omega arith))
+    (λ second two. keeps_then (AreBranchesWithin 6 (8 - length first - length second)) AreSoundBranches (branches 6 (8 - length first - length second)) _ (keeps_branches 6 (8 - length first - length second))
+    (λ more are. keeps_stop AreSoundBranches (first ∷ second ∷ more) (all_sound first second more most two.few are.few are.within one.sound two.sound are.sound)))))
+  where
+    all_sound : (first second : List SaidDemand) (more : List (List SaidDemand)) → length first ≤ 4 → length second ≤ 8 - length first → length more ≤ 6 → length (flat_map (λ demands. demands) more) ≤ 8 - length first - length second
+        → IsSoundBranch first → IsSoundBranch second → AreAll IsSoundBranch more → AreSoundBranches (first ∷ second ∷ more)
+    all_sound first second more most fits few later one two others =
+        let first_size : length (first ++ (second ++ flat_map (λ demands. demands) more)) ≡ length first + length (second ++ flat_map (λ demands. demands) more) = length-append first (second ++ flat_map (λ demands. demands) more) in
+        let second_size : length (second ++ flat_map (λ demands. demands) more) ≡ length second + length (flat_map (λ demands. demands) more) = length-append second (flat_map (λ demands. demands) more) in
+        (and_from _ _ (le-leb 2 (length (first ∷ second ∷ more)) (omega arith)) (le-leb (length (first ∷ second ∷ more)) 8 (omega arith)), (one, (two, others)), le-leb (length (first ++ (second ++ flat_map (λ demands. demands) more))) 8 (omega arith))
+
+keeps_forkjoin : Keeps ReadsSome forkjoin_kind
+unfolding forkjoin_kind
+keeps_forkjoin = keeps_then AreSoundBranches ReadsSome all_branches _ keeps_all (λ all are. keeps_stop ReadsSome (ForkJoin all) (are, λ reads h. h))
+
 keeps_route : Keeps IsSoundRoute a_route
 unfolding a_route
 keeps_route = keeps_maybe IsSoundRoute (is_key (codes "cut")) _ _ (λ _ _. keeps_cut) keeps_counted
@@ -299,7 +388,8 @@ keeps_kinds =
     (keeps_maybe IsSoundSaid (is_key (codes "delay")) _ _ (λ _ _. keeps_node delay_kind keeps_delay)
     (keeps_maybe IsSoundSaid (is_key (codes "loss")) _ _ (λ _ _. keeps_node loss_kind keeps_loss)
     (keeps_maybe IsSoundSaid (is_key (codes "tandem")) _ _ (λ _ _. keeps_node tandem_kind keeps_tandem)
-    (keeps_word IsSoundSaid (is_key (codes "split")) _ (λ _ _. keeps_node split_kind keeps_split)))))
+    (keeps_maybe IsSoundSaid (is_key (codes "forkjoin")) _ _ (λ _ _. keeps_node forkjoin_kind keeps_forkjoin)
+    (keeps_word IsSoundSaid (is_key (codes "split")) _ (λ _ _. keeps_node split_kind keeps_split))))))
 
 -- what the table says is in its ranges
 pub keeps_line : Keeps IsSoundSaid line

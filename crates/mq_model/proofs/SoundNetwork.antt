@@ -19,11 +19,12 @@ use Rattle.mq_model.specs.Said.{columns_of, distinct_after, gives, is_among, is_
 use Rattle.mq_model.specs.declared.fault.ModelFault.TheVariants.{TooLong, NoSource}
 use Rattle.mq_model.specs.declared.said.SaidInput.{SaidInput}
 use Rattle.mq_model.specs.declared.said.SaidKind.{SaidKind}
-use Rattle.mq_model.specs.declared.said.SaidKind.TheVariants.{Source, Server, Delay, Loss, Tandem, Split}
+use Rattle.mq_model.specs.declared.said.SaidKind.TheVariants.{Source, Server, Delay, Loss, Tandem, ForkJoin, Split}
 use Rattle.mq_model.specs.declared.said.SaidRoute.TheVariants.{Modulo, Turn, Cut}
 use Rattle.mq_model.specs.declared.said.Said.{Said}
 use Rattle.mq_model.specs.declared.said.Said.TheVariants as said
 use Rattle.mq_model.proofs.Demands.{demand_columns, demand_in_range, demand_names, number_below}
+use Rattle.mq_model.proofs.Branches.{branches_columns, branches_in_range, branches_names}
 use Rattle.mq_model.proofs.Stages.{stages_columns, stages_in_range, stages_names}
 use Rattle.mq_model.proofs.SoundColumns.{are_distinct_after, list_all_after, mentions_in_order, same_name}
 use Rattle.mq_model.proofs.SoundInputs.{AreInputs, given_among, given_output, numbers_distinct, told_are_inputs}
@@ -51,6 +52,7 @@ columns_are columns (Server d) = demand_columns columns d
 columns_are columns (Delay d) = demand_columns columns d
 columns_are columns (Loss places d) = demand_columns columns d
 columns_are columns (Tandem stages) = stages_columns columns stages
+columns_are columns (ForkJoin branches) = branches_columns columns branches
 columns_are columns (Split (Modulo outputs column)) = refl
 columns_are columns (Split (Turn outputs)) = refl
 columns_are columns (Split (Cut column thresholds)) = refl
@@ -69,6 +71,7 @@ source_is columns (Server d) = refl
 source_is columns (Delay d) = refl
 source_is columns (Loss places d) = refl
 source_is columns (Tandem stages) = refl
+source_is columns (ForkJoin branches) = refl
 source_is columns (Split route) = refl
 
 sources_are : (names columns : List Word) (saids : List Said) → list_any is_source saids ≡ true → list_any (λ (node : Node). is_source_kind node.kind) (flat_map (nodes_in names columns) saids) ≡ true
@@ -96,6 +99,7 @@ kind_names (Server d) sound = demand_names d sound
 kind_names (Delay d) sound = demand_names d sound
 kind_names (Loss places d) sound = demand_names d sound.1
 kind_names (Tandem stages) sound = stages_names stages sound
+kind_names (ForkJoin branches) sound = branches_names branches sound
 kind_names (Split (Modulo outputs column)) sound = and_from _ _ sound.1 refl
 kind_names (Split (Turn outputs)) sound = refl
 kind_names (Split (Cut column thresholds)) sound = and_from _ _ sound.0 refl
@@ -129,6 +133,7 @@ kind_sound columns (Server d) sound among = demand_in_range columns d sound amon
 kind_sound columns (Delay d) sound among = demand_in_range columns d sound among
 kind_sound columns (Loss places d) sound among = and_from _ _ sound.0 (demand_in_range columns d sound.1 among)
 kind_sound columns (Tandem stages) sound among = stages_in_range columns stages sound among
+kind_sound columns (ForkJoin branches) sound among = branches_in_range columns branches sound among
 kind_sound columns (Split (Modulo outputs column)) sound among = and_from _ _ sound.0 (number_below columns column (and_parts _ _ among).0)
 kind_sound columns (Split (Turn outputs)) sound among = sound
 kind_sound columns (Split (Cut column thresholds)) sound among =
@@ -140,6 +145,7 @@ count_sound columns (Server d) reads h = h
 count_sound columns (Delay d) reads h = h
 count_sound columns (Loss places d) reads h = h
 count_sound columns (Tandem stages) reads h = h
+count_sound columns (ForkJoin branches) reads h = h
 count_sound columns (Split route) reads h = h
 
 outputs_sound : (names : List Word) (nodes : List Node) (inputs : List SaidInput) → list_all (λ (i : SaidInput). is_output (slice_get nodes (number_in names i.name)) i.out) inputs ≡ true

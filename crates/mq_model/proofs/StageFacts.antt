@@ -35,7 +35,7 @@ unfolding read stages
 stages_fault zero all ws left w some e h own = absurd (omega arith)
 stages_fault (suc n) all ws left w some e h own = rw (e, h, read_then a_stage (λ s. stages n >>= λ more. stop (s ∷ more)) ws, own) refl
 
-front_of_two : {A : Type 0} (first second : A) (r : Result (List A × List Word) (List Word)) → go_on r (λ more. stop (first ∷ second ∷ more)) ≡ with_front (first ∷ second ∷ []) r
+pub front_of_two : {A : Type 0} (first second : A) (r : Result (List A × List Word) (List Word)) → go_on r (λ more. stop (first ∷ second ∷ more)) ≡ with_front (first ∷ second ∷ []) r
 unfolding read
 front_of_two first second (Ok (more, rest)) = refl
 front_of_two first second (Err left) = refl

@@ -32,6 +32,10 @@ line_examples =
     ∷ (codes "model 1\nsource s\nserver q =1\n", Some (BadLine 3 4))
     ∷ (codes "model 1\nsource s\ndelay d =1\n", Some (BadLine 3 4))
     ∷ (codes "model 1\nsource s\ndelay d from s\n", Some (BadLine 3 3))
+    ∷ (codes "model 1\nsource s\nforkjoin f =1 from s\n", Some (BadLine 3 4))
+    ∷ (codes "model 1\nsource s\nforkjoin f =1 =2 =3 =4 =5 | =6 from s\n", Some (BadLine 3 7))
+    ∷ (codes "model 1\nsource s\nforkjoin f =1 =2 =3 =4 | =5 =6 =7 =8 | =9 from s\n", Some (BadLine 3 12))
+    ∷ (codes "model 1\nsource s\nforkjoin f =1 =2 =3 | =4 =5 =6 =7 | =8 =9 from s\n", Some (BadLine 3 13))
     ∷ (codes "model 1\nsource s\nloss l 0 =1 from s\n", Some (BadLine 3 3))
     ∷ (codes "model 1\nsource s\nloss l 1048577 =1 from s\n", Some (BadLine 3 3))
     ∷ (codes "model 1\nsource s\nloss l 2 from s\n", Some (BadLine 3 4))
@@ -61,6 +65,7 @@ input_examples =
     ∷ (codes "model 1\nbound 1000\nsource s\nserver q d from s\nsplit p cut k 5 6 from q\nsplit r 2 mod k from p\nsplit t 2 turn from p.2\ndelay w =5 from t.1\n", None)
     ∷ (codes "model 1\nsource s\ndelay d =1 from s\nserver r =1 from d.1\n", Some (UnknownInput 4 0))
     ∷ (codes "model 1\nsource s\ntandem t k / 4 =1 / 1 k / 01 j from s\nserver r =1 from t\n", None)
+    ∷ (codes "model 1\nsource s\nforkjoin f =1 | j | k | =4 | j | =6 | =7 | =8 from s\nforkjoin g =1 =2 =3 =4 | =5 =6 =7 =8 from f\n", None)
     ∷ (codes "model 1\nsource s\nloss l 1048576 k from s\nserver r =1 from l.1 l\n", None)
     ∷ (codes "model 1\nsource s\nloss l 1 k from s\nserver r =1 from l.2\n", Some (UnknownInput 4 0))
     ∷ []

@@ -11,7 +11,7 @@ use Rattle.mq_model.specs.declared.said.SaidRoute.{SaidRoute}
 use Rattle.mq_model.specs.declared.said.SaidRoute.TheVariants.{Modulo, Turn, Cut}
 use Rattle.mq_model.specs.declared.said.SaidStage.{SaidStage}
 use Rattle.mq_model.specs.declared.said.SaidKind.{SaidKind}
-use Rattle.mq_model.specs.declared.said.SaidKind.TheVariants.{Source, Server, Delay, Loss, Tandem, Split}
+use Rattle.mq_model.specs.declared.said.SaidKind.TheVariants.{Source, Server, Delay, Loss, Tandem, ForkJoin, Split}
 use Rattle.mq_model.specs.declared.said.Said.{Said}
 use Rattle.mq_model.specs.declared.said.Said.TheVariants.{Bound, Node}
 use Rattle.mq_model.specs.Form.{◌>>=◌, Form, Word, stop, word, maybe, one, up_to}
@@ -145,6 +145,36 @@ tandem_kind = do
   all ← stages_behind first
   stop (Tandem all)
 
+-- how many demands may stand behind the first of a branch, where so many are left of the 8 of a line
+abbrev pub room_of : ℕ → ℕ
+room_of left = if nat_lt 3 left then 3 else left - 1
+
+-- a branch: 1 to 4 demands
+unfoldable pub a_branch : ℕ → Form (List SaidDemand)
+a_branch left = do
+  first ← a_demand
+  more ← up_to (room_of left) is_demand demand_of
+  stop (first ∷ more)
+
+-- at most n further branches, each behind a bar
+unfoldable pub branches : ℕ → ℕ → Form (List (List SaidDemand))
+branches zero left = stop []
+branches (suc n) left =
+    if nat_lt 0 left
+    then maybe (is_key (codes "|")) (λ _. a_branch left >>= λ demands. branches n (left - length demands) >>= λ more. stop (demands ∷ more)) (stop [])
+    else stop []
+
+unfoldable pub all_branches : Form (List (List SaidDemand))
+all_branches = do
+  first ← a_branch 8
+  _ ← key (codes "|")
+  second ← a_branch (8 - length first)
+  more ← branches 6 (8 - length first - length second)
+  stop (first ∷ second ∷ more)
+
+unfoldable pub forkjoin_kind : Form SaidKind
+forkjoin_kind = all_branches >>= λ all. stop (ForkJoin all)
+
 abbrev pub split_kind : Form SaidKind
 split_kind = a_route >>= λ route. stop (Split route)
 
@@ -169,7 +199,8 @@ kind_line =
     (maybe (is_key (codes "delay")) (λ _. node_line delay_kind)
     (maybe (is_key (codes "loss")) (λ _. node_line loss_kind)
     (maybe (is_key (codes "tandem")) (λ _. node_line tandem_kind)
-    (word (is_key (codes "split")) (λ _. node_line split_kind)))))
+    (maybe (is_key (codes "forkjoin")) (λ _. node_line forkjoin_kind)
+    (word (is_key (codes "split")) (λ _. node_line split_kind))))))
 
 unfoldable pub line : Form Said
 line = maybe (is_key (codes "bound")) (λ _. bound_line) (maybe (is_key (codes "source")) (λ _. source_line) kind_line)

@@ -23,7 +23,7 @@ use Rattle.mq_model.specs.declared.said.SaidRoute.{SaidRoute}
 use Rattle.mq_model.specs.declared.said.SaidRoute.TheVariants.{Modulo, Turn, Cut}
 use Rattle.mq_model.specs.declared.said.SaidStage.{SaidStage}
 use Rattle.mq_model.specs.declared.said.SaidKind.{SaidKind}
-use Rattle.mq_model.specs.declared.said.SaidKind.TheVariants.{Source, Server, Delay, Loss, Tandem, Split}
+use Rattle.mq_model.specs.declared.said.SaidKind.TheVariants.{Source, Server, Delay, Loss, Tandem, ForkJoin, Split}
 use Rattle.mq_model.specs.declared.said.Said.{Said}
 use Rattle.mq_model.specs.declared.said.Said.TheVariants as said
 
@@ -60,6 +60,7 @@ kind_in columns (Server d) = kind.Server (demand_in columns d)
 kind_in columns (Delay d) = kind.Delay (demand_in columns d)
 kind_in columns (Loss places d) = kind.Loss places (demand_in columns d)
 kind_in columns (Tandem stages) = kind.Tandem (map (stage_in columns) stages)
+kind_in columns (ForkJoin branches) = kind.ForkJoin (map (map (demand_in columns)) branches)
 kind_in columns (Split route) = kind.Split (route_in columns route)
 
 abbrev pub input_in : List Word → SaidInput → Input

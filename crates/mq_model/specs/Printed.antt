@@ -12,7 +12,7 @@ use Rattle.mq_model.specs.declared.said.SaidRoute.{SaidRoute}
 use Rattle.mq_model.specs.declared.said.SaidRoute.TheVariants.{Modulo, Turn, Cut}
 use Rattle.mq_model.specs.declared.said.SaidStage.{SaidStage}
 use Rattle.mq_model.specs.declared.said.SaidKind.{SaidKind}
-use Rattle.mq_model.specs.declared.said.SaidKind.TheVariants.{Source, Server, Delay, Loss, Tandem, Split}
+use Rattle.mq_model.specs.declared.said.SaidKind.TheVariants.{Source, Server, Delay, Loss, Tandem, ForkJoin, Split}
 use Rattle.mq_model.specs.declared.said.Said.{Said}
 use Rattle.mq_model.specs.declared.said.Said.TheVariants.{Bound, Node}
 
@@ -41,6 +41,14 @@ abbrev pub stages_words : List SaidStage → List Word
 stages_words [] = []
 stages_words (stage ∷ stages) = demand_word stage.demand ∷ flat_map stage_words stages
 
+-- the demands of each branch, and a bar before each further branch
+abbrev pub barred_words : List SaidDemand → List Word
+barred_words demands = codes "|" ∷ map demand_word demands
+
+abbrev pub branches_words : List (List SaidDemand) → List Word
+branches_words [] = []
+branches_words (demands ∷ branches) = map demand_word demands ++ flat_map barred_words branches
+
 -- the first word of a node's line
 abbrev pub first_word : SaidKind → Word
 first_word Source = codes "source"
@@ -48,6 +56,7 @@ first_word (Server d) = codes "server"
 first_word (Delay d) = codes "delay"
 first_word (Loss places d) = codes "loss"
 first_word (Tandem stages) = codes "tandem"
+first_word (ForkJoin branches) = codes "forkjoin"
 first_word (Split route) = codes "split"
 
 -- what stands between the name and the inputs
@@ -57,6 +66,7 @@ kind_words (Server d) = demand_word d ∷ []
 kind_words (Delay d) = demand_word d ∷ []
 kind_words (Loss places d) = decimal places ∷ demand_word d ∷ []
 kind_words (Tandem stages) = stages_words stages
+kind_words (ForkJoin branches) = branches_words branches
 kind_words (Split route) = route_words route
 
 -- a source has no inputs to be read

@@ -2,7 +2,7 @@
 use Rattle.std.specs.Prelude.{◌≡◌, ◌+◌, ℕ, List, length, drop, map, Result, Ok, Err}
 use Rattle.std.specs.Borrow.{Bor}
 use Rattle.mq_model.specs.Form.{Form, Word}
-use Rattle.mq_model.specs.Lines.{delay_kind, loss_kind, server_kind, split_kind, tandem_kind}
+use Rattle.mq_model.specs.Lines.{delay_kind, forkjoin_kind, loss_kind, server_kind, split_kind, tandem_kind}
 use Rattle.mq_model.specs.declared.said.SaidKind.{SaidKind}
 use Rattle.mq_model.specs.declared.line.KindWord.{KindWord}
 use Rattle.mq_model.specs.declared.line.KindWord.TheVariants as first
@@ -24,6 +24,7 @@ form_of first.Server = server_kind
 form_of first.Delay = delay_kind
 form_of first.Loss = loss_kind
 form_of first.Tandem = tandem_kind
+form_of first.ForkJoin = forkjoin_kind
 form_of first.Split = split_kind
 
 -- What was read, and what is left, is what the form says; and the fault is at its place, unless memory ran out.

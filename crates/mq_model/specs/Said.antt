@@ -10,7 +10,7 @@ use Rattle.mq_model.specs.declared.said.SaidRoute.{SaidRoute}
 use Rattle.mq_model.specs.declared.said.SaidRoute.TheVariants.{Modulo, Turn, Cut}
 use Rattle.mq_model.specs.declared.said.SaidStage.{SaidStage}
 use Rattle.mq_model.specs.declared.said.SaidKind.{SaidKind}
-use Rattle.mq_model.specs.declared.said.SaidKind.TheVariants.{Source, Server, Delay, Loss, Tandem, Split}
+use Rattle.mq_model.specs.declared.said.SaidKind.TheVariants.{Source, Server, Delay, Loss, Tandem, ForkJoin, Split}
 use Rattle.mq_model.specs.declared.said.Said.{Said}
 use Rattle.mq_model.specs.declared.said.Said.TheVariants.{Bound, Node}
 
@@ -38,6 +38,7 @@ mentions_of_kind (Server d) = mentions_of_demand d
 mentions_of_kind (Delay d) = mentions_of_demand d
 mentions_of_kind (Loss places d) = mentions_of_demand d
 mentions_of_kind (Tandem stages) = flat_map (λ (stage : SaidStage). mentions_of_demand stage.demand) stages
+mentions_of_kind (ForkJoin branches) = flat_map (λ demands. flat_map mentions_of_demand demands) branches
 mentions_of_kind (Split route) = mentions_of_route route
 
 abbrev pub mentioned : Said → List Word

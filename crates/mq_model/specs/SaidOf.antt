@@ -18,7 +18,7 @@ use Rattle.mq_model.specs.declared.said.SaidRoute.{SaidRoute}
 use Rattle.mq_model.specs.declared.said.SaidRoute.TheVariants.{Modulo, Turn, Cut}
 use Rattle.mq_model.specs.declared.said.SaidStage.{SaidStage}
 use Rattle.mq_model.specs.declared.said.SaidKind.{SaidKind}
-use Rattle.mq_model.specs.declared.said.SaidKind.TheVariants.{Source, Server, Delay, Loss, Tandem, Split}
+use Rattle.mq_model.specs.declared.said.SaidKind.TheVariants.{Source, Server, Delay, Loss, Tandem, ForkJoin, Split}
 use Rattle.mq_model.specs.declared.said.Said.{Said}
 use Rattle.mq_model.specs.declared.said.Said.TheVariants as said
 
@@ -44,6 +44,7 @@ kind_by columns (kind.Server d) = Server (demand_by columns d)
 kind_by columns (kind.Delay d) = Delay (demand_by columns d)
 kind_by columns (kind.Loss places d) = Loss places (demand_by columns d)
 kind_by columns (kind.Tandem stages) = Tandem (map (stage_by columns) stages)
+kind_by columns (kind.ForkJoin branches) = ForkJoin (map (map (demand_by columns)) branches)
 kind_by columns (kind.Split r) = Split (route_by columns r)
 
 abbrev pub input_by : List Word → Input → SaidInput

@@ -159,6 +159,35 @@ fn add_of_stages(
     Ok(())
 }
 
+fn add_of_demands(
+    alloc: Global,
+    demands: &[SaidDemand],
+    columns: &mut List<List<u8>>,
+) -> Result<(), ModelFault>
+    ensures ok { IfOk result (λ _. columns.new ≡ columns_after columns.old (flat_map mentions_of_demand demands.now)) }
+    ensures err { IfErr result (λ e. e ≡ ModelFault.Memory) }
+{
+    for demand in demands {
+        add_of_demand(alloc, demand, columns)?;
+    }
+    Ok(())
+}
+
+#[tactic(auto, using(crate::proofs::FrontFacts::columns))]
+fn add_of_branches(
+    alloc: Global,
+    branches: &[List<SaidDemand>],
+    columns: &mut List<List<u8>>,
+) -> Result<(), ModelFault>
+    ensures ok { IfOk result (λ _. columns.new ≡ columns_after columns.old (flat_map (λ demands. flat_map mentions_of_demand demands) branches.now)) }
+    ensures err { IfErr result (λ e. e ≡ ModelFault.Memory) }
+{
+    for demands in branches {
+        add_of_demands(alloc, demands.as_slice(), columns)?;
+    }
+    Ok(())
+}
+
 fn add_of_route(
     alloc: Global,
     route: &SaidRoute,
@@ -188,6 +217,7 @@ fn add_of_kind(
         SaidKind::Server(demand) | SaidKind::Delay(demand) | SaidKind::Loss { demand, .. } =>
             add_of_demand(alloc, demand, columns),
         SaidKind::Tandem(stages) => add_of_stages(alloc, stages.as_slice(), columns),
+        SaidKind::ForkJoin(branches) => add_of_branches(alloc, branches.as_slice(), columns),
         SaidKind::Split(route) => add_of_route(alloc, route, columns),
     }
 }

@@ -12,8 +12,11 @@ fn has_output(kind: &SaidKind, out: u8) -> bool
     ensures { result ≡ nat_lt out (outputs_of kind.now) }
 {
     match kind {
-        SaidKind::Source | SaidKind::Server(_) | SaidKind::Delay(_) | SaidKind::Tandem(_) => out
-            == 0,
+        SaidKind::Source
+        | SaidKind::Server(_)
+        | SaidKind::Delay(_)
+        | SaidKind::Tandem(_)
+        | SaidKind::ForkJoin(_) => out == 0,
         SaidKind::Loss { .. } => out < 2,
         SaidKind::Split(SaidRoute::Modulo { outputs, .. })
         | SaidKind::Split(SaidRoute::Turn { outputs }) => out < *outputs,

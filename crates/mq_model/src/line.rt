@@ -7,7 +7,7 @@ ghost use Rattle.mq_model.specs.Reading.{Reads, ReadsLine, form_of, words_from};
 use crate::parts::{Stop, read_demand, read_inputs, read_name, word_at};
 use crate::route::read_route;
 use crate::said::{Said, SaidKind};
-use crate::station::{read_loss, read_tandem};
+use crate::station::{read_forkjoin, read_loss, read_tandem};
 use mq_base::{List, read_number};
 use std::alloc::Global;
 
@@ -18,6 +18,7 @@ pub enum KindWord {
     Delay,
     Loss,
     Tandem,
+    ForkJoin,
     Split,
 }
 
@@ -36,6 +37,9 @@ fn kind_word(word: &[u8]) -> Option<KindWord>
     }
     if word == b"tandem".as_slice() {
         return Some(KindWord::Tandem);
+    }
+    if word == b"forkjoin".as_slice() {
+        return Some(KindWord::ForkJoin);
     }
     if word == b"split".as_slice() {
         return Some(KindWord::Split);
@@ -58,6 +62,7 @@ fn read_kind(
         KindWord::Delay => Ok(SaidKind::Delay(read_demand(alloc, words, at)?)),
         KindWord::Loss => read_loss(alloc, words, at),
         KindWord::Tandem => read_tandem(alloc, words, at),
+        KindWord::ForkJoin => read_forkjoin(alloc, words, at),
         KindWord::Split => Ok(SaidKind::Split(read_route(alloc, words, at)?)),
     }
 }

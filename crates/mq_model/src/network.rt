@@ -76,6 +76,38 @@ fn stages_in(
     Ok(all)
 }
 
+fn demands_in(
+    alloc: Global,
+    columns: &[List<u8>],
+    demands: &[SaidDemand],
+) -> Result<List<Demand>, ModelFault>
+    requires { length columns.now ≤ 16 }
+    ensures ok { IfOk result (λ all. all ≡ map (demand_in columns.now) demands.now) }
+    ensures err { IfErr result (λ e. e ≡ ModelFault.Memory) }
+{
+    let mut all = List::new(alloc);
+    for demand in demands {
+        all.push(demand_in(columns, demand))?;
+    }
+    Ok(all)
+}
+
+fn branches_in(
+    alloc: Global,
+    columns: &[List<u8>],
+    branches: &[List<SaidDemand>],
+) -> Result<List<List<Demand>>, ModelFault>
+    requires { length columns.now ≤ 16 }
+    ensures ok { IfOk result (λ all. all ≡ map (map (demand_in columns.now)) branches.now) }
+    ensures err { IfErr result (λ e. e ≡ ModelFault.Memory) }
+{
+    let mut all = List::new(alloc);
+    for demands in branches {
+        all.push(demands_in(alloc, columns, demands.as_slice())?)?;
+    }
+    Ok(all)
+}
+
 fn kind_in(alloc: Global, columns: &[List<u8>], kind: &SaidKind) -> Result<Kind, ModelFault>
     requires { length columns.now ≤ 16 }
     ensures ok { IfOk result (λ k. k ≡ kind_in columns.now kind.now) }
@@ -90,6 +122,11 @@ fn kind_in(alloc: Global, columns: &[List<u8>], kind: &SaidKind) -> Result<Kind,
             demand: demand_in(columns, demand),
         }),
         SaidKind::Tandem(stages) => Ok(Kind::Tandem(stages_in(alloc, columns, stages.as_slice())?)),
+        SaidKind::ForkJoin(branches) => Ok(Kind::ForkJoin(branches_in(
+            alloc,
+            columns,
+            branches.as_slice(),
+        )?)),
         SaidKind::Split(route) => Ok(Kind::Split(route_in(alloc, columns, route)?)),
     }
 }

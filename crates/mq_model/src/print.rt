@@ -2,7 +2,7 @@
 ghost use Rattle.std.specs.Prelude.{◌≡◌, ◌∷◌, ◌++◌, [], IfOk, List, OnOk, codes, decimal, map};
 ghost use Rattle.std.specs.List.{flat_map, join_with_byte};
 ghost use Rattle.mq_model.specs.Form.{Word};
-ghost use Rattle.mq_model.specs.Printed.{demand_word, first_word, input_word, inputs_words, kind_words, line_text, printed, reads_words, route_words, said_words, spaced, stage_words, stages_words};
+ghost use Rattle.mq_model.specs.Printed.{barred_words, branches_words, demand_word, first_word, input_word, inputs_words, kind_words, line_text, printed, reads_words, route_words, said_words, spaced, stage_words, stages_words};
 ghost use Rattle.mq_model.specs.SaidOf.{demand_by, input_by, kind_by, name_at, names_in, node_by, route_by, stage_by};
 
 use itoa::Buffer;
@@ -147,6 +147,51 @@ fn push_stages(text: &mut Vec<u8>, net: &Network, stages: &[Stage]) -> Result<()
     push_further(text, net, further)
 }
 
+fn push_demands(text: &mut Vec<u8>, net: &Network, demands: &[Demand]) -> Result<(), OutOfMemory>
+    ensures { OnOk result (text.new.items ≡ text.old.items ++ spaced (map demand_word (map (demand_by net.now.columns) demands.now))) }
+{
+    for demand in demands {
+        push_demand(text, net, demand)?;
+    }
+    Ok(())
+}
+
+/// Adds a bar and the demands of a branch.
+fn push_barred(text: &mut Vec<u8>, net: &Network, demands: &[Demand]) -> Result<(), OutOfMemory>
+    ensures { OnOk result (text.new.items ≡ text.old.items ++ spaced (barred_words (map (demand_by net.now.columns) demands.now))) }
+{
+    push_word(text, b"|")?;
+    push_demands(text, net, demands)
+}
+
+fn push_further_branches(
+    text: &mut Vec<u8>,
+    net: &Network,
+    branches: &[List<Demand>],
+) -> Result<(), OutOfMemory>
+    ensures { OnOk result (text.new.items ≡ text.old.items ++ spaced (flat_map barred_words (map (map (demand_by net.now.columns)) branches.now))) }
+{
+    for demands in branches {
+        push_barred(text, net, demands.as_slice())?;
+    }
+    Ok(())
+}
+
+/// Adds the branches of a fork-join, the first without a bar.
+fn push_branches(
+    text: &mut Vec<u8>,
+    net: &Network,
+    branches: &[List<Demand>],
+) -> Result<(), OutOfMemory>
+    ensures { OnOk result (text.new.items ≡ text.old.items ++ spaced (branches_words (map (map (demand_by net.now.columns)) branches.now))) }
+{
+    let [first, further @ ..] = branches else {
+        return Ok(());
+    };
+    push_demands(text, net, first.as_slice())?;
+    push_further_branches(text, net, further)
+}
+
 /// The first word of a node's line.
 fn first_word(kind: &Kind) -> &[u8]
     ensures { (columns : List Word) → result.now ≡ first_word (kind_by columns kind.now) }
@@ -157,6 +202,7 @@ fn first_word(kind: &Kind) -> &[u8]
         Kind::Delay(_) => b"delay",
         Kind::Loss { .. } => b"loss",
         Kind::Tandem(_) => b"tandem",
+        Kind::ForkJoin(_) => b"forkjoin",
         Kind::Split(_) => b"split",
     }
 }
@@ -173,6 +219,7 @@ fn push_kind(text: &mut Vec<u8>, net: &Network, kind: &Kind) -> Result<(), OutOf
             push_demand(text, net, demand)
         }
         Kind::Tandem(stages) => push_stages(text, net, stages.as_slice()),
+        Kind::ForkJoin(branches) => push_branches(text, net, branches.as_slice()),
         Kind::Split(route) => push_route(text, net, route),
     }
 }

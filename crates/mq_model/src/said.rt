@@ -46,6 +46,7 @@ pub enum SaidKind {
     Delay(SaidDemand),
     Loss { places: u32, demand: SaidDemand },
     Tandem(List<SaidStage>),
+    ForkJoin(List<List<SaidDemand>>),
     Split(SaidRoute),
 }
 

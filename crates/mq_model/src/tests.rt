@@ -215,9 +215,9 @@ fn plans_are_printed(rt: HostRuntime) {
 #[test]
 fn printed_texts_print_the_same(rt: HostRuntime) {
     let text =
-        b"# Three splits.\r\nmodel\t1\n\nsource s\nbound 0100\n  # by turns\nsplit p 2 turn from s.0\nsplit m 03 mod kind from p\nsplit c cut size 0 10 from p.1\nserver q =007 from m.2 m  c.2\nserver r size from c\ndelay w kind from q\n\tdelay v =000 from m.1\nloss b 03 size from r.0 v\ntandem t =01 / 04 size / 1 =9 from b.1 b";
+        b"# Three splits.\r\nmodel\t1\n\nsource s\nbound 0100\n  # by turns\nsplit p 2 turn from s.0\nsplit m 03 mod kind from p\nsplit c cut size 0 10 from p.1\nserver q =007 from m.2 m  c.2\nserver r size from c\ndelay w kind from q\n\tdelay v =000 from m.1\nloss b 03 size from r.0 v\ntandem t =01 / 04 size / 1 =9 from b.1 b\nforkjoin f size =1 | =02 |  kind from w t";
     let canonical =
-        b"model 1\nbound 100\nsource s\nsplit p 2 turn from s\nsplit m 3 mod kind from p\nsplit c cut size 0 10 from p.1\nserver q =7 from m.2 m c.2\nserver r size from c\ndelay w kind from q\ndelay v =0 from m.1\nloss b 3 size from r v\ntandem t =1 / 4 size / 1 =9 from b.1 b\n";
+        b"model 1\nbound 100\nsource s\nsplit p 2 turn from s\nsplit m 3 mod kind from p\nsplit c cut size 0 10 from p.1\nserver q =7 from m.2 m c.2\nserver r size from c\ndelay w kind from q\ndelay v =0 from m.1\nloss b 3 size from r v\ntandem t =1 / 4 size / 1 =9 from b.1 b\nforkjoin f size =1 | =2 | kind from w t\n";
     expect_printed(&rt, rt.alloc(), text, canonical);
     expect_printed(&rt, rt.alloc(), canonical, canonical);
 }
