@@ -54,7 +54,7 @@ fn put_words(line: &mut Line, name: &[u8], job: u32, arrive: u64)
     line.put_text(b"job ");
 }
 
-// Adds the line of a visit, by way of a line whose bytes are of no use any more.
+// Adds the line of a visit. It is written into the line that is given, whose bytes are lost.
 fn add_visit<O: Sink>(
     out: &mut O,
     pending: &mut Gather,
