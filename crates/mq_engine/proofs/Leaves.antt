@@ -6,7 +6,6 @@ use Rattle.std.proofs.lemmas.Bool.Decides.{nat_tests}
 use Rattle.std.proofs.lemmas.List.{length-map}
 use Rattle.mq_core.specs.Columns.{IsSoundLoad, IsStream, column_fates, column_late_from, column_outs, column_stream, by_first, leaving_times, pairs_of, picked, routes_from, stream_in_order, time_of_fate}
 use Rattle.mq_core.specs.Recurrences.{lindley, delayed}
-use Rattle.mq_core.specs.Laws.{Rises}
 use Rattle.mq_core.specs.Results.{Late, first_of, late_fate}
 use Rattle.mq_core.specs.Sound.{is_sound_demand, outputs_in}
 use Rattle.mq_core.specs.Handling.{demand_of_job}
@@ -20,7 +19,6 @@ use Rattle.mq_core.specs.declared.model.Network.{Network}
 use Rattle.mq_core.specs.declared.model.Route.{Route}
 use Rattle.mq_core.specs.declared.model.Rows.{Rows}
 use Rattle.mq_core.specs.declared.model.Stream.{Stream}
-use Rattle.mq_core.proofs.Each.{Each-weaker}
 use Rattle.mq_split.specs.Outs.{AreParts, outs_from}
 use Rattle.mq_engine.specs.Turns.{AreStreams, IsLeaving, IsLoad}
 use Rattle.mq_engine.proofs.Lists.{drop_at, Each-get_or}

@@ -1,5 +1,5 @@
 -- What becomes of the arrivals at a loss station.
-use Rattle.std.proofs.Common.{◌≡◌, ℕ, zero, suc, ◌+◌, ◌<◌, ◌≤◌, Bool, true, false, List, [], ◌∷◌, ◌++◌, length, drop, map, Some, None, sym, refl, ap, ◌∙◌, subst, arith, append_assoc}
+use Rattle.std.proofs.Common.{◌≡◌, ℕ, zero, suc, ◌+◌, ◌<◌, ◌≤◌, Bool, true, false, List, [], ◌∷◌, ◌++◌, length, drop, map, Some, sym, refl, ap, ◌∙◌, arith, append_assoc}
 use Rattle.std.specs.Prelude.{IsTrue, nat_le, slice_get}
 use Rattle.std.proofs.lemmas.Bool.{and_parts}
 use Rattle.std.proofs.lemmas.Bool.Decides.{nat_tests}
@@ -20,7 +20,7 @@ use Rattle.mq_loss.specs.Rounds.{IsSettled, admits, departures_in}
 use Rattle.mq_loss.specs.declared.answer.Settled.{Settled}
 use Rattle.mq_split.specs.Outs.{picked_stream}
 use Rattle.mq_engine.specs.Losses.{fates_by}
-use Rattle.mq_engine.specs.Turns.{AreStreams, IsLeaving}
+use Rattle.mq_engine.specs.Turns.{IsLeaving}
 use Rattle.mq_engine.proofs.Lists.{drop_at}
 
 -- one arrival further: one that is admitted takes the next departure

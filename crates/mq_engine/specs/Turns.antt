@@ -1,13 +1,11 @@
 -- What one turn of the engine makes of a node, in columns alone.
-use Rattle.std.specs.Prelude.{◌≡◌, ◌<◌, ◌≤◌, ◌^◌, ℕ, IsTrue, if◌then◌else◌, List, [], length, map, Option, Some, None, slice_get}
+use Rattle.std.specs.Prelude.{◌≡◌, ◌<◌, ◌≤◌, ◌^◌, ℕ, IsTrue, if◌then◌else◌, List, [], length, Option, Some, None, slice_get}
 use Rattle.std.specs.List.{AllByRecursion, flat_map}
-use Rattle.mq_core.specs.Columns.{IsStream, pairs_of, rows_at, column_fates, column_stream, column_visits, time_of_fate}
-use Rattle.mq_core.specs.Laws.{Rises}
+use Rattle.mq_core.specs.Columns.{IsStream, pairs_of, rows_at, column_fates, column_stream, column_visits}
 use Rattle.mq_core.specs.PlanLaws.{Tells}
 use Rattle.mq_core.specs.Sound.{is_sound_kind, outputs_in}
 use Rattle.mq_core.specs.Wiring.{is_source_kind}
 use Rattle.mq_core.specs.declared.model.Fate.{Fate}
-use Rattle.mq_core.specs.declared.model.Fate.TheVariants.{Departs}
 use Rattle.mq_core.specs.declared.model.Input.{Input}
 use Rattle.mq_core.specs.declared.model.Kind.{Kind}
 use Rattle.mq_core.specs.declared.model.Network.{Network}

@@ -1,4 +1,4 @@
-use Rattle.std.proofs.Common.{◌≡◌, length, ap, ◌∙◌, arith}
+use Rattle.std.proofs.Common.{length, ap, arith}
 use Rattle.mq_engine.proofs.turns.turn.Goals as goal
 
 pub first_late-requires : goal.first_late-requires
