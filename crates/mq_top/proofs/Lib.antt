@@ -1,1 +1,8 @@
 pub mod Told
+mod WordRows
+pub mod FoundRows
+pub mod Walks
+pub mod Reading
+pub mod ReadWords
+pub mod Matches
+pub mod Faults

@@ -1,5 +1,5 @@
 -- The answer to a model and a trace, as the definitions give it.
-use Rattle.std.specs.Prelude.{ℕ, List, Option, Some, None}
+use Rattle.std.specs.Prelude.{ℕ, Bool, List, Option, Some, None}
 use Rattle.mq_core.specs.NetworkRun.{past_in}
 use Rattle.mq_core.specs.Results.{Late}
 use Rattle.mq_core.specs.declared.model.Network.{Network}
@@ -18,23 +18,24 @@ pub data Answer : Type 0 where
   PassesBound : Late → Answer
   Reported : List ℕ → Answer
 
--- the report of the sequential event-list run, unless a visit departs past the bound
-abbrev pub run_answer : Network → Rows → Option Late → Answer
-run_answer net rows (Some late) = PassesBound late
-run_answer net rows None = Reported (report_in net rows)
+-- the report of the sequential event-list run, with the lines of the jobs where they are asked for, unless a visit
+-- departs past the bound
+abbrev pub run_answer : Network → Rows → Bool → Option Late → Answer
+run_answer net rows jobs (Some late) = PassesBound late
+run_answer net rows jobs None = Reported (report_in net rows jobs)
 
 -- what a trace gives over an accepted model
-abbrev pub trace_answer : Network → List ℕ → Option TraceFault → Answer
-trace_answer net trace (Some fault) = TraceRefused fault
-trace_answer net trace None = run_answer net (rows_in net trace) (past_in net (rows_in net trace))
+abbrev pub trace_answer : Network → List ℕ → Bool → Option TraceFault → Answer
+trace_answer net trace jobs (Some fault) = TraceRefused fault
+trace_answer net trace jobs None = run_answer net (rows_in net trace) jobs (past_in net (rows_in net trace))
 
-abbrev pub answer_over : Network → List ℕ → Answer
-answer_over net trace = trace_answer net trace (trace_fault net trace)
+abbrev pub answer_over : Network → List ℕ → Bool → Answer
+answer_over net trace jobs = trace_answer net trace jobs (trace_fault net trace)
 
-abbrev pub model_answer : List ℕ → List ℕ → Option ModelFault → Answer
-model_answer model trace (Some fault) = ModelRefused fault
-model_answer model trace None = answer_over (network_in model) trace
+abbrev pub model_answer : List ℕ → List ℕ → Bool → Option ModelFault → Answer
+model_answer model trace jobs (Some fault) = ModelRefused fault
+model_answer model trace jobs None = answer_over (network_in model) trace jobs
 
--- the answer to the bytes of a model and of a trace
-abbrev pub answer : List ℕ → List ℕ → Answer
-answer model trace = model_answer model trace (model_fault model)
+-- the answer to the bytes of a model and of a trace; `jobs` says that the lines of the jobs are asked for
+abbrev pub answer : List ℕ → List ℕ → Bool → Answer
+answer model trace jobs = model_answer model trace jobs (model_fault model)

@@ -1,4 +1,5 @@
 pub mod Words
+pub mod Matched
 pub mod Answer
 pub mod Ends
 pub mod Lines

@@ -11,6 +11,8 @@ use Rattle.mq_trace.specs.declared.fault.TraceFault.{TraceFault}
 use Rattle.mq_trace.specs.declared.fault.TraceFault.TheVariants as trace
 use Rattle.mq_top.specs.declared.outcome.Outcome.{Outcome}
 use Rattle.mq_top.specs.declared.outcome.Outcome.TheVariants.{Done, Usage, Model, Trace, Past, ReadFault, WriteFault, Memory}
+use Rattle.mq_top.specs.declared.outcome.UsageFault.{UsageFault}
+use Rattle.mq_top.specs.declared.outcome.UsageFault.TheVariants as usage
 
 abbrev pub model_line : ModelFault → List ℕ
 model_line model.TooLong = codes "mpsim: model: longer than 65536 bytes" ++ 10 ∷ []
@@ -40,10 +42,16 @@ trace_line name trace.Memory = codes "mpsim: out of memory" ++ 10 ∷ []
 abbrev pub past_line : List ℕ → PastFault → List ℕ
 past_line name f = codes "mpsim: node " ++ name ++ codes " position " ++ decimal f.position ++ codes " passes the bound at time " ++ decimal f.time ++ 10 ∷ []
 
+abbrev pub usage_line : UsageFault → List ℕ
+usage_line usage.Words = codes "mpsim: usage: mpsim MODEL TRACE [--workers N] [--block N] [--jobs]" ++ 10 ∷ []
+usage_line usage.Form = codes "mpsim: usage: mpsim MODEL TRACE [--workers N] [--block N] [--jobs]" ++ 10 ∷ []
+usage_line usage.Workers = codes "mpsim: --workers takes a whole number from 1 to 64" ++ 10 ∷ []
+usage_line usage.Block = codes "mpsim: --block takes a whole number from 1 to 65536" ++ 10 ∷ []
+
 -- the line of an outcome, with the name that it speaks of
 abbrev pub line_text : List ℕ → Outcome → List ℕ
 line_text name Done = []
-line_text name (Usage f) = codes "mpsim: usage: mpsim MODEL TRACE" ++ 10 ∷ []
+line_text name (Usage f) = usage_line f
 line_text name (Model f) = model_line f
 line_text name (Trace f) = trace_line name f
 line_text name (Past f) = past_line name f

@@ -1,16 +1,118 @@
--- The words behind the program's name: the model's name and the trace's.
-use Rattle.std.specs.Prelude.{◌≡◌, ℕ, Bool, ◌||◌, List, [], ◌∷◌, length, ◌==◌, slice_index, not, false}
+-- The words behind the program's name: which lists are refused and why, and what the others ask for.
+use Rattle.std.specs.Prelude.{◌≡◌, ◌==◌, ◌&&◌, ◌||◌, ℕ, Bool, true, false, not, List, [], ◌∷◌, length, codes, bytes_eq, slice_index, slice_get, nat_lt, nat_le, Option, Some, None, is_none, if◌then◌else◌}
 use Rattle.std.specs.List.{list_any}
+use Rattle.mq_base.specs.Text.{number_of}
+use Rattle.mq_top.specs.declared.outcome.UsageFault.{UsageFault}
+use Rattle.mq_top.specs.declared.outcome.UsageFault.TheVariants.{Words, Form, Workers, Block}
+use Rattle.mq_top.specs.declared.words.Settings.{Settings}
+
+-- the options: two that take a value, and a flag
+abbrev pub workers_option : List ℕ
+workers_option = codes "--workers"
+
+abbrev pub block_option : List ℕ
+block_option = codes "--block"
+
+abbrev pub jobs_option : List ℕ
+jobs_option = codes "--jobs"
 
 -- the word begins with a dash
-abbrev pub is_option : List ℕ → Bool
-is_option word = slice_index word 0 == 45
+abbrev pub begins_with_dash : List ℕ → Bool
+begins_with_dash word = slice_index word 0 == 45
 
--- there aren't two words, or one begins with a dash
+-- an option that takes a value
+abbrev pub takes_value : List ℕ → Bool
+takes_value word = bytes_eq word workers_option || bytes_eq word block_option
+
+abbrev pub is_option : List ℕ → Bool
+is_option word = takes_value word || bytes_eq word jobs_option
+
+-- begins with a dash, and is no option
+abbrev pub is_unknown : List ℕ → Bool
+is_unknown word = begins_with_dash word && not (is_option word)
+
+-- empty, or an unknown option
+abbrev pub is_bad_word : List ℕ → Bool
+is_bad_word word = (length word == 0) || is_unknown word
+
+-- the word stands in the list
+abbrev pub has_word : List ℕ → List (List ℕ) → Bool
+has_word word words = list_any (λ w. bytes_eq w word) words
+
+-- the word stands in the list, and once more behind that place
+abbrev pub stands_twice : List ℕ → List (List ℕ) → Bool
+stands_twice word [] = false
+stands_twice word (w ∷ rest) = (bytes_eq w word && has_word word rest) || stands_twice word rest
+
+-- there is a first word, and it doesn't begin with a dash
+abbrev pub begins_with_value : List (List ℕ) → Bool
+begins_with_value [] = false
+begins_with_value (w ∷ rest) = not (begins_with_dash w)
+
+-- an option that takes a value isn't directly followed by one
+abbrev pub lacks_value : List (List ℕ) → Bool
+lacks_value [] = false
+lacks_value (w ∷ rest) = (takes_value w && not (begins_with_value rest)) || lacks_value rest
+
+-- the words that are left when the options and the words directly behind those that take a value are taken out; `is_value`
+-- says that the first word is such a value
+abbrev pub left_from : Bool → List (List ℕ) → List (List ℕ)
+left_from is_value [] = []
+left_from true (w ∷ rest) = left_from false rest
+left_from false (w ∷ rest) = if takes_value w then left_from true rest else if is_option w then left_from false rest else w ∷ left_from false rest
+
+abbrev pub words_left : List (List ℕ) → List (List ℕ)
+words_left words = left_from false words
+
+-- a word is empty or an unknown option, an option stands twice or lacks its value, or more than two words are left
 abbrev pub refuses_words : List (List ℕ) → Bool
-refuses_words words = not (length words == 2) || list_any is_option words
+refuses_words words = list_any is_bad_word words || stands_twice workers_option words
+    || stands_twice block_option words || stands_twice jobs_option words || lacks_value words || nat_lt 2 (length (words_left words))
+
+-- the word directly behind the option
+abbrev pub value_of : List ℕ → List (List ℕ) → Option (List ℕ)
+value_of option [] = None
+value_of option (w ∷ rest) = if bytes_eq w option then slice_get rest 0 else value_of option rest
+
+-- the number where it is there and not below `least`
+abbrev pub at_least : ℕ → Option ℕ → Option ℕ
+at_least least None = None
+at_least least (Some n) = if nat_le least n then Some n else None
+
+-- the number that the value of an option asks for, from `least` to `most`; the default where there is no value
+abbrev pub number_asked : (default least most : ℕ) → Option (List ℕ) → Option ℕ
+number_asked default least most None = Some default
+number_asked default least most (Some text) = at_least least (number_of text most)
+
+-- the number of workers, from 1 to 64
+abbrev pub workers_asked : List (List ℕ) → Option ℕ
+workers_asked words = number_asked 4 1 64 (value_of workers_option words)
+
+-- the number of jobs in a block, from 1 to 65,536
+abbrev pub block_asked : List (List ℕ) → Option ℕ
+block_asked words = number_asked 4096 1 65536 (value_of block_option words)
+
+-- the lines of the jobs are asked for
+abbrev pub jobs_asked : List (List ℕ) → Bool
+jobs_asked words = has_word jobs_option words
+
+-- the first fault of the words, or none
+abbrev pub usage_fault : List (List ℕ) → Option UsageFault
+usage_fault words =
+    if refuses_words words then Some Words
+    else if not (length (words_left words) == 2) then Some Form
+    else if is_none (workers_asked words) then Some Workers
+    else if is_none (block_asked words) then Some Block
+    else None
 
 -- the words are accepted, and name this model and this trace
 pub record Names (words : List (List ℕ)) (model trace : List ℕ) : Type 0 where
-  pub accepted : refuses_words words ≡ false
-  pub named : words ≡ model ∷ trace ∷ []
+  pub accepted : usage_fault words ≡ None
+  pub named : words_left words ≡ model ∷ trace ∷ []
+
+-- the words are accepted, and ask for these settings
+pub record Asks (words : List (List ℕ)) (s : Settings) : Type 0 where
+  pub names : Names words s.model.now s.trace.now
+  pub workers : workers_asked words ≡ Some s.workers
+  pub block : block_asked words ≡ Some s.block
+  pub jobs : jobs_asked words ≡ s.jobs

@@ -3,6 +3,7 @@
 
 mod line;
 mod outcome;
+mod rule;
 mod stages;
 #[cfg(test)]
 mod tests;

@@ -2,9 +2,9 @@
 ghost use Rattle.std.specs.Prelude.{◌≡◌, [], ◌∷◌, ◌++◌, length, decimal, OnOk, OnErr};
 ghost use Rattle.mq_base.specs.Outside.{Rose, TakesFirst, TakesPrefix};
 ghost use Rattle.mq_base.specs.Pieces.{pieces_text};
-ghost use Rattle.mq_top.specs.Lines.{PutsLine, line_text, model_line, trace_line, past_line, name_of as name_of_outcome};
+ghost use Rattle.mq_top.specs.Lines.{PutsLine, line_text, model_line, trace_line, past_line, usage_line, name_of as name_of_outcome};
 
-use crate::outcome::Outcome;
+use crate::outcome::{Outcome, UsageFault};
 use mq_base::{Gather, Piece, Sink, SinkFault, add_pieces, flush};
 use mq_core::Network;
 use mq_engine::PastFault;
@@ -109,6 +109,21 @@ fn put_numbered_twice<'a, E: Sink>(
     );
 }
 
+fn put_usage_line<E: Sink>(err: &mut E, fault: &UsageFault)
+    ensures { PutsLine (E.taken err.old) (E.taken err.new) (E.sure err.old) (E.sure err.new) (E.faults err.old) (E.faults err.new) (usage_line fault.now) }
+{
+    match fault {
+        UsageFault::Words | UsageFault::Form => put_text(
+            err,
+            b"mpsim: usage: mpsim MODEL TRACE [--workers N] [--block N] [--jobs]",
+        ),
+        UsageFault::Workers => {
+            put_text(err, b"mpsim: --workers takes a whole number from 1 to 64")
+        }
+        UsageFault::Block => put_text(err, b"mpsim: --block takes a whole number from 1 to 65536"),
+    }
+}
+
 // Puts the line of a node that passes the bound.
 fn put_past_line<E: Sink>(err: &mut E, name: &[u8], fault: &PastFault)
     ensures { PutsLine (E.taken err.old) (E.taken err.new) (E.sure err.old) (E.sure err.new) (E.faults err.old) (E.faults err.new) (past_line name.now fault.now) }
@@ -198,7 +213,7 @@ pub fn put_line<E: Sink>(err: &mut E, name: &[u8], outcome: &Outcome)
 {
     match outcome {
         Outcome::Done => put_pieces(err, &[]),
-        Outcome::Usage(_) => put_text(err, b"mpsim: usage: mpsim MODEL TRACE"),
+        Outcome::Usage(fault) => put_usage_line(err, fault),
         Outcome::Model(fault) => put_model_line(err, fault),
         Outcome::Trace(fault) => put_trace_line(err, name, fault),
         Outcome::Past(fault) => put_past_line(err, name, fault),

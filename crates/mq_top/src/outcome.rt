@@ -9,8 +9,15 @@ use mq_trace::TraceFault;
 /// Why the words are refused.
 #[derive(Clone, Copy, Debug, PartialEq, Eq)]
 pub enum UsageFault {
-    /// There aren't two words, or one begins with a dash.
+    /// A word is empty or an unknown option, an option stands twice or lacks its value, or more
+    /// than two words are left.
     Words,
+    /// There aren't two names.
+    Form,
+    /// The number of workers isn't a number from 1 to 64.
+    Workers,
+    /// The number of jobs in a block isn't a number from 1 to 65,536.
+    Block,
 }
 
 /// How a call ends.

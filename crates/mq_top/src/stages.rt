@@ -12,11 +12,11 @@ ghost use Rattle.mq_top.specs.Answer.{answer, answer_over, run_answer};
 ghost use Rattle.mq_top.specs.Answer.Answer.{Reported};
 ghost use Rattle.mq_top.specs.Ends.{Ends, FailedAt, IsLate, Reads, RefusesModel, RefusesTrace, Untouched};
 ghost use Rattle.mq_top.specs.Lines.{PutsLine, line_text, name_of as name_of_outcome};
-ghost use Rattle.mq_top.specs.Words.{refuses_words, Names};
+ghost use Rattle.mq_top.specs.Words.{Names, jobs_asked, refuses_words, usage_fault};
 
 use crate::line::{name_of, put_line};
 use crate::outcome::{Outcome, UsageFault};
-use crate::words::names_of;
+use crate::words::settings_of;
 use mq_base::{FileFault, Files, Sink};
 use mq_core::{Plan, Rows, runs_are_of_networks};
 use mq_engine::{RunFault, run};
@@ -93,14 +93,14 @@ fn accept_trace<F: Files>(
     }
 }
 
-// Runs a plan over its rows, and writes the report.
-fn report_run<O: Sink>(alloc: Global, plan: &Plan, rows: &Rows, out: &mut O) -> Outcome
+// Runs a plan over its rows, and writes the report, with the lines of the jobs where they are asked for.
+fn report_run<O: Sink>(alloc: Global, plan: &Plan, rows: &Rows, jobs: bool, out: &mut O) -> Outcome
     requires { IsReadFor plan.now.net rows.now }
-    ensures ends { Ends (run_answer plan.now.net rows.now (past_in plan.now.net rows.now)) result (record { before = O.taken out.old; now = O.taken out.new; sure_before = O.sure out.old; sure_now = O.sure out.new }) }
+    ensures ends { Ends (run_answer plan.now.net rows.now jobs (past_in plan.now.net rows.now)) result (record { before = O.taken out.old; now = O.taken out.new; sure_before = O.sure out.old; sure_now = O.sure out.new }) }
     ensures unread { (second : Bool) → result ≢ Outcome.ReadFault second }
     ensures later { O.faults out.old ≤ O.faults out.new }
     ensures rose { result ≡ Outcome.WriteFault → Rose (O.faults out.old) (O.faults out.new) }
-    ensures sure { length (report_in plan.now.net rows.now) ≤ O.sure out.old → O.faults out.new ≡ O.faults out.old }
+    ensures sure { length (report_in plan.now.net rows.now jobs) ≤ O.sure out.old → O.faults out.new ≡ O.faults out.old }
     ensures untouched { Untouched result out.old out.new }
 {
     runs_are_of_networks();
@@ -109,7 +109,7 @@ fn report_run<O: Sink>(alloc: Global, plan: &Plan, rows: &Rows, out: &mut O) -> 
         Err(RunFault::Past(fault)) => return Outcome::Past(fault),
         Err(RunFault::Memory) => return Outcome::Memory,
     };
-    match report(plan, rows, &run, out) {
+    match report(plan, rows, &run, jobs, out) {
         Ok(()) => Outcome::Done,
         Err(_) => Outcome::WriteFault,
     }
@@ -120,10 +120,11 @@ fn run_trace<F: Files, O: Sink>(
     alloc: Global,
     plan: &Plan,
     name: &str,
+    jobs: bool,
     files: &mut F,
     out: &mut O,
 ) -> Outcome
-    ensures ends { IfSome (F.told files.old name.now) (λ trace. Ends (answer_over plan.now.net trace) result (record { before = O.taken out.old; now = O.taken out.new; sure_before = O.sure out.old; sure_now = O.sure out.new })) }
+    ensures ends { IfSome (F.told files.old name.now) (λ trace. Ends (answer_over plan.now.net trace jobs) result (record { before = O.taken out.old; now = O.taken out.new; sure_before = O.sure out.old; sure_now = O.sure out.new })) }
     ensures late { IsLate result }
     ensures counted { F.reads files.new ≡ next_count (F.reads files.old) }
     ensures files_later { F.faults files.old ≤ F.faults files.new }
@@ -133,18 +134,19 @@ fn run_trace<F: Files, O: Sink>(
 
     ensures later { O.faults out.old ≤ O.faults out.new }
     ensures rose { result ≡ Outcome.WriteFault → Rose (O.faults out.old) (O.faults out.new) }
-    ensures sure { (trace text : List ℕ) → F.told files.old name.now ≡ Some trace → answer_over plan.now.net trace ≡ Reported text → length text ≤ O.sure out.old → O.faults out.new ≡ O.faults out.old }
+    ensures sure { (trace text : List ℕ) → F.told files.old name.now ≡ Some trace → answer_over plan.now.net trace jobs ≡ Reported text → length text ≤ O.sure out.old → O.faults out.new ≡ O.faults out.old }
     ensures untouched { Untouched result out.old out.new }
 {
     match accept_trace(alloc, plan, name, files) {
-        Ok(rows) => report_run(alloc, plan, &rows, out),
+        Ok(rows) => report_run(alloc, plan, &rows, jobs, out),
         Err(outcome) => outcome,
     }
 }
 
 /// Reads the model and the trace that the words name, runs the network over the rows, and writes
 /// the report: the same as that of a sequential event list. The words are those behind the
-/// program's name.
+/// program's name: the two names, and among them `--workers` and `--block` with a number, which
+/// are judged and change nothing, and `--jobs`, which asks for a line for each visit.
 ///
 /// Every outcome but `Done` puts one line on `err`, whose faults change no outcome. All memory is
 /// taken before the first byte is written; `out` gains the whole report with `Done`, a first part
@@ -159,10 +161,12 @@ pub fn simulate<F: Files, O: Sink, E: Sink>(
     // A finished run has written exactly the report of the event list, and a run ends otherwise only with the fault
     // that the definitions give, or with a fault of a device or want of memory.
     ensures ends { (m t model trace : List ℕ) → Names (map (λ w. w.now) words.now) m t → F.told files.old m ≡ Some model → F.told files.old t ≡ Some trace →
-        Ends (answer model trace) result (record { before = O.taken out.old; now = O.taken out.new; sure_before = O.sure out.old; sure_now = O.sure out.new }) }
+        Ends (answer model trace (jobs_asked (map (λ w. w.now) words.now))) result (record { before = O.taken out.old; now = O.taken out.new; sure_before = O.sure out.old; sure_now = O.sure out.new }) }
 
     // The words are refused exactly so, and a model is refused whatever is told of the trace.
-    ensures usage { (result ≡ Outcome.Usage UsageFault.Words) ↔ IsTrue (refuses_words (map (λ w. w.now) words.now)) }
+    ensures usage { (fault : UsageFault) → result ≡ Outcome.Usage fault → usage_fault (map (λ w. w.now) words.now) ≡ Some fault }
+    ensures usage_comes { (fault : UsageFault) → usage_fault (map (λ w. w.now) words.now) ≡ Some fault → (result ≡ Outcome.Usage fault) ⊎ (result ≡ Outcome.Memory) }
+    ensures words { IsTrue (refuses_words (map (λ w. w.now) words.now)) → result ≡ Outcome.Usage UsageFault.Words }
     ensures model { (m t model : List ℕ) (fault : ModelFault) → Names (map (λ w. w.now) words.now) m t → F.told files.old m ≡ Some model → model_fault model ≡ Some fault →
         RefusesModel result (Some model) }
     ensures model_only { (m t model : List ℕ) (fault : ModelFault) → Names (map (λ w. w.now) words.now) m t → F.told files.old m ≡ Some model → result ≡ Outcome.Model fault → model_fault model ≡ Some fault }
@@ -174,12 +178,12 @@ pub fn simulate<F: Files, O: Sink, E: Sink>(
     ensures reads { Reads result (F.reads files.old) (F.reads files.new) }
     ensures first_name { (m t : List ℕ) → Names (map (λ w. w.now) words.now) m t → F.is_sure files.old m ≡ true → F.faults files.old < 2 ^ 64 - 1 → result ≢ Outcome.ReadFault false }
     ensures second_name { (m t : List ℕ) → Names (map (λ w. w.now) words.now) m t → F.is_sure files.old t ≡ true → F.faults files.old < 2 ^ 64 - 1 → result ≢ Outcome.ReadFault true }
-    ensures unread { IsTrue (refuses_words (map (λ w. w.now) words.now)) → files.new ≡ files.old }
+    ensures unread { (fault : UsageFault) → usage_fault (map (λ w. w.now) words.now) ≡ Some fault → files.new ≡ files.old }
     ensures sure_names { (m t : List ℕ) → Names (map (λ w. w.now) words.now) m t → F.is_sure files.old m ≡ true → F.is_sure files.old t ≡ true → F.faults files.new ≡ F.faults files.old }
     ensures files_later { F.faults files.old ≤ F.faults files.new }
     ensures out_later { O.faults out.old ≤ O.faults out.new }
     ensures write { result ≡ Outcome.WriteFault → Rose (O.faults out.old) (O.faults out.new) }
-    ensures sure { (m t model trace text : List ℕ) → Names (map (λ w. w.now) words.now) m t → F.told files.old m ≡ Some model → F.told files.old t ≡ Some trace → answer model trace ≡ Reported text →
+    ensures sure { (m t model trace text : List ℕ) → Names (map (λ w. w.now) words.now) m t → F.told files.old m ≡ Some model → F.told files.old t ≡ Some trace → answer model trace (jobs_asked (map (λ w. w.now) words.now)) ≡ Reported text →
         length text ≤ O.sure out.old → O.faults out.new ≡ O.faults out.old }
 
     // What the two outputs gain.
@@ -188,14 +192,16 @@ pub fn simulate<F: Files, O: Sink, E: Sink>(
     ensures named { (m t model : List ℕ) → Names (map (λ w. w.now) words.now) m t → F.told files.old m ≡ Some model →
         PutsLine (E.taken err.old) (E.taken err.new) (E.sure err.old) (E.sure err.new) (E.faults err.old) (E.faults err.new) (line_text (name_of_outcome (network_in model) result) result) }
 {
-    let Some((model, trace)) = names_of(words) else {
-        let outcome = Outcome::Usage(UsageFault::Words);
-        put_line(err, &[], &outcome);
-        return outcome;
+    let settings = match settings_of(alloc, words) {
+        Ok(settings) => settings,
+        Err(outcome) => {
+            put_line(err, &[], &outcome);
+            return outcome;
+        }
     };
-    match accept_model(alloc, model, files) {
+    match accept_model(alloc, settings.model, files) {
         Ok(plan) => {
-            let outcome = run_trace(alloc, &plan, trace, files, out);
+            let outcome = run_trace(alloc, &plan, settings.trace, settings.jobs, files, out);
             put_line(err, name_of(&plan.net, &outcome), &outcome);
             outcome
         }

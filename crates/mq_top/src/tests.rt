@@ -1,4 +1,4 @@
-use crate::{Outcome, UsageFault, simulate};
+use crate::{Outcome, simulate};
 use mq_base::{MemFile, MemFiles, MemSink, OutOfMemory};
 use mq_engine::PastFault;
 use mq_model::ModelFault;
@@ -8,6 +8,7 @@ use std::test::Fail;
 
 mod faults;
 mod networks;
+mod words;
 
 // A model and a trace, and what the call puts out.
 #[derive(Drop)]
@@ -36,11 +37,21 @@ fn files_of(
     Ok(MemFiles::new(files, Vec::from_slice(alloc, failing)?))
 }
 
-// The call over these two files.
-fn ran(alloc: Global, model: &[u8], trace: &[u8]) -> Result<Answered, OutOfMemory> {
+// The call with these words over these two files.
+fn ran_with(
+    alloc: Global,
+    words: &[&str],
+    model: &[u8],
+    trace: &[u8],
+) -> Result<Answered, OutOfMemory> {
     let mut files = files_of(alloc, model, trace, &[])?;
     let mut out = MemSink::new(alloc, 65_536, Vec::new(alloc));
     let mut err = MemSink::new(alloc, 65_536, Vec::new(alloc));
-    let outcome = simulate(alloc, &["m", "t"], &mut files, &mut out, &mut err);
+    let outcome = simulate(alloc, words, &mut files, &mut out, &mut err);
     Ok(Answered { outcome, out, err })
+}
+
+// The call over these two files, with no options.
+fn ran(alloc: Global, model: &[u8], trace: &[u8]) -> Result<Answered, OutOfMemory> {
+    ran_with(alloc, &["m", "t"], model, trace)
 }

@@ -1,6 +1,6 @@
 // Refusals, with their lines and statuses.
 use super::{files_of, ran};
-use crate::{Outcome, UsageFault, simulate};
+use crate::{Outcome, simulate};
 use mq_base::MemSink;
 use mq_engine::PastFault;
 use mq_model::ModelFault;
@@ -98,26 +98,6 @@ fn refusals_have_their_lines(rt: HostRuntime) -> Result<(), Fail> {
         assert_eq!(rt; ran.outcome.status(), status);
         assert_eq!(rt; ran.err.bytes(), line);
         assert!(rt; ran.out.bytes().is_empty());
-    }
-    Ok(())
-}
-
-#[test]
-fn words_are_two_names(rt: HostRuntime) -> Result<(), Fail> {
-    let alloc = rt.alloc();
-    let lists: [&[&str]; 4] = [&[], &["m"], &["m", "t", "u"], &["--help", "t"]];
-    for words in lists {
-        let mut files = files_of(alloc, DESK, ORDINARY, &[])?;
-        let mut out = MemSink::new(alloc, 64, Vec::new(alloc));
-        let mut err = MemSink::new(alloc, 64, Vec::new(alloc));
-        let outcome = simulate(alloc, words, &mut files, &mut out, &mut err);
-        assert_eq!(rt; outcome, Outcome::Usage(UsageFault::Words));
-        assert_eq!(rt; outcome.status(), 2);
-        assert_eq!(rt;
-            err.bytes(),
-            b"mpsim: usage: mpsim MODEL TRACE\n".as_slice()
-        );
-        assert!(rt; out.bytes().is_empty());
     }
     Ok(())
 }

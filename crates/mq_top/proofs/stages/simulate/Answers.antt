@@ -1,0 +1,47 @@
+use Rattle.std.proofs.Common.{rules, ◌≡◌, ◌∙◌, ◌<◌, ◌≤◌, sym, ap, subst, map, length, ℕ, List, Bool, Some, None}
+use Rattle.mq_model.specs.Model.{model_fault}
+use Rattle.mq_model.specs.NetworkOf.{network_in}
+use Rattle.mq_top.specs.Answer.{answer, answer_over}
+use Rattle.mq_top.specs.Answer.Answer.{Reported}
+use Rattle.mq_top.specs.Ends.{Ends, Taken}
+use Rattle.mq_top.specs.Lines.{PutsLine, line_text, name_of}
+use Rattle.mq_top.specs.Words.{Asks, Names, jobs_asked}
+use Rattle.mq_top.proofs.Told.{answer_is, same_names, told_is}
+use Rattle.mq_top.proofs.stages.simulate.Goals as goal
+
+pub returns-in-Ok-accept_model-clause-ends : goal.returns-in-Ok-accept_model-clause-ends
+returns-in-Ok-accept_model-clause-ends g c m t model trace names told_m told_t =
+    let words : List (List ℕ) = map (λ w. w.now) c.args.words.now in
+    let asked : Asks words c.in-Ok.settings = c.in-Ok.ensures.asked in
+    let same = same_names words m t _ _ names asked.names in
+    let of_model : g.F.Files.told c.args.files.now c.in-Ok.settings.model.now ≡ Some model = ap (g.F.Files.told c.args.files.now) (sym same.0) ∙ told_m in
+    let of_trace : g.F.Files.told c.accept_model.new.files c.in-Ok.settings.trace.now ≡ Some trace =
+    c.accept_model.ensures.same_told c.in-Ok.settings.trace.now ∙ (ap (g.F.Files.told c.args.files.now) (sym same.1) ∙ told_t) in
+    let read = told_is _ model (λ bytes. (model_fault bytes ≡ None) × (c.in-Ok-accept_model.plan.net ≡ network_in bytes)) of_model c.in-Ok-accept_model.ensures.accepted in
+    let taken : Taken =
+    record { before = g.O.Sink.taken c.args.out.now; now = g.O.Sink.taken c.run_trace-outcome.new.out; sure_before = g.O.Sink.sure c.args.out.now; sure_now = g.O.Sink.sure c.run_trace-outcome.new.out } in
+    subst (λ a. Ends a c.run_trace-outcome.result taken) (answer_is c.in-Ok-accept_model.plan.net model trace c.in-Ok.settings.jobs (jobs_asked words) read.0 read.1 (sym asked.jobs))
+    (told_is _ trace (λ bytes. Ends (answer_over c.in-Ok-accept_model.plan.net bytes c.in-Ok.settings.jobs) c.run_trace-outcome.result taken) of_trace c.run_trace-outcome.ensures.ends)
+
+pub returns-in-Ok-accept_model-clause-sure : goal.returns-in-Ok-accept_model-clause-sure
+returns-in-Ok-accept_model-clause-sure g c m t model trace text names told_m told_t is room =
+    let words : List (List ℕ) = map (λ w. w.now) c.args.words.now in
+    let asked : Asks words c.in-Ok.settings = c.in-Ok.ensures.asked in
+    let same = same_names words m t _ _ names asked.names in
+    let of_model : g.F.Files.told c.args.files.now c.in-Ok.settings.model.now ≡ Some model = ap (g.F.Files.told c.args.files.now) (sym same.0) ∙ told_m in
+    let of_trace : g.F.Files.told c.accept_model.new.files c.in-Ok.settings.trace.now ≡ Some trace =
+    c.accept_model.ensures.same_told c.in-Ok.settings.trace.now ∙ (ap (g.F.Files.told c.args.files.now) (sym same.1) ∙ told_t) in
+    let read = told_is _ model (λ bytes. (model_fault bytes ≡ None) × (c.in-Ok-accept_model.plan.net ≡ network_in bytes)) of_model c.in-Ok-accept_model.ensures.accepted in
+    c.run_trace-outcome.ensures.sure trace text of_trace
+    (answer_is c.in-Ok-accept_model.plan.net model trace c.in-Ok.settings.jobs (jobs_asked words) read.0 read.1 (sym asked.jobs) ∙ is) room
+
+pub returns-in-Ok-accept_model-clause-named : goal.returns-in-Ok-accept_model-clause-named
+returns-in-Ok-accept_model-clause-named g c m t model names told_m =
+    let words : List (List ℕ) = map (λ w. w.now) c.args.words.now in
+    let asked : Asks words c.in-Ok.settings = c.in-Ok.ensures.asked in
+    let same = same_names words m t _ _ names asked.names in
+    let of_model : g.F.Files.told c.args.files.now c.in-Ok.settings.model.now ≡ Some model = ap (g.F.Files.told c.args.files.now) (sym same.0) ∙ told_m in
+    let read = told_is _ model (λ bytes. (model_fault bytes ≡ None) × (c.in-Ok-accept_model.plan.net ≡ network_in bytes)) of_model c.in-Ok-accept_model.ensures.accepted in
+    subst (λ text. PutsLine (g.E.Sink.taken c.args.err.now) (g.E.Sink.taken c.put_line-in-Ok-accept_model.new.err) (g.E.Sink.sure c.args.err.now)
+    (g.E.Sink.sure c.put_line-in-Ok-accept_model.new.err) (g.E.Sink.faults c.args.err.now) (g.E.Sink.faults c.put_line-in-Ok-accept_model.new.err) (line_text text c.run_trace-outcome.result)) (c.name_of.ensures ∙ ap (λ net. name_of net c.run_trace-outcome.result) read.1)
+    c.put_line-in-Ok-accept_model.ensures

@@ -1,0 +1,41 @@
+use Rattle.std.proofs.Common.{rules, ap, ap₂, codes, true, map, List, ℕ, ◌≡◌, ◌∙◌}
+use Rattle.std.proofs.lemmas.Result.{IfErr-weaker, IfOk-weaker}
+use Rattle.clap.specs.Matches.{found_of}
+use Rattle.clap.specs.Simple.{App, app_of, app_of_fields, is_simple, matches_of, new_rule, with_rule}
+use Rattle.clap.specs.Takes.{takes}
+use Rattle.clap.specs.Walk.{rule_of}
+use Rattle.mq_top.proofs.Matches.{finds, taken}
+use Rattle.mq_top.proofs.Walks.{app, app_is_simple, bare_app, jobs_rule, option_rule}
+use Rattle.mq_top.proofs.words.matches_of.Goals as goal
+
+-- what the two settings make of the command
+abbrev set : App → App
+set a = record a { top = record a.top { no_binary_name = true; disable_help_flag = true } }
+
+-- the command is the one that the lemmas are about
+command_is : (c : goal.After-try_get_matches_from) → app_of c.in_ok-command.command ≡ app
+command_is c =
+    let model_is : rule_of c.new-model.result ≡ new_rule (codes "model") = search rules in
+    let trace_is : rule_of c.new-trace.result ≡ new_rule (codes "trace") = search rules in
+    let workers_is : rule_of c.long-workers.result ≡ option_rule (codes "workers") = search rules in
+    let block_is : rule_of c.long-block.result ≡ option_rule (codes "block") = search rules in
+    let jobs_is : rule_of c.action-jobs.result ≡ jobs_rule = search rules in
+    let bare : app_of c.disable_help_flag.result ≡ bare_app =
+    ap app_of_fields c.disable_help_flag.ensures
+    ∙ (ap (λ f. app_of_fields (record f { disable_help_flag = true })) c.no_binary_name.ensures ∙ ap set c.new-4.ensures.app) in
+    c.in_ok-command.ensures.shape (search rules)
+    ∙ ap₂ with_rule (c.in_ok-arg-4.ensures.shape (search rules)
+    ∙ ap₂ with_rule (c.in_ok-arg-3.ensures.shape (search rules)
+    ∙ ap₂ with_rule (c.in_ok-arg-2.ensures.shape (search rules)
+    ∙ ap₂ with_rule (c.in_ok-arg.ensures.shape (search rules) ∙ ap₂ with_rule bare model_is) trace_is) workers_is) block_is) jobs_is
+
+pub returns-clause-found : goal.returns-clause-found
+returns-clause-found c pass =
+    let words : List (List ℕ) = map (λ w. w.now) c.args.words.now in
+    IfOk-weaker c.try_get_matches_from.result _ _
+    (λ m h. finds words (found_of m) pass ((h (ap is_simple (command_is c) ∙ app_is_simple)).0 ∙ ap (λ a. matches_of a words) (command_is c))) c.try_get_matches_from.ensures.matches
+
+pub returns-clause-memory : goal.returns-clause-memory
+returns-clause-memory c pass =
+    let words : List (List ℕ) = map (λ w. w.now) c.args.words.now in
+    IfErr-weaker c.try_get_matches_from.result _ _ (λ e h. h (ap (λ a. takes a words) (command_is c) ∙ taken words pass)) c.try_get_matches_from.ensures.passes
