@@ -8,6 +8,7 @@ use std::test::Fail;
 
 mod faults;
 mod networks;
+mod stations;
 mod words;
 
 // A model and a trace, and what the call puts out.

@@ -12,7 +12,7 @@ const DESK: &[u8] = b"model 1\nsource src\nserver desk d from src\n";
 const ORDINARY: &[u8] = b"source,time,d\nsrc,0,4\nsrc,1,1\nsrc,2,3\n";
 
 // Each model and trace with its outcome, its status and its line.
-const REFUSALS: [(&[u8], &[u8], Outcome, u8, &[u8]); 9] = [
+const REFUSALS: [(&[u8], &[u8], Outcome, u8, &[u8]); 10] = [
     (
         b"model 1\n",
         ORDINARY,
@@ -21,11 +21,19 @@ const REFUSALS: [(&[u8], &[u8], Outcome, u8, &[u8]); 9] = [
         b"mpsim: model: no source\n",
     ),
     (
-        b"model 1\nsource src\ndelay q =1 from src\n",
+        b"model 1\nsource src\nqueue q =1 from src\n",
         ORDINARY,
         Outcome::Model(ModelFault::BadLine { line: 3, word: 1 }),
         3,
         b"mpsim: model line 3: word 1 not allowed\n",
+    ),
+    // a tandem of one stage
+    (
+        b"model 1\nsource s\ntandem t =1 from s\n",
+        ORDINARY,
+        Outcome::Model(ModelFault::BadLine { line: 3, word: 4 }),
+        3,
+        b"mpsim: model line 3: word 4 not allowed\n",
     ),
     (
         b"model 1\nsource s\nserver a =1 from s b\nserver b =1 from a\n",

@@ -85,7 +85,7 @@ fn workers_and_block_change_nothing(rt: HostRuntime) -> Result<(), Fail> {
 }
 
 // Each model and trace with the lines that `--jobs` adds to its report.
-const JOBS: [(&[u8], &[u8], &[u8]); 3] = [
+const JOBS: [(&[u8], &[u8], &[u8]); 5] = [
     (
         DESK,
         ORDINARY,
@@ -105,6 +105,23 @@ const JOBS: [(&[u8], &[u8], &[u8]); 3] = [
         b"source,time,d\na,5,2\nb,5,3\n",
         b"job 1 a arrive 5 wait 0 depart 5\njob 2 b arrive 5 wait 0 depart 5\n\
         job 2 q arrive 5 wait 0 depart 8\njob 1 q arrive 5 wait 3 depart 10\n",
+    ),
+    // a job overtakes another in a delay
+    (
+        b"model 1\nsource src\ndelay w d from src\nserver q =2 from w\n",
+        b"source,time,d\nsrc,0,5\nsrc,1,1\n",
+        b"job 1 src arrive 0 wait 0 depart 0\njob 2 src arrive 1 wait 0 depart 1\n\
+        job 1 w arrive 0 wait 0 depart 5\njob 2 w arrive 1 wait 0 depart 2\n\
+        job 2 q arrive 2 wait 0 depart 4\njob 1 q arrive 5 wait 0 depart 7\n",
+    ),
+    // every other job is turned away
+    (
+        b"model 1\nsource src\nloss l 1 =2 from src\n",
+        b"source,time\nsrc,0\nsrc,1\nsrc,2\nsrc,3\n",
+        b"job 1 src arrive 0 wait 0 depart 0\njob 2 src arrive 1 wait 0 depart 1\n\
+        job 3 src arrive 2 wait 0 depart 2\njob 4 src arrive 3 wait 0 depart 3\n\
+        job 1 l arrive 0 wait 0 depart 2\njob 2 l arrive 1 lost\n\
+        job 3 l arrive 2 wait 0 depart 4\njob 4 l arrive 3 lost\n",
     ),
 ];
 
