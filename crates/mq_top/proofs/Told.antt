@@ -5,7 +5,7 @@ use Rattle.std.specs.declared.option.Option.{Option}
 use Rattle.mq_core.specs.declared.model.Network.{Network}
 use Rattle.mq_model.specs.Model.{model_fault}
 use Rattle.mq_model.specs.NetworkOf.{network_in}
-use Rattle.mq_top.specs.Answer.{Answer, answer, answer_over, model_answer}
+use Rattle.mq_top.specs.Answer.{answer, answer_over, model_answer}
 use Rattle.mq_top.specs.Words.{Names}
 
 pub if_told : (told : Option (List ℕ)) (P Q : List ℕ → Type 0) → IfSome told P → ((bytes : List ℕ) → P bytes → Q bytes) → IfSome told Q

@@ -1,11 +1,10 @@
-use Rattle.std.proofs.Common.{rules, ◌≡◌, ◌∙◌, ◌<◌, ◌≤◌, sym, ap, subst, map, length, ℕ, List, Bool, Some, None}
+use Rattle.std.proofs.Common.{◌≡◌, ◌∙◌, sym, ap, subst, map, ℕ, List, Some, None}
 use Rattle.mq_model.specs.Model.{model_fault}
 use Rattle.mq_model.specs.NetworkOf.{network_in}
-use Rattle.mq_top.specs.Answer.{answer, answer_over}
-use Rattle.mq_top.specs.Answer.Answer.{Reported}
+use Rattle.mq_top.specs.Answer.{answer_over}
 use Rattle.mq_top.specs.Ends.{Ends, Taken}
 use Rattle.mq_top.specs.Lines.{PutsLine, line_text, name_of}
-use Rattle.mq_top.specs.Words.{Asks, Names, jobs_asked}
+use Rattle.mq_top.specs.Words.{Asks, jobs_asked}
 use Rattle.mq_top.proofs.Told.{answer_is, same_names, told_is}
 use Rattle.mq_top.proofs.stages.simulate.Goals as goal
 
