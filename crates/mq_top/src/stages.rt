@@ -72,6 +72,8 @@ fn accept_trace<F: Files>(
     ensures sure { F.is_sure files.old name.now ≡ true → F.faults files.new ≡ F.faults files.old }
     ensures rose { IsErrOf result (Outcome.ReadFault true) → Rose (F.faults files.old) (F.faults files.new) }
     ensures quiet { IsErrOf result (Outcome.ReadFault true) ⊎ (F.faults files.new ≡ F.faults files.old) }
+    ensures same_told { (n : List ℕ) → F.told files.new n ≡ F.told files.old n }
+    ensures same_sure { (n : List ℕ) → F.is_sure files.new n ≡ F.is_sure files.old n }
 
     ensures read { IfOk result (λ rows. IsReadFor plan.now.net rows) }
     ensures accepted { IfOk result (λ rows. IfSome (F.told files.old name.now) (λ bytes. (trace_fault plan.now.net bytes ≡ None) × (rows ≡ rows_in plan.now.net bytes))) }
@@ -131,6 +133,8 @@ fn run_trace<F: Files, O: Sink>(
     ensures failed { result ≡ Outcome.ReadFault true → F.faults files.new ≡ F.reads files.new }
     ensures files_rose { result ≡ Outcome.ReadFault true → Rose (F.faults files.old) (F.faults files.new) }
     ensures sure_name { F.is_sure files.old name.now ≡ true → F.faults files.new ≡ F.faults files.old }
+    ensures same_told { (n : List ℕ) → F.told files.new n ≡ F.told files.old n }
+    ensures same_sure { (n : List ℕ) → F.is_sure files.new n ≡ F.is_sure files.old n }
 
     ensures later { O.faults out.old ≤ O.faults out.new }
     ensures rose { result ≡ Outcome.WriteFault → Rose (O.faults out.old) (O.faults out.new) }
@@ -181,6 +185,8 @@ pub fn simulate<F: Files, O: Sink, E: Sink>(
     ensures unread { (fault : UsageFault) → usage_fault (map (λ w. w.now) words.now) ≡ Some fault → files.new ≡ files.old }
     ensures sure_names { (m t : List ℕ) → Names (map (λ w. w.now) words.now) m t → F.is_sure files.old m ≡ true → F.is_sure files.old t ≡ true → F.faults files.new ≡ F.faults files.old }
     ensures files_later { F.faults files.old ≤ F.faults files.new }
+    ensures same_told { (n : List ℕ) → F.told files.new n ≡ F.told files.old n }
+    ensures same_sure { (n : List ℕ) → F.is_sure files.new n ≡ F.is_sure files.old n }
     ensures out_later { O.faults out.old ≤ O.faults out.new }
     ensures write { result ≡ Outcome.WriteFault → Rose (O.faults out.old) (O.faults out.new) }
     ensures sure { (m t model trace text : List ℕ) → Names (map (λ w. w.now) words.now) m t → F.told files.old m ≡ Some model → F.told files.old t ≡ Some trace → answer model trace (jobs_asked (map (λ w. w.now) words.now)) ≡ Reported text →

@@ -5,6 +5,19 @@ use mq_base::{Gather, MemSink, Piece, add_pieces, flush};
 use std::alloc::Global;
 use std::test::Fail;
 
+/// A call centre.
+pub const CALL_CENTRE: &[u8] =
+    b"model 1\n# calls by phone and by web\nbound 1000\nsource phone\nsource web\n\
+    server greet g from phone web\nsplit menu cut kind 1 from greet\n\
+    loss expert 2 e from menu.1\ntandem desk a / 1 b from menu expert.1\n\
+    delay wrap =2 from desk expert\n";
+
+/// Its calls.
+pub const CALLS: &[u8] =
+    b"source,time,g,kind,e,a,b\nphone,0,1,0,0,3,2\nweb,0,1,1,6,1,1\nphone,2,1,1,5,2,1\n\
+    web,3,2,0,0,2,4\nphone,4,1,1,4,2,2\nweb,4,1,1,3,1,3\nphone,7,1,0,0,1,1\nweb,8,1,1,2,2,2\n\
+    phone,9,0,0,0,2,1\nweb,9,1,1,4,1,2\n";
+
 // Each model and trace with its whole report.
 const REPORTS: [(&[u8], &[u8], &[u8]); 8] = [
     // a job overtakes another in a delay
@@ -72,15 +85,9 @@ const REPORTS: [(&[u8], &[u8], &[u8]); 8] = [
         node o server in 2 out 2 lost 0 wait 1 max 1 busy 6 area 7 peak 2 util 0.8571\n\
         exit l.0 2 sojourn 4\nexit o.0 2 sojourn 7\n",
     ),
-    // a call centre
     (
-        b"model 1\n# calls by phone and by web\nbound 1000\nsource phone\nsource web\n\
-        server greet g from phone web\nsplit menu cut kind 1 from greet\n\
-        loss expert 2 e from menu.1\ntandem desk a / 1 b from menu expert.1\n\
-        delay wrap =2 from desk expert\n",
-        b"source,time,g,kind,e,a,b\nphone,0,1,0,0,3,2\nweb,0,1,1,6,1,1\nphone,2,1,1,5,2,1\n\
-        web,3,2,0,0,2,4\nphone,4,1,1,4,2,2\nweb,4,1,1,3,1,3\nphone,7,1,0,0,1,1\nweb,8,1,1,2,2,2\n\
-        phone,9,0,0,0,2,1\nweb,9,1,1,4,1,2\n",
+        CALL_CENTRE,
+        CALLS,
         b"mpsim report 1\njobs 10 span 23\n\
         node phone source in 5 out 5 lost 0 wait 0 max 0 busy 0 area 0 peak 0 util -\n\
         node web source in 5 out 5 lost 0 wait 0 max 0 busy 0 area 0 peak 0 util -\n\
@@ -98,6 +105,7 @@ fn stations_give_their_reports(rt: HostRuntime) -> Result<(), Fail> {
     for (model, trace, report) in REPORTS {
         let ran = ran(rt.alloc(), model, trace)?;
         assert_eq!(rt; ran.outcome, Outcome::Done);
+        assert_eq!(rt; ran.outcome.status(), 0);
         assert_eq!(rt; ran.out.bytes(), report);
         assert!(rt; ran.err.bytes().is_empty());
     }

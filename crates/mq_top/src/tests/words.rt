@@ -1,4 +1,5 @@
 // Words that are refused, and what the options ask for.
+use super::stations::{CALL_CENTRE, CALLS};
 use super::{files_of, ran, ran_with};
 use crate::{Outcome, UsageFault, simulate};
 use mq_base::MemSink;
@@ -85,7 +86,7 @@ fn workers_and_block_change_nothing(rt: HostRuntime) -> Result<(), Fail> {
 }
 
 // Each model and trace with the lines that `--jobs` adds to its report.
-const JOBS: [(&[u8], &[u8], &[u8]); 5] = [
+const JOBS: [(&[u8], &[u8], &[u8]); 10] = [
     (
         DESK,
         ORDINARY,
@@ -122,6 +123,67 @@ const JOBS: [(&[u8], &[u8], &[u8]); 5] = [
         job 3 src arrive 2 wait 0 depart 2\njob 4 src arrive 3 wait 0 depart 3\n\
         job 1 l arrive 0 wait 0 depart 2\njob 2 l arrive 1 lost\n\
         job 3 l arrive 2 wait 0 depart 4\njob 4 l arrive 3 lost\n",
+    ),
+    // servers in series of which the second is the slow one
+    (
+        b"model 1\nsource src\ntandem t =1 / 1 =3 from src\n",
+        b"source,time\nsrc,0\nsrc,0\nsrc,0\n",
+        b"job 1 src arrive 0 wait 0 depart 0\njob 2 src arrive 0 wait 0 depart 0\n\
+        job 3 src arrive 0 wait 0 depart 0\njob 1 t arrive 0 wait 0 depart 4\n\
+        job 2 t arrive 0 wait 3 depart 7\njob 3 t arrive 0 wait 6 depart 10\n",
+    ),
+    // a job that is done at the first stage stays there
+    (
+        b"model 1\nsource src\ntandem t a / 1 b from src\n",
+        b"source,time,a,b\nsrc,0,1,3\nsrc,0,1,1\nsrc,0,5,1\n",
+        b"job 1 src arrive 0 wait 0 depart 0\njob 2 src arrive 0 wait 0 depart 0\n\
+        job 3 src arrive 0 wait 0 depart 0\njob 1 t arrive 0 wait 0 depart 4\n\
+        job 2 t arrive 0 wait 3 depart 5\njob 3 t arrive 0 wait 4 depart 10\n",
+    ),
+    // a fork-join, and one with a branch of two servers
+    (
+        b"model 1\nsource src\nforkjoin f =2 | =3 from src\n",
+        b"source,time\nsrc,0\nsrc,1\n",
+        b"job 1 src arrive 0 wait 0 depart 0\njob 2 src arrive 1 wait 0 depart 1\n\
+        job 1 f arrive 0 wait 0 depart 3\njob 2 f arrive 1 wait 2 depart 6\n",
+    ),
+    (
+        b"model 1\nsource src\nforkjoin f =1 =2 | =4 from src\n",
+        b"source,time\nsrc,0\nsrc,1\n",
+        b"job 1 src arrive 0 wait 0 depart 0\njob 2 src arrive 1 wait 0 depart 1\n\
+        job 1 f arrive 0 wait 0 depart 4\njob 2 f arrive 1 wait 3 depart 8\n",
+    ),
+    // the call centre
+    (
+        CALL_CENTRE,
+        CALLS,
+        b"job 1 phone arrive 0 wait 0 depart 0\njob 3 phone arrive 2 wait 0 depart 2\n\
+        job 5 phone arrive 4 wait 0 depart 4\njob 7 phone arrive 7 wait 0 depart 7\n\
+        job 9 phone arrive 9 wait 0 depart 9\njob 2 web arrive 0 wait 0 depart 0\n\
+        job 4 web arrive 3 wait 0 depart 3\njob 6 web arrive 4 wait 0 depart 4\n\
+        job 8 web arrive 8 wait 0 depart 8\njob 10 web arrive 9 wait 0 depart 9\n\
+        job 1 greet arrive 0 wait 0 depart 1\njob 2 greet arrive 0 wait 1 depart 2\n\
+        job 3 greet arrive 2 wait 0 depart 3\njob 4 greet arrive 3 wait 0 depart 5\n\
+        job 5 greet arrive 4 wait 1 depart 6\njob 6 greet arrive 4 wait 2 depart 7\n\
+        job 7 greet arrive 7 wait 0 depart 8\njob 8 greet arrive 8 wait 0 depart 9\n\
+        job 9 greet arrive 9 wait 0 depart 9\njob 10 greet arrive 9 wait 0 depart 10\n\
+        job 1 menu arrive 1 wait 0 depart 1\njob 2 menu arrive 2 wait 0 depart 2\n\
+        job 3 menu arrive 3 wait 0 depart 3\njob 4 menu arrive 5 wait 0 depart 5\n\
+        job 5 menu arrive 6 wait 0 depart 6\njob 6 menu arrive 7 wait 0 depart 7\n\
+        job 7 menu arrive 8 wait 0 depart 8\njob 8 menu arrive 9 wait 0 depart 9\n\
+        job 9 menu arrive 9 wait 0 depart 9\njob 10 menu arrive 10 wait 0 depart 10\n\
+        job 2 expert arrive 2 wait 0 depart 8\njob 3 expert arrive 3 wait 5 depart 13\n\
+        job 5 expert arrive 6 lost\njob 6 expert arrive 7 lost\n\
+        job 8 expert arrive 9 wait 4 depart 15\njob 10 expert arrive 10 lost\n\
+        job 1 desk arrive 1 wait 0 depart 6\njob 4 desk arrive 5 wait 0 depart 11\n\
+        job 5 desk arrive 6 wait 3 depart 13\njob 6 desk arrive 7 wait 5 depart 16\n\
+        job 7 desk arrive 8 wait 7 depart 17\njob 9 desk arrive 9 wait 7 depart 19\n\
+        job 10 desk arrive 10 wait 8 depart 21\njob 1 wrap arrive 6 wait 0 depart 8\n\
+        job 2 wrap arrive 8 wait 0 depart 10\njob 4 wrap arrive 11 wait 0 depart 13\n\
+        job 5 wrap arrive 13 wait 0 depart 15\njob 3 wrap arrive 13 wait 0 depart 15\n\
+        job 8 wrap arrive 15 wait 0 depart 17\njob 6 wrap arrive 16 wait 0 depart 18\n\
+        job 7 wrap arrive 17 wait 0 depart 19\njob 9 wrap arrive 19 wait 0 depart 21\n\
+        job 10 wrap arrive 21 wait 0 depart 23\n",
     ),
 ];
 
