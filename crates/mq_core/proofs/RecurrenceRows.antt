@@ -13,9 +13,9 @@ delay-row = refl
 loss-row : loss_fates 1 [] (0 ∷ 1 ∷ 2 ∷ 3 ∷ []) (2 ∷ 2 ∷ 2 ∷ 2 ∷ []) ≡ Departs 2 ∷ Lost ∷ Departs 4 ∷ Lost ∷ []
 loss-row = refl
 
--- the calls at a trunk of two places
-trunk-row : loss_fates 2 [] (2 ∷ 3 ∷ 6 ∷ 7 ∷ 9 ∷ 10 ∷ []) (6 ∷ 5 ∷ 4 ∷ 3 ∷ 2 ∷ 1 ∷ []) ≡ Departs 8 ∷ Departs 13 ∷ Lost ∷ Lost ∷ Departs 15 ∷ Lost ∷ []
-trunk-row = refl
+-- the calls at an expert with two places
+expert-row : loss_fates 2 [] (2 ∷ 3 ∷ 6 ∷ 7 ∷ 9 ∷ 10 ∷ []) (6 ∷ 5 ∷ 4 ∷ 3 ∷ 2 ∷ 1 ∷ []) ≡ Departs 8 ∷ Departs 13 ∷ Lost ∷ Lost ∷ Departs 15 ∷ Lost ∷ []
+expert-row = refl
 
 fork-row : fork_departs (0 ∷ 1 ∷ []) (((2 ∷ 2 ∷ []) ∷ []) ∷ ((3 ∷ 3 ∷ []) ∷ []) ∷ []) ≡ 3 ∷ 6 ∷ []
 fork-row = refl

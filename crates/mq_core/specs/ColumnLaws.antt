@@ -54,7 +54,7 @@ ArrivalsAreStreams =
     (plan : Plan) (rows : Rows) → IsReadFor plan.net rows → (v : ℕ) (node : Node) → slice_get plan.net.nodes v ≡ Some node →
     IsMerged rows v node (run_of plan rows)
 
--- to put a stream in the order of leaving keeps its items: their number, and what bounds its jobs and its times
+-- to put a stream in the order of leaving keeps the number of its items, and what bounds its jobs and its times
 pub record KeepsItems (kind : Kind) (stream : Stream) : Type 0 where
   pub jobs : (limit : ℕ) → AllByRecursion (λ job. job < limit) stream.job → AllByRecursion (λ job. job < limit) (stream_in_order kind stream).job
   pub times : (limit : ℕ) → AllByRecursion (λ time. time ≤ limit) stream.time → AllByRecursion (λ time. time ≤ limit) (stream_in_order kind stream).time

@@ -170,7 +170,7 @@ column_sojourns [] fates = []
 column_sojourns (arrive ∷ arrives) [] = []
 column_sojourns (arrive ∷ arrives) (fate ∷ fates) = column_sojourn arrive fate ∷ column_sojourns arrives fates
 
--- the demand of a job where a server serves it, at a tandem of all its stages, and 0 at a source or a split
+-- the demand of a job where it is served: at a tandem of all stages, at a fork-join of all servers, and 0 at a source or a split
 abbrev pub service_time : Rows → Kind → ℕ → ℕ
 service_time rows Source job = 0
 service_time rows (Server demand) job = demand_of_job rows demand job

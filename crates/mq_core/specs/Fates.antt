@@ -50,7 +50,7 @@ FoundsAreCounts =
     (position : ℕ) → position < length end.visits →
     found_or 0 (slice_get end.visits position) ≡ still_there (arrival_or 0 (slice_get end.visits position)) end.emitted position
 
--- the demand of each job where a server serves it, at a tandem of all its stages, and 0 at a source or a split
+-- the demand of a job where it is served: at a tandem of all stages, at a fork-join of all servers, and 0 at a source or a split
 abbrev pub service_of : Rows → Kind → Option Visit → ℕ
 service_of rows (Server demand) visit = demand_of_visit rows demand visit
 service_of rows (Delay demand) visit = demand_of_visit rows demand visit

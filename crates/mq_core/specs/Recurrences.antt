@@ -25,8 +25,8 @@ abbrev pub is_past : ℕ → Option ℕ → Bool
 is_past now None = true
 is_past now (Some time) = nat_le time now
 
--- an arrival is admitted where fewer than all places were taken before it, or the last admitted but as many as the places
--- has left by then; these are the departures of those admitted before it, the latest first
+-- an arrival is admitted where fewer were admitted before it than there are places, at least 1, or where of the last that
+-- were, as many as the places, the first has left by then; these are their departures, the latest first
 abbrev pub is_admitted : ℕ → List ℕ → ℕ → Bool
 is_admitted places left arrive = is_past arrive (slice_get left (places - 1))
 

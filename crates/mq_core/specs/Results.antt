@@ -75,7 +75,7 @@ abbrev pub is_lost : Fate → Bool
 is_lost (Departs time) = false
 is_lost Lost = true
 
--- the totals of a node; its number, its area and its busy tally are those of the run
+-- the totals of a node; its peak, its area and its busy tally are those of the run
 pub record Totals : Type 0 where
   pub came : ℕ
   pub left : ℕ

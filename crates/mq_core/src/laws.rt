@@ -49,7 +49,8 @@ pub fn busy_is_services()
     ensures { BusyIsServices }
 {}
 
-/// The peak of a server is the greatest number found, plus 1.
+/// The peak of a node that holds jobs is the greatest number found by a visit that isn't lost,
+/// plus 1.
 pub fn peak_is_greatest()
     ensures { PeakIsGreatest }
 {}
@@ -146,7 +147,7 @@ pub fn arrivals_are_streams()
     ensures { ArrivalsAreStreams }
 {}
 
-/// To put a stream in the order of leaving keeps its items.
+/// To put a stream in the order of leaving keeps how many items it has, and what bounds them.
 pub fn orders_keep_items()
     ensures { OrdersKeepItems }
 {}

@@ -119,10 +119,10 @@ fn settle_window<L: Ledger>(
 }
 
 /// Which arrivals of the stream a loss station with these places admits, and when they depart:
-/// settled by rounds over windows, one round a window, the first of `first` places. The places
-/// of a window are guessed admitted; its round settles them up to the first that it changes, or
-/// all. The next window begins behind the settled places, and is twice as long where all were
-/// settled; else it has as many places as were settled.
+/// settled by rounds over windows, one round a window, the first of `first` arrivals. Those of a
+/// window are guessed admitted; its round settles them up to the first that it changes, or all.
+/// The next window begins behind the settled arrivals, and is twice as long where all were
+/// settled; else it has as many arrivals as were settled.
 ///
 /// Times and departures are in ticks, demands are ticks of service; one demand per item of the
 /// stream. There are at least one place and a first window of at least 1. Each judgement counts

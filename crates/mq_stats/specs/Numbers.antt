@@ -18,7 +18,7 @@ pub record AreVisits (rows : Rows) (kind : Kind) (visits : Visits) : Type 0 wher
   pub told : All (λ job. HasDemands rows kind job) visits.job
   pub small : All (λ found. found ≤ 1048576) visits.found
 
--- a stream of jobs of these rows, each at most once
+-- a stream of jobs of these rows, no longer than a trace
 pub record AreLeaving (rows : Rows) (stream : Stream) : Type 0 where
   pub jobs : All (λ job. job < length rows.time) stream.job
   pub few : length stream.job ≤ 1048576

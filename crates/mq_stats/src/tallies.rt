@@ -24,7 +24,7 @@ use mq_core::{Fate, Kind, Rows, Visits, bare_of, rows_tell_demands};
 pub struct NodeTotals {
     /// How many jobs came.
     pub came: u32,
-    /// How many of them left.
+    /// How many of them departed.
     pub left: u32,
     /// How many of them were lost.
     pub lost: u32,

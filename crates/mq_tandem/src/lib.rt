@@ -1,4 +1,5 @@
-//! The tandem: servers in series, with few places before each but the first.
+//! The tandem: servers in series, each but the first with a number of places, the one in service
+//! among them.
 #![tactic(auto)]
 
 ghost use Rattle.std.specs.Prelude.{◌≡◌, ◌^◌, ◌≤◌, ◌∷◌, All, [], drop, length, map, take, IfOk};
