@@ -70,7 +70,7 @@ gone-and-there at position (suc i) time (a ∷ arrives) (Departs d ∷ fates) s 
     let all = count-cons stays (Departs d) (take i fates) in
     omega arith
 
-take_at : (fates : List Fate) (i : ℕ) (fate : Fate) → slice_get fates i ≡ Some fate → take (i + 1) fates ≡ take i fates ++ fate ∷ []
+pub take_at : (fates : List Fate) (i : ℕ) (fate : Fate) → slice_get fates i ≡ Some fate → take (i + 1) fates ≡ take i fates ++ fate ∷ []
 take_at fates i fate h = take_more fates i fate (slice_get_within fates i fate h) ∙ ap (λ f. take i fates ++ f ∷ []) (get_or_from_slice_get fates i fate fate h)
 
 -- One visit further. What is found so far, with what is left, is all.
@@ -93,7 +93,7 @@ stayed-next fates i fate f =
     let both = ap (count_by stays) (take_at fates i fate f) ∙ sum_by-append (λ x. cond (stays x) 1 0) (take i fates) (fate ∷ []) in
     omega arith
 
-rises-at : (arrives : List ℕ) (i a b : ℕ) → Rises (λ x y. x ≤ y) arrives → slice_get arrives i ≡ Some a → slice_get arrives (suc i) ≡ Some b → a ≤ b
+pub rises-at : (arrives : List ℕ) (i a b : ℕ) → Rises (λ x y. x ≤ y) arrives → slice_get arrives i ≡ Some a → slice_get arrives (suc i) ≡ Some b → a ≤ b
 rises-at [] i a b r h k = cc
 rises-at (x ∷ []) i a b r h k = cc
 rises-at (x ∷ (y ∷ arrives)) zero a b r h k =

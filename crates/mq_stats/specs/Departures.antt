@@ -1,5 +1,5 @@
 -- Departures in order, by which the jobs that are gone are counted.
-use Rattle.std.specs.Prelude.{ℕ, suc, ◌==◌, ◌&&◌, ◌||◌, nat_lt, Bool, true, false, List, [], ◌∷◌}
+use Rattle.std.specs.Prelude.{ℕ, suc, ◌==◌, ◌&&◌, ◌||◌, nat_le, nat_lt, Bool, true, false, List, [], ◌∷◌, Option, Some, None}
 use Rattle.std.specs.List.Sorted.{IsSorted}
 use Rattle.std.specs.Ordering.{nat_cmp, ordering_then}
 use Rattle.mq_core.specs.declared.model.Fate.{Fate}
@@ -27,3 +27,15 @@ Ascends departures = IsSorted (λ x y. ordering_then (nat_cmp x.0 y.0) (nat_cmp 
 abbrev pub stays : Fate → Bool
 stays (Departs time) = true
 stays Lost = false
+
+-- none that isn't lost departs before this time, nor before an earlier one
+abbrev pub departures_rise : ℕ → List Fate → Bool
+departures_rise latest [] = true
+departures_rise latest (Departs time ∷ fates) = nat_le latest time && departures_rise time fates
+departures_rise latest (Lost ∷ fates) = departures_rise latest fates
+
+-- a visit that is there departs after this time
+abbrev pub stays_at : ℕ → Option Fate → Bool
+stays_at time None = false
+stays_at time (Some (Departs departure)) = nat_lt time departure
+stays_at time (Some Lost) = false

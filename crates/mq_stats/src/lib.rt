@@ -3,6 +3,7 @@
 #![tactic(auto)]
 
 mod exits;
+mod in_order;
 mod laws;
 mod occupancy;
 mod services;

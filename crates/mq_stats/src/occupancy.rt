@@ -6,6 +6,7 @@ ghost use Rattle.mq_core.specs.Columns.{founds_of};
 ghost use Rattle.mq_core.specs.Laws.{Rises};
 ghost use Rattle.mq_stats.specs.Departures.{Ascends, departures_from, is_gone, stays};
 
+use crate::in_order::{found_in_order, leave_in_order};
 use mq_base::{List, OutOfMemory};
 use mq_core::Fate;
 use std::alloc::Global;
@@ -83,6 +84,9 @@ pub fn found(alloc: Global, arrive: &List<u64>, fate: &List<Fate>) -> Result<Lis
     requires fate { AllByRecursion (λ p. LeavesFrom p.0 p.1) (zip arrive.now fate.now) }
     ensures { IfOk result (λ found. found ≡ founds_of arrive.now fate.now) }
 {
+    if leave_in_order(fate) {
+        return found_in_order(alloc, arrive, fate);
+    }
     let departures = departures_in_order(alloc, fate)?;
     let mut found = List::new(alloc);
     let mut stayed = 0;

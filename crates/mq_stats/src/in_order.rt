@@ -1,0 +1,89 @@
+// How many jobs each visit found, where no job overtakes another.
+ghost use Rattle.std.specs.Prelude.{◌≡◌, ◌<◌, ◌≤◌, ℕ, length, true, take, count_by, IfOk, Some, slice_get};
+ghost use Rattle.mq_core.specs.Columns.{departs_after, founds_of};
+ghost use Rattle.mq_core.specs.Laws.{Rises};
+ghost use Rattle.mq_stats.specs.Departures.{departures_rise, stays, stays_at};
+
+use mq_base::{List, OutOfMemory};
+use mq_core::Fate;
+use std::alloc::Global;
+
+/// Whether the visits that aren't lost depart in the order in which they came.
+pub fn leave_in_order(fate: &List<Fate>) -> bool
+    ensures { result ≡ departures_rise 0 fate.now }
+{
+    let mut latest = 0;
+    for at in 0..fate.len() {
+        if let Fate::Departs(time) = *fate.get(at) {
+            if time < latest {
+                return false;
+            }
+            latest = time;
+        }
+    }
+    true
+}
+
+// The visits at the front: all before a place are gone, and so many of them weren't lost.
+#[derive(Clone, Copy)]
+struct Gone {
+    place: usize,
+    departed: u32,
+}
+
+// The same by a later time, of the visits before `to`.
+fn gone_by(fate: &List<Fate>, so_far: Gone, to: usize, time: u64) -> Gone
+    requires few { length fate.now ≤ 1048576 }
+    requires order { so_far.place ≤ to }
+    requires within { to ≤ length fate.now }
+    requires departed { so_far.departed ≡ count_by stays (take so_far.place fate.now) }
+    requires gone { count_by (departs_after time) (take so_far.place fate.now) ≡ 0 }
+    ensures order { result.place ≤ to }
+    ensures departed { result.departed ≡ count_by stays (take result.place fate.now) }
+    ensures gone { count_by (departs_after time) (take result.place fate.now) ≡ 0 }
+    ensures first { result.place < to → stays_at time (slice_get fate.now result.place) ≡ true }
+{
+    let mut departed = so_far.departed;
+    for place in so_far.place..to {
+        if let Fate::Departs(departure) = *fate.get(place) {
+            if departure > time {
+                return Gone { place, departed };
+            }
+            departed += 1;
+        }
+    }
+    Gone {
+        place: to,
+        departed,
+    }
+}
+
+/// How many jobs each visit found, where the visits that aren't lost depart in the order in which
+/// they came: those between the first that isn't gone and itself. No time of arrival falls. It
+/// refuses for want of memory alone.
+pub fn found_in_order(
+    alloc: Global,
+    arrive: &List<u64>,
+    fate: &List<Fate>,
+) -> Result<List<u32>, OutOfMemory>
+    requires even { length fate.now ≡ length arrive.now }
+    requires few { length arrive.now ≤ 1048576 }
+    requires arrive { Rises (λ a b. a ≤ b) arrive.now }
+    requires order { departures_rise 0 fate.now ≡ true }
+    ensures { IfOk result (λ found. found ≡ founds_of arrive.now fate.now) }
+{
+    let mut found = Vec::with_capacity(alloc, arrive.len())?;
+    let mut gone = Gone {
+        place: 0,
+        departed: 0,
+    };
+    let mut stayed = 0;
+    for at in 0..arrive.len() {
+        gone = gone_by(fate, gone, at, *arrive.get(at));
+        found.push_reserved(stayed - gone.departed);
+        if let Fate::Departs(_) = fate.get(at) {
+            stayed += 1;
+        }
+    }
+    Ok(List::from_vec(found))
+}
