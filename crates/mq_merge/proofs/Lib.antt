@@ -1,3 +1,4 @@
 pub mod Merging
 pub mod Lists
+pub mod Moves
 pub mod Sorted

@@ -1,6 +1,7 @@
 pub mod Steps
 pub mod RunSteps
 pub mod Counts
+pub mod Ordered
 pub mod Founds
 pub mod InOrder
 pub mod Sums

@@ -24,7 +24,7 @@ pub fn leave_in_order(fate: &List<Fate>) -> bool
     true
 }
 
-// The visits at the front: all before a place are gone, and so many of them weren't lost.
+// All visits before a place are gone, and so many of them weren't lost.
 #[derive(Clone, Copy)]
 struct Gone {
     place: usize,
