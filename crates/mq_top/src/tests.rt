@@ -6,7 +6,10 @@ use mq_trace::TraceFault;
 use std::alloc::Global;
 use std::test::Fail;
 
+mod cuts;
+mod devices;
 mod faults;
+mod limits;
 mod networks;
 mod stations;
 mod words;
