@@ -4,6 +4,10 @@
 ghost use Rattle.std.specs.Prelude.{◌≡◌};
 ghost use Rattle.mq_gen.specs.Accepted.{MadeInputsAreAccepted};
 
+mod laws;
+
+pub use laws::departures_are_bounded;
+
 /// A made input.
 pub fn probe() -> u32
     ensures { result ≡ 0 }

@@ -1,0 +1,5 @@
+mod BoundedArrivals
+mod BoundedKinds
+mod BoundedRanks
+mod BoundedStations
+mod BoundedTandem
