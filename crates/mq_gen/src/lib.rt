@@ -1,6 +1,8 @@
 //! Made inputs: for each number a model and a trace, always the same, which are accepted.
 #![tactic(auto)]
 
+mod draws;
+
 ghost use Rattle.std.specs.Prelude.{◌≡◌};
 ghost use Rattle.mq_gen.specs.Accepted.{MadeInputsAreAccepted};
 
