@@ -1,0 +1,7 @@
+pub mod Forward
+pub mod Growing
+pub mod Mentions
+pub mod ModelRead
+pub mod PlanMade
+pub mod SectionNames
+pub mod Sections
