@@ -242,3 +242,46 @@ pub all_made : (generator : Lcg) → AreMade (sections_count generator) (section
 all_made generator =
     let count = sections_count generator in
     more_made count 0 count (from_none count) (few_sections generator) (no_sections (draw 12 generator).1) (none_made (draw 12 generator).1)
+
+-- So many sections of those of a generator are drawn.
+pub record IsUnderWay (first : Lcg) (done : ℕ) (s : Sections) : Type 0 where
+  pub made : AreMade done s
+  pub left : sections_after (sections_count first - done) s ≡ sections_from first
+
+less_none : (n : ℕ) → n ≡ n - 0
+less_none n = omega arith
+
+pub under_way : (first : Lcg) (s : Sections) → s ≡ no_sections (draw 12 first).1 → IsUnderWay first 0 s
+under_way first s is =
+    let start : IsUnderWay first 0 (no_sections (draw 12 first).1) =
+    record {
+      made = none_made (draw 12 first).1;
+      left = subst (λ n. sections_after n (no_sections (draw 12 first).1) ≡ sections_from first) (less_none (sections_count first)) refl;
+    }
+    in
+    subst (IsUnderWay first 0) (sym is) start
+
+sections_after_next : (count : ℕ) (s : Sections) → sections_after (suc count) s ≡ sections_after count (next_section s)
+unfolding sections_after
+sections_after_next count s = refl
+
+next_left : (all done : ℕ) (s last : Sections) → done < all → sections_after (all - done) s ≡ last → sections_after (all - (done + 1)) (next_section s) ≡ last
+next_left all done s last low left =
+    let e : all - done ≡ suc (all - (done + 1)) = omega arith in
+    sym (sections_after_next (all - (done + 1)) s) ∙ subst (λ n. sections_after n s ≡ last) e left
+
+pub under_way_next : (first : Lcg) (all done : ℕ) (s next : Sections) → all ≡ sections_count first → done < all → IsUnderWay first done s → next ≡ next_section s → IsUnderWay first (done + 1) next
+under_way_next first all done s next whole low way is =
+    let few : all ≤ 12 = subst (λ n. n ≤ 12) (sym whole) (few_sections first) in
+    let e : suc done ≡ done + 1 = omega arith in
+    subst (IsUnderWay first (done + 1)) (sym is) (record {
+      made = subst (λ n. AreMade n (next_section s)) e (next_made done (omega arith) s way.made);
+      left = next_left (sections_count first) done s (sections_from first) (subst (λ n. done < n) whole low) way.left;
+    })
+
+none_left : (all done : ℕ) (s last : Sections) → all ≤ done → sections_after (all - done) s ≡ last → s ≡ last
+unfolding sections_after
+none_left all done s last high left = let e : all - done ≡ 0 = omega arith in subst (λ n. sections_after n s ≡ last) e left
+
+pub under_way_ends : (first : Lcg) (all done : ℕ) (s : Sections) → all ≡ sections_count first → all ≤ done → IsUnderWay first done s → s ≡ sections_from first
+under_way_ends first all done s whole high way = none_left (sections_count first) done s (sections_from first) (subst (λ n. n ≤ done) whole high) way.left
