@@ -10,9 +10,10 @@ use Rattle.mq_core.specs.Wiring.{is_source_kind, ranking}
 use Rattle.mq_core.specs.declared.model.Node.{Node}
 use Rattle.mq_core.specs.declared.model.Plan.{Plan}
 use Rattle.mq_graph.specs.Cycle.{CyclesAreLeft}
+use Rattle.mq_graph.specs.Rank.{AreWired}
 use Rattle.rand_pcg.specs.Lcg.{Lcg}
 use Rattle.mq_gen.specs.Made.{Sections, generator_of, network_from, sections_from, sections_of, source_node}
-use Rattle.mq_gen.proofs.Forward.{all_ranked, forward_from}
+use Rattle.mq_gen.proofs.Forward.{all_ranked, wired}
 use Rattle.mq_gen.proofs.Mentions.{Mentioned, columns_distinct, columns_in, columns_named, few_columns}
 use Rattle.mq_gen.proofs.SectionNames.{all_names, distinct_front, names_distinct}
 use Rattle.mq_gen.proofs.Sections.{AreMade, all_made, few_sections, inputs_in, is_station, name_of, nodes_count, sections_count}
@@ -39,8 +40,14 @@ made_sound count s few made =
 pub drawn_sound : (generator : Lcg) → is_sound (network_from (sections_from generator)) ≡ true
 drawn_sound generator = made_sound (sections_count generator) (sections_from generator) (few_sections generator) (all_made generator)
 
-pub drawn_forward : (generator : Lcg) → forward_from 0 (sections_from generator).nodes ≡ true
-drawn_forward generator = (all_made generator).forward
+pub drawn_wired : (generator : Lcg) → AreWired (sections_from generator).nodes
+drawn_wired generator = wired (sections_from generator).nodes (all_made generator).forward
+
+pub drawn_small : (generator : Lcg) → length (sections_from generator).nodes ≤ 64
+drawn_small generator =
+    let size = nodes_count (sections_count generator) (sections_from generator) (all_made generator) in
+    let few = few_sections generator in
+    omega arith
 
 -- what a plan of drawn sections is: two sources, and then at most 12 stations
 pub record IsMadePlan (plan : Plan) (s : Sections) : Type 0 where

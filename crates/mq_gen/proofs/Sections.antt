@@ -285,3 +285,9 @@ none_left all done s last high left = let e : all - done ≡ 0 = omega arith in 
 
 pub under_way_ends : (first : Lcg) (all done : ℕ) (s : Sections) → all ≡ sections_count first → all ≤ done → IsUnderWay first done s → s ≡ sections_from first
 under_way_ends first all done s whole high way = none_left (sections_count first) done s (sections_from first) (subst (λ n. n ≤ done) whole high) way.left
+
+pub under_way_small : (first : Lcg) (all done : ℕ) (s : Sections) → all ≡ sections_count first → done < all → IsUnderWay first done s → length s.nodes ≤ 64
+under_way_small first all done s whole low way =
+    let few : all ≤ 12 = subst (λ n. n ≤ 12) (sym whole) (few_sections first) in
+    let size : length s.nodes ≡ done + 2 = nodes_count done s way.made in
+    omega arith
