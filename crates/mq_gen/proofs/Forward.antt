@@ -1,12 +1,12 @@
 -- Nodes that each read only nodes before them hold no cycle, so the ranking has them all.
-use Rattle.std.proofs.Common.{◌≡◌, ◌≢◌, ◌∙◌, refl, sym, subst, ap, ℕ, zero, suc, ◌+◌, ◌<◌, ◌≤◌, List, [], ◌∷◌, ◌++◌, length, Bool, true, false, cond, Option, Some, None, eqb, arith, inl, inr}
-use Rattle.std.specs.Prelude.{◌&&◌, ◌↔◌, IsSome, IsTrue, map, nat_lt, not, slice_get}
+use Rattle.std.proofs.Common.{◌≡◌, ◌∙◌, refl, sym, subst, ap, ℕ, zero, suc, ◌+◌, ◌<◌, ◌≤◌, List, [], ◌∷◌, ◌++◌, length, Bool, true, false, cond, Option, Some, None, eqb, arith}
+use Rattle.std.specs.Prelude.{◌&&◌, IsSome, map, nat_lt, not, slice_get}
 use Rattle.std.specs.List.{find, flat_map, list_all, range_with_len}
-use Rattle.std.proofs.lemmas.Bool.{and_from, and_parts, eqb-true, lt-ltb, ltb-true}
+use Rattle.std.proofs.lemmas.Bool.{and_from, and_parts, eqb-true, ltb-true}
 use Rattle.std.proofs.lemmas.Bool.Decides.{nat_tests}
 use Rattle.std.proofs.lemmas.List.Folds.{list_all-append}
 use Rattle.std.proofs.lemmas.List.Sums.{AllPass-from_list_all}
-use Rattle.mq_core.specs.Wiring.{has, outputs_read, ranking}
+use Rattle.mq_core.specs.Wiring.{has, ranking}
 use Rattle.mq_core.specs.declared.model.Input.{Input}
 use Rattle.mq_core.specs.declared.model.Node.{Node}
 use Rattle.mq_graph.specs.Cycle.{CyclesAreLeft, HasCycle, ReadThrough, Reads}
@@ -62,10 +62,10 @@ input_before v (i ∷ inputs) h (suc port) u out at = input_before v inputs (and
 read_before : (v : ℕ) (nodes : List Node) → forward_from v nodes ≡ true → (k u : ℕ) → Reads nodes k u → u < v + k
 read_before v [] h k u (port, out, at) = absurd (cc)
 read_before v (node ∷ nodes) h zero u (port, out, at) =
-    let low : u < v = input_before v node.inputs (and_parts _ _ h).0 port u out at in
+    let low : u < v = input_before v node.inputs (and_parts (reads_below v node) (forward_from (suc v) nodes) h).0 port u out at in
     omega arith
 read_before v (node ∷ nodes) h (suc k) u reads =
-    let low : u < suc v + k = read_before (suc v) nodes (and_parts _ _ h).1 k u reads in
+    let low : u < suc v + k = read_before (suc v) nodes (and_parts (reads_below v node) (forward_from (suc v) nodes) h).1 k u reads in
     omega arith
 
 through_before : (nodes : List Node) → forward_from 0 nodes ≡ true → (v : ℕ) (others : List ℕ) (u : ℕ) → ReadThrough nodes v others u → u < v

@@ -1,5 +1,5 @@
 -- The model of a number is read, and declares the network that was drawn.
-use Rattle.std.proofs.Common.{◌≡◌, ◌∙◌, ap, subst, ℕ, None}
+use Rattle.std.proofs.Common.{◌≡◌, subst, ℕ, None}
 use Rattle.mq_core.specs.declared.model.Network.{Network}
 use Rattle.mq_graph.specs.Cycle.{CyclesAreLeft}
 use Rattle.mq_model.specs.Canonical.{PrintedModelsAreRead}

@@ -1,5 +1,5 @@
 -- The network of drawn sections is that of a plan.
-use Rattle.std.proofs.Common.{◌≡◌, ◌∙◌, refl, sym, subst, ap, ℕ, ◌+◌, ◌<◌, ◌≤◌, ◌^◌, List, [], ◌∷◌, length, Bool, true, arith}
+use Rattle.std.proofs.Common.{◌≡◌, ◌∙◌, refl, ap, ℕ, ◌≤◌, List, ◌∷◌, length, true, arith}
 use Rattle.std.specs.Prelude.{map, nat_le}
 use Rattle.std.specs.List.{flat_map, list_all, list_any}
 use Rattle.std.specs.Str.{bytes_eq}
@@ -9,11 +9,11 @@ use Rattle.mq_core.specs.Sound.{are_distinct, is_sound, is_within, same_input}
 use Rattle.mq_core.specs.Wiring.{is_source_kind, ranking}
 use Rattle.mq_core.specs.declared.model.Node.{Node}
 use Rattle.mq_core.specs.declared.model.Plan.{Plan}
-use Rattle.mq_graph.specs.Cycle.{CyclesAreLeft}
+use Rattle.mq_graph.specs.Cycle.{CyclesAreLeft, HasCycle}
 use Rattle.mq_graph.specs.Rank.{AreWired}
 use Rattle.rand_pcg.specs.Lcg.{Lcg}
 use Rattle.mq_gen.specs.Made.{Sections, generator_of, network_from, sections_from, sections_of, source_node}
-use Rattle.mq_gen.proofs.Forward.{all_ranked, wired}
+use Rattle.mq_gen.proofs.Forward.{all_ranked, no_cycle, wired}
 use Rattle.mq_gen.proofs.Mentions.{Mentioned, columns_distinct, columns_in, columns_named, few_columns}
 use Rattle.mq_gen.proofs.SectionNames.{all_names, distinct_front, names_distinct}
 use Rattle.mq_gen.proofs.Sections.{AreMade, all_made, few_sections, inputs_in, is_station, name_of, nodes_count, sections_count}
@@ -42,6 +42,9 @@ drawn_sound generator = made_sound (sections_count generator) (sections_from gen
 
 pub drawn_wired : (generator : Lcg) → AreWired (sections_from generator).nodes
 drawn_wired generator = wired (sections_from generator).nodes (all_made generator).forward
+
+pub drawn_acyclic : (generator : Lcg) → ¬ HasCycle (sections_from generator).nodes
+drawn_acyclic generator = no_cycle (sections_from generator).nodes (all_made generator).forward
 
 pub drawn_small : (generator : Lcg) → length (sections_from generator).nodes ≤ 64
 drawn_small generator =

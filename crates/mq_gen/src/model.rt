@@ -11,7 +11,7 @@ use crate::draws::draw;
 use itoa::Buffer;
 use mq_base::{List, OutOfMemory};
 use mq_core::{Demand, Input, Kind, Network, Node, Plan, Route, Stage, outputs_of};
-use mq_graph::rank;
+use mq_graph::{RankFault, rank};
 use rand_pcg::Lcg64Xsh32;
 use std::alloc::Global;
 
@@ -258,6 +258,7 @@ pub(crate) fn made_plan(alloc: Global, generator: &mut Lcg64Xsh32) -> Result<Pla
     };
     match rank(alloc, &net) {
         Ok(order) => Ok(Plan { net, order }),
-        Err(_) => Err(OutOfMemory),
+        Err(RankFault::Cycle { .. }) => unreachable!("each section reads only nodes before it"),
+        Err(RankFault::Memory) => Err(OutOfMemory),
     }
 }
