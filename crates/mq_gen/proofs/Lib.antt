@@ -1,5 +1,6 @@
 pub mod Forward
 pub mod Growing
+pub mod MadeExamples
 pub mod Mentions
 pub mod ModelRead
 pub mod PlanMade
