@@ -3,3 +3,11 @@ mod BoundedKinds
 mod BoundedRanks
 mod BoundedStations
 mod BoundedTandem
+pub mod Forward
+pub mod Growing
+pub mod MadeExamples
+pub mod Mentions
+pub mod ModelRead
+pub mod PlanMade
+pub mod SectionNames
+pub mod Sections

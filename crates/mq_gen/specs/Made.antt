@@ -115,15 +115,21 @@ unfoldable pub sections_after : ℕ → Sections → Sections
 sections_after zero s = s
 sections_after (suc count) s = sections_after count (next_section s)
 
--- all 1 to 12 sections of a number
-abbrev pub sections_of : ℕ → Sections
-sections_of number =
-    let count = draw 12 (generator_of number) in
+-- all sections that a generator draws, 1 to 12
+abbrev pub sections_from : Lcg → Sections
+sections_from generator =
+    let count = draw 12 generator in
     sections_after (count.0 + 1) (no_sections count.1)
 
+abbrev pub sections_of : ℕ → Sections
+sections_of number = sections_from (generator_of number)
+
+-- the network of these sections
+abbrev pub network_from : Sections → Network
+network_from s = record { nodes = s.nodes; columns = s.columns; bound = 2 ^ 60 }
+
 abbrev pub made_network : ℕ → Network
-made_network number =
-    record { nodes = (sections_of number).nodes; columns = (sections_of number).columns; bound = 2 ^ 60 }
+made_network number = network_from (sections_of number)
 
 -- the model of a number, as bytes
 abbrev pub made_model : ℕ → List ℕ

@@ -1,6 +1,9 @@
 //! Made inputs: for each number a model and a trace, always the same, which are accepted.
 #![tactic(auto)]
 
+mod draws;
+mod model;
+
 ghost use Rattle.std.specs.Prelude.{◌≡◌};
 ghost use Rattle.mq_gen.specs.Accepted.{MadeInputsAreAccepted};
 
