@@ -2,6 +2,7 @@
 #![tactic(auto)]
 
 mod draws;
+mod trace;
 
 ghost use Rattle.std.specs.Prelude.{◌≡◌};
 ghost use Rattle.mq_gen.specs.Accepted.{MadeInputsAreAccepted};
