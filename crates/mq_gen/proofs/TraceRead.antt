@@ -1,7 +1,7 @@
 -- The trace is read without a fault, for each network that reads such traces.
-use Rattle.std.proofs.Common.{◌≡◌, ◌∙◌, sym, ap, refl, ℕ, zero, suc, ◌+◌, ◌<◌, ◌≤◌, ◌^◌, List, [], ◌∷◌, length, get_or, Bool, true, false, Some, None, arith}
-use Rattle.std.specs.Prelude.{decimal, map, nat_lt, is_none, slice_get, unwrap_or, ◌&&◌, ◌==◌}
-use Rattle.std.specs.List.{starts_with}
+use Rattle.std.proofs.Common.{◌≡◌, ◌∙◌, sym, ap, refl, subst, ℕ, zero, suc, ◌+◌, ◌<◌, ◌≤◌, ◌^◌, List, [], ◌∷◌, length, get_or, Bool, true, false, Some, None, arith}
+use Rattle.std.specs.Prelude.{decimal, map, nat_lt, is_none, unwrap_or, ◌&&◌, ◌==◌}
+use Rattle.std.specs.List.{All, starts_with}
 use Rattle.std.specs.Str.Parse.{digits_value}
 use Rattle.std.proofs.lemmas.Fmt.{decimal_digit}
 use Rattle.std.proofs.lemmas.Grind.{common_steps}
@@ -110,10 +110,10 @@ trace_sources net rs reads drawn = ap (λ split. (rows_of net (header_of split) 
 pub trace_times : (net : Network) (rs : List Drawn) → ReadsTraces net → AreDrawn rs → (rows_in net (trace_text rs)).time ≡ map (λ r. r.time) rs
 trace_times net rs reads drawn = ap (λ split. (rows_of net (header_of split) (data_of split)).time) (text_split rs drawn) ∙ times_in rs drawn
 
-early : (rs : List Drawn) (k time : ℕ) → AreDrawn rs → slice_get (map (λ r. r.time) rs) k ≡ Some time → time ≤ 480000
-early [] k time drawn at = cc
-early (r ∷ rs) zero time drawn at = let one = drawn.0.time in grind (arith, common_steps, one, at)
-early (r ∷ rs) (suc k) time drawn at = early rs k time drawn.1 at
+all_early : (rs : List Drawn) → AreDrawn rs → All (λ time. time ≤ 480000) (map (λ r. r.time) rs)
+all_early [] drawn k d h = absurd (omega arith)
+all_early (r ∷ rs) drawn zero d h = drawn.0.time
+all_early (r ∷ rs) drawn (suc k) d h = all_early rs drawn.1 k d (omega arith)
 
 -- what a generator's trace is for a network
 pub record IsTraceFor (net : Network) (g : Lcg) : Type 0 where
@@ -121,24 +121,23 @@ pub record IsTraceFor (net : Network) (g : Lcg) : Type 0 where
   pub read : IsReadFor net (rows_in net (trace_text (records_from g)))
   pub sources : (rows_in net (trace_text (records_from g))).source ≡ map (λ r. r.source) (records_from g)
   pub times : (rows_in net (trace_text (records_from g))).time ≡ map (λ r. r.time) (records_from g)
-  pub least : 20000 ≤ length (rows_in net (trace_text (records_from g))).source
-  pub most : length (rows_in net (trace_text (records_from g))).source ≤ 40000
-  pub early : (k time : ℕ) → slice_get (rows_in net (trace_text (records_from g))).time k ≡ Some time → time ≤ 480000
+  pub least : 20000 ≤ length (rows_in net (trace_text (records_from g))).time
+  pub most : length (rows_in net (trace_text (records_from g))).time ≤ 40000
+  pub early : All (λ time. time ≤ 480000) (rows_in net (trace_text (records_from g))).time
 
 pub trace_is_read : (net : Network) (g : Lcg) → ReadsTraces net → IsTraceFor net g
 trace_is_read net g reads =
     let rs = records_from g in
     let (drawn, least, most) = many_drawn g in
     let clean = trace_clean net rs reads drawn most in
-    let sources = trace_sources net rs reads drawn in
     let times = trace_times net rs reads drawn in
-    let size : length (rows_in net (trace_text rs)).source ≡ length rs = ap length sources ∙ length-map rs (λ r. r.source) in
+    let size : length (rows_in net (trace_text rs)).time ≡ length rs = ap length times ∙ length-map rs (λ r. r.time) in
     record {
       clean = clean;
       read = rows_are_read net (trace_text rs) clean;
-      sources = sources;
+      sources = trace_sources net rs reads drawn;
       times = times;
       least = rw size least;
       most = rw size most;
-      early = λ k time at. early rs k time drawn (ap (λ ts. slice_get ts k) (sym times) ∙ at);
+      early = subst (λ ts. All (λ time. time ≤ 480000) ts) (sym times) (all_early rs drawn);
     }
