@@ -11,3 +11,9 @@ pub mod ModelRead
 pub mod PlanMade
 pub mod SectionNames
 pub mod Sections
+pub mod CsvPlain
+pub mod TraceText
+pub mod TraceRecords
+pub mod TraceRead
+pub mod TraceNetwork
+pub mod TraceCases

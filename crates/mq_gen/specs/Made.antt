@@ -142,21 +142,31 @@ pub record Drawn : Type 0 where
   pub a : ℕ
   pub b : ℕ
 
--- so many records behind this time
-unfoldable pub records_after : ℕ → ℕ → Lcg → List Drawn
-records_after zero last generator = []
-records_after (suc count) last generator =
+-- the record behind this time, and the generator behind it
+unfoldable pub record_behind : ℕ → Lcg → Drawn × Lcg
+record_behind last generator =
     let step = draw 12 generator in
     let source = draw 2 step.1 in
     let a = draw 10 source.1 in
     let b = draw 6 a.1 in
-    record { source = source.0; time = last + step.0; a = a.0; b = b.0 } ∷ records_after count (last + step.0) b.1
+    (record { source = source.0; time = last + step.0; a = a.0; b = b.0 }, b.1)
 
--- the 20,000 to 40,000 records of a number
-abbrev pub records_of : ℕ → List Drawn
-records_of number =
-    let count = draw 20001 (sections_of number).generator in
+-- so many records behind this time
+unfoldable pub records_after : ℕ → ℕ → Lcg → List Drawn
+records_after zero last generator = []
+records_after (suc count) last generator =
+    let next = record_behind last generator in
+    next.0 ∷ records_after count next.0.time next.1
+
+-- the 20,000 to 40,000 records that a generator draws
+abbrev pub records_from : Lcg → List Drawn
+records_from generator =
+    let count = draw 20001 generator in
     records_after (count.0 + 20000) 0 count.1
+
+-- the records of a number, drawn behind its sections
+abbrev pub records_of : ℕ → List Drawn
+records_of number = records_from (sections_of number).generator
 
 abbrev pub header_fields : List (List ℕ)
 header_fields = codes "source" ∷ codes "time" ∷ column_a ∷ column_b ∷ []
@@ -168,6 +178,10 @@ fields_of r = source_name r.source ∷ decimal r.time ∷ decimal r.a ∷ decima
 abbrev pub record_text : List (List ℕ) → List ℕ
 record_text fields = join_with_byte 44 fields ++ 10 ∷ []
 
--- the trace of a number, as bytes
+-- the header and the records, as bytes
+abbrev pub trace_text : List Drawn → List ℕ
+trace_text rs = flat_map record_text (header_fields ∷ map fields_of rs)
+
+-- the trace of a number
 abbrev pub made_trace : ℕ → List ℕ
-made_trace number = flat_map record_text (header_fields ∷ map fields_of (records_of number))
+made_trace number = trace_text (records_of number)

@@ -3,6 +3,7 @@
 
 mod draws;
 mod model;
+mod trace;
 
 ghost use Rattle.std.specs.Prelude.{◌≡◌};
 ghost use Rattle.mq_gen.specs.Accepted.{MadeInputsAreAccepted};
