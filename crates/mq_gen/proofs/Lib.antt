@@ -7,13 +7,11 @@ pub mod CsvPlain
 pub mod Forward
 pub mod Growing
 pub mod MadeAccepted
-pub mod MadeExamples
 pub mod Mentions
 pub mod ModelRead
 pub mod PlanMade
 pub mod SectionNames
 pub mod Sections
-pub mod TraceCases
 pub mod TraceNetwork
 pub mod TraceRead
 pub mod TraceRecords

@@ -1,5 +1,5 @@
 -- The made input of each number is accepted.
-use Rattle.std.proofs.Common.{◌≡◌, sym, ap, subst, ℕ, ◌+◌, ◌*◌, ◌^◌, ◌≤◌, length, None, arith}
+use Rattle.std.proofs.Common.{◌≡◌, sym, subst, ℕ, ◌^◌, ◌≤◌, length, None, arith}
 use Rattle.mq_core.specs.NetworkRun.{past_in}
 use Rattle.mq_core.specs.Theorems.{IsReadFor}
 use Rattle.mq_core.specs.declared.model.Rows.{Rows}

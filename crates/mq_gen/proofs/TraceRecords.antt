@@ -10,7 +10,7 @@ use Rattle.std.proofs.lemmas.Str.Parse.{IsNumeralModel, numerals_by_value}
 use Rattle.rand_pcg.specs.Lcg.{Lcg}
 use Rattle.mq_base.specs.Text.{number_of}
 use Rattle.mq_model.proofs.PrintedParts as printed
-use Rattle.mq_gen.specs.Made.{Drawn, draw, fields_of, header_fields, record_behind, record_text, records_after, records_from, trace_text}
+use Rattle.mq_gen.specs.Made.{Drawn, draw, fields_of, header_fields, next_record, record_text, records_after, records_from, trace_text}
 use Rattle.mq_gen.proofs.CsvPlain.{ArePlain, IsPlain, is_plain}
 
 -- a record that a generator draws
@@ -27,8 +27,8 @@ AreDrawn (r ∷ rs) = IsDrawn r × AreDrawn rs
 below : (m : ℕ) (g : Lcg) → 0 < m → (draw m g).0 < m
 below m g h = omega arith
 
-behind_drawn : (last : ℕ) (g : Lcg) → last + 12 ≤ 480000 → IsDrawn (record_behind last g).0 × ((record_behind last g).0.time ≤ last + 11)
-unfolding record_behind
+behind_drawn : (last : ℕ) (g : Lcg) → last + 12 ≤ 480000 → IsDrawn (next_record last g).0 × ((next_record last g).0.time ≤ last + 11)
+unfolding next_record
 behind_drawn last g h =
     let step = below 12 g (omega arith) in
     (record { source = omega arith; time = omega arith; a = omega arith; b = omega arith }, omega arith)
@@ -40,12 +40,12 @@ all_drawn zero last g h = tt
 all_drawn (suc count) last g h =
     let one = behind_drawn last g (omega arith) in
     let next = one.1 in
-    (one.0, all_drawn count (record_behind last g).0.time (record_behind last g).1 (omega arith))
+    (one.0, all_drawn count (next_record last g).0.time (next_record last g).1 (omega arith))
 
 counted : (count last : ℕ) (g : Lcg) → length (records_after count last g) ≡ count
 unfolding records_after
 counted zero last g = refl
-counted (suc count) last g = ap suc (counted count (record_behind last g).0.time (record_behind last g).1)
+counted (suc count) last g = ap suc (counted count (next_record last g).0.time (next_record last g).1)
 
 -- 20,000 to 40,000 records, in their ranges
 pub many_drawn : (g : Lcg) → AreDrawn (records_from g) × (20000 ≤ length (records_from g)) × (length (records_from g) ≤ 40000)

@@ -4,7 +4,7 @@ use Rattle.std.specs.Prelude.{map}
 use Rattle.std.specs.List.{flat_map}
 use Rattle.std.proofs.lemmas.List.{append-nil}
 use Rattle.rand_pcg.specs.Lcg.{Lcg}
-use Rattle.mq_gen.specs.Made.{draw, fields_of, record_behind, record_text, records_after}
+use Rattle.mq_gen.specs.Made.{draw, fields_of, next_record, record_text, records_after}
 
 -- the pieces of a record, one behind the other
 pub pieces : (text first second third fourth fifth source time a b : List ℕ)
@@ -14,15 +14,15 @@ pieces text first second third fourth fifth source time a b e f g h k = rw (k, h
 
 -- a record, by its draws
 pub behind : (last : ℕ) (g second third fourth : Lcg) → second ≡ (draw 12 g).1 → third ≡ (draw 2 second).1 → fourth ≡ (draw 10 third).1
-    → record_behind last g ≡ (record { source = (draw 2 second).0; time = last + (draw 12 g).0; a = (draw 10 third).0; b = (draw 6 fourth).0 }, (draw 6 fourth).1)
-unfolding record_behind
+    → next_record last g ≡ (record { source = (draw 2 second).0; time = last + (draw 12 g).0; a = (draw 10 third).0; b = (draw 6 fourth).0 }, (draw 6 fourth).1)
+unfolding next_record
 behind last g second third fourth e f h = rw (h, f, e) refl
 
 -- the text of the records that are left, by the first of them
 pub text_left : (left last : ℕ) (g : Lcg) → 0 < left
     → flat_map record_text (map fields_of (records_after left last g))
-    ≡ record_text (fields_of (record_behind last g).0)
-    ++ flat_map record_text (map fields_of (records_after (left - 1) (record_behind last g).0.time (record_behind last g).1))
+    ≡ record_text (fields_of (next_record last g).0)
+    ++ flat_map record_text (map fields_of (records_after (left - 1) (next_record last g).0.time (next_record last g).1))
 unfolding records_after
 text_left zero last g h = absurd (omega arith)
 text_left (suc left) last g h = let e : suc left - 1 ≡ left = omega arith in rw e refl

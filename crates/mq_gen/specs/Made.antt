@@ -19,7 +19,7 @@ use Rattle.mq_model.specs.Printed.{printed}
 abbrev pub generator_of : ℕ → Lcg
 generator_of number = started 64 multiplier_64 number (increment_of 64 1)
 
--- its next output modulo m, and the generator behind it
+-- its next output modulo m, and the generator after it
 abbrev pub draw : ℕ → Lcg → ℕ × Lcg
 draw m generator = ((pcg32 generator).0 % m, (pcg32 generator).1)
 
@@ -36,7 +36,7 @@ column_a = codes "a"
 abbrev pub column_b : List ℕ
 column_b = codes "b"
 
--- these columns, and behind them this one where it isn't among them
+-- these columns, and after them this one where it isn't among them
 abbrev pub mention : List (List ℕ) → List ℕ → List (List ℕ)
 mention columns name = if list_any (λ other. bytes_eq other name) columns then columns else columns ++ name ∷ []
 
@@ -84,6 +84,7 @@ pub record Sections : Type 0 where
   pub ends : List Input
   pub generator : Lcg
 
+-- a source
 abbrev pub source_node : ℕ → Node
 source_node number = record { name = source_name number; kind = Source; inputs = [] }
 
@@ -121,6 +122,7 @@ sections_from generator =
     let count = draw 12 generator in
     sections_after (count.0 + 1) (no_sections count.1)
 
+-- the sections of a number
 abbrev pub sections_of : ℕ → Sections
 sections_of number = sections_from (generator_of number)
 
@@ -128,6 +130,7 @@ sections_of number = sections_from (generator_of number)
 abbrev pub network_from : Sections → Network
 network_from s = record { nodes = s.nodes; columns = s.columns; bound = 2 ^ 60 }
 
+-- the network of a number
 abbrev pub made_network : ℕ → Network
 made_network number = network_from (sections_of number)
 
@@ -142,20 +145,20 @@ pub record Drawn : Type 0 where
   pub a : ℕ
   pub b : ℕ
 
--- the record behind this time, and the generator behind it
-unfoldable pub record_behind : ℕ → Lcg → Drawn × Lcg
-record_behind last generator =
+-- the next record after this time, and the generator after it
+unfoldable pub next_record : ℕ → Lcg → Drawn × Lcg
+next_record last generator =
     let step = draw 12 generator in
     let source = draw 2 step.1 in
     let a = draw 10 source.1 in
     let b = draw 6 a.1 in
     (record { source = source.0; time = last + step.0; a = a.0; b = b.0 }, b.1)
 
--- so many records behind this time
+-- so many records after this time
 unfoldable pub records_after : ℕ → ℕ → Lcg → List Drawn
 records_after zero last generator = []
 records_after (suc count) last generator =
-    let next = record_behind last generator in
+    let next = next_record last generator in
     next.0 ∷ records_after count next.0.time next.1
 
 -- the 20,000 to 40,000 records that a generator draws
@@ -164,13 +167,15 @@ records_from generator =
     let count = draw 20001 generator in
     records_after (count.0 + 20000) 0 count.1
 
--- the records of a number, drawn behind its sections
+-- the records of a number, drawn after its sections
 abbrev pub records_of : ℕ → List Drawn
 records_of number = records_from (sections_of number).generator
 
+-- the fields of the header
 abbrev pub header_fields : List (List ℕ)
 header_fields = codes "source" ∷ codes "time" ∷ column_a ∷ column_b ∷ []
 
+-- the fields of a record
 abbrev pub fields_of : Drawn → List (List ℕ)
 fields_of r = source_name r.source ∷ decimal r.time ∷ decimal r.a ∷ decimal r.b ∷ []
 
@@ -178,10 +183,10 @@ fields_of r = source_name r.source ∷ decimal r.time ∷ decimal r.a ∷ decima
 abbrev pub record_text : List (List ℕ) → List ℕ
 record_text fields = join_with_byte 44 fields ++ 10 ∷ []
 
--- the header and the records, as bytes
+-- the header and the records, each as a line
 abbrev pub trace_text : List Drawn → List ℕ
 trace_text rs = flat_map record_text (header_fields ∷ map fields_of rs)
 
--- the trace of a number
+-- the trace of a number, as bytes
 abbrev pub made_trace : ℕ → List ℕ
 made_trace number = trace_text (records_of number)

@@ -9,9 +9,9 @@ use mq_core::{
 use mq_graph::cycles_are_left;
 use mq_model::printed_models_are_read;
 
-/// No departure passes the bound of a network where the rows come early enough: where the bound is no
-/// earlier than the time of the latest row and 2^39 ticks for each row at each node, which are the
-/// greatest demands of 8 servers.
+/// No departure passes the bound of a network where the rows come early enough: where the bound is
+/// no earlier than the time of the latest row and 2^39 ticks for each row at each node, which are
+/// the greatest demands of 8 servers.
 pub fn departures_are_bounded()
     ensures { DeparturesAreBounded }
 {

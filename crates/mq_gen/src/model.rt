@@ -152,7 +152,7 @@ fn branches(
     Ok(all)
 }
 
-/// The kind of a section by its draw, with these places where it has any.
+/// The kind of a section by its draw, over these columns, with these places where it has any.
 fn kind_by(
     alloc: Global,
     columns: &[List<u8>],
@@ -245,7 +245,7 @@ fn all_sections(alloc: Global, generator: &mut Lcg64Xsh32) -> Result<Sections, O
     Ok(sections)
 }
 
-/// The plan of the network that a generator draws. The generator is left behind its last draw.
+/// The plan of the network that a generator draws. The generator is left after its last draw.
 pub(crate) fn made_plan(alloc: Global, generator: &mut Lcg64Xsh32) -> Result<Plan, OutOfMemory>
     ensures net { IfOk result (λ plan. plan.net ≡ network_from (sections_from generator.old)) }
     ensures moved { OnOk result (generator.new ≡ (sections_from generator.old).generator) }

@@ -1,6 +1,6 @@
 // The text of the records.
 ghost use Rattle.std.specs.Prelude.{◌≡◌, ◌+◌, ◌≤◌, ◌∷◌, ◌++◌, [], IfOk, OnOk, decimal};
-ghost use Rattle.mq_gen.specs.Made.{fields_of, record_behind, record_text, records_from, trace_text};
+ghost use Rattle.mq_gen.specs.Made.{fields_of, next_record, record_text, records_from, trace_text};
 
 use crate::draws::draw;
 use itoa::Buffer;
@@ -17,16 +17,16 @@ fn push_field(text: &mut Vec<u8>, number: u32, end: u8) -> Result<(), OutOfMemor
     Ok(())
 }
 
-/// Draws the record behind a time and adds it. The answer is its time.
+/// Draws the next record after a time and adds it. The answer is its time.
 fn push_record(
     text: &mut Vec<u8>,
     generator: &mut Lcg64Xsh32,
     last: u32,
 ) -> Result<u32, OutOfMemory>
     requires { last ≤ 480000 }
-    ensures text { OnOk result (text.new.items ≡ text.old.items ++ record_text (fields_of (record_behind last generator.old).0)) }
-    ensures moved { OnOk result (generator.new ≡ (record_behind last generator.old).1) }
-    ensures time { IfOk result (λ time. time ≡ (record_behind last generator.old).0.time) }
+    ensures text { OnOk result (text.new.items ≡ text.old.items ++ record_text (fields_of (next_record last generator.old).0)) }
+    ensures moved { OnOk result (generator.new ≡ (next_record last generator.old).1) }
+    ensures time { IfOk result (λ time. time ≡ (next_record last generator.old).0.time) }
     ensures near { IfOk result (λ time. time ≤ last + 11) }
 {
     let time = last + draw(generator, 12);
@@ -41,7 +41,7 @@ fn push_record(
     Ok(time)
 }
 
-/// The text of 20,000 to 40,000 records that the generator draws, behind their header.
+/// The text of 20,000 to 40,000 records that the generator draws, after their header.
 pub(crate) fn made_records(
     alloc: Global,
     generator: &mut Lcg64Xsh32,
