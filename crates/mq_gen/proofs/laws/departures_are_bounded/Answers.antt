@@ -1,0 +1,17 @@
+use Rattle.mq_gen.proofs.BoundedRanks.{departures-bounded}
+use Rattle.mq_gen.proofs.laws.departures_are_bounded.Goals as goal
+
+pub returns : goal.returns
+returns c =
+    departures-bounded (record {
+      arrivals = c.arrivals_are_streams.ensures;
+      columns = c.nodes_are_columns.ensures;
+      demands = c.rows_tell_demands.ensures;
+      few = c.visits_are_few.ensures;
+      jobs = c.jobs_are_rows.ensures;
+      keeps = c.orders_keep_items.ensures;
+      limits = c.nodes_are_in_limits.ensures;
+      networks = c.runs_are_of_networks.ensures;
+      none = c.past_is_none.ensures;
+      ranks = c.orders_rank.ensures;
+    })

@@ -1,0 +1,4 @@
+pub mod Accepted
+pub mod Bounded
+pub mod Drawing
+pub mod Made

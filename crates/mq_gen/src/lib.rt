@@ -1,0 +1,44 @@
+//! Made inputs: for each number a model and a trace, always the same, which are accepted.
+//!
+//! One generator (PCG32, on stream 1, from the number) draws both: first the model of two sources
+//! and 1 to 12 stations, then 20,000 to 40,000 records.
+#![tactic(auto)]
+
+mod draws;
+mod laws;
+mod model;
+mod trace;
+
+ghost use Rattle.std.specs.Prelude.{◌≡◌, IfOk};
+ghost use Rattle.mq_gen.specs.Made.{made_model, made_trace};
+
+use crate::model::made_plan;
+use crate::trace::made_records;
+pub use laws::{departures_are_bounded, made_inputs_are_accepted};
+use mq_base::{List, OutOfMemory};
+use mq_model::print_model;
+use rand_pcg::Lcg64Xsh32;
+use std::alloc::Global;
+
+#[cfg(test)]
+mod tests;
+
+/// A model text and a trace text for it, as bytes.
+#[derive(Drop)]
+pub struct MadeInput {
+    pub model: List<u8>,
+    pub trace: List<u8>,
+}
+
+/// The made input of a number. It refuses for want of memory alone.
+pub fn made(alloc: Global, number: u64) -> Result<MadeInput, OutOfMemory>
+    ensures model { IfOk result (λ input. input.model ≡ made_model number) }
+    ensures trace { IfOk result (λ input. input.trace ≡ made_trace number) }
+{
+    let mut generator = Lcg64Xsh32::new(number, 1);
+    let plan = made_plan(alloc, &mut generator)?;
+    Ok(MadeInput {
+        model: print_model(alloc, &plan)?,
+        trace: made_records(alloc, &mut generator)?,
+    })
+}

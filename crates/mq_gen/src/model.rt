@@ -1,0 +1,264 @@
+// The network that a generator draws, and its plan.
+ghost use Rattle.std.specs.Prelude.{◌≡◌, ◌+◌, ◌∷◌, ◌<◌, ◌≤◌, [], IfOk, OnOk, decimal, fold, length};
+ghost use Rattle.std.specs.List.{list_any, position_or_len};
+ghost use Rattle.std.specs.Str.{bytes_eq};
+ghost use Rattle.mq_core.specs.Sound.{outputs_in};
+ghost use Rattle.rand_pcg.specs.Lcg.{Lcg};
+ghost use Rattle.mq_gen.specs.Drawing.{with_generator};
+ghost use Rattle.mq_gen.specs.Made.{demand_in, kind_by, mention, mentions_of, network_from, next_section, no_sections, outputs_from, places_by, sections_from, source_node};
+
+use crate::draws::draw;
+use itoa::Buffer;
+use mq_base::{List, OutOfMemory};
+use mq_core::{Demand, Input, Kind, Network, Node, Plan, Route, Stage, outputs_of};
+use mq_graph::{RankFault, rank};
+use rand_pcg::Lcg64Xsh32;
+use std::alloc::Global;
+
+/// The nodes so far, the columns that they mention, and the outputs that the next section reads.
+#[derive(Drop)]
+struct Sections {
+    nodes: List<Node>,
+    columns: List<List<u8>>,
+    ends: List<Input>,
+}
+
+/// A letter and a number.
+fn numbered(alloc: Global, letter: u8, number: usize) -> Result<List<u8>, OutOfMemory>
+    ensures { IfOk result (λ name. name ≡ letter ∷ decimal number) }
+{
+    let mut name = Vec::new(alloc);
+    name.push(letter)?;
+    name.extend_from_slice(Buffer::new().format(number).as_bytes())?;
+    Ok(List::from_vec(name))
+}
+
+fn source(alloc: Global, number: usize) -> Result<Node, OutOfMemory>
+    ensures { IfOk result (λ node. node ≡ source_node number) }
+{
+    Ok(Node {
+        name: numbered(alloc, b's', number)?,
+        kind: Kind::Source,
+        inputs: List::new(alloc),
+    })
+}
+
+/// Two sources, which the first section reads.
+fn no_sections(alloc: Global) -> Result<Sections, OutOfMemory>
+    ensures { IfOk result (λ s. (generator : Lcg) → with_generator s generator ≡ no_sections generator) }
+{
+    let mut nodes = List::new(alloc);
+    nodes.push(source(alloc, 0)?)?;
+    nodes.push(source(alloc, 1)?)?;
+    let mut ends = List::new(alloc);
+    ends.push(Input { node: 0, out: 0 })?;
+    ends.push(Input { node: 1, out: 0 })?;
+    Ok(Sections {
+        nodes,
+        columns: List::new(alloc),
+        ends,
+    })
+}
+
+fn is_among(columns: &[List<u8>], name: &[u8]) -> bool
+    ensures { result ≡ list_any (λ other. bytes_eq other name.now) columns.now }
+{
+    columns.iter().any(|other| other.as_slice() == name)
+}
+
+/// Adds a column where it isn't there.
+fn mention(alloc: Global, columns: &mut List<List<u8>>, name: &[u8]) -> Result<(), OutOfMemory>
+    ensures ok { OnOk result (columns.new ≡ mention columns.old name.now) }
+    ensures few { OnOk result (length columns.new ≤ length columns.old + 1) }
+{
+    if !is_among(columns.as_slice(), name) {
+        columns.push(List::from_vec(name.to_vec(alloc)?))?;
+    }
+    Ok(())
+}
+
+/// Adds the columns that a section of this draw mentions.
+fn mention_all(alloc: Global, columns: &mut List<List<u8>>, drawn: u32) -> Result<(), OutOfMemory>
+    ensures ok { OnOk result (columns.new ≡ fold mention columns.old (mentions_of drawn)) }
+    ensures few { OnOk result (length columns.new ≤ length columns.old + 2) }
+{
+    match drawn {
+        0 | 2 => mention(alloc, columns, b"a"),
+        1 => mention(alloc, columns, b"b"),
+        3 | 4 => {
+            mention(alloc, columns, b"a")?;
+            mention(alloc, columns, b"b")
+        }
+        _ => Ok(()),
+    }
+}
+
+/// The place of a column, or the number of columns.
+fn column_of(columns: &[List<u8>], name: &[u8]) -> usize
+    ensures at { result ≡ position_or_len (λ other. bytes_eq other name.now) columns.now }
+    ensures within { result ≤ length columns.now }
+{
+    columns
+        .iter()
+        .take_while(|other| other.as_slice() != name)
+        .count()
+}
+
+/// A job's value in the column of this name.
+fn demand_in(columns: &[List<u8>], name: &[u8]) -> Demand
+    requires { length columns.now ≤ 16 }
+    ensures { result ≡ demand_in columns.now name.now }
+{
+    Demand::Column(column_of(columns, name) as u8)
+}
+
+/// Two stages, of which the second has these places.
+fn stages(
+    alloc: Global,
+    first: Demand,
+    places: u8,
+    second: Demand,
+) -> Result<List<Stage>, OutOfMemory>
+    ensures { IfOk result (λ all. all ≡ record { places = 0; demand = first } ∷ record { places = places; demand = second } ∷ []) }
+{
+    let mut all = List::new(alloc);
+    all.push(Stage {
+        places: 0,
+        demand: first,
+    })?;
+    all.push(Stage {
+        places,
+        demand: second,
+    })?;
+    Ok(all)
+}
+
+/// A branch of one server, and one of two.
+fn branches(
+    alloc: Global,
+    single: Demand,
+    double: Demand,
+) -> Result<List<List<Demand>>, OutOfMemory>
+    ensures { IfOk result (λ all. all ≡ (single ∷ []) ∷ (double ∷ double ∷ []) ∷ []) }
+{
+    let mut one = List::new(alloc);
+    one.push(single)?;
+    let mut two = List::new(alloc);
+    two.push(double)?;
+    two.push(double)?;
+    let mut all = List::new(alloc);
+    all.push(one)?;
+    all.push(two)?;
+    Ok(all)
+}
+
+/// The kind of a section by its draw, over these columns, with these places where it has any.
+fn kind_by(
+    alloc: Global,
+    columns: &[List<u8>],
+    places: u32,
+    drawn: u32,
+) -> Result<Kind, OutOfMemory>
+    requires few { length columns.now ≤ 16 }
+    requires places { places ≤ 4 }
+    ensures { IfOk result (λ kind. kind ≡ kind_by columns.now places drawn) }
+{
+    let a = demand_in(columns, b"a");
+    let b = demand_in(columns, b"b");
+    match drawn {
+        0 => Ok(Kind::Server(a)),
+        1 => Ok(Kind::Delay(b)),
+        2 => Ok(Kind::Loss { places, demand: a }),
+        3 => Ok(Kind::Tandem(stages(alloc, a, places as u8, b)?)),
+        4 => Ok(Kind::ForkJoin(branches(alloc, a, b)?)),
+        _ => Ok(Kind::Split(Route::Turn { outputs: 2 })),
+    }
+}
+
+/// The places of a section: a loss station and a tandem draw 1 to 4, and the others draw nothing.
+fn places_by(drawn: u32, generator: &mut Lcg64Xsh32) -> u32
+    ensures drawn { result ≡ (places_by drawn generator.old).0 }
+    ensures moved { generator.new ≡ (places_by drawn generator.old).1 }
+    ensures few { result ≤ 4 }
+{
+    match drawn {
+        2 | 3 => draw(generator, 4) + 1,
+        _ => 0,
+    }
+}
+
+/// The outputs of a node, one or two.
+fn outputs_from(alloc: Global, node: u32, kind: &Kind) -> Result<List<Input>, OutOfMemory>
+    requires { outputs_in kind.now ≤ 8 }
+    ensures { IfOk result (λ ends. ends ≡ outputs_from node kind.now) }
+{
+    let mut ends = List::new(alloc);
+    ends.push(Input { node, out: 0 })?;
+    if outputs_of(kind) == 2 {
+        ends.push(Input { node, out: 1 })?;
+    }
+    Ok(ends)
+}
+
+/// One section more, which reads each output of the section before it.
+fn next_section(
+    alloc: Global,
+    sections: Sections,
+    generator: &mut Lcg64Xsh32,
+) -> Result<Sections, OutOfMemory>
+    requires some { 2 ≤ length sections.nodes }
+    requires few { length sections.nodes ≤ 64 }
+    requires few_columns { length sections.columns ≤ 14 }
+    ensures { IfOk result (λ s. with_generator s generator.new ≡ next_section (with_generator sections generator.old)) }
+{
+    let Sections {
+        mut nodes,
+        mut columns,
+        ends,
+    } = sections;
+    let drawn = draw(generator, 6);
+    let places = places_by(drawn, generator);
+    mention_all(alloc, &mut columns, drawn)?;
+    let kind = kind_by(alloc, columns.as_slice(), places, drawn)?;
+    let outputs = outputs_from(alloc, nodes.len() as u32, &kind)?;
+    nodes.push(Node {
+        name: numbered(alloc, b'n', nodes.len() - 2)?,
+        kind,
+        inputs: ends,
+    })?;
+    Ok(Sections {
+        nodes,
+        columns,
+        ends: outputs,
+    })
+}
+
+/// All sections that a generator draws, 1 to 12.
+fn all_sections(alloc: Global, generator: &mut Lcg64Xsh32) -> Result<Sections, OutOfMemory>
+    ensures { IfOk result (λ s. with_generator s generator.new ≡ sections_from generator.old) }
+{
+    let count = draw(generator, 12) + 1;
+    let mut sections = no_sections(alloc)?;
+    for _section in 0..count {
+        sections = next_section(alloc, sections, generator)?;
+    }
+    Ok(sections)
+}
+
+/// The plan of the network that a generator draws. The generator is left after its last draw.
+pub(crate) fn made_plan(alloc: Global, generator: &mut Lcg64Xsh32) -> Result<Plan, OutOfMemory>
+    ensures net { IfOk result (λ plan. plan.net ≡ network_from (sections_from generator.old)) }
+    ensures moved { OnOk result (generator.new ≡ (sections_from generator.old).generator) }
+{
+    let sections = all_sections(alloc, generator)?;
+    let net = Network {
+        nodes: sections.nodes,
+        columns: sections.columns,
+        bound: 1 << 60,
+    };
+    match rank(alloc, &net) {
+        Ok(order) => Ok(Plan { net, order }),
+        Err(RankFault::Cycle { .. }) => unreachable!("each section reads only nodes before it"),
+        Err(RankFault::Memory) => Err(OutOfMemory),
+    }
+}
