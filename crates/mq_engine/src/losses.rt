@@ -1,8 +1,8 @@
 // Loss stations: which arrivals find a place, and where each goes.
 ghost use Rattle.std.specs.Prelude.{◌≡◌, ◌<◌, ◌≤◌, length, map, IfOk};
-ghost use Rattle.mq_core.specs.Columns.{IsSoundLoad, leaving_time, leaving_times, out_of_fate};
+ghost use Rattle.mq_core.specs.Columns.{IsSoundLoad, picked};
 ghost use Rattle.mq_core.specs.declared.model.Kind.TheVariants.{Loss};
-ghost use Rattle.mq_engine.specs.Losses.{fates_by};
+ghost use Rattle.mq_engine.specs.Losses.{AreAdmittedAndLost, fates_by, out_of_admission};
 ghost use Rattle.mq_engine.specs.Turns.{IsLeaving, IsLoad};
 ghost use Rattle.mq_loss.specs.Rounds.{IsSettled};
 
@@ -10,7 +10,6 @@ use crate::stations::{Outflow, demands_of};
 use mq_base::{List, OutOfMemory, Steps};
 use mq_core::{Demand, Fate, Network, Rows, Stream, fates_are_in_time};
 use mq_loss::{Settled, settle};
-use mq_split::pick;
 use std::alloc::Global;
 use std::marker::Brand;
 use std::sync::ledger::{Blank, Ledger};
@@ -34,15 +33,10 @@ pub fn admitted_or_lost(
     fates_are_in_time();
     let demands = demands_of(alloc, net, rows, demand, &arrivals.job)?;
     let settled = settled::<Brand>(alloc, arrivals, &demands, places, Blank::new(1))?;
-    let fates = fates_of(alloc, &settled.admitted, &settled.departs)?;
-    let outs = outs_of(alloc, &fates)?;
-    let all = Stream {
-        job: List::from_vec(Vec::from_slice(alloc, arrivals.job.as_slice())?),
-        time: times_of(alloc, &arrivals.time, &fates)?,
-    };
-    let mut streams = List::new(alloc);
-    streams.push(pick(alloc, &all, &outs, 0)?)?;
-    streams.push(pick(alloc, &all, &outs, 1)?)?;
+    drop(demands);
+    let departs = settled.departs;
+    let fates = fates_of(alloc, &settled.admitted, &departs)?;
+    let streams = streams_of(alloc, arrivals, &settled.admitted, departs)?;
     Ok(Outflow { fates, streams })
 }
 
@@ -66,6 +60,8 @@ fn settled<L: Ledger>(
 }
 
 // The fate of each arrival.
+// Its loop, like the one below, is not inlined, so that it has the registers to itself.
+#[inline(never)]
 fn fates_of(
     alloc: Global,
     admitted: &List<bool>,
@@ -73,57 +69,53 @@ fn fates_of(
 ) -> Result<List<Fate>, OutOfMemory>
     ensures { IfOk result (λ fates. fates ≡ fates_by admitted.now departs.now) }
 {
-    let mut fates = List::from_vec(Vec::with_capacity(alloc, admitted.len())?);
+    let mut fates = Vec::with_capacity(alloc, admitted.len())?;
     let mut next = 0;
     for at in 0..admitted.len() {
         if *admitted.get(at) && next < departs.len() {
-            fates.push(Fate::Departs(*departs.get(next)))?;
+            fates.push_reserved(Fate::Departs(*departs.get(next)));
             next += 1;
         } else {
-            fates.push(Fate::Lost)?;
+            fates.push_reserved(Fate::Lost);
         }
     }
-    Ok(fates)
+    Ok(List::from_vec(fates))
 }
 
-// The output by which a job leaves that fares so.
-fn out_of(fate: &Fate) -> u8
-    ensures { result ≡ out_of_fate fate.now }
+// The streams that leave: the jobs that are admitted, at their departures, and the others, which
+// leave as they come.
+#[inline(never)]
+fn streams_of(
+    alloc: Global,
+    arrivals: &Stream,
+    admitted: &List<bool>,
+    departs: List<u64>,
+) -> Result<List<Stream>, OutOfMemory>
+    requires jobs { length arrivals.now.job ≡ length admitted.now }
+    requires times { length arrivals.now.time ≡ length admitted.now }
+    requires departs { length departs ≡ length (picked 0 (map out_of_admission admitted.now) arrivals.now.job) }
+    ensures { IfOk result (λ streams. AreAdmittedAndLost arrivals.now admitted.now departs streams) }
 {
-    match fate {
-        Fate::Departs(_) => 0,
-        Fate::Lost => 1,
+    let count = admitted.len() - departs.len();
+    let mut served = Vec::with_capacity(alloc, departs.len())?;
+    let mut job = Vec::with_capacity(alloc, count)?;
+    let mut time = Vec::with_capacity(alloc, count)?;
+    for at in 0..admitted.len() {
+        if *admitted.get(at) {
+            served.push_reserved(*arrivals.job.get(at));
+        } else {
+            job.push_reserved(*arrivals.job.get(at));
+            time.push_reserved(*arrivals.time.get(at));
+        }
     }
-}
-
-// The output by which each job leaves.
-fn outs_of(alloc: Global, fates: &List<Fate>) -> Result<Vec<u8>, OutOfMemory>
-    ensures { IfOk result (λ outs. outs.items ≡ map out_of_fate fates.now) }
-{
-    let mut outs = Vec::with_capacity(alloc, fates.len())?;
-    for at in 0..fates.len() {
-        outs.push(out_of(fates.get(at)))?;
-    }
-    Ok(outs)
-}
-
-// When each job leaves: a lost one when it comes.
-fn times_of(alloc: Global, arrive: &List<u64>, fates: &List<Fate>) -> Result<List<u64>, OutOfMemory>
-    requires { length fates.now ≡ length arrive.now }
-    ensures { IfOk result (λ times. times ≡ leaving_times arrive.now fates.now) }
-{
-    let mut times = List::from_vec(Vec::with_capacity(alloc, arrive.len())?);
-    for at in 0..arrive.len() {
-        times.push(time_of(*arrive.get(at), fates.get(at)))?;
-    }
-    Ok(times)
-}
-
-fn time_of(arrive: u64, fate: &Fate) -> u64
-    ensures { result ≡ leaving_time arrive fate.now }
-{
-    match fate {
-        Fate::Departs(time) => *time,
-        Fate::Lost => arrive,
-    }
+    let mut streams = List::new(alloc);
+    streams.push(Stream {
+        job: List::from_vec(served),
+        time: departs,
+    })?;
+    streams.push(Stream {
+        job: List::from_vec(job),
+        time: List::from_vec(time),
+    })?;
+    Ok(streams)
 }

@@ -101,15 +101,15 @@ goes-on places times demands first windows stand stand' d h l e =
     })
 
 -- once all are settled, they are the admission, and the departures are theirs
-pub settled-all : (places : ℕ) (times demands : List ℕ) (settled : Settled) → length demands ≡ length times → length times ≤ length settled.admitted →
-    IsRightSoFar places times demands settled.admitted → settled.departs ≡ departures_of times demands settled.admitted → IsSettled places times demands settled
-settled-all places times demands settled d l h e =
-    let none : drop (length settled.admitted) times ≡ [] = drop_all (length settled.admitted) times l in
-    let is : settled.admitted ≡ admission places times demands =
-    sym (append-nil settled.admitted)
-    ∙ (ap (λ (ts : List ℕ). settled.admitted ++ admission_from places (reverse (departures_of times demands settled.admitted)) ts (drop (length settled.admitted) demands)) (sym none)
+pub settled-all : (places : ℕ) (times demands : List ℕ) (admitted : List Bool) (departs : List ℕ) (settled : Settled) → length demands ≡ length times → length times ≤ length admitted →
+    IsRightSoFar places times demands admitted → departs ≡ departures_of times demands admitted → settled.admitted ≡ admitted → settled.departs ≡ departs → IsSettled places times demands settled
+settled-all places times demands admitted departs settled d l h e a b =
+    let none : drop (length admitted) times ≡ [] = drop_all (length admitted) times l in
+    let is : admitted ≡ admission places times demands =
+    sym (append-nil admitted)
+    ∙ (ap (λ (ts : List ℕ). admitted ++ admission_from places (reverse (departures_of times demands admitted)) ts (drop (length admitted) demands)) (sym none)
     ∙ h.right) in
     record {
-      admitted = is;
-      departs = e ∙ (ap (departures_of times demands) is ∙ sym (admission-departs places [] times demands d));
+      admitted = a ∙ is;
+      departs = b ∙ (e ∙ (ap (departures_of times demands) is ∙ sym (admission-departs places [] times demands d)));
     }

@@ -1,7 +1,7 @@
 -- What one window makes of the settled places and their departures.
 use Rattle.std.proofs.Common.{◌≡◌, ℕ, zero, suc, ◌+◌, ◌-◌, ◌≤◌, Bool, List, [], ◌∷◌, ◌++◌, length, take, drop, refl, sym, ap, ◌∙◌, arith, length-drop, length-append}
 use Rattle.std.specs.Prelude.{min, reverse}
-use Rattle.std.proofs.Math.Seq.{take-append-add}
+use Rattle.std.proofs.Math.Seq.{drop-append_seam, take-append-add}
 use Rattle.std.proofs.lemmas.List.{append-nil}
 use Rattle.mq_core.specs.Recurrences.{is_admitted}
 use Rattle.mq_loss.specs.Rounds.{all_admitted, departure_behind, departures_from, departures_of, round_from}
@@ -59,6 +59,14 @@ window-is places times demands settled width count departs departs' outcome d wi
           ∙ (ap (λ (q : List ℕ × List ℕ). q.0 ++ departures_from q.1 times' demands' (take (settled_in outcome) outcome)) (λ k. (left k, sym front k))
           ∙ sym (departures-append [] times demands settled (take (settled_in outcome) outcome) d))))));
     }
+
+-- the outcome that was put behind the settled places, and a first part of both
+pub outcome-behind : (settled outcome admitted : List Bool) (from : ℕ) → from ≡ length settled → admitted ≡ settled ++ outcome → drop from admitted ≡ outcome
+outcome-behind settled outcome admitted from e h = (λ k. drop (e k) (h k)) ∙ drop-append_seam settled outcome
+
+pub settled-first : (settled outcome admitted : List Bool) (from count : ℕ) → from ≡ length settled → admitted ≡ settled ++ outcome → take (from + count) admitted ≡ settled ++ take count (drop from admitted)
+settled-first settled outcome admitted from count e h =
+    (λ k. take (e k + count) (h k)) ∙ (take-append-add settled outcome count ∙ ap (λ xs. settled ++ take count xs) (sym (outcome-behind settled outcome admitted from e h)))
 
 -- where the run stands behind the window
 pub stands : (places : ℕ) (times demands : List ℕ) (settled settled' outcome : List Bool) (width width' judged judged' count : ℕ) →

@@ -1,7 +1,7 @@
 -- Rounds of guesses over windows that grow while they settle.
 use Rattle.std.specs.Prelude.{◌≡◌, ℕ, zero, suc, ◌+◌, ◌*◌, ◌<◌, min, Bool, true, false, List, [], ◌∷◌, ◌++◌, length, take, drop, ◌==◌, if◌then◌else◌}
 use Rattle.mq_loss.specs.Rounds.{all_admitted, round_of}
-use Rattle.mq_loss.specs.declared.answer.Settled.{Settled}
+use Rattle.mq_loss.specs.declared.windows.Progress.{Progress}
 
 -- how many places come before the first that a round changed, where all were guessed admitted
 abbrev pub unchanged_in : List Bool → ℕ
@@ -51,6 +51,6 @@ pub record IsWindowRun (places : ℕ) (times demands : List ℕ) (first rounds j
   pub all : length (after_windows places times demands first rounds).settled ≡ length times
   pub judged : judgements ≡ (after_windows places times demands first rounds).judged
 
--- where the run stands that has this answer so far, and the length of the next window
-abbrev pub stand_of : Settled → ℕ → Stand
-stand_of settled width = record { settled = settled.admitted; width = width; judged = settled.judged }
+-- where the run stands that has come so far, with the length of the next window
+abbrev pub stand_of : Progress → ℕ → Stand
+stand_of progress width = record { settled = progress.admitted.items; width = width; judged = progress.judged }

@@ -6,12 +6,27 @@ use mq_base::{List, OutOfMemory, Steps};
 use std::sync::ledger::Ledger;
 
 // Whether an arrival finds a place, by the departures of those admitted before it, in order.
-pub fn finds_place(departs: &List<u64>, places: u32, arrive: u64) -> bool
+pub fn finds_place(departs: &[u64], places: u32, arrive: u64) -> bool
     requires { 1 ≤ places }
     ensures { result ≡ is_admitted places (reverse departs.now) arrive }
 {
     let count = departs.len();
-    count < places as usize || *departs.get(count - places as usize) <= arrive
+    count < places as usize || departs[count - places as usize] <= arrive
+}
+
+// The same, which counts one step.
+pub fn judge_behind<L: Ledger>(
+    departs: &[u64],
+    places: u32,
+    arrive: u64,
+    steps: &mut Steps<L>,
+) -> bool
+    requires { 1 ≤ places }
+    ensures answer { result ≡ is_admitted places (reverse departs.now) arrive }
+    ensures cost { steps.new ≡ steps.old + 1 }
+{
+    steps.tick();
+    finds_place(departs, places, arrive)
 }
 
 /// Whether an arrival is admitted: fewer than `places` were admitted before it, or the last of
@@ -23,18 +38,17 @@ pub fn judge<L: Ledger>(departs: &List<u64>, places: u32, arrive: u64, steps: &m
     ensures answer { result ≡ is_admitted places (reverse departs.now) arrive }
     ensures cost { steps.new ≡ steps.old + 1 }
 {
-    steps.tick();
-    finds_place(departs, places, arrive)
+    judge_behind(departs.as_slice(), places, arrive, steps)
 }
 
 // The last of these departures, or 0.
-fn last_of(departs: &List<u64>) -> u64
+pub fn last_of(departs: &[u64]) -> u64
     ensures { result ≡ time_or_none (slice_get (reverse departs.now) 0) }
 {
     if departs.is_empty() {
         return 0;
     }
-    *departs.get(departs.len() - 1)
+    departs[departs.len() - 1]
 }
 
 // Puts the departure of one more job behind these.
@@ -44,7 +58,7 @@ pub fn serve(departs: &mut List<u64>, arrive: u64, demand: u64) -> Result<(), Ou
     requires demand { demand ≤ 2 ^ 36 }
     ensures { OnOk result (departs.new ≡ departs.old ++ departure_behind (reverse departs.old) arrive demand ∷ []) }
 {
-    let begins = last_of(departs).max(arrive);
+    let begins = last_of(departs.as_slice()).max(arrive);
     departs.push(begins + demand)
 }
 

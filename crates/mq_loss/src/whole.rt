@@ -42,7 +42,7 @@ pub fn round(
         let arrive = *stream.time.get(at);
         let demand = *demands.get(at);
         let admit = *guess.get(at);
-        answer.push(finds_place(&departs, places, arrive))?;
+        answer.push(finds_place(departs.as_slice(), places, arrive))?;
         follow(&mut departs, admit, arrive, demand)?;
     }
     Ok(answer)

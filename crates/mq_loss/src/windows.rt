@@ -1,45 +1,58 @@
-ghost use Rattle.std.specs.Prelude.{◌≡◌, ◌+◌, ◌-◌, ◌*◌, ◌^◌, ◌≤◌, ◌<◌, ◌++◌, drop, take, length, reverse, slice_get, IfOk, OnOk};
+ghost use Rattle.std.specs.Prelude.{◌≡◌, ◌+◌, ◌-◌, ◌*◌, ◌^◌, ◌≤◌, ◌<◌, ◌++◌, drop, take, length, reverse, slice_get, IfOk, vec_len, vec_capacity};
 ghost use Rattle.mq_core.specs.Columns.{IsSoundLoad};
 ghost use Rattle.mq_core.specs.Recurrences.{time_or_none};
 ghost use Rattle.mq_loss.specs.Rounds.{IsSettled, all_admitted, departures_from, departures_of, round_from};
 ghost use Rattle.mq_loss.specs.Windows.{IsWindowRun, next_width, one_window, settled_in, stand_of, unchanged_in};
 
 use crate::answer::Settled;
-use crate::judging::{judge, serve};
+use crate::judging::{judge_behind, last_of};
 use mq_base::{List, OutOfMemory, Steps};
 use mq_core::Stream;
 use std::alloc::Global;
 use std::sync::ledger::Ledger;
 
+// Where a run of windows stands: the settled places and the departures of those admitted, in
+// vectors with room for all arrivals, and the rounds and judgements made.
+#[derive(Drop)]
+struct Progress {
+    admitted: Vec<bool>,
+    departs: Vec<u64>,
+    rounds: u32,
+    judged: u64,
+}
+
 // One round over the places from `from` up to `to`, all of them guessed admitted: whether each is
-// admitted. The departures that the guess gives are put behind those of the settled places.
+// admitted, and the departures that the guess gives, are put behind those of the settled places.
 fn judge_window<L: Ledger>(
-    alloc: Global,
     stream: &Stream,
     demands: &List<u64>,
     places: u32,
     from: usize,
     to: usize,
-    departs: &mut List<u64>,
+    admitted: &mut Vec<bool>,
+    departs: &mut Vec<u64>,
     steps: &mut Steps<L>,
-) -> Result<List<bool>, OutOfMemory>
+)
     requires load { IsSoundLoad stream.now.time demands.now }
     requires places { 1 ≤ places }
     requires order { from ≤ to }
     requires within { to ≤ length stream.now.time }
-    requires early { time_or_none (slice_get (reverse departs.old) 0) ≤ 2 ^ 60 + from * 2 ^ 36 }
-    ensures outcome { IfOk result (λ outcome. outcome ≡ round_from places (reverse departs.old) (drop from stream.now.time) (drop from demands.now) (all_admitted (to - from))) }
-    ensures departs { OnOk result (departs.new ≡ departs.old ++ departures_from (reverse departs.old) (drop from stream.now.time) (drop from demands.now) (all_admitted (to - from))) }
-    ensures most { steps.new ≤ steps.old + (to - from) }
-    ensures cost { OnOk result (steps.new ≡ steps.old + (to - from)) }
+    requires early { time_or_none (slice_get (reverse departs.old.items) 0) ≤ 2 ^ 60 + from * 2 ^ 36 }
+    requires room { vec_len admitted.old + (to - from) ≤ vec_capacity admitted.old }
+    requires space { vec_len departs.old + (to - from) ≤ vec_capacity departs.old }
+    ensures outcome { admitted.new.items ≡ admitted.old.items ++ round_from places (reverse departs.old.items) (drop from stream.now.time) (drop from demands.now) (all_admitted (to - from)) }
+    ensures departs { departs.new.items ≡ departs.old.items ++ departures_from (reverse departs.old.items) (drop from stream.now.time) (drop from demands.now) (all_admitted (to - from)) }
+    ensures room { vec_capacity admitted.new ≡ vec_capacity admitted.old }
+    ensures space { vec_capacity departs.new ≡ vec_capacity departs.old }
+    ensures cost { steps.new ≡ steps.old + (to - from) }
 {
-    let mut outcome = List::new(alloc);
+    let mut last = last_of(departs.as_slice());
     for at in from..to {
         let arrive = *stream.time.get(at);
-        outcome.push(judge(departs, places, arrive, steps))?;
-        serve(departs, arrive, *demands.get(at))?;
+        admitted.push_reserved(judge_behind(departs.as_slice(), places, arrive, steps));
+        last = last.max(arrive) + *demands.get(at);
+        departs.push_reserved(last);
     }
-    Ok(outcome)
 }
 
 // How many places come before the first that the round changed.
@@ -54,17 +67,6 @@ fn unchanged_of(outcome: &[bool]) -> usize
     outcome.len()
 }
 
-// Puts the first `count` of these behind those that are settled.
-fn keep(admitted: &mut List<bool>, outcome: &List<bool>, count: usize) -> Result<(), OutOfMemory>
-    requires { count ≤ length outcome.now }
-    ensures { OnOk result (admitted.new ≡ admitted.old ++ take count outcome.now) }
-{
-    for at in 0..count {
-        admitted.push(*outcome.get(at))?;
-    }
-    Ok(())
-}
-
 // The length of the window behind one of which so many places were settled.
 fn width_after(settled: usize, width: usize) -> usize
     requires { width ≤ 2 ^ 34 }
@@ -75,47 +77,49 @@ fn width_after(settled: usize, width: usize) -> usize
 
 // Settles the next window, of this length or what is left, and gives the length of the one after it.
 fn settle_window<L: Ledger>(
-    alloc: Global,
     stream: &Stream,
     demands: &List<u64>,
     places: u32,
     width: usize,
-    settled: &mut Settled,
+    progress: &mut Progress,
     steps: &mut Steps<L>,
-) -> Result<usize, OutOfMemory>
+) -> usize
     requires load { IsSoundLoad stream.now.time demands.now }
     requires places { 1 ≤ places }
     requires width { width ≤ 2 ^ 34 }
-    requires within { length settled.old.admitted ≤ length stream.now.time }
-    requires rounds { settled.old.rounds ≤ 2 ^ 30 }
-    requires judged { settled.old.judged ≤ 2 ^ 40 }
-    requires departs { settled.old.departs ≡ departures_of stream.now.time demands.now settled.old.admitted }
-    ensures stand { IfOk result (λ next. stand_of settled.new next ≡ one_window places stream.now.time demands.now (stand_of settled.old width)) }
-    ensures departs { OnOk result (settled.new.departs ≡ departures_of stream.now.time demands.now settled.new.admitted) }
-    ensures rounds { OnOk result (settled.new.rounds ≡ settled.old.rounds + 1) }
-    ensures most { steps.new ≤ steps.old + width }
-    ensures cost { OnOk result (steps.new + settled.old.judged ≡ steps.old + settled.new.judged) }
+    requires within { vec_len progress.old.admitted ≤ length stream.now.time }
+    requires rounds { progress.old.rounds ≤ 2 ^ 30 }
+    requires judged { progress.old.judged ≤ 2 ^ 40 }
+    requires departs { progress.old.departs.items ≡ departures_of stream.now.time demands.now progress.old.admitted.items }
+    requires room { length stream.now.time ≤ vec_capacity progress.old.admitted }
+    requires space { length stream.now.time ≤ vec_capacity progress.old.departs }
+    ensures stand { stand_of progress.new result ≡ one_window places stream.now.time demands.now (stand_of progress.old width) }
+    ensures departs { progress.new.departs.items ≡ departures_of stream.now.time demands.now progress.new.admitted.items }
+    ensures room { vec_capacity progress.new.admitted ≡ vec_capacity progress.old.admitted }
+    ensures space { vec_capacity progress.new.departs ≡ vec_capacity progress.old.departs }
+    ensures rounds { progress.new.rounds ≡ progress.old.rounds + 1 }
+    ensures cost { steps.new + progress.old.judged ≡ steps.old + progress.new.judged }
 {
-    let from = settled.admitted.len();
+    let from = progress.admitted.len();
     let to = (from + width).min(stream.time.len());
-    let left = settled.departs.len();
-    let outcome = judge_window(
-        alloc,
+    let left = progress.departs.len();
+    judge_window(
         stream,
         demands,
         places,
         from,
         to,
-        &mut settled.departs,
+        &mut progress.admitted,
+        &mut progress.departs,
         steps,
-    )?;
-    let unchanged = unchanged_of(outcome.as_slice());
-    let count = (unchanged + 1).min(outcome.len());
-    settled.departs.truncate(left + unchanged);
-    keep(&mut settled.admitted, &outcome, count)?;
-    settled.rounds += 1;
-    settled.judged += outcome.len() as u64;
-    Ok(width_after(count, outcome.len()))
+    );
+    let unchanged = unchanged_of(&progress.admitted.as_slice()[from..]);
+    let count = (unchanged + 1).min(to - from);
+    progress.admitted.truncate(from + count);
+    progress.departs.truncate(left + unchanged);
+    progress.rounds += 1;
+    progress.judged += (to - from) as u64;
+    width_after(count, to - from)
 }
 
 /// Which arrivals of the stream a loss station with these places admits, and when they depart:
@@ -147,15 +151,23 @@ pub fn settle<L: Ledger>(
     ensures cost { IfOk result (λ settled. steps.new ≡ steps.old + settled.judged) }
     ensures most { steps.new ≤ steps.old + (2 * length stream.now.time + first) }
 {
-    let mut settled = Settled {
-        admitted: List::new(alloc),
-        departs: List::new(alloc),
+    let count = stream.time.len();
+    let admitted = Vec::with_capacity(alloc, count)?;
+    let departs = Vec::with_capacity(alloc, count)?;
+    let mut progress = Progress {
+        admitted,
+        departs,
         rounds: 0,
         judged: 0,
     };
     let mut width = first as usize;
-    'window: while settled.admitted.len() < stream.time.len() {
-        width = settle_window(alloc, stream, demands, places, width, &mut settled, steps)?;
+    'window: while progress.admitted.len() < count {
+        width = settle_window(stream, demands, places, width, &mut progress, steps);
     }
-    Ok(settled)
+    Ok(Settled {
+        admitted: List::from_vec(progress.admitted),
+        departs: List::from_vec(progress.departs),
+        rounds: progress.rounds,
+        judged: progress.judged,
+    })
 }

@@ -15,7 +15,8 @@ loop-at-preserved c =
     let left : List ℕ = reverse c.loop-at.departs in
     let behind : reverse c.follow.new.departs ≡ left_behind admit left arrive demand = left-next c.loop-at.departs c.follow.new.departs admit arrive demand c.in_ok-follow.ensures in
     let item = item-at c.args.stream.now.time c.args.demands.now at arrive demand c.requires.load c.get-arrive.ensures c.get-demand.ensures in
-    let pushed : c.push.new.self ≡ c.loop-at.answer ++ is_admitted c.args.places left arrive ∷ [] = c.in_ok-push.ensures.ok ∙ ap (λ b. c.loop-at.answer ++ b ∷ []) c.finds_place.ensures in
+    let place : c.finds_place.result ≡ is_admitted c.args.places left arrive = c.finds_place.ensures ∙ ap (λ (ds : List ℕ). is_admitted c.args.places (reverse ds) arrive) c.as_slice.ensures in
+    let pushed : c.push.new.self ≡ c.loop-at.answer ++ is_admitted c.args.places left arrive ∷ [] = c.in_ok-push.ensures.ok ∙ ap (λ b. c.loop-at.answer ++ b ∷ []) place in
     record {
       so_far = round-next c.args.places c.loop-at.answer c.push.new.self _ c.args.guess.now left (reverse c.follow.new.departs) c.args.stream.now.time c.args.demands.now at arrive demand admit c.get-arrive.ensures c.get-demand.ensures c.get-admit.ensures pushed behind c.loop-at.invariant.so_far;
       early = subst (λ (ls : List ℕ). IsEarly ls (at + 1)) (sym behind) (left-early left admit at arrive demand item c.loop-at.invariant.early);
