@@ -1,4 +1,4 @@
-ghost use Rattle.std.specs.Prelude.{◌≡◌, ◌<◌, ◌≤◌, ◌^◌, All, length, max, fold, sum, cond, count_by};
+ghost use Rattle.std.specs.Prelude.{◌≡◌, ◌<◌, ◌≤◌, ◌^◌, ℕ, All, length, max, fold, sum, cond, count_by};
 ghost use Rattle.mq_core.specs.Asked.{HasDemands};
 ghost use Rattle.mq_core.specs.Columns.{
   column_numbers,
@@ -13,7 +13,9 @@ ghost use Rattle.mq_core.specs.Columns.{
   one_more,
   service_time,
 };
-ghost use Rattle.mq_core.specs.Results.{is_lost};
+ghost use Rattle.mq_core.specs.Results.{bare_time, is_lost};
+ghost use Rattle.mq_core.specs.declared.model.Kind.{Kind as TheKind};
+ghost use Rattle.mq_core.specs.declared.model.Rows.{Rows as TheRows};
 ghost use Rattle.mq_stats.specs.Numbers.{AreVisits, totals_from};
 
 use crate::services::sum_of_branches;
@@ -59,33 +61,39 @@ pub fn wait_of(rows: &Rows, kind: &Kind, job: u32, arrive: u64, fate: Fate) -> u
     requires { HasDemands rows.now kind.now job }
     ensures { result ≡ column_wait rows.now kind.now job arrive fate }
 {
-    let bare = bare_of(rows, kind, job);
+    wait_beyond(bare_of(rows, kind, job), arrive, fate)
+}
+
+// How long a visit waited whose bare time this is, in ticks.
+fn wait_beyond(bare: u64, arrive: u64, fate: Fate) -> u64
+    ensures { (rows : TheRows) (kind : TheKind) (job : ℕ) → bare ≡ bare_time rows kind job → result ≡ column_wait rows kind job arrive fate }
+{
     match fate {
         Fate::Departs(time) => time.saturating_sub(arrive).saturating_sub(bare),
         Fate::Lost => 0,
     }
 }
 
-// How long a node of this kind serves a job that it doesn't lose, in ticks.
-fn service_at(rows: &Rows, kind: &Kind, job: u32) -> u64
-    requires { HasDemands rows.now kind.now job }
+// How long a node of this kind serves a job that it doesn't lose, whose bare time this is, in ticks.
+fn service_at(rows: &Rows, kind: &Kind, job: u32, bare: u64) -> u64
+    requires told { HasDemands rows.now kind.now job }
+    requires bare { bare ≡ bare_time rows.now kind.now job }
     ensures { result ≡ service_time rows.now kind.now job }
 {
     match kind {
         Kind::Source | Kind::Split(_) => 0,
-        Kind::Server(_) | Kind::Delay(_) | Kind::Loss { .. } | Kind::Tandem(_) => {
-            bare_of(rows, kind, job)
-        }
+        Kind::Server(_) | Kind::Delay(_) | Kind::Loss { .. } | Kind::Tandem(_) => bare,
         Kind::ForkJoin(branches) => sum_of_branches(rows, branches, job),
     }
 }
 
-// How long a visit was served, in ticks.
-fn service_of(rows: &Rows, kind: &Kind, job: u32, fate: Fate) -> u64
-    requires { HasDemands rows.now kind.now job }
+// How long a visit was served whose bare time this is, in ticks.
+fn service_of(rows: &Rows, kind: &Kind, job: u32, bare: u64, fate: Fate) -> u64
+    requires told { HasDemands rows.now kind.now job }
+    requires bare { bare ≡ bare_time rows.now kind.now job }
     ensures { result ≡ column_service rows.now kind.now job fate }
 {
-    let service = service_at(rows, kind, job);
+    let service = service_at(rows, kind, job, bare);
     match fate {
         Fate::Departs(_) => service,
         Fate::Lost => 0,
@@ -175,8 +183,9 @@ fn each_wait(rows: &Rows, kind: &Kind, visits: &Visits) -> Waits
     let (mut wait, mut longest, mut busy) = (0u128, 0u64, 0u128);
     for at in 0..visits.job.len() {
         let (job, fate) = (*visits.job.get(at), *visits.fate.get(at));
-        let served = service_of(rows, kind, job, fate);
-        let waited = wait_of(rows, kind, job, *visits.arrive.get(at), fate);
+        let bare = bare_of(rows, kind, job);
+        let served = service_of(rows, kind, job, bare, fate);
+        let waited = wait_beyond(bare, *visits.arrive.get(at), fate);
         busy += served as u128;
         wait += waited as u128;
         longest = longest.max(waited);
