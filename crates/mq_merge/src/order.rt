@@ -3,6 +3,7 @@ ghost use Rattle.std.specs.List.{zip};
 ghost use Rattle.mq_core.specs.Columns.{IsStream, by_first, pairs_of};
 ghost use Rattle.mq_core.specs.Laws.{Rises};
 
+use crate::sort::sort_by_first;
 use mq_base::{List, OutOfMemory};
 use mq_core::Stream;
 use std::alloc::Global;
@@ -16,7 +17,7 @@ pub fn by_time(alloc: Global, jobs: &List<u32>, times: &List<u64>) -> Result<Str
     ensures items { IfOk result (λ stream. pairs_of stream ≡ by_first (zip times.now jobs.now)) }
 {
     let mut items = items_of(alloc, jobs, times)?;
-    items.sort_by_key(|item| item.0)?;
+    sort_by_first(&mut items)?;
     columns_of(alloc, &items)
 }
 
@@ -29,9 +30,9 @@ fn items_of(
     requires { length times.now ≤ length jobs.now }
     ensures { IfOk result (λ items. items.items ≡ zip times.now jobs.now) }
 {
-    let mut items = Vec::new(alloc);
+    let mut items = Vec::with_capacity(alloc, times.len())?;
     for at in 0..times.len() {
-        items.push((*times.get(at), *jobs.get(at)))?;
+        items.push_reserved((*times.get(at), *jobs.get(at)));
     }
     Ok(items)
 }
@@ -42,11 +43,14 @@ fn columns_of(alloc: Global, items: &[(u64, u32)]) -> Result<Stream, OutOfMemory
     ensures stream { IfOk result (λ stream. IsStream stream) }
     ensures items { IfOk result (λ stream. pairs_of stream ≡ items.now) }
 {
-    let mut job = List::new(alloc);
-    let mut time = List::new(alloc);
+    let mut job = Vec::with_capacity(alloc, items.len())?;
+    let mut time = Vec::with_capacity(alloc, items.len())?;
     for item in items {
-        time.push(item.0)?;
-        job.push(item.1)?;
+        time.push_reserved(item.0);
+        job.push_reserved(item.1);
     }
-    Ok(Stream { job, time })
+    Ok(Stream {
+        job: List::from_vec(job),
+        time: List::from_vec(time),
+    })
 }

@@ -4,11 +4,11 @@ use Rattle.mq_merge.proofs.Lists.{map-all, zip-map}
 use Rattle.mq_merge.proofs.Sorted.{rising-stream}
 use Rattle.mq_merge.proofs.order.columns_of.Goals as goal
 
-times : (c : goal.After-loop-item) → c.loop-item.time ≡ map (λ (p : ℕ × ℕ). p.0) c.args.items.now
-times c = map-all (λ (p : ℕ × ℕ). p.0) c.args.items.now c.loop-item.item-index c.loop-item.time c.loop-item-test.false c.loop-item.invariant.times
+times : (c : goal.After-from_vec-2) → c.from_vec-2.result ≡ map (λ (p : ℕ × ℕ). p.0) c.args.items.now
+times c = c.from_vec-2.ensures ∙ map-all (λ (p : ℕ × ℕ). p.0) c.args.items.now c.loop-item.item-index _ c.loop-item-test.false c.loop-item.invariant.times
 
-jobs : (c : goal.After-loop-item) → c.loop-item.job ≡ map (λ (p : ℕ × ℕ). p.1) c.args.items.now
-jobs c = map-all (λ (p : ℕ × ℕ). p.1) c.args.items.now c.loop-item.item-index c.loop-item.job c.loop-item-test.false c.loop-item.invariant.jobs
+jobs : (c : goal.After-from_vec-2) → c.from_vec.result ≡ map (λ (p : ℕ × ℕ). p.1) c.args.items.now
+jobs c = c.from_vec.ensures ∙ map-all (λ (p : ℕ × ℕ). p.1) c.args.items.now c.loop-item.item-index _ c.loop-item-test.false c.loop-item.invariant.jobs
 
 pub returns-clause-stream : goal.returns-clause-stream
 returns-clause-stream c = rising-stream _ c.args.items.now (times c) (jobs c) c.requires
