@@ -2,18 +2,17 @@
 use Rattle.std.proofs.Common.{◌≡◌, ℕ, zero, suc, ◌+◌, ◌<◌, ◌≤◌, false, cond, List, [], ◌∷◌, ◌++◌, length, drop, take, Some, refl, sym, ap, ◌∙◌, subst, arith, append_assoc}
 use Rattle.std.specs.Prelude.{count_by, nat_lt, slice_get}
 use Rattle.std.specs.List.{AllByRecursion as Each, zip}
-use Rattle.std.specs.List.Sorted.{IsPermutation}
 use Rattle.std.proofs.lemmas.Bool.Decides.{nat_tests}
 use Rattle.std.proofs.lemmas.List.{take_more}
-use Rattle.std.proofs.lemmas.List.Sorted.{sum_by-IsPermutation}
 use Rattle.std.proofs.lemmas.List.Sums.{sum_by-append, sum_by-le-sum_by}
 use Rattle.std.proofs.lemmas.Option.{slice_get_within, get_or_from_slice_get}
 use Rattle.mq_core.specs.ColumnLaws.{LeavesFrom}
-use Rattle.mq_core.specs.Columns.{departs_after, founds_from}
+use Rattle.mq_core.specs.Columns.{by_first, departs_after, founds_from}
 use Rattle.mq_core.specs.Laws.{Rises}
 use Rattle.mq_core.specs.declared.model.Fate.{Fate}
 use Rattle.mq_core.specs.declared.model.Fate.TheVariants.{Departs, Lost}
 use Rattle.mq_stats.proofs.Counts.{count-cons}
+use Rattle.mq_stats.proofs.Ordered.{as-many}
 use Rattle.mq_stats.proofs.Steps.{drop_at}
 use Rattle.mq_stats.specs.Departures.{departures_from, is_gone, stays}
 
@@ -128,9 +127,9 @@ lost-next done all fates i f h =
     sym (ap (λ l. done ++ l) next) ∙ h
 
 -- what is gone and what the visit found are the earlier visits that stay
-pub told : (arrives : List ℕ) (fates : List Fate) (departures : List (ℕ × ℕ)) (at time gone stayed : ℕ) → length fates ≡ length arrives → Rises (λ a b. a ≤ b) arrives → Each (λ (p : ℕ × Fate). LeavesFrom p.0 p.1) (zip arrives fates) → IsPermutation (departures_from 0 fates) departures →
+pub told : (arrives : List ℕ) (fates : List Fate) (departures : List (ℕ × ℕ)) (at time gone stayed : ℕ) → length fates ≡ length arrives → Rises (λ a b. a ≤ b) arrives → Each (λ (p : ℕ × Fate). LeavesFrom p.0 p.1) (zip arrives fates) → departures ≡ by_first (departures_from 0 fates) →
     slice_get arrives at ≡ Some time → gone ≡ count_by (is_gone time at) departures → stayed ≡ count_by stays (take at fates) → gone + count_by (departs_after time) (take at fates) ≡ stayed
 told arrives fates departures at time gone stayed e r z p h g s =
     let all = gone-and-there at 0 at time arrives fates (omega arith) e r z h in
-    let moved = sum_by-IsPermutation (λ x. cond (is_gone time at x) 1 0) (departures_from 0 fates) departures p in
+    let moved = ap (count_by (is_gone time at)) p ∙ as-many (is_gone time at) (departures_from 0 fates) in
     omega arith

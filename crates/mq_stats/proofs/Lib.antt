@@ -1,5 +1,6 @@
 pub mod Steps
 pub mod RunSteps
 pub mod Counts
+pub mod Ordered
 pub mod Founds
 pub mod Sums

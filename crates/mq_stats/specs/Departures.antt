@@ -1,7 +1,6 @@
 -- Departures in order, by which the jobs that are gone are counted.
-use Rattle.std.specs.Prelude.{ℕ, suc, ◌==◌, ◌&&◌, ◌||◌, nat_lt, Bool, true, false, List, [], ◌∷◌}
-use Rattle.std.specs.List.Sorted.{IsSorted}
-use Rattle.std.specs.Ordering.{nat_cmp, ordering_then}
+use Rattle.std.specs.Prelude.{◌≡◌, ℕ, suc, ◌≤◌, ◌==◌, ◌&&◌, ◌||◌, nat_lt, Bool, true, false, List, [], ◌∷◌}
+use Rattle.mq_core.specs.Laws.{Rises}
 use Rattle.mq_core.specs.declared.model.Fate.{Fate}
 use Rattle.mq_core.specs.declared.model.Fate.TheVariants.{Departs, Lost}
 
@@ -21,7 +20,7 @@ is_gone time position departure = nat_lt departure.0 time || ((departure.0 == ti
 
 -- by time, those of one time by position
 abbrev pub Ascends : List (ℕ × ℕ) → Type 0
-Ascends departures = IsSorted (λ x y. ordering_then (nat_cmp x.0 y.0) (nat_cmp x.1 y.1)) departures
+Ascends departures = Rises (λ x y. (x.0 ≤ y.0) × (x.0 ≡ y.0 → x.1 ≤ y.1)) departures
 
 -- it departs some time
 abbrev pub stays : Fate → Bool

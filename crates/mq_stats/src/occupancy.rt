@@ -1,13 +1,13 @@
 ghost use Rattle.std.specs.Prelude.{◌≡◌, ◌≤◌, length, cond, count_by, IfOk};
 ghost use Rattle.std.specs.List.{AllByRecursion, zip};
-ghost use Rattle.std.specs.List.Sorted.{IsPermutation};
 ghost use Rattle.mq_core.specs.ColumnLaws.{LeavesFrom};
-ghost use Rattle.mq_core.specs.Columns.{founds_of};
+ghost use Rattle.mq_core.specs.Columns.{by_first, founds_of};
 ghost use Rattle.mq_core.specs.Laws.{Rises};
 ghost use Rattle.mq_stats.specs.Departures.{Ascends, departures_from, is_gone, stays};
 
 use mq_base::{List, OutOfMemory};
 use mq_core::Fate;
+use mq_merge::sort_by_first;
 use std::alloc::Global;
 
 // The departures of the visits that aren't lost, by position, each with its position.
@@ -15,26 +15,23 @@ fn departures_of(alloc: Global, fates: &List<Fate>) -> Result<Vec<(u64, u32)>, O
     requires few { length fates.now ≤ 1048576 }
     ensures { IfOk result (λ departures. departures.items ≡ departures_from 0 fates.now) }
 {
-    let mut departures = Vec::new(alloc);
+    let mut departures = Vec::with_capacity(alloc, fates.len())?;
     for at in 0..fates.len() {
         match fates.get(at) {
-            Fate::Departs(time) => departures.push((*time, at as u32))?,
+            Fate::Departs(time) => departures.push_reserved((*time, at as u32)),
             Fate::Lost => {}
         }
     }
     Ok(departures)
 }
 
-// The same by time, those of one time by position. Where no job overtakes another they stand so.
+// The same by time, those of one time by position.
 fn departures_in_order(alloc: Global, fates: &List<Fate>) -> Result<Vec<(u64, u32)>, OutOfMemory>
     requires few { length fates.now ≤ 1048576 }
-    ensures all { IfOk result (λ departures. IsPermutation (departures_from 0 fates.now) departures.items) }
-    ensures order { IfOk result (λ departures. Ascends departures.items) }
+    ensures { IfOk result (λ departures. departures.items ≡ by_first (departures_from 0 fates.now)) }
 {
     let mut departures = departures_of(alloc, fates)?;
-    if !departures.is_sorted() {
-        departures.sort()?;
-    }
+    sort_by_first(&mut departures)?;
     Ok(departures)
 }
 
@@ -84,13 +81,13 @@ pub fn found(alloc: Global, arrive: &List<u64>, fate: &List<Fate>) -> Result<Lis
     ensures { IfOk result (λ found. found ≡ founds_of arrive.now fate.now) }
 {
     let departures = departures_in_order(alloc, fate)?;
-    let mut found = List::new(alloc);
+    let mut found = Vec::with_capacity(alloc, arrive.len())?;
     let mut stayed = 0;
     let mut gone = 0;
     for at in 0..arrive.len() {
         gone = gone_by(&departures, gone, *arrive.get(at), at as u32);
-        found.push((stayed - gone) as u32)?;
+        found.push_reserved((stayed - gone) as u32);
         stayed += one_if_stays(fate.get(at));
     }
-    Ok(found)
+    Ok(List::from_vec(found))
 }

@@ -1,16 +1,29 @@
-use Rattle.std.proofs.Common.{◌+◌, ◌++◌, Some, ap, ◌∙◌, drop}
+use Rattle.std.proofs.Common.{◌+◌, ◌++◌, Some, ap, ◌∙◌, drop, arith}
+use Rattle.std.specs.Vec.{vec_len, vec_capacity}
 use Rattle.mq_stats.proofs.Founds.{departs-next, lost-next}
 use Rattle.mq_stats.specs.Departures.{departures_from}
 use Rattle.mq_stats.proofs.occupancy.departures_of.Goals as goal
-use Rattle.mq_stats.proofs.occupancy.departures_of.Goals.{in-Departs+in_ok-push-in-Departs, in-Lost}
+use Rattle.mq_stats.proofs.occupancy.departures_of.Goals.{in-Departs, in-Lost}
 
 pub loop-at-preserved : goal.loop-at-preserved
 loop-at-preserved c =
     elim c.match-get.branch [
-      | in-Departs+in_ok-push-in-Departs w ↦
-          departs-next c.loop-at.departures.items c.match-get.departures.items _ c.args.fates.now c.loop-at.at w.in-Departs.time
-          (c.get.ensures ∙ ap Some w.in-Departs.is) (ap (λ v. v.items) w.departures-is ∙ w.in_ok-push-in-Departs.ensures.items) c.loop-at.invariant
+      | in-Departs w ↦
+          let len = ap vec_len w.departures-is in
+          let room = ap vec_capacity w.departures-is in
+          record {
+            so_far = departs-next c.loop-at.departures.items c.match-get.departures.items _ c.args.fates.now c.loop-at.at w.in-Departs.time (c.get.ensures ∙ ap Some w.in-Departs.is) (ap (λ v. v.items) w.departures-is ∙ w.push_reserved.ensures.items) c.loop-at.invariant.so_far;
+            len = omega arith;
+            room = omega arith;
+          }
       | in-Lost w ↦
-          ap (λ v. v.items ++ departures_from (c.loop-at.at + 1) (drop (c.loop-at.at + 1) c.args.fates.now)) w.departures-is
-          ∙ lost-next c.loop-at.departures.items _ c.args.fates.now c.loop-at.at (c.get.ensures ∙ ap Some w.in-Lost.is) c.loop-at.invariant
+          let len = ap vec_len w.departures-is in
+          let room = ap vec_capacity w.departures-is in
+          record {
+            so_far =
+                ap (λ v. v.items ++ departures_from (c.loop-at.at + 1) (drop (c.loop-at.at + 1) c.args.fates.now)) w.departures-is
+                ∙ lost-next c.loop-at.departures.items _ c.args.fates.now c.loop-at.at (c.get.ensures ∙ ap Some w.in-Lost.is) c.loop-at.invariant.so_far;
+            len = omega arith;
+            room = omega arith;
+          }
     ]
