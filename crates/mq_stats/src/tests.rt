@@ -203,3 +203,23 @@ fn lost_visits_are_not_found(rt: HostRuntime) -> Result<(), Fail> {
     assert_eq!(rt; founds.as_slice(), [0, 1, 1, 1].as_slice());
     Ok(())
 }
+
+#[test]
+fn those_who_overtake_are_gone(rt: HostRuntime) -> Result<(), Fail> {
+    let alloc = rt.alloc();
+    let arrive = list(alloc, &[0u64, 1, 2, 4, 4, 7])?;
+    let fate = list(
+        alloc,
+        &[
+            Fate::Departs(9),
+            Fate::Departs(4),
+            Fate::Departs(3),
+            Fate::Departs(4),
+            Fate::Departs(6),
+            Fate::Departs(8),
+        ],
+    )?;
+    let founds = found(alloc, &arrive, &fate)?;
+    assert_eq!(rt; founds.as_slice(), [0, 1, 2, 1, 1, 1].as_slice());
+    Ok(())
+}
