@@ -7,10 +7,10 @@ use Rattle.mq_model.specs.NetworkOf.{network_in}
 use Rattle.mq_trace.specs.Trace.{rows_in, trace_fault}
 
 -- the two texts have no fault, and a run over them has no departure past the bound
-pub record IsAccepted (model trace : List ℕ) : Type 0 where
-  pub model : model_fault model ≡ None
-  pub trace : trace_fault (network_in model) trace ≡ None
-  pub past : past_in (network_in model) (rows_in (network_in model) trace) ≡ None
+pub record IsAccepted (model_text trace_text : List ℕ) : Type 0 where
+  pub model : model_fault model_text ≡ None
+  pub trace : trace_fault (network_in model_text) trace_text ≡ None
+  pub past : past_in (network_in model_text) (rows_in (network_in model_text) trace_text) ≡ None
 
 abbrev pub MadeInputsAreAccepted : Type 0
 MadeInputsAreAccepted = (number : ℕ) → number < 2 ^ 64 → IsAccepted (made_model number) (made_trace number)
