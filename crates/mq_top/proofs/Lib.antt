@@ -1,4 +1,5 @@
 pub mod Told
+pub mod MadeRuns
 mod WordRows
 pub mod FoundRows
 pub mod Walks

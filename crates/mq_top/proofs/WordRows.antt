@@ -1,8 +1,8 @@
 -- Lists of words, each with its fault or what it asks for, by computing the definitions.
 use Rattle.std.proofs.Common.{◌≡◌, ℕ, List, [], ◌∷◌, Some, None, true, false, refl}
 use Rattle.std.specs.Prelude.{codes}
-use Rattle.mq_top.specs.Words.{block_asked, jobs_asked, usage_fault, workers_asked, words_left}
-use Rattle.mq_top.specs.declared.outcome.UsageFault.TheVariants.{Words, Form, Workers, Block}
+use Rattle.mq_top.specs.Words.{block_asked, jobs_asked, made_asked, usage_fault, workers_asked, words_left}
+use Rattle.mq_top.specs.declared.outcome.UsageFault.TheVariants.{Words, Form, Workers, Block, Made}
 
 -- unknown options, and one that lacks its value or stands twice
 help-row : usage_fault (codes "--help" ∷ []) ≡ Some Words
@@ -42,6 +42,19 @@ no-words-row = refl
 one-name-row : usage_fault (codes "--workers" ∷ codes "8" ∷ codes "m" ∷ []) ≡ Some Form
 one-name-row = refl
 
+-- a made input with no number, twice, with two names, with one
+made-no-value-row : usage_fault (codes "--made" ∷ []) ≡ Some Words
+made-no-value-row = refl
+
+made-twice-row : usage_fault (codes "--made" ∷ codes "7" ∷ codes "--made" ∷ codes "7" ∷ []) ≡ Some Words
+made-twice-row = refl
+
+made-names-row : usage_fault (codes "m" ∷ codes "t" ∷ codes "--made" ∷ codes "7" ∷ []) ≡ Some Form
+made-names-row = refl
+
+made-name-row : usage_fault (codes "--made" ∷ codes "7" ∷ codes "m" ∷ []) ≡ Some Form
+made-name-row = refl
+
 -- numbers out of range; the first fault counts
 workers-row : usage_fault (codes "--workers" ∷ codes "65" ∷ codes "m" ∷ codes "t" ∷ []) ≡ Some Workers
 workers-row = refl
@@ -55,6 +68,12 @@ block-row = refl
 long-block-row : usage_fault (codes "--block" ∷ codes "65537" ∷ codes "m" ∷ codes "t" ∷ []) ≡ Some Block
 long-block-row = refl
 
+made-row : usage_fault (codes "--made" ∷ codes "18446744073709551616" ∷ []) ≡ Some Made
+made-row = refl
+
+made-block-row : usage_fault (codes "--made" ∷ codes "x" ∷ codes "--block" ∷ codes "0" ∷ []) ≡ Some Block
+made-block-row = refl
+
 -- accepted words, with the defaults and with all options among the names
 plain-row : (usage_fault (codes "m" ∷ codes "t" ∷ []) ≡ None) × (words_left (codes "m" ∷ codes "t" ∷ []) ≡ codes "m" ∷ codes "t" ∷ [])
     × (workers_asked (codes "m" ∷ codes "t" ∷ []) ≡ Some 4) × (block_asked (codes "m" ∷ codes "t" ∷ []) ≡ Some 4096)
@@ -67,3 +86,10 @@ all = codes "--block" ∷ codes "65536" ∷ codes "m" ∷ codes "--jobs" ∷ cod
 all-row : (usage_fault all ≡ None) × (words_left all ≡ codes "m" ∷ codes "t" ∷ []) × (workers_asked all ≡ Some 64) × (block_asked all ≡ Some 65536)
     × (jobs_asked all ≡ true)
 all-row = (refl, refl, refl, refl, refl)
+
+abbrev made : List (List ℕ)
+made = codes "--jobs" ∷ codes "--made" ∷ codes "18446744073709551615" ∷ []
+
+made-all-row : (usage_fault made ≡ None) × (words_left made ≡ []) × (made_asked made ≡ Some 18446744073709551615) × (workers_asked made ≡ Some 4)
+    × (jobs_asked made ≡ true)
+made-all-row = (refl, refl, refl, refl, refl)

@@ -45,13 +45,20 @@ Ends (Reported text) _ t = ⊥
 abbrev pub AtMostTwo : ℕ → ℕ → Type 0
 AtMostTwo before now = (now ≡ before) ⊎ ((now ≡ next_count before) ⊎ (now ≡ next_count (next_count before)))
 
--- how many reads a call made, by its outcome; want of memory may come before each of them
+-- how many reads a call made, by its outcome, where no made input is asked for; want of memory may come before each of them
 abbrev pub Reads : Outcome → ℕ → ℕ → Type 0
 Reads (Usage f) before now = now ≡ before
 Reads (Model f) before now = now ≡ next_count before
 Reads (ReadFault false) before now = now ≡ next_count before
 Reads Memory before now = AtMostTwo before now
 Reads _ before now = now ≡ next_count (next_count before)
+
+-- an outcome of a made input, which is never refused and takes no read
+abbrev pub IsOfMade : Outcome → Type 0
+IsOfMade Done = Unit {0}
+IsOfMade WriteFault = Unit {0}
+IsOfMade Memory = Unit {0}
+IsOfMade _ = ⊥
 
 -- The count of faults rose in this read of a call, from 1. It is stated where the number of reads is below 2 ^ 63 at entry.
 abbrev pub FailedAt : (place reads reads' faults' : ℕ) → Type 0

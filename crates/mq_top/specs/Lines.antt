@@ -42,11 +42,16 @@ trace_line name trace.Memory = codes "mpsim: out of memory" ++ 10 ∷ []
 abbrev pub past_line : List ℕ → PastFault → List ℕ
 past_line name f = codes "mpsim: node " ++ name ++ codes " position " ++ decimal f.position ++ codes " passes the bound at time " ++ decimal f.time ++ 10 ∷ []
 
+-- the two forms of a command
+abbrev pub usage_text : List ℕ
+usage_text = codes "mpsim: usage: mpsim MODEL TRACE [--workers N] [--block N] [--jobs] or mpsim --made N [--workers N] [--block N] [--jobs]"
+
 abbrev pub usage_line : UsageFault → List ℕ
-usage_line usage.Words = codes "mpsim: usage: mpsim MODEL TRACE [--workers N] [--block N] [--jobs]" ++ 10 ∷ []
-usage_line usage.Form = codes "mpsim: usage: mpsim MODEL TRACE [--workers N] [--block N] [--jobs]" ++ 10 ∷ []
+usage_line usage.Words = usage_text ++ 10 ∷ []
+usage_line usage.Form = usage_text ++ 10 ∷ []
 usage_line usage.Workers = codes "mpsim: --workers takes a whole number from 1 to 64" ++ 10 ∷ []
 usage_line usage.Block = codes "mpsim: --block takes a whole number from 1 to 65536" ++ 10 ∷ []
+usage_line usage.Made = codes "mpsim: --made takes a whole number from 0 to 18446744073709551615" ++ 10 ∷ []
 
 -- the line of an outcome, with the name that it speaks of
 abbrev pub line_text : List ℕ → Outcome → List ℕ

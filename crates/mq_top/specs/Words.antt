@@ -1,17 +1,22 @@
 -- The words behind the program's name: which lists are refused and why, and what the others ask for.
-use Rattle.std.specs.Prelude.{◌≡◌, ◌==◌, ◌&&◌, ◌||◌, ℕ, Bool, true, false, not, List, [], ◌∷◌, length, codes, bytes_eq, slice_index, slice_get, nat_lt, nat_le, Option, Some, None, is_none, if◌then◌else◌}
+use Rattle.std.specs.Prelude.{◌≡◌, ◌==◌, ◌&&◌, ◌||◌, ℕ, Bool, true, false, not, List, [], ◌∷◌, length, codes, bytes_eq, slice_index, slice_get, nat_lt, nat_le, ◌-◌, ◌^◌, Option, Some, None, is_some, is_none, option_and_then, if◌then◌else◌}
 use Rattle.std.specs.List.{list_any}
 use Rattle.mq_base.specs.Text.{number_of}
 use Rattle.mq_top.specs.declared.outcome.UsageFault.{UsageFault}
-use Rattle.mq_top.specs.declared.outcome.UsageFault.TheVariants.{Words, Form, Workers, Block}
+use Rattle.mq_top.specs.declared.outcome.UsageFault.TheVariants.{Words, Form, Workers, Block, Made}
+use Rattle.mq_top.specs.declared.words.Input.{Input}
+use Rattle.mq_top.specs.declared.words.Input.TheVariants as input
 use Rattle.mq_top.specs.declared.words.Settings.{Settings}
 
--- the options: two that take a value, and a flag
+-- the options: three that take a value, and a flag
 abbrev pub workers_option : List ℕ
 workers_option = codes "--workers"
 
 abbrev pub block_option : List ℕ
 block_option = codes "--block"
+
+abbrev pub made_option : List ℕ
+made_option = codes "--made"
 
 abbrev pub jobs_option : List ℕ
 jobs_option = codes "--jobs"
@@ -22,7 +27,7 @@ begins_with_dash word = slice_index word 0 == 45
 
 -- an option that takes a value
 abbrev pub takes_value : List ℕ → Bool
-takes_value word = bytes_eq word workers_option || bytes_eq word block_option
+takes_value word = bytes_eq word workers_option || bytes_eq word block_option || bytes_eq word made_option
 
 abbrev pub is_option : List ℕ → Bool
 is_option word = takes_value word || bytes_eq word jobs_option
@@ -67,7 +72,8 @@ words_left words = left_from false words
 -- a word is empty or an unknown option, an option stands twice or lacks its value, or more than two words are left
 abbrev pub refuses_words : List (List ℕ) → Bool
 refuses_words words = list_any is_bad_word words || stands_twice workers_option words
-    || stands_twice block_option words || stands_twice jobs_option words || lacks_value words || nat_lt 2 (length (words_left words))
+    || stands_twice block_option words || stands_twice made_option words || stands_twice jobs_option words || lacks_value words
+    || nat_lt 2 (length (words_left words))
 
 -- the word directly behind the option
 abbrev pub value_of : List ℕ → List (List ℕ) → Option (List ℕ)
@@ -92,17 +98,30 @@ workers_asked words = number_asked 4 1 64 (value_of workers_option words)
 abbrev pub block_asked : List (List ℕ) → Option ℕ
 block_asked words = number_asked 4096 1 65536 (value_of block_option words)
 
+-- a made input is asked for
+abbrev pub asks_made : List (List ℕ) → Bool
+asks_made words = is_some (value_of made_option words)
+
+-- the number of the made input, from 0 to 2 ^ 64 - 1, where one is asked for
+abbrev pub made_asked : List (List ℕ) → Option ℕ
+made_asked words = option_and_then (λ text. number_of text (2 ^ 64 - 1)) (value_of made_option words)
+
 -- the lines of the jobs are asked for
 abbrev pub jobs_asked : List (List ℕ) → Bool
 jobs_asked words = has_word jobs_option words
+
+-- how many names the words need: those of a model and of a trace, unless a made input is asked for
+abbrev pub names_needed : List (List ℕ) → ℕ
+names_needed words = if asks_made words then 0 else 2
 
 -- the first fault of the words, or none
 abbrev pub usage_fault : List (List ℕ) → Option UsageFault
 usage_fault words =
     if refuses_words words then Some Words
-    else if not (length (words_left words) == 2) then Some Form
+    else if not (length (words_left words) == names_needed words) then Some Form
     else if is_none (workers_asked words) then Some Workers
     else if is_none (block_asked words) then Some Block
+    else if asks_made words && is_none (made_asked words) then Some Made
     else None
 
 -- the words are accepted, and name this model and this trace
@@ -110,9 +129,20 @@ pub record Names (words : List (List ℕ)) (model trace : List ℕ) : Type 0 whe
   pub accepted : usage_fault words ≡ None
   pub named : words_left words ≡ model ∷ trace ∷ []
 
+-- the words are accepted, and ask for the made input of this number
+pub record Makes (words : List (List ℕ)) (number : ℕ) : Type 0 where
+  pub accepted : usage_fault words ≡ None
+  pub made : made_asked words ≡ Some number
+
+-- the words are accepted, and ask for this input
+abbrev pub AsksFor : List (List ℕ) → Input → Type 0
+AsksFor words (input.Named model trace) = Names words model.now trace.now
+AsksFor words (input.Made number) = Makes words number
+
 -- the words are accepted, and ask for these settings
 pub record Asks (words : List (List ℕ)) (s : Settings) : Type 0 where
-  pub names : Names words s.model.now s.trace.now
+  pub accepted : usage_fault words ≡ None
+  pub input : AsksFor words s.input
   pub workers : workers_asked words ≡ Some s.workers
   pub block : block_asked words ≡ Some s.block
   pub jobs : jobs_asked words ≡ s.jobs

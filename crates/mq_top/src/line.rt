@@ -115,12 +115,17 @@ fn put_usage_line<E: Sink>(err: &mut E, fault: &UsageFault)
     match fault {
         UsageFault::Words | UsageFault::Form => put_text(
             err,
-            b"mpsim: usage: mpsim MODEL TRACE [--workers N] [--block N] [--jobs]",
+            b"mpsim: usage: mpsim MODEL TRACE [--workers N] [--block N] [--jobs] \
+            or mpsim --made N [--workers N] [--block N] [--jobs]",
         ),
         UsageFault::Workers => {
             put_text(err, b"mpsim: --workers takes a whole number from 1 to 64")
         }
         UsageFault::Block => put_text(err, b"mpsim: --block takes a whole number from 1 to 65536"),
+        UsageFault::Made => put_text(
+            err,
+            b"mpsim: --made takes a whole number from 0 to 18446744073709551615",
+        ),
     }
 }
 

@@ -12,12 +12,14 @@ pub enum UsageFault {
     /// A word is empty or an unknown option, an option stands twice or lacks its value, or more
     /// than two words are left.
     Words,
-    /// There aren't two names.
+    /// There aren't two names, or with `--made` there is one.
     Form,
     /// The number of workers isn't a number from 1 to 64.
     Workers,
     /// The number of jobs in a block isn't a number from 1 to 65,536.
     Block,
+    /// The number of the made input isn't a number from 0 to 18,446,744,073,709,551,615.
+    Made,
 }
 
 /// How a call ends.

@@ -13,7 +13,7 @@ fn begins_with_dash(word: &str) -> bool
 fn takes_value(word: &str) -> bool
     ensures { result ≡ takes_value_of word.now }
 {
-    word == "--workers" || word == "--block"
+    word == "--workers" || word == "--block" || word == "--made"
 }
 
 fn is_option(word: &str) -> bool
@@ -145,6 +145,7 @@ pub fn refuses_words(words: &[&str]) -> bool
     has_bad_word(words)
         || stands_twice(words, "--workers")
         || stands_twice(words, "--block")
+        || stands_twice(words, "--made")
         || stands_twice(words, "--jobs")
         || lacks_value(words)
         || has_third_name(words)

@@ -1,22 +1,23 @@
 // The call that the program makes, stage by stage.
-ghost use Rattle.std.specs.Prelude.{◌≡◌, ◌≢◌, ◌⊎◌, ◌+◌, ◌-◌, ◌^◌, ◌<◌, ◌≤◌, ◌↔◌, ℕ, List, Bool, true, false, length, map, Err, IsErrOf, IfOk, IfErr, IfSome, IsTrue, Some, None};
+ghost use Rattle.std.specs.Prelude.{◌≡◌, ◌≢◌, ◌⊎◌, ◌+◌, ◌-◌, ◌^◌, ◌<◌, ◌≤◌, ◌↔◌, ℕ, List, Bool, true, false, length, map, Err, IsErrOf, IfOk, IfErr, IfSome, IsTrue, Some, None, []};
 ghost use Rattle.std.specs.Io.KnownBytes.{append_known};
 ghost use Rattle.mq_base.specs.Outside.{next_count, Rose, TakesPrefix};
 ghost use Rattle.mq_core.specs.NetworkRun.{past_in};
 ghost use Rattle.mq_core.specs.Theorems.{IsReadFor};
+ghost use Rattle.mq_gen.specs.Made.{made_model, made_trace};
 ghost use Rattle.mq_model.specs.Model.{model_fault};
 ghost use Rattle.mq_model.specs.NetworkOf.{network_in};
 ghost use Rattle.mq_report.specs.Text.{report_in};
 ghost use Rattle.mq_trace.specs.Trace.{trace_fault, rows_in};
 ghost use Rattle.mq_top.specs.Answer.{answer, answer_over, run_answer};
 ghost use Rattle.mq_top.specs.Answer.Answer.{Reported};
-ghost use Rattle.mq_top.specs.Ends.{Ends, FailedAt, IsLate, Reads, RefusesModel, RefusesTrace, Untouched};
+ghost use Rattle.mq_top.specs.Ends.{Ends, FailedAt, IsLate, IsOfMade, Reads, RefusesModel, RefusesTrace, Untouched};
 ghost use Rattle.mq_top.specs.Lines.{PutsLine, line_text, name_of as name_of_outcome};
-ghost use Rattle.mq_top.specs.Words.{Names, jobs_asked, refuses_words, usage_fault};
+ghost use Rattle.mq_top.specs.Words.{Makes, Names, asks_made, jobs_asked, refuses_words, usage_fault};
 
 use crate::line::{name_of, put_line};
 use crate::outcome::{Outcome, UsageFault};
-use crate::words::settings_of;
+use crate::words::{Input, settings_of};
 use mq_base::{FileFault, Files, Sink};
 use mq_core::{Plan, Rows, runs_are_of_networks};
 use mq_engine::{RunFault, run};
@@ -28,6 +29,33 @@ use std::alloc::Global;
 const MODEL_LIMIT: u64 = 65_536;
 
 const TRACE_LIMIT: u64 = 134_217_728;
+
+// Judges the bytes of a model.
+fn judge_model(alloc: Global, bytes: &[u8]) -> Result<Plan, Outcome>
+    ensures accepted { IfOk result (λ plan. (model_fault bytes.now ≡ None) × (plan.net ≡ network_in bytes.now)) }
+    ensures refused { IfErr result (λ outcome. RefusesModel outcome (Some bytes.now)) }
+    ensures unread { result ≢ Err (Outcome.ReadFault false) }
+{
+    match read_model(alloc, bytes) {
+        Ok(plan) => Ok(plan),
+        Err(ModelFault::Memory) => Err(Outcome::Memory),
+        Err(fault) => Err(Outcome::Model(fault)),
+    }
+}
+
+// Judges the bytes of a trace for the network of a plan.
+fn judge_trace(alloc: Global, plan: &Plan, bytes: &[u8]) -> Result<Rows, Outcome>
+    ensures read { IfOk result (λ rows. IsReadFor plan.now.net rows) }
+    ensures accepted { IfOk result (λ rows. (trace_fault plan.now.net bytes.now ≡ None) × (rows ≡ rows_in plan.now.net bytes.now)) }
+    ensures refused { IfErr result (λ outcome. RefusesTrace plan.now.net outcome (Some bytes.now)) }
+    ensures unread { result ≢ Err (Outcome.ReadFault true) }
+{
+    match read_trace(alloc, bytes, &plan.net) {
+        Ok(rows) => Ok(rows),
+        Err(TraceFault::Memory) => Err(Outcome::Memory),
+        Err(fault) => Err(Outcome::Trace(fault)),
+    }
+}
 
 // Reads the model of this name, and judges it.
 fn accept_model<F: Files>(alloc: Global, name: &str, files: &mut F) -> Result<Plan, Outcome>
@@ -50,13 +78,7 @@ fn accept_model<F: Files>(alloc: Global, name: &str, files: &mut F) -> Result<Pl
         Err(FileFault::TooLong) => return Err(Outcome::Model(ModelFault::TooLong)),
         Err(FileFault::Memory) => return Err(Outcome::Memory),
     }
-    match read_model(alloc, &bytes) {
-        Ok(plan) => Ok(plan),
-        Err(fault) => match fault {
-            ModelFault::Memory => Err(Outcome::Memory),
-            fault => Err(Outcome::Model(fault)),
-        },
-    }
+    judge_model(alloc, &bytes)
 }
 
 // Reads the trace of this name, and judges it for the network of a plan.
@@ -86,13 +108,7 @@ fn accept_trace<F: Files>(
         Err(FileFault::TooLong) => return Err(Outcome::Trace(TraceFault::TooLong)),
         Err(FileFault::Memory) => return Err(Outcome::Memory),
     }
-    match read_trace(alloc, &bytes, &plan.net) {
-        Ok(rows) => Ok(rows),
-        Err(fault) => match fault {
-            TraceFault::Memory => Err(Outcome::Memory),
-            fault => Err(Outcome::Trace(fault)),
-        },
-    }
+    judge_trace(alloc, plan, &bytes)
 }
 
 // Runs a plan over its rows, and writes the report, with the lines of the jobs where they are asked for.
@@ -147,10 +163,23 @@ fn run_trace<F: Files, O: Sink>(
     }
 }
 
-/// Reads the model and the trace that the words name, runs the network over the rows, and writes
-/// the report: the same as that of a sequential event list. The words are those behind the
-/// program's name: the two names, and among them `--workers` and `--block` with a number, which
-/// are judged and change nothing, and `--jobs`, which asks for a line for each visit.
+// Runs the made input of this number, and writes the report.
+fn run_made<O: Sink>(_alloc: Global, number: u64, jobs: bool, out: &mut O) -> Outcome
+    ensures ends { Ends (answer (made_model number) (made_trace number) jobs) result (record { before = O.taken out.old; now = O.taken out.new; sure_before = O.sure out.old; sure_now = O.sure out.new }) }
+    ensures made { IsOfMade result }
+    ensures later { O.faults out.old ≤ O.faults out.new }
+    ensures rose { result ≡ Outcome.WriteFault → Rose (O.faults out.old) (O.faults out.new) }
+    ensures sure { (text : List ℕ) → answer (made_model number) (made_trace number) jobs ≡ Reported text → length text ≤ O.sure out.old → O.faults out.new ≡ O.faults out.old }
+    ensures untouched { Untouched result out.old out.new }
+{
+    Outcome::Memory
+}
+
+/// Reads the model and the trace that the words name, or makes those of a number, runs the network
+/// over the rows, and writes the report: the same as that of a sequential event list. The words are
+/// those behind the program's name: the two names, or `--made` with a number, and among them
+/// `--workers` and `--block` with a number, which are judged and change nothing, and `--jobs`, which
+/// asks for a line for each visit.
 ///
 /// Every outcome but `Done` puts one line on `err`, whose faults change no outcome. All memory is
 /// taken before the first byte is written; `out` gains the whole report with `Done`, a first part
@@ -179,7 +208,7 @@ pub fn simulate<F: Files, O: Sink, E: Sink>(
     // A fault of a device is counted.
     ensures first { result ≡ Outcome.ReadFault false → FailedAt 1 (F.reads files.old) (F.reads files.new) (F.faults files.new) × Rose (F.faults files.old) (F.faults files.new) }
     ensures second { result ≡ Outcome.ReadFault true → FailedAt 2 (F.reads files.old) (F.reads files.new) (F.faults files.new) × Rose (F.faults files.old) (F.faults files.new) }
-    ensures reads { Reads result (F.reads files.old) (F.reads files.new) }
+    ensures reads { asks_made (map (λ w. w.now) words.now) ≡ false → Reads result (F.reads files.old) (F.reads files.new) }
     ensures first_name { (m t : List ℕ) → Names (map (λ w. w.now) words.now) m t → F.is_sure files.old m ≡ true → F.faults files.old < 2 ^ 64 - 1 → result ≢ Outcome.ReadFault false }
     ensures second_name { (m t : List ℕ) → Names (map (λ w. w.now) words.now) m t → F.is_sure files.old t ≡ true → F.faults files.old < 2 ^ 64 - 1 → result ≢ Outcome.ReadFault true }
     ensures unread { (fault : UsageFault) → usage_fault (map (λ w. w.now) words.now) ≡ Some fault → files.new ≡ files.old }
@@ -191,6 +220,16 @@ pub fn simulate<F: Files, O: Sink, E: Sink>(
     ensures write { result ≡ Outcome.WriteFault → Rose (O.faults out.old) (O.faults out.new) }
     ensures sure { (m t model trace text : List ℕ) → Names (map (λ w. w.now) words.now) m t → F.told files.old m ≡ Some model → F.told files.old t ≡ Some trace → answer model trace (jobs_asked (map (λ w. w.now) words.now)) ≡ Reported text →
         length text ≤ O.sure out.old → O.faults out.new ≡ O.faults out.old }
+
+    // With `--made` no file is read. A made input is accepted, so that its run ends with its report, or with a fault of
+    // the output or want of memory.
+    ensures made { (number : ℕ) → Makes (map (λ w. w.now) words.now) number →
+        Ends (answer (made_model number) (made_trace number) (jobs_asked (map (λ w. w.now) words.now))) result (record { before = O.taken out.old; now = O.taken out.new; sure_before = O.sure out.old; sure_now = O.sure out.new }) }
+    ensures made_accepted { (number : ℕ) → Makes (map (λ w. w.now) words.now) number → IsOfMade result }
+    ensures made_unread { asks_made (map (λ w. w.now) words.now) ≡ true → files.new ≡ files.old }
+    ensures made_sure { (number : ℕ) (text : List ℕ) → Makes (map (λ w. w.now) words.now) number → answer (made_model number) (made_trace number) (jobs_asked (map (λ w. w.now) words.now)) ≡ Reported text →
+        length text ≤ O.sure out.old → O.faults out.new ≡ O.faults out.old }
+    ensures made_line { (number : ℕ) → Makes (map (λ w. w.now) words.now) number → PutsLine (E.taken err.old) (E.taken err.new) (E.sure err.old) (E.sure err.new) (E.faults err.old) (E.faults err.new) (line_text [] result) }
 
     // What the two outputs gain.
     ensures untouched { Untouched result out.old out.new }
@@ -205,9 +244,17 @@ pub fn simulate<F: Files, O: Sink, E: Sink>(
             return outcome;
         }
     };
-    match accept_model(alloc, settings.model, files) {
+    let (model, trace) = match settings.input {
+        Input::Named { model, trace } => (model, trace),
+        Input::Made(number) => {
+            let outcome = run_made(alloc, number, settings.jobs, out);
+            put_line(err, &[], &outcome);
+            return outcome;
+        }
+    };
+    match accept_model(alloc, model, files) {
         Ok(plan) => {
-            let outcome = run_trace(alloc, &plan, settings.trace, settings.jobs, files, out);
+            let outcome = run_trace(alloc, &plan, trace, settings.jobs, files, out);
             put_line(err, name_of(&plan.net, &outcome), &outcome);
             outcome
         }

@@ -1,9 +1,9 @@
 // What the words behind the program's name ask for.
-ghost use Rattle.std.specs.Prelude.{◌≡◌, Some, false, map, option_map, IfOk, IfErr};
+ghost use Rattle.std.specs.Prelude.{◌≡◌, ℕ, List, Some, false, map, option_map, IfOk, IfErr, IfSome, IsNone};
 ghost use Rattle.clap.specs.Matches.{found_of};
 ghost use Rattle.clap.specs.Values.{kind_of};
-ghost use Rattle.mq_top.specs.Matched.{Finds};
-ghost use Rattle.mq_top.specs.Words.{Asks, number_asked, refuses_words as refuses_words_of};
+ghost use Rattle.mq_top.specs.Matched.{Finds, HasForm, input_of as input_of_form};
+ghost use Rattle.mq_top.specs.Words.{Asks, number_asked, refuses_words as refuses_words_of, usage_fault};
 ghost use Rattle.mq_top.specs.Ends.{RefusesWords};
 
 use crate::outcome::{Outcome, UsageFault};
@@ -13,19 +13,45 @@ use clap::{Arg, ArgAction, ArgMatches, Command, Error};
 use mq_base::read_number;
 use std::alloc::Global;
 
+/// What is to be read.
+#[derive(Clone, Copy, Debug)]
+pub enum Input<'a> {
+    /// Two files.
+    Named {
+        /// The name of the model.
+        model: &'a str,
+        /// The name of the trace.
+        trace: &'a str,
+    },
+    /// The made input of this number.
+    Made(u64),
+}
+
 /// What accepted words ask for.
 #[derive(Clone, Copy, Debug)]
 pub struct Settings<'a> {
-    /// The name of the model.
-    pub model: &'a str,
-    /// The name of the trace.
-    pub trace: &'a str,
+    /// What is to be read.
+    pub input: Input<'a>,
     /// How many workers, from 1 to 64.
     pub workers: u64,
     /// How many jobs a block has, from 1 to 65,536.
     pub block: u64,
     /// Whether the report has the lines of the jobs.
     pub jobs: bool,
+}
+
+/// Which of the two forms the words have.
+#[derive(Clone, Copy)]
+pub enum Form<'a> {
+    /// Two names.
+    Names {
+        /// The name of the model.
+        model: &'a str,
+        /// The name of the trace.
+        trace: &'a str,
+    },
+    /// The text behind `--made`.
+    Made(&'a str),
 }
 
 // The number that the value of an option asks for, or the default where the option isn't given.
@@ -41,6 +67,38 @@ fn number_of(value: Option<&str>, default: u64, least: u64, most: u64) -> Option
     }
 }
 
+// The form of the words that clap found this in, unless they have none.
+fn form_of<'a>(matches: &ArgMatches<'a>) -> Option<Form<'a>>
+    ensures some { IfSome result (λ form. (words : List (List ℕ)) → refuses_words_of words ≡ false → Finds words (found_of matches.now) → HasForm words form) }
+    ensures none { IsNone result → (words : List (List ℕ)) → refuses_words_of words ≡ false → Finds words (found_of matches.now) → usage_fault words ≡ Some UsageFault.Form }
+{
+    let model = matches.get_str("model");
+    let trace = matches.get_str("trace");
+    let Some(text) = matches.get_str("made") else {
+        return Some(Form::Names {
+            model: model?,
+            trace: trace?,
+        });
+    };
+    if model.is_some() || trace.is_some() {
+        return None;
+    }
+    Some(Form::Made(text))
+}
+
+// What is to be read, unless the text behind `--made` is no number.
+fn input_of<'a>(form: Form<'a>) -> Option<Input<'a>>
+    ensures { result ≡ input_of_form form.entry }
+{
+    match form {
+        Form::Names { model, trace } => Some(Input::Named { model, trace }),
+        Form::Made(text) => match read_number(text.as_bytes(), u64::MAX) {
+            Some(number) => Some(Input::Made(number)),
+            None => None,
+        },
+    }
+}
+
 // What clap finds in the words, which it takes where they pass the rule.
 fn matches_of<'a>(alloc: Global, words: &'a [&'a str]) -> Result<ArgMatches<'a>, Error>
     ensures found { refuses_words_of (map (λ w. w.now) words.now) ≡ false → IfOk result (λ matches. Finds (map (λ w. w.now) words.now) (found_of matches)) }
@@ -50,6 +108,7 @@ fn matches_of<'a>(alloc: Global, words: &'a [&'a str]) -> Result<ArgMatches<'a>,
     let trace = Arg::new(alloc, "trace");
     let workers = Arg::new(alloc, "workers").long("workers");
     let block = Arg::new(alloc, "block").long("block");
+    let made = Arg::new(alloc, "made").long("made");
     let jobs = Arg::new(alloc, "jobs")
         .long("jobs")
         .action(ArgAction::SetTrue);
@@ -60,6 +119,7 @@ fn matches_of<'a>(alloc: Global, words: &'a [&'a str]) -> Result<ArgMatches<'a>,
         .arg(trace)?
         .arg(workers)?
         .arg(block)?
+        .arg(made)?
         .arg(jobs)?;
     command.try_get_matches_from(words)
 }
@@ -76,10 +136,7 @@ pub fn settings_of<'a>(alloc: Global, words: &'a [&'a str]) -> Result<Settings<'
     let Ok(matches) = matches_of(alloc, words) else {
         return Err(Outcome::Memory);
     };
-    let Some(model) = matches.get_str("model") else {
-        return Err(Outcome::Usage(UsageFault::Form));
-    };
-    let Some(trace) = matches.get_str("trace") else {
+    let Some(form) = form_of(&matches) else {
         return Err(Outcome::Usage(UsageFault::Form));
     };
     let Some(workers) = number_of(matches.get_str("workers"), 4, 1, 64) else {
@@ -88,10 +145,12 @@ pub fn settings_of<'a>(alloc: Global, words: &'a [&'a str]) -> Result<Settings<'
     let Some(block) = number_of(matches.get_str("block"), 4_096, 1, 65_536) else {
         return Err(Outcome::Usage(UsageFault::Block));
     };
+    let Some(input) = input_of(form) else {
+        return Err(Outcome::Usage(UsageFault::Made));
+    };
     let jobs = matches.get_flag("jobs");
     Ok(Settings {
-        model,
-        trace,
+        input,
         workers,
         block,
         jobs,

@@ -1,6 +1,7 @@
 // Words that are refused, and what the options ask for.
 use super::stations::{CALL_CENTRE, CALLS};
 use super::{files_of, ran, ran_with};
+use crate::words::{Input, settings_of};
 use crate::{Outcome, UsageFault, simulate};
 use mq_base::MemSink;
 use std::test::Fail;
@@ -9,14 +10,17 @@ const DESK: &[u8] = b"model 1\nsource src\nserver desk d from src\n";
 
 const ORDINARY: &[u8] = b"source,time,d\nsrc,0,4\nsrc,1,1\nsrc,2,3\n";
 
-const USAGE: &[u8] = b"mpsim: usage: mpsim MODEL TRACE [--workers N] [--block N] [--jobs]\n";
+const USAGE: &[u8] = b"mpsim: usage: mpsim MODEL TRACE [--workers N] [--block N] [--jobs] \
+    or mpsim --made N [--workers N] [--block N] [--jobs]\n";
 
 const WORKERS: &[u8] = b"mpsim: --workers takes a whole number from 1 to 64\n";
 
 const BLOCK: &[u8] = b"mpsim: --block takes a whole number from 1 to 65536\n";
 
+const MADE: &[u8] = b"mpsim: --made takes a whole number from 0 to 18446744073709551615\n";
+
 // Each list of words with its fault and its line.
-const REFUSED: [(&[&str], UsageFault, &[u8]); 22] = [
+const REFUSED: [(&[&str], UsageFault, &[u8]); 33] = [
     (&["--help"], UsageFault::Words, USAGE),
     (&["--version"], UsageFault::Words, USAGE),
     (&["--", "m", "t"], UsageFault::Words, USAGE),
@@ -34,10 +38,16 @@ const REFUSED: [(&[&str], UsageFault, &[u8]); 22] = [
     (&["m", "t", "u"], UsageFault::Words, USAGE),
     (&["m", ""], UsageFault::Words, USAGE),
     (&["--block", "", "m", "t"], UsageFault::Words, USAGE),
+    (&["--made"], UsageFault::Words, USAGE),
+    (&["--made", "-7"], UsageFault::Words, USAGE),
+    (&["--made", "7", "--made", "7"], UsageFault::Words, USAGE),
+    (&["m", "t", "u", "--made", "7"], UsageFault::Words, USAGE),
     (&[], UsageFault::Form, USAGE),
     (&["m"], UsageFault::Form, USAGE),
     (&["m", "--workers", "t"], UsageFault::Form, USAGE),
     (&["--workers", "65", "--jobs"], UsageFault::Form, USAGE),
+    (&["m", "t", "--made", "7"], UsageFault::Form, USAGE),
+    (&["--made", "x", "m"], UsageFault::Form, USAGE),
     (&["--workers", "65", "m", "t"], UsageFault::Workers, WORKERS),
     (&["--workers", "+8", "m", "t"], UsageFault::Workers, WORKERS),
     (
@@ -47,6 +57,15 @@ const REFUSED: [(&[&str], UsageFault, &[u8]); 22] = [
     ),
     (&["--block", "0", "m", "t"], UsageFault::Block, BLOCK),
     (&["m", "t", "--block", "65537"], UsageFault::Block, BLOCK),
+    (
+        &["--made", "x", "--workers", "0"],
+        UsageFault::Workers,
+        WORKERS,
+    ),
+    (&["--made", "x", "--block", "0"], UsageFault::Block, BLOCK),
+    (&["--made", "x"], UsageFault::Made, MADE),
+    (&["--jobs", "--made", "+7"], UsageFault::Made, MADE),
+    (&["--made", "18446744073709551616"], UsageFault::Made, MADE),
 ];
 
 // A read would fail, so none is made.
@@ -62,6 +81,23 @@ fn words_are_refused_before_a_read(rt: HostRuntime) -> Result<(), Fail> {
         assert_eq!(rt; outcome.status(), 2);
         assert_eq!(rt; err.bytes(), line);
         assert!(rt; out.bytes().is_empty());
+    }
+    Ok(())
+}
+
+#[test]
+fn a_made_input_is_asked_for_by_its_number(rt: HostRuntime) -> Result<(), Fail> {
+    let lists: [(&[&str], u64); 4] = [
+        (&["--made", "0"], 0),
+        (&["--made", "7", "--workers", "64", "--block", "1"], 7),
+        (&["--jobs", "--made", "00000000000000000007"], 7),
+        (&["--made", "18446744073709551615"], u64::MAX),
+    ];
+    for (words, number) in lists {
+        let Ok(settings) = settings_of(rt.alloc(), words) else {
+            return Err(Fail::new("the words are refused"));
+        };
+        assert!(rt; matches!(settings.input, Input::Made(n) if n == number));
     }
     Ok(())
 }

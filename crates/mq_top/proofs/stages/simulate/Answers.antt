@@ -4,18 +4,21 @@ use Rattle.mq_model.specs.NetworkOf.{network_in}
 use Rattle.mq_top.specs.Answer.{answer_over}
 use Rattle.mq_top.specs.Ends.{Ends, Taken}
 use Rattle.mq_top.specs.Lines.{PutsLine, line_text, name_of}
-use Rattle.mq_top.specs.Words.{Asks, jobs_asked}
-use Rattle.mq_top.proofs.Told.{answer_is, same_names, told_is}
+use Rattle.mq_top.specs.Words.{Asks, AsksFor, Makes, Names, jobs_asked}
+use Rattle.mq_top.proofs.Faults.{not_both, same_names, same_number}
+use Rattle.mq_top.proofs.MadeRuns.{same_answer}
+use Rattle.mq_top.proofs.Told.{answer_is, told_is}
 use Rattle.mq_top.proofs.stages.simulate.Goals as goal
 
 pub returns-in-Ok-accept_model-clause-ends : goal.returns-in-Ok-accept_model-clause-ends
 returns-in-Ok-accept_model-clause-ends g c m t model trace names told_m told_t =
     let words : List (List ℕ) = map (λ w. w.now) c.args.words.now in
     let asked : Asks words c.in-Ok.settings = c.in-Ok.ensures.asked in
-    let same = same_names words m t _ _ names asked.names in
-    let of_model : g.F.Files.told c.args.files.now c.in-Ok.settings.model.now ≡ Some model = ap (g.F.Files.told c.args.files.now) (sym same.0) ∙ told_m in
-    let of_trace : g.F.Files.told c.accept_model.new.files c.in-Ok.settings.trace.now ≡ Some trace =
-    c.accept_model.ensures.same_told c.in-Ok.settings.trace.now ∙ (ap (g.F.Files.told c.args.files.now) (sym same.1) ∙ told_t) in
+    let asked_names : Names words c.in-Named.model.now c.in-Named.trace.now = subst (AsksFor words) c.in-Named.is asked.input in
+    let same = same_names words m t _ _ names asked_names in
+    let of_model : g.F.Files.told c.args.files.now c.in-Named.model.now ≡ Some model = ap (g.F.Files.told c.args.files.now) (sym same.0) ∙ told_m in
+    let of_trace : g.F.Files.told c.accept_model.new.files c.in-Named.trace.now ≡ Some trace =
+    c.accept_model.ensures.same_told c.in-Named.trace.now ∙ (ap (g.F.Files.told c.args.files.now) (sym same.1) ∙ told_t) in
     let read = told_is _ model (λ bytes. (model_fault bytes ≡ None) × (c.in-Ok-accept_model.plan.net ≡ network_in bytes)) of_model c.in-Ok-accept_model.ensures.accepted in
     let taken : Taken =
     record { before = g.O.Sink.taken c.args.out.now; now = g.O.Sink.taken c.run_trace-outcome.new.out; sure_before = g.O.Sink.sure c.args.out.now; sure_now = g.O.Sink.sure c.run_trace-outcome.new.out } in
@@ -26,10 +29,11 @@ pub returns-in-Ok-accept_model-clause-sure : goal.returns-in-Ok-accept_model-cla
 returns-in-Ok-accept_model-clause-sure g c m t model trace text names told_m told_t is room =
     let words : List (List ℕ) = map (λ w. w.now) c.args.words.now in
     let asked : Asks words c.in-Ok.settings = c.in-Ok.ensures.asked in
-    let same = same_names words m t _ _ names asked.names in
-    let of_model : g.F.Files.told c.args.files.now c.in-Ok.settings.model.now ≡ Some model = ap (g.F.Files.told c.args.files.now) (sym same.0) ∙ told_m in
-    let of_trace : g.F.Files.told c.accept_model.new.files c.in-Ok.settings.trace.now ≡ Some trace =
-    c.accept_model.ensures.same_told c.in-Ok.settings.trace.now ∙ (ap (g.F.Files.told c.args.files.now) (sym same.1) ∙ told_t) in
+    let asked_names : Names words c.in-Named.model.now c.in-Named.trace.now = subst (AsksFor words) c.in-Named.is asked.input in
+    let same = same_names words m t _ _ names asked_names in
+    let of_model : g.F.Files.told c.args.files.now c.in-Named.model.now ≡ Some model = ap (g.F.Files.told c.args.files.now) (sym same.0) ∙ told_m in
+    let of_trace : g.F.Files.told c.accept_model.new.files c.in-Named.trace.now ≡ Some trace =
+    c.accept_model.ensures.same_told c.in-Named.trace.now ∙ (ap (g.F.Files.told c.args.files.now) (sym same.1) ∙ told_t) in
     let read = told_is _ model (λ bytes. (model_fault bytes ≡ None) × (c.in-Ok-accept_model.plan.net ≡ network_in bytes)) of_model c.in-Ok-accept_model.ensures.accepted in
     c.run_trace-outcome.ensures.sure trace text of_trace
     (answer_is c.in-Ok-accept_model.plan.net model trace c.in-Ok.settings.jobs (jobs_asked words) read.0 read.1 (sym asked.jobs) ∙ is) room
@@ -38,9 +42,55 @@ pub returns-in-Ok-accept_model-clause-named : goal.returns-in-Ok-accept_model-cl
 returns-in-Ok-accept_model-clause-named g c m t model names told_m =
     let words : List (List ℕ) = map (λ w. w.now) c.args.words.now in
     let asked : Asks words c.in-Ok.settings = c.in-Ok.ensures.asked in
-    let same = same_names words m t _ _ names asked.names in
-    let of_model : g.F.Files.told c.args.files.now c.in-Ok.settings.model.now ≡ Some model = ap (g.F.Files.told c.args.files.now) (sym same.0) ∙ told_m in
+    let asked_names : Names words c.in-Named.model.now c.in-Named.trace.now = subst (AsksFor words) c.in-Named.is asked.input in
+    let same = same_names words m t _ _ names asked_names in
+    let of_model : g.F.Files.told c.args.files.now c.in-Named.model.now ≡ Some model = ap (g.F.Files.told c.args.files.now) (sym same.0) ∙ told_m in
     let read = told_is _ model (λ bytes. (model_fault bytes ≡ None) × (c.in-Ok-accept_model.plan.net ≡ network_in bytes)) of_model c.in-Ok-accept_model.ensures.accepted in
     subst (λ text. PutsLine (g.E.Sink.taken c.args.err.now) (g.E.Sink.taken c.put_line-in-Ok-accept_model.new.err) (g.E.Sink.sure c.args.err.now)
     (g.E.Sink.sure c.put_line-in-Ok-accept_model.new.err) (g.E.Sink.faults c.args.err.now) (g.E.Sink.faults c.put_line-in-Ok-accept_model.new.err) (line_text text c.run_trace-outcome.result)) (c.name_of.ensures ∙ ap (λ net. name_of net c.run_trace-outcome.result) read.1)
     c.put_line-in-Ok-accept_model.ensures
+
+-- ---- a made input
+
+pub returns-in-Made-clause-made : goal.returns-in-Made-clause-made
+returns-in-Made-clause-made g c number made =
+    let words : List (List ℕ) = map (λ w. w.now) c.args.words.now in
+    let asked : Asks words c.in-Ok.settings = c.in-Ok.ensures.asked in
+    let makes : Makes words c.in-Made.number = subst (AsksFor words) c.in-Made.is asked.input in
+    subst (λ a. Ends a c.run_made-outcome.result (record { before = g.O.Sink.taken c.args.out.now; now = g.O.Sink.taken c.run_made-outcome.new.out; sure_before = g.O.Sink.sure c.args.out.now; sure_now = g.O.Sink.sure c.run_made-outcome.new.out }))
+    (same_answer number c.in-Made.number (jobs_asked words) c.in-Ok.settings.jobs (same_number words number c.in-Made.number made makes) asked.jobs) c.run_made-outcome.ensures.ends
+
+pub returns-in-Made-clause-made_sure : goal.returns-in-Made-clause-made_sure
+returns-in-Made-clause-made_sure g c number text made is room =
+    let words : List (List ℕ) = map (λ w. w.now) c.args.words.now in
+    let asked : Asks words c.in-Ok.settings = c.in-Ok.ensures.asked in
+    let makes : Makes words c.in-Made.number = subst (AsksFor words) c.in-Made.is asked.input in
+    c.run_made-outcome.ensures.sure text (same_answer number c.in-Made.number (jobs_asked words) c.in-Ok.settings.jobs (same_number words number c.in-Made.number made makes) asked.jobs ∙ is) room
+
+pub returns-in-Ok-accept_model-clause-made : goal.returns-in-Ok-accept_model-clause-made
+returns-in-Ok-accept_model-clause-made g c number made =
+    let words : List (List ℕ) = map (λ w. w.now) c.args.words.now in
+    let asked : Asks words c.in-Ok.settings = c.in-Ok.ensures.asked in
+    let asked_names : Names words c.in-Named.model.now c.in-Named.trace.now = subst (AsksFor words) c.in-Named.is asked.input in
+    elim (not_both words c.in-Named.model.now c.in-Named.trace.now number asked_names made) [ ]
+
+pub returns-in-Ok-accept_model-clause-made_sure : goal.returns-in-Ok-accept_model-clause-made_sure
+returns-in-Ok-accept_model-clause-made_sure g c number text made is room =
+    let words : List (List ℕ) = map (λ w. w.now) c.args.words.now in
+    let asked : Asks words c.in-Ok.settings = c.in-Ok.ensures.asked in
+    let asked_names : Names words c.in-Named.model.now c.in-Named.trace.now = subst (AsksFor words) c.in-Named.is asked.input in
+    elim (not_both words c.in-Named.model.now c.in-Named.trace.now number asked_names made) [ ]
+
+pub returns-in-Err-accept_model-clause-made : goal.returns-in-Err-accept_model-clause-made
+returns-in-Err-accept_model-clause-made g c number made =
+    let words : List (List ℕ) = map (λ w. w.now) c.args.words.now in
+    let asked : Asks words c.in-Ok.settings = c.in-Ok.ensures.asked in
+    let asked_names : Names words c.in-Named.model.now c.in-Named.trace.now = subst (AsksFor words) c.in-Named.is asked.input in
+    elim (not_both words c.in-Named.model.now c.in-Named.trace.now number asked_names made) [ ]
+
+pub returns-in-Ok-accept_model-clause-made_line : goal.returns-in-Ok-accept_model-clause-made_line
+returns-in-Ok-accept_model-clause-made_line g c number made =
+    let words : List (List ℕ) = map (λ w. w.now) c.args.words.now in
+    let asked : Asks words c.in-Ok.settings = c.in-Ok.ensures.asked in
+    let asked_names : Names words c.in-Named.model.now c.in-Named.trace.now = subst (AsksFor words) c.in-Named.is asked.input in
+    elim (not_both words c.in-Named.model.now c.in-Named.trace.now number asked_names made) [ ]

@@ -1,9 +1,10 @@
-use Rattle.std.proofs.Common.{rules, ap, ap₂, codes, true, map, List, ℕ, ◌≡◌, ◌∙◌}
+use Rattle.std.proofs.Common.{rules, ap, ap₂, codes, Some, true, map, List, ℕ, ◌≡◌, ◌∙◌}
 use Rattle.std.proofs.lemmas.Result.{IfErr-weaker, IfOk-weaker}
 use Rattle.clap.specs.Matches.{found_of}
 use Rattle.clap.specs.Simple.{App, app_of, app_of_fields, is_simple, matches_of, new_rule, with_rule}
 use Rattle.clap.specs.Takes.{takes}
-use Rattle.clap.specs.Walk.{rule_of}
+use Rattle.clap.specs.declared.builder.arg.Arg.{Arg}
+use Rattle.clap.specs.Walk.{Rule, rule_of}
 use Rattle.mq_top.proofs.Matches.{finds, taken}
 use Rattle.mq_top.proofs.Walks.{app, app_is_simple, bare_app, jobs_rule, option_rule}
 use Rattle.mq_top.proofs.words.matches_of.Goals as goal
@@ -17,17 +18,19 @@ command_is : (c : goal.After-try_get_matches_from) → app_of c.in_ok-command.co
 command_is c =
     let model_is : rule_of c.new-model.result ≡ new_rule (codes "model") = search rules in
     let trace_is : rule_of c.new-trace.result ≡ new_rule (codes "trace") = search rules in
-    let workers_is : rule_of c.long-workers.result ≡ option_rule (codes "workers") = search rules in
-    let block_is : rule_of c.long-block.result ≡ option_rule (codes "block") = search rules in
+    let workers_is : rule_of c.long-workers.result ≡ option_rule (codes "workers") = ap rule_of c.long-workers.ensures ∙ ap (λ (r : Rule). record r { long = Some (codes "workers") }) c.new.ensures.rule in
+    let block_is : rule_of c.long-block.result ≡ option_rule (codes "block") = ap rule_of c.long-block.ensures ∙ ap (λ (r : Rule). record r { long = Some (codes "block") }) c.new-2.ensures.rule in
+    let made_is : rule_of c.long-made.result ≡ option_rule (codes "made") = ap rule_of c.long-made.ensures ∙ ap (λ (r : Rule). record r { long = Some (codes "made") }) c.new-3.ensures.rule in
     let jobs_is : rule_of c.action-jobs.result ≡ jobs_rule = search rules in
     let bare : app_of c.disable_help_flag.result ≡ bare_app =
     ap app_of_fields c.disable_help_flag.ensures
-    ∙ (ap (λ f. app_of_fields (record f { disable_help_flag = true })) c.no_binary_name.ensures ∙ ap set c.new-4.ensures.app) in
+    ∙ (ap (λ f. app_of_fields (record f { disable_help_flag = true })) c.no_binary_name.ensures ∙ ap set c.new-5.ensures.app) in
     c.in_ok-command.ensures.shape (search rules)
-    ∙ ap₂ with_rule (c.in_ok-arg-4.ensures.shape (search rules)
-    ∙ ap₂ with_rule (c.in_ok-arg-3.ensures.shape (search rules)
-    ∙ ap₂ with_rule (c.in_ok-arg-2.ensures.shape (search rules)
-    ∙ ap₂ with_rule (c.in_ok-arg.ensures.shape (search rules) ∙ ap₂ with_rule bare model_is) trace_is) workers_is) block_is) jobs_is
+    ∙ ap₂ with_rule (c.in_ok-arg-5.ensures.shape (ap (λ (a : Arg). a.global) c.long-made.ensures ∙ c.new-3.ensures.optional.1)
+    ∙ ap₂ with_rule (c.in_ok-arg-4.ensures.shape (ap (λ (a : Arg). a.global) c.long-block.ensures ∙ c.new-2.ensures.optional.1)
+    ∙ ap₂ with_rule (c.in_ok-arg-3.ensures.shape (ap (λ (a : Arg). a.global) c.long-workers.ensures ∙ c.new.ensures.optional.1)
+    ∙ ap₂ with_rule (c.in_ok-arg-2.ensures.shape c.new-trace.ensures.optional.1
+    ∙ ap₂ with_rule (c.in_ok-arg.ensures.shape c.new-model.ensures.optional.1 ∙ ap₂ with_rule bare model_is) trace_is) workers_is) block_is) made_is) jobs_is
 
 pub returns-clause-found : goal.returns-clause-found
 returns-clause-found c pass =
