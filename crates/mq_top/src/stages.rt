@@ -21,6 +21,7 @@ use crate::words::{Input, settings_of};
 use mq_base::{FileFault, Files, Sink};
 use mq_core::{Plan, Rows, runs_are_of_networks};
 use mq_engine::{RunFault, run};
+use mq_gen::{made, made_inputs_are_accepted};
 use mq_model::{ModelFault, read_model};
 use mq_report::report;
 use mq_trace::{TraceFault, read_trace};
@@ -164,7 +165,7 @@ fn run_trace<F: Files, O: Sink>(
 }
 
 // Runs the made input of this number, and writes the report.
-fn run_made<O: Sink>(_alloc: Global, number: u64, jobs: bool, out: &mut O) -> Outcome
+fn run_made<O: Sink>(alloc: Global, number: u64, jobs: bool, out: &mut O) -> Outcome
     ensures ends { Ends (answer (made_model number) (made_trace number) jobs) result (record { before = O.taken out.old; now = O.taken out.new; sure_before = O.sure out.old; sure_now = O.sure out.new }) }
     ensures made { IsOfMade result }
     ensures later { O.faults out.old ≤ O.faults out.new }
@@ -172,7 +173,18 @@ fn run_made<O: Sink>(_alloc: Global, number: u64, jobs: bool, out: &mut O) -> Ou
     ensures sure { (text : List ℕ) → answer (made_model number) (made_trace number) jobs ≡ Reported text → length text ≤ O.sure out.old → O.faults out.new ≡ O.faults out.old }
     ensures untouched { Untouched result out.old out.new }
 {
-    Outcome::Memory
+    made_inputs_are_accepted();
+    let Ok(input) = made(alloc, number) else {
+        return Outcome::Memory;
+    };
+    let plan = match judge_model(alloc, input.model.as_slice()) {
+        Ok(plan) => plan,
+        Err(outcome) => return outcome,
+    };
+    match judge_trace(alloc, &plan, input.trace.as_slice()) {
+        Ok(rows) => report_run(alloc, &plan, &rows, jobs, out),
+        Err(outcome) => outcome,
+    }
 }
 
 /// Reads the model and the trace that the words name, or makes those of a number, runs the network

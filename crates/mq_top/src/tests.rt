@@ -7,6 +7,7 @@ use std::alloc::Global;
 use std::test::Fail;
 
 mod faults;
+mod made;
 mod networks;
 mod stations;
 mod words;
