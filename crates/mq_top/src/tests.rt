@@ -10,6 +10,7 @@ mod cuts;
 mod devices;
 mod faults;
 mod limits;
+mod made;
 mod networks;
 mod stations;
 mod words;

@@ -51,7 +51,9 @@ at_run g c =
     let net_is : c.in-Ok-judge_model.plan.net ≡ network_in (made_model c.args.number) = c.in-Ok-judge_model.ensures.accepted.1 ∙ ap network_in (c.as_slice.ensures ∙ c.in-Ok.ensures.model) in
     let rows_are : c.in-Ok-judge_trace.rows ≡ rows_in c.in-Ok-judge_model.plan.net (made_trace c.args.number) =
     c.in-Ok-judge_trace.ensures.accepted.1 ∙ ap (rows_in c.in-Ok-judge_model.plan.net) (c.as_slice-2.ensures ∙ c.in-Ok.ensures.trace) in
-    ends_at_run (made_model c.args.number) (made_trace c.args.number) c.args.jobs c.in-Ok-judge_model.plan.net c.in-Ok-judge_trace.rows c.report_run.result _ accepted net_is rows_are c.report_run.ensures.ends c.report_run.ensures.unread
+    let taken : Taken =
+    record { before = g.O.Sink.taken c.args.out.now; now = g.O.Sink.taken c.report_run.new.out; sure_before = g.O.Sink.sure c.args.out.now; sure_now = g.O.Sink.sure c.report_run.new.out } in
+    ends_at_run (made_model c.args.number) (made_trace c.args.number) c.args.jobs c.in-Ok-judge_model.plan.net c.in-Ok-judge_trace.rows c.report_run.result taken accepted net_is rows_are c.report_run.ensures.ends c.report_run.ensures.unread
 
 pub returns-in-Ok-judge_trace-clause-ends : goal.returns-in-Ok-judge_trace-clause-ends
 returns-in-Ok-judge_trace-clause-ends g c = (at_run g c).ends
