@@ -33,6 +33,7 @@ pub fn admitted_or_lost(
     fates_are_in_time();
     let demands = demands_of(alloc, net, rows, demand, &arrivals.job)?;
     let settled = settled::<Brand>(alloc, arrivals, &demands, places, Blank::new(1))?;
+    // What comes takes the room that they had.
     drop(demands);
     let departs = settled.departs;
     let fates = fates_of(alloc, &settled.admitted, &departs)?;
@@ -60,7 +61,7 @@ fn settled<L: Ledger>(
 }
 
 // The fate of each arrival.
-// Its loop, like the one below, is not inlined, so that it has the registers to itself.
+// Not inlined, like the one below, so that its loop has the registers to itself.
 #[inline(never)]
 fn fates_of(
     alloc: Global,
@@ -96,10 +97,10 @@ fn streams_of(
     requires departs { length departs ≡ length (picked 0 (map out_of_admission admitted.now) arrivals.now.job) }
     ensures { IfOk result (λ streams. AreAdmittedAndLost arrivals.now admitted.now departs streams) }
 {
-    let count = admitted.len() - departs.len();
+    let lost = admitted.len() - departs.len();
     let mut served = Vec::with_capacity(alloc, departs.len())?;
-    let mut job = Vec::with_capacity(alloc, count)?;
-    let mut time = Vec::with_capacity(alloc, count)?;
+    let mut job = Vec::with_capacity(alloc, lost)?;
+    let mut time = Vec::with_capacity(alloc, lost)?;
     for at in 0..admitted.len() {
         if *admitted.get(at) {
             served.push_reserved(*arrivals.job.get(at));

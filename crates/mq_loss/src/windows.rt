@@ -11,7 +11,7 @@ use mq_core::Stream;
 use std::alloc::Global;
 use std::sync::ledger::Ledger;
 
-// Where a run of windows stands: the settled places and the departures of those admitted, in
+// Where a run of windows stands: the settled arrivals and the departures of those admitted, in
 // vectors with room for all arrivals, and the rounds and judgements made.
 #[derive(Drop)]
 struct Progress {
@@ -21,8 +21,8 @@ struct Progress {
     judged: u64,
 }
 
-// One round over the places from `from` up to `to`, all of them guessed admitted: whether each is
-// admitted, and the departures that the guess gives, are put behind those of the settled places.
+// One round over the arrivals from `from` up to `to`, all guessed admitted: whether each is
+// admitted, and the departures that the guess gives, are put behind those of the settled.
 fn judge_window<L: Ledger>(
     stream: &Stream,
     demands: &List<u64>,
@@ -55,7 +55,7 @@ fn judge_window<L: Ledger>(
     }
 }
 
-// How many places come before the first that the round changed.
+// How many arrivals come before the first that the round changed.
 fn unchanged_of(outcome: &[bool]) -> usize
     ensures { result ≡ unchanged_in outcome.now }
 {
@@ -67,7 +67,7 @@ fn unchanged_of(outcome: &[bool]) -> usize
     outcome.len()
 }
 
-// The length of the window behind one of which so many places were settled.
+// The length of the window behind one of which so many arrivals were settled.
 fn width_after(settled: usize, width: usize) -> usize
     requires { width ≤ 2 ^ 34 }
     ensures { result ≡ next_width settled width }

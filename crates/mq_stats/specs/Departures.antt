@@ -27,13 +27,13 @@ abbrev pub stays : Fate → Bool
 stays (Departs time) = true
 stays Lost = false
 
--- none that isn't lost departs before this time, nor before an earlier one
+-- those that aren't lost depart in the order in which they came, none before this time
 abbrev pub departures_rise : ℕ → List Fate → Bool
 departures_rise latest [] = true
 departures_rise latest (Departs time ∷ fates) = nat_le latest time && departures_rise time fates
 departures_rise latest (Lost ∷ fates) = departures_rise latest fates
 
--- a visit that is there departs after this time
+-- there is a visit, and it departs after this time
 abbrev pub stays_at : ℕ → Option Fate → Bool
 stays_at time None = false
 stays_at time (Some (Departs departure)) = nat_lt time departure

@@ -53,7 +53,7 @@ Reads (ReadFault false) before now = now ≡ next_count before
 Reads Memory before now = AtMostTwo before now
 Reads _ before now = now ≡ next_count (next_count before)
 
--- an outcome of a made input, which is never refused and takes no read
+-- an outcome of a made input, which is never refused and reads no file
 abbrev pub IsOfMade : Outcome → Type 0
 IsOfMade Done = Unit {0}
 IsOfMade WriteFault = Unit {0}

@@ -12,7 +12,7 @@ pub enum UsageFault {
     /// A word is empty or an unknown option, an option stands twice or lacks its value, or more
     /// than two words are left.
     Words,
-    /// There aren't two names, or with `--made` there is one.
+    /// Without `--made` there aren't two names, or with it there is any.
     Form,
     /// The number of workers isn't a number from 1 to 64.
     Workers,

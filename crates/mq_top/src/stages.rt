@@ -190,8 +190,8 @@ fn run_made<O: Sink>(alloc: Global, number: u64, jobs: bool, out: &mut O) -> Out
 /// Reads the model and the trace that the words name, or makes those of a number, runs the network
 /// over the rows, and writes the report: the same as that of a sequential event list. The words are
 /// those behind the program's name: the two names, or `--made` with a number, and among them
-/// `--workers` and `--block` with a number, which are judged and change nothing, and `--jobs`, which
-/// asks for a line for each visit.
+/// `--workers` and `--block` with a number, which are judged and change nothing, and `--jobs`,
+/// which asks for a line for each visit.
 ///
 /// Every outcome but `Done` puts one line on `err`, whose faults change no outcome. All memory is
 /// taken before the first byte is written; `out` gains the whole report with `Done`, a first part

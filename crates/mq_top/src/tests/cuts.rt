@@ -81,7 +81,7 @@ const CUTS: [(usize, usize, Outcome, &[u8]); 13] = [
 ];
 
 #[test]
-fn a_cut_model_has_its_fault(rt: HostRuntime) -> Result<(), Fail> {
+fn each_cut_of_a_model_has_its_outcome(rt: HostRuntime) -> Result<(), Fail> {
     for (least, most, outcome, report) in CUTS {
         for length in least..=most {
             let ran = ran(rt.alloc(), &DESK[..length], ORDINARY)?;

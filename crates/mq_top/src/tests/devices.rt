@@ -9,7 +9,7 @@ use std::test::Fail;
 // The most bytes that a put takes.
 const MOST: usize = 64;
 
-// A sink whose put of this number fails, with room for all that comes.
+// A sink whose put of this number fails, from 1, with room for all that comes; of number 0 none does.
 fn failing_at(alloc: Global, put: u64) -> Result<MemSink, Fail> {
     let mut failing = Vec::new(alloc);
     failing.push(put)?;
@@ -18,38 +18,49 @@ fn failing_at(alloc: Global, put: u64) -> Result<MemSink, Fail> {
     Ok(sink)
 }
 
+// How many puts take so many bytes.
+fn puts_of(bytes: &[u8]) -> u64 {
+    bytes.chunks(MOST).count() as u64
+}
+
 #[test]
 fn each_put_on_the_output_fails_in_turn(rt: HostRuntime) -> Result<(), Fail> {
     let alloc = rt.alloc();
-    let report = ran(alloc, CALL_CENTRE, CALLS)?;
-    let puts = report.out.bytes().len().div_ceil(MOST) as u64;
-    for put in 1..=puts {
+    let ran = ran(alloc, CALL_CENTRE, CALLS)?;
+    let report = ran.out.bytes();
+    for put in 1..=puts_of(report) {
         let mut files = files_of(alloc, CALL_CENTRE, CALLS, &[])?;
         let (mut out, mut err) = (failing_at(alloc, put)?, failing_at(alloc, 0)?);
         let outcome = simulate(alloc, &["m", "t"], &mut files, &mut out, &mut err);
         assert_eq!(rt; outcome, Outcome::WriteFault);
-        assert!(rt; out.bytes().len() < report.out.bytes().len());
-        assert!(rt; report.out.bytes().starts_with(out.bytes()));
+        assert_eq!(rt;
+            out.bytes().len(),
+            (put as usize).saturating_sub(1).saturating_mul(MOST)
+        );
+        assert!(rt; report.starts_with(out.bytes()));
         assert_eq!(rt; err.bytes(), b"mpsim: cannot write the report\n".as_slice());
     }
     Ok(())
 }
 
-// A line of one put, whose put fails, and one of several puts, each of which fails in turn.
+// The words and the model of a refused call, its status and the bytes of its line.
+const REFUSED: [(&[&str], &[u8], u8, usize); 2] = [
+    (&["m", "t", "u"], CALL_CENTRE, 2, 120),
+    (&["m", "t"], b"model 2\n", 3, 38),
+];
+
 #[test]
 fn an_error_output_that_fails_changes_no_outcome(rt: HostRuntime) -> Result<(), Fail> {
     let alloc = rt.alloc();
-    for put in 1..=3 {
-        let mut files = files_of(alloc, CALL_CENTRE, CALLS, &[])?;
-        let (mut out, mut err) = (failing_at(alloc, 0)?, failing_at(alloc, put)?);
-        let outcome = simulate(alloc, &["m", "t", "u"], &mut files, &mut out, &mut err);
-        assert_eq!(rt; outcome.status(), 2);
-        assert!(rt; out.bytes().is_empty());
-        let mut files = files_of(alloc, b"model 2\n", CALLS, &[])?;
-        let (mut out, mut err) = (failing_at(alloc, 0)?, failing_at(alloc, put)?);
-        let outcome = simulate(alloc, &["m", "t"], &mut files, &mut out, &mut err);
-        assert_eq!(rt; outcome.status(), 3);
-        assert!(rt; out.bytes().is_empty());
+    for (words, model, status, length) in REFUSED {
+        for put in 0..=length.div_ceil(MOST) {
+            let mut files = files_of(alloc, model, CALLS, &[])?;
+            let (mut out, mut err) = (failing_at(alloc, 0)?, failing_at(alloc, put as u64)?);
+            let outcome = simulate(alloc, words, &mut files, &mut out, &mut err);
+            assert_eq!(rt; outcome.status(), status);
+            assert_eq!(rt; err.faults(), put.min(1) as u64);
+            assert!(rt; out.bytes().is_empty());
+        }
     }
     Ok(())
 }

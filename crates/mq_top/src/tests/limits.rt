@@ -1,4 +1,4 @@
-// Limits of a model and of a trace, each at its end and one past it.
+// Limits of a model and of a trace, each at its end and one past it, but the bytes of a trace only past it.
 use super::ran;
 use crate::Outcome;
 use mq_model::ModelFault;
@@ -62,12 +62,12 @@ fn a_model_has_at_most_65536_bytes(rt: HostRuntime) -> Result<(), Fail> {
 #[test]
 fn a_model_has_at_most_64_nodes(rt: HostRuntime) -> Result<(), Fail> {
     let alloc = rt.alloc();
-    for (servers, outcome) in [
+    for (count, outcome) in [
         (63, Outcome::Done),
         (64, Outcome::Model(ModelFault::TooMany { line: 66 })),
     ] {
         let mut model = b"model 1\nsource q0\n".to_vec(alloc)?;
-        for n in 0..servers {
+        for n in 0..count {
             model.extend_from_slice(format!(in alloc;
                 "server q{} =1 from q{n}\n",
                 n as u64 + 1
