@@ -6,8 +6,8 @@ use Rattle.mq_engine.proofs.LossFates.{both, elsewhere-next, here-next, here-roo
 use Rattle.mq_engine.proofs.losses.streams_of.Goals as goal
 use Rattle.mq_engine.proofs.losses.streams_of.Goals.{then-get, else-get}
 
-pub overflow_sub-count : goal.overflow_sub-count
-overflow_sub-count c =
+pub overflow_sub-lost : goal.overflow_sub-lost
+overflow_sub-lost c =
     let all = both c.args.admitted.now c.args.arrivals.now.job c.requires.jobs in
     let departs = c.requires.departs in
     omega arith
