@@ -63,7 +63,7 @@ fn a_model_has_at_most_65536_bytes(rt: HostRuntime) -> Result<(), Fail> {
 fn a_model_has_at_most_64_nodes(rt: HostRuntime) -> Result<(), Fail> {
     let alloc = rt.alloc();
     for (count, outcome) in [
-        (63, Outcome::Done),
+        (63u32, Outcome::Done),
         (64, Outcome::Model(ModelFault::TooMany { line: 66 })),
     ] {
         let mut model = b"model 1\nsource q0\n".to_vec(alloc)?;
