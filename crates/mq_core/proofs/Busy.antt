@@ -1,7 +1,8 @@
 use Rattle.std.proofs.Common.{◌≡◌, ℕ, zero, suc, ◌+◌, ◌-◌, ◌*◌, ◌<◌, ◌≤◌, List, [], ◌∷◌, ◌++◌, length, Option, Some, None, sym, refl, ap, ◌∙◌, subst, arith, length-append}
 use Rattle.std.proofs.lemmas.List.{append-nil}
-use Rattle.std.specs.Prelude.{slice_get, filter}
-use Rattle.std.specs.List.{AllByRecursion as Each}
+use Rattle.std.proofs.lemmas.List.Sums.{sum_by-cons}
+use Rattle.std.specs.Prelude.{slice_get, filter, sum_by}
+use Rattle.std.specs.List.{AllByRecursion as Each, flat_map}
 use Rattle.mq_core.specs.Event.{Event, time_of, earliest, sooner_of}
 use Rattle.mq_core.specs.Event.Event.{Arrive, Finish}
 use Rattle.mq_core.specs.Machine.{Visit, Emission, State, Station, finishes_of}
@@ -13,7 +14,7 @@ use Rattle.mq_core.specs.OnTime.{standard-on_time}
 use Rattle.mq_core.specs.Wiring.{reader_from}
 use Rattle.mq_core.specs.Run.{starts}
 use Rattle.mq_core.specs.Laws.{is_finish_at}
-use Rattle.mq_core.specs.Fates.{fate_of, service_of, unless_lost, BusyIsServices}
+use Rattle.mq_core.specs.Fates.{fate_of, service_of, service_time, unless_lost, BusyIsServices}
 use Rattle.mq_core.specs.declared.model.Kind.{Kind}
 use Rattle.mq_core.specs.declared.model.Kind.TheVariants.{Source, Server, Delay, Loss, Tandem, ForkJoin, Split}
 use Rattle.mq_core.specs.declared.model.Node.{Node}
@@ -195,6 +196,19 @@ busy-keeps plan rows =
       ends = λ v server position s fs rest now h first. (keeps.ends v server position s fs rest now h.0 first, node_busy-ends _ rows (slice_get plan.net.nodes v) _ v server position s fs rest now first h.0 h.1);
     }
 
+-- the service of a visit, told of those that are there
+service-by : (rows : Rows) (kind : Kind) (f : Option Visit → ℕ) → f None ≡ 0 → ((x : Visit) → f (Some x) ≡ service_time rows kind x.job) → (o : Option Visit) → f o ≡ service_of rows kind o
+service-by rows kind f none some None = none
+service-by rows kind f none some (Some x) = some x
+
+services-by : (rows : Rows) (kind : Kind) (visits : List Visit) (f : Option Visit → ℕ) → f None ≡ 0 → ((x : Visit) → f (Some x) ≡ service_time rows kind x.job) →
+    sum_below (length visits) (λ p. f (slice_get visits p)) ≡ sum_below (length visits) (λ p. service_of rows kind (slice_get visits p))
+services-by rows kind visits f none some = sum-same (length visits) _ _ (λ p l. service-by rows kind f none some (slice_get visits p))
+
+none-asks : (rows : Rows) (demands : List Demand) → sum_by (λ demand. demand_of_visit rows demand None) demands ≡ 0
+none-asks rows [] = refl
+none-asks rows (demand ∷ demands) = omega (arith, sum_by-cons (λ d. demand_of_visit rows d None) demand demands, none-asks rows demands)
+
 no_sum : (n : ℕ) → sum_below n (λ _. 0) ≡ 0
 no_sum zero = refl
 no_sum (suc n) = omega (arith, no_sum n)
@@ -218,26 +232,31 @@ busy-is_services plan rows read v node here =
     whole kind by = sum-same (length ((run_of plan rows).stations v).visits) _ _ (λ p l. sym (departing-whole kind by (emission_at ((run_of plan rows).stations v).emitted p) (service_of rows kind (slice_get ((run_of plan rows).stations v).visits p))))
 
     go : (kind : Kind) → kind_fact rows kind v ((run_of plan rows).stations v) [] (run_of plan rows).clock → kind_busy rows kind ((run_of plan rows).stations v) [] (run_of plan rows).clock → ((run_of plan rows).stations v).busy ≡ sum_below (length ((run_of plan rows).stations v).visits) (λ p. unless_lost (fate_of kind ((run_of plan rows).stations v).emitted p) (service_of rows kind (slice_get ((run_of plan rows).stations v).visits p)))
-    go Source h k = k ∙ (sym (no_sum (length ((run_of plan rows).stations v).visits)) ∙ whole Source (λ m. refl))
-    go (Split route) h k = k ∙ (sym (no_sum (length ((run_of plan rows).stations v).visits)) ∙ whole (Split route) (λ m. refl))
-    go (Delay demand) h k = let all = whole (Delay demand) (λ m. refl) in omega arith
+    go Source h k = k ∙ (sym (no_sum (length ((run_of plan rows).stations v).visits)) ∙ (services-by rows Source ((run_of plan rows).stations v).visits (λ o. 0) refl (λ x. refl) ∙ whole Source (λ m. refl)))
+    go (Split route) h k = k ∙ (sym (no_sum (length ((run_of plan rows).stations v).visits)) ∙ (services-by rows (Split route) ((run_of plan rows).stations v).visits (λ o. 0) refl (λ x. refl) ∙ whole (Split route) (λ m. refl)))
+    go (Delay demand) h k =
+        let each = services-by rows (Delay demand) ((run_of plan rows).stations v).visits (demand_of_visit rows demand) refl (λ x. refl) in
+        let all = whole (Delay demand) (λ m. refl) in
+        omega arith
     go (Tandem stages) h k =
         let all = whole (Tandem stages) (λ m. refl) in
         let served = tandeming-served rows stages v ((run_of plan rows).stations v).visits _ ((run_of plan rows).stations v).emitted _ h in
         omega arith
     go (ForkJoin branches) h k =
         let all = whole (ForkJoin branches) (λ m. refl) in
-        joining-busy_done rows branches v ((run_of plan rows).stations v).visits ((run_of plan rows).stations v).local.branches ((run_of plan rows).stations v).emitted _ _ h k ∙ all
+        joining-busy_done rows branches v ((run_of plan rows).stations v).visits ((run_of plan rows).stations v).local.branches ((run_of plan rows).stations v).emitted _ _ h k
+        ∙ (services-by rows (ForkJoin branches) ((run_of plan rows).stations v).visits (λ o. sum_by (λ demand. demand_of_visit rows demand o) (flat_map (λ demands. demands) branches)) (none-asks rows (flat_map (λ demands. demands) branches)) (λ x. refl) ∙ all)
     go (Loss places demand) h k =
         let visits = ((run_of plan rows).stations v).visits in
         let emitted = ((run_of plan rows).stations v).emitted in
         let done = losing-done rows places demand v visits _ emitted _ h.1 in
         losing-busy_done rows places demand visits emitted (run_of plan rows).clock ((run_of plan rows).stations v).busy (losing-same rows places demand v visits _ emitted _ h.1) (subst (λ q. LossBusy rows places demand visits q [] (run_of plan rows).clock ((run_of plan rows).stations v).busy) done.0 k)
-        ∙ sum-same (length visits) _ _ (λ p l. lost-out places demand (emission_at emitted p) (demand_of_visit rows demand (slice_get visits p)))
+        ∙ sum-same (length visits) _ _ (λ p l. lost-out places demand (emission_at emitted p) (demand_of_visit rows demand (slice_get visits p)) ∙ ap (unless_lost (fate_of (Loss places demand) emitted p)) (service-by rows (Loss places demand) (demand_of_visit rows demand) refl (λ x. refl) (slice_get visits p)))
     go (Server demand) h k =
         let d = (serving-done rows demand v ((run_of plan rows).stations v).visits _ ((run_of plan rows).stations v).emitted _ h).0 in
         let e = ap (λ q. sum_below (length ((run_of plan rows).stations v).visits - (length q - 1)) (λ p. demand_at rows demand ((run_of plan rows).stations v).visits p)) d in
         let n : length ((run_of plan rows).stations v).visits - (0 - 1) ≡ length ((run_of plan rows).stations v).visits = omega arith in
         let m = ap (λ j. sum_below j (λ p. demand_at rows demand ((run_of plan rows).stations v).visits p)) n in
+        let each = services-by rows (Server demand) ((run_of plan rows).stations v).visits (demand_of_visit rows demand) refl (λ x. refl) in
         let all = whole (Server demand) (λ m. refl) in
         omega arith

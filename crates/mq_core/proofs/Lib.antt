@@ -81,3 +81,8 @@ pub mod LossPeak
 pub mod LossColumns
 pub mod Unlost
 pub mod LossRows
+pub mod BoundedStations
+pub mod BoundedTandem
+pub mod BoundedKinds
+pub mod BoundedArrivals
+pub mod BoundedRanks

@@ -60,15 +60,6 @@ area-columns kind now visits emitted out leaves =
     stays x m (inl e) = ap (column_sojourn x.arrive) (sym e)
     stays x m (inr e) = let at = e.1 in let none : m.time - x.arrive ≡ 0 = omega arith in none ∙ ap (column_sojourn x.arrive) (sym e.0)
 
-service-column : (rows : Rows) (kind : Kind) (x : Visit) (time : ℕ) → service_of rows kind (Some x) ≡ column_service rows kind x.job (Departs time)
-service-column rows Source x time = refl
-service-column rows (Server demand) x time = refl
-service-column rows (Delay demand) x time = refl
-service-column rows (Loss places demand) x time = refl
-service-column rows (Tandem stages) x time = refl
-service-column rows (ForkJoin branches) x time = refl
-service-column rows (Split route) x time = refl
-
 busy-columns : (rows : Rows) (kind : Kind) (visits : List Visit) (emitted : List Emission) → LetOut emitted 0 visits → sum_below (length visits) (λ p. unless_lost (fate_of kind emitted p) (service_of rows kind (slice_get visits p))) ≡ sum (column_services rows kind (map (λ (x : Visit). x.job) visits) (fates_from kind emitted 0 visits))
 busy-columns rows kind visits emitted out =
     sym (ap sum (services-values rows kind visits (fates_from kind emitted 0 visits))
@@ -76,7 +67,7 @@ busy-columns rows kind visits emitted out =
     (λ i p x m place here e. ap (λ o. unless_lost (option_map (fate_by kind) o) (service_of rows kind (slice_get visits i))) (at-own emitted i p m place e) ∙ (ap (λ o. unless_lost (Some (fate_by kind m)) (service_of rows kind o)) here ∙ served x (fate_by kind m))))
   where
     served : (x : Visit) (fate : Fate) → unless_lost (Some fate) (service_of rows kind (Some x)) ≡ column_service rows kind x.job fate
-    served x (Departs time) = service-column rows kind x time
+    served x (Departs time) = refl
     served x Lost = refl
 
 numbers-columns : (kind : Kind) (visits : List Visit) (emitted : List Emission) → LetOut emitted 0 visits → greatest_below (length visits) (λ p. unless_lost (fate_of kind emitted p) (found_or 0 (slice_get visits p) + 1)) ≡ fold max 0 (column_numbers (map (λ (x : Visit). x.found) visits) (fates_from kind emitted 0 visits))

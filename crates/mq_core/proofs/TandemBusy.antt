@@ -8,9 +8,11 @@ use Rattle.mq_core.specs.Event.{Event, time_of, earliest}
 use Rattle.mq_core.specs.Event.Event.{Arrive, Finish}
 use Rattle.mq_core.specs.Machine.{Visit, Emission, Release, Service, finishes_of}
 use Rattle.mq_core.specs.Local.{Local, Line}
-use Rattle.mq_core.specs.Handling.{demand_of_visit, demand_at, begins_at, begins_alone, stages_of_visit}
+use Rattle.mq_core.specs.Handling.{demand_of_visit, demand_at, begins_at, begins_alone}
+use Rattle.mq_core.specs.Fates.{service_of}
 use Rattle.mq_core.specs.Tallies.{sum_below}
 use Rattle.mq_core.specs.TandemHandler.{Swept, has_room, leaves, moves, sweep, marked, tandem_arrives, empty_lines, one_if_serving, serving_in}
+use Rattle.mq_core.specs.declared.model.Kind.TheVariants.{Tandem}
 use Rattle.mq_core.specs.declared.model.Stage.{Stage}
 use Rattle.mq_core.specs.declared.model.Rows.{Rows}
 use Rattle.mq_core.proofs.Areas.{get-front, sum-same}
@@ -252,14 +254,14 @@ sum-both zero f g h e = refl
 sum-both (suc n) f g h e = omega (arith, e n, sum-both n f g h e)
 
 -- where no stage holds a job, all services have begun
-begun-all : (rows : Rows) (visits : List Visit) (n : ℕ) (stages : List Stage) (lines : List Line) → length lines ≡ length stages → Each (λ (line : Line). line.queue ≡ []) lines → begun_in rows visits n stages lines ≡ sum_below n (λ p. stages_of_visit rows stages (slice_get visits p))
+begun-all : (rows : Rows) (visits : List Visit) (n : ℕ) (stages : List Stage) (lines : List Line) → length lines ≡ length stages → Each (λ (line : Line). line.queue ≡ []) lines → begun_in rows visits n stages lines ≡ sum_below n (λ p. service_of rows (Tandem stages) (slice_get visits p))
 begun-all rows visits n [] lines l h = sym (zeros n)
   where
-    none : (o : Option Visit) → stages_of_visit rows [] o ≡ 0
+    none : (o : Option Visit) → service_of rows (Tandem []) o ≡ 0
     none None = refl
     none (Some x) = refl
 
-    zeros : (n : ℕ) → sum_below n (λ p. stages_of_visit rows [] (slice_get visits p)) ≡ 0
+    zeros : (n : ℕ) → sum_below n (λ p. service_of rows (Tandem []) (slice_get visits p)) ≡ 0
     zeros zero = refl
     zeros (suc n) = omega (arith, none (slice_get visits n), zeros n)
 begun-all rows visits n (stage ∷ stages) [] l h = absurd (omega arith)
@@ -270,10 +272,10 @@ begun-all rows visits n (stage ∷ stages) (line ∷ lines) l h =
     let c = ap (λ m. sum_below m (λ p. demand_at rows stage.demand visits p)) a in
     let d = ap (λ m. begun_in rows visits m stages lines) b in
     let e = begun-all rows visits n stages lines (omega arith) h.1 in
-    let f = sum-both n (λ p. demand_at rows stage.demand visits p) (λ p. stages_of_visit rows stages (slice_get visits p)) (λ p. stages_of_visit rows (stage ∷ stages) (slice_get visits p)) (λ p. parts (slice_get visits p)) in
+    let f = sum-both n (λ p. demand_at rows stage.demand visits p) (λ p. service_of rows (Tandem stages) (slice_get visits p)) (λ p. service_of rows (Tandem (stage ∷ stages)) (slice_get visits p)) (λ p. parts (slice_get visits p)) in
     omega arith
   where
-    parts : (o : Option Visit) → stages_of_visit rows (stage ∷ stages) o ≡ demand_of_visit rows stage.demand o + stages_of_visit rows stages o
+    parts : (o : Option Visit) → service_of rows (Tandem (stage ∷ stages)) o ≡ demand_of_visit rows stage.demand o + service_of rows (Tandem stages) o
     parts None = omega arith
     parts (Some x) = refl
 
@@ -285,6 +287,6 @@ stages-lines rows v staying visits time server came (stage ∷ stages) (line ∷
 
 -- at its end a tandem served each visit at each stage
 pub tandeming-served : (rows : Rows) (stages : List Stage) (v : ℕ) (visits : List Visit) (lines : List Line) (emitted : List Emission) (now : ℕ) → Tandeming rows stages v visits lines emitted [] now →
-    begun_in rows visits (length visits) stages lines ≡ sum_below (length visits) (λ p. stages_of_visit rows stages (slice_get visits p))
+    begun_in rows visits (length visits) stages lines ≡ sum_below (length visits) (λ p. service_of rows (Tandem stages) (slice_get visits p))
 tandeming-served rows stages v visits lines emitted now h =
     begun-all rows visits (length visits) stages lines (stages-lines rows v Blocked visits (time_at rows stages visits) 0 (length visits) stages lines emitted [] now h.tidy) (tandeming-empty rows stages v visits lines emitted now h)

@@ -1,6 +1,7 @@
 -- A run in columns: what the code keeps of it, one item a visit, by position.
-use Rattle.std.specs.Prelude.{◌≡◌, ◌≤◌, ◌^◌, All, ℕ, zero, suc, ◌+◌, ◌-◌, nat_lt, max, Bool, false, List, [], ◌∷◌, ◌++◌, length, map, sum, sum_by, count_by, fold, ◌==◌, slice_index, if◌then◌else◌, Some}
-use Rattle.std.specs.List.{flat_map, zip}
+use Rattle.std.specs.Prelude.{◌≡◌, ◌≤◌, ◌^◌, All, ℕ, zero, suc, ◌+◌, ◌-◌, nat_lt, max, Bool, false, List, [], ◌∷◌, ◌++◌, length, map, sum, count_by, fold, ◌==◌, slice_index, if◌then◌else◌, Some}
+use Rattle.std.specs.List.{zip}
+use Rattle.mq_core.specs.Fates.{service_time}
 use Rattle.mq_core.specs.Laws.{Rises, in_order_of}
 use Rattle.mq_core.specs.Local.{Local}
 use Rattle.mq_core.specs.Machine.{State}
@@ -8,7 +9,7 @@ use Rattle.mq_core.specs.Recurrences.{lindley, delayed, loss_fates, fork_departs
 use Rattle.mq_core.specs.Results.{Totals, Late, late_fate, bare_time, is_lost, visits_of, stream_from}
 use Rattle.mq_core.specs.Served.{branch_demands, tandem_times}
 use Rattle.mq_core.specs.Sound.{outputs_in}
-use Rattle.mq_core.specs.Handling.{demand_of_job, demand_of_stages}
+use Rattle.mq_core.specs.Handling.{demand_of_job}
 use Rattle.mq_core.specs.Standard.{output_by}
 use Rattle.mq_core.specs.StandardTable.{run_of}
 use Rattle.mq_core.specs.declared.model.Fate.{Fate}
@@ -169,16 +170,6 @@ abbrev pub column_sojourns : List ℕ → List Fate → List ℕ
 column_sojourns [] fates = []
 column_sojourns (arrive ∷ arrives) [] = []
 column_sojourns (arrive ∷ arrives) (fate ∷ fates) = column_sojourn arrive fate ∷ column_sojourns arrives fates
-
--- the demand of a job where it is served: at a tandem of all stages, at a fork-join of all servers, and 0 at a source or a split
-abbrev pub service_time : Rows → Kind → ℕ → ℕ
-service_time rows Source job = 0
-service_time rows (Server demand) job = demand_of_job rows demand job
-service_time rows (Delay demand) job = demand_of_job rows demand job
-service_time rows (Loss places demand) job = demand_of_job rows demand job
-service_time rows (Tandem stages) job = demand_of_stages rows stages job
-service_time rows (ForkJoin branches) job = sum_by (λ demand. demand_of_job rows demand job) (flat_map (λ demands. demands) branches)
-service_time rows (Split route) job = 0
 
 -- how long a visit was served; a lost one wasn't
 abbrev pub column_service : Rows → Kind → ℕ → Fate → ℕ

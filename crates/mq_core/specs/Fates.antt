@@ -3,7 +3,7 @@ use Rattle.std.specs.Prelude.{◌≤◌, ◌+◌, ◌⊎◌, ◌≡◌, ℕ, ◌
 use Rattle.std.specs.Option.{option_map}
 use Rattle.mq_core.specs.Machine.{Visit, Emission, State}
 use Rattle.mq_core.specs.Local.{Local}
-use Rattle.mq_core.specs.Handling.{demand_of_visit, stages_of_visit}
+use Rattle.mq_core.specs.Handling.{demand_of_job, demand_of_stages}
 use Rattle.mq_core.specs.Standard.{standard_jobs}
 use Rattle.mq_core.specs.StandardTable.{run_of}
 use Rattle.mq_core.specs.Tallies.{greatest_below, sum_below, sojourns, found_or, still_there, arrival_or}
@@ -50,14 +50,21 @@ FoundsAreCounts =
     (position : ℕ) → position < length end.visits →
     found_or 0 (slice_get end.visits position) ≡ still_there (arrival_or 0 (slice_get end.visits position)) end.emitted position
 
--- the demand of a job where it is served: at a tandem of all stages, at a fork-join of all servers, and 0 at a source or a split
+-- the service that a job asks for: at a tandem the demands of all stages, at a fork-join those of all servers, and none at a
+-- source or a split
+abbrev pub service_time : Rows → Kind → ℕ → ℕ
+service_time rows Source job = 0
+service_time rows (Server demand) job = demand_of_job rows demand job
+service_time rows (Delay demand) job = demand_of_job rows demand job
+service_time rows (Loss places demand) job = demand_of_job rows demand job
+service_time rows (Tandem stages) job = demand_of_stages rows stages job
+service_time rows (ForkJoin branches) job = sum_by (λ demand. demand_of_job rows demand job) (flat_map (λ demands. demands) branches)
+service_time rows (Split route) job = 0
+
+-- the service of a visit, where there is one
 abbrev pub service_of : Rows → Kind → Option Visit → ℕ
-service_of rows (Server demand) visit = demand_of_visit rows demand visit
-service_of rows (Delay demand) visit = demand_of_visit rows demand visit
-service_of rows (Loss places demand) visit = demand_of_visit rows demand visit
-service_of rows (Tandem stages) visit = stages_of_visit rows stages visit
-service_of rows (ForkJoin branches) visit = sum_by (λ demand. demand_of_visit rows demand visit) (flat_map (λ demands. demands) branches)
-service_of rows _ visit = 0
+service_of rows kind None = 0
+service_of rows kind (Some visit) = service_time rows kind visit.job
 
 -- this number, but 0 for a visit that is lost
 abbrev pub unless_lost : Option Fate → ℕ → ℕ

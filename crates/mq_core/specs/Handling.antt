@@ -26,11 +26,6 @@ abbrev pub demand_of_stages : Rows → List Stage → ℕ → ℕ
 demand_of_stages rows [] job = 0
 demand_of_stages rows (stage ∷ stages) job = demand_of_job rows stage.demand job + demand_of_stages rows stages job
 
--- the same of the visit at a position
-abbrev pub stages_of_visit : Rows → List Stage → Option Visit → ℕ
-stages_of_visit rows stages None = 0
-stages_of_visit rows stages (Some visit) = demand_of_stages rows stages visit.job
-
 -- the demand of the job at a position
 abbrev pub demand_of_visit : Rows → Demand → Option Visit → ℕ
 demand_of_visit rows demand None = 0

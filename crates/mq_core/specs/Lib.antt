@@ -29,3 +29,4 @@ pub mod PlanLaws
 pub mod NumberLaws
 pub mod ColumnLaws
 pub mod RunLaws
+pub mod Bounded

@@ -2,6 +2,7 @@ ghost use Rattle.mq_core.specs.Theorems.{EventsGoForward, ArrivalsAreRead, Nodes
 ghost use Rattle.mq_core.specs.NetworkRun.{RunsAreOfNetworks};
 ghost use Rattle.mq_core.specs.PlanLaws.{NodesAreInLimits, OrdersRank, RowsTellDemands};
 ghost use Rattle.mq_core.specs.Alone.{NodesFlowAlone};
+ghost use Rattle.mq_core.specs.Bounded.{DeparturesAreBounded};
 ghost use Rattle.mq_core.specs.Fates.{AreasAreSojourns, BusyIsServices, FoundsAreCounts, PeakIsGreatest, RunEnds, SpanIsLatest};
 ghost use Rattle.mq_core.specs.ColumnLaws.{ArrivalsAreStreams, DepartsInTime, FatesAreInTime, JobsAreRows, MergesTwice, NodesAreColumns, NodesFlow, OrdersKeepItems, StreamsRise, VisitsAreFew};
 ghost use Rattle.mq_core.specs.NumberLaws.{ExitsAreStreams, LateIsFirst, LateIsNone, OnTimeGrows, PastIsColumns, PastIsFirst, PastIsNone, SpanIsColumns, TotalsAreColumns};
@@ -201,3 +202,21 @@ pub fn outputs_have_streams()
 pub fn streams_make_outputs()
     ensures { StreamsMakeOutputs }
 {}
+
+/// No departure passes the bound of a network where the rows come early enough: where the bound is
+/// no earlier than the time of the latest row and 2^39 ticks for each row at each node, which are
+/// the greatest demands of 8 servers.
+pub fn departures_are_bounded()
+    ensures { DeparturesAreBounded }
+{
+    arrivals_are_streams();
+    nodes_are_columns();
+    rows_tell_demands();
+    visits_are_few();
+    jobs_are_rows();
+    orders_keep_items();
+    nodes_are_in_limits();
+    runs_are_of_networks();
+    past_is_none();
+    orders_rank();
+}

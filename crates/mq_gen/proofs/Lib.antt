@@ -1,8 +1,3 @@
-mod BoundedArrivals
-mod BoundedKinds
-mod BoundedRanks
-mod BoundedStations
-mod BoundedTandem
 pub mod CsvPlain
 pub mod Forward
 pub mod Growing

@@ -7,7 +7,7 @@ use Rattle.mq_graph.specs.Cycle.{CyclesAreLeft}
 use Rattle.mq_model.specs.Canonical.{PrintedModelsAreRead}
 use Rattle.mq_trace.specs.Trace.{rows_in, trace_fault}
 use Rattle.mq_gen.specs.Accepted.{IsAccepted}
-use Rattle.mq_gen.specs.Bounded.{DeparturesAreBounded, latest_departure}
+use Rattle.mq_core.specs.Bounded.{DeparturesAreBounded, latest_departure}
 use Rattle.mq_gen.specs.Made.{made_model, made_network, made_trace}
 use Rattle.mq_gen.proofs.ModelRead.{model_read}
 use Rattle.mq_gen.proofs.PlanMade.{made_plan_of}

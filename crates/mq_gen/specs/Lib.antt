@@ -1,4 +1,3 @@
 pub mod Accepted
-pub mod Bounded
 pub mod Drawing
 pub mod Made

@@ -1,7 +1,7 @@
 //! Made inputs: for each number a model and a trace, always the same, which are accepted.
 //!
 //! One generator (PCG32, on stream 1, from the number) draws both: first the model of two sources
-//! and 1 to 12 stations, then 20,000 to 40,000 records.
+//! and 1 to 12 other nodes, then 20,000 to 40,000 records.
 #![tactic(auto)]
 
 mod draws;
@@ -14,7 +14,7 @@ ghost use Rattle.mq_gen.specs.Made.{made_model, made_trace};
 
 use crate::model::made_plan;
 use crate::trace::made_records;
-pub use laws::{departures_are_bounded, made_inputs_are_accepted};
+pub use laws::made_inputs_are_accepted;
 use mq_base::{List, OutOfMemory};
 use mq_model::print_model;
 use rand_pcg::Lcg64Xsh32;

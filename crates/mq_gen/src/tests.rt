@@ -30,6 +30,7 @@ fn expect(rt: &impl Abort, alloc: Global, drawn: &Drawn) -> Result<(), Fail> {
 
 #[test]
 fn the_least_number_makes_six_sections(rt: HostRuntime) -> Result<(), Fail> {
+    // A law runs as nothing: this calls it once, as every public call is called by a test.
     made_inputs_are_accepted();
     expect(
         &rt,

@@ -1,5 +1,6 @@
 -- Departures in order, by which the jobs that are gone are counted.
 use Rattle.std.specs.Prelude.{◌≡◌, ℕ, suc, ◌≤◌, ◌==◌, ◌&&◌, ◌||◌, nat_le, nat_lt, Bool, true, false, List, [], ◌∷◌, Option, Some, None}
+use Rattle.mq_core.specs.Columns.{departs_after}
 use Rattle.mq_core.specs.Laws.{Rises}
 use Rattle.mq_core.specs.declared.model.Fate.{Fate}
 use Rattle.mq_core.specs.declared.model.Fate.TheVariants.{Departs, Lost}
@@ -36,5 +37,4 @@ departures_rise latest (Lost ∷ fates) = departures_rise latest fates
 -- there is a visit, and it departs after this time
 abbrev pub stays_at : ℕ → Option Fate → Bool
 stays_at time None = false
-stays_at time (Some (Departs departure)) = nat_lt time departure
-stays_at time (Some Lost) = false
+stays_at time (Some fate) = departs_after time fate

@@ -11,8 +11,8 @@ ghost use Rattle.mq_core.specs.Columns.{
   column_wait,
   column_waits,
   one_more,
-  service_time,
 };
+ghost use Rattle.mq_core.specs.Fates.{service_time};
 ghost use Rattle.mq_core.specs.Results.{bare_time, is_lost};
 ghost use Rattle.mq_core.specs.declared.model.Kind.{Kind as TheKind};
 ghost use Rattle.mq_core.specs.declared.model.Rows.{Rows as TheRows};

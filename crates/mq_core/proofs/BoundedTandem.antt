@@ -3,7 +3,7 @@ use Rattle.std.proofs.Common.{ℕ, zero, suc, ◌+◌, ◌-◌, ◌*◌, ◌^◌
 use Rattle.std.specs.Prelude.{slice_get}
 use Rattle.std.specs.List.{AllByRecursion as Each}
 use Rattle.mq_core.specs.Recurrences.{time_or_none, room_in, stage_departs, each_before, last_time, firsts, rest, tandem_departs}
-use Rattle.mq_gen.proofs.BoundedStations.{AreBy, AreSmall, by-later}
+use Rattle.mq_core.proofs.BoundedStations.{AreBy, AreSmall, by-later}
 
 one-by : (limit : ℕ) (times : List ℕ) (place : ℕ) → AreBy limit times → time_or_none (slice_get times place) ≤ limit
 one-by limit [] place h = omega arith

@@ -20,8 +20,8 @@ use Rattle.mq_core.specs.declared.model.Network.{Network}
 use Rattle.mq_core.specs.declared.model.Rows.{Rows}
 use Rattle.mq_core.specs.declared.model.Stage.{Stage}
 use Rattle.mq_core.specs.declared.model.Stream.{Stream}
-use Rattle.mq_gen.proofs.BoundedStations.{AreBy, AreSmall, LeaveBy, by-later, departs-by, lindley-by, delayed-by, loss-by, fork-by}
-use Rattle.mq_gen.proofs.BoundedTandem.{tandem-by}
+use Rattle.mq_core.proofs.BoundedStations.{AreBy, AreSmall, LeaveBy, by-later, departs-by, lindley-by, delayed-by, loss-by, fork-by}
+use Rattle.mq_core.proofs.BoundedTandem.{tandem-by}
 
 pub each-weaker : {X : Type 0} (P Q : X → Type 0) → ((x : X) → P x → Q x) → (xs : List X) → Each P xs → Each Q xs
 each-weaker P Q f [] h = tt

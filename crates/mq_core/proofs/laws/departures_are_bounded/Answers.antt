@@ -1,5 +1,5 @@
-use Rattle.mq_gen.proofs.BoundedRanks.{departures-bounded}
-use Rattle.mq_gen.proofs.laws.departures_are_bounded.Goals as goal
+use Rattle.mq_core.proofs.BoundedRanks.{departures-bounded}
+use Rattle.mq_core.proofs.laws.departures_are_bounded.Goals as goal
 
 pub returns : goal.returns
 returns c =

@@ -5,7 +5,7 @@ use Rattle.std.specs.List.{AllByRecursion as Each, flat_map, zip}
 use Rattle.mq_core.specs.Columns.{by_first, rows_at}
 use Rattle.mq_core.specs.Laws.{insert_by}
 use Rattle.mq_core.specs.declared.model.Input.{Input}
-use Rattle.mq_gen.proofs.BoundedStations.{AreBy}
+use Rattle.mq_core.proofs.BoundedStations.{AreBy}
 
 -- none of these pairs has a later time
 abbrev pub PairsBy : ℕ → List (ℕ × ℕ) → Type 0

@@ -26,10 +26,10 @@ use Rattle.mq_core.specs.declared.model.Node.{Node}
 use Rattle.mq_core.specs.declared.model.Plan.{Plan}
 use Rattle.mq_core.specs.declared.model.Rows.{Rows}
 use Rattle.mq_core.specs.declared.model.Stream.{Stream}
-use Rattle.mq_gen.specs.Bounded.{DeparturesAreBounded}
-use Rattle.mq_gen.proofs.BoundedArrivals.{PairsBy, from-zip, order-by, read-at, reads-by, rows-by, zip-by}
-use Rattle.mq_gen.proofs.BoundedStations.{AreBy, LeaveBy, LeavesBy, by-later}
-use Rattle.mq_gen.proofs.BoundedKinds.{each-weaker, fates-by, stream-by}
+use Rattle.mq_core.specs.Bounded.{DeparturesAreBounded}
+use Rattle.mq_core.proofs.BoundedArrivals.{PairsBy, from-zip, order-by, read-at, reads-by, rows-by, zip-by}
+use Rattle.mq_core.proofs.BoundedStations.{AreBy, LeaveBy, LeavesBy, by-later}
+use Rattle.mq_core.proofs.BoundedKinds.{each-weaker, fates-by, stream-by}
 
 -- where a node stands among the first so many
 record IsAt (order : List ℕ) (rank node : ℕ) : Type 0 where
