@@ -20,7 +20,7 @@ use Rattle.mq_core.specs.declared.model.Route.{Route}
 use Rattle.mq_core.specs.declared.model.Rows.{Rows}
 use Rattle.mq_core.specs.declared.model.Stream.{Stream}
 use Rattle.mq_split.specs.Outs.{AreParts, outs_from}
-use Rattle.mq_engine.specs.Turns.{AreStreams, IsLeaving, IsLoad}
+use Rattle.mq_engine.specs.Turns.{AreStreams, IsLeaving, IsLoad, LeaveInTurn}
 use Rattle.mq_engine.proofs.Lists.{drop_at, Each-get_or}
 
 -- a departure of each time is at that time
@@ -129,21 +129,21 @@ none-late bound node position (Departs time ∷ fs) h = go (nat_lt bound time) r
     go false e k ih = (grind (arith, nat_tests), ih k)
 
 -- Kinds with one output.
-pub passes-on : (rows : Rows) (arrivals : Stream) (fates : List Fate) (departs : List ℕ) (streams : List Stream) → IsStream arrivals → departs ≡ arrivals.time → fates ≡ map (λ time. Departs time) departs → streams ≡ record { job = arrivals.job; time = departs } ∷ [] → IsLeaving rows Source arrivals fates streams
-passes-on rows arrivals fates departs streams s d f e =
+pub passes-on : (rows : Rows) (arrivals : Stream) (fates : List Fate) (departs : List ℕ) (streams : List Stream) → IsStream arrivals → departs ≡ arrivals.time → LeaveInTurn arrivals.job departs fates streams → IsLeaving rows Source arrivals fates streams
+passes-on rows arrivals fates departs streams s d turn =
     record {
-      leave = f ∙ ap (map (λ time. Departs time)) d;
-      outflow = one-stream rows Source arrivals departs streams s.even refl refl (ap (map (λ time. Departs time)) (sym d)) (ap length d ∙ sym s.even) e;
+      leave = turn.fate ∙ ap (map (λ time. Departs time)) d;
+      outflow = one-stream rows Source arrivals departs streams s.even refl refl (ap (map (λ time. Departs time)) (sym d)) (ap length d ∙ sym s.even) turn.stream;
     }
 
-pub serves : (rows : Rows) (demand : Demand) (arrivals : Stream) (fates : List Fate) (demands departs : List ℕ) (streams : List Stream) → IsStream arrivals → demands ≡ map (demand_of_job rows demand) arrivals.job → departs ≡ lindley 0 arrivals.time demands → fates ≡ map (λ time. Departs time) departs →
-    streams ≡ record { job = arrivals.job; time = departs } ∷ [] → IsLeaving rows (Server demand) arrivals fates streams
-serves rows demand arrivals fates demands departs streams s m d f e =
+pub serves : (rows : Rows) (demand : Demand) (arrivals : Stream) (fates : List Fate) (demands departs : List ℕ) (streams : List Stream) → IsStream arrivals → demands ≡ map (demand_of_job rows demand) arrivals.job → departs ≡ lindley 0 arrivals.time demands →
+    LeaveInTurn arrivals.job departs fates streams → IsLeaving rows (Server demand) arrivals fates streams
+serves rows demand arrivals fates demands departs streams s m d turn =
     let by : departs ≡ lindley 0 arrivals.time (map (demand_of_job rows demand) arrivals.job) = d ∙ ap (lindley 0 arrivals.time) m in
     let even : length (map (demand_of_job rows demand) arrivals.job) ≡ length arrivals.time = length-map arrivals.job _ ∙ s.even in
     record {
-      leave = f ∙ ap (map (λ time. Departs time)) by;
-      outflow = one-stream rows (Server demand) arrivals departs streams s.even refl refl (ap (map (λ time. Departs time)) (sym by)) (ap length by ∙ (lindley-length 0 arrivals.time _ even ∙ sym s.even)) e;
+      leave = turn.fate ∙ ap (map (λ time. Departs time)) by;
+      outflow = one-stream rows (Server demand) arrivals departs streams s.even refl refl (ap (map (λ time. Departs time)) (sym by)) (ap length by ∙ (lindley-length 0 arrivals.time _ even ∙ sym s.even)) turn.stream;
     }
 
 pub splits : (rows : Rows) (route : Route) (arrivals : Stream) (fates : List Fate) (values : List ℕ) (streams : List Stream) → IsStream arrivals → values ≡ map (route_value rows route) arrivals.job → fates ≡ map (λ time. Departs time) arrivals.time → AreParts route arrivals values streams → IsLeaving rows (Split route) arrivals fates streams

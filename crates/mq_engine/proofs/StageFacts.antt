@@ -26,7 +26,7 @@ use Rattle.mq_core.specs.declared.model.Stage.{Stage}
 use Rattle.mq_core.specs.declared.model.Stream.{Stream}
 use Rattle.mq_forkjoin.specs.Branches.{AreBranches, branches_of}
 use Rattle.mq_tandem.specs.Stages.{AreStages}
-use Rattle.mq_engine.specs.Turns.{IsLeaving, IsLoad}
+use Rattle.mq_engine.specs.Turns.{IsLeaving, IsLoad, LeaveInTurn}
 use Rattle.mq_engine.proofs.Leaves.{load-sound, one-stream}
 use Rattle.mq_engine.proofs.Lists.{Each-get_or}
 
@@ -194,15 +194,15 @@ times-many : FatesAreInTime → (rows : Rows) (kind : Kind) (arrivals : Stream) 
 times-many law rows kind arrivals times e f = sym (length-map times (λ time. Departs time)) ∙ (ap length (sym f) ∙ ((law rows kind arrivals.job arrivals.time e).even ∙ sym e))
 
 pub goes-through : FatesAreInTime → (columns : ℕ) (rows : Rows) (stages : List Stage) (arrivals : Stream) (asked : List Demand) (demands : List (List ℕ)) (places departs : List ℕ) (fates : List Fate) (streams : List Stream) → are_sound_stages columns stages ≡ true → IsStream arrivals →
-    asked ≡ map (λ (s : Stage). s.demand) stages → demands ≡ map (λ demand. map (demand_of_job rows demand) arrivals.job) asked → places ≡ map (λ (s : Stage). s.places) stages → departs ≡ tandem_departs places (map (λ _. []) places) arrivals.time demands → fates ≡ map (λ time. Departs time) departs →
-    streams ≡ record { job = arrivals.job; time = departs } ∷ [] → IsLeaving rows (Tandem stages) arrivals fates streams
-goes-through law columns rows stages arrivals asked demands places departs fates streams h s a m p d f e =
+    asked ≡ map (λ (s : Stage). s.demand) stages → demands ≡ map (λ demand. map (demand_of_job rows demand) arrivals.job) asked → places ≡ map (λ (s : Stage). s.places) stages → departs ≡ tandem_departs places (map (λ _. []) places) arrivals.time demands →
+    LeaveInTurn arrivals.job departs fates streams → IsLeaving rows (Tandem stages) arrivals fates streams
+goes-through law columns rows stages arrivals asked demands places departs fates streams h s a m p d turn =
     let by : departs ≡ tandem_times rows stages arrivals.job arrivals.time =
     d ∙ ((λ k. tandem_departs (p k) (map (λ _. []) (p k)) arrivals.time ((m ∙ ap (map (λ demand. map (demand_of_job rows demand) arrivals.job)) a) k)) ∙ times-of columns rows stages arrivals.job arrivals.time h) in
     let same : column_fates rows (Tandem stages) arrivals.job arrivals.time ≡ map (λ time. Departs time) departs = ap (map (λ time. Departs time)) (sym by) in
     record {
-      leave = f ∙ sym same;
-      outflow = one-stream rows (Tandem stages) arrivals departs streams s.even refl refl same (times-many law rows (Tandem stages) arrivals departs s.even same) e;
+      leave = turn.fate ∙ sym same;
+      outflow = one-stream rows (Tandem stages) arrivals departs streams s.even refl refl same (times-many law rows (Tandem stages) arrivals departs s.even same) turn.stream;
     }
 
 -- What leaves a fork-join. The columns of all servers, cut into branches, are those of each branch.
@@ -220,13 +220,13 @@ branches-back f (demands ∷ more) =
     (λ k. take-front f demands (flat_map (λ ds. ds) more) k ∷ branches_of (map length more) (drop-front f demands (flat_map (λ ds. ds) more) k)) ∙ ap (λ l. map f demands ∷ l) (branches-back f more)
 
 pub goes-abreast : FatesAreInTime → (rows : Rows) (branches : List (List Demand)) (arrivals : Stream) (asked : List Demand) (demands : List (List ℕ)) (servers departs : List ℕ) (fates : List Fate) (streams : List Stream) → IsStream arrivals →
-    asked ≡ flat_map (λ ds. ds) branches → demands ≡ map (λ demand. map (demand_of_job rows demand) arrivals.job) asked → servers ≡ map length branches → departs ≡ fork_departs arrivals.time (branches_of servers demands) → fates ≡ map (λ time. Departs time) departs →
-    streams ≡ record { job = arrivals.job; time = departs } ∷ [] → IsLeaving rows (ForkJoin branches) arrivals fates streams
-goes-abreast law rows branches arrivals asked demands servers departs fates streams s a m p d f e =
+    asked ≡ flat_map (λ ds. ds) branches → demands ≡ map (λ demand. map (demand_of_job rows demand) arrivals.job) asked → servers ≡ map length branches → departs ≡ fork_departs arrivals.time (branches_of servers demands) →
+    LeaveInTurn arrivals.job departs fates streams → IsLeaving rows (ForkJoin branches) arrivals fates streams
+goes-abreast law rows branches arrivals asked demands servers departs fates streams s a m p d turn =
     let by : departs ≡ fork_departs arrivals.time (branch_demands rows branches arrivals.job) =
     d ∙ ((λ k. fork_departs arrivals.time (branches_of (p k) ((m ∙ ap (map (λ demand. map (demand_of_job rows demand) arrivals.job)) a) k))) ∙ ap (fork_departs arrivals.time) (branches-back (λ demand. map (demand_of_job rows demand) arrivals.job) branches)) in
     let same : column_fates rows (ForkJoin branches) arrivals.job arrivals.time ≡ map (λ time. Departs time) departs = ap (map (λ time. Departs time)) (sym by) in
     record {
-      leave = f ∙ sym same;
-      outflow = one-stream rows (ForkJoin branches) arrivals departs streams s.even refl refl same (times-many law rows (ForkJoin branches) arrivals departs s.even same) e;
+      leave = turn.fate ∙ sym same;
+      outflow = one-stream rows (ForkJoin branches) arrivals departs streams s.even refl refl same (times-many law rows (ForkJoin branches) arrivals departs s.even same) turn.stream;
     }

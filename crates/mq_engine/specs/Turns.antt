@@ -1,11 +1,12 @@
 -- What one turn of the engine makes of a node, in columns alone.
-use Rattle.std.specs.Prelude.{◌≡◌, ◌<◌, ◌≤◌, ◌^◌, ℕ, IsTrue, if◌then◌else◌, List, [], length, Option, Some, None, slice_get}
+use Rattle.std.specs.Prelude.{◌≡◌, ◌<◌, ◌≤◌, ◌^◌, ℕ, IsTrue, if◌then◌else◌, List, [], ◌∷◌, length, map, Option, Some, None, slice_get}
 use Rattle.std.specs.List.{AllByRecursion, flat_map}
 use Rattle.mq_core.specs.Columns.{IsStream, pairs_of, rows_at, column_fates, column_stream, column_visits}
 use Rattle.mq_core.specs.PlanLaws.{Tells}
 use Rattle.mq_core.specs.Sound.{is_sound_kind, outputs_in}
 use Rattle.mq_core.specs.Wiring.{is_source_kind}
 use Rattle.mq_core.specs.declared.model.Fate.{Fate}
+use Rattle.mq_core.specs.declared.model.Fate.TheVariants.{Departs}
 use Rattle.mq_core.specs.declared.model.Input.{Input}
 use Rattle.mq_core.specs.declared.model.Kind.{Kind}
 use Rattle.mq_core.specs.declared.model.Network.{Network}
@@ -65,6 +66,11 @@ pub record AreStreams (rows : Rows) (kind : Kind) (arrivals : Stream) (streams :
 pub record IsLeaving (rows : Rows) (kind : Kind) (arrivals : Stream) (fates : List Fate) (streams : List Stream) : Type 0 where
   pub leave : fates ≡ column_fates rows kind arrivals.job arrivals.time
   pub outflow : AreStreams rows kind arrivals streams
+
+-- what leaves by one output, where these jobs depart at these times and keep their order
+pub record LeaveInTurn (jobs departs : List ℕ) (fates : List Fate) (streams : List Stream) : Type 0 where
+  pub fate : fates ≡ map (λ time. Departs time) departs
+  pub stream : streams ≡ record { job = jobs; time = departs } ∷ []
 
 -- what a turn makes of a node: the columns of its arrivals
 pub record IsTurn (rows : Rows) (kind : Kind) (arrivals : Stream) (visits : Visits) (streams : List Stream) : Type 0 where

@@ -6,7 +6,7 @@ ghost use Rattle.mq_core.specs.Sound.{is_sound_demand};
 ghost use Rattle.mq_core.specs.declared.model.Kind.TheVariants.{ForkJoin, Tandem};
 ghost use Rattle.mq_engine.specs.Turns.{AreTold, IsLeaving, IsLoad};
 
-use crate::stations::{Outflow, demands_of, fates_of, one_stream};
+use crate::stations::{Outflow, demands_of, in_turn};
 use mq_base::{List, OutOfMemory};
 use mq_core::{Demand, Network, Rows, Stage, Stream, fates_are_in_time};
 use mq_forkjoin::fork_departures;
@@ -30,9 +30,7 @@ pub fn in_stages(
     let places = stage_places(alloc, stages)?;
     let departs = tandem_departures(alloc, arrivals, &columns, &places)?;
     drop(columns);
-    let fates = fates_of(alloc, &departs)?;
-    let streams = one_stream(alloc, &arrivals.job, departs)?;
-    Ok(Outflow { fates, streams })
+    in_turn(alloc, arrivals, departs)
 }
 
 // What leaves a fork-join.
@@ -52,9 +50,7 @@ pub fn in_branches(
     let servers = branch_servers(alloc, branches)?;
     let departs = fork_departures(alloc, arrivals, &columns, &servers)?;
     drop(columns);
-    let fates = fates_of(alloc, &departs)?;
-    let streams = one_stream(alloc, &arrivals.job, departs)?;
-    Ok(Outflow { fates, streams })
+    in_turn(alloc, arrivals, departs)
 }
 
 // What each job asks for at each server, in ticks: one column a server, with one demand a job.

@@ -6,7 +6,7 @@ ghost use Rattle.mq_core.specs.Handling.{demand_of_job};
 ghost use Rattle.mq_core.specs.Standard.{route_value};
 ghost use Rattle.mq_core.specs.declared.model.Fate.TheVariants.{Departs};
 ghost use Rattle.mq_core.specs.declared.model.Rows.{Rows as TheRows};
-ghost use Rattle.mq_engine.specs.Turns.{AreTold, IsLeaving, IsLoad};
+ghost use Rattle.mq_engine.specs.Turns.{AreTold, IsLeaving, IsLoad, LeaveInTurn};
 
 use crate::losses::admitted_or_lost;
 use crate::series::{in_branches, in_stages};
@@ -54,9 +54,7 @@ fn passed_on(alloc: Global, arrivals: &Stream) -> Result<Outflow, OutOfMemory>
     ensures { IfOk result (λ leaving. (rows : TheRows) → IsLeaving rows Kind.Source arrivals.now leaving.fates leaving.streams) }
 {
     let departs = List::from_vec(Vec::from_slice(alloc, arrivals.time.as_slice())?);
-    let fates = fates_of(alloc, &departs)?;
-    let streams = one_stream(alloc, &arrivals.job, departs)?;
-    Ok(Outflow { fates, streams })
+    in_turn(alloc, arrivals, departs)
 }
 
 // What leaves a server.
@@ -73,9 +71,7 @@ fn served(
     let demands = demands_of(alloc, net, rows, demand, &arrivals.job)?;
     let departs = departures(alloc, arrivals, &demands)?;
     drop(demands);
-    let fates = fates_of(alloc, &departs)?;
-    let streams = one_stream(alloc, &arrivals.job, departs)?;
-    Ok(Outflow { fates, streams })
+    in_turn(alloc, arrivals, departs)
 }
 
 // What leaves a delay.
@@ -167,9 +163,23 @@ fn value_by(net: &Network, rows: &Rows, route: &Route, job: u32) -> u64
     }
 }
 
+// What leaves a station with one output, which the arrivals leave at these times, in their order.
+pub fn in_turn(
+    alloc: Global,
+    arrivals: &Stream,
+    departs: List<u64>,
+) -> Result<Outflow, OutOfMemory>
+    ensures { IfOk result (λ leaving. LeaveInTurn arrivals.now.job departs leaving.fates leaving.streams) }
+{
+    let fates = fates_of(alloc, &departs)?;
+    let job = List::from_vec(Vec::from_slice(alloc, arrivals.job.as_slice())?);
+    let streams = only(alloc, Stream { job, time: departs })?;
+    Ok(Outflow { fates, streams })
+}
+
 // The fates of visits that depart at these times.
 #[inline(never)]
-pub fn fates_of(alloc: Global, departs: &List<u64>) -> Result<List<Fate>, OutOfMemory>
+fn fates_of(alloc: Global, departs: &List<u64>) -> Result<List<Fate>, OutOfMemory>
     ensures { IfOk result (λ fates. fates ≡ map (λ time. Departs time) departs.now) }
 {
     let mut fates = Vec::with_capacity(alloc, departs.len())?;
@@ -177,18 +187,6 @@ pub fn fates_of(alloc: Global, departs: &List<u64>) -> Result<List<Fate>, OutOfM
         fates.push_reserved(Fate::Departs(*departs.get(at)));
     }
     Ok(List::from_vec(fates))
-}
-
-// The streams of a node with one output, by which these jobs leave at these times.
-pub fn one_stream(
-    alloc: Global,
-    jobs: &List<u32>,
-    departs: List<u64>,
-) -> Result<List<Stream>, OutOfMemory>
-    ensures { IfOk result (λ streams. streams ≡ record { job = jobs.now; time = departs } ∷ []) }
-{
-    let job = List::from_vec(Vec::from_slice(alloc, jobs.as_slice())?);
-    only(alloc, Stream { job, time: departs })
 }
 
 // The streams of a node with one output, of which this is the stream.

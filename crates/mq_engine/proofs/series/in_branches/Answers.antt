@@ -1,4 +1,5 @@
 use Rattle.std.proofs.Common.{length, map}
+use Rattle.std.proofs.lemmas.Result.{IfOk-weaker}
 use Rattle.mq_core.specs.Handling.{demand_of_job}
 use Rattle.mq_core.specs.declared.model.Kind.TheVariants.{ForkJoin}
 use Rattle.mq_engine.proofs.StageFacts.{branches-are, demands-asked, goes-abreast, loads-sound, narrow-branches, sound-branches}
@@ -17,4 +18,4 @@ pub fork_departures-requires-clause-branches : goal.fork_departures-requires-cla
 fork_departures-requires-clause-branches c = branches-are (length c.args.net.now.columns) c.args.branches.now _ _ (λ demand. map (demand_of_job c.args.rows.now demand) c.args.arrivals.now.job) _ c.requires.sound c.in_ok-asked.ensures c.in_ok-servers.ensures c.in_ok-columns.ensures
 
 pub returns : goal.returns
-returns c = goes-abreast c.fates_are_in_time.ensures c.args.rows.now c.args.branches.now c.args.arrivals.now _ _ _ _ _ _ c.requires.ordered.ordered c.in_ok-asked.ensures c.in_ok-columns.ensures c.in_ok-servers.ensures c.in_ok-departs.ensures c.in_ok-fates.ensures c.in_ok-streams.ensures
+returns c = IfOk-weaker c.in_turn.result _ _ (λ x turn. goes-abreast c.fates_are_in_time.ensures c.args.rows.now c.args.branches.now c.args.arrivals.now _ _ _ _ _ _ c.requires.ordered.ordered c.in_ok-asked.ensures c.in_ok-columns.ensures c.in_ok-servers.ensures c.in_ok-departs.ensures turn) c.in_turn.ensures

@@ -1,4 +1,5 @@
 use Rattle.std.proofs.Common.{length, map}
+use Rattle.std.proofs.lemmas.Result.{IfOk-weaker}
 use Rattle.mq_core.specs.Handling.{demand_of_job}
 use Rattle.mq_core.specs.declared.model.Kind.TheVariants.{Tandem}
 use Rattle.mq_engine.proofs.StageFacts.{demands-asked, goes-through, loads-sound, sound-stages, stages-are}
@@ -14,4 +15,4 @@ pub tandem_departures-requires-clause-stages : goal.tandem_departures-requires-c
 tandem_departures-requires-clause-stages c = stages-are (length c.args.net.now.columns) c.args.stages.now _ _ (λ demand. map (demand_of_job c.args.rows.now demand) c.args.arrivals.now.job) _ c.requires.sound c.in_ok-asked.ensures c.in_ok-places.ensures c.in_ok-columns.ensures
 
 pub returns : goal.returns
-returns c = goes-through c.fates_are_in_time.ensures (length c.args.net.now.columns) c.args.rows.now c.args.stages.now c.args.arrivals.now _ _ _ _ _ _ c.requires.sound c.requires.ordered.ordered c.in_ok-asked.ensures c.in_ok-columns.ensures c.in_ok-places.ensures c.in_ok-departs.ensures c.in_ok-fates.ensures c.in_ok-streams.ensures
+returns c = IfOk-weaker c.in_turn.result _ _ (λ x turn. goes-through c.fates_are_in_time.ensures (length c.args.net.now.columns) c.args.rows.now c.args.stages.now c.args.arrivals.now _ _ _ _ _ _ c.requires.sound c.requires.ordered.ordered c.in_ok-asked.ensures c.in_ok-columns.ensures c.in_ok-places.ensures c.in_ok-departs.ensures turn) c.in_turn.ensures

@@ -1,3 +1,4 @@
+use Rattle.std.proofs.lemmas.Result.{IfOk-weaker}
 use Rattle.mq_core.specs.declared.model.Kind.TheVariants.{Server}
 use Rattle.mq_engine.proofs.Leaves.{load-sound, serves}
 use Rattle.mq_engine.proofs.stations.served.Goals as goal
@@ -6,4 +7,4 @@ pub departures-requires : goal.departures-requires
 departures-requires c = load-sound c.args.net.now c.args.rows.now (Server c.args.demand.now) c.args.demand.now c.args.arrivals.now _ c.requires c.requires.sound c.in_ok-demands.ensures
 
 pub returns : goal.returns
-returns c = serves c.args.rows.now c.args.demand.now c.args.arrivals.now _ _ _ _ c.requires.ordered.ordered c.in_ok-demands.ensures c.in_ok-departs.ensures c.in_ok-fates.ensures c.in_ok-streams.ensures
+returns c = IfOk-weaker c.in_turn.result _ _ (λ x turn. serves c.args.rows.now c.args.demand.now c.args.arrivals.now _ _ _ _ c.requires.ordered.ordered c.in_ok-demands.ensures c.in_ok-departs.ensures turn) c.in_turn.ensures
