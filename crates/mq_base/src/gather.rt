@@ -1,6 +1,6 @@
 // Text that is gathered before it goes out, so that many short pieces make few puts.
 ghost use Rattle.std.specs.Prelude.{◌≡◌, ◌+◌, ◌≤◌, ◌<◌, ◌++◌, [], length, OnOk, OnErr, decimal};
-ghost use Rattle.mq_base.specs.Outside.{Rose, TakesFirst, TakesPrefix, GoesOut};
+ghost use Rattle.mq_base.specs.Outside.{Adds, Rose, TakesFirst, TakesPrefix};
 ghost use Rattle.mq_base.specs.Pieces.{piece_text, pieces_text};
 
 use crate::{Sink, SinkFault, put_all};
@@ -95,11 +95,7 @@ pub fn flush<O: Sink>(out: &mut O, pending: &mut Gather) -> Result<(), SinkFault
 ///
 /// After a fault the sink took a first part of what was pending and of these bytes behind it.
 pub fn add_bytes<O: Sink>(out: &mut O, pending: &mut Gather, bytes: &[u8]) -> Result<(), SinkFault>
-    ensures ok { OnOk result (GoesOut (O.taken out.old) (O.taken out.new) (O.sure out.old) (O.sure out.new) (pending.old ++ bytes.now) pending.new) }
-    ensures err { OnErr result (TakesPrefix (O.taken out.old) (O.taken out.new) (O.sure out.old) (O.sure out.new) (pending.old ++ bytes.now)) }
-    ensures later { O.faults out.old ≤ O.faults out.new }
-    ensures rose { OnErr result (Rose (O.faults out.old) (O.faults out.new)) }
-    ensures sure { length (pending.old ++ bytes.now) ≤ O.sure out.old → O.faults out.new ≡ O.faults out.old }
+    ensures { Adds O.taken O.sure O.faults out.old out.new pending.old pending.new result bytes.now }
 {
     if bytes.len() > pending.room() {
         flush(out, pending)?;
@@ -112,11 +108,7 @@ pub fn add_bytes<O: Sink>(out: &mut O, pending: &mut Gather, bytes: &[u8]) -> Re
 }
 
 fn add_piece<O: Sink>(out: &mut O, pending: &mut Gather, piece: &Piece<'_>) -> Result<(), SinkFault>
-    ensures ok { OnOk result (GoesOut (O.taken out.old) (O.taken out.new) (O.sure out.old) (O.sure out.new) (pending.old ++ piece_text piece.now) pending.new) }
-    ensures err { OnErr result (TakesPrefix (O.taken out.old) (O.taken out.new) (O.sure out.old) (O.sure out.new) (pending.old ++ piece_text piece.now)) }
-    ensures later { O.faults out.old ≤ O.faults out.new }
-    ensures rose { OnErr result (Rose (O.faults out.old) (O.faults out.new)) }
-    ensures sure { length (pending.old ++ piece_text piece.now) ≤ O.sure out.old → O.faults out.new ≡ O.faults out.old }
+    ensures { Adds O.taken O.sure O.faults out.old out.new pending.old pending.new result (piece_text piece.now) }
 {
     match piece {
         Piece::Text(bytes) => add_bytes(out, pending, bytes),
@@ -135,11 +127,7 @@ pub fn add_pieces<O: Sink>(
     pending: &mut Gather,
     pieces: &[Piece<'_>],
 ) -> Result<(), SinkFault>
-    ensures ok { OnOk result (GoesOut (O.taken out.old) (O.taken out.new) (O.sure out.old) (O.sure out.new) (pending.old ++ pieces_text pieces.now) pending.new) }
-    ensures err { OnErr result (TakesPrefix (O.taken out.old) (O.taken out.new) (O.sure out.old) (O.sure out.new) (pending.old ++ pieces_text pieces.now)) }
-    ensures later { O.faults out.old ≤ O.faults out.new }
-    ensures rose { OnErr result (Rose (O.faults out.old) (O.faults out.new)) }
-    ensures sure { length (pending.old ++ pieces_text pieces.now) ≤ O.sure out.old → O.faults out.new ≡ O.faults out.old }
+    ensures { Adds O.taken O.sure O.faults out.old out.new pending.old pending.new result (pieces_text pieces.now) }
 {
     for piece in pieces {
         add_piece(out, pending, piece)?;

@@ -1,9 +1,5 @@
 -- What is left of a report in a loop over ranks, or over outputs.
-use Rattle.std.proofs.Common.{◌≡◌, ℕ, suc, ◌+◌, ◌-◌, ◌<◌, ◌≤◌, List, [], ◌∷◌, ◌++◌, length, drop, Some, sym, ap, ◌∙◌, arith, drop-cons, subst, length-append}
-use Rattle.std.specs.declared.option.Option.{Option}
-use Rattle.std.proofs.lemmas.List.{append-nil}
-use Rattle.mq_base.specs.Outside.{GoesOut}
-use Rattle.mq_base.proofs.Gathers.{Gathers}
+use Rattle.std.proofs.Common.{◌≡◌, ℕ, suc, ◌+◌, ◌-◌, ◌<◌, ◌≤◌, List, [], ◌∷◌, ◌++◌, drop, Some, ap, ◌∙◌, arith, drop-cons}
 use Rattle.std.specs.Prelude.{slice_get}
 use Rattle.std.proofs.lemmas.Option.{slice_get_within, get_or_from_slice_get}
 use Rattle.mq_core.specs.Local.{Local}
@@ -40,21 +36,7 @@ outputs-next nodes rows v name station out outs l =
     let next : outs - out ≡ suc (outs - (out + 1)) = omega arith in
     ap (exit_lines nodes rows v name station out) next
 
--- where a further text is refused, the count of faults stands still as long as the whole has room
-pub gathers_calm : (t t' : Option (List ℕ)) (s s' f f' f'' : ℕ) (all p left piece rest : List ℕ) → left ≡ piece ++ rest → Gathers t t' s s' f f' all p left → (length (p ++ piece) ≤ s' → f'' ≡ f') → length all ≤ s → f'' ≡ f
-gathers_calm t t' s s' f f' f'' all p left piece rest next h calm room =
-    let cut : all ≡ h.text ++ (piece ++ rest) = h.cut ∙ ap (λ tail. h.text ++ tail) next in
-    let split : h.text ≡ h.goes.done ++ p = h.goes.split in
-    let long : length all ≡ length h.text + (length piece + length rest) = ap length cut ∙ (length-append h.text (piece ++ rest) ∙ ap (λ n. length h.text + n) (length-append piece rest)) in
-    let long_text : length h.text ≡ length h.goes.done + length p = ap length split ∙ length-append h.goes.done p in
-    let long_next : length (p ++ piece) ≡ length p + length piece = length-append p piece in
-    let spent : s ≤ s' + length h.goes.done = h.goes.took.spent in
-    calm (omega arith) ∙ h.calm room
-
--- nothing is left to add
-pub gathers_all : (t t' : Option (List ℕ)) (s s' f f' : ℕ) (all p rest : List ℕ) → rest ≡ [] → Gathers t t' s s' f f' all p rest → GoesOut t t' s s' all p
-gathers_all t t' s s' f f' all p rest none h = subst (λ l. GoesOut t t' s s' l p) (sym (append-nil h.text) ∙ (ap (λ l. h.text ++ l) (sym none) ∙ sym h.cut)) h.goes
-
+-- no output is left
 pub no_outputs : (nodes : List Node) (rows : Rows) (v : ℕ) (name : List ℕ) (station : Station Local) (out outs : ℕ) → outs ≤ out → exit_lines nodes rows v name station out (outs - out) ≡ []
 unfolding exit_lines
 no_outputs nodes rows v name station out outs l = let none : outs - out ≡ 0 = omega arith in ap (exit_lines nodes rows v name station out) none

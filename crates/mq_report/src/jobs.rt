@@ -1,6 +1,6 @@
 // The job lines of a report: one for each visit, by rank of its node and then position.
 ghost use Rattle.std.specs.Prelude.{◌≡◌, ◌≤◌, ◌++◌, length, OnOk, OnErr, Some, slice_get};
-ghost use Rattle.mq_base.specs.Outside.{GoesOut, Rose, TakesPrefix};
+ghost use Rattle.mq_base.specs.Outside.{Adds};
 ghost use Rattle.mq_core.specs.Asked.{HasDemands};
 ghost use Rattle.mq_core.specs.Columns.{IsRunOf, column_wait};
 ghost use Rattle.mq_core.specs.StandardTable.{run_of};
@@ -68,11 +68,7 @@ fn add_visit<O: Sink>(
 ) -> Result<(), SinkFault>
     requires name { length name.now ≤ 32 }
     requires told { HasDemands rows.now kind.now job }
-    ensures ok { OnOk result (GoesOut (O.taken out.old) (O.taken out.new) (O.sure out.old) (O.sure out.new) (pending.old ++ visit_line name.now job arrive (column_wait rows.now kind.now job arrive fate) fate) pending.new) }
-    ensures err { OnErr result (TakesPrefix (O.taken out.old) (O.taken out.new) (O.sure out.old) (O.sure out.new) (pending.old ++ visit_line name.now job arrive (column_wait rows.now kind.now job arrive fate) fate)) }
-    ensures later { O.faults out.old ≤ O.faults out.new }
-    ensures rose { OnErr result (Rose (O.faults out.old) (O.faults out.new)) }
-    ensures sure { length (pending.old ++ visit_line name.now job arrive (column_wait rows.now kind.now job arrive fate) fate) ≤ O.sure out.old → O.faults out.new ≡ O.faults out.old }
+    ensures { Adds O.taken O.sure O.faults out.old out.new pending.old pending.new result (visit_line name.now job arrive (column_wait rows.now kind.now job arrive fate) fate) }
 {
     put_fate(line, wait_of(rows, kind, job, arrive, fate), fate);
     put_words(line, name, job, arrive);
@@ -90,11 +86,7 @@ pub fn add_visits<O: Sink>(
 ) -> Result<(), SinkFault>
     requires name { length name.now ≤ 32 }
     requires visits { AreVisits rows.now kind.now visits.now }
-    ensures ok { OnOk result (GoesOut (O.taken out.old) (O.taken out.new) (O.sure out.old) (O.sure out.new) (pending.old ++ column_lines rows.now name.now kind.now visits.now.job visits.now.arrive visits.now.fate) pending.new) }
-    ensures err { OnErr result (TakesPrefix (O.taken out.old) (O.taken out.new) (O.sure out.old) (O.sure out.new) (pending.old ++ column_lines rows.now name.now kind.now visits.now.job visits.now.arrive visits.now.fate)) }
-    ensures later { O.faults out.old ≤ O.faults out.new }
-    ensures rose { OnErr result (Rose (O.faults out.old) (O.faults out.new)) }
-    ensures sure { length (pending.old ++ column_lines rows.now name.now kind.now visits.now.job visits.now.arrive visits.now.fate) ≤ O.sure out.old → O.faults out.new ≡ O.faults out.old }
+    ensures { Adds O.taken O.sure O.faults out.old out.new pending.old pending.new result (column_lines rows.now name.now kind.now visits.now.job visits.now.arrive visits.now.fate) }
 {
     let mut line = Line::new();
     for at in 0..visits.job.len() {
@@ -121,11 +113,7 @@ fn add_jobs_at<O: Sink>(
     requires read { IsReadFor plan.now.net rows.now }
     requires run { IsRunOf plan.now rows.now run.now }
     requires there { slice_get plan.now.net.nodes node ≡ Some declared.now }
-    ensures ok { OnOk result (GoesOut (O.taken out.old) (O.taken out.new) (O.sure out.old) (O.sure out.new) (pending.old ++ node_jobs rows.now declared.now ((run_of plan.now rows.now).stations node)) pending.new) }
-    ensures err { OnErr result (TakesPrefix (O.taken out.old) (O.taken out.new) (O.sure out.old) (O.sure out.new) (pending.old ++ node_jobs rows.now declared.now ((run_of plan.now rows.now).stations node))) }
-    ensures later { O.faults out.old ≤ O.faults out.new }
-    ensures rose { OnErr result (Rose (O.faults out.old) (O.faults out.new)) }
-    ensures sure { length (pending.old ++ node_jobs rows.now declared.now ((run_of plan.now rows.now).stations node)) ≤ O.sure out.old → O.faults out.new ≡ O.faults out.old }
+    ensures { Adds O.taken O.sure O.faults out.old out.new pending.old pending.new result (node_jobs rows.now declared.now ((run_of plan.now rows.now).stations node)) }
 {
     runs_have_columns();
     runs_give_visits();
@@ -144,11 +132,7 @@ pub fn add_jobs<O: Sink>(
 ) -> Result<(), SinkFault>
     requires read { IsReadFor plan.now.net rows.now }
     requires run { IsRunOf plan.now rows.now run.now }
-    ensures ok { OnOk result (GoesOut (O.taken out.old) (O.taken out.new) (O.sure out.old) (O.sure out.new) (pending.old ++ jobs_text plan.now.net rows.now (run_of plan.now rows.now) plan.now.order) pending.new) }
-    ensures err { OnErr result (TakesPrefix (O.taken out.old) (O.taken out.new) (O.sure out.old) (O.sure out.new) (pending.old ++ jobs_text plan.now.net rows.now (run_of plan.now rows.now) plan.now.order)) }
-    ensures later { O.faults out.old ≤ O.faults out.new }
-    ensures rose { OnErr result (Rose (O.faults out.old) (O.faults out.new)) }
-    ensures sure { length (pending.old ++ jobs_text plan.now.net rows.now (run_of plan.now rows.now) plan.now.order) ≤ O.sure out.old → O.faults out.new ≡ O.faults out.old }
+    ensures { Adds O.taken O.sure O.faults out.old out.new pending.old pending.new result (jobs_text plan.now.net rows.now (run_of plan.now rows.now) plan.now.order) }
 {
     orders_rank();
     for rank in 0..plan.order.len() {

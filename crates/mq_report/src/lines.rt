@@ -1,6 +1,6 @@
 // The lines of a report.
 ghost use Rattle.std.specs.Prelude.{◌≡◌, ◌≤◌, ◌<◌, ◌*◌, ◌^◌, ◌++◌, ◌∷◌, [], length, codes, OnOk, OnErr};
-ghost use Rattle.mq_base.specs.Outside.{GoesOut, Rose, TakesPrefix};
+ghost use Rattle.mq_base.specs.Outside.{Adds};
 ghost use Rattle.mq_report.specs.Text.{
   exit_line,
   head_line,
@@ -33,11 +33,7 @@ pub fn add_head<O: Sink>(
     jobs: usize,
     span: u64,
 ) -> Result<(), SinkFault>
-    ensures ok { OnOk result (GoesOut (O.taken out.old) (O.taken out.new) (O.sure out.old) (O.sure out.new) (pending.old ++ (head_line ++ jobs_line jobs span)) pending.new) }
-    ensures err { OnErr result (TakesPrefix (O.taken out.old) (O.taken out.new) (O.sure out.old) (O.sure out.new) (pending.old ++ (head_line ++ jobs_line jobs span))) }
-    ensures later { O.faults out.old ≤ O.faults out.new }
-    ensures rose { OnErr result (Rose (O.faults out.old) (O.faults out.new)) }
-    ensures sure { length (pending.old ++ (head_line ++ jobs_line jobs span)) ≤ O.sure out.old → O.faults out.new ≡ O.faults out.old }
+    ensures { Adds O.taken O.sure O.faults out.old out.new pending.old pending.new result (head_line ++ jobs_line jobs span) }
 {
     add_pieces(
         out,
@@ -94,11 +90,7 @@ fn four_digits(n: u128) -> [u8; 4]
 // Adds a number of ten-thousandths, and the end of the line.
 #[tactic(auto, unfolding(crate::specs::Text::ten_thousandths))]
 fn add_share<O: Sink>(out: &mut O, pending: &mut Gather, share: u128) -> Result<(), SinkFault>
-    ensures ok { OnOk result (GoesOut (O.taken out.old) (O.taken out.new) (O.sure out.old) (O.sure out.new) (pending.old ++ ten_thousandths share) pending.new) }
-    ensures err { OnErr result (TakesPrefix (O.taken out.old) (O.taken out.new) (O.sure out.old) (O.sure out.new) (pending.old ++ ten_thousandths share)) }
-    ensures later { O.faults out.old ≤ O.faults out.new }
-    ensures rose { OnErr result (Rose (O.faults out.old) (O.faults out.new)) }
-    ensures sure { length (pending.old ++ ten_thousandths share) ≤ O.sure out.old → O.faults out.new ≡ O.faults out.old }
+    ensures { Adds O.taken O.sure O.faults out.old out.new pending.old pending.new result (ten_thousandths share) }
 {
     let digits = four_digits(share % 10_000);
     add_pieces(
@@ -123,11 +115,7 @@ fn add_utilisation<O: Sink>(
     span: u64,
 ) -> Result<(), SinkFault>
     requires { busy < 2 ^ 100 }
-    ensures ok { OnOk result (GoesOut (O.taken out.old) (O.taken out.new) (O.sure out.old) (O.sure out.new) (pending.old ++ utilisation_text busy servers span) pending.new) }
-    ensures err { OnErr result (TakesPrefix (O.taken out.old) (O.taken out.new) (O.sure out.old) (O.sure out.new) (pending.old ++ utilisation_text busy servers span)) }
-    ensures later { O.faults out.old ≤ O.faults out.new }
-    ensures rose { OnErr result (Rose (O.faults out.old) (O.faults out.new)) }
-    ensures sure { length (pending.old ++ utilisation_text busy servers span) ≤ O.sure out.old → O.faults out.new ≡ O.faults out.old }
+    ensures { Adds O.taken O.sure O.faults out.old out.new pending.old pending.new result (utilisation_text busy servers span) }
 {
     if servers == 0 {
         return add_pieces(out, pending, &[Piece::Text(b"-\n")]);
@@ -143,11 +131,7 @@ fn add_words<O: Sink>(
     name: &[u8],
     kind: &Kind,
 ) -> Result<(), SinkFault>
-    ensures ok { OnOk result (GoesOut (O.taken out.old) (O.taken out.new) (O.sure out.old) (O.sure out.new) (pending.old ++ node_words name.now (word_of_kind kind.now)) pending.new) }
-    ensures err { OnErr result (TakesPrefix (O.taken out.old) (O.taken out.new) (O.sure out.old) (O.sure out.new) (pending.old ++ node_words name.now (word_of_kind kind.now))) }
-    ensures later { O.faults out.old ≤ O.faults out.new }
-    ensures rose { OnErr result (Rose (O.faults out.old) (O.faults out.new)) }
-    ensures sure { length (pending.old ++ node_words name.now (word_of_kind kind.now)) ≤ O.sure out.old → O.faults out.new ≡ O.faults out.old }
+    ensures { Adds O.taken O.sure O.faults out.old out.new pending.old pending.new result (node_words name.now (word_of_kind kind.now)) }
 {
     add_pieces(
         out,
@@ -169,11 +153,7 @@ fn add_counts<O: Sink>(
     pending: &mut Gather,
     totals: &NodeTotals,
 ) -> Result<(), SinkFault>
-    ensures ok { OnOk result (GoesOut (O.taken out.old) (O.taken out.new) (O.sure out.old) (O.sure out.new) (pending.old ++ node_counts (totals_from totals.now)) pending.new) }
-    ensures err { OnErr result (TakesPrefix (O.taken out.old) (O.taken out.new) (O.sure out.old) (O.sure out.new) (pending.old ++ node_counts (totals_from totals.now))) }
-    ensures later { O.faults out.old ≤ O.faults out.new }
-    ensures rose { OnErr result (Rose (O.faults out.old) (O.faults out.new)) }
-    ensures sure { length (pending.old ++ node_counts (totals_from totals.now)) ≤ O.sure out.old → O.faults out.new ≡ O.faults out.old }
+    ensures { Adds O.taken O.sure O.faults out.old out.new pending.old pending.new result (node_counts (totals_from totals.now)) }
 {
     add_pieces(
         out,
@@ -194,11 +174,7 @@ fn add_losses<O: Sink>(
     pending: &mut Gather,
     totals: &NodeTotals,
 ) -> Result<(), SinkFault>
-    ensures ok { OnOk result (GoesOut (O.taken out.old) (O.taken out.new) (O.sure out.old) (O.sure out.new) (pending.old ++ node_losses (totals_from totals.now)) pending.new) }
-    ensures err { OnErr result (TakesPrefix (O.taken out.old) (O.taken out.new) (O.sure out.old) (O.sure out.new) (pending.old ++ node_losses (totals_from totals.now))) }
-    ensures later { O.faults out.old ≤ O.faults out.new }
-    ensures rose { OnErr result (Rose (O.faults out.old) (O.faults out.new)) }
-    ensures sure { length (pending.old ++ node_losses (totals_from totals.now)) ≤ O.sure out.old → O.faults out.new ≡ O.faults out.old }
+    ensures { Adds O.taken O.sure O.faults out.old out.new pending.old pending.new result (node_losses (totals_from totals.now)) }
 {
     add_pieces(
         out,
@@ -214,11 +190,7 @@ fn add_waits<O: Sink>(
     pending: &mut Gather,
     totals: &NodeTotals,
 ) -> Result<(), SinkFault>
-    ensures ok { OnOk result (GoesOut (O.taken out.old) (O.taken out.new) (O.sure out.old) (O.sure out.new) (pending.old ++ node_waits (totals_from totals.now)) pending.new) }
-    ensures err { OnErr result (TakesPrefix (O.taken out.old) (O.taken out.new) (O.sure out.old) (O.sure out.new) (pending.old ++ node_waits (totals_from totals.now))) }
-    ensures later { O.faults out.old ≤ O.faults out.new }
-    ensures rose { OnErr result (Rose (O.faults out.old) (O.faults out.new)) }
-    ensures sure { length (pending.old ++ node_waits (totals_from totals.now)) ≤ O.sure out.old → O.faults out.new ≡ O.faults out.old }
+    ensures { Adds O.taken O.sure O.faults out.old out.new pending.old pending.new result (node_waits (totals_from totals.now)) }
 {
     add_pieces(
         out,
@@ -239,11 +211,7 @@ fn add_tallies<O: Sink>(
     pending: &mut Gather,
     totals: &NodeTotals,
 ) -> Result<(), SinkFault>
-    ensures ok { OnOk result (GoesOut (O.taken out.old) (O.taken out.new) (O.sure out.old) (O.sure out.new) (pending.old ++ node_tallies (totals_from totals.now)) pending.new) }
-    ensures err { OnErr result (TakesPrefix (O.taken out.old) (O.taken out.new) (O.sure out.old) (O.sure out.new) (pending.old ++ node_tallies (totals_from totals.now))) }
-    ensures later { O.faults out.old ≤ O.faults out.new }
-    ensures rose { OnErr result (Rose (O.faults out.old) (O.faults out.new)) }
-    ensures sure { length (pending.old ++ node_tallies (totals_from totals.now)) ≤ O.sure out.old → O.faults out.new ≡ O.faults out.old }
+    ensures { Adds O.taken O.sure O.faults out.old out.new pending.old pending.new result (node_tallies (totals_from totals.now)) }
 {
     add_pieces(
         out,
@@ -259,72 +227,18 @@ fn add_tallies<O: Sink>(
     )
 }
 
-// Adds a node's waits and tallies.
-fn add_times<O: Sink>(
-    out: &mut O,
-    pending: &mut Gather,
-    totals: &NodeTotals,
-) -> Result<(), SinkFault>
-    ensures ok { OnOk result (GoesOut (O.taken out.old) (O.taken out.new) (O.sure out.old) (O.sure out.new) (pending.old ++ (node_waits (totals_from totals.now) ++ node_tallies (totals_from totals.now))) pending.new) }
-    ensures err { OnErr result (TakesPrefix (O.taken out.old) (O.taken out.new) (O.sure out.old) (O.sure out.new) (pending.old ++ (node_waits (totals_from totals.now) ++ node_tallies (totals_from totals.now)))) }
-    ensures later { O.faults out.old ≤ O.faults out.new }
-    ensures rose { OnErr result (Rose (O.faults out.old) (O.faults out.new)) }
-    ensures sure { length (pending.old ++ (node_waits (totals_from totals.now) ++ node_tallies (totals_from totals.now))) ≤ O.sure out.old → O.faults out.new ≡ O.faults out.old }
-{
-    add_waits(out, pending, totals)?;
-    add_tallies(out, pending, totals)
-}
-
-// Adds the number of those lost, and a node's waits and tallies.
-fn add_rest<O: Sink>(
-    out: &mut O,
-    pending: &mut Gather,
-    totals: &NodeTotals,
-) -> Result<(), SinkFault>
-    ensures ok { OnOk result (GoesOut (O.taken out.old) (O.taken out.new) (O.sure out.old) (O.sure out.new) (pending.old ++ (node_losses (totals_from totals.now) ++ (node_waits (totals_from totals.now) ++ node_tallies (totals_from totals.now)))) pending.new) }
-    ensures err { OnErr result (TakesPrefix (O.taken out.old) (O.taken out.new) (O.sure out.old) (O.sure out.new) (pending.old ++ (node_losses (totals_from totals.now) ++ (node_waits (totals_from totals.now) ++ node_tallies (totals_from totals.now))))) }
-    ensures later { O.faults out.old ≤ O.faults out.new }
-    ensures rose { OnErr result (Rose (O.faults out.old) (O.faults out.new)) }
-    ensures sure { length (pending.old ++ (node_losses (totals_from totals.now) ++ (node_waits (totals_from totals.now) ++ node_tallies (totals_from totals.now)))) ≤ O.sure out.old → O.faults out.new ≡ O.faults out.old }
-{
-    add_losses(out, pending, totals)?;
-    add_times(out, pending, totals)
-}
-
 // Adds a node's totals, each behind its word.
 fn add_numbers<O: Sink>(
     out: &mut O,
     pending: &mut Gather,
     totals: &NodeTotals,
 ) -> Result<(), SinkFault>
-    ensures ok { OnOk result (GoesOut (O.taken out.old) (O.taken out.new) (O.sure out.old) (O.sure out.new) (pending.old ++ node_numbers (totals_from totals.now)) pending.new) }
-    ensures err { OnErr result (TakesPrefix (O.taken out.old) (O.taken out.new) (O.sure out.old) (O.sure out.new) (pending.old ++ node_numbers (totals_from totals.now))) }
-    ensures later { O.faults out.old ≤ O.faults out.new }
-    ensures rose { OnErr result (Rose (O.faults out.old) (O.faults out.new)) }
-    ensures sure { length (pending.old ++ node_numbers (totals_from totals.now)) ≤ O.sure out.old → O.faults out.new ≡ O.faults out.old }
+    ensures { Adds O.taken O.sure O.faults out.old out.new pending.old pending.new result (node_numbers (totals_from totals.now)) }
 {
     add_counts(out, pending, totals)?;
-    add_rest(out, pending, totals)
-}
-
-// Adds a node's totals and its utilisation.
-fn add_totals<O: Sink>(
-    out: &mut O,
-    pending: &mut Gather,
-    kind: &Kind,
-    totals: &NodeTotals,
-    span: u64,
-) -> Result<(), SinkFault>
-    requires servers { servers_in kind.now ≤ 8 }
-    requires small { totals.now.busy < 2 ^ 100 }
-    ensures ok { OnOk result (GoesOut (O.taken out.old) (O.taken out.new) (O.sure out.old) (O.sure out.new) (pending.old ++ (node_numbers (totals_from totals.now) ++ utilisation_text totals.now.busy (servers_in kind.now) span)) pending.new) }
-    ensures err { OnErr result (TakesPrefix (O.taken out.old) (O.taken out.new) (O.sure out.old) (O.sure out.new) (pending.old ++ (node_numbers (totals_from totals.now) ++ utilisation_text totals.now.busy (servers_in kind.now) span))) }
-    ensures later { O.faults out.old ≤ O.faults out.new }
-    ensures rose { OnErr result (Rose (O.faults out.old) (O.faults out.new)) }
-    ensures sure { length (pending.old ++ (node_numbers (totals_from totals.now) ++ utilisation_text totals.now.busy (servers_in kind.now) span)) ≤ O.sure out.old → O.faults out.new ≡ O.faults out.old }
-{
-    add_numbers(out, pending, totals)?;
-    add_utilisation(out, pending, totals.busy, servers_of(kind), span)
+    add_losses(out, pending, totals)?;
+    add_waits(out, pending, totals)?;
+    add_tallies(out, pending, totals)
 }
 
 /// Adds the line of a node.
@@ -338,14 +252,11 @@ pub fn add_node<O: Sink>(
 ) -> Result<(), SinkFault>
     requires servers { servers_in kind.now ≤ 8 }
     requires small { totals.now.busy < 2 ^ 100 }
-    ensures ok { OnOk result (GoesOut (O.taken out.old) (O.taken out.new) (O.sure out.old) (O.sure out.new) (pending.old ++ node_line name.now kind.now (totals_from totals.now) span) pending.new) }
-    ensures err { OnErr result (TakesPrefix (O.taken out.old) (O.taken out.new) (O.sure out.old) (O.sure out.new) (pending.old ++ node_line name.now kind.now (totals_from totals.now) span)) }
-    ensures later { O.faults out.old ≤ O.faults out.new }
-    ensures rose { OnErr result (Rose (O.faults out.old) (O.faults out.new)) }
-    ensures sure { length (pending.old ++ node_line name.now kind.now (totals_from totals.now) span) ≤ O.sure out.old → O.faults out.new ≡ O.faults out.old }
+    ensures { Adds O.taken O.sure O.faults out.old out.new pending.old pending.new result (node_line name.now kind.now (totals_from totals.now) span) }
 {
     add_words(out, pending, name, kind)?;
-    add_totals(out, pending, kind, totals, span)
+    add_numbers(out, pending, totals)?;
+    add_utilisation(out, pending, totals.busy, servers_of(kind), span)
 }
 
 /// Adds the line of an exit.
@@ -357,11 +268,7 @@ pub fn add_exit<O: Sink>(
     output: u8,
     exit: &Exit,
 ) -> Result<(), SinkFault>
-    ensures ok { OnOk result (GoesOut (O.taken out.old) (O.taken out.new) (O.sure out.old) (O.sure out.new) (pending.old ++ exit_line name.now output (exit.now.count, exit.now.sojourn)) pending.new) }
-    ensures err { OnErr result (TakesPrefix (O.taken out.old) (O.taken out.new) (O.sure out.old) (O.sure out.new) (pending.old ++ exit_line name.now output (exit.now.count, exit.now.sojourn))) }
-    ensures later { O.faults out.old ≤ O.faults out.new }
-    ensures rose { OnErr result (Rose (O.faults out.old) (O.faults out.new)) }
-    ensures sure { length (pending.old ++ exit_line name.now output (exit.now.count, exit.now.sojourn)) ≤ O.sure out.old → O.faults out.new ≡ O.faults out.old }
+    ensures { Adds O.taken O.sure O.faults out.old out.new pending.old pending.new result (exit_line name.now output (exit.now.count, exit.now.sojourn)) }
 {
     add_pieces(
         out,

@@ -1,7 +1,7 @@
 // The sections of a report, and the whole.
 ghost use Rattle.std.specs.Prelude.{◌≡◌, ◌≤◌, ◌<◌, ◌^◌, ◌++◌, ◌==◌, ◌&&◌, [], length, OnOk, OnErr, Some, slice_get};
 ghost use Rattle.std.specs.List.{list_any};
-ghost use Rattle.mq_base.specs.Outside.{GoesOut, Rose, TakesFirst, TakesPrefix};
+ghost use Rattle.mq_base.specs.Outside.{Adds, Rose, TakesFirst, TakesPrefix};
 ghost use Rattle.mq_core.specs.Columns.{IsRunOf};
 ghost use Rattle.mq_core.specs.Results.{exit_of, totals_of};
 ghost use Rattle.mq_core.specs.Sound.{outputs_in};
@@ -22,7 +22,7 @@ ghost use Rattle.mq_report.specs.Text.{
 
 use crate::jobs::add_jobs;
 use crate::lines::{add_exit, add_head, add_node};
-use mq_base::{Gather, Sink, SinkFault, add_pieces, flush};
+use mq_base::{Gather, Sink, SinkFault, flush};
 use mq_core::{
     Input, Node, Plan, Rows, Run, exits_are_streams, nodes_are_in_limits, orders_rank,
     outputs_have_streams, outputs_of, runs_are_of_networks, runs_have_columns, span_is_columns,
@@ -62,6 +62,16 @@ fn totals_at(plan: &Plan, rows: &Rows, run: &Run, node: u32, declared: &Node) ->
     totals(rows, &declared.kind, run.visits.get(node as usize))
 }
 
+// The time of the last event of the run.
+fn span_of(plan: &Plan, rows: &Rows, run: &Run) -> u64
+    requires read { IsReadFor plan.now.net rows.now }
+    requires run { IsRunOf plan.now rows.now run.now }
+    ensures { result ≡ (run_of plan.now rows.now).clock }
+{
+    span_is_columns();
+    span(&run.visits)
+}
+
 // Adds the line of a node.
 fn add_node_at<O: Sink>(
     out: &mut O,
@@ -77,11 +87,7 @@ fn add_node_at<O: Sink>(
     requires run { IsRunOf plan.now rows.now run.now }
     requires there { slice_get plan.now.net.nodes node ≡ Some declared.now }
     requires span { span ≡ (run_of plan.now rows.now).clock }
-    ensures ok { OnOk result (GoesOut (O.taken out.old) (O.taken out.new) (O.sure out.old) (O.sure out.new) (pending.old ++ line_of rows.now (run_of plan.now rows.now) node declared.now) pending.new) }
-    ensures err { OnErr result (TakesPrefix (O.taken out.old) (O.taken out.new) (O.sure out.old) (O.sure out.new) (pending.old ++ line_of rows.now (run_of plan.now rows.now) node declared.now)) }
-    ensures later { O.faults out.old ≤ O.faults out.new }
-    ensures rose { OnErr result (Rose (O.faults out.old) (O.faults out.new)) }
-    ensures sure { length (pending.old ++ line_of rows.now (run_of plan.now rows.now) node declared.now) ≤ O.sure out.old → O.faults out.new ≡ O.faults out.old }
+    ensures { Adds O.taken O.sure O.faults out.old out.new pending.old pending.new result (line_of rows.now (run_of plan.now rows.now) node declared.now) }
 {
     nodes_are_in_limits();
     let totals = totals_at(plan, rows, run, node, declared);
@@ -107,11 +113,7 @@ fn add_nodes<O: Sink>(
     requires read { IsReadFor plan.now.net rows.now }
     requires run { IsRunOf plan.now rows.now run.now }
     requires span { span ≡ (run_of plan.now rows.now).clock }
-    ensures ok { OnOk result (GoesOut (O.taken out.old) (O.taken out.new) (O.sure out.old) (O.sure out.new) (pending.old ++ nodes_text plan.now.net rows.now (run_of plan.now rows.now) plan.now.order) pending.new) }
-    ensures err { OnErr result (TakesPrefix (O.taken out.old) (O.taken out.new) (O.sure out.old) (O.sure out.new) (pending.old ++ nodes_text plan.now.net rows.now (run_of plan.now rows.now) plan.now.order)) }
-    ensures later { O.faults out.old ≤ O.faults out.new }
-    ensures rose { OnErr result (Rose (O.faults out.old) (O.faults out.new)) }
-    ensures sure { length (pending.old ++ nodes_text plan.now.net rows.now (run_of plan.now rows.now) plan.now.order) ≤ O.sure out.old → O.faults out.new ≡ O.faults out.old }
+    ensures { Adds O.taken O.sure O.faults out.old out.new pending.old pending.new result (nodes_text plan.now.net rows.now (run_of plan.now rows.now) plan.now.order) }
 {
     orders_rank();
     for rank in 0..plan.order.len() {
@@ -152,14 +154,10 @@ fn add_exit_at<O: Sink>(
     requires run { IsRunOf plan.now rows.now run.now }
     requires there { slice_get plan.now.net.nodes node ≡ Some declared.now }
     requires output { output < outputs_in declared.now.kind }
-    ensures ok { OnOk result (GoesOut (O.taken out.old) (O.taken out.new) (O.sure out.old) (O.sure out.new) (pending.old ++ exit_lines_at plan.now.net.nodes rows.now node declared.now.name ((run_of plan.now rows.now).stations node) output) pending.new) }
-    ensures err { OnErr result (TakesPrefix (O.taken out.old) (O.taken out.new) (O.sure out.old) (O.sure out.new) (pending.old ++ exit_lines_at plan.now.net.nodes rows.now node declared.now.name ((run_of plan.now rows.now).stations node) output)) }
-    ensures later { O.faults out.old ≤ O.faults out.new }
-    ensures rose { OnErr result (Rose (O.faults out.old) (O.faults out.new)) }
-    ensures sure { length (pending.old ++ exit_lines_at plan.now.net.nodes rows.now node declared.now.name ((run_of plan.now rows.now).stations node) output) ≤ O.sure out.old → O.faults out.new ≡ O.faults out.old }
+    ensures { Adds O.taken O.sure O.faults out.old out.new pending.old pending.new result (exit_lines_at plan.now.net.nodes rows.now node declared.now.name ((run_of plan.now rows.now).stations node) output) }
 {
     if is_read(plan.net.nodes.as_slice(), node, output) {
-        return add_pieces(out, pending, &[]);
+        return Ok(());
     }
     let exit = exit_at(plan, rows, run, node, declared, output);
     add_exit(out, pending, declared.name.as_slice(), output, &exit)
@@ -178,11 +176,7 @@ fn add_exits_at<O: Sink>(
     requires read { IsReadFor plan.now.net rows.now }
     requires run { IsRunOf plan.now rows.now run.now }
     requires there { slice_get plan.now.net.nodes node ≡ Some declared.now }
-    ensures ok { OnOk result (GoesOut (O.taken out.old) (O.taken out.new) (O.sure out.old) (O.sure out.new) (pending.old ++ exit_lines plan.now.net.nodes rows.now node declared.now.name ((run_of plan.now rows.now).stations node) 0 (outputs_in declared.now.kind)) pending.new) }
-    ensures err { OnErr result (TakesPrefix (O.taken out.old) (O.taken out.new) (O.sure out.old) (O.sure out.new) (pending.old ++ exit_lines plan.now.net.nodes rows.now node declared.now.name ((run_of plan.now rows.now).stations node) 0 (outputs_in declared.now.kind))) }
-    ensures later { O.faults out.old ≤ O.faults out.new }
-    ensures rose { OnErr result (Rose (O.faults out.old) (O.faults out.new)) }
-    ensures sure { length (pending.old ++ exit_lines plan.now.net.nodes rows.now node declared.now.name ((run_of plan.now rows.now).stations node) 0 (outputs_in declared.now.kind)) ≤ O.sure out.old → O.faults out.new ≡ O.faults out.old }
+    ensures { Adds O.taken O.sure O.faults out.old out.new pending.old pending.new result (exit_lines plan.now.net.nodes rows.now node declared.now.name ((run_of plan.now rows.now).stations node) 0 (outputs_in declared.now.kind)) }
 {
     nodes_are_in_limits();
     for output in 0..outputs_of(&declared.kind) {
@@ -201,11 +195,7 @@ fn add_exits<O: Sink>(
 ) -> Result<(), SinkFault>
     requires read { IsReadFor plan.now.net rows.now }
     requires run { IsRunOf plan.now rows.now run.now }
-    ensures ok { OnOk result (GoesOut (O.taken out.old) (O.taken out.new) (O.sure out.old) (O.sure out.new) (pending.old ++ exits_text plan.now.net rows.now (run_of plan.now rows.now) plan.now.order) pending.new) }
-    ensures err { OnErr result (TakesPrefix (O.taken out.old) (O.taken out.new) (O.sure out.old) (O.sure out.new) (pending.old ++ exits_text plan.now.net rows.now (run_of plan.now rows.now) plan.now.order)) }
-    ensures later { O.faults out.old ≤ O.faults out.new }
-    ensures rose { OnErr result (Rose (O.faults out.old) (O.faults out.new)) }
-    ensures sure { length (pending.old ++ exits_text plan.now.net rows.now (run_of plan.now rows.now) plan.now.order) ≤ O.sure out.old → O.faults out.new ≡ O.faults out.old }
+    ensures { Adds O.taken O.sure O.faults out.old out.new pending.old pending.new result (exits_text plan.now.net rows.now (run_of plan.now rows.now) plan.now.order) }
 {
     orders_rank();
     for rank in 0..plan.order.len() {
@@ -227,60 +217,12 @@ fn add_asked_jobs<O: Sink>(
 ) -> Result<(), SinkFault>
     requires read { IsReadFor plan.now.net rows.now }
     requires run { IsRunOf plan.now rows.now run.now }
-    ensures ok { OnOk result (GoesOut (O.taken out.old) (O.taken out.new) (O.sure out.old) (O.sure out.new) (pending.old ++ asked_jobs plan.now.net rows.now (run_of plan.now rows.now) plan.now.order jobs) pending.new) }
-    ensures err { OnErr result (TakesPrefix (O.taken out.old) (O.taken out.new) (O.sure out.old) (O.sure out.new) (pending.old ++ asked_jobs plan.now.net rows.now (run_of plan.now rows.now) plan.now.order jobs)) }
-    ensures later { O.faults out.old ≤ O.faults out.new }
-    ensures rose { OnErr result (Rose (O.faults out.old) (O.faults out.new)) }
-    ensures sure { length (pending.old ++ asked_jobs plan.now.net rows.now (run_of plan.now rows.now) plan.now.order jobs) ≤ O.sure out.old → O.faults out.new ≡ O.faults out.old }
+    ensures { Adds O.taken O.sure O.faults out.old out.new pending.old pending.new result (asked_jobs plan.now.net rows.now (run_of plan.now rows.now) plan.now.order jobs) }
 {
-    if jobs {
-        return add_jobs(out, pending, plan, rows, run);
+    if !jobs {
+        return Ok(());
     }
-    add_pieces(out, pending, &[])
-}
-
-// Adds the lines of the exits, and the job lines where they are asked for.
-fn add_jobs_behind_exits<O: Sink>(
-    out: &mut O,
-    pending: &mut Gather,
-    plan: &Plan,
-    rows: &Rows,
-    run: &Run,
-    jobs: bool,
-) -> Result<(), SinkFault>
-    requires read { IsReadFor plan.now.net rows.now }
-    requires run { IsRunOf plan.now rows.now run.now }
-    ensures ok { OnOk result (GoesOut (O.taken out.old) (O.taken out.new) (O.sure out.old) (O.sure out.new) (pending.old ++ (exits_text plan.now.net rows.now (run_of plan.now rows.now) plan.now.order ++ asked_jobs plan.now.net rows.now (run_of plan.now rows.now) plan.now.order jobs)) pending.new) }
-    ensures err { OnErr result (TakesPrefix (O.taken out.old) (O.taken out.new) (O.sure out.old) (O.sure out.new) (pending.old ++ (exits_text plan.now.net rows.now (run_of plan.now rows.now) plan.now.order ++ asked_jobs plan.now.net rows.now (run_of plan.now rows.now) plan.now.order jobs))) }
-    ensures later { O.faults out.old ≤ O.faults out.new }
-    ensures rose { OnErr result (Rose (O.faults out.old) (O.faults out.new)) }
-    ensures sure { length (pending.old ++ (exits_text plan.now.net rows.now (run_of plan.now rows.now) plan.now.order ++ asked_jobs plan.now.net rows.now (run_of plan.now rows.now) plan.now.order jobs)) ≤ O.sure out.old → O.faults out.new ≡ O.faults out.old }
-{
-    add_exits(out, pending, plan, rows, run)?;
-    add_asked_jobs(out, pending, plan, rows, run, jobs)
-}
-
-// Adds the lines of the nodes, those of the exits, and the job lines where they are asked for.
-fn add_network<O: Sink>(
-    out: &mut O,
-    pending: &mut Gather,
-    plan: &Plan,
-    rows: &Rows,
-    run: &Run,
-    span: u64,
-    jobs: bool,
-) -> Result<(), SinkFault>
-    requires read { IsReadFor plan.now.net rows.now }
-    requires run { IsRunOf plan.now rows.now run.now }
-    requires span { span ≡ (run_of plan.now rows.now).clock }
-    ensures ok { OnOk result (GoesOut (O.taken out.old) (O.taken out.new) (O.sure out.old) (O.sure out.new) (pending.old ++ (nodes_text plan.now.net rows.now (run_of plan.now rows.now) plan.now.order ++ (exits_text plan.now.net rows.now (run_of plan.now rows.now) plan.now.order ++ asked_jobs plan.now.net rows.now (run_of plan.now rows.now) plan.now.order jobs))) pending.new) }
-    ensures err { OnErr result (TakesPrefix (O.taken out.old) (O.taken out.new) (O.sure out.old) (O.sure out.new) (pending.old ++ (nodes_text plan.now.net rows.now (run_of plan.now rows.now) plan.now.order ++ (exits_text plan.now.net rows.now (run_of plan.now rows.now) plan.now.order ++ asked_jobs plan.now.net rows.now (run_of plan.now rows.now) plan.now.order jobs)))) }
-    ensures later { O.faults out.old ≤ O.faults out.new }
-    ensures rose { OnErr result (Rose (O.faults out.old) (O.faults out.new)) }
-    ensures sure { length (pending.old ++ (nodes_text plan.now.net rows.now (run_of plan.now rows.now) plan.now.order ++ (exits_text plan.now.net rows.now (run_of plan.now rows.now) plan.now.order ++ asked_jobs plan.now.net rows.now (run_of plan.now rows.now) plan.now.order jobs))) ≤ O.sure out.old → O.faults out.new ≡ O.faults out.old }
-{
-    add_nodes(out, pending, plan, rows, run, span)?;
-    add_jobs_behind_exits(out, pending, plan, rows, run, jobs)
+    add_jobs(out, pending, plan, rows, run)
 }
 
 // Adds the whole report.
@@ -294,16 +236,13 @@ fn add_report<O: Sink>(
 ) -> Result<(), SinkFault>
     requires read { IsReadFor plan.now.net rows.now }
     requires run { IsRunOf plan.now rows.now run.now }
-    ensures ok { OnOk result (GoesOut (O.taken out.old) (O.taken out.new) (O.sure out.old) (O.sure out.new) (pending.old ++ report_text plan.now.net plan.now.order rows.now (run_of plan.now rows.now) jobs) pending.new) }
-    ensures err { OnErr result (TakesPrefix (O.taken out.old) (O.taken out.new) (O.sure out.old) (O.sure out.new) (pending.old ++ report_text plan.now.net plan.now.order rows.now (run_of plan.now rows.now) jobs)) }
-    ensures later { O.faults out.old ≤ O.faults out.new }
-    ensures rose { OnErr result (Rose (O.faults out.old) (O.faults out.new)) }
-    ensures sure { length (pending.old ++ report_text plan.now.net plan.now.order rows.now (run_of plan.now rows.now) jobs) ≤ O.sure out.old → O.faults out.new ≡ O.faults out.old }
+    ensures { Adds O.taken O.sure O.faults out.old out.new pending.old pending.new result (report_text plan.now.net plan.now.order rows.now (run_of plan.now rows.now) jobs) }
 {
-    span_is_columns();
-    let span = span(&run.visits);
+    let span = span_of(plan, rows, run);
     add_head(out, pending, rows.time.len(), span)?;
-    add_network(out, pending, plan, rows, run, span, jobs)
+    add_nodes(out, pending, plan, rows, run, span)?;
+    add_exits(out, pending, plan, rows, run)?;
+    add_asked_jobs(out, pending, plan, rows, run, jobs)
 }
 
 /// Writes the report of a run: the counts and times of each node by rank, what leaves by each

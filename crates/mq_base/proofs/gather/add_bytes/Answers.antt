@@ -1,11 +1,5 @@
-use Rattle.mq_base.proofs.Gathers.{goes_whole}
-use Rattle.mq_base.proofs.Puts.{takes_part, on_ok_more, on_err_more}
+use Rattle.mq_base.proofs.Gathers.{adds_whole}
 use Rattle.mq_base.proofs.gather.add_bytes.Goals as goal
 
-pub returns-then-bytes-gt-SIZE-clause-ok : goal.returns-then-bytes-gt-SIZE-clause-ok
-returns-then-bytes-gt-SIZE-clause-ok g c =
-    on_ok_more _ _ _ (goes_whole _ _ _ _ _ _ _ _ _ c.in_ok-flush.ensures.ok c.in_ok-flush.ensures.empty) c.put_all.ensures.ok
-
-pub returns-then-bytes-gt-SIZE-clause-err : goal.returns-then-bytes-gt-SIZE-clause-err
-returns-then-bytes-gt-SIZE-clause-err g c =
-    on_err_more _ _ _ (takes_part _ _ _ _ _ _ c.args.pending.now c.args.bytes.now c.in_ok-flush.ensures.ok) c.put_all.ensures.err
+pub returns-then-bytes-gt-SIZE : goal.returns-then-bytes-gt-SIZE
+returns-then-bytes-gt-SIZE g c = adds_whole _ c.in_ok-flush.ensures.empty c.in_ok-flush.ensures.ok c.in_ok-flush.ensures.later c.in_ok-flush.ensures.sure c.put_all.ensures.ok c.put_all.ensures.err c.put_all.ensures.later c.put_all.ensures.rose c.put_all.ensures.sure

@@ -30,11 +30,5 @@ lines_are g c =
     ∙ jobs-are c.args.rows.now c.args.declared.now ((run_of c.args.plan.now c.args.rows.now).stations c.args.node) c.get-visits.result.now
     (visits_are c.runs_have_columns.ensures c.args.plan.now c.args.rows.now c.args.run.now c.args.node c.args.declared.now c.get-visits.result.now c.requires.run c.requires.there c.get-visits.ensures)
 
-pub returns-clause-ok : goal.returns-clause-ok
-returns-clause-ok g c = rw (sym (lines_are g c)) c.add_visits.ensures.ok
-
-pub returns-clause-err : goal.returns-clause-err
-returns-clause-err g c = rw (sym (lines_are g c)) c.add_visits.ensures.err
-
-pub returns-clause-sure : goal.returns-clause-sure
-returns-clause-sure g c = rw (sym (lines_are g c)) c.add_visits.ensures.sure
+pub returns : goal.returns
+returns g c = rw (sym (lines_are g c)) c.add_visits.ensures

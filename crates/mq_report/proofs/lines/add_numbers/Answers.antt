@@ -1,15 +1,14 @@
-use Rattle.std.proofs.Common.{◌++◌}
-use Rattle.mq_base.proofs.Gathers.{goes_both, front_goes, goes_front}
-use Rattle.mq_base.proofs.Puts.{on_err, on_err_more, on_ok_more}
-use Rattle.mq_report.specs.Text.{node_counts, node_losses, node_waits, node_tallies}
-use Rattle.mq_stats.specs.Numbers.{totals_from}
+use Rattle.mq_base.proofs.Gathers.{adds_both, adds_front}
 use Rattle.mq_report.proofs.lines.add_numbers.Goals as goal
 
-pub returns-in_err-add_counts-clause-err : goal.returns-in_err-add_counts-clause-err
-returns-in_err-add_counts-clause-err g c = on_err _ _ (front_goes _ _ _ _ _ (node_counts (totals_from c.args.totals.now)) (node_losses (totals_from c.args.totals.now) ++ (node_waits (totals_from c.args.totals.now) ++ node_tallies (totals_from c.args.totals.now))) c.in_err-add_counts.ensures.err)
+pub returns-in_err-add_counts : goal.returns-in_err-add_counts
+returns-in_err-add_counts g c = adds_front _ c.from_residual.ensures.0 _ c.in_err-add_counts.ensures
 
-pub returns-clause-ok : goal.returns-clause-ok
-returns-clause-ok g c = on_ok_more _ _ _ (goes_both _ _ _ _ _ _ _ _ _ (node_counts (totals_from c.args.totals.now)) (node_losses (totals_from c.args.totals.now) ++ (node_waits (totals_from c.args.totals.now) ++ node_tallies (totals_from c.args.totals.now))) c.in_ok-add_counts.ensures.ok) c.add_rest.ensures.ok
+pub returns-in_err-add_losses : goal.returns-in_err-add_losses
+returns-in_err-add_losses g c = adds_both c.in_ok-add_counts.ensures (adds_front _ c.from_residual-in_err-add_losses.ensures.0 _ c.in_err-add_losses.ensures)
 
-pub returns-clause-err : goal.returns-clause-err
-returns-clause-err g c = on_err_more _ _ _ (goes_front _ _ _ _ _ _ _ _ (node_counts (totals_from c.args.totals.now)) (node_losses (totals_from c.args.totals.now) ++ (node_waits (totals_from c.args.totals.now) ++ node_tallies (totals_from c.args.totals.now))) c.in_ok-add_counts.ensures.ok) c.add_rest.ensures.err
+pub returns-in_err-add_waits : goal.returns-in_err-add_waits
+returns-in_err-add_waits g c = adds_both c.in_ok-add_counts.ensures (adds_both c.in_ok-add_losses.ensures (adds_front _ c.from_residual-in_err-add_waits.ensures.0 _ c.in_err-add_waits.ensures))
+
+pub returns : goal.returns
+returns g c = adds_both c.in_ok-add_counts.ensures (adds_both c.in_ok-add_losses.ensures (adds_both c.in_ok-add_waits.ensures c.add_tallies.ensures))
