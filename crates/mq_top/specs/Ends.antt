@@ -20,6 +20,10 @@ pub record Taken : Type 0 where
   pub sure_before : ℕ
   pub sure_now : ℕ
 
+-- the same of a sink
+abbrev pub takings : {S : Type 0} (taken : S → Option (List ℕ)) (sure : S → ℕ) (before now : S) → Taken
+takings taken sure before now = record { before = taken before; now = taken now; sure_before = sure before; sure_now = sure now }
+
 -- the call ends with the answer, or with a fault of a device or want of memory on the way to it; the output gained the
 -- whole report after Done, and a first part of it after a fault of the output
 abbrev pub Ends : Answer → Outcome → Taken → Type 0

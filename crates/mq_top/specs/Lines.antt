@@ -84,6 +84,6 @@ name_of net (Past f) = node_name (slice_get net.nodes f.node)
 name_of net _ = []
 
 -- the error output gained a first part of a line, and the whole where its count of faults didn't rise
-pub record PutsLine (taken taken' : Option (List ℕ)) (sure sure' faults faults' : ℕ) (text : List ℕ) : Type 0 where
-  pub part : TakesPrefix taken taken' sure sure' text
-  pub whole : ¬ (Rose faults faults') → taken' ≡ append_known taken text
+pub record PutsLine {S : Type 0} (taken : S → Option (List ℕ)) (sure faults : S → ℕ) (before after : S) (text : List ℕ) : Type 0 where
+  pub part : TakesPrefix (taken before) (taken after) (sure before) (sure after) text
+  pub whole : ¬ (Rose (faults before) (faults after)) → taken after ≡ append_known (taken before) text

@@ -43,21 +43,21 @@ fn try_pieces<E: Sink>(err: &mut E, pieces: &[Piece<'_>]) -> Result<(), SinkFaul
 
 // Puts these pieces, which are a line. What becomes of it changes nothing.
 fn put_pieces<E: Sink>(err: &mut E, pieces: &[Piece<'_>])
-    ensures { PutsLine (E.taken err.old) (E.taken err.new) (E.sure err.old) (E.sure err.new) (E.faults err.old) (E.faults err.new) (pieces_text pieces.now) }
+    ensures { PutsLine E.taken E.sure E.faults err.old err.new (pieces_text pieces.now) }
 {
     let _ = try_pieces(err, pieces);
 }
 
 // Puts a line that has no number.
 fn put_text<E: Sink>(err: &mut E, text: &[u8])
-    ensures { PutsLine (E.taken err.old) (E.taken err.new) (E.sure err.old) (E.sure err.new) (E.faults err.old) (E.faults err.new) (text.now ++ 10 ∷ []) }
+    ensures { PutsLine E.taken E.sure E.faults err.old err.new (text.now ++ 10 ∷ []) }
 {
     put_pieces(err, &[Piece::Text(text), Piece::Text(b"\n")]);
 }
 
 // Puts a line with a name in it.
 fn put_named<'a, E: Sink>(err: &mut E, front: &'a [u8], name: &'a [u8], back: &'a [u8])
-    ensures { PutsLine (E.taken err.old) (E.taken err.new) (E.sure err.old) (E.sure err.new) (E.faults err.old) (E.faults err.new) (front.now ++ name.now ++ back.now ++ 10 ∷ []) }
+    ensures { PutsLine E.taken E.sure E.faults err.old err.new (front.now ++ name.now ++ back.now ++ 10 ∷ []) }
 {
     put_pieces(
         err,
@@ -72,7 +72,7 @@ fn put_named<'a, E: Sink>(err: &mut E, front: &'a [u8], name: &'a [u8], back: &'
 
 // Puts a line with a number in it.
 fn put_numbered<'a, E: Sink>(err: &mut E, front: &'a [u8], number: u32, back: &'a [u8])
-    ensures { PutsLine (E.taken err.old) (E.taken err.new) (E.sure err.old) (E.sure err.new) (E.faults err.old) (E.faults err.new) (front.now ++ decimal number ++ back.now ++ 10 ∷ []) }
+    ensures { PutsLine E.taken E.sure E.faults err.old err.new (front.now ++ decimal number ++ back.now ++ 10 ∷ []) }
 {
     put_pieces(
         err,
@@ -94,7 +94,7 @@ fn put_numbered_twice<'a, E: Sink>(
     part: u32,
     back: &'a [u8],
 )
-    ensures { PutsLine (E.taken err.old) (E.taken err.new) (E.sure err.old) (E.sure err.new) (E.faults err.old) (E.faults err.new) (front.now ++ decimal whole ++ middle.now ++ decimal part ++ back.now ++ 10 ∷ []) }
+    ensures { PutsLine E.taken E.sure E.faults err.old err.new (front.now ++ decimal whole ++ middle.now ++ decimal part ++ back.now ++ 10 ∷ []) }
 {
     put_pieces(
         err,
@@ -110,7 +110,7 @@ fn put_numbered_twice<'a, E: Sink>(
 }
 
 fn put_usage_line<E: Sink>(err: &mut E, fault: &UsageFault)
-    ensures { PutsLine (E.taken err.old) (E.taken err.new) (E.sure err.old) (E.sure err.new) (E.faults err.old) (E.faults err.new) (usage_line fault.now) }
+    ensures { PutsLine E.taken E.sure E.faults err.old err.new (usage_line fault.now) }
 {
     match fault {
         UsageFault::Words | UsageFault::Form => put_text(
@@ -131,7 +131,7 @@ fn put_usage_line<E: Sink>(err: &mut E, fault: &UsageFault)
 
 // Puts the line of a node that passes the bound.
 fn put_past_line<E: Sink>(err: &mut E, name: &[u8], fault: &PastFault)
-    ensures { PutsLine (E.taken err.old) (E.taken err.new) (E.sure err.old) (E.sure err.new) (E.faults err.old) (E.faults err.new) (past_line name.now fault.now) }
+    ensures { PutsLine E.taken E.sure E.faults err.old err.new (past_line name.now fault.now) }
 {
     put_pieces(
         err,
@@ -149,7 +149,7 @@ fn put_past_line<E: Sink>(err: &mut E, name: &[u8], fault: &PastFault)
 
 // Puts the line of a model's fault.
 fn put_model_line<E: Sink>(err: &mut E, fault: &ModelFault)
-    ensures { PutsLine (E.taken err.old) (E.taken err.new) (E.sure err.old) (E.sure err.new) (E.faults err.old) (E.faults err.new) (model_line fault.now) }
+    ensures { PutsLine E.taken E.sure E.faults err.old err.new (model_line fault.now) }
 {
     let front = b"mpsim: model line ";
     match fault {
@@ -181,7 +181,7 @@ fn put_model_line<E: Sink>(err: &mut E, fault: &ModelFault)
 
 // Puts the line of a trace's fault, with the name of the column that is missing.
 fn put_trace_line<E: Sink>(err: &mut E, name: &[u8], fault: &TraceFault)
-    ensures { PutsLine (E.taken err.old) (E.taken err.new) (E.sure err.old) (E.sure err.new) (E.faults err.old) (E.faults err.new) (trace_line name.now fault.now) }
+    ensures { PutsLine E.taken E.sure E.faults err.old err.new (trace_line name.now fault.now) }
 {
     let front = b"mpsim: trace record ";
     match fault {
@@ -214,7 +214,7 @@ fn put_trace_line<E: Sink>(err: &mut E, name: &[u8], fault: &TraceFault)
 /// Puts the line of an outcome, with the name that it speaks of; after `Done` nothing. A fault of
 /// the error output changes nothing.
 pub fn put_line<E: Sink>(err: &mut E, name: &[u8], outcome: &Outcome)
-    ensures { PutsLine (E.taken err.old) (E.taken err.new) (E.sure err.old) (E.sure err.new) (E.faults err.old) (E.faults err.new) (line_text name.now outcome.now) }
+    ensures { PutsLine E.taken E.sure E.faults err.old err.new (line_text name.now outcome.now) }
 {
     match outcome {
         Outcome::Done => put_pieces(err, &[]),

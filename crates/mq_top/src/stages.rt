@@ -11,7 +11,7 @@ ghost use Rattle.mq_report.specs.Text.{report_in};
 ghost use Rattle.mq_trace.specs.Trace.{trace_fault, rows_in};
 ghost use Rattle.mq_top.specs.Answer.{answer, answer_over, run_answer};
 ghost use Rattle.mq_top.specs.Answer.Answer.{Reported};
-ghost use Rattle.mq_top.specs.Ends.{Ends, FailedAt, IsLate, IsOfMade, Reads, RefusesModel, RefusesTrace, Untouched};
+ghost use Rattle.mq_top.specs.Ends.{Ends, FailedAt, IsLate, IsOfMade, Reads, RefusesModel, RefusesTrace, Untouched, takings};
 ghost use Rattle.mq_top.specs.Lines.{PutsLine, line_text, name_of as name_of_outcome};
 ghost use Rattle.mq_top.specs.Words.{Makes, Names, asks_made, jobs_asked, refuses_words, usage_fault};
 
@@ -115,7 +115,7 @@ fn accept_trace<F: Files>(
 // Runs a plan over its rows, and writes the report, with the lines of the jobs where they are asked for.
 fn report_run<O: Sink>(alloc: Global, plan: &Plan, rows: &Rows, jobs: bool, out: &mut O) -> Outcome
     requires { IsReadFor plan.now.net rows.now }
-    ensures ends { Ends (run_answer plan.now.net rows.now jobs (past_in plan.now.net rows.now)) result (record { before = O.taken out.old; now = O.taken out.new; sure_before = O.sure out.old; sure_now = O.sure out.new }) }
+    ensures ends { Ends (run_answer plan.now.net rows.now jobs (past_in plan.now.net rows.now)) result (takings O.taken O.sure out.old out.new) }
     ensures unread { (second : Bool) → result ≢ Outcome.ReadFault second }
     ensures later { O.faults out.old ≤ O.faults out.new }
     ensures rose { result ≡ Outcome.WriteFault → Rose (O.faults out.old) (O.faults out.new) }
@@ -143,7 +143,7 @@ fn run_trace<F: Files, O: Sink>(
     files: &mut F,
     out: &mut O,
 ) -> Outcome
-    ensures ends { IfSome (F.told files.old name.now) (λ trace. Ends (answer_over plan.now.net trace jobs) result (record { before = O.taken out.old; now = O.taken out.new; sure_before = O.sure out.old; sure_now = O.sure out.new })) }
+    ensures ends { IfSome (F.told files.old name.now) (λ trace. Ends (answer_over plan.now.net trace jobs) result (takings O.taken O.sure out.old out.new)) }
     ensures late { IsLate result }
     ensures counted { F.reads files.new ≡ next_count (F.reads files.old) }
     ensures files_later { F.faults files.old ≤ F.faults files.new }
@@ -166,7 +166,7 @@ fn run_trace<F: Files, O: Sink>(
 
 // Runs the made input of this number, and writes the report.
 fn run_made<O: Sink>(alloc: Global, number: u64, jobs: bool, out: &mut O) -> Outcome
-    ensures ends { Ends (answer (made_model number) (made_trace number) jobs) result (record { before = O.taken out.old; now = O.taken out.new; sure_before = O.sure out.old; sure_now = O.sure out.new }) }
+    ensures ends { Ends (answer (made_model number) (made_trace number) jobs) result (takings O.taken O.sure out.old out.new) }
     ensures made { IsOfMade result }
     ensures later { O.faults out.old ≤ O.faults out.new }
     ensures rose { result ≡ Outcome.WriteFault → Rose (O.faults out.old) (O.faults out.new) }
@@ -206,7 +206,7 @@ pub fn simulate<F: Files, O: Sink, E: Sink>(
     // A finished run has written exactly the report of the event list, and a run ends otherwise only with the fault
     // that the definitions give, or with a fault of a device or want of memory.
     ensures ends { (m t model trace : List ℕ) → Names (map (λ w. w.now) words.now) m t → F.told files.old m ≡ Some model → F.told files.old t ≡ Some trace →
-        Ends (answer model trace (jobs_asked (map (λ w. w.now) words.now))) result (record { before = O.taken out.old; now = O.taken out.new; sure_before = O.sure out.old; sure_now = O.sure out.new }) }
+        Ends (answer model trace (jobs_asked (map (λ w. w.now) words.now))) result (takings O.taken O.sure out.old out.new) }
 
     // The words are refused exactly so, and a model is refused whatever is told of the trace.
     ensures usage { (fault : UsageFault) → result ≡ Outcome.Usage fault → usage_fault (map (λ w. w.now) words.now) ≡ Some fault }
@@ -236,18 +236,18 @@ pub fn simulate<F: Files, O: Sink, E: Sink>(
     // With `--made` no file is read. A made input is accepted, so that its run ends with its report, or with a fault of
     // the output or want of memory.
     ensures made { (number : ℕ) → Makes (map (λ w. w.now) words.now) number →
-        Ends (answer (made_model number) (made_trace number) (jobs_asked (map (λ w. w.now) words.now))) result (record { before = O.taken out.old; now = O.taken out.new; sure_before = O.sure out.old; sure_now = O.sure out.new }) }
+        Ends (answer (made_model number) (made_trace number) (jobs_asked (map (λ w. w.now) words.now))) result (takings O.taken O.sure out.old out.new) }
     ensures made_accepted { (number : ℕ) → Makes (map (λ w. w.now) words.now) number → IsOfMade result }
     ensures made_unread { asks_made (map (λ w. w.now) words.now) ≡ true → files.new ≡ files.old }
     ensures made_sure { (number : ℕ) (text : List ℕ) → Makes (map (λ w. w.now) words.now) number → answer (made_model number) (made_trace number) (jobs_asked (map (λ w. w.now) words.now)) ≡ Reported text →
         length text ≤ O.sure out.old → O.faults out.new ≡ O.faults out.old }
-    ensures made_line { (number : ℕ) → Makes (map (λ w. w.now) words.now) number → PutsLine (E.taken err.old) (E.taken err.new) (E.sure err.old) (E.sure err.new) (E.faults err.old) (E.faults err.new) (line_text [] result) }
+    ensures made_line { (number : ℕ) → Makes (map (λ w. w.now) words.now) number → PutsLine E.taken E.sure E.faults err.old err.new (line_text [] result) }
 
     // What the two outputs gain.
     ensures untouched { Untouched result out.old out.new }
-    ensures line { (name : List ℕ) × PutsLine (E.taken err.old) (E.taken err.new) (E.sure err.old) (E.sure err.new) (E.faults err.old) (E.faults err.new) (line_text name result) }
+    ensures line { (name : List ℕ) × PutsLine E.taken E.sure E.faults err.old err.new (line_text name result) }
     ensures named { (m t model : List ℕ) → Names (map (λ w. w.now) words.now) m t → F.told files.old m ≡ Some model →
-        PutsLine (E.taken err.old) (E.taken err.new) (E.sure err.old) (E.sure err.new) (E.faults err.old) (E.faults err.new) (line_text (name_of_outcome (network_in model) result) result) }
+        PutsLine E.taken E.sure E.faults err.old err.new (line_text (name_of_outcome (network_in model) result) result) }
 {
     let settings = match settings_of(alloc, words) {
         Ok(settings) => settings,

@@ -4,7 +4,7 @@ use Rattle.mq_gen.specs.Accepted.{IsAccepted}
 use Rattle.mq_gen.specs.Made.{made_model, made_trace}
 use Rattle.mq_model.specs.NetworkOf.{network_in}
 use Rattle.mq_trace.specs.Trace.{rows_in}
-use Rattle.mq_top.specs.Ends.{RefusesModel, RefusesTrace, Taken}
+use Rattle.mq_top.specs.Ends.{RefusesModel, RefusesTrace, Taken, takings}
 use Rattle.mq_top.proofs.MadeRuns.{EndsAccepted, ends_at_model, ends_at_run, ends_at_trace, report_is}
 use Rattle.mq_top.proofs.stages.run_made.Given as Given
 use Rattle.mq_top.proofs.stages.run_made.Goals as goal
@@ -45,14 +45,14 @@ returns-clause-made g c = (at_trace g c (record { before = None; now = None; sur
 -- both are accepted
 
 at_run : (g : Given.Over) (c : goal.After-drop-input-in-Ok-judge_trace-2 g) → EndsAccepted (made_model c.args.number) (made_trace c.args.number) c.args.jobs c.report_run.result
-    (record { before = g.O.Sink.taken c.args.out.now; now = g.O.Sink.taken c.report_run.new.out; sure_before = g.O.Sink.sure c.args.out.now; sure_now = g.O.Sink.sure c.report_run.new.out })
+    (takings g.O.Sink.taken g.O.Sink.sure c.args.out.now c.report_run.new.out)
 at_run g c =
     let accepted : IsAccepted (made_model c.args.number) (made_trace c.args.number) = c.made_inputs_are_accepted.ensures c.args.number (search rules) in
     let net_is : c.in-Ok-judge_model.plan.net ≡ network_in (made_model c.args.number) = c.in-Ok-judge_model.ensures.accepted.1 ∙ ap network_in (c.as_slice.ensures ∙ c.in-Ok.ensures.model) in
     let rows_are : c.in-Ok-judge_trace.rows ≡ rows_in c.in-Ok-judge_model.plan.net (made_trace c.args.number) =
     c.in-Ok-judge_trace.ensures.accepted.1 ∙ ap (rows_in c.in-Ok-judge_model.plan.net) (c.as_slice-2.ensures ∙ c.in-Ok.ensures.trace) in
     let taken : Taken =
-    record { before = g.O.Sink.taken c.args.out.now; now = g.O.Sink.taken c.report_run.new.out; sure_before = g.O.Sink.sure c.args.out.now; sure_now = g.O.Sink.sure c.report_run.new.out } in
+    takings g.O.Sink.taken g.O.Sink.sure c.args.out.now c.report_run.new.out in
     ends_at_run (made_model c.args.number) (made_trace c.args.number) c.args.jobs c.in-Ok-judge_model.plan.net c.in-Ok-judge_trace.rows c.report_run.result taken accepted net_is rows_are c.report_run.ensures.ends c.report_run.ensures.unread
 
 pub returns-in-Ok-judge_trace-clause-ends : goal.returns-in-Ok-judge_trace-clause-ends

@@ -2,7 +2,7 @@ use Rattle.std.proofs.Common.{◌≡◌, ◌∙◌, sym, ap, subst, map, ℕ, Li
 use Rattle.mq_model.specs.Model.{model_fault}
 use Rattle.mq_model.specs.NetworkOf.{network_in}
 use Rattle.mq_top.specs.Answer.{answer_over}
-use Rattle.mq_top.specs.Ends.{Ends, Taken}
+use Rattle.mq_top.specs.Ends.{Ends, Taken, takings}
 use Rattle.mq_top.specs.Lines.{PutsLine, line_text, name_of}
 use Rattle.mq_top.specs.Words.{Asks, AsksFor, Makes, Names, jobs_asked}
 use Rattle.mq_top.proofs.Faults.{not_both, same_names, same_number}
@@ -20,8 +20,7 @@ returns-in-Ok-accept_model-clause-ends g c m t model trace names told_m told_t =
     let of_trace : g.F.Files.told c.accept_model.new.files c.in-Named.trace.now ≡ Some trace =
     c.accept_model.ensures.same_told c.in-Named.trace.now ∙ (ap (g.F.Files.told c.args.files.now) (sym same.1) ∙ told_t) in
     let read = told_is _ model (λ bytes. (model_fault bytes ≡ None) × (c.in-Ok-accept_model.plan.net ≡ network_in bytes)) of_model c.in-Ok-accept_model.ensures.accepted in
-    let taken : Taken =
-    record { before = g.O.Sink.taken c.args.out.now; now = g.O.Sink.taken c.run_trace-outcome.new.out; sure_before = g.O.Sink.sure c.args.out.now; sure_now = g.O.Sink.sure c.run_trace-outcome.new.out } in
+    let taken : Taken = takings g.O.Sink.taken g.O.Sink.sure c.args.out.now c.run_trace-outcome.new.out in
     subst (λ a. Ends a c.run_trace-outcome.result taken) (answer_is c.in-Ok-accept_model.plan.net model trace c.in-Ok.settings.jobs (jobs_asked words) read.0 read.1 (sym asked.jobs))
     (told_is _ trace (λ bytes. Ends (answer_over c.in-Ok-accept_model.plan.net bytes c.in-Ok.settings.jobs) c.run_trace-outcome.result taken) of_trace c.run_trace-outcome.ensures.ends)
 
@@ -46,8 +45,7 @@ returns-in-Ok-accept_model-clause-named g c m t model names told_m =
     let same = same_names words m t _ _ names asked_names in
     let of_model : g.F.Files.told c.args.files.now c.in-Named.model.now ≡ Some model = ap (g.F.Files.told c.args.files.now) (sym same.0) ∙ told_m in
     let read = told_is _ model (λ bytes. (model_fault bytes ≡ None) × (c.in-Ok-accept_model.plan.net ≡ network_in bytes)) of_model c.in-Ok-accept_model.ensures.accepted in
-    subst (λ text. PutsLine (g.E.Sink.taken c.args.err.now) (g.E.Sink.taken c.put_line-in-Ok-accept_model.new.err) (g.E.Sink.sure c.args.err.now)
-    (g.E.Sink.sure c.put_line-in-Ok-accept_model.new.err) (g.E.Sink.faults c.args.err.now) (g.E.Sink.faults c.put_line-in-Ok-accept_model.new.err) (line_text text c.run_trace-outcome.result)) (c.name_of.ensures ∙ ap (λ net. name_of net c.run_trace-outcome.result) read.1)
+    subst (λ text. PutsLine g.E.Sink.taken g.E.Sink.sure g.E.Sink.faults c.args.err.now c.put_line-in-Ok-accept_model.new.err (line_text text c.run_trace-outcome.result)) (c.name_of.ensures ∙ ap (λ net. name_of net c.run_trace-outcome.result) read.1)
     c.put_line-in-Ok-accept_model.ensures
 
 -- ---- a made input
@@ -57,7 +55,7 @@ returns-in-Made-clause-made g c number made =
     let words : List (List ℕ) = map (λ w. w.now) c.args.words.now in
     let asked : Asks words c.in-Ok.settings = c.in-Ok.ensures.asked in
     let makes : Makes words c.in-Made.number = subst (AsksFor words) c.in-Made.is asked.input in
-    subst (λ a. Ends a c.run_made-outcome.result (record { before = g.O.Sink.taken c.args.out.now; now = g.O.Sink.taken c.run_made-outcome.new.out; sure_before = g.O.Sink.sure c.args.out.now; sure_now = g.O.Sink.sure c.run_made-outcome.new.out }))
+    subst (λ a. Ends a c.run_made-outcome.result (takings g.O.Sink.taken g.O.Sink.sure c.args.out.now c.run_made-outcome.new.out))
     (same_answer number c.in-Made.number (jobs_asked words) c.in-Ok.settings.jobs (same_number words number c.in-Made.number made makes) asked.jobs) c.run_made-outcome.ensures.ends
 
 pub returns-in-Made-clause-made_sure : goal.returns-in-Made-clause-made_sure
