@@ -39,6 +39,7 @@ pub mod JoinTallies
 pub mod JoinBusy
 pub mod ForkTimes
 pub mod ForkSums
+pub mod Sums
 pub mod JoinEnds
 pub mod JoinServices
 pub mod Falls

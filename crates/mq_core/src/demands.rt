@@ -39,6 +39,22 @@ pub fn bare_of(rows: &Rows, kind: &Kind, job: u32) -> u64
     }
 }
 
+/// What a job asks for at the servers of a fork-join together, in ticks: the sum of its demands
+/// there, over all branches.
+///
+/// The rows have each column that the demands name, and the column has the job. There are at most
+/// 8 demands, and each is at most 2^36.
+pub fn demand_of_branches(rows: &Rows, branches: &List<List<Demand>>, job: u32) -> u64
+    requires { AreTold rows.now (flat_map (λ demands. demands) branches.now) job }
+    ensures { result ≡ sum_by (λ demand. demand_of_job rows.now demand job) (flat_map (λ demands. demands) branches.now) }
+{
+    let mut sum = 0;
+    for at in 0..branches.len() {
+        sum += sum_of(rows, branches.get(at), job);
+    }
+    sum
+}
+
 // The greatest sum of what a job asks for at the servers of a branch, in ticks.
 fn longest_of(rows: &Rows, branches: &List<List<Demand>>, job: u32) -> u64
     requires { AreTold rows.now (flat_map (λ demands. demands) branches.now) job }

@@ -7,7 +7,7 @@ mod kinds;
 mod laws;
 mod model;
 
-pub use demands::{bare_of, demand_of};
+pub use demands::{bare_of, demand_of, demand_of_branches};
 pub use handlers::{Handlers, Standard};
 pub use kinds::{outputs_of, servers_of};
 pub use laws::{

@@ -4,4 +4,3 @@ pub mod Counts
 pub mod Ordered
 pub mod Founds
 pub mod InOrder
-pub mod Sums

@@ -6,7 +6,6 @@ mod exits;
 mod in_order;
 mod laws;
 mod occupancy;
-mod services;
 mod spans;
 mod tallies;
 #[cfg(test)]

@@ -18,8 +18,7 @@ ghost use Rattle.mq_core.specs.declared.model.Kind.{Kind as TheKind};
 ghost use Rattle.mq_core.specs.declared.model.Rows.{Rows as TheRows};
 ghost use Rattle.mq_stats.specs.Numbers.{AreVisits, totals_from};
 
-use crate::services::sum_of_branches;
-use mq_core::{Fate, Kind, Rows, Visits, bare_of, rows_tell_demands};
+use mq_core::{Fate, Kind, Rows, Visits, bare_of, demand_of_branches, rows_tell_demands};
 
 /// The totals of a node over a run.
 #[derive(Clone, Copy, Debug, PartialEq, Eq)]
@@ -83,7 +82,7 @@ fn service_at(rows: &Rows, kind: &Kind, job: u32, bare: u64) -> u64
     match kind {
         Kind::Source | Kind::Split(_) => 0,
         Kind::Server(_) | Kind::Delay(_) | Kind::Loss { .. } | Kind::Tandem(_) => bare,
-        Kind::ForkJoin(branches) => sum_of_branches(rows, branches, job),
+        Kind::ForkJoin(branches) => demand_of_branches(rows, branches, job),
     }
 }
 

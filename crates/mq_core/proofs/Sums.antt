@@ -10,16 +10,7 @@ use Rattle.mq_core.specs.Handling.{demand_of_job}
 use Rattle.mq_core.specs.declared.model.Demand.{Demand}
 use Rattle.mq_core.specs.declared.model.Rows.{Rows}
 
--- the sum of what is left from a place on, and from the next
-sum-from : {X : Type 0} (f : X → ℕ) (xs : List X) (i : ℕ) (x : X) → slice_get xs i ≡ Some x → sum_by f (drop i xs) ≡ f x + sum_by f (drop (suc i) xs)
-sum-from f [] i x e = absurd cc
-sum-from f (y ∷ ys) zero x e = sum_by-cons f y ys ∙ ap (λ z. f z + sum_by f ys) (some_inj y x e)
-sum-from f (y ∷ ys) (suc i) x e = sum-from f ys i x e
-
-pub sum-at : {X : Type 0} (f : X → ℕ) (xs : List X) (i : ℕ) (x : X) → slice_get xs i ≡ Some x → sum_by f (drop i xs) ≡ f x + sum_by f (drop (i + 1) xs)
-sum-at f xs i x e = let next : suc i ≡ i + 1 = omega arith in sum-from f xs i x e ∙ ap (λ n. f x + sum_by f (drop n xs)) next
-
--- the same over what each branch has
+-- the sum of what each branch has that is left from a place on, and from the next
 parts-from : {X : Type 0} (f : X → ℕ) (xss : List (List X)) (i : ℕ) (xs : List X) → slice_get xss i ≡ Some xs → sum_by f (flat_map (λ ys. ys) (drop i xss)) ≡ sum_by f xs + sum_by f (flat_map (λ ys. ys) (drop (suc i) xss))
 parts-from f [] i xs e = absurd cc
 parts-from f (ys ∷ yss) zero xs e = sum_by-append f ys (flat_map (λ zs. zs) yss) ∙ ap (λ zs. sum_by f zs + sum_by f (flat_map (λ us. us) yss)) (some_inj ys xs e)

@@ -1,7 +1,7 @@
 use Rattle.std.proofs.Common.{◌≡◌, ◌+◌, drop, sum_by}
 use Rattle.std.specs.List.{flat_map}
 use Rattle.mq_core.specs.Handling.{demand_of_job}
-use Rattle.mq_stats.proofs.services.sum_of_branches.Given as goal
+use Rattle.mq_core.proofs.demands.demand_of_branches.Given as goal
 
 -- the sum so far and what is left are all
 abbrev pub invariant-loop-at : goal.invariant-loop-at

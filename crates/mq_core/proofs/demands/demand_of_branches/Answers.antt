@@ -3,8 +3,8 @@ use Rattle.std.specs.List.{flat_map}
 use Rattle.std.proofs.lemmas.List.{drop_all}
 use Rattle.mq_core.proofs.ForkSums.{told-at}
 use Rattle.mq_core.specs.Handling.{demand_of_job}
-use Rattle.mq_stats.proofs.Sums.{sum-part, sum-most}
-use Rattle.mq_stats.proofs.services.sum_of_branches.Goals as goal
+use Rattle.mq_core.proofs.Sums.{sum-part, sum-most}
+use Rattle.mq_core.proofs.demands.demand_of_branches.Goals as goal
 
 pub sum_of-sum-requires : goal.sum_of-sum-requires
 sum_of-sum-requires c = told-at c.args.rows.now c.args.branches.now c.args.job c.loop-at.at _ c.get.ensures c.requires
