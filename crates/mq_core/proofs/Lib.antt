@@ -70,6 +70,7 @@ pub mod ColumnMerges
 pub mod ColumnOrder
 pub mod ColumnJobs
 pub mod ColumnTimes
+pub mod BareTimes
 pub mod ColumnFew
 pub mod NumberRuns
 pub mod Reordered

@@ -1,10 +1,10 @@
-use Rattle.std.specs.Prelude.{◌≡◌, ◌<◌, ◌≤◌, ⊤, ℕ, false, List, ◌++◌, length, map, slice_get, Some}
+use Rattle.std.specs.Prelude.{◌≡◌, ◌<◌, ◌≤◌, ⊤, ℕ, ◌+◌, false, List, ◌++◌, length, map, slice_get, Some}
 use Rattle.std.specs.List.{AllByRecursion, zip, flat_map}
 use Rattle.mq_core.specs.Columns.{IsStream, by_first, column_fates, column_visits, column_stream, pairs_of, rows_at, stream_in_order}
 use Rattle.mq_core.specs.Laws.{Rises}
 use Rattle.mq_core.specs.Local.{Local}
 use Rattle.mq_core.specs.Machine.{Visit, Station, State}
-use Rattle.mq_core.specs.Results.{visits_of, stream_from}
+use Rattle.mq_core.specs.Results.{bare_time, visits_of, stream_from}
 use Rattle.mq_core.specs.Served.{flow_of, in_leaving_order}
 use Rattle.mq_core.specs.StandardTable.{run_of}
 use Rattle.mq_core.specs.Theorems.{IsReadFor}
@@ -111,6 +111,14 @@ abbrev pub DepartsInTime : Type 0
 DepartsInTime =
     (plan : Plan) (rows : Rows) → IsReadFor plan.net rows → (v : ℕ) (node : Node) → slice_get plan.net.nodes v ≡ Some node →
     IsInTime (visits_of node.kind ((run_of plan rows).stations v))
+
+-- each visit that isn't lost stays at least the bare time of its job, so that no wait is cut off at 0
+abbrev pub VisitsStayBareTime : Type 0
+VisitsStayBareTime =
+    (plan : Plan) (rows : Rows) → IsReadFor plan.net rows → (v : ℕ) (node : Node) → slice_get plan.net.nodes v ≡ Some node →
+    let visits = visits_of node.kind ((run_of plan rows).stations v) in
+    (position job arrive time : ℕ) → slice_get visits.job position ≡ Some job → slice_get visits.arrive position ≡ Some arrive →
+    slice_get visits.fate position ≡ Some (Departs time) → arrive + bare_time rows node.kind job ≤ time
 
 -- a job visits a node at most once
 abbrev pub VisitsAreFew : Type 0
