@@ -5,6 +5,7 @@ use Rattle.std.proofs.lemmas.List.Sums.{sum_by-cons}
 use Rattle.std.proofs.lemmas.Simd.{map-map}
 use Rattle.std.specs.Prelude.{slice_get, max, sum_by}
 use Rattle.std.specs.List.{AllByRecursion as Each, zip}
+use Rattle.mq_base.proofs.Lists.{some_inj}
 use Rattle.mq_core.specs.ColumnLaws.{LeavesFrom, VisitsStayBareTime, jobs_of, arrives_of}
 use Rattle.mq_core.specs.Columns.{column_fates}
 use Rattle.mq_core.specs.Recurrences.{lindley, delayed, is_admitted, loss_fates, time_or_none, in_series, later_of, fork_departs, room_in, stage_departs, each_before, rest, last_time, tandem_departs}
@@ -24,7 +25,6 @@ use Rattle.mq_core.specs.declared.model.Visits.{Visits}
 use Rattle.mq_core.proofs.ColumnsEqual.{nodes-are-columns}
 use Rattle.mq_core.proofs.ForkTimes.{AtLeast, at_least-refl, at_least-length, in_series-at_least, demands-long, fates-at_least}
 use Rattle.mq_core.proofs.NumberLists.{greatest-cons}
-use Rattle.mq_core.proofs.Pending.{some_inj}
 
 -- one departure a job, and none before it came and stayed its bare time
 abbrev Stay : (ℕ → ℕ) → List ℕ → List ℕ → List ℕ → Type 0

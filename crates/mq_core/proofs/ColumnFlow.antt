@@ -1,5 +1,6 @@
 use Rattle.std.proofs.Common.{◌≡◌, inl, ℕ, zero, suc, ◌+◌, false, cond, eqb, List, [], ◌∷◌, Some, sym, refl, ap, ◌∙◌, subst, arith, eq-eqb}
 use Rattle.std.specs.Prelude.{slice_get}
+use Rattle.mq_base.proofs.Lists.{some_inj}
 use Rattle.mq_core.specs.ColumnLaws.{NodesFlow}
 use Rattle.mq_core.specs.Machine.{Visit, Emission}
 use Rattle.mq_core.specs.Served.{flow_of}
@@ -17,7 +18,6 @@ use Rattle.mq_core.proofs.Ends.{end-fact}
 use Rattle.mq_core.proofs.Facts.{node_fact}
 use Rattle.mq_core.proofs.Flows.{kind-flow}
 use Rattle.mq_core.proofs.LossColumns.{faring-leaves}
-use Rattle.mq_core.proofs.Pending.{some_inj}
 use Rattle.mq_core.proofs.Unlost.{Departing}
 
 pub nodes-flow : NodesFlow

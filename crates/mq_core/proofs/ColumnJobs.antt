@@ -1,6 +1,7 @@
 use Rattle.std.proofs.Common.{◌≡◌, ℕ, zero, suc, ◌+◌, ◌*◌, ◌<◌, ◌≤◌, Bool, true, false, eqb, List, [], ◌∷◌, ◌++◌, length, Option, Some, None, sym, refl, subst, arith}
 use Rattle.std.specs.Prelude.{slice_get}
 use Rattle.std.specs.List.{AllByRecursion as Each}
+use Rattle.mq_base.proofs.Lists.{some_inj}
 use Rattle.mq_core.specs.ColumnLaws.{JobsAreRows}
 use Rattle.mq_core.specs.Event.{Event, time_of, node_of, earliest}
 use Rattle.mq_core.specs.Event.Event.{Arrive, Finish}
@@ -8,7 +9,7 @@ use Rattle.mq_core.specs.Machine.{Visit, Emission, Release, Service, Table, Stat
 use Rattle.mq_core.specs.Run.{starts, starts_from}
 use Rattle.mq_core.specs.StandardTable.{standard, run_of}
 use Rattle.mq_core.proofs.Each.{Each-append, Each-front, Each-back, Each-any, Each-map, Each-flat_map}
-use Rattle.mq_core.proofs.Pending.{earliest-splits, some_inj}
+use Rattle.mq_core.proofs.Pending.{earliest-splits}
 use Rattle.mq_core.proofs.Steps.{after-some, after-none, after-zero, station-other, station-own}
 
 -- an arrival of a job below n

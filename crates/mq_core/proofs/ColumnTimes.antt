@@ -2,6 +2,7 @@ use Rattle.std.proofs.Common.{◌≡◌, ℕ, zero, suc, ◌+◌, ◌≤◌, Boo
 use Rattle.std.proofs.lemmas.List.{length-map}
 use Rattle.std.specs.Prelude.{slice_get, max}
 use Rattle.std.specs.List.{AllByRecursion as Each, zip}
+use Rattle.mq_base.proofs.Lists.{some_inj}
 use Rattle.mq_core.specs.ColumnLaws.{DepartsInTime, FatesAreInTime, FatesInTime, LeavesFrom, jobs_of, arrives_of}
 use Rattle.mq_core.specs.Columns.{column_fates}
 use Rattle.mq_core.specs.Recurrences.{lindley, delayed, is_admitted, loss_fates, time_or_none}
@@ -15,7 +16,6 @@ use Rattle.mq_core.specs.declared.model.Kind.TheVariants.{Source, Server, Delay,
 use Rattle.mq_core.specs.declared.model.Visits.{Visits}
 use Rattle.mq_core.proofs.ForkTimes.{fates-at_least, when-joined}
 use Rattle.mq_core.proofs.ColumnsEqual.{nodes-are-columns}
-use Rattle.mq_core.proofs.Pending.{some_inj}
 use Rattle.mq_core.proofs.TandemColumns.{tandem_times-late}
 use Rattle.mq_core.specs.Served.{tandem_times}
 

@@ -2,6 +2,7 @@
 use Rattle.std.proofs.Common.{◌≡◌, ℕ, zero, suc, ◌+◌, ◌-◌, ◌<◌, List, [], ◌∷◌, length, map, sym, refl, ap, ◌∙◌, arith, max}
 use Rattle.std.proofs.lemmas.List.{append-nil, length-map}
 use Rattle.std.specs.Prelude.{filter}
+use Rattle.mq_base.proofs.Lists.{some_inj}
 use Rattle.mq_core.specs.Event.{Event}
 use Rattle.mq_core.specs.Handling.{demand_of_job}
 use Rattle.mq_core.specs.Local.{Branch}
@@ -11,7 +12,6 @@ use Rattle.mq_core.specs.Recurrences.{lindley, in_series, later_of, fork_departs
 use Rattle.mq_core.specs.Served.{served, passed_from, leaving_from, branch_demands, joined_from}
 use Rattle.mq_core.specs.declared.model.Demand.{Demand}
 use Rattle.mq_core.specs.declared.model.Rows.{Rows}
-use Rattle.mq_core.proofs.Pending.{some_inj}
 use Rattle.mq_core.proofs.ForkServers.{Series, is_at_server, departing}
 use Rattle.mq_core.proofs.ForkBranches.{Branching, Alike, joined, later_visits, joined-alike}
 use Rattle.mq_core.proofs.ForkTimes.{in_series-at_least, later-self, demands-long}

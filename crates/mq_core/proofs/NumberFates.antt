@@ -1,6 +1,7 @@
 use Rattle.std.proofs.Common.{◌≡◌, ℕ, suc, ◌+◌, ◌<◌, ◌≤◌, List, [], ◌∷◌, ◌++◌, length, Option, Some, None, refl, ap, ◌∙◌, arith, max, fold, sum, slice_get}
 use Rattle.std.specs.Prelude.{IsSome}
 use Rattle.std.specs.Option.{option_map, option_to_list}
+use Rattle.mq_base.proofs.Lists.{sum-cons}
 use Rattle.mq_core.specs.Machine.{Visit, Emission}
 use Rattle.mq_core.specs.Fates.{fate_by, fate_of}
 use Rattle.mq_core.specs.Results.{fates_from}
@@ -13,7 +14,7 @@ use Rattle.mq_core.specs.declared.model.Node.{Node}
 use Rattle.mq_core.specs.declared.model.Plan.{Plan}
 use Rattle.mq_core.specs.declared.model.Rows.{Rows}
 use Rattle.mq_core.proofs.Ends.{run-ended}
-use Rattle.mq_core.proofs.NumberLists.{sum-cons, greatest-cons, sum_below-first, greatest_below-first}
+use Rattle.mq_core.proofs.NumberLists.{greatest-cons, sum_below-first, greatest_below-first}
 
 -- each position, one for each visit and the first at this one, was let out
 abbrev pub LetOut : List Emission → ℕ → List Visit → Type 0

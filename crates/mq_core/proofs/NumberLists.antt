@@ -1,10 +1,6 @@
-use Rattle.std.proofs.Common.{◌≡◌, ℕ, zero, suc, ◌+◌, ◌≤◌, List, [], ◌∷◌, Some, arith, max, fold, sum, slice_get}
-use Rattle.std.proofs.lemmas.List.Sums.{sum_by-cons}
+use Rattle.std.proofs.Common.{◌≡◌, ℕ, zero, suc, ◌+◌, ◌≤◌, List, [], ◌∷◌, Some, arith, max, fold, slice_get}
 use Rattle.std.specs.List.{AllByRecursion as Each}
 use Rattle.mq_core.specs.Tallies.{sum_below, greatest_below}
-
-pub sum-cons : (x : ℕ) (xs : List ℕ) → sum (x ∷ xs) ≡ x + sum xs
-sum-cons x xs = sum_by-cons (λ y. y) x xs
 
 pub greatest-from : (a : ℕ) (xs : List ℕ) → fold max a xs ≡ max a (fold max 0 xs)
 greatest-from a [] = omega arith

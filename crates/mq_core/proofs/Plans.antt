@@ -6,6 +6,7 @@ use Rattle.std.proofs.lemmas.Option.{slice_get-get_or}
 use Rattle.std.specs.Prelude.{◌&&◌, not, nat_lt, nat_le, slice_get, slice_index}
 use Rattle.std.specs.Option.{option_to_list}
 use Rattle.std.specs.List.{AllByRecursion as Each, list_all, flat_map}
+use Rattle.mq_base.proofs.Lists.{some_inj}
 use Rattle.mq_core.specs.Asked.{HasValue, HasDemand, HasDemands}
 use Rattle.mq_core.specs.Names.{is_name}
 use Rattle.mq_core.specs.PlanLaws.{NamesOutput, NodesAreInLimits, IsRankedBehind, OrdersRank, RowsTellDemands}
@@ -24,7 +25,6 @@ use Rattle.mq_core.specs.declared.model.Node.{Node}
 use Rattle.mq_core.specs.declared.model.Route.TheVariants.{Modulo, Turn, Cut}
 use Rattle.mq_core.specs.declared.model.Rows.{Rows}
 use Rattle.mq_core.specs.declared.model.Stage.{Stage}
-use Rattle.mq_core.proofs.Pending.{some_inj}
 use Rattle.mq_core.proofs.Each.{Each-weaker, Each-append, Each-map}
 use Rattle.mq_core.proofs.Soundness.{sound-node, sound-stages, sound-stages_demands}
 use Rattle.mq_core.proofs.Shapes.{all-servers, branches-shaped}

@@ -4,6 +4,7 @@ use Rattle.std.proofs.lemmas.Bool.Decides.{nat_tests}
 use Rattle.std.proofs.lemmas.List.Folds.{list_any-append}
 use Rattle.std.specs.Prelude.{◌≤◌, ◌&&◌, ◌||◌, ◌==◌, nat_le, not, map, slice_get, IsTrue}
 use Rattle.std.specs.List.{AllByRecursion as Each, flat_map, list_all, list_any}
+use Rattle.mq_base.proofs.Lists.{some_inj}
 use Rattle.mq_core.specs.Names.{is_name}
 use Rattle.mq_core.specs.Sound.{are_sound_stages, is_sound, is_sound_count, is_sound_demand, is_sound_node, is_sound_stage, is_within, is_output, are_distinct, same_input, mentions_from, columns_of_kind}
 use Rattle.mq_core.specs.Wiring.{inputs_of, is_source, is_source_kind, outputs_read, IsReadOnce, SourcesReadNothing}
@@ -13,7 +14,6 @@ use Rattle.mq_core.specs.declared.model.Kind.TheVariants.{Source, Server, Delay,
 use Rattle.mq_core.specs.declared.model.Network.{Network}
 use Rattle.mq_core.specs.declared.model.Node.{Node}
 use Rattle.mq_core.specs.declared.model.Stage.{Stage}
-use Rattle.mq_core.proofs.Pending.{some_inj}
 
 abbrev pair_of : Input → ℕ × ℕ
 pair_of i = (i.node, i.out)

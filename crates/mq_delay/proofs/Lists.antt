@@ -1,17 +1,12 @@
 -- Lists by place, and what a loop has made of them so far.
-use Rattle.std.proofs.Common.{◌≡◌, ℕ, zero, suc, ◌+◌, ◌<◌, ◌≤◌, ◌^◌, List, [], ◌∷◌, ◌++◌, length, drop, Some, sym, refl, ap, ◌∙◌, arith, append_assoc, subst}
+use Rattle.std.proofs.Common.{◌≡◌, ℕ, suc, ◌+◌, ◌<◌, ◌≤◌, ◌^◌, List, [], ◌∷◌, ◌++◌, length, drop, Some, sym, refl, ap, ◌∙◌, arith, append_assoc, subst}
 use Rattle.std.specs.Prelude.{slice_get}
 use Rattle.std.proofs.lemmas.List.{append-nil, drop_all}
 use Rattle.std.proofs.lemmas.List.Elements.{All-get_or}
 use Rattle.std.proofs.lemmas.Option.{slice_get_within, get_or_from_slice_get}
-use Rattle.mq_core.proofs.Pending.{some_inj}
+use Rattle.mq_base.proofs.Lists.{drop_suc}
 use Rattle.mq_core.specs.Columns.{IsSoundLoad}
 use Rattle.mq_core.specs.Recurrences.{delayed}
-
-pub drop_at : {X : Type 0} (xs : List X) (i : ℕ) (x : X) → slice_get xs i ≡ Some x → drop i xs ≡ x ∷ drop (suc i) xs
-drop_at [] i x h = absurd cc
-drop_at (y ∷ ys) zero x h = ap (λ z. z ∷ ys) (some_inj y x h)
-drop_at (y ∷ ys) (suc i) x h = drop_at ys i x h
 
 -- the departures so far with those of what is left, one job further
 pub delayed-next : (done done' all times demands : List ℕ) (i time demand : ℕ) → slice_get times i ≡ Some time → slice_get demands i ≡ Some demand → done' ≡ done ++ (time + demand) ∷ [] →
@@ -21,7 +16,7 @@ delayed-next done done' all times demands i time demand t d p h =
     ap (λ xs. xs ++ delayed (drop (i + 1) times) (drop (i + 1) demands)) p
     ∙ (append_assoc done _ _
     ∙ (ap (λ n. done ++ (time + demand) ∷ delayed (drop n times) (drop n demands)) next
-    ∙ (sym (λ k. done ++ delayed (drop_at times i time t k) (drop_at demands i demand d k)) ∙ h)))
+    ∙ (sym (λ k. done ++ delayed (drop_suc times i time t k) (drop_suc demands i demand d k)) ∙ h)))
 
 -- at the end nothing is left
 pub delayed-all : (done all times demands : List ℕ) (i : ℕ) → length times ≤ i → done ++ delayed (drop i times) (drop i demands) ≡ all → done ≡ all

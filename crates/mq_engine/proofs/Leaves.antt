@@ -4,6 +4,7 @@ use Rattle.std.specs.Prelude.{IsTrue, nat_lt, slice_get}
 use Rattle.std.specs.List.{AllByRecursion as Each, zip}
 use Rattle.std.proofs.lemmas.Bool.Decides.{nat_tests}
 use Rattle.std.proofs.lemmas.List.{length-map}
+use Rattle.mq_base.proofs.Lists.{drop_suc}
 use Rattle.mq_core.specs.Columns.{IsSoundLoad, IsStream, column_fates, column_late_from, column_outs, column_stream, by_first, leaving_times, pairs_of, picked, routes_from, stream_in_order, time_of_fate}
 use Rattle.mq_core.specs.Recurrences.{lindley, delayed}
 use Rattle.mq_core.specs.Results.{Late, first_of, late_fate}
@@ -21,7 +22,7 @@ use Rattle.mq_core.specs.declared.model.Rows.{Rows}
 use Rattle.mq_core.specs.declared.model.Stream.{Stream}
 use Rattle.mq_split.specs.Outs.{AreParts, outs_from}
 use Rattle.mq_engine.specs.Turns.{AreStreams, IsLeaving, IsLoad, LeaveInTurn}
-use Rattle.mq_engine.proofs.Lists.{drop_at, Each-get_or}
+use Rattle.mq_engine.proofs.Lists.{Each-get_or}
 
 -- a departure of each time is at that time
 times-back : (arrives times : List ℕ) → length times ≡ length arrives → leaving_times arrives (map (λ time. Departs time) times) ≡ times
@@ -108,12 +109,12 @@ late-next bound node position fate fates first e q h =
     let next : suc position ≡ position + 1 = omega arith in
     ap (λ n. first_of (column_late_from bound node n (drop n fates))) (sym next)
     ∙ (ap (λ (l : List Late). first_of (l ++ column_late_from bound node (suc position) (drop (suc position) fates))) (sym q)
-    ∙ (ap (λ l. first_of (column_late_from bound node position l)) (sym (drop_at fates position fate e)) ∙ h))
+    ∙ (ap (λ l. first_of (column_late_from bound node position l)) (sym (drop_suc fates position fate e)) ∙ h))
 
 pub late-here : (bound node position time : ℕ) (fates : List Fate) (first : Option Late) → slice_get fates position ≡ Some (Departs time) → bound < time → first_of (column_late_from bound node position (drop position fates)) ≡ first →
     first ≡ Some (record { node = node; position = position; time = time })
 late-here bound node position time fates first e l h =
-    sym h ∙ (ap (λ l. first_of (column_late_from bound node position l)) (drop_at fates position (Departs time) e) ∙ here)
+    sym h ∙ (ap (λ l. first_of (column_late_from bound node position l)) (drop_suc fates position (Departs time) e) ∙ here)
   where
     here : first_of (column_late_from bound node position (Departs time ∷ drop (suc position) fates)) ≡ Some (record { node = node; position = position; time = time })
     here = let t : nat_lt bound time ≡ true = grind (arith, nat_tests) in ap (λ (b : Bool). first_of (cond b (record { node = node; position = position; time = time } ∷ []) [] ++ column_late_from bound node (suc position) (drop (suc position) fates))) t

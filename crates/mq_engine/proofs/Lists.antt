@@ -5,19 +5,14 @@ use Rattle.std.proofs.lemmas.List.Sums.{sum_by-cons}
 use Rattle.std.specs.List.{AllByRecursion as Each, flat_map, zip}
 use Rattle.std.proofs.lemmas.Bool.Decides.{nat_tests}
 use Rattle.std.proofs.lemmas.List.{append-nil}
-use Rattle.mq_core.proofs.Pending.{some_inj}
+use Rattle.mq_base.proofs.Lists.{drop_suc, some_inj, take-all}
 use Rattle.mq_core.specs.Wiring.{has}
-
-pub drop_at : {X : Type 0} (xs : List X) (i : ℕ) (x : X) → slice_get xs i ≡ Some x → drop i xs ≡ x ∷ drop (suc i) xs
-drop_at [] i x h = absurd cc
-drop_at (y ∷ ys) zero x h = ap (λ z. z ∷ ys) (some_inj y x h)
-drop_at (y ∷ ys) (suc i) x h = drop_at ys i x h
 
 -- those that pass a test, of what is left from a place on
 pub count-at : {X : Type 0} (p : X → Bool) (xs : List X) (i : ℕ) (x : X) → slice_get xs i ≡ Some x → count_by p (drop i xs) ≡ cond (p x) 1 0 + count_by p (drop (i + 1) xs)
 count-at p xs i x h =
     let next : suc i ≡ i + 1 = omega arith in
-    ap (count_by p) (drop_at xs i x h) ∙ (sum_by-cons (λ y. cond (p y) 1 0) x (drop (suc i) xs) ∙ ap (λ n. cond (p x) 1 0 + count_by p (drop n xs)) next)
+    ap (count_by p) (drop_suc xs i x h) ∙ (sum_by-cons (λ y. cond (p y) 1 0) x (drop (suc i) xs) ∙ ap (λ n. cond (p x) 1 0 + count_by p (drop n xs)) next)
 
 -- one item more, of what a map has made so far
 map-next : {X Y : Type 0} (f : X → Y) (xs : List X) (i : ℕ) (x : X) → slice_get xs i ≡ Some x → map f (take (suc i) xs) ≡ map f (take i xs) ++ f x ∷ []
@@ -29,15 +24,6 @@ pub map-more : {X Y : Type 0} (f : X → Y) (xs : List X) (i : ℕ) (x : X) (don
 map-more f xs i x done done' h p k =
     let next : suc i ≡ i + 1 = omega arith in
     p ∙ (ap (λ l. l ++ f x ∷ []) k ∙ (sym (map-next f xs i x h) ∙ ap (λ n. map f (take n xs)) next))
-
-pub take-all : {X : Type 0} (xs : List X) (i : ℕ) → length xs ≤ i → take i xs ≡ xs
-take-all [] zero h = refl
-take-all [] (suc i) h = refl
-take-all (x ∷ xs) zero h = absurd (omega arith)
-take-all (x ∷ xs) (suc i) h = ap (λ l. x ∷ l) (take-all xs i (omega arith))
-
-pub map-all : {X Y : Type 0} (f : X → Y) (xs : List X) (i : ℕ) (done : List Y) → length xs ≤ i → done ≡ map f (take i xs) → done ≡ map f xs
-map-all f xs i done h k = k ∙ ap (map f) (take-all xs i h)
 
 flat_map-next : {X Y : Type 0} (f : X → List Y) (xs : List X) (i : ℕ) (x : X) → slice_get xs i ≡ Some x → flat_map f (take (suc i) xs) ≡ flat_map f (take i xs) ++ f x
 flat_map-next f [] i x h = absurd cc
@@ -118,7 +104,7 @@ zip-more ts js i t j done done' all a b p h =
     let next : suc i ≡ i + 1 = omega arith in
     ap (λ l. l ++ zip (drop (i + 1) ts) (drop (i + 1) js)) p
     ∙ (append_assoc done _ _
-    ∙ (ap (λ n. done ++ (t, j) ∷ zip (drop n ts) (drop n js)) (sym next) ∙ (ap (λ l. done ++ l) (sym (λ k. zip (drop_at ts i t a k) (drop_at js i j b k))) ∙ h)))
+    ∙ (ap (λ n. done ++ (t, j) ∷ zip (drop n ts) (drop n js)) (sym next) ∙ (ap (λ l. done ++ l) (sym (λ k. zip (drop_suc ts i t a k) (drop_suc js i j b k))) ∙ h)))
 
 -- both lists of a zip, where they are as long
 pub zip-first : (ts js : List ℕ) → length js ≡ length ts → map (λ (p : ℕ × ℕ). p.0) (zip ts js) ≡ ts

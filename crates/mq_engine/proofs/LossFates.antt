@@ -4,6 +4,7 @@ use Rattle.std.specs.Prelude.{IsTrue, nat_le, slice_get}
 use Rattle.std.proofs.lemmas.Bool.{and_parts}
 use Rattle.std.proofs.lemmas.Bool.Decides.{nat_tests}
 use Rattle.std.proofs.lemmas.List.{append-nil, drop_all, length-map}
+use Rattle.mq_base.proofs.Lists.{drop_suc}
 use Rattle.mq_core.specs.ColumnLaws.{FatesAreInTime}
 use Rattle.mq_core.specs.Columns.{column_fates, column_stream, leaving_times, out_of_fate, picked}
 use Rattle.mq_core.specs.Handling.{demand_of_job}
@@ -20,7 +21,6 @@ use Rattle.mq_loss.specs.Rounds.{IsSettled, admits, departures_in}
 use Rattle.mq_loss.specs.declared.answer.Settled.{Settled}
 use Rattle.mq_engine.specs.Losses.{AreAdmittedAndLost, fates_by, out_of_admission}
 use Rattle.mq_engine.specs.Turns.{IsLeaving}
-use Rattle.mq_engine.proofs.Lists.{drop_at}
 
 -- one arrival further: one that is admitted takes the next departure
 pub fates-yes : (done done' all : List Fate) (admitted : List Bool) (departs : List ℕ) (at next time : ℕ) → slice_get admitted at ≡ Some true → slice_get departs next ≡ Some time → done' ≡ done ++ Departs time ∷ [] →
@@ -30,7 +30,7 @@ fates-yes done done' all admitted departs at next time a d p h =
     let two : next + 1 ≡ suc next = omega arith in
     (λ k. p k ++ fates_by (drop (one k) admitted) (drop (two k) departs))
     ∙ (append_assoc done (Departs time ∷ []) _
-    ∙ (sym (λ k. done ++ fates_by (drop_at admitted at true a k) (drop_at departs next time d k)) ∙ h))
+    ∙ (sym (λ k. done ++ fates_by (drop_suc admitted at true a k) (drop_suc departs next time d k)) ∙ h))
 
 -- one that isn't is lost
 pub fates-no : (done done' all : List Fate) (admitted : List Bool) (departs : List ℕ) (at next : ℕ) → slice_get admitted at ≡ Some false → done' ≡ done ++ Lost ∷ [] →
@@ -39,7 +39,7 @@ fates-no done done' all admitted departs at next a p h =
     let one : at + 1 ≡ suc at = omega arith in
     (λ k. p k ++ fates_by (drop (one k) admitted) (drop next departs))
     ∙ (append_assoc done (Lost ∷ []) _
-    ∙ (sym (λ k. done ++ fates_by (drop_at admitted at false a k) (drop next departs)) ∙ h))
+    ∙ (sym (λ k. done ++ fates_by (drop_suc admitted at false a k) (drop next departs)) ∙ h))
 
 -- and so is one for which there is no departure
 pub fates-none : (done done' all : List Fate) (admitted : List Bool) (departs : List ℕ) (at next : ℕ) (answer : Bool) → slice_get admitted at ≡ Some answer → length departs ≤ next → done' ≡ done ++ Lost ∷ [] →
@@ -50,7 +50,7 @@ fates-none done done' all admitted departs at next true a l p h =
     let none : drop next departs ≡ [] = drop_all next departs l in
     (λ k. p k ++ fates_by (drop (one k) admitted) (none k))
     ∙ (append_assoc done (Lost ∷ []) _
-    ∙ (sym (λ k. done ++ fates_by (drop_at admitted at true a k) (none k)) ∙ h))
+    ∙ (sym (λ k. done ++ fates_by (drop_suc admitted at true a k) (none k)) ∙ h))
 
 pub fates-end : (done all : List Fate) (admitted : List Bool) (departs : List ℕ) (at next : ℕ) → length admitted ≤ at → done ++ fates_by (drop at admitted) (drop next departs) ≡ all → done ≡ all
 fates-end done all admitted departs at next l h = sym (append-nil done) ∙ (ap (λ xs. done ++ fates_by xs (drop next departs)) (sym (drop_all at admitted l)) ∙ h)
@@ -71,13 +71,13 @@ left which admitted items at = picked (out_of_admission which) (map out_of_admis
 left-here : (which : Bool) (admitted : List Bool) (items : List ℕ) (at item : ℕ) → slice_get admitted at ≡ Some which → slice_get items at ≡ Some item → left which admitted items at ≡ item ∷ left which admitted items (at + 1)
 left-here which admitted items at item a i =
     let one : suc at ≡ at + 1 = omega arith in
-    (λ k. picked (out_of_admission which) (map out_of_admission (drop_at admitted at which a k)) (drop_at items at item i k))
+    (λ k. picked (out_of_admission which) (map out_of_admission (drop_suc admitted at which a k)) (drop_suc items at item i k))
     ∙ (here which item (map out_of_admission (drop (suc at) admitted)) (drop (suc at) items) ∙ ap (λ n. item ∷ left which admitted items n) one)
 
 left-elsewhere : (which : Bool) (admitted : List Bool) (items : List ℕ) (at : ℕ) → slice_get admitted at ≡ Some which → at < length items → left (not which) admitted items at ≡ left (not which) admitted items (at + 1)
 left-elsewhere which admitted items at a i =
     let one : suc at ≡ at + 1 = omega arith in
-    (λ k. picked (out_of_admission (not which)) (map out_of_admission (drop_at admitted at which a k)) (drop-cons items at 0 i k))
+    (λ k. picked (out_of_admission (not which)) (map out_of_admission (drop_suc admitted at which a k)) (drop-cons items at 0 i k))
     ∙ (elsewhere which (get_or items at 0) (map out_of_admission (drop (suc at) admitted)) (drop (suc at) items) ∙ ap (λ n. left (not which) admitted items n) one)
 
 -- one arrival further, for the output by which it leaves and for the other

@@ -1,3 +1,2 @@
 mod Recurrence
-mod Lists
 mod Forking

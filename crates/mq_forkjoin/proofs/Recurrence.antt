@@ -6,9 +6,9 @@ use Rattle.std.proofs.lemmas.Bool.Decides.{nat_tests}
 use Rattle.std.proofs.lemmas.Option.{slice_get_within, get_or_from_slice_get}
 use Rattle.std.proofs.lemmas.List.{append-nil, drop_all}
 use Rattle.std.proofs.lemmas.List.Elements.{All-get_or, All-nil, All-cons, All-head, All-tail, All-weaker}
+use Rattle.mq_base.proofs.Lists.{drop_at}
 use Rattle.mq_core.specs.Columns.{IsSoundLoad}
 use Rattle.mq_core.specs.Recurrences.{lindley, in_series}
-use Rattle.mq_forkjoin.proofs.Lists.{drop_at}
 
 -- what the code's `max` gives
 pub ord_max-max : (last time : ℕ) → ord_max nat_cmp last time ≡ max time last

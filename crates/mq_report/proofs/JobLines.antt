@@ -1,6 +1,7 @@
 -- The job lines of a report, in loops over ranks and positions, and from the columns of a run.
 use Rattle.std.proofs.Common.{◌≡◌, ℕ, ◌+◌, List, [], ◌∷◌, ◌++◌, map, drop, Some, refl, ap, ◌∙◌, sym}
 use Rattle.std.specs.Prelude.{slice_get}
+use Rattle.mq_base.proofs.Lists.{drop_at}
 use Rattle.mq_core.specs.Columns.{column_wait}
 use Rattle.mq_core.specs.Local.{Local}
 use Rattle.mq_core.specs.Machine.{State, Station, Visit}
@@ -13,7 +14,6 @@ use Rattle.mq_core.specs.declared.model.Node.{Node}
 use Rattle.mq_core.specs.declared.model.Rows.{Rows}
 use Rattle.mq_core.specs.declared.model.Visits.{Visits}
 use Rattle.mq_report.specs.Text.{visit_line, visit_lines, column_lines, node_jobs, jobs_at, jobs_text}
-use Rattle.mq_report.proofs.Loops.{drop_at}
 
 -- the node of the next rank
 pub jobs-next : (net : Network) (rows : Rows) (end : State Local) (order : List ℕ) (rank v : ℕ) (node : Node) → slice_get order rank ≡ Some v → slice_get net.nodes v ≡ Some node →

@@ -2,6 +2,7 @@
 use Rattle.std.proofs.Common.{◌≡◌, ℕ, suc, ◌+◌, ◌-◌, ◌<◌, ◌≤◌, List, [], ◌∷◌, ◌++◌, drop, Some, ap, ◌∙◌, arith, drop-cons}
 use Rattle.std.specs.Prelude.{slice_get}
 use Rattle.std.proofs.lemmas.Option.{slice_get_within, get_or_from_slice_get}
+use Rattle.mq_base.proofs.Lists.{drop_at}
 use Rattle.mq_core.specs.Local.{Local}
 use Rattle.mq_core.specs.Machine.{State, Station}
 use Rattle.mq_core.specs.Sound.{outputs_in}
@@ -9,13 +10,6 @@ use Rattle.mq_core.specs.declared.model.Network.{Network}
 use Rattle.mq_core.specs.declared.model.Node.{Node}
 use Rattle.mq_core.specs.declared.model.Rows.{Rows}
 use Rattle.mq_report.specs.Text.{line_of, line_at, nodes_text, exit_lines, exit_lines_at, exits_at, exits_text}
-
--- what is left from a place on begins with the item there
-pub drop_at : {X : Type 0} (xs : List X) (i : ℕ) (x : X) → slice_get xs i ≡ Some x → drop i xs ≡ x ∷ drop (i + 1) xs
-drop_at xs i x h =
-    let within = slice_get_within xs i x h in
-    let next : suc i ≡ i + 1 = omega arith in
-    drop-cons xs i x within ∙ (ap (λ y. y ∷ drop (suc i) xs) (get_or_from_slice_get xs i x x h) ∙ ap (λ n. x ∷ drop n xs) next)
 
 -- the node of the next rank
 pub nodes-next : (net : Network) (rows : Rows) (end : State Local) (order : List ℕ) (rank v : ℕ) (node : Node) → slice_get order rank ≡ Some v → slice_get net.nodes v ≡ Some node →

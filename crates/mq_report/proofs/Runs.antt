@@ -2,6 +2,7 @@
 use Rattle.std.proofs.Common.{◌≡◌, ℕ, ◌<◌, List, Some, sym, ap, ◌∙◌, length}
 use Rattle.std.specs.Prelude.{slice_get}
 use Rattle.std.proofs.lemmas.Option.{slice_get_within}
+use Rattle.mq_base.proofs.Lists.{some_inj}
 use Rattle.mq_core.specs.Columns.{IsRunOf, streams_below}
 use Rattle.mq_core.specs.Results.{visits_of, stream_from}
 use Rattle.mq_core.specs.RunLaws.{RunsHaveColumns, OutputsHaveStreams}
@@ -13,9 +14,6 @@ use Rattle.mq_core.specs.declared.model.Rows.{Rows}
 use Rattle.mq_core.specs.declared.model.Run.{Run}
 use Rattle.mq_core.specs.declared.model.Stream.{Stream}
 use Rattle.mq_core.specs.declared.model.Visits.{Visits}
-
-some_inj : {A : Type 0} (a b : A) → Some a ≡ Some b → a ≡ b
-some_inj a b h = cc
 
 pub visits_inside : RunsHaveColumns → (plan : Plan) (rows : Rows) (run : Run) (v : ℕ) (node : Node) → IsRunOf plan rows run → slice_get plan.net.nodes v ≡ Some node → v < length run.visits
 visits_inside law plan rows run v node is here = slice_get_within run.visits v _ (law plan rows run is v node here).visits

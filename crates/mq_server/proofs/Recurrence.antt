@@ -1,20 +1,14 @@
 -- One step of Lindley's recurrence, and the bound on what it gives.
-use Rattle.std.proofs.Common.{◌≡◌, ℕ, suc, ◌+◌, ◌*◌, ◌^◌, ◌<◌, ◌≤◌, List, [], ◌∷◌, ◌++◌, length, drop, Some, sym, ap, ◌∙◌, arith, drop-cons, append_assoc, max, subst}
+use Rattle.std.proofs.Common.{◌≡◌, ℕ, ◌+◌, ◌*◌, ◌^◌, ◌<◌, ◌≤◌, List, [], ◌∷◌, ◌++◌, length, drop, Some, sym, ap, ◌∙◌, arith, append_assoc, max, subst}
 use Rattle.std.specs.Prelude.{slice_get}
 use Rattle.std.specs.Ordering.{ord_max, nat_cmp}
 use Rattle.std.proofs.lemmas.Bool.Decides.{nat_tests}
 use Rattle.std.proofs.lemmas.Option.{slice_get_within, get_or_from_slice_get}
 use Rattle.std.proofs.lemmas.List.{append-nil, drop_all}
 use Rattle.std.proofs.lemmas.List.Elements.{All-get_or}
+use Rattle.mq_base.proofs.Lists.{drop_at}
 use Rattle.mq_core.specs.Columns.{IsSoundLoad}
 use Rattle.mq_core.specs.Recurrences.{lindley}
-
--- what is left from a place on begins with the item there
-drop_at : (xs : List ℕ) (i x : ℕ) → slice_get xs i ≡ Some x → drop i xs ≡ x ∷ drop (i + 1) xs
-drop_at xs i x h =
-    let within = slice_get_within xs i x h in
-    let next : suc i ≡ i + 1 = omega arith in
-    drop-cons xs i 0 within ∙ (ap (λ y. y ∷ drop (suc i) xs) (get_or_from_slice_get xs i x 0 h) ∙ ap (λ n. x ∷ drop n xs) next)
 
 -- what the code's `max` gives
 ord_max-max : (last time : ℕ) → ord_max nat_cmp last time ≡ max time last

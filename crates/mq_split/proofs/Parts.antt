@@ -1,21 +1,15 @@
 -- One job more, of the outputs and of what is picked.
-use Rattle.std.proofs.Common.{◌≡◌, ℕ, zero, suc, ◌+◌, ◌<◌, ◌≤◌, ◌==◌, true, false, cond, ◌⊎◌, inl, inr, List, [], ◌∷◌, ◌++◌, length, get_or, drop, Some, refl, sym, ap, ◌∙◌, arith, drop-cons, append_assoc}
+use Rattle.std.proofs.Common.{◌≡◌, ℕ, suc, ◌+◌, ◌<◌, ◌≤◌, ◌==◌, true, false, cond, ◌⊎◌, inl, inr, List, [], ◌∷◌, ◌++◌, length, get_or, drop, Some, refl, sym, ap, ◌∙◌, arith, drop-cons, append_assoc}
 use Rattle.std.specs.Prelude.{slice_get, count_by}
 use Rattle.std.proofs.lemmas.List.Sums.{sum_by-cons}
-use Rattle.std.proofs.lemmas.Option.{slice_get_within, get_or_from_slice_get}
 use Rattle.std.proofs.lemmas.Bool.Decides.{nat_tests}
 use Rattle.std.proofs.lemmas.List.{append-nil, drop_all}
 use Rattle.std.proofs.lemmas.Bool.{cases_lt}
+use Rattle.mq_base.proofs.Lists.{drop_at, get-last, get-push}
 use Rattle.mq_core.specs.Columns.{picked}
 use Rattle.mq_core.specs.Standard.{output_at}
 use Rattle.mq_core.specs.declared.model.Route.{Route}
 use Rattle.mq_split.specs.Outs.{outs_from}
-
-drop_at : (xs : List ℕ) (i x : ℕ) → slice_get xs i ≡ Some x → drop i xs ≡ x ∷ drop (i + 1) xs
-drop_at xs i x h =
-    let within = slice_get_within xs i x h in
-    let next : suc i ≡ i + 1 = omega arith in
-    drop-cons xs i 0 within ∙ (ap (λ y. y ∷ drop (suc i) xs) (get_or_from_slice_get xs i x 0 h) ∙ ap (λ n. x ∷ drop n xs) next)
 
 pub length-outs_from : (route : Route) (position : ℕ) (values : List ℕ) → length (outs_from route position values) ≡ length values
 length-outs_from route position [] = refl
@@ -75,15 +69,6 @@ picked-take out i item done done' outs items all a b e p h =
 
 pub picked-all : (out i : ℕ) (done outs items all : List ℕ) → length outs ≤ i → done ++ picked out (drop i outs) (drop i items) ≡ all → done ≡ all
 picked-all out i done outs items all l h = sym (append-nil done) ∙ (ap (λ v. done ++ picked out v (drop i items)) (sym (drop_all i outs l)) ∙ h)
-
-get-push : {X : Type 0} (xs : List X) (x : X) (k : ℕ) → k < length xs → slice_get (xs ++ x ∷ []) k ≡ slice_get xs k
-get-push [] x k l = absurd (omega arith)
-get-push (y ∷ xs) x zero l = refl
-get-push (y ∷ xs) x (suc k) l = get-push xs x k (omega arith)
-
-get-last : {X : Type 0} (xs : List X) (x : X) → slice_get (xs ++ x ∷ []) (length xs) ≡ Some x
-get-last [] x = refl
-get-last (y ∷ xs) x = get-last xs x
 
 -- one stream more
 pub parts-next : {X : Type 0} (xs xs' : List X) (x : X) (part : ℕ → X) (n : ℕ) → length xs ≡ n → xs' ≡ xs ++ x ∷ [] → x ≡ part n → ((k : ℕ) → k < n → slice_get xs k ≡ Some (part k)) → (k : ℕ) → k < n + 1 → slice_get xs' k ≡ Some (part k)

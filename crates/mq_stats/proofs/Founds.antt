@@ -6,6 +6,7 @@ use Rattle.std.proofs.lemmas.Bool.Decides.{nat_tests}
 use Rattle.std.proofs.lemmas.List.{take_more}
 use Rattle.std.proofs.lemmas.List.Sums.{sum_by-append, sum_by-le-sum_by}
 use Rattle.std.proofs.lemmas.Option.{slice_get_within, get_or_from_slice_get}
+use Rattle.mq_base.proofs.Lists.{drop_at}
 use Rattle.mq_core.specs.ColumnLaws.{LeavesFrom}
 use Rattle.mq_core.specs.Columns.{by_first, departs_after, founds_from}
 use Rattle.mq_core.specs.Laws.{Rises}
@@ -13,7 +14,6 @@ use Rattle.mq_core.specs.declared.model.Fate.{Fate}
 use Rattle.mq_core.specs.declared.model.Fate.TheVariants.{Departs, Lost}
 use Rattle.mq_stats.proofs.Counts.{count-cons}
 use Rattle.mq_stats.proofs.Ordered.{as-many}
-use Rattle.mq_stats.proofs.Steps.{drop_at}
 use Rattle.mq_stats.specs.Departures.{departures_from, is_gone, stays}
 
 not-yet : (time at d position : ℕ) → at ≤ position → time ≤ d → is_gone time at (d, position) ≡ false

@@ -1,8 +1,7 @@
 -- One step of a loop over columns, and its end.
-use Rattle.std.proofs.Common.{◌≡◌, ℕ, suc, ◌+◌, ◌⊎◌, inl, inr, List, [], ◌∷◌, length, refl, cond, drop, Some, sym, ap, ◌∙◌, arith, drop-cons, max}
+use Rattle.std.proofs.Common.{◌≡◌, ℕ, ◌+◌, ◌⊎◌, inl, inr, List, [], ◌∷◌, length, refl, cond, drop, Some, sym, ap, ◌∙◌, arith, max}
 use Rattle.std.specs.Prelude.{slice_get, fold, slice_index, ◌-◌, count_by, sum}
-use Rattle.std.proofs.lemmas.Option.{slice_get_within, get_or_from_slice_get}
-use Rattle.mq_core.proofs.NumberLists.{sum-cons}
+use Rattle.mq_base.proofs.Lists.{drop_at, sum-cons}
 use Rattle.mq_core.specs.Columns.{column_wait, column_waits, column_service, column_services, column_sojourn, column_sojourns, one_more, column_numbers, stream_sojourns}
 use Rattle.mq_core.specs.Fates.{service_time}
 use Rattle.mq_core.specs.Results.{bare_time, is_lost}
@@ -13,13 +12,6 @@ use Rattle.mq_core.specs.declared.model.Kind.TheVariants.{Source, Split}
 use Rattle.mq_core.specs.declared.model.Route.{Route}
 use Rattle.mq_core.specs.declared.model.Rows.{Rows}
 use Rattle.mq_stats.proofs.Counts.{count-cons}
-
--- what is left from a place on begins with the item there
-pub drop_at : {X : Type 0} (xs : List X) (i : ℕ) (x : X) → slice_get xs i ≡ Some x → drop i xs ≡ x ∷ drop (i + 1) xs
-drop_at xs i x h =
-    let within = slice_get_within xs i x h in
-    let next : suc i ≡ i + 1 = omega arith in
-    drop-cons xs i x within ∙ (ap (λ y. y ∷ drop (suc i) xs) (get_or_from_slice_get xs i x x h) ∙ ap (λ n. x ∷ drop n xs) next)
 
 -- Sums and greatest numbers. What is added so far, with what is left, is all.
 pub adds : (total added x all : ℕ) (rest rest' : List ℕ) → added ≡ x → rest ≡ x ∷ rest' → fold (λ a y. a + y) total rest ≡ all → fold (λ a y. a + y) (total + added) rest' ≡ all

@@ -1,17 +1,8 @@
 -- Lists by place.
-use Rattle.std.proofs.Common.{◌≡◌, ℕ, zero, suc, ◌+◌, ◌<◌, ◌≤◌, List, [], ◌∷◌, ◌++◌, length, get_or, take, drop, map, Option, Some, sym, refl, ap, ◌∙◌, arith}
+use Rattle.std.proofs.Common.{◌≡◌, ℕ, zero, suc, ◌+◌, ◌<◌, List, [], ◌∷◌, ◌++◌, length, get_or, take, drop, map, Option, Some, sym, refl, ap, ◌∙◌, arith}
 use Rattle.std.specs.Prelude.{slice_get}
-use Rattle.mq_core.proofs.Pending.{some_inj}
+use Rattle.mq_base.proofs.Lists.{some_inj}
 use Rattle.mq_core.specs.Recurrences.{time_or_none, firsts, rest}
-
-behind : {X : Type 0} (xs : List X) (i : ℕ) (x : X) → slice_get xs i ≡ Some x → drop i xs ≡ x ∷ drop (suc i) xs
-behind [] i x h = absurd cc
-behind (y ∷ ys) zero x h = ap (λ z. z ∷ ys) (some_inj y x h)
-behind (y ∷ ys) (suc i) x h = behind ys i x h
-
--- what is left from a place on begins with the item there
-pub drop_at : {X : Type 0} (xs : List X) (i : ℕ) (x : X) → slice_get xs i ≡ Some x → drop i xs ≡ x ∷ drop (i + 1) xs
-drop_at xs i x h = let next : suc i ≡ i + 1 = omega arith in behind xs i x h ∙ ap (λ n. x ∷ drop n xs) next
 
 from-drop : {X : Type 0} (xs ys : List X) (i : ℕ) (x : X) → drop i xs ≡ x ∷ ys → (slice_get xs i ≡ Some x) × (drop (suc i) xs ≡ ys)
 from-drop [] ys zero x h = absurd cc
@@ -42,15 +33,6 @@ pub map-more : {X Y : Type 0} (y : Y) (xs : List X) (i : ℕ) (d : X) (done done
 map-more y xs i d done done' l p h =
     let next : suc i ≡ i + 1 = omega arith in
     p ∙ (ap (λ ys. ys ++ y ∷ []) h ∙ (sym (map-next (λ _. y) xs i d l) ∙ ap (λ n. map (λ _. y) (take n xs)) next))
-
-pub take-all : {X : Type 0} (xs : List X) (i : ℕ) → length xs ≤ i → take i xs ≡ xs
-take-all [] zero h = refl
-take-all [] (suc i) h = refl
-take-all (x ∷ xs) zero h = absurd (omega arith)
-take-all (x ∷ xs) (suc i) h = ap (λ l. x ∷ l) (take-all xs i (omega arith))
-
-pub map-all : {X Y : Type 0} (f : X → Y) (xs : List X) (i : ℕ) (done : List Y) → length xs ≤ i → done ≡ map f (take i xs) → done ≡ map f xs
-map-all f xs i done h k = k ∙ ap (map f) (take-all xs i h)
 
 -- an item or 0
 pub get_or-time : (xs : List ℕ) (i : ℕ) → get_or xs i 0 ≡ time_or_none (slice_get xs i)

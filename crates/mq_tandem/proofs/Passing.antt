@@ -3,10 +3,10 @@ use Rattle.std.proofs.Common.{◌≡◌, ℕ, zero, suc, ◌+◌, ◌-◌, ◌*�
 use Rattle.std.specs.Prelude.{slice_get}
 use Rattle.std.proofs.lemmas.Option.{slice_get_within, get_or_from_slice_get}
 use Rattle.std.proofs.lemmas.List.Elements.{All-get_or, All-head, All-tail, All-drop}
-use Rattle.mq_core.proofs.Pending.{some_inj}
+use Rattle.mq_base.proofs.Lists.{drop_at, some_inj}
 use Rattle.mq_core.specs.Recurrences.{time_or_none, room_in, stage_departs, each_before, last_time}
 use Rattle.mq_tandem.specs.Stages.{HasDemand}
-use Rattle.mq_tandem.proofs.Lists.{drop_at, at_drop, get_within, get_or-time}
+use Rattle.mq_tandem.proofs.Lists.{at_drop, get_within, get_or-time}
 
 -- the stages, of which the first so many have these departures in front
 abbrev pub moved : ℕ → List ℕ → List (List ℕ) → List (List ℕ)

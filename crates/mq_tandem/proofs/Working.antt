@@ -4,10 +4,11 @@ use Rattle.std.specs.Prelude.{slice_get}
 use Rattle.std.proofs.lemmas.Option.{slice_get_within, get_or_from_slice_get}
 use Rattle.std.proofs.lemmas.List.{append-nil, drop_all, length-map}
 use Rattle.std.proofs.lemmas.List.Elements.{All-get_or, All-nil, All-cons, All-head, All-tail, All-take, All-weaker}
+use Rattle.mq_base.proofs.Lists.{drop_at, take-all}
 use Rattle.mq_core.specs.Columns.{IsSoundLoad}
 use Rattle.mq_core.specs.Recurrences.{time_or_none, room_in, stage_departs, each_before, last_time, firsts, rest, tandem_departs}
 use Rattle.mq_tandem.specs.Stages.{AreStages, HasDemand}
-use Rattle.mq_tandem.proofs.Lists.{drop_at, take-all, rests-drop, map-drop_0, get-drop, length-firsts}
+use Rattle.mq_tandem.proofs.Lists.{rests-drop, map-drop_0, get-drop, length-firsts}
 use Rattle.mq_tandem.proofs.Passing.{AreEarly, first-early, room-early, length-stages}
 use Rattle.mq_tandem.proofs.Looking.{HaveRoom, tandem-same, four-same, none-same}
 

@@ -1,5 +1,6 @@
 use Rattle.std.proofs.Common.{◌<◌, ◌∷◌, [], length, arith}
-use Rattle.mq_tandem.proofs.Lists.{map-more, map-all}
+use Rattle.mq_base.proofs.Lists.{map-all}
+use Rattle.mq_tandem.proofs.Lists.{map-more}
 use Rattle.mq_tandem.proofs.none_left.Goals as goal
 
 pub loop-stage-preserved : goal.loop-stage-preserved
