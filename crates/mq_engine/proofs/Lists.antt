@@ -1,11 +1,11 @@
 -- Lists by place, and what a loop has made of one so far.
-use Rattle.std.proofs.Common.{◌==◌, ◌||◌, subst, ◌≡◌, ◌≢◌, ℕ, zero, suc, ◌+◌, ◌<◌, ◌≤◌, Bool, true, false, cond, IsTrue, List, [], ◌∷◌, ◌++◌, length, get_or, set, take, drop, map, Some, sym, refl, ap, ◌∙◌, arith, eqb-true, append_assoc}
+use Rattle.std.proofs.Common.{◌==◌, ◌||◌, subst, ◌≡◌, ◌≢◌, ℕ, zero, suc, ◌+◌, ◌<◌, Bool, true, false, cond, IsTrue, List, [], ◌∷◌, ◌++◌, length, get_or, set, take, drop, map, Some, sym, refl, ap, ◌∙◌, arith, eqb-true, append_assoc}
 use Rattle.std.specs.Prelude.{count_by, slice_get}
 use Rattle.std.proofs.lemmas.List.Sums.{sum_by-cons}
 use Rattle.std.specs.List.{AllByRecursion as Each, flat_map, zip}
 use Rattle.std.proofs.lemmas.Bool.Decides.{nat_tests}
 use Rattle.std.proofs.lemmas.List.{append-nil}
-use Rattle.mq_base.proofs.Lists.{drop_suc, some_inj, take-all}
+use Rattle.mq_base.proofs.Lists.{drop_suc, some_inj}
 use Rattle.mq_core.specs.Wiring.{has}
 
 -- those that pass a test, of what is left from a place on

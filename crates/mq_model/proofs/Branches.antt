@@ -1,5 +1,5 @@
 -- The branches of a fork-join, as a line says them and as a network has them.
-use Rattle.std.proofs.Common.{◌≡◌, ◌∙◌, ap, refl, subst, sym, ℕ, List, [], ◌∷◌, ◌++◌, length, Bool, true}
+use Rattle.std.proofs.Common.{◌≡◌, ◌∙◌, ap, refl, sym, ℕ, List, length, Bool, true}
 use Rattle.std.specs.Prelude.{map, nat_le, ◌&&◌}
 use Rattle.std.specs.List.{list_all, flat_map}
 use Rattle.std.specs.Str.{bytes_eq}
@@ -14,7 +14,7 @@ use Rattle.mq_model.specs.Said.{is_among, mentions_of_demand}
 use Rattle.mq_model.specs.SaidOf.{demand_by, name_at}
 use Rattle.mq_model.specs.declared.said.SaidDemand.{SaidDemand}
 use Rattle.mq_model.proofs.Demands.{demand_again, demand_columns, demand_in_range, demand_mentions, demand_names, demand_said}
-use Rattle.mq_model.proofs.Lists.{AreAll, all_have, all_mapped, all_told, flat_mapped, flat_twice, map_back}
+use Rattle.mq_model.proofs.Lists.{all_have, all_mapped, all_told, flat_mapped, flat_twice, map_back}
 use Rattle.mq_model.proofs.SoundLines.{AreSoundBranches, IsSoundBranch, IsSoundDemand}
 
 abbrev all_of : {A : Type 0} → List (List A) → List A

@@ -1,9 +1,8 @@
 -- The words of a fork-join's branches say them again.
-use Rattle.std.proofs.Common.{◌≡◌, ◌∙◌, sym, ap, refl, ℕ, ◌+◌, ◌-◌, ◌<◌, ◌≤◌, List, [], ◌∷◌, ◌++◌, length, true, false, Ok, arith, append_assoc, length-append, inl, inr}
+use Rattle.std.proofs.Common.{◌≡◌, ◌∙◌, ap, refl, ℕ, ◌+◌, ◌-◌, ◌<◌, ◌≤◌, List, [], ◌∷◌, ◌++◌, length, false, Ok, arith, append_assoc, length-append, inl, inr}
 use Rattle.std.specs.Prelude.{codes, map, nat_lt}
 use Rattle.std.specs.List.{flat_map}
-use Rattle.std.proofs.lemmas.Bool.{and_parts, cases_Bool, leb-true, ltb-true, ltb-false}
-use Rattle.mq_core.specs.Sound.{is_within}
+use Rattle.std.proofs.lemmas.Bool.{and_parts, cases_Bool, leb-true}
 use Rattle.mq_model.specs.Form.{Word, read, up_to}
 use Rattle.mq_model.specs.Lines.{a_branch, all_branches, branches, demand_of, forkjoin_kind, is_demand, key, room_of}
 use Rattle.mq_model.specs.Printed.{barred_words, branches_words, demand_word}

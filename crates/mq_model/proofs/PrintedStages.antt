@@ -1,5 +1,5 @@
 -- The words of a tandem's stages say them again, and their bytes and number.
-use Rattle.std.proofs.Common.{◌≡◌, ◌∙◌, sym, ap, refl, ℕ, ◌+◌, ◌*◌, ◌-◌, ◌<◌, ◌≤◌, List, [], ◌∷◌, ◌++◌, length, true, Ok, arith}
+use Rattle.std.proofs.Common.{◌≡◌, ◌∙◌, sym, ap, refl, ℕ, ◌-◌, ◌<◌, ◌≤◌, List, [], ◌∷◌, ◌++◌, length, true, Ok, arith}
 use Rattle.std.specs.Prelude.{codes, decimal}
 use Rattle.std.specs.List.{flat_map}
 use Rattle.std.proofs.lemmas.Bool.{and_parts, leb-true}
@@ -12,7 +12,7 @@ use Rattle.mq_model.specs.declared.said.SaidStage.{SaidStage}
 use Rattle.mq_model.proofs.FormFacts.{read_then}
 use Rattle.mq_model.proofs.Lists.{AreAll}
 use Rattle.mq_model.proofs.PrintedParts.{a_demand_again, within_again}
-use Rattle.mq_model.proofs.ReadFacts.{read_word_yes, with_front}
+use Rattle.mq_model.proofs.ReadFacts.{with_front}
 use Rattle.mq_model.proofs.SoundLines.{AreSoundStages, IsSoundStage}
 use Rattle.mq_model.proofs.StageFacts.{behind_two, stages_no, stages_yes}
 

@@ -1,5 +1,5 @@
 -- How the stages of a tandem are read.
-use Rattle.std.proofs.Common.{◌≡◌, ◌∙◌, refl, ℕ, zero, suc, ◌-◌, ◌<◌, List, [], ◌∷◌, true, false, Ok, Err, inl, inr, arith, Result}
+use Rattle.std.proofs.Common.{◌≡◌, refl, ℕ, zero, suc, ◌-◌, ◌<◌, List, [], ◌∷◌, true, false, Ok, Err, arith, Result}
 use Rattle.std.specs.Prelude.{codes}
 use Rattle.mq_model.specs.Form.{◌>>=◌, Word, read, stop}
 use Rattle.mq_model.specs.Lines.{a_stage, is_key, key, stages, stages_behind}

@@ -1,5 +1,5 @@
 -- The stages of a tandem, as a line says them and as a network has them.
-use Rattle.std.proofs.Common.{◌≡◌, ◌∙◌, ap, refl, ℕ, List, [], ◌∷◌, ◌++◌, length, true}
+use Rattle.std.proofs.Common.{◌≡◌, ◌∙◌, ap, refl, ℕ, List, [], ◌∷◌, length, true}
 use Rattle.std.specs.Prelude.{map}
 use Rattle.std.specs.List.{list_all, flat_map}
 use Rattle.std.specs.Str.{bytes_eq}
@@ -14,7 +14,7 @@ use Rattle.mq_model.specs.Said.{is_among, mentions_of_demand}
 use Rattle.mq_model.specs.SaidOf.{name_at, stage_by}
 use Rattle.mq_model.specs.declared.said.SaidStage.{SaidStage}
 use Rattle.mq_model.proofs.Demands.{demand_again, demand_columns, demand_in_range, demand_mentions, demand_names, demand_said}
-use Rattle.mq_model.proofs.Lists.{AreAll, all_both, all_have, all_mapped, all_parts, all_told, flat_mapped, map_back}
+use Rattle.mq_model.proofs.Lists.{all_both, all_have, all_mapped, all_parts, all_told, flat_mapped, map_back}
 use Rattle.mq_model.proofs.SoundLines.{AreSoundStages, IsSoundStage}
 
 abbrev stage_columns : Stage → List ℕ
