@@ -1,15 +1,13 @@
-use Rattle.std.proofs.Common.{◌≡◌, ◌⊎◌, inl, inr, ℕ, zero, suc, ◌+◌, ◌<◌, ◌≤◌, List, [], ◌∷◌, ◌++◌, length, Option, Some, None, sym, refl, ap, ◌∙◌, subst, arith, slice_get, option_map, flat_map, lt-ltb, le-ltb}
+use Rattle.std.proofs.Common.{◌≡◌, ◌⊎◌, inl, inr, ℕ, zero, suc, ◌+◌, ◌<◌, ◌≤◌, List, [], ◌∷◌, ◌++◌, length, Option, Some, None, sym, refl, ap, ◌∙◌, subst, arith, slice_get, option_map, flat_map}
 use Rattle.std.proofs.lemmas.Bool.{cases_lt}
 use Rattle.mq_core.specs.Columns.{column_late, column_late_from, visits_by_node}
 use Rattle.mq_core.specs.Machine.{Visit, Emission, State}
 use Rattle.mq_core.specs.Local.{Local}
 use Rattle.mq_core.specs.Fates.{fate_by}
-use Rattle.mq_core.specs.NumberLaws.{late_in, run_late, IsOnTimeBelow, OnTimeGrows, PastIsColumns, PastIsFirst, PastIsNone, LateIsFirst, LateIsNone}
+use Rattle.mq_core.specs.NumberLaws.{late_in, run_late, IsOnTimeBelow, OnTimeGrows, PastIsFirst, PastIsNone}
 use Rattle.mq_core.specs.Results.{Late, fates_from, late_fate, late_from, late_at, first_of, past_of, visits_of}
 use Rattle.mq_core.specs.StandardTable.{run_of}
 use Rattle.mq_core.specs.Theorems.{IsReadFor}
-use Rattle.mq_core.specs.declared.model.Fate.{Fate}
-use Rattle.mq_core.specs.declared.model.Fate.TheVariants.{Departs, Lost}
 use Rattle.mq_core.specs.declared.model.Kind.{Kind}
 use Rattle.mq_core.specs.declared.model.Node.{Node}
 use Rattle.mq_core.specs.declared.model.Plan.{Plan}
@@ -102,9 +100,6 @@ module _ (plan : Plan) (rows : Rows) (read : IsReadFor plan.net rows) where
       ∙ none-in (λ u. late_in plan u (slice_get (visits_by_node end 0 plan.net.nodes) u)) plan.order
       (λ r u l at. late-any u (λ n e. h r u n l at e))
 
-pub past-is_columns : PastIsColumns
-past-is_columns plan rows read = past-columns plan rows read
-
 pub past-is_first : PastIsFirst
 past-is_first plan rows read = past-first plan rows read
 
@@ -123,35 +118,3 @@ on_time-grows plan rows rank v node place here before own r u n l at e = go (cas
         let kind_same : node ≡ n = (let both = sym here ∙ (ap (slice_get plan.net.nodes) node_same ∙ e) in cc) in
         subst (λ w. first_of (column_late plan.net.bound w (visits_of n.kind ((run_of plan rows).stations w))) ≡ None) node_same
         (subst (λ (m : Node). first_of (column_late plan.net.bound v (visits_of m.kind ((run_of plan rows).stations v))) ≡ None) kind_same own)
-
-some-fate : (a b : Fate) → Some a ≡ Some b → a ≡ b
-some-fate a b h = cc
-
-late-shift : (bound node k position time : ℕ) (fates : List Fate) → first_of (column_late_from bound node (suc k) fates) ≡ Some (record { node = node; position = suc k + position; time = time }) → first_of (column_late_from bound node (suc k) fates) ≡ Some (record { node = node; position = k + suc position; time = time })
-late-shift bound node k position time fates h = h ∙ ap (λ p. Some (record { node = node; position = p; time = time })) (let same : suc k + position ≡ k + suc position = omega arith in same)
-
--- the first late visit of some fates
-late-first : (bound node k position time : ℕ) (fates : List Fate) → slice_get fates position ≡ Some (Departs time) → bound < time → ((p t : ℕ) → p < position → slice_get fates p ≡ Some (Departs t) → t ≤ bound) → first_of (column_late_from bound node k fates) ≡ Some (record { node = node; position = k + position; time = time })
-late-first bound node k position time [] here l h = absurd cc
-late-first bound node k zero time (Lost ∷ fates) here l h = absurd cc
-late-first bound node k zero time (Departs t ∷ fates) here l h =
-    let same : t ≡ time = (let both = some-fate (Departs t) (Departs time) here in cc) in
-    let place : k ≡ k + zero = omega arith in
-    rw (lt-ltb bound t (omega arith)) (λ i. Some (record { node = node; position = place i; time = same i }))
-late-first bound node k (suc position) time (Lost ∷ fates) here l h = late-shift bound node k position time fates (late-first bound node (suc k) position time fates here l (λ p t u e. h (suc p) t (omega arith) e))
-late-first bound node k (suc position) time (Departs t ∷ fates) here l h =
-    rw (le-ltb bound t (h 0 t (omega arith) refl))
-    (late-shift bound node k position time fates (late-first bound node (suc k) position time fates here l (λ p t u e. h (suc p) t (omega arith) e)))
-
-late-none : (bound node k : ℕ) (fates : List Fate) → ((p t : ℕ) → p < length fates → slice_get fates p ≡ Some (Departs t) → t ≤ bound) → first_of (column_late_from bound node k fates) ≡ None
-late-none bound node k [] h = refl
-late-none bound node k (Lost ∷ fates) h = late-none bound node (suc k) fates (λ p t u e. h (suc p) t (omega arith) e)
-late-none bound node k (Departs t ∷ fates) h = rw (le-ltb bound t (h 0 t (omega arith) refl)) (late-none bound node (suc k) fates (λ p t u e. h (suc p) t (omega arith) e))
-
-pub late-is_first : LateIsFirst
-late-is_first bound node visits position time here l h =
-    late-first bound node 0 position time visits.fate here l h
-    ∙ ap (λ p. Some (record { node = node; position = p; time = time })) (let same : 0 + position ≡ position = omega arith in same)
-
-pub late-is_none : LateIsNone
-late-is_none bound node visits h = late-none bound node 0 visits.fate h

@@ -219,7 +219,7 @@ column_totals rows kind visits =
       peak = column_peak kind visits.found visits.fate;
     }
 
--- what leaves by an output: its number, and the sum of the times since the rows
+-- how long each of these jobs was in the network when it left by an output
 abbrev pub stream_sojourns : Rows → List ℕ → List ℕ → List ℕ
 stream_sojourns rows [] times = []
 stream_sojourns rows (job ∷ jobs) [] = []

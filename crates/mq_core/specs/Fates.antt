@@ -92,7 +92,7 @@ PeakIsGreatest =
     let end = (run_of plan rows).stations v in
     end.peak ≡ greatest_below (length end.visits) (λ position. unless_lost (fate_of node.kind end.emitted position) (found_or 0 (slice_get end.visits position) + 1))
 
--- a visit that comes at this time, or an emission at it
+-- a visit to a node that comes at this time
 pub record ComesAt (s : State Local) (time : ℕ) : Type 0 where
   pub node : ℕ
   pub position : ℕ

@@ -84,7 +84,7 @@ begins_at rows demand visits now server [] = []
 begins_at rows demand visits now server (position ∷ queue) =
     record { server = server; position = position; time = now + demand_at rows demand visits position } ∷ []
 
--- the same where the list was empty before
+-- the service of a position that joins this list: it begins where the list was empty
 abbrev pub begins_alone : Rows → Demand → List Visit → ℕ → ℕ → List ℕ → ℕ → List Service
 begins_alone rows demand visits now server [] position = begins_at rows demand visits now server (position ∷ [])
 begins_alone rows demand visits now server (front ∷ queue) position = []

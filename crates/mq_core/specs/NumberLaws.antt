@@ -1,5 +1,5 @@
 -- That the numbers worked out from columns are the run's own tallies.
-use Rattle.std.specs.Prelude.{◌≡◌, ◌<◌, ◌≤◌, ◌+◌, ℕ, List, [], length, Option, Some, None, slice_get}
+use Rattle.std.specs.Prelude.{◌≡◌, ◌<◌, ◌+◌, ℕ, List, [], length, Option, Some, None, slice_get}
 use Rattle.std.specs.List.{flat_map}
 use Rattle.mq_core.specs.Columns.{column_totals, column_exit, column_span, column_late, visits_by_node}
 use Rattle.mq_core.specs.Local.{Local}
@@ -7,7 +7,6 @@ use Rattle.mq_core.specs.Machine.{Station}
 use Rattle.mq_core.specs.Results.{Late, totals_of, exit_of, visits_of, stream_from, first_of, past_of}
 use Rattle.mq_core.specs.StandardTable.{run_of}
 use Rattle.mq_core.specs.Theorems.{IsReadFor}
-use Rattle.mq_core.specs.declared.model.Fate.TheVariants.{Departs}
 use Rattle.mq_core.specs.declared.model.Node.{Node}
 use Rattle.mq_core.specs.declared.model.Plan.{Plan}
 use Rattle.mq_core.specs.declared.model.Rows.{Rows}
@@ -54,11 +53,6 @@ OnTimeGrows =
     first_of (column_late plan.net.bound v (visits_of node.kind ((run_of plan rows).stations v))) ≡ None →
     IsOnTimeBelow plan rows (rank + 1)
 
--- the first departure after the bound is the first in the columns
-abbrev pub PastIsColumns : Type 0
-PastIsColumns =
-    (plan : Plan) (rows : Rows) → IsReadFor plan.net rows → past_of plan rows ≡ first_of (run_late plan rows plan.order)
-
 -- where the nodes of the lower ranks have no late visit, it is the first of the next node that has one
 abbrev pub PastIsFirst : Type 0
 PastIsFirst =
@@ -71,17 +65,3 @@ PastIsFirst =
 abbrev pub PastIsNone : Type 0
 PastIsNone =
     (plan : Plan) (rows : Rows) → IsReadFor plan.net rows → IsOnTimeBelow plan rows (length plan.order) → past_of plan rows ≡ None
-
--- a departure after the bound, where none before it is, is the first late visit
-abbrev pub LateIsFirst : Type 0
-LateIsFirst =
-    (bound node : ℕ) (visits : Visits) (position time : ℕ) → slice_get visits.fate position ≡ Some (Departs time) → bound < time →
-    ((earlier departure : ℕ) → earlier < position → slice_get visits.fate earlier ≡ Some (Departs departure) → departure ≤ bound) →
-    first_of (column_late bound node visits) ≡ Some (record { node = node; position = position; time = time })
-
--- where no departure is after the bound there is no late visit
-abbrev pub LateIsNone : Type 0
-LateIsNone =
-    (bound node : ℕ) (visits : Visits) →
-    ((position departure : ℕ) → position < length visits.fate → slice_get visits.fate position ≡ Some (Departs departure) → departure ≤ bound) →
-    first_of (column_late bound node visits) ≡ None

@@ -17,7 +17,7 @@ use Rattle.mq_core.specs.declared.model.Stream.{Stream}
 use Rattle.mq_core.specs.declared.model.Plan.{Plan}
 use Rattle.mq_core.specs.declared.model.Rows.{Rows}
 
--- the time in service of a job that never waits
+-- how long a job stays that never waits
 abbrev pub bare_time : Rows → Kind → ℕ → ℕ
 bare_time rows Source job = 0
 bare_time rows (Split route) job = 0
@@ -109,7 +109,7 @@ totals_of rows kind s =
       peak = peak_of kind s.peak;
     }
 
--- what leaves by an output: its number, and the time since the rows
+-- how many jobs leave by an output, and the sum of their times since their rows
 abbrev pub exit_of : Rows → Station Local → ℕ → ℕ × ℕ
 exit_of rows s out =
     let stream = stream_of out s.emitted in

@@ -1,3 +1,4 @@
+// What a job asks for.
 ghost use Rattle.std.specs.Prelude.{◌≡◌, fold, map, max, sum_by};
 ghost use Rattle.mq_core.specs.Asked.{HasDemand, HasDemands, AreTold};
 ghost use Rattle.std.specs.List.{flat_map};

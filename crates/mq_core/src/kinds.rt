@@ -1,3 +1,4 @@
+// How many outputs and servers a kind of node has.
 ghost use Rattle.std.specs.Prelude.{◌≡◌, ◌≤◌, length};
 ghost use Rattle.std.specs.List.{flat_map};
 ghost use Rattle.mq_core.specs.Results.{servers_in};
@@ -9,7 +10,7 @@ use mq_base::List;
 /// How many outputs a node of this kind has: those that its route chooses from at a split, 2 at a
 /// loss station, of which the second is for those that are lost, else 1.
 ///
-/// They are at most 8, as every kind of a plan has it.
+/// They are at most 8, as for every kind in a plan.
 pub fn outputs_of(kind: &Kind) -> u8
     requires { outputs_in kind.now ≤ 8 }
     ensures { result ≡ outputs_in kind.now }
@@ -22,7 +23,10 @@ pub fn outputs_of(kind: &Kind) -> u8
     }
 }
 
-fn outputs_of_route(route: &Route) -> u8
+/// How many outputs a route chooses from: for a cut one more than it has thresholds.
+///
+/// They are at most 8, as for every route in a plan.
+pub fn outputs_of_route(route: &Route) -> u8
     requires { outputs_by route.now ≤ 8 }
     ensures { result ≡ outputs_by route.now }
 {
@@ -36,7 +40,7 @@ fn outputs_of_route(route: &Route) -> u8
 /// stage of a tandem, those of all branches at a fork-join, and 0 at a source, a delay or a split,
 /// which have none.
 ///
-/// They are at most 8, as every kind of a plan has it.
+/// They are at most 8, as for every kind in a plan.
 pub fn servers_of(kind: &Kind) -> u8
     requires { servers_in kind.now ≤ 8 }
     ensures { result ≡ servers_in kind.now }
@@ -50,6 +54,7 @@ pub fn servers_of(kind: &Kind) -> u8
     }
 }
 
+// How many servers these branches have together.
 fn servers_of_branches(branches: &List<List<Demand>>) -> u8
     requires { length (flat_map (λ demands. demands) branches.now) ≤ 8 }
     ensures { result ≡ length (flat_map (λ demands. demands) branches.now) }

@@ -1,3 +1,4 @@
+// The laws of runs, each a call whose contract states it.
 ghost use Rattle.mq_core.specs.Theorems.{EventsGoForward, ArrivalsAreRead, NodesRunAlone, VisitsAreArrivals};
 ghost use Rattle.mq_core.specs.NetworkRun.{RunsAreOfNetworks};
 ghost use Rattle.mq_core.specs.PlanLaws.{NodesAreInLimits, OrdersRank, RowsTellDemands};
@@ -5,7 +6,7 @@ ghost use Rattle.mq_core.specs.Alone.{NodesFlowAlone};
 ghost use Rattle.mq_core.specs.Bounded.{DeparturesAreBounded};
 ghost use Rattle.mq_core.specs.Fates.{AreasAreSojourns, BusyIsServices, FoundsAreCounts, PeakIsGreatest, RunEnds, SpanIsLatest};
 ghost use Rattle.mq_core.specs.ColumnLaws.{ArrivalsAreStreams, DepartsInTime, FatesAreInTime, JobsAreRows, MergesTwice, NodesAreColumns, NodesFlow, OrdersKeepItems, StreamsRise, VisitsAreFew, VisitsStayBareTime};
-ghost use Rattle.mq_core.specs.NumberLaws.{ExitsAreStreams, LateIsFirst, LateIsNone, OnTimeGrows, PastIsColumns, PastIsFirst, PastIsNone, SpanIsColumns, TotalsAreColumns};
+ghost use Rattle.mq_core.specs.NumberLaws.{ExitsAreStreams, OnTimeGrows, PastIsFirst, PastIsNone, SpanIsColumns, TotalsAreColumns};
 ghost use Rattle.mq_core.specs.RunLaws.{ColumnsMakeRuns, OutputsHaveStreams, RunsHaveColumns, StreamsMakeOutputs};
 
 use crate::handlers::Handlers;
@@ -103,11 +104,6 @@ pub fn span_is_columns()
     ensures { SpanIsColumns }
 {}
 
-/// The first departure after the bound is the first in the columns, by rank and then position.
-pub fn past_is_columns()
-    ensures { PastIsColumns }
-{}
-
 /// Where no node below a rank has a late visit, the first of the node at that rank is the first of all.
 pub fn past_is_first()
     ensures { PastIsFirst }
@@ -121,16 +117,6 @@ pub fn past_is_none()
 /// That no node below a rank has a late visit, one rank further.
 pub fn on_time_grows()
     ensures { OnTimeGrows }
-{}
-
-/// A departure after the bound, before which no other is, is the first late visit of its node.
-pub fn late_is_first()
-    ensures { LateIsFirst }
-{}
-
-/// A node none of whose departures is after the bound has no late visit.
-pub fn late_is_none()
-    ensures { LateIsNone }
 {}
 
 /// What a node lets out is the recurrence of its kind over its visits.

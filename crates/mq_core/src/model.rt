@@ -1,3 +1,4 @@
+// Models, the rows of a trace, and runs, as the simulator keeps them.
 ghost use Rattle.std.specs.Prelude.{◌≡◌, ℕ, ◌<◌, length, IsTrue};
 ghost use Rattle.mq_core.specs.Sound.{is_sound};
 ghost use Rattle.mq_core.specs.Wiring.{has, ranking};
@@ -40,6 +41,7 @@ pub struct Stage {
     /// How many jobs the stage holds, with the one in service, 1 to 4; 0 at the first stage, which
     /// has an unlimited queue.
     pub places: u8,
+    /// What each job asks for at its server.
     pub demand: Demand,
 }
 
@@ -71,6 +73,7 @@ pub enum Kind {
 pub struct Node {
     /// 1 to 32 bytes: a small letter, and then small letters, digits and underscores.
     pub name: List<u8>,
+    /// What it does with the jobs that come.
     pub kind: Kind,
     /// What each port reads, by port: 1 to 8, and none at a source.
     pub inputs: List<Input>,
@@ -95,6 +98,7 @@ pub struct Network {
 /// mention. It also keeps that `order` is the ranking of the nodes and holds them all.
 #[derive(Drop)]
 pub struct Plan {
+    /// The network.
     pub net: Network,
     /// The nodes by rank: each behind all that it reads, and of those that may come next always
     /// the first declared.
@@ -120,6 +124,7 @@ pub struct Rows {
 /// Jobs that go along a connection, by time: two lists of one length, whose times never fall.
 #[derive(Drop)]
 pub struct Stream {
+    /// The jobs, in the order in which they pass.
     pub job: List<u32>,
     /// When each job passes, in ticks.
     pub time: List<u64>,
@@ -137,11 +142,13 @@ pub enum Fate {
 /// The visits of jobs to a node: four lists of one length, one item a visit, by position.
 #[derive(Drop)]
 pub struct Visits {
+    /// The job of each visit.
     pub job: List<u32>,
     /// When each job came, in ticks. The times never fall.
     pub arrive: List<u64>,
     /// How many jobs were in the node just before each came.
     pub found: List<u32>,
+    /// How each visit ended.
     pub fate: List<Fate>,
 }
 

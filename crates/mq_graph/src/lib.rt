@@ -1,4 +1,4 @@
-// The nodes of a network by rank.
+//! The nodes of a network by rank.
 #![tactic(auto)]
 
 mod laws;

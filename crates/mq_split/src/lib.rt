@@ -8,7 +8,7 @@ ghost use Rattle.mq_core.specs.Standard.{output_at};
 ghost use Rattle.mq_split.specs.Outs.{AreParts, outs_from, picked_stream};
 
 use mq_base::{List, OutOfMemory};
-use mq_core::{Route, Stream};
+use mq_core::{Route, Stream, outputs_of_route};
 use std::alloc::Global;
 
 #[cfg(test)]
@@ -40,18 +40,6 @@ pub fn route_of(route: &Route, value: u64, position: u32) -> u8
     }
 }
 
-// How many outputs a route has.
-fn outputs_of(route: &Route) -> u8
-    requires { (columns : ℕ) × IsTrue (is_sound_route columns route.now) }
-    ensures { result ≡ outputs_by route.now }
-{
-    match route {
-        Route::Modulo { outputs, .. } => *outputs,
-        Route::Turn { outputs } => *outputs,
-        Route::Cut { thresholds, .. } => thresholds.len() as u8 + 1,
-    }
-}
-
 // The output of each job, by position.
 // Its loop, like others below, is not inlined, so that it has the registers to itself.
 #[inline(never)]
@@ -80,10 +68,9 @@ fn count_of(outs: &[u8], out: u8) -> usize
     count
 }
 
-/// The items, in their order, whose output is this one. `outs` has the output of each, by position;
-/// the jobs and the times of the stream are as many. It refuses for want of memory alone.
+// The items, in their order, whose output is this one. `outs` has the output of each, by position.
 #[inline(never)]
-pub fn pick(alloc: Global, stream: &Stream, outs: &[u8], out: u8) -> Result<Stream, OutOfMemory>
+fn pick(alloc: Global, stream: &Stream, outs: &[u8], out: u8) -> Result<Stream, OutOfMemory>
     requires jobs { length stream.now.job ≡ length outs.now }
     requires times { length stream.now.time ≡ length outs.now }
     ensures { IfOk result (λ part. part ≡ picked_stream outs.now stream.now out) }
@@ -121,7 +108,7 @@ pub fn split(
 {
     let outs = outs_of(alloc, values, route)?;
     let mut streams = List::new(alloc);
-    for out in 0..outputs_of(route) {
+    for out in 0..outputs_of_route(route) {
         streams.push(pick(alloc, stream, outs.as_slice(), out)?)?;
     }
     Ok(streams)
