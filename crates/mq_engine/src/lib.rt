@@ -12,6 +12,7 @@ mod fault;
 mod late;
 mod laws;
 mod losses;
+mod outflow;
 mod series;
 mod stations;
 mod turns;

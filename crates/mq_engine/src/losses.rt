@@ -6,7 +6,7 @@ ghost use Rattle.mq_engine.specs.Losses.{AreAdmittedAndLost, fates_by, out_of_ad
 ghost use Rattle.mq_engine.specs.Turns.{IsLeaving, IsLoad};
 ghost use Rattle.mq_loss.specs.Rounds.{IsSettled};
 
-use crate::stations::{Outflow, demands_of};
+use crate::outflow::{Outflow, demands_of};
 use mq_base::{List, OutOfMemory, Steps};
 use mq_core::{Demand, Fate, Network, Rows, Stream, fates_are_in_time};
 use mq_loss::{Settled, settle};
@@ -19,7 +19,7 @@ const FIRST_WINDOW: u32 = 4_096;
 
 // What leaves a loss station: the jobs that find a place leave by output 0 once they are served, the
 // others by output 1 as they come.
-pub fn admitted_or_lost(
+pub fn loss_outflow(
     alloc: Global,
     net: &Network,
     rows: &Rows,

@@ -6,7 +6,7 @@ ghost use Rattle.mq_core.specs.Sound.{is_sound_demand};
 ghost use Rattle.mq_core.specs.declared.model.Kind.TheVariants.{ForkJoin, Tandem};
 ghost use Rattle.mq_engine.specs.Turns.{AreTold, IsLeaving, IsLoad};
 
-use crate::stations::{Outflow, demands_of, in_turn};
+use crate::outflow::{Outflow, demands_of, in_turn};
 use mq_base::{List, OutOfMemory};
 use mq_core::{Demand, Network, Rows, Stage, Stream, fates_are_in_time};
 use mq_forkjoin::fork_departures;
@@ -14,7 +14,7 @@ use mq_tandem::tandem_departures;
 use std::alloc::Global;
 
 // What leaves a tandem.
-pub fn in_stages(
+pub fn tandem_outflow(
     alloc: Global,
     net: &Network,
     rows: &Rows,
@@ -34,7 +34,7 @@ pub fn in_stages(
 }
 
 // What leaves a fork-join.
-pub fn in_branches(
+pub fn forkjoin_outflow(
     alloc: Global,
     net: &Network,
     rows: &Rows,

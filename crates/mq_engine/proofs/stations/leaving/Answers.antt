@@ -4,4 +4,4 @@ use Rattle.mq_engine.specs.Turns.{IsLeaving}
 use Rattle.mq_engine.proofs.stations.leaving.Goals as goal
 
 pub returns-in-Source : goal.returns-in-Source
-returns-in-Source c = IfOk-weaker c.passed_on.result _ _ (λ x h. subst (λ kind. IsLeaving c.args.rows.now kind c.args.arrivals.now x.fates x.streams) (sym c.in-Source.is) (h c.args.rows.now)) c.passed_on.ensures
+returns-in-Source c = IfOk-weaker c.source_outflow.result _ _ (λ x h. subst (λ kind. IsLeaving c.args.rows.now kind c.args.arrivals.now x.fates x.streams) (sym c.in-Source.is) (h c.args.rows.now)) c.source_outflow.ensures

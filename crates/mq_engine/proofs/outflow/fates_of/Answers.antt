@@ -1,7 +1,7 @@
 use Rattle.std.proofs.Common.{arith}
 use Rattle.mq_core.specs.declared.model.Fate.TheVariants.{Departs}
 use Rattle.mq_engine.proofs.Lists.{map-more}
-use Rattle.mq_engine.proofs.stations.fates_of.Goals as goal
+use Rattle.mq_engine.proofs.outflow.fates_of.Goals as goal
 
 pub loop-at-preserved : goal.loop-at-preserved
 loop-at-preserved c =

@@ -1,7 +1,7 @@
 use Rattle.std.proofs.lemmas.Result.{IfOk-weaker}
 use Rattle.mq_core.specs.declared.model.Kind.TheVariants.{Server}
 use Rattle.mq_engine.proofs.Leaves.{load-sound, serves}
-use Rattle.mq_engine.proofs.stations.served.Goals as goal
+use Rattle.mq_engine.proofs.stations.server_outflow.Goals as goal
 
 pub departures-requires : goal.departures-requires
 departures-requires c = load-sound c.args.net.now c.args.rows.now (Server c.args.demand.now) c.args.demand.now c.args.arrivals.now _ c.requires c.requires.sound c.in_ok-demands.ensures

@@ -1,7 +1,7 @@
 use Rattle.mq_core.specs.declared.model.Kind.TheVariants.{Loss}
 use Rattle.mq_engine.proofs.Leaves.{load-sound}
 use Rattle.mq_engine.proofs.LossFates.{loses, settled-even, sound-demand, some-places}
-use Rattle.mq_engine.proofs.losses.admitted_or_lost.Goals as goal
+use Rattle.mq_engine.proofs.losses.loss_outflow.Goals as goal
 
 pub settled-requires-clause-load : goal.settled-requires-clause-load
 settled-requires-clause-load c = load-sound c.args.net.now c.args.rows.now (Loss c.args.places c.args.demand.now) c.args.demand.now c.args.arrivals.now _ c.requires (sound-demand c.args.net.now c.args.places c.args.demand.now c.requires.sound) c.in_ok-demands.ensures

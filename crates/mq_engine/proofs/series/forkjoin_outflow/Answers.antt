@@ -3,7 +3,7 @@ use Rattle.std.proofs.lemmas.Result.{IfOk-weaker}
 use Rattle.mq_core.specs.Handling.{demand_of_job}
 use Rattle.mq_core.specs.declared.model.Kind.TheVariants.{ForkJoin}
 use Rattle.mq_engine.proofs.StageFacts.{branches-are, demands-asked, goes-abreast, loads-sound, narrow-branches, sound-branches}
-use Rattle.mq_engine.proofs.series.in_branches.Goals as goal
+use Rattle.mq_engine.proofs.series.forkjoin_outflow.Goals as goal
 
 pub columns_of-requires-clause-demands : goal.columns_of-requires-clause-demands
 columns_of-requires-clause-demands c = demands-asked (length c.args.net.now.columns) _ _ c.in_ok-asked.ensures (sound-branches (length c.args.net.now.columns) c.args.branches.now c.requires.sound).asked

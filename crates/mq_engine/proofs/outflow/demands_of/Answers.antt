@@ -1,7 +1,7 @@
 use Rattle.std.proofs.Common.{ap, ◌∙◌, ◌++◌, ◌∷◌, [], arith}
 use Rattle.mq_core.specs.Handling.{demand_of_job}
 use Rattle.mq_engine.proofs.Lists.{map-more}
-use Rattle.mq_engine.proofs.stations.demands_of.Goals as goal
+use Rattle.mq_engine.proofs.outflow.demands_of.Goals as goal
 
 pub loop-at-preserved : goal.loop-at-preserved
 loop-at-preserved c =

@@ -1,6 +1,6 @@
 use Rattle.mq_core.specs.declared.model.Kind.TheVariants.{Delay}
 use Rattle.mq_engine.proofs.Leaves.{load-sound, holds}
-use Rattle.mq_engine.proofs.stations.held.Goals as goal
+use Rattle.mq_engine.proofs.stations.delay_outflow.Goals as goal
 
 pub delay-requires-clause-load : goal.delay-requires-clause-load
 delay-requires-clause-load c = load-sound c.args.net.now c.args.rows.now (Delay c.args.demand.now) c.args.demand.now c.args.arrivals.now _ c.requires c.requires.sound c.in_ok-demands.ensures

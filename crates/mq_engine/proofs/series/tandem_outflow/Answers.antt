@@ -3,7 +3,7 @@ use Rattle.std.proofs.lemmas.Result.{IfOk-weaker}
 use Rattle.mq_core.specs.Handling.{demand_of_job}
 use Rattle.mq_core.specs.declared.model.Kind.TheVariants.{Tandem}
 use Rattle.mq_engine.proofs.StageFacts.{demands-asked, goes-through, loads-sound, sound-stages, stages-are}
-use Rattle.mq_engine.proofs.series.in_stages.Goals as goal
+use Rattle.mq_engine.proofs.series.tandem_outflow.Goals as goal
 
 pub columns_of-requires-clause-demands : goal.columns_of-requires-clause-demands
 columns_of-requires-clause-demands c = demands-asked (length c.args.net.now.columns) _ _ c.in_ok-asked.ensures (sound-stages (length c.args.net.now.columns) c.args.stages.now c.requires.sound).asked

@@ -1,4 +1,4 @@
-use Rattle.mq_engine.proofs.losses.admitted_or_lost.Given as goal
+use Rattle.mq_engine.proofs.losses.loss_outflow.Given as goal
 
 -- the counter's ledger is the one that was opened for it
 abbrev pub ghosts-settled : goal.ghosts-settled

@@ -1,0 +1,69 @@
+// What leaves a station, and what several kinds of station have in common.
+ghost use Rattle.std.specs.Prelude.{◌≡◌, ◌∷◌, [], length, map, IfOk, IsTrue};
+ghost use Rattle.mq_core.specs.Sound.{is_sound_demand};
+ghost use Rattle.mq_core.specs.Handling.{demand_of_job};
+ghost use Rattle.mq_core.specs.declared.model.Fate.TheVariants.{Departs};
+ghost use Rattle.mq_engine.specs.Turns.{AreTold, LeaveInTurn};
+
+use mq_base::{List, OutOfMemory};
+use mq_core::{Demand, Fate, Network, Rows, Stream, demand_of};
+use std::alloc::Global;
+
+// What leaves a station: the fate of each arrival, and the streams by output.
+#[derive(Drop)]
+pub struct Outflow {
+    pub fates: List<Fate>,
+    pub streams: List<Stream>,
+}
+
+// The demand of each job, in ticks.
+// Its loop, like the one below, is not inlined, so that it has the registers to itself.
+#[inline(never)]
+pub fn demands_of(
+    alloc: Global,
+    net: &Network,
+    rows: &Rows,
+    demand: &Demand,
+    jobs: &List<u32>,
+) -> Result<List<u64>, OutOfMemory>
+    requires demand { IsTrue (is_sound_demand (length net.now.columns) demand.now) }
+    requires told { AreTold net.now rows.now jobs.now }
+    ensures { IfOk result (λ demands. demands ≡ map (demand_of_job rows.now demand.now) jobs.now) }
+{
+    let mut demands = Vec::with_capacity(alloc, jobs.len())?;
+    for at in 0..jobs.len() {
+        demands.push_reserved(demand_of(rows, demand, *jobs.get(at)));
+    }
+    Ok(List::from_vec(demands))
+}
+
+// What leaves a station with one output, which the arrivals leave at these times, in their order.
+pub fn in_turn(alloc: Global, arrivals: &Stream, departs: List<u64>) -> Result<Outflow, OutOfMemory>
+    ensures { IfOk result (λ leaving. LeaveInTurn arrivals.now.job departs leaving.fates leaving.streams) }
+{
+    let fates = fates_of(alloc, &departs)?;
+    let job = List::from_vec(Vec::from_slice(alloc, arrivals.job.as_slice())?);
+    let streams = only(alloc, Stream { job, time: departs })?;
+    Ok(Outflow { fates, streams })
+}
+
+// The fates of visits that depart at these times.
+#[inline(never)]
+pub fn fates_of(alloc: Global, departs: &List<u64>) -> Result<List<Fate>, OutOfMemory>
+    ensures { IfOk result (λ fates. fates ≡ map (λ time. Departs time) departs.now) }
+{
+    let mut fates = Vec::with_capacity(alloc, departs.len())?;
+    for at in 0..departs.len() {
+        fates.push_reserved(Fate::Departs(*departs.get(at)));
+    }
+    Ok(List::from_vec(fates))
+}
+
+// The streams of a node with one output, of which this is the stream.
+pub fn only(alloc: Global, stream: Stream) -> Result<List<Stream>, OutOfMemory>
+    ensures { IfOk result (λ streams. streams ≡ stream ∷ []) }
+{
+    let mut streams = List::new(alloc);
+    streams.push(stream)?;
+    Ok(streams)
+}
