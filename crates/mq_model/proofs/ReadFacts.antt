@@ -1,11 +1,12 @@
 -- The words from a place on, and what one word does.
-use Rattle.std.proofs.Common.{◌≡◌, ◌∙◌, sym, ap, refl, ℕ, zero, suc, ◌+◌, ◌<◌, ◌≤◌, List, [], ◌∷◌, ◌++◌, length, drop, map, Bool, true, false, Some, None, Result, Ok, Err, Bor, arith, append_assoc, ◌-◌, inl, inr}
+use Rattle.std.proofs.Common.{◌≡◌, ◌∙◌, sym, ap, refl, ℕ, zero, suc, ◌+◌, ◌<◌, ◌≤◌, List, [], ◌∷◌, ◌++◌, length, drop, map, Bool, true, false, Some, None, Result, Ok, Err, Bor, arith, append_assoc, ◌-◌, ◌^◌, inl, inr}
 use Rattle.std.specs.Prelude.{slice_get, ◌&&◌, not, nat_le, nat_lt, get_or, codes}
 use Rattle.std.specs.Char.{is_ascii_lowercase}
 use Rattle.std.specs.List.{list_all}
 use Rattle.std.specs.Str.{bytes_eq}
 use Rattle.std.proofs.lemmas.Bool.{cases_Bool}
 use Rattle.mq_base.specs.Text.{is_number, number_of}
+use Rattle.mq_model.specs.declared.said.Said.TheVariants.{Bound}
 use Rattle.mq_model.specs.declared.said.SaidRoute.TheVariants.{Turn}
 use Rattle.mq_model.specs.Lines.{a_route, counted_route, cut_route, greatest_demand, is_above, is_from_to, is_up_to, modulo_route, rising, thresholds, value_of, way_of, bound_line, inputs, input_of, is_input, is_key, kind_line, line, node_line, delay_kind, forkjoin_kind, loss_kind, server_kind, tandem_kind, source_line, split_kind}
 use Rattle.mq_core.specs.Names.{is_name, is_name_byte}
@@ -254,6 +255,25 @@ below_least w least most v good is h = let low : nat_le least (value_of w) ≡ f
 
 pub from_least : (w : Word) (least most v : ℕ) → is_number w most ≡ true → v ≡ value_of w → least ≤ v → is_from_to least most w ≡ true
 from_least w least most v good is h = let low : nat_le least (value_of w) ≡ true = grind (arith, common_steps, is, h) in rw (good, low) refl
+
+-- a number from 0 is a number up to its limit
+pub from_zero : {A : Type 0} (most : ℕ) (value : Word → A) (ws : List Word) → read (one (is_up_to most) value) ws ≡ read (one (is_from_to 0 most) value) ws
+unfolding read
+from_zero most value [] = refl
+from_zero most value (w ∷ ws) =
+    elim (cases_Bool (is_number w most)) [
+      | inl good ↦ read_one_yes (is_up_to most) value (w ∷ ws) ws w refl good ∙ sym (read_one_yes (is_from_to 0 most) value (w ∷ ws) ws w refl (from_least w 0 most (value_of w) good refl (omega arith)))
+      | inr bad ↦ read_one_no (is_up_to most) value (w ∷ ws) ws w refl bad ∙ sym (read_one_no (is_from_to 0 most) value (w ∷ ws) ws w refl (rw bad refl))
+    ]
+
+-- the bound
+pub bound_is : (ws rest : List Word) (n : ℕ) → read (one (is_from_to 0 (2 ^ 60)) value_of) ws ≡ Ok (n, rest) → read bound_line ws ≡ Ok (Bound n, rest)
+unfolding ◌>>=◌
+bound_is ws rest n h = then_stop (one (is_up_to (2 ^ 60)) value_of) Bound ws rest n (from_zero (2 ^ 60) value_of ws ∙ h)
+
+pub bound_fault : (ws left : List Word) → read (one (is_from_to 0 (2 ^ 60)) value_of) ws ≡ Err left → read bound_line ws ≡ Err left
+unfolding ◌>>=◌
+bound_fault ws left h = then_fault (one (is_up_to (2 ^ 60)) value_of) (λ n. stop (Bound n)) ws left (from_zero (2 ^ 60) value_of ws ∙ h)
 
 -- further thresholds
 pub rising_zero : (last : ℕ) (ws : List Word) → read (rising 0 last) ws ≡ Ok ([], ws)
