@@ -8,7 +8,7 @@ use Rattle.std.proofs.lemmas.Grind.{common_steps, flat_map-append}
 use Rattle.std.proofs.lemmas.List.Folds.{list_all-append, list_any-append}
 use Rattle.mq_base.specs.Text.{words_of}
 use Rattle.mq_model.specs.Form.{Word, read, whole}
-use Rattle.mq_model.specs.Front.{Adds, IsFront, added_fault, columns_fault, grammar_fault, name_fault, numbers_from, unread_fault, with_said}
+use Rattle.mq_model.specs.Front.{IsFront, TakesLine, added_fault, columns_fault, grammar_fault, name_fault, numbers_from, unread_fault, with_said}
 use Rattle.mq_model.specs.Lines.{line}
 use Rattle.mq_model.specs.Model.{begins_bound, begins_comment, is_allowed, is_head, is_skipped, Tells, line_fault, read_fault, said_fault, words_fault}
 use Rattle.mq_model.specs.NetworkOf.{said_of, saids_of}
@@ -294,7 +294,7 @@ add_told before l number front said has_bound is n unskipped some e none bound =
 pub adds_told : (before : List (List ℕ)) (l : List ℕ) (number : ℕ) (said : Said) (old new : Front) (r : Result (Unit {0}) ModelFault)
     → IfOk r (λ _. (added_fault old number said ≡ None) × (new ≡ with_said old number said)) → IfErr r (λ e. Tells e (added_fault old number said))
     → line_fault before l ≡ added_fault old number said → (added_fault old number said ≡ None → IsFront (before ++ l ∷ []) (with_said old number said))
-    → Adds r (line_fault before l) (before ++ l ∷ []) new
+    → TakesLine r (line_fault before l) (before ++ l ∷ []) new
 adds_told before l number said old new (Ok u) good bad same front = (same ∙ good.0, rw good.1 (front good.0))
 adds_told before l number said old new (Err e) good bad same front = λ h. same ∙ bad h
 

@@ -14,7 +14,7 @@ use Rattle.mq_base.specs.Text.{is_number}
 use Rattle.mq_core.specs.Names.{is_name, is_name_byte}
 use Rattle.mq_core.specs.Sound.{is_within}
 use Rattle.mq_model.specs.Form.{Word, one, up_to, read}
-use Rattle.mq_model.specs.Lines.{a_demand, a_name, demand_of, ends_in_output, input_of, inputs, is_demand, is_from_to, is_input, last_byte, value_of}
+use Rattle.mq_model.specs.Lines.{a_demand, a_name, demand_of, ends_in_output, input_of, inputs, is_demand, is_from_to, is_input, key, last_byte, value_of}
 use Rattle.mq_model.specs.Printed.{demand_word, input_word, inputs_words}
 use Rattle.mq_model.specs.declared.said.SaidDemand.{SaidDemand}
 use Rattle.mq_model.specs.declared.said.SaidDemand.TheVariants.{Column, Fixed}
@@ -98,13 +98,17 @@ up_to_again n (input ∷ reads) few are =
     up_to_yes n is_input input_of (input_word input ∷ map input_word reads) (map input_word reads) (input_word input) some refl again.0
     ∙ ap (with_front (input_of (input_word input) ∷ [])) (up_to_again (n - 1) reads fits are.1) ∙ ap (λ first. Ok (first ∷ reads, [])) again.1
 
+from_again : (ws : List Word) → read (key (codes "from")) (codes "from" ∷ ws) ≡ Ok (tt, ws)
+unfolding read
+from_again ws = refl
+
 pub inputs_again : (reads : List SaidInput) → is_within 1 8 (length reads) ≡ true → AreInputs reads → read inputs (inputs_words reads) ≡ Ok (reads, [])
 inputs_again [] count are = absurd (cc)
 inputs_again (input ∷ reads) count are =
     let most : length (input ∷ reads) ≤ 8 = leb-true _ _ (and_parts _ _ count).1 in
     let fits : length reads ≤ 7 = omega arith in
     let again = input_again input are.0 in
-    inputs_first (inputs_words (input ∷ reads)) (input_word input ∷ map input_word reads) (map input_word reads) (codes "from") (input_word input) refl refl refl again.0
+    inputs_first (inputs_words (input ∷ reads)) (input_word input ∷ map input_word reads) (map input_word reads) (input_word input) (from_again (input_word input ∷ map input_word reads)) refl again.0
     ∙ ap (with_front (input_of (input_word input) ∷ [])) (up_to_again 7 reads fits are.1) ∙ ap (λ first. Ok (first ∷ reads, [])) again.1
 
 pub name_again : (name : Word) (more : List Word) → is_name name ≡ true → read a_name (name ∷ more) ≡ Ok (name, more)

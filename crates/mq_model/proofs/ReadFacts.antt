@@ -1,13 +1,15 @@
 -- The words from a place on, and what one word does.
-use Rattle.std.proofs.Common.{◌≡◌, ◌∙◌, sym, ap, refl, ℕ, zero, suc, ◌+◌, ◌<◌, ◌≤◌, List, [], ◌∷◌, ◌++◌, length, drop, map, Bool, true, false, Some, None, Result, Ok, Err, Bor, arith, append_assoc, ◌-◌, inl, inr}
+use Rattle.std.proofs.Common.{◌≡◌, ◌∙◌, sym, ap, refl, ℕ, zero, suc, ◌+◌, ◌<◌, ◌≤◌, List, [], ◌∷◌, ◌++◌, length, drop, map, Bool, true, false, Some, None, Result, Ok, Err, Bor, arith, append_assoc, ◌-◌, ◌^◌, inl, inr}
 use Rattle.std.specs.Prelude.{slice_get, ◌&&◌, not, nat_le, nat_lt, get_or, codes}
 use Rattle.std.specs.Char.{is_ascii_lowercase}
 use Rattle.std.specs.List.{list_all}
 use Rattle.std.specs.Str.{bytes_eq}
 use Rattle.std.proofs.lemmas.Bool.{cases_Bool}
 use Rattle.mq_base.specs.Text.{is_number, number_of}
+use Rattle.mq_model.specs.declared.said.Said.TheVariants.{Bound}
+use Rattle.mq_model.specs.declared.said.SaidInput.{SaidInput}
 use Rattle.mq_model.specs.declared.said.SaidRoute.TheVariants.{Turn}
-use Rattle.mq_model.specs.Lines.{a_route, counted_route, cut_route, greatest_demand, is_above, is_from_to, is_up_to, modulo_route, rising, thresholds, value_of, way_of, bound_line, inputs, input_of, is_input, is_key, kind_line, line, node_line, delay_kind, forkjoin_kind, loss_kind, server_kind, tandem_kind, source_line, split_kind}
+use Rattle.mq_model.specs.Lines.{a_route, counted_route, cut_route, greatest_demand, is_above, is_from_to, is_up_to, modulo_route, rising, thresholds, value_of, way_of, bound_line, inputs, input_of, is_input, is_key, key, kind_line, line, node_line, delay_kind, forkjoin_kind, loss_kind, server_kind, tandem_kind, source_line, split_kind}
 use Rattle.mq_core.specs.Names.{is_name, is_name_byte}
 use Rattle.std.proofs.lemmas.Grind.{common_steps}
 use Rattle.mq_model.specs.Form.{◌>>=◌, Form, Word, stop, word, maybe, one, read, up_to, whole}
@@ -96,29 +98,6 @@ unfolding read up_to
 up_to_yes zero p value all ws w some e h = absurd (omega arith)
 up_to_yes (suc n) p value all ws w some e h = let back : suc n - 1 ≡ n = omega arith in rw (back, e, h, read_then (up_to n p value) (λ more. stop (value w ∷ more)) ws) (front_of (value w) (read (up_to n p value) ws))
 
--- the inputs: the key word, one input, and at most 7 more
-pub inputs_none : (all : List Word) → all ≡ [] → read inputs all ≡ Err all
-unfolding read inputs ◌>>=◌
-inputs_none [] h = refl
-inputs_none (w ∷ ws) h = cc
-
-pub inputs_no_key : (all ws : List Word) (w : Word) → all ≡ w ∷ ws → is_key (102 ∷ 114 ∷ 111 ∷ 109 ∷ []) w ≡ false → read inputs all ≡ Err all
-unfolding read inputs ◌>>=◌
-inputs_no_key all ws w e h = rw (e, h) refl
-
-pub inputs_no_first : (all ws : List Word) (w : Word) → all ≡ w ∷ ws → is_key (102 ∷ 114 ∷ 111 ∷ 109 ∷ []) w ≡ true → ws ≡ [] → read inputs all ≡ Err ws
-unfolding read inputs ◌>>=◌
-inputs_no_first all ws w e h none = rw (e, h, none) refl
-
-pub inputs_bad_first : (all ws more : List Word) (w v : Word) → all ≡ w ∷ ws → is_key (102 ∷ 114 ∷ 111 ∷ 109 ∷ []) w ≡ true → ws ≡ v ∷ more → is_input v ≡ false → read inputs all ≡ Err ws
-unfolding read inputs ◌>>=◌
-inputs_bad_first all ws more w v e h f no_way = rw (e, h, f, no_way) refl
-
-pub inputs_first : (all ws more : List Word) (w v : Word) → all ≡ w ∷ ws → is_key (102 ∷ 114 ∷ 111 ∷ 109 ∷ []) w ≡ true → ws ≡ v ∷ more → is_input v ≡ true
-    → read inputs all ≡ with_front (input_of v ∷ []) (read (up_to 7 is_input input_of) more)
-unfolding read inputs ◌>>=◌
-inputs_first all ws more w v e h f yes_way = rw (e, h, f, yes_way, read_then (up_to 7 is_input input_of) (λ rest. stop (input_of v ∷ rest)) more) (front_of (input_of v) (read (up_to 7 is_input input_of) more))
-
 pub keyed : (w k lit : Word) → lit ≡ k → false ≡ not (bytes_eq w lit) → is_key k w ≡ true
 keyed w k lit e h = let same : bytes_eq w lit ≡ true = grind (arith, common_steps, h) in rw (← e) same
 
@@ -139,6 +118,28 @@ then_stop f value ws rest a e = rw (read_then, e) refl
 pub then_fault : {A B : Type 0} (f : Form A) (more : A → Form B) (ws left : List Word) → read f ws ≡ Err left → read (f >>= more) ws ≡ Err left
 unfolding read
 then_fault f more ws left e = rw (read_then, e) refl
+
+-- the inputs: the key word, one input, and at most 7 more
+abbrev behind_from : Form (List SaidInput)
+behind_from = one is_input input_of >>= λ first. up_to 7 is_input input_of >>= λ more. stop (first ∷ more)
+
+inputs_then : (all : List Word) → read inputs all ≡ go_on (read (key (codes "from")) all) (λ _. behind_from)
+unfolding inputs
+inputs_then all = read_then (key (codes "from")) (λ _. behind_from) all
+
+pub inputs_no_key : (all left : List Word) → read (key (codes "from")) all ≡ Err left → read inputs all ≡ Err left
+inputs_no_key all left h = rw (inputs_then, h) refl
+
+pub inputs_no_first : (all ws : List Word) → read (key (codes "from")) all ≡ Ok (tt, ws) → ws ≡ [] → read inputs all ≡ Err ws
+inputs_no_first all ws h none = rw (inputs_then, h) (then_fault (one is_input input_of) _ ws ws (read_one_none is_input input_of ws none))
+
+pub inputs_bad_first : (all ws more : List Word) (v : Word) → read (key (codes "from")) all ≡ Ok (tt, ws) → ws ≡ v ∷ more → is_input v ≡ false → read inputs all ≡ Err ws
+inputs_bad_first all ws more v h f no_way = rw (inputs_then, h) (then_fault (one is_input input_of) _ ws ws (read_one_no is_input input_of ws more v f no_way))
+
+pub inputs_first : (all ws more : List Word) (v : Word) → read (key (codes "from")) all ≡ Ok (tt, ws) → ws ≡ v ∷ more → is_input v ≡ true
+    → read inputs all ≡ with_front (input_of v ∷ []) (read (up_to 7 is_input input_of) more)
+inputs_first all ws more v h f yes_way =
+    rw (inputs_then, h, read_then, read_one_yes is_input input_of ws more v f yes_way, read_then) (front_of (input_of v) (read (up_to 7 is_input input_of) more))
 
 -- the first way, or the second
 pub read_maybe_yes : {A : Type 0} (p : Word → Bool) (f : Word → Form A) (g : Form A) (all ws : List Word) (w : Word) → all ≡ w ∷ ws → p w ≡ true → read (maybe p f g) all ≡ read (f w) ws
@@ -254,6 +255,25 @@ below_least w least most v good is h = let low : nat_le least (value_of w) ≡ f
 
 pub from_least : (w : Word) (least most v : ℕ) → is_number w most ≡ true → v ≡ value_of w → least ≤ v → is_from_to least most w ≡ true
 from_least w least most v good is h = let low : nat_le least (value_of w) ≡ true = grind (arith, common_steps, is, h) in rw (good, low) refl
+
+-- a number from 0 is a number up to its limit
+pub from_zero : {A : Type 0} (most : ℕ) (value : Word → A) (ws : List Word) → read (one (is_up_to most) value) ws ≡ read (one (is_from_to 0 most) value) ws
+unfolding read
+from_zero most value [] = refl
+from_zero most value (w ∷ ws) =
+    elim (cases_Bool (is_number w most)) [
+      | inl good ↦ read_one_yes (is_up_to most) value (w ∷ ws) ws w refl good ∙ sym (read_one_yes (is_from_to 0 most) value (w ∷ ws) ws w refl (from_least w 0 most (value_of w) good refl (omega arith)))
+      | inr bad ↦ read_one_no (is_up_to most) value (w ∷ ws) ws w refl bad ∙ sym (read_one_no (is_from_to 0 most) value (w ∷ ws) ws w refl (rw bad refl))
+    ]
+
+-- the bound
+pub bound_is : (ws rest : List Word) (n : ℕ) → read (one (is_from_to 0 (2 ^ 60)) value_of) ws ≡ Ok (n, rest) → read bound_line ws ≡ Ok (Bound n, rest)
+unfolding ◌>>=◌
+bound_is ws rest n h = then_stop (one (is_up_to (2 ^ 60)) value_of) Bound ws rest n (from_zero (2 ^ 60) value_of ws ∙ h)
+
+pub bound_fault : (ws left : List Word) → read (one (is_from_to 0 (2 ^ 60)) value_of) ws ≡ Err left → read bound_line ws ≡ Err left
+unfolding ◌>>=◌
+bound_fault ws left h = then_fault (one (is_up_to (2 ^ 60)) value_of) (λ n. stop (Bound n)) ws left (from_zero (2 ^ 60) value_of ws ∙ h)
 
 -- further thresholds
 pub rising_zero : (last : ℕ) (ws : List Word) → read (rising 0 last) ws ≡ Ok ([], ws)

@@ -63,10 +63,10 @@ abbrev pub added_fault : Front → ℕ → Said → Option ModelFault
 added_fault old number said = option_or (name_fault number old.names said) (columns_fault number (columns_after old.columns (mentioned said)))
 
 -- A line is added to those before it, or its fault is told.
-abbrev pub Adds : Result (Unit {0}) ModelFault → Option ModelFault → List (List ℕ) → Front → Type 0
-Adds (Ok _) fault lines new = (fault ≡ None) × IsFront lines new
-Adds (Err e) fault lines new = Tells e fault
+abbrev pub TakesLine : Result (Unit {0}) ModelFault → Option ModelFault → List (List ℕ) → Front → Type 0
+TakesLine (Ok _) fault lines new = (fault ≡ None) × IsFront lines new
+TakesLine (Err e) fault lines new = Tells e fault
 
 abbrev pub AddsLine : Result (Unit {0}) ModelFault → ℕ → List ℕ → Front → Front → Type 0
 AddsLine result number line old new =
-    (before : List (List ℕ)) → IsFront before old → number ≡ length before + 1 → Adds result (line_fault before line) (before ++ line ∷ []) new
+    (before : List (List ℕ)) → IsFront before old → number ≡ length before + 1 → TakesLine result (line_fault before line) (before ++ line ∷ []) new

@@ -42,13 +42,14 @@ abbrev pub demand_of : Word → SaidDemand
 demand_of [] = Fixed 0
 demand_of (b ∷ more) = if b == 61 then Fixed (value_of more) else Column (b ∷ more)
 
--- a name, or a name, a point and a digit from 0 to 7
+-- the last byte of a word, or 0
 abbrev pub last_byte : Word → ℕ
 last_byte w = get_or w (length w - 1) 0
 
 abbrev pub ends_in_output : Word → Bool
 ends_in_output w = nat_le 2 (length w) && (get_or w (length w - 2) 0 == 46) && nat_le 48 (last_byte w) && nat_le (last_byte w) 55
 
+-- a name, or a name, a point and a digit from 0 to 7
 abbrev pub is_input : Word → Bool
 is_input w = is_name w || (ends_in_output w && is_name (take (length w - 2) w))
 
@@ -73,10 +74,11 @@ inputs = do
   more ← up_to 7 is_input input_of
   stop (first ∷ more)
 
--- at most n further thresholds, each above the one before
+-- a threshold above this one
 abbrev pub is_above : ℕ → Word → Bool
 is_above last w = is_number w greatest_demand && nat_lt last (digits_value 10 w)
 
+-- at most n further thresholds, each above the one before
 unfoldable pub rising : ℕ → ℕ → Form (List ℕ)
 rising zero last = stop []
 rising (suc n) last =
@@ -185,7 +187,7 @@ node_line kind = do
   reads ← inputs
   stop (Node name said reads)
 
--- the rest of a line of its own
+-- what stands behind `bound`
 abbrev pub bound_line : Form Said
 bound_line = one (is_up_to (2 ^ 60)) (λ w. Bound (value_of w))
 

@@ -32,10 +32,6 @@ is_head (w ∷ []) = false
 is_head (w ∷ v ∷ []) = bytes_eq w (codes "model") && bytes_eq v (codes "1")
 is_head (w ∷ v ∷ u ∷ ws) = false
 
--- the number of the first word with which the words begin no line, if there is one
-unfoldable pub bad_word : List Word → Option ℕ
-bad_word ws = elim (whole (read line ws)) [ Ok said ↦ None | Err left ↦ Some (length ws - length left + 1) ]
-
 abbrev pub begins_bound : List Word → Bool
 begins_bound [] = false
 begins_bound (w ∷ ws) = bytes_eq w (codes "bound")
@@ -115,10 +111,6 @@ text_fault lines =
 abbrev pub model_fault : List ℕ → Option ModelFault
 model_fault text = if nat_lt 65536 (length text) then Some TooLong else text_fault (lines_of (without_mark text))
 
--- Unless memory ran out, the error is this fault; without one it is this value.
+-- Unless memory ran out, the error is this fault.
 abbrev pub Tells : ModelFault → Option ModelFault → Type 0
 Tells e fault = e ≢ Memory → fault ≡ Some e
-
-abbrev pub Answers : {A : Type 0} → Result A ModelFault → Option ModelFault → A → Type 0
-Answers (Ok x) fault said = (fault ≡ None) × (x ≡ said)
-Answers (Err e) fault said = Tells e fault

@@ -33,18 +33,20 @@ route_words (Modulo outputs column) = decimal outputs ∷ codes "mod" ∷ column
 route_words (Turn outputs) = decimal outputs ∷ codes "turn" ∷ []
 route_words (Cut column thresholds) = codes "cut" ∷ column ∷ map decimal thresholds
 
--- the first stage is its demand, and each further one a slash, its places and its demand
+-- a further stage
 abbrev pub stage_words : SaidStage → List Word
 stage_words stage = codes "/" ∷ decimal stage.places ∷ demand_word stage.demand ∷ []
 
+-- the first stage is its demand, and each further one a slash, its places and its demand
 abbrev pub stages_words : List SaidStage → List Word
 stages_words [] = []
 stages_words (stage ∷ stages) = demand_word stage.demand ∷ flat_map stage_words stages
 
--- the demands of each branch, and a bar before each further branch
+-- a further branch
 abbrev pub barred_words : List SaidDemand → List Word
 barred_words demands = codes "|" ∷ map demand_word demands
 
+-- the demands of each branch, and a bar before each further branch
 abbrev pub branches_words : List (List SaidDemand) → List Word
 branches_words [] = []
 branches_words (demands ∷ branches) = map demand_word demands ++ flat_map barred_words branches

@@ -11,7 +11,7 @@ pub enum ModelFault {
     BadByte { line: u32 },
     /// The first line that is neither empty nor a comment isn't `model 1`; the line after the last, where there is none.
     BadHead { line: u32 },
-    /// The line isn't in the grammar: so many of its words begin no line, and fewer do.
+    /// The line isn't in the grammar. Its first `word` words begin no line, and its first `word` - 1 do; `word` is one more than it has, where its end is missing.
     BadLine { line: u32, word: u32 },
     /// An earlier line declares a node of this name.
     NameTwice { line: u32 },

@@ -20,7 +20,6 @@ pub use fault::ModelFault;
 pub use laws::{examples_are_answered, first_bad_word, printed_models_are_read};
 pub use print::print_model;
 pub use read::read_model;
-pub use said::{Said, SaidDemand, SaidInput, SaidKind, SaidRoute};
 
 #[cfg(test)]
 mod tests;

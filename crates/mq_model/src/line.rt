@@ -4,11 +4,11 @@ ghost use Rattle.mq_model.specs.Form.{Word, read, whole};
 ghost use Rattle.mq_model.specs.Lines.{bound_line, kind_line, line, node_line, source_line};
 ghost use Rattle.mq_model.specs.Reading.{Reads, ReadsLine, form_of, words_from};
 
-use crate::parts::{Stop, read_demand, read_inputs, read_name, word_at};
+use crate::parts::{Stop, read_demand, read_inputs, read_name, read_within, word_at};
 use crate::route::read_route;
 use crate::said::{Said, SaidKind};
 use crate::station::{read_forkjoin, read_loss, read_tandem};
-use mq_base::{List, read_number};
+use mq_base::List;
 use std::alloc::Global;
 
 /// The first word of a line whose node reads inputs.
@@ -80,19 +80,12 @@ fn read_node(alloc: Global, words: &[&[u8]], at: &mut usize, first: KindWord) ->
 }
 
 /// Reads what stands behind `bound`.
-#[tactic(auto, using(crate::proofs::ReadFacts::choices))]
 fn read_bound(words: &[&[u8]], at: &mut usize) -> Result<Said, Stop>
     ensures reads { Reads result (words_from words.now at.new) (read bound_line (words_from words.now at.old)) }
     ensures within { at.old ≤ length words.now → at.new ≤ length words.now }
 {
-    let Some(word) = word_at(words, *at) else {
-        return Err(Stop::Word);
-    };
-    let Some(value) = read_number(word, 1 << 60) else {
-        return Err(Stop::Word);
-    };
-    *at += 1;
-    Ok(Said::Bound(value))
+    let bound = read_within(words, at, 0, 1 << 60)?;
+    Ok(Said::Bound(bound))
 }
 
 /// Reads what stands behind `source`.

@@ -1,7 +1,7 @@
 // The parts of a line that several kinds share.
 ghost use Rattle.std.specs.Prelude.{◌≡◌, ◌+◌, ◌<◌, ◌≤◌, [], ◌∷◌, IfOk, IfSome, MatchOption, length};
 ghost use Rattle.mq_model.specs.Form.{one, read};
-ghost use Rattle.mq_model.specs.Lines.{a_demand, a_name, inputs, is_from_to, is_up_to, key, value_of};
+ghost use Rattle.mq_model.specs.Lines.{a_demand, a_name, inputs, is_from_to, key, value_of};
 ghost use Rattle.mq_model.specs.Reading.{Reads, words_from};
 
 use crate::said::{SaidDemand, SaidInput};
@@ -127,14 +127,8 @@ pub fn read_inputs(alloc: Global, words: &[&[u8]], at: &mut usize) -> Result<Lis
     ensures reads { Reads result (words_from words.now at.new) (read inputs (words_from words.now at.old)) }
     ensures within { at.old ≤ length words.now → at.new ≤ length words.now }
 {
-    let Some(word) = word_at(words, *at) else {
-        return Err(Stop::Word);
-    };
-    if word != b"from".as_slice() {
-        return Err(Stop::Word);
-    }
-    *at += 1;
-    let Some(word) = word_at(words, *at) else {
+    read_key(words, at, b"from")?;
+    let Some(word) = word_at(&*words, *at) else {
         return Err(Stop::Word);
     };
     if !is_input(word) {

@@ -1,7 +1,7 @@
 // The route of a split.
 ghost use Rattle.std.specs.Prelude.{◌≡◌, ◌≤◌, MatchOption, false, length, true};
-ghost use Rattle.mq_model.specs.Form.{one, read};
-ghost use Rattle.mq_model.specs.Lines.{a_route, counted_route, cut_route, greatest_demand, is_above, is_up_to, modulo_route, thresholds, value_of, way_of};
+ghost use Rattle.mq_model.specs.Form.{read};
+ghost use Rattle.mq_model.specs.Lines.{a_route, counted_route, cut_route, is_above, modulo_route, thresholds, value_of, way_of};
 ghost use Rattle.mq_model.specs.Reading.{Reads, words_from};
 
 use crate::parts::{Stop, read_name, read_within, word_at};
@@ -23,29 +23,13 @@ fn number_above(word: &[u8], last: u64) -> Option<u64>
     Some(number)
 }
 
-/// Reads a threshold.
-#[tactic(auto, using(crate::proofs::ReadFacts::choices))]
-fn read_threshold(words: &[&[u8]], at: &mut usize) -> Result<u64, Stop>
-    ensures reads { Reads result (words_from words.now at.new) (read (one (is_up_to greatest_demand) value_of) (words_from words.now at.old)) }
-    ensures within { at.old ≤ length words.now → at.new ≤ length words.now }
-{
-    let Some(word) = word_at(words, *at) else {
-        return Err(Stop::Word);
-    };
-    let Some(value) = read_number(word, GREATEST_DEMAND) else {
-        return Err(Stop::Word);
-    };
-    *at += 1;
-    Ok(value)
-}
-
 /// Reads 1 to 7 thresholds, each above the one before.
 #[tactic(auto, using(crate::proofs::ReadFacts::choices))]
 fn read_thresholds(alloc: Global, words: &[&[u8]], at: &mut usize) -> Result<List<u64>, Stop>
     ensures reads { Reads result (words_from words.now at.new) (read thresholds (words_from words.now at.old)) }
     ensures within { at.old ≤ length words.now → at.new ≤ length words.now }
 {
-    let mut last = read_threshold(words, at)?;
+    let mut last = read_within(words, at, 0, GREATEST_DEMAND)?;
     let mut cuts = List::new(alloc);
     cuts.push(last)?;
     for count in 0..6u8 {

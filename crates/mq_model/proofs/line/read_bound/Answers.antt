@@ -1,18 +1,15 @@
-use Rattle.std.proofs.Common.{◌≡◌, ◌∙◌, refl, arith, true, false, ◌^◌}
-use Rattle.std.proofs.lemmas.Grind.{common_steps}
-use Rattle.mq_base.specs.Text.{is_number}
-use Rattle.mq_model.specs.Lines.{is_up_to, value_of}
-use Rattle.mq_model.specs.declared.said.Said.TheVariants.{Bound}
-use Rattle.mq_model.proofs.ReadFacts.{read_one_no, read_one_yes}
+use Rattle.std.proofs.Common.{◌^◌}
+use Rattle.std.proofs.lemmas.Result.{err_from_is_err_and}
+use Rattle.mq_model.specs.Form.{one, read}
+use Rattle.mq_model.specs.Lines.{is_from_to, value_of}
+use Rattle.mq_model.specs.Reading.{words_from}
+use Rattle.mq_model.proofs.ReadFacts.{bound_fault, bound_is, stops}
 use Rattle.mq_model.proofs.line.read_bound.Goals as goal
 
-pub returns-in_default-read_number-clause-reads : goal.returns-in_default-read_number-clause-reads
-returns-in_default-read_number-clause-reads c =
-    let bad : is_number c.in-Some.word.now (2 ^ 60) ≡ false = grind (arith, common_steps, c.in_default-read_number.ensures) in
-    read_one_no (is_up_to (2 ^ 60)) (λ w. Bound (value_of w)) _ _ _ c.in-Some.ensures.next bad
+pub returns-in_err-bound-clause-reads : goal.returns-in_err-bound-clause-reads
+returns-in_err-bound-clause-reads c =
+    let p = err_from_is_err_and c.from_residual.result c.from_residual.ensures.1 in
+    rw (p.1, p.2) (stops c.in_err-bound.field-0.0 _ (read (one (is_from_to 0 (2 ^ 60)) value_of) (words_from c.args.words.now c.args.at.now)) _ c.in_err-bound.ensures.reads (λ l e. bound_fault _ l e))
 
 pub returns-clause-reads : goal.returns-clause-reads
-returns-clause-reads c =
-    let good : is_number c.in-Some.word.now (2 ^ 60) ≡ true = grind (arith, common_steps, c.in-Some-read_number.ensures) in
-    let value : c.in-Some-read_number.value ≡ value_of c.in-Some.word.now = grind (arith, common_steps, c.in-Some-read_number.ensures) in
-    read_one_yes (is_up_to (2 ^ 60)) (λ w. Bound (value_of w)) _ _ _ c.in-Some.ensures.next good ∙ rw value refl
+returns-clause-reads c = bound_is _ _ _ c.in_ok-bound.ensures.reads

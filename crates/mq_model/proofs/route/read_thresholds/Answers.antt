@@ -1,19 +1,19 @@
 use Rattle.std.proofs.Common.{◌≡◌, ◌∙◌, refl, arith, ◌-◌, ◌+◌, append-nil}
 use Rattle.std.proofs.lemmas.Result.{err_from_is_err_and}
 use Rattle.mq_model.specs.Form.{one, read}
-use Rattle.mq_model.specs.Lines.{greatest_demand, is_up_to, value_of}
+use Rattle.mq_model.specs.Lines.{greatest_demand, is_from_to, value_of}
 use Rattle.mq_model.specs.Reading.{words_from}
-use Rattle.mq_model.proofs.ReadFacts.{rising_no, rising_none, rising_yes, rising_zero, stops, thresholds_fault, thresholds_first, with_front_twice}
+use Rattle.mq_model.proofs.ReadFacts.{from_zero, rising_no, rising_none, rising_yes, rising_zero, stops, thresholds_fault, thresholds_first, with_front_twice}
 use Rattle.mq_model.proofs.route.read_thresholds.Goals as goal
 
 pub returns-in_err-last-clause-reads : goal.returns-in_err-last-clause-reads
 returns-in_err-last-clause-reads c =
     let p = err_from_is_err_and c.from_residual.result c.from_residual.ensures.1 in
-    rw (p.1, p.2) (stops c.in_err-last.field-0.0 _ (read (one (is_up_to greatest_demand) value_of) (words_from c.args.words.now c.args.at.now)) _ c.in_err-last.ensures.reads (λ l e. thresholds_fault _ l e))
+    rw (p.1, p.2) (stops c.in_err-last.field-0.0 _ (read (one (is_from_to 0 greatest_demand) value_of) (words_from c.args.words.now c.args.at.now)) _ c.in_err-last.ensures.reads (λ l e. thresholds_fault _ l (from_zero greatest_demand value_of _ ∙ e)))
 
 pub loop-count-init : goal.loop-count-init
 loop-count-init c = record {
-  reads = rw (c.in_ok-push.ensures.ok, c.new-cuts.ensures) (thresholds_first _ _ _ c.in_ok-last.ensures.reads);
+  reads = rw (c.in_ok-push.ensures.ok, c.new-cuts.ensures) (thresholds_first _ _ _ (from_zero greatest_demand value_of _ ∙ c.in_ok-last.ensures.reads));
   within = c.in_ok-last.ensures.within;
 }
 
