@@ -128,7 +128,7 @@ pub fn read_inputs(alloc: Global, words: &[&[u8]], at: &mut usize) -> Result<Lis
     ensures within { at.old ≤ length words.now → at.new ≤ length words.now }
 {
     read_key(words, at, b"from")?;
-    let Some(word) = word_at(&*words, *at) else {
+    let Some(word) = word_at(words, *at) else {
         return Err(Stop::Word);
     };
     if !is_input(word) {
