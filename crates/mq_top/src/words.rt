@@ -18,9 +18,9 @@ use std::alloc::Global;
 pub enum Input<'a> {
     /// Two files.
     Named {
-        /// The name of the model.
+        /// The name of the model's file.
         model: &'a str,
-        /// The name of the trace.
+        /// The name of the trace's file.
         trace: &'a str,
     },
     /// The made input of this number.
@@ -32,11 +32,11 @@ pub enum Input<'a> {
 pub struct Settings<'a> {
     /// What is to be read.
     pub input: Input<'a>,
-    /// How many workers, from 1 to 64.
+    /// How many workers, from 1 to 64; 4 where the words don't say.
     pub workers: u64,
-    /// How many jobs a block has, from 1 to 65,536.
+    /// How many jobs a block has, from 1 to 65,536; 4,096 where the words don't say.
     pub block: u64,
-    /// Whether the report has the lines of the jobs.
+    /// Whether the report has the lines of the jobs, one for each visit.
     pub jobs: bool,
 }
 
@@ -45,12 +45,12 @@ pub struct Settings<'a> {
 pub enum Form<'a> {
     /// Two names.
     Names {
-        /// The name of the model.
+        /// The name of the model's file.
         model: &'a str,
-        /// The name of the trace.
+        /// The name of the trace's file.
         trace: &'a str,
     },
-    /// The text behind `--made`.
+    /// The text behind `--made`, not yet read as a number.
     Made(&'a str),
 }
 
