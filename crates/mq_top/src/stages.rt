@@ -27,8 +27,10 @@ use mq_report::report;
 use mq_trace::{TraceFault, read_trace};
 use std::alloc::Global;
 
+// The most bytes that the text of a model may have.
 const MODEL_LIMIT: u64 = 65_536;
 
+// The most bytes that the text of a trace may have.
 const TRACE_LIMIT: u64 = 134_217_728;
 
 // Judges the bytes of a model.
