@@ -1,7 +1,6 @@
 // The call that the program makes, stage by stage.
-ghost use Rattle.std.specs.Prelude.{◌≡◌, ◌≢◌, ◌⊎◌, ◌+◌, ◌-◌, ◌^◌, ◌<◌, ◌≤◌, ◌↔◌, ℕ, List, Bool, true, false, length, Err, IsErrOf, IfOk, IfErr, IfSome, IsTrue, Some, None, []};
-ghost use Rattle.std.specs.Io.KnownBytes.{append_known};
-ghost use Rattle.mq_base.specs.Outside.{next_count, Rose, TakesPrefix};
+ghost use Rattle.std.specs.Prelude.{◌≡◌, ◌≢◌, ◌⊎◌, ◌-◌, ◌^◌, ◌<◌, ◌≤◌, ℕ, List, Bool, true, false, length, Err, IsErrOf, IfOk, IfErr, IfSome, IsTrue, Some, None, []};
+ghost use Rattle.mq_base.specs.Outside.{next_count, Rose};
 ghost use Rattle.mq_core.specs.NetworkRun.{past_in};
 ghost use Rattle.mq_core.specs.Theorems.{IsReadFor};
 ghost use Rattle.mq_gen.specs.Made.{made_model, made_trace};
