@@ -9,7 +9,7 @@ use Rattle.mq_gen.specs.Made.{made_model, made_trace}
 use Rattle.mq_model.specs.NetworkOf.{network_in}
 use Rattle.mq_report.specs.Text.{report_in}
 use Rattle.mq_trace.specs.Trace.{rows_in}
-use Rattle.mq_top.specs.Answer.{Answer, answer, answer_over, model_answer, run_answer, trace_answer}
+use Rattle.mq_top.specs.Answer.{Answer, answer, model_answer, run_answer, trace_answer}
 use Rattle.mq_top.specs.Answer.Answer.{ModelRefused, TraceRefused, PassesBound, Reported}
 use Rattle.mq_top.specs.Ends.{Ends, IsOfMade, RefusesModel, RefusesTrace, Taken}
 use Rattle.mq_top.specs.declared.outcome.Outcome.{Outcome}

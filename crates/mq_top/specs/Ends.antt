@@ -20,7 +20,7 @@ pub record Taken : Type 0 where
   pub sure_before : ℕ
   pub sure_now : ℕ
 
--- the same of a sink
+-- these of a sink, by its own functions
 abbrev pub takings : {S : Type 0} (taken : S → Option (List ℕ)) (sure : S → ℕ) (before now : S) → Taken
 takings taken sure before now = record { before = taken before; now = taken now; sure_before = sure before; sure_now = sure now }
 
@@ -68,7 +68,7 @@ IsOfMade _ = ⊥
 abbrev pub FailedAt : (place reads reads' faults' : ℕ) → Type 0
 FailedAt place reads reads' faults' = reads < 2 ^ 63 → (reads' ≡ reads + place) × (faults' ≡ reads')
 
--- after every outcome but these two all is as before
+-- after every outcome but Done and WriteFault nothing changed
 abbrev pub Untouched : {A : Type 0} → Outcome → A → A → Type 0
 Untouched Done before now = Unit {0}
 Untouched WriteFault before now = Unit {0}

@@ -1,5 +1,6 @@
 -- The words behind the program's name: which lists are refused and why, and what the others ask for.
-use Rattle.std.specs.Prelude.{◌≡◌, ◌==◌, ◌&&◌, ◌||◌, ℕ, Bool, true, false, not, List, [], ◌∷◌, length, codes, bytes_eq, slice_index, slice_get, nat_lt, nat_le, ◌-◌, ◌^◌, Option, Some, None, is_some, is_none, option_and_then, if◌then◌else◌}
+use Rattle.std.specs.Prelude.{◌≡◌, ◌==◌, ◌&&◌, ◌||◌, ℕ, Bool, true, false, not, List, [], ◌∷◌, length, map, codes, bytes_eq, slice_index, slice_get, nat_lt, nat_le, ◌-◌, ◌^◌, Option, Some, None, is_some, is_none, option_and_then, if◌then◌else◌}
+use Rattle.std.specs.Borrow.{Bor}
 use Rattle.std.specs.List.{list_any}
 use Rattle.mq_base.specs.Text.{number_of}
 use Rattle.mq_top.specs.declared.outcome.UsageFault.{UsageFault}
@@ -7,6 +8,10 @@ use Rattle.mq_top.specs.declared.outcome.UsageFault.TheVariants.{Words, Form, Wo
 use Rattle.mq_top.specs.declared.words.Input.{Input}
 use Rattle.mq_top.specs.declared.words.Input.TheVariants as input
 use Rattle.mq_top.specs.declared.words.Settings.{Settings}
+
+-- the words as lists of bytes
+abbrev pub texts : List (Bor (List ℕ)) → List (List ℕ)
+texts words = map (λ w. w.now) words
 
 -- the options: three that take a value, and a flag
 abbrev pub workers_option : List ℕ

@@ -33,21 +33,23 @@ pub enum Outcome {
     Model(ModelFault),
     /// The trace is refused; never with its want of memory.
     Trace(TraceFault),
-    /// A visit departs after the model's bound.
+    /// A visit departs after the model's bound: at which node, at which position among the visits
+    /// to it, and at which tick.
     Past(PastFault),
     /// The model can't be read, or with `second` the trace.
     ReadFault {
         /// It was the second read of the call, which is that of the trace.
         second: bool,
     },
-    /// The report can't be written; a first part of it was.
+    /// The report can't be written; a first part of it was, which may be empty.
     WriteFault,
     /// Memory ran out, before the first byte was written.
     Memory,
 }
 
 impl Outcome {
-    /// The status with which the program ends.
+    /// The status with which the program ends: 0 after `Done`, and from 2 to 8 after the others, in
+    /// their order.
     pub fn status(&self) -> u8
         ensures { result ≡ status_of self.now }
     {

@@ -1,7 +1,7 @@
 // Which lists of words are refused outright.
-ghost use Rattle.std.specs.Prelude.{◌≡◌, ◌<◌, ◌≤◌, ◌∷◌, [], true, length, map, IsNone, IfSome, nat_lt};
+ghost use Rattle.std.specs.Prelude.{◌≡◌, ◌≤◌, ◌∷◌, [], true, length, IsNone, IfSome, nat_lt};
 ghost use Rattle.std.specs.List.{list_any};
-ghost use Rattle.mq_top.specs.Words.{begins_with_dash as begins_with_dash_of, begins_with_value as begins_with_value_of, has_word as has_word_of, is_option as is_option_of, is_bad_word as is_bad_word_of, is_unknown as is_unknown_of, left_from, lacks_value as lacks_value_of, refuses_words as refuses_words_of, stands_twice as stands_twice_of, takes_value as takes_value_of, words_left};
+ghost use Rattle.mq_top.specs.Words.{begins_with_dash as begins_with_dash_of, begins_with_value as begins_with_value_of, has_word as has_word_of, is_option as is_option_of, is_bad_word as is_bad_word_of, is_unknown as is_unknown_of, left_from, lacks_value as lacks_value_of, refuses_words as refuses_words_of, stands_twice as stands_twice_of, takes_value as takes_value_of, texts, words_left};
 
 fn begins_with_dash(word: &str) -> bool
     ensures { result ≡ begins_with_dash_of word.now }
@@ -35,7 +35,7 @@ fn is_bad_word(word: &str) -> bool
 }
 
 fn has_bad_word(words: &[&str]) -> bool
-    ensures { result ≡ list_any is_bad_word_of (map (λ w. w.now) words.now) }
+    ensures { result ≡ list_any is_bad_word_of (texts words.now) }
 {
     let mut left = words;
     while let [first, rest @ ..] = left {
@@ -48,7 +48,7 @@ fn has_bad_word(words: &[&str]) -> bool
 }
 
 fn has_word(words: &[&str], word: &str) -> bool
-    ensures { result ≡ has_word_of word.now (map (λ w. w.now) words.now) }
+    ensures { result ≡ has_word_of word.now (texts words.now) }
 {
     let mut left = words;
     while let [first, rest @ ..] = left {
@@ -61,7 +61,7 @@ fn has_word(words: &[&str], word: &str) -> bool
 }
 
 fn stands_twice(words: &[&str], word: &str) -> bool
-    ensures { result ≡ stands_twice_of word.now (map (λ w. w.now) words.now) }
+    ensures { result ≡ stands_twice_of word.now (texts words.now) }
 {
     let mut left = words;
     while let [first, rest @ ..] = left {
@@ -74,7 +74,7 @@ fn stands_twice(words: &[&str], word: &str) -> bool
 }
 
 fn begins_with_value(words: &[&str]) -> bool
-    ensures { result ≡ begins_with_value_of (map (λ w. w.now) words.now) }
+    ensures { result ≡ begins_with_value_of (texts words.now) }
 {
     match words {
         [first, ..] => !begins_with_dash(first),
@@ -83,7 +83,7 @@ fn begins_with_value(words: &[&str]) -> bool
 }
 
 fn lacks_value(words: &[&str]) -> bool
-    ensures { result ≡ lacks_value_of (map (λ w. w.now) words.now) }
+    ensures { result ≡ lacks_value_of (texts words.now) }
 {
     let mut left = words;
     while let [first, rest @ ..] = left {
@@ -97,7 +97,7 @@ fn lacks_value(words: &[&str]) -> bool
 
 // What stands behind the value that the words begin with.
 fn behind_value<'a, 'b>(words: &'a [&'b str]) -> &'a [&'b str]
-    ensures left { words_left (map (λ w. w.now) result.now) ≡ left_from true (map (λ w. w.now) words.now) }
+    ensures left { words_left (texts result.now) ≡ left_from true (texts words.now) }
     ensures within { length result.now ≤ length words.now }
 {
     match words {
@@ -108,8 +108,8 @@ fn behind_value<'a, 'b>(words: &'a [&'b str]) -> &'a [&'b str]
 
 // The first of the words that are left, and the words behind it.
 fn next_name<'a, 'b>(words: &'a [&'b str]) -> Option<(&'b str, &'a [&'b str])>
-    ensures none { IsNone result → words_left (map (λ w. w.now) words.now) ≡ [] }
-    ensures some { IfSome result (λ next. words_left (map (λ w. w.now) words.now) ≡ next.0.now ∷ words_left (map (λ w. w.now) next.1.now)) }
+    ensures none { IsNone result → words_left (texts words.now) ≡ [] }
+    ensures some { IfSome result (λ next. words_left (texts words.now) ≡ next.0.now ∷ words_left (texts next.1.now)) }
 {
     let mut left = words;
     while let [first, rest @ ..] = left {
@@ -126,7 +126,7 @@ fn next_name<'a, 'b>(words: &'a [&'b str]) -> Option<(&'b str, &'a [&'b str])>
 
 // More than two words are left.
 fn has_third_name(words: &[&str]) -> bool
-    ensures { result ≡ nat_lt 2 (length (words_left (map (λ w. w.now) words.now))) }
+    ensures { result ≡ nat_lt 2 (length (words_left (texts words.now))) }
 {
     let Some((_, behind_first)) = next_name(words) else {
         return false;
@@ -140,7 +140,7 @@ fn has_third_name(words: &[&str]) -> bool
 /// Whether the words are refused outright: a word is empty or an unknown option, an option stands
 /// twice or lacks its value, or more than two words are left.
 pub fn refuses_words(words: &[&str]) -> bool
-    ensures { result ≡ refuses_words_of (map (λ w. w.now) words.now) }
+    ensures { result ≡ refuses_words_of (texts words.now) }
 {
     has_bad_word(words)
         || stands_twice(words, "--workers")

@@ -1,7 +1,6 @@
 // The call that the program makes, stage by stage.
-ghost use Rattle.std.specs.Prelude.{◌≡◌, ◌≢◌, ◌⊎◌, ◌+◌, ◌-◌, ◌^◌, ◌<◌, ◌≤◌, ◌↔◌, ℕ, List, Bool, true, false, length, map, Err, IsErrOf, IfOk, IfErr, IfSome, IsTrue, Some, None, []};
-ghost use Rattle.std.specs.Io.KnownBytes.{append_known};
-ghost use Rattle.mq_base.specs.Outside.{next_count, Rose, TakesPrefix};
+ghost use Rattle.std.specs.Prelude.{◌≡◌, ◌≢◌, ◌⊎◌, ◌-◌, ◌^◌, ◌<◌, ◌≤◌, ℕ, List, Bool, true, false, length, Err, IsErrOf, IfOk, IfErr, IfSome, IsTrue, Some, None, []};
+ghost use Rattle.mq_base.specs.Outside.{next_count, Rose};
 ghost use Rattle.mq_core.specs.NetworkRun.{past_in};
 ghost use Rattle.mq_core.specs.Theorems.{IsReadFor};
 ghost use Rattle.mq_gen.specs.Made.{made_model, made_trace};
@@ -13,7 +12,7 @@ ghost use Rattle.mq_top.specs.Answer.{answer, answer_over, run_answer};
 ghost use Rattle.mq_top.specs.Answer.Answer.{Reported};
 ghost use Rattle.mq_top.specs.Ends.{Ends, FailedAt, IsLate, IsOfMade, Reads, RefusesModel, RefusesTrace, Untouched, takings};
 ghost use Rattle.mq_top.specs.Lines.{PutsLine, line_text, name_of as name_of_outcome};
-ghost use Rattle.mq_top.specs.Words.{Makes, Names, asks_made, jobs_asked, refuses_words, usage_fault};
+ghost use Rattle.mq_top.specs.Words.{Makes, Names, asks_made, jobs_asked, refuses_words, texts, usage_fault};
 
 use crate::line::{name_of, put_line};
 use crate::outcome::{Outcome, UsageFault};
@@ -27,8 +26,10 @@ use mq_report::report;
 use mq_trace::{TraceFault, read_trace};
 use std::alloc::Global;
 
+// The most bytes that the text of a model may have.
 const MODEL_LIMIT: u64 = 65_536;
 
+// The most bytes that the text of a trace may have.
 const TRACE_LIMIT: u64 = 134_217_728;
 
 // Judges the bytes of a model.
@@ -205,48 +206,48 @@ pub fn simulate<F: Files, O: Sink, E: Sink>(
 ) -> Outcome
     // A finished run has written exactly the report of the event list, and a run ends otherwise only with the fault
     // that the definitions give, or with a fault of a device or want of memory.
-    ensures ends { (m t model trace : List ℕ) → Names (map (λ w. w.now) words.now) m t → F.told files.old m ≡ Some model → F.told files.old t ≡ Some trace →
-        Ends (answer model trace (jobs_asked (map (λ w. w.now) words.now))) result (takings O.taken O.sure out.old out.new) }
+    ensures ends { (m t model trace : List ℕ) → Names (texts words.now) m t → F.told files.old m ≡ Some model → F.told files.old t ≡ Some trace →
+        Ends (answer model trace (jobs_asked (texts words.now))) result (takings O.taken O.sure out.old out.new) }
 
     // The words are refused exactly so, and a model is refused whatever is told of the trace.
-    ensures usage { (fault : UsageFault) → result ≡ Outcome.Usage fault → usage_fault (map (λ w. w.now) words.now) ≡ Some fault }
-    ensures usage_comes { (fault : UsageFault) → usage_fault (map (λ w. w.now) words.now) ≡ Some fault → (result ≡ Outcome.Usage fault) ⊎ (result ≡ Outcome.Memory) }
-    ensures words { IsTrue (refuses_words (map (λ w. w.now) words.now)) → result ≡ Outcome.Usage UsageFault.Words }
-    ensures model { (m t model : List ℕ) (fault : ModelFault) → Names (map (λ w. w.now) words.now) m t → F.told files.old m ≡ Some model → model_fault model ≡ Some fault →
+    ensures usage { (fault : UsageFault) → result ≡ Outcome.Usage fault → usage_fault (texts words.now) ≡ Some fault }
+    ensures usage_comes { (fault : UsageFault) → usage_fault (texts words.now) ≡ Some fault → (result ≡ Outcome.Usage fault) ⊎ (result ≡ Outcome.Memory) }
+    ensures words { IsTrue (refuses_words (texts words.now)) → result ≡ Outcome.Usage UsageFault.Words }
+    ensures model { (m t model : List ℕ) (fault : ModelFault) → Names (texts words.now) m t → F.told files.old m ≡ Some model → model_fault model ≡ Some fault →
         RefusesModel result (Some model) }
-    ensures model_only { (m t model : List ℕ) (fault : ModelFault) → Names (map (λ w. w.now) words.now) m t → F.told files.old m ≡ Some model → result ≡ Outcome.Model fault → model_fault model ≡ Some fault }
+    ensures model_only { (m t model : List ℕ) (fault : ModelFault) → Names (texts words.now) m t → F.told files.old m ≡ Some model → result ≡ Outcome.Model fault → model_fault model ≡ Some fault }
     ensures never { (result ≢ Outcome.Model ModelFault.Memory) × (result ≢ Outcome.Trace TraceFault.Memory) }
 
     // A fault of a device is counted.
     ensures first { result ≡ Outcome.ReadFault false → FailedAt 1 (F.reads files.old) (F.reads files.new) (F.faults files.new) × Rose (F.faults files.old) (F.faults files.new) }
     ensures second { result ≡ Outcome.ReadFault true → FailedAt 2 (F.reads files.old) (F.reads files.new) (F.faults files.new) × Rose (F.faults files.old) (F.faults files.new) }
-    ensures reads { asks_made (map (λ w. w.now) words.now) ≡ false → Reads result (F.reads files.old) (F.reads files.new) }
-    ensures first_name { (m t : List ℕ) → Names (map (λ w. w.now) words.now) m t → F.is_sure files.old m ≡ true → F.faults files.old < 2 ^ 64 - 1 → result ≢ Outcome.ReadFault false }
-    ensures second_name { (m t : List ℕ) → Names (map (λ w. w.now) words.now) m t → F.is_sure files.old t ≡ true → F.faults files.old < 2 ^ 64 - 1 → result ≢ Outcome.ReadFault true }
-    ensures unread { (fault : UsageFault) → usage_fault (map (λ w. w.now) words.now) ≡ Some fault → files.new ≡ files.old }
-    ensures sure_names { (m t : List ℕ) → Names (map (λ w. w.now) words.now) m t → F.is_sure files.old m ≡ true → F.is_sure files.old t ≡ true → F.faults files.new ≡ F.faults files.old }
+    ensures reads { asks_made (texts words.now) ≡ false → Reads result (F.reads files.old) (F.reads files.new) }
+    ensures first_name { (m t : List ℕ) → Names (texts words.now) m t → F.is_sure files.old m ≡ true → F.faults files.old < 2 ^ 64 - 1 → result ≢ Outcome.ReadFault false }
+    ensures second_name { (m t : List ℕ) → Names (texts words.now) m t → F.is_sure files.old t ≡ true → F.faults files.old < 2 ^ 64 - 1 → result ≢ Outcome.ReadFault true }
+    ensures unread { (fault : UsageFault) → usage_fault (texts words.now) ≡ Some fault → files.new ≡ files.old }
+    ensures sure_names { (m t : List ℕ) → Names (texts words.now) m t → F.is_sure files.old m ≡ true → F.is_sure files.old t ≡ true → F.faults files.new ≡ F.faults files.old }
     ensures files_later { F.faults files.old ≤ F.faults files.new }
     ensures same_told { (n : List ℕ) → F.told files.new n ≡ F.told files.old n }
     ensures same_sure { (n : List ℕ) → F.is_sure files.new n ≡ F.is_sure files.old n }
     ensures out_later { O.faults out.old ≤ O.faults out.new }
     ensures write { result ≡ Outcome.WriteFault → Rose (O.faults out.old) (O.faults out.new) }
-    ensures sure { (m t model trace text : List ℕ) → Names (map (λ w. w.now) words.now) m t → F.told files.old m ≡ Some model → F.told files.old t ≡ Some trace → answer model trace (jobs_asked (map (λ w. w.now) words.now)) ≡ Reported text →
+    ensures sure { (m t model trace text : List ℕ) → Names (texts words.now) m t → F.told files.old m ≡ Some model → F.told files.old t ≡ Some trace → answer model trace (jobs_asked (texts words.now)) ≡ Reported text →
         length text ≤ O.sure out.old → O.faults out.new ≡ O.faults out.old }
 
     // With `--made` no file is read. A made input is accepted, so that its run ends with its report, or with a fault of
     // the output or want of memory.
-    ensures made { (number : ℕ) → Makes (map (λ w. w.now) words.now) number →
-        Ends (answer (made_model number) (made_trace number) (jobs_asked (map (λ w. w.now) words.now))) result (takings O.taken O.sure out.old out.new) }
-    ensures made_accepted { (number : ℕ) → Makes (map (λ w. w.now) words.now) number → IsOfMade result }
-    ensures made_unread { asks_made (map (λ w. w.now) words.now) ≡ true → files.new ≡ files.old }
-    ensures made_sure { (number : ℕ) (text : List ℕ) → Makes (map (λ w. w.now) words.now) number → answer (made_model number) (made_trace number) (jobs_asked (map (λ w. w.now) words.now)) ≡ Reported text →
+    ensures made { (number : ℕ) → Makes (texts words.now) number →
+        Ends (answer (made_model number) (made_trace number) (jobs_asked (texts words.now))) result (takings O.taken O.sure out.old out.new) }
+    ensures made_accepted { (number : ℕ) → Makes (texts words.now) number → IsOfMade result }
+    ensures made_unread { asks_made (texts words.now) ≡ true → files.new ≡ files.old }
+    ensures made_sure { (number : ℕ) (text : List ℕ) → Makes (texts words.now) number → answer (made_model number) (made_trace number) (jobs_asked (texts words.now)) ≡ Reported text →
         length text ≤ O.sure out.old → O.faults out.new ≡ O.faults out.old }
-    ensures made_line { (number : ℕ) → Makes (map (λ w. w.now) words.now) number → PutsLine E.taken E.sure E.faults err.old err.new (line_text [] result) }
+    ensures made_line { (number : ℕ) → Makes (texts words.now) number → PutsLine E.taken E.sure E.faults err.old err.new (line_text [] result) }
 
     // What the two outputs gain.
     ensures untouched { Untouched result out.old out.new }
     ensures line { (name : List ℕ) × PutsLine E.taken E.sure E.faults err.old err.new (line_text name result) }
-    ensures named { (m t model : List ℕ) → Names (map (λ w. w.now) words.now) m t → F.told files.old m ≡ Some model →
+    ensures named { (m t model : List ℕ) → Names (texts words.now) m t → F.told files.old m ≡ Some model →
         PutsLine E.taken E.sure E.faults err.old err.new (line_text (name_of_outcome (network_in model) result) result) }
 {
     let settings = match settings_of(alloc, words) {

@@ -1,9 +1,9 @@
 // What the words behind the program's name ask for.
-ghost use Rattle.std.specs.Prelude.{◌≡◌, ℕ, List, Some, false, map, option_map, IfOk, IfErr, IfSome, IsNone};
+ghost use Rattle.std.specs.Prelude.{◌≡◌, ℕ, List, Some, false, option_map, IfOk, IfErr, IfSome, IsNone};
 ghost use Rattle.clap.specs.Matches.{found_of};
 ghost use Rattle.clap.specs.Values.{kind_of};
 ghost use Rattle.mq_top.specs.Matched.{Finds, HasForm, input_of as input_of_form};
-ghost use Rattle.mq_top.specs.Words.{Asks, number_asked, refuses_words as refuses_words_of, usage_fault};
+ghost use Rattle.mq_top.specs.Words.{Asks, number_asked, refuses_words as refuses_words_of, texts, usage_fault};
 ghost use Rattle.mq_top.specs.Ends.{RefusesWords};
 
 use crate::outcome::{Outcome, UsageFault};
@@ -18,9 +18,9 @@ use std::alloc::Global;
 pub enum Input<'a> {
     /// Two files.
     Named {
-        /// The name of the model.
+        /// The name of the model's file.
         model: &'a str,
-        /// The name of the trace.
+        /// The name of the trace's file.
         trace: &'a str,
     },
     /// The made input of this number.
@@ -32,11 +32,11 @@ pub enum Input<'a> {
 pub struct Settings<'a> {
     /// What is to be read.
     pub input: Input<'a>,
-    /// How many workers, from 1 to 64.
+    /// How many workers, from 1 to 64; 4 where the words don't say.
     pub workers: u64,
-    /// How many jobs a block has, from 1 to 65,536.
+    /// How many jobs a block has, from 1 to 65,536; 4,096 where the words don't say.
     pub block: u64,
-    /// Whether the report has the lines of the jobs.
+    /// Whether the report has the lines of the jobs, one for each visit.
     pub jobs: bool,
 }
 
@@ -45,12 +45,12 @@ pub struct Settings<'a> {
 pub enum Form<'a> {
     /// Two names.
     Names {
-        /// The name of the model.
+        /// The name of the model's file.
         model: &'a str,
-        /// The name of the trace.
+        /// The name of the trace's file.
         trace: &'a str,
     },
-    /// The text behind `--made`.
+    /// The text behind `--made`, not yet read as a number.
     Made(&'a str),
 }
 
@@ -101,8 +101,8 @@ fn input_of<'a>(form: Form<'a>) -> Option<Input<'a>>
 
 // What clap finds in the words, which it takes where they pass the rule.
 fn matches_of<'a>(alloc: Global, words: &'a [&'a str]) -> Result<ArgMatches<'a>, Error>
-    ensures found { refuses_words_of (map (λ w. w.now) words.now) ≡ false → IfOk result (λ matches. Finds (map (λ w. w.now) words.now) (found_of matches)) }
-    ensures memory { refuses_words_of (map (λ w. w.now) words.now) ≡ false → IfErr result (λ error. kind_of error ≡ ErrorKind.OutOfMemory) }
+    ensures found { refuses_words_of (texts words.now) ≡ false → IfOk result (λ matches. Finds (texts words.now) (found_of matches)) }
+    ensures memory { refuses_words_of (texts words.now) ≡ false → IfErr result (λ error. kind_of error ≡ ErrorKind.OutOfMemory) }
 {
     let model = Arg::new(alloc, "model");
     let trace = Arg::new(alloc, "trace");
@@ -127,8 +127,8 @@ fn matches_of<'a>(alloc: Global, words: &'a [&'a str]) -> Result<ArgMatches<'a>,
 /// What the words ask for, or how the call ends: with the first fault of the words, or with want
 /// of memory.
 pub fn settings_of<'a>(alloc: Global, words: &'a [&'a str]) -> Result<Settings<'a>, Outcome>
-    ensures asked { IfOk result (λ settings. Asks (map (λ w. w.now) words.now) settings) }
-    ensures refused { IfErr result (RefusesWords (map (λ w. w.now) words.now)) }
+    ensures asked { IfOk result (λ settings. Asks (texts words.now) settings) }
+    ensures refused { IfErr result (RefusesWords (texts words.now)) }
 {
     if refuses_words(words) {
         return Err(Outcome::Usage(UsageFault::Words));

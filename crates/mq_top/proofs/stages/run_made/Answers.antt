@@ -1,4 +1,4 @@
-use Rattle.std.proofs.Common.{◌≡◌, ◌∙◌, sym, ap, subst, rules, ℕ, List, Some, None, Err}
+use Rattle.std.proofs.Common.{◌≡◌, ◌∙◌, sym, ap, subst, rules, Some, None, Err}
 use Rattle.std.specs.Prelude.{length, ◌≤◌}
 use Rattle.mq_gen.specs.Accepted.{IsAccepted}
 use Rattle.mq_gen.specs.Made.{made_model, made_trace}
