@@ -6,7 +6,6 @@ use Rattle.std.specs.List.{list_any}
 use Rattle.mq_core.specs.Local.{Local}
 use Rattle.mq_core.specs.Machine.{State, Station, Visit}
 use Rattle.mq_core.specs.NetworkRun.{run_in}
-use Rattle.mq_core.specs.Columns.{column_wait}
 use Rattle.mq_core.specs.Results.{Totals, totals_of, exit_of, servers_in, wait_of, fates_from}
 use Rattle.mq_core.specs.Sound.{outputs_in}
 use Rattle.mq_core.specs.Wiring.{ranking}
@@ -139,14 +138,6 @@ visit_lines rows name kind [] fates = []
 visit_lines rows name kind (visit ∷ visits) [] = []
 visit_lines rows name kind (visit ∷ visits) (fate ∷ fates) =
     visit_line name visit.job visit.arrive (wait_of rows kind visit fate) fate ++ visit_lines rows name kind visits fates
-
--- the same from their columns
-abbrev pub column_lines : Rows → List ℕ → Kind → List ℕ → List ℕ → List Fate → List ℕ
-column_lines rows name kind [] arrives fates = []
-column_lines rows name kind (job ∷ jobs) [] fates = []
-column_lines rows name kind (job ∷ jobs) (arrive ∷ arrives) [] = []
-column_lines rows name kind (job ∷ jobs) (arrive ∷ arrives) (fate ∷ fates) =
-    visit_line name job arrive (column_wait rows kind job arrive fate) fate ++ column_lines rows name kind jobs arrives fates
 
 -- the job lines of a node: one for each of its visits, by position
 abbrev pub node_jobs : Rows → Node → Station Local → List ℕ

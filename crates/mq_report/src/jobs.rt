@@ -6,8 +6,8 @@ ghost use Rattle.mq_core.specs.Columns.{IsRunOf, column_wait};
 ghost use Rattle.mq_core.specs.StandardTable.{run_of};
 ghost use Rattle.mq_core.specs.Theorems.{IsReadFor};
 ghost use Rattle.mq_stats.specs.Numbers.{AreVisits};
+ghost use Rattle.mq_report.specs.Columns.{column_lines};
 ghost use Rattle.mq_report.specs.Text.{
-  column_lines,
   fate_words,
   jobs_text,
   node_jobs,
