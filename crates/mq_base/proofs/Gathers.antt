@@ -65,7 +65,7 @@ adds_whole {sure = sure} {faults = faults} {a = a} {c = c} {p = p} {left = left}
       calm = λ room. calm' (omega arith) ∙ calm (omega arith);
     }
 
--- What is pending was refused, behind a writer that began with nothing pending: the sink took a first part of the whole text.
+-- What is pending was refused, behind a writer that began with nothing pending: the sink took a first part of the text.
 pub part_flushed : (t t' t'' : Option (List ℕ)) (s s' s'' : ℕ) (p p' text : List ℕ) → p ≡ [] → GoesOut t t' s s' (p ++ text) p'
     → TakesPrefix t' t'' s' s'' p' → TakesPrefix t t'' s s'' text
 part_flushed t t' t'' s s' s'' p p' text none h rest =
