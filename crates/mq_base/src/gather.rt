@@ -1,5 +1,5 @@
 // Text that is gathered before it goes out, so that many short pieces make few puts.
-ghost use Rattle.std.specs.Prelude.{◌≡◌, ◌+◌, ◌≤◌, ◌<◌, ◌++◌, [], length, OnOk, OnErr, decimal};
+ghost use Rattle.std.specs.Prelude.{◌≡◌, ◌+◌, ◌≤◌, ◌++◌, [], length, OnOk, OnErr};
 ghost use Rattle.mq_base.specs.Outside.{Adds, Rose, TakesFirst, TakesPrefix};
 ghost use Rattle.mq_base.specs.Pieces.{piece_text, pieces_text};
 

@@ -1,5 +1,5 @@
 // The job lines of a report: one for each visit, by rank of its node and then position.
-ghost use Rattle.std.specs.Prelude.{◌≡◌, ◌≤◌, ◌++◌, length, OnOk, OnErr, Some, slice_get};
+ghost use Rattle.std.specs.Prelude.{◌≡◌, ◌≤◌, ◌++◌, length, Some, slice_get};
 ghost use Rattle.mq_base.specs.Outside.{Adds};
 ghost use Rattle.mq_core.specs.Asked.{HasDemands};
 ghost use Rattle.mq_core.specs.Columns.{IsRunOf, column_wait};
