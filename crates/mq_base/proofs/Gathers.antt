@@ -28,13 +28,13 @@ pub goes_both : (t t' t'' : Option (List ℕ)) (s s' s'' : ℕ) (p p' p'' text m
 goes_both t t' t'' s s' s'' p p' p'' text more h k = rw (← append_assoc p text more) (goes_more t t' t'' s s' s'' (p ++ text) more p' p'' h k)
 
 -- the first was refused
-pub front_goes : (t t' : Option (List ℕ)) (s s' : ℕ) (p text more : List ℕ) → TakesPrefix t t' s s' (p ++ text) → TakesPrefix t t' s s' (p ++ (text ++ more))
-front_goes t t' s s' p text more part = rw (← append_assoc p text more) (takes_front t t' s s' (p ++ text) more part)
+pub first_refused : (t t' : Option (List ℕ)) (s s' : ℕ) (p text more : List ℕ) → TakesPrefix t t' s s' (p ++ text) → TakesPrefix t t' s s' (p ++ (text ++ more))
+first_refused t t' s s' p text more part = rw (← append_assoc p text more) (takes_front t t' s s' (p ++ text) more part)
 
 -- the second was refused
-pub goes_front : (t t' t'' : Option (List ℕ)) (s s' s'' : ℕ) (p p' text more : List ℕ) → GoesOut t t' s s' (p ++ text) p'
+pub second_refused : (t t' t'' : Option (List ℕ)) (s s' s'' : ℕ) (p p' text more : List ℕ) → GoesOut t t' s s' (p ++ text) p'
     → TakesPrefix t' t'' s' s'' (p' ++ more) → TakesPrefix t t'' s s'' (p ++ (text ++ more))
-goes_front t t' t'' s s' s'' p p' text more h part = rw (← append_assoc p text more) (goes_part t t' t'' s s' s'' (p ++ text) more p' h part)
+second_refused t t' t'' s s' s'' p p' text more h part = rw (← append_assoc p text more) (goes_part t t' t'' s s' s'' (p ++ text) more p' h part)
 
 -- a count that rose after one that didn't fall
 rose_later : (f f' f'' : ℕ) → f ≤ f' → Rose f' f'' → Rose f f''
@@ -49,6 +49,7 @@ goes_whole t t' t'' s s' s'' p text left first none second = record {
   split = sym (ap (λ rest. (p ++ text) ++ rest) none ∙ append-nil (p ++ text));
 }
 
+-- what was pending went out, and then a text of its own, by `put_all`
 pub adds_whole : {S T E : Type 0} {taken : S → Option (List ℕ)} {sure faults : S → ℕ} {a c : S} {p left : List ℕ} {r : Result T E} {text : List ℕ}
     (b : S) → left ≡ [] → TakesFirst (taken a) (taken b) (sure a) (sure b) p (length p) → faults a ≤ faults b → (length p ≤ sure a → faults b ≡ faults a)
     → OnOk r (TakesFirst (taken b) (taken c) (sure b) (sure c) text (length text)) → OnErr r (TakesPrefix (taken b) (taken c) (sure b) (sure c) text) → faults b ≤ faults c → OnErr r (Rose (faults b) (faults c)) → (length text ≤ sure b → faults c ≡ faults b)
@@ -64,13 +65,7 @@ adds_whole {sure = sure} {faults = faults} {a = a} {c = c} {p = p} {left = left}
       calm = λ room. calm' (omega arith) ∙ calm (omega arith);
     }
 
--- What is pending goes out, behind a writer that began with nothing pending: the sink takes the whole text, or a first part of it.
-pub all_flushed : (t t' t'' : Option (List ℕ)) (s s' s'' : ℕ) (p p' text : List ℕ) → p ≡ [] → GoesOut t t' s s' (p ++ text) p'
-    → TakesFirst t' t'' s' s'' p' (length p') → TakesFirst t t'' s s'' text (length text)
-all_flushed t t' t'' s s' s'' p p' text none h rest =
-    let whole : text ≡ h.done ++ p' = sym (ap (λ front. front ++ text) none) ∙ h.split in
-    rw whole (takes_both t t' t'' s s' s'' h.done p' h.took rest)
-
+-- What is pending was refused, behind a writer that began with nothing pending: the sink took a first part of the text.
 pub part_flushed : (t t' t'' : Option (List ℕ)) (s s' s'' : ℕ) (p p' text : List ℕ) → p ≡ [] → GoesOut t t' s s' (p ++ text) p'
     → TakesPrefix t' t'' s' s'' p' → TakesPrefix t t'' s s'' text
 part_flushed t t' t'' s s' s'' p p' text none h rest =
@@ -89,7 +84,7 @@ adds_both {taken = taken} {sure = sure} {faults = faults} {a = a} {b = b} {c = c
     let rest : length (p' ++ more) ≡ length p' + length more = length-append p' more in
     record {
       ok = on_ok_more r _ _ (goes_both _ _ _ _ _ _ p p' p'' text more gone) k.ok;
-      err = on_err_more r _ _ (goes_front _ _ _ _ _ _ p p' text more gone) k.err;
+      err = on_err_more r _ _ (second_refused _ _ _ _ _ _ p p' text more gone) k.err;
       later = omega (arith, h.later, k.later);
       rose = on_err_more r _ _ (rose_later (faults a) (faults b) (faults c) h.later) k.rose;
       calm = λ room. k.calm (omega arith) ∙ h.calm (omega arith);
@@ -104,7 +99,7 @@ adds_front {p = p} {text = text} (Err e') refused more h =
     let front : length (p ++ text) ≡ length p + length text = length-append p text in
     record {
       ok = tt;
-      err = front_goes _ _ _ _ p text more h.err;
+      err = first_refused _ _ _ _ p text more h.err;
       later = h.later;
       rose = h.rose;
       calm = λ room. h.calm (omega arith);
@@ -145,7 +140,7 @@ gathers_part t t' t'' s s' s'' f f' all p left piece rest next h part =
     let cut : all ≡ (h.text ++ piece) ++ rest = h.cut ∙ ap (λ tail. h.text ++ tail) next ∙ sym (append_assoc h.text piece rest) in
     rw cut (takes_front t t'' s s'' (h.text ++ piece) rest (goes_part t t' t'' s s' s'' h.text piece p h.goes part))
 
--- the same of a writer
+-- one more text was added, by a writer
 pub gathers_added : {S U E : Type 0} {taken : S → Option (List ℕ)} {sure faults : S → ℕ} {a b c : S} {all p p' : List ℕ} {x : U} {left piece : List ℕ}
     (rest : List ℕ) → left ≡ piece ++ rest → Gathers (taken a) (taken b) (sure a) (sure b) (faults a) (faults b) all p left → Adds {E = E} taken sure faults b c p p' (Ok x) piece
     → Gathers (taken a) (taken c) (sure a) (sure c) (faults a) (faults c) all p' rest

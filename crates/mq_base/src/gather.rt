@@ -1,5 +1,5 @@
 // Text that is gathered before it goes out, so that many short pieces make few puts.
-ghost use Rattle.std.specs.Prelude.{◌≡◌, ◌+◌, ◌≤◌, ◌<◌, ◌++◌, [], length, OnOk, OnErr, decimal};
+ghost use Rattle.std.specs.Prelude.{◌≡◌, ◌+◌, ◌≤◌, ◌++◌, [], length, OnOk, OnErr};
 ghost use Rattle.mq_base.specs.Outside.{Adds, Rose, TakesFirst, TakesPrefix};
 ghost use Rattle.mq_base.specs.Pieces.{piece_text, pieces_text};
 
@@ -15,7 +15,7 @@ const SIZE: usize = 4096;
 /// what is still pending then is lost.
 #[derive(Drop)]
 pub struct Gather {
-    bytes: [u8; 4096],
+    bytes: [u8; SIZE],
     len: usize,
 }
 
@@ -35,7 +35,7 @@ impl Gather {
         ensures { result ≡ [] }
     {
         Gather {
-            bytes: [0; 4096],
+            bytes: [0; SIZE],
             len: 0,
         }
     }
@@ -92,8 +92,10 @@ pub fn flush<O: Sink>(out: &mut O, pending: &mut Gather) -> Result<(), SinkFault
 }
 
 /// Adds bytes behind what is pending. Where they don't fit, what is pending goes out first.
+/// More than 4,096 bytes go out at once.
 ///
 /// After a fault the sink took a first part of what was pending and of these bytes behind it.
+/// After a fault it isn't said what is pending.
 pub fn add_bytes<O: Sink>(out: &mut O, pending: &mut Gather, bytes: &[u8]) -> Result<(), SinkFault>
     ensures { Adds O.taken O.sure O.faults out.old out.new pending.old pending.new result bytes.now }
 {

@@ -13,7 +13,8 @@ use Rattle.mq_core.specs.declared.model.Network.{Network}
 use Rattle.mq_core.specs.declared.model.Node.{Node}
 use Rattle.mq_core.specs.declared.model.Rows.{Rows}
 use Rattle.mq_core.specs.declared.model.Visits.{Visits}
-use Rattle.mq_report.specs.Text.{visit_line, visit_lines, column_lines, node_jobs, jobs_at, jobs_text}
+use Rattle.mq_report.specs.Columns.{column_lines}
+use Rattle.mq_report.specs.Text.{visit_line, visit_lines, node_jobs, jobs_at, jobs_text}
 
 -- the node of the next rank
 pub jobs-next : (net : Network) (rows : Rows) (end : State Local) (order : List ℕ) (rank v : ℕ) (node : Node) → slice_get order rank ≡ Some v → slice_get net.nodes v ≡ Some node →

@@ -6,7 +6,6 @@ use Rattle.std.specs.List.{list_any}
 use Rattle.mq_core.specs.Local.{Local}
 use Rattle.mq_core.specs.Machine.{State, Station, Visit}
 use Rattle.mq_core.specs.NetworkRun.{run_in}
-use Rattle.mq_core.specs.Columns.{column_wait}
 use Rattle.mq_core.specs.Results.{Totals, totals_of, exit_of, servers_in, wait_of, fates_from}
 use Rattle.mq_core.specs.Sound.{outputs_in}
 use Rattle.mq_core.specs.Wiring.{ranking}
@@ -19,13 +18,15 @@ use Rattle.mq_core.specs.declared.model.Network.{Network}
 use Rattle.mq_core.specs.declared.model.Node.{Node}
 use Rattle.mq_core.specs.declared.model.Rows.{Rows}
 
+-- the first line, which names the report and its version
 unfoldable pub head_line : List ℕ
 head_line = codes "mpsim report 1" ++ 10 ∷ []
 
--- how many jobs there are, and the time at which the last event happens
+-- the line of the jobs and the span: the number of records, and the time of the last thing that happens
 unfoldable pub jobs_line : ℕ → ℕ → List ℕ
 jobs_line jobs span = codes "jobs " ++ decimal jobs ++ codes " span " ++ decimal span ++ 10 ∷ []
 
+-- the word for the kind of a node
 abbrev pub kind_word : Kind → List ℕ
 kind_word Source = codes "source"
 kind_word (Server demand) = codes "server"
@@ -35,7 +36,7 @@ kind_word (Tandem stages) = codes "tandem"
 kind_word (ForkJoin branches) = codes "forkjoin"
 kind_word (Split route) = codes "split"
 
--- four digits
+-- the four digits of a number below 10,000
 abbrev pub last_digits : ℕ → List ℕ
 last_digits n = (48 + n / 1000) ∷ (48 + n / 100 % 10) ∷ (48 + n / 10 % 10) ∷ (48 + n % 10) ∷ []
 
@@ -47,29 +48,37 @@ ten_thousandths n = decimal (n / 10000) ++ 46 ∷ (last_digits (n % 10000) ++ 10
 abbrev pub utilisation : ℕ → ℕ → ℕ → ℕ
 utilisation busy servers span = if span == 0 then 0 else 10000 * busy / (servers * span)
 
--- a dash where the node has no servers, and the line's end
+-- the utilisation and the line's end; for a node without servers a dash in its place
 unfoldable pub utilisation_text : ℕ → ℕ → ℕ → List ℕ
 utilisation_text busy servers span = if servers == 0 then codes "-" ++ 10 ∷ [] else ten_thousandths (utilisation busy servers span)
 
--- The parts of a node's line, each up to a word behind it: its name and kind, its counts, those lost, its waits, and its tallies.
+-- The parts of a node's line follow, each up to the word of the next one.
+
+-- the node's name and the word for its kind
 unfoldable pub node_words : List ℕ → List ℕ → List ℕ
 node_words name word = codes "node " ++ name ++ codes " " ++ word ++ codes " in "
 
+-- the visits, and those of them that were not lost
 unfoldable pub node_counts : Totals → List ℕ
 node_counts totals = decimal totals.came ++ codes " out " ++ decimal totals.left ++ codes " lost "
 
+-- the visits that a loss station had no place for
 unfoldable pub node_losses : Totals → List ℕ
 node_losses totals = decimal totals.lost ++ codes " wait "
 
+-- the sum and the greatest of the waiting times
 unfoldable pub node_waits : Totals → List ℕ
 node_waits totals = decimal totals.wait ++ codes " max " ++ decimal totals.longest ++ codes " busy "
 
+-- the time that the servers worked, the number of jobs summed over time, and the greatest number of jobs
 unfoldable pub node_tallies : Totals → List ℕ
 node_tallies totals = decimal totals.busy ++ codes " area " ++ decimal totals.area ++ codes " peak " ++ decimal totals.peak ++ codes " util "
 
+-- all the numbers of a node's line but its utilisation
 abbrev pub node_numbers : Totals → List ℕ
 node_numbers totals = node_counts totals ++ (node_losses totals ++ (node_waits totals ++ node_tallies totals))
 
+-- the line of a node of this name and kind, with these totals, over this span
 abbrev pub node_line : List ℕ → Kind → Totals → ℕ → List ℕ
 node_line name kind totals span = node_words name (kind_word kind) ++ (node_numbers totals ++ utilisation_text totals.busy (servers_in kind) span)
 
@@ -91,10 +100,11 @@ unfoldable pub exit_lines : List Node → Rows → ℕ → List ℕ → Station 
 exit_lines nodes rows v name station out zero = []
 exit_lines nodes rows v name station out (suc more) = exit_lines_at nodes rows v name station out ++ exit_lines nodes rows v name station (out + 1) more
 
+-- the line of a node that has this index, by its totals in the state at the end
 abbrev pub line_of : Rows → State Local → ℕ → Node → List ℕ
 line_of rows end v node = node_line node.name node.kind (totals_of rows node.kind (end.stations v)) end.clock
 
--- the line of a node of the network
+-- the line of a node, if the network has a node of this index
 abbrev pub line_at : Rows → State Local → ℕ → Option Node → List ℕ
 line_at rows end v None = []
 line_at rows end v (Some node) = line_of rows end v node
@@ -114,13 +124,15 @@ abbrev pub exits_text : Network → Rows → State Local → List ℕ → List �
 exits_text net rows end [] = []
 exits_text net rows end (v ∷ order) = exits_at net.nodes rows end v (slice_get net.nodes v) ++ exits_text net rows end order
 
--- The parts of a visit's line: the job plus 1, the node's name and the time of arrival; and how the visit ended.
+-- the front of a job line: the record's number, from 1, the node's name and the time at which the job came
 unfoldable pub visit_words : List ℕ → ℕ → ℕ → List ℕ
 visit_words name job arrive = codes "job " ++ decimal (job + 1) ++ codes " " ++ name ++ codes " arrive " ++ decimal arrive
 
+-- how long the job waited and when it left, and the line's end
 unfoldable pub departs_words : ℕ → ℕ → List ℕ
 departs_words wait time = codes " wait " ++ decimal wait ++ codes " depart " ++ decimal time ++ 10 ∷ []
 
+-- that the visit was turned away, and the line's end
 unfoldable pub lost_words : List ℕ
 lost_words = codes " lost" ++ 10 ∷ []
 
@@ -139,14 +151,6 @@ visit_lines rows name kind [] fates = []
 visit_lines rows name kind (visit ∷ visits) [] = []
 visit_lines rows name kind (visit ∷ visits) (fate ∷ fates) =
     visit_line name visit.job visit.arrive (wait_of rows kind visit fate) fate ++ visit_lines rows name kind visits fates
-
--- the same from their columns
-abbrev pub column_lines : Rows → List ℕ → Kind → List ℕ → List ℕ → List Fate → List ℕ
-column_lines rows name kind [] arrives fates = []
-column_lines rows name kind (job ∷ jobs) [] fates = []
-column_lines rows name kind (job ∷ jobs) (arrive ∷ arrives) [] = []
-column_lines rows name kind (job ∷ jobs) (arrive ∷ arrives) (fate ∷ fates) =
-    visit_line name job arrive (column_wait rows kind job arrive fate) fate ++ column_lines rows name kind jobs arrives fates
 
 -- the job lines of a node: one for each of its visits, by position
 abbrev pub node_jobs : Rows → Node → Station Local → List ℕ

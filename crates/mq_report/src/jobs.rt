@@ -1,13 +1,13 @@
 // The job lines of a report: one for each visit, by rank of its node and then position.
-ghost use Rattle.std.specs.Prelude.{◌≡◌, ◌≤◌, ◌++◌, length, OnOk, OnErr, Some, slice_get};
+ghost use Rattle.std.specs.Prelude.{◌≡◌, ◌≤◌, ◌++◌, length, Some, slice_get};
 ghost use Rattle.mq_base.specs.Outside.{Adds};
 ghost use Rattle.mq_core.specs.Asked.{HasDemands};
 ghost use Rattle.mq_core.specs.Columns.{IsRunOf, column_wait};
 ghost use Rattle.mq_core.specs.StandardTable.{run_of};
 ghost use Rattle.mq_core.specs.Theorems.{IsReadFor};
 ghost use Rattle.mq_stats.specs.Numbers.{AreVisits};
+ghost use Rattle.mq_report.specs.Columns.{column_lines};
 ghost use Rattle.mq_report.specs.Text.{
-  column_lines,
   fate_words,
   jobs_text,
   node_jobs,

@@ -11,7 +11,7 @@ const SIZE: usize = 160;
 /// A contract sees it as the list of its bytes.
 #[derive(Drop)]
 pub struct Line {
-    bytes: [u8; 160],
+    bytes: [u8; SIZE],
     start: usize,
 }
 
@@ -31,7 +31,7 @@ impl Line {
         ensures { result ≡ [] }
     {
         Line {
-            bytes: [0; 160],
+            bytes: [0; SIZE],
             start: SIZE,
         }
     }

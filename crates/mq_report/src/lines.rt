@@ -1,5 +1,5 @@
 // The lines of a report.
-ghost use Rattle.std.specs.Prelude.{◌≡◌, ◌≤◌, ◌<◌, ◌*◌, ◌^◌, ◌++◌, ◌∷◌, [], length, codes, OnOk, OnErr};
+ghost use Rattle.std.specs.Prelude.{◌≡◌, ◌≤◌, ◌<◌, ◌^◌, ◌++◌};
 ghost use Rattle.mq_base.specs.Outside.{Adds};
 ghost use Rattle.mq_report.specs.Text.{
   exit_line,

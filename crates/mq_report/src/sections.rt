@@ -1,5 +1,5 @@
 // The sections of a report, and the whole.
-ghost use Rattle.std.specs.Prelude.{◌≡◌, ◌≤◌, ◌<◌, ◌^◌, ◌++◌, ◌==◌, ◌&&◌, [], length, OnOk, OnErr, Some, slice_get};
+ghost use Rattle.std.specs.Prelude.{◌≡◌, ◌≤◌, ◌<◌, ◌^◌, ◌==◌, ◌&&◌, length, OnOk, OnErr, Some, slice_get};
 ghost use Rattle.std.specs.List.{list_any};
 ghost use Rattle.mq_base.specs.Outside.{Adds, Rose, TakesFirst, TakesPrefix};
 ghost use Rattle.mq_core.specs.Columns.{IsRunOf};

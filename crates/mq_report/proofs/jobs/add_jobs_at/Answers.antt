@@ -1,7 +1,8 @@
 use Rattle.std.proofs.Common.{◌≡◌, subst, sym, ap, arith, length, ◌∙◌}
 use Rattle.mq_core.specs.StandardTable.{run_of}
 use Rattle.mq_stats.specs.Numbers.{AreVisits}
-use Rattle.mq_report.specs.Text.{column_lines, node_jobs}
+use Rattle.mq_report.specs.Columns.{column_lines}
+use Rattle.mq_report.specs.Text.{node_jobs}
 use Rattle.mq_report.proofs.JobLines.{jobs-are}
 use Rattle.mq_report.proofs.Names.{names-short}
 use Rattle.mq_report.proofs.Runs.{visits_inside, visits_are}

@@ -1,6 +1,6 @@
 use Rattle.std.proofs.Common.{◌++◌, drop}
 use Rattle.mq_base.proofs.Gathers.{Gathers}
-use Rattle.mq_report.specs.Text.{column_lines}
+use Rattle.mq_report.specs.Columns.{column_lines}
 use Rattle.mq_report.proofs.jobs.add_visits.Given as goal
 
 abbrev pub invariant-loop-at : goal.invariant-loop-at
