@@ -51,18 +51,19 @@ goes_whole t t' t'' s s' s'' p text left first none second = record {
 
 -- what was pending went out, and then a text of its own, by `put_all`
 pub adds_whole : {S T E : Type 0} {taken : S → Option (List ℕ)} {sure faults : S → ℕ} {a c : S} {p left : List ℕ} {r : Result T E} {text : List ℕ}
-    (b : S) → left ≡ [] → TakesFirst (taken a) (taken b) (sure a) (sure b) p (length p) → faults a ≤ faults b → (length p ≤ sure a → faults b ≡ faults a)
-    → OnOk r (TakesFirst (taken b) (taken c) (sure b) (sure c) text (length text)) → OnErr r (TakesPrefix (taken b) (taken c) (sure b) (sure c) text) → faults b ≤ faults c → OnErr r (Rose (faults b) (faults c)) → (length text ≤ sure b → faults c ≡ faults b)
+    (b : S) → left ≡ [] → TakesFirst (taken a) (taken b) (sure a) (sure b) p (length p) → faults b ≡ faults a
+    → OnOk r (TakesFirst (taken b) (taken c) (sure b) (sure c) text (length text)) → OnErr r (TakesPrefix (taken b) (taken c) (sure b) (sure c) text) → faults b ≤ faults c → OnErr r (Rose (faults b) (faults c)) → OnOk r (faults c ≡ faults b) → (length text ≤ sure b → faults c ≡ faults b)
     → Adds taken sure faults a c p left r text
-adds_whole {sure = sure} {faults = faults} {a = a} {c = c} {p = p} {left = left} {r = r} {text = text} b none first later calm ok err later' rose calm' =
+adds_whole {sure = sure} {faults = faults} {a = a} {c = c} {p = p} {left = left} {r = r} {text = text} b none first still ok err later rose quiet calm =
     let both : length (p ++ text) ≡ length p + length text = length-append p text in
     let spent : sure a ≤ sure b + length p = first.spent in
     record {
       ok = on_ok_more r _ _ (goes_whole _ _ _ _ _ _ p text left first none) ok;
       err = on_err_more r _ _ (takes_part _ _ _ _ _ _ p text first) err;
-      later = omega (arith, later, later');
-      rose = on_err_more r _ _ (rose_later (faults a) (faults b) (faults c) later) rose;
-      calm = λ room. calm' (omega arith) ∙ calm (omega arith);
+      later = omega (arith, still, later);
+      rose = on_err_more r _ _ (rose_later (faults a) (faults b) (faults c) (omega (arith, still))) rose;
+      quiet = on_ok_more r _ _ (λ e. e ∙ still) quiet;
+      calm = λ room. calm (omega arith) ∙ still;
     }
 
 -- What is pending was refused, behind a writer that began with nothing pending: the sink took a first part of the text.
@@ -87,7 +88,8 @@ adds_both {taken = taken} {sure = sure} {faults = faults} {a = a} {b = b} {c = c
       err = on_err_more r _ _ (second_refused _ _ _ _ _ _ p p' text more gone) k.err;
       later = omega (arith, h.later, k.later);
       rose = on_err_more r _ _ (rose_later (faults a) (faults b) (faults c) h.later) k.rose;
-      calm = λ room. k.calm (omega arith) ∙ h.calm (omega arith);
+      quiet = on_ok_more r _ _ (λ e. e ∙ h.quiet) k.quiet;
+      calm = λ room. k.calm (omega arith) ∙ h.quiet;
     }
 
 -- a writer that was refused, before another
@@ -102,6 +104,7 @@ adds_front {p = p} {text = text} (Err e') refused more h =
       err = first_refused _ _ _ _ p text more h.err;
       later = h.later;
       rose = h.rose;
+      quiet = tt;
       calm = λ room. h.calm (omega arith);
     }
 
@@ -110,27 +113,19 @@ pub record Gathers (t t' : Option (List ℕ)) (s s' f f' : ℕ) (all p rest : Li
   pub text : List ℕ
   pub goes : GoesOut t t' s s' text p
   pub cut : all ≡ text ++ rest
-  pub later : f ≤ f'
-  pub calm : length all ≤ s → f' ≡ f
+  pub still : f' ≡ f
 
 -- one more text was added
 gathers_more : (t t' t'' : Option (List ℕ)) (s s' s'' f f' f'' : ℕ) (all p p' left piece rest : List ℕ) → left ≡ piece ++ rest
-    → Gathers t t' s s' f f' all p left → GoesOut t' t'' s' s'' (p ++ piece) p' → f' ≤ f'' → (length (p ++ piece) ≤ s' → f'' ≡ f')
+    → Gathers t t' s s' f f' all p left → GoesOut t' t'' s' s'' (p ++ piece) p' → f'' ≡ f'
     → Gathers t t'' s s'' f f'' all p' rest
-gathers_more t t' t'' s s' s'' f f' f'' all p p' left piece rest next h now later calm =
+gathers_more t t' t'' s s' s'' f f' f'' all p p' left piece rest next h now still =
     let cut : all ≡ h.text ++ (piece ++ rest) = h.cut ∙ ap (λ tail. h.text ++ tail) next in
-    let split : h.text ≡ h.goes.done ++ p = h.goes.split in
-    let long : length all ≡ length h.text + (length piece + length rest) =
-    ap length cut ∙ length-append h.text (piece ++ rest) ∙ ap (λ n. length h.text + n) (length-append piece rest) in
-    let long_text : length h.text ≡ length h.goes.done + length p = ap length split ∙ length-append h.goes.done p in
-    let long_next : length (p ++ piece) ≡ length p + length piece = length-append p piece in
-    let spent : s ≤ s' + length h.goes.done = h.goes.took.spent in
     record {
       text = h.text ++ piece;
       goes = goes_more t t' t'' s s' s'' h.text piece p p' h.goes now;
       cut = cut ∙ sym (append_assoc h.text piece rest);
-      later = omega (arith, h.later);
-      calm = λ room. calm (omega arith) ∙ h.calm room;
+      still = still ∙ h.still;
     }
 
 -- a part of what was pending and of one more text
@@ -144,7 +139,7 @@ gathers_part t t' t'' s s' s'' f f' all p left piece rest next h part =
 pub gathers_added : {S U E : Type 0} {taken : S → Option (List ℕ)} {sure faults : S → ℕ} {a b c : S} {all p p' : List ℕ} {x : U} {left piece : List ℕ}
     (rest : List ℕ) → left ≡ piece ++ rest → Gathers (taken a) (taken b) (sure a) (sure b) (faults a) (faults b) all p left → Adds {E = E} taken sure faults b c p p' (Ok x) piece
     → Gathers (taken a) (taken c) (sure a) (sure c) (faults a) (faults c) all p' rest
-gathers_added {all = all} {p = p} {p' = p'} {left = left} {piece = piece} rest next h k = gathers_more _ _ _ _ _ _ _ _ _ all p p' left piece rest next h k.ok k.later k.calm
+gathers_added {all = all} {p = p} {p' = p'} {left = left} {piece = piece} rest next h k = gathers_more _ _ _ _ _ _ _ _ _ all p p' left piece rest next h k.ok k.quiet
 
 -- a writer that was refused one more text
 pub gathers_refused : {S T U E F : Type 0} {taken : S → Option (List ℕ)} {sure faults : S → ℕ} {a b c : S} {p p' p'' q : List ℕ} {e : E} {text left piece : List ℕ}
@@ -159,9 +154,10 @@ gathers_refused {sure = sure} {faults = faults} {a = a} {b = b} {c = c} {p = p} 
     record {
       ok = tt;
       err = gathers_part _ _ _ _ _ _ _ _ (p ++ text) p' left piece rest next h k.err;
-      later = omega (arith, h.later, k.later);
-      rose = rose_later (faults a) (faults b) (faults c) h.later k.rose;
-      calm = λ room. k.calm (omega arith) ∙ h.calm room;
+      later = omega (arith, h.still, k.later);
+      rose = rose_later (faults a) (faults b) (faults c) (omega (arith, h.still)) k.rose;
+      quiet = tt;
+      calm = λ room. k.calm (omega arith) ∙ h.still;
     }
 
 -- a writer that has nothing more to add
@@ -172,7 +168,8 @@ gathers_all {p = p} {text = text} none h =
     record {
       ok = rw whole h.goes;
       err = tt;
-      later = h.later;
+      later = omega (arith, h.still);
       rose = tt;
-      calm = h.calm;
+      quiet = h.still;
+      calm = λ room. h.still;
     }

@@ -83,6 +83,7 @@ pub fn flush<O: Sink>(out: &mut O, pending: &mut Gather) -> Result<(), SinkFault
     ensures err { OnErr result (TakesPrefix (O.taken out.old) (O.taken out.new) (O.sure out.old) (O.sure out.new) pending.old) }
     ensures later { O.faults out.old ≤ O.faults out.new }
     ensures rose { OnErr result (Rose (O.faults out.old) (O.faults out.new)) }
+    ensures quiet { OnOk result (O.faults out.new ≡ O.faults out.old) }
     ensures sure { length pending.old ≤ O.sure out.old → O.faults out.new ≡ O.faults out.old }
     ensures empty { pending.new ≡ [] }
 {

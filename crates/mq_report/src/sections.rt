@@ -263,6 +263,7 @@ pub fn report<O: Sink>(
     ensures err { OnErr result (TakesPrefix (O.taken out.old) (O.taken out.new) (O.sure out.old) (O.sure out.new) (report_in plan.now.net rows.now jobs)) }
     ensures later { O.faults out.old ≤ O.faults out.new }
     ensures rose { OnErr result (Rose (O.faults out.old) (O.faults out.new)) }
+    ensures quiet { OnOk result (O.faults out.new ≡ O.faults out.old) }
     ensures sure { length (report_in plan.now.net rows.now jobs) ≤ O.sure out.old → O.faults out.new ≡ O.faults out.old }
 {
     let mut pending = Gather::new();
