@@ -1,5 +1,5 @@
 -- The line that each outcome puts on the error output.
-use Rattle.std.specs.Prelude.{◌≡◌, ℕ, List, [], ◌∷◌, ◌++◌, codes, decimal, true, false, Option, Some, None, slice_get}
+use Rattle.std.specs.Prelude.{◌≡◌, ◌≤◌, ℕ, List, length, [], ◌∷◌, ◌++◌, codes, decimal, true, false, Option, Some, None, slice_get}
 use Rattle.std.specs.Io.KnownBytes.{append_known}
 use Rattle.mq_base.specs.Outside.{TakesPrefix, Rose}
 use Rattle.mq_core.specs.declared.model.Network.{Network}
@@ -83,7 +83,10 @@ name_of net (Trace f) = fault_name net f
 name_of net (Past f) = node_name (slice_get net.nodes f.node)
 name_of net _ = []
 
--- the error output gained a first part of a line, and the whole where its count of faults didn't rise
+-- the error output gained a first part of a line, and the whole where its count of faults didn't rise; that never falls, and
+-- stays where as many bytes are sure as the line has
 pub record PutsLine {S : Type 0} (taken : S → Option (List ℕ)) (sure faults : S → ℕ) (before after : S) (text : List ℕ) : Type 0 where
   pub part : TakesPrefix (taken before) (taken after) (sure before) (sure after) text
   pub whole : ¬ (Rose (faults before) (faults after)) → taken after ≡ append_known (taken before) text
+  pub later : faults before ≤ faults after
+  pub calm : length text ≤ sure before → faults after ≡ faults before

@@ -1,5 +1,5 @@
 // The lines on the error output.
-ghost use Rattle.std.specs.Prelude.{◌≡◌, [], ◌∷◌, ◌++◌, length, decimal, OnOk, OnErr};
+ghost use Rattle.std.specs.Prelude.{◌≡◌, ◌≤◌, [], ◌∷◌, ◌++◌, length, decimal, OnOk, OnErr};
 ghost use Rattle.mq_base.specs.Outside.{Rose, TakesFirst, TakesPrefix};
 ghost use Rattle.mq_base.specs.Pieces.{pieces_text};
 ghost use Rattle.mq_top.specs.Lines.{PutsLine, line_text, model_line, trace_line, past_line, usage_line, name_of as name_of_outcome};
@@ -34,7 +34,9 @@ pub fn name_of<'a>(net: &'a Network, outcome: &Outcome) -> &'a [u8]
 fn try_pieces<E: Sink>(err: &mut E, pieces: &[Piece<'_>]) -> Result<(), SinkFault>
     ensures ok { OnOk result (TakesFirst (E.taken err.old) (E.taken err.new) (E.sure err.old) (E.sure err.new) (pieces_text pieces.now) (length (pieces_text pieces.now))) }
     ensures err { OnErr result (TakesPrefix (E.taken err.old) (E.taken err.new) (E.sure err.old) (E.sure err.new) (pieces_text pieces.now)) }
+    ensures later { E.faults err.old ≤ E.faults err.new }
     ensures rose { OnErr result (Rose (E.faults err.old) (E.faults err.new)) }
+    ensures sure { length (pieces_text pieces.now) ≤ E.sure err.old → E.faults err.new ≡ E.faults err.old }
 {
     let mut pending = Gather::new();
     add_pieces(err, &mut pending, pieces)?;

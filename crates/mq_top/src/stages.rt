@@ -120,6 +120,7 @@ fn report_run<O: Sink>(alloc: Global, plan: &Plan, rows: &Rows, jobs: bool, out:
     ensures unread { (second : Bool) → result ≢ Outcome.ReadFault second }
     ensures later { O.faults out.old ≤ O.faults out.new }
     ensures rose { result ≡ Outcome.WriteFault → Rose (O.faults out.old) (O.faults out.new) }
+    ensures quiet { (result ≡ Outcome.WriteFault) ⊎ (O.faults out.new ≡ O.faults out.old) }
     ensures sure { length (report_in plan.now.net rows.now jobs) ≤ O.sure out.old → O.faults out.new ≡ O.faults out.old }
     ensures untouched { Untouched result out.old out.new }
 {
@@ -150,12 +151,14 @@ fn run_trace<F: Files, O: Sink>(
     ensures files_later { F.faults files.old ≤ F.faults files.new }
     ensures failed { result ≡ Outcome.ReadFault true → F.faults files.new ≡ F.reads files.new }
     ensures files_rose { result ≡ Outcome.ReadFault true → Rose (F.faults files.old) (F.faults files.new) }
+    ensures files_quiet { (result ≡ Outcome.ReadFault true) ⊎ (F.faults files.new ≡ F.faults files.old) }
     ensures sure_name { F.is_sure files.old name.now ≡ true → F.faults files.new ≡ F.faults files.old }
     ensures same_told { (n : List ℕ) → F.told files.new n ≡ F.told files.old n }
     ensures same_sure { (n : List ℕ) → F.is_sure files.new n ≡ F.is_sure files.old n }
 
     ensures later { O.faults out.old ≤ O.faults out.new }
     ensures rose { result ≡ Outcome.WriteFault → Rose (O.faults out.old) (O.faults out.new) }
+    ensures quiet { (result ≡ Outcome.WriteFault) ⊎ (O.faults out.new ≡ O.faults out.old) }
     ensures sure { (trace text : List ℕ) → F.told files.old name.now ≡ Some trace → answer_over plan.now.net trace jobs ≡ Reported text → length text ≤ O.sure out.old → O.faults out.new ≡ O.faults out.old }
     ensures untouched { Untouched result out.old out.new }
 {
@@ -171,6 +174,7 @@ fn run_made<O: Sink>(alloc: Global, number: u64, jobs: bool, out: &mut O) -> Out
     ensures made { IsOfMade result }
     ensures later { O.faults out.old ≤ O.faults out.new }
     ensures rose { result ≡ Outcome.WriteFault → Rose (O.faults out.old) (O.faults out.new) }
+    ensures quiet { (result ≡ Outcome.WriteFault) ⊎ (O.faults out.new ≡ O.faults out.old) }
     ensures sure { (text : List ℕ) → answer (made_model number) (made_trace number) jobs ≡ Reported text → length text ≤ O.sure out.old → O.faults out.new ≡ O.faults out.old }
     ensures untouched { Untouched result out.old out.new }
 {
@@ -218,7 +222,7 @@ pub fn simulate<F: Files, O: Sink, E: Sink>(
     ensures model_only { (m t model : List ℕ) (fault : ModelFault) → Names (texts words.now) m t → F.told files.old m ≡ Some model → result ≡ Outcome.Model fault → model_fault model ≡ Some fault }
     ensures never { (result ≢ Outcome.Model ModelFault.Memory) × (result ≢ Outcome.Trace TraceFault.Memory) }
 
-    // A fault of a device is counted.
+    // A fault of a device is counted, and a counted fault is answered.
     ensures first { result ≡ Outcome.ReadFault false → FailedAt 1 (F.reads files.old) (F.reads files.new) (F.faults files.new) × Rose (F.faults files.old) (F.faults files.new) }
     ensures second { result ≡ Outcome.ReadFault true → FailedAt 2 (F.reads files.old) (F.reads files.new) (F.faults files.new) × Rose (F.faults files.old) (F.faults files.new) }
     ensures reads { asks_made (texts words.now) ≡ false → Reads result (F.reads files.old) (F.reads files.new) }
@@ -226,11 +230,13 @@ pub fn simulate<F: Files, O: Sink, E: Sink>(
     ensures second_name { (m t : List ℕ) → Names (texts words.now) m t → F.is_sure files.old t ≡ true → F.faults files.old < 2 ^ 64 - 1 → result ≢ Outcome.ReadFault true }
     ensures unread { (fault : UsageFault) → usage_fault (texts words.now) ≡ Some fault → files.new ≡ files.old }
     ensures sure_names { (m t : List ℕ) → Names (texts words.now) m t → F.is_sure files.old m ≡ true → F.is_sure files.old t ≡ true → F.faults files.new ≡ F.faults files.old }
+    ensures files_quiet { (result ≡ Outcome.ReadFault false) ⊎ ((result ≡ Outcome.ReadFault true) ⊎ (F.faults files.new ≡ F.faults files.old)) }
     ensures files_later { F.faults files.old ≤ F.faults files.new }
     ensures same_told { (n : List ℕ) → F.told files.new n ≡ F.told files.old n }
     ensures same_sure { (n : List ℕ) → F.is_sure files.new n ≡ F.is_sure files.old n }
     ensures out_later { O.faults out.old ≤ O.faults out.new }
     ensures write { result ≡ Outcome.WriteFault → Rose (O.faults out.old) (O.faults out.new) }
+    ensures out_quiet { (result ≡ Outcome.WriteFault) ⊎ (O.faults out.new ≡ O.faults out.old) }
     ensures sure { (m t model trace text : List ℕ) → Names (texts words.now) m t → F.told files.old m ≡ Some model → F.told files.old t ≡ Some trace → answer model trace (jobs_asked (texts words.now)) ≡ Reported text →
         length text ≤ O.sure out.old → O.faults out.new ≡ O.faults out.old }
 
