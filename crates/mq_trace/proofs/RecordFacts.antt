@@ -2,7 +2,7 @@
 use Rattle.std.proofs.Common.{◌≡◌, ◌∙◌, sym, ap, refl, ℕ, zero, suc, ◌+◌, ◌<◌, ◌≤◌, List, [], ◌∷◌, length, Bool, true, false, Option, Some, None, Bor, arith, inl, inr, add-one}
 use Rattle.std.proofs.lemmas.Bool.{cases_Bool}
 use Rattle.csv.specs.Machine.{Read, step, is_end, ends_at_end, in_field, next_record, field_after, fields_after}
-use Rattle.csv.specs.Reading.{Reached, ReadRecord, Ready, default_config, reader_state, records_from, records_next}
+use Rattle.csv.specs.Reading.{Reached, ReadRecord, Ready, default_config, is_flexible, reader_state, records_from, records_next}
 use Rattle.csv.specs.declared.parser.State.{State}
 use Rattle.csv.specs.declared.parser.State.TheVariants as st
 use Rattle.csv.proofs.ReadFacts.{rows-end, rows-more}
@@ -85,10 +85,10 @@ unfolding records_at records_from
 records_at-next s text b = rw add-one (at_step s text b (next_record default_config s [] [] text) refl)
 
 -- what a read of a record says of the records that are left
-pub takes : (old new : TextReader) (found : Bool) (fields : Record) → IsBetween old → Ready new → ReadRecord (λ (s : Bor (List ℕ)). Some s.now) old new found fields
+pub takes : (old new : TextReader) (found : Bool) (fields : Record) → IsBetween old → Ready new → is_flexible new ≡ is_flexible old → ReadRecord (λ (s : Bor (List ℕ)). Some s.now) old new found fields
     → Takes old new found fields
 unfolding Reached
-takes old new true fields b ready r =
+takes old new true fields b ready kept r =
     let (z, at_z, reached) = rows-more (λ (s : Bor (List ℕ)). Some s.now) old new fields default_config old.state b.text b.text [] b.config b.known (refl, refl) r in
     let (p, next, first, same) = reached in
     let (same_state, same_text) = same in
@@ -99,6 +99,7 @@ takes old new true fields b ready r =
     let same_end : records_at p.1 p.2 ≡ records_at (reader_state new) z = ap (λ s. records_at s p.2) same_state ∙ ap (λ t. records_at (reader_state new) t) same_text in (
       record {
         trim = r.3 ∙ b.trim;
+        flexible = kept ∙ b.flexible;
         ready = ready;
         config = r.2 ∙ b.config;
         between = ap ends_at_end (sym same_state) ∙ less.0;
@@ -107,7 +108,7 @@ takes old new true fields b ready r =
       },
       left ∙ ap (λ f. f ∷ records_at p.1 p.2) (sym first) ∙ ap (λ more. fields ∷ more) (same_end ∙ sym right),
     )
-takes old new false fields b ready r =
+takes old new false fields b ready kept r =
     let none = rows-end (λ (s : Bor (List ℕ)). Some s.now) old new fields default_config b.text b.config b.known r in
     let step = records_at-next old.state b.text b.between in
     rw (b.known, step, none) refl

@@ -1,8 +1,8 @@
 // The records of a text, one after the other.
 
-ghost use Rattle.std.specs.Prelude.{◌≡◌, IfErr, IfOk};
+ghost use Rattle.std.specs.Prelude.{◌≡◌, IfErr, IfOk, true};
 ghost use Rattle.csv.specs.Records.{fields_of};
-ghost use Rattle.csv.specs.Reading.{default_config, records, strip_bom};
+ghost use Rattle.csv.specs.Reading.{default_config, has_failed, records, strip_bom};
 ghost use Rattle.mq_trace.specs.Records.{IsBetween, Takes, records_left};
 
 use crate::fault::TraceFault;
@@ -20,11 +20,13 @@ pub fn text_reader(alloc: Global, text: &[u8]) -> Reader<&[u8]>
         .from_reader(alloc, text)
 }
 
-/// Reads the next record, if there is one. Bytes in memory are always read, so an error is want of memory.
+/// Reads the next record, if there is one. A record of another length is no error, and bytes in memory are always
+/// read, so an error is want of memory. The reader has then failed, and gives no more records.
 pub fn next_record(reader: &mut Reader<&[u8]>, row: &mut ByteRecord) -> Result<bool, TraceFault>
     requires { IsBetween reader.old }
     ensures found { IfOk result (λ found. Takes reader.old reader.new found (fields_of row.new)) }
     ensures memory { IfErr result (λ e. e ≡ TraceFault.Memory) }
+    ensures failed { IfErr result (λ _. has_failed reader.new ≡ true) }
 {
     let Ok(found) = reader.read_byte_record(row) else {
         return Err(TraceFault::Memory);
