@@ -4,8 +4,8 @@ use Rattle.std.specs.Prelude.{count_by}
 use Rattle.std.specs.List.{AllByRecursion as Each}
 use Rattle.std.proofs.lemmas.Bool.Decides.{nat_tests}
 use Rattle.std.proofs.lemmas.List.Sums.{length-filter}
-use Rattle.mq_core.proofs.Each.{Each-weaker}
-use Rattle.mq_core.proofs.Orders.{Each-order, filter-order, in_order_of-length}
+use Rattle.mq_core.proofs.Lists.Each.{Each-weaker}
+use Rattle.mq_core.proofs.Events.Orders.{Each-order, filter-order, in_order_of-length}
 use Rattle.mq_core.specs.Columns.{by_first}
 use Rattle.mq_core.specs.Laws.{insert_by}
 use Rattle.mq_core.specs.declared.model.Fate.{Fate}

@@ -1,4 +1,4 @@
-use Rattle.mq_core.proofs.NumberRuns.{columns-make_runs}
+use Rattle.mq_core.proofs.Columns.NumberRuns.{columns-make_runs}
 use Rattle.mq_core.proofs.laws.columns_make_runs.Goals as goal
 
 pub returns : goal.returns

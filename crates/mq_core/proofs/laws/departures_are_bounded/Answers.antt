@@ -1,4 +1,4 @@
-use Rattle.mq_core.proofs.BoundedRanks.{departures-bounded}
+use Rattle.mq_core.proofs.Bounded.BoundedRanks.{departures-bounded}
 use Rattle.mq_core.proofs.laws.departures_are_bounded.Goals as goal
 
 pub returns : goal.returns

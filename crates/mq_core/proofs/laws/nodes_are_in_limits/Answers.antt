@@ -1,4 +1,4 @@
-use Rattle.mq_core.proofs.Plans.{nodes-are-in-limits}
+use Rattle.mq_core.proofs.EachKind.Plans.{nodes-are-in-limits}
 use Rattle.mq_core.proofs.laws.nodes_are_in_limits.Goals as goal
 
 pub returns : goal.returns

@@ -1,4 +1,4 @@
-use Rattle.mq_core.proofs.AloneRuns.{nodes-flow_alone}
+use Rattle.mq_core.proofs.EachKind.AloneRuns.{nodes-flow_alone}
 use Rattle.mq_core.proofs.laws.nodes_flow_alone.Goals as goal
 
 pub returns : goal.returns

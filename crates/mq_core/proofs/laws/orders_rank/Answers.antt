@@ -1,4 +1,4 @@
-use Rattle.mq_core.proofs.Plans.{orders-rank}
+use Rattle.mq_core.proofs.EachKind.Plans.{orders-rank}
 use Rattle.mq_core.proofs.laws.orders_rank.Goals as goal
 
 pub returns : goal.returns

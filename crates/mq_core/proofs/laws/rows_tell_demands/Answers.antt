@@ -1,4 +1,4 @@
-use Rattle.mq_core.proofs.Plans.{rows-tell-demands}
+use Rattle.mq_core.proofs.EachKind.Plans.{rows-tell-demands}
 use Rattle.mq_core.proofs.laws.rows_tell_demands.Goals as goal
 
 pub returns : goal.returns

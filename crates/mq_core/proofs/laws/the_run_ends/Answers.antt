@@ -1,4 +1,4 @@
-use Rattle.mq_core.proofs.Ends.{run-ended}
+use Rattle.mq_core.proofs.EachKind.Ends.{run-ended}
 use Rattle.mq_core.proofs.laws.the_run_ends.Goals as goal
 
 pub returns : goal.returns

@@ -1,0 +1,5 @@
+pub mod BoundedStations
+pub mod BoundedTandem
+pub mod BoundedKinds
+pub mod BoundedArrivals
+pub mod BoundedRanks

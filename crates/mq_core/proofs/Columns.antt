@@ -1,0 +1,13 @@
+pub mod NumberFates
+pub mod NumberTotals
+pub mod NumberSpan
+pub mod NumberPast
+pub mod ColumnFlow
+pub mod ColumnsEqual
+pub mod ColumnMerges
+pub mod ColumnOrder
+pub mod ColumnJobs
+pub mod ColumnTimes
+pub mod BareTimes
+pub mod ColumnFew
+pub mod NumberRuns

@@ -1,0 +1,130 @@
+use Rattle.std.proofs.Common.{◌≡◌, inl, inr, ℕ, zero, suc, ◌+◌, ◌-◌, ◌<◌, List, [], ◌∷◌, length, map, Some, sym, refl, ap, ◌∙◌, subst, arith, max, fold, sum, sum_by, count_by, slice_get, slice_index}
+use Rattle.std.proofs.lemmas.List.{length-map}
+use Rattle.std.specs.Option.{option_map}
+use Rattle.std.proofs.lemmas.List.Sums.{sum_by-cons}
+use Rattle.mq_core.specs.Columns.{column_waits, column_sojourn, column_sojourns, column_service, column_services, one_more, column_numbers, column_peak, stream_sojourns}
+use Rattle.mq_core.specs.Machine.{Visit, Emission, Station}
+use Rattle.mq_core.specs.Local.{Local}
+use Rattle.mq_core.specs.Laws.{stream_of}
+use Rattle.mq_core.specs.Fates.{fate_by, fate_of, holds_jobs, service_of, unless_lost}
+use Rattle.mq_core.specs.NumberLaws.{TotalsAreColumns, ExitsAreStreams}
+use Rattle.mq_core.specs.Results.{fates_from, wait_of, waits_of, is_lost, peak_of}
+use Rattle.mq_core.specs.StandardTable.{run_of}
+use Rattle.mq_core.specs.Tallies.{sum_below, greatest_below, emission_at, arrival_or, found_or, time_or, sojourn, sojourns}
+use Rattle.mq_core.specs.declared.model.Fate.{Fate}
+use Rattle.mq_core.specs.declared.model.Fate.TheVariants.{Departs, Lost}
+use Rattle.mq_core.specs.declared.model.Kind.{Kind}
+use Rattle.mq_core.specs.declared.model.Kind.TheVariants.{Source, Server, Delay, Loss, Tandem, ForkJoin, Split}
+use Rattle.mq_core.specs.declared.model.Node.{Node}
+use Rattle.mq_core.specs.declared.model.Rows.{Rows}
+use Rattle.mq_core.proofs.EachKind.Busy.{busy-is_services}
+use Rattle.mq_core.proofs.Columns.ColumnFlow.{node-leaves}
+use Rattle.mq_core.proofs.Counting.ColumnNumbers.{LeavesAs}
+use Rattle.mq_core.proofs.Columns.NumberFates.{LetOut, all-let_out, values, sum-values, greatest-values}
+use Rattle.mq_core.proofs.EachKind.Peak.{peak-is_greatest}
+use Rattle.mq_core.proofs.EachKind.Tallied.{areas-are-sojourns}
+
+-- what is worked out of columns is worked out of each visit and its fate
+waits-columns : (rows : Rows) (kind : Kind) (xs : List Visit) (fates : List Fate) → waits_of rows kind xs fates ≡ column_waits rows kind (map (λ (x : Visit). x.job) xs) (map (λ (x : Visit). x.arrive) xs) fates
+waits-columns rows kind [] fates = refl
+waits-columns rows kind (x ∷ xs) [] = refl
+waits-columns rows kind (x ∷ xs) (Departs time ∷ fates) = ap (λ l. wait_of rows kind x (Departs time) ∷ l) (waits-columns rows kind xs fates)
+waits-columns rows kind (x ∷ xs) (Lost ∷ fates) = ap (λ l. 0 ∷ l) (waits-columns rows kind xs fates)
+
+sojourns-values : (xs : List Visit) (fates : List Fate) → column_sojourns (map (λ (x : Visit). x.arrive) xs) fates ≡ values (λ x fate. column_sojourn x.arrive fate) xs fates
+sojourns-values [] fates = refl
+sojourns-values (x ∷ xs) [] = refl
+sojourns-values (x ∷ xs) (fate ∷ fates) = ap (λ l. column_sojourn x.arrive fate ∷ l) (sojourns-values xs fates)
+
+services-values : (rows : Rows) (kind : Kind) (xs : List Visit) (fates : List Fate) → column_services rows kind (map (λ (x : Visit). x.job) xs) fates ≡ values (λ x fate. column_service rows kind x.job fate) xs fates
+services-values rows kind [] fates = refl
+services-values rows kind (x ∷ xs) [] = refl
+services-values rows kind (x ∷ xs) (fate ∷ fates) = ap (λ l. column_service rows kind x.job fate ∷ l) (services-values rows kind xs fates)
+
+numbers-values : (xs : List Visit) (fates : List Fate) → column_numbers (map (λ (x : Visit). x.found) xs) fates ≡ values (λ x fate. one_more x.found fate) xs fates
+numbers-values [] fates = refl
+numbers-values (x ∷ xs) [] = refl
+numbers-values (x ∷ xs) (fate ∷ fates) = ap (λ l. one_more x.found fate ∷ l) (numbers-values xs fates)
+
+-- what is known of each position, where it is written from 0 on
+at-own : (emitted : List Emission) (i p : ℕ) (m : Emission) → p ≡ 0 + i → emission_at emitted p ≡ Some m → emission_at emitted i ≡ Some m
+at-own emitted i p m place e = subst (λ q. emission_at emitted q ≡ Some m) (let same : p ≡ i = omega arith in same) e
+
+area-columns : (kind : Kind) (now : ℕ) (visits : List Visit) (emitted : List Emission) → LetOut emitted 0 visits → ((i : ℕ) (x : Visit) (m : Emission) → slice_get visits i ≡ Some x → emission_at emitted i ≡ Some m → LeavesAs kind m x) → sojourns now visits emitted ≡ sum (column_sojourns (map (λ (x : Visit). x.arrive) visits) (fates_from kind emitted 0 visits))
+area-columns kind now visits emitted out leaves =
+    sym (ap sum (sojourns-values visits (fates_from kind emitted 0 visits))
+    ∙ sum-values kind emitted (λ x fate. column_sojourn x.arrive fate) 0 visits (sojourn now visits emitted) out
+    (λ i p x m place here e. ap (λ o. time_or now o - arrival_or 0 (slice_get visits i)) (at-own emitted i p m place e) ∙ (ap (λ o. m.time - arrival_or 0 o) here ∙ stays x m (leaves i x m here (at-own emitted i p m place e)))))
+  where
+    stays : (x : Visit) (m : Emission) → LeavesAs kind m x → m.time - x.arrive ≡ column_sojourn x.arrive (fate_by kind m)
+    stays x m (inl e) = ap (column_sojourn x.arrive) (sym e)
+    stays x m (inr e) = let at = e.1 in let none : m.time - x.arrive ≡ 0 = omega arith in none ∙ ap (column_sojourn x.arrive) (sym e.0)
+
+busy-columns : (rows : Rows) (kind : Kind) (visits : List Visit) (emitted : List Emission) → LetOut emitted 0 visits → sum_below (length visits) (λ p. unless_lost (fate_of kind emitted p) (service_of rows kind (slice_get visits p))) ≡ sum (column_services rows kind (map (λ (x : Visit). x.job) visits) (fates_from kind emitted 0 visits))
+busy-columns rows kind visits emitted out =
+    sym (ap sum (services-values rows kind visits (fates_from kind emitted 0 visits))
+    ∙ sum-values kind emitted (λ x fate. column_service rows kind x.job fate) 0 visits (λ p. unless_lost (fate_of kind emitted p) (service_of rows kind (slice_get visits p))) out
+    (λ i p x m place here e. ap (λ o. unless_lost (option_map (fate_by kind) o) (service_of rows kind (slice_get visits i))) (at-own emitted i p m place e) ∙ (ap (λ o. unless_lost (Some (fate_by kind m)) (service_of rows kind o)) here ∙ served x (fate_by kind m))))
+  where
+    served : (x : Visit) (fate : Fate) → unless_lost (Some fate) (service_of rows kind (Some x)) ≡ column_service rows kind x.job fate
+    served x (Departs time) = refl
+    served x Lost = refl
+
+numbers-columns : (kind : Kind) (visits : List Visit) (emitted : List Emission) → LetOut emitted 0 visits → greatest_below (length visits) (λ p. unless_lost (fate_of kind emitted p) (found_or 0 (slice_get visits p) + 1)) ≡ fold max 0 (column_numbers (map (λ (x : Visit). x.found) visits) (fates_from kind emitted 0 visits))
+numbers-columns kind visits emitted out =
+    sym (ap (fold max 0) (numbers-values visits (fates_from kind emitted 0 visits))
+    ∙ greatest-values kind emitted (λ x fate. one_more x.found fate) 0 visits (λ p. unless_lost (fate_of kind emitted p) (found_or 0 (slice_get visits p) + 1)) out
+    (λ i p x m place here e. ap (λ o. unless_lost (option_map (fate_by kind) o) (found_or 0 (slice_get visits i) + 1)) (at-own emitted i p m place e) ∙ (ap (λ o. unless_lost (Some (fate_by kind m)) (found_or 0 o + 1)) here ∙ number x (fate_by kind m))))
+  where
+    number : (x : Visit) (fate : Fate) → unless_lost (Some fate) (x.found + 1) ≡ one_more x.found fate
+    number x (Departs time) = refl
+    number x Lost = refl
+
+pub node-inside : (nodes : List Node) (v : ℕ) (node : Node) → slice_get nodes v ≡ Some node → v < length nodes
+node-inside [] v node h = absurd cc
+node-inside (n ∷ nodes) zero node h = omega arith
+node-inside (n ∷ nodes) (suc v) node h = let one = node-inside nodes v node h in omega arith
+
+pub totals-are_columns : TotalsAreColumns
+totals-are_columns plan rows read v node here =
+    let area = areas-are-sojourns plan rows read v (node-inside plan.net.nodes v node here) ∙ area-columns node.kind (run_of plan rows).clock s.visits s.emitted out (node-leaves plan rows read v node here) in
+    let busy = busy-is_services plan rows read v node here ∙ busy-columns rows node.kind s.visits s.emitted out in
+    let waits = waits-columns rows node.kind s.visits (fates_from node.kind s.emitted 0 s.visits) in
+    let size : length s.visits ≡ length (map (λ (x : Visit). x.job) s.visits) = sym (length-map s.visits (λ (x : Visit). x.job)) in
+    λ i. record {
+      came = size i;
+      left = size i - count_by is_lost (fates_from node.kind s.emitted 0 s.visits);
+      lost = count_by is_lost (fates_from node.kind s.emitted 0 s.visits);
+      wait = sum (waits i);
+      longest = fold max 0 (waits i);
+      busy = busy i;
+      area = area i;
+      peak = peak node.kind refl i;
+    }
+  where
+    s : Station Local
+    s = (run_of plan rows).stations v
+
+    out : LetOut ((run_of plan rows).stations v).emitted 0 ((run_of plan rows).stations v).visits
+    out = all-let_out plan rows read v node here
+
+    peak : (kind : Kind) → node.kind ≡ kind → peak_of kind ((run_of plan rows).stations v).peak ≡ column_peak kind (map (λ (x : Visit). x.found) ((run_of plan rows).stations v).visits) (fates_from node.kind ((run_of plan rows).stations v).emitted 0 ((run_of plan rows).stations v).visits)
+    peak Source same = refl
+    peak (Server demand) same = peak-is_greatest plan rows v node here (ap holds_jobs same) ∙ numbers-columns node.kind ((run_of plan rows).stations v).visits ((run_of plan rows).stations v).emitted out
+    peak (Delay demand) same = peak-is_greatest plan rows v node here (ap holds_jobs same) ∙ numbers-columns node.kind ((run_of plan rows).stations v).visits ((run_of plan rows).stations v).emitted out
+    peak (Loss places demand) same = peak-is_greatest plan rows v node here (ap holds_jobs same) ∙ numbers-columns node.kind ((run_of plan rows).stations v).visits ((run_of plan rows).stations v).emitted out
+    peak (Tandem stages) same = peak-is_greatest plan rows v node here (ap holds_jobs same) ∙ numbers-columns node.kind ((run_of plan rows).stations v).visits ((run_of plan rows).stations v).emitted out
+    peak (ForkJoin branches) same = peak-is_greatest plan rows v node here (ap holds_jobs same) ∙ numbers-columns node.kind ((run_of plan rows).stations v).visits ((run_of plan rows).stations v).emitted out
+    peak (Split route) same = refl
+
+-- the sum over a stream is the sum over its columns
+exit-sum : (rows : Rows) (stream : List Emission) → sum_by (λ (m : Emission). m.time - slice_index rows.time m.job) stream ≡ sum (stream_sojourns rows (map (λ (m : Emission). m.job) stream) (map (λ (m : Emission). m.time) stream))
+exit-sum rows [] = refl
+exit-sum rows (m ∷ ms) =
+    let one = sum_by-cons (λ (e : Emission). e.time - slice_index rows.time e.job) m ms in
+    let two = sum_by-cons (λ (n : ℕ). n) (m.time - slice_index rows.time m.job) (stream_sojourns rows (map (λ (e : Emission). e.job) ms) (map (λ (e : Emission). e.time) ms)) in
+    let rest = exit-sum rows ms in
+    omega arith
+
+pub exits-are_streams : ExitsAreStreams
+exits-are_streams rows s out = λ i. (sym (length-map (stream_of out s.emitted) (λ (m : Emission). m.job)) i, exit-sum rows (stream_of out s.emitted) i)

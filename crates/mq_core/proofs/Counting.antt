@@ -1,0 +1,4 @@
+pub mod ColumnNumbers
+pub mod Reordered
+pub mod Releases
+pub mod Unlost

@@ -1,0 +1,10 @@
+pub mod Shapes
+pub mod Facts
+pub mod Flows
+pub mod Ends
+pub mod AloneRuns
+pub mod Tallied
+pub mod Plans
+pub mod Busy
+pub mod Peak
+pub mod Span

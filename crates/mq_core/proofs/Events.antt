@@ -1,0 +1,14 @@
+pub mod Pending
+pub mod Steps
+pub mod Forward
+pub mod Rising
+pub mod Orders
+pub mod Arrivals
+pub mod Second
+pub mod Third
+pub mod Kept
+pub mod Remaining
+pub mod Falls
+pub mod Areas
+pub mod EmissionsAt
+pub mod Founds

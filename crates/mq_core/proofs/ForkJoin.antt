@@ -1,0 +1,11 @@
+pub mod ForkServers
+pub mod ForkSeries
+pub mod ForkBranches
+pub mod Joins
+pub mod JoinLoads
+pub mod JoinTallies
+pub mod JoinBusy
+pub mod ForkTimes
+pub mod ForkSums
+pub mod JoinEnds
+pub mod JoinServices

@@ -1,0 +1,5 @@
+pub mod RecurrenceRows
+pub mod WorkedRows
+pub mod TandemRows
+pub mod ForkRows
+pub mod LossRows

@@ -1,0 +1,6 @@
+pub mod LossFlow
+pub mod Loses
+pub mod LossTallies
+pub mod LossBusy
+pub mod LossPeak
+pub mod LossColumns

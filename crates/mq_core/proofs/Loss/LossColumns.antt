@@ -1,0 +1,103 @@
+-- The flow of a loss station: its fates, its outputs and its times, and that neither output goes back in time.
+use Rattle.std.proofs.Common.{◌≡◌, inl, inr, ℕ, suc, ◌+◌, ◌≤◌, max, Bool, true, false, cond, eqb, List, [], ◌∷◌, map, length, sym, refl, ap, ◌∙◌, arith, eqb-true}
+use Rattle.std.specs.Prelude.{slice_get}
+use Rattle.std.specs.List.{AllByRecursion as Each}
+use Rattle.mq_core.specs.ColumnLaws.{arrives_of}
+use Rattle.mq_core.specs.Columns.{out_of_fate}
+use Rattle.mq_core.specs.Fates.{fate_by}
+use Rattle.mq_core.specs.Handling.{demand_of_job}
+use Rattle.mq_core.specs.Laws.{Rises, in_order_of, stream_of}
+use Rattle.mq_core.specs.Machine.{Visit, Emission}
+use Rattle.mq_core.specs.Recurrences.{is_admitted, loss_fates, time_or_none}
+use Rattle.mq_core.specs.Served.{faring_from}
+use Rattle.mq_core.specs.declared.model.Demand.{Demand}
+use Rattle.mq_core.specs.declared.model.Fate.{Fate}
+use Rattle.mq_core.specs.declared.model.Fate.TheVariants.{Departs, Lost}
+use Rattle.mq_core.specs.declared.model.Kind.TheVariants.{Loss}
+use Rattle.mq_core.specs.declared.model.Rows.{Rows}
+use Rattle.mq_core.proofs.Counting.ColumnNumbers.{EachLeaves}
+use Rattle.mq_core.proofs.Lists.Each.{Each-weaker, Each-filter_if, Each-any}
+use Rattle.mq_core.proofs.Events.Rising.{Rises-filter, Rises-in_order_of, filter-in_order_of, same_by_key}
+
+-- each visit fares as it is let out
+pub faring-fates : (places : ℕ) (demand : Demand) (k : ℕ) (fates : List Fate) (visits : List Visit) → length fates ≡ length visits → map (fate_by (Loss places demand)) (faring_from k fates visits) ≡ fates
+faring-fates places demand k [] visits e = refl
+faring-fates places demand k (fate ∷ fates) [] e = absurd (omega arith)
+faring-fates places demand k (Departs time ∷ fates) (x ∷ xs) e = ap (λ l. Departs time ∷ l) (faring-fates places demand (suc k) fates xs (omega arith))
+faring-fates places demand k (Lost ∷ fates) (x ∷ xs) e = ap (λ l. Lost ∷ l) (faring-fates places demand (suc k) fates xs (omega arith))
+
+pub faring-leaves : (places : ℕ) (demand : Demand) (k : ℕ) (fates : List Fate) (visits : List Visit) → EachLeaves (Loss places demand) (faring_from k fates visits) visits
+faring-leaves places demand k [] visits = tt
+faring-leaves places demand k (fate ∷ fates) [] = tt
+faring-leaves places demand k (Departs time ∷ fates) (x ∷ xs) = (inl refl, faring-leaves places demand (suc k) fates xs)
+faring-leaves places demand k (Lost ∷ fates) (x ∷ xs) = (inr (refl, refl), faring-leaves places demand (suc k) fates xs)
+
+pub faring-outs : (k : ℕ) (fates : List Fate) (visits : List Visit) → length fates ≡ length visits → map (λ (m : Emission). m.out) (faring_from k fates visits) ≡ map out_of_fate fates
+faring-outs k [] visits e = refl
+faring-outs k (fate ∷ fates) [] e = absurd (omega arith)
+faring-outs k (Departs time ∷ fates) (x ∷ xs) e = ap (λ l. 0 ∷ l) (faring-outs (suc k) fates xs (omega arith))
+faring-outs k (Lost ∷ fates) (x ∷ xs) e = ap (λ l. 1 ∷ l) (faring-outs (suc k) fates xs (omega arith))
+
+-- what these visits let out, where these departures were before them
+abbrev loss_flow : Rows → ℕ → Demand → ℕ → List ℕ → List Visit → List Emission
+loss_flow rows places demand k left xs = faring_from k (loss_fates places left (map (λ (x : Visit). x.arrive) xs) (map (λ (x : Visit). demand_of_job rows demand x.job) xs)) xs
+
+abbrev departure : Rows → Demand → List ℕ → Visit → ℕ
+departure rows demand left x = max x.arrive (time_or_none (slice_get left 0)) + demand_of_job rows demand x.job
+
+-- the same where the first of them is admitted, or isn't
+abbrev flow_if : Rows → ℕ → Demand → ℕ → List ℕ → Visit → List Visit → Bool → List Emission
+flow_if rows places demand k left x xs b =
+    faring_from k
+    (cond b (Departs (departure rows demand left x) ∷ loss_fates places (departure rows demand left x ∷ left) (map (λ (y : Visit). y.arrive) xs) (map (λ (y : Visit). demand_of_job rows demand y.job) xs)) (Lost ∷ loss_fates places left (map (λ (y : Visit). y.arrive) xs) (map (λ (y : Visit). demand_of_job rows demand y.job) xs)))
+    (x ∷ xs)
+
+-- who is admitted leaves no earlier than this one before, and who is lost no earlier than this arrival before
+abbrev IsBehind : ℕ → ℕ → Emission → Type 0
+IsBehind last low n = (n.out ≡ 0 → last ≤ n.time) × (n.out ≡ 1 → low ≤ n.time)
+
+loss-behind : (rows : Rows) (places : ℕ) (demand : Demand) (last low k : ℕ) (left : List ℕ) (visits : List Visit) → last ≤ time_or_none (slice_get left 0) → Each (λ a. low ≤ a) (arrives_of visits) → Each (IsBehind last low) (loss_flow rows places demand k left visits)
+loss-behind rows places demand last low k left [] h r = tt
+loss-behind rows places demand last low k left (x ∷ xs) h r = go (is_admitted places left x.arrive) (λ l e. loss-behind rows places demand last low (suc k) l xs e r.1)
+  where
+    go : (b : Bool) → ((l : List ℕ) → last ≤ time_or_none (slice_get l 0) → Each (IsBehind last low) (loss_flow rows places demand (suc k) l xs)) → Each (IsBehind last low) (flow_if rows places demand k left x xs b)
+    go true ih = ((λ e. omega arith, λ e. absurd (omega arith)), ih (departure rows demand left x ∷ left) (omega arith))
+    go false ih = ((λ e. absurd (omega arith), λ e. r.0), ih left h)
+
+-- of two that leave by one output the later in position leaves no earlier
+abbrev InTurn : Emission → Emission → Type 0
+InTurn m n = m.out ≡ n.out → m.time ≤ n.time
+
+loss-in_turn : (rows : Rows) (places : ℕ) (demand : Demand) (k : ℕ) (left : List ℕ) (visits : List Visit) → Rises (λ a b. a ≤ b) (arrives_of visits) → Rises InTurn (loss_flow rows places demand k left visits)
+loss-in_turn rows places demand k left [] r = tt
+loss-in_turn rows places demand k left (x ∷ xs) r = go (is_admitted places left x.arrive) (λ l. loss-in_turn rows places demand (suc k) l xs r.1)
+  where
+    go : (b : Bool) → ((l : List ℕ) → Rises InTurn (loss_flow rows places demand (suc k) l xs)) → Rises InTurn (flow_if rows places demand k left x xs b)
+    go true ih = (
+      Each-weaker _ _ (λ n h e. h.0 (sym e)) (loss_flow rows places demand (suc k) (departure rows demand left x ∷ left) xs) (loss-behind rows places demand (departure rows demand left x) x.arrive (suc k) (departure rows demand left x ∷ left) xs (omega arith) r.0),
+      ih (departure rows demand left x ∷ left),
+    )
+    go false ih = (
+      Each-weaker _ _ (λ n h e. h.1 (sym e)) (loss_flow rows places demand (suc k) left xs) (loss-behind rows places demand 0 x.arrive (suc k) left xs (omega arith) r.0),
+      ih left,
+    )
+
+-- those of one output
+turn-rises : (out : ℕ) (ms : List Emission) → Each (λ (m : Emission). m.out ≡ out) ms → Rises InTurn ms → Rises (λ (a b : Emission). a.time ≤ b.time) ms
+turn-rises out [] h r = tt
+turn-rises out (m ∷ ms) h r = (both ms h.1 r.0, turn-rises out ms h.1 r.1)
+  where
+    both : (ns : List Emission) → Each (λ (n : Emission). n.out ≡ out) ns → Each (InTurn m) ns → Each (λ (n : Emission). m.time ≤ n.time) ns
+    both [] p q = tt
+    both (n ∷ ns) p q = (q.0 (h.0 ∙ sym p.0), both ns p.1 q.1)
+
+-- what is in order stays where it is put in order
+in-order-already : {X : Type 0} (key : X → ℕ) (xs : List X) → Rises (λ a b. key a ≤ key b) xs → in_order_of key xs ≡ xs
+in-order-already key xs r = same_by_key key (in_order_of key xs) xs (Rises-in_order_of key xs) r (λ k. filter-in_order_of key k xs)
+
+-- each output lets out by position
+pub loss-stream : (rows : Rows) (places : ℕ) (demand : Demand) (visits : List Visit) (out : ℕ) → Rises (λ a b. a ≤ b) (arrives_of visits) → in_order_of (λ (m : Emission). m.time) (stream_of out (loss_flow rows places demand 0 [] visits)) ≡ stream_of out (loss_flow rows places demand 0 [] visits)
+loss-stream rows places demand visits out r =
+    in-order-already (λ (m : Emission). m.time) _
+    (turn-rises out _ (Each-filter_if (λ (m : Emission). m.out ≡ out) (λ (m : Emission). eqb m.out out) (loss_flow rows places demand 0 [] visits) (Each-any _ (λ m. eqb-true m.out out) (loss_flow rows places demand 0 [] visits)))
+    (Rises-filter InTurn (λ (m : Emission). eqb m.out out) (loss_flow rows places demand 0 [] visits) (loss-in_turn rows places demand 0 [] visits r)))

@@ -1,0 +1,4 @@
+pub mod Wired
+pub mod Soundness
+pub mod Whole
+pub mod NetworkRuns

@@ -1,0 +1,10 @@
+pub mod TandemTimes
+pub mod TandemStages
+pub mod TandemSweep
+pub mod TandemOrder
+pub mod Tandems
+pub mod TandemFlow
+pub mod TandemColumns
+pub mod TandemNumbers
+pub mod TandemLoad
+pub mod TandemBusy
