@@ -1,28 +1,26 @@
 -- A run in columns: what the code keeps of it, one item a visit, by position.
-use Rattle.std.specs.Prelude.{◌≡◌, ◌≤◌, ◌^◌, All, ℕ, zero, suc, ◌+◌, ◌-◌, nat_lt, max, Bool, false, List, [], ◌∷◌, ◌++◌, length, map, sum, count_by, fold, ◌==◌, slice_index, if◌then◌else◌, Some}
 use Rattle.std.specs.List.{zip}
+use Rattle.std.specs.Prelude.{All, Bool, List, Some, [], count_by, false, fold, if◌then◌else◌, length, map, max, nat_lt, slice_index, suc, sum, zero, ℕ, ◌++◌, ◌+◌, ◌-◌, ◌==◌, ◌^◌, ◌∷◌, ◌≡◌, ◌≤◌}
+use Rattle.mq_core.specs.Alone.{came}
 use Rattle.mq_core.specs.Fates.{service_time}
+use Rattle.mq_core.specs.KindTable.{behaviour_of}
 use Rattle.mq_core.specs.Laws.{Rises, in_order_of}
 use Rattle.mq_core.specs.Local.{Local}
 use Rattle.mq_core.specs.Machine.{State}
-use Rattle.mq_core.specs.Recurrences.{lindley, delayed, loss_fates, fork_departs}
-use Rattle.mq_core.specs.Results.{Totals, Late, late_fate, bare_time, is_lost, visits_of, stream_from}
-use Rattle.mq_core.specs.Served.{branch_demands, tandem_times}
+use Rattle.mq_core.specs.Results.{Late, Totals, bare_time, is_lost, late_fate, stream_from, visits_of}
 use Rattle.mq_core.specs.Sound.{outputs_in}
-use Rattle.mq_core.specs.Handling.{demand_of_job}
-use Rattle.mq_core.specs.Standard.{output_by}
 use Rattle.mq_core.specs.StandardTable.{run_of}
 use Rattle.mq_core.specs.declared.model.Fate.{Fate}
 use Rattle.mq_core.specs.declared.model.Fate.TheVariants.{Departs, Lost}
 use Rattle.mq_core.specs.declared.model.Kind.{Kind}
-use Rattle.mq_core.specs.declared.model.Kind.TheVariants.{Source, Server, Delay, Loss, Tandem, ForkJoin, Split}
 use Rattle.mq_core.specs.declared.model.Node.{Node}
 use Rattle.mq_core.specs.declared.model.Plan.{Plan}
-use Rattle.mq_core.specs.declared.model.Route.{Route}
 use Rattle.mq_core.specs.declared.model.Rows.{Rows}
 use Rattle.mq_core.specs.declared.model.Run.{Run}
 use Rattle.mq_core.specs.declared.model.Stream.{Stream}
 use Rattle.mq_core.specs.declared.model.Visits.{Visits}
+pub use Rattle.mq_core.specs.Kinds.Loss.{out_of_fate}
+pub use Rattle.mq_core.specs.Kinds.Split.{routes_from}
 
 -- Streams. One job and one time an item, and the times never fall.
 pub record IsStream (stream : Stream) : Type 0 where
@@ -53,13 +51,7 @@ pub record IsSoundLoad (times demands : List ℕ) : Type 0 where
 
 -- the fates of the visits of a node, which has these jobs at these times
 abbrev pub column_fates : Rows → Kind → List ℕ → List ℕ → List Fate
-column_fates rows Source job arrive = map (λ time. Departs time) arrive
-column_fates rows (Server demand) job arrive = map (λ time. Departs time) (lindley 0 arrive (map (demand_of_job rows demand) job))
-column_fates rows (Delay demand) job arrive = map (λ time. Departs time) (delayed arrive (map (demand_of_job rows demand) job))
-column_fates rows (Loss places demand) job arrive = loss_fates places [] arrive (map (demand_of_job rows demand) job)
-column_fates rows (Tandem stages) job arrive = map (λ time. Departs time) (tandem_times rows stages job arrive)
-column_fates rows (ForkJoin branches) job arrive = map (λ time. Departs time) (fork_departs arrive (branch_demands rows branches job))
-column_fates rows (Split route) job arrive = map (λ time. Departs time) arrive
+column_fates rows kind job arrive = (behaviour_of kind).fates rows job arrive
 
 -- it departs after this time
 abbrev pub departs_after : ℕ → Fate → Bool
@@ -83,25 +75,9 @@ column_visits rows kind job arrive =
     let fate = column_fates rows kind job arrive in
     record { job = job; arrive = arrive; found = founds_of arrive fate; fate = fate }
 
--- Outputs. The output by which each job leaves, the first at this position.
-abbrev pub routes_from : Rows → Route → ℕ → List ℕ → List ℕ
-routes_from rows route position [] = []
-routes_from rows route position (job ∷ jobs) = output_by rows route job position ∷ routes_from rows route (suc position) jobs
-
--- the output by which a visit leaves a loss station
-abbrev pub out_of_fate : Fate → ℕ
-out_of_fate (Departs time) = 0
-out_of_fate Lost = 1
-
 -- the output by which each job leaves a node of this kind, which has these jobs at these times
 abbrev pub column_outs : Rows → Kind → List ℕ → List ℕ → List ℕ
-column_outs rows Source job arrive = map (λ _. 0) job
-column_outs rows (Server demand) job arrive = map (λ _. 0) job
-column_outs rows (Delay demand) job arrive = map (λ _. 0) job
-column_outs rows (Loss places demand) job arrive = map out_of_fate (column_fates rows (Loss places demand) job arrive)
-column_outs rows (Tandem stages) job arrive = map (λ _. 0) job
-column_outs rows (ForkJoin branches) job arrive = map (λ _. 0) job
-column_outs rows (Split route) job arrive = routes_from rows route 0 job
+column_outs rows kind job arrive = (behaviour_of kind).outs rows job arrive
 
 -- the items, of these that stand beside their outputs, whose output is this one
 abbrev pub picked : ℕ → List ℕ → List ℕ → List ℕ
@@ -136,8 +112,7 @@ sorted stream =
 
 -- jobs and times by position, in the order in which they leave: by time and then position at a delay, else by position
 abbrev pub stream_in_order : Kind → Stream → Stream
-stream_in_order (Delay demand) stream = sorted stream
-stream_in_order _ stream = stream
+stream_in_order kind stream = if (behaviour_of kind).overtakes then sorted stream else stream
 
 -- what leaves a node by an output, where the node has these jobs at these times
 abbrev pub column_stream : Rows → Kind → List ℕ → List ℕ → ℕ → Stream
@@ -195,13 +170,7 @@ column_numbers (found ∷ founds) (fate ∷ fates) = one_more found fate ∷ col
 
 -- the greatest number just after an arrival; 0 at a source or a split, which hold no job
 abbrev pub column_peak : Kind → List ℕ → List Fate → ℕ
-column_peak Source founds fates = 0
-column_peak (Server demand) founds fates = fold max 0 (column_numbers founds fates)
-column_peak (Delay demand) founds fates = fold max 0 (column_numbers founds fates)
-column_peak (Loss places demand) founds fates = fold max 0 (column_numbers founds fates)
-column_peak (Tandem stages) founds fates = fold max 0 (column_numbers founds fates)
-column_peak (ForkJoin branches) founds fates = fold max 0 (column_numbers founds fates)
-column_peak (Split route) founds fates = 0
+column_peak kind founds fates = if (behaviour_of kind).holds then fold max 0 (column_numbers founds fates) else 0
 
 -- the totals of a node, from its visits alone
 abbrev pub column_totals : Rows → Kind → Visits → Totals

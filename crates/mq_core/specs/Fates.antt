@@ -1,25 +1,24 @@
-use Rattle.std.specs.List.{AllByRecursion, flat_map}
-use Rattle.std.specs.Prelude.{◌≤◌, ◌+◌, ◌⊎◌, ◌≡◌, ℕ, ◌<◌, ◌==◌, List, [], ◌∷◌, ◌++◌, length, find, Option, Some, None, slice_get, if◌then◌else◌, IsSome, IsTrue, Bool, true, false, sum_by}
+use Rattle.std.specs.List.{AllByRecursion}
 use Rattle.std.specs.Option.{option_map}
-use Rattle.mq_core.specs.Machine.{Visit, Emission, State}
-use Rattle.mq_core.specs.Local.{Local}
-use Rattle.mq_core.specs.Handling.{demand_of_job, demand_of_stages}
+use Rattle.std.specs.Prelude.{Bool, IsSome, IsTrue, List, None, Option, Some, [], find, length, slice_get, ℕ, ◌++◌, ◌+◌, ◌<◌, ◌==◌, ◌∷◌, ◌≡◌, ◌≤◌, ◌⊎◌}
+use Rattle.mq_core.specs.Alone.{came}
+use Rattle.mq_core.specs.KindTable.{behaviour_of}
+use Rattle.mq_core.specs.Local.{Local, empty}
+use Rattle.mq_core.specs.Machine.{Emission, State, Visit, after}
 use Rattle.mq_core.specs.Standard.{standard_jobs}
 use Rattle.mq_core.specs.StandardTable.{run_of}
-use Rattle.mq_core.specs.Tallies.{greatest_below, sum_below, sojourns, found_or, still_there, arrival_or}
+use Rattle.mq_core.specs.Tallies.{arrival_or, found_or, greatest_below, sojourns, still_there, sum_below}
 use Rattle.mq_core.specs.Theorems.{IsReadFor}
 use Rattle.mq_core.specs.declared.model.Fate.{Fate}
 use Rattle.mq_core.specs.declared.model.Fate.TheVariants.{Departs, Lost}
 use Rattle.mq_core.specs.declared.model.Kind.{Kind}
-use Rattle.mq_core.specs.declared.model.Kind.TheVariants.{Source, Server, Delay, Loss, Tandem, ForkJoin, Split}
 use Rattle.mq_core.specs.declared.model.Node.{Node}
 use Rattle.mq_core.specs.declared.model.Plan.{Plan}
 use Rattle.mq_core.specs.declared.model.Rows.{Rows}
 
 -- what an emission says of a visit: it departs then, or is lost where a loss station lets it out by output 1
 abbrev pub fate_by : Kind → Emission → Fate
-fate_by (Loss places demand) m = if m.out == 1 then Lost else Departs m.time
-fate_by _ m = Departs m.time
+fate_by kind m = (behaviour_of kind).fate m
 
 -- the fate of a position, once it was let out
 abbrev pub fate_of : Kind → List Emission → ℕ → Option Fate
@@ -53,13 +52,7 @@ FoundsAreCounts =
 -- the service that a job asks for: at a tandem the demands of all stages, at a fork-join those of all servers, and none at a
 -- source or a split
 abbrev pub service_time : Rows → Kind → ℕ → ℕ
-service_time rows Source job = 0
-service_time rows (Server demand) job = demand_of_job rows demand job
-service_time rows (Delay demand) job = demand_of_job rows demand job
-service_time rows (Loss places demand) job = demand_of_job rows demand job
-service_time rows (Tandem stages) job = demand_of_stages rows stages job
-service_time rows (ForkJoin branches) job = sum_by (λ demand. demand_of_job rows demand job) (flat_map (λ demands. demands) branches)
-service_time rows (Split route) job = 0
+service_time rows kind job = (behaviour_of kind).service rows job
 
 -- the service of a visit, where there is one
 abbrev pub service_of : Rows → Kind → Option Visit → ℕ
@@ -81,9 +74,7 @@ BusyIsServices =
 
 -- whether jobs stay in a node of this kind; at a source or a split each goes on when it comes
 abbrev pub holds_jobs : Kind → Bool
-holds_jobs Source = false
-holds_jobs (Split route) = false
-holds_jobs _ = true
+holds_jobs kind = (behaviour_of kind).holds
 
 -- the peak of a node that holds jobs is the greatest found of its visits that aren't lost, plus 1
 abbrev pub PeakIsGreatest : Type 0

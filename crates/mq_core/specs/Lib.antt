@@ -8,6 +8,12 @@ pub mod Run
 pub mod Theorems
 pub mod Local
 pub mod Handling
+pub mod Ranges
+pub mod Told
+pub mod Emitting
+pub mod Behaviour
+pub mod Kinds
+pub mod KindTable
 pub mod DelayHandler
 pub mod LossHandler
 pub mod TandemHandler

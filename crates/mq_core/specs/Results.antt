@@ -1,39 +1,29 @@
-use Rattle.std.specs.Prelude.{ℕ, suc, ◌-◌, nat_lt, max, Bool, true, false, if◌then◌else◌, List, [], ◌∷◌, ◌++◌, length, map, sum, sum_by, count_by, fold, position, Option, Some, None, slice_get, slice_index}
-use Rattle.std.specs.Option.{option_to_list}
 use Rattle.std.specs.List.{flat_map}
-use Rattle.mq_core.specs.Machine.{Visit, Emission, Station}
+use Rattle.std.specs.Option.{option_to_list}
+use Rattle.std.specs.Prelude.{Bool, List, None, Option, Some, [], count_by, false, fold, if◌then◌else◌, length, map, max, nat_lt, slice_get, slice_index, suc, sum, sum_by, true, ℕ, ◌++◌, ◌-◌, ◌∷◌}
+use Rattle.mq_core.specs.Alone.{came}
+use Rattle.mq_core.specs.Fates.{fate_of}
+use Rattle.mq_core.specs.KindTable.{behaviour_of}
 use Rattle.mq_core.specs.Laws.{stream_of}
 use Rattle.mq_core.specs.Local.{Local}
-use Rattle.mq_core.specs.Handling.{demand_of_job, demand_of_stages}
+use Rattle.mq_core.specs.Machine.{Emission, Station, Visit}
 use Rattle.mq_core.specs.StandardTable.{run_of}
-use Rattle.mq_core.specs.Fates.{fate_of}
 use Rattle.mq_core.specs.declared.model.Fate.{Fate}
 use Rattle.mq_core.specs.declared.model.Fate.TheVariants.{Departs, Lost}
 use Rattle.mq_core.specs.declared.model.Kind.{Kind}
-use Rattle.mq_core.specs.declared.model.Kind.TheVariants.{Source, Server, Delay, Loss, Tandem, ForkJoin, Split}
 use Rattle.mq_core.specs.declared.model.Node.{Node}
-use Rattle.mq_core.specs.declared.model.Visits.{Visits}
-use Rattle.mq_core.specs.declared.model.Stream.{Stream}
 use Rattle.mq_core.specs.declared.model.Plan.{Plan}
 use Rattle.mq_core.specs.declared.model.Rows.{Rows}
+use Rattle.mq_core.specs.declared.model.Stream.{Stream}
+use Rattle.mq_core.specs.declared.model.Visits.{Visits}
 
 -- how long a job stays that never waits
 abbrev pub bare_time : Rows → Kind → ℕ → ℕ
-bare_time rows Source job = 0
-bare_time rows (Split route) job = 0
-bare_time rows (Server demand) job = demand_of_job rows demand job
-bare_time rows (Delay demand) job = demand_of_job rows demand job
-bare_time rows (Loss places demand) job = demand_of_job rows demand job
-bare_time rows (Tandem stages) job = demand_of_stages rows stages job
-bare_time rows (ForkJoin branches) job = fold max 0 (map (λ demands. sum_by (λ demand. demand_of_job rows demand job) demands) branches)
+bare_time rows kind job = (behaviour_of kind).bare rows job
 
 -- the servers of a node, by which its utilisation is reckoned; none at a source, a delay or a split
 abbrev pub servers_in : Kind → ℕ
-servers_in (Server demand) = 1
-servers_in (Loss places demand) = 1
-servers_in (Tandem stages) = length stages
-servers_in (ForkJoin branches) = length (flat_map (λ demands. demands) branches)
-servers_in _ = 0
+servers_in kind = (behaviour_of kind).servers
 
 -- the fates of the positions from this one on, one for each visit that has its fate
 abbrev pub fates_from : Kind → List Emission → ℕ → List Visit → List Fate
@@ -88,9 +78,7 @@ pub record Totals : Type 0 where
 
 -- the peak that is told of a node: 0 at a source or a split, else the tally
 abbrev pub peak_of : Kind → ℕ → ℕ
-peak_of Source peak = 0
-peak_of (Split route) peak = 0
-peak_of _ peak = peak
+peak_of kind peak = if (behaviour_of kind).holds then peak else 0
 
 -- the totals of a node, from its visits, its fates and its tallies
 abbrev pub totals_of : Rows → Kind → Station Local → Totals

@@ -1,0 +1,50 @@
+-- What a kind of node is: all that the other definitions ask of a kind.
+use Rattle.std.specs.Prelude.{Bool, List, ℕ}
+use Rattle.mq_core.specs.Event.{Event}
+use Rattle.mq_core.specs.Local.{Local}
+use Rattle.mq_core.specs.Machine.{Emission, Reaction, Visit}
+use Rattle.mq_core.specs.declared.model.Fate.{Fate}
+use Rattle.mq_core.specs.declared.model.Rows.{Rows}
+
+-- one value a kind: each word that goes by kind is one of its fields
+pub record Behaviour : Type 1 where
+  -- jobs start here: rows name the node, and it reads nothing
+  pub starts : Bool
+  -- what a node keeps at the start
+  pub opening : Local
+  -- what it keeps after an event, lets out and schedules
+  pub on : Rows → List Visit → Local → ℕ → Event → Reaction Local
+  -- the number of jobs in it
+  pub jobs : List Visit → Local → ℕ
+  -- the number of its working servers
+  pub working : Local → ℕ
+  -- jobs stay in it: else each goes on when it comes
+  pub holds : Bool
+  -- its servers, by which its utilisation is reckoned
+  pub servers : ℕ
+  -- its outputs
+  pub outputs : ℕ
+  -- it may have this many ports
+  pub ports : ℕ → Bool
+  -- its numbers are in their ranges, in a model of so many columns
+  pub sound : ℕ → Bool
+  -- the columns that it mentions, in order
+  pub mentioned : List ℕ
+  -- the rows tell what a job asks for
+  pub asked : Rows → ℕ → Type 0
+  -- how long a job stays that never waits
+  pub bare : Rows → ℕ → ℕ
+  -- the service that a job asks for
+  pub service : Rows → ℕ → ℕ
+  -- what an emission says of its visit
+  pub fate : Emission → Fate
+  -- the fates of jobs that come at these times
+  pub fates : Rows → List ℕ → List ℕ → List Fate
+  -- the outputs by which they leave
+  pub outs : Rows → List ℕ → List ℕ → List ℕ
+  -- what these visits let out, by position
+  pub flow : Rows → List Visit → List Emission
+  -- what it lets out stands by time, else by position
+  pub mixes : Bool
+  -- on an output too a later visit may leave earlier
+  pub overtakes : Bool

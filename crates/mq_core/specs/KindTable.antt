@@ -1,0 +1,20 @@
+use Rattle.mq_core.specs.Behaviour.{Behaviour}
+use Rattle.mq_core.specs.Kinds.Delay.{delay}
+use Rattle.mq_core.specs.Kinds.ForkJoin.{fork_join}
+use Rattle.mq_core.specs.Kinds.Loss.{loss}
+use Rattle.mq_core.specs.Kinds.Server.{server}
+use Rattle.mq_core.specs.Kinds.Source.{source}
+use Rattle.mq_core.specs.Kinds.Split.{split}
+use Rattle.mq_core.specs.Kinds.Tandem.{tandem}
+use Rattle.mq_core.specs.declared.model.Kind.{Kind}
+use Rattle.mq_core.specs.declared.model.Kind.TheVariants.{Delay, ForkJoin, Loss, Server, Source, Split, Tandem}
+
+-- the behaviours, one row a kind
+abbrev pub behaviour_of : Kind → Behaviour
+behaviour_of Source = source
+behaviour_of (Server demand) = server demand
+behaviour_of (Delay demand) = delay demand
+behaviour_of (Loss places demand) = loss places demand
+behaviour_of (Tandem stages) = tandem stages
+behaviour_of (ForkJoin branches) = fork_join branches
+behaviour_of (Split route) = split route

@@ -1,0 +1,45 @@
+use Rattle.std.specs.Prelude.{List, [], false, length, map, suc, true, ℕ, ◌+◌, ◌∷◌}
+use Rattle.mq_core.specs.Behaviour.{Behaviour}
+use Rattle.mq_core.specs.DelayHandler.{delay_on}
+use Rattle.mq_core.specs.Handling.{demand_of_job}
+use Rattle.mq_core.specs.Local.{empty}
+use Rattle.mq_core.specs.Machine.{Emission, Visit}
+use Rattle.mq_core.specs.Ranges.{columns_of_demand, is_sound_demand, is_within}
+use Rattle.mq_core.specs.Recurrences.{delayed}
+use Rattle.mq_core.specs.Told.{HasDemand}
+use Rattle.mq_core.specs.declared.model.Demand.{Demand}
+use Rattle.mq_core.specs.declared.model.Fate.TheVariants.{Departs}
+use Rattle.mq_core.specs.declared.model.Rows.{Rows}
+
+-- what these visits let out at a delay, the first at this position: each leaves its demand after it came
+abbrev pub delayed_from : Rows → Demand → ℕ → List Visit → List Emission
+delayed_from rows demand position [] = []
+delayed_from rows demand position (visit ∷ visits) =
+    record { out = 0; position = position; job = visit.job; time = visit.arrive + demand_of_job rows demand visit.job }
+    ∷ delayed_from rows demand (suc position) visits
+
+-- serves each job at once, for as long as it asks
+abbrev pub delay : Demand → Behaviour
+delay demand =
+    record {
+      starts = false;
+      opening = empty;
+      on = λ rows visits local now event. delay_on rows demand visits local now event;
+      jobs = λ visits local. length local.scheduled;
+      working = λ local. length local.scheduled;
+      holds = true;
+      servers = 0;
+      outputs = 1;
+      ports = λ inputs. is_within 1 8 inputs;
+      sound = λ columns. is_sound_demand columns demand;
+      mentioned = columns_of_demand demand;
+      asked = λ rows job. HasDemand rows demand job;
+      bare = λ rows job. demand_of_job rows demand job;
+      service = λ rows job. demand_of_job rows demand job;
+      fate = λ m. Departs m.time;
+      fates = λ rows job arrive. map (λ time. Departs time) (delayed arrive (map (demand_of_job rows demand) job));
+      outs = λ rows job arrive. map (λ _. 0) job;
+      flow = λ rows visits. delayed_from rows demand 0 visits;
+      mixes = true;
+      overtakes = true;
+    }

@@ -1,0 +1,54 @@
+use Rattle.std.specs.Prelude.{List, [], false, if◌then◌else◌, length, map, suc, true, ℕ, ◌&&◌, ◌==◌, ◌∷◌}
+use Rattle.mq_core.specs.Behaviour.{Behaviour}
+use Rattle.mq_core.specs.Handling.{demand_of_job, one_if_some}
+use Rattle.mq_core.specs.Local.{empty}
+use Rattle.mq_core.specs.LossHandler.{loss_on}
+use Rattle.mq_core.specs.Machine.{Emission, Visit}
+use Rattle.mq_core.specs.Ranges.{columns_of_demand, is_sound_demand, is_within}
+use Rattle.mq_core.specs.Recurrences.{loss_fates}
+use Rattle.mq_core.specs.Told.{HasDemand}
+use Rattle.mq_core.specs.declared.model.Demand.{Demand}
+use Rattle.mq_core.specs.declared.model.Fate.{Fate}
+use Rattle.mq_core.specs.declared.model.Fate.TheVariants.{Departs, Lost}
+
+-- the output by which a visit leaves a loss station
+abbrev pub out_of_fate : Fate → ℕ
+out_of_fate (Departs time) = 0
+out_of_fate Lost = 1
+
+-- what a visit lets out that fares so: by output 0 as it departs, or by output 1 at once where it is lost
+abbrev pub faring_by : ℕ → Fate → Visit → Emission
+faring_by position (Departs time) visit = record { out = 0; position = position; job = visit.job; time = time }
+faring_by position Lost visit = record { out = 1; position = position; job = visit.job; time = visit.arrive }
+
+-- what these visits let out that fare so, the first at this position
+abbrev pub faring_from : ℕ → List Fate → List Visit → List Emission
+faring_from position [] visits = []
+faring_from position (fate ∷ fates) [] = []
+faring_from position (fate ∷ fates) (visit ∷ visits) = faring_by position fate visit ∷ faring_from (suc position) fates visits
+
+-- one server and so many places; who finds none is lost, and goes out by output 1
+abbrev pub loss : ℕ → Demand → Behaviour
+loss places demand =
+    record {
+      starts = false;
+      opening = empty;
+      on = λ rows visits local now event. loss_on rows places demand visits local now event;
+      jobs = λ visits local. length local.queue;
+      working = λ local. one_if_some local.queue;
+      holds = true;
+      servers = 1;
+      outputs = 2;
+      ports = λ inputs. is_within 1 8 inputs;
+      sound = λ columns. is_within 1 1048576 places && is_sound_demand columns demand;
+      mentioned = columns_of_demand demand;
+      asked = λ rows job. HasDemand rows demand job;
+      bare = λ rows job. demand_of_job rows demand job;
+      service = λ rows job. demand_of_job rows demand job;
+      fate = λ m. if m.out == 1 then Lost else Departs m.time;
+      fates = λ rows job arrive. loss_fates places [] arrive (map (demand_of_job rows demand) job);
+      outs = λ rows job arrive. map out_of_fate (loss_fates places [] arrive (map (demand_of_job rows demand) job));
+      flow = λ rows visits. faring_from 0 (loss_fates places [] (map (λ (x : Visit). x.arrive) visits) (map (λ (x : Visit). demand_of_job rows demand x.job) visits)) visits;
+      mixes = true;
+      overtakes = false;
+    }

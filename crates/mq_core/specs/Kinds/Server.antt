@@ -1,0 +1,55 @@
+use Rattle.std.specs.Prelude.{List, [], false, length, map, max, suc, true, ℕ, ◌+◌, ◌∷◌}
+use Rattle.mq_core.specs.Behaviour.{Behaviour}
+use Rattle.mq_core.specs.Event.{Event}
+use Rattle.mq_core.specs.Event.Event.{Arrive, Finish}
+use Rattle.mq_core.specs.Handling.{demand_of_job, front_leaves, joins, latest, one_if_some}
+use Rattle.mq_core.specs.Local.{Local, empty}
+use Rattle.mq_core.specs.Machine.{Emission, Reaction, Visit}
+use Rattle.mq_core.specs.Ranges.{columns_of_demand, is_sound_demand, is_within}
+use Rattle.mq_core.specs.Recurrences.{lindley}
+use Rattle.mq_core.specs.Told.{HasDemand}
+use Rattle.mq_core.specs.declared.model.Demand.{Demand}
+use Rattle.mq_core.specs.declared.model.Fate.TheVariants.{Departs}
+use Rattle.mq_core.specs.declared.model.Rows.{Rows}
+
+-- a server: an arrival joins the queue, and at a finish the front leaves
+abbrev pub server_on : Rows → Demand → List Visit → Local → ℕ → Event → Reaction Local
+server_on rows demand visits local now (Arrive time node port job) = joins rows demand visits local now local.queue (latest visits)
+server_on rows demand visits local now (Finish time node server position) = front_leaves rows demand visits local now local.queue
+
+-- when a visit leaves a server that the visit before it left at this time
+abbrev pub served : Rows → Demand → ℕ → Visit → ℕ
+served rows demand last visit = max visit.arrive last + demand_of_job rows demand visit.job
+
+-- what these visits let out, the first at this position: each leaves when it is served
+abbrev pub served_from : Rows → Demand → ℕ → ℕ → List Visit → List Emission
+served_from rows demand position last [] = []
+served_from rows demand position last (visit ∷ visits) =
+    record { out = 0; position = position; job = visit.job; time = served rows demand last visit }
+    ∷ served_from rows demand (suc position) (served rows demand last visit) visits
+
+-- one server with an unlimited queue
+abbrev pub server : Demand → Behaviour
+server demand =
+    record {
+      starts = false;
+      opening = empty;
+      on = λ rows visits local now event. server_on rows demand visits local now event;
+      jobs = λ visits local. length local.queue;
+      working = λ local. one_if_some local.queue;
+      holds = true;
+      servers = 1;
+      outputs = 1;
+      ports = λ inputs. is_within 1 8 inputs;
+      sound = λ columns. is_sound_demand columns demand;
+      mentioned = columns_of_demand demand;
+      asked = λ rows job. HasDemand rows demand job;
+      bare = λ rows job. demand_of_job rows demand job;
+      service = λ rows job. demand_of_job rows demand job;
+      fate = λ m. Departs m.time;
+      fates = λ rows job arrive. map (λ time. Departs time) (lindley 0 arrive (map (demand_of_job rows demand) job));
+      outs = λ rows job arrive. map (λ _. 0) job;
+      flow = λ rows visits. served_from rows demand 0 0 visits;
+      mixes = false;
+      overtakes = false;
+    }

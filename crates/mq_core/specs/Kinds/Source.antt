@@ -1,0 +1,40 @@
+use Rattle.std.specs.Prelude.{List, [], false, map, true, ◌==◌}
+use Rattle.mq_core.specs.Behaviour.{Behaviour}
+use Rattle.mq_core.specs.Emitting.{passed_from}
+use Rattle.mq_core.specs.Event.{Event}
+use Rattle.mq_core.specs.Event.Event.{Arrive, Finish}
+use Rattle.mq_core.specs.Handling.{latest, passes_on, quiet}
+use Rattle.mq_core.specs.Local.{Local, empty}
+use Rattle.mq_core.specs.Machine.{Reaction, Visit}
+use Rattle.mq_core.specs.declared.model.Fate.TheVariants.{Departs}
+
+-- a source lets each job out as it comes
+abbrev pub source_on : List Visit → Local → Event → Reaction Local
+source_on visits local (Arrive time node port job) = passes_on local 0 (latest visits)
+source_on visits local (Finish time node server position) = quiet local
+
+-- where jobs come from: each goes on as it comes
+abbrev pub source : Behaviour
+source =
+    record {
+      starts = true;
+      opening = empty;
+      on = λ rows visits local now event. source_on visits local event;
+      jobs = λ visits local. 0;
+      working = λ local. 0;
+      holds = false;
+      servers = 0;
+      outputs = 1;
+      ports = λ inputs. inputs == 0;
+      sound = λ columns. true;
+      mentioned = [];
+      asked = λ rows job. Unit {0};
+      bare = λ rows job. 0;
+      service = λ rows job. 0;
+      fate = λ m. Departs m.time;
+      fates = λ rows job arrive. map (λ time. Departs time) arrive;
+      outs = λ rows job arrive. map (λ _. 0) job;
+      flow = λ rows visits. passed_from (λ _ _. 0) 0 visits;
+      mixes = false;
+      overtakes = false;
+    }

@@ -1,0 +1,85 @@
+use Rattle.std.specs.List.{list_all}
+use Rattle.std.specs.Prelude.{Bool, List, [], count_by, false, length, map, nat_le, nat_lt, suc, ℕ, ◌%◌, ◌&&◌, ◌+◌, ◌^◌, ◌∷◌}
+use Rattle.mq_core.specs.Behaviour.{Behaviour}
+use Rattle.mq_core.specs.Emitting.{passed_from}
+use Rattle.mq_core.specs.Event.{Event}
+use Rattle.mq_core.specs.Event.Event.{Arrive, Finish}
+use Rattle.mq_core.specs.Handling.{latest, passes_on, quiet, value_of}
+use Rattle.mq_core.specs.Local.{Local, empty}
+use Rattle.mq_core.specs.Machine.{Reaction, Visit}
+use Rattle.mq_core.specs.Ranges.{is_within, rises}
+use Rattle.mq_core.specs.declared.model.Fate.TheVariants.{Departs}
+use Rattle.mq_core.specs.declared.model.Route.{Route}
+use Rattle.mq_core.specs.declared.model.Route.TheVariants.{Cut, Modulo, Turn}
+use Rattle.mq_core.specs.declared.model.Rows.{Rows}
+
+-- the output that a route gives to a value at a position
+abbrev pub output_at : Route → ℕ → ℕ → ℕ
+output_at (Modulo outputs column) value position = value % outputs
+output_at (Turn outputs) value position = position % outputs
+output_at (Cut column thresholds) value position = count_by (λ threshold. nat_le threshold value) thresholds
+
+-- the value that a route looks at; by turns it looks at none
+abbrev pub route_value : Rows → Route → ℕ → ℕ
+route_value rows (Modulo outputs column) job = value_of rows column job
+route_value rows (Turn outputs) job = 0
+route_value rows (Cut column thresholds) job = value_of rows column job
+
+-- the output that a route gives to a job at a position
+abbrev pub output_by : Rows → Route → ℕ → ℕ → ℕ
+output_by rows route job position = output_at route (route_value rows route job) position
+
+-- a split lets each job out as it comes, by the output of its route
+abbrev pub split_on : Rows → Route → List Visit → Local → Event → Reaction Local
+split_on rows route visits local (Arrive time node port job) = passes_on local (output_by rows route job (latest visits)) (latest visits)
+split_on rows route visits local (Finish time node server position) = quiet local
+
+-- 2 to 8 outputs, a column that there is, and thresholds that rise and are in their limit
+abbrev pub is_sound_route : ℕ → Route → Bool
+is_sound_route columns (Modulo outputs column) = is_within 2 8 outputs && nat_lt column columns
+is_sound_route columns (Turn outputs) = is_within 2 8 outputs
+is_sound_route columns (Cut column thresholds) =
+    nat_lt column columns && is_within 1 7 (length thresholds) && rises thresholds && list_all (λ threshold. nat_le threshold (2 ^ 36)) thresholds
+
+-- how many outputs a route chooses from
+abbrev pub outputs_by : Route → ℕ
+outputs_by (Modulo outputs column) = outputs
+outputs_by (Turn outputs) = outputs
+outputs_by (Cut column thresholds) = length thresholds + 1
+
+-- the columns that a route mentions
+abbrev pub columns_of_route : Route → List ℕ
+columns_of_route (Modulo outputs column) = column ∷ []
+columns_of_route (Turn outputs) = []
+columns_of_route (Cut column thresholds) = column ∷ []
+
+-- Outputs. The output by which each job leaves, the first at this position.
+abbrev pub routes_from : Rows → Route → ℕ → List ℕ → List ℕ
+routes_from rows route position [] = []
+routes_from rows route position (job ∷ jobs) = output_by rows route job position ∷ routes_from rows route (suc position) jobs
+
+-- sends each job on at once, by one of its outputs
+abbrev pub split : Route → Behaviour
+split route =
+    record {
+      starts = false;
+      opening = empty;
+      on = λ rows visits local now event. split_on rows route visits local event;
+      jobs = λ visits local. 0;
+      working = λ local. 0;
+      holds = false;
+      servers = 0;
+      outputs = outputs_by route;
+      ports = λ inputs. is_within 1 8 inputs;
+      sound = λ columns. is_sound_route columns route;
+      mentioned = columns_of_route route;
+      asked = λ rows job. Unit {0};
+      bare = λ rows job. 0;
+      service = λ rows job. 0;
+      fate = λ m. Departs m.time;
+      fates = λ rows job arrive. map (λ time. Departs time) arrive;
+      outs = λ rows job arrive. routes_from rows route 0 job;
+      flow = λ rows visits. passed_from (λ visit position. output_by rows route visit.job position) 0 visits;
+      mixes = false;
+      overtakes = false;
+    }
