@@ -1,3 +1,5 @@
+pub mod KindLaws
+pub mod LawTable
 pub mod Shapes
 pub mod Facts
 pub mod Flows

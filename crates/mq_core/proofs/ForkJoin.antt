@@ -9,3 +9,4 @@ pub mod ForkTimes
 pub mod ForkSums
 pub mod JoinEnds
 pub mod JoinServices
+pub mod ForkJoinLaws

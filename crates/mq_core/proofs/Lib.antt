@@ -11,3 +11,4 @@ pub mod Columns
 pub mod Counting
 pub mod Loss
 pub mod Bounded
+pub mod Passing

@@ -4,3 +4,4 @@ pub mod LossTallies
 pub mod LossBusy
 pub mod LossPeak
 pub mod LossColumns
+pub mod LossLaws

@@ -1,1 +1,6 @@
 pub mod Serves
+pub mod ServerTallies
+pub mod ServerShows
+pub mod ServerBusy
+pub mod ServerLoads
+pub mod ServerLaws

@@ -8,3 +8,4 @@ pub mod TandemColumns
 pub mod TandemNumbers
 pub mod TandemLoad
 pub mod TandemBusy
+pub mod TandemLaws

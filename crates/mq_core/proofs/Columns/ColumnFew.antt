@@ -1,35 +1,28 @@
-use Rattle.std.proofs.Common.{◌≡◌, ℕ, zero, suc, ◌+◌, ◌*◌, ◌<◌, ◌≤◌, Bool, true, false, cond, eqb, ltb, List, [], ◌∷◌, ◌++◌, length, Option, Some, None, refl, ap, arith, eq-eqb, eqb-true, length-append, ltb-true}
+use Rattle.std.proofs.Common.{Bool, List, None, Option, Some, [], ap, arith, cond, eq-eqb, eqb, eqb-true, false, length, length-append, ltb, ltb-true, refl, suc, true, zero, ℕ, ◌*◌, ◌++◌, ◌+◌, ◌<◌, ◌∷◌, ◌≡◌, ◌≤◌}
 use Rattle.std.proofs.lemmas.Bool.Decides.{nat_tests}
-use Rattle.std.specs.Prelude.{slice_get, IfSome}
+use Rattle.std.specs.Prelude.{IfSome, slice_get}
 use Rattle.mq_core.specs.ColumnLaws.{VisitsAreFew}
 use Rattle.mq_core.specs.Event.{Event, earliest}
 use Rattle.mq_core.specs.Event.Event.{Arrive, Finish}
 use Rattle.mq_core.specs.Local.{Local}
-use Rattle.mq_core.specs.Machine.{Visit, Station, emissions_of}
+use Rattle.mq_core.specs.Machine.{Station, Visit, emissions_of}
 use Rattle.mq_core.specs.OnTime.{standard-on_time}
 use Rattle.mq_core.specs.Run.{starts}
-use Rattle.mq_core.specs.Handling.{front_leaves, latest}
-use Rattle.mq_core.specs.Standard.{kind_on, node_on, output_by, kind_opening, node_opening, node_jobs, jobs_in, standard_opening, standard_handle, standard_jobs}
-use Rattle.mq_core.specs.StandardTable.{standard, run_of}
+use Rattle.mq_core.specs.Standard.{node_jobs, node_on, node_opening, standard_handle, standard_jobs, standard_opening}
+use Rattle.mq_core.specs.StandardTable.{run_of, standard}
 use Rattle.mq_core.specs.Tallies.{sum_below}
 use Rattle.mq_core.specs.Theorems.{IsReadFor}
 use Rattle.mq_core.specs.Wiring.{rank_in, reader_from}
-use Rattle.mq_core.specs.declared.model.Kind.{Kind}
-use Rattle.mq_core.specs.declared.model.Kind.TheVariants.{Source, Server, Delay, Loss, Tandem, ForkJoin, Split}
 use Rattle.mq_core.specs.declared.model.Node.{Node}
 use Rattle.mq_core.specs.declared.model.Plan.{Plan}
 use Rattle.mq_core.specs.declared.model.Rows.{Rows}
 use Rattle.mq_core.proofs.Columns.ColumnMerges.{visits-nowhere}
 use Rattle.mq_core.proofs.Columns.ColumnsEqual.{some-inside}
-use Rattle.mq_core.proofs.EachKind.Ends.{emission-one, joins-length, joins-emits, starts-weight, starts-inside, source-inside, sum_below-zero}
-use Rattle.mq_core.proofs.Delay.DelayNumbers.{delaying-fewer}
-use Rattle.mq_core.proofs.Tandem.TandemLoad.{held-empty, tandem_arrives-few, tandeming-fewer}
-use Rattle.mq_core.proofs.EachKind.Facts.{kind_fact, node_fact, standard-keeps}
-use Rattle.mq_core.proofs.ForkJoin.JoinLoads.{joining-ends-few}
-use Rattle.mq_core.proofs.ForkJoin.JoinTallies.{joining-more}
+use Rattle.mq_core.proofs.EachKind.Ends.{source-inside, starts-inside, starts-weight, sum_below-zero}
+use Rattle.mq_core.proofs.EachKind.Facts.{node_fact, standard-keeps}
+use Rattle.mq_core.proofs.EachKind.LawTable.{laws_of}
 use Rattle.mq_core.proofs.Events.Falls.{Falls, never-grows-from_start}
 use Rattle.mq_core.proofs.Events.Kept.{Fact}
-use Rattle.mq_core.proofs.Loss.LossTallies.{losing-arrives-few, losing-ends-few}
 use Rattle.mq_core.proofs.Networks.Whole.{starts-arrive}
 use Rattle.mq_core.proofs.Networks.Wired.{feeds_forward, has_inputs, reads-from}
 
@@ -37,47 +30,13 @@ use Rattle.mq_core.proofs.Networks.Wired.{feeds_forward, has_inputs, reads-from}
 node-arrives-few : (rows : Rows) (o : Option Node) (s : Station Local) (fs : List Event) (x : Visit) (now port v : ℕ) → x.arrive ≡ now → node_fact rows o v s fs now →
     node_jobs o (s.visits ++ x ∷ []) (node_on rows o (s.visits ++ x ∷ []) s.local now (Arrive now v port x.job)).local + length (emissions_of now (s.visits ++ x ∷ []) (node_on rows o (s.visits ++ x ∷ []) s.local now (Arrive now v port x.job)).releases) ≤ node_jobs o s.visits s.local + 1
 node-arrives-few rows None s fs x now port v at fact = omega arith
-node-arrives-few rows (Some node) s fs x now port v at fact = go node.kind fact
-  where
-    local : Local
-    local = s.local
-
-    visits : List Visit
-    visits = s.visits ++ x ∷ []
-
-    go : (kind : Kind) → kind_fact rows kind v s fs now → jobs_in kind visits (kind_on rows kind visits local now (Arrive now v port x.job)).local + length (emissions_of now visits (kind_on rows kind visits local now (Arrive now v port x.job)).releases) ≤ jobs_in kind s.visits local + 1
-    go Source f = let l = emission-one now 0 (latest visits) (slice_get visits (latest visits)) in omega arith
-    go (Server demand) f =
-        let a = joins-length rows demand visits local now local.queue (latest visits) in
-        let b = ap length (joins-emits rows demand visits local now local.queue (latest visits)) in
-        omega arith
-    go (Loss places demand) f = losing-arrives-few rows places demand local visits now port x.job v
-    go (Tandem stages) f = tandem_arrives-few rows visits local now stages local.lines refl
-    go (ForkJoin branches) f = let more = joining-more rows branches v port s.local s.visits s.emitted fs now x at f in omega arith
-    go (Delay demand) f = let a = length-append local.scheduled (latest visits ∷ []) in omega arith
-    go (Split route) f = let l = emission-one now (output_by rows route x.job (latest visits)) (latest visits) (slice_get visits (latest visits)) in omega arith
+node-arrives-few rows (Some node) s fs x now port v at fact = (laws_of rows node.kind).enters v port s fs now x at fact
 
 -- a finish lets out no more jobs than it takes from those inside
 node-ends-few : (rows : Rows) (o : Option Node) (rank : ℕ → ℕ) (v server position : ℕ) (s : Station Local) (fs rest : List Event) (now : ℕ) → node_fact rows o v s fs now → earliest rank fs ≡ Some (Finish now v server position, rest) →
     node_jobs o s.visits (node_on rows o s.visits s.local now (Finish now v server position)).local + length (emissions_of now s.visits (node_on rows o s.visits s.local now (Finish now v server position)).releases) ≤ node_jobs o s.visits s.local
 node-ends-few rows None rank v server position s fs rest now h first = omega arith
-node-ends-few rows (Some node) rank v server position s fs rest now h first = go node.kind h
-  where
-    go : (kind : Kind) → kind_fact rows kind v s fs now → jobs_in kind s.visits (kind_on rows kind s.visits s.local now (Finish now v server position)).local + length (emissions_of now s.visits (kind_on rows kind s.visits s.local now (Finish now v server position)).releases) ≤ jobs_in kind s.visits s.local
-    go Source h = omega arith
-    go (Split route) h = omega arith
-    go (ForkJoin branches) h = joining-ends-few rows branches rank v server position s.local s.visits s.emitted fs rest now first h
-    go (Server demand) h = serve s.local.queue refl
-      where
-        serve : (queue : List ℕ) → s.local.queue ≡ queue → length (front_leaves rows demand s.visits s.local now queue).local.queue + length (emissions_of now s.visits (front_leaves rows demand s.visits s.local now queue).releases) ≤ length queue
-        serve [] e = let l = ap length e in omega arith
-        serve (front ∷ queue) e = let l = emission-one now 0 front (slice_get s.visits front) in omega arith
-    go (Loss places demand) h = losing-ends-few rows demand s.visits s.local now
-    go (Tandem stages) h = let all = tandeming-fewer rows v s.visits s.emitted rank fs rest now server position first stages s.local.lines h in omega arith
-    go (Delay demand) h =
-        let less = delaying-fewer rows demand v rank server position s.visits s.local.scheduled s.emitted fs rest now first h in
-        let out = emission-one now 0 position (slice_get s.visits position) in
-        omega arith
+node-ends-few rows (Some node) rank v server position s fs rest now h first = (laws_of rows node.kind).leaves rank v server position s fs rest now first h
 
 -- one where a test passes
 abbrev one_if : Bool → ℕ
@@ -189,16 +148,7 @@ module _ (plan : Plan) (rows : Rows) (read : IsReadFor plan.net rows) (v : ℕ) 
       opening false true o = omega arith
       opening false false o = refl
       opening true c None = refl
-      opening true c (Some node) = kind node.kind
-        where
-          kind : (k : Kind) → jobs_in k [] (kind_opening k) ≡ 0
-          kind Source = refl
-          kind (Server demand) = omega arith
-          kind (Delay demand) = omega arith
-          kind (Loss places demand) = omega arith
-          kind (Tandem stages) = held-empty stages
-          kind (ForkJoin branches) = omega arith
-          kind (Split route) = refl
+      opening true c (Some node) = (laws_of rows node.kind).vacant
 
       own : (r u jobs number : ℕ) → cond (ltb r r) jobs (cond (eqb u u) number 0) ≡ number
       own r u jobs number = rw (eq-eqb u u refl, not-below r) refl

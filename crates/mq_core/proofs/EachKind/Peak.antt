@@ -19,7 +19,6 @@ use Rattle.mq_core.specs.declared.model.Node.{Node}
 use Rattle.mq_core.specs.declared.model.Plan.{Plan}
 use Rattle.mq_core.specs.declared.model.Rows.{Rows}
 use Rattle.mq_core.proofs.Events.Areas.{get-front, get-last}
-use Rattle.mq_core.proofs.EachKind.Ends.{joins-length}
 use Rattle.mq_core.proofs.EachKind.Facts.{kind_fact, node_fact, standard-keeps}
 use Rattle.mq_core.proofs.ForkJoin.JoinTallies.{joining-more}
 use Rattle.mq_core.proofs.Events.Kept.{Fact, Keeps, kept}
@@ -28,6 +27,7 @@ use Rattle.mq_core.proofs.Tandem.TandemLoad.{tandeming-arrives_more}
 use Rattle.mq_core.proofs.Counting.Unlost.{loses, departing, departing-whole, lost-out}
 use Rattle.mq_core.proofs.Networks.Wired.{feeds_forward}
 use Rattle.mq_core.proofs.Networks.Whole.{starts-arrive}
+use Rattle.mq_core.proofs.Counting.Released.{joins-length}
 
 -- the peak so far is the greatest found so far, plus 1
 abbrev pub Peaks : {L : Type 0} → Station L → Type 0

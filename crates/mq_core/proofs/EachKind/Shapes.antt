@@ -1,27 +1,17 @@
--- What the places and the lists of a plan's nodes must be, so that the facts of their kinds hold from the start.
-use Rattle.std.proofs.Common.{◌≡◌, ℕ, ◌<◌, ◌≤◌, true, List, [], ◌∷◌, length, Option, Some, None, refl, arith, length-append}
+use Rattle.std.proofs.Common.{List, None, Option, Some, [], arith, length, length-append, refl, true, ℕ, ◌<◌, ◌∷◌, ◌≡◌, ◌≤◌}
 use Rattle.std.proofs.lemmas.Bool.{and_parts}
 use Rattle.std.proofs.lemmas.Bool.Decides.{nat_tests}
-use Rattle.std.specs.Prelude.{◌&&◌, nat_le, slice_get, IfSome}
 use Rattle.std.specs.List.{AllByRecursion as Each, flat_map, list_all}
+use Rattle.std.specs.Prelude.{IfSome, nat_le, slice_get, ◌&&◌}
 use Rattle.mq_core.specs.Names.{is_name}
-use Rattle.mq_core.specs.Sound.{is_within, is_sound_count, is_sound_demand, is_sound_kind, is_output, are_sound_branches}
+use Rattle.mq_core.specs.Sound.{are_sound_branches, is_output, is_sound_count, is_sound_demand, is_sound_kind, is_within}
 use Rattle.mq_core.specs.declared.model.Demand.{Demand}
 use Rattle.mq_core.specs.declared.model.Input.{Input}
-use Rattle.mq_core.specs.declared.model.Kind.{Kind}
-use Rattle.mq_core.specs.declared.model.Kind.TheVariants.{Source, Server, Delay, Loss, Tandem, ForkJoin, Split}
 use Rattle.mq_core.specs.declared.model.Node.{Node}
 use Rattle.mq_core.specs.declared.model.Plan.{Plan}
 use Rattle.mq_core.proofs.ForkJoin.ForkBranches.{count_of}
 use Rattle.mq_core.proofs.ForkJoin.Joins.{IsForked}
-use Rattle.mq_core.proofs.Networks.Soundness.{AreStages, sound-node, sound-stages}
-
--- a loss station has a place, a tandem its stages, and the lists of a fork-join are as long as they must be
-abbrev pub IsShaped : Kind → Type 0
-IsShaped (Loss places demand) = 1 ≤ places
-IsShaped (Tandem stages) = AreStages stages
-IsShaped (ForkJoin branches) = IsForked branches
-IsShaped _ = Unit {0}
+use Rattle.mq_core.proofs.Networks.Soundness.{sound-node}
 
 -- all servers of the branches
 pub all-servers : (branches : List (List Demand)) → length (flat_map (λ demands. demands) branches) ≡ count_of branches
@@ -54,26 +44,14 @@ branches-shaped columns branches h =
     most : (n : ℕ) → nat_le n 8 ≡ true → n ≤ 8
     most n e = grind (arith, nat_tests)
 
-kind-shaped : (columns : ℕ) (kind : Kind) → is_sound_kind columns kind ≡ true → IsShaped kind
-kind-shaped columns Source h = tt
-kind-shaped columns (Server demand) h = tt
-kind-shaped columns (Delay demand) h = tt
-kind-shaped columns (Loss places demand) h =
-    let a = and_parts (is_within 1 1048576 places) (is_sound_demand columns demand) h in
-    let b : nat_le 1 places ≡ true = (and_parts (nat_le 1 places) (nat_le places 1048576) a.0).0 in
-    grind (arith, nat_tests)
-kind-shaped columns (Tandem stages) h = sound-stages columns stages h
-kind-shaped columns (ForkJoin branches) h = branches-shaped columns branches h
-kind-shaped columns (Split route) h = tt
-
-pub node-shaped : (plan : Plan) (v : ℕ) → IfSome (slice_get plan.net.nodes v) (λ node. IsShaped node.kind)
-node-shaped plan v = go (slice_get plan.net.nodes v) refl
+pub node-sound : (plan : Plan) (v : ℕ) → IfSome (slice_get plan.net.nodes v) (λ node. is_sound_kind (length plan.net.columns) node.kind ≡ true)
+node-sound plan v = go (slice_get plan.net.nodes v) refl
   where
-    go : (o : Option Node) → slice_get plan.net.nodes v ≡ o → IfSome o (λ node. IsShaped node.kind)
+    go : (o : Option Node) → slice_get plan.net.nodes v ≡ o → IfSome o (λ node. is_sound_kind (length plan.net.columns) node.kind ≡ true)
     go None e = tt
     go (Some node) e =
         let whole = sound-node plan.net plan.sound v node e in
         let a = and_parts _ (is_name node.name) whole in
         let b = and_parts _ (list_all (λ (i : Input). is_output (slice_get plan.net.nodes i.node) i.out) node.inputs) a.0 in
         let c = and_parts _ (is_sound_count node.kind (length node.inputs)) b.0 in
-        kind-shaped (length plan.net.columns) node.kind c.0
+        c.0

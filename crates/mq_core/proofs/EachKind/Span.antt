@@ -1,43 +1,32 @@
-use Rattle.std.proofs.Common.{◌≡◌, ◌⊎◌, inl, inr, ℕ, zero, suc, ◌*◌, ◌<◌, List, [], ◌∷◌, ◌++◌, length, Option, Some, None, sym, refl, ap, ◌∙◌, subst, arith, eq-eqb, length-append}
-use Rattle.std.specs.Prelude.{slice_get, filter}
+use Rattle.std.proofs.Common.{List, None, Option, Some, [], ap, arith, eq-eqb, inl, inr, length, length-append, refl, subst, suc, sym, zero, ℕ, ◌*◌, ◌++◌, ◌<◌, ◌∙◌, ◌∷◌, ◌≡◌, ◌⊎◌}
 use Rattle.std.specs.List.{AllByRecursion as Each}
+use Rattle.std.specs.Prelude.{filter, slice_get}
 use Rattle.mq_core.specs.Event.{Event, earliest}
 use Rattle.mq_core.specs.Event.Event.{Arrive, Finish}
-use Rattle.mq_core.specs.Machine.{Visit, Emission, Table, State, Station, after, happens, until, acted, opened, reaction, emissions_at, emissions_of, emission_of}
+use Rattle.mq_core.specs.Fates.{ComesAt, LeavesAt, SpanIsLatest}
+use Rattle.mq_core.specs.Laws.{IsFeedForward, IsPunctual, is_finish_at}
 use Rattle.mq_core.specs.Local.{Local}
-use Rattle.mq_core.specs.Handling.{front_leaves}
-use Rattle.mq_core.specs.Standard.{node_on, kind_on, node_jobs, jobs_in, standard_handle, standard_jobs}
-use Rattle.mq_core.specs.StandardTable.{standard, run_of}
+use Rattle.mq_core.specs.Machine.{Emission, State, Station, Table, acted, after, emissions_at, emissions_of, happens, opened, reaction, until}
 use Rattle.mq_core.specs.OnTime.{standard-on_time}
-use Rattle.mq_core.specs.Laws.{is_finish_at, IsPunctual, IsFeedForward}
+use Rattle.mq_core.specs.Run.{starts}
+use Rattle.mq_core.specs.Standard.{node_jobs, node_on, standard_handle, standard_jobs}
+use Rattle.mq_core.specs.StandardTable.{run_of, standard}
 use Rattle.mq_core.specs.Tallies.{arrival_or}
 use Rattle.mq_core.specs.Wiring.{reader_from}
-use Rattle.mq_core.specs.Run.{starts}
-use Rattle.mq_core.specs.Fates.{ComesAt, LeavesAt, SpanIsLatest}
-use Rattle.mq_core.specs.declared.model.Demand.{Demand}
-use Rattle.mq_core.specs.declared.model.Kind.{Kind}
-use Rattle.mq_core.specs.declared.model.Kind.TheVariants.{Source, Server, Delay, Loss, Tandem, ForkJoin, Split}
 use Rattle.mq_core.specs.declared.model.Node.{Node}
 use Rattle.mq_core.specs.declared.model.Rows.{Rows}
-use Rattle.mq_core.proofs.Events.Areas.{Areas, keeps-areas, get-last}
-use Rattle.mq_core.proofs.Delay.DelayNumbers.{delaying-emits}
-use Rattle.mq_core.proofs.Tandem.TandemLoad.{tandeming-shows}
-use Rattle.mq_core.proofs.EachKind.Facts.{kind_fact, node_fact, standard-keeps}
-use Rattle.mq_core.proofs.Events.Forward.{emissions-now}
-use Rattle.mq_core.proofs.ForkJoin.JoinLoads.{joining-shows}
-use Rattle.mq_core.proofs.Events.Kept.{Fact, Keeps, Holds, kept, holds-until, holds-happens, holds-start}
-use Rattle.mq_core.proofs.Loss.LossTallies.{losing-emits}
-use Rattle.mq_core.proofs.Events.Pending.{earliest-filter}
-use Rattle.mq_core.proofs.Server.Serves.{Serving, positions, next_finish, last_served, slice_get-middle}
-use Rattle.mq_core.proofs.Events.Steps.{after-some, after-none, after-zero, station-own}
-use Rattle.mq_core.proofs.EachKind.Tallied.{node-number}
 use Rattle.mq_core.proofs.EachKind.Ends.{inside-some, run-ended}
-use Rattle.mq_core.proofs.Networks.Wired.{feeds_forward}
+use Rattle.mq_core.proofs.EachKind.Facts.{node_fact, standard-keeps}
+use Rattle.mq_core.proofs.EachKind.KindLaws.{IsFilled}
+use Rattle.mq_core.proofs.EachKind.LawTable.{laws_of}
+use Rattle.mq_core.proofs.EachKind.Tallied.{node-number}
+use Rattle.mq_core.proofs.Events.Areas.{Areas, get-last, keeps-areas}
+use Rattle.mq_core.proofs.Events.Forward.{emissions-now}
+use Rattle.mq_core.proofs.Events.Kept.{Fact, Holds, Keeps, holds-happens, holds-start, holds-until, kept}
+use Rattle.mq_core.proofs.Events.Pending.{earliest-filter}
+use Rattle.mq_core.proofs.Events.Steps.{after-none, after-some, after-zero, station-own}
 use Rattle.mq_core.proofs.Networks.Whole.{starts-arrive}
-
--- a list with at least one item
-abbrev IsFilled : List Emission → Type 0
-IsFilled ms = (m : Emission) × (rest : List Emission) × (ms ≡ m ∷ rest)
+use Rattle.mq_core.proofs.Networks.Wired.{feeds_forward}
 
 -- some node holds a job
 abbrev IsInside : Table Local → State Local → Type 0
@@ -86,34 +75,11 @@ module _ (t : Table Local) (P : Fact Local) (keeps : Keeps t P) (emits : (v serv
       go None q ih = rw (after-none (suc n) t s q) r
       go (Some p) q ih = rw (after-some n t s p q) (ih (happens t s p) (holds-happens t P keeps on_time forward s p q h) (event-reaches s p.0 p.1 q h))
 
--- a finish at a server lets its front out
-serving-emits : (rows : Rows) (demand : Demand) (rank : ℕ → ℕ) (v server position : ℕ) (local : Local) (visits : List Visit) (queue : List ℕ) (emitted : List Emission) (fs rest : List Event) (now : ℕ) → earliest rank fs ≡ Some (Finish now v server position, rest) → Serving rows demand v visits queue emitted fs now → IsFilled (emissions_of now visits (front_leaves rows demand visits local now queue).releases)
-unfolding earliest
-serving-emits rows demand rank v server position local visits queue emitted fs rest now first h = go h.here h.parts h.waiting h.next
-  where
-    go : (here : List Visit) → visits ≡ h.gone ++ here → queue ≡ positions (length h.gone) here → fs ≡ next_finish rows demand v (length h.gone) (last_served rows demand 0 h.gone) here → IsFilled (emissions_of now visits (front_leaves rows demand visits local now queue).releases)
-    go [] a w n = absurd (let none = subst (λ l. earliest rank l ≡ Some (Finish now v server position, rest)) n first in cc)
-    go (y ∷ ys) a w n =
-        let middle : slice_get visits (length h.gone) ≡ Some y = ap (λ l. slice_get l (length h.gone)) a ∙ slice_get-middle h.gone ys y in
-        (record { out = 0; position = length h.gone; job = y.job; time = now }, [], ap (λ q. emissions_of now visits (front_leaves rows demand visits local now q).releases) w ∙ ap (λ o. emission_of now 0 (length h.gone) o ++ []) middle)
-
 node-emits : (rows : Rows) (o : Option Node) (rank : ℕ → ℕ) (v server position : ℕ) (s : Station Local) (fs rest : List Event) (now : ℕ) → node_fact rows o v s fs now → earliest rank fs ≡ Some (Finish now v server position, rest) →
     IsFilled (emissions_of now s.visits (node_on rows o s.visits s.local now (Finish now v server position)).releases) ⊎ (0 < node_jobs o s.visits (node_on rows o s.visits s.local now (Finish now v server position)).local)
 unfolding earliest
 node-emits rows None rank v server position s fs rest now h first = let c = subst (λ l. earliest rank l ≡ Some (Finish now v server position, rest)) h first in absurd cc
-node-emits rows (Some node) rank v server position s fs rest now h first = go node.kind h
-  where
-    none : (fs ≡ []) → ⊥
-    none e = let c = subst (λ l. earliest rank l ≡ Some (Finish now v server position, rest)) e first in absurd cc
-
-    go : (kind : Kind) → kind_fact rows kind v s fs now → IsFilled (emissions_of now s.visits (kind_on rows kind s.visits s.local now (Finish now v server position)).releases) ⊎ (0 < jobs_in kind s.visits (kind_on rows kind s.visits s.local now (Finish now v server position)).local)
-    go Source h = absurd (none h.none)
-    go (Server demand) h = inl (serving-emits rows demand rank v server position s.local s.visits s.local.queue s.emitted fs rest now first h)
-    go (Loss places demand) h = inl (losing-emits rows places demand rank v server position s.local s.visits s.local.queue s.emitted fs rest now first h.1)
-    go (Tandem stages) h = tandeming-shows rows v s.visits s.emitted rank fs rest now server position first stages s.local.lines h
-    go (Delay demand) h = inl (_, [], delaying-emits rows demand v rank server position s.visits s.local.scheduled s.emitted fs rest now first h)
-    go (ForkJoin branches) h = joining-shows rows branches rank v server position s.local s.visits s.emitted fs rest now first h
-    go (Split route) h = absurd (none h.none)
+node-emits rows (Some node) rank v server position s fs rest now h first = (laws_of rows node.kind).shows rank v server position s fs rest now first h
 
 pub span-is_latest : SpanIsLatest
 unfolding standard_handle standard_jobs

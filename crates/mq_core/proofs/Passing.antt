@@ -1,0 +1,4 @@
+pub mod Passes
+pub mod PassingNumbers
+pub mod SourceLaws
+pub mod SplitLaws

@@ -1,0 +1,30 @@
+-- That a node which sends each job on holds none.
+use Rattle.std.proofs.Common.{Bool, List, Some, [], ap, arith, eq-eqb, eqb, false, length, refl, suc, sym, true, zero, ℕ, ◌+◌, ◌<◌, ◌∙◌, ◌∷◌, ◌≡◌, ◌≢◌, ◌≤◌}
+use Rattle.std.specs.Prelude.{find}
+use Rattle.mq_core.specs.Event.{Event}
+use Rattle.mq_core.specs.Machine.{Emission, Visit}
+use Rattle.mq_core.specs.Served.{passed_from}
+use Rattle.mq_core.specs.Tallies.{emission_at, one_if_none, staying, sum_below}
+use Rattle.mq_core.proofs.Passing.Passes.{Passing}
+
+pub passed-found : (out : Visit → ℕ → ℕ) (k p : ℕ) (visits : List Visit) → k ≤ p → p < k + length visits → (m : Emission) × (find (λ (x : Emission). eqb x.position p) (passed_from out k visits) ≡ Some m)
+passed-found out k p [] l u = absurd (omega arith)
+passed-found out k p (x ∷ xs) l u = go (eqb k p) refl (passed-found out (suc k) p xs)
+  where
+    first : Emission
+    first = record { out = out x k; position = k; job = x.job; time = x.arrive }
+
+    go : (b : Bool) → eqb k p ≡ b → (suc k ≤ p → p < suc k + length xs → (m : Emission) × (find (λ (y : Emission). eqb y.position p) (passed_from out (suc k) xs) ≡ Some m)) → (m : Emission) × (find (λ (y : Emission). eqb y.position p) (first ∷ passed_from out (suc k) xs) ≡ Some m)
+    go true e ih = (first, rw e refl)
+    go false e ih =
+        let other : k ≢ p = λ q. let c = eq-eqb k p q in absurd cc in
+        let r = ih (omega arith) (omega arith) in
+        (r.0, rw e r.1)
+
+pub passing-number : (out : Visit → ℕ → ℕ) (visits : List Visit) (emitted : List Emission) (fs : List Event) → Passing out visits emitted fs → 0 ≡ staying visits emitted
+passing-number out visits emitted fs h =
+    sym (ap (staying visits) h.left ∙ none (length visits) (λ k l. let r = passed-found out 0 k visits (omega arith) (omega arith) in ap one_if_none r.1))
+  where
+    none : (n : ℕ) → ((j : ℕ) → j < n → one_if_none (emission_at (passed_from out 0 visits) j) ≡ 0) → sum_below n (λ p. one_if_none (emission_at (passed_from out 0 visits) p)) ≡ 0
+    none zero g = refl
+    none (suc n) g = omega (arith, g n (omega arith), none n (λ j l. g j (omega arith)))
