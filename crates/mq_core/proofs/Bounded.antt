@@ -3,3 +3,4 @@ pub mod BoundedTandem
 pub mod BoundedKinds
 pub mod BoundedArrivals
 pub mod BoundedRanks
+pub mod BoundedAsked

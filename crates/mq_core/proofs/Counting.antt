@@ -4,3 +4,6 @@ pub mod Releases
 pub mod Unlost
 pub mod Released
 pub mod Services
+pub mod FlowColumns
+pub mod Stays
+pub mod InTime

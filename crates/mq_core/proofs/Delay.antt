@@ -1,3 +1,4 @@
 pub mod Delays
 pub mod DelayNumbers
 pub mod DelayLaws
+pub mod DelayRecurrence

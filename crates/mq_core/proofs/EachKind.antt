@@ -1,4 +1,5 @@
 pub mod KindLaws
+pub mod RecurrenceLaws
 pub mod LawTable
 pub mod Shapes
 pub mod Facts

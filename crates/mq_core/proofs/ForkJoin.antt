@@ -10,3 +10,4 @@ pub mod ForkSums
 pub mod JoinEnds
 pub mod JoinServices
 pub mod ForkJoinLaws
+pub mod ForkJoinRecurrence

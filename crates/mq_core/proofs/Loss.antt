@@ -5,3 +5,4 @@ pub mod LossBusy
 pub mod LossPeak
 pub mod LossColumns
 pub mod LossLaws
+pub mod LossRecurrence

@@ -4,3 +4,4 @@ pub mod ServerShows
 pub mod ServerBusy
 pub mod ServerLoads
 pub mod ServerLaws
+pub mod ServerRecurrence

@@ -9,3 +9,4 @@ pub mod TandemNumbers
 pub mod TandemLoad
 pub mod TandemBusy
 pub mod TandemLaws
+pub mod TandemRecurrence

@@ -1,6 +1,7 @@
 -- What a kind of node is: all that the other definitions ask of a kind.
 use Rattle.std.specs.Prelude.{Bool, List, ℕ}
 use Rattle.mq_core.specs.Event.{Event}
+use Rattle.mq_core.specs.Leaving.{Leaving}
 use Rattle.mq_core.specs.Local.{Local}
 use Rattle.mq_core.specs.Machine.{Emission, Reaction, Visit}
 use Rattle.mq_core.specs.declared.model.Fate.{Fate}
@@ -44,7 +45,5 @@ pub record Behaviour : Type 1 where
   pub outs : Rows → List ℕ → List ℕ → List ℕ
   -- what these visits let out, by position
   pub flow : Rows → List Visit → List Emission
-  -- what it lets out stands by time, else by position
-  pub mixes : Bool
-  -- on an output too a later visit may leave earlier
-  pub overtakes : Bool
+  -- the order in which it lets out
+  pub order : Leaving

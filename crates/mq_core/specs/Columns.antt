@@ -5,6 +5,8 @@ use Rattle.mq_core.specs.Alone.{came}
 use Rattle.mq_core.specs.Fates.{service_time}
 use Rattle.mq_core.specs.KindTable.{behaviour_of}
 use Rattle.mq_core.specs.Laws.{Rises, in_order_of}
+use Rattle.mq_core.specs.Leaving.{Leaving}
+use Rattle.mq_core.specs.Leaving.Leaving.{InTurn, Mixed, Overtaking}
 use Rattle.mq_core.specs.Local.{Local}
 use Rattle.mq_core.specs.Machine.{State}
 use Rattle.mq_core.specs.Results.{Late, Totals, bare_time, is_lost, late_fate, stream_from, visits_of}
@@ -110,9 +112,15 @@ sorted stream =
       time = map (λ (p : ℕ × ℕ). p.0) pairs;
     }
 
+-- jobs and times by position, in the order in which they leave by an output
+abbrev pub stream_by : Leaving → Stream → Stream
+stream_by InTurn stream = stream
+stream_by Mixed stream = stream
+stream_by Overtaking stream = sorted stream
+
 -- jobs and times by position, in the order in which they leave: by time and then position at a delay, else by position
 abbrev pub stream_in_order : Kind → Stream → Stream
-stream_in_order kind stream = if (behaviour_of kind).overtakes then sorted stream else stream
+stream_in_order kind stream = stream_by (behaviour_of kind).order stream
 
 -- what leaves a node by an output, where the node has these jobs at these times
 abbrev pub column_stream : Rows → Kind → List ℕ → List ℕ → ℕ → Stream

@@ -11,6 +11,7 @@ pub mod Handling
 pub mod Ranges
 pub mod Told
 pub mod Emitting
+pub mod Leaving
 pub mod Behaviour
 pub mod Kinds
 pub mod KindTable

@@ -1,6 +1,6 @@
 use Rattle.std.specs.Prelude.{List, if◌then◌else◌}
 use Rattle.mq_core.specs.KindTable.{behaviour_of}
-use Rattle.mq_core.specs.Laws.{in_order_of}
+use Rattle.mq_core.specs.Leaving.{left_by}
 use Rattle.mq_core.specs.Machine.{Emission, Visit}
 use Rattle.mq_core.specs.declared.model.Kind.{Kind}
 use Rattle.mq_core.specs.declared.model.Rows.{Rows}
@@ -17,4 +17,4 @@ flow_of rows kind visits = (behaviour_of kind).flow rows visits
 
 -- the order in which a node lets out: by time and then position at a delay or a loss station, else by position
 abbrev pub in_leaving_order : Kind → List Emission → List Emission
-in_leaving_order kind emissions = if (behaviour_of kind).mixes then in_order_of (λ (m : Emission). m.time) emissions else emissions
+in_leaving_order kind emissions = left_by (behaviour_of kind).order emissions

@@ -29,7 +29,8 @@ use Rattle.mq_core.specs.declared.model.Stream.{Stream}
 use Rattle.mq_core.specs.Bounded.{DeparturesAreBounded}
 use Rattle.mq_core.proofs.Bounded.BoundedArrivals.{PairsBy, from-zip, order-by, read-at, reads-by, rows-by, zip-by}
 use Rattle.mq_core.proofs.Bounded.BoundedStations.{AreBy, LeaveBy, LeavesBy, by-later}
-use Rattle.mq_core.proofs.Bounded.BoundedKinds.{each-weaker, fates-by, stream-by}
+use Rattle.mq_core.proofs.Bounded.BoundedKinds.{fates-by, stream-by}
+use Rattle.mq_core.proofs.Bounded.BoundedAsked.{each-weaker}
 
 -- where a node stands among the first so many
 record IsAt (order : List ℕ) (rank node : ℕ) : Type 0 where

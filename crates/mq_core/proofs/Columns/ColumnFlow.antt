@@ -1,44 +1,31 @@
-use Rattle.std.proofs.Common.{◌≡◌, inl, ℕ, zero, suc, ◌+◌, false, cond, eqb, List, [], ◌∷◌, Some, sym, refl, ap, ◌∙◌, subst, arith, eq-eqb}
+use Rattle.std.proofs.Common.{List, Some, [], ap, arith, cond, eq-eqb, eqb, false, subst, suc, sym, zero, ℕ, ◌+◌, ◌∙◌, ◌∷◌, ◌≡◌}
 use Rattle.std.specs.Prelude.{slice_get}
-use Rattle.mq_base.proofs.Lists.{some_inj}
 use Rattle.mq_core.specs.ColumnLaws.{NodesFlow}
-use Rattle.mq_core.specs.Machine.{Visit, Emission}
+use Rattle.mq_core.specs.Machine.{Emission, Visit}
 use Rattle.mq_core.specs.Served.{flow_of}
 use Rattle.mq_core.specs.StandardTable.{run_of}
 use Rattle.mq_core.specs.Tallies.{emission_at}
 use Rattle.mq_core.specs.Theorems.{IsReadFor}
 use Rattle.mq_core.specs.declared.model.Kind.{Kind}
-use Rattle.mq_core.specs.declared.model.Kind.TheVariants.{Source, Server, Delay, Loss, Tandem, ForkJoin, Split}
 use Rattle.mq_core.specs.declared.model.Node.{Node}
 use Rattle.mq_core.specs.declared.model.Plan.{Plan}
 use Rattle.mq_core.specs.declared.model.Rows.{Rows}
-use Rattle.mq_core.proofs.Counting.ColumnNumbers.{EachLeaves, LeavesAs, Numbered, flow-numbered, order-found}
-use Rattle.mq_core.proofs.Events.EmissionsAt.{neq-eqb}
+use Rattle.mq_base.proofs.Lists.{some_inj}
+use Rattle.mq_core.proofs.Counting.ColumnNumbers.{EachLeaves, LeavesAs, Numbered, order-found}
+use Rattle.mq_core.proofs.EachKind.Flows.{flow-numbered}
 use Rattle.mq_core.proofs.EachKind.Ends.{end-fact}
 use Rattle.mq_core.proofs.EachKind.Facts.{node_fact}
 use Rattle.mq_core.proofs.EachKind.Flows.{kind-flow}
-use Rattle.mq_core.proofs.Loss.LossColumns.{faring-leaves}
-use Rattle.mq_core.proofs.Counting.Unlost.{Departing}
+use Rattle.mq_core.proofs.EachKind.LawTable.{recurrence_of}
+use Rattle.mq_core.proofs.Events.EmissionsAt.{neq-eqb}
 
 pub nodes-flow : NodesFlow
 nodes-flow plan rows read v node e =
     let end = run_of plan rows in
     kind-flow rows node.kind v (end.stations v) end.clock (subst (λ o. node_fact rows o v (end.stations v) [] end.clock) e (end-fact plan rows read v))
 
--- each visit departs when it is let out, or is lost as it comes
-departing-leaves : (kind : Kind) → Departing kind → (ms : List Emission) (xs : List Visit) → EachLeaves kind ms xs
-departing-leaves kind by [] xs = tt
-departing-leaves kind by (m ∷ ms) [] = tt
-departing-leaves kind by (m ∷ ms) (x ∷ xs) = (inl (by m), departing-leaves kind by ms xs)
-
 pub flow-leaves : (rows : Rows) (kind : Kind) (visits : List Visit) → EachLeaves kind (flow_of rows kind visits) visits
-flow-leaves rows Source visits = departing-leaves Source (λ m. refl) _ visits
-flow-leaves rows (Server demand) visits = departing-leaves (Server demand) (λ m. refl) _ visits
-flow-leaves rows (Delay demand) visits = departing-leaves (Delay demand) (λ m. refl) _ visits
-flow-leaves rows (Loss places demand) visits = faring-leaves places demand 0 _ visits
-flow-leaves rows (Tandem stages) visits = departing-leaves (Tandem stages) (λ m. refl) _ visits
-flow-leaves rows (ForkJoin branches) visits = departing-leaves (ForkJoin branches) (λ m. refl) _ visits
-flow-leaves rows (Split route) visits = departing-leaves (Split route) (λ m. refl) _ visits
+flow-leaves rows kind = (recurrence_of rows kind).leaves
 
 -- the same of the visit and the emission of a position
 leaves-at : (kind : Kind) (k : ℕ) (ms : List Emission) (xs : List Visit) → Numbered k ms xs → EachLeaves kind ms xs → (i : ℕ) (x : Visit) (m : Emission) → slice_get xs i ≡ Some x → emission_at ms (k + i) ≡ Some m → LeavesAs kind m x

@@ -1,20 +1,22 @@
-use Rattle.std.proofs.Common.{◌≡◌, ℕ, suc, ◌*◌, ◌<◌, ◌≤◌, List, [], ◌∷◌, ◌++◌, map, length, sym, refl, ap, ◌∙◌, arith}
+use Rattle.std.proofs.Common.{List, [], ap, arith, length, map, refl, suc, sym, ℕ, ◌*◌, ◌++◌, ◌<◌, ◌∙◌, ◌∷◌, ◌≡◌, ◌≤◌}
 use Rattle.std.proofs.lemmas.List.{length-map}
 use Rattle.std.specs.List.{AllByRecursion as Each, zip}
 use Rattle.mq_core.specs.ColumnLaws.{OrdersKeepItems, StreamsRise}
-use Rattle.mq_core.specs.Columns.{by_first, pairs_of}
+use Rattle.mq_core.specs.Columns.{by_first, pairs_of, stream_by}
 use Rattle.mq_core.specs.Event.Event.{Arrive, Finish}
+use Rattle.mq_core.specs.KindTable.{behaviour_of}
 use Rattle.mq_core.specs.Laws.{Rises, stream_of}
-use Rattle.mq_core.specs.Machine.{Visit, Emission, Table, emissions_at}
+use Rattle.mq_core.specs.Leaving.{Leaving}
+use Rattle.mq_core.specs.Leaving.Leaving.{InTurn, Mixed, Overtaking}
+use Rattle.mq_core.specs.Machine.{Emission, Table, Visit, emissions_at}
 use Rattle.mq_core.specs.OnTime.{standard-on_time}
 use Rattle.mq_core.specs.Run.{starts}
-use Rattle.mq_core.specs.StandardTable.{standard, run_of}
-use Rattle.mq_core.specs.declared.model.Kind.TheVariants.{Source, Server, Delay, Loss, Tandem, ForkJoin, Split}
-use Rattle.mq_core.proofs.Lists.Each.{Each-append, Each-weaker, Each-map}
+use Rattle.mq_core.specs.StandardTable.{run_of, standard}
 use Rattle.mq_core.proofs.Events.Forward.{emissions-now}
 use Rattle.mq_core.proofs.Events.Kept.{Fact, Keeps, kept}
 use Rattle.mq_core.proofs.Events.Orders.{Each-order, in_order_of-length}
 use Rattle.mq_core.proofs.Events.Rising.{Rises-append, Rises-filter}
+use Rattle.mq_core.proofs.Lists.Each.{Each-append, Each-map, Each-weaker}
 use Rattle.mq_core.proofs.Networks.Whole.{starts-arrive}
 use Rattle.mq_core.proofs.Networks.Wired.{feeds_forward}
 
@@ -92,15 +94,16 @@ zip-length (x ∷ xs) [] e = refl
 zip-length (x ∷ xs) (y ∷ ys) e = ap suc (zip-length xs ys (omega arith))
 
 pub orders-keep_items : OrdersKeepItems
-orders-keep_items Source stream = record { jobs = λ limit h. h; times = λ limit h. h; many = λ e. refl }
-orders-keep_items (Server demand) stream = record { jobs = λ limit h. h; times = λ limit h. h; many = λ e. refl }
-orders-keep_items (Loss places demand) stream = record { jobs = λ limit h. h; times = λ limit h. h; many = λ e. refl }
-orders-keep_items (Tandem stages) stream = record { jobs = λ limit h. h; times = λ limit h. h; many = λ e. refl }
-orders-keep_items (ForkJoin branches) stream = record { jobs = λ limit h. h; times = λ limit h. h; many = λ e. refl }
-orders-keep_items (Split route) stream = record { jobs = λ limit h. h; times = λ limit h. h; many = λ e. refl }
-orders-keep_items (Delay demand) stream =
-    record {
-      jobs = λ limit h. Each-map _ (λ job. job < limit) (λ (p : ℕ × ℕ). p.1) (λ p l. l) (by_first (pairs_of stream)) (Each-order {X = ℕ × ℕ} _ (λ (p : ℕ × ℕ). p.0) (pairs_of stream) (zip-second (λ job. job < limit) stream.time stream.job h));
-      times = λ limit h. Each-map _ (λ time. time ≤ limit) (λ (p : ℕ × ℕ). p.0) (λ p l. l) (by_first (pairs_of stream)) (Each-order {X = ℕ × ℕ} _ (λ (p : ℕ × ℕ). p.0) (pairs_of stream) (zip-first (λ time. time ≤ limit) stream.time stream.job h));
-      many = λ e. length-map (by_first (pairs_of stream)) (λ (p : ℕ × ℕ). p.1) ∙ (in_order_of-length {X = ℕ × ℕ} (λ (p : ℕ × ℕ). p.0) (pairs_of stream) ∙ zip-length stream.time stream.job e);
-    }
+orders-keep_items kind stream = let h = go (behaviour_of kind).order in record { jobs = h.0; times = h.1; many = h.2 }
+  where
+    go : (order : Leaving) →
+        ((limit : ℕ) → Each (λ job. job < limit) stream.job → Each (λ job. job < limit) (stream_by order stream).job)
+        × ((limit : ℕ) → Each (λ time. time ≤ limit) stream.time → Each (λ time. time ≤ limit) (stream_by order stream).time)
+        × (length stream.job ≡ length stream.time → length (stream_by order stream).job ≡ length stream.job)
+    go InTurn = (λ limit h. h, λ limit h. h, λ e. refl)
+    go Mixed = (λ limit h. h, λ limit h. h, λ e. refl)
+    go Overtaking = (
+      λ limit h. Each-map _ (λ job. job < limit) (λ (p : ℕ × ℕ). p.1) (λ p l. l) (by_first (pairs_of stream)) (Each-order {X = ℕ × ℕ} _ (λ (p : ℕ × ℕ). p.0) (pairs_of stream) (zip-second (λ job. job < limit) stream.time stream.job h)),
+      λ limit h. Each-map _ (λ time. time ≤ limit) (λ (p : ℕ × ℕ). p.0) (λ p l. l) (by_first (pairs_of stream)) (Each-order {X = ℕ × ℕ} _ (λ (p : ℕ × ℕ). p.0) (pairs_of stream) (zip-first (λ time. time ≤ limit) stream.time stream.job h)),
+      λ e. length-map (by_first (pairs_of stream)) (λ (p : ℕ × ℕ). p.1) ∙ (in_order_of-length {X = ℕ × ℕ} (λ (p : ℕ × ℕ). p.0) (pairs_of stream) ∙ zip-length stream.time stream.job e),
+    )

@@ -1,41 +1,41 @@
-use Rattle.std.proofs.Common.{◌≡◌, ◌⊎◌, inl, inr, ℕ, zero, suc, ◌+◌, ◌*◌, ◌<◌, ◌≤◌, Bool, true, false, cond, eqb, List, [], ◌∷◌, ◌++◌, length, map, Option, Some, None, sym, refl, ap, ◌∙◌, subst, arith, max, fold, slice_get, find, option_map, filter, le_antisymm, length-append}
+use Rattle.std.proofs.Common.{Bool, List, None, Option, Some, [], ap, arith, cond, false, filter, find, fold, inl, inr, le_antisymm, length, length-append, map, max, option_map, refl, slice_get, subst, suc, sym, true, zero, ℕ, ◌*◌, ◌++◌, ◌+◌, ◌<◌, ◌∙◌, ◌∷◌, ◌≡◌, ◌≤◌, ◌⊎◌}
 use Rattle.std.proofs.lemmas.List.{append-nil}
 use Rattle.std.specs.List.{AllByRecursion as Each}
-use Rattle.mq_core.specs.Columns.{time_of_fate, greatest_time, column_span, visits_by_node}
-use Rattle.mq_core.specs.Event.{Event, time_of, job_of}
-use Rattle.mq_core.specs.Event.Event.{Arrive, Finish}
-use Rattle.mq_core.specs.Machine.{Visit, Emission, State, Station, opened, emissions_of}
-use Rattle.mq_core.specs.Local.{Local}
 use Rattle.mq_core.specs.Alone.{came}
-use Rattle.mq_core.specs.Fates.{fate_by, ComesAt, LeavesAt, IsLatest}
-use Rattle.mq_core.specs.Laws.{by_time, read_by, is_arrival_at}
+use Rattle.mq_core.specs.Columns.{column_span, greatest_time, time_of_fate, visits_by_node}
+use Rattle.mq_core.specs.Event.{Event, job_of, time_of}
+use Rattle.mq_core.specs.Event.Event.{Arrive, Finish}
+use Rattle.mq_core.specs.Fates.{ComesAt, IsLatest, LeavesAt, fate_by}
+use Rattle.mq_core.specs.Laws.{by_time, is_arrival_at, read_by}
+use Rattle.mq_core.specs.Local.{Local}
+use Rattle.mq_core.specs.Machine.{Emission, State, Station, Visit, emissions_of, opened}
 use Rattle.mq_core.specs.NumberLaws.{SpanIsColumns}
 use Rattle.mq_core.specs.OnTime.{standard-on_time}
 use Rattle.mq_core.specs.Results.{fates_from, visits_of}
 use Rattle.mq_core.specs.Run.{starts}
 use Rattle.mq_core.specs.Served.{flow_of}
 use Rattle.mq_core.specs.Standard.{node_on, standard_handle, standard_jobs, standard_opening}
-use Rattle.mq_core.specs.StandardTable.{standard, run_of}
-use Rattle.mq_core.specs.Tallies.{emission_at, arrival_or}
+use Rattle.mq_core.specs.StandardTable.{run_of, standard}
+use Rattle.mq_core.specs.Tallies.{arrival_or, emission_at}
 use Rattle.mq_core.specs.Theorems.{IsReadFor}
 use Rattle.mq_core.specs.Wiring.{is_source, outputs_read}
-use Rattle.mq_core.specs.declared.model.Fate.TheVariants.{Departs, Lost}
 use Rattle.mq_core.specs.declared.model.Kind.{Kind}
-use Rattle.mq_core.specs.declared.model.Kind.TheVariants.{Source, Server, Delay, Loss, Tandem, ForkJoin, Split}
 use Rattle.mq_core.specs.declared.model.Node.{Node}
 use Rattle.mq_core.specs.declared.model.Plan.{Plan}
 use Rattle.mq_core.specs.declared.model.Rows.{Rows}
-use Rattle.mq_core.proofs.EachKind.AloneRuns.{visits-handled}
-use Rattle.mq_core.proofs.Lists.Each.{Each-map}
-use Rattle.mq_core.proofs.Columns.ColumnFlow.{nodes-flow, node-leaves}
-use Rattle.mq_core.proofs.Counting.ColumnNumbers.{LeavesAs, flow-numbered, order-own}
-use Rattle.mq_core.proofs.EachKind.Ends.{nothing-pending}
-use Rattle.mq_core.proofs.Events.Kept.{Keeps, kept}
+use Rattle.mq_core.proofs.Columns.ColumnFlow.{node-leaves, nodes-flow}
 use Rattle.mq_core.proofs.Columns.NumberFates.{LetOut, all-let_out, fates-cons}
-use Rattle.mq_core.proofs.Lists.NumberLists.{greatest-least, greatest-bounds}
-use Rattle.mq_core.proofs.Columns.NumberTotals.{node-inside}
 use Rattle.mq_core.proofs.Columns.NumberPast.{columns-of_node}
+use Rattle.mq_core.proofs.Columns.NumberTotals.{node-inside}
+use Rattle.mq_core.proofs.Counting.ColumnNumbers.{LeavesAs, order-own}
+use Rattle.mq_core.proofs.EachKind.Flows.{flow-numbered}
+use Rattle.mq_core.proofs.EachKind.AloneRuns.{visits-handled}
+use Rattle.mq_core.proofs.EachKind.Ends.{nothing-pending}
+use Rattle.mq_core.proofs.EachKind.LawTable.{recurrence_of}
 use Rattle.mq_core.proofs.EachKind.Span.{span-is_latest}
+use Rattle.mq_core.proofs.Events.Kept.{Keeps, kept}
+use Rattle.mq_core.proofs.Lists.Each.{Each-map}
+use Rattle.mq_core.proofs.Lists.NumberLists.{greatest-bounds, greatest-least}
 use Rattle.mq_core.proofs.Networks.Whole.{arrivals-read, starts-arrive}
 use Rattle.mq_core.proofs.Networks.Wired.{feeds_forward}
 
@@ -65,18 +65,8 @@ fate-at kind emitted k (suc i) (x ∷ xs) m out l e =
     ∙ fate-at kind emitted (suc k) i xs m out.1 (omega arith) (subst (λ p. emission_at emitted p ≡ Some m) place e)
 
 -- a fate is no later than its emission
-early-fate : (kind : Kind) (now : ℕ) (m : Emission) → m.time ≤ now → time_of_fate (fate_by kind m) ≤ now
-early-fate Source now m l = l
-early-fate (Server demand) now m l = l
-early-fate (Delay demand) now m l = l
-early-fate (Tandem stages) now m l = l
-early-fate (ForkJoin branches) now m l = l
-early-fate (Loss places demand) now m l = go (eqb m.out 1)
-  where
-    go : (b : Bool) → time_of_fate (cond b Lost (Departs m.time)) ≤ now
-    go true = omega arith
-    go false = l
-early-fate (Split route) now m l = l
+early-fate : (rows : Rows) (kind : Kind) (now : ℕ) (m : Emission) → m.time ≤ now → time_of_fate (fate_by kind m) ≤ now
+early-fate rows kind = (recurrence_of rows kind).prompt
 
 -- a number below the length is that of an item
 at-below : (xs : List Visit) (i : ℕ) → i < length xs → (x : Visit) × (slice_get xs i ≡ Some x)
@@ -85,11 +75,11 @@ at-below (x ∷ xs) zero l = (x, refl)
 at-below (x ∷ xs) (suc i) l = at-below xs i (omega arith)
 
 -- no fate is later than all emissions
-fates-early : (kind : Kind) (now : ℕ) (emitted : List Emission) (k : ℕ) (xs : List Visit) → LetOut emitted k xs → Each (λ (m : Emission). m.time ≤ now) emitted → Each (λ fate. time_of_fate fate ≤ now) (fates_from kind emitted k xs)
-fates-early kind now emitted k [] out h = tt
-fates-early kind now emitted k (x ∷ xs) out h =
+fates-early : (rows : Rows) (kind : Kind) (now : ℕ) (emitted : List Emission) (k : ℕ) (xs : List Visit) → LetOut emitted k xs → Each (λ (m : Emission). m.time ≤ now) emitted → Each (λ fate. time_of_fate fate ≤ now) (fates_from kind emitted k xs)
+fates-early rows kind now emitted k [] out h = tt
+fates-early rows kind now emitted k (x ∷ xs) out h =
     subst (λ l. Each (λ fate. time_of_fate fate ≤ now) l) (sym (fates-cons kind emitted k x xs out.0.0 out.0.1))
-    (early-fate kind now out.0.0 (found-each (λ (m : Emission). m.time ≤ now) _ emitted out.0.0 h out.0.1), fates-early kind now emitted (suc k) xs out.1 h)
+    (early-fate rows kind now out.0.0 (found-each (λ (m : Emission). m.time ≤ now) _ emitted out.0.0 h out.0.1), fates-early rows kind now emitted (suc k) xs out.1 h)
 
 nothing-came : (visits : List Visit) → came visits ≡ [] → visits ≡ []
 nothing-came [] h = refl
@@ -173,7 +163,7 @@ module _ (plan : Plan) (rows : Rows) (read : IsReadFor plan.net rows) where
   node-early v node here =
       let inside = node-inside plan.net.nodes v node here in
       let one = greatest-least end.clock (map (λ (x : Visit). x.arrive) (end.stations v).visits) (Each-map _ _ (λ (x : Visit). x.arrive) (λ x h. h) (end.stations v).visits (latest.came v inside)) in
-      let two = greatest-least end.clock (map time_of_fate (fates_from node.kind (end.stations v).emitted 0 (end.stations v).visits)) (Each-map _ _ time_of_fate (λ f h. h) (fates_from node.kind (end.stations v).emitted 0 (end.stations v).visits) (fates-early node.kind end.clock (end.stations v).emitted 0 (end.stations v).visits (all-let_out plan rows read v node here) (latest.left v inside))) in
+      let two = greatest-least end.clock (map time_of_fate (fates_from node.kind (end.stations v).emitted 0 (end.stations v).visits)) (Each-map _ _ time_of_fate (λ f h. h) (fates_from node.kind (end.stations v).emitted 0 (end.stations v).visits) (fates-early rows node.kind end.clock (end.stations v).emitted 0 (end.stations v).visits (all-let_out plan rows read v node here) (latest.left v inside))) in
       omega arith
 
   nodes-early : (k : ℕ) (nodes : List Node) → ((i : ℕ) (node : Node) → slice_get nodes i ≡ Some node → greatest_time (visits_of node.kind (end.stations (k + i))) ≤ end.clock) → Each (λ time. time ≤ end.clock) (map greatest_time (visits_by_node end k nodes))

@@ -1,31 +1,29 @@
-use Rattle.std.proofs.Common.{◌≡◌, ◌≢◌, ◌⊎◌, inl, inr, ℕ, suc, ◌+◌, ◌≤◌, ◌<◌, Bool, true, false, cond, eqb, ltb, max, List, [], ◌∷◌, ◌++◌, map, length, Option, Some, None, sym, refl, ap, ◌∙◌, subst, arith, eq-eqb, eqb-true, length-append}
+use Rattle.std.proofs.Common.{Bool, List, None, Option, Some, [], ap, arith, cond, eq-eqb, eqb, eqb-true, false, inl, inr, length, length-append, ltb, map, max, refl, subst, suc, sym, true, ℕ, ◌++◌, ◌+◌, ◌<◌, ◌∙◌, ◌∷◌, ◌≡◌, ◌≢◌, ◌≤◌, ◌⊎◌}
 use Rattle.std.proofs.lemmas.Bool.Decides.{nat_tests}
 use Rattle.std.proofs.lemmas.List.Elements.{filter-append}
 use Rattle.std.proofs.lemmas.List.Sums.{sum_by-append}
-use Rattle.std.specs.Prelude.{filter, slice_get, count_by}
 use Rattle.std.specs.List.{AllByRecursion as Each}
-use Rattle.mq_core.specs.ColumnLaws.{jobs_of, arrives_of}
+use Rattle.std.specs.Prelude.{count_by, filter, slice_get}
+use Rattle.mq_core.specs.ColumnLaws.{arrives_of, jobs_of}
 use Rattle.mq_core.specs.Columns.{departs_after, founds_from}
 use Rattle.mq_core.specs.Fates.{fate_by}
-use Rattle.mq_core.specs.Handling.{demand_of_job}
-use Rattle.mq_core.specs.Laws.{Rises}
-use Rattle.mq_core.specs.Machine.{Visit, Emission}
+use Rattle.mq_core.specs.KindTable.{behaviour_of}
+use Rattle.mq_core.specs.Laws.{Rises, in_order_of}
+use Rattle.mq_core.specs.Leaving.{Leaving, left_by}
+use Rattle.mq_core.specs.Leaving.Leaving.{InTurn, Mixed, Overtaking}
+use Rattle.mq_core.specs.Machine.{Emission, Visit}
 use Rattle.mq_core.specs.Recurrences.{is_admitted, loss_fates, time_or_none}
 use Rattle.mq_core.specs.Results.{fates_from}
-use Rattle.mq_core.specs.Served.{served, served_from, passed_from, delayed_from, faring_from, leaving_from, flow_of, in_leaving_order}
-use Rattle.mq_core.specs.Tallies.{emission_at, arrival_or, found_or, one_if_later, still_there}
+use Rattle.mq_core.specs.Served.{delayed_from, faring_from, in_leaving_order, leaving_from, passed_from, served, served_from}
+use Rattle.mq_core.specs.Tallies.{arrival_or, emission_at, found_or, one_if_later, still_there}
 use Rattle.mq_core.specs.declared.model.Demand.{Demand}
 use Rattle.mq_core.specs.declared.model.Fate.{Fate}
 use Rattle.mq_core.specs.declared.model.Fate.TheVariants.{Departs, Lost}
 use Rattle.mq_core.specs.declared.model.Kind.{Kind}
-use Rattle.mq_core.specs.declared.model.Kind.TheVariants.{Source, Server, Delay, Loss, Tandem, ForkJoin, Split}
 use Rattle.mq_core.specs.declared.model.Rows.{Rows}
-use Rattle.mq_core.proofs.Lists.Each.{Each-weaker, Each-filter, filter-none, filter-yes}
 use Rattle.mq_core.proofs.Events.EmissionsAt.{neq-eqb}
-use Rattle.mq_core.proofs.ForkJoin.ForkTimes.{joined-long}
 use Rattle.mq_core.proofs.Events.Orders.{filter-order, short-order}
-use Rattle.mq_core.proofs.Tandem.TandemColumns.{tandem_times-length}
-use Rattle.std.proofs.lemmas.List.{length-map}
+use Rattle.mq_core.proofs.Lists.Each.{Each-filter, Each-weaker, filter-none, filter-yes}
 
 -- one emission a visit, by position from this one on, with its job
 abbrev pub Numbered : ℕ → List Emission → List Visit → Type 0
@@ -34,15 +32,15 @@ Numbered k [] (x ∷ xs) = ⊥
 Numbered k (m ∷ ms) [] = ⊥
 Numbered k (m ∷ ms) (x ∷ xs) = (m.position ≡ k) × (m.job ≡ x.job) × Numbered (suc k) ms xs
 
-served-numbered : (rows : Rows) (demand : Demand) (k last : ℕ) (visits : List Visit) → Numbered k (served_from rows demand k last visits) visits
+pub served-numbered : (rows : Rows) (demand : Demand) (k last : ℕ) (visits : List Visit) → Numbered k (served_from rows demand k last visits) visits
 served-numbered rows demand k last [] = tt
 served-numbered rows demand k last (x ∷ xs) = (refl, refl, served-numbered rows demand (suc k) (served rows demand last x) xs)
 
-passed-numbered : (out : Visit → ℕ → ℕ) (k : ℕ) (visits : List Visit) → Numbered k (passed_from out k visits) visits
+pub passed-numbered : (out : Visit → ℕ → ℕ) (k : ℕ) (visits : List Visit) → Numbered k (passed_from out k visits) visits
 passed-numbered out k [] = tt
 passed-numbered out k (x ∷ xs) = (refl, refl, passed-numbered out (suc k) xs)
 
-delayed-numbered : (rows : Rows) (demand : Demand) (k : ℕ) (visits : List Visit) → Numbered k (delayed_from rows demand k visits) visits
+pub delayed-numbered : (rows : Rows) (demand : Demand) (k : ℕ) (visits : List Visit) → Numbered k (delayed_from rows demand k visits) visits
 delayed-numbered rows demand k [] = tt
 delayed-numbered rows demand k (x ∷ xs) = (refl, refl, delayed-numbered rows demand (suc k) xs)
 
@@ -58,27 +56,18 @@ loss-even places left arrive demand (x ∷ xs) = go (is_admitted places left (ar
     go true ih = ap suc (ih (time ∷ left))
     go false ih = ap suc (ih left)
 
-faring-numbered : (k : ℕ) (fates : List Fate) (visits : List Visit) → length fates ≡ length visits → Numbered k (faring_from k fates visits) visits
+pub faring-numbered : (k : ℕ) (fates : List Fate) (visits : List Visit) → length fates ≡ length visits → Numbered k (faring_from k fates visits) visits
 faring-numbered k [] [] e = tt
 faring-numbered k [] (x ∷ xs) e = absurd (omega arith)
 faring-numbered k (fate ∷ fates) [] e = absurd (omega arith)
 faring-numbered k (Departs time ∷ fates) (x ∷ xs) e = (refl, refl, faring-numbered (suc k) fates xs (omega arith))
 faring-numbered k (Lost ∷ fates) (x ∷ xs) e = (refl, refl, faring-numbered (suc k) fates xs (omega arith))
 
-leaving-numbered : (k : ℕ) (times : List ℕ) (visits : List Visit) → length times ≡ length visits → Numbered k (leaving_from k times visits) visits
+pub leaving-numbered : (k : ℕ) (times : List ℕ) (visits : List Visit) → length times ≡ length visits → Numbered k (leaving_from k times visits) visits
 leaving-numbered k [] [] e = tt
 leaving-numbered k [] (x ∷ xs) e = absurd (omega arith)
 leaving-numbered k (time ∷ times) [] e = absurd (omega arith)
 leaving-numbered k (time ∷ times) (x ∷ xs) e = (refl, refl, leaving-numbered (suc k) times xs (omega arith))
-
-pub flow-numbered : (rows : Rows) (kind : Kind) (visits : List Visit) → Numbered 0 (flow_of rows kind visits) visits
-flow-numbered rows Source visits = passed-numbered _ 0 visits
-flow-numbered rows (Server demand) visits = served-numbered rows demand 0 0 visits
-flow-numbered rows (Delay demand) visits = delayed-numbered rows demand 0 visits
-flow-numbered rows (Loss places demand) visits = faring-numbered 0 _ visits (loss-even places [] (λ x. x.arrive) (λ x. demand_of_job rows demand x.job) visits)
-flow-numbered rows (Tandem stages) visits = leaving-numbered 0 _ visits (tandem_times-length rows stages (jobs_of visits) (arrives_of visits) ∙ length-map visits (λ (x : Visit). x.arrive))
-flow-numbered rows (ForkJoin branches) visits = leaving-numbered 0 _ visits (joined-long rows branches visits)
-flow-numbered rows (Split route) visits = passed-numbered _ 0 visits
 
 -- the emission of each position
 pub numbered-found : (k p : ℕ) (ms : List Emission) (visits : List Visit) → Numbered k ms visits → k ≤ p → p < k + length visits → (m : Emission) × (emission_at ms p ≡ Some m)
@@ -127,19 +116,20 @@ found-head q (m ∷ ms) = go (eqb m.position q) (found-head q ms)
     go true ih = refl
     go false ih = ih
 
+-- to sort by time keeps those of a position
+sorted-parts : (k : ℕ) (ms : List Emission) (visits : List Visit) → Numbered k ms visits → (q : ℕ) → filter (λ (m : Emission). eqb m.position q) (in_order_of (λ (m : Emission). m.time) ms) ≡ filter (λ (m : Emission). eqb m.position q) ms
+sorted-parts k ms visits n q =
+    filter-order (λ (m : Emission). m.time) (λ (m : Emission). eqb m.position q) ms
+    ∙ short-order (λ (m : Emission). m.time) (filter (λ (m : Emission). eqb m.position q) ms) (numbered-once k q ms visits n)
+
 -- the order of leaving keeps those of a position
 order-parts : (kind : Kind) (k : ℕ) (ms : List Emission) (visits : List Visit) → Numbered k ms visits → (q : ℕ) → filter (λ (m : Emission). eqb m.position q) (in_leaving_order kind ms) ≡ filter (λ (m : Emission). eqb m.position q) ms
-order-parts Source k ms visits n q = refl
-order-parts (Server demand) k ms visits n q = refl
-order-parts (Tandem stages) k ms visits n q = refl
-order-parts (Delay demand) k ms visits n q =
-    filter-order (λ (m : Emission). m.time) (λ (m : Emission). eqb m.position q) ms
-    ∙ short-order (λ (m : Emission). m.time) (filter (λ (m : Emission). eqb m.position q) ms) (numbered-once k q ms visits n)
-order-parts (Loss places demand) k ms visits n q =
-    filter-order (λ (m : Emission). m.time) (λ (m : Emission). eqb m.position q) ms
-    ∙ short-order (λ (m : Emission). m.time) (filter (λ (m : Emission). eqb m.position q) ms) (numbered-once k q ms visits n)
-order-parts (ForkJoin branches) k ms visits n q = refl
-order-parts (Split route) k ms visits n q = refl
+order-parts kind k ms visits n q = go (behaviour_of kind).order
+  where
+    go : (order : Leaving) → filter (λ (m : Emission). eqb m.position q) (left_by order ms) ≡ filter (λ (m : Emission). eqb m.position q) ms
+    go InTurn = refl
+    go Mixed = sorted-parts k ms visits n q
+    go Overtaking = sorted-parts k ms visits n q
 
 -- each position is found as if all left by position
 pub order-found : (kind : Kind) (k : ℕ) (ms : List Emission) (visits : List Visit) → Numbered k ms visits → (q : ℕ) → emission_at (in_leaving_order kind ms) q ≡ emission_at ms q
@@ -197,13 +187,20 @@ jobs-numbered k (m ∷ ms) [] n = absurd n
 jobs-numbered k (m ∷ ms) (x ∷ xs) n = λ i. n.1 i ∷ jobs-numbered (suc k) ms xs n.2 i
 
 -- a visit departs when it is let out, or is lost and let out as it comes
+abbrev pub LeavesBy : (Emission → Fate) → Emission → Visit → Type 0
+LeavesBy fate m x = (fate m ≡ Departs m.time) ⊎ ((fate m ≡ Lost) × (m.time ≡ x.arrive))
+
+abbrev pub EachLeavesBy : (Emission → Fate) → List Emission → List Visit → Type 0
+EachLeavesBy fate [] xs = Unit {0}
+EachLeavesBy fate (m ∷ ms) [] = Unit {0}
+EachLeavesBy fate (m ∷ ms) (x ∷ xs) = LeavesBy fate m x × EachLeavesBy fate ms xs
+
+-- the same at a node of a kind
 abbrev pub LeavesAs : Kind → Emission → Visit → Type 0
-LeavesAs kind m x = (fate_by kind m ≡ Departs m.time) ⊎ ((fate_by kind m ≡ Lost) × (m.time ≡ x.arrive))
+LeavesAs kind m x = LeavesBy (fate_by kind) m x
 
 abbrev pub EachLeaves : Kind → List Emission → List Visit → Type 0
-EachLeaves kind [] xs = Unit {0}
-EachLeaves kind (m ∷ ms) [] = Unit {0}
-EachLeaves kind (m ∷ ms) (x ∷ xs) = LeavesAs kind m x × EachLeaves kind ms xs
+EachLeaves kind ms xs = EachLeavesBy (fate_by kind) ms xs
 
 -- whoever leaves later than this, one by one, where this isn't before it came
 later-departs : (kind : Kind) (time : ℕ) (m : Emission) (x : Visit) → LeavesAs kind m x → x.arrive ≤ time → one_if_later time (Some m) ≡ count_by (departs_after time) (fate_by kind m ∷ [])

@@ -1,13 +1,18 @@
 -- What a node let out once it has nothing to finish.
-use Rattle.std.proofs.Common.{[], ℕ, ◌≡◌}
+use Rattle.std.proofs.Common.{List, [], ℕ, ◌≡◌}
 use Rattle.mq_core.specs.Local.{Local}
-use Rattle.mq_core.specs.Machine.{Station}
+use Rattle.mq_core.specs.Machine.{Station, Visit}
 use Rattle.mq_core.specs.Served.{flow_of, in_leaving_order}
 use Rattle.mq_core.specs.declared.model.Kind.{Kind}
 use Rattle.mq_core.specs.declared.model.Rows.{Rows}
+use Rattle.mq_core.proofs.Counting.ColumnNumbers.{Numbered}
 use Rattle.mq_core.proofs.EachKind.Facts.{kind_fact}
-use Rattle.mq_core.proofs.EachKind.LawTable.{laws_of}
+use Rattle.mq_core.proofs.EachKind.LawTable.{laws_of, recurrence_of}
 
 -- a node with nothing to finish let out the flow of its kind
 pub kind-flow : (rows : Rows) (kind : Kind) (v : ℕ) (s : Station Local) (now : ℕ) → kind_fact rows kind v s [] now → s.emitted ≡ in_leaving_order kind (flow_of rows kind s.visits)
 kind-flow rows kind v s now h = (laws_of rows kind).flow v s now h
+
+-- the flow has one emission a visit, by position
+pub flow-numbered : (rows : Rows) (kind : Kind) (visits : List Visit) → Numbered 0 (flow_of rows kind visits) visits
+flow-numbered rows kind = (recurrence_of rows kind).numbered

@@ -7,7 +7,7 @@ use Rattle.std.specs.Option.{option_map}
 use Rattle.mq_core.specs.Event.{Event, time_of, earliest}
 use Rattle.mq_core.specs.Event.Event.{Arrive, Finish}
 use Rattle.mq_core.specs.Fates.{unless_lost}
-use Rattle.mq_core.specs.Laws.{in_order_of}
+use Rattle.mq_core.specs.Leaving.{left_by}
 use Rattle.mq_core.specs.Local.{Local}
 use Rattle.mq_core.specs.Machine.{Visit, Emission, Reaction, Station, emissions_of, finishes_of}
 use Rattle.mq_core.specs.Tallies.{arrival_or, emission_at, staying, sum_below}
@@ -66,7 +66,7 @@ pub record KindLaws (rows : Rows) (b : Behaviour) (i : Inside) : Type 0 where
   pub ends : (peak : ℕ) (rank : ℕ → ℕ) (v server position : ℕ) (s : Station Local) (fs rest : List Event) (now : ℕ) → earliest rank fs ≡ Some (Finish now v server position, rest) → i.fact v s fs now →
       i.fact v (after_finish peak rows b v server position s now) (rest ++ finishes_of v (to_finish rows b v server position s now).services) now
   -- with nothing to finish it has let out its flow, in its order
-  pub flow : (v : ℕ) (s : Station Local) (now : ℕ) → i.fact v s [] now → s.emitted ≡ (if b.mixes then in_order_of (λ (m : Emission). m.time) (b.flow rows s.visits) else b.flow rows s.visits)
+  pub flow : (v : ℕ) (s : Station Local) (now : ℕ) → i.fact v s [] now → s.emitted ≡ left_by b.order (b.flow rows s.visits)
   -- it holds the visits that have not left
   pub number : (v : ℕ) (s : Station Local) (fs : List Event) (now : ℕ) → i.fact v s fs now → b.jobs s.visits s.local ≡ staying s.visits s.emitted
   -- with nothing to finish it holds none

@@ -4,12 +4,20 @@ use Rattle.mq_core.specs.declared.model.Kind.{Kind}
 use Rattle.mq_core.specs.declared.model.Kind.TheVariants.{Source, Server, Delay, Loss, Tandem, ForkJoin, Split}
 use Rattle.mq_core.specs.declared.model.Rows.{Rows}
 use Rattle.mq_core.proofs.EachKind.KindLaws.{Inside, KindLaws}
+use Rattle.mq_core.proofs.EachKind.RecurrenceLaws.{RecurrenceLaws}
+use Rattle.mq_core.proofs.Passing.SourceRecurrence.{source-recurrence}
 use Rattle.mq_core.proofs.Passing.SourceLaws.{source-inside, source-laws}
+use Rattle.mq_core.proofs.Passing.SplitRecurrence.{split-recurrence}
 use Rattle.mq_core.proofs.Passing.SplitLaws.{split-inside, split-laws}
+use Rattle.mq_core.proofs.Server.ServerRecurrence.{server-recurrence}
 use Rattle.mq_core.proofs.Server.ServerLaws.{server-inside, server-laws}
+use Rattle.mq_core.proofs.Delay.DelayRecurrence.{delay-recurrence}
 use Rattle.mq_core.proofs.Delay.DelayLaws.{delay-inside, delay-laws}
+use Rattle.mq_core.proofs.Loss.LossRecurrence.{loss-recurrence}
 use Rattle.mq_core.proofs.Loss.LossLaws.{loss-inside, loss-laws}
+use Rattle.mq_core.proofs.Tandem.TandemRecurrence.{tandem-recurrence}
 use Rattle.mq_core.proofs.Tandem.TandemLaws.{tandem-inside, tandem-laws}
+use Rattle.mq_core.proofs.ForkJoin.ForkJoinRecurrence.{fork_join-recurrence}
 use Rattle.mq_core.proofs.ForkJoin.ForkJoinLaws.{fork_join-inside, fork_join-laws}
 
 -- what is said of a node between two events
@@ -30,3 +38,12 @@ laws_of rows (Loss places demand) = loss-laws rows places demand
 laws_of rows (Tandem stages) = tandem-laws rows stages
 laws_of rows (ForkJoin branches) = fork_join-laws rows branches
 laws_of rows (Split route) = split-laws rows route
+
+pub recurrence_of : (rows : Rows) (kind : Kind) → RecurrenceLaws rows (behaviour_of kind)
+recurrence_of rows Source = source-recurrence rows
+recurrence_of rows (Server demand) = server-recurrence rows demand
+recurrence_of rows (Delay demand) = delay-recurrence rows demand
+recurrence_of rows (Loss places demand) = loss-recurrence rows places demand
+recurrence_of rows (Tandem stages) = tandem-recurrence rows stages
+recurrence_of rows (ForkJoin branches) = fork_join-recurrence rows branches
+recurrence_of rows (Split route) = split-recurrence rows route

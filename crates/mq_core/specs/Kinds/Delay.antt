@@ -2,6 +2,7 @@ use Rattle.std.specs.Prelude.{List, [], false, length, map, suc, true, ℕ, ◌+
 use Rattle.mq_core.specs.Behaviour.{Behaviour}
 use Rattle.mq_core.specs.DelayHandler.{delay_on}
 use Rattle.mq_core.specs.Handling.{demand_of_job}
+use Rattle.mq_core.specs.Leaving.Leaving.{Overtaking}
 use Rattle.mq_core.specs.Local.{empty}
 use Rattle.mq_core.specs.Machine.{Emission, Visit}
 use Rattle.mq_core.specs.Ranges.{columns_of_demand, is_sound_demand, is_within}
@@ -40,6 +41,5 @@ delay demand =
       fates = λ rows job arrive. map (λ time. Departs time) (delayed arrive (map (demand_of_job rows demand) job));
       outs = λ rows job arrive. map (λ _. 0) job;
       flow = λ rows visits. delayed_from rows demand 0 visits;
-      mixes = true;
-      overtakes = true;
+      order = Overtaking;
     }

@@ -1,5 +1,6 @@
 use Rattle.std.specs.List.{flat_map, list_all}
 use Rattle.std.specs.Prelude.{Bool, List, false, fold, length, map, max, nat_le, sum_by, true, ℕ, ◌&&◌, ◌-◌}
+use Rattle.mq_core.specs.Leaving.Leaving.{InTurn}
 use Rattle.mq_core.specs.Behaviour.{Behaviour}
 use Rattle.mq_core.specs.Emitting.{leaving_from}
 use Rattle.mq_core.specs.ForkJoinHandler.{busy_servers, fork_on, fork_opening, least_through}
@@ -50,6 +51,5 @@ fork_join branches =
       fates = λ rows job arrive. map (λ time. Departs time) (fork_departs arrive (branch_demands rows branches job));
       outs = λ rows job arrive. map (λ _. 0) job;
       flow = λ rows visits. joined_from rows branches visits;
-      mixes = false;
-      overtakes = false;
+      order = InTurn;
     }

@@ -1,6 +1,7 @@
 use Rattle.std.specs.Prelude.{List, [], false, if◌then◌else◌, length, map, suc, true, ℕ, ◌&&◌, ◌==◌, ◌∷◌}
 use Rattle.mq_core.specs.Behaviour.{Behaviour}
 use Rattle.mq_core.specs.Handling.{demand_of_job, one_if_some}
+use Rattle.mq_core.specs.Leaving.Leaving.{Mixed}
 use Rattle.mq_core.specs.Local.{empty}
 use Rattle.mq_core.specs.LossHandler.{loss_on}
 use Rattle.mq_core.specs.Machine.{Emission, Visit}
@@ -49,6 +50,5 @@ loss places demand =
       fates = λ rows job arrive. loss_fates places [] arrive (map (demand_of_job rows demand) job);
       outs = λ rows job arrive. map out_of_fate (loss_fates places [] arrive (map (demand_of_job rows demand) job));
       flow = λ rows visits. faring_from 0 (loss_fates places [] (map (λ (x : Visit). x.arrive) visits) (map (λ (x : Visit). demand_of_job rows demand x.job) visits)) visits;
-      mixes = true;
-      overtakes = false;
+      order = Mixed;
     }

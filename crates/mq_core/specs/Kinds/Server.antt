@@ -3,6 +3,7 @@ use Rattle.mq_core.specs.Behaviour.{Behaviour}
 use Rattle.mq_core.specs.Event.{Event}
 use Rattle.mq_core.specs.Event.Event.{Arrive, Finish}
 use Rattle.mq_core.specs.Handling.{demand_of_job, front_leaves, joins, latest, one_if_some}
+use Rattle.mq_core.specs.Leaving.Leaving.{InTurn}
 use Rattle.mq_core.specs.Local.{Local, empty}
 use Rattle.mq_core.specs.Machine.{Emission, Reaction, Visit}
 use Rattle.mq_core.specs.Ranges.{columns_of_demand, is_sound_demand, is_within}
@@ -50,6 +51,5 @@ server demand =
       fates = λ rows job arrive. map (λ time. Departs time) (lindley 0 arrive (map (demand_of_job rows demand) job));
       outs = λ rows job arrive. map (λ _. 0) job;
       flow = λ rows visits. served_from rows demand 0 0 visits;
-      mixes = false;
-      overtakes = false;
+      order = InTurn;
     }

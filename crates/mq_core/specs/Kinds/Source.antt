@@ -4,6 +4,7 @@ use Rattle.mq_core.specs.Emitting.{passed_from}
 use Rattle.mq_core.specs.Event.{Event}
 use Rattle.mq_core.specs.Event.Event.{Arrive, Finish}
 use Rattle.mq_core.specs.Handling.{latest, passes_on, quiet}
+use Rattle.mq_core.specs.Leaving.Leaving.{InTurn}
 use Rattle.mq_core.specs.Local.{Local, empty}
 use Rattle.mq_core.specs.Machine.{Reaction, Visit}
 use Rattle.mq_core.specs.declared.model.Fate.TheVariants.{Departs}
@@ -35,6 +36,5 @@ source =
       fates = λ rows job arrive. map (λ time. Departs time) arrive;
       outs = λ rows job arrive. map (λ _. 0) job;
       flow = λ rows visits. passed_from (λ _ _. 0) 0 visits;
-      mixes = false;
-      overtakes = false;
+      order = InTurn;
     }

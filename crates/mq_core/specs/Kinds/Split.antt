@@ -5,6 +5,7 @@ use Rattle.mq_core.specs.Emitting.{passed_from}
 use Rattle.mq_core.specs.Event.{Event}
 use Rattle.mq_core.specs.Event.Event.{Arrive, Finish}
 use Rattle.mq_core.specs.Handling.{latest, passes_on, quiet, value_of}
+use Rattle.mq_core.specs.Leaving.Leaving.{InTurn}
 use Rattle.mq_core.specs.Local.{Local, empty}
 use Rattle.mq_core.specs.Machine.{Reaction, Visit}
 use Rattle.mq_core.specs.Ranges.{is_within, rises}
@@ -80,6 +81,5 @@ split route =
       fates = λ rows job arrive. map (λ time. Departs time) arrive;
       outs = λ rows job arrive. routes_from rows route 0 job;
       flow = λ rows visits. passed_from (λ visit position. output_by rows route visit.job position) 0 visits;
-      mixes = false;
-      overtakes = false;
+      order = InTurn;
     }

@@ -3,6 +3,7 @@ use Rattle.std.specs.Prelude.{Bool, List, [], false, length, map, true, ℕ, ◌
 use Rattle.mq_core.specs.Behaviour.{Behaviour}
 use Rattle.mq_core.specs.Emitting.{leaving_from}
 use Rattle.mq_core.specs.Handling.{demand_of_job, demand_of_stages}
+use Rattle.mq_core.specs.Leaving.Leaving.{InTurn}
 use Rattle.mq_core.specs.Local.{empty}
 use Rattle.mq_core.specs.Machine.{Emission, Visit}
 use Rattle.mq_core.specs.Ranges.{columns_of_demand, is_sound_demand, is_within}
@@ -57,6 +58,5 @@ tandem stages =
       fates = λ rows job arrive. map (λ time. Departs time) (tandem_times rows stages job arrive);
       outs = λ rows job arrive. map (λ _. 0) job;
       flow = λ rows visits. tandem_flow rows stages visits;
-      mixes = false;
-      overtakes = false;
+      order = InTurn;
     }

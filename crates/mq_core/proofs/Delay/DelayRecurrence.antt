@@ -1,0 +1,33 @@
+-- The laws of the kind's recurrence.
+use Rattle.std.proofs.Common.{arith, map, refl}
+use Rattle.mq_core.specs.Handling.{demand_of_job}
+use Rattle.mq_core.specs.Kinds.Delay.{delay}
+use Rattle.mq_core.specs.PlanLaws.{Tells}
+use Rattle.mq_core.specs.Recurrences.{delayed}
+use Rattle.mq_core.specs.declared.model.Demand.{Demand}
+use Rattle.mq_core.specs.declared.model.Kind.TheVariants.{Delay}
+use Rattle.mq_core.specs.declared.model.Rows.{Rows}
+use Rattle.mq_core.proofs.Bounded.BoundedAsked.{asked, asked-small, each-weaker}
+use Rattle.mq_core.proofs.Bounded.BoundedStations.{delayed-by, departs-by}
+use Rattle.mq_core.proofs.Counting.ColumnNumbers.{delayed-numbered}
+use Rattle.mq_core.proofs.Counting.FlowColumns.{delay-outs, delayed-fates, departing-leaves}
+use Rattle.mq_core.proofs.Counting.InTime.{when-delayed}
+use Rattle.mq_core.proofs.Counting.Stays.{stay-fates}
+use Rattle.mq_core.proofs.EachKind.RecurrenceLaws.{RecurrenceLaws}
+use Rattle.mq_core.proofs.ForkJoin.ForkTimes.{at_least-refl}
+
+pub delay-recurrence : (rows : Rows) (demand : Demand) → RecurrenceLaws rows (delay demand)
+delay-recurrence rows demand =
+    record {
+      numbered = λ visits. delayed-numbered rows demand 0 visits;
+      leaves = λ visits. departing-leaves (Delay demand) (λ m. refl) _ visits;
+      fares = λ visits. delayed-fates (Delay demand) (λ m. refl) rows demand 0 visits;
+      goes = λ visits. delay-outs rows demand 0 visits;
+      stands = λ mixed visits rise out. absurd cc;
+      prompt = λ now m l. l;
+      in_time = λ job arrive e. when-delayed (demand_of_job rows demand) job arrive e;
+      stays = λ job arrive e. stay-fates (demand_of_job rows demand) job arrive _ (at_least-refl (delayed arrive (map (demand_of_job rows demand) job)));
+      bounded = λ net jobs arrives limit top sound few told room early.
+          let small = asked-small rows demand jobs (each-weaker _ _ (λ job (t : Tells net rows job). (t.demand demand sound).1) jobs told) in
+          departs-by limit (delayed arrives (asked rows jobs demand)) (delayed-by limit top arrives (asked rows jobs demand) (omega arith) early small);
+    }

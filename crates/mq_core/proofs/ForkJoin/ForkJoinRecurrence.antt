@@ -1,0 +1,35 @@
+-- The laws of the kind's recurrence.
+use Rattle.std.proofs.Common.{List, arith, length, refl}
+use Rattle.std.specs.List.{flat_map}
+use Rattle.mq_core.specs.Kinds.ForkJoin.{fork_join}
+use Rattle.mq_core.specs.PlanLaws.{Tells}
+use Rattle.mq_core.specs.Recurrences.{fork_departs}
+use Rattle.mq_core.specs.Results.{bare_time}
+use Rattle.mq_core.specs.Served.{branch_demands}
+use Rattle.mq_core.specs.declared.model.Demand.{Demand}
+use Rattle.mq_core.specs.declared.model.Kind.TheVariants.{ForkJoin}
+use Rattle.mq_core.specs.declared.model.Rows.{Rows}
+use Rattle.mq_core.proofs.Bounded.BoundedAsked.{all-small, branches-few, branches-small, each-weaker}
+use Rattle.mq_core.proofs.Bounded.BoundedStations.{departs-by, fork-by}
+use Rattle.mq_core.proofs.Counting.ColumnNumbers.{leaving-numbered}
+use Rattle.mq_core.proofs.Counting.FlowColumns.{departing-leaves, leaving-fates, leaving-outs}
+use Rattle.mq_core.proofs.Counting.Stays.{stay-fates, stay-joined}
+use Rattle.mq_core.proofs.EachKind.RecurrenceLaws.{RecurrenceLaws}
+use Rattle.mq_core.proofs.ForkJoin.ForkTimes.{joined-long, when-joined}
+
+pub fork_join-recurrence : (rows : Rows) (branches : List (List Demand)) → RecurrenceLaws rows (fork_join branches)
+fork_join-recurrence rows branches =
+    record {
+      numbered = λ visits. leaving-numbered 0 _ visits (joined-long rows branches visits);
+      leaves = λ visits. departing-leaves (ForkJoin branches) (λ m. refl) _ visits;
+      fares = λ visits. leaving-fates (ForkJoin branches) (λ m. refl) 0 _ visits (joined-long rows branches visits);
+      goes = λ visits. leaving-outs 0 _ visits (joined-long rows branches visits);
+      stands = λ mixed visits rise out. absurd cc;
+      prompt = λ now m l. l;
+      in_time = λ job arrive e. when-joined rows branches job arrive e;
+      stays = λ job arrive e. stay-fates (bare_time rows (ForkJoin branches)) job arrive _ (stay-joined rows branches job arrive e);
+      bounded = λ net jobs arrives limit top sound few told room early.
+          let small = all-small rows jobs (flat_map (λ (ds : List Demand). ds) branches) (each-weaker _ _ (λ job (t : Tells net rows job). (t.kind (ForkJoin branches) sound).small) jobs told) in
+          departs-by limit (fork_departs arrives (branch_demands rows branches jobs))
+          (fork-by limit top (length arrives) arrives (branch_demands rows branches jobs) (omega arith) room (branches-few rows jobs branches few) early (branches-small rows jobs branches small));
+    }

@@ -1,0 +1,46 @@
+-- The laws of the kind's recurrence.
+use Rattle.std.proofs.Common.{Bool, [], ap, arith, cond, eqb, false, length, map, true, ℕ, ◌∙◌, ◌≤◌}
+use Rattle.std.proofs.lemmas.Bool.{and_parts}
+use Rattle.mq_core.specs.ColumnLaws.{arrives_of}
+use Rattle.mq_core.specs.Columns.{out_of_fate, time_of_fate}
+use Rattle.mq_core.specs.Handling.{demand_of_job}
+use Rattle.mq_core.specs.Kinds.Loss.{loss}
+use Rattle.mq_core.specs.PlanLaws.{Tells}
+use Rattle.mq_core.specs.Recurrences.{loss_fates}
+use Rattle.mq_core.specs.Sound.{is_sound_demand, is_within}
+use Rattle.mq_core.specs.declared.model.Demand.{Demand}
+use Rattle.mq_core.specs.declared.model.Fate.TheVariants.{Departs, Lost}
+use Rattle.mq_core.specs.declared.model.Rows.{Rows}
+use Rattle.mq_core.proofs.Bounded.BoundedAsked.{asked, asked-small, each-weaker}
+use Rattle.mq_core.proofs.Bounded.BoundedStations.{loss-by}
+use Rattle.mq_core.proofs.Counting.ColumnNumbers.{faring-numbered, loss-even}
+use Rattle.mq_core.proofs.Counting.FlowColumns.{demands-of, even-fates}
+use Rattle.mq_core.proofs.Counting.InTime.{when-lost}
+use Rattle.mq_core.proofs.Counting.Stays.{stay-admitted}
+use Rattle.mq_core.proofs.EachKind.RecurrenceLaws.{RecurrenceLaws}
+use Rattle.mq_core.proofs.Loss.LossColumns.{faring-fates, faring-leaves, faring-outs, loss-stream}
+
+-- a fate is no later than its emission
+lost-prompt : (out time now : ℕ) → time ≤ now → time_of_fate (cond (eqb out 1) Lost (Departs time)) ≤ now
+lost-prompt out time now l = go (eqb out 1)
+  where
+    go : (b : Bool) → time_of_fate (cond b Lost (Departs time)) ≤ now
+    go true = omega arith
+    go false = l
+
+pub loss-recurrence : (rows : Rows) (places : ℕ) (demand : Demand) → RecurrenceLaws rows (loss places demand)
+loss-recurrence rows places demand =
+    record {
+      numbered = λ visits. faring-numbered 0 _ visits (loss-even places [] (λ x. x.arrive) (λ x. demand_of_job rows demand x.job) visits);
+      leaves = λ visits. faring-leaves places demand 0 _ visits;
+      fares = λ visits. faring-fates places demand 0 _ visits (even-fates rows places demand visits) ∙ ap (loss_fates places [] (arrives_of visits)) (demands-of rows demand visits);
+      goes = λ visits. faring-outs 0 _ visits (even-fates rows places demand visits) ∙ ap (λ d. map out_of_fate (loss_fates places [] (arrives_of visits) d)) (demands-of rows demand visits);
+      stands = λ mixed visits rise out. loss-stream rows places demand visits out rise;
+      prompt = λ now m l. lost-prompt m.out m.time now l;
+      in_time = λ job arrive e. when-lost places (demand_of_job rows demand) [] job arrive e;
+      stays = λ job arrive e. stay-admitted places (demand_of_job rows demand) [] job arrive;
+      bounded = λ net jobs arrives limit top sound few told room early.
+          let s = (and_parts (is_within 1 1048576 places) (is_sound_demand (length net.columns) demand) sound).1 in
+          let small = asked-small rows demand jobs (each-weaker _ _ (λ job (t : Tells net rows job). (t.demand demand s).1) jobs told) in
+          loss-by limit top top places [] arrives (asked rows jobs demand) (omega arith) (omega arith) (omega arith) early small;
+    }

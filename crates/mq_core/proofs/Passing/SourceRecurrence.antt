@@ -1,0 +1,25 @@
+-- The laws of the kind's recurrence.
+use Rattle.std.proofs.Common.{arith, refl}
+use Rattle.mq_core.specs.Kinds.Source.{source}
+use Rattle.mq_core.specs.declared.model.Kind.TheVariants.{Source}
+use Rattle.mq_core.specs.declared.model.Rows.{Rows}
+use Rattle.mq_core.proofs.Bounded.BoundedStations.{by-later, departs-by}
+use Rattle.mq_core.proofs.Counting.ColumnNumbers.{passed-numbered}
+use Rattle.mq_core.proofs.Counting.FlowColumns.{departing-leaves, passed-fates, source-outs}
+use Rattle.mq_core.proofs.Counting.InTime.{at-once}
+use Rattle.mq_core.proofs.Counting.Stays.{stay-fates, stay-none}
+use Rattle.mq_core.proofs.EachKind.RecurrenceLaws.{RecurrenceLaws}
+
+pub source-recurrence : (rows : Rows) → RecurrenceLaws rows source
+source-recurrence rows =
+    record {
+      numbered = λ visits. passed-numbered _ 0 visits;
+      leaves = λ visits. departing-leaves Source (λ m. refl) _ visits;
+      fares = λ visits. passed-fates Source (λ m. refl) _ 0 visits;
+      goes = λ visits. source-outs 0 visits;
+      stands = λ mixed visits rise out. absurd cc;
+      prompt = λ now m l. l;
+      in_time = λ job arrive e. at-once arrive;
+      stays = λ job arrive e. stay-fates (λ _. 0) job arrive arrive (stay-none job arrive e);
+      bounded = λ net jobs arrives limit top sound few told room early. departs-by limit arrives (by-later top limit arrives (omega arith) early);
+    }

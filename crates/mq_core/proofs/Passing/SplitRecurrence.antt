@@ -1,0 +1,26 @@
+-- The laws of the kind's recurrence.
+use Rattle.std.proofs.Common.{arith, refl}
+use Rattle.mq_core.specs.Kinds.Split.{split}
+use Rattle.mq_core.specs.declared.model.Kind.TheVariants.{Split}
+use Rattle.mq_core.specs.declared.model.Route.{Route}
+use Rattle.mq_core.specs.declared.model.Rows.{Rows}
+use Rattle.mq_core.proofs.Bounded.BoundedStations.{by-later, departs-by}
+use Rattle.mq_core.proofs.Counting.ColumnNumbers.{passed-numbered}
+use Rattle.mq_core.proofs.Counting.FlowColumns.{departing-leaves, passed-fates, split-outs}
+use Rattle.mq_core.proofs.Counting.InTime.{at-once}
+use Rattle.mq_core.proofs.Counting.Stays.{stay-fates, stay-none}
+use Rattle.mq_core.proofs.EachKind.RecurrenceLaws.{RecurrenceLaws}
+
+pub split-recurrence : (rows : Rows) (route : Route) → RecurrenceLaws rows (split route)
+split-recurrence rows route =
+    record {
+      numbered = λ visits. passed-numbered _ 0 visits;
+      leaves = λ visits. departing-leaves (Split route) (λ m. refl) _ visits;
+      fares = λ visits. passed-fates (Split route) (λ m. refl) _ 0 visits;
+      goes = λ visits. split-outs rows route 0 visits;
+      stands = λ mixed visits rise out. absurd cc;
+      prompt = λ now m l. l;
+      in_time = λ job arrive e. at-once arrive;
+      stays = λ job arrive e. stay-fates (λ _. 0) job arrive arrive (stay-none job arrive e);
+      bounded = λ net jobs arrives limit top sound few told room early. departs-by limit arrives (by-later top limit arrives (omega arith) early);
+    }

@@ -1,0 +1,32 @@
+-- The laws of the kind's recurrence.
+use Rattle.std.proofs.Common.{arith, refl}
+use Rattle.mq_core.specs.Handling.{demand_of_job}
+use Rattle.mq_core.specs.Kinds.Server.{server}
+use Rattle.mq_core.specs.PlanLaws.{Tells}
+use Rattle.mq_core.specs.Recurrences.{lindley}
+use Rattle.mq_core.specs.declared.model.Demand.{Demand}
+use Rattle.mq_core.specs.declared.model.Kind.TheVariants.{Server}
+use Rattle.mq_core.specs.declared.model.Rows.{Rows}
+use Rattle.mq_core.proofs.Bounded.BoundedAsked.{asked, asked-small, each-weaker}
+use Rattle.mq_core.proofs.Bounded.BoundedStations.{departs-by, lindley-by}
+use Rattle.mq_core.proofs.Counting.ColumnNumbers.{served-numbered}
+use Rattle.mq_core.proofs.Counting.FlowColumns.{departing-leaves, served-fates, server-outs}
+use Rattle.mq_core.proofs.Counting.InTime.{when-served}
+use Rattle.mq_core.proofs.Counting.Stays.{stay-fates, stay-served}
+use Rattle.mq_core.proofs.EachKind.RecurrenceLaws.{RecurrenceLaws}
+
+pub server-recurrence : (rows : Rows) (demand : Demand) → RecurrenceLaws rows (server demand)
+server-recurrence rows demand =
+    record {
+      numbered = λ visits. served-numbered rows demand 0 0 visits;
+      leaves = λ visits. departing-leaves (Server demand) (λ m. refl) _ visits;
+      fares = λ visits. served-fates (Server demand) (λ m. refl) rows demand 0 0 visits;
+      goes = λ visits. server-outs rows demand 0 0 visits;
+      stands = λ mixed visits rise out. absurd cc;
+      prompt = λ now m l. l;
+      in_time = λ job arrive e. when-served 0 (demand_of_job rows demand) job arrive e;
+      stays = λ job arrive e. stay-fates (demand_of_job rows demand) job arrive _ (stay-served 0 (demand_of_job rows demand) job arrive);
+      bounded = λ net jobs arrives limit top sound few told room early.
+          let small = asked-small rows demand jobs (each-weaker _ _ (λ job (t : Tells net rows job). (t.demand demand sound).1) jobs told) in
+          departs-by limit (lindley 0 arrives (asked rows jobs demand)) (lindley-by limit top top 0 arrives (asked rows jobs demand) (omega arith) (omega arith) (omega arith) early small);
+    }

@@ -1,0 +1,54 @@
+-- The laws of the kind's recurrence.
+use Rattle.std.proofs.Common.{List, [], ap, arith, length, map, refl, suc, true, ℕ, ◌*◌, ◌+◌, ◌^◌, ◌∙◌, ◌∷◌, ◌≡◌, ◌≤◌}
+use Rattle.std.proofs.lemmas.List.{length-map}
+use Rattle.std.specs.List.{AllByRecursion as Each}
+use Rattle.mq_core.specs.ColumnLaws.{arrives_of, jobs_of}
+use Rattle.mq_core.specs.Handling.{demand_of_stages}
+use Rattle.mq_core.specs.Kinds.Tandem.{tandem}
+use Rattle.mq_core.specs.Machine.{Visit}
+use Rattle.mq_core.specs.PlanLaws.{Tells}
+use Rattle.mq_core.specs.Served.{tandem_times}
+use Rattle.mq_core.specs.Sound.{are_sound_stages}
+use Rattle.mq_core.specs.declared.model.Fate.TheVariants.{Departs}
+use Rattle.mq_core.specs.declared.model.Kind.TheVariants.{Tandem}
+use Rattle.mq_core.specs.declared.model.Network.{Network}
+use Rattle.mq_core.specs.declared.model.Rows.{Rows}
+use Rattle.mq_core.specs.declared.model.Stage.{Stage}
+use Rattle.mq_core.proofs.Bounded.BoundedAsked.{all-small, asked, each-weaker, none-left, stages-small}
+use Rattle.mq_core.proofs.Bounded.BoundedStations.{AreBy, LeaveBy, by-later, departs-by}
+use Rattle.mq_core.proofs.Bounded.BoundedTandem.{tandem-by}
+use Rattle.mq_core.proofs.Counting.ColumnNumbers.{leaving-numbered}
+use Rattle.mq_core.proofs.Counting.FlowColumns.{departing-leaves, leaving-fates, leaving-outs, tandem-even}
+use Rattle.mq_core.proofs.Counting.Stays.{FatesStay, stay-fates, stay-in_tandem, stay-none}
+use Rattle.mq_core.proofs.EachKind.RecurrenceLaws.{RecurrenceLaws}
+use Rattle.mq_core.proofs.ForkJoin.ForkTimes.{fates-at_least}
+use Rattle.mq_core.proofs.Tandem.TandemColumns.{tandem_times-late, tandem_times-length}
+
+-- a tandem keeps each job for its demands; one with no stage keeps none
+stay-stages : (rows : Rows) (stages : List Stage) (job arrive : List ℕ) → length job ≡ length arrive → FatesStay (demand_of_stages rows stages) job arrive (map (λ time. Departs time) (tandem_times rows stages job arrive))
+stay-stages rows [] job arrive e = stay-fates (λ _. 0) job arrive arrive (stay-none job arrive e)
+stay-stages rows (stage ∷ stages) job arrive e =
+    stay-fates (demand_of_stages rows (stage ∷ stages)) job arrive _ (stay-in_tandem rows stage stages (map (λ _. []) (stage ∷ stages)) job arrive (ap suc (length-map stages _)) e)
+
+stages-by : (net : Network) (rows : Rows) (stages : List Stage) (jobs arrives : List ℕ) (limit top : ℕ) → are_sound_stages (length net.columns) stages ≡ true → length stages ≤ 8 → Each (λ job. Tells net rows job) jobs → top + length arrives * 2 ^ 39 ≤ limit → AreBy top arrives → LeaveBy limit (map (λ time. Departs time) (tandem_times rows stages jobs arrives))
+stages-by net rows [] jobs arrives limit top sound few told room early = departs-by limit arrives (by-later top limit arrives (omega arith) early)
+stages-by net rows (stage ∷ stages) jobs arrives limit top sound few told room early =
+    let all : List Stage = stage ∷ stages in
+    let small = all-small rows jobs (map (λ (s : Stage). s.demand) all) (each-weaker _ _ (λ job (t : Tells net rows job). (t.kind (Tandem all) sound).small) jobs told) in
+    let many = length-map all (λ (s : Stage). s.places) in
+    departs-by limit (tandem_times rows all jobs arrives)
+    (tandem-by limit top top (map (λ (s : Stage). s.places) all) (map (λ _. []) all) arrives (map (λ (s : Stage). asked rows jobs s.demand) all) (omega arith) (omega arith) (omega arith) early (none-left top all) (stages-small rows jobs all small))
+
+pub tandem-recurrence : (rows : Rows) (stages : List Stage) → RecurrenceLaws rows (tandem stages)
+tandem-recurrence rows stages =
+    record {
+      numbered = λ visits. leaving-numbered 0 _ visits (tandem_times-length rows stages (jobs_of visits) (arrives_of visits) ∙ length-map visits (λ (x : Visit). x.arrive));
+      leaves = λ visits. departing-leaves (Tandem stages) (λ m. refl) _ visits;
+      fares = λ visits. leaving-fates (Tandem stages) (λ m. refl) 0 _ visits (tandem-even rows stages visits);
+      goes = λ visits. leaving-outs 0 _ visits (tandem-even rows stages visits);
+      stands = λ mixed visits rise out. absurd cc;
+      prompt = λ now m l. l;
+      in_time = λ job arrive e. fates-at_least arrive (tandem_times rows stages job arrive) (tandem_times-late rows stages job arrive);
+      stays = λ job arrive e. stay-stages rows stages job arrive e;
+      bounded = λ net jobs arrives limit top sound few told room early. stages-by net rows stages jobs arrives limit top sound few told room early;
+    }
