@@ -2,3 +2,4 @@ pub mod Delays
 pub mod DelayNumbers
 pub mod DelayLaws
 pub mod DelayRecurrence
+pub mod DelayLimits

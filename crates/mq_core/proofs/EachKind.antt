@@ -1,6 +1,8 @@
 pub mod KindLaws
+pub mod LimitLaws
 pub mod RecurrenceLaws
 pub mod LawTable
+pub mod Sources
 pub mod Shapes
 pub mod Facts
 pub mod Flows

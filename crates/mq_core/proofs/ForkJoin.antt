@@ -11,3 +11,5 @@ pub mod JoinEnds
 pub mod JoinServices
 pub mod ForkJoinLaws
 pub mod ForkJoinRecurrence
+pub mod ForkShapes
+pub mod ForkJoinLimits

@@ -6,3 +6,4 @@ pub mod LossPeak
 pub mod LossColumns
 pub mod LossLaws
 pub mod LossRecurrence
+pub mod LossLimits

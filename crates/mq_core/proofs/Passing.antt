@@ -4,3 +4,5 @@ pub mod SourceLaws
 pub mod SplitLaws
 pub mod SourceRecurrence
 pub mod SplitRecurrence
+pub mod SourceLimits
+pub mod SplitLimits

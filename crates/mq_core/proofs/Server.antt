@@ -5,3 +5,4 @@ pub mod ServerBusy
 pub mod ServerLoads
 pub mod ServerLaws
 pub mod ServerRecurrence
+pub mod ServerLimits

@@ -10,3 +10,4 @@ pub mod TandemLoad
 pub mod TandemBusy
 pub mod TandemLaws
 pub mod TandemRecurrence
+pub mod TandemLimits

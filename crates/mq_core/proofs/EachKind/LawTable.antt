@@ -4,19 +4,27 @@ use Rattle.mq_core.specs.declared.model.Kind.{Kind}
 use Rattle.mq_core.specs.declared.model.Kind.TheVariants.{Source, Server, Delay, Loss, Tandem, ForkJoin, Split}
 use Rattle.mq_core.specs.declared.model.Rows.{Rows}
 use Rattle.mq_core.proofs.EachKind.KindLaws.{Inside, KindLaws}
+use Rattle.mq_core.proofs.EachKind.LimitLaws.{LimitLaws}
 use Rattle.mq_core.proofs.EachKind.RecurrenceLaws.{RecurrenceLaws}
+use Rattle.mq_core.proofs.Passing.SourceLimits.{source-limits}
 use Rattle.mq_core.proofs.Passing.SourceRecurrence.{source-recurrence}
 use Rattle.mq_core.proofs.Passing.SourceLaws.{source-inside, source-laws}
+use Rattle.mq_core.proofs.Passing.SplitLimits.{split-limits}
 use Rattle.mq_core.proofs.Passing.SplitRecurrence.{split-recurrence}
 use Rattle.mq_core.proofs.Passing.SplitLaws.{split-inside, split-laws}
+use Rattle.mq_core.proofs.Server.ServerLimits.{server-limits}
 use Rattle.mq_core.proofs.Server.ServerRecurrence.{server-recurrence}
 use Rattle.mq_core.proofs.Server.ServerLaws.{server-inside, server-laws}
+use Rattle.mq_core.proofs.Delay.DelayLimits.{delay-limits}
 use Rattle.mq_core.proofs.Delay.DelayRecurrence.{delay-recurrence}
 use Rattle.mq_core.proofs.Delay.DelayLaws.{delay-inside, delay-laws}
+use Rattle.mq_core.proofs.Loss.LossLimits.{loss-limits}
 use Rattle.mq_core.proofs.Loss.LossRecurrence.{loss-recurrence}
 use Rattle.mq_core.proofs.Loss.LossLaws.{loss-inside, loss-laws}
+use Rattle.mq_core.proofs.Tandem.TandemLimits.{tandem-limits}
 use Rattle.mq_core.proofs.Tandem.TandemRecurrence.{tandem-recurrence}
 use Rattle.mq_core.proofs.Tandem.TandemLaws.{tandem-inside, tandem-laws}
+use Rattle.mq_core.proofs.ForkJoin.ForkJoinLimits.{fork_join-limits}
 use Rattle.mq_core.proofs.ForkJoin.ForkJoinRecurrence.{fork_join-recurrence}
 use Rattle.mq_core.proofs.ForkJoin.ForkJoinLaws.{fork_join-inside, fork_join-laws}
 
@@ -47,3 +55,12 @@ recurrence_of rows (Loss places demand) = loss-recurrence rows places demand
 recurrence_of rows (Tandem stages) = tandem-recurrence rows stages
 recurrence_of rows (ForkJoin branches) = fork_join-recurrence rows branches
 recurrence_of rows (Split route) = split-recurrence rows route
+
+pub limits_of : (kind : Kind) → LimitLaws (behaviour_of kind)
+limits_of Source = source-limits
+limits_of (Server demand) = server-limits demand
+limits_of (Delay demand) = delay-limits demand
+limits_of (Loss places demand) = loss-limits places demand
+limits_of (Tandem stages) = tandem-limits stages
+limits_of (ForkJoin branches) = fork_join-limits branches
+limits_of (Split route) = split-limits route

@@ -1,33 +1,21 @@
-use Rattle.std.proofs.Common.{◌≡◌, ℕ, zero, suc, ◌+◌, ◌<◌, ◌≤◌, ◌^◌, Bool, true, false, cond, List, [], ◌∷◌, ◌++◌, length, take, Option, Some, None, sym, refl, ◌∙◌, subst, arith, add-zero, zero-add, append_assoc}
+use Rattle.std.proofs.Common.{Bool, List, None, Option, Some, [], add-zero, append_assoc, arith, cond, false, length, refl, subst, suc, sym, take, true, zero, zero-add, ℕ, ◌++◌, ◌+◌, ◌<◌, ◌∙◌, ◌∷◌, ◌≡◌}
 use Rattle.std.proofs.lemmas.Bool.{and_parts}
 use Rattle.std.proofs.lemmas.Bool.Decides.{nat_tests}
-use Rattle.std.proofs.lemmas.List.{append-nil, length-map}
-use Rattle.std.proofs.lemmas.Option.{slice_get-get_or}
-use Rattle.std.specs.Prelude.{◌&&◌, not, nat_lt, nat_le, slice_get, slice_index}
+use Rattle.std.proofs.lemmas.List.{append-nil}
+use Rattle.std.specs.List.{list_all}
 use Rattle.std.specs.Option.{option_to_list}
-use Rattle.std.specs.List.{AllByRecursion as Each, list_all, flat_map}
-use Rattle.mq_base.proofs.Lists.{some_inj}
-use Rattle.mq_core.specs.Asked.{HasValue, HasDemand, HasDemands}
+use Rattle.std.specs.Prelude.{nat_lt, not, slice_get, ◌&&◌}
 use Rattle.mq_core.specs.Names.{is_name}
-use Rattle.mq_core.specs.PlanLaws.{NamesOutput, NodesAreInLimits, IsRankedBehind, OrdersRank, RowsTellDemands}
-use Rattle.mq_core.specs.Results.{servers_in}
-use Rattle.mq_core.specs.Sound.{is_output, is_sound_count, is_sound_demand, is_sound_kind, is_within, outputs_in, rises}
-use Rattle.mq_core.specs.Handling.{demand_of_job, value_of, column_value}
-use Rattle.mq_core.specs.Theorems.{IsReadFor}
+use Rattle.mq_core.specs.PlanLaws.{IsRankedBehind, NamesOutput, NodesAreInLimits, OrdersRank, RowsTellDemands}
+use Rattle.mq_core.specs.Sound.{is_output, is_sound_count, outputs_in}
 use Rattle.mq_core.specs.Wiring.{first_ready, has, inputs_of, ranked_after}
-use Rattle.mq_core.specs.declared.model.Demand.{Demand}
-use Rattle.mq_core.specs.declared.model.Demand.TheVariants.{Column, Fixed}
 use Rattle.mq_core.specs.declared.model.Input.{Input}
-use Rattle.mq_core.specs.declared.model.Kind.{Kind}
-use Rattle.mq_core.specs.declared.model.Kind.TheVariants.{Source, Server, Delay, Loss, Tandem, ForkJoin, Split}
 use Rattle.mq_core.specs.declared.model.Network.{Network}
 use Rattle.mq_core.specs.declared.model.Node.{Node}
-use Rattle.mq_core.specs.declared.model.Route.TheVariants.{Modulo, Turn, Cut}
-use Rattle.mq_core.specs.declared.model.Rows.{Rows}
-use Rattle.mq_core.specs.declared.model.Stage.{Stage}
-use Rattle.mq_core.proofs.Lists.Each.{Each-weaker, Each-append, Each-map}
-use Rattle.mq_core.proofs.Networks.Soundness.{sound-node, sound-stages, sound-stages_demands}
-use Rattle.mq_core.proofs.EachKind.Shapes.{all-servers, branches-shaped}
+use Rattle.mq_base.proofs.Lists.{some_inj}
+use Rattle.mq_core.proofs.EachKind.LawTable.{limits_of}
+use Rattle.mq_core.proofs.Networks.Soundness.{sound-node}
+use Rattle.mq_core.proofs.Networks.Told.{tells-demand, tells-value}
 use Rattle.mq_core.proofs.Networks.Wired.{all-inputs}
 
 -- each item has this with those before it
@@ -103,44 +91,6 @@ orders-rank plan rank v e =
     before-at (IsRankedBehind plan.net.nodes) [] plan.order rank v
     (subst (Before (IsRankedBehind plan.net.nodes) []) (sym plan.ranked) (ranked_after-before (length plan.net.nodes) plan.net.nodes [] tt)) e
 
--- a number between two limits
-within-most : (low high n : ℕ) → is_within low high n ≡ true → n ≤ high
-within-most low high n h = let e = (and_parts (nat_le low n) (nat_le n high) h).1 in grind (arith, nat_tests)
-
-kind-outputs : (columns : ℕ) (kind : Kind) → is_sound_kind columns kind ≡ true → outputs_in kind ≤ 8
-kind-outputs columns Source h = omega arith
-kind-outputs columns (Server demand) h = omega arith
-kind-outputs columns (Delay demand) h = omega arith
-kind-outputs columns (Loss places demand) h = omega arith
-kind-outputs columns (Tandem stages) h = omega arith
-kind-outputs columns (ForkJoin branches) h = omega arith
-kind-outputs columns (Split (Modulo outputs column)) h = within-most 2 8 outputs (and_parts (is_within 2 8 outputs) (nat_lt column columns) h).0
-kind-outputs columns (Split (Turn outputs)) h = within-most 2 8 outputs h
-kind-outputs columns (Split (Cut column thresholds)) h =
-    let a = and_parts _ (list_all (λ threshold. nat_le threshold (2 ^ 36)) thresholds) h in
-    let b = and_parts _ (rises thresholds) a.0 in
-    let c = and_parts _ (is_within 1 7 (length thresholds)) b.0 in
-    let l = within-most 1 7 (length thresholds) c.1 in
-    omega arith
-
-kind-servers : (columns : ℕ) (kind : Kind) → is_sound_kind columns kind ≡ true → servers_in kind ≤ 8
-kind-servers columns Source h = omega arith
-kind-servers columns (Server demand) h = omega arith
-kind-servers columns (Delay demand) h = omega arith
-kind-servers columns (Loss places demand) h = omega arith
-kind-servers columns (Tandem stages) h = (sound-stages columns stages h).few
-kind-servers columns (ForkJoin branches) h = let l = (branches-shaped columns branches h).few in let e = all-servers branches in omega arith
-kind-servers columns (Split route) h = omega arith
-
-count-ports : (kind : Kind) (inputs : ℕ) → is_sound_count kind inputs ≡ true → inputs ≤ 8
-count-ports Source inputs h = grind (arith, nat_tests)
-count-ports (Server demand) inputs h = within-most 1 8 inputs h
-count-ports (Delay demand) inputs h = within-most 1 8 inputs h
-count-ports (Loss places demand) inputs h = within-most 1 8 inputs h
-count-ports (Tandem stages) inputs h = within-most 1 8 inputs h
-count-ports (ForkJoin branches) inputs h = within-most 1 8 inputs h
-count-ports (Split route) inputs h = within-most 1 8 inputs h
-
 -- what all inputs have, one has
 input-at : (net : Network) (is : List Input) → list_all (λ (i : Input). is_output (slice_get net.nodes i.node) i.out) is ≡ true → (port : ℕ) (input : Input) → slice_get is port ≡ Some input → NamesOutput net input
 input-at net [] h port input e = absurd cc
@@ -159,80 +109,16 @@ nodes-are-in-limits plan v node e =
     let c = and_parts _ (is_sound_count node.kind (length node.inputs)) b.0 in
     record {
       kind = c.0;
-      outputs = kind-outputs (length plan.net.columns) node.kind c.0;
-      servers = kind-servers (length plan.net.columns) node.kind c.0;
-      ports = count-ports node.kind (length node.inputs) c.1;
+      outputs = (limits_of node.kind).outputs (length plan.net.columns) c.0;
+      servers = (limits_of node.kind).servers (length plan.net.columns) c.0;
+      ports = (limits_of node.kind).ports (length node.inputs) c.1;
       reads = input-at plan.net node.inputs b.1;
     }
-
--- a column that is read has a value for each job, in its limit
-tells-value : (net : Network) (rows : Rows) → IsReadFor net rows → (job : ℕ) → job < length rows.source → (column : ℕ) → column < length net.columns → HasValue rows column job × (value_of rows column job ≤ 2 ^ 36)
-tells-value net rows read job below column inside = (
-  record {
-    inside = subst (λ n. column < n) (sym read.demands) inside;
-    reaches = reach;
-  },
-  go (slice_get rows.demands column) refl,
-)
-  where
-    reach : (values : List ℕ) → slice_get rows.demands column ≡ Some values → job < length values
-    reach values e = subst (λ n. job < n) (sym (read.columns column values e)) below
-
-    go : (o : Option (List ℕ)) → slice_get rows.demands column ≡ o → column_value o job ≤ 2 ^ 36
-    go None e = omega arith
-    go (Some values) e = read.small column values job (slice_index values job) e (slice_get-get_or values job 0 (reach values e))
-
-tells-demand : (net : Network) (rows : Rows) → IsReadFor net rows → (job : ℕ) → job < length rows.source → (demand : Demand) → is_sound_demand (length net.columns) demand ≡ true → HasDemand rows demand job × (demand_of_job rows demand job ≤ 2 ^ 36)
-tells-demand net rows read job below (Column column) h =
-    tells-value net rows read job below column (let t : nat_lt column (length net.columns) ≡ true = h in grind (arith, nat_tests))
-tells-demand net rows read job below (Fixed demand) h = (tt, let t : nat_le demand (2 ^ 36) ≡ true = h in grind (arith, nat_tests))
-
-tells-stages : (net : Network) (rows : Rows) → IsReadFor net rows → (job : ℕ) → job < length rows.source → (stages : List Stage) → Each (λ (stage : Stage). is_sound_demand (length net.columns) stage.demand ≡ true) stages →
-    Each (λ (stage : Stage). HasDemand rows stage.demand job × (demand_of_job rows stage.demand job ≤ 2 ^ 36)) stages
-tells-stages net rows read job below stages h = Each-weaker _ _ (λ (stage : Stage) k. tells-demand net rows read job below stage.demand k) stages h
-
--- the demands of all branches, one after another
-tells-demands : (net : Network) (rows : Rows) → IsReadFor net rows → (job : ℕ) → job < length rows.source → (demands : List Demand) → list_all (is_sound_demand (length net.columns)) demands ≡ true → Each (λ demand. HasDemand rows demand job × (demand_of_job rows demand job ≤ 2 ^ 36)) demands
-tells-demands net rows read job below [] h = tt
-tells-demands net rows read job below (d ∷ ds) h =
-    let a = and_parts (is_sound_demand (length net.columns) d) (list_all (is_sound_demand (length net.columns)) ds) h in
-    (tells-demand net rows read job below d a.0, tells-demands net rows read job below ds a.1)
-
-tells-branches : (net : Network) (rows : Rows) → IsReadFor net rows → (job : ℕ) → job < length rows.source → (branches : List (List Demand)) → list_all (λ demands. is_within 1 4 (length demands) && list_all (is_sound_demand (length net.columns)) demands) branches ≡ true →
-    Each (λ demand. HasDemand rows demand job × (demand_of_job rows demand job ≤ 2 ^ 36)) (flat_map (λ demands. demands) branches)
-tells-branches net rows read job below [] h = tt
-tells-branches net rows read job below (demands ∷ more) h =
-    let a = and_parts (is_within 1 4 (length demands) && list_all (is_sound_demand (length net.columns)) demands) _ h in
-    let b = and_parts (is_within 1 4 (length demands)) (list_all (is_sound_demand (length net.columns)) demands) a.0 in
-    Each-append _ demands (flat_map (λ ds. ds) more) (tells-demands net rows read job below demands b.1) (tells-branches net rows read job below more a.1)
-
-tells-kind : (net : Network) (rows : Rows) → IsReadFor net rows → (job : ℕ) → job < length rows.source → (kind : Kind) → is_sound_kind (length net.columns) kind ≡ true → HasDemands rows kind job
-tells-kind net rows read job below Source h = tt
-tells-kind net rows read job below (Server demand) h = (tells-demand net rows read job below demand h).0
-tells-kind net rows read job below (Delay demand) h = (tells-demand net rows read job below demand h).0
-tells-kind net rows read job below (Loss places demand) h = (tells-demand net rows read job below demand (and_parts (is_within 1 1048576 places) (is_sound_demand (length net.columns) demand) h).1).0
-tells-kind net rows read job below (Tandem stages) h =
-    let told = tells-stages net rows read job below stages (sound-stages_demands (length net.columns) stages h) in
-    record {
-      few = let l = (sound-stages (length net.columns) stages h).few in let m = length-map stages (λ (stage : Stage). stage.demand) in omega arith;
-      each = Each-map _ _ (λ (stage : Stage). stage.demand) (λ stage k. k.0) stages told;
-      small = Each-map _ _ (λ (stage : Stage). stage.demand) (λ stage k. k.1) stages told;
-    }
-tells-kind net rows read job below (ForkJoin branches) h =
-    let a = and_parts _ (nat_le (length (flat_map (λ demands. demands) branches)) 8) h in
-    let b = and_parts (is_within 2 8 (length branches)) _ a.0 in
-    let all = tells-branches net rows read job below branches b.1 in
-    record {
-      few = (let l = (branches-shaped (length net.columns) branches h).few in let e = all-servers branches in omega arith);
-      each = Each-weaker _ _ (λ demand k. k.0) _ all;
-      small = Each-weaker _ _ (λ demand k. k.1) _ all;
-    }
-tells-kind net rows read job below (Split route) h = tt
 
 pub rows-tell-demands : RowsTellDemands
 rows-tell-demands net rows read job below =
     record {
       value = tells-value net rows read job below;
       demand = tells-demand net rows read job below;
-      kind = tells-kind net rows read job below;
+      kind = λ kind h. (limits_of kind).told net rows read job below h;
     }

@@ -9,7 +9,6 @@ use Rattle.mq_core.specs.declared.model.Kind.TheVariants.{ForkJoin}
 use Rattle.mq_core.specs.declared.model.Rows.{Rows}
 use Rattle.mq_core.proofs.Counting.Services.{none-asks, services-by, services-count}
 use Rattle.mq_core.proofs.EachKind.KindLaws.{Inside, KindLaws}
-use Rattle.mq_core.proofs.EachKind.Shapes.{branches-shaped}
 use Rattle.mq_core.proofs.Events.Remaining.{remaining}
 use Rattle.mq_core.proofs.ForkJoin.JoinBusy.{branches_begun, joining-busy_arrives, joining-busy_ends, joining-busy_opens, joining-busy_waits}
 use Rattle.mq_core.proofs.ForkJoin.JoinEnds.{joining-done}
@@ -17,6 +16,7 @@ use Rattle.mq_core.proofs.ForkJoin.JoinLoads.{fork_load, fork_load-opening, join
 use Rattle.mq_core.proofs.ForkJoin.JoinServices.{joining-busy_done}
 use Rattle.mq_core.proofs.ForkJoin.JoinTallies.{joining-earlier, joining-more, joining-number}
 use Rattle.mq_core.proofs.ForkJoin.Joins.{Joining, joining-arrives, joining-ends, joining-opens, joining-waits}
+use Rattle.mq_core.proofs.ForkJoin.ForkShapes.{branches-shaped}
 
 -- what holds of it between two events
 abbrev pub fork_join-inside : Rows → List (List Demand) → Inside

@@ -15,7 +15,7 @@ use Rattle.mq_core.specs.declared.model.Network.{Network}
 use Rattle.mq_core.specs.declared.model.Node.{Node}
 use Rattle.mq_core.specs.declared.model.Stage.{Stage}
 
-abbrev pair_of : Input → ℕ × ℕ
+abbrev pub pair_of : Input → ℕ × ℕ
 pair_of i = (i.node, i.out)
 
 -- the inputs of all nodes, one after another
@@ -127,32 +127,6 @@ node-at columns all (n ∷ nodes) (suc v) node h e = node-at columns all nodes v
 -- each node of a sound network is sound
 pub sound-node : (net : Network) → IsTrue (is_sound net) → (v : ℕ) (node : Node) → slice_get net.nodes v ≡ Some node → IsTrue (is_sound_node (length net.columns) net.nodes node)
 sound-node net sound v node e = node-at (length net.columns) net.nodes net.nodes v node (parts net sound).each e
-
-none-read : (is : List Input) → (length is == 0) ≡ true → map pair_of is ≡ []
-none-read [] h = refl
-none-read (i ∷ is) h = let e = eqb-true (length (i ∷ is)) 0 h in absurd (omega arith)
-
--- in a sound network a source reads nothing
-pub sound-sources : (net : Network) → IsTrue (is_sound net) → SourcesReadNothing net.nodes
-sound-sources net sound v h = go (slice_get net.nodes v) refl h
-  where
-    source-reads : (kind : Kind) (is : List Input) → is_source_kind kind ≡ true → is_sound_count kind (length is) ≡ true → map pair_of is ≡ []
-    source-reads Source is s h = none-read is h
-    source-reads (Server demand) is s h = absurd cc
-    source-reads (Delay demand) is s h = absurd cc
-    source-reads (Loss places demand) is s h = absurd cc
-    source-reads (Tandem stages) is s h = absurd cc
-    source-reads (ForkJoin branches) is s h = absurd cc
-    source-reads (Split route) is s h = absurd cc
-
-    go : (o : Option Node) → slice_get net.nodes v ≡ o → is_source o ≡ true → outputs_read o ≡ []
-    go None e s = absurd cc
-    go (Some node) e s =
-        let whole = sound-node net sound v node e in
-        let a = and_parts _ (is_name node.name) whole in
-        let b = and_parts _ (list_all (λ (i : Input). is_output (slice_get net.nodes i.node) i.out) node.inputs) a.0 in
-        let c = and_parts _ (is_sound_count node.kind (length node.inputs)) b.0 in
-        source-reads node.kind node.inputs s c.1
 
 -- each stage after the first has a place
 abbrev pub LaterPlaces : List Stage → Type 0

@@ -10,10 +10,11 @@ use Rattle.mq_core.specs.Theorems.{arrivals_at, IsReadFor, RunsAlone}
 use Rattle.mq_core.specs.declared.model.Plan.{Plan}
 use Rattle.mq_core.specs.declared.model.Rows.{Rows}
 use Rattle.mq_core.proofs.Lists.Each.{filter-none}
-use Rattle.mq_core.proofs.Networks.Soundness.{sound-read_once, sound-sources}
+use Rattle.mq_core.proofs.Networks.Soundness.{sound-read_once}
 use Rattle.mq_core.proofs.Networks.Wired.{feeds_forward, wired}
 use Rattle.mq_core.proofs.Events.Second.{handled-arrivals, ports-from_zero}
 use Rattle.mq_core.proofs.Events.Third.{same-alone, alone-done}
+use Rattle.mq_core.proofs.EachKind.Sources.{sound-sources}
 
 starts-port : (job : ℕ) (sources times : List ℕ) → Each (λ e. port_of e ≡ 0) (starts_from job sources times)
 starts-port job [] times = tt

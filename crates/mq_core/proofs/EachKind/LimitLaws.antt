@@ -1,0 +1,18 @@
+-- What the ranges of a kind give.
+use Rattle.std.proofs.Common.{◌≡◌, ℕ, ◌<◌, ◌≤◌, true, length}
+use Rattle.mq_core.specs.Behaviour.{Behaviour}
+use Rattle.mq_core.specs.Theorems.{IsReadFor}
+use Rattle.mq_core.specs.declared.model.Network.{Network}
+use Rattle.mq_core.specs.declared.model.Rows.{Rows}
+
+pub record LimitLaws (b : Behaviour) : Type 0 where
+  -- at most 8 outputs
+  pub outputs : (columns : ℕ) → b.sound columns ≡ true → b.outputs ≤ 8
+  -- at most 8 servers
+  pub servers : (columns : ℕ) → b.sound columns ≡ true → b.servers ≤ 8
+  -- at most 8 ports
+  pub ports : (inputs : ℕ) → b.ports inputs ≡ true → inputs ≤ 8
+  -- where jobs start nothing is read
+  pub reads : (inputs : ℕ) → b.starts ≡ true → b.ports inputs ≡ true → inputs ≡ 0
+  -- rows that are read tell what a job asks for
+  pub told : (net : Network) (rows : Rows) → IsReadFor net rows → (job : ℕ) → job < length rows.source → b.sound (length net.columns) ≡ true → b.asked rows job

@@ -1,0 +1,18 @@
+-- What the ranges of the kind give.
+use Rattle.std.proofs.Common.{arith, length, ℕ}
+use Rattle.std.proofs.lemmas.Bool.{and_parts}
+use Rattle.mq_core.specs.Kinds.Loss.{loss}
+use Rattle.mq_core.specs.Sound.{is_sound_demand, is_within}
+use Rattle.mq_core.specs.declared.model.Demand.{Demand}
+use Rattle.mq_core.proofs.EachKind.LimitLaws.{LimitLaws}
+use Rattle.mq_core.proofs.Networks.Told.{tells-demand, within-most}
+
+pub loss-limits : (places : ℕ) (demand : Demand) → LimitLaws (loss places demand)
+loss-limits places demand =
+    record {
+      outputs = λ columns h. omega arith;
+      servers = λ columns h. omega arith;
+      ports = λ inputs h. within-most 1 8 inputs h;
+      reads = λ inputs starts h. absurd cc;
+      told = λ net rows read job below h. (tells-demand net rows read job below demand (and_parts (is_within 1 1048576 places) (is_sound_demand (length net.columns) demand) h).1).0;
+    }
