@@ -34,17 +34,17 @@ delay-laws rows demand =
       number = λ v s fs now h. delaying-number rows demand v s.visits s.local.scheduled s.emitted fs now h;
       empty = λ v s now h. ap length (delaying-done rows demand v s.visits _ s.emitted _ h).0;
       own = λ v port s now x q m e. absurd cc;
-      earlier = λ rank v server position s fs rest now first h q p m e l u. 
+      earlier = λ rank v server position s fs rest now first h q p m e l u.
           let place : q ≡ position = one-release now 0 position q s.visits m e in
           delaying-earlier rows demand v rank server position s.visits s.local.scheduled s.emitted fs rest now first h p (omega arith) u;
       shows = λ rank v server position s fs rest now first h. inl (_, [], delaying-emits rows demand v rank server position s.visits s.local.scheduled s.emitted fs rest now first h);
       weightless = λ onward. omega arith;
-      adds = λ onward v port job s visits fs now f. 
+      adds = λ onward v port job s visits fs now f.
           let a : length (s.local.scheduled ++ latest visits ∷ []) ≡ suc (length s.local.scheduled) = omega (arith, length-append s.local.scheduled (latest visits ∷ [])) in
           let b = ap (λ n. n * (onward + 1)) a in
           let c = suc-mul (length s.local.scheduled) (onward + 1) in
           omega arith;
-      takes = λ onward rank v server position s fs rest now first f. 
+      takes = λ onward rank v server position s fs rest now first f.
           let less = delaying-fewer rows demand v rank server position s.visits s.local.scheduled s.emitted fs rest now first f in
           let was = ap (λ n. n * (onward + 1)) less in
           let one = suc-mul (length (filter (λ p. not (eqb p position)) s.local.scheduled)) (onward + 1) in
@@ -54,12 +54,12 @@ delay-laws rows demand =
       works = λ v area s fs now later l f h b. delaying-busy_waits rows demand v s.visits s.local.scheduled s.emitted fs now later s.busy l f h b;
       busy_arrives = λ peak v port s fs now x at soon h b. delaying-busy_arrives rows demand v s.visits fs now s.busy x b;
       busy_ends = λ peak rank v server position s fs rest now first h b. delaying-busy_ends rows demand v rank server position s.visits fs rest now s.busy first b;
-      served = λ v s now h k. 
+      served = λ v s now h k.
           let each = services-by rows (Delay demand) s.visits (demand_of_visit rows demand) refl (λ x. refl) in
           let all = services-count rows (Delay demand) s.visits s.emitted (λ m. refl) in
           omega arith;
       enters = λ v port s fs now x at f. let a = length-append s.local.scheduled (latest (s.visits ++ x ∷ []) ∷ []) in omega arith;
-      leaves = λ rank v server position s fs rest now first h. 
+      leaves = λ rank v server position s fs rest now first h.
           let less = delaying-fewer rows demand v rank server position s.visits s.local.scheduled s.emitted fs rest now first h in
           let out = emission-one now 0 position (slice_get s.visits position) in
           omega arith;

@@ -47,7 +47,7 @@ fork_join-laws rows branches =
       works = λ v area s fs now later l f h b. joining-busy_waits rows branches v s.visits s.local.branches s.emitted fs now later s.busy l f h b;
       busy_arrives = λ peak v port s fs now x at soon h b. joining-busy_arrives rows branches v port s.local s.visits fs now s.busy x b;
       busy_ends = λ peak rank v server position s fs rest now first h b. joining-busy_ends rows branches v rank server position s.local s.visits s.emitted fs rest now s.busy first h b;
-      served = λ v s now h k. 
+      served = λ v s now h k.
           let all = services-count rows (ForkJoin branches) s.visits s.emitted (λ m. refl) in
           joining-busy_done rows branches v s.visits s.local.branches s.emitted _ _ h k
           ∙ (services-by rows (ForkJoin branches) s.visits (λ o. sum_by (λ demand. demand_of_visit rows demand o) (flat_map (λ demands. demands) branches)) (none-asks rows (flat_map (λ demands. demands) branches)) (λ x. refl) ∙ all);

@@ -31,7 +31,7 @@ loss-inside rows places demand =
 pub loss-laws : (rows : Rows) (places : ℕ) (demand : Demand) → KindLaws rows (loss places demand) (loss-inside rows places demand)
 loss-laws rows places demand =
     record {
-      opens = λ columns v sound. 
+      opens = λ columns v sound.
           let shape : 1 ≤ places =
           let a = and_parts (is_within 1 1048576 places) (is_sound_demand columns demand) sound in
           let b : nat_le 1 places ≡ true = (and_parts (nat_le 1 places) (nat_le places 1048576) a.0).0 in
@@ -54,7 +54,7 @@ loss-laws rows places demand =
       works = λ v area s fs now later l f h b. losing-busy_waits rows places demand v s.visits s.local.queue s.emitted fs now later s.busy l f h.1 b;
       busy_arrives = λ peak v port s fs now x at soon h b. losing-busy_arrives rows places demand v port s.local s.visits s.emitted fs now s.busy x at soon h.1 b;
       busy_ends = λ peak rank v server position s fs rest now first h b. losing-busy_ends rows places demand v s.local rank server position s.visits s.local.queue s.emitted fs rest now s.busy first h.1 b;
-      served = λ v s now h k. 
+      served = λ v s now h k.
           let visits = s.visits in
           let emitted = s.emitted in
           let done = losing-done rows places demand v visits _ emitted _ h.1 in

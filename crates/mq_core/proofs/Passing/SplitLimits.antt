@@ -8,7 +8,6 @@ use Rattle.mq_core.specs.Sound.{is_sound_route, is_within, outputs_by, rises}
 use Rattle.mq_core.specs.declared.model.Route.{Route}
 use Rattle.mq_core.specs.declared.model.Route.TheVariants.{Cut, Modulo, Turn}
 use Rattle.mq_core.proofs.EachKind.LimitLaws.{LimitLaws}
-
 use Rattle.mq_core.proofs.Networks.Told.{within-most}
 
 -- a route chooses from at most 8

@@ -45,7 +45,7 @@ server-laws rows demand =
       works = λ v area s fs now later l f h b. busy-waits rows demand v s.visits s.local.queue s.emitted fs now later s.busy l f h b;
       busy_arrives = λ peak v port s fs now x at soon h b. busy-arrives rows demand v s.local s.visits s.local.queue s.emitted fs now s.busy x h b;
       busy_ends = λ peak rank v server position s fs rest now first h b. busy-ends rows demand v s.local rank server position s.visits s.local.queue s.emitted fs rest now s.busy first h b;
-      served = λ v s now h k. 
+      served = λ v s now h k.
           let d = (serving-done rows demand v s.visits _ s.emitted _ h).0 in
           let e = ap (λ q. sum_below (length s.visits - (length q - 1)) (λ p. demand_at rows demand s.visits p)) d in
           let n : length s.visits - (0 - 1) ≡ length s.visits = omega arith in
@@ -53,7 +53,7 @@ server-laws rows demand =
           let each = services-by rows (Server demand) s.visits (demand_of_visit rows demand) refl (λ x. refl) in
           let all = services-count rows (Server demand) s.visits s.emitted (λ m. refl) in
           omega arith;
-      enters = λ v port s fs now x at f. 
+      enters = λ v port s fs now x at f.
           let a = joins-length rows demand (s.visits ++ x ∷ []) s.local now s.local.queue (latest (s.visits ++ x ∷ [])) in
           let b = ap length (joins-emits rows demand (s.visits ++ x ∷ []) s.local now s.local.queue (latest (s.visits ++ x ∷ []))) in
           omega arith;

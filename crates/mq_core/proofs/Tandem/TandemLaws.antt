@@ -43,7 +43,7 @@ tandem-laws rows stages =
       works = λ v area s fs now later l f h b. tandeming-busy_waits rows stages v s.visits s.local.lines s.emitted fs now later s.busy l f h b;
       busy_arrives = λ peak v port s fs now x at soon h b. tandeming-busy_arrives rows stages v s.local s.visits s.local.lines s.emitted fs now s.busy x h b;
       busy_ends = λ peak rank v server position s fs rest now first h b. tandeming-busy_ends rows rank stages v server position s.visits s.local.lines s.emitted fs rest now s.busy first h b;
-      served = λ v s now h k. 
+      served = λ v s now h k.
           let all = services-count rows (Tandem stages) s.visits s.emitted (λ m. refl) in
           let served = tandeming-served rows stages v s.visits _ s.emitted _ h in
           omega arith;
