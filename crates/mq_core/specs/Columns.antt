@@ -1,7 +1,6 @@
 -- A run in columns: what the code keeps of it, one item a visit, by position.
 use Rattle.std.specs.List.{zip}
 use Rattle.std.specs.Prelude.{All, Bool, List, Some, [], count_by, false, fold, if◌then◌else◌, length, map, max, nat_lt, slice_index, suc, sum, zero, ℕ, ◌++◌, ◌+◌, ◌-◌, ◌==◌, ◌^◌, ◌∷◌, ◌≡◌, ◌≤◌}
-use Rattle.mq_core.specs.Alone.{came}
 use Rattle.mq_core.specs.Fates.{service_time}
 use Rattle.mq_core.specs.KindTable.{behaviour_of}
 use Rattle.mq_core.specs.Laws.{Rises, in_order_of}

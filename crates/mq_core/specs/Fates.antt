@@ -1,10 +1,9 @@
 use Rattle.std.specs.List.{AllByRecursion}
 use Rattle.std.specs.Option.{option_map}
 use Rattle.std.specs.Prelude.{Bool, IsSome, IsTrue, List, None, Option, Some, [], find, length, slice_get, ℕ, ◌++◌, ◌+◌, ◌<◌, ◌==◌, ◌∷◌, ◌≡◌, ◌≤◌, ◌⊎◌}
-use Rattle.mq_core.specs.Alone.{came}
 use Rattle.mq_core.specs.KindTable.{behaviour_of}
-use Rattle.mq_core.specs.Local.{Local, empty}
-use Rattle.mq_core.specs.Machine.{Emission, State, Visit, after}
+use Rattle.mq_core.specs.Local.{Local}
+use Rattle.mq_core.specs.Machine.{Emission, State, Visit}
 use Rattle.mq_core.specs.Standard.{standard_jobs}
 use Rattle.mq_core.specs.StandardTable.{run_of}
 use Rattle.mq_core.specs.Tallies.{arrival_or, found_or, greatest_below, sojourns, still_there, sum_below}

@@ -1,7 +1,6 @@
 use Rattle.std.specs.List.{flat_map}
 use Rattle.std.specs.Option.{option_to_list}
 use Rattle.std.specs.Prelude.{Bool, List, None, Option, Some, [], count_by, false, fold, if◌then◌else◌, length, map, max, nat_lt, slice_get, slice_index, suc, sum, sum_by, true, ℕ, ◌++◌, ◌-◌, ◌∷◌}
-use Rattle.mq_core.specs.Alone.{came}
 use Rattle.mq_core.specs.Fates.{fate_of}
 use Rattle.mq_core.specs.KindTable.{behaviour_of}
 use Rattle.mq_core.specs.Laws.{stream_of}

@@ -1,4 +1,4 @@
-use Rattle.std.specs.Prelude.{List, if◌then◌else◌}
+use Rattle.std.specs.Prelude.{List}
 use Rattle.mq_core.specs.KindTable.{behaviour_of}
 use Rattle.mq_core.specs.Leaving.{left_by}
 use Rattle.mq_core.specs.Machine.{Emission, Visit}

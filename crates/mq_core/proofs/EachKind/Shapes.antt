@@ -1,16 +1,12 @@
-use Rattle.std.proofs.Common.{List, None, Option, Some, [], arith, length, length-append, refl, true, ℕ, ◌<◌, ◌∷◌, ◌≡◌, ◌≤◌}
+use Rattle.std.proofs.Common.{None, Option, Some, length, refl, true, ℕ, ◌≡◌}
 use Rattle.std.proofs.lemmas.Bool.{and_parts}
-use Rattle.std.proofs.lemmas.Bool.Decides.{nat_tests}
-use Rattle.std.specs.List.{AllByRecursion as Each, flat_map, list_all}
-use Rattle.std.specs.Prelude.{IfSome, nat_le, slice_get, ◌&&◌}
+use Rattle.std.specs.List.{list_all}
+use Rattle.std.specs.Prelude.{IfSome, slice_get}
 use Rattle.mq_core.specs.Names.{is_name}
-use Rattle.mq_core.specs.Sound.{are_sound_branches, is_output, is_sound_count, is_sound_demand, is_sound_kind, is_within}
-use Rattle.mq_core.specs.declared.model.Demand.{Demand}
+use Rattle.mq_core.specs.Sound.{is_output, is_sound_count, is_sound_kind}
 use Rattle.mq_core.specs.declared.model.Input.{Input}
 use Rattle.mq_core.specs.declared.model.Node.{Node}
 use Rattle.mq_core.specs.declared.model.Plan.{Plan}
-use Rattle.mq_core.proofs.ForkJoin.ForkBranches.{count_of}
-use Rattle.mq_core.proofs.ForkJoin.Joins.{IsForked}
 use Rattle.mq_core.proofs.Networks.Soundness.{sound-node}
 
 pub node-sound : (plan : Plan) (v : ℕ) → IfSome (slice_get plan.net.nodes v) (λ node. is_sound_kind (length plan.net.columns) node.kind ≡ true)

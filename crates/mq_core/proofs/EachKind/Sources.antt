@@ -1,14 +1,12 @@
 -- In a sound network a source reads nothing.
-use Rattle.std.proofs.Common.{List, None, Option, Some, [], arith, eqb-true, length, refl, true, ◌∷◌, ◌≡◌}
+use Rattle.std.proofs.Common.{List, None, Option, Some, [], arith, length, refl, true, ◌∷◌, ◌≡◌}
 use Rattle.std.proofs.lemmas.Bool.{and_parts}
 use Rattle.std.specs.List.{list_all}
-use Rattle.std.specs.Prelude.{IsTrue, map, slice_get, ◌==◌}
+use Rattle.std.specs.Prelude.{IsTrue, map, slice_get}
 use Rattle.mq_core.specs.Names.{is_name}
 use Rattle.mq_core.specs.Sound.{is_output, is_sound, is_sound_count}
-use Rattle.mq_core.specs.Wiring.{SourcesReadNothing, is_source, is_source_kind, outputs_read}
+use Rattle.mq_core.specs.Wiring.{SourcesReadNothing, is_source, outputs_read}
 use Rattle.mq_core.specs.declared.model.Input.{Input}
-use Rattle.mq_core.specs.declared.model.Kind.{Kind}
-use Rattle.mq_core.specs.declared.model.Kind.TheVariants.{Delay, ForkJoin, Loss, Server, Source, Split, Tandem}
 use Rattle.mq_core.specs.declared.model.Network.{Network}
 use Rattle.mq_core.specs.declared.model.Node.{Node}
 use Rattle.mq_core.proofs.EachKind.LawTable.{limits_of}

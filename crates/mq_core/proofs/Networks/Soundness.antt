@@ -1,16 +1,13 @@
-use Rattle.std.proofs.Common.{◌≡◌, ℕ, zero, suc, Bool, true, false, List, [], ◌∷◌, ◌++◌, length, Option, Some, None, sym, refl, ap, ◌∙◌, subst, eq-eqb, eqb-true, arith}
+use Rattle.std.proofs.Common.{◌≡◌, ℕ, zero, suc, Bool, true, false, List, [], ◌∷◌, ◌++◌, length, Some, sym, refl, ap, ◌∙◌, subst, eq-eqb, arith}
 use Rattle.std.proofs.lemmas.Bool.{and_parts}
 use Rattle.std.proofs.lemmas.Bool.Decides.{nat_tests}
 use Rattle.std.proofs.lemmas.List.Folds.{list_any-append}
 use Rattle.std.specs.Prelude.{◌≤◌, ◌&&◌, ◌||◌, ◌==◌, nat_le, not, map, slice_get, IsTrue}
 use Rattle.std.specs.List.{AllByRecursion as Each, flat_map, list_all, list_any}
 use Rattle.mq_base.proofs.Lists.{some_inj}
-use Rattle.mq_core.specs.Names.{is_name}
-use Rattle.mq_core.specs.Sound.{are_sound_stages, is_sound, is_sound_count, is_sound_demand, is_sound_node, is_sound_stage, is_within, is_output, are_distinct, same_input, mentions_from, columns_of_kind}
-use Rattle.mq_core.specs.Wiring.{inputs_of, is_source, is_source_kind, outputs_read, IsReadOnce, SourcesReadNothing}
+use Rattle.mq_core.specs.Sound.{are_sound_stages, is_sound, is_sound_demand, is_sound_node, is_sound_stage, is_within, are_distinct, same_input, mentions_from, columns_of_kind}
+use Rattle.mq_core.specs.Wiring.{inputs_of, IsReadOnce}
 use Rattle.mq_core.specs.declared.model.Input.{Input}
-use Rattle.mq_core.specs.declared.model.Kind.{Kind}
-use Rattle.mq_core.specs.declared.model.Kind.TheVariants.{Source, Server, Delay, Loss, Tandem, ForkJoin, Split}
 use Rattle.mq_core.specs.declared.model.Network.{Network}
 use Rattle.mq_core.specs.declared.model.Node.{Node}
 use Rattle.mq_core.specs.declared.model.Stage.{Stage}
