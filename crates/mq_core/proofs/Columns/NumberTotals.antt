@@ -1,26 +1,25 @@
-use Rattle.std.proofs.Common.{◌≡◌, inl, inr, ℕ, zero, suc, ◌+◌, ◌-◌, ◌<◌, List, [], ◌∷◌, length, map, Some, sym, refl, ap, ◌∙◌, subst, arith, max, fold, sum, sum_by, count_by, slice_get, slice_index}
+use Rattle.std.proofs.Common.{Bool, List, Some, [], ap, arith, cond, count_by, false, fold, inl, inr, length, map, max, refl, slice_get, slice_index, subst, suc, sum, sum_by, sym, true, zero, ℕ, ◌+◌, ◌-◌, ◌<◌, ◌∙◌, ◌∷◌, ◌≡◌}
 use Rattle.std.proofs.lemmas.List.{length-map}
-use Rattle.std.specs.Option.{option_map}
 use Rattle.std.proofs.lemmas.List.Sums.{sum_by-cons}
-use Rattle.mq_core.specs.Columns.{column_waits, column_sojourn, column_sojourns, column_service, column_services, one_more, column_numbers, column_peak, stream_sojourns}
-use Rattle.mq_core.specs.Machine.{Visit, Emission, Station}
-use Rattle.mq_core.specs.Local.{Local}
-use Rattle.mq_core.specs.Laws.{stream_of}
+use Rattle.std.specs.Option.{option_map}
+use Rattle.mq_core.specs.Columns.{column_numbers, column_service, column_services, column_sojourn, column_sojourns, column_waits, one_more, stream_sojourns}
 use Rattle.mq_core.specs.Fates.{fate_by, fate_of, holds_jobs, service_of, unless_lost}
-use Rattle.mq_core.specs.NumberLaws.{TotalsAreColumns, ExitsAreStreams}
-use Rattle.mq_core.specs.Results.{fates_from, wait_of, waits_of, is_lost, peak_of}
+use Rattle.mq_core.specs.Laws.{stream_of}
+use Rattle.mq_core.specs.Local.{Local}
+use Rattle.mq_core.specs.Machine.{Emission, Station, Visit}
+use Rattle.mq_core.specs.NumberLaws.{ExitsAreStreams, TotalsAreColumns}
+use Rattle.mq_core.specs.Results.{fates_from, is_lost, wait_of, waits_of}
 use Rattle.mq_core.specs.StandardTable.{run_of}
-use Rattle.mq_core.specs.Tallies.{sum_below, greatest_below, emission_at, arrival_or, found_or, time_or, sojourn, sojourns}
+use Rattle.mq_core.specs.Tallies.{arrival_or, emission_at, found_or, greatest_below, sojourn, sojourns, sum_below, time_or}
 use Rattle.mq_core.specs.declared.model.Fate.{Fate}
 use Rattle.mq_core.specs.declared.model.Fate.TheVariants.{Departs, Lost}
 use Rattle.mq_core.specs.declared.model.Kind.{Kind}
-use Rattle.mq_core.specs.declared.model.Kind.TheVariants.{Source, Server, Delay, Loss, Tandem, ForkJoin, Split}
 use Rattle.mq_core.specs.declared.model.Node.{Node}
 use Rattle.mq_core.specs.declared.model.Rows.{Rows}
-use Rattle.mq_core.proofs.EachKind.Busy.{busy-is_services}
 use Rattle.mq_core.proofs.Columns.ColumnFlow.{node-leaves}
+use Rattle.mq_core.proofs.Columns.NumberFates.{LetOut, all-let_out, greatest-values, sum-values, values}
 use Rattle.mq_core.proofs.Counting.ColumnNumbers.{LeavesAs}
-use Rattle.mq_core.proofs.Columns.NumberFates.{LetOut, all-let_out, values, sum-values, greatest-values}
+use Rattle.mq_core.proofs.EachKind.Busy.{busy-is_services}
 use Rattle.mq_core.proofs.EachKind.Peak.{peak-is_greatest}
 use Rattle.mq_core.proofs.EachKind.Tallied.{areas-are-sojourns}
 
@@ -99,7 +98,7 @@ totals-are_columns plan rows read v node here =
       longest = fold max 0 (waits i);
       busy = busy i;
       area = area i;
-      peak = peak node.kind refl i;
+      peak = peak (holds_jobs node.kind) refl i;
     }
   where
     s : Station Local
@@ -108,14 +107,9 @@ totals-are_columns plan rows read v node here =
     out : LetOut ((run_of plan rows).stations v).emitted 0 ((run_of plan rows).stations v).visits
     out = all-let_out plan rows read v node here
 
-    peak : (kind : Kind) → node.kind ≡ kind → peak_of kind ((run_of plan rows).stations v).peak ≡ column_peak kind (map (λ (x : Visit). x.found) ((run_of plan rows).stations v).visits) (fates_from node.kind ((run_of plan rows).stations v).emitted 0 ((run_of plan rows).stations v).visits)
-    peak Source same = refl
-    peak (Server demand) same = peak-is_greatest plan rows v node here (ap holds_jobs same) ∙ numbers-columns node.kind ((run_of plan rows).stations v).visits ((run_of plan rows).stations v).emitted out
-    peak (Delay demand) same = peak-is_greatest plan rows v node here (ap holds_jobs same) ∙ numbers-columns node.kind ((run_of plan rows).stations v).visits ((run_of plan rows).stations v).emitted out
-    peak (Loss places demand) same = peak-is_greatest plan rows v node here (ap holds_jobs same) ∙ numbers-columns node.kind ((run_of plan rows).stations v).visits ((run_of plan rows).stations v).emitted out
-    peak (Tandem stages) same = peak-is_greatest plan rows v node here (ap holds_jobs same) ∙ numbers-columns node.kind ((run_of plan rows).stations v).visits ((run_of plan rows).stations v).emitted out
-    peak (ForkJoin branches) same = peak-is_greatest plan rows v node here (ap holds_jobs same) ∙ numbers-columns node.kind ((run_of plan rows).stations v).visits ((run_of plan rows).stations v).emitted out
-    peak (Split route) same = refl
+    peak : (b : Bool) → holds_jobs node.kind ≡ b → cond b ((run_of plan rows).stations v).peak 0 ≡ cond b (fold max 0 (column_numbers (map (λ (x : Visit). x.found) ((run_of plan rows).stations v).visits) (fates_from node.kind ((run_of plan rows).stations v).emitted 0 ((run_of plan rows).stations v).visits))) 0
+    peak true holds = peak-is_greatest plan rows v node here holds ∙ numbers-columns node.kind ((run_of plan rows).stations v).visits ((run_of plan rows).stations v).emitted out
+    peak false holds = refl
 
 -- the sum over a stream is the sum over its columns
 exit-sum : (rows : Rows) (stream : List Emission) → sum_by (λ (m : Emission). m.time - slice_index rows.time m.job) stream ≡ sum (stream_sojourns rows (map (λ (m : Emission). m.job) stream) (map (λ (m : Emission). m.time) stream))

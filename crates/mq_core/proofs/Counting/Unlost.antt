@@ -1,35 +1,21 @@
 -- Where no visit is lost, and who is lost at a loss station.
-use Rattle.std.proofs.Common.{◌≡◌, ℕ, Bool, true, false, cond, eqb, Option, Some, None, refl, ap}
+use Rattle.std.proofs.Common.{Bool, None, Option, Some, ap, cond, eqb, false, refl, true, ℕ, ◌≡◌}
 use Rattle.std.specs.Option.{option_map}
 use Rattle.mq_core.specs.Fates.{fate_by, unless_lost}
 use Rattle.mq_core.specs.Machine.{Emission}
 use Rattle.mq_core.specs.declared.model.Demand.{Demand}
 use Rattle.mq_core.specs.declared.model.Fate.TheVariants.{Departs, Lost}
 use Rattle.mq_core.specs.declared.model.Kind.{Kind}
-use Rattle.mq_core.specs.declared.model.Kind.TheVariants.{Source, Server, Delay, Loss, Tandem, ForkJoin, Split}
+use Rattle.mq_core.specs.declared.model.Kind.TheVariants.{Loss}
 
 -- this number, or 0 for one that left by the output of the lost
 abbrev pub unless_out : Option Emission → ℕ → ℕ
 unless_out None n = n
 unless_out (Some m) n = cond (eqb m.out 1) 0 n
 
--- whether a node of this kind may lose a visit
-abbrev pub loses : Kind → Bool
-loses (Loss places demand) = true
-loses _ = false
-
 -- who is let out departs then
 abbrev pub Departing : Kind → Type 0
 Departing kind = (m : Emission) → fate_by kind m ≡ Departs m.time
-
-pub departing : (kind : Kind) → loses kind ≡ false → Departing kind
-departing Source h m = refl
-departing (Server demand) h m = refl
-departing (Delay demand) h m = refl
-departing (Loss places demand) h m = absurd cc
-departing (Tandem stages) h m = refl
-departing (ForkJoin branches) h m = refl
-departing (Split route) h m = refl
 
 -- then each number counts
 pub departing-whole : (kind : Kind) → Departing kind → (o : Option Emission) (n : ℕ) → unless_lost (option_map (fate_by kind) o) n ≡ n

@@ -7,11 +7,12 @@ use Rattle.mq_core.specs.Kinds.Delay.{delay}
 use Rattle.mq_core.specs.declared.model.Demand.{Demand}
 use Rattle.mq_core.specs.declared.model.Kind.TheVariants.{Delay}
 use Rattle.mq_core.specs.declared.model.Rows.{Rows}
+use Rattle.mq_core.proofs.Counting.Unlost.{departing-whole}
 use Rattle.mq_core.proofs.Counting.Released.{emission-one, one-release, times-one}
 use Rattle.mq_core.proofs.Counting.Services.{services-by, services-count}
 use Rattle.mq_core.proofs.Delay.DelayNumbers.{asked, delaying-busy_arrives, delaying-busy_ends, delaying-busy_waits, delaying-earlier, delaying-emits, delaying-fewer, delaying-number}
 use Rattle.mq_core.proofs.Delay.Delays.{Delaying, delaying-arrives, delaying-done, delaying-ends, delaying-opens, delaying-waits}
-use Rattle.mq_core.proofs.EachKind.KindLaws.{Inside, KindLaws}
+use Rattle.mq_core.proofs.EachKind.KindLaws.{Inside, KindLaws, own_out}
 use Rattle.mq_core.proofs.Events.Remaining.{remaining}
 
 -- what holds of it between two events
@@ -64,4 +65,6 @@ delay-laws rows demand =
           let out = emission-one now 0 position (slice_get s.visits position) in
           omega arith;
       vacant = omega arith;
+      raises = λ v port s fs now x at h f. inl (let r = length-append s.local.scheduled (latest (s.visits ++ x ∷ []) ∷ []) in omega arith, λ n. departing-whole (Delay demand) (λ m. refl) (own_out rows (delay demand) v port s now x) n);
+      departs = λ v server position s now q m e. refl;
     }

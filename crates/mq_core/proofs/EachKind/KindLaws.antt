@@ -11,6 +11,7 @@ use Rattle.mq_core.specs.Leaving.{left_by}
 use Rattle.mq_core.specs.Local.{Local}
 use Rattle.mq_core.specs.Machine.{Visit, Emission, Reaction, Station, emissions_of, finishes_of}
 use Rattle.mq_core.specs.Tallies.{arrival_or, emission_at, staying, sum_below}
+use Rattle.mq_core.specs.declared.model.Fate.TheVariants.{Departs}
 use Rattle.mq_core.specs.declared.model.Rows.{Rows}
 use Rattle.mq_core.proofs.Events.Kept.{Fact}
 use Rattle.mq_core.proofs.Passing.Passes.{after_reaction}
@@ -48,6 +49,16 @@ after_finish peak rows b v server position s now = after_reaction peak s s.visit
 abbrev pub asked_by : (ℕ → ℕ) → Option Visit → ℕ
 asked_by asked None = 0
 asked_by asked (Some visit) = asked visit.job
+
+-- what a visit itself lets out when it comes
+abbrev pub own_out : Rows → Behaviour → (v port : ℕ) → Station Local → ℕ → Visit → Option Emission
+own_out rows b v port s now x = emission_at (emissions_of now (s.visits ++ x ∷ []) (to_visit rows b v port s now x).releases) (length s.visits)
+
+-- a visit is one more, and isn't lost; or it is lost, and there is none more
+abbrev pub Raises : Rows → Behaviour → (v port : ℕ) → Station Local → ℕ → Visit → Type 0
+Raises rows b v port s now x =
+    ((b.jobs (s.visits ++ x ∷ []) (to_visit rows b v port s now x).local ≡ b.jobs s.visits s.local + 1) × ((n : ℕ) → unless_lost (option_map b.fate (own_out rows b v port s now x)) n ≡ n))
+    ⊎ ((b.jobs (s.visits ++ x ∷ []) (to_visit rows b v port s now x).local ≤ b.jobs s.visits s.local) × ((n : ℕ) → unless_lost (option_map b.fate (own_out rows b v port s now x)) n ≡ 0))
 
 -- a list with at least one item
 abbrev pub IsFilled : List Emission → Type 0
@@ -109,3 +120,7 @@ pub record KindLaws (rows : Rows) (b : Behaviour) (i : Inside) : Type 0 where
       b.jobs s.visits (to_finish rows b v server position s now).local + length (emissions_of now s.visits (to_finish rows b v server position s now).releases) ≤ b.jobs s.visits s.local
   -- at the start it holds none
   pub vacant : b.jobs [] b.opening ≡ 0
+  -- where jobs stay, a visit raises the number by one, or is lost
+  pub raises : (v port : ℕ) (s : Station Local) (fs : List Event) (now : ℕ) (x : Visit) → x.arrive ≡ now → b.holds ≡ true → i.fact v s fs now → Raises rows b v port s now x
+  -- who is let out by a finish departs then
+  pub departs : (v server position : ℕ) (s : Station Local) (now q : ℕ) (m : Emission) → emission_at (emissions_of now s.visits (to_finish rows b v server position s now).releases) q ≡ Some m → b.fate m ≡ Departs m.time

@@ -1,161 +1,176 @@
-use Rattle.std.proofs.Common.{◌≡◌, ℕ, zero, suc, ◌+◌, ◌*◌, ◌<◌, true, false, List, [], ◌∷◌, ◌++◌, length, Option, Some, sym, refl, ap, ◌∙◌, subst, arith, length-append, max}
+use Rattle.std.proofs.Common.{◌≡◌, ◌⊎◌, inl, inr, ℕ, zero, suc, ◌+◌, ◌*◌, ◌<◌, ◌≤◌, true, List, [], ◌∷◌, ◌++◌, length, Option, Some, None, sym, refl, ap, ◌∙◌, subst, arith, length-append, max}
 use Rattle.std.specs.Prelude.{slice_get}
+use Rattle.std.specs.Option.{option_map}
+use Rattle.std.specs.List.{AllByRecursion as Each}
+use Rattle.mq_core.specs.Behaviour.{Behaviour}
 use Rattle.mq_core.specs.Event.{Event, earliest}
 use Rattle.mq_core.specs.Event.Event.{Arrive, Finish}
-use Rattle.mq_core.specs.Machine.{Visit, Table, Station, acted, visits_after, reaction, emissions_of}
+use Rattle.mq_core.specs.Fates.{unless_lost, PeakIsGreatest}
+use Rattle.mq_core.specs.KindTable.{behaviour_of}
 use Rattle.mq_core.specs.Local.{Local}
-use Rattle.mq_core.specs.Handling.{latest}
-use Rattle.mq_core.specs.Standard.{jobs_in, node_jobs, node_on, kind_on, kind_opening, node_opening, standard_handle, standard_jobs, standard_opening}
-use Rattle.mq_core.specs.StandardTable.{standard, run_of}
+use Rattle.mq_core.specs.Machine.{Visit, Emission, Release, Station, emission_of, emissions_of}
 use Rattle.mq_core.specs.OnTime.{standard-on_time}
+use Rattle.mq_core.specs.Run.{starts}
+use Rattle.mq_core.specs.Standard.{node_jobs, node_on, node_opening, standard_handle, standard_jobs, standard_opening}
+use Rattle.mq_core.specs.StandardTable.{standard, run_of}
 use Rattle.mq_core.specs.Tallies.{emission_at, greatest_below, found_or}
 use Rattle.mq_core.specs.Wiring.{reader_from}
-use Rattle.mq_core.specs.Run.{starts}
-use Rattle.mq_core.specs.Fates.{fate_of, holds_jobs, unless_lost, PeakIsGreatest}
-use Rattle.mq_core.specs.declared.model.Demand.{Demand}
-use Rattle.mq_core.specs.declared.model.Kind.{Kind}
-use Rattle.mq_core.specs.declared.model.Kind.TheVariants.{Source, Server, Delay, Loss, Tandem, ForkJoin, Split}
 use Rattle.mq_core.specs.declared.model.Node.{Node}
 use Rattle.mq_core.specs.declared.model.Plan.{Plan}
 use Rattle.mq_core.specs.declared.model.Rows.{Rows}
+use Rattle.mq_core.proofs.EachKind.Facts.{node_fact, standard-keeps}
+use Rattle.mq_core.proofs.EachKind.KindLaws.{Inside, KindLaws, Raises, own_out, opening_of, to_visit, to_finish, after_visit, after_finish}
+use Rattle.mq_core.proofs.EachKind.LawTable.{inside_of, laws_of}
 use Rattle.mq_core.proofs.Events.Areas.{get-front, get-last}
-use Rattle.mq_core.proofs.EachKind.Facts.{kind_fact, node_fact, standard-keeps}
-use Rattle.mq_core.proofs.ForkJoin.JoinTallies.{joining-more}
-use Rattle.mq_core.proofs.Events.Kept.{Fact, Keeps, kept}
-use Rattle.mq_core.proofs.Loss.LossPeak.{Peaked, peaked-arrives, peaked-ends}
-use Rattle.mq_core.proofs.Tandem.TandemLoad.{tandeming-arrives_more}
-use Rattle.mq_core.proofs.Counting.Unlost.{loses, departing, departing-whole, lost-out}
+use Rattle.mq_core.proofs.Events.EmissionsAt.{unknown}
+use Rattle.mq_core.proofs.Events.Founds.{emission_at-append}
+use Rattle.mq_core.proofs.Events.Kept.{Keeps, kept}
+use Rattle.mq_core.proofs.Lists.Each.{Each-append, Each-weaker}
 use Rattle.mq_core.proofs.Networks.Wired.{feeds_forward}
 use Rattle.mq_core.proofs.Networks.Whole.{starts-arrive}
-use Rattle.mq_core.proofs.Counting.Released.{joins-length}
+use Rattle.mq_core.proofs.Passing.Passes.{after_reaction}
 
--- the peak so far is the greatest found so far, plus 1
-abbrev pub Peaks : {L : Type 0} → Station L → Type 0
-Peaks s = s.peak ≡ greatest_below (length s.visits) (λ p. found_or 0 (slice_get s.visits p) + 1)
+-- the number that a visit made when it came, 0 where it was lost
+abbrev number_by : Behaviour → List Visit → List Emission → ℕ → ℕ
+number_by b visits emitted p = unless_lost (option_map b.fate (emission_at emitted p)) (found_or 0 (slice_get visits p) + 1)
+
+-- the peak so far is the greatest of these numbers, and no less than the number now
+record Peaked (b : Behaviour) (s : Station Local) : Type 0 where
+  pub greatest : s.peak ≡ greatest_below (length s.visits) (number_by b s.visits s.emitted)
+  pub enough : b.jobs s.visits s.local ≤ s.peak
+  pub known : Each (λ (m : Emission). m.position < length s.visits) s.emitted
 
 greatest-same : (n : ℕ) (f g : ℕ → ℕ) → ((k : ℕ) → k < n → f k ≡ g k) → greatest_below n f ≡ greatest_below n g
 greatest-same zero f g h = refl
 greatest-same (suc n) f g h = (λ i. max (h n (omega arith) i) (greatest-same n f g (λ k l. h k (omega arith)) i))
 
--- where an arrival raises a node's number by one, its peak is the greatest found plus 1
-pub keeps-peaks : {L : Type 0} (t : Table L) (P : Fact L) (Q : ℕ → Type 0) → Keeps t P → ((v port job : ℕ) (s : Station L) (fs : List Event) (now : ℕ) → Q v → P v s fs now → t.jobs v (visits_after t s (Arrive now v port job)) (reaction t s (Arrive now v port job)).local ≡ t.jobs v s.visits s.local + 1) → Keeps t (λ v s fs now. P v s fs now × (Q v → Peaks s))
-keeps-peaks {L} t P Q keeps one_more =
-    record {
-      opens = λ v. (keeps.opens v, λ _. refl);
-      waits = λ v s fs now later h l f. (keeps.waits v s fs now later h.0 l f, h.1);
-      arrives = λ v port job s fs now h f. (keeps.arrives v port job s fs now h.0 f, λ q. came v port job s fs now q h.0 (h.1 q));
-      ends = λ v server position s fs rest now h first. (keeps.ends v server position s fs rest now h.0 first, h.1);
-    }
+-- a position that is a visit's is below their number
+below-all : (xs : List Visit) (k : ℕ) (x : Visit) → slice_get xs k ≡ Some x → k < length xs
+below-all [] k x e = absurd cc
+below-all (y ∷ xs) zero x e = omega arith
+below-all (y ∷ xs) (suc k) x e = let l = below-all xs k x e in omega arith
+
+-- only visits are let out
+emissions-known : (now : ℕ) (visits : List Visit) (releases : List Release) → Each (λ (m : Emission). m.position < length visits) (emissions_of now visits releases)
+emissions-known now visits [] = tt
+emissions-known now visits (r ∷ releases) = go (slice_get visits r.position) refl (emissions-known now visits releases)
   where
-    came : (v port job : ℕ) (s : Station L) (fs : List Event) (now : ℕ) → Q v → P v s fs now → Peaks s → Peaks (acted t s (Arrive now v port job))
-    came v port job s fs now q fact h =
-        let size : length (s.visits ++ x ∷ []) ≡ suc (length s.visits) = omega (arith, length-append s.visits (x ∷ [])) in
-        let own = one_more v port job s fs now q fact in
-        let last : found_or 0 (slice_get (s.visits ++ x ∷ []) (length s.visits)) ≡ t.jobs v s.visits s.local = ap (found_or 0) (get-last s.visits x) in
-        let front = greatest-same (length s.visits) (λ p. found_or 0 (slice_get (s.visits ++ x ∷ []) p) + 1) (λ p. found_or 0 (slice_get s.visits p) + 1) (λ k l. ap (λ o. found_or 0 o + 1) (get-front k s.visits (x ∷ []) l)) in
-        let all = ap (λ n. greatest_below n (λ p. found_or 0 (slice_get (s.visits ++ x ∷ []) p) + 1)) size in
-        omega arith
-      where
-        x : Visit
-        x = record { job = job; arrive = now; found = t.jobs v s.visits s.local }
+    go : (o : Option Visit) → slice_get visits r.position ≡ o → Each (λ (m : Emission). m.position < length visits) (emissions_of now visits releases) → Each (λ (m : Emission). m.position < length visits) (emission_of now r.out r.position o ++ emissions_of now visits releases)
+    go None e ih = ih
+    go (Some x) e ih = (below-all visits r.position x e, ih)
 
--- an arrival at a node that holds jobs and loses none raises its number by one
-kind-more : (rows : Rows) (kind : Kind) (u port now : ℕ) (s : Station Local) (fs : List Event) (x : Visit) → x.arrive ≡ now → holds_jobs kind ≡ true → loses kind ≡ false → kind_fact rows kind u s fs now →
-    jobs_in kind (s.visits ++ x ∷ []) (kind_on rows kind (s.visits ++ x ∷ []) s.local now (Arrive now u port x.job)).local ≡ jobs_in kind s.visits s.local + 1
-kind-more rows Source u port now s fs x at h k f = absurd cc
-kind-more rows (Server demand) u port now s fs x at h k f = let r = joins-length rows demand (s.visits ++ x ∷ []) s.local now s.local.queue (latest (s.visits ++ x ∷ [])) in omega arith
-kind-more rows (Delay demand) u port now s fs x at h k f = let r = length-append s.local.scheduled (latest (s.visits ++ x ∷ []) ∷ []) in omega arith
-kind-more rows (Loss places demand) u port now s fs x at h k f = absurd cc
-kind-more rows (Tandem stages) u port now s fs x at h k f = tandeming-arrives_more rows stages u s.local s.visits (s.visits ++ x ∷ []) s.local.lines s.emitted fs now f
-kind-more rows (ForkJoin branches) u port now s fs x at h k f = joining-more rows branches u port s.local s.visits s.emitted fs now x at f
-kind-more rows (Split route) u port now s fs x at h k f = absurd cc
+module _ (rows : Rows) (b : Behaviour) (i : Inside) (laws : KindLaws rows b i) where
+  peaked-opens : Peaked b (opening_of b)
+  peaked-opens = record { greatest = refl; enough = omega (arith, laws.vacant); known = tt }
 
--- the visit that an arrival brings to a node of this kind
-abbrev arrived : Kind → ℕ → ℕ → Station Local → Visit
-arrived kind job now s = record { job = job; arrive = now; found = jobs_in kind s.visits s.local }
-
--- an arrival keeps what is said of the peak, at a node of this kind
-abbrev PeakedAfter : Rows → Kind → (u port job : ℕ) → Station Local → List Event → ℕ → Type 0
-PeakedAfter rows kind u port job s fs now =
-    let visits = s.visits ++ arrived kind job now s ∷ [] in
-    let reaction = kind_on rows kind visits s.local now (Arrive now u port job) in
-    kind_fact rows kind u s fs now → Peaked s.visits s.local.queue s.emitted s.peak →
-    Peaked visits reaction.local.queue (s.emitted ++ emissions_of now visits reaction.releases) (max s.peak (jobs_in kind visits reaction.local))
-
--- the same at a node
-abbrev PeakedThere : Rows → Option Node → (u port job : ℕ) → Station Local → List Event → ℕ → Type 0
-PeakedThere rows o u port job s fs now =
-    let visits = s.visits ++ record { job = job; arrive = now; found = node_jobs o s.visits s.local } ∷ [] in
-    let reaction = node_on rows o visits s.local now (Arrive now u port job) in
-    node_fact rows o u s fs now → Peaked s.visits s.local.queue s.emitted s.peak →
-    Peaked visits reaction.local.queue (s.emitted ++ emissions_of now visits reaction.releases) (max s.peak (node_jobs o visits reaction.local))
-
-module _ (plan : Plan) (rows : Rows) (v : ℕ) (node : Node) (here : slice_get plan.net.nodes v ≡ Some node) where
-  -- the peak of a node that loses none
-  raised-peak : holds_jobs node.kind ≡ true → loses node.kind ≡ false → Peaks ((run_of plan rows).stations v)
-  unfolding standard_handle standard_jobs
-  raised-peak holds keeps =
-      (kept (standard plan rows) (λ u s fs now. node_fact rows (slice_get plan.net.nodes u) u s fs now × (slice_get plan.net.nodes u ≡ Some node → Peaks s))
-      (keeps-peaks (standard plan rows) (λ u. node_fact rows (slice_get plan.net.nodes u) u) (λ u. slice_get plan.net.nodes u ≡ Some node) (standard-keeps plan rows (reader_from 0 plan.net.nodes))
-      (λ u port job s fs now q f. more u port job s fs now (slice_get plan.net.nodes u) q f))
-      (standard-on_time plan rows) (feeds_forward plan (standard plan rows) refl refl) (starts rows) (starts-arrive 0 rows.source rows.time) (9 * length plan.net.nodes * length rows.time) v).1 here
+  peaked-arrives : (v port : ℕ) (s : Station Local) (now : ℕ) (x : Visit) → x.found ≡ b.jobs s.visits s.local → Raises rows b v port s now x → Peaked b s →
+      Peaked b (after_visit (max s.peak (b.jobs (s.visits ++ x ∷ []) (to_visit rows b v port s now x).local)) rows b v port s now x)
+  peaked-arrives v port s now x found raises h =
+      record {
+        greatest = go raises;
+        enough = omega arith;
+        known = Each-append _ s.emitted more (Each-weaker _ _ (λ m l. omega (arith, size)) s.emitted h.known) (emissions-known now (s.visits ++ x ∷ []) (to_visit rows b v port s now x).releases);
+      }
     where
-      more : (u port job : ℕ) (s : Station Local) (fs : List Event) (now : ℕ) (o : Option Node) → o ≡ Some node → node_fact rows o u s fs now → node_jobs o (s.visits ++ record { job = job; arrive = now; found = node_jobs o s.visits s.local } ∷ []) (node_on rows o (s.visits ++ record { job = job; arrive = now; found = node_jobs o s.visits s.local } ∷ []) s.local now (Arrive now u port job)).local ≡ node_jobs o s.visits s.local + 1
-      more u port job s fs now o same f =
-          subst (λ o. node_jobs o (s.visits ++ record { job = job; arrive = now; found = node_jobs o s.visits s.local } ∷ []) (node_on rows o (s.visits ++ record { job = job; arrive = now; found = node_jobs o s.visits s.local } ∷ []) s.local now (Arrive now u port job)).local ≡ node_jobs o s.visits s.local + 1) (sym same)
-          (kind-more rows node.kind u port now s fs (record { job = job; arrive = now; found = jobs_in node.kind s.visits s.local }) refl holds keeps (subst (λ o. node_fact rows o u s fs now) same f))
+      more : List Emission
+      more = emissions_of now (s.visits ++ x ∷ []) (to_visit rows b v port s now x).releases
 
-  -- there each number counts
-  raised-whole : loses node.kind ≡ false → Peaks ((run_of plan rows).stations v) → ((run_of plan rows).stations v).peak ≡ greatest_below (length ((run_of plan rows).stations v).visits) (λ p. unless_lost (fate_of node.kind ((run_of plan rows).stations v).emitted p) (found_or 0 (slice_get ((run_of plan rows).stations v).visits p) + 1))
-  raised-whole keeps h =
-      let s = (run_of plan rows).stations v in
-      h ∙ greatest-same (length s.visits) _ _ (λ p l. sym (departing-whole node.kind (departing node.kind keeps) (emission_at s.emitted p) (found_or 0 (slice_get s.visits p) + 1)))
+      size : length (s.visits ++ x ∷ []) ≡ suc (length s.visits)
+      size = omega (arith, length-append s.visits (x ∷ []))
 
-  -- the peak of a loss station
-  lost-peak : (places : ℕ) (demand : Demand) → node.kind ≡ Loss places demand → Peaked ((run_of plan rows).stations v).visits ((run_of plan rows).stations v).local.queue ((run_of plan rows).stations v).emitted ((run_of plan rows).stations v).peak
-  unfolding standard_handle standard_jobs standard_opening
-  lost-peak places demand kind =
-      (kept (standard plan rows) (λ u s fs now. node_fact rows (slice_get plan.net.nodes u) u s fs now × (slice_get plan.net.nodes u ≡ Some node → Peaked s.visits s.local.queue s.emitted s.peak))
-      (record {
-        opens = λ u. (keeps.opens u, λ q. opened (slice_get plan.net.nodes u) q);
-        waits = λ u s fs now later h l f. (keeps.waits u s fs now later h.0 l f, h.1);
-        arrives = λ u port job s fs now h f. (keeps.arrives u port job s fs now h.0 f, λ q. came u port job s fs now (slice_get plan.net.nodes u) q h.0 (h.1 q));
-        ends = λ u server position s fs rest now h first. (keeps.ends u server position s fs rest now h.0 first, λ q. went u server position s fs rest now (slice_get plan.net.nodes u) q first h.0 (h.1 q));
-      })
-      (standard-on_time plan rows) (feeds_forward plan (standard plan rows) refl refl) (starts rows) (starts-arrive 0 rows.source rows.time) (9 * length plan.net.nodes * length rows.time) v).1 here
+      front : (k : ℕ) → k < length s.visits → number_by b (s.visits ++ x ∷ []) (s.emitted ++ more) k ≡ number_by b s.visits s.emitted k
+      front k l = (λ j. unless_lost (option_map b.fate (same (emission_at-append s.emitted more k) j)) (found_or 0 (get-front k s.visits (x ∷ []) l j) + 1))
+        where
+          none : (o : Option Emission) → emission_at more k ≡ o → o ≡ None
+          none None e = refl
+          none (Some m) e = absurd (let own = laws.own v port s now x k m e in omega arith)
+
+          same : ((m : Emission) × (emission_at s.emitted k ≡ Some m) × (emission_at (s.emitted ++ more) k ≡ Some m)) ⊎ ((emission_at s.emitted k ≡ None) × (emission_at (s.emitted ++ more) k ≡ emission_at more k)) → emission_at (s.emitted ++ more) k ≡ emission_at s.emitted k
+          same (inl e) = e.2 ∙ sym e.1
+          same (inr e) = e.1 ∙ (none (emission_at more k) refl ∙ sym e.0)
+
+      last : number_by b (s.visits ++ x ∷ []) (s.emitted ++ more) (length s.visits) ≡ unless_lost (option_map b.fate (own_out rows b v port s now x)) (x.found + 1)
+      last = (λ j. unless_lost (option_map b.fate (own (emission_at-append s.emitted more (length s.visits)) j)) (found_or 0 (get-last s.visits x j) + 1))
+        where
+          fresh : emission_at s.emitted (length s.visits) ≡ None
+          fresh = unknown (length s.visits) (length s.visits) s.emitted (omega arith) h.known
+
+          own : ((m : Emission) × (emission_at s.emitted (length s.visits) ≡ Some m) × (emission_at (s.emitted ++ more) (length s.visits) ≡ Some m)) ⊎ ((emission_at s.emitted (length s.visits) ≡ None) × (emission_at (s.emitted ++ more) (length s.visits) ≡ emission_at more (length s.visits))) → emission_at (s.emitted ++ more) (length s.visits) ≡ emission_at more (length s.visits)
+          own (inl e) = absurd (let c = sym fresh ∙ e.1 in cc)
+          own (inr e) = e.1
+
+      rest : greatest_below (length s.visits) (number_by b (s.visits ++ x ∷ []) (s.emitted ++ more)) ≡ s.peak
+      rest = greatest-same (length s.visits) _ _ front ∙ sym h.greatest
+
+      whole : greatest_below (length (s.visits ++ x ∷ [])) (number_by b (s.visits ++ x ∷ []) (s.emitted ++ more)) ≡ max (unless_lost (option_map b.fate (own_out rows b v port s now x)) (x.found + 1)) s.peak
+      whole = ap (λ n. greatest_below n (number_by b (s.visits ++ x ∷ []) (s.emitted ++ more))) size ∙ (λ j. max (last j) (rest j))
+
+      go : Raises rows b v port s now x → max s.peak (b.jobs (s.visits ++ x ∷ []) (to_visit rows b v port s now x).local) ≡ greatest_below (length (s.visits ++ x ∷ [])) (number_by b (s.visits ++ x ∷ []) (s.emitted ++ more))
+      go (inl r) = let more = r.0 in let kept = r.1 (x.found + 1) in omega (arith, whole)
+      go (inr r) = let none = r.0 in let lost = r.1 (x.found + 1) in let all = h.enough in omega (arith, whole)
+
+  peaked-ends : (rank : ℕ → ℕ) (v server position : ℕ) (s : Station Local) (fs rest : List Event) (now : ℕ) → earliest rank fs ≡ Some (Finish now v server position, rest) → i.fact v s fs now → Peaked b s → Peaked b (after_finish s.peak rows b v server position s now)
+  peaked-ends rank v server position s fs rest now first f h =
+      record {
+        greatest = h.greatest ∙ sym (greatest-same (length s.visits) _ _ (λ k l. ap (λ n. n) (alike k (emission_at-append s.emitted more k))));
+        enough = let less = laws.leaves rank v server position s fs rest now first f in let all = h.enough in omega arith;
+        known = Each-append _ s.emitted more h.known (emissions-known now s.visits (to_finish rows b v server position s now).releases);
+      }
     where
-      keeps : Keeps (standard plan rows) (λ u. node_fact rows (slice_get plan.net.nodes u) u)
-      keeps = standard-keeps plan rows (reader_from 0 plan.net.nodes)
+      more : List Emission
+      more = emissions_of now s.visits (to_finish rows b v server position s now).releases
 
-      opened : (o : Option Node) → o ≡ Some node → Peaked [] (node_opening o).queue [] 0
-      opened o same =
-          subst (λ p. Peaked [] (node_opening p).queue [] 0) (sym same)
-          (subst (λ k. Peaked [] (kind_opening k).queue [] 0) (sym kind) (record { greatest = refl; enough = omega arith }))
+      -- who leaves now isn't lost, so that its number counts as before
+      counts : (k n : ℕ) (o : Option Emission) → emission_at more k ≡ o → unless_lost (option_map b.fate o) n ≡ n
+      counts k n None e = refl
+      counts k n (Some m) e = ap (λ fate. unless_lost (Some fate) n) (laws.departs v server position s now k m e)
 
-      came : (u port job : ℕ) (s : Station Local) (fs : List Event) (now : ℕ) (o : Option Node) → o ≡ Some node → PeakedThere rows o u port job s fs now
-      came u port job s fs now o same =
-          subst (λ p. PeakedThere rows p u port job s fs now) (sym same)
-          (subst (λ k. PeakedAfter rows k u port job s fs now) (sym kind)
-          (λ f h. peaked-arrives rows places demand u port s.local s.visits s.emitted fs now s.peak (record { job = job; arrive = now; found = length s.local.queue }) refl f.1 h))
+      alike : (k : ℕ) → ((m : Emission) × (emission_at s.emitted k ≡ Some m) × (emission_at (s.emitted ++ more) k ≡ Some m)) ⊎ ((emission_at s.emitted k ≡ None) × (emission_at (s.emitted ++ more) k ≡ emission_at more k)) → number_by b s.visits (s.emitted ++ more) k ≡ number_by b s.visits s.emitted k
+      alike k (inl e) = ap (λ o. unless_lost (option_map b.fate o) (found_or 0 (slice_get s.visits k) + 1)) (e.2 ∙ sym e.1)
+      alike k (inr e) =
+          ap (λ o. unless_lost (option_map b.fate o) (found_or 0 (slice_get s.visits k) + 1)) e.1
+          ∙ (counts k (found_or 0 (slice_get s.visits k) + 1) (emission_at more k) refl
+          ∙ sym (ap (λ o. unless_lost (option_map b.fate o) (found_or 0 (slice_get s.visits k) + 1)) e.0))
 
-      went : (u server position : ℕ) (s : Station Local) (fs rest : List Event) (now : ℕ) (o : Option Node) → o ≡ Some node → earliest (standard plan rows).rank fs ≡ Some (Finish now u server position, rest) → node_fact rows o u s fs now → Peaked s.visits s.local.queue s.emitted s.peak →
-          Peaked s.visits (node_on rows o s.visits s.local now (Finish now u server position)).local.queue (s.emitted ++ emissions_of now s.visits (node_on rows o s.visits s.local now (Finish now u server position)).releases) s.peak
-      went u server position s fs rest now o same first f h =
-          subst (λ p. node_fact rows p u s fs now → Peaked s.visits (node_on rows p s.visits s.local now (Finish now u server position)).local.queue (s.emitted ++ emissions_of now s.visits (node_on rows p s.visits s.local now (Finish now u server position)).releases) s.peak) (sym same)
-          (subst (λ k. kind_fact rows k u s fs now → Peaked s.visits (kind_on rows k s.visits s.local now (Finish now u server position)).local.queue (s.emitted ++ emissions_of now s.visits (kind_on rows k s.visits s.local now (Finish now u server position)).releases) s.peak) (sym kind)
-          (λ g. peaked-ends rows places demand u s.local (standard plan rows).rank server position s.visits s.local.queue s.emitted fs rest now s.peak first g.1 h)) f
+-- the peak of a node where jobs stay
+abbrev node_peaked : Option Node → Station Local → Type 0
+node_peaked None s = Unit {0}
+node_peaked (Some node) s = (behaviour_of node.kind).holds ≡ true → Peaked (behaviour_of node.kind) s
+
+peak-opens : (rows : Rows) (o : Option Node) → node_peaked o (record { local = node_opening o; visits = []; emitted = []; area = 0; busy = 0; peak = 0 })
+peak-opens rows None = tt
+peak-opens rows (Some node) = λ holds. peaked-opens rows (behaviour_of node.kind) (inside_of rows node.kind) (laws_of rows node.kind)
+
+peak-waits : (o : Option Node) (s : Station Local) (area busy : ℕ) → node_peaked o s → node_peaked o (record s { area = area; busy = busy })
+peak-waits None s area busy h = tt
+peak-waits (Some node) s area busy h = λ holds. record { greatest = (h holds).greatest; enough = (h holds).enough; known = (h holds).known }
+
+peak-arrives : (rows : Rows) (o : Option Node) (v port job : ℕ) (s : Station Local) (fs : List Event) (now : ℕ) → node_fact rows o v s fs now → node_peaked o s →
+    node_peaked o (after_reaction (max s.peak (node_jobs o (s.visits ++ record { job = job; arrive = now; found = node_jobs o s.visits s.local } ∷ []) (node_on rows o (s.visits ++ record { job = job; arrive = now; found = node_jobs o s.visits s.local } ∷ []) s.local now (Arrive now v port job)).local)) s (s.visits ++ record { job = job; arrive = now; found = node_jobs o s.visits s.local } ∷ []) now (node_on rows o (s.visits ++ record { job = job; arrive = now; found = node_jobs o s.visits s.local } ∷ []) s.local now (Arrive now v port job)))
+peak-arrives rows None v port job s fs now f h = tt
+peak-arrives rows (Some node) v port job s fs now f h =
+    λ holds.
+    let x : Visit = record { job = job; arrive = now; found = node_jobs (Some node) s.visits s.local } in
+    peaked-arrives rows (behaviour_of node.kind) (inside_of rows node.kind) (laws_of rows node.kind) v port s now x refl ((laws_of rows node.kind).raises v port s fs now x refl holds f) (h holds)
+
+peak-ends : (rows : Rows) (o : Option Node) (rank : ℕ → ℕ) (v server position : ℕ) (s : Station Local) (fs rest : List Event) (now : ℕ) → earliest rank fs ≡ Some (Finish now v server position, rest) → node_fact rows o v s fs now → node_peaked o s →
+    node_peaked o (after_reaction s.peak s s.visits now (node_on rows o s.visits s.local now (Finish now v server position)))
+peak-ends rows None rank v server position s fs rest now first f h = tt
+peak-ends rows (Some node) rank v server position s fs rest now first f h =
+    λ holds. peaked-ends rows (behaviour_of node.kind) (inside_of rows node.kind) (laws_of rows node.kind) rank v server position s fs rest now first f (h holds)
+
+peak-keeps : (plan : Plan) (rows : Rows) → Keeps (standard plan rows) (λ v s fs now. node_fact rows (slice_get plan.net.nodes v) v s fs now × node_peaked (slice_get plan.net.nodes v) s)
+unfolding standard_opening standard_handle standard_jobs
+peak-keeps plan rows =
+    let keeps = standard-keeps plan rows (reader_from 0 plan.net.nodes) in
+    record {
+      opens = λ v. (keeps.opens v, peak-opens rows (slice_get plan.net.nodes v));
+      waits = λ v s fs now later h l f. (keeps.waits v s fs now later h.0 l f, peak-waits (slice_get plan.net.nodes v) s _ _ h.1);
+      arrives = λ v port job s fs now h f. (keeps.arrives v port job s fs now h.0 f, peak-arrives rows (slice_get plan.net.nodes v) v port job s fs now h.0 h.1);
+      ends = λ v server position s fs rest now h first. (keeps.ends v server position s fs rest now h.0 first, peak-ends rows (slice_get plan.net.nodes v) _ v server position s fs rest now first h.0 h.1);
+    }
 
 pub peak-is_greatest : PeakIsGreatest
-peak-is_greatest plan rows v node here holds = go node.kind refl
-  where
-    go : (kind : Kind) → node.kind ≡ kind → ((run_of plan rows).stations v).peak ≡ greatest_below (length ((run_of plan rows).stations v).visits) (λ p. unless_lost (fate_of node.kind ((run_of plan rows).stations v).emitted p) (found_or 0 (slice_get ((run_of plan rows).stations v).visits p) + 1))
-    go Source e = absurd (let none : true ≡ false = sym holds ∙ ap holds_jobs e in cc)
-    go (Server demand) e = raised-whole plan rows v node here (ap loses e) (raised-peak plan rows v node here holds (ap loses e))
-    go (Delay demand) e = raised-whole plan rows v node here (ap loses e) (raised-peak plan rows v node here holds (ap loses e))
-    go (Tandem stages) e = raised-whole plan rows v node here (ap loses e) (raised-peak plan rows v node here holds (ap loses e))
-    go (ForkJoin branches) e = raised-whole plan rows v node here (ap loses e) (raised-peak plan rows v node here holds (ap loses e))
-    go (Loss places demand) e =
-        let end = (run_of plan rows).stations v in
-        (lost-peak plan rows v node here places demand e).greatest
-        ∙ greatest-same (length end.visits) _ _ (λ p l. lost-out places demand (emission_at end.emitted p) (found_or 0 (slice_get end.visits p) + 1) ∙ ap (λ k. unless_lost (fate_of k end.emitted p) (found_or 0 (slice_get end.visits p) + 1)) (sym e))
-    go (Split route) e = absurd (let none : true ≡ false = sym holds ∙ ap holds_jobs e in cc)
+peak-is_greatest plan rows v node here holds =
+    (subst (λ o. node_peaked o ((run_of plan rows).stations v)) here
+    (kept (standard plan rows) (λ u s fs now. node_fact rows (slice_get plan.net.nodes u) u s fs now × node_peaked (slice_get plan.net.nodes u) s) (peak-keeps plan rows) (standard-on_time plan rows) (feeds_forward plan (standard plan rows) refl refl) (starts rows) (starts-arrive 0 rows.source rows.time) (9 * length plan.net.nodes * length rows.time) v).1 holds).greatest

@@ -21,7 +21,7 @@ pub record LeavesInTime {L : Type 0} (t : Table L) (P : Fact L) (Q : ℕ → Typ
   pub earlier : (v server position : ℕ) (s : Station L) (fs rest : List Event) (now : ℕ) → Q v → P v s fs now → earliest t.rank fs ≡ Some (Finish now v server position, rest) → (q p : ℕ) (m : Emission) → emission_at (emissions_at t s (Finish now v server position)) q ≡ Some m → q < p → p < length s.visits → arrival_or 0 (slice_get s.visits p) < now
 
 -- the emission of a position among more emissions
-emission_at-append : (emitted more : List Emission) (q : ℕ) → ((m : Emission) × (emission_at emitted q ≡ Some m) × (emission_at (emitted ++ more) q ≡ Some m)) ⊎ ((emission_at emitted q ≡ None) × (emission_at (emitted ++ more) q ≡ emission_at more q))
+pub emission_at-append : (emitted more : List Emission) (q : ℕ) → ((m : Emission) × (emission_at emitted q ≡ Some m) × (emission_at (emitted ++ more) q ≡ Some m)) ⊎ ((emission_at emitted q ≡ None) × (emission_at (emitted ++ more) q ≡ emission_at more q))
 emission_at-append [] more q = inr (refl, refl)
 emission_at-append (m ∷ ms) more q = go (eqb m.position q) (emission_at-append ms more q)
   where

@@ -1,5 +1,5 @@
 -- The laws of the kind.
-use Rattle.std.proofs.Common.{List, arith, length, refl, ◌+◌, ◌∙◌, ◌≡◌}
+use Rattle.std.proofs.Common.{List, arith, length, refl, ◌+◌, ◌∙◌, ◌≡◌, inl}
 use Rattle.std.specs.List.{flat_map}
 use Rattle.std.specs.Prelude.{sum_by}
 use Rattle.mq_core.specs.Handling.{demand_of_visit}
@@ -7,8 +7,9 @@ use Rattle.mq_core.specs.Kinds.ForkJoin.{fork_join}
 use Rattle.mq_core.specs.declared.model.Demand.{Demand}
 use Rattle.mq_core.specs.declared.model.Kind.TheVariants.{ForkJoin}
 use Rattle.mq_core.specs.declared.model.Rows.{Rows}
+use Rattle.mq_core.proofs.Counting.Unlost.{departing-whole}
 use Rattle.mq_core.proofs.Counting.Services.{none-asks, services-by, services-count}
-use Rattle.mq_core.proofs.EachKind.KindLaws.{Inside, KindLaws}
+use Rattle.mq_core.proofs.EachKind.KindLaws.{Inside, KindLaws, own_out}
 use Rattle.mq_core.proofs.Events.Remaining.{remaining}
 use Rattle.mq_core.proofs.ForkJoin.JoinBusy.{branches_begun, joining-busy_arrives, joining-busy_ends, joining-busy_opens, joining-busy_waits}
 use Rattle.mq_core.proofs.ForkJoin.JoinEnds.{joining-done}
@@ -54,4 +55,6 @@ fork_join-laws rows branches =
       enters = λ v port s fs now x at f. let more = joining-more rows branches v port s.local s.visits s.emitted fs now x at f in omega arith;
       leaves = λ rank v server position s fs rest now first h. joining-ends-few rows branches rank v server position s.local s.visits s.emitted fs rest now first h;
       vacant = omega arith;
+      raises = λ v port s fs now x at h f. inl (joining-more rows branches v port s.local s.visits s.emitted fs now x at f, λ n. departing-whole (ForkJoin branches) (λ m. refl) (own_out rows (fork_join branches) v port s now x) n);
+      departs = λ v server position s now q m e. refl;
     }

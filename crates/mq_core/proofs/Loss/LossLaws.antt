@@ -11,6 +11,7 @@ use Rattle.mq_core.specs.Tallies.{emission_at}
 use Rattle.mq_core.specs.declared.model.Demand.{Demand}
 use Rattle.mq_core.specs.declared.model.Kind.TheVariants.{Loss}
 use Rattle.mq_core.specs.declared.model.Rows.{Rows}
+use Rattle.mq_core.proofs.Loss.LossPeak.{losing-raises, losing-departs}
 use Rattle.mq_core.proofs.Counting.Services.{service-by}
 use Rattle.mq_core.proofs.Counting.Unlost.{lost-out}
 use Rattle.mq_core.proofs.EachKind.KindLaws.{Inside, KindLaws}
@@ -63,4 +64,6 @@ loss-laws rows places demand =
       enters = λ v port s fs now x at f. losing-arrives-few rows places demand s.local (s.visits ++ x ∷ []) now port x.job v;
       leaves = λ rank v server position s fs rest now first h. losing-ends-few rows demand s.visits s.local now;
       vacant = omega arith;
+      raises = λ v port s fs now x at h f. losing-raises rows places demand v port s now x;
+      departs = λ v server position s now q m e. losing-departs rows places demand s now q m s.local.queue e;
     }

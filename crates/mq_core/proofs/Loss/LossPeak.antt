@@ -1,108 +1,52 @@
--- The peak of a loss station.
-use Rattle.std.proofs.Common.{◌≡◌, ℕ, zero, suc, ◌+◌, ◌<◌, ◌≤◌, max, Bool, true, false, cond, eqb, ltb, List, [], ◌∷◌, ◌++◌, length, map, Some, None, sym, refl, ap, ◌∙◌, subst, arith, length-append}
-use Rattle.std.proofs.lemmas.List.{append-nil}
-use Rattle.std.specs.Prelude.{slice_get}
-use Rattle.std.specs.List.{AllByRecursion as Each}
-use Rattle.mq_core.specs.Event.{Event, time_of, earliest, sooner_of}
-use Rattle.mq_core.specs.Event.Event.{Arrive, Finish}
-use Rattle.mq_core.specs.Machine.{Visit, Emission, emissions_of, emission_of}
+-- Who raises the number in a loss station, and who is lost.
+use Rattle.std.proofs.Common.{◌≡◌, ◌⊎◌, ◌≤◌, inl, inr, ℕ, ◌+◌, Bool, true, false, cond, eqb, List, [], ◌∷◌, ◌++◌, length, Option, Some, None, refl, ap, subst, arith, eq-eqb}
+use Rattle.std.specs.Prelude.{slice_get, nat_lt}
+use Rattle.mq_base.proofs.Lists.{some_inj}
+use Rattle.mq_core.specs.Handling.{front_leaves, joins, latest, passes_on}
+use Rattle.mq_core.specs.Kinds.Loss.{loss}
 use Rattle.mq_core.specs.Local.{Local}
-use Rattle.mq_core.specs.Handling.{latest, joins, passes_on, front_leaves}
-use Rattle.mq_core.specs.LossHandler.{loss_on}
-use Rattle.mq_core.specs.Tallies.{greatest_below, emission_at, found_or}
+use Rattle.mq_core.specs.Machine.{Visit, Emission, Reaction, Station, emission_of, emissions_of}
+use Rattle.mq_core.specs.Fates.{unless_lost}
+use Rattle.std.specs.Option.{option_map}
+use Rattle.mq_core.specs.Tallies.{emission_at}
 use Rattle.mq_core.specs.declared.model.Demand.{Demand}
+use Rattle.mq_core.specs.declared.model.Fate.TheVariants.{Departs}
 use Rattle.mq_core.specs.declared.model.Rows.{Rows}
-use Rattle.mq_core.proofs.Events.Areas.{get-front, get-last}
-use Rattle.mq_core.proofs.Events.EmissionsAt.{found-behind, other-behind}
-use Rattle.mq_core.proofs.Loss.Loses.{Losing, ToLeave, front_finish, front-emission}
-use Rattle.mq_core.proofs.Counting.Releases.{joins-longer, joins-nothing}
-use Rattle.mq_core.proofs.Server.Serves.{latest-push, pair-inj}
-use Rattle.mq_core.proofs.Loss.LossTallies.{losing-new}
-use Rattle.mq_core.proofs.Counting.Unlost.{unless_out}
+use Rattle.mq_core.proofs.Counting.Released.{joins-length, joins-emits}
+use Rattle.mq_core.proofs.EachKind.KindLaws.{Raises}
+use Rattle.mq_core.proofs.Server.Serves.{latest-push, slice_get-middle}
 
--- the peak so far is the greatest number that a visit made which wasn't lost, and no less than the number now
-pub record Peaked (visits : List Visit) (queue : List ℕ) (emitted : List Emission) (peak : ℕ) : Type 0 where
-  pub greatest : peak ≡ greatest_below (length visits) (λ p. unless_out (emission_at emitted p) (found_or 0 (slice_get visits p) + 1))
-  pub enough : length queue ≤ peak
+-- what a visit that finds no place lets out: itself, by output 1
+lost-out_now : (s : Station Local) (now : ℕ) (x : Visit) → emission_at (emissions_of now (s.visits ++ x ∷ []) (record { out = 1; position = latest (s.visits ++ x ∷ []) } ∷ [])) (length s.visits) ≡ Some (record { out = 1; position = length s.visits; job = x.job; time = now })
+lost-out_now s now x = rw (latest-push s.visits x, slice_get-middle s.visits [] x, eq-eqb (length s.visits) (length s.visits) refl) refl
 
-greatest-alike : (n : ℕ) (f g : ℕ → ℕ) → ((k : ℕ) → k < n → f k ≡ g k) → greatest_below n f ≡ greatest_below n g
-greatest-alike zero f g h = refl
-greatest-alike (suc n) f g h = λ i. max (h n (omega arith) i) (greatest-alike n f g (λ k l. h k (omega arith)) i)
-
--- what leaves by the other output changes no number
-unless-push : (p n : ℕ) (ms : List Emission) (m : Emission) → m.out ≡ 0 → unless_out (emission_at (ms ++ m ∷ []) p) n ≡ unless_out (emission_at ms p) n
-unless-push p n [] m out = go (eqb m.position p)
+pub losing-raises : (rows : Rows) (places : ℕ) (demand : Demand) (v port : ℕ) (s : Station Local) (now : ℕ) (x : Visit) → Raises rows (loss places demand) v port s now x
+losing-raises rows places demand v port s now x = go (nat_lt (length s.local.queue) places)
   where
-    none : eqb m.out 1 ≡ false
-    none = ap (λ o. eqb o 1) out
+    visits : List Visit
+    visits = s.visits ++ x ∷ []
 
-    go : (b : Bool) → unless_out (cond b (Some m) None) n ≡ n
-    go true = ap (λ b. cond b 0 n) none
-    go false = refl
-unless-push p n (y ∷ ys) m out = go (eqb y.position p) (unless-push p n ys m out)
+    after : Bool → Reaction Local
+    after b = cond b (joins rows demand (s.visits ++ x ∷ []) s.local now s.local.queue (latest (s.visits ++ x ∷ []))) (passes_on s.local 1 (latest (s.visits ++ x ∷ [])))
+
+    go : (b : Bool) →
+        ((length (after b).local.queue ≡ length s.local.queue + 1) × ((n : ℕ) → unless_lost (option_map (loss places demand).fate (emission_at (emissions_of now (s.visits ++ x ∷ []) (after b).releases) (length s.visits))) n ≡ n))
+        ⊎ ((length (after b).local.queue ≤ length s.local.queue) × ((n : ℕ) → unless_lost (option_map (loss places demand).fate (emission_at (emissions_of now (s.visits ++ x ∷ []) (after b).releases) (length s.visits))) n ≡ 0))
+    go true = inl (
+      (let l = joins-length rows demand visits s.local now s.local.queue (latest visits) in omega arith),
+      λ n. ap (λ l. unless_lost (option_map (loss places demand).fate (emission_at l (length s.visits))) n) (joins-emits rows demand visits s.local now s.local.queue (latest visits)),
+    )
+    go false = inr (omega arith, λ n. ap (λ o. unless_lost (option_map (loss places demand).fate o) n) (lost-out_now s now x))
+
+-- who is let out by a finish leaves by output 0
+pub losing-departs : (rows : Rows) (places : ℕ) (demand : Demand) (s : Station Local) (now q : ℕ) (m : Emission) (queue : List ℕ) → emission_at (emissions_of now s.visits (front_leaves rows demand s.visits s.local now queue).releases) q ≡ Some m → (loss places demand).fate m ≡ Departs m.time
+losing-departs rows places demand s now q m [] e = absurd cc
+losing-departs rows places demand s now q m (front ∷ queue) e = go (slice_get s.visits front) e
   where
-    go : (b : Bool) → unless_out (emission_at (ys ++ m ∷ []) p) n ≡ unless_out (emission_at ys p) n → unless_out (cond b (Some y) (emission_at (ys ++ m ∷ []) p)) n ≡ unless_out (cond b (Some y) (emission_at ys p)) n
-    go true ih = refl
-    go false ih = ih
-
-module _ (rows : Rows) (places : ℕ) (demand : Demand) (v : ℕ) where
-  pub peaked-arrives : (port : ℕ) (local : Local) (visits : List Visit) (emitted : List Emission) (fs : List Event) (now peak : ℕ) (x : Visit) → x.found ≡ length local.queue → Losing rows places demand v visits local.queue emitted fs now → Peaked visits local.queue emitted peak →
-      Peaked (visits ++ x ∷ []) (loss_on rows places demand (visits ++ x ∷ []) local now (Arrive now v port x.job)).local.queue
-      (emitted ++ emissions_of now (visits ++ x ∷ []) (loss_on rows places demand (visits ++ x ∷ []) local now (Arrive now v port x.job)).releases)
-      (max peak (length (loss_on rows places demand (visits ++ x ∷ []) local now (Arrive now v port x.job)).local.queue))
-  peaked-arrives port local visits emitted fs now peak x found h k = go (ltb (length local.queue) places)
-    where
-      size : length (visits ++ x ∷ []) ≡ suc (length visits)
-      size = omega (arith, length-append visits (x ∷ []))
-
-      new : emission_at emitted (length visits) ≡ None
-      new = losing-new rows places demand v visits local.queue emitted fs now h
-
-      front : (es : List Emission) → ((p : ℕ) → p < length visits → emission_at es p ≡ emission_at emitted p) → greatest_below (length visits) (λ p. unless_out (emission_at es p) (found_or 0 (slice_get (visits ++ x ∷ []) p) + 1)) ≡ peak
-      front es same = greatest-alike (length visits) _ _ (λ p l. λ i. unless_out (same p l i) (found_or 0 (get-front p visits (x ∷ []) l i) + 1)) ∙ sym k.greatest
-
-      joined : Peaked (visits ++ x ∷ []) (joins rows demand (visits ++ x ∷ []) local now local.queue (latest (visits ++ x ∷ []))).local.queue (emitted ++ emissions_of now (visits ++ x ∷ []) (joins rows demand (visits ++ x ∷ []) local now local.queue (latest (visits ++ x ∷ []))).releases) (max peak (length (joins rows demand (visits ++ x ∷ []) local now local.queue (latest (visits ++ x ∷ []))).local.queue))
-      joined =
-          let longer = joins-longer rows demand (visits ++ x ∷ []) local now local.queue (latest (visits ++ x ∷ [])) in
-          let none : emitted ++ emissions_of now (visits ++ x ∷ []) (joins rows demand (visits ++ x ∷ []) local now local.queue (latest (visits ++ x ∷ []))).releases ≡ emitted = ap (λ l. emitted ++ l) (joins-nothing rows demand (visits ++ x ∷ []) local now local.queue (latest (visits ++ x ∷ []))) ∙ append-nil emitted in
-          let own : unless_out (emission_at emitted (length visits)) (found_or 0 (slice_get (visits ++ x ∷ []) (length visits)) + 1) ≡ x.found + 1 = λ i. unless_out (new i) (found_or 0 (get-last visits x i) + 1) in
-          let rest = front emitted (λ p l. refl) in
-          let all = ap (λ n. greatest_below n (λ p. unless_out (emission_at emitted p) (found_or 0 (slice_get (visits ++ x ∷ []) p) + 1))) size in
-          let same = ap (λ es. greatest_below (length (visits ++ x ∷ [])) (λ p. unless_out (emission_at es p) (found_or 0 (slice_get (visits ++ x ∷ []) p) + 1))) none in
-          record { greatest = omega arith; enough = omega arith }
-
-      lost : Peaked (visits ++ x ∷ []) local.queue (emitted ++ emissions_of now (visits ++ x ∷ []) (record { out = 1; position = latest (visits ++ x ∷ []) } ∷ [])) (max peak (length local.queue))
-      lost =
-          let m : Emission = record { out = 1; position = length visits; job = x.job; time = now } in
-          let place : latest (visits ++ x ∷ []) ≡ length visits = latest-push visits x in
-          let one : emitted ++ emissions_of now (visits ++ x ∷ []) (record { out = 1; position = latest (visits ++ x ∷ []) } ∷ []) ≡ emitted ++ record { out = 1; position = length visits; job = x.job; time = now } ∷ [] =
-          ap (λ o. emitted ++ (emission_of now 1 (latest (visits ++ x ∷ [])) o ++ [])) (ap (slice_get (visits ++ x ∷ [])) place ∙ get-last visits x) ∙ ap (λ n. emitted ++ record { out = 1; position = n; job = x.job; time = now } ∷ []) place in
-          let own : unless_out (emission_at (emitted ++ record { out = 1; position = length visits; job = x.job; time = now } ∷ []) (length visits)) (found_or 0 (slice_get (visits ++ x ∷ []) (length visits)) + 1) ≡ 0 = ap (λ o. unless_out o (found_or 0 (slice_get (visits ++ x ∷ []) (length visits)) + 1)) (found-behind (length visits) emitted m refl new) in
-          let rest = front (emitted ++ record { out = 1; position = length visits; job = x.job; time = now } ∷ []) (λ p l. other-behind p emitted m (λ e. omega arith)) in
-          let all = ap (λ n. greatest_below n (λ p. unless_out (emission_at (emitted ++ record { out = 1; position = length visits; job = x.job; time = now } ∷ []) p) (found_or 0 (slice_get (visits ++ x ∷ []) p) + 1))) size in
-          let same = ap (λ es. greatest_below (length (visits ++ x ∷ [])) (λ p. unless_out (emission_at es p) (found_or 0 (slice_get (visits ++ x ∷ []) p) + 1))) one in
-          let high = k.enough in
-          record { greatest = omega arith; enough = omega arith }
-
-      go : (b : Bool) → Peaked (visits ++ x ∷ []) (cond b (joins rows demand (visits ++ x ∷ []) local now local.queue (latest (visits ++ x ∷ []))) (passes_on local 1 (latest (visits ++ x ∷ [])))).local.queue (emitted ++ emissions_of now (visits ++ x ∷ []) (cond b (joins rows demand (visits ++ x ∷ []) local now local.queue (latest (visits ++ x ∷ []))) (passes_on local 1 (latest (visits ++ x ∷ [])))).releases) (max peak (length (cond b (joins rows demand (visits ++ x ∷ []) local now local.queue (latest (visits ++ x ∷ []))) (passes_on local 1 (latest (visits ++ x ∷ [])))).local.queue))
-      go true = joined
-      go false = lost
-
-  pub peaked-ends : (local : Local) (rank : ℕ → ℕ) (server position : ℕ) (visits : List Visit) (queue : List ℕ) (emitted : List Emission) (fs rest : List Event) (now peak : ℕ) → earliest rank fs ≡ Some (Finish now v server position, rest) → Losing rows places demand v visits queue emitted fs now → Peaked visits queue emitted peak →
-      Peaked visits (front_leaves rows demand visits local now queue).local.queue (emitted ++ emissions_of now visits (front_leaves rows demand visits local now queue).releases) peak
-  unfolding earliest sooner_of
-  peaked-ends local rank server position visits queue emitted fs rest now peak first h k = go h.coming h.waiting h.next h.held
-    where
-      go : (ms : List Emission) → queue ≡ map (λ (m : Emission). m.position) ms → fs ≡ front_finish v ms → Each (ToLeave visits) ms → Peaked visits (front_leaves rows demand visits local now queue).local.queue (emitted ++ emissions_of now visits (front_leaves rows demand visits local now queue).releases) peak
-      go [] q n held = let none = subst (λ l. earliest rank l ≡ Some (Finish now v server position, rest)) n first in absurd cc
-      go (m ∷ ms) q n held =
-          let one = subst (λ l. earliest rank l ≡ Some (Finish now v server position, rest)) n first in
-          let time : m.time ≡ now = ap time_of (pair-inj (Finish m.time v 0 m.position, []) (Finish now v server position, rest) one).0 in
-          let out : emitted ++ (emission_of now 0 m.position (slice_get visits m.position) ++ []) ≡ emitted ++ m ∷ [] = ap (λ l. emitted ++ l) (front-emission visits now m time held.0) in
-          let less = ap length q in
-          let high = k.enough in
-          rw q
-          (record {
-            greatest = k.greatest ∙ (sym (greatest-alike (length visits) _ _ (λ p l. unless-push p (found_or 0 (slice_get visits p) + 1) emitted m held.0.out)) ∙ ap (λ es. greatest_below (length visits) (λ p. unless_out (emission_at es p) (found_or 0 (slice_get visits p) + 1))) (sym out));
-            enough = omega arith;
-          })
+    go : (o : Option Visit) → emission_at (emission_of now 0 front o ++ []) q ≡ Some m → (loss places demand).fate m ≡ Departs m.time
+    go None k = absurd cc
+    go (Some y) k = found (eqb front q) k
+      where
+        found : (b : Bool) → cond b (Some (record { out = 0; position = front; job = y.job; time = now })) None ≡ Some m → (loss places demand).fate m ≡ Departs m.time
+        found true f = subst (λ n. (loss places demand).fate n ≡ Departs n.time) (some_inj (record { out = 0; position = front; job = y.job; time = now }) m f) refl
+        found false f = absurd cc

@@ -45,4 +45,6 @@ source-laws rows =
       enters = λ v port s fs now x at f. let l = emission-one now 0 (latest (s.visits ++ x ∷ [])) (slice_get (s.visits ++ x ∷ []) (latest (s.visits ++ x ∷ []))) in omega arith;
       leaves = λ rank v server position s fs rest now first h. omega arith;
       vacant = refl;
+      raises = λ v port s fs now x at h f. absurd cc;
+      departs = λ v server position s now q m e. refl;
     }

@@ -47,4 +47,6 @@ split-laws rows route =
       enters = λ v port s fs now x at f. let l = emission-one now (output_by rows route x.job (latest (s.visits ++ x ∷ []))) (latest (s.visits ++ x ∷ [])) (slice_get (s.visits ++ x ∷ []) (latest (s.visits ++ x ∷ []))) in omega arith;
       leaves = λ rank v server position s fs rest now first h. omega arith;
       vacant = refl;
+      raises = λ v port s fs now x at h f. absurd cc;
+      departs = λ v server position s now q m e. refl;
     }

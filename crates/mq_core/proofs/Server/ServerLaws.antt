@@ -6,9 +6,10 @@ use Rattle.mq_core.specs.Tallies.{sum_below}
 use Rattle.mq_core.specs.declared.model.Demand.{Demand}
 use Rattle.mq_core.specs.declared.model.Kind.TheVariants.{Server}
 use Rattle.mq_core.specs.declared.model.Rows.{Rows}
+use Rattle.mq_core.proofs.Counting.Unlost.{departing-whole}
 use Rattle.mq_core.proofs.Counting.Released.{joins-emits, joins-length, no_release}
 use Rattle.mq_core.proofs.Counting.Services.{services-by, services-count}
-use Rattle.mq_core.proofs.EachKind.KindLaws.{Inside, KindLaws}
+use Rattle.mq_core.proofs.EachKind.KindLaws.{Inside, KindLaws, own_out}
 use Rattle.mq_core.proofs.Events.Remaining.{remaining}
 use Rattle.mq_core.proofs.Server.ServerBusy.{begun, busy-arrives, busy-ends, busy-waits}
 use Rattle.mq_core.proofs.Server.ServerLoads.{serving-adds, serving-leaves, serving-takes}
@@ -59,4 +60,6 @@ server-laws rows demand =
           omega arith;
       leaves = λ rank v server position s fs rest now first h. serving-leaves rows demand s now;
       vacant = omega arith;
+      raises = λ v port s fs now x at h f. inl (let r = joins-length rows demand (s.visits ++ x ∷ []) s.local now s.local.queue (latest (s.visits ++ x ∷ [])) in omega arith, λ n. departing-whole (Server demand) (λ m. refl) (own_out rows (server demand) v port s now x) n);
+      departs = λ v server position s now q m e. refl;
     }

@@ -1,16 +1,17 @@
 -- The laws of the kind.
-use Rattle.std.proofs.Common.{List, [], arith, length, refl, ◌++◌, ◌+◌, ◌∷◌, ◌≡◌}
+use Rattle.std.proofs.Common.{List, [], arith, length, refl, ◌++◌, ◌+◌, ◌∷◌, ◌≡◌, inl}
 use Rattle.mq_core.specs.Kinds.Tandem.{tandem}
 use Rattle.mq_core.specs.declared.model.Kind.TheVariants.{Tandem}
 use Rattle.mq_core.specs.declared.model.Rows.{Rows}
 use Rattle.mq_core.specs.declared.model.Stage.{Stage}
+use Rattle.mq_core.proofs.Counting.Unlost.{departing-whole}
 use Rattle.mq_core.proofs.Counting.Released.{no_release}
 use Rattle.mq_core.proofs.Counting.Services.{services-count}
-use Rattle.mq_core.proofs.EachKind.KindLaws.{Inside, KindLaws}
+use Rattle.mq_core.proofs.EachKind.KindLaws.{Inside, KindLaws, own_out}
 use Rattle.mq_core.proofs.Events.Remaining.{remaining}
 use Rattle.mq_core.proofs.Networks.Soundness.{sound-stages}
 use Rattle.mq_core.proofs.Tandem.TandemBusy.{begun-empty, begun_in, tandeming-busy_arrives, tandeming-busy_ends, tandeming-busy_waits, tandeming-served}
-use Rattle.mq_core.proofs.Tandem.TandemLoad.{held-empty, load-empty, load_in, tandem_arrives-few, tandeming-arrives_falls, tandeming-ends_falls, tandeming-fewer, tandeming-shows}
+use Rattle.mq_core.proofs.Tandem.TandemLoad.{held-empty, load-empty, load_in, tandem_arrives-few, tandeming-arrives_falls, tandeming-arrives_more, tandeming-ends_falls, tandeming-fewer, tandeming-shows}
 use Rattle.mq_core.proofs.Tandem.TandemNumbers.{tandem_arrives-out, tandeming-done, tandeming-earlier, tandeming-number}
 use Rattle.mq_core.proofs.Tandem.Tandems.{Tandeming, tandeming-arrives, tandeming-ends, tandeming-opens, tandeming-waits}
 
@@ -50,4 +51,6 @@ tandem-laws rows stages =
       enters = λ v port s fs now x at f. tandem_arrives-few rows (s.visits ++ x ∷ []) s.local now stages s.local.lines refl;
       leaves = λ rank v server position s fs rest now first h. let all = tandeming-fewer rows v s.visits s.emitted rank fs rest now server position first stages s.local.lines h in omega arith;
       vacant = held-empty stages;
+      raises = λ v port s fs now x at h f. inl (tandeming-arrives_more rows stages v s.local s.visits (s.visits ++ x ∷ []) s.local.lines s.emitted fs now f, λ n. departing-whole (Tandem stages) (λ m. refl) (own_out rows (tandem stages) v port s now x) n);
+      departs = λ v server position s now q m e. refl;
     }
