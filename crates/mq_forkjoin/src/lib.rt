@@ -3,11 +3,12 @@
 
 ghost use Rattle.std.specs.Prelude.{◌≡◌, ◌^◌, ◌≤◌, All, length, IfOk};
 ghost use Rattle.mq_core.specs.Columns.{IsSoundLoad};
-ghost use Rattle.mq_core.specs.Recurrences.{fork_departs, in_series, later_of, lindley};
+ghost use Rattle.mq_core.specs.Recurrences.{fork_departs, in_series, later_of};
 ghost use Rattle.mq_forkjoin.specs.Branches.{AreBranches, branches_of};
 
 use mq_base::{List, OutOfMemory};
 use mq_core::Stream;
+use mq_server::departures_behind;
 use std::alloc::Global;
 
 #[cfg(test)]
@@ -57,26 +58,9 @@ fn branch_departures(
 {
     let mut departs = copy_of(alloc, arrive)?;
     for column in demands {
-        departs = served(alloc, &departs, column)?;
+        departs = departures_behind(alloc, &departs, column)?;
     }
     Ok(departs)
-}
-
-// When each job leaves a server that serves the jobs one by one.
-fn served(alloc: Global, arrive: &List<u64>, demands: &List<u64>) -> Result<List<u64>, OutOfMemory>
-    requires few { length arrive.now ≤ 1048576 }
-    requires each { length demands.now ≡ length arrive.now }
-    requires early { All (λ time. time ≤ 2 ^ 62) arrive.now }
-    requires small { All (λ demand. demand ≤ 2 ^ 36) demands.now }
-    ensures { IfOk result (λ departs. departs ≡ lindley 0 arrive.now demands.now) }
-{
-    let mut departs = Vec::with_capacity(alloc, arrive.len())?;
-    let mut last = 0;
-    for at in 0..arrive.len() {
-        last = last.max(*arrive.get(at)) + *demands.get(at);
-        departs.push_reserved(last);
-    }
-    Ok(List::from_vec(departs))
 }
 
 // Place by place the later of two times.

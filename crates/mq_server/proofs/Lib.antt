@@ -1,1 +1,1 @@
-mod Recurrence
+pub mod Recurrence

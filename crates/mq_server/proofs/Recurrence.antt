@@ -1,44 +1,30 @@
--- One step of Lindley's recurrence, and the bound on what it gives.
-use Rattle.std.proofs.Common.{◌≡◌, ℕ, ◌+◌, ◌*◌, ◌^◌, ◌<◌, ◌≤◌, List, [], ◌∷◌, ◌++◌, length, drop, Some, sym, ap, ◌∙◌, arith, append_assoc, max, subst}
-use Rattle.std.specs.Prelude.{slice_get}
-use Rattle.std.specs.Ordering.{ord_max, nat_cmp}
-use Rattle.std.proofs.lemmas.Bool.Decides.{nat_tests}
-use Rattle.std.proofs.lemmas.Option.{slice_get_within, get_or_from_slice_get}
-use Rattle.std.proofs.lemmas.List.{append-nil, drop_all}
-use Rattle.std.proofs.lemmas.List.Elements.{All-get_or}
-use Rattle.mq_base.proofs.Lists.{drop_at}
-use Rattle.mq_core.specs.Columns.{IsSoundLoad}
+-- The carries of a server's scan are the departures of Lindley's recurrence.
+use Rattle.std.proofs.Common.{◌≡◌, ℕ, zero, suc, ◌+◌, List, ◌∷◌, length, get_or, drop, map, max, sym, ap, ◌∙◌, arith}
+use Rattle.std.proofs.lemmas.List.{drop_all}
+use Rattle.std.proofs.Math.Seq.{drop-cons}
+use Rattle.mq_maxplus.specs.declared.mp.Mp.{Mp}
+use Rattle.mq_maxplus.specs.declared.mp.Mp.TheVariants.{Void, At}
+use Rattle.mq_maxplus.specs.Maxplus.{affine_act, mp_or_zero}
+use Rattle.mq_scan.specs.Folds.{fold_to, carries_after}
 use Rattle.mq_core.specs.Recurrences.{lindley}
+use Rattle.mq_server.specs.Jobs.{job, IsLateLoad}
 
--- what the code's `max` gives
-ord_max-max : (last time : ℕ) → ord_max nat_cmp last time ≡ max time last
-ord_max-max last time = grind (arith, nat_tests)
+-- what a job makes of the last departure
+next-departure : (x : Mp) (arrive demands : List ℕ) (at : ℕ) → mp_or_zero (affine_act (job arrive demands at) x) ≡ max (get_or arrive at 0) (mp_or_zero x) + get_or demands at 0
+next-departure Void arrive demands at = omega arith
+next-departure (At t) arrive demands at = omega arith
 
--- the departures so far with those of what is left, one job further
-pub lindley-next : (done done' all times demands : List ℕ) (last begin i time demand : ℕ) → begin ≡ ord_max nat_cmp last time → slice_get times i ≡ Some time → slice_get demands i ≡ Some demand → done' ≡ done ++ (begin + demand) ∷ [] →
-    done ++ lindley last (drop i times) (drop i demands) ≡ all → done' ++ lindley (begin + demand) (drop (i + 1) times) (drop (i + 1) demands) ≡ all
-lindley-next done done' all times demands last begin i time demand m t d p h =
-    let begins : begin ≡ max time last = m ∙ ord_max-max last time in
-    ap (λ xs. xs ++ lindley (begin + demand) (drop (i + 1) times) (drop (i + 1) demands)) p
-    ∙ (append_assoc done _ _
-    ∙ (ap (λ b. done ++ (b + demand) ∷ lindley (b + demand) (drop (i + 1) times) (drop (i + 1) demands)) begins
-    ∙ (sym (ap (λ (q : List ℕ × List ℕ). done ++ lindley last q.0 q.1) (λ k. ((drop_at times i time t k), (drop_at demands i demand d k)))) ∙ h)))
+module _ (arrive demands : List ℕ) (load : IsLateLoad arrive demands) where
+  abbrev Fold : ℕ → Mp
+  Fold = fold_to affine_act Void (job arrive demands)
 
--- the next departure is in its limit
-pub record IsEarly (begin demand i : ℕ) : Type 0 where
-  pub limit : begin + demand ≤ 2 ^ 60 + (i + 1) * 2 ^ 36
-  pub few : i < 1048576
+  from-here : (at n : ℕ) → at + n ≡ length arrive → map mp_or_zero (carries_after affine_act Void (job arrive demands) at n) ≡ lindley (mp_or_zero (Fold at)) (drop at arrive) (drop at demands)
+  from-here at zero e = ap (λ xs. lindley (mp_or_zero (Fold at)) xs (drop at demands)) (sym (drop_all at arrive (omega arith)))
+  from-here at (suc n) e =
+      let each = load.each in
+      let time = next-departure (Fold at) arrive demands at in
+      (λ i. time i ∷ (from-here (suc at) n (omega arith) ∙ ap (λ (last : ℕ). lindley last (drop (suc at) arrive) (drop (suc at) demands)) time) i)
+      ∙ sym (λ i. lindley (mp_or_zero (Fold at)) (drop-cons arrive at 0 (omega arith) i) (drop-cons demands at 0 (omega arith) i))
 
-pub early : (times demands : List ℕ) (last begin i time demand : ℕ) → begin ≡ ord_max nat_cmp last time → IsSoundLoad times demands → slice_get times i ≡ Some time → slice_get demands i ≡ Some demand → last ≤ 2 ^ 60 + i * 2 ^ 36 → IsEarly begin demand i
-early times demands last begin i time demand m load t d h =
-    let begins : begin ≡ max time last = m ∙ ord_max-max last time in
-    let a = slice_get_within times i time t in
-    let b = slice_get_within demands i demand d in
-    let c : time ≤ 2 ^ 60 = subst (λ x. x ≤ 2 ^ 60) (get_or_from_slice_get times i time 0 t) (All-get_or (λ x. x ≤ 2 ^ 60) times i 0 a load.early) in
-    let e : demand ≤ 2 ^ 36 = subst (λ x. x ≤ 2 ^ 36) (get_or_from_slice_get demands i demand 0 d) (All-get_or (λ x. x ≤ 2 ^ 36) demands i 0 b load.small) in
-    let f = load.few in
-    record { limit = omega arith; few = omega arith }
-
--- at the end nothing is left
-pub lindley-all : (done all times demands : List ℕ) (last i : ℕ) → length times ≤ i → done ++ lindley last (drop i times) (drop i demands) ≡ all → done ≡ all
-lindley-all done all times demands last i l h = sym (append-nil done) ∙ (ap (λ xs. done ++ lindley last xs (drop i demands)) (sym (drop_all i times l)) ∙ h)
+  pub all-departures : map mp_or_zero (carries_after affine_act Void (job arrive demands) 0 (length arrive)) ≡ lindley 0 arrive demands
+  all-departures = from-here 0 (length arrive) (omega arith)

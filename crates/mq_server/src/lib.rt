@@ -1,23 +1,32 @@
 //! The station with one server: first come, first served, with unlimited room.
 #![tactic(auto)]
 
-ghost use Rattle.std.specs.Prelude.{◌≡◌, ◌+◌, ◌*◌, ◌^◌, ◌≤◌, IfOk};
+ghost use Rattle.std.specs.Prelude.{◌≡◌, length, map, IfOk};
 ghost use Rattle.mq_core.specs.Columns.{IsSoundLoad};
 ghost use Rattle.mq_core.specs.Recurrences.{lindley};
+ghost use Rattle.mq_maxplus.specs.declared.mp.Mp.TheVariants.{Void};
+ghost use Rattle.mq_maxplus.specs.Maxplus.{affine_act, mp_or_zero};
+ghost use Rattle.mq_scan.specs.Folds.{carries_after};
+ghost use Rattle.mq_server.specs.Jobs.{job, IsLateLoad};
+
+mod step;
+#[cfg(test)]
+mod tests;
 
 use mq_base::{List, OutOfMemory};
 use mq_core::Stream;
+use mq_scan::scan_times;
 use std::alloc::Global;
+pub use step::ServerStep;
 
-#[cfg(test)]
-mod tests;
+// How many jobs of a scan are a block.
+const BLOCK: u32 = 4096;
 
 /// When each job leaves a server that serves the jobs one by one in the order of the stream: one
 /// departure a job, by position, in ticks. A job begins at its arrival or when the job before it
 /// leaves, whichever is later, and takes its demand, in ticks of service (Lindley's recurrence).
-/// It refuses for want of memory alone.
-// It is not inlined, so that its loop has the registers to itself.
-#[inline(never)]
+/// It is a scan of the affine maps that the jobs make of the last departure (Greenberg, Lubachevsky
+/// and Mitrani, 1991). It refuses for want of memory alone.
 pub fn departures(
     alloc: Global,
     stream: &Stream,
@@ -26,11 +35,34 @@ pub fn departures(
     requires { IsSoundLoad stream.now.time demands.now }
     ensures { IfOk result (λ departs. departs ≡ lindley 0 stream.now.time demands.now) }
 {
-    let mut departs = Vec::with_capacity(alloc, demands.len())?;
-    let mut last = 0;
-    for at in 0..stream.time.len() {
-        last = last.max(*stream.time.get(at)) + *demands.get(at);
-        departs.push_reserved(last);
-    }
-    Ok(List::from_vec(departs))
+    departures_of(alloc, &ServerStep::new(stream, demands))
+}
+
+/// The same for jobs that come at these times, from other servers perhaps, which may be later than
+/// those of a stream.
+pub fn departures_behind(
+    alloc: Global,
+    arrive: &List<u64>,
+    demands: &List<u64>,
+) -> Result<List<u64>, OutOfMemory>
+    requires { IsLateLoad arrive.now demands.now }
+    ensures { IfOk result (λ departs. departs ≡ lindley 0 arrive.now demands.now) }
+{
+    departures_of(alloc, &ServerStep::behind(arrive, demands))
+}
+
+// When each job leaves the server.
+// It is not inlined, so that its loop has the registers to itself.
+#[inline(never)]
+fn departures_of(alloc: Global, step: &ServerStep) -> Result<List<u64>, OutOfMemory>
+    ensures { IfOk result (λ departs. departs ≡ lindley 0 step.now.arrive.now step.now.demands.now) }
+{
+    scan_times(step, alloc, BLOCK)
+}
+
+/// Law. The carries of the scan of a server's jobs are its departures.
+pub fn carries_are_departures(step: &ServerStep)
+    ensures { map mp_or_zero (carries_after affine_act Void (job step.now.arrive.now step.now.demands.now) 0 (length step.now.arrive.now)) ≡ lindley 0 step.now.arrive.now step.now.demands.now }
+{
+    let _ = step;
 }

@@ -1,5 +1,11 @@
 mod Lists
-mod Rooms
-mod Passing
 mod Looking
-mod Working
+mod Rows
+mod Putting
+mod Passing
+mod Begins
+mod Columns
+mod Mapping
+mod Running
+mod Latest
+mod Recurrence

@@ -1,1 +1,4 @@
 pub mod Stages
+pub mod Rows
+pub mod Linear
+pub mod Bounds

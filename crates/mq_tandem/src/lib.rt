@@ -2,26 +2,34 @@
 //! among them.
 #![tactic(auto)]
 
-ghost use Rattle.std.specs.Prelude.{◌≡◌, ◌^◌, ◌≤◌, ◌∷◌, All, [], drop, length, map, take, IfOk};
+ghost use Rattle.std.specs.Prelude.{◌≡◌, All, [], length, map, IfOk};
 ghost use Rattle.mq_core.specs.Columns.{IsSoundLoad};
-ghost use Rattle.mq_core.specs.Recurrences.{each_before, firsts, last_time, room_in, stage_departs, tandem_departs};
-ghost use Rattle.mq_tandem.specs.Stages.{AreStages, HasDemand};
+ghost use Rattle.mq_core.specs.Recurrences.{tandem_departs};
+ghost use Rattle.mq_maxplus.specs.Maxplus.{mp_or_zero};
+ghost use Rattle.mq_maxplus.specs.Matrices.{entry, matrix_act};
+ghost use Rattle.mq_scan.specs.Folds.{carries_after};
+ghost use Rattle.mq_tandem.specs.Stages.{AreStages};
+ghost use Rattle.mq_tandem.specs.Rows.{job_matrix, kept, last_row, none_kept};
 
-use mq_base::{List, OutOfMemory};
-use mq_core::Stream;
-use std::alloc::Global;
-
+mod likeness;
+mod step;
 #[cfg(test)]
 mod tests;
 
-// The four latest departures from a stage, in ticks, the latest first; 0 where there is none. No
-// stage looks back further, since it has at most four places.
-type Latest = [u64; 4];
+use mq_base::{List, OutOfMemory};
+use mq_core::Stream;
+use mq_scan::scan_times;
+use std::alloc::Global;
+pub use step::TandemStep;
+
+// How many jobs of a scan are a block.
+const BLOCK: u32 = 4096;
 
 /// When each job leaves the last stage of a tandem: one departure a job, by position, in ticks.
 /// Each stage serves the jobs one by one in the order of the stream, and a job that is done stays
 /// at its server until the next stage has room for it (production blocking): until the job that
-/// came there as many before it as the stage has places has left.
+/// came there as many before it as the stage has places has left. It is a scan of the max-plus
+/// matrices that the jobs make of the latest departures (Greenberg, Lubachevsky and Mitrani, 1991).
 ///
 /// There is one list of demands a stage, with one demand a job, in ticks of service. `places` says
 /// how many jobs each stage holds, with the one in service: there are 2 to 4 stages, and each after
@@ -37,62 +45,12 @@ pub fn tandem_departures(
     requires stages { AreStages places.now demands.now }
     ensures { IfOk result (λ departs. departs ≡ tandem_departs places.now (map (λ _. []) places.now) stream.now.time demands.now) }
 {
-    let mut departs = Vec::with_capacity(alloc, stream.time.len())?;
-    let mut left = none_left(alloc, places)?;
-    for job in 0..stream.time.len() {
-        let time = pass(&mut left, *stream.time.get(job), demands, places, job);
-        departs.push_reserved(time);
-    }
-    Ok(List::from_vec(departs))
+    scan_times(&TandemStep::new(stream, demands, places), alloc, BLOCK)
 }
 
-// The stages before any job has left.
-fn none_left(alloc: Global, places: &List<u8>) -> Result<Vec<Latest>, OutOfMemory>
-    ensures { IfOk result (λ left. left.items ≡ map (λ _. 0 ∷ 0 ∷ 0 ∷ 0 ∷ []) places.now) }
+/// Law. The carries of the scan of a tandem's jobs hold its departures.
+pub fn carries_hold_departures(step: &TandemStep)
+    ensures { map (λ rows. mp_or_zero (entry rows (last_row (kept step.now.places.now)))) (carries_after matrix_act (none_kept step.now.places.now) (job_matrix step.now.places.now step.now.arrive.now step.now.demands.now) 0 (length step.now.arrive.now)) ≡ tandem_departs step.now.places.now (map (λ _. []) step.now.places.now) step.now.arrive.now step.now.demands.now }
 {
-    let mut left = Vec::new(alloc);
-    for _stage in 0..places.len() {
-        left.push([0; 4])?;
-    }
-    Ok(left)
-}
-
-// When a job that comes at this time leaves the last stage. Its departures become the latest.
-fn pass(
-    left: &mut [Latest],
-    came: u64,
-    demands: &List<List<u64>>,
-    places: &List<u8>,
-    job: usize,
-) -> u64
-    requires stages { AreStages places.now demands.now }
-    requires even { length left.old ≡ length places.now }
-    requires demands { All (λ column. HasDemand job column) demands.now }
-    requires came { came ≤ 2 ^ 62 }
-    requires early { All (λ earlier. All (λ time. time ≤ 2 ^ 62) earlier) left.old }
-    ensures time { result ≡ last_time (stage_departs came places.now (firsts (map (drop job) demands.now)) left.old) }
-    ensures left { left.new ≡ map (take 4) (each_before (stage_departs came places.now (firsts (map (drop job) demands.now)) left.old) left.old) }
-{
-    let mut time = came;
-    for stage in 0..left.len() {
-        let done = time.max(left[stage][0]) + *demands.get(stage).get(job);
-        time = done.max(room_at(left, places, stage + 1));
-        left[stage] = [time, left[stage][0], left[stage][1], left[stage][2]];
-    }
-    time
-}
-
-// When a stage after the first has room for one more; behind the last there is always room.
-fn room_at(left: &[Latest], places: &List<u8>, stage: usize) -> u64
-    requires even { length left.now ≡ length places.now }
-    requires room { All (λ count. 1 ≤ count) (drop 1 places.now) }
-    requires narrow { All (λ count. count ≤ 4) (drop 1 places.now) }
-    requires behind { 1 ≤ stage }
-    ensures { result ≡ room_in (drop stage places.now) (drop stage left.now) }
-{
-    if stage < left.len() {
-        left[stage][*places.get(stage) as usize - 1]
-    } else {
-        0
-    }
+    let _ = step;
 }

@@ -1,8 +1,13 @@
-ghost use Rattle.std.specs.Prelude.{◌≡◌, ◌∷◌, [], IfOk};
+ghost use Rattle.std.specs.Prelude.{◌≡◌, ◌≤◌, ◌∷◌, [], length, IfOk};
+ghost use Rattle.mq_maxplus.specs.Matrices.{matrix_then};
+ghost use Rattle.mq_scan.specs.Folds.{AreSummaries};
+ghost use Rattle.mq_tandem.specs.Rows.{job_matrix};
 
-use crate::tandem_departures;
+use crate::{TandemStep, tandem_departures};
 use mq_base::{List, OutOfMemory};
 use mq_core::Stream;
+use mq_maxplus::Matrix;
+use mq_scan::{Step, carries, cut, summarise, times};
 use std::alloc::Global;
 use std::test::Fail;
 
@@ -56,5 +61,36 @@ fn with_a_second_place_it_goes_on(rt: HostRuntime) -> Result<(), Fail> {
     let places = List::from_vec(Vec::from_slice(alloc, &[0, 2])?);
     let departs = tandem_departures(alloc, &three_jobs(alloc)?, &demands, &places)?;
     assert_eq!(rt; departs.as_slice(), [4, 5, 8].as_slice());
+    Ok(())
+}
+
+// The summaries of the blocks of a cut of all jobs.
+fn sums_of(alloc: Global, step: &TandemStep, block: u32) -> Result<List<Matrix>, OutOfMemory>
+    requires { 1 ≤ block }
+    ensures { IfOk result (λ sums. AreSummaries matrix_then (job_matrix step.now.places.now step.now.arrive.now step.now.demands.now) (length step.now.arrive.now) block sums) }
+{
+    let blocks = cut(step.count(), block);
+    let mut sums = List::new(alloc);
+    'sums: for b in 0..blocks.blocks {
+        let (from, to) = blocks.range(b);
+        sums.push(summarise(step, from, to))?;
+    }
+    Ok(sums)
+}
+
+#[test]
+fn the_blocks_of_a_scan_are_put_together(rt: HostRuntime) -> Result<(), Fail> {
+    let alloc = rt.alloc();
+    let mut demands = List::new(alloc);
+    demands.push(column(alloc, 1, 1, 5)?)?;
+    demands.push(column(alloc, 3, 1, 1)?)?;
+    let places = List::from_vec(Vec::from_slice(alloc, &[0, 1])?);
+    let stream = three_jobs(alloc)?;
+    let step = TandemStep::new(&stream, &demands, &places);
+    let sums = sums_of(alloc, &step, 2)?;
+    let before = carries(&step, alloc, &sums)?;
+    assert!(rt; before.len() == 2);
+    let last = times(&step, alloc, 2, 3, *before.get(1))?;
+    assert_eq!(rt; last.as_slice(), [10].as_slice());
     Ok(())
 }

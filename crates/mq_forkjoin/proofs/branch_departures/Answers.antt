@@ -6,8 +6,8 @@ use Rattle.mq_forkjoin.proofs.branch_departures.Goals as goal
 pub loop-column-init : goal.loop-column-init
 loop-column-init c = passing-begins _ _ _ c.in_ok-departs.ensures c.requires.early
 
-pub served-requires : goal.served-requires
-served-requires c =
+pub departures_behind-requires : goal.departures_behind-requires
+departures_behind-requires c =
     let load = load-at _ _ _ _ c.requires.load c.loop-column-test.true c.column-item.is in
     let many = c.loop-column.invariant.many in
     let few = load.few in

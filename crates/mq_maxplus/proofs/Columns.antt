@@ -1,0 +1,162 @@
+-- Matrices, column by column.
+use Rattle.std.proofs.Common.{◌≡◌, ℕ, zero, suc, ◌+◌, ◌-◌, ◌<◌, ◌≤◌, List, [], ◌∷◌, ◌++◌, All, length, get_or, take, drop, set, replicate, arith, sym, ap, ◌∙◌, refl, subst}
+use Rattle.std.specs.Prelude.{slice_get, Some}
+use Rattle.std.proofs.lemmas.List.{drop-replicate, take_more_set, drop-set-lt, drop-drop, length-set, length-map, length-replicate, take_all, drop_all, get_or-map}
+use Rattle.std.proofs.lemmas.List.Elements.{All-set, All-replicate, All-get_or, All-take}
+use Rattle.std.proofs.lemmas.Option.{get_or_from_slice_get, slice_get_within}
+use Rattle.std.proofs.Math.Seq.{take-suc, drop-cons}
+use Rattle.mq_maxplus.specs.declared.mp.Mp.{Mp}
+use Rattle.mq_maxplus.specs.declared.mp.Mp.TheVariants.{Void, At}
+use Rattle.mq_maxplus.specs.Maxplus.{mp_max, mp_plus, Fits}
+use Rattle.mq_maxplus.specs.Matrices.{voids, entry, matrix_entry, vec_max, vec_plus, matrix_act, matrix_then, unit_matrix, CanMatrixAct, CanMatrixThen}
+use Rattle.mq_maxplus.specs.Padded.{IsPaddedMatrix, columns-size-back}
+use Rattle.mq_maxplus.proofs.MatrixLaws.{length-units, length-act, length-vplus, length-vmax, vmax-assoc, vmax-voids, fits-max}
+use Rattle.mq_maxplus.proofs.Vectors.{entry-vmax, entry-vplus}
+
+-- a column of the unit matrix
+unit-column : (size place : ℕ) → place < size → get_or (unit_matrix size) place [] ≡ set (voids size) place (At 0)
+unit-column zero place l = absurd (omega arith)
+unit-column (suc size) zero l = refl
+unit-column (suc size) (suc place) l =
+    let long = length-units size in
+    get_or-map (λ column. Void ∷ column) (unit_matrix size) place [] [] (omega arith) ∙ ap (λ column. Void ∷ column) (unit-column size place (omega arith))
+
+-- What is kept while the columns of a unit matrix are made: those before this place are.
+pub record Uniting (size : ℕ) (columns : List (List Mp)) (place : ℕ) : Type 0 where
+  pub long : length columns ≡ 16
+  pub done : take place columns ≡ take place (unit_matrix size)
+  pub left : drop place columns ≡ replicate (16 - place) (voids size)
+  pub square : All (λ column. length column ≡ size) columns
+
+pub uniting-begins : (size : ℕ) (columns : List (List Mp)) → columns ≡ replicate 16 (voids size) → Uniting size columns 0
+uniting-begins size columns e = record {
+  long = ap length e ∙ length-replicate 16 (voids size);
+  done = take-none columns ∙ sym (take-none (unit_matrix size));
+  left = drop-none columns ∙ e;
+  square = subst (All (λ column. length column ≡ size)) (sym e) (All-replicate (λ column. length column ≡ size) 16 (voids size) (length-replicate size Void));
+}
+  where
+    take-none : (xs : List (List Mp)) → take 0 xs ≡ []
+    take-none xs = refl
+
+    drop-none : (xs : List (List Mp)) → drop 0 xs ≡ xs
+    drop-none xs = refl
+
+pub uniting-next : (size : ℕ) (columns columns' : List (List Mp)) (place : ℕ) → size ≤ 16 → place < size → columns' ≡ set columns place (set (voids size) place (At 0)) → Uniting size columns place → Uniting size columns' (place + 1)
+uniting-next size columns columns' place few l s h =
+    let column = set (voids size) place (At 0) in
+    let many = h.long in
+    let units = length-units size in
+    let next : suc place ≡ place + 1 = omega arith in
+    let fewer : 16 - place - 1 ≡ 16 - (place + 1) = omega arith in
+    record {
+      long = ap length s ∙ (length-set columns place column ∙ h.long);
+      done =
+          ap (take (place + 1)) s
+          ∙ (take_more_set columns place column (omega arith)
+          ∙ ((λ i. h.done i ++ sym (unit-column size place l) i ∷ []) ∙ (sym (take-suc (unit_matrix size) place [] (omega arith)) ∙ ap (λ n. take n (unit_matrix size)) next)));
+      left =
+          ap (drop (place + 1)) s
+          ∙ (drop-set-lt (place + 1) columns place column (omega arith)
+          ∙ (sym (drop-drop 1 place columns) ∙ (ap (drop 1) h.left ∙ (drop-replicate 1 (16 - place) (voids size) ∙ ap (λ n. replicate n (voids size)) fewer))));
+      square = subst (All (λ column. length column ≡ size)) (sym s) (All-set (λ column. length column ≡ size) columns place column (length-set (voids size) place (At 0) ∙ length-replicate size Void) h.square);
+    }
+
+pub uniting-padded : (size : ℕ) (columns : List (List Mp)) (place : ℕ) → 1 ≤ size → size ≤ 16 → place ≡ size → Uniting size columns place → IsPaddedMatrix size columns
+uniting-padded size columns place some few e h = record {
+  some = some;
+  few = few;
+  all = h.long;
+  square = h.square;
+  padded = subst (λ (n : ℕ). drop n columns ≡ replicate (16 - n) (voids size)) e h.left;
+}
+
+pub uniting-ends : (size : ℕ) (columns : List (List Mp)) (place : ℕ) → place ≡ size → Uniting size columns place → take size columns ≡ unit_matrix size
+uniting-ends size columns place e h =
+    let units = length-units size in
+    subst (λ (n : ℕ). take n columns ≡ take n (unit_matrix size)) e h.done ∙ take_all size (unit_matrix size) (omega arith)
+
+-- What is kept while a matrix takes the columns of another on: those before this place are.
+pub record Taking (first second all : List (List Mp)) (place : ℕ) : Type 0 where
+  pub long : length all ≡ length first
+  pub done : take place all ≡ take place (matrix_then first second)
+
+pub taking-next : (first second all all' : List (List Mp)) (place : ℕ) (column : List Mp) → slice_get first place ≡ Some column → all' ≡ set all place (matrix_act second column) → Taking first second all place → Taking first second all' (place + 1)
+taking-next first second all all' place column at s h =
+    let inside = slice_get_within first place column at in
+    let many = h.long in
+    let whole = length-map first (matrix_act second) in
+    let next : suc place ≡ place + 1 = omega arith in
+    let item : matrix_act second column ≡ get_or (matrix_then first second) place [] =
+    ap (matrix_act second) (sym (get_or_from_slice_get first place column [] at)) ∙ sym (get_or-map (matrix_act second) first place [] [] inside) in
+    record {
+      long = ap length s ∙ (length-set all place (matrix_act second column) ∙ h.long);
+      done =
+          ap (take (place + 1)) s
+          ∙ (take_more_set all place (matrix_act second column) (omega arith)
+          ∙ ((λ i. h.done i ++ item i ∷ []) ∙ (sym (take-suc (matrix_then first second) place [] (omega arith)) ∙ ap (λ n. take n (matrix_then first second)) next)));
+    }
+
+pub taking-ends : (first second all : List (List Mp)) (place : ℕ) → length first ≤ place → Taking first second all place → all ≡ matrix_then first second
+taking-ends first second all place l h =
+    let many = h.long in
+    let whole = length-map first (matrix_act second) in
+    sym (take_all place all (omega arith)) ∙ (h.done ∙ take_all place (matrix_then first second) (omega arith))
+
+-- what a composition may do, a matrix may do to each column
+pub may-take : (first second : List (List Mp)) (place : ℕ) (column : List Mp) → CanMatrixThen first second → slice_get first place ≡ Some column → CanMatrixAct second column
+may-take first second place column can at =
+    subst (CanMatrixAct second) (get_or_from_slice_get first place column [] at) (All-get_or (CanMatrixAct second) first place [] (slice_get_within first place column at) can.each)
+
+-- the columns of a matrix as it is kept
+pub square-view : (size : ℕ) (columns now : List (List Mp)) → IsPaddedMatrix size columns → take size columns ≡ now → (length now ≡ size) × All (λ column. length column ≡ length now) now
+square-view size columns now h e =
+    let long : length now ≡ size = ap length (sym e) ∙ columns-size-back size columns h in (
+      long,
+      subst (λ (z : List (List Mp) × ℕ). All (λ column. length column ≡ z.1) z.0) (λ i. (e i, sym long i)) (All-take (λ column. length column ≡ size) size columns h.square),
+    )
+
+-- What is kept while a matrix acts on a vector, from the last column to the first: those from this place on are taken.
+pub record Acting (columns : List (List Mp)) (xs all : List Mp) (place : ℕ) : Type 0 where
+  pub long : length all ≡ length columns
+  pub done : all ≡ vec_max (matrix_act (drop place columns) (drop place xs)) (voids (length columns))
+
+pub acting-begins : (columns : List (List Mp)) (xs all : List Mp) (place : ℕ) → length columns ≤ place → all ≡ voids (length columns) → Acting columns xs all place
+acting-begins columns xs all place l e = record {
+  long = ap length e ∙ length-replicate (length columns) Void;
+  done = e ∙ ap (λ left. vec_max (matrix_act left (drop place xs)) (voids (length columns))) (sym (drop_all place columns l));
+}
+
+pub acting-next : (columns : List (List Mp)) (xs all all' : List Mp) (place : ℕ) (column : List Mp) (x : Mp) → slice_get columns place ≡ Some column → x ≡ entry xs place → length xs ≡ length columns → length column ≡ length columns → all' ≡ vec_max (vec_plus x column) all → Acting columns xs all (place + 1) →
+    Acting columns xs all' place
+acting-next columns xs all all' place column x at is same size s h =
+    let inside = slice_get_within columns place column at in
+    let long : length (vec_plus x column) ≡ length columns = length-vplus x column ∙ size in
+    let rest = matrix_act (drop (place + 1) columns) (drop (place + 1) xs) in
+    let next : suc place ≡ place + 1 = omega arith in
+    let item : drop place xs ≡ x ∷ drop (place + 1) xs = drop-cons xs place Void (omega arith) ∙ (λ i. sym is i ∷ drop (next i) xs) in
+    let here : drop place columns ≡ column ∷ drop (place + 1) columns = drop-cons columns place [] inside ∙ (λ i. get_or_from_slice_get columns place column [] at i ∷ drop (next i) columns) in
+    record {
+      long = ap length s ∙ (length-vmax (vec_plus x column) all (long ∙ sym h.long) ∙ long);
+      done =
+          s
+          ∙ (ap (vec_max (vec_plus x column)) h.done
+          ∙ (sym (vmax-assoc (vec_plus x column) rest (voids (length columns))) ∙ sym (λ i. vec_max (matrix_act (here i) (item i)) (voids (length columns)))));
+    }
+
+pub acting-ends : (columns : List (List Mp)) (xs all : List Mp) → length xs ≡ length columns → 1 ≤ length columns → All (λ column. length column ≡ length columns) columns → Acting columns xs all 0 → all ≡ matrix_act columns xs
+acting-ends columns xs all same some square h =
+    h.done ∙ vmax-voids (matrix_act columns xs) (length columns) (length-act (length columns) columns xs square some same)
+
+-- the sums that a column makes fit
+pub may-cover : (columns : List (List Mp)) (xs : List Mp) (place : ℕ) (column : List Mp) (x : Mp) → CanMatrixAct columns xs → slice_get columns place ≡ Some column → x ≡ entry xs place → (row : ℕ) → Fits (mp_plus x (entry column row))
+may-cover columns xs place column x can at is row =
+    subst (λ (z : Mp × List Mp). Fits (mp_plus z.0 (entry z.1 row))) (λ i. (sym is i, get_or_from_slice_get columns place column [] at i)) (can.sums place row)
+
+-- what a matrix makes of a vector fits where the sums do
+pub act-fits : (columns : List (List Mp)) (xs : List Mp) → ((column row : ℕ) → Fits (mp_plus (entry xs column) (matrix_entry columns row column))) → (row : ℕ) → Fits (entry (matrix_act columns xs) row)
+act-fits [] xs h row = tt
+act-fits (column ∷ columns) [] h row = tt
+act-fits (column ∷ columns) (x ∷ xs) h row =
+    subst Fits (sym (entry-vmax (vec_plus x column) (matrix_act columns xs) row ∙ ap (λ (e : Mp). mp_max e (entry (matrix_act columns xs) row)) (entry-vplus x column row)))
+    (fits-max (mp_plus x (entry column row)) (entry (matrix_act columns xs) row) (h 0 row) (act-fits columns xs (λ k r. h (suc k) r) row))

@@ -1,0 +1,4 @@
+pub mod Laws
+pub mod Vectors
+pub mod MatrixLaws
+pub mod Columns

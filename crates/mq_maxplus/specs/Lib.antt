@@ -1,0 +1,4 @@
+pub mod Maxplus
+pub mod Matrices
+pub mod Padded
+pub mod Within

@@ -1,0 +1,45 @@
+// The maps that a server's jobs make of its last departure.
+ghost use Rattle.std.specs.Prelude.{◌≡◌};
+ghost use Rattle.mq_maxplus.specs.declared.mp.Mp.{Mp as Number};
+ghost use Rattle.mq_maxplus.specs.Maxplus.{affine_act, affine_then, CanThen, CanAct};
+
+use crate::Mp;
+
+/// The map `x -> max(x + add, least)`. A job that needs `add` ticks of service makes it of the last
+/// departure before it, where `least` is when it would leave an empty server (Greenberg, Lubachevsky
+/// and Mitrani, 1991).
+#[derive(Clone, Copy, Debug, PartialEq, Eq)]
+pub struct Affine {
+    pub add: u64,
+    pub least: Mp,
+}
+
+impl Affine {
+    /// The composition in which this one acts first. The sums that it makes fit.
+    #[inline]
+    pub fn then(self, next: Affine) -> Affine
+        requires { CanThen self next }
+        ensures { result ≡ affine_then self next }
+    {
+        Affine {
+            add: self.add + next.add,
+            least: self.least.plus(Mp::At(next.add)).max(next.least),
+        }
+    }
+
+    /// What the map makes of a number. The sum that it makes fits.
+    #[inline]
+    pub fn act(self, x: Mp) -> Mp
+        requires { CanAct self x }
+        ensures { result ≡ affine_act self x }
+    {
+        x.plus(Mp::At(self.add)).max(self.least)
+    }
+}
+
+/// Laws. Acting by a composition is acting by one and then the other, and the composition is
+/// associative.
+pub fn affine_laws()
+    ensures acts { (s t : Affine) (x : Number) → affine_act (affine_then s t) x ≡ affine_act t (affine_act s x) }
+    ensures joins { (s t u : Affine) → affine_then (affine_then s t) u ≡ affine_then s (affine_then t u) }
+{}

@@ -1,0 +1,13 @@
+//! Numbers under max and plus, with minus infinity, and the maps that a job makes of the departures
+//! before it: affine maps of one number, and matrices.
+#![tactic(auto)]
+
+mod affine;
+mod matrix;
+mod mp;
+mod vector;
+
+pub use affine::{Affine, affine_laws};
+pub use matrix::{Matrix, matrix_laws};
+pub use mp::Mp;
+pub use vector::Vector;

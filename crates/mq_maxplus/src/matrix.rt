@@ -1,0 +1,138 @@
+// Square matrices under max and plus.
+ghost use Rattle.std.specs.Prelude.{◌≡◌, ◌<◌, ◌≤◌, List as Items, [], Some, length, slice_get, slice_index_or, slice_set};
+ghost use Rattle.mq_maxplus.specs.declared.mp.Mp.{Mp as Number};
+ghost use Rattle.mq_maxplus.specs.Matrices.{matrix_act, matrix_entry, matrix_then, unit_matrix, CanMatrixAct, CanMatrixThen};
+
+use crate::{Mp, Vector};
+use std::marker::Model;
+
+/// A square matrix of 1 to 16 rows, a map of vectors of its size: what it makes of a vector is the
+/// greatest of its columns, each with the vector's number of its place added.
+#[derive(Clone, Copy)]
+pub struct Matrix {
+    size: u8,
+    columns: [Vector; 16],
+}
+
+impl Model for Matrix {
+    ghost use Rattle.std.specs.Prelude.{◌-◌, ◌++◌, List, length, replicate, take};
+    ghost use Rattle.mq_maxplus.specs.declared.mp.Mp.{Mp};
+    ghost use Rattle.mq_maxplus.specs.Matrices.{voids};
+    ghost use Rattle.mq_maxplus.specs.Padded.{IsPaddedMatrix, columns-back, columns-size-back};
+
+    ghost Value = { List (List Mp) };
+
+    ghost view = { λ m. take m.size m.columns };
+
+    // Behind the last column there is minus infinity.
+    ghost invariant = { λ m. IsPaddedMatrix m.size m.columns };
+
+    ghost inverse = { λ cs. record { size = length cs; columns = cs ++ replicate (16 - length cs) (voids (length cs)) } };
+
+    ghost inverse_ok = { λ m h i. record { size = columns-size-back m.size m.columns h i; columns = columns-back m.size m.columns h i } };
+}
+
+impl Matrix {
+    /// The matrix of this size that leaves each vector as it is: a zero on the diagonal, else minus
+    /// infinity.
+    pub fn unit(size: u8) -> Matrix
+        requires some { 1 ≤ size }
+        requires few { size ≤ 16 }
+        ensures { result ≡ unit_matrix size }
+    {
+        let mut columns = [Vector::new(size); 16];
+        for place in 0..size {
+            let mut column = Vector::new(size);
+            column.set(place, Mp::At(0));
+            columns[place as usize] = column;
+        }
+        Matrix { size, columns }
+    }
+
+    /// The number of rows, which is that of the columns.
+    #[inline]
+    pub fn size(&self) -> u8
+        ensures size { result ≡ length self.now }
+        ensures some { 1 ≤ result }
+        ensures few { result ≤ 16 }
+    {
+        self.size
+    }
+
+    /// The number in a row and a column, from 0, which are below the size.
+    #[inline]
+    pub fn get(&self, row: u8, column: u8) -> Mp
+        requires row { row < length self.now }
+        requires column { column < length self.now }
+        ensures { result ≡ matrix_entry self.now row column }
+    {
+        self.columns[column as usize].get(row)
+    }
+
+    /// Writes the number in a row and a column, which are below the size.
+    pub fn set(&mut self, row: u8, column: u8, value: Mp)
+        requires row { row < length self.old }
+        requires column { column < length self.old }
+        ensures { self.new ≡ slice_set self.old column (slice_set (slice_index_or self.old column []) row value) }
+    {
+        let mut changed = *self.column(column);
+        changed.set(row, value);
+        self.set_column(column, &changed);
+    }
+
+    /// A column, from 0, which is below the size.
+    #[inline]
+    pub fn column(&self, column: u8) -> &Vector
+        requires { column < length self.now }
+        ensures item { slice_get self.now column ≡ Some result.now }
+        ensures size { length result.now ≡ length self.now }
+    {
+        &self.columns[column as usize]
+    }
+
+    /// Writes a column, which is below the size, by a vector of that size.
+    #[inline]
+    pub fn set_column(&mut self, column: u8, value: &Vector)
+        requires column { column < length self.old }
+        requires size { length value.now ≡ length self.old }
+        ensures { self.new ≡ slice_set self.old column value.now }
+    {
+        self.columns[column as usize] = *value;
+    }
+
+    /// The composition in which this one acts first, with a matrix of the same size. The sums that it
+    /// makes fit.
+    pub fn then(&self, next: &Matrix) -> Matrix
+        requires { CanMatrixThen self.now next.now }
+        ensures { result ≡ matrix_then self.now next.now }
+    {
+        let mut all = *self;
+        for place in 0..self.size() {
+            let mut column = *self.column(place);
+            next.act(&mut column);
+            all.set_column(place, &column);
+        }
+        all
+    }
+
+    /// Puts what the matrix makes of a vector of its size in the vector's place. The sums that it
+    /// makes fit.
+    pub fn act(&self, on: &mut Vector)
+        requires { CanMatrixAct self.now on.old }
+        ensures acted { on.new ≡ matrix_act self.now on.old }
+        ensures size { length on.new ≡ length on.old }
+    {
+        let mut all = Vector::new(self.size);
+        for place in (0..self.size).rev() {
+            all.cover(self.column(place), on.get(place));
+        }
+        *on = all;
+    }
+}
+
+/// Laws. Acting by a composition of matrices is acting by one and then the other, and the
+/// composition is associative.
+pub fn matrix_laws()
+    ensures acts { (s t : Items (Items Number)) (x : Items Number) → matrix_act (matrix_then s t) x ≡ matrix_act t (matrix_act s x) }
+    ensures joins { (s t u : Items (Items Number)) → matrix_then (matrix_then s t) u ≡ matrix_then s (matrix_then t u) }
+{}

@@ -1,0 +1,46 @@
+// A number with minus infinity.
+ghost use Rattle.std.specs.Prelude.{◌≡◌};
+ghost use Rattle.mq_maxplus.specs.Maxplus.{mp_max, mp_or_zero, mp_plus, Fits};
+
+/// A time in ticks, or minus infinity.
+#[derive(Clone, Copy, Debug, PartialEq, Eq)]
+pub enum Mp {
+    Void,
+    At(u64),
+}
+
+impl Mp {
+    /// The greater of two.
+    #[inline]
+    pub fn max(self, other: Mp) -> Mp
+        ensures { result ≡ mp_max self other }
+    {
+        match (self, other) {
+            (Mp::Void, y) => y,
+            (x, Mp::Void) => x,
+            (Mp::At(x), Mp::At(y)) => Mp::At(if x < y { y } else { x }),
+        }
+    }
+
+    /// The sum of two, which fits; minus infinity and anything is minus infinity.
+    #[inline]
+    pub fn plus(self, other: Mp) -> Mp
+        requires { Fits (mp_plus self other) }
+        ensures { result ≡ mp_plus self other }
+    {
+        match (self, other) {
+            (Mp::At(x), Mp::At(y)) => Mp::At(x + y),
+            _ => Mp::Void,
+        }
+    }
+    /// The number, or 0 at minus infinity.
+    #[inline]
+    pub fn or_zero(self) -> u64
+        ensures { result ≡ mp_or_zero self }
+    {
+        match self {
+            Mp::Void => 0,
+            Mp::At(x) => x,
+        }
+    }
+}

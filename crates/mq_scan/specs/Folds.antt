@@ -1,0 +1,34 @@
+-- The fold of jobs that act one after another, the summary of a range of them, and ranges cut into blocks.
+use Rattle.std.specs.Prelude.{◌≡◌, ℕ, zero, suc, ◌+◌, ◌-◌, ◌*◌, ◌<◌, ◌≤◌, List, [], ◌∷◌, length, min, slice_index_or}
+
+module _ {S : Type 0} where
+  -- what the job at a place and the n jobs behind it do together
+  abbrev pub span : (S → S → S) → (ℕ → S) → ℕ → ℕ → S
+  span joined part from zero = part from
+  span joined part from (suc n) = joined (span joined part from n) (part (from + suc n))
+
+  -- a summary with the n jobs from this place on added behind it
+  abbrev pub extended : (S → S → S) → (ℕ → S) → S → ℕ → ℕ → S
+  extended joined part sum from zero = sum
+  extended joined part sum from (suc n) = joined (extended joined part sum from n) (part (from + n))
+
+  -- item b is the summary of block b of the places below n, cut into runs of `block`
+  pub record AreSummaries (joined : S → S → S) (part : ℕ → S) (n block : ℕ) (sums : List S) : Type 0 where
+    pub some : 1 ≤ block
+    pub within : (b : ℕ) → b < length sums → b * block < n
+    pub each : (b : ℕ) (d : S) → b < length sums → slice_index_or sums b d ≡ span joined part (b * block) ((min ((b + 1) * block) n - b * block) - 1)
+
+module _ {S C : Type 0} where
+  -- the carry before the job at a place: that at the start, on which the jobs before it have acted in turn
+  abbrev pub fold_to : (S → C → C) → C → (ℕ → S) → ℕ → C
+  fold_to acted start part zero = start
+  fold_to acted start part (suc n) = acted (part n) (fold_to acted start part n)
+
+  -- the carries after each of n jobs, the first at this place
+  abbrev pub carries_after : (S → C → C) → C → (ℕ → S) → ℕ → ℕ → List C
+  carries_after acted start part from zero = []
+  carries_after acted start part from (suc n) = fold_to acted start part (suc from) ∷ carries_after acted start part (suc from) n
+
+  -- item b is the carry before block b
+  abbrev pub AreBefore : (S → C → C) → C → (ℕ → S) → ℕ → List C → Type 0
+  AreBefore acted start part block cs = (b : ℕ) (d : C) → b < length cs → slice_index_or cs b d ≡ fold_to acted start part (b * block)

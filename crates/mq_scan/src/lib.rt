@@ -1,0 +1,11 @@
+//! A prefix scan over jobs that act one after another, cut into blocks (Greenberg, Lubachevsky and
+//! Mitrani, 1991).
+#![tactic(auto)]
+
+mod blocks;
+mod passes;
+mod step;
+
+pub use blocks::{Blocks, cut};
+pub use passes::{apply, carries, ranges_append, scan, scan_times, summarise, times};
+pub use step::{Step, Timed};

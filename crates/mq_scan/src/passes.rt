@@ -1,0 +1,161 @@
+// The passes of a scan, over ranges and over all.
+ghost use Rattle.std.specs.Prelude.{◌≡◌, ℕ, ◌+◌, ◌-◌, ◌*◌, ◌<◌, ◌≤◌, ◌++◌, length, map, IfOk};
+ghost use Rattle.std.specs.Vec.{vec_len, vec_capacity};
+ghost use Rattle.mq_scan.specs.Folds.{carries_after, fold_to, span, AreBefore, AreSummaries};
+
+use crate::{Step, Timed, cut};
+use mq_base::{List, OutOfMemory};
+use std::alloc::Global;
+
+/// What the jobs from one place up to another do together. There is one at least. It acts on the
+/// carry before them as they do in turn.
+pub fn summarise<P: Step>(step: &P, from: u32, to: u32) -> P::Summary
+    requires some { from < to }
+    requires inside { to ≤ P.places step.now }
+    ensures sum { result ≡ span P.joined (P.part step.now) from ((to - from) - 1) }
+    ensures acts { P.acted result (fold_to P.acted (P.start step.now) (P.part step.now) from) ≡ fold_to P.acted (P.start step.now) (P.part step.now) to }
+{
+    let mut all = step.one(from);
+    step.extend(&mut all, from + 1, to);
+    all
+}
+
+/// The carry before each block, where the items are the summaries of the blocks of one cut of all
+/// jobs, the first of them or all. It refuses for want of memory alone.
+pub fn carries<P: Step>(
+    step: &P,
+    alloc: Global,
+    sums: &List<P::Summary>,
+) -> Result<List<P::Carry>, OutOfMemory>
+    requires { (block : ℕ) × AreSummaries P.joined (P.part step.now) (P.places step.now) block sums.now }
+    ensures len { IfOk result (λ before. length before ≡ length sums.now) }
+    ensures each { IfOk result (λ before. (block : ℕ) → AreSummaries P.joined (P.part step.now) (P.places step.now) block sums.now → AreBefore P.acted (P.start step.now) (P.part step.now) block before) }
+{
+    let mut before = Vec::new(alloc);
+    let mut carry = step.first();
+    'moves: for b in 0..sums.len() {
+        before.push(carry)?;
+        carry = P::act(*sums.get(b), carry);
+    }
+    Ok(List::from_vec(before))
+}
+
+/// The carry after each job from one place up to another, where `carry` is the one before them. There
+/// is one at least. It refuses for want of memory alone.
+pub fn apply<P: Step>(
+    step: &P,
+    alloc: Global,
+    from: u32,
+    to: u32,
+    carry: P::Carry,
+) -> Result<List<P::Carry>, OutOfMemory>
+    requires some { from < to }
+    requires inside { to ≤ P.places step.now }
+    requires before { carry ≡ fold_to P.acted (P.start step.now) (P.part step.now) from }
+    ensures { IfOk result (λ after. after ≡ carries_after P.acted (P.start step.now) (P.part step.now) from (to - from)) }
+{
+    let mut after = Vec::with_capacity(alloc, (to - from) as usize)?;
+    let mut carry = carry;
+    push_carries(step, from, to, &mut carry, &mut after);
+    Ok(List::from_vec(after))
+}
+
+/// The time that is read of the carry after each job from one place up to another, where `carry` is
+/// the one before them. There is one at least. It refuses for want of memory alone.
+pub fn times<P: Timed>(
+    step: &P,
+    alloc: Global,
+    from: u32,
+    to: u32,
+    carry: P::Carry,
+) -> Result<List<u64>, OutOfMemory>
+    requires some { from < to }
+    requires inside { to ≤ P.places step.now }
+    requires before { carry ≡ fold_to P.acted (P.start step.now) (P.part step.now) from }
+    ensures { IfOk result (λ times. times ≡ map (P.time_of step.now) (carries_after P.acted (P.start step.now) (P.part step.now) from (to - from))) }
+{
+    let mut times = Vec::with_capacity(alloc, (to - from) as usize)?;
+    let mut carry = carry;
+    push_times(step, from, to, &mut carry, &mut times);
+    Ok(List::from_vec(times))
+}
+
+// Appends the time that is read of the carry after each job of a range, for which there is room.
+fn push_times<P: Timed>(step: &P, from: u32, to: u32, carry: &mut P::Carry, times: &mut Vec<u64>)
+    requires some { from ≤ to }
+    requires inside { to ≤ P.places step.now }
+    requires before { carry.old ≡ fold_to P.acted (P.start step.now) (P.part step.now) from }
+    requires room { vec_len times.old + (to - from) ≤ vec_capacity times.old }
+    ensures carry { carry.new ≡ fold_to P.acted (P.start step.now) (P.part step.now) to }
+    ensures items { times.new.items ≡ times.old.items ++ map (P.time_of step.now) (carries_after P.acted (P.start step.now) (P.part step.now) from (to - from)) }
+    ensures len { vec_len times.new ≡ vec_len times.old + (to - from) }
+    ensures room { vec_capacity times.new ≡ vec_capacity times.old }
+{
+    'acts: for at in from..to {
+        step.advance(carry, at);
+        times.push_reserved(step.time(carry));
+    }
+}
+
+// Appends the carry after each job of a range, for which there is room.
+fn push_carries<P: Step>(
+    step: &P,
+    from: u32,
+    to: u32,
+    carry: &mut P::Carry,
+    after: &mut Vec<P::Carry>,
+)
+    requires some { from ≤ to }
+    requires inside { to ≤ P.places step.now }
+    requires before { carry.old ≡ fold_to P.acted (P.start step.now) (P.part step.now) from }
+    requires room { vec_len after.old + (to - from) ≤ vec_capacity after.old }
+    ensures carry { carry.new ≡ fold_to P.acted (P.start step.now) (P.part step.now) to }
+    ensures items { after.new.items ≡ after.old.items ++ carries_after P.acted (P.start step.now) (P.part step.now) from (to - from) }
+    ensures len { vec_len after.new ≡ vec_len after.old + (to - from) }
+    ensures room { vec_capacity after.new ≡ vec_capacity after.old }
+{
+    'acts: for at in from..to {
+        step.advance(carry, at);
+        after.push_reserved(*carry);
+    }
+}
+
+/// The carry after each job, block after block. It refuses for want of memory alone.
+// One thread knows the carry before each block when it comes there, and so needs no summaries.
+pub fn scan<P: Step>(step: &P, alloc: Global, block: u32) -> Result<List<P::Carry>, OutOfMemory>
+    requires { 1 ≤ block }
+    ensures { IfOk result (λ after. after ≡ carries_after P.acted (P.start step.now) (P.part step.now) 0 (P.places step.now)) }
+{
+    let blocks = cut(step.count(), block);
+    let mut after = Vec::with_capacity(alloc, blocks.n as usize)?;
+    let mut carry = step.first();
+    'parts: for b in 0..blocks.blocks {
+        let (from, to) = blocks.range(b);
+        push_carries(step, from, to, &mut carry, &mut after);
+    }
+    Ok(List::from_vec(after))
+}
+
+/// The time that is read of the carry after each job, block after block. It refuses for want of
+/// memory alone.
+pub fn scan_times<P: Timed>(step: &P, alloc: Global, block: u32) -> Result<List<u64>, OutOfMemory>
+    requires { 1 ≤ block }
+    ensures { IfOk result (λ times. times ≡ map (P.time_of step.now) (carries_after P.acted (P.start step.now) (P.part step.now) 0 (P.places step.now))) }
+{
+    let blocks = cut(step.count(), block);
+    let mut times = Vec::with_capacity(alloc, blocks.n as usize)?;
+    let mut carry = step.first();
+    'parts: for b in 0..blocks.blocks {
+        let (from, to) = blocks.range(b);
+        push_times(step, from, to, &mut carry, &mut times);
+    }
+    Ok(List::from_vec(times))
+}
+
+/// Law. The carries after the jobs of a range and those after the jobs of the next are the carries
+/// after the jobs of both.
+pub fn ranges_append<P: Step>(step: &P)
+    ensures { (from n m : ℕ) → carries_after P.acted (P.start step.now) (P.part step.now) from n ++ carries_after P.acted (P.start step.now) (P.part step.now) (from + n) m ≡ carries_after P.acted (P.start step.now) (P.part step.now) from (n + m) }
+{
+    let _ = step;
+}

@@ -1,0 +1,7 @@
+use Rattle.std.proofs.Common.{◌-◌, []}
+use Rattle.mq_tandem.specs.Rows.{ran}
+use Rattle.mq_tandem.proofs.Mapping.{Mapping}
+use Rattle.mq_tandem.proofs.step.TandemStep.run_each.Given as goal
+
+abbrev pub invariant-loop-place : goal.invariant-loop-place
+invariant-loop-place l = Mapping [] (ran l.self.places.now l.self.arrive.now l.self.demands.now l.from (l.to - l.from)) l.fn.all l.all l.place
