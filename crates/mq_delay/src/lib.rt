@@ -4,12 +4,14 @@
 ghost use Rattle.std.specs.Prelude.{◌≡◌, ◌≤◌, length, IfOk};
 ghost use Rattle.std.specs.List.{zip};
 ghost use Rattle.mq_core.specs.Columns.{IsSoundLoad, IsStream, by_first, pairs_of};
+ghost use Rattle.mq_core.specs.Laws.{in_order_of};
 ghost use Rattle.mq_core.specs.Recurrences.{delayed};
 
 use mq_base::{List, OutOfMemory};
 use mq_core::Stream;
-use mq_merge::by_time;
+use mq_merge::{by_time, par_by_time};
 use std::alloc::Global;
+use std::thread::Threads;
 
 #[cfg(test)]
 mod tests;
@@ -25,13 +27,38 @@ pub struct Delayed {
 
 /// When each job leaves a delay, and in which order they do. A job leaves its demand, in ticks of
 /// service, after its arrival, and may overtake others. The stream has one job and one time an
-/// item, and there is one demand a job, by position. It refuses for want of memory alone.
-pub fn delay(alloc: Global, stream: &Stream, demands: &List<u64>) -> Result<Delayed, OutOfMemory>
+/// item, and there is one demand a job, by position. The order is that of a stable sort, in threads
+/// where they can be had. It refuses for want of memory alone.
+pub fn delay<R: Threads + Sync>(
+    rt: &R,
+    alloc: Global,
+    stream: &Stream,
+    demands: &List<u64>,
+) -> Result<Delayed, OutOfMemory>
     requires load { IsSoundLoad stream.now.time demands.now }
     requires even { length stream.now.job ≡ length stream.now.time }
     ensures departs { IfOk result (λ d. d.departs ≡ delayed stream.now.time demands.now) }
     ensures stream { IfOk result (λ d. IsStream d.leaving) }
     ensures leaving { IfOk result (λ d. pairs_of d.leaving ≡ by_first (zip d.departs stream.now.job)) }
+    ensures times { IfOk result (λ d. d.leaving.time ≡ in_order_of (λ time. time) d.departs) }
+{
+    let departs = departures(alloc, &stream.time, demands)?;
+    let leaving = par_by_time(rt, alloc, &stream.job, &departs)?;
+    Ok(Delayed { departs, leaving })
+}
+
+/// The same, sorted on one thread.
+pub fn delay_alone(
+    alloc: Global,
+    stream: &Stream,
+    demands: &List<u64>,
+) -> Result<Delayed, OutOfMemory>
+    requires load { IsSoundLoad stream.now.time demands.now }
+    requires even { length stream.now.job ≡ length stream.now.time }
+    ensures departs { IfOk result (λ d. d.departs ≡ delayed stream.now.time demands.now) }
+    ensures stream { IfOk result (λ d. IsStream d.leaving) }
+    ensures leaving { IfOk result (λ d. pairs_of d.leaving ≡ by_first (zip d.departs stream.now.job)) }
+    ensures times { IfOk result (λ d. d.leaving.time ≡ in_order_of (λ time. time) d.departs) }
 {
     let departs = departures(alloc, &stream.time, demands)?;
     let leaving = by_time(alloc, &stream.job, &departs)?;

@@ -11,7 +11,7 @@ fn a_job_overtakes_one_that_takes_longer(rt: HostRuntime) -> Result<(), Fail> {
         time: List::from_vec(Vec::from_slice(alloc, &[0, 1])?),
     };
     let demands = List::from_vec(Vec::from_slice(alloc, &[5, 1])?);
-    let delayed = delay(alloc, &stream, &demands)?;
+    let delayed = delay(&rt, alloc, &stream, &demands)?;
     assert_eq!(rt; delayed.departs.as_slice(), [5, 2].as_slice());
     assert_eq!(rt; delayed.leaving.job.as_slice(), [1, 0].as_slice());
     assert_eq!(rt; delayed.leaving.time.as_slice(), [2, 5].as_slice());
@@ -26,7 +26,7 @@ fn jobs_of_one_departure_leave_by_position(rt: HostRuntime) -> Result<(), Fail> 
         time: List::from_vec(Vec::from_slice(alloc, &[0, 3, 3, 3])?),
     };
     let demands = List::from_vec(Vec::from_slice(alloc, &[5, 2, 0, 2])?);
-    let delayed = delay(alloc, &stream, &demands)?;
+    let delayed = delay(&rt, alloc, &stream, &demands)?;
     assert_eq!(rt; delayed.departs.as_slice(), [5, 5, 3, 5].as_slice());
     assert_eq!(rt; delayed.leaving.job.as_slice(), [5, 7, 3, 1].as_slice());
     assert_eq!(rt; delayed.leaving.time.as_slice(), [3, 5, 5, 5].as_slice());

@@ -12,7 +12,7 @@ use crate::outflow::{Outflow, demands_of, fates_of, in_turn, only};
 use crate::series::{forkjoin_outflow, tandem_outflow};
 use mq_base::{List, OutOfMemory};
 use mq_core::{Demand, Kind, Network, Route, Rows, Stream, demand_of};
-use mq_delay::delay;
+use mq_delay::delay_alone;
 use mq_server::departures;
 use mq_split::split;
 use std::alloc::Global;
@@ -79,7 +79,7 @@ fn delay_outflow(
     ensures { IfOk result (λ leaving. IsLeaving rows.now (Kind.Delay demand.now) arrivals.now leaving.fates leaving.streams) }
 {
     let demands = demands_of(alloc, net, rows, demand, &arrivals.job)?;
-    let delayed = delay(alloc, arrivals, &demands)?;
+    let delayed = delay_alone(alloc, arrivals, &demands)?;
     let fates = fates_of(alloc, &delayed.departs)?;
     let streams = only(alloc, delayed.leaving)?;
     Ok(Outflow { fates, streams })

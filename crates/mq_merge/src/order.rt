@@ -3,10 +3,11 @@ ghost use Rattle.std.specs.List.{zip};
 ghost use Rattle.mq_core.specs.Columns.{IsStream, by_first, pairs_of};
 ghost use Rattle.mq_core.specs.Laws.{Rises};
 
-use crate::sort::sort_by_first;
+use crate::sort::{par_sort_by_first, sort_by_first};
 use mq_base::{List, OutOfMemory};
 use mq_core::Stream;
 use std::alloc::Global;
+use std::thread::Threads;
 
 /// The stream of these jobs, which pass at these times: the jobs by time, those of one time in their
 /// order. The times, in ticks, may stand in any order; there is a job for each. It refuses for want
@@ -18,6 +19,22 @@ pub fn by_time(alloc: Global, jobs: &List<u32>, times: &List<u64>) -> Result<Str
 {
     let mut items = items_of(alloc, jobs, times)?;
     sort_by_first(&mut items)?;
+    columns_of(alloc, &items)
+}
+
+/// The same, sorted in threads where they can be had.
+pub fn par_by_time<R: Threads + Sync>(
+    rt: &R,
+    alloc: Global,
+    jobs: &List<u32>,
+    times: &List<u64>,
+) -> Result<Stream, OutOfMemory>
+    requires { length times.now ≤ length jobs.now }
+    ensures stream { IfOk result (λ stream. IsStream stream) }
+    ensures items { IfOk result (λ stream. pairs_of stream ≡ by_first (zip times.now jobs.now)) }
+{
+    let mut items = items_of(alloc, jobs, times)?;
+    par_sort_by_first(rt, alloc, &mut items)?;
     columns_of(alloc, &items)
 }
 

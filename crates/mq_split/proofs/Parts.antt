@@ -16,17 +16,17 @@ length-outs_from route position [] = refl
 length-outs_from route position (value ∷ values) = let e = length-outs_from route (suc position) values in omega arith
 
 -- the output of the next job
-pub outs-next : (route : Route) (done done' values : List ℕ) (i value : ℕ) → slice_get values i ≡ Some value → done' ≡ done ++ output_at route value i ∷ [] → done ++ outs_from route i (drop i values) ≡ outs_from route 0 values →
-    done' ++ outs_from route (i + 1) (drop (i + 1) values) ≡ outs_from route 0 values
-outs-next route done done' values i value h p k =
-    let next : suc i ≡ i + 1 = omega arith in
-    ap (λ l. l ++ outs_from route (i + 1) (drop (i + 1) values)) p
+pub outs-next : (route : Route) (first : ℕ) (done done' values all : List ℕ) (i value : ℕ) → slice_get values i ≡ Some value → done' ≡ done ++ output_at route value (first + i) ∷ [] → done ++ outs_from route (first + i) (drop i values) ≡ all →
+    done' ++ outs_from route (first + (i + 1)) (drop (i + 1) values) ≡ all
+outs-next route first done done' values all i value h p k =
+    let next : suc (first + i) ≡ first + (i + 1) = omega arith in
+    ap (λ l. l ++ outs_from route (first + (i + 1)) (drop (i + 1) values)) p
     ∙ (append_assoc done _ _
-    ∙ (ap (λ n. done ++ output_at route value i ∷ outs_from route n (drop (i + 1) values)) (sym next)
-    ∙ (ap (λ l. done ++ outs_from route i l) (sym (drop_at values i value h)) ∙ k)))
+    ∙ (ap (λ n. done ++ output_at route value (first + i) ∷ outs_from route n (drop (i + 1) values)) (sym next)
+    ∙ (ap (λ l. done ++ outs_from route (first + i) l) (sym (drop_at values i value h)) ∙ k)))
 
-pub outs-all : (route : Route) (done values : List ℕ) (i : ℕ) → length values ≤ i → done ++ outs_from route i (drop i values) ≡ outs_from route 0 values → done ≡ outs_from route 0 values
-outs-all route done values i l h = sym (append-nil done) ∙ (ap (λ v. done ++ outs_from route i v) (sym (drop_all i values l)) ∙ h)
+pub outs-all : (route : Route) (first : ℕ) (done values all : List ℕ) (i : ℕ) → length values ≤ i → done ++ outs_from route (first + i) (drop i values) ≡ all → done ≡ all
+outs-all route first done values all i l h = sym (append-nil done) ∙ (ap (λ v. done ++ outs_from route (first + i) v) (sym (drop_all i values l)) ∙ h)
 
 drop_next : (xs : List ℕ) (i : ℕ) → i < length xs → drop i xs ≡ get_or xs i 0 ∷ drop (i + 1) xs
 drop_next xs i l = let next : suc i ≡ i + 1 = omega arith in drop-cons xs i 0 l ∙ ap (λ n. get_or xs i 0 ∷ drop n xs) next

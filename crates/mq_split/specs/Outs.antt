@@ -1,5 +1,5 @@
 -- The streams that leave a split.
-use Rattle.std.specs.Prelude.{◌≡◌, ◌<◌, ℕ, suc, List, [], ◌∷◌, length, slice_get, Some}
+use Rattle.std.specs.Prelude.{◌≡◌, ◌<◌, ◌≤◌, ◌-◌, ◌++◌, ℕ, suc, List, [], ◌∷◌, drop, length, take, slice_get, Some}
 use Rattle.mq_core.specs.Columns.{picked}
 use Rattle.mq_core.specs.Sound.{outputs_by}
 use Rattle.mq_core.specs.Standard.{output_at}
@@ -19,3 +19,32 @@ picked_stream outs stream out = record { job = picked out outs stream.job; time 
 pub record AreParts (route : Route) (stream : Stream) (values : List ℕ) (streams : List Stream) : Type 0 where
   pub count : length streams ≡ outputs_by route
   pub parts : (out : ℕ) → out < outputs_by route → slice_get streams out ≡ Some (picked_stream (outs_from route 0 values) stream out)
+
+-- Pieces. The items from a place up to another.
+abbrev pub between : {X : Type 0} → ℕ → ℕ → List X → List X
+between from to items = take (to - from) (drop from items)
+
+-- the items of a stream at these places that go to an output
+abbrev pub piece_of : Route → Stream → List ℕ → ℕ → ℕ → ℕ → Stream
+piece_of route stream values from to out =
+    picked_stream (outs_from route from (between from to values)) (record { job = between from to stream.job; time = between from to stream.time }) out
+
+-- one stream per output, each with the items at these places that go there
+pub record ArePieces (route : Route) (stream : Stream) (values : List ℕ) (from to : ℕ) (streams : List Stream) : Type 0 where
+  pub count : length streams ≡ outputs_by route
+  pub parts : (out : ℕ) → out < outputs_by route → slice_get streams out ≡ Some (piece_of route stream values from to out)
+
+-- the items of a stream, and behind them those of another
+abbrev pub followed_by : Stream → Stream → Stream
+followed_by first second = record { job = first.job ++ second.job; time = first.time ++ second.time }
+
+-- a stream has an item for each value
+pub record IsValued (stream : Stream) (values : List ℕ) : Type 0 where
+  pub jobs : length stream.job ≡ length values
+  pub times : length stream.time ≡ length values
+
+-- Pieces whose ends meet are one piece, and the piece of all places is what goes to the output.
+pub record PiecesJoin : Type 0 where
+  pub join : (route : Route) (stream : Stream) (values : List ℕ) → IsValued stream values → (from middle to out : ℕ) → from ≤ middle → middle ≤ to → to ≤ length values →
+      followed_by (piece_of route stream values from middle out) (piece_of route stream values middle to out) ≡ piece_of route stream values from to out
+  pub whole : (route : Route) (stream : Stream) (values : List ℕ) → IsValued stream values → (out : ℕ) → piece_of route stream values 0 (length values) out ≡ picked_stream (outs_from route 0 values) stream out

@@ -1,11 +1,11 @@
 //! The split, which sends each job on by one of its outputs.
 #![tactic(auto)]
 
-ghost use Rattle.std.specs.Prelude.{◌≡◌, ◌==◌, ◌<◌, ◌≤◌, ◌^◌, ℕ, length, count_by, nat_le, IfOk, IsTrue};
-ghost use Rattle.mq_core.specs.Columns.{IsStream};
+ghost use Rattle.std.specs.Prelude.{◌≡◌, ◌==◌, ◌+◌, ◌<◌, ◌≤◌, ◌^◌, ℕ, length, count_by, nat_le, IfOk, IsTrue};
+ghost use Rattle.mq_core.specs.Columns.{IsStream, picked};
 ghost use Rattle.mq_core.specs.Sound.{is_sound_route, outputs_by};
 ghost use Rattle.mq_core.specs.Standard.{output_at};
-ghost use Rattle.mq_split.specs.Outs.{AreParts, outs_from, picked_stream};
+ghost use Rattle.mq_split.specs.Outs.{AreParts, ArePieces, PiecesJoin, between, outs_from};
 
 use mq_base::{List, OutOfMemory};
 use mq_core::{Route, Stream, outputs_of_route};
@@ -40,17 +40,31 @@ pub fn route_of(route: &Route, value: u64, position: u32) -> u8
     }
 }
 
-// The output of each job, by position.
+// The items of a list from a place up to another.
+fn part<T>(items: &List<T>, from: usize, to: usize) -> &[T]
+    requires order { from ≤ to }
+    requires within { to ≤ length items.now }
+    ensures { result.now ≡ between from to items.now }
+{
+    &items.as_slice()[from..to]
+}
+
+// The output of each job; the first has this position.
 // Its loop, like others below, is not inlined, so that it has the registers to itself.
 #[inline(never)]
-fn outs_of(alloc: Global, values: &List<u64>, route: &Route) -> Result<Vec<u8>, OutOfMemory>
+fn outs_of(
+    alloc: Global,
+    values: &[u64],
+    route: &Route,
+    first: usize,
+) -> Result<Vec<u8>, OutOfMemory>
     requires route { (columns : ℕ) × IsTrue (is_sound_route columns route.now) }
-    requires few { length values.now ≤ 1048576 }
-    ensures { IfOk result (λ outs. outs.items ≡ outs_from route.now 0 values.now) }
+    requires few { first + length values.now ≤ 1048576 }
+    ensures { IfOk result (λ outs. outs.items ≡ outs_from route.now first values.now) }
 {
     let mut outs = Vec::with_capacity(alloc, values.len())?;
     for at in 0..values.len() {
-        outs.push_reserved(route_of(route, *values.get(at), at as u32));
+        outs.push_reserved(route_of(route, values[at], (first + at) as u32));
     }
     Ok(outs)
 }
@@ -68,12 +82,19 @@ fn count_of(outs: &[u8], out: u8) -> usize
     count
 }
 
-// The items, in their order, whose output is this one. `outs` has the output of each, by position.
+// The jobs and times, in their order, whose output is this one. `outs` has the output of each.
 #[inline(never)]
-fn pick(alloc: Global, stream: &Stream, outs: &[u8], out: u8) -> Result<Stream, OutOfMemory>
-    requires jobs { length stream.now.job ≡ length outs.now }
-    requires times { length stream.now.time ≡ length outs.now }
-    ensures { IfOk result (λ part. part ≡ picked_stream outs.now stream.now out) }
+fn pick(
+    alloc: Global,
+    jobs: &[u32],
+    times: &[u64],
+    outs: &[u8],
+    out: u8,
+) -> Result<Stream, OutOfMemory>
+    requires jobs { length jobs.now ≡ length outs.now }
+    requires times { length times.now ≡ length outs.now }
+    ensures jobs { IfOk result (λ part. part.job ≡ picked out outs.now jobs.now) }
+    ensures times { IfOk result (λ part. part.time ≡ picked out outs.now times.now) }
 {
     let count = count_of(outs, out);
     let mut job = Vec::with_capacity(alloc, count)?;
@@ -82,8 +103,8 @@ fn pick(alloc: Global, stream: &Stream, outs: &[u8], out: u8) -> Result<Stream, 
         if outs[at] != out {
             continue;
         }
-        job.push_reserved(*stream.job.get(at));
-        time.push_reserved(*stream.time.get(at));
+        job.push_reserved(jobs[at]);
+        time.push_reserved(times[at]);
     }
     Ok(Stream {
         job: List::from_vec(job),
@@ -91,9 +112,41 @@ fn pick(alloc: Global, stream: &Stream, outs: &[u8], out: u8) -> Result<Stream, 
     })
 }
 
-/// The streams that leave a split: one per output, by its number, each with the jobs that its
-/// route sends there, in their order. `values` has one value of the route's column per item of the
-/// stream, by position. It refuses for want of memory alone.
+/// The items at the places from `from` up to `to` as they leave a split: one stream per output, by
+/// its number, each with the jobs that its route sends there, in their order. `values` has one value
+/// of the route's column per item of the whole stream, by position. It refuses for want of memory
+/// alone.
+pub fn split_piece(
+    alloc: Global,
+    stream: &Stream,
+    values: &List<u64>,
+    route: &Route,
+    from: u32,
+    to: u32,
+) -> Result<List<Stream>, OutOfMemory>
+    requires route { (columns : ℕ) × IsTrue (is_sound_route columns route.now) }
+    requires stream { IsStream stream.now }
+    requires values { length values.now ≡ length stream.now.job }
+    requires few { length values.now ≤ 1048576 }
+    requires order { from ≤ to }
+    requires within { to ≤ length values.now }
+    ensures { IfOk result (λ streams. ArePieces route.now stream.now values.now from to streams) }
+{
+    let (first, end) = (from as usize, to as usize);
+    let jobs = part(&stream.job, first, end);
+    let times = part(&stream.time, first, end);
+    let outs = outs_of(alloc, part(values, first, end), route, first)?;
+    let mut streams = List::new(alloc);
+    for out in 0..outputs_of_route(route) {
+        streams.push(pick(alloc, jobs, times, outs.as_slice(), out)?)?;
+    }
+    Ok(streams)
+}
+
+/// The streams that leave a split: its pieces one behind the other, here in one piece. They have one
+/// stream per output, by its number, each with the jobs that its route sends there, in their order.
+/// `values` has one value of the route's column per item of the stream, by position. It refuses for
+/// want of memory alone.
 pub fn split(
     alloc: Global,
     stream: &Stream,
@@ -106,10 +159,12 @@ pub fn split(
     requires few { length values.now ≤ 1048576 }
     ensures { IfOk result (λ streams. AreParts route.now stream.now values.now streams) }
 {
-    let outs = outs_of(alloc, values, route)?;
-    let mut streams = List::new(alloc);
-    for out in 0..outputs_of_route(route) {
-        streams.push(pick(alloc, stream, outs.as_slice(), out)?)?;
-    }
+    let streams = split_piece(alloc, stream, values, route, 0, values.len() as u32)?;
     Ok(streams)
 }
+
+/// Pieces whose ends meet are one piece, and the piece of all places is the whole. It does nothing
+/// when it runs.
+pub fn pieces_join()
+    ensures { PiecesJoin }
+{}

@@ -4,3 +4,5 @@ pub mod Counts
 pub mod Ordered
 pub mod Founds
 pub mod InOrder
+pub mod Passing
+pub mod Telling

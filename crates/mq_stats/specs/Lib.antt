@@ -1,3 +1,4 @@
+pub mod Ahead
 pub mod Departures
 pub mod Numbers
 pub mod RunNumbers

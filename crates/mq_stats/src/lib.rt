@@ -6,6 +6,8 @@ mod exits;
 mod in_order;
 mod laws;
 mod occupancy;
+mod passed;
+mod pieces;
 mod spans;
 mod tallies;
 #[cfg(test)]
@@ -14,5 +16,6 @@ mod tests;
 pub use exits::{Exit, leaving};
 pub use laws::{runs_give_streams, runs_give_visits};
 pub use occupancy::found;
+pub use pieces::{AheadTable, ahead, ahead_of, found_piece, found_piece_in_order};
 pub use spans::span;
 pub use tallies::{NodeTotals, totals, wait_of};

@@ -27,7 +27,10 @@ fn departures_of(alloc: Global, fates: &List<Fate>) -> Result<Vec<(u64, u32)>, O
 }
 
 // The same by time, those of one time by position.
-fn departures_in_order(alloc: Global, fates: &List<Fate>) -> Result<Vec<(u64, u32)>, OutOfMemory>
+pub fn departures_in_order(
+    alloc: Global,
+    fates: &List<Fate>,
+) -> Result<Vec<(u64, u32)>, OutOfMemory>
     requires few { length fates.now ≤ 1048576 }
     ensures { IfOk result (λ departures. departures.items ≡ by_first (departures_from 0 fates.now)) }
 {
@@ -58,7 +61,7 @@ fn gone_by(departures: &[(u64, u32)], from: usize, time: u64, position: u32) -> 
 }
 
 // 1 for a visit that isn't lost, and 0 for one that is.
-fn one_if_stays(fate: &Fate) -> usize
+pub fn one_if_stays(fate: &Fate) -> usize
     ensures { result ≡ cond (stays fate.now) 1 0 }
 {
     match fate {

@@ -1,7 +1,9 @@
 ghost use Rattle.std.specs.Prelude.{◌≡◌, ◌<◌, ◌≤◌, All, IfOk, IsTrue};
 ghost use Rattle.mq_core.specs.Asked.{HasValue};
 
-use crate::{Exit, NodeTotals, found, leaving, span, totals};
+use crate::{
+    Exit, NodeTotals, ahead, found, found_piece, found_piece_in_order, leaving, span, totals,
+};
 use mq_base::{List, OutOfMemory};
 use mq_core::{Demand, Fate, Kind, Rows, Stream, Visits};
 use std::alloc::Global;
@@ -221,5 +223,32 @@ fn those_who_overtake_are_gone(rt: HostRuntime) -> Result<(), Fail> {
     )?;
     let founds = found(alloc, &arrive, &fate)?;
     assert_eq!(rt; founds.as_slice(), [0, 1, 2, 1, 1, 1].as_slice());
+    Ok(())
+}
+
+#[test]
+fn a_piece_has_what_its_visits_found(rt: HostRuntime) -> Result<(), Fail> {
+    let alloc = rt.alloc();
+    let arrive = list(alloc, &[0u64, 3, 3])?;
+    let fate = list(
+        alloc,
+        &[Fate::Departs(5), Fate::Departs(3), Fate::Departs(3)],
+    )?;
+    let table = ahead(alloc, &arrive, &fate)?;
+    assert_eq!(rt; table.leaving.as_slice(), [3, 3, 5].as_slice());
+    assert_eq!(rt; table.kept.as_slice(), [0, 1, 2, 3].as_slice());
+    assert_eq!(rt; table.still.as_slice(), [0, 0, 1, 2].as_slice());
+    let founds = found_piece(alloc, &arrive, &table, 1, 3)?;
+    assert_eq!(rt; founds.as_slice(), [1, 1].as_slice());
+    Ok(())
+}
+
+#[test]
+fn a_piece_in_order_has_what_its_visits_found(rt: HostRuntime) -> Result<(), Fail> {
+    let alloc = rt.alloc();
+    let arrive = list(alloc, &[0u64, 1, 2, 5, 6])?;
+    let departs = list(alloc, &[4u64, 5, 8, 9, 9])?;
+    let founds = found_piece_in_order(alloc, &arrive, &departs, 2, 5)?;
+    assert_eq!(rt; founds.as_slice(), [2, 1, 2].as_slice());
     Ok(())
 }

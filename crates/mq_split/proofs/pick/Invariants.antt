@@ -7,8 +7,8 @@ use Rattle.mq_split.proofs.pick.Given as goal
 -- what is picked so far and of what is left is all, for which there is room
 abbrev pub invariant-loop-at : goal.invariant-loop-at
 invariant-loop-at l = record {
-  jobs : l.job.items ++ picked l.out (drop l.at l.outs) (drop l.at l.stream.job) ≡ picked l.out l.outs l.stream.job;
-  times : l.time.items ++ picked l.out (drop l.at l.outs) (drop l.at l.stream.time) ≡ picked l.out l.outs l.stream.time;
+  so_far : l.job.items ++ picked l.out (drop l.at l.outs) (drop l.at l.jobs) ≡ picked l.out l.outs l.jobs;
+  at_times : l.time.items ++ picked l.out (drop l.at l.outs) (drop l.at l.times) ≡ picked l.out l.outs l.times;
   even : vec_len l.job ≡ vec_len l.time;
   room : vec_len l.job + count_by (λ o. o == l.out) (drop l.at l.outs) ≤ vec_capacity l.job;
   space : vec_capacity l.job ≤ vec_capacity l.time;

@@ -1,0 +1,38 @@
+use Rattle.std.proofs.Common.{◌≡◌, ◌+◌, ◌≤◌, refl, sym, ap, ◌∙◌, subst, arith, drop, get_or, take, map, length-set}
+use Rattle.std.proofs.lemmas.List.Sums.{count_by-le-length}
+use Rattle.std.specs.Prelude.{nat_le}
+use Rattle.mq_core.specs.Columns.{founds_from}
+use Rattle.mq_core.specs.declared.model.Fate.TheVariants.{Departs}
+use Rattle.mq_stats.proofs.Passing.{up_to}
+use Rattle.mq_stats.proofs.Telling.{fills-next, founds-start, left-on, slice-at}
+use Rattle.mq_stats.proofs.pieces.fill_in_order.Goals as goal
+
+pub loop-place-init : goal.loop-place-init
+loop-place-init c =
+    let fates = map (λ d. Departs d) c.args.departs.now in
+    let start : c.args.first + 0 ≡ c.args.first = omega arith in
+    let most = count_by-le-length (λ t. nat_le t (get_or c.args.arrive.now c.args.first 0)) c.args.departs.now in
+    record {
+      so_far = ap (λ n. founds_from (take n fates) (drop n c.args.arrive.now) (drop n fates)) start ∙ founds-start c.args.first _ c.args.arrive.now fates refl;
+      left = λ l. subst (λ n. c.passed_by-left.result ≤ up_to (get_or c.args.arrive.now n 0) c.args.departs.now) (sym start) (let e = c.passed_by-left.ensures in omega arith);
+      within = omega arith;
+      inside = omega (arith, c.passed_by-left.ensures);
+      len = refl;
+    }
+
+pub loop-place-preserved : goal.loop-place-preserved
+loop-place-preserved c =
+    let arrive = c.args.arrive.now in
+    let departs = c.args.departs.now in
+    let at = c.args.first + c.loop-place.place in
+    let time = get_or arrive at 0 in
+    let passed = c.one_if_passed-passed.ensures in
+    let long = length-set c.loop-place.found c.loop-place.place c.saturating_sub.result in
+    let most = count_by-le-length (λ t. nat_le t time) departs in
+    record {
+      so_far = fills-next c.loop-place.found arrive departs _ c.args.first c.loop-place.place c.loop-place.left c.one_if_passed-passed.result c.saturating_sub.result time c.requires.departs c.requires.even c.loop-place-test.true (omega arith) (slice-at arrive at (omega arith)) c.saturating_sub.ensures passed.bit passed.least passed.most c.loop-place.invariant.so_far;
+      left = λ l. left-on arrive departs c.args.first c.loop-place.place c.loop-place.left c.one_if_passed-passed.result c.requires.arrive passed.bit passed.least (omega (arith, passed.bit));
+      within = omega (arith, passed.bit);
+      inside = omega (arith, passed.least);
+      len = long ∙ c.loop-place.invariant.len;
+    }

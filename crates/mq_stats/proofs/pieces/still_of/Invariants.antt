@@ -1,0 +1,18 @@
+use Rattle.std.proofs.Common.{◌≡◌, ◌+◌, ◌<◌, ◌≤◌, ℕ, Some, count_by, length, take}
+use Rattle.std.specs.Prelude.{slice_get}
+use Rattle.std.specs.List.{zip}
+use Rattle.std.specs.Vec.{vec_len, vec_capacity}
+use Rattle.mq_core.specs.declared.model.Fate.{Fate}
+use Rattle.mq_stats.specs.Ahead.{leaves_at_once}
+use Rattle.mq_stats.proofs.pieces.still_of.Given as goal
+
+-- the counts of the places so far
+abbrev pub invariant-loop-at : goal.invariant-loop-at
+invariant-loop-at l = record {
+  count : l.count ≡ count_by (λ (p : ℕ × Fate). leaves_at_once p.0 p.1) (take l.at (zip l.arrive l.fate));
+  counts : (place : ℕ) → place < l.at + 1 → slice_get l.still.items place ≡ Some (count_by (λ (p : ℕ × Fate). leaves_at_once p.0 p.1) (take place (zip l.arrive l.fate)));
+  few : l.count ≤ l.at;
+  len : length l.still.items ≡ l.at + 1;
+  size : vec_len l.still ≡ l.at + 1;
+  room : length l.fate + 1 ≤ vec_capacity l.still;
+}

@@ -1,0 +1,230 @@
+// How many jobs each visit found, by pieces: from a table that is made once for all of them.
+ghost use Rattle.std.specs.Prelude.{◌≡◌, ◌+◌, ◌<◌, ◌≤◌, ℕ, List as Items, cond, count_by, length, map, nat_le, IfOk};
+ghost use Rattle.std.specs.List.{AllByRecursion, zip};
+ghost use Rattle.mq_core.specs.ColumnLaws.{LeavesFrom};
+ghost use Rattle.mq_core.specs.Columns.{founds_of};
+ghost use Rattle.mq_core.specs.Laws.{Rises};
+ghost use Rattle.mq_core.specs.declared.model.Fate.{Fate as TheFate};
+ghost use Rattle.mq_core.specs.declared.model.Fate.TheVariants.{Departs};
+ghost use Rattle.mq_stats.specs.Ahead.{AreCounts, IsAhead, between, leaves_at_once, leaving_order};
+ghost use Rattle.mq_stats.specs.Departures.{stays};
+
+use crate::occupancy::{departures_in_order, one_if_stays};
+use crate::passed::passed_by;
+use mq_base::{List, OutOfMemory};
+use mq_core::Fate;
+use std::alloc::Global;
+
+/// What is known of all visits to a node, so that the number of jobs that some of them found can be
+/// told from it and the arrivals alone.
+#[derive(Drop)]
+pub struct AheadTable {
+    /// The departures in order, in ticks.
+    pub leaving: List<u64>,
+    /// For each position, and behind the last, how many visits before it aren't lost.
+    pub kept: List<u32>,
+    /// The same of those that depart as they come.
+    pub still: List<u32>,
+}
+
+// The departures in order.
+fn leaving_of(alloc: Global, fate: &List<Fate>) -> Result<List<u64>, OutOfMemory>
+    requires few { length fate.now ≤ 1048576 }
+    ensures { IfOk result (λ leaving. leaving ≡ leaving_order fate.now) }
+{
+    let departures = departures_in_order(alloc, fate)?;
+    let mut leaving = Vec::with_capacity(alloc, departures.len())?;
+    for departure in departures.as_slice() {
+        leaving.push_reserved(departure.0);
+    }
+    Ok(List::from_vec(leaving))
+}
+
+// How many visits before each place aren't lost.
+fn kept_of(alloc: Global, fate: &List<Fate>) -> Result<List<u32>, OutOfMemory>
+    requires few { length fate.now ≤ 1048576 }
+    ensures { IfOk result (λ kept. AreCounts stays fate.now kept) }
+{
+    let mut kept = Vec::with_capacity(alloc, fate.len() + 1)?;
+    let mut count = 0;
+    kept.push_reserved(0);
+    for at in 0..fate.len() {
+        count += one_if_stays(fate.get(at));
+        kept.push_reserved(count as u32);
+    }
+    Ok(List::from_vec(kept))
+}
+
+// 1 for a visit that departs as it comes, and 0 for another.
+fn one_if_at_once(arrive: u64, fate: &Fate) -> usize
+    ensures { result ≡ cond (leaves_at_once arrive fate.now) 1 0 }
+{
+    match fate {
+        Fate::Departs(time) => (*time == arrive) as usize,
+        Fate::Lost => 0,
+    }
+}
+
+// How many visits before each place depart as they come.
+fn still_of(alloc: Global, arrive: &List<u64>, fate: &List<Fate>) -> Result<List<u32>, OutOfMemory>
+    requires even { length fate.now ≡ length arrive.now }
+    requires few { length arrive.now ≤ 1048576 }
+    ensures { IfOk result (λ still. AreCounts (λ p. leaves_at_once p.0 p.1) (zip arrive.now fate.now) still) }
+{
+    let mut still = Vec::with_capacity(alloc, fate.len() + 1)?;
+    let mut count = 0;
+    still.push_reserved(0);
+    for at in 0..fate.len() {
+        count += one_if_at_once(*arrive.get(at), fate.get(at));
+        still.push_reserved(count as u32);
+    }
+    Ok(List::from_vec(still))
+}
+
+/// What is known of the visits of these arrivals and fates, of which the departures are there in
+/// order, as a delay has them. The arrivals never fall, and no job leaves before it came. It refuses
+/// for want of memory alone.
+pub fn ahead_of(
+    alloc: Global,
+    arrive: &List<u64>,
+    fate: &List<Fate>,
+    leaving: List<u64>,
+) -> Result<AheadTable, OutOfMemory>
+    requires even { length fate.now ≡ length arrive.now }
+    requires few { length arrive.now ≤ 1048576 }
+    requires arrive { Rises (λ a b. a ≤ b) arrive.now }
+    requires fate { AllByRecursion (λ p. LeavesFrom p.0 p.1) (zip arrive.now fate.now) }
+    requires leaving { leaving ≡ leaving_order fate.now }
+    ensures { IfOk result (λ ahead. IsAhead arrive.now fate.now ahead) }
+{
+    let kept = kept_of(alloc, fate)?;
+    let still = still_of(alloc, arrive, fate)?;
+    Ok(AheadTable {
+        leaving,
+        kept,
+        still,
+    })
+}
+
+/// The same, which puts the departures in order.
+pub fn ahead(
+    alloc: Global,
+    arrive: &List<u64>,
+    fate: &List<Fate>,
+) -> Result<AheadTable, OutOfMemory>
+    requires even { length fate.now ≡ length arrive.now }
+    requires few { length arrive.now ≤ 1048576 }
+    requires arrive { Rises (λ a b. a ≤ b) arrive.now }
+    requires fate { AllByRecursion (λ p. LeavesFrom p.0 p.1) (zip arrive.now fate.now) }
+    ensures { IfOk result (λ ahead. IsAhead arrive.now fate.now ahead) }
+{
+    let leaving = leaving_of(alloc, fate)?;
+    let table = ahead_of(alloc, arrive, fate, leaving)?;
+    Ok(table)
+}
+
+/// How many jobs the visits at the places from `from` up to `to` found, as `found` tells it for the
+/// arrivals and fates that the table was made of. It refuses for want of memory alone.
+///
+/// Of the visits before a place that aren't lost, those are gone that depart by its arrival. Of the
+/// departures by then, those of the visits from the place on are no more than those who come at its
+/// very time and depart as they come.
+pub fn found_piece(
+    alloc: Global,
+    arrive: &List<u64>,
+    ahead: &AheadTable,
+    from: u32,
+    to: u32,
+) -> Result<List<u32>, OutOfMemory>
+    requires made { (fate : Items TheFate) × IsAhead arrive.now fate ahead.now }
+    requires order { from ≤ to }
+    requires within { to ≤ length arrive.now }
+    ensures { IfOk result (λ found. (fate : Items TheFate) → IsAhead arrive.now fate ahead.now → found ≡ between from to (founds_of arrive.now fate)) }
+{
+    let (first, end) = (from as usize, to as usize);
+    let mut found = Vec::with_capacity(alloc, end - first)?;
+    let mut left = 0;
+    let mut came = 0;
+    for at in first..end {
+        let time = *arrive.get(at);
+        left = passed_by(ahead.leaving.as_slice(), left, time);
+        came = passed_by(arrive.as_slice(), came, time);
+        let at_once = *ahead.still.get(came) - *ahead.still.get(at);
+        found.push_reserved(*ahead.kept.get(at) + at_once - left as u32);
+    }
+    Ok(List::from_vec(found))
+}
+
+// 1 where a time is at most another, and 0 where it is later.
+fn one_if_at_most(time: u64, other: u64) -> usize
+    ensures { result ≡ cond (nat_le time other) 1 0 }
+{
+    (time <= other) as usize
+}
+
+// 1 where the departure at a place is at most the time, and 0 where it is later or there is none.
+fn one_if_passed(departs: &[u64], place: usize, time: u64) -> usize
+    requires order { Rises (λ a b. a ≤ b) departs.now }
+    requires place { place ≤ count_by (λ t. nat_le t time) departs.now }
+    ensures bit { result ≤ 1 }
+    ensures least { place + result ≤ count_by (λ t. nat_le t time) departs.now }
+    ensures most { result ≡ 0 → count_by (λ t. nat_le t time) departs.now ≤ place }
+{
+    if place < departs.len() {
+        return one_if_at_most(departs[place], time);
+    }
+    0
+}
+
+// Fills in what the visits from `first` on found, as many as there are places.
+//
+// Each round passes a departure or goes on to the next visit, by the answer of one comparison and
+// without a branch on it, which no processor could foresee.
+#[inline(never)]
+fn fill_in_order(found: &mut [u32], arrive: &[u64], departs: &[u64], first: usize)
+    requires even { length departs.now ≡ length arrive.now }
+    requires few { length arrive.now ≤ 1048576 }
+    requires arrive { Rises (λ a b. a ≤ b) arrive.now }
+    requires departs { Rises (λ a b. a ≤ b) departs.now }
+    requires within { first + length found.old ≤ length arrive.now }
+    ensures { found.new ≡ between first (first + length found.old) (founds_of arrive.now (map (λ time. Departs time) departs.now)) }
+{
+    if found.is_empty() {
+        return;
+    }
+    let mut left = passed_by(departs, 0, arrive[first]);
+    let mut place = 0;
+    while place < found.len() {
+        let passed = one_if_passed(departs, left, arrive[first + place]);
+        found[place] = (first + place).saturating_sub(left) as u32;
+        left += passed;
+        place += 1 - passed;
+    }
+}
+
+/// The same where no job is lost and none overtakes another, from the departures of all visits, by
+/// position. It refuses for want of memory alone.
+pub fn found_piece_in_order(
+    alloc: Global,
+    arrive: &List<u64>,
+    departs: &List<u64>,
+    from: u32,
+    to: u32,
+) -> Result<List<u32>, OutOfMemory>
+    requires even { length departs.now ≡ length arrive.now }
+    requires few { length arrive.now ≤ 1048576 }
+    requires arrive { Rises (λ a b. a ≤ b) arrive.now }
+    requires departs { Rises (λ a b. a ≤ b) departs.now }
+    requires order { from ≤ to }
+    requires within { to ≤ length arrive.now }
+    ensures { IfOk result (λ found. found ≡ between from to (founds_of arrive.now (map (λ time. Departs time) departs.now))) }
+{
+    let mut found = vec![in alloc; 0u32; (to - from) as usize]?;
+    fill_in_order(
+        &mut found,
+        arrive.as_slice(),
+        departs.as_slice(),
+        from as usize,
+    );
+    Ok(List::from_vec(found))
+}
