@@ -101,98 +101,217 @@ fn an_arrival_at_a_departure_is_admitted(rt: HostRuntime) -> Result<(), Fail> {
     Ok(())
 }
 
-#[test]
-fn a_round_judges_by_the_guess(rt: HostRuntime) -> Result<(), Fail> {
-    let alloc = rt.alloc();
-    let load = each_tick(alloc, 4)?;
-    let mut guess = List::from_vec(Vec::from_slice(alloc, &[true, true, true, true])?);
-    for want in [
+// What a station comes to.
+#[derive(Clone, Copy)]
+struct Outcome<'a> {
+    admitted: &'a [bool],
+    departs: &'a [u64],
+    rounds: u32,
+    judged: u64,
+}
+
+fn comes_to(found: &Settled, wanted: &Outcome<'_>) -> bool {
+    found.admitted.as_slice() == wanted.admitted
+        && found.departs.as_slice() == wanted.departs
+        && (found.rounds, found.judged) == (wanted.rounds, wanted.judged)
+}
+
+// Whether so many arrivals come to this in whole rounds.
+fn whole_comes_to(
+    alloc: Global,
+    count: u32,
+    places: u32,
+    wanted: &Outcome<'_>,
+) -> Result<bool, OutOfMemory>
+    requires count { count ≤ 1048576 }
+    requires places { 1 ≤ places }
+{
+    let load = each_tick(alloc, count)?;
+    let found = settle_whole(alloc, &load.stream, &load.demands, places)?;
+    Ok(comes_to(&found, wanted))
+}
+
+// Whether so many arrivals come to this in windows, the first of them of this size.
+fn windows_come_to(
+    alloc: Global,
+    count: u32,
+    first: u32,
+    wanted: &Outcome<'_>,
+) -> Result<bool, OutOfMemory>
+    requires count { count ≤ 1048576 }
+    requires first { 1 ≤ first }
+{
+    let load = each_tick(alloc, count)?;
+    let found = settled(alloc, &load, 1, first)?;
+    Ok(comes_to(&found, wanted))
+}
+
+// Whether a round of this load answers this guess so.
+fn round_answers(
+    alloc: Global,
+    load: &Load,
+    guess: [bool; 4],
+    wanted: [bool; 4],
+) -> Result<bool, OutOfMemory>
+    requires load { IsSoundLoad load.now.stream.time load.now.demands }
+    requires four { length load.now.stream.time ≡ 4 }
+{
+    let guess = List::from_vec(Vec::from_slice(alloc, &guess)?);
+    let answer = round(alloc, &load.stream, &load.demands, 1, &guess)?;
+    Ok(answer.as_slice() == wanted.as_slice())
+}
+
+// Whether the rounds of this load, which begin with all admitted, come to these answers in turn.
+fn rounds_answer(alloc: Global, load: &Load) -> Result<bool, OutOfMemory>
+    requires load { IsSoundLoad load.now.stream.time load.now.demands }
+    requires four { length load.now.stream.time ≡ 4 }
+{
+    let mut guess = [true, true, true, true];
+    for wanted in [
         [true, false, false, false],
         [true, false, true, true],
         [true, false, true, false],
         [true, false, true, false],
     ] {
-        assert!(rt; guess.len() == load.stream.time.len());
-        guess = round(alloc, &load.stream, &load.demands, 1, &guess)?;
-        assert_eq!(rt; guess.as_slice(), want.as_slice());
+        if !round_answers(alloc, load, guess, wanted)? {
+            return Ok(false);
+        }
+        guess = wanted;
     }
+    Ok(true)
+}
+
+#[test]
+fn a_round_judges_by_the_guess(rt: HostRuntime) -> Result<(), Fail> {
+    let load = each_tick(rt.alloc(), 4)?;
+    assert!(rt; rounds_answer(rt.alloc(), &load)?);
     Ok(())
 }
 
 #[test]
 fn rounds_settle_all(rt: HostRuntime) -> Result<(), Fail> {
-    let alloc = rt.alloc();
-    let load = each_tick(alloc, 4)?;
-    let settled = settle_whole(alloc, &load.stream, &load.demands, 1)?;
-    assert_eq!(rt;
-        settled.admitted.as_slice(),
-        [true, false, true, false].as_slice()
-    );
-    assert_eq!(rt; settled.departs.as_slice(), [2, 4].as_slice());
-    assert_eq!(rt; settled.rounds, 4);
-    assert_eq!(rt; settled.judged, 16);
+    let wanted = Outcome {
+        admitted: &[true, false, true, false],
+        departs: &[2, 4],
+        rounds: 4,
+        judged: 16,
+    };
+    assert!(rt; whole_comes_to(rt.alloc(), 4, 1, &wanted)?);
     Ok(())
 }
 
 #[test]
 fn windows_settle_all(rt: HostRuntime) -> Result<(), Fail> {
-    let alloc = rt.alloc();
-    let load = each_tick(alloc, 4)?;
-    let of_two = settled(alloc, &load, 1, 2)?;
-    assert_eq!(rt;
-        of_two.admitted.as_slice(),
-        [true, false, true, false].as_slice()
-    );
-    assert_eq!(rt; of_two.departs.as_slice(), [2, 4].as_slice());
-    assert_eq!(rt; (of_two.rounds, of_two.judged), (2, 4));
-    let of_four = settled(alloc, &load, 1, 4)?;
-    assert_eq!(rt;
-        of_four.admitted.as_slice(),
-        [true, false, true, false].as_slice()
-    );
-    assert_eq!(rt; of_four.departs.as_slice(), [2, 4].as_slice());
-    assert_eq!(rt; (of_four.rounds, of_four.judged), (2, 6));
+    let of_two = Outcome {
+        admitted: &[true, false, true, false],
+        departs: &[2, 4],
+        rounds: 2,
+        judged: 4,
+    };
+    assert!(rt; windows_come_to(rt.alloc(), 4, 2, &of_two)?);
+    let of_four = Outcome {
+        judged: 6,
+        ..of_two
+    };
+    assert!(rt; windows_come_to(rt.alloc(), 4, 4, &of_four)?);
     Ok(())
+}
+
+fn is_so(found: &Settled, admitted: &[bool], departs: &[u64]) -> bool {
+    found.admitted.as_slice() == admitted && found.departs.as_slice() == departs
+}
+
+// Whether two places, one of them to wait in, take these in whole rounds.
+fn two_places_take(
+    alloc: Global,
+    load: &Load,
+    admitted: &[bool],
+    departs: &[u64],
+) -> Result<bool, OutOfMemory>
+    requires { IsSoundLoad load.now.stream.time load.now.demands }
+{
+    let found = settle_whole(alloc, &load.stream, &load.demands, 2)?;
+    Ok(is_so(&found, admitted, departs))
+}
+
+// The same in windows, the first of them of this size.
+fn two_places_take_in(
+    alloc: Global,
+    load: &Load,
+    first: u32,
+    admitted: &[bool],
+    departs: &[u64],
+) -> Result<bool, OutOfMemory>
+    requires load { IsSoundLoad load.now.stream.time load.now.demands }
+    requires first { 1 ≤ first }
+{
+    let found = settled(alloc, load, 2, first)?;
+    Ok(is_so(&found, admitted, departs))
+}
+
+// The same in windows, whatever the size of the first.
+fn two_places_take_in_each(
+    alloc: Global,
+    load: &Load,
+    admitted: &[bool],
+    departs: &[u64],
+) -> Result<bool, OutOfMemory>
+    requires { IsSoundLoad load.now.stream.time load.now.demands }
+{
+    for first in 1..8 {
+        if !two_places_take_in(alloc, load, first, admitted, departs)? {
+            return Ok(false);
+        }
+    }
+    Ok(true)
 }
 
 #[test]
 fn two_places_hold_one_that_waits(rt: HostRuntime) -> Result<(), Fail> {
     let alloc = rt.alloc();
     let load = each_tick(alloc, 6)?;
-    let want = [true, true, true, false, true, false];
-    let whole = settle_whole(alloc, &load.stream, &load.demands, 2)?;
-    assert_eq!(rt; whole.admitted.as_slice(), want.as_slice());
-    assert_eq!(rt; whole.departs.as_slice(), [2, 4, 6, 8].as_slice());
-    for first in 1..8 {
-        let windows = settled(alloc, &load, 2, first)?;
-        assert_eq!(rt; windows.admitted.as_slice(), want.as_slice());
-        assert_eq!(rt; windows.departs.as_slice(), [2, 4, 6, 8].as_slice());
-    }
+    let admitted = [true, true, true, false, true, false];
+    let departs = [2, 4, 6, 8];
+    assert!(rt;
+        two_places_take(alloc, &load, &admitted, &departs)?
+            && two_places_take_in_each(alloc, &load, &admitted, &departs)?
+    );
     Ok(())
 }
 
 #[test]
 fn no_arrival_takes_no_window(rt: HostRuntime) -> Result<(), Fail> {
-    let alloc = rt.alloc();
-    let load = each_tick(alloc, 0)?;
-    let whole = settle_whole(alloc, &load.stream, &load.demands, 1)?;
-    assert!(rt; whole.admitted.is_empty() && whole.departs.is_empty());
-    assert_eq!(rt; (whole.rounds, whole.judged), (1, 0));
-    let windows = settled(alloc, &load, 1, 4096)?;
-    assert!(rt; windows.admitted.is_empty() && windows.departs.is_empty());
-    assert_eq!(rt; (windows.rounds, windows.judged), (0, 0));
+    let whole = Outcome {
+        admitted: &[],
+        departs: &[],
+        rounds: 1,
+        judged: 0,
+    };
+    assert!(rt; whole_comes_to(rt.alloc(), 0, 1, &whole)?);
+    let windows = Outcome { rounds: 0, ..whole };
+    assert!(rt; windows_come_to(rt.alloc(), 0, 4096, &windows)?);
     Ok(())
+}
+
+fn is_every_other(admitted: &[bool]) -> bool {
+    for (at, is_admitted) in admitted.iter().enumerate() {
+        if *is_admitted != (at % 2 == 0) {
+            return false;
+        }
+    }
+    true
+}
+
+// Whether of a long overload every other arrival is admitted, by few judgements.
+fn overload_takes_few(alloc: Global) -> Result<bool, OutOfMemory> {
+    let load = each_tick(alloc, 200_000)?;
+    let found = settled(alloc, &load, 1, 4096)?;
+    let is_short = found.judged <= 404_096 && found.departs.len() == 100_000;
+    Ok(is_short && is_every_other(found.admitted.as_slice()))
 }
 
 #[test]
 fn an_overloaded_station_takes_few_judgements(rt: HostRuntime) -> Result<(), Fail> {
-    let alloc = rt.alloc();
-    let load = each_tick(alloc, 200_000)?;
-    let windows = settled(alloc, &load, 1, 4096)?;
-    assert!(rt; windows.judged <= 404_096);
-    assert_eq!(rt; windows.departs.len(), 100_000);
-    for (at, admitted) in windows.admitted.as_slice().iter().enumerate() {
-        assert_eq!(rt; *admitted, at % 2 == 0);
-    }
+    assert!(rt; overload_takes_few(rt.alloc())?);
     Ok(())
 }

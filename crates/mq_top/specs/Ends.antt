@@ -9,7 +9,7 @@ use Rattle.mq_trace.specs.Trace.{trace_fault}
 use Rattle.mq_trace.specs.declared.fault.TraceFault.TheVariants as trace
 use Rattle.mq_top.specs.Answer.{Answer}
 use Rattle.mq_top.specs.Answer.Answer.{ModelRefused, TraceRefused, PassesBound, Reported}
-use Rattle.mq_top.specs.Words.{refuses_words, usage_fault}
+use Rattle.mq_words.specs.Words.{refuses_words, usage_fault}
 use Rattle.mq_top.specs.declared.outcome.Outcome.{Outcome}
 use Rattle.mq_top.specs.declared.outcome.Outcome.TheVariants.{Done, Usage, Model, Trace, Past, ReadFault, WriteFault, Memory}
 
@@ -86,10 +86,10 @@ status_of WriteFault = 7
 status_of Memory = 8
 
 -- how a command may end before the model is read; want of memory comes only where the words pass the rule
-abbrev pub RefusesWords : List (List ℕ) → Outcome → Type 0
-RefusesWords words (Usage f) = usage_fault words ≡ Some f
-RefusesWords words Memory = refuses_words words ≡ false
-RefusesWords words _ = ⊥
+abbrev pub RefusesCall : List (List ℕ) → Outcome → Type 0
+RefusesCall words (Usage f) = usage_fault words ≡ Some f
+RefusesCall words Memory = refuses_words words ≡ false
+RefusesCall words _ = ⊥
 
 -- how an accepted command may end before the trace is read, where this is told of the model
 abbrev pub RefusesModel : Outcome → Option (List ℕ) → Type 0

@@ -11,8 +11,8 @@ use Rattle.mq_trace.specs.declared.fault.TraceFault.{TraceFault}
 use Rattle.mq_trace.specs.declared.fault.TraceFault.TheVariants as trace
 use Rattle.mq_top.specs.declared.outcome.Outcome.{Outcome}
 use Rattle.mq_top.specs.declared.outcome.Outcome.TheVariants.{Done, Usage, Model, Trace, Past, ReadFault, WriteFault, Memory}
-use Rattle.mq_top.specs.declared.outcome.UsageFault.{UsageFault}
-use Rattle.mq_top.specs.declared.outcome.UsageFault.TheVariants as usage
+use Rattle.mq_words.specs.declared.fault.UsageFault.{UsageFault}
+use Rattle.mq_words.specs.declared.fault.UsageFault.TheVariants as usage
 
 abbrev pub model_line : ModelFault → List ℕ
 model_line model.TooLong = codes "mpsim: model: longer than 65536 bytes" ++ 10 ∷ []

@@ -3,11 +3,10 @@
 
 mod line;
 mod outcome;
-mod rule;
 mod stages;
 #[cfg(test)]
 mod tests;
-mod words;
 
-pub use outcome::{Outcome, UsageFault};
+pub use mq_words::UsageFault;
+pub use outcome::Outcome;
 pub use stages::simulate;

@@ -4,12 +4,13 @@ ghost use Rattle.mq_base.specs.Outside.{Rose, TakesFirst, TakesPrefix};
 ghost use Rattle.mq_base.specs.Pieces.{pieces_text};
 ghost use Rattle.mq_top.specs.Lines.{PutsLine, line_text, model_line, trace_line, past_line, usage_line, name_of as name_of_outcome};
 
-use crate::outcome::{Outcome, UsageFault};
+use crate::outcome::Outcome;
 use mq_base::{Gather, Piece, Sink, SinkFault, add_pieces, flush};
 use mq_core::Network;
 use mq_engine::PastFault;
 use mq_model::ModelFault;
 use mq_trace::TraceFault;
+use mq_words::UsageFault;
 
 /// The name that an outcome speaks of: that of a missing column, or of the node that passed the bound.
 pub fn name_of<'a>(net: &'a Network, outcome: &Outcome) -> &'a [u8]

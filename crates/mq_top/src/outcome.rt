@@ -5,22 +5,7 @@ ghost use Rattle.mq_top.specs.Ends.{status_of};
 use mq_engine::PastFault;
 use mq_model::ModelFault;
 use mq_trace::TraceFault;
-
-/// Why the words are refused.
-#[derive(Clone, Copy, Debug, PartialEq, Eq)]
-pub enum UsageFault {
-    /// A word is empty or an unknown option, an option stands twice or lacks its value, or more
-    /// than two words are left.
-    Words,
-    /// Without `--made` there aren't two names, or with it there is any.
-    Form,
-    /// The number of workers isn't a number from 1 to 64.
-    Workers,
-    /// The number of jobs in a block isn't a number from 1 to 65,536.
-    Block,
-    /// The number of the made input isn't a number from 0 to 18,446,744,073,709,551,615.
-    Made,
-}
+use mq_words::UsageFault;
 
 /// How a call ends.
 #[derive(Clone, Copy, Debug, PartialEq, Eq)]

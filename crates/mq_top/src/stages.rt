@@ -10,13 +10,12 @@ ghost use Rattle.mq_report.specs.Text.{report_in};
 ghost use Rattle.mq_trace.specs.Trace.{trace_fault, rows_in};
 ghost use Rattle.mq_top.specs.Answer.{answer, answer_over, run_answer};
 ghost use Rattle.mq_top.specs.Answer.Answer.{Reported};
-ghost use Rattle.mq_top.specs.Ends.{Ends, FailedAt, IsLate, IsOfMade, Reads, RefusesModel, RefusesTrace, Untouched, takings};
+ghost use Rattle.mq_top.specs.Ends.{Ends, FailedAt, IsLate, IsOfMade, Reads, RefusesCall, RefusesModel, RefusesTrace, Untouched, takings};
 ghost use Rattle.mq_top.specs.Lines.{PutsLine, line_text, name_of as name_of_outcome};
-ghost use Rattle.mq_top.specs.Words.{Makes, Names, asks_made, jobs_asked, refuses_words, texts, usage_fault};
+ghost use Rattle.mq_words.specs.Words.{Asks, Makes, Names, asks_made, jobs_asked, refuses_words, texts, usage_fault};
 
 use crate::line::{name_of, put_line};
-use crate::outcome::{Outcome, UsageFault};
-use crate::words::{Input, settings_of};
+use crate::outcome::Outcome;
 use mq_base::{FileFault, Files, Sink};
 use mq_core::{Plan, Rows, runs_are_of_networks};
 use mq_engine::{RunFault, run};
@@ -24,6 +23,7 @@ use mq_gen::{made, made_inputs_are_accepted};
 use mq_model::{ModelFault, read_model};
 use mq_report::report;
 use mq_trace::{TraceFault, read_trace};
+use mq_words::{Input, Settings, UsageFault, WordsFault, settings_of};
 use std::alloc::Global;
 
 // The most bytes that the text of a model may have.
@@ -31,6 +31,18 @@ const MODEL_LIMIT: u64 = 65_536;
 
 // The most bytes that the text of a trace may have.
 const TRACE_LIMIT: u64 = 134_217_728;
+
+// What the words ask for, or how the call ends.
+fn accept_words<'a>(alloc: Global, words: &'a [&'a str]) -> Result<Settings<'a>, Outcome>
+    ensures asked { IfOk result (λ settings. Asks (texts words.now) settings) }
+    ensures refused { IfErr result (RefusesCall (texts words.now)) }
+{
+    match settings_of(alloc, words) {
+        Ok(settings) => Ok(settings),
+        Err(WordsFault::Usage(fault)) => Err(Outcome::Usage(fault)),
+        Err(WordsFault::Memory) => Err(Outcome::Memory),
+    }
+}
 
 // Judges the bytes of a model.
 fn judge_model(alloc: Global, bytes: &[u8]) -> Result<Plan, Outcome>
@@ -256,7 +268,7 @@ pub fn simulate<F: Files, O: Sink, E: Sink>(
     ensures named { (m t model : List ℕ) → Names (texts words.now) m t → F.told files.old m ≡ Some model →
         PutsLine E.taken E.sure E.faults err.old err.new (line_text (name_of_outcome (network_in model) result) result) }
 {
-    let settings = match settings_of(alloc, words) {
+    let settings = match accept_words(alloc, words) {
         Ok(settings) => settings,
         Err(outcome) => {
             put_line(err, &[], &outcome);

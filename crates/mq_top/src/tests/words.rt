@@ -1,9 +1,9 @@
 // Words that are refused, and what the options ask for.
 use super::stations::{CALL_CENTRE, CALLS};
 use super::{files_of, ran, ran_with};
-use crate::words::{Input, settings_of};
 use crate::{Outcome, UsageFault, simulate};
 use mq_base::MemSink;
+use mq_words::{Input, settings_of};
 use std::test::Fail;
 
 const DESK: &[u8] = b"model 1\nsource src\nserver desk d from src\n";

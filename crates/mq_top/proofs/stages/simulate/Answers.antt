@@ -4,8 +4,8 @@ use Rattle.mq_model.specs.NetworkOf.{network_in}
 use Rattle.mq_top.specs.Answer.{answer_over}
 use Rattle.mq_top.specs.Ends.{Ends, Taken, takings}
 use Rattle.mq_top.specs.Lines.{PutsLine, line_text, name_of}
-use Rattle.mq_top.specs.Words.{Asks, AsksFor, Makes, Names, jobs_asked}
-use Rattle.mq_top.proofs.Faults.{not_both, same_names, same_number}
+use Rattle.mq_words.specs.Words.{Asks, AsksFor, Makes, Names, jobs_asked}
+use Rattle.mq_words.proofs.Faults.{not_both, same_names, same_number}
 use Rattle.mq_top.proofs.MadeRuns.{same_answer}
 use Rattle.mq_top.proofs.Told.{answer_is, told_is}
 use Rattle.mq_top.proofs.stages.simulate.Goals as goal

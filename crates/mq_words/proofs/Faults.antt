@@ -1,0 +1,129 @@
+-- Which fault words that pass the rule have, by what is left and what their numbers are.
+use Rattle.std.proofs.Common.{◌≡◌, ◌∙◌, ◌==◌, ◌&&◌, ◌-◌, ◌^◌, ℕ, Bool, true, false, not, List, [], ◌∷◌, length, Option, Some, None, is_some, option_map, refl, sym, ap, ap₂, subst, arith, true≢false}
+use Rattle.std.specs.Prelude.{slice_get, nat_lt, unwrap_or, is_none, option_and_then, if◌then◌else◌}
+use Rattle.std.proofs.lemmas.Bool.{lt-ltb}
+use Rattle.mq_base.specs.Text.{number_of}
+use Rattle.mq_words.specs.Matched.{HasForm, input_of}
+use Rattle.mq_words.specs.Words.{AsksFor, Makes, Names, asks_made, block_asked, made_asked, made_option, names_needed, refuses_words, usage_fault, value_of, words_left, workers_asked}
+use Rattle.mq_words.specs.declared.fault.UsageFault.TheVariants.{Workers, Block, Made}
+use Rattle.mq_words.specs.declared.fault.UsageFault.TheVariants as fault
+use Rattle.mq_words.specs.declared.fault.UsageFault.{UsageFault}
+use Rattle.mq_words.specs.declared.words.Form.{Form}
+use Rattle.mq_words.specs.declared.words.Form.TheVariants as form
+use Rattle.mq_words.specs.declared.words.Input.{Input}
+use Rattle.mq_words.specs.declared.words.Input.TheVariants as input
+use Rattle.mq_words.proofs.ReadWords.{neither}
+
+some_is_none : {A B : Type 0} (x : A) → Some x ≡ None → B
+some_is_none x e = absurd (true≢false (ap is_some e))
+
+some_is : {A : Type 0} (x y : A) → Some x ≡ Some y → x ≡ y
+some_is x y e = ap (λ o. unwrap_or o x) e
+
+-- ---- the words that are left
+
+pub two_left : (left : List (List ℕ)) (m t : List ℕ) → slice_get left 0 ≡ Some m → slice_get left 1 ≡ Some t → nat_lt 2 (length left) ≡ false → left ≡ m ∷ t ∷ []
+two_left [] m t first second few = some_is_none m (sym first)
+two_left (x ∷ []) m t first second few = some_is_none t (sym second)
+two_left (x ∷ y ∷ []) m t first second few = ap₂ (λ (a b : List ℕ). a ∷ b ∷ []) (some_is x m first) (some_is y t second)
+two_left (x ∷ y ∷ z ∷ left) m t first second few = absurd (true≢false (sym (lt-ltb 2 (length (x ∷ y ∷ z ∷ left)) (omega arith)) ∙ few))
+
+-- no more than two words are left
+pub few_left : (words : List (List ℕ)) → refuses_words words ≡ false → nat_lt 2 (length (words_left words)) ≡ false
+few_left words pass = (neither _ (nat_lt 2 (length (words_left words))) pass).1
+
+pub none_left : (left : List (List ℕ)) → slice_get left 0 ≡ None → left ≡ []
+none_left [] e = refl
+none_left (x ∷ left) e = some_is_none x e
+
+-- ---- the two forms
+
+-- as many names are left as the words need
+abbrev has_names : List (List ℕ) → Bool
+has_names words = length (words_left words) == names_needed words
+
+pub names_are : (words : List (List ℕ)) (f : Form) → HasForm words f → has_names words ≡ true
+names_are words (form.Names m t) h = ap₂ (λ (b : Bool) (left : List (List ℕ)). length left == (if b then 0 else 2)) h.0 h.1
+names_are words (form.Made text) h = ap₂ (λ (o : Option (List ℕ)) (left : List (List ℕ)). length left == (if is_some o then 0 else 2)) h.0 h.1
+
+-- ---- the first fault of words that have a form
+
+pub no_workers : (words : List (List ℕ)) → refuses_words words ≡ false → has_names words ≡ true → workers_asked words ≡ None → usage_fault words ≡ Some Workers
+no_workers words pass names e = rw (pass, names, e) refl
+
+pub no_block : (words : List (List ℕ)) (workers : ℕ) → refuses_words words ≡ false → has_names words ≡ true → workers_asked words ≡ Some workers
+    → block_asked words ≡ None → usage_fault words ≡ Some Block
+no_block words workers pass names w e = rw (pass, names, w, e) refl
+
+-- the number of the made input is judged last
+last : (words : List (List ℕ)) (workers block : ℕ) → refuses_words words ≡ false → has_names words ≡ true → workers_asked words ≡ Some workers
+    → block_asked words ≡ Some block → usage_fault words ≡ (if asks_made words && is_none (made_asked words) then Some Made else None)
+last words workers block pass names w b = rw (pass, names, w, b) refl
+
+pub no_made : (words : List (List ℕ)) (workers block : ℕ) (f : Form) → refuses_words words ≡ false → workers_asked words ≡ Some workers → block_asked words ≡ Some block
+    → HasForm words f → input_of f ≡ None → usage_fault words ≡ Some Made
+no_made words workers block (form.Names m t) pass w b h e = some_is_none _ e
+no_made words workers block (form.Made text) pass w b h e =
+    last words workers block pass (names_are words (form.Made text) h) w b
+    ∙ (ap (λ (o : Option (List ℕ)). if is_some o && is_none (option_and_then (λ t. number_of t (2 ^ 64 - 1)) o) then Some Made else None) h.0
+    ∙ ap (λ (o : Option ℕ). if is_none o then Some Made else None) (unmapped (number_of text.now (2 ^ 64 - 1)) e))
+  where
+    unmapped : (o : Option ℕ) → option_map input.Made o ≡ None → o ≡ None
+    unmapped None e = refl
+    unmapped (Some n) e = some_is_none _ e
+
+no_fault : (b : Bool) → (if b && false then Some Made else None) ≡ None
+no_fault true = refl
+no_fault false = refl
+
+pub asks_for : (words : List (List ℕ)) (workers block : ℕ) (f : Form) (i : Input) → refuses_words words ≡ false → workers_asked words ≡ Some workers → block_asked words ≡ Some block
+    → HasForm words f → input_of f ≡ Some i → AsksFor words i
+asks_for words workers block (form.Names m t) i pass w b h e =
+    subst (AsksFor words) (some_is _ i e) (record {
+      accepted = last words workers block pass (names_are words (form.Names m t) h) w b ∙ ap (λ b. if b && is_none (made_asked words) then Some Made else None) h.0;
+      named = h.1;
+    })
+asks_for words workers block (form.Made text) i pass w b h e =
+    let asked : made_asked words ≡ number_of text.now (2 ^ 64 - 1) = ap (option_and_then (λ t. number_of t (2 ^ 64 - 1))) h.0 in
+    go (number_of text.now (2 ^ 64 - 1)) asked e
+  where
+    go : (o : Option ℕ) → made_asked words ≡ o → option_map input.Made o ≡ Some i → AsksFor words i
+    go None asked e = some_is_none i (sym e)
+    go (Some n) asked e =
+        subst (AsksFor words) (some_is _ i e) (record {
+          accepted = last words workers block pass (names_are words (form.Made text) h) w b
+              ∙ (ap (λ (o : Option ℕ). if asks_made words && is_none o then Some Made else None) asked ∙ no_fault (asks_made words));
+          made = asked;
+        })
+
+-- ---- what accepted words ask for
+
+pub accepted : (words : List (List ℕ)) (i : Input) → AsksFor words i → usage_fault words ≡ None
+accepted words (input.Named m t) asked = asked.accepted
+accepted words (input.Made number) asked = asked.accepted
+
+-- the words name one model and one trace
+pub same_names : (words : List (List ℕ)) (m t n u : List ℕ) → Names words m t → Names words n u → (m ≡ n) × (t ≡ u)
+same_names words m t n u one other =
+    let same : m ∷ t ∷ [] ≡ n ∷ u ∷ [] = sym one.named ∙ other.named in
+    (ap (λ left. unwrap_or (slice_get left 0) []) same, ap (λ left. unwrap_or (slice_get left 1) []) same)
+
+-- or they ask for one made input
+pub same_number : (words : List (List ℕ)) (n k : ℕ) → Makes words n → Makes words k → n ≡ k
+same_number words n k one other = some_is n k (sym one.made ∙ other.made)
+
+-- and never for both
+pub not_both : (words : List (List ℕ)) (m t : List ℕ) (n : ℕ) → Names words m t → Makes words n → ⊥
+not_both words m t n named made =
+    let asked : asks_made words ≡ true = some_in (value_of made_option words) made.made in
+    let fits : has_names words ≡ true = passes (refuses_words words) (has_names words) _ named.accepted in
+    true≢false (sym fits ∙ ap₂ (λ (b : Bool) (left : List (List ℕ)). length left == (if b then 0 else 2)) asked named.named)
+  where
+    some_in : (o : Option (List ℕ)) → option_and_then (λ text. number_of text (2 ^ 64 - 1)) o ≡ Some n → is_some o ≡ true
+    some_in None e = some_is_none n (sym e)
+    some_in (Some text) e = refl
+
+    passes : (refused fits : Bool) (rest : Option UsageFault) → (if refused then Some fault.Words else if not fits then Some fault.Form else rest) ≡ None → fits ≡ true
+    passes true fits rest e = some_is_none fault.Words e
+    passes false true rest e = refl
+    passes false false rest e = some_is_none fault.Form e

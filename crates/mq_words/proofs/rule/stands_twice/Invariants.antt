@@ -1,0 +1,10 @@
+use Rattle.std.proofs.Common.{◌≡◌, length, map}
+use Rattle.mq_words.specs.Words.{stands_twice}
+use Rattle.mq_words.proofs.rule.stands_twice.Given as goal
+
+-- what is left is answered as the whole
+abbrev pub invariant-loop-left : goal.invariant-loop-left
+invariant-loop-left l = stands_twice l.word (map (λ w. w.now) l.left) ≡ stands_twice l.word (map (λ w. w.now) l.words)
+
+abbrev pub decreases-loop-left : goal.decreases-loop-left
+decreases-loop-left l = length l.left

@@ -1,0 +1,67 @@
+use Rattle.std.proofs.Common.{rules, ap, sym, ◌≡◌, ◌∙◌, Some, None, false, true, map, ℕ, List, Bool, codes, refl}
+use Rattle.std.specs.Prelude.{if◌then◌else◌}
+use Rattle.clap.specs.Matches.{found_of}
+use Rattle.mq_words.specs.Matched.{Finds, HasForm}
+use Rattle.mq_words.specs.Words.{AsksFor, block_asked, jobs_asked, number_asked, refuses_words, workers_asked}
+use Rattle.mq_words.proofs.Faults.{accepted, asks_for, names_are, no_block, no_made, no_workers}
+use Rattle.mq_words.proofs.words.settings_of.Goals as goal
+
+pub returns-in_default-number_of-clause-refused : goal.returns-in_default-number_of-clause-refused
+returns-in_default-number_of-clause-refused c =
+    let words : List (List ℕ) = map (λ w. w.now) c.args.words.now in
+    let pass : refuses_words words ≡ false = search rules in
+    let finds : Finds words (found_of c.in-Ok.matches) = c.in-Ok.ensures.found pass in
+    let form : HasForm words c.in-Some.form = c.in-Some.ensures.some words pass finds in
+    let workers : workers_asked words ≡ c.number_of.result = ap (number_asked 4 1 64) (sym finds.workers ∙ sym c.get_str.ensures) ∙ sym c.number_of.ensures in
+    let none : c.number_of.result ≡ None = search rules in
+    no_workers words pass (names_are words _ form) (workers ∙ none)
+
+pub returns-in_default-number_of-2-clause-refused : goal.returns-in_default-number_of-2-clause-refused
+returns-in_default-number_of-2-clause-refused c =
+    let words : List (List ℕ) = map (λ w. w.now) c.args.words.now in
+    let pass : refuses_words words ≡ false = search rules in
+    let finds : Finds words (found_of c.in-Ok.matches) = c.in-Ok.ensures.found pass in
+    let form : HasForm words c.in-Some.form = c.in-Some.ensures.some words pass finds in
+    let workers : workers_asked words ≡ c.number_of.result = ap (number_asked 4 1 64) (sym finds.workers ∙ sym c.get_str.ensures) ∙ sym c.number_of.ensures in
+    let some : c.number_of.result ≡ Some c.in-Some-number_of.workers = search rules in
+    let block : block_asked words ≡ c.number_of-2.result = ap (number_asked 4096 1 65536) (sym finds.block ∙ sym c.get_str-2.ensures) ∙ sym c.number_of-2.ensures in
+    let none : c.number_of-2.result ≡ None = search rules in
+    no_block words c.in-Some-number_of.workers pass (names_are words _ form) (workers ∙ some) (block ∙ none)
+
+pub returns-in_default-input_of-clause-refused : goal.returns-in_default-input_of-clause-refused
+returns-in_default-input_of-clause-refused c =
+    let words : List (List ℕ) = map (λ w. w.now) c.args.words.now in
+    let pass : refuses_words words ≡ false = search rules in
+    let finds : Finds words (found_of c.in-Ok.matches) = c.in-Ok.ensures.found pass in
+    let form : HasForm words c.in-Some.form = c.in-Some.ensures.some words pass finds in
+    let workers : workers_asked words ≡ c.number_of.result = ap (number_asked 4 1 64) (sym finds.workers ∙ sym c.get_str.ensures) ∙ sym c.number_of.ensures in
+    let some_workers : c.number_of.result ≡ Some c.in-Some-number_of.workers = search rules in
+    let block : block_asked words ≡ c.number_of-2.result = ap (number_asked 4096 1 65536) (sym finds.block ∙ sym c.get_str-2.ensures) ∙ sym c.number_of-2.ensures in
+    let some_block : c.number_of-2.result ≡ Some c.in-Some-number_of-2.block = search rules in
+    let none : c.input_of.result ≡ None = search rules in
+    no_made words _ _ c.in-Some.form pass (workers ∙ some_workers) (block ∙ some_block) form (sym c.input_of.ensures ∙ none)
+
+pub returns-clause-asked : goal.returns-clause-asked
+returns-clause-asked c =
+    let words : List (List ℕ) = map (λ w. w.now) c.args.words.now in
+    let pass : refuses_words words ≡ false = search rules in
+    let finds : Finds words (found_of c.in-Ok.matches) = c.in-Ok.ensures.found pass in
+    let form : HasForm words c.in-Some.form = c.in-Some.ensures.some words pass finds in
+    let workers : workers_asked words ≡ c.number_of.result = ap (number_asked 4 1 64) (sym finds.workers ∙ sym c.get_str.ensures) ∙ sym c.number_of.ensures in
+    let some_workers : c.number_of.result ≡ Some c.in-Some-number_of.workers = search rules in
+    let block : block_asked words ≡ c.number_of-2.result = ap (number_asked 4096 1 65536) (sym finds.block ∙ sym c.get_str-2.ensures) ∙ sym c.number_of-2.ensures in
+    let some_block : c.number_of-2.result ≡ Some c.in-Some-number_of-2.block = search rules in
+    let some_input : c.input_of.result ≡ Some c.in-Some-input_of.input = search rules in
+    let input : AsksFor words c.in-Some-input_of.input = asks_for words _ _ c.in-Some.form _ pass (workers ∙ some_workers) (block ∙ some_block) form (sym c.input_of.ensures ∙ some_input) in
+    record {
+      accepted = accepted words _ input;
+      input = input;
+      workers = workers ∙ some_workers;
+      block = block ∙ some_block;
+      jobs = flag_is (jobs_asked words) c.get_flag-jobs.result (λ t. c.get_flag-jobs.ensures.value (finds.jobs ∙ t)) (λ t. c.get_flag-jobs.ensures.other (finds.jobs ∙ t));
+    }
+  where
+    flag_is : (b flag : Bool) → (Some (if b then codes "true" else codes "false") ≡ Some (codes "true") → flag ≡ true)
+        → (Some (if b then codes "true" else codes "false") ≡ Some (codes "false") → flag ≡ false) → b ≡ flag
+    flag_is true flag set unset = sym (set refl)
+    flag_is false flag set unset = sym (unset refl)

@@ -1,0 +1,160 @@
+-- The words behind the program's name: which lists are refused and why, and what the others ask for.
+use Rattle.std.specs.Prelude.{◌≡◌, ◌==◌, ◌&&◌, ◌||◌, ℕ, Bool, true, false, not, List, [], ◌∷◌, length, map, codes, bytes_eq, slice_index, slice_get, nat_lt, nat_le, ◌-◌, ◌^◌, Option, Some, None, is_some, is_none, option_and_then, if◌then◌else◌}
+use Rattle.std.specs.Borrow.{Bor}
+use Rattle.std.specs.List.{list_any}
+use Rattle.mq_base.specs.Text.{number_of}
+use Rattle.mq_words.specs.declared.fault.UsageFault.{UsageFault}
+use Rattle.mq_words.specs.declared.fault.UsageFault.TheVariants.{Words, Form, Workers, Block, Made}
+use Rattle.mq_words.specs.declared.fault.WordsFault.{WordsFault}
+use Rattle.mq_words.specs.declared.fault.WordsFault.TheVariants.{Usage, Memory}
+use Rattle.mq_words.specs.declared.words.Input.{Input}
+use Rattle.mq_words.specs.declared.words.Input.TheVariants as input
+use Rattle.mq_words.specs.declared.words.Settings.{Settings}
+
+-- the words as lists of bytes
+abbrev pub texts : List (Bor (List ℕ)) → List (List ℕ)
+texts words = map (λ w. w.now) words
+
+-- the options: three that take a value, and a flag
+abbrev pub workers_option : List ℕ
+workers_option = codes "--workers"
+
+abbrev pub block_option : List ℕ
+block_option = codes "--block"
+
+abbrev pub made_option : List ℕ
+made_option = codes "--made"
+
+abbrev pub jobs_option : List ℕ
+jobs_option = codes "--jobs"
+
+-- the word begins with a dash
+abbrev pub begins_with_dash : List ℕ → Bool
+begins_with_dash word = slice_index word 0 == 45
+
+-- an option that takes a value
+abbrev pub takes_value : List ℕ → Bool
+takes_value word = bytes_eq word workers_option || bytes_eq word block_option || bytes_eq word made_option
+
+abbrev pub is_option : List ℕ → Bool
+is_option word = takes_value word || bytes_eq word jobs_option
+
+-- begins with a dash, and is no option
+abbrev pub is_unknown : List ℕ → Bool
+is_unknown word = begins_with_dash word && not (is_option word)
+
+-- empty, or an unknown option
+abbrev pub is_bad_word : List ℕ → Bool
+is_bad_word word = (length word == 0) || is_unknown word
+
+-- the word stands in the list
+abbrev pub has_word : List ℕ → List (List ℕ) → Bool
+has_word word words = list_any (λ w. bytes_eq w word) words
+
+-- the word stands in the list, and once more behind that place
+abbrev pub stands_twice : List ℕ → List (List ℕ) → Bool
+stands_twice word [] = false
+stands_twice word (w ∷ rest) = (bytes_eq w word && has_word word rest) || stands_twice word rest
+
+-- there is a first word, and it doesn't begin with a dash
+abbrev pub begins_with_value : List (List ℕ) → Bool
+begins_with_value [] = false
+begins_with_value (w ∷ rest) = not (begins_with_dash w)
+
+-- an option that takes a value isn't directly followed by one
+abbrev pub lacks_value : List (List ℕ) → Bool
+lacks_value [] = false
+lacks_value (w ∷ rest) = (takes_value w && not (begins_with_value rest)) || lacks_value rest
+
+-- the words that are left when the options and the words directly behind those that take a value are taken out; `is_value`
+-- says that the first word is such a value
+abbrev pub left_from : Bool → List (List ℕ) → List (List ℕ)
+left_from is_value [] = []
+left_from true (w ∷ rest) = left_from false rest
+left_from false (w ∷ rest) = if takes_value w then left_from true rest else if is_option w then left_from false rest else w ∷ left_from false rest
+
+abbrev pub words_left : List (List ℕ) → List (List ℕ)
+words_left words = left_from false words
+
+-- a word is empty or an unknown option, an option stands twice or lacks its value, or more than two words are left
+abbrev pub refuses_words : List (List ℕ) → Bool
+refuses_words words = list_any is_bad_word words || stands_twice workers_option words
+    || stands_twice block_option words || stands_twice made_option words || stands_twice jobs_option words || lacks_value words
+    || nat_lt 2 (length (words_left words))
+
+-- the word directly behind the option
+abbrev pub value_of : List ℕ → List (List ℕ) → Option (List ℕ)
+value_of option [] = None
+value_of option (w ∷ rest) = if bytes_eq w option then slice_get rest 0 else value_of option rest
+
+-- the number where it is there and not below `least`
+abbrev pub at_least : ℕ → Option ℕ → Option ℕ
+at_least least None = None
+at_least least (Some n) = if nat_le least n then Some n else None
+
+-- the number that the value of an option asks for, from `least` to `most`; the default where there is no value
+abbrev pub number_asked : (default least most : ℕ) → Option (List ℕ) → Option ℕ
+number_asked default least most None = Some default
+number_asked default least most (Some text) = at_least least (number_of text most)
+
+-- the number of workers, from 1 to 64
+abbrev pub workers_asked : List (List ℕ) → Option ℕ
+workers_asked words = number_asked 4 1 64 (value_of workers_option words)
+
+-- the number of jobs in a block, from 1 to 65,536
+abbrev pub block_asked : List (List ℕ) → Option ℕ
+block_asked words = number_asked 4096 1 65536 (value_of block_option words)
+
+-- a made input is asked for
+abbrev pub asks_made : List (List ℕ) → Bool
+asks_made words = is_some (value_of made_option words)
+
+-- the number of the made input, from 0 to 2 ^ 64 - 1, where one is asked for
+abbrev pub made_asked : List (List ℕ) → Option ℕ
+made_asked words = option_and_then (λ text. number_of text (2 ^ 64 - 1)) (value_of made_option words)
+
+-- the lines of the jobs are asked for
+abbrev pub jobs_asked : List (List ℕ) → Bool
+jobs_asked words = has_word jobs_option words
+
+-- how many names the words need: those of a model and of a trace, unless a made input is asked for
+abbrev pub names_needed : List (List ℕ) → ℕ
+names_needed words = if asks_made words then 0 else 2
+
+-- the first fault of the words, or none
+abbrev pub usage_fault : List (List ℕ) → Option UsageFault
+usage_fault words =
+    if refuses_words words then Some Words
+    else if not (length (words_left words) == names_needed words) then Some Form
+    else if is_none (workers_asked words) then Some Workers
+    else if is_none (block_asked words) then Some Block
+    else if asks_made words && is_none (made_asked words) then Some Made
+    else None
+
+-- the words are accepted, and name this model and this trace
+pub record Names (words : List (List ℕ)) (model trace : List ℕ) : Type 0 where
+  pub accepted : usage_fault words ≡ None
+  pub named : words_left words ≡ model ∷ trace ∷ []
+
+-- the words are accepted, and ask for the made input of this number
+pub record Makes (words : List (List ℕ)) (number : ℕ) : Type 0 where
+  pub accepted : usage_fault words ≡ None
+  pub made : made_asked words ≡ Some number
+
+-- the words are accepted, and ask for this input
+abbrev pub AsksFor : List (List ℕ) → Input → Type 0
+AsksFor words (input.Named model trace) = Names words model.now trace.now
+AsksFor words (input.Made number) = Makes words number
+
+-- the words are accepted, and ask for these settings
+pub record Asks (words : List (List ℕ)) (s : Settings) : Type 0 where
+  pub accepted : usage_fault words ≡ None
+  pub input : AsksFor words s.input
+  pub workers : workers_asked words ≡ Some s.workers
+  pub block : block_asked words ≡ Some s.block
+  pub jobs : jobs_asked words ≡ s.jobs
+
+-- how words may be refused; want of memory comes only where they pass the rule
+abbrev pub RefusesWords : List (List ℕ) → WordsFault → Type 0
+RefusesWords words (Usage f) = usage_fault words ≡ Some f
+RefusesWords words Memory = refuses_words words ≡ false
