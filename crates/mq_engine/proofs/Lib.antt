@@ -6,3 +6,7 @@ pub mod LossFates
 pub mod StageFacts
 pub mod Early
 pub mod Rounds
+pub mod Settling
+pub mod Endings
+pub mod Scanning
+pub mod Groups

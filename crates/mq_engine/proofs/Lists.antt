@@ -1,8 +1,11 @@
 -- Lists by place, and what a loop has made of one so far.
-use Rattle.std.proofs.Common.{◌==◌, ◌||◌, subst, ◌≡◌, ◌≢◌, ℕ, zero, suc, ◌+◌, ◌<◌, Bool, true, false, cond, IsTrue, List, [], ◌∷◌, ◌++◌, length, get_or, set, take, drop, map, Some, sym, refl, ap, ◌∙◌, arith, eqb-true, append_assoc}
-use Rattle.std.specs.Prelude.{count_by, slice_get}
+use Rattle.std.proofs.Common.{◌==◌, ◌||◌, ◌&&◌, subst, ◌≡◌, ◌≢◌, ℕ, zero, suc, ◌+◌, ◌<◌, Bool, true, false, cond, IsTrue, List, [], ◌∷◌, ◌++◌, length, get_or, set, take, drop, map, Some, sym, refl, ap, ◌∙◌, arith, eqb-true, append_assoc}
+use Rattle.std.specs.Prelude.{count_by, filter, slice_get}
 use Rattle.std.proofs.lemmas.List.Sums.{sum_by-cons}
-use Rattle.std.specs.List.{AllByRecursion as Each, flat_map, zip}
+use Rattle.std.specs.List.{AllByRecursion as Each, flat_map, list_all, zip}
+use Rattle.std.proofs.lemmas.Bool.{and_parts}
+use Rattle.std.proofs.lemmas.List.Folds.{list_all_at, list_all_more}
+use Rattle.std.proofs.lemmas.Option.{get_or_from_slice_get, slice_get_within}
 use Rattle.std.proofs.lemmas.Bool.Decides.{nat_tests}
 use Rattle.std.proofs.lemmas.List.{append-nil}
 use Rattle.mq_base.proofs.Lists.{drop_suc, some_inj}
@@ -127,3 +130,56 @@ zip-jobs ts js us ks a b h = sym (zip-second ts js a) ∙ (ap (map (λ (p : ℕ 
 pub zip-map : (ps : List (ℕ × ℕ)) → zip (map (λ (p : ℕ × ℕ). p.0) ps) (map (λ (p : ℕ × ℕ). p.1) ps) ≡ ps
 zip-map [] = refl
 zip-map (p ∷ ps) = ap (λ l. p ∷ l) (zip-map ps)
+
+-- what all pass, each passes
+pub all-get : {X : Type 0} (test : X → Bool) (xs : List X) (k : ℕ) (x : X) → list_all test xs ≡ true → slice_get xs k ≡ Some x → test x ≡ true
+all-get test [] k x h e = absurd cc
+all-get test (y ∷ ys) zero x h e = ap test (sym (some_inj y x e)) ∙ (and_parts (test y) (list_all test ys) h).0
+all-get test (y ∷ ys) (suc k) x h e = all-get test ys k x (and_parts (test y) (list_all test ys) h).1 e
+
+-- one item more, of what a test has kept so far
+filter-next : {X : Type 0} (test : X → Bool) (xs : List X) (i : ℕ) (x : X) → slice_get xs i ≡ Some x → filter test (take (suc i) xs) ≡ filter test (take i xs) ++ filter test (x ∷ [])
+filter-next test [] i x h = absurd cc
+filter-next test (y ∷ ys) zero x h = ap (λ z. filter test (z ∷ [])) (some_inj y x h)
+filter-next test (y ∷ ys) (suc i) x h = go (test y) refl (filter-next test ys i x h)
+  where
+    go : (b : Bool) → test y ≡ b → filter test (take (suc i) ys) ≡ filter test (take i ys) ++ filter test (x ∷ []) → cond b (y ∷ filter test (take (suc i) ys)) (filter test (take (suc i) ys)) ≡ cond b (y ∷ filter test (take i ys)) (filter test (take i ys)) ++ filter test (x ∷ [])
+    go true e ih = ap (λ l. y ∷ l) ih
+    go false e ih = ih
+
+pub filter-kept : {X : Type 0} (test : X → Bool) (xs : List X) (i : ℕ) (x : X) (done done' : List X) → slice_get xs i ≡ Some x → test x ≡ true → done' ≡ done ++ x ∷ [] → done ≡ filter test (take i xs) → done' ≡ filter test (take (i + 1) xs)
+filter-kept test xs i x done done' h t p k =
+    let next : suc i ≡ i + 1 = omega arith in
+    p ∙ (ap (λ l. l ++ x ∷ []) k ∙ (ap (λ b. filter test (take i xs) ++ cond b (x ∷ []) []) (sym t) ∙ (sym (filter-next test xs i x h) ∙ ap (λ n. filter test (take n xs)) next)))
+
+pub filter-left : {X : Type 0} (test : X → Bool) (xs : List X) (i : ℕ) (x : X) (done : List X) → slice_get xs i ≡ Some x → test x ≡ false → done ≡ filter test (take i xs) → done ≡ filter test (take (i + 1) xs)
+filter-left test xs i x done h t k =
+    let next : suc i ≡ i + 1 = omega arith in
+    k ∙ (sym (append-nil (filter test (take i xs))) ∙ (ap (λ b. filter test (take i xs) ++ cond b (x ∷ []) []) (sym t) ∙ (sym (filter-next test xs i x h) ∙ ap (λ n. filter test (take n xs)) next)))
+
+-- what is kept passes the test
+pub filter-passes : {X : Type 0} (test : X → Bool) (xs : List X) (k : ℕ) (x : X) → slice_get (filter test xs) k ≡ Some x → test x ≡ true
+filter-passes test [] k x e = absurd cc
+filter-passes test (y ∷ ys) k x e = go (test y) refl k e (λ j g. filter-passes test ys j x g)
+  where
+    go : (b : Bool) → test y ≡ b → (j : ℕ) → slice_get (cond b (y ∷ filter test ys) (filter test ys)) j ≡ Some x → ((i : ℕ) → slice_get (filter test ys) i ≡ Some x → test x ≡ true) → test x ≡ true
+    go true t zero g ih = ap test (sym (some_inj y x g)) ∙ t
+    go true t (suc j) g ih = ih j g
+    go false t j g ih = ih j g
+
+-- where none is kept, each fails the test
+pub filter-none : {X : Type 0} (test : X → Bool) (xs : List X) (k : ℕ) (x : X) → filter test xs ≡ [] → slice_get xs k ≡ Some x → test x ≡ false
+filter-none test [] k x h e = absurd cc
+filter-none test (y ∷ ys) k x h e = go (test y) refl k h e (λ j a b. filter-none test ys j x a b)
+  where
+    go : (b : Bool) → test y ≡ b → (j : ℕ) → cond b (y ∷ filter test ys) (filter test ys) ≡ [] → slice_get (y ∷ ys) j ≡ Some x → ((i : ℕ) → filter test ys ≡ [] → slice_get ys i ≡ Some x → test x ≡ false) → test x ≡ false
+    go true t j a b ih = absurd cc
+    go false t zero a b ih = ap test (sym (some_inj y x b)) ∙ t
+    go false t (suc j) a b ih = ih j a b
+
+-- one item more that passes, and one that fails
+pub all-more : {X : Type 0} (test : X → Bool) (xs : List X) (i : ℕ) (x : X) → slice_get xs i ≡ Some x → list_all test (take i xs) ≡ true → test x ≡ true → list_all test (take (i + 1) xs) ≡ true
+all-more test xs i x h all t = list_all_more test xs i x (slice_get_within xs i x h) ∙ ((λ k. all k && test (get_or_from_slice_get xs i x x h k)) ∙ t)
+
+pub all-fails : {X : Type 0} (test : X → Bool) (xs : List X) (i : ℕ) (x : X) → slice_get xs i ≡ Some x → test x ≡ false → list_all test xs ≡ false
+all-fails test xs i x h t = list_all_at test xs i x (slice_get_within xs i x h) (ap test (get_or_from_slice_get xs i x x h) ∙ t)

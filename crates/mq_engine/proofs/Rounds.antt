@@ -1,25 +1,24 @@
 -- The rounds of the engine: what is done so far are the columns of the run.
-use Rattle.std.proofs.Common.{◌≡◌, ◌≢◌, ℕ, ◌+◌, ◌^◌, ◌<◌, ◌≤◌, ◌⊎◌, inl, inr, Bool, true, false, cond, List, length, set, take, map, Option, Some, None, refl, sym, ap, ◌∙◌, subst, arith}
+use Rattle.std.proofs.Common.{◌≡◌, ◌≢◌, ℕ, zero, suc, [], ◌++◌, ◌+◌, ◌^◌, ◌<◌, ◌≤◌, ◌⊎◌, inl, inr, Bool, true, false, cond, List, length, set, map, Option, Some, None, refl, sym, ap, ◌∙◌, subst, arith, length-append}
 use Rattle.std.specs.Prelude.{◌==◌, nat_le, slice_get}
 use Rattle.std.specs.List.{flat_map, list_all, list_any, zip}
-use Rattle.std.specs.Option.{option_map}
+use Rattle.std.specs.Option.{option_to_list}
 use Rattle.std.specs.Str.{bytes_eq}
-use Rattle.std.proofs.lemmas.Bool.{and_parts, cases_lt}
+use Rattle.std.proofs.lemmas.Bool.{and_parts}
 use Rattle.std.proofs.lemmas.Bool.Decides.{nat_tests}
 use Rattle.std.proofs.lemmas.List.{length-map, length-set}
-use Rattle.std.proofs.lemmas.Option.{slice_get-map, slice_get_within}
+use Rattle.std.proofs.lemmas.Option.{slice_get_within}
 use Rattle.mq_base.proofs.Lists.{some_inj}
 use Rattle.mq_core.proofs.Lists.Each.{Each-weaker}
 use Rattle.mq_core.specs.ColumnLaws.{arrives_of, jobs_of}
-use Rattle.mq_core.specs.Columns.{IsRunOf, IsStream, by_first, column_fates, column_late, column_late_from, column_outs, column_stream, column_visits, leaving_times, picked, pairs_of, rows_at, streams_below}
-use Rattle.mq_core.specs.NumberLaws.{IsOnTimeBelow}
-use Rattle.mq_core.specs.Results.{Late, first_of, stream_from, visits_of}
+use Rattle.mq_core.specs.Columns.{IsStream, by_first, column_fates, column_late, column_late_from, column_outs, column_stream, column_visits, leaving_times, picked, pairs_of, rows_at, streams_below}
+use Rattle.mq_core.specs.Results.{Late as LateVisit, first_of, stream_from, visits_of}
 use Rattle.mq_core.specs.RunLaws.{HasColumns}
 use Rattle.mq_core.specs.Names.{is_name}
-use Rattle.mq_core.specs.Sound.{are_distinct, columns_of_kind, is_sound_node, mentions_from, outputs_in, same_input}
+use Rattle.mq_core.specs.Sound.{are_distinct, columns_of_kind, is_sound_node, is_within, mentions_from, outputs_in, same_input}
 use Rattle.mq_core.specs.StandardTable.{run_of}
 use Rattle.mq_core.specs.Theorems.{IsReadFor}
-use Rattle.mq_core.specs.Wiring.{is_source_kind, outputs_read}
+use Rattle.mq_core.specs.Wiring.{first_ready, is_source_kind, ranked_after}
 use Rattle.mq_core.specs.declared.model.Input.{Input}
 use Rattle.mq_core.specs.declared.model.Kind.{Kind}
 use Rattle.mq_core.specs.declared.model.Kind.TheVariants.{Source, Server, Delay, Loss, Tandem, ForkJoin, Split}
@@ -28,27 +27,24 @@ use Rattle.mq_core.specs.declared.model.Plan.{Plan}
 use Rattle.mq_core.specs.declared.model.Rows.{Rows}
 use Rattle.mq_core.specs.declared.model.Stream.{Stream}
 use Rattle.mq_core.specs.declared.model.Visits.{Visits}
-use Rattle.mq_engine.specs.Answer.{IsCause, IsLateIn, late_told}
 use Rattle.mq_engine.specs.CoreLaws.{CoreLaws}
 use Rattle.mq_engine.specs.Turns.{AreEarly, AreStreams, IsEarlyStream, IsLoad, IsThere, IsTurn, arriving, pairs_by, pairs_in, pairs_read}
-use Rattle.mq_engine.specs.declared.fault.RunFault.{RunFault}
-use Rattle.mq_engine.specs.declared.fault.RunFault.TheVariants.{Past, Memory}
+use Rattle.mq_engine.specs.Loads.{IsArrived}
+use Rattle.mq_engine.specs.Progress.{CanWork, IsEndPut, IsEnding, IsKnown, IsPut, IsReached, IsWorkedOut, Tells, is_done, is_read, is_ready, is_waiting, reads_done, stands_at}
+use Rattle.mq_engine.specs.declared.fault.PastFault.{PastFault}
+use Rattle.mq_engine.specs.declared.progress.Stand.{Stand}
+use Rattle.mq_engine.specs.declared.progress.Stand.TheVariants.{Waiting, Done, Late}
+use Rattle.mq_engine.specs.declared.turns.Ending.{Ending}
+use Rattle.mq_engine.specs.declared.turns.Ending.TheVariants.{OnTime, TooLate}
+use Rattle.mq_engine.specs.declared.turns.Turn.{Turn}
 use Rattle.mq_engine.proofs.Early.{EarlyPairs, EarlyTimes, flat-early, picked-early, reads-early, rows-early, stream-early, leaving-early}
 use Rattle.mq_engine.proofs.Leaves.{none-late}
-use Rattle.mq_engine.proofs.Lists.{Each-at, Each-get, flat_map-same, get-set_other, get-set_same, get-take, has-front, has-place, zip-jobs, zip-times}
+use Rattle.mq_engine.proofs.Lists.{Each-at, Each-get, all-get, flat_map-same, get-set_other, get-set_same, zip-jobs, zip-times}
 
--- the nodes of the lower ranks are done, and none of their visits is late
-pub record Reached (plan : Plan) (rows : Rows) (visits : List Visits) (outputs : List (List Stream)) (rank : ℕ) : Type 0 where
-  pub came : length visits ≡ length plan.net.nodes
-  pub left : length outputs ≡ length plan.net.nodes
-  pub done : (q v : ℕ) (node : Node) → q < rank → slice_get plan.order q ≡ Some v → slice_get plan.net.nodes v ≡ Some node → HasColumns (run_of plan rows) (record { visits = visits; outputs = outputs }) v node
-  pub early : AreEarly outputs
-  pub on_time : IsOnTimeBelow plan rows rank
-
--- whose turn it is
-pub record IsNext (plan : Plan) (rank v : ℕ) (node : Node) : Type 0 where
-  pub at : slice_get plan.order rank ≡ Some v
+-- a node all of whose inputs are done
+pub record IsReady (plan : Plan) (stands : List Stand) (v : ℕ) (node : Node) : Type 0 where
   pub there : slice_get plan.net.nodes v ≡ Some node
+  pub reads : (port : ℕ) (input : Input) → slice_get node.inputs port ≡ Some input → slice_get stands input.node ≡ Some Done
 
 -- what a port reads is there, and is what the run has
 record HasInput (plan : Plan) (rows : Rows) (outputs : List (List Stream)) (input : Input) : Type 0 where
@@ -56,37 +52,28 @@ record HasInput (plan : Plan) (rows : Rows) (outputs : List (List Stream)) (inpu
   out : input.out < outputs_in node.kind
   streams : slice_get outputs input.node ≡ Some (streams_below (run_of plan rows) input.node (outputs_in node.kind))
 
-has-input : (laws : CoreLaws) (plan : Plan) (rows : Rows) (visits : List Visits) (outputs : List (List Stream)) (rank v : ℕ) (node : Node) → Reached plan rows visits outputs rank → IsNext plan rank v node → (port : ℕ) (input : Input) → slice_get node.inputs port ≡ Some input → HasInput plan rows outputs input
-has-input laws plan rows visits outputs rank v node r n port input e =
+has-input : (laws : CoreLaws) (plan : Plan) (rows : Rows) (visits : List Visits) (outputs : List (List Stream)) (stands : List Stand) (v : ℕ) (node : Node) → IsReached plan rows visits outputs stands → IsReady plan stands v node → (port : ℕ) (input : Input) → slice_get node.inputs port ≡ Some input → HasInput plan rows outputs input
+has-input laws plan rows visits outputs stands v node r n port input e =
     let named = (laws.limits plan v node n.there).reads port input e in
-    let ranked = laws.ranks plan rank v n.at in
-    let before = ranked.reads port (input.node, input.out) (ap (λ o. slice_get (outputs_read o) port) n.there ∙ (slice_get-map _ node.inputs port ∙ ap (option_map (λ (i : Input). (i.node, i.out))) e)) in
-    let place = has-place (take rank plan.order) input.node before in
-    let front = get-take plan.order rank place.0 input.node place.1 in
     record {
       node = named.node;
       out = named.out;
-      streams = (r.done place.0 input.node named.node front.0 front.1 named.there).outputs;
+      streams = (r.told input.node named.node Done named.there (n.reads port input e)).0.outputs;
     }
 
-pub inputs-there : (laws : CoreLaws) (plan : Plan) (rows : Rows) (visits : List Visits) (outputs : List (List Stream)) (rank v : ℕ) (node : Node) → Reached plan rows visits outputs rank → IsNext plan rank v node → (port : ℕ) (input : Input) → slice_get node.inputs port ≡ Some input → IsThere outputs input
-inputs-there laws plan rows visits outputs rank v node r n port input e =
-    let h = has-input laws plan rows visits outputs rank v node r n port input e in
+pub inputs-there : (laws : CoreLaws) (plan : Plan) (rows : Rows) (visits : List Visits) (outputs : List (List Stream)) (stands : List Stand) (v : ℕ) (node : Node) → IsReached plan rows visits outputs stands → IsReady plan stands v node → (port : ℕ) (input : Input) → slice_get node.inputs port ≡ Some input → IsThere outputs input
+inputs-there laws plan rows visits outputs stands v node r n port input e =
+    let h = has-input laws plan rows visits outputs stands v node r n port input e in
     record {
       node = slice_get_within outputs input.node _ h.streams;
       out = λ streams g. slice_get_within streams input.out _ (ap (λ s. slice_get s input.out) (some_inj _ _ (sym g ∙ h.streams)) ∙ laws.have (run_of plan rows) input.node (outputs_in h.node.kind) input.out h.out);
     }
 
-inputs-read : (laws : CoreLaws) (plan : Plan) (rows : Rows) (visits : List Visits) (outputs : List (List Stream)) (rank v : ℕ) (node : Node) → Reached plan rows visits outputs rank → IsNext plan rank v node → (port : ℕ) (input : Input) → slice_get node.inputs port ≡ Some input →
+inputs-read : (laws : CoreLaws) (plan : Plan) (rows : Rows) (visits : List Visits) (outputs : List (List Stream)) (stands : List Stand) (v : ℕ) (node : Node) → IsReached plan rows visits outputs stands → IsReady plan stands v node → (port : ℕ) (input : Input) → slice_get node.inputs port ≡ Some input →
     pairs_read outputs input ≡ pairs_of (stream_from ((run_of plan rows).stations input.node) input.out)
-inputs-read laws plan rows visits outputs rank v node r n port input e =
-    let h = has-input laws plan rows visits outputs rank v node r n port input e in
+inputs-read laws plan rows visits outputs stands v node r n port input e =
+    let h = has-input laws plan rows visits outputs stands v node r n port input e in
     ap (λ o. pairs_in o input.out) h.streams ∙ ap pairs_by (laws.have (run_of plan rows) input.node (outputs_in h.node.kind) input.out h.out)
-
--- the arrivals are those of the run
-pub record IsArrived (plan : Plan) (rows : Rows) (v : ℕ) (arrivals : Stream) : Type 0 where
-  pub job : arrivals.job ≡ jobs_of ((run_of plan rows).stations v).visits
-  pub time : arrivals.time ≡ arrives_of ((run_of plan rows).stations v).visits
 
 source-kind : (kind : Kind) → is_source_kind kind ≡ true → kind ≡ Source
 source-kind Source e = refl
@@ -97,20 +84,20 @@ source-kind (Tandem stages) e = absurd cc
 source-kind (ForkJoin branches) e = absurd cc
 source-kind (Split route) e = absurd cc
 
-arriving-run : (laws : CoreLaws) (plan : Plan) (rows : Rows) (visits : List Visits) (outputs : List (List Stream)) (rank v : ℕ) (node : Node) → IsReadFor plan.net rows → Reached plan rows visits outputs rank → IsNext plan rank v node →
+arriving-run : (laws : CoreLaws) (plan : Plan) (rows : Rows) (visits : List Visits) (outputs : List (List Stream)) (stands : List Stand) (v : ℕ) (node : Node) → IsReadFor plan.net rows → IsReached plan rows visits outputs stands → IsReady plan stands v node →
     zip (arrives_of ((run_of plan rows).stations v).visits) (jobs_of ((run_of plan rows).stations v).visits) ≡ by_first (arriving rows v node outputs)
-arriving-run laws plan rows visits outputs rank v node read r n = go (is_source_kind node.kind) refl
+arriving-run laws plan rows visits outputs stands v node read r n = go (is_source_kind node.kind) refl
   where
     go : (b : Bool) → is_source_kind node.kind ≡ b → zip (arrives_of ((run_of plan rows).stations v).visits) (jobs_of ((run_of plan rows).stations v).visits) ≡ by_first (cond b (rows_at v 0 rows.source rows.time) (flat_map (pairs_read outputs) node.inputs))
     go true e = (laws.arrivals plan rows read v node n.there).source (source-kind node.kind e)
-    go false e = (laws.arrivals plan rows read v node n.there).other e ∙ ap by_first (sym (flat_map-same _ _ node.inputs (inputs-read laws plan rows visits outputs rank v node r n)))
+    go false e = (laws.arrivals plan rows read v node n.there).other e ∙ ap by_first (sym (flat_map-same _ _ node.inputs (inputs-read laws plan rows visits outputs stands v node r n)))
 
-pub arrived : (laws : CoreLaws) (plan : Plan) (rows : Rows) (visits : List Visits) (outputs : List (List Stream)) (rank v : ℕ) (node : Node) (arrivals : Stream) → IsReadFor plan.net rows → Reached plan rows visits outputs rank → IsNext plan rank v node →
+pub arrived : (plan : Plan) (rows : Rows) (outputs : List (List Stream)) (v : ℕ) (node : Node) (arrivals : Stream) → CanWork plan rows outputs v → slice_get plan.net.nodes v ≡ Some node →
     IsStream arrivals → pairs_of arrivals ≡ by_first (arriving rows v node outputs) → IsArrived plan rows v arrivals
-arrived laws plan rows visits outputs rank v node arrivals read r n s e =
+arrived plan rows outputs v node arrivals can there s e =
     let xs = ((run_of plan rows).stations v).visits in
     let even : length (jobs_of xs) ≡ length (arrives_of xs) = length-map xs _ ∙ sym (length-map xs _) in
-    let same : zip arrivals.time arrivals.job ≡ zip (arrives_of xs) (jobs_of xs) = e ∙ sym (arriving-run laws plan rows visits outputs rank v node read r n) in
+    let same : zip arrivals.time arrivals.job ≡ zip (arrives_of xs) (jobs_of xs) = e ∙ sym (can.comes node there) in
     record {
       job = zip-jobs arrivals.time arrivals.job (arrives_of xs) (jobs_of xs) s.even even same;
       time = zip-times arrivals.time arrivals.job (arrives_of xs) (jobs_of xs) s.even even same;
@@ -124,14 +111,14 @@ arriving-early plan rows outputs v node read early = go (is_source_kind node.kin
     go true = rows-early v 0 rows.source rows.time (Each-at _ rows.time read.early)
     go false = flat-early (pairs_read outputs) (λ input. reads-early outputs input early) node.inputs
 
-pub loaded : (laws : CoreLaws) (plan : Plan) (rows : Rows) (visits : List Visits) (outputs : List (List Stream)) (rank v : ℕ) (node : Node) (arrivals : Stream) → IsReadFor plan.net rows → Reached plan rows visits outputs rank → IsNext plan rank v node →
+pub loaded : (laws : CoreLaws) (plan : Plan) (rows : Rows) (outputs : List (List Stream)) (v : ℕ) (node : Node) (arrivals : Stream) → IsReadFor plan.net rows → AreEarly outputs → CanWork plan rows outputs v → slice_get plan.net.nodes v ≡ Some node →
     IsStream arrivals → pairs_of arrivals ≡ by_first (arriving rows v node outputs) → IsLoad plan.net rows node.kind arrivals
-loaded laws plan rows visits outputs rank v node arrivals read r n s e =
-    let a = arrived laws plan rows visits outputs rank v node arrivals read r n s e in
+loaded laws plan rows outputs v node arrivals read early can there s e =
+    let a = arrived plan rows outputs v node arrivals can there s e in
     let xs = ((run_of plan rows).stations v).visits in
     record {
-      sound = (laws.limits plan v node n.there).kind;
-      ordered = record { ordered = s; early = stream-early arrivals (arriving rows v node outputs) s e (arriving-early plan rows outputs v node read r.early) };
+      sound = (laws.limits plan v node there).kind;
+      ordered = record { ordered = s; early = stream-early arrivals (arriving rows v node outputs) s e (arriving-early plan rows outputs v node read early) };
       few =
           let long : length arrivals.time ≡ length xs = ap length a.time ∙ length-map xs _ in
           let most = laws.few plan rows read v in
@@ -151,15 +138,15 @@ made laws plan rows v node arrivals came left read there a t =
     )
 
 -- its late visits are those of the run
-pub same-late : (laws : CoreLaws) (plan : Plan) (rows : Rows) (v : ℕ) (node : Node) (arrivals : Stream) (first : Option Late) → IsReadFor plan.net rows → slice_get plan.net.nodes v ≡ Some node → IsArrived plan rows v arrivals →
+pub same-late : (laws : CoreLaws) (plan : Plan) (rows : Rows) (v : ℕ) (node : Node) (arrivals : Stream) (first : Option LateVisit) → IsReadFor plan.net rows → slice_get plan.net.nodes v ≡ Some node → IsArrived plan rows v arrivals →
     first_of (column_late_from plan.net.bound v 0 (column_fates rows node.kind arrivals.job arrivals.time)) ≡ first →
     first_of (column_late plan.net.bound v (visits_of node.kind ((run_of plan rows).stations v))) ≡ first
 same-late laws plan rows v node arrivals first read there a h =
     ap (λ (x : Visits). first_of (column_late plan.net.bound v x)) (laws.columns plan rows read v node there).visits
     ∙ ((λ k. first_of (column_late_from plan.net.bound v 0 (column_fates rows node.kind (sym a.job k) (sym a.time k)))) ∙ h)
 
-bound-within : (plan : Plan) → plan.net.bound ≤ 2 ^ 60
-bound-within plan =
+within-limits : (plan : Plan) → (length plan.net.nodes ≤ 64) × (plan.net.bound ≤ 2 ^ 60)
+within-limits plan =
     let net = plan.net in
     let a = and_parts _ (mentions_from 0 (length net.columns) (flat_map (λ (node : Node). columns_of_kind node.kind) net.nodes)) plan.sound in
     let b = and_parts _ (are_distinct same_input (flat_map (λ (node : Node). node.inputs) net.nodes)) a.0 in
@@ -169,8 +156,36 @@ bound-within plan =
     let f = and_parts _ (are_distinct bytes_eq (map (λ (node : Node). node.name) net.nodes)) e.0 in
     let g = and_parts _ (list_any (λ (node : Node). is_source_kind node.kind) net.nodes) f.0 in
     let h = and_parts _ (nat_le net.bound (2 ^ 60)) g.0 in
-    let t : nat_le net.bound (2 ^ 60) ≡ true = h.1 in
-    grind (arith, nat_tests)
+    let i = and_parts (is_within 1 64 (length net.nodes)) _ h.0 in
+    let j = and_parts (nat_le 1 (length net.nodes)) (nat_le (length net.nodes) 64) i.0 in
+    let few : nat_le (length net.nodes) 64 ≡ true = j.1 in
+    let early : nat_le net.bound (2 ^ 60) ≡ true = h.1 in
+    (grind (arith, nat_tests), grind (arith, nat_tests))
+
+bound-within : (plan : Plan) → plan.net.bound ≤ 2 ^ 60
+bound-within plan = (within-limits plan).1
+
+-- how many nodes a ranking has
+ranked-few : (count : ℕ) (nodes : List Node) (ranked : List ℕ) → length (ranked_after count nodes ranked) ≤ length ranked + count
+unfolding ranked_after
+ranked-few zero nodes ranked = omega arith
+ranked-few (suc count) nodes ranked =
+    let ready = first_ready ranked 0 nodes in
+    let next = ranked-few count nodes (ranked ++ option_to_list ready) in
+    let grown = length-append ranked (option_to_list ready) in
+    let one = at-most ready in
+    omega arith
+  where
+    at-most : (o : Option ℕ) → length (option_to_list o) ≤ 1
+    at-most None = omega arith
+    at-most (Some n) = omega arith
+
+pub order-few : (plan : Plan) → length plan.order ≤ 64
+order-few plan =
+    let few = ranked-few (length plan.net.nodes) plan.net.nodes [] in
+    let same = ap length plan.ranked in
+    let most = (within-limits plan).0 in
+    omega arith
 
 -- the streams of a node whose visits are on time are early
 left-early : (laws : CoreLaws) (plan : Plan) (rows : Rows) (v : ℕ) (node : Node) (arrivals : Stream) (left : List Stream) → EarlyTimes arrivals.time → AreStreams rows node.kind arrivals left →
@@ -197,85 +212,125 @@ decide-eq a b = go (a == b) refl
     go true e = inl (grind (arith, nat_tests))
     go false e = inr (λ s. grind (arith, nat_tests))
 
--- one node more
-pub reached-next : (laws : CoreLaws) (plan : Plan) (rows : Rows) (visits : List Visits) (outputs : List (List Stream)) (rank v : ℕ) (node : Node) (arrivals : Stream) (came : Visits) (left : List Stream) → IsReadFor plan.net rows → Reached plan rows visits outputs rank → IsNext plan rank v node →
-    IsStream arrivals → pairs_of arrivals ≡ by_first (arriving rows v node outputs) → IsTurn rows node.kind arrivals came left →
-    first_of (column_late_from plan.net.bound v 0 (column_fates rows node.kind arrivals.job arrivals.time)) ≡ None →
-    Reached plan rows (set visits v came) (set outputs v left) (rank + 1)
-reached-next laws plan rows visits outputs rank v node arrivals came left read r n s e t late =
+-- what the turn of a node gives is what the run has
+pub known : (laws : CoreLaws) (plan : Plan) (rows : Rows) (v : ℕ) (node : Node) (arrivals : Stream) (ending : Ending) → IsReadFor plan.net rows → IsArrived plan rows v arrivals → IsLoad plan.net rows node.kind arrivals → slice_get plan.net.nodes v ≡ Some node →
+    IsEnding plan.net rows v node.kind arrivals ending → IsKnown plan rows v node ending
+known laws plan rows v node arrivals (OnTime came left) read is load there h =
+    let new = made laws plan rows v node arrivals came left read there is h.0 in (
+      new.0,
+      new.1,
+      λ out stream g. record {
+        ordered = left-ordered laws plan rows v (outputs_in node.kind) out left stream new.1 h.0.outflow.count g;
+        early = left-early laws plan rows v node arrivals left load.ordered.early h.0.outflow h.1 out stream g;
+      },
+      same-late laws plan rows v node arrivals None read there is h.1,
+    )
+known laws plan rows v node arrivals (TooLate fault) read is load there h = same-late laws plan rows v node arrivals _ read there is h
+
+-- a node that is ready can be worked out
+pub can-work : (laws : CoreLaws) (plan : Plan) (rows : Rows) (visits : List Visits) (outputs : List (List Stream)) (stands : List Stand) (v : ℕ) → IsReadFor plan.net rows → IsReached plan rows visits outputs stands → is_ready plan.net.nodes stands v ≡ true → CanWork plan rows outputs v
+can-work laws plan rows visits outputs stands v read r ready =
     record {
-      came = length-set visits v came ∙ r.came;
-      left = length-set outputs v left ∙ r.left;
-      done = λ q w other l a b. at q w other a b (cases_lt q rank) l;
-      early = λ u out streams stream a b. early u out streams stream a b (decide-eq u v);
-      on_time = laws.grows plan rows rank v node n.at n.there r.on_time (same-late laws plan rows v node arrivals None read n.there is late);
+      inside = subst (λ m. v < m) r.stand (stands-inside (slice_get stands v) refl (and_parts _ _ ready).0);
+      there = λ node port input at e. inputs-there laws plan rows visits outputs stands v node r (is-ready node at) port input e;
+      comes = λ node at. arriving-run laws plan rows visits outputs stands v node read r (is-ready node at);
     }
   where
-    is : IsArrived plan rows v arrivals
-    is = arrived laws plan rows visits outputs rank v node arrivals read r n s e
+    stands-inside : (o : Option Stand) → slice_get stands v ≡ o → stands_at is_waiting o ≡ true → v < length stands
+    stands-inside None e h = absurd cc
+    stands-inside (Some at) e h = slice_get_within stands v at e
 
-    new : (came ≡ visits_of node.kind ((run_of plan rows).stations v)) × (left ≡ streams_below (run_of plan rows) v (outputs_in node.kind))
-    new = made laws plan rows v node arrivals came left read n.there is t
+    done-at : (u : ℕ) (o : Option Stand) → slice_get stands u ≡ o → stands_at is_done o ≡ true → slice_get stands u ≡ Some Done
+    done-at u None e h = absurd cc
+    done-at u (Some Waiting) e h = absurd cc
+    done-at u (Some Done) e h = e
+    done-at u (Some (Late fault)) e h = absurd cc
 
-    inside : v < length plan.net.nodes
-    inside = slice_get_within plan.net.nodes v node n.there
+    is-ready : (node : Node) → slice_get plan.net.nodes v ≡ Some node → IsReady plan stands v node
+    is-ready node at = record {
+      there = at;
+      reads = λ port input e.
+          let all : list_all (is_read stands) node.inputs ≡ true = ap (reads_done stands) (sym at) ∙ (and_parts (stands_at is_waiting (slice_get stands v)) _ ready).1 in
+          done-at input.node (slice_get stands input.node) refl (all-get (is_read stands) node.inputs port input all e);
+    }
 
-    in_visits : v < length visits
-    in_visits = subst (λ m. v < m) (sym r.came) inside
+-- what stands at a node after its turn
+module _ (plan : Plan) (rows : Rows) (visits : List Visits) (outputs : List (List Stream)) (stands : List Stand) (v : ℕ) (node : Node) (there : slice_get plan.net.nodes v ≡ Some node) (r : IsReached plan rows visits outputs stands) where
+  inside : v < length plan.net.nodes
+  inside = slice_get_within plan.net.nodes v node there
 
-    in_outputs : v < length outputs
-    in_outputs = subst (λ m. v < m) (sym r.left) inside
+  same-node : (w : ℕ) (other : Node) → w ≡ v → slice_get plan.net.nodes w ≡ Some other → node ≡ other
+  same-node w other same e = some_inj _ _ (sym there ∙ (ap (slice_get plan.net.nodes) (sym same) ∙ e))
 
+  module _ (came : Visits) (left : List Stream) (k : IsKnown plan rows v node (OnTime came left)) where
     here : HasColumns (run_of plan rows) (record { visits = set visits v came; outputs = set outputs v left }) v node
     here =
+        let in_visits : v < length visits = subst (λ m. v < m) (sym r.came) inside in
+        let in_outputs : v < length outputs = subst (λ m. v < m) (sym r.left) inside in
         record {
-          visits = get-set_same visits v came in_visits ∙ ap Some new.0;
-          outputs = get-set_same outputs v left in_outputs ∙ ap Some new.1;
+          visits = get-set_same visits v came in_visits ∙ ap Some k.0;
+          outputs = get-set_same outputs v left in_outputs ∙ ap Some k.1;
         }
 
-    elsewhere : (w : ℕ) (other : Node) → w ≢ v → HasColumns (run_of plan rows) (record { visits = visits; outputs = outputs }) w other → HasColumns (run_of plan rows) (record { visits = set visits v came; outputs = set outputs v left }) w other
-    elsewhere w other d h =
-        record {
-          visits = get-set_other visits v w came d ∙ h.visits;
-          outputs = get-set_other outputs v w left d ∙ h.outputs;
-        }
+    elsewhere : (w : ℕ) (other : Node) (at : Stand) → w ≢ v → Tells plan rows visits outputs w other at → Tells plan rows (set visits v came) (set outputs v left) w other at
+    elsewhere w other Waiting d h = tt
+    elsewhere w other Done d h = (
+      record {
+        visits = get-set_other visits v w came d ∙ h.0.visits;
+        outputs = get-set_other outputs v w left d ∙ h.0.outputs;
+      },
+      h.1,
+    )
+    elsewhere w other (Late fault) d h = h
 
-    other-node : (q w : ℕ) → q < rank → slice_get plan.order q ≡ Some w → w ≢ v
-    other-node q w l a same =
-        let once = (laws.ranks plan rank v n.at).once in
-        let twice = has-front plan.order rank q v l (a ∙ ap Some same) in
-        absurd cc
-
-    at : (q w : ℕ) (other : Node) → slice_get plan.order q ≡ Some w → slice_get plan.net.nodes w ≡ Some other → (q < rank) ⊎ (rank ≤ q) → q < rank + 1 → HasColumns (run_of plan rows) (record { visits = set visits v came; outputs = set outputs v left }) w other
-    at q w other a b (inl l) m = elsewhere w other (other-node q w l a) (r.done q w other l a b)
-    at q w other a b (inr l) m =
-        let rank-is : q ≡ rank = omega arith in
-        let node-is : v ≡ w = some_inj _ _ (sym n.at ∙ (ap (slice_get plan.order) (sym rank-is) ∙ a)) in
-        let kind-is : node ≡ other = some_inj _ _ (sym n.there ∙ (ap (slice_get plan.net.nodes) node-is ∙ b)) in
-        subst (λ (p : ℕ × Node). HasColumns (run_of plan rows) (record { visits = set visits v came; outputs = set outputs v left }) p.0 p.1) (λ k. (node-is k, kind-is k)) here
+    told : (w : ℕ) (other : Node) (at : Stand) → slice_get plan.net.nodes w ≡ Some other → slice_get (set stands v Done) w ≡ Some at → (w ≡ v) ⊎ (w ≢ v) → Tells plan rows (set visits v came) (set outputs v left) w other at
+    told w other at e g (inl same) =
+        let in_stands : v < length stands = subst (λ m. v < m) (sym r.stand) inside in
+        let is-done : Done ≡ at = some_inj _ _ (sym (get-set_same stands v Done in_stands) ∙ (ap (slice_get (set stands v Done)) (sym same) ∙ g)) in
+        subst (λ (p : ℕ × Node × Stand). Tells plan rows (set visits v came) (set outputs v left) p.0 p.1 p.2) (λ i. (sym same i, same-node w other same e i, is-done i)) (here, k.3)
+    told w other at e g (inr apart) = elsewhere w other at apart (r.told w other at e (sym (get-set_other stands v w Done apart) ∙ g))
 
     early : (u out : ℕ) (streams : List Stream) (stream : Stream) → slice_get (set outputs v left) u ≡ Some streams → slice_get streams out ≡ Some stream → (u ≡ v) ⊎ (u ≢ v) → IsEarlyStream stream
     early u out streams stream a b (inl same) =
+        let in_outputs : v < length outputs = subst (λ m. v < m) (sym r.left) inside in
         let is-left : left ≡ streams = some_inj _ _ (sym (get-set_same outputs v left in_outputs) ∙ (ap (slice_get (set outputs v left)) (sym same) ∙ a)) in
-        let g : slice_get left out ≡ Some stream = ap (λ (l : List Stream). slice_get l out) is-left ∙ b in
-        record {
-          ordered = left-ordered laws plan rows v (outputs_in node.kind) out left stream new.1 t.outflow.count g;
-          early = left-early laws plan rows v node arrivals left (loaded laws plan rows visits outputs rank v node arrivals read r n s e).ordered.early t.outflow late out stream g;
-        }
+        k.2 out stream (ap (λ (l : List Stream). slice_get l out) is-left ∙ b)
     early u out streams stream a b (inr apart) = r.early u out streams stream (sym (get-set_other outputs v u left apart) ∙ a) b
 
--- all nodes are done
-pub reached-all : (laws : CoreLaws) (plan : Plan) (rows : Rows) (visits : List Visits) (outputs : List (List Stream)) → Reached plan rows visits outputs (length plan.order) → IsRunOf plan rows (record { visits = visits; outputs = outputs })
-reached-all laws plan rows visits outputs r =
-    laws.runs plan rows (record { visits = visits; outputs = outputs }) r.came r.left
-    (λ v node e.
-    let place = has-place plan.order v (plan.whole v (slice_get_within plan.net.nodes v node e)) in
-    r.done place.0 v node (slice_get_within plan.order place.0 v place.1) place.1 e)
+    on-time : IsReached plan rows (set visits v came) (set outputs v left) (set stands v Done)
+    on-time = record {
+      came = length-set visits v came ∙ r.came;
+      left = length-set outputs v left ∙ r.left;
+      stand = length-set stands v Done ∙ r.stand;
+      told = λ w other at e g. told w other at e g (decide-eq w v);
+      early = λ u out streams stream a b. early u out streams stream a b (decide-eq u v);
+    }
 
--- a late visit of the node whose turn it is is the first of all
-pub late-cause : (laws : CoreLaws) (plan : Plan) (rows : Rows) (visits : List Visits) (outputs : List (List Stream)) (rank v : ℕ) (node : Node) (arrivals : Stream) (fault : RunFault) → IsReadFor plan.net rows → Reached plan rows visits outputs rank → IsNext plan rank v node →
-    IsStream arrivals → pairs_of arrivals ≡ by_first (arriving rows v node outputs) → IsLateIn plan.net.bound v (column_fates rows node.kind arrivals.job arrivals.time) fault → IsCause plan rows fault
-late-cause laws plan rows visits outputs rank v node arrivals (Past late) read r n s e h =
-    let is = arrived laws plan rows visits outputs rank v node arrivals read r n s e in
-    laws.first plan rows read rank v node (late_told late) n.at n.there r.on_time (same-late laws plan rows v node arrivals _ read n.there is h)
-late-cause laws plan rows visits outputs rank v node arrivals Memory read r n s e h = tt
+  too-late : (fault : PastFault) → IsKnown plan rows v node (TooLate fault) → IsReached plan rows visits outputs (set stands v (Late fault))
+  too-late fault k =
+      record {
+        came = r.came;
+        left = r.left;
+        stand = length-set stands v (Late fault) ∙ r.stand;
+        told = λ w other at e g. at_late w other at e g (decide-eq w v);
+        early = r.early;
+      }
+    where
+      at_late : (w : ℕ) (other : Node) (at : Stand) → slice_get plan.net.nodes w ≡ Some other → slice_get (set stands v (Late fault)) w ≡ Some at → (w ≡ v) ⊎ (w ≢ v) → Tells plan rows visits outputs w other at
+      at_late w other at e g (inl same) =
+          let in_stands : v < length stands = subst (λ m. v < m) (sym r.stand) inside in
+          let is-late : Late fault ≡ at = some_inj _ _ (sym (get-set_same stands v (Late fault) in_stands) ∙ (ap (slice_get (set stands v (Late fault))) (sym same) ∙ g)) in
+          subst (λ (p : ℕ × Node × Stand). Tells plan rows visits outputs p.0 p.1 p.2) (λ i. (sym same i, same-node w other same e i, is-late i)) k
+      at_late w other at e g (inr apart) = r.told w other at e (sym (get-set_other stands v w (Late fault) apart) ∙ g)
+
+-- a turn that is put down keeps what is reached
+put-ending : (plan : Plan) (rows : Rows) (v : ℕ) (node : Node) (ending : Ending) (visits visits' : List Visits) (outputs outputs' : List (List Stream)) (stands stands' : List Stand) → slice_get plan.net.nodes v ≡ Some node → IsReached plan rows visits outputs stands → IsKnown plan rows v node ending →
+    IsEndPut v ending visits outputs stands visits' outputs' stands' → IsReached plan rows visits' outputs' stands'
+put-ending plan rows v node (OnTime came left) visits visits' outputs outputs' stands stands' there r k h =
+    subst (λ (p : List Visits × List (List Stream) × List Stand). IsReached plan rows p.0 p.1 p.2) (λ i. (sym h.0 i, sym h.1 i, sym h.2 i)) (on-time plan rows visits outputs stands v node there r came left k)
+put-ending plan rows v node (TooLate fault) visits visits' outputs outputs' stands stands' there r k h =
+    subst (λ (p : List Visits × List (List Stream) × List Stand). IsReached plan rows p.0 p.1 p.2) (λ i. (sym h.0 i, sym h.1 i, sym h.2 i)) (too-late plan rows visits outputs stands v node there r fault k)
+
+pub put-keeps : (plan : Plan) (rows : Rows) (turn : Turn) (visits visits' : List Visits) (outputs outputs' : List (List Stream)) (stands stands' : List Stand) → IsReached plan rows visits outputs stands → IsWorkedOut plan rows turn →
+    IsPut turn visits outputs stands visits' outputs' stands' → IsReached plan rows visits' outputs' stands'
+put-keeps plan rows turn visits visits' outputs outputs' stands stands' r w h = put-ending plan rows turn.number w.0 turn.ending visits visits' outputs outputs' stands stands' w.1 r w.2 h

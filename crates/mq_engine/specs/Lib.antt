@@ -1,4 +1,6 @@
 pub mod Answer
 pub mod CoreLaws
+pub mod Loads
 pub mod Losses
+pub mod Progress
 pub mod Turns

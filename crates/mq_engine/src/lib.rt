@@ -1,57 +1,40 @@
 //! The engine: a run of a network, node by node in order of rank.
 #![tactic(auto)]
 
-ghost use Rattle.std.specs.Prelude.{◌≡◌, All, [], length, IfErr, IfOk, None};
+ghost use Rattle.std.specs.Prelude.{◌≡◌, ◌≤◌, [], filter, IfErr, IfOk, None};
 ghost use Rattle.mq_core.specs.Columns.{IsRunOf};
 ghost use Rattle.mq_core.specs.Results.{past_of};
 ghost use Rattle.mq_core.specs.Theorems.{IsReadFor};
 ghost use Rattle.mq_engine.specs.Answer.{IsCause};
+ghost use Rattle.mq_engine.specs.CoreLaws.{CoreLaws};
+ghost use Rattle.mq_engine.specs.Progress.{IsReached, is_ready};
 
 mod arrivals;
+mod exits;
 mod fault;
+mod firsts;
+mod lasts;
 mod late;
 mod laws;
+mod loads;
 mod losses;
 mod outflow;
+mod progress;
+mod ready;
 mod series;
 mod stations;
 mod turns;
 
-use crate::arrivals::arrivals_at;
 use crate::laws::core_laws;
-use crate::turns::turn;
+use crate::loads::Arriving;
+use crate::progress::{Progress, Stand, beginning, ready_nodes, settle};
+use crate::ready::turns_of;
 pub use fault::{PastFault, RunFault};
-use mq_base::{List, OutOfMemory};
-use mq_core::{Plan, Rows, Run, Stream, Visits};
+use mq_base::List;
+use mq_core::{Plan, Rows, Run};
+use mq_crew::Gate;
 use std::alloc::Global;
-
-// As many lists of visits as there are nodes, with none in them.
-fn no_visits(alloc: Global, nodes: usize) -> Result<Vec<Visits>, OutOfMemory>
-    ensures { IfOk result (λ visits. length visits.items ≡ nodes) }
-{
-    let mut visits = Vec::new(alloc);
-    for _ in 0..nodes {
-        visits.push(Visits {
-            job: List::new(alloc),
-            arrive: List::new(alloc),
-            found: List::new(alloc),
-            fate: List::new(alloc),
-        })?;
-    }
-    Ok(visits)
-}
-
-// As many lists of streams as there are nodes, with none in them.
-fn no_streams(alloc: Global, nodes: usize) -> Result<Vec<List<Stream>>, OutOfMemory>
-    ensures count { IfOk result (λ outputs. length outputs.items ≡ nodes) }
-    ensures none { IfOk result (λ outputs. All (λ streams. streams ≡ []) outputs.items) }
-{
-    let mut outputs = Vec::new(alloc);
-    for _ in 0..nodes {
-        outputs.push(List::new(alloc))?;
-    }
-    Ok(outputs)
-}
+use std::thread::Threads;
 
 /// The run of a plan over the rows that were read for its network: the visits to each node, and
 /// what leaves it by each output.
@@ -61,26 +44,63 @@ fn no_streams(alloc: Global, nodes: usize) -> Result<Vec<List<Stream>>, OutOfMem
 /// kind gives the departures. It refuses a run in which a visit departs after the bound, and names
 /// the first such visit by rank of the node and then position. Else it refuses for want of memory
 /// alone.
-pub fn run(alloc: Global, plan: &Plan, rows: &Rows) -> Result<Run, RunFault>
-    requires { IsReadFor plan.now.net rows.now }
+pub fn run<R: Threads + Sync, G: Gate>(
+    rt: &R,
+    alloc: Global,
+    plan: &Plan,
+    rows: &Rows,
+    workers: u32,
+    block: u32,
+    gate: &G,
+) -> Result<Run, RunFault>
+    requires read { IsReadFor plan.now.net rows.now }
+    requires some { 1 ≤ workers }
+    requires most { workers ≤ 64 }
+    requires block { 1 ≤ block }
     ensures ok { IfOk result (λ run. IsRunOf plan.now rows.now run) }
     ensures on_time { IfOk result (λ run. past_of plan.now rows.now ≡ None) }
     ensures cause { IfErr result (λ fault. IsCause plan.now rows.now fault) }
 {
     core_laws();
-    let mut visits = no_visits(alloc, plan.net.nodes.len())?;
-    let mut outputs = no_streams(alloc, plan.net.nodes.len())?;
+    let mut progress = beginning(alloc, plan.net.nodes.len())?;
+    'rounds: loop {
+        let ready = ready_nodes(alloc, plan, &progress.stands)?;
+        if ready.is_empty() {
+            return ended(plan, rows, progress);
+        }
+        let arriving = Arriving {
+            plan,
+            rows,
+            outputs: &progress.outputs,
+            ready: &ready,
+            block,
+        };
+        let turns = turns_of(rt, alloc, &arriving, workers, gate)?;
+        settle(&mut progress, turns);
+    }
+}
+
+// The run, where no node is ready any more: all nodes are done, or the first by rank that is not
+// has a visit that departs after the bound.
+fn ended(plan: &Plan, rows: &Rows, progress: Progress) -> Result<Run, RunFault>
+    requires read { IsReadFor plan.now.net rows.now }
+    requires laws { CoreLaws }
+    requires reached { IsReached plan.now rows.now progress.visits.items progress.outputs.items progress.stands.items }
+    requires stuck { filter (is_ready plan.now.net.nodes progress.stands.items) plan.now.order ≡ [] }
+    ensures ok { IfOk result (λ run. IsRunOf plan.now rows.now run) }
+    ensures on_time { IfOk result (λ run. past_of plan.now rows.now ≡ None) }
+    ensures cause { IfErr result (λ fault. IsCause plan.now rows.now fault) }
+{
     for rank in 0..plan.order.len() {
-        let number = *plan.order.get(rank);
-        let node = plan.net.nodes.get(number as usize);
-        let arrivals = arrivals_at(alloc, rows, number, node, &outputs)?;
-        let done = turn(alloc, &plan.net, rows, number, &node.kind, arrivals)?;
-        visits[number as usize] = done.visits;
-        outputs[number as usize] = done.streams;
+        match progress.stands[*plan.order.get(rank) as usize] {
+            Stand::Done => {}
+            Stand::Late(past) => return Err(RunFault::Past(past)),
+            Stand::Waiting => unreachable!(),
+        }
     }
     Ok(Run {
-        visits: List::from_vec(visits),
-        outputs: List::from_vec(outputs),
+        visits: List::from_vec(progress.visits),
+        outputs: List::from_vec(progress.outputs),
     })
 }
 

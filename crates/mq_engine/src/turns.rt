@@ -1,58 +1,110 @@
-ghost use Rattle.std.specs.Prelude.{◌≡◌, ◌≤◌, length, map, IfErr, IfOk, None};
-ghost use Rattle.mq_core.specs.Columns.{IsStream, column_fates, column_late_from, founds_of};
-ghost use Rattle.mq_core.specs.Results.{first_of};
-ghost use Rattle.mq_engine.specs.Answer.{IsLateIn};
-ghost use Rattle.mq_engine.specs.Turns.{IsLoad, IsTurn};
+ghost use Rattle.std.specs.Prelude.{◌≡◌, ◌≤◌, length, map, IfOk};
+ghost use Rattle.mq_core.specs.Columns.{IsStream, column_fates, founds_of};
+ghost use Rattle.mq_engine.specs.Loads.{IsAfter};
+ghost use Rattle.mq_engine.specs.Progress.{IsEnding};
+ghost use Rattle.mq_engine.specs.Turns.{IsLeaving, IsLoad};
 
-use crate::RunFault;
+use crate::PastFault;
 use crate::late::first_late;
+use crate::outflow::Outflow;
 use crate::stations::leaving;
 use mq_base::{List, OutOfMemory};
 use mq_core::{Fate, Kind, Network, Rows, Stream, Visits, fates_are_in_time};
 use mq_stats::found;
 use std::alloc::Global;
 
-// What a turn makes of a node.
+// The turn of a node: what it gives.
 #[derive(Drop)]
-pub struct Done {
-    pub visits: Visits,
-    pub streams: List<Stream>,
+pub struct Turn {
+    // The node, by order of declaration.
+    pub number: u32,
+    pub ending: Ending,
 }
 
-// The visits to a node of this kind, and what leaves it, of its arrivals. It refuses where one of
-// them departs after the bound.
-pub fn turn(
+// How the turn of a node ends.
+#[derive(Drop)]
+pub enum Ending {
+    // With its visits and what leaves it by each output: no visit departs after the bound.
+    OnTime(Visits, List<Stream>),
+    // With the first visit that departs after the bound.
+    TooLate(PastFault),
+}
+
+// What becomes of the arrivals at a node.
+#[derive(Drop)]
+pub enum After {
+    // Their fates, how many each found, and what leaves by each output: none departs after the bound.
+    Seen(List<Fate>, List<u32>, List<Stream>),
+    // The first that departs after the bound.
+    Missed(PastFault),
+}
+
+// What becomes of the arrivals at a node of this kind.
+pub fn after_of(
     alloc: Global,
     net: &Network,
     rows: &Rows,
     number: u32,
     kind: &Kind,
-    arrivals: Stream,
-) -> Result<Done, RunFault>
-    requires { IsLoad net.now rows.now kind.now arrivals }
-    ensures turn { IfOk result (λ turn. IsTurn rows.now kind.now arrivals turn.visits turn.streams) }
-    ensures on_time { IfOk result (λ turn. first_of (column_late_from net.now.bound number 0 (column_fates rows.now kind.now arrivals.job arrivals.time)) ≡ None) }
-    ensures cause { IfErr result (λ fault. IsLateIn net.now.bound number (column_fates rows.now kind.now arrivals.job arrivals.time) fault) }
+    arrivals: &Stream,
+) -> Result<After, OutOfMemory>
+    requires { IsLoad net.now rows.now kind.now arrivals.now }
+    ensures { IfOk result (λ after. IsAfter net.now rows.now number kind.now arrivals.now after) }
+{
+    let leaving = leaving(alloc, net, rows, kind, arrivals)?;
+    seen(alloc, net, rows, number, kind, arrivals, leaving)
+}
+
+// The same, where it is known what leaves.
+fn seen(
+    alloc: Global,
+    net: &Network,
+    rows: &Rows,
+    number: u32,
+    kind: &Kind,
+    arrivals: &Stream,
+    leaving: Outflow,
+) -> Result<After, OutOfMemory>
+    requires load { IsLoad net.now rows.now kind.now arrivals.now }
+    requires leaving { IsLeaving rows.now kind.now arrivals.now leaving.fates leaving.streams }
+    ensures { IfOk result (λ after. IsAfter net.now rows.now number kind.now arrivals.now after) }
 {
     fates_are_in_time();
-    let leaving = leaving(alloc, net, rows, kind, &arrivals)?;
     if let Some(past) = first_late(net.bound, number, &leaving.fates) {
-        return Err(RunFault::Past(past));
+        return Ok(After::Missed(past));
     }
-    let found = found_at(alloc, rows, kind, &arrivals, &leaving.fates)?;
-    Ok(Done {
-        visits: Visits {
-            job: arrivals.job,
-            arrive: arrivals.time,
-            found,
-            fate: leaving.fates,
-        },
-        streams: leaving.streams,
-    })
+    let found = found_at(alloc, rows, kind, arrivals, &leaving.fates)?;
+    Ok(After::Seen(leaving.fates, found, leaving.streams))
+}
+
+// How the turn of a node ends to which these came. Nothing is copied.
+pub fn ending_of(
+    net: &Network,
+    rows: &Rows,
+    kind: &Kind,
+    number: u32,
+    arrivals: Stream,
+    after: After,
+) -> Ending
+    requires { IsAfter net.now rows.now number kind.now arrivals after }
+    ensures { IsEnding net.now rows.now number kind.now arrivals result }
+{
+    match after {
+        After::Seen(fate, found, streams) => {
+            let visits = Visits {
+                job: arrivals.job,
+                arrive: arrivals.time,
+                found,
+                fate,
+            };
+            Ending::OnTime(visits, streams)
+        }
+        After::Missed(past) => Ending::TooLate(past),
+    }
 }
 
 // How many jobs each visit to a node of this kind found. A source and a split hold none.
-fn found_at(
+pub fn found_at(
     alloc: Global,
     rows: &Rows,
     kind: &Kind,

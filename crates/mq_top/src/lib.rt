@@ -9,4 +9,4 @@ mod tests;
 
 pub use mq_words::UsageFault;
 pub use outcome::Outcome;
-pub use stages::simulate;
+pub use stages::{simulate, simulate_gated};

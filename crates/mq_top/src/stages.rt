@@ -18,6 +18,7 @@ use crate::line::{name_of, put_line};
 use crate::outcome::Outcome;
 use mq_base::{FileFault, Files, Sink};
 use mq_core::{Plan, Rows, runs_are_of_networks};
+use mq_crew::{Gate, Open};
 use mq_engine::{RunFault, run};
 use mq_gen::{made, made_inputs_are_accepted};
 use mq_model::{ModelFault, read_model};
@@ -25,6 +26,8 @@ use mq_report::report;
 use mq_trace::{TraceFault, read_trace};
 use mq_words::{Input, Settings, UsageFault, WordsFault, settings_of};
 use std::alloc::Global;
+use std::marker::Sync;
+use std::thread::Threads;
 
 // The most bytes that the text of a model may have.
 const MODEL_LIMIT: u64 = 65_536;
@@ -42,6 +45,18 @@ fn accept_words<'a>(alloc: Global, words: &'a [&'a str]) -> Result<Settings<'a>,
         Err(WordsFault::Usage(fault)) => Err(Outcome::Usage(fault)),
         Err(WordsFault::Memory) => Err(Outcome::Memory),
     }
+}
+
+// Who works out the runs: so many workers, by blocks of so many jobs, who enter this gate.
+#[derive(Drop)]
+struct Crew<'a, R, G> {
+    rt: &'a R,
+    workers: u32,
+    block: u32,
+    gate: &'a G,
+    ghost some: { 1 ≤ workers },
+    ghost most: { workers ≤ 64 },
+    ghost block_some: { 1 ≤ block },
 }
 
 // Judges the bytes of a model.
@@ -126,7 +141,14 @@ fn accept_trace<F: Files>(
 }
 
 // Runs a plan over its rows, and writes the report, with the lines of the jobs where they are asked for.
-fn report_run<O: Sink>(alloc: Global, plan: &Plan, rows: &Rows, jobs: bool, out: &mut O) -> Outcome
+fn report_run<R: Threads + Sync, G: Gate, O: Sink>(
+    alloc: Global,
+    crew: &Crew<R, G>,
+    plan: &Plan,
+    rows: &Rows,
+    jobs: bool,
+    out: &mut O,
+) -> Outcome
     requires { IsReadFor plan.now.net rows.now }
     ensures ends { Ends (run_answer plan.now.net rows.now jobs (past_in plan.now.net rows.now)) result (takings O.taken O.sure out.old out.new) }
     ensures unread { (second : Bool) → result ≢ Outcome.ReadFault second }
@@ -137,7 +159,15 @@ fn report_run<O: Sink>(alloc: Global, plan: &Plan, rows: &Rows, jobs: bool, out:
     ensures untouched { Untouched result out.old out.new }
 {
     runs_are_of_networks();
-    let run = match run(alloc, plan, rows) {
+    let run = match run(
+        crew.rt,
+        alloc,
+        plan,
+        rows,
+        crew.workers,
+        crew.block,
+        crew.gate,
+    ) {
         Ok(run) => run,
         Err(RunFault::Past(fault)) => return Outcome::Past(fault),
         Err(RunFault::Memory) => return Outcome::Memory,
@@ -149,8 +179,9 @@ fn report_run<O: Sink>(alloc: Global, plan: &Plan, rows: &Rows, jobs: bool, out:
 }
 
 // Reads the trace of this name for a plan, runs it, and writes the report.
-fn run_trace<F: Files, O: Sink>(
+fn run_trace<R: Threads + Sync, G: Gate, F: Files, O: Sink>(
     alloc: Global,
+    crew: &Crew<R, G>,
     plan: &Plan,
     name: &str,
     jobs: bool,
@@ -175,13 +206,19 @@ fn run_trace<F: Files, O: Sink>(
     ensures untouched { Untouched result out.old out.new }
 {
     match accept_trace(alloc, plan, name, files) {
-        Ok(rows) => report_run(alloc, plan, &rows, jobs, out),
+        Ok(rows) => report_run(alloc, crew, plan, &rows, jobs, out),
         Err(outcome) => outcome,
     }
 }
 
 // Runs the made input of this number, and writes the report.
-fn run_made<O: Sink>(alloc: Global, number: u64, jobs: bool, out: &mut O) -> Outcome
+fn run_made<R: Threads + Sync, G: Gate, O: Sink>(
+    alloc: Global,
+    crew: &Crew<R, G>,
+    number: u64,
+    jobs: bool,
+    out: &mut O,
+) -> Outcome
     ensures ends { Ends (answer (made_model number) (made_trace number) jobs) result (takings O.taken O.sure out.old out.new) }
     ensures made { IsOfMade result }
     ensures later { O.faults out.old ≤ O.faults out.new }
@@ -199,7 +236,7 @@ fn run_made<O: Sink>(alloc: Global, number: u64, jobs: bool, out: &mut O) -> Out
         Err(outcome) => return outcome,
     };
     match judge_trace(alloc, &plan, input.trace.as_slice()) {
-        Ok(rows) => report_run(alloc, &plan, &rows, jobs, out),
+        Ok(rows) => report_run(alloc, crew, &plan, &rows, jobs, out),
         Err(outcome) => outcome,
     }
 }
@@ -207,18 +244,20 @@ fn run_made<O: Sink>(alloc: Global, number: u64, jobs: bool, out: &mut O) -> Out
 /// Reads the model and the trace that the words name, or makes those of a number, runs the network
 /// over the rows, and writes the report: the same as that of a sequential event list. The words are
 /// those behind the program's name: the two names, or `--made` with a number, and among them
-/// `--workers` and `--block` with a number, which are judged and change nothing, and `--jobs`,
+/// `--workers` and `--block` with a number, which change nothing but who makes which piece, and `--jobs`,
 /// which asks for a line for each visit.
 ///
 /// Every outcome but `Done` puts one line on `err`, whose faults change no outcome. All memory is
 /// taken before the first byte is written; `out` gains the whole report with `Done`, a first part
 /// of it with `WriteFault`, and else nothing.
-pub fn simulate<F: Files, O: Sink, E: Sink>(
+pub fn simulate_gated<R: Threads + Sync, F: Files, O: Sink, E: Sink, G: Gate>(
+    rt: &R,
     alloc: Global,
     words: &[&str],
     files: &mut F,
     out: &mut O,
     err: &mut E,
+    gate: &G,
 ) -> Outcome
     // A finished run has written exactly the report of the event list, and a run ends otherwise only with the fault
     // that the definitions give, or with a fault of a device or want of memory.
@@ -275,17 +314,23 @@ pub fn simulate<F: Files, O: Sink, E: Sink>(
             return outcome;
         }
     };
+    let crew = Crew {
+        rt,
+        workers: settings.workers as u32,
+        block: settings.block as u32,
+        gate,
+    };
     let (model, trace) = match settings.input {
         Input::Named { model, trace } => (model, trace),
         Input::Made(number) => {
-            let outcome = run_made(alloc, number, settings.jobs, out);
+            let outcome = run_made(alloc, &crew, number, settings.jobs, out);
             put_line(err, &[], &outcome);
             return outcome;
         }
     };
     match accept_model(alloc, model, files) {
         Ok(plan) => {
-            let outcome = run_trace(alloc, &plan, trace, settings.jobs, files, out);
+            let outcome = run_trace(alloc, &crew, &plan, trace, settings.jobs, files, out);
             put_line(err, name_of(&plan.net, &outcome), &outcome);
             outcome
         }
@@ -294,4 +339,64 @@ pub fn simulate<F: Files, O: Sink, E: Sink>(
             outcome
         }
     }
+}
+
+/// `simulate_gated` with the gate that does nothing.
+pub fn simulate<R: Threads + Sync, F: Files, O: Sink, E: Sink>(
+    rt: &R,
+    alloc: Global,
+    words: &[&str],
+    files: &mut F,
+    out: &mut O,
+    err: &mut E,
+) -> Outcome
+    // A finished run has written exactly the report of the event list, and a run ends otherwise only with the fault
+    // that the definitions give, or with a fault of a device or want of memory.
+    ensures ends { (m t model trace : List ℕ) → Names (texts words.now) m t → F.told files.old m ≡ Some model → F.told files.old t ≡ Some trace →
+        Ends (answer model trace (jobs_asked (texts words.now))) result (takings O.taken O.sure out.old out.new) }
+
+    // The words are refused exactly so, and a model is refused whatever is told of the trace.
+    ensures usage { (fault : UsageFault) → result ≡ Outcome.Usage fault → usage_fault (texts words.now) ≡ Some fault }
+    ensures usage_comes { (fault : UsageFault) → usage_fault (texts words.now) ≡ Some fault → (result ≡ Outcome.Usage fault) ⊎ (result ≡ Outcome.Memory) }
+    ensures words { IsTrue (refuses_words (texts words.now)) → result ≡ Outcome.Usage UsageFault.Words }
+    ensures model { (m t model : List ℕ) (fault : ModelFault) → Names (texts words.now) m t → F.told files.old m ≡ Some model → model_fault model ≡ Some fault →
+        RefusesModel result (Some model) }
+    ensures model_only { (m t model : List ℕ) (fault : ModelFault) → Names (texts words.now) m t → F.told files.old m ≡ Some model → result ≡ Outcome.Model fault → model_fault model ≡ Some fault }
+    ensures never { (result ≢ Outcome.Model ModelFault.Memory) × (result ≢ Outcome.Trace TraceFault.Memory) }
+
+    // A fault of a device is counted, and a counted fault is answered.
+    ensures first { result ≡ Outcome.ReadFault false → FailedAt 1 (F.reads files.old) (F.reads files.new) (F.faults files.new) × Rose (F.faults files.old) (F.faults files.new) }
+    ensures second { result ≡ Outcome.ReadFault true → FailedAt 2 (F.reads files.old) (F.reads files.new) (F.faults files.new) × Rose (F.faults files.old) (F.faults files.new) }
+    ensures reads { asks_made (texts words.now) ≡ false → Reads result (F.reads files.old) (F.reads files.new) }
+    ensures first_name { (m t : List ℕ) → Names (texts words.now) m t → F.is_sure files.old m ≡ true → F.faults files.old < 2 ^ 64 - 1 → result ≢ Outcome.ReadFault false }
+    ensures second_name { (m t : List ℕ) → Names (texts words.now) m t → F.is_sure files.old t ≡ true → F.faults files.old < 2 ^ 64 - 1 → result ≢ Outcome.ReadFault true }
+    ensures unread { (fault : UsageFault) → usage_fault (texts words.now) ≡ Some fault → files.new ≡ files.old }
+    ensures sure_names { (m t : List ℕ) → Names (texts words.now) m t → F.is_sure files.old m ≡ true → F.is_sure files.old t ≡ true → F.faults files.new ≡ F.faults files.old }
+    ensures files_quiet { (result ≡ Outcome.ReadFault false) ⊎ ((result ≡ Outcome.ReadFault true) ⊎ (F.faults files.new ≡ F.faults files.old)) }
+    ensures files_later { F.faults files.old ≤ F.faults files.new }
+    ensures same_told { (n : List ℕ) → F.told files.new n ≡ F.told files.old n }
+    ensures same_sure { (n : List ℕ) → F.is_sure files.new n ≡ F.is_sure files.old n }
+    ensures out_later { O.faults out.old ≤ O.faults out.new }
+    ensures write { result ≡ Outcome.WriteFault → Rose (O.faults out.old) (O.faults out.new) }
+    ensures out_quiet { (result ≡ Outcome.WriteFault) ⊎ (O.faults out.new ≡ O.faults out.old) }
+    ensures sure { (m t model trace text : List ℕ) → Names (texts words.now) m t → F.told files.old m ≡ Some model → F.told files.old t ≡ Some trace → answer model trace (jobs_asked (texts words.now)) ≡ Reported text →
+        length text ≤ O.sure out.old → O.faults out.new ≡ O.faults out.old }
+
+    // With `--made` no file is read. A made input is accepted, so that its run ends with its report, or with a fault of
+    // the output or want of memory.
+    ensures made { (number : ℕ) → Makes (texts words.now) number →
+        Ends (answer (made_model number) (made_trace number) (jobs_asked (texts words.now))) result (takings O.taken O.sure out.old out.new) }
+    ensures made_accepted { (number : ℕ) → Makes (texts words.now) number → IsOfMade result }
+    ensures made_unread { asks_made (texts words.now) ≡ true → files.new ≡ files.old }
+    ensures made_sure { (number : ℕ) (text : List ℕ) → Makes (texts words.now) number → answer (made_model number) (made_trace number) (jobs_asked (texts words.now)) ≡ Reported text →
+        length text ≤ O.sure out.old → O.faults out.new ≡ O.faults out.old }
+    ensures made_line { (number : ℕ) → Makes (texts words.now) number → PutsLine E.taken E.sure E.faults err.old err.new (line_text [] result) }
+
+    // What the two outputs gain.
+    ensures untouched { Untouched result out.old out.new }
+    ensures line { (name : List ℕ) × PutsLine E.taken E.sure E.faults err.old err.new (line_text name result) }
+    ensures named { (m t model : List ℕ) → Names (texts words.now) m t → F.told files.old m ≡ Some model →
+        PutsLine E.taken E.sure E.faults err.old err.new (line_text (name_of_outcome (network_in model) result) result) }
+{
+    simulate_gated(rt, alloc, words, files, out, err, &Open)
 }

@@ -4,11 +4,14 @@ use mq_engine::PastFault;
 use mq_model::ModelFault;
 use mq_trace::TraceFault;
 use std::alloc::Global;
+use std::marker::Sync;
 use std::test::Fail;
+use std::thread::Threads;
 
 mod cuts;
 mod devices;
 mod faults;
+mod gates;
 mod limits;
 mod made;
 mod networks;
@@ -43,7 +46,8 @@ fn files_of(
 }
 
 // The call with these words over these two files.
-fn ran_with(
+fn ran_with<R: Threads + Sync>(
+    rt: &R,
     alloc: Global,
     words: &[&str],
     model: &[u8],
@@ -52,11 +56,16 @@ fn ran_with(
     let mut files = files_of(alloc, model, trace, &[])?;
     let mut out = MemSink::new(alloc, 65_536, Vec::new(alloc));
     let mut err = MemSink::new(alloc, 65_536, Vec::new(alloc));
-    let outcome = simulate(alloc, words, &mut files, &mut out, &mut err);
+    let outcome = simulate(rt, alloc, words, &mut files, &mut out, &mut err);
     Ok(Answered { outcome, out, err })
 }
 
 // The call over these two files, with no options.
-fn ran(alloc: Global, model: &[u8], trace: &[u8]) -> Result<Answered, OutOfMemory> {
-    ran_with(alloc, &["m", "t"], model, trace)
+fn ran<R: Threads + Sync>(
+    rt: &R,
+    alloc: Global,
+    model: &[u8],
+    trace: &[u8],
+) -> Result<Answered, OutOfMemory> {
+    ran_with(rt, alloc, &["m", "t"], model, trace)
 }

@@ -1,5 +1,9 @@
-use Rattle.mq_engine.proofs.Rounds.{Reached}
+use Rattle.std.proofs.Common.{count_by}
+use Rattle.mq_engine.specs.Progress.{IsReached, is_waiting}
 use Rattle.mq_engine.proofs.run.Given as goal
 
-abbrev pub invariant-loop-rank : goal.invariant-loop-rank
-invariant-loop-rank l = Reached l.plan l.rows l.visits.items l.outputs.items l.rank
+abbrev pub invariant-rounds : goal.invariant-rounds
+invariant-rounds g l = IsReached l.plan l.rows l.progress.visits.items l.progress.outputs.items l.progress.stands.items
+
+abbrev pub decreases-rounds : goal.decreases-rounds
+decreases-rounds g l = count_by is_waiting l.progress.stands.items

@@ -84,7 +84,7 @@ const CUTS: [(usize, usize, Outcome, &[u8]); 13] = [
 fn each_cut_of_a_model_has_its_outcome(rt: HostRuntime) -> Result<(), Fail> {
     for (least, most, outcome, report) in CUTS {
         for length in least..=most {
-            let ran = ran(rt.alloc(), &DESK[..length], ORDINARY)?;
+            let ran = ran(&rt, rt.alloc(), &DESK[..length], ORDINARY)?;
             assert_eq!(rt; ran.outcome, outcome);
             assert_eq!(rt; ran.out.bytes(), report);
         }

@@ -26,12 +26,12 @@ fn puts_of(bytes: &[u8]) -> u64 {
 #[test]
 fn each_put_on_the_output_fails_in_turn(rt: HostRuntime) -> Result<(), Fail> {
     let alloc = rt.alloc();
-    let ran = ran(alloc, CALL_CENTRE, CALLS)?;
+    let ran = ran(&rt, alloc, CALL_CENTRE, CALLS)?;
     let report = ran.out.bytes();
     for put in 1..=puts_of(report) {
         let mut files = files_of(alloc, CALL_CENTRE, CALLS, &[])?;
         let (mut out, mut err) = (failing_at(alloc, put)?, failing_at(alloc, 0)?);
-        let outcome = simulate(alloc, &["m", "t"], &mut files, &mut out, &mut err);
+        let outcome = simulate(&rt, alloc, &["m", "t"], &mut files, &mut out, &mut err);
         assert_eq!(rt; outcome, Outcome::WriteFault);
         assert_eq!(rt;
             out.bytes().len(),
@@ -56,7 +56,7 @@ fn an_error_output_that_fails_changes_no_outcome(rt: HostRuntime) -> Result<(), 
         for put in 0..=length.div_ceil(MOST) {
             let mut files = files_of(alloc, model, CALLS, &[])?;
             let (mut out, mut err) = (failing_at(alloc, 0)?, failing_at(alloc, put as u64)?);
-            let outcome = simulate(alloc, words, &mut files, &mut out, &mut err);
+            let outcome = simulate(&rt, alloc, words, &mut files, &mut out, &mut err);
             assert_eq!(rt; outcome.status(), status);
             assert_eq!(rt; err.faults(), put.min(1) as u64);
             assert!(rt; out.bytes().is_empty());

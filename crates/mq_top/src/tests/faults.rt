@@ -101,7 +101,7 @@ const REFUSALS: [(&[u8], &[u8], Outcome, u8, &[u8]); 10] = [
 #[test]
 fn refusals_have_their_lines(rt: HostRuntime) -> Result<(), Fail> {
     for (model, trace, outcome, status, line) in REFUSALS {
-        let ran = ran(rt.alloc(), model, trace)?;
+        let ran = ran(&rt, rt.alloc(), model, trace)?;
         assert_eq!(rt; ran.outcome, outcome);
         assert_eq!(rt; ran.outcome.status(), status);
         assert_eq!(rt; ran.err.bytes(), line);
@@ -120,7 +120,7 @@ fn reads_that_fail_are_named(rt: HostRuntime) -> Result<(), Fail> {
         let mut files = files_of(alloc, DESK, ORDINARY, &[failing])?;
         let mut out = MemSink::new(alloc, 64, Vec::new(alloc));
         let mut err = MemSink::new(alloc, 64, Vec::new(alloc));
-        let outcome = simulate(alloc, &["m", "t"], &mut files, &mut out, &mut err);
+        let outcome = simulate(&rt, alloc, &["m", "t"], &mut files, &mut out, &mut err);
         assert_eq!(rt; outcome, Outcome::ReadFault { second });
         assert_eq!(rt; outcome.status(), 6);
         assert_eq!(rt; err.bytes(), line);
@@ -135,7 +135,7 @@ fn a_refused_model_leaves_the_trace_unread(rt: HostRuntime) -> Result<(), Fail> 
     let mut files = files_of(alloc, b"model 2\n", ORDINARY, &[])?;
     let mut out = MemSink::new(alloc, 64, Vec::new(alloc));
     let mut err = MemSink::new(alloc, 64, Vec::new(alloc));
-    let outcome = simulate(alloc, &["m", "absent"], &mut files, &mut out, &mut err);
+    let outcome = simulate(&rt, alloc, &["m", "absent"], &mut files, &mut out, &mut err);
     assert_eq!(rt; outcome, Outcome::Model(ModelFault::BadHead { line: 1 }));
     Ok(())
 }
@@ -149,7 +149,7 @@ fn an_output_that_fails_has_a_first_part(rt: HostRuntime) -> Result<(), Fail> {
     let mut out = MemSink::new(alloc, 16, failing);
     out.reserve(1024)?;
     let mut err = MemSink::new(alloc, 64, Vec::new(alloc));
-    let outcome = simulate(alloc, &["m", "t"], &mut files, &mut out, &mut err);
+    let outcome = simulate(&rt, alloc, &["m", "t"], &mut files, &mut out, &mut err);
     assert_eq!(rt; outcome, Outcome::WriteFault);
     assert_eq!(rt; outcome.status(), 7);
     assert!(rt; !out.bytes().is_empty() && out.bytes().len() <= 16);

@@ -54,7 +54,7 @@ fn a_model_has_at_most_65536_bytes(rt: HostRuntime) -> Result<(), Fail> {
     ] {
         let model = commented(alloc, length)?;
         assert_eq!(rt; model.len(), length);
-        assert_eq!(rt; ran(alloc, &model, b"source,time\n")?.outcome, outcome);
+        assert_eq!(rt; ran(&rt, alloc, &model, b"source,time\n")?.outcome, outcome);
     }
     Ok(())
 }
@@ -74,7 +74,7 @@ fn a_model_has_at_most_64_nodes(rt: HostRuntime) -> Result<(), Fail> {
             )?.as_bytes())?;
         }
         assert_eq!(rt;
-            ran(alloc, &model, b"source,time\nq0,0\n")?.outcome,
+            ran(&rt, alloc, &model, b"source,time\nq0,0\n")?.outcome,
             outcome
         );
     }
@@ -90,7 +90,7 @@ fn a_model_and_a_trace_have_at_most_16_columns(rt: HostRuntime) -> Result<(), Fa
         (16, 17, Outcome::Trace(TraceFault::BadHeader { field: 19 })),
     ] {
         let (model, trace) = (servers(alloc, named)?, header(alloc, columns)?);
-        assert_eq!(rt; ran(alloc, &model, &trace)?.outcome, outcome);
+        assert_eq!(rt; ran(&rt, alloc, &model, &trace)?.outcome, outcome);
     }
     Ok(())
 }
@@ -103,7 +103,7 @@ fn a_trace_has_at_most_1048576_records(rt: HostRuntime) -> Result<(), Fail> {
         (1_048_577, Outcome::Trace(TraceFault::TooManyRows)),
     ] {
         let trace = filled(alloc, b"source,time\n", b"s,0\n", records)?;
-        assert_eq!(rt; ran(alloc, SOURCE, &trace)?.outcome, outcome);
+        assert_eq!(rt; ran(&rt, alloc, SOURCE, &trace)?.outcome, outcome);
     }
     Ok(())
 }
@@ -112,7 +112,7 @@ fn a_trace_has_at_most_1048576_records(rt: HostRuntime) -> Result<(), Fail> {
 fn a_trace_has_at_most_134217728_bytes(rt: HostRuntime) -> Result<(), Fail> {
     let alloc = rt.alloc();
     let trace = vec![in alloc; b'\n'; 134_217_729]?;
-    let ran = ran(alloc, SOURCE, &trace)?;
+    let ran = ran(&rt, alloc, SOURCE, &trace)?;
     assert_eq!(rt; ran.outcome, Outcome::Trace(TraceFault::TooLong));
     Ok(())
 }

@@ -11,6 +11,7 @@ fn a_made_input_is_run_without_a_read(rt: HostRuntime) -> Result<(), Fail> {
     let alloc = rt.alloc();
     let input = made(alloc, 7)?;
     let plain = ran_with(
+        &rt,
         alloc,
         &["m", "t"],
         input.model.as_slice(),
@@ -23,7 +24,7 @@ fn a_made_input_is_run_without_a_read(rt: HostRuntime) -> Result<(), Fail> {
             let mut files = files_of(alloc, b"", b"", &[1])?;
             let mut out = MemSink::new(alloc, 65_536, Vec::new(alloc));
             let mut err = MemSink::new(alloc, 65_536, Vec::new(alloc));
-            let outcome = simulate(alloc, &words, &mut files, &mut out, &mut err);
+            let outcome = simulate(&rt, alloc, &words, &mut files, &mut out, &mut err);
             assert_eq!(rt; outcome, Outcome::Done);
             assert_eq!(rt; out.bytes(), plain.out.bytes());
             assert!(rt; err.bytes().is_empty());

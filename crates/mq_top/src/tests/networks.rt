@@ -132,7 +132,7 @@ const REPORTS: [(&[u8], &[u8], &[u8]); 13] = [
 #[test]
 fn models_and_traces_give_their_reports(rt: HostRuntime) -> Result<(), Fail> {
     for (model, trace, report) in REPORTS {
-        let ran = ran(rt.alloc(), model, trace)?;
+        let ran = ran(&rt, rt.alloc(), model, trace)?;
         assert_eq!(rt; ran.outcome, Outcome::Done);
         assert_eq!(rt; ran.out.bytes(), report);
         assert!(rt; ran.err.bytes().is_empty());

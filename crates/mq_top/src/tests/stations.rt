@@ -103,7 +103,7 @@ const REPORTS: [(&[u8], &[u8], &[u8]); 8] = [
 #[test]
 fn stations_give_their_reports(rt: HostRuntime) -> Result<(), Fail> {
     for (model, trace, report) in REPORTS {
-        let ran = ran(rt.alloc(), model, trace)?;
+        let ran = ran(&rt, rt.alloc(), model, trace)?;
         assert_eq!(rt; ran.outcome, Outcome::Done);
         assert_eq!(rt; ran.outcome.status(), 0);
         assert_eq!(rt; ran.out.bytes(), report);
@@ -142,6 +142,7 @@ fn half_of_an_overload_is_lost(rt: HostRuntime) -> Result<(), Fail> {
     let alloc = rt.alloc();
     let trace = each_tick(alloc, 200_000)?;
     let ran = ran(
+        &rt,
         alloc,
         b"model 1\nsource src\nloss l 1 =2 from src\n",
         trace.bytes(),

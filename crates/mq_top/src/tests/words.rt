@@ -76,7 +76,7 @@ fn words_are_refused_before_a_read(rt: HostRuntime) -> Result<(), Fail> {
         let mut files = files_of(alloc, DESK, ORDINARY, &[1])?;
         let mut out = MemSink::new(alloc, 64, Vec::new(alloc));
         let mut err = MemSink::new(alloc, 256, Vec::new(alloc));
-        let outcome = simulate(alloc, words, &mut files, &mut out, &mut err);
+        let outcome = simulate(&rt, alloc, words, &mut files, &mut out, &mut err);
         assert_eq!(rt; outcome, Outcome::Usage(fault));
         assert_eq!(rt; outcome.status(), 2);
         assert_eq!(rt; err.bytes(), line);
@@ -105,7 +105,7 @@ fn a_made_input_is_asked_for_by_its_number(rt: HostRuntime) -> Result<(), Fail> 
 #[test]
 fn workers_and_block_change_nothing(rt: HostRuntime) -> Result<(), Fail> {
     let alloc = rt.alloc();
-    let plain = ran(alloc, DESK, ORDINARY)?;
+    let plain = ran(&rt, alloc, DESK, ORDINARY)?;
     let lists: [&[&str]; 4] = [
         &["--workers", "1", "m", "t"],
         &["m", "--workers", "064", "t"],
@@ -113,7 +113,7 @@ fn workers_and_block_change_nothing(rt: HostRuntime) -> Result<(), Fail> {
         &["--block", "65536", "m", "--workers", "2", "t"],
     ];
     for words in lists {
-        let ran = ran_with(alloc, words, DESK, ORDINARY)?;
+        let ran = ran_with(&rt, alloc, words, DESK, ORDINARY)?;
         assert_eq!(rt; ran.outcome, Outcome::Done);
         assert_eq!(rt; ran.out.bytes(), plain.out.bytes());
         assert!(rt; ran.err.bytes().is_empty());
@@ -227,8 +227,8 @@ const JOBS: [(&[u8], &[u8], &[u8]); 10] = [
 fn job_lines_follow_the_report(rt: HostRuntime) -> Result<(), Fail> {
     let alloc = rt.alloc();
     for (model, trace, lines) in JOBS {
-        let plain = ran(alloc, model, trace)?;
-        let ran = ran_with(alloc, &["m", "--jobs", "t"], model, trace)?;
+        let plain = ran(&rt, alloc, model, trace)?;
+        let ran = ran_with(&rt, alloc, &["m", "--jobs", "t"], model, trace)?;
         assert_eq!(rt; ran.outcome, Outcome::Done);
         assert_eq!(rt;
             ran.out.bytes().strip_prefix(plain.out.bytes()),

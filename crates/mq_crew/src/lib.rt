@@ -1,0 +1,16 @@
+//! Workers that draw the numbers of pieces and make the pieces.
+#![tactic(auto)]
+
+mod crew;
+mod gate;
+mod parts;
+mod pieces;
+mod place;
+
+pub use crew::run_pieces;
+pub use gate::{Gate, Open};
+pub use parts::{made, run_parts};
+pub use pieces::Pieces;
+
+#[cfg(test)]
+mod tests;

@@ -1,0 +1,128 @@
+// Pieces of several kinds or stations, as one list.
+ghost use Rattle.std.specs.Prelude.{◌≡◌, ◌<◌, ◌≤◌, ◌^◌, drop, length, take, IfOk, OnOk};
+ghost use Rattle.std.specs.List.{AllByRecursion};
+ghost use Rattle.std.specs.Vec.Iter.{into_iter_items, into_iter_len};
+ghost use Rattle.mq_crew.specs.Crew.{AreAll, AreGroups, IsPieceOf, all_places};
+
+use crate::{Gate, Pieces, run_pieces};
+use mq_base::{List, OutOfMemory};
+use std::alloc::Global;
+use std::thread::Threads;
+use std::vec::IntoIter;
+
+// The pieces of each of these, one after another.
+#[derive(Clone, Copy)]
+struct Parts<'a, P> {
+    parts: &'a [P],
+}
+
+impl<'a, P: Pieces> Pieces for Parts<'a, P> {
+    type Piece = P::Piece;
+
+    ghost fit = { λ s. AllByRecursion P.fit s.parts.now × (all_places P.places s.parts.now < 2 ^ 32) };
+
+    ghost places = { λ s. all_places P.places s.parts.now };
+
+    ghost is_piece = { λ s b piece. IsPieceOf P.places P.is_piece s.parts.now b piece };
+
+    fn count(&self) -> u32 {
+        let mut count = 0;
+        'parts: for part in self.parts {
+            count += part.count();
+        }
+        count
+    }
+
+    fn piece(&self, alloc: Global, b: u32) -> Result<P::Piece, OutOfMemory> {
+        let mut at = b;
+        'parts: for part in self.parts {
+            let count = part.count();
+            if at < count {
+                return part.piece(alloc, at);
+            }
+            at -= count;
+        }
+        unreachable!()
+    }
+}
+
+/// Makes all pieces of each of these, by workers that draw their numbers from one list: the places
+/// of the first come first, and those of the others follow.
+pub fn run_parts<P: Pieces, G: Gate, R: Threads + Sync>(
+    rt: &R,
+    alloc: Global,
+    workers: u32,
+    parts: &[P],
+    gate: &G,
+) -> Result<List<List<P::Piece>>, OutOfMemory>
+    requires fit { AllByRecursion P.fit parts.now }
+    requires few { all_places P.places parts.now < 2 ^ 32 }
+    requires some { 1 ≤ workers }
+    requires most { workers ≤ 64 }
+    ensures { IfOk result (λ groups. AreGroups P.places P.is_piece parts.now groups) }
+{
+    let made = made(rt, alloc, workers, &Parts { parts }, gate)?;
+    grouped(alloc, parts, made)
+}
+
+/// All pieces, by workers that draw their numbers; one alone is made at once, and enters no gate.
+pub fn made<P: Pieces, G: Gate, R: Threads + Sync>(
+    rt: &R,
+    alloc: Global,
+    workers: u32,
+    pieces: &P,
+    gate: &G,
+) -> Result<List<P::Piece>, OutOfMemory>
+    requires fit { P.fit pieces.now }
+    requires some { 1 ≤ workers }
+    requires most { workers ≤ 64 }
+    ensures { IfOk result (λ made. AreAll (P.is_piece pieces.now) (P.places pieces.now) made) }
+{
+    if pieces.count() != 1 {
+        return run_pieces(rt, alloc, workers, pieces, gate);
+    }
+    let mut made = List::new(alloc);
+    made.push(pieces.piece(alloc, 0)?)?;
+    Ok(made)
+}
+
+// The pieces of each of these, in its own list.
+fn grouped<P: Pieces>(
+    alloc: Global,
+    parts: &[P],
+    made: List<P::Piece>,
+) -> Result<List<List<P::Piece>>, OutOfMemory>
+    requires fit { AllByRecursion P.fit parts.now }
+    requires all { AreAll (IsPieceOf P.places P.is_piece parts.now) (all_places P.places parts.now) made }
+    ensures { IfOk result (λ groups. AreGroups P.places P.is_piece parts.now groups) }
+{
+    let mut left = made.into_vec().into_iter();
+    let mut groups = List::new(alloc);
+    'parts: for part in parts {
+        let group = taken(alloc, part.count(), &mut left)?;
+        groups.push(group)?;
+    }
+    Ok(groups)
+}
+
+// The first items of these, as many as this.
+fn taken<T: Drop>(
+    alloc: Global,
+    count: u32,
+    left: &mut IntoIter<T, Global>,
+) -> Result<List<T>, OutOfMemory>
+    requires len { into_iter_len left.old ≡ length (into_iter_items left.old) }
+    requires room { count ≤ length (into_iter_items left.old) }
+    ensures first { IfOk result (λ group. group ≡ take count (into_iter_items left.old)) }
+    ensures rest { OnOk result (into_iter_items left.new ≡ drop count (into_iter_items left.old)) }
+    ensures len { OnOk result (into_iter_len left.new ≡ length (into_iter_items left.new)) }
+{
+    let mut group = Vec::with_capacity(alloc, count as usize)?;
+    'takes: for _ in 0..count {
+        let Some(item) = left.next() else {
+            unreachable!()
+        };
+        group.push_reserved(item);
+    }
+    Ok(List::from_vec(group))
+}

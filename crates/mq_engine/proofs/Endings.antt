@@ -1,0 +1,91 @@
+-- The end of the rounds: where no node is ready any more, each is done, or the first by rank that is not has a late visit.
+use Rattle.std.proofs.Common.{◌≡◌, ℕ, zero, suc, ◌+◌, ◌<◌, ◌≤◌, ◌⊎◌, inl, inr, Bool, true, List, [], ◌∷◌, length, take, Some, None, refl, sym, ap, ◌∙◌, subst, arith}
+use Rattle.std.specs.Prelude.{◌&&◌, filter, slice_get}
+use Rattle.std.specs.Option.{option_map}
+use Rattle.std.specs.List.{list_all}
+use Rattle.std.proofs.lemmas.Bool.{cases_lt}
+use Rattle.std.proofs.lemmas.Option.{slice_get-map, slice_get_within}
+use Rattle.mq_base.proofs.Lists.{some_inj}
+use Rattle.mq_core.specs.Columns.{IsRunOf}
+use Rattle.mq_core.specs.NumberLaws.{IsOnTimeBelow}
+use Rattle.mq_core.specs.Results.{past_of}
+use Rattle.mq_core.specs.Theorems.{IsReadFor}
+use Rattle.mq_core.specs.Wiring.{outputs_read}
+use Rattle.mq_core.specs.declared.model.Input.{Input}
+use Rattle.mq_core.specs.declared.model.Plan.{Plan}
+use Rattle.mq_core.specs.declared.model.Rows.{Rows}
+use Rattle.mq_core.specs.declared.model.Stream.{Stream}
+use Rattle.mq_core.specs.declared.model.Visits.{Visits}
+use Rattle.mq_engine.specs.Answer.{late_told}
+use Rattle.mq_engine.specs.CoreLaws.{CoreLaws}
+use Rattle.mq_engine.specs.Progress.{AreWithin, IsReached, is_done, is_read, is_ready, is_waiting, reads_done, stands_at}
+use Rattle.mq_engine.specs.declared.fault.PastFault.{PastFault}
+use Rattle.mq_engine.specs.declared.progress.Stand.{Stand}
+use Rattle.mq_engine.specs.declared.progress.Stand.TheVariants.{Waiting, Done, Late}
+use Rattle.mq_engine.proofs.Lists.{filter-none, get-take, has-place}
+
+get-some : {X : Type 0} (xs : List X) (i : ℕ) → i < length xs → (x : X) × (slice_get xs i ≡ Some x)
+get-some [] i l = absurd (omega arith)
+get-some (x ∷ xs) zero l = (x, refl)
+get-some (x ∷ xs) (suc i) l = get-some xs i (omega arith)
+
+all-pass : {X : Type 0} (test : X → Bool) (xs : List X) → ((k : ℕ) (x : X) → slice_get xs k ≡ Some x → test x ≡ true) → list_all test xs ≡ true
+all-pass test [] h = refl
+all-pass test (x ∷ xs) h = (λ k. h 0 x refl k && all-pass test xs (λ j y e. h (suc j) y e) k)
+
+-- a plan names nodes of its network alone
+pub within : (laws : CoreLaws) (plan : Plan) → AreWithin plan.net.nodes plan.order
+within laws plan = record {
+  ranked = λ rank v e. (laws.ranks plan rank v e).inside;
+  reads = λ v port node input e g.
+      let named = (laws.limits plan v node e).reads port input g in
+      slice_get_within plan.net.nodes input.node named.node named.there;
+}
+
+module _ (laws : CoreLaws) (plan : Plan) (rows : Rows) (read : IsReadFor plan.net rows) (visits : List Visits) (outputs : List (List Stream)) (stands : List Stand) (r : IsReached plan rows visits outputs stands) where
+  pub rank-inside : (rank v : ℕ) → slice_get plan.order rank ≡ Some v → v < length stands
+  rank-inside rank v e = subst (λ n. v < n) (sym r.stand) (laws.ranks plan rank v e).inside
+
+  on-time-below : (rank : ℕ) → ((q v : ℕ) → q < rank → slice_get plan.order q ≡ Some v → slice_get stands v ≡ Some Done) → IsOnTimeBelow plan rows rank
+  on-time-below rank below = λ q v node l e there. (r.told v node Done there (below q v l e)).1
+
+  -- the next that is not done has the first late visit
+  pub late-is-first : (rank v : ℕ) (fault : PastFault) → ((q w : ℕ) → q < rank → slice_get plan.order q ≡ Some w → slice_get stands w ≡ Some Done) → slice_get plan.order rank ≡ Some v → slice_get stands v ≡ Some (Late fault) → past_of plan rows ≡ Some (late_told fault)
+  late-is-first rank v fault below e at =
+      let node = get-some plan.net.nodes v (laws.ranks plan rank v e).inside in
+      laws.first plan rows read rank v node.0 (late_told fault) e node.1 (on-time-below rank below) (r.told v node.0 (Late fault) node.1 at)
+
+  -- it does not wait, since all that it reads is done
+  pub none-waits : (rank v : ℕ) → ((q w : ℕ) → q < rank → slice_get plan.order q ≡ Some w → slice_get stands w ≡ Some Done) → slice_get plan.order rank ≡ Some v → slice_get stands v ≡ Some Waiting → filter (is_ready plan.net.nodes stands) plan.order ≡ [] → ⊥
+  none-waits rank v below e at stuck =
+      let node = get-some plan.net.nodes v (laws.ranks plan rank v e).inside in
+      let reads : list_all (is_read stands) node.0.inputs ≡ true = all-pass (is_read stands) node.0.inputs (λ port input g.
+      let before = (laws.ranks plan rank v e).reads port (input.node, input.out) (ap (λ o. slice_get (outputs_read o) port) node.1 ∙ (slice_get-map _ node.0.inputs port ∙ ap (option_map (λ (i : Input). (i.node, i.out))) g)) in
+      let place = has-place (take rank plan.order) input.node before in
+      let front = get-take plan.order rank place.0 input.node place.1 in
+      ap (stands_at is_done) (below place.0 input.node front.0 front.1)) in
+      let ready : is_ready plan.net.nodes stands v ≡ true = (λ k. stands_at is_waiting (at k) && reads_done stands (node.1 k)) ∙ reads in
+      let fails = filter-none (is_ready plan.net.nodes stands) plan.order rank v stuck e in
+      absurd cc
+
+  pub done-more : (rank v : ℕ) → ((q w : ℕ) → q < rank → slice_get plan.order q ≡ Some w → slice_get stands w ≡ Some Done) → slice_get plan.order rank ≡ Some v → slice_get stands v ≡ Some Done → (q w : ℕ) → q < rank + 1 → slice_get plan.order q ≡ Some w → slice_get stands w ≡ Some Done
+  done-more rank v below e at q w l g = go (cases_lt q rank)
+    where
+      go : (q < rank) ⊎ (rank ≤ q) → slice_get stands w ≡ Some Done
+      go (inl less) = below q w less g
+      go (inr more) =
+          let same : q ≡ rank = omega arith in
+          let node : v ≡ w = some_inj _ _ (sym e ∙ (ap (slice_get plan.order) (sym same) ∙ g)) in
+          ap (slice_get stands) (sym node) ∙ at
+
+  -- all are done
+  module _ (all : (q v : ℕ) → q < length plan.order → slice_get plan.order q ≡ Some v → slice_get stands v ≡ Some Done) where
+    pub run-done : IsRunOf plan rows (record { visits = visits; outputs = outputs })
+    run-done =
+        laws.runs plan rows (record { visits = visits; outputs = outputs }) r.came r.left
+        (λ v node e.
+        let place = has-place plan.order v (plan.whole v (slice_get_within plan.net.nodes v node e)) in
+        (r.told v node Done e (all place.0 v (slice_get_within plan.order place.0 v place.1) place.1)).0)
+
+    pub none-late : past_of plan rows ≡ None
+    none-late = laws.none plan rows read (on-time-below (length plan.order) all)

@@ -1,0 +1,198 @@
+-- Stations and their groups of pieces, taken from the back.
+use Rattle.std.proofs.Common.{◌≡◌, ℕ, zero, suc, ◌+◌, ◌*◌, ◌^◌, ◌<◌, ◌≤◌, ◌⊎◌, inl, inr, Option, None, get_or, List, [], ◌∷◌, ◌++◌, length, Some, sym, refl, ap, ◌∙◌, subst, arith, length-append}
+use Rattle.std.specs.Prelude.{Contains, slice_get}
+use Rattle.std.specs.List.{AllByRecursion}
+use Rattle.mq_core.proofs.Lists.Each.{Each-append, Each-back, Each-front, Each-weaker}
+use Rattle.mq_core.specs.Theorems.{IsReadFor}
+use Rattle.mq_core.specs.declared.model.Kind.{Kind}
+use Rattle.mq_core.specs.declared.model.Plan.{Plan}
+use Rattle.mq_core.specs.declared.model.Rows.{Rows}
+use Rattle.mq_core.specs.declared.model.Stream.{Stream}
+use Rattle.mq_scan.specs.declared.blocks.Blocks.{Blocks}
+use Rattle.mq_engine.specs.declared.loads.Scan.{Scan}
+use Rattle.mq_engine.proofs.Lists.{Each-at}
+use Rattle.mq_engine.specs.Loads.{IsApplied, IsClosed, IsLoaded, IsLoadOf, IsScanOf, IsPart, IsReadyExit, IsReadyLoad, IsReadyMiddle, IsTurnOf, applied_of, blocks_of, closings_of}
+use Rattle.mq_engine.specs.Progress.{IsWorkedOut}
+use Rattle.mq_engine.specs.declared.exits.Closed.{Closed}
+use Rattle.mq_engine.specs.declared.exits.Exit.{Exit}
+use Rattle.mq_engine.specs.declared.exits.Exit.TheVariants.{Known, Served}
+use Rattle.mq_engine.specs.declared.exits.Leaving.{Leaving}
+use Rattle.mq_engine.specs.declared.firsts.Part.{Part}
+use Rattle.mq_engine.specs.declared.lasts.Middle.{Middle}
+use Rattle.mq_engine.specs.declared.loads.Load.{Load}
+use Rattle.mq_engine.specs.declared.turns.Turn.{Turn}
+use Rattle.std.proofs.lemmas.Option.{get_or_from_slice_get, slice_get_within}
+use Rattle.std.proofs.lemmas.Bool.{cases_lt}
+use Rattle.std.proofs.lemmas.List.{get_or_default}
+use Rattle.std.proofs.Math.Nat.{mul-le-mul_left}
+use Rattle.mq_crew.specs.Crew.{AreAll, AreGroups, all_places}
+
+append-before : {Y : Type 0} (xs : List Y) (y z : Y) (k : ℕ) → slice_get xs k ≡ Some z → slice_get (xs ++ y ∷ []) k ≡ Some z
+append-before [] y z k e = absurd cc
+append-before (x ∷ xs) y z zero e = e
+append-before (x ∷ xs) y z (suc k) e = append-before xs y z k e
+
+append-at : {Y : Type 0} (xs : List Y) (y : Y) (k : ℕ) → k ≡ length xs → slice_get (xs ++ y ∷ []) k ≡ Some y
+append-at [] y zero e = refl
+append-at [] y (suc k) e = absurd (omega arith)
+append-at (x ∷ xs) y zero e = absurd (omega arith)
+append-at (x ∷ xs) y (suc k) e = append-at xs y k (omega arith)
+
+module _ {P X : Type 0} (places : P → ℕ) (is_piece : P → ℕ → X → Type 0) where
+  -- the last station and the last group belong together
+  pub groups-last : (parts : List P) (part : P) (groups : List (List X)) (group : List X) → AreGroups places is_piece (parts ++ part ∷ []) (groups ++ group ∷ []) → AreGroups places is_piece parts groups × AreAll (is_piece part) (places part) group
+  groups-last parts part groups group all =
+      let a = length-append parts (part ∷ []) in
+      let b = length-append groups (group ∷ []) in
+      let len = all.len in
+      let even : length groups ≡ length parts = omega arith in (
+        record {
+          len = even;
+          each = λ i p g e f. all.each i p g (append-before parts part p i e) (append-before groups group g i f);
+        },
+        all.each (length parts) part group (append-at parts part (length parts) refl) (append-at groups group (length parts) (sym even)),
+      )
+
+  -- where there is a station left, there is a group
+  pub groups-some : (parts rest : List P) (part : P) (groups : List (List X)) → parts ≡ rest ++ part ∷ [] → groups ≡ [] → AreGroups places is_piece parts groups → ⊥
+  groups-some parts rest part groups e none all =
+      let a = ap length e ∙ length-append rest (part ∷ []) in
+      let b : length groups ≡ 0 = ap length none in
+      let len = all.len in
+      absurd (omega arith)
+
+  -- what is kept while stations go from one stage to the next, from the back: those left, and what is made of the others
+  module _ {Y : Type 0} (Fit : P → Type 0) (Made : Y → Type 0) (Of : Plan → Rows → List ℕ → P → Type 0) (Becomes : Plan → Rows → List ℕ → Y → Type 0) where
+    pub record ArePassing (all left : List P) (given : List (List X)) (done : List Y) : Type 0 where
+      pub fits : AllByRecursion Fit left
+      pub groups : AreGroups places is_piece left given
+      pub len : length done + length left ≡ length all
+      pub made : AllByRecursion Made done
+      pub of : (plan : Plan) (rows : Rows) (ready : List ℕ) → AllByRecursion (Of plan rows ready) all → AllByRecursion (Of plan rows ready) left × AllByRecursion (Becomes plan rows ready) done
+
+    pub passing-last : (all left rest : List P) (part : P) (given others : List (List X)) (group : List X) (done : List Y) → ArePassing all left given done → left ≡ rest ++ part ∷ [] → given ≡ others ++ group ∷ [] → Fit part × AreAll (is_piece part) (places part) group
+    passing-last all left rest part given others group done was a b = (
+      (Each-back Fit rest (part ∷ []) (subst (AllByRecursion Fit) a was.fits)).0,
+      (groups-last rest part others group (subst (λ (z : List P × List (List X)). AreGroups places is_piece z.0 z.1) (λ k. (a k, b k)) was.groups)).1,
+    )
+
+    pub passing-more : (all left rest : List P) (part : P) (given others : List (List X)) (group : List X) (done done' : List Y) (y : Y) → ArePassing all left given done → left ≡ rest ++ part ∷ [] → given ≡ others ++ group ∷ [] → Made y →
+        ((plan : Plan) (rows : Rows) (ready : List ℕ) → Of plan rows ready part → Becomes plan rows ready y) → done' ≡ done ++ y ∷ [] → ArePassing all rest others done'
+    passing-more all left rest part given others group done done' y was a b made becomes e =
+        record {
+          fits = Each-front Fit rest (part ∷ []) (subst (AllByRecursion Fit) a was.fits);
+          groups = (groups-last rest part others group (subst (λ (z : List P × List (List X)). AreGroups places is_piece z.0 z.1) (λ k. (a k, b k)) was.groups)).0;
+          len =
+              let count = was.len in
+              let more = ap length e in
+              let one = length-append done (y ∷ []) in
+              let less = ap length a in
+              let gone = length-append rest (part ∷ []) in
+              omega arith;
+          made = subst (AllByRecursion Made) (sym e) (Each-append Made done (y ∷ []) was.made (made, tt));
+          of = λ plan rows ready h.
+              let now = was.of plan rows ready h in
+              let here = subst (AllByRecursion (Of plan rows ready)) a now.0 in
+              let own = becomes plan rows ready (Each-back (Of plan rows ready) rest (part ∷ []) here).0 in (
+                Each-front (Of plan rows ready) rest (part ∷ []) here,
+                subst (AllByRecursion (Becomes plan rows ready)) (sym e) (Each-append (Becomes plan rows ready) done (y ∷ []) now.1 (own, tt)),
+              );
+        }
+
+-- the stations of a round, stage by stage
+abbrev pub load_places : Load → ℕ
+load_places load = blocks_of load.scan
+
+abbrev pub load_piece : Load → ℕ → Part → Type 0
+load_piece load b part = IsPart load.plan.now load.rows.now load.number load.arrivals load.scan b part
+
+abbrev pub middle_places : Middle → ℕ
+middle_places m = applied_of m.load.scan
+
+abbrev pub middle_piece : Middle → ℕ → List ℕ → Type 0
+middle_piece m b times = IsApplied m.load.arrivals m.load.scan b times
+
+abbrev pub leaving_places : Leaving → ℕ
+leaving_places l = closings_of l.exit
+
+abbrev pub leaving_piece : Leaving → ℕ → Closed → Type 0
+leaving_piece l b closed = IsClosed l.load.plan.now l.load.rows.now l.load.number l.load.arrivals l.exit closed
+
+abbrev pub IsMiddleOf : Plan → Rows → List ℕ → Middle → Type 0
+IsMiddleOf plan rows ready m = IsLoadOf plan rows ready m.load
+
+abbrev pub IsLeavingOf : Plan → Rows → List ℕ → Leaving → Type 0
+IsLeavingOf plan rows ready l = IsLoadOf plan rows ready l.load
+
+abbrev pub AreMiddling : List Load → List Load → List (List Part) → List Middle → Type 0
+AreMiddling = ArePassing load_places load_piece IsReadyLoad IsReadyMiddle IsLoadOf IsMiddleOf
+
+abbrev pub AreLeaving : List Middle → List Middle → List (List (List ℕ)) → List Leaving → Type 0
+AreLeaving = ArePassing middle_places middle_piece IsReadyMiddle IsReadyExit IsMiddleOf IsLeavingOf
+
+abbrev pub AreEnding : List Leaving → List Leaving → List (List Closed) → List Turn → Type 0
+AreEnding = ArePassing leaving_places leaving_piece IsReadyExit (λ turn. Unit {0}) IsLeavingOf IsTurnOf
+
+pub turn-of : (plan : Plan) (rows : Rows) (ready : List ℕ) (l : Leaving) (turn : Turn) → IsLeavingOf plan rows ready l → turn.number ≡ l.load.number → IsWorkedOut l.load.plan.now l.load.rows.now turn → IsTurnOf plan rows ready turn
+turn-of plan rows ready l turn h number known = (
+  subst (Contains ready) (sym number) h.2,
+  subst (λ (z : Plan × Rows). IsWorkedOut z.0 z.1 turn) (λ k. (h.0 k, h.1 k)) known,
+)
+
+-- what came to the nodes that are ready
+load-known : (plan : Plan) (rows : Rows) (ready : List ℕ) (b : ℕ) (load : Load) → IsReadFor plan.net rows → b < length ready → (load.plan.now ≡ plan) × (load.rows.now ≡ rows) × (load.number ≡ get_or ready b 0) × IsLoaded plan rows load.number load.arrivals load.scan → IsReadyLoad load × IsLoadOf plan rows ready load
+load-known plan rows ready b load read l h = (
+  subst (λ (z : Plan × Rows). IsReadFor z.0.net z.1 × IsLoaded z.0 z.1 load.number load.arrivals load.scan) (λ k. (sym h.0 k, sym h.1 k)) (read, h.3),
+  (h.0, h.1, (b, l, get_or_default ready b load.number 0 l ∙ sym h.2)),
+)
+
+pub loads-known : (plan : Plan) (rows : Rows) (ready : List ℕ) (loads : List Load) → IsReadFor plan.net rows → length loads ≡ length ready →
+    ((b : ℕ) (d : Load) → b < length ready → ((get_or loads b d).plan.now ≡ plan) × ((get_or loads b d).rows.now ≡ rows) × ((get_or loads b d).number ≡ get_or ready b 0) × IsLoaded plan rows (get_or loads b d).number (get_or loads b d).arrivals (get_or loads b d).scan) →
+    AllByRecursion IsReadyLoad loads × AllByRecursion (IsLoadOf plan rows ready) loads
+loads-known plan rows ready loads read e h =
+    let each = λ (k : ℕ) (load : Load) (g : slice_get loads k ≡ Some load).
+    let inside : k < length ready = subst (λ n. k < n) e (slice_get_within loads k load g) in
+    load-known plan rows ready k load read inside (subst (λ (l : Load). (l.plan.now ≡ plan) × (l.rows.now ≡ rows) × (l.number ≡ get_or ready k 0) × IsLoaded plan rows l.number l.arrivals l.scan) (get_or_from_slice_get loads k load load g) (h k load inside)) in
+    (Each-at IsReadyLoad loads (λ k load g. (each k load g).0), Each-at (IsLoadOf plan rows ready) loads (λ k load g. (each k load g).1))
+
+-- a scan has no more blocks than jobs
+blocks-few : (blocks : Blocks) → blocks.blocks ≤ blocks.n
+blocks-few blocks = go (cases_lt blocks.n blocks.blocks)
+  where
+    go : (blocks.n < blocks.blocks) ⊎ (blocks.blocks ≤ blocks.n) → blocks.blocks ≤ blocks.n
+    go (inr few) = few
+    go (inl many) =
+        let some = blocks.some in
+        let more = blocks.none_more in
+        let a : blocks.block * (blocks.n + 1) ≤ blocks.block * blocks.blocks = mul-le-mul_left blocks.block (omega arith) in
+        let b : blocks.n * 1 ≤ blocks.n * blocks.block = mul-le-mul_left blocks.n some in
+        absurd (omega arith)
+
+scan-few : (rows : Rows) (kind : Kind) (arrivals : Stream) (scan : Option Scan) → length arrivals.time ≤ 1048576 → IsScanOf rows kind arrivals scan → (blocks_of scan ≤ 1048576) × (applied_of scan ≤ 1048576)
+scan-few rows kind arrivals None few h = (omega arith, omega arith)
+scan-few rows kind arrivals (Some its) few h = let most = blocks-few its.blocks in let n = h.3 in (omega arith, omega arith)
+
+all-few : {P : Type 0} (places : P → ℕ) (parts : List P) → AllByRecursion (λ p. places p ≤ 1048576) parts → all_places places parts ≤ length parts * 1048576
+all-few places [] h = omega arith
+all-few places (p ∷ ps) h = let first = h.0 in let rest = all-few places ps h.1 in omega arith
+
+pub loads-few : (loads : List Load) → length loads ≤ 64 → AllByRecursion IsReadyLoad loads → all_places load_places loads < 2 ^ 32
+loads-few loads few ready =
+    let most = all-few load_places loads (Each-weaker IsReadyLoad _ (λ load h. (scan-few load.rows.now h.1.node.kind load.arrivals load.scan h.1.load.few h.1.scanned).0) loads ready) in
+    omega arith
+
+pub middles-few : (middles : List Middle) → length middles ≤ 64 → AllByRecursion IsReadyMiddle middles → all_places middle_places middles < 2 ^ 32
+middles-few middles few ready =
+    let most = all-few middle_places middles (Each-weaker IsReadyMiddle _ (λ m h. (scan-few m.load.rows.now h.0.1.node.kind m.load.arrivals m.load.scan h.0.1.load.few h.0.1.scanned).1) middles ready) in
+    omega arith
+
+pub leavings-few : (leavings : List Leaving) → length leavings ≤ 64 → all_places leaving_places leavings < 2 ^ 32
+leavings-few leavings few = let most = all-few leaving_places leavings (each leavings) in omega arith
+  where
+    one : (exit : Exit) → closings_of exit ≤ 1048576
+    one (Known after) = omega arith
+    one (Served departs) = omega arith
+
+    each : (ls : List Leaving) → AllByRecursion (λ l. leaving_places l ≤ 1048576) ls
+    each [] = tt
+    each (l ∷ ls) = (one l.exit, each ls)

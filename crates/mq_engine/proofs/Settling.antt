@@ -1,0 +1,160 @@
+-- What the turns of a round change: which nodes wait, and how many.
+use Rattle.std.proofs.Common.{◌≡◌, ℕ, ◌+◌, ◌<◌, ◌≤◌, ◌⊎◌, inl, inr, Bool, true, false, cond, List, [], ◌∷◌, ◌++◌, length, get_or, set, Option, Some, None, refl, sym, ap, ◌∙◌, subst, arith}
+use Rattle.std.specs.Prelude.{count_by, filter, slice_get}
+use Rattle.std.specs.List.{AllByRecursion as Each}
+use Rattle.std.proofs.lemmas.Bool.{and_parts}
+use Rattle.std.proofs.lemmas.List.{length-set}
+use Rattle.std.proofs.lemmas.List.Sums.{count_by-le-length, length-filter, sum_by-set}
+use Rattle.std.proofs.lemmas.Option.{slice_get-get_or, slice_get_within}
+use Rattle.mq_base.proofs.Lists.{some_inj}
+use Rattle.mq_core.proofs.Lists.Each.{Each-back, Each-front, Each-weaker}
+use Rattle.mq_core.specs.declared.model.Plan.{Plan}
+use Rattle.mq_core.specs.declared.model.Rows.{Rows}
+use Rattle.mq_core.specs.declared.model.Stream.{Stream}
+use Rattle.mq_core.specs.declared.model.Visits.{Visits}
+use Rattle.mq_engine.specs.Loads.{IsTurnOf}
+use Rattle.mq_engine.specs.Progress.{AreWaiting, AreWorkedOut, IsEndPut, IsPut, IsReached, is_ready, is_waiting, reads_done, stands_at}
+use Rattle.mq_engine.specs.declared.progress.Stand.{Stand}
+use Rattle.mq_engine.specs.declared.progress.Stand.TheVariants.{Done, Late}
+use Rattle.mq_engine.specs.declared.turns.Ending.{Ending}
+use Rattle.mq_engine.specs.declared.turns.Ending.TheVariants.{OnTime, TooLate}
+use Rattle.mq_engine.specs.declared.turns.Turn.{Turn}
+use Rattle.mq_engine.proofs.Lists.{filter-passes}
+use Rattle.mq_engine.proofs.Rounds.{order-few, put-keeps}
+
+-- a node that waits is there
+stand-there : (stands : List Stand) (v : ℕ) (o : Option Stand) → slice_get stands v ≡ o → stands_at is_waiting o ≡ true → (v < length stands) × ((d : Stand) → is_waiting (get_or stands v d) ≡ true)
+stand-there stands v None e h = absurd cc
+stand-there stands v (Some at) e h =
+    let inside = slice_get_within stands v at e in
+    (inside, λ d. ap is_waiting (some_inj _ _ (sym (slice_get-get_or stands v d inside) ∙ e)) ∙ h)
+
+pub waiting-inside : (stands : List Stand) (v : ℕ) → stands_at is_waiting (slice_get stands v) ≡ true → v < length stands
+waiting-inside stands v h = (stand-there stands v (slice_get stands v) refl h).0
+
+abbrev bit : Bool → ℕ
+bit b = cond b 1 0
+
+-- what an index finds
+pub stand-at : (stands : List Stand) (v : ℕ) (found at : Stand) → v < length stands → found ≡ get_or stands v found → found ≡ at → slice_get stands v ≡ Some at
+stand-at stands v found at l e h = slice_get-get_or stands v found l ∙ ap Some (sym e ∙ h)
+
+-- how many wait after a node has stopped to
+count-set : (stands : List Stand) (v : ℕ) (at : Stand) → v < length stands → is_waiting at ≡ false → count_by is_waiting (set stands v at) + bit (is_waiting (get_or stands v at)) ≡ count_by is_waiting stands
+count-set stands v at l quiet =
+    let moved : count_by is_waiting (set stands v at) + bit (is_waiting (get_or stands v at)) ≡ count_by is_waiting stands + bit (is_waiting at) = sum_by-set (λ s. cond (is_waiting s) 1 0) stands v at at l in
+    let none : bit (is_waiting at) ≡ 0 = ap bit quiet in
+    omega (arith, none)
+
+-- a turn that is put down leaves no more nodes that wait, and one less where its own did
+record IsFewer (stands stands' : List Stand) (v : ℕ) : Type 0 where
+  same : length stands' ≡ length stands
+  most : count_by is_waiting stands' ≤ count_by is_waiting stands
+  less : stands_at is_waiting (slice_get stands v) ≡ true → count_by is_waiting stands' < count_by is_waiting stands
+
+set-fewer : (stands stands' : List Stand) (v : ℕ) (at : Stand) → v < length stands → is_waiting at ≡ false → stands' ≡ set stands v at → IsFewer stands stands' v
+set-fewer stands stands' v at l quiet e =
+    let count = count-set stands v at l quiet in
+    let new : count_by is_waiting stands' ≡ count_by is_waiting (set stands v at) = ap (count_by is_waiting) e in
+    record {
+      same = ap length e ∙ length-set stands v at;
+      most = omega arith;
+      less = λ h.
+          let one : bit (is_waiting (get_or stands v at)) ≡ 1 = ap bit ((stand-there stands v (slice_get stands v) refl h).1 at) in
+          omega (arith, one);
+    }
+
+end-fewer : (v : ℕ) (ending : Ending) (visits visits' : List Visits) (outputs outputs' : List (List Stream)) (stands stands' : List Stand) → v < length stands → IsEndPut v ending visits outputs stands visits' outputs' stands' → IsFewer stands stands' v
+end-fewer v (OnTime came left) visits visits' outputs outputs' stands stands' l h = set-fewer stands stands' v Done l refl h.2
+end-fewer v (TooLate fault) visits visits' outputs outputs' stands stands' l h = set-fewer stands stands' v (Late fault) l refl h.2
+
+end-lengths : (v : ℕ) (ending : Ending) (visits visits' : List Visits) (outputs outputs' : List (List Stream)) (stands stands' : List Stand) → IsEndPut v ending visits outputs stands visits' outputs' stands' → (length visits' ≡ length visits) × (length outputs' ≡ length outputs)
+end-lengths v (OnTime came left) visits visits' outputs outputs' stands stands' h = (ap length h.0 ∙ length-set visits v came, ap length h.1 ∙ length-set outputs v left)
+end-lengths v (TooLate fault) visits visits' outputs outputs' stands stands' h = (ap length h.0, ap length h.1)
+
+-- what is kept while the turns of a round are put down: those left, of all of them
+pub record IsSettling (visits0 : List Visits) (outputs0 : List (List Stream)) (stands0 : List Stand) (turns0 : List Turn) (visits : List Visits) (outputs : List (List Stream)) (stands : List Stand) (turns : List Turn) : Type 0 where
+  pub stand : length stands ≡ length stands0
+  pub came : length visits ≡ length stands0
+  pub left : length outputs ≡ length stands0
+  pub waits : AreWaiting stands0 turns
+  pub reached : (plan : Plan) (rows : Rows) → IsReached plan rows visits0 outputs0 stands0 → AreWorkedOut plan rows turns0 → IsReached plan rows visits outputs stands × AreWorkedOut plan rows turns
+  pub fewer : ((stands ≡ stands0) × (turns ≡ turns0)) ⊎ (count_by is_waiting stands < count_by is_waiting stands0)
+
+pub settling-starts : (visits : List Visits) (outputs : List (List Stream)) (stands : List Stand) (turns : List Turn) → length visits ≡ length stands → length outputs ≡ length stands → AreWaiting stands turns → IsSettling visits outputs stands turns visits outputs stands turns
+settling-starts visits outputs stands turns came left waits = record {
+  stand = refl;
+  came = came;
+  left = left;
+  waits = waits;
+  reached = λ plan rows r w. (r, w);
+  fewer = inl (refl, refl);
+}
+
+pub settling-inside : (visits0 visits : List Visits) (outputs0 outputs : List (List Stream)) (stands0 stands : List Stand) (turns0 turns rest : List Turn) (turn : Turn) → IsSettling visits0 outputs0 stands0 turns0 visits outputs stands turns → turns ≡ rest ++ turn ∷ [] →
+    turn.number < length stands0
+settling-inside visits0 visits outputs0 outputs stands0 stands turns0 turns rest turn s e =
+    waiting-inside stands0 turn.number (Each-back _ rest (turn ∷ []) (subst (AreWaiting stands0) e s.waits)).0
+
+pub settling-more : (visits0 visits visits' : List Visits) (outputs0 outputs outputs' : List (List Stream)) (stands0 stands stands' : List Stand) (turns0 turns rest : List Turn) (turn : Turn) → IsSettling visits0 outputs0 stands0 turns0 visits outputs stands turns → turns ≡ rest ++ turn ∷ [] →
+    IsPut turn visits outputs stands visits' outputs' stands' → IsSettling visits0 outputs0 stands0 turns0 visits' outputs' stands' rest
+settling-more visits0 visits visits' outputs0 outputs outputs' stands0 stands stands' turns0 turns rest turn s e put =
+    record {
+      stand = gone.same ∙ s.stand;
+      came = lengths.0 ∙ s.came;
+      left = lengths.1 ∙ s.left;
+      waits = Each-front _ rest (turn ∷ []) waits;
+      reached = λ plan rows r w.
+          let now = s.reached plan rows r w in
+          let known = subst (AreWorkedOut plan rows) e now.1 in
+          (put-keeps plan rows turn visits visits' outputs outputs' stands stands' now.0 (Each-back _ rest (turn ∷ []) known).0 put, Each-front _ rest (turn ∷ []) known);
+      fewer = inr (count s.fewer);
+    }
+  where
+    waits : AreWaiting stands0 (rest ++ turn ∷ [])
+    waits = subst (AreWaiting stands0) e s.waits
+
+    here : stands_at is_waiting (slice_get stands0 turn.number) ≡ true
+    here = (Each-back _ rest (turn ∷ []) waits).0
+
+    inside : turn.number < length stands
+    inside = subst (λ n. turn.number < n) (sym s.stand) (waiting-inside stands0 turn.number here)
+
+    gone : IsFewer stands stands' turn.number
+    gone = end-fewer turn.number turn.ending visits visits' outputs outputs' stands stands' inside put
+
+    lengths : (length visits' ≡ length visits) × (length outputs' ≡ length outputs)
+    lengths = end-lengths turn.number turn.ending visits visits' outputs outputs' stands stands' put
+
+    count : ((stands ≡ stands0) × (turns ≡ turns0)) ⊎ (count_by is_waiting stands < count_by is_waiting stands0) → count_by is_waiting stands' < count_by is_waiting stands0
+    count (inl same) =
+        let less = gone.less (ap (λ (l : List Stand). stands_at is_waiting (slice_get l turn.number)) same.0 ∙ here) in
+        let equal : count_by is_waiting stands ≡ count_by is_waiting stands0 = ap (count_by is_waiting) same.0 in
+        omega arith
+    count (inr less) = let most = gone.most in omega arith
+
+-- an empty `pop` found nothing
+pub settling-ended : (visits0 visits : List Visits) (outputs0 outputs : List (List Stream)) (stands0 stands : List Stand) (turns0 turns : List Turn) → IsSettling visits0 outputs0 stands0 turns0 visits outputs stands turns → turns ≡ [] → 1 ≤ length turns0 → count_by is_waiting stands < count_by is_waiting stands0
+settling-ended visits0 visits outputs0 outputs stands0 stands turns0 turns s none some = go s.fewer
+  where
+    go : ((stands ≡ stands0) × (turns ≡ turns0)) ⊎ (count_by is_waiting stands < count_by is_waiting stands0) → count_by is_waiting stands < count_by is_waiting stands0
+    go (inl same) = let e : length turns0 ≡ 0 = ap length (sym same.1 ∙ none) in absurd (omega arith)
+    go (inr less) = less
+
+-- the turns of nodes that are ready are those of nodes that wait
+pub ready-wait : (plan : Plan) (rows : Rows) (stands : List Stand) (ready : List ℕ) (turns : List Turn) → ready ≡ filter (is_ready plan.net.nodes stands) plan.order → Each (IsTurnOf plan rows ready) turns → AreWaiting stands turns
+ready-wait plan rows stands ready turns e = Each-weaker (IsTurnOf plan rows ready) _ (λ turn h.
+    let passes = filter-passes (is_ready plan.net.nodes stands) plan.order h.0.0 turn.number (ap (λ (l : List ℕ). slice_get l h.0.0) (sym e) ∙ (slice_get-get_or ready h.0.0 turn.number h.0.1 ∙ ap Some h.0.2)) in
+    (and_parts _ (reads_done stands (slice_get plan.net.nodes turn.number)) passes).0) turns
+
+pub turns-known : (plan : Plan) (rows : Rows) (ready : List ℕ) (turns : List Turn) → Each (IsTurnOf plan rows ready) turns → AreWorkedOut plan rows turns
+turns-known plan rows ready turns = Each-weaker (IsTurnOf plan rows ready) _ (λ turn h. h.1) turns
+
+-- few nodes are ready
+pub ready-few : (plan : Plan) (stands : List Stand) (ready : List ℕ) → ready ≡ filter (is_ready plan.net.nodes stands) plan.order → length ready ≤ 64
+ready-few plan stands ready e =
+    let test = is_ready plan.net.nodes stands in
+    let count : length ready ≡ count_by test plan.order = ap length e ∙ length-filter test plan.order in
+    let most = count_by-le-length test plan.order in
+    let few = order-few plan in
+    omega arith

@@ -1,0 +1,123 @@
+-- How far a run has come: which nodes are done, which of them may be worked out next, and what that gives.
+use Rattle.std.specs.Prelude.{◌≡◌, ◌<◌, ◌&&◌, ℕ, Bool, true, false, List, length, Option, Some, None, slice_get, slice_set}
+use Rattle.std.specs.List.{AllByRecursion, list_all, zip}
+use Rattle.mq_core.specs.ColumnLaws.{arrives_of, jobs_of}
+use Rattle.mq_core.specs.Columns.{by_first, column_fates, column_late, column_late_from, streams_below}
+use Rattle.mq_core.specs.Results.{first_of, visits_of}
+use Rattle.mq_core.specs.RunLaws.{HasColumns}
+use Rattle.mq_core.specs.StandardTable.{run_of}
+use Rattle.mq_core.specs.Sound.{outputs_in}
+use Rattle.mq_core.specs.declared.model.Input.{Input}
+use Rattle.mq_core.specs.declared.model.Kind.{Kind}
+use Rattle.mq_core.specs.declared.model.Network.{Network}
+use Rattle.mq_core.specs.declared.model.Node.{Node}
+use Rattle.mq_core.specs.declared.model.Plan.{Plan}
+use Rattle.mq_core.specs.declared.model.Rows.{Rows}
+use Rattle.mq_core.specs.declared.model.Stream.{Stream}
+use Rattle.mq_core.specs.declared.model.Visits.{Visits}
+use Rattle.mq_engine.specs.Answer.{late_told}
+use Rattle.mq_engine.specs.Turns.{AreEarly, IsEarlyStream, IsThere, IsTurn, arriving}
+use Rattle.mq_engine.specs.declared.progress.Stand.{Stand}
+use Rattle.mq_engine.specs.declared.progress.Stand.TheVariants.{Waiting, Done, Late}
+use Rattle.mq_engine.specs.declared.turns.Turn.{Turn}
+use Rattle.mq_engine.specs.declared.turns.Ending.{Ending}
+use Rattle.mq_engine.specs.declared.turns.Ending.TheVariants.{OnTime, TooLate}
+
+-- a node that is not worked out yet
+abbrev pub is_waiting : Stand → Bool
+is_waiting Waiting = true
+is_waiting Done = false
+is_waiting (Late fault) = false
+
+-- a node whose columns are there
+abbrev pub is_done : Stand → Bool
+is_done Waiting = false
+is_done Done = true
+is_done (Late fault) = false
+
+abbrev pub stands_at : (Stand → Bool) → Option Stand → Bool
+stands_at test None = false
+stands_at test (Some stand) = test stand
+
+-- the node that an input reads is done
+abbrev pub is_read : List Stand → Input → Bool
+is_read stands input = stands_at is_done (slice_get stands input.node)
+
+abbrev pub reads_done : List Stand → Option Node → Bool
+reads_done stands None = false
+reads_done stands (Some node) = list_all (is_read stands) node.inputs
+
+-- a node that is not worked out yet, while all that it reads is
+abbrev pub is_ready : List Node → List Stand → ℕ → Bool
+is_ready nodes stands v = stands_at is_waiting (slice_get stands v) && reads_done stands (slice_get nodes v)
+
+-- the nodes of an order, and those that ports read, are nodes of the network
+pub record AreWithin (nodes : List Node) (order : List ℕ) : Type 0 where
+  pub ranked : (rank v : ℕ) → slice_get order rank ≡ Some v → v < length nodes
+  pub reads : (v port : ℕ) (node : Node) (input : Input) → slice_get nodes v ≡ Some node → slice_get node.inputs port ≡ Some input → input.node < length nodes
+
+-- a node can be worked out: what it reads is there, and what comes to it is what comes in the run
+pub record CanWork (plan : Plan) (rows : Rows) (outputs : List (List Stream)) (v : ℕ) : Type 0 where
+  pub inside : v < length plan.net.nodes
+  pub there : (node : Node) (port : ℕ) (input : Input) → slice_get plan.net.nodes v ≡ Some node → slice_get node.inputs port ≡ Some input → IsThere outputs input
+  pub comes : (node : Node) → slice_get plan.net.nodes v ≡ Some node →
+      zip (arrives_of ((run_of plan rows).stations v).visits) (jobs_of ((run_of plan rows).stations v).visits) ≡ by_first (arriving rows v node outputs)
+
+-- all of these nodes can
+abbrev pub CanWorkAll : Plan → Rows → List (List Stream) → List ℕ → Type 0
+CanWorkAll plan rows outputs ready = (k v : ℕ) → slice_get ready k ≡ Some v → CanWork plan rows outputs v
+
+-- how the turn of a node ends: with the columns of its arrivals, none of them late, or with the first late visit
+abbrev pub IsEnding : Network → Rows → ℕ → Kind → Stream → Ending → Type 0
+IsEnding net rows v kind arrivals (OnTime visits streams) =
+    IsTurn rows kind arrivals visits streams × (first_of (column_late_from net.bound v 0 (column_fates rows kind arrivals.job arrivals.time)) ≡ None)
+IsEnding net rows v kind arrivals (TooLate fault) =
+    first_of (column_late_from net.bound v 0 (column_fates rows kind arrivals.job arrivals.time)) ≡ Some (late_told fault)
+
+-- what is known of a node, as the run has it
+abbrev pub IsKnown : Plan → Rows → ℕ → Node → Ending → Type 0
+IsKnown plan rows v node (OnTime visits streams) =
+    (visits ≡ visits_of node.kind ((run_of plan rows).stations v)) × (streams ≡ streams_below (run_of plan rows) v (outputs_in node.kind))
+    × ((out : ℕ) (stream : Stream) → slice_get streams out ≡ Some stream → IsEarlyStream stream)
+    × (first_of (column_late plan.net.bound v (visits_of node.kind ((run_of plan rows).stations v))) ≡ None)
+IsKnown plan rows v node (TooLate fault) =
+    first_of (column_late plan.net.bound v (visits_of node.kind ((run_of plan rows).stations v))) ≡ Some (late_told fault)
+
+-- the turn tells of its node what the run has
+abbrev pub IsWorkedOut : Plan → Rows → Turn → Type 0
+IsWorkedOut plan rows turn = (node : Node) × (slice_get plan.net.nodes turn.number ≡ Some node) × IsKnown plan rows turn.number node turn.ending
+
+-- all of these turns do
+abbrev pub AreWorkedOut : Plan → Rows → List Turn → Type 0
+AreWorkedOut plan rows turns = AllByRecursion (IsWorkedOut plan rows) turns
+
+-- what stands at a node is what the run has
+abbrev pub Tells : Plan → Rows → List Visits → List (List Stream) → ℕ → Node → Stand → Type 0
+Tells plan rows visits outputs v node Waiting = Unit {0}
+Tells plan rows visits outputs v node Done =
+    HasColumns (run_of plan rows) (record { visits = visits; outputs = outputs }) v node
+    × (first_of (column_late plan.net.bound v (visits_of node.kind ((run_of plan rows).stations v))) ≡ None)
+Tells plan rows visits outputs v node (Late fault) =
+    first_of (column_late plan.net.bound v (visits_of node.kind ((run_of plan rows).stations v))) ≡ Some (late_told fault)
+
+-- a turn that ended on time is put at its node, and one that ended late leaves the fault there
+abbrev pub IsEndPut : ℕ → Ending → List Visits → List (List Stream) → List Stand → List Visits → List (List Stream) → List Stand → Type 0
+IsEndPut v (OnTime came left) visits outputs stands visits' outputs' stands' =
+    (visits' ≡ slice_set visits v came) × (outputs' ≡ slice_set outputs v left) × (stands' ≡ slice_set stands v Done)
+IsEndPut v (TooLate fault) visits outputs stands visits' outputs' stands' =
+    (visits' ≡ visits) × (outputs' ≡ outputs) × (stands' ≡ slice_set stands v (Late fault))
+
+abbrev pub IsPut : Turn → List Visits → List (List Stream) → List Stand → List Visits → List (List Stream) → List Stand → Type 0
+IsPut turn visits outputs stands visits' outputs' stands' = IsEndPut turn.number turn.ending visits outputs stands visits' outputs' stands'
+
+-- these are turns of nodes that wait
+abbrev pub AreWaiting : List Stand → List Turn → Type 0
+AreWaiting stands turns = AllByRecursion (λ turn. stands_at is_waiting (slice_get stands turn.number) ≡ true) turns
+
+-- what is done so far is what the run has
+pub record IsReached (plan : Plan) (rows : Rows) (visits : List Visits) (outputs : List (List Stream)) (stands : List Stand) : Type 0 where
+  pub came : length visits ≡ length plan.net.nodes
+  pub left : length outputs ≡ length plan.net.nodes
+  pub stand : length stands ≡ length plan.net.nodes
+  pub told : (v : ℕ) (node : Node) (at : Stand) → slice_get plan.net.nodes v ≡ Some node → slice_get stands v ≡ Some at → Tells plan rows visits outputs v node at
+  pub early : AreEarly outputs

@@ -1,0 +1,94 @@
+use Rattle.std.proofs.Common.{◌≡◌, ◌∙◌, sym, ap, subst, map, ℕ, List, Some, None}
+use Rattle.mq_model.specs.Model.{model_fault}
+use Rattle.mq_model.specs.NetworkOf.{network_in}
+use Rattle.mq_top.specs.Answer.{answer_over}
+use Rattle.mq_top.specs.Ends.{Ends, Taken, takings}
+use Rattle.mq_top.specs.Lines.{PutsLine, line_text, name_of}
+use Rattle.mq_words.specs.Words.{Asks, AsksFor, Makes, Names, jobs_asked}
+use Rattle.mq_words.proofs.Faults.{not_both, same_names, same_number}
+use Rattle.mq_top.proofs.MadeRuns.{same_answer}
+use Rattle.mq_top.proofs.Told.{answer_is, told_is}
+use Rattle.mq_top.proofs.stages.simulate_gated.Goals as goal
+
+pub returns-in-Ok-accept_model-clause-ends : goal.returns-in-Ok-accept_model-clause-ends
+returns-in-Ok-accept_model-clause-ends g c m t model trace names told_m told_t =
+    let words : List (List ℕ) = map (λ w. w.now) c.args.words.now in
+    let asked : Asks words c.in-Ok.settings = c.in-Ok.ensures.asked in
+    let asked_names : Names words c.in-Named.model.now c.in-Named.trace.now = subst (AsksFor words) c.in-Named.is asked.input in
+    let same = same_names words m t _ _ names asked_names in
+    let of_model : g.F.Files.told c.args.files.now c.in-Named.model.now ≡ Some model = ap (g.F.Files.told c.args.files.now) (sym same.0) ∙ told_m in
+    let of_trace : g.F.Files.told c.accept_model.new.files c.in-Named.trace.now ≡ Some trace =
+    c.accept_model.ensures.same_told c.in-Named.trace.now ∙ (ap (g.F.Files.told c.args.files.now) (sym same.1) ∙ told_t) in
+    let read = told_is _ model (λ bytes. (model_fault bytes ≡ None) × (c.in-Ok-accept_model.plan.net ≡ network_in bytes)) of_model c.in-Ok-accept_model.ensures.accepted in
+    let taken : Taken = takings g.O.Sink.taken g.O.Sink.sure c.args.out.now c.run_trace-outcome.new.out in
+    subst (λ a. Ends a c.run_trace-outcome.result taken) (answer_is c.in-Ok-accept_model.plan.net model trace c.in-Ok.settings.jobs (jobs_asked words) read.0 read.1 (sym asked.jobs))
+    (told_is _ trace (λ bytes. Ends (answer_over c.in-Ok-accept_model.plan.net bytes c.in-Ok.settings.jobs) c.run_trace-outcome.result taken) of_trace c.run_trace-outcome.ensures.ends)
+
+pub returns-in-Ok-accept_model-clause-sure : goal.returns-in-Ok-accept_model-clause-sure
+returns-in-Ok-accept_model-clause-sure g c m t model trace text names told_m told_t is room =
+    let words : List (List ℕ) = map (λ w. w.now) c.args.words.now in
+    let asked : Asks words c.in-Ok.settings = c.in-Ok.ensures.asked in
+    let asked_names : Names words c.in-Named.model.now c.in-Named.trace.now = subst (AsksFor words) c.in-Named.is asked.input in
+    let same = same_names words m t _ _ names asked_names in
+    let of_model : g.F.Files.told c.args.files.now c.in-Named.model.now ≡ Some model = ap (g.F.Files.told c.args.files.now) (sym same.0) ∙ told_m in
+    let of_trace : g.F.Files.told c.accept_model.new.files c.in-Named.trace.now ≡ Some trace =
+    c.accept_model.ensures.same_told c.in-Named.trace.now ∙ (ap (g.F.Files.told c.args.files.now) (sym same.1) ∙ told_t) in
+    let read = told_is _ model (λ bytes. (model_fault bytes ≡ None) × (c.in-Ok-accept_model.plan.net ≡ network_in bytes)) of_model c.in-Ok-accept_model.ensures.accepted in
+    c.run_trace-outcome.ensures.sure trace text of_trace
+    (answer_is c.in-Ok-accept_model.plan.net model trace c.in-Ok.settings.jobs (jobs_asked words) read.0 read.1 (sym asked.jobs) ∙ is) room
+
+pub returns-in-Ok-accept_model-clause-named : goal.returns-in-Ok-accept_model-clause-named
+returns-in-Ok-accept_model-clause-named g c m t model names told_m =
+    let words : List (List ℕ) = map (λ w. w.now) c.args.words.now in
+    let asked : Asks words c.in-Ok.settings = c.in-Ok.ensures.asked in
+    let asked_names : Names words c.in-Named.model.now c.in-Named.trace.now = subst (AsksFor words) c.in-Named.is asked.input in
+    let same = same_names words m t _ _ names asked_names in
+    let of_model : g.F.Files.told c.args.files.now c.in-Named.model.now ≡ Some model = ap (g.F.Files.told c.args.files.now) (sym same.0) ∙ told_m in
+    let read = told_is _ model (λ bytes. (model_fault bytes ≡ None) × (c.in-Ok-accept_model.plan.net ≡ network_in bytes)) of_model c.in-Ok-accept_model.ensures.accepted in
+    subst (λ text. PutsLine g.E.Sink.taken g.E.Sink.sure g.E.Sink.faults c.args.err.now c.put_line-in-Ok-accept_model.new.err (line_text text c.run_trace-outcome.result)) (c.name_of.ensures ∙ ap (λ net. name_of net c.run_trace-outcome.result) read.1)
+    c.put_line-in-Ok-accept_model.ensures
+
+-- ---- a made input
+
+pub returns-in-Made-clause-made : goal.returns-in-Made-clause-made
+returns-in-Made-clause-made g c number made =
+    let words : List (List ℕ) = map (λ w. w.now) c.args.words.now in
+    let asked : Asks words c.in-Ok.settings = c.in-Ok.ensures.asked in
+    let makes : Makes words c.in-Made.number = subst (AsksFor words) c.in-Made.is asked.input in
+    subst (λ a. Ends a c.run_made-outcome.result (takings g.O.Sink.taken g.O.Sink.sure c.args.out.now c.run_made-outcome.new.out))
+    (same_answer number c.in-Made.number (jobs_asked words) c.in-Ok.settings.jobs (same_number words number c.in-Made.number made makes) asked.jobs) c.run_made-outcome.ensures.ends
+
+pub returns-in-Made-clause-made_sure : goal.returns-in-Made-clause-made_sure
+returns-in-Made-clause-made_sure g c number text made is room =
+    let words : List (List ℕ) = map (λ w. w.now) c.args.words.now in
+    let asked : Asks words c.in-Ok.settings = c.in-Ok.ensures.asked in
+    let makes : Makes words c.in-Made.number = subst (AsksFor words) c.in-Made.is asked.input in
+    c.run_made-outcome.ensures.sure text (same_answer number c.in-Made.number (jobs_asked words) c.in-Ok.settings.jobs (same_number words number c.in-Made.number made makes) asked.jobs ∙ is) room
+
+pub returns-in-Ok-accept_model-clause-made : goal.returns-in-Ok-accept_model-clause-made
+returns-in-Ok-accept_model-clause-made g c number made =
+    let words : List (List ℕ) = map (λ w. w.now) c.args.words.now in
+    let asked : Asks words c.in-Ok.settings = c.in-Ok.ensures.asked in
+    let asked_names : Names words c.in-Named.model.now c.in-Named.trace.now = subst (AsksFor words) c.in-Named.is asked.input in
+    elim (not_both words c.in-Named.model.now c.in-Named.trace.now number asked_names made) [ ]
+
+pub returns-in-Ok-accept_model-clause-made_sure : goal.returns-in-Ok-accept_model-clause-made_sure
+returns-in-Ok-accept_model-clause-made_sure g c number text made is room =
+    let words : List (List ℕ) = map (λ w. w.now) c.args.words.now in
+    let asked : Asks words c.in-Ok.settings = c.in-Ok.ensures.asked in
+    let asked_names : Names words c.in-Named.model.now c.in-Named.trace.now = subst (AsksFor words) c.in-Named.is asked.input in
+    elim (not_both words c.in-Named.model.now c.in-Named.trace.now number asked_names made) [ ]
+
+pub returns-in-Err-accept_model-clause-made : goal.returns-in-Err-accept_model-clause-made
+returns-in-Err-accept_model-clause-made g c number made =
+    let words : List (List ℕ) = map (λ w. w.now) c.args.words.now in
+    let asked : Asks words c.in-Ok.settings = c.in-Ok.ensures.asked in
+    let asked_names : Names words c.in-Named.model.now c.in-Named.trace.now = subst (AsksFor words) c.in-Named.is asked.input in
+    elim (not_both words c.in-Named.model.now c.in-Named.trace.now number asked_names made) [ ]
+
+pub returns-in-Ok-accept_model-clause-made_line : goal.returns-in-Ok-accept_model-clause-made_line
+returns-in-Ok-accept_model-clause-made_line g c number made =
+    let words : List (List ℕ) = map (λ w. w.now) c.args.words.now in
+    let asked : Asks words c.in-Ok.settings = c.in-Ok.ensures.asked in
+    let asked_names : Names words c.in-Named.model.now c.in-Named.trace.now = subst (AsksFor words) c.in-Named.is asked.input in
+    elim (not_both words c.in-Named.model.now c.in-Named.trace.now number asked_names made) [ ]

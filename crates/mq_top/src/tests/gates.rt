@@ -1,0 +1,62 @@
+use super::files_of;
+use crate::{Outcome, simulate_gated};
+use mq_base::MemSink;
+use mq_claims::ClaimSeat;
+use mq_crew::Gate;
+use std::sync::atomic::AtomicU64;
+use std::sync::atomic::Ordering::SeqCst;
+use std::test::Fail;
+
+// How often a held entry looks whether the other has come.
+const TURNS: u64 = 2_000_000_000;
+
+// Holds the first entry with piece 0 until one with piece 1 has come, and the other way round, and
+// counts the entries with the pieces 0, 1 and 2.
+#[derive(Drop)]
+struct Held {
+    came: [AtomicU64; 3],
+    run_out: AtomicU64,
+}
+
+impl Gate for Held {
+    fn enter(&self, _seat: &ClaimSeat, _worker: u32, piece: u32) {
+        if piece > 2 {
+            return;
+        }
+        let here = piece as usize;
+        if self.came[here].fetch_add(1, SeqCst) > 0 || here == 2 {
+            return;
+        }
+        for _ in 0..TURNS {
+            if self.came[1 - here].load(SeqCst) > 0 {
+                return;
+            }
+        }
+        self.run_out.fetch_add(1, SeqCst);
+    }
+}
+
+const DESK: &[u8] = b"model 1\nsource src\nserver desk d from src\n";
+
+const ORDINARY: &[u8] = b"source,time,d\nsrc,0,4\nsrc,1,1\nsrc,2,3\n";
+
+#[test]
+fn two_threads_enter_the_gate(rt: HostRuntime) -> Result<(), Fail> {
+    let alloc = rt.alloc();
+    let gate = Held {
+        came: [AtomicU64::new(0), AtomicU64::new(0), AtomicU64::new(0)],
+        run_out: AtomicU64::new(0),
+    };
+    let mut files = files_of(alloc, DESK, ORDINARY, &[])?;
+    let mut out = MemSink::new(alloc, 65_536, Vec::new(alloc));
+    let mut err = MemSink::new(alloc, 65_536, Vec::new(alloc));
+    let words = ["m", "t", "--workers", "2", "--block", "1"];
+    let outcome = simulate_gated(&rt, alloc, &words, &mut files, &mut out, &mut err, &gate);
+    assert!(rt; outcome == Outcome::Done);
+    assert_eq!(rt; gate.run_out.load(SeqCst), 0);
+    // once for a summary, and once for an applied block
+    for piece in 0..3usize {
+        assert!(rt; gate.came[piece].load(SeqCst) >= 2);
+    }
+    Ok(())
+}
