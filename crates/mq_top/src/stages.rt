@@ -47,7 +47,7 @@ fn accept_words<'a>(alloc: Global, words: &'a [&'a str]) -> Result<Settings<'a>,
     }
 }
 
-// Who works out the runs: so many workers, by blocks of so many jobs, who enter this gate.
+// Who reads a trace and works out the runs: so many workers, by blocks of so many jobs, who enter this gate.
 #[derive(Drop)]
 struct Crew<'a, R, G> {
     rt: &'a R,
@@ -73,13 +73,18 @@ fn judge_model(alloc: Global, bytes: &[u8]) -> Result<Plan, Outcome>
 }
 
 // Judges the bytes of a trace for the network of a plan.
-fn judge_trace(alloc: Global, plan: &Plan, bytes: &[u8]) -> Result<Rows, Outcome>
+fn judge_trace<R: Threads + Sync, G: Gate>(
+    alloc: Global,
+    crew: &Crew<R, G>,
+    plan: &Plan,
+    bytes: &[u8],
+) -> Result<Rows, Outcome>
     ensures read { IfOk result (λ rows. IsReadFor plan.now.net rows) }
     ensures accepted { IfOk result (λ rows. (trace_fault plan.now.net bytes.now ≡ None) × (rows ≡ rows_in plan.now.net bytes.now)) }
     ensures refused { IfErr result (λ outcome. RefusesTrace plan.now.net outcome (Some bytes.now)) }
     ensures unread { result ≢ Err (Outcome.ReadFault true) }
 {
-    match read_trace(alloc, bytes, &plan.net) {
+    match read_trace(crew.rt, alloc, crew.workers, bytes, &plan.net) {
         Ok(rows) => Ok(rows),
         Err(TraceFault::Memory) => Err(Outcome::Memory),
         Err(fault) => Err(Outcome::Trace(fault)),
@@ -111,8 +116,9 @@ fn accept_model<F: Files>(alloc: Global, name: &str, files: &mut F) -> Result<Pl
 }
 
 // Reads the trace of this name, and judges it for the network of a plan.
-fn accept_trace<F: Files>(
+fn accept_trace<R: Threads + Sync, G: Gate, F: Files>(
     alloc: Global,
+    crew: &Crew<R, G>,
     plan: &Plan,
     name: &str,
     files: &mut F,
@@ -137,7 +143,7 @@ fn accept_trace<F: Files>(
         Err(FileFault::TooLong) => return Err(Outcome::Trace(TraceFault::TooLong)),
         Err(FileFault::Memory) => return Err(Outcome::Memory),
     }
-    judge_trace(alloc, plan, &bytes)
+    judge_trace(alloc, crew, plan, &bytes)
 }
 
 // Runs a plan over its rows, and writes the report, with the lines of the jobs where they are asked for.
@@ -205,7 +211,7 @@ fn run_trace<R: Threads + Sync, G: Gate, F: Files, O: Sink>(
     ensures sure { (trace text : List ℕ) → F.told files.old name.now ≡ Some trace → answer_over plan.now.net trace jobs ≡ Reported text → length text ≤ O.sure out.old → O.faults out.new ≡ O.faults out.old }
     ensures untouched { Untouched result out.old out.new }
 {
-    match accept_trace(alloc, plan, name, files) {
+    match accept_trace(alloc, crew, plan, name, files) {
         Ok(rows) => report_run(alloc, crew, plan, &rows, jobs, out),
         Err(outcome) => outcome,
     }
@@ -235,7 +241,7 @@ fn run_made<R: Threads + Sync, G: Gate, O: Sink>(
         Ok(plan) => plan,
         Err(outcome) => return outcome,
     };
-    match judge_trace(alloc, &plan, input.trace.as_slice()) {
+    match judge_trace(alloc, crew, &plan, input.trace.as_slice()) {
         Ok(rows) => report_run(alloc, crew, &plan, &rows, jobs, out),
         Err(outcome) => outcome,
     }

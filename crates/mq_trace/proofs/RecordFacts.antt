@@ -9,11 +9,11 @@ use Rattle.csv.proofs.ReadFacts.{rows-end, rows-more}
 use Rattle.mq_trace.specs.Records.{IsBetween, Record, Takes, TextReader, known_records, records_at, records_left}
 
 -- a byte that ends a record, in a field, leaves the machine between two records
-field_between : (c : ℕ) → is_end (in_field default_config c).1 ≡ true → ends_at_end (in_field default_config c).0 ≡ false
+pub field_between : (c : ℕ) → is_end (in_field default_config c).1 ≡ true → ends_at_end (in_field default_config c).0 ≡ false
 field_between c h = grind arith
 
 -- the same, in any state
-end_between : (s : State) (c : ℕ) → is_end (step default_config s c).1 ≡ true → ends_at_end (step default_config s c).0 ≡ false
+pub end_between : (s : State) (c : ℕ) → is_end (step default_config s c).1 ≡ true → ends_at_end (step default_config s c).0 ≡ false
 end_between st.StartRecord c h = grind (arith, field_between)
 end_between st.StartField c h = grind (arith, field_between)
 end_between st.InField c h = field_between c h

@@ -33,7 +33,7 @@ row_clean net header n (x ∷ rs) (suc k) r clean is =
     ap (λ i. row_fault net header i r) (sym e) ∙ row_clean net header (n + 1) rs k r next is
 
 -- there are no more of them than are allowed
-few_rows : (net : Network) (header : Record) (rs : List Record) → rows_fault net header 1 rs ≡ None → length rs ≤ 1048576
+pub few_rows : (net : Network) (header : Record) (rs : List Record) → rows_fault net header 1 rs ≡ None → length rs ≤ 1048576
 few_rows net header [] clean = omega arith
 few_rows net header (x ∷ rs) clean =
     let last = slice_get-get_or (x ∷ rs) (length rs) [] (omega arith) in

@@ -1,4 +1,5 @@
 pub mod Header
+pub mod Pieces
 pub mod Reading
 pub mod Records
 pub mod Trace

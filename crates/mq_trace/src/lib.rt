@@ -1,11 +1,15 @@
 //! The reader of a trace: comma-separated records, of which the first names the columns and each further one is a job.
 #![tactic(auto)]
 
+mod each;
 mod fault;
 mod header;
+mod join;
+mod pieces;
 mod read;
 mod records;
 mod row;
+mod rows;
 #[cfg(test)]
 mod tests;
 

@@ -1,76 +1,101 @@
 // The reader of a trace.
 
-ghost use Rattle.std.specs.Prelude.{◌≡◌, ◌+◌, ◌^◌, ◌<◌, ◌≤◌, ◌∷◌, ◌++◌, [], length, map, get_or, ℕ, OnOk, IfOk};
-ghost use Rattle.csv.specs.Records.{fields_of};
+ghost use Rattle.std.specs.Prelude.{◌≡◌, ◌^◌, ◌<◌, ◌≤◌, length, map, IfOk};
 ghost use Rattle.mq_core.specs.Theorems.{IsReadFor};
-ghost use Rattle.mq_trace.specs.Reading.{IsHeaderOf, Pushes};
-ghost use Rattle.mq_trace.specs.Records.{IsBetween, records_left};
-ghost use Rattle.mq_trace.specs.Trace.{Answers, rows_fault, rows_in, rows_of, trace_fault};
+ghost use Rattle.mq_trace.specs.Pieces.{ArePieces};
+ghost use Rattle.mq_trace.specs.Trace.{Answers, records_fault, rows_in, text_records, trace_fault};
 
+use crate::each::read_each;
 use crate::fault::TraceFault;
-use crate::header::{Header, read_header};
+use crate::header::read_header;
+use crate::join::join_rows;
+use crate::pieces::pieces_of;
 use crate::records::{next_record, text_reader};
-use crate::row::read_row;
-use csv::{ByteRecord, Reader};
-use mq_base::{List, OutOfMemory};
+use crate::rows::{read_rows, room_for};
+use csv::ByteRecord;
 use mq_core::{Network, Rows};
 use std::alloc::Global;
+use std::thread::Threads;
 
-/// Empty lists, one for each column.
-fn empty_lists(alloc: Global, columns: &[List<u8>]) -> Result<Vec<List<u64>>, OutOfMemory>
-    ensures { IfOk result (λ v. v.items ≡ map (λ _. []) columns.now) }
-{
-    let mut lists = Vec::new(alloc);
-    for _ in columns {
-        lists.push(List::new(alloc))?;
-    }
-    Ok(lists)
-}
+// A piece of a text has at least so many bytes.
+const PIECE_BYTES: usize = 65_536;
 
-/// Each list gains the value at its place.
-fn push_values(lists: &mut [List<u64>], places: &[usize], values: &[u64]) -> Result<(), OutOfMemory>
-    requires same { length lists.old ≡ length places.now }
-    requires places { (k : ℕ) → k < length places.now → get_or places.now k 0 < length values.now }
-    ensures { OnOk result (Pushes lists.old lists.new places.now values.now) }
-{
-    for (k, place) in places.iter().enumerate() {
-        let list = &mut lists[k];
-        list.push(values[*place])?;
-    }
-    Ok(())
-}
+// So many pieces for each worker, so that none waits long for another.
+const PIECES_EACH: u32 = 4;
 
-/// Reads the data records that are left. The last turn of the loop is the record that is one too many.
-fn read_rows(
-    alloc: Global,
-    reader: &mut Reader<&[u8]>,
-    net: &Network,
-    header: &Header,
-) -> Result<Rows, TraceFault>
-    requires between { IsBetween reader.old }
-    requires header { IsHeaderOf net.now header.now }
+/// Reads a text whose first record is the header.
+fn read_whole(alloc: Global, text: &[u8], net: &Network) -> Result<Rows, TraceFault>
     requires nodes { length net.now.nodes < 2 ^ 32 }
-    ensures { Answers result (rows_fault net.now (fields_of header.now.names) 1 (records_left reader.old)) (rows_of net.now (fields_of header.now.names) (records_left reader.old)) }
+    requires columns { length net.now.columns ≤ 16 }
+    ensures { Answers result (records_fault net.now (text_records text.now)) (rows_in net.now text.now) }
 {
-    let mut source = List::new(alloc);
-    let mut time = List::new(alloc);
-    let mut demands = empty_lists(alloc, net.columns.as_slice())?;
-    let mut values = [0u64; 16];
-    let mut row = ByteRecord::new(alloc);
-    for number in 1..1_048_578u32 {
-        if !next_record(reader, &mut row)? {
-            return Ok(Rows {
-                source,
-                time,
-                demands: List::from_vec(demands),
-            });
-        }
-        let (node, at) = read_row(&row, number, net, header, &mut values)?;
-        source.push(node)?;
-        time.push(at)?;
-        push_values(demands.as_mut_slice(), header.places.as_slice(), &values)?;
+    let mut reader = text_reader(alloc, text);
+    let mut names = ByteRecord::new(alloc);
+    if !next_record(&mut reader, &mut names)? {
+        return Err(TraceFault::BadHeader { field: 1 });
     }
-    unreachable!()
+    let header = read_header(alloc, names, net)?;
+    let room = room_for(text, &header);
+    read_rows(alloc, room, &mut reader, net, &header)
+}
+
+/// The same, by pieces. Where the first has no record the header stands in a later one, and the text is read whole.
+fn read_apart<R: Threads + Sync>(
+    rt: &R,
+    alloc: Global,
+    workers: u32,
+    text: &[u8],
+    pieces: &[&[u8]],
+    net: &Network,
+) -> Result<Rows, TraceFault>
+    requires one { 1 ≤ workers }
+    requires most { workers ≤ 64 }
+    requires some { 1 ≤ length pieces.now }
+    requires few { length pieces.now < 2 ^ 32 }
+    requires pieces { ArePieces text.now (map (λ s. s.now) pieces.now) }
+    requires nodes { length net.now.nodes < 2 ^ 32 }
+    requires columns { length net.now.columns ≤ 16 }
+    ensures { Answers result (records_fault net.now (text_records text.now)) (rows_in net.now text.now) }
+{
+    let mut reader = text_reader(alloc, pieces[0]);
+    let mut names = ByteRecord::new(alloc);
+    if !next_record(&mut reader, &mut names)? {
+        return read_whole(alloc, text, net);
+    }
+    let header = read_header(alloc, names, net)?;
+    let read = read_each(rt, alloc, workers, pieces, net, &header)?;
+    join_rows(alloc, pieces, read.as_slice(), net, &header)
+}
+
+/// Reads a text by so many pieces and workers.
+pub(crate) fn read_text<R: Threads + Sync>(
+    rt: &R,
+    alloc: Global,
+    workers: u32,
+    count: u32,
+    text: &[u8],
+    net: &Network,
+) -> Result<Rows, TraceFault>
+    requires one { 1 ≤ workers }
+    requires most { workers ≤ 64 }
+    requires nodes { length net.now.nodes < 2 ^ 32 }
+    requires columns { length net.now.columns ≤ 16 }
+    ensures { Answers result (records_fault net.now (text_records text.now)) (rows_in net.now text.now) }
+{
+    if count > 1 {
+        let pieces = pieces_of(alloc, text, count)?;
+        return read_apart(rt, alloc, workers, text, &pieces, net);
+    }
+    read_whole(alloc, text, net)
+}
+
+/// How many pieces a text is cut into. One worker reads it whole.
+fn pieces_for(workers: u32, len: usize) -> u32 {
+    if workers == 1 {
+        return 1;
+    }
+    let most = workers.saturating_mul(PIECES_EACH);
+    (len / PIECE_BYTES).min(most as usize) as u32
 }
 
 /// Reads a trace for the network of a plan. The row of job j is data record j + 1, in the order of the text.
@@ -82,7 +107,17 @@ fn read_rows(
 ///
 /// A text is refused for its first fault: its length, the least faulty field of the header, the least column of the
 /// model that the header lacks, or the first faulty record.
-pub fn read_trace(alloc: Global, bytes: &[u8], net: &Network) -> Result<Rows, TraceFault>
+///
+/// A long text without a quote is read in pieces by 1 to 64 workers. The answer is the same for each number of them.
+pub fn read_trace<R: Threads + Sync>(
+    rt: &R,
+    alloc: Global,
+    workers: u32,
+    bytes: &[u8],
+    net: &Network,
+) -> Result<Rows, TraceFault>
+    requires one { 1 ≤ workers }
+    requires most { workers ≤ 64 }
     requires nodes { length net.now.nodes < 2 ^ 32 }
     requires columns { length net.now.columns ≤ 16 }
     ensures exact { Answers result (trace_fault net.now bytes.now) (rows_in net.now bytes.now) }
@@ -94,11 +129,12 @@ pub fn read_trace(alloc: Global, bytes: &[u8], net: &Network) -> Result<Rows, Tr
     if bytes.starts_with(b"\xEF\xBB\xBF\xEF\xBB\xBF") {
         return Err(TraceFault::BadHeader { field: 1 });
     }
-    let mut reader = text_reader(alloc, bytes);
-    let mut names = ByteRecord::new(alloc);
-    if !next_record(&mut reader, &mut names)? {
-        return Err(TraceFault::BadHeader { field: 1 });
-    }
-    let header = read_header(alloc, names, net)?;
-    read_rows(alloc, &mut reader, net, &header)
+    read_text(
+        rt,
+        alloc,
+        workers,
+        pieces_for(workers, bytes.len()),
+        bytes,
+        net,
+    )
 }

@@ -1,10 +1,12 @@
 ghost use Rattle.std.specs.Prelude.{◌≡◌, IfOk, length};
 
+use crate::read::read_text;
 use crate::{TraceFault, read_trace};
 use mq_base::{List, OutOfMemory};
 use mq_core::{Demand, Input, Kind, Network, Node, Rows};
 use std::alloc::Global;
 use std::test::Fail;
+use std::thread::Threads;
 
 fn text(alloc: Global, bytes: &[u8]) -> Result<List<u8>, OutOfMemory> {
     Ok(List::from_vec(Vec::from_slice(alloc, bytes)?))
@@ -37,9 +39,9 @@ fn one_server(alloc: Global) -> Result<Network, OutOfMemory>
     })
 }
 
-fn read(alloc: Global, bytes: &[u8]) -> Result<Rows, TraceFault> {
+fn read<R: Threads + Sync>(rt: &R, alloc: Global, bytes: &[u8]) -> Result<Rows, TraceFault> {
     let net = one_server(alloc)?;
-    read_trace(alloc, bytes, &net)
+    read_trace(rt, alloc, 4, bytes, &net)
 }
 
 #[test]
@@ -71,7 +73,7 @@ fn a_trace_is_refused_for_its_first_fault(rt: HostRuntime) {
             TraceFault::BadCount { row: 2 },
         ),
     ] {
-        let read = read(rt.alloc(), bytes);
+        let read = read(&rt, rt.alloc(), bytes);
         let Err(fault) = read else {
             panic!(rt; "accepted");
         };
@@ -88,7 +90,7 @@ fn an_accepted_trace_gives_its_rows(rt: HostRuntime) -> Result<(), Fail> {
         b"\"source\",\"time\",\"d\"\r\n\"src\",7,4\r\n",
         b"source,time,note,d\nsrc,7,\"a, b\",4\n",
     ] {
-        let rows = read(rt.alloc(), bytes)?;
+        let rows = read(&rt, rt.alloc(), bytes)?;
         assert_eq!(rt; rows.source.as_slice(), [0].as_slice());
         assert_eq!(rt; rows.time.as_slice(), [7].as_slice());
         assert_eq!(rt; rows.demands.len(), 1);
@@ -100,10 +102,49 @@ fn an_accepted_trace_gives_its_rows(rt: HostRuntime) -> Result<(), Fail> {
 #[test]
 fn rows_stand_in_the_order_of_the_file(rt: HostRuntime) -> Result<(), Fail> {
     let bytes = b"source,time,d\nsrc,0,4\nsrc,1,1\nsrc,2,3\n";
-    let rows = read(rt.alloc(), bytes)?;
+    let rows = read(&rt, rt.alloc(), bytes)?;
     assert_eq!(rt; rows.source.as_slice(), [0, 0, 0].as_slice());
     assert_eq!(rt; rows.time.as_slice(), [0, 1, 2].as_slice());
     assert_eq!(rt; rows.demands.len(), 1);
     assert_eq!(rt; rows.demands.get(0).as_slice(), [4, 1, 3].as_slice());
+    Ok(())
+}
+
+fn are_alike(a: &Result<Rows, TraceFault>, b: &Result<Rows, TraceFault>) -> bool {
+    match (a, b) {
+        (Err(x), Err(y)) => x == y,
+        (Ok(x), Ok(y)) => {
+            x.source.as_slice() == y.source.as_slice()
+                && x.time.as_slice() == y.time.as_slice()
+                && x.demands.len() == 1
+                && y.demands.len() == 1
+                && x.demands.get(0).as_slice() == y.demands.get(0).as_slice()
+        }
+        _ => false,
+    }
+}
+
+#[test]
+fn pieces_give_what_the_whole_text_gives(rt: HostRuntime) -> Result<(), Fail> {
+    let net = one_server(rt.alloc())?;
+    for bytes in [
+        b"".as_slice(),
+        b"\n\n\n",
+        b"source,time,d\nsrc,7,4\nsrc,8,5\n\n\nsrc,9,6\nsrc,10,7",
+        b"\xEF\xBB\xBFsource,time,d\r\nsrc,7,4\r\nsrc,8,5\r\n",
+        b"\n\n\n\n\n\n\n\n\n\nsource,time,d\nsrc,7,4\nsrc,8,5\n",
+        b"source,time,d\nsrc,7,4\n\xEF\xBB\xBFsrc,8,5\nsrc,9,6\n",
+        b"source,time,d\nsrc,7,4\rsrc,8,5\rsrc,9,6\n\rsrc,9,7\n",
+        b"source,time,note,d\nsrc,7,\"a\nb\",4\nsrc,8,\"\n\n\",5\n",
+        b"source,time,d\nsrc,7,4\nsrc,8,5\nsrc,9,6\nsrc,x,7\nsrc,11,8\n",
+        b"source,time,d\nsrc,7,4\nsrc,8,5\nsrc,9\nno,x,7\nsrc,11,8\n",
+        b"source,time,d\nsrc,7,4\nsrc,8,5\nsrc,9,6\nno,10,7\nsrc,x,8\n",
+    ] {
+        let whole = read_text(&rt, rt.alloc(), 1, 1, bytes, &net);
+        for count in 2..14u32 {
+            let apart = read_text(&rt, rt.alloc(), 3, count, bytes, &net);
+            assert!(rt; are_alike(&whole, &apart));
+        }
+    }
     Ok(())
 }

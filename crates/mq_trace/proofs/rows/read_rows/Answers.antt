@@ -4,7 +4,7 @@ use Rattle.std.proofs.lemmas.Result.{err_from_is_err_and}
 use Rattle.csv.specs.Records.{fields_of}
 use Rattle.mq_trace.specs.Records.{records_left}
 use Rattle.mq_trace.proofs.RowFacts.{so_far_all, so_far_more, so_far_none, column_stands, small_row, first_fault, reads_few, written_back}
-use Rattle.mq_trace.proofs.read.read_rows.Goals as goal
+use Rattle.mq_trace.proofs.rows.read_rows.Goals as goal
 
 pub loop-number-init : goal.loop-number-init
 loop-number-init c = record {
@@ -14,7 +14,7 @@ loop-number-init c = record {
   split = refl;
   count = refl;
   most = omega arith;
-  rows = rw (c.new-source.ensures, c.new-time.ensures, c.in_ok-demands.ensures, c.as_slice.ensures) (so_far_none _ _);
+  rows = rw (c.from_vec-source.ensures, c.in_ok-with_capacity.ensures.items, c.from_vec-time.ensures, c.in_ok-with_capacity-2.ensures.items, c.in_ok-demands.ensures, c.as_slice.ensures) (so_far_none _ _);
 }
 
 pub returns-then-not-branch : goal.returns-then-not-branch

@@ -1,0 +1,78 @@
+-- A text in pieces, which are cut at line feeds and read by themselves.
+use Rattle.std.specs.Prelude.{◌≡◌, ◌⊎◌, ◌+◌, ◌<◌, ◌++◌, ◌∷◌, ◌==◌, [], ℕ, List, Bool, true, false, flat_map, get_or, length, nat_lt, if◌then◌else◌, Result}
+use Rattle.std.specs.List.{list_any}
+use Rattle.csv.specs.Machine.{step}
+use Rattle.csv.specs.Reading.{default_config}
+use Rattle.csv.specs.declared.parser.State.{State}
+use Rattle.csv.specs.declared.parser.State.TheVariants as st
+use Rattle.mq_core.specs.declared.model.Network.{Network}
+use Rattle.mq_core.specs.declared.model.Rows.{Rows}
+use Rattle.mq_trace.specs.Records.{Record, records_at}
+use Rattle.mq_trace.specs.Trace.{Answers, data_of, rows_fault, rows_of, text_records}
+use Rattle.mq_trace.specs.declared.fault.TraceFault.{TraceFault}
+use Rattle.mq_trace.specs.declared.fault.TraceFault.TheVariants.{TooLong, BadHeader, MissingColumn, TooManyRows, BadCount, UnknownSource, BadNumber, Memory}
+
+-- a line feed ends the record at hand, or there is none
+abbrev pub is_shut : State → Bool
+is_shut st.StartRecord = true
+is_shut st.AfterCr = true
+is_shut st.StartField = true
+is_shut st.InField = true
+is_shut st.AfterQuote = true
+is_shut st.InQuoted = false
+is_shut st.InEscape = false
+is_shut st.InComment = false
+
+-- the machine's state after a text
+unfoldable pub state_after : State → List ℕ → State
+state_after s [] = s
+state_after s (c ∷ rest) = state_after (step default_config s c).0 rest
+
+-- Where a text stops outside quotes, a line feed and what follows have records of their own
+abbrev pub Parts : Type 0
+Parts = (front back : List ℕ) → is_shut (state_after st.StartRecord front) ≡ true
+    → records_at st.StartRecord (front ++ 10 ∷ back) ≡ records_at st.StartRecord front ++ records_at st.StartRecord (10 ∷ back)
+
+-- a quote stands in the text
+abbrev pub has_quote : List ℕ → Bool
+has_quote text = list_any (λ c. c == 34) text
+
+-- nothing, or a line feed and what follows
+abbrev pub IsRest : List ℕ → Type 0
+IsRest text = (text ≡ []) ⊎ (get_or text 0 0 ≡ 10)
+
+-- each piece but the first is nothing, or begins with a line feed
+abbrev pub AreLines : List (List ℕ) → Type 0
+AreLines pieces = (k : ℕ) → 0 < k → k < length pieces → IsRest (get_or pieces k [])
+
+-- the records of pieces that are read by themselves are those of the text
+abbrev pub ArePieces : List ℕ → List (List ℕ) → Type 0
+ArePieces text pieces = text_records text ≡ flat_map text_records pieces
+
+-- the data records of a piece: the header is a record of the first
+abbrev pub piece_data : ℕ → List ℕ → List Record
+piece_data at piece = if at == 0 then data_of (text_records piece) else text_records piece
+
+-- what a reader of these data records answers, who numbers them from 1
+abbrev pub Reads : Network → Record → List Record → Result Rows TraceFault → Type 0
+Reads net header rs result = Answers result (rows_fault net header 1 rs) (rows_of net header rs)
+
+-- a fault that names a row, unless the row is one too many
+abbrev pub if_allowed : ℕ → TraceFault → TraceFault
+if_allowed row fault = if nat_lt 1048576 row then TooManyRows else fault
+
+-- a fault of data records with so many others before them
+abbrev pub behind : ℕ → TraceFault → TraceFault
+behind before TooLong = TooLong
+behind before (BadHeader field) = BadHeader field
+behind before (MissingColumn column) = MissingColumn column
+behind before TooManyRows = TooManyRows
+behind before (BadCount row) = if_allowed (before + row) (BadCount (before + row))
+behind before (UnknownSource row) = if_allowed (before + row) (UnknownSource (before + row))
+behind before (BadNumber row field) = if_allowed (before + row) (BadNumber (before + row) field)
+behind before Memory = Memory
+
+-- each list gained those of the same place
+pub record Gains (old new more : List (List ℕ)) : Type 0 where
+  pub len : length new ≡ length old
+  pub each : (k : ℕ) → k < length old → get_or new k [] ≡ get_or old k [] ++ get_or more k []

@@ -1,0 +1,96 @@
+// The pieces of a trace, which workers read.
+
+ghost use Rattle.std.specs.Prelude.{◌≡◌, ◌^◌, ◌<◌, ◌≤◌, ℕ, [], length, map, get_or, slice_index_or, IfOk};
+ghost use Rattle.csv.specs.Records.{fields_of};
+ghost use Rattle.mq_trace.specs.Pieces.{Reads, piece_data};
+ghost use Rattle.mq_trace.specs.Reading.{IsHeaderOf};
+ghost use Rattle.mq_trace.specs.Trace.{text_records};
+
+use crate::fault::TraceFault;
+use crate::header::Header;
+use crate::records::{next_record, text_reader};
+use crate::rows::{read_rows, room_for};
+use csv::ByteRecord;
+use mq_base::{List, OutOfMemory};
+use mq_core::{Network, Rows};
+use mq_crew::{Open, Pieces, run_pieces};
+use std::alloc::Global;
+use std::thread::Threads;
+
+/// Reads the data records of a piece, without the header where it is the first. They are numbered from 1.
+fn read_piece(
+    alloc: Global,
+    at: usize,
+    piece: &[u8],
+    net: &Network,
+    header: &Header,
+) -> Result<Rows, TraceFault>
+    requires header { IsHeaderOf net.now header.now }
+    requires nodes { length net.now.nodes < 2 ^ 32 }
+    requires first { at ≡ 0 → 1 ≤ length (text_records piece.now) }
+    ensures { Reads net.now (fields_of header.now.names) (piece_data at piece.now) result }
+{
+    let mut reader = text_reader(alloc, piece);
+    if at == 0 && !next_record(&mut reader, &mut ByteRecord::new(alloc))? {
+        unreachable!()
+    }
+    read_rows(alloc, room_for(piece, header), &mut reader, net, header)
+}
+
+/// A text in pieces, of which each is read by itself. The header is the first record of the first.
+#[derive(Drop)]
+struct TracePieces<'a> {
+    pieces: &'a [&'a [u8]],
+    net: &'a Network,
+    header: &'a Header,
+    ghost few: { length pieces.now < 2 ^ 32 },
+    ghost is_header: { IsHeaderOf net.now header.now },
+    ghost nodes: { length net.now.nodes < 2 ^ 32 },
+    ghost first: { 1 ≤ length (text_records (get_or (map (λ s. s.now) pieces.now) 0 [])) },
+}
+
+impl<'a> Pieces for TracePieces<'a> {
+    type Piece = Result<Rows, TraceFault>;
+
+    ghost fit = { λ s. Unit {0} };
+
+    ghost places = { λ s. length s.pieces.now };
+
+    ghost is_piece = { λ s b p. Reads s.net.now (fields_of s.header.now.names) (piece_data b (get_or (map (λ t. t.now) s.pieces.now) b [])) p };
+
+    fn count(&self) -> u32 {
+        self.pieces.len() as u32
+    }
+
+    fn piece(&self, alloc: Global, b: u32) -> Result<Result<Rows, TraceFault>, OutOfMemory> {
+        let at = b as usize;
+        Ok(read_piece(alloc, at, self.pieces[at], self.net, self.header))
+    }
+}
+
+/// Reads each piece by itself, by so many workers, and tells of each its rows or its first fault.
+pub fn read_each<R: Threads + Sync>(
+    rt: &R,
+    alloc: Global,
+    workers: u32,
+    pieces: &[&[u8]],
+    net: &Network,
+    header: &Header,
+) -> Result<List<Result<Rows, TraceFault>>, OutOfMemory>
+    requires some { 1 ≤ workers }
+    requires most { workers ≤ 64 }
+    requires few { length pieces.now < 2 ^ 32 }
+    requires header { IsHeaderOf net.now header.now }
+    requires nodes { length net.now.nodes < 2 ^ 32 }
+    requires first { 1 ≤ length (text_records (get_or (map (λ s. s.now) pieces.now) 0 [])) }
+    ensures len { IfOk result (λ l. length l ≡ length pieces.now) }
+    ensures each { IfOk result (λ l. (i : ℕ) (d : _) → i < length pieces.now → Reads net.now (fields_of header.now.names) (piece_data i (get_or (map (λ s. s.now) pieces.now) i [])) (slice_index_or l i d)) }
+{
+    let all = TracePieces {
+        pieces,
+        net,
+        header,
+    };
+    let read = run_pieces(rt, alloc, workers, &all, &Open)?;
+    Ok(read)
+}

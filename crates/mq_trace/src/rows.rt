@@ -1,0 +1,93 @@
+// The data records that a reader has left, as rows.
+
+ghost use Rattle.std.specs.Prelude.{◌≡◌, ◌+◌, ◌^◌, ◌<◌, ◌∷◌, ◌++◌, [], length, map, get_or, ℕ, OnOk, IfOk};
+ghost use Rattle.csv.specs.Records.{fields_of};
+ghost use Rattle.mq_trace.specs.Pieces.{Reads};
+ghost use Rattle.mq_trace.specs.Reading.{IsHeaderOf, Pushes};
+ghost use Rattle.mq_trace.specs.Records.{IsBetween, records_left};
+
+use crate::fault::TraceFault;
+use crate::header::Header;
+use crate::records::next_record;
+use crate::row::read_row;
+use csv::{ByteRecord, Reader};
+use mq_base::{List, OutOfMemory};
+use mq_core::{Network, Rows};
+use std::alloc::Global;
+
+/// The most data records that a trace may have.
+pub const MOST_ROWS: u32 = 1_048_576;
+
+// A record has room for so many bytes at first, so that the reader mostly takes a record at once.
+const RECORD_ROOM: usize = 1024;
+
+// So many bytes a field, with the comma behind it, are reckoned with where room is made for rows.
+const FIELD_BYTES: usize = 4;
+
+/// For how many rows room is made before a text is read. Where it has more their lists grow.
+pub fn room_for(text: &[u8], header: &Header) -> usize {
+    let rows = text.len() / header.names.len().max(1) / FIELD_BYTES;
+    rows.min(MOST_ROWS as usize)
+}
+
+/// Empty lists with room, one for each column.
+pub fn empty_lists(
+    alloc: Global,
+    columns: &[List<u8>],
+    room: usize,
+) -> Result<Vec<List<u64>>, OutOfMemory>
+    ensures { IfOk result (λ v. v.items ≡ map (λ _. []) columns.now) }
+{
+    let mut lists = Vec::new(alloc);
+    for _ in columns {
+        lists.push(List::from_vec(Vec::with_capacity(alloc, room)?))?;
+    }
+    Ok(lists)
+}
+
+/// Each list gains the value at its place.
+fn push_values(lists: &mut [List<u64>], places: &[usize], values: &[u64]) -> Result<(), OutOfMemory>
+    requires same { length lists.old ≡ length places.now }
+    requires places { (k : ℕ) → k < length places.now → get_or places.now k 0 < length values.now }
+    ensures { OnOk result (Pushes lists.old lists.new places.now values.now) }
+{
+    for (k, place) in places.iter().enumerate() {
+        let list = &mut lists[k];
+        list.push(values[*place])?;
+    }
+    Ok(())
+}
+
+/// Reads the data records that are left. The last turn of the loop is the record that is one too many.
+pub fn read_rows(
+    alloc: Global,
+    room: usize,
+    reader: &mut Reader<&[u8]>,
+    net: &Network,
+    header: &Header,
+) -> Result<Rows, TraceFault>
+    requires between { IsBetween reader.old }
+    requires header { IsHeaderOf net.now header.now }
+    requires nodes { length net.now.nodes < 2 ^ 32 }
+    ensures { Reads net.now (fields_of header.now.names) (records_left reader.old) result }
+{
+    let mut source = List::from_vec(Vec::with_capacity(alloc, room)?);
+    let mut time = List::from_vec(Vec::with_capacity(alloc, room)?);
+    let mut demands = empty_lists(alloc, net.columns.as_slice(), room)?;
+    let mut values = [0u64; 16];
+    let mut row = ByteRecord::with_capacity(alloc, RECORD_ROOM, 18)?;
+    for number in 1..1_048_578u32 {
+        if !next_record(reader, &mut row)? {
+            return Ok(Rows {
+                source,
+                time,
+                demands: List::from_vec(demands),
+            });
+        }
+        let (node, at) = read_row(&row, number, net, header, &mut values)?;
+        source.push(node)?;
+        time.push(at)?;
+        push_values(demands.as_mut_slice(), header.places.as_slice(), &values)?;
+    }
+    unreachable!()
+}
