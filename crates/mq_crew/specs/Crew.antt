@@ -1,11 +1,10 @@
 -- What a worker hands back, and what the gate asks of a seat.
 use Rattle.std.specs.Prelude.{◌≡◌, ℕ, ◌+◌, ◌-◌, ◌<◌, ◌≤◌, List, [], ◌∷◌, ◌++◌, length, map, filter, All, nat_lt, Some, slice_get, slice_index_or}
 use Rattle.mq_claims.specs.Counts.{late}
-use Rattle.mq_claims.specs.Seats.{Seated}
 
--- the number is the last that the seat drew
-abbrev pub IsLastDraw : Seated → ℕ → Type 0
-IsLastDraw seat number = (before : List ℕ) × (seat.draws ≡ before ++ number ∷ [])
+-- the number is the last of the draws
+abbrev pub IsLastOf : List ℕ → ℕ → Type 0
+IsLastOf draws number = (before : List ℕ) × (draws ≡ before ++ number ∷ [])
 
 module _ {X : Type 0} where
   abbrev pub numbers : List (ℕ × X) → List ℕ

@@ -1,10 +1,10 @@
 // Workers that draw numbers and make pieces.
-ghost use Rattle.std.specs.Prelude.{◌≡◌, ℕ, ◌+◌, ◌<◌, ◌≤◌, [], ◌++◌, IfOk, IsOkAnd};
+ghost use Rattle.std.specs.Prelude.{◌≡◌, ℕ, ◌+◌, ◌<◌, ◌≤◌, [], IfOk};
 ghost use Rattle.std.specs.Thread.{IsSync, IsSend};
 ghost use Rattle.mq_claims.specs.Seats.{IsSeatOf};
 ghost use Rattle.mq_crew.specs.Crew.{IsMadeOf, AreAll};
 
-use crate::place::placed;
+use crate::place::{merged, placed};
 use crate::{Gate, Pieces};
 use mq_base::{List, OutOfMemory};
 use mq_claims::{ClaimSeat, Claims};
@@ -44,19 +44,6 @@ fn work<P: Pieces, G: Gate>(
             return (seat, Err(OutOfMemory));
         }
     }
-}
-
-// Both lists, one after the other.
-fn merged<T: Drop>(
-    first: Result<Vec<T>, OutOfMemory>,
-    second: Result<Vec<T>, OutOfMemory>,
-) -> Result<Vec<T>, OutOfMemory>
-    ensures { IfOk result (λ v. IsOkAnd first (λ a. IsOkAnd second (λ b. v.items ≡ a.items ++ b.items))) }
-{
-    let mut all = first?;
-    let mut more = second?;
-    all.append(&mut more)?;
-    Ok(all)
 }
 
 // The workers are halved at each step, and one half goes to a new thread.

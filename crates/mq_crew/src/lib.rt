@@ -11,6 +11,7 @@ pub use crew::run_pieces;
 pub use gate::{Gate, Open};
 pub use parts::{made, run_parts};
 pub use pieces::Pieces;
+pub use place::{merged, placed};
 
 #[cfg(test)]
 mod tests;

@@ -1,8 +1,9 @@
 ghost use Rattle.std.specs.Prelude.{◌≡◌, ℕ, ◌*◌, ◌<◌, ◌≤◌, ◌^◌, IfOk};
-ghost use Rattle.mq_crew.specs.Crew.{AreAll, IsLastDraw};
+ghost use Rattle.mq_crew.specs.Crew.{AreAll, IsLastOf};
 
 use crate::{Gate, Open, Pieces, run_pieces};
 use mq_base::{List, OutOfMemory};
+use mq_chain::ChainSeat;
 use mq_claims::ClaimSeat;
 use std::alloc::Global;
 use std::sync::atomic::AtomicU64;
@@ -64,6 +65,8 @@ impl Gate for Pair {
         }
         self.alone.fetch_add(1, SeqCst);
     }
+
+    fn enter_block(&self, _seat: &ChainSeat, _worker: u32, _block: u32) {}
 }
 
 #[test]

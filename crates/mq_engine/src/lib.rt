@@ -33,6 +33,7 @@ pub use fault::{PastFault, RunFault};
 use mq_base::List;
 use mq_core::{Plan, Rows, Run};
 use mq_crew::Gate;
+pub use mq_pass::chain_departures;
 use std::alloc::Global;
 use std::thread::Threads;
 

@@ -35,14 +35,14 @@ module _ (arrive demands : List ℕ) (load : IsLateLoad arrive demands) where
       within-max (mp_plus x (At (get_or demands at 0))) (At (get_or arrive at 0 + get_or demands at 0)) (2 ^ 62 + suc n * 2 ^ 36)
       (within-more (mp_plus x (At (get_or demands at 0))) ((2 ^ 62 + n * 2 ^ 36) + 2 ^ 36) (2 ^ 62 + suc n * 2 ^ 36) (omega arith) (within-plus x (At (get_or demands at 0)) (2 ^ 62 + n * 2 ^ 36) (2 ^ 36) h d)) (omega arith)
 
-  span-within : (from n : ℕ) → from + n + 1 ≤ length arrive → ((Span from n).add ≤ suc n * 2 ^ 36) × IsWithin (2 ^ 62 + suc n * 2 ^ 36) (Span from n).least
+  pub span-within : (from n : ℕ) → from + n + 1 ≤ length arrive → ((Span from n).add ≤ suc n * 2 ^ 36) × IsWithin (2 ^ 62 + suc n * 2 ^ 36) (Span from n).least
   span-within from zero le = let t = early-at from (omega arith) in let d = small-at from (omega arith) in (omega arith, omega arith)
   span-within from (suc n) le =
       let h = span-within from n (omega arith) in
       let d = small-at (from + suc n) (omega arith) in
       ((let a = h.0 in omega arith), job-within (Span from n).least (from + suc n) (suc n) (omega arith) h.1)
 
-  fold-within : (n : ℕ) → n ≤ length arrive → IsWithin (2 ^ 62 + n * 2 ^ 36) (fold_to affine_act Void (job arrive demands) n)
+  pub fold-within : (n : ℕ) → n ≤ length arrive → IsWithin (2 ^ 62 + n * 2 ^ 36) (fold_to affine_act Void (job arrive demands) n)
   fold-within zero le = tt
   fold-within (suc n) le = job-within (fold_to affine_act Void (job arrive demands) n) n n (omega arith) (fold-within n (omega arith))
 

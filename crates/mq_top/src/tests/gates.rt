@@ -1,6 +1,7 @@
 use super::files_of;
 use crate::{Outcome, simulate_gated};
 use mq_base::MemSink;
+use mq_chain::ChainSeat;
 use mq_claims::ClaimSeat;
 use mq_crew::Gate;
 use std::sync::atomic::AtomicU64;
@@ -34,6 +35,8 @@ impl Gate for Held {
         }
         self.run_out.fetch_add(1, SeqCst);
     }
+
+    fn enter_block(&self, _seat: &ChainSeat, _worker: u32, _block: u32) {}
 }
 
 const DESK: &[u8] = b"model 1\nsource src\nserver desk d from src\n";

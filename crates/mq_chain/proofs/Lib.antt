@@ -1,0 +1,4 @@
+pub mod Postings
+pub mod Keeps
+pub mod Folding
+pub mod Schedules

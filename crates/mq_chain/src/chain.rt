@@ -1,0 +1,267 @@
+// The table of carries and its seats.
+ghost use Rattle.std.specs.Prelude.{◌≡◌, ◌≢◌, ℕ, ◌+◌, ◌-◌, ◌*◌, ◌/◌, ◌<◌, ◌≤◌, ◌^◌, [], ◌∷◌, ◌++◌, All, IfOk, IfSome, IfNone, Contains, length, slice_index, slice_index_or, List};
+ghost use Rattle.mq_maxplus.specs.declared.mp.Mp.TheVariants.{Void};
+ghost use Rattle.mq_maxplus.specs.declared.affine.Affine.{Affine};
+ghost use Rattle.mq_claims.specs.Counts.{IsAllBelow};
+ghost use Rattle.mq_chain.specs.Cut.{AreOfCut, IsCarryAfter};
+ghost use Rattle.mq_chain.specs.Words.{sum_word, best_word, carry_word, HasNoSummary, IsShort, with_summary, IsNext, IsFold, word_of, mp_of_word, IsClosed};
+ghost use Rattle.mq_chain.specs.Rule.{Kept, Draws, Stores, Sees};
+ghost use Rattle.mq_chain.specs.Machine.{Leads, Runs, IsFolded};
+ghost use Rattle.mq_chain.specs.declared.hand.Hand.{Hand as Held};
+ghost use Rattle.mq_chain.specs.Views.{hand};
+ghost use Rattle.mq_chain.specs.Seats.{IsSeatOf, seated};
+
+use crate::{Deal, Hand};
+use atomic_table::{Join, Play, Seat, Split, Table, TableRule};
+use mq_base::{List, OutOfMemory};
+use mq_maxplus::{Affine, Mp};
+use std::alloc::Global;
+use std::marker::{Brand, Model, PhantomData};
+
+struct Rule;
+
+impl TableRule<(), Hand, Deal> for Rule {
+    ghost holds = { λ deal s. Kept deal s };
+
+    ghost first = { λ deal. hand deal.seats [] [] [] };
+}
+
+struct Draw;
+
+impl Play<(), Hand> for Draw {
+    ghost then = { Draws };
+}
+
+struct Put;
+
+impl Play<(), Hand> for Put {
+    ghost then = { Stores };
+}
+
+struct Look;
+
+impl Play<(), Hand> for Look {
+    ghost then = { Sees };
+}
+
+/// How much right is given away.
+trait Share {
+    ghost share: { ℕ };
+}
+
+impl Share for Brand {
+    ghost share = { 0 };
+}
+
+struct Cut<N: Share> {
+    of: PhantomData<N>,
+}
+
+impl<N: Share> Split<Hand> for Cut<N> {
+    ghost left = { λ v. hand (v.right - N.share) v.draws v.puts v.looks };
+
+    ghost right = { λ v. hand N.share [] [] [] };
+}
+
+struct Both;
+
+impl Join<Hand> for Both {
+    ghost both = { λ v w. hand (v.right + w.right) (v.draws ++ w.draws) (v.puts ++ w.puts) (v.looks ++ w.looks) };
+
+    ghost spent = { hand 0 [] [] [] };
+}
+
+/// Carries by block, which are filled in once each.
+#[derive(Drop)]
+pub struct Chain {
+    table: Table<(), Hand, Deal, Rule, Global>,
+}
+
+impl Model for Chain {
+    ghost use Rattle.std.specs.Prelude.{◌≡◌, ◌+◌, ◌*◌, ◌<◌, ◌^◌};
+    ghost use Rattle.mq_chain.specs.Seats.{Chained, chained_code};
+
+    ghost Value = { Chained };
+
+    ghost coded = { chained_code };
+
+    ghost view = { λ c. record { table = c.table.shared.table_id; blocks = c.table.shared.key.blocks; seats = c.table.shared.key.seats } };
+
+    ghost invariant = { λ c. (c.table.shared.table_id.words ≡ 3 * c.table.shared.key.blocks + 1) × (c.table.shared.table_id.slots ≡ 0) × (c.table.shared.key.blocks < 2 ^ 32) };
+}
+
+/// The right to draw blocks, and what was done with them. It takes no memory, and no running code reads what it holds.
+#[derive(Drop)]
+pub struct ChainSeat {
+    seat: Seat<(), Hand>,
+}
+
+impl Model for ChainSeat {
+    ghost use Rattle.std.specs.Prelude.{◌≡◌, ◌≤◌, []};
+    ghost use Rattle.mq_chain.specs.Seats.{Seated, seated_code, seated};
+
+    ghost Value = { Seated };
+
+    ghost coded = { seated_code };
+
+    ghost view = { λ s. seated s.seat.table_id s.seat.me.0.right s.seat.me.0.draws s.seat.me.0.puts s.seat.me.0.looks };
+
+    ghost invariant = { λ s. (1 ≤ s.seat.me.0.right) × (s.seat.me.1 ≡ []) };
+}
+
+fn mp_of(word: u64) -> Mp
+    ensures { result ≡ mp_of_word word }
+{
+    if word == 0 {
+        Mp::Void
+    } else {
+        Mp::At(word - 1)
+    }
+}
+
+impl Chain {
+    /// The first seat has the right to make `seats` seats in all.
+    pub fn new(alloc: Global, blocks: u32, seats: u32) -> Result<(Chain, ChainSeat), OutOfMemory>
+        requires some_blocks { 1 ≤ blocks }
+        requires most { blocks ≤ 16384 }
+        requires some_seats { 1 ≤ seats }
+        ensures { IfOk result (λ r. (r.0.blocks ≡ blocks) × (r.0.seats ≡ seats) × (r.1 ≡ seated r.0.table seats [] [] [])) }
+    {
+        let deal = Deal {
+            blocks: blocks as u64,
+            seats: seats as u64,
+        };
+        let words = Vec::from_elem(alloc, 0u64, 3 * blocks as usize + 1)?;
+        let (table, seat) = Table::of_words(alloc, words.as_slice(), &deal)?;
+        Ok((Chain { table }, ChainSeat { seat }))
+    }
+
+    /// Gives `share` of the seat's right to a new seat.
+    pub fn split(&self, seat: &mut ChainSeat, share: u32) -> ChainSeat
+        requires own { IsSeatOf self.now seat.old }
+        requires early { All (λ d. d < self.now.blocks) seat.old.draws }
+        requires some { 1 ≤ share }
+        requires rest { share < seat.old.right }
+        ensures left { seat.new ≡ seated seat.old.table (seat.old.right - share) seat.old.draws seat.old.puts seat.old.looks }
+        ensures given { result ≡ seated seat.old.table share [] [] [] }
+    {
+        self.split_by::<Brand>(seat, share)
+    }
+
+    fn split_by<N: Share>(&self, seat: &mut ChainSeat, share: u32) -> ChainSeat
+        requires share { share ≡ N.share }
+        requires own { IsSeatOf self.now seat.old }
+        requires early { All (λ d. d < self.now.blocks) seat.old.draws }
+        requires some { 1 ≤ share }
+        requires rest { share < seat.old.right }
+        ensures left { seat.new ≡ seated seat.old.table (seat.old.right - share) seat.old.draws seat.old.puts seat.old.looks }
+        ensures given { result ≡ seated seat.old.table share [] [] [] }
+    {
+        let seat = self.table.shared.split_seat::<Cut<N>>(&mut seat.seat);
+        ChainSeat { seat }
+    }
+
+    /// Takes in the right of another seat, and all that it drew, stored and saw.
+    pub fn join(&self, seat: &mut ChainSeat, other: ChainSeat)
+        requires own { IsSeatOf self.now seat.old }
+        requires its { IsSeatOf self.now other }
+        ensures { seat.new ≡ seated seat.old.table (seat.old.right + other.right) (seat.old.draws ++ other.draws) (seat.old.puts ++ other.puts) (seat.old.looks ++ other.looks) }
+    {
+        self.table
+            .shared
+            .join_seat::<Both>(&mut seat.seat, other.seat);
+    }
+
+    /// The carries by block, by the seat that has the whole right.
+    pub fn close(self, alloc: Global, seat: ChainSeat) -> Result<List<Mp>, OutOfMemory>
+        requires own { IsSeatOf self seat }
+        requires whole { seat.right ≡ self.seats }
+        ensures len { IfOk result (λ l. length l ≡ self.blocks) }
+        ensures drawn { IfOk result (λ _. IsAllBelow seat.draws) }
+        ensures each { IfOk result (λ l. (b : ℕ) → b < self.blocks → IsClosed seat.puts seat.looks b (slice_index_or l b Void)) }
+    {
+        let blocks = (self.table.word_count() - 1) / 3;
+        let mut carries = Vec::with_capacity(alloc, blocks)?;
+        let closed = self.table.close_with(seat.seat);
+        'reads: for b in 0..blocks {
+            let Ok(()) = carries.push(mp_of(closed.word(3 * b + 3))) else {
+                unreachable!()
+            };
+        }
+        closed.free();
+        Ok(List::from_vec(carries))
+    }
+
+    /// Draws the next block.
+    pub fn draw(&self, seat: &mut ChainSeat) -> u64
+        requires own { IsSeatOf self.now seat.old }
+        requires early { All (λ d. d < self.now.blocks) seat.old.draws }
+        ensures fresh { All (λ d. d < result) seat.old.draws }
+        ensures drawn { seat.new ≡ seated seat.old.table seat.old.right (seat.old.draws ++ result ∷ []) seat.old.puts seat.old.looks }
+    {
+        self.table.shared.fetch_add::<Draw>(&mut seat.seat, 0, 1)
+    }
+
+    /// Looks once for the carry of a block.
+    pub fn carry(&self, seat: &mut ChainSeat, b: u32) -> Option<u64>
+        requires own { IsSeatOf self.now seat.old }
+        requires inside { b < self.now.blocks }
+        ensures look { seat.new ≡ seated seat.old.table seat.old.right seat.old.draws seat.old.puts (seat.old.looks ++ (carry_word b, word_of result) ∷ []) }
+        ensures short { IfSome result (λ v. v < 2 ^ 63) }
+        ensures put { IfNone result ((x : ℕ) → ¬ Contains seat.old.puts (carry_word b, x + 1)) }
+        ensures seen { IfNone result ((x : ℕ) → ¬ Contains seat.old.looks (carry_word b, x + 1)) }
+    {
+        let word = 3 * b as usize + 3;
+        let found = self.table.shared.load::<Look>(&mut seat.seat, word);
+        if found == 0 { None } else { Some(found - 1) }
+    }
+
+    /// Stores the sum and then the best of a block that the seat drew.
+    pub fn put_summary(&self, seat: &mut ChainSeat, b: u32, summary: Affine)
+        requires own { IsSeatOf self.now seat.old }
+        requires inside { b < self.now.blocks }
+        requires drew { Contains seat.old.draws b }
+        requires fresh { HasNoSummary seat.old.puts b }
+        requires short { IsShort summary }
+        ensures { seat.new ≡ seated seat.old.table seat.old.right seat.old.draws (with_summary seat.old.puts b summary) seat.old.looks }
+    {
+        let Mp::At(best) = summary.least else {
+            unreachable!()
+        };
+        let word = 3 * b as usize;
+        let shared = &self.table.shared;
+        shared.store::<Put>(&mut seat.seat, word + 1, summary.add + 1);
+        shared.store::<Put>(&mut seat.seat, word + 2, best + 1);
+    }
+
+    /// Stores the carry of a block, which is its summary acting on the carry before it.
+    pub fn put_carry(&self, seat: &mut ChainSeat, b: u32, carry: u64)
+        requires own { IsSeatOf self.now seat.old }
+        requires inside { b < self.now.blocks }
+        requires drew { Contains seat.old.draws b }
+        requires fresh { (x : ℕ) → ¬ Contains seat.old.puts (carry_word b, x) }
+        requires next { IsNext seat.old.puts seat.old.looks b carry }
+        requires short { carry < 2 ^ 63 }
+        ensures { seat.new ≡ seated seat.old.table seat.old.right seat.old.draws (seat.old.puts ++ (carry_word b, carry + 1) ∷ []) seat.old.looks }
+    {
+        let word = 3 * b as usize + 3;
+        self.table
+            .shared
+            .store::<Put>(&mut seat.seat, word, carry + 1);
+    }
+}
+
+/// Where the summaries of a cut were stored, a carry that is their fold is the one of the fold of the jobs.
+pub fn closed_is_fold()
+    ensures { (part : ℕ → Affine) (places block : ℕ) (puts : List (ℕ × ℕ)) (b c : ℕ) → AreOfCut part places block puts → b * block < places → IsFold puts b c → IsCarryAfter part places block b c }
+{}
+
+/// Between any two steps of a schedule each carry that stands is the fold of the summaries of its block and those before.
+pub fn carries_are_folded()
+    ensures { (blocks seats : ℕ) (words : List ℕ) (views : List Held) → Runs blocks seats words views → (b : ℕ) → slice_index words (carry_word b) ≢ 0 → IsFolded words b }
+{}
+
+/// A sum, a best or a carry that stands is the same in each later state of a schedule.
+pub fn words_stay()
+    ensures { (blocks : ℕ) (words later : List ℕ) (views after : List Held) → Leads blocks words views later after → (w : ℕ) → 1 ≤ w → slice_index words w ≢ 0 → slice_index later w ≡ slice_index words w }
+{}

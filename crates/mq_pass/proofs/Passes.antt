@@ -1,0 +1,117 @@
+-- What one worker keeps as it passes over blocks, and what two that are joined have together.
+use Rattle.std.proofs.Common.{◌≡◌, ℕ, ◌+◌, ◌-◌, ◌<◌, ◌≤◌, ◌⊎◌, List, [], ◌∷◌, ◌++◌, refl, sym, ap, ◌∙◌, subst, arith, ⊎_elim, Contains, All, Option, Some, None, IfSome, Result, Ok, Err, IfOk, IsOkAnd}
+use Rattle.std.proofs.lemmas.List.Elements.{Contains-append_cases, Contains-append_left, Contains-append_right, All-contains, All-weaker}
+use Rattle.mq_chain.specs.Seats.{Seated, seated}
+use Rattle.mq_chain.specs.Words.{carry_word, block_of}
+use Rattle.mq_crew.specs.Crew.{IsMadeOf}
+use Rattle.mq_crew.proofs.Working.{IsWorking, works-more, works-ended, made-both}
+use Rattle.mq_maxplus.specs.declared.affine.Affine.{Affine}
+use Rattle.mq_maxplus.specs.declared.mp.Mp.{Mp}
+use Rattle.mq_maxplus.specs.declared.mp.Mp.TheVariants.{Void, At}
+use Rattle.mq_pass.specs.declared.block.Passed.{Passed}
+use Rattle.mq_pass.specs.Blocks.{departs_of}
+use Rattle.mq_pass.specs.Passing.{IsFresh, IsSeen, HasNoPut, IsGrown, IsOwn, IsPassed, IsPass}
+
+-- what a look found is found among more looks
+pub seen-more : (looks more : List (ℕ × ℕ)) (b : ℕ) (c : Mp) → ((e : ℕ × ℕ) → Contains looks e → Contains more e) → IsSeen looks b c → IsSeen more b c
+seen-more looks more b Void all seen = seen
+seen-more looks more b (At v) all seen = (seen.0, all (carry_word (b - 1), v + 1) seen.1)
+
+module _ (times demands : List ℕ) (block : ℕ) where
+  departs-more : (looks more : List (ℕ × ℕ)) (b : ℕ) (o : Option (List ℕ)) → ((e : ℕ × ℕ) → Contains looks e → Contains more e)
+      → IfSome o (λ l. (c : Mp) × IsSeen looks b c × (l ≡ departs_of times demands block b c)) → IfSome o (λ l. (c : Mp) × IsSeen more b c × (l ≡ departs_of times demands block b c))
+  departs-more looks more b None all h = h
+  departs-more looks more b (Some l) all h = (h.0, seen-more looks more b h.0 all h.1, h.2)
+
+  pub passed-more : (looks more : List (ℕ × ℕ)) (b : ℕ) (p : Passed) → ((e : ℕ × ℕ) → Contains looks e → Contains more e) → IsPassed times demands block looks b p → IsPassed times demands block more b p
+  passed-more looks more b p all h = record { sum = h.sum; departs = departs-more looks more b p.departs all h.departs }
+
+  made-more : (blocks : ℕ) (looks more : List (ℕ × ℕ)) (draws : List ℕ) (made : List (ℕ × Passed)) → ((e : ℕ × ℕ) → Contains looks e → Contains more e)
+      → IsMadeOf (IsPassed times demands block looks) blocks draws made → IsMadeOf (IsPassed times demands block more) blocks draws made
+  made-more blocks looks more draws made all h = record {
+    each = h.each;
+    pieces = All-weaker (λ (p : ℕ × Passed). IsPassed times demands block looks p.0 p.1) (λ (p : ℕ × Passed). IsPassed times demands block more p.0 p.1) (λ p k. passed-more looks more p.0 p.1 all k) made h.pieces;
+    ended = h.ended;
+  }
+
+  works-weaker : (blocks : ℕ) (looks more : List (ℕ × ℕ)) (draws : List ℕ) (made : List (ℕ × Passed)) → ((e : ℕ × ℕ) → Contains looks e → Contains more e)
+      → IsWorking (IsPassed times demands block looks) blocks draws made → IsWorking (IsPassed times demands block more) blocks draws made
+  works-weaker blocks looks more draws made all h = record {
+    each = h.each;
+    pieces = All-weaker (λ (p : ℕ × Passed). IsPassed times demands block looks p.0 p.1) (λ (p : ℕ × Passed). IsPassed times demands block more p.0 p.1) (λ p k. passed-more looks more p.0 p.1 all k) made h.pieces;
+    early = h.early;
+    long = h.long;
+  }
+
+  nowhere : {X : Type 0} (x : X) → Contains [] x → ⊥
+  nowhere x c = let l = c.1 in absurd (omega arith)
+
+  -- a fresh seat has stored nothing
+  pub own-none : (seat : Seated) → 1 ≤ block → IsFresh seat → IsOwn times demands block seat
+  own-none seat some fresh =
+      let none : (e : ℕ × ℕ) → Contains seat.puts e → ⊥ = λ e c. nowhere e (subst (λ (z : List (ℕ × ℕ)). Contains z e) fresh.1 c) in
+      record {
+        cut = record { some = some; sums = λ b s c. absurd (none _ c); bests = λ b t c. absurd (none _ c) };
+        drawn = λ w x c. absurd (none (w, x) c);
+      }
+
+  -- one draw more
+  pub own-drawn : (seat drawn : Seated) (n : ℕ) → drawn ≡ seated seat.table seat.right (seat.draws ++ n ∷ []) seat.puts seat.looks → IsOwn times demands block seat → IsOwn times demands block drawn
+  own-drawn seat drawn n is own = subst (IsOwn times demands block) (sym is) (record { cut = own.cut; drawn = λ w x c. Contains-append_left seat.draws (n ∷ []) (block_of w) (own.drawn w x c) })
+
+  pub drew-last : (seat drawn : Seated) (n : ℕ) → drawn ≡ seated seat.table seat.right (seat.draws ++ n ∷ []) seat.puts seat.looks → Contains drawn.draws n
+  drew-last seat drawn n is = subst (λ (z : Seated). Contains z.draws n) (sym is) (Contains-append_right seat.draws (n ∷ []) n (0, omega arith, refl))
+
+  -- a number above all draws is that of a block of which nothing was stored
+  pub fresh-block : (seat drawn : Seated) (n : ℕ) → drawn ≡ seated seat.table seat.right (seat.draws ++ n ∷ []) seat.puts seat.looks → IsOwn times demands block seat → All (λ d. d < n) seat.draws → HasNoPut drawn.puts n
+  fresh-block seat drawn n is own above = subst (λ (z : Seated). HasNoPut z.puts n) (sym is) (λ w x c e. let less : block_of w < n = All-contains (λ d. d < n) seat.draws (block_of w) above (own.drawn w x c) in absurd (omega arith))
+
+  -- one block more
+  pub passes-more : (blocks : ℕ) (s : Affine) (seat drawn new : Seated) (made more : List (ℕ × Passed)) (n : ℕ) (p : Passed)
+      → drawn ≡ seated seat.table seat.right (seat.draws ++ n ∷ []) seat.puts seat.looks → All (λ d. d < n) seat.draws → n < blocks → IsGrown n s drawn new → IsPassed times demands block new.looks n p
+      → more ≡ made ++ (n, p) ∷ [] → IsWorking (IsPassed times demands block seat.looks) blocks seat.draws made → IsWorking (IsPassed times demands block new.looks) blocks new.draws more
+  passes-more blocks s seat drawn new made more n p is above less g passed pushed w =
+      let looks : new.looks ≡ seat.looks ++ g.looks.0 = g.looks.1 ∙ ap (λ (z : Seated). z.looks ++ g.looks.0) is in
+      let draws : new.draws ≡ seat.draws ++ n ∷ [] = g.draws ∙ ap (λ (z : Seated). z.draws) is in
+      let keeps : (e : ℕ × ℕ) → Contains seat.looks e → Contains new.looks e = λ e c. subst (λ (z : List (ℕ × ℕ)). Contains z e) (sym looks) (Contains-append_left seat.looks g.looks.0 e c) in
+      subst (λ (z : List ℕ × List (ℕ × Passed)). IsWorking (IsPassed times demands block new.looks) blocks z.0 z.1) (λ i. (sym draws i, sym pushed i))
+      (works-more (IsPassed times demands block new.looks) blocks seat.draws made n p (works-weaker blocks seat.looks new.looks seat.draws made keeps w) above less passed)
+
+  -- the last draw has reached the number of blocks
+  pub passes-ended : (blocks : ℕ) (seat drawn : Seated) (made : List (ℕ × Passed)) (n : ℕ) → drawn ≡ seated seat.table seat.right (seat.draws ++ n ∷ []) seat.puts seat.looks → blocks ≤ n → IsOwn times demands block seat
+      → IsWorking (IsPassed times demands block seat.looks) blocks seat.draws made → IsPass times demands block blocks drawn made
+  passes-ended blocks seat drawn made n is past own w = record {
+    own = own-drawn seat drawn n is own;
+    pieces = subst (λ (z : Seated). IsMadeOf (IsPassed times demands block z.looks) blocks z.draws made) (sym is) (works-ended (IsPassed times demands block seat.looks) blocks seat.draws made n w past);
+  }
+
+  -- two seats that are joined
+  own-both : (a b : Seated) (joined : Seated) → joined.draws ≡ a.draws ++ b.draws → joined.puts ≡ a.puts ++ b.puts → IsOwn times demands block a → IsOwn times demands block b → IsOwn times demands block joined
+  own-both a b joined draws puts m n =
+      let put : (w x : ℕ) → Contains joined.puts (w, x) → Contains a.puts (w, x) ⊎ Contains b.puts (w, x) = λ w x c. Contains-append_cases a.puts b.puts (w, x) (subst (λ (z : List (ℕ × ℕ)). Contains z (w, x)) puts c) in
+      record {
+        cut = record {
+          some = m.cut.some;
+          sums = λ d s c. ⊎_elim (λ l. m.cut.sums d s l) (λ r. n.cut.sums d s r) (put _ (s + 1) c);
+          bests = λ d t c. ⊎_elim (λ l. m.cut.bests d t l) (λ r. n.cut.bests d t r) (put _ (t + 1) c);
+        };
+        drawn = λ w x c. subst (λ (z : List ℕ). Contains z (block_of w)) (sym draws) (⊎_elim (λ l. Contains-append_left a.draws b.draws _ (m.drawn w x l)) (λ r. Contains-append_right a.draws b.draws _ (n.drawn w x r)) (put w x c));
+      }
+
+  pass-both : (blocks : ℕ) (a b joined : Seated) (xs ys : List (ℕ × Passed)) → joined ≡ seated a.table (a.right + b.right) (a.draws ++ b.draws) (a.puts ++ b.puts) (a.looks ++ b.looks)
+      → IsPass times demands block blocks a xs → IsPass times demands block blocks b ys → IsPass times demands block blocks joined (xs ++ ys)
+  pass-both blocks a b joined xs ys is m n = subst (λ (z : Seated). IsPass times demands block blocks z (xs ++ ys)) (sym is) (record {
+    own = own-both a b (seated a.table (a.right + b.right) (a.draws ++ b.draws) (a.puts ++ b.puts) (a.looks ++ b.looks)) refl refl m.own n.own;
+    pieces = made-both (IsPassed times demands block (a.looks ++ b.looks)) blocks a.draws b.draws xs ys
+        (made-more blocks a.looks (a.looks ++ b.looks) a.draws xs (λ e c. Contains-append_left a.looks b.looks e c) m.pieces)
+        (made-more blocks b.looks (a.looks ++ b.looks) b.draws ys (λ e c. Contains-append_right a.looks b.looks e c) n.pieces);
+  })
+
+  -- where the lists of two halves of the crew were put together
+  pub both-passed : {V E : Type 0} (blocks : ℕ) (items : V → List (ℕ × Passed)) (first second r : Result V E) (a b joined : Seated) → joined ≡ seated a.table (a.right + b.right) (a.draws ++ b.draws) (a.puts ++ b.puts) (a.looks ++ b.looks)
+      → IfOk r (λ v. IsOkAnd first (λ x. IsOkAnd second (λ y. items v ≡ items x ++ items y)))
+      → IfOk first (λ v. IsPass times demands block blocks a (items v)) → IfOk second (λ v. IsPass times demands block blocks b (items v)) → IfOk r (λ v. IsPass times demands block blocks joined (items v))
+  both-passed blocks items first second (Err e) a b joined is put m n = tt
+  both-passed blocks items (Err e) second (Ok v) a b joined is put m n = absurd put
+  both-passed blocks items (Ok x) (Err e) (Ok v) a b joined is put m n = absurd put
+  both-passed blocks items (Ok x) (Ok y) (Ok v) a b joined is put m n = subst (IsPass times demands block blocks joined) (sym put) (pass-both blocks a b joined (items x) (items y) is m n)

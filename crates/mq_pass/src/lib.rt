@@ -1,0 +1,14 @@
+//! The departures of a server in a single pass over blocks, by workers that publish their carries.
+#![tactic(auto)]
+
+mod block;
+mod crew;
+mod jobs;
+mod left;
+mod pass;
+mod rest;
+
+pub use pass::{block_size, chain_departures};
+
+#[cfg(test)]
+mod tests;

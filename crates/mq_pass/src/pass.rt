@@ -1,0 +1,63 @@
+// The single pass.
+ghost use Rattle.std.specs.Prelude.{◌≡◌, ◌+◌, ◌*◌, ◌/◌, ◌≤◌, IfOk, length, max};
+ghost use Rattle.mq_core.specs.Columns.{IsSoundLoad};
+ghost use Rattle.mq_core.specs.Recurrences.{lindley};
+
+use crate::crew::crew;
+use crate::jobs::jobs_of;
+use crate::rest::ended;
+use mq_base::{List, OutOfMemory};
+use mq_chain::Chain;
+use mq_core::Stream;
+use mq_crew::{Gate, placed};
+use mq_scan::cut;
+use mq_server::departures;
+use std::alloc::Global;
+use std::thread::Threads;
+
+/// When each job leaves a server, as `mq_server::departures` answers it: by workers that draw blocks
+/// of jobs from a table, publish the last departure of each block there, and go on from the one that
+/// the block before published. What a worker found no carry for is left, and done at the end.
+///
+/// There are 1 to 64 workers, and at most 16,384 blocks of at least one job. The gate is entered with
+/// each block that is drawn, where there are two or more. It refuses for want of memory alone.
+pub fn chain_departures<R: Threads + Sync, G: Gate>(
+    rt: &R,
+    alloc: Global,
+    workers: u32,
+    block: u32,
+    stream: &Stream,
+    demands: &List<u64>,
+    gate: &G,
+) -> Result<List<u64>, OutOfMemory>
+    requires load { IsSoundLoad stream.now.time demands.now }
+    requires some_workers { 1 ≤ workers }
+    requires most_workers { workers ≤ 64 }
+    requires some { 1 ≤ block }
+    requires few { length stream.now.time ≤ 16384 * block }
+    ensures { IfOk result (λ departs. departs ≡ lindley 0 stream.now.time demands.now) }
+{
+    let blocks = cut(stream.time.len() as u32, block);
+    if blocks.blocks <= 1 {
+        return departures(alloc, stream, demands);
+    }
+    let (chain, seat) = Chain::new(alloc, blocks.blocks, workers)?;
+    let (seat, made) = crew(
+        rt, alloc, &chain, seat, 0, workers, stream, demands, &blocks, gate,
+    );
+    let carries = chain.close(alloc, seat)?;
+    let passed = placed(alloc, blocks.blocks, made?)?;
+    let jobs = jobs_of(stream, demands, &blocks);
+    ended(rt, alloc, workers, &jobs, &carries, &passed, gate)
+}
+
+/// How many jobs a block of a station has: at least this many, and so many that there are at most
+/// 16,384 blocks.
+pub fn block_size(jobs: u32, block: u32) -> u32
+    requires { 1 ≤ block }
+    ensures is { result ≡ max block ((jobs + 16383) / 16384) }
+    ensures some { 1 ≤ result }
+    ensures few { jobs ≤ 16384 * result }
+{
+    block.max(jobs.div_ceil(16384))
+}
