@@ -116,7 +116,7 @@ abbrev pub leaving_places : Leaving → ℕ
 leaving_places l = closings_of l.exit
 
 abbrev pub leaving_piece : Leaving → ℕ → Closed → Type 0
-leaving_piece l b closed = IsClosed l.load.plan.now l.load.rows.now l.load.number l.load.arrivals l.exit closed
+leaving_piece l b closed = IsClosed l.load.plan.now l.load.rows.now l.load.number l.load.arrivals l.exit b closed
 
 abbrev pub IsMiddleOf : Plan → Rows → List ℕ → Middle → Type 0
 IsMiddleOf plan rows ready m = IsLoadOf plan rows ready m.load

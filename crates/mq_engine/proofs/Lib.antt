@@ -10,3 +10,4 @@ pub mod Settling
 pub mod Endings
 pub mod Scanning
 pub mod Groups
+pub mod Closings

@@ -7,7 +7,7 @@ use Rattle.std.proofs.lemmas.List.{length-map}
 use Rattle.std.specs.Prelude.{IsTrue, slice_get}
 use Rattle.std.proofs.lemmas.Option.{slice_get_within}
 use Rattle.mq_base.proofs.Lists.{some_inj}
-use Rattle.mq_core.specs.Columns.{IsSoundLoad, column_fates}
+use Rattle.mq_core.specs.Columns.{IsSoundLoad, column_fates, founds_of}
 use Rattle.mq_core.specs.Recurrences.{lindley}
 use Rattle.mq_core.specs.Sound.{is_sound_demand, is_sound_kind}
 use Rattle.mq_core.specs.declared.model.Fate.{Fate}
@@ -28,7 +28,7 @@ use Rattle.mq_server.specs.Bounds.{late-enough}
 use Rattle.mq_server.specs.Jobs.{job}
 use Rattle.mq_server.proofs.Recurrence.{all-departures}
 use Rattle.mq_engine.specs.Loads.{AreTimesOf, IsAfterAt, IsApplied, IsLoaded, IsServed, IsShut, IsPart, IsScanOf, IsStage, IsSumOf, IsSumPart, IsWhole}
-use Rattle.mq_engine.specs.declared.exits.Closed.TheVariants.{Shut}
+use Rattle.mq_engine.specs.declared.exits.Closed.TheVariants.{Fates, Found, Jobs}
 use Rattle.mq_engine.specs.declared.turns.After.TheVariants.{Seen}
 use Rattle.mq_engine.specs.declared.firsts.Part.{Part}
 use Rattle.mq_engine.specs.declared.firsts.Part.TheVariants.{Whole, Sum}
@@ -149,13 +149,17 @@ served-fates plan rows v arrivals scan node departs l s there =
     (scan-leaves plan rows v arrivals scan s.0 node departs (map (λ time. Departs time) departs) (record { job = arrivals.job; time = departs } ∷ []) l s.1 there s.2 (record { fate = refl; stream = refl })).leave
 
 -- what becomes of the arrivals at such a server
-pub opens : (plan : Plan) (rows : Rows) (v : ℕ) (arrivals : Stream) (scan : Option Scan) (departs : List ℕ) (fates : List Fate) (found jobs : List ℕ) (streams : List Stream) → IsLoaded plan rows v arrivals scan → IsServed arrivals scan departs → IsShut plan rows v arrivals departs (Shut fates found jobs) →
+pub opens : (plan : Plan) (rows : Rows) (v : ℕ) (arrivals : Stream) (scan : Option Scan) (departs : List ℕ) (fates : List Fate) (found jobs : List ℕ) (streams : List Stream) → IsLoaded plan rows v arrivals scan → IsServed arrivals scan departs → IsShut plan rows v arrivals departs 0 (Fates fates) → IsShut plan rows v arrivals departs 1 (Found found) → IsShut plan rows v arrivals departs 2 (Jobs jobs) →
     streams ≡ record { job = jobs; time = departs } ∷ [] → IsAfterAt plan rows v arrivals (Seen fates found streams)
-opens plan rows v arrivals scan departs fates found jobs streams l s h e = λ node there. (
-  scan-leaves plan rows v arrivals scan s.0 node departs fates streams l s.1 there s.2 (record { fate = h.0; stream = e ∙ (λ k. record { job = h.2 k; time = departs } ∷ []) }),
-  h.1,
-  h.3 node there,
+opens plan rows v arrivals scan departs fates found jobs streams l s f g h e = λ node there. (
+  scan-leaves plan rows v arrivals scan s.0 node departs fates streams l s.1 there s.2 (record { fate = f.1; stream = e ∙ (λ k. record { job = h.1 k; time = departs } ∷ []) }),
+  g.1 ∙ ap (founds_of arrivals.time) (sym f.1),
+  f.2 node there,
 )
+
+-- the departures of such a server are as many as its arrivals
+pub served-even : (plan : Plan) (rows : Rows) (v : ℕ) (arrivals : Stream) (scan : Option Scan) (departs : List ℕ) → IsLoaded plan rows v arrivals scan → IsServed arrivals scan departs → length departs ≡ length arrivals.time
+served-even plan rows v arrivals scan departs l s = let sound = (scan-sound plan rows v arrivals scan s.0 l s.1).0 in ap length s.2 ∙ lindley-length 0 arrivals.time s.0.demands sound.each
 
 pub served-few : (plan : Plan) (rows : Rows) (v : ℕ) (arrivals : Stream) (scan : Option Scan) (departs : List ℕ) (fates : List Fate) → IsLoaded plan rows v arrivals scan → IsServed arrivals scan departs → fates ≡ map (λ time. Departs time) departs → length fates ≤ 1048576
 served-few plan rows v arrivals scan departs fates l s e =

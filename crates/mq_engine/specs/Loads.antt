@@ -26,7 +26,7 @@ use Rattle.mq_engine.specs.Answer.{late_told}
 use Rattle.mq_engine.specs.Progress.{IsWorkedOut}
 use Rattle.mq_engine.specs.Turns.{IsLeaving, IsLoad}
 use Rattle.mq_engine.specs.declared.exits.Closed.{Closed}
-use Rattle.mq_engine.specs.declared.exits.Closed.TheVariants.{Shut, Over}
+use Rattle.mq_engine.specs.declared.exits.Closed.TheVariants.{Fates, Found, Jobs, Over}
 use Rattle.mq_engine.specs.declared.exits.Exit.{Exit}
 use Rattle.mq_engine.specs.declared.exits.Exit.TheVariants.{Known, Served}
 use Rattle.mq_engine.specs.declared.exits.Leaving.{Leaving}
@@ -134,19 +134,22 @@ IsExit plan rows v arrivals scan (Served departs) = IsServed arrivals scan depar
 -- how many last pieces a station has
 abbrev pub closings_of : Exit → ℕ
 closings_of (Known after) = 0
-closings_of (Served departs) = 1
+closings_of (Served departs) = 3
 
--- a last piece: the fates of these departures, how many each found and the jobs, none of them late; or the first that is
-abbrev pub IsShut : Plan → Rows → ℕ → Stream → List ℕ → Closed → Type 0
-IsShut plan rows v arrivals departs (Shut fates found jobs) =
-    (fates ≡ map (λ time. Departs time) departs) × (found ≡ founds_of arrivals.time fates) × (jobs ≡ arrivals.job)
+-- A last piece: the fates of these departures, none of them late, or the first that is; how many each found; or the jobs
+abbrev pub IsShut : Plan → Rows → ℕ → Stream → List ℕ → ℕ → Closed → Type 0
+IsShut plan rows v arrivals departs b (Fates fates) =
+    (b ≡ 0) × (fates ≡ map (λ time. Departs time) departs)
     × ((node : Node) → slice_get plan.net.nodes v ≡ Some node → first_of (column_late_from plan.net.bound v 0 (column_fates rows node.kind arrivals.job arrivals.time)) ≡ None)
-IsShut plan rows v arrivals departs (Over fault) =
-    (node : Node) → slice_get plan.net.nodes v ≡ Some node → first_of (column_late_from plan.net.bound v 0 (column_fates rows node.kind arrivals.job arrivals.time)) ≡ Some (late_told fault)
+IsShut plan rows v arrivals departs b (Over fault) =
+    (b ≡ 0)
+    × ((node : Node) → slice_get plan.net.nodes v ≡ Some node → first_of (column_late_from plan.net.bound v 0 (column_fates rows node.kind arrivals.job arrivals.time)) ≡ Some (late_told fault))
+IsShut plan rows v arrivals departs b (Found found) = (b ≡ 1) × (found ≡ founds_of arrivals.time (map (λ time. Departs time) departs))
+IsShut plan rows v arrivals departs b (Jobs jobs) = (b ≡ 2) × (jobs ≡ arrivals.job)
 
-abbrev pub IsClosed : Plan → Rows → ℕ → Stream → Exit → Closed → Type 0
-IsClosed plan rows v arrivals (Known after) closed = ⊥
-IsClosed plan rows v arrivals (Served departs) closed = IsShut plan rows v arrivals departs closed
+abbrev pub IsClosed : Plan → Rows → ℕ → Stream → Exit → ℕ → Closed → Type 0
+IsClosed plan rows v arrivals (Known after) b closed = ⊥
+IsClosed plan rows v arrivals (Served departs) b closed = IsShut plan rows v arrivals departs b closed
 
 -- a load that can be worked on
 abbrev pub IsReadyLoad : Load → Type 0

@@ -1,19 +1,21 @@
 // The stations whose departures are known, and their last pieces: who found how many, and what leaves.
-ghost use Rattle.std.specs.Prelude.{◌≡◌, length, IfOk, slice_index_or};
+ghost use Rattle.std.specs.Prelude.{◌≡◌, ◌<◌, map, IfOk};
+ghost use Rattle.mq_core.specs.Columns.{founds_of};
+ghost use Rattle.mq_core.specs.declared.model.Fate.TheVariants.{Departs};
 ghost use Rattle.mq_crew.specs.Crew.{AreAll};
 ghost use Rattle.mq_engine.specs.Loads.{IsAfterAt, IsClosed, IsLoaded, IsReadyExit, IsServed, IsShut, closings_of};
 ghost use Rattle.mq_engine.specs.Progress.{IsWorkedOut};
-ghost use Rattle.mq_engine.specs.declared.exits.Closed.{Closed as TheClosed};
 
 use crate::PastFault;
 use crate::late::first_late;
 use crate::laws::core_laws;
 use crate::loads::Load;
 use crate::outflow::{fates_of, only};
-use crate::turns::{After, Turn, ending_of, found_at};
+use crate::turns::{After, Turn, ending_of};
 use mq_base::{List, OutOfMemory};
-use mq_core::{Fate, Stream, fates_are_in_time};
+use mq_core::{Fate, Stream};
 use mq_crew::Pieces;
+use mq_stats::found_piece_in_order;
 use std::alloc::Global;
 
 // What is known of a station when all its jobs have left.
@@ -32,13 +34,17 @@ pub struct Leaving<'a> {
     pub exit: Exit,
 }
 
-// The last piece of a station.
+// A last piece of a station: each is a list of its own, which a worker makes whole.
 #[derive(Drop)]
 pub enum Closed {
-    // The fates, how many each found, and the jobs, which leave in their order.
-    Shut(List<Fate>, List<u32>, List<u32>),
+    // The fates: none departs after the bound.
+    Fates(List<Fate>),
     // The first that departs after the bound.
     Over(PastFault),
+    // How many each found.
+    Found(List<u32>),
+    // The jobs, which leave in their order.
+    Jobs(List<u32>),
 }
 
 impl<'a> Pieces for Leaving<'a> {
@@ -48,44 +54,73 @@ impl<'a> Pieces for Leaving<'a> {
 
     ghost places = { λ s. closings_of s.exit };
 
-    ghost is_piece = { λ s b closed. IsClosed s.load.plan.now s.load.rows.now s.load.number s.load.arrivals s.exit closed };
+    ghost is_piece = { λ s b closed. IsClosed s.load.plan.now s.load.rows.now s.load.number s.load.arrivals s.exit b closed };
 
     fn count(&self) -> u32 {
         match &self.exit {
             Exit::Known(_) => 0,
-            Exit::Served(_) => 1,
+            Exit::Served(_) => 3,
         }
     }
 
-    fn piece(&self, alloc: Global, _b: u32) -> Result<Closed, OutOfMemory> {
+    fn piece(&self, alloc: Global, b: u32) -> Result<Closed, OutOfMemory> {
         match &self.exit {
-            Exit::Served(departs) => closing_of(alloc, &self.load, departs),
+            Exit::Served(departs) => closing_of(alloc, &self.load, departs, b),
             Exit::Known(_) => unreachable!(),
         }
     }
 }
 
-// The last piece of a server that is scanned, of the departures of all its jobs.
-fn closing_of(alloc: Global, load: &Load, departs: &List<u64>) -> Result<Closed, OutOfMemory>
+// A last piece of a server that is scanned, of the departures of all its jobs.
+fn closing_of(
+    alloc: Global,
+    load: &Load,
+    departs: &List<u64>,
+    b: u32,
+) -> Result<Closed, OutOfMemory>
     requires loaded { IsLoaded load.now.plan.now load.now.rows.now load.now.number load.now.arrivals load.now.scan }
     requires served { IsServed load.now.arrivals load.now.scan departs.now }
-    ensures { IfOk result (λ closed. IsShut load.now.plan.now load.now.rows.now load.now.number load.now.arrivals departs.now closed) }
+    requires inside { b < 3 }
+    ensures { IfOk result (λ closed. IsShut load.now.plan.now load.now.rows.now load.now.number load.now.arrivals departs.now b closed) }
 {
-    fates_are_in_time();
-    let kind = &load.plan.net.nodes.get(load.number as usize).kind;
+    if b == 0 {
+        return fates_in_time(alloc, load, departs);
+    }
+    if b == 1 {
+        return Ok(Closed::Found(found_in_turn(alloc, load, departs)?));
+    }
+    let jobs = Vec::from_slice(alloc, load.arrivals.job.as_slice())?;
+    Ok(Closed::Jobs(List::from_vec(jobs)))
+}
+
+// The fates of these departures, or the first that is after the bound.
+fn fates_in_time(alloc: Global, load: &Load, departs: &List<u64>) -> Result<Closed, OutOfMemory>
+    requires loaded { IsLoaded load.now.plan.now load.now.rows.now load.now.number load.now.arrivals load.now.scan }
+    requires served { IsServed load.now.arrivals load.now.scan departs.now }
+    ensures { IfOk result (λ closed. IsShut load.now.plan.now load.now.rows.now load.now.number load.now.arrivals departs.now 0 closed) }
+{
     let fates = fates_of(alloc, departs)?;
     if let Some(past) = first_late(load.plan.net.bound, load.number, &fates) {
         return Ok(Closed::Over(past));
     }
-    let found = found_at(alloc, load.rows, kind, &load.arrivals, &fates)?;
-    let jobs = List::from_vec(Vec::from_slice(alloc, load.arrivals.job.as_slice())?);
-    Ok(Closed::Shut(fates, found, jobs))
+    Ok(Closed::Fates(fates))
 }
 
-// The turn of a station, of its last piece where it has one.
+// How many jobs each visit found, where they depart in turn.
+fn found_in_turn(alloc: Global, load: &Load, departs: &List<u64>) -> Result<List<u32>, OutOfMemory>
+    requires loaded { IsLoaded load.now.plan.now load.now.rows.now load.now.number load.now.arrivals load.now.scan }
+    requires served { IsServed load.now.arrivals load.now.scan departs.now }
+    ensures { IfOk result (λ found. found ≡ founds_of load.now.arrivals.time (map (λ time. Departs time) departs.now)) }
+{
+    let count = load.arrivals.time.len() as u32;
+    let found = found_piece_in_order(alloc, &load.arrivals.time, departs, 0, count)?;
+    Ok(found)
+}
+
+// The turn of a station, of its last pieces where it has some.
 pub fn turn_of(alloc: Global, leaving: Leaving, group: List<Closed>) -> Result<Turn, OutOfMemory>
     requires ready { IsReadyExit leaving }
-    requires group { AreAll (λ b closed. IsClosed leaving.load.plan.now leaving.load.rows.now leaving.load.number leaving.load.arrivals leaving.exit closed) (closings_of leaving.exit) group }
+    requires group { AreAll (λ b closed. IsClosed leaving.load.plan.now leaving.load.rows.now leaving.load.number leaving.load.arrivals leaving.exit b closed) (closings_of leaving.exit) group }
     ensures number { IfOk result (λ turn. turn.number ≡ leaving.entry.load.number) }
     ensures known { IfOk result (λ turn. IsWorkedOut leaving.entry.load.plan.now leaving.entry.load.rows.now turn) }
 {
@@ -93,7 +128,7 @@ pub fn turn_of(alloc: Global, leaving: Leaving, group: List<Closed>) -> Result<T
     let Leaving { load, exit } = leaving;
     let after = match exit {
         Exit::Known(after) => after,
-        Exit::Served(departs) => opened(alloc, &load, the_closed(group), departs)?,
+        Exit::Served(departs) => opened(alloc, &load, group, departs)?,
     };
     let kind = &load.plan.net.nodes.get(load.number as usize).kind;
     let ending = ending_of(
@@ -110,35 +145,33 @@ pub fn turn_of(alloc: Global, leaving: Leaving, group: List<Closed>) -> Result<T
     })
 }
 
-// The one last piece of a station that has one.
-fn the_closed(group: List<Closed>) -> Closed
-    requires { length group ≡ 1 }
-    ensures { (d : TheClosed) → slice_index_or group 0 d ≡ result }
-{
-    let mut group = group.into_vec();
-    match group.pop() {
-        Some(closed) => closed,
-        None => unreachable!(),
-    }
-}
-
-// What becomes of the arrivals at a server, of its last piece and the departures, which are moved.
+// What becomes of the arrivals at a server, of its last pieces and the departures, which are moved.
 fn opened(
     alloc: Global,
     load: &Load,
-    closed: Closed,
+    group: List<Closed>,
     departs: List<u64>,
 ) -> Result<After, OutOfMemory>
     requires loaded { IsLoaded load.now.plan.now load.now.rows.now load.now.number load.now.arrivals load.now.scan }
     requires served { IsServed load.now.arrivals load.now.scan departs }
-    requires closed { IsShut load.now.plan.now load.now.rows.now load.now.number load.now.arrivals departs closed }
+    requires group { AreAll (IsShut load.now.plan.now load.now.rows.now load.now.number load.now.arrivals departs) 3 group }
     ensures { IfOk result (λ after. IsAfterAt load.now.plan.now load.now.rows.now load.now.number load.now.arrivals after) }
 {
-    match closed {
-        Closed::Shut(fates, found, job) => {
+    let mut group = group.into_vec();
+    let job = match group.pop() {
+        Some(Closed::Jobs(job)) => job,
+        _ => unreachable!(),
+    };
+    let found = match group.pop() {
+        Some(Closed::Found(found)) => found,
+        _ => unreachable!(),
+    };
+    match group.pop() {
+        Some(Closed::Fates(fates)) => {
             let streams = only(alloc, Stream { job, time: departs })?;
             Ok(After::Seen(fates, found, streams))
         }
-        Closed::Over(past) => Ok(After::Missed(past)),
+        Some(Closed::Over(past)) => Ok(After::Missed(past)),
+        _ => unreachable!(),
     }
 }

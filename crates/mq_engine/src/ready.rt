@@ -105,7 +105,7 @@ fn ended(
     groups: List<List<Closed>>,
 ) -> Result<List<Turn>, OutOfMemory>
     requires ready { AllByRecursion IsReadyExit leavings }
-    requires groups { AreGroups (λ l. closings_of l.exit) (λ l b closed. IsClosed l.load.plan.now l.load.rows.now l.load.number l.load.arrivals l.exit closed) leavings groups }
+    requires groups { AreGroups (λ l. closings_of l.exit) (λ l b closed. IsClosed l.load.plan.now l.load.rows.now l.load.number l.load.arrivals l.exit b closed) leavings groups }
     ensures len { IfOk result (λ turns. length turns ≡ length leavings.entry) }
     ensures known { IfOk result (λ turns. (plan : ThePlan) (rows : TheRows) (ready : Items ℕ) → AllByRecursion (λ l. IsLoadOf plan rows ready l.load) leavings.entry → AllByRecursion (IsTurnOf plan rows ready) turns) }
 {

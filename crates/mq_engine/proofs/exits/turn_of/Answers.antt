@@ -1,6 +1,6 @@
-use Rattle.std.proofs.Common.{◌<◌, arith, subst, sym}
+use Rattle.std.proofs.Common.{subst}
+use Rattle.mq_crew.specs.Crew.{AreAll}
 use Rattle.mq_engine.specs.Loads.{IsClosed, closings_of}
-use Rattle.mq_engine.specs.declared.exits.Closed.{Closed}
 use Rattle.mq_engine.specs.declared.exits.Exit.{Exit}
 use Rattle.mq_engine.proofs.Rounds.{known}
 use Rattle.mq_engine.proofs.Scanning.{loaded-inside, load-at}
@@ -18,9 +18,7 @@ returns-clause-known c =
       known c.core_laws.ensures load.plan.now load.rows.now load.number c.get.result.now load.arrivals c.ending_of-ending.result c.requires.ready.0.0 loaded.came (load-at load.plan.now load.rows.now load.number load.arrivals load.scan c.get.result.now loaded c.get.ensures) c.get.ensures c.ending_of-ending.ensures,
     )
 
-pub opened-requires-clause-closed : goal.opened-requires-clause-closed
-opened-requires-clause-closed c =
+pub opened-requires-clause-group : goal.opened-requires-clause-group
+opened-requires-clause-group c =
     let load = c.args.leaving.load in
-    let d = c.the_closed.result in
-    let some : 0 < closings_of c.args.leaving.exit = subst (λ (e : Exit). 0 < closings_of e) (sym c.in-Served.is) (omega arith) in
-    subst (λ (z : Exit × Closed). IsClosed load.plan.now load.rows.now load.number load.arrivals z.0 z.1) (λ k. (c.in-Served.is k, c.the_closed.ensures d k)) (c.requires.group.each 0 d some)
+    subst (λ (e : Exit). AreAll (IsClosed load.plan.now load.rows.now load.number load.arrivals e) (closings_of e) c.args.group) c.in-Served.is c.requires.group

@@ -1,0 +1,58 @@
+-- The last pieces of a server that is scanned.
+use Rattle.std.proofs.Common.{◌≡◌, ℕ, suc, ◌+◌, ◌-◌, ◌<◌, ◌≤◌, List, [], ◌∷◌, ◌++◌, length, get_or, take, drop, map, max, refl, sym, ap, ◌∙◌, subst, arith, length-append}
+use Rattle.std.proofs.Math.ListN.{get_or-append}
+use Rattle.std.proofs.Math.Seq.{get_or-append_seam, take-length}
+use Rattle.std.proofs.lemmas.List.{length-map}
+use Rattle.std.specs.List.{AllByRecursion}
+use Rattle.mq_core.proofs.Lists.Each.{Each-weaker}
+use Rattle.mq_core.specs.Columns.{founds_from, founds_of}
+use Rattle.mq_core.specs.Laws.{Rises}
+use Rattle.mq_core.specs.Recurrences.{lindley}
+use Rattle.mq_core.specs.declared.model.Fate.{Fate}
+use Rattle.mq_core.specs.declared.model.Fate.TheVariants.{Departs}
+use Rattle.mq_crew.specs.Crew.{AreAll}
+
+-- the departures of a server rise
+later : (last : ℕ) (arrives demands : List ℕ) → AllByRecursion (λ t. last ≤ t) (lindley last arrives demands)
+later last [] demands = tt
+later last (a ∷ more) [] = tt
+later last (a ∷ more) (d ∷ ds) =
+    let first : last ≤ max a last + d = omega arith in
+    (first, Each-weaker (λ t. max a last + d ≤ t) (λ t. last ≤ t) (λ t l. omega arith) _ (later (max a last + d) more ds))
+
+pub lindley-rises : (last : ℕ) (arrives demands : List ℕ) → Rises (λ a b. a ≤ b) (lindley last arrives demands)
+lindley-rises last [] demands = tt
+lindley-rises last (a ∷ more) [] = tt
+lindley-rises last (a ∷ more) (d ∷ ds) = (later (max a last + d) more ds, lindley-rises (max a last + d) more ds)
+
+-- each visit found some
+founds-length : (before : List Fate) (arrives : List ℕ) (fates : List Fate) → length fates ≡ length arrives → length (founds_from before arrives fates) ≡ length arrives
+founds-length before [] fates e = refl
+founds-length before (a ∷ more) [] e = absurd (omega arith)
+founds-length before (a ∷ more) (f ∷ fs) e = ap suc (founds-length (before ++ f ∷ []) more fs (omega arith))
+
+pub founds-whole : (arrives departs : List ℕ) (n : ℕ) → n ≡ length arrives → length departs ≡ length arrives → take (n - 0) (drop 0 (founds_of arrives (map (λ time. Departs time) departs))) ≡ founds_of arrives (map (λ time. Departs time) departs)
+founds-whole arrives departs n e even =
+    let all = founds_of arrives (map (λ time. Departs time) departs) in
+    let len : length all ≡ length arrives = founds-length [] arrives _ (length-map departs _ ∙ even) in
+    let same : n - 0 ≡ length all = omega arith in
+    ap (λ m. take m all) same ∙ take-length all
+
+module _ {X : Type 0} (is : ℕ → X → Type 0) where
+  -- the last of some pieces, and those before it
+  pub all-last : (n : ℕ) (items rest : List X) (x : X) → items ≡ rest ++ x ∷ [] → AreAll is (suc n) items → is n x × AreAll is n rest
+  all-last n items rest x e all =
+      let whole : AreAll is (suc n) (rest ++ x ∷ []) = subst (AreAll is (suc n)) e all in
+      let count = length-append rest (x ∷ []) in
+      let len = whole.len in
+      let few : length rest ≡ n = omega arith in
+      let here : is n (get_or (rest ++ x ∷ []) n x) = whole.each n x (omega arith) in (
+        subst (is n) (ap (λ m. get_or (rest ++ x ∷ []) m x) (sym few) ∙ get_or-append_seam rest x [] x) here,
+        record {
+          len = few;
+          each = λ b d l. subst (is b) (get_or-append rest (x ∷ []) d b (subst (λ m. b < m) (sym few) l)) (whole.each b d (omega arith));
+        },
+      )
+
+  pub all-some : (n : ℕ) (items : List X) → items ≡ [] → AreAll is (suc n) items → ⊥
+  all-some n items e all = let len = all.len in let none : length items ≡ 0 = ap length e in absurd (omega arith)
