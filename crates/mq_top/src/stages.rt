@@ -22,7 +22,7 @@ use mq_crew::{Gate, Open};
 use mq_engine::{RunFault, run};
 use mq_gen::{made, made_inputs_are_accepted};
 use mq_model::{ModelFault, read_model};
-use mq_report::report;
+use mq_report::{report, tallies_of};
 use mq_trace::{TraceFault, read_trace};
 use mq_words::{Input, Settings, UsageFault, WordsFault, settings_of};
 use std::alloc::Global;
@@ -178,7 +178,18 @@ fn report_run<R: Threads + Sync, G: Gate, O: Sink>(
         Err(RunFault::Past(fault)) => return Outcome::Past(fault),
         Err(RunFault::Memory) => return Outcome::Memory,
     };
-    match report(plan, rows, &run, jobs, out) {
+    let Ok(tallies) = tallies_of(
+        crew.rt,
+        alloc,
+        crew.workers,
+        plan,
+        rows,
+        &run,
+        crew.gate,
+    ) else {
+        return Outcome::Memory;
+    };
+    match report(plan, rows, &run, &tallies, jobs, out) {
         Ok(()) => Outcome::Done,
         Err(_) => Outcome::WriteFault,
     }

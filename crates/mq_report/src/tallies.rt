@@ -1,0 +1,62 @@
+// The totals of the nodes, one piece a node.
+ghost use Rattle.std.specs.Prelude.{◌≡◌, ◌≤◌, ◌<◌, ◌^◌, length, IfOk, slice_get};
+ghost use Rattle.mq_core.specs.Columns.{IsRunOf};
+ghost use Rattle.mq_core.specs.Theorems.{IsReadFor};
+ghost use Rattle.mq_report.specs.Tallies.{AreTallies, IsTally};
+
+use crate::sections::totals_at;
+use mq_base::{List, OutOfMemory};
+use mq_core::{Plan, Rows, Run, nodes_are_in_limits};
+use mq_crew::{Gate, Pieces, made};
+use mq_stats::NodeTotals;
+use std::alloc::Global;
+use std::thread::Threads;
+
+// A run whose nodes are tallied.
+#[derive(Drop)]
+struct Tallied<'a> {
+    plan: &'a Plan,
+    rows: &'a Rows,
+    run: &'a Run,
+}
+
+impl<'a> Pieces for Tallied<'a> {
+    type Piece = NodeTotals;
+
+    ghost fit = { λ s. IsReadFor s.plan.now.net s.rows.now × IsRunOf s.plan.now s.rows.now s.run.now × (length s.plan.now.net.nodes < 2 ^ 32) };
+
+    ghost places = { λ s. length s.plan.now.net.nodes };
+
+    ghost is_piece = { λ s b tally. IsTally s.plan.now s.rows.now b tally };
+
+    fn count(&self) -> u32 {
+        self.plan.net.nodes.len() as u32
+    }
+
+    fn piece(&self, _alloc: Global, b: u32) -> Result<NodeTotals, OutOfMemory> {
+        let declared = self.plan.net.nodes.get(b as usize);
+        Ok(totals_at(self.plan, self.rows, self.run, b, declared))
+    }
+}
+
+/// The totals of each node over a run, which workers find, each node by one of them.
+pub fn tallies_of<R: Threads + Sync, G: Gate>(
+    rt: &R,
+    alloc: Global,
+    workers: u32,
+    plan: &Plan,
+    rows: &Rows,
+    run: &Run,
+    gate: &G,
+) -> Result<List<NodeTotals>, OutOfMemory>
+    requires some { 1 ≤ workers }
+    requires most { workers ≤ 64 }
+    requires read { IsReadFor plan.now.net rows.now }
+    requires run { IsRunOf plan.now rows.now run.now }
+    ensures { IfOk result (λ tallies. AreTallies plan.now rows.now tallies) }
+{
+    nodes_are_in_limits();
+    let tallied = Tallied { plan, rows, run };
+    let tallies = made(rt, alloc, workers, &tallied, gate)?;
+    Ok(tallies)
+}
