@@ -3,7 +3,6 @@ use Rattle.std.specs.Prelude.{ℕ}
 use Rattle.mq_core.specs.KindTable.{behaviour_of}
 use Rattle.mq_core.specs.declared.model.Kind.{Kind}
 use Rattle.mq_core.specs.declared.model.Rows.{Rows}
-pub use Rattle.mq_core.specs.Told.{AreTold, HasDemand, HasValue}
 
 -- the rows tell what this job asks for at a node of this kind
 abbrev pub HasDemands : Rows → Kind → ℕ → Type 0

@@ -20,8 +20,6 @@ use Rattle.mq_core.specs.declared.model.Rows.{Rows}
 use Rattle.mq_core.specs.declared.model.Run.{Run}
 use Rattle.mq_core.specs.declared.model.Stream.{Stream}
 use Rattle.mq_core.specs.declared.model.Visits.{Visits}
-pub use Rattle.mq_core.specs.Kinds.Loss.{out_of_fate}
-pub use Rattle.mq_core.specs.Kinds.Split.{routes_from}
 
 -- Streams. One job and one time an item, and the times never fall.
 pub record IsStream (stream : Stream) : Type 0 where

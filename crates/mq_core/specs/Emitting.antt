@@ -1,3 +1,4 @@
+-- What visits let out, where each goes on at once or leaves at a time that is told.
 use Rattle.std.specs.Prelude.{List, [], suc, ℕ, ◌∷◌}
 use Rattle.mq_core.specs.Machine.{Emission, Visit}
 

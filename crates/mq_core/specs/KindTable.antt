@@ -1,3 +1,4 @@
+-- The table of the kinds: one row a kind.
 use Rattle.mq_core.specs.Behaviour.{Behaviour}
 use Rattle.mq_core.specs.Kinds.Delay.{delay}
 use Rattle.mq_core.specs.Kinds.ForkJoin.{fork_join}

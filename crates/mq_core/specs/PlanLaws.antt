@@ -1,8 +1,10 @@
 -- What the type of a plan, and rows that are read for a network, give to whoever goes over them.
 use Rattle.std.specs.Prelude.{◌≡◌, ◌≤◌, ◌<◌, ◌^◌, ℕ, false, IsTrue, List, length, take, Some, slice_get}
-use Rattle.mq_core.specs.Asked.{HasDemand, HasDemands, HasValue}
+use Rattle.mq_core.specs.Told.{HasDemand, HasValue}
+use Rattle.mq_core.specs.Asked.{HasDemands}
 use Rattle.mq_core.specs.Results.{servers_in}
-use Rattle.mq_core.specs.Sound.{is_sound_demand, is_sound_kind, outputs_in}
+use Rattle.mq_core.specs.Ranges.{is_sound_demand}
+use Rattle.mq_core.specs.Sound.{is_sound_kind, outputs_in}
 use Rattle.mq_core.specs.Handling.{demand_of_job, value_of}
 use Rattle.mq_core.specs.Theorems.{IsReadFor}
 use Rattle.mq_core.specs.Wiring.{has, inputs_of}

@@ -1,3 +1,4 @@
+-- The ranges of numbers, demands and lists in a model.
 use Rattle.std.specs.Prelude.{Bool, List, [], nat_le, nat_lt, true, ℕ, ◌&&◌, ◌^◌, ◌∷◌}
 use Rattle.mq_core.specs.declared.model.Demand.{Demand}
 use Rattle.mq_core.specs.declared.model.Demand.TheVariants.{Column, Fixed}

@@ -4,12 +4,6 @@ use Rattle.mq_core.specs.Leaving.{left_by}
 use Rattle.mq_core.specs.Machine.{Emission, Visit}
 use Rattle.mq_core.specs.declared.model.Kind.{Kind}
 use Rattle.mq_core.specs.declared.model.Rows.{Rows}
-pub use Rattle.mq_core.specs.Emitting.{leaving_from, passed_from}
-pub use Rattle.mq_core.specs.Kinds.Delay.{delayed_from}
-pub use Rattle.mq_core.specs.Kinds.ForkJoin.{branch_demands, joined_from}
-pub use Rattle.mq_core.specs.Kinds.Loss.{faring_by, faring_from}
-pub use Rattle.mq_core.specs.Kinds.Server.{served, served_from}
-pub use Rattle.mq_core.specs.Kinds.Tandem.{tandem_flow, tandem_times}
 
 -- what these visits let out at a node of each kind, by position
 abbrev pub flow_of : Rows → Kind → List Visit → List Emission

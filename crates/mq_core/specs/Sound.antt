@@ -8,10 +8,7 @@ use Rattle.mq_core.specs.declared.model.Input.{Input}
 use Rattle.mq_core.specs.declared.model.Kind.{Kind}
 use Rattle.mq_core.specs.declared.model.Network.{Network}
 use Rattle.mq_core.specs.declared.model.Node.{Node}
-pub use Rattle.mq_core.specs.Kinds.ForkJoin.{are_sound_branches}
-pub use Rattle.mq_core.specs.Kinds.Split.{columns_of_route, is_sound_route, outputs_by}
-pub use Rattle.mq_core.specs.Kinds.Tandem.{are_sound_stages, is_sound_stage}
-pub use Rattle.mq_core.specs.Ranges.{columns_of_demand, is_sound_demand, is_within, rises, rises_from}
+use Rattle.mq_core.specs.Ranges.{is_within}
 
 -- the numbers of a kind are in their ranges
 abbrev pub is_sound_kind : ℕ → Kind → Bool

@@ -8,9 +8,6 @@ use Rattle.mq_core.specs.declared.model.Kind.{Kind}
 use Rattle.mq_core.specs.declared.model.Node.{Node}
 use Rattle.mq_core.specs.declared.model.Plan.{Plan}
 use Rattle.mq_core.specs.declared.model.Rows.{Rows}
-pub use Rattle.mq_core.specs.Kinds.Server.{server_on}
-pub use Rattle.mq_core.specs.Kinds.Source.{source_on}
-pub use Rattle.mq_core.specs.Kinds.Split.{output_at, output_by, route_value, split_on}
 
 -- the handlers, one row per kind
 abbrev pub kind_on : Rows → Kind → List Visit → Local → ℕ → Event → Reaction Local

@@ -1,3 +1,4 @@
+-- What rows tell of a single demand, of a column and of several demands.
 use Rattle.std.specs.List.{AllByRecursion}
 use Rattle.std.specs.Prelude.{List, Some, length, slice_get, ℕ, ◌<◌, ◌^◌, ◌≡◌, ◌≤◌}
 use Rattle.mq_core.specs.Handling.{demand_of_job}

@@ -1,6 +1,7 @@
 // What a job asks for.
 ghost use Rattle.std.specs.Prelude.{◌≡◌, fold, map, max, sum_by};
-ghost use Rattle.mq_core.specs.Asked.{HasDemand, HasDemands, AreTold};
+ghost use Rattle.mq_core.specs.Told.{HasDemand, AreTold};
+ghost use Rattle.mq_core.specs.Asked.{HasDemands};
 ghost use Rattle.std.specs.List.{flat_map};
 ghost use Rattle.mq_core.specs.Results.{bare_time};
 ghost use Rattle.mq_core.specs.Handling.{demand_of_job, demand_of_stages};

@@ -2,7 +2,8 @@
 ghost use Rattle.std.specs.Prelude.{◌≡◌, ◌≤◌, length};
 ghost use Rattle.std.specs.List.{flat_map};
 ghost use Rattle.mq_core.specs.Results.{servers_in};
-ghost use Rattle.mq_core.specs.Sound.{outputs_by, outputs_in};
+ghost use Rattle.mq_core.specs.Kinds.Split.{outputs_by};
+ghost use Rattle.mq_core.specs.Sound.{outputs_in};
 
 use crate::model::{Demand, Kind, Route};
 use mq_base::List;

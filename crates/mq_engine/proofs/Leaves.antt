@@ -5,12 +5,14 @@ use Rattle.std.specs.List.{AllByRecursion as Each, zip}
 use Rattle.std.proofs.lemmas.Bool.Decides.{nat_tests}
 use Rattle.std.proofs.lemmas.List.{length-map}
 use Rattle.mq_base.proofs.Lists.{drop_suc}
-use Rattle.mq_core.specs.Columns.{IsSoundLoad, IsStream, column_fates, column_late_from, column_outs, column_stream, by_first, leaving_times, pairs_of, picked, routes_from, stream_in_order, time_of_fate}
+use Rattle.mq_core.specs.Columns.{IsSoundLoad, IsStream, column_fates, column_late_from, column_outs, column_stream, by_first, leaving_times, pairs_of, picked, stream_in_order, time_of_fate}
+use Rattle.mq_core.specs.Kinds.Split.{routes_from}
 use Rattle.mq_core.specs.Recurrences.{lindley, delayed}
 use Rattle.mq_core.specs.Results.{Late, first_of, late_fate}
-use Rattle.mq_core.specs.Sound.{is_sound_demand, outputs_in}
+use Rattle.mq_core.specs.Ranges.{is_sound_demand}
+use Rattle.mq_core.specs.Sound.{outputs_in}
 use Rattle.mq_core.specs.Handling.{demand_of_job}
-use Rattle.mq_core.specs.Standard.{output_by, route_value}
+use Rattle.mq_core.specs.Kinds.Split.{output_by, route_value}
 use Rattle.mq_core.specs.declared.model.Demand.{Demand}
 use Rattle.mq_core.specs.declared.model.Fate.{Fate}
 use Rattle.mq_core.specs.declared.model.Fate.TheVariants.{Departs, Lost}

@@ -6,10 +6,12 @@ use Rattle.std.proofs.lemmas.Bool.Decides.{nat_tests}
 use Rattle.std.proofs.lemmas.List.{append-nil, drop_all, length-map}
 use Rattle.mq_base.proofs.Lists.{drop_suc}
 use Rattle.mq_core.specs.ColumnLaws.{FatesAreInTime}
-use Rattle.mq_core.specs.Columns.{column_fates, column_stream, leaving_times, out_of_fate, picked}
+use Rattle.mq_core.specs.Columns.{column_fates, column_stream, leaving_times, picked}
+use Rattle.mq_core.specs.Kinds.Loss.{out_of_fate}
 use Rattle.mq_core.specs.Handling.{demand_of_job}
 use Rattle.mq_core.specs.Recurrences.{loss_fates}
-use Rattle.mq_core.specs.Sound.{is_sound_demand, is_sound_kind, is_within}
+use Rattle.mq_core.specs.Ranges.{is_sound_demand, is_within}
+use Rattle.mq_core.specs.Sound.{is_sound_kind}
 use Rattle.mq_core.specs.declared.model.Demand.{Demand}
 use Rattle.mq_core.specs.declared.model.Fate.{Fate}
 use Rattle.mq_core.specs.declared.model.Fate.TheVariants.{Departs, Lost}

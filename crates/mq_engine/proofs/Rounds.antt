@@ -15,7 +15,8 @@ use Rattle.mq_core.specs.Columns.{IsStream, by_first, column_fates, column_late,
 use Rattle.mq_core.specs.Results.{Late as LateVisit, first_of, stream_from, visits_of}
 use Rattle.mq_core.specs.RunLaws.{HasColumns}
 use Rattle.mq_core.specs.Names.{is_name}
-use Rattle.mq_core.specs.Sound.{are_distinct, columns_of_kind, is_sound_node, is_within, mentions_from, outputs_in, same_input}
+use Rattle.mq_core.specs.Sound.{are_distinct, columns_of_kind, is_sound_node, mentions_from, outputs_in, same_input}
+use Rattle.mq_core.specs.Ranges.{is_within}
 use Rattle.mq_core.specs.StandardTable.{run_of}
 use Rattle.mq_core.specs.Theorems.{IsReadFor}
 use Rattle.mq_core.specs.Wiring.{first_ready, is_source_kind, ranked_after}

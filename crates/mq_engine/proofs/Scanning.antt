@@ -9,7 +9,8 @@ use Rattle.std.proofs.lemmas.Option.{slice_get_within}
 use Rattle.mq_base.proofs.Lists.{some_inj}
 use Rattle.mq_core.specs.Columns.{IsSoundLoad, column_fates, founds_of}
 use Rattle.mq_core.specs.Recurrences.{lindley}
-use Rattle.mq_core.specs.Sound.{is_sound_demand, is_sound_kind}
+use Rattle.mq_core.specs.Ranges.{is_sound_demand}
+use Rattle.mq_core.specs.Sound.{is_sound_kind}
 use Rattle.mq_core.specs.declared.model.Fate.{Fate}
 use Rattle.mq_core.specs.declared.model.Fate.TheVariants.{Departs}
 use Rattle.mq_core.specs.declared.model.Node.{Node}

@@ -13,8 +13,11 @@ use Rattle.mq_core.specs.ColumnLaws.{FatesAreInTime}
 use Rattle.mq_core.specs.Columns.{IsSoundLoad, IsStream, column_fates}
 use Rattle.mq_core.specs.Handling.{demand_of_job}
 use Rattle.mq_core.specs.Recurrences.{fork_departs, tandem_departs}
-use Rattle.mq_core.specs.Served.{branch_demands, tandem_times}
-use Rattle.mq_core.specs.Sound.{are_sound_branches, are_sound_stages, is_sound_demand, is_sound_stage, is_within}
+use Rattle.mq_core.specs.Kinds.ForkJoin.{branch_demands}
+use Rattle.mq_core.specs.Kinds.Tandem.{tandem_times}
+use Rattle.mq_core.specs.Kinds.ForkJoin.{are_sound_branches}
+use Rattle.mq_core.specs.Kinds.Tandem.{are_sound_stages, is_sound_stage}
+use Rattle.mq_core.specs.Ranges.{is_sound_demand, is_within}
 use Rattle.mq_core.specs.declared.model.Demand.{Demand}
 use Rattle.mq_core.specs.declared.model.Fate.{Fate}
 use Rattle.mq_core.specs.declared.model.Fate.TheVariants.{Departs}

@@ -1,6 +1,6 @@
 // What leaves a station, and what several kinds of station have in common.
 ghost use Rattle.std.specs.Prelude.{◌≡◌, ◌∷◌, [], length, map, IfOk, IsTrue};
-ghost use Rattle.mq_core.specs.Sound.{is_sound_demand};
+ghost use Rattle.mq_core.specs.Ranges.{is_sound_demand};
 ghost use Rattle.mq_core.specs.Handling.{demand_of_job};
 ghost use Rattle.mq_core.specs.declared.model.Fate.TheVariants.{Departs};
 ghost use Rattle.mq_engine.specs.Turns.{AreTold, LeaveInTurn};

@@ -2,7 +2,7 @@
 ghost use Rattle.std.specs.Prelude.{◌≡◌, ◌≤◌, All, length, map, IfOk, IsTrue};
 ghost use Rattle.std.specs.List.{flat_map};
 ghost use Rattle.mq_core.specs.Handling.{demand_of_job};
-ghost use Rattle.mq_core.specs.Sound.{is_sound_demand};
+ghost use Rattle.mq_core.specs.Ranges.{is_sound_demand};
 ghost use Rattle.mq_core.specs.declared.model.Kind.TheVariants.{ForkJoin, Tandem};
 ghost use Rattle.mq_engine.specs.Turns.{AreTold, IsLeaving, IsLoad};
 

@@ -2,8 +2,8 @@
 ghost use Rattle.std.specs.Prelude.{◌≡◌, length, map, IfOk, IsTrue};
 ghost use Rattle.mq_core.specs.Columns.{IsStream};
 ghost use Rattle.mq_core.specs.PlanLaws.{Tells};
-ghost use Rattle.mq_core.specs.Sound.{is_sound_route};
-ghost use Rattle.mq_core.specs.Standard.{route_value};
+ghost use Rattle.mq_core.specs.Kinds.Split.{is_sound_route};
+ghost use Rattle.mq_core.specs.Kinds.Split.{route_value};
 ghost use Rattle.mq_core.specs.declared.model.Rows.{Rows as TheRows};
 ghost use Rattle.mq_engine.specs.Turns.{AreTold, IsLeaving, IsLoad};
 

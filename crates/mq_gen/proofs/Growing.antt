@@ -4,7 +4,9 @@ use Rattle.std.specs.Prelude.{◌&&◌, ◌==◌, nat_lt, slice_get}
 use Rattle.std.specs.List.{list_all, list_any}
 use Rattle.std.proofs.lemmas.Bool.{and_from, and_left, and_parts, eqb-true, lt-ltb, ltb-true, ne_eqb, not-true, not_from_false, or_cases, or_from, or_left, or_right}
 use Rattle.std.proofs.lemmas.List.Folds.{list_any-append}
-use Rattle.mq_core.specs.Sound.{are_distinct, is_output, is_sound_demand, is_sound_kind, is_sound_node, is_sound_stage, is_within, mentions_from, same_input}
+use Rattle.mq_core.specs.Sound.{are_distinct, is_output, is_sound_kind, is_sound_node, mentions_from, same_input}
+use Rattle.mq_core.specs.Ranges.{is_sound_demand, is_within}
+use Rattle.mq_core.specs.Kinds.Tandem.{is_sound_stage}
 use Rattle.mq_core.specs.declared.model.Demand.{Demand}
 use Rattle.mq_core.specs.declared.model.Demand.TheVariants.{Column, Fixed}
 use Rattle.mq_core.specs.declared.model.Input.{Input}

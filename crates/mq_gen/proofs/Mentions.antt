@@ -5,7 +5,8 @@ use Rattle.std.specs.List.{list_all}
 use Rattle.std.specs.Str.{bytes_eq}
 use Rattle.std.proofs.lemmas.Bool.{and_from, and_parts, le-leb, leb-true}
 use Rattle.mq_core.specs.Names.{is_name}
-use Rattle.mq_core.specs.Sound.{are_distinct, columns_of_kind, is_sound_kind, is_within, mentions_from, outputs_in}
+use Rattle.mq_core.specs.Sound.{are_distinct, columns_of_kind, is_sound_kind, mentions_from, outputs_in}
+use Rattle.mq_core.specs.Ranges.{is_within}
 use Rattle.mq_core.specs.Wiring.{is_source_kind}
 use Rattle.mq_core.specs.declared.model.Kind.{Kind}
 use Rattle.mq_gen.specs.Made.{column_a, column_b, draw, kind_by, mention, mentions_of, places_by}

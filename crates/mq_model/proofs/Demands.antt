@@ -6,7 +6,8 @@ use Rattle.std.specs.Str.{bytes_eq}
 use Rattle.std.proofs.lemmas.Bool.{and_parts, and_from, lt-ltb, ltb-true}
 use Rattle.std.proofs.lemmas.List.{append-nil}
 use Rattle.mq_core.specs.Names.{is_name}
-use Rattle.mq_core.specs.Sound.{are_distinct, columns_of_demand, is_sound_demand}
+use Rattle.mq_core.specs.Sound.{are_distinct}
+use Rattle.mq_core.specs.Ranges.{columns_of_demand, is_sound_demand}
 use Rattle.mq_core.specs.declared.model.Demand.{Demand}
 use Rattle.mq_core.specs.declared.model.Demand.TheVariants as demand
 use Rattle.mq_model.specs.Form.{Word}

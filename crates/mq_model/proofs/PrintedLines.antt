@@ -5,7 +5,7 @@ use Rattle.std.specs.List.{list_all}
 use Rattle.std.proofs.lemmas.Bool.{and_parts, and_from, and_right, leb-true, eqb-true}
 use Rattle.std.proofs.lemmas.Fmt.{decimal_digit}
 use Rattle.mq_core.specs.Names.{is_name}
-use Rattle.mq_core.specs.Sound.{is_within, rises_from}
+use Rattle.mq_core.specs.Ranges.{is_within, rises_from}
 use Rattle.mq_model.specs.Form.{Form, Word, one, read, whole}
 use Rattle.mq_model.specs.Lines.{a_route, bound_line, counted_route, cut_route, greatest_demand, inputs, is_above, is_from_to, is_key, is_up_to, line, modulo_route, node_line, rising, delay_kind, loss_kind, tandem_kind, forkjoin_kind, server_kind, source_line, split_kind, thresholds, value_of, way_of}
 use Rattle.mq_model.specs.Printed.{demand_word, input_word, inputs_words, route_words, said_words}

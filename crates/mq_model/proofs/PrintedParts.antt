@@ -12,7 +12,7 @@ use Rattle.std.proofs.lemmas.Str.Parse.{IsNumeralModel, numerals_by_value}
 use Rattle.std.specs.Str.Parse.{digits_value}
 use Rattle.mq_base.specs.Text.{is_number}
 use Rattle.mq_core.specs.Names.{is_name, is_name_byte}
-use Rattle.mq_core.specs.Sound.{is_within}
+use Rattle.mq_core.specs.Ranges.{is_within}
 use Rattle.mq_model.specs.Form.{Word, one, up_to, read}
 use Rattle.mq_model.specs.Lines.{a_demand, a_name, demand_of, ends_in_output, input_of, inputs, is_demand, is_from_to, is_input, key, last_byte, value_of}
 use Rattle.mq_model.specs.Printed.{demand_word, input_word, inputs_words}

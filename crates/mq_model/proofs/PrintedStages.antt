@@ -3,7 +3,7 @@ use Rattle.std.proofs.Common.{◌≡◌, ◌∙◌, sym, ap, refl, ℕ, ◌-◌,
 use Rattle.std.specs.Prelude.{codes, decimal}
 use Rattle.std.specs.List.{flat_map}
 use Rattle.std.proofs.lemmas.Bool.{and_parts, leb-true}
-use Rattle.mq_core.specs.Sound.{is_within}
+use Rattle.mq_core.specs.Ranges.{is_within}
 use Rattle.mq_model.specs.Form.{Word, read}
 use Rattle.mq_model.specs.Lines.{a_stage, key, stages, stages_behind, tandem_kind}
 use Rattle.mq_model.specs.Printed.{demand_word, stage_words, stages_words}

@@ -8,7 +8,7 @@ use Rattle.std.proofs.lemmas.Fmt.{decimal_nonempty, length-decimal-le}
 use Rattle.std.proofs.lemmas.Grind.{common_steps}
 use Rattle.std.proofs.lemmas.List.Folds.{list_all-append}
 use Rattle.mq_core.specs.Names.{is_name, is_name_byte}
-use Rattle.mq_core.specs.Sound.{is_within}
+use Rattle.mq_core.specs.Ranges.{is_within}
 use Rattle.mq_model.specs.Form.{Word}
 use Rattle.mq_model.specs.Printed.{barred_words, branches_words, stage_words, stages_words, demand_word, first_word, input_word, inputs_words, kind_words, reads_words, route_words, said_words}
 use Rattle.mq_model.specs.declared.said.SaidDemand.{SaidDemand}

@@ -6,7 +6,8 @@ use Rattle.std.specs.Option.{option_or}
 use Rattle.std.proofs.lemmas.Bool.{and_parts}
 use Rattle.std.proofs.lemmas.Grind.{common_steps}
 use Rattle.mq_base.specs.Text.{lines_of}
-use Rattle.mq_core.specs.Sound.{is_sound, is_within}
+use Rattle.mq_core.specs.Sound.{is_sound}
+use Rattle.mq_core.specs.Ranges.{is_within}
 use Rattle.mq_core.specs.declared.model.Network.{Network}
 use Rattle.mq_graph.specs.Rank.{AreWired, left_node}
 use Rattle.mq_model.specs.Front.{IsFront}

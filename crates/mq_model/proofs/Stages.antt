@@ -6,7 +6,9 @@ use Rattle.std.specs.Str.{bytes_eq}
 use Rattle.std.proofs.lemmas.Bool.{and_parts, and_from}
 use Rattle.std.proofs.lemmas.List.{length-map}
 use Rattle.mq_core.specs.Names.{is_name}
-use Rattle.mq_core.specs.Sound.{are_distinct, are_sound_stages, columns_of_demand, is_sound_stage, is_within}
+use Rattle.mq_core.specs.Sound.{are_distinct}
+use Rattle.mq_core.specs.Kinds.Tandem.{are_sound_stages, is_sound_stage}
+use Rattle.mq_core.specs.Ranges.{columns_of_demand, is_within}
 use Rattle.mq_core.specs.declared.model.Stage.{Stage}
 use Rattle.mq_model.specs.Form.{Word}
 use Rattle.mq_model.specs.NetworkOf.{number_in, stage_in}

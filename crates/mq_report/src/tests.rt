@@ -1,5 +1,5 @@
 ghost use Rattle.std.specs.Prelude.{◌≡◌, ◌≤◌, All, IfOk, IsTrue};
-ghost use Rattle.mq_core.specs.Asked.{HasValue};
+ghost use Rattle.mq_core.specs.Told.{HasValue};
 
 use crate::jobs::add_visits;
 use mq_base::{Gather, List, MemSink, OutOfMemory, SinkFault, flush};

@@ -4,7 +4,7 @@ use Rattle.std.proofs.Math.Seq.{take-add}
 use Rattle.std.proofs.lemmas.List.{length-take-le}
 use Rattle.mq_base.proofs.Lists.{take-all}
 use Rattle.mq_core.specs.Columns.{picked}
-use Rattle.mq_core.specs.Standard.{output_at}
+use Rattle.mq_core.specs.Kinds.Split.{output_at}
 use Rattle.mq_core.specs.declared.model.Route.{Route}
 use Rattle.mq_split.proofs.Parts.{length-outs_from}
 use Rattle.mq_split.specs.Outs.{PiecesJoin, between, outs_from, picked_stream}

@@ -3,8 +3,8 @@
 
 ghost use Rattle.std.specs.Prelude.{◌≡◌, ◌==◌, ◌+◌, ◌<◌, ◌≤◌, ◌^◌, ℕ, length, count_by, nat_le, IfOk, IsTrue};
 ghost use Rattle.mq_core.specs.Columns.{IsStream, picked};
-ghost use Rattle.mq_core.specs.Sound.{is_sound_route, outputs_by};
-ghost use Rattle.mq_core.specs.Standard.{output_at};
+ghost use Rattle.mq_core.specs.Kinds.Split.{is_sound_route, outputs_by};
+ghost use Rattle.mq_core.specs.Kinds.Split.{output_at};
 ghost use Rattle.mq_split.specs.Outs.{AreParts, ArePieces, PiecesJoin, between, outs_from};
 
 use mq_base::{List, OutOfMemory};

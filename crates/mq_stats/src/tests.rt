@@ -1,5 +1,5 @@
 ghost use Rattle.std.specs.Prelude.{◌≡◌, ◌<◌, ◌≤◌, All, IfOk, IsTrue};
-ghost use Rattle.mq_core.specs.Asked.{HasValue};
+ghost use Rattle.mq_core.specs.Told.{HasValue};
 
 use crate::{
     Exit, NodeTotals, ahead, found, found_piece, found_piece_in_order, leaving, span, totals,

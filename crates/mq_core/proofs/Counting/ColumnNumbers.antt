@@ -14,7 +14,11 @@ use Rattle.mq_core.specs.Leaving.Leaving.{InTurn, Mixed, Overtaking}
 use Rattle.mq_core.specs.Machine.{Emission, Visit}
 use Rattle.mq_core.specs.Recurrences.{is_admitted, loss_fates, time_or_none}
 use Rattle.mq_core.specs.Results.{fates_from}
-use Rattle.mq_core.specs.Served.{delayed_from, faring_from, in_leaving_order, leaving_from, passed_from, served, served_from}
+use Rattle.mq_core.specs.Kinds.Delay.{delayed_from}
+use Rattle.mq_core.specs.Kinds.Loss.{faring_from}
+use Rattle.mq_core.specs.Served.{in_leaving_order}
+use Rattle.mq_core.specs.Emitting.{leaving_from, passed_from}
+use Rattle.mq_core.specs.Kinds.Server.{served, served_from}
 use Rattle.mq_core.specs.Tallies.{arrival_or, emission_at, found_or, one_if_later, still_there}
 use Rattle.mq_core.specs.declared.model.Demand.{Demand}
 use Rattle.mq_core.specs.declared.model.Fate.{Fate}

@@ -2,13 +2,16 @@
 use Rattle.std.proofs.Common.{List, [], ap, arith, inl, length, map, refl, suc, ℕ, ◌+◌, ◌∙◌, ◌∷◌, ◌≡◌}
 use Rattle.std.proofs.lemmas.List.{length-map}
 use Rattle.mq_core.specs.ColumnLaws.{arrives_of, jobs_of}
-use Rattle.mq_core.specs.Columns.{routes_from}
+use Rattle.mq_core.specs.Kinds.Split.{routes_from}
 use Rattle.mq_core.specs.Fates.{fate_by}
 use Rattle.mq_core.specs.Handling.{demand_of_job}
 use Rattle.mq_core.specs.Machine.{Emission, Visit}
 use Rattle.mq_core.specs.Recurrences.{delayed, lindley, loss_fates}
-use Rattle.mq_core.specs.Served.{delayed_from, leaving_from, passed_from, served, served_from, tandem_times}
-use Rattle.mq_core.specs.Standard.{output_by}
+use Rattle.mq_core.specs.Kinds.Delay.{delayed_from}
+use Rattle.mq_core.specs.Emitting.{leaving_from, passed_from}
+use Rattle.mq_core.specs.Kinds.Server.{served, served_from}
+use Rattle.mq_core.specs.Kinds.Tandem.{tandem_times}
+use Rattle.mq_core.specs.Kinds.Split.{output_by}
 use Rattle.mq_core.specs.declared.model.Demand.{Demand}
 use Rattle.mq_core.specs.declared.model.Fate.TheVariants.{Departs}
 use Rattle.mq_core.specs.declared.model.Kind.{Kind}

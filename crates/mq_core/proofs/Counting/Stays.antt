@@ -8,7 +8,7 @@ use Rattle.mq_core.specs.ColumnLaws.{LeavesFrom}
 use Rattle.mq_core.specs.Handling.{demand_of_job, demand_of_stages}
 use Rattle.mq_core.specs.Recurrences.{delayed, each_before, fork_departs, in_series, is_admitted, last_time, later_of, lindley, loss_fates, rest, room_in, stage_departs, tandem_departs, time_or_none}
 use Rattle.mq_core.specs.Results.{bare_time}
-use Rattle.mq_core.specs.Served.{branch_demands}
+use Rattle.mq_core.specs.Kinds.ForkJoin.{branch_demands}
 use Rattle.mq_core.specs.declared.model.Demand.{Demand}
 use Rattle.mq_core.specs.declared.model.Fate.{Fate}
 use Rattle.mq_core.specs.declared.model.Fate.TheVariants.{Departs, Lost}

@@ -9,7 +9,7 @@ use Rattle.mq_core.specs.Event.Event.{Arrive, Finish}
 use Rattle.mq_core.specs.Machine.{Visit, Emission, emissions_of, emission_of}
 use Rattle.mq_core.specs.Laws.{Rises, in_order_of}
 use Rattle.mq_core.specs.Handling.{demand_of_job, demand_of_visit, demand_at, latest}
-use Rattle.mq_core.specs.Served.{delayed_from}
+use Rattle.mq_core.specs.Kinds.Delay.{delayed_from}
 use Rattle.mq_core.specs.Tallies.{sum_below, arrival_or, emission_at, one_if_none, staying}
 use Rattle.mq_core.specs.declared.model.Demand.{Demand}
 use Rattle.mq_core.specs.declared.model.Rows.{Rows}

@@ -5,7 +5,7 @@ use Rattle.mq_core.specs.Kinds.ForkJoin.{fork_join}
 use Rattle.mq_core.specs.PlanLaws.{Tells}
 use Rattle.mq_core.specs.Recurrences.{fork_departs}
 use Rattle.mq_core.specs.Results.{bare_time}
-use Rattle.mq_core.specs.Served.{branch_demands}
+use Rattle.mq_core.specs.Kinds.ForkJoin.{branch_demands}
 use Rattle.mq_core.specs.declared.model.Demand.{Demand}
 use Rattle.mq_core.specs.declared.model.Kind.TheVariants.{ForkJoin}
 use Rattle.mq_core.specs.declared.model.Rows.{Rows}

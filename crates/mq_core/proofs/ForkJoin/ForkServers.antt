@@ -8,7 +8,7 @@ use Rattle.mq_core.specs.Event.{Event, time_of, earliest, sooner_of}
 use Rattle.mq_core.specs.Event.Event.{Arrive, Finish}
 use Rattle.mq_core.specs.Machine.{Visit, Service, finishes_of}
 use Rattle.mq_core.specs.Handling.{demand_of_job, demand_at, begins_at, begins_alone}
-use Rattle.mq_core.specs.Served.{served}
+use Rattle.mq_core.specs.Kinds.Server.{served}
 use Rattle.mq_core.specs.declared.model.Demand.{Demand}
 use Rattle.mq_core.specs.declared.model.Rows.{Rows}
 use Rattle.mq_core.proofs.Lists.Each.{Each-append, Each-back, not_true}

@@ -4,7 +4,8 @@ use Rattle.std.proofs.lemmas.Bool.{and_parts}
 use Rattle.std.proofs.lemmas.Bool.Decides.{nat_tests}
 use Rattle.std.specs.List.{AllByRecursion as Each, flat_map, list_all}
 use Rattle.std.specs.Prelude.{nat_le, ◌&&◌}
-use Rattle.mq_core.specs.Sound.{are_sound_branches, is_sound_demand, is_within}
+use Rattle.mq_core.specs.Kinds.ForkJoin.{are_sound_branches}
+use Rattle.mq_core.specs.Ranges.{is_sound_demand, is_within}
 use Rattle.mq_core.specs.declared.model.Demand.{Demand}
 use Rattle.mq_core.proofs.ForkJoin.ForkBranches.{count_of}
 use Rattle.mq_core.proofs.ForkJoin.Joins.{IsForked}

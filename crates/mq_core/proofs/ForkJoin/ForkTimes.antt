@@ -6,7 +6,7 @@ use Rattle.mq_core.specs.ColumnLaws.{FatesInTime}
 use Rattle.mq_core.specs.Handling.{demand_of_job}
 use Rattle.mq_core.specs.Machine.{Visit}
 use Rattle.mq_core.specs.Recurrences.{lindley, in_series, later_of, fork_departs}
-use Rattle.mq_core.specs.Served.{branch_demands}
+use Rattle.mq_core.specs.Kinds.ForkJoin.{branch_demands}
 use Rattle.mq_core.specs.declared.model.Demand.{Demand}
 use Rattle.mq_core.specs.declared.model.Fate.TheVariants.{Departs}
 use Rattle.mq_core.specs.declared.model.Rows.{Rows}

@@ -11,7 +11,7 @@ use Rattle.mq_core.specs.Machine.{Visit, Emission, Service, Release, finishes_of
 use Rattle.mq_core.specs.Local.{Local, Branch}
 use Rattle.mq_core.specs.Handling.{demand_of_visit, demand_at, latest}
 use Rattle.mq_core.specs.ForkJoinHandler.{Moved, Forked, goes_in, finishes_at, each_branch, least_through, fork_on}
-use Rattle.mq_core.specs.Served.{passed_from}
+use Rattle.mq_core.specs.Emitting.{passed_from}
 use Rattle.mq_core.specs.Tallies.{arrival_or}
 use Rattle.mq_core.specs.declared.model.Demand.{Demand}
 use Rattle.mq_core.specs.declared.model.Rows.{Rows}

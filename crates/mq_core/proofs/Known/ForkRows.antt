@@ -7,7 +7,8 @@ use Rattle.mq_core.specs.Local.{Local}
 use Rattle.mq_core.specs.Machine.{State, after, step}
 use Rattle.mq_core.specs.NetworkRun.{run_in}
 use Rattle.mq_core.specs.Results.{bare_time, exit_of, servers_in, totals_of}
-use Rattle.mq_core.specs.Sound.{are_sound_branches, is_sound}
+use Rattle.mq_core.specs.Kinds.ForkJoin.{are_sound_branches}
+use Rattle.mq_core.specs.Sound.{is_sound}
 use Rattle.mq_core.specs.Wiring.{first_ready, port_reading, rank_in, ranked_after, reader_from}
 use Rattle.mq_core.specs.declared.model.Demand.TheVariants.{Column, Fixed}
 use Rattle.mq_core.specs.declared.model.Fate.TheVariants.{Departs}

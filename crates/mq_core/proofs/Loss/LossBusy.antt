@@ -22,7 +22,7 @@ use Rattle.mq_core.proofs.Lists.NumberLists.{sum_below-first}
 use Rattle.mq_core.proofs.Events.Remaining.{remaining}
 use Rattle.mq_core.proofs.Server.Serves.{latest-push, pair-inj}
 use Rattle.mq_core.proofs.Counting.Unlost.{unless_out}
-use Rattle.mq_core.specs.Served.{faring_by}
+use Rattle.mq_core.specs.Kinds.Loss.{faring_by}
 
 -- the demands of those among these that aren't lost
 abbrev pub work : Rows → Demand → List Emission → ℕ

@@ -3,13 +3,13 @@ use Rattle.std.proofs.Common.{◌≡◌, inl, inr, ℕ, suc, ◌+◌, ◌≤◌,
 use Rattle.std.specs.Prelude.{slice_get}
 use Rattle.std.specs.List.{AllByRecursion as Each}
 use Rattle.mq_core.specs.ColumnLaws.{arrives_of}
-use Rattle.mq_core.specs.Columns.{out_of_fate}
+use Rattle.mq_core.specs.Kinds.Loss.{out_of_fate}
 use Rattle.mq_core.specs.Fates.{fate_by}
 use Rattle.mq_core.specs.Handling.{demand_of_job}
 use Rattle.mq_core.specs.Laws.{Rises, in_order_of, stream_of}
 use Rattle.mq_core.specs.Machine.{Visit, Emission}
 use Rattle.mq_core.specs.Recurrences.{is_admitted, loss_fates, time_or_none}
-use Rattle.mq_core.specs.Served.{faring_from}
+use Rattle.mq_core.specs.Kinds.Loss.{faring_from}
 use Rattle.mq_core.specs.declared.model.Demand.{Demand}
 use Rattle.mq_core.specs.declared.model.Fate.{Fate}
 use Rattle.mq_core.specs.declared.model.Fate.TheVariants.{Departs, Lost}

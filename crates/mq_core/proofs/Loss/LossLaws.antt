@@ -6,7 +6,7 @@ use Rattle.std.specs.Prelude.{nat_le, slice_get}
 use Rattle.mq_core.specs.Fates.{fate_of, unless_lost}
 use Rattle.mq_core.specs.Handling.{demand_of_visit}
 use Rattle.mq_core.specs.Kinds.Loss.{loss}
-use Rattle.mq_core.specs.Sound.{is_sound_demand, is_within}
+use Rattle.mq_core.specs.Ranges.{is_sound_demand, is_within}
 use Rattle.mq_core.specs.Tallies.{emission_at}
 use Rattle.mq_core.specs.declared.model.Demand.{Demand}
 use Rattle.mq_core.specs.declared.model.Kind.TheVariants.{Loss}

@@ -2,12 +2,13 @@
 use Rattle.std.proofs.Common.{Bool, [], ap, arith, cond, eqb, false, length, map, true, ℕ, ◌∙◌, ◌≤◌}
 use Rattle.std.proofs.lemmas.Bool.{and_parts}
 use Rattle.mq_core.specs.ColumnLaws.{arrives_of}
-use Rattle.mq_core.specs.Columns.{out_of_fate, time_of_fate}
+use Rattle.mq_core.specs.Kinds.Loss.{out_of_fate}
+use Rattle.mq_core.specs.Columns.{time_of_fate}
 use Rattle.mq_core.specs.Handling.{demand_of_job}
 use Rattle.mq_core.specs.Kinds.Loss.{loss}
 use Rattle.mq_core.specs.PlanLaws.{Tells}
 use Rattle.mq_core.specs.Recurrences.{loss_fates}
-use Rattle.mq_core.specs.Sound.{is_sound_demand, is_within}
+use Rattle.mq_core.specs.Ranges.{is_sound_demand, is_within}
 use Rattle.mq_core.specs.declared.model.Demand.{Demand}
 use Rattle.mq_core.specs.declared.model.Fate.TheVariants.{Departs, Lost}
 use Rattle.mq_core.specs.declared.model.Rows.{Rows}

@@ -5,9 +5,9 @@ use Rattle.std.proofs.lemmas.Bool.Decides.{nat_tests}
 use Rattle.std.proofs.lemmas.Option.{slice_get-get_or}
 use Rattle.std.specs.List.{AllByRecursion as Each, flat_map, list_all}
 use Rattle.std.specs.Prelude.{nat_le, nat_lt, slice_get, slice_index, ◌&&◌}
-use Rattle.mq_core.specs.Asked.{HasDemand, HasValue}
+use Rattle.mq_core.specs.Told.{HasDemand, HasValue}
 use Rattle.mq_core.specs.Handling.{column_value, demand_of_job, value_of}
-use Rattle.mq_core.specs.Sound.{is_sound_demand, is_within}
+use Rattle.mq_core.specs.Ranges.{is_sound_demand, is_within}
 use Rattle.mq_core.specs.Theorems.{IsReadFor}
 use Rattle.mq_core.specs.declared.model.Demand.{Demand}
 use Rattle.mq_core.specs.declared.model.Demand.TheVariants.{Column, Fixed}

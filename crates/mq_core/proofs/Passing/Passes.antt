@@ -6,7 +6,7 @@ use Rattle.mq_core.specs.Event.{Event, earliest}
 use Rattle.mq_core.specs.Handling.{latest}
 use Rattle.mq_core.specs.Local.{Local}
 use Rattle.mq_core.specs.Machine.{Emission, Reaction, Station, Visit, emission_of, emissions_of}
-use Rattle.mq_core.specs.Served.{passed_from}
+use Rattle.mq_core.specs.Emitting.{passed_from}
 use Rattle.mq_core.proofs.Server.Serves.{latest-push, slice_get-middle}
 
 -- every visit went on at once, and nothing is pending

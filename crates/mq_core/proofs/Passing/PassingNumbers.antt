@@ -3,7 +3,7 @@ use Rattle.std.proofs.Common.{Bool, List, Some, [], ap, arith, eq-eqb, eqb, fals
 use Rattle.std.specs.Prelude.{find}
 use Rattle.mq_core.specs.Event.{Event}
 use Rattle.mq_core.specs.Machine.{Emission, Visit}
-use Rattle.mq_core.specs.Served.{passed_from}
+use Rattle.mq_core.specs.Emitting.{passed_from}
 use Rattle.mq_core.specs.Tallies.{emission_at, one_if_none, staying, sum_below}
 use Rattle.mq_core.proofs.Passing.Passes.{Passing}
 

@@ -3,7 +3,7 @@ use Rattle.std.proofs.Common.{[], arith, length, refl, sym, ◌++◌, ◌∙◌,
 use Rattle.std.specs.Prelude.{slice_get}
 use Rattle.mq_core.specs.Handling.{latest}
 use Rattle.mq_core.specs.Kinds.Split.{split}
-use Rattle.mq_core.specs.Standard.{output_by}
+use Rattle.mq_core.specs.Kinds.Split.{output_by}
 use Rattle.mq_core.specs.declared.model.Kind.TheVariants.{Split}
 use Rattle.mq_core.specs.declared.model.Route.{Route}
 use Rattle.mq_core.specs.declared.model.Rows.{Rows}

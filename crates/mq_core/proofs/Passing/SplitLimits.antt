@@ -4,7 +4,8 @@ use Rattle.std.proofs.lemmas.Bool.{and_parts}
 use Rattle.std.specs.List.{list_all}
 use Rattle.std.specs.Prelude.{nat_le, nat_lt}
 use Rattle.mq_core.specs.Kinds.Split.{split}
-use Rattle.mq_core.specs.Sound.{is_sound_route, is_within, outputs_by, rises}
+use Rattle.mq_core.specs.Kinds.Split.{is_sound_route, outputs_by}
+use Rattle.mq_core.specs.Ranges.{is_within, rises}
 use Rattle.mq_core.specs.declared.model.Route.{Route}
 use Rattle.mq_core.specs.declared.model.Route.TheVariants.{Cut, Modulo, Turn}
 use Rattle.mq_core.proofs.EachKind.LimitLaws.{LimitLaws}

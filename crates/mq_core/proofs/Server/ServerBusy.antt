@@ -7,7 +7,7 @@ use Rattle.mq_core.specs.Event.Event.{Finish}
 use Rattle.mq_core.specs.Handling.{demand_at, demand_of_visit, front_begins, front_leaves, joins, latest, one_if_some}
 use Rattle.mq_core.specs.Local.{Local}
 use Rattle.mq_core.specs.Machine.{Emission, Visit, finishes_of}
-use Rattle.mq_core.specs.Served.{served}
+use Rattle.mq_core.specs.Kinds.Server.{served}
 use Rattle.mq_core.specs.Tallies.{sum_below}
 use Rattle.mq_core.specs.declared.model.Demand.{Demand}
 use Rattle.mq_core.specs.declared.model.Rows.{Rows}

@@ -7,7 +7,7 @@ use Rattle.mq_core.specs.Event.Event.{Arrive, Finish}
 use Rattle.mq_core.specs.Handling.{front_leaves, latest}
 use Rattle.mq_core.specs.Local.{Local}
 use Rattle.mq_core.specs.Machine.{Visit, Station, emissions_of}
-use Rattle.mq_core.specs.Standard.{server_on}
+use Rattle.mq_core.specs.Kinds.Server.{server_on}
 use Rattle.mq_core.specs.declared.model.Demand.{Demand}
 use Rattle.mq_core.specs.declared.model.Rows.{Rows}
 use Rattle.mq_core.proofs.Counting.Released.{emission-one, times-one, joins-length, joins-emits}

@@ -8,7 +8,7 @@ use Rattle.mq_core.specs.Event.Event.{Finish}
 use Rattle.mq_core.specs.Handling.{front_leaves}
 use Rattle.mq_core.specs.Local.{Local}
 use Rattle.mq_core.specs.Machine.{Emission, Visit, emissions_of}
-use Rattle.mq_core.specs.Served.{served, served_from}
+use Rattle.mq_core.specs.Kinds.Server.{served, served_from}
 use Rattle.mq_core.specs.Tallies.{arrival_or, emission_at, one_if_none, staying, sum_below}
 use Rattle.mq_core.specs.declared.model.Demand.{Demand}
 use Rattle.mq_core.specs.declared.model.Rows.{Rows}

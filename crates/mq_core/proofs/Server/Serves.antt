@@ -8,7 +8,7 @@ use Rattle.mq_core.specs.Event.Event.{Finish}
 use Rattle.mq_core.specs.Machine.{Visit, Emission, finishes_of, emissions_of}
 use Rattle.mq_core.specs.Local.{Local}
 use Rattle.mq_core.specs.Handling.{demand_of_job, demand_of_visit, demand_at, latest, joins, front_leaves, front_begins}
-use Rattle.mq_core.specs.Served.{served, served_from}
+use Rattle.mq_core.specs.Kinds.Server.{served, served_from}
 use Rattle.mq_core.specs.declared.model.Demand.{Demand}
 use Rattle.mq_core.specs.declared.model.Rows.{Rows}
 use Rattle.mq_core.proofs.Lists.Each.{Each-append, Each-weaker}

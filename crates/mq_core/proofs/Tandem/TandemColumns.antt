@@ -4,7 +4,7 @@ use Rattle.std.proofs.lemmas.List.{length-map}
 use Rattle.std.specs.Prelude.{slice_get}
 use Rattle.mq_core.specs.Handling.{demand_of_job}
 use Rattle.mq_core.specs.Recurrences.{time_or_none, room_in, stage_departs, each_before, firsts, rest, last_time, tandem_departs}
-use Rattle.mq_core.specs.Served.{tandem_times}
+use Rattle.mq_core.specs.Kinds.Tandem.{tandem_times}
 use Rattle.mq_core.specs.declared.model.Stage.{Stage}
 use Rattle.mq_core.specs.declared.model.Rows.{Rows}
 use Rattle.mq_core.proofs.ForkJoin.ForkTimes.{AtLeast, at_least-refl}

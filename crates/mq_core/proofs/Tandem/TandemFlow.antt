@@ -6,7 +6,8 @@ use Rattle.std.specs.Prelude.{slice_get, map}
 use Rattle.mq_core.specs.Machine.{Visit, Emission, emission_of}
 use Rattle.mq_core.specs.Handling.{demand_of_job}
 use Rattle.mq_core.specs.Recurrences.{stage_departs, each_before, firsts, rest, last_time, tandem_departs}
-use Rattle.mq_core.specs.Served.{leaving_from, tandem_flow}
+use Rattle.mq_core.specs.Emitting.{leaving_from}
+use Rattle.mq_core.specs.Kinds.Tandem.{tandem_flow}
 use Rattle.mq_core.specs.Tallies.{sum_below, emission_at, one_if_none, staying}
 use Rattle.mq_core.specs.declared.model.Stage.{Stage}
 use Rattle.mq_core.specs.declared.model.Rows.{Rows}

@@ -7,8 +7,8 @@ use Rattle.mq_core.specs.Handling.{demand_of_stages}
 use Rattle.mq_core.specs.Kinds.Tandem.{tandem}
 use Rattle.mq_core.specs.Machine.{Visit}
 use Rattle.mq_core.specs.PlanLaws.{Tells}
-use Rattle.mq_core.specs.Served.{tandem_times}
-use Rattle.mq_core.specs.Sound.{are_sound_stages}
+use Rattle.mq_core.specs.Kinds.Tandem.{tandem_times}
+use Rattle.mq_core.specs.Kinds.Tandem.{are_sound_stages}
 use Rattle.mq_core.specs.declared.model.Fate.TheVariants.{Departs}
 use Rattle.mq_core.specs.declared.model.Kind.TheVariants.{Tandem}
 use Rattle.mq_core.specs.declared.model.Network.{Network}

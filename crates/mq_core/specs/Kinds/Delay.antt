@@ -1,3 +1,4 @@
+-- A delay, as one value: each job is served at once.
 use Rattle.std.specs.Prelude.{List, [], false, length, map, suc, true, ℕ, ◌+◌, ◌∷◌}
 use Rattle.mq_core.specs.Behaviour.{Behaviour}
 use Rattle.mq_core.specs.DelayHandler.{delay_on}

@@ -1,3 +1,4 @@
+-- A fork-join, as one value: branches side by side, each of servers in series.
 use Rattle.std.specs.List.{flat_map, list_all}
 use Rattle.std.specs.Prelude.{Bool, List, false, fold, length, map, max, nat_le, sum_by, true, ℕ, ◌&&◌, ◌-◌}
 use Rattle.mq_core.specs.Leaving.Leaving.{InTurn}

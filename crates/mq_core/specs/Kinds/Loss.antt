@@ -1,3 +1,4 @@
+-- A loss station, as one value: one server, so many places, and two outputs.
 use Rattle.std.specs.Prelude.{List, [], false, if◌then◌else◌, length, map, suc, true, ℕ, ◌&&◌, ◌==◌, ◌∷◌}
 use Rattle.mq_core.specs.Behaviour.{Behaviour}
 use Rattle.mq_core.specs.Handling.{demand_of_job, one_if_some}

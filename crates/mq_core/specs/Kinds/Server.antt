@@ -1,3 +1,4 @@
+-- A server, as one value: its handler, its recurrence, its numbers.
 use Rattle.std.specs.Prelude.{List, [], false, length, map, max, suc, true, ℕ, ◌+◌, ◌∷◌}
 use Rattle.mq_core.specs.Behaviour.{Behaviour}
 use Rattle.mq_core.specs.Event.{Event}

@@ -1,3 +1,4 @@
+-- A source, as one value: jobs start here.
 use Rattle.std.specs.Prelude.{List, [], false, map, true, ◌==◌}
 use Rattle.mq_core.specs.Behaviour.{Behaviour}
 use Rattle.mq_core.specs.Emitting.{passed_from}

@@ -1,3 +1,4 @@
+-- A split, as one value: its routes, and which output each job leaves by.
 use Rattle.std.specs.List.{list_all}
 use Rattle.std.specs.Prelude.{Bool, List, [], count_by, false, length, map, nat_le, nat_lt, suc, ℕ, ◌%◌, ◌&&◌, ◌+◌, ◌^◌, ◌∷◌}
 use Rattle.mq_core.specs.Behaviour.{Behaviour}

@@ -1,3 +1,4 @@
+-- A tandem, as one value: stages in series with finite buffers between them.
 use Rattle.std.specs.List.{flat_map, list_all}
 use Rattle.std.specs.Prelude.{Bool, List, [], false, length, map, true, ℕ, ◌&&◌, ◌∷◌}
 use Rattle.mq_core.specs.Behaviour.{Behaviour}

@@ -2,7 +2,7 @@ use Rattle.std.proofs.Common.{◌≤◌, ◌++◌, ◌∷◌, [], ap, ◌∙◌,
 use Rattle.std.specs.Prelude.{IsTrue}
 use Rattle.mq_base.proofs.Lists.{map-all}
 use Rattle.mq_core.specs.Handling.{demand_of_job}
-use Rattle.mq_core.specs.Sound.{is_sound_demand}
+use Rattle.mq_core.specs.Ranges.{is_sound_demand}
 use Rattle.mq_engine.proofs.Lists.{map-more}
 use Rattle.mq_engine.proofs.StageFacts.{All-place}
 use Rattle.mq_engine.proofs.series.columns_of.Goals as goal

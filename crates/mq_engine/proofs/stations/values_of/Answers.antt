@@ -1,5 +1,5 @@
 use Rattle.std.proofs.Common.{arith, ap, ◌∙◌, ◌++◌, ◌∷◌, []}
-use Rattle.mq_core.specs.Standard.{route_value}
+use Rattle.mq_core.specs.Kinds.Split.{route_value}
 use Rattle.mq_engine.proofs.Lists.{map-more}
 use Rattle.mq_engine.proofs.stations.values_of.Goals as goal
 

@@ -1,6 +1,6 @@
 use Rattle.std.proofs.Common.{◌≡◌, ◌≤◌, length, map, take}
 use Rattle.std.specs.Vec.{vec_len, vec_capacity}
-use Rattle.mq_core.specs.Standard.{route_value}
+use Rattle.mq_core.specs.Kinds.Split.{route_value}
 use Rattle.mq_engine.proofs.stations.values_of.Given as goal
 
 abbrev pub invariant-loop-at : goal.invariant-loop-at
