@@ -20,9 +20,6 @@ use mq_model::print_model;
 use rand_pcg::Lcg64Xsh32;
 use std::alloc::Global;
 
-#[cfg(test)]
-mod tests;
-
 /// A model text and a trace text for it, as bytes.
 #[derive(Drop)]
 pub struct MadeInput {

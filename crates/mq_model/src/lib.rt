@@ -20,6 +20,3 @@ pub use fault::ModelFault;
 pub use laws::{examples_are_answered, first_bad_word, printed_models_are_read};
 pub use print::print_model;
 pub use read::read_model;
-
-#[cfg(test)]
-mod tests;
