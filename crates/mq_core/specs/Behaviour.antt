@@ -9,7 +9,8 @@ use Rattle.mq_core.specs.declared.model.Rows.{Rows}
 
 -- one value a kind: each word that goes by kind is one of its fields
 pub record Behaviour : Type 1 where
-  -- jobs start here: rows name the node, and it reads nothing
+  -- What the event list, its tallies and the model's limits read.
+  -- jobs start here: rows name the node
   pub starts : Bool
   -- what a node keeps at the start
   pub opening : Local
@@ -21,9 +22,9 @@ pub record Behaviour : Type 1 where
   pub working : Local → ℕ
   -- jobs stay in it: else each goes on when it comes
   pub holds : Bool
-  -- its servers, by which its utilisation is reckoned
+  -- how many servers it has, by which its utilisation is reckoned
   pub servers : ℕ
-  -- its outputs
+  -- how many outputs it has
   pub outputs : ℕ
   -- it may have this many ports
   pub ports : ℕ → Bool
@@ -31,14 +32,15 @@ pub record Behaviour : Type 1 where
   pub sound : ℕ → Bool
   -- the columns that it mentions, in order
   pub mentioned : List ℕ
-  -- the rows tell what a job asks for
-  pub asked : Rows → ℕ → Type 0
   -- how long a job stays that never waits
   pub bare : Rows → ℕ → ℕ
-  -- the service that a job asks for
-  pub service : Rows → ℕ → ℕ
   -- what an emission says of its visit
   pub fate : Emission → Fate
+  -- What its recurrence says, which the event list doesn't read: laws tie the two.
+  -- the rows tell what a job asks for
+  pub asked : Rows → ℕ → Type 0
+  -- the service that a job asks for
+  pub service : Rows → ℕ → ℕ
   -- the fates of jobs that come at these times
   pub fates : Rows → List ℕ → List ℕ → List Fate
   -- the outputs by which they leave

@@ -1,4 +1,4 @@
--- The ranges of numbers, demands and lists in a model.
+-- The ranges of numbers and demands in a model, and the column that a demand mentions.
 use Rattle.std.specs.Prelude.{Bool, List, [], nat_le, nat_lt, true, ℕ, ◌&&◌, ◌^◌, ◌∷◌}
 use Rattle.mq_core.specs.declared.model.Demand.{Demand}
 use Rattle.mq_core.specs.declared.model.Demand.TheVariants.{Column, Fixed}

@@ -55,7 +55,7 @@ columns_of_route (Modulo outputs column) = column ∷ []
 columns_of_route (Turn outputs) = []
 columns_of_route (Cut column thresholds) = column ∷ []
 
--- Outputs. The output by which each job leaves, the first at this position.
+-- the output by which each job leaves, the first at this position.
 abbrev pub routes_from : Rows → Route → ℕ → List ℕ → List ℕ
 routes_from rows route position [] = []
 routes_from rows route position (job ∷ jobs) = output_by rows route job position ∷ routes_from rows route (suc position) jobs
