@@ -41,7 +41,7 @@ fn extend_each(lists: &mut [List<u64>], more: &[List<u64>]) -> Result<(), OutOfM
 {
     for (k, items) in more.iter().enumerate() {
         let list = &mut lists[k];
-        list.extend(items.as_slice())?;
+        list.extend_from_slice(items.as_slice())?;
     }
     Ok(())
 }
@@ -84,8 +84,8 @@ pub fn join_rows(
                 if rows.source.len() > (MOST_ROWS - before) as usize {
                     return Err(TraceFault::TooManyRows);
                 }
-                source.extend(rows.source.as_slice())?;
-                time.extend(rows.time.as_slice())?;
+                source.extend_from_slice(rows.source.as_slice())?;
+                time.extend_from_slice(rows.time.as_slice())?;
                 extend_each(demands.as_mut_slice(), rows.demands.as_slice())?;
             }
         }

@@ -46,7 +46,7 @@ loop-piece-preserved c =
     let gains = rw (c.as_mut_slice.ensures.value, c.as_slice-in-Ok-3.ensures) at c.in_ok-extend_each-in-Ok.ensures in
     let len : c.loop-piece.demands.len ≡ length c.extend_each.new.lists = omega (arith, c.extend_each.auto.lists, ap length c.as_mut_slice.ensures.value, c.as_mut_slice.ensures.len) in
     record {
-      rows = rw (c.in_ok-extend-in-Ok.ensures.ok, c.as_slice-in-Ok.ensures, c.in_ok-extend-in-Ok-2.ensures.ok, c.as_slice-in-Ok-2.ensures, written_back _ _ _ len)
+      rows = rw (c.in_ok-extend_from_slice-in-Ok.ensures.ok, c.as_slice-in-Ok.ensures, c.in_ok-extend_from_slice-in-Ok-2.ensures.ok, c.as_slice-in-Ok-2.ensures, written_back _ _ _ len)
           (piece_joined c.args.net.now (fields_of c.args.header.now.names) texts at _ _ _ _ c.in-Ok.rows c.requires.first (omega (arith, size, c.requires.len, c.loop-piece-test.true)) c.loop-piece.invariant.rows reads.0 reads.1
           (λ many. absurd (omega (arith, many, c.if-len-before.false, c.len.ensures, c.len-before.ensures))) gains);
     }
