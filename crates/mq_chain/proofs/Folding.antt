@@ -7,7 +7,7 @@ use Rattle.mq_maxplus.specs.Maxplus.{mp_max, affine_act, affine_then}
 use Rattle.mq_maxplus.proofs.Laws.{acts}
 use Rattle.mq_scan.specs.Folds.{fold_to}
 use Rattle.mq_scan.proofs.Spans.{block-carry}
-use Rattle.mq_chain.specs.Words.{IsFold}
+use Rattle.mq_chain.specs.Stored.{IsFold}
 use Rattle.mq_chain.specs.Cut.{block_summary, AreOfCut, IsCarryAfter}
 
 module _ (part : ℕ → Affine) (places block : ℕ) where

@@ -11,15 +11,16 @@ use mathlib.Core.Logic.{dite}
 use mathlib.Core.Option.{none, some}
 use lib.ListN.{get_elem?}
 use Rattle.atomic_table.specs.Table.{State, Me, keeps, step, Allows, Splits, Joins, Final, Seen, opening}
-use Rattle.atomic_table.proofs.Lists.{set_else}
+use Rattle.atomic_table.proofs.Lists.{set_again, set_else}
 use Rattle.mq_claims.specs.Counts.{late, once_below, IsAllBelow}
 use Rattle.mq_claims.specs.Drawing.{IsDrawn}
-use Rattle.mq_claims.proofs.Drawings.{drawn-le, drawn-fresh, drawn-more, drawn-same, drawn-split, drawn-join, drawn-whole, two-le-weigh}
+use Rattle.mq_claims.proofs.Drawings.{drawn-le, drawn-fresh, drawn-once, drawn-more, drawn-same, drawn-split, drawn-join, drawn-whole, two-le-weigh}
 use Rattle.mq_chain.specs.declared.hand.Hand.{Hand}
 use Rattle.mq_chain.specs.declared.hand.Deal.{Deal}
-use Rattle.mq_chain.specs.Words.{sum_word, best_word, carry_word, block_of, Follows, Stands, IsFold, IsNext, IsClosed, mp_of_word}
-use Rattle.mq_chain.specs.Posting.{IsPut}
-use Rattle.mq_chain.specs.Rule.{Kept, Draws, Stores, Sees}
+use Rattle.mq_chain.specs.Words.{sum_word, best_word, carry_word, block_of, mp_of_word}
+use Rattle.mq_chain.specs.Stored.{IsFold, IsNext, IsClosed}
+use Rattle.mq_chain.specs.Posting.{IsPut, Follows, Stands}
+use Rattle.mq_chain.specs.Rule.{Kept, Draws, Stores, Sees, SeesOnce}
 use Rattle.mq_chain.specs.Views.{hand, right_of, draws_of}
 use Rattle.mq_chain.specs.Machine as m
 use Rattle.mq_chain.specs.Machine.{IsCarry, MayPut, Runs}
@@ -51,7 +52,7 @@ module _ (deal : Deal) where
           small = small;
           long = length-set s.words 0 ((n + 1) % 2 ^ 64) ∙ long;
           drawn = subst (λ (z : ℕ). Drawn z (set s.views id w)) (sym word) (drawn-more right_of draws_of deal.blocks deal.seats n s.views id me.0 w k.drawn at right early refl refl);
-          run = subst (λ (z : ℕ). Runs deal.blocks deal.seats (set s.words 0 z) (set s.views id w)) (sym next) (m.draws s.words s.views id me.0 k.run at early);
+          run = subst (λ (z : ℕ). Runs deal.blocks deal.seats (set s.words 0 z) (set s.views id w)) (sym next) (m.draws s.words s.views id me.0 k.run (at, right) early);
           posted = posted-view deal.blocks s.words (set s.words 0 ((n + 1) % 2 ^ 64)) s.views id me.0 w (λ a le. get_or-set_other s.words 0 a ((n + 1) % 2 ^ 64) 0 (λ e. absurd (omega arith))) k.posted at refl
               (λ b c. Contains-append_left me.0.draws (n ∷ []) b c) (λ a x c. inl c);
         },
@@ -66,6 +67,8 @@ module _ (deal : Deal) where
       let w : Hand = hand me.0.right me.0.draws (me.0.puts ++ (a, x) ∷ []) me.0.looks in
       let long = k.long in
       let first : get_or (set s.words a x) 0 0 ≡ get_or s.words 0 0 = get_or-set_other s.words a 0 x 0 (λ e. absurd (omega arith)) in
+      let right : 1 ≤ me.0.right
+      = dite (ℕ_discrete me.0.right 0) (λ z. let gone = subst (λ (xs : List ℕ). Contains xs (block_of a)) (k.drawn.idle id me.0 at z) mine in let l = gone.1 in absurd (omega arith)) (λ ne. omega arith) in
       let zero_there = unput deal.blocks deal.seats (get_or s.words 0 0) s.words s.views id me.0 a k.drawn k.posted at le mine fresh in (
         w,
         keeps,
@@ -74,7 +77,7 @@ module _ (deal : Deal) where
           small = k.small;
           long = length-set s.words a x ∙ long;
           drawn = subst (λ (z : ℕ). Drawn z (set s.views id w)) (sym first) (drawn-same right_of draws_of deal.blocks deal.seats (get_or s.words 0 0) s.views id me.0 w k.drawn at refl refl);
-          run = m.puts s.words s.views id me.0 a x k.run at mine zero_there some_x (may s k at);
+          run = m.puts s.words s.views id me.0 a x k.run (at, right) mine (omega arith) zero_there some_x (may s k at);
           posted = posted-store deal.blocks s.words s.views id me.0 w a x k.posted at zero_there le (omega arith) some_x most mine refl refl refl (now s k at);
         },
         refl,
@@ -84,8 +87,10 @@ module _ (deal : Deal) where
   found-le s k a le = dite (ℕ_discrete (get_or s.words a 0) 0) (λ e. omega arith)
       (λ ne. let by = k.posted.known a le ne in (k.posted.own by.0 by.1 by.2 a (get_or s.words a 0) by.3).3)
 
-  pub loads : (slots id : ℕ) (me : M) (a : ℕ) → 1 ≤ a → Allows (Kept deal) slots id me a (λ n. n) (Sees (step slots a 0 0 none) me)
-  loads slots id me a le s k homes at fits =
+  pub loads : (slots id : ℕ) (me : M) (b : ℕ) → 1 ≤ me.0.right → b < deal.blocks → Allows (Kept deal) slots id me (carry_word b) (λ n. n) (Sees (step slots (carry_word b) 0 0 none) me)
+  loads slots id me b right inside s k homes at fits =
+      let a : ℕ = carry_word b in
+      let le : 1 ≤ a = omega arith in
       let n : ℕ = get_or s.words a 0 in
       let w : Hand = hand me.0.right me.0.draws me.0.puts (me.0.looks ++ (a, n) ∷ []) in (
         w,
@@ -95,7 +100,7 @@ module _ (deal : Deal) where
           small = k.small;
           long = k.long;
           drawn = drawn-same right_of draws_of deal.blocks deal.seats (get_or s.words 0 0) s.views id me.0 w k.drawn at refl refl;
-          run = m.sees s.words s.views id me.0 a k.run at;
+          run = m.sees s.words s.views id me.0 b k.run (at, right) inside;
           posted = posted-view deal.blocks s.words s.words s.views id me.0 w (λ _ _. refl) k.posted at refl (λ b c. c)
               (λ c x in'. ⊎_elim (λ old. inl old) (λ new. let is = only (a, n) (c, x) new in inr (subst (λ (z : ℕ). 1 ≤ z) (ap (λ (z : ℕ × ℕ). z.0) is) le, ap (λ (z : ℕ). get_or s.words z 0) (sym (ap (λ (z : ℕ × ℕ). z.0) is)) ∙ ap (λ (z : ℕ × ℕ). z.1) is))
               (Contains-append_cases me.0.looks ((a, n) ∷ []) (c, x) in'));
@@ -112,6 +117,16 @@ module _ (deal : Deal) where
       only d e (zero, lt, is) = is
       only d e (suc j, lt, is) = absurd (omega arith)
 
+  -- a look at the first word
+  pub looks-once : (slots id : ℕ) (me : M) → Allows (Kept deal) slots id me 0 (λ n. n) (SeesOnce (step slots 0 0 0 none) me)
+  looks-once slots id me s k homes at fits = (
+    me.0,
+    keeps,
+    tt,
+    subst (λ (z : List ℕ × List Hand). Kept deal record { words = z.0; homes = s.homes; views = z.1 }) (λ i. (sym (set-get_or s.words 0 0) i, sym (set_again s.views id me.0 at) i)) k,
+    (refl, drawn-once right_of draws_of deal.blocks deal.seats (get_or s.words 0 0) s.views id me.0 k.drawn at),
+  )
+
   pub splits : (id share : ℕ) (v : Hand) → 1 ≤ share → share < v.right → late deal.blocks v.draws ≡ 0 → Splits (Kept deal) id v (hand (v.right - share) v.draws v.puts v.looks) (hand share [] [] [])
   splits id share v some_share less early s k at =
       let l : Hand = hand (v.right - share) v.draws v.puts v.looks in record {
@@ -122,14 +137,14 @@ module _ (deal : Deal) where
         posted = posted-snoc deal.blocks s.words (set s.views id l) (hand share [] [] []) (posted-view deal.blocks s.words s.words s.views id v l (λ _ _. refl) k.posted at refl (λ b c. c) (λ a x c. inl c)) refl refl;
       }
 
-  pub joins : (id other : ℕ) (v w : Hand) → Joins (Kept deal) id v other w (hand (v.right + w.right) (v.draws ++ w.draws) (v.puts ++ w.puts) (v.looks ++ w.looks)) (hand 0 [] [] [])
-  joins id other v w s k at apart to =
+  pub joins : (id other : ℕ) (v w : Hand) → 1 ≤ v.right → 1 ≤ w.right → Joins (Kept deal) id v other w (hand (v.right + w.right) (v.draws ++ w.draws) (v.puts ++ w.puts) (v.looks ++ w.looks)) (hand 0 [] [] [])
+  joins id other v w right right' s k at apart to =
       let both : Hand = hand (v.right + w.right) (v.draws ++ w.draws) (v.puts ++ w.puts) (v.looks ++ w.looks) in
       let there = sym (set_else s.views id other both apart) ∙ to in record {
         small = k.small;
         long = k.long;
         drawn = drawn-join right_of draws_of deal.blocks deal.seats (get_or s.words 0 0) s.views id other v w both (hand 0 [] [] []) k.drawn at apart there refl refl refl refl;
-        run = m.joins s.words s.views id other v w k.run at apart there;
+        run = m.joins s.words s.views id other v w k.run (at, right) apart (there, right');
         posted = posted-join deal.blocks s.words s.views id other v w both (hand 0 [] [] []) k.posted at apart there refl refl refl refl refl;
       }
 

@@ -10,8 +10,8 @@ use Rattle.mq_claims.specs.Drawing.{IsDrawn}
 use Rattle.mq_claims.proofs.Weighs.{times-here}
 use Rattle.mq_claims.proofs.Drawings.{each-set, each-snoc, drawn-alone}
 use Rattle.mq_chain.specs.declared.hand.Hand.{Hand}
-use Rattle.mq_chain.specs.Words.{sum_word, best_word, carry_word, block_of, Follows, Stands}
-use Rattle.mq_chain.specs.Posting.{IsPut, IsPosted}
+use Rattle.mq_chain.specs.Words.{sum_word, best_word, carry_word, block_of}
+use Rattle.mq_chain.specs.Posting.{IsPut, IsPosted, Follows, Stands}
 use Rattle.mq_chain.specs.Views.{right_of, draws_of}
 
 -- the words behind the first are the same

@@ -4,7 +4,8 @@ use native.Mathlib.Decide.{ℕ_discrete}
 use mathlib.Core.Logic.{dite}
 use Rattle.mq_chain.specs.declared.hand.Hand.{Hand}
 use Rattle.mq_chain.specs.Machine.{Leads, starts, draws, puts, sees, splits, joins, Runs, MayPut, IsCarry, IsFolded}
-use Rattle.mq_chain.specs.Words.{sum_word, best_word, carry_word, Follows, Stands}
+use Rattle.mq_chain.specs.Words.{sum_word, best_word, carry_word}
+use Rattle.mq_chain.specs.Posting.{Follows, Stands}
 use Rattle.mq_chain.proofs.Postings.{stands-same, kept-word, stands-else}
 
 module _ (blocks : ℕ) (words : List ℕ) (views : List Hand) where
@@ -12,8 +13,8 @@ module _ (blocks : ℕ) (words : List ℕ) (views : List Hand) where
   pub stays : (ws : List ℕ) (vs : List Hand) → Leads blocks words views ws vs → (w : ℕ) → 1 ≤ w → get_or words w 0 ≢ 0 → get_or ws w 0 ≡ get_or words w 0
   stays _ _ starts w some there = refl
   stays _ _ (draws ws vs i v before at early) w some there = get_or-set_other ws 0 w (get_or ws 0 0 + 1) 0 (λ e. absurd (omega arith)) ∙ stays ws vs before w some there
-  stays _ _ (puts ws vs i v a x before at mine none some_x may) w some there = kept-word ws a x w (get_or words w 0) none there (stays ws vs before w some there)
-  stays _ _ (sees ws vs i v a before at) w some there = stays ws vs before w some there
+  stays _ _ (puts ws vs i v a x before at mine inside none some_x may) w some there = kept-word ws a x w (get_or words w 0) none there (stays ws vs before w some there)
+  stays _ _ (sees ws vs i v a before at inside) w some there = stays ws vs before w some there
   stays _ _ (splits ws vs i share v before at some_share less) w some there = stays ws vs before w some there
   stays _ _ (joins ws vs i other v u before at apart to) w some there = stays ws vs before w some there
 
@@ -64,8 +65,8 @@ module _ (blocks seats : ℕ) where
   pub stands : (ws : List ℕ) (vs : List Hand) → Runs blocks seats ws vs → (b : ℕ) → Stands ws b
   stands _ _ starts b = λ there. absurd (there (zeros (3 * blocks + 1) (carry_word b)))
   stands _ _ (draws ws vs i v before at early) b = stands-same ws (set ws 0 (get_or ws 0 0 + 1)) b (λ w some. get_or-set_other ws 0 w (get_or ws 0 0 + 1) 0 (λ e. absurd (omega arith))) (stands ws vs before b)
-  stands _ _ (puts ws vs i v a x before at mine none some_x may) b = put-stands ws v.looks a x b none may (stands ws vs before b)
-  stands _ _ (sees ws vs i v a before at) b = stands ws vs before b
+  stands _ _ (puts ws vs i v a x before at mine inside none some_x may) b = put-stands ws v.looks a x b none may (stands ws vs before b)
+  stands _ _ (sees ws vs i v a before at inside) b = stands ws vs before b
   stands _ _ (splits ws vs i share v before at some_share less) b = stands ws vs before b
   stands _ _ (joins ws vs i other v u before at apart to) b = stands ws vs before b
 

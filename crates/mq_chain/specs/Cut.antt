@@ -1,5 +1,6 @@
--- The summaries that were stored are those of a cut.
-use Rattle.std.specs.Prelude.{◌≡◌, ℕ, ◌+◌, ◌-◌, ◌*◌, ◌≤◌, List, Contains, min}
+-- Summaries of a cut of jobs, and the carries of the fold of these jobs.
+use Rattle.std.specs.Prelude.{◌≡◌, ℕ, ◌+◌, ◌-◌, ◌*◌, ◌≤◌, ◌<◌, List, Contains, min, slice_index_or}
+use Rattle.mq_maxplus.specs.declared.mp.Mp.{Mp}
 use Rattle.mq_maxplus.specs.declared.mp.Mp.TheVariants.{Void, At}
 use Rattle.mq_maxplus.specs.declared.affine.Affine.{Affine}
 use Rattle.mq_maxplus.specs.Maxplus.{affine_act, affine_then}
@@ -19,3 +20,8 @@ pub record AreOfCut (part : ℕ → Affine) (places block : ℕ) (puts : List (�
 -- the carry after block b is the one of the fold
 abbrev pub IsCarryAfter : (ℕ → Affine) → ℕ → ℕ → ℕ → ℕ → Type 0
 IsCarryAfter part places block b c = At c ≡ fold_to affine_act Void part (min ((b + 1) * block) places)
+
+-- where the summaries that were stored are those of a cut of some jobs, each carry that stands is the one of their fold
+abbrev pub AreFolded : List (ℕ × ℕ) → ℕ → List Mp → Type 0
+AreFolded puts blocks carries =
+    (part : ℕ → Affine) (places block b c : ℕ) → AreOfCut part places block puts → b < blocks → b * block < places → slice_index_or carries b Void ≡ At c → IsCarryAfter part places block b c

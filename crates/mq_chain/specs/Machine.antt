@@ -1,4 +1,4 @@
--- The carry machine. Each step is one step of a seat.
+-- The carry machine: the states that a schedule reaches, each step of which is one step of a seat.
 use Rattle.std.specs.Prelude.{◌≡◌, ◌≢◌, ℕ, zero, suc, ◌+◌, ◌-◌, ◌*◌, ◌<◌, ◌≤◌, ◌⊎◌, List, [], ◌∷◌, ◌++◌, slice_index, slice_set, Contains, max, replicate}
 use mathlib.Core.Option.{some}
 use lib.ListN.{get_elem?}
@@ -21,18 +21,22 @@ MayPut words looks w x =
     ⊎ (((b : ℕ) × (w ≡ best_word b) × (slice_index words (sum_word b) ≢ 0))
     ⊎ ((b : ℕ) × (w ≡ carry_word b) × (slice_index words (sum_word b) ≢ 0) × (slice_index words (best_word b) ≢ 0) × IsCarry words looks b x))
 
--- the states that a schedule reaches from these words and views
+-- a seat at its place that isn't spent
+abbrev pub IsSeat : List Hand → ℕ → Hand → Type 0
+IsSeat views i v = (get_elem? views i ≡ some v) × (1 ≤ v.right)
+
+-- The states that a schedule reaches from these words and views. A seat draws the next block, stores a word of a block that it drew, or looks at the carry of a block. One makes a seat with a share of its right, or takes in another, which is then spent
 pub data Leads (blocks : ℕ) (words : List ℕ) (views : List Hand) : List ℕ → List Hand → Type 0 where
   starts : Leads blocks words views words views
-  draws : (ws : List ℕ) (vs : List Hand) (i : ℕ) (v : Hand) → Leads blocks words views ws vs → get_elem? vs i ≡ some v → late blocks v.draws ≡ 0
+  draws : (ws : List ℕ) (vs : List Hand) (i : ℕ) (v : Hand) → Leads blocks words views ws vs → IsSeat vs i v → late blocks v.draws ≡ 0
       → Leads blocks words views (slice_set ws 0 (slice_index ws 0 + 1)) (slice_set vs i (hand v.right (v.draws ++ slice_index ws 0 ∷ []) v.puts v.looks))
-  puts : (ws : List ℕ) (vs : List Hand) (i : ℕ) (v : Hand) (w x : ℕ) → Leads blocks words views ws vs → get_elem? vs i ≡ some v → Contains v.draws (block_of w) → slice_index ws w ≡ 0 → 1 ≤ x → MayPut ws v.looks w x
+  puts : (ws : List ℕ) (vs : List Hand) (i : ℕ) (v : Hand) (w x : ℕ) → Leads blocks words views ws vs → IsSeat vs i v → Contains v.draws (block_of w) → block_of w < blocks → slice_index ws w ≡ 0 → 1 ≤ x → MayPut ws v.looks w x
       → Leads blocks words views (slice_set ws w x) (slice_set vs i (hand v.right v.draws (v.puts ++ (w, x) ∷ []) v.looks))
-  sees : (ws : List ℕ) (vs : List Hand) (i : ℕ) (v : Hand) (w : ℕ) → Leads blocks words views ws vs → get_elem? vs i ≡ some v
-      → Leads blocks words views ws (slice_set vs i (hand v.right v.draws v.puts (v.looks ++ (w, slice_index ws w) ∷ [])))
+  sees : (ws : List ℕ) (vs : List Hand) (i : ℕ) (v : Hand) (b : ℕ) → Leads blocks words views ws vs → IsSeat vs i v → b < blocks
+      → Leads blocks words views ws (slice_set vs i (hand v.right v.draws v.puts (v.looks ++ (carry_word b, slice_index ws (carry_word b)) ∷ [])))
   splits : (ws : List ℕ) (vs : List Hand) (i share : ℕ) (v : Hand) → Leads blocks words views ws vs → get_elem? vs i ≡ some v → 1 ≤ share → share < v.right
       → Leads blocks words views ws (slice_set vs i (hand (v.right - share) v.draws v.puts v.looks) ++ hand share [] [] [] ∷ [])
-  joins : (ws : List ℕ) (vs : List Hand) (i other : ℕ) (v w : Hand) → Leads blocks words views ws vs → get_elem? vs i ≡ some v → other ≢ i → get_elem? vs other ≡ some w
+  joins : (ws : List ℕ) (vs : List Hand) (i other : ℕ) (v w : Hand) → Leads blocks words views ws vs → IsSeat vs i v → other ≢ i → IsSeat vs other w
       → Leads blocks words views ws (slice_set (slice_set vs i (hand (v.right + w.right) (v.draws ++ w.draws) (v.puts ++ w.puts) (v.looks ++ w.looks))) other (hand 0 [] [] []))
 
 -- those of a table that begins with nothing drawn, and with one seat, which has the whole right

@@ -1,6 +1,7 @@
 -- The rule of the table of carries.
 use Rattle.std.specs.Prelude.{◌≡◌, ◌≢◌, ℕ, ◌+◌, ◌*◌, ◌^◌, ◌<◌, ◌≤◌, [], ◌∷◌, ◌++◌, length, slice_index, All, Contains}
 use Rattle.atomic_table.specs.Table.{State, Me, Step}
+use Rattle.mq_claims.specs.Counts.{times}
 use Rattle.mq_claims.specs.Drawing.{IsDrawn}
 use Rattle.mq_chain.specs.declared.hand.Hand.{Hand}
 use Rattle.mq_chain.specs.declared.hand.Deal.{Deal}
@@ -16,6 +17,7 @@ pub record Kept (deal : Deal) (s : State (Unit {0}) Hand) : Type 0 where
   pub run : Runs deal.blocks deal.seats s.words s.views
   pub posted : IsPosted deal.blocks s.words s.views
 
+-- what a seat knows, and the slots that it holds: none
 abbrev Sat : Type 0
 Sat = Me (Unit {0}) Hand
 
@@ -34,3 +36,7 @@ Sees step v found w =
     × ((x : ℕ) → Contains v.0.puts (step.word, x) → found ≡ x)
     × ((x : ℕ) → x ≢ 0 → Contains v.0.looks (step.word, x) → found ≡ x)
     × (found ≤ 2 ^ 63)
+
+-- a look at the first word, which tells that no number stands twice in the seat; it is none of the looks for carries
+abbrev pub SeesOnce : Step (Unit {0}) → Sat → ℕ → Sat → Type 0
+SeesOnce step v found w = (w ≡ v) × ((x : ℕ) → times x v.0.draws ≤ 1)

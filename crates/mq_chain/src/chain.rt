@@ -1,17 +1,15 @@
 // The table of carries and its seats.
-ghost use Rattle.std.specs.Prelude.{◌≡◌, ◌≢◌, ℕ, ◌+◌, ◌-◌, ◌*◌, ◌/◌, ◌<◌, ◌≤◌, ◌^◌, [], ◌∷◌, ◌++◌, All, IfOk, IfSome, IfNone, Contains, length, slice_index, slice_index_or, List};
+ghost use Rattle.std.specs.Prelude.{◌≡◌, ℕ, ◌+◌, ◌-◌, ◌*◌, ◌<◌, ◌≤◌, ◌^◌, [], ◌∷◌, ◌++◌, All, IfOk, IfSome, IfNone, Contains, length, slice_index_or};
 ghost use Rattle.mq_maxplus.specs.declared.mp.Mp.TheVariants.{Void};
-ghost use Rattle.mq_maxplus.specs.declared.affine.Affine.{Affine};
-ghost use Rattle.mq_claims.specs.Counts.{IsAllBelow};
-ghost use Rattle.mq_chain.specs.Cut.{AreOfCut, IsCarryAfter};
-ghost use Rattle.mq_chain.specs.Words.{sum_word, best_word, carry_word, HasNoSummary, IsShort, with_summary, IsNext, IsFold, word_of, mp_of_word, IsClosed};
-ghost use Rattle.mq_chain.specs.Rule.{Kept, Draws, Stores, Sees};
-ghost use Rattle.mq_chain.specs.Machine.{Leads, Runs, IsFolded};
-ghost use Rattle.mq_chain.specs.declared.hand.Hand.{Hand as Held};
+ghost use Rattle.mq_claims.specs.Counts.{IsAllBelow, IsApart};
+ghost use Rattle.mq_chain.specs.Cut.{AreFolded};
+ghost use Rattle.mq_chain.specs.Words.{carry_word, word_of, mp_of_word};
+ghost use Rattle.mq_chain.specs.Stored.{HasNoSummary, IsShort, with_summary, IsNext, IsClosed};
+ghost use Rattle.mq_chain.specs.Rule.{Kept, Draws, Stores, Sees, SeesOnce};
 ghost use Rattle.mq_chain.specs.Views.{hand};
 ghost use Rattle.mq_chain.specs.Seats.{IsSeatOf, seated};
 
-use crate::{Deal, Hand};
+use crate::hand::{Deal, Hand};
 use atomic_table::{Join, Play, Seat, Split, Table, TableRule};
 use mq_base::{List, OutOfMemory};
 use mq_maxplus::{Affine, Mp};
@@ -44,7 +42,14 @@ impl Play<(), Hand> for Look {
     ghost then = { Sees };
 }
 
-/// How much right is given away.
+// A look by which a seat learns that no number stands in it twice.
+struct LookOnce;
+
+impl Play<(), Hand> for LookOnce {
+    ghost then = { SeesOnce };
+}
+
+// How much right a split gives away. A split is named by a type, so a type has to say it.
 trait Share {
     ghost share: { ℕ };
 }
@@ -53,11 +58,11 @@ impl Share for Brand {
     ghost share = { 0 };
 }
 
-struct Cut<N: Share> {
-    of: PhantomData<N>,
+struct GiveAway<N: Share> {
+    share: PhantomData<N>,
 }
 
-impl<N: Share> Split<Hand> for Cut<N> {
+impl<N: Share> Split<Hand> for GiveAway<N> {
     ghost left = { λ v. hand (v.right - N.share) v.draws v.puts v.looks };
 
     ghost right = { λ v. hand N.share [] [] [] };
@@ -71,7 +76,10 @@ impl Join<Hand> for Both {
     ghost spent = { hand 0 [] [] [] };
 }
 
-/// Carries by block, which are filled in once each.
+/// The carries of blocks of jobs, each the last departure after its block, in a table that its seats
+/// fill in. The first word gives out the blocks; each block has a word for its sum, its best and its
+/// carry, which hold 0 or a value plus 1, and are stored once, by the seat that drew the block. Each
+/// call but `new` and `close` is one or two atomic steps, none of which is tried again.
 #[derive(Drop)]
 pub struct Chain {
     table: Table<(), Hand, Deal, Rule, Global>,
@@ -90,7 +98,9 @@ impl Model for Chain {
     ghost invariant = { λ c. (c.table.shared.table_id.words ≡ 3 * c.table.shared.key.blocks + 1) × (c.table.shared.table_id.slots ≡ 0) × (c.table.shared.key.blocks < 2 ^ 32) };
 }
 
-/// The right to draw blocks, and what was done with them. It takes no memory, and no running code reads what it holds.
+/// The right to draw blocks, and what was done with them: a token of one thread. What it holds, its
+/// right (at least 1), the blocks that it drew, what it stored and what its looks found, is seen by
+/// contracts alone and takes no memory.
 #[derive(Drop)]
 pub struct ChainSeat {
     seat: Seat<(), Hand>,
@@ -109,6 +119,7 @@ impl Model for ChainSeat {
     ghost invariant = { λ s. (1 ≤ s.seat.me.0.right) × (s.seat.me.1 ≡ []) };
 }
 
+// The carry that a word holds.
 fn mp_of(word: u64) -> Mp
     ensures { result ≡ mp_of_word word }
 {
@@ -120,7 +131,9 @@ fn mp_of(word: u64) -> Mp
 }
 
 impl Chain {
-    /// The first seat has the right to make `seats` seats in all.
+    /// A table of 1 to 16,384 blocks with nothing stored, and its first seat, which has the right to
+    /// make `seats` seats in all, at least 1. It refuses for want of memory alone, as `close` does; no
+    /// other call takes any.
     pub fn new(alloc: Global, blocks: u32, seats: u32) -> Result<(Chain, ChainSeat), OutOfMemory>
         requires some_blocks { 1 ≤ blocks }
         requires most { blocks ≤ 16384 }
@@ -136,7 +149,8 @@ impl Chain {
         Ok((Chain { table }, ChainSeat { seat }))
     }
 
-    /// Gives `share` of the seat's right to a new seat.
+    /// Gives `share` of the seat's right to a new seat, at least 1 and less than all of it. Each block
+    /// that the seat drew is one of the table's.
     pub fn split(&self, seat: &mut ChainSeat, share: u32) -> ChainSeat
         requires own { IsSeatOf self.now seat.old }
         requires early { All (λ d. d < self.now.blocks) seat.old.draws }
@@ -148,6 +162,7 @@ impl Chain {
         self.split_by::<Brand>(seat, share)
     }
 
+    // A split whose type says the share.
     fn split_by<N: Share>(&self, seat: &mut ChainSeat, share: u32) -> ChainSeat
         requires share { share ≡ N.share }
         requires own { IsSeatOf self.now seat.old }
@@ -157,28 +172,34 @@ impl Chain {
         ensures left { seat.new ≡ seated seat.old.table (seat.old.right - share) seat.old.draws seat.old.puts seat.old.looks }
         ensures given { result ≡ seated seat.old.table share [] [] [] }
     {
-        let seat = self.table.shared.split_seat::<Cut<N>>(&mut seat.seat);
+        let seat = self.table.shared.split_seat::<GiveAway<N>>(&mut seat.seat);
         ChainSeat { seat }
     }
 
-    /// Takes in the right of another seat, and all that it drew, stored and saw.
+    /// Takes in the right of another seat of this table, and all that it drew, stored and saw. No
+    /// block was drawn by both.
     pub fn join(&self, seat: &mut ChainSeat, other: ChainSeat)
         requires own { IsSeatOf self.now seat.old }
         requires its { IsSeatOf self.now other }
-        ensures { seat.new ≡ seated seat.old.table (seat.old.right + other.right) (seat.old.draws ++ other.draws) (seat.old.puts ++ other.puts) (seat.old.looks ++ other.looks) }
+        ensures apart { IsApart seat.old.draws other.draws }
+        ensures joined { seat.new ≡ seated seat.old.table (seat.old.right + other.right) (seat.old.draws ++ other.draws) (seat.old.puts ++ other.puts) (seat.old.looks ++ other.looks) }
     {
         self.table
             .shared
             .join_seat::<Both>(&mut seat.seat, other.seat);
+        self.table.shared.load::<LookOnce>(&mut seat.seat, 0);
     }
 
-    /// The carries by block, by the seat that has the whole right.
+    /// The carries by block, by the seat that has the whole right; `Void` where none was put. Where
+    /// the summaries that were put are those of a cut of some jobs, each is the carry of their fold.
+    /// Where memory is wanting, table and seat are dropped.
     pub fn close(self, alloc: Global, seat: ChainSeat) -> Result<List<Mp>, OutOfMemory>
         requires own { IsSeatOf self seat }
         requires whole { seat.right ≡ self.seats }
         ensures len { IfOk result (λ l. length l ≡ self.blocks) }
         ensures drawn { IfOk result (λ _. IsAllBelow seat.draws) }
         ensures each { IfOk result (λ l. (b : ℕ) → b < self.blocks → IsClosed seat.puts seat.looks b (slice_index_or l b Void)) }
+        ensures folded { IfOk result (λ l. AreFolded seat.puts self.blocks l) }
     {
         let blocks = (self.table.word_count() - 1) / 3;
         let mut carries = Vec::with_capacity(alloc, blocks)?;
@@ -192,7 +213,8 @@ impl Chain {
         Ok(List::from_vec(carries))
     }
 
-    /// Draws the next block.
+    /// Draws the next block, which no other seat draws. It is greater than all that the seat drew, and
+    /// is appended to them. Each of these is one of the table's; the new one may be past the last.
     pub fn draw(&self, seat: &mut ChainSeat) -> u64
         requires own { IsSeatOf self.now seat.old }
         requires early { All (λ d. d < self.now.blocks) seat.old.draws }
@@ -202,7 +224,9 @@ impl Chain {
         self.table.shared.fetch_add::<Draw>(&mut seat.seat, 0, 1)
     }
 
-    /// Looks once for the carry of a block.
+    /// Looks once for the carry of a block, in one load of its word, and notes what was found in the
+    /// seat. There is none exactly where the load found none, and never where the seat itself has put
+    /// or seen that carry. A carry is below 2^63.
     pub fn carry(&self, seat: &mut ChainSeat, b: u32) -> Option<u64>
         requires own { IsSeatOf self.now seat.old }
         requires inside { b < self.now.blocks }
@@ -216,7 +240,7 @@ impl Chain {
         if found == 0 { None } else { Some(found - 1) }
     }
 
-    /// Stores the sum and then the best of a block that the seat drew.
+    /// Stores the sum and then the best of a block that the seat drew, once. Both are below 2^63.
     pub fn put_summary(&self, seat: &mut ChainSeat, b: u32, summary: Affine)
         requires own { IsSeatOf self.now seat.old }
         requires inside { b < self.now.blocks }
@@ -234,7 +258,8 @@ impl Chain {
         shared.store::<Put>(&mut seat.seat, word + 2, best + 1);
     }
 
-    /// Stores the carry of a block, which is its summary acting on the carry before it.
+    /// Stores the carry of a block that the seat drew, once, and behind its summary: what the summary
+    /// makes of the carry before it, which the seat has seen. It is below 2^63.
     pub fn put_carry(&self, seat: &mut ChainSeat, b: u32, carry: u64)
         requires own { IsSeatOf self.now seat.old }
         requires inside { b < self.now.blocks }
@@ -250,18 +275,3 @@ impl Chain {
             .store::<Put>(&mut seat.seat, word, carry + 1);
     }
 }
-
-/// Where the summaries of a cut were stored, a carry that is their fold is the one of the fold of the jobs.
-pub fn closed_is_fold()
-    ensures { (part : ℕ → Affine) (places block : ℕ) (puts : List (ℕ × ℕ)) (b c : ℕ) → AreOfCut part places block puts → b * block < places → IsFold puts b c → IsCarryAfter part places block b c }
-{}
-
-/// Between any two steps of a schedule each carry that stands is the fold of the summaries of its block and those before.
-pub fn carries_are_folded()
-    ensures { (blocks seats : ℕ) (words : List ℕ) (views : List Held) → Runs blocks seats words views → (b : ℕ) → slice_index words (carry_word b) ≢ 0 → IsFolded words b }
-{}
-
-/// A sum, a best or a carry that stands is the same in each later state of a schedule.
-pub fn words_stay()
-    ensures { (blocks : ℕ) (words later : List ℕ) (views after : List Held) → Leads blocks words views later after → (w : ℕ) → 1 ≤ w → slice_index words w ≢ 0 → slice_index later w ≡ slice_index words w }
-{}

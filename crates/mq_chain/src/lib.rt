@@ -3,9 +3,10 @@
 
 mod chain;
 mod hand;
+mod laws;
 
-pub use chain::{Chain, ChainSeat, carries_are_folded, closed_is_fold, words_stay};
-pub use hand::{Deal, Hand};
+pub use chain::{Chain, ChainSeat};
+pub use laws::{carries_are_folded, words_stay};
 
 #[cfg(test)]
 mod tests;

@@ -87,7 +87,9 @@ fn crew<P: Pieces, G: Gate, R: Threads + Sync>(
     (mine, merged(a, b))
 }
 
-/// Makes all pieces, by workers that draw their numbers.
+/// All pieces, each at its place, made by 1 to 64 workers that draw the numbers of places. Each worker
+/// enters the gate with a number that it drew, and then makes that piece. It refuses for want of
+/// memory alone.
 pub fn run_pieces<P: Pieces, G: Gate, R: Threads + Sync>(
     rt: &R,
     alloc: Global,
@@ -105,4 +107,29 @@ pub fn run_pieces<P: Pieces, G: Gate, R: Threads + Sync>(
     let (seat, made) = crew(rt, alloc, &claims, seat, 0, workers, pieces, gate);
     claims.close(seat);
     placed(alloc, count, made?)
+}
+
+/// All pieces, as `run_pieces` gives them. Where there are fewer than two, they are made at once, with
+/// no worker and no gate.
+pub fn made<P: Pieces, G: Gate, R: Threads + Sync>(
+    rt: &R,
+    alloc: Global,
+    workers: u32,
+    pieces: &P,
+    gate: &G,
+) -> Result<List<P::Piece>, OutOfMemory>
+    requires fit { P.fit pieces.now }
+    requires some { 1 ≤ workers }
+    requires most { workers ≤ 64 }
+    ensures { IfOk result (λ made. AreAll (P.is_piece pieces.now) (P.places pieces.now) made) }
+{
+    let count = pieces.count();
+    if count > 1 {
+        return run_pieces(rt, alloc, workers, pieces, gate);
+    }
+    let mut made = List::new(alloc);
+    if count == 1 {
+        made.push(pieces.piece(alloc, 0)?)?;
+    }
+    Ok(made)
 }

@@ -7,9 +7,9 @@ mod parts;
 mod pieces;
 mod place;
 
-pub use crew::run_pieces;
+pub use crew::{made, run_pieces};
 pub use gate::{Gate, Open};
-pub use parts::{made, run_parts};
+pub use parts::run_parts;
 pub use pieces::Pieces;
 pub use place::{merged, placed};
 

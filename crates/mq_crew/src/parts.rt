@@ -4,7 +4,7 @@ ghost use Rattle.std.specs.List.{AllByRecursion};
 ghost use Rattle.std.specs.Vec.Iter.{into_iter_items, into_iter_len};
 ghost use Rattle.mq_crew.specs.Crew.{AreAll, AreGroups, IsPieceOf, all_places};
 
-use crate::{Gate, Pieces, run_pieces};
+use crate::{Gate, Pieces, made};
 use mq_base::{List, OutOfMemory};
 use std::alloc::Global;
 use std::thread::Threads;
@@ -46,8 +46,9 @@ impl<'a, P: Pieces> Pieces for Parts<'a, P> {
     }
 }
 
-/// Makes all pieces of each of these, by workers that draw their numbers from one list: the places
-/// of the first come first, and those of the others follow.
+/// All pieces of each of these parts, in a list of its own, made as one list: the places of the first
+/// part come first, and those of the others follow. There are 1 to 64 workers, and fewer than 2^32
+/// places. It refuses for want of memory alone.
 pub fn run_parts<P: Pieces, G: Gate, R: Threads + Sync>(
     rt: &R,
     alloc: Global,
@@ -63,27 +64,6 @@ pub fn run_parts<P: Pieces, G: Gate, R: Threads + Sync>(
 {
     let made = made(rt, alloc, workers, &Parts { parts }, gate)?;
     grouped(alloc, parts, made)
-}
-
-/// All pieces, by workers that draw their numbers; one alone is made at once, and enters no gate.
-pub fn made<P: Pieces, G: Gate, R: Threads + Sync>(
-    rt: &R,
-    alloc: Global,
-    workers: u32,
-    pieces: &P,
-    gate: &G,
-) -> Result<List<P::Piece>, OutOfMemory>
-    requires fit { P.fit pieces.now }
-    requires some { 1 ≤ workers }
-    requires most { workers ≤ 64 }
-    ensures { IfOk result (λ made. AreAll (P.is_piece pieces.now) (P.places pieces.now) made) }
-{
-    if pieces.count() != 1 {
-        return run_pieces(rt, alloc, workers, pieces, gate);
-    }
-    let mut made = List::new(alloc);
-    made.push(pieces.piece(alloc, 0)?)?;
-    Ok(made)
 }
 
 // The pieces of each of these, in its own list.

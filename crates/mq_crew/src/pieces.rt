@@ -5,7 +5,9 @@ use mq_base::OutOfMemory;
 use std::alloc::Global;
 use std::marker::{Send, Sync};
 
+/// A number of pieces that any thread may make, in any order. Their places count from 0.
 pub trait Pieces: Sync {
+    /// One piece, which a worker hands to the thread that started it.
     type Piece: Send + Drop;
 
     /// What has to hold so that the pieces can be made.
@@ -17,10 +19,12 @@ pub trait Pieces: Sync {
     /// What the piece at a place has to be.
     ghost is_piece: { Self → ℕ → Self.Piece → Type 0 };
 
+    /// How many pieces there are.
     fn count(&self) -> u32
         requires { fit self.now }
         ensures { result ≡ places self.now };
 
+    /// Makes the piece at place `b`. It refuses for want of memory alone.
     fn piece(&self, alloc: Global, b: u32) -> Result<Self::Piece, OutOfMemory>
         requires fit { fit self.now }
         requires inside { b < places self.now }

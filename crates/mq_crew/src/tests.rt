@@ -1,7 +1,8 @@
-ghost use Rattle.std.specs.Prelude.{◌≡◌, ℕ, ◌*◌, ◌<◌, ◌≤◌, ◌^◌, IfOk};
-ghost use Rattle.mq_crew.specs.Crew.{AreAll, IsLastOf};
+// Squares as pieces, by several workers and through gates that count and hold.
+ghost use Rattle.std.specs.Prelude.{◌≡◌, ℕ, ◌+◌, ◌*◌, ◌<◌, ◌≤◌, ◌^◌, length, IfOk};
+ghost use Rattle.mq_crew.specs.Crew.{AreAll, IsLastOf, all_places};
 
-use crate::{Gate, Open, Pieces, run_pieces};
+use crate::{Gate, Open, Pieces, made, merged, placed, run_parts, run_pieces};
 use mq_base::{List, OutOfMemory};
 use mq_chain::ChainSeat;
 use mq_claims::ClaimSeat;
@@ -11,6 +12,7 @@ use std::sync::atomic::Ordering::SeqCst;
 use std::test::Fail;
 use std::thread::Threads;
 
+#[derive(Clone, Copy)]
 struct Squares {
     count: u32,
 }
@@ -33,12 +35,108 @@ impl Pieces for Squares {
     }
 }
 
+// Whether these workers make the first squares so.
+fn squares_are<R: Threads + Sync>(
+    rt: &R,
+    alloc: Global,
+    workers: u32,
+    wanted: &[u64],
+) -> Result<bool, OutOfMemory>
+    requires some { 1 ≤ workers }
+    requires most { workers ≤ 64 }
+    requires few { length wanted.now < 2 ^ 32 }
+{
+    let squares = Squares {
+        count: wanted.len() as u32,
+    };
+    let found = run_pieces(rt, alloc, workers, &squares, &Open)?;
+    Ok(found.as_slice() == wanted)
+}
+
 #[test]
 fn the_pieces_stand_at_their_places(rt: HostRuntime) -> Result<(), Fail> {
-    for workers in [1u32, 3, 64] {
-        let squares = run_pieces(&rt, rt.alloc(), workers, &Squares { count: 5 }, &Open)?;
-        assert!(rt; squares.as_slice() == [0, 1, 4, 9, 16].as_slice());
+    let wanted = [0, 1, 4, 9, 16].as_slice();
+    assert!(rt; squares_are(&rt, rt.alloc(), 1, wanted)?);
+    assert!(rt; squares_are(&rt, rt.alloc(), 3, wanted)?);
+    assert!(rt; squares_are(&rt, rt.alloc(), 64, wanted)?);
+    assert!(rt; squares_are(&rt, rt.alloc(), 3, [].as_slice())?);
+    Ok(())
+}
+
+// Whether what two workers hand back, out of order, is put at its places.
+fn both_are_placed(alloc: Global) -> Result<bool, OutOfMemory> {
+    let first = Vec::from_slice(alloc, &[(2u32, 4u64), (0, 0)])?;
+    let second = Vec::from_slice(alloc, &[(1u32, 1u64)])?;
+    let items = placed(alloc, 3, merged(Ok(first), Ok(second))?)?;
+    Ok(items.as_slice() == [0, 1, 4].as_slice())
+}
+
+#[test]
+fn two_lists_become_one(rt: HostRuntime) -> Result<(), Fail> {
+    assert!(rt; both_are_placed(rt.alloc())?);
+    Ok(())
+}
+
+// Counts its entries.
+#[derive(Drop)]
+struct Counter {
+    entries: AtomicU64,
+}
+
+impl Gate for Counter {
+    fn enter(&self, _seat: &ClaimSeat, _worker: u32, _piece: u32) {
+        self.entries.fetch_add(1, SeqCst);
     }
+
+    fn enter_block(&self, _seat: &ChainSeat, _worker: u32, _block: u32) {}
+}
+
+// Whether as many squares are made so, and enter the gate as often.
+fn made_are<R: Threads + Sync>(
+    rt: &R,
+    alloc: Global,
+    wanted: &[u64],
+    entries: u64,
+) -> Result<bool, OutOfMemory>
+    requires few { length wanted.now < 2 ^ 32 }
+{
+    let squares = Squares {
+        count: wanted.len() as u32,
+    };
+    let gate = Counter {
+        entries: AtomicU64::new(0),
+    };
+    let found = made(rt, alloc, 2, &squares, &gate)?;
+    Ok(found.as_slice() == wanted && gate.entries.load(SeqCst) == entries)
+}
+
+#[test]
+fn fewer_than_two_enter_no_gate(rt: HostRuntime) -> Result<(), Fail> {
+    assert!(rt; made_are(&rt, rt.alloc(), [].as_slice(), 0)?);
+    assert!(rt; made_are(&rt, rt.alloc(), [0].as_slice(), 0)?);
+    assert!(rt; made_are(&rt, rt.alloc(), [0, 1, 4].as_slice(), 3)?);
+    Ok(())
+}
+
+// Whether three parts are made in lists of their own, of which the second has no piece.
+fn parts_are_apart<R: Threads + Sync>(rt: &R, alloc: Global) -> Result<bool, OutOfMemory> {
+    let parts = [
+        Squares { count: 3 },
+        Squares { count: 0 },
+        Squares { count: 2 },
+    ];
+    let groups = run_parts(rt, alloc, 3, parts.as_slice(), &Open)?;
+    Ok(
+        groups.len() == 3
+            && groups.get(0).as_slice() == [0, 1, 4].as_slice()
+            && groups.get(1).is_empty()
+            && groups.get(2).as_slice() == [0, 1].as_slice(),
+    )
+}
+
+#[test]
+fn each_part_has_its_own_list(rt: HostRuntime) -> Result<(), Fail> {
+    assert!(rt; parts_are_apart(&rt, rt.alloc())?);
     Ok(())
 }
 
@@ -69,14 +167,18 @@ impl Gate for Pair {
     fn enter_block(&self, _seat: &ChainSeat, _worker: u32, _block: u32) {}
 }
 
-#[test]
-fn two_threads_enter(rt: HostRuntime) -> Result<(), Fail> {
+// Whether two workers make five squares, and neither waits for the other in vain.
+fn two_enter<R: Threads + Sync>(rt: &R, alloc: Global) -> Result<bool, OutOfMemory> {
     let gate = Pair {
         came: [AtomicU64::new(0), AtomicU64::new(0)],
         alone: AtomicU64::new(0),
     };
-    let squares = run_pieces(&rt, rt.alloc(), 2, &Squares { count: 5 }, &gate)?;
-    assert!(rt; squares.as_slice() == [0, 1, 4, 9, 16].as_slice());
-    assert!(rt; gate.alone.load(SeqCst) == 0);
+    let squares = run_pieces(rt, alloc, 2, &Squares { count: 5 }, &gate)?;
+    Ok(squares.as_slice() == [0, 1, 4, 9, 16].as_slice() && gate.alone.load(SeqCst) == 0)
+}
+
+#[test]
+fn two_threads_enter(rt: HostRuntime) -> Result<(), Fail> {
+    assert!(rt; two_enter(&rt, rt.alloc())?);
     Ok(())
 }

@@ -1,9 +1,8 @@
 -- What the closed table tells of the blocks that the workers passed over.
-use Rattle.std.proofs.Common.{◌≡◌, ℕ, ◌+◌, ◌-◌, ◌*◌, ◌<◌, List, length, min, sym, ap, ◌∙◌, arith, All, Contains, Option, Some, None, IfSome, get_or}
+use Rattle.std.proofs.Common.{◌≡◌, ℕ, ◌+◌, ◌-◌, ◌*◌, ◌<◌, List, length, min, refl, sym, ap, ◌∙◌, arith, All, Contains, Option, Some, None, IfSome, get_or}
 use Rattle.std.proofs.lemmas.List.Elements.{All-contains}
-use Rattle.mq_chain.proofs.Folding.{is-carry}
-use Rattle.mq_chain.specs.Cut.{AreOfCut}
-use Rattle.mq_chain.specs.Words.{IsClosed}
+use Rattle.mq_chain.specs.Cut.{AreOfCut, AreFolded}
+use Rattle.mq_chain.specs.Stored.{IsClosed}
 use Rattle.mq_maxplus.specs.declared.mp.Mp.{Mp}
 use Rattle.mq_maxplus.specs.declared.mp.Mp.TheVariants.{Void, At}
 use Rattle.mq_server.specs.Jobs.{job}
@@ -13,12 +12,12 @@ use Rattle.mq_pass.specs.Passing.{IsSeen, IsPassed, IsRight}
 use Rattle.mq_pass.specs.declared.block.Passed.{Passed}
 
 module _ (times demands : List ℕ) (block : ℕ) (puts looks : List (ℕ × ℕ)) (cut : AreOfCut (job times demands) (length times) block puts) where
-  -- a closed carry is that of all jobs up to the end of its block
-  pub known-of : (b : ℕ) (m : Mp) → b * block < length times → IsClosed puts looks b m → IsKnown times demands block b m
-  known-of b Void inside closed = tt
-  known-of b (At c) inside closed = is-carry (job times demands) (length times) block puts b c cut inside closed.1
+  module _ (blocks : ℕ) (carries : List Mp) (less : blocks * block < length times + block) (closed : (b : ℕ) → b < blocks → IsClosed puts looks b (get_or carries b Void)) (folded : AreFolded puts blocks carries) where
+    -- a closed carry is that of all jobs up to the end of its block
+    known-of : (b : ℕ) (m : Mp) → b < blocks → get_or carries b Void ≡ m → IsKnown times demands block b m
+    known-of b Void lt is = tt
+    known-of b (At c) lt is = folded (job times demands) (length times) block b c cut lt (begins b block blocks (length times) lt less) is
 
-  module _ (blocks : ℕ) (carries : List Mp) (less : blocks * block < length times + block) (closed : (b : ℕ) → b < blocks → IsClosed puts looks b (get_or carries b Void)) where
     -- a carry that a look found is the one before the block
     pub seen-right : (b : ℕ) (c : Mp) → b < blocks → IsSeen looks b c → c ≡ carry_at times demands (b * block)
     seen-right b Void lt seen =
@@ -27,17 +26,16 @@ module _ (times demands : List ℕ) (block : ℕ) (puts looks : List (ℕ × ℕ
         ap (carry_at times demands) {x = 0} {y = b * block} first
     seen-right b (At v) lt seen =
         let some = seen.0 in
-        found (get_or carries (b - 1) Void) (closed (b - 1) (omega arith))
+        found (get_or carries (b - 1) Void) refl (closed (b - 1) (omega arith))
       where
-        found : (m : Mp) → IsClosed puts looks (b - 1) m → At v ≡ carry_at times demands (b * block)
-        found Void none = absurd (none.1 v seen.1)
-        found (At x) is =
+        found : (m : Mp) → get_or carries (b - 1) Void ≡ m → IsClosed puts looks (b - 1) m → At v ≡ carry_at times demands (b * block)
+        found Void e none = absurd (none.1 v seen.1)
+        found (At x) e is =
             let some = seen.0 in
             let inside = begins b block blocks (length times) lt less in
             let back : b - 1 + 1 ≡ b = omega arith in
             let same : (b - 1 + 1) * block ≡ b * block = ap (λ (n : ℕ). n * block) back in
-            let before = begins (b - 1) block blocks (length times) (omega arith) less in
-            ap At (is.2 v seen.1) ∙ (known-of (b - 1) (At x) before is ∙ ap (carry_at times demands) {x = min ((b - 1 + 1) * block) (length times)} {y = b * block} (omega arith))
+            ap At (is.2 v seen.1) ∙ (known-of (b - 1) (At x) (omega arith) e ∙ ap (carry_at times demands) {x = min ((b - 1 + 1) * block) (length times)} {y = b * block} (omega arith))
 
     departs-right : (b : ℕ) (o : Option (List ℕ)) → b < blocks → IfSome o (λ l. (c : Mp) × IsSeen looks b c × (l ≡ departs_of times demands block b c)) → IfSome o (λ l. l ≡ departs_of times demands block b (carry_at times demands (b * block)))
     departs-right b None lt h = h
@@ -52,4 +50,4 @@ module _ (times demands : List ℕ) (block : ℕ) (puts looks : List (ℕ × ℕ
     all-right made passed pieces own b d lt = passed-right b (get_or passed b d) lt (All-contains (λ (p : ℕ × Passed). IsPassed times demands block looks p.0 p.1) made (b, get_or passed b d) pieces (own b d lt))
 
     pub all-known : (b : ℕ) → b < blocks → IsKnown times demands block b (get_or carries b Void)
-    all-known b lt = known-of b (get_or carries b Void) (begins b block blocks (length times) lt less) (closed b lt)
+    all-known b lt = known-of b (get_or carries b Void) lt refl

@@ -2,7 +2,8 @@
 use Rattle.std.proofs.Common.{◌≡◌, ◌≢◌, ℕ, zero, suc, ◌+◌, ◌-◌, ◌^◌, ◌≤◌, ◌⊎◌, List, [], ◌∷◌, ◌++◌, max, refl, sym, ap, ◌∙◌, subst, arith, inl, inr, ⊎_elim, Contains}
 use Rattle.std.proofs.lemmas.List.Elements.{Contains-append_cases, Contains-append_left, Contains-append_right}
 use Rattle.mq_chain.specs.Seats.{Seated}
-use Rattle.mq_chain.specs.Words.{sum_word, best_word, carry_word, block_of, value_of, with_summary, HasNoSummary, IsNext}
+use Rattle.mq_chain.specs.Words.{sum_word, best_word, carry_word, block_of, value_of}
+use Rattle.mq_chain.specs.Stored.{with_summary, HasNoSummary, IsNext}
 use Rattle.mq_maxplus.specs.declared.affine.Affine.{Affine}
 use Rattle.mq_maxplus.specs.declared.mp.Mp.{Mp}
 use Rattle.mq_maxplus.specs.declared.mp.Mp.TheVariants.{Void, At}

@@ -2,7 +2,8 @@
 use Rattle.std.proofs.Common.{◌≡◌, ◌≢◌, ℕ, zero, suc, ◌+◌, ◌-◌, ◌*◌, ◌^◌, ◌<◌, ◌≤◌, List, [], ◌∷◌, ◌++◌, length, get_or, take, drop, min, max, refl, sym, ap, ◌∙◌, arith, append_assoc, mul-le-mul_right}
 use Rattle.std.proofs.lemmas.List.{append-nil, drop_more}
 use Rattle.std.specs.Prelude.{slice_range}
-use Rattle.mq_chain.specs.Words.{value_of, IsShort}
+use Rattle.mq_chain.specs.Words.{value_of}
+use Rattle.mq_chain.specs.Stored.{IsShort}
 use Rattle.mq_core.specs.Recurrences.{lindley}
 use Rattle.mq_maxplus.specs.declared.mp.Mp.{Mp}
 use Rattle.mq_maxplus.specs.declared.mp.Mp.TheVariants.{Void, At}

@@ -1,7 +1,7 @@
 // One block, by the worker that drew it.
 ghost use Rattle.std.specs.Prelude.{◌≡◌, ℕ, ◌^◌, ◌<◌, ◌≤◌, ◌++◌, Contains, IfOk, IfSome, List};
 ghost use Rattle.mq_chain.specs.Seats.{IsSeatOf, seated};
-ghost use Rattle.mq_chain.specs.Words.{IsShort};
+ghost use Rattle.mq_chain.specs.Stored.{IsShort};
 ghost use Rattle.mq_pass.specs.Blocks.{summary_at};
 ghost use Rattle.mq_maxplus.specs.Within.{IsWithin};
 ghost use Rattle.mq_pass.specs.Passing.{IsSeen, IsGrown, HasNoPut, IsOwn, IsPassed};

@@ -1,7 +1,6 @@
 // The blocks that were left, applied by the crew, and all blocks put together.
 ghost use Rattle.std.specs.Prelude.{◌≡◌, ℕ, ◌^◌, ◌<◌, ◌≤◌, All, IfOk, length, slice_index_or};
 ghost use Rattle.mq_core.specs.Recurrences.{lindley};
-ghost use Rattle.mq_crew.specs.Crew.{AreAll};
 ghost use Rattle.mq_maxplus.specs.declared.mp.Mp.TheVariants.{Void};
 ghost use Rattle.mq_pass.specs.Blocks.{IsKnown};
 ghost use Rattle.mq_pass.specs.Passing.{AreApplied, IsApplied, IsLeft, IsRight, left_from};
@@ -11,7 +10,7 @@ use crate::block::Passed;
 use crate::jobs::{Jobs, served};
 use crate::left::{Left, left_of};
 use mq_base::{List, OutOfMemory};
-use mq_crew::{Gate, Pieces, run_pieces};
+use mq_crew::{Gate, Pieces, made};
 use mq_maxplus::Mp;
 use std::alloc::Global;
 use std::thread::Threads;
@@ -44,31 +43,7 @@ impl<'a> Pieces for Rest<'a> {
     }
 }
 
-/// All pieces, by the crew where there are at least two.
-fn all_of<P: Pieces, G: Gate, R: Threads + Sync>(
-    rt: &R,
-    alloc: Global,
-    workers: u32,
-    pieces: &P,
-    gate: &G,
-) -> Result<List<P::Piece>, OutOfMemory>
-    requires fit { P.fit pieces.now }
-    requires some { 1 ≤ workers }
-    requires most { workers ≤ 64 }
-    ensures { IfOk result (λ l. AreAll (P.is_piece pieces.now) (P.places pieces.now) l) }
-{
-    let count = pieces.count();
-    if count > 1 {
-        return run_pieces(rt, alloc, workers, pieces, gate);
-    }
-    let mut items = List::new(alloc);
-    if count == 1 {
-        items.push(pieces.piece(alloc, 0)?)?;
-    }
-    Ok(items)
-}
-
-/// The departures of all blocks, in order: those of the workers, and of the blocks that were left.
+// The departures of all blocks, in order: those of the workers, and of the blocks that were left.
 fn together(
     alloc: Global,
     jobs: &Jobs<'_>,
@@ -117,6 +92,6 @@ pub(crate) fn ended<G: Gate, R: Threads + Sync>(
         jobs: *jobs,
         left: left.as_slice(),
     };
-    let applied = all_of(rt, alloc, workers, &rest, gate)?;
+    let applied = made(rt, alloc, workers, &rest, gate)?;
     together(alloc, jobs, passed, &applied)
 }

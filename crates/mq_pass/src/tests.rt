@@ -1,3 +1,4 @@
+// The single pass against the recurrence, and through gates that count and hold.
 ghost use Rattle.std.specs.Prelude.{◌≡◌, ◌*◌, ◌^◌, ◌≤◌, length, All, IfOk};
 ghost use Rattle.mq_core.specs.Columns.{IsSoundLoad};
 ghost use Rattle.mq_crew.specs.Crew.{IsLastOf};
@@ -13,6 +14,7 @@ use std::alloc::Global;
 use std::sync::atomic::AtomicU64;
 use std::sync::atomic::Ordering::SeqCst;
 use std::test::Fail;
+use std::thread::Threads;
 
 fn stream_of(alloc: Global, times: &[u64]) -> Result<Stream, OutOfMemory>
     ensures { IfOk result (λ s. s.time ≡ times.now) }
@@ -29,17 +31,48 @@ fn list_of(alloc: Global, items: &[u64]) -> Result<List<u64>, OutOfMemory>
     Ok(List::from_vec(Vec::from_slice(alloc, items)?))
 }
 
+// Whether the jobs that come at these times, with these demands, depart so.
+fn departs_are<R: Threads + Sync, G: Gate>(
+    rt: &R,
+    alloc: Global,
+    workers: u32,
+    block: u32,
+    times: &[u64],
+    demands: &[u64],
+    wanted: &[u64],
+    gate: &G,
+) -> Result<bool, OutOfMemory>
+    requires load { IsSoundLoad times.now demands.now }
+    requires some_workers { 1 ≤ workers }
+    requires most_workers { workers ≤ 64 }
+    requires some { 1 ≤ block }
+    requires few { length times.now ≤ 16384 * block }
+{
+    let stream = stream_of(alloc, times)?;
+    let demands = list_of(alloc, demands)?;
+    let departs = chain_departures(rt, alloc, workers, block, &stream, &demands, gate)?;
+    Ok(departs.as_slice() == wanted)
+}
+
 #[test]
 fn every_cut_and_crew_gives_the_recurrence(rt: HostRuntime) -> Result<(), Fail> {
-    let alloc = rt.alloc();
-    let stream = stream_of(alloc, &[0, 1, 2, 20, 20, 21, 40])?;
-    let demands = list_of(alloc, &[4, 1, 3, 2, 9, 1, 5])?;
-    let plain = departures(alloc, &stream, &demands)?;
-    assert_eq!(rt; plain.as_slice(), [4, 5, 8, 22, 31, 32, 45].as_slice());
+    let times = [0, 1, 2, 20, 20, 21, 40].as_slice();
+    let demands = [4, 1, 3, 2, 9, 1, 5].as_slice();
+    let wanted = [4, 5, 8, 22, 31, 32, 45].as_slice();
     for workers in [1u32, 2, 3, 64] {
         for block in [1u32, 2, 3, 6, 7, 8] {
-            let departs = chain_departures(&rt, alloc, workers, block, &stream, &demands, &Open)?;
-            assert_eq!(rt; departs.as_slice(), plain.as_slice());
+            assert!(rt;
+                departs_are(
+                    &rt,
+                    rt.alloc(),
+                    workers,
+                    block,
+                    times,
+                    demands,
+                    wanted,
+                    &Open
+                )?
+            );
         }
     }
     Ok(())
@@ -64,17 +97,94 @@ fn many(alloc: Global, jobs: u32) -> Result<(Stream, List<u64>), OutOfMemory>
     Ok((stream, List::from_vec(demands)))
 }
 
-#[test]
-fn many_blocks_give_the_recurrence(rt: HostRuntime) -> Result<(), Fail> {
-    let alloc = rt.alloc();
+// Whether 3,000 jobs depart as the recurrence says.
+fn many_depart<R: Threads + Sync>(
+    rt: &R,
+    alloc: Global,
+    workers: u32,
+    block: u32,
+) -> Result<bool, OutOfMemory>
+    requires some_workers { 1 ≤ workers }
+    requires most_workers { workers ≤ 64 }
+    requires some { 1 ≤ block }
+{
     let (stream, demands) = many(alloc, 3000)?;
     let plain = departures(alloc, &stream, &demands)?;
+    let departs = chain_departures(rt, alloc, workers, block, &stream, &demands, &Open)?;
+    Ok(departs.as_slice() == plain.as_slice())
+}
+
+#[test]
+fn many_blocks_give_the_recurrence(rt: HostRuntime) -> Result<(), Fail> {
     for workers in [1u32, 2, 4] {
         for block in [1u32, 7, 64] {
-            let departs = chain_departures(&rt, alloc, workers, block, &stream, &demands, &Open)?;
-            assert!(rt; departs.as_slice() == plain.as_slice());
+            assert!(rt; many_depart(&rt, rt.alloc(), workers, block)?);
         }
     }
+    Ok(())
+}
+
+// Counts the blocks that are passed over, and the pieces that are made of those that were left.
+#[derive(Drop)]
+struct Counter {
+    blocks: AtomicU64,
+    pieces: AtomicU64,
+}
+
+impl Gate for Counter {
+    fn enter(&self, _seat: &ClaimSeat, _worker: u32, _piece: u32) {
+        self.pieces.fetch_add(1, SeqCst);
+    }
+
+    fn enter_block(&self, _seat: &ChainSeat, _worker: u32, _block: u32) {
+        self.blocks.fetch_add(1, SeqCst);
+    }
+}
+
+// Whether the jobs depart so, the gate is entered with so many blocks, and none of them was left.
+fn none_is_left<R: Threads + Sync>(
+    rt: &R,
+    alloc: Global,
+    workers: u32,
+    block: u32,
+    times: &[u64],
+    demands: &[u64],
+    wanted: &[u64],
+    blocks: u64,
+) -> Result<bool, OutOfMemory>
+    requires load { IsSoundLoad times.now demands.now }
+    requires some_workers { 1 ≤ workers }
+    requires most_workers { workers ≤ 64 }
+    requires some { 1 ≤ block }
+    requires few { length times.now ≤ 16384 * block }
+{
+    let gate = Counter {
+        blocks: AtomicU64::new(0),
+        pieces: AtomicU64::new(0),
+    };
+    let right = departs_are(rt, alloc, workers, block, times, demands, wanted, &gate)?;
+    Ok(right && gate.blocks.load(SeqCst) == blocks && gate.pieces.load(SeqCst) == 0)
+}
+
+// A worker that is alone finds each carry before.
+#[test]
+fn one_worker_leaves_no_block(rt: HostRuntime) -> Result<(), Fail> {
+    let times = [0, 1, 2].as_slice();
+    let demands = [4, 1, 3].as_slice();
+    let wanted = [4, 5, 8].as_slice();
+    assert!(rt; none_is_left(&rt, rt.alloc(), 1, 1, times, demands, wanted, 3)?);
+    assert!(rt; none_is_left(&rt, rt.alloc(), 1, 2, times, demands, wanted, 2)?);
+    Ok(())
+}
+
+#[test]
+fn fewer_than_two_blocks_enter_no_gate(rt: HostRuntime) -> Result<(), Fail> {
+    let times = [0, 1, 2].as_slice();
+    let demands = [4, 1, 3].as_slice();
+    let wanted = [4, 5, 8].as_slice();
+    let none = [].as_slice();
+    assert!(rt; none_is_left(&rt, rt.alloc(), 2, 3, times, demands, wanted, 0)?);
+    assert!(rt; none_is_left(&rt, rt.alloc(), 2, 1, none, none, none, 0)?);
     Ok(())
 }
 
@@ -85,14 +195,11 @@ const TURNS: u64 = 2_000_000_000;
 #[derive(Drop)]
 struct Pair {
     came: [AtomicU64; 3],
-    pieces: AtomicU64,
     alone: AtomicU64,
 }
 
 impl Gate for Pair {
-    fn enter(&self, _seat: &ClaimSeat, _worker: u32, _piece: u32) {
-        self.pieces.fetch_add(1, SeqCst);
-    }
+    fn enter(&self, _seat: &ClaimSeat, _worker: u32, _piece: u32) {}
 
     fn enter_block(&self, _seat: &ChainSeat, _worker: u32, block: u32) {
         if block > 2 {
@@ -112,56 +219,33 @@ impl Gate for Pair {
     }
 }
 
-fn no_entries() -> Pair {
-    Pair {
+// Whether two workers pass over three blocks, each once, and neither waits for the other in vain.
+fn two_pass<R: Threads + Sync>(rt: &R, alloc: Global) -> Result<bool, OutOfMemory> {
+    let gate = Pair {
         came: [AtomicU64::new(0), AtomicU64::new(0), AtomicU64::new(0)],
-        pieces: AtomicU64::new(0),
         alone: AtomicU64::new(0),
-    }
+    };
+    let right = departs_are(
+        rt,
+        alloc,
+        2,
+        1,
+        [0, 1, 2].as_slice(),
+        [4, 1, 3].as_slice(),
+        [4, 5, 8].as_slice(),
+        &gate,
+    )?;
+    Ok(
+        right
+            && gate.alone.load(SeqCst) == 0
+            && gate.came[0].load(SeqCst) == 1
+            && gate.came[1].load(SeqCst) == 1
+            && gate.came[2].load(SeqCst) == 1,
+    )
 }
 
 #[test]
 fn two_threads_enter_with_blocks(rt: HostRuntime) -> Result<(), Fail> {
-    let alloc = rt.alloc();
-    let stream = stream_of(alloc, &[0, 1, 2])?;
-    let demands = list_of(alloc, &[4, 1, 3])?;
-    let gate = no_entries();
-    let departs = chain_departures(&rt, alloc, 2, 1, &stream, &demands, &gate)?;
-    assert_eq!(rt; departs.as_slice(), [4, 5, 8].as_slice());
-    assert!(rt; gate.alone.load(SeqCst) == 0);
-    for block in 0..3usize {
-        assert!(rt; gate.came[block].load(SeqCst) == 1);
-    }
-    Ok(())
-}
-
-#[test]
-fn one_block_enters_no_gate(rt: HostRuntime) -> Result<(), Fail> {
-    let alloc = rt.alloc();
-    let gate = no_entries();
-    let none = chain_departures(
-        &rt,
-        alloc,
-        2,
-        1,
-        &stream_of(alloc, &[])?,
-        &list_of(alloc, &[])?,
-        &gate,
-    )?;
-    assert!(rt; none.is_empty());
-    let stream = stream_of(alloc, &[0, 1, 2])?;
-    let departs = chain_departures(
-        &rt,
-        alloc,
-        2,
-        3,
-        &stream,
-        &list_of(alloc, &[4, 1, 3])?,
-        &gate,
-    )?;
-    assert_eq!(rt; departs.as_slice(), [4, 5, 8].as_slice());
-    for block in 0..3usize {
-        assert!(rt; gate.came[block].load(SeqCst) == 0);
-    }
+    assert!(rt; two_pass(&rt, rt.alloc())?);
     Ok(())
 }

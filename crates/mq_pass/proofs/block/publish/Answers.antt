@@ -1,6 +1,7 @@
 use Rattle.std.proofs.Common.{◌≡◌, ℕ, ◌+◌, List, Contains, ap, sym, subst, ◌∙◌}
 use Rattle.mq_chain.specs.Seats.{Seated}
-use Rattle.mq_chain.specs.Words.{carry_word, sum_word, best_word, value_of, with_summary}
+use Rattle.mq_chain.specs.Words.{carry_word, sum_word, best_word, value_of}
+use Rattle.mq_chain.specs.Stored.{with_summary}
 use Rattle.mq_pass.proofs.Publishing.{no-summary, no-carry, put-sum, put-best, next-of}
 use Rattle.mq_pass.proofs.block.publish.Goals as goal
 

@@ -11,16 +11,16 @@ join-requires-clause-its g t c = c.join-mine.ensures.second.0 ∙ (ap (λ (z : S
 
 pub returns-clause-seat : goal.returns-clause-seat
 returns-clause-seat g t c =
-    let mine = ap (λ (z : Seated). z.right) c.join.ensures in
+    let mine = ap (λ (z : Seated). z.right) c.join.ensures.joined in
     let left = ap (λ (z : Seated). z.right) c.split-other.ensures.left in
     let given = ap (λ (z : Seated). z.right) c.split-other.ensures.given in
     let first = c.join-mine.ensures.first.1 in
     let second = c.join-mine.ensures.second.1 in (
-      ap (λ (z : Seated). z.table) c.join.ensures ∙ (c.join-mine.ensures.first.0 ∙ ap (λ (z : Seated). z.table) c.split-other.ensures.left),
+      ap (λ (z : Seated). z.table) c.join.ensures.joined ∙ (c.join-mine.ensures.first.0 ∙ ap (λ (z : Seated). z.table) c.split-other.ensures.left),
       omega arith,
     )
 
 pub returns-clause-passed : goal.returns-clause-passed
 returns-clause-passed g t c =
     both-passed _ _ _ _ (λ v. v.items) c.join-mine.result.0.1 c.join-mine.result.1.1 c.merged.result _ _ _
-    c.join.ensures c.merged.ensures c.join-mine.ensures.first.2 c.join-mine.ensures.second.2
+    c.join.ensures.joined c.merged.ensures c.join-mine.ensures.first.2 c.join-mine.ensures.second.2

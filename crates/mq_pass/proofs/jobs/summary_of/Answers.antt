@@ -1,5 +1,5 @@
 use Rattle.std.proofs.Common.{◌≤◌, ◌^◌, sym, subst, arith}
-use Rattle.mq_chain.specs.Words.{IsShort}
+use Rattle.mq_chain.specs.Stored.{IsShort}
 use Rattle.mq_maxplus.specs.declared.affine.Affine.{Affine}
 use Rattle.mq_pass.proofs.Serving.{range-short, holds}
 use Rattle.mq_pass.proofs.jobs.summary_of.Goals as goal

@@ -31,7 +31,7 @@ ended-requires-clause-right g c κs within =
     let len = c.len.ensures in
     let all = c.in_ok-chain.ensures.0 in
     subst (λ (z : List ℕ × List ℕ × ℕ × ℕ). (b : ℕ) (d : Passed) → b < z.3 → IsRight z.0 z.1 z.2 b (get_or c.in_ok-passed.passed b d)) (λ i. (sym columns.0 i, sym columns.1 i, sym blocks.0 i, sym blocks.1 i))
-    (all-right c.args.stream.now.time c.args.demands.now c.cut-blocks.result.block c.crew-seat.result.0.puts c.crew-seat.result.0.looks pass.own.cut c.cut-blocks.result.blocks c.in_ok-carries.carries (omega arith) (λ b lt. c.in_ok-carries.ensures.each b (omega arith)) c.in_ok-made.field-0.items c.in_ok-passed.passed pass.pieces.pieces c.in_ok-passed.ensures.own)
+    (all-right c.args.stream.now.time c.args.demands.now c.cut-blocks.result.block c.crew-seat.result.0.puts c.crew-seat.result.0.looks pass.own.cut c.cut-blocks.result.blocks c.in_ok-carries.carries (omega arith) (λ b lt. c.in_ok-carries.ensures.each b (omega arith)) (λ part places size b t cut lt inside is. c.in_ok-carries.ensures.folded part places size b t cut (omega arith) inside is) c.in_ok-made.field-0.items c.in_ok-passed.passed pass.pieces.pieces c.in_ok-passed.ensures.own)
 
 pub ended-requires-clause-known : goal.ended-requires-clause-known
 ended-requires-clause-known g c κs within =
@@ -44,4 +44,4 @@ ended-requires-clause-known g c κs within =
     let len = c.len.ensures in
     let all = c.in_ok-chain.ensures.0 in
     subst (λ (z : List ℕ × List ℕ × ℕ × ℕ). (b : ℕ) → b < z.3 → IsKnown z.0 z.1 z.2 b (get_or c.in_ok-carries.carries b Void)) (λ i. (sym columns.0 i, sym columns.1 i, sym blocks.0 i, sym blocks.1 i))
-    (all-known c.args.stream.now.time c.args.demands.now c.cut-blocks.result.block c.crew-seat.result.0.puts c.crew-seat.result.0.looks pass.own.cut c.cut-blocks.result.blocks c.in_ok-carries.carries (omega arith) (λ b lt. c.in_ok-carries.ensures.each b (omega arith)))
+    (all-known c.args.stream.now.time c.args.demands.now c.cut-blocks.result.block c.crew-seat.result.0.puts c.crew-seat.result.0.looks pass.own.cut c.cut-blocks.result.blocks c.in_ok-carries.carries (omega arith) (λ b lt. c.in_ok-carries.ensures.each b (omega arith)) (λ part places size b t cut lt inside is. c.in_ok-carries.ensures.folded part places size b t cut (omega arith) inside is))

@@ -8,7 +8,7 @@ pub load-found-requires : goal.load-found-requires
 load-found-requires c =
     let words = c.self.invariant.0 in
     let blocks = ap (λ (z : Chained). z.blocks) c.self.view_is in
-    let inside = c.requires.inside in (search rules, omega arith, loads _ _ _ _ _ (omega arith))
+    let inside = c.requires.inside in (search rules, omega arith, loads _ _ _ _ c.args.b c.seat.invariant.0 (omega arith))
 
 pub returns-clause-put : goal.returns-clause-put
 returns-clause-put c =

@@ -9,7 +9,9 @@ use Rattle.mq_maxplus.specs.declared.mp.Mp.{Mp}
 use Rattle.mq_maxplus.specs.declared.mp.Mp.TheVariants.{Void}
 use Rattle.mq_claims.specs.Counts.{IsAllBelow}
 use Rattle.mq_chain.specs.Seats.{Chained, Seated}
-use Rattle.mq_chain.specs.Words.{carry_word, mp_of_word, IsClosed}
+use Rattle.mq_chain.specs.Words.{carry_word, mp_of_word}
+use Rattle.mq_chain.specs.Stored.{IsClosed}
+use Rattle.mq_chain.proofs.Folding.{is-carry}
 use Rattle.mq_chain.proofs.Keeps.{closes, all-drawn}
 use Rattle.mq_chain.proofs.chain.Chain.close.Goals as goal
 
@@ -65,6 +67,10 @@ returns-clause-each c b lt =
     let closed = closes c.self.inside.table.shared.key c.seat.inside.seat.id c.seat.inside.seat.me.0 whole _ _ c.close_with-closed.ensures.values.2 b (omega arith) in
     subst (λ (z : Mp). IsClosed c.args.seat.puts c.args.seat.looks b z) (sym item)
     (subst (λ (z : Seated). IsClosed z.puts z.looks b (mp_of_word (get_or (slots_items c.close_with-closed.result.words) (carry_word b) 0))) c.seat.view_is closed)
+
+pub returns-clause-folded : goal.returns-clause-folded
+returns-clause-folded c part places block b t cut lt inside is =
+    is-carry part places block c.args.seat.puts b t cut inside (subst (λ (z : Mp). IsClosed c.args.seat.puts c.args.seat.looks b z) is (returns-clause-each c b lt)).1
 
 pub returns-clause-drawn : goal.returns-clause-drawn
 returns-clause-drawn c =

@@ -1,5 +1,6 @@
 use Rattle.std.proofs.Common.{◌≡◌, ◌<◌, ◌+◌, ◌*◌, ℕ, rules, ap, arith, List, Contains, subst}
-use Rattle.mq_chain.specs.Words.{block_of, IsNext}
+use Rattle.mq_chain.specs.Words.{block_of}
+use Rattle.mq_chain.specs.Stored.{IsNext}
 use Rattle.mq_chain.specs.Seats.{Chained, Seated}
 use Rattle.mq_chain.proofs.Keeps.{stores, carry-stands, may-carry}
 use Rattle.mq_chain.proofs.chain.Chain.put_carry.Goals as goal
