@@ -1,3 +1,4 @@
+// How many jobs each visit found, whatever the order in which they leave.
 ghost use Rattle.std.specs.Prelude.{◌≡◌, ◌≤◌, length, cond, count_by, IfOk};
 ghost use Rattle.std.specs.List.{AllByRecursion, zip};
 ghost use Rattle.mq_core.specs.ColumnLaws.{LeavesFrom};

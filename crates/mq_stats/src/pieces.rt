@@ -81,9 +81,9 @@ fn still_of(alloc: Global, arrive: &List<u64>, fate: &List<Fate>) -> Result<List
     Ok(List::from_vec(still))
 }
 
-/// What is known of the visits of these arrivals and fates, of which the departures are there in
-/// order, as a delay has them. The arrivals never fall, and no job leaves before it came. It refuses
-/// for want of memory alone.
+/// The table of the visits of these arrivals and fates, whose departures are given in order, as a
+/// delay has them. No time of arrival falls, and no job leaves before it came. It refuses for want of
+/// memory alone.
 pub fn ahead_of(
     alloc: Global,
     arrive: &List<u64>,
@@ -106,7 +106,9 @@ pub fn ahead_of(
     })
 }
 
-/// The same, which puts the departures in order.
+/// The table of the visits of these arrivals and fates, as `ahead_of`, whose departures it puts in order
+/// itself. No time of arrival falls, and no job leaves before it came. It refuses for want of memory
+/// alone.
 pub fn ahead(
     alloc: Global,
     arrive: &List<u64>,
@@ -124,7 +126,7 @@ pub fn ahead(
 }
 
 /// How many jobs the visits at the places from `from` up to `to` found, as `found` tells it for the
-/// arrivals and fates that the table was made of. It refuses for want of memory alone.
+/// arrivals and fates that the table was made from. It refuses for want of memory alone.
 ///
 /// Of the visits before a place that aren't lost, those are gone that depart by its arrival. Of the
 /// departures by then, those of the visits from the place on are no more than those who come at its
@@ -202,8 +204,9 @@ fn fill_in_order(found: &mut [u32], arrive: &[u64], departs: &[u64], first: usiz
     }
 }
 
-/// The same where no job is lost and none overtakes another, from the departures of all visits, by
-/// position. It refuses for want of memory alone.
+/// How many jobs the visits at the places from `from` up to `to` found, where none is lost and none
+/// overtakes another, from the departures of all visits by position. Neither the times of arrival nor
+/// those of departure fall. It refuses for want of memory alone.
 pub fn found_piece_in_order(
     alloc: Global,
     arrive: &List<u64>,

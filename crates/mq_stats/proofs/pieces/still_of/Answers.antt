@@ -2,7 +2,8 @@ use Rattle.std.proofs.Common.{◌∙◌, ℕ, ◌+◌, ap, arith, count_by, leng
 use Rattle.std.specs.Prelude.{slice_get}
 use Rattle.std.specs.List.{zip}
 use Rattle.mq_core.specs.declared.model.Fate.{Fate}
-use Rattle.mq_stats.proofs.Telling.{count-most, count-one, counts-next, one-longer, length-zip, zip-get}
+use Rattle.mq_stats.proofs.Founds.{count-next}
+use Rattle.mq_stats.proofs.Telling.{count-most, counts-next, one-longer, length-zip, zip-get}
 use Rattle.mq_stats.specs.Ahead.{leaves_at_once}
 use Rattle.mq_stats.proofs.pieces.still_of.Goals as goal
 
@@ -10,7 +11,7 @@ pub loop-at-preserved : goal.loop-at-preserved
 loop-at-preserved c =
     let visits = zip c.args.arrive.now c.args.fate.now in
     let once = λ (p : ℕ × Fate). leaves_at_once p.0 p.1 in
-    let more = count-one once visits c.loop-at.at (c.get.result.now, c.get-in-loop-at.result.now) (zip-get c.args.arrive.now c.args.fate.now c.loop-at.at _ _ c.get.ensures c.get-in-loop-at.ensures) in
+    let more = count-next once visits c.loop-at.at (c.get.result.now, c.get-in-loop-at.result.now) (zip-get c.args.arrive.now c.args.fate.now c.loop-at.at _ _ c.get.ensures c.get-in-loop-at.ensures) in
     let one = c.one_if_at_once-count.ensures in
     let longer = one-longer c.loop-at.still.items _ _ c.push_reserved-in-loop-at.ensures.items in
     let few = count-most once visits (c.loop-at.at + 1) in
