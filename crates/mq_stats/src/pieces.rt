@@ -6,8 +6,7 @@ ghost use Rattle.mq_core.specs.Columns.{founds_of};
 ghost use Rattle.mq_core.specs.Laws.{Rises};
 ghost use Rattle.mq_core.specs.declared.model.Fate.{Fate as TheFate};
 ghost use Rattle.mq_core.specs.declared.model.Fate.TheVariants.{Departs};
-ghost use Rattle.mq_stats.specs.Ahead.{AreCounts, IsAhead, between, leaves_at_once, leaving_order};
-ghost use Rattle.mq_stats.specs.Departures.{stays};
+ghost use Rattle.mq_stats.specs.Ahead.{IsAhead, between, leaves_at_once, leaving_order};
 
 use crate::occupancy::{departures_in_order, one_if_stays};
 use crate::passed::passed_by;
@@ -40,21 +39,6 @@ fn leaving_of(alloc: Global, fate: &List<Fate>) -> Result<List<u64>, OutOfMemory
     Ok(List::from_vec(leaving))
 }
 
-// How many visits before each place aren't lost.
-fn kept_of(alloc: Global, fate: &List<Fate>) -> Result<List<u32>, OutOfMemory>
-    requires few { length fate.now ≤ 1048576 }
-    ensures { IfOk result (λ kept. AreCounts stays fate.now kept) }
-{
-    let mut kept = Vec::with_capacity(alloc, fate.len() + 1)?;
-    let mut count = 0;
-    kept.push_reserved(0);
-    for at in 0..fate.len() {
-        count += one_if_stays(fate.get(at));
-        kept.push_reserved(count as u32);
-    }
-    Ok(List::from_vec(kept))
-}
-
 // 1 for a visit that departs as it comes, and 0 for another.
 fn one_if_at_once(arrive: u64, fate: &Fate) -> usize
     ensures { result ≡ cond (leaves_at_once arrive fate.now) 1 0 }
@@ -63,22 +47,6 @@ fn one_if_at_once(arrive: u64, fate: &Fate) -> usize
         Fate::Departs(time) => (*time == arrive) as usize,
         Fate::Lost => 0,
     }
-}
-
-// How many visits before each place depart as they come.
-fn still_of(alloc: Global, arrive: &List<u64>, fate: &List<Fate>) -> Result<List<u32>, OutOfMemory>
-    requires even { length fate.now ≡ length arrive.now }
-    requires few { length arrive.now ≤ 1048576 }
-    ensures { IfOk result (λ still. AreCounts (λ p. leaves_at_once p.0 p.1) (zip arrive.now fate.now) still) }
-{
-    let mut still = Vec::with_capacity(alloc, fate.len() + 1)?;
-    let mut count = 0;
-    still.push_reserved(0);
-    for at in 0..fate.len() {
-        count += one_if_at_once(*arrive.get(at), fate.get(at));
-        still.push_reserved(count as u32);
-    }
-    Ok(List::from_vec(still))
 }
 
 /// The table of the visits of these arrivals and fates, whose departures are given in order, as a
@@ -97,12 +65,21 @@ pub fn ahead_of(
     requires leaving { leaving ≡ leaving_order fate.now }
     ensures { IfOk result (λ ahead. IsAhead arrive.now fate.now ahead) }
 {
-    let kept = kept_of(alloc, fate)?;
-    let still = still_of(alloc, arrive, fate)?;
+    let mut kept = Vec::with_capacity(alloc, fate.len() + 1)?;
+    let mut still = Vec::with_capacity(alloc, fate.len() + 1)?;
+    let (mut stayed, mut at_once) = (0, 0);
+    kept.push_reserved(0);
+    still.push_reserved(0);
+    for at in 0..fate.len() {
+        stayed += one_if_stays(fate.get(at));
+        at_once += one_if_at_once(*arrive.get(at), fate.get(at));
+        kept.push_reserved(stayed as u32);
+        still.push_reserved(at_once as u32);
+    }
     Ok(AheadTable {
         leaving,
-        kept,
-        still,
+        kept: List::from_vec(kept),
+        still: List::from_vec(still),
     })
 }
 
