@@ -23,7 +23,8 @@ pub fn by_time(alloc: Global, jobs: &List<u32>, times: &List<u64>) -> Result<Str
     columns_of(alloc, &items)
 }
 
-/// The same as `by_time`, sorted in threads where they can be had.
+/// The stream that `by_time` gives, sorted in threads where they can be had. It refuses for want of
+/// memory alone.
 pub fn par_by_time<R: Threads + Sync>(
     rt: &R,
     alloc: Global,

@@ -1,16 +1,15 @@
 -- What a visit found, from what is worked out ahead.
 use Rattle.std.proofs.Common.{◌≡◌, ℕ, zero, suc, ◌+◌, ◌-◌, ◌<◌, ◌≤◌, ◌⊎◌, inl, inr, Bool, false, cond, List, [], ◌∷◌, ◌++◌, length, length-append, length-drop, drop, get_or, take, set, map, Some, refl, sym, ap, ◌∙◌, subst, arith, append_assoc}
-use Rattle.std.specs.Prelude.{count_by, filter, nat_le, nat_lt, ◌==◌, slice_get}
+use Rattle.std.specs.Prelude.{count_by, nat_le, nat_lt, ◌==◌, slice_get}
 use Rattle.std.specs.List.{AllByRecursion as Each, zip}
 use Rattle.std.proofs.Math.Seq.{take-add}
 use Rattle.std.proofs.lemmas.Bool.{cases_lt}
 use Rattle.std.proofs.lemmas.Bool.Decides.{nat_tests}
-use Rattle.std.proofs.lemmas.List.{append-nil, length-take, length-take-le, take-set, take_more, take_more_set}
-use Rattle.std.proofs.lemmas.List.Sums.{length-filter, sum_by-append, sum_by-take-drop, count_by-le-length}
-use Rattle.std.proofs.lemmas.Option.{slice_get_within, get_or_from_slice_get}
+use Rattle.std.proofs.lemmas.List.{append-nil, length-take, length-take-le, take-set, take_more_set}
+use Rattle.std.proofs.lemmas.List.Sums.{sum_by-append, sum_by-take-drop, count_by-le-length}
+use Rattle.std.proofs.lemmas.Option.{slice_get_within}
 use Rattle.mq_base.proofs.Lists.{get-last, get-push, some_inj}
 use Rattle.mq_core.proofs.Lists.Each.{Each-weaker}
-use Rattle.mq_core.proofs.Events.Orders.{filter-order, in_order_of-length}
 use Rattle.mq_core.proofs.Events.Rising.{Rises-in_order_of}
 use Rattle.mq_core.specs.ColumnLaws.{LeavesFrom}
 use Rattle.mq_core.specs.Columns.{by_first, departs_after, founds_from, founds_of}

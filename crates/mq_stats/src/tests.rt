@@ -107,9 +107,25 @@ const SERVED: Columns<'static> = Columns {
     fate: &[Fate::Departs(4), Fate::Departs(5), Fate::Departs(8)],
 };
 
+// The second is lost.
+const LOST: Columns<'static> = Columns {
+    job: &[0, 1, 2],
+    arrive: &[0, 1, 2],
+    found: &[0, 1, 1],
+    fate: &[Fate::Departs(4), Fate::Lost, Fate::Departs(7)],
+};
+
+const NO_VISITS: Columns<'static> = Columns {
+    job: &[],
+    arrive: &[],
+    found: &[],
+    fate: &[],
+};
+
 #[test]
-fn a_server_has_totals(rt: HostRuntime) -> Result<(), Fail> {
-    let all = NodeTotals {
+fn servers_have_totals(rt: HostRuntime) -> Result<(), Fail> {
+    let alloc = rt.alloc();
+    let served = NodeTotals {
         came: 3,
         left: 3,
         lost: 0,
@@ -119,19 +135,7 @@ fn a_server_has_totals(rt: HostRuntime) -> Result<(), Fail> {
         area: 14,
         peak: 3,
     };
-    assert!(rt; server_has(rt.alloc(), &SERVED, &all)?);
-    Ok(())
-}
-
-#[test]
-fn a_lost_visit_counts_only_as_lost(rt: HostRuntime) -> Result<(), Fail> {
-    let columns = Columns {
-        job: &[0, 1, 2],
-        arrive: &[0, 1, 2],
-        found: &[0, 1, 1],
-        fate: &[Fate::Departs(4), Fate::Lost, Fate::Departs(7)],
-    };
-    let wanted = NodeTotals {
+    let lost = NodeTotals {
         came: 3,
         left: 2,
         lost: 1,
@@ -141,19 +145,7 @@ fn a_lost_visit_counts_only_as_lost(rt: HostRuntime) -> Result<(), Fail> {
         area: 9,
         peak: 2,
     };
-    assert!(rt; server_has(rt.alloc(), &columns, &wanted)?);
-    Ok(())
-}
-
-#[test]
-fn a_node_without_visits_has_none(rt: HostRuntime) -> Result<(), Fail> {
-    let columns = Columns {
-        job: &[],
-        arrive: &[],
-        found: &[],
-        fate: &[],
-    };
-    let wanted = NodeTotals {
+    let none = NodeTotals {
         came: 0,
         left: 0,
         lost: 0,
@@ -163,7 +155,9 @@ fn a_node_without_visits_has_none(rt: HostRuntime) -> Result<(), Fail> {
         area: 0,
         peak: 0,
     };
-    assert!(rt; server_has(rt.alloc(), &columns, &wanted)?);
+    assert!(rt; server_has(alloc, &SERVED, &served)?);
+    assert!(rt; server_has(alloc, &LOST, &lost)?);
+    assert!(rt; server_has(alloc, &NO_VISITS, &none)?);
     Ok(())
 }
 
@@ -233,22 +227,11 @@ fn visits_find(
 }
 
 #[test]
-fn those_who_leave_as_they_come_are_not_found(rt: HostRuntime) -> Result<(), Fail> {
-    let fate = [Fate::Departs(5), Fate::Departs(3), Fate::Departs(3)];
-    assert!(rt; visits_find(rt.alloc(), &[0, 3, 3], &fate, &[0, 1, 1])?);
-    Ok(())
-}
-
-#[test]
-fn lost_visits_are_not_found(rt: HostRuntime) -> Result<(), Fail> {
-    let fate = [Fate::Departs(9), Fate::Lost, Fate::Departs(3), Fate::Lost];
-    assert!(rt; visits_find(rt.alloc(), &[0, 1, 2, 6], &fate, &[0, 1, 1, 1])?);
-    Ok(())
-}
-
-#[test]
-fn those_who_overtake_are_gone(rt: HostRuntime) -> Result<(), Fail> {
-    let fate = [
+fn visits_find_those_who_are_there(rt: HostRuntime) -> Result<(), Fail> {
+    let alloc = rt.alloc();
+    let at_once = [Fate::Departs(5), Fate::Departs(3), Fate::Departs(3)];
+    let lost = [Fate::Departs(9), Fate::Lost, Fate::Departs(3), Fate::Lost];
+    let overtaking = [
         Fate::Departs(9),
         Fate::Departs(4),
         Fate::Departs(3),
@@ -256,7 +239,9 @@ fn those_who_overtake_are_gone(rt: HostRuntime) -> Result<(), Fail> {
         Fate::Departs(6),
         Fate::Departs(8),
     ];
-    assert!(rt; visits_find(rt.alloc(), &[0, 1, 2, 4, 4, 7], &fate, &[0, 1, 2, 1, 1, 1])?);
+    assert!(rt; visits_find(alloc, &[0, 3, 3], &at_once, &[0, 1, 1])?);
+    assert!(rt; visits_find(alloc, &[0, 1, 2, 6], &lost, &[0, 1, 1, 1])?);
+    assert!(rt; visits_find(alloc, &[0, 1, 2, 4, 4, 7], &overtaking, &[0, 1, 2, 1, 1, 1])?);
     Ok(())
 }
 

@@ -1,4 +1,4 @@
-use Rattle.std.proofs.Common.{rules, arith}
+use Rattle.std.proofs.Common.{rules}
 use Rattle.mq_stats.proofs.tests.totals_are.Goals as goal
 
 pub totals-requires : goal.totals-requires
