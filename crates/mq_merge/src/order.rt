@@ -1,3 +1,4 @@
+// Jobs put in order of the times at which they pass.
 ghost use Rattle.std.specs.Prelude.{◌≡◌, ◌≤◌, length, IfOk};
 ghost use Rattle.std.specs.List.{zip};
 ghost use Rattle.mq_core.specs.Columns.{IsStream, by_first, pairs_of};
@@ -22,7 +23,8 @@ pub fn by_time(alloc: Global, jobs: &List<u32>, times: &List<u64>) -> Result<Str
     columns_of(alloc, &items)
 }
 
-/// The same, sorted in threads where they can be had.
+/// The stream that `by_time` gives, sorted in threads where they can be had. It refuses for want of
+/// memory alone.
 pub fn par_by_time<R: Threads + Sync>(
     rt: &R,
     alloc: Global,

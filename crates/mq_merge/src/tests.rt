@@ -1,11 +1,13 @@
-ghost use Rattle.std.specs.Prelude.{◌≡◌, length, IfOk};
+// Worked merges, whole and by pieces, and sorts by time.
+ghost use Rattle.std.specs.Prelude.{◌≡◌, ◌≤◌, length, IfOk};
 ghost use Rattle.mq_core.specs.Columns.{IsStream};
 
-use crate::{by_time, co_rank, merge_piece, merge_two, sort_by_first};
+use crate::{by_time, co_rank, merge_piece, merge_two, par_by_time, sort_by_first};
 use mq_base::{List, OutOfMemory};
 use mq_core::Stream;
 use std::alloc::Global;
 use std::test::Fail;
+use std::thread::Threads;
 
 // Jobs 0, 1 and 2 at 1, 3 and 3.
 fn three(alloc: Global) -> Result<Stream, OutOfMemory>
@@ -29,71 +31,125 @@ fn two(alloc: Global) -> Result<Stream, OutOfMemory>
     })
 }
 
-#[test]
-fn items_of_one_time_keep_the_order_of_the_streams(rt: HostRuntime) -> Result<(), Fail> {
-    let alloc = rt.alloc();
+// What a stream has.
+#[derive(Clone, Copy)]
+struct Items<'a> {
+    jobs: &'a [u32],
+    times: &'a [u64],
+}
+
+fn has(stream: &Stream, wanted: &Items) -> bool {
+    stream.job.as_slice() == wanted.jobs && stream.time.as_slice() == wanted.times
+}
+
+// Whether both streams merged have these items.
+fn whole_has(alloc: Global, wanted: &Items) -> Result<bool, OutOfMemory> {
     let (a, b) = (three(alloc)?, two(alloc)?);
     let merged = merge_two(alloc, &a, &b)?;
-    assert_eq!(rt; merged.job.as_slice(), [3, 0, 1, 2, 4].as_slice());
-    assert_eq!(rt; merged.time.as_slice(), [0, 1, 3, 3, 3].as_slice());
-    Ok(())
+    Ok(has(&merged, wanted))
+}
+
+// Whether their merged items between two places are these.
+fn piece_has(alloc: Global, from: u32, to: u32, wanted: &Items) -> Result<bool, OutOfMemory>
+    requires order { from ≤ to }
+    requires within { to ≤ 5 }
+{
+    let (a, b) = (three(alloc)?, two(alloc)?);
+    let piece = merge_piece(alloc, &a, &b, from, to)?;
+    Ok(has(&piece, wanted))
+}
+
+// Whether so many of the items before a place come from each.
+fn ranks_are(alloc: Global, place: u32, wanted: (u32, u32)) -> Result<bool, OutOfMemory>
+    requires { place ≤ 5 }
+{
+    let (a, b) = (three(alloc)?, two(alloc)?);
+    Ok(co_rank(&a, &b, place) == wanted)
 }
 
 #[test]
-fn co_ranks_tell_how_many_come_from_each(rt: HostRuntime) -> Result<(), Fail> {
+fn streams_are_merged_by_time(rt: HostRuntime) -> Result<(), Fail> {
     let alloc = rt.alloc();
-    let (a, b) = (three(alloc)?, two(alloc)?);
-    assert_eq!(rt; co_rank(&a, &b, 3), (2, 1));
+    let whole = Items {
+        jobs: &[3, 0, 1, 2, 4],
+        times: &[0, 1, 3, 3, 3],
+    };
+    let piece = Items {
+        jobs: &[2, 4],
+        times: &[3, 3],
+    };
+    assert!(rt; whole_has(alloc, &whole)?);
+    assert!(rt; ranks_are(alloc, 3, (2, 1))?);
+    assert!(rt; piece_has(alloc, 3, 5, &piece)?);
     Ok(())
 }
 
-#[test]
-fn a_piece_has_the_items_of_its_places(rt: HostRuntime) -> Result<(), Fail> {
-    let alloc = rt.alloc();
-    let (a, b) = (three(alloc)?, two(alloc)?);
-    let piece = merge_piece(alloc, &a, &b, 3, 5)?;
-    assert_eq!(rt; piece.job.as_slice(), [2, 4].as_slice());
-    assert_eq!(rt; piece.time.as_slice(), [3, 3].as_slice());
-    Ok(())
+// Whether these jobs come to this by their times, on one thread and in threads.
+fn order_is(
+    rt: &(impl Threads + Sync),
+    alloc: Global,
+    items: &Items,
+    wanted: &Items,
+) -> Result<bool, OutOfMemory>
+    requires { length items.now.times.now ≤ length items.now.jobs.now }
+{
+    let jobs = List::from_vec(Vec::from_slice(alloc, items.jobs)?);
+    let times = List::from_vec(Vec::from_slice(alloc, items.times)?);
+    let alone = by_time(alloc, &jobs, &times)?;
+    let threaded = par_by_time(rt, alloc, &jobs, &times)?;
+    Ok(has(&alone, wanted) && has(&threaded, wanted))
 }
 
 #[test]
 fn jobs_overtake_each_other(rt: HostRuntime) -> Result<(), Fail> {
-    let alloc = rt.alloc();
-    let jobs = List::from_vec(Vec::from_slice(alloc, &[7, 3, 5, 1, 2])?);
-    let times = List::from_vec(Vec::from_slice(alloc, &[4, 9, 4, 9, 1])?);
-    let stream = by_time(alloc, &jobs, &times)?;
-    assert_eq!(rt; stream.job.as_slice(), [2, 7, 5, 3, 1].as_slice());
-    assert_eq!(rt; stream.time.as_slice(), [1, 4, 4, 9, 9].as_slice());
+    let items = Items {
+        jobs: &[7, 3, 5, 1, 2],
+        times: &[4, 9, 4, 9, 1],
+    };
+    let wanted = Items {
+        jobs: &[2, 7, 5, 3, 1],
+        times: &[1, 4, 4, 9, 9],
+    };
+    assert!(rt; order_is(&rt, rt.alloc(), &items, &wanted)?);
     Ok(())
 }
 
-#[test]
-fn pairs_that_overtake_few_are_sorted(rt: HostRuntime) -> Result<(), Fail> {
-    let alloc = rt.alloc();
-    let mut none = Vec::new(alloc);
-    sort_by_first(&mut none)?;
-    assert!(rt; none.is_empty());
-    let mut items = Vec::from_slice(alloc, &[(3, 0), (5, 1), (3, 2), (0, 3), (5, 4), (4, 5)])?;
+// Whether these pairs come to these by their firsts.
+fn sort_comes_to(
+    alloc: Global,
+    pairs: &[(u64, u32)],
+    wanted: &[(u64, u32)],
+) -> Result<bool, OutOfMemory> {
+    let mut items = Vec::from_slice(alloc, pairs)?;
     sort_by_first(&mut items)?;
-    let wanted = [(0, 3), (3, 0), (3, 2), (4, 5), (5, 1), (5, 4)];
-    assert_eq!(rt; items.as_slice(), wanted.as_slice());
-    Ok(())
+    Ok(items.as_slice() == wanted)
 }
 
-// Two pairs of each first, the greatest first in front: each overtakes 100 others on average.
-#[test]
-fn pairs_in_reverse_are_sorted(rt: HostRuntime) -> Result<(), Fail> {
-    let alloc = rt.alloc();
-    let mut items = Vec::new(alloc);
-    let mut wanted = Vec::new(alloc);
+// Two pairs of each first below 100, those of one first in the order of their numbers.
+fn hundred(alloc: Global, falling: bool) -> Result<Vec<(u64, u32)>, OutOfMemory> {
+    let mut pairs = Vec::new(alloc);
     for half in 0..100u32 {
-        items.push((u64::from(99 - half), 2 * half))?;
-        items.push((u64::from(99 - half), 2 * half + 1))?;
-        wanted.push((u64::from(half), 2 * (99 - half)))?;
-        wanted.push((u64::from(half), 2 * (99 - half) + 1))?;
+        let first = if falling { 99 - half } else { half };
+        pairs.push((u64::from(first), 2 * (99 - first)))?;
+        pairs.push((u64::from(first), 2 * (99 - first) + 1))?;
     }
-    sort_by_first(&mut items)?;
-    assert_eq!(rt; items.as_slice(), wanted.as_slice());
+    Ok(pairs)
+}
+
+// Whether pairs are sorted each of which overtakes 100 others on average.
+fn reverse_is_sorted(alloc: Global) -> Result<bool, OutOfMemory> {
+    let falling = hundred(alloc, true)?;
+    let rising = hundred(alloc, false)?;
+    sort_comes_to(alloc, &falling, &rising)
+}
+
+#[test]
+fn pairs_are_sorted_by_their_first(rt: HostRuntime) -> Result<(), Fail> {
+    let alloc = rt.alloc();
+    let few = [(3, 0), (5, 1), (3, 2), (0, 3), (5, 4), (4, 5)];
+    let wanted = [(0, 3), (3, 0), (3, 2), (4, 5), (5, 1), (5, 4)];
+    assert!(rt; sort_comes_to(alloc, &[], &[])?);
+    assert!(rt; sort_comes_to(alloc, &few, &wanted)?);
+    assert!(rt; reverse_is_sorted(alloc)?);
     Ok(())
 }

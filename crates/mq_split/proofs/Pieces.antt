@@ -1,7 +1,7 @@
 -- Pieces whose ends meet, one behind the other.
-use Rattle.std.proofs.Common.{◌≡◌, ℕ, zero, suc, ◌+◌, ◌-◌, ◌≤◌, ◌==◌, Bool, true, false, cond, List, [], ◌∷◌, ◌++◌, length, length-drop, drop, take, refl, sym, ap, ◌∙◌, arith}
+use Rattle.std.proofs.Common.{◌≡◌, ℕ, suc, ◌+◌, ◌-◌, ◌≤◌, ◌==◌, Bool, true, false, cond, List, [], ◌∷◌, ◌++◌, length, length-drop, drop, take, refl, sym, ap, ◌∙◌, arith}
 use Rattle.std.proofs.Math.Seq.{take-add}
-use Rattle.std.proofs.lemmas.List.{length-take-le}
+use Rattle.std.proofs.lemmas.List.{drop-drop, length-take-le}
 use Rattle.mq_base.proofs.Lists.{take-all}
 use Rattle.mq_core.specs.Columns.{picked}
 use Rattle.mq_core.specs.Kinds.Split.{output_at}
@@ -12,20 +12,11 @@ use Rattle.mq_split.specs.Outs.{PiecesJoin, between, outs_from, picked_stream}
 pub length-between : {X : Type 0} (items : List X) (from to : ℕ) → from ≤ to → to ≤ length items → length (between from to items) ≡ to - from
 length-between items from to l k = let rest = length-drop from items in length-take-le (to - from) (drop from items) (omega arith)
 
-drop-none : {X : Type 0} (m : ℕ) → drop {A = X} m [] ≡ []
-drop-none zero = refl
-drop-none (suc m) = refl
-
-drop-add : {X : Type 0} (n m : ℕ) (items : List X) → drop m (drop n items) ≡ drop (n + m) items
-drop-add zero m items = let e : m ≡ 0 + m = omega arith in ap (λ k. drop k items) e
-drop-add {X} (suc n) m [] = let e : suc n + m ≡ suc (n + m) = omega arith in drop-none m ∙ sym (ap (λ k. drop {A = X} k []) e)
-drop-add (suc n) m (x ∷ items) = let e : suc (n + m) ≡ suc n + m = omega arith in drop-add n m items ∙ ap (λ k. drop k (x ∷ items)) e
-
 between-join : {X : Type 0} (items : List X) (from middle to : ℕ) → from ≤ middle → middle ≤ to → between from middle items ++ between middle to items ≡ between from to items
 between-join items from middle to l k =
     let start : from + (middle - from) ≡ middle = omega arith in
     let many : (middle - from) + (to - middle) ≡ to - from = omega arith in
-    ap (λ rest. between from middle items ++ take (to - middle) rest) (sym (drop-add from (middle - from) items ∙ ap (λ n. drop n items) start))
+    ap (λ rest. between from middle items ++ take (to - middle) rest) (sym (drop-drop (middle - from) from items ∙ ap (λ n. drop n items) start))
     ∙ (sym (take-add (middle - from) (to - middle) (drop from items)) ∙ ap (λ n. take n (drop from items)) many)
 
 outs-append : (route : Route) (position : ℕ) (xs ys : List ℕ) → outs_from route position (xs ++ ys) ≡ outs_from route position xs ++ outs_from route (position + length xs) ys

@@ -1,8 +1,7 @@
 -- The streams that leave a split.
 use Rattle.std.specs.Prelude.{◌≡◌, ◌<◌, ◌≤◌, ◌-◌, ◌++◌, ℕ, suc, List, [], ◌∷◌, drop, length, take, slice_get, Some}
 use Rattle.mq_core.specs.Columns.{picked}
-use Rattle.mq_core.specs.Kinds.Split.{outputs_by}
-use Rattle.mq_core.specs.Kinds.Split.{output_at}
+use Rattle.mq_core.specs.Kinds.Split.{output_at, outputs_by}
 use Rattle.mq_core.specs.declared.model.Route.{Route}
 use Rattle.mq_core.specs.declared.model.Stream.{Stream}
 

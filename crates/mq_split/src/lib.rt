@@ -3,8 +3,7 @@
 
 ghost use Rattle.std.specs.Prelude.{◌≡◌, ◌==◌, ◌+◌, ◌<◌, ◌≤◌, ◌^◌, ℕ, length, count_by, nat_le, IfOk, IsTrue};
 ghost use Rattle.mq_core.specs.Columns.{IsStream, picked};
-ghost use Rattle.mq_core.specs.Kinds.Split.{is_sound_route, outputs_by};
-ghost use Rattle.mq_core.specs.Kinds.Split.{output_at};
+ghost use Rattle.mq_core.specs.Kinds.Split.{is_sound_route, output_at, outputs_by};
 ghost use Rattle.mq_split.specs.Outs.{AreParts, ArePieces, PiecesJoin, between, outs_from};
 
 use mq_base::{List, OutOfMemory};
@@ -143,10 +142,9 @@ pub fn split_piece(
     Ok(streams)
 }
 
-/// The streams that leave a split: its pieces one behind the other, here in one piece. They have one
-/// stream per output, by its number, each with the jobs that its route sends there, in their order.
-/// `values` has one value of the route's column per item of the stream, by position. It refuses for
-/// want of memory alone.
+/// The streams that leave a split: one per output, by its number, each with the jobs that its route
+/// sends there, in their order. `values` has one value of the route's column per item of the stream,
+/// by position. It refuses for want of memory alone.
 pub fn split(
     alloc: Global,
     stream: &Stream,
@@ -163,8 +161,8 @@ pub fn split(
     Ok(streams)
 }
 
-/// Pieces whose ends meet are one piece, and the piece of all places is the whole. It does nothing
-/// when it runs.
+/// Pieces of `split_piece` whose ends meet, one behind the other, are one piece, and the piece of all
+/// places is what `split` gives. It does nothing when it runs.
 pub fn pieces_join()
     ensures { PiecesJoin }
 {}

@@ -1,83 +1,100 @@
+// Worked routes, and the streams and pieces of a split.
+ghost use Rattle.std.specs.Prelude.{◌≡◌, ◌≤◌, length, IfOk, IsTrue};
+ghost use Rattle.mq_core.specs.Columns.{IsStream};
+ghost use Rattle.mq_core.specs.Kinds.Split.{is_sound_route};
+
 use crate::{route_of, split, split_piece};
-use mq_base::List;
+use mq_base::{List, OutOfMemory};
 use mq_core::{Route, Stream};
+use std::alloc::Global;
 use std::test::Fail;
 
-#[test]
-fn a_modulo_takes_the_value(rt: HostRuntime) {
+// The output of a value by its remainder of 3.
+fn by_modulo(value: u64) -> u8 {
     let route = Route::Modulo {
         outputs: 3,
         column: 0,
     };
-    assert_eq!(rt; route_of(&route, 6, 5), 0);
-    assert_eq!(rt; route_of(&route, 7, 5), 1);
-    assert_eq!(rt; route_of(&route, 8, 5), 2);
+    route_of(&route, value, 5)
 }
 
-#[test]
-fn turns_take_the_position(rt: HostRuntime) {
+// The output of a position by turns of 2.
+fn by_turn(position: u32) -> u8 {
     let route = Route::Turn { outputs: 2 };
-    assert_eq!(rt; route_of(&route, 5, 0), 0);
-    assert_eq!(rt; route_of(&route, 5, 1), 1);
-    assert_eq!(rt; route_of(&route, 5, 2), 0);
+    route_of(&route, 5, position)
 }
 
-#[test]
-fn a_cut_takes_the_thresholds_that_the_value_reaches(rt: HostRuntime) -> Result<(), Fail> {
-    let alloc = rt.alloc();
-    let route = Route::Cut {
+// Cuts at 10 and 20.
+fn cut(alloc: Global) -> Result<Route, OutOfMemory>
+    ensures { IfOk result (λ route. IsTrue (is_sound_route 1 route)) }
+{
+    Ok(Route::Cut {
         column: 0,
         thresholds: List::from_vec(Vec::from_slice(alloc, &[10, 20])?),
-    };
-    assert_eq!(rt; route_of(&route, 9, 5), 0);
-    assert_eq!(rt; route_of(&route, 10, 5), 1);
-    assert_eq!(rt; route_of(&route, 20, 5), 2);
+    })
+}
+
+// The output of a value by these cuts.
+fn by_cut(alloc: Global, value: u64) -> Result<u8, OutOfMemory> {
+    let route = cut(alloc)?;
+    Ok(route_of(&route, value, 5))
+}
+
+#[test]
+fn routes_give_outputs(rt: HostRuntime) -> Result<(), Fail> {
+    let alloc = rt.alloc();
+    assert!(rt; (by_modulo(6), by_modulo(7), by_modulo(8)) == (0, 1, 2));
+    assert!(rt; (by_turn(0), by_turn(1), by_turn(2)) == (0, 1, 0));
+    assert!(rt; (by_cut(alloc, 9)?, by_cut(alloc, 10)?, by_cut(alloc, 20)?) == (0, 1, 2));
     Ok(())
+}
+
+// Jobs 0, 1 and 2 at 0, 1 and 2.
+fn three(alloc: Global) -> Result<Stream, OutOfMemory>
+    ensures stream { IfOk result (λ stream. IsStream stream) }
+    ensures many { IfOk result (λ stream. length stream.time ≡ 3) }
+{
+    Ok(Stream {
+        job: List::from_vec(Vec::from_slice(alloc, &[0, 1, 2])?),
+        time: List::from_vec(Vec::from_slice(alloc, &[0, 1, 2])?),
+    })
+}
+
+// Whether a stream has these jobs at these times.
+fn has(stream: &Stream, jobs: &[u32], times: &[u64]) -> bool {
+    stream.job.as_slice() == jobs && stream.time.as_slice() == times
+}
+
+// Whether the first of three streams is empty or has job 0, and the others have jobs 1 and 2.
+fn are_parts(streams: &List<Stream>, jobs: &[u32], times: &[u64]) -> bool {
+    streams.len() == 3
+        && has(streams.get(0), jobs, times)
+        && has(streams.get(1), &[1], &[1])
+        && has(streams.get(2), &[2], &[2])
+}
+
+// Whether a split of values 9, 10 and 20 by the cuts sends these jobs on by its first output.
+fn split_sends(alloc: Global, jobs: &[u32], times: &[u64]) -> Result<bool, OutOfMemory> {
+    let (route, stream) = (cut(alloc)?, three(alloc)?);
+    let values = List::from_vec(Vec::from_slice(alloc, &[9, 10, 20])?);
+    let streams = split(alloc, &stream, &values, &route)?;
+    Ok(are_parts(&streams, jobs, times))
+}
+
+// The same of its piece from a place on.
+fn piece_sends(alloc: Global, from: u32, jobs: &[u32], times: &[u64]) -> Result<bool, OutOfMemory>
+    requires { from ≤ 3 }
+{
+    let (route, stream) = (cut(alloc)?, three(alloc)?);
+    let values = List::from_vec(Vec::from_slice(alloc, &[9, 10, 20])?);
+    let streams = split_piece(alloc, &stream, &values, &route, from, 3)?;
+    Ok(are_parts(&streams, jobs, times))
 }
 
 #[test]
 fn each_job_leaves_by_its_output(rt: HostRuntime) -> Result<(), Fail> {
     let alloc = rt.alloc();
-    let route = Route::Cut {
-        column: 0,
-        thresholds: List::from_vec(Vec::from_slice(alloc, &[10, 20])?),
-    };
-    let stream = Stream {
-        job: List::from_vec(Vec::from_slice(alloc, &[0, 1, 2])?),
-        time: List::from_vec(Vec::from_slice(alloc, &[0, 1, 2])?),
-    };
-    let values = List::from_vec(Vec::from_slice(alloc, &[9, 10, 20])?);
-    let streams = split(alloc, &stream, &values, &route)?;
-    assert_eq!(rt; streams.len(), 3);
-    for out in 0..streams.len() {
-        let part = streams.get(out);
-        assert_eq!(rt; part.job.as_slice(), [out as u32].as_slice());
-        assert_eq!(rt; part.time.as_slice(), [out as u64].as_slice());
-    }
-    Ok(())
-}
-
-#[test]
-fn a_piece_has_the_jobs_of_its_places(rt: HostRuntime) -> Result<(), Fail> {
-    let alloc = rt.alloc();
-    let route = Route::Cut {
-        column: 0,
-        thresholds: List::from_vec(Vec::from_slice(alloc, &[10, 20])?),
-    };
-    let stream = Stream {
-        job: List::from_vec(Vec::from_slice(alloc, &[0, 1, 2])?),
-        time: List::from_vec(Vec::from_slice(alloc, &[0, 1, 2])?),
-    };
-    let values = List::from_vec(Vec::from_slice(alloc, &[9, 10, 20])?);
-    let streams = split_piece(alloc, &stream, &values, &route, 1, 3)?;
-    assert_eq!(rt; streams.len(), 3);
-    for out in 0..streams.len() {
-        let wanted: &[u32] = match out {
-            0 => &[],
-            1 => &[1],
-            _ => &[2],
-        };
-        assert_eq!(rt; streams.get(out).job.as_slice(), wanted);
-    }
+    assert!(rt; split_sends(alloc, &[0], &[0])?);
+    assert!(rt; piece_sends(alloc, 1, &[], &[])?);
     Ok(())
 }

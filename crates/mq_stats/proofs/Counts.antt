@@ -18,7 +18,7 @@ none time position x (y ∷ ys) c h =
     let rest = none time position y ys c.1 (still-by time position x.0 x.1 y.0 y.1 c.0.0.0 c.0.0.1 h) in
     count-cons (is_gone time position) x (y ∷ ys) ∙ (ap (λ b. cond b 1 0 + count_by (is_gone time position) (y ∷ ys)) h ∙ ap (λ n. 0 + n) rest)
 
-at-most-one : (b : Bool) → cond b 1 0 ≤ 1
+pub at-most-one : (b : Bool) → cond b 1 0 ≤ 1
 at-most-one true = omega arith
 at-most-one false = omega arith
 

@@ -1,5 +1,5 @@
 -- What a visit found, from the departures that are gone.
-use Rattle.std.proofs.Common.{◌≡◌, ℕ, zero, suc, ◌+◌, ◌<◌, ◌≤◌, false, cond, List, [], ◌∷◌, ◌++◌, length, drop, take, Some, refl, sym, ap, ◌∙◌, subst, arith, append_assoc}
+use Rattle.std.proofs.Common.{◌≡◌, ℕ, zero, suc, ◌+◌, ◌<◌, ◌≤◌, Bool, false, cond, List, [], ◌∷◌, ◌++◌, length, drop, take, Some, refl, sym, ap, ◌∙◌, subst, arith, append_assoc}
 use Rattle.std.specs.Prelude.{count_by, nat_lt, slice_get}
 use Rattle.std.specs.List.{AllByRecursion as Each, zip}
 use Rattle.std.proofs.lemmas.Bool.Decides.{nat_tests}
@@ -14,6 +14,7 @@ use Rattle.mq_core.specs.declared.model.Fate.{Fate}
 use Rattle.mq_core.specs.declared.model.Fate.TheVariants.{Departs, Lost}
 use Rattle.mq_stats.proofs.Counts.{count-cons}
 use Rattle.mq_stats.proofs.Ordered.{as-many}
+use Rattle.mq_stats.proofs.Passing.{rises-get}
 use Rattle.mq_stats.specs.Departures.{departures_from, is_gone, stays}
 
 not-yet : (time at d position : ℕ) → at ≤ position → time ≤ d → is_gone time at (d, position) ≡ false
@@ -69,8 +70,14 @@ gone-and-there at position (suc i) time (a ∷ arrives) (Departs d ∷ fates) s 
     let all = count-cons stays (Departs d) (take i fates) in
     omega arith
 
-pub take_at : (fates : List Fate) (i : ℕ) (fate : Fate) → slice_get fates i ≡ Some fate → take (i + 1) fates ≡ take i fates ++ fate ∷ []
-take_at fates i fate h = take_more fates i fate (slice_get_within fates i fate h) ∙ ap (λ f. take i fates ++ f ∷ []) (get_or_from_slice_get fates i fate fate h)
+pub take_at : {X : Type 0} (xs : List X) (i : ℕ) (x : X) → slice_get xs i ≡ Some x → take (i + 1) xs ≡ take i xs ++ x ∷ []
+take_at xs i x h = take_more xs i x (slice_get_within xs i x h) ∙ ap (λ y. take i xs ++ y ∷ []) (get_or_from_slice_get xs i x x h)
+
+-- of one item more as many more pass a test
+pub count-next : {X : Type 0} (test : X → Bool) (xs : List X) (i : ℕ) (x : X) → slice_get xs i ≡ Some x → count_by test (take (i + 1) xs) ≡ count_by test (take i xs) + cond (test x) 1 0
+count-next test xs i x h =
+    let both = ap (count_by test) (take_at xs i x h) ∙ sum_by-append (λ y. cond (test y) 1 0) (take i xs) (x ∷ []) in
+    omega arith
 
 -- One visit further. What is found so far, with what is left, is all.
 pub founds-next : (done done' all arrives : List ℕ) (fates : List Fate) (i arrive found : ℕ) (fate : Fate) → slice_get arrives i ≡ Some arrive → slice_get fates i ≡ Some fate → found ≡ count_by (departs_after arrive) (take i fates) → done' ≡ done ++ found ∷ [] →
@@ -86,21 +93,12 @@ founds-next done done' all arrives fates i arrive found fate a f n p h =
     ∙ (ap (λ x. done ++ x ∷ rest) n
     ∙ (sym (ap (λ l. done ++ l) next) ∙ h)))
 
--- one more stays, or is lost
-pub stayed-next : (fates : List Fate) (i : ℕ) (fate : Fate) → slice_get fates i ≡ Some fate → count_by stays (take (i + 1) fates) ≡ count_by stays (take i fates) + cond (stays fate) 1 0
-stayed-next fates i fate f =
-    let both = ap (count_by stays) (take_at fates i fate f) ∙ sum_by-append (λ x. cond (stays x) 1 0) (take i fates) (fate ∷ []) in
-    omega arith
-
 pub rises-at : (arrives : List ℕ) (i a b : ℕ) → Rises (λ x y. x ≤ y) arrives → slice_get arrives i ≡ Some a → slice_get arrives (suc i) ≡ Some b → a ≤ b
-rises-at [] i a b r h k = cc
-rises-at (x ∷ []) i a b r h k = cc
-rises-at (x ∷ (y ∷ arrives)) zero a b r h k =
-    let first : x ≡ a = get_or_from_slice_get (x ∷ (y ∷ arrives)) 0 a 0 h in
-    let second : y ≡ b = get_or_from_slice_get (y ∷ arrives) 0 b 0 k in
-    let order : x ≤ y = r.0.0 in
+rises-at arrives i a b r h k =
+    let first = get_or_from_slice_get arrives i a 0 h in
+    let second = get_or_from_slice_get arrives (suc i) b 0 k in
+    let order = rises-get arrives i r (slice_get_within arrives (suc i) b k) in
     omega arith
-rises-at (x ∷ (y ∷ arrives)) (suc i) a b r h k = rises-at (y ∷ arrives) i a b r.1 h k
 
 -- what is gone stays so
 pub gone-next : (arrives : List ℕ) (departures : List (ℕ × ℕ)) (i arrive later : ℕ) → Rises (λ x y. x ≤ y) arrives → slice_get arrives i ≡ Some arrive → slice_get arrives (i + 1) ≡ Some later →
@@ -131,5 +129,5 @@ pub told : (arrives : List ℕ) (fates : List Fate) (departures : List (ℕ × �
     slice_get arrives at ≡ Some time → gone ≡ count_by (is_gone time at) departures → stayed ≡ count_by stays (take at fates) → gone + count_by (departs_after time) (take at fates) ≡ stayed
 told arrives fates departures at time gone stayed e r z p h g s =
     let all = gone-and-there at 0 at time arrives fates (omega arith) e r z h in
-    let moved = ap (count_by (is_gone time at)) p ∙ as-many (is_gone time at) (departures_from 0 fates) in
+    let moved = ap (count_by (is_gone time at)) p ∙ as-many (λ (d : ℕ × ℕ). d.0) (is_gone time at) (departures_from 0 fates) in
     omega arith

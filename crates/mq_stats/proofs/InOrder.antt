@@ -1,20 +1,14 @@
 -- Visits that depart in the order in which they came: the first that isn't gone, and the number of those behind it.
-use Rattle.std.proofs.Common.{◌≡◌, ℕ, zero, suc, ◌+◌, ◌<◌, ◌≤◌, Bool, true, false, cond, List, [], ◌∷◌, take, Some, refl, ap, ◌∙◌, arith}
+use Rattle.std.proofs.Common.{◌≡◌, ℕ, zero, suc, ◌+◌, ◌<◌, ◌≤◌, true, false, cond, List, [], ◌∷◌, take, Some, refl, ap, ◌∙◌, arith}
 use Rattle.std.specs.Prelude.{count_by, nat_lt, slice_get}
 use Rattle.std.proofs.lemmas.Bool.Decides.{nat_tests}
-use Rattle.std.proofs.lemmas.List.Sums.{sum_by-append, sum_by-le-sum_by}
+use Rattle.std.proofs.lemmas.List.Sums.{sum_by-le-sum_by}
 use Rattle.mq_core.specs.Columns.{departs_after}
 use Rattle.mq_core.specs.declared.model.Fate.{Fate}
 use Rattle.mq_core.specs.declared.model.Fate.TheVariants.{Departs, Lost}
 use Rattle.mq_stats.proofs.Counts.{count-cons}
-use Rattle.mq_stats.proofs.Founds.{take_at}
+use Rattle.mq_stats.proofs.Founds.{count-next}
 use Rattle.mq_stats.specs.Departures.{departures_rise, stays, stays_at}
-
--- one fate more
-pub count-next : (p : Fate → Bool) (fates : List Fate) (i : ℕ) (fate : Fate) → slice_get fates i ≡ Some fate → count_by p (take (i + 1) fates) ≡ count_by p (take i fates) + cond (p fate) 1 0
-count-next p fates i fate f =
-    let both = ap (count_by p) (take_at fates i fate f) ∙ sum_by-append (λ x. cond (p x) 1 0) (take i fates) (fate ∷ []) in
-    omega arith
 
 -- a departure after a time, or after one that is
 late-stays : (time latest d : ℕ) → time < latest → latest ≤ d → 0 + cond (nat_lt time d) 1 0 ≡ 1

@@ -7,7 +7,7 @@ use Rattle.std.proofs.lemmas.List.Sums.{length-filter}
 use Rattle.mq_core.proofs.Lists.Each.{Each-weaker}
 use Rattle.mq_core.proofs.Events.Orders.{Each-order, filter-order, in_order_of-length}
 use Rattle.mq_core.specs.Columns.{by_first}
-use Rattle.mq_core.specs.Laws.{insert_by}
+use Rattle.mq_core.specs.Laws.{in_order_of, insert_by}
 use Rattle.mq_core.specs.declared.model.Fate.{Fate}
 use Rattle.mq_core.specs.declared.model.Fate.TheVariants.{Departs, Lost}
 use Rattle.mq_stats.specs.Departures.{Ascends, departures_from}
@@ -16,10 +16,10 @@ abbrev Pairs : Type 0
 Pairs = List (ℕ × ℕ)
 
 -- as many pass a test in either order
-pub as-many : (test : ℕ × ℕ → Bool) (pairs : Pairs) → count_by test (by_first pairs) ≡ count_by test pairs
-as-many test pairs =
-    sym (length-filter test (by_first pairs))
-    ∙ (ap length (filter-order (λ (p : ℕ × ℕ). p.0) test pairs) ∙ (in_order_of-length (λ (p : ℕ × ℕ). p.0) _ ∙ length-filter test pairs))
+pub as-many : {X : Type 0} (key : X → ℕ) (test : X → Bool) (xs : List X) → count_by test (in_order_of key xs) ≡ count_by test xs
+as-many key test xs =
+    sym (length-filter test (in_order_of key xs))
+    ∙ (ap length (filter-order key test xs) ∙ (in_order_of-length key _ ∙ length-filter test xs))
 
 -- by time, those of one time by position
 abbrev IsBehind : ℕ × ℕ → ℕ × ℕ → Type 0

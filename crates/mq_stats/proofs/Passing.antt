@@ -6,7 +6,8 @@ use Rattle.std.proofs.lemmas.Bool.Decides.{nat_tests}
 use Rattle.std.proofs.lemmas.List.Sums.{sum_by-le-sum_by}
 use Rattle.mq_core.proofs.Lists.Each.{Each-weaker}
 use Rattle.mq_core.specs.Laws.{Rises}
-use Rattle.mq_stats.proofs.Counts.{count-cons}
+use Rattle.mq_merge.proofs.Lists.{first-least}
+use Rattle.mq_stats.proofs.Counts.{at-most-one, count-cons}
 
 -- how many of these times are at most this one
 abbrev pub up_to : ℕ → List ℕ → ℕ
@@ -29,11 +30,6 @@ none-passed time (t ∷ times) h =
     let rest = none-passed time times h.1 in
     omega arith
 
-first-least : (t : ℕ) (times : List ℕ) (i : ℕ) → Each (λ x. t ≤ x) times → i < length times → t ≤ get_or times i 0
-first-least t [] i h l = absurd (omega arith)
-first-least t (x ∷ times) zero h l = h.0
-first-least t (x ∷ times) (suc i) h l = first-least t times i h.1 (omega arith)
-
 -- one that is passed stands behind none that isn't
 pub passed-one : (time : ℕ) (times : List ℕ) (i : ℕ) → Rises (λ a b. a ≤ b) times → i < length times → get_or times i 0 ≤ time → i < up_to time times
 passed-one time [] i h l k = absurd (omega arith)
@@ -53,11 +49,8 @@ not-passed time (t ∷ times) zero h l k =
 not-passed time (t ∷ times) (suc i) h l k =
     let rest = not-passed time times i h.1 (omega arith) k in
     let all = count-cons (λ x. nat_le x time) t times in
-    let one = at-most-one t in
+    let one = at-most-one (nat_le t time) in
     omega arith
-  where
-    at-most-one : (t : ℕ) → 0 + cond (nat_le t time) 1 0 ≤ 1
-    at-most-one t = grind (arith, nat_tests)
 
 grows : (time later t : ℕ) → time ≤ later → cond {A = ℕ} (nat_le t time) 1 0 ≤ cond {A = ℕ} (nat_le t later) 1 0
 grows time later t l = grind (arith, nat_tests)

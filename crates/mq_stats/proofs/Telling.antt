@@ -1,25 +1,26 @@
 -- What a visit found, from what is worked out ahead.
 use Rattle.std.proofs.Common.{◌≡◌, ℕ, zero, suc, ◌+◌, ◌-◌, ◌<◌, ◌≤◌, ◌⊎◌, inl, inr, Bool, false, cond, List, [], ◌∷◌, ◌++◌, length, length-append, length-drop, drop, get_or, take, set, map, Some, refl, sym, ap, ◌∙◌, subst, arith, append_assoc}
-use Rattle.std.specs.Prelude.{count_by, filter, nat_le, nat_lt, ◌==◌, slice_get}
+use Rattle.std.specs.Prelude.{count_by, nat_le, nat_lt, ◌==◌, slice_get}
 use Rattle.std.specs.List.{AllByRecursion as Each, zip}
 use Rattle.std.proofs.Math.Seq.{take-add}
 use Rattle.std.proofs.lemmas.Bool.{cases_lt}
 use Rattle.std.proofs.lemmas.Bool.Decides.{nat_tests}
-use Rattle.std.proofs.lemmas.List.{append-nil, length-take, length-take-le, take-set, take_more, take_more_set}
-use Rattle.std.proofs.lemmas.List.Sums.{length-filter, sum_by-append, sum_by-take-drop, count_by-le-length}
-use Rattle.std.proofs.lemmas.Option.{slice_get_within, get_or_from_slice_get}
+use Rattle.std.proofs.lemmas.List.{append-nil, length-take, length-take-le, take-set, take_more_set}
+use Rattle.std.proofs.lemmas.List.Sums.{sum_by-append, sum_by-take-drop, count_by-le-length}
+use Rattle.std.proofs.lemmas.Option.{slice_get_within}
 use Rattle.mq_base.proofs.Lists.{get-last, get-push, some_inj}
 use Rattle.mq_core.proofs.Lists.Each.{Each-weaker}
-use Rattle.mq_core.proofs.Events.Orders.{filter-order, in_order_of-length}
 use Rattle.mq_core.proofs.Events.Rising.{Rises-in_order_of}
 use Rattle.mq_core.specs.ColumnLaws.{LeavesFrom}
 use Rattle.mq_core.specs.Columns.{by_first, departs_after, founds_from, founds_of}
 use Rattle.mq_core.specs.Laws.{Rises, in_order_of}
 use Rattle.mq_core.specs.declared.model.Fate.{Fate}
 use Rattle.mq_core.specs.declared.model.Fate.TheVariants.{Departs, Lost}
+use Rattle.mq_merge.proofs.Lists.{Rises-drop, zip-drop}
 use Rattle.mq_merge.proofs.Sorted.{firsts-order}
 use Rattle.mq_stats.proofs.Counts.{count-cons}
 use Rattle.mq_stats.proofs.Founds.{founds-next, rises-at}
+use Rattle.mq_stats.proofs.Ordered.{as-many}
 use Rattle.mq_stats.proofs.Passing.{none-passed, passed-later, passed-yes, rises-get, up_to}
 use Rattle.mq_stats.specs.Ahead.{AreCounts, IsAhead, departure_times, leaves_at_once, leaving_order}
 use Rattle.mq_stats.specs.Departures.{departures_from, stays}
@@ -53,12 +54,6 @@ there time (Departs d ∷ fates) =
     let all = count-cons stays (Departs d) fates in
     omega arith
 
--- of departures in order as many are by a time as of the visits
-in-any-order : (test : ℕ → Bool) (times : List ℕ) → count_by test (in_order_of (λ t. t) times) ≡ count_by test times
-in-any-order test times =
-    sym (length-filter test (in_order_of (λ t. t) times))
-    ∙ (ap length (filter-order (λ t. t) test times) ∙ (in_order_of-length (λ t. t) (filter test times) ∙ length-filter test times))
-
 count-departures : (time : ℕ) (fates : List Fate) → up_to time (departure_times fates) ≡ count_by (departs_by time) fates
 count-departures time [] = refl
 count-departures time (Lost ∷ fates) = let rest = count-departures time fates in let b = count-cons (departs_by time) Lost fates in omega arith
@@ -68,8 +63,9 @@ count-departures time (Departs d ∷ fates) =
     let b = count-cons (departs_by time) (Departs d) fates in
     omega arith
 
+-- of departures in order as many are by a time as of the visits
 count-leaving : (time : ℕ) (fates : List Fate) → up_to time (leaving_order fates) ≡ count_by (departs_by time) fates
-count-leaving time fates = in-any-order (λ t. nat_le t time) (departure_times fates) ∙ count-departures time fates
+count-leaving time fates = as-many (λ t. t) (λ t. nat_le t time) (departure_times fates) ∙ count-departures time fates
 
 -- the departures in order are the firsts of those with their positions
 firsts-departures : (position : ℕ) (fates : List Fate) → map (λ (d : ℕ × ℕ). d.0) (departures_from position fates) ≡ departure_times fates
@@ -132,12 +128,6 @@ once-by time (suc r) (a ∷ arrives) (f ∷ fates) n e u h z = go (cases_lt time
         let here : cond {A = ℕ} (d == a) 1 0 ≡ cond (d == time) 1 0 = ap (λ t. cond (d == t) 1 0) same in
         omega arith
 
-zip-drop : (i : ℕ) (arrives : List ℕ) (fates : List Fate) → length fates ≡ length arrives → zip (drop i arrives) (drop i fates) ≡ drop i (zip arrives fates)
-zip-drop zero arrives fates e = refl
-zip-drop (suc i) [] fates e = refl
-zip-drop (suc i) (a ∷ arrives) [] e = absurd (omega arith)
-zip-drop (suc i) (a ∷ arrives) (f ∷ fates) e = zip-drop i arrives fates (omega arith)
-
 pub length-zip : (arrives : List ℕ) (fates : List Fate) → length fates ≡ length arrives → length (zip arrives fates) ≡ length arrives
 length-zip [] fates e = refl
 length-zip (a ∷ arrives) [] e = absurd (omega arith)
@@ -152,11 +142,6 @@ later-drop (suc i) (a ∷ arrives) [] z = none (drop i arrives)
     none [] = tt
     none (x ∷ xs) = tt
 later-drop (suc i) (a ∷ arrives) (f ∷ fates) z = later-drop i arrives fates z.1
-
-Rises-drop : (i : ℕ) (times : List ℕ) → Rises (λ a b. a ≤ b) times → Rises (λ a b. a ≤ b) (drop i times)
-Rises-drop zero times h = h
-Rises-drop (suc i) [] h = tt
-Rises-drop (suc i) (t ∷ times) h = Rises-drop i times h.1
 
 -- those from a place on come at its time or later
 from-on : (i time : ℕ) (times : List ℕ) → Rises (λ a b. a ≤ b) times → slice_get times i ≡ Some time → Each (λ t. time ≤ t) (drop i times)
@@ -221,7 +206,7 @@ tells arrive fate ahead at time left came kept before later h g l c k b n =
     let whole : count_by once (take came z) ≡ count_by once (take (at + r) z) = ap (λ m. count_by once (take m z)) all in
     let same : length (drop at fate) ≡ length (drop at arrive) = lengths at arrive fate even in
     let behind : count_by (departs_by time) (drop at fate) ≡ count_by once (take r (zip (drop at arrive) (drop at fate))) =
-    once-by time r (drop at arrive) (drop at fate) refl same (Rises-drop at arrive h.comings.rising) (from-on at time arrive h.comings.rising g) (later-drop at arrive fate h.comings.later) in
+    once-by time r (drop at arrive) (drop at fate) refl same (Rises-drop (λ a b. a ≤ b) at arrive h.comings.rising) (from-on at time arrive h.comings.rising g) (later-drop at arrive fate h.comings.later) in
     let there-now = there time (take at fate) in
     let gone : left ≡ count_by (departs_by time) fate = l ∙ (ap (up_to time) h.leaving ∙ count-leaving time fate) in
     let both = sum_by-take-drop (λ f. cond (departs_by time f) 1 0) fate at in
@@ -285,15 +270,6 @@ leaving-rises arrive fate ahead h =
     subst (Rises (λ a b. a ≤ b)) (sym h.leaving) (Rises-in_order_of (λ t. t) (departure_times fate))
 
 -- Counts. One place more.
-take-next : {X : Type 0} (items : List X) (i : ℕ) (x : X) → slice_get items i ≡ Some x → take (i + 1) items ≡ take i items ++ x ∷ []
-take-next items i x h = take_more items i x (slice_get_within items i x h) ∙ ap (λ y. take i items ++ y ∷ []) (get_or_from_slice_get items i x x h)
-
-pub count-one : {X : Type 0} (test : X → Bool) (items : List X) (i : ℕ) (x : X) → slice_get items i ≡ Some x → count_by test (take (i + 1) items) ≡ count_by test (take i items) + cond (test x) 1 0
-count-one test items i x h =
-    let both = ap (count_by test) (take-next items i x h) ∙ sum_by-append (λ y. cond (test y) 1 0) (take i items) (x ∷ []) in
-    let one = count-cons test x [] in
-    omega arith
-
 pub count-most : {X : Type 0} (test : X → Bool) (items : List X) (i : ℕ) → count_by test (take i items) ≤ i
 count-most test items i = let all = count_by-le-length test (take i items) in let many = length-take i items in omega arith
 
@@ -382,11 +358,6 @@ fills-next found arrives departs all first place left passed value time h even l
         ap (λ n. take n (set found place value) ++ rest (first + n)) next
         ∙ (ap (λ n. take (place + 1) (set found place value) ++ rest n) on
         ∙ founds-next (take place found) (take (place + 1) (set found place value)) all arrives fates (first + place) time value _ g (departs-get departs (first + place) here.0 here.1) (omega arith) (take_more_set found place value l) k)
-
-pub slice-at : (items : List ℕ) (i : ℕ) → i < length items → slice_get items i ≡ Some (get_or items i 0)
-slice-at [] i l = absurd (omega arith)
-slice-at (x ∷ items) zero l = refl
-slice-at (x ∷ items) (suc i) l = slice-at items i (omega arith)
 
 -- what has left stays so for the next visit
 pub left-on : (arrives departs : List ℕ) (first place left passed : ℕ) → Rises (λ a b. a ≤ b) arrives → passed ≤ 1 → left + passed ≤ up_to (get_or arrives (first + place) 0) departs → first + (place + (1 - passed)) < length arrives →

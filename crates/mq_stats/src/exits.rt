@@ -1,3 +1,4 @@
+// What leaves a network by an output.
 ghost use Rattle.std.specs.Prelude.{◌≡◌};
 ghost use Rattle.mq_core.specs.Columns.{column_exit};
 ghost use Rattle.mq_stats.specs.Numbers.{AreLeaving};

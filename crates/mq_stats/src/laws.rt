@@ -1,3 +1,4 @@
+// That the columns of a run are such as the numbers are worked out from.
 ghost use Rattle.mq_stats.specs.RunNumbers.{RunsGiveStreams, RunsGiveVisits};
 
 use mq_core::{

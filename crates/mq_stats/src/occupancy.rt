@@ -1,3 +1,4 @@
+// How many jobs each visit found, whatever the order in which they leave.
 ghost use Rattle.std.specs.Prelude.{◌≡◌, ◌≤◌, length, cond, count_by, IfOk};
 ghost use Rattle.std.specs.List.{AllByRecursion, zip};
 ghost use Rattle.mq_core.specs.ColumnLaws.{LeavesFrom};
@@ -26,7 +27,8 @@ fn departures_of(alloc: Global, fates: &List<Fate>) -> Result<Vec<(u64, u32)>, O
     Ok(departures)
 }
 
-// The same by time, those of one time by position.
+/// The departures of the visits that aren't lost, each with its position, by time, those of one time
+/// by position. It refuses for want of memory alone.
 pub fn departures_in_order(
     alloc: Global,
     fates: &List<Fate>,
@@ -60,7 +62,7 @@ fn gone_by(departures: &[(u64, u32)], from: usize, time: u64, position: u32) -> 
     departures.len()
 }
 
-// 1 for a visit that isn't lost, and 0 for one that is.
+/// 1 for a visit that isn't lost, and 0 for one that is.
 pub fn one_if_stays(fate: &Fate) -> usize
     ensures { result ≡ cond (stays fate.now) 1 0 }
 {

@@ -6,8 +6,7 @@ ghost use Rattle.mq_core.specs.Columns.{founds_of};
 ghost use Rattle.mq_core.specs.Laws.{Rises};
 ghost use Rattle.mq_core.specs.declared.model.Fate.{Fate as TheFate};
 ghost use Rattle.mq_core.specs.declared.model.Fate.TheVariants.{Departs};
-ghost use Rattle.mq_stats.specs.Ahead.{AreCounts, IsAhead, between, leaves_at_once, leaving_order};
-ghost use Rattle.mq_stats.specs.Departures.{stays};
+ghost use Rattle.mq_stats.specs.Ahead.{IsAhead, between, leaves_at_once, leaving_order};
 
 use crate::occupancy::{departures_in_order, one_if_stays};
 use crate::passed::passed_by;
@@ -40,21 +39,6 @@ fn leaving_of(alloc: Global, fate: &List<Fate>) -> Result<List<u64>, OutOfMemory
     Ok(List::from_vec(leaving))
 }
 
-// How many visits before each place aren't lost.
-fn kept_of(alloc: Global, fate: &List<Fate>) -> Result<List<u32>, OutOfMemory>
-    requires few { length fate.now ≤ 1048576 }
-    ensures { IfOk result (λ kept. AreCounts stays fate.now kept) }
-{
-    let mut kept = Vec::with_capacity(alloc, fate.len() + 1)?;
-    let mut count = 0;
-    kept.push_reserved(0);
-    for at in 0..fate.len() {
-        count += one_if_stays(fate.get(at));
-        kept.push_reserved(count as u32);
-    }
-    Ok(List::from_vec(kept))
-}
-
 // 1 for a visit that departs as it comes, and 0 for another.
 fn one_if_at_once(arrive: u64, fate: &Fate) -> usize
     ensures { result ≡ cond (leaves_at_once arrive fate.now) 1 0 }
@@ -65,25 +49,9 @@ fn one_if_at_once(arrive: u64, fate: &Fate) -> usize
     }
 }
 
-// How many visits before each place depart as they come.
-fn still_of(alloc: Global, arrive: &List<u64>, fate: &List<Fate>) -> Result<List<u32>, OutOfMemory>
-    requires even { length fate.now ≡ length arrive.now }
-    requires few { length arrive.now ≤ 1048576 }
-    ensures { IfOk result (λ still. AreCounts (λ p. leaves_at_once p.0 p.1) (zip arrive.now fate.now) still) }
-{
-    let mut still = Vec::with_capacity(alloc, fate.len() + 1)?;
-    let mut count = 0;
-    still.push_reserved(0);
-    for at in 0..fate.len() {
-        count += one_if_at_once(*arrive.get(at), fate.get(at));
-        still.push_reserved(count as u32);
-    }
-    Ok(List::from_vec(still))
-}
-
-/// What is known of the visits of these arrivals and fates, of which the departures are there in
-/// order, as a delay has them. The arrivals never fall, and no job leaves before it came. It refuses
-/// for want of memory alone.
+/// The table of the visits of these arrivals and fates, whose departures are given in order, as a
+/// delay has them. No time of arrival falls, and no job leaves before it came. It refuses for want of
+/// memory alone.
 pub fn ahead_of(
     alloc: Global,
     arrive: &List<u64>,
@@ -97,16 +65,27 @@ pub fn ahead_of(
     requires leaving { leaving ≡ leaving_order fate.now }
     ensures { IfOk result (λ ahead. IsAhead arrive.now fate.now ahead) }
 {
-    let kept = kept_of(alloc, fate)?;
-    let still = still_of(alloc, arrive, fate)?;
+    let mut kept = Vec::with_capacity(alloc, fate.len() + 1)?;
+    let mut still = Vec::with_capacity(alloc, fate.len() + 1)?;
+    let (mut stayed, mut at_once) = (0, 0);
+    kept.push_reserved(0);
+    still.push_reserved(0);
+    for at in 0..fate.len() {
+        stayed += one_if_stays(fate.get(at));
+        at_once += one_if_at_once(*arrive.get(at), fate.get(at));
+        kept.push_reserved(stayed as u32);
+        still.push_reserved(at_once as u32);
+    }
     Ok(AheadTable {
         leaving,
-        kept,
-        still,
+        kept: List::from_vec(kept),
+        still: List::from_vec(still),
     })
 }
 
-/// The same, which puts the departures in order.
+/// The table of the visits of these arrivals and fates, as `ahead_of`, whose departures it puts in order
+/// itself. No time of arrival falls, and no job leaves before it came. It refuses for want of memory
+/// alone.
 pub fn ahead(
     alloc: Global,
     arrive: &List<u64>,
@@ -124,7 +103,7 @@ pub fn ahead(
 }
 
 /// How many jobs the visits at the places from `from` up to `to` found, as `found` tells it for the
-/// arrivals and fates that the table was made of. It refuses for want of memory alone.
+/// arrivals and fates that the table was made from. It refuses for want of memory alone.
 ///
 /// Of the visits before a place that aren't lost, those are gone that depart by its arrival. Of the
 /// departures by then, those of the visits from the place on are no more than those who come at its
@@ -202,8 +181,9 @@ fn fill_in_order(found: &mut [u32], arrive: &[u64], departs: &[u64], first: usiz
     }
 }
 
-/// The same where no job is lost and none overtakes another, from the departures of all visits, by
-/// position. It refuses for want of memory alone.
+/// How many jobs the visits at the places from `from` up to `to` found, where none is lost and none
+/// overtakes another, from the departures of all visits by position. Neither the times of arrival nor
+/// those of departure fall. It refuses for want of memory alone.
 pub fn found_piece_in_order(
     alloc: Global,
     arrive: &List<u64>,

@@ -1,3 +1,4 @@
+// The time span of a run.
 ghost use Rattle.std.specs.Prelude.{◌≡◌, max, fold, map};
 ghost use Rattle.mq_core.specs.Columns.{column_span, greatest_time, time_of_fate};
 

@@ -1,23 +1,23 @@
-ghost use Rattle.std.specs.Prelude.{◌≡◌, ◌<◌, ◌≤◌, All, IfOk, IsTrue};
+// Worked numbers of visits: totals, exits, the span, and what each visit found.
+ghost use Rattle.std.specs.Prelude.{◌≡◌, ◌<◌, ◌≤◌, All, length, IfOk, IsTrue};
+ghost use Rattle.std.specs.List.{AllByRecursion, zip};
+ghost use Rattle.mq_core.specs.ColumnLaws.{LeavesFrom};
+ghost use Rattle.mq_core.specs.Laws.{Rises};
 ghost use Rattle.mq_core.specs.Told.{HasValue};
 
 use crate::{
-    Exit, NodeTotals, ahead, found, found_piece, found_piece_in_order, leaving, span, totals,
+    AheadTable, Exit, NodeTotals, ahead, found, found_piece, found_piece_in_order, leaving, span,
+    totals,
 };
 use mq_base::{List, OutOfMemory};
 use mq_core::{Demand, Fate, Kind, Rows, Stream, Visits};
 use std::alloc::Global;
-use std::process::Abort;
 use std::test::Fail;
 
 fn list<T: Copy + Drop>(alloc: Global, items: &[T]) -> Result<List<T>, OutOfMemory>
     ensures { IfOk result (λ list. list ≡ items.now) }
 {
-    let mut list = List::new(alloc);
-    for item in items {
-        list.push(*item)?;
-    }
-    Ok(list)
+    Ok(List::from_vec(Vec::from_slice(alloc, items)?))
 }
 
 // Three jobs with demands 4, 1 and 3, which come at 0, 1 and 2.
@@ -31,22 +31,21 @@ fn three_rows(alloc: Global) -> Result<Rows, OutOfMemory> {
     })
 }
 
-// Visits of these jobs, which come as their rows do.
-fn visits_of(
-    alloc: Global,
-    jobs: &[u32],
-    found: &[u32],
-    fates: &[Fate],
-) -> Result<Visits, OutOfMemory> {
-    let mut arrive = List::new(alloc);
-    for job in jobs {
-        arrive.push(*job as u64)?;
-    }
+// Columns of visits.
+#[derive(Clone, Copy)]
+struct Columns<'a> {
+    job: &'a [u32],
+    arrive: &'a [u64],
+    found: &'a [u32],
+    fate: &'a [Fate],
+}
+
+fn visits_of(alloc: Global, columns: &Columns) -> Result<Visits, OutOfMemory> {
     Ok(Visits {
-        job: list(alloc, jobs)?,
-        arrive,
-        found: list(alloc, found)?,
-        fate: list(alloc, fates)?,
+        job: list(alloc, columns.job)?,
+        arrive: list(alloc, columns.arrive)?,
+        found: list(alloc, columns.found)?,
+        fate: list(alloc, columns.fate)?,
     })
 }
 
@@ -72,33 +71,61 @@ fn are_small(founds: &List<u32>) -> bool
     founds.as_slice().iter().all(|found| *found <= 1_048_576)
 }
 
-fn expect_totals(rt: &impl Abort, rows: &Rows, visits: &Visits, wanted: NodeTotals) {
-    assert!(rt; visits.job.len() < 10);
-    assert!(rt; visits.arrive.len() == visits.job.len());
-    assert!(rt; visits.found.len() == visits.job.len());
-    assert!(rt; visits.fate.len() == visits.job.len());
-    assert!(rt; are_told(rows, &visits.job));
-    assert!(rt; are_small(&visits.found));
-    assert_eq!(rt;
-        totals(rows, &Kind::Server(Demand::Column(0)), visits),
-        wanted
-    );
+fn are_even(visits: &Visits) -> bool
+    ensures few { IsTrue result → length visits.now.job < 10 }
+    ensures arrives { IsTrue result → length visits.now.arrive ≡ length visits.now.job }
+    ensures founds { IsTrue result → length visits.now.found ≡ length visits.now.job }
+    ensures fates { IsTrue result → length visits.now.fate ≡ length visits.now.job }
+{
+    let count = visits.job.len();
+    count < 10
+        && visits.arrive.len() == count
+        && visits.found.len() == count
+        && visits.fate.len() == count
 }
 
-fn expect_exit(rt: &impl Abort, rows: &Rows, stream: &Stream, wanted: Exit) {
-    assert!(rt; stream.job.len() < 10);
-    assert!(rt; stream.job.len() == stream.time.len());
-    assert!(rt; are_below(stream.job.as_slice(), rows.time.len()));
-    assert_eq!(rt; leaving(rows, stream), wanted);
+// Whether a server has these totals.
+fn totals_are(rows: &Rows, visits: &Visits, wanted: &NodeTotals) -> bool {
+    if !are_even(visits) || !are_told(rows, &visits.job) || !are_small(&visits.found) {
+        return false;
+    }
+    totals(rows, &Kind::Server(Demand::Column(0)), visits) == *wanted
 }
+
+// Whether a server with these visits of the three jobs has these totals.
+fn server_has(alloc: Global, columns: &Columns, wanted: &NodeTotals) -> Result<bool, OutOfMemory> {
+    let rows = three_rows(alloc)?;
+    let visits = visits_of(alloc, columns)?;
+    Ok(totals_are(&rows, &visits, wanted))
+}
+
+// The visits of three jobs that a server serves one after another.
+const SERVED: Columns<'static> = Columns {
+    job: &[0, 1, 2],
+    arrive: &[0, 1, 2],
+    found: &[0, 1, 2],
+    fate: &[Fate::Departs(4), Fate::Departs(5), Fate::Departs(8)],
+};
+
+// The second is lost.
+const LOST: Columns<'static> = Columns {
+    job: &[0, 1, 2],
+    arrive: &[0, 1, 2],
+    found: &[0, 1, 1],
+    fate: &[Fate::Departs(4), Fate::Lost, Fate::Departs(7)],
+};
+
+const NO_VISITS: Columns<'static> = Columns {
+    job: &[],
+    arrive: &[],
+    found: &[],
+    fate: &[],
+};
 
 #[test]
-fn a_server_has_totals(rt: HostRuntime) -> Result<(), Fail> {
+fn servers_have_totals(rt: HostRuntime) -> Result<(), Fail> {
     let alloc = rt.alloc();
-    let rows = three_rows(alloc)?;
-    let fates = [Fate::Departs(4), Fate::Departs(5), Fate::Departs(8)];
-    let visits = visits_of(alloc, &[0, 1, 2], &[0, 1, 2], &fates)?;
-    let wanted = NodeTotals {
+    let served = NodeTotals {
         came: 3,
         left: 3,
         lost: 0,
@@ -108,17 +135,7 @@ fn a_server_has_totals(rt: HostRuntime) -> Result<(), Fail> {
         area: 14,
         peak: 3,
     };
-    expect_totals(&rt, &rows, &visits, wanted);
-    Ok(())
-}
-
-#[test]
-fn a_lost_visit_counts_only_as_lost(rt: HostRuntime) -> Result<(), Fail> {
-    let alloc = rt.alloc();
-    let rows = three_rows(alloc)?;
-    let fates = [Fate::Departs(4), Fate::Lost, Fate::Departs(7)];
-    let visits = visits_of(alloc, &[0, 1, 2], &[0, 1, 1], &fates)?;
-    let wanted = NodeTotals {
+    let lost = NodeTotals {
         came: 3,
         left: 2,
         lost: 1,
@@ -128,16 +145,7 @@ fn a_lost_visit_counts_only_as_lost(rt: HostRuntime) -> Result<(), Fail> {
         area: 9,
         peak: 2,
     };
-    expect_totals(&rt, &rows, &visits, wanted);
-    Ok(())
-}
-
-#[test]
-fn a_node_without_visits_has_none(rt: HostRuntime) -> Result<(), Fail> {
-    let alloc = rt.alloc();
-    let rows = three_rows(alloc)?;
-    let visits = visits_of(alloc, &[], &[], &[])?;
-    let wanted = NodeTotals {
+    let none = NodeTotals {
         came: 0,
         left: 0,
         lost: 0,
@@ -147,108 +155,139 @@ fn a_node_without_visits_has_none(rt: HostRuntime) -> Result<(), Fail> {
         area: 0,
         peak: 0,
     };
-    expect_totals(&rt, &rows, &visits, wanted);
+    assert!(rt; server_has(alloc, &SERVED, &served)?);
+    assert!(rt; server_has(alloc, &LOST, &lost)?);
+    assert!(rt; server_has(alloc, &NO_VISITS, &none)?);
     Ok(())
 }
 
-#[test]
-fn a_stream_has_its_exit(rt: HostRuntime) -> Result<(), Fail> {
-    let alloc = rt.alloc();
+// Whether a stream of these rows has this exit.
+fn exit_is(rows: &Rows, stream: &Stream, wanted: Exit) -> bool {
+    let jobs = stream.job.as_slice();
+    if jobs.len() >= 10 || stream.time.len() != jobs.len() || !are_below(jobs, rows.time.len()) {
+        return false;
+    }
+    leaving(rows, stream) == wanted
+}
+
+// Whether the three jobs that leave at these times have this exit.
+fn jobs_leave(alloc: Global, times: &[u64], wanted: Exit) -> Result<bool, OutOfMemory> {
     let rows = three_rows(alloc)?;
     let stream = Stream {
         job: list(alloc, &[0u32, 1, 2])?,
-        time: list(alloc, &[4u64, 5, 8])?,
+        time: list(alloc, times)?,
     };
-    let wanted = Exit {
+    Ok(exit_is(&rows, &stream, wanted))
+}
+
+// The spans of a run of no node, of a server, and of a server and a node that loses a job at 9.
+fn spans(alloc: Global) -> Result<(u64, u64, u64), OutOfMemory> {
+    let lost = Columns {
+        job: &[9],
+        arrive: &[9],
+        found: &[0],
+        fate: &[Fate::Lost],
+    };
+    let mut run = List::new(alloc);
+    let none = span(&run);
+    run.push(visits_of(alloc, &SERVED)?)?;
+    let one = span(&run);
+    run.push(visits_of(alloc, &lost)?)?;
+    Ok((none, one, span(&run)))
+}
+
+#[test]
+fn a_run_has_its_exits_and_its_span(rt: HostRuntime) -> Result<(), Fail> {
+    let alloc = rt.alloc();
+    let exit = Exit {
         count: 3,
         sojourn: 14,
     };
-    expect_exit(&rt, &rows, &stream, wanted);
+    assert!(rt; jobs_leave(alloc, &[4, 5, 8], exit)?);
+    assert!(rt; spans(alloc)? == (0, 8, 9));
     Ok(())
 }
 
-#[test]
-fn a_run_has_its_span(rt: HostRuntime) -> Result<(), Fail> {
-    let alloc = rt.alloc();
-    let mut run = List::new(alloc);
-    assert_eq!(rt; span(&run), 0);
-    let fates = [Fate::Departs(4), Fate::Departs(5), Fate::Departs(8)];
-    run.push(visits_of(alloc, &[0, 1, 2], &[0, 1, 2], &fates)?)?;
-    assert_eq!(rt; span(&run), 8);
-    run.push(visits_of(alloc, &[9], &[0], &[Fate::Lost])?)?;
-    assert_eq!(rt; span(&run), 9);
-    Ok(())
+// Whether visits of these arrivals and fates found so many.
+fn visits_find(
+    alloc: Global,
+    arrive: &[u64],
+    fate: &[Fate],
+    wanted: &[u32],
+) -> Result<bool, OutOfMemory>
+    requires even { length fate.now ≡ length arrive.now }
+    requires few { length arrive.now ≤ 1048576 }
+    requires arrive { Rises (λ a b. a ≤ b) arrive.now }
+    requires fate { AllByRecursion (λ p. LeavesFrom p.0 p.1) (zip arrive.now fate.now) }
+{
+    let arrive = list(alloc, arrive)?;
+    let fate = list(alloc, fate)?;
+    let founds = found(alloc, &arrive, &fate)?;
+    Ok(founds.as_slice() == wanted)
 }
 
 #[test]
-fn those_who_leave_as_they_come_are_not_found(rt: HostRuntime) -> Result<(), Fail> {
+fn visits_find_those_who_are_there(rt: HostRuntime) -> Result<(), Fail> {
     let alloc = rt.alloc();
+    let at_once = [Fate::Departs(5), Fate::Departs(3), Fate::Departs(3)];
+    let lost = [Fate::Departs(9), Fate::Lost, Fate::Departs(3), Fate::Lost];
+    let overtaking = [
+        Fate::Departs(9),
+        Fate::Departs(4),
+        Fate::Departs(3),
+        Fate::Departs(4),
+        Fate::Departs(6),
+        Fate::Departs(8),
+    ];
+    assert!(rt; visits_find(alloc, &[0, 3, 3], &at_once, &[0, 1, 1])?);
+    assert!(rt; visits_find(alloc, &[0, 1, 2, 6], &lost, &[0, 1, 1, 1])?);
+    assert!(rt; visits_find(alloc, &[0, 1, 2, 4, 4, 7], &overtaking, &[0, 1, 2, 1, 1, 1])?);
+    Ok(())
+}
+
+// The lists of a table.
+#[derive(Clone, Copy)]
+struct Lists<'a> {
+    leaving: &'a [u64],
+    kept: &'a [u32],
+    still: &'a [u32],
+}
+
+fn table_has(table: &AheadTable, wanted: &Lists) -> bool {
+    table.leaving.as_slice() == wanted.leaving
+        && table.kept.as_slice() == wanted.kept
+        && table.still.as_slice() == wanted.still
+}
+
+// Whether the table of three visits is this, and those from the second on found so many.
+fn table_tells(alloc: Global, table: &Lists, wanted: &[u32]) -> Result<bool, OutOfMemory> {
     let arrive = list(alloc, &[0u64, 3, 3])?;
     let fate = list(
         alloc,
         &[Fate::Departs(5), Fate::Departs(3), Fate::Departs(3)],
     )?;
-    let founds = found(alloc, &arrive, &fate)?;
-    assert_eq!(rt; founds.as_slice(), [0, 1, 1].as_slice());
-    Ok(())
+    let ahead = ahead(alloc, &arrive, &fate)?;
+    let founds = found_piece(alloc, &arrive, &ahead, 1, 3)?;
+    Ok(table_has(&ahead, table) && founds.as_slice() == wanted)
 }
 
-#[test]
-fn lost_visits_are_not_found(rt: HostRuntime) -> Result<(), Fail> {
-    let alloc = rt.alloc();
-    let arrive = list(alloc, &[0u64, 1, 2, 6])?;
-    let fate = list(
-        alloc,
-        &[Fate::Departs(9), Fate::Lost, Fate::Departs(3), Fate::Lost],
-    )?;
-    let founds = found(alloc, &arrive, &fate)?;
-    assert_eq!(rt; founds.as_slice(), [0, 1, 1, 1].as_slice());
-    Ok(())
-}
-
-#[test]
-fn those_who_overtake_are_gone(rt: HostRuntime) -> Result<(), Fail> {
-    let alloc = rt.alloc();
-    let arrive = list(alloc, &[0u64, 1, 2, 4, 4, 7])?;
-    let fate = list(
-        alloc,
-        &[
-            Fate::Departs(9),
-            Fate::Departs(4),
-            Fate::Departs(3),
-            Fate::Departs(4),
-            Fate::Departs(6),
-            Fate::Departs(8),
-        ],
-    )?;
-    let founds = found(alloc, &arrive, &fate)?;
-    assert_eq!(rt; founds.as_slice(), [0, 1, 2, 1, 1, 1].as_slice());
-    Ok(())
-}
-
-#[test]
-fn a_piece_has_what_its_visits_found(rt: HostRuntime) -> Result<(), Fail> {
-    let alloc = rt.alloc();
-    let arrive = list(alloc, &[0u64, 3, 3])?;
-    let fate = list(
-        alloc,
-        &[Fate::Departs(5), Fate::Departs(3), Fate::Departs(3)],
-    )?;
-    let table = ahead(alloc, &arrive, &fate)?;
-    assert_eq!(rt; table.leaving.as_slice(), [3, 3, 5].as_slice());
-    assert_eq!(rt; table.kept.as_slice(), [0, 1, 2, 3].as_slice());
-    assert_eq!(rt; table.still.as_slice(), [0, 0, 1, 2].as_slice());
-    let founds = found_piece(alloc, &arrive, &table, 1, 3)?;
-    assert_eq!(rt; founds.as_slice(), [1, 1].as_slice());
-    Ok(())
-}
-
-#[test]
-fn a_piece_in_order_has_what_its_visits_found(rt: HostRuntime) -> Result<(), Fail> {
-    let alloc = rt.alloc();
+// Whether those from the third on of five visits that leave in order found so many.
+fn order_tells(alloc: Global, wanted: &[u32]) -> Result<bool, OutOfMemory> {
     let arrive = list(alloc, &[0u64, 1, 2, 5, 6])?;
     let departs = list(alloc, &[4u64, 5, 8, 9, 9])?;
     let founds = found_piece_in_order(alloc, &arrive, &departs, 2, 5)?;
-    assert_eq!(rt; founds.as_slice(), [2, 1, 2].as_slice());
+    Ok(founds.as_slice() == wanted)
+}
+
+#[test]
+fn pieces_have_what_their_visits_found(rt: HostRuntime) -> Result<(), Fail> {
+    let alloc = rt.alloc();
+    let table = Lists {
+        leaving: &[3, 3, 5],
+        kept: &[0, 1, 2, 3],
+        still: &[0, 0, 1, 2],
+    };
+    assert!(rt; table_tells(alloc, &table, &[1, 1])?);
+    assert!(rt; order_tells(alloc, &[2, 1, 2])?);
     Ok(())
 }

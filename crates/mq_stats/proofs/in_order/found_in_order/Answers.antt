@@ -1,8 +1,9 @@
 use Rattle.std.proofs.Common.{◌≡◌, suc, ◌+◌, ◌-◌, Some, ap, ◌∙◌, subst, arith, count_by, take}
 use Rattle.std.specs.Prelude.{slice_get}
 use Rattle.mq_core.specs.Columns.{departs_after}
-use Rattle.mq_stats.proofs.Founds.{founds-next, rises-at, stayed-next}
+use Rattle.mq_stats.proofs.Founds.{count-next, founds-next, rises-at}
 use Rattle.mq_stats.proofs.InOrder.{gone-later, there-behind}
+use Rattle.mq_stats.specs.Departures.{stays}
 use Rattle.mq_stats.proofs.in_order.found_in_order.Goals.{in-Departs, in_default}
 use Rattle.mq_stats.proofs.in_order.found_in_order.Goals as goal
 
@@ -26,8 +27,8 @@ loop-at-preserved c =
       len = omega arith;
       room = omega arith;
       stayed = elim c.match-get.branch [
-        | in-Departs w ↦ let more = stayed-next fates at _ (c.get-in-loop-at.ensures ∙ ap (λ x. Some x) w.in-Departs.is) in omega arith
-        | in_default w ↦ let more = stayed-next fates at _ (c.get-in-loop-at.ensures ∙ ap (λ x. Some x) w.in_default.is) in omega arith
+        | in-Departs w ↦ let more = count-next stays fates at _ (c.get-in-loop-at.ensures ∙ ap (λ x. Some x) w.in-Departs.is) in omega arith
+        | in_default w ↦ let more = count-next stays fates at _ (c.get-in-loop-at.ensures ∙ ap (λ x. Some x) w.in_default.is) in omega arith
       ];
       place = omega arith;
       departed = c.gone_by-gone.ensures.departed;

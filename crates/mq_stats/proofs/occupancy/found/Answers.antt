@@ -1,8 +1,8 @@
 use Rattle.std.proofs.Common.{◌≡◌, ◌-◌, ◌≤◌, ◌+◌, sym, ap, ◌∙◌, subst, arith, count_by, take}
 use Rattle.mq_core.specs.Columns.{departs_after}
-use Rattle.mq_stats.proofs.Founds.{told, founds-next, stayed-next, gone-next}
+use Rattle.mq_stats.proofs.Founds.{told, founds-next, count-next, gone-next}
 use Rattle.mq_stats.proofs.Ordered.{ascends}
-use Rattle.mq_stats.specs.Departures.{Ascends, is_gone}
+use Rattle.mq_stats.specs.Departures.{Ascends, is_gone, stays}
 use Rattle.mq_stats.proofs.occupancy.found.Goals as goal
 
 pub gone_by-gone-requires-clause-order : goal.gone_by-gone-requires-clause-order
@@ -26,7 +26,7 @@ loop-at-preserved c =
     let there : c.loop-at.stayed - c.gone_by-gone.result ≡ count_by (departs_after time) (take at fates) = omega arith in
     record {
       so_far = founds-next c.loop-at.found.items c.push_reserved.new.self.items _ arrives fates at time _ _ c.get.ensures c.get-in-loop-at.ensures there c.push_reserved.ensures.items c.loop-at.invariant.so_far;
-      stayed = (λ k. c.loop-at.invariant.stayed k + c.one_if_stays-stayed.ensures k) ∙ sym (stayed-next fates at _ c.get-in-loop-at.ensures);
+      stayed = (λ k. c.loop-at.invariant.stayed k + c.one_if_stays-stayed.ensures k) ∙ sym (count-next stays fates at _ c.get-in-loop-at.ensures);
       gone = λ later h. subst (λ n. n ≤ count_by (is_gone later (at + 1)) departures) (sym gone) (gone-next arrives departures at time later c.requires.arrive c.get.ensures h);
       len = omega arith;
       room = omega arith;

@@ -1,10 +1,11 @@
 use Rattle.std.proofs.Common.{◌≡◌, ◌+◌, ◌≤◌, refl, sym, ap, ◌∙◌, subst, arith, drop, get_or, take, map, length-set}
 use Rattle.std.proofs.lemmas.List.Sums.{count_by-le-length}
 use Rattle.std.specs.Prelude.{nat_le}
+use Rattle.std.proofs.lemmas.Option.{slice_get-get_or}
 use Rattle.mq_core.specs.Columns.{founds_from}
 use Rattle.mq_core.specs.declared.model.Fate.TheVariants.{Departs}
 use Rattle.mq_stats.proofs.Passing.{up_to}
-use Rattle.mq_stats.proofs.Telling.{fills-next, founds-start, left-on, slice-at}
+use Rattle.mq_stats.proofs.Telling.{fills-next, founds-start, left-on}
 use Rattle.mq_stats.proofs.pieces.fill_in_order.Goals as goal
 
 pub loop-place-init : goal.loop-place-init
@@ -30,7 +31,7 @@ loop-place-preserved c =
     let long = length-set c.loop-place.found c.loop-place.place c.saturating_sub.result in
     let most = count_by-le-length (λ t. nat_le t time) departs in
     record {
-      so_far = fills-next c.loop-place.found arrive departs _ c.args.first c.loop-place.place c.loop-place.left c.one_if_passed-passed.result c.saturating_sub.result time c.requires.departs c.requires.even c.loop-place-test.true (omega arith) (slice-at arrive at (omega arith)) c.saturating_sub.ensures passed.bit passed.least passed.most c.loop-place.invariant.so_far;
+      so_far = fills-next c.loop-place.found arrive departs _ c.args.first c.loop-place.place c.loop-place.left c.one_if_passed-passed.result c.saturating_sub.result time c.requires.departs c.requires.even c.loop-place-test.true (omega arith) (slice_get-get_or arrive at 0 (omega arith)) c.saturating_sub.ensures passed.bit passed.least passed.most c.loop-place.invariant.so_far;
       left = λ l. left-on arrive departs c.args.first c.loop-place.place c.loop-place.left c.one_if_passed-passed.result c.requires.arrive passed.bit passed.least (omega (arith, passed.bit));
       within = omega (arith, passed.bit);
       inside = omega (arith, passed.least);

@@ -1,0 +1,61 @@
+use Rattle.std.proofs.Common.{◌∙◌, ℕ, ◌+◌, ap, arith, count_by, length, take}
+use Rattle.std.specs.Prelude.{slice_get}
+use Rattle.std.specs.List.{zip}
+use Rattle.mq_core.specs.declared.model.Fate.{Fate}
+use Rattle.mq_stats.proofs.Founds.{count-next}
+use Rattle.mq_stats.proofs.Telling.{count-most, counts-next, one-longer, length-zip, zip-get}
+use Rattle.mq_stats.specs.Ahead.{leaves_at_once}
+use Rattle.mq_stats.specs.Departures.{stays}
+use Rattle.mq_stats.proofs.pieces.ahead_of.Goals as goal
+
+pub loop-at-preserved : goal.loop-at-preserved
+loop-at-preserved c =
+    let fates = c.args.fate.now in
+    let visits = zip c.args.arrive.now fates in
+    let once = λ (p : ℕ × Fate). leaves_at_once p.0 p.1 in
+    let at = c.loop-at.at in
+    let i = c.loop-at.invariant in
+    let stay = count-next stays fates at c.get.result.now c.get.ensures in
+    let go = count-next once visits at (c.get-in-loop-at.result.now, c.get-in-loop-at-2.result.now) (zip-get c.args.arrive.now fates at _ _ c.get-in-loop-at.ensures c.get-in-loop-at-2.ensures) in
+    let one = c.one_if_stays-stayed.ensures in
+    let other = c.one_if_at_once-at_once.ensures in
+    let kept = c.push_reserved-in-loop-at.ensures.items in
+    let still = c.push_reserved-in-loop-at-2.ensures.items in
+    let kept_longer = one-longer c.loop-at.kept.items _ _ kept in
+    let still_longer = one-longer c.loop-at.still.items _ _ still in
+    let few_stayed = count-most stays fates (at + 1) in
+    let few_at_once = count-most once visits (at + 1) in
+    record {
+      stayed = omega arith;
+      at_once = omega arith;
+      kept = counts-next c.loop-at.kept.items _ (λ k. count_by stays (take k fates)) at _ i.kept_many kept (omega arith) i.kept;
+      still = counts-next c.loop-at.still.items _ (λ k. count_by once (take k visits)) at _ i.still_many still (omega arith) i.still;
+      few_stayed = omega arith;
+      few_at_once = omega arith;
+      kept_many = omega arith;
+      still_many = omega arith;
+      kept_len = omega arith;
+      still_len = omega arith;
+      kept_room = omega arith;
+      still_room = omega arith;
+    }
+
+pub returns : goal.returns
+returns c =
+    let visits = length-zip c.args.arrive.now c.args.fate.now c.requires.even in
+    let kept = ap length c.from_vec.ensures in
+    let still = ap length c.from_vec-2.ensures in
+    let kept_many = c.loop-at.invariant.kept_many in
+    let still_many = c.loop-at.invariant.still_many in
+    record {
+      comings = record { even = c.requires.even; few = c.requires.few; rising = c.requires.arrive; later = c.requires.fate };
+      leaving = c.requires.leaving;
+      kept = record {
+        many = omega arith;
+        at_places = λ place l. ap (λ counts. slice_get counts place) c.from_vec.ensures ∙ c.loop-at.invariant.kept place (omega arith);
+      };
+      still = record {
+        many = omega arith;
+        at_places = λ place l. ap (λ counts. slice_get counts place) c.from_vec-2.ensures ∙ c.loop-at.invariant.still place (omega arith);
+      };
+    }
