@@ -9,7 +9,7 @@ ghost use Rattle.mq_core.specs.Recurrences.{delayed};
 
 use mq_base::{List, OutOfMemory};
 use mq_core::Stream;
-use mq_merge::{by_time, par_by_time};
+use mq_merge::par_by_time;
 use std::alloc::Global;
 use std::thread::Threads;
 
@@ -42,41 +42,42 @@ pub fn delay<R: Threads + Sync>(
     ensures leaving { IfOk result (λ d. pairs_of d.leaving ≡ by_first (zip d.departs stream.now.job)) }
     ensures times { IfOk result (λ d. d.leaving.time ≡ in_order_of (λ time. time) d.departs) }
 {
-    let departs = departures(alloc, &stream.time, demands)?;
-    let leaving = par_by_time(rt, alloc, &stream.job, &departs)?;
+    let departs = delay_departures(alloc, stream, demands)?;
+    let leaving = delay_leaving(rt, alloc, &stream.job, &departs)?;
     Ok(Delayed { departs, leaving })
 }
 
-/// The same, sorted on one thread.
-pub fn delay_alone(
+/// When each job leaves a delay, in ticks, by position: its demand, in ticks of service, after its
+/// arrival. There is one demand a job. It refuses for want of memory alone.
+pub fn delay_departures(
     alloc: Global,
     stream: &Stream,
     demands: &List<u64>,
-) -> Result<Delayed, OutOfMemory>
-    requires load { IsSoundLoad stream.now.time demands.now }
-    requires even { length stream.now.job ≡ length stream.now.time }
-    ensures departs { IfOk result (λ d. d.departs ≡ delayed stream.now.time demands.now) }
-    ensures stream { IfOk result (λ d. IsStream d.leaving) }
-    ensures leaving { IfOk result (λ d. pairs_of d.leaving ≡ by_first (zip d.departs stream.now.job)) }
-    ensures times { IfOk result (λ d. d.leaving.time ≡ in_order_of (λ time. time) d.departs) }
-{
-    let departs = departures(alloc, &stream.time, demands)?;
-    let leaving = by_time(alloc, &stream.job, &departs)?;
-    Ok(Delayed { departs, leaving })
-}
-
-// When each job leaves, by position.
-fn departures(
-    alloc: Global,
-    arrive: &List<u64>,
-    demands: &List<u64>,
 ) -> Result<List<u64>, OutOfMemory>
-    requires { IsSoundLoad arrive.now demands.now }
-    ensures { IfOk result (λ departs. departs ≡ delayed arrive.now demands.now) }
+    requires { IsSoundLoad stream.now.time demands.now }
+    ensures { IfOk result (λ departs. departs ≡ delayed stream.now.time demands.now) }
 {
-    let mut departs = Vec::with_capacity(alloc, arrive.len())?;
-    for at in 0..arrive.len() {
-        departs.push_reserved(*arrive.get(at) + *demands.get(at));
+    let mut departs = Vec::with_capacity(alloc, stream.time.len())?;
+    for at in 0..stream.time.len() {
+        departs.push_reserved(*stream.time.get(at) + *demands.get(at));
     }
     Ok(List::from_vec(departs))
+}
+
+/// The jobs of a delay as they leave: by departure, those of one departure by position. There is
+/// one departure a job, in ticks, by position. The order is that of a stable sort, in threads where
+/// they can be had. It refuses for want of memory alone.
+pub fn delay_leaving<R: Threads + Sync>(
+    rt: &R,
+    alloc: Global,
+    jobs: &List<u32>,
+    departs: &List<u64>,
+) -> Result<Stream, OutOfMemory>
+    requires { length jobs.now ≡ length departs.now }
+    ensures stream { IfOk result (λ leaving. IsStream leaving) }
+    ensures items { IfOk result (λ leaving. pairs_of leaving ≡ by_first (zip departs.now jobs.now)) }
+    ensures times { IfOk result (λ leaving. leaving.time ≡ in_order_of (λ time. time) departs.now) }
+{
+    let leaving = par_by_time(rt, alloc, jobs, departs)?;
+    Ok(leaving)
 }

@@ -168,6 +168,17 @@ blocks-few blocks = go (cases_lt blocks.n blocks.blocks)
         let b : blocks.n * 1 ≤ blocks.n * blocks.block = mul-le-mul_left blocks.n some in
         absurd (omega arith)
 
+-- nor more than 16,384, where they are long enough
+pub blocks-most : (blocks : Blocks) → blocks.n ≤ 16384 * blocks.block → blocks.blocks ≤ 16384
+blocks-most blocks long = go (cases_lt 16384 blocks.blocks)
+  where
+    go : (16384 < blocks.blocks) ⊎ (blocks.blocks ≤ 16384) → blocks.blocks ≤ 16384
+    go (inr few) = few
+    go (inl many) =
+        let more = blocks.none_more in
+        let a : blocks.block * 16385 ≤ blocks.block * blocks.blocks = mul-le-mul_left blocks.block (omega arith) in
+        absurd (omega arith)
+
 scan-few : (rows : Rows) (kind : Kind) (arrivals : Stream) (scan : Option Scan) → length arrivals.time ≤ 1048576 → IsScanOf rows kind arrivals scan → (blocks_of scan ≤ 1048576) × (applied_of scan ≤ 1048576)
 scan-few rows kind arrivals None few h = (omega arith, omega arith)
 scan-few rows kind arrivals (Some its) few h = let most = blocks-few its.blocks in let n = h.3 in (omega arith, omega arith)

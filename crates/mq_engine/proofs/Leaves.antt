@@ -1,11 +1,11 @@
 -- What leaves a station, and which of it is late.
 use Rattle.std.proofs.Common.{◌≡◌, ℕ, zero, suc, ◌+◌, ◌^◌, ◌<◌, ◌≤◌, All, Bool, true, false, cond, List, [], ◌∷◌, ◌++◌, length, drop, map, max, Option, Some, None, sym, refl, ap, ◌∙◌, subst, arith}
 use Rattle.std.specs.Prelude.{IsTrue, nat_lt, slice_get}
-use Rattle.std.specs.List.{AllByRecursion as Each, zip}
+use Rattle.std.specs.List.{AllByRecursion as Each}
 use Rattle.std.proofs.lemmas.Bool.Decides.{nat_tests}
 use Rattle.std.proofs.lemmas.List.{length-map}
 use Rattle.mq_base.proofs.Lists.{drop_suc}
-use Rattle.mq_core.specs.Columns.{IsSoundLoad, IsStream, column_fates, column_late_from, column_outs, column_stream, by_first, leaving_times, pairs_of, picked, stream_in_order, time_of_fate}
+use Rattle.mq_core.specs.Columns.{IsSoundLoad, IsStream, column_fates, column_late_from, column_outs, leaving_times, picked, time_of_fate}
 use Rattle.mq_core.specs.Kinds.Split.{routes_from}
 use Rattle.mq_core.specs.Recurrences.{lindley, delayed}
 use Rattle.mq_core.specs.Results.{Late, first_of, late_fate}
@@ -23,7 +23,7 @@ use Rattle.mq_core.specs.declared.model.Route.{Route}
 use Rattle.mq_core.specs.declared.model.Rows.{Rows}
 use Rattle.mq_core.specs.declared.model.Stream.{Stream}
 use Rattle.mq_split.specs.Outs.{AreParts, outs_from}
-use Rattle.mq_engine.specs.Turns.{AreStreams, IsLeaving, IsLoad, LeaveInTurn}
+use Rattle.mq_engine.specs.Turns.{AreLeft, IsLeaving, IsLoad, LeaveInTurn, left_by}
 use Rattle.mq_engine.proofs.Lists.{Each-get_or}
 
 -- a departure of each time is at that time
@@ -41,21 +41,21 @@ picked-all (j ∷ js) [] e = refl
 picked-all (j ∷ js) (i ∷ is) e = ap (λ l. i ∷ l) (picked-all js is (omega arith))
 
 pub one-stream : (rows : Rows) (kind : Kind) (arrivals : Stream) (departs : List ℕ) (streams : List Stream) → length arrivals.job ≡ length arrivals.time → outputs_in kind ≡ 1 → column_outs rows kind arrivals.job arrivals.time ≡ map (λ _. 0) arrivals.job → column_fates rows kind arrivals.job arrivals.time ≡ map (λ time. Departs time) departs →
-    length departs ≡ length arrivals.job → streams ≡ stream_in_order kind (record { job = arrivals.job; time = departs }) ∷ [] → AreStreams rows kind arrivals streams
+    length departs ≡ length arrivals.job → streams ≡ record { job = arrivals.job; time = departs } ∷ [] → AreLeft rows kind arrivals streams
 one-stream rows kind arrivals departs streams same one outs fates even e =
     record {
       count = ap length e ∙ sym one;
       each = λ out l. ap (λ (s : List Stream). slice_get s out) e ∙ only out (subst (λ n. out < n) one l);
     }
   where
-    stream : column_stream rows kind arrivals.job arrivals.time 0 ≡ stream_in_order kind (record { job = arrivals.job; time = departs })
+    stream : left_by rows kind arrivals 0 ≡ record { job = arrivals.job; time = departs }
     stream =
         let jobs : picked 0 (column_outs rows kind arrivals.job arrivals.time) arrivals.job ≡ arrivals.job = ap (λ l. picked 0 l arrivals.job) outs ∙ picked-all arrivals.job arrivals.job refl in
         let times : picked 0 (column_outs rows kind arrivals.job arrivals.time) (leaving_times arrivals.time (column_fates rows kind arrivals.job arrivals.time)) ≡ departs =
         (λ k. picked 0 (outs k) (leaving_times arrivals.time (fates k))) ∙ (ap (picked 0 (map (λ _. 0) arrivals.job)) (times-back arrivals.time departs (even ∙ same)) ∙ picked-all arrivals.job departs even) in
-        λ k. stream_in_order kind (record { job = jobs k; time = times k })
+        λ k. record { job = jobs k; time = times k }
 
-    only : (out : ℕ) → out < 1 → slice_get (stream_in_order kind (record { job = arrivals.job; time = departs }) ∷ []) out ≡ Some (column_stream rows kind arrivals.job arrivals.time out)
+    only : (out : ℕ) → out < 1 → slice_get {X = Stream} (record { job = arrivals.job; time = departs } ∷ []) out ≡ Some (left_by rows kind arrivals out)
     only zero l = ap Some (sym stream)
     only (suc out) l = absurd (omega arith)
 
@@ -64,7 +64,7 @@ outs-routes : (rows : Rows) (route : Route) (position : ℕ) (jobs : List ℕ) �
 outs-routes rows route position [] = refl
 outs-routes rows route position (j ∷ js) = ap (λ l. output_by rows route j position ∷ l) (outs-routes rows route (suc position) js)
 
-pub split-streams : (rows : Rows) (route : Route) (arrivals : Stream) (values : List ℕ) (streams : List Stream) → IsStream arrivals → values ≡ map (route_value rows route) arrivals.job → AreParts route arrivals values streams → AreStreams rows (Split route) arrivals streams
+pub split-streams : (rows : Rows) (route : Route) (arrivals : Stream) (values : List ℕ) (streams : List Stream) → IsStream arrivals → values ≡ map (route_value rows route) arrivals.job → AreParts route arrivals values streams → AreLeft rows (Split route) arrivals streams
 split-streams rows route arrivals values streams s e h =
     record {
       count = h.count;
@@ -74,7 +74,7 @@ split-streams rows route arrivals values streams s e h =
     outs : outs_from route 0 values ≡ routes_from rows route 0 arrivals.job
     outs = ap (outs_from route 0) e ∙ outs-routes rows route 0 arrivals.job
 
-    part : (out : ℕ) → record { job = picked out (outs_from route 0 values) arrivals.job; time = picked out (outs_from route 0 values) arrivals.time } ≡ column_stream rows (Split route) arrivals.job arrivals.time out
+    part : (out : ℕ) → record { job = picked out (outs_from route 0 values) arrivals.job; time = picked out (outs_from route 0 values) arrivals.time } ≡ left_by rows (Split route) arrivals out
     part out = λ k. record { job = picked out (outs k) arrivals.job; time = picked out (outs k) (sym (times-back arrivals.time arrivals.time refl) k) }
 
 -- the recurrence of a server
@@ -152,32 +152,17 @@ serves rows demand arrivals fates demands departs streams s m d turn =
 pub splits : (rows : Rows) (route : Route) (arrivals : Stream) (fates : List Fate) (values : List ℕ) (streams : List Stream) → IsStream arrivals → values ≡ map (route_value rows route) arrivals.job → fates ≡ map (λ time. Departs time) arrivals.time → AreParts route arrivals values streams → IsLeaving rows (Split route) arrivals fates streams
 splits rows route arrivals fates values streams s v f h = record { leave = f; outflow = split-streams rows route arrivals values streams s v h }
 
--- a stream is told by its pairs
-jobs-back : (times jobs : List ℕ) → length jobs ≡ length times → map (λ (p : ℕ × ℕ). p.1) (zip times jobs) ≡ jobs
-jobs-back [] [] e = refl
-jobs-back [] (j ∷ js) e = absurd (omega arith)
-jobs-back (t ∷ ts) [] e = absurd (omega arith)
-jobs-back (t ∷ ts) (j ∷ js) e = ap (λ l. j ∷ l) (jobs-back ts js (omega arith))
-
-moments-back : (times jobs : List ℕ) → length jobs ≡ length times → map (λ (p : ℕ × ℕ). p.0) (zip times jobs) ≡ times
-moments-back [] [] e = refl
-moments-back [] (j ∷ js) e = absurd (omega arith)
-moments-back (t ∷ ts) [] e = absurd (omega arith)
-moments-back (t ∷ ts) (j ∷ js) e = ap (λ l. t ∷ l) (moments-back ts js (omega arith))
-
 delayed-length : (arrives demands : List ℕ) → length demands ≡ length arrives → length (delayed arrives demands) ≡ length arrives
 delayed-length [] demands e = refl
 delayed-length (a ∷ rest) [] e = absurd (omega arith)
 delayed-length (a ∷ rest) (d ∷ ds) e = ap suc (delayed-length rest ds (omega arith))
 
-pub holds : (rows : Rows) (demand : Demand) (arrivals : Stream) (fates : List Fate) (demands departs : List ℕ) (leaving : Stream) (streams : List Stream) → IsStream arrivals → demands ≡ map (demand_of_job rows demand) arrivals.job → departs ≡ delayed arrivals.time demands → fates ≡ map (λ time. Departs time) departs →
-    IsStream leaving → pairs_of leaving ≡ by_first (zip departs arrivals.job) → streams ≡ leaving ∷ [] → IsLeaving rows (Delay demand) arrivals fates streams
-holds rows demand arrivals fates demands departs leaving streams s m d f stream pairs e =
+pub delays : (rows : Rows) (demand : Demand) (arrivals : Stream) (fates : List Fate) (demands departs : List ℕ) (streams : List Stream) → IsStream arrivals → demands ≡ map (demand_of_job rows demand) arrivals.job → departs ≡ delayed arrivals.time demands →
+    LeaveInTurn arrivals.job departs fates streams → IsLeaving rows (Delay demand) arrivals fates streams
+delays rows demand arrivals fates demands departs streams s m d turn =
     let by : departs ≡ delayed arrivals.time (map (demand_of_job rows demand) arrivals.job) = d ∙ ap (delayed arrivals.time) m in
     let even : length (map (demand_of_job rows demand) arrivals.job) ≡ length arrivals.time = length-map arrivals.job _ ∙ s.even in
-    let job : leaving.job ≡ map (λ (p : ℕ × ℕ). p.1) (by_first (zip departs arrivals.job)) = sym (jobs-back leaving.time leaving.job stream.even) ∙ ap (map (λ (p : ℕ × ℕ). p.1)) pairs in
-    let time : leaving.time ≡ map (λ (p : ℕ × ℕ). p.0) (by_first (zip departs arrivals.job)) = sym (moments-back leaving.time leaving.job stream.even) ∙ ap (map (λ (p : ℕ × ℕ). p.0)) pairs in
     record {
-      leave = f ∙ ap (map (λ time. Departs time)) by;
-      outflow = one-stream rows (Delay demand) arrivals departs streams s.even refl refl (ap (map (λ time. Departs time)) (sym by)) (ap length by ∙ (delayed-length arrivals.time _ even ∙ sym s.even)) (e ∙ (λ k. record { job = job k; time = time k } ∷ []));
+      leave = turn.fate ∙ ap (map (λ time. Departs time)) by;
+      outflow = one-stream rows (Delay demand) arrivals departs streams s.even refl refl (ap (map (λ time. Departs time)) (sym by)) (ap length by ∙ (delayed-length arrivals.time _ even ∙ sym s.even)) turn.stream;
     }

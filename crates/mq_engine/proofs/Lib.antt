@@ -1,6 +1,7 @@
 pub mod Lists
 pub mod Sorted
 pub mod Leaves
+pub mod Leavings
 pub mod Passing
 pub mod LossFates
 pub mod StageFacts

@@ -6,7 +6,7 @@ use Rattle.std.proofs.lemmas.Bool.Decides.{nat_tests}
 use Rattle.std.proofs.lemmas.List.{append-nil, drop_all, length-map}
 use Rattle.mq_base.proofs.Lists.{drop_suc}
 use Rattle.mq_core.specs.ColumnLaws.{FatesAreInTime}
-use Rattle.mq_core.specs.Columns.{column_fates, column_stream, leaving_times, picked}
+use Rattle.mq_core.specs.Columns.{column_fates, leaving_times, picked}
 use Rattle.mq_core.specs.Kinds.Loss.{out_of_fate}
 use Rattle.mq_core.specs.Handling.{demand_of_job}
 use Rattle.mq_core.specs.Recurrences.{loss_fates}
@@ -22,7 +22,7 @@ use Rattle.mq_core.specs.declared.model.Stream.{Stream}
 use Rattle.mq_loss.specs.Rounds.{IsSettled, admits, departures_in}
 use Rattle.mq_loss.specs.declared.answer.Settled.{Settled}
 use Rattle.mq_engine.specs.Losses.{AreAdmittedAndLost, fates_by, out_of_admission}
-use Rattle.mq_engine.specs.Turns.{IsLeaving}
+use Rattle.mq_engine.specs.Turns.{IsLeaving, left_by}
 
 -- one arrival further: one that is admitted takes the next departure
 pub fates-yes : (done done' all : List Fate) (admitted : List Bool) (departs : List ℕ) (at next time : ℕ) → slice_get admitted at ≡ Some true → slice_get departs next ≡ Some time → done' ≡ done ++ Departs time ∷ [] →
@@ -197,18 +197,18 @@ loses law rows places demand arrivals demands settled fates streams even m s f e
     departs : settled.departs ≡ picked 0 (map out_of_fate those) (leaving_times arrivals.time those)
     departs = s.departs ∙ (ap departures_in same ∙ sym (admitted-leave arrivals.time those many))
 
-    first : ◌≡◌ {A = Stream} (record { job = picked 0 (map out_of_admission settled.admitted) arrivals.job; time = settled.departs }) (column_stream rows (Loss places demand) arrivals.job arrivals.time 0)
+    first : ◌≡◌ {A = Stream} (record { job = picked 0 (map out_of_admission settled.admitted) arrivals.job; time = settled.departs }) (left_by rows (Loss places demand) arrivals 0)
     first = λ k. record { job = picked 0 (outs k) arrivals.job; time = departs k }
 
     lost : picked 1 (map out_of_admission settled.admitted) arrivals.time ≡ picked 1 (map out_of_fate those) (leaving_times arrivals.time those)
     lost = ap (λ (os : List ℕ). picked 1 os arrivals.time) outs ∙ sym (lost-leave arrivals.time those)
 
-    second : ◌≡◌ {A = Stream} (record { job = picked 1 (map out_of_admission settled.admitted) arrivals.job; time = picked 1 (map out_of_admission settled.admitted) arrivals.time }) (column_stream rows (Loss places demand) arrivals.job arrivals.time 1)
+    second : ◌≡◌ {A = Stream} (record { job = picked 1 (map out_of_admission settled.admitted) arrivals.job; time = picked 1 (map out_of_admission settled.admitted) arrivals.time }) (left_by rows (Loss places demand) arrivals 1)
     second = λ k. record { job = picked 1 (outs k) arrivals.job; time = lost k }
 
     at : (out : ℕ) → out < 2 →
         slice_get (record { job = picked 0 (map out_of_admission settled.admitted) arrivals.job; time = settled.departs } ∷ record { job = picked 1 (map out_of_admission settled.admitted) arrivals.job; time = picked 1 (map out_of_admission settled.admitted) arrivals.time } ∷ []) out
-        ≡ Some (column_stream rows (Loss places demand) arrivals.job arrivals.time out)
+        ≡ Some (left_by rows (Loss places demand) arrivals out)
     at zero l = ap Some first
     at (suc zero) l = ap Some second
     at (suc (suc out)) l = absurd (omega arith)

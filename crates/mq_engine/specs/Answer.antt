@@ -1,8 +1,6 @@
 -- What a run answers.
-use Rattle.std.specs.Prelude.{◌≡◌, ℕ, List, Some}
-use Rattle.mq_core.specs.Columns.{column_late_from}
-use Rattle.mq_core.specs.Results.{Late, first_of, past_of}
-use Rattle.mq_core.specs.declared.model.Fate.{Fate}
+use Rattle.std.specs.Prelude.{◌≡◌, Some}
+use Rattle.mq_core.specs.Results.{Late, past_of}
 use Rattle.mq_core.specs.declared.model.Plan.{Plan}
 use Rattle.mq_core.specs.declared.model.Rows.{Rows}
 use Rattle.mq_engine.specs.declared.fault.PastFault.{PastFault}
@@ -17,8 +15,3 @@ late_told fault = record { node = fault.node; position = fault.position; time = 
 abbrev pub IsCause : Plan → Rows → RunFault → Type 0
 IsCause plan rows (Past fault) = past_of plan rows ≡ Some (late_told fault)
 IsCause plan rows Memory = Unit {0}
-
--- a fault names the first of these visits to a node that departs after the bound, or memory ran out
-abbrev pub IsLateIn : ℕ → ℕ → List Fate → RunFault → Type 0
-IsLateIn bound node fates (Past fault) = first_of (column_late_from bound node 0 fates) ≡ Some (late_told fault)
-IsLateIn bound node fates Memory = Unit {0}

@@ -1,5 +1,5 @@
 -- What comes to the nodes that are ready, and what the pieces of a round are.
-use Rattle.std.specs.Prelude.{◌≡◌, ◌+◌, ◌-◌, ◌*◌, ℕ, List, Contains, length, map, min, Option, Some, None, slice_get}
+use Rattle.std.specs.Prelude.{◌≡◌, ◌≤◌, ◌+◌, ◌-◌, ◌*◌, ℕ, List, Contains, length, map, min, Option, Some, None, slice_get}
 use Rattle.mq_core.specs.ColumnLaws.{arrives_of, jobs_of}
 use Rattle.mq_core.specs.Columns.{column_fates, column_late_from, founds_of}
 use Rattle.mq_core.specs.Handling.{demand_of_job}
@@ -46,11 +46,11 @@ pub record IsArrived (plan : Plan) (rows : Rows) (v : ℕ) (arrivals : Stream) :
   pub job : arrivals.job ≡ jobs_of ((run_of plan rows).stations v).visits
   pub time : arrivals.time ≡ arrives_of ((run_of plan rows).stations v).visits
 
--- a scan is that of a server, over all its arrivals and what they ask for
+-- a scan is that of a server, over all its arrivals and what they ask for, in 16,384 blocks at most
 abbrev pub IsScanOf : Rows → Kind → Stream → Option Scan → Type 0
 IsScanOf rows kind arrivals None = Unit {0}
 IsScanOf rows kind arrivals (Some scan) =
-    (demand : Demand) × (kind ≡ Server demand) × (scan.demands ≡ map (demand_of_job rows demand) arrivals.job) × (scan.blocks.n ≡ length arrivals.time)
+    (demand : Demand) × (kind ≡ Server demand) × (scan.demands ≡ map (demand_of_job rows demand) arrivals.job) × (scan.blocks.n ≡ length arrivals.time) × (scan.blocks.blocks ≤ 16384)
 
 -- what comes to a node is what comes in the run, and it can be worked on
 pub record IsLoaded (plan : Plan) (rows : Rows) (v : ℕ) (arrivals : Stream) (scan : Option Scan) : Type 0 where
@@ -136,7 +136,7 @@ abbrev pub closings_of : Exit → ℕ
 closings_of (Known after) = 0
 closings_of (Served departs) = 3
 
--- A last piece: the fates of these departures, none of them late, or the first that is; how many each found; or the jobs
+-- a last piece: the fates of these departures, none of them late, or the first that is; how many each found; or the jobs
 abbrev pub IsShut : Plan → Rows → ℕ → Stream → List ℕ → ℕ → Closed → Type 0
 IsShut plan rows v arrivals departs b (Fates fates) =
     (b ≡ 0) × (fates ≡ map (λ time. Departs time) departs)

@@ -1,7 +1,7 @@
 -- What one turn of the engine makes of a node, in columns alone.
 use Rattle.std.specs.Prelude.{◌≡◌, ◌<◌, ◌≤◌, ◌^◌, ℕ, IsTrue, if◌then◌else◌, List, [], ◌∷◌, length, map, Option, Some, None, slice_get}
 use Rattle.std.specs.List.{AllByRecursion, flat_map}
-use Rattle.mq_core.specs.Columns.{IsStream, pairs_of, rows_at, column_fates, column_stream, column_visits}
+use Rattle.mq_core.specs.Columns.{IsStream, pairs_of, rows_at, column_fates, column_outs, column_stream, column_visits, leaving_times, picked}
 use Rattle.mq_core.specs.PlanLaws.{Tells}
 use Rattle.mq_core.specs.Sound.{is_sound_kind, outputs_in}
 use Rattle.mq_core.specs.Wiring.{is_source_kind}
@@ -62,10 +62,24 @@ pub record AreStreams (rows : Rows) (kind : Kind) (arrivals : Stream) (streams :
   pub count : length streams ≡ outputs_in kind
   pub each : (out : ℕ) → out < outputs_in kind → slice_get streams out ≡ Some (column_stream rows kind arrivals.job arrivals.time out)
 
--- what leaves a station: the fate of each arrival, and the streams by output
+-- what leaves by an output, by position: at a delay it is not in the order of leaving yet
+abbrev pub left_by : Rows → Kind → Stream → ℕ → Stream
+left_by rows kind arrivals out =
+    let outs = column_outs rows kind arrivals.job arrivals.time in
+    record {
+      job = picked out outs arrivals.job;
+      time = picked out outs (leaving_times arrivals.time (column_fates rows kind arrivals.job arrivals.time));
+    }
+
+-- what leaves by each output, by position
+pub record AreLeft (rows : Rows) (kind : Kind) (arrivals : Stream) (streams : List Stream) : Type 0 where
+  pub count : length streams ≡ outputs_in kind
+  pub each : (out : ℕ) → out < outputs_in kind → slice_get streams out ≡ Some (left_by rows kind arrivals out)
+
+-- what leaves a station: the fate of each arrival, and what leaves by each output, by position
 pub record IsLeaving (rows : Rows) (kind : Kind) (arrivals : Stream) (fates : List Fate) (streams : List Stream) : Type 0 where
   pub leave : fates ≡ column_fates rows kind arrivals.job arrivals.time
-  pub outflow : AreStreams rows kind arrivals streams
+  pub outflow : AreLeft rows kind arrivals streams
 
 -- what leaves by one output, where these jobs depart at these times and keep their order
 pub record LeaveInTurn (jobs departs : List ℕ) (fates : List Fate) (streams : List Stream) : Type 0 where

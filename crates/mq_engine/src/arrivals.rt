@@ -1,3 +1,4 @@
+// What comes to a node: the rows of a source, or the streams that ports read, merged.
 ghost use Rattle.std.specs.Prelude.{◌≡◌, ◌==◌, ◌<◌, ◌≤◌, ℕ, count_by, length, IfOk, IsTrue, Some, slice_get};
 ghost use Rattle.std.specs.List.{flat_map};
 ghost use Rattle.mq_core.specs.Columns.{IsStream, by_first, pairs_of, rows_at};

@@ -17,33 +17,34 @@ use mq_core::{Fate, Stream};
 use mq_crew::Pieces;
 use mq_stats::found_piece_in_order;
 use std::alloc::Global;
+use std::thread::Threads;
 
-// What is known of a station when all its jobs have left.
+/// What is known of a station when all its jobs have left.
 #[derive(Drop)]
 pub enum Exit {
-    // All.
+    /// All.
     Known(After),
-    // When its jobs depart, in their order.
+    /// When its jobs depart, in their order.
     Served(List<u64>),
 }
 
-// A station whose departures are known.
+/// A station whose departures are known.
 #[derive(Drop)]
 pub struct Leaving<'a> {
     pub load: Load<'a>,
     pub exit: Exit,
 }
 
-// A last piece of a station: each is a list of its own, which a worker makes whole.
+/// A last piece of a station: each is a list of its own, which a worker makes whole.
 #[derive(Drop)]
 pub enum Closed {
-    // The fates: none departs after the bound.
+    /// The fates: none departs after the bound.
     Fates(List<Fate>),
-    // The first that departs after the bound.
+    /// The first that departs after the bound.
     Over(PastFault),
-    // How many each found.
+    /// How many each found.
     Found(List<u32>),
-    // The jobs, which leave in their order.
+    /// The jobs, which leave in their order.
     Jobs(List<u32>),
 }
 
@@ -118,7 +119,12 @@ fn found_in_turn(alloc: Global, load: &Load, departs: &List<u64>) -> Result<List
 }
 
 // The turn of a station, of its last pieces where it has some.
-pub fn turn_of(alloc: Global, leaving: Leaving, group: List<Closed>) -> Result<Turn, OutOfMemory>
+pub fn turn_of<R: Threads + Sync>(
+    rt: &R,
+    alloc: Global,
+    leaving: Leaving,
+    group: List<Closed>,
+) -> Result<Turn, OutOfMemory>
     requires ready { IsReadyExit leaving }
     requires group { AreAll (λ b closed. IsClosed leaving.load.plan.now leaving.load.rows.now leaving.load.number leaving.load.arrivals leaving.exit b closed) (closings_of leaving.exit) group }
     ensures number { IfOk result (λ turn. turn.number ≡ leaving.entry.load.number) }
@@ -132,13 +138,15 @@ pub fn turn_of(alloc: Global, leaving: Leaving, group: List<Closed>) -> Result<T
     };
     let kind = &load.plan.net.nodes.get(load.number as usize).kind;
     let ending = ending_of(
+        rt,
+        alloc,
         &load.plan.net,
         load.rows,
         kind,
         load.number,
         load.arrivals,
         after,
-    );
+    )?;
     Ok(Turn {
         number: load.number,
         ending,

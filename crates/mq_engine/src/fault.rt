@@ -1,3 +1,4 @@
+// Why there is no run.
 ghost use Rattle.std.specs.Prelude.{◌≡◌};
 ghost use Rattle.mq_engine.specs.declared.fault.RunFault.TheVariants.{Memory};
 

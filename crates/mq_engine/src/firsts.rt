@@ -21,21 +21,21 @@ use mq_scan::{carries, summarise};
 use mq_server::ServerStep;
 use std::alloc::Global;
 
-// A first piece of a station.
+/// A first piece of a station.
 #[derive(Drop)]
 pub enum Part {
-    // All of it.
+    /// All of it.
     Whole(After),
-    // What the jobs of a block do together.
+    /// What the jobs of a block do together.
     Sum(Affine),
 }
 
-// What is known of a station after its first pieces.
+/// What is known of a station after its first pieces.
 #[derive(Drop)]
 pub enum Stage {
-    // All of it.
+    /// All of it.
     Ended(After),
-    // The carry before each block.
+    /// The carry before each block.
     Before(List<Mp>),
 }
 

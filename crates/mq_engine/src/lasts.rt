@@ -20,7 +20,7 @@ use mq_scan::times;
 use mq_server::ServerStep;
 use std::alloc::Global;
 
-// A station after its first pieces.
+/// A station after its first pieces.
 #[derive(Drop)]
 pub struct Middle<'a> {
     pub load: Load<'a>,

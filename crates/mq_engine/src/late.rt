@@ -1,3 +1,4 @@
+// The first visit to a node that departs after the bound.
 ghost use Rattle.std.specs.Prelude.{◌≡◌, ◌≤◌, length};
 ghost use Rattle.std.specs.Option.{option_map};
 ghost use Rattle.mq_core.specs.Columns.{column_late_from};

@@ -1,3 +1,4 @@
+// The laws of runs that the engine rests on.
 ghost use Rattle.mq_engine.specs.CoreLaws.{CoreLaws};
 
 use mq_core::{

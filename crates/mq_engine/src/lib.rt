@@ -1,4 +1,4 @@
-//! The engine: a run of a network, node by node in order of rank.
+//! The engine: a run of a network, in rounds over the nodes whose inputs are done.
 #![tactic(auto)]
 
 ghost use Rattle.std.specs.Prelude.{◌≡◌, ◌≤◌, [], filter, IfErr, IfOk, None};
@@ -42,9 +42,14 @@ use std::thread::Threads;
 ///
 /// Each node is worked out alone, behind all that it reads: its arrivals are the rows of a source by
 /// time, or the streams that its ports read, merged by time and then port; the recurrence of its
-/// kind gives the departures. It refuses a run in which a visit departs after the bound, and names
-/// the first such visit by rank of the node and then position. Else it refuses for want of memory
-/// alone.
+/// kind gives the departures. All nodes whose inputs are done are worked out in one round, by 1 to 64
+/// workers that draw pieces; a server with more jobs than a block is cut into blocks of at least that
+/// many jobs, 16,384 at most, and scanned (Greenberg, Lubachevsky and Mitrani 1991). The gate is
+/// entered with each piece that is drawn. The run is the same for all workers, blocks and gates.
+///
+/// It refuses a run in which a visit departs after the bound, and names the first such visit by rank
+/// of the node and then position; nodes behind one with such a visit are left out. Else it refuses
+/// for want of memory alone.
 pub fn run<R: Threads + Sync, G: Gate>(
     rt: &R,
     alloc: Global,

@@ -13,30 +13,31 @@ use crate::outflow::demands_of;
 use mq_base::{List, OutOfMemory};
 use mq_core::{Demand, Kind, Network, Plan, Rows, Stream};
 use mq_crew::Pieces;
+use mq_pass::block_size;
 use mq_scan::{Blocks, cut};
 use std::alloc::Global;
 
-// What comes to a node, and how its station is scanned.
+/// What comes to a node, and how its station is scanned.
 #[derive(Drop)]
 pub struct Load<'a> {
     pub plan: &'a Plan,
     pub rows: &'a Rows,
-    // The node, by order of declaration.
+    /// The node, by order of declaration.
     pub number: u32,
     pub arrivals: Stream,
-    // Where there is none, the station is one whole piece.
+    /// Where there is none, the station is one whole piece.
     pub scan: Option<Scan>,
 }
 
-// How a station is scanned, block by block.
+/// How a station is scanned, block by block.
 #[derive(Drop)]
 pub struct Scan {
-    // What each job asks for, in ticks.
+    /// What each job asks for, in ticks.
     pub demands: List<u64>,
     pub blocks: Blocks,
 }
 
-// The nodes that are ready, and the streams of those that are done.
+/// The nodes that are ready, and the streams of those that are done.
 #[derive(Clone, Copy)]
 pub struct Arriving<'a> {
     pub plan: &'a Plan,
@@ -99,17 +100,9 @@ fn scan_of(
     match kind {
         Kind::Server(demand) if size > block => {
             let demands = demands_of(alloc, net, rows, demand, &arrivals.job)?;
-            let blocks = cut(size, block_of(size, block));
+            let blocks = cut(size, block_size(size, block));
             Ok(Some(Scan { demands, blocks }))
         }
         _ => Ok(None),
     }
-}
-
-// How many jobs a block has: as many as this, and so many that there are at most 16,384 blocks.
-fn block_of(size: u32, block: u32) -> u32
-    requires { 1 ≤ block }
-    ensures { 1 ≤ result }
-{
-    block.max(size.div_ceil(16384))
 }

@@ -36,7 +36,7 @@ pub fn loss_outflow(
     // What comes takes the room that they had.
     drop(demands);
     let departs = settled.departs;
-    let fates = fates_of(alloc, &settled.admitted, &departs)?;
+    let fates = fates_by_admission(alloc, &settled.admitted, &departs)?;
     let streams = streams_of(alloc, arrivals, &settled.admitted, departs)?;
     Ok(Outflow { fates, streams })
 }
@@ -63,7 +63,7 @@ fn settled<L: Ledger>(
 // The fate of each arrival.
 // Not inlined, like the one below, so that its loop has the registers to itself.
 #[inline(never)]
-fn fates_of(
+fn fates_by_admission(
     alloc: Global,
     admitted: &List<bool>,
     departs: &List<u64>,

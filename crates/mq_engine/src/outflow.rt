@@ -9,7 +9,7 @@ use mq_base::{List, OutOfMemory};
 use mq_core::{Demand, Fate, Network, Rows, Stream, demand_of};
 use std::alloc::Global;
 
-// What leaves a station: the fate of each arrival, and the streams by output.
+/// What leaves a station: the fate of each arrival, and by output the jobs and times by position.
 #[derive(Drop)]
 pub struct Outflow {
     pub fates: List<Fate>,

@@ -13,18 +13,18 @@ use mq_base::{List, OutOfMemory};
 use mq_core::{Input, Node, Plan, Stream, Visits};
 use std::alloc::Global;
 
-// What stands at a node.
+/// What stands at a node.
 #[derive(Clone, Copy)]
 pub enum Stand {
-    // It is not worked out yet.
+    /// It is not worked out yet.
     Waiting,
-    // Its columns are there.
+    /// Its columns are there.
     Done,
-    // Its first visit that departs after the bound. Nodes behind it are left out.
+    /// Its first visit that departs after the bound. Nodes behind it are left out.
     Late(PastFault),
 }
 
-// What is worked out so far, by node.
+/// What is worked out so far, by node.
 #[derive(Drop)]
 pub struct Progress {
     pub visits: Vec<Visits>,

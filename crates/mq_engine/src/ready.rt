@@ -44,7 +44,7 @@ pub fn turns_of<R: Threads + Sync, G: Gate>(
     let groups = run_parts(rt, alloc, workers, middles.as_slice(), gate)?;
     let leavings = leavings_of(alloc, middles, groups)?;
     let groups = run_parts(rt, alloc, workers, leavings.as_slice(), gate)?;
-    ended(alloc, leavings, groups)
+    ended(rt, alloc, leavings, groups)
 }
 
 // The stations after their first pieces.
@@ -99,7 +99,8 @@ fn leavings_of<'a>(
 }
 
 // The turns of the stations, of their last pieces where they have one.
-fn ended(
+fn ended<R: Threads + Sync>(
+    rt: &R,
     alloc: Global,
     leavings: List<Leaving>,
     groups: List<List<Closed>>,
@@ -116,7 +117,7 @@ fn ended(
         let Some(group) = groups.pop() else {
             unreachable!()
         };
-        turns.push(turn_of(alloc, leaving, group)?)?;
+        turns.push(turn_of(rt, alloc, leaving, group)?)?;
     }
     Ok(turns)
 }

@@ -8,11 +8,11 @@ ghost use Rattle.mq_core.specs.declared.model.Rows.{Rows as TheRows};
 ghost use Rattle.mq_engine.specs.Turns.{AreTold, IsLeaving, IsLoad};
 
 use crate::losses::loss_outflow;
-use crate::outflow::{Outflow, demands_of, fates_of, in_turn, only};
+use crate::outflow::{Outflow, demands_of, fates_of, in_turn};
 use crate::series::{forkjoin_outflow, tandem_outflow};
 use mq_base::{List, OutOfMemory};
 use mq_core::{Demand, Kind, Network, Route, Rows, Stream, demand_of};
-use mq_delay::delay_alone;
+use mq_delay::delay_departures;
 use mq_server::departures;
 use mq_split::split;
 use std::alloc::Global;
@@ -67,7 +67,7 @@ fn server_outflow(
     in_turn(alloc, arrivals, departs)
 }
 
-// What leaves a delay.
+// What leaves a delay, by position.
 fn delay_outflow(
     alloc: Global,
     net: &Network,
@@ -79,10 +79,9 @@ fn delay_outflow(
     ensures { IfOk result (λ leaving. IsLeaving rows.now (Kind.Delay demand.now) arrivals.now leaving.fates leaving.streams) }
 {
     let demands = demands_of(alloc, net, rows, demand, &arrivals.job)?;
-    let delayed = delay_alone(alloc, arrivals, &demands)?;
-    let fates = fates_of(alloc, &delayed.departs)?;
-    let streams = only(alloc, delayed.leaving)?;
-    Ok(Outflow { fates, streams })
+    let departs = delay_departures(alloc, arrivals, &demands)?;
+    drop(demands);
+    in_turn(alloc, arrivals, departs)
 }
 
 // What leaves a split: each job goes on as it comes, by the output of its route.

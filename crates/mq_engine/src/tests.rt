@@ -1,16 +1,31 @@
+// The rows of a source by time, and the first late visit.
+ghost use Rattle.std.specs.Prelude.{◌≡◌, ◌≤◌, length};
+
 use crate::arrivals::arrivals_at;
 use crate::late::first_late;
 use crate::{PastFault, RunFault};
-use mq_base::List;
+use mq_base::{List, OutOfMemory};
 use mq_core::{Fate, Kind, Node, Rows};
+use std::alloc::Global;
 use std::test::Fail;
 
-#[test]
-fn the_rows_of_a_source_come_by_time(rt: HostRuntime) -> Result<(), Fail> {
-    let alloc = rt.alloc();
+/// Rows, and what comes to the first node, a source.
+#[derive(Clone, Copy)]
+struct Case<'a> {
+    source: &'a [u32],
+    time: &'a [u64],
+    jobs: &'a [u32],
+    arrive: &'a [u64],
+}
+
+// Whether what comes is what the case says.
+fn comes_so(alloc: Global, case: &Case<'_>) -> Result<bool, OutOfMemory>
+    requires even { length case.now.source.now ≡ length case.now.time.now }
+    requires few { length case.now.time.now ≤ 1048576 }
+{
     let rows = Rows {
-        source: List::from_vec(Vec::from_slice(alloc, &[0, 0, 1, 0, 0])?),
-        time: List::from_vec(Vec::from_slice(alloc, &[2, 1, 0, 2, 0])?),
+        source: List::from_vec(Vec::from_slice(alloc, case.source)?),
+        time: List::from_vec(Vec::from_slice(alloc, case.time)?),
         demands: List::new(alloc),
     };
     let node = Node {
@@ -19,23 +34,37 @@ fn the_rows_of_a_source_come_by_time(rt: HostRuntime) -> Result<(), Fail> {
         inputs: List::new(alloc),
     };
     let arrivals = arrivals_at(alloc, &rows, 0, &node, &[])?;
-    assert_eq!(rt; arrivals.time.as_slice(), [0, 1, 2, 2].as_slice());
-    assert_eq!(rt; arrivals.job.as_slice(), [4, 1, 0, 3].as_slice());
+    Ok(arrivals.job.as_slice() == case.jobs && arrivals.time.as_slice() == case.arrive)
+}
+
+#[test]
+fn the_rows_of_a_source_come_by_time(rt: HostRuntime) -> Result<(), Fail> {
+    let case = Case {
+        source: &[0, 0, 1, 0, 0],
+        time: &[2, 1, 0, 2, 0],
+        jobs: &[4, 1, 0, 3],
+        arrive: &[0, 1, 2, 2],
+    };
+    assert!(rt; comes_so(rt.alloc(), &case)?);
     Ok(())
+}
+
+// Whether this is the first visit to node 1 after the bound, of those that depart at 4, 8 and 9.
+fn is_late(alloc: Global, bound: u64, wanted: Option<PastFault>) -> Result<bool, OutOfMemory> {
+    let fates = [Fate::Departs(4), Fate::Departs(8), Fate::Departs(9)];
+    let fates = List::from_vec(Vec::from_slice(alloc, &fates)?);
+    Ok(first_late(bound, 1, &fates) == wanted)
 }
 
 #[test]
 fn the_first_departure_after_the_bound_is_named(rt: HostRuntime) -> Result<(), Fail> {
-    let alloc = rt.alloc();
-    let fates = [Fate::Departs(4), Fate::Departs(8), Fate::Departs(9)];
-    let fates = List::from_vec(Vec::from_slice(alloc, &fates)?);
     let past = PastFault {
         node: 1,
         position: 1,
         time: 8,
     };
-    assert_eq!(rt; first_late(7, 1, &fates), Some(past));
-    assert_eq!(rt; first_late(9, 1, &fates), None);
-    assert_eq!(rt; RunFault::Past(past) == RunFault::Memory, false);
+    assert!(rt; is_late(rt.alloc(), 7, Some(past))?);
+    assert!(rt; is_late(rt.alloc(), 9, None)?);
+    assert!(rt; RunFault::Past(past) != RunFault::Memory);
     Ok(())
 }

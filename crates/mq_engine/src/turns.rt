@@ -1,41 +1,46 @@
-ghost use Rattle.std.specs.Prelude.{◌≡◌, ◌≤◌, length, map, IfOk};
-ghost use Rattle.mq_core.specs.Columns.{IsStream, column_fates, founds_of};
+// The turn of a node, from its arrivals to its visits and what leaves it.
+ghost use Rattle.std.specs.Prelude.{◌≡◌, ◌≤◌, All, length, map, IfOk};
+ghost use Rattle.mq_core.specs.Columns.{IsStream, column_fates, founds_of, stream_in_order};
+ghost use Rattle.mq_core.specs.Sound.{outputs_in};
 ghost use Rattle.mq_engine.specs.Loads.{IsAfter};
 ghost use Rattle.mq_engine.specs.Progress.{IsEnding};
 ghost use Rattle.mq_engine.specs.Turns.{IsLeaving, IsLoad};
 
 use crate::PastFault;
 use crate::late::first_late;
-use crate::outflow::Outflow;
+use crate::outflow::{Outflow, only};
 use crate::stations::leaving;
 use mq_base::{List, OutOfMemory};
 use mq_core::{Fate, Kind, Network, Rows, Stream, Visits, fates_are_in_time};
+use mq_delay::delay_leaving;
 use mq_stats::found;
 use std::alloc::Global;
+use std::thread::Threads;
 
-// The turn of a node: what it gives.
+/// The turn of a node: what it gives.
 #[derive(Drop)]
 pub struct Turn {
-    // The node, by order of declaration.
+    /// The node, by order of declaration.
     pub number: u32,
     pub ending: Ending,
 }
 
-// How the turn of a node ends.
+/// How the turn of a node ends.
 #[derive(Drop)]
 pub enum Ending {
-    // With its visits and what leaves it by each output: no visit departs after the bound.
+    /// With its visits and what leaves it by each output: no visit departs after the bound.
     OnTime(Visits, List<Stream>),
-    // With the first visit that departs after the bound.
+    /// With the first visit that departs after the bound.
     TooLate(PastFault),
 }
 
-// What becomes of the arrivals at a node.
+/// What becomes of the arrivals at a node.
 #[derive(Drop)]
 pub enum After {
-    // Their fates, how many each found, and what leaves by each output: none departs after the bound.
+    /// Their fates, how many each found, and what leaves by each output, by position: none departs
+    /// after the bound.
     Seen(List<Fate>, List<u32>, List<Stream>),
-    // The first that departs after the bound.
+    /// The first that departs after the bound.
     Missed(PastFault),
 }
 
@@ -77,29 +82,55 @@ fn seen(
     Ok(After::Seen(leaving.fates, found, leaving.streams))
 }
 
-// How the turn of a node ends to which these came. Nothing is copied.
-pub fn ending_of(
+// How the turn of a node ends to which these came.
+pub fn ending_of<R: Threads + Sync>(
+    rt: &R,
+    alloc: Global,
     net: &Network,
     rows: &Rows,
     kind: &Kind,
     number: u32,
     arrivals: Stream,
     after: After,
-) -> Ending
-    requires { IsAfter net.now rows.now number kind.now arrivals after }
-    ensures { IsEnding net.now rows.now number kind.now arrivals result }
+) -> Result<Ending, OutOfMemory>
+    requires even { length arrivals.job ≡ length arrivals.time }
+    requires after { IsAfter net.now rows.now number kind.now arrivals after }
+    ensures { IfOk result (λ ending. IsEnding net.now rows.now number kind.now arrivals ending) }
 {
+    fates_are_in_time();
     match after {
         After::Seen(fate, found, streams) => {
+            let streams = in_order(rt, alloc, kind, streams)?;
             let visits = Visits {
                 job: arrivals.job,
                 arrive: arrivals.time,
                 found,
                 fate,
             };
-            Ending::OnTime(visits, streams)
+            Ok(Ending::OnTime(visits, streams))
         }
-        After::Missed(past) => Ending::TooLate(past),
+        After::Missed(past) => Ok(Ending::TooLate(past)),
+    }
+}
+
+// What leaves a node of this kind, in the order of leaving: the jobs of a delay are sorted by
+// departure, in threads, and those of the others keep their order.
+fn in_order<R: Threads + Sync>(
+    rt: &R,
+    alloc: Global,
+    kind: &Kind,
+    streams: List<Stream>,
+) -> Result<List<Stream>, OutOfMemory>
+    requires count { length streams ≡ outputs_in kind.now }
+    requires even { All (λ stream. length stream.job ≡ length stream.time) streams }
+    ensures { IfOk result (λ ordered. ordered ≡ map (stream_in_order kind.now) streams) }
+{
+    match kind {
+        Kind::Delay(_) => {
+            let left = streams.get(0);
+            only(alloc, delay_leaving(rt, alloc, &left.job, &left.time)?)
+        }
+        _ => Ok(streams),
     }
 }
 
