@@ -2,7 +2,7 @@
 ghost use Rattle.std.specs.Prelude.{◌≡◌, ◌≤◌, ◌<◌, ◌^◌, length, IfOk, slice_get};
 ghost use Rattle.mq_core.specs.Columns.{IsRunOf};
 ghost use Rattle.mq_core.specs.Theorems.{IsReadFor};
-ghost use Rattle.mq_report.specs.Tallies.{AreTallies, IsTally};
+ghost use Rattle.mq_report.specs.Totals.{AreNodeTotals, IsTotalsAt};
 
 use crate::sections::totals_at;
 use mq_base::{List, OutOfMemory};
@@ -12,22 +12,22 @@ use mq_stats::NodeTotals;
 use std::alloc::Global;
 use std::thread::Threads;
 
-// A run whose nodes are tallied.
+// The nodes of a run, of which each is a piece: its totals.
 #[derive(Drop)]
-struct Tallied<'a> {
+struct TotalsPieces<'a> {
     plan: &'a Plan,
     rows: &'a Rows,
     run: &'a Run,
 }
 
-impl<'a> Pieces for Tallied<'a> {
+impl<'a> Pieces for TotalsPieces<'a> {
     type Piece = NodeTotals;
 
     ghost fit = { λ s. IsReadFor s.plan.now.net s.rows.now × IsRunOf s.plan.now s.rows.now s.run.now × (length s.plan.now.net.nodes < 2 ^ 32) };
 
     ghost places = { λ s. length s.plan.now.net.nodes };
 
-    ghost is_piece = { λ s b tally. IsTally s.plan.now s.rows.now b tally };
+    ghost is_piece = { λ s b totals. IsTotalsAt s.plan.now s.rows.now b totals };
 
     fn count(&self) -> u32 {
         self.plan.net.nodes.len() as u32
@@ -39,8 +39,9 @@ impl<'a> Pieces for Tallied<'a> {
     }
 }
 
-/// The totals of each node over a run, which workers find, each node by one of them.
-pub fn tallies_of<R: Threads + Sync, G: Gate>(
+/// The totals of each node over a run, by node. Each node is a piece that one of 1 to 64 workers makes, who enter the gate.
+/// It refuses for want of memory alone.
+pub fn node_totals<R: Threads + Sync, G: Gate>(
     rt: &R,
     alloc: Global,
     workers: u32,
@@ -53,10 +54,10 @@ pub fn tallies_of<R: Threads + Sync, G: Gate>(
     requires most { workers ≤ 64 }
     requires read { IsReadFor plan.now.net rows.now }
     requires run { IsRunOf plan.now rows.now run.now }
-    ensures { IfOk result (λ tallies. AreTallies plan.now rows.now tallies) }
+    ensures { IfOk result (λ totals. AreNodeTotals plan.now rows.now totals) }
 {
     nodes_are_in_limits();
-    let tallied = Tallied { plan, rows, run };
-    let tallies = made(rt, alloc, workers, &tallied, gate)?;
-    Ok(tallies)
+    let all = TotalsPieces { plan, rows, run };
+    let totals = made(rt, alloc, workers, &all, gate)?;
+    Ok(totals)
 }

@@ -9,11 +9,11 @@ use Rattle.mq_stats.specs.Numbers.{totals_from}
 use Rattle.mq_stats.specs.declared.tallies.NodeTotals.{NodeTotals}
 
 -- these are the totals of a node over the run
-abbrev pub IsTally : Plan → Rows → ℕ → NodeTotals → Type 0
-IsTally plan rows v tally =
-    (node : Node) → slice_get plan.net.nodes v ≡ Some node → (totals_from tally ≡ totals_of rows node.kind ((run_of plan rows).stations v)) × (tally.busy < 2 ^ 100)
+abbrev pub IsTotalsAt : Plan → Rows → ℕ → NodeTotals → Type 0
+IsTotalsAt plan rows v totals =
+    (node : Node) → slice_get plan.net.nodes v ≡ Some node → (totals_from totals ≡ totals_of rows node.kind ((run_of plan rows).stations v)) × (totals.busy < 2 ^ 100)
 
 -- these are the totals of all nodes
-pub record AreTallies (plan : Plan) (rows : Rows) (tallies : List NodeTotals) : Type 0 where
-  pub len : length tallies ≡ length plan.net.nodes
-  pub each : (v : ℕ) (d : NodeTotals) → v < length plan.net.nodes → IsTally plan rows v (slice_index_or tallies v d)
+pub record AreNodeTotals (plan : Plan) (rows : Rows) (totals : List NodeTotals) : Type 0 where
+  pub len : length totals ≡ length plan.net.nodes
+  pub each : (v : ℕ) (d : NodeTotals) → v < length plan.net.nodes → IsTotalsAt plan rows v (slice_index_or totals v d)
