@@ -1,3 +1,3 @@
 pub mod Columns
 pub mod Text
-pub mod Tallies
+pub mod Totals

@@ -5,9 +5,9 @@ mod jobs;
 mod line;
 mod lines;
 mod sections;
-mod tallies;
 #[cfg(test)]
 mod tests;
+mod totals;
 
 pub use sections::report;
-pub use tallies::tallies_of;
+pub use totals::node_totals;

@@ -8,7 +8,7 @@ ghost use Rattle.mq_core.specs.Sound.{outputs_in};
 ghost use Rattle.mq_core.specs.StandardTable.{run_of};
 ghost use Rattle.mq_core.specs.Theorems.{IsReadFor};
 ghost use Rattle.mq_stats.specs.Numbers.{totals_from};
-ghost use Rattle.mq_report.specs.Tallies.{AreTallies};
+ghost use Rattle.mq_report.specs.Totals.{AreNodeTotals};
 ghost use Rattle.mq_report.specs.Text.{
   asked_jobs,
   exit_lines,
@@ -74,19 +74,19 @@ fn span_of(plan: &Plan, rows: &Rows, run: &Run) -> u64
 }
 
 // The totals of a node, from those of all.
-fn tally_at(
+fn listed_totals(
     plan: &Plan,
     rows: &Rows,
-    tallies: &List<NodeTotals>,
+    totals: &List<NodeTotals>,
     node: u32,
     declared: &Node,
 ) -> NodeTotals
-    requires tallies { AreTallies plan.now rows.now tallies.now }
+    requires totals { AreNodeTotals plan.now rows.now totals.now }
     requires there { slice_get plan.now.net.nodes node ≡ Some declared.now }
     ensures totals { totals_from result ≡ totals_of rows.now declared.now.kind ((run_of plan.now rows.now).stations node) }
     ensures small { result.busy < 2 ^ 100 }
 {
-    *tallies.get(node as usize)
+    *totals.get(node as usize)
 }
 
 // Adds the line of a node.
@@ -96,7 +96,7 @@ fn add_node_at<O: Sink>(
     plan: &Plan,
     rows: &Rows,
     run: &Run,
-    tallies: &List<NodeTotals>,
+    totals: &List<NodeTotals>,
     node: u32,
     declared: &Node,
     span: u64,
@@ -104,18 +104,18 @@ fn add_node_at<O: Sink>(
     requires read { IsReadFor plan.now.net rows.now }
     requires run { IsRunOf plan.now rows.now run.now }
     requires there { slice_get plan.now.net.nodes node ≡ Some declared.now }
-    requires tallies { AreTallies plan.now rows.now tallies.now }
+    requires totals { AreNodeTotals plan.now rows.now totals.now }
     requires span { span ≡ (run_of plan.now rows.now).clock }
     ensures { Adds O.taken O.sure O.faults out.old out.new pending.old pending.new result (line_of rows.now (run_of plan.now rows.now) node declared.now) }
 {
     nodes_are_in_limits();
-    let totals = tally_at(plan, rows, tallies, node, declared);
+    let own = listed_totals(plan, rows, totals, node, declared);
     add_node(
         out,
         pending,
         declared.name.as_slice(),
         &declared.kind,
-        &totals,
+        &own,
         span,
     )
 }
@@ -127,12 +127,12 @@ fn add_nodes<O: Sink>(
     plan: &Plan,
     rows: &Rows,
     run: &Run,
-    tallies: &List<NodeTotals>,
+    totals: &List<NodeTotals>,
     span: u64,
 ) -> Result<(), SinkFault>
     requires read { IsReadFor plan.now.net rows.now }
     requires run { IsRunOf plan.now rows.now run.now }
-    requires tallies { AreTallies plan.now rows.now tallies.now }
+    requires totals { AreNodeTotals plan.now rows.now totals.now }
     requires span { span ≡ (run_of plan.now rows.now).clock }
     ensures { Adds O.taken O.sure O.faults out.old out.new pending.old pending.new result (nodes_text plan.now.net rows.now (run_of plan.now rows.now) plan.now.order) }
 {
@@ -140,7 +140,7 @@ fn add_nodes<O: Sink>(
     for rank in 0..plan.order.len() {
         let node = *plan.order.get(rank);
         let declared = plan.net.nodes.get(node as usize);
-        add_node_at(out, pending, plan, rows, run, tallies, node, declared, span)?;
+        add_node_at(out, pending, plan, rows, run, totals, node, declared, span)?;
     }
     Ok(())
 }
@@ -253,17 +253,17 @@ fn add_report<O: Sink>(
     plan: &Plan,
     rows: &Rows,
     run: &Run,
-    tallies: &List<NodeTotals>,
+    totals: &List<NodeTotals>,
     jobs: bool,
 ) -> Result<(), SinkFault>
     requires read { IsReadFor plan.now.net rows.now }
     requires run { IsRunOf plan.now rows.now run.now }
-    requires tallies { AreTallies plan.now rows.now tallies.now }
+    requires totals { AreNodeTotals plan.now rows.now totals.now }
     ensures { Adds O.taken O.sure O.faults out.old out.new pending.old pending.new result (report_text plan.now.net plan.now.order rows.now (run_of plan.now rows.now) jobs) }
 {
     let span = span_of(plan, rows, run);
     add_head(out, pending, rows.time.len(), span)?;
-    add_nodes(out, pending, plan, rows, run, tallies, span)?;
+    add_nodes(out, pending, plan, rows, run, totals, span)?;
     add_exits(out, pending, plan, rows, run)?;
     add_asked_jobs(out, pending, plan, rows, run, jobs)
 }
@@ -277,13 +277,13 @@ pub fn report<O: Sink>(
     plan: &Plan,
     rows: &Rows,
     run: &Run,
-    tallies: &List<NodeTotals>,
+    totals: &List<NodeTotals>,
     jobs: bool,
     out: &mut O,
 ) -> Result<(), SinkFault>
     requires read { IsReadFor plan.now.net rows.now }
     requires run { IsRunOf plan.now rows.now run.now }
-    requires tallies { AreTallies plan.now rows.now tallies.now }
+    requires totals { AreNodeTotals plan.now rows.now totals.now }
     ensures ok { OnOk result (TakesFirst (O.taken out.old) (O.taken out.new) (O.sure out.old) (O.sure out.new) (report_in plan.now.net rows.now jobs) (length (report_in plan.now.net rows.now jobs))) }
     ensures err { OnErr result (TakesPrefix (O.taken out.old) (O.taken out.new) (O.sure out.old) (O.sure out.new) (report_in plan.now.net rows.now jobs)) }
     ensures later { O.faults out.old ≤ O.faults out.new }
@@ -293,6 +293,6 @@ pub fn report<O: Sink>(
 {
     let mut pending = Gather::new();
     runs_are_of_networks();
-    add_report(out, &mut pending, plan, rows, run, tallies, jobs)?;
+    add_report(out, &mut pending, plan, rows, run, totals, jobs)?;
     flush(out, &mut pending)
 }

@@ -1,3 +1,4 @@
+// The lines of the visits to a node.
 ghost use Rattle.std.specs.Prelude.{◌≡◌, ◌≤◌, All, IfOk, IsTrue};
 ghost use Rattle.mq_core.specs.Told.{HasValue};
 
@@ -89,83 +90,106 @@ fn put_lines(
     flush(out, &mut pending)
 }
 
+// The visits to a server of this name, by position. The rows have the same times.
+#[derive(Clone, Copy)]
+struct Load<'a> {
+    name: &'a [u8],
+    jobs: &'a [u32],
+    times: &'a [u64],
+    demands: &'a [u64],
+    fates: &'a [Fate],
+}
+
+// Whether these bytes are written, by puts of 16 bytes of which this one fails, from 1; of number 0 none does.
+fn writes(
+    rt: &impl Abort,
+    alloc: Global,
+    load: Load<'_>,
+    failing: u64,
+    wanted: &[u8],
+) -> Result<bool, OutOfMemory> {
+    let rows = rows_at(alloc, load.times, load.demands)?;
+    let visits = visits_of(alloc, load.jobs, load.times, load.fates)?;
+    let mut out = MemSink::new(alloc, 16, Vec::from_slice(alloc, &[failing])?);
+    out.reserve(8192)?;
+    let put = put_lines(rt, &rows, load.name, &visits, &mut out);
+    Ok(put.is_ok() == (failing == 0) && out.faults() == failing.min(1) && out.bytes() == wanted)
+}
+
 #[test]
 fn each_visit_has_a_line(rt: HostRuntime) -> Result<(), Fail> {
-    let alloc = rt.alloc();
-    let rows = rows_at(alloc, &[0, 1, 2], &[4, 1, 3])?;
-    let fates = [Fate::Departs(4), Fate::Departs(5), Fate::Departs(8)];
-    let visits = visits_of(alloc, &[0, 1, 2], &[0, 1, 2], &fates)?;
-    let mut out = MemSink::new(alloc, 65_536, Vec::new(alloc));
-    assert_eq!(rt; put_lines(&rt, &rows, b"desk", &visits, &mut out), Ok(()));
+    let load = Load {
+        name: b"desk",
+        jobs: &[0, 1, 2],
+        times: &[0, 1, 2],
+        demands: &[4, 1, 3],
+        fates: &[Fate::Departs(4), Fate::Departs(5), Fate::Departs(8)],
+    };
     let wanted = b"job 1 desk arrive 0 wait 0 depart 4
 job 2 desk arrive 1 wait 3 depart 5
 job 3 desk arrive 2 wait 3 depart 8
 ";
-    assert_eq!(rt; out.bytes(), wanted.as_slice());
+    assert!(rt; writes(&rt, rt.alloc(), load, 0, wanted)?);
     Ok(())
 }
 
 #[test]
 fn lines_stand_by_position_and_not_by_job(rt: HostRuntime) -> Result<(), Fail> {
-    let alloc = rt.alloc();
-    let rows = rows_at(alloc, &[5, 5], &[3, 2])?;
-    let fates = [Fate::Departs(8), Fate::Departs(10)];
-    let visits = visits_of(alloc, &[1, 0], &[5, 5], &fates)?;
-    let mut out = MemSink::new(alloc, 65_536, Vec::new(alloc));
-    assert_eq!(rt; put_lines(&rt, &rows, b"q", &visits, &mut out), Ok(()));
+    let load = Load {
+        name: b"q",
+        jobs: &[1, 0],
+        times: &[5, 5],
+        demands: &[3, 2],
+        fates: &[Fate::Departs(8), Fate::Departs(10)],
+    };
     let wanted = b"job 2 q arrive 5 wait 1 depart 8
 job 1 q arrive 5 wait 2 depart 10
 ";
-    assert_eq!(rt; out.bytes(), wanted.as_slice());
+    assert!(rt; writes(&rt, rt.alloc(), load, 0, wanted)?);
     Ok(())
 }
 
 #[test]
 fn a_lost_visit_has_no_wait_and_no_departure(rt: HostRuntime) -> Result<(), Fail> {
-    let alloc = rt.alloc();
-    let rows = rows_at(alloc, &[0, 1, 2, 3], &[2, 2, 2, 2])?;
-    let fates = [Fate::Departs(2), Fate::Lost, Fate::Departs(4), Fate::Lost];
-    let visits = visits_of(alloc, &[0, 1, 2, 3], &[0, 1, 2, 3], &fates)?;
-    let mut out = MemSink::new(alloc, 65_536, Vec::new(alloc));
-    assert_eq!(rt; put_lines(&rt, &rows, b"l", &visits, &mut out), Ok(()));
+    let load = Load {
+        name: b"l",
+        jobs: &[0, 1, 2, 3],
+        times: &[0, 1, 2, 3],
+        demands: &[2, 2, 2, 2],
+        fates: &[Fate::Departs(2), Fate::Lost, Fate::Departs(4), Fate::Lost],
+    };
     let wanted = b"job 1 l arrive 0 wait 0 depart 2
 job 2 l arrive 1 lost
 job 3 l arrive 2 wait 0 depart 4
 job 4 l arrive 3 lost
 ";
-    assert_eq!(rt; out.bytes(), wanted.as_slice());
+    assert!(rt; writes(&rt, rt.alloc(), load, 0, wanted)?);
     Ok(())
 }
 
 #[test]
 fn a_node_without_visits_has_no_lines(rt: HostRuntime) -> Result<(), Fail> {
-    let alloc = rt.alloc();
-    let rows = rows_at(alloc, &[0], &[4])?;
-    let visits = visits_of(alloc, &[], &[], &[])?;
-    let mut out = MemSink::new(alloc, 65_536, Vec::new(alloc));
-    assert_eq!(rt; put_lines(&rt, &rows, b"desk", &visits, &mut out), Ok(()));
-    assert_eq!(rt; out.bytes(), b"".as_slice());
+    let load = Load {
+        name: b"desk",
+        jobs: &[],
+        times: &[],
+        demands: &[],
+        fates: &[],
+    };
+    assert!(rt; writes(&rt, rt.alloc(), load, 0, b"")?);
     Ok(())
 }
 
 #[test]
 fn a_fault_among_the_lines_leaves_a_first_part(rt: HostRuntime) -> Result<(), Fail> {
-    let alloc = rt.alloc();
-    let (mut jobs, mut times, mut fates) = (Vec::new(alloc), Vec::new(alloc), Vec::new(alloc));
-    for job in 0u32..200 {
-        jobs.push(job)?;
-        times.push(job as u64)?;
-        fates.push(Fate::Departs(job as u64 + 1))?;
-    }
-    let rows = rows_at(alloc, times.as_slice(), &[1; 200])?;
-    let visits = visits_of(alloc, jobs.as_slice(), times.as_slice(), fates.as_slice())?;
-    let mut out = MemSink::new(alloc, 16, Vec::from_slice(alloc, &[3])?);
-    out.reserve(8192)?;
-    assert_eq!(rt;
-        put_lines(&rt, &rows, b"desk", &visits, &mut out),
-        Err(SinkFault::Failed)
-    );
-    assert_eq!(rt; out.bytes(), b"job 1 desk arrive 0 wait 0 depar".as_slice());
-    assert_eq!(rt; out.faults(), 1);
+    let load = Load {
+        name: b"desk",
+        jobs: &[0; 200],
+        times: &[0; 200],
+        demands: &[1; 200],
+        fates: &[Fate::Departs(1); 200],
+    };
+    let wanted = b"job 1 desk arrive 0 wait 0 depar";
+    assert!(rt; writes(&rt, rt.alloc(), load, 3, wanted)?);
     Ok(())
 }

@@ -7,6 +7,7 @@ mod stages;
 #[cfg(test)]
 mod tests;
 
+// Who matches on an outcome names the fault of the words here, without the crate that reads them.
 pub use mq_words::UsageFault;
 pub use outcome::Outcome;
 pub use stages::{simulate, simulate_gated};

@@ -22,11 +22,10 @@ use mq_crew::{Gate, Open};
 use mq_engine::{RunFault, run};
 use mq_gen::{made, made_inputs_are_accepted};
 use mq_model::{ModelFault, read_model};
-use mq_report::{report, tallies_of};
+use mq_report::{node_totals, report};
 use mq_trace::{TraceFault, read_trace};
 use mq_words::{Input, Settings, UsageFault, WordsFault, settings_of};
 use std::alloc::Global;
-use std::marker::Sync;
 use std::thread::Threads;
 
 // The most bytes that the text of a model may have.
@@ -178,18 +177,10 @@ fn report_run<R: Threads + Sync, G: Gate, O: Sink>(
         Err(RunFault::Past(fault)) => return Outcome::Past(fault),
         Err(RunFault::Memory) => return Outcome::Memory,
     };
-    let Ok(tallies) = tallies_of(
-        crew.rt,
-        alloc,
-        crew.workers,
-        plan,
-        rows,
-        &run,
-        crew.gate,
-    ) else {
+    let Ok(totals) = node_totals(crew.rt, alloc, crew.workers, plan, rows, &run, crew.gate) else {
         return Outcome::Memory;
     };
-    match report(plan, rows, &run, &tallies, jobs, out) {
+    match report(plan, rows, &run, &totals, jobs, out) {
         Ok(()) => Outcome::Done,
         Err(_) => Outcome::WriteFault,
     }
@@ -261,8 +252,9 @@ fn run_made<R: Threads + Sync, G: Gate, O: Sink>(
 /// Reads the model and the trace that the words name, or makes those of a number, runs the network
 /// over the rows, and writes the report: the same as that of a sequential event list. The words are
 /// those behind the program's name: the two names, or `--made` with a number, and among them
-/// `--workers` and `--block` with a number, which change nothing but who makes which piece, and `--jobs`,
-/// which asks for a line for each visit.
+/// `--workers`, from 1 to 64, and `--block`, from 1 to 65,536 jobs, which change nothing but who makes
+/// which piece, and `--jobs`, which asks for a line for each visit. The workers enter the gate with the
+/// pieces of the run and of its totals; who reads a piece of the trace enters none.
 ///
 /// Every outcome but `Done` puts one line on `err`, whose faults change no outcome. All memory is
 /// taken before the first byte is written; `out` gains the whole report with `Done`, a first part
@@ -358,7 +350,7 @@ pub fn simulate_gated<R: Threads + Sync, F: Files, O: Sink, E: Sink, G: Gate>(
     }
 }
 
-/// `simulate_gated` with the gate that does nothing.
+/// All that the program does: `simulate_gated` with the gate that does nothing.
 pub fn simulate<R: Threads + Sync, F: Files, O: Sink, E: Sink>(
     rt: &R,
     alloc: Global,

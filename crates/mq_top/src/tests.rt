@@ -1,71 +1,26 @@
-use crate::{Outcome, simulate};
-use mq_base::{MemFile, MemFiles, MemSink, OutOfMemory};
-use mq_engine::PastFault;
-use mq_model::ModelFault;
-use mq_trace::TraceFault;
+// What needs a device that fails, or a gate of its own. The other cases are files that the program is given.
+use mq_base::{MemFile, MemFiles, OutOfMemory};
 use std::alloc::Global;
-use std::marker::Sync;
-use std::test::Fail;
-use std::thread::Threads;
 
-mod cuts;
 mod devices;
-mod faults;
 mod gates;
-mod limits;
-mod made;
-mod networks;
-mod stations;
-mod words;
 
-// A model and a trace, and what the call puts out.
-#[derive(Drop)]
-struct Answered {
-    outcome: Outcome,
-    out: MemSink,
-    err: MemSink,
-}
+// A source and a server.
+const MODEL: &[u8] = b"model 1\nsource src\nserver desk d from src\n";
 
-// The files `m` and `t` with these bytes.
-fn files_of(
-    alloc: Global,
-    model: &[u8],
-    trace: &[u8],
-    failing: &[u64],
-) -> Result<MemFiles, OutOfMemory> {
+// Its jobs.
+const TRACE: &[u8] = b"source,time,d\nsrc,0,4\nsrc,1,1\nsrc,2,3\n";
+
+// The model `m` and the trace `t`. The read of this number fails, from 1; of number 0 none does.
+fn files_of(alloc: Global, failing: u64) -> Result<MemFiles, OutOfMemory> {
     let mut files = Vec::new(alloc);
     files.push(MemFile {
         name: String::from_str(alloc, "m")?,
-        bytes: Vec::from_slice(alloc, model)?,
+        bytes: Vec::from_slice(alloc, MODEL)?,
     })?;
     files.push(MemFile {
         name: String::from_str(alloc, "t")?,
-        bytes: Vec::from_slice(alloc, trace)?,
+        bytes: Vec::from_slice(alloc, TRACE)?,
     })?;
-    Ok(MemFiles::new(files, Vec::from_slice(alloc, failing)?))
-}
-
-// The call with these words over these two files.
-fn ran_with<R: Threads + Sync>(
-    rt: &R,
-    alloc: Global,
-    words: &[&str],
-    model: &[u8],
-    trace: &[u8],
-) -> Result<Answered, OutOfMemory> {
-    let mut files = files_of(alloc, model, trace, &[])?;
-    let mut out = MemSink::new(alloc, 65_536, Vec::new(alloc));
-    let mut err = MemSink::new(alloc, 65_536, Vec::new(alloc));
-    let outcome = simulate(rt, alloc, words, &mut files, &mut out, &mut err);
-    Ok(Answered { outcome, out, err })
-}
-
-// The call over these two files, with no options.
-fn ran<R: Threads + Sync>(
-    rt: &R,
-    alloc: Global,
-    model: &[u8],
-    trace: &[u8],
-) -> Result<Answered, OutOfMemory> {
-    ran_with(rt, alloc, &["m", "t"], model, trace)
+    Ok(MemFiles::new(files, Vec::from_slice(alloc, &[failing])?))
 }

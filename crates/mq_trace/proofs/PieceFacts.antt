@@ -14,10 +14,26 @@ use Rattle.csv.specs.Reading.{default_config, is_bom, records_next, strip_bom}
 use Rattle.csv.specs.declared.parser.Action.TheVariants as act
 use Rattle.csv.specs.declared.parser.State.{State}
 use Rattle.csv.specs.declared.parser.State.TheVariants as st
-use Rattle.mq_trace.specs.Pieces.{AreLines, ArePieces, IsRest, has_quote, is_shut, state_after}
+use Rattle.mq_trace.specs.Pieces.{AreLines, ArePieces, IsRest, has_quote}
 use Rattle.mq_trace.specs.Records.{Record, records_at}
 use Rattle.mq_trace.specs.Trace.{text_records}
 use Rattle.mq_trace.proofs.RecordFacts.{end_between, records_at-next}
+
+-- a line feed ends the record at hand, or there is none: not within quotes
+abbrev pub is_shut : State → Bool
+is_shut st.StartRecord = true
+is_shut st.AfterCr = true
+is_shut st.StartField = true
+is_shut st.InField = true
+is_shut st.AfterQuote = true
+is_shut st.InQuoted = false
+is_shut st.InEscape = false
+is_shut st.InComment = false
+
+-- the machine's state after a text
+unfoldable pub state_after : State → List ℕ → State
+state_after s [] = s
+state_after s (c ∷ rest) = state_after (step default_config s c).0 rest
 
 -- the machine may be in this state by the crate's defaults, which have no comments and no escapes
 abbrev pub is_met : State → Bool
@@ -112,7 +128,7 @@ cut_from_here s fields field (c ∷ front) back m holds shut =
       | inr goes ↦ rw goes (cut_from_here next _ _ front back (met s c m) (holds_on s fields field c m goes holds) shut)
     ]
 
--- a text and what follows behind a line feed
+-- where a text stops outside quotes, a line feed and what follows have records of their own
 pub records_cut : (front back : List ℕ) → is_shut (state_after st.StartRecord front) ≡ true
     → records_at st.StartRecord (front ++ 10 ∷ back) ≡ records_at st.StartRecord front ++ records_at st.StartRecord (10 ∷ back)
 records_cut front back shut =

@@ -1,37 +1,12 @@
 -- A text in pieces, which are cut at line feeds and read by themselves.
-use Rattle.std.specs.Prelude.{◌≡◌, ◌⊎◌, ◌+◌, ◌<◌, ◌++◌, ◌∷◌, ◌==◌, [], ℕ, List, Bool, true, false, flat_map, get_or, length, nat_lt, if◌then◌else◌, Result}
+use Rattle.std.specs.Prelude.{◌≡◌, ◌⊎◌, ◌+◌, ◌<◌, ◌++◌, ◌==◌, [], ℕ, List, Bool, flat_map, get_or, length, nat_lt, if◌then◌else◌, Result}
 use Rattle.std.specs.List.{list_any}
-use Rattle.csv.specs.Machine.{step}
-use Rattle.csv.specs.Reading.{default_config}
-use Rattle.csv.specs.declared.parser.State.{State}
-use Rattle.csv.specs.declared.parser.State.TheVariants as st
 use Rattle.mq_core.specs.declared.model.Network.{Network}
 use Rattle.mq_core.specs.declared.model.Rows.{Rows}
-use Rattle.mq_trace.specs.Records.{Record, records_at}
+use Rattle.mq_trace.specs.Records.{Record}
 use Rattle.mq_trace.specs.Trace.{Answers, data_of, rows_fault, rows_of, text_records}
 use Rattle.mq_trace.specs.declared.fault.TraceFault.{TraceFault}
 use Rattle.mq_trace.specs.declared.fault.TraceFault.TheVariants.{TooLong, BadHeader, MissingColumn, TooManyRows, BadCount, UnknownSource, BadNumber, Memory}
-
--- a line feed ends the record at hand, or there is none
-abbrev pub is_shut : State → Bool
-is_shut st.StartRecord = true
-is_shut st.AfterCr = true
-is_shut st.StartField = true
-is_shut st.InField = true
-is_shut st.AfterQuote = true
-is_shut st.InQuoted = false
-is_shut st.InEscape = false
-is_shut st.InComment = false
-
--- the machine's state after a text
-unfoldable pub state_after : State → List ℕ → State
-state_after s [] = s
-state_after s (c ∷ rest) = state_after (step default_config s c).0 rest
-
--- Where a text stops outside quotes, a line feed and what follows have records of their own
-abbrev pub Parts : Type 0
-Parts = (front back : List ℕ) → is_shut (state_after st.StartRecord front) ≡ true
-    → records_at st.StartRecord (front ++ 10 ∷ back) ≡ records_at st.StartRecord front ++ records_at st.StartRecord (10 ∷ back)
 
 -- a quote stands in the text
 abbrev pub has_quote : List ℕ → Bool

@@ -2,16 +2,11 @@
 
 ghost use Rattle.std.specs.Prelude.{◌≡◌, ◌⊎◌, ◌≤◌, length, get_or, map, vec_len, IfOk};
 ghost use Rattle.std.specs.List.{concat};
-ghost use Rattle.mq_trace.specs.Pieces.{AreLines, ArePieces, Parts, has_quote};
+ghost use Rattle.mq_trace.specs.Pieces.{AreLines, ArePieces, has_quote};
 
 use memchr::memchr;
 use mq_base::OutOfMemory;
 use std::alloc::Global;
-
-/// Where a text stops outside quotes, a line feed and what follows have records of their own.
-pub fn parts()
-    ensures { Parts }
-{}
 
 /// Whether a quote stands in the text.
 fn is_quoted(text: &[u8]) -> bool

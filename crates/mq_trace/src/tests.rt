@@ -1,3 +1,4 @@
+// Small texts, read whole and in pieces.
 ghost use Rattle.std.specs.Prelude.{◌≡◌, IfOk, length};
 
 use crate::read::read_text;
@@ -39,16 +40,60 @@ fn one_server(alloc: Global) -> Result<Network, OutOfMemory>
     })
 }
 
-fn read<R: Threads + Sync>(rt: &R, alloc: Global, bytes: &[u8]) -> Result<Rows, TraceFault> {
+// What the rows of a text hold.
+#[derive(Clone, Copy)]
+struct Holding<'a> {
+    source: &'a [u32],
+    time: &'a [u64],
+    demand: &'a [u64],
+}
+
+fn holds(read: &Result<Rows, TraceFault>, wanted: Holding<'_>) -> bool {
+    match read {
+        Ok(rows) => {
+            rows.source.as_slice() == wanted.source
+                && rows.time.as_slice() == wanted.time
+                && rows.demands.len() == 1
+                && rows.demands.get(0).as_slice() == wanted.demand
+        }
+        Err(_) => false,
+    }
+}
+
+// Whether the text gives these rows.
+fn gives<R: Threads + Sync>(
+    rt: &R,
+    alloc: Global,
+    bytes: &[u8],
+    wanted: Holding<'_>,
+) -> Result<bool, OutOfMemory> {
     let net = one_server(alloc)?;
-    read_trace(rt, alloc, 4, bytes, &net)
+    Ok(holds(&read_trace(rt, alloc, 4, bytes, &net), wanted))
+}
+
+fn is_refusal(read: &Result<Rows, TraceFault>, fault: TraceFault) -> bool {
+    match read {
+        Ok(_) => false,
+        Err(found) => *found == fault,
+    }
+}
+
+// Whether the text is refused with this fault.
+fn refuses<R: Threads + Sync>(
+    rt: &R,
+    alloc: Global,
+    bytes: &[u8],
+    fault: TraceFault,
+) -> Result<bool, OutOfMemory> {
+    let net = one_server(alloc)?;
+    Ok(is_refusal(&read_trace(rt, alloc, 4, bytes, &net), fault))
 }
 
 #[test]
-fn a_trace_is_refused_for_its_first_fault(rt: HostRuntime) {
+fn a_trace_is_refused_for_its_first_fault(rt: HostRuntime) -> Result<(), Fail> {
     let header = |field| TraceFault::BadHeader { field };
     let number = |row, field| TraceFault::BadNumber { row, field };
-    for (bytes, want) in [
+    for (bytes, fault) in [
         (b"".as_slice(), header(1)),
         (b"\xEF\xBB\xBF", header(1)),
         (b"source\n", header(2)),
@@ -73,16 +118,18 @@ fn a_trace_is_refused_for_its_first_fault(rt: HostRuntime) {
             TraceFault::BadCount { row: 2 },
         ),
     ] {
-        let read = read(&rt, rt.alloc(), bytes);
-        let Err(fault) = read else {
-            panic!(rt; "accepted");
-        };
-        assert_eq!(rt; fault, want);
+        assert!(rt; refuses(&rt, rt.alloc(), bytes, fault)?);
     }
+    Ok(())
 }
 
 #[test]
 fn an_accepted_trace_gives_its_rows(rt: HostRuntime) -> Result<(), Fail> {
+    let one = Holding {
+        source: &[0],
+        time: &[7],
+        demand: &[4],
+    };
     for bytes in [
         b"source,time,d\nsrc,7,4\n".as_slice(),
         b"\xEF\xBB\xBFsource,time,d\nsrc,7,4\n",
@@ -90,11 +137,7 @@ fn an_accepted_trace_gives_its_rows(rt: HostRuntime) -> Result<(), Fail> {
         b"\"source\",\"time\",\"d\"\r\n\"src\",7,4\r\n",
         b"source,time,note,d\nsrc,7,\"a, b\",4\n",
     ] {
-        let rows = read(&rt, rt.alloc(), bytes)?;
-        assert_eq!(rt; rows.source.as_slice(), [0].as_slice());
-        assert_eq!(rt; rows.time.as_slice(), [7].as_slice());
-        assert_eq!(rt; rows.demands.len(), 1);
-        assert_eq!(rt; rows.demands.get(0).as_slice(), [4].as_slice());
+        assert!(rt; gives(&rt, rt.alloc(), bytes, one)?);
     }
     Ok(())
 }
@@ -102,11 +145,12 @@ fn an_accepted_trace_gives_its_rows(rt: HostRuntime) -> Result<(), Fail> {
 #[test]
 fn rows_stand_in_the_order_of_the_file(rt: HostRuntime) -> Result<(), Fail> {
     let bytes = b"source,time,d\nsrc,0,4\nsrc,1,1\nsrc,2,3\n";
-    let rows = read(&rt, rt.alloc(), bytes)?;
-    assert_eq!(rt; rows.source.as_slice(), [0, 0, 0].as_slice());
-    assert_eq!(rt; rows.time.as_slice(), [0, 1, 2].as_slice());
-    assert_eq!(rt; rows.demands.len(), 1);
-    assert_eq!(rt; rows.demands.get(0).as_slice(), [4, 1, 3].as_slice());
+    let wanted = Holding {
+        source: &[0, 0, 0],
+        time: &[0, 1, 2],
+        demand: &[4, 1, 3],
+    };
+    assert!(rt; gives(&rt, rt.alloc(), bytes, wanted)?);
     Ok(())
 }
 
@@ -124,9 +168,20 @@ fn are_alike(a: &Result<Rows, TraceFault>, b: &Result<Rows, TraceFault>) -> bool
     }
 }
 
+// Whether so many pieces give what the whole text gives.
+fn pieces_agree<R: Threads + Sync>(
+    rt: &R,
+    alloc: Global,
+    bytes: &[u8],
+    count: u32,
+) -> Result<bool, OutOfMemory> {
+    let net = one_server(alloc)?;
+    let whole = read_text(rt, alloc, 1, 1, bytes, &net);
+    Ok(are_alike(&whole, &read_text(rt, alloc, 3, count, bytes, &net)))
+}
+
 #[test]
 fn pieces_give_what_the_whole_text_gives(rt: HostRuntime) -> Result<(), Fail> {
-    let net = one_server(rt.alloc())?;
     for bytes in [
         b"".as_slice(),
         b"\n\n\n",
@@ -140,10 +195,8 @@ fn pieces_give_what_the_whole_text_gives(rt: HostRuntime) -> Result<(), Fail> {
         b"source,time,d\nsrc,7,4\nsrc,8,5\nsrc,9\nno,x,7\nsrc,11,8\n",
         b"source,time,d\nsrc,7,4\nsrc,8,5\nsrc,9,6\nno,10,7\nsrc,x,8\n",
     ] {
-        let whole = read_text(&rt, rt.alloc(), 1, 1, bytes, &net);
         for count in 2..14u32 {
-            let apart = read_text(&rt, rt.alloc(), 3, count, bytes, &net);
-            assert!(rt; are_alike(&whole, &apart));
+            assert!(rt; pieces_agree(&rt, rt.alloc(), bytes, count)?);
         }
     }
     Ok(())

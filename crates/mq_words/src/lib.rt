@@ -3,6 +3,8 @@
 
 mod fault;
 mod rule;
+#[cfg(test)]
+mod tests;
 mod words;
 
 pub use fault::{UsageFault, WordsFault};

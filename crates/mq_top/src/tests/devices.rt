@@ -1,66 +1,168 @@
-// Each put that fails in turn, on the call centre.
-use super::stations::{CALL_CENTRE, CALLS};
-use super::{files_of, ran};
-use crate::{Outcome, simulate};
-use mq_base::MemSink;
+// A read or a put that fails.
+use super::files_of;
+use crate::{Outcome, UsageFault, simulate};
+use mq_base::{MemSink, OutOfMemory};
+use mq_model::ModelFault;
 use std::alloc::Global;
 use std::test::Fail;
+use std::thread::Threads;
 
-// The most bytes that a put takes.
-const MOST: usize = 64;
+const REPORT: &[u8] = b"mpsim report 1\njobs 3 span 8\n\
+    node src source in 3 out 3 lost 0 wait 0 max 0 busy 0 area 0 peak 0 util -\n\
+    node desk server in 3 out 3 lost 0 wait 6 max 3 busy 8 area 14 peak 3 util 1.0000\n\
+    exit desk.0 3 sojourn 14\n";
 
-// A sink whose put of this number fails, from 1, with room for all that comes; of number 0 none does.
-fn failing_at(alloc: Global, put: u64) -> Result<MemSink, Fail> {
-    let mut failing = Vec::new(alloc);
-    failing.push(put)?;
-    let mut sink = MemSink::new(alloc, MOST, failing);
-    sink.reserve(4_096)?;
+const UNWRITTEN: &[u8] = b"mpsim: cannot write the report\n";
+
+// The numbers of the read and of the puts on the two outputs that fail, from 1; of number 0 none does.
+#[derive(Clone, Copy)]
+struct Failing {
+    read: u64,
+    out: u64,
+    err: u64,
+}
+
+const NONE: Failing = Failing {
+    read: 0,
+    out: 0,
+    err: 0,
+};
+
+// How a call ends, and what the two outputs gained.
+#[derive(Clone, Copy)]
+struct Ending<'a> {
+    outcome: Outcome,
+    status: u8,
+    out: &'a [u8],
+    err: &'a [u8],
+}
+
+// A sink with room for all that comes, whose puts take 16 bytes each.
+fn sink(alloc: Global, failing: u64) -> Result<MemSink, OutOfMemory> {
+    let mut sink = MemSink::new(alloc, 16, Vec::from_slice(alloc, &[failing])?);
+    sink.reserve(1024)?;
     Ok(sink)
 }
 
-// How many puts take so many bytes.
-fn puts_of(bytes: &[u8]) -> u64 {
-    bytes.chunks(MOST).count() as u64
+// Whether the call ends so.
+fn ends<R: Threads + Sync>(
+    rt: &R,
+    alloc: Global,
+    words: &[&str],
+    failing: Failing,
+    wanted: Ending<'_>,
+) -> Result<bool, OutOfMemory> {
+    let mut files = files_of(alloc, failing.read)?;
+    let mut out = sink(alloc, failing.out)?;
+    let mut err = sink(alloc, failing.err)?;
+    let outcome = simulate(rt, alloc, words, &mut files, &mut out, &mut err);
+    Ok(
+        outcome == wanted.outcome
+            && outcome.status() == wanted.status
+            && out.bytes() == wanted.out
+            && err.bytes() == wanted.err,
+    )
 }
 
 #[test]
-fn each_put_on_the_output_fails_in_turn(rt: HostRuntime) -> Result<(), Fail> {
-    let alloc = rt.alloc();
-    let ran = ran(&rt, alloc, CALL_CENTRE, CALLS)?;
-    let report = ran.out.bytes();
-    for put in 1..=puts_of(report) {
-        let mut files = files_of(alloc, CALL_CENTRE, CALLS, &[])?;
-        let (mut out, mut err) = (failing_at(alloc, put)?, failing_at(alloc, 0)?);
-        let outcome = simulate(&rt, alloc, &["m", "t"], &mut files, &mut out, &mut err);
-        assert_eq!(rt; outcome, Outcome::WriteFault);
-        assert_eq!(rt;
-            out.bytes().len(),
-            (put as usize).saturating_sub(1).saturating_mul(MOST)
+fn a_report_is_written(rt: HostRuntime) -> Result<(), Fail> {
+    let wanted = Ending {
+        outcome: Outcome::Done,
+        status: 0,
+        out: REPORT,
+        err: b"",
+    };
+    assert!(rt; ends(&rt, rt.alloc(), &["m", "t"], NONE, wanted)?);
+    Ok(())
+}
+
+#[test]
+fn a_read_that_fails_is_named(rt: HostRuntime) -> Result<(), Fail> {
+    let wanted = |second, err| Ending {
+        outcome: Outcome::ReadFault { second },
+        status: 6,
+        out: b"",
+        err,
+    };
+    let model = wanted(false, b"mpsim: cannot read the model\n".as_slice());
+    let trace = wanted(true, b"mpsim: cannot read the trace\n".as_slice());
+    assert!(rt;
+        ends(
+            &rt,
+            rt.alloc(),
+            &["m", "t"],
+            Failing { read: 1, ..NONE },
+            model
+        )?
+    );
+    assert!(rt;
+        ends(
+            &rt,
+            rt.alloc(),
+            &["m", "t"],
+            Failing { read: 2, ..NONE },
+            trace
+        )?
+    );
+    Ok(())
+}
+
+#[test]
+fn an_output_that_fails_has_a_first_part(rt: HostRuntime) -> Result<(), Fail> {
+    let wanted = |bytes: usize, err| Ending {
+        outcome: Outcome::WriteFault,
+        status: 7,
+        out: REPORT.get(..bytes).unwrap_or(b""),
+        err,
+    };
+    for (put, bytes) in [(1, 0), (2, 16), (3, 32), (14, 208)] {
+        let failing = Failing { out: put, ..NONE };
+        assert!(rt;
+            ends(
+                &rt,
+                rt.alloc(),
+                &["m", "t"],
+                failing,
+                wanted(bytes, UNWRITTEN)
+            )?
         );
-        assert!(rt; report.starts_with(out.bytes()));
-        assert_eq!(rt; err.bytes(), b"mpsim: cannot write the report\n".as_slice());
     }
     Ok(())
 }
 
-// The words and the model of a refused call, its status and the bytes of its line.
-const REFUSED: [(&[&str], &[u8], u8, usize); 2] = [
-    (&["m", "t", "u"], CALL_CENTRE, 2, 120),
-    (&["m", "t"], b"model 2\n", 3, 38),
-];
-
 #[test]
 fn an_error_output_that_fails_changes_no_outcome(rt: HostRuntime) -> Result<(), Fail> {
-    let alloc = rt.alloc();
-    for (words, model, status, length) in REFUSED {
-        for put in 0..=length.div_ceil(MOST) {
-            let mut files = files_of(alloc, model, CALLS, &[])?;
-            let (mut out, mut err) = (failing_at(alloc, 0)?, failing_at(alloc, put as u64)?);
-            let outcome = simulate(&rt, alloc, words, &mut files, &mut out, &mut err);
-            assert_eq!(rt; outcome.status(), status);
-            assert_eq!(rt; err.faults(), put.min(1) as u64);
-            assert!(rt; out.bytes().is_empty());
-        }
-    }
+    let wanted = |outcome, status, err| Ending {
+        outcome,
+        status,
+        out: b"",
+        err,
+    };
+    let failing = Failing { err: 2, ..NONE };
+    let usage = wanted(
+        Outcome::Usage(UsageFault::Words),
+        2,
+        b"mpsim: usage: mp".as_slice(),
+    );
+    let model = wanted(
+        Outcome::Model(ModelFault::BadHead { line: 1 }),
+        3,
+        b"mpsim: model lin".as_slice(),
+    );
+    assert!(rt; ends(&rt, rt.alloc(), &["m", "t", "u"], failing, usage)?);
+    assert!(rt; ends(&rt, rt.alloc(), &["t", "m"], failing, model)?);
+    assert!(rt;
+        ends(
+            &rt,
+            rt.alloc(),
+            &["m", "t"],
+            Failing {
+                out: 1,
+                err: 1,
+                ..NONE
+            },
+            wanted(Outcome::WriteFault, 7, b"".as_slice())
+        )?
+    );
     Ok(())
 }

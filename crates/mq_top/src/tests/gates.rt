@@ -1,12 +1,15 @@
+// Two threads make pieces of one run.
 use super::files_of;
 use crate::{Outcome, simulate_gated};
-use mq_base::MemSink;
+use mq_base::{MemSink, OutOfMemory};
 use mq_chain::ChainSeat;
 use mq_claims::ClaimSeat;
 use mq_crew::Gate;
+use std::alloc::Global;
 use std::sync::atomic::AtomicU64;
 use std::sync::atomic::Ordering::SeqCst;
 use std::test::Fail;
+use std::thread::Threads;
 
 // How often a held entry looks whether the other has come.
 const TURNS: u64 = 2_000_000_000;
@@ -39,24 +42,24 @@ impl Gate for Held {
     fn enter_block(&self, _seat: &ChainSeat, _worker: u32, _block: u32) {}
 }
 
-const DESK: &[u8] = b"model 1\nsource src\nserver desk d from src\n";
-
-const ORDINARY: &[u8] = b"source,time,d\nsrc,0,4\nsrc,1,1\nsrc,2,3\n";
+// Whether the run with this gate is done.
+fn is_done<R: Threads + Sync>(rt: &R, alloc: Global, gate: &Held) -> Result<bool, OutOfMemory> {
+    let mut files = files_of(alloc, 0)?;
+    let mut out = MemSink::new(alloc, 1024, Vec::new(alloc));
+    let mut err = MemSink::new(alloc, 1024, Vec::new(alloc));
+    let words = ["m", "t", "--workers", "2", "--block", "1"];
+    let outcome = simulate_gated(rt, alloc, &words, &mut files, &mut out, &mut err, gate);
+    Ok(outcome == Outcome::Done)
+}
 
 #[test]
 fn two_threads_enter_the_gate(rt: HostRuntime) -> Result<(), Fail> {
-    let alloc = rt.alloc();
     let gate = Held {
         came: [AtomicU64::new(0), AtomicU64::new(0), AtomicU64::new(0)],
         run_out: AtomicU64::new(0),
     };
-    let mut files = files_of(alloc, DESK, ORDINARY, &[])?;
-    let mut out = MemSink::new(alloc, 65_536, Vec::new(alloc));
-    let mut err = MemSink::new(alloc, 65_536, Vec::new(alloc));
-    let words = ["m", "t", "--workers", "2", "--block", "1"];
-    let outcome = simulate_gated(&rt, alloc, &words, &mut files, &mut out, &mut err, &gate);
-    assert!(rt; outcome == Outcome::Done);
-    assert_eq!(rt; gate.run_out.load(SeqCst), 0);
+    assert!(rt; is_done(&rt, rt.alloc(), &gate)?);
+    assert!(rt; gate.run_out.load(SeqCst) == 0);
     // once for a summary, and once for an applied block
     for piece in 0..3usize {
         assert!(rt; gate.came[piece].load(SeqCst) >= 2);
