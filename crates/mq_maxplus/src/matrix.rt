@@ -33,8 +33,8 @@ impl Model for Matrix {
 }
 
 impl Matrix {
-    /// The matrix of this size that leaves each vector as it is: a zero on the diagonal, else minus
-    /// infinity.
+    /// The matrix of this size, 1 to 16, that leaves each vector as it is: a zero on the diagonal, else
+    /// minus infinity.
     pub fn unit(size: u8) -> Matrix
         requires some { 1 ≤ size }
         requires few { size ≤ 16 }
@@ -130,9 +130,10 @@ impl Matrix {
     }
 }
 
-/// Laws. Acting by a composition of matrices is acting by one and then the other, and the
-/// composition is associative.
+/// Laws. Acting by a composition of matrices is acting by one and then the other, the composition is
+/// associative, and the unit matrix leaves each vector of its size as it is.
 pub fn matrix_laws()
     ensures acts { (s t : Items (Items Number)) (x : Items Number) → matrix_act (matrix_then s t) x ≡ matrix_act t (matrix_act s x) }
     ensures joins { (s t u : Items (Items Number)) → matrix_then (matrix_then s t) u ≡ matrix_then s (matrix_then t u) }
+    ensures units { (x : Items Number) → matrix_act (unit_matrix (length x)) x ≡ x }
 {}

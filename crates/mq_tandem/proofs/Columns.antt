@@ -26,10 +26,3 @@ module _ (places arrive : List ℕ) (demands : List (List ℕ)) (at : ℕ) where
 
   pub columns-fit : (columns : List (List Mp)) → CanMatrixThen columns Job → All (λ column. (row : ℕ) → Fits (entry (Act column) row)) columns
   columns-fit columns can = All-weaker (CanMatrixAct Job) (λ column. (row : ℕ) → Fits (entry (Act column) row)) row-fits columns can.each
-
-  -- and it acts on them as its matrix does
-  pub columns-act : (columns : List (List Mp)) → All (CanMatrixAct Job) columns → map Act columns ≡ matrix_then columns Job
-  columns-act [] h = refl
-  columns-act (column ∷ columns) h =
-      let can = All-head (CanMatrixAct Job) column columns h in
-      λ i. sym (matrix-acts places arrive demands at column (can.same ∙ job-size)) i ∷ columns-act columns (All-tail (CanMatrixAct Job) column columns h) i

@@ -34,12 +34,6 @@ module _ {X : Type 0} (d : X) (f : X → X) where
             ∙ (drop-set-lt (place + 1) now place y (omega arith) ∙ (sym (drop-drop 1 place now) ∙ (ap (drop 1) h.left ∙ drop-drop 1 place old)));
       }
 
-  pub mapping-ends : (old now : List X) (place : ℕ) → length old ≤ place → Mapping old now place → now ≡ map f old
-  mapping-ends old now place l h =
-      let many = h.long in
-      let whole = length-map old f in
-      sym (take_all place now (omega arith)) ∙ (h.done ∙ take_all place (map f old) (omega arith))
-
   -- an item that is changed
   pub item-done : (old now : List X) (place k : ℕ) → k < place → k < length old → take place now ≡ take place (map f old) → get_or now k d ≡ f (get_or old k d)
   item-done old now place k l m h = sym (get_or-take place now k d l) ∙ (ap (λ xs. get_or xs k d) h ∙ (get_or-take place (map f old) k d l ∙ get_or-map f old k d d m))
