@@ -8,7 +8,7 @@ use Rattle.std.proofs.Math.Seq.{take-suc, drop-cons}
 use Rattle.mq_maxplus.specs.declared.mp.Mp.{Mp}
 use Rattle.mq_maxplus.specs.declared.mp.Mp.TheVariants.{Void, At}
 use Rattle.mq_maxplus.specs.Maxplus.{mp_max, mp_plus, Fits}
-use Rattle.mq_maxplus.specs.Matrices.{voids, entry, matrix_entry, vec_max, vec_plus, matrix_act, matrix_then, unit_matrix, CanMatrixAct}
+use Rattle.mq_maxplus.specs.Matrices.{voids, entry, matrix_entry, vec_max, vec_plus, greatest_sum, matrix_act, matrix_then, unit_matrix, CanMatrixAct}
 use Rattle.mq_maxplus.specs.Padded.{IsPaddedMatrix, columns-size-back}
 use Rattle.mq_maxplus.proofs.MatrixLaws.{length-units, length-act, length-vplus, length-vmax, vmax-assoc, vmax-voids, fits-max}
 use Rattle.mq_maxplus.proofs.Vectors.{entry-vmax, entry-vplus}
@@ -135,6 +135,13 @@ acting-ends columns xs all same some square h =
 pub may-cover : (columns : List (List Mp)) (xs : List Mp) (place : ℕ) (column : List Mp) (x : Mp) → CanMatrixAct columns xs → slice_get columns place ≡ Some column → x ≡ entry xs place → (row : ℕ) → Fits (mp_plus x (entry column row))
 may-cover columns xs place column x can at is row =
     subst (λ (z : Mp × List Mp). Fits (mp_plus z.0 (entry z.1 row))) (λ i. (sym is i, get_or_from_slice_get columns place column [] at i)) (can.sums place row)
+
+-- what a matrix makes of a vector, row by row
+pub entry-act : (columns : List (List Mp)) (xs : List Mp) (row : ℕ) → entry (matrix_act columns xs) row ≡ greatest_sum columns xs row
+entry-act [] xs row = refl
+entry-act (column ∷ columns) [] row = refl
+entry-act (column ∷ columns) (x ∷ xs) row =
+    entry-vmax (vec_plus x column) (matrix_act columns xs) row ∙ (λ i. mp_max (entry-vplus x column row i) (entry-act columns xs row i))
 
 -- what a matrix makes of a vector fits where the sums do
 pub act-fits : (columns : List (List Mp)) (xs : List Mp) → ((column row : ℕ) → Fits (mp_plus (entry xs column) (matrix_entry columns row column))) → (row : ℕ) → Fits (entry (matrix_act columns xs) row)

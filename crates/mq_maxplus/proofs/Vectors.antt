@@ -5,7 +5,7 @@ use Rattle.std.proofs.Math.Seq.{take-suc}
 use Rattle.mq_maxplus.specs.Maxplus.{mp_max, mp_plus}
 use Rattle.mq_maxplus.proofs.MatrixLaws.{length-vplus, length-vmax, max-void, plus-void}
 use Rattle.mq_maxplus.specs.declared.mp.Mp.{Mp}
-use Rattle.mq_maxplus.specs.declared.mp.Mp.TheVariants.{Void, At}
+use Rattle.mq_maxplus.specs.declared.mp.Mp.TheVariants.{Void}
 use Rattle.mq_maxplus.specs.Matrices.{voids, entry, vec_max, vec_plus}
 use Rattle.mq_maxplus.specs.Padded.{IsPadded}
 
