@@ -1,10 +1,10 @@
 -- A job acts on each column of a matrix.
-use Rattle.std.proofs.Common.{◌≡◌, ℕ, ◌+◌, List, [], ◌∷◌, All, length, map, refl, sym, ◌∙◌, subst}
+use Rattle.std.proofs.Common.{◌≡◌, ℕ, ◌+◌, List, All, length, ◌∙◌, subst}
 use Rattle.std.proofs.lemmas.List.{length-map}
-use Rattle.std.proofs.lemmas.List.Elements.{All-head, All-tail, All-weaker}
+use Rattle.std.proofs.lemmas.List.Elements.{All-weaker}
 use Rattle.mq_maxplus.specs.declared.mp.Mp.{Mp}
 use Rattle.mq_maxplus.specs.Maxplus.{Fits}
-use Rattle.mq_maxplus.specs.Matrices.{entry, matrix_then, unit_matrix, CanMatrixAct, CanMatrixThen}
+use Rattle.mq_maxplus.specs.Matrices.{entry, unit_matrix, CanMatrixAct, CanMatrixThen}
 use Rattle.mq_maxplus.proofs.Columns.{act-fits}
 use Rattle.mq_maxplus.proofs.MatrixLaws.{length-units}
 use Rattle.mq_tandem.specs.Rows.{zero_row, job_act, job_matrix}

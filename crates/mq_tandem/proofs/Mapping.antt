@@ -1,6 +1,6 @@
 -- Each item of a list is changed in its place.
-use Rattle.std.proofs.Common.{◌≡◌, ℕ, suc, ◌+◌, ◌<◌, ◌≤◌, List, [], ◌∷◌, ◌++◌, All, length, get_or, take, drop, map, set, sym, ap, ◌∙◌, arith}
-use Rattle.std.proofs.lemmas.List.{drop-set-lt, drop-drop, length-map, length-set, take_all, take_more_set, get_or-map, get_or-drop, get_or-take}
+use Rattle.std.proofs.Common.{◌≡◌, ℕ, suc, ◌+◌, ◌<◌, List, [], ◌∷◌, ◌++◌, All, length, get_or, take, drop, map, set, sym, ap, ◌∙◌, arith}
+use Rattle.std.proofs.lemmas.List.{drop-set-lt, drop-drop, length-map, length-set, take_more_set, get_or-map, get_or-drop, get_or-take}
 use Rattle.std.proofs.lemmas.List.Elements.{All-cons, All-head, All-nil, All-tail}
 use Rattle.std.proofs.Math.Seq.{take-suc}
 

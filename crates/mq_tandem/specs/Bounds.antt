@@ -10,9 +10,9 @@ use Rattle.mq_core.specs.Recurrences.{firsts, time_or_none}
 use Rattle.mq_maxplus.specs.declared.mp.Mp.{Mp}
 use Rattle.mq_maxplus.specs.declared.mp.Mp.TheVariants.{Void, At}
 use Rattle.mq_maxplus.specs.Maxplus.{mp_max, mp_plus}
-use Rattle.mq_maxplus.specs.Matrices.{entry, matrix_act, matrix_then, matrix_entry, unit_matrix, CanMatrixAct, CanMatrixThen}
+use Rattle.mq_maxplus.specs.Matrices.{entry, matrix_act, matrix_then, unit_matrix, CanMatrixAct, CanMatrixThen}
 use Rattle.mq_maxplus.specs.Within.{IsWithin}
-use Rattle.mq_maxplus.proofs.Within.{within-plus, within-max, within-more, fits-within, entry-within, may-act}
+use Rattle.mq_maxplus.proofs.Within.{within-plus, within-max, within-more, entry-within, may-act}
 use Rattle.mq_maxplus.proofs.MatrixLaws.{length-units, units-square, units-within}
 use Rattle.mq_maxplus.proofs.Vectors.{entry-drop}
 use Rattle.mq_scan.specs.Folds.{span, fold_to}

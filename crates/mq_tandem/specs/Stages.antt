@@ -1,5 +1,5 @@
 -- The stages of a tandem.
-use Rattle.std.specs.Prelude.{◌≡◌, ◌^◌, ◌<◌, ◌≤◌, All, ℕ, List, length, drop}
+use Rattle.std.specs.Prelude.{◌≡◌, ◌≤◌, All, ℕ, List, length, drop}
 
 -- What a tandem can have: 2 to 4 stages, with a column of demands each, and 1 to 4 places at each but the first.
 pub record AreStages (places : List ℕ) (demands : List (List ℕ)) : Type 0 where
