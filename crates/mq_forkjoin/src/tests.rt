@@ -23,27 +23,53 @@ fn both(alloc: Global, demand: u64) -> Result<List<u64>, OutOfMemory>
     Ok(List::from_vec(Vec::from_slice(alloc, &[demand, demand])?))
 }
 
-#[test]
-fn a_job_leaves_when_its_longest_branch_is_done(rt: HostRuntime) -> Result<(), Fail> {
-    let alloc = rt.alloc();
+// A server of 2 ticks beside one of 3.
+fn two_branches(alloc: Global) -> Result<List<List<u64>>, OutOfMemory>
+    ensures { IfOk result (λ demands. demands ≡ (2 ∷ 2 ∷ []) ∷ (3 ∷ 3 ∷ []) ∷ []) }
+{
     let mut demands = List::new(alloc);
     demands.push(both(alloc, 2)?)?;
     demands.push(both(alloc, 3)?)?;
+    Ok(demands)
+}
+
+// Servers of 1 and of 2 ticks in series, beside one of 4.
+fn three_servers(alloc: Global) -> Result<List<List<u64>>, OutOfMemory>
+    ensures { IfOk result (λ demands. demands ≡ (1 ∷ 1 ∷ []) ∷ (2 ∷ 2 ∷ []) ∷ (4 ∷ 4 ∷ []) ∷ []) }
+{
+    let mut demands = List::new(alloc);
+    demands.push(both(alloc, 1)?)?;
+    demands.push(both(alloc, 2)?)?;
+    demands.push(both(alloc, 4)?)?;
+    Ok(demands)
+}
+
+// Whether the two jobs leave the two branches at these times.
+fn they_leave_two_branches_at(alloc: Global, wanted: [u64; 2]) -> Result<bool, OutOfMemory> {
+    let stream = two_jobs(alloc)?;
+    let demands = two_branches(alloc)?;
     let branches = List::from_vec(Vec::from_slice(alloc, &[1, 1])?);
-    let departs = fork_departures(alloc, &two_jobs(alloc)?, &demands, &branches)?;
-    assert_eq!(rt; departs.as_slice(), [3, 6].as_slice());
+    let departs = fork_departures(alloc, &stream, &demands, &branches)?;
+    Ok(departs.as_slice() == wanted.as_slice())
+}
+
+// The same of the three servers.
+fn they_leave_three_servers_at(alloc: Global, wanted: [u64; 2]) -> Result<bool, OutOfMemory> {
+    let stream = two_jobs(alloc)?;
+    let demands = three_servers(alloc)?;
+    let branches = List::from_vec(Vec::from_slice(alloc, &[2, 1])?);
+    let departs = fork_departures(alloc, &stream, &demands, &branches)?;
+    Ok(departs.as_slice() == wanted.as_slice())
+}
+
+#[test]
+fn a_job_leaves_when_its_longest_branch_is_done(rt: HostRuntime) -> Result<(), Fail> {
+    assert!(rt; they_leave_two_branches_at(rt.alloc(), [3, 6])?);
     Ok(())
 }
 
 #[test]
 fn a_branch_of_two_servers_is_served_one_after_the_other(rt: HostRuntime) -> Result<(), Fail> {
-    let alloc = rt.alloc();
-    let mut demands = List::new(alloc);
-    demands.push(both(alloc, 1)?)?;
-    demands.push(both(alloc, 2)?)?;
-    demands.push(both(alloc, 4)?)?;
-    let branches = List::from_vec(Vec::from_slice(alloc, &[2, 1])?);
-    let departs = fork_departures(alloc, &two_jobs(alloc)?, &demands, &branches)?;
-    assert_eq!(rt; departs.as_slice(), [4, 8].as_slice());
+    assert!(rt; they_leave_three_servers_at(rt.alloc(), [4, 8])?);
     Ok(())
 }

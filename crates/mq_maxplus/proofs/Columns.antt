@@ -1,14 +1,14 @@
 -- Matrices, column by column.
 use Rattle.std.proofs.Common.{◌≡◌, ℕ, zero, suc, ◌+◌, ◌-◌, ◌<◌, ◌≤◌, List, [], ◌∷◌, ◌++◌, All, length, get_or, take, drop, set, replicate, arith, sym, ap, ◌∙◌, refl, subst}
 use Rattle.std.specs.Prelude.{slice_get, Some}
-use Rattle.std.proofs.lemmas.List.{drop-replicate, take_more_set, drop-set-lt, drop-drop, length-set, length-map, length-replicate, take_all, drop_all, get_or-map}
-use Rattle.std.proofs.lemmas.List.Elements.{All-set, All-replicate, All-get_or, All-take}
+use Rattle.std.proofs.lemmas.List.{drop-replicate, take_more_set, drop-set-lt, drop-drop, length-set, length-map, length-replicate, take_all, get_or-map}
+use Rattle.std.proofs.lemmas.List.Elements.{All-set, All-replicate, All-take}
 use Rattle.std.proofs.lemmas.Option.{get_or_from_slice_get, slice_get_within}
 use Rattle.std.proofs.Math.Seq.{take-suc, drop-cons}
 use Rattle.mq_maxplus.specs.declared.mp.Mp.{Mp}
 use Rattle.mq_maxplus.specs.declared.mp.Mp.TheVariants.{Void, At}
 use Rattle.mq_maxplus.specs.Maxplus.{mp_max, mp_plus, Fits}
-use Rattle.mq_maxplus.specs.Matrices.{voids, entry, matrix_entry, vec_max, vec_plus, matrix_act, matrix_then, unit_matrix, CanMatrixAct, CanMatrixThen}
+use Rattle.mq_maxplus.specs.Matrices.{voids, entry, matrix_entry, vec_max, vec_plus, greatest_sum, matrix_act, matrix_then, unit_matrix, CanMatrixAct}
 use Rattle.mq_maxplus.specs.Padded.{IsPaddedMatrix, columns-size-back}
 use Rattle.mq_maxplus.proofs.MatrixLaws.{length-units, length-act, length-vplus, length-vmax, vmax-assoc, vmax-voids, fits-max}
 use Rattle.mq_maxplus.proofs.Vectors.{entry-vmax, entry-vplus}
@@ -97,17 +97,6 @@ taking-next first second all all' place column at s h =
           ∙ ((λ i. h.done i ++ item i ∷ []) ∙ (sym (take-suc (matrix_then first second) place [] (omega arith)) ∙ ap (λ n. take n (matrix_then first second)) next)));
     }
 
-pub taking-ends : (first second all : List (List Mp)) (place : ℕ) → length first ≤ place → Taking first second all place → all ≡ matrix_then first second
-taking-ends first second all place l h =
-    let many = h.long in
-    let whole = length-map first (matrix_act second) in
-    sym (take_all place all (omega arith)) ∙ (h.done ∙ take_all place (matrix_then first second) (omega arith))
-
--- what a composition may do, a matrix may do to each column
-pub may-take : (first second : List (List Mp)) (place : ℕ) (column : List Mp) → CanMatrixThen first second → slice_get first place ≡ Some column → CanMatrixAct second column
-may-take first second place column can at =
-    subst (CanMatrixAct second) (get_or_from_slice_get first place column [] at) (All-get_or (CanMatrixAct second) first place [] (slice_get_within first place column at) can.each)
-
 -- the columns of a matrix as it is kept
 pub square-view : (size : ℕ) (columns now : List (List Mp)) → IsPaddedMatrix size columns → take size columns ≡ now → (length now ≡ size) × All (λ column. length column ≡ length now) now
 square-view size columns now h e =
@@ -120,12 +109,6 @@ square-view size columns now h e =
 pub record Acting (columns : List (List Mp)) (xs all : List Mp) (place : ℕ) : Type 0 where
   pub long : length all ≡ length columns
   pub done : all ≡ vec_max (matrix_act (drop place columns) (drop place xs)) (voids (length columns))
-
-pub acting-begins : (columns : List (List Mp)) (xs all : List Mp) (place : ℕ) → length columns ≤ place → all ≡ voids (length columns) → Acting columns xs all place
-acting-begins columns xs all place l e = record {
-  long = ap length e ∙ length-replicate (length columns) Void;
-  done = e ∙ ap (λ left. vec_max (matrix_act left (drop place xs)) (voids (length columns))) (sym (drop_all place columns l));
-}
 
 pub acting-next : (columns : List (List Mp)) (xs all all' : List Mp) (place : ℕ) (column : List Mp) (x : Mp) → slice_get columns place ≡ Some column → x ≡ entry xs place → length xs ≡ length columns → length column ≡ length columns → all' ≡ vec_max (vec_plus x column) all → Acting columns xs all (place + 1) →
     Acting columns xs all' place
@@ -152,6 +135,13 @@ acting-ends columns xs all same some square h =
 pub may-cover : (columns : List (List Mp)) (xs : List Mp) (place : ℕ) (column : List Mp) (x : Mp) → CanMatrixAct columns xs → slice_get columns place ≡ Some column → x ≡ entry xs place → (row : ℕ) → Fits (mp_plus x (entry column row))
 may-cover columns xs place column x can at is row =
     subst (λ (z : Mp × List Mp). Fits (mp_plus z.0 (entry z.1 row))) (λ i. (sym is i, get_or_from_slice_get columns place column [] at i)) (can.sums place row)
+
+-- what a matrix makes of a vector, row by row
+pub entry-act : (columns : List (List Mp)) (xs : List Mp) (row : ℕ) → entry (matrix_act columns xs) row ≡ greatest_sum columns xs row
+entry-act [] xs row = refl
+entry-act (column ∷ columns) [] row = refl
+entry-act (column ∷ columns) (x ∷ xs) row =
+    entry-vmax (vec_plus x column) (matrix_act columns xs) row ∙ (λ i. mp_max (entry-vplus x column row i) (entry-act columns xs row i))
 
 -- what a matrix makes of a vector fits where the sums do
 pub act-fits : (columns : List (List Mp)) (xs : List Mp) → ((column row : ℕ) → Fits (mp_plus (entry xs column) (matrix_entry columns row column))) → (row : ℕ) → Fits (entry (matrix_act columns xs) row)

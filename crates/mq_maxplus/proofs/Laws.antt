@@ -1,5 +1,5 @@
 -- The laws of affine maps.
-use Rattle.std.proofs.Common.{◌≡◌, ℕ, ◌+◌, max, refl, ap, arith, add_assoc}
+use Rattle.std.proofs.Common.{◌≡◌, ℕ, ◌+◌, refl, sym, ap, arith, add_assoc}
 use Rattle.mq_maxplus.specs.declared.mp.Mp.{Mp}
 use Rattle.mq_maxplus.specs.declared.mp.Mp.TheVariants.{Void, At}
 use Rattle.mq_maxplus.specs.declared.affine.Affine.{Affine}
@@ -18,4 +18,4 @@ pub acts : (s t : Affine) (x : Mp) → affine_act (affine_then s t) x ≡ affine
 acts s t x = steps x s.least t.least s.add t.add
 
 pub joins : (s t u : Affine) → affine_then (affine_then s t) u ≡ affine_then s (affine_then t u)
-joins s t u = λ i. affine (add_assoc s.add t.add u.add i) (Rattle.std.proofs.Common.sym (steps s.least t.least u.least t.add u.add) i)
+joins s t u = λ i. affine (add_assoc s.add t.add u.add i) (sym (steps s.least t.least u.least t.add u.add) i)

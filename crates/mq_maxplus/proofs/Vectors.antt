@@ -3,9 +3,9 @@ use Rattle.std.proofs.Common.{◌≡◌, ℕ, zero, suc, ◌+◌, ◌<◌, ◌�
 use Rattle.std.proofs.lemmas.List.{take-replicate, drop-replicate, take_more_set, drop-set-lt, drop-drop, length-set, take_all}
 use Rattle.std.proofs.Math.Seq.{take-suc}
 use Rattle.mq_maxplus.specs.Maxplus.{mp_max, mp_plus}
-use Rattle.mq_maxplus.proofs.MatrixLaws.{length-vplus, length-vmax, plus-void}
+use Rattle.mq_maxplus.proofs.MatrixLaws.{length-vplus, length-vmax, max-void, plus-void}
 use Rattle.mq_maxplus.specs.declared.mp.Mp.{Mp}
-use Rattle.mq_maxplus.specs.declared.mp.Mp.TheVariants.{Void, At}
+use Rattle.mq_maxplus.specs.declared.mp.Mp.TheVariants.{Void}
 use Rattle.mq_maxplus.specs.Matrices.{voids, entry, vec_max, vec_plus}
 use Rattle.mq_maxplus.specs.Padded.{IsPadded}
 
@@ -17,11 +17,7 @@ new-voids size few = take-replicate size 16 Void few
 
 pub entry-vmax : (us vs : List Mp) (row : ℕ) → entry (vec_max us vs) row ≡ mp_max (entry us row) (entry vs row)
 entry-vmax [] vs row = refl
-entry-vmax (u ∷ us) [] row = sym (max-void' (entry (u ∷ us) row))
-  where
-    max-void' : (x : Mp) → mp_max x Void ≡ x
-    max-void' Void = refl
-    max-void' (At a) = refl
+entry-vmax (u ∷ us) [] row = sym (max-void (entry (u ∷ us) row))
 entry-vmax (u ∷ us) (v ∷ vs) zero = refl
 entry-vmax (u ∷ us) (v ∷ vs) (suc row) = entry-vmax us vs row
 

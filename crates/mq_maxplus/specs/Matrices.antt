@@ -29,6 +29,12 @@ matrix_act [] xs = []
 matrix_act (column ∷ columns) [] = []
 matrix_act (column ∷ columns) (x ∷ xs) = vec_max (vec_plus x column) (matrix_act columns xs)
 
+-- the same in one row: the greatest, over the columns, of the number there and the vector's item of its place together
+abbrev pub greatest_sum : List (List Mp) → List Mp → ℕ → Mp
+greatest_sum [] xs row = Void
+greatest_sum (column ∷ columns) [] row = Void
+greatest_sum (column ∷ columns) (x ∷ xs) row = mp_max (mp_plus x (entry column row)) (greatest_sum columns xs row)
+
 -- the composition in which the first acts first: the second takes each column of the first on
 abbrev pub matrix_then : List (List Mp) → List (List Mp) → List (List Mp)
 matrix_then first second = map (matrix_act second) first

@@ -10,7 +10,9 @@ use crate::Mp;
 /// and Mitrani, 1991).
 #[derive(Clone, Copy, Debug, PartialEq, Eq)]
 pub struct Affine {
+    /// What is added, in ticks.
     pub add: u64,
+    /// The least that comes out.
     pub least: Mp,
 }
 

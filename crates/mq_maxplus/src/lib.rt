@@ -5,6 +5,8 @@
 mod affine;
 mod matrix;
 mod mp;
+#[cfg(test)]
+mod tests;
 mod vector;
 
 pub use affine::{Affine, affine_laws};

@@ -1,7 +1,7 @@
 // Square matrices under max and plus.
-ghost use Rattle.std.specs.Prelude.{◌≡◌, ◌<◌, ◌≤◌, List as Items, [], Some, length, slice_get, slice_index_or, slice_set};
+ghost use Rattle.std.specs.Prelude.{◌≡◌, ℕ, ◌<◌, ◌≤◌, List as Items, [], Some, length, slice_get, slice_index_or, slice_set};
 ghost use Rattle.mq_maxplus.specs.declared.mp.Mp.{Mp as Number};
-ghost use Rattle.mq_maxplus.specs.Matrices.{matrix_act, matrix_entry, matrix_then, unit_matrix, CanMatrixAct, CanMatrixThen};
+ghost use Rattle.mq_maxplus.specs.Matrices.{entry, greatest_sum, matrix_act, matrix_entry, matrix_then, unit_matrix, CanMatrixAct, CanMatrixThen};
 
 use crate::{Mp, Vector};
 use std::marker::Model;
@@ -33,8 +33,8 @@ impl Model for Matrix {
 }
 
 impl Matrix {
-    /// The matrix of this size that leaves each vector as it is: a zero on the diagonal, else minus
-    /// infinity.
+    /// The matrix of this size, 1 to 16, that leaves each vector as it is: a zero on the diagonal, else
+    /// minus infinity.
     pub fn unit(size: u8) -> Matrix
         requires some { 1 ≤ size }
         requires few { size ≤ 16 }
@@ -130,9 +130,13 @@ impl Matrix {
     }
 }
 
-/// Laws. Acting by a composition of matrices is acting by one and then the other, and the
-/// composition is associative.
+/// Laws. What a matrix makes of a vector has in each row the greatest, over the columns, of the number
+/// there and the vector's number of that place together. Acting by a composition of matrices is acting
+/// by one and then the other, the composition is associative, and the unit matrix leaves each vector of
+/// its size as it is.
 pub fn matrix_laws()
+    ensures rows { (s : Items (Items Number)) (x : Items Number) (row : ℕ) → entry (matrix_act s x) row ≡ greatest_sum s x row }
     ensures acts { (s t : Items (Items Number)) (x : Items Number) → matrix_act (matrix_then s t) x ≡ matrix_act t (matrix_act s x) }
     ensures joins { (s t u : Items (Items Number)) → matrix_then (matrix_then s t) u ≡ matrix_then s (matrix_then t u) }
+    ensures units { (x : Items Number) → matrix_act (unit_matrix (length x)) x ≡ x }
 {}

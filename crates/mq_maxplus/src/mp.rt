@@ -5,7 +5,9 @@ ghost use Rattle.mq_maxplus.specs.Maxplus.{mp_max, mp_or_zero, mp_plus, Fits};
 /// A time in ticks, or minus infinity.
 #[derive(Clone, Copy, Debug, PartialEq, Eq)]
 pub enum Mp {
+    /// Minus infinity: no time, as where nothing has happened yet.
     Void,
+    /// A time in ticks.
     At(u64),
 }
 
@@ -33,6 +35,7 @@ impl Mp {
             _ => Mp::Void,
         }
     }
+
     /// The number, or 0 at minus infinity.
     #[inline]
     pub fn or_zero(self) -> u64

@@ -32,7 +32,7 @@ impl Model for Vector {
 }
 
 impl Vector {
-    /// A vector of this size that is minus infinity everywhere.
+    /// A vector of this size, 1 to 16, that is minus infinity everywhere.
     pub fn new(size: u8) -> Vector
         requires some { 1 ≤ size }
         requires few { size ≤ 16 }
@@ -71,6 +71,7 @@ impl Vector {
     {
         self.items[row as usize] = value;
     }
+
     // Row by row the greater of this one and another with a number added.
     pub(crate) fn cover(&mut self, other: &Vector, by: Mp)
         requires same { length other.now ≡ length self.old }

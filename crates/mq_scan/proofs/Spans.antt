@@ -1,4 +1,4 @@
--- A summary acts as its jobs in turn.
+-- A summary acts as its jobs in turn; the carries of ranges stand one behind another; a block begins inside.
 use Rattle.std.proofs.Common.{◌≡◌, ℕ, zero, suc, ◌+◌, ◌-◌, ◌*◌, ◌<◌, ◌≤◌, List, [], ◌∷◌, ◌++◌, length, get_or, min, refl, sym, ap, ◌∙◌, subst, arith, Some, slice_get, length-append, append_assoc, map}
 use Rattle.std.proofs.lemmas.Option.{get_or_from_slice_get}
 use Rattle.std.proofs.Math.Seq.{get_or-append_seam}

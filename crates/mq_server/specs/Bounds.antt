@@ -1,11 +1,12 @@
--- The sums of a server's scan fit a u64.
+-- Laws that the step's ghost members cite: the sums of a server's scan fit a u64.
 use Rattle.std.proofs.Common.{ℕ, zero, suc, ◌+◌, ◌*◌, ◌^◌, ◌<◌, ◌≤◌, List, length, get_or, arith}
 use Rattle.std.proofs.lemmas.List.Elements.{All-get_or, All-weaker}
 use Rattle.mq_maxplus.specs.declared.mp.Mp.{Mp}
 use Rattle.mq_maxplus.specs.declared.mp.Mp.TheVariants.{Void, At}
 use Rattle.mq_maxplus.specs.declared.affine.Affine.{Affine}
 use Rattle.mq_maxplus.specs.Maxplus.{mp_max, mp_plus, affine_act, affine_then, CanThen, CanAct}
-use Rattle.mq_maxplus.specs.Within.{IsWithin, within-plus, within-max, within-more, fits-within}
+use Rattle.mq_maxplus.specs.Within.{IsWithin}
+use Rattle.mq_maxplus.proofs.Within.{within-plus, within-max, within-more, fits-within}
 use Rattle.mq_scan.specs.Folds.{span, fold_to}
 use Rattle.mq_core.specs.Columns.{IsSoundLoad}
 use Rattle.mq_server.specs.Jobs.{job, IsLateLoad}

@@ -38,8 +38,8 @@ pub fn departures(
     departures_of(alloc, &ServerStep::new(stream, demands))
 }
 
-/// The same for jobs that come at these times, from other servers perhaps, which may be later than
-/// those of a stream.
+/// The same for jobs that come at these times, from other servers perhaps: in ticks, by position, and
+/// up to 2^62, later than those of a stream. It refuses for want of memory alone.
 pub fn departures_behind(
     alloc: Global,
     arrive: &List<u64>,
@@ -51,8 +51,7 @@ pub fn departures_behind(
     departures_of(alloc, &ServerStep::behind(arrive, demands))
 }
 
-// When each job leaves the server.
-// It is not inlined, so that its loop has the registers to itself.
+// When each job leaves the server. It is not inlined, so that its loop has the registers to itself.
 #[inline(never)]
 fn departures_of(alloc: Global, step: &ServerStep) -> Result<List<u64>, OutOfMemory>
     ensures { IfOk result (λ departs. departs ≡ lindley 0 step.now.arrive.now step.now.demands.now) }
@@ -60,7 +59,7 @@ fn departures_of(alloc: Global, step: &ServerStep) -> Result<List<u64>, OutOfMem
     scan_times(step, alloc, BLOCK)
 }
 
-/// Law. The carries of the scan of a server's jobs are its departures.
+/// Law. The carries of the fold of a server's jobs, of each the time, are Lindley's departures.
 pub fn carries_are_departures(step: &ServerStep)
     ensures { map mp_or_zero (carries_after affine_act Void (job step.now.arrive.now step.now.demands.now) 0 (length step.now.arrive.now)) ≡ lindley 0 step.now.arrive.now step.now.demands.now }
 {

@@ -13,11 +13,13 @@ use mq_maxplus::{Affine, Mp};
 use mq_scan::{Step, Timed};
 
 /// The jobs of a server, which act on its last departure one after another: before the first there
-/// is none. Jobs together are an affine map.
+/// is none. Jobs together are an affine map (Greenberg, Lubachevsky and Mitrani, 1991).
 #[derive(Clone, Copy)]
 pub struct ServerStep<'a> {
-    arrive: &'a List<u64>,
-    demands: &'a List<u64>,
+    /// When the jobs come, by position, in ticks.
+    pub arrive: &'a List<u64>,
+    /// What they need, by position, in ticks of service.
+    pub demands: &'a List<u64>,
     ghost load: { IsLateLoad arrive.now demands.now },
 }
 
@@ -31,7 +33,8 @@ impl<'a> ServerStep<'a> {
         ServerStep::behind(&stream.time, demands)
     }
 
-    /// The jobs that come at these times from other servers. It takes no memory.
+    /// The jobs that come at these times, in ticks and up to 2^62, from other servers. It takes no
+    /// memory.
     pub fn behind(arrive: &'a List<u64>, demands: &'a List<u64>) -> ServerStep<'a>
         requires { IsLateLoad arrive.now demands.now }
         ensures arrive { result.arrive.now ≡ arrive.now }

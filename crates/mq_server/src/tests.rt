@@ -1,9 +1,10 @@
 ghost use Rattle.std.specs.Prelude.{◌≡◌, ◌≤◌, ◌∷◌, [], length, IfOk};
+ghost use Rattle.mq_core.specs.Columns.{IsSoundLoad};
 ghost use Rattle.mq_maxplus.specs.Maxplus.{affine_then};
 ghost use Rattle.mq_scan.specs.Folds.{AreSummaries};
 ghost use Rattle.mq_server.specs.Jobs.{job};
 
-use crate::{ServerStep, departures};
+use crate::{ServerStep, departures, departures_behind};
 use mq_base::{List, OutOfMemory};
 use mq_core::Stream;
 use mq_maxplus::{Affine, Mp};
@@ -11,46 +12,66 @@ use mq_scan::{Step, apply, carries, cut, scan, summarise};
 use std::alloc::Global;
 use std::test::Fail;
 
-// Three jobs, which come at 0, 1 and 2.
-fn three_jobs(alloc: Global) -> Result<Stream, OutOfMemory>
-    ensures { IfOk result (λ stream. stream.time ≡ 0 ∷ 1 ∷ 2 ∷ []) }
+// Arrivals and one demand each.
+#[derive(Drop)]
+struct Load {
+    stream: Stream,
+    demands: List<u64>,
+}
+
+// Three jobs, which come at 0, 1 and 2 and need 4, 1 and 3 ticks.
+fn three_jobs(alloc: Global) -> Result<Load, OutOfMemory>
+    ensures load { IfOk result (λ load. IsSoundLoad load.stream.time load.demands) }
+    ensures arrive { IfOk result (λ load. load.stream.time ≡ 0 ∷ 1 ∷ 2 ∷ []) }
+    ensures demands { IfOk result (λ load. load.demands ≡ 4 ∷ 1 ∷ 3 ∷ []) }
 {
-    Ok(Stream {
-        job: List::from_vec(Vec::from_slice(alloc, &[0, 1, 2])?),
-        time: List::from_vec(Vec::from_slice(alloc, &[0, 1, 2])?),
+    Ok(Load {
+        stream: Stream {
+            job: List::from_vec(Vec::from_slice(alloc, &[0, 1, 2])?),
+            time: List::from_vec(Vec::from_slice(alloc, &[0, 1, 2])?),
+        },
+        demands: List::from_vec(Vec::from_slice(alloc, &[4, 1, 3])?),
     })
 }
 
-// What they need.
-fn their_demands(alloc: Global) -> Result<List<u64>, OutOfMemory>
-    ensures { IfOk result (λ demands. demands ≡ 4 ∷ 1 ∷ 3 ∷ []) }
-{
-    Ok(List::from_vec(Vec::from_slice(alloc, &[4, 1, 3])?))
+// Whether the jobs leave at these times.
+fn they_leave_at(alloc: Global, wanted: &[u64]) -> Result<bool, OutOfMemory> {
+    let load = three_jobs(alloc)?;
+    let departs = departures(alloc, &load.stream, &load.demands)?;
+    Ok(departs.as_slice() == wanted)
+}
+
+// The same where they come from other servers.
+fn from_others_they_leave_at(alloc: Global, wanted: &[u64]) -> Result<bool, OutOfMemory> {
+    let load = three_jobs(alloc)?;
+    let departs = departures_behind(alloc, &load.stream.time, &load.demands)?;
+    Ok(departs.as_slice() == wanted)
 }
 
 #[test]
 fn a_job_begins_when_the_one_before_it_leaves(rt: HostRuntime) -> Result<(), Fail> {
-    let alloc = rt.alloc();
-    let stream = three_jobs(alloc)?;
-    let demands = their_demands(alloc)?;
-    let departs = departures(alloc, &stream, &demands)?;
-    assert_eq!(rt; departs.as_slice(), [4, 5, 8].as_slice());
+    assert!(rt; they_leave_at(rt.alloc(), &[4, 5, 8])?);
+    assert!(rt; from_others_they_leave_at(rt.alloc(), &[4, 5, 8])?);
     Ok(())
+}
+
+// Whether a scan by blocks of this size gives these departures.
+fn blocks_give(alloc: Global, block: u32, wanted: &[Mp]) -> Result<bool, OutOfMemory>
+    requires { 1 ≤ block }
+{
+    let load = three_jobs(alloc)?;
+    let after = scan(&ServerStep::new(&load.stream, &load.demands), alloc, block)?;
+    Ok(after.as_slice() == wanted)
 }
 
 #[test]
 fn every_block_gives_the_same_departures(rt: HostRuntime) -> Result<(), Fail> {
     let alloc = rt.alloc();
-    let stream = three_jobs(alloc)?;
-    let demands = their_demands(alloc)?;
-    let step = ServerStep::new(&stream, &demands);
-    for block in 1..5 {
-        let after = scan(&step, alloc, block)?;
-        assert_eq!(rt;
-            after.as_slice(),
-            [Mp::At(4), Mp::At(5), Mp::At(8)].as_slice()
-        );
-    }
+    let departs = [Mp::At(4), Mp::At(5), Mp::At(8)];
+    assert!(rt; blocks_give(alloc, 1, &departs)?);
+    assert!(rt; blocks_give(alloc, 2, &departs)?);
+    assert!(rt; blocks_give(alloc, 3, &departs)?);
+    assert!(rt; blocks_give(alloc, 4, &departs)?);
     Ok(())
 }
 
@@ -68,25 +89,46 @@ fn sums_of(alloc: Global, step: &ServerStep, block: u32) -> Result<List<Affine>,
     Ok(sums)
 }
 
+fn affine(add: u64, least: u64) -> Affine {
+    Affine {
+        add,
+        least: Mp::At(least),
+    }
+}
+
+// Whether these are the summaries of the blocks of this size.
+fn sums_are(alloc: Global, block: u32, wanted: &[Affine]) -> Result<bool, OutOfMemory>
+    requires { 1 ≤ block }
+{
+    let load = three_jobs(alloc)?;
+    let sums = sums_of(alloc, &ServerStep::new(&load.stream, &load.demands), block)?;
+    Ok(sums.as_slice() == wanted)
+}
+
+// Whether these are the departures before the blocks of two jobs.
+fn carries_are(alloc: Global, wanted: &[Mp]) -> Result<bool, OutOfMemory> {
+    let load = three_jobs(alloc)?;
+    let step = ServerStep::new(&load.stream, &load.demands);
+    let sums = sums_of(alloc, &step, 2)?;
+    let before = carries(&step, alloc, &sums)?;
+    Ok(before.as_slice() == wanted)
+}
+
+// Whether these are the departures in the second of them, behind the departure at 5.
+fn second_block_gives(alloc: Global, wanted: &[Mp]) -> Result<bool, OutOfMemory> {
+    let load = three_jobs(alloc)?;
+    let step = ServerStep::new(&load.stream, &load.demands);
+    let after = apply(&step, alloc, 2, 3, Mp::At(5))?;
+    Ok(after.as_slice() == wanted)
+}
+
 #[test]
 fn the_blocks_of_a_scan_are_put_together(rt: HostRuntime) -> Result<(), Fail> {
     let alloc = rt.alloc();
-    let stream = three_jobs(alloc)?;
-    let demands = their_demands(alloc)?;
-    let step = ServerStep::new(&stream, &demands);
-    let sums = sums_of(alloc, &step, 2)?;
-    let first = Affine {
-        add: 5,
-        least: Mp::At(5),
-    };
-    let second = Affine {
-        add: 3,
-        least: Mp::At(5),
-    };
-    assert_eq!(rt; sums.as_slice(), [first, second].as_slice());
-    let before = carries(&step, alloc, &sums)?;
-    assert_eq!(rt; before.as_slice(), [Mp::Void, Mp::At(5)].as_slice());
-    let after = apply(&step, alloc, 2, 3, *before.get(1))?;
-    assert_eq!(rt; after.as_slice(), [Mp::At(8)].as_slice());
+    let jobs = [affine(4, 4), affine(1, 2), affine(3, 5)];
+    assert!(rt; sums_are(alloc, 1, &jobs)?);
+    assert!(rt; sums_are(alloc, 2, &[affine(5, 5), affine(3, 5)])?);
+    assert!(rt; carries_are(alloc, &[Mp::Void, Mp::At(5)])?);
+    assert!(rt; second_block_gives(alloc, &[Mp::At(8)])?);
     Ok(())
 }

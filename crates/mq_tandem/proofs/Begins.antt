@@ -10,11 +10,11 @@ use Rattle.mq_maxplus.specs.declared.mp.Mp.{Mp}
 use Rattle.mq_maxplus.specs.declared.mp.Mp.TheVariants.{At}
 use Rattle.mq_maxplus.specs.Maxplus.{mp_plus, Fits}
 use Rattle.mq_maxplus.specs.Matrices.{entry, unit_matrix}
-use Rattle.mq_maxplus.specs.Within.{entry-within, fits-within}
+use Rattle.mq_maxplus.proofs.Within.{entry-within, fits-within}
 use Rattle.mq_tandem.specs.Rows.{kept, zero_row, passed, job_act, IsTandemLoad}
-use Rattle.mq_tandem.specs.Bounds.{IsKept, units-act}
+use Rattle.mq_tandem.specs.Bounds.{IsKept, length-kept, units-act}
 use Rattle.mq_tandem.proofs.Lists.{get_within, length-firsts}
-use Rattle.mq_tandem.proofs.Rows.{length-kept, some-kept}
+use Rattle.mq_tandem.proofs.Rows.{some-kept}
 use Rattle.mq_tandem.proofs.Passing.{Passing, came-fits}
 
 -- a stage has a demand for each job

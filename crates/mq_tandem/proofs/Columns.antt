@@ -1,10 +1,10 @@
 -- A job acts on each column of a matrix.
-use Rattle.std.proofs.Common.{◌≡◌, ℕ, ◌+◌, List, [], ◌∷◌, All, length, map, refl, sym, ◌∙◌, subst}
+use Rattle.std.proofs.Common.{◌≡◌, ℕ, ◌+◌, List, All, length, ◌∙◌, subst}
 use Rattle.std.proofs.lemmas.List.{length-map}
-use Rattle.std.proofs.lemmas.List.Elements.{All-head, All-tail, All-weaker}
+use Rattle.std.proofs.lemmas.List.Elements.{All-weaker}
 use Rattle.mq_maxplus.specs.declared.mp.Mp.{Mp}
 use Rattle.mq_maxplus.specs.Maxplus.{Fits}
-use Rattle.mq_maxplus.specs.Matrices.{entry, matrix_then, unit_matrix, CanMatrixAct, CanMatrixThen}
+use Rattle.mq_maxplus.specs.Matrices.{entry, unit_matrix, CanMatrixAct, CanMatrixThen}
 use Rattle.mq_maxplus.proofs.Columns.{act-fits}
 use Rattle.mq_maxplus.proofs.MatrixLaws.{length-units}
 use Rattle.mq_tandem.specs.Rows.{zero_row, job_act, job_matrix}
@@ -26,10 +26,3 @@ module _ (places arrive : List ℕ) (demands : List (List ℕ)) (at : ℕ) where
 
   pub columns-fit : (columns : List (List Mp)) → CanMatrixThen columns Job → All (λ column. (row : ℕ) → Fits (entry (Act column) row)) columns
   columns-fit columns can = All-weaker (CanMatrixAct Job) (λ column. (row : ℕ) → Fits (entry (Act column) row)) row-fits columns can.each
-
-  -- and it acts on them as its matrix does
-  pub columns-act : (columns : List (List Mp)) → All (CanMatrixAct Job) columns → map Act columns ≡ matrix_then columns Job
-  columns-act [] h = refl
-  columns-act (column ∷ columns) h =
-      let can = All-head (CanMatrixAct Job) column columns h in
-      λ i. sym (matrix-acts places arrive demands at column (can.same ∙ job-size)) i ∷ columns-act columns (All-tail (CanMatrixAct Job) column columns h) i

@@ -1,38 +1,13 @@
 -- Lists by place.
-use Rattle.std.proofs.Common.{◌≡◌, ℕ, zero, suc, ◌+◌, ◌<◌, List, [], ◌∷◌, ◌++◌, length, get_or, take, drop, map, Option, Some, sym, refl, ap, ◌∙◌, arith}
+use Rattle.std.proofs.Common.{◌≡◌, ℕ, zero, suc, ◌+◌, ◌<◌, List, [], ◌∷◌, length, get_or, drop, map, Option, Some, refl, ap, ◌∙◌, arith}
 use Rattle.std.specs.Prelude.{slice_get}
 use Rattle.mq_base.proofs.Lists.{some_inj}
 use Rattle.mq_core.specs.Recurrences.{time_or_none, firsts, rest}
-
-from-drop : {X : Type 0} (xs ys : List X) (i : ℕ) (x : X) → drop i xs ≡ x ∷ ys → (slice_get xs i ≡ Some x) × (drop (suc i) xs ≡ ys)
-from-drop [] ys zero x h = absurd cc
-from-drop [] ys (suc i) x h = absurd cc
-from-drop (z ∷ zs) ys zero x h = (ap (λ l. slice_get l 0) h, ap (drop 1) h)
-from-drop (z ∷ zs) ys (suc i) x h = from-drop zs ys i x h
-
--- and the other way round
-pub at_drop : {X : Type 0} (xs ys : List X) (i : ℕ) (x : X) → drop i xs ≡ x ∷ ys → (slice_get xs i ≡ Some x) × (drop (i + 1) xs ≡ ys)
-at_drop xs ys i x h =
-    let r = from-drop xs ys i x h in
-    let next : i + 1 ≡ suc i = omega arith in
-    (r.0, ap (λ n. drop n xs) next ∙ r.1)
 
 pub get_within : {X : Type 0} (xs : List X) (i : ℕ) (d : X) → i < length xs → slice_get xs i ≡ Some (get_or xs i d)
 get_within [] i d l = absurd (omega arith)
 get_within (x ∷ xs) zero d l = refl
 get_within (x ∷ xs) (suc i) d l = get_within xs i d (omega arith)
-
--- one item more, of what a map has made so far
-map-next : {X Y : Type 0} (f : X → Y) (xs : List X) (i : ℕ) (d : X) → i < length xs → map f (take (suc i) xs) ≡ map f (take i xs) ++ f (get_or xs i d) ∷ []
-map-next f [] i d l = absurd (omega arith)
-map-next f (y ∷ ys) zero d l = refl
-map-next f (y ∷ ys) (suc i) d l = ap (λ l. f y ∷ l) (map-next f ys i d (omega arith))
-
--- where a map makes the same of each
-pub map-more : {X Y : Type 0} (y : Y) (xs : List X) (i : ℕ) (d : X) (done done' : List Y) → i < length xs → done' ≡ done ++ y ∷ [] → done ≡ map (λ _. y) (take i xs) → done' ≡ map (λ _. y) (take (i + 1) xs)
-map-more y xs i d done done' l p h =
-    let next : suc i ≡ i + 1 = omega arith in
-    p ∙ (ap (λ ys. ys ++ y ∷ []) h ∙ (sym (map-next (λ _. y) xs i d l) ∙ ap (λ n. map (λ _. y) (take n xs)) next))
 
 -- an item or 0
 pub get_or-time : (xs : List ℕ) (i : ℕ) → get_or xs i 0 ≡ time_or_none (slice_get xs i)

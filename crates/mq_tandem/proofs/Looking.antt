@@ -1,5 +1,5 @@
 -- No stage looks back further than its four latest departures.
-use Rattle.std.proofs.Common.{◌≡◌, ℕ, zero, suc, ◌+◌, ◌-◌, ◌<◌, ◌≤◌, List, [], ◌∷◌, All, take, drop, map, refl, ap, ◌∙◌, arith, max}
+use Rattle.std.proofs.Common.{◌≡◌, ℕ, zero, suc, ◌+◌, ◌-◌, ◌<◌, ◌≤◌, List, [], ◌∷◌, All, drop, map, refl, ap, ◌∙◌, arith, max}
 use Rattle.std.specs.Prelude.{⊤, slice_get}
 use Rattle.std.proofs.lemmas.List.Elements.{All-head, All-tail}
 use Rattle.mq_core.specs.Recurrences.{time_or_none, room_in, stage_departs, each_before, last_time, firsts, rest, tandem_departs}
@@ -66,18 +66,6 @@ tandem-same places left others (arrive ∷ arrives) demands h e =
     let same = stages-same arrive places (firsts demands) left others h e in
     ap (λ times. last_time times ∷ tandem_departs places (each_before times left) arrives (map rest demands)) same
     ∙ ap (λ departs. last_time (stage_departs arrive places (firsts demands) others) ∷ departs) (tandem-same places (each_before (stage_departs arrive places (firsts demands) others) left) (each_before (stage_departs arrive places (firsts demands) others) others) arrives (map rest demands) h (before-same (stage_departs arrive places (firsts demands) others) left others e))
-
-take-get : (xs : List ℕ) (n i : ℕ) → i < n → slice_get (take n xs) i ≡ slice_get xs i
-take-get [] zero i l = refl
-take-get [] (suc n) i l = refl
-take-get (x ∷ xs) zero i l = absurd (omega arith)
-take-get (x ∷ xs) (suc n) zero l = refl
-take-get (x ∷ xs) (suc n) (suc i) l = take-get xs n i (omega arith)
-
--- the four latest are enough
-pub four-same : (left : List (List ℕ)) → LookAs (map (take 4) left) left
-four-same [] = tt
-four-same (xs ∷ left) = ((λ i l. ap time_or_none (take-get xs 4 i l)), four-same left)
 
 -- where there is no departure, 0 looks the same
 pub none-same : (places : List ℕ) → LookAs (map (λ _. 0 ∷ 0 ∷ 0 ∷ 0 ∷ []) places) (map (λ _. []) places)

@@ -1,6 +1,6 @@
 -- Each item of a list is changed in its place.
-use Rattle.std.proofs.Common.{◌≡◌, ℕ, suc, ◌+◌, ◌<◌, ◌≤◌, List, [], ◌∷◌, ◌++◌, All, length, get_or, take, drop, map, set, sym, ap, ◌∙◌, arith}
-use Rattle.std.proofs.lemmas.List.{drop-set-lt, drop-drop, length-map, length-set, take_all, take_more_set, get_or-map, get_or-drop, get_or-take}
+use Rattle.std.proofs.Common.{◌≡◌, ℕ, suc, ◌+◌, ◌<◌, List, [], ◌∷◌, ◌++◌, All, length, get_or, take, drop, map, set, sym, ap, ◌∙◌, arith}
+use Rattle.std.proofs.lemmas.List.{drop-set-lt, drop-drop, length-map, length-set, take_more_set, get_or-map, get_or-drop, get_or-take}
 use Rattle.std.proofs.lemmas.List.Elements.{All-cons, All-head, All-nil, All-tail}
 use Rattle.std.proofs.Math.Seq.{take-suc}
 
@@ -33,12 +33,6 @@ module _ {X : Type 0} (d : X) (f : X → X) where
             ap (drop (place + 1)) s
             ∙ (drop-set-lt (place + 1) now place y (omega arith) ∙ (sym (drop-drop 1 place now) ∙ (ap (drop 1) h.left ∙ drop-drop 1 place old)));
       }
-
-  pub mapping-ends : (old now : List X) (place : ℕ) → length old ≤ place → Mapping old now place → now ≡ map f old
-  mapping-ends old now place l h =
-      let many = h.long in
-      let whole = length-map old f in
-      sym (take_all place now (omega arith)) ∙ (h.done ∙ take_all place (map f old) (omega arith))
 
   -- an item that is changed
   pub item-done : (old now : List X) (place k : ℕ) → k < place → k < length old → take place now ≡ take place (map f old) → get_or now k d ≡ f (get_or old k d)

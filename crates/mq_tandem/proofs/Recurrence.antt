@@ -11,10 +11,10 @@ use Rattle.mq_maxplus.specs.Matrices.{entry, matrix_act}
 use Rattle.mq_scan.specs.Folds.{fold_to, carries_after}
 use Rattle.mq_tandem.specs.Rows.{kept, zero_row, last_row, passed, job_act, job_matrix, none_kept, IsTandemLoad}
 use Rattle.mq_tandem.specs.Linear.{matrix-acts}
-use Rattle.mq_tandem.specs.Bounds.{fold-kept}
+use Rattle.mq_tandem.specs.Bounds.{fold-kept, length-kept}
 use Rattle.mq_tandem.proofs.Lists.{rests-drop, map-drop_0, length-firsts}
 use Rattle.mq_tandem.proofs.Looking.{HaveRoom, tandem-same, none-same}
-use Rattle.mq_tandem.proofs.Rows.{kept-some, kept-narrow, length-kept}
+use Rattle.mq_tandem.proofs.Rows.{kept-some, kept-narrow}
 use Rattle.mq_tandem.proofs.Latest.{latest, AreDeep, deep-before, deep-none, latest-last, latest-none, latest-zero, passed-latest, stage-kept}
 
 abbrev zeros : List ℕ

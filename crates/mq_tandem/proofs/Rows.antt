@@ -1,12 +1,12 @@
 -- The rows of what is kept.
-use Rattle.std.proofs.Common.{◌≡◌, ℕ, suc, ◌+◌, ◌-◌, ◌*◌, ◌<◌, ◌≤◌, List, [], ◌∷◌, ◌++◌, All, get_or, length, take, drop, set, replicate, sum, Some, refl, sym, ap, ◌∙◌, subst, arith}
+use Rattle.std.proofs.Common.{◌≡◌, ℕ, suc, ◌+◌, ◌-◌, ◌*◌, ◌<◌, ◌≤◌, List, [], ◌∷◌, All, get_or, length, drop, sum, Some, refl, sym, ap, ◌∙◌, subst, arith}
 use Rattle.std.specs.Prelude.{slice_get}
-use Rattle.std.proofs.lemmas.List.{drop_all, length-drop, get_or-drop, take_more_set, replicate_more}
+use Rattle.std.proofs.lemmas.List.{drop_all, length-drop, get_or-drop}
 use Rattle.std.proofs.lemmas.List.Elements.{All-cons, All-get_or, All-head, All-tail}
 use Rattle.std.proofs.lemmas.Option.{get_or_from_slice_get, slice_get_within}
 use Rattle.mq_base.proofs.Lists.{drop_at, sum-cons}
 use Rattle.mq_maxplus.specs.declared.mp.Mp.{Mp}
-use Rattle.mq_maxplus.specs.declared.mp.Mp.TheVariants.{Void, At}
+use Rattle.mq_maxplus.specs.declared.mp.Mp.TheVariants.{Void}
 use Rattle.mq_maxplus.specs.Matrices.{entry}
 use Rattle.mq_tandem.specs.Rows.{kept, last_row, zero_row, room_row}
 
@@ -57,10 +57,6 @@ kept-drop places stage = let next : suc stage ≡ stage + 1 = omega arith in sym
     behind [] = refl
     behind (count ∷ more) = refl
 
--- What is kept before the first job, row by row.
-pub zeros-next : (rows rows' : List Mp) (row : ℕ) → row < length rows → rows' ≡ set rows row (At 0) → take row rows ≡ replicate row (At 0) → take (row + 1) rows' ≡ replicate (row + 1) (At 0)
-zeros-next rows rows' row l s h = ap (take (row + 1)) s ∙ (take_more_set rows row (At 0) l ∙ (ap (λ xs. xs ++ At 0 ∷ []) h ∙ replicate_more row (At 0)))
-
 -- Each stage keeps one departure at least, and each after the first four at most.
 pub kept-some : (places : List ℕ) → All (λ count. 1 ≤ count) (drop 1 places) → All (λ count. 1 ≤ count) (kept places)
 kept-some [] h = h
@@ -73,10 +69,6 @@ kept-narrow (count ∷ more) h = All-cons (λ count. count ≤ 4) 1 more (omega 
 pub some-kept : (places : List ℕ) (stage count : ℕ) → All (λ count. 1 ≤ count) (drop 1 places) → slice_get (kept places) stage ≡ Some count → 1 ≤ count
 some-kept places stage count some at =
     subst (λ (n : ℕ). 1 ≤ n) (get_or_from_slice_get (kept places) stage count 0 at) (All-get_or (λ n. 1 ≤ n) (kept places) stage 0 (slice_get_within (kept places) stage count at) (kept-some places some))
-
-pub length-kept : (places : List ℕ) → length (kept places) ≡ length places
-length-kept [] = refl
-length-kept (count ∷ more) = refl
 
 -- The row of the latest departure from the last stage.
 pub last-behind : (counts : List ℕ) → 1 ≤ length counts → last_row counts + get_or counts (length counts - 1) 0 ≡ sum counts

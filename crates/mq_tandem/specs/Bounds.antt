@@ -1,4 +1,4 @@
--- The sums of a tandem's scan fit a u64.
+-- Laws that the step's ghost members cite: the sums of a tandem's scan fit a u64.
 use Rattle.std.proofs.Common.{◌≡◌, ℕ, zero, suc, ◌+◌, ◌-◌, ◌*◌, ◌^◌, ◌<◌, ◌≤◌, List, [], ◌∷◌, ◌++◌, All, get_or, length, take, drop, map, sum, refl, sym, ap, ◌∙◌, subst, arith}
 use Rattle.std.specs.Prelude.{slice_get}
 use Rattle.std.proofs.Math.Seq.{drop-append-add}
@@ -10,8 +10,9 @@ use Rattle.mq_core.specs.Recurrences.{firsts, time_or_none}
 use Rattle.mq_maxplus.specs.declared.mp.Mp.{Mp}
 use Rattle.mq_maxplus.specs.declared.mp.Mp.TheVariants.{Void, At}
 use Rattle.mq_maxplus.specs.Maxplus.{mp_max, mp_plus}
-use Rattle.mq_maxplus.specs.Matrices.{entry, matrix_act, matrix_then, matrix_entry, unit_matrix, CanMatrixAct, CanMatrixThen}
-use Rattle.mq_maxplus.specs.Within.{IsWithin, within-plus, within-max, within-more, fits-within, entry-within}
+use Rattle.mq_maxplus.specs.Matrices.{entry, matrix_act, matrix_then, unit_matrix, CanMatrixAct, CanMatrixThen}
+use Rattle.mq_maxplus.specs.Within.{IsWithin}
+use Rattle.mq_maxplus.proofs.Within.{within-plus, within-max, within-more, entry-within, may-act}
 use Rattle.mq_maxplus.proofs.MatrixLaws.{length-units, units-square, units-within}
 use Rattle.mq_maxplus.proofs.Vectors.{entry-drop}
 use Rattle.mq_scan.specs.Folds.{span, fold_to}
@@ -80,7 +81,8 @@ pub record AreKept (places : List ℕ) (limit : ℕ) (columns : List (List Mp)) 
   pub size : length columns ≡ zero_row places + 1
   pub each : All (IsKept places limit) columns
 
-length-kept : (places : List ℕ) → length (kept places) ≡ length places
+-- as many stages keep departures as there are
+pub length-kept : (places : List ℕ) → length (kept places) ≡ length places
 length-kept [] = refl
 length-kept (count ∷ more) = refl
 
@@ -167,18 +169,9 @@ module _ (arrive : List ℕ) (demands : List (List ℕ)) (places : List ℕ) (lo
       let more : 2 ^ 60 + suc n * 2 ^ 38 + 2 ^ 38 ≡ 2 ^ 60 + suc (suc n) * 2 ^ 38 = omega arith in
       subst (λ (b : ℕ). AreKept places b (Span from (suc n))) more (then-kept (from + suc n) (2 ^ 60 + suc n * 2 ^ 38) (Span from n) (omega arith) (omega arith) before)
 
-  -- the entries of a matrix
-  columns-within : (limit : ℕ) (columns : List (List Mp)) → All (IsKept places limit) columns → (column row : ℕ) → IsWithin limit (matrix_entry columns row column)
-  columns-within limit [] h column row = tt
-  columns-within limit (first ∷ columns) h zero row = entry-within first row limit (All-head (IsKept places limit) first columns h).within
-  columns-within limit (first ∷ columns) h (suc column) row = columns-within limit columns (All-tail (IsKept places limit) first columns h) column row
-
-  may-act : (a b : ℕ) (columns : List (List Mp)) (rows : List Mp) → a + b < 2 ^ 64 → AreKept places a columns → IsKept places b rows → CanMatrixAct columns rows
-  may-act a b columns rows l h k = record {
-    same = k.size ∙ sym h.size;
-    sums = λ column row.
-        fits-within (mp_plus (entry rows column) (matrix_entry columns row column)) (b + a) (omega arith) (within-plus (entry rows column) (matrix_entry columns row column) b a (entry-within rows column b k.within) (columns-within a columns h.each column row));
-  }
+  -- what is kept may act on what is kept
+  kept-acts : (a b : ℕ) (columns : List (List Mp)) (rows : List Mp) → a + b < 2 ^ 64 → AreKept places a columns → IsKept places b rows → CanMatrixAct columns rows
+  kept-acts a b columns rows l h k = may-act a b columns rows l (k.size ∙ sym h.size) (All-weaker (IsKept places a) (All (IsWithin a)) (λ column c. c.within) columns h.each) k.within
 
   pub spans_join : (from n m : ℕ) → from + n + m + 2 ≤ length arrive → CanMatrixThen (Span from n) (Span (from + n + 1) m)
   spans_join from n m l =
@@ -187,10 +180,10 @@ module _ (arrive : List ℕ) (demands : List (List ℕ)) (places : List ℕ) (lo
       let few = (sound 0).few in
       record {
         same = first.size ∙ sym second.size;
-        each = All-weaker (IsKept places (2 ^ 60 + suc n * 2 ^ 38)) (CanMatrixAct (Span (from + n + 1) m)) (λ column k. may-act (2 ^ 60 + suc m * 2 ^ 38) (2 ^ 60 + suc n * 2 ^ 38) (Span (from + n + 1) m) column (omega arith) second k) (Span from n) first.each;
+        each = All-weaker (IsKept places (2 ^ 60 + suc n * 2 ^ 38)) (CanMatrixAct (Span (from + n + 1) m)) (λ column k. kept-acts (2 ^ 60 + suc m * 2 ^ 38) (2 ^ 60 + suc n * 2 ^ 38) (Span (from + n + 1) m) column (omega arith) second k) (Span from n) first.each;
       }
 
   pub spans_act : (from n : ℕ) → from + n + 1 ≤ length arrive → CanMatrixAct (Span from n) (Fold from)
   spans_act from n l =
       let few = (sound 0).few in
-      may-act (2 ^ 60 + suc n * 2 ^ 38) (2 ^ 60 + from * 2 ^ 38) (Span from n) (Fold from) (omega arith) (span-kept from n l) (fold-kept from (omega arith))
+      kept-acts (2 ^ 60 + suc n * 2 ^ 38) (2 ^ 60 + from * 2 ^ 38) (Span from n) (Fold from) (omega arith) (span-kept from n l) (fold-kept from (omega arith))

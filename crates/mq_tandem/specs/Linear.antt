@@ -1,4 +1,4 @@
--- What a job makes of what is kept is linear.
+-- Laws that the step's ghost members rest on: what a job makes of what is kept is linear, and so its matrix acts as it does.
 use Rattle.std.proofs.Common.{◌≡◌, ℕ, zero, suc, ◌+◌, ◌-◌, ◌≤◌, List, [], ◌∷◌, ◌++◌, get_or, length, min, take, drop, map, sum, refl, sym, ap, ◌∙◌, arith}
 use Rattle.std.proofs.lemmas.List.{take-map, drop-map, map-append, length-take, length-drop, length-append}
 use Rattle.mq_base.proofs.Lists.{sum-cons}

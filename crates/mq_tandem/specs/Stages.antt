@@ -1,5 +1,5 @@
 -- The stages of a tandem.
-use Rattle.std.specs.Prelude.{◌≡◌, ◌^◌, ◌<◌, ◌≤◌, All, ℕ, List, length, drop}
+use Rattle.std.specs.Prelude.{◌≡◌, ◌≤◌, All, ℕ, List, length, drop}
 
 -- What a tandem can have: 2 to 4 stages, with a column of demands each, and 1 to 4 places at each but the first.
 pub record AreStages (places : List ℕ) (demands : List (List ℕ)) : Type 0 where
@@ -8,8 +8,3 @@ pub record AreStages (places : List ℕ) (demands : List (List ℕ)) : Type 0 wh
   pub each : length demands ≡ length places
   pub room : All (λ count. 1 ≤ count) (drop 1 places)
   pub narrow : All (λ count. count ≤ 4) (drop 1 places)
-
--- A column of demands that has one for the job, all in their limit.
-pub record HasDemand (job : ℕ) (column : List ℕ) : Type 0 where
-  pub there : job < length column
-  pub small : All (λ demand. demand ≤ 2 ^ 36) column

@@ -48,7 +48,7 @@ pub fn tandem_departures(
     scan_times(&TandemStep::new(stream, demands, places), alloc, BLOCK)
 }
 
-/// Law. The carries of the scan of a tandem's jobs hold its departures.
+/// Law. The carries of the fold of a tandem's jobs, of each the time, are its departures.
 pub fn carries_hold_departures(step: &TandemStep)
     ensures { map (λ rows. mp_or_zero (entry rows (last_row (kept step.now.places.now)))) (carries_after matrix_act (none_kept step.now.places.now) (job_matrix step.now.places.now step.now.arrive.now step.now.demands.now) 0 (length step.now.arrive.now)) ≡ tandem_departs step.now.places.now (map (λ _. []) step.now.places.now) step.now.arrive.now step.now.demands.now }
 {

@@ -21,12 +21,15 @@ const RUN: u32 = 128;
 /// The jobs of a tandem, which act on the latest departures from its stages one after another: on the
 /// last one of the first stage, and on as many of each other as it has places, those of a stage the
 /// latest first, with a zero behind them all. Before the first job each of them is 0. Jobs together
-/// are a matrix.
+/// are a matrix (Greenberg, Lubachevsky and Mitrani, 1991).
 #[derive(Clone, Copy)]
 pub struct TandemStep<'a> {
-    arrive: &'a List<u64>,
-    demands: &'a List<List<u64>>,
-    places: &'a List<u8>,
+    /// When the jobs come, by position, in ticks.
+    pub arrive: &'a List<u64>,
+    /// What they need at each stage, by position, in ticks of service.
+    pub demands: &'a List<List<u64>>,
+    /// How many jobs each stage holds.
+    pub places: &'a List<u8>,
     // How many departures are kept, and the zero.
     rows: u8,
     // The row of the latest departure from the last stage.
@@ -84,9 +87,7 @@ impl<'a> TandemStep<'a> {
             row = behind;
         }
     }
-}
 
-impl<'a> TandemStep<'a> {
     // Lets the jobs of a range act on the latest departures.
     fn run(&self, rows: &mut Vector, from: usize, to: usize)
         requires order { from ≤ to }

@@ -1,66 +1,100 @@
-ghost use Rattle.std.specs.Prelude.{◌≡◌, ◌≤◌, ◌∷◌, [], length, IfOk};
-ghost use Rattle.mq_maxplus.specs.Matrices.{matrix_then};
-ghost use Rattle.mq_scan.specs.Folds.{AreSummaries};
-ghost use Rattle.mq_tandem.specs.Rows.{job_matrix};
+ghost use Rattle.std.specs.Prelude.{◌≡◌, ◌^◌, ◌≤◌, ◌∷◌, [], All, length, IfOk};
+ghost use Rattle.mq_core.specs.Columns.{IsSoundLoad};
+ghost use Rattle.mq_maxplus.specs.Matrices.{matrix_act, matrix_then};
+ghost use Rattle.mq_scan.specs.Folds.{AreBefore, AreSummaries};
+ghost use Rattle.mq_tandem.specs.Rows.{job_matrix, none_kept};
+ghost use Rattle.mq_tandem.specs.Stages.{AreStages};
 
 use crate::{TandemStep, tandem_departures};
 use mq_base::{List, OutOfMemory};
 use mq_core::Stream;
-use mq_maxplus::Matrix;
+use mq_maxplus::{Matrix, Vector};
 use mq_scan::{Step, carries, cut, summarise, times};
 use std::alloc::Global;
 use std::test::Fail;
 
-// Three jobs, which come at once.
-fn three_jobs(alloc: Global) -> Result<Stream, OutOfMemory>
-    ensures { IfOk result (λ stream. stream.time ≡ 0 ∷ 0 ∷ 0 ∷ []) }
+// Arrivals, what they need at each stage, and the places of the stages.
+#[derive(Drop)]
+struct Load {
+    stream: Stream,
+    demands: List<List<u64>>,
+    places: List<u8>,
+}
+
+// What three jobs need at a stage.
+fn column(alloc: Global, a: u32, b: u32, c: u32) -> Result<List<u64>, OutOfMemory>
+    ensures { IfOk result (λ column. column ≡ a ∷ b ∷ c ∷ []) }
 {
-    Ok(Stream {
-        job: List::from_vec(Vec::from_slice(alloc, &[0, 1, 2])?),
-        time: List::from_vec(Vec::from_slice(alloc, &[0, 0, 0])?),
+    let demands = [u64::from(a), u64::from(b), u64::from(c)];
+    Ok(List::from_vec(Vec::from_slice(alloc, &demands)?))
+}
+
+// What they need at both of two stages.
+fn columns(alloc: Global, first: [u32; 3], second: [u32; 3]) -> Result<List<List<u64>>, OutOfMemory>
+    ensures many { IfOk result (λ demands. length demands ≡ 2) }
+    ensures each { IfOk result (All (λ column. length column ≡ 3)) }
+    ensures small { IfOk result (All (All (λ demand. demand ≤ 2 ^ 36))) }
+{
+    let mut demands = List::new(alloc);
+    demands.push(column(alloc, first[0], first[1], first[2])?)?;
+    demands.push(column(alloc, second[0], second[1], second[2])?)?;
+    Ok(demands)
+}
+
+// Three jobs, which come at once to two stages, the second of which has these places.
+fn three_jobs(
+    alloc: Global,
+    first: [u32; 3],
+    second: [u32; 3],
+    places: u8,
+) -> Result<Load, OutOfMemory>
+    requires some { 1 ≤ places }
+    requires few { places ≤ 4 }
+    ensures load { IfOk result (λ load. All (λ column. IsSoundLoad load.stream.time column) load.demands) }
+    ensures stages { IfOk result (λ load. AreStages load.places load.demands) }
+    ensures three { IfOk result (λ load. length load.stream.time ≡ 3) }
+{
+    Ok(Load {
+        stream: Stream {
+            job: List::from_vec(Vec::from_slice(alloc, &[0, 1, 2])?),
+            time: List::from_vec(Vec::from_slice(alloc, &[0, 0, 0])?),
+        },
+        demands: columns(alloc, first, second)?,
+        places: List::from_vec(Vec::from_slice(alloc, &[0, places])?),
     })
 }
 
-// The demand of each at a stage.
-fn column(alloc: Global, a: u64, b: u64, c: u64) -> Result<List<u64>, OutOfMemory>
-    ensures { IfOk result (λ column. column ≡ a ∷ b ∷ c ∷ []) }
+// Whether they leave at these times.
+fn they_leave_at(
+    alloc: Global,
+    first: [u32; 3],
+    second: [u32; 3],
+    places: u8,
+    wanted: [u64; 3],
+) -> Result<bool, OutOfMemory>
+    requires some { 1 ≤ places }
+    requires few { places ≤ 4 }
 {
-    Ok(List::from_vec(Vec::from_slice(alloc, &[a, b, c])?))
+    let load = three_jobs(alloc, first, second, places)?;
+    let departs = tandem_departures(alloc, &load.stream, &load.demands, &load.places)?;
+    Ok(departs.as_slice() == wanted.as_slice())
 }
 
 #[test]
 fn the_second_stage_lets_them_out_one_by_one(rt: HostRuntime) -> Result<(), Fail> {
-    let alloc = rt.alloc();
-    let mut demands = List::new(alloc);
-    demands.push(column(alloc, 1, 1, 1)?)?;
-    demands.push(column(alloc, 3, 3, 3)?)?;
-    let places = List::from_vec(Vec::from_slice(alloc, &[0, 1])?);
-    let departs = tandem_departures(alloc, &three_jobs(alloc)?, &demands, &places)?;
-    assert_eq!(rt; departs.as_slice(), [4, 7, 10].as_slice());
+    assert!(rt; they_leave_at(rt.alloc(), [1, 1, 1], [3, 3, 3], 1, [4, 7, 10])?);
     Ok(())
 }
 
 #[test]
 fn a_job_that_is_done_stays_where_the_next_stage_is_full(rt: HostRuntime) -> Result<(), Fail> {
-    let alloc = rt.alloc();
-    let mut demands = List::new(alloc);
-    demands.push(column(alloc, 1, 1, 5)?)?;
-    demands.push(column(alloc, 3, 1, 1)?)?;
-    let places = List::from_vec(Vec::from_slice(alloc, &[0, 1])?);
-    let departs = tandem_departures(alloc, &three_jobs(alloc)?, &demands, &places)?;
-    assert_eq!(rt; departs.as_slice(), [4, 5, 10].as_slice());
+    assert!(rt; they_leave_at(rt.alloc(), [1, 1, 5], [3, 1, 1], 1, [4, 5, 10])?);
     Ok(())
 }
 
 #[test]
 fn with_a_second_place_it_goes_on(rt: HostRuntime) -> Result<(), Fail> {
-    let alloc = rt.alloc();
-    let mut demands = List::new(alloc);
-    demands.push(column(alloc, 1, 1, 5)?)?;
-    demands.push(column(alloc, 3, 1, 1)?)?;
-    let places = List::from_vec(Vec::from_slice(alloc, &[0, 2])?);
-    let departs = tandem_departures(alloc, &three_jobs(alloc)?, &demands, &places)?;
-    assert_eq!(rt; departs.as_slice(), [4, 5, 8].as_slice());
+    assert!(rt; they_leave_at(rt.alloc(), [1, 1, 5], [3, 1, 1], 2, [4, 5, 8])?);
     Ok(())
 }
 
@@ -78,19 +112,34 @@ fn sums_of(alloc: Global, step: &TandemStep, block: u32) -> Result<List<Matrix>,
     Ok(sums)
 }
 
-#[test]
-fn the_blocks_of_a_scan_are_put_together(rt: HostRuntime) -> Result<(), Fail> {
-    let alloc = rt.alloc();
-    let mut demands = List::new(alloc);
-    demands.push(column(alloc, 1, 1, 5)?)?;
-    demands.push(column(alloc, 3, 1, 1)?)?;
-    let places = List::from_vec(Vec::from_slice(alloc, &[0, 1])?);
-    let stream = three_jobs(alloc)?;
-    let step = TandemStep::new(&stream, &demands, &places);
+// When the jobs of the second of two blocks of two leave; none where there aren't two.
+fn second_block(
+    alloc: Global,
+    step: &TandemStep,
+    before: &List<Vector>,
+) -> Result<List<u64>, OutOfMemory>
+    requires three { length step.now.arrive.now ≡ 3 }
+    requires before { AreBefore matrix_act (none_kept step.now.places.now) (job_matrix step.now.places.now step.now.arrive.now step.now.demands.now) 2 before.now }
+{
+    if before.len() == 2 {
+        times(step, alloc, 2, 3, *before.get(1))
+    } else {
+        Ok(List::new(alloc))
+    }
+}
+
+// Whether the last job leaves then, by blocks of two.
+fn the_last_leaves_at(alloc: Global, wanted: u64) -> Result<bool, OutOfMemory> {
+    let load = three_jobs(alloc, [1, 1, 5], [3, 1, 1], 1)?;
+    let step = TandemStep::new(&load.stream, &load.demands, &load.places);
     let sums = sums_of(alloc, &step, 2)?;
     let before = carries(&step, alloc, &sums)?;
-    assert!(rt; before.len() == 2);
-    let last = times(&step, alloc, 2, 3, *before.get(1))?;
-    assert_eq!(rt; last.as_slice(), [10].as_slice());
+    let last = second_block(alloc, &step, &before)?;
+    Ok(last.as_slice() == [wanted].as_slice())
+}
+
+#[test]
+fn the_blocks_of_a_scan_are_put_together(rt: HostRuntime) -> Result<(), Fail> {
+    assert!(rt; the_last_leaves_at(rt.alloc(), 10)?);
     Ok(())
 }
