@@ -182,6 +182,25 @@ counted test items counts place count h g =
 lengths : (i : ℕ) (arrives : List ℕ) (fates : List Fate) → length fates ≡ length arrives → length (drop i fates) ≡ length (drop i arrives)
 lengths i arrives fates e = length-drop i fates ∙ (ap (λ n. n - i) e ∙ sym (length-drop i arrives))
 
+-- the visits that depart as they come, before the place behind those that have come by a visit's time
+still-more : (arrive : List ℕ) (fate : List Fate) (ahead : AheadTable) (at time came before later : ℕ) → IsAhead arrive fate ahead → slice_get arrive at ≡ Some time → came ≡ up_to time arrive →
+    slice_get ahead.still at ≡ Some before → slice_get ahead.still came ≡ Some later → later ≡ before + count_by once (take (up_to time (drop at arrive)) (drop at (zip arrive fate)))
+still-more arrive fate ahead at time came before later h g c b n =
+    let r = up_to time (drop at arrive) in
+    let all : came ≡ at + r = c ∙ come-by at time arrive h.comings.rising g in
+    let z = zip arrive fate in
+    let before-is = counted once z ahead.still at before h.still b in
+    let later-is = counted once z ahead.still came later h.still n in
+    let apart : count_by once (take (at + r) z) ≡ count_by once (take at z) + count_by once (take r (drop at z)) =
+    ap (count_by once) (take-add at r z) ∙ sum_by-append (λ p. cond (once p) 1 0) (take at z) (take r (drop at z)) in
+    let whole : count_by once (take came z) ≡ count_by once (take (at + r) z) = ap (λ m. count_by once (take m z)) all in
+    omega arith
+
+-- no fewer that depart as they come stand before a later place
+pub still-told : (arrive : List ℕ) (fate : List Fate) (ahead : AheadTable) (at time came before later : ℕ) → IsAhead arrive fate ahead → slice_get arrive at ≡ Some time → came ≡ up_to time arrive →
+    slice_get ahead.still at ≡ Some before → slice_get ahead.still came ≡ Some later → before ≤ later
+still-told arrive fate ahead at time came before later h g c b n = let more = still-more arrive fate ahead at time came before later h g c b n in omega arith
+
 -- What the table tells of a visit: those that are still there and those that are gone are those that weren't lost before it,
 -- but for the ones that come at its time, from it on, and depart as they come.
 pub record Tells (arrive : List ℕ) (fate : List Fate) (at time left kept before later : ℕ) : Type 0 where
@@ -194,16 +213,12 @@ pub tells : (arrive : List ℕ) (fate : List Fate) (ahead : AheadTable) (at time
     slice_get ahead.kept at ≡ Some kept → slice_get ahead.still at ≡ Some before → slice_get ahead.still came ≡ Some later → Tells arrive fate at time left kept before later
 tells arrive fate ahead at time left came kept before later h g l c k b n =
     let r = up_to time (drop at arrive) in
-    let all : came ≡ at + r = c ∙ come-by at time arrive h.comings.rising g in
+    let more = still-more arrive fate ahead at time came before later h g c b n in
     let z = zip arrive fate in
     let even = h.comings.even in
     let within = slice_get_within arrive at time g in
     let kept-is = counted stays fate ahead.kept at kept h.kept k in
-    let before-is = counted once z ahead.still at before h.still b in
     let later-is = counted once z ahead.still came later h.still n in
-    let apart : count_by once (take (at + r) z) ≡ count_by once (take at z) + count_by once (take r (drop at z)) =
-    ap (count_by once) (take-add at r z) ∙ sum_by-append (λ p. cond (once p) 1 0) (take at z) (take r (drop at z)) in
-    let whole : count_by once (take came z) ≡ count_by once (take (at + r) z) = ap (λ m. count_by once (take m z)) all in
     let same : length (drop at fate) ≡ length (drop at arrive) = lengths at arrive fate even in
     let behind : count_by (departs_by time) (drop at fate) ≡ count_by once (take r (zip (drop at arrive) (drop at fate))) =
     once-by time r (drop at arrive) (drop at fate) refl same (Rises-drop (λ a b. a ≤ b) at arrive h.comings.rising) (from-on at time arrive h.comings.rising g) (later-drop at arrive fate h.comings.later) in
@@ -228,20 +243,6 @@ pub told : (arrive : List ℕ) (fate : List Fate) (ahead : AheadTable) (leaving 
     slice_get ahead.kept at ≡ Some kept → slice_get ahead.still at ≡ Some before → slice_get ahead.still came ≡ Some later → Tells arrive fate at time left kept before later
 told arrive fate ahead leaving came-at at time left came kept before later h g e l f c k b n =
     tells arrive fate ahead at time left came kept before later h g (l ∙ ap (up_to time) e) (c ∙ ap (up_to time) f) k b n
-
--- no fewer that depart as they come stand before a later place
-pub still-told : (arrive : List ℕ) (fate : List Fate) (ahead : AheadTable) (at time came before later : ℕ) → IsAhead arrive fate ahead → slice_get arrive at ≡ Some time → came ≡ up_to time arrive →
-    slice_get ahead.still at ≡ Some before → slice_get ahead.still came ≡ Some later → before ≤ later
-still-told arrive fate ahead at time came before later h g c b n =
-    let r = up_to time (drop at arrive) in
-    let all : came ≡ at + r = c ∙ come-by at time arrive h.comings.rising g in
-    let z = zip arrive fate in
-    let before-is = counted once z ahead.still at before h.still b in
-    let later-is = counted once z ahead.still came later h.still n in
-    let apart : count_by once (take (at + r) z) ≡ count_by once (take at z) + count_by once (take r (drop at z)) =
-    ap (count_by once) (take-add at r z) ∙ sum_by-append (λ p. cond (once p) 1 0) (take at z) (take r (drop at z)) in
-    let whole : count_by once (take came z) ≡ count_by once (take (at + r) z) = ap (λ m. count_by once (take m z)) all in
-    omega arith
 
 -- What the visits from a place on found is what all found, from that place on.
 founds-none : (before : List Fate) (arrives : List ℕ) → founds_from before arrives [] ≡ []
