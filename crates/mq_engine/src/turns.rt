@@ -128,7 +128,8 @@ fn in_order<R: Threads + Sync>(
     match kind {
         Kind::Delay(_) => {
             let left = streams.get(0);
-            only(alloc, delay_leaving(rt, alloc, &left.job, &left.time)?)
+            let leaving = delay_leaving(rt, alloc, &left.job, &left.time)?;
+            only(alloc, leaving)
         }
         _ => Ok(streams),
     }
