@@ -122,6 +122,7 @@ fn found_in_turn(alloc: Global, load: &Load, departs: &List<u64>) -> Result<List
 pub fn turn_of<R: Threads + Sync>(
     rt: &R,
     alloc: Global,
+    workers: u32,
     leaving: Leaving,
     group: List<Closed>,
 ) -> Result<Turn, OutOfMemory>
@@ -140,6 +141,7 @@ pub fn turn_of<R: Threads + Sync>(
     let ending = ending_of(
         rt,
         alloc,
+        workers,
         &load.plan.net,
         load.rows,
         kind,

@@ -44,7 +44,7 @@ pub fn turns_of<R: Threads + Sync, G: Gate>(
     let groups = run_parts(rt, alloc, workers, middles.as_slice(), gate)?;
     let leavings = leavings_of(alloc, middles, groups)?;
     let groups = run_parts(rt, alloc, workers, leavings.as_slice(), gate)?;
-    ended(rt, alloc, leavings, groups)
+    ended(rt, alloc, workers, leavings, groups)
 }
 
 // The stations after their first pieces.
@@ -102,6 +102,7 @@ fn leavings_of<'a>(
 fn ended<R: Threads + Sync>(
     rt: &R,
     alloc: Global,
+    workers: u32,
     leavings: List<Leaving>,
     groups: List<List<Closed>>,
 ) -> Result<List<Turn>, OutOfMemory>
@@ -117,7 +118,7 @@ fn ended<R: Threads + Sync>(
         let Some(group) = groups.pop() else {
             unreachable!()
         };
-        turns.push(turn_of(rt, alloc, leaving, group)?)?;
+        turns.push(turn_of(rt, alloc, workers, leaving, group)?)?;
     }
     Ok(turns)
 }

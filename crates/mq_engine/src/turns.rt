@@ -1,6 +1,6 @@
 // The turn of a node, from its arrivals to its visits and what leaves it.
 ghost use Rattle.std.specs.Prelude.{◌≡◌, ◌≤◌, All, length, map, IfOk};
-ghost use Rattle.mq_core.specs.Columns.{IsStream, column_fates, founds_of, stream_in_order};
+ghost use Rattle.mq_core.specs.Columns.{IsStream, by_first, column_fates, founds_of, pairs_of, stream_in_order};
 ghost use Rattle.mq_core.specs.Sound.{outputs_in};
 ghost use Rattle.mq_engine.specs.Loads.{IsAfter};
 ghost use Rattle.mq_engine.specs.Progress.{IsEnding};
@@ -13,6 +13,7 @@ use crate::stations::leaving;
 use mq_base::{List, OutOfMemory};
 use mq_core::{Fate, Kind, Network, Rows, Stream, Visits, fates_are_in_time};
 use mq_delay::delay_leaving;
+use mq_merge::by_time;
 use mq_stats::found;
 use std::alloc::Global;
 use std::thread::Threads;
@@ -86,6 +87,7 @@ fn seen(
 pub fn ending_of<R: Threads + Sync>(
     rt: &R,
     alloc: Global,
+    workers: u32,
     net: &Network,
     rows: &Rows,
     kind: &Kind,
@@ -100,7 +102,7 @@ pub fn ending_of<R: Threads + Sync>(
     fates_are_in_time();
     match after {
         After::Seen(fate, found, streams) => {
-            let streams = in_order(rt, alloc, kind, streams)?;
+            let streams = in_order(rt, alloc, workers, kind, streams)?;
             let visits = Visits {
                 job: arrivals.job,
                 arrive: arrivals.time,
@@ -114,10 +116,11 @@ pub fn ending_of<R: Threads + Sync>(
 }
 
 // What leaves a node of this kind, in the order of leaving: the jobs of a delay are sorted by
-// departure, in threads, and those of the others keep their order.
+// departure, and those of the others keep their order.
 fn in_order<R: Threads + Sync>(
     rt: &R,
     alloc: Global,
+    workers: u32,
     kind: &Kind,
     streams: List<Stream>,
 ) -> Result<List<Stream>, OutOfMemory>
@@ -128,10 +131,28 @@ fn in_order<R: Threads + Sync>(
     match kind {
         Kind::Delay(_) => {
             let left = streams.get(0);
-            only(alloc, delay_leaving(rt, alloc, &left.job, &left.time)?)
+            let leaving = by_departure(rt, alloc, workers, left)?;
+            only(alloc, leaving)
         }
         _ => Ok(streams),
     }
+}
+
+// What leaves a delay, by departure. One worker makes no thread.
+fn by_departure<R: Threads + Sync>(
+    rt: &R,
+    alloc: Global,
+    workers: u32,
+    left: &Stream,
+) -> Result<Stream, OutOfMemory>
+    requires { length left.now.job ≡ length left.now.time }
+    ensures stream { IfOk result (λ leaving. IsStream leaving) }
+    ensures items { IfOk result (λ leaving. pairs_of leaving ≡ by_first (pairs_of left.now)) }
+{
+    if workers == 1 {
+        return by_time(alloc, &left.job, &left.time);
+    }
+    delay_leaving(rt, alloc, &left.job, &left.time)
 }
 
 // How many jobs each visit to a node of this kind found. A source and a split hold none.
