@@ -56,7 +56,8 @@ pub trait Step {
         requires { can_act s c }
         ensures { result ≡ acted s c };
 
-    /// Adds the jobs from one place up to another behind those of a summary.
+    /// Adds the jobs from one place up to another behind those of a summary: one by one, or as a station
+    /// does it faster.
     fn extend(&self, sum: &mut Self::Summary, from: u32, to: u32)
         requires order { from ≤ to }
         requires inside { to ≤ places self.now }
@@ -68,7 +69,8 @@ pub trait Step {
         }
     }
 
-    /// Lets the job at a place, which is below the count, act on a carry.
+    /// Lets the job at a place, which is below the count, act on a carry: by its summary, or as a station
+    /// does it faster.
     fn advance(&self, carry: &mut Self::Carry, at: u32)
         requires inside { at < places self.now }
         requires can { can_act (part self.now at) carry.old }
