@@ -46,6 +46,26 @@ fn printed_texts_print_the_same(rt: HostRuntime) {
     assert!(rt; prints(rt.alloc(), canonical, canonical));
 }
 
+// Whether this is the first fault of a text.
+fn has_fault(alloc: Global, text: &[u8], wanted: ModelFault) -> bool {
+    match read_model(alloc, text) {
+        Ok(_) => false,
+        Err(fault) => fault == wanted,
+    }
+}
+
+// The line on the error output tells the line of a cycle's first node alone.
+#[test]
+fn a_cycle_names_its_first_node(rt: HostRuntime) {
+    assert!(rt;
+        has_fault(
+            rt.alloc(),
+            b"model 1\n\nsource s\nserver a =1 from b\nserver b =1 from a\n",
+            ModelFault::Cycle { line: 4, node: 1 },
+        )
+    );
+}
+
 // What an independent program draws for a number: the model, and of the trace the lines with its
 // header, the bytes, the first three lines and the last one.
 #[derive(Clone, Copy)]
