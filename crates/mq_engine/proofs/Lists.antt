@@ -84,12 +84,6 @@ get-take (y ∷ ys) zero q x h = absurd cc
 get-take (y ∷ ys) (suc rank) zero x h = (omega arith, h)
 get-take (y ∷ ys) (suc rank) (suc q) x h = let r = get-take ys rank q x h in (let l = r.0 in omega arith, r.1)
 
-pub has-front : (xs : List ℕ) (rank q n : ℕ) → q < rank → slice_get xs q ≡ Some n → has (take rank xs) n ≡ true
-has-front [] rank q n l h = absurd cc
-has-front (m ∷ ms) zero q n l h = absurd (omega arith)
-has-front (m ∷ ms) (suc rank) zero n l h = let e = some_inj m n h in grind (arith, nat_tests)
-has-front (m ∷ ms) (suc rank) (suc q) n l h = let ih = has-front ms rank q n (omega arith) h in grind (arith, nat_tests)
-
 -- one item more in both lists of a zip
 pub zip-push : (ts js ts' js' : List ℕ) (t j : ℕ) → length js ≡ length ts → ts' ≡ ts ++ t ∷ [] → js' ≡ js ++ j ∷ [] → zip ts' js' ≡ zip ts js ++ (t, j) ∷ []
 zip-push ts js ts' js' t j h a b = (λ k. zip (a k) (b k)) ∙ go ts js h
