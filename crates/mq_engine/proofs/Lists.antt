@@ -6,7 +6,6 @@ use Rattle.std.specs.List.{AllByRecursion as Each, flat_map, list_all, zip}
 use Rattle.std.proofs.lemmas.Bool.{and_parts}
 use Rattle.std.proofs.lemmas.List.Folds.{list_all_at, list_all_more}
 use Rattle.std.proofs.lemmas.Option.{get_or_from_slice_get, slice_get_within}
-use Rattle.std.proofs.lemmas.Bool.Decides.{nat_tests}
 use Rattle.std.proofs.lemmas.List.{append-nil}
 use Rattle.mq_base.proofs.Lists.{drop_suc, some_inj}
 use Rattle.mq_core.specs.Wiring.{has}
