@@ -18,7 +18,7 @@ use Rattle.mq_engine.specs.declared.exits.Exit.{Exit}
 use Rattle.mq_engine.specs.declared.exits.Exit.TheVariants.{Known, Served}
 use Rattle.mq_engine.specs.declared.exits.Leaving.{Leaving}
 use Rattle.mq_engine.specs.declared.firsts.Part.{Part}
-use Rattle.mq_engine.specs.declared.lasts.Middle.{Middle}
+use Rattle.mq_engine.specs.declared.middles.Middle.{Middle}
 use Rattle.mq_engine.specs.declared.loads.Load.{Load}
 use Rattle.mq_engine.specs.declared.turns.Turn.{Turn}
 use Rattle.std.proofs.lemmas.Option.{get_or_from_slice_get, slice_get_within}

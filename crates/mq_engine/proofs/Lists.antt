@@ -6,7 +6,6 @@ use Rattle.std.specs.List.{AllByRecursion as Each, flat_map, list_all, zip}
 use Rattle.std.proofs.lemmas.Bool.{and_parts}
 use Rattle.std.proofs.lemmas.List.Folds.{list_all_at, list_all_more}
 use Rattle.std.proofs.lemmas.Option.{get_or_from_slice_get, slice_get_within}
-use Rattle.std.proofs.lemmas.Bool.Decides.{nat_tests}
 use Rattle.std.proofs.lemmas.List.{append-nil}
 use Rattle.mq_base.proofs.Lists.{drop_suc, some_inj}
 use Rattle.mq_core.specs.Wiring.{has}
@@ -83,12 +82,6 @@ get-take [] (suc rank) q x h = absurd cc
 get-take (y ∷ ys) zero q x h = absurd cc
 get-take (y ∷ ys) (suc rank) zero x h = (omega arith, h)
 get-take (y ∷ ys) (suc rank) (suc q) x h = let r = get-take ys rank q x h in (let l = r.0 in omega arith, r.1)
-
-pub has-front : (xs : List ℕ) (rank q n : ℕ) → q < rank → slice_get xs q ≡ Some n → has (take rank xs) n ≡ true
-has-front [] rank q n l h = absurd cc
-has-front (m ∷ ms) zero q n l h = absurd (omega arith)
-has-front (m ∷ ms) (suc rank) zero n l h = let e = some_inj m n h in grind (arith, nat_tests)
-has-front (m ∷ ms) (suc rank) (suc q) n l h = let ih = has-front ms rank q n (omega arith) h in grind (arith, nat_tests)
 
 -- one item more in both lists of a zip
 pub zip-push : (ts js ts' js' : List ℕ) (t j : ℕ) → length js ≡ length ts → ts' ≡ ts ++ t ∷ [] → js' ≡ js ++ j ∷ [] → zip ts' js' ≡ zip ts js ++ (t, j) ∷ []

@@ -1,5 +1,5 @@
 -- A station that is scanned: its blocks, its summaries and its applied blocks.
-use Rattle.std.proofs.Common.{◌≡◌, ℕ, ◌+◌, ◌*◌, ◌<◌, ◌≤◌, ◌⊎◌, inl, inr, List, [], ◌∷◌, ◌++◌, length, get_or, map, min, Option, Some, None, refl, sym, ap, ◌∙◌, subst, arith, length-append}
+use Rattle.std.proofs.Common.{◌≡◌, ℕ, ◌+◌, ◌*◌, ◌<◌, ◌≤◌, ◌⊎◌, inl, inr, List, [], ◌∷◌, ◌++◌, length, get_or, map, min, Option, Some, None, sym, ap, ◌∙◌, subst, arith, length-append}
 use Rattle.std.proofs.Math.ListN.{get_or-append}
 use Rattle.std.proofs.Math.Seq.{get_or-append_seam}
 use Rattle.std.proofs.lemmas.Bool.{cases_lt}
@@ -7,7 +7,7 @@ use Rattle.std.proofs.lemmas.List.{length-map}
 use Rattle.std.specs.Prelude.{IsTrue, slice_get}
 use Rattle.std.proofs.lemmas.Option.{slice_get_within}
 use Rattle.mq_base.proofs.Lists.{some_inj}
-use Rattle.mq_core.specs.Columns.{IsSoundLoad, column_fates, founds_of}
+use Rattle.mq_core.specs.Columns.{IsSoundLoad, founds_of}
 use Rattle.mq_core.specs.Recurrences.{lindley}
 use Rattle.mq_core.specs.Ranges.{is_sound_demand}
 use Rattle.mq_core.specs.Sound.{is_sound_kind}
@@ -142,12 +142,6 @@ stage-before plan rows v arrivals scan its stage before e f h =
 
 pub stage-scanned : (plan : Plan) (rows : Rows) (v : ℕ) (arrivals : Stream) (scan : Option Scan) (stage : Stage) (before : List Mp) → stage ≡ Before before → IsStage plan rows v arrivals scan stage → (its : Scan) × (scan ≡ Some its)
 stage-scanned plan rows v arrivals scan stage before e h = let is : IsStage plan rows v arrivals scan (Before before) = subst (IsStage plan rows v arrivals scan) e h in (is.0, is.1)
-
--- a server that is scanned: its fates are those of its departures
-pub served-fates : (plan : Plan) (rows : Rows) (v : ℕ) (arrivals : Stream) (scan : Option Scan) (node : Node) (departs : List ℕ) → IsLoaded plan rows v arrivals scan → IsServed arrivals scan departs → slice_get plan.net.nodes v ≡ Some node →
-    map (λ time. Departs time) departs ≡ column_fates rows node.kind arrivals.job arrivals.time
-served-fates plan rows v arrivals scan node departs l s there =
-    (scan-leaves plan rows v arrivals scan s.0 node departs (map (λ time. Departs time) departs) (record { job = arrivals.job; time = departs } ∷ []) l s.1 there s.2 (record { fate = refl; stream = refl })).leave
 
 -- what becomes of the arrivals at such a server
 pub opens : (plan : Plan) (rows : Rows) (v : ℕ) (arrivals : Stream) (scan : Option Scan) (departs : List ℕ) (fates : List Fate) (found jobs : List ℕ) (streams : List Stream) → IsLoaded plan rows v arrivals scan → IsServed arrivals scan departs → IsShut plan rows v arrivals departs 0 (Fates fates) → IsShut plan rows v arrivals departs 1 (Found found) → IsShut plan rows v arrivals departs 2 (Jobs jobs) →

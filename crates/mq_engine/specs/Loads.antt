@@ -30,7 +30,7 @@ use Rattle.mq_engine.specs.declared.exits.Closed.TheVariants.{Fates, Found, Jobs
 use Rattle.mq_engine.specs.declared.exits.Exit.{Exit}
 use Rattle.mq_engine.specs.declared.exits.Exit.TheVariants.{Known, Served}
 use Rattle.mq_engine.specs.declared.exits.Leaving.{Leaving}
-use Rattle.mq_engine.specs.declared.lasts.Middle.{Middle}
+use Rattle.mq_engine.specs.declared.middles.Middle.{Middle}
 use Rattle.mq_engine.specs.declared.loads.Load.{Load}
 use Rattle.mq_engine.specs.declared.loads.Scan.{Scan}
 use Rattle.mq_engine.specs.declared.turns.Turn.{Turn}

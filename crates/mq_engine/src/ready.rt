@@ -11,8 +11,8 @@ ghost use Rattle.mq_engine.specs.Turns.{AreEarly};
 
 use crate::exits::{Closed, Leaving, turn_of};
 use crate::firsts::{Part, stage_of};
-use crate::lasts::{Middle, exit_of};
 use crate::loads::{Arriving, Load};
+use crate::middles::{Middle, exit_of};
 use crate::turns::Turn;
 use mq_base::{List, OutOfMemory};
 use mq_crew::{Gate, made, run_parts};

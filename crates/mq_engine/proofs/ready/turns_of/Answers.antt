@@ -2,7 +2,7 @@ use Rattle.std.proofs.Common.{◌^◌, ◌<◌, List, arith, subst, sym}
 use Rattle.std.proofs.lemmas.Result.{IfOk-weaker}
 use Rattle.mq_crew.specs.Crew.{all_places}
 use Rattle.mq_engine.specs.declared.exits.Leaving.{Leaving}
-use Rattle.mq_engine.specs.declared.lasts.Middle.{Middle}
+use Rattle.mq_engine.specs.declared.middles.Middle.{Middle}
 use Rattle.mq_engine.specs.declared.loads.Load.{Load}
 use Rattle.mq_engine.proofs.Groups.{leaving_places, leavings-few, load_places, loads-few, loads-known, middle_places, middles-few}
 use Rattle.mq_engine.proofs.ready.turns_of.Goals as goal

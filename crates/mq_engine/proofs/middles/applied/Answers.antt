@@ -1,7 +1,7 @@
 use Rattle.std.proofs.Common.{◌-◌}
 use Rattle.std.proofs.lemmas.Result.{IfOk-weaker}
 use Rattle.mq_engine.proofs.Scanning.{same-times}
-use Rattle.mq_engine.proofs.lasts.applied.Goals as goal
+use Rattle.mq_engine.proofs.middles.applied.Goals as goal
 
 pub returns : goal.returns
 returns c =

@@ -6,7 +6,7 @@ use Rattle.mq_scan.specs.Folds.{carries_after}
 use Rattle.mq_server.specs.Jobs.{job}
 use Rattle.mq_engine.specs.Loads.{AreTimesOf}
 use Rattle.mq_engine.proofs.Scanning.{departs-all, joined-more}
-use Rattle.mq_engine.proofs.lasts.joined.Goals as goal
+use Rattle.mq_engine.proofs.middles.joined.Goals as goal
 
 pub loop-b-preserved : goal.loop-b-preserved
 loop-b-preserved c =

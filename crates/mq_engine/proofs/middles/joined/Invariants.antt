@@ -3,7 +3,7 @@ use Rattle.mq_maxplus.specs.Maxplus.{affine_act, mp_or_zero}
 use Rattle.mq_maxplus.specs.declared.mp.Mp.TheVariants.{Void}
 use Rattle.mq_scan.specs.Folds.{carries_after}
 use Rattle.mq_server.specs.Jobs.{job}
-use Rattle.mq_engine.proofs.lasts.joined.Given as goal
+use Rattle.mq_engine.proofs.middles.joined.Given as goal
 
 -- the blocks so far are joined
 abbrev pub invariant-loop-b : goal.invariant-loop-b

@@ -1,6 +1,6 @@
 use Rattle.std.proofs.Common.{◌<◌, subst}
 use Rattle.mq_engine.proofs.Scanning.{applied-times, scan-sound}
-use Rattle.mq_engine.proofs.lasts.exit_of.Goals as goal
+use Rattle.mq_engine.proofs.middles.exit_of.Goals as goal
 
 pub joined-requires-clause-load : goal.joined-requires-clause-load
 joined-requires-clause-load c = (scan-sound _ _ _ _ _ c.in-Before-Some.scan c.requires.loaded c.in-Before-Some.is-1).0
