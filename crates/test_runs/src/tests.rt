@@ -1,0 +1,3 @@
+// Of each module the tests are those of one crate.
+mod chain;
+mod claims;
