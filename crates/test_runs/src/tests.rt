@@ -1,3 +1,5 @@
 // Of each module the tests are those of one crate.
 mod chain;
 mod claims;
+mod crew;
+mod pass;
