@@ -2,4 +2,6 @@
 mod chain;
 mod claims;
 mod crew;
+mod graph;
 mod pass;
+mod stats;
