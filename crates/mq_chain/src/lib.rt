@@ -7,6 +7,3 @@ mod laws;
 
 pub use chain::{Chain, ChainSeat};
 pub use laws::{carries_are_folded, words_stay};
-
-#[cfg(test)]
-mod tests;

@@ -12,6 +12,3 @@ pub use gate::{Gate, Open};
 pub use parts::run_parts;
 pub use pieces::Pieces;
 pub use place::{merged, placed};
-
-#[cfg(test)]
-mod tests;

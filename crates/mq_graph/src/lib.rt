@@ -6,6 +6,3 @@ mod order;
 
 pub use laws::cycles_are_left;
 pub use order::{RankFault, rank};
-
-#[cfg(test)]
-mod tests;

@@ -9,6 +9,3 @@ mod pass;
 mod rest;
 
 pub use pass::{block_size, chain_departures};
-
-#[cfg(test)]
-mod tests;

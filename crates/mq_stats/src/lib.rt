@@ -10,8 +10,6 @@ mod passed;
 mod pieces;
 mod spans;
 mod tallies;
-#[cfg(test)]
-mod tests;
 
 pub use exits::{Exit, leaving};
 pub use laws::{runs_give_streams, runs_give_visits};

@@ -3,12 +3,12 @@ ghost use Rattle.std.specs.Prelude.{◌≡◌, ◌*◌, ◌^◌, ◌≤◌, leng
 ghost use Rattle.mq_core.specs.Columns.{IsSoundLoad};
 ghost use Rattle.mq_crew.specs.Crew.{IsLastOf};
 
-use crate::chain_departures;
 use mq_base::{List, OutOfMemory};
 use mq_chain::ChainSeat;
 use mq_claims::ClaimSeat;
 use mq_core::Stream;
 use mq_crew::{Gate, Open};
+use mq_pass::chain_departures;
 use mq_server::departures;
 use std::alloc::Global;
 use std::sync::atomic::AtomicU64;

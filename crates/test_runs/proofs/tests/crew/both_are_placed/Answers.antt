@@ -1,6 +1,6 @@
 use Rattle.std.proofs.Common.{◌≡◌, ℕ, zero, suc, ◌<◌, List, [], ◌∷◌, refl, rules, sym, subst, arith, Contains}
 use Rattle.std.specs.Prelude.{map}
-use Rattle.mq_crew.proofs.tests.both_are_placed.Goals as goal
+use Rattle.test_runs.proofs.tests.crew.both_are_placed.Goals as goal
 
 three : (x : ℕ) → x < 3 → Contains (2 ∷ 0 ∷ 1 ∷ []) x
 three zero lt = (1, omega arith, refl)

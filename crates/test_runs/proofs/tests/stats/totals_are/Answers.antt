@@ -1,5 +1,5 @@
 use Rattle.std.proofs.Common.{rules}
-use Rattle.mq_stats.proofs.tests.totals_are.Goals as goal
+use Rattle.test_runs.proofs.tests.stats.totals_are.Goals as goal
 
 pub totals-requires : goal.totals-requires
 totals-requires c =

@@ -1,9 +1,9 @@
 ghost use Rattle.std.specs.Prelude.{IsTrue};
 ghost use Rattle.mq_graph.specs.Rank.{AreWired};
 
-use crate::{RankFault, cycles_are_left, rank};
 use mq_base::{List, OutOfMemory};
 use mq_core::{Demand, Input, Kind, Network, Node};
+use mq_graph::{RankFault, cycles_are_left, rank};
 use std::alloc::Global;
 use std::process::Abort;
 use std::test::Fail;

@@ -5,12 +5,12 @@ ghost use Rattle.mq_core.specs.ColumnLaws.{LeavesFrom};
 ghost use Rattle.mq_core.specs.Laws.{Rises};
 ghost use Rattle.mq_core.specs.Told.{HasValue};
 
-use crate::{
+use mq_base::{List, OutOfMemory};
+use mq_core::{Demand, Fate, Kind, Rows, Stream, Visits};
+use mq_stats::{
     AheadTable, Exit, NodeTotals, ahead, found, found_piece, found_piece_in_order, leaving, span,
     totals,
 };
-use mq_base::{List, OutOfMemory};
-use mq_core::{Demand, Fate, Kind, Rows, Stream, Visits};
 use std::alloc::Global;
 use std::test::Fail;
 

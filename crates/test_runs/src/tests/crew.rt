@@ -2,10 +2,10 @@
 ghost use Rattle.std.specs.Prelude.{◌≡◌, ℕ, ◌+◌, ◌*◌, ◌<◌, ◌≤◌, ◌^◌, length, IfOk};
 ghost use Rattle.mq_crew.specs.Crew.{AreAll, IsLastOf, all_places};
 
-use crate::{Gate, Open, Pieces, made, merged, placed, run_parts, run_pieces};
 use mq_base::{List, OutOfMemory};
 use mq_chain::ChainSeat;
 use mq_claims::ClaimSeat;
+use mq_crew::{Gate, Open, Pieces, made, merged, placed, run_parts, run_pieces};
 use std::alloc::Global;
 use std::sync::atomic::AtomicU64;
 use std::sync::atomic::Ordering::SeqCst;

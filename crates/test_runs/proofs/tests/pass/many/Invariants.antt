@@ -1,5 +1,5 @@
 use Rattle.std.proofs.Common.{◌≡◌, ◌^◌, ◌≤◌, All, length}
-use Rattle.mq_pass.proofs.tests.many.Given as goal
+use Rattle.test_runs.proofs.tests.pass.many.Given as goal
 
 abbrev pub invariant-fills : goal.invariant-fills
 invariant-fills l = record {

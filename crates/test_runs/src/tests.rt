@@ -1,0 +1,7 @@
+// Of each module the tests are those of one crate.
+mod chain;
+mod claims;
+mod crew;
+mod graph;
+mod pass;
+mod stats;
