@@ -4,8 +4,6 @@
 mod line;
 mod outcome;
 mod stages;
-#[cfg(test)]
-mod tests;
 
 // Who matches on an outcome names the fault of the words here, without the crate that reads them.
 pub use mq_words::UsageFault;

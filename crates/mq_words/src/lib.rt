@@ -3,8 +3,6 @@
 
 mod fault;
 mod rule;
-#[cfg(test)]
-mod tests;
 mod words;
 
 pub use fault::{UsageFault, WordsFault};

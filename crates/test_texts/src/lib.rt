@@ -1,4 +1,5 @@
-//! Tests of the calls that give texts, by what they give to any caller: the canonical text of a model, and made inputs.
+//! Tests of the calls that read words or give texts, by what they give to any caller: what accepted words ask for, the
+//! canonical text of a model, and made inputs.
 #![tactic(auto)]
 
 #[cfg(test)]

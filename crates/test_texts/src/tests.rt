@@ -8,6 +8,8 @@ use mq_model::{
 use std::alloc::Global;
 use std::test::Fail;
 
+mod words;
+
 // Whether the canonical text of what a text declares is this one.
 fn is_printed(alloc: Global, text: &[u8], wanted: &[u8]) -> Result<bool, ModelFault> {
     let plan = read_model(alloc, text)?;

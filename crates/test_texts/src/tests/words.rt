@@ -1,5 +1,5 @@
 // What accepted words ask for.
-use crate::{Input, settings_of};
+use mq_words::{Input, settings_of};
 use std::alloc::Global;
 
 // Whether the words ask for the made input of this number.

@@ -1,8 +1,8 @@
 // A read or a put that fails.
 use super::files_of;
-use crate::{Outcome, UsageFault, simulate};
 use mq_base::{MemSink, OutOfMemory};
 use mq_model::ModelFault;
+use mq_top::{Outcome, UsageFault, simulate};
 use std::alloc::Global;
 use std::test::Fail;
 use std::thread::Threads;

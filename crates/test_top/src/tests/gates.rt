@@ -1,10 +1,10 @@
 // Two threads make pieces of one run.
 use super::files_of;
-use crate::{Outcome, simulate_gated};
 use mq_base::{MemSink, OutOfMemory};
 use mq_chain::ChainSeat;
 use mq_claims::ClaimSeat;
 use mq_crew::Gate;
+use mq_top::{Outcome, simulate_gated};
 use std::alloc::Global;
 use std::sync::atomic::AtomicU64;
 use std::sync::atomic::Ordering::SeqCst;
