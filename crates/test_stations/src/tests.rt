@@ -1,0 +1,3 @@
+// A file for each crate.
+mod loss;
+mod server;
