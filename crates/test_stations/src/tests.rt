@@ -1,3 +1,4 @@
 // A file for each crate.
 mod loss;
 mod server;
+mod tandem;
