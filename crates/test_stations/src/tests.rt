@@ -1,4 +1,6 @@
 // A file for each crate.
 mod loss;
+mod merge;
 mod server;
+mod split;
 mod tandem;
