@@ -1,4 +1,6 @@
 // A file for each crate.
+mod delay;
+mod forkjoin;
 mod loss;
 mod merge;
 mod server;
