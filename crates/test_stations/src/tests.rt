@@ -2,6 +2,7 @@
 mod delay;
 mod forkjoin;
 mod loss;
+mod maxplus;
 mod merge;
 mod server;
 mod split;
