@@ -13,9 +13,6 @@ use mq_merge::par_by_time;
 use std::alloc::Global;
 use std::thread::Threads;
 
-#[cfg(test)]
-mod tests;
-
 /// What a delay does with its arrivals.
 #[derive(Drop)]
 pub struct Delayed {

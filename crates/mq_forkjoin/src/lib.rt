@@ -11,9 +11,6 @@ use mq_core::Stream;
 use mq_server::departures_behind;
 use std::alloc::Global;
 
-#[cfg(test)]
-mod tests;
-
 /// When each job leaves a fork-join: one departure a job, by position, in ticks. A job comes to
 /// every branch at once, goes through the servers of each one after the other, and leaves when it
 /// has gone through all branches. Each server serves the jobs one by one in the order of the stream

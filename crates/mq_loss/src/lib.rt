@@ -6,8 +6,6 @@
 mod answer;
 mod judging;
 mod laws;
-#[cfg(test)]
-mod tests;
 mod whole;
 mod windows;
 

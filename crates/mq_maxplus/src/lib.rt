@@ -5,8 +5,6 @@
 mod affine;
 mod matrix;
 mod mp;
-#[cfg(test)]
-mod tests;
 mod vector;
 
 pub use affine::{Affine, affine_laws};

@@ -10,8 +10,6 @@ ghost use Rattle.mq_scan.specs.Folds.{carries_after};
 ghost use Rattle.mq_server.specs.Jobs.{job, IsLateLoad};
 
 mod step;
-#[cfg(test)]
-mod tests;
 
 use mq_base::{List, OutOfMemory};
 use mq_core::Stream;

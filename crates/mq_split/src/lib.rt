@@ -10,9 +10,6 @@ use mq_base::{List, OutOfMemory};
 use mq_core::{Route, Stream, outputs_of_route};
 use std::alloc::Global;
 
-#[cfg(test)]
-mod tests;
-
 // How many of the thresholds are at most the value.
 fn passed(thresholds: &[u64], value: u64) -> usize
     ensures count { result ≡ count_by (λ threshold. nat_le threshold value) thresholds.now }

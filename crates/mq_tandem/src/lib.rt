@@ -13,8 +13,6 @@ ghost use Rattle.mq_tandem.specs.Rows.{job_matrix, kept, last_row, none_kept};
 
 mod likeness;
 mod step;
-#[cfg(test)]
-mod tests;
 
 use mq_base::{List, OutOfMemory};
 use mq_core::Stream;

@@ -1,6 +1,6 @@
 use Rattle.std.proofs.Common.{◌∙◌, sym}
 use Rattle.std.proofs.lemmas.Option.{get_or_from_slice_get, slice_get_within}
-use Rattle.mq_tandem.proofs.tests.second_block.Goals as goal
+use Rattle.test_stations.proofs.tests.tandem.second_block.Goals as goal
 
 pub times-requires-clause-before : goal.times-requires-clause-before
 times-requires-clause-before c =

@@ -1,9 +1,9 @@
 ghost use Rattle.std.specs.Prelude.{◌≡◌, ◌≤◌, ◌<◌, IfOk, length};
 ghost use Rattle.mq_core.specs.Columns.{IsSoundLoad};
 
-use crate::{Settled, judge, round, settle, settle_whole};
 use mq_base::{List, OutOfMemory, Steps};
 use mq_core::Stream;
+use mq_loss::{Settled, judge, round, settle, settle_whole};
 use std::alloc::Global;
 use std::marker::Brand;
 use std::process::Abort;

@@ -1,4 +1,4 @@
-use Rattle.mq_loss.proofs.tests.settled.Given as goal
+use Rattle.test_stations.proofs.tests.loss.settled.Given as goal
 
 abbrev pub ghosts-settle_with : goal.ghosts-settle_with
 ghosts-settle_with a = record { name = a.blank.name; parts = a.blank.parts }

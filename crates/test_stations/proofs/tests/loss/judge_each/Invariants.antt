@@ -1,4 +1,4 @@
-use Rattle.mq_loss.proofs.tests.judge_each.Given as goal
+use Rattle.test_stations.proofs.tests.loss.judge_each.Given as goal
 
 abbrev pub ghosts-judges : goal.ghosts-judges
 ghosts-judges g a = record { name = a.blank.name; parts = a.blank.parts }

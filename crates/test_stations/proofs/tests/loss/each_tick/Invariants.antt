@@ -1,6 +1,6 @@
 use Rattle.std.proofs.Common.{◌≡◌, ◌≤◌, ◌^◌, length}
 use Rattle.std.specs.Prelude.{All}
-use Rattle.mq_loss.proofs.tests.each_tick.Given as goal
+use Rattle.test_stations.proofs.tests.loss.each_tick.Given as goal
 
 abbrev pub invariant-loop-at : goal.invariant-loop-at
 invariant-loop-at l = record {

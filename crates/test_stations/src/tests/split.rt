@@ -3,9 +3,9 @@ ghost use Rattle.std.specs.Prelude.{◌≡◌, ◌≤◌, length, IfOk, IsTrue};
 ghost use Rattle.mq_core.specs.Columns.{IsStream};
 ghost use Rattle.mq_core.specs.Kinds.Split.{is_sound_route};
 
-use crate::{route_of, split, split_piece};
 use mq_base::{List, OutOfMemory};
 use mq_core::{Route, Stream};
+use mq_split::{route_of, split, split_piece};
 use std::alloc::Global;
 use std::test::Fail;
 

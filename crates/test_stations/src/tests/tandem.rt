@@ -5,11 +5,11 @@ ghost use Rattle.mq_scan.specs.Folds.{AreBefore, AreSummaries};
 ghost use Rattle.mq_tandem.specs.Rows.{job_matrix, none_kept};
 ghost use Rattle.mq_tandem.specs.Stages.{AreStages};
 
-use crate::{TandemStep, tandem_departures};
 use mq_base::{List, OutOfMemory};
 use mq_core::Stream;
 use mq_maxplus::{Matrix, Vector};
 use mq_scan::{Step, carries, cut, summarise, times};
+use mq_tandem::{TandemStep, tandem_departures};
 use std::alloc::Global;
 use std::test::Fail;
 

@@ -2,9 +2,9 @@
 ghost use Rattle.std.specs.Prelude.{◌≡◌, ◌≤◌, length, IfOk};
 ghost use Rattle.mq_core.specs.Columns.{IsStream};
 
-use crate::{by_time, co_rank, merge_piece, merge_two, par_by_time, sort_by_first};
 use mq_base::{List, OutOfMemory};
 use mq_core::Stream;
+use mq_merge::{by_time, co_rank, merge_piece, merge_two, par_by_time, sort_by_first};
 use std::alloc::Global;
 use std::test::Fail;
 use std::thread::Threads;

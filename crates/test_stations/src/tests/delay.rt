@@ -2,9 +2,9 @@
 ghost use Rattle.std.specs.Prelude.{◌≡◌, length};
 ghost use Rattle.mq_core.specs.Columns.{IsSoundLoad};
 
-use crate::delay;
 use mq_base::{List, OutOfMemory};
 use mq_core::Stream;
+use mq_delay::delay;
 use std::alloc::Global;
 use std::test::Fail;
 use std::thread::Threads;

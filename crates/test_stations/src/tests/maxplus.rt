@@ -2,7 +2,7 @@ ghost use Rattle.std.specs.Prelude.{◌≡◌, ◌^◌, ◌∷◌, []};
 ghost use Rattle.mq_maxplus.specs.declared.mp.Mp.TheVariants.{Void, At};
 ghost use Rattle.mq_maxplus.specs.Within.{IsWithin};
 
-use crate::{Matrix, Mp, Vector};
+use mq_maxplus::{Matrix, Mp, Vector};
 use std::test::Fail;
 
 // The job of a server, or several together, as a matrix: it acts on the last departure and a zero.

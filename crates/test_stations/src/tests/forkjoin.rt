@@ -1,8 +1,8 @@
 ghost use Rattle.std.specs.Prelude.{◌≡◌, ◌∷◌, [], IfOk};
 
-use crate::fork_departures;
 use mq_base::{List, OutOfMemory};
 use mq_core::Stream;
+use mq_forkjoin::fork_departures;
 use std::alloc::Global;
 use std::test::Fail;
 

@@ -4,11 +4,11 @@ ghost use Rattle.mq_maxplus.specs.Maxplus.{affine_then};
 ghost use Rattle.mq_scan.specs.Folds.{AreSummaries};
 ghost use Rattle.mq_server.specs.Jobs.{job};
 
-use crate::{ServerStep, departures, departures_behind};
 use mq_base::{List, OutOfMemory};
 use mq_core::Stream;
 use mq_maxplus::{Affine, Mp};
 use mq_scan::{Step, apply, carries, cut, scan, summarise};
+use mq_server::{ServerStep, departures, departures_behind};
 use std::alloc::Global;
 use std::test::Fail;
 

@@ -1,0 +1,9 @@
+// A file for each crate.
+mod delay;
+mod forkjoin;
+mod loss;
+mod maxplus;
+mod merge;
+mod server;
+mod split;
+mod tandem;
