@@ -13,7 +13,7 @@ use crate::rows::{read_rows, room_for};
 use csv::ByteRecord;
 use mq_base::{List, OutOfMemory};
 use mq_core::{Network, Rows};
-use mq_crew::{Open, Pieces, run_pieces};
+use mq_crew::{Open, Pieces, made};
 use std::alloc::Global;
 use std::thread::Threads;
 
@@ -91,6 +91,6 @@ pub fn read_each<R: Threads + Sync>(
         net,
         header,
     };
-    let read = run_pieces(rt, alloc, workers, &all, &Open)?;
+    let read = made(rt, alloc, workers, &all, &Open)?;
     Ok(read)
 }
