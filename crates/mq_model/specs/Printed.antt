@@ -74,7 +74,12 @@ kind_words (Split route) = route_words route
 -- a source has no inputs to be read
 abbrev pub reads_words : SaidKind → List SaidInput → List Word
 reads_words Source reads = []
-reads_words _ reads = inputs_words reads
+reads_words (Server d) reads = inputs_words reads
+reads_words (Delay d) reads = inputs_words reads
+reads_words (Loss places d) reads = inputs_words reads
+reads_words (Tandem stages) reads = inputs_words reads
+reads_words (ForkJoin branches) reads = inputs_words reads
+reads_words (Split route) reads = inputs_words reads
 
 abbrev pub said_words : Said → List Word
 said_words (Bound n) = codes "bound" ∷ decimal n ∷ []

@@ -77,9 +77,13 @@ outputs_of_route (Turn outputs) = outputs
 outputs_of_route (Cut column thresholds) = length thresholds + 1
 
 abbrev pub outputs_of : SaidKind → ℕ
+outputs_of Source = 1
+outputs_of (Server d) = 1
+outputs_of (Delay d) = 1
 outputs_of (Loss places d) = 2
+outputs_of (Tandem stages) = 1
+outputs_of (ForkJoin branches) = 1
 outputs_of (Split route) = outputs_of_route route
-outputs_of _ = 1
 
 -- a line declares the node of this input, and the node has the output
 abbrev pub gives : SaidInput → Said → Bool
@@ -91,7 +95,12 @@ is_same_input a b = bytes_eq a.name b.name && (a.out == b.out)
 
 abbrev pub is_source_said : SaidKind → Bool
 is_source_said Source = true
-is_source_said _ = false
+is_source_said (Server d) = false
+is_source_said (Delay d) = false
+is_source_said (Loss places d) = false
+is_source_said (Tandem stages) = false
+is_source_said (ForkJoin branches) = false
+is_source_said (Split route) = false
 
 abbrev pub is_source : Said → Bool
 is_source (Bound n) = false
