@@ -1,6 +1,6 @@
 -- The columns that sections mention: five lists are possible, and each section suits each of them.
 use Rattle.std.proofs.Common.{◌≡◌, refl, ℕ, zero, suc, ◌+◌, ◌<◌, ◌≤◌, List, [], ◌∷◌, length, Bool, true, false, cond, arith, inl, inr}
-use Rattle.std.specs.Prelude.{◌%◌, ◌==◌, ◌||◌, ◌⊎◌, fold, if◌then◌else◌, nat_le}
+use Rattle.std.specs.Prelude.{◌%◌, ◌==◌, ◌||◌, ◌⊎◌, if◌then◌else◌, nat_le}
 use Rattle.std.specs.List.{list_all}
 use Rattle.std.specs.Str.{bytes_eq}
 use Rattle.std.proofs.lemmas.Bool.{and_from, and_parts, le-leb, leb-true}
@@ -9,7 +9,8 @@ use Rattle.mq_core.specs.Sound.{are_distinct, columns_of_kind, is_sound_kind, me
 use Rattle.mq_core.specs.Ranges.{is_within}
 use Rattle.mq_core.specs.Wiring.{is_source_kind}
 use Rattle.mq_core.specs.declared.model.Kind.{Kind}
-use Rattle.mq_gen.specs.Made.{column_a, column_b, draw, kind_by, mention, mentions_of, places_by}
+use Rattle.mq_model.specs.Said.{columns_after}
+use Rattle.mq_gen.specs.Made.{column_a, column_b, draw, kind_by, mentions_of, places_by}
 use Rattle.rand_pcg.specs.Lcg.{Lcg}
 use Rattle.rand_pcg.specs.Pcg.{pcg32}
 
@@ -86,7 +87,7 @@ pub record Suits (before after : List (List ℕ)) (k : Kind) : Type 0 where
 -- the section of this draw suits these columns
 abbrev pub SectionSuits : List (List ℕ) → ℕ → ℕ → Type 0
 SectionSuits before drawn places =
-    let after = fold mention before (mentions_of drawn) in
+    let after = columns_after before (mentions_of drawn) in
     Suits before after (kind_by after places drawn)
 
 -- places in the limit of a stage are in that of a loss station

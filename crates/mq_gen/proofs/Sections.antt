@@ -1,6 +1,6 @@
 -- What holds of the sections that a generator draws, however many are drawn.
 use Rattle.std.proofs.Common.{◌≡◌, ◌∙◌, refl, sym, subst, ap, ℕ, zero, suc, ◌+◌, ◌-◌, ◌<◌, ◌≤◌, List, [], ◌∷◌, ◌++◌, length, Bool, true, false, cond, Some, arith, inl, inr}
-use Rattle.std.specs.Prelude.{◌%◌, ◌==◌, ◌⊎◌, fold, map, nat_lt, not, slice_get}
+use Rattle.std.specs.Prelude.{◌%◌, ◌==◌, ◌⊎◌, map, nat_lt, not, slice_get}
 use Rattle.std.specs.Fmt.{digits}
 use Rattle.std.specs.List.{flat_map, list_all}
 use Rattle.std.proofs.lemmas.Bool.{and_from, eq-eqb, leb-true, lt-ltb, not_from_false}
@@ -17,7 +17,8 @@ use Rattle.mq_core.specs.declared.model.Kind.TheVariants.{Source, Server, Delay,
 use Rattle.mq_core.specs.declared.model.Node.{Node}
 use Rattle.rand_pcg.specs.Lcg.{Lcg}
 use Rattle.rand_pcg.specs.Pcg.{pcg32}
-use Rattle.mq_gen.specs.Made.{Sections, draw, kind_by, mentions_of, mention, next_section, no_sections, outputs_from, places_by, section_name, sections_after, sections_from, source_node}
+use Rattle.mq_model.specs.Said.{columns_after}
+use Rattle.mq_gen.specs.Made.{Sections, draw, kind_by, mentions_of, next_section, no_sections, outputs_from, places_by, section_name, sections_after, sections_from, source_node}
 use Rattle.mq_gen.proofs.Forward.{all_read_below, forward_from, forward_on, inputs_below}
 use Rattle.mq_gen.proofs.Growing.{distinct_on, last_node, list_all_wider, mentions_on, nodes_stay, output_stays, output_within}
 use Rattle.mq_gen.proofs.Mentions.{Mentioned, Neither, SectionSuits, Suits, columns_in, has_places, places_drawn, section_suits}
@@ -205,9 +206,9 @@ one_more_made count low s columns kind generator made suits =
 
 -- a section of this draw, with these places
 drawn_made : (count : ℕ) → count < 12 → (s : Sections) (drawn places : ℕ) (generator : Lcg) → AreMade count s → drawn < 6 → has_places drawn places ≡ true
-    → (let columns = fold mention s.columns (mentions_of drawn) in AreMade (suc count) (one_more s columns (kind_by columns places drawn) generator))
+    → (let columns = columns_after s.columns (mentions_of drawn) in AreMade (suc count) (one_more s columns (kind_by columns places drawn) generator))
 drawn_made count low s drawn places generator made six fit =
-    let columns = fold mention s.columns (mentions_of drawn) in
+    let columns = columns_after s.columns (mentions_of drawn) in
     one_more_made count low s columns (kind_by columns places drawn) generator made
     (subst (λ before. SectionSuits before drawn places) (sym made.columns) (section_suits made.mentioned drawn places six fit))
 

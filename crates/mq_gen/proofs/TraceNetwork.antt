@@ -1,6 +1,5 @@
 -- The made network of a number reads such traces.
 use Rattle.std.proofs.Common.{◌≡◌, ◌∙◌, refl, ℕ, zero, suc, ◌+◌, List, [], ◌∷◌, ◌++◌, Bool, true, arith, inl, inr}
-use Rattle.std.specs.Prelude.{fold}
 use Rattle.std.specs.List.{list_all, list_any}
 use Rattle.std.specs.Str.{bytes_eq}
 use Rattle.std.proofs.lemmas.Bool.{and_from, and_parts, cases_Bool}
@@ -9,7 +8,8 @@ use Rattle.std.proofs.lemmas.List.Folds.{list_all-append}
 use Rattle.mq_core.specs.declared.model.Node.{Node}
 use Rattle.mq_model.proofs.Demands.{all_at}
 use Rattle.mq_trace.specs.Header.{is_among}
-use Rattle.mq_gen.specs.Made.{Sections, column_a, column_b, draw, generator_of, made_network, mention, mentions_of, next_section, no_sections, sections_after, sections_of, source_node}
+use Rattle.mq_model.specs.Said.{added, columns_after}
+use Rattle.mq_gen.specs.Made.{Sections, column_a, column_b, draw, generator_of, made_network, mentions_of, next_section, no_sections, sections_after, sections_of, source_node}
 use Rattle.mq_gen.proofs.TraceRead.{IsTraceFor, ReadsTraces, trace_is_read}
 
 is_named : List ℕ → Bool
@@ -27,18 +27,18 @@ record Suits (s : Sections) : Type 0 where
   sources : HasSources s.nodes
   columns : list_all is_named s.columns ≡ true
 
-mention_named : (columns : List (List ℕ)) (name : List ℕ) → list_all is_named columns ≡ true → is_named name ≡ true → list_all is_named (mention columns name) ≡ true
+mention_named : (columns : List (List ℕ)) (name : List ℕ) → list_all is_named columns ≡ true → is_named name ≡ true → list_all is_named (added columns name) ≡ true
 mention_named columns name all one =
     elim (cases_Bool (list_any (λ other. bytes_eq other name) columns)) [
       | inl there ↦ rw there all
       | inr lacks ↦ rw lacks (list_all-append is_named columns (name ∷ []) ∙ and_from _ _ all (and_from _ _ one refl))
     ]
 
-mentions_named : (columns names : List (List ℕ)) → list_all is_named columns ≡ true → list_all is_named names ≡ true → list_all is_named (fold mention columns names) ≡ true
+mentions_named : (columns names : List (List ℕ)) → list_all is_named columns ≡ true → list_all is_named names ≡ true → list_all is_named (columns_after columns names) ≡ true
 mentions_named columns [] all more = all
 mentions_named columns (name ∷ names) all more =
     let both = and_parts (is_named name) (list_all is_named names) more in
-    mentions_named (mention columns name) names (mention_named columns name all both.0) both.1
+    mentions_named (added columns name) names (mention_named columns name all both.0) both.1
 
 drawn_named : (drawn : ℕ) → list_all is_named (mentions_of drawn) ≡ true
 unfolding is_named

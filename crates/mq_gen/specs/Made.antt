@@ -1,19 +1,24 @@
 -- The made input of a number: a model and a trace, drawn by one generator, in the order in which they are written here.
-use Rattle.std.specs.Prelude.{ℕ, zero, suc, ◌+◌, ◌-◌, ◌%◌, ◌^◌, ◌==◌, ◌||◌, if◌then◌else◌, List, [], ◌∷◌, ◌++◌, length, map, fold, codes, decimal}
-use Rattle.std.specs.List.{flat_map, join_with_byte, list_any, position_or_len}
-use Rattle.std.specs.Str.{bytes_eq}
+use Rattle.std.specs.Prelude.{ℕ, zero, suc, ◌+◌, ◌-◌, ◌%◌, ◌^◌, ◌==◌, ◌||◌, if◌then◌else◌, List, [], ◌∷◌, ◌++◌, length, map, codes, decimal}
+use Rattle.std.specs.List.{flat_map, join_with_byte}
 use Rattle.rand_pcg.specs.Lcg.{Lcg, started, increment_of}
 use Rattle.rand_pcg.specs.Pcg.{multiplier_64, pcg32}
 use Rattle.mq_core.specs.Sound.{outputs_in}
-use Rattle.mq_core.specs.declared.model.Demand.{Demand}
-use Rattle.mq_core.specs.declared.model.Demand.TheVariants.{Column}
 use Rattle.mq_core.specs.declared.model.Input.{Input}
 use Rattle.mq_core.specs.declared.model.Kind.{Kind}
-use Rattle.mq_core.specs.declared.model.Kind.TheVariants.{Source, Server, Delay, Loss, Tandem, ForkJoin, Split}
+use Rattle.mq_core.specs.declared.model.Kind.TheVariants.{Source}
 use Rattle.mq_core.specs.declared.model.Network.{Network}
 use Rattle.mq_core.specs.declared.model.Node.{Node}
-use Rattle.mq_core.specs.declared.model.Route.TheVariants.{Turn}
+use Rattle.mq_model.specs.Form.{Word}
+use Rattle.mq_model.specs.NetworkOf.{kind_in}
 use Rattle.mq_model.specs.Printed.{printed}
+use Rattle.mq_model.specs.Said.{columns_after, mentions_of_kind}
+use Rattle.mq_model.specs.declared.said.SaidDemand.{SaidDemand}
+use Rattle.mq_model.specs.declared.said.SaidDemand.TheVariants.{Column}
+use Rattle.mq_model.specs.declared.said.SaidKind.{SaidKind}
+use Rattle.mq_model.specs.declared.said.SaidKind.TheVariants.{Server, Delay, Loss, Tandem, ForkJoin, Split}
+use Rattle.mq_model.specs.declared.said.SaidRoute.TheVariants.{Turn}
+use Rattle.mq_model.specs.declared.said.SaidStage.{SaidStage}
 
 -- The generator of a number: PCG32 on stream 1.
 abbrev pub generator_of : ℕ → Lcg
@@ -36,35 +41,29 @@ column_a = codes "a"
 abbrev pub column_b : List ℕ
 column_b = codes "b"
 
--- these columns, and after them this one where it isn't among them
-abbrev pub mention : List (List ℕ) → List ℕ → List (List ℕ)
-mention columns name = if list_any (λ other. bytes_eq other name) columns then columns else columns ++ name ∷ []
+-- a stage of a tandem
+abbrev pub stage_said : ℕ → SaidDemand → SaidStage
+stage_said places demand = record { places = places; demand = demand }
 
--- a job's value in the column of this name
-abbrev pub demand_in : List (List ℕ) → List ℕ → Demand
-demand_in columns name = Column (position_or_len (λ other. bytes_eq other name) columns)
-
--- the columns that a section mentions, in order, by its draw
-abbrev pub mentions_of : ℕ → List (List ℕ)
-mentions_of drawn =
-    if drawn == 0 then column_a ∷ []
-    else if drawn == 1 then column_b ∷ []
-    else if drawn == 2 then column_a ∷ []
-    else if drawn == 3 then column_a ∷ column_b ∷ []
-    else if drawn == 4 then column_a ∷ column_b ∷ []
-    else []
-
--- the kind of a section by its draw, over these columns, with these places where it has any
-abbrev pub kind_by : List (List ℕ) → ℕ → ℕ → Kind
-kind_by columns places drawn =
-    let a = demand_in columns column_a in
-    let b = demand_in columns column_b in
+-- what the line of a section says behind its name, by its draw, with these places where it has any
+abbrev pub said_by : ℕ → ℕ → SaidKind
+said_by places drawn =
+    let a = Column column_a in
+    let b = Column column_b in
     if drawn == 0 then Server a
     else if drawn == 1 then Delay b
     else if drawn == 2 then Loss places a
-    else if drawn == 3 then Tandem (record { places = 0; demand = a } ∷ record { places = places; demand = b } ∷ [])
+    else if drawn == 3 then Tandem (stage_said 0 a ∷ stage_said places b ∷ [])
     else if drawn == 4 then ForkJoin ((a ∷ []) ∷ (b ∷ b ∷ []) ∷ [])
     else Split (Turn 2)
+
+-- the columns that a section mentions, in order, by its draw
+abbrev pub mentions_of : ℕ → List Word
+mentions_of drawn = mentions_of_kind (said_by 0 drawn)
+
+-- the kind of a section by its draw, over these columns, with these places where it has any
+abbrev pub kind_by : List Word → ℕ → ℕ → Kind
+kind_by columns places drawn = kind_in columns (said_by places drawn)
 
 -- the places of a section: a loss station and a tandem draw 1 to 4, and the others draw nothing
 abbrev pub places_by : ℕ → Lcg → ℕ × Lcg
@@ -103,7 +102,7 @@ abbrev pub next_section : Sections → Sections
 next_section s =
     let drawn = draw 6 s.generator in
     let places = places_by drawn.0 drawn.1 in
-    let columns = fold mention s.columns (mentions_of drawn.0) in
+    let columns = columns_after s.columns (mentions_of drawn.0) in
     let kind = kind_by columns places.0 drawn.0 in
     record {
       nodes = s.nodes ++ record { name = section_name (length s.nodes - 2); kind = kind; inputs = s.ends } ∷ [];

@@ -1,11 +1,11 @@
 // The network that a generator draws, and its plan.
-ghost use Rattle.std.specs.Prelude.{◌≡◌, ◌+◌, ◌∷◌, ◌<◌, ◌≤◌, [], IfOk, OnOk, decimal, fold, length};
-ghost use Rattle.std.specs.List.{list_any, position_or_len};
-ghost use Rattle.std.specs.Str.{bytes_eq};
+ghost use Rattle.std.specs.Prelude.{◌≡◌, ◌+◌, ◌∷◌, ◌<◌, ◌≤◌, [], IfOk, OnOk, decimal, length};
 ghost use Rattle.mq_core.specs.Sound.{outputs_in};
 ghost use Rattle.rand_pcg.specs.Lcg.{Lcg};
 ghost use Rattle.mq_gen.specs.Drawing.{with_generator};
-ghost use Rattle.mq_gen.specs.Made.{demand_in, kind_by, mention, mentions_of, network_from, next_section, no_sections, outputs_from, places_by, sections_from, source_node};
+ghost use Rattle.mq_model.specs.NetworkOf.{number_in};
+ghost use Rattle.mq_model.specs.Said.{added, columns_after, is_among};
+ghost use Rattle.mq_gen.specs.Made.{kind_by, mentions_of, network_from, next_section, no_sections, outputs_from, places_by, sections_from, source_node};
 
 use crate::draws::draw;
 use itoa::Buffer;
@@ -61,14 +61,14 @@ fn no_sections(alloc: Global) -> Result<Sections, OutOfMemory>
 }
 
 fn is_among(columns: &[List<u8>], name: &[u8]) -> bool
-    ensures { result ≡ list_any (λ other. bytes_eq other name.now) columns.now }
+    ensures { result ≡ is_among columns.now name.now }
 {
     columns.iter().any(|other| other.as_slice() == name)
 }
 
 /// Adds a column where it isn't there.
 fn mention(alloc: Global, columns: &mut List<List<u8>>, name: &[u8]) -> Result<(), OutOfMemory>
-    ensures ok { OnOk result (columns.new ≡ mention columns.old name.now) }
+    ensures ok { OnOk result (columns.new ≡ added columns.old name.now) }
     ensures few { OnOk result (length columns.new ≤ length columns.old + 1) }
 {
     if !is_among(columns.as_slice(), name) {
@@ -79,7 +79,7 @@ fn mention(alloc: Global, columns: &mut List<List<u8>>, name: &[u8]) -> Result<(
 
 /// Adds the columns that a section of this draw mentions.
 fn mention_all(alloc: Global, columns: &mut List<List<u8>>, drawn: u32) -> Result<(), OutOfMemory>
-    ensures ok { OnOk result (columns.new ≡ fold mention columns.old (mentions_of drawn)) }
+    ensures ok { OnOk result (columns.new ≡ columns_after columns.old (mentions_of drawn)) }
     ensures few { OnOk result (length columns.new ≤ length columns.old + 2) }
 {
     match drawn {
@@ -95,7 +95,7 @@ fn mention_all(alloc: Global, columns: &mut List<List<u8>>, drawn: u32) -> Resul
 
 /// The place of a column, or the number of columns.
 fn column_of(columns: &[List<u8>], name: &[u8]) -> usize
-    ensures at { result ≡ position_or_len (λ other. bytes_eq other name.now) columns.now }
+    ensures at { result ≡ number_in columns.now name.now }
     ensures within { result ≤ length columns.now }
 {
     columns
@@ -107,7 +107,7 @@ fn column_of(columns: &[List<u8>], name: &[u8]) -> usize
 /// A job's value in the column of this name.
 fn demand_in(columns: &[List<u8>], name: &[u8]) -> Demand
     requires { length columns.now ≤ 16 }
-    ensures { result ≡ demand_in columns.now name.now }
+    ensures { result ≡ Demand.Column (number_in columns.now name.now) }
 {
     Demand::Column(column_of(columns, name) as u8)
 }
