@@ -12,3 +12,4 @@ pub mod Falls
 pub mod Areas
 pub mod EmissionsAt
 pub mod Founds
+pub mod Leavings

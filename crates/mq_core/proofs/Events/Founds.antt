@@ -29,7 +29,7 @@ emission_at-append (m ∷ ms) more q = go (eqb m.position q) (emission_at-append
     go true ih = inl (m, refl, refl)
     go false ih = ih
 
-found-each : (P : Emission → Type 0) (ms : List Emission) (q : ℕ) (m : Emission) → Each P ms → emission_at ms q ≡ Some m → P m
+pub found-each : (P : Emission → Type 0) (ms : List Emission) (q : ℕ) (m : Emission) → Each P ms → emission_at ms q ≡ Some m → P m
 found-each P [] q m h e = absurd cc
 found-each P (k ∷ ks) q m h e = go (eqb k.position q) e (found-each P ks q m h.1)
   where
