@@ -105,7 +105,7 @@ module _ (plan : Plan) (rows : Rows) (read : IsReadFor plan.net rows) (v : ℕ) 
         follows = λ n out l. follow n out (reader_from 0 plan.net.nodes n out) refl (feeds_forward plan (standard plan rows) refl refl n out);
         waits = λ u elapsed s. refl;
         arrives = λ u port job s fs now l f.
-            let x : Visit = record { job = job; arrive = now; found = standard_jobs plan rows u s.visits s.local } in
+            let x : Visit = record { job = job; arrive = now; port = port; found = standard_jobs plan rows u s.visits s.local } in
             arrive-few (before u) (eqb u v) (ltb (rank u) (suc (rank v))) (lower (rank u) (rank v)) (λ c. same (rank u) (rank v) (ap rank (eqb-true u v c))) _ _ _ (length s.visits) _
             (node-arrives-few rows (slice_get plan.net.nodes u) s fs x now port u refl f) (push s.visits x);
         ends = λ u server position s fs rest now l f first.

@@ -52,7 +52,7 @@ keeps-order t =
       opens = λ v. (record { rising = tt; past = tt }, record { rising = tt; past = tt });
       waits = λ v s fs now later h l f. (in_order-later _ s.visits now later l h.0, in_order-later _ s.emitted now later l h.1);
       arrives = λ v port job s fs now h f. (
-        in_order-append (λ (x : Visit). x.arrive) s.visits (record { job = job; arrive = now; found = t.jobs v s.visits s.local } ∷ []) now (refl, tt) h.0,
+        in_order-append (λ (x : Visit). x.arrive) s.visits (record { job = job; arrive = now; port = port; found = t.jobs v s.visits s.local } ∷ []) now (refl, tt) h.0,
         in_order-append (λ (m : Emission). m.time) s.emitted (emissions_at t s (Arrive now v port job)) now (emissions-now t s (Arrive now v port job)) h.1,
       );
       ends = λ v server position s fs rest now h first.

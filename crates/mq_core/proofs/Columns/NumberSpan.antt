@@ -100,7 +100,7 @@ module _ (plan : Plan) (rows : Rows) where
       record {
         opens = λ v none. refl;
         waits = λ v s fs now later h l f. h;
-        arrives = λ v port job s fs now h soon none. quiet-on (slice_get plan.net.nodes v) s.emitted (s.visits ++ record { job = job; arrive = now; found = standard_jobs plan rows v s.visits s.local } ∷ []) s.local now (Arrive now v port job) none (h none);
+        arrives = λ v port job s fs now h soon none. quiet-on (slice_get plan.net.nodes v) s.emitted (s.visits ++ record { job = job; arrive = now; port = port; found = standard_jobs plan rows v s.visits s.local } ∷ []) s.local now (Arrive now v port job) none (h none);
         ends = λ v server position s fs rest now h first none. quiet-on (slice_get plan.net.nodes v) s.emitted s.visits s.local now (Finish now v server position) none (h none);
       }
 

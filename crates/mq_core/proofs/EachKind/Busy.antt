@@ -57,7 +57,7 @@ busy-keeps plan rows =
     record {
       opens = λ v. (keeps.opens v, busy-opens rows (slice_get plan.net.nodes v) v);
       waits = λ v s fs now later h l f. (keeps.waits v s fs now later h.0 l f, node_busy-waits rows (slice_get plan.net.nodes v) v _ s fs now later l f h.0 h.1);
-      arrives = λ v port job s fs now h f. (keeps.arrives v port job s fs now h.0 f, node_busy-arrives _ rows (slice_get plan.net.nodes v) v port s fs now (record { job = job; arrive = now; found = standard_jobs plan rows v s.visits s.local }) refl f h.0 h.1);
+      arrives = λ v port job s fs now h f. (keeps.arrives v port job s fs now h.0 f, node_busy-arrives _ rows (slice_get plan.net.nodes v) v port s fs now (record { job = job; arrive = now; port = port; found = standard_jobs plan rows v s.visits s.local }) refl f h.0 h.1);
       ends = λ v server position s fs rest now h first. (keeps.ends v server position s fs rest now h.0 first, node_busy-ends _ rows (slice_get plan.net.nodes v) _ v server position s fs rest now first h.0 h.1);
     }
 

@@ -127,7 +127,7 @@ module _ (plan : Plan) (rows : Rows) (read : IsReadFor plan.net rows) where
         follows = λ n out l. follow n out (reader_from 0 plan.net.nodes n out) refl (feeds_forward plan (standard plan rows) refl refl n out);
         waits = λ v elapsed s. refl;
         arrives = λ v port job s fs now l f.
-            let a = node-arrives-falls rows (slice_get plan.net.nodes v) (onward v) s fs (s.visits ++ record { job = job; arrive = now; found = standard_jobs plan rows v s.visits s.local } ∷ []) now port job v f in
+            let a = node-arrives-falls rows (slice_get plan.net.nodes v) (onward v) s fs (s.visits ++ record { job = job; arrive = now; port = port; found = standard_jobs plan rows v s.visits s.local } ∷ []) now port job v f in
             let b = rank-inside v l in
             omega arith;
         ends = λ v server position s fs rest now l f first.

@@ -54,6 +54,6 @@ standard-keeps plan rows reader =
     record {
       opens = λ v. node-opens rows (length plan.net.columns) (slice_get plan.net.nodes v) v (node-sound plan v);
       waits = λ v s fs now later h l _. node-waits rows (slice_get plan.net.nodes v) v s _ _ fs now later l h;
-      arrives = λ v port job s fs now h soon. node-arrives _ rows (slice_get plan.net.nodes v) v port s fs now (record { job = job; arrive = now; found = standard_jobs plan rows v s.visits s.local }) refl soon h;
+      arrives = λ v port job s fs now h soon. node-arrives _ rows (slice_get plan.net.nodes v) v port s fs now (record { job = job; arrive = now; port = port; found = standard_jobs plan rows v s.visits s.local }) refl soon h;
       ends = λ v server position s fs rest now h first. node-ends _ rows (slice_get plan.net.nodes v) (wired_by plan rows reader).rank v server position s fs rest now first h;
     }

@@ -146,11 +146,11 @@ peak-waits None s area busy h = tt
 peak-waits (Some node) s area busy h = λ holds. record { greatest = (h holds).greatest; enough = (h holds).enough; known = (h holds).known }
 
 peak-arrives : (rows : Rows) (o : Option Node) (v port job : ℕ) (s : Station Local) (fs : List Event) (now : ℕ) → node_fact rows o v s fs now → node_peaked o s →
-    node_peaked o (after_reaction (max s.peak (node_jobs o (s.visits ++ record { job = job; arrive = now; found = node_jobs o s.visits s.local } ∷ []) (node_on rows o (s.visits ++ record { job = job; arrive = now; found = node_jobs o s.visits s.local } ∷ []) s.local now (Arrive now v port job)).local)) s (s.visits ++ record { job = job; arrive = now; found = node_jobs o s.visits s.local } ∷ []) now (node_on rows o (s.visits ++ record { job = job; arrive = now; found = node_jobs o s.visits s.local } ∷ []) s.local now (Arrive now v port job)))
+    node_peaked o (after_reaction (max s.peak (node_jobs o (s.visits ++ record { job = job; arrive = now; port = port; found = node_jobs o s.visits s.local } ∷ []) (node_on rows o (s.visits ++ record { job = job; arrive = now; port = port; found = node_jobs o s.visits s.local } ∷ []) s.local now (Arrive now v port job)).local)) s (s.visits ++ record { job = job; arrive = now; port = port; found = node_jobs o s.visits s.local } ∷ []) now (node_on rows o (s.visits ++ record { job = job; arrive = now; port = port; found = node_jobs o s.visits s.local } ∷ []) s.local now (Arrive now v port job)))
 peak-arrives rows None v port job s fs now f h = tt
 peak-arrives rows (Some node) v port job s fs now f h =
     λ holds.
-    let x : Visit = record { job = job; arrive = now; found = node_jobs (Some node) s.visits s.local } in
+    let x : Visit = record { job = job; arrive = now; port = port; found = node_jobs (Some node) s.visits s.local } in
     peaked-arrives rows (behaviour_of node.kind) (inside_of rows node.kind) (laws_of rows node.kind) v port s now x refl ((laws_of rows node.kind).raises v port s fs now x refl holds f) (h holds)
 
 peak-ends : (rows : Rows) (o : Option Node) (rank : ℕ → ℕ) (v server position : ℕ) (s : Station Local) (fs rest : List Event) (now : ℕ) → earliest rank fs ≡ Some (Finish now v server position, rest) → node_fact rows o v s fs now → node_peaked o s →

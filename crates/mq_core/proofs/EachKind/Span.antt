@@ -47,8 +47,8 @@ module _ (t : Table Local) (P : Fact Local) (keeps : Keeps t P) (emits : (v serv
       inr (inl (record {
         node = n;
         position = length (s.stations n).visits;
-        inside = subst (λ (z : Station Local). length (s.stations n).visits < length z.visits) (sym own) (omega (arith, length-append (s.stations n).visits (record { job = job; arrive = now; found = t.jobs n (s.stations n).visits (s.stations n).local } ∷ [])));
-        at = subst (λ (z : Station Local). arrival_or 0 (slice_get z.visits (length (s.stations n).visits)) ≡ now) (sym own) (ap (arrival_or 0) (get-last (s.stations n).visits (record { job = job; arrive = now; found = t.jobs n (s.stations n).visits (s.stations n).local })));
+        inside = subst (λ (z : Station Local). length (s.stations n).visits < length z.visits) (sym own) (omega (arith, length-append (s.stations n).visits (record { job = job; arrive = now; port = port; found = t.jobs n (s.stations n).visits (s.stations n).local } ∷ [])));
+        at = subst (λ (z : Station Local). arrival_or 0 (slice_get z.visits (length (s.stations n).visits)) ≡ now) (sym own) (ap (arrival_or 0) (get-last (s.stations n).visits (record { job = job; arrive = now; port = port; found = t.jobs n (s.stations n).visits (s.stations n).local })));
       }))
   event-reaches s (Finish now n server position) rest q h =
       let own = station-own t s (Finish now n server position, rest) n (eq-eqb n n refl) in

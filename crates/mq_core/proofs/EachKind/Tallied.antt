@@ -53,7 +53,7 @@ founds-are-counts plan rows read v inside =
     (keeps-areas (standard plan rows) (λ u. node_fact rows (slice_get plan.net.nodes u) u) (λ u. u < length plan.net.nodes) (standard-keeps plan rows (reader_from 0 plan.net.nodes)) number)
     number
     (record {
-      own = λ u port job s fs now l h q m e. node-own rows (slice_get plan.net.nodes u) u port job s (record { job = job; arrive = now; found = standard_jobs plan rows u s.visits s.local }) now q m refl e;
+      own = λ u port job s fs now l h q m e. node-own rows (slice_get plan.net.nodes u) u port job s (record { job = job; arrive = now; port = port; found = standard_jobs plan rows u s.visits s.local }) now q m refl e;
       earlier = λ u server position s fs rest now l h first q p m e. node-earlier rows (slice_get plan.net.nodes u) _ u server position s fs rest now h first q p m e;
     }))
     (standard-on_time plan rows) (feeds_forward plan (standard plan rows) refl refl) (starts rows) (starts-arrive 0 rows.source rows.time) (9 * length plan.net.nodes * length rows.time) v).2 inside).each

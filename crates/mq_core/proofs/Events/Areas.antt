@@ -93,7 +93,7 @@ acted-areas t s (Arrive now n port job) h =
     }
   where
     x : Visit
-    x = record { job = job; arrive = now; found = t.jobs n s.visits s.local }
+    x = record { job = job; arrive = now; port = port; found = t.jobs n s.visits s.local }
 
     size : length (s.visits ++ x ∷ []) ≡ suc (length s.visits)
     size = omega (arith, length-append s.visits (x ∷ []))

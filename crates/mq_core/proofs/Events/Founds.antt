@@ -79,7 +79,7 @@ keeps-founds {L} t P Q keeps number leaves =
     came v port job s fs now q h areas founds = record { each = λ p l. go p (eqb p (length s.visits)) refl (omega arith) }
       where
         x : Visit
-        x = record { job = job; arrive = now; found = t.jobs v s.visits s.local }
+        x = record { job = job; arrive = now; port = port; found = t.jobs v s.visits s.local }
 
         more : List Emission
         more = emissions_at t s (Arrive now v port job)

@@ -100,7 +100,7 @@ keeps-areas_by {L} t P Q left keeps leaves =
         }
       where
         x : Visit
-        x = record { job = job; arrive = now; found = t.jobs v s.visits s.local }
+        x = record { job = job; arrive = now; port = port; found = t.jobs v s.visits s.local }
 
         next : Station L
         next = acted t s (Arrive now v port job)
