@@ -1,4 +1,5 @@
 -- What a kind of node is: all that the other definitions ask of a kind.
+use Rattle.mq_core.specs.Came.{Came}
 use Rattle.std.specs.Prelude.{Bool, List, ℕ}
 use Rattle.mq_core.specs.Event.{Event}
 use Rattle.mq_core.specs.Leaving.{Leaving}
@@ -42,9 +43,9 @@ pub record Behaviour : Type 1 where
   -- the service that a job asks for
   pub service : Rows → ℕ → ℕ
   -- the fates of jobs that come at these times
-  pub fates : Rows → List ℕ → List ℕ → List Fate
+  pub fates : Rows → Came → List Fate
   -- the outputs by which they leave
-  pub outs : Rows → List ℕ → List ℕ → List ℕ
+  pub outs : Rows → Came → List ℕ
   -- what these visits let out, by position
   pub flow : Rows → List Visit → List Emission
   -- the order in which it lets out

@@ -1,3 +1,4 @@
+use Rattle.mq_core.specs.Came.{Came, came_of}
 use Rattle.std.specs.Prelude.{◌≡◌, ◌<◌, ◌≤◌, ⊤, ℕ, ◌+◌, false, List, ◌++◌, length, map, slice_get, Some}
 use Rattle.std.specs.List.{AllByRecursion, zip, flat_map}
 use Rattle.mq_core.specs.Columns.{IsStream, by_first, column_fates, column_visits, column_stream, pairs_of, rows_at, stream_in_order}
@@ -36,8 +37,8 @@ arrives_of visits = map (λ (x : Visit). x.arrive) visits
 
 -- the visits and the streams of a node are the columns that its jobs and their times of arrival give
 pub record IsInColumns (rows : Rows) (kind : Kind) (s : Station Local) : Type 0 where
-  pub visits : visits_of kind s ≡ column_visits rows kind (jobs_of s.visits) (arrives_of s.visits)
-  pub stream : (out : ℕ) → stream_from s out ≡ column_stream rows kind (jobs_of s.visits) (arrives_of s.visits) out
+  pub visits : visits_of kind s ≡ column_visits rows kind (came_of s.visits)
+  pub stream : (out : ℕ) → stream_from s out ≡ column_stream rows kind (came_of s.visits) out
 
 abbrev pub NodesAreColumns : Type 0
 NodesAreColumns =
@@ -97,7 +98,7 @@ pub record FatesInTime (arrive : List ℕ) (fate : List Fate) : Type 0 where
 
 -- the fates of jobs that come to a node at these times
 abbrev pub FatesAreInTime : Type 0
-FatesAreInTime = (rows : Rows) (kind : Kind) (job arrive : List ℕ) → length job ≡ length arrive → FatesInTime arrive (column_fates rows kind job arrive)
+FatesAreInTime = (rows : Rows) (kind : Kind) (came : Came) → length came.job ≡ length came.arrive → FatesInTime came.arrive (column_fates rows kind came)
 
 -- the columns have one item a visit, and none departs before it came: item by item, and by position
 pub record IsInTime (visits : Visits) : Type 0 where

@@ -1,4 +1,5 @@
 -- A run in columns: what the code keeps of it, one item a visit, by position.
+use Rattle.mq_core.specs.Came.{Came}
 use Rattle.std.specs.List.{zip}
 use Rattle.std.specs.Prelude.{All, Bool, List, Some, [], count_by, false, fold, if◌then◌else◌, length, map, max, nat_lt, slice_index, suc, sum, zero, ℕ, ◌++◌, ◌+◌, ◌-◌, ◌==◌, ◌^◌, ◌∷◌, ◌≡◌, ◌≤◌}
 use Rattle.mq_core.specs.Fates.{service_time}
@@ -49,8 +50,8 @@ pub record IsSoundLoad (times demands : List ℕ) : Type 0 where
   pub small : All (λ demand. demand ≤ 2 ^ 36) demands
 
 -- the fates of the visits of a node, which has these jobs at these times
-abbrev pub column_fates : Rows → Kind → List ℕ → List ℕ → List Fate
-column_fates rows kind job arrive = (behaviour_of kind).fates rows job arrive
+abbrev pub column_fates : Rows → Kind → Came → List Fate
+column_fates rows kind came = (behaviour_of kind).fates rows came
 
 -- it departs after this time
 abbrev pub departs_after : ℕ → Fate → Bool
@@ -69,14 +70,14 @@ abbrev pub founds_of : List ℕ → List Fate → List ℕ
 founds_of arrive fate = founds_from [] arrive fate
 
 -- the visits of a node, which has these jobs at these times
-abbrev pub column_visits : Rows → Kind → List ℕ → List ℕ → Visits
-column_visits rows kind job arrive =
-    let fate = column_fates rows kind job arrive in
-    record { job = job; arrive = arrive; found = founds_of arrive fate; fate = fate }
+abbrev pub column_visits : Rows → Kind → Came → Visits
+column_visits rows kind came =
+    let fate = column_fates rows kind came in
+    record { job = came.job; arrive = came.arrive; found = founds_of came.arrive fate; fate = fate }
 
 -- the output by which each job leaves a node of this kind, which has these jobs at these times
-abbrev pub column_outs : Rows → Kind → List ℕ → List ℕ → List ℕ
-column_outs rows kind job arrive = (behaviour_of kind).outs rows job arrive
+abbrev pub column_outs : Rows → Kind → Came → List ℕ
+column_outs rows kind came = (behaviour_of kind).outs rows came
 
 -- the items, of these that stand beside their outputs, whose output is this one
 abbrev pub picked : ℕ → List ℕ → List ℕ → List ℕ
@@ -120,12 +121,12 @@ abbrev pub stream_in_order : Kind → Stream → Stream
 stream_in_order kind stream = stream_by (behaviour_of kind).order stream
 
 -- what leaves a node by an output, where the node has these jobs at these times
-abbrev pub column_stream : Rows → Kind → List ℕ → List ℕ → ℕ → Stream
-column_stream rows kind job arrive out =
-    let outs = column_outs rows kind job arrive in
+abbrev pub column_stream : Rows → Kind → Came → ℕ → Stream
+column_stream rows kind came out =
+    let outs = column_outs rows kind came in
     stream_in_order kind (record {
-      job = picked out outs job;
-      time = picked out outs (leaving_times arrive (column_fates rows kind job arrive));
+      job = picked out outs came.job;
+      time = picked out outs (leaving_times came.arrive (column_fates rows kind came));
     })
 
 -- Totals. How long each visit waited, stayed and was served.

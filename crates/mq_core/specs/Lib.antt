@@ -12,6 +12,7 @@ pub mod Ranges
 pub mod Told
 pub mod Emitting
 pub mod Leaving
+pub mod Came
 pub mod Behaviour
 pub mod Kinds
 pub mod KindTable

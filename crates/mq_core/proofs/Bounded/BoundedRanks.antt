@@ -1,4 +1,5 @@
 -- No departure of a run passes the latest that there may be, node by node in the order of ranks.
+use Rattle.mq_core.specs.Came.{came_of}
 use Rattle.std.proofs.Common.{◌≡◌, ◌⊎◌, inl, inr, ℕ, zero, suc, ◌+◌, ◌*◌, ◌^◌, ◌<◌, ◌≤◌, Bool, true, false, eqb, List, [], ◌∷◌, ◌++◌, length, take, Option, Some, None, sym, refl, ap, ◌∙◌, subst, arith, eqb-true, le-ltb, length-append}
 use Rattle.std.proofs.lemmas.Bool.{cases_lt}
 use Rattle.std.proofs.lemmas.List.{length-map}
@@ -116,13 +117,13 @@ module _ (laws : RunLaws) (plan : Plan) (rows : Rows) (read : IsReadFor plan.net
 
   -- the jobs leave a node, and pass its outputs, by this time
   record IsBy (v : ℕ) (kind : Kind) (limit : ℕ) : Type 0 where
-    fates : LeaveBy limit (column_fates rows kind (jobs_at v) (arrives_at v))
+    fates : LeaveBy limit (column_fates rows kind (came_of (station v).visits))
     streams : (out : ℕ) → AreBy limit (stream_from (station v) out).time
 
   by-weaker : (v : ℕ) (kind : Kind) (limit later : ℕ) → limit ≤ later → IsBy v kind limit → IsBy v kind later
   by-weaker v kind limit later l h =
       record {
-        fates = leave-later limit later l (column_fates rows kind (jobs_at v) (arrives_at v)) h.fates;
+        fates = leave-later limit later l (column_fates rows kind (came_of (station v).visits)) h.fates;
         streams = λ out. by-later limit later (stream_from (station v) out).time l (h.streams out);
       }
 
@@ -133,18 +134,18 @@ module _ (laws : RunLaws) (plan : Plan) (rows : Rows) (read : IsReadFor plan.net
         fates = fates;
         streams = λ out.
             subst (λ (s : Stream). AreBy limit s.time) (sym ((laws.columns plan rows read v node here).stream out))
-            (stream-by rows node.kind (jobs_at v) (arrives_at v) limit out (laws.keeps node.kind) (by-later top limit (arrives_at v) (omega arith) came) fates);
+            (stream-by rows node.kind (came_of (station v).visits) limit out (laws.keeps node.kind) (by-later top limit (arrives_at v) (omega arith) came) fates);
       }
     where
       told : Each (λ job. Tells plan.net rows job) (jobs_at v)
       told = each-weaker (λ job. job < length rows.time) (Tells plan.net rows) (λ job l. laws.demands plan.net rows read job (subst (λ n. job < n) read.times l)) (jobs_at v) (laws.jobs plan rows v)
 
-      fates : LeaveBy limit (column_fates rows node.kind (jobs_at v) (arrives_at v))
+      fates : LeaveBy limit (column_fates rows node.kind (came_of (station v).visits))
       fates =
           let sound = laws.limits plan v node here in
           let few = laws.few plan rows read v in
           let many = length-map (station v).visits (λ (x : Visit). x.arrive) in
-          fates-by plan.net rows node.kind (jobs_at v) (arrives_at v) limit top sound.kind sound.servers told (omega arith) came
+          fates-by plan.net rows node.kind (came_of (station v).visits) limit top sound.kind sound.servers told (omega arith) came
 
   even : (v : ℕ) → length (jobs_at v) ≡ length (arrives_at v)
   even v = length-map (station v).visits (λ (x : Visit). x.job) ∙ sym (length-map (station v).visits (λ (x : Visit). x.arrive))
@@ -193,7 +194,7 @@ module _ (laws : RunLaws) (plan : Plan) (rows : Rows) (read : IsReadFor plan.net
       let few = wide (length plan.order) (length plan.net.nodes) added (order-few plan) in
       let by = by-weaker v node.kind (last + length plan.order * added) plan.net.bound (omega arith) (ranks-by (length plan.order) r v node l place here) in
       ap (λ visits. first_of (column_late plan.net.bound v visits)) (laws.columns plan rows read v node here).visits
-      ∙ none-late plan.net.bound v 0 (column_fates rows node.kind (jobs_at v) (arrives_at v)) by.fates
+      ∙ none-late plan.net.bound v 0 (column_fates rows node.kind (came_of (station v).visits)) by.fates
 
 pub departures-bounded : RunLaws → DeparturesAreBounded
 departures-bounded laws plan rows last read early room =

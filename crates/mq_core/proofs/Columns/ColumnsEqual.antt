@@ -1,3 +1,4 @@
+use Rattle.mq_core.specs.Came.{Came, came_of}
 use Rattle.std.proofs.Common.{Bool, List, Some, [], ap, arith, cond, eqb, false, inl, inr, length, map, refl, suc, sym, true, zero, zero-add, ℕ, ◌<◌, ◌∙◌, ◌∷◌, ◌≡◌, ◌≤◌}
 use Rattle.std.specs.List.{zip}
 use Rattle.std.specs.Prelude.{slice_get}
@@ -27,10 +28,10 @@ use Rattle.mq_core.proofs.EachKind.Tallied.{founds-are-counts}
 use Rattle.mq_core.proofs.Events.Orders.{filter-order, in_order_of-map}
 use Rattle.mq_core.proofs.Lists.Each.{Each-any}
 
-pub flow-fates : (rows : Rows) (kind : Kind) (visits : List Visit) → map (fate_by kind) (flow_of rows kind visits) ≡ column_fates rows kind (jobs_of visits) (arrives_of visits)
+pub flow-fates : (rows : Rows) (kind : Kind) (visits : List Visit) → map (fate_by kind) (flow_of rows kind visits) ≡ column_fates rows kind (came_of visits)
 flow-fates rows kind = (recurrence_of rows kind).fares
 
-flow-outs : (rows : Rows) (kind : Kind) (visits : List Visit) → map (λ (m : Emission). m.out) (flow_of rows kind visits) ≡ column_outs rows kind (jobs_of visits) (arrives_of visits)
+flow-outs : (rows : Rows) (kind : Kind) (visits : List Visit) → map (λ (m : Emission). m.out) (flow_of rows kind visits) ≡ column_outs rows kind (came_of visits)
 flow-outs rows kind = (recurrence_of rows kind).goes
 
 -- the emissions by an output are picked by their outputs
@@ -56,13 +57,13 @@ leaves-times kind k (m ∷ ms) (x ∷ xs) n h = λ i. own h.0 i ∷ leaves-times
 -- a station that let out its flow stands in columns
 station-visits : (rows : Rows) (kind : Kind) (s : Station Local) → s.emitted ≡ in_leaving_order kind (flow_of rows kind s.visits) → Rises (λ a b. a ≤ b) (arrives_of s.visits) →
     ((j : ℕ) → j < length s.visits → found_or 0 (slice_get s.visits j) ≡ still_there (arrival_or 0 (slice_get s.visits j)) s.emitted j) →
-    visits_of kind s ≡ column_visits rows kind (jobs_of s.visits) (arrives_of s.visits)
+    visits_of kind s ≡ column_visits rows kind (came_of s.visits)
 station-visits rows kind s flow rise found =
     let numbered = flow-numbered rows kind s.visits in
     let order = order-found kind 0 (flow_of rows kind s.visits) s.visits numbered in
-    let fates : fates_from kind s.emitted 0 s.visits ≡ column_fates rows kind (jobs_of s.visits) (arrives_of s.visits) =
+    let fates : fates_from kind s.emitted 0 s.visits ≡ column_fates rows kind (came_of s.visits) =
     ap (λ l. fates_from kind l 0 s.visits) flow ∙ (fates-numbered kind 0 (in_leaving_order kind (flow_of rows kind s.visits)) (flow_of rows kind s.visits) s.visits numbered (λ q l. order q) ∙ flow-fates rows kind s.visits) in
-    let founds : map (λ (x : Visit). x.found) s.visits ≡ founds_of (arrives_of s.visits) (column_fates rows kind (jobs_of s.visits) (arrives_of s.visits)) =
+    let founds : map (λ (x : Visit). x.found) s.visits ≡ founds_of (arrives_of s.visits) (column_fates rows kind (came_of s.visits)) =
     founds-numbered kind 0 0 (in_leaving_order kind (flow_of rows kind s.visits)) (flow_of rows kind s.visits) [] s.visits numbered (λ q l. order q) (flow-leaves rows kind s.visits) (Each-any _ (λ a. omega arith) (arrives_of s.visits), rise) (λ time l. refl)
     (λ j l. found j l ∙ (λ i. still_there (arrival_or 0 (slice_get s.visits j)) (flow i) (sym (zero-add j) i)))
     ∙ ap (founds_of (arrives_of s.visits)) (flow-fates rows kind s.visits) in
@@ -73,14 +74,14 @@ stream_in : ℕ → List Emission → Stream
 stream_in out ms = record { job = map (λ (m : Emission). m.job) (stream_of out ms); time = map (λ (m : Emission). m.time) (stream_of out ms) }
 
 -- the stream of the flow by position stands in columns
-flow-stream : (rows : Rows) (kind : Kind) (visits : List Visit) (out : ℕ) → stream_in out (flow_of rows kind visits) ≡ record { job = picked out (column_outs rows kind (jobs_of visits) (arrives_of visits)) (jobs_of visits); time = picked out (column_outs rows kind (jobs_of visits) (arrives_of visits)) (leaving_times (arrives_of visits) (column_fates rows kind (jobs_of visits) (arrives_of visits))) }
+flow-stream : (rows : Rows) (kind : Kind) (visits : List Visit) (out : ℕ) → stream_in out (flow_of rows kind visits) ≡ record { job = picked out (column_outs rows kind (came_of visits)) (jobs_of visits); time = picked out (column_outs rows kind (came_of visits)) (leaving_times (arrives_of visits) (column_fates rows kind (came_of visits))) }
 unfolding stream_in
 flow-stream rows kind visits out =
     let outs = flow-outs rows kind visits in
-    let jobs : map (λ (m : Emission). m.job) (stream_of out (flow_of rows kind visits)) ≡ picked out (column_outs rows kind (jobs_of visits) (arrives_of visits)) (jobs_of visits) =
+    let jobs : map (λ (m : Emission). m.job) (stream_of out (flow_of rows kind visits)) ≡ picked out (column_outs rows kind (came_of visits)) (jobs_of visits) =
     picked-stream out (λ (m : Emission). m.job) (flow_of rows kind visits)
     ∙ (λ i. picked out (outs i) (jobs-numbered 0 (flow_of rows kind visits) visits (flow-numbered rows kind visits) i)) in
-    let times : map (λ (m : Emission). m.time) (stream_of out (flow_of rows kind visits)) ≡ picked out (column_outs rows kind (jobs_of visits) (arrives_of visits)) (leaving_times (arrives_of visits) (column_fates rows kind (jobs_of visits) (arrives_of visits))) =
+    let times : map (λ (m : Emission). m.time) (stream_of out (flow_of rows kind visits)) ≡ picked out (column_outs rows kind (came_of visits)) (leaving_times (arrives_of visits) (column_fates rows kind (came_of visits))) =
     picked-stream out (λ (m : Emission). m.time) (flow_of rows kind visits)
     ∙ (λ i. picked out (outs i) ((leaves-times kind 0 (flow_of rows kind visits) visits (flow-numbered rows kind visits) (flow-leaves rows kind visits) ∙ ap (leaving_times (arrives_of visits)) (flow-fates rows kind visits)) i)) in
     λ i. record { job = jobs i; time = times i }
@@ -117,7 +118,7 @@ order-stream Overtaking ms out h =
     let times = ap (map (λ (m : Emission). m.time)) sorted ∙ (sym (pairs-part (λ (p : ℕ × ℕ). p.0) (λ (m : Emission). m.time) (λ m. refl) (in_order_of (λ (m : Emission). m.time) (stream_of out ms))) ∙ ap (map (λ (p : ℕ × ℕ). p.0)) pairs) in
     λ i. record { job = jobs i; time = times i }
 
-station-stream : (rows : Rows) (kind : Kind) (s : Station Local) (out : ℕ) → s.emitted ≡ in_leaving_order kind (flow_of rows kind s.visits) → Rises (λ a b. a ≤ b) (arrives_of s.visits) → stream_from s out ≡ column_stream rows kind (jobs_of s.visits) (arrives_of s.visits) out
+station-stream : (rows : Rows) (kind : Kind) (s : Station Local) (out : ℕ) → s.emitted ≡ in_leaving_order kind (flow_of rows kind s.visits) → Rises (λ a b. a ≤ b) (arrives_of s.visits) → stream_from s out ≡ column_stream rows kind (came_of s.visits) out
 unfolding stream_in
 station-stream rows kind s out flow rise =
     ap (stream_in out) flow ∙ (order-stream (behaviour_of kind).order (flow_of rows kind s.visits) out (λ mixed. (recurrence_of rows kind).stands mixed s.visits rise) ∙ ap (stream_in_order kind) (flow-stream rows kind s.visits out))

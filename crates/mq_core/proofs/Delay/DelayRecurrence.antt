@@ -25,9 +25,9 @@ delay-recurrence rows demand =
       goes = λ visits. delay-outs rows demand 0 visits;
       stands = λ mixed visits rise out. absurd cc;
       prompt = λ now m l. l;
-      in_time = λ job arrive e. when-delayed (demand_of_job rows demand) job arrive e;
-      stays = λ job arrive e. stay-fates (demand_of_job rows demand) job arrive _ (at_least-refl (delayed arrive (map (demand_of_job rows demand) job)));
-      bounded = λ net jobs arrives limit top sound few told room early.
-          let small = asked-small rows demand jobs (each-weaker _ _ (λ job (t : Tells net rows job). (t.demand demand sound).1) jobs told) in
-          departs-by limit (delayed arrives (asked rows jobs demand)) (delayed-by limit top arrives (asked rows jobs demand) (omega arith) early small);
+      in_time = λ came e. when-delayed (demand_of_job rows demand) came.job came.arrive e;
+      stays = λ came e. stay-fates (demand_of_job rows demand) came.job came.arrive _ (at_least-refl (delayed came.arrive (map (demand_of_job rows demand) came.job)));
+      bounded = λ net came limit top sound few told room early.
+          let small = asked-small rows demand came.job (each-weaker _ _ (λ job (t : Tells net rows job). (t.demand demand sound).1) came.job told) in
+          departs-by limit (delayed came.arrive (asked rows came.job demand)) (delayed-by limit top came.arrive (asked rows came.job demand) (omega arith) early small);
     }

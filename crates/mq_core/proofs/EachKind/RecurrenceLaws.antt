@@ -1,4 +1,5 @@
 -- What is to be shown of the recurrence of a kind.
+use Rattle.mq_core.specs.Came.{Came, came_of}
 use Rattle.std.proofs.Common.{◌≡◌, ℕ, ◌+◌, ◌*◌, ◌^◌, ◌≤◌, true, List, map, length}
 use Rattle.std.specs.List.{AllByRecursion as Each}
 use Rattle.mq_core.specs.Behaviour.{Behaviour}
@@ -20,16 +21,16 @@ pub record RecurrenceLaws (rows : Rows) (b : Behaviour) : Type 0 where
   -- each visit departs as it is let out, or is lost as it comes
   pub leaves : (visits : List Visit) → EachLeavesBy b.fate (b.flow rows visits) visits
   -- the fates of the flow are those of the columns
-  pub fares : (visits : List Visit) → map b.fate (b.flow rows visits) ≡ b.fates rows (jobs_of visits) (arrives_of visits)
+  pub fares : (visits : List Visit) → map b.fate (b.flow rows visits) ≡ b.fates rows (came_of visits)
   -- its outputs are those of the columns
-  pub goes : (visits : List Visit) → map (λ (m : Emission). m.out) (b.flow rows visits) ≡ b.outs rows (jobs_of visits) (arrives_of visits)
+  pub goes : (visits : List Visit) → map (λ (m : Emission). m.out) (b.flow rows visits) ≡ b.outs rows (came_of visits)
   -- where only outputs mix, each output leaves by position
   pub stands : b.order ≡ Mixed → (visits : List Visit) → Rises (λ a b. a ≤ b) (arrives_of visits) → (out : ℕ) → in_order_of (λ (m : Emission). m.time) (stream_of out (b.flow rows visits)) ≡ stream_of out (b.flow rows visits)
   -- no emission says a later time than its own
   pub prompt : (now : ℕ) (m : Emission) → m.time ≤ now → time_of_fate (b.fate m) ≤ now
   -- no job departs before it came
-  pub in_time : (job arrive : List ℕ) → length job ≡ length arrive → FatesInTime arrive (b.fates rows job arrive)
+  pub in_time : (came : Came) → length came.job ≡ length came.arrive → FatesInTime came.arrive (b.fates rows came)
   -- none departs earlier than after its bare time
-  pub stays : (job arrive : List ℕ) → length job ≡ length arrive → FatesStay (b.bare rows) job arrive (b.fates rows job arrive)
+  pub stays : (came : Came) → length came.job ≡ length came.arrive → FatesStay (b.bare rows) came.job came.arrive (b.fates rows came)
   -- each job adds at most the demands of 8 servers
-  pub bounded : (net : Network) (jobs arrives : List ℕ) (limit top : ℕ) → b.sound (length net.columns) ≡ true → b.servers ≤ 8 → Each (λ job. Tells net rows job) jobs → top + length arrives * 2 ^ 39 ≤ limit → AreBy top arrives → LeaveBy limit (b.fates rows jobs arrives)
+  pub bounded : (net : Network) (came : Came) (limit top : ℕ) → b.sound (length net.columns) ≡ true → b.servers ≤ 8 → Each (λ job. Tells net rows job) came.job → top + length came.arrive * 2 ^ 39 ≤ limit → AreBy top came.arrive → LeaveBy limit (b.fates rows came)

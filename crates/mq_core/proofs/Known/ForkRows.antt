@@ -1,4 +1,5 @@
 -- Fork-joins worked by hand: each row below says what a run of one gives, and holds by computing the event list.
+use Rattle.mq_core.specs.Came.{came_by}
 use Rattle.std.proofs.Common.{◌≡◌, false, [], ◌∷◌, refl}
 use Rattle.std.specs.Prelude.{IsTrue, codes}
 use Rattle.mq_core.specs.Columns.{column_exit, column_stream, column_totals, column_visits}
@@ -43,8 +44,8 @@ fork-row = ((refl, refl), refl, refl, refl, refl, refl)
 abbrev fork_visits : Visits
 fork_visits = record { job = 0 ∷ 1 ∷ []; arrive = 0 ∷ 1 ∷ []; found = 0 ∷ 1 ∷ []; fate = Departs 3 ∷ Departs 6 ∷ [] }
 
-fork-columns : (column_visits two_rows two_branches (0 ∷ 1 ∷ []) (0 ∷ 1 ∷ []) ≡ fork_visits)
-    × (column_stream two_rows two_branches (0 ∷ 1 ∷ []) (0 ∷ 1 ∷ []) 0 ≡ record { job = 0 ∷ 1 ∷ []; time = 3 ∷ 6 ∷ [] })
+fork-columns : (column_visits two_rows two_branches (came_by (0 ∷ 1 ∷ []) (0 ∷ 1 ∷ [])) ≡ fork_visits)
+    × (column_stream two_rows two_branches (came_by (0 ∷ 1 ∷ []) (0 ∷ 1 ∷ [])) 0 ≡ record { job = 0 ∷ 1 ∷ []; time = 3 ∷ 6 ∷ [] })
     × (column_totals two_rows two_branches fork_visits ≡ record { came = 2; left = 2; lost = 0; wait = 2; longest = 2; busy = 10; area = 8; peak = 2 })
     × (column_exit two_rows (record { job = 0 ∷ 1 ∷ []; time = 3 ∷ 6 ∷ [] }) ≡ (2, 8))
 fork-columns = (refl, refl, refl, refl)

@@ -1,4 +1,5 @@
 -- Small networks with a loss station, worked by hand: each row below holds by computing the event list.
+use Rattle.mq_core.specs.Came.{came_by}
 use Rattle.std.proofs.Common.{◌≡◌, ℕ, false, [], ◌∷◌, refl}
 use Rattle.std.specs.Prelude.{IsTrue, codes}
 use Rattle.mq_core.specs.Columns.{column_exit, column_stream, column_totals, column_visits}
@@ -50,9 +51,9 @@ single-columns : (visits_of (Loss 1 (Fixed 2)) (single.stations 1) ≡ single_vi
 unfolding after step earliest sooner_of is_below place_of rank_in reader_from port_reading ranked_after first_ready
 single-columns = (refl, refl, refl)
 
-columns-single : (column_visits four (Loss 1 (Fixed 2)) (0 ∷ 1 ∷ 2 ∷ 3 ∷ []) (0 ∷ 1 ∷ 2 ∷ 3 ∷ []) ≡ single_visits)
-    × (column_stream four (Loss 1 (Fixed 2)) (0 ∷ 1 ∷ 2 ∷ 3 ∷ []) (0 ∷ 1 ∷ 2 ∷ 3 ∷ []) 0 ≡ record { job = 0 ∷ 2 ∷ []; time = 2 ∷ 4 ∷ [] })
-    × (column_stream four (Loss 1 (Fixed 2)) (0 ∷ 1 ∷ 2 ∷ 3 ∷ []) (0 ∷ 1 ∷ 2 ∷ 3 ∷ []) 1 ≡ record { job = 1 ∷ 3 ∷ []; time = 1 ∷ 3 ∷ [] })
+columns-single : (column_visits four (Loss 1 (Fixed 2)) (came_by (0 ∷ 1 ∷ 2 ∷ 3 ∷ []) (0 ∷ 1 ∷ 2 ∷ 3 ∷ [])) ≡ single_visits)
+    × (column_stream four (Loss 1 (Fixed 2)) (came_by (0 ∷ 1 ∷ 2 ∷ 3 ∷ []) (0 ∷ 1 ∷ 2 ∷ 3 ∷ [])) 0 ≡ record { job = 0 ∷ 2 ∷ []; time = 2 ∷ 4 ∷ [] })
+    × (column_stream four (Loss 1 (Fixed 2)) (came_by (0 ∷ 1 ∷ 2 ∷ 3 ∷ []) (0 ∷ 1 ∷ 2 ∷ 3 ∷ [])) 1 ≡ record { job = 1 ∷ 3 ∷ []; time = 1 ∷ 3 ∷ [] })
     × (column_totals four (Loss 1 (Fixed 2)) single_visits ≡ record { came = 4; left = 2; lost = 2; wait = 0; longest = 0; busy = 4; area = 4; peak = 1 })
     × (column_exit four (record { job = 1 ∷ 3 ∷ []; time = 1 ∷ 3 ∷ [] }) ≡ (2, 0))
 columns-single = (refl, refl, refl, refl, refl)

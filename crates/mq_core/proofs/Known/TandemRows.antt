@@ -1,4 +1,5 @@
 -- Small networks with a tandem, worked by hand: what a run of each gives, by computing the event list.
+use Rattle.mq_core.specs.Came.{came_by}
 use Rattle.std.proofs.Common.{◌≡◌, ℕ, false, List, [], ◌∷◌, refl}
 use Rattle.std.specs.Prelude.{IsTrue, codes}
 use Rattle.mq_core.specs.Columns.{column_stream, column_totals, column_visits}
@@ -60,9 +61,9 @@ unfolding after step earliest sooner_of is_below place_of rank_in reader_from po
 column-row = (refl, (refl, refl), refl, refl, refl)
 
 -- the same in columns
-column-columns : (column_visits column_rows (Tandem column_stages) (0 ∷ 1 ∷ 2 ∷ []) (0 ∷ 0 ∷ 0 ∷ []) ≡ record { job = 0 ∷ 1 ∷ 2 ∷ []; arrive = 0 ∷ 0 ∷ 0 ∷ []; found = 0 ∷ 1 ∷ 2 ∷ []; fate = Departs 4 ∷ Departs 5 ∷ Departs 10 ∷ [] })
-    × (column_stream column_rows (Tandem column_stages) (0 ∷ 1 ∷ 2 ∷ []) (0 ∷ 0 ∷ 0 ∷ []) 0 ≡ record { job = 0 ∷ 1 ∷ 2 ∷ []; time = 4 ∷ 5 ∷ 10 ∷ [] })
-    × (column_totals column_rows (Tandem column_stages) (column_visits column_rows (Tandem column_stages) (0 ∷ 1 ∷ 2 ∷ []) (0 ∷ 0 ∷ 0 ∷ [])) ≡ record { came = 3; left = 3; lost = 0; wait = 7; longest = 4; busy = 12; area = 19; peak = 3 })
+column-columns : (column_visits column_rows (Tandem column_stages) (came_by (0 ∷ 1 ∷ 2 ∷ []) (0 ∷ 0 ∷ 0 ∷ [])) ≡ record { job = 0 ∷ 1 ∷ 2 ∷ []; arrive = 0 ∷ 0 ∷ 0 ∷ []; found = 0 ∷ 1 ∷ 2 ∷ []; fate = Departs 4 ∷ Departs 5 ∷ Departs 10 ∷ [] })
+    × (column_stream column_rows (Tandem column_stages) (came_by (0 ∷ 1 ∷ 2 ∷ []) (0 ∷ 0 ∷ 0 ∷ [])) 0 ≡ record { job = 0 ∷ 1 ∷ 2 ∷ []; time = 4 ∷ 5 ∷ 10 ∷ [] })
+    × (column_totals column_rows (Tandem column_stages) (column_visits column_rows (Tandem column_stages) (came_by (0 ∷ 1 ∷ 2 ∷ []) (0 ∷ 0 ∷ 0 ∷ []))) ≡ record { came = 3; left = 3; lost = 0; wait = 7; longest = 4; busy = 12; area = 19; peak = 3 })
     × (bare_time column_rows (Tandem column_stages) 2 ≡ 6) × (servers_in (Tandem column_stages) ≡ 2)
 column-columns = (refl, refl, refl, refl, refl)
 

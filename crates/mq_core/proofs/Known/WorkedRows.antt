@@ -1,4 +1,5 @@
 -- Small networks worked by hand: each row below says what a run of one gives, and holds by computing the event list.
+use Rattle.mq_core.specs.Came.{came_by}
 use Rattle.std.proofs.Common.{◌≡◌, ℕ, zero, suc, ◌<◌, List, [], ◌∷◌, Some, None, map, refl, arith}
 use Rattle.std.specs.Prelude.{IsTrue, codes}
 use Rattle.mq_core.specs.Columns.{column_exit, column_span, column_stream, column_totals, column_visits, visits_by_node}
@@ -111,9 +112,9 @@ ordinary-visits : (visits_by_node desk_run 0 (desk_net 100).nodes ≡ source_vis
 unfolding after step earliest sooner_of is_below place_of rank_in reader_from port_reading ranked_after first_ready
 ordinary-visits = (refl, refl)
 
-ordinary-columns : (column_visits three (Server (Column 0)) (0 ∷ 1 ∷ 2 ∷ []) (0 ∷ 1 ∷ 2 ∷ []) ≡ desk_visits)
-    × (column_visits three Source (0 ∷ 1 ∷ 2 ∷ []) (0 ∷ 1 ∷ 2 ∷ []) ≡ source_visits)
-    × (column_stream three (Server (Column 0)) (0 ∷ 1 ∷ 2 ∷ []) (0 ∷ 1 ∷ 2 ∷ []) 0 ≡ desk_stream)
+ordinary-columns : (column_visits three (Server (Column 0)) (came_by (0 ∷ 1 ∷ 2 ∷ []) (0 ∷ 1 ∷ 2 ∷ [])) ≡ desk_visits)
+    × (column_visits three Source (came_by (0 ∷ 1 ∷ 2 ∷ []) (0 ∷ 1 ∷ 2 ∷ [])) ≡ source_visits)
+    × (column_stream three (Server (Column 0)) (came_by (0 ∷ 1 ∷ 2 ∷ []) (0 ∷ 1 ∷ 2 ∷ [])) 0 ≡ desk_stream)
     × (column_totals three (Server (Column 0)) desk_visits ≡ record { came = 3; left = 3; lost = 0; wait = 6; longest = 3; busy = 8; area = 14; peak = 3 })
     × (column_totals three Source source_visits ≡ record { came = 3; left = 3; lost = 0; wait = 0; longest = 0; busy = 0; area = 0; peak = 0 })
     × (column_exit three desk_stream ≡ (3, 14)) × (column_span (source_visits ∷ desk_visits ∷ []) ≡ 8)
@@ -190,7 +191,7 @@ cut_end = run_in cut_net cut_rows
 cut-row : IsTrue (is_sound cut_net) × EndsAt cut_end 2
     × (seen cut_end 1 ≡ record { left = (0, 0, 0) ∷ (1, 1, 1) ∷ (2, 2, 2) ∷ []; found = 0 ∷ 0 ∷ 0 ∷ []; area = 0; busy = 0; peak = 0 })
     × (map {B = ℕ × ℕ} (exit_of cut_rows (cut_end.stations 1)) (0 ∷ 1 ∷ 2 ∷ []) ≡ (1, 0) ∷ (1, 0) ∷ (1, 0) ∷ [])
-    × (column_stream cut_rows (Split (Cut 0 (10 ∷ 20 ∷ []))) (0 ∷ 1 ∷ 2 ∷ []) (0 ∷ 1 ∷ 2 ∷ []) 2 ≡ record { job = 2 ∷ []; time = 2 ∷ [] })
+    × (column_stream cut_rows (Split (Cut 0 (10 ∷ 20 ∷ []))) (came_by (0 ∷ 1 ∷ 2 ∷ []) (0 ∷ 1 ∷ 2 ∷ [])) 2 ≡ record { job = 2 ∷ []; time = 2 ∷ [] })
 unfolding after step earliest sooner_of is_below place_of rank_in reader_from port_reading ranked_after first_ready
 cut-row = (refl, (refl, refl), refl, refl, refl)
 
@@ -258,7 +259,7 @@ overtaking_end = run_in overtaking_net overtaking_rows
 overtaking-row : IsTrue (is_sound overtaking_net) × EndsAt overtaking_end 7
     × (seen overtaking_end 1 ≡ record { left = (1, 0, 2) ∷ (0, 0, 5) ∷ []; found = 0 ∷ 1 ∷ []; area = 6; busy = 6; peak = 2 })
     × (seen overtaking_end 2 ≡ record { left = (1, 0, 4) ∷ (0, 0, 7) ∷ []; found = 0 ∷ 0 ∷ []; area = 4; busy = 4; peak = 1 })
-    × (column_stream overtaking_rows (Delay (Column 0)) (0 ∷ 1 ∷ []) (0 ∷ 1 ∷ []) 0 ≡ record { job = 1 ∷ 0 ∷ []; time = 2 ∷ 5 ∷ [] })
+    × (column_stream overtaking_rows (Delay (Column 0)) (came_by (0 ∷ 1 ∷ []) (0 ∷ 1 ∷ [])) 0 ≡ record { job = 1 ∷ 0 ∷ []; time = 2 ∷ 5 ∷ [] })
     × (totals_of overtaking_rows (Delay (Column 0)) (overtaking_end.stations 1) ≡ record { came = 2; left = 2; lost = 0; wait = 0; longest = 0; busy = 6; area = 6; peak = 2 })
 unfolding after step earliest sooner_of is_below place_of rank_in reader_from port_reading ranked_after first_ready
 overtaking-row = (refl, (refl, refl), refl, refl, refl, refl)

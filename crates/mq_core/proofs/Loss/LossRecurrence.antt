@@ -38,10 +38,10 @@ loss-recurrence rows places demand =
       goes = λ visits. faring-outs 0 _ visits (even-fates rows places demand visits) ∙ ap (λ d. map out_of_fate (loss_fates places [] (arrives_of visits) d)) (demands-of rows demand visits);
       stands = λ mixed visits rise out. loss-stream rows places demand visits out rise;
       prompt = λ now m l. lost-prompt m.out m.time now l;
-      in_time = λ job arrive e. when-lost places (demand_of_job rows demand) [] job arrive e;
-      stays = λ job arrive e. stay-admitted places (demand_of_job rows demand) [] job arrive;
-      bounded = λ net jobs arrives limit top sound few told room early.
+      in_time = λ came e. when-lost places (demand_of_job rows demand) [] came.job came.arrive e;
+      stays = λ came e. stay-admitted places (demand_of_job rows demand) [] came.job came.arrive;
+      bounded = λ net came limit top sound few told room early.
           let s = (and_parts (is_within 1 1048576 places) (is_sound_demand (length net.columns) demand) sound).1 in
-          let small = asked-small rows demand jobs (each-weaker _ _ (λ job (t : Tells net rows job). (t.demand demand s).1) jobs told) in
-          loss-by limit top top places [] arrives (asked rows jobs demand) (omega arith) (omega arith) (omega arith) early small;
+          let small = asked-small rows demand came.job (each-weaker _ _ (λ job (t : Tells net rows job). (t.demand demand s).1) came.job told) in
+          loss-by limit top top places [] came.arrive (asked rows came.job demand) (omega arith) (omega arith) (omega arith) early small;
     }

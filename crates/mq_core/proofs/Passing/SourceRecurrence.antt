@@ -19,7 +19,7 @@ source-recurrence rows =
       goes = λ visits. source-outs 0 visits;
       stands = λ mixed visits rise out. absurd cc;
       prompt = λ now m l. l;
-      in_time = λ job arrive e. at-once arrive;
-      stays = λ job arrive e. stay-fates (λ _. 0) job arrive arrive (stay-none job arrive e);
-      bounded = λ net jobs arrives limit top sound few told room early. departs-by limit arrives (by-later top limit arrives (omega arith) early);
+      in_time = λ came e. at-once came.arrive;
+      stays = λ came e. stay-fates (λ _. 0) came.job came.arrive came.arrive (stay-none came.job came.arrive e);
+      bounded = λ net came limit top sound few told room early. departs-by limit came.arrive (by-later top limit came.arrive (omega arith) early);
     }

@@ -48,7 +48,7 @@ tandem-recurrence rows stages =
       goes = λ visits. leaving-outs 0 _ visits (tandem-even rows stages visits);
       stands = λ mixed visits rise out. absurd cc;
       prompt = λ now m l. l;
-      in_time = λ job arrive e. fates-at_least arrive (tandem_times rows stages job arrive) (tandem_times-late rows stages job arrive);
-      stays = λ job arrive e. stay-stages rows stages job arrive e;
-      bounded = λ net jobs arrives limit top sound few told room early. stages-by net rows stages jobs arrives limit top sound few told room early;
+      in_time = λ came e. fates-at_least came.arrive (tandem_times rows stages came.job came.arrive) (tandem_times-late rows stages came.job came.arrive);
+      stays = λ came e. stay-stages rows stages came.job came.arrive e;
+      bounded = λ net came limit top sound few told room early. stages-by net rows stages came.job came.arrive limit top sound few told room early;
     }

@@ -49,8 +49,8 @@ fork_join branches =
       bare = λ rows job. fold max 0 (map (λ demands. sum_by (λ demand. demand_of_job rows demand job) demands) branches);
       service = λ rows job. sum_by (λ demand. demand_of_job rows demand job) (flat_map (λ demands. demands) branches);
       fate = λ m. Departs m.time;
-      fates = λ rows job arrive. map (λ time. Departs time) (fork_departs arrive (branch_demands rows branches job));
-      outs = λ rows job arrive. map (λ _. 0) job;
+      fates = λ rows came. map (λ time. Departs time) (fork_departs came.arrive (branch_demands rows branches came.job));
+      outs = λ rows came. map (λ _. 0) came.job;
       flow = λ rows visits. joined_from rows branches visits;
       order = InTurn;
     }

@@ -48,8 +48,8 @@ loss places demand =
       bare = λ rows job. demand_of_job rows demand job;
       service = λ rows job. demand_of_job rows demand job;
       fate = λ m. if m.out == 1 then Lost else Departs m.time;
-      fates = λ rows job arrive. loss_fates places [] arrive (map (demand_of_job rows demand) job);
-      outs = λ rows job arrive. map out_of_fate (loss_fates places [] arrive (map (demand_of_job rows demand) job));
+      fates = λ rows came. loss_fates places [] came.arrive (map (demand_of_job rows demand) came.job);
+      outs = λ rows came. map out_of_fate (loss_fates places [] came.arrive (map (demand_of_job rows demand) came.job));
       flow = λ rows visits. faring_from 0 (loss_fates places [] (map (λ (x : Visit). x.arrive) visits) (map (λ (x : Visit). demand_of_job rows demand x.job) visits)) visits;
       order = Mixed;
     }

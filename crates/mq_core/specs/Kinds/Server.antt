@@ -49,8 +49,8 @@ server demand =
       bare = λ rows job. demand_of_job rows demand job;
       service = λ rows job. demand_of_job rows demand job;
       fate = λ m. Departs m.time;
-      fates = λ rows job arrive. map (λ time. Departs time) (lindley 0 arrive (map (demand_of_job rows demand) job));
-      outs = λ rows job arrive. map (λ _. 0) job;
+      fates = λ rows came. map (λ time. Departs time) (lindley 0 came.arrive (map (demand_of_job rows demand) came.job));
+      outs = λ rows came. map (λ _. 0) came.job;
       flow = λ rows visits. served_from rows demand 0 0 visits;
       order = InTurn;
     }

@@ -34,8 +34,8 @@ source =
       bare = λ rows job. 0;
       service = λ rows job. 0;
       fate = λ m. Departs m.time;
-      fates = λ rows job arrive. map (λ time. Departs time) arrive;
-      outs = λ rows job arrive. map (λ _. 0) job;
+      fates = λ rows came. map (λ time. Departs time) came.arrive;
+      outs = λ rows came. map (λ _. 0) came.job;
       flow = λ rows visits. passed_from (λ _ _. 0) 0 visits;
       order = InTurn;
     }

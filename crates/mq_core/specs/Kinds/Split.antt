@@ -79,8 +79,8 @@ split route =
       bare = λ rows job. 0;
       service = λ rows job. 0;
       fate = λ m. Departs m.time;
-      fates = λ rows job arrive. map (λ time. Departs time) arrive;
-      outs = λ rows job arrive. routes_from rows route 0 job;
+      fates = λ rows came. map (λ time. Departs time) came.arrive;
+      outs = λ rows came. routes_from rows route 0 came.job;
       flow = λ rows visits. passed_from (λ visit position. output_by rows route visit.job position) 0 visits;
       order = InTurn;
     }

@@ -56,8 +56,8 @@ tandem stages =
       bare = λ rows job. demand_of_stages rows stages job;
       service = λ rows job. demand_of_stages rows stages job;
       fate = λ m. Departs m.time;
-      fates = λ rows job arrive. map (λ time. Departs time) (tandem_times rows stages job arrive);
-      outs = λ rows job arrive. map (λ _. 0) job;
+      fates = λ rows came. map (λ time. Departs time) (tandem_times rows stages came.job came.arrive);
+      outs = λ rows came. map (λ _. 0) came.job;
       flow = λ rows visits. tandem_flow rows stages visits;
       order = InTurn;
     }
