@@ -1,4 +1,4 @@
-use Rattle.std.specs.Prelude.{true, ◌≡◌, ℕ, List, [], map, filter, slice_get, Some}
+use Rattle.std.specs.Prelude.{List, Some, [], filter, length, map, slice_get, true, ℕ, ◌≡◌}
 use Rattle.std.specs.List.{AllByRecursion}
 use Rattle.mq_core.specs.Event.{Event, time_of, job_of}
 use Rattle.mq_core.specs.Machine.{Emission, Visit, after, opened}
@@ -34,4 +34,4 @@ NodesFlowAlone =
     (arrivals : List Event) → IsLoad v arrivals → (count : ℕ) →
     let end = after count (alone (standard plan rows)) (opened (alone (standard plan rows)) arrivals) in
     end.pending ≡ [] →
-    LetsOut (end.stations v).visits (end.stations v).emitted arrivals v (in_leaving_order node.kind (flow_of rows node.kind (end.stations v).visits))
+    LetsOut (end.stations v).visits (end.stations v).emitted arrivals v (in_leaving_order node.kind (flow_of rows (length node.inputs) node.kind (end.stations v).visits))

@@ -15,8 +15,8 @@ pub record Behaviour : Type 1 where
   pub starts : Bool
   -- what a node keeps at the start
   pub opening : Local
-  -- what it keeps after an event, lets out and schedules
-  pub on : Rows → List Visit → Local → ℕ → Event → Reaction Local
+  -- what it keeps after an event, lets out and schedules, at a node of so many ports
+  pub on : Rows → ℕ → List Visit → Local → ℕ → Event → Reaction Local
   -- the number of jobs in it
   pub jobs : List Visit → Local → ℕ
   -- the number of its working servers
@@ -46,7 +46,7 @@ pub record Behaviour : Type 1 where
   pub fates : Rows → Came → List Fate
   -- the outputs by which they leave
   pub outs : Rows → Came → List ℕ
-  -- what these visits let out, by position
-  pub flow : Rows → List Visit → List Emission
+  -- what these visits let out, by position, at a node of so many ports
+  pub flow : Rows → ℕ → List Visit → List Emission
   -- the order in which it lets out
   pub order : Leaving

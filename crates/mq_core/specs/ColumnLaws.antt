@@ -26,7 +26,7 @@ abbrev pub NodesFlow : Type 0
 NodesFlow =
     (plan : Plan) (rows : Rows) → IsReadFor plan.net rows → (v : ℕ) (node : Node) → slice_get plan.net.nodes v ≡ Some node →
     let s = (run_of plan rows).stations v in
-    s.emitted ≡ in_leaving_order node.kind (flow_of rows node.kind s.visits)
+    s.emitted ≡ in_leaving_order node.kind (flow_of rows (length node.inputs) node.kind s.visits)
 
 -- the jobs of these visits, and when they came
 abbrev pub jobs_of : List Visit → List ℕ
@@ -36,14 +36,14 @@ abbrev pub arrives_of : List Visit → List ℕ
 arrives_of visits = map (λ (x : Visit). x.arrive) visits
 
 -- the visits and the streams of a node are the columns that its jobs and their times of arrival give
-pub record IsInColumns (rows : Rows) (kind : Kind) (s : Station Local) : Type 0 where
-  pub visits : visits_of kind s ≡ column_visits rows kind (came_of s.visits)
-  pub stream : (out : ℕ) → stream_from s out ≡ column_stream rows kind (came_of s.visits) out
+pub record IsInColumns (rows : Rows) (ports : ℕ) (kind : Kind) (s : Station Local) : Type 0 where
+  pub visits : visits_of kind s ≡ column_visits rows kind (came_of ports s.visits)
+  pub stream : (out : ℕ) → stream_from s out ≡ column_stream rows kind (came_of ports s.visits) out
 
 abbrev pub NodesAreColumns : Type 0
 NodesAreColumns =
     (plan : Plan) (rows : Rows) → IsReadFor plan.net rows → (v : ℕ) (node : Node) → slice_get plan.net.nodes v ≡ Some node →
-    IsInColumns rows node.kind ((run_of plan rows).stations v)
+    IsInColumns rows (length node.inputs) node.kind ((run_of plan rows).stations v)
 
 -- the arrivals at a node by time: the rows of a source in file order, or what the ports of another read, port after port
 pub record IsMerged (rows : Rows) (v : ℕ) (node : Node) (end : State Local) : Type 0 where

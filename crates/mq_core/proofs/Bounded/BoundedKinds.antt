@@ -19,7 +19,7 @@ use Rattle.mq_core.proofs.EachKind.LawTable.{recurrence_of}
 -- a node in its limits whose jobs come by a time: each job adds at most the demands of 8 servers
 pub fates-by : (net : Network) (rows : Rows) (kind : Kind) (came : Came) (limit top : ℕ) → is_sound_kind (length net.columns) kind ≡ true → servers_in kind ≤ 8 → Each (λ job. Tells net rows job) came.job → top + length came.arrive * 2 ^ 39 ≤ limit → AreBy top came.arrive →
     LeaveBy limit (column_fates rows kind came)
-fates-by net rows kind came limit top sound few told room early = (recurrence_of rows kind).bounded net came limit top sound few told room early
+fates-by net rows kind came limit top sound few told room early = (recurrence_of rows came.ports kind).bounded net came limit top sound few told room early
 
 leaving-by : (limit : ℕ) (arrives : List ℕ) (fates : List Fate) → AreBy limit arrives → LeaveBy limit fates → AreBy limit (leaving_times arrives fates)
 leaving-by limit [] fates a f = tt

@@ -66,7 +66,7 @@ fate-at kind emitted k (suc i) (x ∷ xs) m out l e =
 
 -- a fate is no later than its emission
 early-fate : (rows : Rows) (kind : Kind) (now : ℕ) (m : Emission) → m.time ≤ now → time_of_fate (fate_by kind m) ≤ now
-early-fate rows kind = (recurrence_of rows kind).prompt
+early-fate rows kind = (recurrence_of rows 0 kind).prompt
 
 -- a number below the length is that of an item
 at-below : (xs : List Visit) (i : ℕ) → i < length xs → (x : Visit) × (slice_get xs i ≡ Some x)
@@ -143,7 +143,7 @@ module _ (plan : Plan) (rows : Rows) (read : IsReadFor plan.net rows) where
   leaves-within : (v : ℕ) (node : Node) (before after : List Emission) (m : Emission) → slice_get plan.net.nodes v ≡ Some node → (end.stations v).emitted ≡ before ++ m ∷ after → m.time ≤ column_span (visits_by_node end 0 plan.net.nodes)
   leaves-within v node before after m here inside =
       let flow = nodes-flow plan rows read v node here in
-      let own = order-own node.kind (flow_of rows node.kind (end.stations v).visits) (end.stations v).visits (flow-numbered rows node.kind (end.stations v).visits) before after m (sym flow ∙ inside) in
+      let own = order-own node.kind (flow_of rows (length node.inputs) node.kind (end.stations v).visits) (end.stations v).visits (flow-numbered rows (length node.inputs) node.kind (end.stations v).visits) before after m (sym flow ∙ inside) in
       let place : m.position ≡ 0 + m.position = omega arith in
       let found : emission_at (end.stations v).emitted (0 + m.position) ≡ Some m = ap (emission_at (end.stations v).emitted) (sym place) ∙ (ap (λ l. emission_at l m.position) flow ∙ own.0) in
       let size = own.1 in

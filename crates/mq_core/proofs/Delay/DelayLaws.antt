@@ -1,5 +1,5 @@
 -- The laws of the kind.
-use Rattle.std.proofs.Common.{[], ap, arith, eqb, inl, length, length-append, refl, suc, ◌*◌, ◌++◌, ◌+◌, ◌∷◌, ◌≡◌}
+use Rattle.std.proofs.Common.{[], ap, arith, eqb, inl, length, length-append, refl, suc, ℕ, ◌*◌, ◌++◌, ◌+◌, ◌∷◌, ◌≡◌}
 use Rattle.std.proofs.Math.Nat.{suc-mul}
 use Rattle.std.specs.Prelude.{filter, not, slice_get}
 use Rattle.mq_core.specs.Handling.{demand_of_visit, latest}
@@ -24,8 +24,8 @@ delay-inside rows demand =
       busy = λ s fs now. s.busy + remaining now fs ≡ asked rows demand s.visits;
     }
 
-pub delay-laws : (rows : Rows) (demand : Demand) → KindLaws rows (delay demand) (delay-inside rows demand)
-delay-laws rows demand =
+pub delay-laws : (rows : Rows) (ports : ℕ) (demand : Demand) → KindLaws rows ports (delay demand) (delay-inside rows demand)
+delay-laws rows ports demand =
     record {
       opens = λ columns v sound. delaying-opens rows demand v;
       waits = λ v s area busy fs now later l h. delaying-waits rows demand v s.visits s.local.scheduled s.emitted fs now later l h;
@@ -65,6 +65,6 @@ delay-laws rows demand =
           let out = emission-one now 0 position (slice_get s.visits position) in
           omega arith;
       vacant = omega arith;
-      raises = λ v port s fs now x at h f. inl (let r = length-append s.local.scheduled (latest (s.visits ++ x ∷ []) ∷ []) in omega arith, λ n. departing-whole (Delay demand) (λ m. refl) (own_out rows (delay demand) v port s now x) n);
+      raises = λ v port s fs now x at h f. inl (let r = length-append s.local.scheduled (latest (s.visits ++ x ∷ []) ∷ []) in omega arith, λ n. departing-whole (Delay demand) (λ m. refl) (own_out rows ports (delay demand) v port s now x) n);
       departs = λ v server position s now q m e. refl;
     }

@@ -1,5 +1,5 @@
 -- The laws of the kind's recurrence.
-use Rattle.std.proofs.Common.{arith, map, refl}
+use Rattle.std.proofs.Common.{arith, map, refl, ℕ}
 use Rattle.mq_core.specs.Handling.{demand_of_job}
 use Rattle.mq_core.specs.Kinds.Delay.{delay}
 use Rattle.mq_core.specs.PlanLaws.{Tells}
@@ -16,8 +16,8 @@ use Rattle.mq_core.proofs.Counting.Stays.{stay-fates}
 use Rattle.mq_core.proofs.EachKind.RecurrenceLaws.{RecurrenceLaws}
 use Rattle.mq_core.proofs.ForkJoin.ForkTimes.{at_least-refl}
 
-pub delay-recurrence : (rows : Rows) (demand : Demand) → RecurrenceLaws rows (delay demand)
-delay-recurrence rows demand =
+pub delay-recurrence : (rows : Rows) (ports : ℕ) (demand : Demand) → RecurrenceLaws rows ports (delay demand)
+delay-recurrence rows ports demand =
     record {
       numbered = λ visits. delayed-numbered rows demand 0 visits;
       leaves = λ visits. departing-leaves (Delay demand) (λ m. refl) _ visits;

@@ -1,4 +1,4 @@
-use Rattle.std.proofs.Common.{◌≡◌, ℕ, zero, suc, Bool, true, false, cond, eqb, List, [], ◌∷◌, ◌++◌, map, Option, Some, None, sym, refl, ap, ◌∙◌, subst, append_assoc}
+use Rattle.std.proofs.Common.{Bool, List, None, Option, Some, [], ap, append_assoc, cond, eqb, false, length, map, refl, subst, suc, sym, true, zero, ℕ, ◌++◌, ◌∙◌, ◌∷◌, ◌≡◌}
 use Rattle.std.proofs.lemmas.List.{append-nil, map-append}
 use Rattle.std.specs.Prelude.{filter, slice_get}
 use Rattle.std.specs.List.{AllByRecursion as Each}
@@ -79,8 +79,8 @@ pub nodes-flow_alone : NodesFlowAlone
 nodes-flow_alone plan rows v node here arrivals load count done =
     let fact = lone-fact plan rows arrivals (Each-weaker _ _ (not_finish v) arrivals load.here) count v in
     let one = subst (λ o. node_fact rows o v (end.stations v) (filter (is_finish_at v) end.pending) end.clock) here fact in
-    let two = subst (λ l. kind_fact rows node.kind v (end.stations v) (filter (is_finish_at v) l) end.clock) done one in
-    record { visited = lone-visits plan rows v arrivals load count done; left = kind-flow rows node.kind v (end.stations v) end.clock two }
+    let two = subst (λ l. kind_fact rows (length node.inputs) node.kind v (end.stations v) (filter (is_finish_at v) l) end.clock) done one in
+    record { visited = lone-visits plan rows v arrivals load count done; left = kind-flow rows (length node.inputs) node.kind v (end.stations v) end.clock two }
   where
     end : State Local
     end = after count (alone (standard plan rows)) (opened (alone (standard plan rows)) arrivals)

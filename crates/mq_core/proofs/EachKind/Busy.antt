@@ -25,30 +25,30 @@ use Rattle.mq_core.proofs.Networks.Wired.{feeds_forward}
 use Rattle.mq_core.proofs.Passing.Passes.{after_reaction}
 
 -- the busy tally of a node of each kind
-abbrev pub kind_busy : Rows → Kind → Station Local → List Event → ℕ → Type 0
-kind_busy rows kind = (inside_of rows kind).busy
+abbrev pub kind_busy : Rows → ℕ → Kind → Station Local → List Event → ℕ → Type 0
+kind_busy rows ports kind = (inside_of rows ports kind).busy
 
 abbrev pub node_busy : Rows → Option Node → Station Local → List Event → ℕ → Type 0
 node_busy rows None s fs now = Unit {0}
-node_busy rows (Some node) s fs now = kind_busy rows node.kind s fs now
+node_busy rows (Some node) s fs now = kind_busy rows (length node.inputs) node.kind s fs now
 
 busy-opens : (rows : Rows) (o : Option Node) (v : ℕ) → node_busy rows o (record { local = node_opening o; visits = []; emitted = []; area = 0; busy = 0; peak = 0 }) [] 0
 busy-opens rows None v = tt
-busy-opens rows (Some node) v = (laws_of rows node.kind).idle v
+busy-opens rows (Some node) v = (laws_of rows (length node.inputs) node.kind).idle v
 
 node_busy-waits : (rows : Rows) (o : Option Node) (v area : ℕ) (s : Station Local) (fs : List Event) (now later : ℕ) → now ≤ later → Each (λ f. later ≤ time_of f) fs → node_fact rows o v s fs now → node_busy rows o s fs now → node_busy rows o (record s { area = area; busy = s.busy + node_working o s.local * (later - now) }) fs later
 node_busy-waits rows None v area s fs now later l f h b = tt
-node_busy-waits rows (Some node) v area s fs now later l f h b = (laws_of rows node.kind).works v area s fs now later l f h b
+node_busy-waits rows (Some node) v area s fs now later l f h b = (laws_of rows (length node.inputs) node.kind).works v area s fs now later l f h b
 
 node_busy-arrives : (peak : ℕ) (rows : Rows) (o : Option Node) (v port : ℕ) (s : Station Local) (fs : List Event) (now : ℕ) (x : Visit) → x.arrive ≡ now → Each (λ f. now < time_of f) fs → node_fact rows o v s fs now → node_busy rows o s fs now →
     node_busy rows o (after_reaction peak s (s.visits ++ x ∷ []) now (node_on rows o (s.visits ++ x ∷ []) s.local now (Arrive now v port x.job))) (fs ++ finishes_of v (node_on rows o (s.visits ++ x ∷ []) s.local now (Arrive now v port x.job)).services) now
 node_busy-arrives peak rows None v port s fs now x at soon h b = tt
-node_busy-arrives peak rows (Some node) v port s fs now x at soon h b = (laws_of rows node.kind).busy_arrives peak v port s fs now x at soon h b
+node_busy-arrives peak rows (Some node) v port s fs now x at soon h b = (laws_of rows (length node.inputs) node.kind).busy_arrives peak v port s fs now x at soon h b
 
 node_busy-ends : (peak : ℕ) (rows : Rows) (o : Option Node) (rank : ℕ → ℕ) (v server position : ℕ) (s : Station Local) (fs rest : List Event) (now : ℕ) → earliest rank fs ≡ Some (Finish now v server position, rest) → node_fact rows o v s fs now → node_busy rows o s fs now →
     node_busy rows o (after_reaction peak s s.visits now (node_on rows o s.visits s.local now (Finish now v server position))) (rest ++ finishes_of v (node_on rows o s.visits s.local now (Finish now v server position)).services) now
 node_busy-ends peak rows None rank v server position s fs rest now first h b = tt
-node_busy-ends peak rows (Some node) rank v server position s fs rest now first h b = (laws_of rows node.kind).busy_ends peak rank v server position s fs rest now first h b
+node_busy-ends peak rows (Some node) rank v server position s fs rest now first h b = (laws_of rows (length node.inputs) node.kind).busy_ends peak rank v server position s fs rest now first h b
 
 busy-keeps : (plan : Plan) (rows : Rows) → Keeps (standard plan rows) (λ v s fs now. node_fact rows (slice_get plan.net.nodes v) v s fs now × node_busy rows (slice_get plan.net.nodes v) s fs now)
 unfolding standard_opening standard_handle standard_working
@@ -63,7 +63,7 @@ busy-keeps plan rows =
 
 pub busy-is_services : BusyIsServices
 busy-is_services plan rows read v node here =
-    (laws_of rows node.kind).served v (end.stations v) end.clock
+    (laws_of rows (length node.inputs) node.kind).served v (end.stations v) end.clock
     (subst (λ o. node_fact rows o v (end.stations v) [] end.clock) here fact.0)
     (subst (λ o. node_busy rows o (end.stations v) [] end.clock) here fact.1)
   where

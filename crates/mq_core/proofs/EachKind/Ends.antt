@@ -33,24 +33,24 @@ use Rattle.mq_core.proofs.Networks.Whole.{starts-arrive}
 use Rattle.mq_core.proofs.Networks.Wired.{feeds_forward, has_inputs, rank_in-has, reads-from}
 
 -- what the jobs in a node still weigh, where each emission weighs at most this much
-abbrev pub kind_load : Rows → ℕ → Kind → Local → ℕ
-kind_load rows onward kind local = (inside_of rows kind).load onward local
+abbrev pub kind_load : Rows → ℕ → ℕ → Kind → Local → ℕ
+kind_load rows ports onward kind local = (inside_of rows ports kind).load onward local
 
 abbrev pub node_load : Rows → ℕ → Option Node → Local → ℕ
 node_load rows onward None local = 0
-node_load rows onward (Some node) local = kind_load rows onward node.kind local
+node_load rows onward (Some node) local = kind_load rows (length node.inputs) onward node.kind local
 
 -- an arrival at a node weighs more than what it leaves
 node-arrives-falls : (rows : Rows) (o : Option Node) → (onward : ℕ) (s : Station Local) (fs : List Event) (visits : List Visit) (now port job v : ℕ) → node_fact rows o v s fs now →
     node_load rows onward o (node_on rows o visits s.local now (Arrive now v port job)).local + length (emissions_of now visits (node_on rows o visits s.local now (Arrive now v port job)).releases) * onward + 1 ≤ node_load rows onward o s.local + (onward + 9)
 node-arrives-falls rows None onward s fs visits now port job v fact = omega arith
-node-arrives-falls rows (Some node) onward s fs visits now port job v fact = (laws_of rows node.kind).adds onward v port job s visits fs now fact
+node-arrives-falls rows (Some node) onward s fs visits now port job v fact = (laws_of rows (length node.inputs) node.kind).adds onward v port job s visits fs now fact
 
 -- a finish at a node weighs more than what it leaves
 node-ends-falls : (rows : Rows) (o : Option Node) (onward v : ℕ) (s : Station Local) (fs rest : List Event) (rank : ℕ → ℕ) (now server position : ℕ) → node_fact rows o v s fs now → earliest rank fs ≡ Some (Finish now v server position, rest) → v < v + 1 → (o ≡ None → ⊥) →
     node_load rows onward o (node_on rows o s.visits s.local now (Finish now v server position)).local + length (emissions_of now s.visits (node_on rows o s.visits s.local now (Finish now v server position)).releases) * onward + 1 ≤ node_load rows onward o s.local
 node-ends-falls rows None onward v s fs rest rank now server position fact first l there = absurd (there refl)
-node-ends-falls rows (Some node) onward v s fs rest rank now server position fact first l there = (laws_of rows node.kind).takes onward rank v server position s fs rest now first fact
+node-ends-falls rows (Some node) onward v s fs rest rank now server position fact first l there = (laws_of rows (length node.inputs) node.kind).takes onward rank v server position s fs rest now first fact
 
 -- an order has at most as many nodes as the network
 ranked-length : (count : ℕ) (nodes : List Node) (ranked : List ℕ) → length (ranked_after count nodes ranked) ≤ length ranked + count
@@ -64,7 +64,7 @@ ranked-length (suc count) nodes ranked = go (first_ready ranked 0 nodes) (ranked
 
 load-opening : (rows : Rows) (onward : ℕ) (o : Option Node) → node_load rows onward o (node_opening o) ≡ 0
 load-opening rows onward None = refl
-load-opening rows onward (Some node) = (laws_of rows node.kind).weightless onward
+load-opening rows onward (Some node) = (laws_of rows (length node.inputs) node.kind).weightless onward
 
 pub sum_below-zero : (n : ℕ) (f : ℕ → ℕ) → ((k : ℕ) → f k ≡ 0) → sum_below n f ≡ 0
 sum_below-zero zero f h = refl
@@ -168,14 +168,14 @@ module _ (plan : Plan) (rows : Rows) (read : IsReadFor plan.net rows) where
         empty = λ v. holds_none v (slice_get plan.net.nodes v) (end-fact v);
       }
     where
-      has_fate : (v : ℕ) (node : Node) (p : ℕ) → slice_get plan.net.nodes v ≡ Some node → p < length ((run_of plan rows).stations v).visits → kind_fact rows node.kind v ((run_of plan rows).stations v) [] (run_of plan rows).clock → IsSome (fate_of node.kind ((run_of plan rows).stations v).emitted p)
+      has_fate : (v : ℕ) (node : Node) (p : ℕ) → slice_get plan.net.nodes v ≡ Some node → p < length ((run_of plan rows).stations v).visits → kind_fact rows (length node.inputs) node.kind v ((run_of plan rows).stations v) [] (run_of plan rows).clock → IsSome (fate_of node.kind ((run_of plan rows).stations v).emitted p)
       has_fate v node p e l f =
           let s = (run_of plan rows).stations v in
-          let flow = kind-flow rows node.kind v s (run_of plan rows).clock f in
-          let numbered = flow-numbered rows node.kind s.visits in
-          let one = numbered-found 0 p (flow_of rows node.kind s.visits) s.visits numbered (omega arith) (omega arith) in
-          fate-some node.kind s.emitted p one.0 (ap (λ l. emission_at l p) flow ∙ (order-found node.kind 0 (flow_of rows node.kind s.visits) s.visits numbered p ∙ one.1))
+          let flow = kind-flow rows (length node.inputs) node.kind v s (run_of plan rows).clock f in
+          let numbered = flow-numbered rows (length node.inputs) node.kind s.visits in
+          let one = numbered-found 0 p (flow_of rows (length node.inputs) node.kind s.visits) s.visits numbered (omega arith) (omega arith) in
+          fate-some node.kind s.emitted p one.0 (ap (λ l. emission_at l p) flow ∙ (order-found node.kind 0 (flow_of rows (length node.inputs) node.kind s.visits) s.visits numbered p ∙ one.1))
 
       holds_none : (v : ℕ) (o : Option Node) → node_fact rows o v ((run_of plan rows).stations v) [] (run_of plan rows).clock → node_jobs o ((run_of plan rows).stations v).visits ((run_of plan rows).stations v).local ≡ 0
       holds_none v None h = refl
-      holds_none v (Some node) h = (laws_of rows node.kind).empty v ((run_of plan rows).stations v) (run_of plan rows).clock h
+      holds_none v (Some node) h = (laws_of rows (length node.inputs) node.kind).empty v ((run_of plan rows).stations v) (run_of plan rows).clock h

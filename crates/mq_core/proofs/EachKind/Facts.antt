@@ -19,12 +19,12 @@ use Rattle.mq_core.proofs.Events.Kept.{Fact, Keeps}
 use Rattle.mq_core.proofs.Passing.Passes.{after_reaction, no_finish}
 
 -- what holds of a node of each kind
-abbrev pub kind_fact : Rows → Kind → Fact Local
-kind_fact rows kind = (inside_of rows kind).fact
+abbrev pub kind_fact : Rows → ℕ → Kind → Fact Local
+kind_fact rows ports kind = (inside_of rows ports kind).fact
 
 abbrev pub node_fact : Rows → Option Node → Fact Local
 node_fact rows None v s fs now = fs ≡ []
-node_fact rows (Some node) v s fs now = kind_fact rows node.kind v s fs now
+node_fact rows (Some node) v s fs now = kind_fact rows (length node.inputs) node.kind v s fs now
 
 -- the standard handlers under any wiring
 abbrev pub wired_by : Plan → Rows → (ℕ → ℕ → Option (ℕ × ℕ)) → Table Local
@@ -33,20 +33,20 @@ wired_by plan rows reader = record (standard plan rows) { reader = reader }
 node-arrives : (peak : ℕ) (rows : Rows) (o : Option Node) (v port : ℕ) (s : Station Local) (fs : List Event) (now : ℕ) (x : Visit) → x.arrive ≡ now → Each (λ f. now < time_of f) fs → node_fact rows o v s fs now →
     node_fact rows o v (after_reaction peak s (s.visits ++ x ∷ []) now (node_on rows o (s.visits ++ x ∷ []) s.local now (Arrive now v port x.job))) (fs ++ finishes_of v (node_on rows o (s.visits ++ x ∷ []) s.local now (Arrive now v port x.job)).services) now
 node-arrives peak rows None v port s fs now x at soon h = append-nil fs ∙ h
-node-arrives peak rows (Some node) v port s fs now x at soon h = (laws_of rows node.kind).arrives peak v port s fs now x at soon h
+node-arrives peak rows (Some node) v port s fs now x at soon h = (laws_of rows (length node.inputs) node.kind).arrives peak v port s fs now x at soon h
 
 node-ends : (peak : ℕ) (rows : Rows) (o : Option Node) (rank : ℕ → ℕ) (v server position : ℕ) (s : Station Local) (fs rest : List Event) (now : ℕ) → earliest rank fs ≡ Some (Finish now v server position, rest) → node_fact rows o v s fs now →
     node_fact rows o v (after_reaction peak s s.visits now (node_on rows o s.visits s.local now (Finish now v server position))) (rest ++ finishes_of v (node_on rows o s.visits s.local now (Finish now v server position)).services) now
 node-ends peak rows None rank v server position s fs rest now first h = absurd (no_finish rank fs rest _ h first)
-node-ends peak rows (Some node) rank v server position s fs rest now first h = (laws_of rows node.kind).ends peak rank v server position s fs rest now first h
+node-ends peak rows (Some node) rank v server position s fs rest now first h = (laws_of rows (length node.inputs) node.kind).ends peak rank v server position s fs rest now first h
 
 node-opens : (rows : Rows) (columns : ℕ) (o : Option Node) (v : ℕ) → IfSome o (λ node. is_sound_kind columns node.kind ≡ true) → node_fact rows o v (record { local = node_opening o; visits = []; emitted = []; area = 0; busy = 0; peak = 0 }) [] 0
 node-opens rows columns None v sound = refl
-node-opens rows columns (Some node) v sound = (laws_of rows node.kind).opens columns v sound
+node-opens rows columns (Some node) v sound = (laws_of rows (length node.inputs) node.kind).opens columns v sound
 
 node-waits : (rows : Rows) (o : Option Node) (v : ℕ) (s : Station Local) (area busy : ℕ) (fs : List Event) (now later : ℕ) → now ≤ later → node_fact rows o v s fs now → node_fact rows o v (record s { area = area; busy = busy }) fs later
 node-waits rows None v s area busy fs now later l h = h
-node-waits rows (Some node) v s area busy fs now later l h = (laws_of rows node.kind).waits v s area busy fs now later l h
+node-waits rows (Some node) v s area busy fs now later l h = (laws_of rows (length node.inputs) node.kind).waits v s area busy fs now later l h
 
 pub standard-keeps : (plan : Plan) (rows : Rows) (reader : ℕ → ℕ → Option (ℕ × ℕ)) → Keeps (wired_by plan rows reader) (λ v. node_fact rows (slice_get plan.net.nodes v) v)
 unfolding standard_opening standard_handle

@@ -59,21 +59,21 @@ emissions-known now visits (r ∷ releases) = go (slice_get visits r.position) r
     go None e ih = ih
     go (Some x) e ih = (below-all visits r.position x e, ih)
 
-module _ (rows : Rows) (b : Behaviour) (i : Inside) (laws : KindLaws rows b i) where
+module _ (rows : Rows) (ports : ℕ) (b : Behaviour) (i : Inside) (laws : KindLaws rows ports b i) where
   peaked-opens : Peaked b (opening_of b)
   peaked-opens = record { greatest = refl; enough = omega (arith, laws.vacant); known = tt }
 
-  peaked-arrives : (v port : ℕ) (s : Station Local) (now : ℕ) (x : Visit) → x.found ≡ b.jobs s.visits s.local → Raises rows b v port s now x → Peaked b s →
-      Peaked b (after_visit (max s.peak (b.jobs (s.visits ++ x ∷ []) (to_visit rows b v port s now x).local)) rows b v port s now x)
+  peaked-arrives : (v port : ℕ) (s : Station Local) (now : ℕ) (x : Visit) → x.found ≡ b.jobs s.visits s.local → Raises rows ports b v port s now x → Peaked b s →
+      Peaked b (after_visit (max s.peak (b.jobs (s.visits ++ x ∷ []) (to_visit rows ports b v port s now x).local)) rows ports b v port s now x)
   peaked-arrives v port s now x found raises h =
       record {
         greatest = go raises;
         enough = omega arith;
-        known = Each-append _ s.emitted more (Each-weaker _ _ (λ m l. omega (arith, size)) s.emitted h.known) (emissions-known now (s.visits ++ x ∷ []) (to_visit rows b v port s now x).releases);
+        known = Each-append _ s.emitted more (Each-weaker _ _ (λ m l. omega (arith, size)) s.emitted h.known) (emissions-known now (s.visits ++ x ∷ []) (to_visit rows ports b v port s now x).releases);
       }
     where
       more : List Emission
-      more = emissions_of now (s.visits ++ x ∷ []) (to_visit rows b v port s now x).releases
+      more = emissions_of now (s.visits ++ x ∷ []) (to_visit rows ports b v port s now x).releases
 
       size : length (s.visits ++ x ∷ []) ≡ suc (length s.visits)
       size = omega (arith, length-append s.visits (x ∷ []))
@@ -89,7 +89,7 @@ module _ (rows : Rows) (b : Behaviour) (i : Inside) (laws : KindLaws rows b i) w
           same (inl e) = e.2 ∙ sym e.1
           same (inr e) = e.1 ∙ (none (emission_at more k) refl ∙ sym e.0)
 
-      last : number_by b (s.visits ++ x ∷ []) (s.emitted ++ more) (length s.visits) ≡ unless_lost (option_map b.fate (own_out rows b v port s now x)) (x.found + 1)
+      last : number_by b (s.visits ++ x ∷ []) (s.emitted ++ more) (length s.visits) ≡ unless_lost (option_map b.fate (own_out rows ports b v port s now x)) (x.found + 1)
       last = (λ j. unless_lost (option_map b.fate (own (emission_at-append s.emitted more (length s.visits)) j)) (found_or 0 (get-last s.visits x j) + 1))
         where
           fresh : emission_at s.emitted (length s.visits) ≡ None
@@ -102,23 +102,23 @@ module _ (rows : Rows) (b : Behaviour) (i : Inside) (laws : KindLaws rows b i) w
       rest : greatest_below (length s.visits) (number_by b (s.visits ++ x ∷ []) (s.emitted ++ more)) ≡ s.peak
       rest = greatest-same (length s.visits) _ _ front ∙ sym h.greatest
 
-      whole : greatest_below (length (s.visits ++ x ∷ [])) (number_by b (s.visits ++ x ∷ []) (s.emitted ++ more)) ≡ max (unless_lost (option_map b.fate (own_out rows b v port s now x)) (x.found + 1)) s.peak
+      whole : greatest_below (length (s.visits ++ x ∷ [])) (number_by b (s.visits ++ x ∷ []) (s.emitted ++ more)) ≡ max (unless_lost (option_map b.fate (own_out rows ports b v port s now x)) (x.found + 1)) s.peak
       whole = ap (λ n. greatest_below n (number_by b (s.visits ++ x ∷ []) (s.emitted ++ more))) size ∙ (λ j. max (last j) (rest j))
 
-      go : Raises rows b v port s now x → max s.peak (b.jobs (s.visits ++ x ∷ []) (to_visit rows b v port s now x).local) ≡ greatest_below (length (s.visits ++ x ∷ [])) (number_by b (s.visits ++ x ∷ []) (s.emitted ++ more))
+      go : Raises rows ports b v port s now x → max s.peak (b.jobs (s.visits ++ x ∷ []) (to_visit rows ports b v port s now x).local) ≡ greatest_below (length (s.visits ++ x ∷ [])) (number_by b (s.visits ++ x ∷ []) (s.emitted ++ more))
       go (inl r) = let more = r.0 in let kept = r.1 (x.found + 1) in omega (arith, whole)
       go (inr r) = let none = r.0 in let lost = r.1 (x.found + 1) in let all = h.enough in omega (arith, whole)
 
-  peaked-ends : (rank : ℕ → ℕ) (v server position : ℕ) (s : Station Local) (fs rest : List Event) (now : ℕ) → earliest rank fs ≡ Some (Finish now v server position, rest) → i.fact v s fs now → Peaked b s → Peaked b (after_finish s.peak rows b v server position s now)
+  peaked-ends : (rank : ℕ → ℕ) (v server position : ℕ) (s : Station Local) (fs rest : List Event) (now : ℕ) → earliest rank fs ≡ Some (Finish now v server position, rest) → i.fact v s fs now → Peaked b s → Peaked b (after_finish s.peak rows ports b v server position s now)
   peaked-ends rank v server position s fs rest now first f h =
       record {
         greatest = h.greatest ∙ sym (greatest-same (length s.visits) _ _ (λ k l. ap (λ n. n) (alike k (emission_at-append s.emitted more k))));
         enough = let less = laws.leaves rank v server position s fs rest now first f in let all = h.enough in omega arith;
-        known = Each-append _ s.emitted more h.known (emissions-known now s.visits (to_finish rows b v server position s now).releases);
+        known = Each-append _ s.emitted more h.known (emissions-known now s.visits (to_finish rows ports b v server position s now).releases);
       }
     where
       more : List Emission
-      more = emissions_of now s.visits (to_finish rows b v server position s now).releases
+      more = emissions_of now s.visits (to_finish rows ports b v server position s now).releases
 
       -- who leaves now isn't lost, so that its number counts as before
       counts : (k n : ℕ) (o : Option Emission) → emission_at more k ≡ o → unless_lost (option_map b.fate o) n ≡ n
@@ -139,7 +139,7 @@ node_peaked (Some node) s = (behaviour_of node.kind).holds ≡ true → Peaked (
 
 peak-opens : (rows : Rows) (o : Option Node) → node_peaked o (record { local = node_opening o; visits = []; emitted = []; area = 0; busy = 0; peak = 0 })
 peak-opens rows None = tt
-peak-opens rows (Some node) = λ holds. peaked-opens rows (behaviour_of node.kind) (inside_of rows node.kind) (laws_of rows node.kind)
+peak-opens rows (Some node) = λ holds. peaked-opens rows (length node.inputs) (behaviour_of node.kind) (inside_of rows (length node.inputs) node.kind) (laws_of rows (length node.inputs) node.kind)
 
 peak-waits : (o : Option Node) (s : Station Local) (area busy : ℕ) → node_peaked o s → node_peaked o (record s { area = area; busy = busy })
 peak-waits None s area busy h = tt
@@ -151,13 +151,13 @@ peak-arrives rows None v port job s fs now f h = tt
 peak-arrives rows (Some node) v port job s fs now f h =
     λ holds.
     let x : Visit = record { job = job; arrive = now; port = port; found = node_jobs (Some node) s.visits s.local } in
-    peaked-arrives rows (behaviour_of node.kind) (inside_of rows node.kind) (laws_of rows node.kind) v port s now x refl ((laws_of rows node.kind).raises v port s fs now x refl holds f) (h holds)
+    peaked-arrives rows (length node.inputs) (behaviour_of node.kind) (inside_of rows (length node.inputs) node.kind) (laws_of rows (length node.inputs) node.kind) v port s now x refl ((laws_of rows (length node.inputs) node.kind).raises v port s fs now x refl holds f) (h holds)
 
 peak-ends : (rows : Rows) (o : Option Node) (rank : ℕ → ℕ) (v server position : ℕ) (s : Station Local) (fs rest : List Event) (now : ℕ) → earliest rank fs ≡ Some (Finish now v server position, rest) → node_fact rows o v s fs now → node_peaked o s →
     node_peaked o (after_reaction s.peak s s.visits now (node_on rows o s.visits s.local now (Finish now v server position)))
 peak-ends rows None rank v server position s fs rest now first f h = tt
 peak-ends rows (Some node) rank v server position s fs rest now first f h =
-    λ holds. peaked-ends rows (behaviour_of node.kind) (inside_of rows node.kind) (laws_of rows node.kind) rank v server position s fs rest now first f (h holds)
+    λ holds. peaked-ends rows (length node.inputs) (behaviour_of node.kind) (inside_of rows (length node.inputs) node.kind) (laws_of rows (length node.inputs) node.kind) rank v server position s fs rest now first f (h holds)
 
 peak-keeps : (plan : Plan) (rows : Rows) → Keeps (standard plan rows) (λ v s fs now. node_fact rows (slice_get plan.net.nodes v) v s fs now × node_peaked (slice_get plan.net.nodes v) s)
 unfolding standard_opening standard_handle standard_jobs

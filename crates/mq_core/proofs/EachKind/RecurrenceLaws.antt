@@ -15,17 +15,17 @@ use Rattle.mq_core.proofs.Bounded.BoundedStations.{AreBy, LeaveBy}
 use Rattle.mq_core.proofs.Counting.ColumnNumbers.{Numbered, EachLeavesBy}
 use Rattle.mq_core.proofs.Counting.Stays.{FatesStay}
 
-pub record RecurrenceLaws (rows : Rows) (b : Behaviour) : Type 0 where
+pub record RecurrenceLaws (rows : Rows) (ports : ℕ) (b : Behaviour) : Type 0 where
   -- the flow has one emission a visit, by position
-  pub numbered : (visits : List Visit) → Numbered 0 (b.flow rows visits) visits
+  pub numbered : (visits : List Visit) → Numbered 0 (b.flow rows ports visits) visits
   -- each visit departs as it is let out, or is lost as it comes
-  pub leaves : (visits : List Visit) → EachLeavesBy b.fate (b.flow rows visits) visits
+  pub leaves : (visits : List Visit) → EachLeavesBy b.fate (b.flow rows ports visits) visits
   -- the fates of the flow are those of the columns
-  pub fares : (visits : List Visit) → map b.fate (b.flow rows visits) ≡ b.fates rows (came_of visits)
+  pub fares : (visits : List Visit) → map b.fate (b.flow rows ports visits) ≡ b.fates rows (came_of ports visits)
   -- its outputs are those of the columns
-  pub goes : (visits : List Visit) → map (λ (m : Emission). m.out) (b.flow rows visits) ≡ b.outs rows (came_of visits)
+  pub goes : (visits : List Visit) → map (λ (m : Emission). m.out) (b.flow rows ports visits) ≡ b.outs rows (came_of ports visits)
   -- where only outputs mix, each output leaves by position
-  pub stands : b.order ≡ Mixed → (visits : List Visit) → Rises (λ a b. a ≤ b) (arrives_of visits) → (out : ℕ) → in_order_of (λ (m : Emission). m.time) (stream_of out (b.flow rows visits)) ≡ stream_of out (b.flow rows visits)
+  pub stands : b.order ≡ Mixed → (visits : List Visit) → Rises (λ a b. a ≤ b) (arrives_of visits) → (out : ℕ) → in_order_of (λ (m : Emission). m.time) (stream_of out (b.flow rows ports visits)) ≡ stream_of out (b.flow rows ports visits)
   -- no emission says a later time than its own
   pub prompt : (now : ℕ) (m : Emission) → m.time ≤ now → time_of_fate (b.fate m) ≤ now
   -- no job departs before it came

@@ -79,7 +79,7 @@ node-emits : (rows : Rows) (o : Option Node) (rank : ℕ → ℕ) (v server posi
     IsFilled (emissions_of now s.visits (node_on rows o s.visits s.local now (Finish now v server position)).releases) ⊎ (0 < node_jobs o s.visits (node_on rows o s.visits s.local now (Finish now v server position)).local)
 unfolding earliest
 node-emits rows None rank v server position s fs rest now h first = let c = subst (λ l. earliest rank l ≡ Some (Finish now v server position, rest)) h first in absurd cc
-node-emits rows (Some node) rank v server position s fs rest now h first = (laws_of rows node.kind).shows rank v server position s fs rest now first h
+node-emits rows (Some node) rank v server position s fs rest now h first = (laws_of rows (length node.inputs) node.kind).shows rank v server position s fs rest now first h
 
 pub span-is_latest : SpanIsLatest
 unfolding standard_handle standard_jobs

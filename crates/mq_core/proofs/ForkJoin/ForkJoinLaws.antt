@@ -1,5 +1,5 @@
 -- The laws of the kind.
-use Rattle.std.proofs.Common.{List, arith, length, refl, ◌+◌, ◌∙◌, ◌≡◌, inl}
+use Rattle.std.proofs.Common.{List, arith, inl, length, refl, ℕ, ◌+◌, ◌∙◌, ◌≡◌}
 use Rattle.std.specs.List.{flat_map}
 use Rattle.std.specs.Prelude.{sum_by}
 use Rattle.mq_core.specs.Handling.{demand_of_visit}
@@ -28,8 +28,8 @@ fork_join-inside rows branches =
       busy = λ s fs now. s.busy + remaining now fs ≡ branches_begun rows s.visits (length s.visits) branches s.local.branches;
     }
 
-pub fork_join-laws : (rows : Rows) (branches : List (List Demand)) → KindLaws rows (fork_join branches) (fork_join-inside rows branches)
-fork_join-laws rows branches =
+pub fork_join-laws : (rows : Rows) (ports : ℕ) (branches : List (List Demand)) → KindLaws rows ports (fork_join branches) (fork_join-inside rows branches)
+fork_join-laws rows ports branches =
     record {
       opens = λ columns v sound. joining-opens rows branches v (branches-shaped columns branches sound);
       waits = λ v s area busy fs now later l h. joining-waits rows branches v s.visits s.local.branches s.emitted fs now later l h;
@@ -55,6 +55,6 @@ fork_join-laws rows branches =
       enters = λ v port s fs now x at f. let more = joining-more rows branches v port s.local s.visits s.emitted fs now x at f in omega arith;
       leaves = λ rank v server position s fs rest now first h. joining-ends-few rows branches rank v server position s.local s.visits s.emitted fs rest now first h;
       vacant = omega arith;
-      raises = λ v port s fs now x at h f. inl (joining-more rows branches v port s.local s.visits s.emitted fs now x at f, λ n. departing-whole (ForkJoin branches) (λ m. refl) (own_out rows (fork_join branches) v port s now x) n);
+      raises = λ v port s fs now x at h f. inl (joining-more rows branches v port s.local s.visits s.emitted fs now x at f, λ n. departing-whole (ForkJoin branches) (λ m. refl) (own_out rows ports (fork_join branches) v port s now x) n);
       departs = λ v server position s now q m e. refl;
     }

@@ -1,5 +1,5 @@
 -- The laws of the kind's recurrence.
-use Rattle.std.proofs.Common.{List, arith, length, refl}
+use Rattle.std.proofs.Common.{List, arith, length, refl, ℕ}
 use Rattle.std.specs.List.{flat_map}
 use Rattle.mq_core.specs.Kinds.ForkJoin.{fork_join}
 use Rattle.mq_core.specs.PlanLaws.{Tells}
@@ -17,8 +17,8 @@ use Rattle.mq_core.proofs.Counting.Stays.{stay-fates, stay-joined}
 use Rattle.mq_core.proofs.EachKind.RecurrenceLaws.{RecurrenceLaws}
 use Rattle.mq_core.proofs.ForkJoin.ForkTimes.{joined-long, when-joined}
 
-pub fork_join-recurrence : (rows : Rows) (branches : List (List Demand)) → RecurrenceLaws rows (fork_join branches)
-fork_join-recurrence rows branches =
+pub fork_join-recurrence : (rows : Rows) (ports : ℕ) (branches : List (List Demand)) → RecurrenceLaws rows ports (fork_join branches)
+fork_join-recurrence rows ports branches =
     record {
       numbered = λ visits. leaving-numbered 0 _ visits (joined-long rows branches visits);
       leaves = λ visits. departing-leaves (ForkJoin branches) (λ m. refl) _ visits;

@@ -29,8 +29,8 @@ loss-inside rows places demand =
       busy = λ s fs now. LossBusy rows places demand s.visits s.local.queue fs now s.busy;
     }
 
-pub loss-laws : (rows : Rows) (places : ℕ) (demand : Demand) → KindLaws rows (loss places demand) (loss-inside rows places demand)
-loss-laws rows places demand =
+pub loss-laws : (rows : Rows) (ports : ℕ) (places : ℕ) (demand : Demand) → KindLaws rows ports (loss places demand) (loss-inside rows places demand)
+loss-laws rows ports places demand =
     record {
       opens = λ columns v sound.
           let shape : 1 ≤ places =
@@ -64,6 +64,6 @@ loss-laws rows places demand =
       enters = λ v port s fs now x at f. losing-arrives-few rows places demand s.local (s.visits ++ x ∷ []) now port x.job v;
       leaves = λ rank v server position s fs rest now first h. losing-ends-few rows demand s.visits s.local now;
       vacant = omega arith;
-      raises = λ v port s fs now x at h f. losing-raises rows places demand v port s now x;
+      raises = λ v port s fs now x at h f. losing-raises rows ports places demand v port s now x;
       departs = λ v server position s now q m e. losing-departs rows places demand s now q m s.local.queue e;
     }

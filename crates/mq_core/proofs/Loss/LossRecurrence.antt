@@ -29,8 +29,8 @@ lost-prompt out time now l = go (eqb out 1)
     go true = omega arith
     go false = l
 
-pub loss-recurrence : (rows : Rows) (places : ℕ) (demand : Demand) → RecurrenceLaws rows (loss places demand)
-loss-recurrence rows places demand =
+pub loss-recurrence : (rows : Rows) (ports : ℕ) (places : ℕ) (demand : Demand) → RecurrenceLaws rows ports (loss places demand)
+loss-recurrence rows ports places demand =
     record {
       numbered = λ visits. faring-numbered 0 _ visits (loss-even places [] (λ x. x.arrive) (λ x. demand_of_job rows demand x.job) visits);
       leaves = λ visits. faring-leaves places demand 0 _ visits;

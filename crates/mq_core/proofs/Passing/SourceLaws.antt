@@ -1,5 +1,5 @@
 -- The laws of the kind.
-use Rattle.std.proofs.Common.{[], arith, length, refl, sym, ◌++◌, ◌∙◌, ◌∷◌, ◌≡◌}
+use Rattle.std.proofs.Common.{[], arith, length, refl, sym, ℕ, ◌++◌, ◌∙◌, ◌∷◌, ◌≡◌}
 use Rattle.std.specs.Prelude.{slice_get}
 use Rattle.mq_core.specs.Handling.{latest}
 use Rattle.mq_core.specs.Kinds.Source.{source}
@@ -21,8 +21,8 @@ source-inside rows =
       busy = λ s fs now. s.busy ≡ 0;
     }
 
-pub source-laws : (rows : Rows) → KindLaws rows source (source-inside rows)
-source-laws rows =
+pub source-laws : (rows : Rows) (ports : ℕ) → KindLaws rows ports source (source-inside rows)
+source-laws rows ports =
     record {
       opens = λ columns v sound. record { left = refl; none = refl };
       waits = λ v s area busy fs now later l h. h;

@@ -1,5 +1,5 @@
 -- The laws of the kind's recurrence.
-use Rattle.std.proofs.Common.{arith, refl}
+use Rattle.std.proofs.Common.{arith, refl, ℕ}
 use Rattle.mq_core.specs.Kinds.Source.{source}
 use Rattle.mq_core.specs.declared.model.Kind.TheVariants.{Source}
 use Rattle.mq_core.specs.declared.model.Rows.{Rows}
@@ -10,8 +10,8 @@ use Rattle.mq_core.proofs.Counting.InTime.{at-once}
 use Rattle.mq_core.proofs.Counting.Stays.{stay-fates, stay-none}
 use Rattle.mq_core.proofs.EachKind.RecurrenceLaws.{RecurrenceLaws}
 
-pub source-recurrence : (rows : Rows) → RecurrenceLaws rows source
-source-recurrence rows =
+pub source-recurrence : (rows : Rows) (ports : ℕ) → RecurrenceLaws rows ports source
+source-recurrence rows ports =
     record {
       numbered = λ visits. passed-numbered _ 0 visits;
       leaves = λ visits. departing-leaves Source (λ m. refl) _ visits;

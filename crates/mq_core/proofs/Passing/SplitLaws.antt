@@ -1,5 +1,5 @@
 -- The laws of the kind.
-use Rattle.std.proofs.Common.{[], arith, length, refl, sym, ◌++◌, ◌∙◌, ◌∷◌, ◌≡◌}
+use Rattle.std.proofs.Common.{[], arith, length, refl, sym, ℕ, ◌++◌, ◌∙◌, ◌∷◌, ◌≡◌}
 use Rattle.std.specs.Prelude.{slice_get}
 use Rattle.mq_core.specs.Handling.{latest}
 use Rattle.mq_core.specs.Kinds.Split.{split}
@@ -23,8 +23,8 @@ split-inside rows route =
       busy = λ s fs now. s.busy ≡ 0;
     }
 
-pub split-laws : (rows : Rows) (route : Route) → KindLaws rows (split route) (split-inside rows route)
-split-laws rows route =
+pub split-laws : (rows : Rows) (ports : ℕ) (route : Route) → KindLaws rows ports (split route) (split-inside rows route)
+split-laws rows ports route =
     record {
       opens = λ columns v sound. record { left = refl; none = refl };
       waits = λ v s area busy fs now later l h. h;

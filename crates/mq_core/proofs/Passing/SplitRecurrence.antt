@@ -1,5 +1,5 @@
 -- The laws of the kind's recurrence.
-use Rattle.std.proofs.Common.{arith, refl}
+use Rattle.std.proofs.Common.{arith, refl, ℕ}
 use Rattle.mq_core.specs.Kinds.Split.{split}
 use Rattle.mq_core.specs.declared.model.Kind.TheVariants.{Split}
 use Rattle.mq_core.specs.declared.model.Route.{Route}
@@ -11,8 +11,8 @@ use Rattle.mq_core.proofs.Counting.InTime.{at-once}
 use Rattle.mq_core.proofs.Counting.Stays.{stay-fates, stay-none}
 use Rattle.mq_core.proofs.EachKind.RecurrenceLaws.{RecurrenceLaws}
 
-pub split-recurrence : (rows : Rows) (route : Route) → RecurrenceLaws rows (split route)
-split-recurrence rows route =
+pub split-recurrence : (rows : Rows) (ports : ℕ) (route : Route) → RecurrenceLaws rows ports (split route)
+split-recurrence rows ports route =
     record {
       numbered = λ visits. passed-numbered _ 0 visits;
       leaves = λ visits. departing-leaves (Split route) (λ m. refl) _ visits;

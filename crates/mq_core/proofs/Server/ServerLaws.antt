@@ -1,5 +1,5 @@
 -- The laws of the kind.
-use Rattle.std.proofs.Common.{[], ap, arith, inl, length, refl, ◌*◌, ◌++◌, ◌+◌, ◌-◌, ◌∷◌, ◌≡◌}
+use Rattle.std.proofs.Common.{[], ap, arith, inl, length, refl, ℕ, ◌*◌, ◌++◌, ◌+◌, ◌-◌, ◌∷◌, ◌≡◌}
 use Rattle.mq_core.specs.Kinds.Server.{server}
 use Rattle.mq_core.specs.Handling.{demand_at, demand_of_visit, latest}
 use Rattle.mq_core.specs.Tallies.{sum_below}
@@ -26,8 +26,8 @@ server-inside rows demand =
       busy = λ s fs now. s.busy + remaining now fs ≡ begun rows demand s.visits s.local.queue;
     }
 
-pub server-laws : (rows : Rows) (demand : Demand) → KindLaws rows (server demand) (server-inside rows demand)
-server-laws rows demand =
+pub server-laws : (rows : Rows) (ports : ℕ) (demand : Demand) → KindLaws rows ports (server demand) (server-inside rows demand)
+server-laws rows ports demand =
     record {
       opens = λ columns v sound. serving-opens rows demand v;
       waits = λ v s area busy fs now later l h. serving-waits rows demand v s.visits s.local.queue s.emitted fs now later l h;
@@ -60,6 +60,6 @@ server-laws rows demand =
           omega arith;
       leaves = λ rank v server position s fs rest now first h. serving-leaves rows demand s now;
       vacant = omega arith;
-      raises = λ v port s fs now x at h f. inl (let r = joins-length rows demand (s.visits ++ x ∷ []) s.local now s.local.queue (latest (s.visits ++ x ∷ [])) in omega arith, λ n. departing-whole (Server demand) (λ m. refl) (own_out rows (server demand) v port s now x) n);
+      raises = λ v port s fs now x at h f. inl (let r = joins-length rows demand (s.visits ++ x ∷ []) s.local now s.local.queue (latest (s.visits ++ x ∷ [])) in omega arith, λ n. departing-whole (Server demand) (λ m. refl) (own_out rows ports (server demand) v port s now x) n);
       departs = λ v server position s now q m e. refl;
     }

@@ -1,5 +1,5 @@
 -- The laws of the kind's recurrence.
-use Rattle.std.proofs.Common.{arith, refl}
+use Rattle.std.proofs.Common.{arith, refl, ℕ}
 use Rattle.mq_core.specs.Handling.{demand_of_job}
 use Rattle.mq_core.specs.Kinds.Server.{server}
 use Rattle.mq_core.specs.PlanLaws.{Tells}
@@ -15,8 +15,8 @@ use Rattle.mq_core.proofs.Counting.InTime.{when-served}
 use Rattle.mq_core.proofs.Counting.Stays.{stay-fates, stay-served}
 use Rattle.mq_core.proofs.EachKind.RecurrenceLaws.{RecurrenceLaws}
 
-pub server-recurrence : (rows : Rows) (demand : Demand) → RecurrenceLaws rows (server demand)
-server-recurrence rows demand =
+pub server-recurrence : (rows : Rows) (ports : ℕ) (demand : Demand) → RecurrenceLaws rows ports (server demand)
+server-recurrence rows ports demand =
     record {
       numbered = λ visits. served-numbered rows demand 0 0 visits;
       leaves = λ visits. departing-leaves (Server demand) (λ m. refl) _ visits;

@@ -1,5 +1,5 @@
 -- The laws of the kind.
-use Rattle.std.proofs.Common.{List, [], arith, length, refl, ◌++◌, ◌+◌, ◌∷◌, ◌≡◌, inl}
+use Rattle.std.proofs.Common.{List, [], arith, inl, length, refl, ℕ, ◌++◌, ◌+◌, ◌∷◌, ◌≡◌}
 use Rattle.mq_core.specs.Kinds.Tandem.{tandem}
 use Rattle.mq_core.specs.declared.model.Kind.TheVariants.{Tandem}
 use Rattle.mq_core.specs.declared.model.Rows.{Rows}
@@ -24,8 +24,8 @@ tandem-inside rows stages =
       busy = λ s fs now. s.busy + remaining now fs ≡ begun_in rows s.visits (length s.visits) stages s.local.lines;
     }
 
-pub tandem-laws : (rows : Rows) (stages : List Stage) → KindLaws rows (tandem stages) (tandem-inside rows stages)
-tandem-laws rows stages =
+pub tandem-laws : (rows : Rows) (ports : ℕ) (stages : List Stage) → KindLaws rows ports (tandem stages) (tandem-inside rows stages)
+tandem-laws rows ports stages =
     record {
       opens = λ columns v sound. tandeming-opens rows stages v (sound-stages columns stages sound);
       waits = λ v s area busy fs now later l h. tandeming-waits rows stages v s.visits s.local.lines s.emitted fs now later l h;
@@ -51,6 +51,6 @@ tandem-laws rows stages =
       enters = λ v port s fs now x at f. tandem_arrives-few rows (s.visits ++ x ∷ []) s.local now stages s.local.lines refl;
       leaves = λ rank v server position s fs rest now first h. let all = tandeming-fewer rows v s.visits s.emitted rank fs rest now server position first stages s.local.lines h in omega arith;
       vacant = held-empty stages;
-      raises = λ v port s fs now x at h f. inl (tandeming-arrives_more rows stages v s.local s.visits (s.visits ++ x ∷ []) s.local.lines s.emitted fs now f, λ n. departing-whole (Tandem stages) (λ m. refl) (own_out rows (tandem stages) v port s now x) n);
+      raises = λ v port s fs now x at h f. inl (tandeming-arrives_more rows stages v s.local s.visits (s.visits ++ x ∷ []) s.local.lines s.emitted fs now f, λ n. departing-whole (Tandem stages) (λ m. refl) (own_out rows ports (tandem stages) v port s now x) n);
       departs = λ v server position s now q m e. refl;
     }

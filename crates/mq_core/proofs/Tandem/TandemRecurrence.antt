@@ -39,8 +39,8 @@ stages-by net rows (stage ∷ stages) jobs arrives limit top sound few told room
     departs-by limit (tandem_times rows all jobs arrives)
     (tandem-by limit top top (map (λ (s : Stage). s.places) all) (map (λ _. []) all) arrives (map (λ (s : Stage). asked rows jobs s.demand) all) (omega arith) (omega arith) (omega arith) early (none-left top all) (stages-small rows jobs all small))
 
-pub tandem-recurrence : (rows : Rows) (stages : List Stage) → RecurrenceLaws rows (tandem stages)
-tandem-recurrence rows stages =
+pub tandem-recurrence : (rows : Rows) (ports : ℕ) (stages : List Stage) → RecurrenceLaws rows ports (tandem stages)
+tandem-recurrence rows ports stages =
     record {
       numbered = λ visits. leaving-numbered 0 _ visits (tandem_times-length rows stages (jobs_of visits) (arrives_of visits) ∙ length-map visits (λ (x : Visit). x.arrive));
       leaves = λ visits. departing-leaves (Tandem stages) (λ m. refl) _ visits;

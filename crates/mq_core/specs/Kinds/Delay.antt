@@ -26,7 +26,7 @@ delay demand =
     record {
       starts = false;
       opening = empty;
-      on = λ rows visits local now event. delay_on rows demand visits local now event;
+      on = λ rows ports visits local now event. delay_on rows demand visits local now event;
       jobs = λ visits local. length local.scheduled;
       working = λ local. length local.scheduled;
       holds = true;
@@ -41,6 +41,6 @@ delay demand =
       fate = λ m. Departs m.time;
       fates = λ rows came. map (λ time. Departs time) (delayed came.arrive (map (demand_of_job rows demand) came.job));
       outs = λ rows came. map (λ _. 0) came.job;
-      flow = λ rows visits. delayed_from rows demand 0 visits;
+      flow = λ rows ports visits. delayed_from rows demand 0 visits;
       order = Overtaking;
     }

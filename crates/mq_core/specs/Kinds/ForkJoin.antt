@@ -36,7 +36,7 @@ fork_join branches =
     record {
       starts = false;
       opening = fork_opening branches;
-      on = λ rows visits local now event. fork_on rows branches visits local now event;
+      on = λ rows ports visits local now event. fork_on rows branches visits local now event;
       jobs = λ visits local. length visits - least_through local.branches;
       working = λ local. busy_servers local.branches;
       holds = true;
@@ -51,6 +51,6 @@ fork_join branches =
       fate = λ m. Departs m.time;
       fates = λ rows came. map (λ time. Departs time) (fork_departs came.arrive (branch_demands rows branches came.job));
       outs = λ rows came. map (λ _. 0) came.job;
-      flow = λ rows visits. joined_from rows branches visits;
+      flow = λ rows ports visits. joined_from rows branches visits;
       order = InTurn;
     }

@@ -35,7 +35,7 @@ loss places demand =
     record {
       starts = false;
       opening = empty;
-      on = λ rows visits local now event. loss_on rows places demand visits local now event;
+      on = λ rows ports visits local now event. loss_on rows places demand visits local now event;
       jobs = λ visits local. length local.queue;
       working = λ local. one_if_some local.queue;
       holds = true;
@@ -50,6 +50,6 @@ loss places demand =
       fate = λ m. if m.out == 1 then Lost else Departs m.time;
       fates = λ rows came. loss_fates places [] came.arrive (map (demand_of_job rows demand) came.job);
       outs = λ rows came. map out_of_fate (loss_fates places [] came.arrive (map (demand_of_job rows demand) came.job));
-      flow = λ rows visits. faring_from 0 (loss_fates places [] (map (λ (x : Visit). x.arrive) visits) (map (λ (x : Visit). demand_of_job rows demand x.job) visits)) visits;
+      flow = λ rows ports visits. faring_from 0 (loss_fates places [] (map (λ (x : Visit). x.arrive) visits) (map (λ (x : Visit). demand_of_job rows demand x.job) visits)) visits;
       order = Mixed;
     }

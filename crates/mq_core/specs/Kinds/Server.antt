@@ -36,7 +36,7 @@ server demand =
     record {
       starts = false;
       opening = empty;
-      on = λ rows visits local now event. server_on rows demand visits local now event;
+      on = λ rows ports visits local now event. server_on rows demand visits local now event;
       jobs = λ visits local. length local.queue;
       working = λ local. one_if_some local.queue;
       holds = true;
@@ -51,6 +51,6 @@ server demand =
       fate = λ m. Departs m.time;
       fates = λ rows came. map (λ time. Departs time) (lindley 0 came.arrive (map (demand_of_job rows demand) came.job));
       outs = λ rows came. map (λ _. 0) came.job;
-      flow = λ rows visits. served_from rows demand 0 0 visits;
+      flow = λ rows ports visits. served_from rows demand 0 0 visits;
       order = InTurn;
     }

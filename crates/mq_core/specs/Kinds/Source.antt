@@ -21,7 +21,7 @@ source =
     record {
       starts = true;
       opening = empty;
-      on = λ rows visits local now event. source_on visits local event;
+      on = λ rows ports visits local now event. source_on visits local event;
       jobs = λ visits local. 0;
       working = λ local. 0;
       holds = false;
@@ -36,6 +36,6 @@ source =
       fate = λ m. Departs m.time;
       fates = λ rows came. map (λ time. Departs time) came.arrive;
       outs = λ rows came. map (λ _. 0) came.job;
-      flow = λ rows visits. passed_from (λ _ _. 0) 0 visits;
+      flow = λ rows ports visits. passed_from (λ _ _. 0) 0 visits;
       order = InTurn;
     }

@@ -66,7 +66,7 @@ split route =
     record {
       starts = false;
       opening = empty;
-      on = λ rows visits local now event. split_on rows route visits local event;
+      on = λ rows ports visits local now event. split_on rows route visits local event;
       jobs = λ visits local. 0;
       working = λ local. 0;
       holds = false;
@@ -81,6 +81,6 @@ split route =
       fate = λ m. Departs m.time;
       fates = λ rows came. map (λ time. Departs time) came.arrive;
       outs = λ rows came. routes_from rows route 0 came.job;
-      flow = λ rows visits. passed_from (λ visit position. output_by rows route visit.job position) 0 visits;
+      flow = λ rows ports visits. passed_from (λ visit position. output_by rows route visit.job position) 0 visits;
       order = InTurn;
     }

@@ -43,7 +43,7 @@ tandem stages =
     record {
       starts = false;
       opening = record empty { lines = empty_lines stages };
-      on = λ rows visits local now event. tandem_on rows stages visits local now event;
+      on = λ rows ports visits local now event. tandem_on rows stages visits local now event;
       jobs = λ visits local. held_in local.lines;
       working = λ local. serving_in local.lines;
       holds = true;
@@ -58,6 +58,6 @@ tandem stages =
       fate = λ m. Departs m.time;
       fates = λ rows came. map (λ time. Departs time) (tandem_times rows stages came.job came.arrive);
       outs = λ rows came. map (λ _. 0) came.job;
-      flow = λ rows visits. tandem_flow rows stages visits;
+      flow = λ rows ports visits. tandem_flow rows stages visits;
       order = InTurn;
     }
