@@ -1,12 +1,13 @@
 -- What a kind of node is: all that the other definitions ask of a kind.
 use Rattle.mq_core.specs.Came.{Came}
-use Rattle.std.specs.Prelude.{Bool, List, ℕ}
+use Rattle.std.specs.Prelude.{Bool, List, Option, ℕ}
 use Rattle.mq_core.specs.Event.{Event}
 use Rattle.mq_core.specs.Leaving.{Leaving}
 use Rattle.mq_core.specs.Local.{Local}
-use Rattle.mq_core.specs.Machine.{Emission, Reaction, Visit}
+use Rattle.mq_core.specs.Machine.{Emission, Reaction, Station, Visit}
 use Rattle.mq_core.specs.declared.model.Fate.{Fate}
 use Rattle.mq_core.specs.declared.model.Rows.{Rows}
+use Rattle.mq_core.specs.declared.model.Stream.{Stream}
 
 -- one value a kind: each word that goes by kind is one of its fields
 pub record Behaviour : Type 1 where
@@ -50,3 +51,9 @@ pub record Behaviour : Type 1 where
   pub flow : Rows → ℕ → List Visit → List Emission
   -- the order in which it lets out
   pub order : Leaving
+  -- how many jobs one event may let out at most
+  pub copies : ℕ
+  -- what each arrival finds
+  pub founds : Rows → Came → List ℕ
+  -- what leaves by an output
+  pub stream : Rows → Came → ℕ → Stream

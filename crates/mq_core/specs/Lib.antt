@@ -13,6 +13,7 @@ pub mod Told
 pub mod Emitting
 pub mod Leaving
 pub mod Came
+pub mod Parts
 pub mod Behaviour
 pub mod Kinds
 pub mod KindTable
