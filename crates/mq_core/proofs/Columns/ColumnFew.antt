@@ -20,7 +20,7 @@ use Rattle.mq_core.proofs.Columns.ColumnMerges.{visits-nowhere}
 use Rattle.mq_core.proofs.Columns.ColumnsEqual.{some-inside}
 use Rattle.mq_core.proofs.EachKind.Ends.{source-inside, starts-inside, starts-weight, sum_below-zero}
 use Rattle.mq_core.proofs.EachKind.Facts.{node_fact, standard-keeps}
-use Rattle.mq_core.proofs.EachKind.LawTable.{laws_of}
+use Rattle.mq_core.proofs.EachKind.LawTable.{laws_of, once_of}
 use Rattle.mq_core.proofs.Events.Falls.{Falls, never-grows-from_start}
 use Rattle.mq_core.proofs.Events.Kept.{Fact}
 use Rattle.mq_core.proofs.Networks.Whole.{starts-arrive}
@@ -30,13 +30,13 @@ use Rattle.mq_core.proofs.Networks.Wired.{feeds_forward, has_inputs, reads-from}
 node-arrives-few : (rows : Rows) (o : Option Node) (s : Station Local) (fs : List Event) (x : Visit) (now port v : ℕ) → x.arrive ≡ now → node_fact rows o v s fs now →
     node_jobs o (s.visits ++ x ∷ []) (node_on rows o (s.visits ++ x ∷ []) s.local now (Arrive now v port x.job)).local + length (emissions_of now (s.visits ++ x ∷ []) (node_on rows o (s.visits ++ x ∷ []) s.local now (Arrive now v port x.job)).releases) ≤ node_jobs o s.visits s.local + 1
 node-arrives-few rows None s fs x now port v at fact = omega arith
-node-arrives-few rows (Some node) s fs x now port v at fact = (laws_of rows (length node.inputs) node.kind).enters v port s fs now x at fact
+node-arrives-few rows (Some node) s fs x now port v at fact = (once_of rows (length node.inputs) node.kind).enters v port s fs now x at fact
 
 -- a finish lets out no more jobs than it takes from those inside
 node-ends-few : (rows : Rows) (o : Option Node) (rank : ℕ → ℕ) (v server position : ℕ) (s : Station Local) (fs rest : List Event) (now : ℕ) → node_fact rows o v s fs now → earliest rank fs ≡ Some (Finish now v server position, rest) →
     node_jobs o s.visits (node_on rows o s.visits s.local now (Finish now v server position)).local + length (emissions_of now s.visits (node_on rows o s.visits s.local now (Finish now v server position)).releases) ≤ node_jobs o s.visits s.local
 node-ends-few rows None rank v server position s fs rest now h first = omega arith
-node-ends-few rows (Some node) rank v server position s fs rest now h first = (laws_of rows (length node.inputs) node.kind).leaves rank v server position s fs rest now first h
+node-ends-few rows (Some node) rank v server position s fs rest now h first = (once_of rows (length node.inputs) node.kind).leaves rank v server position s fs rest now first h
 
 -- one where a test passes
 abbrev one_if : Bool → ℕ
@@ -148,7 +148,7 @@ module _ (plan : Plan) (rows : Rows) (read : IsReadFor plan.net rows) (v : ℕ) 
       opening false true o = omega arith
       opening false false o = refl
       opening true c None = refl
-      opening true c (Some node) = (laws_of rows (length node.inputs) node.kind).vacant
+      opening true c (Some node) = (once_of rows (length node.inputs) node.kind).vacant
 
       own : (r u jobs number : ℕ) → cond (ltb r r) jobs (cond (eqb u u) number 0) ≡ number
       own r u jobs number = rw (eq-eqb u u refl, not-below r) refl

@@ -12,7 +12,7 @@ use Rattle.mq_core.proofs.Counting.Released.{emission-one, one-release, times-on
 use Rattle.mq_core.proofs.Counting.Services.{services-by, services-count}
 use Rattle.mq_core.proofs.Delay.DelayNumbers.{asked, delaying-busy_arrives, delaying-busy_ends, delaying-busy_waits, delaying-earlier, delaying-emits, delaying-fewer, delaying-number}
 use Rattle.mq_core.proofs.Delay.Delays.{Delaying, delaying-arrives, delaying-done, delaying-ends, delaying-opens, delaying-waits}
-use Rattle.mq_core.proofs.EachKind.KindLaws.{Inside, KindLaws, own_out}
+use Rattle.mq_core.proofs.EachKind.KindLaws.{Inside, KindLaws, OnceLaws, OwnLaws, own_out}
 use Rattle.mq_core.proofs.Events.Remaining.{remaining}
 
 -- what holds of it between two events
@@ -33,11 +33,6 @@ delay-laws rows ports demand =
       ends = λ peak rank v server position s fs rest now first h. delaying-ends rows demand rank v server position s.visits s.local.scheduled s.emitted fs rest now first h;
       flow = λ v s now h. (delaying-done rows demand v s.visits _ s.emitted now h).1;
       number = λ v s fs now h. delaying-number rows demand v s.visits s.local.scheduled s.emitted fs now h;
-      empty = λ v s now h. ap length (delaying-done rows demand v s.visits _ s.emitted _ h).0;
-      own = λ v port s now x q m e. absurd cc;
-      earlier = λ rank v server position s fs rest now first h q p m e l u.
-          let place : q ≡ position = one-release now 0 position q s.visits m e in
-          delaying-earlier rows demand v rank server position s.visits s.local.scheduled s.emitted fs rest now first h p (omega arith) u;
       shows = λ rank v server position s fs rest now first h. inl (_, [], delaying-emits rows demand v rank server position s.visits s.local.scheduled s.emitted fs rest now first h);
       weightless = λ onward. omega arith;
       adds = λ onward v port job s visits fs now f.
@@ -59,6 +54,25 @@ delay-laws rows ports demand =
           let each = services-by rows (Delay demand) s.visits (demand_of_visit rows demand) refl (λ x. refl) in
           let all = services-count rows (Delay demand) s.visits s.emitted (λ m. refl) in
           omega arith;
+    }
+
+-- each visit leaves with its own emission
+pub delay-own : (rows : Rows) (ports : ℕ) (demand : Demand) → OwnLaws rows ports (delay demand) (delay-inside rows demand)
+delay-own rows ports demand =
+    record {
+      exits = λ s p. refl;
+      own = λ v port s now x q m e. absurd cc;
+      earlier = λ rank v server position s fs rest now first h q p m e l u.
+          let place : q ≡ position = one-release now 0 position q s.visits m e in
+          delaying-earlier rows demand v rank server position s.visits s.local.scheduled s.emitted fs rest now first h p (omega arith) u;
+    }
+
+-- what it owes as it lets each visit out once
+pub delay-once : (rows : Rows) (ports : ℕ) (demand : Demand) → OnceLaws rows ports (delay demand) (delay-inside rows demand)
+delay-once rows ports demand =
+    record {
+      one = omega arith;
+      empty = λ v s now h. ap length (delaying-done rows demand v s.visits _ s.emitted _ h).0;
       enters = λ v port s fs now x at f. let a = length-append s.local.scheduled (latest (s.visits ++ x ∷ []) ∷ []) in omega arith;
       leaves = λ rank v server position s fs rest now first h.
           let less = delaying-fewer rows demand v rank server position s.visits s.local.scheduled s.emitted fs rest now first h in

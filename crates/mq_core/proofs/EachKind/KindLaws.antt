@@ -10,7 +10,7 @@ use Rattle.mq_core.specs.Fates.{unless_lost}
 use Rattle.mq_core.specs.Leaving.{left_by}
 use Rattle.mq_core.specs.Local.{Local}
 use Rattle.mq_core.specs.Machine.{Visit, Emission, Reaction, Station, emissions_of, finishes_of}
-use Rattle.mq_core.specs.Tallies.{arrival_or, emission_at, staying, sum_below}
+use Rattle.mq_core.specs.Tallies.{arrival_or, emission_at, one_if_none, sum_below}
 use Rattle.mq_core.specs.declared.model.Fate.TheVariants.{Departs}
 use Rattle.mq_core.specs.declared.model.Rows.{Rows}
 use Rattle.mq_core.proofs.Events.Kept.{Fact}
@@ -79,22 +79,15 @@ pub record KindLaws (rows : Rows) (ports : ℕ) (b : Behaviour) (i : Inside) : T
   -- with nothing to finish it has let out its flow, in its order
   pub flow : (v : ℕ) (s : Station Local) (now : ℕ) → i.fact v s [] now → s.emitted ≡ left_by b.order (b.flow rows ports s.visits)
   -- it holds the visits that have not left
-  pub number : (v : ℕ) (s : Station Local) (fs : List Event) (now : ℕ) → i.fact v s fs now → b.jobs s.visits s.local ≡ staying s.visits s.emitted
-  -- with nothing to finish it holds none
-  pub empty : (v : ℕ) (s : Station Local) (now : ℕ) → i.fact v s [] now → b.jobs s.visits s.local ≡ 0
-  -- what a visit lets out is itself
-  pub own : (v port : ℕ) (s : Station Local) (now : ℕ) (x : Visit) (q : ℕ) (m : Emission) → emission_at (emissions_of now (s.visits ++ x ∷ []) (to_visit rows ports b v port s now x).releases) q ≡ Some m → q ≡ length s.visits
-  -- who is let out by a finish leaves nobody behind who came at that time
-  pub earlier : (rank : ℕ → ℕ) (v server position : ℕ) (s : Station Local) (fs rest : List Event) (now : ℕ) → earliest rank fs ≡ Some (Finish now v server position, rest) → i.fact v s fs now →
-      (q p : ℕ) (m : Emission) → emission_at (emissions_of now s.visits (to_finish rows ports b v server position s now).releases) q ≡ Some m → q < p → p < length s.visits → arrival_or 0 (slice_get s.visits p) < now
+  pub number : (v : ℕ) (s : Station Local) (fs : List Event) (now : ℕ) → i.fact v s fs now → b.jobs s.visits s.local ≡ sum_below (length s.visits) (λ p. one_if_none (b.exit s p))
   -- a finish lets a job out, or leaves one in the node
   pub shows : (rank : ℕ → ℕ) (v server position : ℕ) (s : Station Local) (fs rest : List Event) (now : ℕ) → earliest rank fs ≡ Some (Finish now v server position, rest) → i.fact v s fs now →
       IsFilled (emissions_of now s.visits (to_finish rows ports b v server position s now).releases) ⊎ (0 < b.jobs s.visits (to_finish rows ports b v server position s now).local)
   -- at the start nothing weighs
   pub weightless : (onward : ℕ) → i.load onward b.opening ≡ 0
-  -- a visit weighs at most 9 events more than what it lets out
+  -- a visit weighs at most 9 events more than the copies that it may let out
   pub adds : (onward v port job : ℕ) (s : Station Local) (visits : List Visit) (fs : List Event) (now : ℕ) → i.fact v s fs now →
-      i.load onward (b.on rows ports visits s.local now (Arrive now v port job)).local + length (emissions_of now visits (b.on rows ports visits s.local now (Arrive now v port job)).releases) * onward + 1 ≤ i.load onward s.local + (onward + 9)
+      i.load onward (b.on rows ports visits s.local now (Arrive now v port job)).local + length (emissions_of now visits (b.on rows ports visits s.local now (Arrive now v port job)).releases) * onward + 1 ≤ i.load onward s.local + (b.copies * onward + 9)
   -- a finish takes off more than what it lets out weighs
   pub takes : (onward : ℕ) (rank : ℕ → ℕ) (v server position : ℕ) (s : Station Local) (fs rest : List Event) (now : ℕ) → earliest rank fs ≡ Some (Finish now v server position, rest) → i.fact v s fs now →
       i.load onward (to_finish rows ports b v server position s now).local + length (emissions_of now s.visits (to_finish rows ports b v server position s now).releases) * onward + 1 ≤ i.load onward s.local
@@ -111,7 +104,24 @@ pub record KindLaws (rows : Rows) (ports : ℕ) (b : Behaviour) (i : Inside) : T
       i.busy (after_finish peak rows ports b v server position s now) (rest ++ finishes_of v (to_finish rows ports b v server position s now).services) now
   -- with nothing to finish the tally is the sum of the services of those that aren't lost
   pub served : (v : ℕ) (s : Station Local) (now : ℕ) → i.fact v s [] now → i.busy s [] now →
-      s.busy ≡ sum_below (length s.visits) (λ p. unless_lost (option_map b.fate (emission_at s.emitted p)) (asked_by (b.service rows) (slice_get s.visits p)))
+      s.busy ≡ sum_below (length s.visits) (λ p. unless_lost (option_map b.fate (b.exit s p)) (asked_by (b.service rows) (slice_get s.visits p)))
+
+-- The laws of a kind whose visits leave each with its own emission.
+pub record OwnLaws (rows : Rows) (ports : ℕ) (b : Behaviour) (i : Inside) : Type 0 where
+  -- a visit leaves with the emission of its position
+  pub exits : (s : Station Local) (p : ℕ) → b.exit s p ≡ emission_at s.emitted p
+  -- what a visit lets out is itself
+  pub own : (v port : ℕ) (s : Station Local) (now : ℕ) (x : Visit) (q : ℕ) (m : Emission) → emission_at (emissions_of now (s.visits ++ x ∷ []) (to_visit rows ports b v port s now x).releases) q ≡ Some m → q ≡ length s.visits
+  -- who is let out by a finish leaves nobody behind who came at that time
+  pub earlier : (rank : ℕ → ℕ) (v server position : ℕ) (s : Station Local) (fs rest : List Event) (now : ℕ) → earliest rank fs ≡ Some (Finish now v server position, rest) → i.fact v s fs now →
+      (q p : ℕ) (m : Emission) → emission_at (emissions_of now s.visits (to_finish rows ports b v server position s now).releases) q ≡ Some m → q < p → p < length s.visits → arrival_or 0 (slice_get s.visits p) < now
+
+-- The laws of a kind that lets each visit out once, alone, and holds none for good.
+pub record OnceLaws (rows : Rows) (ports : ℕ) (b : Behaviour) (i : Inside) : Type 0 where
+  -- an event lets out at most one
+  pub one : b.copies ≤ 1
+  -- with nothing to finish it holds none
+  pub empty : (v : ℕ) (s : Station Local) (now : ℕ) → i.fact v s [] now → b.jobs s.visits s.local ≡ 0
   -- a visit brings one job in, which stays or is let out
   pub enters : (v port : ℕ) (s : Station Local) (fs : List Event) (now : ℕ) (x : Visit) → x.arrive ≡ now → i.fact v s fs now →
       b.jobs (s.visits ++ x ∷ []) (to_visit rows ports b v port s now x).local + length (emissions_of now (s.visits ++ x ∷ []) (to_visit rows ports b v port s now x).releases) ≤ b.jobs s.visits s.local + 1

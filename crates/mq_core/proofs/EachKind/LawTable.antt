@@ -4,30 +4,30 @@ use Rattle.mq_core.specs.KindTable.{behaviour_of}
 use Rattle.mq_core.specs.declared.model.Kind.{Kind}
 use Rattle.mq_core.specs.declared.model.Kind.TheVariants.{Source, Server, Delay, Loss, Tandem, ForkJoin, Split}
 use Rattle.mq_core.specs.declared.model.Rows.{Rows}
-use Rattle.mq_core.proofs.EachKind.KindLaws.{Inside, KindLaws}
+use Rattle.mq_core.proofs.EachKind.KindLaws.{Inside, KindLaws, OnceLaws, OwnLaws}
 use Rattle.mq_core.proofs.EachKind.LimitLaws.{LimitLaws}
 use Rattle.mq_core.proofs.EachKind.RecurrenceLaws.{RecurrenceLaws}
 use Rattle.mq_core.proofs.Passing.SourceLimits.{source-limits}
 use Rattle.mq_core.proofs.Passing.SourceRecurrence.{source-recurrence}
-use Rattle.mq_core.proofs.Passing.SourceLaws.{source-inside, source-laws}
+use Rattle.mq_core.proofs.Passing.SourceLaws.{source-inside, source-laws, source-once, source-own}
 use Rattle.mq_core.proofs.Passing.SplitLimits.{split-limits}
 use Rattle.mq_core.proofs.Passing.SplitRecurrence.{split-recurrence}
-use Rattle.mq_core.proofs.Passing.SplitLaws.{split-inside, split-laws}
+use Rattle.mq_core.proofs.Passing.SplitLaws.{split-inside, split-laws, split-once, split-own}
 use Rattle.mq_core.proofs.Server.ServerLimits.{server-limits}
 use Rattle.mq_core.proofs.Server.ServerRecurrence.{server-recurrence}
-use Rattle.mq_core.proofs.Server.ServerLaws.{server-inside, server-laws}
+use Rattle.mq_core.proofs.Server.ServerLaws.{server-inside, server-laws, server-once, server-own}
 use Rattle.mq_core.proofs.Delay.DelayLimits.{delay-limits}
 use Rattle.mq_core.proofs.Delay.DelayRecurrence.{delay-recurrence}
-use Rattle.mq_core.proofs.Delay.DelayLaws.{delay-inside, delay-laws}
+use Rattle.mq_core.proofs.Delay.DelayLaws.{delay-inside, delay-laws, delay-once, delay-own}
 use Rattle.mq_core.proofs.Loss.LossLimits.{loss-limits}
 use Rattle.mq_core.proofs.Loss.LossRecurrence.{loss-recurrence}
-use Rattle.mq_core.proofs.Loss.LossLaws.{loss-inside, loss-laws}
+use Rattle.mq_core.proofs.Loss.LossLaws.{loss-inside, loss-laws, loss-once, loss-own}
 use Rattle.mq_core.proofs.Tandem.TandemLimits.{tandem-limits}
 use Rattle.mq_core.proofs.Tandem.TandemRecurrence.{tandem-recurrence}
-use Rattle.mq_core.proofs.Tandem.TandemLaws.{tandem-inside, tandem-laws}
+use Rattle.mq_core.proofs.Tandem.TandemLaws.{tandem-inside, tandem-laws, tandem-once, tandem-own}
 use Rattle.mq_core.proofs.ForkJoin.ForkJoinLimits.{fork_join-limits}
 use Rattle.mq_core.proofs.ForkJoin.ForkJoinRecurrence.{fork_join-recurrence}
-use Rattle.mq_core.proofs.ForkJoin.ForkJoinLaws.{fork_join-inside, fork_join-laws}
+use Rattle.mq_core.proofs.ForkJoin.ForkJoinLaws.{fork_join-inside, fork_join-laws, fork_join-once, fork_join-own}
 
 -- what is said of a node between two events
 abbrev pub inside_of : Rows → ℕ → Kind → Inside
@@ -47,6 +47,24 @@ laws_of rows ports (Loss places demand) = loss-laws rows ports places demand
 laws_of rows ports (Tandem stages) = tandem-laws rows ports stages
 laws_of rows ports (ForkJoin branches) = fork_join-laws rows ports branches
 laws_of rows ports (Split route) = split-laws rows ports route
+
+pub once_of : (rows : Rows) (ports : ℕ) (kind : Kind) → OnceLaws rows ports (behaviour_of kind) (inside_of rows ports kind)
+once_of rows ports Source = source-once rows ports
+once_of rows ports (Server demand) = server-once rows ports demand
+once_of rows ports (Delay demand) = delay-once rows ports demand
+once_of rows ports (Loss places demand) = loss-once rows ports places demand
+once_of rows ports (Tandem stages) = tandem-once rows ports stages
+once_of rows ports (ForkJoin branches) = fork_join-once rows ports branches
+once_of rows ports (Split route) = split-once rows ports route
+
+pub own_of : (rows : Rows) (ports : ℕ) (kind : Kind) → OwnLaws rows ports (behaviour_of kind) (inside_of rows ports kind)
+own_of rows ports Source = source-own rows ports
+own_of rows ports (Server demand) = server-own rows ports demand
+own_of rows ports (Delay demand) = delay-own rows ports demand
+own_of rows ports (Loss places demand) = loss-own rows ports places demand
+own_of rows ports (Tandem stages) = tandem-own rows ports stages
+own_of rows ports (ForkJoin branches) = fork_join-own rows ports branches
+own_of rows ports (Split route) = split-own rows ports route
 
 pub recurrence_of : (rows : Rows) (ports : ℕ) (kind : Kind) → RecurrenceLaws rows ports (behaviour_of kind)
 recurrence_of rows ports Source = source-recurrence rows ports

@@ -19,8 +19,8 @@ use Rattle.mq_core.specs.declared.model.Node.{Node}
 use Rattle.mq_core.specs.declared.model.Plan.{Plan}
 use Rattle.mq_core.specs.declared.model.Rows.{Rows}
 use Rattle.mq_core.proofs.EachKind.Facts.{node_fact, standard-keeps}
-use Rattle.mq_core.proofs.EachKind.KindLaws.{Inside, KindLaws, Raises, own_out, opening_of, to_visit, to_finish, after_visit, after_finish}
-use Rattle.mq_core.proofs.EachKind.LawTable.{inside_of, laws_of}
+use Rattle.mq_core.proofs.EachKind.KindLaws.{Inside, KindLaws, OnceLaws, OwnLaws, Raises, own_out, opening_of, to_visit, to_finish, after_visit, after_finish}
+use Rattle.mq_core.proofs.EachKind.LawTable.{inside_of, laws_of, once_of, own_of}
 use Rattle.mq_core.proofs.Events.Areas.{get-front, get-last}
 use Rattle.mq_core.proofs.Events.EmissionsAt.{unknown}
 use Rattle.mq_core.proofs.Events.Founds.{emission_at-append}
@@ -59,9 +59,9 @@ emissions-known now visits (r ∷ releases) = go (slice_get visits r.position) r
     go None e ih = ih
     go (Some x) e ih = (below-all visits r.position x e, ih)
 
-module _ (rows : Rows) (ports : ℕ) (b : Behaviour) (i : Inside) (laws : KindLaws rows ports b i) where
+module _ (rows : Rows) (ports : ℕ) (b : Behaviour) (i : Inside) (laws : KindLaws rows ports b i) (one : OwnLaws rows ports b i) (once : OnceLaws rows ports b i) where
   peaked-opens : Peaked b (opening_of b)
-  peaked-opens = record { greatest = refl; enough = omega (arith, laws.vacant); known = tt }
+  peaked-opens = record { greatest = refl; enough = omega (arith, once.vacant); known = tt }
 
   peaked-arrives : (v port : ℕ) (s : Station Local) (now : ℕ) (x : Visit) → x.found ≡ b.jobs s.visits s.local → Raises rows ports b v port s now x → Peaked b s →
       Peaked b (after_visit (max s.peak (b.jobs (s.visits ++ x ∷ []) (to_visit rows ports b v port s now x).local)) rows ports b v port s now x)
@@ -83,7 +83,7 @@ module _ (rows : Rows) (ports : ℕ) (b : Behaviour) (i : Inside) (laws : KindLa
         where
           none : (o : Option Emission) → emission_at more k ≡ o → o ≡ None
           none None e = refl
-          none (Some m) e = absurd (let own = laws.own v port s now x k m e in omega arith)
+          none (Some m) e = absurd (let own = one.own v port s now x k m e in omega arith)
 
           same : ((m : Emission) × (emission_at s.emitted k ≡ Some m) × (emission_at (s.emitted ++ more) k ≡ Some m)) ⊎ ((emission_at s.emitted k ≡ None) × (emission_at (s.emitted ++ more) k ≡ emission_at more k)) → emission_at (s.emitted ++ more) k ≡ emission_at s.emitted k
           same (inl e) = e.2 ∙ sym e.1
@@ -113,7 +113,7 @@ module _ (rows : Rows) (ports : ℕ) (b : Behaviour) (i : Inside) (laws : KindLa
   peaked-ends rank v server position s fs rest now first f h =
       record {
         greatest = h.greatest ∙ sym (greatest-same (length s.visits) _ _ (λ k l. ap (λ n. n) (alike k (emission_at-append s.emitted more k))));
-        enough = let less = laws.leaves rank v server position s fs rest now first f in let all = h.enough in omega arith;
+        enough = let less = once.leaves rank v server position s fs rest now first f in let all = h.enough in omega arith;
         known = Each-append _ s.emitted more h.known (emissions-known now s.visits (to_finish rows ports b v server position s now).releases);
       }
     where
@@ -123,7 +123,7 @@ module _ (rows : Rows) (ports : ℕ) (b : Behaviour) (i : Inside) (laws : KindLa
       -- who leaves now isn't lost, so that its number counts as before
       counts : (k n : ℕ) (o : Option Emission) → emission_at more k ≡ o → unless_lost (option_map b.fate o) n ≡ n
       counts k n None e = refl
-      counts k n (Some m) e = ap (λ fate. unless_lost (Some fate) n) (laws.departs v server position s now k m e)
+      counts k n (Some m) e = ap (λ fate. unless_lost (Some fate) n) (once.departs v server position s now k m e)
 
       alike : (k : ℕ) → ((m : Emission) × (emission_at s.emitted k ≡ Some m) × (emission_at (s.emitted ++ more) k ≡ Some m)) ⊎ ((emission_at s.emitted k ≡ None) × (emission_at (s.emitted ++ more) k ≡ emission_at more k)) → number_by b s.visits (s.emitted ++ more) k ≡ number_by b s.visits s.emitted k
       alike k (inl e) = ap (λ o. unless_lost (option_map b.fate o) (found_or 0 (slice_get s.visits k) + 1)) (e.2 ∙ sym e.1)
@@ -139,7 +139,7 @@ node_peaked (Some node) s = (behaviour_of node.kind).holds ≡ true → Peaked (
 
 peak-opens : (rows : Rows) (o : Option Node) → node_peaked o (record { local = node_opening o; visits = []; emitted = []; area = 0; busy = 0; peak = 0 })
 peak-opens rows None = tt
-peak-opens rows (Some node) = λ holds. peaked-opens rows (length node.inputs) (behaviour_of node.kind) (inside_of rows (length node.inputs) node.kind) (laws_of rows (length node.inputs) node.kind)
+peak-opens rows (Some node) = λ holds. peaked-opens rows (length node.inputs) (behaviour_of node.kind) (inside_of rows (length node.inputs) node.kind) (laws_of rows (length node.inputs) node.kind) (own_of rows (length node.inputs) node.kind) (once_of rows (length node.inputs) node.kind)
 
 peak-waits : (o : Option Node) (s : Station Local) (area busy : ℕ) → node_peaked o s → node_peaked o (record s { area = area; busy = busy })
 peak-waits None s area busy h = tt
@@ -151,13 +151,13 @@ peak-arrives rows None v port job s fs now f h = tt
 peak-arrives rows (Some node) v port job s fs now f h =
     λ holds.
     let x : Visit = record { job = job; arrive = now; port = port; found = node_jobs (Some node) s.visits s.local } in
-    peaked-arrives rows (length node.inputs) (behaviour_of node.kind) (inside_of rows (length node.inputs) node.kind) (laws_of rows (length node.inputs) node.kind) v port s now x refl ((laws_of rows (length node.inputs) node.kind).raises v port s fs now x refl holds f) (h holds)
+    peaked-arrives rows (length node.inputs) (behaviour_of node.kind) (inside_of rows (length node.inputs) node.kind) (laws_of rows (length node.inputs) node.kind) (own_of rows (length node.inputs) node.kind) (once_of rows (length node.inputs) node.kind) v port s now x refl ((once_of rows (length node.inputs) node.kind).raises v port s fs now x refl holds f) (h holds)
 
 peak-ends : (rows : Rows) (o : Option Node) (rank : ℕ → ℕ) (v server position : ℕ) (s : Station Local) (fs rest : List Event) (now : ℕ) → earliest rank fs ≡ Some (Finish now v server position, rest) → node_fact rows o v s fs now → node_peaked o s →
     node_peaked o (after_reaction s.peak s s.visits now (node_on rows o s.visits s.local now (Finish now v server position)))
 peak-ends rows None rank v server position s fs rest now first f h = tt
 peak-ends rows (Some node) rank v server position s fs rest now first f h =
-    λ holds. peaked-ends rows (length node.inputs) (behaviour_of node.kind) (inside_of rows (length node.inputs) node.kind) (laws_of rows (length node.inputs) node.kind) rank v server position s fs rest now first f (h holds)
+    λ holds. peaked-ends rows (length node.inputs) (behaviour_of node.kind) (inside_of rows (length node.inputs) node.kind) (laws_of rows (length node.inputs) node.kind) (own_of rows (length node.inputs) node.kind) (once_of rows (length node.inputs) node.kind) rank v server position s fs rest now first f (h holds)
 
 peak-keeps : (plan : Plan) (rows : Rows) → Keeps (standard plan rows) (λ v s fs now. node_fact rows (slice_get plan.net.nodes v) v s fs now × node_peaked (slice_get plan.net.nodes v) s)
 unfolding standard_opening standard_handle standard_jobs

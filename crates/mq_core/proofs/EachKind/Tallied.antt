@@ -1,4 +1,4 @@
-use Rattle.std.proofs.Common.{List, None, Option, Some, [], length, refl, ℕ, ◌*◌, ◌++◌, ◌<◌, ◌∷◌, ◌≡◌}
+use Rattle.std.proofs.Common.{List, None, Option, Some, [], length, ap, refl, ℕ, ◌∙◌, ◌*◌, ◌++◌, ◌<◌, ◌∷◌, ◌≡◌}
 use Rattle.std.specs.Prelude.{slice_get}
 use Rattle.mq_core.specs.Event.{Event, earliest}
 use Rattle.mq_core.specs.Event.Event.{Arrive, Finish}
@@ -9,14 +9,14 @@ use Rattle.mq_core.specs.OnTime.{standard-on_time}
 use Rattle.mq_core.specs.Run.{starts}
 use Rattle.mq_core.specs.Standard.{node_jobs, node_on, standard_handle, standard_jobs}
 use Rattle.mq_core.specs.StandardTable.{standard}
-use Rattle.mq_core.specs.Tallies.{arrival_or, emission_at, staying}
+use Rattle.mq_core.specs.Tallies.{arrival_or, emission_at, one_if_none, staying}
 use Rattle.mq_core.specs.Wiring.{reader_from}
 use Rattle.mq_core.specs.declared.model.Node.{Node}
 use Rattle.mq_core.specs.declared.model.Rows.{Rows}
 use Rattle.mq_core.proofs.EachKind.Ends.{inside-some}
 use Rattle.mq_core.proofs.EachKind.Facts.{node_fact, standard-keeps}
-use Rattle.mq_core.proofs.EachKind.LawTable.{laws_of}
-use Rattle.mq_core.proofs.Events.Areas.{Areas, keeps-areas}
+use Rattle.mq_core.proofs.EachKind.LawTable.{laws_of, once_of, own_of}
+use Rattle.mq_core.proofs.Events.Areas.{Areas, keeps-areas, sum-same}
 use Rattle.mq_core.proofs.Events.Founds.{Founds, keeps-founds}
 use Rattle.mq_core.proofs.Events.Kept.{kept}
 use Rattle.mq_core.proofs.Networks.Whole.{starts-arrive}
@@ -25,7 +25,8 @@ use Rattle.mq_core.proofs.Networks.Wired.{feeds_forward}
 -- the number in a node is that of its visits that haven't left
 pub node-number : (rows : Rows) (o : Option Node) (v : ℕ) (s : Station Local) (fs : List Event) (now : ℕ) → (o ≡ None → ⊥) → node_fact rows o v s fs now → node_jobs o s.visits s.local ≡ staying s.visits s.emitted
 node-number rows None v s fs now there h = absurd (there refl)
-node-number rows (Some node) v s fs now there h = (laws_of rows (length node.inputs) node.kind).number v s fs now h
+node-number rows (Some node) v s fs now there h =
+    (laws_of rows (length node.inputs) node.kind).number v s fs now h ∙ sum-same (length s.visits) _ _ (λ k l. ap one_if_none ((own_of rows (length node.inputs) node.kind).exits s k))
 
 pub areas-are-sojourns : AreasAreSojourns
 unfolding standard_jobs
@@ -38,11 +39,11 @@ areas-are-sojourns plan rows read v inside =
 
 node-own : (rows : Rows) (o : Option Node) (v port job : ℕ) (s : Station Local) (x : Visit) (now q : ℕ) (m : Emission) → x.job ≡ job → emission_at (emissions_of now (s.visits ++ x ∷ []) (node_on rows o (s.visits ++ x ∷ []) s.local now (Arrive now v port x.job)).releases) q ≡ Some m → q ≡ length s.visits
 node-own rows None v port job s x now q m same e = absurd cc
-node-own rows (Some node) v port job s x now q m same e = (laws_of rows (length node.inputs) node.kind).own v port s now x q m e
+node-own rows (Some node) v port job s x now q m same e = (own_of rows (length node.inputs) node.kind).own v port s now x q m e
 
 node-earlier : (rows : Rows) (o : Option Node) (rank : ℕ → ℕ) (v server position : ℕ) (s : Station Local) (fs rest : List Event) (now : ℕ) → node_fact rows o v s fs now → earliest rank fs ≡ Some (Finish now v server position, rest) → (q p : ℕ) (m : Emission) → emission_at (emissions_of now s.visits (node_on rows o s.visits s.local now (Finish now v server position)).releases) q ≡ Some m → q < p → p < length s.visits → arrival_or 0 (slice_get s.visits p) < now
 node-earlier rows None rank v server position s fs rest now h first q p m e l u = absurd cc
-node-earlier rows (Some node) rank v server position s fs rest now h first q p m e l u = (laws_of rows (length node.inputs) node.kind).earlier rank v server position s fs rest now first h q p m e l u
+node-earlier rows (Some node) rank v server position s fs rest now h first q p m e l u = (own_of rows (length node.inputs) node.kind).earlier rank v server position s fs rest now first h q p m e l u
 
 pub founds-are-counts : FoundsAreCounts
 unfolding standard_jobs standard_handle

@@ -1,5 +1,5 @@
 -- A delay, as one value: each job is served at once.
-use Rattle.std.specs.Prelude.{List, [], false, length, map, suc, true, ℕ, ◌+◌, ◌∷◌}
+use Rattle.std.specs.Prelude.{List, [], false, length, map, nat_lt, suc, true, ℕ, ◌+◌, ◌∷◌}
 use Rattle.mq_core.specs.Behaviour.{Behaviour}
 use Rattle.mq_core.specs.Came.{Came}
 use Rattle.mq_core.specs.DelayHandler.{delay_on}
@@ -10,6 +10,7 @@ use Rattle.mq_core.specs.Machine.{Emission, Visit}
 use Rattle.mq_core.specs.Parts.{founds_of, once_out}
 use Rattle.mq_core.specs.Ranges.{columns_of_demand, is_sound_demand, is_within}
 use Rattle.mq_core.specs.Recurrences.{delayed}
+use Rattle.mq_core.specs.Tallies.{emission_at}
 use Rattle.mq_core.specs.Told.{HasDemand}
 use Rattle.mq_core.specs.declared.model.Demand.{Demand}
 use Rattle.mq_core.specs.declared.model.Fate.{Fate}
@@ -55,6 +56,9 @@ delay demand =
       flow = λ rows ports visits. delayed_from rows demand 0 visits;
       order = Overtaking;
       copies = 1;
+      exit = λ s position. emission_at s.emitted position;
+      there = λ time position m. nat_lt time m.time;
+      keeps = false;
       founds = λ rows came. founds_of came.arrive (delay_fates rows demand came);
       stream = λ rows came out. once_out Overtaking came (delay_fates rows demand came) (delay_outs rows demand came) out;
     }

@@ -1,6 +1,6 @@
 -- A fork-join, as one value: branches side by side, each of servers in series.
 use Rattle.std.specs.List.{flat_map, list_all}
-use Rattle.std.specs.Prelude.{Bool, List, false, fold, length, map, max, nat_le, sum_by, true, ℕ, ◌&&◌, ◌-◌}
+use Rattle.std.specs.Prelude.{Bool, List, false, fold, length, map, max, nat_le, nat_lt, sum_by, true, ℕ, ◌&&◌, ◌-◌}
 use Rattle.mq_core.specs.Came.{Came}
 use Rattle.mq_core.specs.Leaving.Leaving.{InTurn}
 use Rattle.mq_core.specs.Behaviour.{Behaviour}
@@ -11,6 +11,7 @@ use Rattle.mq_core.specs.Machine.{Emission, Visit}
 use Rattle.mq_core.specs.Parts.{founds_of, once_out}
 use Rattle.mq_core.specs.Ranges.{columns_of_demand, is_sound_demand, is_within}
 use Rattle.mq_core.specs.Recurrences.{fork_departs}
+use Rattle.mq_core.specs.Tallies.{emission_at}
 use Rattle.mq_core.specs.Told.{AreTold}
 use Rattle.mq_core.specs.declared.model.Demand.{Demand}
 use Rattle.mq_core.specs.declared.model.Fate.{Fate}
@@ -65,6 +66,9 @@ fork_join branches =
       flow = λ rows ports visits. joined_from rows branches visits;
       order = InTurn;
       copies = 1;
+      exit = λ s position. emission_at s.emitted position;
+      there = λ time position m. nat_lt time m.time;
+      keeps = false;
       founds = λ rows came. founds_of came.arrive (fork_join_fates rows branches came);
       stream = λ rows came out. once_out InTurn came (fork_join_fates rows branches came) (fork_join_outs rows branches came) out;
     }

@@ -1,5 +1,5 @@
 -- A loss station, as one value: one server, so many places, and two outputs.
-use Rattle.std.specs.Prelude.{List, [], false, if◌then◌else◌, length, map, suc, true, ℕ, ◌&&◌, ◌==◌, ◌∷◌}
+use Rattle.std.specs.Prelude.{List, [], false, if◌then◌else◌, length, map, nat_lt, suc, true, ℕ, ◌&&◌, ◌==◌, ◌∷◌}
 use Rattle.mq_core.specs.Behaviour.{Behaviour}
 use Rattle.mq_core.specs.Came.{Came}
 use Rattle.mq_core.specs.Handling.{demand_of_job, one_if_some}
@@ -10,6 +10,7 @@ use Rattle.mq_core.specs.Machine.{Emission, Visit}
 use Rattle.mq_core.specs.Parts.{founds_of, once_out}
 use Rattle.mq_core.specs.Ranges.{columns_of_demand, is_sound_demand, is_within}
 use Rattle.mq_core.specs.Recurrences.{loss_fates}
+use Rattle.mq_core.specs.Tallies.{emission_at}
 use Rattle.mq_core.specs.Told.{HasDemand}
 use Rattle.mq_core.specs.declared.model.Demand.{Demand}
 use Rattle.mq_core.specs.declared.model.Fate.{Fate}
@@ -64,6 +65,9 @@ loss places demand =
       flow = λ rows ports visits. faring_from 0 (loss_fates places [] (map (λ (x : Visit). x.arrive) visits) (map (λ (x : Visit). demand_of_job rows demand x.job) visits)) visits;
       order = Mixed;
       copies = 1;
+      exit = λ s position. emission_at s.emitted position;
+      there = λ time position m. nat_lt time m.time;
+      keeps = false;
       founds = λ rows came. founds_of came.arrive (loss_by rows places demand came);
       stream = λ rows came out. once_out Mixed came (loss_by rows places demand came) (loss_outs rows places demand came) out;
     }

@@ -1,5 +1,5 @@
 -- A server, as one value: its handler, its recurrence, its numbers.
-use Rattle.std.specs.Prelude.{List, [], false, length, map, max, suc, true, ℕ, ◌+◌, ◌∷◌}
+use Rattle.std.specs.Prelude.{List, [], false, length, map, max, nat_lt, suc, true, ℕ, ◌+◌, ◌∷◌}
 use Rattle.mq_core.specs.Behaviour.{Behaviour}
 use Rattle.mq_core.specs.Came.{Came}
 use Rattle.mq_core.specs.Event.{Event}
@@ -11,6 +11,7 @@ use Rattle.mq_core.specs.Machine.{Emission, Reaction, Visit}
 use Rattle.mq_core.specs.Parts.{founds_of, once_out}
 use Rattle.mq_core.specs.Ranges.{columns_of_demand, is_sound_demand, is_within}
 use Rattle.mq_core.specs.Recurrences.{lindley}
+use Rattle.mq_core.specs.Tallies.{emission_at}
 use Rattle.mq_core.specs.Told.{HasDemand}
 use Rattle.mq_core.specs.declared.model.Demand.{Demand}
 use Rattle.mq_core.specs.declared.model.Fate.{Fate}
@@ -65,6 +66,9 @@ server demand =
       flow = λ rows ports visits. served_from rows demand 0 0 visits;
       order = InTurn;
       copies = 1;
+      exit = λ s position. emission_at s.emitted position;
+      there = λ time position m. nat_lt time m.time;
+      keeps = false;
       founds = λ rows came. founds_of came.arrive (server_fates rows demand came);
       stream = λ rows came out. once_out InTurn came (server_fates rows demand came) (server_outs rows demand came) out;
     }

@@ -1,5 +1,5 @@
 -- A source, as one value: jobs start here.
-use Rattle.std.specs.Prelude.{List, [], false, map, true, ℕ, ◌==◌}
+use Rattle.std.specs.Prelude.{List, [], false, map, nat_lt, true, ℕ, ◌==◌}
 use Rattle.mq_core.specs.Behaviour.{Behaviour}
 use Rattle.mq_core.specs.Came.{Came}
 use Rattle.mq_core.specs.Emitting.{passed_from}
@@ -10,6 +10,7 @@ use Rattle.mq_core.specs.Leaving.Leaving.{InTurn}
 use Rattle.mq_core.specs.Local.{Local, empty}
 use Rattle.mq_core.specs.Machine.{Reaction, Visit}
 use Rattle.mq_core.specs.Parts.{founds_of, once_out}
+use Rattle.mq_core.specs.Tallies.{emission_at}
 use Rattle.mq_core.specs.declared.model.Fate.{Fate}
 use Rattle.mq_core.specs.declared.model.Fate.TheVariants.{Departs}
 use Rattle.mq_core.specs.declared.model.Rows.{Rows}
@@ -51,6 +52,9 @@ source =
       flow = λ rows ports visits. passed_from (λ _ _. 0) 0 visits;
       order = InTurn;
       copies = 1;
+      exit = λ s position. emission_at s.emitted position;
+      there = λ time position m. nat_lt time m.time;
+      keeps = false;
       founds = λ rows came. founds_of came.arrive (source_fates rows came);
       stream = λ rows came out. once_out InTurn came (source_fates rows came) (source_outs rows came) out;
     }

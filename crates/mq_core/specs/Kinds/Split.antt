@@ -12,6 +12,7 @@ use Rattle.mq_core.specs.Local.{Local, empty}
 use Rattle.mq_core.specs.Machine.{Reaction, Visit}
 use Rattle.mq_core.specs.Parts.{founds_of, once_out}
 use Rattle.mq_core.specs.Ranges.{is_within, rises}
+use Rattle.mq_core.specs.Tallies.{emission_at}
 use Rattle.mq_core.specs.declared.model.Fate.{Fate}
 use Rattle.mq_core.specs.declared.model.Fate.TheVariants.{Departs}
 use Rattle.mq_core.specs.declared.model.Route.{Route}
@@ -95,6 +96,9 @@ split route =
       flow = λ rows ports visits. passed_from (λ visit position. output_by rows route visit.job position) 0 visits;
       order = InTurn;
       copies = 1;
+      exit = λ s position. emission_at s.emitted position;
+      there = λ time position m. nat_lt time m.time;
+      keeps = false;
       founds = λ rows came. founds_of came.arrive (split_fates rows route came);
       stream = λ rows came out. once_out InTurn came (split_fates rows route came) (split_outs rows route came) out;
     }

@@ -1,6 +1,6 @@
 -- A tandem, as one value: stages in series with finite buffers between them.
 use Rattle.std.specs.List.{flat_map, list_all}
-use Rattle.std.specs.Prelude.{Bool, List, [], false, length, map, true, ℕ, ◌&&◌, ◌∷◌}
+use Rattle.std.specs.Prelude.{Bool, List, [], false, length, map, nat_lt, true, ℕ, ◌&&◌, ◌∷◌}
 use Rattle.mq_core.specs.Behaviour.{Behaviour}
 use Rattle.mq_core.specs.Came.{Came}
 use Rattle.mq_core.specs.Emitting.{leaving_from}
@@ -11,6 +11,7 @@ use Rattle.mq_core.specs.Machine.{Emission, Visit}
 use Rattle.mq_core.specs.Parts.{founds_of, once_out}
 use Rattle.mq_core.specs.Ranges.{columns_of_demand, is_sound_demand, is_within}
 use Rattle.mq_core.specs.Recurrences.{tandem_departs}
+use Rattle.mq_core.specs.Tallies.{emission_at}
 use Rattle.mq_core.specs.TandemHandler.{empty_lines, held_in, serving_in, tandem_on}
 use Rattle.mq_core.specs.Told.{AreTold}
 use Rattle.mq_core.specs.declared.model.Fate.{Fate}
@@ -72,6 +73,9 @@ tandem stages =
       flow = λ rows ports visits. tandem_flow rows stages visits;
       order = InTurn;
       copies = 1;
+      exit = λ s position. emission_at s.emitted position;
+      there = λ time position m. nat_lt time m.time;
+      keeps = false;
       founds = λ rows came. founds_of came.arrive (tandem_fates rows stages came);
       stream = λ rows came out. once_out InTurn came (tandem_fates rows stages came) (tandem_outs rows stages came) out;
     }
