@@ -13,3 +13,4 @@ pub mod Areas
 pub mod EmissionsAt
 pub mod Founds
 pub mod Leavings
+pub mod Exits

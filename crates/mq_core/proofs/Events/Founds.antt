@@ -44,7 +44,7 @@ later-none : (a b : ℕ) → b ≤ a → ◌≡◌ {A = ℕ} (cond (ltb a b) 1 0
 later-none a b h = grind (arith, nat_tests)
 
 -- an emission now of an earlier position counts as before
-later-same : (a now q : ℕ) (emitted more : List Emission) → Each (λ (m : Emission). m.time ≡ now) more → ((m : Emission) → emission_at more q ≡ Some m → a < now) → one_if_later a (emission_at (emitted ++ more) q) ≡ one_if_later a (emission_at emitted q)
+pub later-same : (a now q : ℕ) (emitted more : List Emission) → Each (λ (m : Emission). m.time ≡ now) more → ((m : Emission) → emission_at more q ≡ Some m → a < now) → one_if_later a (emission_at (emitted ++ more) q) ≡ one_if_later a (emission_at emitted q)
 later-same a now q emitted more same h = go (emission_at-append emitted more q)
   where
     new : (o : Option Emission) → emission_at more q ≡ o → one_if_later a o ≡ 1
@@ -59,7 +59,7 @@ still_there-same : (a now p : ℕ) (emitted more : List Emission) → Each (λ (
 still_there-same a now p emitted more same h = sum-same p _ _ (λ q l. later-same a now q emitted more same (λ m e. h q m l e))
 
 -- what hasn't left now leaves later
-later-now : (now q : ℕ) (emitted : List Emission) → Each (λ (m : Emission). m.time ≤ now) emitted → one_if_later now (emission_at emitted q) ≡ one_if_none (emission_at emitted q)
+pub later-now : (now q : ℕ) (emitted : List Emission) → Each (λ (m : Emission). m.time ≤ now) emitted → one_if_later now (emission_at emitted q) ≡ one_if_none (emission_at emitted q)
 later-now now q emitted h = go (emission_at emitted q) refl
   where
     go : (o : Option Emission) → emission_at emitted q ≡ o → one_if_later now o ≡ one_if_none o
