@@ -55,7 +55,7 @@ leaves-times kind k (m ∷ ms) (x ∷ xs) n h = λ i. own h.0 i ∷ leaves-times
     own (inr e) = e.1 ∙ ap (leaving_time x.arrive) (sym e.0)
 
 -- a station that let out its flow stands in columns
-station-visits : (rows : Rows) (ports : ℕ) (kind : Kind) (s : Station Local) → s.emitted ≡ in_leaving_order kind (flow_of rows ports kind s.visits) → Rises (λ a b. a ≤ b) (arrives_of s.visits) →
+pub station-visits : (rows : Rows) (ports : ℕ) (kind : Kind) (s : Station Local) → s.emitted ≡ in_leaving_order kind (flow_of rows ports kind s.visits) → Rises (λ a b. a ≤ b) (arrives_of s.visits) →
     ((j : ℕ) → j < length s.visits → found_or 0 (slice_get s.visits j) ≡ still_there (arrival_or 0 (slice_get s.visits j)) s.emitted j) →
     visits_of kind s ≡ column_visits rows kind (came_of ports s.visits)
 station-visits rows ports kind s flow rise found =
@@ -118,7 +118,7 @@ order-stream Overtaking ms out h =
     let times = ap (map (λ (m : Emission). m.time)) sorted ∙ (sym (pairs-part (λ (p : ℕ × ℕ). p.0) (λ (m : Emission). m.time) (λ m. refl) (in_order_of (λ (m : Emission). m.time) (stream_of out ms))) ∙ ap (map (λ (p : ℕ × ℕ). p.0)) pairs) in
     λ i. record { job = jobs i; time = times i }
 
-station-stream : (rows : Rows) (ports : ℕ) (kind : Kind) (s : Station Local) (out : ℕ) → s.emitted ≡ in_leaving_order kind (flow_of rows ports kind s.visits) → Rises (λ a b. a ≤ b) (arrives_of s.visits) → stream_from s out ≡ column_stream rows kind (came_of ports s.visits) out
+pub station-stream : (rows : Rows) (ports : ℕ) (kind : Kind) (s : Station Local) (out : ℕ) → s.emitted ≡ in_leaving_order kind (flow_of rows ports kind s.visits) → Rises (λ a b. a ≤ b) (arrives_of s.visits) → stream_from s out ≡ column_stream rows kind (came_of ports s.visits) out
 unfolding stream_in
 station-stream rows ports kind s out flow rise =
     ap (stream_in out) flow ∙ (order-stream (behaviour_of kind).order (flow_of rows ports kind s.visits) out (λ mixed. (recurrence_of rows ports kind).stands mixed s.visits rise) ∙ ap (stream_in_order kind) (flow-stream rows ports kind s.visits out))

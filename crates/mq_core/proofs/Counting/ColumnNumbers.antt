@@ -167,12 +167,12 @@ order-own kind ms visits n before after m whole =
 abbrev pub FoundAs : ℕ → List Emission → List Emission → Type 0
 FoundAs k emitted ms = (q : ℕ) → k ≤ q → emission_at emitted q ≡ emission_at ms q
 
-found_as-next : (k : ℕ) (emitted ms : List Emission) (m : Emission) → m.position ≡ k → FoundAs k emitted (m ∷ ms) → FoundAs (suc k) emitted ms
+pub found_as-next : (k : ℕ) (emitted ms : List Emission) (m : Emission) → m.position ≡ k → FoundAs k emitted (m ∷ ms) → FoundAs (suc k) emitted ms
 found_as-next k emitted ms m at h q l =
     let no : eqb m.position q ≡ false = neq-eqb m.position q (λ e. omega arith) in
     h q (omega arith) ∙ ap (λ b. cond b (Some m) (emission_at ms q)) no
 
-found_as-here : (k : ℕ) (emitted ms : List Emission) (m : Emission) → m.position ≡ k → FoundAs k emitted (m ∷ ms) → emission_at emitted k ≡ Some m
+pub found_as-here : (k : ℕ) (emitted ms : List Emission) (m : Emission) → m.position ≡ k → FoundAs k emitted (m ∷ ms) → emission_at emitted k ≡ Some m
 found_as-here k emitted ms m at h = h k (omega arith) ∙ ap (λ b. cond b (Some m) (emission_at ms k)) (eq-eqb m.position k at)
 
 -- the fates of the visits are those of the emissions in turn

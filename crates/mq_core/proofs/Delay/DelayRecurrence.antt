@@ -14,6 +14,7 @@ use Rattle.mq_core.proofs.Counting.FlowColumns.{delay-outs, delayed-fates, depar
 use Rattle.mq_core.proofs.Counting.InTime.{when-delayed}
 use Rattle.mq_core.proofs.Counting.Stays.{stay-fates}
 use Rattle.mq_core.proofs.EachKind.RecurrenceLaws.{RecurrenceLaws}
+use Rattle.mq_core.proofs.Events.Exits.{until-own}
 use Rattle.mq_core.proofs.ForkJoin.ForkTimes.{at_least-refl}
 
 pub delay-recurrence : (rows : Rows) (ports : ℕ) (demand : Demand) → RecurrenceLaws rows ports (delay demand)
@@ -30,4 +31,7 @@ delay-recurrence rows ports demand =
       bounded = λ net came limit top sound few told room early.
           let small = asked-small rows demand came.job (each-weaker _ _ (λ job (t : Tells net rows job). (t.demand demand sound).1) came.job told) in
           departs-by limit (delayed came.arrive (asked rows came.job demand)) (delayed-by limit top came.arrive (asked rows came.job demand) (omega arith) early small);
+      until = λ time position o. until-own time position o;
+      finds = λ came. refl;
+      parts = λ came out. refl;
     }

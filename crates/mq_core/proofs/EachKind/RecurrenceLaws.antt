@@ -1,6 +1,6 @@
 -- What is to be shown of the recurrence of a kind.
 use Rattle.mq_core.specs.Came.{Came, came_of}
-use Rattle.std.proofs.Common.{◌≡◌, ℕ, ◌+◌, ◌*◌, ◌^◌, ◌≤◌, true, List, map, length}
+use Rattle.std.proofs.Common.{◌≡◌, ℕ, ◌+◌, ◌*◌, ◌^◌, ◌≤◌, true, List, Option, map, length}
 use Rattle.std.specs.List.{AllByRecursion as Each}
 use Rattle.mq_core.specs.Behaviour.{Behaviour}
 use Rattle.mq_core.specs.ColumnLaws.{FatesInTime, jobs_of, arrives_of}
@@ -8,12 +8,15 @@ use Rattle.mq_core.specs.Columns.{time_of_fate}
 use Rattle.mq_core.specs.Laws.{Rises, in_order_of, stream_of}
 use Rattle.mq_core.specs.Leaving.Leaving.{Mixed}
 use Rattle.mq_core.specs.Machine.{Visit, Emission}
+use Rattle.mq_core.specs.Parts.{founds_of, once_out}
 use Rattle.mq_core.specs.PlanLaws.{Tells}
+use Rattle.mq_core.specs.Tallies.{one_if_later}
 use Rattle.mq_core.specs.declared.model.Network.{Network}
 use Rattle.mq_core.specs.declared.model.Rows.{Rows}
 use Rattle.mq_core.proofs.Bounded.BoundedStations.{AreBy, LeaveBy}
 use Rattle.mq_core.proofs.Counting.ColumnNumbers.{Numbered, EachLeavesBy}
 use Rattle.mq_core.proofs.Counting.Stays.{FatesStay}
+use Rattle.mq_core.proofs.Events.Exits.{one_if_there}
 
 pub record RecurrenceLaws (rows : Rows) (ports : ℕ) (b : Behaviour) : Type 0 where
   -- the flow has one emission a visit, by position
@@ -34,3 +37,9 @@ pub record RecurrenceLaws (rows : Rows) (ports : ℕ) (b : Behaviour) : Type 0 w
   pub stays : (came : Came) → length came.job ≡ length came.arrive → FatesStay (b.bare rows) came.job came.arrive (b.fates rows came)
   -- each job adds at most the demands of 8 servers
   pub bounded : (net : Network) (came : Came) (limit top : ℕ) → b.sound (length net.columns) ≡ true → b.servers ≤ 8 → Each (λ job. Tells net rows job) came.job → top + length came.arrive * 2 ^ 39 ≤ limit → AreBy top came.arrive → LeaveBy limit (b.fates rows came)
+  -- who leaves later than one comes is there for it
+  pub until : (time position : ℕ) (o : Option Emission) → one_if_there b.there time position o ≡ one_if_later time o
+  -- what is found goes by the fates
+  pub finds : (came : Came) → b.founds rows came ≡ founds_of came.arrive (b.fates rows came)
+  -- what leaves by an output goes by the outputs
+  pub parts : (came : Came) (out : ℕ) → b.stream rows came out ≡ once_out b.order came (b.fates rows came) (b.outs rows came) out

@@ -5,7 +5,7 @@ use Rattle.std.specs.Prelude.{nat_lt, slice_get}
 use Rattle.mq_core.specs.Event.{Event, earliest}
 use Rattle.mq_core.specs.Event.Event.{Arrive, Finish}
 use Rattle.mq_core.specs.Machine.{Visit, Emission, Table, Station, acted, aged, emissions_at}
-use Rattle.mq_core.specs.Tallies.{arrival_or, emission_at, found_or, one_if_none, sum_below}
+use Rattle.mq_core.specs.Tallies.{arrival_or, emission_at, found_or, one_if_later, one_if_none, sum_below}
 use Rattle.mq_core.proofs.Events.Areas.{get-front, get-last, sum-same}
 use Rattle.mq_core.proofs.Events.Forward.{emissions-now}
 use Rattle.mq_core.proofs.Events.Founds.{LeavesInTime, later-now, later-same}
@@ -112,3 +112,8 @@ exits-by_emission {L} t P Q leaves past number =
       ends = λ v server position s fs rest now q h first k p l u. later-same (arrival_or 0 (slice_get s.visits p)) now k s.emitted (emissions_at t s (Finish now v server position)) (emissions-now t s (Finish now v server position)) (λ m w. leaves.earlier v server position s fs rest now q h first k p m w l u);
       number = number;
     }
+
+-- so whoever leaves later than one comes is there for it
+pub until-own : (time position : ℕ) (o : Option Emission) → one_if_there (λ t p (m : Emission). nat_lt t m.time) time position o ≡ one_if_later time o
+until-own time position None = refl
+until-own time position (Some m) = refl

@@ -15,6 +15,7 @@ use Rattle.mq_core.proofs.Counting.ColumnNumbers.{leaving-numbered}
 use Rattle.mq_core.proofs.Counting.FlowColumns.{departing-leaves, leaving-fates, leaving-outs}
 use Rattle.mq_core.proofs.Counting.Stays.{stay-fates, stay-joined}
 use Rattle.mq_core.proofs.EachKind.RecurrenceLaws.{RecurrenceLaws}
+use Rattle.mq_core.proofs.Events.Exits.{until-own}
 use Rattle.mq_core.proofs.ForkJoin.ForkTimes.{joined-long, when-joined}
 
 pub fork_join-recurrence : (rows : Rows) (ports : ℕ) (branches : List (List Demand)) → RecurrenceLaws rows ports (fork_join branches)
@@ -32,4 +33,7 @@ fork_join-recurrence rows ports branches =
           let small = all-small rows came.job (flat_map (λ (ds : List Demand). ds) branches) (each-weaker _ _ (λ job (t : Tells net rows job). (t.kind (ForkJoin branches) sound).small) came.job told) in
           departs-by limit (fork_departs came.arrive (branch_demands rows branches came.job))
           (fork-by limit top (length came.arrive) came.arrive (branch_demands rows branches came.job) (omega arith) room (branches-few rows came.job branches few) early (branches-small rows came.job branches small));
+      until = λ time position o. until-own time position o;
+      finds = λ came. refl;
+      parts = λ came out. refl;
     }

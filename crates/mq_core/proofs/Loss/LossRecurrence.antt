@@ -1,5 +1,5 @@
 -- The laws of the kind's recurrence.
-use Rattle.std.proofs.Common.{Bool, [], ap, arith, cond, eqb, false, length, map, true, ℕ, ◌∙◌, ◌≤◌}
+use Rattle.std.proofs.Common.{Bool, [], ap, arith, cond, eqb, false, length, map, refl, true, ℕ, ◌∙◌, ◌≤◌}
 use Rattle.std.proofs.lemmas.Bool.{and_parts}
 use Rattle.mq_core.specs.ColumnLaws.{arrives_of}
 use Rattle.mq_core.specs.Kinds.Loss.{out_of_fate}
@@ -19,6 +19,7 @@ use Rattle.mq_core.proofs.Counting.FlowColumns.{demands-of, even-fates}
 use Rattle.mq_core.proofs.Counting.InTime.{when-lost}
 use Rattle.mq_core.proofs.Counting.Stays.{stay-admitted}
 use Rattle.mq_core.proofs.EachKind.RecurrenceLaws.{RecurrenceLaws}
+use Rattle.mq_core.proofs.Events.Exits.{until-own}
 use Rattle.mq_core.proofs.Loss.LossColumns.{faring-fates, faring-leaves, faring-outs, loss-stream}
 
 -- a fate is no later than its emission
@@ -44,4 +45,7 @@ loss-recurrence rows ports places demand =
           let s = (and_parts (is_within 1 1048576 places) (is_sound_demand (length net.columns) demand) sound).1 in
           let small = asked-small rows demand came.job (each-weaker _ _ (λ job (t : Tells net rows job). (t.demand demand s).1) came.job told) in
           loss-by limit top top places [] came.arrive (asked rows came.job demand) (omega arith) (omega arith) (omega arith) early small;
+      until = λ time position o. until-own time position o;
+      finds = λ came. refl;
+      parts = λ came out. refl;
     }

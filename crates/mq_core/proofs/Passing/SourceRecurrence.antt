@@ -9,6 +9,7 @@ use Rattle.mq_core.proofs.Counting.FlowColumns.{departing-leaves, passed-fates, 
 use Rattle.mq_core.proofs.Counting.InTime.{at-once}
 use Rattle.mq_core.proofs.Counting.Stays.{stay-fates, stay-none}
 use Rattle.mq_core.proofs.EachKind.RecurrenceLaws.{RecurrenceLaws}
+use Rattle.mq_core.proofs.Events.Exits.{until-own}
 
 pub source-recurrence : (rows : Rows) (ports : ℕ) → RecurrenceLaws rows ports source
 source-recurrence rows ports =
@@ -22,4 +23,7 @@ source-recurrence rows ports =
       in_time = λ came e. at-once came.arrive;
       stays = λ came e. stay-fates (λ _. 0) came.job came.arrive came.arrive (stay-none came.job came.arrive e);
       bounded = λ net came limit top sound few told room early. departs-by limit came.arrive (by-later top limit came.arrive (omega arith) early);
+      until = λ time position o. until-own time position o;
+      finds = λ came. refl;
+      parts = λ came out. refl;
     }

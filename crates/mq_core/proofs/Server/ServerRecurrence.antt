@@ -14,6 +14,7 @@ use Rattle.mq_core.proofs.Counting.FlowColumns.{departing-leaves, served-fates, 
 use Rattle.mq_core.proofs.Counting.InTime.{when-served}
 use Rattle.mq_core.proofs.Counting.Stays.{stay-fates, stay-served}
 use Rattle.mq_core.proofs.EachKind.RecurrenceLaws.{RecurrenceLaws}
+use Rattle.mq_core.proofs.Events.Exits.{until-own}
 
 pub server-recurrence : (rows : Rows) (ports : ℕ) (demand : Demand) → RecurrenceLaws rows ports (server demand)
 server-recurrence rows ports demand =
@@ -29,4 +30,7 @@ server-recurrence rows ports demand =
       bounded = λ net came limit top sound few told room early.
           let small = asked-small rows demand came.job (each-weaker _ _ (λ job (t : Tells net rows job). (t.demand demand sound).1) came.job told) in
           departs-by limit (lindley 0 came.arrive (asked rows came.job demand)) (lindley-by limit top top 0 came.arrive (asked rows came.job demand) (omega arith) (omega arith) (omega arith) early small);
+      until = λ time position o. until-own time position o;
+      finds = λ came. refl;
+      parts = λ came out. refl;
     }

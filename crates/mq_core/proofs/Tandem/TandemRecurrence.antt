@@ -21,6 +21,7 @@ use Rattle.mq_core.proofs.Counting.ColumnNumbers.{leaving-numbered}
 use Rattle.mq_core.proofs.Counting.FlowColumns.{departing-leaves, leaving-fates, leaving-outs, tandem-even}
 use Rattle.mq_core.proofs.Counting.Stays.{FatesStay, stay-fates, stay-in_tandem, stay-none}
 use Rattle.mq_core.proofs.EachKind.RecurrenceLaws.{RecurrenceLaws}
+use Rattle.mq_core.proofs.Events.Exits.{until-own}
 use Rattle.mq_core.proofs.ForkJoin.ForkTimes.{fates-at_least}
 use Rattle.mq_core.proofs.Tandem.TandemColumns.{tandem_times-late, tandem_times-length}
 
@@ -51,4 +52,7 @@ tandem-recurrence rows ports stages =
       in_time = λ came e. fates-at_least came.arrive (tandem_times rows stages came.job came.arrive) (tandem_times-late rows stages came.job came.arrive);
       stays = λ came e. stay-stages rows stages came.job came.arrive e;
       bounded = λ net came limit top sound few told room early. stages-by net rows stages came.job came.arrive limit top sound few told room early;
+      until = λ time position o. until-own time position o;
+      finds = λ came. refl;
+      parts = λ came out. refl;
     }
