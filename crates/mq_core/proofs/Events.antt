@@ -14,3 +14,4 @@ pub mod EmissionsAt
 pub mod Founds
 pub mod Leavings
 pub mod Exits
+pub mod Settled
