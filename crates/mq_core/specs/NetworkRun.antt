@@ -7,7 +7,7 @@ use Rattle.mq_core.specs.Results.{Late, first_of, late_at, past_of}
 use Rattle.mq_core.specs.Run.{starts}
 use Rattle.mq_core.specs.Standard.{node_on, node_opening, node_jobs, node_working}
 use Rattle.mq_core.specs.StandardTable.{run_of}
-use Rattle.mq_core.specs.Wiring.{ranking, rank_in, reader_from}
+use Rattle.mq_core.specs.Wiring.{inputs_of, rank_in, ranking, reader_from}
 use Rattle.mq_core.specs.declared.model.Network.{Network}
 use Rattle.mq_core.specs.declared.model.Plan.{Plan}
 use Rattle.mq_core.specs.declared.model.Rows.{Rows}
@@ -22,6 +22,7 @@ network_table net rows =
       working = λ v visits local. node_working (slice_get net.nodes v) local;
       reader = reader_from 0 net.nodes;
       rank = rank_in (ranking net.nodes);
+      ports = λ v. length (inputs_of net.nodes v);
     }
 
 -- the state after 9 steps for each node and row: enough that nothing is pending

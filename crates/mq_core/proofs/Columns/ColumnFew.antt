@@ -23,7 +23,7 @@ use Rattle.mq_core.proofs.EachKind.Facts.{node_fact, standard-keeps}
 use Rattle.mq_core.proofs.EachKind.LawTable.{laws_of, once_of}
 use Rattle.mq_core.proofs.Events.Falls.{Falls, never-grows-from_start}
 use Rattle.mq_core.proofs.Events.Kept.{Fact}
-use Rattle.mq_core.proofs.Networks.Whole.{starts-arrive}
+use Rattle.mq_core.proofs.Networks.Whole.{starts-begin}
 use Rattle.mq_core.proofs.Networks.Wired.{feeds_forward, has_inputs, reads-from}
 
 -- an arrival brings one job in, which stays or is let out
@@ -130,8 +130,8 @@ module _ (plan : Plan) (rows : Rows) (read : IsReadFor plan.net rows) (v : ℕ) 
   visits-inside l =
       let end = run_of plan rows in
       let grown =
-      never-grows-from_start (standard plan rows) fact (standard-keeps plan rows (reader_from 0 plan.net.nodes)) (standard-on_time plan rows) (feeds_forward plan (standard plan rows) refl refl) 0 size weight onward load few
-      (starts rows) (starts-arrive 0 rows.source rows.time)
+      never-grows-from_start (standard plan rows) fact (standard-keeps plan rows (reader_from 0 plan.net.nodes) refl) (standard-on_time plan rows) (feeds_forward plan (standard plan rows) refl refl) 0 size weight onward load few
+      (starts rows) (starts-begin (standard plan rows) 0 rows.source rows.time)
       (starts-inside size 0 rows.source rows.time (λ k source e. source-inside plan.net.nodes source (read.sources k source e)))
       (9 * length plan.net.nodes * length rows.time) in
       let a = starts-weight weight 1 (λ u. at-most (ltb (rank u) (suc (rank v)))) 0 rows.source rows.time in

@@ -28,6 +28,7 @@ use Rattle.mq_core.proofs.Columns.NumberFates.{LetOut, all-let_out, fates-cons}
 use Rattle.mq_core.proofs.Columns.NumberPast.{columns-of_node}
 use Rattle.mq_core.proofs.Columns.NumberTotals.{node-inside}
 use Rattle.mq_core.proofs.Counting.ColumnNumbers.{LeavesAs, order-own}
+use Rattle.mq_core.proofs.EachKind.Facts.{network-fits}
 use Rattle.mq_core.proofs.EachKind.Flows.{flow-numbered}
 use Rattle.mq_core.proofs.EachKind.AloneRuns.{visits-handled}
 use Rattle.mq_core.proofs.EachKind.Ends.{nothing-pending}
@@ -36,7 +37,7 @@ use Rattle.mq_core.proofs.EachKind.Span.{span-is_latest}
 use Rattle.mq_core.proofs.Events.Kept.{Keeps, kept}
 use Rattle.mq_core.proofs.Lists.Each.{Each-map}
 use Rattle.mq_core.proofs.Lists.NumberLists.{greatest-bounds, greatest-least}
-use Rattle.mq_core.proofs.Networks.Whole.{arrivals-read, starts-arrive}
+use Rattle.mq_core.proofs.Networks.Whole.{arrivals-read, starts-begin}
 use Rattle.mq_core.proofs.Networks.Wired.{feeds_forward}
 
 at-map : {X : Type 0} (f : X → ℕ) (xs : List X) (i : ℕ) (x : X) → slice_get xs i ≡ Some x → slice_get (map f xs) i ≡ Some (f x)
@@ -100,13 +101,14 @@ module _ (plan : Plan) (rows : Rows) where
       record {
         opens = λ v none. refl;
         waits = λ v s fs now later h l f. h;
-        arrives = λ v port job s fs now h soon none. quiet-on (slice_get plan.net.nodes v) s.emitted (s.visits ++ record { job = job; arrive = now; port = port; found = standard_jobs plan rows v s.visits s.local } ∷ []) s.local now (Arrive now v port job) none (h none);
+        fits = network-fits plan rows;
+        arrives = λ v port job s fs now h soon fit none. quiet-on (slice_get plan.net.nodes v) s.emitted (s.visits ++ record { job = job; arrive = now; port = port; found = standard_jobs plan rows v s.visits s.local } ∷ []) s.local now (Arrive now v port job) none (h none);
         ends = λ v server position s fs rest now h first none. quiet-on (slice_get plan.net.nodes v) s.emitted s.visits s.local now (Finish now v server position) none (h none);
       }
 
   silent-end : (v : ℕ) → slice_get plan.net.nodes v ≡ None → ((run_of plan rows).stations v).emitted ≡ []
   silent-end v none =
-      kept (standard plan rows) Silent silent-keeps (standard-on_time plan rows) (feeds_forward plan (standard plan rows) refl refl) (starts rows) (starts-arrive 0 rows.source rows.time) (9 * length plan.net.nodes * length rows.time) v none
+      kept (standard plan rows) Silent silent-keeps (standard-on_time plan rows) (feeds_forward plan (standard plan rows) refl refl) (starts rows) (starts-begin (standard plan rows) 0 rows.source rows.time) (9 * length plan.net.nodes * length rows.time) v none
 
 module _ (plan : Plan) (rows : Rows) (read : IsReadFor plan.net rows) where
   abbrev end : State Local

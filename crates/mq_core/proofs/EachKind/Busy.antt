@@ -22,7 +22,7 @@ use Rattle.mq_core.proofs.EachKind.Facts.{node_fact, standard-keeps}
 use Rattle.mq_core.proofs.EachKind.LawTable.{inside_of, laws_of, own_of}
 use Rattle.mq_core.proofs.Events.Areas.{sum-same}
 use Rattle.mq_core.proofs.Events.Kept.{Keeps, kept}
-use Rattle.mq_core.proofs.Networks.Whole.{starts-arrive}
+use Rattle.mq_core.proofs.Networks.Whole.{starts-begin}
 use Rattle.mq_core.proofs.Networks.Wired.{feeds_forward}
 use Rattle.mq_core.proofs.Passing.Passes.{after_reaction}
 
@@ -55,11 +55,12 @@ node_busy-ends peak rows (Some node) rank v server position s fs rest now first 
 busy-keeps : (plan : Plan) (rows : Rows) → Keeps (standard plan rows) (λ v s fs now. node_fact rows (slice_get plan.net.nodes v) v s fs now × node_busy rows (slice_get plan.net.nodes v) s fs now)
 unfolding standard_opening standard_handle standard_working
 busy-keeps plan rows =
-    let keeps = standard-keeps plan rows (reader_from 0 plan.net.nodes) in
+    let keeps = standard-keeps plan rows (reader_from 0 plan.net.nodes) refl in
     record {
       opens = λ v. (keeps.opens v, busy-opens rows (slice_get plan.net.nodes v) v);
       waits = λ v s fs now later h l f. (keeps.waits v s fs now later h.0 l f, node_busy-waits rows (slice_get plan.net.nodes v) v _ s fs now later l f h.0 h.1);
-      arrives = λ v port job s fs now h f. (keeps.arrives v port job s fs now h.0 f, node_busy-arrives _ rows (slice_get plan.net.nodes v) v port s fs now (record { job = job; arrive = now; port = port; found = standard_jobs plan rows v s.visits s.local }) refl f h.0 h.1);
+      fits = keeps.fits;
+      arrives = λ v port job s fs now h f fit. (keeps.arrives v port job s fs now h.0 f fit, node_busy-arrives _ rows (slice_get plan.net.nodes v) v port s fs now (record { job = job; arrive = now; port = port; found = standard_jobs plan rows v s.visits s.local }) refl f h.0 h.1);
       ends = λ v server position s fs rest now h first. (keeps.ends v server position s fs rest now h.0 first, node_busy-ends _ rows (slice_get plan.net.nodes v) _ v server position s fs rest now first h.0 h.1);
     }
 
@@ -77,4 +78,4 @@ busy-is_services plan rows read v node here =
     fact : node_fact rows (slice_get plan.net.nodes v) v ((run_of plan rows).stations v) [] (run_of plan rows).clock × node_busy rows (slice_get plan.net.nodes v) ((run_of plan rows).stations v) [] (run_of plan rows).clock
     fact =
         subst (λ l. node_fact rows (slice_get plan.net.nodes v) v ((run_of plan rows).stations v) (filter (is_finish_at v) l) (run_of plan rows).clock × node_busy rows (slice_get plan.net.nodes v) ((run_of plan rows).stations v) (filter (is_finish_at v) l) (run_of plan rows).clock) (nothing-pending plan rows read)
-        (kept (standard plan rows) (λ u s fs now. node_fact rows (slice_get plan.net.nodes u) u s fs now × node_busy rows (slice_get plan.net.nodes u) s fs now) (busy-keeps plan rows) (standard-on_time plan rows) (feeds_forward plan (standard plan rows) refl refl) (starts rows) (starts-arrive 0 rows.source rows.time) (9 * length plan.net.nodes * length rows.time) v)
+        (kept (standard plan rows) (λ u s fs now. node_fact rows (slice_get plan.net.nodes u) u s fs now × node_busy rows (slice_get plan.net.nodes u) s fs now) (busy-keeps plan rows) (standard-on_time plan rows) (feeds_forward plan (standard plan rows) refl refl) (starts rows) (starts-begin (standard plan rows) 0 rows.source rows.time) (9 * length plan.net.nodes * length rows.time) v)

@@ -30,7 +30,7 @@ use Rattle.mq_core.proofs.EachKind.Flows.{kind-flow}
 use Rattle.mq_core.proofs.EachKind.LawTable.{inside_of, laws_of, once_of}
 use Rattle.mq_core.proofs.Events.Falls.{Falls, done-from_start, sum_over, total, weigh}
 use Rattle.mq_core.proofs.Events.Kept.{Fact, kept}
-use Rattle.mq_core.proofs.Networks.Whole.{starts-arrive}
+use Rattle.mq_core.proofs.Networks.Whole.{starts-begin}
 use Rattle.mq_core.proofs.Networks.Wired.{feeds_forward, has_inputs, rank_in-has, reads-from}
 
 -- what the jobs in a node still weigh, where each emission weighs at most this much
@@ -199,8 +199,8 @@ module _ (plan : Plan) (rows : Rows) (read : IsReadFor plan.net rows) where
   pub nothing-pending : (run_of plan rows).pending ≡ []
   unfolding standard_opening
   nothing-pending =
-      done-from_start (standard plan rows) fact (standard-keeps plan rows (reader_from 0 plan.net.nodes)) (standard-on_time plan rows) (feeds_forward plan (standard plan rows) refl refl) 1 size weight onward load falls (omega arith)
-      (starts rows) (starts-arrive 0 rows.source rows.time)
+      done-from_start (standard plan rows) fact (standard-keeps plan rows (reader_from 0 plan.net.nodes) refl) (standard-on_time plan rows) (feeds_forward plan (standard plan rows) refl refl) 1 size weight onward load falls (omega arith)
+      (starts rows) (starts-begin (standard plan rows) 0 rows.source rows.time)
       (starts-inside size 0 rows.source rows.time (λ k source e. source-inside plan.net.nodes source (read.sources k source e)))
       (9 * length plan.net.nodes * length rows.time)
       enough
@@ -216,7 +216,7 @@ module _ (plan : Plan) (rows : Rows) (read : IsReadFor plan.net rows) where
   pub end-fact : (v : ℕ) → node_fact rows (slice_get plan.net.nodes v) v ((run_of plan rows).stations v) [] (run_of plan rows).clock
   end-fact v =
       subst (λ l. node_fact rows (slice_get plan.net.nodes v) v ((run_of plan rows).stations v) (filter (is_finish_at v) l) (run_of plan rows).clock) nothing-pending
-      (kept (standard plan rows) fact (standard-keeps plan rows (reader_from 0 plan.net.nodes)) (standard-on_time plan rows) (feeds_forward plan (standard plan rows) refl refl) (starts rows) (starts-arrive 0 rows.source rows.time) (9 * length plan.net.nodes * length rows.time) v)
+      (kept (standard plan rows) fact (standard-keeps plan rows (reader_from 0 plan.net.nodes) refl) (standard-on_time plan rows) (feeds_forward plan (standard plan rows) refl refl) (starts rows) (starts-begin (standard plan rows) 0 rows.source rows.time) (9 * length plan.net.nodes * length rows.time) v)
 
   pub run-ended : IsEnded plan rows (run_of plan rows)
   unfolding standard_jobs

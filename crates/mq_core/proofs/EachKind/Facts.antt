@@ -1,5 +1,6 @@
-use Rattle.std.proofs.Common.{true, List, None, Option, Some, [], length, refl, ℕ, ◌++◌, ◌<◌, ◌∙◌, ◌∷◌, ◌≡◌, ◌≤◌}
+use Rattle.std.proofs.Common.{true, List, None, Option, Some, [], arith, length, max, refl, subst, sym, ℕ, ◌++◌, ◌<◌, ◌∙◌, ◌∷◌, ◌≡◌, ◌≤◌}
 use Rattle.std.proofs.lemmas.List.{append-nil}
+use Rattle.std.proofs.lemmas.Option.{slice_get_within}
 use Rattle.std.specs.List.{AllByRecursion as Each}
 use Rattle.std.specs.Prelude.{IfSome, slice_get}
 use Rattle.mq_core.specs.Event.{Event, earliest, time_of}
@@ -9,6 +10,7 @@ use Rattle.mq_core.specs.Machine.{Station, Table, Visit, finishes_of}
 use Rattle.mq_core.specs.Sound.{is_sound_kind}
 use Rattle.mq_core.specs.Standard.{node_on, node_opening, standard_handle, standard_jobs, standard_opening}
 use Rattle.mq_core.specs.StandardTable.{standard}
+use Rattle.mq_core.specs.Wiring.{inputs_of, reader_from}
 use Rattle.mq_core.specs.declared.model.Kind.{Kind}
 use Rattle.mq_core.specs.declared.model.Node.{Node}
 use Rattle.mq_core.specs.declared.model.Plan.{Plan}
@@ -16,6 +18,7 @@ use Rattle.mq_core.specs.declared.model.Rows.{Rows}
 use Rattle.mq_core.proofs.EachKind.LawTable.{inside_of, laws_of}
 use Rattle.mq_core.proofs.EachKind.Shapes.{node-sound}
 use Rattle.mq_core.proofs.Events.Kept.{Fact, Keeps}
+use Rattle.mq_core.proofs.Networks.Wired.{reads-from}
 use Rattle.mq_core.proofs.Passing.Passes.{after_reaction, no_finish}
 
 -- what holds of a node of each kind
@@ -48,12 +51,24 @@ node-waits : (rows : Rows) (o : Option Node) (v : ℕ) (s : Station Local) (area
 node-waits rows None v s area busy fs now later l h = h
 node-waits rows (Some node) v s area busy fs now later l h = (laws_of rows (length node.inputs) node.kind).waits v s area busy fs now later l h
 
-pub standard-keeps : (plan : Plan) (rows : Rows) (reader : ℕ → ℕ → Option (ℕ × ℕ)) → Keeps (wired_by plan rows reader) (λ v. node_fact rows (slice_get plan.net.nodes v) v)
+pub standard-keeps_by : (plan : Plan) (rows : Rows) (reader : ℕ → ℕ → Option (ℕ × ℕ)) → ((n out : ℕ) → IfSome (reader n out) (λ to. to.1 < max 1 (length (inputs_of plan.net.nodes to.0)))) → Keeps (wired_by plan rows reader) (λ v. node_fact rows (slice_get plan.net.nodes v) v)
 unfolding standard_opening standard_handle
-standard-keeps plan rows reader =
+standard-keeps_by plan rows reader fits =
     record {
       opens = λ v. node-opens rows (length plan.net.columns) (slice_get plan.net.nodes v) v (node-sound plan v);
       waits = λ v s fs now later h l _. node-waits rows (slice_get plan.net.nodes v) v s _ _ fs now later l h;
-      arrives = λ v port job s fs now h soon. node-arrives _ rows (slice_get plan.net.nodes v) v port s fs now (record { job = job; arrive = now; port = port; found = standard_jobs plan rows v s.visits s.local }) refl soon h;
+      fits = fits;
+      arrives = λ v port job s fs now h soon fit. node-arrives _ rows (slice_get plan.net.nodes v) v port s fs now (record { job = job; arrive = now; port = port; found = standard_jobs plan rows v s.visits s.local }) refl soon h;
       ends = λ v server position s fs rest now h first. node-ends _ rows (slice_get plan.net.nodes v) (wired_by plan rows reader).rank v server position s fs rest now first h;
     }
+
+-- what an output is read by is a port that there is
+pub network-fits : (plan : Plan) (rows : Rows) → (n out : ℕ) → IfSome (reader_from 0 plan.net.nodes n out) (λ to. to.1 < max 1 (length (inputs_of plan.net.nodes to.0)))
+network-fits plan rows n out = go (reader_from 0 plan.net.nodes n out) refl
+  where
+    go : (r : Option (ℕ × ℕ)) → reader_from 0 plan.net.nodes n out ≡ r → IfSome r (λ to. to.1 < max 1 (length (inputs_of plan.net.nodes to.0)))
+    go None e = tt
+    go (Some to) e = let l = slice_get_within (inputs_of plan.net.nodes to.0) to.1 (n, out) (reads-from plan.net.nodes n out to.0 to.1 e) in omega arith
+
+pub standard-keeps : (plan : Plan) (rows : Rows) (reader : ℕ → ℕ → Option (ℕ × ℕ)) → reader ≡ reader_from 0 plan.net.nodes → Keeps (wired_by plan rows reader) (λ v. node_fact rows (slice_get plan.net.nodes v) v)
+standard-keeps plan rows reader e = standard-keeps_by plan rows reader (subst (λ (r : ℕ → ℕ → Option (ℕ × ℕ)). (n out : ℕ) → IfSome (r n out) (λ to. to.1 < max 1 (length (inputs_of plan.net.nodes to.0)))) (sym e) (network-fits plan rows))

@@ -27,7 +27,7 @@ use Rattle.mq_core.proofs.Events.Founds.{emission_at-append}
 use Rattle.mq_core.proofs.Events.Kept.{Keeps, kept}
 use Rattle.mq_core.proofs.Lists.Each.{Each-append, Each-weaker}
 use Rattle.mq_core.proofs.Networks.Wired.{feeds_forward}
-use Rattle.mq_core.proofs.Networks.Whole.{starts-arrive}
+use Rattle.mq_core.proofs.Networks.Whole.{starts-begin}
 use Rattle.mq_core.proofs.Passing.Passes.{after_reaction}
 
 -- the number that a visit made when it came, 0 where it was lost
@@ -162,15 +162,16 @@ peak-ends rows (Some node) rank v server position s fs rest now first f h =
 peak-keeps : (plan : Plan) (rows : Rows) → Keeps (standard plan rows) (λ v s fs now. node_fact rows (slice_get plan.net.nodes v) v s fs now × node_peaked (slice_get plan.net.nodes v) s)
 unfolding standard_opening standard_handle standard_jobs
 peak-keeps plan rows =
-    let keeps = standard-keeps plan rows (reader_from 0 plan.net.nodes) in
+    let keeps = standard-keeps plan rows (reader_from 0 plan.net.nodes) refl in
     record {
       opens = λ v. (keeps.opens v, peak-opens rows (slice_get plan.net.nodes v));
       waits = λ v s fs now later h l f. (keeps.waits v s fs now later h.0 l f, peak-waits (slice_get plan.net.nodes v) s _ _ h.1);
-      arrives = λ v port job s fs now h f. (keeps.arrives v port job s fs now h.0 f, peak-arrives rows (slice_get plan.net.nodes v) v port job s fs now h.0 h.1);
+      fits = keeps.fits;
+      arrives = λ v port job s fs now h f fit. (keeps.arrives v port job s fs now h.0 f fit, peak-arrives rows (slice_get plan.net.nodes v) v port job s fs now h.0 h.1);
       ends = λ v server position s fs rest now h first. (keeps.ends v server position s fs rest now h.0 first, peak-ends rows (slice_get plan.net.nodes v) _ v server position s fs rest now first h.0 h.1);
     }
 
 pub peak-is_greatest : PeakIsGreatest
 peak-is_greatest plan rows v node here holds =
     (subst (λ o. node_peaked o ((run_of plan rows).stations v)) here
-    (kept (standard plan rows) (λ u s fs now. node_fact rows (slice_get plan.net.nodes u) u s fs now × node_peaked (slice_get plan.net.nodes u) s) (peak-keeps plan rows) (standard-on_time plan rows) (feeds_forward plan (standard plan rows) refl refl) (starts rows) (starts-arrive 0 rows.source rows.time) (9 * length plan.net.nodes * length rows.time) v).1 holds).greatest
+    (kept (standard plan rows) (λ u s fs now. node_fact rows (slice_get plan.net.nodes u) u s fs now × node_peaked (slice_get plan.net.nodes u) s) (peak-keeps plan rows) (standard-on_time plan rows) (feeds_forward plan (standard plan rows) refl refl) (starts rows) (starts-begin (standard plan rows) 0 rows.source rows.time) (9 * length plan.net.nodes * length rows.time) v).1 holds).greatest

@@ -25,7 +25,7 @@ use Rattle.mq_core.proofs.Events.Forward.{emissions-now}
 use Rattle.mq_core.proofs.Events.Kept.{Fact, Holds, Keeps, holds-happens, holds-start, holds-until, kept}
 use Rattle.mq_core.proofs.Events.Pending.{earliest-filter}
 use Rattle.mq_core.proofs.Events.Steps.{after-none, after-some, after-zero, station-own}
-use Rattle.mq_core.proofs.Networks.Whole.{starts-arrive}
+use Rattle.mq_core.proofs.Networks.Whole.{starts-begin}
 use Rattle.mq_core.proofs.Networks.Wired.{feeds_forward}
 
 -- some node holds a job
@@ -87,10 +87,10 @@ span-is_latest plan rows read =
     record {
       came = λ v l. (areas v l).came;
       left = λ v l. (areas v l).left;
-      reached = over (reached-after (standard plan rows) (λ u. node_fact rows (slice_get plan.net.nodes u) u) (standard-keeps plan rows (reader_from 0 plan.net.nodes))
+      reached = over (reached-after (standard plan rows) (λ u. node_fact rows (slice_get plan.net.nodes u) u) (standard-keeps plan rows (reader_from 0 plan.net.nodes) refl)
           (λ v server position s fs rest now h first. node-emits rows (slice_get plan.net.nodes v) _ v server position s fs rest now h first)
           (standard-on_time plan rows) (feeds_forward plan (standard plan rows) refl refl) (9 * length plan.net.nodes * length rows.time) (opened (standard plan rows) (starts rows))
-          (holds-start (standard plan rows) (λ u. node_fact rows (slice_get plan.net.nodes u) u) (standard-keeps plan rows (reader_from 0 plan.net.nodes)) (starts rows) (starts-arrive 0 rows.source rows.time))
+          (holds-start (standard plan rows) (λ u. node_fact rows (slice_get plan.net.nodes u) u) (standard-keeps plan rows (reader_from 0 plan.net.nodes) refl) (starts rows) (starts-begin (standard plan rows) 0 rows.source rows.time))
           (inl refl));
     }
   where
@@ -105,6 +105,6 @@ span-is_latest plan rows read =
     areas v inside =
         (kept (standard plan rows)
         (λ u s fs now. node_fact rows (slice_get plan.net.nodes u) u s fs now × (u < length plan.net.nodes → Areas (standard plan rows) s now))
-        (keeps-areas (standard plan rows) (λ u. node_fact rows (slice_get plan.net.nodes u) u) (λ u. u < length plan.net.nodes) (standard-keeps plan rows (reader_from 0 plan.net.nodes))
+        (keeps-areas (standard plan rows) (λ u. node_fact rows (slice_get plan.net.nodes u) u) (λ u. u < length plan.net.nodes) (standard-keeps plan rows (reader_from 0 plan.net.nodes) refl)
         (λ u s fs now l h. node-number rows (slice_get plan.net.nodes u) u s fs now (inside-some plan.net.nodes u l) h))
-        (standard-on_time plan rows) (feeds_forward plan (standard plan rows) refl refl) (starts rows) (starts-arrive 0 rows.source rows.time) (9 * length plan.net.nodes * length rows.time) v).1 inside
+        (standard-on_time plan rows) (feeds_forward plan (standard plan rows) refl refl) (starts rows) (starts-begin (standard plan rows) 0 rows.source rows.time) (9 * length plan.net.nodes * length rows.time) v).1 inside

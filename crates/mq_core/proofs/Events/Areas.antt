@@ -121,6 +121,7 @@ keeps-areas t P Q keeps number =
           left = Each-weaker _ _ (λ m q. omega arith) s.emitted a.left;
         },
       );
-      arrives = λ v port job s fs now h f. (keeps.arrives v port job s fs now h.0 f, λ q. acted-areas t s (Arrive now v port job) (h.1 q));
+      fits = keeps.fits;
+      arrives = λ v port job s fs now h f fit. (keeps.arrives v port job s fs now h.0 f fit, λ q. acted-areas t s (Arrive now v port job) (h.1 q));
       ends = λ v server position s fs rest now h first. (keeps.ends v server position s fs rest now h.0 first, λ q. acted-areas t s (Finish now v server position) (h.1 q));
     }

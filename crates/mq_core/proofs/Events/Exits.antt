@@ -48,7 +48,8 @@ keeps-founds_by {L} t P Q exit there keeps leaves =
     record {
       opens = λ v. (keeps.opens v, λ _. record { each = λ p l. absurd (omega arith) });
       waits = λ v s fs now later h l f. (keeps.waits v s fs now later h.0 l f, λ q. record { each = λ p u. (h.1 q).each p u ∙ sum-same p _ _ (λ k w. ap (one_if_there (there v) (arrival_or 0 (slice_get s.visits p)) p) (sym (leaves.waits v (later - now) s k))) });
-      arrives = λ v port job s fs now h f. (keeps.arrives v port job s fs now h.0 f, λ q. record { each = λ p l. came v port job s fs now q h.0 (h.1 q) p (eqb p (length s.visits)) refl l });
+      fits = keeps.fits;
+      arrives = λ v port job s fs now h f fit. (keeps.arrives v port job s fs now h.0 f fit, λ q. record { each = λ p l. came v port job s fs now q h.0 (h.1 q) p (eqb p (length s.visits)) refl l });
       ends = λ v server position s fs rest now h first. (keeps.ends v server position s fs rest now h.0 first, λ q. record { each = λ p l. (h.1 q).each p l ∙ sum-same p _ _ (λ k u. sym (leaves.ends v server position s fs rest now q h.0 first k p u l)) });
     }
   where

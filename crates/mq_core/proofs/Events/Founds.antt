@@ -71,7 +71,8 @@ keeps-founds {L} t P Q keeps number leaves =
     record {
       opens = λ v. let k = keeps.opens v in (k.0, k.1, λ _. record { each = λ p l. absurd (omega arith) });
       waits = λ v s fs now later h l f. let k = keeps.waits v s fs now later (h.0, h.1) l f in (k.0, k.1, λ q. record { each = (h.2 q).each });
-      arrives = λ v port job s fs now h f. let k = keeps.arrives v port job s fs now (h.0, h.1) f in (k.0, k.1, λ q. came v port job s fs now q h.0 (h.1 q) (h.2 q));
+      fits = keeps.fits;
+      arrives = λ v port job s fs now h f fit. let k = keeps.arrives v port job s fs now (h.0, h.1) f fit in (k.0, k.1, λ q. came v port job s fs now q h.0 (h.1 q) (h.2 q));
       ends = λ v server position s fs rest now h first. let k = keeps.ends v server position s fs rest now (h.0, h.1) first in (k.0, k.1, λ q. record { each = λ p l. (h.2 q).each p l ∙ sym (still_there-same _ now p s.emitted (emissions_at t s (Finish now v server position)) (emissions-now t s (Finish now v server position)) (λ r m u e. leaves.earlier v server position s fs rest now q h.0 first r p m e u l)) });
     }
   where

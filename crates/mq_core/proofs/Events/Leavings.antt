@@ -71,7 +71,8 @@ keeps-areas_by {L} t P Q left keeps leaves =
     record {
       opens = λ v. (keeps.opens v, λ _. record { area = refl; came = tt });
       waits = λ v s fs now later h l f. (keeps.waits v s fs now later h.0 l f, λ q. waited v s fs now later l (leaves.number v s fs now q h.0) (h.1 q));
-      arrives = λ v port job s fs now h f. (keeps.arrives v port job s fs now h.0 f, λ q. came v port job s fs now q h.0 (h.1 q));
+      fits = keeps.fits;
+      arrives = λ v port job s fs now h f fit. (keeps.arrives v port job s fs now h.0 f fit, λ q. came v port job s fs now q h.0 (h.1 q));
       ends = λ v server position s fs rest now h first. (
         keeps.ends v server position s fs rest now h.0 first,
         λ q. let a = h.1 q in record {
