@@ -27,9 +27,9 @@ delay-inside rows demand =
 pub delay-laws : (rows : Rows) (ports : ℕ) (demand : Demand) → KindLaws rows ports (delay demand) (delay-inside rows demand)
 delay-laws rows ports demand =
     record {
-      opens = λ columns v sound. delaying-opens rows demand v;
+      opens = λ columns v sound many. delaying-opens rows demand v;
       waits = λ v s area busy fs now later l h. delaying-waits rows demand v s.visits s.local.scheduled s.emitted fs now later l h;
-      arrives = λ peak v port s fs now x at soon h. delaying-arrives rows demand v s.visits s.local.scheduled s.emitted fs now x at soon h;
+      arrives = λ peak v port s fs now x at by fit soon h. delaying-arrives rows demand v s.visits s.local.scheduled s.emitted fs now x at soon h;
       ends = λ peak rank v server position s fs rest now first h. delaying-ends rows demand rank v server position s.visits s.local.scheduled s.emitted fs rest now first h;
       flow = λ v s now h. (delaying-done rows demand v s.visits _ s.emitted now h).1;
       number = λ v s fs now h. delaying-number rows demand v s.visits s.local.scheduled s.emitted fs now h;

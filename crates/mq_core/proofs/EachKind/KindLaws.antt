@@ -1,5 +1,5 @@
 -- What is to be shown of a kind of node, once for all that goes by kind.
-use Rattle.std.proofs.Common.{◌≡◌, ◌⊎◌, ℕ, ◌+◌, ◌-◌, ◌*◌, ◌<◌, ◌≤◌, true, List, [], ◌∷◌, ◌++◌, length, Option, Some, None}
+use Rattle.std.proofs.Common.{◌≡◌, ◌⊎◌, ℕ, ◌+◌, ◌-◌, ◌*◌, ◌<◌, ◌≤◌, true, List, [], ◌∷◌, ◌++◌, length, Option, Some, None, max}
 use Rattle.std.specs.Prelude.{slice_get}
 use Rattle.std.specs.List.{AllByRecursion as Each}
 use Rattle.mq_core.specs.Behaviour.{Behaviour}
@@ -66,12 +66,12 @@ IsFilled ms = (m : Emission) × (rest : List Emission) × (ms ≡ m ∷ rest)
 
 -- The laws of a kind that its handler must keep.
 pub record KindLaws (rows : Rows) (ports : ℕ) (b : Behaviour) (i : Inside) : Type 0 where
-  -- the fact holds at the start, where the numbers of the kind are in their ranges
-  pub opens : (columns v : ℕ) → b.sound columns ≡ true → i.fact v (opening_of b) [] 0
+  -- the fact holds at the start, where the numbers of the kind are in their ranges and it may have so many ports
+  pub opens : (columns v : ℕ) → b.sound columns ≡ true → b.ports ports ≡ true → i.fact v (opening_of b) [] 0
   -- time keeps it
   pub waits : (v : ℕ) (s : Station Local) (area busy : ℕ) (fs : List Event) (now later : ℕ) → now ≤ later → i.fact v s fs now → i.fact v (record s { area = area; busy = busy }) fs later
-  -- a visit keeps it, where no finish is pending at its time
-  pub arrives : (peak v port : ℕ) (s : Station Local) (fs : List Event) (now : ℕ) (x : Visit) → x.arrive ≡ now → Each (λ f. now < time_of f) fs → i.fact v s fs now →
+  -- a visit keeps it that comes by a port that there is, where no finish is pending at its time
+  pub arrives : (peak v port : ℕ) (s : Station Local) (fs : List Event) (now : ℕ) (x : Visit) → x.arrive ≡ now → x.port ≡ port → port < max 1 ports → Each (λ f. now < time_of f) fs → i.fact v s fs now →
       i.fact v (after_visit peak rows ports b v port s now x) (fs ++ finishes_of v (to_visit rows ports b v port s now x).services) now
   -- its first finish keeps it
   pub ends : (peak : ℕ) (rank : ℕ → ℕ) (v server position : ℕ) (s : Station Local) (fs rest : List Event) (now : ℕ) → earliest rank fs ≡ Some (Finish now v server position, rest) → i.fact v s fs now →

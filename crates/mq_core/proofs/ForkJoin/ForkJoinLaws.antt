@@ -31,9 +31,9 @@ fork_join-inside rows branches =
 pub fork_join-laws : (rows : Rows) (ports : ℕ) (branches : List (List Demand)) → KindLaws rows ports (fork_join branches) (fork_join-inside rows branches)
 fork_join-laws rows ports branches =
     record {
-      opens = λ columns v sound. joining-opens rows branches v (branches-shaped columns branches sound);
+      opens = λ columns v sound many. joining-opens rows branches v (branches-shaped columns branches sound);
       waits = λ v s area busy fs now later l h. joining-waits rows branches v s.visits s.local.branches s.emitted fs now later l h;
-      arrives = λ peak v port s fs now x at soon h. joining-arrives rows branches v port s.local s.visits s.emitted fs now x at soon h;
+      arrives = λ peak v port s fs now x at by fit soon h. joining-arrives rows branches v port s.local s.visits s.emitted fs now x at soon h;
       ends = λ peak rank v server position s fs rest now first h. joining-ends rows branches rank v server position s.local s.visits s.emitted fs rest now first h;
       flow = λ v s now h. (joining-done rows branches v s.visits s.local.branches s.emitted now h).1;
       number = λ v s fs now h. joining-number rows branches v s.visits s.local.branches s.emitted fs now h;

@@ -32,7 +32,7 @@ loss-inside rows places demand =
 pub loss-laws : (rows : Rows) (ports : ℕ) (places : ℕ) (demand : Demand) → KindLaws rows ports (loss places demand) (loss-inside rows places demand)
 loss-laws rows ports places demand =
     record {
-      opens = λ columns v sound.
+      opens = λ columns v sound many.
           let shape : 1 ≤ places =
           let a = and_parts (is_within 1 1048576 places) (is_sound_demand columns demand) sound in
           let b : nat_le 1 places ≡ true = (and_parts (nat_le 1 places) (nat_le places 1048576) a.0).0 in
@@ -40,7 +40,7 @@ loss-laws rows ports places demand =
           in
           (shape, losing-opens rows places demand v);
       waits = λ v s area busy fs now later l h. (h.0, losing-waits rows places demand v s.visits s.local.queue s.emitted fs now later l h.1);
-      arrives = λ peak v port s fs now x at soon h. (h.0, losing-arrives rows places demand v port s.local s.visits s.emitted fs now x at soon h.1);
+      arrives = λ peak v port s fs now x at by fit soon h. (h.0, losing-arrives rows places demand v port s.local s.visits s.emitted fs now x at soon h.1);
       ends = λ peak rank v server position s fs rest now first h. (h.0, losing-ends rows places demand rank v server position s.local s.visits s.local.queue s.emitted fs rest now first h.1);
       flow = λ v s now h. losing-flow rows places demand v s.visits _ s.emitted now h.0 h.1;
       number = λ v s fs now h. losing-number rows places demand v s.visits s.local.queue s.emitted fs now h.1;

@@ -24,9 +24,9 @@ source-inside rows =
 pub source-laws : (rows : Rows) (ports : ℕ) → KindLaws rows ports source (source-inside rows)
 source-laws rows ports =
     record {
-      opens = λ columns v sound. record { left = refl; none = refl };
+      opens = λ columns v sound many. record { left = refl; none = refl };
       waits = λ v s area busy fs now later l h. h;
-      arrives = λ peak v port s fs now x at soon h. passing-arrives (λ _ _. 0) v now 0 s.visits s.emitted fs x at refl h;
+      arrives = λ peak v port s fs now x at by fit soon h. passing-arrives (λ _ _. 0) v now 0 s.visits s.emitted fs x at refl h;
       ends = λ peak rank v server position s fs rest now first h. absurd (no_finish rank fs rest _ h.none first);
       flow = λ v s now h. h.left;
       number = λ v s fs now h. passing-number (λ _ _. 0) s.visits s.emitted fs h;

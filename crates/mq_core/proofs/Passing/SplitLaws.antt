@@ -26,9 +26,9 @@ split-inside rows route =
 pub split-laws : (rows : Rows) (ports : ℕ) (route : Route) → KindLaws rows ports (split route) (split-inside rows route)
 split-laws rows ports route =
     record {
-      opens = λ columns v sound. record { left = refl; none = refl };
+      opens = λ columns v sound many. record { left = refl; none = refl };
       waits = λ v s area busy fs now later l h. h;
-      arrives = λ peak v port s fs now x at soon h. passing-arrives (λ y p. output_by rows route y.job p) v now (output_by rows route x.job (latest (s.visits ++ x ∷ []))) s.visits s.emitted fs x at refl h;
+      arrives = λ peak v port s fs now x at by fit soon h. passing-arrives (λ y p. output_by rows route y.job p) v now (output_by rows route x.job (latest (s.visits ++ x ∷ []))) s.visits s.emitted fs x at refl h;
       ends = λ peak rank v server position s fs rest now first h. absurd (no_finish rank fs rest _ h.none first);
       flow = λ v s now h. h.left;
       number = λ v s fs now h. passing-number (λ x p. output_by rows route x.job p) s.visits s.emitted fs h;

@@ -29,9 +29,9 @@ server-inside rows demand =
 pub server-laws : (rows : Rows) (ports : ℕ) (demand : Demand) → KindLaws rows ports (server demand) (server-inside rows demand)
 server-laws rows ports demand =
     record {
-      opens = λ columns v sound. serving-opens rows demand v;
+      opens = λ columns v sound many. serving-opens rows demand v;
       waits = λ v s area busy fs now later l h. serving-waits rows demand v s.visits s.local.queue s.emitted fs now later l h;
-      arrives = λ peak v port s fs now x at soon h. serving-arrives rows demand v s.local s.visits s.local.queue s.emitted fs now x at soon h;
+      arrives = λ peak v port s fs now x at by fit soon h. serving-arrives rows demand v s.local s.visits s.local.queue s.emitted fs now x at soon h;
       ends = λ peak rank v server position s fs rest now first h. serving-ends rows demand rank v server position s.local s.visits s.local.queue s.emitted fs rest now first h;
       flow = λ v s now h. (serving-done rows demand v s.visits _ s.emitted now h).1;
       number = λ v s fs now h. serving-number rows demand v s.visits s.local.queue s.emitted fs now h;

@@ -27,9 +27,9 @@ tandem-inside rows stages =
 pub tandem-laws : (rows : Rows) (ports : ℕ) (stages : List Stage) → KindLaws rows ports (tandem stages) (tandem-inside rows stages)
 tandem-laws rows ports stages =
     record {
-      opens = λ columns v sound. tandeming-opens rows stages v (sound-stages columns stages sound);
+      opens = λ columns v sound many. tandeming-opens rows stages v (sound-stages columns stages sound);
       waits = λ v s area busy fs now later l h. tandeming-waits rows stages v s.visits s.local.lines s.emitted fs now later l h;
-      arrives = λ peak v port s fs now x at soon h. tandeming-arrives rows stages v s.local s.visits s.local.lines s.emitted fs now x at soon h;
+      arrives = λ peak v port s fs now x at by fit soon h. tandeming-arrives rows stages v s.local s.visits s.local.lines s.emitted fs now x at soon h;
       ends = λ peak rank v server position s fs rest now first h. tandeming-ends rows v s.visits s.emitted rank fs rest now server position first stages s.local.lines h;
       flow = λ v s now h. (tandeming-done rows stages v s.visits _ s.emitted now h).1;
       number = λ v s fs now h. tandeming-number rows stages v s.visits s.local.lines s.emitted fs now h;
