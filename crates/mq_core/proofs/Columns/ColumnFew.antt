@@ -7,7 +7,7 @@ use Rattle.mq_core.specs.Event.Event.{Arrive, Finish}
 use Rattle.mq_core.specs.Local.{Local}
 use Rattle.mq_core.specs.Machine.{Station, Visit, emissions_of}
 use Rattle.mq_core.specs.OnTime.{standard-on_time}
-use Rattle.mq_core.specs.Run.{starts}
+use Rattle.mq_core.specs.Run.{run_length, starts}
 use Rattle.mq_core.specs.Standard.{node_jobs, node_on, node_opening, standard_handle, standard_jobs, standard_opening}
 use Rattle.mq_core.specs.StandardTable.{run_of, standard}
 use Rattle.mq_core.specs.Tallies.{sum_below}
@@ -133,7 +133,7 @@ module _ (plan : Plan) (rows : Rows) (read : IsReadFor plan.net rows) (v : ℕ) 
       never-grows-from_start (standard plan rows) fact (standard-keeps plan rows (reader_from 0 plan.net.nodes) refl) (standard-on_time plan rows) (feeds_forward plan (standard plan rows) refl refl) 0 size weight onward load few
       (starts rows) (starts-begin (standard plan rows) 0 rows.source rows.time)
       (starts-inside size 0 rows.source rows.time (λ k source e. source-inside plan.net.nodes source (read.sources k source e)))
-      (9 * length plan.net.nodes * length rows.time) in
+      (run_length plan.net.nodes rows) in
       let a = starts-weight weight 1 (λ u. at-most (ltb (rank u) (suc (rank v)))) 0 rows.source rows.time in
       let b = sum_below-zero size (λ u. load u (record { local = node_opening (slice_get plan.net.nodes u); visits = []; emitted = []; area = 0; busy = 0; peak = 0 })) (λ u. opening (before u) (eqb u v) (slice_get plan.net.nodes u)) in
       let c = sum_below-least size v (λ u. load u (end.stations u)) l in

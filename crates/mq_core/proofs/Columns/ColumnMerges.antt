@@ -10,7 +10,7 @@ use Rattle.mq_core.specs.Laws.{is_arrival_at, stream_of, brought, read_by, by_ti
 use Rattle.mq_core.specs.Local.{Local}
 use Rattle.mq_core.specs.Machine.{Visit, Emission, State, opened}
 use Rattle.mq_core.specs.Results.{stream_from}
-use Rattle.mq_core.specs.Run.{starts, starts_from}
+use Rattle.mq_core.specs.Run.{run_length, starts, starts_from}
 use Rattle.mq_core.specs.StandardTable.{standard, run_of}
 use Rattle.mq_core.specs.OnTime.{standard-on_time}
 use Rattle.mq_core.specs.Theorems.{arrivals_at, IsReadFor}
@@ -66,7 +66,7 @@ read-pairs end v port (i ∷ is) =
 pub visits-read : (plan : Plan) (rows : Rows) → IsReadFor plan.net rows → (v : ℕ) → map visit_pair ((run_of plan rows).stations v).visits ≡ map event_pair (arrivals_at plan rows (run_of plan rows) v)
 visits-read plan rows read v =
     let t = standard plan rows in
-    let count = 9 * length plan.net.nodes * length rows.time in
+    let count = run_length plan.net.nodes rows in
     visits-handled t v count (opened t (starts rows))
     ∙ ap (map event_pair) (arrivals-read plan rows t (standard-on_time plan rows) refl refl count v read (nothing-pending plan rows read))
 

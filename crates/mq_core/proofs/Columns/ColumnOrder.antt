@@ -10,7 +10,7 @@ use Rattle.mq_core.specs.Leaving.{Leaving}
 use Rattle.mq_core.specs.Leaving.Leaving.{InTurn, Mixed, Overtaking}
 use Rattle.mq_core.specs.Machine.{Emission, Table, Visit, emissions_at}
 use Rattle.mq_core.specs.OnTime.{standard-on_time}
-use Rattle.mq_core.specs.Run.{starts}
+use Rattle.mq_core.specs.Run.{run_length, starts}
 use Rattle.mq_core.specs.StandardTable.{run_of, standard}
 use Rattle.mq_core.proofs.EachKind.Facts.{network-fits}
 use Rattle.mq_core.proofs.Events.Forward.{emissions-now}
@@ -69,7 +69,7 @@ pub streams-rise : StreamsRise
 streams-rise plan rows v =
     let t = standard plan rows in
     let s = (run_of plan rows).stations v in
-    let h = kept t Ordered (keeps-order t (network-fits plan rows)) (standard-on_time plan rows) (feeds_forward plan t refl refl) (starts rows) (starts-begin (standard plan rows) 0 rows.source rows.time) (9 * length plan.net.nodes * length rows.time) v in
+    let h = kept t Ordered (keeps-order t (network-fits plan rows)) (standard-on_time plan rows) (feeds_forward plan t refl refl) (starts rows) (starts-begin (standard plan rows) 0 rows.source rows.time) (run_length plan.net.nodes rows) v in
     record {
       arrivals = Rises-map _ s.visits h.0.rising;
       streams = λ out. record {

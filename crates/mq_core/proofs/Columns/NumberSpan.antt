@@ -12,7 +12,7 @@ use Rattle.mq_core.specs.Machine.{Emission, State, Station, Visit, emissions_of,
 use Rattle.mq_core.specs.NumberLaws.{SpanIsColumns}
 use Rattle.mq_core.specs.OnTime.{standard-on_time}
 use Rattle.mq_core.specs.Results.{fates_from, visits_of}
-use Rattle.mq_core.specs.Run.{starts}
+use Rattle.mq_core.specs.Run.{run_length, starts}
 use Rattle.mq_core.specs.Served.{flow_of}
 use Rattle.mq_core.specs.Standard.{node_on, standard_handle, standard_jobs, standard_opening}
 use Rattle.mq_core.specs.StandardTable.{run_of, standard}
@@ -108,7 +108,7 @@ module _ (plan : Plan) (rows : Rows) where
 
   silent-end : (v : ℕ) → slice_get plan.net.nodes v ≡ None → ((run_of plan rows).stations v).emitted ≡ []
   silent-end v none =
-      kept (standard plan rows) Silent silent-keeps (standard-on_time plan rows) (feeds_forward plan (standard plan rows) refl refl) (starts rows) (starts-begin (standard plan rows) 0 rows.source rows.time) (9 * length plan.net.nodes * length rows.time) v none
+      kept (standard plan rows) Silent silent-keeps (standard-on_time plan rows) (feeds_forward plan (standard plan rows) refl refl) (starts rows) (starts-begin (standard plan rows) 0 rows.source rows.time) (run_length plan.net.nodes rows) v none
 
 module _ (plan : Plan) (rows : Rows) (read : IsReadFor plan.net rows) where
   abbrev end : State Local
@@ -121,9 +121,9 @@ module _ (plan : Plan) (rows : Rows) (read : IsReadFor plan.net rows) where
   no-visits : (v : ℕ) → slice_get plan.net.nodes v ≡ None → (end.stations v).visits ≡ []
   no-visits v none =
       nothing-came (end.stations v).visits
-      (visits-handled (standard plan rows) v (9 * length plan.net.nodes * length rows.time) (opened (standard plan rows) (starts rows))
+      (visits-handled (standard plan rows) v (run_length plan.net.nodes rows) (opened (standard plan rows) (starts rows))
       ∙ ap (map {B = ℕ × ℕ} (λ e. (time_of e, job_of e)))
-      (arrivals-read plan rows (standard plan rows) (standard-on_time plan rows) refl refl (9 * length plan.net.nodes * length rows.time) v read (nothing-pending plan rows read)
+      (arrivals-read plan rows (standard plan rows) (standard-on_time plan rows) refl refl (run_length plan.net.nodes rows) v read (nothing-pending plan rows read)
       ∙ no-arrivals (slice_get plan.net.nodes v) none))
     where
       no-arrivals : (o : Option Node) → o ≡ None → by_time (cond (is_source o) (filter (is_arrival_at v) (starts rows)) (read_by (run_of plan rows) v 0 (outputs_read o))) ≡ []

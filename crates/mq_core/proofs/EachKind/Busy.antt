@@ -9,7 +9,7 @@ use Rattle.mq_core.specs.Laws.{is_finish_at}
 use Rattle.mq_core.specs.Local.{Local}
 use Rattle.mq_core.specs.Machine.{State, Station, Visit, finishes_of}
 use Rattle.mq_core.specs.OnTime.{standard-on_time}
-use Rattle.mq_core.specs.Run.{starts}
+use Rattle.mq_core.specs.Run.{run_length, starts}
 use Rattle.mq_core.specs.Standard.{node_on, node_opening, node_working, standard_handle, standard_jobs, standard_opening, standard_working}
 use Rattle.mq_core.specs.StandardTable.{run_of, standard}
 use Rattle.mq_core.specs.Wiring.{reader_from}
@@ -78,4 +78,4 @@ busy-is_services plan rows read v node here =
     fact : node_fact rows (slice_get plan.net.nodes v) v ((run_of plan rows).stations v) [] (run_of plan rows).clock × node_busy rows (slice_get plan.net.nodes v) ((run_of plan rows).stations v) [] (run_of plan rows).clock
     fact =
         subst (λ l. node_fact rows (slice_get plan.net.nodes v) v ((run_of plan rows).stations v) (filter (is_finish_at v) l) (run_of plan rows).clock × node_busy rows (slice_get plan.net.nodes v) ((run_of plan rows).stations v) (filter (is_finish_at v) l) (run_of plan rows).clock) (nothing-pending plan rows read)
-        (kept (standard plan rows) (λ u s fs now. node_fact rows (slice_get plan.net.nodes u) u s fs now × node_busy rows (slice_get plan.net.nodes u) s fs now) (busy-keeps plan rows) (standard-on_time plan rows) (feeds_forward plan (standard plan rows) refl refl) (starts rows) (starts-begin (standard plan rows) 0 rows.source rows.time) (9 * length plan.net.nodes * length rows.time) v)
+        (kept (standard plan rows) (λ u s fs now. node_fact rows (slice_get plan.net.nodes u) u s fs now × node_busy rows (slice_get plan.net.nodes u) s fs now) (busy-keeps plan rows) (standard-on_time plan rows) (feeds_forward plan (standard plan rows) refl refl) (starts rows) (starts-begin (standard plan rows) 0 rows.source rows.time) (run_length plan.net.nodes rows) v)

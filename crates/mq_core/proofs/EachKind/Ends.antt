@@ -12,7 +12,7 @@ use Rattle.mq_core.specs.Laws.{is_finish_at}
 use Rattle.mq_core.specs.Local.{Local}
 use Rattle.mq_core.specs.Machine.{Emission, Station, Visit, emissions_of, opened}
 use Rattle.mq_core.specs.OnTime.{standard-on_time}
-use Rattle.mq_core.specs.Run.{starts, starts_from}
+use Rattle.mq_core.specs.Run.{run_length, starts, starts_from}
 use Rattle.mq_core.specs.Served.{flow_of}
 use Rattle.mq_core.specs.Standard.{node_jobs, node_on, node_opening, standard_handle, standard_jobs, standard_opening}
 use Rattle.mq_core.specs.StandardTable.{run_of, standard}
@@ -202,10 +202,10 @@ module _ (plan : Plan) (rows : Rows) (read : IsReadFor plan.net rows) where
       done-from_start (standard plan rows) fact (standard-keeps plan rows (reader_from 0 plan.net.nodes) refl) (standard-on_time plan rows) (feeds_forward plan (standard plan rows) refl refl) 1 size weight onward load falls (omega arith)
       (starts rows) (starts-begin (standard plan rows) 0 rows.source rows.time)
       (starts-inside size 0 rows.source rows.time (λ k source e. source-inside plan.net.nodes source (read.sources k source e)))
-      (9 * length plan.net.nodes * length rows.time)
+      (run_length plan.net.nodes rows)
       enough
     where
-      enough : total size weight load (opened (standard plan rows) (starts rows)) ≤ 9 * length plan.net.nodes * length rows.time
+      enough : total size weight load (opened (standard plan rows) (starts rows)) ≤ run_length plan.net.nodes rows
       enough =
           let a = starts-weight weight (weight_of most size) (λ v. weight-rises most _ _ (omega arith)) 0 rows.source rows.time in
           let c = ap (λ n. n * length rows.time) (weight-one size) in
@@ -216,7 +216,7 @@ module _ (plan : Plan) (rows : Rows) (read : IsReadFor plan.net rows) where
   pub end-fact : (v : ℕ) → node_fact rows (slice_get plan.net.nodes v) v ((run_of plan rows).stations v) [] (run_of plan rows).clock
   end-fact v =
       subst (λ l. node_fact rows (slice_get plan.net.nodes v) v ((run_of plan rows).stations v) (filter (is_finish_at v) l) (run_of plan rows).clock) nothing-pending
-      (kept (standard plan rows) fact (standard-keeps plan rows (reader_from 0 plan.net.nodes) refl) (standard-on_time plan rows) (feeds_forward plan (standard plan rows) refl refl) (starts rows) (starts-begin (standard plan rows) 0 rows.source rows.time) (9 * length plan.net.nodes * length rows.time) v)
+      (kept (standard plan rows) fact (standard-keeps plan rows (reader_from 0 plan.net.nodes) refl) (standard-on_time plan rows) (feeds_forward plan (standard plan rows) refl refl) (starts rows) (starts-begin (standard plan rows) 0 rows.source rows.time) (run_length plan.net.nodes rows) v)
 
   pub run-ended : IsEnded plan rows (run_of plan rows)
   unfolding standard_jobs

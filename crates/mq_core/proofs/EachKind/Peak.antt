@@ -10,7 +10,7 @@ use Rattle.mq_core.specs.KindTable.{behaviour_of}
 use Rattle.mq_core.specs.Local.{Local}
 use Rattle.mq_core.specs.Machine.{Visit, Emission, Release, Station, emission_of, emissions_of}
 use Rattle.mq_core.specs.OnTime.{standard-on_time}
-use Rattle.mq_core.specs.Run.{starts}
+use Rattle.mq_core.specs.Run.{run_length, starts}
 use Rattle.mq_core.specs.Standard.{node_jobs, node_on, node_opening, standard_handle, standard_jobs, standard_opening}
 use Rattle.mq_core.specs.StandardTable.{standard, run_of}
 use Rattle.mq_core.specs.Tallies.{emission_at, greatest_below, found_or}
@@ -174,4 +174,4 @@ peak-keeps plan rows =
 pub peak-is_greatest : PeakIsGreatest
 peak-is_greatest plan rows v node here holds =
     (subst (λ o. node_peaked o ((run_of plan rows).stations v)) here
-    (kept (standard plan rows) (λ u s fs now. node_fact rows (slice_get plan.net.nodes u) u s fs now × node_peaked (slice_get plan.net.nodes u) s) (peak-keeps plan rows) (standard-on_time plan rows) (feeds_forward plan (standard plan rows) refl refl) (starts rows) (starts-begin (standard plan rows) 0 rows.source rows.time) (9 * length plan.net.nodes * length rows.time) v).1 holds).greatest
+    (kept (standard plan rows) (λ u s fs now. node_fact rows (slice_get plan.net.nodes u) u s fs now × node_peaked (slice_get plan.net.nodes u) s) (peak-keeps plan rows) (standard-on_time plan rows) (feeds_forward plan (standard plan rows) refl refl) (starts rows) (starts-begin (standard plan rows) 0 rows.source rows.time) (run_length plan.net.nodes rows) v).1 holds).greatest

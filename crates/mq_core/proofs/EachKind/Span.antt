@@ -8,7 +8,7 @@ use Rattle.mq_core.specs.Laws.{IsFeedForward, IsPunctual, is_finish_at}
 use Rattle.mq_core.specs.Local.{Local}
 use Rattle.mq_core.specs.Machine.{Emission, State, Station, Table, acted, after, emissions_at, emissions_of, happens, opened, reaction, until}
 use Rattle.mq_core.specs.OnTime.{standard-on_time}
-use Rattle.mq_core.specs.Run.{starts}
+use Rattle.mq_core.specs.Run.{run_length, starts}
 use Rattle.mq_core.specs.Standard.{node_jobs, node_on, standard_handle, standard_jobs}
 use Rattle.mq_core.specs.StandardTable.{run_of, standard}
 use Rattle.mq_core.specs.Tallies.{arrival_or}
@@ -89,7 +89,7 @@ span-is_latest plan rows read =
       left = λ v l. (areas v l).left;
       reached = over (reached-after (standard plan rows) (λ u. node_fact rows (slice_get plan.net.nodes u) u) (standard-keeps plan rows (reader_from 0 plan.net.nodes) refl)
           (λ v server position s fs rest now h first. node-emits rows (slice_get plan.net.nodes v) _ v server position s fs rest now h first)
-          (standard-on_time plan rows) (feeds_forward plan (standard plan rows) refl refl) (9 * length plan.net.nodes * length rows.time) (opened (standard plan rows) (starts rows))
+          (standard-on_time plan rows) (feeds_forward plan (standard plan rows) refl refl) (run_length plan.net.nodes rows) (opened (standard plan rows) (starts rows))
           (holds-start (standard plan rows) (λ u. node_fact rows (slice_get plan.net.nodes u) u) (standard-keeps plan rows (reader_from 0 plan.net.nodes) refl) (starts rows) (starts-begin (standard plan rows) 0 rows.source rows.time))
           (inl refl));
     }
@@ -107,4 +107,4 @@ span-is_latest plan rows read =
         (λ u s fs now. node_fact rows (slice_get plan.net.nodes u) u s fs now × (u < length plan.net.nodes → Areas (standard plan rows) s now))
         (keeps-areas (standard plan rows) (λ u. node_fact rows (slice_get plan.net.nodes u) u) (λ u. u < length plan.net.nodes) (standard-keeps plan rows (reader_from 0 plan.net.nodes) refl)
         (λ u s fs now l h. node-number rows (slice_get plan.net.nodes u) u s fs now (inside-some plan.net.nodes u l) h))
-        (standard-on_time plan rows) (feeds_forward plan (standard plan rows) refl refl) (starts rows) (starts-begin (standard plan rows) 0 rows.source rows.time) (9 * length plan.net.nodes * length rows.time) v).1 inside
+        (standard-on_time plan rows) (feeds_forward plan (standard plan rows) refl refl) (starts rows) (starts-begin (standard plan rows) 0 rows.source rows.time) (run_length plan.net.nodes rows) v).1 inside

@@ -6,7 +6,7 @@ use Rattle.mq_core.specs.Fates.{AreasAreSojourns, FoundsAreCounts}
 use Rattle.mq_core.specs.Local.{Local}
 use Rattle.mq_core.specs.Machine.{Emission, Station, Visit, emissions_of}
 use Rattle.mq_core.specs.OnTime.{standard-on_time}
-use Rattle.mq_core.specs.Run.{starts}
+use Rattle.mq_core.specs.Run.{run_length, starts}
 use Rattle.mq_core.specs.Standard.{node_jobs, node_on, standard_handle, standard_jobs}
 use Rattle.mq_core.specs.StandardTable.{standard}
 use Rattle.mq_core.specs.Tallies.{arrival_or, emission_at, one_if_none, staying}
@@ -35,7 +35,7 @@ areas-are-sojourns plan rows read v inside =
     (λ u s fs now. node_fact rows (slice_get plan.net.nodes u) u s fs now × (u < length plan.net.nodes → Areas (standard plan rows) s now))
     (keeps-areas (standard plan rows) (λ u. node_fact rows (slice_get plan.net.nodes u) u) (λ u. u < length plan.net.nodes) (standard-keeps plan rows (reader_from 0 plan.net.nodes) refl)
     (λ u s fs now l h. node-number rows (slice_get plan.net.nodes u) u s fs now (inside-some plan.net.nodes u l) h))
-    (standard-on_time plan rows) (feeds_forward plan (standard plan rows) refl refl) (starts rows) (starts-begin (standard plan rows) 0 rows.source rows.time) (9 * length plan.net.nodes * length rows.time) v).1 inside).area
+    (standard-on_time plan rows) (feeds_forward plan (standard plan rows) refl refl) (starts rows) (starts-begin (standard plan rows) 0 rows.source rows.time) (run_length plan.net.nodes rows) v).1 inside).area
 
 node-own : (rows : Rows) (o : Option Node) (v port job : ℕ) (s : Station Local) (x : Visit) (now q : ℕ) (m : Emission) → x.job ≡ job → emission_at (emissions_of now (s.visits ++ x ∷ []) (node_on rows o (s.visits ++ x ∷ []) s.local now (Arrive now v port x.job)).releases) q ≡ Some m → q ≡ length s.visits
 node-own rows None v port job s x now q m same e = absurd cc
@@ -57,7 +57,7 @@ founds-are-counts plan rows read v inside =
       own = λ u port job s fs now l h q m e. node-own rows (slice_get plan.net.nodes u) u port job s (record { job = job; arrive = now; port = port; found = standard_jobs plan rows u s.visits s.local }) now q m refl e;
       earlier = λ u server position s fs rest now l h first q p m e. node-earlier rows (slice_get plan.net.nodes u) _ u server position s fs rest now h first q p m e;
     }))
-    (standard-on_time plan rows) (feeds_forward plan (standard plan rows) refl refl) (starts rows) (starts-begin (standard plan rows) 0 rows.source rows.time) (9 * length plan.net.nodes * length rows.time) v).2 inside).each
+    (standard-on_time plan rows) (feeds_forward plan (standard plan rows) refl refl) (starts rows) (starts-begin (standard plan rows) 0 rows.source rows.time) (run_length plan.net.nodes rows) v).2 inside).each
   where
     number : (u : ℕ) (s : Station Local) (fs : List Event) (now : ℕ) → u < length plan.net.nodes → node_fact rows (slice_get plan.net.nodes u) u s fs now → (standard plan rows).jobs u s.visits s.local ≡ staying s.visits s.emitted
     number u s fs now l h = node-number rows (slice_get plan.net.nodes u) u s fs now (inside-some plan.net.nodes u l) h
