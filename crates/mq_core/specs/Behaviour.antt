@@ -53,7 +53,7 @@ pub record Behaviour : Type 1 where
   pub order : Leaving
   -- how many jobs one event may let out at most
   pub copies : ℕ
-  -- the emission with which a visit leaves, once it has: its own, and at a join that of its match
+  -- the emission with which the visit at a position leaves, once it has
   pub exit : Station Local → ℕ → Option Emission
   -- whether a visit that leaves with an emission is still there for one that comes at a time, at a position
   pub there : ℕ → ℕ → Emission → Bool

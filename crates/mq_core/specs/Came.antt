@@ -1,7 +1,6 @@
 -- The arrivals at a node, in columns.
 use Rattle.std.specs.Prelude.{ℕ, List, [], map}
 use Rattle.mq_core.specs.Machine.{Visit}
-use Rattle.mq_core.specs.declared.model.Stream.{Stream}
 
 -- at so many ports: by which port, of which job and when, one item an arrival
 pub record Came : Type 0 where

@@ -1,13 +1,14 @@
 use Rattle.mq_core.specs.Came.{Came, came_of}
 use Rattle.std.specs.Prelude.{◌≡◌, ◌<◌, ◌≤◌, ⊤, ℕ, ◌+◌, false, List, ◌++◌, length, map, slice_get, Some}
 use Rattle.std.specs.List.{AllByRecursion, zip, flat_map}
-use Rattle.mq_core.specs.Columns.{IsStream, by_first, column_fates, column_visits, column_stream, pairs_of, rows_at, stream_in_order}
+use Rattle.mq_core.specs.Columns.{IsStream, column_fates, column_stream, column_visits, rows_at, stream_in_order}
 use Rattle.mq_core.specs.Laws.{Rises}
 use Rattle.mq_core.specs.Local.{Local}
 use Rattle.mq_core.specs.Machine.{Visit, Station, State}
 use Rattle.mq_core.specs.Results.{bare_time, visits_of, stream_from}
 use Rattle.mq_core.specs.Served.{flow_of, in_leaving_order}
 use Rattle.mq_core.specs.StandardTable.{run_of}
+use Rattle.mq_core.specs.Streams.{by_first, pairs_of}
 use Rattle.mq_core.specs.Theorems.{IsReadFor}
 use Rattle.mq_core.specs.Wiring.{is_source_kind}
 use Rattle.mq_core.specs.declared.model.Fate.{Fate}

@@ -1,20 +1,16 @@
 -- A run in columns: what the code keeps of it, one item a visit, by position.
 use Rattle.mq_core.specs.Came.{Came}
-use Rattle.std.specs.List.{zip}
-use Rattle.std.specs.Prelude.{All, Bool, List, Some, [], count_by, false, fold, if◌then◌else◌, length, map, max, nat_lt, slice_index, suc, sum, true, zero, ℕ, ◌++◌, ◌+◌, ◌-◌, ◌==◌, ◌^◌, ◌∷◌, ◌≡◌, ◌≤◌}
+use Rattle.std.specs.Prelude.{All, List, Some, [], count_by, fold, if◌then◌else◌, length, map, max, slice_index, suc, sum, zero, ℕ, ◌++◌, ◌+◌, ◌-◌, ◌==◌, ◌^◌, ◌∷◌, ◌≡◌, ◌≤◌}
 use Rattle.mq_core.specs.Fates.{service_time}
 use Rattle.mq_core.specs.KindTable.{behaviour_of}
-pub use Rattle.mq_core.specs.Kinds.Loss.{out_of_fate}
-pub use Rattle.mq_core.specs.Kinds.Split.{routes_from}
-use Rattle.mq_core.specs.Laws.{Rises, in_order_of}
-use Rattle.mq_core.specs.Leaving.{Leaving}
-use Rattle.mq_core.specs.Leaving.Leaving.{InTurn, Mixed, Overtaking}
+use Rattle.mq_core.specs.Laws.{Rises}
 use Rattle.mq_core.specs.Local.{Local}
 use Rattle.mq_core.specs.Machine.{State}
-pub use Rattle.mq_core.specs.Parts.{by_first, departs_after, founds_from, founds_of, leaving_time, leaving_times, pairs_of, picked, sorted, stream_by}
+pub use Rattle.mq_core.specs.OnceOut.{departs_after, founds_from, founds_of, leaving_time, leaving_times}
 use Rattle.mq_core.specs.Results.{Late, Totals, bare_time, is_lost, late_fate, stream_from, visits_of}
 use Rattle.mq_core.specs.Sound.{outputs_in}
 use Rattle.mq_core.specs.StandardTable.{run_of}
+pub use Rattle.mq_core.specs.Streams.{by_first, pairs_of, picked, sorted, stream_by}
 use Rattle.mq_core.specs.declared.model.Fate.{Fate}
 use Rattle.mq_core.specs.declared.model.Fate.TheVariants.{Departs, Lost}
 use Rattle.mq_core.specs.declared.model.Kind.{Kind}

@@ -13,7 +13,8 @@ pub mod Told
 pub mod Emitting
 pub mod Leaving
 pub mod Came
-pub mod Parts
+pub mod Streams
+pub mod OnceOut
 pub mod Behaviour
 pub mod Kinds
 pub mod KindTable

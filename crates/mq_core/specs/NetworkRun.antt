@@ -1,5 +1,5 @@
 -- The run of a network over rows, for whoever has a network and no plan.
-use Rattle.std.specs.Prelude.{◌≡◌, ◌*◌, length, slice_get, Option}
+use Rattle.std.specs.Prelude.{◌≡◌, length, slice_get, Option}
 use Rattle.std.specs.List.{flat_map}
 use Rattle.mq_core.specs.Machine.{Table, State, after, opened}
 use Rattle.mq_core.specs.Local.{Local}

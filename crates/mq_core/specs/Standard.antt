@@ -8,11 +8,8 @@ use Rattle.mq_core.specs.declared.model.Kind.{Kind}
 use Rattle.mq_core.specs.declared.model.Node.{Node}
 use Rattle.mq_core.specs.declared.model.Plan.{Plan}
 use Rattle.mq_core.specs.declared.model.Rows.{Rows}
-pub use Rattle.mq_core.specs.Kinds.Server.{server_on}
-pub use Rattle.mq_core.specs.Kinds.Source.{source_on}
-pub use Rattle.mq_core.specs.Kinds.Split.{output_at, output_by, route_value, split_on}
 
--- the handlers, one row per kind, at a node of so many ports
+-- what a node of a kind and so many ports does at an event
 abbrev pub kind_on : Rows → ℕ → Kind → List Visit → Local → ℕ → Event → Reaction Local
 kind_on rows ports kind visits local now event = (behaviour_of kind).on rows ports visits local now event
 
@@ -28,12 +25,12 @@ jobs_in kind visits local = (behaviour_of kind).jobs visits local
 abbrev pub working_in : Kind → Local → ℕ
 working_in kind local = (behaviour_of kind).working local
 
--- the same at a node; where there is none nothing happens
+-- what a node does at an event; where there is none nothing happens
 abbrev pub node_on : Rows → Option Node → List Visit → Local → ℕ → Event → Reaction Local
 node_on rows None visits local now event = quiet local
 node_on rows (Some node) visits local now event = kind_on rows (length node.inputs) node.kind visits local now event
 
--- the same at a node; where there is none nothing is kept
+-- what a node keeps at the start; where there is none nothing is kept
 abbrev pub node_opening : Option Node → Local
 node_opening None = empty
 node_opening (Some node) = kind_opening node.kind

@@ -3,10 +3,12 @@ use Rattle.mq_core.specs.Came.{Came}
 use Rattle.std.proofs.Common.{Bool, List, [], cond, eqb, false, length, true, ℕ, ◌*◌, ◌+◌, ◌^◌, ◌∷◌, ◌≡◌, ◌≤◌}
 use Rattle.std.specs.List.{AllByRecursion as Each}
 use Rattle.mq_core.specs.ColumnLaws.{KeepsItems}
-use Rattle.mq_core.specs.Columns.{column_fates, column_outs, column_stream, leaving_times, picked}
+use Rattle.mq_core.specs.Columns.{column_fates, column_outs, column_stream}
+use Rattle.mq_core.specs.OnceOut.{leaving_times}
 use Rattle.mq_core.specs.PlanLaws.{Tells}
 use Rattle.mq_core.specs.Results.{servers_in}
 use Rattle.mq_core.specs.Sound.{is_sound_kind}
+use Rattle.mq_core.specs.Streams.{picked}
 use Rattle.mq_core.specs.declared.model.Fate.{Fate}
 use Rattle.mq_core.specs.declared.model.Fate.TheVariants.{Departs, Lost}
 use Rattle.mq_core.specs.declared.model.Kind.{Kind}

@@ -8,7 +8,7 @@ use Rattle.std.specs.Option.{option_to_list}
 use Rattle.std.specs.Prelude.{◌||◌, slice_get}
 use Rattle.std.specs.List.{AllByRecursion as Each, zip}
 use Rattle.mq_core.specs.ColumnLaws.{ArrivalsAreStreams, JobsAreRows, NodesAreColumns, OrdersKeepItems, VisitsAreFew, arrives_of, jobs_of}
-use Rattle.mq_core.specs.Columns.{column_fates, column_late, column_late_from, pairs_of}
+use Rattle.mq_core.specs.Columns.{column_fates, column_late, column_late_from}
 use Rattle.mq_core.specs.Local.{Local}
 use Rattle.mq_core.specs.Machine.{Station, Visit}
 use Rattle.mq_core.specs.NetworkRun.{RunsAreOfNetworks}
@@ -16,6 +16,7 @@ use Rattle.mq_core.specs.NumberLaws.{IsOnTimeBelow, PastIsNone}
 use Rattle.mq_core.specs.PlanLaws.{NodesAreInLimits, OrdersRank, RowsTellDemands, Tells}
 use Rattle.mq_core.specs.Results.{first_of, stream_from}
 use Rattle.mq_core.specs.StandardTable.{run_of}
+use Rattle.mq_core.specs.Streams.{pairs_of}
 use Rattle.mq_core.specs.Theorems.{IsReadFor}
 use Rattle.mq_core.specs.Wiring.{first_ready, has, is_source_kind, outputs_read, ranked_after}
 use Rattle.mq_core.specs.declared.model.Fate.{Fate}

@@ -20,7 +20,7 @@ use Rattle.mq_core.proofs.Columns.ColumnMerges.{visits-nowhere}
 use Rattle.mq_core.proofs.Columns.ColumnsEqual.{some-inside}
 use Rattle.mq_core.proofs.EachKind.Ends.{source-inside, starts-inside, starts-weight, sum_below-zero}
 use Rattle.mq_core.proofs.EachKind.Facts.{node_fact, standard-keeps}
-use Rattle.mq_core.proofs.EachKind.LawTable.{laws_of, once_of}
+use Rattle.mq_core.proofs.EachKind.LawTable.{once_of}
 use Rattle.mq_core.proofs.Events.Falls.{Falls, never-grows-from_start}
 use Rattle.mq_core.proofs.Events.Kept.{Fact}
 use Rattle.mq_core.proofs.Networks.Whole.{starts-begin}

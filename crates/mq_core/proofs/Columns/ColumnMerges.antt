@@ -1,9 +1,9 @@
 use Rattle.std.proofs.Common.{◌≡◌, ℕ, suc, Bool, true, false, cond, eqb, List, [], ◌∷◌, ◌++◌, map, length, Option, Some, None, sym, refl, ap, ◌∙◌}
 use Rattle.std.proofs.lemmas.List.{map-append, length-map}
-use Rattle.std.specs.Prelude.{filter, slice_get, ◌*◌}
+use Rattle.std.specs.Prelude.{filter, slice_get}
 use Rattle.std.specs.List.{zip, flat_map}
 use Rattle.mq_core.specs.ColumnLaws.{ArrivalsAreStreams, MergesTwice, jobs_of, arrives_of}
-use Rattle.mq_core.specs.Columns.{by_first, pairs_of, rows_at}
+use Rattle.mq_core.specs.Columns.{rows_at}
 use Rattle.mq_core.specs.Event.{Event, time_of, job_of}
 use Rattle.mq_core.specs.Event.Event.{Arrive}
 use Rattle.mq_core.specs.Laws.{is_arrival_at, stream_of, brought, read_by, by_time}
@@ -13,6 +13,7 @@ use Rattle.mq_core.specs.Results.{stream_from}
 use Rattle.mq_core.specs.Run.{run_length, starts, starts_from}
 use Rattle.mq_core.specs.StandardTable.{standard, run_of}
 use Rattle.mq_core.specs.OnTime.{standard-on_time}
+use Rattle.mq_core.specs.Streams.{by_first, pairs_of}
 use Rattle.mq_core.specs.Theorems.{arrivals_at, IsReadFor}
 use Rattle.mq_core.specs.Wiring.{outputs_read, is_source, is_source_kind}
 use Rattle.mq_core.specs.declared.model.Input.{Input}

@@ -1,8 +1,7 @@
-use Rattle.std.proofs.Common.{IfSome, List, [], ap, arith, length, map, refl, suc, sym, ℕ, ◌*◌, ◌++◌, ◌<◌, ◌∙◌, ◌∷◌, ◌≡◌, ◌≤◌}
+use Rattle.std.proofs.Common.{IfSome, List, [], ap, arith, length, map, refl, suc, sym, ℕ, ◌++◌, ◌<◌, ◌∙◌, ◌∷◌, ◌≡◌, ◌≤◌}
 use Rattle.std.proofs.lemmas.List.{length-map}
 use Rattle.std.specs.List.{AllByRecursion as Each, zip}
 use Rattle.mq_core.specs.ColumnLaws.{OrdersKeepItems, StreamsRise}
-use Rattle.mq_core.specs.Columns.{by_first, pairs_of, stream_by}
 use Rattle.mq_core.specs.Event.Event.{Arrive, Finish}
 use Rattle.mq_core.specs.KindTable.{behaviour_of}
 use Rattle.mq_core.specs.Laws.{Rises, stream_of}
@@ -12,6 +11,7 @@ use Rattle.mq_core.specs.Machine.{Emission, Table, Visit, emissions_at}
 use Rattle.mq_core.specs.OnTime.{standard-on_time}
 use Rattle.mq_core.specs.Run.{run_length, starts}
 use Rattle.mq_core.specs.StandardTable.{run_of, standard}
+use Rattle.mq_core.specs.Streams.{by_first, pairs_of, stream_by}
 use Rattle.mq_core.proofs.EachKind.Facts.{network-fits}
 use Rattle.mq_core.proofs.Events.Forward.{emissions-now}
 use Rattle.mq_core.proofs.Events.Kept.{Fact, Fits, Keeps, kept}

@@ -1,4 +1,4 @@
-use Rattle.mq_core.specs.Came.{Came, came_of}
+use Rattle.mq_core.specs.Came.{came_of}
 use Rattle.std.proofs.Common.{List, Some, [], ap, length, subst, suc, sym, zero, ℕ, ◌∙◌, ◌∷◌, ◌≡◌, ◌≤◌}
 use Rattle.std.proofs.lemmas.List.{length-map}
 use Rattle.std.specs.List.{AllByRecursion as Each, zip}

@@ -1,9 +1,9 @@
-use Rattle.mq_core.specs.Came.{Came, came_of}
+use Rattle.mq_core.specs.Came.{came_of}
 use Rattle.std.proofs.Common.{Bool, List, Some, [], ap, arith, cond, eqb, false, inl, inr, length, map, refl, suc, sym, true, zero, zero-add, ℕ, ◌<◌, ◌∙◌, ◌∷◌, ◌≡◌, ◌≤◌}
 use Rattle.std.specs.List.{zip}
 use Rattle.std.specs.Prelude.{slice_get}
 use Rattle.mq_core.specs.ColumnLaws.{NodesAreColumns, arrives_of, jobs_of}
-use Rattle.mq_core.specs.Columns.{by_first, column_fates, column_outs, column_stream, column_visits, founds_of, leaving_time, leaving_times, picked, stream_by, stream_in_order}
+use Rattle.mq_core.specs.Columns.{column_fates, column_outs, column_stream, column_visits, stream_in_order}
 use Rattle.mq_core.specs.Fates.{fate_by}
 use Rattle.mq_core.specs.KindTable.{behaviour_of}
 use Rattle.mq_core.specs.Laws.{Rises, in_order_of, stream_of}
@@ -11,9 +11,11 @@ use Rattle.mq_core.specs.Leaving.{Leaving, left_by}
 use Rattle.mq_core.specs.Leaving.Leaving.{InTurn, Mixed, Overtaking}
 use Rattle.mq_core.specs.Local.{Local}
 use Rattle.mq_core.specs.Machine.{Emission, Station, Visit}
+use Rattle.mq_core.specs.OnceOut.{founds_of, leaving_time, leaving_times}
 use Rattle.mq_core.specs.Results.{fates_from, stream_from, visits_of}
 use Rattle.mq_core.specs.Served.{flow_of, in_leaving_order}
 use Rattle.mq_core.specs.StandardTable.{run_of}
+use Rattle.mq_core.specs.Streams.{by_first, picked, stream_by}
 use Rattle.mq_core.specs.Tallies.{arrival_or, found_or, still_there}
 use Rattle.mq_core.specs.declared.model.Kind.{Kind}
 use Rattle.mq_core.specs.declared.model.Node.{Node}

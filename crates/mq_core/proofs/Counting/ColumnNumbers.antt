@@ -5,13 +5,13 @@ use Rattle.std.proofs.lemmas.List.Sums.{sum_by-append}
 use Rattle.std.specs.List.{AllByRecursion as Each}
 use Rattle.std.specs.Prelude.{count_by, filter, slice_get}
 use Rattle.mq_core.specs.ColumnLaws.{arrives_of, jobs_of}
-use Rattle.mq_core.specs.Columns.{departs_after, founds_from}
 use Rattle.mq_core.specs.Fates.{fate_by}
 use Rattle.mq_core.specs.KindTable.{behaviour_of}
 use Rattle.mq_core.specs.Laws.{Rises, in_order_of}
 use Rattle.mq_core.specs.Leaving.{Leaving, left_by}
 use Rattle.mq_core.specs.Leaving.Leaving.{InTurn, Mixed, Overtaking}
 use Rattle.mq_core.specs.Machine.{Emission, Visit}
+use Rattle.mq_core.specs.OnceOut.{departs_after, founds_from}
 use Rattle.mq_core.specs.Recurrences.{is_admitted, loss_fates, time_or_none}
 use Rattle.mq_core.specs.Results.{fates_from}
 use Rattle.mq_core.specs.Kinds.Delay.{delayed_from}

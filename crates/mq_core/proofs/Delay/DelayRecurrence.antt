@@ -33,5 +33,5 @@ delay-recurrence rows ports demand =
           departs-by limit (delayed came.arrive (asked rows came.job demand)) (delayed-by limit top came.arrive (asked rows came.job demand) (omega arith) early small);
       until = λ time position o. until-own time position o;
       finds = λ came. refl;
-      parts = λ came out. refl;
+      streams = λ came out. refl;
     }

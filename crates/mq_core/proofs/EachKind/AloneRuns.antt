@@ -15,7 +15,7 @@ use Rattle.mq_core.specs.declared.model.Plan.{Plan}
 use Rattle.mq_core.specs.declared.model.Rows.{Rows}
 use Rattle.mq_core.proofs.Events.Steps.{after-some, after-none, after-zero, handled-zero, handled-some, handled-none}
 use Rattle.mq_core.proofs.Events.Third.{eqb-swap}
-use Rattle.mq_core.proofs.Lists.Each.{Each-weaker, filter-all}
+use Rattle.mq_core.proofs.Lists.Each.{filter-all}
 use Rattle.mq_core.proofs.Events.Second.{alone-arrivals}
 use Rattle.mq_core.proofs.Events.Kept.{Begins, kept}
 use Rattle.mq_core.proofs.EachKind.Facts.{kind_fact, node_fact, standard-keeps_by}

@@ -3,12 +3,12 @@ use Rattle.mq_core.specs.Came.{Came, came_of}
 use Rattle.std.proofs.Common.{◌≡◌, ℕ, ◌+◌, ◌*◌, ◌^◌, ◌≤◌, true, List, Option, map, length}
 use Rattle.std.specs.List.{AllByRecursion as Each}
 use Rattle.mq_core.specs.Behaviour.{Behaviour}
-use Rattle.mq_core.specs.ColumnLaws.{FatesInTime, jobs_of, arrives_of}
+use Rattle.mq_core.specs.ColumnLaws.{FatesInTime, arrives_of}
 use Rattle.mq_core.specs.Columns.{time_of_fate}
 use Rattle.mq_core.specs.Laws.{Rises, in_order_of, stream_of}
 use Rattle.mq_core.specs.Leaving.Leaving.{Mixed}
 use Rattle.mq_core.specs.Machine.{Visit, Emission}
-use Rattle.mq_core.specs.Parts.{founds_of, once_out}
+use Rattle.mq_core.specs.OnceOut.{founds_of, once_out}
 use Rattle.mq_core.specs.PlanLaws.{Tells}
 use Rattle.mq_core.specs.Tallies.{one_if_later}
 use Rattle.mq_core.specs.declared.model.Network.{Network}
@@ -42,4 +42,4 @@ pub record RecurrenceLaws (rows : Rows) (ports : ℕ) (b : Behaviour) : Type 0 w
   -- what is found goes by the fates
   pub finds : (came : Came) → b.founds rows came ≡ founds_of came.arrive (b.fates rows came)
   -- what leaves by an output goes by the outputs
-  pub parts : (came : Came) (out : ℕ) → b.stream rows came out ≡ once_out b.order came (b.fates rows came) (b.outs rows came) out
+  pub streams : (came : Came) (out : ℕ) → b.stream rows came out ≡ once_out b.order came (b.fates rows came) (b.outs rows came) out

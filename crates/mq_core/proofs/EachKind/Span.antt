@@ -1,4 +1,4 @@
-use Rattle.std.proofs.Common.{List, None, Option, Some, [], ap, arith, eq-eqb, inl, inr, length, length-append, refl, subst, suc, sym, zero, ℕ, ◌*◌, ◌++◌, ◌<◌, ◌∙◌, ◌∷◌, ◌≡◌, ◌⊎◌}
+use Rattle.std.proofs.Common.{List, None, Option, Some, [], ap, arith, eq-eqb, inl, inr, length, length-append, refl, subst, suc, sym, zero, ℕ, ◌++◌, ◌<◌, ◌∙◌, ◌∷◌, ◌≡◌, ◌⊎◌}
 use Rattle.std.specs.List.{AllByRecursion as Each}
 use Rattle.std.specs.Prelude.{filter, slice_get}
 use Rattle.mq_core.specs.Event.{Event, earliest}

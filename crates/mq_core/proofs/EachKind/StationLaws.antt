@@ -39,4 +39,4 @@ pub record StationLaws (rows : Rows) (ports : ℕ) (b : Behaviour) (i : Inside) 
   -- so is what they found
   pub finds : (s : Station Local) → HasFlowed rows ports b i s → HasFound b s → map (λ (x : Visit). x.found) s.visits ≡ b.founds rows (came_of ports s.visits)
   -- and what leaves by each output
-  pub parts : (s : Station Local) (out : ℕ) → HasFlowed rows ports b i s → stream_from s out ≡ b.stream rows (came_of ports s.visits) out
+  pub streams : (s : Station Local) (out : ℕ) → HasFlowed rows ports b i s → stream_from s out ≡ b.stream rows (came_of ports s.visits) out

@@ -1,4 +1,4 @@
-use Rattle.std.proofs.Common.{List, None, Option, Some, [], length, ap, refl, ℕ, ◌∙◌, ◌*◌, ◌++◌, ◌<◌, ◌∷◌, ◌≡◌}
+use Rattle.std.proofs.Common.{List, None, Option, Some, [], length, ap, refl, ℕ, ◌∙◌, ◌++◌, ◌<◌, ◌∷◌, ◌≡◌}
 use Rattle.std.specs.Prelude.{slice_get}
 use Rattle.mq_core.specs.Event.{Event, earliest}
 use Rattle.mq_core.specs.Event.Event.{Arrive, Finish}
@@ -15,7 +15,7 @@ use Rattle.mq_core.specs.declared.model.Node.{Node}
 use Rattle.mq_core.specs.declared.model.Rows.{Rows}
 use Rattle.mq_core.proofs.EachKind.Ends.{inside-some}
 use Rattle.mq_core.proofs.EachKind.Facts.{node_fact, standard-keeps}
-use Rattle.mq_core.proofs.EachKind.LawTable.{laws_of, once_of, own_of}
+use Rattle.mq_core.proofs.EachKind.LawTable.{laws_of, own_of}
 use Rattle.mq_core.proofs.Events.Areas.{Areas, keeps-areas, sum-same}
 use Rattle.mq_core.proofs.Events.Founds.{Founds, keeps-founds}
 use Rattle.mq_core.proofs.Events.Kept.{kept}

@@ -35,5 +35,5 @@ fork_join-recurrence rows ports branches =
           (fork-by limit top (length came.arrive) came.arrive (branch_demands rows branches came.job) (omega arith) room (branches-few rows came.job branches few) early (branches-small rows came.job branches small));
       until = λ time position o. until-own time position o;
       finds = λ came. refl;
-      parts = λ came out. refl;
+      streams = λ came out. refl;
     }

@@ -1,5 +1,5 @@
 -- Worked runs by the few steps after which nothing is pending.
-use Rattle.std.proofs.Common.{List, Option, [], slice_get, subst, sym, ℕ, ◌≡◌, ◌≤◌}
+use Rattle.std.proofs.Common.{Option, [], slice_get, subst, sym, ℕ, ◌≡◌, ◌≤◌}
 use Rattle.std.specs.List.{flat_map}
 use Rattle.mq_core.specs.Local.{Local}
 use Rattle.mq_core.specs.Machine.{State, after, opened}

@@ -10,7 +10,6 @@ use Rattle.mq_core.specs.NetworkRun.{past_in, run_in}
 use Rattle.mq_core.specs.Results.{exit_of, past_of, stream_from, totals_of}
 use Rattle.mq_core.specs.Sound.{is_sound}
 use Rattle.mq_core.specs.Kinds.Split.{output_at}
-use Rattle.mq_core.specs.Standard.{standard_handle, standard_jobs, standard_opening, standard_working}
 use Rattle.mq_core.specs.Wiring.{first_ready, has, port_reading, rank_in, ranked_after, ranking, reader_from}
 use Rattle.mq_core.specs.declared.model.Demand.TheVariants.{Column, Fixed}
 use Rattle.mq_core.specs.declared.model.Fate.TheVariants.{Departs}

@@ -47,5 +47,5 @@ loss-recurrence rows ports places demand =
           loss-by limit top top places [] came.arrive (asked rows came.job demand) (omega arith) (omega arith) (omega arith) early small;
       until = λ time position o. until-own time position o;
       finds = λ came. refl;
-      parts = λ came out. refl;
+      streams = λ came out. refl;
     }

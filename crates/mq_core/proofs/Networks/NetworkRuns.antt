@@ -1,4 +1,4 @@
-use Rattle.std.proofs.Common.{◌≡◌, ℕ, ◌*◌, List, length, ap, slice_get}
+use Rattle.std.proofs.Common.{◌≡◌, ℕ, List, ap, slice_get}
 use Rattle.std.specs.List.{flat_map}
 use Rattle.mq_core.specs.Local.{Local}
 use Rattle.mq_core.specs.Machine.{Table, after, opened}

@@ -26,5 +26,5 @@ split-recurrence rows ports route =
       bounded = λ net came limit top sound few told room early. departs-by limit came.arrive (by-later top limit came.arrive (omega arith) early);
       until = λ time position o. until-own time position o;
       finds = λ came. refl;
-      parts = λ came out. refl;
+      streams = λ came out. refl;
     }

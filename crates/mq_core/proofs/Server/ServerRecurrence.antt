@@ -32,5 +32,5 @@ server-recurrence rows ports demand =
           departs-by limit (lindley 0 came.arrive (asked rows came.job demand)) (lindley-by limit top top 0 came.arrive (asked rows came.job demand) (omega arith) (omega arith) (omega arith) early small);
       until = λ time position o. until-own time position o;
       finds = λ came. refl;
-      parts = λ came out. refl;
+      streams = λ came out. refl;
     }

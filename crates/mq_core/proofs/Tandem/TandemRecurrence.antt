@@ -54,5 +54,5 @@ tandem-recurrence rows ports stages =
       bounded = λ net came limit top sound few told room early. stages-by net rows stages came.job came.arrive limit top sound few told room early;
       until = λ time position o. until-own time position o;
       finds = λ came. refl;
-      parts = λ came out. refl;
+      streams = λ came out. refl;
     }

@@ -8,7 +8,7 @@ use Rattle.mq_core.specs.Emitting.{leaving_from}
 use Rattle.mq_core.specs.ForkJoinHandler.{busy_servers, fork_on, fork_opening, least_through}
 use Rattle.mq_core.specs.Handling.{demand_of_job}
 use Rattle.mq_core.specs.Machine.{Emission, Visit}
-use Rattle.mq_core.specs.Parts.{founds_of, once_out}
+use Rattle.mq_core.specs.OnceOut.{founds_of, once_out}
 use Rattle.mq_core.specs.Ranges.{columns_of_demand, is_sound_demand, is_within}
 use Rattle.mq_core.specs.Recurrences.{fork_departs}
 use Rattle.mq_core.specs.Tallies.{emission_at}

@@ -7,7 +7,7 @@ use Rattle.mq_core.specs.Leaving.Leaving.{Mixed}
 use Rattle.mq_core.specs.Local.{empty}
 use Rattle.mq_core.specs.LossHandler.{loss_on}
 use Rattle.mq_core.specs.Machine.{Emission, Visit}
-use Rattle.mq_core.specs.Parts.{founds_of, once_out}
+use Rattle.mq_core.specs.OnceOut.{founds_of, once_out}
 use Rattle.mq_core.specs.Ranges.{columns_of_demand, is_sound_demand, is_within}
 use Rattle.mq_core.specs.Recurrences.{loss_fates}
 use Rattle.mq_core.specs.Tallies.{emission_at}

@@ -9,7 +9,7 @@ use Rattle.mq_core.specs.Handling.{latest, passes_on, quiet}
 use Rattle.mq_core.specs.Leaving.Leaving.{InTurn}
 use Rattle.mq_core.specs.Local.{Local, empty}
 use Rattle.mq_core.specs.Machine.{Reaction, Visit}
-use Rattle.mq_core.specs.Parts.{founds_of, once_out}
+use Rattle.mq_core.specs.OnceOut.{founds_of, once_out}
 use Rattle.mq_core.specs.Tallies.{emission_at}
 use Rattle.mq_core.specs.declared.model.Fate.{Fate}
 use Rattle.mq_core.specs.declared.model.Fate.TheVariants.{Departs}

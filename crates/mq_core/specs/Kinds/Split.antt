@@ -10,7 +10,7 @@ use Rattle.mq_core.specs.Handling.{latest, passes_on, quiet, value_of}
 use Rattle.mq_core.specs.Leaving.Leaving.{InTurn}
 use Rattle.mq_core.specs.Local.{Local, empty}
 use Rattle.mq_core.specs.Machine.{Reaction, Visit}
-use Rattle.mq_core.specs.Parts.{founds_of, once_out}
+use Rattle.mq_core.specs.OnceOut.{founds_of, once_out}
 use Rattle.mq_core.specs.Ranges.{is_within, rises}
 use Rattle.mq_core.specs.Tallies.{emission_at}
 use Rattle.mq_core.specs.declared.model.Fate.{Fate}
@@ -59,7 +59,7 @@ columns_of_route (Modulo outputs column) = column ∷ []
 columns_of_route (Turn outputs) = []
 columns_of_route (Cut column thresholds) = column ∷ []
 
--- Outputs. The output by which each job leaves, the first at this position.
+-- the output by which each job leaves, the first at this position.
 abbrev pub routes_from : Rows → Route → ℕ → List ℕ → List ℕ
 routes_from rows route position [] = []
 routes_from rows route position (job ∷ jobs) = output_by rows route job position ∷ routes_from rows route (suc position) jobs

@@ -8,7 +8,7 @@ use Rattle.mq_core.specs.Handling.{demand_of_job, demand_of_stages}
 use Rattle.mq_core.specs.Leaving.Leaving.{InTurn}
 use Rattle.mq_core.specs.Local.{empty}
 use Rattle.mq_core.specs.Machine.{Emission, Visit}
-use Rattle.mq_core.specs.Parts.{founds_of, once_out}
+use Rattle.mq_core.specs.OnceOut.{founds_of, once_out}
 use Rattle.mq_core.specs.Ranges.{columns_of_demand, is_sound_demand, is_within}
 use Rattle.mq_core.specs.Recurrences.{tandem_departs}
 use Rattle.mq_core.specs.Tallies.{emission_at}
