@@ -11,3 +11,4 @@ pub mod ColumnTimes
 pub mod BareTimes
 pub mod ColumnFew
 pub mod NumberRuns
+pub mod OnceEach

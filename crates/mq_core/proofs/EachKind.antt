@@ -13,3 +13,4 @@ pub mod Plans
 pub mod Busy
 pub mod Peak
 pub mod Span
+pub mod StationLaws

@@ -12,3 +12,6 @@ pub mod Falls
 pub mod Areas
 pub mod EmissionsAt
 pub mod Founds
+pub mod Leavings
+pub mod Exits
+pub mod Settled

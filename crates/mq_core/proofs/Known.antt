@@ -1,4 +1,5 @@
 pub mod RecurrenceRows
+pub mod ShortRuns
 pub mod WorkedRows
 pub mod TandemRows
 pub mod ForkRows

@@ -1,10 +1,11 @@
-use Rattle.std.specs.Prelude.{true, ◌≡◌, ℕ, List, [], map, filter, slice_get, Some}
+use Rattle.std.specs.Prelude.{List, Some, [], filter, length, map, max, slice_get, true, ℕ, ◌<◌, ◌≡◌}
 use Rattle.std.specs.List.{AllByRecursion}
 use Rattle.mq_core.specs.Event.{Event, time_of, job_of}
 use Rattle.mq_core.specs.Machine.{Emission, Visit, after, opened}
-use Rattle.mq_core.specs.Laws.{NotBefore, Rises, is_arrival_at, alone}
+use Rattle.mq_core.specs.Laws.{NotBefore, Rises, alone, is_arrival_at, port_of}
 use Rattle.mq_core.specs.Served.{flow_of, in_leaving_order}
 use Rattle.mq_core.specs.StandardTable.{standard}
+use Rattle.mq_core.specs.Wiring.{inputs_of}
 use Rattle.mq_core.specs.declared.model.Node.{Node}
 use Rattle.mq_core.specs.declared.model.Plan.{Plan}
 use Rattle.mq_core.specs.declared.model.Rows.{Rows}
@@ -18,9 +19,11 @@ abbrev pub come_at : ℕ → List Event → List (ℕ × ℕ)
 come_at v events = map {B = ℕ × ℕ} (λ e. (time_of e, job_of e)) (filter (is_arrival_at v) events)
 
 -- these are arrivals at a node, by time, and at one time by port
-pub record IsLoad (v : ℕ) (arrivals : List Event) : Type 0 where
+pub record IsLoad (ports v : ℕ) (arrivals : List Event) : Type 0 where
   pub here : AllByRecursion (λ e. is_arrival_at v e ≡ true) arrivals
   pub ordered : Rises NotBefore arrivals
+  -- each by a port that the node has; one that has none takes them as by the first
+  pub fit : AllByRecursion (λ e. port_of e < max 1 ports) arrivals
 
 -- a run of a node alone gave these visits for its arrivals, and this was let out
 pub record LetsOut (visits : List Visit) (emitted : List Emission) (arrivals : List Event) (v : ℕ) (expected : List Emission) : Type 0 where
@@ -31,7 +34,7 @@ pub record LetsOut (visits : List Visit) (emitted : List Emission) (arrivals : L
 abbrev pub NodesFlowAlone : Type 0
 NodesFlowAlone =
     (plan : Plan) (rows : Rows) (v : ℕ) (node : Node) → slice_get plan.net.nodes v ≡ Some node →
-    (arrivals : List Event) → IsLoad v arrivals → (count : ℕ) →
+    (arrivals : List Event) → IsLoad (length (inputs_of plan.net.nodes v)) v arrivals → (count : ℕ) →
     let end = after count (alone (standard plan rows)) (opened (alone (standard plan rows)) arrivals) in
     end.pending ≡ [] →
-    LetsOut (end.stations v).visits (end.stations v).emitted arrivals v (in_leaving_order node.kind (flow_of rows node.kind (end.stations v).visits))
+    LetsOut (end.stations v).visits (end.stations v).emitted arrivals v (in_leaving_order node.kind (flow_of rows (length node.inputs) node.kind (end.stations v).visits))

@@ -1,11 +1,13 @@
 -- What a kind of node is: all that the other definitions ask of a kind.
-use Rattle.std.specs.Prelude.{Bool, List, ℕ}
+use Rattle.mq_core.specs.Came.{Came}
+use Rattle.std.specs.Prelude.{Bool, List, Option, ℕ}
 use Rattle.mq_core.specs.Event.{Event}
 use Rattle.mq_core.specs.Leaving.{Leaving}
 use Rattle.mq_core.specs.Local.{Local}
-use Rattle.mq_core.specs.Machine.{Emission, Reaction, Visit}
+use Rattle.mq_core.specs.Machine.{Emission, Reaction, Station, Visit}
 use Rattle.mq_core.specs.declared.model.Fate.{Fate}
 use Rattle.mq_core.specs.declared.model.Rows.{Rows}
+use Rattle.mq_core.specs.declared.model.Stream.{Stream}
 
 -- one value a kind: each word that goes by kind is one of its fields
 pub record Behaviour : Type 1 where
@@ -14,8 +16,8 @@ pub record Behaviour : Type 1 where
   pub starts : Bool
   -- what a node keeps at the start
   pub opening : Local
-  -- what it keeps after an event, lets out and schedules
-  pub on : Rows → List Visit → Local → ℕ → Event → Reaction Local
+  -- what it keeps after an event, lets out and schedules, at a node of so many ports
+  pub on : Rows → ℕ → List Visit → Local → ℕ → Event → Reaction Local
   -- the number of jobs in it
   pub jobs : List Visit → Local → ℕ
   -- the number of its working servers
@@ -42,10 +44,22 @@ pub record Behaviour : Type 1 where
   -- the service that a job asks for
   pub service : Rows → ℕ → ℕ
   -- the fates of jobs that come at these times
-  pub fates : Rows → List ℕ → List ℕ → List Fate
+  pub fates : Rows → Came → List Fate
   -- the outputs by which they leave
-  pub outs : Rows → List ℕ → List ℕ → List ℕ
-  -- what these visits let out, by position
-  pub flow : Rows → List Visit → List Emission
+  pub outs : Rows → Came → List ℕ
+  -- what these visits let out, by position, at a node of so many ports
+  pub flow : Rows → ℕ → List Visit → List Emission
   -- the order in which it lets out
   pub order : Leaving
+  -- how many jobs one event may let out at most
+  pub copies : ℕ
+  -- the emission with which the visit at a position leaves, once it has
+  pub exit : Station Local → ℕ → Option Emission
+  -- whether a visit that leaves with an emission is still there for one that comes at a time, at a position
+  pub there : ℕ → ℕ → Emission → Bool
+  -- visits may stay for good
+  pub keeps : Bool
+  -- what each arrival finds
+  pub founds : Rows → Came → List ℕ
+  -- what leaves by an output
+  pub stream : Rows → Came → ℕ → Stream

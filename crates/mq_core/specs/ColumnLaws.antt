@@ -1,12 +1,14 @@
+use Rattle.mq_core.specs.Came.{Came, came_of}
 use Rattle.std.specs.Prelude.{◌≡◌, ◌<◌, ◌≤◌, ⊤, ℕ, ◌+◌, false, List, ◌++◌, length, map, slice_get, Some}
 use Rattle.std.specs.List.{AllByRecursion, zip, flat_map}
-use Rattle.mq_core.specs.Columns.{IsStream, by_first, column_fates, column_visits, column_stream, pairs_of, rows_at, stream_in_order}
+use Rattle.mq_core.specs.Columns.{IsStream, column_fates, column_stream, column_visits, rows_at, stream_in_order}
 use Rattle.mq_core.specs.Laws.{Rises}
 use Rattle.mq_core.specs.Local.{Local}
 use Rattle.mq_core.specs.Machine.{Visit, Station, State}
 use Rattle.mq_core.specs.Results.{bare_time, visits_of, stream_from}
 use Rattle.mq_core.specs.Served.{flow_of, in_leaving_order}
 use Rattle.mq_core.specs.StandardTable.{run_of}
+use Rattle.mq_core.specs.Streams.{by_first, pairs_of}
 use Rattle.mq_core.specs.Theorems.{IsReadFor}
 use Rattle.mq_core.specs.Wiring.{is_source_kind}
 use Rattle.mq_core.specs.declared.model.Fate.{Fate}
@@ -25,7 +27,7 @@ abbrev pub NodesFlow : Type 0
 NodesFlow =
     (plan : Plan) (rows : Rows) → IsReadFor plan.net rows → (v : ℕ) (node : Node) → slice_get plan.net.nodes v ≡ Some node →
     let s = (run_of plan rows).stations v in
-    s.emitted ≡ in_leaving_order node.kind (flow_of rows node.kind s.visits)
+    s.emitted ≡ in_leaving_order node.kind (flow_of rows (length node.inputs) node.kind s.visits)
 
 -- the jobs of these visits, and when they came
 abbrev pub jobs_of : List Visit → List ℕ
@@ -35,14 +37,14 @@ abbrev pub arrives_of : List Visit → List ℕ
 arrives_of visits = map (λ (x : Visit). x.arrive) visits
 
 -- the visits and the streams of a node are the columns that its jobs and their times of arrival give
-pub record IsInColumns (rows : Rows) (kind : Kind) (s : Station Local) : Type 0 where
-  pub visits : visits_of kind s ≡ column_visits rows kind (jobs_of s.visits) (arrives_of s.visits)
-  pub stream : (out : ℕ) → stream_from s out ≡ column_stream rows kind (jobs_of s.visits) (arrives_of s.visits) out
+pub record IsInColumns (rows : Rows) (ports : ℕ) (kind : Kind) (s : Station Local) : Type 0 where
+  pub visits : visits_of kind s ≡ column_visits rows kind (came_of ports s.visits)
+  pub stream : (out : ℕ) → stream_from s out ≡ column_stream rows kind (came_of ports s.visits) out
 
 abbrev pub NodesAreColumns : Type 0
 NodesAreColumns =
     (plan : Plan) (rows : Rows) → IsReadFor plan.net rows → (v : ℕ) (node : Node) → slice_get plan.net.nodes v ≡ Some node →
-    IsInColumns rows node.kind ((run_of plan rows).stations v)
+    IsInColumns rows (length node.inputs) node.kind ((run_of plan rows).stations v)
 
 -- the arrivals at a node by time: the rows of a source in file order, or what the ports of another read, port after port
 pub record IsMerged (rows : Rows) (v : ℕ) (node : Node) (end : State Local) : Type 0 where
@@ -97,7 +99,7 @@ pub record FatesInTime (arrive : List ℕ) (fate : List Fate) : Type 0 where
 
 -- the fates of jobs that come to a node at these times
 abbrev pub FatesAreInTime : Type 0
-FatesAreInTime = (rows : Rows) (kind : Kind) (job arrive : List ℕ) → length job ≡ length arrive → FatesInTime arrive (column_fates rows kind job arrive)
+FatesAreInTime = (rows : Rows) (kind : Kind) (came : Came) → length came.job ≡ length came.arrive → FatesInTime came.arrive (column_fates rows kind came)
 
 -- the columns have one item a visit, and none departs before it came: item by item, and by position
 pub record IsInTime (visits : Visits) : Type 0 where

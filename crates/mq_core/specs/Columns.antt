@@ -1,16 +1,16 @@
 -- A run in columns: what the code keeps of it, one item a visit, by position.
-use Rattle.std.specs.List.{zip}
-use Rattle.std.specs.Prelude.{All, Bool, List, Some, [], count_by, false, fold, if◌then◌else◌, length, map, max, nat_lt, slice_index, suc, sum, zero, ℕ, ◌++◌, ◌+◌, ◌-◌, ◌==◌, ◌^◌, ◌∷◌, ◌≡◌, ◌≤◌}
+use Rattle.mq_core.specs.Came.{Came}
+use Rattle.std.specs.Prelude.{All, List, Some, [], count_by, fold, if◌then◌else◌, length, map, max, slice_index, suc, sum, zero, ℕ, ◌++◌, ◌+◌, ◌-◌, ◌==◌, ◌^◌, ◌∷◌, ◌≡◌, ◌≤◌}
 use Rattle.mq_core.specs.Fates.{service_time}
 use Rattle.mq_core.specs.KindTable.{behaviour_of}
-use Rattle.mq_core.specs.Laws.{Rises, in_order_of}
-use Rattle.mq_core.specs.Leaving.{Leaving}
-use Rattle.mq_core.specs.Leaving.Leaving.{InTurn, Mixed, Overtaking}
+use Rattle.mq_core.specs.Laws.{Rises}
 use Rattle.mq_core.specs.Local.{Local}
 use Rattle.mq_core.specs.Machine.{State}
+pub use Rattle.mq_core.specs.OnceOut.{departs_after, founds_from, founds_of, leaving_time, leaving_times}
 use Rattle.mq_core.specs.Results.{Late, Totals, bare_time, is_lost, late_fate, stream_from, visits_of}
 use Rattle.mq_core.specs.Sound.{outputs_in}
 use Rattle.mq_core.specs.StandardTable.{run_of}
+pub use Rattle.mq_core.specs.Streams.{by_first, pairs_of, picked, sorted, stream_by}
 use Rattle.mq_core.specs.declared.model.Fate.{Fate}
 use Rattle.mq_core.specs.declared.model.Fate.TheVariants.{Departs, Lost}
 use Rattle.mq_core.specs.declared.model.Kind.{Kind}
@@ -25,14 +25,6 @@ use Rattle.mq_core.specs.declared.model.Visits.{Visits}
 pub record IsStream (stream : Stream) : Type 0 where
   pub even : length stream.job ≡ length stream.time
   pub rising : Rises (λ a b. a ≤ b) stream.time
-
--- the time and the job of each item
-abbrev pub pairs_of : Stream → List (ℕ × ℕ)
-pairs_of stream = zip stream.time stream.job
-
--- these by time, those of one time in their order
-abbrev pub by_first : List (ℕ × ℕ) → List (ℕ × ℕ)
-by_first pairs = in_order_of (λ (p : ℕ × ℕ). p.0) pairs
 
 -- the rows of a source, in file order, from this job on
 abbrev pub rows_at : ℕ → ℕ → List ℕ → List ℕ → List (ℕ × ℕ)
@@ -49,83 +41,35 @@ pub record IsSoundLoad (times demands : List ℕ) : Type 0 where
   pub small : All (λ demand. demand ≤ 2 ^ 36) demands
 
 -- the fates of the visits of a node, which has these jobs at these times
-abbrev pub column_fates : Rows → Kind → List ℕ → List ℕ → List Fate
-column_fates rows kind job arrive = (behaviour_of kind).fates rows job arrive
-
--- it departs after this time
-abbrev pub departs_after : ℕ → Fate → Bool
-departs_after time (Departs departure) = nat_lt time departure
-departs_after time Lost = false
-
--- how many of the earlier visits, these first, depart after each arrival
-abbrev pub founds_from : List Fate → List ℕ → List Fate → List ℕ
-founds_from before [] fates = []
-founds_from before (arrive ∷ arrives) [] = []
-founds_from before (arrive ∷ arrives) (fate ∷ fates) =
-    count_by (departs_after arrive) before ∷ founds_from (before ++ fate ∷ []) arrives fates
-
--- what each visit found, from its arrival and the fates of those before it
-abbrev pub founds_of : List ℕ → List Fate → List ℕ
-founds_of arrive fate = founds_from [] arrive fate
+abbrev pub column_fates : Rows → Kind → Came → List Fate
+column_fates rows kind came = (behaviour_of kind).fates rows came
 
 -- the visits of a node, which has these jobs at these times
-abbrev pub column_visits : Rows → Kind → List ℕ → List ℕ → Visits
-column_visits rows kind job arrive =
-    let fate = column_fates rows kind job arrive in
-    record { job = job; arrive = arrive; found = founds_of arrive fate; fate = fate }
+abbrev pub column_visits : Rows → Kind → Came → Visits
+column_visits rows kind came =
+    let fate = column_fates rows kind came in
+    record { job = came.job; arrive = came.arrive; found = founds_of came.arrive fate; fate = fate }
 
 -- the output by which each job leaves a node of this kind, which has these jobs at these times
-abbrev pub column_outs : Rows → Kind → List ℕ → List ℕ → List ℕ
-column_outs rows kind job arrive = (behaviour_of kind).outs rows job arrive
-
--- the items, of these that stand beside their outputs, whose output is this one
-abbrev pub picked : ℕ → List ℕ → List ℕ → List ℕ
-picked out [] items = []
-picked out (o ∷ outs) [] = []
-picked out (o ∷ outs) (item ∷ items) = if o == out then item ∷ picked out outs items else picked out outs items
+abbrev pub column_outs : Rows → Kind → Came → List ℕ
+column_outs rows kind came = (behaviour_of kind).outs rows came
 
 -- the time of a departure; 0 for a lost visit, which has none
 abbrev pub time_of_fate : Fate → ℕ
 time_of_fate (Departs time) = time
 time_of_fate Lost = 0
 
--- when a visit leaves: as it departs, or as it came where it is lost
-abbrev pub leaving_time : ℕ → Fate → ℕ
-leaving_time arrive (Departs time) = time
-leaving_time arrive Lost = arrive
-
--- when each visit leaves
-abbrev pub leaving_times : List ℕ → List Fate → List ℕ
-leaving_times [] fates = []
-leaving_times (arrive ∷ arrives) [] = []
-leaving_times (arrive ∷ arrives) (fate ∷ fates) = leaving_time arrive fate ∷ leaving_times arrives fates
-
--- a stream by time, the items of one time in their order
-abbrev pub sorted : Stream → Stream
-sorted stream =
-    let pairs = by_first (pairs_of stream) in
-    record {
-      job = map (λ (p : ℕ × ℕ). p.1) pairs;
-      time = map (λ (p : ℕ × ℕ). p.0) pairs;
-    }
-
--- jobs and times by position, in the order in which they leave by an output
-abbrev pub stream_by : Leaving → Stream → Stream
-stream_by InTurn stream = stream
-stream_by Mixed stream = stream
-stream_by Overtaking stream = sorted stream
-
 -- jobs and times by position, in the order in which they leave: by time and then position at a delay, else by position
 abbrev pub stream_in_order : Kind → Stream → Stream
 stream_in_order kind stream = stream_by (behaviour_of kind).order stream
 
 -- what leaves a node by an output, where the node has these jobs at these times
-abbrev pub column_stream : Rows → Kind → List ℕ → List ℕ → ℕ → Stream
-column_stream rows kind job arrive out =
-    let outs = column_outs rows kind job arrive in
+abbrev pub column_stream : Rows → Kind → Came → ℕ → Stream
+column_stream rows kind came out =
+    let outs = column_outs rows kind came in
     stream_in_order kind (record {
-      job = picked out outs job;
-      time = picked out outs (leaving_times arrive (column_fates rows kind job arrive));
+      job = picked out outs came.job;
+      time = picked out outs (leaving_times came.arrive (column_fates rows kind came));
     })
 
 -- Totals. How long each visit waited, stayed and was served.

@@ -12,6 +12,9 @@ pub mod Ranges
 pub mod Told
 pub mod Emitting
 pub mod Leaving
+pub mod Came
+pub mod Streams
+pub mod OnceOut
 pub mod Behaviour
 pub mod Kinds
 pub mod KindTable

@@ -1,13 +1,13 @@
 -- The run of a network over rows, for whoever has a network and no plan.
-use Rattle.std.specs.Prelude.{◌≡◌, ◌*◌, length, slice_get, Option}
+use Rattle.std.specs.Prelude.{◌≡◌, length, slice_get, Option}
 use Rattle.std.specs.List.{flat_map}
 use Rattle.mq_core.specs.Machine.{Table, State, after, opened}
 use Rattle.mq_core.specs.Local.{Local}
 use Rattle.mq_core.specs.Results.{Late, first_of, late_at, past_of}
-use Rattle.mq_core.specs.Run.{starts}
+use Rattle.mq_core.specs.Run.{run_length, starts}
 use Rattle.mq_core.specs.Standard.{node_on, node_opening, node_jobs, node_working}
 use Rattle.mq_core.specs.StandardTable.{run_of}
-use Rattle.mq_core.specs.Wiring.{ranking, rank_in, reader_from}
+use Rattle.mq_core.specs.Wiring.{inputs_of, rank_in, ranking, reader_from}
 use Rattle.mq_core.specs.declared.model.Network.{Network}
 use Rattle.mq_core.specs.declared.model.Plan.{Plan}
 use Rattle.mq_core.specs.declared.model.Rows.{Rows}
@@ -22,11 +22,12 @@ network_table net rows =
       working = λ v visits local. node_working (slice_get net.nodes v) local;
       reader = reader_from 0 net.nodes;
       rank = rank_in (ranking net.nodes);
+      ports = λ v. length (inputs_of net.nodes v);
     }
 
--- the state after 9 steps for each node and row: enough that nothing is pending
+-- the state after the steps of a run: nothing is pending any more
 abbrev pub run_in : Network → Rows → State Local
-run_in net rows = after (9 * length net.nodes * length rows.time) (network_table net rows) (opened (network_table net rows) (starts rows))
+run_in net rows = after (run_length net.nodes rows) (network_table net rows) (opened (network_table net rows) (starts rows))
 
 -- the first departure after the bound, by rank of the node and then position
 abbrev pub past_in : Network → Rows → Option Late

@@ -65,23 +65,23 @@ fork-late : (rows : Rows) (demands : List (List Demand)) (visits : List Visit) (
 fork-late rows demands visits local now (Arrive t n q j) = each_branch-late now (λ server ds queues. goes_in rows visits now server ds queues (latest visits)) 0 demands local.branches (λ first ds queues. goes_in-late rows visits now first ds queues (latest visits))
 fork-late rows demands visits local now (Finish t n server position) = each_branch-late now (λ first ds queues. finishes_at rows visits now server first ds queues) 0 demands local.branches (λ first ds queues. finishes_at-late rows visits now server first ds queues)
 
-kind-late : (rows : Rows) (kind : Kind) (visits : List Visit) (local : Local) (now : ℕ) (event : Event) → Late now (kind_on rows kind visits local now event).services
-kind-late rows Source visits local now (Arrive t n q j) = tt
-kind-late rows Source visits local now (Finish t n q j) = tt
-kind-late rows (Server demand) visits local now (Arrive t n q j) = joins-late rows demand visits local now local.queue (latest visits)
-kind-late rows (Server demand) visits local now (Finish t n q j) = front_leaves-late rows demand visits local now local.queue
-kind-late rows (Delay demand) visits local now (Arrive t n q j) = (omega arith, tt)
-kind-late rows (Delay demand) visits local now (Finish t n q j) = tt
-kind-late rows (Loss places demand) visits local now (Arrive t n q j) = loss-late rows places demand visits local now (nat_lt (length local.queue) places)
-kind-late rows (Loss places demand) visits local now (Finish t n q j) = front_leaves-late rows demand visits local now local.queue
-kind-late rows (Tandem stages) visits local now event = tandem-late rows stages visits local now event
-kind-late rows (ForkJoin branches) visits local now event = fork-late rows branches visits local now event
-kind-late rows (Split route) visits local now (Arrive t n q j) = tt
-kind-late rows (Split route) visits local now (Finish t n q j) = tt
+kind-late : (rows : Rows) (ports : ℕ) (kind : Kind) (visits : List Visit) (local : Local) (now : ℕ) (event : Event) → Late now (kind_on rows ports kind visits local now event).services
+kind-late rows ports Source visits local now (Arrive t n q j) = tt
+kind-late rows ports Source visits local now (Finish t n q j) = tt
+kind-late rows ports (Server demand) visits local now (Arrive t n q j) = joins-late rows demand visits local now local.queue (latest visits)
+kind-late rows ports (Server demand) visits local now (Finish t n q j) = front_leaves-late rows demand visits local now local.queue
+kind-late rows ports (Delay demand) visits local now (Arrive t n q j) = (omega arith, tt)
+kind-late rows ports (Delay demand) visits local now (Finish t n q j) = tt
+kind-late rows ports (Loss places demand) visits local now (Arrive t n q j) = loss-late rows places demand visits local now (nat_lt (length local.queue) places)
+kind-late rows ports (Loss places demand) visits local now (Finish t n q j) = front_leaves-late rows demand visits local now local.queue
+kind-late rows ports (Tandem stages) visits local now event = tandem-late rows stages visits local now event
+kind-late rows ports (ForkJoin branches) visits local now event = fork-late rows branches visits local now event
+kind-late rows ports (Split route) visits local now (Arrive t n q j) = tt
+kind-late rows ports (Split route) visits local now (Finish t n q j) = tt
 
 node-late : (rows : Rows) (node : Option Node) (visits : List Visit) (local : Local) (now : ℕ) (event : Event) → Late now (node_on rows node visits local now event).services
 node-late rows None visits local now event = tt
-node-late rows (Some node) visits local now event = kind-late rows node.kind visits local now event
+node-late rows (Some node) visits local now event = kind-late rows (length node.inputs) node.kind visits local now event
 
 -- the standard handlers schedule nothing earlier than the clock
 pub standard-on_time : IsOnTime standard_handle

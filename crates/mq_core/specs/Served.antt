@@ -1,4 +1,4 @@
-use Rattle.std.specs.Prelude.{List}
+use Rattle.std.specs.Prelude.{List, ℕ}
 use Rattle.mq_core.specs.KindTable.{behaviour_of}
 use Rattle.mq_core.specs.Leaving.{left_by}
 use Rattle.mq_core.specs.Machine.{Emission, Visit}
@@ -6,8 +6,8 @@ use Rattle.mq_core.specs.declared.model.Kind.{Kind}
 use Rattle.mq_core.specs.declared.model.Rows.{Rows}
 
 -- what these visits let out at a node of each kind, by position
-abbrev pub flow_of : Rows → Kind → List Visit → List Emission
-flow_of rows kind visits = (behaviour_of kind).flow rows visits
+abbrev pub flow_of : Rows → ℕ → Kind → List Visit → List Emission
+flow_of rows ports kind visits = (behaviour_of kind).flow rows ports visits
 
 -- the order in which a node lets out: by time and then position at a delay or a loss station, else by position
 abbrev pub in_leaving_order : Kind → List Emission → List Emission

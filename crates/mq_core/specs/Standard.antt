@@ -1,4 +1,4 @@
-use Rattle.std.specs.Prelude.{List, None, Option, Some, slice_get, ℕ}
+use Rattle.std.specs.Prelude.{List, None, Option, Some, length, slice_get, ℕ}
 use Rattle.mq_core.specs.Event.{Event}
 use Rattle.mq_core.specs.Handling.{quiet}
 use Rattle.mq_core.specs.KindTable.{behaviour_of}
@@ -9,9 +9,9 @@ use Rattle.mq_core.specs.declared.model.Node.{Node}
 use Rattle.mq_core.specs.declared.model.Plan.{Plan}
 use Rattle.mq_core.specs.declared.model.Rows.{Rows}
 
--- what a node of a kind does at an event
-abbrev pub kind_on : Rows → Kind → List Visit → Local → ℕ → Event → Reaction Local
-kind_on rows kind visits local now event = (behaviour_of kind).on rows visits local now event
+-- what a node of a kind and so many ports does at an event
+abbrev pub kind_on : Rows → ℕ → Kind → List Visit → Local → ℕ → Event → Reaction Local
+kind_on rows ports kind visits local now event = (behaviour_of kind).on rows ports visits local now event
 
 -- what a node of each kind keeps at the start
 abbrev pub kind_opening : Kind → Local
@@ -28,7 +28,7 @@ working_in kind local = (behaviour_of kind).working local
 -- what a node does at an event; where there is none nothing happens
 abbrev pub node_on : Rows → Option Node → List Visit → Local → ℕ → Event → Reaction Local
 node_on rows None visits local now event = quiet local
-node_on rows (Some node) visits local now event = kind_on rows node.kind visits local now event
+node_on rows (Some node) visits local now event = kind_on rows (length node.inputs) node.kind visits local now event
 
 -- what a node keeps at the start; where there is none nothing is kept
 abbrev pub node_opening : Option Node → Local

@@ -1,11 +1,14 @@
 -- When jobs have departed at the latest from a node of each kind, and when they pass its outputs.
+use Rattle.mq_core.specs.Came.{Came}
 use Rattle.std.proofs.Common.{Bool, List, [], cond, eqb, false, length, true, ℕ, ◌*◌, ◌+◌, ◌^◌, ◌∷◌, ◌≡◌, ◌≤◌}
 use Rattle.std.specs.List.{AllByRecursion as Each}
 use Rattle.mq_core.specs.ColumnLaws.{KeepsItems}
-use Rattle.mq_core.specs.Columns.{column_fates, column_outs, column_stream, leaving_times, picked}
+use Rattle.mq_core.specs.Columns.{column_fates, column_outs, column_stream}
+use Rattle.mq_core.specs.OnceOut.{leaving_times}
 use Rattle.mq_core.specs.PlanLaws.{Tells}
 use Rattle.mq_core.specs.Results.{servers_in}
 use Rattle.mq_core.specs.Sound.{is_sound_kind}
+use Rattle.mq_core.specs.Streams.{picked}
 use Rattle.mq_core.specs.declared.model.Fate.{Fate}
 use Rattle.mq_core.specs.declared.model.Fate.TheVariants.{Departs, Lost}
 use Rattle.mq_core.specs.declared.model.Kind.{Kind}
@@ -16,9 +19,9 @@ use Rattle.mq_core.proofs.Bounded.BoundedStations.{AreBy, LeaveBy}
 use Rattle.mq_core.proofs.EachKind.LawTable.{recurrence_of}
 
 -- a node in its limits whose jobs come by a time: each job adds at most the demands of 8 servers
-pub fates-by : (net : Network) (rows : Rows) (kind : Kind) (jobs arrives : List ℕ) (limit top : ℕ) → is_sound_kind (length net.columns) kind ≡ true → servers_in kind ≤ 8 → Each (λ job. Tells net rows job) jobs → top + length arrives * 2 ^ 39 ≤ limit → AreBy top arrives →
-    LeaveBy limit (column_fates rows kind jobs arrives)
-fates-by net rows kind jobs arrives limit top sound few told room early = (recurrence_of rows kind).bounded net jobs arrives limit top sound few told room early
+pub fates-by : (net : Network) (rows : Rows) (kind : Kind) (came : Came) (limit top : ℕ) → is_sound_kind (length net.columns) kind ≡ true → servers_in kind ≤ 8 → Each (λ job. Tells net rows job) came.job → top + length came.arrive * 2 ^ 39 ≤ limit → AreBy top came.arrive →
+    LeaveBy limit (column_fates rows kind came)
+fates-by net rows kind came limit top sound few told room early = (recurrence_of rows came.ports kind).bounded net came limit top sound few told room early
 
 leaving-by : (limit : ℕ) (arrives : List ℕ) (fates : List Fate) → AreBy limit arrives → LeaveBy limit fates → AreBy limit (leaving_times arrives fates)
 leaving-by limit [] fates a f = tt
@@ -36,9 +39,9 @@ picked-by limit out (o ∷ outs) (time ∷ times) h = go (eqb o out) (picked-by 
     go false k = k
 
 -- what leaves by an output, a lost job as it came
-pub stream-by : (rows : Rows) (kind : Kind) (jobs arrives : List ℕ) (limit out : ℕ) → ((stream : Stream) → KeepsItems kind stream) → AreBy limit arrives → LeaveBy limit (column_fates rows kind jobs arrives) → AreBy limit (column_stream rows kind jobs arrives out).time
-stream-by rows kind jobs arrives limit out keeps a f =
-    let outs = column_outs rows kind jobs arrives in
-    let times = leaving_times arrives (column_fates rows kind jobs arrives) in
-    (keeps (record { job = picked out outs jobs; time = picked out outs times })).times limit
-    (picked-by limit out outs times (leaving-by limit arrives (column_fates rows kind jobs arrives) a f))
+pub stream-by : (rows : Rows) (kind : Kind) (came : Came) (limit out : ℕ) → ((stream : Stream) → KeepsItems kind stream) → AreBy limit came.arrive → LeaveBy limit (column_fates rows kind came) → AreBy limit (column_stream rows kind came out).time
+stream-by rows kind came limit out keeps a f =
+    let outs = column_outs rows kind came in
+    let times = leaving_times came.arrive (column_fates rows kind came) in
+    (keeps (record { job = picked out outs came.job; time = picked out outs times })).times limit
+    (picked-by limit out outs times (leaving-by limit came.arrive (column_fates rows kind came) a f))

@@ -1,4 +1,5 @@
 -- No departure of a run passes the latest that there may be, node by node in the order of ranks.
+use Rattle.mq_core.specs.Came.{came_of}
 use Rattle.std.proofs.Common.{◌≡◌, ◌⊎◌, inl, inr, ℕ, zero, suc, ◌+◌, ◌*◌, ◌^◌, ◌<◌, ◌≤◌, Bool, true, false, eqb, List, [], ◌∷◌, ◌++◌, length, take, Option, Some, None, sym, refl, ap, ◌∙◌, subst, arith, eqb-true, le-ltb, length-append}
 use Rattle.std.proofs.lemmas.Bool.{cases_lt}
 use Rattle.std.proofs.lemmas.List.{length-map}
@@ -7,7 +8,7 @@ use Rattle.std.specs.Option.{option_to_list}
 use Rattle.std.specs.Prelude.{◌||◌, slice_get}
 use Rattle.std.specs.List.{AllByRecursion as Each, zip}
 use Rattle.mq_core.specs.ColumnLaws.{ArrivalsAreStreams, JobsAreRows, NodesAreColumns, OrdersKeepItems, VisitsAreFew, arrives_of, jobs_of}
-use Rattle.mq_core.specs.Columns.{column_fates, column_late, column_late_from, pairs_of}
+use Rattle.mq_core.specs.Columns.{column_fates, column_late, column_late_from}
 use Rattle.mq_core.specs.Local.{Local}
 use Rattle.mq_core.specs.Machine.{Station, Visit}
 use Rattle.mq_core.specs.NetworkRun.{RunsAreOfNetworks}
@@ -15,6 +16,7 @@ use Rattle.mq_core.specs.NumberLaws.{IsOnTimeBelow, PastIsNone}
 use Rattle.mq_core.specs.PlanLaws.{NodesAreInLimits, OrdersRank, RowsTellDemands, Tells}
 use Rattle.mq_core.specs.Results.{first_of, stream_from}
 use Rattle.mq_core.specs.StandardTable.{run_of}
+use Rattle.mq_core.specs.Streams.{pairs_of}
 use Rattle.mq_core.specs.Theorems.{IsReadFor}
 use Rattle.mq_core.specs.Wiring.{first_ready, has, is_source_kind, outputs_read, ranked_after}
 use Rattle.mq_core.specs.declared.model.Fate.{Fate}
@@ -115,43 +117,43 @@ module _ (laws : RunLaws) (plan : Plan) (rows : Rows) (read : IsReadFor plan.net
   added = length rows.time * 2 ^ 39
 
   -- the jobs leave a node, and pass its outputs, by this time
-  record IsBy (v : ℕ) (kind : Kind) (limit : ℕ) : Type 0 where
-    fates : LeaveBy limit (column_fates rows kind (jobs_at v) (arrives_at v))
+  record IsBy (v : ℕ) (node : Node) (limit : ℕ) : Type 0 where
+    fates : LeaveBy limit (column_fates rows node.kind (came_of (length node.inputs) (station v).visits))
     streams : (out : ℕ) → AreBy limit (stream_from (station v) out).time
 
-  by-weaker : (v : ℕ) (kind : Kind) (limit later : ℕ) → limit ≤ later → IsBy v kind limit → IsBy v kind later
-  by-weaker v kind limit later l h =
+  by-weaker : (v : ℕ) (node : Node) (limit later : ℕ) → limit ≤ later → IsBy v node limit → IsBy v node later
+  by-weaker v node limit later l h =
       record {
-        fates = leave-later limit later l (column_fates rows kind (jobs_at v) (arrives_at v)) h.fates;
+        fates = leave-later limit later l (column_fates rows node.kind (came_of (length node.inputs) (station v).visits)) h.fates;
         streams = λ out. by-later limit later (stream_from (station v) out).time l (h.streams out);
       }
 
   -- where the jobs come to a node by a time
-  node-by : (v : ℕ) (node : Node) (limit top : ℕ) → slice_get plan.net.nodes v ≡ Some node → top + added ≤ limit → AreBy top (arrives_at v) → IsBy v node.kind limit
+  node-by : (v : ℕ) (node : Node) (limit top : ℕ) → slice_get plan.net.nodes v ≡ Some node → top + added ≤ limit → AreBy top (arrives_at v) → IsBy v node limit
   node-by v node limit top here room came =
       record {
         fates = fates;
         streams = λ out.
             subst (λ (s : Stream). AreBy limit s.time) (sym ((laws.columns plan rows read v node here).stream out))
-            (stream-by rows node.kind (jobs_at v) (arrives_at v) limit out (laws.keeps node.kind) (by-later top limit (arrives_at v) (omega arith) came) fates);
+            (stream-by rows node.kind (came_of (length node.inputs) (station v).visits) limit out (laws.keeps node.kind) (by-later top limit (arrives_at v) (omega arith) came) fates);
       }
     where
       told : Each (λ job. Tells plan.net rows job) (jobs_at v)
       told = each-weaker (λ job. job < length rows.time) (Tells plan.net rows) (λ job l. laws.demands plan.net rows read job (subst (λ n. job < n) read.times l)) (jobs_at v) (laws.jobs plan rows v)
 
-      fates : LeaveBy limit (column_fates rows node.kind (jobs_at v) (arrives_at v))
+      fates : LeaveBy limit (column_fates rows node.kind (came_of (length node.inputs) (station v).visits))
       fates =
           let sound = laws.limits plan v node here in
           let few = laws.few plan rows read v in
           let many = length-map (station v).visits (λ (x : Visit). x.arrive) in
-          fates-by plan.net rows node.kind (jobs_at v) (arrives_at v) limit top sound.kind sound.servers told (omega arith) came
+          fates-by plan.net rows node.kind (came_of (length node.inputs) (station v).visits) limit top sound.kind sound.servers told (omega arith) came
 
   even : (v : ℕ) → length (jobs_at v) ≡ length (arrives_at v)
   even v = length-map (station v).visits (λ (x : Visit). x.job) ∙ sym (length-map (station v).visits (λ (x : Visit). x.arrive))
 
   -- what the nodes of lower ranks let out, comes to a node of this rank
   arrives-by : (rank v : ℕ) (node : Node) (top : ℕ) → last ≤ top → slice_get plan.order rank ≡ Some v → slice_get plan.net.nodes v ≡ Some node →
-      ((r u : ℕ) (n : Node) → r < rank → slice_get plan.order r ≡ Some u → slice_get plan.net.nodes u ≡ Some n → IsBy u n.kind top) → AreBy top (arrives_at v)
+      ((r u : ℕ) (n : Node) → r < rank → slice_get plan.order r ≡ Some u → slice_get plan.net.nodes u ≡ Some n → IsBy u n top) → AreBy top (arrives_at v)
   arrives-by rank v node top l place here before = from-zip top (arrives_at v) (jobs_at v) (even v) (go (source-or-not node.kind))
     where
       read-by : (port : ℕ) (input : Input) → slice_get node.inputs port ≡ Some input → PairsBy top (pairs_of (stream_from (station input.node) input.out))
@@ -172,14 +174,14 @@ module _ (laws : RunLaws) (plan : Plan) (rows : Rows) (read : IsReadFor plan.net
 
   -- each of the first so many ranks adds what the jobs add at a node
   abbrev RanksBy : ℕ → Type 0
-  RanksBy rank = (r v : ℕ) (node : Node) → r < rank → slice_get plan.order r ≡ Some v → slice_get plan.net.nodes v ≡ Some node → IsBy v node.kind (last + rank * added)
+  RanksBy rank = (r v : ℕ) (node : Node) → r < rank → slice_get plan.order r ≡ Some v → slice_get plan.net.nodes v ≡ Some node → IsBy v node (last + rank * added)
 
   ranks-by : (rank : ℕ) → RanksBy rank
   ranks-by zero r v node l place here = absurd (omega arith)
   ranks-by (suc rank) r v node l place here = go (cases_lt r rank) (ranks-by rank)
     where
-      go : (r < rank) ⊎ (rank ≤ r) → RanksBy rank → IsBy v node.kind (last + suc rank * added)
-      go (inl k) before = by-weaker v node.kind (last + rank * added) (last + suc rank * added) (omega arith) (before r v node k place here)
+      go : (r < rank) ⊎ (rank ≤ r) → RanksBy rank → IsBy v node (last + suc rank * added)
+      go (inl k) before = by-weaker v node (last + rank * added) (last + suc rank * added) (omega arith) (before r v node k place here)
       go (inr k) before =
           let same : r ≡ rank = omega arith in
           node-by v node (last + suc rank * added) (last + rank * added) here (omega arith)
@@ -191,9 +193,9 @@ module _ (laws : RunLaws) (plan : Plan) (rows : Rows) (read : IsReadFor plan.net
   on-time : last + length plan.net.nodes * added ≤ plan.net.bound → IsOnTimeBelow plan rows (length plan.order)
   on-time room r v node l place here =
       let few = wide (length plan.order) (length plan.net.nodes) added (order-few plan) in
-      let by = by-weaker v node.kind (last + length plan.order * added) plan.net.bound (omega arith) (ranks-by (length plan.order) r v node l place here) in
+      let by = by-weaker v node (last + length plan.order * added) plan.net.bound (omega arith) (ranks-by (length plan.order) r v node l place here) in
       ap (λ visits. first_of (column_late plan.net.bound v visits)) (laws.columns plan rows read v node here).visits
-      ∙ none-late plan.net.bound v 0 (column_fates rows node.kind (jobs_at v) (arrives_at v)) by.fates
+      ∙ none-late plan.net.bound v 0 (column_fates rows node.kind (came_of (length node.inputs) (station v).visits)) by.fates
 
 pub departures-bounded : RunLaws → DeparturesAreBounded
 departures-bounded laws plan rows last read early room =

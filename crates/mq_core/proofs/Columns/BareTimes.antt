@@ -1,4 +1,5 @@
 -- Each visit that departs stays at least the bare time of its job: it leaves no earlier than from a delay of that time.
+use Rattle.mq_core.specs.Came.{Came, came_of}
 use Rattle.std.proofs.Common.{List, Some, [], ap, length, subst, suc, sym, zero, ℕ, ◌+◌, ◌∙◌, ◌∷◌, ◌≡◌, ◌≤◌}
 use Rattle.std.proofs.lemmas.List.{length-map}
 use Rattle.std.specs.Prelude.{slice_get}
@@ -17,8 +18,8 @@ use Rattle.mq_core.proofs.Columns.ColumnsEqual.{nodes-are-columns}
 use Rattle.mq_core.proofs.Counting.Stays.{FatesStay}
 use Rattle.mq_core.proofs.EachKind.LawTable.{recurrence_of}
 
-stay-by-kind : (rows : Rows) (kind : Kind) (job arrive : List ℕ) → length job ≡ length arrive → FatesStay (bare_time rows kind) job arrive (column_fates rows kind job arrive)
-stay-by-kind rows kind = (recurrence_of rows kind).stays
+stay-by-kind : (rows : Rows) (kind : Kind) (came : Came) → length came.job ≡ length came.arrive → FatesStay (bare_time rows kind) came.job came.arrive (column_fates rows kind came)
+stay-by-kind rows kind came = (recurrence_of rows came.ports kind).stays came
 
 by-position : (bare : ℕ → ℕ) (job arrive : List ℕ) (fate : List Fate) → FatesStay bare job arrive fate →
     (k j a t : ℕ) → slice_get job k ≡ Some j → slice_get arrive k ≡ Some a → slice_get fate k ≡ Some (Departs t) → a + bare j ≤ t
@@ -32,7 +33,7 @@ by-position bare (x ∷ xs) (y ∷ ys) (z ∷ zs) h (suc k) j a t e f g = by-pos
 pub visits-stay-bare_time : VisitsStayBareTime
 visits-stay-bare_time plan rows read v node e =
     let s = (run_of plan rows).stations v in
-    let same : column_fates rows node.kind (jobs_of s.visits) (arrives_of s.visits) ≡ fates_from node.kind s.emitted 0 s.visits = sym (ap (λ (x : Visits). x.fate) (nodes-are-columns plan rows read v node e).visits) in
+    let same : column_fates rows node.kind (came_of (length node.inputs) s.visits) ≡ fates_from node.kind s.emitted 0 s.visits = sym (ap (λ (x : Visits). x.fate) (nodes-are-columns plan rows read v node e).visits) in
     let long : length (jobs_of s.visits) ≡ length (arrives_of s.visits) = length-map s.visits (λ (x : Visit). x.job) ∙ sym (length-map s.visits (λ (x : Visit). x.arrive)) in
     by-position (bare_time rows node.kind) (jobs_of s.visits) (arrives_of s.visits) (fates_from node.kind s.emitted 0 s.visits)
-    (subst (FatesStay (bare_time rows node.kind) (jobs_of s.visits) (arrives_of s.visits)) same (stay-by-kind rows node.kind (jobs_of s.visits) (arrives_of s.visits) long))
+    (subst (FatesStay (bare_time rows node.kind) (jobs_of s.visits) (arrives_of s.visits)) same (stay-by-kind rows node.kind (came_of (length node.inputs) s.visits) long))

@@ -7,7 +7,7 @@ use Rattle.mq_core.specs.Event.Event.{Arrive, Finish}
 use Rattle.mq_core.specs.Local.{Local}
 use Rattle.mq_core.specs.Machine.{Station, Visit, emissions_of}
 use Rattle.mq_core.specs.OnTime.{standard-on_time}
-use Rattle.mq_core.specs.Run.{starts}
+use Rattle.mq_core.specs.Run.{run_length, starts}
 use Rattle.mq_core.specs.Standard.{node_jobs, node_on, node_opening, standard_handle, standard_jobs, standard_opening}
 use Rattle.mq_core.specs.StandardTable.{run_of, standard}
 use Rattle.mq_core.specs.Tallies.{sum_below}
@@ -20,23 +20,23 @@ use Rattle.mq_core.proofs.Columns.ColumnMerges.{visits-nowhere}
 use Rattle.mq_core.proofs.Columns.ColumnsEqual.{some-inside}
 use Rattle.mq_core.proofs.EachKind.Ends.{source-inside, starts-inside, starts-weight, sum_below-zero}
 use Rattle.mq_core.proofs.EachKind.Facts.{node_fact, standard-keeps}
-use Rattle.mq_core.proofs.EachKind.LawTable.{laws_of}
+use Rattle.mq_core.proofs.EachKind.LawTable.{once_of}
 use Rattle.mq_core.proofs.Events.Falls.{Falls, never-grows-from_start}
 use Rattle.mq_core.proofs.Events.Kept.{Fact}
-use Rattle.mq_core.proofs.Networks.Whole.{starts-arrive}
+use Rattle.mq_core.proofs.Networks.Whole.{starts-begin}
 use Rattle.mq_core.proofs.Networks.Wired.{feeds_forward, has_inputs, reads-from}
 
 -- an arrival brings one job in, which stays or is let out
 node-arrives-few : (rows : Rows) (o : Option Node) (s : Station Local) (fs : List Event) (x : Visit) (now port v : ℕ) → x.arrive ≡ now → node_fact rows o v s fs now →
     node_jobs o (s.visits ++ x ∷ []) (node_on rows o (s.visits ++ x ∷ []) s.local now (Arrive now v port x.job)).local + length (emissions_of now (s.visits ++ x ∷ []) (node_on rows o (s.visits ++ x ∷ []) s.local now (Arrive now v port x.job)).releases) ≤ node_jobs o s.visits s.local + 1
 node-arrives-few rows None s fs x now port v at fact = omega arith
-node-arrives-few rows (Some node) s fs x now port v at fact = (laws_of rows node.kind).enters v port s fs now x at fact
+node-arrives-few rows (Some node) s fs x now port v at fact = (once_of rows (length node.inputs) node.kind).enters v port s fs now x at fact
 
 -- a finish lets out no more jobs than it takes from those inside
 node-ends-few : (rows : Rows) (o : Option Node) (rank : ℕ → ℕ) (v server position : ℕ) (s : Station Local) (fs rest : List Event) (now : ℕ) → node_fact rows o v s fs now → earliest rank fs ≡ Some (Finish now v server position, rest) →
     node_jobs o s.visits (node_on rows o s.visits s.local now (Finish now v server position)).local + length (emissions_of now s.visits (node_on rows o s.visits s.local now (Finish now v server position)).releases) ≤ node_jobs o s.visits s.local
 node-ends-few rows None rank v server position s fs rest now h first = omega arith
-node-ends-few rows (Some node) rank v server position s fs rest now h first = (laws_of rows node.kind).leaves rank v server position s fs rest now first h
+node-ends-few rows (Some node) rank v server position s fs rest now h first = (once_of rows (length node.inputs) node.kind).leaves rank v server position s fs rest now first h
 
 -- one where a test passes
 abbrev one_if : Bool → ℕ
@@ -105,7 +105,7 @@ module _ (plan : Plan) (rows : Rows) (read : IsReadFor plan.net rows) (v : ℕ) 
         follows = λ n out l. follow n out (reader_from 0 plan.net.nodes n out) refl (feeds_forward plan (standard plan rows) refl refl n out);
         waits = λ u elapsed s. refl;
         arrives = λ u port job s fs now l f.
-            let x : Visit = record { job = job; arrive = now; found = standard_jobs plan rows u s.visits s.local } in
+            let x : Visit = record { job = job; arrive = now; port = port; found = standard_jobs plan rows u s.visits s.local } in
             arrive-few (before u) (eqb u v) (ltb (rank u) (suc (rank v))) (lower (rank u) (rank v)) (λ c. same (rank u) (rank v) (ap rank (eqb-true u v c))) _ _ _ (length s.visits) _
             (node-arrives-few rows (slice_get plan.net.nodes u) s fs x now port u refl f) (push s.visits x);
         ends = λ u server position s fs rest now l f first.
@@ -130,10 +130,10 @@ module _ (plan : Plan) (rows : Rows) (read : IsReadFor plan.net rows) (v : ℕ) 
   visits-inside l =
       let end = run_of plan rows in
       let grown =
-      never-grows-from_start (standard plan rows) fact (standard-keeps plan rows (reader_from 0 plan.net.nodes)) (standard-on_time plan rows) (feeds_forward plan (standard plan rows) refl refl) 0 size weight onward load few
-      (starts rows) (starts-arrive 0 rows.source rows.time)
+      never-grows-from_start (standard plan rows) fact (standard-keeps plan rows (reader_from 0 plan.net.nodes) refl) (standard-on_time plan rows) (feeds_forward plan (standard plan rows) refl refl) 0 size weight onward load few
+      (starts rows) (starts-begin (standard plan rows) 0 rows.source rows.time)
       (starts-inside size 0 rows.source rows.time (λ k source e. source-inside plan.net.nodes source (read.sources k source e)))
-      (9 * length plan.net.nodes * length rows.time) in
+      (run_length plan.net.nodes rows) in
       let a = starts-weight weight 1 (λ u. at-most (ltb (rank u) (suc (rank v)))) 0 rows.source rows.time in
       let b = sum_below-zero size (λ u. load u (record { local = node_opening (slice_get plan.net.nodes u); visits = []; emitted = []; area = 0; busy = 0; peak = 0 })) (λ u. opening (before u) (eqb u v) (slice_get plan.net.nodes u)) in
       let c = sum_below-least size v (λ u. load u (end.stations u)) l in
@@ -148,7 +148,7 @@ module _ (plan : Plan) (rows : Rows) (read : IsReadFor plan.net rows) (v : ℕ) 
       opening false true o = omega arith
       opening false false o = refl
       opening true c None = refl
-      opening true c (Some node) = (laws_of rows node.kind).vacant
+      opening true c (Some node) = (once_of rows (length node.inputs) node.kind).vacant
 
       own : (r u jobs number : ℕ) → cond (ltb r r) jobs (cond (eqb u u) number 0) ≡ number
       own r u jobs number = rw (eq-eqb u u refl, not-below r) refl

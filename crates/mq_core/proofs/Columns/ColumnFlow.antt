@@ -1,4 +1,4 @@
-use Rattle.std.proofs.Common.{List, Some, [], ap, arith, cond, eq-eqb, eqb, false, subst, suc, sym, zero, ℕ, ◌+◌, ◌∙◌, ◌∷◌, ◌≡◌}
+use Rattle.std.proofs.Common.{List, Some, [], ap, arith, cond, eq-eqb, eqb, false, length, subst, suc, sym, zero, ℕ, ◌+◌, ◌∙◌, ◌∷◌, ◌≡◌}
 use Rattle.std.specs.Prelude.{slice_get}
 use Rattle.mq_core.specs.ColumnLaws.{NodesFlow}
 use Rattle.mq_core.specs.Machine.{Emission, Visit}
@@ -22,10 +22,10 @@ use Rattle.mq_core.proofs.Events.EmissionsAt.{neq-eqb}
 pub nodes-flow : NodesFlow
 nodes-flow plan rows read v node e =
     let end = run_of plan rows in
-    kind-flow rows node.kind v (end.stations v) end.clock (subst (λ o. node_fact rows o v (end.stations v) [] end.clock) e (end-fact plan rows read v))
+    kind-flow rows (length node.inputs) node.kind v (end.stations v) end.clock (subst (λ o. node_fact rows o v (end.stations v) [] end.clock) e (end-fact plan rows read v))
 
-pub flow-leaves : (rows : Rows) (kind : Kind) (visits : List Visit) → EachLeaves kind (flow_of rows kind visits) visits
-flow-leaves rows kind = (recurrence_of rows kind).leaves
+pub flow-leaves : (rows : Rows) (ports : ℕ) (kind : Kind) (visits : List Visit) → EachLeaves kind (flow_of rows ports kind visits) visits
+flow-leaves rows ports kind = (recurrence_of rows ports kind).leaves
 
 -- the same of the visit and the emission of a position
 leaves-at : (kind : Kind) (k : ℕ) (ms : List Emission) (xs : List Visit) → Numbered k ms xs → EachLeaves kind ms xs → (i : ℕ) (x : Visit) (m : Emission) → slice_get xs i ≡ Some x → emission_at ms (k + i) ≡ Some m → LeavesAs kind m x
@@ -46,9 +46,9 @@ leaves-at kind k (o ∷ ms) (y ∷ ys) n h (suc i) x m e f =
 pub node-leaves : (plan : Plan) (rows : Rows) → IsReadFor plan.net rows → (v : ℕ) (node : Node) → slice_get plan.net.nodes v ≡ Some node → (i : ℕ) (x : Visit) (m : Emission) → slice_get ((run_of plan rows).stations v).visits i ≡ Some x → emission_at ((run_of plan rows).stations v).emitted i ≡ Some m → LeavesAs node.kind m x
 node-leaves plan rows read v node here i x m e f =
     let visits = ((run_of plan rows).stations v).visits in
-    let numbered = flow-numbered rows node.kind visits in
+    let numbered = flow-numbered rows (length node.inputs) node.kind visits in
     let place : 0 + i ≡ i = omega arith in
-    let found : emission_at (flow_of rows node.kind visits) (0 + i) ≡ Some m =
-    ap (emission_at (flow_of rows node.kind visits)) place
-    ∙ (sym (order-found node.kind 0 (flow_of rows node.kind visits) visits numbered i) ∙ (ap (λ l. emission_at l i) (sym (nodes-flow plan rows read v node here)) ∙ f)) in
-    leaves-at node.kind 0 (flow_of rows node.kind visits) visits numbered (flow-leaves rows node.kind visits) i x m e found
+    let found : emission_at (flow_of rows (length node.inputs) node.kind visits) (0 + i) ≡ Some m =
+    ap (emission_at (flow_of rows (length node.inputs) node.kind visits)) place
+    ∙ (sym (order-found node.kind 0 (flow_of rows (length node.inputs) node.kind visits) visits numbered i) ∙ (ap (λ l. emission_at l i) (sym (nodes-flow plan rows read v node here)) ∙ f)) in
+    leaves-at node.kind 0 (flow_of rows (length node.inputs) node.kind visits) visits numbered (flow-leaves rows (length node.inputs) node.kind visits) i x m e found

@@ -1,4 +1,4 @@
-use Rattle.std.proofs.Common.{◌≡◌, ℕ, zero, suc, ◌+◌, ◌*◌, ◌<◌, ◌≤◌, Bool, true, false, eqb, List, [], ◌∷◌, ◌++◌, length, Option, Some, None, sym, refl, subst, arith}
+use Rattle.std.proofs.Common.{◌≡◌, ℕ, zero, suc, ◌+◌, ◌<◌, ◌≤◌, Bool, true, false, eqb, List, [], ◌∷◌, ◌++◌, length, Option, Some, None, sym, refl, subst, arith}
 use Rattle.std.specs.Prelude.{slice_get}
 use Rattle.std.specs.List.{AllByRecursion as Each}
 use Rattle.mq_base.proofs.Lists.{some_inj}
@@ -6,7 +6,7 @@ use Rattle.mq_core.specs.ColumnLaws.{JobsAreRows}
 use Rattle.mq_core.specs.Event.{Event, time_of, node_of, earliest}
 use Rattle.mq_core.specs.Event.Event.{Arrive, Finish}
 use Rattle.mq_core.specs.Machine.{Visit, Emission, Release, Service, Table, State, Station, after, happens, caused, arrivals_of, arrival_of, emission_of, emissions_of, emissions_at, reaction, visits_after, until, opened}
-use Rattle.mq_core.specs.Run.{starts, starts_from}
+use Rattle.mq_core.specs.Run.{run_length, starts, starts_from}
 use Rattle.mq_core.specs.StandardTable.{standard, run_of}
 use Rattle.mq_core.proofs.Lists.Each.{Each-append, Each-front, Each-back, Each-any, Each-map, Each-flat_map}
 use Rattle.mq_core.proofs.Events.Pending.{earliest-splits}
@@ -90,5 +90,5 @@ starts-below n job (s ∷ ss) (t ∷ ts) l = (omega arith, starts-below n (suc j
 
 pub jobs-are-rows : JobsAreRows
 jobs-are-rows plan rows v =
-    let h = below-after (standard plan rows) (length rows.time) (9 * length plan.net.nodes * length rows.time) (opened (standard plan rows) (starts rows)) (record { pending = starts-below (length rows.time) 0 rows.source rows.time (omega arith); visits = λ u. tt }) in
+    let h = below-after (standard plan rows) (length rows.time) (run_length plan.net.nodes rows) (opened (standard plan rows) (starts rows)) (record { pending = starts-below (length rows.time) 0 rows.source rows.time (omega arith); visits = λ u. tt }) in
     Each-map _ _ (λ (x : Visit). x.job) (λ x l. l) ((run_of plan rows).stations v).visits (h.visits v)

@@ -1,18 +1,19 @@
 use Rattle.std.proofs.Common.{◌≡◌, ℕ, suc, Bool, true, false, cond, eqb, List, [], ◌∷◌, ◌++◌, map, length, Option, Some, None, sym, refl, ap, ◌∙◌}
 use Rattle.std.proofs.lemmas.List.{map-append, length-map}
-use Rattle.std.specs.Prelude.{filter, slice_get, ◌*◌}
+use Rattle.std.specs.Prelude.{filter, slice_get}
 use Rattle.std.specs.List.{zip, flat_map}
 use Rattle.mq_core.specs.ColumnLaws.{ArrivalsAreStreams, MergesTwice, jobs_of, arrives_of}
-use Rattle.mq_core.specs.Columns.{by_first, pairs_of, rows_at}
+use Rattle.mq_core.specs.Columns.{rows_at}
 use Rattle.mq_core.specs.Event.{Event, time_of, job_of}
 use Rattle.mq_core.specs.Event.Event.{Arrive}
 use Rattle.mq_core.specs.Laws.{is_arrival_at, stream_of, brought, read_by, by_time}
 use Rattle.mq_core.specs.Local.{Local}
 use Rattle.mq_core.specs.Machine.{Visit, Emission, State, opened}
 use Rattle.mq_core.specs.Results.{stream_from}
-use Rattle.mq_core.specs.Run.{starts, starts_from}
+use Rattle.mq_core.specs.Run.{run_length, starts, starts_from}
 use Rattle.mq_core.specs.StandardTable.{standard, run_of}
 use Rattle.mq_core.specs.OnTime.{standard-on_time}
+use Rattle.mq_core.specs.Streams.{by_first, pairs_of}
 use Rattle.mq_core.specs.Theorems.{arrivals_at, IsReadFor}
 use Rattle.mq_core.specs.Wiring.{outputs_read, is_source, is_source_kind}
 use Rattle.mq_core.specs.declared.model.Input.{Input}
@@ -66,7 +67,7 @@ read-pairs end v port (i ∷ is) =
 pub visits-read : (plan : Plan) (rows : Rows) → IsReadFor plan.net rows → (v : ℕ) → map visit_pair ((run_of plan rows).stations v).visits ≡ map event_pair (arrivals_at plan rows (run_of plan rows) v)
 visits-read plan rows read v =
     let t = standard plan rows in
-    let count = 9 * length plan.net.nodes * length rows.time in
+    let count = run_length plan.net.nodes rows in
     visits-handled t v count (opened t (starts rows))
     ∙ ap (map event_pair) (arrivals-read plan rows t (standard-on_time plan rows) refl refl count v read (nothing-pending plan rows read))
 

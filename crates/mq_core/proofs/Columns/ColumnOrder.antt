@@ -1,8 +1,7 @@
-use Rattle.std.proofs.Common.{List, [], ap, arith, length, map, refl, suc, sym, ℕ, ◌*◌, ◌++◌, ◌<◌, ◌∙◌, ◌∷◌, ◌≡◌, ◌≤◌}
+use Rattle.std.proofs.Common.{IfSome, List, [], ap, arith, length, map, refl, suc, sym, ℕ, ◌++◌, ◌<◌, ◌∙◌, ◌∷◌, ◌≡◌, ◌≤◌}
 use Rattle.std.proofs.lemmas.List.{length-map}
 use Rattle.std.specs.List.{AllByRecursion as Each, zip}
 use Rattle.mq_core.specs.ColumnLaws.{OrdersKeepItems, StreamsRise}
-use Rattle.mq_core.specs.Columns.{by_first, pairs_of, stream_by}
 use Rattle.mq_core.specs.Event.Event.{Arrive, Finish}
 use Rattle.mq_core.specs.KindTable.{behaviour_of}
 use Rattle.mq_core.specs.Laws.{Rises, stream_of}
@@ -10,14 +9,16 @@ use Rattle.mq_core.specs.Leaving.{Leaving}
 use Rattle.mq_core.specs.Leaving.Leaving.{InTurn, Mixed, Overtaking}
 use Rattle.mq_core.specs.Machine.{Emission, Table, Visit, emissions_at}
 use Rattle.mq_core.specs.OnTime.{standard-on_time}
-use Rattle.mq_core.specs.Run.{starts}
+use Rattle.mq_core.specs.Run.{run_length, starts}
 use Rattle.mq_core.specs.StandardTable.{run_of, standard}
+use Rattle.mq_core.specs.Streams.{by_first, pairs_of, stream_by}
+use Rattle.mq_core.proofs.EachKind.Facts.{network-fits}
 use Rattle.mq_core.proofs.Events.Forward.{emissions-now}
-use Rattle.mq_core.proofs.Events.Kept.{Fact, Keeps, kept}
+use Rattle.mq_core.proofs.Events.Kept.{Fact, Fits, Keeps, kept}
 use Rattle.mq_core.proofs.Events.Orders.{Each-order, in_order_of-length}
 use Rattle.mq_core.proofs.Events.Rising.{Rises-append, Rises-filter}
 use Rattle.mq_core.proofs.Lists.Each.{Each-append, Each-map, Each-weaker}
-use Rattle.mq_core.proofs.Networks.Whole.{starts-arrive}
+use Rattle.mq_core.proofs.Networks.Whole.{starts-begin}
 use Rattle.mq_core.proofs.Networks.Wired.{feeds_forward}
 
 -- a list whose keys never fall, and none of which is later than now
@@ -46,13 +47,14 @@ in_order-later key xs now later l h = record { rising = h.rising; past = Each-we
 abbrev Ordered : {L : Type 0} → Fact L
 Ordered v s fs now = InOrder (λ (x : Visit). x.arrive) s.visits now × InOrder (λ (m : Emission). m.time) s.emitted now
 
-keeps-order : {L : Type 0} (t : Table L) → Keeps t Ordered
-keeps-order t =
+keeps-order : {L : Type 0} (t : Table L) → ((n out : ℕ) → IfSome (t.reader n out) (λ to. Fits t to.0 to.1)) → Keeps t Ordered
+keeps-order t fits =
     record {
       opens = λ v. (record { rising = tt; past = tt }, record { rising = tt; past = tt });
       waits = λ v s fs now later h l f. (in_order-later _ s.visits now later l h.0, in_order-later _ s.emitted now later l h.1);
-      arrives = λ v port job s fs now h f. (
-        in_order-append (λ (x : Visit). x.arrive) s.visits (record { job = job; arrive = now; found = t.jobs v s.visits s.local } ∷ []) now (refl, tt) h.0,
+      fits = fits;
+      arrives = λ v port job s fs now h f fit. (
+        in_order-append (λ (x : Visit). x.arrive) s.visits (record { job = job; arrive = now; port = port; found = t.jobs v s.visits s.local } ∷ []) now (refl, tt) h.0,
         in_order-append (λ (m : Emission). m.time) s.emitted (emissions_at t s (Arrive now v port job)) now (emissions-now t s (Arrive now v port job)) h.1,
       );
       ends = λ v server position s fs rest now h first.
@@ -67,7 +69,7 @@ pub streams-rise : StreamsRise
 streams-rise plan rows v =
     let t = standard plan rows in
     let s = (run_of plan rows).stations v in
-    let h = kept t Ordered (keeps-order t) (standard-on_time plan rows) (feeds_forward plan t refl refl) (starts rows) (starts-arrive 0 rows.source rows.time) (9 * length plan.net.nodes * length rows.time) v in
+    let h = kept t Ordered (keeps-order t (network-fits plan rows)) (standard-on_time plan rows) (feeds_forward plan t refl refl) (starts rows) (starts-begin (standard plan rows) 0 rows.source rows.time) (run_length plan.net.nodes rows) v in
     record {
       arrivals = Rises-map _ s.visits h.0.rising;
       streams = λ out. record {

@@ -1,3 +1,4 @@
+use Rattle.mq_core.specs.Came.{came_of}
 use Rattle.std.proofs.Common.{List, Some, [], ap, length, subst, suc, sym, zero, ℕ, ◌∙◌, ◌∷◌, ◌≡◌, ◌≤◌}
 use Rattle.std.proofs.lemmas.List.{length-map}
 use Rattle.std.specs.List.{AllByRecursion as Each, zip}
@@ -15,7 +16,7 @@ use Rattle.mq_core.proofs.Columns.ColumnsEqual.{nodes-are-columns}
 use Rattle.mq_core.proofs.EachKind.LawTable.{recurrence_of}
 
 pub fates-in_time : FatesAreInTime
-fates-in_time rows kind = (recurrence_of rows kind).in_time
+fates-in_time rows kind came = (recurrence_of rows came.ports kind).in_time came
 
 by-position : (arrive : List ℕ) (fate : List Fate) → Each (λ (p : ℕ × Fate). LeavesFrom p.0 p.1) (zip arrive fate) → (k a d : ℕ) → slice_get arrive k ≡ Some a → slice_get fate k ≡ Some (Departs d) → a ≤ d
 by-position [] fate h k a d e f = absurd cc
@@ -27,9 +28,9 @@ by-position (x ∷ xs) (y ∷ ys) h (suc k) a d e f = by-position xs ys h.1 k a 
 pub departs-in-time : DepartsInTime
 departs-in-time plan rows read v node e =
     let s = (run_of plan rows).stations v in
-    let same : column_fates rows node.kind (jobs_of s.visits) (arrives_of s.visits) ≡ fates_from node.kind s.emitted 0 s.visits = sym (ap (λ (x : Visits). x.fate) (nodes-are-columns plan rows read v node e).visits) in
+    let same : column_fates rows node.kind (came_of (length node.inputs) s.visits) ≡ fates_from node.kind s.emitted 0 s.visits = sym (ap (λ (x : Visits). x.fate) (nodes-are-columns plan rows read v node e).visits) in
     let long : length (jobs_of s.visits) ≡ length (arrives_of s.visits) = length-map s.visits (λ (x : Visit). x.job) ∙ sym (length-map s.visits (λ (x : Visit). x.arrive)) in
-    let h = subst (FatesInTime (arrives_of s.visits)) same (fates-in_time rows node.kind (jobs_of s.visits) (arrives_of s.visits) long) in
+    let h = subst (FatesInTime (arrives_of s.visits)) same (fates-in_time rows node.kind (came_of (length node.inputs) s.visits) long) in
     record {
       jobs = long;
       founds = length-map s.visits (λ (x : Visit). x.found) ∙ sym (length-map s.visits (λ (x : Visit). x.arrive));

@@ -1,8 +1,9 @@
+use Rattle.mq_core.specs.Came.{came_of}
 use Rattle.std.proofs.Common.{Bool, List, Some, [], ap, arith, cond, eqb, false, inl, inr, length, map, refl, suc, sym, true, zero, zero-add, ℕ, ◌<◌, ◌∙◌, ◌∷◌, ◌≡◌, ◌≤◌}
 use Rattle.std.specs.List.{zip}
 use Rattle.std.specs.Prelude.{slice_get}
 use Rattle.mq_core.specs.ColumnLaws.{NodesAreColumns, arrives_of, jobs_of}
-use Rattle.mq_core.specs.Columns.{by_first, column_fates, column_outs, column_stream, column_visits, founds_of, leaving_time, leaving_times, picked, stream_by, stream_in_order}
+use Rattle.mq_core.specs.Columns.{column_fates, column_outs, column_stream, column_visits, stream_in_order}
 use Rattle.mq_core.specs.Fates.{fate_by}
 use Rattle.mq_core.specs.KindTable.{behaviour_of}
 use Rattle.mq_core.specs.Laws.{Rises, in_order_of, stream_of}
@@ -10,9 +11,11 @@ use Rattle.mq_core.specs.Leaving.{Leaving, left_by}
 use Rattle.mq_core.specs.Leaving.Leaving.{InTurn, Mixed, Overtaking}
 use Rattle.mq_core.specs.Local.{Local}
 use Rattle.mq_core.specs.Machine.{Emission, Station, Visit}
+use Rattle.mq_core.specs.OnceOut.{founds_of, leaving_time, leaving_times}
 use Rattle.mq_core.specs.Results.{fates_from, stream_from, visits_of}
 use Rattle.mq_core.specs.Served.{flow_of, in_leaving_order}
 use Rattle.mq_core.specs.StandardTable.{run_of}
+use Rattle.mq_core.specs.Streams.{by_first, picked, stream_by}
 use Rattle.mq_core.specs.Tallies.{arrival_or, found_or, still_there}
 use Rattle.mq_core.specs.declared.model.Kind.{Kind}
 use Rattle.mq_core.specs.declared.model.Node.{Node}
@@ -27,11 +30,11 @@ use Rattle.mq_core.proofs.EachKind.Tallied.{founds-are-counts}
 use Rattle.mq_core.proofs.Events.Orders.{filter-order, in_order_of-map}
 use Rattle.mq_core.proofs.Lists.Each.{Each-any}
 
-pub flow-fates : (rows : Rows) (kind : Kind) (visits : List Visit) → map (fate_by kind) (flow_of rows kind visits) ≡ column_fates rows kind (jobs_of visits) (arrives_of visits)
-flow-fates rows kind = (recurrence_of rows kind).fares
+pub flow-fates : (rows : Rows) (ports : ℕ) (kind : Kind) (visits : List Visit) → map (fate_by kind) (flow_of rows ports kind visits) ≡ column_fates rows kind (came_of ports visits)
+flow-fates rows ports kind = (recurrence_of rows ports kind).fares
 
-flow-outs : (rows : Rows) (kind : Kind) (visits : List Visit) → map (λ (m : Emission). m.out) (flow_of rows kind visits) ≡ column_outs rows kind (jobs_of visits) (arrives_of visits)
-flow-outs rows kind = (recurrence_of rows kind).goes
+flow-outs : (rows : Rows) (ports : ℕ) (kind : Kind) (visits : List Visit) → map (λ (m : Emission). m.out) (flow_of rows ports kind visits) ≡ column_outs rows kind (came_of ports visits)
+flow-outs rows ports kind = (recurrence_of rows ports kind).goes
 
 -- the emissions by an output are picked by their outputs
 picked-stream : (out : ℕ) (f : Emission → ℕ) (ms : List Emission) → map f (stream_of out ms) ≡ picked out (map (λ (m : Emission). m.out) ms) (map f ms)
@@ -54,18 +57,18 @@ leaves-times kind k (m ∷ ms) (x ∷ xs) n h = λ i. own h.0 i ∷ leaves-times
     own (inr e) = e.1 ∙ ap (leaving_time x.arrive) (sym e.0)
 
 -- a station that let out its flow stands in columns
-station-visits : (rows : Rows) (kind : Kind) (s : Station Local) → s.emitted ≡ in_leaving_order kind (flow_of rows kind s.visits) → Rises (λ a b. a ≤ b) (arrives_of s.visits) →
+pub station-visits : (rows : Rows) (ports : ℕ) (kind : Kind) (s : Station Local) → s.emitted ≡ in_leaving_order kind (flow_of rows ports kind s.visits) → Rises (λ a b. a ≤ b) (arrives_of s.visits) →
     ((j : ℕ) → j < length s.visits → found_or 0 (slice_get s.visits j) ≡ still_there (arrival_or 0 (slice_get s.visits j)) s.emitted j) →
-    visits_of kind s ≡ column_visits rows kind (jobs_of s.visits) (arrives_of s.visits)
-station-visits rows kind s flow rise found =
-    let numbered = flow-numbered rows kind s.visits in
-    let order = order-found kind 0 (flow_of rows kind s.visits) s.visits numbered in
-    let fates : fates_from kind s.emitted 0 s.visits ≡ column_fates rows kind (jobs_of s.visits) (arrives_of s.visits) =
-    ap (λ l. fates_from kind l 0 s.visits) flow ∙ (fates-numbered kind 0 (in_leaving_order kind (flow_of rows kind s.visits)) (flow_of rows kind s.visits) s.visits numbered (λ q l. order q) ∙ flow-fates rows kind s.visits) in
-    let founds : map (λ (x : Visit). x.found) s.visits ≡ founds_of (arrives_of s.visits) (column_fates rows kind (jobs_of s.visits) (arrives_of s.visits)) =
-    founds-numbered kind 0 0 (in_leaving_order kind (flow_of rows kind s.visits)) (flow_of rows kind s.visits) [] s.visits numbered (λ q l. order q) (flow-leaves rows kind s.visits) (Each-any _ (λ a. omega arith) (arrives_of s.visits), rise) (λ time l. refl)
+    visits_of kind s ≡ column_visits rows kind (came_of ports s.visits)
+station-visits rows ports kind s flow rise found =
+    let numbered = flow-numbered rows ports kind s.visits in
+    let order = order-found kind 0 (flow_of rows ports kind s.visits) s.visits numbered in
+    let fates : fates_from kind s.emitted 0 s.visits ≡ column_fates rows kind (came_of ports s.visits) =
+    ap (λ l. fates_from kind l 0 s.visits) flow ∙ (fates-numbered kind 0 (in_leaving_order kind (flow_of rows ports kind s.visits)) (flow_of rows ports kind s.visits) s.visits numbered (λ q l. order q) ∙ flow-fates rows ports kind s.visits) in
+    let founds : map (λ (x : Visit). x.found) s.visits ≡ founds_of (arrives_of s.visits) (column_fates rows kind (came_of ports s.visits)) =
+    founds-numbered kind 0 0 (in_leaving_order kind (flow_of rows ports kind s.visits)) (flow_of rows ports kind s.visits) [] s.visits numbered (λ q l. order q) (flow-leaves rows ports kind s.visits) (Each-any _ (λ a. omega arith) (arrives_of s.visits), rise) (λ time l. refl)
     (λ j l. found j l ∙ (λ i. still_there (arrival_or 0 (slice_get s.visits j)) (flow i) (sym (zero-add j) i)))
-    ∙ ap (founds_of (arrives_of s.visits)) (flow-fates rows kind s.visits) in
+    ∙ ap (founds_of (arrives_of s.visits)) (flow-fates rows ports kind s.visits) in
     λ i. record { job = jobs_of s.visits; arrive = arrives_of s.visits; found = founds i; fate = fates i }
 
 -- the jobs and the times of what leaves by an output
@@ -73,16 +76,16 @@ stream_in : ℕ → List Emission → Stream
 stream_in out ms = record { job = map (λ (m : Emission). m.job) (stream_of out ms); time = map (λ (m : Emission). m.time) (stream_of out ms) }
 
 -- the stream of the flow by position stands in columns
-flow-stream : (rows : Rows) (kind : Kind) (visits : List Visit) (out : ℕ) → stream_in out (flow_of rows kind visits) ≡ record { job = picked out (column_outs rows kind (jobs_of visits) (arrives_of visits)) (jobs_of visits); time = picked out (column_outs rows kind (jobs_of visits) (arrives_of visits)) (leaving_times (arrives_of visits) (column_fates rows kind (jobs_of visits) (arrives_of visits))) }
+flow-stream : (rows : Rows) (ports : ℕ) (kind : Kind) (visits : List Visit) (out : ℕ) → stream_in out (flow_of rows ports kind visits) ≡ record { job = picked out (column_outs rows kind (came_of ports visits)) (jobs_of visits); time = picked out (column_outs rows kind (came_of ports visits)) (leaving_times (arrives_of visits) (column_fates rows kind (came_of ports visits))) }
 unfolding stream_in
-flow-stream rows kind visits out =
-    let outs = flow-outs rows kind visits in
-    let jobs : map (λ (m : Emission). m.job) (stream_of out (flow_of rows kind visits)) ≡ picked out (column_outs rows kind (jobs_of visits) (arrives_of visits)) (jobs_of visits) =
-    picked-stream out (λ (m : Emission). m.job) (flow_of rows kind visits)
-    ∙ (λ i. picked out (outs i) (jobs-numbered 0 (flow_of rows kind visits) visits (flow-numbered rows kind visits) i)) in
-    let times : map (λ (m : Emission). m.time) (stream_of out (flow_of rows kind visits)) ≡ picked out (column_outs rows kind (jobs_of visits) (arrives_of visits)) (leaving_times (arrives_of visits) (column_fates rows kind (jobs_of visits) (arrives_of visits))) =
-    picked-stream out (λ (m : Emission). m.time) (flow_of rows kind visits)
-    ∙ (λ i. picked out (outs i) ((leaves-times kind 0 (flow_of rows kind visits) visits (flow-numbered rows kind visits) (flow-leaves rows kind visits) ∙ ap (leaving_times (arrives_of visits)) (flow-fates rows kind visits)) i)) in
+flow-stream rows ports kind visits out =
+    let outs = flow-outs rows ports kind visits in
+    let jobs : map (λ (m : Emission). m.job) (stream_of out (flow_of rows ports kind visits)) ≡ picked out (column_outs rows kind (came_of ports visits)) (jobs_of visits) =
+    picked-stream out (λ (m : Emission). m.job) (flow_of rows ports kind visits)
+    ∙ (λ i. picked out (outs i) (jobs-numbered 0 (flow_of rows ports kind visits) visits (flow-numbered rows ports kind visits) i)) in
+    let times : map (λ (m : Emission). m.time) (stream_of out (flow_of rows ports kind visits)) ≡ picked out (column_outs rows kind (came_of ports visits)) (leaving_times (arrives_of visits) (column_fates rows kind (came_of ports visits))) =
+    picked-stream out (λ (m : Emission). m.time) (flow_of rows ports kind visits)
+    ∙ (λ i. picked out (outs i) ((leaves-times kind 0 (flow_of rows ports kind visits) visits (flow-numbered rows ports kind visits) (flow-leaves rows ports kind visits) ∙ ap (leaving_times (arrives_of visits)) (flow-fates rows ports kind visits)) i)) in
     λ i. record { job = jobs i; time = times i }
 
 -- the time and the job of an emission
@@ -117,10 +120,10 @@ order-stream Overtaking ms out h =
     let times = ap (map (λ (m : Emission). m.time)) sorted ∙ (sym (pairs-part (λ (p : ℕ × ℕ). p.0) (λ (m : Emission). m.time) (λ m. refl) (in_order_of (λ (m : Emission). m.time) (stream_of out ms))) ∙ ap (map (λ (p : ℕ × ℕ). p.0)) pairs) in
     λ i. record { job = jobs i; time = times i }
 
-station-stream : (rows : Rows) (kind : Kind) (s : Station Local) (out : ℕ) → s.emitted ≡ in_leaving_order kind (flow_of rows kind s.visits) → Rises (λ a b. a ≤ b) (arrives_of s.visits) → stream_from s out ≡ column_stream rows kind (jobs_of s.visits) (arrives_of s.visits) out
+pub station-stream : (rows : Rows) (ports : ℕ) (kind : Kind) (s : Station Local) (out : ℕ) → s.emitted ≡ in_leaving_order kind (flow_of rows ports kind s.visits) → Rises (λ a b. a ≤ b) (arrives_of s.visits) → stream_from s out ≡ column_stream rows kind (came_of ports s.visits) out
 unfolding stream_in
-station-stream rows kind s out flow rise =
-    ap (stream_in out) flow ∙ (order-stream (behaviour_of kind).order (flow_of rows kind s.visits) out (λ mixed. (recurrence_of rows kind).stands mixed s.visits rise) ∙ ap (stream_in_order kind) (flow-stream rows kind s.visits out))
+station-stream rows ports kind s out flow rise =
+    ap (stream_in out) flow ∙ (order-stream (behaviour_of kind).order (flow_of rows ports kind s.visits) out (λ mixed. (recurrence_of rows ports kind).stands mixed s.visits rise) ∙ ap (stream_in_order kind) (flow-stream rows ports kind s.visits out))
 
 pub some-inside : (nodes : List Node) (v : ℕ) (node : Node) → slice_get nodes v ≡ Some node → v < length nodes
 some-inside [] v node h = absurd cc
@@ -132,6 +135,6 @@ nodes-are-columns plan rows read v node e =
     let flow = nodes-flow plan rows read v node e in
     let rise = (streams-rise plan rows v).arrivals in
     record {
-      visits = station-visits rows node.kind ((run_of plan rows).stations v) flow rise (founds-are-counts plan rows read v (some-inside plan.net.nodes v node e));
-      stream = λ out. station-stream rows node.kind ((run_of plan rows).stations v) out flow rise;
+      visits = station-visits rows (length node.inputs) node.kind ((run_of plan rows).stations v) flow rise (founds-are-counts plan rows read v (some-inside plan.net.nodes v node e));
+      stream = λ out. station-stream rows (length node.inputs) node.kind ((run_of plan rows).stations v) out flow rise;
     }

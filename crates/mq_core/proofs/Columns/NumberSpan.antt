@@ -1,4 +1,4 @@
-use Rattle.std.proofs.Common.{Bool, List, None, Option, Some, [], ap, arith, cond, false, filter, find, fold, inl, inr, le_antisymm, length, length-append, map, max, option_map, refl, slice_get, subst, suc, sym, true, zero, ℕ, ◌*◌, ◌++◌, ◌+◌, ◌<◌, ◌∙◌, ◌∷◌, ◌≡◌, ◌≤◌, ◌⊎◌}
+use Rattle.std.proofs.Common.{Bool, List, None, Option, Some, [], ap, arith, cond, false, filter, find, fold, inl, inr, le_antisymm, length, length-append, map, max, option_map, refl, slice_get, subst, suc, sym, true, zero, ℕ, ◌++◌, ◌+◌, ◌<◌, ◌∙◌, ◌∷◌, ◌≡◌, ◌≤◌, ◌⊎◌}
 use Rattle.std.proofs.lemmas.List.{append-nil}
 use Rattle.std.specs.List.{AllByRecursion as Each}
 use Rattle.mq_core.specs.Alone.{came}
@@ -12,7 +12,7 @@ use Rattle.mq_core.specs.Machine.{Emission, State, Station, Visit, emissions_of,
 use Rattle.mq_core.specs.NumberLaws.{SpanIsColumns}
 use Rattle.mq_core.specs.OnTime.{standard-on_time}
 use Rattle.mq_core.specs.Results.{fates_from, visits_of}
-use Rattle.mq_core.specs.Run.{starts}
+use Rattle.mq_core.specs.Run.{run_length, starts}
 use Rattle.mq_core.specs.Served.{flow_of}
 use Rattle.mq_core.specs.Standard.{node_on, standard_handle, standard_jobs, standard_opening}
 use Rattle.mq_core.specs.StandardTable.{run_of, standard}
@@ -28,6 +28,7 @@ use Rattle.mq_core.proofs.Columns.NumberFates.{LetOut, all-let_out, fates-cons}
 use Rattle.mq_core.proofs.Columns.NumberPast.{columns-of_node}
 use Rattle.mq_core.proofs.Columns.NumberTotals.{node-inside}
 use Rattle.mq_core.proofs.Counting.ColumnNumbers.{LeavesAs, order-own}
+use Rattle.mq_core.proofs.EachKind.Facts.{network-fits}
 use Rattle.mq_core.proofs.EachKind.Flows.{flow-numbered}
 use Rattle.mq_core.proofs.EachKind.AloneRuns.{visits-handled}
 use Rattle.mq_core.proofs.EachKind.Ends.{nothing-pending}
@@ -36,7 +37,7 @@ use Rattle.mq_core.proofs.EachKind.Span.{span-is_latest}
 use Rattle.mq_core.proofs.Events.Kept.{Keeps, kept}
 use Rattle.mq_core.proofs.Lists.Each.{Each-map}
 use Rattle.mq_core.proofs.Lists.NumberLists.{greatest-bounds, greatest-least}
-use Rattle.mq_core.proofs.Networks.Whole.{arrivals-read, starts-arrive}
+use Rattle.mq_core.proofs.Networks.Whole.{arrivals-read, starts-begin}
 use Rattle.mq_core.proofs.Networks.Wired.{feeds_forward}
 
 at-map : {X : Type 0} (f : X → ℕ) (xs : List X) (i : ℕ) (x : X) → slice_get xs i ≡ Some x → slice_get (map f xs) i ≡ Some (f x)
@@ -66,7 +67,7 @@ fate-at kind emitted k (suc i) (x ∷ xs) m out l e =
 
 -- a fate is no later than its emission
 early-fate : (rows : Rows) (kind : Kind) (now : ℕ) (m : Emission) → m.time ≤ now → time_of_fate (fate_by kind m) ≤ now
-early-fate rows kind = (recurrence_of rows kind).prompt
+early-fate rows kind = (recurrence_of rows 0 kind).prompt
 
 -- a number below the length is that of an item
 at-below : (xs : List Visit) (i : ℕ) → i < length xs → (x : Visit) × (slice_get xs i ≡ Some x)
@@ -100,13 +101,14 @@ module _ (plan : Plan) (rows : Rows) where
       record {
         opens = λ v none. refl;
         waits = λ v s fs now later h l f. h;
-        arrives = λ v port job s fs now h soon none. quiet-on (slice_get plan.net.nodes v) s.emitted (s.visits ++ record { job = job; arrive = now; found = standard_jobs plan rows v s.visits s.local } ∷ []) s.local now (Arrive now v port job) none (h none);
+        fits = network-fits plan rows;
+        arrives = λ v port job s fs now h soon fit none. quiet-on (slice_get plan.net.nodes v) s.emitted (s.visits ++ record { job = job; arrive = now; port = port; found = standard_jobs plan rows v s.visits s.local } ∷ []) s.local now (Arrive now v port job) none (h none);
         ends = λ v server position s fs rest now h first none. quiet-on (slice_get plan.net.nodes v) s.emitted s.visits s.local now (Finish now v server position) none (h none);
       }
 
   silent-end : (v : ℕ) → slice_get plan.net.nodes v ≡ None → ((run_of plan rows).stations v).emitted ≡ []
   silent-end v none =
-      kept (standard plan rows) Silent silent-keeps (standard-on_time plan rows) (feeds_forward plan (standard plan rows) refl refl) (starts rows) (starts-arrive 0 rows.source rows.time) (9 * length plan.net.nodes * length rows.time) v none
+      kept (standard plan rows) Silent silent-keeps (standard-on_time plan rows) (feeds_forward plan (standard plan rows) refl refl) (starts rows) (starts-begin (standard plan rows) 0 rows.source rows.time) (run_length plan.net.nodes rows) v none
 
 module _ (plan : Plan) (rows : Rows) (read : IsReadFor plan.net rows) where
   abbrev end : State Local
@@ -119,9 +121,9 @@ module _ (plan : Plan) (rows : Rows) (read : IsReadFor plan.net rows) where
   no-visits : (v : ℕ) → slice_get plan.net.nodes v ≡ None → (end.stations v).visits ≡ []
   no-visits v none =
       nothing-came (end.stations v).visits
-      (visits-handled (standard plan rows) v (9 * length plan.net.nodes * length rows.time) (opened (standard plan rows) (starts rows))
+      (visits-handled (standard plan rows) v (run_length plan.net.nodes rows) (opened (standard plan rows) (starts rows))
       ∙ ap (map {B = ℕ × ℕ} (λ e. (time_of e, job_of e)))
-      (arrivals-read plan rows (standard plan rows) (standard-on_time plan rows) refl refl (9 * length plan.net.nodes * length rows.time) v read (nothing-pending plan rows read)
+      (arrivals-read plan rows (standard plan rows) (standard-on_time plan rows) refl refl (run_length plan.net.nodes rows) v read (nothing-pending plan rows read)
       ∙ no-arrivals (slice_get plan.net.nodes v) none))
     where
       no-arrivals : (o : Option Node) → o ≡ None → by_time (cond (is_source o) (filter (is_arrival_at v) (starts rows)) (read_by (run_of plan rows) v 0 (outputs_read o))) ≡ []
@@ -143,7 +145,7 @@ module _ (plan : Plan) (rows : Rows) (read : IsReadFor plan.net rows) where
   leaves-within : (v : ℕ) (node : Node) (before after : List Emission) (m : Emission) → slice_get plan.net.nodes v ≡ Some node → (end.stations v).emitted ≡ before ++ m ∷ after → m.time ≤ column_span (visits_by_node end 0 plan.net.nodes)
   leaves-within v node before after m here inside =
       let flow = nodes-flow plan rows read v node here in
-      let own = order-own node.kind (flow_of rows node.kind (end.stations v).visits) (end.stations v).visits (flow-numbered rows node.kind (end.stations v).visits) before after m (sym flow ∙ inside) in
+      let own = order-own node.kind (flow_of rows (length node.inputs) node.kind (end.stations v).visits) (end.stations v).visits (flow-numbered rows (length node.inputs) node.kind (end.stations v).visits) before after m (sym flow ∙ inside) in
       let place : m.position ≡ 0 + m.position = omega arith in
       let found : emission_at (end.stations v).emitted (0 + m.position) ≡ Some m = ap (emission_at (end.stations v).emitted) (sym place) ∙ (ap (λ l. emission_at l m.position) flow ∙ own.0) in
       let size = own.1 in

@@ -5,13 +5,13 @@ use Rattle.std.proofs.lemmas.List.Sums.{sum_by-append}
 use Rattle.std.specs.List.{AllByRecursion as Each}
 use Rattle.std.specs.Prelude.{count_by, filter, slice_get}
 use Rattle.mq_core.specs.ColumnLaws.{arrives_of, jobs_of}
-use Rattle.mq_core.specs.Columns.{departs_after, founds_from}
 use Rattle.mq_core.specs.Fates.{fate_by}
 use Rattle.mq_core.specs.KindTable.{behaviour_of}
 use Rattle.mq_core.specs.Laws.{Rises, in_order_of}
 use Rattle.mq_core.specs.Leaving.{Leaving, left_by}
 use Rattle.mq_core.specs.Leaving.Leaving.{InTurn, Mixed, Overtaking}
 use Rattle.mq_core.specs.Machine.{Emission, Visit}
+use Rattle.mq_core.specs.OnceOut.{departs_after, founds_from}
 use Rattle.mq_core.specs.Recurrences.{is_admitted, loss_fates, time_or_none}
 use Rattle.mq_core.specs.Results.{fates_from}
 use Rattle.mq_core.specs.Kinds.Delay.{delayed_from}
@@ -167,12 +167,12 @@ order-own kind ms visits n before after m whole =
 abbrev pub FoundAs : ℕ → List Emission → List Emission → Type 0
 FoundAs k emitted ms = (q : ℕ) → k ≤ q → emission_at emitted q ≡ emission_at ms q
 
-found_as-next : (k : ℕ) (emitted ms : List Emission) (m : Emission) → m.position ≡ k → FoundAs k emitted (m ∷ ms) → FoundAs (suc k) emitted ms
+pub found_as-next : (k : ℕ) (emitted ms : List Emission) (m : Emission) → m.position ≡ k → FoundAs k emitted (m ∷ ms) → FoundAs (suc k) emitted ms
 found_as-next k emitted ms m at h q l =
     let no : eqb m.position q ≡ false = neq-eqb m.position q (λ e. omega arith) in
     h q (omega arith) ∙ ap (λ b. cond b (Some m) (emission_at ms q)) no
 
-found_as-here : (k : ℕ) (emitted ms : List Emission) (m : Emission) → m.position ≡ k → FoundAs k emitted (m ∷ ms) → emission_at emitted k ≡ Some m
+pub found_as-here : (k : ℕ) (emitted ms : List Emission) (m : Emission) → m.position ≡ k → FoundAs k emitted (m ∷ ms) → emission_at emitted k ≡ Some m
 found_as-here k emitted ms m at h = h k (omega arith) ∙ ap (λ b. cond b (Some m) (emission_at ms k)) (eq-eqb m.position k at)
 
 -- the fates of the visits are those of the emissions in turn

@@ -1,5 +1,5 @@
 -- The laws of the kind.
-use Rattle.std.proofs.Common.{[], ap, arith, eqb, inl, length, length-append, refl, suc, ◌*◌, ◌++◌, ◌+◌, ◌∷◌, ◌≡◌}
+use Rattle.std.proofs.Common.{[], ap, arith, eqb, inl, length, length-append, refl, suc, ℕ, ◌*◌, ◌++◌, ◌+◌, ◌∷◌, ◌≡◌}
 use Rattle.std.proofs.Math.Nat.{suc-mul}
 use Rattle.std.specs.Prelude.{filter, not, slice_get}
 use Rattle.mq_core.specs.Handling.{demand_of_visit, latest}
@@ -12,7 +12,7 @@ use Rattle.mq_core.proofs.Counting.Released.{emission-one, one-release, times-on
 use Rattle.mq_core.proofs.Counting.Services.{services-by, services-count}
 use Rattle.mq_core.proofs.Delay.DelayNumbers.{asked, delaying-busy_arrives, delaying-busy_ends, delaying-busy_waits, delaying-earlier, delaying-emits, delaying-fewer, delaying-number}
 use Rattle.mq_core.proofs.Delay.Delays.{Delaying, delaying-arrives, delaying-done, delaying-ends, delaying-opens, delaying-waits}
-use Rattle.mq_core.proofs.EachKind.KindLaws.{Inside, KindLaws, own_out}
+use Rattle.mq_core.proofs.EachKind.KindLaws.{Inside, KindLaws, OnceLaws, OwnLaws, own_out}
 use Rattle.mq_core.proofs.Events.Remaining.{remaining}
 
 -- what holds of it between two events
@@ -24,20 +24,15 @@ delay-inside rows demand =
       busy = λ s fs now. s.busy + remaining now fs ≡ asked rows demand s.visits;
     }
 
-pub delay-laws : (rows : Rows) (demand : Demand) → KindLaws rows (delay demand) (delay-inside rows demand)
-delay-laws rows demand =
+pub delay-laws : (rows : Rows) (ports : ℕ) (demand : Demand) → KindLaws rows ports (delay demand) (delay-inside rows demand)
+delay-laws rows ports demand =
     record {
-      opens = λ columns v sound. delaying-opens rows demand v;
+      opens = λ columns v sound many. delaying-opens rows demand v;
       waits = λ v s area busy fs now later l h. delaying-waits rows demand v s.visits s.local.scheduled s.emitted fs now later l h;
-      arrives = λ peak v port s fs now x at soon h. delaying-arrives rows demand v s.visits s.local.scheduled s.emitted fs now x at soon h;
+      arrives = λ peak v port s fs now x at by fit soon h. delaying-arrives rows demand v s.visits s.local.scheduled s.emitted fs now x at soon h;
       ends = λ peak rank v server position s fs rest now first h. delaying-ends rows demand rank v server position s.visits s.local.scheduled s.emitted fs rest now first h;
       flow = λ v s now h. (delaying-done rows demand v s.visits _ s.emitted now h).1;
       number = λ v s fs now h. delaying-number rows demand v s.visits s.local.scheduled s.emitted fs now h;
-      empty = λ v s now h. ap length (delaying-done rows demand v s.visits _ s.emitted _ h).0;
-      own = λ v port s now x q m e. absurd cc;
-      earlier = λ rank v server position s fs rest now first h q p m e l u.
-          let place : q ≡ position = one-release now 0 position q s.visits m e in
-          delaying-earlier rows demand v rank server position s.visits s.local.scheduled s.emitted fs rest now first h p (omega arith) u;
       shows = λ rank v server position s fs rest now first h. inl (_, [], delaying-emits rows demand v rank server position s.visits s.local.scheduled s.emitted fs rest now first h);
       weightless = λ onward. omega arith;
       adds = λ onward v port job s visits fs now f.
@@ -59,12 +54,31 @@ delay-laws rows demand =
           let each = services-by rows (Delay demand) s.visits (demand_of_visit rows demand) refl (λ x. refl) in
           let all = services-count rows (Delay demand) s.visits s.emitted (λ m. refl) in
           omega arith;
+    }
+
+-- each visit leaves with its own emission
+pub delay-own : (rows : Rows) (ports : ℕ) (demand : Demand) → OwnLaws rows ports (delay demand) (delay-inside rows demand)
+delay-own rows ports demand =
+    record {
+      exits = λ s p. refl;
+      own = λ v port s now x q m e. absurd cc;
+      earlier = λ rank v server position s fs rest now first h q p m e l u.
+          let place : q ≡ position = one-release now 0 position q s.visits m e in
+          delaying-earlier rows demand v rank server position s.visits s.local.scheduled s.emitted fs rest now first h p (omega arith) u;
+    }
+
+-- what it owes as it lets each visit out once
+pub delay-once : (rows : Rows) (ports : ℕ) (demand : Demand) → OnceLaws rows ports (delay demand) (delay-inside rows demand)
+delay-once rows ports demand =
+    record {
+      one = omega arith;
+      empty = λ v s now h. ap length (delaying-done rows demand v s.visits _ s.emitted _ h).0;
       enters = λ v port s fs now x at f. let a = length-append s.local.scheduled (latest (s.visits ++ x ∷ []) ∷ []) in omega arith;
       leaves = λ rank v server position s fs rest now first h.
           let less = delaying-fewer rows demand v rank server position s.visits s.local.scheduled s.emitted fs rest now first h in
           let out = emission-one now 0 position (slice_get s.visits position) in
           omega arith;
       vacant = omega arith;
-      raises = λ v port s fs now x at h f. inl (let r = length-append s.local.scheduled (latest (s.visits ++ x ∷ []) ∷ []) in omega arith, λ n. departing-whole (Delay demand) (λ m. refl) (own_out rows (delay demand) v port s now x) n);
+      raises = λ v port s fs now x at h f. inl (let r = length-append s.local.scheduled (latest (s.visits ++ x ∷ []) ∷ []) in omega arith, λ n. departing-whole (Delay demand) (λ m. refl) (own_out rows ports (delay demand) v port s now x) n);
       departs = λ v server position s now q m e. refl;
     }

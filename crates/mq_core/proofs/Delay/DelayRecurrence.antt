@@ -1,5 +1,5 @@
 -- The laws of the kind's recurrence.
-use Rattle.std.proofs.Common.{arith, map, refl}
+use Rattle.std.proofs.Common.{arith, map, refl, ℕ}
 use Rattle.mq_core.specs.Handling.{demand_of_job}
 use Rattle.mq_core.specs.Kinds.Delay.{delay}
 use Rattle.mq_core.specs.PlanLaws.{Tells}
@@ -14,10 +14,11 @@ use Rattle.mq_core.proofs.Counting.FlowColumns.{delay-outs, delayed-fates, depar
 use Rattle.mq_core.proofs.Counting.InTime.{when-delayed}
 use Rattle.mq_core.proofs.Counting.Stays.{stay-fates}
 use Rattle.mq_core.proofs.EachKind.RecurrenceLaws.{RecurrenceLaws}
+use Rattle.mq_core.proofs.Events.Exits.{until-own}
 use Rattle.mq_core.proofs.ForkJoin.ForkTimes.{at_least-refl}
 
-pub delay-recurrence : (rows : Rows) (demand : Demand) → RecurrenceLaws rows (delay demand)
-delay-recurrence rows demand =
+pub delay-recurrence : (rows : Rows) (ports : ℕ) (demand : Demand) → RecurrenceLaws rows ports (delay demand)
+delay-recurrence rows ports demand =
     record {
       numbered = λ visits. delayed-numbered rows demand 0 visits;
       leaves = λ visits. departing-leaves (Delay demand) (λ m. refl) _ visits;
@@ -25,9 +26,12 @@ delay-recurrence rows demand =
       goes = λ visits. delay-outs rows demand 0 visits;
       stands = λ mixed visits rise out. absurd cc;
       prompt = λ now m l. l;
-      in_time = λ job arrive e. when-delayed (demand_of_job rows demand) job arrive e;
-      stays = λ job arrive e. stay-fates (demand_of_job rows demand) job arrive _ (at_least-refl (delayed arrive (map (demand_of_job rows demand) job)));
-      bounded = λ net jobs arrives limit top sound few told room early.
-          let small = asked-small rows demand jobs (each-weaker _ _ (λ job (t : Tells net rows job). (t.demand demand sound).1) jobs told) in
-          departs-by limit (delayed arrives (asked rows jobs demand)) (delayed-by limit top arrives (asked rows jobs demand) (omega arith) early small);
+      in_time = λ came e. when-delayed (demand_of_job rows demand) came.job came.arrive e;
+      stays = λ came e. stay-fates (demand_of_job rows demand) came.job came.arrive _ (at_least-refl (delayed came.arrive (map (demand_of_job rows demand) came.job)));
+      bounded = λ net came limit top sound few told room early.
+          let small = asked-small rows demand came.job (each-weaker _ _ (λ job (t : Tells net rows job). (t.demand demand sound).1) came.job told) in
+          departs-by limit (delayed came.arrive (asked rows came.job demand)) (delayed-by limit top came.arrive (asked rows came.job demand) (omega arith) early small);
+      until = λ time position o. until-own time position o;
+      finds = λ came. refl;
+      streams = λ came out. refl;
     }

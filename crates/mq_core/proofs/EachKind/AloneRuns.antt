@@ -1,4 +1,4 @@
-use Rattle.std.proofs.Common.{◌≡◌, ℕ, zero, suc, Bool, true, false, cond, eqb, List, [], ◌∷◌, ◌++◌, map, Option, Some, None, sym, refl, ap, ◌∙◌, subst, append_assoc}
+use Rattle.std.proofs.Common.{Bool, List, None, Option, Some, [], ap, append_assoc, cond, eqb, eqb-true, false, length, map, max, refl, subst, suc, sym, true, zero, ℕ, ◌++◌, ◌<◌, ◌∙◌, ◌∷◌, ◌≡◌}
 use Rattle.std.proofs.lemmas.List.{append-nil, map-append}
 use Rattle.std.specs.Prelude.{filter, slice_get}
 use Rattle.std.specs.List.{AllByRecursion as Each}
@@ -6,18 +6,19 @@ use Rattle.mq_core.specs.Event.{Event, time_of, job_of, earliest}
 use Rattle.mq_core.specs.Event.Event.{Arrive, Finish}
 use Rattle.mq_core.specs.Machine.{Visit, Table, State, after, handled, happens, opened}
 use Rattle.mq_core.specs.Local.{Local}
-use Rattle.mq_core.specs.Laws.{is_arrival_at, is_finish_at, alone, IsFeedForward}
+use Rattle.mq_core.specs.Laws.{IsFeedForward, alone, is_arrival_at, is_finish_at, port_of}
 use Rattle.mq_core.specs.Alone.{IsLoad, came, come_at, NodesFlowAlone}
 use Rattle.mq_core.specs.StandardTable.{standard}
 use Rattle.mq_core.specs.OnTime.{standard-on_time}
+use Rattle.mq_core.specs.Wiring.{inputs_of}
 use Rattle.mq_core.specs.declared.model.Plan.{Plan}
 use Rattle.mq_core.specs.declared.model.Rows.{Rows}
 use Rattle.mq_core.proofs.Events.Steps.{after-some, after-none, after-zero, handled-zero, handled-some, handled-none}
 use Rattle.mq_core.proofs.Events.Third.{eqb-swap}
-use Rattle.mq_core.proofs.Lists.Each.{Each-weaker, filter-all}
+use Rattle.mq_core.proofs.Lists.Each.{filter-all}
 use Rattle.mq_core.proofs.Events.Second.{alone-arrivals}
-use Rattle.mq_core.proofs.Events.Kept.{kept}
-use Rattle.mq_core.proofs.EachKind.Facts.{kind_fact, node_fact, standard-keeps}
+use Rattle.mq_core.proofs.Events.Kept.{Begins, kept}
+use Rattle.mq_core.proofs.EachKind.Facts.{kind_fact, node_fact, standard-keeps_by}
 use Rattle.mq_core.proofs.EachKind.Flows.{kind-flow}
 
 -- an event appends a visit where it is an arrival at the node
@@ -58,29 +59,35 @@ lone-forward : {L : Type 0} (t : Table L) → IsFeedForward (alone t)
 lone-forward t n out = tt
 
 -- what holds of a node that runs alone
-pub lone-fact : (plan : Plan) (rows : Rows) (arrivals : List Event) → Each (λ e. (n : ℕ) → is_finish_at n e ≡ false) arrivals → (count v : ℕ) →
+pub lone-fact : (plan : Plan) (rows : Rows) (arrivals : List Event) → Each (Begins (alone (standard plan rows))) arrivals → (count v : ℕ) →
     node_fact rows (slice_get plan.net.nodes v) v ((after count (alone (standard plan rows)) (opened (alone (standard plan rows)) arrivals)).stations v)
     (filter (is_finish_at v) (after count (alone (standard plan rows)) (opened (alone (standard plan rows)) arrivals)).pending)
     (after count (alone (standard plan rows)) (opened (alone (standard plan rows)) arrivals)).clock
 lone-fact plan rows arrivals arrive count v =
-    kept (alone (standard plan rows)) (λ u. node_fact rows (slice_get plan.net.nodes u) u) (standard-keeps plan rows (λ _ _. None)) (standard-on_time plan rows) (lone-forward (standard plan rows)) arrivals arrive count v
+    kept (alone (standard plan rows)) (λ u. node_fact rows (slice_get plan.net.nodes u) u) (standard-keeps_by plan rows (λ _ _. None) (λ n out. tt)) (standard-on_time plan rows) (lone-forward (standard plan rows)) arrivals arrive count v
 
 not_finish : (v : ℕ) (e : Event) → is_arrival_at v e ≡ true → (n : ℕ) → is_finish_at n e ≡ false
 not_finish v (Arrive t n q j) h m = refl
 not_finish v (Finish t n q j) h m = absurd cc
 
+-- a load is arrivals at ports that there are
+begins : (plan : Plan) (rows : Rows) (v : ℕ) (es : List Event) → Each (λ e. is_arrival_at v e ≡ true) es → Each (λ e. port_of e < max 1 (length (inputs_of plan.net.nodes v))) es → Each (Begins (alone (standard plan rows))) es
+begins plan rows v [] h k = tt
+begins plan rows v (Arrive t n q j ∷ es) h k = ((λ m. refl, subst (λ u. q < max 1 (length (inputs_of plan.net.nodes u))) (sym (eqb-true n v h.0)) k.0), begins plan rows v es h.1 k.1)
+begins plan rows v (Finish t n q j ∷ es) h k = absurd (let c = h.0 in cc)
+
 -- the visits of a node that runs alone are its arrivals
-lone-visits : (plan : Plan) (rows : Rows) (v : ℕ) (arrivals : List Event) → IsLoad v arrivals → (count : ℕ) → (after count (alone (standard plan rows)) (opened (alone (standard plan rows)) arrivals)).pending ≡ [] → came ((after count (alone (standard plan rows)) (opened (alone (standard plan rows)) arrivals)).stations v).visits ≡ come_at v arrivals
+lone-visits : (plan : Plan) (rows : Rows) (v : ℕ) (arrivals : List Event) → IsLoad (length (inputs_of plan.net.nodes v)) v arrivals → (count : ℕ) → (after count (alone (standard plan rows)) (opened (alone (standard plan rows)) arrivals)).pending ≡ [] → came ((after count (alone (standard plan rows)) (opened (alone (standard plan rows)) arrivals)).stations v).visits ≡ come_at v arrivals
 lone-visits plan rows v arrivals load count done =
     visits-handled (alone (standard plan rows)) v count (opened (alone (standard plan rows)) arrivals)
     ∙ ap (map {B = ℕ × ℕ} (λ e. (time_of e, job_of e))) (alone-arrivals (standard plan rows) (standard-on_time plan rows) v arrivals load.here load.ordered count done ∙ sym (filter-all (is_arrival_at v) arrivals load.here))
 
 pub nodes-flow_alone : NodesFlowAlone
 nodes-flow_alone plan rows v node here arrivals load count done =
-    let fact = lone-fact plan rows arrivals (Each-weaker _ _ (not_finish v) arrivals load.here) count v in
+    let fact = lone-fact plan rows arrivals (begins plan rows v arrivals load.here load.fit) count v in
     let one = subst (λ o. node_fact rows o v (end.stations v) (filter (is_finish_at v) end.pending) end.clock) here fact in
-    let two = subst (λ l. kind_fact rows node.kind v (end.stations v) (filter (is_finish_at v) l) end.clock) done one in
-    record { visited = lone-visits plan rows v arrivals load count done; left = kind-flow rows node.kind v (end.stations v) end.clock two }
+    let two = subst (λ l. kind_fact rows (length node.inputs) node.kind v (end.stations v) (filter (is_finish_at v) l) end.clock) done one in
+    record { visited = lone-visits plan rows v arrivals load count done; left = kind-flow rows (length node.inputs) node.kind v (end.stations v) end.clock two }
   where
     end : State Local
     end = after count (alone (standard plan rows)) (opened (alone (standard plan rows)) arrivals)

@@ -1,5 +1,5 @@
-use Rattle.std.proofs.Common.{List, None, Option, Some, [], ap, arith, eqb, length, length-append, refl, subst, suc, sym, true, zero, ℕ, ◌*◌, ◌++◌, ◌+◌, ◌-◌, ◌<◌, ◌∙◌, ◌∷◌, ◌≡◌, ◌≤◌}
-use Rattle.std.proofs.Math.Nat.{mul-suc}
+use Rattle.std.proofs.Common.{List, None, Option, Some, [], ap, arith, eqb, length, length-append, refl, subst, suc, sym, true, zero, ℕ, ◌*◌, ◌++◌, ◌+◌, ◌-◌, ◌<◌, ◌∙◌, ◌∷◌, ◌≡◌, ◌≤◌, ◌^◌}
+use Rattle.std.proofs.Math.Nat.{mul_assoc, mul-suc, mul_comm, suc-mul}
 use Rattle.std.proofs.lemmas.List.{append-nil}
 use Rattle.std.specs.List.{AllByRecursion as Each}
 use Rattle.std.specs.Option.{option_to_list}
@@ -7,11 +7,12 @@ use Rattle.std.specs.Prelude.{IfSome, IsSome, filter, find, slice_get}
 use Rattle.mq_core.specs.Event.{Event, earliest, node_of}
 use Rattle.mq_core.specs.Event.Event.{Arrive, Finish}
 use Rattle.mq_core.specs.Fates.{IsEnded, fate_of}
+use Rattle.mq_core.specs.KindTable.{behaviour_of}
 use Rattle.mq_core.specs.Laws.{is_finish_at}
 use Rattle.mq_core.specs.Local.{Local}
 use Rattle.mq_core.specs.Machine.{Emission, Station, Visit, emissions_of, opened}
 use Rattle.mq_core.specs.OnTime.{standard-on_time}
-use Rattle.mq_core.specs.Run.{starts, starts_from}
+use Rattle.mq_core.specs.Run.{run_length, starts, starts_from}
 use Rattle.mq_core.specs.Served.{flow_of}
 use Rattle.mq_core.specs.Standard.{node_jobs, node_on, node_opening, standard_handle, standard_jobs, standard_opening}
 use Rattle.mq_core.specs.StandardTable.{run_of, standard}
@@ -26,31 +27,82 @@ use Rattle.mq_core.proofs.Counting.ColumnNumbers.{numbered-found, order-found}
 use Rattle.mq_core.proofs.EachKind.Flows.{flow-numbered}
 use Rattle.mq_core.proofs.EachKind.Facts.{kind_fact, node_fact, standard-keeps}
 use Rattle.mq_core.proofs.EachKind.Flows.{kind-flow}
-use Rattle.mq_core.proofs.EachKind.LawTable.{inside_of, laws_of}
+use Rattle.mq_core.proofs.EachKind.LawTable.{inside_of, laws_of, once_of}
 use Rattle.mq_core.proofs.Events.Falls.{Falls, done-from_start, sum_over, total, weigh}
 use Rattle.mq_core.proofs.Events.Kept.{Fact, kept}
-use Rattle.mq_core.proofs.Networks.Whole.{starts-arrive}
+use Rattle.mq_core.proofs.Networks.Whole.{starts-begin}
 use Rattle.mq_core.proofs.Networks.Wired.{feeds_forward, has_inputs, rank_in-has, reads-from}
 
 -- what the jobs in a node still weigh, where each emission weighs at most this much
-abbrev pub kind_load : Rows → ℕ → Kind → Local → ℕ
-kind_load rows onward kind local = (inside_of rows kind).load onward local
+abbrev pub kind_load : Rows → ℕ → ℕ → Kind → Local → ℕ
+kind_load rows ports onward kind local = (inside_of rows ports kind).load onward local
 
 abbrev pub node_load : Rows → ℕ → Option Node → Local → ℕ
 node_load rows onward None local = 0
-node_load rows onward (Some node) local = kind_load rows onward node.kind local
+node_load rows onward (Some node) local = kind_load rows (length node.inputs) onward node.kind local
+
+-- what an arrival weighs that has so many nodes before it, where an event lets out at most so many
+abbrev pub weight_of : ℕ → ℕ → ℕ
+weight_of most zero = 0
+weight_of most (suc nodes) = 9 + most * weight_of most nodes
+
+-- where an event lets out one at most, 9 for each node
+pub weight-one : (nodes : ℕ) → weight_of 1 nodes ≡ 9 * nodes
+weight-one zero = refl
+weight-one (suc nodes) = omega (arith, weight-one nodes)
+
+-- where it lets out 8 at most
+pub weight-eight : (nodes : ℕ) → weight_of 8 nodes ≤ 9 * nodes * 8 ^ nodes
+weight-eight zero = omega arith
+weight-eight (suc nodes) = grow nodes (weight_of 8 nodes) (8 ^ nodes) (8 ^ suc nodes) (power nodes) (positive nodes) (weight-eight nodes)
+  where
+    power : (n : ℕ) → 8 ^ suc n ≡ 8 * 8 ^ n
+    power n = grind arith
+
+    positive : (n : ℕ) → 1 ≤ 8 ^ n
+    positive zero = omega arith
+    positive (suc n) = let p = power n in let q = positive n in omega arith
+
+    grow : (n w e f : ℕ) → f ≡ 8 * e → 1 ≤ e → w ≤ 9 * n * e → 9 + 8 * w ≤ 9 * suc n * f
+    grow n w e f p q l =
+        let a : 9 * n * e ≡ 9 * (n * e) = mul_assoc 9 n e in
+        let b : 9 * suc n * f ≡ 9 * (suc n * f) = mul_assoc 9 (suc n) f in
+        let c : suc n * f ≡ n * f + f = suc-mul n f in
+        let d : n * f ≡ n * (8 * e) = ap (λ x. n * x) p in
+        let g : n * (8 * e) ≡ (n * 8) * e = sym (mul_assoc n 8 e) in
+        let h : (n * 8) * e ≡ (8 * n) * e = ap (λ x. x * e) (mul_comm n 8) in
+        let i : (8 * n) * e ≡ 8 * (n * e) = mul_assoc 8 n e in
+        omega arith
+
+weight-rises : (most a b : ℕ) → a ≤ b → weight_of most a ≤ weight_of most b
+weight-rises most zero b l = omega arith
+weight-rises most (suc a) zero l = absurd (omega arith)
+weight-rises most (suc a) (suc b) l = grow (weight_of most a) (weight_of most b) (weight-rises most a b (omega arith))
+  where
+    grow : (x y : ℕ) → x ≤ y → 9 + most * x ≤ 9 + most * y
+    grow x y h = grind arith
+
+-- the most that one event of the kinds lets out
+abbrev pub most : ℕ
+most = 1
 
 -- an arrival at a node weighs more than what it leaves
 node-arrives-falls : (rows : Rows) (o : Option Node) → (onward : ℕ) (s : Station Local) (fs : List Event) (visits : List Visit) (now port job v : ℕ) → node_fact rows o v s fs now →
-    node_load rows onward o (node_on rows o visits s.local now (Arrive now v port job)).local + length (emissions_of now visits (node_on rows o visits s.local now (Arrive now v port job)).releases) * onward + 1 ≤ node_load rows onward o s.local + (onward + 9)
+    node_load rows onward o (node_on rows o visits s.local now (Arrive now v port job)).local + length (emissions_of now visits (node_on rows o visits s.local now (Arrive now v port job)).releases) * onward + 1 ≤ node_load rows onward o s.local + (most * onward + 9)
 node-arrives-falls rows None onward s fs visits now port job v fact = omega arith
-node-arrives-falls rows (Some node) onward s fs visits now port job v fact = (laws_of rows node.kind).adds onward v port job s visits fs now fact
+node-arrives-falls rows (Some node) onward s fs visits now port job v fact =
+    let a = (laws_of rows (length node.inputs) node.kind).adds onward v port job s visits fs now fact in
+    let b = few (behaviour_of node.kind).copies (once_of rows (length node.inputs) node.kind).one in
+    omega arith
+  where
+    few : (n : ℕ) → n ≤ most → n * onward ≤ most * onward
+    few n l = grind arith
 
 -- a finish at a node weighs more than what it leaves
 node-ends-falls : (rows : Rows) (o : Option Node) (onward v : ℕ) (s : Station Local) (fs rest : List Event) (rank : ℕ → ℕ) (now server position : ℕ) → node_fact rows o v s fs now → earliest rank fs ≡ Some (Finish now v server position, rest) → v < v + 1 → (o ≡ None → ⊥) →
     node_load rows onward o (node_on rows o s.visits s.local now (Finish now v server position)).local + length (emissions_of now s.visits (node_on rows o s.visits s.local now (Finish now v server position)).releases) * onward + 1 ≤ node_load rows onward o s.local
 node-ends-falls rows None onward v s fs rest rank now server position fact first l there = absurd (there refl)
-node-ends-falls rows (Some node) onward v s fs rest rank now server position fact first l there = (laws_of rows node.kind).takes onward rank v server position s fs rest now first fact
+node-ends-falls rows (Some node) onward v s fs rest rank now server position fact first l there = (laws_of rows (length node.inputs) node.kind).takes onward rank v server position s fs rest now first fact
 
 -- an order has at most as many nodes as the network
 ranked-length : (count : ℕ) (nodes : List Node) (ranked : List ℕ) → length (ranked_after count nodes ranked) ≤ length ranked + count
@@ -64,7 +116,7 @@ ranked-length (suc count) nodes ranked = go (first_ready ranked 0 nodes) (ranked
 
 load-opening : (rows : Rows) (onward : ℕ) (o : Option Node) → node_load rows onward o (node_opening o) ≡ 0
 load-opening rows onward None = refl
-load-opening rows onward (Some node) = (laws_of rows node.kind).weightless onward
+load-opening rows onward (Some node) = (laws_of rows (length node.inputs) node.kind).weightless onward
 
 pub sum_below-zero : (n : ℕ) (f : ℕ → ℕ) → ((k : ℕ) → f k ≡ 0) → sum_below n f ≡ 0
 sum_below-zero zero f h = refl
@@ -102,10 +154,10 @@ module _ (plan : Plan) (rows : Rows) (read : IsReadFor plan.net rows) where
   size = length plan.net.nodes
 
   abbrev onward : ℕ → ℕ
-  onward v = 9 * (size - rank_in plan.order v - 1)
+  onward v = weight_of most (size - rank_in plan.order v - 1)
 
   abbrev weight : ℕ → ℕ
-  weight v = 9 * (size - rank_in plan.order v)
+  weight v = weight_of most (size - rank_in plan.order v)
 
   abbrev load : ℕ → Station Local → ℕ
   load v s = node_load rows (onward v) (slice_get plan.net.nodes v) s.local
@@ -127,29 +179,36 @@ module _ (plan : Plan) (rows : Rows) (read : IsReadFor plan.net rows) where
         follows = λ n out l. follow n out (reader_from 0 plan.net.nodes n out) refl (feeds_forward plan (standard plan rows) refl refl n out);
         waits = λ v elapsed s. refl;
         arrives = λ v port job s fs now l f.
-            let a = node-arrives-falls rows (slice_get plan.net.nodes v) (onward v) s fs (s.visits ++ record { job = job; arrive = now; found = standard_jobs plan rows v s.visits s.local } ∷ []) now port job v f in
-            let b = rank-inside v l in
+            let a = node-arrives-falls rows (slice_get plan.net.nodes v) (onward v) s fs (s.visits ++ record { job = job; arrive = now; port = port; found = standard_jobs plan rows v s.visits s.local } ∷ []) now port job v f in
+            let b = whole v l in
             omega arith;
         ends = λ v server position s fs rest now l f first.
             node-ends-falls rows (slice_get plan.net.nodes v) (onward v) v s fs rest (rank_in plan.order) now server position f first (omega arith) (inside-some plan.net.nodes v l);
       }
     where
+      whole : (v : ℕ) → v < size → weight v ≡ 9 + most * onward v
+      whole v l =
+          let b = rank-inside v l in
+          let e : size - rank_in plan.order v ≡ suc (size - rank_in plan.order v - 1) = omega arith in
+          ap (weight_of most) e
+
       follow : (n out : ℕ) (r : Option (ℕ × ℕ)) → reader_from 0 plan.net.nodes n out ≡ r → IfSome r (λ to. rank_in plan.order n < rank_in plan.order to.0) → IfSome r (λ to. (to.0 < size) × (weight to.0 ≤ onward n))
       follow n out None e h = tt
-      follow n out (Some to) e h = (has_inputs plan.net.nodes to.0 to.1 (n, out) (reads-from plan.net.nodes n out to.0 to.1 e), omega arith)
+      follow n out (Some to) e h = (has_inputs plan.net.nodes to.0 to.1 (n, out) (reads-from plan.net.nodes n out to.0 to.1 e), weight-rises most _ _ (omega arith))
 
   pub nothing-pending : (run_of plan rows).pending ≡ []
   unfolding standard_opening
   nothing-pending =
-      done-from_start (standard plan rows) fact (standard-keeps plan rows (reader_from 0 plan.net.nodes)) (standard-on_time plan rows) (feeds_forward plan (standard plan rows) refl refl) 1 size weight onward load falls (omega arith)
-      (starts rows) (starts-arrive 0 rows.source rows.time)
+      done-from_start (standard plan rows) fact (standard-keeps plan rows (reader_from 0 plan.net.nodes) refl) (standard-on_time plan rows) (feeds_forward plan (standard plan rows) refl refl) 1 size weight onward load falls (omega arith)
+      (starts rows) (starts-begin (standard plan rows) 0 rows.source rows.time)
       (starts-inside size 0 rows.source rows.time (λ k source e. source-inside plan.net.nodes source (read.sources k source e)))
-      (9 * length plan.net.nodes * length rows.time)
+      (run_length plan.net.nodes rows)
       enough
     where
-      enough : total size weight load (opened (standard plan rows) (starts rows)) ≤ 9 * length plan.net.nodes * length rows.time
+      enough : total size weight load (opened (standard plan rows) (starts rows)) ≤ run_length plan.net.nodes rows
       enough =
-          let a = starts-weight weight (9 * size) (λ v. omega arith) 0 rows.source rows.time in
+          let a = starts-weight weight (weight_of most size) (λ v. weight-rises most _ _ (omega arith)) 0 rows.source rows.time in
+          let c = ap (λ n. n * length rows.time) (weight-one size) in
           let b = sum_below-zero size (λ v. load v (record { local = node_opening (slice_get plan.net.nodes v); visits = []; emitted = []; area = 0; busy = 0; peak = 0 })) (λ v. load-opening rows (onward v) (slice_get plan.net.nodes v)) in
           omega arith
 
@@ -157,7 +216,7 @@ module _ (plan : Plan) (rows : Rows) (read : IsReadFor plan.net rows) where
   pub end-fact : (v : ℕ) → node_fact rows (slice_get plan.net.nodes v) v ((run_of plan rows).stations v) [] (run_of plan rows).clock
   end-fact v =
       subst (λ l. node_fact rows (slice_get plan.net.nodes v) v ((run_of plan rows).stations v) (filter (is_finish_at v) l) (run_of plan rows).clock) nothing-pending
-      (kept (standard plan rows) fact (standard-keeps plan rows (reader_from 0 plan.net.nodes)) (standard-on_time plan rows) (feeds_forward plan (standard plan rows) refl refl) (starts rows) (starts-arrive 0 rows.source rows.time) (9 * length plan.net.nodes * length rows.time) v)
+      (kept (standard plan rows) fact (standard-keeps plan rows (reader_from 0 plan.net.nodes) refl) (standard-on_time plan rows) (feeds_forward plan (standard plan rows) refl refl) (starts rows) (starts-begin (standard plan rows) 0 rows.source rows.time) (run_length plan.net.nodes rows) v)
 
   pub run-ended : IsEnded plan rows (run_of plan rows)
   unfolding standard_jobs
@@ -168,14 +227,14 @@ module _ (plan : Plan) (rows : Rows) (read : IsReadFor plan.net rows) where
         empty = λ v. holds_none v (slice_get plan.net.nodes v) (end-fact v);
       }
     where
-      has_fate : (v : ℕ) (node : Node) (p : ℕ) → slice_get plan.net.nodes v ≡ Some node → p < length ((run_of plan rows).stations v).visits → kind_fact rows node.kind v ((run_of plan rows).stations v) [] (run_of plan rows).clock → IsSome (fate_of node.kind ((run_of plan rows).stations v).emitted p)
+      has_fate : (v : ℕ) (node : Node) (p : ℕ) → slice_get plan.net.nodes v ≡ Some node → p < length ((run_of plan rows).stations v).visits → kind_fact rows (length node.inputs) node.kind v ((run_of plan rows).stations v) [] (run_of plan rows).clock → IsSome (fate_of node.kind ((run_of plan rows).stations v).emitted p)
       has_fate v node p e l f =
           let s = (run_of plan rows).stations v in
-          let flow = kind-flow rows node.kind v s (run_of plan rows).clock f in
-          let numbered = flow-numbered rows node.kind s.visits in
-          let one = numbered-found 0 p (flow_of rows node.kind s.visits) s.visits numbered (omega arith) (omega arith) in
-          fate-some node.kind s.emitted p one.0 (ap (λ l. emission_at l p) flow ∙ (order-found node.kind 0 (flow_of rows node.kind s.visits) s.visits numbered p ∙ one.1))
+          let flow = kind-flow rows (length node.inputs) node.kind v s (run_of plan rows).clock f in
+          let numbered = flow-numbered rows (length node.inputs) node.kind s.visits in
+          let one = numbered-found 0 p (flow_of rows (length node.inputs) node.kind s.visits) s.visits numbered (omega arith) (omega arith) in
+          fate-some node.kind s.emitted p one.0 (ap (λ l. emission_at l p) flow ∙ (order-found node.kind 0 (flow_of rows (length node.inputs) node.kind s.visits) s.visits numbered p ∙ one.1))
 
       holds_none : (v : ℕ) (o : Option Node) → node_fact rows o v ((run_of plan rows).stations v) [] (run_of plan rows).clock → node_jobs o ((run_of plan rows).stations v).visits ((run_of plan rows).stations v).local ≡ 0
       holds_none v None h = refl
-      holds_none v (Some node) h = (laws_of rows node.kind).empty v ((run_of plan rows).stations v) (run_of plan rows).clock h
+      holds_none v (Some node) h = (once_of rows (length node.inputs) node.kind).empty v ((run_of plan rows).stations v) (run_of plan rows).clock h

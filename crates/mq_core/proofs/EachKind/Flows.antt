@@ -10,9 +10,9 @@ use Rattle.mq_core.proofs.EachKind.Facts.{kind_fact}
 use Rattle.mq_core.proofs.EachKind.LawTable.{laws_of, recurrence_of}
 
 -- a node with nothing to finish let out the flow of its kind
-pub kind-flow : (rows : Rows) (kind : Kind) (v : ℕ) (s : Station Local) (now : ℕ) → kind_fact rows kind v s [] now → s.emitted ≡ in_leaving_order kind (flow_of rows kind s.visits)
-kind-flow rows kind v s now h = (laws_of rows kind).flow v s now h
+pub kind-flow : (rows : Rows) (ports : ℕ) (kind : Kind) (v : ℕ) (s : Station Local) (now : ℕ) → kind_fact rows ports kind v s [] now → s.emitted ≡ in_leaving_order kind (flow_of rows ports kind s.visits)
+kind-flow rows ports kind v s now h = (laws_of rows ports kind).flow v s now h
 
 -- the flow has one emission a visit, by position
-pub flow-numbered : (rows : Rows) (kind : Kind) (visits : List Visit) → Numbered 0 (flow_of rows kind visits) visits
-flow-numbered rows kind = (recurrence_of rows kind).numbered
+pub flow-numbered : (rows : Rows) (ports : ℕ) (kind : Kind) (visits : List Visit) → Numbered 0 (flow_of rows ports kind visits) visits
+flow-numbered rows ports kind = (recurrence_of rows ports kind).numbered

@@ -1,5 +1,5 @@
 -- What is to be shown of a kind of node, once for all that goes by kind.
-use Rattle.std.proofs.Common.{◌≡◌, ◌⊎◌, ℕ, ◌+◌, ◌-◌, ◌*◌, ◌<◌, ◌≤◌, true, List, [], ◌∷◌, ◌++◌, length, Option, Some, None}
+use Rattle.std.proofs.Common.{◌≡◌, ◌⊎◌, ℕ, ◌+◌, ◌-◌, ◌*◌, ◌<◌, ◌≤◌, true, List, [], ◌∷◌, ◌++◌, length, Option, Some, None, max}
 use Rattle.std.specs.Prelude.{slice_get}
 use Rattle.std.specs.List.{AllByRecursion as Each}
 use Rattle.mq_core.specs.Behaviour.{Behaviour}
@@ -10,7 +10,7 @@ use Rattle.mq_core.specs.Fates.{unless_lost}
 use Rattle.mq_core.specs.Leaving.{left_by}
 use Rattle.mq_core.specs.Local.{Local}
 use Rattle.mq_core.specs.Machine.{Visit, Emission, Reaction, Station, emissions_of, finishes_of}
-use Rattle.mq_core.specs.Tallies.{arrival_or, emission_at, staying, sum_below}
+use Rattle.mq_core.specs.Tallies.{arrival_or, emission_at, one_if_none, sum_below}
 use Rattle.mq_core.specs.declared.model.Fate.TheVariants.{Departs}
 use Rattle.mq_core.specs.declared.model.Rows.{Rows}
 use Rattle.mq_core.proofs.Events.Kept.{Fact}
@@ -30,20 +30,20 @@ abbrev pub opening_of : Behaviour → Station Local
 opening_of b = record { local = b.opening; visits = []; emitted = []; area = 0; busy = 0; peak = 0 }
 
 -- what the handler says to a visit
-abbrev pub to_visit : Rows → Behaviour → (v port : ℕ) → Station Local → ℕ → Visit → Reaction Local
-to_visit rows b v port s now x = b.on rows (s.visits ++ x ∷ []) s.local now (Arrive now v port x.job)
+abbrev pub to_visit : Rows → ℕ → Behaviour → (v port : ℕ) → Station Local → ℕ → Visit → Reaction Local
+to_visit rows ports b v port s now x = b.on rows ports (s.visits ++ x ∷ []) s.local now (Arrive now v port x.job)
 
 -- what the handler says to a finish
-abbrev pub to_finish : Rows → Behaviour → (v server position : ℕ) → Station Local → ℕ → Reaction Local
-to_finish rows b v server position s now = b.on rows s.visits s.local now (Finish now v server position)
+abbrev pub to_finish : Rows → ℕ → Behaviour → (v server position : ℕ) → Station Local → ℕ → Reaction Local
+to_finish rows ports b v server position s now = b.on rows ports s.visits s.local now (Finish now v server position)
 
 -- a node after a visit came
-abbrev pub after_visit : ℕ → Rows → Behaviour → (v port : ℕ) → Station Local → ℕ → Visit → Station Local
-after_visit peak rows b v port s now x = after_reaction peak s (s.visits ++ x ∷ []) now (to_visit rows b v port s now x)
+abbrev pub after_visit : ℕ → Rows → ℕ → Behaviour → (v port : ℕ) → Station Local → ℕ → Visit → Station Local
+after_visit peak rows ports b v port s now x = after_reaction peak s (s.visits ++ x ∷ []) now (to_visit rows ports b v port s now x)
 
 -- a node after a finish
-abbrev pub after_finish : ℕ → Rows → Behaviour → (v server position : ℕ) → Station Local → ℕ → Station Local
-after_finish peak rows b v server position s now = after_reaction peak s s.visits now (to_finish rows b v server position s now)
+abbrev pub after_finish : ℕ → Rows → ℕ → Behaviour → (v server position : ℕ) → Station Local → ℕ → Station Local
+after_finish peak rows ports b v server position s now = after_reaction peak s s.visits now (to_finish rows ports b v server position s now)
 
 -- what a visit asks for, where there is one
 abbrev pub asked_by : (ℕ → ℕ) → Option Visit → ℕ
@@ -51,53 +51,46 @@ asked_by asked None = 0
 asked_by asked (Some visit) = asked visit.job
 
 -- what a visit itself lets out when it comes
-abbrev pub own_out : Rows → Behaviour → (v port : ℕ) → Station Local → ℕ → Visit → Option Emission
-own_out rows b v port s now x = emission_at (emissions_of now (s.visits ++ x ∷ []) (to_visit rows b v port s now x).releases) (length s.visits)
+abbrev pub own_out : Rows → ℕ → Behaviour → (v port : ℕ) → Station Local → ℕ → Visit → Option Emission
+own_out rows ports b v port s now x = emission_at (emissions_of now (s.visits ++ x ∷ []) (to_visit rows ports b v port s now x).releases) (length s.visits)
 
 -- a visit is one more, and isn't lost; or it is lost, and there is none more
-abbrev pub Raises : Rows → Behaviour → (v port : ℕ) → Station Local → ℕ → Visit → Type 0
-Raises rows b v port s now x =
-    ((b.jobs (s.visits ++ x ∷ []) (to_visit rows b v port s now x).local ≡ b.jobs s.visits s.local + 1) × ((n : ℕ) → unless_lost (option_map b.fate (own_out rows b v port s now x)) n ≡ n))
-    ⊎ ((b.jobs (s.visits ++ x ∷ []) (to_visit rows b v port s now x).local ≤ b.jobs s.visits s.local) × ((n : ℕ) → unless_lost (option_map b.fate (own_out rows b v port s now x)) n ≡ 0))
+abbrev pub Raises : Rows → ℕ → Behaviour → (v port : ℕ) → Station Local → ℕ → Visit → Type 0
+Raises rows ports b v port s now x =
+    ((b.jobs (s.visits ++ x ∷ []) (to_visit rows ports b v port s now x).local ≡ b.jobs s.visits s.local + 1) × ((n : ℕ) → unless_lost (option_map b.fate (own_out rows ports b v port s now x)) n ≡ n))
+    ⊎ ((b.jobs (s.visits ++ x ∷ []) (to_visit rows ports b v port s now x).local ≤ b.jobs s.visits s.local) × ((n : ℕ) → unless_lost (option_map b.fate (own_out rows ports b v port s now x)) n ≡ 0))
 
 -- a list with at least one item
 abbrev pub IsFilled : List Emission → Type 0
 IsFilled ms = (m : Emission) × (rest : List Emission) × (ms ≡ m ∷ rest)
 
 -- The laws of a kind that its handler must keep.
-pub record KindLaws (rows : Rows) (b : Behaviour) (i : Inside) : Type 0 where
-  -- the fact holds at the start, where the numbers of the kind are in their ranges
-  pub opens : (columns v : ℕ) → b.sound columns ≡ true → i.fact v (opening_of b) [] 0
+pub record KindLaws (rows : Rows) (ports : ℕ) (b : Behaviour) (i : Inside) : Type 0 where
+  -- the fact holds at the start, where the numbers of the kind are in their ranges and it may have so many ports
+  pub opens : (columns v : ℕ) → b.sound columns ≡ true → b.ports ports ≡ true → i.fact v (opening_of b) [] 0
   -- time keeps it
   pub waits : (v : ℕ) (s : Station Local) (area busy : ℕ) (fs : List Event) (now later : ℕ) → now ≤ later → i.fact v s fs now → i.fact v (record s { area = area; busy = busy }) fs later
-  -- a visit keeps it, where no finish is pending at its time
-  pub arrives : (peak v port : ℕ) (s : Station Local) (fs : List Event) (now : ℕ) (x : Visit) → x.arrive ≡ now → Each (λ f. now < time_of f) fs → i.fact v s fs now →
-      i.fact v (after_visit peak rows b v port s now x) (fs ++ finishes_of v (to_visit rows b v port s now x).services) now
+  -- a visit keeps it that comes by a port that there is, where no finish is pending at its time
+  pub arrives : (peak v port : ℕ) (s : Station Local) (fs : List Event) (now : ℕ) (x : Visit) → x.arrive ≡ now → x.port ≡ port → port < max 1 ports → Each (λ f. now < time_of f) fs → i.fact v s fs now →
+      i.fact v (after_visit peak rows ports b v port s now x) (fs ++ finishes_of v (to_visit rows ports b v port s now x).services) now
   -- its first finish keeps it
   pub ends : (peak : ℕ) (rank : ℕ → ℕ) (v server position : ℕ) (s : Station Local) (fs rest : List Event) (now : ℕ) → earliest rank fs ≡ Some (Finish now v server position, rest) → i.fact v s fs now →
-      i.fact v (after_finish peak rows b v server position s now) (rest ++ finishes_of v (to_finish rows b v server position s now).services) now
+      i.fact v (after_finish peak rows ports b v server position s now) (rest ++ finishes_of v (to_finish rows ports b v server position s now).services) now
   -- with nothing to finish it has let out its flow, in its order
-  pub flow : (v : ℕ) (s : Station Local) (now : ℕ) → i.fact v s [] now → s.emitted ≡ left_by b.order (b.flow rows s.visits)
+  pub flow : (v : ℕ) (s : Station Local) (now : ℕ) → i.fact v s [] now → s.emitted ≡ left_by b.order (b.flow rows ports s.visits)
   -- it holds the visits that have not left
-  pub number : (v : ℕ) (s : Station Local) (fs : List Event) (now : ℕ) → i.fact v s fs now → b.jobs s.visits s.local ≡ staying s.visits s.emitted
-  -- with nothing to finish it holds none
-  pub empty : (v : ℕ) (s : Station Local) (now : ℕ) → i.fact v s [] now → b.jobs s.visits s.local ≡ 0
-  -- what a visit lets out is itself
-  pub own : (v port : ℕ) (s : Station Local) (now : ℕ) (x : Visit) (q : ℕ) (m : Emission) → emission_at (emissions_of now (s.visits ++ x ∷ []) (to_visit rows b v port s now x).releases) q ≡ Some m → q ≡ length s.visits
-  -- who is let out by a finish leaves nobody behind who came at that time
-  pub earlier : (rank : ℕ → ℕ) (v server position : ℕ) (s : Station Local) (fs rest : List Event) (now : ℕ) → earliest rank fs ≡ Some (Finish now v server position, rest) → i.fact v s fs now →
-      (q p : ℕ) (m : Emission) → emission_at (emissions_of now s.visits (to_finish rows b v server position s now).releases) q ≡ Some m → q < p → p < length s.visits → arrival_or 0 (slice_get s.visits p) < now
+  pub number : (v : ℕ) (s : Station Local) (fs : List Event) (now : ℕ) → i.fact v s fs now → b.jobs s.visits s.local ≡ sum_below (length s.visits) (λ p. one_if_none (b.exit s p))
   -- a finish lets a job out, or leaves one in the node
   pub shows : (rank : ℕ → ℕ) (v server position : ℕ) (s : Station Local) (fs rest : List Event) (now : ℕ) → earliest rank fs ≡ Some (Finish now v server position, rest) → i.fact v s fs now →
-      IsFilled (emissions_of now s.visits (to_finish rows b v server position s now).releases) ⊎ (0 < b.jobs s.visits (to_finish rows b v server position s now).local)
+      IsFilled (emissions_of now s.visits (to_finish rows ports b v server position s now).releases) ⊎ (0 < b.jobs s.visits (to_finish rows ports b v server position s now).local)
   -- at the start nothing weighs
   pub weightless : (onward : ℕ) → i.load onward b.opening ≡ 0
-  -- a visit weighs at most 9 events more than what it lets out
+  -- a visit weighs at most 9 events more than the copies that it may let out
   pub adds : (onward v port job : ℕ) (s : Station Local) (visits : List Visit) (fs : List Event) (now : ℕ) → i.fact v s fs now →
-      i.load onward (b.on rows visits s.local now (Arrive now v port job)).local + length (emissions_of now visits (b.on rows visits s.local now (Arrive now v port job)).releases) * onward + 1 ≤ i.load onward s.local + (onward + 9)
+      i.load onward (b.on rows ports visits s.local now (Arrive now v port job)).local + length (emissions_of now visits (b.on rows ports visits s.local now (Arrive now v port job)).releases) * onward + 1 ≤ i.load onward s.local + (b.copies * onward + 9)
   -- a finish takes off more than what it lets out weighs
   pub takes : (onward : ℕ) (rank : ℕ → ℕ) (v server position : ℕ) (s : Station Local) (fs rest : List Event) (now : ℕ) → earliest rank fs ≡ Some (Finish now v server position, rest) → i.fact v s fs now →
-      i.load onward (to_finish rows b v server position s now).local + length (emissions_of now s.visits (to_finish rows b v server position s now).releases) * onward + 1 ≤ i.load onward s.local
+      i.load onward (to_finish rows ports b v server position s now).local + length (emissions_of now s.visits (to_finish rows ports b v server position s now).releases) * onward + 1 ≤ i.load onward s.local
   -- at the start no service has begun
   pub idle : (v : ℕ) → i.busy (opening_of b) [] 0
   -- the tally counts the working servers over time
@@ -105,22 +98,39 @@ pub record KindLaws (rows : Rows) (b : Behaviour) (i : Inside) : Type 0 where
       i.busy (record s { area = area; busy = s.busy + b.working s.local * (later - now) }) fs later
   -- a visit keeps what is said of it
   pub busy_arrives : (peak v port : ℕ) (s : Station Local) (fs : List Event) (now : ℕ) (x : Visit) → x.arrive ≡ now → Each (λ f. now < time_of f) fs → i.fact v s fs now → i.busy s fs now →
-      i.busy (after_visit peak rows b v port s now x) (fs ++ finishes_of v (to_visit rows b v port s now x).services) now
+      i.busy (after_visit peak rows ports b v port s now x) (fs ++ finishes_of v (to_visit rows ports b v port s now x).services) now
   -- a finish keeps it
   pub busy_ends : (peak : ℕ) (rank : ℕ → ℕ) (v server position : ℕ) (s : Station Local) (fs rest : List Event) (now : ℕ) → earliest rank fs ≡ Some (Finish now v server position, rest) → i.fact v s fs now → i.busy s fs now →
-      i.busy (after_finish peak rows b v server position s now) (rest ++ finishes_of v (to_finish rows b v server position s now).services) now
+      i.busy (after_finish peak rows ports b v server position s now) (rest ++ finishes_of v (to_finish rows ports b v server position s now).services) now
   -- with nothing to finish the tally is the sum of the services of those that aren't lost
   pub served : (v : ℕ) (s : Station Local) (now : ℕ) → i.fact v s [] now → i.busy s [] now →
-      s.busy ≡ sum_below (length s.visits) (λ p. unless_lost (option_map b.fate (emission_at s.emitted p)) (asked_by (b.service rows) (slice_get s.visits p)))
+      s.busy ≡ sum_below (length s.visits) (λ p. unless_lost (option_map b.fate (b.exit s p)) (asked_by (b.service rows) (slice_get s.visits p)))
+
+-- The laws of a kind whose visits leave each with its own emission.
+pub record OwnLaws (rows : Rows) (ports : ℕ) (b : Behaviour) (i : Inside) : Type 0 where
+  -- a visit leaves with the emission of its position
+  pub exits : (s : Station Local) (p : ℕ) → b.exit s p ≡ emission_at s.emitted p
+  -- what a visit lets out is itself
+  pub own : (v port : ℕ) (s : Station Local) (now : ℕ) (x : Visit) (q : ℕ) (m : Emission) → emission_at (emissions_of now (s.visits ++ x ∷ []) (to_visit rows ports b v port s now x).releases) q ≡ Some m → q ≡ length s.visits
+  -- who is let out by a finish leaves nobody behind who came at that time
+  pub earlier : (rank : ℕ → ℕ) (v server position : ℕ) (s : Station Local) (fs rest : List Event) (now : ℕ) → earliest rank fs ≡ Some (Finish now v server position, rest) → i.fact v s fs now →
+      (q p : ℕ) (m : Emission) → emission_at (emissions_of now s.visits (to_finish rows ports b v server position s now).releases) q ≡ Some m → q < p → p < length s.visits → arrival_or 0 (slice_get s.visits p) < now
+
+-- The laws of a kind that lets each visit out once, alone, and holds none for good.
+pub record OnceLaws (rows : Rows) (ports : ℕ) (b : Behaviour) (i : Inside) : Type 0 where
+  -- an event lets out at most one
+  pub one : b.copies ≤ 1
+  -- with nothing to finish it holds none
+  pub empty : (v : ℕ) (s : Station Local) (now : ℕ) → i.fact v s [] now → b.jobs s.visits s.local ≡ 0
   -- a visit brings one job in, which stays or is let out
   pub enters : (v port : ℕ) (s : Station Local) (fs : List Event) (now : ℕ) (x : Visit) → x.arrive ≡ now → i.fact v s fs now →
-      b.jobs (s.visits ++ x ∷ []) (to_visit rows b v port s now x).local + length (emissions_of now (s.visits ++ x ∷ []) (to_visit rows b v port s now x).releases) ≤ b.jobs s.visits s.local + 1
+      b.jobs (s.visits ++ x ∷ []) (to_visit rows ports b v port s now x).local + length (emissions_of now (s.visits ++ x ∷ []) (to_visit rows ports b v port s now x).releases) ≤ b.jobs s.visits s.local + 1
   -- a finish lets out no more jobs than it takes from those inside
   pub leaves : (rank : ℕ → ℕ) (v server position : ℕ) (s : Station Local) (fs rest : List Event) (now : ℕ) → earliest rank fs ≡ Some (Finish now v server position, rest) → i.fact v s fs now →
-      b.jobs s.visits (to_finish rows b v server position s now).local + length (emissions_of now s.visits (to_finish rows b v server position s now).releases) ≤ b.jobs s.visits s.local
+      b.jobs s.visits (to_finish rows ports b v server position s now).local + length (emissions_of now s.visits (to_finish rows ports b v server position s now).releases) ≤ b.jobs s.visits s.local
   -- at the start it holds none
   pub vacant : b.jobs [] b.opening ≡ 0
   -- where jobs stay, a visit raises the number by one, or is lost
-  pub raises : (v port : ℕ) (s : Station Local) (fs : List Event) (now : ℕ) (x : Visit) → x.arrive ≡ now → b.holds ≡ true → i.fact v s fs now → Raises rows b v port s now x
+  pub raises : (v port : ℕ) (s : Station Local) (fs : List Event) (now : ℕ) (x : Visit) → x.arrive ≡ now → b.holds ≡ true → i.fact v s fs now → Raises rows ports b v port s now x
   -- who is let out by a finish departs then
-  pub departs : (v server position : ℕ) (s : Station Local) (now q : ℕ) (m : Emission) → emission_at (emissions_of now s.visits (to_finish rows b v server position s now).releases) q ≡ Some m → b.fate m ≡ Departs m.time
+  pub departs : (v server position : ℕ) (s : Station Local) (now q : ℕ) (m : Emission) → emission_at (emissions_of now s.visits (to_finish rows ports b v server position s now).releases) q ≡ Some m → b.fate m ≡ Departs m.time

@@ -1,60 +1,79 @@
 -- The laws of the kinds, one row a kind.
+use Rattle.std.proofs.Common.{ℕ}
 use Rattle.mq_core.specs.KindTable.{behaviour_of}
 use Rattle.mq_core.specs.declared.model.Kind.{Kind}
 use Rattle.mq_core.specs.declared.model.Kind.TheVariants.{Source, Server, Delay, Loss, Tandem, ForkJoin, Split}
 use Rattle.mq_core.specs.declared.model.Rows.{Rows}
-use Rattle.mq_core.proofs.EachKind.KindLaws.{Inside, KindLaws}
+use Rattle.mq_core.proofs.EachKind.KindLaws.{Inside, KindLaws, OnceLaws, OwnLaws}
 use Rattle.mq_core.proofs.EachKind.LimitLaws.{LimitLaws}
 use Rattle.mq_core.proofs.EachKind.RecurrenceLaws.{RecurrenceLaws}
 use Rattle.mq_core.proofs.Passing.SourceLimits.{source-limits}
 use Rattle.mq_core.proofs.Passing.SourceRecurrence.{source-recurrence}
-use Rattle.mq_core.proofs.Passing.SourceLaws.{source-inside, source-laws}
+use Rattle.mq_core.proofs.Passing.SourceLaws.{source-inside, source-laws, source-once, source-own}
 use Rattle.mq_core.proofs.Passing.SplitLimits.{split-limits}
 use Rattle.mq_core.proofs.Passing.SplitRecurrence.{split-recurrence}
-use Rattle.mq_core.proofs.Passing.SplitLaws.{split-inside, split-laws}
+use Rattle.mq_core.proofs.Passing.SplitLaws.{split-inside, split-laws, split-once, split-own}
 use Rattle.mq_core.proofs.Server.ServerLimits.{server-limits}
 use Rattle.mq_core.proofs.Server.ServerRecurrence.{server-recurrence}
-use Rattle.mq_core.proofs.Server.ServerLaws.{server-inside, server-laws}
+use Rattle.mq_core.proofs.Server.ServerLaws.{server-inside, server-laws, server-once, server-own}
 use Rattle.mq_core.proofs.Delay.DelayLimits.{delay-limits}
 use Rattle.mq_core.proofs.Delay.DelayRecurrence.{delay-recurrence}
-use Rattle.mq_core.proofs.Delay.DelayLaws.{delay-inside, delay-laws}
+use Rattle.mq_core.proofs.Delay.DelayLaws.{delay-inside, delay-laws, delay-once, delay-own}
 use Rattle.mq_core.proofs.Loss.LossLimits.{loss-limits}
 use Rattle.mq_core.proofs.Loss.LossRecurrence.{loss-recurrence}
-use Rattle.mq_core.proofs.Loss.LossLaws.{loss-inside, loss-laws}
+use Rattle.mq_core.proofs.Loss.LossLaws.{loss-inside, loss-laws, loss-once, loss-own}
 use Rattle.mq_core.proofs.Tandem.TandemLimits.{tandem-limits}
 use Rattle.mq_core.proofs.Tandem.TandemRecurrence.{tandem-recurrence}
-use Rattle.mq_core.proofs.Tandem.TandemLaws.{tandem-inside, tandem-laws}
+use Rattle.mq_core.proofs.Tandem.TandemLaws.{tandem-inside, tandem-laws, tandem-once, tandem-own}
 use Rattle.mq_core.proofs.ForkJoin.ForkJoinLimits.{fork_join-limits}
 use Rattle.mq_core.proofs.ForkJoin.ForkJoinRecurrence.{fork_join-recurrence}
-use Rattle.mq_core.proofs.ForkJoin.ForkJoinLaws.{fork_join-inside, fork_join-laws}
+use Rattle.mq_core.proofs.ForkJoin.ForkJoinLaws.{fork_join-inside, fork_join-laws, fork_join-once, fork_join-own}
 
 -- what is said of a node between two events
-abbrev pub inside_of : Rows → Kind → Inside
-inside_of rows Source = source-inside rows
-inside_of rows (Server demand) = server-inside rows demand
-inside_of rows (Delay demand) = delay-inside rows demand
-inside_of rows (Loss places demand) = loss-inside rows places demand
-inside_of rows (Tandem stages) = tandem-inside rows stages
-inside_of rows (ForkJoin branches) = fork_join-inside rows branches
-inside_of rows (Split route) = split-inside rows route
+abbrev pub inside_of : Rows → ℕ → Kind → Inside
+inside_of rows ports Source = source-inside rows
+inside_of rows ports (Server demand) = server-inside rows demand
+inside_of rows ports (Delay demand) = delay-inside rows demand
+inside_of rows ports (Loss places demand) = loss-inside rows places demand
+inside_of rows ports (Tandem stages) = tandem-inside rows stages
+inside_of rows ports (ForkJoin branches) = fork_join-inside rows branches
+inside_of rows ports (Split route) = split-inside rows route
 
-pub laws_of : (rows : Rows) (kind : Kind) → KindLaws rows (behaviour_of kind) (inside_of rows kind)
-laws_of rows Source = source-laws rows
-laws_of rows (Server demand) = server-laws rows demand
-laws_of rows (Delay demand) = delay-laws rows demand
-laws_of rows (Loss places demand) = loss-laws rows places demand
-laws_of rows (Tandem stages) = tandem-laws rows stages
-laws_of rows (ForkJoin branches) = fork_join-laws rows branches
-laws_of rows (Split route) = split-laws rows route
+pub laws_of : (rows : Rows) (ports : ℕ) (kind : Kind) → KindLaws rows ports (behaviour_of kind) (inside_of rows ports kind)
+laws_of rows ports Source = source-laws rows ports
+laws_of rows ports (Server demand) = server-laws rows ports demand
+laws_of rows ports (Delay demand) = delay-laws rows ports demand
+laws_of rows ports (Loss places demand) = loss-laws rows ports places demand
+laws_of rows ports (Tandem stages) = tandem-laws rows ports stages
+laws_of rows ports (ForkJoin branches) = fork_join-laws rows ports branches
+laws_of rows ports (Split route) = split-laws rows ports route
 
-pub recurrence_of : (rows : Rows) (kind : Kind) → RecurrenceLaws rows (behaviour_of kind)
-recurrence_of rows Source = source-recurrence rows
-recurrence_of rows (Server demand) = server-recurrence rows demand
-recurrence_of rows (Delay demand) = delay-recurrence rows demand
-recurrence_of rows (Loss places demand) = loss-recurrence rows places demand
-recurrence_of rows (Tandem stages) = tandem-recurrence rows stages
-recurrence_of rows (ForkJoin branches) = fork_join-recurrence rows branches
-recurrence_of rows (Split route) = split-recurrence rows route
+pub once_of : (rows : Rows) (ports : ℕ) (kind : Kind) → OnceLaws rows ports (behaviour_of kind) (inside_of rows ports kind)
+once_of rows ports Source = source-once rows ports
+once_of rows ports (Server demand) = server-once rows ports demand
+once_of rows ports (Delay demand) = delay-once rows ports demand
+once_of rows ports (Loss places demand) = loss-once rows ports places demand
+once_of rows ports (Tandem stages) = tandem-once rows ports stages
+once_of rows ports (ForkJoin branches) = fork_join-once rows ports branches
+once_of rows ports (Split route) = split-once rows ports route
+
+pub own_of : (rows : Rows) (ports : ℕ) (kind : Kind) → OwnLaws rows ports (behaviour_of kind) (inside_of rows ports kind)
+own_of rows ports Source = source-own rows ports
+own_of rows ports (Server demand) = server-own rows ports demand
+own_of rows ports (Delay demand) = delay-own rows ports demand
+own_of rows ports (Loss places demand) = loss-own rows ports places demand
+own_of rows ports (Tandem stages) = tandem-own rows ports stages
+own_of rows ports (ForkJoin branches) = fork_join-own rows ports branches
+own_of rows ports (Split route) = split-own rows ports route
+
+pub recurrence_of : (rows : Rows) (ports : ℕ) (kind : Kind) → RecurrenceLaws rows ports (behaviour_of kind)
+recurrence_of rows ports Source = source-recurrence rows ports
+recurrence_of rows ports (Server demand) = server-recurrence rows ports demand
+recurrence_of rows ports (Delay demand) = delay-recurrence rows ports demand
+recurrence_of rows ports (Loss places demand) = loss-recurrence rows ports places demand
+recurrence_of rows ports (Tandem stages) = tandem-recurrence rows ports stages
+recurrence_of rows ports (ForkJoin branches) = fork_join-recurrence rows ports branches
+recurrence_of rows ports (Split route) = split-recurrence rows ports route
 
 pub limits_of : (kind : Kind) → LimitLaws (behaviour_of kind)
 limits_of Source = source-limits

@@ -1,35 +1,45 @@
 -- What is to be shown of the recurrence of a kind.
-use Rattle.std.proofs.Common.{◌≡◌, ℕ, ◌+◌, ◌*◌, ◌^◌, ◌≤◌, true, List, map, length}
+use Rattle.mq_core.specs.Came.{Came, came_of}
+use Rattle.std.proofs.Common.{◌≡◌, ℕ, ◌+◌, ◌*◌, ◌^◌, ◌≤◌, true, List, Option, map, length}
 use Rattle.std.specs.List.{AllByRecursion as Each}
 use Rattle.mq_core.specs.Behaviour.{Behaviour}
-use Rattle.mq_core.specs.ColumnLaws.{FatesInTime, jobs_of, arrives_of}
+use Rattle.mq_core.specs.ColumnLaws.{FatesInTime, arrives_of}
 use Rattle.mq_core.specs.Columns.{time_of_fate}
 use Rattle.mq_core.specs.Laws.{Rises, in_order_of, stream_of}
 use Rattle.mq_core.specs.Leaving.Leaving.{Mixed}
 use Rattle.mq_core.specs.Machine.{Visit, Emission}
+use Rattle.mq_core.specs.OnceOut.{founds_of, once_out}
 use Rattle.mq_core.specs.PlanLaws.{Tells}
+use Rattle.mq_core.specs.Tallies.{one_if_later}
 use Rattle.mq_core.specs.declared.model.Network.{Network}
 use Rattle.mq_core.specs.declared.model.Rows.{Rows}
 use Rattle.mq_core.proofs.Bounded.BoundedStations.{AreBy, LeaveBy}
 use Rattle.mq_core.proofs.Counting.ColumnNumbers.{Numbered, EachLeavesBy}
 use Rattle.mq_core.proofs.Counting.Stays.{FatesStay}
+use Rattle.mq_core.proofs.Events.Exits.{one_if_there}
 
-pub record RecurrenceLaws (rows : Rows) (b : Behaviour) : Type 0 where
+pub record RecurrenceLaws (rows : Rows) (ports : ℕ) (b : Behaviour) : Type 0 where
   -- the flow has one emission a visit, by position
-  pub numbered : (visits : List Visit) → Numbered 0 (b.flow rows visits) visits
+  pub numbered : (visits : List Visit) → Numbered 0 (b.flow rows ports visits) visits
   -- each visit departs as it is let out, or is lost as it comes
-  pub leaves : (visits : List Visit) → EachLeavesBy b.fate (b.flow rows visits) visits
+  pub leaves : (visits : List Visit) → EachLeavesBy b.fate (b.flow rows ports visits) visits
   -- the fates of the flow are those of the columns
-  pub fares : (visits : List Visit) → map b.fate (b.flow rows visits) ≡ b.fates rows (jobs_of visits) (arrives_of visits)
+  pub fares : (visits : List Visit) → map b.fate (b.flow rows ports visits) ≡ b.fates rows (came_of ports visits)
   -- its outputs are those of the columns
-  pub goes : (visits : List Visit) → map (λ (m : Emission). m.out) (b.flow rows visits) ≡ b.outs rows (jobs_of visits) (arrives_of visits)
+  pub goes : (visits : List Visit) → map (λ (m : Emission). m.out) (b.flow rows ports visits) ≡ b.outs rows (came_of ports visits)
   -- where only outputs mix, each output leaves by position
-  pub stands : b.order ≡ Mixed → (visits : List Visit) → Rises (λ a b. a ≤ b) (arrives_of visits) → (out : ℕ) → in_order_of (λ (m : Emission). m.time) (stream_of out (b.flow rows visits)) ≡ stream_of out (b.flow rows visits)
+  pub stands : b.order ≡ Mixed → (visits : List Visit) → Rises (λ a b. a ≤ b) (arrives_of visits) → (out : ℕ) → in_order_of (λ (m : Emission). m.time) (stream_of out (b.flow rows ports visits)) ≡ stream_of out (b.flow rows ports visits)
   -- no emission says a later time than its own
   pub prompt : (now : ℕ) (m : Emission) → m.time ≤ now → time_of_fate (b.fate m) ≤ now
   -- no job departs before it came
-  pub in_time : (job arrive : List ℕ) → length job ≡ length arrive → FatesInTime arrive (b.fates rows job arrive)
+  pub in_time : (came : Came) → length came.job ≡ length came.arrive → FatesInTime came.arrive (b.fates rows came)
   -- none departs earlier than after its bare time
-  pub stays : (job arrive : List ℕ) → length job ≡ length arrive → FatesStay (b.bare rows) job arrive (b.fates rows job arrive)
+  pub stays : (came : Came) → length came.job ≡ length came.arrive → FatesStay (b.bare rows) came.job came.arrive (b.fates rows came)
   -- each job adds at most the demands of 8 servers
-  pub bounded : (net : Network) (jobs arrives : List ℕ) (limit top : ℕ) → b.sound (length net.columns) ≡ true → b.servers ≤ 8 → Each (λ job. Tells net rows job) jobs → top + length arrives * 2 ^ 39 ≤ limit → AreBy top arrives → LeaveBy limit (b.fates rows jobs arrives)
+  pub bounded : (net : Network) (came : Came) (limit top : ℕ) → b.sound (length net.columns) ≡ true → b.servers ≤ 8 → Each (λ job. Tells net rows job) came.job → top + length came.arrive * 2 ^ 39 ≤ limit → AreBy top came.arrive → LeaveBy limit (b.fates rows came)
+  -- who leaves later than one comes is there for it
+  pub until : (time position : ℕ) (o : Option Emission) → one_if_there b.there time position o ≡ one_if_later time o
+  -- what is found goes by the fates
+  pub finds : (came : Came) → b.founds rows came ≡ founds_of came.arrive (b.fates rows came)
+  -- what leaves by an output goes by the outputs
+  pub streams : (came : Came) (out : ℕ) → b.stream rows came out ≡ once_out b.order came (b.fates rows came) (b.outs rows came) out

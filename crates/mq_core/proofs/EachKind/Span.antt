@@ -1,4 +1,4 @@
-use Rattle.std.proofs.Common.{List, None, Option, Some, [], ap, arith, eq-eqb, inl, inr, length, length-append, refl, subst, suc, sym, zero, ℕ, ◌*◌, ◌++◌, ◌<◌, ◌∙◌, ◌∷◌, ◌≡◌, ◌⊎◌}
+use Rattle.std.proofs.Common.{List, None, Option, Some, [], ap, arith, eq-eqb, inl, inr, length, length-append, refl, subst, suc, sym, zero, ℕ, ◌++◌, ◌<◌, ◌∙◌, ◌∷◌, ◌≡◌, ◌⊎◌}
 use Rattle.std.specs.List.{AllByRecursion as Each}
 use Rattle.std.specs.Prelude.{filter, slice_get}
 use Rattle.mq_core.specs.Event.{Event, earliest}
@@ -8,7 +8,7 @@ use Rattle.mq_core.specs.Laws.{IsFeedForward, IsPunctual, is_finish_at}
 use Rattle.mq_core.specs.Local.{Local}
 use Rattle.mq_core.specs.Machine.{Emission, State, Station, Table, acted, after, emissions_at, emissions_of, happens, opened, reaction, until}
 use Rattle.mq_core.specs.OnTime.{standard-on_time}
-use Rattle.mq_core.specs.Run.{starts}
+use Rattle.mq_core.specs.Run.{run_length, starts}
 use Rattle.mq_core.specs.Standard.{node_jobs, node_on, standard_handle, standard_jobs}
 use Rattle.mq_core.specs.StandardTable.{run_of, standard}
 use Rattle.mq_core.specs.Tallies.{arrival_or}
@@ -25,7 +25,7 @@ use Rattle.mq_core.proofs.Events.Forward.{emissions-now}
 use Rattle.mq_core.proofs.Events.Kept.{Fact, Holds, Keeps, holds-happens, holds-start, holds-until, kept}
 use Rattle.mq_core.proofs.Events.Pending.{earliest-filter}
 use Rattle.mq_core.proofs.Events.Steps.{after-none, after-some, after-zero, station-own}
-use Rattle.mq_core.proofs.Networks.Whole.{starts-arrive}
+use Rattle.mq_core.proofs.Networks.Whole.{starts-begin}
 use Rattle.mq_core.proofs.Networks.Wired.{feeds_forward}
 
 -- some node holds a job
@@ -47,8 +47,8 @@ module _ (t : Table Local) (P : Fact Local) (keeps : Keeps t P) (emits : (v serv
       inr (inl (record {
         node = n;
         position = length (s.stations n).visits;
-        inside = subst (λ (z : Station Local). length (s.stations n).visits < length z.visits) (sym own) (omega (arith, length-append (s.stations n).visits (record { job = job; arrive = now; found = t.jobs n (s.stations n).visits (s.stations n).local } ∷ [])));
-        at = subst (λ (z : Station Local). arrival_or 0 (slice_get z.visits (length (s.stations n).visits)) ≡ now) (sym own) (ap (arrival_or 0) (get-last (s.stations n).visits (record { job = job; arrive = now; found = t.jobs n (s.stations n).visits (s.stations n).local })));
+        inside = subst (λ (z : Station Local). length (s.stations n).visits < length z.visits) (sym own) (omega (arith, length-append (s.stations n).visits (record { job = job; arrive = now; port = port; found = t.jobs n (s.stations n).visits (s.stations n).local } ∷ [])));
+        at = subst (λ (z : Station Local). arrival_or 0 (slice_get z.visits (length (s.stations n).visits)) ≡ now) (sym own) (ap (arrival_or 0) (get-last (s.stations n).visits (record { job = job; arrive = now; port = port; found = t.jobs n (s.stations n).visits (s.stations n).local })));
       }))
   event-reaches s (Finish now n server position) rest q h =
       let own = station-own t s (Finish now n server position, rest) n (eq-eqb n n refl) in
@@ -79,7 +79,7 @@ node-emits : (rows : Rows) (o : Option Node) (rank : ℕ → ℕ) (v server posi
     IsFilled (emissions_of now s.visits (node_on rows o s.visits s.local now (Finish now v server position)).releases) ⊎ (0 < node_jobs o s.visits (node_on rows o s.visits s.local now (Finish now v server position)).local)
 unfolding earliest
 node-emits rows None rank v server position s fs rest now h first = let c = subst (λ l. earliest rank l ≡ Some (Finish now v server position, rest)) h first in absurd cc
-node-emits rows (Some node) rank v server position s fs rest now h first = (laws_of rows node.kind).shows rank v server position s fs rest now first h
+node-emits rows (Some node) rank v server position s fs rest now h first = (laws_of rows (length node.inputs) node.kind).shows rank v server position s fs rest now first h
 
 pub span-is_latest : SpanIsLatest
 unfolding standard_handle standard_jobs
@@ -87,10 +87,10 @@ span-is_latest plan rows read =
     record {
       came = λ v l. (areas v l).came;
       left = λ v l. (areas v l).left;
-      reached = over (reached-after (standard plan rows) (λ u. node_fact rows (slice_get plan.net.nodes u) u) (standard-keeps plan rows (reader_from 0 plan.net.nodes))
+      reached = over (reached-after (standard plan rows) (λ u. node_fact rows (slice_get plan.net.nodes u) u) (standard-keeps plan rows (reader_from 0 plan.net.nodes) refl)
           (λ v server position s fs rest now h first. node-emits rows (slice_get plan.net.nodes v) _ v server position s fs rest now h first)
-          (standard-on_time plan rows) (feeds_forward plan (standard plan rows) refl refl) (9 * length plan.net.nodes * length rows.time) (opened (standard plan rows) (starts rows))
-          (holds-start (standard plan rows) (λ u. node_fact rows (slice_get plan.net.nodes u) u) (standard-keeps plan rows (reader_from 0 plan.net.nodes)) (starts rows) (starts-arrive 0 rows.source rows.time))
+          (standard-on_time plan rows) (feeds_forward plan (standard plan rows) refl refl) (run_length plan.net.nodes rows) (opened (standard plan rows) (starts rows))
+          (holds-start (standard plan rows) (λ u. node_fact rows (slice_get plan.net.nodes u) u) (standard-keeps plan rows (reader_from 0 plan.net.nodes) refl) (starts rows) (starts-begin (standard plan rows) 0 rows.source rows.time))
           (inl refl));
     }
   where
@@ -105,6 +105,6 @@ span-is_latest plan rows read =
     areas v inside =
         (kept (standard plan rows)
         (λ u s fs now. node_fact rows (slice_get plan.net.nodes u) u s fs now × (u < length plan.net.nodes → Areas (standard plan rows) s now))
-        (keeps-areas (standard plan rows) (λ u. node_fact rows (slice_get plan.net.nodes u) u) (λ u. u < length plan.net.nodes) (standard-keeps plan rows (reader_from 0 plan.net.nodes))
+        (keeps-areas (standard plan rows) (λ u. node_fact rows (slice_get plan.net.nodes u) u) (λ u. u < length plan.net.nodes) (standard-keeps plan rows (reader_from 0 plan.net.nodes) refl)
         (λ u s fs now l h. node-number rows (slice_get plan.net.nodes u) u s fs now (inside-some plan.net.nodes u l) h))
-        (standard-on_time plan rows) (feeds_forward plan (standard plan rows) refl refl) (starts rows) (starts-arrive 0 rows.source rows.time) (9 * length plan.net.nodes * length rows.time) v).1 inside
+        (standard-on_time plan rows) (feeds_forward plan (standard plan rows) refl refl) (starts rows) (starts-begin (standard plan rows) 0 rows.source rows.time) (run_length plan.net.nodes rows) v).1 inside

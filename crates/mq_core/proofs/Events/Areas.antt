@@ -20,7 +20,7 @@ pub sum-same : (n : ℕ) (f g : ℕ → ℕ) → ((k : ℕ) → k < n → f k �
 sum-same zero f g h = refl
 sum-same (suc n) f g h = omega (arith, h n (omega arith), sum-same n f g (λ k l. h k (omega arith)))
 
-sum-grows : (n d : ℕ) (f g h : ℕ → ℕ) → ((k : ℕ) → k < n → f k ≡ g k + h k * d) → sum_below n f ≡ sum_below n g + sum_below n h * d
+pub sum-grows : (n d : ℕ) (f g h : ℕ → ℕ) → ((k : ℕ) → k < n → f k ≡ g k + h k * d) → sum_below n f ≡ sum_below n g + sum_below n h * d
 sum-grows zero d f g h e = omega arith
 sum-grows (suc n) d f g h e =
     let a = e n (omega arith) in
@@ -28,7 +28,7 @@ sum-grows (suc n) d f g h e =
     let c = add-mul (h n) (sum_below n h) d in
     omega arith
 
-get-visit : (now : ℕ) (visits : List Visit) (k : ℕ) → k < length visits → Each (λ (x : Visit). x.arrive ≤ now) visits → arrival_or 0 (slice_get visits k) ≤ now
+pub get-visit : (now : ℕ) (visits : List Visit) (k : ℕ) → k < length visits → Each (λ (x : Visit). x.arrive ≤ now) visits → arrival_or 0 (slice_get visits k) ≤ now
 get-visit now [] k l h = absurd (omega arith)
 get-visit now (x ∷ xs) zero l h = h.0
 get-visit now (x ∷ xs) (suc k) l h = get-visit now xs k (omega arith) h.1
@@ -93,7 +93,7 @@ acted-areas t s (Arrive now n port job) h =
     }
   where
     x : Visit
-    x = record { job = job; arrive = now; found = t.jobs n s.visits s.local }
+    x = record { job = job; arrive = now; port = port; found = t.jobs n s.visits s.local }
 
     size : length (s.visits ++ x ∷ []) ≡ suc (length s.visits)
     size = omega (arith, length-append s.visits (x ∷ []))
@@ -121,6 +121,7 @@ keeps-areas t P Q keeps number =
           left = Each-weaker _ _ (λ m q. omega arith) s.emitted a.left;
         },
       );
-      arrives = λ v port job s fs now h f. (keeps.arrives v port job s fs now h.0 f, λ q. acted-areas t s (Arrive now v port job) (h.1 q));
+      fits = keeps.fits;
+      arrives = λ v port job s fs now h f fit. (keeps.arrives v port job s fs now h.0 f fit, λ q. acted-areas t s (Arrive now v port job) (h.1 q));
       ends = λ v server position s fs rest now h first. (keeps.ends v server position s fs rest now h.0 first, λ q. acted-areas t s (Finish now v server position) (h.1 q));
     }

@@ -11,7 +11,7 @@ use Rattle.mq_core.proofs.Lists.Each.{Each-append, Each-front, Each-back, not_tr
 use Rattle.mq_core.proofs.Events.Pending.{earliest-splits, earliest-none, earliest-filter}
 use Rattle.mq_core.proofs.Events.Steps.{after-some, after-none, after-zero, station-other, station-own}
 use Rattle.mq_core.proofs.Events.Forward.{Each-arrivals, Each-finishes}
-use Rattle.mq_core.proofs.Events.Kept.{Fact, Keeps, Holds, holds-happens, holds-until, holds-start}
+use Rattle.mq_core.proofs.Events.Kept.{Begins, Fact, Keeps, Holds, holds-happens, holds-until, holds-start}
 
 sum_below-same : (n : ℕ) (f g : ℕ → ℕ) → ((k : ℕ) → k < n → f k ≡ g k) → sum_below n f ≡ sum_below n g
 sum_below-same zero f g h = refl
@@ -140,7 +140,7 @@ module _ {L : Type 0} (t : Table L) (P : Fact L) (keeps : Keeps t P) (on_time : 
       go (Some p) q ih = rw (after-some n t s p q) (ih (happens t s p) (holds-happens t P keeps on_time forward s p q h) (inside-happens s p q inside) (let less = happens-falls s p q h inside in omega arith))
 
   -- the same from the start
-  pub done-from_start : 1 ≤ fall → (starts : List Event) → Each (λ e. (n : ℕ) → is_finish_at n e ≡ false) starts → Each (λ f. node_of f < size) starts → (n : ℕ) → total size weight load (opened t starts) ≤ n → (after n t (opened t starts)).pending ≡ []
+  pub done-from_start : 1 ≤ fall → (starts : List Event) → Each (Begins t) starts → Each (λ f. node_of f < size) starts → (n : ℕ) → total size weight load (opened t starts) ≤ n → (after n t (opened t starts)).pending ≡ []
   done-from_start some starts arrive inside n l = done-after some n (opened t starts) (holds-start t P keeps starts arrive) inside l
 
   -- the total weight never grows
@@ -158,5 +158,5 @@ module _ {L : Type 0} (t : Table L) (P : Fact L) (keeps : Keeps t P) (on_time : 
           )
 
   -- the same from the start
-  pub never-grows-from_start : (starts : List Event) → Each (λ e. (n : ℕ) → is_finish_at n e ≡ false) starts → Each (λ f. node_of f < size) starts → (n : ℕ) → total size weight load (after n t (opened t starts)) ≤ total size weight load (opened t starts)
+  pub never-grows-from_start : (starts : List Event) → Each (Begins t) starts → Each (λ f. node_of f < size) starts → (n : ℕ) → total size weight load (after n t (opened t starts)) ≤ total size weight load (opened t starts)
   never-grows-from_start starts arrive inside n = never-grows n (opened t starts) (holds-start t P keeps starts arrive) inside

@@ -29,7 +29,7 @@ emission_at-append (m ∷ ms) more q = go (eqb m.position q) (emission_at-append
     go true ih = inl (m, refl, refl)
     go false ih = ih
 
-found-each : (P : Emission → Type 0) (ms : List Emission) (q : ℕ) (m : Emission) → Each P ms → emission_at ms q ≡ Some m → P m
+pub found-each : (P : Emission → Type 0) (ms : List Emission) (q : ℕ) (m : Emission) → Each P ms → emission_at ms q ≡ Some m → P m
 found-each P [] q m h e = absurd cc
 found-each P (k ∷ ks) q m h e = go (eqb k.position q) e (found-each P ks q m h.1)
   where
@@ -44,7 +44,7 @@ later-none : (a b : ℕ) → b ≤ a → ◌≡◌ {A = ℕ} (cond (ltb a b) 1 0
 later-none a b h = grind (arith, nat_tests)
 
 -- an emission now of an earlier position counts as before
-later-same : (a now q : ℕ) (emitted more : List Emission) → Each (λ (m : Emission). m.time ≡ now) more → ((m : Emission) → emission_at more q ≡ Some m → a < now) → one_if_later a (emission_at (emitted ++ more) q) ≡ one_if_later a (emission_at emitted q)
+pub later-same : (a now q : ℕ) (emitted more : List Emission) → Each (λ (m : Emission). m.time ≡ now) more → ((m : Emission) → emission_at more q ≡ Some m → a < now) → one_if_later a (emission_at (emitted ++ more) q) ≡ one_if_later a (emission_at emitted q)
 later-same a now q emitted more same h = go (emission_at-append emitted more q)
   where
     new : (o : Option Emission) → emission_at more q ≡ o → one_if_later a o ≡ 1
@@ -59,7 +59,7 @@ still_there-same : (a now p : ℕ) (emitted more : List Emission) → Each (λ (
 still_there-same a now p emitted more same h = sum-same p _ _ (λ q l. later-same a now q emitted more same (λ m e. h q m l e))
 
 -- what hasn't left now leaves later
-later-now : (now q : ℕ) (emitted : List Emission) → Each (λ (m : Emission). m.time ≤ now) emitted → one_if_later now (emission_at emitted q) ≡ one_if_none (emission_at emitted q)
+pub later-now : (now q : ℕ) (emitted : List Emission) → Each (λ (m : Emission). m.time ≤ now) emitted → one_if_later now (emission_at emitted q) ≡ one_if_none (emission_at emitted q)
 later-now now q emitted h = go (emission_at emitted q) refl
   where
     go : (o : Option Emission) → emission_at emitted q ≡ o → one_if_later now o ≡ one_if_none o
@@ -71,7 +71,8 @@ keeps-founds {L} t P Q keeps number leaves =
     record {
       opens = λ v. let k = keeps.opens v in (k.0, k.1, λ _. record { each = λ p l. absurd (omega arith) });
       waits = λ v s fs now later h l f. let k = keeps.waits v s fs now later (h.0, h.1) l f in (k.0, k.1, λ q. record { each = (h.2 q).each });
-      arrives = λ v port job s fs now h f. let k = keeps.arrives v port job s fs now (h.0, h.1) f in (k.0, k.1, λ q. came v port job s fs now q h.0 (h.1 q) (h.2 q));
+      fits = keeps.fits;
+      arrives = λ v port job s fs now h f fit. let k = keeps.arrives v port job s fs now (h.0, h.1) f fit in (k.0, k.1, λ q. came v port job s fs now q h.0 (h.1 q) (h.2 q));
       ends = λ v server position s fs rest now h first. let k = keeps.ends v server position s fs rest now (h.0, h.1) first in (k.0, k.1, λ q. record { each = λ p l. (h.2 q).each p l ∙ sym (still_there-same _ now p s.emitted (emissions_at t s (Finish now v server position)) (emissions-now t s (Finish now v server position)) (λ r m u e. leaves.earlier v server position s fs rest now q h.0 first r p m e u l)) });
     }
   where
@@ -79,7 +80,7 @@ keeps-founds {L} t P Q keeps number leaves =
     came v port job s fs now q h areas founds = record { each = λ p l. go p (eqb p (length s.visits)) refl (omega arith) }
       where
         x : Visit
-        x = record { job = job; arrive = now; found = t.jobs v s.visits s.local }
+        x = record { job = job; arrive = now; port = port; found = t.jobs v s.visits s.local }
 
         more : List Emission
         more = emissions_at t s (Arrive now v port job)

@@ -1,27 +1,41 @@
-use Rattle.std.proofs.Common.{◌≡◌, ℕ, zero, suc, ◌-◌, ◌<◌, ◌≤◌, Bool, true, false, eqb, List, [], ◌++◌, Option, Some, None, sym, refl, ap, ◌∙◌, subst, arith, eq-eqb, eqb-true}
+use Rattle.std.proofs.Common.{Bool, IfSome, List, None, Option, Some, [], ap, arith, eq-eqb, eqb, eqb-true, false, max, refl, subst, suc, sym, true, zero, ℕ, ◌++◌, ◌-◌, ◌<◌, ◌∙◌, ◌∷◌, ◌≡◌, ◌≤◌}
 use Rattle.std.proofs.lemmas.List.{append-nil}
 use Rattle.std.specs.Prelude.{filter}
 use Rattle.std.specs.List.{AllByRecursion as Each}
 use Rattle.mq_core.specs.Event.{Event, time_of, node_of, is_sooner, place_of, earliest}
 use Rattle.mq_core.specs.Event.Event.{Arrive, Finish}
-use Rattle.mq_core.specs.Machine.{Table, State, Station, after, happens, finishes_of, reaction, until, acted, aged, opened}
+use Rattle.mq_core.specs.Machine.{State, Station, Table, acted, after, aged, arrivals_of, caused, emissions_at, finishes_of, happens, opened, reaction, until}
 use Rattle.mq_core.specs.Laws.{IsPunctual, IsFeedForward, is_finish_at}
 use Rattle.mq_core.proofs.Lists.Order.{not_below-cons}
-use Rattle.mq_core.proofs.Lists.Each.{Each-weaker, Each-any, Each-filter, Each-filter_if, filter-none}
-use Rattle.mq_core.proofs.Events.Pending.{earliest-splits, Splits-least, earliest-filter, filter-earliest_other}
+use Rattle.mq_core.proofs.Lists.Each.{Each-any, Each-append, Each-back, Each-filter, Each-filter_if, Each-front, Each-weaker, filter-none}
+use Rattle.mq_core.proofs.Events.Pending.{Splits, Splits-least, earliest-filter, earliest-splits, filter-earliest_other}
 use Rattle.mq_core.proofs.Events.Steps.{after-some, after-none, after-zero, station-other, station-own}
-use Rattle.mq_core.proofs.Events.Forward.{pending-no_earlier, no_earlier}
+use Rattle.mq_core.proofs.Events.Forward.{Each-arrivals, Each-finishes, no_earlier, pending-no_earlier}
 use Rattle.mq_core.proofs.Events.Third.{now-current, eqb-swap, elsewhere, finishes-caused, no_finishes-caused, finishes-pending}
 
 -- what is said of a node, of its pending finishes and of the clock
 abbrev pub Fact : Type 0 → Type 1
 Fact L = ℕ → Station L → List Event → ℕ → Type 0
 
+-- a port that a node has; one that has none takes its arrivals as by the first
+abbrev pub Fits : {L : Type 0} → Table L → ℕ → ℕ → Type 0
+Fits t v port = port < max 1 (t.ports v)
+
+-- an arrival comes by a port that its node has
+abbrev pub FitsIn : {L : Type 0} → Table L → Event → Type 0
+FitsIn t (Arrive time node port job) = Fits t node port
+FitsIn t (Finish time node server position) = Unit {0}
+
+-- an arrival, by a port that its node has
+abbrev pub Begins : {L : Type 0} → Table L → Event → Type 0
+Begins t e = ((n : ℕ) → is_finish_at n e ≡ false) × FitsIn t e
+
 -- a fact of each node that holds at the start and that time and the node's own events keep
 pub record Keeps {L : Type 0} (t : Table L) (P : Fact L) : Type 0 where
   pub opens : (v : ℕ) → P v (record { local = t.opening v; visits = []; emitted = []; area = 0; busy = 0; peak = 0 }) [] 0
   pub waits : (v : ℕ) (s : Station L) (fs : List Event) (now later : ℕ) → P v s fs now → now ≤ later → Each (λ f. later ≤ time_of f) fs → P v (aged t (later - now) v s) fs later
-  pub arrives : (v port job : ℕ) (s : Station L) (fs : List Event) (now : ℕ) → P v s fs now → Each (λ f. now < time_of f) fs → P v (acted t s (Arrive now v port job)) (fs ++ finishes_of v (reaction t s (Arrive now v port job)).services) now
+  pub arrives : (v port job : ℕ) (s : Station L) (fs : List Event) (now : ℕ) → P v s fs now → Each (λ f. now < time_of f) fs → Fits t v port → P v (acted t s (Arrive now v port job)) (fs ++ finishes_of v (reaction t s (Arrive now v port job)).services) now
+  pub fits : (n out : ℕ) → IfSome (t.reader n out) (λ to. Fits t to.0 to.1)
   pub ends : (v server position : ℕ) (s : Station L) (fs rest : List Event) (now : ℕ) → P v s fs now → earliest t.rank fs ≡ Some (Finish now v server position, rest) → P v (acted t s (Finish now v server position)) (rest ++ finishes_of v (reaction t s (Finish now v server position)).services) now
 
 strict : (a b : ℕ) → a ≤ b → (a ≡ b → 1 ≤ 0) → a < b
@@ -46,6 +60,7 @@ finish-later rank v (Arrive t n q j) (Finish t' n' q' j') a b c h =
 pub record Holds {L : Type 0} (t : Table L) (P : Fact L) (s : State L) : Type 0 where
   pub each : (v : ℕ) → P v (s.stations v) (filter (is_finish_at v) s.pending) s.clock
   pub current : Each (λ f. s.clock ≤ time_of f) s.pending
+  pub fitting : Each (FitsIn t) s.pending
 
 -- each node just before an event
 pub holds-until : {L : Type 0} (t : Table L) (P : Fact L) → Keeps t P → (s : State L) (p : Event × List Event) → earliest t.rank s.pending ≡ Some p → Holds t P s → (v : ℕ) → P v (until t s (time_of p.0) v) (filter (is_finish_at v) s.pending) (time_of p.0)
@@ -58,10 +73,26 @@ holds-happens {L} t P keeps on_time forward s p q h =
     record {
       each = λ v. go v (eqb (node_of p.0) v) refl;
       current = Each-weaker _ _ (λ g k. k.0) (happens t s p).pending (pending-no_earlier t on_time forward s p q);
+      fitting = Each-append _ p.1 _ (subst (Each (FitsIn t)) (sym splits.left) (Each-append _ splits.front splits.back (Each-front _ splits.front (p.0 ∷ splits.back) whole) own-fits.1)) (caused-fits (until t s (time_of p.0) (node_of p.0)) p.0);
     }
   where
     now : ℕ
     now = time_of p.0
+
+    splits : Splits t.rank s.pending p
+    splits = earliest-splits t.rank s.pending p q
+
+    whole : Each (FitsIn t) (splits.front ++ p.0 ∷ splits.back)
+    whole = subst (Each (FitsIn t)) splits.whole h.fitting
+
+    own-fits : FitsIn t p.0 × Each (FitsIn t) splits.back
+    own-fits = Each-back _ splits.front (p.0 ∷ splits.back) whole
+
+    caused-fits : (x : Station L) (e : Event) → Each (FitsIn t) (caused t x e)
+    caused-fits x e =
+        Each-append _ (arrivals_of t (node_of e) (emissions_at t x e)) (finishes_of (node_of e) (reaction t x e).services)
+        (Each-arrivals t x e (FitsIn t) (λ out port node job r. subst (λ o. IfSome o (λ to. Fits t to.0 to.1)) r (keeps.fits (node_of e) out)))
+        (Each-finishes t x e (FitsIn t) on_time (λ time server position q. tt))
 
     least : Each (λ f. is_sooner t.rank f p.0 ≡ false) s.pending
     least = Splits-least t.rank s.pending p (earliest-splits t.rank s.pending p q)
@@ -80,7 +111,7 @@ holds-happens {L} t P keeps on_time forward s p q h =
         let old : P v (until t s n v) (filter (is_finish_at v) p.1) n = subst (λ l. P v (until t s n v) l n) left (subst (λ m. P v (until t s m v) (filter (is_finish_at v) s.pending) m) at (waited v)) in
         let strictly : Each (λ f. n < time_of f) (filter (is_finish_at v) p.1) = subst (Each (λ f. n < time_of f)) left (subst (λ m. Each (λ f. m < time_of f) (filter (is_finish_at v) s.pending)) at later) in
         subst (λ u. P v (acted t (until t s n v) (Arrive n u port job)) (filter (is_finish_at v) p.1 ++ finishes_of v (reaction t (until t s n v) (Arrive n u port job)).services) n) (sym here)
-        (keeps.arrives v port job (until t s n v) (filter (is_finish_at v) p.1) n old strictly)
+        (keeps.arrives v port job (until t s n v) (filter (is_finish_at v) p.1) n old strictly (subst (λ u. Fits t u port) here (subst (FitsIn t) (sym same) own-fits.0)))
     own (Finish n u server position) v same here =
         let passes : is_finish_at v p.0 ≡ true = subst (λ x. is_finish_at v x ≡ true) same (eq-eqb u v here) in
         let first : earliest t.rank (filter (is_finish_at v) s.pending) ≡ Some (p.0, filter (is_finish_at v) p.1) = earliest-filter t.rank (is_finish_at v) s.pending p q passes in
@@ -116,12 +147,13 @@ holds-after {L} t P keeps on_time forward (suc n) s h = go (earliest t.rank s.pe
     go None q ih = rw (after-none (suc n) t s q) h
     go (Some p) q ih = rw (after-some n t s p q) (ih (happens t s p) (holds-happens t P keeps on_time forward s p q h))
 
-pub holds-start : {L : Type 0} (t : Table L) (P : Fact L) → Keeps t P → (starts : List Event) → Each (λ e. (n : ℕ) → is_finish_at n e ≡ false) starts → Holds t P (opened t starts)
+pub holds-start : {L : Type 0} (t : Table L) (P : Fact L) → Keeps t P → (starts : List Event) → Each (Begins t) starts → Holds t P (opened t starts)
 holds-start t P keeps starts arrive =
     record {
-      each = λ u. subst (λ l. P u (record { local = t.opening u; visits = []; emitted = []; area = 0; busy = 0; peak = 0 }) l 0) (sym (filter-none (is_finish_at u) starts (Each-weaker _ _ (λ e h. h u) starts arrive))) (keeps.opens u);
+      each = λ u. subst (λ l. P u (record { local = t.opening u; visits = []; emitted = []; area = 0; busy = 0; peak = 0 }) l 0) (sym (filter-none (is_finish_at u) starts (Each-weaker _ _ (λ e h. h.0 u) starts arrive))) (keeps.opens u);
       current = Each-any _ (λ e. omega arith) starts;
+      fitting = Each-weaker _ _ (λ e h. h.1) starts arrive;
     }
 
-pub kept : {L : Type 0} (t : Table L) (P : Fact L) → Keeps t P → IsPunctual t → IsFeedForward t → (starts : List Event) → Each (λ e. (n : ℕ) → is_finish_at n e ≡ false) starts → (n v : ℕ) → P v ((after n t (opened t starts)).stations v) (filter (is_finish_at v) (after n t (opened t starts)).pending) (after n t (opened t starts)).clock
+pub kept : {L : Type 0} (t : Table L) (P : Fact L) → Keeps t P → IsPunctual t → IsFeedForward t → (starts : List Event) → Each (Begins t) starts → (n v : ℕ) → P v ((after n t (opened t starts)).stations v) (filter (is_finish_at v) (after n t (opened t starts)).pending) (after n t (opened t starts)).clock
 kept t P keeps on_time forward starts arrive n v = (holds-after t P keeps on_time forward n (opened t starts) (holds-start t P keeps starts arrive)).each v

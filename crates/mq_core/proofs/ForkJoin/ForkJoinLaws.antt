@@ -1,5 +1,5 @@
 -- The laws of the kind.
-use Rattle.std.proofs.Common.{List, arith, length, refl, ◌+◌, ◌∙◌, ◌≡◌, inl}
+use Rattle.std.proofs.Common.{List, arith, inl, length, refl, ℕ, ◌+◌, ◌∙◌, ◌≡◌}
 use Rattle.std.specs.List.{flat_map}
 use Rattle.std.specs.Prelude.{sum_by}
 use Rattle.mq_core.specs.Handling.{demand_of_visit}
@@ -9,7 +9,7 @@ use Rattle.mq_core.specs.declared.model.Kind.TheVariants.{ForkJoin}
 use Rattle.mq_core.specs.declared.model.Rows.{Rows}
 use Rattle.mq_core.proofs.Counting.Unlost.{departing-whole}
 use Rattle.mq_core.proofs.Counting.Services.{none-asks, services-by, services-count}
-use Rattle.mq_core.proofs.EachKind.KindLaws.{Inside, KindLaws, own_out}
+use Rattle.mq_core.proofs.EachKind.KindLaws.{Inside, KindLaws, OnceLaws, OwnLaws, own_out}
 use Rattle.mq_core.proofs.Events.Remaining.{remaining}
 use Rattle.mq_core.proofs.ForkJoin.JoinBusy.{branches_begun, joining-busy_arrives, joining-busy_ends, joining-busy_opens, joining-busy_waits}
 use Rattle.mq_core.proofs.ForkJoin.JoinEnds.{joining-done}
@@ -28,21 +28,18 @@ fork_join-inside rows branches =
       busy = λ s fs now. s.busy + remaining now fs ≡ branches_begun rows s.visits (length s.visits) branches s.local.branches;
     }
 
-pub fork_join-laws : (rows : Rows) (branches : List (List Demand)) → KindLaws rows (fork_join branches) (fork_join-inside rows branches)
-fork_join-laws rows branches =
+pub fork_join-laws : (rows : Rows) (ports : ℕ) (branches : List (List Demand)) → KindLaws rows ports (fork_join branches) (fork_join-inside rows branches)
+fork_join-laws rows ports branches =
     record {
-      opens = λ columns v sound. joining-opens rows branches v (branches-shaped columns branches sound);
+      opens = λ columns v sound many. joining-opens rows branches v (branches-shaped columns branches sound);
       waits = λ v s area busy fs now later l h. joining-waits rows branches v s.visits s.local.branches s.emitted fs now later l h;
-      arrives = λ peak v port s fs now x at soon h. joining-arrives rows branches v port s.local s.visits s.emitted fs now x at soon h;
+      arrives = λ peak v port s fs now x at by fit soon h. joining-arrives rows branches v port s.local s.visits s.emitted fs now x at soon h;
       ends = λ peak rank v server position s fs rest now first h. joining-ends rows branches rank v server position s.local s.visits s.emitted fs rest now first h;
       flow = λ v s now h. (joining-done rows branches v s.visits s.local.branches s.emitted now h).1;
       number = λ v s fs now h. joining-number rows branches v s.visits s.local.branches s.emitted fs now h;
-      empty = λ v s now h. (joining-done rows branches v s.visits s.local.branches s.emitted _ h).0;
-      own = λ v port s now x q m e. absurd cc;
-      earlier = λ rank v server position s fs rest now first h q p m e l u. joining-earlier rows branches rank v server position s.local s.visits s.emitted fs rest now first h q p m e l u;
       shows = λ rank v server position s fs rest now first h. joining-shows rows branches rank v server position s.local s.visits s.emitted fs rest now first h;
       weightless = λ onward. fork_load-opening onward branches;
-      adds = λ onward v port job s visits fs now f. joining-arrives-falls rows branches onward v port job s.local s.visits visits s.emitted fs now f;
+      adds = λ onward v port job s visits fs now f. let a = joining-arrives-falls rows branches onward v port job s.local s.visits visits s.emitted fs now f in omega arith;
       takes = λ onward rank v server position s fs rest now first f. joining-ends-falls rows branches rank onward v server position s.local s.visits s.emitted fs rest now first f;
       idle = λ v. joining-busy_opens rows branches v;
       works = λ v area s fs now later l f h b. joining-busy_waits rows branches v s.visits s.local.branches s.emitted fs now later s.busy l f h b;
@@ -52,9 +49,26 @@ fork_join-laws rows branches =
           let all = services-count rows (ForkJoin branches) s.visits s.emitted (λ m. refl) in
           joining-busy_done rows branches v s.visits s.local.branches s.emitted _ _ h k
           ∙ (services-by rows (ForkJoin branches) s.visits (λ o. sum_by (λ demand. demand_of_visit rows demand o) (flat_map (λ demands. demands) branches)) (none-asks rows (flat_map (λ demands. demands) branches)) (λ x. refl) ∙ all);
+    }
+
+-- each visit leaves with its own emission
+pub fork_join-own : (rows : Rows) (ports : ℕ) (branches : List (List Demand)) → OwnLaws rows ports (fork_join branches) (fork_join-inside rows branches)
+fork_join-own rows ports branches =
+    record {
+      exits = λ s p. refl;
+      own = λ v port s now x q m e. absurd cc;
+      earlier = λ rank v server position s fs rest now first h q p m e l u. joining-earlier rows branches rank v server position s.local s.visits s.emitted fs rest now first h q p m e l u;
+    }
+
+-- what it owes as it lets each visit out once
+pub fork_join-once : (rows : Rows) (ports : ℕ) (branches : List (List Demand)) → OnceLaws rows ports (fork_join branches) (fork_join-inside rows branches)
+fork_join-once rows ports branches =
+    record {
+      one = omega arith;
+      empty = λ v s now h. (joining-done rows branches v s.visits s.local.branches s.emitted _ h).0;
       enters = λ v port s fs now x at f. let more = joining-more rows branches v port s.local s.visits s.emitted fs now x at f in omega arith;
       leaves = λ rank v server position s fs rest now first h. joining-ends-few rows branches rank v server position s.local s.visits s.emitted fs rest now first h;
       vacant = omega arith;
-      raises = λ v port s fs now x at h f. inl (joining-more rows branches v port s.local s.visits s.emitted fs now x at f, λ n. departing-whole (ForkJoin branches) (λ m. refl) (own_out rows (fork_join branches) v port s now x) n);
+      raises = λ v port s fs now x at h f. inl (joining-more rows branches v port s.local s.visits s.emitted fs now x at f, λ n. departing-whole (ForkJoin branches) (λ m. refl) (own_out rows ports (fork_join branches) v port s now x) n);
       departs = λ v server position s now q m e. refl;
     }

@@ -1,5 +1,5 @@
 -- The laws of the kind's recurrence.
-use Rattle.std.proofs.Common.{List, arith, length, refl}
+use Rattle.std.proofs.Common.{List, arith, length, refl, ℕ}
 use Rattle.std.specs.List.{flat_map}
 use Rattle.mq_core.specs.Kinds.ForkJoin.{fork_join}
 use Rattle.mq_core.specs.PlanLaws.{Tells}
@@ -15,10 +15,11 @@ use Rattle.mq_core.proofs.Counting.ColumnNumbers.{leaving-numbered}
 use Rattle.mq_core.proofs.Counting.FlowColumns.{departing-leaves, leaving-fates, leaving-outs}
 use Rattle.mq_core.proofs.Counting.Stays.{stay-fates, stay-joined}
 use Rattle.mq_core.proofs.EachKind.RecurrenceLaws.{RecurrenceLaws}
+use Rattle.mq_core.proofs.Events.Exits.{until-own}
 use Rattle.mq_core.proofs.ForkJoin.ForkTimes.{joined-long, when-joined}
 
-pub fork_join-recurrence : (rows : Rows) (branches : List (List Demand)) → RecurrenceLaws rows (fork_join branches)
-fork_join-recurrence rows branches =
+pub fork_join-recurrence : (rows : Rows) (ports : ℕ) (branches : List (List Demand)) → RecurrenceLaws rows ports (fork_join branches)
+fork_join-recurrence rows ports branches =
     record {
       numbered = λ visits. leaving-numbered 0 _ visits (joined-long rows branches visits);
       leaves = λ visits. departing-leaves (ForkJoin branches) (λ m. refl) _ visits;
@@ -26,10 +27,13 @@ fork_join-recurrence rows branches =
       goes = λ visits. leaving-outs 0 _ visits (joined-long rows branches visits);
       stands = λ mixed visits rise out. absurd cc;
       prompt = λ now m l. l;
-      in_time = λ job arrive e. when-joined rows branches job arrive e;
-      stays = λ job arrive e. stay-fates (bare_time rows (ForkJoin branches)) job arrive _ (stay-joined rows branches job arrive e);
-      bounded = λ net jobs arrives limit top sound few told room early.
-          let small = all-small rows jobs (flat_map (λ (ds : List Demand). ds) branches) (each-weaker _ _ (λ job (t : Tells net rows job). (t.kind (ForkJoin branches) sound).small) jobs told) in
-          departs-by limit (fork_departs arrives (branch_demands rows branches jobs))
-          (fork-by limit top (length arrives) arrives (branch_demands rows branches jobs) (omega arith) room (branches-few rows jobs branches few) early (branches-small rows jobs branches small));
+      in_time = λ came e. when-joined rows branches came.job came.arrive e;
+      stays = λ came e. stay-fates (bare_time rows (ForkJoin branches)) came.job came.arrive _ (stay-joined rows branches came.job came.arrive e);
+      bounded = λ net came limit top sound few told room early.
+          let small = all-small rows came.job (flat_map (λ (ds : List Demand). ds) branches) (each-weaker _ _ (λ job (t : Tells net rows job). (t.kind (ForkJoin branches) sound).small) came.job told) in
+          departs-by limit (fork_departs came.arrive (branch_demands rows branches came.job))
+          (fork-by limit top (length came.arrive) came.arrive (branch_demands rows branches came.job) (omega arith) room (branches-few rows came.job branches few) early (branches-small rows came.job branches small));
+      until = λ time position o. until-own time position o;
+      finds = λ came. refl;
+      streams = λ came out. refl;
     }

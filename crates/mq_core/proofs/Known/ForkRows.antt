@@ -1,5 +1,6 @@
 -- Fork-joins worked by hand: each row below says what a run of one gives, and holds by computing the event list.
-use Rattle.std.proofs.Common.{◌≡◌, false, [], ◌∷◌, refl}
+use Rattle.mq_core.specs.Came.{came_by}
+use Rattle.std.proofs.Common.{◌≡◌, false, [], ◌∷◌, refl, arith}
 use Rattle.std.specs.Prelude.{IsTrue, codes}
 use Rattle.mq_core.specs.Columns.{column_exit, column_stream, column_totals, column_visits}
 use Rattle.mq_core.specs.Event.{earliest, is_below, place_of, sooner_of}
@@ -17,6 +18,7 @@ use Rattle.mq_core.specs.declared.model.Kind.TheVariants.{ForkJoin, Source}
 use Rattle.mq_core.specs.declared.model.Network.{Network}
 use Rattle.mq_core.specs.declared.model.Rows.{Rows}
 use Rattle.mq_core.specs.declared.model.Visits.{Visits}
+use Rattle.mq_core.proofs.Known.ShortRuns.{at-end}
 use Rattle.mq_core.proofs.Known.WorkedRows.{EndsAt, from, net_of, node_of, rows_of, seen}
 
 -- one source and one fork-join
@@ -30,21 +32,23 @@ two_branches = ForkJoin ((Fixed 2 ∷ []) ∷ (Fixed 3 ∷ []) ∷ [])
 abbrev two_rows : Rows
 two_rows = rows_of (0 ∷ 0 ∷ []) (0 ∷ 1 ∷ []) ([] ∷ [] ∷ [])
 
-abbrev fork_end : State Local
-fork_end = run_in (fork_net two_branches) two_rows
+abbrev IsForked : State Local → Type 0
+IsForked end =
+    EndsAt end 6
+    × (seen end 1 ≡ record { left = (0, 0, 3) ∷ (1, 0, 6) ∷ []; found = 0 ∷ 1 ∷ []; area = 8; busy = 10; peak = 2 })
+    × (totals_of two_rows two_branches (end.stations 1) ≡ record { came = 2; left = 2; lost = 0; wait = 2; longest = 2; busy = 10; area = 8; peak = 2 })
+    × (exit_of two_rows (end.stations 1) 0 ≡ (2, 8))
 
-fork-row : EndsAt fork_end 6 × (seen fork_end 1 ≡ record { left = (0, 0, 3) ∷ (1, 0, 6) ∷ []; found = 0 ∷ 1 ∷ []; area = 8; busy = 10; peak = 2 })
-    × (totals_of two_rows two_branches (fork_end.stations 1) ≡ record { came = 2; left = 2; lost = 0; wait = 2; longest = 2; busy = 10; area = 8; peak = 2 })
-    × (exit_of two_rows (fork_end.stations 1) 0 ≡ (2, 8)) × (servers_in two_branches ≡ 2) × (bare_time two_rows two_branches 0 ≡ 3)
+fork-row : IsForked (run_in (fork_net two_branches) two_rows) × (servers_in two_branches ≡ 2) × (bare_time two_rows two_branches 0 ≡ 3)
 unfolding after step earliest sooner_of is_below place_of rank_in reader_from port_reading ranked_after first_ready
-fork-row = ((refl, refl), refl, refl, refl, refl, refl)
+fork-row = (at-end 8 (fork_net two_branches) two_rows IsForked (omega arith) refl ((refl, refl), refl, refl, refl), refl, refl)
 
 -- the same in columns
 abbrev fork_visits : Visits
 fork_visits = record { job = 0 ∷ 1 ∷ []; arrive = 0 ∷ 1 ∷ []; found = 0 ∷ 1 ∷ []; fate = Departs 3 ∷ Departs 6 ∷ [] }
 
-fork-columns : (column_visits two_rows two_branches (0 ∷ 1 ∷ []) (0 ∷ 1 ∷ []) ≡ fork_visits)
-    × (column_stream two_rows two_branches (0 ∷ 1 ∷ []) (0 ∷ 1 ∷ []) 0 ≡ record { job = 0 ∷ 1 ∷ []; time = 3 ∷ 6 ∷ [] })
+fork-columns : (column_visits two_rows two_branches (came_by (0 ∷ 1 ∷ []) (0 ∷ 1 ∷ [])) ≡ fork_visits)
+    × (column_stream two_rows two_branches (came_by (0 ∷ 1 ∷ []) (0 ∷ 1 ∷ [])) 0 ≡ record { job = 0 ∷ 1 ∷ []; time = 3 ∷ 6 ∷ [] })
     × (column_totals two_rows two_branches fork_visits ≡ record { came = 2; left = 2; lost = 0; wait = 2; longest = 2; busy = 10; area = 8; peak = 2 })
     × (column_exit two_rows (record { job = 0 ∷ 1 ∷ []; time = 3 ∷ 6 ∷ [] }) ≡ (2, 8))
 fork-columns = (refl, refl, refl, refl)
@@ -53,14 +57,16 @@ fork-columns = (refl, refl, refl, refl)
 abbrev series : Kind
 series = ForkJoin ((Fixed 1 ∷ Fixed 2 ∷ []) ∷ (Fixed 4 ∷ []) ∷ [])
 
-abbrev series_end : State Local
-series_end = run_in (fork_net series) two_rows
+abbrev IsSeries : State Local → Type 0
+IsSeries end =
+    EndsAt end 8
+    × (seen end 1 ≡ record { left = (0, 0, 4) ∷ (1, 0, 8) ∷ []; found = 0 ∷ 1 ∷ []; area = 11; busy = 14; peak = 2 })
+    × (totals_of two_rows series (end.stations 1) ≡ record { came = 2; left = 2; lost = 0; wait = 3; longest = 3; busy = 14; area = 11; peak = 2 })
+    × (exit_of two_rows (end.stations 1) 0 ≡ (2, 11))
 
-series-row : EndsAt series_end 8 × (seen series_end 1 ≡ record { left = (0, 0, 4) ∷ (1, 0, 8) ∷ []; found = 0 ∷ 1 ∷ []; area = 11; busy = 14; peak = 2 })
-    × (totals_of two_rows series (series_end.stations 1) ≡ record { came = 2; left = 2; lost = 0; wait = 3; longest = 3; busy = 14; area = 11; peak = 2 })
-    × (exit_of two_rows (series_end.stations 1) 0 ≡ (2, 11)) × (servers_in series ≡ 3) × (bare_time two_rows series 0 ≡ 4)
+series-row : IsSeries (run_in (fork_net series) two_rows) × (servers_in series ≡ 3) × (bare_time two_rows series 0 ≡ 4)
 unfolding after step earliest sooner_of is_below place_of rank_in reader_from port_reading ranked_after first_ready
-series-row = ((refl, refl), refl, refl, refl, refl, refl)
+series-row = (at-end 10 (fork_net series) two_rows IsSeries (omega arith) refl ((refl, refl), refl, refl, refl), refl, refl)
 
 -- The second job is through one branch long before the first is through the other, and still leaves behind it.
 abbrev crossed : Kind
@@ -69,21 +75,25 @@ crossed = ForkJoin ((Column 0 ∷ []) ∷ (Column 1 ∷ []) ∷ [])
 abbrev crossed_rows : Rows
 crossed_rows = rows_of (0 ∷ 0 ∷ 0 ∷ []) (0 ∷ 0 ∷ 5 ∷ []) ((5 ∷ 1 ∷ 0 ∷ []) ∷ (1 ∷ 1 ∷ 0 ∷ []) ∷ [])
 
-abbrev crossed_end : State Local
-crossed_end = run_in (fork_net crossed) crossed_rows
+abbrev IsCrossed : State Local → Type 0
+IsCrossed end =
+    EndsAt end 6
+    × (seen end 1 ≡ record { left = (0, 0, 5) ∷ (1, 0, 6) ∷ (2, 0, 6) ∷ []; found = 0 ∷ 1 ∷ 1 ∷ []; area = 12; busy = 8; peak = 2 })
 
-crossed-row : IsTrue (is_sound (fork_net crossed)) × EndsAt crossed_end 6
-    × (seen crossed_end 1 ≡ record { left = (0, 0, 5) ∷ (1, 0, 6) ∷ (2, 0, 6) ∷ []; found = 0 ∷ 1 ∷ 1 ∷ []; area = 12; busy = 8; peak = 2 })
+crossed-row : IsTrue (is_sound (fork_net crossed)) × IsCrossed (run_in (fork_net crossed) crossed_rows)
 unfolding after step earliest sooner_of is_below place_of rank_in reader_from port_reading ranked_after first_ready
-crossed-row = (refl, (refl, refl), refl)
+crossed-row = (refl, at-end 12 (fork_net crossed) crossed_rows IsCrossed (omega arith) refl ((refl, refl), refl))
 
 -- Jobs that ask for nothing leave as they come, one after another.
 abbrev idle : Kind
 idle = ForkJoin ((Fixed 0 ∷ Fixed 0 ∷ []) ∷ (Fixed 0 ∷ []) ∷ [])
 
-idle-row : seen (run_in (fork_net idle) two_rows) 1 ≡ record { left = (0, 0, 0) ∷ (1, 0, 1) ∷ []; found = 0 ∷ 0 ∷ []; area = 0; busy = 0; peak = 1 }
+abbrev IsIdle : State Local → Type 0
+IsIdle end = seen end 1 ≡ record { left = (0, 0, 0) ∷ (1, 0, 1) ∷ []; found = 0 ∷ 0 ∷ []; area = 0; busy = 0; peak = 1 }
+
+idle-row : IsIdle (run_in (fork_net idle) two_rows)
 unfolding after step earliest sooner_of is_below place_of rank_in reader_from port_reading ranked_after first_ready
-idle-row = refl
+idle-row = at-end 10 (fork_net idle) two_rows IsIdle (omega arith) refl refl
 
 -- One branch, a branch without a server, five servers in a branch, and nine servers are each refused.
 limits-row : (are_sound_branches 0 ((Fixed 1 ∷ []) ∷ []) ≡ false) × (are_sound_branches 0 ((Fixed 1 ∷ []) ∷ [] ∷ []) ≡ false)

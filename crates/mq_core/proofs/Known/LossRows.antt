@@ -1,5 +1,6 @@
 -- Small networks with a loss station, worked by hand: each row below holds by computing the event list.
-use Rattle.std.proofs.Common.{◌≡◌, ℕ, false, [], ◌∷◌, refl}
+use Rattle.mq_core.specs.Came.{came_by}
+use Rattle.std.proofs.Common.{◌≡◌, ℕ, false, [], ◌∷◌, refl, arith}
 use Rattle.std.specs.Prelude.{IsTrue, codes}
 use Rattle.mq_core.specs.Columns.{column_exit, column_stream, column_totals, column_visits}
 use Rattle.mq_core.specs.Event.{earliest, is_below, place_of, sooner_of}
@@ -15,6 +16,7 @@ use Rattle.mq_core.specs.declared.model.Kind.TheVariants.{Loss, Server, Source}
 use Rattle.mq_core.specs.declared.model.Network.{Network}
 use Rattle.mq_core.specs.declared.model.Rows.{Rows}
 use Rattle.mq_core.specs.declared.model.Visits.{Visits}
+use Rattle.mq_core.proofs.Known.ShortRuns.{at-end}
 use Rattle.mq_core.proofs.Known.WorkedRows.{EndsAt, from, net_of, node_of, rows_of, seen}
 
 -- one source, and a loss station of as many places with this demand
@@ -29,43 +31,42 @@ places-sound : IsTrue (is_sound (loss_net 1 2)) × IsTrue (is_sound (loss_net 10
 places-sound = (refl, refl, refl, refl)
 
 -- One place: every other arrival is lost, and one that comes as the place is left is admitted.
-abbrev single : State Local
-single = run_in (loss_net 1 2) four
-
-single-row : EndsAt single 4
-    × (seen single 1 ≡ record { left = (1, 1, 1) ∷ (0, 0, 2) ∷ (3, 1, 3) ∷ (2, 0, 4) ∷ []; found = 0 ∷ 1 ∷ 0 ∷ 1 ∷ []; area = 4; busy = 4; peak = 1 })
-    × (totals_of four (Loss 1 (Fixed 2)) (single.stations 1) ≡ record { came = 4; left = 2; lost = 2; wait = 0; longest = 0; busy = 4; area = 4; peak = 1 })
-    × (exit_of four (single.stations 1) 0 ≡ (2, 4)) × (exit_of four (single.stations 1) 1 ≡ (2, 0))
-unfolding after step earliest sooner_of is_below place_of rank_in reader_from port_reading ranked_after first_ready
-single-row = ((refl, refl), refl, refl, refl, refl)
-
--- the same in columns
 abbrev single_visits : Visits
 single_visits =
     record { job = 0 ∷ 1 ∷ 2 ∷ 3 ∷ []; arrive = 0 ∷ 1 ∷ 2 ∷ 3 ∷ []; found = 0 ∷ 1 ∷ 0 ∷ 1 ∷ []; fate = Departs 2 ∷ Lost ∷ Departs 4 ∷ Lost ∷ [] }
 
-single-columns : (visits_of (Loss 1 (Fixed 2)) (single.stations 1) ≡ single_visits)
-    × (stream_from (single.stations 1) 0 ≡ record { job = 0 ∷ 2 ∷ []; time = 2 ∷ 4 ∷ [] })
-    × (stream_from (single.stations 1) 1 ≡ record { job = 1 ∷ 3 ∷ []; time = 1 ∷ 3 ∷ [] })
-unfolding after step earliest sooner_of is_below place_of rank_in reader_from port_reading ranked_after first_ready
-single-columns = (refl, refl, refl)
+abbrev IsSingle : State Local → Type 0
+IsSingle end =
+    EndsAt end 4
+    × (seen end 1 ≡ record { left = (1, 1, 1) ∷ (0, 0, 2) ∷ (3, 1, 3) ∷ (2, 0, 4) ∷ []; found = 0 ∷ 1 ∷ 0 ∷ 1 ∷ []; area = 4; busy = 4; peak = 1 })
+    × (totals_of four (Loss 1 (Fixed 2)) (end.stations 1) ≡ record { came = 4; left = 2; lost = 2; wait = 0; longest = 0; busy = 4; area = 4; peak = 1 })
+    × (exit_of four (end.stations 1) 0 ≡ (2, 4)) × (exit_of four (end.stations 1) 1 ≡ (2, 0))
+    × (visits_of (Loss 1 (Fixed 2)) (end.stations 1) ≡ single_visits)
+    × (stream_from (end.stations 1) 0 ≡ record { job = 0 ∷ 2 ∷ []; time = 2 ∷ 4 ∷ [] })
+    × (stream_from (end.stations 1) 1 ≡ record { job = 1 ∷ 3 ∷ []; time = 1 ∷ 3 ∷ [] })
 
-columns-single : (column_visits four (Loss 1 (Fixed 2)) (0 ∷ 1 ∷ 2 ∷ 3 ∷ []) (0 ∷ 1 ∷ 2 ∷ 3 ∷ []) ≡ single_visits)
-    × (column_stream four (Loss 1 (Fixed 2)) (0 ∷ 1 ∷ 2 ∷ 3 ∷ []) (0 ∷ 1 ∷ 2 ∷ 3 ∷ []) 0 ≡ record { job = 0 ∷ 2 ∷ []; time = 2 ∷ 4 ∷ [] })
-    × (column_stream four (Loss 1 (Fixed 2)) (0 ∷ 1 ∷ 2 ∷ 3 ∷ []) (0 ∷ 1 ∷ 2 ∷ 3 ∷ []) 1 ≡ record { job = 1 ∷ 3 ∷ []; time = 1 ∷ 3 ∷ [] })
+single-row : IsSingle (run_in (loss_net 1 2) four)
+unfolding after step earliest sooner_of is_below place_of rank_in reader_from port_reading ranked_after first_ready
+single-row = at-end 10 (loss_net 1 2) four IsSingle (omega arith) refl ((refl, refl), refl, refl, refl, refl, refl, refl, refl)
+
+-- the same in columns
+columns-single : (column_visits four (Loss 1 (Fixed 2)) (came_by (0 ∷ 1 ∷ 2 ∷ 3 ∷ []) (0 ∷ 1 ∷ 2 ∷ 3 ∷ [])) ≡ single_visits)
+    × (column_stream four (Loss 1 (Fixed 2)) (came_by (0 ∷ 1 ∷ 2 ∷ 3 ∷ []) (0 ∷ 1 ∷ 2 ∷ 3 ∷ [])) 0 ≡ record { job = 0 ∷ 2 ∷ []; time = 2 ∷ 4 ∷ [] })
+    × (column_stream four (Loss 1 (Fixed 2)) (came_by (0 ∷ 1 ∷ 2 ∷ 3 ∷ []) (0 ∷ 1 ∷ 2 ∷ 3 ∷ [])) 1 ≡ record { job = 1 ∷ 3 ∷ []; time = 1 ∷ 3 ∷ [] })
     × (column_totals four (Loss 1 (Fixed 2)) single_visits ≡ record { came = 4; left = 2; lost = 2; wait = 0; longest = 0; busy = 4; area = 4; peak = 1 })
     × (column_exit four (record { job = 1 ∷ 3 ∷ []; time = 1 ∷ 3 ∷ [] }) ≡ (2, 0))
 columns-single = (refl, refl, refl, refl, refl)
 
 -- Two places: the third job finds both taken, and the fourth comes as the first leaves.
-abbrev double : State Local
-double = run_in (loss_net 2 3) four
+abbrev IsDouble : State Local → Type 0
+IsDouble end =
+    EndsAt end 9
+    × (seen end 1 ≡ record { left = (2, 1, 2) ∷ (0, 0, 3) ∷ (1, 0, 6) ∷ (3, 0, 9) ∷ []; found = 0 ∷ 1 ∷ 2 ∷ 1 ∷ []; area = 14; busy = 9; peak = 2 })
+    × (totals_of four (Loss 2 (Fixed 3)) (end.stations 1) ≡ record { came = 4; left = 3; lost = 1; wait = 5; longest = 3; busy = 9; area = 14; peak = 2 })
 
-double-row : EndsAt double 9
-    × (seen double 1 ≡ record { left = (2, 1, 2) ∷ (0, 0, 3) ∷ (1, 0, 6) ∷ (3, 0, 9) ∷ []; found = 0 ∷ 1 ∷ 2 ∷ 1 ∷ []; area = 14; busy = 9; peak = 2 })
-    × (totals_of four (Loss 2 (Fixed 3)) (double.stations 1) ≡ record { came = 4; left = 3; lost = 1; wait = 5; longest = 3; busy = 9; area = 14; peak = 2 })
+double-row : IsDouble (run_in (loss_net 2 3) four)
 unfolding after step earliest sooner_of is_below place_of rank_in reader_from port_reading ranked_after first_ready
-double-row = ((refl, refl), refl, refl)
+double-row = at-end 11 (loss_net 2 3) four IsDouble (omega arith) refl ((refl, refl), refl, refl)
 
 -- A server takes up those that are lost.
 abbrev overflow_net : Network
@@ -73,12 +74,13 @@ overflow_net =
     net_of [] 100
     (node_of (codes "src") Source [] ∷ node_of (codes "l") (Loss 1 (Fixed 2)) (from 0 ∷ []) ∷ node_of (codes "o") (Server (Fixed 3)) (record { node = 1; out = 1 } ∷ []) ∷ [])
 
-abbrev overflow : State Local
-overflow = run_in overflow_net four
+abbrev IsOverflow : State Local → Type 0
+IsOverflow end =
+    EndsAt end 7
+    × (totals_of four (Loss 1 (Fixed 2)) (end.stations 1) ≡ record { came = 4; left = 2; lost = 2; wait = 0; longest = 0; busy = 4; area = 4; peak = 1 })
+    × (totals_of four (Server (Fixed 3)) (end.stations 2) ≡ record { came = 2; left = 2; lost = 0; wait = 1; longest = 1; busy = 6; area = 7; peak = 2 })
+    × (exit_of four (end.stations 1) 0 ≡ (2, 4)) × (exit_of four (end.stations 2) 0 ≡ (2, 7))
 
-overflow-row : IsTrue (is_sound overflow_net) × EndsAt overflow 7
-    × (totals_of four (Loss 1 (Fixed 2)) (overflow.stations 1) ≡ record { came = 4; left = 2; lost = 2; wait = 0; longest = 0; busy = 4; area = 4; peak = 1 })
-    × (totals_of four (Server (Fixed 3)) (overflow.stations 2) ≡ record { came = 2; left = 2; lost = 0; wait = 1; longest = 1; busy = 6; area = 7; peak = 2 })
-    × (exit_of four (overflow.stations 1) 0 ≡ (2, 4)) × (exit_of four (overflow.stations 2) 0 ≡ (2, 7))
+overflow-row : IsTrue (is_sound overflow_net) × IsOverflow (run_in overflow_net four)
 unfolding after step earliest sooner_of is_below place_of rank_in reader_from port_reading ranked_after first_ready
-overflow-row = (refl, (refl, refl), refl, refl, refl, refl)
+overflow-row = (refl, at-end 14 overflow_net four IsOverflow (omega arith) refl ((refl, refl), refl, refl, refl, refl))

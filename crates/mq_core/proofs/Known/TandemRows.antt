@@ -1,5 +1,6 @@
 -- Small networks with a tandem, worked by hand: what a run of each gives, by computing the event list.
-use Rattle.std.proofs.Common.{◌≡◌, ℕ, false, List, [], ◌∷◌, refl}
+use Rattle.mq_core.specs.Came.{came_by}
+use Rattle.std.proofs.Common.{◌≡◌, ℕ, false, List, [], ◌∷◌, refl, arith}
 use Rattle.std.specs.Prelude.{IsTrue, codes}
 use Rattle.mq_core.specs.Columns.{column_stream, column_totals, column_visits}
 use Rattle.mq_core.specs.Event.{earliest, is_below, place_of, sooner_of}
@@ -16,6 +17,7 @@ use Rattle.mq_core.specs.declared.model.Kind.TheVariants.{Source, Tandem}
 use Rattle.mq_core.specs.declared.model.Network.{Network}
 use Rattle.mq_core.specs.declared.model.Rows.{Rows}
 use Rattle.mq_core.specs.declared.model.Stage.{Stage}
+use Rattle.mq_core.proofs.Known.ShortRuns.{at-end}
 use Rattle.mq_core.proofs.Known.WorkedRows.{node_of, from, net_of, rows_of, seen, EndsAt}
 
 abbrev stage : ℕ → Demand → Stage
@@ -32,15 +34,16 @@ blocking_stages = stage 0 (Fixed 1) ∷ stage 1 (Fixed 3) ∷ []
 abbrev blocking_rows : Rows
 blocking_rows = rows_of (0 ∷ 0 ∷ 0 ∷ []) (0 ∷ 0 ∷ 0 ∷ []) []
 
-abbrev blocking_end : State Local
-blocking_end = run_in (line_net [] blocking_stages) blocking_rows
+abbrev IsBlocking : State Local → Type 0
+IsBlocking end =
+    EndsAt end 10
+    × (seen end 1 ≡ record { left = (0, 0, 4) ∷ (1, 0, 7) ∷ (2, 0, 10) ∷ []; found = 0 ∷ 1 ∷ 2 ∷ []; area = 21; busy = 12; peak = 3 })
+    × (totals_of blocking_rows (Tandem blocking_stages) (end.stations 1) ≡ record { came = 3; left = 3; lost = 0; wait = 9; longest = 6; busy = 12; area = 21; peak = 3 })
+    × (exit_of blocking_rows (end.stations 1) 0 ≡ (3, 21))
 
-blocking-row : IsTrue (is_sound (line_net [] blocking_stages)) × EndsAt blocking_end 10
-    × (seen blocking_end 1 ≡ record { left = (0, 0, 4) ∷ (1, 0, 7) ∷ (2, 0, 10) ∷ []; found = 0 ∷ 1 ∷ 2 ∷ []; area = 21; busy = 12; peak = 3 })
-    × (totals_of blocking_rows (Tandem blocking_stages) (blocking_end.stations 1) ≡ record { came = 3; left = 3; lost = 0; wait = 9; longest = 6; busy = 12; area = 21; peak = 3 })
-    × (exit_of blocking_rows (blocking_end.stations 1) 0 ≡ (3, 21))
+blocking-row : IsTrue (is_sound (line_net [] blocking_stages)) × IsBlocking (run_in (line_net [] blocking_stages) blocking_rows)
 unfolding after step earliest sooner_of is_below place_of rank_in reader_from port_reading ranked_after first_ready
-blocking-row = (refl, (refl, refl), refl, refl, refl)
+blocking-row = (refl, at-end 12 (line_net [] blocking_stages) blocking_rows IsBlocking (omega arith) refl ((refl, refl), refl, refl, refl))
 
 -- The second job is done at the first stage at 2 and stays there until 4, when the first job leaves; only then the third begins.
 abbrev column_stages : List Stage
@@ -49,20 +52,24 @@ column_stages = stage 0 (Column 0) ∷ stage 1 (Column 1) ∷ []
 abbrev column_rows : Rows
 column_rows = rows_of (0 ∷ 0 ∷ 0 ∷ []) (0 ∷ 0 ∷ 0 ∷ []) ((1 ∷ 1 ∷ 5 ∷ []) ∷ (3 ∷ 1 ∷ 1 ∷ []) ∷ [])
 
-abbrev column_end : State Local
-column_end = run_in (line_net (codes "a" ∷ codes "b" ∷ []) column_stages) column_rows
+abbrev column_net : Network
+column_net = line_net (codes "a" ∷ codes "b" ∷ []) column_stages
 
-column-row : IsTrue (is_sound (line_net (codes "a" ∷ codes "b" ∷ []) column_stages)) × EndsAt column_end 10
-    × (seen column_end 1 ≡ record { left = (0, 0, 4) ∷ (1, 0, 5) ∷ (2, 0, 10) ∷ []; found = 0 ∷ 1 ∷ 2 ∷ []; area = 19; busy = 12; peak = 3 })
-    × (totals_of column_rows (Tandem column_stages) (column_end.stations 1) ≡ record { came = 3; left = 3; lost = 0; wait = 7; longest = 4; busy = 12; area = 19; peak = 3 })
-    × (exit_of column_rows (column_end.stations 1) 0 ≡ (3, 19))
+abbrev IsColumn : State Local → Type 0
+IsColumn end =
+    EndsAt end 10
+    × (seen end 1 ≡ record { left = (0, 0, 4) ∷ (1, 0, 5) ∷ (2, 0, 10) ∷ []; found = 0 ∷ 1 ∷ 2 ∷ []; area = 19; busy = 12; peak = 3 })
+    × (totals_of column_rows (Tandem column_stages) (end.stations 1) ≡ record { came = 3; left = 3; lost = 0; wait = 7; longest = 4; busy = 12; area = 19; peak = 3 })
+    × (exit_of column_rows (end.stations 1) 0 ≡ (3, 19))
+
+column-row : IsTrue (is_sound column_net) × IsColumn (run_in column_net column_rows)
 unfolding after step earliest sooner_of is_below place_of rank_in reader_from port_reading ranked_after first_ready
-column-row = (refl, (refl, refl), refl, refl, refl)
+column-row = (refl, at-end 12 column_net column_rows IsColumn (omega arith) refl ((refl, refl), refl, refl, refl))
 
 -- the same in columns
-column-columns : (column_visits column_rows (Tandem column_stages) (0 ∷ 1 ∷ 2 ∷ []) (0 ∷ 0 ∷ 0 ∷ []) ≡ record { job = 0 ∷ 1 ∷ 2 ∷ []; arrive = 0 ∷ 0 ∷ 0 ∷ []; found = 0 ∷ 1 ∷ 2 ∷ []; fate = Departs 4 ∷ Departs 5 ∷ Departs 10 ∷ [] })
-    × (column_stream column_rows (Tandem column_stages) (0 ∷ 1 ∷ 2 ∷ []) (0 ∷ 0 ∷ 0 ∷ []) 0 ≡ record { job = 0 ∷ 1 ∷ 2 ∷ []; time = 4 ∷ 5 ∷ 10 ∷ [] })
-    × (column_totals column_rows (Tandem column_stages) (column_visits column_rows (Tandem column_stages) (0 ∷ 1 ∷ 2 ∷ []) (0 ∷ 0 ∷ 0 ∷ [])) ≡ record { came = 3; left = 3; lost = 0; wait = 7; longest = 4; busy = 12; area = 19; peak = 3 })
+column-columns : (column_visits column_rows (Tandem column_stages) (came_by (0 ∷ 1 ∷ 2 ∷ []) (0 ∷ 0 ∷ 0 ∷ [])) ≡ record { job = 0 ∷ 1 ∷ 2 ∷ []; arrive = 0 ∷ 0 ∷ 0 ∷ []; found = 0 ∷ 1 ∷ 2 ∷ []; fate = Departs 4 ∷ Departs 5 ∷ Departs 10 ∷ [] })
+    × (column_stream column_rows (Tandem column_stages) (came_by (0 ∷ 1 ∷ 2 ∷ []) (0 ∷ 0 ∷ 0 ∷ [])) 0 ≡ record { job = 0 ∷ 1 ∷ 2 ∷ []; time = 4 ∷ 5 ∷ 10 ∷ [] })
+    × (column_totals column_rows (Tandem column_stages) (column_visits column_rows (Tandem column_stages) (came_by (0 ∷ 1 ∷ 2 ∷ []) (0 ∷ 0 ∷ 0 ∷ []))) ≡ record { came = 3; left = 3; lost = 0; wait = 7; longest = 4; busy = 12; area = 19; peak = 3 })
     × (bare_time column_rows (Tandem column_stages) 2 ≡ 6) × (servers_in (Tandem column_stages) ≡ 2)
 column-columns = (refl, refl, refl, refl, refl)
 
@@ -70,21 +77,31 @@ column-columns = (refl, refl, refl, refl, refl)
 abbrev long_stages : List Stage
 long_stages = stage 0 (Fixed 1) ∷ stage 1 (Fixed 1) ∷ stage 1 (Fixed 5) ∷ []
 
-abbrev long_end : State Local
-long_end = run_in (line_net [] long_stages) (rows_of (0 ∷ 0 ∷ 0 ∷ 0 ∷ []) (0 ∷ 0 ∷ 0 ∷ 0 ∷ []) [])
+abbrev long_rows : Rows
+long_rows = rows_of (0 ∷ 0 ∷ 0 ∷ 0 ∷ []) (0 ∷ 0 ∷ 0 ∷ 0 ∷ []) []
 
-long-row : IsTrue (is_sound (line_net [] long_stages)) × EndsAt long_end 22
-    × (seen long_end 1 ≡ record { left = (0, 0, 7) ∷ (1, 0, 12) ∷ (2, 0, 17) ∷ (3, 0, 22) ∷ []; found = 0 ∷ 1 ∷ 2 ∷ 3 ∷ []; area = 58; busy = 28; peak = 4 })
+abbrev IsLong : State Local → Type 0
+IsLong end =
+    EndsAt end 22
+    × (seen end 1 ≡ record { left = (0, 0, 7) ∷ (1, 0, 12) ∷ (2, 0, 17) ∷ (3, 0, 22) ∷ []; found = 0 ∷ 1 ∷ 2 ∷ 3 ∷ []; area = 58; busy = 28; peak = 4 })
+
+long-row : IsTrue (is_sound (line_net [] long_stages)) × IsLong (run_in (line_net [] long_stages) long_rows)
 unfolding after step earliest sooner_of is_below place_of rank_in reader_from port_reading ranked_after first_ready
-long-row = (refl, (refl, refl), refl)
+long-row = (refl, at-end 20 (line_net [] long_stages) long_rows IsLong (omega arith) refl ((refl, refl), refl))
 
 -- a demand of 0 at each stage: a job goes through at once, also where others come at the same time
-abbrev idle_end : State Local
-idle_end = run_in (line_net [] (stage 0 (Fixed 0) ∷ stage 2 (Fixed 0) ∷ [])) (rows_of (0 ∷ 0 ∷ []) (3 ∷ 3 ∷ []) [])
+abbrev idle_net : Network
+idle_net = line_net [] (stage 0 (Fixed 0) ∷ stage 2 (Fixed 0) ∷ [])
 
-idle-row : EndsAt idle_end 3 × (seen idle_end 1 ≡ record { left = (0, 0, 3) ∷ (1, 0, 3) ∷ []; found = 0 ∷ 0 ∷ []; area = 0; busy = 0; peak = 1 })
+abbrev idle_rows : Rows
+idle_rows = rows_of (0 ∷ 0 ∷ []) (3 ∷ 3 ∷ []) []
+
+abbrev IsIdle : State Local → Type 0
+IsIdle end = EndsAt end 3 × (seen end 1 ≡ record { left = (0, 0, 3) ∷ (1, 0, 3) ∷ []; found = 0 ∷ 0 ∷ []; area = 0; busy = 0; peak = 1 })
+
+idle-row : IsIdle (run_in idle_net idle_rows)
 unfolding after step earliest sooner_of is_below place_of rank_in reader_from port_reading ranked_after first_ready
-idle-row = ((refl, refl), refl)
+idle-row = at-end 8 idle_net idle_rows IsIdle (omega arith) refl ((refl, refl), refl)
 
 -- one stage is too few and five are too many; the first has no place, and each other 1 to 4
 range-row : (is_sound (line_net [] (stage 0 (Fixed 1) ∷ [])) ≡ false)

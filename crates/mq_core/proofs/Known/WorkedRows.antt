@@ -1,5 +1,6 @@
 -- Small networks worked by hand: each row below says what a run of one gives, and holds by computing the event list.
-use Rattle.std.proofs.Common.{◌≡◌, ℕ, zero, suc, ◌<◌, List, [], ◌∷◌, Some, None, map, refl, arith}
+use Rattle.mq_core.specs.Came.{came_by}
+use Rattle.std.proofs.Common.{◌≡◌, ℕ, zero, suc, ◌<◌, List, [], ◌∷◌, Some, None, map, refl, arith, ◌∙◌}
 use Rattle.std.specs.Prelude.{IsTrue, codes}
 use Rattle.mq_core.specs.Columns.{column_exit, column_span, column_stream, column_totals, column_visits, visits_by_node}
 use Rattle.mq_core.specs.Event.{earliest, is_below, place_of, sooner_of}
@@ -9,7 +10,6 @@ use Rattle.mq_core.specs.NetworkRun.{past_in, run_in}
 use Rattle.mq_core.specs.Results.{exit_of, past_of, stream_from, totals_of}
 use Rattle.mq_core.specs.Sound.{is_sound}
 use Rattle.mq_core.specs.Kinds.Split.{output_at}
-use Rattle.mq_core.specs.Standard.{standard_handle, standard_jobs, standard_opening, standard_working}
 use Rattle.mq_core.specs.Wiring.{first_ready, has, port_reading, rank_in, ranked_after, ranking, reader_from}
 use Rattle.mq_core.specs.declared.model.Demand.TheVariants.{Column, Fixed}
 use Rattle.mq_core.specs.declared.model.Fate.TheVariants.{Departs}
@@ -23,6 +23,8 @@ use Rattle.mq_core.specs.declared.model.Route.TheVariants.{Cut, Modulo, Turn}
 use Rattle.mq_core.specs.declared.model.Rows.{Rows}
 use Rattle.mq_core.specs.declared.model.Stream.{Stream}
 use Rattle.mq_core.specs.declared.model.Visits.{Visits}
+use Rattle.mq_core.proofs.Known.ShortRuns.{at-end, late_in}
+use Rattle.mq_core.proofs.Networks.NetworkRuns.{runs-are-of-networks}
 
 abbrev pub node_of : List ℕ → Kind → List Input → Node
 node_of name kind inputs = record { name = name; kind = kind; inputs = inputs }
@@ -78,24 +80,7 @@ empty-row = ((refl, refl), refl)
 abbrev three : Rows
 three = rows_of (0 ∷ 0 ∷ 0 ∷ []) (0 ∷ 1 ∷ 2 ∷ []) ((4 ∷ 1 ∷ 3 ∷ []) ∷ [])
 
-abbrev desk_run : State Local
-desk_run = run_in (desk_net 100) three
-
-ordinary-row : EndsAt desk_run 8
-    × (seen desk_run 0 ≡ record { left = (0, 0, 0) ∷ (1, 0, 1) ∷ (2, 0, 2) ∷ []; found = 0 ∷ 0 ∷ 0 ∷ []; area = 0; busy = 0; peak = 0 })
-    × (seen desk_run 1 ≡ record { left = (0, 0, 4) ∷ (1, 0, 5) ∷ (2, 0, 8) ∷ []; found = 0 ∷ 1 ∷ 2 ∷ []; area = 14; busy = 8; peak = 3 })
-unfolding after step earliest sooner_of is_below place_of rank_in reader_from port_reading ranked_after first_ready
-ordinary-row = ((refl, refl), refl, refl)
-
-ordinary-totals : totals_of three (Server (Column 0)) (desk_run.stations 1) ≡ record { came = 3; left = 3; lost = 0; wait = 6; longest = 3; busy = 8; area = 14; peak = 3 }
-unfolding after step earliest sooner_of is_below place_of rank_in reader_from port_reading ranked_after first_ready
-ordinary-totals = refl
-
-ordinary-exit : exit_of three (desk_run.stations 1) 0 ≡ (3, 14)
-unfolding after step earliest sooner_of is_below place_of rank_in reader_from port_reading ranked_after first_ready
-ordinary-exit = refl
-
--- the same in columns
+-- what each visit is
 abbrev desk_visits : Visits
 desk_visits =
     record { job = 0 ∷ 1 ∷ 2 ∷ []; arrive = 0 ∷ 1 ∷ 2 ∷ []; found = 0 ∷ 1 ∷ 2 ∷ []; fate = Departs 4 ∷ Departs 5 ∷ Departs 8 ∷ [] }
@@ -107,13 +92,24 @@ source_visits =
 abbrev desk_stream : Stream
 desk_stream = record { job = 0 ∷ 1 ∷ 2 ∷ []; time = 4 ∷ 5 ∷ 8 ∷ [] }
 
-ordinary-visits : (visits_by_node desk_run 0 (desk_net 100).nodes ≡ source_visits ∷ desk_visits ∷ []) × (stream_from (desk_run.stations 1) 0 ≡ desk_stream)
-unfolding after step earliest sooner_of is_below place_of rank_in reader_from port_reading ranked_after first_ready
-ordinary-visits = (refl, refl)
+-- what holds of its run
+abbrev IsOrdinary : State Local → Type 0
+IsOrdinary end =
+    EndsAt end 8
+    × (seen end 0 ≡ record { left = (0, 0, 0) ∷ (1, 0, 1) ∷ (2, 0, 2) ∷ []; found = 0 ∷ 0 ∷ 0 ∷ []; area = 0; busy = 0; peak = 0 })
+    × (seen end 1 ≡ record { left = (0, 0, 4) ∷ (1, 0, 5) ∷ (2, 0, 8) ∷ []; found = 0 ∷ 1 ∷ 2 ∷ []; area = 14; busy = 8; peak = 3 })
+    × (totals_of three (Server (Column 0)) (end.stations 1) ≡ record { came = 3; left = 3; lost = 0; wait = 6; longest = 3; busy = 8; area = 14; peak = 3 })
+    × (exit_of three (end.stations 1) 0 ≡ (3, 14))
+    × (visits_by_node end 0 (desk_net 100).nodes ≡ source_visits ∷ desk_visits ∷ []) × (stream_from (end.stations 1) 0 ≡ desk_stream)
 
-ordinary-columns : (column_visits three (Server (Column 0)) (0 ∷ 1 ∷ 2 ∷ []) (0 ∷ 1 ∷ 2 ∷ []) ≡ desk_visits)
-    × (column_visits three Source (0 ∷ 1 ∷ 2 ∷ []) (0 ∷ 1 ∷ 2 ∷ []) ≡ source_visits)
-    × (column_stream three (Server (Column 0)) (0 ∷ 1 ∷ 2 ∷ []) (0 ∷ 1 ∷ 2 ∷ []) 0 ≡ desk_stream)
+ordinary-row : IsOrdinary (run_in (desk_net 100) three)
+unfolding after step earliest sooner_of is_below place_of rank_in reader_from port_reading ranked_after first_ready
+ordinary-row = at-end 9 (desk_net 100) three IsOrdinary (omega arith) refl ((refl, refl), refl, refl, refl, refl, refl, refl)
+
+-- the same in columns
+ordinary-columns : (column_visits three (Server (Column 0)) (came_by (0 ∷ 1 ∷ 2 ∷ []) (0 ∷ 1 ∷ 2 ∷ [])) ≡ desk_visits)
+    × (column_visits three Source (came_by (0 ∷ 1 ∷ 2 ∷ []) (0 ∷ 1 ∷ 2 ∷ [])) ≡ source_visits)
+    × (column_stream three (Server (Column 0)) (came_by (0 ∷ 1 ∷ 2 ∷ []) (0 ∷ 1 ∷ 2 ∷ [])) 0 ≡ desk_stream)
     × (column_totals three (Server (Column 0)) desk_visits ≡ record { came = 3; left = 3; lost = 0; wait = 6; longest = 3; busy = 8; area = 14; peak = 3 })
     × (column_totals three Source source_visits ≡ record { came = 3; left = 3; lost = 0; wait = 0; longest = 0; busy = 0; area = 0; peak = 0 })
     × (column_exit three desk_stream ≡ (3, 14)) × (column_span (source_visits ∷ desk_visits ∷ []) ≡ 8)
@@ -123,9 +119,12 @@ ordinary-columns = (refl, refl, refl, refl, refl, refl, refl)
 abbrev reversed : Rows
 reversed = rows_of (0 ∷ 0 ∷ 0 ∷ []) (2 ∷ 1 ∷ 0 ∷ []) ((3 ∷ 1 ∷ 4 ∷ []) ∷ [])
 
-reversed-row : seen (run_in (desk_net 100) reversed) 1 ≡ record { left = (2, 0, 4) ∷ (1, 0, 5) ∷ (0, 0, 8) ∷ []; found = 0 ∷ 1 ∷ 2 ∷ []; area = 14; busy = 8; peak = 3 }
+abbrev IsReversed : State Local → Type 0
+IsReversed end = seen end 1 ≡ record { left = (2, 0, 4) ∷ (1, 0, 5) ∷ (0, 0, 8) ∷ []; found = 0 ∷ 1 ∷ 2 ∷ []; area = 14; busy = 8; peak = 3 }
+
+reversed-row : IsReversed (run_in (desk_net 100) reversed)
 unfolding after step earliest sooner_of is_below place_of rank_in reader_from port_reading ranked_after first_ready
-reversed-row = refl
+reversed-row = at-end 9 (desk_net 100) reversed IsReversed (omega arith) refl refl
 
 -- Two sources at one time: the server reads b before a, so b's job is the first.
 abbrev tie_net : Network
@@ -136,35 +135,41 @@ tie_net =
 abbrev tie_rows : Rows
 tie_rows = rows_of (0 ∷ 1 ∷ []) (5 ∷ 5 ∷ []) ((2 ∷ 3 ∷ []) ∷ [])
 
-tie-row : IsTrue (is_sound tie_net) × EndsAt (run_in tie_net tie_rows) 10
-    × (seen (run_in tie_net tie_rows) 2 ≡ record { left = (1, 0, 8) ∷ (0, 0, 10) ∷ []; found = 0 ∷ 1 ∷ []; area = 8; busy = 5; peak = 2 })
-    × (totals_of tie_rows (Server (Column 0)) ((run_in tie_net tie_rows).stations 2) ≡ record { came = 2; left = 2; lost = 0; wait = 3; longest = 3; busy = 5; area = 8; peak = 2 })
+abbrev IsTied : State Local → Type 0
+IsTied end =
+    EndsAt end 10
+    × (seen end 2 ≡ record { left = (1, 0, 8) ∷ (0, 0, 10) ∷ []; found = 0 ∷ 1 ∷ []; area = 8; busy = 5; peak = 2 })
+    × (totals_of tie_rows (Server (Column 0)) (end.stations 2) ≡ record { came = 2; left = 2; lost = 0; wait = 3; longest = 3; busy = 5; area = 8; peak = 2 })
+
+tie-row : IsTrue (is_sound tie_net) × IsTied (run_in tie_net tie_rows)
 unfolding after step earliest sooner_of is_below place_of rank_in reader_from port_reading ranked_after first_ready
-tie-row = (refl, (refl, refl), refl, refl)
+tie-row = (refl, at-end 6 tie_net tie_rows IsTied (omega arith) refl ((refl, refl), refl, refl))
 
 -- Two arrivals at one time with no demand: the first has left when the second comes.
 abbrev no_demand : Rows
 no_demand = rows_of (0 ∷ 0 ∷ []) (3 ∷ 3 ∷ []) ((0 ∷ 0 ∷ []) ∷ [])
 
-finish-first-row : EndsAt (run_in (desk_net 100) no_demand) 3
-    × (seen (run_in (desk_net 100) no_demand) 1 ≡ record { left = (0, 0, 3) ∷ (1, 0, 3) ∷ []; found = 0 ∷ 0 ∷ []; area = 0; busy = 0; peak = 1 })
+abbrev IsFinishFirst : State Local → Type 0
+IsFinishFirst end = EndsAt end 3 × (seen end 1 ≡ record { left = (0, 0, 3) ∷ (1, 0, 3) ∷ []; found = 0 ∷ 0 ∷ []; area = 0; busy = 0; peak = 1 })
+
+finish-first-row : IsFinishFirst (run_in (desk_net 100) no_demand)
 unfolding after step earliest sooner_of is_below place_of rank_in reader_from port_reading ranked_after first_ready
-finish-first-row = ((refl, refl), refl)
+finish-first-row = at-end 6 (desk_net 100) no_demand IsFinishFirst (omega arith) refl ((refl, refl), refl)
 
 -- The third departure passes the bound.
 past-row : past_in (desk_net 7) three ≡ Some (record { node = 1; position = 2; time = 8 })
 unfolding after step earliest sooner_of is_below place_of rank_in reader_from port_reading ranked_after first_ready
-past-row = refl
+past-row = at-end 9 (desk_net 7) three (λ end. late_in (desk_net 7) end ≡ Some (record { node = 1; position = 2; time = 8 })) (omega arith) refl refl
 
 -- a departure at the bound doesn't pass it
 at-bound-row : past_in (desk_net 8) three ≡ None
 unfolding after step earliest sooner_of is_below place_of rank_in reader_from port_reading ranked_after first_ready
-at-bound-row = refl
+at-bound-row = at-end 9 (desk_net 8) three (λ end. late_in (desk_net 8) end ≡ None) (omega arith) refl refl
 
 -- a row later than the bound passes it at its source
 past-source-row : past_in (desk_net 1) three ≡ Some (record { node = 0; position = 2; time = 2 })
 unfolding after step earliest sooner_of is_below place_of rank_in reader_from port_reading ranked_after first_ready
-past-source-row = refl
+past-source-row = at-end 9 (desk_net 1) three (λ end. late_in (desk_net 1) end ≡ Some (record { node = 0; position = 2; time = 2 })) (omega arith) refl refl
 
 -- Two departures pass the bound: that of the lower rank is named, though it is the smaller.
 abbrev two_desks : Network
@@ -173,9 +178,12 @@ two_desks =
     (node_of (codes "a") Source [] ∷ node_of (codes "b") Source [] ∷ node_of (codes "qb") (Server (Fixed 7)) (from 1 ∷ [])
     ∷ node_of (codes "qa") (Server (Fixed 9)) (from 0 ∷ []) ∷ [])
 
-two-past-row : IsTrue (is_sound two_desks) × (past_in two_desks (rows_of (0 ∷ 1 ∷ []) (0 ∷ 0 ∷ []) []) ≡ Some (record { node = 2; position = 0; time = 7 }))
+abbrev two_rows : Rows
+two_rows = rows_of (0 ∷ 1 ∷ []) (0 ∷ 0 ∷ []) []
+
+two-past-row : IsTrue (is_sound two_desks) × (past_in two_desks two_rows ≡ Some (record { node = 2; position = 0; time = 7 }))
 unfolding after step earliest sooner_of is_below place_of rank_in reader_from port_reading ranked_after first_ready
-two-past-row = (refl, refl)
+two-past-row = (refl, at-end 6 two_desks two_rows (λ end. late_in two_desks end ≡ Some (record { node = 2; position = 0; time = 7 })) (omega arith) refl refl)
 
 -- A split by two thresholds.
 abbrev cut_net : Network
@@ -184,15 +192,16 @@ cut_net = net_of (codes "k" ∷ []) 100 (node_of (codes "src") Source [] ∷ nod
 abbrev cut_rows : Rows
 cut_rows = rows_of (0 ∷ 0 ∷ 0 ∷ []) (0 ∷ 1 ∷ 2 ∷ []) ((9 ∷ 10 ∷ 20 ∷ []) ∷ [])
 
-abbrev cut_end : State Local
-cut_end = run_in cut_net cut_rows
+abbrev IsCut : State Local → Type 0
+IsCut end =
+    EndsAt end 2
+    × (seen end 1 ≡ record { left = (0, 0, 0) ∷ (1, 1, 1) ∷ (2, 2, 2) ∷ []; found = 0 ∷ 0 ∷ 0 ∷ []; area = 0; busy = 0; peak = 0 })
+    × (map {B = ℕ × ℕ} (exit_of cut_rows (end.stations 1)) (0 ∷ 1 ∷ 2 ∷ []) ≡ (1, 0) ∷ (1, 0) ∷ (1, 0) ∷ [])
 
-cut-row : IsTrue (is_sound cut_net) × EndsAt cut_end 2
-    × (seen cut_end 1 ≡ record { left = (0, 0, 0) ∷ (1, 1, 1) ∷ (2, 2, 2) ∷ []; found = 0 ∷ 0 ∷ 0 ∷ []; area = 0; busy = 0; peak = 0 })
-    × (map {B = ℕ × ℕ} (exit_of cut_rows (cut_end.stations 1)) (0 ∷ 1 ∷ 2 ∷ []) ≡ (1, 0) ∷ (1, 0) ∷ (1, 0) ∷ [])
-    × (column_stream cut_rows (Split (Cut 0 (10 ∷ 20 ∷ []))) (0 ∷ 1 ∷ 2 ∷ []) (0 ∷ 1 ∷ 2 ∷ []) 2 ≡ record { job = 2 ∷ []; time = 2 ∷ [] })
+cut-row : IsTrue (is_sound cut_net) × IsCut (run_in cut_net cut_rows)
+    × (column_stream cut_rows (Split (Cut 0 (10 ∷ 20 ∷ []))) (came_by (0 ∷ 1 ∷ 2 ∷ []) (0 ∷ 1 ∷ 2 ∷ [])) 2 ≡ record { job = 2 ∷ []; time = 2 ∷ [] })
 unfolding after step earliest sooner_of is_below place_of rank_in reader_from port_reading ranked_after first_ready
-cut-row = (refl, (refl, refl), refl, refl, refl)
+cut-row = (refl, at-end 6 cut_net cut_rows IsCut (omega arith) refl ((refl, refl), refl, refl), refl)
 
 -- the three routes
 routes-row : (map (λ value. output_at (Modulo 3 0) value 0) (6 ∷ 7 ∷ 8 ∷ []) ≡ 0 ∷ 1 ∷ 2 ∷ [])
@@ -207,21 +216,30 @@ sources_net = net_of [] 100 (node_of (codes "a") Source [] ∷ node_of (codes "b
 abbrev sources_rows : Rows
 sources_rows = rows_of (0 ∷ 1 ∷ 0 ∷ 1 ∷ []) (0 ∷ 9 ∷ 4 ∷ 2 ∷ []) []
 
-sources-row : IsTrue (is_sound sources_net) × EndsAt (run_in sources_net sources_rows) 9
-    × (seen (run_in sources_net sources_rows) 0 ≡ record { left = (0, 0, 0) ∷ (2, 0, 4) ∷ []; found = 0 ∷ 0 ∷ []; area = 0; busy = 0; peak = 0 })
-    × (seen (run_in sources_net sources_rows) 1 ≡ record { left = (3, 0, 2) ∷ (1, 0, 9) ∷ []; found = 0 ∷ 0 ∷ []; area = 0; busy = 0; peak = 0 })
-    × (exit_of sources_rows ((run_in sources_net sources_rows).stations 1) 0 ≡ (2, 0))
+abbrev AreSources : State Local → Type 0
+AreSources end =
+    EndsAt end 9
+    × (seen end 0 ≡ record { left = (0, 0, 0) ∷ (2, 0, 4) ∷ []; found = 0 ∷ 0 ∷ []; area = 0; busy = 0; peak = 0 })
+    × (seen end 1 ≡ record { left = (3, 0, 2) ∷ (1, 0, 9) ∷ []; found = 0 ∷ 0 ∷ []; area = 0; busy = 0; peak = 0 })
+    × (exit_of sources_rows (end.stations 1) 0 ≡ (2, 0))
+
+sources-row : IsTrue (is_sound sources_net) × AreSources (run_in sources_net sources_rows)
 unfolding after step earliest sooner_of is_below place_of rank_in reader_from port_reading ranked_after first_ready
-sources-row = (refl, (refl, refl), refl, refl, refl)
+sources-row = (refl, at-end 4 sources_net sources_rows AreSources (omega arith) refl ((refl, refl), refl, refl, refl))
 
 -- A server that is declared before its source is ranked behind it.
 abbrev backward_net : Network
 backward_net = net_of [] 100 (node_of (codes "q") (Server (Fixed 1)) (from 1 ∷ []) ∷ node_of (codes "s") Source [] ∷ [])
 
-backward-row : IsTrue (is_sound backward_net) × (ranking backward_net.nodes ≡ 1 ∷ 0 ∷ [])
-    × (seen (run_in backward_net (rows_of (1 ∷ 1 ∷ []) (4 ∷ 4 ∷ []) [])) 0 ≡ record { left = (0, 0, 5) ∷ (1, 0, 6) ∷ []; found = 0 ∷ 1 ∷ []; area = 3; busy = 2; peak = 2 })
+abbrev backward_rows : Rows
+backward_rows = rows_of (1 ∷ 1 ∷ []) (4 ∷ 4 ∷ []) []
+
+abbrev IsBackward : State Local → Type 0
+IsBackward end = seen end 0 ≡ record { left = (0, 0, 5) ∷ (1, 0, 6) ∷ []; found = 0 ∷ 1 ∷ []; area = 3; busy = 2; peak = 2 }
+
+backward-row : IsTrue (is_sound backward_net) × (ranking backward_net.nodes ≡ 1 ∷ 0 ∷ []) × IsBackward (run_in backward_net backward_rows)
 unfolding after step earliest sooner_of is_below place_of rank_in reader_from port_reading ranked_after first_ready
-backward-row = (refl, refl, refl)
+backward-row = (refl, refl, at-end 6 backward_net backward_rows IsBackward (omega arith) refl refl)
 
 -- A ring is never ranked: its nodes are left out.
 ring-row : ranking (node_of (codes "s") Source [] ∷ node_of (codes "a") (Server (Fixed 1)) (from 0 ∷ from 2 ∷ []) ∷ node_of (codes "b") (Server (Fixed 1)) (from 1 ∷ []) ∷ []) ≡ 0 ∷ []
@@ -234,14 +252,18 @@ chain_net =
     net_of [] 100
     (node_of (codes "src") Source [] ∷ node_of (codes "first") (Server (Fixed 2)) (from 0 ∷ []) ∷ node_of (codes "second") (Server (Fixed 3)) (from 1 ∷ []) ∷ [])
 
-abbrev chain_end : State Local
-chain_end = run_in chain_net (rows_of (0 ∷ 0 ∷ []) (0 ∷ 1 ∷ []) [])
+abbrev chain_rows : Rows
+chain_rows = rows_of (0 ∷ 0 ∷ []) (0 ∷ 1 ∷ []) []
 
-chain-row : IsTrue (is_sound chain_net) × EndsAt chain_end 8
-    × (seen chain_end 1 ≡ record { left = (0, 0, 2) ∷ (1, 0, 4) ∷ []; found = 0 ∷ 1 ∷ []; area = 5; busy = 4; peak = 2 })
-    × (seen chain_end 2 ≡ record { left = (0, 0, 5) ∷ (1, 0, 8) ∷ []; found = 0 ∷ 1 ∷ []; area = 7; busy = 6; peak = 2 })
+abbrev IsChain : State Local → Type 0
+IsChain end =
+    EndsAt end 8
+    × (seen end 1 ≡ record { left = (0, 0, 2) ∷ (1, 0, 4) ∷ []; found = 0 ∷ 1 ∷ []; area = 5; busy = 4; peak = 2 })
+    × (seen end 2 ≡ record { left = (0, 0, 5) ∷ (1, 0, 8) ∷ []; found = 0 ∷ 1 ∷ []; area = 7; busy = 6; peak = 2 })
+
+chain-row : IsTrue (is_sound chain_net) × IsChain (run_in chain_net chain_rows)
 unfolding after step earliest sooner_of is_below place_of rank_in reader_from port_reading ranked_after first_ready
-chain-row = (refl, (refl, refl), refl, refl)
+chain-row = (refl, at-end 10 chain_net chain_rows IsChain (omega arith) refl ((refl, refl), refl, refl))
 
 -- A job overtakes another in a delay, and comes first at the server behind it.
 abbrev overtaking_net : Network
@@ -252,18 +274,19 @@ overtaking_net =
 abbrev overtaking_rows : Rows
 overtaking_rows = rows_of (0 ∷ 0 ∷ []) (0 ∷ 1 ∷ []) ((5 ∷ 1 ∷ []) ∷ [])
 
-abbrev overtaking_end : State Local
-overtaking_end = run_in overtaking_net overtaking_rows
+abbrev IsOvertaking : State Local → Type 0
+IsOvertaking end =
+    EndsAt end 7
+    × (seen end 1 ≡ record { left = (1, 0, 2) ∷ (0, 0, 5) ∷ []; found = 0 ∷ 1 ∷ []; area = 6; busy = 6; peak = 2 })
+    × (seen end 2 ≡ record { left = (1, 0, 4) ∷ (0, 0, 7) ∷ []; found = 0 ∷ 0 ∷ []; area = 4; busy = 4; peak = 1 })
+    × (totals_of overtaking_rows (Delay (Column 0)) (end.stations 1) ≡ record { came = 2; left = 2; lost = 0; wait = 0; longest = 0; busy = 6; area = 6; peak = 2 })
 
-overtaking-row : IsTrue (is_sound overtaking_net) × EndsAt overtaking_end 7
-    × (seen overtaking_end 1 ≡ record { left = (1, 0, 2) ∷ (0, 0, 5) ∷ []; found = 0 ∷ 1 ∷ []; area = 6; busy = 6; peak = 2 })
-    × (seen overtaking_end 2 ≡ record { left = (1, 0, 4) ∷ (0, 0, 7) ∷ []; found = 0 ∷ 0 ∷ []; area = 4; busy = 4; peak = 1 })
-    × (column_stream overtaking_rows (Delay (Column 0)) (0 ∷ 1 ∷ []) (0 ∷ 1 ∷ []) 0 ≡ record { job = 1 ∷ 0 ∷ []; time = 2 ∷ 5 ∷ [] })
-    × (totals_of overtaking_rows (Delay (Column 0)) (overtaking_end.stations 1) ≡ record { came = 2; left = 2; lost = 0; wait = 0; longest = 0; busy = 6; area = 6; peak = 2 })
+overtaking-row : IsTrue (is_sound overtaking_net) × IsOvertaking (run_in overtaking_net overtaking_rows)
+    × (column_stream overtaking_rows (Delay (Column 0)) (came_by (0 ∷ 1 ∷ []) (0 ∷ 1 ∷ [])) 0 ≡ record { job = 1 ∷ 0 ∷ []; time = 2 ∷ 5 ∷ [] })
 unfolding after step earliest sooner_of is_below place_of rank_in reader_from port_reading ranked_after first_ready
-overtaking-row = (refl, (refl, refl), refl, refl, refl, refl)
+overtaking-row = (refl, at-end 10 overtaking_net overtaking_rows IsOvertaking (omega arith) refl ((refl, refl), refl, refl, refl), refl)
 
--- A plan of the first network, whose run is computed as that of the network is.
+-- A plan of the first network, whose run is that of the network.
 desk-whole : (n : ℕ) → n < 2 → IsTrue (has (0 ∷ 1 ∷ []) n)
 desk-whole zero h = refl
 desk-whole (suc zero) h = refl
@@ -277,5 +300,4 @@ abbrev desk_plan : Plan
 desk_plan = record { net = desk_net 7; order = 0 ∷ 1 ∷ []; sound = refl; ranked = desk-ranked; whole = desk-whole }
 
 plan-row : past_of desk_plan three ≡ Some (record { node = 1; position = 2; time = 8 })
-unfolding after step earliest sooner_of is_below place_of standard_opening standard_handle standard_jobs standard_working rank_in reader_from port_reading
-plan-row = refl
+plan-row = (runs-are-of-networks desk_plan three).1 ∙ past-row

@@ -14,7 +14,7 @@ use Rattle.mq_core.specs.declared.model.Rows.{Rows}
 use Rattle.mq_core.proofs.Loss.LossPeak.{losing-raises, losing-departs}
 use Rattle.mq_core.proofs.Counting.Services.{service-by}
 use Rattle.mq_core.proofs.Counting.Unlost.{lost-out}
-use Rattle.mq_core.proofs.EachKind.KindLaws.{Inside, KindLaws}
+use Rattle.mq_core.proofs.EachKind.KindLaws.{Inside, KindLaws, OnceLaws, OwnLaws}
 use Rattle.mq_core.proofs.Events.Areas.{sum-same}
 use Rattle.mq_core.proofs.Loss.Loses.{Losing, losing-arrives, losing-ends, losing-opens, losing-waits}
 use Rattle.mq_core.proofs.Loss.LossBusy.{LossBusy, losing-busy_arrives, losing-busy_done, losing-busy_ends, losing-busy_waits}
@@ -29,10 +29,10 @@ loss-inside rows places demand =
       busy = λ s fs now. LossBusy rows places demand s.visits s.local.queue fs now s.busy;
     }
 
-pub loss-laws : (rows : Rows) (places : ℕ) (demand : Demand) → KindLaws rows (loss places demand) (loss-inside rows places demand)
-loss-laws rows places demand =
+pub loss-laws : (rows : Rows) (ports : ℕ) (places : ℕ) (demand : Demand) → KindLaws rows ports (loss places demand) (loss-inside rows places demand)
+loss-laws rows ports places demand =
     record {
-      opens = λ columns v sound.
+      opens = λ columns v sound many.
           let shape : 1 ≤ places =
           let a = and_parts (is_within 1 1048576 places) (is_sound_demand columns demand) sound in
           let b : nat_le 1 places ≡ true = (and_parts (nat_le 1 places) (nat_le places 1048576) a.0).0 in
@@ -40,16 +40,13 @@ loss-laws rows places demand =
           in
           (shape, losing-opens rows places demand v);
       waits = λ v s area busy fs now later l h. (h.0, losing-waits rows places demand v s.visits s.local.queue s.emitted fs now later l h.1);
-      arrives = λ peak v port s fs now x at soon h. (h.0, losing-arrives rows places demand v port s.local s.visits s.emitted fs now x at soon h.1);
+      arrives = λ peak v port s fs now x at by fit soon h. (h.0, losing-arrives rows places demand v port s.local s.visits s.emitted fs now x at soon h.1);
       ends = λ peak rank v server position s fs rest now first h. (h.0, losing-ends rows places demand rank v server position s.local s.visits s.local.queue s.emitted fs rest now first h.1);
       flow = λ v s now h. losing-flow rows places demand v s.visits _ s.emitted now h.0 h.1;
       number = λ v s fs now h. losing-number rows places demand v s.visits s.local.queue s.emitted fs now h.1;
-      empty = λ v s now h. ap length (losing-done rows places demand v s.visits _ s.emitted _ h.1).0;
-      own = λ v port s now x q m e. losing-own rows places demand s.local s.visits x now port x.job v q m e;
-      earlier = λ rank v server position s fs rest now first h q p m e l u. losing-earlier rows places demand rank v server position s.local s.visits s.local.queue s.emitted fs rest now first h.1 q p m e l u;
       shows = λ rank v server position s fs rest now first h. inl (losing-emits rows places demand rank v server position s.local s.visits s.local.queue s.emitted fs rest now first h.1);
       weightless = λ onward. omega arith;
-      adds = λ onward v port job s visits fs now f. losing-arrives-falls rows places demand onward s.local visits now port job v;
+      adds = λ onward v port job s visits fs now f. let a = losing-arrives-falls rows places demand onward s.local visits now port job v in omega arith;
       takes = λ onward rank v server position s fs rest now first f. losing-ends-falls rows places demand onward rank v server position s.local s.visits s.local.queue s.emitted fs rest now first f.1;
       idle = λ v. refl;
       works = λ v area s fs now later l f h b. losing-busy_waits rows places demand v s.visits s.local.queue s.emitted fs now later s.busy l f h.1 b;
@@ -61,9 +58,26 @@ loss-laws rows places demand =
           let done = losing-done rows places demand v visits _ emitted _ h.1 in
           losing-busy_done rows places demand visits emitted now s.busy (losing-same rows places demand v visits _ emitted _ h.1) (subst (λ q. LossBusy rows places demand visits q [] now s.busy) done.0 k)
           ∙ sum-same (length visits) _ _ (λ p l. lost-out places demand (emission_at emitted p) (demand_of_visit rows demand (slice_get visits p)) ∙ ap (unless_lost (fate_of (Loss places demand) emitted p)) (service-by rows (Loss places demand) (demand_of_visit rows demand) refl (λ x. refl) (slice_get visits p)));
+    }
+
+-- each visit leaves with its own emission
+pub loss-own : (rows : Rows) (ports : ℕ) (places : ℕ) (demand : Demand) → OwnLaws rows ports (loss places demand) (loss-inside rows places demand)
+loss-own rows ports places demand =
+    record {
+      exits = λ s p. refl;
+      own = λ v port s now x q m e. losing-own rows places demand s.local s.visits x now port x.job v q m e;
+      earlier = λ rank v server position s fs rest now first h q p m e l u. losing-earlier rows places demand rank v server position s.local s.visits s.local.queue s.emitted fs rest now first h.1 q p m e l u;
+    }
+
+-- what it owes as it lets each visit out once
+pub loss-once : (rows : Rows) (ports : ℕ) (places : ℕ) (demand : Demand) → OnceLaws rows ports (loss places demand) (loss-inside rows places demand)
+loss-once rows ports places demand =
+    record {
+      one = omega arith;
+      empty = λ v s now h. ap length (losing-done rows places demand v s.visits _ s.emitted _ h.1).0;
       enters = λ v port s fs now x at f. losing-arrives-few rows places demand s.local (s.visits ++ x ∷ []) now port x.job v;
       leaves = λ rank v server position s fs rest now first h. losing-ends-few rows demand s.visits s.local now;
       vacant = omega arith;
-      raises = λ v port s fs now x at h f. losing-raises rows places demand v port s now x;
+      raises = λ v port s fs now x at h f. losing-raises rows ports places demand v port s now x;
       departs = λ v server position s now q m e. losing-departs rows places demand s now q m s.local.queue e;
     }

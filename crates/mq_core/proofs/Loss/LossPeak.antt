@@ -20,8 +20,8 @@ use Rattle.mq_core.proofs.Server.Serves.{latest-push, slice_get-middle}
 lost-out_now : (s : Station Local) (now : ℕ) (x : Visit) → emission_at (emissions_of now (s.visits ++ x ∷ []) (record { out = 1; position = latest (s.visits ++ x ∷ []) } ∷ [])) (length s.visits) ≡ Some (record { out = 1; position = length s.visits; job = x.job; time = now })
 lost-out_now s now x = rw (latest-push s.visits x, slice_get-middle s.visits [] x, eq-eqb (length s.visits) (length s.visits) refl) refl
 
-pub losing-raises : (rows : Rows) (places : ℕ) (demand : Demand) (v port : ℕ) (s : Station Local) (now : ℕ) (x : Visit) → Raises rows (loss places demand) v port s now x
-losing-raises rows places demand v port s now x = go (nat_lt (length s.local.queue) places)
+pub losing-raises : (rows : Rows) (ports places : ℕ) (demand : Demand) (v port : ℕ) (s : Station Local) (now : ℕ) (x : Visit) → Raises rows ports (loss places demand) v port s now x
+losing-raises rows ports places demand v port s now x = go (nat_lt (length s.local.queue) places)
   where
     visits : List Visit
     visits = s.visits ++ x ∷ []

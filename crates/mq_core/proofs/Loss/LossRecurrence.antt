@@ -1,5 +1,5 @@
 -- The laws of the kind's recurrence.
-use Rattle.std.proofs.Common.{Bool, [], ap, arith, cond, eqb, false, length, map, true, ℕ, ◌∙◌, ◌≤◌}
+use Rattle.std.proofs.Common.{Bool, [], ap, arith, cond, eqb, false, length, map, refl, true, ℕ, ◌∙◌, ◌≤◌}
 use Rattle.std.proofs.lemmas.Bool.{and_parts}
 use Rattle.mq_core.specs.ColumnLaws.{arrives_of}
 use Rattle.mq_core.specs.Kinds.Loss.{out_of_fate}
@@ -19,6 +19,7 @@ use Rattle.mq_core.proofs.Counting.FlowColumns.{demands-of, even-fates}
 use Rattle.mq_core.proofs.Counting.InTime.{when-lost}
 use Rattle.mq_core.proofs.Counting.Stays.{stay-admitted}
 use Rattle.mq_core.proofs.EachKind.RecurrenceLaws.{RecurrenceLaws}
+use Rattle.mq_core.proofs.Events.Exits.{until-own}
 use Rattle.mq_core.proofs.Loss.LossColumns.{faring-fates, faring-leaves, faring-outs, loss-stream}
 
 -- a fate is no later than its emission
@@ -29,8 +30,8 @@ lost-prompt out time now l = go (eqb out 1)
     go true = omega arith
     go false = l
 
-pub loss-recurrence : (rows : Rows) (places : ℕ) (demand : Demand) → RecurrenceLaws rows (loss places demand)
-loss-recurrence rows places demand =
+pub loss-recurrence : (rows : Rows) (ports : ℕ) (places : ℕ) (demand : Demand) → RecurrenceLaws rows ports (loss places demand)
+loss-recurrence rows ports places demand =
     record {
       numbered = λ visits. faring-numbered 0 _ visits (loss-even places [] (λ x. x.arrive) (λ x. demand_of_job rows demand x.job) visits);
       leaves = λ visits. faring-leaves places demand 0 _ visits;
@@ -38,10 +39,13 @@ loss-recurrence rows places demand =
       goes = λ visits. faring-outs 0 _ visits (even-fates rows places demand visits) ∙ ap (λ d. map out_of_fate (loss_fates places [] (arrives_of visits) d)) (demands-of rows demand visits);
       stands = λ mixed visits rise out. loss-stream rows places demand visits out rise;
       prompt = λ now m l. lost-prompt m.out m.time now l;
-      in_time = λ job arrive e. when-lost places (demand_of_job rows demand) [] job arrive e;
-      stays = λ job arrive e. stay-admitted places (demand_of_job rows demand) [] job arrive;
-      bounded = λ net jobs arrives limit top sound few told room early.
+      in_time = λ came e. when-lost places (demand_of_job rows demand) [] came.job came.arrive e;
+      stays = λ came e. stay-admitted places (demand_of_job rows demand) [] came.job came.arrive;
+      bounded = λ net came limit top sound few told room early.
           let s = (and_parts (is_within 1 1048576 places) (is_sound_demand (length net.columns) demand) sound).1 in
-          let small = asked-small rows demand jobs (each-weaker _ _ (λ job (t : Tells net rows job). (t.demand demand s).1) jobs told) in
-          loss-by limit top top places [] arrives (asked rows jobs demand) (omega arith) (omega arith) (omega arith) early small;
+          let small = asked-small rows demand came.job (each-weaker _ _ (λ job (t : Tells net rows job). (t.demand demand s).1) came.job told) in
+          loss-by limit top top places [] came.arrive (asked rows came.job demand) (omega arith) (omega arith) (omega arith) early small;
+      until = λ time position o. until-own time position o;
+      finds = λ came. refl;
+      streams = λ came out. refl;
     }

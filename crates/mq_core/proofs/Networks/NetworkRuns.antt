@@ -1,10 +1,10 @@
-use Rattle.std.proofs.Common.{◌≡◌, ℕ, ◌*◌, List, length, ap, slice_get}
+use Rattle.std.proofs.Common.{◌≡◌, ℕ, List, ap, slice_get}
 use Rattle.std.specs.List.{flat_map}
 use Rattle.mq_core.specs.Local.{Local}
 use Rattle.mq_core.specs.Machine.{Table, after, opened}
 use Rattle.mq_core.specs.NetworkRun.{network_table, run_in, RunsAreOfNetworks}
 use Rattle.mq_core.specs.Results.{first_of, late_at}
-use Rattle.mq_core.specs.Run.{starts}
+use Rattle.mq_core.specs.Run.{run_length, starts}
 use Rattle.mq_core.specs.Standard.{standard_opening, standard_handle, standard_jobs, standard_working}
 use Rattle.mq_core.specs.StandardTable.{standard, run_of}
 use Rattle.mq_core.specs.Wiring.{rank_in}
@@ -17,7 +17,7 @@ unfolding standard_opening standard_handle standard_jobs standard_working
 same-table plan rows = ap (λ (order : List ℕ). let t : Table Local = record (network_table plan.net rows) { rank = rank_in order } in t) plan.ranked
 
 same-run : (plan : Plan) (rows : Rows) → run_of plan rows ≡ run_in plan.net rows
-same-run plan rows = ap (λ t. after (9 * length plan.net.nodes * length rows.time) t (opened t (starts rows))) (same-table plan rows)
+same-run plan rows = ap (λ t. after (run_length plan.net.nodes rows) t (opened t (starts rows))) (same-table plan rows)
 
 pub runs-are-of-networks : RunsAreOfNetworks
 runs-are-of-networks plan rows = (

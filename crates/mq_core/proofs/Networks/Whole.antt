@@ -9,6 +9,7 @@ use Rattle.mq_core.specs.Run.{starts, starts_from}
 use Rattle.mq_core.specs.Theorems.{arrivals_at, IsReadFor, RunsAlone}
 use Rattle.mq_core.specs.declared.model.Plan.{Plan}
 use Rattle.mq_core.specs.declared.model.Rows.{Rows}
+use Rattle.mq_core.proofs.Events.Kept.{Begins}
 use Rattle.mq_core.proofs.Lists.Each.{filter-none}
 use Rattle.mq_core.proofs.Networks.Soundness.{sound-read_once}
 use Rattle.mq_core.proofs.Networks.Wired.{feeds_forward, wired}
@@ -25,6 +26,12 @@ pub starts-arrive : (job : ℕ) (sources times : List ℕ) → Each (λ e. (n : 
 starts-arrive job [] times = tt
 starts-arrive job (s ∷ ss) [] = tt
 starts-arrive job (s ∷ ss) (t ∷ ts) = (λ _. refl, starts-arrive (suc job) ss ts)
+
+-- each by the first port
+pub starts-begin : {L : Type 0} (t : Table L) (job : ℕ) (sources times : List ℕ) → Each (Begins t) (starts_from job sources times)
+starts-begin t job [] times = tt
+starts-begin t job (s ∷ ss) [] = tt
+starts-begin t job (s ∷ ss) (time ∷ ts) = ((λ _. refl, omega arith), starts-begin t (suc job) ss ts)
 
 -- no row starts where no source is
 starts-elsewhere : (v job : ℕ) (sources times : List ℕ) → ((k source : ℕ) → slice_get sources k ≡ Some source → source ≡ v → ⊥) → Each (λ e. is_arrival_at v e ≡ false) (starts_from job sources times)

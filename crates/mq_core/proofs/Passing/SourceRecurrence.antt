@@ -1,5 +1,5 @@
 -- The laws of the kind's recurrence.
-use Rattle.std.proofs.Common.{arith, refl}
+use Rattle.std.proofs.Common.{arith, refl, ℕ}
 use Rattle.mq_core.specs.Kinds.Source.{source}
 use Rattle.mq_core.specs.declared.model.Kind.TheVariants.{Source}
 use Rattle.mq_core.specs.declared.model.Rows.{Rows}
@@ -9,9 +9,10 @@ use Rattle.mq_core.proofs.Counting.FlowColumns.{departing-leaves, passed-fates, 
 use Rattle.mq_core.proofs.Counting.InTime.{at-once}
 use Rattle.mq_core.proofs.Counting.Stays.{stay-fates, stay-none}
 use Rattle.mq_core.proofs.EachKind.RecurrenceLaws.{RecurrenceLaws}
+use Rattle.mq_core.proofs.Events.Exits.{until-own}
 
-pub source-recurrence : (rows : Rows) → RecurrenceLaws rows source
-source-recurrence rows =
+pub source-recurrence : (rows : Rows) (ports : ℕ) → RecurrenceLaws rows ports source
+source-recurrence rows ports =
     record {
       numbered = λ visits. passed-numbered _ 0 visits;
       leaves = λ visits. departing-leaves Source (λ m. refl) _ visits;
@@ -19,7 +20,10 @@ source-recurrence rows =
       goes = λ visits. source-outs 0 visits;
       stands = λ mixed visits rise out. absurd cc;
       prompt = λ now m l. l;
-      in_time = λ job arrive e. at-once arrive;
-      stays = λ job arrive e. stay-fates (λ _. 0) job arrive arrive (stay-none job arrive e);
-      bounded = λ net jobs arrives limit top sound few told room early. departs-by limit arrives (by-later top limit arrives (omega arith) early);
+      in_time = λ came e. at-once came.arrive;
+      stays = λ came e. stay-fates (λ _. 0) came.job came.arrive came.arrive (stay-none came.job came.arrive e);
+      bounded = λ net came limit top sound few told room early. departs-by limit came.arrive (by-later top limit came.arrive (omega arith) early);
+      until = λ time position o. until-own time position o;
+      finds = λ came. refl;
+      streams = λ came out. refl;
     }

@@ -1,5 +1,5 @@
 -- The laws of the kind's recurrence.
-use Rattle.std.proofs.Common.{arith, refl}
+use Rattle.std.proofs.Common.{arith, refl, ℕ}
 use Rattle.mq_core.specs.Kinds.Split.{split}
 use Rattle.mq_core.specs.declared.model.Kind.TheVariants.{Split}
 use Rattle.mq_core.specs.declared.model.Route.{Route}
@@ -10,9 +10,10 @@ use Rattle.mq_core.proofs.Counting.FlowColumns.{departing-leaves, passed-fates, 
 use Rattle.mq_core.proofs.Counting.InTime.{at-once}
 use Rattle.mq_core.proofs.Counting.Stays.{stay-fates, stay-none}
 use Rattle.mq_core.proofs.EachKind.RecurrenceLaws.{RecurrenceLaws}
+use Rattle.mq_core.proofs.Events.Exits.{until-own}
 
-pub split-recurrence : (rows : Rows) (route : Route) → RecurrenceLaws rows (split route)
-split-recurrence rows route =
+pub split-recurrence : (rows : Rows) (ports : ℕ) (route : Route) → RecurrenceLaws rows ports (split route)
+split-recurrence rows ports route =
     record {
       numbered = λ visits. passed-numbered _ 0 visits;
       leaves = λ visits. departing-leaves (Split route) (λ m. refl) _ visits;
@@ -20,7 +21,10 @@ split-recurrence rows route =
       goes = λ visits. split-outs rows route 0 visits;
       stands = λ mixed visits rise out. absurd cc;
       prompt = λ now m l. l;
-      in_time = λ job arrive e. at-once arrive;
-      stays = λ job arrive e. stay-fates (λ _. 0) job arrive arrive (stay-none job arrive e);
-      bounded = λ net jobs arrives limit top sound few told room early. departs-by limit arrives (by-later top limit arrives (omega arith) early);
+      in_time = λ came e. at-once came.arrive;
+      stays = λ came e. stay-fates (λ _. 0) came.job came.arrive came.arrive (stay-none came.job came.arrive e);
+      bounded = λ net came limit top sound few told room early. departs-by limit came.arrive (by-later top limit came.arrive (omega arith) early);
+      until = λ time position o. until-own time position o;
+      finds = λ came. refl;
+      streams = λ came out. refl;
     }

@@ -1,5 +1,5 @@
 -- The laws of the kind.
-use Rattle.std.proofs.Common.{[], ap, arith, inl, length, refl, ◌*◌, ◌++◌, ◌+◌, ◌-◌, ◌∷◌, ◌≡◌}
+use Rattle.std.proofs.Common.{[], ap, arith, inl, length, refl, ℕ, ◌*◌, ◌++◌, ◌+◌, ◌-◌, ◌∷◌, ◌≡◌}
 use Rattle.mq_core.specs.Kinds.Server.{server}
 use Rattle.mq_core.specs.Handling.{demand_at, demand_of_visit, latest}
 use Rattle.mq_core.specs.Tallies.{sum_below}
@@ -9,7 +9,7 @@ use Rattle.mq_core.specs.declared.model.Rows.{Rows}
 use Rattle.mq_core.proofs.Counting.Unlost.{departing-whole}
 use Rattle.mq_core.proofs.Counting.Released.{joins-emits, joins-length, no_release}
 use Rattle.mq_core.proofs.Counting.Services.{services-by, services-count}
-use Rattle.mq_core.proofs.EachKind.KindLaws.{Inside, KindLaws, own_out}
+use Rattle.mq_core.proofs.EachKind.KindLaws.{Inside, KindLaws, OnceLaws, OwnLaws, own_out}
 use Rattle.mq_core.proofs.Events.Remaining.{remaining}
 use Rattle.mq_core.proofs.Server.ServerBusy.{begun, busy-arrives, busy-ends, busy-waits}
 use Rattle.mq_core.proofs.Server.ServerLoads.{serving-adds, serving-leaves, serving-takes}
@@ -26,21 +26,18 @@ server-inside rows demand =
       busy = λ s fs now. s.busy + remaining now fs ≡ begun rows demand s.visits s.local.queue;
     }
 
-pub server-laws : (rows : Rows) (demand : Demand) → KindLaws rows (server demand) (server-inside rows demand)
-server-laws rows demand =
+pub server-laws : (rows : Rows) (ports : ℕ) (demand : Demand) → KindLaws rows ports (server demand) (server-inside rows demand)
+server-laws rows ports demand =
     record {
-      opens = λ columns v sound. serving-opens rows demand v;
+      opens = λ columns v sound many. serving-opens rows demand v;
       waits = λ v s area busy fs now later l h. serving-waits rows demand v s.visits s.local.queue s.emitted fs now later l h;
-      arrives = λ peak v port s fs now x at soon h. serving-arrives rows demand v s.local s.visits s.local.queue s.emitted fs now x at soon h;
+      arrives = λ peak v port s fs now x at by fit soon h. serving-arrives rows demand v s.local s.visits s.local.queue s.emitted fs now x at soon h;
       ends = λ peak rank v server position s fs rest now first h. serving-ends rows demand rank v server position s.local s.visits s.local.queue s.emitted fs rest now first h;
       flow = λ v s now h. (serving-done rows demand v s.visits _ s.emitted now h).1;
       number = λ v s fs now h. serving-number rows demand v s.visits s.local.queue s.emitted fs now h;
-      empty = λ v s now h. ap length (serving-done rows demand v s.visits _ s.emitted _ h).0;
-      own = λ v port s now x q m e. absurd (no_release now q (s.visits ++ x ∷ []) _ m (joins-releases rows demand (s.visits ++ x ∷ []) s.local now s.local.queue (latest (s.visits ++ x ∷ []))) e);
-      earlier = λ rank v server position s fs rest now first h q p m e l u. serving-earlier rows demand rank v server position s.local s.visits s.local.queue s.emitted fs rest now first h q p m e l u;
       shows = λ rank v server position s fs rest now first h. inl (serving-emits rows demand rank v server position s.local s.visits s.local.queue s.emitted fs rest now first h);
       weightless = λ onward. omega arith;
-      adds = λ onward v port job s visits fs now f. serving-adds rows demand onward v port job s.local visits now;
+      adds = λ onward v port job s visits fs now f. let a = serving-adds rows demand onward v port job s.local visits now in omega arith;
       takes = λ onward rank v server position s fs rest now first f. serving-takes rows demand onward rank v server position s fs rest now first f;
       idle = λ v. refl;
       works = λ v area s fs now later l f h b. busy-waits rows demand v s.visits s.local.queue s.emitted fs now later s.busy l f h b;
@@ -54,12 +51,29 @@ server-laws rows demand =
           let each = services-by rows (Server demand) s.visits (demand_of_visit rows demand) refl (λ x. refl) in
           let all = services-count rows (Server demand) s.visits s.emitted (λ m. refl) in
           omega arith;
+    }
+
+-- each visit leaves with its own emission
+pub server-own : (rows : Rows) (ports : ℕ) (demand : Demand) → OwnLaws rows ports (server demand) (server-inside rows demand)
+server-own rows ports demand =
+    record {
+      exits = λ s p. refl;
+      own = λ v port s now x q m e. absurd (no_release now q (s.visits ++ x ∷ []) _ m (joins-releases rows demand (s.visits ++ x ∷ []) s.local now s.local.queue (latest (s.visits ++ x ∷ []))) e);
+      earlier = λ rank v server position s fs rest now first h q p m e l u. serving-earlier rows demand rank v server position s.local s.visits s.local.queue s.emitted fs rest now first h q p m e l u;
+    }
+
+-- what it owes as it lets each visit out once
+pub server-once : (rows : Rows) (ports : ℕ) (demand : Demand) → OnceLaws rows ports (server demand) (server-inside rows demand)
+server-once rows ports demand =
+    record {
+      one = omega arith;
+      empty = λ v s now h. ap length (serving-done rows demand v s.visits _ s.emitted _ h).0;
       enters = λ v port s fs now x at f.
           let a = joins-length rows demand (s.visits ++ x ∷ []) s.local now s.local.queue (latest (s.visits ++ x ∷ [])) in
           let b = ap length (joins-emits rows demand (s.visits ++ x ∷ []) s.local now s.local.queue (latest (s.visits ++ x ∷ []))) in
           omega arith;
       leaves = λ rank v server position s fs rest now first h. serving-leaves rows demand s now;
       vacant = omega arith;
-      raises = λ v port s fs now x at h f. inl (let r = joins-length rows demand (s.visits ++ x ∷ []) s.local now s.local.queue (latest (s.visits ++ x ∷ [])) in omega arith, λ n. departing-whole (Server demand) (λ m. refl) (own_out rows (server demand) v port s now x) n);
+      raises = λ v port s fs now x at h f. inl (let r = joins-length rows demand (s.visits ++ x ∷ []) s.local now s.local.queue (latest (s.visits ++ x ∷ [])) in omega arith, λ n. departing-whole (Server demand) (λ m. refl) (own_out rows ports (server demand) v port s now x) n);
       departs = λ v server position s now q m e. refl;
     }

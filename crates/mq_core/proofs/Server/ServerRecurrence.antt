@@ -1,5 +1,5 @@
 -- The laws of the kind's recurrence.
-use Rattle.std.proofs.Common.{arith, refl}
+use Rattle.std.proofs.Common.{arith, refl, ℕ}
 use Rattle.mq_core.specs.Handling.{demand_of_job}
 use Rattle.mq_core.specs.Kinds.Server.{server}
 use Rattle.mq_core.specs.PlanLaws.{Tells}
@@ -14,9 +14,10 @@ use Rattle.mq_core.proofs.Counting.FlowColumns.{departing-leaves, served-fates, 
 use Rattle.mq_core.proofs.Counting.InTime.{when-served}
 use Rattle.mq_core.proofs.Counting.Stays.{stay-fates, stay-served}
 use Rattle.mq_core.proofs.EachKind.RecurrenceLaws.{RecurrenceLaws}
+use Rattle.mq_core.proofs.Events.Exits.{until-own}
 
-pub server-recurrence : (rows : Rows) (demand : Demand) → RecurrenceLaws rows (server demand)
-server-recurrence rows demand =
+pub server-recurrence : (rows : Rows) (ports : ℕ) (demand : Demand) → RecurrenceLaws rows ports (server demand)
+server-recurrence rows ports demand =
     record {
       numbered = λ visits. served-numbered rows demand 0 0 visits;
       leaves = λ visits. departing-leaves (Server demand) (λ m. refl) _ visits;
@@ -24,9 +25,12 @@ server-recurrence rows demand =
       goes = λ visits. server-outs rows demand 0 0 visits;
       stands = λ mixed visits rise out. absurd cc;
       prompt = λ now m l. l;
-      in_time = λ job arrive e. when-served 0 (demand_of_job rows demand) job arrive e;
-      stays = λ job arrive e. stay-fates (demand_of_job rows demand) job arrive _ (stay-served 0 (demand_of_job rows demand) job arrive);
-      bounded = λ net jobs arrives limit top sound few told room early.
-          let small = asked-small rows demand jobs (each-weaker _ _ (λ job (t : Tells net rows job). (t.demand demand sound).1) jobs told) in
-          departs-by limit (lindley 0 arrives (asked rows jobs demand)) (lindley-by limit top top 0 arrives (asked rows jobs demand) (omega arith) (omega arith) (omega arith) early small);
+      in_time = λ came e. when-served 0 (demand_of_job rows demand) came.job came.arrive e;
+      stays = λ came e. stay-fates (demand_of_job rows demand) came.job came.arrive _ (stay-served 0 (demand_of_job rows demand) came.job came.arrive);
+      bounded = λ net came limit top sound few told room early.
+          let small = asked-small rows demand came.job (each-weaker _ _ (λ job (t : Tells net rows job). (t.demand demand sound).1) came.job told) in
+          departs-by limit (lindley 0 came.arrive (asked rows came.job demand)) (lindley-by limit top top 0 came.arrive (asked rows came.job demand) (omega arith) (omega arith) (omega arith) early small);
+      until = λ time position o. until-own time position o;
+      finds = λ came. refl;
+      streams = λ came out. refl;
     }

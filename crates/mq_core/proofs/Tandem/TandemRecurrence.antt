@@ -21,6 +21,7 @@ use Rattle.mq_core.proofs.Counting.ColumnNumbers.{leaving-numbered}
 use Rattle.mq_core.proofs.Counting.FlowColumns.{departing-leaves, leaving-fates, leaving-outs, tandem-even}
 use Rattle.mq_core.proofs.Counting.Stays.{FatesStay, stay-fates, stay-in_tandem, stay-none}
 use Rattle.mq_core.proofs.EachKind.RecurrenceLaws.{RecurrenceLaws}
+use Rattle.mq_core.proofs.Events.Exits.{until-own}
 use Rattle.mq_core.proofs.ForkJoin.ForkTimes.{fates-at_least}
 use Rattle.mq_core.proofs.Tandem.TandemColumns.{tandem_times-late, tandem_times-length}
 
@@ -39,8 +40,8 @@ stages-by net rows (stage ∷ stages) jobs arrives limit top sound few told room
     departs-by limit (tandem_times rows all jobs arrives)
     (tandem-by limit top top (map (λ (s : Stage). s.places) all) (map (λ _. []) all) arrives (map (λ (s : Stage). asked rows jobs s.demand) all) (omega arith) (omega arith) (omega arith) early (none-left top all) (stages-small rows jobs all small))
 
-pub tandem-recurrence : (rows : Rows) (stages : List Stage) → RecurrenceLaws rows (tandem stages)
-tandem-recurrence rows stages =
+pub tandem-recurrence : (rows : Rows) (ports : ℕ) (stages : List Stage) → RecurrenceLaws rows ports (tandem stages)
+tandem-recurrence rows ports stages =
     record {
       numbered = λ visits. leaving-numbered 0 _ visits (tandem_times-length rows stages (jobs_of visits) (arrives_of visits) ∙ length-map visits (λ (x : Visit). x.arrive));
       leaves = λ visits. departing-leaves (Tandem stages) (λ m. refl) _ visits;
@@ -48,7 +49,10 @@ tandem-recurrence rows stages =
       goes = λ visits. leaving-outs 0 _ visits (tandem-even rows stages visits);
       stands = λ mixed visits rise out. absurd cc;
       prompt = λ now m l. l;
-      in_time = λ job arrive e. fates-at_least arrive (tandem_times rows stages job arrive) (tandem_times-late rows stages job arrive);
-      stays = λ job arrive e. stay-stages rows stages job arrive e;
-      bounded = λ net jobs arrives limit top sound few told room early. stages-by net rows stages jobs arrives limit top sound few told room early;
+      in_time = λ came e. fates-at_least came.arrive (tandem_times rows stages came.job came.arrive) (tandem_times-late rows stages came.job came.arrive);
+      stays = λ came e. stay-stages rows stages came.job came.arrive e;
+      bounded = λ net came limit top sound few told room early. stages-by net rows stages came.job came.arrive limit top sound few told room early;
+      until = λ time position o. until-own time position o;
+      finds = λ came. refl;
+      streams = λ came out. refl;
     }

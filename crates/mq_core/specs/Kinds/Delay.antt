@@ -1,15 +1,19 @@
 -- A delay, as one value: each job is served at once.
-use Rattle.std.specs.Prelude.{List, [], false, length, map, suc, true, ℕ, ◌+◌, ◌∷◌}
+use Rattle.std.specs.Prelude.{List, [], false, length, map, nat_lt, suc, true, ℕ, ◌+◌, ◌∷◌}
 use Rattle.mq_core.specs.Behaviour.{Behaviour}
+use Rattle.mq_core.specs.Came.{Came}
 use Rattle.mq_core.specs.DelayHandler.{delay_on}
 use Rattle.mq_core.specs.Handling.{demand_of_job}
 use Rattle.mq_core.specs.Leaving.Leaving.{Overtaking}
 use Rattle.mq_core.specs.Local.{empty}
 use Rattle.mq_core.specs.Machine.{Emission, Visit}
+use Rattle.mq_core.specs.OnceOut.{founds_of, once_out}
 use Rattle.mq_core.specs.Ranges.{columns_of_demand, is_sound_demand, is_within}
 use Rattle.mq_core.specs.Recurrences.{delayed}
+use Rattle.mq_core.specs.Tallies.{emission_at}
 use Rattle.mq_core.specs.Told.{HasDemand}
 use Rattle.mq_core.specs.declared.model.Demand.{Demand}
+use Rattle.mq_core.specs.declared.model.Fate.{Fate}
 use Rattle.mq_core.specs.declared.model.Fate.TheVariants.{Departs}
 use Rattle.mq_core.specs.declared.model.Rows.{Rows}
 
@@ -20,13 +24,21 @@ delayed_from rows demand position (visit ∷ visits) =
     record { out = 0; position = position; job = visit.job; time = visit.arrive + demand_of_job rows demand visit.job }
     ∷ delayed_from rows demand (suc position) visits
 
+-- the fates of the arrivals
+abbrev pub delay_fates : Rows → Demand → Came → List Fate
+delay_fates rows demand came = map (λ time. Departs time) (delayed came.arrive (map (demand_of_job rows demand) came.job))
+
+-- the outputs by which they leave
+abbrev pub delay_outs : Rows → Demand → Came → List ℕ
+delay_outs rows demand came = map (λ _. 0) came.job
+
 -- serves each job at once, for as long as it asks
 abbrev pub delay : Demand → Behaviour
 delay demand =
     record {
       starts = false;
       opening = empty;
-      on = λ rows visits local now event. delay_on rows demand visits local now event;
+      on = λ rows ports visits local now event. delay_on rows demand visits local now event;
       jobs = λ visits local. length local.scheduled;
       working = λ local. length local.scheduled;
       holds = true;
@@ -39,8 +51,14 @@ delay demand =
       bare = λ rows job. demand_of_job rows demand job;
       service = λ rows job. demand_of_job rows demand job;
       fate = λ m. Departs m.time;
-      fates = λ rows job arrive. map (λ time. Departs time) (delayed arrive (map (demand_of_job rows demand) job));
-      outs = λ rows job arrive. map (λ _. 0) job;
-      flow = λ rows visits. delayed_from rows demand 0 visits;
+      fates = λ rows came. delay_fates rows demand came;
+      outs = λ rows came. delay_outs rows demand came;
+      flow = λ rows ports visits. delayed_from rows demand 0 visits;
       order = Overtaking;
+      copies = 1;
+      exit = λ s position. emission_at s.emitted position;
+      there = λ time position m. nat_lt time m.time;
+      keeps = false;
+      founds = λ rows came. founds_of came.arrive (delay_fates rows demand came);
+      stream = λ rows came out. once_out Overtaking came (delay_fates rows demand came) (delay_outs rows demand came) out;
     }

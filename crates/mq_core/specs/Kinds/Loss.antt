@@ -1,17 +1,21 @@
 -- A loss station, as one value: one server, so many places, and two outputs.
-use Rattle.std.specs.Prelude.{List, [], false, if◌then◌else◌, length, map, suc, true, ℕ, ◌&&◌, ◌==◌, ◌∷◌}
+use Rattle.std.specs.Prelude.{List, [], false, if◌then◌else◌, length, map, nat_lt, suc, true, ℕ, ◌&&◌, ◌==◌, ◌∷◌}
 use Rattle.mq_core.specs.Behaviour.{Behaviour}
+use Rattle.mq_core.specs.Came.{Came}
 use Rattle.mq_core.specs.Handling.{demand_of_job, one_if_some}
 use Rattle.mq_core.specs.Leaving.Leaving.{Mixed}
 use Rattle.mq_core.specs.Local.{empty}
 use Rattle.mq_core.specs.LossHandler.{loss_on}
 use Rattle.mq_core.specs.Machine.{Emission, Visit}
+use Rattle.mq_core.specs.OnceOut.{founds_of, once_out}
 use Rattle.mq_core.specs.Ranges.{columns_of_demand, is_sound_demand, is_within}
 use Rattle.mq_core.specs.Recurrences.{loss_fates}
+use Rattle.mq_core.specs.Tallies.{emission_at}
 use Rattle.mq_core.specs.Told.{HasDemand}
 use Rattle.mq_core.specs.declared.model.Demand.{Demand}
 use Rattle.mq_core.specs.declared.model.Fate.{Fate}
 use Rattle.mq_core.specs.declared.model.Fate.TheVariants.{Departs, Lost}
+use Rattle.mq_core.specs.declared.model.Rows.{Rows}
 
 -- the output by which a visit leaves a loss station
 abbrev pub out_of_fate : Fate → ℕ
@@ -29,13 +33,21 @@ faring_from position [] visits = []
 faring_from position (fate ∷ fates) [] = []
 faring_from position (fate ∷ fates) (visit ∷ visits) = faring_by position fate visit ∷ faring_from (suc position) fates visits
 
+-- the fates of the arrivals
+abbrev pub loss_by : Rows → ℕ → Demand → Came → List Fate
+loss_by rows places demand came = loss_fates places [] came.arrive (map (demand_of_job rows demand) came.job)
+
+-- the outputs by which they leave
+abbrev pub loss_outs : Rows → ℕ → Demand → Came → List ℕ
+loss_outs rows places demand came = map out_of_fate (loss_fates places [] came.arrive (map (demand_of_job rows demand) came.job))
+
 -- one server and so many places; who finds none is lost, and goes out by output 1
 abbrev pub loss : ℕ → Demand → Behaviour
 loss places demand =
     record {
       starts = false;
       opening = empty;
-      on = λ rows visits local now event. loss_on rows places demand visits local now event;
+      on = λ rows ports visits local now event. loss_on rows places demand visits local now event;
       jobs = λ visits local. length local.queue;
       working = λ local. one_if_some local.queue;
       holds = true;
@@ -48,8 +60,14 @@ loss places demand =
       bare = λ rows job. demand_of_job rows demand job;
       service = λ rows job. demand_of_job rows demand job;
       fate = λ m. if m.out == 1 then Lost else Departs m.time;
-      fates = λ rows job arrive. loss_fates places [] arrive (map (demand_of_job rows demand) job);
-      outs = λ rows job arrive. map out_of_fate (loss_fates places [] arrive (map (demand_of_job rows demand) job));
-      flow = λ rows visits. faring_from 0 (loss_fates places [] (map (λ (x : Visit). x.arrive) visits) (map (λ (x : Visit). demand_of_job rows demand x.job) visits)) visits;
+      fates = λ rows came. loss_by rows places demand came;
+      outs = λ rows came. loss_outs rows places demand came;
+      flow = λ rows ports visits. faring_from 0 (loss_fates places [] (map (λ (x : Visit). x.arrive) visits) (map (λ (x : Visit). demand_of_job rows demand x.job) visits)) visits;
       order = Mixed;
+      copies = 1;
+      exit = λ s position. emission_at s.emitted position;
+      there = λ time position m. nat_lt time m.time;
+      keeps = false;
+      founds = λ rows came. founds_of came.arrive (loss_by rows places demand came);
+      stream = λ rows came out. once_out Mixed came (loss_by rows places demand came) (loss_outs rows places demand came) out;
     }

@@ -1,16 +1,20 @@
 -- A server, as one value: its handler, its recurrence, its numbers.
-use Rattle.std.specs.Prelude.{List, [], false, length, map, max, suc, true, ℕ, ◌+◌, ◌∷◌}
+use Rattle.std.specs.Prelude.{List, [], false, length, map, max, nat_lt, suc, true, ℕ, ◌+◌, ◌∷◌}
 use Rattle.mq_core.specs.Behaviour.{Behaviour}
+use Rattle.mq_core.specs.Came.{Came}
 use Rattle.mq_core.specs.Event.{Event}
 use Rattle.mq_core.specs.Event.Event.{Arrive, Finish}
 use Rattle.mq_core.specs.Handling.{demand_of_job, front_leaves, joins, latest, one_if_some}
 use Rattle.mq_core.specs.Leaving.Leaving.{InTurn}
 use Rattle.mq_core.specs.Local.{Local, empty}
 use Rattle.mq_core.specs.Machine.{Emission, Reaction, Visit}
+use Rattle.mq_core.specs.OnceOut.{founds_of, once_out}
 use Rattle.mq_core.specs.Ranges.{columns_of_demand, is_sound_demand, is_within}
 use Rattle.mq_core.specs.Recurrences.{lindley}
+use Rattle.mq_core.specs.Tallies.{emission_at}
 use Rattle.mq_core.specs.Told.{HasDemand}
 use Rattle.mq_core.specs.declared.model.Demand.{Demand}
+use Rattle.mq_core.specs.declared.model.Fate.{Fate}
 use Rattle.mq_core.specs.declared.model.Fate.TheVariants.{Departs}
 use Rattle.mq_core.specs.declared.model.Rows.{Rows}
 
@@ -30,13 +34,21 @@ served_from rows demand position last (visit ∷ visits) =
     record { out = 0; position = position; job = visit.job; time = served rows demand last visit }
     ∷ served_from rows demand (suc position) (served rows demand last visit) visits
 
+-- the fates of the arrivals
+abbrev pub server_fates : Rows → Demand → Came → List Fate
+server_fates rows demand came = map (λ time. Departs time) (lindley 0 came.arrive (map (demand_of_job rows demand) came.job))
+
+-- the outputs by which they leave
+abbrev pub server_outs : Rows → Demand → Came → List ℕ
+server_outs rows demand came = map (λ _. 0) came.job
+
 -- one server with an unlimited queue
 abbrev pub server : Demand → Behaviour
 server demand =
     record {
       starts = false;
       opening = empty;
-      on = λ rows visits local now event. server_on rows demand visits local now event;
+      on = λ rows ports visits local now event. server_on rows demand visits local now event;
       jobs = λ visits local. length local.queue;
       working = λ local. one_if_some local.queue;
       holds = true;
@@ -49,8 +61,14 @@ server demand =
       bare = λ rows job. demand_of_job rows demand job;
       service = λ rows job. demand_of_job rows demand job;
       fate = λ m. Departs m.time;
-      fates = λ rows job arrive. map (λ time. Departs time) (lindley 0 arrive (map (demand_of_job rows demand) job));
-      outs = λ rows job arrive. map (λ _. 0) job;
-      flow = λ rows visits. served_from rows demand 0 0 visits;
+      fates = λ rows came. server_fates rows demand came;
+      outs = λ rows came. server_outs rows demand came;
+      flow = λ rows ports visits. served_from rows demand 0 0 visits;
       order = InTurn;
+      copies = 1;
+      exit = λ s position. emission_at s.emitted position;
+      there = λ time position m. nat_lt time m.time;
+      keeps = false;
+      founds = λ rows came. founds_of came.arrive (server_fates rows demand came);
+      stream = λ rows came out. once_out InTurn came (server_fates rows demand came) (server_outs rows demand came) out;
     }

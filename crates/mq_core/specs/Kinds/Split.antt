@@ -2,6 +2,7 @@
 use Rattle.std.specs.List.{list_all}
 use Rattle.std.specs.Prelude.{Bool, List, [], count_by, false, length, map, nat_le, nat_lt, suc, ℕ, ◌%◌, ◌&&◌, ◌+◌, ◌^◌, ◌∷◌}
 use Rattle.mq_core.specs.Behaviour.{Behaviour}
+use Rattle.mq_core.specs.Came.{Came}
 use Rattle.mq_core.specs.Emitting.{passed_from}
 use Rattle.mq_core.specs.Event.{Event}
 use Rattle.mq_core.specs.Event.Event.{Arrive, Finish}
@@ -9,7 +10,10 @@ use Rattle.mq_core.specs.Handling.{latest, passes_on, quiet, value_of}
 use Rattle.mq_core.specs.Leaving.Leaving.{InTurn}
 use Rattle.mq_core.specs.Local.{Local, empty}
 use Rattle.mq_core.specs.Machine.{Reaction, Visit}
+use Rattle.mq_core.specs.OnceOut.{founds_of, once_out}
 use Rattle.mq_core.specs.Ranges.{is_within, rises}
+use Rattle.mq_core.specs.Tallies.{emission_at}
+use Rattle.mq_core.specs.declared.model.Fate.{Fate}
 use Rattle.mq_core.specs.declared.model.Fate.TheVariants.{Departs}
 use Rattle.mq_core.specs.declared.model.Route.{Route}
 use Rattle.mq_core.specs.declared.model.Route.TheVariants.{Cut, Modulo, Turn}
@@ -60,13 +64,21 @@ abbrev pub routes_from : Rows → Route → ℕ → List ℕ → List ℕ
 routes_from rows route position [] = []
 routes_from rows route position (job ∷ jobs) = output_by rows route job position ∷ routes_from rows route (suc position) jobs
 
+-- the fates of the arrivals
+abbrev pub split_fates : Rows → Route → Came → List Fate
+split_fates rows route came = map (λ time. Departs time) came.arrive
+
+-- the outputs by which they leave
+abbrev pub split_outs : Rows → Route → Came → List ℕ
+split_outs rows route came = routes_from rows route 0 came.job
+
 -- sends each job on at once, by one of its outputs
 abbrev pub split : Route → Behaviour
 split route =
     record {
       starts = false;
       opening = empty;
-      on = λ rows visits local now event. split_on rows route visits local event;
+      on = λ rows ports visits local now event. split_on rows route visits local event;
       jobs = λ visits local. 0;
       working = λ local. 0;
       holds = false;
@@ -79,8 +91,14 @@ split route =
       bare = λ rows job. 0;
       service = λ rows job. 0;
       fate = λ m. Departs m.time;
-      fates = λ rows job arrive. map (λ time. Departs time) arrive;
-      outs = λ rows job arrive. routes_from rows route 0 job;
-      flow = λ rows visits. passed_from (λ visit position. output_by rows route visit.job position) 0 visits;
+      fates = λ rows came. split_fates rows route came;
+      outs = λ rows came. split_outs rows route came;
+      flow = λ rows ports visits. passed_from (λ visit position. output_by rows route visit.job position) 0 visits;
       order = InTurn;
+      copies = 1;
+      exit = λ s position. emission_at s.emitted position;
+      there = λ time position m. nat_lt time m.time;
+      keeps = false;
+      founds = λ rows came. founds_of came.arrive (split_fates rows route came);
+      stream = λ rows came out. once_out InTurn came (split_fates rows route came) (split_outs rows route came) out;
     }

@@ -1,16 +1,20 @@
 -- A tandem, as one value: stages in series with finite buffers between them.
 use Rattle.std.specs.List.{flat_map, list_all}
-use Rattle.std.specs.Prelude.{Bool, List, [], false, length, map, true, ℕ, ◌&&◌, ◌∷◌}
+use Rattle.std.specs.Prelude.{Bool, List, [], false, length, map, nat_lt, true, ℕ, ◌&&◌, ◌∷◌}
 use Rattle.mq_core.specs.Behaviour.{Behaviour}
+use Rattle.mq_core.specs.Came.{Came}
 use Rattle.mq_core.specs.Emitting.{leaving_from}
 use Rattle.mq_core.specs.Handling.{demand_of_job, demand_of_stages}
 use Rattle.mq_core.specs.Leaving.Leaving.{InTurn}
 use Rattle.mq_core.specs.Local.{empty}
 use Rattle.mq_core.specs.Machine.{Emission, Visit}
+use Rattle.mq_core.specs.OnceOut.{founds_of, once_out}
 use Rattle.mq_core.specs.Ranges.{columns_of_demand, is_sound_demand, is_within}
 use Rattle.mq_core.specs.Recurrences.{tandem_departs}
+use Rattle.mq_core.specs.Tallies.{emission_at}
 use Rattle.mq_core.specs.TandemHandler.{empty_lines, held_in, serving_in, tandem_on}
 use Rattle.mq_core.specs.Told.{AreTold}
+use Rattle.mq_core.specs.declared.model.Fate.{Fate}
 use Rattle.mq_core.specs.declared.model.Fate.TheVariants.{Departs}
 use Rattle.mq_core.specs.declared.model.Rows.{Rows}
 use Rattle.mq_core.specs.declared.model.Stage.{Stage}
@@ -37,13 +41,21 @@ abbrev pub tandem_flow : Rows → List Stage → List Visit → List Emission
 tandem_flow rows stages visits =
     leaving_from 0 (tandem_times rows stages (map (λ (x : Visit). x.job) visits) (map (λ (x : Visit). x.arrive) visits)) visits
 
+-- the fates of the arrivals
+abbrev pub tandem_fates : Rows → List Stage → Came → List Fate
+tandem_fates rows stages came = map (λ time. Departs time) (tandem_times rows stages came.job came.arrive)
+
+-- the outputs by which they leave
+abbrev pub tandem_outs : Rows → List Stage → Came → List ℕ
+tandem_outs rows stages came = map (λ _. 0) came.job
+
 -- stages in series
 abbrev pub tandem : List Stage → Behaviour
 tandem stages =
     record {
       starts = false;
       opening = record empty { lines = empty_lines stages };
-      on = λ rows visits local now event. tandem_on rows stages visits local now event;
+      on = λ rows ports visits local now event. tandem_on rows stages visits local now event;
       jobs = λ visits local. held_in local.lines;
       working = λ local. serving_in local.lines;
       holds = true;
@@ -56,8 +68,14 @@ tandem stages =
       bare = λ rows job. demand_of_stages rows stages job;
       service = λ rows job. demand_of_stages rows stages job;
       fate = λ m. Departs m.time;
-      fates = λ rows job arrive. map (λ time. Departs time) (tandem_times rows stages job arrive);
-      outs = λ rows job arrive. map (λ _. 0) job;
-      flow = λ rows visits. tandem_flow rows stages visits;
+      fates = λ rows came. tandem_fates rows stages came;
+      outs = λ rows came. tandem_outs rows stages came;
+      flow = λ rows ports visits. tandem_flow rows stages visits;
       order = InTurn;
+      copies = 1;
+      exit = λ s position. emission_at s.emitted position;
+      there = λ time position m. nat_lt time m.time;
+      keeps = false;
+      founds = λ rows came. founds_of came.arrive (tandem_fates rows stages came);
+      stream = λ rows came out. once_out InTurn came (tandem_fates rows stages came) (tandem_outs rows stages came) out;
     }

@@ -1,0 +1,120 @@
+-- What each visit found, by the emissions with which visits leave, however a kind tells these.
+use Rattle.std.proofs.Common.{◌≡◌, ℕ, suc, ◌-◌, ◌<◌, ◌≤◌, Bool, true, false, eqb, eqb-true, eq-eqb, cond, List, [], ◌∷◌, ◌++◌, length, Option, Some, None, sym, refl, ap, ◌∙◌, arith, length-append}
+use Rattle.std.specs.List.{AllByRecursion as Each}
+use Rattle.std.specs.Prelude.{nat_lt, slice_get}
+use Rattle.mq_core.specs.Event.{Event, earliest}
+use Rattle.mq_core.specs.Event.Event.{Arrive, Finish}
+use Rattle.mq_core.specs.Machine.{Visit, Emission, Table, Station, acted, aged, emissions_at}
+use Rattle.mq_core.specs.Tallies.{arrival_or, emission_at, found_or, one_if_later, one_if_none, sum_below}
+use Rattle.mq_core.proofs.Events.Areas.{get-front, get-last, sum-same}
+use Rattle.mq_core.proofs.Events.Forward.{emissions-now}
+use Rattle.mq_core.proofs.Events.Founds.{LeavesInTime, later-now, later-same}
+use Rattle.mq_core.proofs.Events.Kept.{Fact, Keeps}
+
+-- the emission with which the visit at a position of a node leaves, once it has
+abbrev pub Exit : Type 0 → Type 0
+Exit L = ℕ → Station L → ℕ → Option Emission
+
+-- whether a visit to a node that leaves with an emission is still there for one that comes at a time, at a position
+abbrev pub There : Type 0
+There = ℕ → ℕ → ℕ → Emission → Bool
+
+-- 1 where it is still there, or hasn't left
+abbrev pub one_if_there : (ℕ → ℕ → Emission → Bool) → ℕ → ℕ → Option Emission → ℕ
+one_if_there there time position None = 1
+one_if_there there time position (Some m) = cond (there time position m) 1 0
+
+-- who leaves does so after those that came before
+pub record ExitsInTime {L : Type 0} (t : Table L) (P : Fact L) (Q : ℕ → Type 0) (exit : Exit L) (there : There) : Type 0 where
+  -- nobody leaves while time goes by
+  pub waits : (v elapsed : ℕ) (s : Station L) (k : ℕ) → exit v (aged t elapsed v s) k ≡ exit v s k
+  -- a visit finds those that haven't left
+  pub finds : (v port job : ℕ) (s : Station L) (fs : List Event) (now : ℕ) → Q v → P v s fs now → (k : ℕ) → k < length s.visits → one_if_there (there v) now (length s.visits) (exit v (acted t s (Arrive now v port job)) k) ≡ one_if_none (exit v s k)
+  -- at a visit nothing changes in what earlier ones found
+  pub arrives : (v port job : ℕ) (s : Station L) (fs : List Event) (now : ℕ) → Q v → P v s fs now → (k p : ℕ) → k < p → p < length s.visits → one_if_there (there v) (arrival_or 0 (slice_get s.visits p)) p (exit v (acted t s (Arrive now v port job)) k) ≡ one_if_there (there v) (arrival_or 0 (slice_get s.visits p)) p (exit v s k)
+  -- nor at a finish
+  pub ends : (v server position : ℕ) (s : Station L) (fs rest : List Event) (now : ℕ) → Q v → P v s fs now → earliest t.rank fs ≡ Some (Finish now v server position, rest) → (k p : ℕ) → k < p → p < length s.visits → one_if_there (there v) (arrival_or 0 (slice_get s.visits p)) p (exit v (acted t s (Finish now v server position)) k) ≡ one_if_there (there v) (arrival_or 0 (slice_get s.visits p)) p (exit v s k)
+  -- the node holds those that haven't left
+  pub number : (v : ℕ) (s : Station L) (fs : List Event) (now : ℕ) → Q v → P v s fs now → t.jobs v s.visits s.local ≡ sum_below (length s.visits) (λ k. one_if_none (exit v s k))
+
+-- each visit found those of the earlier ones that were still there
+pub record FoundsBy {L : Type 0} (exit : Exit L) (there : There) (v : ℕ) (s : Station L) : Type 0 where
+  pub each : (p : ℕ) → p < length s.visits → found_or 0 (slice_get s.visits p) ≡ sum_below p (λ k. one_if_there (there v) (arrival_or 0 (slice_get s.visits p)) p (exit v s k))
+
+-- whoever leaves as told, each visit found those that were still there
+pub keeps-founds_by : {L : Type 0} (t : Table L) (P : Fact L) (Q : ℕ → Type 0) (exit : Exit L) (there : There) → Keeps t P → ExitsInTime t P Q exit there →
+    Keeps t (λ v s fs now. P v s fs now × (Q v → FoundsBy exit there v s))
+keeps-founds_by {L} t P Q exit there keeps leaves =
+    record {
+      opens = λ v. (keeps.opens v, λ _. record { each = λ p l. absurd (omega arith) });
+      waits = λ v s fs now later h l f. (keeps.waits v s fs now later h.0 l f, λ q. record { each = λ p u. (h.1 q).each p u ∙ sum-same p _ _ (λ k w. ap (one_if_there (there v) (arrival_or 0 (slice_get s.visits p)) p) (sym (leaves.waits v (later - now) s k))) });
+      fits = keeps.fits;
+      arrives = λ v port job s fs now h f fit. (keeps.arrives v port job s fs now h.0 f fit, λ q. record { each = λ p l. came v port job s fs now q h.0 (h.1 q) p (eqb p (length s.visits)) refl l });
+      ends = λ v server position s fs rest now h first. (keeps.ends v server position s fs rest now h.0 first, λ q. record { each = λ p l. (h.1 q).each p l ∙ sum-same p _ _ (λ k u. sym (leaves.ends v server position s fs rest now q h.0 first k p u l)) });
+    }
+  where
+    less : (a b : ℕ) → (a ≡ b → ⊥) → a < suc b → a < b
+    less a b n l = omega arith
+
+    came : (v port job : ℕ) (s : Station L) (fs : List Event) (now : ℕ) → Q v → P v s fs now → FoundsBy exit there v s → (p : ℕ) (b : Bool) → eqb p (length s.visits) ≡ b → p < length (acted t s (Arrive now v port job)).visits →
+        found_or 0 (slice_get (acted t s (Arrive now v port job)).visits p) ≡ sum_below p (λ k. one_if_there (there v) (arrival_or 0 (slice_get (acted t s (Arrive now v port job)).visits p)) p (exit v (acted t s (Arrive now v port job)) k))
+    came v port job s fs now q h founds p true e l =
+        ap (found_or 0) self
+        ∙ (leaves.number v s fs now q h
+        ∙ (sym (sum-same (length s.visits) _ _ (λ k u. leaves.finds v port job s fs now q h k u))
+        ∙ (ap (λ n. sum_below n (λ k. one_if_there (there v) now n (exit v next k))) (sym at)
+        ∙ ap (λ o. sum_below p (λ k. one_if_there (there v) (arrival_or 0 o) p (exit v next k))) (sym self))))
+      where
+        x : Visit
+        x = record { job = job; arrive = now; port = port; found = t.jobs v s.visits s.local }
+
+        next : Station L
+        next = acted t s (Arrive now v port job)
+
+        at : p ≡ length s.visits
+        at = eqb-true p (length s.visits) e
+
+        self : slice_get (s.visits ++ x ∷ []) p ≡ Some x
+        self = ap (slice_get (s.visits ++ x ∷ [])) at ∙ get-last s.visits x
+    came v port job s fs now q h founds p false e l =
+        ap (found_or 0) front
+        ∙ (founds.each p inside
+        ∙ (sum-same p _ _ (λ k u. sym (leaves.arrives v port job s fs now q h k p u inside))
+        ∙ ap (λ o. sum_below p (λ k. one_if_there (there v) (arrival_or 0 o) p (exit v (acted t s (Arrive now v port job)) k))) (sym front)))
+      where
+        x : Visit
+        x = record { job = job; arrive = now; port = port; found = t.jobs v s.visits s.local }
+
+        inside : p < length s.visits
+        inside = less p (length s.visits) (λ k. let c = eq-eqb p (length s.visits) k in absurd cc) (omega (arith, length-append s.visits (x ∷ [])))
+
+        front : slice_get (s.visits ++ x ∷ []) p ≡ slice_get s.visits p
+        front = get-front p s.visits (x ∷ []) inside
+
+-- each visit leaves with its own emission
+abbrev pub own_exit : {L : Type 0} → Exit L
+own_exit v s k = emission_at s.emitted k
+
+-- it is there for whoever comes earlier than it leaves
+abbrev pub until_exit : There
+until_exit v time position m = nat_lt time m.time
+
+-- where each visit leaves with its own emission, at a visit none but it, and at a finish none behind whom one came at that time
+pub exits-by_emission : {L : Type 0} (t : Table L) (P : Fact L) (Q : ℕ → Type 0) → LeavesInTime t P Q →
+    ((v : ℕ) (s : Station L) (fs : List Event) (now : ℕ) → Q v → P v s fs now → Each (λ (m : Emission). m.time ≤ now) s.emitted) →
+    ((v : ℕ) (s : Station L) (fs : List Event) (now : ℕ) → Q v → P v s fs now → t.jobs v s.visits s.local ≡ sum_below (length s.visits) (λ k. one_if_none (emission_at s.emitted k))) → ExitsInTime t P Q own_exit until_exit
+exits-by_emission {L} t P Q leaves past number =
+    record {
+      waits = λ v elapsed s k. refl;
+      finds = λ v port job s fs now q h k l.
+          later-same now now k s.emitted (emissions_at t s (Arrive now v port job)) (emissions-now t s (Arrive now v port job)) (λ m u. absurd (let o = leaves.own v port job s fs now q h k m u in omega arith))
+          ∙ later-now now k s.emitted (past v s fs now q h);
+      arrives = λ v port job s fs now q h k p l u. later-same (arrival_or 0 (slice_get s.visits p)) now k s.emitted (emissions_at t s (Arrive now v port job)) (emissions-now t s (Arrive now v port job)) (λ m w. absurd (let o = leaves.own v port job s fs now q h k m w in omega arith));
+      ends = λ v server position s fs rest now q h first k p l u. later-same (arrival_or 0 (slice_get s.visits p)) now k s.emitted (emissions_at t s (Finish now v server position)) (emissions-now t s (Finish now v server position)) (λ m w. leaves.earlier v server position s fs rest now q h first k p m w l u);
+      number = number;
+    }
+
+-- so whoever leaves later than one comes is there for it
+pub until-own : (time position : ℕ) (o : Option Emission) → one_if_there (λ t p (m : Emission). nat_lt t m.time) time position o ≡ one_if_later time o
+until-own time position None = refl
+until-own time position (Some m) = refl

@@ -1,0 +1,160 @@
+-- The area of a node, by when each visit left, however that is told.
+use Rattle.std.proofs.Common.{◌≡◌, ◌⊎◌, inl, inr, ℕ, suc, ◌+◌, ◌-◌, ◌*◌, ◌<◌, ◌≤◌, List, [], ◌∷◌, ◌++◌, length, Option, Some, None, sym, refl, ap, ◌∙◌, subst, arith, length-append}
+use Rattle.std.specs.Prelude.{slice_get}
+use Rattle.std.specs.Option.{option_map}
+use Rattle.std.specs.List.{AllByRecursion as Each}
+use Rattle.mq_core.specs.Event.{Event, earliest}
+use Rattle.mq_core.specs.Event.Event.{Arrive, Finish}
+use Rattle.mq_core.specs.Machine.{Visit, Emission, Table, Station, acted, aged, emissions_at}
+use Rattle.mq_core.specs.Tallies.{sum_below, arrival_or, emission_at, one_if_none, staying}
+use Rattle.mq_core.proofs.Lists.Each.{Each-append, Each-weaker}
+use Rattle.mq_core.proofs.Events.Areas.{get-front, get-last, get-visit, sum-same, sum-grows}
+use Rattle.mq_core.proofs.Events.EmissionsAt.{unknown}
+use Rattle.mq_core.proofs.Events.Forward.{emissions-now}
+use Rattle.mq_core.proofs.Events.Founds.{emission_at-append, found-each}
+use Rattle.mq_core.proofs.Events.Kept.{Fact, Keeps}
+
+-- when the visit at a position of a node left, if it did
+abbrev pub Left : Type 0 → Type 0
+Left L = ℕ → Station L → ℕ → Option ℕ
+
+-- by now: to when it left, if it did
+abbrev pub until_or : ℕ → Option ℕ → ℕ
+until_or now None = now
+until_or now (Some time) = time
+
+-- 1 where it hasn't left
+abbrev pub one_if_here : Option ℕ → ℕ
+one_if_here None = 1
+one_if_here (Some time) = 0
+
+-- how long a visit has been in the node by now
+abbrev pub stay_by : {L : Type 0} → Left L → ℕ → ℕ → Station L → ℕ → ℕ
+stay_by left v now s k = until_or now (left v s k) - arrival_or 0 (slice_get s.visits k)
+
+-- as it was before an event, or only now
+abbrev pub StaysOrLeaves : ℕ → Option ℕ → Option ℕ → Type 0
+StaysOrLeaves now before after = (after ≡ before) ⊎ ((before ≡ None) × (after ≡ Some now))
+
+-- who leaves does so at an event of the node, then and for good
+pub record LeavesNow {L : Type 0} (t : Table L) (P : Fact L) (Q : ℕ → Type 0) (left : Left L) : Type 0 where
+  -- nobody leaves while time goes by
+  pub waits : (v elapsed : ℕ) (s : Station L) (k : ℕ) → left v (aged t elapsed v s) k ≡ left v s k
+  -- at a visit each earlier one stays as it was, or leaves now
+  pub arrives : (v port job : ℕ) (s : Station L) (fs : List Event) (now : ℕ) → Q v → P v s fs now → (k : ℕ) → k < length s.visits → StaysOrLeaves now (left v s k) (left v (acted t s (Arrive now v port job)) k)
+  -- the visit itself has not left, or leaves now
+  pub comes : (v port job : ℕ) (s : Station L) (fs : List Event) (now : ℕ) → Q v → P v s fs now → StaysOrLeaves now None (left v (acted t s (Arrive now v port job)) (length s.visits))
+  -- the same at a finish
+  pub ends : (v server position : ℕ) (s : Station L) (fs rest : List Event) (now : ℕ) → Q v → P v s fs now → earliest t.rank fs ≡ Some (Finish now v server position, rest) → (k : ℕ) → k < length s.visits → StaysOrLeaves now (left v s k) (left v (acted t s (Finish now v server position)) k)
+  -- the node holds those that have not left
+  pub number : (v : ℕ) (s : Station L) (fs : List Event) (now : ℕ) → Q v → P v s fs now → t.jobs v s.visits s.local ≡ sum_below (length s.visits) (λ k. one_if_here (left v s k))
+
+-- the area is the sum of the stays so far
+pub record AreasBy {L : Type 0} (left : Left L) (v : ℕ) (s : Station L) (now : ℕ) : Type 0 where
+  pub area : s.area ≡ sum_below (length s.visits) (stay_by left v now s)
+  pub came : Each (λ (x : Visit). x.arrive ≤ now) s.visits
+
+-- an event now changes no stay
+now-same : (now : ℕ) (before after : Option ℕ) → StaysOrLeaves now before after → until_or now after ≡ until_or now before
+now-same now before after (inl e) = ap (until_or now) e
+now-same now before after (inr e) = ap (until_or now) e.1 ∙ sym (ap (until_or now) e.0)
+
+-- while time goes by those that are there stay
+stay-grows : (now later a : ℕ) (o : Option ℕ) → now ≤ later → a ≤ now → until_or later o - a ≡ (until_or now o - a) + one_if_here o * (later - now)
+stay-grows now later a None l u = omega arith
+stay-grows now later a (Some time) l u = omega arith
+
+-- whoever leaves as told, its area is the sum of the stays
+pub keeps-areas_by : {L : Type 0} (t : Table L) (P : Fact L) (Q : ℕ → Type 0) (left : Left L) → Keeps t P → LeavesNow t P Q left →
+    Keeps t (λ v s fs now. P v s fs now × (Q v → AreasBy left v s now))
+keeps-areas_by {L} t P Q left keeps leaves =
+    record {
+      opens = λ v. (keeps.opens v, λ _. record { area = refl; came = tt });
+      waits = λ v s fs now later h l f. (keeps.waits v s fs now later h.0 l f, λ q. waited v s fs now later l (leaves.number v s fs now q h.0) (h.1 q));
+      fits = keeps.fits;
+      arrives = λ v port job s fs now h f fit. (keeps.arrives v port job s fs now h.0 f fit, λ q. came v port job s fs now q h.0 (h.1 q));
+      ends = λ v server position s fs rest now h first. (
+        keeps.ends v server position s fs rest now h.0 first,
+        λ q. let a = h.1 q in record {
+          area = a.area ∙ sym (sum-same (length s.visits) _ _ (λ k l. ap (λ n. n - arrival_or 0 (slice_get s.visits k)) (now-same now _ _ (leaves.ends v server position s fs rest now q h.0 first k l))));
+          came = a.came;
+        },
+      );
+    }
+  where
+    waited : (v : ℕ) (s : Station L) (fs : List Event) (now later : ℕ) → now ≤ later → t.jobs v s.visits s.local ≡ sum_below (length s.visits) (λ k. one_if_here (left v s k)) → AreasBy left v s now → AreasBy left v (aged t (later - now) v s) later
+    waited v s fs now later l number a =
+        record {
+          area =
+              ap (λ k. s.area + k * (later - now)) number
+              ∙ (ap (λ k. k + sum_below (length s.visits) (λ i. one_if_here (left v s i)) * (later - now)) a.area
+              ∙ sym (sum-grows (length s.visits) (later - now) (stay_by left v later (aged t (later - now) v s)) (stay_by left v now s) (λ k. one_if_here (left v s k))
+              (λ k u. ap (λ o. until_or later o - arrival_or 0 (slice_get s.visits k)) (leaves.waits v (later - now) s k) ∙ stay-grows now later (arrival_or 0 (slice_get s.visits k)) (left v s k) l (get-visit now s.visits k u a.came))));
+          came = Each-weaker _ _ (λ x q. omega arith) s.visits a.came;
+        }
+
+    came : (v port job : ℕ) (s : Station L) (fs : List Event) (now : ℕ) → Q v → P v s fs now → AreasBy left v s now → AreasBy left v (acted t s (Arrive now v port job)) now
+    came v port job s fs now q h a =
+        record {
+          area = a.area ∙ sym (ap (λ k. sum_below k (stay_by left v now next)) size ∙ last);
+          came = Each-append _ s.visits _ a.came (omega arith, tt);
+        }
+      where
+        x : Visit
+        x = record { job = job; arrive = now; port = port; found = t.jobs v s.visits s.local }
+
+        next : Station L
+        next = acted t s (Arrive now v port job)
+
+        size : length (s.visits ++ x ∷ []) ≡ suc (length s.visits)
+        size = omega (arith, length-append s.visits (x ∷ []))
+
+        own : until_or now (left v (acted t s (Arrive now v port job)) (length s.visits)) ≡ now
+        own = now-same now None _ (leaves.comes v port job s fs now q h)
+
+        place : arrival_or 0 (slice_get (s.visits ++ x ∷ []) (length s.visits)) ≡ now
+        place = ap (arrival_or 0) (get-last s.visits x)
+
+        last : sum_below (suc (length s.visits)) (stay_by left v now (acted t s (Arrive now v port job))) ≡ sum_below (length s.visits) (stay_by left v now s)
+        last =
+            omega (
+              arith,
+              own,
+              place,
+              sum-same (length s.visits) (stay_by left v now (acted t s (Arrive now v port job))) (stay_by left v now s)
+                  (λ k l. (λ i. now-same now _ _ (leaves.arrives v port job s fs now q h k l) i - arrival_or 0 (get-front k s.visits (x ∷ []) l i))),
+            )
+
+-- when the emission of a position was, if there was one
+abbrev pub left_by_emission : {L : Type 0} → Left L
+left_by_emission v s k = option_map (λ (m : Emission). m.time) (emission_at s.emitted k)
+
+-- emissions now let out a position for good, or now
+emissions-leave : (now k : ℕ) (emitted more : List Emission) → Each (λ (m : Emission). m.time ≡ now) more → StaysOrLeaves now (option_map (λ (m : Emission). m.time) (emission_at emitted k)) (option_map (λ (m : Emission). m.time) (emission_at (emitted ++ more) k))
+emissions-leave now k emitted more same = go (emission_at-append emitted more k)
+  where
+    new : (o : Option Emission) → emission_at more k ≡ o → emission_at emitted k ≡ None → emission_at (emitted ++ more) k ≡ emission_at more k → StaysOrLeaves now (option_map (λ (m : Emission). m.time) (emission_at emitted k)) (option_map (λ (m : Emission). m.time) (emission_at (emitted ++ more) k))
+    new None e none all = inl (ap (option_map (λ (m : Emission). m.time)) (all ∙ (e ∙ sym none)))
+    new (Some m) e none all = inr (ap (option_map (λ (n : Emission). n.time)) none, ap (option_map (λ (n : Emission). n.time)) (all ∙ e) ∙ ap Some (found-each (λ (n : Emission). n.time ≡ now) more k m same e))
+
+    go : ((m : Emission) × (emission_at emitted k ≡ Some m) × (emission_at (emitted ++ more) k ≡ Some m)) ⊎ ((emission_at emitted k ≡ None) × (emission_at (emitted ++ more) k ≡ emission_at more k)) → StaysOrLeaves now (option_map (λ (m : Emission). m.time) (emission_at emitted k)) (option_map (λ (m : Emission). m.time) (emission_at (emitted ++ more) k))
+    go (inl e) = inl (ap (option_map (λ (m : Emission). m.time)) (e.2 ∙ sym e.1))
+    go (inr e) = new (emission_at more k) refl e.0 e.1
+
+-- where each visit is let out once and no one else is, visits leave by their emissions
+pub leaves-by_emission : {L : Type 0} (t : Table L) (P : Fact L) (Q : ℕ → Type 0) → ((v : ℕ) (s : Station L) (fs : List Event) (now : ℕ) → Q v → P v s fs now → Each (λ (m : Emission). m.position < length s.visits) s.emitted) →
+    ((v : ℕ) (s : Station L) (fs : List Event) (now : ℕ) → Q v → P v s fs now → t.jobs v s.visits s.local ≡ staying s.visits s.emitted) → LeavesNow t P Q left_by_emission
+leaves-by_emission {L} t P Q known number =
+    record {
+      waits = λ v elapsed s k. refl;
+      arrives = λ v port job s fs now q h k l. emissions-leave now k s.emitted (emissions_at t s (Arrive now v port job)) (emissions-now t s (Arrive now v port job));
+      comes = λ v port job s fs now q h.
+          subst (λ o. StaysOrLeaves now (option_map (λ (m : Emission). m.time) o) (left_by_emission v (acted t s (Arrive now v port job)) (length s.visits))) (unknown (length s.visits) (length s.visits) s.emitted (omega arith) (known v s fs now q h))
+          (emissions-leave now (length s.visits) s.emitted (emissions_at t s (Arrive now v port job)) (emissions-now t s (Arrive now v port job)));
+      ends = λ v server position s fs rest now q h first k l. emissions-leave now k s.emitted (emissions_at t s (Finish now v server position)) (emissions-now t s (Finish now v server position));
+      number = λ v s fs now q h. number v s fs now q h ∙ sum-same (length s.visits) _ _ (λ k l. alike (emission_at s.emitted k));
+    }
+  where
+    alike : (o : Option Emission) → one_if_none o ≡ one_if_here (option_map (λ (m : Emission). m.time) o)
+    alike None = refl
+    alike (Some m) = refl

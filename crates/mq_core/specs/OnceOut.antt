@@ -1,0 +1,40 @@
+-- The columns of a node that lets each visit out once, from its fates: what each visit found, and what leaves by an output.
+use Rattle.std.specs.Prelude.{Bool, List, [], count_by, false, nat_lt, ℕ, ◌++◌, ◌∷◌}
+use Rattle.mq_core.specs.Came.{Came}
+use Rattle.mq_core.specs.Leaving.{Leaving}
+use Rattle.mq_core.specs.Streams.{picked, stream_by}
+use Rattle.mq_core.specs.declared.model.Fate.{Fate}
+use Rattle.mq_core.specs.declared.model.Fate.TheVariants.{Departs, Lost}
+use Rattle.mq_core.specs.declared.model.Stream.{Stream}
+
+-- it departs after this time
+abbrev pub departs_after : ℕ → Fate → Bool
+departs_after time (Departs departure) = nat_lt time departure
+departs_after time Lost = false
+
+-- how many of the earlier visits, these first, depart after each arrival
+abbrev pub founds_from : List Fate → List ℕ → List Fate → List ℕ
+founds_from before [] fates = []
+founds_from before (arrive ∷ arrives) [] = []
+founds_from before (arrive ∷ arrives) (fate ∷ fates) =
+    count_by (departs_after arrive) before ∷ founds_from (before ++ fate ∷ []) arrives fates
+
+-- what each visit found, from its arrival and the fates of those before it
+abbrev pub founds_of : List ℕ → List Fate → List ℕ
+founds_of arrive fate = founds_from [] arrive fate
+
+-- when a visit leaves: as it departs, or as it came where it is lost
+abbrev pub leaving_time : ℕ → Fate → ℕ
+leaving_time arrive (Departs time) = time
+leaving_time arrive Lost = arrive
+
+-- when each visit leaves
+abbrev pub leaving_times : List ℕ → List Fate → List ℕ
+leaving_times [] fates = []
+leaving_times (arrive ∷ arrives) [] = []
+leaving_times (arrive ∷ arrives) (fate ∷ fates) = leaving_time arrive fate ∷ leaving_times arrives fates
+
+-- what leaves by an output where each visit leaves once, by its own
+abbrev pub once_out : Leaving → Came → List Fate → List ℕ → ℕ → Stream
+once_out order came fates outs out =
+    stream_by order (record { job = picked out outs came.job; time = picked out outs (leaving_times came.arrive fates) })
