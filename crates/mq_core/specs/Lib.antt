@@ -8,6 +8,7 @@ pub mod Run
 pub mod Theorems
 pub mod Local
 pub mod Handling
+pub mod Late
 pub mod Ranges
 pub mod Told
 pub mod Emitting
@@ -18,12 +19,7 @@ pub mod OnceOut
 pub mod Behaviour
 pub mod Kinds
 pub mod KindTable
-pub mod DelayHandler
-pub mod LossHandler
-pub mod TandemHandler
-pub mod ForkJoinHandler
 pub mod Standard
-pub mod TandemOnTime
 pub mod OnTime
 pub mod StandardTable
 pub mod Asked

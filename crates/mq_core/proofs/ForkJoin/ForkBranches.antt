@@ -9,7 +9,7 @@ use Rattle.mq_core.specs.Event.Event.{Finish}
 use Rattle.mq_core.specs.Machine.{Visit, Service, finishes_of}
 use Rattle.mq_core.specs.Local.{Branch}
 use Rattle.mq_core.specs.Handling.{demand_of_job, demand_at}
-use Rattle.mq_core.specs.ForkJoinHandler.{Moved, Forked, goes_in, finishes_at, each_branch, least_through}
+use Rattle.mq_core.specs.Kinds.ForkJoin.{Moved, Forked, goes_in, finishes_at, each_branch, least_through}
 use Rattle.mq_core.specs.declared.model.Demand.{Demand}
 use Rattle.mq_core.specs.declared.model.Rows.{Rows}
 use Rattle.mq_core.proofs.Lists.Each.{Each-append, Each-weaker}

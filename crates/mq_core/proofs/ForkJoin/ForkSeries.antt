@@ -7,7 +7,7 @@ use Rattle.mq_core.specs.Event.{Event, earliest, sooner_of}
 use Rattle.mq_core.specs.Event.Event.{Finish}
 use Rattle.mq_core.specs.Machine.{Visit, Service, finishes_of}
 use Rattle.mq_core.specs.Handling.{demand_of_job, demand_at, begins_at, begins_alone}
-use Rattle.mq_core.specs.ForkJoinHandler.{Moved, goes_in, goes_on, finishes_at}
+use Rattle.mq_core.specs.Kinds.ForkJoin.{Moved, goes_in, goes_on, finishes_at}
 use Rattle.mq_core.specs.Kinds.Server.{served}
 use Rattle.mq_core.specs.declared.model.Demand.{Demand}
 use Rattle.mq_core.specs.declared.model.Rows.{Rows}

@@ -11,7 +11,7 @@ use Rattle.mq_core.specs.Event.Event.{Arrive, Finish}
 use Rattle.mq_core.specs.Machine.{Visit, Emission, Service, finishes_of}
 use Rattle.mq_core.specs.Local.{Local, Branch}
 use Rattle.mq_core.specs.Handling.{demand_of_visit, demand_at, begins_at, begins_alone}
-use Rattle.mq_core.specs.ForkJoinHandler.{Moved, Forked, is_busy, busy_servers, goes_in, goes_on, finishes_at, each_branch, fork_on}
+use Rattle.mq_core.specs.Kinds.ForkJoin.{Moved, Forked, is_busy, busy_servers, goes_in, goes_on, finishes_at, each_branch, fork_on}
 use Rattle.mq_core.specs.Tallies.{sum_below}
 use Rattle.mq_core.specs.declared.model.Demand.{Demand}
 use Rattle.mq_core.specs.declared.model.Rows.{Rows}

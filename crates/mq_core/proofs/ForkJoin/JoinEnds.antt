@@ -7,11 +7,10 @@ use Rattle.mq_core.specs.Event.{Event}
 use Rattle.mq_core.specs.Handling.{demand_of_job}
 use Rattle.mq_core.specs.Local.{Branch}
 use Rattle.mq_core.specs.Machine.{Visit, Emission}
-use Rattle.mq_core.specs.ForkJoinHandler.{least_through}
+use Rattle.mq_core.specs.Kinds.ForkJoin.{least_through, branch_demands, joined_from}
 use Rattle.mq_core.specs.Recurrences.{lindley, in_series, later_of, fork_departs}
 use Rattle.mq_core.specs.Kinds.Server.{served}
 use Rattle.mq_core.specs.Emitting.{passed_from, leaving_from}
-use Rattle.mq_core.specs.Kinds.ForkJoin.{branch_demands, joined_from}
 use Rattle.mq_core.specs.declared.model.Demand.{Demand}
 use Rattle.mq_core.specs.declared.model.Rows.{Rows}
 use Rattle.mq_core.proofs.ForkJoin.ForkServers.{Series, is_at_server, departing}

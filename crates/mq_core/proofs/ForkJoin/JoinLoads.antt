@@ -9,7 +9,7 @@ use Rattle.mq_core.specs.Event.Event.{Arrive, Finish}
 use Rattle.mq_core.specs.Machine.{Visit, Emission, emissions_of, emission_of, finishes_of}
 use Rattle.mq_core.specs.Local.{Local, Branch}
 use Rattle.mq_core.specs.Handling.{latest}
-use Rattle.mq_core.specs.ForkJoinHandler.{Moved, Forked, goes_in, goes_on, finishes_at, each_branch, least_through, fork_on}
+use Rattle.mq_core.specs.Kinds.ForkJoin.{Moved, Forked, goes_in, goes_on, finishes_at, each_branch, least_through, fork_on}
 use Rattle.mq_core.specs.declared.model.Demand.{Demand}
 use Rattle.mq_core.specs.declared.model.Rows.{Rows}
 use Rattle.mq_core.proofs.Server.Serves.{positions}

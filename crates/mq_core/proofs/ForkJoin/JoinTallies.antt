@@ -7,7 +7,7 @@ use Rattle.mq_core.specs.Event.{Event, earliest}
 use Rattle.mq_core.specs.Event.Event.{Arrive, Finish}
 use Rattle.mq_core.specs.Machine.{Visit, Emission, emissions_of, emission_of, finishes_of}
 use Rattle.mq_core.specs.Local.{Local, Branch}
-use Rattle.mq_core.specs.ForkJoinHandler.{finishes_at, each_branch, least_through, fork_on}
+use Rattle.mq_core.specs.Kinds.ForkJoin.{finishes_at, each_branch, least_through, fork_on}
 use Rattle.mq_core.specs.Emitting.{passed_from}
 use Rattle.mq_core.specs.Tallies.{sum_below, emission_at, one_if_none, staying, arrival_or}
 use Rattle.mq_core.specs.declared.model.Demand.{Demand}

@@ -10,7 +10,7 @@ use Rattle.mq_core.specs.Event.Event.{Arrive, Finish}
 use Rattle.mq_core.specs.Machine.{Visit, Emission, Service, Release, finishes_of, emissions_of, emission_of}
 use Rattle.mq_core.specs.Local.{Local, Branch}
 use Rattle.mq_core.specs.Handling.{demand_of_visit, demand_at, latest}
-use Rattle.mq_core.specs.ForkJoinHandler.{Moved, Forked, goes_in, finishes_at, each_branch, least_through, fork_on}
+use Rattle.mq_core.specs.Kinds.ForkJoin.{Moved, Forked, goes_in, finishes_at, each_branch, least_through, fork_on}
 use Rattle.mq_core.specs.Emitting.{passed_from}
 use Rattle.mq_core.specs.Tallies.{arrival_or}
 use Rattle.mq_core.specs.declared.model.Demand.{Demand}

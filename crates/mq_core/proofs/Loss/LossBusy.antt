@@ -9,7 +9,7 @@ use Rattle.mq_core.specs.Event.Event.{Arrive, Finish}
 use Rattle.mq_core.specs.Machine.{Visit, Emission, finishes_of}
 use Rattle.mq_core.specs.Local.{Local}
 use Rattle.mq_core.specs.Handling.{demand_of_job, demand_of_visit, demand_at, latest, joins, passes_on, front_leaves, front_begins, one_if_some}
-use Rattle.mq_core.specs.LossHandler.{loss_on}
+use Rattle.mq_core.specs.Kinds.Loss.{loss_on, faring_by}
 use Rattle.mq_core.specs.Tallies.{sum_below, emission_at}
 use Rattle.mq_core.specs.declared.model.Demand.{Demand}
 use Rattle.mq_core.specs.declared.model.Rows.{Rows}
@@ -22,7 +22,6 @@ use Rattle.mq_core.proofs.Lists.NumberLists.{sum_below-first}
 use Rattle.mq_core.proofs.Events.Remaining.{remaining}
 use Rattle.mq_core.proofs.Server.Serves.{latest-push, pair-inj}
 use Rattle.mq_core.proofs.Counting.Unlost.{unless_out}
-use Rattle.mq_core.specs.Kinds.Loss.{faring_by}
 
 -- the demands of those among these that aren't lost
 abbrev pub work : Rows → Demand → List Emission → ℕ

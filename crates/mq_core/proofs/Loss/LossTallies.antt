@@ -10,9 +10,8 @@ use Rattle.mq_core.specs.Machine.{Visit, Emission, emissions_of, emission_of}
 use Rattle.mq_core.specs.Laws.{in_order_of}
 use Rattle.mq_core.specs.Local.{Local}
 use Rattle.mq_core.specs.Handling.{demand_of_job, latest, joins, passes_on, front_leaves}
-use Rattle.mq_core.specs.LossHandler.{loss_on}
+use Rattle.mq_core.specs.Kinds.Loss.{loss_on, faring_from}
 use Rattle.mq_core.specs.Recurrences.{loss_fates}
-use Rattle.mq_core.specs.Kinds.Loss.{faring_from}
 use Rattle.mq_core.specs.Tallies.{emission_at, staying, arrival_or}
 use Rattle.mq_core.specs.declared.model.Demand.{Demand}
 use Rattle.mq_core.specs.declared.model.Rows.{Rows}

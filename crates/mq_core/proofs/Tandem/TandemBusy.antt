@@ -11,7 +11,7 @@ use Rattle.mq_core.specs.Local.{Local, Line}
 use Rattle.mq_core.specs.Handling.{demand_of_visit, demand_at, begins_at, begins_alone}
 use Rattle.mq_core.specs.Fates.{service_of}
 use Rattle.mq_core.specs.Tallies.{sum_below}
-use Rattle.mq_core.specs.TandemHandler.{Swept, has_room, leaves, moves, sweep, marked, tandem_arrives, empty_lines, one_if_serving, serving_in}
+use Rattle.mq_core.specs.Kinds.Tandem.{Swept, has_room, leaves, moves, sweep, marked, tandem_arrives, empty_lines, one_if_serving, serving_in}
 use Rattle.mq_core.specs.declared.model.Kind.TheVariants.{Tandem}
 use Rattle.mq_core.specs.declared.model.Stage.{Stage}
 use Rattle.mq_core.specs.declared.model.Rows.{Rows}

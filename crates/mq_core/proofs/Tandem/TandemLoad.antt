@@ -7,7 +7,7 @@ use Rattle.mq_core.specs.Event.Event.{Finish}
 use Rattle.mq_core.specs.Machine.{Visit, Emission, Release, Service, emission_of, emissions_of}
 use Rattle.mq_core.specs.Local.{Local, Line}
 use Rattle.mq_core.specs.Handling.{latest}
-use Rattle.mq_core.specs.TandemHandler.{Swept, has_room, leaves, moves, sweep, marked, tandem_arrives, empty_lines, held_in}
+use Rattle.mq_core.specs.Kinds.Tandem.{Swept, has_room, leaves, moves, sweep, marked, tandem_arrives, empty_lines, held_in}
 use Rattle.mq_core.specs.declared.model.Stage.{Stage}
 use Rattle.mq_core.specs.declared.model.Rows.{Rows}
 use Rattle.mq_core.proofs.Tandem.TandemFlow.{outs-length}

@@ -7,9 +7,8 @@ use Rattle.mq_core.specs.Event.{Event, earliest}
 use Rattle.mq_core.specs.Event.Event.{Finish}
 use Rattle.mq_core.specs.Machine.{Visit, Emission, Release, emission_of, emissions_of}
 use Rattle.mq_core.specs.Local.{Local, Line}
-use Rattle.mq_core.specs.Kinds.Tandem.{tandem_flow}
+use Rattle.mq_core.specs.Kinds.Tandem.{tandem_flow, has_room, sweep, marked, tandem_arrives, held_in}
 use Rattle.mq_core.specs.Tallies.{staying, arrival_or, emission_at}
-use Rattle.mq_core.specs.TandemHandler.{has_room, sweep, marked, tandem_arrives, held_in}
 use Rattle.mq_core.specs.declared.model.Stage.{Stage}
 use Rattle.mq_core.specs.declared.model.Rows.{Rows}
 use Rattle.mq_core.proofs.Tandem.TandemFlow.{outs-flow, staying-outs}

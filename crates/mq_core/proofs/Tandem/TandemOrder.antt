@@ -6,7 +6,7 @@ use Rattle.mq_core.specs.Event.{Event}
 use Rattle.mq_core.specs.Machine.{Visit, Emission, Release, Service}
 use Rattle.mq_core.specs.Local.{Line}
 use Rattle.mq_core.specs.Handling.{begins_at, begins_alone}
-use Rattle.mq_core.specs.TandemHandler.{Swept, has_room, leaves, moves, sweep}
+use Rattle.mq_core.specs.Kinds.Tandem.{Swept, has_room, leaves, moves, sweep}
 use Rattle.mq_core.specs.declared.model.Demand.{Demand}
 use Rattle.mq_core.specs.declared.model.Stage.{Stage}
 use Rattle.mq_core.specs.declared.model.Rows.{Rows}

@@ -9,7 +9,7 @@ use Rattle.mq_core.specs.Event.Event.{Arrive, Finish}
 use Rattle.mq_core.specs.Machine.{Visit, Emission, emission_of, finishes_of}
 use Rattle.mq_core.specs.Local.{Line}
 use Rattle.mq_core.specs.Handling.{demand_at, demand_of_visit, begins_alone}
-use Rattle.mq_core.specs.TandemHandler.{has_room}
+use Rattle.mq_core.specs.Kinds.Tandem.{has_room}
 use Rattle.mq_core.specs.declared.model.Stage.{Stage}
 use Rattle.mq_core.specs.declared.model.Rows.{Rows}
 use Rattle.mq_core.proofs.Lists.Each.{filter-yes}

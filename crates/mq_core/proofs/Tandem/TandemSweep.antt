@@ -11,7 +11,7 @@ use Rattle.mq_core.specs.Event.Event.{Finish}
 use Rattle.mq_core.specs.Machine.{Visit, Emission, Release, Service, emission_of, emissions_of, finishes_of}
 use Rattle.mq_core.specs.Local.{Line}
 use Rattle.mq_core.specs.Handling.{demand_at, begins_at, begins_alone}
-use Rattle.mq_core.specs.TandemHandler.{Swept, has_room, leaves, moves, sweep}
+use Rattle.mq_core.specs.Kinds.Tandem.{Swept, has_room, leaves, moves, sweep}
 use Rattle.mq_core.specs.declared.model.Demand.{Demand}
 use Rattle.mq_core.specs.declared.model.Stage.{Stage}
 use Rattle.mq_core.specs.declared.model.Rows.{Rows}

@@ -9,7 +9,7 @@ use Rattle.mq_core.specs.Event.Event.{Arrive, Finish}
 use Rattle.mq_core.specs.Machine.{Visit, Emission, Service, emissions_of, finishes_of}
 use Rattle.mq_core.specs.Local.{Local, Line}
 use Rattle.mq_core.specs.Handling.{latest, begins_alone}
-use Rattle.mq_core.specs.TandemHandler.{has_room, moves, sweep, marked, tandem_arrives, empty_lines}
+use Rattle.mq_core.specs.Kinds.Tandem.{has_room, moves, sweep, marked, tandem_arrives, empty_lines}
 use Rattle.mq_core.specs.Tallies.{arrival_or}
 use Rattle.mq_core.specs.declared.model.Demand.{Demand}
 use Rattle.mq_core.specs.declared.model.Stage.{Stage}

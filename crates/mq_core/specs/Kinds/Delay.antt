@@ -1,12 +1,11 @@
 -- A delay, as one value: each job is served at once.
-use Rattle.std.specs.Prelude.{List, [], false, length, map, nat_lt, suc, true, ℕ, ◌+◌, ◌∷◌}
+use Rattle.std.specs.Prelude.{List, [], false, length, map, nat_lt, suc, true, ℕ, ◌+◌, ◌∷◌, ◌==◌, not, ◌++◌, filter}
 use Rattle.mq_core.specs.Behaviour.{Behaviour}
 use Rattle.mq_core.specs.Came.{Came}
-use Rattle.mq_core.specs.DelayHandler.{delay_on}
-use Rattle.mq_core.specs.Handling.{demand_of_job}
+use Rattle.mq_core.specs.Handling.{demand_of_job, latest, begins}
 use Rattle.mq_core.specs.Leaving.Leaving.{Overtaking}
-use Rattle.mq_core.specs.Local.{empty}
-use Rattle.mq_core.specs.Machine.{Emission, Visit}
+use Rattle.mq_core.specs.Local.{empty, Local}
+use Rattle.mq_core.specs.Machine.{Emission, Visit, Reaction}
 use Rattle.mq_core.specs.OnceOut.{founds_of, once_out}
 use Rattle.mq_core.specs.Ranges.{columns_of_demand, is_sound_demand, is_within}
 use Rattle.mq_core.specs.Recurrences.{delayed}
@@ -16,6 +15,25 @@ use Rattle.mq_core.specs.declared.model.Demand.{Demand}
 use Rattle.mq_core.specs.declared.model.Fate.{Fate}
 use Rattle.mq_core.specs.declared.model.Fate.TheVariants.{Departs}
 use Rattle.mq_core.specs.declared.model.Rows.{Rows}
+use Rattle.mq_core.specs.Event.{Event}
+use Rattle.mq_core.specs.Event.Event.{Arrive, Finish}
+use Rattle.std.proofs.Common.{arith}
+use Rattle.mq_core.specs.Late.{Late}
+
+-- a delay: each arrival begins its service at once, and leaves when that ends
+abbrev pub delay_on : Rows → Demand → List Visit → Local → ℕ → Event → Reaction Local
+delay_on rows demand visits local now (Arrive time node port job) =
+    record {
+      local = record local { scheduled = local.scheduled ++ latest visits ∷ [] };
+      releases = [];
+      services = begins rows demand visits now (latest visits) ∷ [];
+    }
+delay_on rows demand visits local now (Finish time node server position) =
+    record {
+      local = record local { scheduled = filter (λ p. not (p == position)) local.scheduled };
+      releases = record { out = 0; position = position } ∷ [];
+      services = [];
+    }
 
 -- what these visits let out at a delay, the first at this position: each leaves its demand after it came
 abbrev pub delayed_from : Rows → Demand → ℕ → List Visit → List Emission
@@ -62,3 +80,8 @@ delay demand =
       founds = λ rows came. founds_of came.arrive (delay_fates rows demand came);
       stream = λ rows came out. once_out Overtaking came (delay_fates rows demand came) (delay_outs rows demand came) out;
     }
+
+-- a delay schedules nothing earlier than the clock
+pub delay-late : (rows : Rows) (demand : Demand) (visits : List Visit) (local : Local) (now : ℕ) (event : Event) → Late now (delay_on rows demand visits local now event).services
+delay-late rows demand visits local now (Arrive t n q j) = (omega arith, tt)
+delay-late rows demand visits local now (Finish t n q j) = tt

@@ -1,12 +1,12 @@
 -- A loss station, as one value: one server, so many places, and two outputs.
 use Rattle.std.specs.Prelude.{List, [], false, if◌then◌else◌, length, map, nat_lt, suc, true, ℕ, ◌&&◌, ◌==◌, ◌∷◌}
+use Rattle.std.proofs.Common.{Bool}
 use Rattle.mq_core.specs.Behaviour.{Behaviour}
 use Rattle.mq_core.specs.Came.{Came}
-use Rattle.mq_core.specs.Handling.{demand_of_job, one_if_some}
+use Rattle.mq_core.specs.Handling.{demand_of_job, one_if_some, latest, passes_on, joins, front_leaves}
 use Rattle.mq_core.specs.Leaving.Leaving.{Mixed}
-use Rattle.mq_core.specs.Local.{empty}
-use Rattle.mq_core.specs.LossHandler.{loss_on}
-use Rattle.mq_core.specs.Machine.{Emission, Visit}
+use Rattle.mq_core.specs.Local.{empty, Local}
+use Rattle.mq_core.specs.Machine.{Emission, Visit, Reaction}
 use Rattle.mq_core.specs.OnceOut.{founds_of, once_out}
 use Rattle.mq_core.specs.Ranges.{columns_of_demand, is_sound_demand, is_within}
 use Rattle.mq_core.specs.Recurrences.{loss_fates}
@@ -16,6 +16,17 @@ use Rattle.mq_core.specs.declared.model.Demand.{Demand}
 use Rattle.mq_core.specs.declared.model.Fate.{Fate}
 use Rattle.mq_core.specs.declared.model.Fate.TheVariants.{Departs, Lost}
 use Rattle.mq_core.specs.declared.model.Rows.{Rows}
+use Rattle.mq_core.specs.Event.{Event}
+use Rattle.mq_core.specs.Event.Event.{Arrive, Finish}
+use Rattle.mq_core.specs.Late.{Late, joins-late, front_leaves-late}
+
+-- a loss station: where all places are taken an arrival goes out by output 1, else it does as at a server
+abbrev pub loss_on : Rows → ℕ → Demand → List Visit → Local → ℕ → Event → Reaction Local
+loss_on rows places demand visits local now (Arrive time node port job) =
+    if nat_lt (length local.queue) places
+    then joins rows demand visits local now local.queue (latest visits)
+    else passes_on local 1 (latest visits)
+loss_on rows places demand visits local now (Finish time node server position) = front_leaves rows demand visits local now local.queue
 
 -- the output by which a visit leaves a loss station
 abbrev pub out_of_fate : Fate → ℕ
@@ -71,3 +82,13 @@ loss places demand =
       founds = λ rows came. founds_of came.arrive (loss_by rows places demand came);
       stream = λ rows came out. once_out Mixed came (loss_by rows places demand came) (loss_outs rows places demand came) out;
     }
+
+-- a visit that is admitted or not
+admits-late : (rows : Rows) (places : ℕ) (demand : Demand) (visits : List Visit) (local : Local) (now : ℕ) (b : Bool) → Late now (if b then joins rows demand visits local now local.queue (latest visits) else passes_on local 1 (latest visits)).services
+admits-late rows places demand visits local now true = joins-late rows demand visits local now local.queue (latest visits)
+admits-late rows places demand visits local now false = tt
+
+-- a loss station schedules nothing earlier than the clock
+pub loss-late : (rows : Rows) (places : ℕ) (demand : Demand) (visits : List Visit) (local : Local) (now : ℕ) (event : Event) → Late now (loss_on rows places demand visits local now event).services
+loss-late rows places demand visits local now (Arrive t n q j) = admits-late rows places demand visits local now (nat_lt (length local.queue) places)
+loss-late rows places demand visits local now (Finish t n q j) = front_leaves-late rows demand visits local now local.queue

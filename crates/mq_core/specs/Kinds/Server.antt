@@ -17,6 +17,7 @@ use Rattle.mq_core.specs.declared.model.Demand.{Demand}
 use Rattle.mq_core.specs.declared.model.Fate.{Fate}
 use Rattle.mq_core.specs.declared.model.Fate.TheVariants.{Departs}
 use Rattle.mq_core.specs.declared.model.Rows.{Rows}
+use Rattle.mq_core.specs.Late.{Late, front_leaves-late, joins-late}
 
 -- a server: an arrival joins the queue, and at a finish the front leaves
 abbrev pub server_on : Rows → Demand → List Visit → Local → ℕ → Event → Reaction Local
@@ -72,3 +73,8 @@ server demand =
       founds = λ rows came. founds_of came.arrive (server_fates rows demand came);
       stream = λ rows came out. once_out InTurn came (server_fates rows demand came) (server_outs rows demand came) out;
     }
+
+-- a server schedules nothing earlier than the clock
+pub server-late : (rows : Rows) (demand : Demand) (visits : List Visit) (local : Local) (now : ℕ) (event : Event) → Late now (server_on rows demand visits local now event).services
+server-late rows demand visits local now (Arrive t n q j) = joins-late rows demand visits local now local.queue (latest visits)
+server-late rows demand visits local now (Finish t n q j) = front_leaves-late rows demand visits local now local.queue

@@ -14,6 +14,7 @@ use Rattle.mq_core.specs.Tallies.{emission_at}
 use Rattle.mq_core.specs.declared.model.Fate.{Fate}
 use Rattle.mq_core.specs.declared.model.Fate.TheVariants.{Departs}
 use Rattle.mq_core.specs.declared.model.Rows.{Rows}
+use Rattle.mq_core.specs.Late.{Late}
 
 -- a source lets each job out as it comes
 abbrev pub source_on : List Visit → Local → Event → Reaction Local
@@ -58,3 +59,8 @@ source =
       founds = λ rows came. founds_of came.arrive (source_fates rows came);
       stream = λ rows came out. once_out InTurn came (source_fates rows came) (source_outs rows came) out;
     }
+
+-- a source schedules nothing
+pub source-late : (visits : List Visit) (local : Local) (now : ℕ) (event : Event) → Late now (source_on visits local event).services
+source-late visits local now (Arrive t n q j) = tt
+source-late visits local now (Finish t n q j) = tt

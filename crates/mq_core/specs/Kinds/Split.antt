@@ -18,6 +18,7 @@ use Rattle.mq_core.specs.declared.model.Fate.TheVariants.{Departs}
 use Rattle.mq_core.specs.declared.model.Route.{Route}
 use Rattle.mq_core.specs.declared.model.Route.TheVariants.{Cut, Modulo, Turn}
 use Rattle.mq_core.specs.declared.model.Rows.{Rows}
+use Rattle.mq_core.specs.Late.{Late}
 
 -- the output that a route gives to a value at a position
 abbrev pub output_at : Route → ℕ → ℕ → ℕ
@@ -102,3 +103,8 @@ split route =
       founds = λ rows came. founds_of came.arrive (split_fates rows route came);
       stream = λ rows came out. once_out InTurn came (split_fates rows route came) (split_outs rows route came) out;
     }
+
+-- a split schedules nothing
+pub split-late : (rows : Rows) (route : Route) (visits : List Visit) (local : Local) (now : ℕ) (event : Event) → Late now (split_on rows route visits local event).services
+split-late rows route visits local now (Arrive t n q j) = tt
+split-late rows route visits local now (Finish t n q j) = tt
