@@ -1,5 +1,4 @@
 pub mod BoundedStations
-pub mod BoundedTandem
 pub mod BoundedKinds
 pub mod BoundedArrivals
 pub mod BoundedRanks

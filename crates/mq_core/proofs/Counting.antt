@@ -6,4 +6,3 @@ pub mod Released
 pub mod Services
 pub mod FlowColumns
 pub mod Stays
-pub mod InTime

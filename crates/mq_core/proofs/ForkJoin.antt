@@ -13,3 +13,5 @@ pub mod ForkJoinLaws
 pub mod ForkJoinRecurrence
 pub mod ForkShapes
 pub mod ForkJoinLimits
+pub mod ForkJoinStays
+pub mod ForkJoinBounded

@@ -11,3 +11,5 @@ pub mod TandemBusy
 pub mod TandemLaws
 pub mod TandemRecurrence
 pub mod TandemLimits
+pub mod TandemStays
+pub mod TandemBounded

@@ -1,4 +1,4 @@
-use Rattle.std.proofs.Common.{Bool, List, None, Option, Some, [], ap, arith, cond, eq-eqb, eqb, eqb-true, false, inl, inr, length, length-append, ltb, map, max, refl, subst, suc, sym, true, ℕ, ◌++◌, ◌+◌, ◌<◌, ◌∙◌, ◌∷◌, ◌≡◌, ◌≢◌, ◌≤◌, ◌⊎◌}
+use Rattle.std.proofs.Common.{Bool, List, None, Option, Some, [], ap, arith, cond, eq-eqb, eqb, eqb-true, false, inl, inr, length, length-append, ltb, map, refl, subst, suc, sym, true, ℕ, ◌++◌, ◌+◌, ◌<◌, ◌∙◌, ◌∷◌, ◌≡◌, ◌≢◌, ◌≤◌, ◌⊎◌}
 use Rattle.std.proofs.lemmas.Bool.Decides.{nat_tests}
 use Rattle.std.proofs.lemmas.List.Elements.{filter-append}
 use Rattle.std.proofs.lemmas.List.Sums.{sum_by-append}
@@ -12,19 +12,13 @@ use Rattle.mq_core.specs.Leaving.{Leaving, left_by}
 use Rattle.mq_core.specs.Leaving.Leaving.{InTurn, Mixed, Overtaking}
 use Rattle.mq_core.specs.Machine.{Emission, Visit}
 use Rattle.mq_core.specs.OnceOut.{departs_after, founds_from}
-use Rattle.mq_core.specs.Recurrences.{is_admitted, loss_fates, time_or_none}
 use Rattle.mq_core.specs.Results.{fates_from}
-use Rattle.mq_core.specs.Kinds.Delay.{delayed_from}
-use Rattle.mq_core.specs.Kinds.Loss.{faring_from}
 use Rattle.mq_core.specs.Served.{in_leaving_order}
-use Rattle.mq_core.specs.Emitting.{leaving_from, passed_from}
-use Rattle.mq_core.specs.Kinds.Server.{served, served_from}
+use Rattle.mq_core.specs.Emitting.{leaving_from}
 use Rattle.mq_core.specs.Tallies.{arrival_or, emission_at, found_or, one_if_later, still_there}
-use Rattle.mq_core.specs.declared.model.Demand.{Demand}
 use Rattle.mq_core.specs.declared.model.Fate.{Fate}
 use Rattle.mq_core.specs.declared.model.Fate.TheVariants.{Departs, Lost}
 use Rattle.mq_core.specs.declared.model.Kind.{Kind}
-use Rattle.mq_core.specs.declared.model.Rows.{Rows}
 use Rattle.mq_core.proofs.Events.EmissionsAt.{neq-eqb}
 use Rattle.mq_core.proofs.Events.Orders.{filter-order, short-order}
 use Rattle.mq_core.proofs.Lists.Each.{Each-filter, Each-weaker, filter-none, filter-yes}
@@ -35,37 +29,6 @@ Numbered k [] [] = Unit {0}
 Numbered k [] (x ∷ xs) = ⊥
 Numbered k (m ∷ ms) [] = ⊥
 Numbered k (m ∷ ms) (x ∷ xs) = (m.position ≡ k) × (m.job ≡ x.job) × Numbered (suc k) ms xs
-
-pub served-numbered : (rows : Rows) (demand : Demand) (k last : ℕ) (visits : List Visit) → Numbered k (served_from rows demand k last visits) visits
-served-numbered rows demand k last [] = tt
-served-numbered rows demand k last (x ∷ xs) = (refl, refl, served-numbered rows demand (suc k) (served rows demand last x) xs)
-
-pub passed-numbered : (out : Visit → ℕ → ℕ) (k : ℕ) (visits : List Visit) → Numbered k (passed_from out k visits) visits
-passed-numbered out k [] = tt
-passed-numbered out k (x ∷ xs) = (refl, refl, passed-numbered out (suc k) xs)
-
-pub delayed-numbered : (rows : Rows) (demand : Demand) (k : ℕ) (visits : List Visit) → Numbered k (delayed_from rows demand k visits) visits
-delayed-numbered rows demand k [] = tt
-delayed-numbered rows demand k (x ∷ xs) = (refl, refl, delayed-numbered rows demand (suc k) xs)
-
--- a loss station has a fate for each visit
-pub loss-even : (places : ℕ) (left : List ℕ) (arrive demand : Visit → ℕ) (visits : List Visit) → length (loss_fates places left (map arrive visits) (map demand visits)) ≡ length visits
-loss-even places left arrive demand [] = refl
-loss-even places left arrive demand (x ∷ xs) = go (is_admitted places left (arrive x)) (λ l. loss-even places l arrive demand xs)
-  where
-    time : ℕ
-    time = max (arrive x) (time_or_none (slice_get left 0)) + demand x
-
-    go : (b : Bool) → ((l : List ℕ) → length (loss_fates places l (map arrive xs) (map demand xs)) ≡ length xs) → length (cond b (Departs time ∷ loss_fates places (time ∷ left) (map arrive xs) (map demand xs)) (Lost ∷ loss_fates places left (map arrive xs) (map demand xs))) ≡ suc (length xs)
-    go true ih = ap suc (ih (time ∷ left))
-    go false ih = ap suc (ih left)
-
-pub faring-numbered : (k : ℕ) (fates : List Fate) (visits : List Visit) → length fates ≡ length visits → Numbered k (faring_from k fates visits) visits
-faring-numbered k [] [] e = tt
-faring-numbered k [] (x ∷ xs) e = absurd (omega arith)
-faring-numbered k (fate ∷ fates) [] e = absurd (omega arith)
-faring-numbered k (Departs time ∷ fates) (x ∷ xs) e = (refl, refl, faring-numbered (suc k) fates xs (omega arith))
-faring-numbered k (Lost ∷ fates) (x ∷ xs) e = (refl, refl, faring-numbered (suc k) fates xs (omega arith))
 
 pub leaving-numbered : (k : ℕ) (times : List ℕ) (visits : List Visit) → length times ≡ length visits → Numbered k (leaving_from k times visits) visits
 leaving-numbered k [] [] e = tt

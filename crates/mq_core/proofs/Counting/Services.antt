@@ -1,12 +1,9 @@
 -- The services of visits, told of those that are there.
-use Rattle.std.proofs.Common.{List, None, Option, Some, [], arith, length, refl, suc, sym, zero, ℕ, ◌∷◌, ◌≡◌}
-use Rattle.std.proofs.lemmas.List.Sums.{sum_by-cons}
-use Rattle.std.specs.Prelude.{slice_get, sum_by}
+use Rattle.std.proofs.Common.{List, None, Option, Some, length, sym, ℕ, ◌≡◌}
+use Rattle.std.specs.Prelude.{slice_get}
 use Rattle.mq_core.specs.Fates.{fate_of, service_of, service_time, unless_lost}
-use Rattle.mq_core.specs.Handling.{demand_of_visit}
 use Rattle.mq_core.specs.Machine.{Emission, Visit}
 use Rattle.mq_core.specs.Tallies.{emission_at, sum_below}
-use Rattle.mq_core.specs.declared.model.Demand.{Demand}
 use Rattle.mq_core.specs.declared.model.Kind.{Kind}
 use Rattle.mq_core.specs.declared.model.Rows.{Rows}
 use Rattle.mq_core.proofs.Counting.Unlost.{Departing, departing-whole}
@@ -20,14 +17,6 @@ service-by rows kind f none some (Some x) = some x
 pub services-by : (rows : Rows) (kind : Kind) (visits : List Visit) (f : Option Visit → ℕ) → f None ≡ 0 → ((x : Visit) → f (Some x) ≡ service_time rows kind x.job) →
     sum_below (length visits) (λ p. f (slice_get visits p)) ≡ sum_below (length visits) (λ p. service_of rows kind (slice_get visits p))
 services-by rows kind visits f none some = sum-same (length visits) _ _ (λ p l. service-by rows kind f none some (slice_get visits p))
-
-pub none-asks : (rows : Rows) (demands : List Demand) → sum_by (λ demand. demand_of_visit rows demand None) demands ≡ 0
-none-asks rows [] = refl
-none-asks rows (demand ∷ demands) = omega (arith, sum_by-cons (λ d. demand_of_visit rows d None) demand demands, none-asks rows demands)
-
-pub no_sum : (n : ℕ) → sum_below n (λ _. 0) ≡ 0
-no_sum zero = refl
-no_sum (suc n) = omega (arith, no_sum n)
 
 -- where none is lost the services of all count
 pub services-count : (rows : Rows) (kind : Kind) (visits : List Visit) (emitted : List Emission) → Departing kind →

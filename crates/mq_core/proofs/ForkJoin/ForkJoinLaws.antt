@@ -8,7 +8,8 @@ use Rattle.mq_core.specs.declared.model.Demand.{Demand}
 use Rattle.mq_core.specs.declared.model.Kind.TheVariants.{ForkJoin}
 use Rattle.mq_core.specs.declared.model.Rows.{Rows}
 use Rattle.mq_core.proofs.Counting.Unlost.{departing-whole}
-use Rattle.mq_core.proofs.Counting.Services.{none-asks, services-by, services-count}
+use Rattle.mq_core.proofs.Counting.Services.{services-by, services-count}
+use Rattle.mq_core.proofs.ForkJoin.ForkJoinStays.{none-asks}
 use Rattle.mq_core.proofs.EachKind.KindLaws.{Inside, KindLaws, OnceLaws, OwnLaws, own_out}
 use Rattle.mq_core.proofs.Events.Remaining.{remaining}
 use Rattle.mq_core.proofs.ForkJoin.JoinBusy.{branches_begun, joining-busy_arrives, joining-busy_ends, joining-busy_opens, joining-busy_waits}

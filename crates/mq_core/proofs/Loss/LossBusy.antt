@@ -1,9 +1,10 @@
 -- How busy a loss station is.
-use Rattle.std.proofs.Common.{◌≡◌, ℕ, suc, ◌+◌, ◌-◌, ◌*◌, ◌<◌, ◌≤◌, Bool, true, false, cond, eqb, ltb, List, [], ◌∷◌, ◌++◌, length, map, Some, sym, refl, ap, ◌∙◌, subst, arith}
+use Rattle.std.proofs.Common.{◌≡◌, ℕ, suc, ◌+◌, ◌-◌, ◌*◌, ◌<◌, ◌≤◌, Bool, true, false, cond, eqb, ltb, List, [], ◌∷◌, ◌++◌, length, map, Some, sym, refl, ap, ◌∙◌, subst, arith, None, Option}
 use Rattle.std.proofs.lemmas.Bool.Decides.{nat_tests}
 use Rattle.std.proofs.lemmas.List.{append-nil}
 use Rattle.std.specs.Prelude.{slice_get}
 use Rattle.std.specs.List.{AllByRecursion as Each}
+use Rattle.std.specs.Option.{option_map}
 use Rattle.mq_core.specs.Event.{Event, time_of, earliest, sooner_of}
 use Rattle.mq_core.specs.Event.Event.{Arrive, Finish}
 use Rattle.mq_core.specs.Machine.{Visit, Emission, finishes_of}
@@ -13,6 +14,9 @@ use Rattle.mq_core.specs.Kinds.Loss.{loss_on, faring_by}
 use Rattle.mq_core.specs.Tallies.{sum_below, emission_at}
 use Rattle.mq_core.specs.declared.model.Demand.{Demand}
 use Rattle.mq_core.specs.declared.model.Rows.{Rows}
+use Rattle.mq_core.specs.Fates.{fate_by, unless_lost}
+use Rattle.mq_core.specs.declared.model.Fate.TheVariants.{Departs, Lost}
+use Rattle.mq_core.specs.declared.model.Kind.TheVariants.{Loss}
 use Rattle.mq_core.proofs.Events.Areas.{get-front, get-last, sum-same}
 use Rattle.mq_core.proofs.Counting.ColumnNumbers.{Numbered}
 use Rattle.mq_core.proofs.Events.EmissionsAt.{neq-eqb}
@@ -21,7 +25,20 @@ use Rattle.mq_core.proofs.Loss.LossFlow.{leaves_at, fate_if, fared-push, fared-n
 use Rattle.mq_core.proofs.Lists.NumberLists.{sum_below-first}
 use Rattle.mq_core.proofs.Events.Remaining.{remaining}
 use Rattle.mq_core.proofs.Server.Serves.{latest-push, pair-inj}
-use Rattle.mq_core.proofs.Counting.Unlost.{unless_out}
+
+-- this number, or 0 for one that left by the output of the lost
+abbrev pub unless_out : Option Emission → ℕ → ℕ
+unless_out None n = n
+unless_out (Some m) n = cond (eqb m.out 1) 0 n
+
+-- at a loss station those are lost that leave by output 1
+pub lost-out : (places : ℕ) (demand : Demand) (o : Option Emission) (n : ℕ) → unless_out o n ≡ unless_lost (option_map (fate_by (Loss places demand)) o) n
+lost-out places demand None n = refl
+lost-out places demand (Some m) n = go (eqb m.out 1)
+  where
+    go : (b : Bool) → cond b 0 n ≡ unless_lost (Some (cond b Lost (Departs m.time))) n
+    go true = refl
+    go false = refl
 
 -- the demands of those among these that aren't lost
 abbrev pub work : Rows → Demand → List Emission → ℕ

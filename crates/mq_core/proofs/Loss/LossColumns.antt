@@ -1,23 +1,43 @@
 -- The flow of a loss station: its fates, its outputs and its times, and that neither output goes back in time.
-use Rattle.std.proofs.Common.{◌≡◌, inl, inr, ℕ, suc, ◌+◌, ◌≤◌, max, Bool, true, false, cond, eqb, List, [], ◌∷◌, map, length, sym, refl, ap, ◌∙◌, arith, eqb-true}
+use Rattle.std.proofs.Common.{◌≡◌, inl, inr, ℕ, suc, ◌+◌, ◌≤◌, max, Bool, true, false, cond, eqb, List, [], ◌∷◌, map, length, sym, refl, ap, ◌∙◌, arith, eqb-true, ◌*◌, ◌^◌}
 use Rattle.std.specs.Prelude.{slice_get}
 use Rattle.std.specs.List.{AllByRecursion as Each}
-use Rattle.mq_core.specs.ColumnLaws.{arrives_of}
-use Rattle.mq_core.specs.Kinds.Loss.{out_of_fate}
+use Rattle.mq_core.specs.ColumnLaws.{arrives_of, jobs_of, FatesInTime}
+use Rattle.mq_core.specs.Kinds.Loss.{out_of_fate, faring_from}
 use Rattle.mq_core.specs.Fates.{fate_by}
 use Rattle.mq_core.specs.Handling.{demand_of_job}
 use Rattle.mq_core.specs.Laws.{Rises, in_order_of, stream_of}
 use Rattle.mq_core.specs.Machine.{Visit, Emission}
 use Rattle.mq_core.specs.Recurrences.{is_admitted, loss_fates, time_or_none}
-use Rattle.mq_core.specs.Kinds.Loss.{faring_from}
 use Rattle.mq_core.specs.declared.model.Demand.{Demand}
 use Rattle.mq_core.specs.declared.model.Fate.{Fate}
 use Rattle.mq_core.specs.declared.model.Fate.TheVariants.{Departs, Lost}
 use Rattle.mq_core.specs.declared.model.Kind.TheVariants.{Loss}
 use Rattle.mq_core.specs.declared.model.Rows.{Rows}
-use Rattle.mq_core.proofs.Counting.ColumnNumbers.{EachLeaves}
+use Rattle.mq_core.proofs.Counting.ColumnNumbers.{EachLeaves, Numbered}
 use Rattle.mq_core.proofs.Lists.Each.{Each-weaker, Each-filter_if, Each-any}
 use Rattle.mq_core.proofs.Events.Rising.{Rises-filter, Rises-in_order_of, filter-in_order_of, same_by_key}
+use Rattle.mq_core.proofs.Counting.Stays.{FatesStay, cons}
+use Rattle.mq_core.proofs.Bounded.BoundedStations.{AreBy, AreSmall, LeaveBy}
+
+-- a loss station has a fate for each visit
+pub loss-even : (places : ℕ) (left : List ℕ) (arrive demand : Visit → ℕ) (visits : List Visit) → length (loss_fates places left (map arrive visits) (map demand visits)) ≡ length visits
+loss-even places left arrive demand [] = refl
+loss-even places left arrive demand (x ∷ xs) = go (is_admitted places left (arrive x)) (λ l. loss-even places l arrive demand xs)
+  where
+    time : ℕ
+    time = max (arrive x) (time_or_none (slice_get left 0)) + demand x
+
+    go : (b : Bool) → ((l : List ℕ) → length (loss_fates places l (map arrive xs) (map demand xs)) ≡ length xs) → length (cond b (Departs time ∷ loss_fates places (time ∷ left) (map arrive xs) (map demand xs)) (Lost ∷ loss_fates places left (map arrive xs) (map demand xs))) ≡ suc (length xs)
+    go true ih = ap suc (ih (time ∷ left))
+    go false ih = ap suc (ih left)
+
+pub faring-numbered : (k : ℕ) (fates : List Fate) (visits : List Visit) → length fates ≡ length visits → Numbered k (faring_from k fates visits) visits
+faring-numbered k [] [] e = tt
+faring-numbered k [] (x ∷ xs) e = absurd (omega arith)
+faring-numbered k (fate ∷ fates) [] e = absurd (omega arith)
+faring-numbered k (Departs time ∷ fates) (x ∷ xs) e = (refl, refl, faring-numbered (suc k) fates xs (omega arith))
+faring-numbered k (Lost ∷ fates) (x ∷ xs) e = (refl, refl, faring-numbered (suc k) fates xs (omega arith))
 
 -- each visit fares as it is let out
 pub faring-fates : (places : ℕ) (demand : Demand) (k : ℕ) (fates : List Fate) (visits : List Visit) → length fates ≡ length visits → map (fate_by (Loss places demand)) (faring_from k fates visits) ≡ fates
@@ -101,3 +121,54 @@ loss-stream rows places demand visits out r =
     in-order-already (λ (m : Emission). m.time) _
     (turn-rises out _ (Each-filter_if (λ (m : Emission). m.out ≡ out) (λ (m : Emission). eqb m.out out) (loss_flow rows places demand 0 [] visits) (Each-any _ (λ m. eqb-true m.out out) (loss_flow rows places demand 0 [] visits)))
     (Rises-filter InTurn (λ (m : Emission). eqb m.out out) (loss_flow rows places demand 0 [] visits) (loss-in_turn rows places demand 0 [] visits r)))
+
+pub demands-of : (rows : Rows) (demand : Demand) (visits : List Visit) → map (λ (x : Visit). demand_of_job rows demand x.job) visits ≡ map (demand_of_job rows demand) (jobs_of visits)
+demands-of rows demand [] = refl
+demands-of rows demand (x ∷ xs) = ap (λ l. demand_of_job rows demand x.job ∷ l) (demands-of rows demand xs)
+
+pub even-fates : (rows : Rows) (places : ℕ) (demand : Demand) (visits : List Visit) → length (loss_fates places [] (map (λ (x : Visit). x.arrive) visits) (map (λ (x : Visit). demand_of_job rows demand x.job) visits)) ≡ length visits
+even-fates rows places demand visits = loss-even places [] (λ x. x.arrive) (λ x. demand_of_job rows demand x.job) visits
+
+pub stay-admitted : (places : ℕ) (demand : ℕ → ℕ) (left job arrive : List ℕ) → FatesStay demand job arrive (loss_fates places left arrive (map demand job))
+stay-admitted places demand left job [] = tt
+stay-admitted places demand left [] (a ∷ later) = tt
+stay-admitted places demand left (j ∷ js) (a ∷ later) = go (is_admitted places left a) (λ l. stay-admitted places demand l js later)
+  where
+    time : ℕ
+    time = max a (time_or_none (slice_get left 0)) + demand j
+
+    go : (b : Bool) → ((l : List ℕ) → FatesStay demand js later (loss_fates places l later (map demand js))) → FatesStay demand (j ∷ js) (a ∷ later) (cond b (Departs time ∷ loss_fates places (time ∷ left) later (map demand js)) (Lost ∷ loss_fates places left later (map demand js)))
+    go true ih = (omega arith, ih (time ∷ left))
+    go false ih = (tt, ih left)
+
+pub when-lost : (places : ℕ) (demand : ℕ → ℕ) (left job arrive : List ℕ) → length job ≡ length arrive → FatesInTime arrive (loss_fates places left arrive (map demand job))
+when-lost places demand left [] [] e = record { even = omega arith; each = tt }
+when-lost places demand left [] (a ∷ later) e = absurd (omega arith)
+when-lost places demand left (j ∷ js) [] e = absurd (omega arith)
+when-lost places demand left (j ∷ js) (a ∷ later) e = go (is_admitted places left a) (λ l. when-lost places demand l js later (omega arith))
+  where
+    time : ℕ
+    time = max a (time_or_none (slice_get left 0)) + demand j
+
+    go : (b : Bool) → ((l : List ℕ) → FatesInTime later (loss_fates places l later (map demand js))) → FatesInTime (a ∷ later) (cond b (Departs time ∷ loss_fates places (time ∷ left) later (map demand js)) (Lost ∷ loss_fates places left later (map demand js)))
+    go true ih = cons a time later _ (omega arith) (ih (time ∷ left))
+    go false ih = record { even = ap suc (ih left).even; each = (tt, (ih left).each) }
+
+-- from a loss station: as from a server, for those that are admitted
+pub loss-by : (limit top high places : ℕ) (left times demands : List ℕ) → top ≤ high → time_or_none (slice_get left 0) ≤ high → high + length times * 2 ^ 36 ≤ limit → AreBy top times → AreSmall demands → LeaveBy limit (loss_fates places left times demands)
+loss-by limit top high places left [] demands t l room ts ds = tt
+loss-by limit top high places left (time ∷ times) [] t l room ts ds = tt
+loss-by limit top high places left (time ∷ times) (demand ∷ demands) t l room ts ds =
+    go (is_admitted places left time)
+    (loss-by limit top (high + 2 ^ 36) places (departure ∷ left) times demands (omega arith) next (omega arith) ts.1 ds.1)
+    (loss-by limit top high places left times demands t l (omega arith) ts.1 ds.1)
+  where
+    departure : ℕ
+    departure = max time (time_or_none (slice_get left 0)) + demand
+
+    next : departure ≤ high + 2 ^ 36
+    next = let a = ts.0 in let b = ds.0 in omega arith
+
+    go : (b : Bool) → LeaveBy limit (loss_fates places (departure ∷ left) times demands) → LeaveBy limit (loss_fates places left times demands) → LeaveBy limit (cond b (Departs departure ∷ loss_fates places (departure ∷ left) times demands) (Lost ∷ loss_fates places left times demands))
+    go true admitted lost = (let n = next in omega arith, admitted)
+    go false admitted lost = (tt, lost)

@@ -13,11 +13,10 @@ use Rattle.mq_core.specs.declared.model.Kind.TheVariants.{Loss}
 use Rattle.mq_core.specs.declared.model.Rows.{Rows}
 use Rattle.mq_core.proofs.Loss.LossPeak.{losing-raises, losing-departs}
 use Rattle.mq_core.proofs.Counting.Services.{service-by}
-use Rattle.mq_core.proofs.Counting.Unlost.{lost-out}
+use Rattle.mq_core.proofs.Loss.LossBusy.{lost-out, LossBusy, losing-busy_arrives, losing-busy_done, losing-busy_ends, losing-busy_waits}
 use Rattle.mq_core.proofs.EachKind.KindLaws.{Inside, KindLaws, OnceLaws, OwnLaws}
 use Rattle.mq_core.proofs.Events.Areas.{sum-same}
 use Rattle.mq_core.proofs.Loss.Loses.{Losing, losing-arrives, losing-ends, losing-opens, losing-waits}
-use Rattle.mq_core.proofs.Loss.LossBusy.{LossBusy, losing-busy_arrives, losing-busy_done, losing-busy_ends, losing-busy_waits}
 use Rattle.mq_core.proofs.Loss.LossTallies.{losing-arrives-falls, losing-arrives-few, losing-done, losing-earlier, losing-emits, losing-ends-falls, losing-ends-few, losing-flow, losing-number, losing-own, losing-same}
 
 -- what holds of it between two events

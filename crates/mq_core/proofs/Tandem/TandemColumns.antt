@@ -7,6 +7,8 @@ use Rattle.mq_core.specs.Recurrences.{time_or_none, room_in, stage_departs, each
 use Rattle.mq_core.specs.Kinds.Tandem.{tandem_times}
 use Rattle.mq_core.specs.declared.model.Stage.{Stage}
 use Rattle.mq_core.specs.declared.model.Rows.{Rows}
+use Rattle.mq_core.specs.ColumnLaws.{arrives_of, jobs_of}
+use Rattle.mq_core.specs.Machine.{Visit}
 use Rattle.mq_core.proofs.ForkJoin.ForkTimes.{AtLeast, at_least-refl}
 
 tandem_departs-length : (places : List ℕ) (left : List (List ℕ)) (arrives : List ℕ) (demands : List (List ℕ)) → length (tandem_departs places left arrives demands) ≡ length arrives
@@ -60,3 +62,7 @@ tandem_times-late rows [] jobs arrives = at_least-refl arrives
 tandem_times-late rows (stage ∷ stages) jobs arrives =
     departs-late stage.places (map (λ (s : Stage). s.places) stages) (map (λ _. []) (stage ∷ stages)) arrives (map (λ (s : Stage). map (demand_of_job rows s.demand) jobs) (stage ∷ stages))
     (ap suc (length-map stages _ ∙ sym (length-map stages (λ (s : Stage). s.places)))) (ap suc (length-map stages _ ∙ sym (length-map stages (λ (s : Stage). s.places))))
+
+-- a time for each visit
+pub tandem-even : (rows : Rows) (stages : List Stage) (visits : List Visit) → length (tandem_times rows stages (jobs_of visits) (arrives_of visits)) ≡ length visits
+tandem-even rows stages visits = tandem_times-length rows stages (jobs_of visits) (arrives_of visits) ∙ length-map visits (λ (x : Visit). x.arrive)

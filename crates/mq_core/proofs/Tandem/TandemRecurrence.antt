@@ -14,16 +14,17 @@ use Rattle.mq_core.specs.declared.model.Kind.TheVariants.{Tandem}
 use Rattle.mq_core.specs.declared.model.Network.{Network}
 use Rattle.mq_core.specs.declared.model.Rows.{Rows}
 use Rattle.mq_core.specs.declared.model.Stage.{Stage}
-use Rattle.mq_core.proofs.Bounded.BoundedAsked.{all-small, asked, each-weaker, none-left, stages-small}
+use Rattle.mq_core.proofs.Bounded.BoundedAsked.{all-small, asked, each-weaker}
+use Rattle.mq_core.proofs.Tandem.TandemBounded.{none-left, stages-small, tandem-by}
 use Rattle.mq_core.proofs.Bounded.BoundedStations.{AreBy, LeaveBy, by-later, departs-by}
-use Rattle.mq_core.proofs.Bounded.BoundedTandem.{tandem-by}
 use Rattle.mq_core.proofs.Counting.ColumnNumbers.{leaving-numbered}
-use Rattle.mq_core.proofs.Counting.FlowColumns.{departing-leaves, leaving-fates, leaving-outs, tandem-even}
-use Rattle.mq_core.proofs.Counting.Stays.{FatesStay, stay-fates, stay-in_tandem, stay-none}
+use Rattle.mq_core.proofs.Counting.FlowColumns.{departing-leaves, leaving-fates, leaving-outs}
+use Rattle.mq_core.proofs.Tandem.TandemColumns.{tandem-even, tandem_times-late, tandem_times-length}
+use Rattle.mq_core.proofs.Counting.Stays.{FatesStay, stay-fates, stay-none}
+use Rattle.mq_core.proofs.Tandem.TandemStays.{stay-in_tandem}
 use Rattle.mq_core.proofs.EachKind.RecurrenceLaws.{RecurrenceLaws}
 use Rattle.mq_core.proofs.Events.Exits.{until-own}
 use Rattle.mq_core.proofs.ForkJoin.ForkTimes.{fates-at_least}
-use Rattle.mq_core.proofs.Tandem.TandemColumns.{tandem_times-late, tandem_times-length}
 
 -- a tandem keeps each job for its demands; one with no stage keeps none
 stay-stages : (rows : Rows) (stages : List Stage) (job arrive : List ℕ) → length job ≡ length arrive → FatesStay (demand_of_stages rows stages) job arrive (map (λ time. Departs time) (tandem_times rows stages job arrive))

@@ -1,9 +1,12 @@
--- When jobs have departed at the latest from a tandem.
+-- When jobs leave a tandem at the latest.
 use Rattle.std.proofs.Common.{ℕ, zero, suc, ◌+◌, ◌-◌, ◌*◌, ◌^◌, ◌≤◌, List, [], ◌∷◌, map, length, arith, max}
 use Rattle.std.specs.Prelude.{slice_get}
 use Rattle.std.specs.List.{AllByRecursion as Each}
 use Rattle.mq_core.specs.Recurrences.{time_or_none, room_in, stage_departs, each_before, last_time, firsts, rest, tandem_departs}
+use Rattle.mq_core.specs.declared.model.Rows.{Rows}
+use Rattle.mq_core.specs.declared.model.Stage.{Stage}
 use Rattle.mq_core.proofs.Bounded.BoundedStations.{AreBy, AreSmall, by-later}
+use Rattle.mq_core.proofs.Bounded.BoundedAsked.{asked}
 
 one-by : (limit : ℕ) (times : List ℕ) (place : ℕ) → AreBy limit times → time_or_none (slice_get times place) ≤ limit
 one-by limit [] place h = omega arith
@@ -57,3 +60,11 @@ tandem-by limit top high places left (time ∷ times) demands few t room ts ls d
     let done = stages-by (high + 2 ^ 39) high high time places (firsts demands) left (omega arith) (omega arith) (omega arith) (firsts-small demands ds) ls in
     let last = last-by (high + 2 ^ 39) gone done in
     (omega arith, tandem-by limit top (high + 2 ^ 39) places (each_before gone left) times (map rest demands) few (omega arith) (omega arith) ts.1 (before-by high (high + 2 ^ 39) gone left (omega arith) done ls) (rests-small demands ds))
+
+pub stages-small : (rows : Rows) (jobs : List ℕ) (stages : List Stage) → Each (λ demand. AreSmall (asked rows jobs demand)) (map (λ (s : Stage). s.demand) stages) → Each AreSmall (map (λ (s : Stage). asked rows jobs s.demand) stages)
+stages-small rows jobs [] h = tt
+stages-small rows jobs (stage ∷ stages) h = (h.0, stages-small rows jobs stages h.1)
+
+pub none-left : (limit : ℕ) (stages : List Stage) → Each (AreBy limit) (map (λ _. []) stages)
+none-left limit [] = tt
+none-left limit (stage ∷ stages) = (tt, none-left limit stages)
