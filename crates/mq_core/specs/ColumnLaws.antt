@@ -1,6 +1,6 @@
-use Rattle.mq_core.specs.Came.{Came, came_of}
-use Rattle.std.specs.Prelude.{◌≡◌, ◌<◌, ◌≤◌, ⊤, ℕ, ◌+◌, false, List, ◌++◌, length, map, slice_get, Some}
+use Rattle.std.specs.Prelude.{◌≡◌, ◌<◌, ◌≤◌, ⊤, ℕ, ◌+◌, false, List, ◌++◌, length, map, slice_get, Some, true}
 use Rattle.std.specs.List.{AllByRecursion, zip, flat_map}
+use Rattle.mq_core.specs.Came.{Came, came_of}
 use Rattle.mq_core.specs.Columns.{IsStream, column_fates, column_stream, column_visits, rows_at, stream_in_order}
 use Rattle.mq_core.specs.Laws.{Rises}
 use Rattle.mq_core.specs.Local.{Local}
@@ -15,7 +15,6 @@ use Rattle.mq_core.specs.declared.model.Fate.{Fate}
 use Rattle.mq_core.specs.declared.model.Fate.TheVariants.{Departs, Lost}
 use Rattle.mq_core.specs.declared.model.Input.{Input}
 use Rattle.mq_core.specs.declared.model.Kind.{Kind}
-use Rattle.mq_core.specs.declared.model.Kind.TheVariants.{Source}
 use Rattle.mq_core.specs.declared.model.Node.{Node}
 use Rattle.mq_core.specs.declared.model.Plan.{Plan}
 use Rattle.mq_core.specs.declared.model.Rows.{Rows}
@@ -48,7 +47,7 @@ NodesAreColumns =
 
 -- the arrivals at a node by time: the rows of a source in file order, or what the ports of another read, port after port
 pub record IsMerged (rows : Rows) (v : ℕ) (node : Node) (end : State Local) : Type 0 where
-  pub source : node.kind ≡ Source → zip (arrives_of (end.stations v).visits) (jobs_of (end.stations v).visits) ≡ by_first (rows_at v 0 rows.source rows.time)
+  pub source : is_source_kind node.kind ≡ true → zip (arrives_of (end.stations v).visits) (jobs_of (end.stations v).visits) ≡ by_first (rows_at v 0 rows.source rows.time)
   pub other : is_source_kind node.kind ≡ false → zip (arrives_of (end.stations v).visits) (jobs_of (end.stations v).visits) ≡ by_first (flat_map (λ (i : Input). pairs_of (stream_from (end.stations i.node) i.out)) node.inputs)
 
 abbrev pub ArrivalsAreStreams : Type 0

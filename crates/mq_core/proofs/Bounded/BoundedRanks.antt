@@ -1,12 +1,12 @@
 -- No departure of a run passes the latest that there may be, node by node in the order of ranks.
-use Rattle.mq_core.specs.Came.{came_of}
 use Rattle.std.proofs.Common.{◌≡◌, ◌⊎◌, inl, inr, ℕ, zero, suc, ◌+◌, ◌*◌, ◌^◌, ◌<◌, ◌≤◌, Bool, true, false, eqb, List, [], ◌∷◌, ◌++◌, length, take, Option, Some, None, sym, refl, ap, ◌∙◌, subst, arith, eqb-true, le-ltb, length-append}
-use Rattle.std.proofs.lemmas.Bool.{cases_lt}
+use Rattle.std.proofs.lemmas.Bool.{cases_Bool, cases_lt}
 use Rattle.std.proofs.lemmas.List.{length-map}
 use Rattle.std.proofs.lemmas.List.Elements.{recursion_from_All}
 use Rattle.std.specs.Option.{option_to_list}
 use Rattle.std.specs.Prelude.{◌||◌, slice_get}
 use Rattle.std.specs.List.{AllByRecursion as Each, zip}
+use Rattle.mq_core.specs.Came.{came_of}
 use Rattle.mq_core.specs.ColumnLaws.{ArrivalsAreStreams, JobsAreRows, NodesAreColumns, OrdersKeepItems, VisitsAreFew, arrives_of, jobs_of}
 use Rattle.mq_core.specs.Columns.{column_fates, column_late, column_late_from}
 use Rattle.mq_core.specs.Local.{Local}
@@ -22,8 +22,6 @@ use Rattle.mq_core.specs.Wiring.{first_ready, has, is_source_kind, outputs_read,
 use Rattle.mq_core.specs.declared.model.Fate.{Fate}
 use Rattle.mq_core.specs.declared.model.Fate.TheVariants.{Departs, Lost}
 use Rattle.mq_core.specs.declared.model.Input.{Input}
-use Rattle.mq_core.specs.declared.model.Kind.{Kind}
-use Rattle.mq_core.specs.declared.model.Kind.TheVariants.{Source, Server, Delay, Loss, Tandem, ForkJoin, Split}
 use Rattle.mq_core.specs.declared.model.Node.{Node}
 use Rattle.mq_core.specs.declared.model.Plan.{Plan}
 use Rattle.mq_core.specs.declared.model.Rows.{Rows}
@@ -49,15 +47,6 @@ has-at (v ∷ order) (suc rank) node h = go (eqb v node) refl h (has-at order ra
     go : (b : Bool) → eqb v node ≡ b → (b || has (take rank order) node) ≡ true → (has (take rank order) node ≡ true → IsAt order rank node) → IsAt (v ∷ order) (suc rank) node
     go true e k ih = record { place = 0; before = omega arith; at = ap Some (eqb-true v node e) }
     go false e k ih = let i = ih k in record { place = suc i.place; before = let l = i.before in omega arith; at = i.at }
-
-source-or-not : (kind : Kind) → (kind ≡ Source) ⊎ (is_source_kind kind ≡ false)
-source-or-not Source = inl refl
-source-or-not (Server demand) = inr refl
-source-or-not (Delay demand) = inr refl
-source-or-not (Loss places demand) = inr refl
-source-or-not (Tandem stages) = inr refl
-source-or-not (ForkJoin branches) = inr refl
-source-or-not (Split route) = inr refl
 
 -- a ranking has no more nodes than there are
 ranked-few : (count : ℕ) (nodes : List Node) (ranked : List ℕ) → length (ranked_after count nodes ranked) ≤ length ranked + count
@@ -154,7 +143,7 @@ module _ (laws : RunLaws) (plan : Plan) (rows : Rows) (read : IsReadFor plan.net
   -- what the nodes of lower ranks let out, comes to a node of this rank
   arrives-by : (rank v : ℕ) (node : Node) (top : ℕ) → last ≤ top → slice_get plan.order rank ≡ Some v → slice_get plan.net.nodes v ≡ Some node →
       ((r u : ℕ) (n : Node) → r < rank → slice_get plan.order r ≡ Some u → slice_get plan.net.nodes u ≡ Some n → IsBy u n top) → AreBy top (arrives_at v)
-  arrives-by rank v node top l place here before = from-zip top (arrives_at v) (jobs_at v) (even v) (go (source-or-not node.kind))
+  arrives-by rank v node top l place here before = from-zip top (arrives_at v) (jobs_at v) (even v) (go (cases_Bool (is_source_kind node.kind)))
     where
       read-by : (port : ℕ) (input : Input) → slice_get node.inputs port ≡ Some input → PairsBy top (pairs_of (stream_from (station input.node) input.out))
       read-by port input e =
@@ -164,7 +153,7 @@ module _ (laws : RunLaws) (plan : Plan) (rows : Rows) (read : IsReadFor plan.net
           let stream = stream_from (station input.node) input.out in
           zip-by top stream.time stream.job ((before at.place input.node names.node at.before at.at names.there).streams input.out)
 
-      go : (node.kind ≡ Source) ⊎ (is_source_kind node.kind ≡ false) → PairsBy top (zip (arrives_at v) (jobs_at v))
+      go : (is_source_kind node.kind ≡ true) ⊎ (is_source_kind node.kind ≡ false) → PairsBy top (zip (arrives_at v) (jobs_at v))
       go (inl source) =
           subst (PairsBy top) (sym ((laws.arrivals plan rows read v node here).source source))
           (order-by top _ (rows-by top v 0 rows.source rows.time (by-later last top rows.time l early)))

@@ -80,7 +80,7 @@ visits-nowhere plan rows read v e =
 pub arrivals-are-streams : ArrivalsAreStreams
 arrivals-are-streams plan rows read v node e =
     record {
-      source = λ s. start ∙ (ap (λ o. map event_pair (by_time (arrivals o))) e ∙ (ap (λ b. map event_pair (by_time (cond b own (others (Some node))))) (ap is_source_kind s) ∙ (sorted own ∙ ap by_first (starts-rows v 0 rows.source rows.time))));
+      source = λ s. start ∙ (ap (λ o. map event_pair (by_time (arrivals o))) e ∙ (ap (λ b. map event_pair (by_time (cond b own (others (Some node))))) s ∙ (sorted own ∙ ap by_first (starts-rows v 0 rows.source rows.time))));
       other = λ s. start ∙ (ap (λ o. map event_pair (by_time (arrivals o))) e ∙ (ap (λ b. map event_pair (by_time (cond b own (others (Some node))))) s ∙ (sorted (others (Some node)) ∙ ap by_first (read-pairs (run_of plan rows) v 0 node.inputs))));
     }
   where
