@@ -1,6 +1,5 @@
 pub mod ColumnNumbers
 pub mod Reordered
-pub mod Releases
 pub mod Unlost
 pub mod Released
 pub mod Services

@@ -18,7 +18,7 @@ use Rattle.mq_core.specs.declared.model.Rows.{Rows}
 use Rattle.mq_core.proofs.Lists.Each.{Each-weaker}
 use Rattle.mq_core.proofs.Loss.Loses.{Losing, ToLeave, front_finish, all_fared, front-emission}
 use Rattle.mq_core.proofs.Loss.LossFlow.{has_place, fared-numbered, fared-fates}
-use Rattle.mq_core.proofs.Counting.Releases.{emissions-one, times-few, joins-longer, joins-nothing, release-own, release-none}
+use Rattle.mq_core.proofs.Counting.Released.{emission-one, times-one, joins-length, joins-emits, one-release, no_release}
 use Rattle.mq_core.proofs.Counting.Reordered.{times_at, times_at-append, times_at-in_order, times_at-numbered, times_at-beyond, times_at-once, emission_at-none, emission_at-in_order, staying-coming}
 use Rattle.mq_core.proofs.Server.Serves.{latest-push, joins-releases, pair-inj}
 
@@ -30,9 +30,9 @@ loss-arrives P rows places demand local visits now port job v in' out' = go (ltb
   where
     go : (b : Bool) → P (length (cond b (joins rows demand visits local now local.queue (latest visits)) (passes_on local 1 (latest visits))).local.queue) (length (emissions_of now visits (cond b (joins rows demand visits local now local.queue (latest visits)) (passes_on local 1 (latest visits))).releases))
     go true =
-        subst (λ n. P n (length (emissions_of now visits (joins rows demand visits local now local.queue (latest visits)).releases))) (sym (joins-longer rows demand visits local now local.queue (latest visits)))
-        (subst (P (suc (length local.queue))) (sym (ap length (joins-nothing rows demand visits local now local.queue (latest visits)))) in')
-    go false = out' (length (emission_of now 1 (latest visits) (slice_get visits (latest visits)) ++ [])) (emissions-one now 1 (latest visits) (slice_get visits (latest visits)))
+        subst (λ n. P n (length (emissions_of now visits (joins rows demand visits local now local.queue (latest visits)).releases))) (sym (joins-length rows demand visits local now local.queue (latest visits)))
+        (subst (P (suc (length local.queue))) (sym (ap length (joins-emits rows demand visits local now local.queue (latest visits)))) in')
+    go false = out' (length (emission_of now 1 (latest visits) (slice_get visits (latest visits)) ++ [])) (emission-one now 1 (latest visits) (slice_get visits (latest visits)))
 
 -- it weighs more than what it leaves
 pub losing-arrives-falls : (rows : Rows) (places : ℕ) (demand : Demand) (onward : ℕ) (local : Local) (visits : List Visit) (now port job v : ℕ) →
@@ -40,7 +40,7 @@ pub losing-arrives-falls : (rows : Rows) (places : ℕ) (demand : Demand) (onwar
 losing-arrives-falls rows places demand onward local visits now port job v =
     loss-arrives (λ n out. n * (onward + 1) + out * onward + 1 ≤ length local.queue * (onward + 1) + (onward + 9)) rows places demand local visits now port job v
     (let e = suc-mul (length local.queue) (onward + 1) in omega arith)
-    (λ out l. let k = times-few out onward l in omega arith)
+    (λ out l. let k = times-one out onward l in omega arith)
 
 -- it brings one job in, which stays or is let out
 pub losing-arrives-few : (rows : Rows) (places : ℕ) (demand : Demand) (local : Local) (visits : List Visit) (now port job v : ℕ) →
@@ -57,7 +57,7 @@ losing-ends-falls rows places demand onward rank v server position local visits 
     go : (coming : List Emission) → queue ≡ map (λ (m : Emission). m.position) coming → fs ≡ front_finish v coming → length (front_leaves rows demand visits local now queue).local.queue * (onward + 1) + length (emissions_of now visits (front_leaves rows demand visits local now queue).releases) * onward + 1 ≤ length queue * (onward + 1)
     go [] w n = let none = subst (λ l. earliest rank l ≡ Some (Finish now v server position, rest)) n first in absurd cc
     go (m ∷ ms) w n =
-        let l = times-few _ onward (emissions-one now 0 m.position (slice_get visits m.position)) in
+        let l = times-one _ onward (emission-one now 0 m.position (slice_get visits m.position)) in
         let k = suc-mul (length (map (λ (m : Emission). m.position) ms)) (onward + 1) in
         rw w (omega arith)
 
@@ -67,7 +67,7 @@ losing-ends-few rows demand visits local now = serve local.queue refl
   where
     serve : (queue : List ℕ) → local.queue ≡ queue → length (front_leaves rows demand visits local now queue).local.queue + length (emissions_of now visits (front_leaves rows demand visits local now queue).releases) ≤ length queue
     serve [] e = let l = ap length e in omega arith
-    serve (front ∷ queue) e = let l = emissions-one now 0 front (slice_get visits front) in omega arith
+    serve (front ∷ queue) e = let l = emission-one now 0 front (slice_get visits front) in omega arith
 
 -- each position was let out or is still to leave, once in all
 pub losing-once : (rows : Rows) (places : ℕ) (demand : Demand) (v : ℕ) (visits : List Visit) (queue : List ℕ) (emitted : List Emission) (fs : List Event) (now : ℕ) → (h : Losing rows places demand v visits queue emitted fs now) → (p : ℕ) → p < length visits → times_at p emitted + times_at p h.coming ≡ 1
@@ -99,8 +99,8 @@ pub losing-own : (rows : Rows) (places : ℕ) (demand : Demand) (local : Local) 
 losing-own rows places demand local visits x now port job v q m e = go (ltb (length local.queue) places) e
   where
     go : (b : Bool) → emission_at (emissions_of now (visits ++ x ∷ []) (cond b (joins rows demand (visits ++ x ∷ []) local now local.queue (latest (visits ++ x ∷ []))) (passes_on local 1 (latest (visits ++ x ∷ [])))).releases) q ≡ Some m → q ≡ length visits
-    go true e = absurd (release-none now q (visits ++ x ∷ []) _ m (joins-releases rows demand (visits ++ x ∷ []) local now local.queue (latest (visits ++ x ∷ []))) e)
-    go false e = release-own now 1 (latest (visits ++ x ∷ [])) q (visits ++ x ∷ []) m e ∙ latest-push visits x
+    go true e = absurd (no_release now q (visits ++ x ∷ []) _ m (joins-releases rows demand (visits ++ x ∷ []) local now local.queue (latest (visits ++ x ∷ []))) e)
+    go false e = one-release now 1 (latest (visits ++ x ∷ [])) q (visits ++ x ∷ []) m e ∙ latest-push visits x
 
 -- what is let out at a finish came before those that came at that moment
 pub losing-earlier : (rows : Rows) (places : ℕ) (demand : Demand) (rank : ℕ → ℕ) (v server position : ℕ) (local : Local) (visits : List Visit) (queue : List ℕ) (emitted : List Emission) (fs rest : List Event) (now : ℕ) → earliest rank fs ≡ Some (Finish now v server position, rest) → Losing rows places demand v visits queue emitted fs now →
@@ -113,7 +113,7 @@ losing-earlier rows places demand rank v server position local visits queue emit
     go (k ∷ ms) w n held =
         let one = subst (λ l. earliest rank l ≡ Some (Finish now v server position, rest)) n first in
         let time : k.time ≡ now = ap time_of (pair-inj (Finish k.time v 0 k.position, []) (Finish now v server position, rest) one).0 in
-        let place : q ≡ k.position = release-own now 0 k.position q visits m (subst (λ l. emission_at (emissions_of now visits (front_leaves rows demand visits local now l).releases) q ≡ Some m) w e) in
+        let place : q ≡ k.position = one-release now 0 k.position q visits m (subst (λ l. emission_at (emissions_of now visits (front_leaves rows demand visits local now l).releases) q ≡ Some m) w e) in
         let came = held.0.behind p (omega arith) u in
         omega arith
 
