@@ -21,8 +21,6 @@ use Rattle.mq_core.specs.StandardTable.{run_of}
 use Rattle.mq_core.specs.Theorems.{IsReadFor}
 use Rattle.mq_core.specs.Wiring.{first_ready, is_source_kind, ranked_after}
 use Rattle.mq_core.specs.declared.model.Input.{Input}
-use Rattle.mq_core.specs.declared.model.Kind.{Kind}
-use Rattle.mq_core.specs.declared.model.Kind.TheVariants.{Source, Server, Delay, Loss, Tandem, ForkJoin, Split}
 use Rattle.mq_core.specs.declared.model.Node.{Node}
 use Rattle.mq_core.specs.declared.model.Plan.{Plan}
 use Rattle.mq_core.specs.declared.model.Rows.{Rows}
@@ -76,21 +74,12 @@ inputs-read laws plan rows visits outputs stands v node r n port input e =
     let h = has-input laws plan rows visits outputs stands v node r n port input e in
     ap (λ o. pairs_in o input.out) h.streams ∙ ap pairs_by (laws.have (run_of plan rows) input.node (outputs_in h.node.kind) input.out h.out)
 
-source-kind : (kind : Kind) → is_source_kind kind ≡ true → kind ≡ Source
-source-kind Source e = refl
-source-kind (Server demand) e = absurd cc
-source-kind (Delay demand) e = absurd cc
-source-kind (Loss places demand) e = absurd cc
-source-kind (Tandem stages) e = absurd cc
-source-kind (ForkJoin branches) e = absurd cc
-source-kind (Split route) e = absurd cc
-
 arriving-run : (laws : CoreLaws) (plan : Plan) (rows : Rows) (visits : List Visits) (outputs : List (List Stream)) (stands : List Stand) (v : ℕ) (node : Node) → IsReadFor plan.net rows → IsReached plan rows visits outputs stands → IsReady plan stands v node →
     zip (arrives_of ((run_of plan rows).stations v).visits) (jobs_of ((run_of plan rows).stations v).visits) ≡ by_first (arriving rows v node outputs)
 arriving-run laws plan rows visits outputs stands v node read r n = go (is_source_kind node.kind) refl
   where
     go : (b : Bool) → is_source_kind node.kind ≡ b → zip (arrives_of ((run_of plan rows).stations v).visits) (jobs_of ((run_of plan rows).stations v).visits) ≡ by_first (cond b (rows_at v 0 rows.source rows.time) (flat_map (pairs_read outputs) node.inputs))
-    go true e = (laws.arrivals plan rows read v node n.there).source (source-kind node.kind e)
+    go true e = (laws.arrivals plan rows read v node n.there).source e
     go false e = (laws.arrivals plan rows read v node n.there).other e ∙ ap by_first (sym (flat_map-same _ _ node.inputs (inputs-read laws plan rows visits outputs stands v node r n)))
 
 pub arrived : (plan : Plan) (rows : Rows) (outputs : List (List Stream)) (v : ℕ) (node : Node) (arrivals : Stream) → CanWork plan rows outputs v → slice_get plan.net.nodes v ≡ Some node →
