@@ -1,3 +1,4 @@
+-- A node that runs alone, over arrivals that are given, and what it lets out.
 use Rattle.std.specs.Prelude.{List, Some, [], filter, length, map, max, slice_get, true, ℕ, ◌<◌, ◌≡◌}
 use Rattle.std.specs.List.{AllByRecursion}
 use Rattle.mq_core.specs.Event.{Event, time_of, job_of}

@@ -1,4 +1,6 @@
--- What a kind of node is: all that the other definitions ask of a kind.
+-- What a kind of node is: all that the other definitions ask of a kind. A further kind gives one such value, in a file
+-- of `Kinds`, with a lemma that it schedules nothing early; their rows stand in `KindTable` and `OnTime`. What is to be
+-- shown of it is listed by the records of laws in `proofs/EachKind`, whose rows stand in `LawTable`.
 use Rattle.mq_core.specs.Came.{Came}
 use Rattle.std.specs.Prelude.{Bool, List, Option, ℕ}
 use Rattle.mq_core.specs.Event.{Event}

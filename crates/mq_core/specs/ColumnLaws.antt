@@ -1,3 +1,4 @@
+-- The laws that carry a run over to columns: a node's flow, visits, streams and arrivals.
 use Rattle.std.specs.Prelude.{◌≡◌, ◌<◌, ◌≤◌, ⊤, ℕ, ◌+◌, false, List, ◌++◌, length, map, slice_get, Some, true}
 use Rattle.std.specs.List.{AllByRecursion, zip, flat_map}
 use Rattle.mq_core.specs.Came.{Came, came_of}

@@ -1,3 +1,4 @@
+-- What becomes of visits: their fates, sojourns, services and numbers, and the laws of the tallies.
 use Rattle.std.specs.List.{AllByRecursion}
 use Rattle.std.specs.Option.{option_map}
 use Rattle.std.specs.Prelude.{Bool, IsSome, IsTrue, List, None, Option, Some, [], find, length, slice_get, ℕ, ◌++◌, ◌+◌, ◌<◌, ◌==◌, ◌∷◌, ◌≡◌, ◌≤◌, ◌⊎◌}

@@ -1,4 +1,4 @@
--- The table of the kinds: one row a kind.
+-- The table of the kinds: one row a kind. A kind's value stands in its file of `Kinds`.
 use Rattle.mq_core.specs.Behaviour.{Behaviour}
 use Rattle.mq_core.specs.Kinds.Delay.{delay}
 use Rattle.mq_core.specs.Kinds.ForkJoin.{fork_join}

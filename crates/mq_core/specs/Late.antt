@@ -1,5 +1,5 @@
 -- That what a handler schedules ends no earlier than now, for the parts that handlers are made of.
-use Rattle.std.proofs.Common.{ℕ, ◌+◌, ◌≤◌, List, [], ◌∷◌, ◌++◌, arith}
+use Rattle.std.proofs.Common.{ℕ, ◌≤◌, List, [], ◌∷◌, ◌++◌, arith}
 use Rattle.std.specs.List.{AllByRecursion as Each}
 use Rattle.mq_core.specs.Machine.{Visit, Service}
 use Rattle.mq_core.specs.Handling.{begins_at, begins_alone, joins, front_begins, front_leaves}

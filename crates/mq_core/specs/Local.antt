@@ -1,3 +1,4 @@
+-- What a node keeps between two events, whatever its kind.
 use Rattle.std.specs.Prelude.{ℕ, Bool, List, []}
 
 -- a stage of a tandem: its positions, and whether the front is done

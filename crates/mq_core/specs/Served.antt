@@ -1,3 +1,4 @@
+-- What a node of each kind lets out, by position and in the order in which it leaves.
 use Rattle.std.specs.Prelude.{List, ℕ}
 use Rattle.mq_core.specs.KindTable.{behaviour_of}
 use Rattle.mq_core.specs.Leaving.{left_by}

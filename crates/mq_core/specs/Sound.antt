@@ -1,3 +1,4 @@
+-- What is asked of a network: numbers in their ranges, names, inputs and outputs.
 use Rattle.std.specs.List.{flat_map, list_all, list_any}
 use Rattle.std.specs.Prelude.{Bool, List, None, Option, Some, [], false, length, map, nat_le, nat_lt, not, slice_get, suc, true, ℕ, ◌&&◌, ◌==◌, ◌^◌, ◌||◌, ◌∷◌}
 use Rattle.std.specs.Str.{bytes_eq}

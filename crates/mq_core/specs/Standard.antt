@@ -1,3 +1,4 @@
+-- The standard handlers: what a node of a plan does, by its kind.
 use Rattle.std.specs.Prelude.{List, None, Option, Some, length, slice_get, ℕ}
 use Rattle.mq_core.specs.Event.{Event}
 use Rattle.mq_core.specs.Handling.{quiet}

@@ -1,4 +1,4 @@
--- When jobs have departed at the latest from a server, a delay, a loss station and a fork-join.
+-- Times and fates with a latest time, and demands in their limit.
 use Rattle.std.proofs.Common.{ℕ, ◌^◌, ◌≤◌, List, [], ◌∷◌, map, arith}
 use Rattle.std.specs.List.{AllByRecursion as Each}
 use Rattle.mq_core.specs.declared.model.Fate.{Fate}

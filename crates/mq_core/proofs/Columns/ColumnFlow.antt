@@ -1,3 +1,4 @@
+-- That each node lets out its flow, and each visit leaves as the flow says.
 use Rattle.std.proofs.Common.{List, Some, [], ap, arith, cond, eq-eqb, eqb, false, length, subst, suc, sym, zero, ℕ, ◌+◌, ◌∙◌, ◌∷◌, ◌≡◌}
 use Rattle.std.specs.Prelude.{slice_get}
 use Rattle.mq_core.specs.ColumnLaws.{NodesFlow}

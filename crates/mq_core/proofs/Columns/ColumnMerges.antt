@@ -1,3 +1,4 @@
+-- That the arrivals at a node are the streams that it reads, merged.
 use Rattle.std.proofs.Common.{◌≡◌, ℕ, suc, Bool, true, false, cond, eqb, List, [], ◌∷◌, ◌++◌, map, length, Option, Some, None, sym, refl, ap, ◌∙◌}
 use Rattle.std.proofs.lemmas.List.{map-append, length-map}
 use Rattle.std.specs.Prelude.{filter, slice_get}
@@ -15,7 +16,7 @@ use Rattle.mq_core.specs.StandardTable.{standard, run_of}
 use Rattle.mq_core.specs.OnTime.{standard-on_time}
 use Rattle.mq_core.specs.Streams.{by_first, pairs_of}
 use Rattle.mq_core.specs.Theorems.{arrivals_at, IsReadFor}
-use Rattle.mq_core.specs.Wiring.{outputs_read, is_source, is_source_kind}
+use Rattle.mq_core.specs.Wiring.{outputs_read, is_source}
 use Rattle.mq_core.specs.declared.model.Input.{Input}
 use Rattle.mq_core.specs.declared.model.Node.{Node}
 use Rattle.mq_core.specs.declared.model.Plan.{Plan}

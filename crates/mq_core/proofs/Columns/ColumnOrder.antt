@@ -1,3 +1,4 @@
+-- That visits, emissions and streams never go back in time, and that to order a stream keeps its items.
 use Rattle.std.proofs.Common.{IfSome, List, [], ap, arith, length, map, refl, suc, sym, ℕ, ◌++◌, ◌<◌, ◌∙◌, ◌∷◌, ◌≡◌, ◌≤◌}
 use Rattle.std.proofs.lemmas.List.{length-map}
 use Rattle.std.specs.List.{AllByRecursion as Each, zip}

@@ -1,3 +1,4 @@
+-- That no visit departs before it came.
 use Rattle.mq_core.specs.Came.{came_of}
 use Rattle.std.proofs.Common.{List, Some, [], ap, length, subst, suc, sym, zero, ℕ, ◌∙◌, ◌∷◌, ◌≡◌, ◌≤◌}
 use Rattle.std.proofs.lemmas.List.{length-map}

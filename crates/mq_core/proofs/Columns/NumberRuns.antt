@@ -1,3 +1,4 @@
+-- That a run has columns, and that columns which agree with it make the run.
 use Rattle.std.proofs.Common.{◌≡◌, ◌⊎◌, inl, inr, ℕ, zero, suc, ◌+◌, ◌<◌, ◌≤◌, List, [], ◌∷◌, ◌++◌, length, Option, Some, None, sym, refl, ap, ◌∙◌, arith, slice_get, option_map, length-append}
 use Rattle.std.proofs.lemmas.Bool.{cases_lt}
 use Rattle.mq_core.specs.Columns.{visits_by_node, streams_by_node, streams_below}

@@ -1,3 +1,4 @@
+-- That the totals of a node and of an output are those of their columns.
 use Rattle.std.proofs.Common.{Bool, List, Some, [], ap, arith, cond, count_by, false, fold, inl, inr, length, map, max, refl, slice_get, slice_index, subst, suc, sum, sum_by, sym, true, zero, ℕ, ◌+◌, ◌-◌, ◌<◌, ◌∙◌, ◌∷◌, ◌≡◌}
 use Rattle.std.proofs.lemmas.List.{length-map}
 use Rattle.std.proofs.lemmas.List.Sums.{sum_by-cons}

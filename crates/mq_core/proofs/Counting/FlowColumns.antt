@@ -1,4 +1,4 @@
--- The fates and the outputs of what visits let out.
+-- The fates and the outputs of visits that leave at times that are told.
 use Rattle.std.proofs.Common.{List, [], ap, arith, inl, length, map, refl, suc, ℕ, ◌∷◌, ◌≡◌}
 use Rattle.mq_core.specs.ColumnLaws.{jobs_of}
 use Rattle.mq_core.specs.Fates.{fate_by}

@@ -1,4 +1,4 @@
--- That each departure is no earlier than after the bare time.
+-- That departures are no earlier than after the bare time, and no earlier than the arrival.
 use Rattle.std.proofs.Common.{List, [], arith, length, map, ℕ, ◌∷◌, ◌≡◌, ap, suc, ◌≤◌}
 use Rattle.std.specs.List.{AllByRecursion as Each, zip}
 use Rattle.mq_core.specs.ColumnLaws.{LeavesFrom, FatesInTime}

@@ -1,4 +1,4 @@
--- Where no visit is lost, and who is lost at a loss station.
+-- Where no visit is lost.
 use Rattle.std.proofs.Common.{None, Option, Some, ap, refl, ℕ, ◌≡◌}
 use Rattle.std.specs.Option.{option_map}
 use Rattle.mq_core.specs.Fates.{fate_by, unless_lost}

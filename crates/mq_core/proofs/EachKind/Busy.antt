@@ -1,3 +1,4 @@
+-- That the busy tally of a node is the sum of its services.
 use Rattle.std.proofs.Common.{List, None, Option, Some, [], ap, length, refl, subst, ℕ, ◌∙◌, ◌*◌, ◌++◌, ◌+◌, ◌-◌, ◌<◌, ◌∷◌, ◌≡◌, ◌≤◌}
 use Rattle.std.specs.List.{AllByRecursion as Each}
 use Rattle.std.specs.Option.{option_map}

@@ -1,3 +1,4 @@
+-- That a run ends: the weight of what is pending falls with each event.
 use Rattle.std.proofs.Common.{List, None, Option, Some, [], ap, arith, eqb, length, length-append, refl, subst, suc, sym, true, zero, ℕ, ◌*◌, ◌++◌, ◌+◌, ◌-◌, ◌<◌, ◌∙◌, ◌∷◌, ◌≡◌, ◌≤◌, ◌^◌}
 use Rattle.std.proofs.Math.Nat.{mul_assoc, mul-suc, mul_comm, suc-mul}
 use Rattle.std.proofs.lemmas.List.{append-nil}

@@ -1,3 +1,4 @@
+-- That what holds of a node is kept by each event, from the laws of its kind.
 use Rattle.std.proofs.lemmas.List.{length-map}
 use Rattle.std.proofs.Common.{true, List, None, Option, Some, [], arith, length, max, refl, subst, sym, ℕ, ◌++◌, ◌<◌, ◌∙◌, ◌∷◌, ◌≡◌, ◌≤◌}
 use Rattle.std.proofs.lemmas.List.{append-nil}

@@ -1,4 +1,4 @@
--- What is to be shown of a kind of node, once for all that goes by kind.
+-- What is to be shown of the handler of a kind: one value of each record a kind, in the kind's folder.
 use Rattle.std.proofs.Common.{◌≡◌, ◌⊎◌, ℕ, ◌+◌, ◌-◌, ◌*◌, ◌<◌, ◌≤◌, true, List, [], ◌∷◌, ◌++◌, length, Option, Some, None, max}
 use Rattle.std.specs.Prelude.{slice_get}
 use Rattle.std.specs.List.{AllByRecursion as Each}

@@ -1,4 +1,4 @@
--- The laws of the kinds, one row a kind.
+-- The laws of the kinds: in each table one row a kind.
 use Rattle.std.proofs.Common.{ℕ}
 use Rattle.mq_core.specs.KindTable.{behaviour_of}
 use Rattle.mq_core.specs.declared.model.Kind.{Kind}
@@ -39,6 +39,7 @@ inside_of rows ports (Tandem stages) = tandem-inside rows stages
 inside_of rows ports (ForkJoin branches) = fork_join-inside rows branches
 inside_of rows ports (Split route) = split-inside rows route
 
+-- the laws of its handler
 pub laws_of : (rows : Rows) (ports : ℕ) (kind : Kind) → KindLaws rows ports (behaviour_of kind) (inside_of rows ports kind)
 laws_of rows ports Source = source-laws rows ports
 laws_of rows ports (Server demand) = server-laws rows ports demand
@@ -48,6 +49,7 @@ laws_of rows ports (Tandem stages) = tandem-laws rows ports stages
 laws_of rows ports (ForkJoin branches) = fork_join-laws rows ports branches
 laws_of rows ports (Split route) = split-laws rows ports route
 
+-- each kind lets each visit out once
 pub once_of : (rows : Rows) (ports : ℕ) (kind : Kind) → OnceLaws rows ports (behaviour_of kind) (inside_of rows ports kind)
 once_of rows ports Source = source-once rows ports
 once_of rows ports (Server demand) = server-once rows ports demand
@@ -57,6 +59,7 @@ once_of rows ports (Tandem stages) = tandem-once rows ports stages
 once_of rows ports (ForkJoin branches) = fork_join-once rows ports branches
 once_of rows ports (Split route) = split-once rows ports route
 
+-- each visit leaves with its own emission
 pub own_of : (rows : Rows) (ports : ℕ) (kind : Kind) → OwnLaws rows ports (behaviour_of kind) (inside_of rows ports kind)
 own_of rows ports Source = source-own rows ports
 own_of rows ports (Server demand) = server-own rows ports demand
@@ -66,6 +69,7 @@ own_of rows ports (Tandem stages) = tandem-own rows ports stages
 own_of rows ports (ForkJoin branches) = fork_join-own rows ports branches
 own_of rows ports (Split route) = split-own rows ports route
 
+-- the laws of its recurrence
 pub recurrence_of : (rows : Rows) (ports : ℕ) (kind : Kind) → RecurrenceLaws rows ports (behaviour_of kind)
 recurrence_of rows ports Source = source-recurrence rows ports
 recurrence_of rows ports (Server demand) = server-recurrence rows ports demand
@@ -75,6 +79,7 @@ recurrence_of rows ports (Tandem stages) = tandem-recurrence rows ports stages
 recurrence_of rows ports (ForkJoin branches) = fork_join-recurrence rows ports branches
 recurrence_of rows ports (Split route) = split-recurrence rows ports route
 
+-- the laws of its ranges
 pub limits_of : (kind : Kind) → LimitLaws (behaviour_of kind)
 limits_of Source = source-limits
 limits_of (Server demand) = server-limits demand

@@ -1,10 +1,11 @@
--- What the ranges of a kind give.
+-- What is to be shown of the ranges of a kind: one value a kind, in the kind's folder.
 use Rattle.std.proofs.Common.{◌≡◌, ℕ, ◌<◌, ◌≤◌, true, length}
 use Rattle.mq_core.specs.Behaviour.{Behaviour}
 use Rattle.mq_core.specs.Theorems.{IsReadFor}
 use Rattle.mq_core.specs.declared.model.Network.{Network}
 use Rattle.mq_core.specs.declared.model.Rows.{Rows}
 
+-- The laws of the numbers of a kind, its ports and what its jobs ask for.
 pub record LimitLaws (b : Behaviour) : Type 0 where
   -- at most 8 outputs
   pub outputs : (columns : ℕ) → b.sound columns ≡ true → b.outputs ≤ 8

@@ -1,3 +1,4 @@
+-- That a plan's nodes are in their limits, and that its order ranks them.
 use Rattle.std.proofs.Common.{Bool, List, None, Option, Some, [], add-zero, append_assoc, arith, cond, false, length, refl, subst, suc, sym, take, true, zero, zero-add, ℕ, ◌++◌, ◌+◌, ◌<◌, ◌∙◌, ◌∷◌, ◌≡◌}
 use Rattle.std.proofs.lemmas.Bool.{and_parts}
 use Rattle.std.proofs.lemmas.Bool.Decides.{nat_tests}

@@ -1,4 +1,4 @@
--- What is to be shown of the recurrence of a kind.
+-- What is to be shown of the recurrence of a kind that lets each visit out once: one value a kind, in the kind's folder.
 use Rattle.mq_core.specs.Came.{Came, came_of}
 use Rattle.std.proofs.Common.{◌≡◌, ℕ, ◌+◌, ◌*◌, ◌^◌, ◌≤◌, true, List, Option, map, length}
 use Rattle.std.specs.List.{AllByRecursion as Each}
@@ -18,6 +18,7 @@ use Rattle.mq_core.proofs.Counting.ColumnNumbers.{Numbered, EachLeavesBy}
 use Rattle.mq_core.proofs.Counting.Stays.{FatesStay}
 use Rattle.mq_core.proofs.Events.Exits.{one_if_there}
 
+-- The laws of a kind whose columns are one value a visit.
 pub record RecurrenceLaws (rows : Rows) (ports : ℕ) (b : Behaviour) : Type 0 where
   -- the flow has one emission a visit, by position
   pub numbered : (visits : List Visit) → Numbered 0 (b.flow rows ports visits) visits

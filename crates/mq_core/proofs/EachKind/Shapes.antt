@@ -1,3 +1,4 @@
+-- That the nodes of a plan are in their ranges, and have as many ports as they may.
 use Rattle.std.proofs.Common.{None, Option, Some, length, refl, true, ℕ, ◌≡◌}
 use Rattle.std.proofs.lemmas.Bool.{and_parts}
 use Rattle.std.specs.List.{list_all}

@@ -1,3 +1,4 @@
+-- That a node holds the visits that have not left.
 use Rattle.std.proofs.Common.{List, None, Option, Some, [], length, ap, refl, ℕ, ◌∙◌, ◌++◌, ◌<◌, ◌∷◌, ◌≡◌}
 use Rattle.std.specs.Prelude.{slice_get}
 use Rattle.mq_core.specs.Event.{Event, earliest}

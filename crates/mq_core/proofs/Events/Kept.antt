@@ -1,3 +1,4 @@
+-- That what each event keeps of a node holds after any number of steps.
 use Rattle.std.proofs.Common.{Bool, IfSome, List, None, Option, Some, [], ap, arith, eq-eqb, eqb, eqb-true, false, max, refl, subst, suc, sym, true, zero, ℕ, ◌++◌, ◌-◌, ◌<◌, ◌∙◌, ◌∷◌, ◌≡◌, ◌≤◌}
 use Rattle.std.proofs.lemmas.List.{append-nil}
 use Rattle.std.specs.Prelude.{filter}

@@ -1,3 +1,4 @@
+-- That a run is that of its network.
 use Rattle.std.proofs.Common.{◌≡◌, ℕ, List, ap, slice_get}
 use Rattle.std.specs.List.{flat_map}
 use Rattle.mq_core.specs.Local.{Local}
