@@ -7,7 +7,7 @@ use Rattle.std.proofs.lemmas.Bool.{and_parts, and_from, leb-true, ltb-true}
 use Rattle.std.proofs.lemmas.Grind.{common_steps}
 use Rattle.std.proofs.lemmas.List.Folds.{list_all-append}
 use Rattle.mq_base.specs.Text.{is_blank, lines_of, words_of}
-use Rattle.mq_base.proofs.LinesLemmas.{lines_of-line, words_of-last, words_of-word}
+use Rattle.mq_base.proofs.lemmas.Lines.{lines_of-line, words_of-last, words_of-word}
 use Rattle.mq_model.specs.Form.{Word}
 use Rattle.mq_model.specs.Model.{is_allowed, model_fault}
 use Rattle.mq_model.specs.Printed.{head_words, line_text, printed, said_words}

@@ -4,7 +4,7 @@ use Rattle.std.specs.Prelude.{slice_get}
 use Rattle.std.proofs.lemmas.List.{append-nil, map-append}
 use Rattle.std.proofs.lemmas.List.Elements.{All-push}
 use Rattle.std.proofs.lemmas.Option.{get_or_from_slice_get}
-use Rattle.mq_base.proofs.Lists.{drop_at}
+use Rattle.mq_base.proofs.lemmas.Lists.{drop_at}
 use Rattle.mq_chain.proofs.Folding.{step}
 use Rattle.mq_maxplus.specs.declared.affine.Affine.{Affine}
 use Rattle.mq_maxplus.specs.declared.mp.Mp.{Mp}

@@ -5,7 +5,7 @@ use Rattle.std.proofs.lemmas.List.Sums.{sum_by-cons}
 use Rattle.std.proofs.lemmas.Bool.Decides.{nat_tests}
 use Rattle.std.proofs.lemmas.List.{append-nil, drop_all}
 use Rattle.std.proofs.lemmas.Bool.{cases_lt}
-use Rattle.mq_base.proofs.Lists.{drop_at, get-last, get-push}
+use Rattle.mq_base.proofs.lemmas.Lists.{drop_at, get-last, get-push}
 use Rattle.mq_core.specs.Columns.{picked}
 use Rattle.mq_core.specs.Kinds.Split.{output_at}
 use Rattle.mq_core.specs.declared.model.Route.{Route}
