@@ -4,4 +4,5 @@ pub mod Each
 pub mod Gathers
 pub mod Lines
 pub mod Lists
+pub mod Tests
 pub mod Zips
