@@ -21,9 +21,6 @@ use Rattle.mq_pass.specs.Passing.{IsLeft, IsApplied, AreApplied, if_left, left_a
 use Rattle.mq_pass.specs.declared.block.Passed.{Passed}
 use Rattle.mq_pass.specs.declared.left.Left.{Left}
 
-block-of-left : Left → ℕ
-block-of-left q = q.block
-
 number-next : (done done' : List Left) (rest all : List ℕ) (q : Left) (o : Option (List ℕ)) → done' ≡ done ++ if_left q o [] → map (λ (q : Left). q.block) done ++ if_left q.block o rest ≡ all → map (λ (q : Left). q.block) done' ++ rest ≡ all
 number-next done done' rest all q None is so_far =
     ap (λ (l : List Left). map (λ (q : Left). q.block) l ++ rest) is ∙ (ap (λ (l : List ℕ). l ++ rest) (map-append (λ (q : Left). q.block) done (q ∷ [])) ∙ (append_assoc (map (λ (q : Left). q.block) done) (q.block ∷ []) rest ∙ so_far))
