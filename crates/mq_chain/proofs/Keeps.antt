@@ -148,10 +148,6 @@ module _ (deal : Deal) where
         posted = posted-join deal.blocks s.words s.views id other v w both (hand 0 [] [] []) k.posted at apart there refl refl refl refl refl;
       }
 
-  -- what is stored in words of one's own block
-  pub put-there : (s : State (Unit {0}) Hand) (id : ℕ) (v : Hand) → Kept deal s → get_elem? s.views id ≡ some v → (a x : ℕ) → Contains v.puts (a, x) → get_or s.words a 0 ≡ x
-  put-there s id v k at a x c = (k.posted.own id v at a x c).1
-
   -- the view with the whole right has stored all that stands
   pub all-mine : (s : State (Unit {0}) Hand) (id : ℕ) (v : Hand) → Kept deal s → get_elem? s.views id ≡ some v → v.right ≡ deal.seats → (a : ℕ) → 1 ≤ a → get_or s.words a 0 ≢ 0 → Contains v.puts (a, get_or s.words a 0)
   all-mine s id v k at whole a le there =

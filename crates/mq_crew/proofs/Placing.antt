@@ -56,24 +56,9 @@ module _ {X : Type 0} (count : ℕ) (all : List (ℕ × X)) where
             (λ ne. w.own x q (sym (get_or-set_other slots n x (Some p) None ne) ∙ e));
       }
 
-  pub place-none : (slots : List (Option X)) → length slots ≡ count → ((x : ℕ) → x < count → Contains (numbers all) x) → All (λ p. p.0 < count) all
-      → ((x : ℕ) → get_or slots x None ≡ None) → IsPlacing all slots
-  place-none slots len each within empty = record {
-    len = len;
-    rest = ([], sym (append-nil all));
-    within = within;
-    filled = λ x lt. inl (each x lt);
-    own = λ x p e. absurd (none-some p (sym (empty x) ∙ e));
-  }
-
   -- where nothing is left, each place has an item
   pub place-all : (slots : List (Option X)) → IsPlacing [] slots → (x : ℕ) → x < count → IsSome (get_or slots x None)
   place-all slots w x lt = ⊎_elim (λ (k, less, e). absurd (omega arith)) (λ h. h) (w.filled x lt)
-
-pub nothing-there : {X : Type 0} (n x : ℕ) → get_or {A = Option X} (replicate n None) x None ≡ None
-nothing-there zero x = refl
-nothing-there (suc n) zero = refl
-nothing-there (suc n) (suc x) = nothing-there n x
 
 -- a place that is taken out, and what was taken put behind the items
 pub taken : {X : Type 0} (first slots : List (Option X)) (items : List X) (i : ℕ) (p : X) → length items ≡ i → get_or first i None ≡ Some p

@@ -60,9 +60,6 @@ module _ {X : Type 0} (is_piece : ℕ → X → Type 0) (count : ℕ) where
     -- what is above all draws is at least their number, since they rise
     pub long : (m : ℕ) → All (λ d. d < m) draws → length draws ≤ m
 
-  pub works-none : IsWorking [] []
-  works-none = record { each = refl; pieces = λ k d lt. absurd (omega arith); early = λ k d lt. absurd (omega arith); long = λ m h. omega arith }
-
   pub works-more : (ds : List ℕ) (made : List (ℕ × X)) (n : ℕ) (p : X) → IsWorking ds made → All (λ d. d < n) ds → n < count → is_piece n p → IsWorking (ds ++ n ∷ []) (made ++ (n, p) ∷ [])
   works-more ds made n p w above less is = record {
     each = map-append (λ (q : ℕ × X). q.0) made ((n, p) ∷ []) ∙ ap (λ xs. xs ++ n ∷ []) w.each;

@@ -4,7 +4,7 @@ use Rattle.std.specs.Prelude.{IsTrue, nat_lt, slice_get}
 use Rattle.std.specs.List.{AllByRecursion as Each}
 use Rattle.std.proofs.lemmas.Bool.Decides.{nat_tests}
 use Rattle.std.proofs.lemmas.List.{length-map}
-use Rattle.mq_base.proofs.Lists.{drop_suc}
+use Rattle.mq_base.proofs.lemmas.Lists.{drop_suc}
 use Rattle.mq_core.specs.Columns.{IsSoundLoad, IsStream, column_fates, column_late_from, column_outs, leaving_times, picked, time_of_fate}
 use Rattle.mq_core.specs.Kinds.Split.{routes_from}
 use Rattle.mq_core.specs.Recurrences.{lindley, delayed}

@@ -4,7 +4,8 @@ use Rattle.std.specs.Prelude.{◌==◌, slice_get}
 use Rattle.std.specs.Option.{option_map}
 use Rattle.std.proofs.lemmas.List.{length-map, map-id}
 use Rattle.std.proofs.lemmas.Option.{slice_get-map, slice_get_within}
-use Rattle.mq_base.proofs.Lists.{some_inj}
+use Rattle.mq_base.proofs.lemmas.Lists.{some_inj}
+use Rattle.mq_base.proofs.lemmas.Zips.{zip-map}
 use Rattle.mq_core.specs.ColumnLaws.{FatesAreInTime}
 use Rattle.mq_core.specs.Columns.{IsStream, by_first, column_fates, column_outs, founds_of, leaving_times, pairs_of, picked, sorted, stream_in_order}
 use Rattle.mq_core.specs.Sound.{outputs_in}
@@ -15,7 +16,7 @@ use Rattle.mq_core.specs.declared.model.Kind.TheVariants.{Source, Server, Delay,
 use Rattle.mq_core.specs.declared.model.Rows.{Rows}
 use Rattle.mq_core.specs.declared.model.Stream.{Stream}
 use Rattle.mq_engine.specs.Turns.{AreLeft, AreStreams, IsLeaving, IsTurn, left_by}
-use Rattle.mq_engine.proofs.Lists.{Each-at, Each-get_or, zip-jobs, zip-map, zip-times}
+use Rattle.mq_engine.proofs.Lists.{Each-at, Each-get_or, zip-jobs, zip-times}
 
 -- what leaves by an output has one time a job
 leaving-many : (arrives : List ℕ) (fates : List Fate) → length fates ≡ length arrives → length (leaving_times arrives fates) ≡ length arrives

@@ -7,7 +7,7 @@ use Rattle.std.proofs.lemmas.Bool.{and_parts}
 use Rattle.std.proofs.lemmas.List.Folds.{list_all_at, list_all_more}
 use Rattle.std.proofs.lemmas.Option.{get_or_from_slice_get, slice_get_within}
 use Rattle.std.proofs.lemmas.List.{append-nil}
-use Rattle.mq_base.proofs.Lists.{drop_suc, some_inj}
+use Rattle.mq_base.proofs.lemmas.Lists.{drop_suc, some_inj}
 use Rattle.mq_core.specs.Wiring.{has}
 
 -- those that pass a test, of what is left from a place on
@@ -119,10 +119,6 @@ zip-times ts js us ks a b h = sym (zip-first ts js a) ∙ (ap (map (λ (p : ℕ 
 
 pub zip-jobs : (ts js us ks : List ℕ) → length js ≡ length ts → length ks ≡ length us → zip ts js ≡ zip us ks → js ≡ ks
 zip-jobs ts js us ks a b h = sym (zip-second ts js a) ∙ (ap (map (λ (p : ℕ × ℕ). p.1)) h ∙ zip-second us ks b)
-
-pub zip-map : (ps : List (ℕ × ℕ)) → zip (map (λ (p : ℕ × ℕ). p.0) ps) (map (λ (p : ℕ × ℕ). p.1) ps) ≡ ps
-zip-map [] = refl
-zip-map (p ∷ ps) = ap (λ l. p ∷ l) (zip-map ps)
 
 -- what all pass, each passes
 pub all-get : {X : Type 0} (test : X → Bool) (xs : List X) (k : ℕ) (x : X) → list_all test xs ≡ true → slice_get xs k ≡ Some x → test x ≡ true

@@ -4,7 +4,7 @@ use Rattle.std.specs.Prelude.{IsTrue, nat_le, slice_get}
 use Rattle.std.proofs.lemmas.Bool.{and_parts}
 use Rattle.std.proofs.lemmas.Bool.Decides.{nat_tests}
 use Rattle.std.proofs.lemmas.List.{append-nil, drop_all, length-map}
-use Rattle.mq_base.proofs.Lists.{drop_suc}
+use Rattle.mq_base.proofs.lemmas.Lists.{drop_suc}
 use Rattle.mq_core.specs.ColumnLaws.{FatesAreInTime}
 use Rattle.mq_core.specs.Columns.{column_fates, leaving_times, picked}
 use Rattle.mq_core.specs.Kinds.Loss.{out_of_fate}

@@ -6,7 +6,7 @@ use Rattle.std.proofs.lemmas.Bool.{cases_lt}
 use Rattle.std.proofs.lemmas.List.{length-map}
 use Rattle.std.specs.Prelude.{IsTrue, slice_get}
 use Rattle.std.proofs.lemmas.Option.{slice_get_within}
-use Rattle.mq_base.proofs.Lists.{some_inj}
+use Rattle.mq_base.proofs.lemmas.Lists.{some_inj}
 use Rattle.mq_core.specs.Columns.{IsSoundLoad, founds_of}
 use Rattle.mq_core.specs.Recurrences.{lindley}
 use Rattle.mq_core.specs.Ranges.{is_sound_demand}

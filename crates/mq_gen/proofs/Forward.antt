@@ -6,12 +6,13 @@ use Rattle.std.proofs.lemmas.Bool.{and_from, and_parts, eqb-true, ltb-true}
 use Rattle.std.proofs.lemmas.Bool.Decides.{nat_tests}
 use Rattle.std.proofs.lemmas.List.Folds.{list_all-append}
 use Rattle.std.proofs.lemmas.List.Sums.{AllPass-from_list_all}
+use Rattle.mq_base.proofs.lemmas.Tests.{list_all_wider}
 use Rattle.mq_core.specs.Wiring.{has, ranking}
 use Rattle.mq_core.specs.declared.model.Input.{Input}
 use Rattle.mq_core.specs.declared.model.Node.{Node}
 use Rattle.mq_graph.specs.Cycle.{CyclesAreLeft, HasCycle, ReadThrough, Reads}
 use Rattle.mq_graph.specs.Rank.{AreWired, HasAll, left_node}
-use Rattle.mq_gen.proofs.Growing.{below_wider, list_all_wider}
+use Rattle.mq_gen.proofs.Growing.{below_wider}
 
 -- all that a node reads stands below this number
 abbrev pub reads_below : ℕ → Node → Bool

@@ -4,6 +4,7 @@ use Rattle.std.specs.Prelude.{◌&&◌, ◌==◌, nat_lt, slice_get}
 use Rattle.std.specs.List.{list_all, list_any}
 use Rattle.std.proofs.lemmas.Bool.{and_from, and_left, and_parts, eqb-true, lt-ltb, ltb-true, ne_eqb, not-true, not_from_false, or_cases, or_from, or_left, or_right}
 use Rattle.std.proofs.lemmas.List.Folds.{list_any-append}
+use Rattle.mq_base.proofs.lemmas.Tests.{list_all_wider}
 use Rattle.mq_core.specs.Sound.{are_distinct, is_output, is_sound_kind, is_sound_node, mentions_from, same_input}
 use Rattle.mq_core.specs.Ranges.{is_sound_demand, is_within}
 use Rattle.mq_core.specs.Kinds.Tandem.{is_sound_stage}
@@ -15,10 +16,6 @@ use Rattle.mq_core.specs.declared.model.Kind.TheVariants.{Source, Server, Delay,
 use Rattle.mq_core.specs.declared.model.Node.{Node}
 use Rattle.mq_core.specs.declared.model.Route.TheVariants.{Modulo, Turn, Cut}
 use Rattle.mq_core.specs.declared.model.Stage.{Stage}
-
-pub list_all_wider : {X : Type 0} (p q : X → Bool) (xs : List X) → ((x : X) → p x ≡ true → q x ≡ true) → list_all p xs ≡ true → list_all q xs ≡ true
-list_all_wider p q [] wider h = refl
-list_all_wider p q (x ∷ xs) wider h = let both = and_parts _ _ h in and_from _ _ (wider x both.0) (list_all_wider p q xs wider both.1)
 
 pub below_wider : (n m : ℕ) → n ≤ m → (k : ℕ) → nat_lt k n ≡ true → nat_lt k m ≡ true
 below_wider n m wide k h = let low : k < n = ltb-true k n h in lt-ltb k m (omega arith)

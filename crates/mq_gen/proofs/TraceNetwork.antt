@@ -5,8 +5,8 @@ use Rattle.std.specs.Str.{bytes_eq}
 use Rattle.std.proofs.lemmas.Bool.{and_from, and_parts, cases_Bool}
 use Rattle.std.proofs.lemmas.Grind.{common_steps}
 use Rattle.std.proofs.lemmas.List.Folds.{list_all-append}
+use Rattle.mq_base.proofs.lemmas.Tests.{all_at}
 use Rattle.mq_core.specs.declared.model.Node.{Node}
-use Rattle.mq_model.proofs.Demands.{all_at}
 use Rattle.mq_trace.specs.Header.{is_among}
 use Rattle.mq_model.specs.Said.{added, columns_after}
 use Rattle.mq_gen.specs.Made.{Sections, column_a, column_b, draw, generator_of, made_network, mentions_of, next_section, no_sections, sections_after, sections_of, source_node}

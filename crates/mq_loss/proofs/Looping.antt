@@ -5,7 +5,7 @@ use Rattle.std.specs.Prelude.{reverse, slice_get}
 use Rattle.std.proofs.lemmas.Option.{slice_get_within, get_or_from_slice_get}
 use Rattle.std.proofs.lemmas.List.{append-nil, drop_all, reverse-append}
 use Rattle.std.proofs.lemmas.List.Elements.{All-get_or}
-use Rattle.mq_base.proofs.Lists.{drop_at}
+use Rattle.mq_base.proofs.lemmas.Lists.{drop_at}
 use Rattle.mq_core.specs.Columns.{IsSoundLoad}
 use Rattle.mq_core.specs.Recurrences.{is_admitted}
 use Rattle.mq_loss.specs.Rounds.{all_admitted, departure_behind, departures_from, left_behind, round_from}
@@ -61,34 +61,6 @@ item-at times demands i arrive demand load t d =
       early = subst (λ x. x ≤ 2 ^ 60) (get_or_from_slice_get times i arrive 0 t) (All-get_or (λ x. x ≤ 2 ^ 60) times i 0 a load.early);
       small = subst (λ x. x ≤ 2 ^ 36) (get_or_from_slice_get demands i demand 0 d) (All-get_or (λ x. x ≤ 2 ^ 36) demands i 0 b load.small);
     }
-
--- a place that the round left as it was
-pub unchanged-next : (outcome : List Bool) (i : ℕ) → i < length outcome → get_or outcome i true ≡ true → unchanged_in outcome ≡ i + unchanged_in (drop i outcome) → unchanged_in outcome ≡ (i + 1) + unchanged_in (drop (i + 1) outcome)
-unchanged-next outcome i l e h =
-    let next : suc i ≡ i + 1 = omega arith in
-    let here : drop i outcome ≡ true ∷ drop (i + 1) outcome = drop-cons outcome i true l ∙ (ap (λ b. b ∷ drop (suc i) outcome) e ∙ ap (λ n. true ∷ drop n outcome) next) in
-    let more : unchanged_in (drop i outcome) ≡ suc (unchanged_in (drop (i + 1) outcome)) = ap unchanged_in here in
-    omega arith
-
-pub unchanged-here : (outcome : List Bool) (i : ℕ) → i < length outcome → get_or outcome i true ≡ false → unchanged_in outcome ≡ i + unchanged_in (drop i outcome) → i ≡ unchanged_in outcome
-unchanged-here outcome i l e h =
-    let here : drop i outcome ≡ false ∷ drop (suc i) outcome = drop-cons outcome i true l ∙ ap (λ b. b ∷ drop (suc i) outcome) e in
-    let more : unchanged_in (drop i outcome) ≡ 0 = ap unchanged_in here in
-    omega arith
-
-pub unchanged-all : (outcome : List Bool) (i : ℕ) → length outcome ≤ i → unchanged_in outcome ≡ i + unchanged_in (drop i outcome) → unchanged_in outcome ≡ i
-unchanged-all outcome i l h =
-    let none : unchanged_in (drop i outcome) ≡ 0 = ap unchanged_in (drop_all i outcome l) in
-    omega arith
-
--- one place more is kept
-pub keep-next : (first done done' outcome : List Bool) (at : ℕ) (x : Bool) → slice_get outcome at ≡ Some x → done' ≡ done ++ x ∷ [] → done ≡ first ++ take at outcome → done' ≡ first ++ take (at + 1) outcome
-keep-next first done done' outcome at x t p h =
-    let within = slice_get_within outcome at x t in
-    let next : suc at ≡ at + 1 = omega arith in
-    let more : take (at + 1) outcome ≡ take at outcome ++ x ∷ [] =
-    ap (λ n. take n outcome) (sym next) ∙ (take-suc outcome at x within ∙ ap (λ y. take at outcome ++ y ∷ []) (get_or_from_slice_get outcome at x x t)) in
-    p ∙ (ap (λ xs. xs ++ x ∷ []) h ∙ (append_assoc first (take at outcome) (x ∷ []) ∙ ap (λ xs. first ++ xs) (sym more)))
 
 -- what departs behind these, with one arrival more
 pub left-next : (departs departs' : List ℕ) (admit : Bool) (arrive demand : ℕ) → departs' ≡ departs ++ departures_from (reverse departs) (arrive ∷ []) (demand ∷ []) (admit ∷ []) →

@@ -40,17 +40,6 @@ guess-length : (places : ℕ) (times demands : List ℕ) (rounds : ℕ) → leng
 guess-length places times demands zero d = length-replicate (length times) true
 guess-length places times demands (suc rounds) d = round-length places [] times demands (guess_after places times demands rounds) d (guess-length places times demands rounds d)
 
-pub repeats-first : (places : ℕ) (times demands : List ℕ) → IsRepeating places times demands 0 (all_admitted (length times)) false
-repeats-first places times demands =
-    record {
-      reached = refl;
-      right = refl;
-      number = length-replicate (length times) true;
-      few = omega arith;
-      going = λ e. record { few = omega arith; changed = λ round l. absurd (omega arith) };
-      ended = λ e. absurd (cc);
-    }
-
 verdict-length : (places : ℕ) (left : List ℕ) (arrive demand : ℕ) (arrives demands : List ℕ) (b : Bool) → length (loss_fates places (left_behind b left arrive demand) arrives demands) ≡ length arrives →
     length (if b then (Departs (departure_behind left arrive demand) ∷ loss_fates places (departure_behind left arrive demand ∷ left) arrives demands) else (Lost ∷ loss_fates places left arrives demands)) ≡ suc (length arrives)
 verdict-length places left arrive demand arrives demands true h = omega arith

@@ -39,11 +39,6 @@ demand_in_range columns (Column name) sound among = number_below columns name (a
 demand_in_range columns (Fixed n) sound among = sound
 
 -- Of a sound network.
-pub all_at : {X : Type 0} (p : X → Bool) (xs : List X) (k : ℕ) (d : X) → list_all p xs ≡ true → k < length xs → p (get_or xs k d) ≡ true
-all_at p [] k d h within = absurd (omega arith)
-all_at p (x ∷ xs) zero d h within = (and_parts _ _ h).0
-all_at p (x ∷ xs) (suc k) d h within = all_at p xs k d (and_parts _ _ h).1 (omega arith)
-
 pub demand_mentions : (columns : List Word) (d : Demand) → mentions_of_demand (demand_by columns d) ≡ map (name_at columns) (columns_of_demand d)
 demand_mentions columns (demand.Column column) = refl
 demand_mentions columns (demand.Fixed n) = refl

@@ -1,7 +1,8 @@
 -- What holds of every form.
 use Rattle.std.proofs.Common.{◌≡◌, sym, ap, refl, ◌<◌, List, [], ◌∷◌, ◌++◌, length, Bool, true, false, Result, Ok, Err, arith, inl, inr, append_assoc}
+use Rattle.std.specs.Bool.{MatchBool}
 use Rattle.std.proofs.lemmas.Bool.{cases_Bool}
-use Rattle.mq_model.specs.Form.{◌>>=◌, Begins, Form, IsFirstFault, Word, stop, word, maybe, read, whole, IsLive}
+use Rattle.mq_model.specs.Form.{◌>>=◌, Begins, Form, IsFirstFault, Word, stop, word, maybe, read, whole}
 
 -- reading goes on behind the first of two forms
 abbrev pub go_on : {A B : Type 0} → Result (A × List Word) (List Word) → (A → Form B) → Result (B × List Word) (List Word)
@@ -15,6 +16,12 @@ read_then (word p f) more [] = refl
 read_then (word p f) more (w ∷ ws) = elim (p w) as (λ b. elim b [ true ↦ read (f w >>= more) ws | false ↦ Err (w ∷ ws) ] ≡ go_on (elim b [ true ↦ read (f w) ws | false ↦ Err (w ∷ ws) ]) more) [ true ↦ read_then (f w) more ws | false ↦ refl ]
 read_then (maybe p f g) more [] = read_then g more []
 read_then (maybe p f g) more (w ∷ ws) = elim (p w) as (λ b. elim b [ true ↦ read (f w >>= more) ws | false ↦ read (g >>= more) (w ∷ ws) ] ≡ go_on (elim b [ true ↦ read (f w) ws | false ↦ read g (w ∷ ws) ]) more) [ true ↦ read_then (f w) more ws | false ↦ read_then g more (w ∷ ws) ]
+
+-- Every word that a form can go on with can be followed by words to its end; and where it must, so can the form itself begin.
+unfoldable pub IsLive : {A : Type 0} → Bool → Form A → Type 0
+IsLive must (stop a) = Unit {0}
+IsLive must (word p f) = MatchBool must ((w : Word) × (p w ≡ true)) (Unit {0}) × ((w : Word) → p w ≡ true → IsLive true (f w))
+IsLive must (maybe p f g) = MatchBool must ((w : Word) × (p w ≡ true)) (Unit {0}) × ((w : Word) → p w ≡ true → IsLive true (f w)) × IsLive false g
 
 -- a form that can begin
 pub can_begin : {A : Type 0} (f : Form A) → IsLive true f → Begins f []

@@ -150,11 +150,6 @@ declaring_here saids lines at n said less beside is number =
     let second : drop at lines ≡ n ∷ drop (at + 1) lines = rw (add-one, number) (drop-cons lines at 0 (omega arith)) in
     rw (first, second) refl
 
-pub line_here : (saids : List Said) (lines : List ℕ) (at n left : ℕ) (said : Said) → at < length saids → length lines ≡ length saids → said ≡ get_or saids at said → n ≡ get_or lines at 0
-    → nat_lt 0 (length (declared said)) ≡ true → left ≡ 0 → get_or (declaring (drop at lines) (drop at saids)) left 0 ≡ n
-line_here saids lines at n left (Bound b) less beside is number node none = absurd (cc)
-line_here saids lines at n left (Node name kind reads) less beside is number node none = rw (declaring_here saids lines at n (Node name kind reads) less beside is number, none) refl
-
 pub line_later : (saids : List Said) (lines : List ℕ) (at n left : ℕ) (said : Said) → at < length saids → length lines ≡ length saids → said ≡ get_or saids at said → n ≡ get_or lines at 0
     → nat_lt 0 (length (declared said)) ≡ true → left ≢ 0 → get_or (declaring (drop at lines) (drop at saids)) left 0 ≡ get_or (declaring (drop (at + 1) lines) (drop (at + 1) saids)) (left - 1) 0
 line_later saids lines at n zero said less beside is number node some = absurd (some refl)
@@ -167,12 +162,3 @@ pub line_of_none : (saids : List Said) (lines : List ℕ) (at n left : ℕ) (sai
     → nat_lt 0 (length (declared said)) ≡ false → get_or (declaring (drop at lines) (drop at saids)) left 0 ≡ get_or (declaring (drop (at + 1) lines) (drop (at + 1) saids)) left 0
 line_of_none saids lines at n left (Bound b) less beside is number none = rw (declaring_here saids lines at n (Bound b) less beside is number) refl
 line_of_none saids lines at n left (Node name kind reads) less beside is number none = absurd (cc)
-
-declaring_none : (lines : List ℕ) → declaring lines [] ≡ []
-declaring_none [] = refl
-declaring_none (n ∷ lines) = refl
-
-pub line_past : (saids : List Said) (lines : List ℕ) (at left : ℕ) → length saids ≤ at → get_or (declaring (drop at lines) (drop at saids)) left 0 ≡ 0
-line_past saids lines at left h =
-    let none : drop at saids ≡ [] = grind (arith, common_steps, h) in
-    rw (none, declaring_none (drop at lines)) refl

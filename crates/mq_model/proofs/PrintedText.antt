@@ -7,14 +7,14 @@ use Rattle.std.proofs.lemmas.Bool.{and_parts, and_from, leb-true, ltb-true}
 use Rattle.std.proofs.lemmas.Grind.{common_steps}
 use Rattle.std.proofs.lemmas.List.Folds.{list_all-append}
 use Rattle.mq_base.specs.Text.{is_blank, lines_of, words_of}
-use Rattle.mq_base.proofs.LinesLemmas.{lines_of-line, words_of-last, words_of-word}
+use Rattle.mq_base.proofs.lemmas.Lines.{lines_of-line, words_of-last, words_of-word}
+use Rattle.mq_base.proofs.lemmas.Tests.{all_at, list_all_wider}
 use Rattle.mq_model.specs.Form.{Word}
 use Rattle.mq_model.specs.Model.{is_allowed, model_fault}
 use Rattle.mq_model.specs.Printed.{head_words, line_text, printed, said_words}
 use Rattle.mq_model.specs.declared.said.Said.{Said}
 use Rattle.mq_model.proofs.PrintedLines.{line_again}
-use Rattle.mq_model.proofs.PrintedWords.{is_solid, is_visible, all_through, said_few, said_solid}
-use Rattle.mq_model.proofs.Demands.{all_at}
+use Rattle.mq_model.proofs.PrintedWords.{is_solid, is_visible, said_few, said_solid}
 use Rattle.mq_model.proofs.PrintedNetwork.{AreInRange, said_in_range}
 use Rattle.mq_model.proofs.TextBack.{AreSaid}
 use Rattle.mq_graph.specs.Rank.{left_node}
@@ -59,7 +59,7 @@ words_again (w ∷ v ∷ ws) h =
     words_of-word w (join_with_byte 32 (v ∷ ws)) 32 (no_blank w both.0) (some_byte w both.0) refl ∙ ap (λ more. w ∷ more) (words_again (v ∷ ws) both.1)
 
 solid_plain : (w : Word) → is_solid w ≡ true → list_all is_plain w ≡ true
-solid_plain w h = all_through is_visible is_plain w visible_plain (and_parts _ _ h).1
+solid_plain w h = list_all_wider is_visible is_plain w visible_plain (and_parts _ _ h).1
 
 joined_plain : (ws : List Word) → list_all is_solid ws ≡ true → list_all is_plain (join_with_byte 32 ws) ≡ true
 joined_plain [] h = refl
@@ -96,7 +96,7 @@ all_said [] h = tt
 all_said (said ∷ saids) h =
     let solid = said_solid said h.0 h.1 in (
       record {
-        allowed = all_through is_plain is_allowed (join_with_byte 32 (said_words said)) plain_allowed (joined_plain (said_words said) solid);
+        allowed = list_all_wider is_plain is_allowed (join_with_byte 32 (said_words said)) plain_allowed (joined_plain (said_words said) solid);
         says = rw (words_again (said_words said) solid) (line_again said h.0 h.1);
       },
       all_said saids h.2,

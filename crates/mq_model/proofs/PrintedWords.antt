@@ -7,6 +7,7 @@ use Rattle.std.proofs.lemmas.Bool.{cases_Bool, and_parts, and_from, leb-true, le
 use Rattle.std.proofs.lemmas.Fmt.{decimal_nonempty, length-decimal-le}
 use Rattle.std.proofs.lemmas.Grind.{common_steps}
 use Rattle.std.proofs.lemmas.List.Folds.{list_all-append}
+use Rattle.mq_base.proofs.lemmas.Tests.{list_all_wider}
 use Rattle.mq_core.specs.Names.{is_name, is_name_byte}
 use Rattle.mq_core.specs.Ranges.{is_within}
 use Rattle.mq_model.specs.Form.{Word}
@@ -40,10 +41,6 @@ name_byte_visible b h = grind (arith, common_steps, h)
 digit_visible : (b : ℕ) → is_ascii_digit b ≡ true → is_visible b ≡ true
 digit_visible b h = grind (arith, common_steps, h)
 
-pub all_through : {X : Type 0} (p q : X → Bool) (xs : List X) → ((x : X) → p x ≡ true → q x ≡ true) → list_all p xs ≡ true → list_all q xs ≡ true
-all_through p q [] h all = refl
-all_through p q (x ∷ xs) h all = let both = and_parts _ _ all in and_from _ _ (h x both.0) (all_through p q xs h both.1)
-
 record IsShort (most : ℕ) (w : Word) : Type 0 where
   some : 0 < length w
   short : length w ≤ most
@@ -57,7 +54,7 @@ name_short (b ∷ more) h =
     let bytes = and_parts _ _ count.0 in
     let few : length more < 32 = ltb-true _ _ count.1 in
     let first : is_visible b ≡ true = name_byte_visible b (letter_is b bytes.0) in
-    record { some = omega arith; short = omega arith; visible = and_from _ _ first (all_through is_name_byte is_visible more name_byte_visible bytes.1) }
+    record { some = omega arith; short = omega arith; visible = and_from _ _ first (list_all_wider is_name_byte is_visible more name_byte_visible bytes.1) }
   where
     letter_is : (b : ℕ) → is_ascii_lowercase b ≡ true → is_name_byte b ≡ true
     letter_is b h = rw h refl
@@ -68,7 +65,7 @@ decimal_short n limit k h small some fits =
     let parts = and_parts _ _ again.0 in
     let digits = and_parts _ _ parts.0 in
     let wide : n < 2 ^ 64 = omega arith in
-    record { some = decimal_nonempty n wide; short = length-decimal-le k n some fits wide; visible = all_through is_ascii_digit is_visible (decimal n) digit_visible digits.1 }
+    record { some = decimal_nonempty n wide; short = length-decimal-le k n some fits wide; visible = list_all_wider is_ascii_digit is_visible (decimal n) digit_visible digits.1 }
 
 solid : (most : ℕ) (w : Word) → most ≤ 34 → IsShort most w → is_solid w ≡ true
 solid most w h s =

@@ -189,17 +189,6 @@ record IsSoundText (saids : List Said) : Type 0 where
 sound_parts : (ls : List (List ℕ)) → lines_fault [] ls ≡ None → inputs_fault (saids_of ls) [] (reads_of_text ls) ≡ None → list_any is_source (saids_of ls) ≡ true → IsSoundText (saids_of ls)
 sound_parts ls lines inputs source = record { sound = told_are_sound ls lines; few = told_are_few ls lines; inputs = told_are_inputs ls inputs; source = source }
 
-sound_text : (ls : List (List ℕ)) → text_fault ls ≡ None → IsSoundText (saids_of ls)
-sound_text ls none =
-    let lines = or_none (lines_fault [] ls) _ none in
-    let inputs = or_none (inputs_fault (saids_of ls) [] (reads_of_text ls)) _ lines.1 in
-    let sources = or_none (source_fault (saids_of ls)) (cycle_fault ls) inputs.1 in
-    sound_parts ls lines.0 inputs.0 (some_source (list_any is_source (saids_of ls)) sources.0)
-  where
-    some_source : (b : Bool) → cond b None (Some NoSource) ≡ None → b ≡ true
-    some_source true h = refl
-    some_source false h = absurd (cc)
-
 network_sound : (saids : List Said) → IsSoundText saids → is_sound (network_of saids) ≡ true
 network_sound saids text =
     let names : List Word = names_of saids in
@@ -223,12 +212,6 @@ network_sound saids text =
     let mentions : mentions_from 0 (length columns) (flat_map (λ (node : Node). columns_of_kind node.kind) (nodes_of saids)) ≡ true =
     rw (mentions_are names columns saids) (mentions_in_order [] (flat_map mentioned saids) columns refl) in
     and_from _ _ (and_from _ _ (and_from _ _ (and_from _ _ (and_from _ _ (and_from _ _ (and_from _ _ (and_from _ _ (and_from _ _ within few_columns) bound) source) distinct) column_names) columns_distinct) nodes) once) mentions
-
--- A text without a fault declares a network in its ranges and limits.
-pub fault_free_is_sound : (text : List ℕ) → model_fault text ≡ None → IsTrue (is_sound (network_in text))
-fault_free_is_sound text none =
-    let short = cond_none (nat_lt 65536 (length text)) TooLong (text_fault (lines_of (without_mark text))) none in
-    network_sound (saids_of (lines_of (without_mark text))) (sound_text (lines_of (without_mark text)) short.1)
 
 -- the same before the nodes are ranked
 pub unranked_is_sound : (ls : List (List ℕ)) → lines_fault [] ls ≡ None → inputs_fault (saids_of ls) [] (reads_of_text ls) ≡ None → list_any is_source (saids_of ls) ≡ true → IsTrue (is_sound (network_of (saids_of ls)))

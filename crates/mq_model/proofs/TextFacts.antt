@@ -2,7 +2,7 @@
 use Rattle.std.proofs.Common.{◌≡◌, ◌∙◌, sym, refl, ℕ, ◌+◌, ◌<◌, ◌≤◌, List, [], ◌∷◌, ◌++◌, length, drop, true, false, Some, None, Bor, arith, append_assoc, append-nil, length-append}
 use Rattle.std.specs.List.{slice_range}
 use Rattle.std.proofs.lemmas.Grind.{common_steps}
-use Rattle.mq_base.specs.Text.{lines_of, words_of}
+use Rattle.mq_base.specs.Text.{lines_of, words_of, texts}
 use Rattle.mq_model.specs.Form.{Word}
 use Rattle.mq_model.specs.Front.{IsFront}
 use Rattle.mq_model.specs.Model.{line_fault, lines_fault}
@@ -10,7 +10,6 @@ use Rattle.mq_model.specs.declared.fault.ModelFault.{ModelFault}
 use Rattle.mq_model.specs.declared.fault.ModelFault.TheVariants.{BadHead}
 use Rattle.mq_model.specs.declared.front.Front.{Front}
 use Rattle.mq_model.proofs.FrontFacts.{has_head_is, head_is_none}
-use Rattle.mq_model.specs.Reading.{texts}
 
 pub all_words : (line : List ℕ) → words_of line ≡ words_of (slice_range line 0 (length line))
 all_words line = let same : slice_range line 0 (length line) ≡ line = grind (arith, common_steps) in rw same refl
@@ -31,9 +30,6 @@ pub record Lined (text : List ℕ) (from number : ℕ) (kept : Front) : Type 0 w
   pub front : IsFront done kept
   pub within : from ≤ length text
   pub short : length done ≤ from
-
-pub lined_none : (text : List ℕ) (front : Front) → IsFront [] front → Lined text 0 1 front
-lined_none text front is = record { done = []; all = refl; fault = refl; count = refl; front = is; within = omega arith; short = omega arith }
 
 step : (done ls : List (List ℕ)) (l : List ℕ) → line_fault done l ≡ None → lines_fault done (l ∷ ls) ≡ lines_fault (done ++ l ∷ []) ls
 unfolding lines_fault

@@ -1,6 +1,5 @@
 -- What a line may say, word by word.
 use Rattle.std.specs.Prelude.{◌≡◌, ◌∷◌, ◌++◌, [], ℕ, zero, suc, List, Bool, true, false, Result, Ok, Err}
-use Rattle.std.specs.Bool.{MatchBool}
 
 abbrev pub Word : Type 0
 Word = List ℕ
@@ -40,12 +39,6 @@ one p value = word p (λ w. stop (value w))
 unfoldable pub up_to : {A : Type 0} → ℕ → (Word → Bool) → (Word → A) → Form (List A)
 up_to zero p value = stop []
 up_to (suc n) p value = maybe p (λ w. up_to n p value >>= λ more. stop (value w ∷ more)) (stop [])
-
--- Every word that a form can go on with can be followed by words to its end; and where it must, so can the form itself begin.
-unfoldable pub IsLive : {A : Type 0} → Bool → Form A → Type 0
-IsLive must (stop a) = Unit {0}
-IsLive must (word p f) = MatchBool must ((w : Word) × (p w ≡ true)) (Unit {0}) × ((w : Word) → p w ≡ true → IsLive true (f w))
-IsLive must (maybe p f g) = MatchBool must ((w : Word) × (p w ≡ true)) (Unit {0}) × ((w : Word) → p w ≡ true → IsLive true (f w)) × IsLive false g
 
 -- these words begin a line that a form reads
 abbrev pub Begins : {A : Type 0} → Form A → List Word → Type 0

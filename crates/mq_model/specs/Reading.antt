@@ -1,6 +1,7 @@
 -- How the code's readers of words follow a form.
 use Rattle.std.specs.Prelude.{◌≡◌, ◌+◌, ℕ, List, length, drop, map, Result, Ok, Err}
 use Rattle.std.specs.Borrow.{Bor}
+use Rattle.mq_base.specs.Text.{texts}
 use Rattle.mq_model.specs.Form.{Form, Word}
 use Rattle.mq_model.specs.Lines.{delay_kind, forkjoin_kind, loss_kind, server_kind, split_kind, tandem_kind}
 use Rattle.mq_model.specs.declared.said.SaidKind.{SaidKind}
@@ -10,9 +11,6 @@ use Rattle.mq_model.specs.declared.parts.Stop.{Stop}
 use Rattle.mq_model.specs.declared.parts.Stop.TheVariants as why
 use Rattle.mq_model.specs.declared.line.LineFault.{LineFault}
 use Rattle.mq_model.specs.declared.line.LineFault.TheVariants as fault
-
-abbrev pub texts : List (Bor (List ℕ)) → List Word
-texts words = map (λ w. w.now) words
 
 -- the words from a place on
 abbrev pub words_from : List (Bor (List ℕ)) → ℕ → List Word

@@ -1,12 +1,11 @@
 // What the lines so far say, and one line more.
 ghost use Rattle.std.specs.Prelude.{◌≡◌, ◌≤◌, ◌++◌, IfErr, IfOk, None, Ok, length};
 ghost use Rattle.std.specs.List.{flat_map, list_all};
-ghost use Rattle.mq_base.specs.Text.{words_of};
+ghost use Rattle.mq_base.specs.Text.{words_of, texts};
 ghost use Rattle.mq_model.specs.Form.{read, whole};
 ghost use Rattle.mq_model.specs.Front.{AddsLine, added_fault, grammar_fault, name_fault, with_said};
 ghost use Rattle.mq_model.specs.Lines.{line};
 ghost use Rattle.mq_model.specs.Model.{Tells, begins_bound, begins_comment, is_allowed, is_head};
-ghost use Rattle.mq_model.specs.Reading.{texts};
 ghost use Rattle.mq_model.specs.Said.{added, columns_after, declared, is_among, mentioned, mentions_of_demand, mentions_of_kind, mentions_of_route};
 
 use crate::fault::ModelFault;

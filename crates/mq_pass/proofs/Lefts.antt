@@ -4,7 +4,7 @@ use Rattle.std.specs.Prelude.{slice_get}
 use Rattle.std.proofs.lemmas.List.{append-nil, map-append}
 use Rattle.std.proofs.lemmas.List.Elements.{All-push}
 use Rattle.std.proofs.lemmas.Option.{get_or_from_slice_get}
-use Rattle.mq_base.proofs.Lists.{drop_at}
+use Rattle.mq_base.proofs.lemmas.Lists.{drop_at}
 use Rattle.mq_chain.proofs.Folding.{step}
 use Rattle.mq_maxplus.specs.declared.affine.Affine.{Affine}
 use Rattle.mq_maxplus.specs.declared.mp.Mp.{Mp}
@@ -20,9 +20,6 @@ use Rattle.mq_crew.specs.Crew.{AreAll}
 use Rattle.mq_pass.specs.Passing.{IsLeft, IsApplied, AreApplied, if_left, left_at, left_from, stands_or}
 use Rattle.mq_pass.specs.declared.block.Passed.{Passed}
 use Rattle.mq_pass.specs.declared.left.Left.{Left}
-
-block-of-left : Left → ℕ
-block-of-left q = q.block
 
 number-next : (done done' : List Left) (rest all : List ℕ) (q : Left) (o : Option (List ℕ)) → done' ≡ done ++ if_left q o [] → map (λ (q : Left). q.block) done ++ if_left q.block o rest ≡ all → map (λ (q : Left). q.block) done' ++ rest ≡ all
 number-next done done' rest all q None is so_far =

@@ -46,21 +46,9 @@ module _ (times demands : List ℕ) (block : ℕ) where
   nowhere : {X : Type 0} (x : X) → Contains [] x → ⊥
   nowhere x c = let l = c.1 in absurd (omega arith)
 
-  -- a fresh seat has stored nothing
-  pub own-none : (seat : Seated) → 1 ≤ block → IsFresh seat → IsOwn times demands block seat
-  own-none seat some fresh =
-      let none : (e : ℕ × ℕ) → Contains seat.puts e → ⊥ = λ e c. nowhere e (subst (λ (z : List (ℕ × ℕ)). Contains z e) fresh.1 c) in
-      record {
-        cut = record { some = some; sums = λ b s c. absurd (none _ c); bests = λ b t c. absurd (none _ c) };
-        drawn = λ w x c. absurd (none (w, x) c);
-      }
-
   -- one draw more
   pub own-drawn : (seat drawn : Seated) (n : ℕ) → drawn ≡ seated seat.table seat.right (seat.draws ++ n ∷ []) seat.puts seat.looks → IsOwn times demands block seat → IsOwn times demands block drawn
   own-drawn seat drawn n is own = subst (IsOwn times demands block) (sym is) (record { cut = own.cut; drawn = λ w x c. Contains-append_left seat.draws (n ∷ []) (block_of w) (own.drawn w x c) })
-
-  pub drew-last : (seat drawn : Seated) (n : ℕ) → drawn ≡ seated seat.table seat.right (seat.draws ++ n ∷ []) seat.puts seat.looks → Contains drawn.draws n
-  drew-last seat drawn n is = subst (λ (z : Seated). Contains z.draws n) (sym is) (Contains-append_right seat.draws (n ∷ []) n (0, omega arith, refl))
 
   -- a number above all draws is that of a block of which nothing was stored
   pub fresh-block : (seat drawn : Seated) (n : ℕ) → drawn ≡ seated seat.table seat.right (seat.draws ++ n ∷ []) seat.puts seat.looks → IsOwn times demands block seat → All (λ d. d < n) seat.draws → HasNoPut drawn.puts n

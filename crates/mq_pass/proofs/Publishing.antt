@@ -48,15 +48,6 @@ put-best puts b s = Contains-append_right (puts ++ (sum_word b, s.add + 1) ∷ [
 pub no-carry : (puts : List (ℕ × ℕ)) (b : ℕ) (s : Affine) → HasNoPut puts b → (x : ℕ) → ¬ Contains (with_summary puts b s) (carry_word b, x)
 no-carry puts b s none x h = ⊎_elim (λ old. none (carry_word b) x old (carry-block b)) (λ new. ⊎_elim (λ e. let w = e.0 in absurd (omega arith)) (λ e. let w = e.0 in absurd (omega arith)) new) (put-cases puts b s (carry_word b) x h)
 
--- the summary acts on a carry that was found
-pub act-at : (s : Affine) (c : Mp) → s.least ≢ Void → (t : ℕ) × (affine_act s c ≡ At t)
-act-at s c some = max-at (mp_plus c (At s.add)) s.least some
-  where
-    max-at : (x y : Mp) → y ≢ Void → (t : ℕ) × (mp_max x y ≡ At t)
-    max-at x Void n = absurd (n refl)
-    max-at Void (At y) n = (y, refl)
-    max-at (At x) (At y) n = (max x y, refl)
-
 pub act-can : (s : Affine) (c : Mp) → s.add ≤ 2 ^ 57 → IsWithin (2 ^ 63) c → CanAct s c
 act-can s Void small early = tt
 act-can s (At x) small early = omega arith

@@ -43,11 +43,6 @@ serve-next times demands all done done' i to c time lt le each act pushed so_far
     ∙ (ap (λ (n : ℕ). done ++ n ∷ lindley n (slice_range times (i + 1) to) (slice_range demands (i + 1) to)) same
     ∙ (ap (λ (xs : List ℕ). done ++ xs) (sym ranges) ∙ so_far)))
 
--- at the end of a range nothing is left
-pub serve-all : (times demands all done : List ℕ) (i to : ℕ) (c : Mp) → to ≤ i → done ++ lindley (value_of c) (slice_range times i to) (slice_range demands i to) ≡ all → done ≡ all
-serve-all times demands all done i to c le so_far =
-    sym (append-nil done) ∙ (ap (λ (xs : List ℕ). done ++ lindley (value_of c) xs (slice_range demands i to)) (sym (range-none times i to le)) ∙ so_far)
-
 -- the carry stays early
 pub serve-early : (times demands : List ℕ) (i bound : ℕ) (c : Mp) (time : ℕ) → IsLateLoad times demands → i < length times → 2 ^ 62 ≤ bound → IsWithin bound c → At time ≡ affine_act (job times demands i) c → time ≤ bound + 2 ^ 36
 serve-early times demands i bound c time load lt le early act =
@@ -58,10 +53,6 @@ serve-early times demands i bound c time load lt le early act =
     value-early : (x : Mp) → IsWithin bound x → max (get_or times i 0) (value_of x) + get_or demands i 0 ≤ bound + 2 ^ 36
     value-early Void h = let t = early-at times demands load i lt in let d = small-at times demands load i lt in omega arith
     value-early (At x) h = let t = early-at times demands load i lt in let d = small-at times demands load i lt in omega arith
-
-pub serve-can : (times demands : List ℕ) (i bound : ℕ) (c : Mp) → IsLateLoad times demands → i < length times → bound + 2 ^ 36 < 2 ^ 64 → IsWithin bound c → CanAct (job times demands i) c
-serve-can times demands i bound Void load lt small early = tt
-serve-can times demands i bound (At x) load lt small early = let d = small-at times demands load i lt in omega arith
 
 -- a block begins before the end
 pub begins : (b block blocks places : ℕ) → b < blocks → blocks * block < places + block → b * block < places

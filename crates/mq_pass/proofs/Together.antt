@@ -2,7 +2,7 @@
 use Rattle.std.proofs.Common.{◌≡◌, ℕ, zero, suc, ◌+◌, ◌-◌, ◌*◌, ◌<◌, ◌≤◌, List, [], ◌∷◌, ◌++◌, length, drop, min, max, sym, ap, ◌∙◌, subst, arith, append_assoc, Option, Some, None, IfSome, get_or}
 use Rattle.std.specs.Prelude.{slice_get, slice_range}
 use Rattle.std.proofs.lemmas.List.{append-nil, drop_more, drop_all}
-use Rattle.mq_base.proofs.Lists.{drop_at, some_inj}
+use Rattle.mq_base.proofs.lemmas.Lists.{drop_at, some_inj}
 use Rattle.mq_chain.specs.Words.{value_of}
 use Rattle.mq_core.specs.Recurrences.{lindley}
 use Rattle.mq_pass.proofs.Serving.{range-cons, range-none, act-next, begins}

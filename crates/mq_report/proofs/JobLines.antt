@@ -1,7 +1,7 @@
 -- The job lines of a report, in loops over ranks and positions, and from the columns of a run.
 use Rattle.std.proofs.Common.{◌≡◌, ℕ, ◌+◌, List, [], ◌∷◌, ◌++◌, map, drop, Some, refl, ap, ◌∙◌, sym}
 use Rattle.std.specs.Prelude.{slice_get}
-use Rattle.mq_base.proofs.Lists.{drop_at}
+use Rattle.mq_base.proofs.lemmas.Lists.{drop_at}
 use Rattle.mq_core.specs.Columns.{column_wait}
 use Rattle.mq_core.specs.Local.{Local}
 use Rattle.mq_core.specs.Machine.{State, Station, Visit}

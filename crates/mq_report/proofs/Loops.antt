@@ -1,7 +1,7 @@
 -- What is left of a report in a loop over ranks, or over outputs.
 use Rattle.std.proofs.Common.{◌≡◌, ℕ, suc, ◌+◌, ◌-◌, ◌<◌, ◌≤◌, List, [], ◌++◌, drop, Some, ap, ◌∙◌, arith}
 use Rattle.std.specs.Prelude.{slice_get}
-use Rattle.mq_base.proofs.Lists.{drop_at}
+use Rattle.mq_base.proofs.lemmas.Lists.{drop_at}
 use Rattle.mq_core.specs.Local.{Local}
 use Rattle.mq_core.specs.Machine.{State, Station}
 use Rattle.mq_core.specs.Sound.{outputs_in}

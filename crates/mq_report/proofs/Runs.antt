@@ -2,7 +2,7 @@
 use Rattle.std.proofs.Common.{◌≡◌, ℕ, ◌<◌, List, Some, sym, ap, ◌∙◌, length}
 use Rattle.std.specs.Prelude.{slice_get}
 use Rattle.std.proofs.lemmas.Option.{slice_get_within}
-use Rattle.mq_base.proofs.Lists.{some_inj}
+use Rattle.mq_base.proofs.lemmas.Lists.{some_inj}
 use Rattle.mq_core.specs.Columns.{IsRunOf, streams_below}
 use Rattle.mq_core.specs.Results.{visits_of, stream_from}
 use Rattle.mq_core.specs.RunLaws.{RunsHaveColumns, OutputsHaveStreams}

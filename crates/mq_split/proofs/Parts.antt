@@ -5,7 +5,7 @@ use Rattle.std.proofs.lemmas.List.Sums.{sum_by-cons}
 use Rattle.std.proofs.lemmas.Bool.Decides.{nat_tests}
 use Rattle.std.proofs.lemmas.List.{append-nil, drop_all}
 use Rattle.std.proofs.lemmas.Bool.{cases_lt}
-use Rattle.mq_base.proofs.Lists.{drop_at, get-last, get-push}
+use Rattle.mq_base.proofs.lemmas.Lists.{drop_at, get-last, get-push}
 use Rattle.mq_core.specs.Columns.{picked}
 use Rattle.mq_core.specs.Kinds.Split.{output_at}
 use Rattle.mq_core.specs.declared.model.Route.{Route}
@@ -14,19 +14,6 @@ use Rattle.mq_split.specs.Outs.{outs_from}
 pub length-outs_from : (route : Route) (position : ℕ) (values : List ℕ) → length (outs_from route position values) ≡ length values
 length-outs_from route position [] = refl
 length-outs_from route position (value ∷ values) = let e = length-outs_from route (suc position) values in omega arith
-
--- the output of the next job
-pub outs-next : (route : Route) (first : ℕ) (done done' values all : List ℕ) (i value : ℕ) → slice_get values i ≡ Some value → done' ≡ done ++ output_at route value (first + i) ∷ [] → done ++ outs_from route (first + i) (drop i values) ≡ all →
-    done' ++ outs_from route (first + (i + 1)) (drop (i + 1) values) ≡ all
-outs-next route first done done' values all i value h p k =
-    let next : suc (first + i) ≡ first + (i + 1) = omega arith in
-    ap (λ l. l ++ outs_from route (first + (i + 1)) (drop (i + 1) values)) p
-    ∙ (append_assoc done _ _
-    ∙ (ap (λ n. done ++ output_at route value (first + i) ∷ outs_from route n (drop (i + 1) values)) (sym next)
-    ∙ (ap (λ l. done ++ outs_from route (first + i) l) (sym (drop_at values i value h)) ∙ k)))
-
-pub outs-all : (route : Route) (first : ℕ) (done values all : List ℕ) (i : ℕ) → length values ≤ i → done ++ outs_from route (first + i) (drop i values) ≡ all → done ≡ all
-outs-all route first done values all i l h = sym (append-nil done) ∙ (ap (λ v. done ++ outs_from route (first + i) v) (sym (drop_all i values l)) ∙ h)
 
 drop_next : (xs : List ℕ) (i : ℕ) → i < length xs → drop i xs ≡ get_or xs i 0 ∷ drop (i + 1) xs
 drop_next xs i l = let next : suc i ≡ i + 1 = omega arith in drop-cons xs i 0 l ∙ ap (λ n. get_or xs i 0 ∷ drop n xs) next
@@ -46,9 +33,6 @@ count-no out outs i l e =
     let next = count-at out outs i l ∙ ap (λ b. cond b 1 0 + count_by (λ o. o == out) (drop (i + 1) outs)) elsewhere in
     omega arith
 
-picked-yes : (out o item : ℕ) (outs items : List ℕ) → o ≡ out → picked out (o ∷ outs) (item ∷ items) ≡ item ∷ picked out outs items
-picked-yes out o item outs items e = grind (arith, nat_tests)
-
 picked-no : (out o item : ℕ) (outs items : List ℕ) → (o ≡ out → ⊥) → picked out (o ∷ outs) (item ∷ items) ≡ picked out outs items
 picked-no out o item outs items e = grind (arith, nat_tests)
 
@@ -58,14 +42,6 @@ pub picked-skip : (out i : ℕ) (done outs items all : List ℕ) → i < length 
 picked-skip out i done outs items all l same e h =
     let within : i < length items = omega arith in
     ap (λ l. done ++ l) (sym (picked-no out (get_or outs i 0) (get_or items i 0) (drop (i + 1) outs) (drop (i + 1) items) e) ∙ sym (ap (λ (p : List ℕ × List ℕ). picked out p.0 p.1) (λ k. ((drop_next outs i l k), (drop_next items i within k))))) ∙ h
-
--- an item that goes here
-pub picked-take : (out i item : ℕ) (done done' outs items all : List ℕ) → i < length outs → slice_get items i ≡ Some item → get_or outs i 0 ≡ out → done' ≡ done ++ item ∷ [] → done ++ picked out (drop i outs) (drop i items) ≡ all →
-    done' ++ picked out (drop (i + 1) outs) (drop (i + 1) items) ≡ all
-picked-take out i item done done' outs items all a b e p h =
-    ap (λ l. l ++ picked out (drop (i + 1) outs) (drop (i + 1) items)) p
-    ∙ (append_assoc done _ _
-    ∙ (ap (λ l. done ++ l) (sym (picked-yes out (get_or outs i 0) item (drop (i + 1) outs) (drop (i + 1) items) e) ∙ sym (ap (λ (p : List ℕ × List ℕ). picked out p.0 p.1) (λ k. ((drop_next outs i a k), (drop_at items i item b k))))) ∙ h))
 
 pub picked-all : (out i : ℕ) (done outs items all : List ℕ) → length outs ≤ i → done ++ picked out (drop i outs) (drop i items) ≡ all → done ≡ all
 picked-all out i done outs items all l h = sym (append-nil done) ∙ (ap (λ v. done ++ picked out v (drop i items)) (sym (drop_all i outs l)) ∙ h)

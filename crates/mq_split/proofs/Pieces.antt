@@ -1,23 +1,12 @@
 -- Pieces whose ends meet, one behind the other.
-use Rattle.std.proofs.Common.{◌≡◌, ℕ, suc, ◌+◌, ◌-◌, ◌≤◌, ◌==◌, Bool, true, false, cond, List, [], ◌∷◌, ◌++◌, length, length-drop, drop, take, refl, sym, ap, ◌∙◌, arith}
-use Rattle.std.proofs.Math.Seq.{take-add}
-use Rattle.std.proofs.lemmas.List.{drop-drop, length-take-le}
-use Rattle.mq_base.proofs.Lists.{take-all}
+use Rattle.std.proofs.Common.{◌≡◌, ℕ, suc, ◌+◌, ◌≤◌, ◌==◌, Bool, true, false, cond, List, [], ◌∷◌, ◌++◌, length, refl, sym, ap, ◌∙◌, arith}
+use Rattle.mq_base.proofs.lemmas.Between.{between-all, between-join, length-between}
+use Rattle.mq_base.specs.Lists.{between}
 use Rattle.mq_core.specs.Columns.{picked}
 use Rattle.mq_core.specs.Kinds.Split.{output_at}
 use Rattle.mq_core.specs.declared.model.Route.{Route}
 use Rattle.mq_split.proofs.Parts.{length-outs_from}
-use Rattle.mq_split.specs.Outs.{PiecesJoin, between, outs_from, picked_stream}
-
-pub length-between : {X : Type 0} (items : List X) (from to : ℕ) → from ≤ to → to ≤ length items → length (between from to items) ≡ to - from
-length-between items from to l k = let rest = length-drop from items in length-take-le (to - from) (drop from items) (omega arith)
-
-between-join : {X : Type 0} (items : List X) (from middle to : ℕ) → from ≤ middle → middle ≤ to → between from middle items ++ between middle to items ≡ between from to items
-between-join items from middle to l k =
-    let start : from + (middle - from) ≡ middle = omega arith in
-    let many : (middle - from) + (to - middle) ≡ to - from = omega arith in
-    ap (λ rest. between from middle items ++ take (to - middle) rest) (sym (drop-drop (middle - from) from items ∙ ap (λ n. drop n items) start))
-    ∙ (sym (take-add (middle - from) (to - middle) (drop from items)) ∙ ap (λ n. take n (drop from items)) many)
+use Rattle.mq_split.specs.Outs.{PiecesJoin, outs_from, picked_stream}
 
 outs-append : (route : Route) (position : ℕ) (xs ys : List ℕ) → outs_from route position (xs ++ ys) ≡ outs_from route position xs ++ outs_from route (position + length xs) ys
 outs-append route position [] ys = let e : position ≡ position + 0 = omega arith in ap (λ n. outs_from route n ys) e
@@ -51,9 +40,6 @@ column-join route values items e from middle to out l k h =
           ∙ (sym (outs-append route from (between from middle values) (between middle to values)) ∙ ap (outs_from route from) (between-join values from middle to l k))) i,
       between-join items from middle to l k i,
     ))
-
-between-all : {X : Type 0} (items : List X) (n : ℕ) → length items ≡ n → between 0 n items ≡ items
-between-all items n h = let e : n - 0 ≡ n = omega arith in ap (λ m. take m items) e ∙ take-all items n (omega arith)
 
 pub pieces-join : PiecesJoin
 pieces-join =

@@ -1,5 +1,6 @@
 -- The streams that leave a split.
-use Rattle.std.specs.Prelude.{◌≡◌, ◌<◌, ◌≤◌, ◌-◌, ◌++◌, ℕ, suc, List, [], ◌∷◌, drop, length, take, slice_get, Some}
+use Rattle.std.specs.Prelude.{◌≡◌, ◌<◌, ◌≤◌, ◌++◌, ℕ, suc, List, [], ◌∷◌, length, slice_get, Some}
+use Rattle.mq_base.specs.Lists.{between}
 use Rattle.mq_core.specs.Columns.{picked}
 use Rattle.mq_core.specs.Kinds.Split.{output_at, outputs_by}
 use Rattle.mq_core.specs.declared.model.Route.{Route}
@@ -19,11 +20,7 @@ pub record AreParts (route : Route) (stream : Stream) (values : List ℕ) (strea
   pub count : length streams ≡ outputs_by route
   pub parts : (out : ℕ) → out < outputs_by route → slice_get streams out ≡ Some (picked_stream (outs_from route 0 values) stream out)
 
--- Pieces. The items from a place up to another.
-abbrev pub between : {X : Type 0} → ℕ → ℕ → List X → List X
-between from to items = take (to - from) (drop from items)
-
--- the items of a stream at these places that go to an output
+-- Pieces. The items of a stream at these places that go to an output.
 abbrev pub piece_of : Route → Stream → List ℕ → ℕ → ℕ → ℕ → Stream
 piece_of route stream values from to out =
     picked_stream (outs_from route from (between from to values)) (record { job = between from to stream.job; time = between from to stream.time }) out

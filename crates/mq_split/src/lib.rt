@@ -2,9 +2,10 @@
 #![tactic(auto)]
 
 ghost use Rattle.std.specs.Prelude.{◌≡◌, ◌==◌, ◌+◌, ◌<◌, ◌≤◌, ◌^◌, ℕ, length, count_by, nat_le, IfOk, IsTrue};
+ghost use Rattle.mq_base.specs.Lists.{between};
 ghost use Rattle.mq_core.specs.Columns.{IsStream, picked};
 ghost use Rattle.mq_core.specs.Kinds.Split.{is_sound_route, output_at, outputs_by};
-ghost use Rattle.mq_split.specs.Outs.{AreParts, ArePieces, PiecesJoin, between, outs_from};
+ghost use Rattle.mq_split.specs.Outs.{AreParts, ArePieces, PiecesJoin, outs_from};
 
 use mq_base::{List, OutOfMemory};
 use mq_core::{Route, Stream, outputs_of_route};

@@ -1,7 +1,7 @@
 -- One step of a loop over columns, and its end.
 use Rattle.std.proofs.Common.{◌≡◌, ℕ, ◌+◌, ◌⊎◌, inl, inr, List, [], ◌∷◌, length, refl, cond, drop, Some, sym, ap, ◌∙◌, arith, max}
 use Rattle.std.specs.Prelude.{slice_get, fold, slice_index, ◌-◌, count_by, sum}
-use Rattle.mq_base.proofs.Lists.{drop_at, sum-cons}
+use Rattle.mq_base.proofs.lemmas.Lists.{drop_at, sum-cons}
 use Rattle.mq_core.specs.Columns.{column_wait, column_waits, column_service, column_services, column_sojourn, column_sojourns, one_more, column_numbers, stream_sojourns}
 use Rattle.mq_core.specs.Fates.{service_time}
 use Rattle.mq_core.specs.Results.{bare_time, is_lost}

@@ -1,5 +1,5 @@
 -- What is worked out ahead, so that what the visits at some places found can be told from it alone.
-use Rattle.std.specs.Prelude.{◌≡◌, ℕ, ◌+◌, ◌-◌, ◌≤◌, ◌==◌, Bool, false, List, [], ◌∷◌, count_by, drop, length, take, slice_get, Some}
+use Rattle.std.specs.Prelude.{◌≡◌, ℕ, ◌+◌, ◌≤◌, ◌==◌, Bool, false, List, [], ◌∷◌, count_by, length, take, slice_get, Some}
 use Rattle.std.specs.List.{AllByRecursion, zip}
 use Rattle.mq_core.specs.ColumnLaws.{LeavesFrom}
 use Rattle.mq_core.specs.Laws.{Rises, in_order_of}
@@ -7,10 +7,6 @@ use Rattle.mq_core.specs.declared.model.Fate.{Fate}
 use Rattle.mq_core.specs.declared.model.Fate.TheVariants.{Departs, Lost}
 use Rattle.mq_stats.specs.Departures.{stays}
 use Rattle.mq_stats.specs.declared.pieces.AheadTable.{AheadTable}
-
--- the items from a place up to another
-abbrev pub between : {X : Type 0} → ℕ → ℕ → List X → List X
-between from to items = take (to - from) (drop from items)
 
 -- Arrivals and fates of visits: no arrival is earlier than one before it, and none departs before it came.
 pub record AreComings (arrive : List ℕ) (fate : List Fate) : Type 0 where

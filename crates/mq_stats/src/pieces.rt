@@ -1,12 +1,13 @@
 // How many jobs each visit found, by pieces: from a table that is made once for all of them.
 ghost use Rattle.std.specs.Prelude.{◌≡◌, ◌+◌, ◌<◌, ◌≤◌, ℕ, List as Items, cond, count_by, length, map, nat_le, IfOk};
 ghost use Rattle.std.specs.List.{AllByRecursion, zip};
+ghost use Rattle.mq_base.specs.Lists.{between};
 ghost use Rattle.mq_core.specs.ColumnLaws.{LeavesFrom};
 ghost use Rattle.mq_core.specs.Columns.{founds_of};
 ghost use Rattle.mq_core.specs.Laws.{Rises};
 ghost use Rattle.mq_core.specs.declared.model.Fate.{Fate as TheFate};
 ghost use Rattle.mq_core.specs.declared.model.Fate.TheVariants.{Departs};
-ghost use Rattle.mq_stats.specs.Ahead.{IsAhead, between, leaves_at_once, leaving_order};
+ghost use Rattle.mq_stats.specs.Ahead.{IsAhead, leaves_at_once, leaving_order};
 
 use crate::occupancy::{departures_in_order, one_if_stays};
 use crate::passed::passed_by;

@@ -4,7 +4,7 @@ use Rattle.std.specs.Prelude.{slice_get}
 use Rattle.std.proofs.lemmas.List.{get_or-append-add, get_or_append_left, get_or-map, get_or-take, length-map, length-take-le, replicate-append-replicate, take-append-le, take-map, take-replicate}
 use Rattle.std.proofs.lemmas.List.Elements.{All-cons, All-head, All-nil, All-tail}
 use Rattle.std.proofs.Math.Seq.{drop-append_seam}
-use Rattle.mq_base.proofs.Lists.{sum-cons}
+use Rattle.mq_base.proofs.lemmas.Lists.{sum-cons}
 use Rattle.mq_core.specs.Recurrences.{time_or_none, room_in, stage_departs, each_before, last_time}
 use Rattle.mq_maxplus.specs.declared.mp.Mp.{Mp}
 use Rattle.mq_maxplus.specs.declared.mp.Mp.TheVariants.{Void, At}

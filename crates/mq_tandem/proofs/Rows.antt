@@ -4,7 +4,7 @@ use Rattle.std.specs.Prelude.{slice_get}
 use Rattle.std.proofs.lemmas.List.{drop_all, length-drop, get_or-drop}
 use Rattle.std.proofs.lemmas.List.Elements.{All-cons, All-get_or, All-head, All-tail}
 use Rattle.std.proofs.lemmas.Option.{get_or_from_slice_get, slice_get_within}
-use Rattle.mq_base.proofs.Lists.{drop_at, sum-cons}
+use Rattle.mq_base.proofs.lemmas.Lists.{drop_at, sum-cons}
 use Rattle.mq_maxplus.specs.declared.mp.Mp.{Mp}
 use Rattle.mq_maxplus.specs.declared.mp.Mp.TheVariants.{Void}
 use Rattle.mq_maxplus.specs.Matrices.{entry}

@@ -1,7 +1,7 @@
 -- Laws that the step's ghost members rest on: what a job makes of what is kept is linear, and so its matrix acts as it does.
 use Rattle.std.proofs.Common.{◌≡◌, ℕ, zero, suc, ◌+◌, ◌-◌, ◌≤◌, List, [], ◌∷◌, ◌++◌, get_or, length, min, take, drop, map, sum, refl, sym, ap, ◌∙◌, arith}
 use Rattle.std.proofs.lemmas.List.{take-map, drop-map, map-append, length-take, length-drop, length-append}
-use Rattle.mq_base.proofs.Lists.{sum-cons}
+use Rattle.mq_base.proofs.lemmas.Lists.{sum-cons}
 use Rattle.mq_core.specs.Recurrences.{firsts}
 use Rattle.mq_maxplus.specs.declared.mp.Mp.{Mp}
 use Rattle.mq_maxplus.specs.declared.mp.Mp.TheVariants.{At}

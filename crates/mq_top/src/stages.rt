@@ -1,6 +1,7 @@
 // The call that the program makes, stage by stage.
 ghost use Rattle.std.specs.Prelude.{◌≡◌, ◌≢◌, ◌⊎◌, ◌-◌, ◌^◌, ◌<◌, ◌≤◌, ℕ, List, Bool, true, false, length, Err, IsErrOf, IfOk, IfErr, IfSome, IsTrue, Some, None, []};
 ghost use Rattle.mq_base.specs.Outside.{next_count, Rose};
+ghost use Rattle.mq_base.specs.Text.{texts};
 ghost use Rattle.mq_core.specs.NetworkRun.{past_in};
 ghost use Rattle.mq_core.specs.Theorems.{IsReadFor};
 ghost use Rattle.mq_gen.specs.Made.{made_model, made_trace};
@@ -12,7 +13,7 @@ ghost use Rattle.mq_top.specs.Answer.{answer, answer_over, run_answer};
 ghost use Rattle.mq_top.specs.Answer.Answer.{Reported};
 ghost use Rattle.mq_top.specs.Ends.{Ends, FailedAt, IsLate, IsOfMade, Reads, RefusesCall, RefusesModel, RefusesTrace, Untouched, takings};
 ghost use Rattle.mq_top.specs.Lines.{PutsLine, line_text, name_of as name_of_outcome};
-ghost use Rattle.mq_words.specs.Words.{Asks, Makes, Names, asks_made, jobs_asked, refuses_words, texts, usage_fault};
+ghost use Rattle.mq_words.specs.Words.{Asks, Makes, Names, asks_made, jobs_asked, refuses_words, usage_fault};
 
 use crate::line::{name_of, put_line};
 use crate::outcome::Outcome;

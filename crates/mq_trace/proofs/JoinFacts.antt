@@ -10,7 +10,7 @@ use Rattle.mq_core.specs.declared.model.Network.{Network}
 use Rattle.mq_core.specs.declared.model.Rows.{Rows}
 use Rattle.mq_trace.specs.Header.{field_of}
 use Rattle.mq_trace.specs.Pieces.{Gains, behind, piece_data}
-use Rattle.mq_trace.specs.Reading.{RowsSoFar}
+use Rattle.mq_trace.proofs.RowFacts.{RowsSoFar}
 use Rattle.mq_trace.specs.Records.{Record}
 use Rattle.mq_trace.specs.Trace.{data_of, place_of, row_fault, rows_fault, rows_of, source_named, text_records}
 use Rattle.mq_trace.specs.declared.fault.TraceFault.{TraceFault}

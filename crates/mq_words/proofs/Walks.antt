@@ -59,9 +59,6 @@ jobs_built = record jobs_rule {
 abbrev pub rules : List Rule
 rules = model_built ∷ trace_built ∷ workers_built ∷ block_built ∷ made_built ∷ jobs_built ∷ []
 
-pub rules_are : (built app).top.rules ≡ rules
-rules_are = refl
-
 pub app_is_simple : is_simple app ≡ true
 app_is_simple = refl
 

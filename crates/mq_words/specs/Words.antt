@@ -11,10 +11,6 @@ use Rattle.mq_words.specs.declared.words.Input.{Input}
 use Rattle.mq_words.specs.declared.words.Input.TheVariants as input
 use Rattle.mq_words.specs.declared.words.Settings.{Settings}
 
--- the words as lists of bytes
-abbrev pub texts : List (Bor (List ℕ)) → List (List ℕ)
-texts words = map (λ w. w.now) words
-
 -- the options: three that take a value, and a flag
 abbrev pub workers_option : List ℕ
 workers_option = codes "--workers"

@@ -2,8 +2,9 @@
 ghost use Rattle.std.specs.Prelude.{◌≡◌, ℕ, List, Some, false, option_map, IfOk, IfErr, IfSome, IsNone};
 ghost use Rattle.clap.specs.Matches.{found_of};
 ghost use Rattle.clap.specs.Values.{kind_of};
+ghost use Rattle.mq_base.specs.Text.{texts};
 ghost use Rattle.mq_words.specs.Matched.{Finds, HasForm, input_of as input_of_form};
-ghost use Rattle.mq_words.specs.Words.{Asks, number_asked, refuses_words as refuses_words_of, texts, usage_fault, RefusesWords};
+ghost use Rattle.mq_words.specs.Words.{Asks, number_asked, refuses_words as refuses_words_of, usage_fault, RefusesWords};
 
 use crate::fault::{UsageFault, WordsFault};
 use crate::rule::refuses_words;

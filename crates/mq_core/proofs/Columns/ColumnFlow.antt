@@ -11,7 +11,7 @@ use Rattle.mq_core.specs.declared.model.Kind.{Kind}
 use Rattle.mq_core.specs.declared.model.Node.{Node}
 use Rattle.mq_core.specs.declared.model.Plan.{Plan}
 use Rattle.mq_core.specs.declared.model.Rows.{Rows}
-use Rattle.mq_base.proofs.Lists.{some_inj}
+use Rattle.mq_base.proofs.lemmas.Lists.{some_inj}
 use Rattle.mq_core.proofs.Counting.ColumnNumbers.{EachLeaves, LeavesAs, Numbered, order-found}
 use Rattle.mq_core.proofs.EachKind.Flows.{flow-numbered}
 use Rattle.mq_core.proofs.EachKind.Ends.{end-fact}

@@ -2,7 +2,7 @@
 use Rattle.std.proofs.Common.{◌≡◌, ℕ, zero, suc, ◌+◌, ◌<◌, ◌≤◌, Bool, true, false, eqb, List, [], ◌∷◌, ◌++◌, length, Option, Some, None, sym, refl, subst, arith}
 use Rattle.std.specs.Prelude.{slice_get}
 use Rattle.std.specs.List.{AllByRecursion as Each}
-use Rattle.mq_base.proofs.Lists.{some_inj}
+use Rattle.mq_base.proofs.lemmas.Lists.{some_inj}
 use Rattle.mq_core.specs.ColumnLaws.{JobsAreRows}
 use Rattle.mq_core.specs.Event.{Event, time_of, node_of, earliest}
 use Rattle.mq_core.specs.Event.Event.{Arrive, Finish}

@@ -12,7 +12,7 @@ use Rattle.mq_core.specs.StandardTable.{run_of}
 use Rattle.mq_core.specs.declared.model.Fate.{Fate}
 use Rattle.mq_core.specs.declared.model.Fate.TheVariants.{Departs}
 use Rattle.mq_core.specs.declared.model.Visits.{Visits}
-use Rattle.mq_base.proofs.Lists.{some_inj}
+use Rattle.mq_base.proofs.lemmas.Lists.{some_inj}
 use Rattle.mq_core.proofs.Columns.ColumnsEqual.{nodes-are-columns}
 use Rattle.mq_core.proofs.EachKind.LawTable.{recurrence_of}
 

@@ -2,7 +2,7 @@
 use Rattle.std.proofs.Common.{◌≡◌, ℕ, suc, ◌+◌, ◌<◌, ◌≤◌, List, [], ◌∷◌, ◌++◌, length, Option, Some, None, refl, ap, ◌∙◌, arith, max, fold, sum, slice_get}
 use Rattle.std.specs.Prelude.{IsSome}
 use Rattle.std.specs.Option.{option_map, option_to_list}
-use Rattle.mq_base.proofs.Lists.{sum-cons}
+use Rattle.mq_base.proofs.lemmas.Lists.{sum-cons}
 use Rattle.mq_core.specs.Machine.{Visit, Emission}
 use Rattle.mq_core.specs.Fates.{fate_by, fate_of}
 use Rattle.mq_core.specs.Results.{fates_from}

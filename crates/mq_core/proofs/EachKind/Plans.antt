@@ -13,7 +13,7 @@ use Rattle.mq_core.specs.Wiring.{first_ready, has, inputs_of, ranked_after}
 use Rattle.mq_core.specs.declared.model.Input.{Input}
 use Rattle.mq_core.specs.declared.model.Network.{Network}
 use Rattle.mq_core.specs.declared.model.Node.{Node}
-use Rattle.mq_base.proofs.Lists.{some_inj}
+use Rattle.mq_base.proofs.lemmas.Lists.{some_inj}
 use Rattle.mq_core.proofs.EachKind.LawTable.{limits_of}
 use Rattle.mq_core.proofs.Networks.Soundness.{sound-node}
 use Rattle.mq_core.proofs.Networks.Told.{tells-demand, tells-value}

@@ -6,7 +6,7 @@ use Rattle.mq_core.specs.Event.{Event, place_of, is_sooner, sooner_of, earliest}
 use Rattle.mq_core.proofs.Lists.Order.{not_below-trans, below-asym, below-irrefl}
 use Rattle.mq_core.proofs.Lists.Each.{Each-append, Each-back, Each-weaker, Each-filter, filter-none, filter-yes, filter-no, not_true}
 use Rattle.std.proofs.lemmas.List.Elements.{filter-append}
-use Rattle.mq_base.proofs.Lists.{some_inj}
+use Rattle.mq_base.proofs.lemmas.Lists.{some_inj}
 
 -- a list whose earliest event is p.0, with p.1 left: it comes before all in front of it, and none behind it comes before it
 pub record Splits (rank : ℕ → ℕ) (es : List Event) (p : Event × List Event) : Type 0 where

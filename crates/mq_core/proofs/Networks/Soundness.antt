@@ -5,7 +5,7 @@ use Rattle.std.proofs.lemmas.Bool.Decides.{nat_tests}
 use Rattle.std.proofs.lemmas.List.Folds.{list_any-append}
 use Rattle.std.specs.Prelude.{◌≤◌, ◌&&◌, ◌||◌, ◌==◌, nat_le, not, map, slice_get, IsTrue}
 use Rattle.std.specs.List.{AllByRecursion as Each, flat_map, list_all, list_any}
-use Rattle.mq_base.proofs.Lists.{some_inj}
+use Rattle.mq_base.proofs.lemmas.Lists.{some_inj}
 use Rattle.mq_core.specs.Kinds.Tandem.{are_sound_stages, is_sound_stage}
 use Rattle.mq_core.specs.Sound.{is_sound, is_sound_node, are_distinct, same_input, mentions_from, columns_of_kind}
 use Rattle.mq_core.specs.Ranges.{is_sound_demand, is_within}

@@ -1,8 +1,9 @@
 use Rattle.std.proofs.Common.{◌≡◌, ◌-◌, ◌+◌, length, sym, ap, ◌∙◌, ◌∷◌, [], length-append, arith}
+use Rattle.mq_base.proofs.lemmas.Between.{length-between}
+use Rattle.mq_base.specs.Lists.{between}
 use Rattle.mq_core.specs.Columns.{picked}
 use Rattle.mq_split.proofs.Parts.{length-outs_from, parts-next}
-use Rattle.mq_split.proofs.Pieces.{length-between}
-use Rattle.mq_split.specs.Outs.{between, outs_from, piece_of}
+use Rattle.mq_split.specs.Outs.{outs_from, piece_of}
 use Rattle.mq_split.proofs.split_piece.Goals as goal
 
 -- the outputs of the jobs at these places

@@ -1,4 +1,4 @@
-use Rattle.mq_base.proofs.Gathers.{adds_whole}
+use Rattle.mq_base.proofs.lemmas.Gathers.{adds_whole}
 use Rattle.mq_base.proofs.gather.add_bytes.Goals as goal
 
 pub returns-then-bytes-gt-SIZE : goal.returns-then-bytes-gt-SIZE

@@ -1,4 +1,4 @@
-use Rattle.mq_base.proofs.Gathers.{gathers_added, gathers_refused}
+use Rattle.mq_base.proofs.lemmas.Gathers.{gathers_added, gathers_refused}
 use Rattle.mq_base.proofs.PiecesLemmas.{pieces_next}
 use Rattle.mq_base.proofs.gather.add_pieces.Goals as goal
 

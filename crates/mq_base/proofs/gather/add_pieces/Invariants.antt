@@ -1,6 +1,6 @@
 use Rattle.std.proofs.Common.{◌++◌, drop}
 use Rattle.mq_base.specs.Pieces.{pieces_text}
-use Rattle.mq_base.proofs.Gathers.{Gathers}
+use Rattle.mq_base.proofs.lemmas.Gathers.{Gathers}
 use Rattle.mq_base.proofs.gather.add_pieces.Given as goal
 
 abbrev pub invariant-loop-piece : goal.invariant-loop-piece

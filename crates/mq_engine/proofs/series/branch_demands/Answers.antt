@@ -1,6 +1,6 @@
 use Rattle.std.proofs.Common.{◌≤◌, ◌++◌, ap, ◌∙◌, sym, length, arith}
 use Rattle.std.specs.List.{flat_map}
-use Rattle.mq_base.proofs.Lists.{take-all}
+use Rattle.mq_base.proofs.lemmas.Lists.{take-all}
 use Rattle.mq_engine.proofs.Lists.{flat_map-more}
 use Rattle.mq_engine.proofs.series.branch_demands.Goals as goal
 

@@ -1,5 +1,5 @@
 use Rattle.std.proofs.Common.{◌≤◌, ◌++◌, ◌∷◌, [], ap, ◌∙◌, length, arith}
-use Rattle.mq_base.proofs.Lists.{map-all}
+use Rattle.mq_base.proofs.lemmas.Lists.{map-all}
 use Rattle.mq_engine.proofs.Lists.{map-more}
 use Rattle.mq_engine.proofs.series.branch_servers.Goals as goal
 

@@ -1,6 +1,6 @@
 use Rattle.std.proofs.Common.{◌≤◌, ◌++◌, ◌∷◌, [], ap, ◌∙◌, length, map, arith}
 use Rattle.std.specs.Prelude.{IsTrue}
-use Rattle.mq_base.proofs.Lists.{map-all}
+use Rattle.mq_base.proofs.lemmas.Lists.{map-all}
 use Rattle.mq_core.specs.Handling.{demand_of_job}
 use Rattle.mq_core.specs.Ranges.{is_sound_demand}
 use Rattle.mq_engine.proofs.Lists.{map-more}

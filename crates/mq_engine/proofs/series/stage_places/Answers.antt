@@ -1,5 +1,5 @@
 use Rattle.std.proofs.Common.{◌≤◌, length, arith}
-use Rattle.mq_base.proofs.Lists.{map-all}
+use Rattle.mq_base.proofs.lemmas.Lists.{map-all}
 use Rattle.mq_core.specs.declared.model.Stage.{Stage}
 use Rattle.mq_engine.proofs.Lists.{map-more}
 use Rattle.mq_engine.proofs.series.stage_places.Goals as goal

@@ -1,7 +1,7 @@
 use Rattle.std.proofs.Common.{◌≡◌, ℕ, ◌∙◌, map}
 use Rattle.std.specs.List.{zip}
-use Rattle.mq_base.proofs.Lists.{map-all}
-use Rattle.mq_merge.proofs.Lists.{zip-map}
+use Rattle.mq_base.proofs.lemmas.Lists.{map-all}
+use Rattle.mq_base.proofs.lemmas.Zips.{zip-map}
 use Rattle.mq_merge.proofs.Sorted.{rising-stream}
 use Rattle.mq_merge.proofs.order.columns_of.Goals as goal
 

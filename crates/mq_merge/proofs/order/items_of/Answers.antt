@@ -1,5 +1,5 @@
 use Rattle.std.proofs.Common.{◌≤◌, length, arith}
-use Rattle.mq_merge.proofs.Lists.{zip-next, zip-all}
+use Rattle.mq_base.proofs.lemmas.Zips.{zip-next, zip-all}
 use Rattle.mq_merge.proofs.order.items_of.Goals as goal
 
 pub loop-at-preserved : goal.loop-at-preserved

@@ -1,9 +1,8 @@
 use Rattle.std.proofs.Common.{sym, ◌≡◌, ◌||◌, refl, true, false}
 use Rattle.std.specs.List.{list_all}
 use Rattle.std.proofs.lemmas.Result.{err_from_is_err_and}
-use Rattle.mq_base.specs.Text.{words_of}
+use Rattle.mq_base.specs.Text.{words_of, texts}
 use Rattle.mq_model.specs.Model.{begins_comment, is_allowed}
-use Rattle.mq_model.specs.Reading.{texts}
 use Rattle.mq_model.specs.declared.front.Front.{Front}
 use Rattle.mq_model.proofs.FrontFacts.{add_head, add_skipped, add_told, adds_told, byte_fault, head_fault, told_fault, words_faulty}
 use Rattle.mq_model.proofs.front.read_next.Goals as goal

@@ -1,6 +1,6 @@
 use Rattle.std.proofs.Common.{◌≡◌, ◌&&◌, false}
+use Rattle.mq_base.specs.Text.{texts}
 use Rattle.mq_model.specs.Model.{begins_bound}
-use Rattle.mq_model.specs.Reading.{texts}
 use Rattle.mq_model.proofs.FrontFacts.{no_bound_line, no_bound_word, word_number}
 use Rattle.mq_model.proofs.front.read_words.Goals.{else-has_bound-via-then-has_bound+else-begins_bound, else-has_bound-via-else-has_bound}
 use Rattle.mq_model.proofs.front.read_words.Goals as goal

@@ -1,7 +1,6 @@
 use Rattle.std.proofs.Common.{◌≡◌, ◌≤◌, ◌-◌, ◌++◌, length}
 use Rattle.std.specs.List.{slice_range}
-use Rattle.mq_base.specs.Text.{words_of}
-use Rattle.mq_model.specs.Reading.{texts}
+use Rattle.mq_base.specs.Text.{words_of, texts}
 use Rattle.mq_model.proofs.front.split_words.Given as goal
 
 abbrev pub invariant-loop-span : goal.invariant-loop-span

@@ -1,7 +1,7 @@
 use Rattle.std.proofs.Common.{◌≡◌, List, ℕ, ap, subst}
+use Rattle.std.proofs.lemmas.Result.{on_err_weaker}
 use Rattle.mq_base.specs.Outside.{TakesPrefix}
-use Rattle.mq_base.proofs.Gathers.{part_flushed}
-use Rattle.mq_base.proofs.Puts.{on_err_more}
+use Rattle.mq_base.proofs.lemmas.Gathers.{part_flushed}
 use Rattle.mq_core.specs.Local.{Local}
 use Rattle.mq_core.specs.Machine.{State}
 use Rattle.mq_core.specs.StandardTable.{run_of}
@@ -17,4 +17,4 @@ text_is g c =
 
 pub returns-clause-err : goal.returns-clause-err
 returns-clause-err g c =
-    on_err_more _ _ _ (λ h. subst (TakesPrefix _ _ _ _) (text_is g c) (part_flushed _ _ _ _ _ _ _ _ (report_text c.args.plan.now.net c.args.plan.now.order c.args.rows.now (run_of c.args.plan.now c.args.rows.now) c.args.jobs) c.new-pending.ensures c.in_ok-add_report.ensures.ok h)) c.flush.ensures.err
+    on_err_weaker _ (λ h. subst (TakesPrefix _ _ _ _) (text_is g c) (part_flushed _ _ _ _ _ _ _ _ (report_text c.args.plan.now.net c.args.plan.now.order c.args.rows.now (run_of c.args.plan.now c.args.rows.now) c.args.jobs) c.new-pending.ensures c.in_ok-add_report.ensures.ok h)) c.flush.ensures.err

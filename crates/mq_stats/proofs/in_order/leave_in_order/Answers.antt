@@ -1,5 +1,5 @@
 use Rattle.std.proofs.Common.{◌+◌, Some, sym, ap, ◌∙◌, drop}
-use Rattle.mq_base.proofs.Lists.{drop_at}
+use Rattle.mq_base.proofs.lemmas.Lists.{drop_at}
 use Rattle.mq_stats.proofs.InOrder.{falls, goes-on}
 use Rattle.mq_stats.proofs.in_order.leave_in_order.Goals.{in-Departs+else-time-latest, in_default}
 use Rattle.mq_stats.specs.Departures.{departures_rise}

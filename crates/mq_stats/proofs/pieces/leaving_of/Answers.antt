@@ -1,5 +1,5 @@
 use Rattle.std.proofs.Common.{ℕ, ap, ◌∙◌, map}
-use Rattle.mq_base.proofs.Lists.{map-all}
+use Rattle.mq_base.proofs.lemmas.Lists.{map-all}
 use Rattle.mq_stats.proofs.Telling.{firsts-leaving}
 use Rattle.mq_stats.proofs.pieces.leaving_of.Goals as goal
 

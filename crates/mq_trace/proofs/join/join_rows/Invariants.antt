@@ -1,6 +1,6 @@
 use Rattle.std.proofs.Common.{map, take, flat_map}
 use Rattle.csv.specs.Records.{fields_of}
-use Rattle.mq_trace.specs.Reading.{RowsSoFar}
+use Rattle.mq_trace.proofs.RowFacts.{RowsSoFar}
 use Rattle.mq_trace.specs.Trace.{data_of, text_records}
 use Rattle.mq_trace.proofs.join.join_rows.Given as goal
 

@@ -1,6 +1,6 @@
 use Rattle.std.proofs.Common.{◌≡◌, ◌+◌, ◌≤◌, ◌++◌, List, length}
 use Rattle.csv.specs.Records.{fields_of}
-use Rattle.mq_trace.specs.Reading.{RowsSoFar}
+use Rattle.mq_trace.proofs.RowFacts.{RowsSoFar}
 use Rattle.mq_trace.specs.Records.{IsBetween, Record, records_left}
 use Rattle.mq_trace.proofs.rows.read_rows.Given as goal
 

@@ -3,8 +3,9 @@
 use Rattle.std.proofs.Common.{◌≡◌, ℕ, ◌+◌, ◌≤◌, List, [], ◌++◌, length, Result, Ok, Err, IsErr, OnOk, OnErr, ap, ◌∙◌, arith, length-append, sym, append_assoc}
 use Rattle.std.specs.declared.option.Option.{Option}
 use Rattle.std.proofs.lemmas.List.{append-nil}
+use Rattle.std.proofs.lemmas.Result.{on_err_weaker, on_ok_weaker}
 use Rattle.mq_base.specs.Outside.{Adds, Rose, TakesFirst, TakesPrefix, GoesOut}
-use Rattle.mq_base.proofs.Puts.{on_err_more, on_ok_more, takes_both, takes_part, takes_front}
+use Rattle.mq_base.proofs.Puts.{takes_both, takes_part, takes_front}
 
 -- a further text, behind what was pending
 pub goes_more : (t t' t'' : Option (List ℕ)) (s s' s'' : ℕ) (text piece p p' : List ℕ) → GoesOut t t' s s' text p
@@ -58,11 +59,11 @@ adds_whole {sure = sure} {faults = faults} {a = a} {c = c} {p = p} {left = left}
     let both : length (p ++ text) ≡ length p + length text = length-append p text in
     let spent : sure a ≤ sure b + length p = first.spent in
     record {
-      ok = on_ok_more r _ _ (goes_whole _ _ _ _ _ _ p text left first none) ok;
-      err = on_err_more r _ _ (takes_part _ _ _ _ _ _ p text first) err;
+      ok = on_ok_weaker r (goes_whole _ _ _ _ _ _ p text left first none) ok;
+      err = on_err_weaker r (takes_part _ _ _ _ _ _ p text first) err;
       later = omega (arith, still, later);
-      rose = on_err_more r _ _ (rose_later (faults a) (faults b) (faults c) (omega (arith, still))) rose;
-      quiet = on_ok_more r _ _ (λ e. e ∙ still) quiet;
+      rose = on_err_weaker r (rose_later (faults a) (faults b) (faults c) (omega (arith, still))) rose;
+      quiet = on_ok_weaker r (λ e. e ∙ still) quiet;
       calm = λ room. calm (omega arith) ∙ still;
     }
 
@@ -84,11 +85,11 @@ adds_both {taken = taken} {sure = sure} {faults = faults} {a = a} {b = b} {c = c
     let front : length (p ++ text) ≡ length p + length text = length-append p text in
     let rest : length (p' ++ more) ≡ length p' + length more = length-append p' more in
     record {
-      ok = on_ok_more r _ _ (goes_both _ _ _ _ _ _ p p' p'' text more gone) k.ok;
-      err = on_err_more r _ _ (second_refused _ _ _ _ _ _ p p' text more gone) k.err;
+      ok = on_ok_weaker r (goes_both _ _ _ _ _ _ p p' p'' text more gone) k.ok;
+      err = on_err_weaker r (second_refused _ _ _ _ _ _ p p' text more gone) k.err;
       later = omega (arith, h.later, k.later);
-      rose = on_err_more r _ _ (rose_later (faults a) (faults b) (faults c) h.later) k.rose;
-      quiet = on_ok_more r _ _ (λ e. e ∙ h.quiet) k.quiet;
+      rose = on_err_weaker r (rose_later (faults a) (faults b) (faults c) h.later) k.rose;
+      quiet = on_ok_weaker r (λ e. e ∙ h.quiet) k.quiet;
       calm = λ room. k.calm (omega arith) ∙ h.quiet;
     }
 
