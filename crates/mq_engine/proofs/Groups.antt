@@ -99,7 +99,7 @@ module _ {P X : Type 0} (places : P → ℕ) (is_piece : P → ℕ → X → Typ
               );
         }
 
--- the stations of a round, stage by stage
+-- the stations of a wave, stage by stage
 abbrev pub load_places : Load → ℕ
 load_places load = blocks_of load.scan
 

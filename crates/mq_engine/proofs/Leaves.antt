@@ -1,7 +1,8 @@
 -- What leaves a station, and which of it is late.
 use Rattle.std.proofs.Common.{◌≡◌, ℕ, zero, suc, ◌+◌, ◌^◌, ◌<◌, ◌≤◌, All, Bool, true, false, cond, List, [], ◌∷◌, ◌++◌, length, drop, map, max, Option, Some, None, sym, refl, ap, ◌∙◌, subst, arith}
-use Rattle.std.specs.Prelude.{IsTrue, nat_lt, slice_get}
-use Rattle.std.specs.List.{AllByRecursion as Each}
+use Rattle.std.specs.Prelude.{IsTrue, nat_le, nat_lt, slice_get}
+use Rattle.std.specs.List.{AllByRecursion as Each, list_all}
+use Rattle.std.proofs.lemmas.Bool.{and_parts}
 use Rattle.std.proofs.lemmas.Bool.Decides.{nat_tests}
 use Rattle.std.proofs.lemmas.List.{length-map}
 use Rattle.mq_base.proofs.lemmas.Lists.{drop_suc}
@@ -9,21 +10,22 @@ use Rattle.mq_core.specs.Columns.{IsSoundLoad, IsStream, column_fates, column_la
 use Rattle.mq_core.specs.Kinds.Split.{routes_from}
 use Rattle.mq_core.specs.Recurrences.{lindley, delayed}
 use Rattle.mq_core.specs.Results.{Late, first_of, late_fate}
-use Rattle.mq_core.specs.Ranges.{is_sound_demand}
+use Rattle.mq_core.specs.Ranges.{is_sound_demand, is_within, rises}
 use Rattle.mq_core.specs.Sound.{outputs_in}
-use Rattle.mq_core.specs.Handling.{demand_of_job}
-use Rattle.mq_core.specs.Kinds.Split.{output_by, route_value}
+use Rattle.mq_core.specs.Handling.{demand_of_job, value_of}
+use Rattle.mq_core.specs.Kinds.Split.{is_sound_route, output_by, route_value}
+use Rattle.mq_core.specs.Told.{HasValue}
 use Rattle.mq_core.specs.declared.model.Demand.{Demand}
 use Rattle.mq_core.specs.declared.model.Fate.{Fate}
 use Rattle.mq_core.specs.declared.model.Fate.TheVariants.{Departs, Lost}
 use Rattle.mq_core.specs.declared.model.Kind.{Kind}
 use Rattle.mq_core.specs.declared.model.Kind.TheVariants.{Source, Server, Delay, Split}
-use Rattle.mq_core.specs.declared.model.Network.{Network}
 use Rattle.mq_core.specs.declared.model.Route.{Route}
+use Rattle.mq_core.specs.declared.model.Route.TheVariants.{Cut, Modulo, Turn}
 use Rattle.mq_core.specs.declared.model.Rows.{Rows}
 use Rattle.mq_core.specs.declared.model.Stream.{Stream}
 use Rattle.mq_split.specs.Outs.{AreParts, outs_from}
-use Rattle.mq_engine.specs.Turns.{AreLeft, IsLeaving, IsLoad, LeaveInTurn, left_by}
+use Rattle.mq_engine.specs.Turns.{AreAsked, AreLeft, AreRouted, HasRouteValue, IsLeaving, IsLoad, LeaveInTurn, left_by}
 use Rattle.mq_engine.proofs.Lists.{Each-get_or}
 
 -- a departure of each time is at that time
@@ -88,8 +90,26 @@ small-demands : (f : ℕ → ℕ) (jobs : List ℕ) → ((k job : ℕ) → slice
 small-demands f [] h = tt
 small-demands f (j ∷ js) h = (h 0 j refl, small-demands f js (λ k job e. h (suc k) job e))
 
-pub load-sound : (net : Network) (rows : Rows) (kind : Kind) (demand : Demand) (arrivals : Stream) (demands : List ℕ) → IsLoad net rows kind arrivals → IsTrue (is_sound_demand (length net.columns) demand) → demands ≡ map (demand_of_job rows demand) arrivals.job → IsSoundLoad arrivals.time demands
-load-sound net rows kind demand arrivals demands h sound e =
+pub asked-each : (rows : Rows) (kind : Kind) (demand : Demand) (arrivals : Stream) → (h : IsLoad rows kind arrivals) → IsTrue (is_sound_demand (length h.net.columns) demand) → AreAsked rows demand arrivals.job
+asked-each rows kind demand arrivals h sound k job g = ((h.told k job g).demand demand sound).0
+
+below : (a b : ℕ) → nat_lt a b ≡ true → a < b
+below a b h = grind (arith, nat_tests)
+
+has-route : (columns : ℕ) (rows : Rows) (route : Route) (job : ℕ) → is_sound_route columns route ≡ true → ((column : ℕ) → column < columns → HasValue rows column job × (value_of rows column job ≤ 2 ^ 36)) → HasRouteValue rows route job
+has-route columns rows (Modulo outputs column) job s h =
+    let inside : nat_lt column columns ≡ true = (and_parts (is_within 2 8 outputs) (nat_lt column columns) s).1 in (h column (below column columns inside)).0
+has-route columns rows (Turn outputs) job s h = tt
+has-route columns rows (Cut column thresholds) job s h =
+    let a = and_parts _ (list_all (λ threshold. nat_le threshold (2 ^ 36)) thresholds) s in
+    let b = and_parts _ (rises thresholds) a.0 in
+    let inside : nat_lt column columns ≡ true = (and_parts (nat_lt column columns) (is_within 1 7 (length thresholds)) b.0).0 in (h column (below column columns inside)).0
+
+pub routed-each : (rows : Rows) (route : Route) (arrivals : Stream) → IsLoad rows (Split route) arrivals → AreRouted rows route arrivals.job
+routed-each rows route arrivals h = λ k job g. has-route (length h.net.columns) rows route job h.sound (h.told k job g).value
+
+pub load-sound : (rows : Rows) (kind : Kind) (demand : Demand) (arrivals : Stream) (demands : List ℕ) → (h : IsLoad rows kind arrivals) → IsTrue (is_sound_demand (length h.net.columns) demand) → demands ≡ map (demand_of_job rows demand) arrivals.job → IsSoundLoad arrivals.time demands
+load-sound rows kind demand arrivals demands h sound e =
     record {
       few = h.few;
       each = ap length e ∙ (length-map arrivals.job _ ∙ h.ordered.ordered.even);

@@ -6,7 +6,7 @@ pub mod Passing
 pub mod LossFates
 pub mod StageFacts
 pub mod Early
-pub mod Rounds
+pub mod Waves
 pub mod Settling
 pub mod Endings
 pub mod Scanning

@@ -80,8 +80,8 @@ blocks-all blocks = let h = blocks.all in omega arith
 pub scan-sound : (plan : Plan) (rows : Rows) (v : ℕ) (arrivals : Stream) (scan : Option Scan) (its : Scan) → IsLoaded plan rows v arrivals scan → scan ≡ Some its → IsSoundLoad arrivals.time its.demands × (its.blocks.n ≡ length arrivals.time)
 scan-sound plan rows v arrivals scan its l e =
     let is : IsScanOf rows l.node.kind arrivals (Some its) = subst (IsScanOf rows l.node.kind arrivals) e l.scanned in
-    let sound : IsTrue (is_sound_demand (length plan.net.columns) is.0) = subst (λ (k : Kind). IsTrue (is_sound_kind (length plan.net.columns) k)) is.1 l.load.sound in
-    (load-sound plan.net rows l.node.kind is.0 arrivals its.demands l.load sound is.2, is.3)
+    let sound : IsTrue (is_sound_demand (length l.load.net.columns) is.0) = subst (λ (k : Kind). IsTrue (is_sound_kind (length l.load.net.columns) k)) is.1 l.load.sound in
+    (load-sound rows l.node.kind is.0 arrivals its.demands l.load sound is.2, is.3)
 
 -- the summaries of all blocks of a scan
 pub are-summaries : (arrivals : Stream) (scan : Scan) (arrive demands : List ℕ) (sums : List Affine) → arrive ≡ arrivals.time → demands ≡ scan.demands → scan.blocks.n ≡ length arrivals.time → length sums ≡ scan.blocks.blocks →
@@ -118,8 +118,8 @@ scan-leaves plan rows v arrivals scan its node departs fates streams l e there d
 pub loaded-inside : (plan : Plan) (rows : Rows) (v : ℕ) (arrivals : Stream) (scan : Option Scan) → IsLoaded plan rows v arrivals scan → v < length plan.net.nodes
 loaded-inside plan rows v arrivals scan l = slice_get_within plan.net.nodes v l.node l.there
 
-pub load-at : (plan : Plan) (rows : Rows) (v : ℕ) (arrivals : Stream) (scan : Option Scan) (node : Node) → IsLoaded plan rows v arrivals scan → slice_get plan.net.nodes v ≡ Some node → IsLoad plan.net rows node.kind arrivals
-load-at plan rows v arrivals scan node l there = subst (λ (n : Node). IsLoad plan.net rows n.kind arrivals) (some_inj _ _ (sym l.there ∙ there)) l.load
+pub load-at : (plan : Plan) (rows : Rows) (v : ℕ) (arrivals : Stream) (scan : Option Scan) (node : Node) → IsLoaded plan rows v arrivals scan → slice_get plan.net.nodes v ≡ Some node → IsLoad rows node.kind arrivals
+load-at plan rows v arrivals scan node l there = subst (λ (n : Node). IsLoad rows n.kind arrivals) (some_inj _ _ (sym l.there ∙ there)) l.load
 
 -- the parts of a station
 pub part-sum : (plan : Plan) (rows : Rows) (v : ℕ) (arrivals : Stream) (scan : Option Scan) (its : Scan) (b : ℕ) (part : Part) → scan ≡ Some its → IsPart plan rows v arrivals scan b part → IsSumPart arrivals its b part

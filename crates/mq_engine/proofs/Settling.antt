@@ -1,4 +1,4 @@
--- What the turns of a round change: which nodes wait, and how many.
+-- What the turns of a wave change: which nodes wait, and how many.
 use Rattle.std.proofs.Common.{◌≡◌, ℕ, ◌+◌, ◌<◌, ◌≤◌, ◌⊎◌, inl, inr, Bool, true, false, cond, List, [], ◌∷◌, ◌++◌, length, get_or, set, Option, Some, None, refl, sym, ap, ◌∙◌, subst, arith}
 use Rattle.std.specs.Prelude.{count_by, filter, slice_get}
 use Rattle.std.specs.List.{AllByRecursion as Each}
@@ -20,7 +20,7 @@ use Rattle.mq_engine.specs.declared.turns.Ending.{Ending}
 use Rattle.mq_engine.specs.declared.turns.Ending.TheVariants.{OnTime, TooLate}
 use Rattle.mq_engine.specs.declared.turns.Turn.{Turn}
 use Rattle.mq_engine.proofs.Lists.{filter-passes}
-use Rattle.mq_engine.proofs.Rounds.{order-few, put-keeps}
+use Rattle.mq_engine.proofs.Waves.{order-few, put-keeps}
 
 -- a node that waits is there
 stand-there : (stands : List Stand) (v : ℕ) (o : Option Stand) → slice_get stands v ≡ o → stands_at is_waiting o ≡ true → (v < length stands) × ((d : Stand) → is_waiting (get_or stands v d) ≡ true)
@@ -72,7 +72,7 @@ end-lengths : (v : ℕ) (ending : Ending) (visits visits' : List Visits) (output
 end-lengths v (OnTime came left) visits visits' outputs outputs' stands stands' h = (ap length h.0 ∙ length-set visits v came, ap length h.1 ∙ length-set outputs v left)
 end-lengths v (TooLate fault) visits visits' outputs outputs' stands stands' h = (ap length h.0, ap length h.1)
 
--- what is kept while the turns of a round are put down: those left, of all of them
+-- what is kept while the turns of a wave are put down: those left, of all of them
 pub record IsSettling (visits0 : List Visits) (outputs0 : List (List Stream)) (stands0 : List Stand) (turns0 : List Turn) (visits : List Visits) (outputs : List (List Stream)) (stands : List Stand) (turns : List Turn) : Type 0 where
   pub stand : length stands ≡ length stands0
   pub came : length visits ≡ length stands0

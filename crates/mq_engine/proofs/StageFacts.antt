@@ -23,14 +23,13 @@ use Rattle.mq_core.specs.declared.model.Fate.{Fate}
 use Rattle.mq_core.specs.declared.model.Fate.TheVariants.{Departs}
 use Rattle.mq_core.specs.declared.model.Kind.{Kind}
 use Rattle.mq_core.specs.declared.model.Kind.TheVariants.{Tandem, ForkJoin}
-use Rattle.mq_core.specs.declared.model.Network.{Network}
 use Rattle.mq_core.specs.declared.model.Rows.{Rows}
 use Rattle.mq_core.specs.declared.model.Stage.{Stage}
 use Rattle.mq_core.specs.declared.model.Stream.{Stream}
 use Rattle.mq_forkjoin.specs.Branches.{AreBranches, branches_of}
 use Rattle.mq_tandem.specs.Stages.{AreStages}
-use Rattle.mq_engine.specs.Turns.{IsLeaving, IsLoad, LeaveInTurn}
-use Rattle.mq_engine.proofs.Leaves.{load-sound, one-stream}
+use Rattle.mq_engine.specs.Turns.{AreAsked, IsLeaving, IsLoad, LeaveInTurn}
+use Rattle.mq_engine.proofs.Leaves.{asked-each, load-sound, one-stream}
 use Rattle.mq_engine.proofs.Lists.{Each-get_or}
 
 -- what holds of each item holds of the one at a place
@@ -168,14 +167,16 @@ branches-are columns branches asked servers f demands h a p d =
     }
 
 -- A station can work on what comes to it, at each of its servers.
-pub demands-asked : (columns : ℕ) (asked all : List Demand) → asked ≡ all → Each (IsAsked columns) all → All (λ demand. IsTrue (is_sound_demand columns demand)) asked
-demands-asked columns asked all e h = subst (All (IsAsked columns)) (sym e) (λ k d l. Each-get_or (IsAsked columns) all h k d l)
+pub columns-asked : (rows : Rows) (kind : Kind) (asked all : List Demand) (arrivals : Stream) → (h : IsLoad rows kind arrivals) → asked ≡ all → Each (IsAsked (length h.net.columns)) all → All (λ demand. AreAsked rows demand arrivals.job) asked
+columns-asked rows kind asked all arrivals h e each =
+    subst (All (λ demand. AreAsked rows demand arrivals.job)) (sym e)
+    (λ k d l. Each-get_or (λ demand. AreAsked rows demand arrivals.job) all (Each-weaker (IsAsked (length h.net.columns)) (λ demand. AreAsked rows demand arrivals.job) (λ demand s. asked-each rows kind demand arrivals h s) all each) k d l)
 
-pub loads-sound : (net : Network) (rows : Rows) (kind : Kind) (asked all : List Demand) (arrivals : Stream) (demands : List (List ℕ)) → IsLoad net rows kind arrivals → asked ≡ all → Each (IsAsked (length net.columns)) all → demands ≡ map (λ demand. map (demand_of_job rows demand) arrivals.job) asked →
+pub loads-sound : (rows : Rows) (kind : Kind) (asked all : List Demand) (arrivals : Stream) (demands : List (List ℕ)) → (h : IsLoad rows kind arrivals) → asked ≡ all → Each (IsAsked (length h.net.columns)) all → demands ≡ map (λ demand. map (demand_of_job rows demand) arrivals.job) asked →
     All (λ column. IsSoundLoad arrivals.time column) demands
-loads-sound net rows kind asked all arrivals demands h a s e =
+loads-sound rows kind asked all arrivals demands h a s e =
     subst (All (λ column. IsSoundLoad arrivals.time column)) (sym (e ∙ ap (map (λ demand. map (demand_of_job rows demand) arrivals.job)) a))
-    (λ k d l. Each-get_or (λ column. IsSoundLoad arrivals.time column) _ (Each-map (IsAsked (length net.columns)) (λ column. IsSoundLoad arrivals.time column) (λ demand. map (demand_of_job rows demand) arrivals.job) (λ demand i. load-sound net rows kind demand arrivals _ h i refl) all s) k d l)
+    (λ k d l. Each-get_or (λ column. IsSoundLoad arrivals.time column) _ (Each-map (IsAsked (length h.net.columns)) (λ column. IsSoundLoad arrivals.time column) (λ demand. map (demand_of_job rows demand) arrivals.job) (λ demand i. load-sound rows kind demand arrivals _ h i refl) all s) k d l)
 
 -- What leaves a tandem.
 none-each : (stages : List Stage) → map {B = List ℕ} (λ _. []) (map (λ (s : Stage). s.places) stages) ≡ map (λ _. []) stages

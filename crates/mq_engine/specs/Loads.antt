@@ -1,4 +1,4 @@
--- What comes to the nodes that are ready, and what the pieces of a round are.
+-- What comes to the nodes that are ready, and what the pieces of a wave are.
 use Rattle.std.specs.Prelude.{◌≡◌, ◌≤◌, ◌+◌, ◌-◌, ◌*◌, ℕ, List, Contains, length, map, min, Option, Some, None, slice_get}
 use Rattle.mq_core.specs.ColumnLaws.{arrives_of, jobs_of}
 use Rattle.mq_core.specs.Columns.{column_fates, column_late_from, founds_of}
@@ -57,7 +57,7 @@ pub record IsLoaded (plan : Plan) (rows : Rows) (v : ℕ) (arrivals : Stream) (s
   pub node : Node
   pub there : slice_get plan.net.nodes v ≡ Some node
   pub came : IsArrived plan rows v arrivals
-  pub load : IsLoad plan.net rows node.kind arrivals
+  pub load : IsLoad rows node.kind arrivals
   pub scanned : IsScanOf rows node.kind arrivals scan
 
 -- how many blocks a scan has; a station that is not scanned is one piece
@@ -159,11 +159,11 @@ IsReadyLoad load = IsReadFor load.plan.now.net load.rows.now × IsLoaded load.pl
 abbrev pub IsLoadOf : Plan → Rows → List ℕ → Load → Type 0
 IsLoadOf plan rows ready load = (load.plan.now ≡ plan) × (load.rows.now ≡ rows) × Contains ready load.number
 
--- what is known of a station in the middle of a round
+-- what is known of a station in the middle of a wave
 abbrev pub IsReadyMiddle : Middle → Type 0
 IsReadyMiddle m = IsReadyLoad m.load × IsStage m.load.plan.now m.load.rows.now m.load.number m.load.arrivals m.load.scan m.stage
 
--- what is known of a station near the end of a round
+-- what is known of a station near the end of a wave
 abbrev pub IsReadyExit : Leaving → Type 0
 IsReadyExit l = IsReadyLoad l.load × IsExit l.load.plan.now l.load.rows.now l.load.number l.load.arrivals l.load.scan l.exit
 

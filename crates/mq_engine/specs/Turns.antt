@@ -4,13 +4,18 @@ use Rattle.std.specs.List.{AllByRecursion, flat_map}
 use Rattle.mq_core.specs.Columns.{IsStream, pairs_of, rows_at, column_fates, column_outs, column_stream, column_visits, leaving_times, picked}
 use Rattle.mq_core.specs.PlanLaws.{Tells}
 use Rattle.mq_core.specs.Sound.{is_sound_kind, outputs_in}
+use Rattle.mq_core.specs.Told.{HasDemand}
 use Rattle.mq_core.specs.Wiring.{is_source_kind}
+use Rattle.mq_core.specs.declared.model.Demand.{Demand}
+use Rattle.mq_core.specs.declared.model.Demand.TheVariants.{Column}
 use Rattle.mq_core.specs.declared.model.Fate.{Fate}
 use Rattle.mq_core.specs.declared.model.Fate.TheVariants.{Departs}
 use Rattle.mq_core.specs.declared.model.Input.{Input}
 use Rattle.mq_core.specs.declared.model.Kind.{Kind}
 use Rattle.mq_core.specs.declared.model.Network.{Network}
 use Rattle.mq_core.specs.declared.model.Node.{Node}
+use Rattle.mq_core.specs.declared.model.Route.{Route}
+use Rattle.mq_core.specs.declared.model.Route.TheVariants.{Cut, Modulo, Turn}
 use Rattle.mq_core.specs.declared.model.Rows.{Rows}
 use Rattle.mq_core.specs.declared.model.Stream.{Stream}
 use Rattle.mq_core.specs.declared.model.Visits.{Visits}
@@ -50,8 +55,24 @@ AreEarly outputs = (u out : ℕ) (streams : List Stream) (stream : Stream) → s
 abbrev pub AreTold : Network → Rows → List ℕ → Type 0
 AreTold net rows jobs = (k job : ℕ) → slice_get jobs k ≡ Some job → Tells net rows job
 
--- arrivals that a node of this kind can work on: in order, few and early, and the rows tell what each job asks for
-pub record IsLoad (net : Network) (rows : Rows) (kind : Kind) (arrivals : Stream) : Type 0 where
+-- the rows tell what each of these jobs asks for by this demand
+abbrev pub AreAsked : Rows → Demand → List ℕ → Type 0
+AreAsked rows demand jobs = (k job : ℕ) → slice_get jobs k ≡ Some job → HasDemand rows demand job
+
+-- the rows have the value of this job that a route looks at; by turns it looks at none
+abbrev pub HasRouteValue : Rows → Route → ℕ → Type 0
+HasRouteValue rows (Modulo outputs column) job = HasDemand rows (Column column) job
+HasRouteValue rows (Turn outputs) job = Unit {0}
+HasRouteValue rows (Cut column thresholds) job = HasDemand rows (Column column) job
+
+-- they have that of each of these jobs
+abbrev pub AreRouted : Rows → Route → List ℕ → Type 0
+AreRouted rows route jobs = (k job : ℕ) → slice_get jobs k ≡ Some job → HasRouteValue rows route job
+
+-- arrivals that a node of this kind can work on: in order, few and early; in some network its numbers are in their ranges, and
+-- the rows tell what each job asks for at its nodes
+pub record IsLoad (rows : Rows) (kind : Kind) (arrivals : Stream) : Type 0 where
+  pub net : Network
   pub sound : IsTrue (is_sound_kind (length net.columns) kind)
   pub ordered : IsEarlyStream arrivals
   pub few : length arrivals.time ≤ 1048576

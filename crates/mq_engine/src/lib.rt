@@ -1,4 +1,4 @@
-//! The engine: a run of a network, in rounds over the nodes whose inputs are done.
+//! The engine: a run of a network, in waves over the nodes whose inputs are done.
 #![tactic(auto)]
 
 ghost use Rattle.std.specs.Prelude.{◌≡◌, ◌≤◌, [], filter, IfErr, IfOk, None};
@@ -16,12 +16,10 @@ mod firsts;
 mod late;
 mod laws;
 mod loads;
-mod losses;
 mod middles;
 mod outflow;
 mod progress;
 mod ready;
-mod series;
 mod stations;
 mod turns;
 
@@ -42,7 +40,7 @@ use std::thread::Threads;
 ///
 /// Each node is worked out alone, behind all that it reads: its arrivals are the rows of a source by
 /// time, or the streams that its ports read, merged by time and then port; the recurrence of its
-/// kind gives the departures. All nodes whose inputs are done are worked out in one round, by 1 to 64
+/// kind gives the departures. All nodes whose inputs are done are worked out in one wave, by 1 to 64
 /// workers that draw pieces; a server with more jobs than a block is cut into blocks of at least that
 /// many jobs, 16,384 at most, and scanned (Greenberg, Lubachevsky and Mitrani 1991). The gate is
 /// entered with each piece that is drawn. The run is the same for all workers, blocks and gates.
@@ -69,7 +67,7 @@ pub fn run<R: Threads + Sync, G: Gate>(
 {
     core_laws();
     let mut progress = beginning(alloc, plan.net.nodes.len())?;
-    'rounds: loop {
+    'waves: loop {
         let ready = ready_nodes(alloc, plan, &progress.stands)?;
         if ready.is_empty() {
             return ended(plan, rows, progress);

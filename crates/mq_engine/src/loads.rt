@@ -5,13 +5,13 @@ ghost use Rattle.mq_core.specs.Theorems.{IsReadFor};
 ghost use Rattle.mq_core.specs.declared.model.Kind.TheVariants.{Server};
 ghost use Rattle.mq_engine.specs.Loads.{IsLoaded, IsScanOf};
 ghost use Rattle.mq_engine.specs.Progress.{CanWorkAll};
-ghost use Rattle.mq_engine.specs.Turns.{AreEarly, AreTold, IsLoad};
+ghost use Rattle.mq_engine.specs.Turns.{AreEarly, IsLoad};
 
 use crate::arrivals::arrivals_at;
 use crate::laws::core_laws;
 use crate::outflow::demands_of;
 use mq_base::{List, OutOfMemory};
-use mq_core::{Demand, Kind, Network, Plan, Rows, Stream};
+use mq_core::{Demand, Kind, Plan, Rows, Stream};
 use mq_crew::Pieces;
 use mq_pass::block_size;
 use mq_scan::{Blocks, cut};
@@ -65,14 +65,7 @@ impl<'a> Pieces for Arriving<'a> {
         let number = self.ready[b as usize];
         let node = self.plan.net.nodes.get(number as usize);
         let arrivals = arrivals_at(alloc, self.rows, number, node, self.outputs)?;
-        let scan = scan_of(
-            alloc,
-            &self.plan.net,
-            self.rows,
-            &node.kind,
-            &arrivals,
-            self.block,
-        )?;
+        let scan = scan_of(alloc, self.rows, &node.kind, &arrivals, self.block)?;
         Ok(Load {
             plan: self.plan,
             rows: self.rows,
@@ -86,20 +79,19 @@ impl<'a> Pieces for Arriving<'a> {
 // How a station of this kind is scanned. A station with one block is not.
 fn scan_of(
     alloc: Global,
-    net: &Network,
     rows: &Rows,
     kind: &Kind,
     arrivals: &Stream,
     block: u32,
 ) -> Result<Option<Scan>, OutOfMemory>
-    requires load { IsLoad net.now rows.now kind.now arrivals.now }
+    requires load { IsLoad rows.now kind.now arrivals.now }
     requires some { 1 ≤ block }
     ensures { IfOk result (λ scan. IsScanOf rows.now kind.now arrivals.now scan) }
 {
     let size = arrivals.job.len() as u32;
     match kind {
         Kind::Server(demand) if size > block => {
-            let demands = demands_of(alloc, net, rows, demand, &arrivals.job)?;
+            let demands = demands_of(alloc, rows, demand, &arrivals.job)?;
             let blocks = cut(size, block_size(size, block));
             Ok(Some(Scan { demands, blocks }))
         }

@@ -1,12 +1,11 @@
 // What leaves a station, and what several kinds of station have in common.
-ghost use Rattle.std.specs.Prelude.{◌≡◌, ◌∷◌, [], length, map, IfOk, IsTrue};
-ghost use Rattle.mq_core.specs.Ranges.{is_sound_demand};
+ghost use Rattle.std.specs.Prelude.{◌≡◌, ◌∷◌, [], All, length, map, IfOk};
 ghost use Rattle.mq_core.specs.Handling.{demand_of_job};
 ghost use Rattle.mq_core.specs.declared.model.Fate.TheVariants.{Departs};
-ghost use Rattle.mq_engine.specs.Turns.{AreTold, LeaveInTurn};
+ghost use Rattle.mq_engine.specs.Turns.{AreAsked, LeaveInTurn};
 
 use mq_base::{List, OutOfMemory};
-use mq_core::{Demand, Fate, Network, Rows, Stream, demand_of};
+use mq_core::{Demand, Fate, Rows, Stream, demand_of};
 use std::alloc::Global;
 
 /// What leaves a station: the fate of each arrival, and by output the jobs and times by position.
@@ -21,13 +20,11 @@ pub struct Outflow {
 #[inline(never)]
 pub fn demands_of(
     alloc: Global,
-    net: &Network,
     rows: &Rows,
     demand: &Demand,
     jobs: &List<u32>,
 ) -> Result<List<u64>, OutOfMemory>
-    requires demand { IsTrue (is_sound_demand (length net.now.columns) demand.now) }
-    requires told { AreTold net.now rows.now jobs.now }
+    requires { AreAsked rows.now demand.now jobs.now }
     ensures { IfOk result (λ demands. demands ≡ map (demand_of_job rows.now demand.now) jobs.now) }
 {
     let mut demands = Vec::with_capacity(alloc, jobs.len())?;
@@ -35,6 +32,23 @@ pub fn demands_of(
         demands.push_reserved(demand_of(rows, demand, *jobs.get(at)));
     }
     Ok(List::from_vec(demands))
+}
+
+// What each job asks for at each server, in ticks: one column a server, with one demand a job.
+pub fn columns_of(
+    alloc: Global,
+    rows: &Rows,
+    asked: &List<Demand>,
+    jobs: &List<u32>,
+) -> Result<List<List<u64>>, OutOfMemory>
+    requires { All (λ demand. AreAsked rows.now demand jobs.now) asked.now }
+    ensures { IfOk result (λ columns. columns ≡ map (λ demand. map (demand_of_job rows.now demand) jobs.now) asked.now) }
+{
+    let mut columns = List::new(alloc);
+    for at in 0..asked.len() {
+        columns.push(demands_of(alloc, rows, asked.get(at), jobs)?)?;
+    }
+    Ok(columns)
 }
 
 // What leaves a station with one output, which the arrivals leave at these times, in their order.

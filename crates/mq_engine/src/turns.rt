@@ -54,10 +54,10 @@ pub fn after_of(
     kind: &Kind,
     arrivals: &Stream,
 ) -> Result<After, OutOfMemory>
-    requires { IsLoad net.now rows.now kind.now arrivals.now }
+    requires { IsLoad rows.now kind.now arrivals.now }
     ensures { IfOk result (λ after. IsAfter net.now rows.now number kind.now arrivals.now after) }
 {
-    let leaving = leaving(alloc, net, rows, kind, arrivals)?;
+    let leaving = leaving(alloc, rows, kind, arrivals)?;
     seen(alloc, net, rows, number, kind, arrivals, leaving)
 }
 
@@ -71,7 +71,7 @@ fn seen(
     arrivals: &Stream,
     leaving: Outflow,
 ) -> Result<After, OutOfMemory>
-    requires load { IsLoad net.now rows.now kind.now arrivals.now }
+    requires load { IsLoad rows.now kind.now arrivals.now }
     requires leaving { IsLeaving rows.now kind.now arrivals.now leaving.fates leaving.streams }
     ensures { IfOk result (λ after. IsAfter net.now rows.now number kind.now arrivals.now after) }
 {

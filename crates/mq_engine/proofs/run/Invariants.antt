@@ -2,8 +2,8 @@ use Rattle.std.proofs.Common.{count_by}
 use Rattle.mq_engine.specs.Progress.{IsReached, is_waiting}
 use Rattle.mq_engine.proofs.run.Given as goal
 
-abbrev pub invariant-rounds : goal.invariant-rounds
-invariant-rounds g l = IsReached l.plan l.rows l.progress.visits.items l.progress.outputs.items l.progress.stands.items
+abbrev pub invariant-waves : goal.invariant-waves
+invariant-waves g l = IsReached l.plan l.rows l.progress.visits.items l.progress.outputs.items l.progress.stands.items
 
-abbrev pub decreases-rounds : goal.decreases-rounds
-decreases-rounds g l = count_by is_waiting l.progress.stands.items
+abbrev pub decreases-waves : goal.decreases-waves
+decreases-waves g l = count_by is_waiting l.progress.stands.items

@@ -2,7 +2,7 @@ use Rattle.std.proofs.Common.{subst}
 use Rattle.mq_crew.specs.Crew.{AreAll}
 use Rattle.mq_engine.specs.Loads.{IsClosed, closings_of}
 use Rattle.mq_engine.specs.declared.exits.Exit.{Exit}
-use Rattle.mq_engine.proofs.Rounds.{known}
+use Rattle.mq_engine.proofs.Waves.{known}
 use Rattle.mq_engine.proofs.Scanning.{loaded-inside, load-at}
 use Rattle.mq_engine.proofs.exits.turn_of.Goals as goal
 

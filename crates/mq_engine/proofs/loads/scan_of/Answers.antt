@@ -1,6 +1,15 @@
-use Rattle.std.proofs.Common.{arith}
+use Rattle.std.proofs.Common.{arith, subst}
+use Rattle.mq_core.specs.declared.model.Kind.{Kind}
+use Rattle.mq_core.specs.declared.model.Kind.TheVariants.{Server}
+use Rattle.mq_engine.specs.Turns.{IsLoad}
 use Rattle.mq_engine.proofs.Groups.{blocks-most}
+use Rattle.mq_engine.proofs.Leaves.{asked-each}
 use Rattle.mq_engine.proofs.loads.scan_of.Goals as goal
+
+pub demands_of-requires : goal.demands_of-requires
+demands_of-requires c =
+    let load = subst (λ (k : Kind). IsLoad c.args.rows.now k c.args.arrivals.now) c.in-Server.is c.requires.load in
+    asked-each c.args.rows.now (Server c.in-Server.demand) c.in-Server.demand c.args.arrivals.now load load.sound
 
 pub returns-in_ok-demands-in-Server : goal.returns-in_ok-demands-in-Server
 returns-in_ok-demands-in-Server c =

@@ -12,4 +12,4 @@ loop-at-preserved c =
     }
 
 pub demand_of-requires : goal.demand_of-requires
-demand_of-requires c = ((c.requires.told c.loop-at.at c.get.result.now c.get.ensures).demand c.args.demand.now c.requires.demand).0
+demand_of-requires c = c.requires c.loop-at.at c.get.result.now c.get.ensures

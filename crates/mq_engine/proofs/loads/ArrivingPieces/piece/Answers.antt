@@ -1,6 +1,6 @@
 use Rattle.std.proofs.Common.{refl}
 use Rattle.std.proofs.lemmas.Option.{slice_get-get_or}
-use Rattle.mq_engine.proofs.Rounds.{arrived, loaded}
+use Rattle.mq_engine.proofs.Waves.{arrived, loaded}
 use Rattle.mq_engine.proofs.loads.ArrivingPieces.piece.Goals as goal
 
 pub scan_of-requires-clause-load : goal.scan_of-requires-clause-load

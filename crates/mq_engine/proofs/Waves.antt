@@ -1,0 +1,327 @@
+-- The waves of the engine: what is done so far are the columns of the run.
+use Rattle.std.proofs.Common.{◌≡◌, ◌≢◌, ℕ, zero, suc, [], ◌++◌, ◌+◌, ◌^◌, ◌<◌, ◌≤◌, ◌⊎◌, inl, inr, Bool, true, false, cond, List, length, set, map, Option, Some, None, refl, sym, ap, ◌∙◌, subst, arith, length-append}
+use Rattle.std.specs.Prelude.{◌==◌, nat_le, slice_get}
+use Rattle.std.specs.List.{flat_map, list_all, list_any, zip}
+use Rattle.std.specs.Option.{option_to_list}
+use Rattle.std.specs.Str.{bytes_eq}
+use Rattle.std.proofs.lemmas.Bool.{and_parts}
+use Rattle.std.proofs.lemmas.Bool.Decides.{nat_tests}
+use Rattle.std.proofs.lemmas.List.{length-map, length-set}
+use Rattle.std.proofs.lemmas.Option.{slice_get_within}
+use Rattle.mq_base.proofs.lemmas.Lists.{some_inj}
+use Rattle.mq_core.proofs.Lists.Each.{Each-weaker}
+use Rattle.mq_core.specs.ColumnLaws.{arrives_of, jobs_of}
+use Rattle.mq_core.specs.Columns.{IsStream, by_first, column_fates, column_late, column_late_from, column_outs, column_stream, column_visits, leaving_times, picked, pairs_of, rows_at, streams_below}
+use Rattle.mq_core.specs.Results.{Late as LateVisit, first_of, stream_from, visits_of}
+use Rattle.mq_core.specs.RunLaws.{HasColumns}
+use Rattle.mq_core.specs.Names.{is_name}
+use Rattle.mq_core.specs.Sound.{are_distinct, columns_of_kind, is_sound_node, mentions_from, outputs_in, same_input}
+use Rattle.mq_core.specs.Ranges.{is_within}
+use Rattle.mq_core.specs.StandardTable.{run_of}
+use Rattle.mq_core.specs.Theorems.{IsReadFor}
+use Rattle.mq_core.specs.Wiring.{first_ready, is_source_kind, ranked_after}
+use Rattle.mq_core.specs.declared.model.Input.{Input}
+use Rattle.mq_core.specs.declared.model.Node.{Node}
+use Rattle.mq_core.specs.declared.model.Plan.{Plan}
+use Rattle.mq_core.specs.declared.model.Rows.{Rows}
+use Rattle.mq_core.specs.declared.model.Stream.{Stream}
+use Rattle.mq_core.specs.declared.model.Visits.{Visits}
+use Rattle.mq_engine.specs.CoreLaws.{CoreLaws}
+use Rattle.mq_engine.specs.Turns.{AreEarly, AreStreams, IsEarlyStream, IsLoad, IsThere, IsTurn, arriving, pairs_by, pairs_in, pairs_read}
+use Rattle.mq_engine.specs.Loads.{IsArrived}
+use Rattle.mq_engine.specs.Progress.{CanWork, IsEndPut, IsEnding, IsKnown, IsPut, IsReached, IsWorkedOut, Tells, is_done, is_read, is_ready, is_waiting, reads_done, stands_at}
+use Rattle.mq_engine.specs.declared.fault.PastFault.{PastFault}
+use Rattle.mq_engine.specs.declared.progress.Stand.{Stand}
+use Rattle.mq_engine.specs.declared.progress.Stand.TheVariants.{Waiting, Done, Late}
+use Rattle.mq_engine.specs.declared.turns.Ending.{Ending}
+use Rattle.mq_engine.specs.declared.turns.Ending.TheVariants.{OnTime, TooLate}
+use Rattle.mq_engine.specs.declared.turns.Turn.{Turn}
+use Rattle.mq_engine.proofs.Early.{EarlyPairs, EarlyTimes, flat-early, picked-early, reads-early, rows-early, stream-early, leaving-early}
+use Rattle.mq_engine.proofs.Leaves.{none-late}
+use Rattle.mq_engine.proofs.Lists.{Each-at, Each-get, all-get, flat_map-same, get-set_other, get-set_same, zip-jobs, zip-times}
+
+-- a node all of whose inputs are done
+pub record IsReady (plan : Plan) (stands : List Stand) (v : ℕ) (node : Node) : Type 0 where
+  pub there : slice_get plan.net.nodes v ≡ Some node
+  pub reads : (port : ℕ) (input : Input) → slice_get node.inputs port ≡ Some input → slice_get stands input.node ≡ Some Done
+
+-- what a port reads is there, and is what the run has
+record HasInput (plan : Plan) (rows : Rows) (outputs : List (List Stream)) (input : Input) : Type 0 where
+  node : Node
+  out : input.out < outputs_in node.kind
+  streams : slice_get outputs input.node ≡ Some (streams_below (run_of plan rows) input.node (outputs_in node.kind))
+
+has-input : (laws : CoreLaws) (plan : Plan) (rows : Rows) (visits : List Visits) (outputs : List (List Stream)) (stands : List Stand) (v : ℕ) (node : Node) → IsReached plan rows visits outputs stands → IsReady plan stands v node → (port : ℕ) (input : Input) → slice_get node.inputs port ≡ Some input → HasInput plan rows outputs input
+has-input laws plan rows visits outputs stands v node r n port input e =
+    let named = (laws.limits plan v node n.there).reads port input e in
+    record {
+      node = named.node;
+      out = named.out;
+      streams = (r.told input.node named.node Done named.there (n.reads port input e)).0.outputs;
+    }
+
+pub inputs-there : (laws : CoreLaws) (plan : Plan) (rows : Rows) (visits : List Visits) (outputs : List (List Stream)) (stands : List Stand) (v : ℕ) (node : Node) → IsReached plan rows visits outputs stands → IsReady plan stands v node → (port : ℕ) (input : Input) → slice_get node.inputs port ≡ Some input → IsThere outputs input
+inputs-there laws plan rows visits outputs stands v node r n port input e =
+    let h = has-input laws plan rows visits outputs stands v node r n port input e in
+    record {
+      node = slice_get_within outputs input.node _ h.streams;
+      out = λ streams g. slice_get_within streams input.out _ (ap (λ s. slice_get s input.out) (some_inj _ _ (sym g ∙ h.streams)) ∙ laws.have (run_of plan rows) input.node (outputs_in h.node.kind) input.out h.out);
+    }
+
+inputs-read : (laws : CoreLaws) (plan : Plan) (rows : Rows) (visits : List Visits) (outputs : List (List Stream)) (stands : List Stand) (v : ℕ) (node : Node) → IsReached plan rows visits outputs stands → IsReady plan stands v node → (port : ℕ) (input : Input) → slice_get node.inputs port ≡ Some input →
+    pairs_read outputs input ≡ pairs_of (stream_from ((run_of plan rows).stations input.node) input.out)
+inputs-read laws plan rows visits outputs stands v node r n port input e =
+    let h = has-input laws plan rows visits outputs stands v node r n port input e in
+    ap (λ o. pairs_in o input.out) h.streams ∙ ap pairs_by (laws.have (run_of plan rows) input.node (outputs_in h.node.kind) input.out h.out)
+
+arriving-run : (laws : CoreLaws) (plan : Plan) (rows : Rows) (visits : List Visits) (outputs : List (List Stream)) (stands : List Stand) (v : ℕ) (node : Node) → IsReadFor plan.net rows → IsReached plan rows visits outputs stands → IsReady plan stands v node →
+    zip (arrives_of ((run_of plan rows).stations v).visits) (jobs_of ((run_of plan rows).stations v).visits) ≡ by_first (arriving rows v node outputs)
+arriving-run laws plan rows visits outputs stands v node read r n = go (is_source_kind node.kind) refl
+  where
+    go : (b : Bool) → is_source_kind node.kind ≡ b → zip (arrives_of ((run_of plan rows).stations v).visits) (jobs_of ((run_of plan rows).stations v).visits) ≡ by_first (cond b (rows_at v 0 rows.source rows.time) (flat_map (pairs_read outputs) node.inputs))
+    go true e = (laws.arrivals plan rows read v node n.there).source e
+    go false e = (laws.arrivals plan rows read v node n.there).other e ∙ ap by_first (sym (flat_map-same _ _ node.inputs (inputs-read laws plan rows visits outputs stands v node r n)))
+
+pub arrived : (plan : Plan) (rows : Rows) (outputs : List (List Stream)) (v : ℕ) (node : Node) (arrivals : Stream) → CanWork plan rows outputs v → slice_get plan.net.nodes v ≡ Some node →
+    IsStream arrivals → pairs_of arrivals ≡ by_first (arriving rows v node outputs) → IsArrived plan rows v arrivals
+arrived plan rows outputs v node arrivals can there s e =
+    let xs = ((run_of plan rows).stations v).visits in
+    let even : length (jobs_of xs) ≡ length (arrives_of xs) = length-map xs _ ∙ sym (length-map xs _) in
+    let same : zip arrivals.time arrivals.job ≡ zip (arrives_of xs) (jobs_of xs) = e ∙ sym (can.comes node there) in
+    record {
+      job = zip-jobs arrivals.time arrivals.job (arrives_of xs) (jobs_of xs) s.even even same;
+      time = zip-times arrivals.time arrivals.job (arrives_of xs) (jobs_of xs) s.even even same;
+    }
+
+-- the station can work on them
+arriving-early : (plan : Plan) (rows : Rows) (outputs : List (List Stream)) (v : ℕ) (node : Node) → IsReadFor plan.net rows → AreEarly outputs → EarlyPairs (arriving rows v node outputs)
+arriving-early plan rows outputs v node read early = go (is_source_kind node.kind)
+  where
+    go : (b : Bool) → EarlyPairs (cond b (rows_at v 0 rows.source rows.time) (flat_map (pairs_read outputs) node.inputs))
+    go true = rows-early v 0 rows.source rows.time (Each-at _ rows.time read.early)
+    go false = flat-early (pairs_read outputs) (λ input. reads-early outputs input early) node.inputs
+
+pub loaded : (laws : CoreLaws) (plan : Plan) (rows : Rows) (outputs : List (List Stream)) (v : ℕ) (node : Node) (arrivals : Stream) → IsReadFor plan.net rows → AreEarly outputs → CanWork plan rows outputs v → slice_get plan.net.nodes v ≡ Some node →
+    IsStream arrivals → pairs_of arrivals ≡ by_first (arriving rows v node outputs) → IsLoad rows node.kind arrivals
+loaded laws plan rows outputs v node arrivals read early can there s e =
+    let a = arrived plan rows outputs v node arrivals can there s e in
+    let xs = ((run_of plan rows).stations v).visits in
+    record {
+      net = plan.net;
+      sound = (laws.limits plan v node there).kind;
+      ordered = record { ordered = s; early = stream-early arrivals (arriving rows v node outputs) s e (arriving-early plan rows outputs v node read early) };
+      few =
+          let long : length arrivals.time ≡ length xs = ap length a.time ∙ length-map xs _ in
+          let most = laws.few plan rows read v in
+          let times = read.times in
+          let count = read.count in
+          omega arith;
+      told = λ k job g. laws.demands plan.net rows read job (subst (λ m. job < m) read.times (Each-get (λ j. j < length rows.time) (jobs_of xs) k job (laws.jobs plan rows v) (subst (λ l. slice_get l k ≡ Some job) a.job g)));
+    }
+
+-- what a turn makes of the node is what the run has
+made : (laws : CoreLaws) (plan : Plan) (rows : Rows) (v : ℕ) (node : Node) (arrivals : Stream) (came : Visits) (left : List Stream) → IsReadFor plan.net rows → slice_get plan.net.nodes v ≡ Some node → IsArrived plan rows v arrivals → IsTurn rows node.kind arrivals came left →
+    (came ≡ visits_of node.kind ((run_of plan rows).stations v)) × (left ≡ streams_below (run_of plan rows) v (outputs_in node.kind))
+made laws plan rows v node arrivals came left read there a t =
+    let c = laws.columns plan rows read v node there in (
+      t.columns ∙ ((λ k. column_visits rows node.kind (a.job k) (a.time k)) ∙ sym c.visits),
+      laws.make (run_of plan rows) v (outputs_in node.kind) left t.outflow.count (λ out l. t.outflow.each out l ∙ ((λ k. Some (column_stream rows node.kind (a.job k) (a.time k) out)) ∙ ap Some (sym (c.stream out)))),
+    )
+
+-- its late visits are those of the run
+pub same-late : (laws : CoreLaws) (plan : Plan) (rows : Rows) (v : ℕ) (node : Node) (arrivals : Stream) (first : Option LateVisit) → IsReadFor plan.net rows → slice_get plan.net.nodes v ≡ Some node → IsArrived plan rows v arrivals →
+    first_of (column_late_from plan.net.bound v 0 (column_fates rows node.kind arrivals.job arrivals.time)) ≡ first →
+    first_of (column_late plan.net.bound v (visits_of node.kind ((run_of plan rows).stations v))) ≡ first
+same-late laws plan rows v node arrivals first read there a h =
+    ap (λ (x : Visits). first_of (column_late plan.net.bound v x)) (laws.columns plan rows read v node there).visits
+    ∙ ((λ k. first_of (column_late_from plan.net.bound v 0 (column_fates rows node.kind (sym a.job k) (sym a.time k)))) ∙ h)
+
+within-limits : (plan : Plan) → (length plan.net.nodes ≤ 64) × (plan.net.bound ≤ 2 ^ 60)
+within-limits plan =
+    let net = plan.net in
+    let a = and_parts _ (mentions_from 0 (length net.columns) (flat_map (λ (node : Node). columns_of_kind node.kind) net.nodes)) plan.sound in
+    let b = and_parts _ (are_distinct same_input (flat_map (λ (node : Node). node.inputs) net.nodes)) a.0 in
+    let c = and_parts _ (list_all (is_sound_node (length net.columns) net.nodes) net.nodes) b.0 in
+    let d = and_parts _ (are_distinct bytes_eq net.columns) c.0 in
+    let e = and_parts _ (list_all is_name net.columns) d.0 in
+    let f = and_parts _ (are_distinct bytes_eq (map (λ (node : Node). node.name) net.nodes)) e.0 in
+    let g = and_parts _ (list_any (λ (node : Node). is_source_kind node.kind) net.nodes) f.0 in
+    let h = and_parts _ (nat_le net.bound (2 ^ 60)) g.0 in
+    let i = and_parts (is_within 1 64 (length net.nodes)) _ h.0 in
+    let j = and_parts (nat_le 1 (length net.nodes)) (nat_le (length net.nodes) 64) i.0 in
+    let few : nat_le (length net.nodes) 64 ≡ true = j.1 in
+    let early : nat_le net.bound (2 ^ 60) ≡ true = h.1 in
+    (grind (arith, nat_tests), grind (arith, nat_tests))
+
+bound-within : (plan : Plan) → plan.net.bound ≤ 2 ^ 60
+bound-within plan = (within-limits plan).1
+
+-- how many nodes a ranking has
+ranked-few : (count : ℕ) (nodes : List Node) (ranked : List ℕ) → length (ranked_after count nodes ranked) ≤ length ranked + count
+unfolding ranked_after
+ranked-few zero nodes ranked = omega arith
+ranked-few (suc count) nodes ranked =
+    let ready = first_ready ranked 0 nodes in
+    let next = ranked-few count nodes (ranked ++ option_to_list ready) in
+    let grown = length-append ranked (option_to_list ready) in
+    let one = at-most ready in
+    omega arith
+  where
+    at-most : (o : Option ℕ) → length (option_to_list o) ≤ 1
+    at-most None = omega arith
+    at-most (Some n) = omega arith
+
+pub order-few : (plan : Plan) → length plan.order ≤ 64
+order-few plan =
+    let few = ranked-few (length plan.net.nodes) plan.net.nodes [] in
+    let same = ap length plan.ranked in
+    let most = (within-limits plan).0 in
+    omega arith
+
+-- the streams of a node whose visits are on time are early
+left-early : (laws : CoreLaws) (plan : Plan) (rows : Rows) (v : ℕ) (node : Node) (arrivals : Stream) (left : List Stream) → EarlyTimes arrivals.time → AreStreams rows node.kind arrivals left →
+    first_of (column_late_from plan.net.bound v 0 (column_fates rows node.kind arrivals.job arrivals.time)) ≡ None → (out : ℕ) (stream : Stream) → slice_get left out ≡ Some stream → EarlyTimes stream.time
+left-early laws plan rows v node arrivals left came t h out stream e =
+    let inside : out < outputs_in node.kind = subst (λ m. out < m) t.count (slice_get_within left out stream e) in
+    let bound = bound-within plan in
+    subst (λ (s : Stream). EarlyTimes s.time) (some_inj _ _ (sym (t.each out inside) ∙ e))
+    ((laws.keeps node.kind (record { job = picked out (column_outs rows node.kind arrivals.job arrivals.time) arrivals.job; time = picked out (column_outs rows node.kind arrivals.job arrivals.time) (leaving_times arrivals.time (column_fates rows node.kind arrivals.job arrivals.time)) })).times (2 ^ 60)
+    (picked-early out (column_outs rows node.kind arrivals.job arrivals.time) (leaving_times arrivals.time (column_fates rows node.kind arrivals.job arrivals.time))
+    (leaving-early arrivals.time (column_fates rows node.kind arrivals.job arrivals.time) came
+    (Each-weaker (λ time. time ≤ plan.net.bound) (λ time. time ≤ 2 ^ 60) (λ time l. omega arith) _ (none-late plan.net.bound v 0 (column_fates rows node.kind arrivals.job arrivals.time) h)))))
+
+left-ordered : (laws : CoreLaws) (plan : Plan) (rows : Rows) (v outs out : ℕ) (left : List Stream) (stream : Stream) → left ≡ streams_below (run_of plan rows) v outs → length left ≡ outs → slice_get left out ≡ Some stream → IsStream stream
+left-ordered laws plan rows v outs out left stream e count g =
+    let inside : out < outs = subst (λ m. out < m) count (slice_get_within left out stream g) in
+    let same : stream_from ((run_of plan rows).stations v) out ≡ stream = some_inj _ _ (sym (laws.have (run_of plan rows) v outs out inside) ∙ (ap (λ (l : List Stream). slice_get l out) (sym e) ∙ g)) in
+    subst IsStream same ((laws.streams plan rows v).streams out)
+
+decide-eq : (a b : ℕ) → (a ≡ b) ⊎ (a ≢ b)
+decide-eq a b = go (a == b) refl
+  where
+    go : (t : Bool) → (a == b) ≡ t → (a ≡ b) ⊎ (a ≢ b)
+    go true e = inl (grind (arith, nat_tests))
+    go false e = inr (λ s. grind (arith, nat_tests))
+
+-- what the turn of a node gives is what the run has
+pub known : (laws : CoreLaws) (plan : Plan) (rows : Rows) (v : ℕ) (node : Node) (arrivals : Stream) (ending : Ending) → IsReadFor plan.net rows → IsArrived plan rows v arrivals → IsLoad rows node.kind arrivals → slice_get plan.net.nodes v ≡ Some node →
+    IsEnding plan.net rows v node.kind arrivals ending → IsKnown plan rows v node ending
+known laws plan rows v node arrivals (OnTime came left) read is load there h =
+    let new = made laws plan rows v node arrivals came left read there is h.0 in (
+      new.0,
+      new.1,
+      λ out stream g. record {
+        ordered = left-ordered laws plan rows v (outputs_in node.kind) out left stream new.1 h.0.outflow.count g;
+        early = left-early laws plan rows v node arrivals left load.ordered.early h.0.outflow h.1 out stream g;
+      },
+      same-late laws plan rows v node arrivals None read there is h.1,
+    )
+known laws plan rows v node arrivals (TooLate fault) read is load there h = same-late laws plan rows v node arrivals _ read there is h
+
+-- a node that is ready can be worked out
+pub can-work : (laws : CoreLaws) (plan : Plan) (rows : Rows) (visits : List Visits) (outputs : List (List Stream)) (stands : List Stand) (v : ℕ) → IsReadFor plan.net rows → IsReached plan rows visits outputs stands → is_ready plan.net.nodes stands v ≡ true → CanWork plan rows outputs v
+can-work laws plan rows visits outputs stands v read r ready =
+    record {
+      inside = subst (λ m. v < m) r.stand (stands-inside (slice_get stands v) refl (and_parts _ _ ready).0);
+      there = λ node port input at e. inputs-there laws plan rows visits outputs stands v node r (is-ready node at) port input e;
+      comes = λ node at. arriving-run laws plan rows visits outputs stands v node read r (is-ready node at);
+    }
+  where
+    stands-inside : (o : Option Stand) → slice_get stands v ≡ o → stands_at is_waiting o ≡ true → v < length stands
+    stands-inside None e h = absurd cc
+    stands-inside (Some at) e h = slice_get_within stands v at e
+
+    done-at : (u : ℕ) (o : Option Stand) → slice_get stands u ≡ o → stands_at is_done o ≡ true → slice_get stands u ≡ Some Done
+    done-at u None e h = absurd cc
+    done-at u (Some Waiting) e h = absurd cc
+    done-at u (Some Done) e h = e
+    done-at u (Some (Late fault)) e h = absurd cc
+
+    is-ready : (node : Node) → slice_get plan.net.nodes v ≡ Some node → IsReady plan stands v node
+    is-ready node at = record {
+      there = at;
+      reads = λ port input e.
+          let all : list_all (is_read stands) node.inputs ≡ true = ap (reads_done stands) (sym at) ∙ (and_parts (stands_at is_waiting (slice_get stands v)) _ ready).1 in
+          done-at input.node (slice_get stands input.node) refl (all-get (is_read stands) node.inputs port input all e);
+    }
+
+-- what stands at a node after its turn
+module _ (plan : Plan) (rows : Rows) (visits : List Visits) (outputs : List (List Stream)) (stands : List Stand) (v : ℕ) (node : Node) (there : slice_get plan.net.nodes v ≡ Some node) (r : IsReached plan rows visits outputs stands) where
+  inside : v < length plan.net.nodes
+  inside = slice_get_within plan.net.nodes v node there
+
+  same-node : (w : ℕ) (other : Node) → w ≡ v → slice_get plan.net.nodes w ≡ Some other → node ≡ other
+  same-node w other same e = some_inj _ _ (sym there ∙ (ap (slice_get plan.net.nodes) (sym same) ∙ e))
+
+  module _ (came : Visits) (left : List Stream) (k : IsKnown plan rows v node (OnTime came left)) where
+    here : HasColumns (run_of plan rows) (record { visits = set visits v came; outputs = set outputs v left }) v node
+    here =
+        let in_visits : v < length visits = subst (λ m. v < m) (sym r.came) inside in
+        let in_outputs : v < length outputs = subst (λ m. v < m) (sym r.left) inside in
+        record {
+          visits = get-set_same visits v came in_visits ∙ ap Some k.0;
+          outputs = get-set_same outputs v left in_outputs ∙ ap Some k.1;
+        }
+
+    elsewhere : (w : ℕ) (other : Node) (at : Stand) → w ≢ v → Tells plan rows visits outputs w other at → Tells plan rows (set visits v came) (set outputs v left) w other at
+    elsewhere w other Waiting d h = tt
+    elsewhere w other Done d h = (
+      record {
+        visits = get-set_other visits v w came d ∙ h.0.visits;
+        outputs = get-set_other outputs v w left d ∙ h.0.outputs;
+      },
+      h.1,
+    )
+    elsewhere w other (Late fault) d h = h
+
+    told : (w : ℕ) (other : Node) (at : Stand) → slice_get plan.net.nodes w ≡ Some other → slice_get (set stands v Done) w ≡ Some at → (w ≡ v) ⊎ (w ≢ v) → Tells plan rows (set visits v came) (set outputs v left) w other at
+    told w other at e g (inl same) =
+        let in_stands : v < length stands = subst (λ m. v < m) (sym r.stand) inside in
+        let is-done : Done ≡ at = some_inj _ _ (sym (get-set_same stands v Done in_stands) ∙ (ap (slice_get (set stands v Done)) (sym same) ∙ g)) in
+        subst (λ (p : ℕ × Node × Stand). Tells plan rows (set visits v came) (set outputs v left) p.0 p.1 p.2) (λ i. (sym same i, same-node w other same e i, is-done i)) (here, k.3)
+    told w other at e g (inr apart) = elsewhere w other at apart (r.told w other at e (sym (get-set_other stands v w Done apart) ∙ g))
+
+    early : (u out : ℕ) (streams : List Stream) (stream : Stream) → slice_get (set outputs v left) u ≡ Some streams → slice_get streams out ≡ Some stream → (u ≡ v) ⊎ (u ≢ v) → IsEarlyStream stream
+    early u out streams stream a b (inl same) =
+        let in_outputs : v < length outputs = subst (λ m. v < m) (sym r.left) inside in
+        let is-left : left ≡ streams = some_inj _ _ (sym (get-set_same outputs v left in_outputs) ∙ (ap (slice_get (set outputs v left)) (sym same) ∙ a)) in
+        k.2 out stream (ap (λ (l : List Stream). slice_get l out) is-left ∙ b)
+    early u out streams stream a b (inr apart) = r.early u out streams stream (sym (get-set_other outputs v u left apart) ∙ a) b
+
+    on-time : IsReached plan rows (set visits v came) (set outputs v left) (set stands v Done)
+    on-time = record {
+      came = length-set visits v came ∙ r.came;
+      left = length-set outputs v left ∙ r.left;
+      stand = length-set stands v Done ∙ r.stand;
+      told = λ w other at e g. told w other at e g (decide-eq w v);
+      early = λ u out streams stream a b. early u out streams stream a b (decide-eq u v);
+    }
+
+  too-late : (fault : PastFault) → IsKnown plan rows v node (TooLate fault) → IsReached plan rows visits outputs (set stands v (Late fault))
+  too-late fault k =
+      record {
+        came = r.came;
+        left = r.left;
+        stand = length-set stands v (Late fault) ∙ r.stand;
+        told = λ w other at e g. at_late w other at e g (decide-eq w v);
+        early = r.early;
+      }
+    where
+      at_late : (w : ℕ) (other : Node) (at : Stand) → slice_get plan.net.nodes w ≡ Some other → slice_get (set stands v (Late fault)) w ≡ Some at → (w ≡ v) ⊎ (w ≢ v) → Tells plan rows visits outputs w other at
+      at_late w other at e g (inl same) =
+          let in_stands : v < length stands = subst (λ m. v < m) (sym r.stand) inside in
+          let is-late : Late fault ≡ at = some_inj _ _ (sym (get-set_same stands v (Late fault) in_stands) ∙ (ap (slice_get (set stands v (Late fault))) (sym same) ∙ g)) in
+          subst (λ (p : ℕ × Node × Stand). Tells plan rows visits outputs p.0 p.1 p.2) (λ i. (sym same i, same-node w other same e i, is-late i)) k
+      at_late w other at e g (inr apart) = r.told w other at e (sym (get-set_other stands v w (Late fault) apart) ∙ g)
+
+-- a turn that is put down keeps what is reached
+put-ending : (plan : Plan) (rows : Rows) (v : ℕ) (node : Node) (ending : Ending) (visits visits' : List Visits) (outputs outputs' : List (List Stream)) (stands stands' : List Stand) → slice_get plan.net.nodes v ≡ Some node → IsReached plan rows visits outputs stands → IsKnown plan rows v node ending →
+    IsEndPut v ending visits outputs stands visits' outputs' stands' → IsReached plan rows visits' outputs' stands'
+put-ending plan rows v node (OnTime came left) visits visits' outputs outputs' stands stands' there r k h =
+    subst (λ (p : List Visits × List (List Stream) × List Stand). IsReached plan rows p.0 p.1 p.2) (λ i. (sym h.0 i, sym h.1 i, sym h.2 i)) (on-time plan rows visits outputs stands v node there r came left k)
+put-ending plan rows v node (TooLate fault) visits visits' outputs outputs' stands stands' there r k h =
+    subst (λ (p : List Visits × List (List Stream) × List Stand). IsReached plan rows p.0 p.1 p.2) (λ i. (sym h.0 i, sym h.1 i, sym h.2 i)) (too-late plan rows visits outputs stands v node there r fault k)
+
+pub put-keeps : (plan : Plan) (rows : Rows) (turn : Turn) (visits visits' : List Visits) (outputs outputs' : List (List Stream)) (stands stands' : List Stand) → IsReached plan rows visits outputs stands → IsWorkedOut plan rows turn →
+    IsPut turn visits outputs stands visits' outputs' stands' → IsReached plan rows visits' outputs' stands'
+put-keeps plan rows turn visits visits' outputs outputs' stands stands' r w h = put-ending plan rows turn.number w.0 turn.ending visits visits' outputs outputs' stands stands' w.1 r w.2 h

@@ -1,5 +1,0 @@
-use Rattle.mq_engine.proofs.Leaves.{splits}
-use Rattle.mq_engine.proofs.stations.split_outflow.Goals as goal
-
-pub returns : goal.returns
-returns c = splits c.args.rows.now c.args.route.now c.args.arrivals.now _ _ _ c.requires.ordered.ordered c.in_ok-values.ensures c.in_ok-fates.ensures c.in_ok-streams.ensures
