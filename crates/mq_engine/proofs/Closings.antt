@@ -1,29 +1,12 @@
--- The last pieces of a server that is scanned.
-use Rattle.std.proofs.Common.{◌≡◌, ℕ, suc, ◌+◌, ◌-◌, ◌<◌, ◌≤◌, List, [], ◌∷◌, ◌++◌, length, get_or, take, drop, map, max, refl, sym, ap, ◌∙◌, subst, arith, length-append}
+-- The last pieces of a station that is scanned.
+use Rattle.std.proofs.Common.{◌≡◌, ℕ, suc, ◌+◌, ◌-◌, ◌<◌, ◌≤◌, List, [], ◌∷◌, ◌++◌, length, get_or, take, drop, map, refl, sym, ap, ◌∙◌, subst, arith, length-append}
 use Rattle.std.proofs.Math.ListN.{get_or-append}
 use Rattle.std.proofs.Math.Seq.{get_or-append_seam, take-length}
 use Rattle.std.proofs.lemmas.List.{length-map}
-use Rattle.std.specs.List.{AllByRecursion}
-use Rattle.mq_core.proofs.Lists.Each.{Each-weaker}
 use Rattle.mq_core.specs.Columns.{founds_from, founds_of}
-use Rattle.mq_core.specs.Laws.{Rises}
-use Rattle.mq_core.specs.Recurrences.{lindley}
 use Rattle.mq_core.specs.declared.model.Fate.{Fate}
 use Rattle.mq_core.specs.declared.model.Fate.TheVariants.{Departs}
 use Rattle.mq_crew.specs.Crew.{AreAll}
-
--- the departures of a server rise
-later : (last : ℕ) (arrives demands : List ℕ) → AllByRecursion (λ t. last ≤ t) (lindley last arrives demands)
-later last [] demands = tt
-later last (a ∷ more) [] = tt
-later last (a ∷ more) (d ∷ ds) =
-    let first : last ≤ max a last + d = omega arith in
-    (first, Each-weaker (λ t. max a last + d ≤ t) (λ t. last ≤ t) (λ t l. omega arith) _ (later (max a last + d) more ds))
-
-pub lindley-rises : (last : ℕ) (arrives demands : List ℕ) → Rises (λ a b. a ≤ b) (lindley last arrives demands)
-lindley-rises last [] demands = tt
-lindley-rises last (a ∷ more) [] = tt
-lindley-rises last (a ∷ more) (d ∷ ds) = (later (max a last + d) more ds, lindley-rises (max a last + d) more ds)
 
 -- each visit found some
 founds-length : (before : List Fate) (arrives : List ℕ) (fates : List Fate) → length fates ≡ length arrives → length (founds_from before arrives fates) ≡ length arrives

@@ -10,6 +10,7 @@ use Rattle.mq_core.specs.declared.model.Rows.{Rows}
 use Rattle.mq_core.specs.declared.model.Stream.{Stream}
 use Rattle.mq_scan.specs.declared.blocks.Blocks.{Blocks}
 use Rattle.mq_engine.specs.declared.loads.Scan.{Scan}
+use Rattle.mq_engine.specs.declared.loads.Scan.TheVariants.{OfServer, OfTandem, Unscanned}
 use Rattle.mq_engine.proofs.Lists.{Each-at}
 use Rattle.mq_engine.specs.Loads.{IsApplied, IsClosed, IsLoaded, IsLoadOf, IsScanOf, IsPart, IsReadyExit, IsReadyLoad, IsReadyMiddle, IsTurnOf, applied_of, blocks_of, closings_of}
 use Rattle.mq_engine.specs.Progress.{IsWorkedOut}
@@ -168,20 +169,21 @@ blocks-few blocks = go (cases_lt blocks.n blocks.blocks)
         let b : blocks.n * 1 ≤ blocks.n * blocks.block = mul-le-mul_left blocks.n some in
         absurd (omega arith)
 
--- nor more than 16,384, where they are long enough
-pub blocks-most : (blocks : Blocks) → blocks.n ≤ 16384 * blocks.block → blocks.blocks ≤ 16384
-blocks-most blocks long = go (cases_lt 16384 blocks.blocks)
+-- nor more than so many, where they are long enough
+pub blocks-most : (most : ℕ) (blocks : Blocks) → blocks.n ≤ most * blocks.block → blocks.blocks ≤ most
+blocks-most most blocks long = go (cases_lt most blocks.blocks)
   where
-    go : (16384 < blocks.blocks) ⊎ (blocks.blocks ≤ 16384) → blocks.blocks ≤ 16384
+    go : (most < blocks.blocks) ⊎ (blocks.blocks ≤ most) → blocks.blocks ≤ most
     go (inr few) = few
     go (inl many) =
         let more = blocks.none_more in
-        let a : blocks.block * 16385 ≤ blocks.block * blocks.blocks = mul-le-mul_left blocks.block (omega arith) in
+        let a : blocks.block * (most + 1) ≤ blocks.block * blocks.blocks = mul-le-mul_left blocks.block (omega arith) in
         absurd (omega arith)
 
-scan-few : (rows : Rows) (kind : Kind) (arrivals : Stream) (scan : Option Scan) → length arrivals.time ≤ 1048576 → IsScanOf rows kind arrivals scan → (blocks_of scan ≤ 1048576) × (applied_of scan ≤ 1048576)
-scan-few rows kind arrivals None few h = (omega arith, omega arith)
-scan-few rows kind arrivals (Some its) few h = let most = blocks-few its.blocks in let n = h.3 in (omega arith, omega arith)
+scan-few : (rows : Rows) (kind : Kind) (arrivals : Stream) (scan : Scan) → length arrivals.time ≤ 1048576 → IsScanOf rows kind arrivals scan → (blocks_of scan ≤ 1048576) × (applied_of scan ≤ 1048576)
+scan-few rows kind arrivals Unscanned few h = (omega arith, omega arith)
+scan-few rows kind arrivals (OfServer its) few h = let most = blocks-few its.blocks in let n = h.2.blocks.0 in (omega arith, omega arith)
+scan-few rows kind arrivals (OfTandem its) few h = let most = blocks-few its.blocks in let n = h.2.blocks.0 in (omega arith, omega arith)
 
 all-few : {P : Type 0} (places : P → ℕ) (parts : List P) → AllByRecursion (λ p. places p ≤ 1048576) parts → all_places places parts ≤ length parts * 1048576
 all-few places [] h = omega arith

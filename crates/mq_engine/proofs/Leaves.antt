@@ -7,6 +7,7 @@ use Rattle.std.proofs.lemmas.Bool.Decides.{nat_tests}
 use Rattle.std.proofs.lemmas.List.{length-map}
 use Rattle.mq_base.proofs.lemmas.Lists.{drop_suc}
 use Rattle.mq_core.specs.Came.{came_in}
+use Rattle.mq_core.specs.ColumnLaws.{FatesAreInTime}
 use Rattle.mq_core.specs.Columns.{IsSoundLoad, IsStream, column_fates, column_late_from, column_outs, leaving_times, picked, time_of_fate}
 use Rattle.mq_core.specs.Kinds.Split.{routes_from}
 use Rattle.mq_core.specs.Recurrences.{lindley, delayed}
@@ -26,6 +27,7 @@ use Rattle.mq_core.specs.declared.model.Route.TheVariants.{Cut, Modulo, Turn}
 use Rattle.mq_core.specs.declared.model.Rows.{Rows}
 use Rattle.mq_core.specs.declared.model.Stream.{Stream}
 use Rattle.mq_split.specs.Outs.{AreParts, outs_from}
+use Rattle.mq_engine.specs.Loads.{AreServed}
 use Rattle.mq_engine.specs.Turns.{AreAsked, AreLeft, AreRouted, HasRouteValue, IsLeaving, IsLoad, LeaveInTurn, left_by}
 use Rattle.mq_engine.proofs.Lists.{Each-get_or}
 
@@ -186,4 +188,25 @@ delays rows demand arrivals fates demands departs streams s m d turn =
     record {
       leave = turn.fate ∙ ap (map (λ time. Departs time)) by;
       outflow = one-stream rows (Delay demand) arrivals departs streams s.even refl refl (ap (map (λ time. Departs time)) (sym by)) (ap length by ∙ (delayed-length arrivals.time _ even ∙ sym s.even)) turn.stream;
+    }
+
+-- Stations whose jobs leave in their order.
+-- there is one time an arrival
+times-many : FatesAreInTime → (rows : Rows) (kind : Kind) (arrivals : Stream) (times : List ℕ) → length arrivals.job ≡ length arrivals.time → column_fates rows kind arrivals.job arrivals.time ≡ map (λ time. Departs time) times → length times ≡ length arrivals.job
+times-many law rows kind arrivals times e f = sym (length-map times (λ time. Departs time)) ∙ (ap length (sym f) ∙ ((law rows kind arrivals.job arrivals.time e).even ∙ sym e))
+
+pub served-left : FatesAreInTime → (rows : Rows) (kind : Kind) (arrivals : Stream) (departs : List ℕ) (streams : List Stream) → length arrivals.job ≡ length arrivals.time → AreServed rows kind arrivals departs → streams ≡ record { job = arrivals.job; time = departs } ∷ [] → AreLeft rows kind arrivals streams
+served-left law rows kind arrivals departs streams even s e = one-stream rows kind arrivals departs streams even s.one s.outs s.fates (times-many law rows kind arrivals departs even s.fates) e
+
+pub served-leaves : FatesAreInTime → (rows : Rows) (kind : Kind) (arrivals : Stream) (departs : List ℕ) (fates : List Fate) (streams : List Stream) → length arrivals.job ≡ length arrivals.time → AreServed rows kind arrivals departs → LeaveInTurn arrivals.job departs fates streams → IsLeaving rows kind arrivals fates streams
+served-leaves law rows kind arrivals departs fates streams even s turn = record { leave = turn.fate ∙ sym s.fates; outflow = served-left law rows kind arrivals departs streams even s turn.stream }
+
+-- a server is such a station
+pub server-served : (rows : Rows) (demand : Demand) (arrivals : Stream) (demands departs : List ℕ) → demands ≡ map (demand_of_job rows demand) arrivals.job → departs ≡ lindley 0 arrivals.time demands → AreServed rows (Server demand) arrivals departs
+server-served rows demand arrivals demands departs m d =
+    record {
+      one = refl;
+      order = λ stream. refl;
+      outs = refl;
+      fates = ap (map (λ time. Departs time)) (sym (d ∙ ap (lindley 0 arrivals.time) m));
     }

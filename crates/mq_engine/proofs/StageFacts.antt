@@ -20,7 +20,6 @@ use Rattle.mq_core.specs.Kinds.ForkJoin.{are_sound_branches}
 use Rattle.mq_core.specs.Kinds.Tandem.{are_sound_stages, is_sound_stage}
 use Rattle.mq_core.specs.Ranges.{is_sound_demand, is_within}
 use Rattle.mq_core.specs.declared.model.Demand.{Demand}
-use Rattle.mq_core.specs.declared.model.Fate.{Fate}
 use Rattle.mq_core.specs.declared.model.Fate.TheVariants.{Departs}
 use Rattle.mq_core.specs.declared.model.Kind.{Kind}
 use Rattle.mq_core.specs.declared.model.Kind.TheVariants.{Tandem, ForkJoin}
@@ -29,8 +28,9 @@ use Rattle.mq_core.specs.declared.model.Stage.{Stage}
 use Rattle.mq_core.specs.declared.model.Stream.{Stream}
 use Rattle.mq_forkjoin.specs.Branches.{AreBranches, branches_of}
 use Rattle.mq_tandem.specs.Stages.{AreStages}
-use Rattle.mq_engine.specs.Turns.{AreAsked, IsLeaving, IsLoad, LeaveInTurn}
-use Rattle.mq_engine.proofs.Leaves.{asked-each, load-sound, one-stream}
+use Rattle.mq_engine.specs.Loads.{AreServed}
+use Rattle.mq_engine.specs.Turns.{AreAsked, IsLoad}
+use Rattle.mq_engine.proofs.Leaves.{asked-each, load-sound}
 use Rattle.mq_engine.proofs.Lists.{Each-get_or}
 
 -- what holds of each item holds of the one at a place
@@ -194,21 +194,13 @@ times-of columns rows [] jobs arrives h = absurd cc
 times-of columns rows (stage ∷ stages) jobs arrives h =
     λ k. tandem_departs (map (λ (s : Stage). s.places) (stage ∷ stages)) (none-each (stage ∷ stages) k) arrives (column-each (λ demand. map (demand_of_job rows demand) jobs) (stage ∷ stages) k)
 
--- there is one time an arrival
-times-many : FatesAreInTime → (rows : Rows) (kind : Kind) (arrivals : Stream) (times : List ℕ) → length arrivals.job ≡ length arrivals.time → column_fates rows kind (came_in arrivals) ≡ map (λ time. Departs time) times → length times ≡ length arrivals.job
-times-many law rows kind arrivals times e f = sym (length-map times (λ time. Departs time)) ∙ (ap length (sym f) ∙ ((law rows kind (came_in arrivals) e).even ∙ sym e))
-
-pub goes-through : FatesAreInTime → (columns : ℕ) (rows : Rows) (stages : List Stage) (arrivals : Stream) (asked : List Demand) (demands : List (List ℕ)) (places departs : List ℕ) (fates : List Fate) (streams : List Stream) → are_sound_stages columns stages ≡ true → IsStream arrivals →
+pub tandem-served : (columns : ℕ) (rows : Rows) (stages : List Stage) (arrivals : Stream) (asked : List Demand) (demands : List (List ℕ)) (places departs : List ℕ) → are_sound_stages columns stages ≡ true →
     asked ≡ map (λ (s : Stage). s.demand) stages → demands ≡ map (λ demand. map (demand_of_job rows demand) arrivals.job) asked → places ≡ map (λ (s : Stage). s.places) stages → departs ≡ tandem_departs places (map (λ _. []) places) arrivals.time demands →
-    LeaveInTurn arrivals.job departs fates streams → IsLeaving rows (Tandem stages) arrivals fates streams
-goes-through law columns rows stages arrivals asked demands places departs fates streams h s a m p d turn =
+    AreServed rows (Tandem stages) arrivals departs
+tandem-served columns rows stages arrivals asked demands places departs h a m p d =
     let by : departs ≡ tandem_times rows stages arrivals.job arrivals.time =
     d ∙ ((λ k. tandem_departs (p k) (map (λ _. []) (p k)) arrivals.time ((m ∙ ap (map (λ demand. map (demand_of_job rows demand) arrivals.job)) a) k)) ∙ times-of columns rows stages arrivals.job arrivals.time h) in
-    let same : column_fates rows (Tandem stages) (came_in arrivals) ≡ map (λ time. Departs time) departs = ap (map (λ time. Departs time)) (sym by) in
-    record {
-      leave = turn.fate ∙ sym same;
-      outflow = one-stream rows (Tandem stages) arrivals departs streams s.even refl refl same (times-many law rows (Tandem stages) arrivals departs s.even same) turn.stream;
-    }
+    record { one = refl; order = λ stream. refl; outs = refl; fates = ap (map (λ time. Departs time)) (sym by) }
 
 -- What leaves a fork-join. The columns of all servers, cut into branches, are those of each branch.
 take-front : {X : Type 0} (f : Demand → X) (front rest : List Demand) → take (length front) (map f (front ++ rest)) ≡ map f front
@@ -224,14 +216,10 @@ branches-back f [] = refl
 branches-back f (demands ∷ more) =
     (λ k. take-front f demands (flat_map (λ ds. ds) more) k ∷ branches_of (map length more) (drop-front f demands (flat_map (λ ds. ds) more) k)) ∙ ap (λ l. map f demands ∷ l) (branches-back f more)
 
-pub goes-abreast : FatesAreInTime → (rows : Rows) (branches : List (List Demand)) (arrivals : Stream) (asked : List Demand) (demands : List (List ℕ)) (servers departs : List ℕ) (fates : List Fate) (streams : List Stream) → IsStream arrivals →
+pub fork-served : (rows : Rows) (branches : List (List Demand)) (arrivals : Stream) (asked : List Demand) (demands : List (List ℕ)) (servers departs : List ℕ) →
     asked ≡ flat_map (λ ds. ds) branches → demands ≡ map (λ demand. map (demand_of_job rows demand) arrivals.job) asked → servers ≡ map length branches → departs ≡ fork_departs arrivals.time (branches_of servers demands) →
-    LeaveInTurn arrivals.job departs fates streams → IsLeaving rows (ForkJoin branches) arrivals fates streams
-goes-abreast law rows branches arrivals asked demands servers departs fates streams s a m p d turn =
+    AreServed rows (ForkJoin branches) arrivals departs
+fork-served rows branches arrivals asked demands servers departs a m p d =
     let by : departs ≡ fork_departs arrivals.time (branch_demands rows branches arrivals.job) =
     d ∙ ((λ k. fork_departs arrivals.time (branches_of (p k) ((m ∙ ap (map (λ demand. map (demand_of_job rows demand) arrivals.job)) a) k))) ∙ ap (fork_departs arrivals.time) (branches-back (λ demand. map (demand_of_job rows demand) arrivals.job) branches)) in
-    let same : column_fates rows (ForkJoin branches) (came_in arrivals) ≡ map (λ time. Departs time) departs = ap (map (λ time. Departs time)) (sym by) in
-    record {
-      leave = turn.fate ∙ sym same;
-      outflow = one-stream rows (ForkJoin branches) arrivals departs streams s.even refl refl same (times-many law rows (ForkJoin branches) arrivals departs s.even same) turn.stream;
-    }
+    record { one = refl; order = λ stream. refl; outs = refl; fates = ap (map (λ time. Departs time)) (sym by) }

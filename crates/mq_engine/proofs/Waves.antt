@@ -117,6 +117,9 @@ loaded laws plan rows outputs v node arrivals read early can there s e =
           let times = read.times in
           let count = read.count in
           omega arith;
+      leaves =
+          let columns = laws.columns plan rows read v node there in
+          λ out. subst IsStream (columns.stream out ∙ (λ k. column_stream rows node.kind (sym a.job k) (sym a.time k) out)) ((laws.streams plan rows v).streams out);
       told = λ k job g. laws.demands plan.net rows read job (subst (λ m. job < m) read.times (Each-get (λ j. j < length rows.time) (jobs_of xs) k job (laws.jobs plan rows v) (subst (λ l. slice_get l k ≡ Some job) a.job g)));
     }
 

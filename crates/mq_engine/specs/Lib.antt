@@ -1,4 +1,5 @@
 pub mod Answer
+pub mod Blocks
 pub mod CoreLaws
 pub mod Loads
 pub mod Losses

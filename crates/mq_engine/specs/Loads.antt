@@ -2,28 +2,33 @@
 use Rattle.std.specs.Prelude.{◌≡◌, ◌≤◌, ◌+◌, ◌-◌, ◌*◌, ℕ, List, Contains, length, map, min, Option, Some, None, slice_get}
 use Rattle.mq_core.specs.Came.{came_in}
 use Rattle.mq_core.specs.ColumnLaws.{arrives_of, jobs_of}
-use Rattle.mq_core.specs.Columns.{column_fates, column_late_from, founds_of}
+use Rattle.mq_core.specs.Columns.{column_fates, column_late_from, column_outs, founds_of, stream_in_order}
 use Rattle.mq_core.specs.Handling.{demand_of_job}
-use Rattle.mq_core.specs.Recurrences.{lindley}
 use Rattle.mq_core.specs.Results.{first_of}
+use Rattle.mq_core.specs.Sound.{outputs_in}
 use Rattle.mq_core.specs.StandardTable.{run_of}
 use Rattle.mq_core.specs.Theorems.{IsReadFor}
 use Rattle.mq_core.specs.declared.model.Demand.{Demand}
 use Rattle.mq_core.specs.declared.model.Fate.TheVariants.{Departs}
 use Rattle.mq_core.specs.declared.model.Kind.{Kind}
-use Rattle.mq_core.specs.declared.model.Kind.TheVariants.{Server}
+use Rattle.mq_core.specs.declared.model.Kind.TheVariants.{Server, Tandem}
 use Rattle.mq_core.specs.declared.model.Network.{Network}
 use Rattle.mq_core.specs.declared.model.Node.{Node}
 use Rattle.mq_core.specs.declared.model.Plan.{Plan}
 use Rattle.mq_core.specs.declared.model.Rows.{Rows}
+use Rattle.mq_core.specs.declared.model.Stage.{Stage as TandemStage}
 use Rattle.mq_core.specs.declared.model.Stream.{Stream}
+use Rattle.mq_maxplus.specs.Matrices.{entry, matrix_act, matrix_then}
 use Rattle.mq_maxplus.specs.Maxplus.{affine_act, affine_then, mp_or_zero}
 use Rattle.mq_maxplus.specs.declared.affine.Affine.{Affine}
+use Rattle.mq_maxplus.specs.declared.mp.Mp.{Mp}
 use Rattle.mq_maxplus.specs.declared.mp.Mp.TheVariants.{Void}
-use Rattle.mq_scan.specs.Folds.{AreBefore, carries_after, span}
+use Rattle.mq_scan.specs.Folds.{AreBefore}
 use Rattle.mq_scan.specs.declared.blocks.Blocks.{Blocks}
 use Rattle.mq_server.specs.Jobs.{job}
+use Rattle.mq_tandem.specs.Rows.{job_matrix, kept, last_row, none_kept}
 use Rattle.mq_engine.specs.Answer.{late_told}
+use Rattle.mq_engine.specs.Blocks.{AreTimesOf, IsSumOf}
 use Rattle.mq_engine.specs.Progress.{IsWorkedOut}
 use Rattle.mq_engine.specs.Turns.{IsLeaving, IsLoad}
 use Rattle.mq_engine.specs.declared.exits.Closed.{Closed}
@@ -34,27 +39,47 @@ use Rattle.mq_engine.specs.declared.exits.Leaving.{Leaving}
 use Rattle.mq_engine.specs.declared.middles.Middle.{Middle}
 use Rattle.mq_engine.specs.declared.loads.Load.{Load}
 use Rattle.mq_engine.specs.declared.loads.Scan.{Scan}
+use Rattle.mq_engine.specs.declared.loads.Scan.TheVariants.{OfServer, OfTandem, Unscanned}
+use Rattle.mq_engine.specs.declared.stations.server.ServerScan.{ServerScan}
+use Rattle.mq_engine.specs.declared.stations.tandem.TandemScan.{TandemScan}
 use Rattle.mq_engine.specs.declared.turns.Turn.{Turn}
 use Rattle.mq_engine.specs.declared.turns.After.{After}
 use Rattle.mq_engine.specs.declared.turns.After.TheVariants.{Seen, Missed}
 use Rattle.mq_engine.specs.declared.firsts.Part.{Part}
-use Rattle.mq_engine.specs.declared.firsts.Part.TheVariants.{Whole, Sum}
+use Rattle.mq_engine.specs.declared.firsts.Part.TheVariants.{Product, Sum, Whole}
 use Rattle.mq_engine.specs.declared.firsts.Stage.{Stage}
-use Rattle.mq_engine.specs.declared.firsts.Stage.TheVariants.{Ended, Before}
+use Rattle.mq_engine.specs.declared.firsts.Stage.TheVariants.{Ended, Last, Latest}
 
 -- the arrivals are those of the run
 pub record IsArrived (plan : Plan) (rows : Rows) (v : ℕ) (arrivals : Stream) : Type 0 where
   pub job : arrivals.job ≡ jobs_of ((run_of plan rows).stations v).visits
   pub time : arrivals.time ≡ arrives_of ((run_of plan rows).stations v).visits
 
--- a scan is that of a server, over all its arrivals and what they ask for, in 16,384 blocks at most
-abbrev pub IsScanOf : Rows → Kind → Stream → Option Scan → Type 0
-IsScanOf rows kind arrivals None = Unit {0}
-IsScanOf rows kind arrivals (Some scan) =
-    (demand : Demand) × (kind ≡ Server demand) × (scan.demands ≡ map (demand_of_job rows demand) arrivals.job) × (scan.blocks.n ≡ length arrivals.time) × (scan.blocks.blocks ≤ 16384)
+-- places are cut into so many blocks at most
+abbrev pub AreFewBlocks : ℕ → ℕ → Blocks → Type 0
+AreFewBlocks places most blocks = (blocks.n ≡ places) × (blocks.blocks ≤ most)
+
+-- a scan of a server is over all its arrivals and what they ask for, in 16,384 blocks at most
+pub record IsServerScan (rows : Rows) (demand : Demand) (arrivals : Stream) (scan : ServerScan) : Type 0 where
+  pub demands : scan.demands ≡ map (demand_of_job rows demand) arrivals.job
+  pub blocks : AreFewBlocks (length arrivals.time) 16384 scan.blocks
+
+-- a scan of a tandem likewise, with what they ask for at each stage, in 1,024 blocks at most
+pub record IsTandemScan (rows : Rows) (stages : List TandemStage) (arrivals : Stream) (scan : TandemScan) : Type 0 where
+  pub asked : List Demand
+  pub asks : asked ≡ map (λ (stage : TandemStage). stage.demand) stages
+  pub columns : scan.columns ≡ map (λ demand. map (demand_of_job rows demand) arrivals.job) asked
+  pub places : scan.places ≡ map (λ (stage : TandemStage). stage.places) stages
+  pub blocks : AreFewBlocks (length arrivals.time) 1024 scan.blocks
+
+-- a scan is that of the kind of its station
+abbrev pub IsScanOf : Rows → Kind → Stream → Scan → Type 0
+IsScanOf rows kind arrivals Unscanned = Unit {0}
+IsScanOf rows kind arrivals (OfServer scan) = (demand : Demand) × (kind ≡ Server demand) × IsServerScan rows demand arrivals scan
+IsScanOf rows kind arrivals (OfTandem scan) = (stages : List TandemStage) × (kind ≡ Tandem stages) × IsTandemScan rows stages arrivals scan
 
 -- what comes to a node is what comes in the run, and it can be worked on
-pub record IsLoaded (plan : Plan) (rows : Rows) (v : ℕ) (arrivals : Stream) (scan : Option Scan) : Type 0 where
+pub record IsLoaded (plan : Plan) (rows : Rows) (v : ℕ) (arrivals : Stream) (scan : Scan) : Type 0 where
   pub node : Node
   pub there : slice_get plan.net.nodes v ≡ Some node
   pub came : IsArrived plan rows v arrivals
@@ -62,21 +87,16 @@ pub record IsLoaded (plan : Plan) (rows : Rows) (v : ℕ) (arrivals : Stream) (s
   pub scanned : IsScanOf rows node.kind arrivals scan
 
 -- how many blocks a scan has; a station that is not scanned is one piece
-abbrev pub blocks_of : Option Scan → ℕ
-blocks_of None = 1
-blocks_of (Some scan) = scan.blocks.blocks
+abbrev pub blocks_of : Scan → ℕ
+blocks_of Unscanned = 1
+blocks_of (OfServer scan) = scan.blocks.blocks
+blocks_of (OfTandem scan) = scan.blocks.blocks
 
 -- how many of its blocks are applied
-abbrev pub applied_of : Option Scan → ℕ
-applied_of None = 0
-applied_of (Some scan) = scan.blocks.blocks
-
--- the first place of a block, and how many it has
-abbrev pub from_of : Blocks → ℕ → ℕ
-from_of blocks b = b * blocks.block
-
-abbrev pub size_of : Blocks → ℕ → ℕ
-size_of blocks b = min ((b + 1) * blocks.block) blocks.n - b * blocks.block
+abbrev pub applied_of : Scan → ℕ
+applied_of Unscanned = 0
+applied_of (OfServer scan) = scan.blocks.blocks
+applied_of (OfTandem scan) = scan.blocks.blocks
 
 -- what becomes of the arrivals at a node of this kind: their fates, what each found, and what leaves; or the first that is late
 abbrev pub IsAfter : Network → Rows → ℕ → Kind → Stream → After → Type 0
@@ -90,47 +110,121 @@ IsAfter net rows v kind arrivals (Missed fault) =
 abbrev pub IsAfterAt : Plan → Rows → ℕ → Stream → After → Type 0
 IsAfterAt plan rows v arrivals after = (node : Node) → slice_get plan.net.nodes v ≡ Some node → IsAfter plan.net rows v node.kind arrivals after
 
--- what the jobs of a block do together
-abbrev pub IsSumOf : Stream → Scan → ℕ → Affine → Type 0
-IsSumOf arrivals scan b sum = sum ≡ span affine_then (job arrivals.time scan.demands) (from_of scan.blocks b) (size_of scan.blocks b - 1)
+-- what the jobs of a block of a server do together, and of a tandem
+abbrev pub IsServerSum : Stream → ServerScan → ℕ → Affine → Type 0
+IsServerSum arrivals scan b sum = IsSumOf affine_then (job arrivals.time scan.demands) scan.blocks b sum
 
-abbrev pub IsSumPart : Stream → Scan → ℕ → Part → Type 0
-IsSumPart arrivals scan b (Whole after) = ⊥
-IsSumPart arrivals scan b (Sum sum) = IsSumOf arrivals scan b sum
+abbrev pub IsTandemSum : Stream → TandemScan → ℕ → List (List Mp) → Type 0
+IsTandemSum arrivals scan b sum = IsSumOf matrix_then (job_matrix scan.places arrivals.time scan.columns) scan.blocks b sum
 
+-- the carry before each block of a server, and of a tandem
+abbrev pub AreServerCarries : Stream → ServerScan → List Mp → Type 0
+AreServerCarries arrivals scan carries =
+    (length carries ≡ scan.blocks.blocks) × AreBefore affine_act Void (job arrivals.time scan.demands) scan.blocks.block carries
+
+abbrev pub AreTandemCarries : Stream → TandemScan → List (List Mp) → Type 0
+AreTandemCarries arrivals scan carries =
+    (length carries ≡ scan.blocks.blocks) × AreBefore matrix_act (none_kept scan.places) (job_matrix scan.places arrivals.time scan.columns) scan.blocks.block carries
+
+-- the latest departure from the last stage, of those that are kept
+abbrev pub latest_of : List ℕ → List Mp → ℕ
+latest_of places carry = mp_or_zero (entry carry (last_row (kept places)))
+
+-- when the jobs of a block of a server depart, and of a tandem
+abbrev pub AreServerTimes : Stream → ServerScan → ℕ → List ℕ → Type 0
+AreServerTimes arrivals scan b times = AreTimesOf mp_or_zero affine_act Void (job arrivals.time scan.demands) scan.blocks b times
+
+abbrev pub AreTandemTimes : Stream → TandemScan → ℕ → List ℕ → Type 0
+AreTandemTimes arrivals scan b times =
+    AreTimesOf (latest_of scan.places) matrix_act (none_kept scan.places) (job_matrix scan.places arrivals.time scan.columns) scan.blocks b times
+
+-- a first piece that is what the jobs of a block do together
+abbrev pub IsServerPart : Stream → ServerScan → ℕ → Part → Type 0
+IsServerPart arrivals scan b (Whole after) = ⊥
+IsServerPart arrivals scan b (Sum sum) = IsServerSum arrivals scan b sum
+IsServerPart arrivals scan b (Product sum) = ⊥
+
+abbrev pub IsTandemPart : Stream → TandemScan → ℕ → Part → Type 0
+IsTandemPart arrivals scan b (Whole after) = ⊥
+IsTandemPart arrivals scan b (Sum sum) = ⊥
+IsTandemPart arrivals scan b (Product sum) = IsTandemSum arrivals scan b sum.value
+
+-- a first piece that is all of its station
 abbrev pub IsWhole : Part → Type 0
 IsWhole (Whole after) = Unit {0}
 IsWhole (Sum sum) = ⊥
+IsWhole (Product sum) = ⊥
+
+-- a first piece that is a whole station
+abbrev pub IsWholePart : Plan → Rows → ℕ → Stream → Part → Type 0
+IsWholePart plan rows v arrivals (Whole after) = IsAfterAt plan rows v arrivals after
+IsWholePart plan rows v arrivals (Sum sum) = ⊥
+IsWholePart plan rows v arrivals (Product sum) = ⊥
 
 -- a first piece: a whole station, or what the jobs of a block do together
-abbrev pub IsPart : Plan → Rows → ℕ → Stream → Option Scan → ℕ → Part → Type 0
-IsPart plan rows v arrivals scan b (Whole after) = (scan ≡ None) × IsAfterAt plan rows v arrivals after
-IsPart plan rows v arrivals scan b (Sum sum) =
-    (its : Scan) × (scan ≡ Some its) × IsSumOf arrivals its b sum
+abbrev pub IsPart : Plan → Rows → ℕ → Stream → Scan → ℕ → Part → Type 0
+IsPart plan rows v arrivals Unscanned b part = IsWholePart plan rows v arrivals part
+IsPart plan rows v arrivals (OfServer scan) b part = IsServerPart arrivals scan b part
+IsPart plan rows v arrivals (OfTandem scan) b part = IsTandemPart arrivals scan b part
+
+-- after its first pieces all is known of a station, or the last departure before each block, or the latest departures
+abbrev pub IsAll : Stage → Type 0
+IsAll (Ended after) = Unit {0}
+IsAll (Last carries) = ⊥
+IsAll (Latest carries) = ⊥
+
+abbrev pub IsLast : Stage → Type 0
+IsLast (Ended after) = ⊥
+IsLast (Last carries) = Unit {0}
+IsLast (Latest carries) = ⊥
+
+abbrev pub IsLatest : Stage → Type 0
+IsLatest (Ended after) = ⊥
+IsLatest (Last carries) = ⊥
+IsLatest (Latest carries) = Unit {0}
 
 -- what is known of a station after its first pieces: all, or the carry before each block
-abbrev pub IsStage : Plan → Rows → ℕ → Stream → Option Scan → Stage → Type 0
-IsStage plan rows v arrivals scan (Ended after) = (scan ≡ None) × IsAfterAt plan rows v arrivals after
-IsStage plan rows v arrivals scan (Before carries) =
-    (its : Scan) × (scan ≡ Some its) × (length carries ≡ its.blocks.blocks) × AreBefore affine_act Void (job arrivals.time its.demands) its.blocks.block carries
+abbrev pub IsEnded : Plan → Rows → ℕ → Stream → Stage → Type 0
+IsEnded plan rows v arrivals (Ended after) = IsAfterAt plan rows v arrivals after
+IsEnded plan rows v arrivals (Last carries) = ⊥
+IsEnded plan rows v arrivals (Latest carries) = ⊥
 
--- when the jobs of a block depart
-abbrev pub AreTimesOf : Stream → Scan → ℕ → List ℕ → Type 0
-AreTimesOf arrivals scan b times =
-    times ≡ map mp_or_zero (carries_after affine_act Void (job arrivals.time scan.demands) (from_of scan.blocks b) (size_of scan.blocks b))
+abbrev pub IsServerStage : Stream → ServerScan → Stage → Type 0
+IsServerStage arrivals scan (Ended after) = ⊥
+IsServerStage arrivals scan (Last carries) = AreServerCarries arrivals scan carries
+IsServerStage arrivals scan (Latest carries) = ⊥
+
+abbrev pub IsTandemStage : Stream → TandemScan → Stage → Type 0
+IsTandemStage arrivals scan (Ended after) = ⊥
+IsTandemStage arrivals scan (Last carries) = ⊥
+IsTandemStage arrivals scan (Latest carries) = AreTandemCarries arrivals scan carries
+
+abbrev pub IsStage : Plan → Rows → ℕ → Stream → Scan → Stage → Type 0
+IsStage plan rows v arrivals Unscanned stage = IsEnded plan rows v arrivals stage
+IsStage plan rows v arrivals (OfServer scan) stage = IsServerStage arrivals scan stage
+IsStage plan rows v arrivals (OfTandem scan) stage = IsTandemStage arrivals scan stage
 
 -- a further piece: when the jobs of a block depart
-abbrev pub IsApplied : Stream → Option Scan → ℕ → List ℕ → Type 0
-IsApplied arrivals scan b times = (its : Scan) × (scan ≡ Some its) × AreTimesOf arrivals its b times
+abbrev pub IsApplied : Stream → Scan → ℕ → List ℕ → Type 0
+IsApplied arrivals Unscanned b times = ⊥
+IsApplied arrivals (OfServer scan) b times = AreServerTimes arrivals scan b times
+IsApplied arrivals (OfTandem scan) b times = AreTandemTimes arrivals scan b times
 
--- when all jobs of a server that is scanned depart
-abbrev pub IsServed : Stream → Option Scan → List ℕ → Type 0
-IsServed arrivals scan departs = (its : Scan) × (scan ≡ Some its) × (departs ≡ lindley 0 arrivals.time its.demands)
+-- the jobs of a station of this kind depart at these times, in their order, by its only output
+pub record AreServed (rows : Rows) (kind : Kind) (arrivals : Stream) (departs : List ℕ) : Type 0 where
+  pub one : outputs_in kind ≡ 1
+  pub order : (stream : Stream) → stream_in_order kind stream ≡ stream
+  pub outs : column_outs rows kind (came_in arrivals) ≡ map (λ _. 0) arrivals.job
+  pub fates : column_fates rows kind (came_in arrivals) ≡ map (λ time. Departs time) departs
+
+-- those of a station of the plan do
+abbrev pub IsServed : Plan → Rows → ℕ → Stream → List ℕ → Type 0
+IsServed plan rows v arrivals departs = (node : Node) → slice_get plan.net.nodes v ≡ Some node → AreServed rows node.kind arrivals departs
 
 -- what is known of a station when all its jobs have left
-abbrev pub IsExit : Plan → Rows → ℕ → Stream → Option Scan → Exit → Type 0
-IsExit plan rows v arrivals scan (Known after) = IsAfterAt plan rows v arrivals after
-IsExit plan rows v arrivals scan (Served departs) = IsServed arrivals scan departs
+abbrev pub IsExit : Plan → Rows → ℕ → Stream → Exit → Type 0
+IsExit plan rows v arrivals (Known after) = IsAfterAt plan rows v arrivals after
+IsExit plan rows v arrivals (Served departs) = IsServed plan rows v arrivals departs
 
 -- how many last pieces a station has
 abbrev pub closings_of : Exit → ℕ
@@ -166,7 +260,7 @@ IsReadyMiddle m = IsReadyLoad m.load × IsStage m.load.plan.now m.load.rows.now 
 
 -- what is known of a station near the end of a wave
 abbrev pub IsReadyExit : Leaving → Type 0
-IsReadyExit l = IsReadyLoad l.load × IsExit l.load.plan.now l.load.rows.now l.load.number l.load.arrivals l.load.scan l.exit
+IsReadyExit l = IsReadyLoad l.load × IsExit l.load.plan.now l.load.rows.now l.load.number l.load.arrivals l.exit
 
 -- the turn of one of these nodes
 abbrev pub IsTurnOf : Plan → Rows → List ℕ → Turn → Type 0

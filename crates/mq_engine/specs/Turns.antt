@@ -71,13 +71,14 @@ abbrev pub AreRouted : Rows → Route → List ℕ → Type 0
 AreRouted rows route jobs = (k job : ℕ) → slice_get jobs k ≡ Some job → HasRouteValue rows route job
 
 -- arrivals that a node of this kind can work on: in order, few and early; in some network its numbers are in their ranges, and
--- the rows tell what each job asks for at its nodes
+-- the rows tell what each job asks for at its nodes; and what leaves by each output is in order
 pub record IsLoad (rows : Rows) (kind : Kind) (arrivals : Stream) : Type 0 where
   pub net : Network
   pub sound : IsTrue (is_sound_kind (length net.columns) kind)
   pub ordered : IsEarlyStream arrivals
   pub few : length arrivals.time ≤ 1048576
   pub told : AreTold net rows arrivals.job
+  pub leaves : (out : ℕ) → IsStream (column_stream rows kind (came_in arrivals) out)
 
 -- the streams are those of the columns, one per output
 pub record AreStreams (rows : Rows) (kind : Kind) (arrivals : Stream) (streams : List Stream) : Type 0 where

@@ -13,7 +13,7 @@ use crate::loads::Load;
 use crate::outflow::{fates_of, only};
 use crate::turns::{After, Turn, ending_of};
 use mq_base::{List, OutOfMemory};
-use mq_core::{Fate, Stream};
+use mq_core::{Fate, Stream, fates_are_in_time};
 use mq_crew::Pieces;
 use mq_stats::found_piece_in_order;
 use std::alloc::Global;
@@ -72,7 +72,7 @@ impl<'a> Pieces for Leaving<'a> {
     }
 }
 
-// A last piece of a server that is scanned, of the departures of all its jobs.
+// A last piece of a station that is scanned, of the departures of all its jobs.
 fn closing_of(
     alloc: Global,
     load: &Load,
@@ -80,7 +80,7 @@ fn closing_of(
     b: u32,
 ) -> Result<Closed, OutOfMemory>
     requires loaded { IsLoaded load.now.plan.now load.now.rows.now load.now.number load.now.arrivals load.now.scan }
-    requires served { IsServed load.now.arrivals load.now.scan departs.now }
+    requires served { IsServed load.now.plan.now load.now.rows.now load.now.number load.now.arrivals departs.now }
     requires inside { b < 3 }
     ensures { IfOk result (λ closed. IsShut load.now.plan.now load.now.rows.now load.now.number load.now.arrivals departs.now b closed) }
 {
@@ -97,9 +97,10 @@ fn closing_of(
 // The fates of these departures, or the first that is after the bound.
 fn fates_in_time(alloc: Global, load: &Load, departs: &List<u64>) -> Result<Closed, OutOfMemory>
     requires loaded { IsLoaded load.now.plan.now load.now.rows.now load.now.number load.now.arrivals load.now.scan }
-    requires served { IsServed load.now.arrivals load.now.scan departs.now }
+    requires served { IsServed load.now.plan.now load.now.rows.now load.now.number load.now.arrivals departs.now }
     ensures { IfOk result (λ closed. IsShut load.now.plan.now load.now.rows.now load.now.number load.now.arrivals departs.now 0 closed) }
 {
+    fates_are_in_time();
     let fates = fates_of(alloc, departs)?;
     if let Some(past) = first_late(load.plan.net.bound, load.number, &fates) {
         return Ok(Closed::Over(past));
@@ -110,9 +111,10 @@ fn fates_in_time(alloc: Global, load: &Load, departs: &List<u64>) -> Result<Clos
 // How many jobs each visit found, where they depart in turn.
 fn found_in_turn(alloc: Global, load: &Load, departs: &List<u64>) -> Result<List<u32>, OutOfMemory>
     requires loaded { IsLoaded load.now.plan.now load.now.rows.now load.now.number load.now.arrivals load.now.scan }
-    requires served { IsServed load.now.arrivals load.now.scan departs.now }
+    requires served { IsServed load.now.plan.now load.now.rows.now load.now.number load.now.arrivals departs.now }
     ensures { IfOk result (λ found. found ≡ founds_of load.now.arrivals.time (map (λ time. Departs time) departs.now)) }
 {
+    fates_are_in_time();
     let count = load.arrivals.time.len() as u32;
     let found = found_piece_in_order(alloc, &load.arrivals.time, departs, 0, count)?;
     Ok(found)
@@ -155,7 +157,7 @@ pub fn turn_of<R: Threads + Sync>(
     })
 }
 
-// What becomes of the arrivals at a server, of its last pieces and the departures, which are moved.
+// What becomes of the arrivals at a station that is scanned, of its last pieces and the departures, which are moved.
 fn opened(
     alloc: Global,
     load: &Load,
@@ -163,10 +165,11 @@ fn opened(
     departs: List<u64>,
 ) -> Result<After, OutOfMemory>
     requires loaded { IsLoaded load.now.plan.now load.now.rows.now load.now.number load.now.arrivals load.now.scan }
-    requires served { IsServed load.now.arrivals load.now.scan departs }
+    requires served { IsServed load.now.plan.now load.now.rows.now load.now.number load.now.arrivals departs }
     requires group { AreAll (IsShut load.now.plan.now load.now.rows.now load.now.number load.now.arrivals departs) 3 group }
     ensures { IfOk result (λ after. IsAfterAt load.now.plan.now load.now.rows.now load.now.number load.now.arrivals after) }
 {
+    fates_are_in_time();
     let mut group = group.into_vec();
     let job = match group.pop() {
         Some(Closed::Jobs(job)) => job,

@@ -1,24 +1,16 @@
 // The first pieces of the stations that are ready: summaries of blocks, and whole stations.
-ghost use Rattle.std.specs.Prelude.{◌≡◌, ◌<◌, ℕ, length, IfOk, slice_index_or};
-ghost use Rattle.mq_core.specs.Columns.{IsSoundLoad};
+ghost use Rattle.std.specs.Prelude.{◌≡◌, length, IfOk, slice_index_or};
 ghost use Rattle.mq_crew.specs.Crew.{AreAll};
-ghost use Rattle.mq_maxplus.specs.Maxplus.{affine_act};
-ghost use Rattle.mq_maxplus.specs.declared.affine.Affine.{Affine as TheAffine};
-ghost use Rattle.mq_maxplus.specs.declared.mp.Mp.TheVariants.{Void};
-ghost use Rattle.mq_scan.specs.Folds.{AreBefore};
-ghost use Rattle.mq_server.specs.Jobs.{job};
-ghost use Rattle.mq_engine.specs.Loads.{IsAfterAt, IsLoaded, IsPart, IsReadyLoad, IsStage, IsSumOf, IsSumPart, IsWhole, blocks_of};
+ghost use Rattle.mq_engine.specs.Loads.{IsAfterAt, IsLoaded, IsPart, IsReadyLoad, IsStage, IsWhole, blocks_of};
 ghost use Rattle.mq_engine.specs.declared.firsts.Part.{Part as ThePart};
 ghost use Rattle.mq_engine.specs.declared.firsts.Part.TheVariants.{Whole};
 
 use crate::loads::{Load, Scan};
+use crate::stations::{server_carries, server_sum, tandem_carries, tandem_sum};
 use crate::turns::{After, after_of};
 use mq_base::{List, OutOfMemory};
-use mq_core::Stream;
 use mq_crew::Pieces;
-use mq_maxplus::{Affine, Mp};
-use mq_scan::{carries, summarise};
-use mq_server::ServerStep;
+use mq_maxplus::{Affine, Matrix, Mp, Vector};
 use std::alloc::Global;
 
 /// A first piece of a station.
@@ -26,8 +18,10 @@ use std::alloc::Global;
 pub enum Part {
     /// All of it.
     Whole(After),
-    /// What the jobs of a block do together.
+    /// What the jobs of a block of a server do together.
     Sum(Affine),
+    /// What the jobs of a block of a tandem do together, which is large.
+    Product(Box<Matrix>),
 }
 
 /// What is known of a station after its first pieces.
@@ -35,8 +29,10 @@ pub enum Part {
 pub enum Stage {
     /// All of it.
     Ended(After),
-    /// The carry before each block.
-    Before(List<Mp>),
+    /// The last departure of a server before each block.
+    Last(List<Mp>),
+    /// The latest departures of a tandem before each block.
+    Latest(List<Vector>),
 }
 
 impl<'a> Pieces for Load<'a> {
@@ -50,15 +46,20 @@ impl<'a> Pieces for Load<'a> {
 
     fn count(&self) -> u32 {
         match &self.scan {
-            None => 1,
-            Some(scan) => scan.blocks.blocks,
+            Scan::Unscanned => 1,
+            Scan::OfServer(scan) => scan.blocks.blocks,
+            Scan::OfTandem(scan) => scan.blocks.blocks,
         }
     }
 
     fn piece(&self, alloc: Global, b: u32) -> Result<Part, OutOfMemory> {
         match &self.scan {
-            None => Ok(Part::Whole(whole(alloc, self)?)),
-            Some(scan) => Ok(Part::Sum(sum_of(&self.arrivals, scan, b))),
+            Scan::Unscanned => Ok(Part::Whole(whole(alloc, self)?)),
+            Scan::OfServer(scan) => Ok(Part::Sum(server_sum(&self.arrivals, scan, b))),
+            Scan::OfTandem(scan) => {
+                let sum = tandem_sum(&self.arrivals, scan, b);
+                Ok(Part::Product(Box::new(alloc, sum)?))
+            }
         }
     }
 }
@@ -79,17 +80,6 @@ fn whole(alloc: Global, load: &Load) -> Result<After, OutOfMemory>
     )
 }
 
-// What the jobs of a block do together.
-fn sum_of(arrivals: &Stream, scan: &Scan, b: u32) -> Affine
-    requires load { IsSoundLoad arrivals.now.time scan.now.demands }
-    requires all { scan.now.blocks.n ≡ length arrivals.now.time }
-    requires inside { b < scan.now.blocks.blocks }
-    ensures { IsSumOf arrivals.now scan.now b result }
-{
-    let (from, to) = scan.blocks.range(b);
-    summarise(&ServerStep::new(arrivals, &scan.demands), from, to)
-}
-
 // What is known of a station after its first pieces.
 pub fn stage_of(alloc: Global, load: &Load, group: List<Part>) -> Result<Stage, OutOfMemory>
     requires loaded { IsLoaded load.now.plan.now load.now.rows.now load.now.number load.now.arrivals load.now.scan }
@@ -97,8 +87,15 @@ pub fn stage_of(alloc: Global, load: &Load, group: List<Part>) -> Result<Stage, 
     ensures { IfOk result (λ stage. IsStage load.now.plan.now load.now.rows.now load.now.number load.now.arrivals load.now.scan stage) }
 {
     match &load.scan {
-        None => Ok(Stage::Ended(the_whole(group))),
-        Some(scan) => Ok(Stage::Before(before_of(alloc, &load.arrivals, scan, &group)?)),
+        Scan::Unscanned => Ok(Stage::Ended(the_whole(group))),
+        Scan::OfServer(scan) => {
+            let carries = server_carries(alloc, &load.arrivals, scan, &group)?;
+            Ok(Stage::Last(carries))
+        }
+        Scan::OfTandem(scan) => {
+            let carries = tandem_carries(alloc, &load.arrivals, scan, &group)?;
+            Ok(Stage::Latest(carries))
+        }
     }
 }
 
@@ -113,43 +110,4 @@ fn the_whole(group: List<Part>) -> After
         Some(Part::Whole(after)) => after,
         _ => unreachable!(),
     }
-}
-
-// The carry before each block, of the summaries of all.
-fn before_of(
-    alloc: Global,
-    arrivals: &Stream,
-    scan: &Scan,
-    group: &List<Part>,
-) -> Result<List<Mp>, OutOfMemory>
-    requires load { IsSoundLoad arrivals.now.time scan.now.demands }
-    requires all { scan.now.blocks.n ≡ length arrivals.now.time }
-    requires len { length group.now ≡ scan.now.blocks.blocks }
-    requires group { (b : ℕ) (d : ThePart) → b < length group.now → IsSumPart arrivals.now scan.now b (slice_index_or group.now b d) }
-    ensures len { IfOk result (λ before. length before ≡ scan.now.blocks.blocks) }
-    ensures each { IfOk result (λ before. AreBefore affine_act Void (job arrivals.now.time scan.now.demands) scan.now.blocks.block before) }
-{
-    let sums = sums_of(alloc, arrivals, scan, group)?;
-    carries(&ServerStep::new(arrivals, &scan.demands), alloc, &sums)
-}
-
-// The summaries of all blocks.
-fn sums_of(
-    alloc: Global,
-    arrivals: &Stream,
-    scan: &Scan,
-    group: &List<Part>,
-) -> Result<List<Affine>, OutOfMemory>
-    requires { (b : ℕ) (d : ThePart) → b < length group.now → IsSumPart arrivals.now scan.now b (slice_index_or group.now b d) }
-    ensures len { IfOk result (λ sums. length sums ≡ length group.now) }
-    ensures each { IfOk result (λ sums. (b : ℕ) (d : TheAffine) → b < length sums → IsSumOf arrivals.now scan.now b (slice_index_or sums b d)) }
-{
-    let mut sums = List::new(alloc);
-    for b in 0..group.len() {
-        match group.get(b) {
-            Part::Sum(sum) => sums.push(*sum)?,
-            Part::Whole(_) => unreachable!(),
-        }
-    }
-    Ok(sums)
 }

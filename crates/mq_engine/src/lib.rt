@@ -10,6 +10,7 @@ ghost use Rattle.mq_engine.specs.CoreLaws.{CoreLaws};
 ghost use Rattle.mq_engine.specs.Progress.{IsReached, is_ready};
 
 mod arrivals;
+mod blocks;
 mod exits;
 mod fault;
 mod firsts;
@@ -77,6 +78,7 @@ pub fn run<R: Threads + Sync, G: Gate>(
             rows,
             outputs: &progress.outputs,
             ready: &ready,
+            workers,
             block,
         };
         let turns = turns_of(rt, alloc, &arriving, workers, gate)?;

@@ -1,20 +1,16 @@
 // What comes to the nodes that are ready.
-ghost use Rattle.std.specs.Prelude.{◌≡◌, ◌<◌, ◌≤◌, ◌^◌, length, map, IfOk, slice_index};
-ghost use Rattle.mq_core.specs.Handling.{demand_of_job};
+ghost use Rattle.std.specs.Prelude.{◌≡◌, ◌<◌, ◌≤◌, ◌^◌, length, IfOk, slice_index};
 ghost use Rattle.mq_core.specs.Theorems.{IsReadFor};
-ghost use Rattle.mq_core.specs.declared.model.Kind.TheVariants.{Server};
 ghost use Rattle.mq_engine.specs.Loads.{IsLoaded, IsScanOf};
 ghost use Rattle.mq_engine.specs.Progress.{CanWorkAll};
 ghost use Rattle.mq_engine.specs.Turns.{AreEarly, IsLoad};
 
 use crate::arrivals::arrivals_at;
 use crate::laws::core_laws;
-use crate::outflow::demands_of;
+use crate::stations::{ServerScan, TandemScan, server_scan, tandem_scan};
 use mq_base::{List, OutOfMemory};
-use mq_core::{Demand, Kind, Plan, Rows, Stream};
+use mq_core::{Kind, Plan, Rows, Stream};
 use mq_crew::Pieces;
-use mq_pass::block_size;
-use mq_scan::{Blocks, cut};
 use std::alloc::Global;
 
 /// What comes to a node, and how its station is scanned.
@@ -25,16 +21,18 @@ pub struct Load<'a> {
     /// The node, by order of declaration.
     pub number: u32,
     pub arrivals: Stream,
-    /// Where there is none, the station is one whole piece.
-    pub scan: Option<Scan>,
+    pub scan: Scan,
 }
 
-/// How a station is scanned, block by block.
+/// How a station is worked out.
 #[derive(Drop)]
-pub struct Scan {
-    /// What each job asks for, in ticks.
-    pub demands: List<u64>,
-    pub blocks: Blocks,
+pub enum Scan {
+    /// Whole, as one piece.
+    Unscanned,
+    /// A server, block by block.
+    OfServer(ServerScan),
+    /// A tandem, block by block.
+    OfTandem(TandemScan),
 }
 
 /// The nodes that are ready, and the streams of those that are done.
@@ -44,6 +42,7 @@ pub struct Arriving<'a> {
     pub rows: &'a Rows,
     pub outputs: &'a [List<Stream>],
     pub ready: &'a [u32],
+    pub workers: u32,
     pub block: u32,
 }
 
@@ -65,7 +64,14 @@ impl<'a> Pieces for Arriving<'a> {
         let number = self.ready[b as usize];
         let node = self.plan.net.nodes.get(number as usize);
         let arrivals = arrivals_at(alloc, self.rows, number, node, self.outputs)?;
-        let scan = scan_of(alloc, self.rows, &node.kind, &arrivals, self.block)?;
+        let scan = scan_of(
+            alloc,
+            self.rows,
+            &node.kind,
+            &arrivals,
+            self.workers,
+            self.block,
+        )?;
         Ok(Load {
             plan: self.plan,
             rows: self.rows,
@@ -76,25 +82,33 @@ impl<'a> Pieces for Arriving<'a> {
     }
 }
 
-// How a station of this kind is scanned. A station with one block is not.
+// How a station of this kind is worked out. A station of one block is one whole piece, and for one
+// worker each is, since it knows the carry when it comes to a block. A further kind that is scanned adds
+// its case here.
 fn scan_of(
     alloc: Global,
     rows: &Rows,
     kind: &Kind,
     arrivals: &Stream,
+    workers: u32,
     block: u32,
-) -> Result<Option<Scan>, OutOfMemory>
+) -> Result<Scan, OutOfMemory>
     requires load { IsLoad rows.now kind.now arrivals.now }
     requires some { 1 ≤ block }
     ensures { IfOk result (λ scan. IsScanOf rows.now kind.now arrivals.now scan) }
 {
-    let size = arrivals.job.len() as u32;
+    if workers == 1 || arrivals.job.len() as u32 <= block {
+        return Ok(Scan::Unscanned);
+    }
     match kind {
-        Kind::Server(demand) if size > block => {
-            let demands = demands_of(alloc, rows, demand, &arrivals.job)?;
-            let blocks = cut(size, block_size(size, block));
-            Ok(Some(Scan { demands, blocks }))
+        Kind::Server(demand) => Ok(Scan::OfServer(server_scan(
+            alloc, rows, demand, arrivals, block,
+        )?)),
+        Kind::Tandem(stages) => Ok(Scan::OfTandem(tandem_scan(
+            alloc, rows, stages, arrivals, block,
+        )?)),
+        Kind::Source | Kind::Delay(_) | Kind::Loss { .. } | Kind::ForkJoin(_) | Kind::Split(_) => {
+            Ok(Scan::Unscanned)
         }
-        _ => Ok(None),
     }
 }

@@ -17,10 +17,16 @@ use loss::loss_outflow;
 use mq_base::OutOfMemory;
 use mq_core::{Kind, Rows, Stream};
 use server::server_outflow;
+pub use server::{
+    ServerScan, server_carries, server_departures, server_scan, server_sum, server_times,
+};
 use source::source_outflow;
 use split::split_outflow;
 use std::alloc::Global;
 use tandem::tandem_outflow;
+pub use tandem::{
+    TandemScan, tandem_carries, tandem_joined, tandem_scan, tandem_sum, tandem_times,
+};
 
 // What leaves a station of this kind, given its arrivals. A further kind adds its case here.
 pub fn leaving(

@@ -1,13 +1,32 @@
-// A tandem.
-ghost use Rattle.std.specs.Prelude.{◌≡◌, map, IfOk};
+// A tandem, whole and by blocks.
+ghost use Rattle.std.specs.Prelude.{◌≡◌, ◌<◌, ◌≤◌, ◌*◌, [], ℕ, List as Items, length, map, IfOk, slice_index_or};
+ghost use Rattle.mq_core.specs.Recurrences.{tandem_departs};
 ghost use Rattle.mq_core.specs.declared.model.Kind.TheVariants.{Tandem};
+ghost use Rattle.mq_engine.specs.Loads.{AreTandemCarries, AreTandemTimes, IsTandemPart, IsTandemScan, IsTandemSum};
 ghost use Rattle.mq_engine.specs.Turns.{IsLeaving, IsLoad};
+ghost use Rattle.mq_engine.specs.declared.firsts.Part.{Part as ThePart};
+ghost use Rattle.mq_maxplus.specs.declared.mp.Mp.{Mp as TheMp};
+ghost use Rattle.mq_tandem.specs.Rows.{IsTandemLoad};
 
+use crate::firsts::Part;
 use crate::outflow::{Outflow, columns_of, in_turn};
+use crate::blocks::{applied, before_of, joined, sum_of};
 use mq_base::{List, OutOfMemory};
 use mq_core::{Demand, Rows, Stage, Stream, fates_are_in_time};
-use mq_tandem::tandem_departures;
+use mq_maxplus::{Matrix, Vector};
+use mq_scan::{Blocks, cut};
+use mq_tandem::{TandemStep, carries_hold_departures, tandem_departures};
 use std::alloc::Global;
+
+/// A tandem that is scanned, block by block.
+#[derive(Drop)]
+pub struct TandemScan {
+    /// What each job asks for at each stage, in ticks.
+    pub columns: List<List<u64>>,
+    /// How many jobs each stage holds.
+    pub places: List<u8>,
+    pub blocks: Blocks,
+}
 
 // What leaves a tandem.
 pub fn tandem_outflow(
@@ -26,6 +45,126 @@ pub fn tandem_outflow(
     let departs = tandem_departures(alloc, arrivals, &columns, &places)?;
     drop(columns);
     in_turn(alloc, arrivals, departs)
+}
+
+// How a tandem is scanned.
+pub fn tandem_scan(
+    alloc: Global,
+    rows: &Rows,
+    stages: &List<Stage>,
+    arrivals: &Stream,
+    block: u32,
+) -> Result<TandemScan, OutOfMemory>
+    requires load { IsLoad rows.now (Tandem stages.now) arrivals.now }
+    requires some { 1 ≤ block }
+    ensures { IfOk result (λ scan. IsTandemScan rows.now stages.now arrivals.now scan) }
+{
+    let size = arrivals.job.len() as u32;
+    let asked = stage_demands(alloc, stages)?;
+    let columns = columns_of(alloc, rows, &asked, &arrivals.job)?;
+    let places = stage_places(alloc, stages)?;
+    let blocks = cut(size, long_block(size, block));
+    Ok(TandemScan {
+        columns,
+        places,
+        blocks,
+    })
+}
+
+// How many jobs a block of a tandem has: at least this many, and so many that there are at most 1,024
+// blocks, since the matrix of each takes some 4,000 bytes.
+fn long_block(jobs: u32, block: u32) -> u32
+    requires { 1 ≤ block }
+    ensures some { 1 ≤ result }
+    ensures few { jobs ≤ 1024 * result }
+{
+    block.max(jobs.div_ceil(1024))
+}
+
+// What the jobs of a block do together.
+pub fn tandem_sum(arrivals: &Stream, scan: &TandemScan, b: u32) -> Matrix
+    requires load { IsTandemLoad arrivals.now.time scan.now.columns scan.now.places }
+    requires all { scan.now.blocks.n ≡ length arrivals.now.time }
+    requires inside { b < scan.now.blocks.blocks }
+    ensures { IsTandemSum arrivals.now scan.now b result }
+{
+    let step = TandemStep::new(arrivals, &scan.columns, &scan.places);
+    sum_of(&step, &scan.blocks, b)
+}
+
+// The latest departures before each block, of the summaries of all.
+pub fn tandem_carries(
+    alloc: Global,
+    arrivals: &Stream,
+    scan: &TandemScan,
+    group: &List<Part>,
+) -> Result<List<Vector>, OutOfMemory>
+    requires load { IsTandemLoad arrivals.now.time scan.now.columns scan.now.places }
+    requires all { scan.now.blocks.n ≡ length arrivals.now.time }
+    requires len { length group.now ≡ scan.now.blocks.blocks }
+    requires group { (b : ℕ) (d : ThePart) → b < length group.now → IsTandemPart arrivals.now scan.now b (slice_index_or group.now b d) }
+    ensures { IfOk result (λ carries. AreTandemCarries arrivals.now scan.now carries) }
+{
+    let sums = tandem_sums(alloc, arrivals, scan, group)?;
+    let step = TandemStep::new(arrivals, &scan.columns, &scan.places);
+    before_of(alloc, &step, &scan.blocks, &sums)
+}
+
+// The summaries of all blocks.
+fn tandem_sums(
+    alloc: Global,
+    arrivals: &Stream,
+    scan: &TandemScan,
+    group: &List<Part>,
+) -> Result<List<Matrix>, OutOfMemory>
+    requires { (b : ℕ) (d : ThePart) → b < length group.now → IsTandemPart arrivals.now scan.now b (slice_index_or group.now b d) }
+    ensures len { IfOk result (λ sums. length sums ≡ length group.now) }
+    ensures each { IfOk result (λ sums. (b : ℕ) (d : Items (Items TheMp)) → b < length sums → IsTandemSum arrivals.now scan.now b (slice_index_or sums b d)) }
+{
+    let mut sums = List::new(alloc);
+    for b in 0..group.len() {
+        match group.get(b) {
+            Part::Product(sum) => sums.push(**sum)?,
+            Part::Whole(_) | Part::Sum(_) => unreachable!(),
+        }
+    }
+    Ok(sums)
+}
+
+// When the jobs of a block depart.
+pub fn tandem_times(
+    alloc: Global,
+    arrivals: &Stream,
+    scan: &TandemScan,
+    before: &List<Vector>,
+    b: u32,
+) -> Result<List<u64>, OutOfMemory>
+    requires load { IsTandemLoad arrivals.now.time scan.now.columns scan.now.places }
+    requires all { scan.now.blocks.n ≡ length arrivals.now.time }
+    requires inside { b < scan.now.blocks.blocks }
+    requires before { AreTandemCarries arrivals.now scan.now before.now }
+    ensures { IfOk result (λ times. AreTandemTimes arrivals.now scan.now b times) }
+{
+    let step = TandemStep::new(arrivals, &scan.columns, &scan.places);
+    applied(alloc, &step, &scan.blocks, before, b)
+}
+
+// When all jobs depart, of the blocks one after another.
+pub fn tandem_joined(
+    alloc: Global,
+    arrivals: &Stream,
+    scan: &TandemScan,
+    group: &List<List<u64>>,
+) -> Result<List<u64>, OutOfMemory>
+    requires load { IsTandemLoad arrivals.now.time scan.now.columns scan.now.places }
+    requires all { scan.now.blocks.n ≡ length arrivals.now.time }
+    requires len { length group.now ≡ scan.now.blocks.blocks }
+    requires group { (b : ℕ) (d : Items ℕ) → b < length group.now → AreTandemTimes arrivals.now scan.now b (slice_index_or group.now b d) }
+    ensures { IfOk result (λ departs. departs ≡ tandem_departs scan.now.places (map (λ _. []) scan.now.places) arrivals.now.time scan.now.columns) }
+{
+    let step = TandemStep::new(arrivals, &scan.columns, &scan.places);
+    carries_hold_departures(&step);
+    joined(alloc, &step, &scan.blocks, group)
 }
 
 // What the stages ask for.

@@ -1,16 +1,22 @@
-use Rattle.std.proofs.Common.{◌<◌, Option, subst, sym, arith}
-use Rattle.mq_engine.specs.Loads.{IsPart, blocks_of}
+use Rattle.std.proofs.Common.{subst, sym, arith}
+use Rattle.mq_crew.specs.Crew.{AreAll}
+use Rattle.mq_engine.specs.Loads.{IsPart, IsStage, IsWholePart, blocks_of}
 use Rattle.mq_engine.specs.declared.firsts.Part.TheVariants.{Whole}
+use Rattle.mq_engine.specs.declared.firsts.Stage.TheVariants.{Ended}
 use Rattle.mq_engine.specs.declared.loads.Scan.{Scan}
-use Rattle.mq_engine.proofs.Scanning.{scan-sound}
+use Rattle.mq_engine.proofs.Scanning.{server-sound, tandem-sound}
 use Rattle.mq_engine.proofs.firsts.stage_of.Goals as goal
 
-pub before_of-requires-clause-load : goal.before_of-requires-clause-load
-before_of-requires-clause-load c = (scan-sound _ _ _ _ _ c.in-Some.scan c.requires.loaded c.in-Some.is).0
+pub server_carries-requires-clause-load : goal.server_carries-requires-clause-load
+server_carries-requires-clause-load c = (server-sound _ _ _ _ _ c.in-OfServer.scan c.requires.loaded c.in-OfServer.is).0
 
-pub returns-in-None : goal.returns-in-None
-returns-in-None c =
+pub tandem_carries-requires-clause-load : goal.tandem_carries-requires-clause-load
+tandem_carries-requires-clause-load c = (tandem-sound _ _ _ _ _ c.in-OfTandem.scan c.requires.loaded c.in-OfTandem.is).0
+
+pub returns-in-Unscanned : goal.returns-in-Unscanned
+returns-in-Unscanned c =
     let load = c.args.load.now in
+    let group = subst (λ (s : Scan). AreAll (IsPart load.plan.now load.rows.now load.number load.arrivals s) (blocks_of s) c.args.group) c.in-Unscanned.is c.requires.group in
     let d = Whole c.the_whole.result in
-    let some : 0 < blocks_of load.scan = subst (λ (o : Option Scan). 0 < blocks_of o) (sym c.in-None.is) (omega arith) in
-    subst (IsPart load.plan.now load.rows.now load.number load.arrivals load.scan 0) (c.the_whole.ensures d) (c.requires.group.each 0 d some)
+    let after = subst (IsWholePart load.plan.now load.rows.now load.number load.arrivals) (c.the_whole.ensures d) (group.each 0 d (omega arith)) in
+    subst (λ (s : Scan). IsStage load.plan.now load.rows.now load.number load.arrivals s (Ended c.the_whole.result)) (sym c.in-Unscanned.is) after

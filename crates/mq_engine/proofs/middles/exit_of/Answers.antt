@@ -1,9 +1,13 @@
-use Rattle.std.proofs.Common.{◌<◌, subst}
-use Rattle.mq_engine.proofs.Scanning.{applied-times, scan-sound}
+use Rattle.mq_engine.proofs.Scanning.{server-leaves, server-sound, tandem-leaves, tandem-sound}
 use Rattle.mq_engine.proofs.middles.exit_of.Goals as goal
 
-pub joined-requires-clause-load : goal.joined-requires-clause-load
-joined-requires-clause-load c = (scan-sound _ _ _ _ _ c.in-Before-Some.scan c.requires.loaded c.in-Before-Some.is-1).0
+pub server_departures-requires-clause-load : goal.server_departures-requires-clause-load
+server_departures-requires-clause-load c = (server-sound _ _ _ _ _ c.in-OfServer.scan c.requires.loaded c.in-OfServer.is).0
 
-pub joined-requires-clause-group : goal.joined-requires-clause-group
-joined-requires-clause-group c b d l = applied-times c.args.load.now.arrivals c.args.load.now.scan c.in-Before-Some.scan b _ c.in-Before-Some.is-1 (c.requires.group.each b d (subst (λ n. b < n) c.requires.group.len l))
+pub tandem_joined-requires-clause-load : goal.tandem_joined-requires-clause-load
+tandem_joined-requires-clause-load c = (tandem-sound _ _ _ _ _ c.in-OfTandem.scan c.requires.loaded c.in-OfTandem.is).0
+
+pub returns-in_ok-departs-in-OfTandem : goal.returns-in_ok-departs-in-OfTandem
+returns-in_ok-departs-in-OfTandem c =
+    let load = c.args.load.now in
+    tandem-leaves load.plan.now load.rows.now load.number load.arrivals load.scan c.in-OfTandem.scan c.in_ok-departs-in-OfTandem.departs c.requires.loaded c.in-OfTandem.is c.in_ok-departs-in-OfTandem.ensures

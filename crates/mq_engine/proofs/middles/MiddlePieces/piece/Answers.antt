@@ -1,9 +1,8 @@
-use Rattle.std.proofs.lemmas.Result.{IfOk-weaker}
-use Rattle.mq_engine.proofs.Scanning.{scan-sound}
+use Rattle.mq_engine.proofs.Scanning.{server-sound, tandem-sound}
 use Rattle.mq_engine.proofs.middles.MiddlePieces.piece.Goals as goal
 
-pub applied-requires-clause-load : goal.applied-requires-clause-load
-applied-requires-clause-load c = (scan-sound _ _ _ _ _ c.in-Some-Before.scan c.requires.fit.0.1 c.in-Some-Before.is-0).0
+pub server_times-requires-clause-load : goal.server_times-requires-clause-load
+server_times-requires-clause-load c = (server-sound _ _ _ _ _ c.in-OfServer.scan c.requires.fit.0.1 c.in-OfServer.is).0
 
-pub returns : goal.returns
-returns c = IfOk-weaker c.applied.result _ _ (λ times is. (c.in-Some-Before.scan, c.in-Some-Before.is-0, is)) c.applied.ensures
+pub tandem_times-requires-clause-load : goal.tandem_times-requires-clause-load
+tandem_times-requires-clause-load c = (tandem-sound _ _ _ _ _ c.in-OfTandem.scan c.requires.fit.0.1 c.in-OfTandem.is).0

@@ -2,7 +2,8 @@ use Rattle.std.proofs.Common.{length, map}
 use Rattle.std.proofs.lemmas.Result.{IfOk-weaker}
 use Rattle.mq_core.specs.Handling.{demand_of_job}
 use Rattle.mq_core.specs.declared.model.Kind.TheVariants.{ForkJoin}
-use Rattle.mq_engine.proofs.StageFacts.{branches-are, columns-asked, goes-abreast, loads-sound, narrow-branches, sound-branches}
+use Rattle.mq_engine.proofs.Leaves.{served-leaves}
+use Rattle.mq_engine.proofs.StageFacts.{branches-are, columns-asked, fork-served, loads-sound, narrow-branches, sound-branches}
 use Rattle.mq_engine.proofs.stations.fork_join.forkjoin_outflow.Goals as goal
 
 pub columns_of-requires : goal.columns_of-requires
@@ -18,4 +19,4 @@ pub fork_departures-requires-clause-branches : goal.fork_departures-requires-cla
 fork_departures-requires-clause-branches c = branches-are (length c.requires.net.columns) c.args.branches.now _ _ (λ demand. map (demand_of_job c.args.rows.now demand) c.args.arrivals.now.job) _ c.requires.sound c.in_ok-asked.ensures c.in_ok-servers.ensures c.in_ok-columns.ensures
 
 pub returns : goal.returns
-returns c = IfOk-weaker c.in_turn.result _ _ (λ x turn. goes-abreast c.fates_are_in_time.ensures c.args.rows.now c.args.branches.now c.args.arrivals.now _ _ _ _ _ _ c.requires.ordered.ordered c.in_ok-asked.ensures c.in_ok-columns.ensures c.in_ok-servers.ensures c.in_ok-departs.ensures turn) c.in_turn.ensures
+returns c = IfOk-weaker c.in_turn.result _ _ (λ x turn. served-leaves c.fates_are_in_time.ensures c.args.rows.now (ForkJoin c.args.branches.now) c.args.arrivals.now _ _ _ c.requires.ordered.ordered.even (fork-served c.args.rows.now c.args.branches.now c.args.arrivals.now _ _ _ _ c.in_ok-asked.ensures c.in_ok-columns.ensures c.in_ok-servers.ensures c.in_ok-departs.ensures) turn) c.in_turn.ensures

@@ -1,0 +1,17 @@
+use Rattle.std.proofs.Common.{arith}
+use Rattle.mq_core.specs.declared.model.Kind.TheVariants.{Server}
+use Rattle.mq_engine.proofs.Groups.{blocks-most}
+use Rattle.mq_engine.proofs.Leaves.{asked-each}
+use Rattle.mq_engine.proofs.stations.server.server_scan.Goals as goal
+
+pub demands_of-requires : goal.demands_of-requires
+demands_of-requires c = asked-each c.args.rows.now (Server c.args.demand.now) c.args.demand.now c.args.arrivals.now c.requires.load c.requires.load.sound
+
+pub returns : goal.returns
+returns c =
+    let even = c.requires.load.ordered.ordered.even in
+    let len = c.len-size.ensures in
+    let n = c.cut-blocks.ensures.0 in
+    let block = c.cut-blocks.ensures.1 in
+    let few = c.block_size.ensures.few in
+    record { demands = c.in_ok-demands.ensures; blocks = (omega arith, blocks-most 16384 c.cut-blocks.result (omega arith)) }

@@ -1,0 +1,23 @@
+use Rattle.std.proofs.Common.{length, arith}
+use Rattle.mq_core.specs.declared.model.Kind.TheVariants.{Tandem}
+use Rattle.mq_engine.proofs.Groups.{blocks-most}
+use Rattle.mq_engine.proofs.StageFacts.{columns-asked, sound-stages}
+use Rattle.mq_engine.proofs.stations.tandem.tandem_scan.Goals as goal
+
+pub columns_of-requires : goal.columns_of-requires
+columns_of-requires c = columns-asked c.args.rows.now (Tandem c.args.stages.now) _ _ c.args.arrivals.now c.requires.load c.in_ok-asked.ensures (sound-stages (length c.requires.load.net.columns) c.args.stages.now c.requires.load.sound).asked
+
+pub returns : goal.returns
+returns c =
+    let even = c.requires.load.ordered.ordered.even in
+    let len = c.len-size.ensures in
+    let n = c.cut-blocks.ensures.0 in
+    let block = c.cut-blocks.ensures.1 in
+    let few = c.long_block.ensures.few in
+    record {
+      asked = c.in_ok-asked.asked;
+      asks = c.in_ok-asked.ensures;
+      columns = c.in_ok-columns.ensures;
+      places = c.in_ok-places.ensures;
+      blocks = (omega arith, blocks-most 1024 c.cut-blocks.result (omega arith));
+    }
