@@ -14,7 +14,7 @@ use Rattle.mq_maxplus.proofs.MatrixLaws.{length-units, length-act, length-vplus,
 use Rattle.mq_maxplus.proofs.Vectors.{entry-vmax, entry-vplus}
 
 -- a column of the unit matrix
-unit-column : (size place : ℕ) → place < size → get_or (unit_matrix size) place [] ≡ set (voids size) place (At 0)
+pub unit-column : (size place : ℕ) → place < size → get_or (unit_matrix size) place [] ≡ set (voids size) place (At 0)
 unit-column zero place l = absurd (omega arith)
 unit-column (suc size) zero l = refl
 unit-column (suc size) (suc place) l =
@@ -142,6 +142,13 @@ entry-act [] xs row = refl
 entry-act (column ∷ columns) [] row = refl
 entry-act (column ∷ columns) (x ∷ xs) row =
     entry-vmax (vec_plus x column) (matrix_act columns xs) row ∙ (λ i. mp_max (entry-vplus x column row i) (entry-act columns xs row i))
+
+-- what is in a composition, by row and column
+pub entry-then : (first second : List (List Mp)) (row column : ℕ) → matrix_entry (matrix_then first second) row column ≡ greatest_sum second (get_or first column []) row
+entry-then [] [] row column = refl
+entry-then [] (other ∷ second) row column = refl
+entry-then (xs ∷ first) second row zero = entry-act second xs row
+entry-then (xs ∷ first) second row (suc column) = entry-then first second row column
 
 -- what a matrix makes of a vector fits where the sums do
 pub act-fits : (columns : List (List Mp)) (xs : List Mp) → ((column row : ℕ) → Fits (mp_plus (entry xs column) (matrix_entry columns row column))) → (row : ℕ) → Fits (entry (matrix_act columns xs) row)

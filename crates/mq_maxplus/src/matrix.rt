@@ -1,7 +1,8 @@
 // Square matrices under max and plus.
 ghost use Rattle.std.specs.Prelude.{◌≡◌, ℕ, ◌<◌, ◌≤◌, List as Items, [], Some, length, slice_get, slice_index_or, slice_set};
 ghost use Rattle.mq_maxplus.specs.declared.mp.Mp.{Mp as Number};
-ghost use Rattle.mq_maxplus.specs.Matrices.{entry, greatest_sum, matrix_act, matrix_entry, matrix_then, unit_matrix, CanMatrixAct, CanMatrixThen};
+ghost use Rattle.mq_maxplus.specs.declared.mp.Mp.TheVariants.{At};
+ghost use Rattle.mq_maxplus.specs.Matrices.{entry, greatest_sum, matrix_act, matrix_entry, matrix_then, unit_matrix, voids, CanMatrixAct, CanMatrixThen};
 
 use crate::{Mp, Vector};
 use std::marker::Model;
@@ -131,12 +132,15 @@ impl Matrix {
 }
 
 /// Laws. What a matrix makes of a vector has in each row the greatest, over the columns, of the number
-/// there and the vector's number of that place together. Acting by a composition of matrices is acting
-/// by one and then the other, the composition is associative, and the unit matrix leaves each vector of
-/// its size as it is.
+/// there and the vector's number of that place together; a composition has that in each row and column,
+/// with the column of the first matrix as the vector. Acting by a composition of matrices is acting by
+/// one and then the other, and the composition is associative. A column of the unit matrix has a zero in
+/// the row of its place, and else minus infinity; the matrix leaves each vector of its size as it is.
 pub fn matrix_laws()
     ensures rows { (s : Items (Items Number)) (x : Items Number) (row : ℕ) → entry (matrix_act s x) row ≡ greatest_sum s x row }
     ensures acts { (s t : Items (Items Number)) (x : Items Number) → matrix_act (matrix_then s t) x ≡ matrix_act t (matrix_act s x) }
     ensures joins { (s t u : Items (Items Number)) → matrix_then (matrix_then s t) u ≡ matrix_then s (matrix_then t u) }
+    ensures products { (s t : Items (Items Number)) (row column : ℕ) → matrix_entry (matrix_then s t) row column ≡ greatest_sum t (slice_index_or s column []) row }
+    ensures diagonal { (size place : ℕ) → place < size → slice_index_or (unit_matrix size) place [] ≡ slice_set (voids size) place (At 0) }
     ensures units { (x : Items Number) → matrix_act (unit_matrix (length x)) x ≡ x }
 {}

@@ -7,7 +7,7 @@ use Rattle.std.proofs.lemmas.List.{map-append}
 use Rattle.std.proofs.Math.Nat.{mul-le-mul_left}
 use native.Mathlib.Decide.{ℕ_discrete}
 use mathlib.Core.Logic.{dite}
-use Rattle.mq_scan.specs.Folds.{extended, span, fold_to, carries_after, AreSummaries, AreBefore}
+use Rattle.mq_scan.specs.Folds.{extended, span, fold_to, carries_after, AreSummaries, AreBefore, MayTurn}
 
 module _ {S C : Type 0} (joined : S → S → S) (acted : S → C → C) (can_join : S → S → Type 0) (can_act : S → C → Type 0) (start : C) (part : ℕ → S) (places : ℕ) where
   abbrev Span : ℕ → ℕ → S
@@ -32,6 +32,15 @@ module _ {S C : Type 0} (joined : S → S → S) (acted : S → C → C) (can_jo
         let next : can_act (part (from + suc n)) (acted (Span from n) (Fold from)) = subst (λ (c : C). can_act (part (from + suc n)) c) (sym before') (spans_act (from + suc n) 0 (omega arith)) in
         acts (Span from n) (part (from + suc n)) (Fold from) (join-next from n (omega arith)) (spans_act from n (omega arith)) next (spans_act from (suc n) le)
         ∙ (ap (acted (part (from + suc n))) before' ∙ ap Fold {x = suc (from + suc n)} {y = from + suc n + 1} (omega arith))
+
+    -- it does so on any carry on which they may act
+    pub turns : (carry : C) (from n : ℕ) → from + n + 1 ≤ places → MayTurn joined acted can_act part from (suc n) carry → acted (Span from n) carry ≡ fold_to acted carry (λ k. part (from + k)) (suc n)
+    turns carry from zero le may = let e : from ≡ from + 0 = omega arith in ap (λ (k : ℕ). acted (part k) carry) e
+    turns carry from (suc n) le may =
+        let before = turns carry from n (omega arith) (λ k l. may k (omega arith)) in
+        let last = may (suc n) (omega arith) in
+        acts (Span from n) (part (from + suc n)) carry (join-next from n (omega arith)) (may n (omega arith)).0 (subst (λ (c : C). can_act (part (from + suc n)) c) (sym before) last.1) last.0
+        ∙ ap (acted (part (from + suc n))) before
 
     -- the length of a block less 1, and its end
     pub block-end : (b block : ℕ) → 1 ≤ block → b * block < places → b * block + ((min ((b + 1) * block) places - b * block) - 1) + 1 ≡ min ((b + 1) * block) places
@@ -99,6 +108,11 @@ carries-append acted start part from (suc n) m =
     let place : from + suc n ≡ suc from + n = omega arith in
     let count : suc (n + m) ≡ suc n + m = omega arith in
     ap (λ cs. fold_to acted start part (suc from) ∷ cs) (ap (λ (k : ℕ). carries_after acted start part (suc from) n ++ carries_after acted start part k m) place ∙ carries-append acted start part (suc from) n m) ∙ ap (carries_after acted start part from) count
+
+-- the same of what is read of them
+pub times-append : {S C : Type 0} (acted : S → C → C) (start : C) (part : ℕ → S) (time : C → ℕ) (from n m : ℕ) → map time (carries_after acted start part from n) ++ map time (carries_after acted start part (from + n) m) ≡ map time (carries_after acted start part from (n + m))
+times-append acted start part time from n m =
+    sym (map-append time (carries_after acted start part from n) (carries_after acted start part (from + n) m)) ∙ ap (map time) (carries-append acted start part from n m)
 
 -- the carries after all jobs so far, with those of the next range
 pub ranges-next : {S C : Type 0} (acted : S → C → C) (start : C) (part : ℕ → S) (done from to : ℕ) (all all' : List C) → done ≡ from → from ≤ to → all ≡ carries_after acted start part 0 done → all' ≡ all ++ carries_after acted start part from (to - from) → all' ≡ carries_after acted start part 0 to

@@ -29,6 +29,11 @@ module _ {S C : Type 0} where
   carries_after acted start part from zero = []
   carries_after acted start part from (suc n) = fold_to acted start part (suc from) ∷ carries_after acted start part (suc from) n
 
+  -- the count jobs from a place on may act on a carry in turn, and so may what those up to each of them do together
+  abbrev pub MayTurn : (S → S → S) → (S → C → C) → (S → C → Type 0) → (ℕ → S) → ℕ → ℕ → C → Type 0
+  MayTurn joined acted can_act part from count carry =
+      (n : ℕ) → n < count → can_act (span joined part from n) carry × can_act (part (from + n)) (fold_to acted carry (λ k. part (from + k)) n)
+
   -- item b is the carry before block b
   abbrev pub AreBefore : (S → C → C) → C → (ℕ → S) → ℕ → List C → Type 0
   AreBefore acted start part block cs = (b : ℕ) (d : C) → b < length cs → slice_index_or cs b d ≡ fold_to acted start part (b * block)

@@ -7,5 +7,5 @@ mod passes;
 mod step;
 
 pub use blocks::{Blocks, cut};
-pub use passes::{apply, carries, ranges_append, scan, scan_times, summarise, times};
+pub use passes::{apply, carries, ranges_append, scan, scan_times, summarise, times, times_append};
 pub use step::{Step, Timed};

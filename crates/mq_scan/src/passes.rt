@@ -1,19 +1,20 @@
 // The passes of a scan, over ranges and over all.
 ghost use Rattle.std.specs.Prelude.{◌≡◌, ℕ, ◌+◌, ◌-◌, ◌*◌, ◌<◌, ◌≤◌, ◌++◌, length, map, IfOk};
 ghost use Rattle.std.specs.Vec.{vec_len, vec_capacity};
-ghost use Rattle.mq_scan.specs.Folds.{carries_after, fold_to, span, AreBefore, AreSummaries};
+ghost use Rattle.mq_scan.specs.Folds.{carries_after, fold_to, span, AreBefore, AreSummaries, MayTurn};
 
 use crate::{Step, Timed, cut};
 use mq_base::{List, OutOfMemory};
 use std::alloc::Global;
 
-/// What the jobs from one place up to another do together. There is one at least. It acts on the
-/// carry before them as they do in turn.
+/// What the jobs from one place up to another do together. There is one at least. It acts as they do in
+/// turn, on the carry before them and on any other that they may act on.
 pub fn summarise<P: Step>(step: &P, from: u32, to: u32) -> P::Summary
     requires some { from < to }
     requires inside { to ≤ P.places step.now }
     ensures sum { result ≡ span P.joined (P.part step.now) from ((to - from) - 1) }
     ensures acts { P.acted result (fold_to P.acted (P.start step.now) (P.part step.now) from) ≡ fold_to P.acted (P.start step.now) (P.part step.now) to }
+    ensures turns { (carry : P.Carry) → MayTurn P.joined P.acted P.can_act (P.part step.now) from (to - from) carry → P.acted result carry ≡ fold_to P.acted carry (λ n. P.part step.now (from + n)) (to - from) }
 {
     let mut all = step.one(from);
     step.extend(&mut all, from + 1, to);
@@ -156,6 +157,13 @@ pub fn scan_times<P: Timed>(step: &P, alloc: Global, block: u32) -> Result<List<
 /// after the jobs of both.
 pub fn ranges_append<P: Step>(step: &P)
     ensures { (from n m : ℕ) → carries_after P.acted (P.start step.now) (P.part step.now) from n ++ carries_after P.acted (P.start step.now) (P.part step.now) (from + n) m ≡ carries_after P.acted (P.start step.now) (P.part step.now) from (n + m) }
+{
+    let _ = step;
+}
+
+/// Law. The same of what is read of them.
+pub fn times_append<P: Timed>(step: &P)
+    ensures { (from n m : ℕ) → map (P.time_of step.now) (carries_after P.acted (P.start step.now) (P.part step.now) from n) ++ map (P.time_of step.now) (carries_after P.acted (P.start step.now) (P.part step.now) (from + n) m) ≡ map (P.time_of step.now) (carries_after P.acted (P.start step.now) (P.part step.now) from (n + m)) }
 {
     let _ = step;
 }

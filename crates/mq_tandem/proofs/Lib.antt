@@ -2,10 +2,11 @@ mod Lists
 mod Looking
 mod Rows
 mod Putting
+mod Kept
 mod Passing
 mod Begins
 mod Columns
 mod Mapping
 mod Running
-mod Latest
+mod LatestRows
 mod Recurrence

@@ -15,7 +15,7 @@ use Rattle.mq_tandem.specs.Bounds.{fold-kept, length-kept}
 use Rattle.mq_tandem.proofs.Lists.{rests-drop, map-drop_0, length-firsts}
 use Rattle.mq_tandem.proofs.Looking.{HaveRoom, tandem-same, none-same}
 use Rattle.mq_tandem.proofs.Rows.{kept-some, kept-narrow}
-use Rattle.mq_tandem.proofs.Latest.{latest, AreDeep, deep-before, deep-none, latest-last, latest-none, latest-zero, passed-latest, stage-kept}
+use Rattle.mq_tandem.proofs.LatestRows.{latest, AreDeep, deep-before, deep-none, latest-last, latest-none, latest-zero, passed-latest, stage-kept}
 
 abbrev zeros : List ℕ
 zeros = 0 ∷ 0 ∷ 0 ∷ 0 ∷ []

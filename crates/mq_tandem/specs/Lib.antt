@@ -1,4 +1,6 @@
 pub mod Stages
 pub mod Rows
+pub mod Padded
 pub mod Linear
 pub mod Bounds
+pub mod Times

@@ -6,7 +6,7 @@ use Rattle.mq_core.specs.Recurrences.{firsts}
 use Rattle.mq_maxplus.specs.declared.mp.Mp.{Mp}
 use Rattle.mq_maxplus.specs.declared.mp.Mp.TheVariants.{Void, At}
 use Rattle.mq_maxplus.specs.Maxplus.{mp_max, mp_plus, Fits}
-use Rattle.mq_maxplus.specs.Matrices.{entry, unit_matrix}
+use Rattle.mq_maxplus.specs.Matrices.{entry, matrix_act, unit_matrix, CanMatrixAct}
 use Rattle.mq_tandem.specs.Stages.{AreStages}
 
 -- how many departures are kept of each stage, by their places: the last one of the first stage, and of each other as many as
@@ -66,6 +66,16 @@ mp_minus by (At a) = At (a - by)
 -- what is kept before the first job: no departure counts as one at 0
 abbrev pub none_kept : List ℕ → List Mp
 none_kept places = replicate (zero_row places + 1) (At 0)
+
+-- a time, and not minus infinity
+abbrev pub IsTime : Mp → Type 0
+IsTime Void = ⊥
+IsTime (At a) = Unit {0}
+
+-- a matrix may act on times: each sum that is made fits, and what it makes of them are times
+pub record CanActOnTimes (columns : List (List Mp)) (rows : List Mp) : Type 0 where
+  pub sums : CanMatrixAct columns rows
+  pub times : All IsTime (matrix_act columns rows)
 
 -- what a tandem takes
 pub record IsTandemLoad (arrive : List ℕ) (demands : List (List ℕ)) (places : List ℕ) : Type 0 where

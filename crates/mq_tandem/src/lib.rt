@@ -11,9 +11,12 @@ ghost use Rattle.mq_scan.specs.Folds.{carries_after};
 ghost use Rattle.mq_tandem.specs.Stages.{AreStages};
 ghost use Rattle.mq_tandem.specs.Rows.{job_matrix, kept, last_row, none_kept};
 
+mod latest;
 mod likeness;
+mod runs;
 mod step;
 
+pub use latest::Latest;
 use mq_base::{List, OutOfMemory};
 use mq_core::Stream;
 use mq_scan::scan_times;

@@ -7,9 +7,9 @@ ghost use Rattle.mq_tandem.specs.Stages.{AreStages};
 
 use mq_base::{List, OutOfMemory};
 use mq_core::Stream;
-use mq_maxplus::{Matrix, Vector};
+use mq_maxplus::Matrix;
 use mq_scan::{Step, carries, cut, summarise, times};
-use mq_tandem::{TandemStep, tandem_departures};
+use mq_tandem::{Latest, TandemStep, tandem_departures};
 use std::alloc::Global;
 use std::test::Fail;
 
@@ -116,7 +116,7 @@ fn sums_of(alloc: Global, step: &TandemStep, block: u32) -> Result<List<Matrix>,
 fn second_block(
     alloc: Global,
     step: &TandemStep,
-    before: &List<Vector>,
+    before: &List<Latest>,
 ) -> Result<List<u64>, OutOfMemory>
     requires three { length step.now.arrive.now ≡ 3 }
     requires before { AreBefore matrix_act (none_kept step.now.places.now) (job_matrix step.now.places.now step.now.arrive.now step.now.demands.now) 2 before.now }

@@ -1,6 +1,6 @@
 use Rattle.std.proofs.Common.{arith}
 use Rattle.mq_tandem.proofs.Putting.{putting-begins, putting-next}
-use Rattle.mq_tandem.proofs.step.put_latest.Goals as goal
+use Rattle.mq_tandem.proofs.runs.put_latest.Goals as goal
 
 pub loop-place-init : goal.loop-place-init
 loop-place-init c = putting-begins c.args.time c.args.rows.now c.args.row

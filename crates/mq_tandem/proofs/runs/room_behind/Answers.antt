@@ -1,6 +1,6 @@
 use Rattle.std.proofs.Common.{◌∙◌, length, arith}
 use Rattle.mq_tandem.proofs.Rows.{room-there, room-inside}
-use Rattle.mq_tandem.proofs.step.room_behind.Goals as goal
+use Rattle.mq_tandem.proofs.runs.room_behind.Goals as goal
 
 pub get-requires-then-stage-len : goal.get-requires-then-stage-len
 get-requires-then-stage-len c =
