@@ -1,12 +1,14 @@
 -- How the branches of a fork-join are read.
-use Rattle.std.proofs.Common.{◌≡◌, refl, ℕ, zero, suc, ◌-◌, ◌<◌, List, [], ◌∷◌, length, true, false, Ok, Err, inl, inr, arith}
-use Rattle.std.specs.Prelude.{codes, nat_lt}
+use Rattle.std.proofs.Common.{◌≡◌, ◌∙◌, refl, ℕ, zero, suc, ◌-◌, ◌<◌, List, [], ◌∷◌, length, true, false, Result, Ok, Err, inl, inr, arith}
+use Rattle.std.specs.Prelude.{◌≤◌, codes, min, nat_lt}
 use Rattle.std.proofs.lemmas.Bool.{cases_Bool, lt-ltb}
+use Rattle.std.proofs.lemmas.Grind.{common_steps}
 use Rattle.mq_model.specs.Form.{◌>>=◌, Word, read, stop, up_to}
 use Rattle.mq_model.specs.Lines.{a_branch, a_demand, all_branches, branches, demand_of, is_demand, is_key, key, room_of}
 use Rattle.mq_model.specs.declared.said.SaidDemand.{SaidDemand}
 use Rattle.mq_model.proofs.FormFacts.{read_then}
-use Rattle.mq_model.proofs.ReadFacts.{front_of, with_front}
+use Rattle.mq_model.specs.Reading.{with_front}
+use Rattle.mq_model.proofs.ReadFacts.{front_of, front_of_second, one_or_more, one_then, read_word_no, read_word_yes}
 use Rattle.mq_model.proofs.StageFacts.{front_of_two}
 
 -- a branch
@@ -69,3 +71,33 @@ all_no_bar all ws l first own bar = rw (read_then, own, read_then, bar) refl
 pub all_no_second : (all ws vs l : List Word) (first : List SaidDemand) → read (a_branch 8) all ≡ Ok (first, ws) → read (key (codes "|")) ws ≡ Ok (tt, vs) → read (a_branch (8 - length first)) vs ≡ Err l → read all_branches all ≡ Err l
 unfolding read all_branches
 all_no_second all ws vs l first own bar other = rw (read_then, own, read_then, bar, read_then, other) refl
+
+-- how many demands a branch has at most
+pub most_of : (left : ℕ) → 1 ≤ left → min left 4 ≡ suc (room_of left)
+most_of left some = grind (arith, common_steps)
+
+-- a branch is one demand or more
+pub branch_by : (left most : ℕ) (ws : List Word) → most ≡ suc (room_of left) → read (a_branch left) ws ≡ one_or_more (read (up_to most is_demand demand_of) ws)
+unfolding a_branch
+branch_by left most ws same = rw same (one_then (room_of left) is_demand demand_of ws)
+
+behind_bar : (all ws vs : List Word) (w : Word) (first : List SaidDemand) → length first < 8 → read (a_branch 8) all ≡ Ok (first, ws) → ws ≡ w ∷ vs → is_key (124 ∷ []) w ≡ true
+    → (own : Result (List SaidDemand × List Word) (List Word)) → read (a_branch (8 - length first)) vs ≡ own
+    → read all_branches all ≡ with_front (first ∷ []) (one_or_more (read (branches 7 (8 - length first)) ws))
+unfolding read
+behind_bar all ws vs w first few own e bar (Ok (second, rest)) h =
+    all_two all ws vs rest first second own (read_word_yes (is_key (124 ∷ [])) (λ _. stop tt) ws vs w e bar) h
+    ∙ rw (branches_yes 7 (8 - length first) ws vs rest w second (omega arith) (omega arith) e bar h) (front_of_second first second (read (branches 6 (8 - length first - length second)) rest))
+behind_bar all ws vs w first few own e bar (Err left) h =
+    all_no_second all ws vs left first own (read_word_yes (is_key (124 ∷ [])) (λ _. stop tt) ws vs w e bar) h
+    ∙ rw (branches_fault 7 (8 - length first) ws vs left w (omega arith) (omega arith) e bar h) refl
+
+-- the branches behind the first are one or more
+pub all_by : (all ws : List Word) (first : List SaidDemand) → length first < 8 → read (a_branch 8) all ≡ Ok (first, ws) → read all_branches all ≡ with_front (first ∷ []) (one_or_more (read (branches 7 (8 - length first)) ws))
+unfolding read
+all_by all [] first few own = all_no_bar all [] [] first own refl ∙ rw (branches_none 7 (8 - length first) [] refl) refl
+all_by all (w ∷ vs) first few own =
+    elim (cases_Bool (is_key (124 ∷ []) w)) [
+      | inl good ↦ behind_bar all (w ∷ vs) vs w first few own refl good (read (a_branch (8 - length first)) vs) refl
+      | inr bad ↦ all_no_bar all (w ∷ vs) (w ∷ vs) first own (read_word_no (is_key (124 ∷ [])) (λ _. stop tt) (w ∷ vs) vs w refl bad) ∙ rw (branches_no 7 (8 - length first) (w ∷ vs) vs w refl bad) refl
+    ]

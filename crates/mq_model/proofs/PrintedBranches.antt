@@ -12,7 +12,8 @@ use Rattle.mq_model.proofs.BranchFacts.{all_two, branch_first, branches_no, bran
 use Rattle.mq_model.proofs.FormFacts.{read_then}
 use Rattle.mq_model.proofs.Lists.{AreAll}
 use Rattle.mq_model.proofs.PrintedParts.{a_demand_again, demand_again}
-use Rattle.mq_model.proofs.ReadFacts.{up_to_no, up_to_yes, with_front}
+use Rattle.mq_model.specs.Reading.{with_front}
+use Rattle.mq_model.proofs.ReadFacts.{up_to_no, up_to_yes}
 use Rattle.mq_model.proofs.SoundLines.{AreSoundBranches, IsSoundBranch, IsSoundDemand}
 
 -- words that begin with one that is no demand

@@ -19,7 +19,8 @@ use Rattle.mq_model.specs.declared.said.SaidRoute.TheVariants.{Modulo, Turn, Cut
 use Rattle.mq_model.specs.declared.said.Said.{Said}
 use Rattle.mq_model.specs.declared.said.Said.TheVariants.{Bound, Node}
 use Rattle.mq_model.proofs.FormFacts.{read_then}
-use Rattle.mq_model.proofs.ReadFacts.{kind_delay, kind_forkjoin, kind_loss, kind_server, kind_split, kind_tandem, line_bound, line_kind, line_source, read_one_yes, rising_no, rising_yes, route_counted, route_cut, thresholds_first, way_mod, way_turn, with_front}
+use Rattle.mq_model.specs.Reading.{with_front}
+use Rattle.mq_model.proofs.ReadFacts.{kind_delay, kind_forkjoin, kind_loss, kind_server, kind_split, kind_tandem, line_bound, line_kind, line_source, read_one_yes, rising_no, rising_yes, route_counted, route_cut, thresholds_first, way_mod, way_turn}
 use Rattle.mq_model.proofs.PrintedBranches.{forkjoin_again}
 use Rattle.mq_model.proofs.PrintedStages.{tandem_again}
 use Rattle.mq_model.proofs.PrintedParts.{a_demand_again, inputs_again, name_again, number_again, within_again, AreInputs}

@@ -19,7 +19,8 @@ use Rattle.mq_model.specs.Printed.{demand_word, input_word, inputs_words}
 use Rattle.mq_model.specs.declared.said.SaidDemand.{SaidDemand}
 use Rattle.mq_model.specs.declared.said.SaidDemand.TheVariants.{Column, Fixed}
 use Rattle.mq_model.specs.declared.said.SaidInput.{SaidInput}
-use Rattle.mq_model.proofs.ReadFacts.{inputs_first, read_one_yes, up_to_none, up_to_yes, with_front}
+use Rattle.mq_model.specs.Reading.{with_front}
+use Rattle.mq_model.proofs.ReadFacts.{inputs_first, read_one_yes, up_to_none, up_to_yes}
 use Rattle.mq_model.proofs.SoundLines.{IsSoundDemand}
 
 own : IsNumeralModel (λ ds. list_all is_ascii_digit ds ≡ true) (digits_value 10)

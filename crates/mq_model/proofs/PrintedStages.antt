@@ -12,7 +12,7 @@ use Rattle.mq_model.specs.declared.said.SaidStage.{SaidStage}
 use Rattle.mq_model.proofs.FormFacts.{read_then}
 use Rattle.mq_model.proofs.Lists.{AreAll}
 use Rattle.mq_model.proofs.PrintedParts.{a_demand_again, within_again}
-use Rattle.mq_model.proofs.ReadFacts.{with_front}
+use Rattle.mq_model.specs.Reading.{with_front}
 use Rattle.mq_model.proofs.SoundLines.{AreSoundStages, IsSoundStage}
 use Rattle.mq_model.proofs.StageFacts.{behind_two, stages_no, stages_yes}
 

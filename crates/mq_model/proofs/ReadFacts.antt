@@ -13,7 +13,7 @@ use Rattle.mq_model.specs.Lines.{a_route, counted_route, cut_route, greatest_dem
 use Rattle.mq_core.specs.Names.{is_name, is_name_byte}
 use Rattle.std.proofs.lemmas.Grind.{common_steps}
 use Rattle.mq_model.specs.Form.{◌>>=◌, Form, Word, stop, word, maybe, one, read, up_to, whole}
-use Rattle.mq_model.specs.Reading.{Reads, words_from}
+use Rattle.mq_model.specs.Reading.{Reads, ReadsMore, with_front, words_from}
 use Rattle.mq_model.specs.declared.parts.Stop.{Stop}
 use Rattle.mq_model.specs.declared.parts.Stop.TheVariants as why
 use Rattle.mq_model.proofs.FormFacts.{go_on, read_then}
@@ -63,14 +63,18 @@ pub ruleset names = (common_steps, name_parts)
 
 pub ruleset places = (common_steps, words_at, words_past)
 
--- the value of a reading, behind these
-abbrev pub with_front : {A : Type 0} → List A → Result (List A × List Word) (List Word) → Result (List A × List Word) (List Word)
-with_front front (Ok (more, rest)) = Ok (front ++ more, rest)
-with_front front (Err left) = Err left
+-- behind none
+pub front_of_none : {A : Type 0} (r : Result (List A × List Word) (List Word)) → r ≡ with_front [] r
+front_of_none (Ok (more, rest)) = refl
+front_of_none (Err left) = refl
 
 pub with_front_twice : {A : Type 0} (a b : List A) (r : Result (List A × List Word) (List Word)) → with_front a (with_front b r) ≡ with_front (a ++ b) r
 with_front_twice a b (Ok (more, rest)) = ap (λ all. Ok (all, rest)) (sym (append_assoc a b more))
 with_front_twice a b (Err left) = refl
+
+pub front_fault : {A : Type 0} (front : List A) (r : Result (List A × List Word) (List Word)) (l : List Word) → with_front front r ≡ Err l → r ≡ Err l
+front_fault front (Ok (more, rest)) l h = absurd (cc)
+front_fault front (Err left) l h = h
 
 pub up_to_zero : {A : Type 0} (p : Word → Bool) (value : Word → A) (ws : List Word) → read (up_to 0 p value) ws ≡ Ok ([], ws)
 unfolding read up_to
@@ -110,6 +114,17 @@ pub stops : {X Y : Type 0} (e : Stop) (left : List Word) (part : Result (X × Li
 stops why.Word left part all reads follows = follows left reads
 stops why.Memory left part all reads follows = tt
 
+-- the same where a list is read into, and of the whole where its part is
+pub stops_more : {X Y : Type 0} (Z : Type 0) (e : Stop) (left : List Word) (part : Result (X × List Word) (List Word)) (before after : List Y) (all : Result (List Y × List Word) (List Word))
+    → Reads {X = X} (Err e) left part → ((l : List Word) → part ≡ Err l → all ≡ Err l) → ReadsMore {X = Y} {Y = Z} (Err e) before after left all
+stops_more Z why.Word left part before after all reads follows = follows left reads
+stops_more Z why.Memory left part before after all reads follows = tt
+
+pub stops_behind : {X Z : Type 0} (Y : Type 0) (e : Stop) (left : List Word) (before after : List X) (part : Result (List X × List Word) (List Word)) (all : Result (Z × List Word) (List Word))
+    → ReadsMore {X = X} {Y = Y} (Err e) before after left part → ((l : List Word) → part ≡ Err l → all ≡ Err l) → Reads {X = Z} (Err e) left all
+stops_behind Y why.Word left before after part all reads follows = follows left reads
+stops_behind Y why.Memory left before after part all reads follows = tt
+
 -- a value made of what a part says
 pub then_stop : {A B : Type 0} (f : Form A) (value : A → B) (ws rest : List Word) (a : A) → read f ws ≡ Ok (a, rest) → read (f >>= λ a. stop (value a)) ws ≡ Ok (value a, rest)
 unfolding read
@@ -130,11 +145,56 @@ inputs_then all = read_then (key (codes "from")) (λ _. behind_from) all
 pub inputs_no_key : (all left : List Word) → read (key (codes "from")) all ≡ Err left → read inputs all ≡ Err left
 inputs_no_key all left h = rw (inputs_then, h) refl
 
-pub inputs_no_first : (all ws : List Word) → read (key (codes "from")) all ≡ Ok (tt, ws) → ws ≡ [] → read inputs all ≡ Err ws
-inputs_no_first all ws h none = rw (inputs_then, h) (then_fault (one is_input input_of) _ ws ws (read_one_none is_input input_of ws none))
+-- the same where one is needed at least
+abbrev pub one_or_more : {A : Type 0} → Result (List A × List Word) (List Word) → Result (List A × List Word) (List Word)
+one_or_more (Ok ([], rest)) = Err rest
+one_or_more (Ok (first ∷ more, rest)) = Ok (first ∷ more, rest)
+one_or_more (Err left) = Err left
 
-pub inputs_bad_first : (all ws more : List Word) (v : Word) → read (key (codes "from")) all ≡ Ok (tt, ws) → ws ≡ v ∷ more → is_input v ≡ false → read inputs all ≡ Err ws
-inputs_bad_first all ws more v h f no_way = rw (inputs_then, h) (then_fault (one is_input input_of) _ ws ws (read_one_no is_input input_of ws more v f no_way))
+pub none_is_fault : {A : Type 0} (r : Result (List A × List Word) (List Word)) (all : List A) (left : List Word) → r ≡ Ok (all, left) → all ≡ [] → one_or_more r ≡ Err left
+none_is_fault r all left e none = rw (e, none) refl
+
+pub some_are : {A : Type 0} (r : Result (List A × List Word) (List Word)) (all : List A) (left : List Word) → r ≡ Ok (all, left) → (all ≡ [] → false ≡ true) → one_or_more r ≡ Ok (all, left)
+some_are r [] left e some = let h = some refl in absurd (cc)
+some_are r (first ∷ more) left e some = rw e refl
+
+said_alike : {A : Type 0} (a b : List A) (rest left : List Word) (r : Result (List A × List Word) (List Word)) → r ≡ Ok (a, rest) → r ≡ Ok (b, left) → (a ≡ b) × (rest ≡ left)
+said_alike {A} a b rest left r h e =
+    let same : (a, rest) ≡ (b, left) = cc in
+    (ap (λ (q : List A × List Word). q.0) same, ap (λ (q : List A × List Word). q.1) same)
+
+-- behind a first, one more is needed
+pub lone : {A : Type 0} (first : A) (r : Result (List A × List Word) (List Word)) (all : List A) (left : List Word) → with_front (first ∷ []) r ≡ Ok (all, left) → length all < 2 → with_front (first ∷ []) (one_or_more r) ≡ Err left
+lone first (Ok ([], rest)) all left e few = rw (said_alike (first ∷ []) all rest left (with_front (first ∷ []) (Ok ([], rest))) refl e).1 refl
+lone first (Ok (x ∷ more, rest)) all left e few = let many = ap length (said_alike (first ∷ x ∷ more) all rest left (with_front (first ∷ []) (Ok (x ∷ more, rest))) refl e).0 in absurd (omega (arith, many))
+lone first (Err l) all left e few = absurd (cc)
+
+pub several : {A : Type 0} (first : A) (r : Result (List A × List Word) (List Word)) (all : List A) (left : List Word) → with_front (first ∷ []) r ≡ Ok (all, left) → 2 ≤ length all → with_front (first ∷ []) (one_or_more r) ≡ Ok (all, left)
+several first (Ok ([], rest)) all left e many = let few = ap length (said_alike (first ∷ []) all rest left (with_front (first ∷ []) (Ok ([], rest))) refl e).0 in absurd (omega (arith, few))
+several first (Ok (x ∷ more, rest)) all left e many = e
+several first (Err l) all left e many = e
+
+pub front_of_second : {A : Type 0} (first second : A) (r : Result (List A × List Word) (List Word)) → with_front (first ∷ second ∷ []) r ≡ with_front (first ∷ []) (one_or_more (with_front (second ∷ []) r))
+front_of_second first second (Ok (more, rest)) = refl
+front_of_second first second (Err left) = refl
+
+front_is_one_or_more : {A : Type 0} (first : A) (r : Result (List A × List Word) (List Word)) → with_front (first ∷ []) r ≡ one_or_more (with_front (first ∷ []) r)
+front_is_one_or_more first (Ok (more, rest)) = refl
+front_is_one_or_more first (Err left) = refl
+
+-- one that passes, and at most n more
+pub one_then : {A : Type 0} (n : ℕ) (p : Word → Bool) (value : Word → A) (ws : List Word)
+    → read (one p value >>= λ first. up_to n p value >>= λ more. stop (first ∷ more)) ws ≡ one_or_more (read (up_to (suc n) p value) ws)
+unfolding read up_to
+one_then n p value [] = rw (read_then (one p value)) refl
+one_then n p value (w ∷ ws) =
+    elim (cases_Bool (p w)) [
+      | inl good ↦ rw (read_then (one p value), good, read_then (up_to n p value) (λ more. stop (value w ∷ more)) ws, front_of (value w) (read (up_to n p value) ws)) (front_is_one_or_more (value w) (read (up_to n p value) ws))
+      | inr bad ↦ rw (read_then (one p value), bad) refl
+    ]
+
+pub inputs_by : (all ws : List Word) → read (key (codes "from")) all ≡ Ok (tt, ws) → read inputs all ≡ one_or_more (read (up_to 8 is_input input_of) ws)
+inputs_by all ws h = rw (inputs_then, h) (one_then 7 is_input input_of ws)
 
 pub inputs_first : (all ws more : List Word) (v : Word) → read (key (codes "from")) all ≡ Ok (tt, ws) → ws ≡ v ∷ more → is_input v ≡ true
     → read inputs all ≡ with_front (input_of v ∷ []) (read (up_to 7 is_input input_of) more)

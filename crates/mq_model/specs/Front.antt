@@ -48,6 +48,17 @@ unread_fault n ws (Ok said) = None
 abbrev pub grammar_fault : ℕ → Bool → List Word → Option ModelFault
 grammar_fault n has_bound ws = if begins_bound ws && has_bound then Some (BadLine n 1) else unread_fault n ws (whole (read line ws))
 
+-- The names that a line declares and mentions are added.
+abbrev pub with_names : Front → Said → Front
+with_names old said = record {
+  has_head = old.has_head;
+  has_bound = old.has_bound;
+  saids = old.saids;
+  lines = old.lines;
+  names = old.names ++ declared said;
+  columns = columns_after old.columns (mentioned said);
+}
+
 -- What a line says is added.
 abbrev pub with_said : Front → ℕ → Said → Front
 with_said old number said = record {

@@ -1,5 +1,5 @@
 -- How the code's readers of words follow a form.
-use Rattle.std.specs.Prelude.{◌≡◌, ◌+◌, ℕ, List, length, drop, map, Result, Ok, Err}
+use Rattle.std.specs.Prelude.{◌≡◌, ◌+◌, ◌++◌, ℕ, List, length, drop, map, Result, Ok, Err}
 use Rattle.std.specs.Borrow.{Bor}
 use Rattle.mq_base.specs.Text.{texts}
 use Rattle.mq_model.specs.Form.{Form, Word}
@@ -30,6 +30,17 @@ abbrev pub Reads : {X : Type 0} → Result X Stop → List Word → Result (X ×
 Reads (Ok x) left said = said ≡ Ok (x, left)
 Reads (Err why.Word) left said = said ≡ Err left
 Reads (Err why.Memory) left said = Unit {0}
+
+-- what is said, behind these
+abbrev pub with_front : {X : Type 0} → List X → Result (List X × List Word) (List Word) → Result (List X × List Word) (List Word)
+with_front front (Ok (more, rest)) = Ok (front ++ more, rest)
+with_front front (Err left) = Err left
+
+-- The same where what is read is added to a list, which held these and then holds all.
+abbrev pub ReadsMore : {X Y : Type 0} → Result Y Stop → List X → List X → List Word → Result (List X × List Word) (List Word) → Type 0
+ReadsMore (Ok y) before all left said = with_front before said ≡ Ok (all, left)
+ReadsMore (Err why.Word) before all left said = said ≡ Err left
+ReadsMore (Err why.Memory) before all left said = Unit {0}
 
 -- The same of a whole line; a fault tells the number of its word.
 abbrev pub ReadsLine : {X : Type 0} → Result X LineFault → List Word → Result X (List Word) → Type 0

@@ -3,7 +3,7 @@ ghost use Rattle.std.specs.Prelude.{◌≡◌, ◌≤◌, ◌++◌, IfErr, IfOk,
 ghost use Rattle.std.specs.List.{flat_map, list_all};
 ghost use Rattle.mq_base.specs.Text.{words_of, texts};
 ghost use Rattle.mq_model.specs.Form.{read, whole};
-ghost use Rattle.mq_model.specs.Front.{AddsLine, added_fault, grammar_fault, name_fault, with_said};
+ghost use Rattle.mq_model.specs.Front.{AddsLine, added_fault, grammar_fault, name_fault, with_names, with_said};
 ghost use Rattle.mq_model.specs.Lines.{line};
 ghost use Rattle.mq_model.specs.Model.{Tells, begins_bound, begins_comment, is_allowed, is_head};
 ghost use Rattle.mq_model.specs.Said.{added, columns_after, declared, is_among, mentioned, mentions_of_demand, mentions_of_kind, mentions_of_route};
@@ -259,16 +259,30 @@ fn read_words(
     }
 }
 
+/// Adds the name of the node that a line declares, and the columns that it mentions.
+fn add_names(
+    alloc: Global,
+    said: &Said,
+    number: u32,
+    front: &mut Front,
+) -> Result<(), ModelFault>
+    ensures ok { IfOk result (λ _. (added_fault front.old number said.now ≡ None) × (front.new ≡ with_names front.old said.now)) }
+    ensures err { IfErr result (λ e. Tells e (added_fault front.old number said.now)) }
+{
+    add_name(alloc, said, number, &mut front.names)?;
+    add_columns(alloc, said, &mut front.columns)?;
+    if front.columns.len() > 16 {
+        return Err(ModelFault::TooMany { line: number });
+    }
+    Ok(())
+}
+
 /// Adds what a line says.
 fn add_said(alloc: Global, said: Said, number: u32, front: &mut Front) -> Result<(), ModelFault>
     ensures ok { IfOk result (λ _. (added_fault front.old number said ≡ None) × (front.new ≡ with_said front.old number said)) }
     ensures err { IfErr result (λ e. Tells e (added_fault front.old number said)) }
 {
-    add_name(alloc, &said, number, &mut front.names)?;
-    add_columns(alloc, &said, &mut front.columns)?;
-    if front.columns.len() > 16 {
-        return Err(ModelFault::TooMany { line: number });
-    }
+    add_names(alloc, &said, number, front)?;
     front.saids.push(said)?;
     front.lines.push(number)?;
     Ok(())

@@ -1,7 +1,7 @@
 // The parts of a line that several kinds share.
 ghost use Rattle.std.specs.Prelude.{◌≡◌, ◌+◌, ◌<◌, ◌≤◌, [], ◌∷◌, IfOk, IfSome, MatchOption, length};
-ghost use Rattle.mq_model.specs.Form.{one, read};
-ghost use Rattle.mq_model.specs.Lines.{a_demand, a_name, inputs, is_from_to, key, value_of};
+ghost use Rattle.mq_model.specs.Form.{one, read, up_to};
+ghost use Rattle.mq_model.specs.Lines.{a_demand, a_name, input_of, inputs, is_from_to, is_input, key, value_of};
 ghost use Rattle.mq_model.specs.Reading.{Reads, words_from};
 
 use crate::said::{SaidDemand, SaidInput};
@@ -121,23 +121,14 @@ pub fn read_within(words: &[&[u8]], at: &mut usize, least: u64, most: u64) -> Re
     Ok(number)
 }
 
-/// Reads the inputs that end a line.
+/// Reads the inputs at hand, at most 8; there may be none.
 #[tactic(auto, using(crate::proofs::ReadFacts::reading))]
-pub fn read_inputs(alloc: Global, words: &[&[u8]], at: &mut usize) -> Result<List<SaidInput>, Stop>
-    ensures reads { Reads result (words_from words.now at.new) (read inputs (words_from words.now at.old)) }
+fn read_input_list(alloc: Global, words: &[&[u8]], at: &mut usize) -> Result<List<SaidInput>, Stop>
+    ensures reads { Reads result (words_from words.now at.new) (read (up_to 8 is_input input_of) (words_from words.now at.old)) }
     ensures within { at.old ≤ length words.now → at.new ≤ length words.now }
 {
-    read_key(words, at, b"from")?;
-    let Some(word) = word_at(words, *at) else {
-        return Err(Stop::Word);
-    };
-    if !is_input(word) {
-        return Err(Stop::Word);
-    }
     let mut reads = List::new(alloc);
-    reads.push(input_said(alloc, word)?)?;
-    *at += 1;
-    for count in 0..7u8 {
+    for count in 0..8u8 {
         let Some(word) = word_at(words, *at) else {
             return Ok(reads);
         };
@@ -146,6 +137,19 @@ pub fn read_inputs(alloc: Global, words: &[&[u8]], at: &mut usize) -> Result<Lis
         }
         reads.push(input_said(alloc, word)?)?;
         *at += 1;
+    }
+    Ok(reads)
+}
+
+/// Reads the inputs that end a line.
+pub fn read_inputs(alloc: Global, words: &[&[u8]], at: &mut usize) -> Result<List<SaidInput>, Stop>
+    ensures reads { Reads result (words_from words.now at.new) (read inputs (words_from words.now at.old)) }
+    ensures within { at.old ≤ length words.now → at.new ≤ length words.now }
+{
+    read_key(words, at, b"from")?;
+    let reads = read_input_list(alloc, words, at)?;
+    if reads.is_empty() {
+        return Err(Stop::Word);
     }
     Ok(reads)
 }

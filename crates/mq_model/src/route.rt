@@ -1,8 +1,8 @@
 // The route of a split.
 ghost use Rattle.std.specs.Prelude.{◌≡◌, ◌≤◌, MatchOption, false, length, true};
 ghost use Rattle.mq_model.specs.Form.{read};
-ghost use Rattle.mq_model.specs.Lines.{a_route, counted_route, cut_route, is_above, modulo_route, thresholds, value_of, way_of};
-ghost use Rattle.mq_model.specs.Reading.{Reads, words_from};
+ghost use Rattle.mq_model.specs.Lines.{a_route, counted_route, cut_route, is_above, modulo_route, rising, thresholds, value_of, way_of};
+ghost use Rattle.mq_model.specs.Reading.{Reads, ReadsMore, words_from};
 
 use crate::parts::{Stop, read_name, read_within, word_at};
 use crate::said::SaidRoute;
@@ -23,26 +23,41 @@ fn number_above(word: &[u8], last: u64) -> Option<u64>
     Some(number)
 }
 
-/// Reads 1 to 7 thresholds, each above the one before.
-#[tactic(auto, using(crate::proofs::ReadFacts::choices))]
-fn read_thresholds(alloc: Global, words: &[&[u8]], at: &mut usize) -> Result<List<u64>, Stop>
-    ensures reads { Reads result (words_from words.now at.new) (read thresholds (words_from words.now at.old)) }
+/// Adds the thresholds at hand, at most 6, each above the one before, the first above `last`; there
+/// may be none.
+fn add_thresholds(
+    words: &[&[u8]],
+    at: &mut usize,
+    last: u64,
+    cuts: &mut List<u64>,
+) -> Result<(), Stop>
+    ensures reads { ReadsMore result cuts.old cuts.new (words_from words.now at.new) (read (rising 6 last) (words_from words.now at.old)) }
     ensures within { at.old ≤ length words.now → at.new ≤ length words.now }
 {
-    let mut last = read_within(words, at, 0, GREATEST_DEMAND)?;
-    let mut cuts = List::new(alloc);
-    cuts.push(last)?;
+    let mut last = last;
     for count in 0..6u8 {
         let Some(word) = word_at(&*words, *at) else {
-            return Ok(cuts);
+            return Ok(());
         };
         let Some(next) = number_above(word, last) else {
-            return Ok(cuts);
+            return Ok(());
         };
         cuts.push(next)?;
         last = next;
         *at += 1;
     }
+    Ok(())
+}
+
+/// Reads 1 to 7 thresholds, each above the one before.
+fn read_thresholds(alloc: Global, words: &[&[u8]], at: &mut usize) -> Result<List<u64>, Stop>
+    ensures reads { Reads result (words_from words.now at.new) (read thresholds (words_from words.now at.old)) }
+    ensures within { at.old ≤ length words.now → at.new ≤ length words.now }
+{
+    let first = read_within(words, at, 0, GREATEST_DEMAND)?;
+    let mut cuts = List::new(alloc);
+    cuts.push(first)?;
+    add_thresholds(words, at, first, &mut cuts)?;
     Ok(cuts)
 }
 

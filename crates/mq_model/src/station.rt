@@ -1,10 +1,10 @@
 // What stands between the name of a station and its inputs.
 ghost use Rattle.std.specs.Prelude.{◌≡◌, ◌≤◌, IfOk, length};
-ghost use Rattle.mq_model.specs.Form.{read};
-ghost use Rattle.mq_model.specs.Lines.{a_branch, a_stage, all_branches, forkjoin_kind, loss_kind, room_of, stages_behind, tandem_kind};
-ghost use Rattle.mq_model.specs.Reading.{Reads, words_from};
+ghost use Rattle.mq_model.specs.Form.{read, up_to};
+ghost use Rattle.mq_model.specs.Lines.{a_branch, a_stage, all_branches, branches as further_branches, demand_of, forkjoin_kind, is_demand, loss_kind, stages as further_stages, stages_behind, tandem_kind};
+ghost use Rattle.mq_model.specs.Reading.{Reads, ReadsMore, words_from};
 
-use crate::parts::{Stop, read_demand, read_key, read_within, word_at};
+use crate::parts::{Stop, read_demand, read_within, word_at};
 use crate::said::{SaidDemand, SaidKind, SaidStage};
 use crate::word::{demand_said, is_demand};
 use mq_base::List;
@@ -39,6 +39,30 @@ fn read_stage(alloc: Global, words: &[&[u8]], at: &mut usize) -> Result<SaidStag
     })
 }
 
+/// Adds the stages at hand, at most 3, each behind a slash; there may be none.
+fn add_stages(
+    alloc: Global,
+    words: &[&[u8]],
+    at: &mut usize,
+    stages: &mut List<SaidStage>,
+) -> Result<(), Stop>
+    ensures reads { ReadsMore result stages.old stages.new (words_from words.now at.new) (read (further_stages 3) (words_from words.now at.old)) }
+    ensures within { at.old ≤ length words.now → at.new ≤ length words.now }
+{
+    for count in 0..3u8 {
+        let Some(word) = word_at(&*words, *at) else {
+            return Ok(());
+        };
+        if word != b"/".as_slice() {
+            return Ok(());
+        }
+        *at += 1;
+        let stage = read_stage(alloc, words, at)?;
+        stages.push(stage)?;
+    }
+    Ok(())
+}
+
 /// Reads 1 to 3 stages behind the first, which has this demand.
 fn read_stages(
     alloc: Global,
@@ -49,24 +73,14 @@ fn read_stages(
     ensures reads { Reads result (words_from words.now at.new) (read (stages_behind first) (words_from words.now at.old)) }
     ensures within { at.old ≤ length words.now → at.new ≤ length words.now }
 {
-    read_key(words, at, b"/")?;
-    let second = read_stage(alloc, words, at)?;
     let mut stages = List::new(alloc);
     stages.push(SaidStage {
         places: 0,
         demand: first,
     })?;
-    stages.push(second)?;
-    for count in 0..2u8 {
-        let Some(word) = word_at(&*words, *at) else {
-            return Ok(stages);
-        };
-        if word != b"/".as_slice() {
-            return Ok(stages);
-        }
-        *at += 1;
-        let stage = read_stage(alloc, words, at)?;
-        stages.push(stage)?;
+    add_stages(alloc, words, at, &mut stages)?;
+    if stages.len() < 2 {
+        return Err(Stop::Word);
     }
     Ok(stages)
 }
@@ -81,15 +95,29 @@ pub fn read_tandem(alloc: Global, words: &[&[u8]], at: &mut usize) -> Result<Sai
     Ok(SaidKind::Tandem(stages))
 }
 
-/// How many demands may stand behind the first of a branch, where so many are left of the line's 8.
-fn room_of(left: u8) -> u8
-    requires { 1 ≤ left }
-    ensures { result ≡ room_of left }
+/// Reads the demands at hand, at most so many; there may be none.
+fn read_demand_list(
+    alloc: Global,
+    words: &[&[u8]],
+    at: &mut usize,
+    most: u8,
+) -> Result<List<SaidDemand>, Stop>
+    ensures reads { Reads result (words_from words.now at.new) (read (up_to most is_demand demand_of) (words_from words.now at.old)) }
+    ensures within { at.old ≤ length words.now → at.new ≤ length words.now }
+    ensures few { IfOk result (λ demands. length demands ≤ most) }
 {
-    if left > 3 {
-        return 3;
+    let mut demands = List::new(alloc);
+    for count in 0..most {
+        let Some(word) = word_at(&*words, *at) else {
+            return Ok(demands);
+        };
+        if !is_demand(word) {
+            return Ok(demands);
+        }
+        demands.push(demand_said(alloc, word)?)?;
+        *at += 1;
     }
-    left - 1
+    Ok(demands)
 }
 
 /// Reads a branch of a fork-join, 1 to 4 demands, where so many are left of the line's 8.
@@ -105,20 +133,42 @@ fn read_branch(
     ensures few { IfOk result (λ demands. length demands ≤ left) }
     ensures short { IfOk result (λ demands. length demands ≤ 4) }
 {
-    let first = read_demand(alloc, words, at)?;
-    let mut demands = List::new(alloc);
-    demands.push(first)?;
-    for count in 0..room_of(left) {
-        let Some(word) = word_at(&*words, *at) else {
-            return Ok(demands);
-        };
-        if !is_demand(word) {
-            return Ok(demands);
-        }
-        demands.push(demand_said(alloc, word)?)?;
-        *at += 1;
+    let demands = read_demand_list(alloc, words, at, left.min(4))?;
+    if demands.is_empty() {
+        return Err(Stop::Word);
     }
     Ok(demands)
+}
+
+/// Adds the branches at hand, at most 7, each behind a bar, where so many are left of the line's
+/// 8 demands; there may be none.
+fn add_branches(
+    alloc: Global,
+    words: &[&[u8]],
+    at: &mut usize,
+    left: u8,
+    branches: &mut List<List<SaidDemand>>,
+) -> Result<(), Stop>
+    ensures reads { ReadsMore result branches.old branches.new (words_from words.now at.new) (read (further_branches 7 left) (words_from words.now at.old)) }
+    ensures within { at.old ≤ length words.now → at.new ≤ length words.now }
+{
+    let mut left = left;
+    for count in 0..7u8 {
+        if left == 0 {
+            return Ok(());
+        }
+        let Some(word) = word_at(&*words, *at) else {
+            return Ok(());
+        };
+        if word != b"|".as_slice() {
+            return Ok(());
+        }
+        *at += 1;
+        let demands = read_branch(alloc, words, at, left)?;
+        left -= demands.len() as u8;
+        branches.push(demands)?;
+    }
+    Ok(())
 }
 
 /// Reads 2 to 8 branches with a bar between each two, and at most 8 demands in all.
@@ -131,27 +181,12 @@ fn read_branches(
     ensures within { at.old ≤ length words.now → at.new ≤ length words.now }
 {
     let first = read_branch(alloc, words, at, 8)?;
-    let mut left = 8 - first.len() as u8;
-    read_key(words, at, b"|")?;
-    let second = read_branch(alloc, words, at, left)?;
-    left -= second.len() as u8;
+    let left = 8 - first.len() as u8;
     let mut branches = List::new(alloc);
     branches.push(first)?;
-    branches.push(second)?;
-    for count in 0..6u8 {
-        if left == 0 {
-            return Ok(branches);
-        }
-        let Some(word) = word_at(&*words, *at) else {
-            return Ok(branches);
-        };
-        if word != b"|".as_slice() {
-            return Ok(branches);
-        }
-        *at += 1;
-        let demands = read_branch(alloc, words, at, left)?;
-        left -= demands.len() as u8;
-        branches.push(demands)?;
+    add_branches(alloc, words, at, left, &mut branches)?;
+    if branches.len() < 2 {
+        return Err(Stop::Word);
     }
     Ok(branches)
 }

@@ -1,51 +1,22 @@
-use Rattle.std.proofs.Common.{◌≡◌, ◌∙◌, ◌-◌, ◌+◌, [], ◌∷◌, refl, arith, append-nil}
+use Rattle.std.proofs.Common.{◌∙◌, ◌∷◌, [], refl, arith}
 use Rattle.std.proofs.lemmas.Result.{err_from_is_err_and}
 use Rattle.mq_model.specs.Form.{read}
-use Rattle.mq_model.specs.Lines.{a_stage, key}
+use Rattle.mq_model.specs.Lines.{stages}
 use Rattle.mq_model.specs.Reading.{words_from}
-use Rattle.mq_model.proofs.ReadFacts.{keyed, not_keyed, stops, with_front_twice}
-use Rattle.mq_model.proofs.StageFacts.{behind_no_slash, behind_no_stage, behind_two, stages_fault, stages_no, stages_none, stages_yes, stages_zero}
+use Rattle.mq_model.proofs.ReadFacts.{lone, several, stops_behind}
+use Rattle.mq_model.proofs.StageFacts.{behind_by}
 use Rattle.mq_model.proofs.station.read_stages.Goals as goal
 
-pub returns-in_err-read_key-clause-reads : goal.returns-in_err-read_key-clause-reads
-returns-in_err-read_key-clause-reads c =
-    let p = err_from_is_err_and c.from_residual.result c.from_residual.ensures.1 in
-    rw (p.1, p.2) (stops c.in_err-read_key.field-0.0 _ (read (key (47 ∷ [])) (words_from c.args.words.now c.args.at.now)) _ c.in_err-read_key.ensures.reads (λ l e. behind_no_slash c.args.first _ l e))
+pub returns-in_err-add_stages-clause-reads : goal.returns-in_err-add_stages-clause-reads
+returns-in_err-add_stages-clause-reads c =
+    let p = err_from_is_err_and c.from_residual-in_err-add_stages.result c.from_residual-in_err-add_stages.ensures.1 in
+    rw (p.1, p.2) (stops_behind (Unit {0}) c.in_err-add_stages.field-0.0 _ _ _ (read (stages 3) (words_from c.args.words.now c.args.at.now)) _ c.in_err-add_stages.ensures.reads
+    (λ l e. behind_by c.args.first _ ∙ rw e refl))
 
-pub returns-in_err-second-clause-reads : goal.returns-in_err-second-clause-reads
-returns-in_err-second-clause-reads c =
-    let p = err_from_is_err_and c.from_residual-in_err-second.result c.from_residual-in_err-second.ensures.1 in
-    rw (p.1, p.2) (stops c.in_err-second.field-0.0 _ (read a_stage (words_from c.args.words.now c.read_key.new.at)) _ c.in_err-second.ensures.reads
-    (λ l e. behind_no_stage c.args.first _ _ l c.in_ok-read_key.ensures.reads e))
-
-pub loop-count-init : goal.loop-count-init
-loop-count-init c =
-    let first = behind_two c.args.first _ _ _ c.in_ok-second.second c.in_ok-read_key.ensures.reads c.in_ok-second.ensures.reads in
-    record { reads = rw (c.in_ok-push-2.ensures.ok, c.in_ok-push.ensures.ok, c.new-stages.ensures) first; within = λ h. c.in_ok-second.ensures.within (c.in_ok-read_key.ensures.within h) }
-
-pub returns-in_default-clause-reads : goal.returns-in_default-clause-reads
-returns-in_default-clause-reads c = c.loop-count.invariant.reads ∙ rw (stages_none (2 - c.loop-count.count) _ c.in_default.ensures.next, append-nil c.loop-count.stages) refl
-
-pub returns-then-ne-clause-reads : goal.returns-then-ne-clause-reads
-returns-then-ne-clause-reads c =
-    c.loop-count.invariant.reads ∙ rw (stages_no (2 - c.loop-count.count) _ _ _ c.in-Some.ensures.next (not_keyed _ _ _ c.as_slice.ensures c.if-ne.ensures), append-nil c.loop-count.stages) refl
-
-pub returns-in_err-stage-clause-reads : goal.returns-in_err-stage-clause-reads
-returns-in_err-stage-clause-reads c =
-    let p = err_from_is_err_and c.from_residual-in_err-stage.result c.from_residual-in_err-stage.ensures.1 in
-    rw (p.1, p.2) (stops c.in_err-stage.field-0.0 _ (read a_stage (words_from c.args.words.now (c.loop-count.at + 1))) _ c.in_err-stage.ensures.reads
-    (λ l e. c.loop-count.invariant.reads ∙ rw (stages_fault (2 - c.loop-count.count) _ _ l _ (omega arith) c.in-Some.ensures.next (keyed _ _ _ c.as_slice.ensures c.if-ne.ensures) e) refl))
-
-pub loop-count-preserved : goal.loop-count-preserved
-loop-count-preserved c =
-    let step = stages_yes (2 - c.loop-count.count) _ _ _ _ c.in_ok-stage.stage (omega arith) c.in-Some.ensures.next (keyed _ _ _ c.as_slice.ensures c.if-ne.ensures) c.in_ok-stage.ensures.reads in
-    let less : 2 - c.loop-count.count - 1 ≡ 2 - (c.loop-count.count + 1) = omega arith in
-    record {
-      reads = c.loop-count.invariant.reads ∙ rw (step, less, with_front_twice, c.in_ok-push-3.ensures.ok) refl;
-      within = λ h. c.in_ok-stage.ensures.within (omega (arith, c.in-Some.ensures.in_range));
-    }
+pub returns-then-len-lt2-clause-reads : goal.returns-then-len-lt2-clause-reads
+returns-then-len-lt2-clause-reads c =
+    behind_by c.args.first _ ∙ lone _ _ _ _ (rw (c.in_ok-push.ensures.ok, c.new-stages.ensures) at c.in_ok-add_stages.ensures.reads) (omega (arith, c.len.ensures))
 
 pub returns-clause-reads : goal.returns-clause-reads
 returns-clause-reads c =
-    let none : 2 - c.loop-count.count ≡ 0 = omega arith in
-    c.loop-count.invariant.reads ∙ rw (none, stages_zero, append-nil c.loop-count.stages) refl
+    behind_by c.args.first _ ∙ several _ _ _ _ (rw (c.in_ok-push.ensures.ok, c.new-stages.ensures) at c.in_ok-add_stages.ensures.reads) (omega (arith, c.len.ensures))
