@@ -2,7 +2,7 @@
 use Rattle.std.proofs.Common.{◌≡◌, ℕ, suc, ◌^◌, ◌≤◌, Bool, true, false, cond, eqb, ltb, List, [], ◌∷◌, map, Option, Some, None, refl, sym, subst}
 use Rattle.std.specs.Prelude.{slice_get}
 use Rattle.std.specs.List.{AllByRecursion as Each, flat_map, zip}
-use Rattle.mq_core.proofs.Lists.Each.{Each-append}
+use Rattle.mq_base.proofs.lemmas.Each.{Each-append}
 use Rattle.mq_core.specs.Columns.{IsStream, by_first, leaving_times, pairs_of, picked, rows_at, time_of_fate}
 use Rattle.mq_core.specs.Laws.{insert_by}
 use Rattle.mq_core.specs.declared.model.Fate.{Fate}

@@ -5,7 +5,7 @@ use Rattle.std.specs.List.{AllByRecursion as Each}
 use Rattle.std.proofs.lemmas.Bool.Decides.{nat_tests}
 use Rattle.std.proofs.lemmas.List.{map-append}
 use Rattle.std.proofs.lemmas.List.Sums.{sum_by-cons}
-use Rattle.mq_core.proofs.Lists.Each.{Each-append}
+use Rattle.mq_base.proofs.lemmas.Each.{Each-append}
 use Rattle.mq_core.specs.Came.{came_by}
 use Rattle.mq_core.specs.Columns.{column_fates, departs_after, founds_from, founds_of}
 use Rattle.mq_core.specs.Laws.{Rises}

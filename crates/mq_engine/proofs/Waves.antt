@@ -9,7 +9,7 @@ use Rattle.std.proofs.lemmas.Bool.Decides.{nat_tests}
 use Rattle.std.proofs.lemmas.List.{length-map, length-set}
 use Rattle.std.proofs.lemmas.Option.{slice_get_within}
 use Rattle.mq_base.proofs.lemmas.Lists.{some_inj}
-use Rattle.mq_core.proofs.Lists.Each.{Each-weaker}
+use Rattle.mq_base.proofs.lemmas.Each.{Each-weaker}
 use Rattle.mq_core.specs.Came.{came_by, came_in, came_of}
 use Rattle.mq_core.specs.ColumnLaws.{arrives_of, jobs_of}
 use Rattle.mq_core.specs.Columns.{IsStream, by_first, column_fates, column_late, column_late_from, column_outs, column_stream, column_visits, leaving_times, picked, pairs_of, rows_at, streams_below}
@@ -119,7 +119,8 @@ loaded laws plan rows outputs v node arrivals read early can there s e =
           omega arith;
       leaves =
           let columns = laws.columns plan rows read v node there in
-          λ out. subst IsStream (columns.stream out ∙ (λ k. column_stream rows node.kind (sym a.job k) (sym a.time k) out)) ((laws.streams plan rows v).streams out);
+          let blind = laws.blind rows node.kind (came_of (length node.inputs) ((run_of plan rows).stations v).visits) in
+          λ out. subst IsStream (columns.stream out ∙ (blind.stream out ∙ (λ k. column_stream rows node.kind (came_by (sym a.job k) (sym a.time k)) out))) ((laws.streams plan rows v).streams out);
       told = λ k job g. laws.demands plan.net rows read job (subst (λ m. job < m) read.times (Each-get (λ j. j < length rows.time) (jobs_of xs) k job (laws.jobs plan rows v) (subst (λ l. slice_get l k ≡ Some job) a.job g)));
     }
 

@@ -4,8 +4,7 @@ use Rattle.std.specs.Prelude.{count_by, nat_le}
 use Rattle.std.specs.List.{AllByRecursion as Each}
 use Rattle.std.proofs.lemmas.Bool.Decides.{nat_tests}
 use Rattle.std.proofs.lemmas.List.Sums.{sum_by-le-sum_by}
-use Rattle.mq_base.proofs.lemmas.Each.{first-least}
-use Rattle.mq_core.proofs.Lists.Each.{Each-weaker}
+use Rattle.mq_base.proofs.lemmas.Each.{first-least, Each-weaker}
 use Rattle.mq_core.specs.Laws.{Rises}
 use Rattle.mq_stats.proofs.Counts.{at-most-one, count-cons}
 

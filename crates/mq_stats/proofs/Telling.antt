@@ -10,7 +10,7 @@ use Rattle.std.proofs.lemmas.List.Sums.{sum_by-append, sum_by-take-drop, count_b
 use Rattle.std.proofs.lemmas.Option.{slice_get_within}
 use Rattle.mq_base.proofs.lemmas.Lists.{get-last, get-push, some_inj}
 use Rattle.mq_base.proofs.lemmas.Zips.{zip-drop}
-use Rattle.mq_core.proofs.Lists.Each.{Each-weaker}
+use Rattle.mq_base.proofs.lemmas.Each.{Each-weaker}
 use Rattle.mq_core.proofs.Events.Rising.{Rises-in_order_of}
 use Rattle.mq_core.specs.ColumnLaws.{LeavesFrom}
 use Rattle.mq_core.specs.Columns.{by_first, departs_after, founds_from, founds_of}

@@ -6,6 +6,7 @@ use Rattle.std.proofs.lemmas.List.Elements.{recursion_from_All}
 use Rattle.std.specs.Option.{option_to_list}
 use Rattle.std.specs.Prelude.{◌||◌, slice_get}
 use Rattle.std.specs.List.{AllByRecursion as Each, zip}
+use Rattle.mq_base.proofs.lemmas.Each.{Each-weaker as each-weaker}
 use Rattle.mq_core.specs.Came.{came_of}
 use Rattle.mq_core.specs.ColumnLaws.{ArrivalsAreStreams, JobsAreRows, NodesAreColumns, OrdersKeepItems, VisitsAreFew, arrives_of, jobs_of}
 use Rattle.mq_core.specs.Columns.{column_fates, column_late, column_late_from}
@@ -30,7 +31,6 @@ use Rattle.mq_core.specs.Bounded.{DeparturesAreBounded}
 use Rattle.mq_core.proofs.Bounded.BoundedArrivals.{PairsBy, from-zip, order-by, read-at, reads-by, rows-by, zip-by}
 use Rattle.mq_core.proofs.Bounded.BoundedStations.{AreBy, LeaveBy, LeavesBy, by-later}
 use Rattle.mq_core.proofs.Bounded.BoundedKinds.{fates-by, stream-by}
-use Rattle.mq_core.proofs.Bounded.BoundedAsked.{each-weaker}
 
 -- where a node stands among the first so many
 record IsAt (order : List ℕ) (rank node : ℕ) : Type 0 where

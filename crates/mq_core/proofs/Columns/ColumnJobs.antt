@@ -3,13 +3,13 @@ use Rattle.std.proofs.Common.{◌≡◌, ℕ, zero, suc, ◌+◌, ◌<◌, ◌�
 use Rattle.std.specs.Prelude.{slice_get}
 use Rattle.std.specs.List.{AllByRecursion as Each}
 use Rattle.mq_base.proofs.lemmas.Lists.{some_inj}
+use Rattle.mq_base.proofs.lemmas.Each.{Each-append, Each-front, Each-back, Each-any, Each-map, Each-flat_map}
 use Rattle.mq_core.specs.ColumnLaws.{JobsAreRows}
 use Rattle.mq_core.specs.Event.{Event, time_of, node_of, earliest}
 use Rattle.mq_core.specs.Event.Event.{Arrive, Finish}
 use Rattle.mq_core.specs.Machine.{Visit, Emission, Release, Service, Table, State, Station, after, happens, caused, arrivals_of, arrival_of, emission_of, emissions_of, emissions_at, reaction, visits_after, until, opened}
 use Rattle.mq_core.specs.Run.{run_length, starts, starts_from}
 use Rattle.mq_core.specs.StandardTable.{standard, run_of}
-use Rattle.mq_core.proofs.Lists.Each.{Each-append, Each-front, Each-back, Each-any, Each-map, Each-flat_map}
 use Rattle.mq_core.proofs.Events.Pending.{earliest-splits}
 use Rattle.mq_core.proofs.Events.Steps.{after-some, after-none, after-zero, station-other, station-own}
 

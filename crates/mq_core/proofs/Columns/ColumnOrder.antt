@@ -2,6 +2,7 @@
 use Rattle.std.proofs.Common.{IfSome, List, [], ap, arith, length, map, refl, suc, sym, ℕ, ◌++◌, ◌<◌, ◌∙◌, ◌∷◌, ◌≡◌, ◌≤◌}
 use Rattle.std.proofs.lemmas.List.{length-map}
 use Rattle.std.specs.List.{AllByRecursion as Each, zip}
+use Rattle.mq_base.proofs.lemmas.Each.{Each-append, Each-map, Each-weaker}
 use Rattle.mq_core.specs.ColumnLaws.{OrdersKeepItems, StreamsRise}
 use Rattle.mq_core.specs.Event.Event.{Arrive, Finish}
 use Rattle.mq_core.specs.KindTable.{behaviour_of}
@@ -18,7 +19,6 @@ use Rattle.mq_core.proofs.Events.Forward.{emissions-now}
 use Rattle.mq_core.proofs.Events.Kept.{Fact, Fits, Keeps, kept}
 use Rattle.mq_core.proofs.Events.Orders.{Each-order, in_order_of-length}
 use Rattle.mq_core.proofs.Events.Rising.{Rises-append, Rises-filter}
-use Rattle.mq_core.proofs.Lists.Each.{Each-append, Each-map, Each-weaker}
 use Rattle.mq_core.proofs.Networks.Whole.{starts-begin}
 use Rattle.mq_core.proofs.Networks.Wired.{feeds_forward}
 

@@ -1,4 +1,5 @@
 -- That a node which let out its flow stands in columns.
+use Rattle.mq_base.proofs.lemmas.Each.{Each-any}
 use Rattle.mq_core.specs.Came.{came_of}
 use Rattle.std.proofs.Common.{Bool, List, Some, [], ap, arith, cond, eqb, false, inl, inr, length, map, refl, suc, sym, true, zero, zero-add, ℕ, ◌<◌, ◌∙◌, ◌∷◌, ◌≡◌, ◌≤◌}
 use Rattle.std.specs.List.{zip}
@@ -29,7 +30,6 @@ use Rattle.mq_core.proofs.EachKind.Flows.{flow-numbered}
 use Rattle.mq_core.proofs.EachKind.LawTable.{recurrence_of}
 use Rattle.mq_core.proofs.EachKind.Tallied.{founds-are-counts}
 use Rattle.mq_core.proofs.Events.Orders.{filter-order, in_order_of-map}
-use Rattle.mq_core.proofs.Lists.Each.{Each-any}
 
 pub flow-fates : (rows : Rows) (ports : ℕ) (kind : Kind) (visits : List Visit) → map (fate_by kind) (flow_of rows ports kind visits) ≡ column_fates rows kind (came_of ports visits)
 flow-fates rows ports kind = (recurrence_of rows ports kind).fares

@@ -2,6 +2,7 @@
 use Rattle.std.proofs.Common.{Bool, List, None, Option, Some, [], ap, arith, cond, false, filter, find, fold, inl, inr, le_antisymm, length, length-append, map, max, option_map, refl, slice_get, subst, suc, sym, true, zero, ℕ, ◌++◌, ◌+◌, ◌<◌, ◌∙◌, ◌∷◌, ◌≡◌, ◌≤◌, ◌⊎◌}
 use Rattle.std.proofs.lemmas.List.{append-nil}
 use Rattle.std.specs.List.{AllByRecursion as Each}
+use Rattle.mq_base.proofs.lemmas.Each.{Each-map}
 use Rattle.mq_core.specs.Alone.{came}
 use Rattle.mq_core.specs.Columns.{column_span, greatest_time, time_of_fate, visits_by_node}
 use Rattle.mq_core.specs.Event.{Event, job_of, time_of}
@@ -36,7 +37,6 @@ use Rattle.mq_core.proofs.EachKind.Ends.{nothing-pending}
 use Rattle.mq_core.proofs.EachKind.LawTable.{recurrence_of}
 use Rattle.mq_core.proofs.EachKind.Span.{span-is_latest}
 use Rattle.mq_core.proofs.Events.Kept.{Keeps, kept}
-use Rattle.mq_core.proofs.Lists.Each.{Each-map}
 use Rattle.mq_core.proofs.Lists.NumberLists.{greatest-bounds, greatest-least}
 use Rattle.mq_core.proofs.Networks.Whole.{arrivals-read, starts-begin}
 use Rattle.mq_core.proofs.Networks.Wired.{feeds_forward}

@@ -5,6 +5,7 @@ use Rattle.std.proofs.lemmas.List.Elements.{filter-append}
 use Rattle.std.proofs.lemmas.List.Sums.{sum_by-append}
 use Rattle.std.specs.List.{AllByRecursion as Each}
 use Rattle.std.specs.Prelude.{count_by, filter, slice_get}
+use Rattle.mq_base.proofs.lemmas.Each.{Each-filter, Each-weaker, filter-none, filter-yes}
 use Rattle.mq_core.specs.ColumnLaws.{arrives_of, jobs_of}
 use Rattle.mq_core.specs.Fates.{fate_by}
 use Rattle.mq_core.specs.KindTable.{behaviour_of}
@@ -22,7 +23,6 @@ use Rattle.mq_core.specs.declared.model.Fate.TheVariants.{Departs, Lost}
 use Rattle.mq_core.specs.declared.model.Kind.{Kind}
 use Rattle.mq_core.proofs.Events.EmissionsAt.{neq-eqb}
 use Rattle.mq_core.proofs.Events.Orders.{filter-order, short-order}
-use Rattle.mq_core.proofs.Lists.Each.{Each-filter, Each-weaker, filter-none, filter-yes}
 
 -- one emission a visit, by position from this one on, with its job
 abbrev pub Numbered : ℕ → List Emission → List Visit → Type 0

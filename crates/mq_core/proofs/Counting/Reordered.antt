@@ -5,10 +5,10 @@ use Rattle.std.proofs.lemmas.List.{append-nil}
 use Rattle.std.proofs.lemmas.List.Elements.{filter-append}
 use Rattle.std.specs.Prelude.{filter}
 use Rattle.std.specs.List.{AllByRecursion as Each}
+use Rattle.mq_base.proofs.lemmas.Each.{Each-weaker, filter-none, filter-yes, filter-no}
 use Rattle.mq_core.specs.Laws.{Rises, in_order_of, insert_by}
 use Rattle.mq_core.specs.Machine.{Visit, Emission}
 use Rattle.mq_core.specs.Tallies.{sum_below, emission_at, one_if_none, staying}
-use Rattle.mq_core.proofs.Lists.Each.{Each-weaker, filter-none, filter-yes, filter-no}
 use Rattle.mq_core.proofs.Events.EmissionsAt.{neq-eqb}
 use Rattle.mq_core.proofs.Events.Rising.{Rises-append, same_by_key, filter-in_order_of, Rises-in_order_of}
 use Rattle.mq_core.proofs.Counting.ColumnNumbers.{Numbered}

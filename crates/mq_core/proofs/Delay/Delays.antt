@@ -5,6 +5,7 @@ use Rattle.std.proofs.lemmas.List.{append-nil, map-append}
 use Rattle.std.proofs.lemmas.List.Elements.{filter-append}
 use Rattle.std.specs.Prelude.{filter, slice_get, not, ◌&&◌}
 use Rattle.std.specs.List.{AllByRecursion as Each}
+use Rattle.mq_base.proofs.lemmas.Each.{Each-append, Each-front, Each-back, Each-weaker, Each-both, Each-map, filter-all, filter-yes, filter-no}
 use Rattle.mq_core.specs.Event.{Event, time_of, is_sooner, place_of, earliest}
 use Rattle.mq_core.specs.Event.Event.{Arrive, Finish}
 use Rattle.mq_core.specs.Machine.{Visit, Emission, emissions_of, emission_of}
@@ -15,7 +16,6 @@ use Rattle.mq_core.specs.Tallies.{sum_below, arrival_or, emission_at, one_if_non
 use Rattle.mq_core.specs.declared.model.Demand.{Demand}
 use Rattle.mq_core.specs.declared.model.Rows.{Rows}
 use Rattle.mq_core.proofs.Lists.Order.{below-irrefl}
-use Rattle.mq_core.proofs.Lists.Each.{Each-append, Each-front, Each-back, Each-weaker, Each-both, Each-map, filter-all, filter-yes, filter-no}
 use Rattle.mq_core.proofs.Events.Pending.{Splits, earliest-splits, filter-earliest_alike, filter-earliest_other}
 use Rattle.mq_core.proofs.Events.Rising.{Rises-append, same_by_key, Rises-in_order_of, filter-in_order_of}
 use Rattle.mq_core.proofs.Server.Serves.{latest-push}

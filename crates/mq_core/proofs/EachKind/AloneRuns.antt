@@ -3,6 +3,7 @@ use Rattle.std.proofs.Common.{Bool, List, None, Option, Some, [], ap, append_ass
 use Rattle.std.proofs.lemmas.List.{append-nil, map-append}
 use Rattle.std.specs.Prelude.{filter, slice_get}
 use Rattle.std.specs.List.{AllByRecursion as Each}
+use Rattle.mq_base.proofs.lemmas.Each.{filter-all}
 use Rattle.mq_core.specs.Event.{Event, time_of, job_of, earliest}
 use Rattle.mq_core.specs.Event.Event.{Arrive, Finish}
 use Rattle.mq_core.specs.Machine.{Visit, Table, State, after, handled, happens, opened}
@@ -16,7 +17,6 @@ use Rattle.mq_core.specs.declared.model.Plan.{Plan}
 use Rattle.mq_core.specs.declared.model.Rows.{Rows}
 use Rattle.mq_core.proofs.Events.Steps.{after-some, after-none, after-zero, handled-zero, handled-some, handled-none}
 use Rattle.mq_core.proofs.Events.Third.{eqb-swap}
-use Rattle.mq_core.proofs.Lists.Each.{filter-all}
 use Rattle.mq_core.proofs.Events.Second.{alone-arrivals}
 use Rattle.mq_core.proofs.Events.Kept.{Begins, kept}
 use Rattle.mq_core.proofs.EachKind.Facts.{kind_fact, node_fact, standard-keeps_by}

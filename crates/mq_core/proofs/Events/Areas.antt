@@ -3,11 +3,11 @@ use Rattle.std.proofs.Common.{◌≡◌, ℕ, zero, suc, ◌+◌, ◌-◌, ◌*�
 use Rattle.std.proofs.Math.Nat.{add-mul}
 use Rattle.std.specs.Prelude.{slice_get}
 use Rattle.std.specs.List.{AllByRecursion as Each}
+use Rattle.mq_base.proofs.lemmas.Each.{Each-append, Each-weaker}
 use Rattle.mq_core.specs.Event.{Event, time_of}
 use Rattle.mq_core.specs.Event.Event.{Arrive, Finish}
 use Rattle.mq_core.specs.Machine.{Visit, Emission, Table, Station, acted, emissions_at, visits_after}
 use Rattle.mq_core.specs.Tallies.{sum_below, emission_at, arrival_or, time_or, sojourn, one_if_none, staying, sojourns}
-use Rattle.mq_core.proofs.Lists.Each.{Each-append, Each-weaker}
 use Rattle.mq_core.proofs.Events.Forward.{emissions-now}
 use Rattle.mq_core.proofs.Events.Kept.{Fact, Keeps}
 

@@ -5,11 +5,11 @@ use Rattle.std.proofs.lemmas.List.Elements.{filter-append}
 use Rattle.std.proofs.lemmas.List.{append-nil, map-append}
 use Rattle.std.specs.Prelude.{filter, ◌&&◌}
 use Rattle.mq_base.proofs.lemmas.Lists.{some_inj}
+use Rattle.mq_base.proofs.lemmas.Each.{Each-map, Each-any, filter-none, filter-yes, filter-no, not_true}
 use Rattle.mq_core.specs.Event.{Event, time_of, node_of, is_sooner, earliest}
 use Rattle.mq_core.specs.Event.Event.{Arrive, Finish}
 use Rattle.mq_core.specs.Machine.{Emission, Service, Table, State, Station, step, after, handled, happens, caused, arrivals_of, arrival_of, emissions_at, finishes_of, reaction, until, acted}
 use Rattle.mq_core.specs.Laws.{IsWired, port_of, is_arrival_at, stream_of, brought}
-use Rattle.mq_core.proofs.Lists.Each.{Each-map, Each-any, filter-none, filter-yes, filter-no, not_true}
 use Rattle.mq_core.proofs.Events.Pending.{filter-earliest_alike, filter-earliest_other}
 use Rattle.mq_core.proofs.Events.Steps.{step-some, step-none, handled-zero, handled-some, handled-none, after-zero, after-some, after-none}
 use Rattle.mq_core.proofs.Events.Forward.{Each-arrivals}

@@ -3,12 +3,12 @@ use Rattle.std.proofs.Common.{◌≡◌, ◌≢◌, ℕ, zero, suc, ◌+◌, ◌
 use Rattle.std.proofs.Math.Nat.{suc-mul}
 use Rattle.std.specs.Prelude.{filter, IfSome}
 use Rattle.std.specs.List.{AllByRecursion as Each}
+use Rattle.mq_base.proofs.lemmas.Each.{Each-append, Each-front, Each-back, not_true}
 use Rattle.mq_core.specs.Event.{Event, time_of, node_of, earliest}
 use Rattle.mq_core.specs.Event.Event.{Arrive, Finish}
 use Rattle.mq_core.specs.Machine.{Emission, Service, Table, State, Station, after, happens, caused, arrivals_of, arrival_of, emissions_at, finishes_of, reaction, until, acted, aged, opened}
 use Rattle.mq_core.specs.Laws.{IsPunctual, IsFeedForward, is_finish_at}
 use Rattle.mq_core.specs.Tallies.{sum_below}
-use Rattle.mq_core.proofs.Lists.Each.{Each-append, Each-front, Each-back, not_true}
 use Rattle.mq_core.proofs.Events.Pending.{earliest-splits, earliest-none, earliest-filter}
 use Rattle.mq_core.proofs.Events.Steps.{after-some, after-none, after-zero, station-other, station-own}
 use Rattle.mq_core.proofs.Events.Forward.{Each-arrivals, Each-finishes}

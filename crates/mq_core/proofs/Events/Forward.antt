@@ -2,12 +2,12 @@
 use Rattle.std.proofs.Common.{◌≡◌, ℕ, zero, suc, ◌<◌, ◌≤◌, false, List, ◌∷◌, Option, Some, None, sym, refl, subst, arith}
 use Rattle.std.specs.Prelude.{slice_get, IfSome}
 use Rattle.std.specs.List.{AllByRecursion as Each}
+use Rattle.mq_base.proofs.lemmas.Each.{Each-append, Each-front, Each-back, Each-weaker, Each-flat_map, Each-map, Each-any}
 use Rattle.mq_core.specs.Event.{Event, time_of, node_of, is_sooner, place_of, earliest}
 use Rattle.mq_core.specs.Event.Event.{Arrive, Finish}
 use Rattle.mq_core.specs.Machine.{Visit, Emission, Release, Service, Table, State, Station, handled, happens, caused, arrivals_of, arrival_of, emission_of, emissions_at, finishes_of, reaction, visits_after, until}
 use Rattle.mq_core.specs.Laws.{IsNoEarlier, GoesForward, IsPunctual, IsFeedForward}
 use Rattle.mq_core.proofs.Lists.Order.{not_below-cons}
-use Rattle.mq_core.proofs.Lists.Each.{Each-append, Each-front, Each-back, Each-weaker, Each-flat_map, Each-map, Each-any}
 use Rattle.mq_core.proofs.Events.Pending.{earliest-splits, Splits-least}
 use Rattle.mq_core.proofs.Events.Steps.{handled-zero, handled-some, handled-none}
 

@@ -3,12 +3,12 @@ use Rattle.std.proofs.Common.{Bool, IfSome, List, None, Option, Some, [], ap, ar
 use Rattle.std.proofs.lemmas.List.{append-nil}
 use Rattle.std.specs.Prelude.{filter}
 use Rattle.std.specs.List.{AllByRecursion as Each}
+use Rattle.mq_base.proofs.lemmas.Each.{Each-any, Each-append, Each-back, Each-filter, Each-filter_if, Each-front, Each-weaker, filter-none}
 use Rattle.mq_core.specs.Event.{Event, time_of, node_of, is_sooner, place_of, earliest}
 use Rattle.mq_core.specs.Event.Event.{Arrive, Finish}
 use Rattle.mq_core.specs.Machine.{State, Station, Table, acted, after, aged, arrivals_of, caused, emissions_at, finishes_of, happens, opened, reaction, until}
 use Rattle.mq_core.specs.Laws.{IsPunctual, IsFeedForward, is_finish_at}
 use Rattle.mq_core.proofs.Lists.Order.{not_below-cons}
-use Rattle.mq_core.proofs.Lists.Each.{Each-any, Each-append, Each-back, Each-filter, Each-filter_if, Each-front, Each-weaker, filter-none}
 use Rattle.mq_core.proofs.Events.Pending.{Splits, Splits-least, earliest-filter, earliest-splits, filter-earliest_other}
 use Rattle.mq_core.proofs.Events.Steps.{after-some, after-none, after-zero, station-other, station-own}
 use Rattle.mq_core.proofs.Events.Forward.{Each-arrivals, Each-finishes, no_earlier, pending-no_earlier}

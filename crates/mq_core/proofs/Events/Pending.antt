@@ -2,9 +2,9 @@
 use Rattle.std.proofs.Common.{◌≡◌, ℕ, Bool, true, false, cond, List, [], ◌∷◌, ◌++◌, Option, Some, None, sym, refl, ap, ◌∙◌, subst, append_assoc}
 use Rattle.std.specs.Prelude.{filter}
 use Rattle.std.specs.List.{AllByRecursion as Each}
+use Rattle.mq_base.proofs.lemmas.Each.{Each-append, Each-back, Each-weaker, Each-filter, filter-none, filter-yes, filter-no, not_true}
 use Rattle.mq_core.specs.Event.{Event, place_of, is_sooner, sooner_of, earliest}
 use Rattle.mq_core.proofs.Lists.Order.{not_below-trans, below-asym, below-irrefl}
-use Rattle.mq_core.proofs.Lists.Each.{Each-append, Each-back, Each-weaker, Each-filter, filter-none, filter-yes, filter-no, not_true}
 use Rattle.std.proofs.lemmas.List.Elements.{filter-append}
 use Rattle.mq_base.proofs.lemmas.Lists.{some_inj}
 

@@ -5,12 +5,12 @@ use Rattle.std.proofs.lemmas.List.Elements.{filter-append}
 use Rattle.std.proofs.lemmas.List.{append-nil}
 use Rattle.std.specs.Prelude.{filter, ◌&&◌, slice_get, IfSome}
 use Rattle.std.specs.List.{AllByRecursion as Each}
+use Rattle.mq_base.proofs.lemmas.Each.{Each-append, Each-front, Each-back, Each-weaker, Each-map, Each-any, Each-filter, Each-filter_if, Each-both, filter-none, filter-all, filter-yes, filter-no, filter-and, filter-swap}
 use Rattle.mq_core.specs.Event.{Event, time_of, node_of, is_sooner, place_of, earliest}
 use Rattle.mq_core.specs.Event.Event.{Arrive, Finish}
 use Rattle.mq_core.specs.Machine.{Emission, Table, State, Station, after, handled, happens, caused, arrivals_of, emissions_at, finishes_of, reaction, until, opened}
-use Rattle.mq_core.specs.Laws.{alone, NotBefore, IsNoEarlier, IsPunctual, IsFeedForward, IsWired, Rises, port_of, is_arrival_at, by_time, stream_of, brought, read_by, arrivals_in}
+use Rattle.mq_core.specs.Laws.{alone, NotBefore, IsNoEarlier, IsPunctual, IsFeedForward, IsWired, Rises, port_of, is_arrival_at, by_time, stream_of, brought, read_by}
 use Rattle.mq_core.proofs.Lists.Order.{below-irrefl, not_below-cons}
-use Rattle.mq_core.proofs.Lists.Each.{Each-append, Each-front, Each-back, Each-weaker, Each-map, Each-any, Each-filter, Each-filter_if, Each-both, filter-none, filter-all, filter-yes, filter-no, filter-and, filter-swap}
 use Rattle.mq_core.proofs.Events.Pending.{earliest-splits, Splits-least}
 use Rattle.mq_core.proofs.Events.Steps.{handled-zero, handled-some, handled-none}
 use Rattle.mq_core.proofs.Events.Forward.{no_earlier_trans, Each-arrivals, Each-finishes, pending-no_earlier}

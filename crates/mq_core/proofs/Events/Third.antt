@@ -6,12 +6,12 @@ use Rattle.std.proofs.lemmas.List.Elements.{filter-append}
 use Rattle.std.proofs.lemmas.List.{append-nil}
 use Rattle.std.specs.Prelude.{filter}
 use Rattle.std.specs.List.{AllByRecursion as Each}
+use Rattle.mq_base.proofs.lemmas.Each.{Each-append, Each-back, Each-weaker, Each-map, Each-any, Each-filter, Each-filter_if, filter-none, filter-all, filter-yes, filter-no}
 use Rattle.mq_core.specs.Event.{Event, time_of, node_of, is_sooner, is_below, place_of, earliest}
 use Rattle.mq_core.specs.Event.Event.{Arrive, Finish}
 use Rattle.mq_core.specs.Machine.{Emission, Service, Table, State, Station, step, after, handled, happens, caused, arrivals_of, emissions_at, finishes_of, reaction, until, acted, opened}
 use Rattle.mq_core.specs.Laws.{NotBefore, IsNoEarlier, IsPunctual, IsFeedForward, is_arrival_at, is_finish_at, alone, count_at, IsSameAt, lone_after}
 use Rattle.mq_core.proofs.Lists.Order.{below-irrefl, not_below-intro, below-lt}
-use Rattle.mq_core.proofs.Lists.Each.{Each-append, Each-back, Each-weaker, Each-map, Each-any, Each-filter, Each-filter_if, filter-none, filter-all, filter-yes, filter-no}
 use Rattle.mq_core.proofs.Events.Pending.{earliest-splits, Splits-least, splits-earliest, earliest-filter, filter-earliest_other, earliest-append}
 use Rattle.mq_core.proofs.Events.Steps.{handled-zero, handled-some, handled-none, step-some, after-some, after-none, after-zero, after-suc, station-other, station-own}
 use Rattle.mq_core.proofs.Events.Forward.{Each-arrivals, pending-no_earlier, handled-no_earlier}

@@ -4,6 +4,7 @@ use Rattle.std.proofs.lemmas.Bool.{ltb-true, ltb-false}
 use Rattle.std.proofs.lemmas.List.{append-nil}
 use Rattle.std.specs.Prelude.{slice_get, filter}
 use Rattle.std.specs.List.{AllByRecursion as Each}
+use Rattle.mq_base.proofs.lemmas.Each.{Each-append, Each-weaker}
 use Rattle.mq_core.specs.Event.{Event, earliest}
 use Rattle.mq_core.specs.Event.Event.{Finish}
 use Rattle.mq_core.specs.Machine.{Visit, Service, finishes_of}
@@ -12,7 +13,6 @@ use Rattle.mq_core.specs.Handling.{demand_of_job, demand_at}
 use Rattle.mq_core.specs.Kinds.ForkJoin.{Moved, Forked, goes_in, finishes_at, each_branch, least_through}
 use Rattle.mq_core.specs.declared.model.Demand.{Demand}
 use Rattle.mq_core.specs.declared.model.Rows.{Rows}
-use Rattle.mq_core.proofs.Lists.Each.{Each-append, Each-weaker}
 use Rattle.mq_core.proofs.ForkJoin.ForkServers.{Series, Asks, Lets, is_at_server, departing, departing-get, get-first, other-finishes, finishes-append}
 use Rattle.mq_core.proofs.ForkJoin.ForkSeries.{Within, Behind, series-waits, series-same, series-joins, series-still, series-ends, goes_in-within, finishes_at-within}
 

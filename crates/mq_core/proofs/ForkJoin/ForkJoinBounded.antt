@@ -2,13 +2,14 @@
 use Rattle.std.proofs.Common.{ℕ, ◌+◌, ◌*◌, ◌^◌, ◌≤◌, List, [], ◌∷◌, length, arith, length-append, map}
 use Rattle.std.specs.List.{AllByRecursion as Each, flat_map}
 use Rattle.std.proofs.lemmas.List.{length-map}
+use Rattle.mq_base.proofs.lemmas.Each.{Each-back as each-back, Each-front as each-front}
 use Rattle.mq_core.specs.Recurrences.{lindley, in_series, later_of, fork_departs}
 use Rattle.mq_core.specs.Kinds.ForkJoin.{branch_demands}
 use Rattle.mq_core.specs.declared.model.Demand.{Demand}
 use Rattle.mq_core.specs.declared.model.Rows.{Rows}
 use Rattle.mq_core.proofs.Server.ServerBounded.{lindley-by, lindley-few}
 use Rattle.mq_core.proofs.Bounded.BoundedStations.{AreBy, AreSmall, by-later}
-use Rattle.mq_core.proofs.Bounded.BoundedAsked.{asked, each-back, each-front}
+use Rattle.mq_core.proofs.Bounded.BoundedAsked.{asked}
 
 -- through servers in series: at each server each job adds its demand
 pub series-by : (limit top jobs : ℕ) (times : List ℕ) (demands : List (List ℕ)) → length times ≤ jobs → top + length demands * (jobs * 2 ^ 36) ≤ limit → AreBy top times → Each AreSmall demands → AreBy limit (in_series times demands)

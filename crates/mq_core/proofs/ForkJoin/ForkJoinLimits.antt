@@ -3,12 +3,12 @@ use Rattle.std.proofs.Common.{List, arith, length}
 use Rattle.std.proofs.lemmas.Bool.{and_parts}
 use Rattle.std.specs.List.{flat_map}
 use Rattle.std.specs.Prelude.{nat_le}
+use Rattle.mq_base.proofs.lemmas.Each.{Each-weaker}
 use Rattle.mq_core.specs.Kinds.ForkJoin.{fork_join}
 use Rattle.mq_core.specs.Ranges.{is_within}
 use Rattle.mq_core.specs.declared.model.Demand.{Demand}
 use Rattle.mq_core.proofs.EachKind.LimitLaws.{LimitLaws}
 use Rattle.mq_core.proofs.ForkJoin.ForkShapes.{all-servers, branches-shaped}
-use Rattle.mq_core.proofs.Lists.Each.{Each-weaker}
 use Rattle.mq_core.proofs.Networks.Told.{tells-branches, within-most}
 
 pub fork_join-limits : (branches : List (List Demand)) → LimitLaws (fork_join branches)

@@ -1,6 +1,7 @@
 -- The laws of the kind's recurrence.
 use Rattle.std.proofs.Common.{List, arith, length, refl, ℕ}
 use Rattle.std.specs.List.{flat_map}
+use Rattle.mq_base.proofs.lemmas.Each.{Each-weaker as each-weaker}
 use Rattle.mq_core.specs.Kinds.ForkJoin.{fork_join}
 use Rattle.mq_core.specs.PlanLaws.{Tells}
 use Rattle.mq_core.specs.Recurrences.{fork_departs}
@@ -9,7 +10,7 @@ use Rattle.mq_core.specs.Kinds.ForkJoin.{branch_demands}
 use Rattle.mq_core.specs.declared.model.Demand.{Demand}
 use Rattle.mq_core.specs.declared.model.Kind.TheVariants.{ForkJoin}
 use Rattle.mq_core.specs.declared.model.Rows.{Rows}
-use Rattle.mq_core.proofs.Bounded.BoundedAsked.{all-small, each-weaker}
+use Rattle.mq_core.proofs.Bounded.BoundedAsked.{all-small}
 use Rattle.mq_core.proofs.ForkJoin.ForkJoinBounded.{branches-few, branches-small, fork-by}
 use Rattle.mq_core.proofs.Bounded.BoundedStations.{departs-by}
 use Rattle.mq_core.proofs.Counting.ColumnNumbers.{leaving-numbered}

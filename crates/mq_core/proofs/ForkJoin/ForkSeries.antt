@@ -3,6 +3,7 @@ use Rattle.std.proofs.Common.{◌≡◌, ◌⊎◌, inl, inr, ℕ, suc, ◌+◌,
 use Rattle.std.proofs.lemmas.List.{append-nil}
 use Rattle.std.specs.Prelude.{slice_get, filter}
 use Rattle.std.specs.List.{AllByRecursion as Each}
+use Rattle.mq_base.proofs.lemmas.Each.{Each-append, Each-weaker, not_true}
 use Rattle.mq_core.specs.Event.{Event, earliest, sooner_of}
 use Rattle.mq_core.specs.Event.Event.{Finish}
 use Rattle.mq_core.specs.Machine.{Visit, Service, finishes_of}
@@ -11,7 +12,6 @@ use Rattle.mq_core.specs.Kinds.ForkJoin.{Moved, goes_in, goes_on, finishes_at}
 use Rattle.mq_core.specs.Kinds.Server.{served}
 use Rattle.mq_core.specs.declared.model.Demand.{Demand}
 use Rattle.mq_core.specs.declared.model.Rows.{Rows}
-use Rattle.mq_core.proofs.Lists.Each.{Each-append, Each-weaker, not_true}
 use Rattle.mq_core.proofs.Server.Serves.{last_served, positions, slice_get-middle}
 use Rattle.mq_core.proofs.ForkJoin.ForkServers.{Stands, Series, Asks, Lets, is_at_server, departing, departing-length, departing-push, departing-get, get-first, own-finishes, other-finishes, finishes-append, begins_alone-own, begins_at-own, begins_alone-behind, stands-arrives, stands-ends}
 

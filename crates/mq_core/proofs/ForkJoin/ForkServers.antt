@@ -4,6 +4,7 @@ use Rattle.std.proofs.lemmas.List.{map-append}
 use Rattle.std.proofs.lemmas.List.Elements.{filter-append}
 use Rattle.std.specs.Prelude.{slice_get, filter, ◌==◌}
 use Rattle.std.specs.List.{AllByRecursion as Each}
+use Rattle.mq_base.proofs.lemmas.Each.{Each-append, Each-back, not_true}
 use Rattle.mq_core.specs.Event.{Event, time_of, earliest, sooner_of}
 use Rattle.mq_core.specs.Event.Event.{Arrive, Finish}
 use Rattle.mq_core.specs.Machine.{Visit, Service, finishes_of}
@@ -11,7 +12,6 @@ use Rattle.mq_core.specs.Handling.{demand_of_job, demand_at, begins_at, begins_a
 use Rattle.mq_core.specs.Kinds.Server.{served}
 use Rattle.mq_core.specs.declared.model.Demand.{Demand}
 use Rattle.mq_core.specs.declared.model.Rows.{Rows}
-use Rattle.mq_core.proofs.Lists.Each.{Each-append, Each-back, not_true}
 use Rattle.mq_core.proofs.Server.Serves.{last_served, last_served-push, length-push, max-least, positions, positions-push, pair-inj, slice_get-middle}
 
 -- a finish of this server

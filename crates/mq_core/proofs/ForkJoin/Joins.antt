@@ -5,6 +5,7 @@ use Rattle.std.proofs.lemmas.List.{append-nil}
 use Rattle.std.proofs.lemmas.List.Elements.{filter-append}
 use Rattle.std.specs.Prelude.{slice_get, filter}
 use Rattle.std.specs.List.{AllByRecursion as Each}
+use Rattle.mq_base.proofs.lemmas.Each.{Each-append, Each-back, Each-front, Each-both, Each-map, not_true}
 use Rattle.mq_core.specs.Event.{Event, time_of, earliest}
 use Rattle.mq_core.specs.Event.Event.{Arrive, Finish}
 use Rattle.mq_core.specs.Machine.{Visit, Emission, Service, Release, finishes_of, emissions_of, emission_of}
@@ -16,7 +17,6 @@ use Rattle.mq_core.specs.Tallies.{arrival_or}
 use Rattle.mq_core.specs.declared.model.Demand.{Demand}
 use Rattle.mq_core.specs.declared.model.Rows.{Rows}
 use Rattle.mq_core.proofs.Events.Areas.{get-front}
-use Rattle.mq_core.proofs.Lists.Each.{Each-append, Each-back, Each-front, Each-both, Each-map, not_true}
 use Rattle.mq_core.proofs.Events.Pending.{earliest-splits, earliest-filter, filter-earliest_other}
 use Rattle.mq_core.proofs.Server.Serves.{demand_of-push, latest-push, length-push, slice_get-middle}
 use Rattle.mq_core.proofs.ForkJoin.ForkServers.{Series, Lets, is_at_server, place_in, begins_alone-behind}

@@ -2,6 +2,7 @@
 use Rattle.std.proofs.Common.{◌≡◌, inl, inr, ℕ, suc, ◌+◌, ◌≤◌, max, Bool, true, false, cond, eqb, List, [], ◌∷◌, map, length, sym, refl, ap, ◌∙◌, arith, eqb-true, ◌*◌, ◌^◌}
 use Rattle.std.specs.Prelude.{slice_get}
 use Rattle.std.specs.List.{AllByRecursion as Each}
+use Rattle.mq_base.proofs.lemmas.Each.{Each-weaker, Each-filter_if, Each-any}
 use Rattle.mq_core.specs.ColumnLaws.{arrives_of, jobs_of, FatesInTime}
 use Rattle.mq_core.specs.Kinds.Loss.{out_of_fate, faring_from}
 use Rattle.mq_core.specs.Fates.{fate_by}
@@ -15,7 +16,6 @@ use Rattle.mq_core.specs.declared.model.Fate.TheVariants.{Departs, Lost}
 use Rattle.mq_core.specs.declared.model.Kind.TheVariants.{Loss}
 use Rattle.mq_core.specs.declared.model.Rows.{Rows}
 use Rattle.mq_core.proofs.Counting.ColumnNumbers.{EachLeaves, Numbered}
-use Rattle.mq_core.proofs.Lists.Each.{Each-weaker, Each-filter_if, Each-any}
 use Rattle.mq_core.proofs.Events.Rising.{Rises-filter, Rises-in_order_of, filter-in_order_of, same_by_key}
 use Rattle.mq_core.proofs.Counting.Stays.{FatesStay, cons}
 use Rattle.mq_core.proofs.Bounded.BoundedStations.{AreBy, AreSmall, LeaveBy}

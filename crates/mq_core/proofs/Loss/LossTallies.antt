@@ -4,6 +4,7 @@ use Rattle.std.proofs.Math.Nat.{suc-mul}
 use Rattle.std.proofs.lemmas.List.{append-nil, length-map}
 use Rattle.std.specs.Prelude.{slice_get}
 use Rattle.std.specs.List.{AllByRecursion as Each}
+use Rattle.mq_base.proofs.lemmas.Each.{Each-weaker}
 use Rattle.mq_core.specs.Event.{Event, time_of, earliest, sooner_of}
 use Rattle.mq_core.specs.Event.Event.{Arrive, Finish}
 use Rattle.mq_core.specs.Machine.{Visit, Emission, emissions_of, emission_of}
@@ -15,7 +16,6 @@ use Rattle.mq_core.specs.Recurrences.{loss_fates}
 use Rattle.mq_core.specs.Tallies.{emission_at, staying, arrival_or}
 use Rattle.mq_core.specs.declared.model.Demand.{Demand}
 use Rattle.mq_core.specs.declared.model.Rows.{Rows}
-use Rattle.mq_core.proofs.Lists.Each.{Each-weaker}
 use Rattle.mq_core.proofs.Loss.Loses.{Losing, ToLeave, front_finish, all_fared, front-emission}
 use Rattle.mq_core.proofs.Loss.LossFlow.{has_place, fared-numbered, fared-fates}
 use Rattle.mq_core.proofs.Counting.Released.{emission-one, times-one, joins-length, joins-emits, one-release, no_release}

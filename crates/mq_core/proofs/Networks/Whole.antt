@@ -3,6 +3,7 @@ use Rattle.std.proofs.Common.{◌≡◌, ℕ, zero, suc, ◌+◌, ◌-◌, Bool,
 use Rattle.std.proofs.lemmas.List.{append-nil}
 use Rattle.std.specs.Prelude.{filter, slice_get}
 use Rattle.std.specs.List.{AllByRecursion as Each}
+use Rattle.mq_base.proofs.lemmas.Each.{filter-none}
 use Rattle.mq_core.specs.Machine.{Table, State, after, handled, opened}
 use Rattle.mq_core.specs.Laws.{IsPunctual, IsFeedForward, IsSameAt, is_arrival_at, is_finish_at, port_of, read_by, by_time, lone_after}
 use Rattle.mq_core.specs.Wiring.{inputs_of, is_source, reader_from, rank_in}
@@ -11,7 +12,6 @@ use Rattle.mq_core.specs.Theorems.{arrivals_at, IsReadFor, RunsAlone}
 use Rattle.mq_core.specs.declared.model.Plan.{Plan}
 use Rattle.mq_core.specs.declared.model.Rows.{Rows}
 use Rattle.mq_core.proofs.Events.Kept.{Begins}
-use Rattle.mq_core.proofs.Lists.Each.{filter-none}
 use Rattle.mq_core.proofs.Networks.Soundness.{sound-read_once}
 use Rattle.mq_core.proofs.Networks.Wired.{feeds_forward, wired}
 use Rattle.mq_core.proofs.Events.Second.{handled-arrivals, ports-from_zero}

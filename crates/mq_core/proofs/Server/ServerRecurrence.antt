@@ -1,5 +1,6 @@
 -- The laws of the kind's recurrence.
 use Rattle.std.proofs.Common.{arith, refl, ℕ}
+use Rattle.mq_base.proofs.lemmas.Each.{Each-weaker as each-weaker}
 use Rattle.mq_core.specs.Handling.{demand_of_job}
 use Rattle.mq_core.specs.Kinds.Server.{server}
 use Rattle.mq_core.specs.PlanLaws.{Tells}
@@ -7,7 +8,7 @@ use Rattle.mq_core.specs.Recurrences.{lindley}
 use Rattle.mq_core.specs.declared.model.Demand.{Demand}
 use Rattle.mq_core.specs.declared.model.Kind.TheVariants.{Server}
 use Rattle.mq_core.specs.declared.model.Rows.{Rows}
-use Rattle.mq_core.proofs.Bounded.BoundedAsked.{asked, asked-small, each-weaker}
+use Rattle.mq_core.proofs.Bounded.BoundedAsked.{asked, asked-small}
 use Rattle.mq_core.proofs.Bounded.BoundedStations.{departs-by}
 use Rattle.mq_core.proofs.Server.ServerBounded.{lindley-by}
 use Rattle.mq_core.proofs.Server.ServerColumns.{served-numbered, served-fates, server-outs, stay-served, when-served}

@@ -4,6 +4,7 @@ use Rattle.std.proofs.lemmas.List.{append-nil}
 use Rattle.std.specs.Prelude.{slice_get}
 use Rattle.std.specs.List.{AllByRecursion as Each}
 use Rattle.mq_base.proofs.lemmas.Lists.{some_inj}
+use Rattle.mq_base.proofs.lemmas.Each.{Each-append, Each-weaker}
 use Rattle.mq_core.specs.Event.{Event, time_of, earliest, sooner_of}
 use Rattle.mq_core.specs.Event.Event.{Finish}
 use Rattle.mq_core.specs.Machine.{Visit, Emission, finishes_of, emissions_of}
@@ -12,7 +13,6 @@ use Rattle.mq_core.specs.Handling.{demand_of_job, demand_of_visit, demand_at, la
 use Rattle.mq_core.specs.Kinds.Server.{served, served_from}
 use Rattle.mq_core.specs.declared.model.Demand.{Demand}
 use Rattle.mq_core.specs.declared.model.Rows.{Rows}
-use Rattle.mq_core.proofs.Lists.Each.{Each-append, Each-weaker}
 
 -- the last departure of these visits
 abbrev pub last_served : Rows → Demand → ℕ → List Visit → ℕ

@@ -4,6 +4,7 @@ use Rattle.std.proofs.lemmas.Bool.Decides.{nat_tests}
 use Rattle.std.proofs.lemmas.List.{map-append}
 use Rattle.std.specs.Prelude.{filter, slice_get, nat_le, nat_lt, ◌&&◌}
 use Rattle.std.specs.List.{AllByRecursion as Each}
+use Rattle.mq_base.proofs.lemmas.Each.{Each-weaker, filter-none, filter-all}
 use Rattle.mq_core.specs.Event.{Event, time_of, earliest}
 use Rattle.mq_core.specs.Event.Event.{Arrive, Finish}
 use Rattle.mq_core.specs.Machine.{Visit, Emission, Release, Service, finishes_of}
@@ -16,7 +17,6 @@ use Rattle.mq_core.specs.declared.model.Kind.TheVariants.{Tandem}
 use Rattle.mq_core.specs.declared.model.Stage.{Stage}
 use Rattle.mq_core.specs.declared.model.Rows.{Rows}
 use Rattle.mq_core.proofs.Events.Areas.{get-front, sum-same}
-use Rattle.mq_core.proofs.Lists.Each.{Each-weaker, filter-none, filter-all}
 use Rattle.mq_core.proofs.Events.Pending.{Splits, earliest-splits}
 use Rattle.mq_core.proofs.Events.Remaining.{remaining, remaining-append, remaining-waits}
 use Rattle.mq_core.proofs.Server.Serves.{latest-push}

@@ -1,10 +1,10 @@
 -- What the ranges of the kind give.
 use Rattle.std.proofs.Common.{List, arith, length}
 use Rattle.std.proofs.lemmas.List.{length-map}
+use Rattle.mq_base.proofs.lemmas.Each.{Each-map}
 use Rattle.mq_core.specs.Kinds.Tandem.{tandem}
 use Rattle.mq_core.specs.declared.model.Stage.{Stage}
 use Rattle.mq_core.proofs.EachKind.LimitLaws.{LimitLaws}
-use Rattle.mq_core.proofs.Lists.Each.{Each-map}
 use Rattle.mq_core.proofs.Networks.Soundness.{sound-stages, sound-stages_demands}
 use Rattle.mq_core.proofs.Networks.Told.{tells-stages, within-most}
 

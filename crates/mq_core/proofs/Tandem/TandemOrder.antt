@@ -2,6 +2,7 @@
 use Rattle.std.proofs.Common.{◌≡◌, ℕ, zero, suc, ◌+◌, ◌≤◌, Bool, true, false, List, [], ◌∷◌, refl, ap, ◌∙◌, arith}
 use Rattle.std.specs.Prelude.{◌&&◌}
 use Rattle.std.specs.List.{AllByRecursion as Each}
+use Rattle.mq_base.proofs.lemmas.Each.{Each-append}
 use Rattle.mq_core.specs.Event.{Event}
 use Rattle.mq_core.specs.Machine.{Visit, Emission, Release, Service}
 use Rattle.mq_core.specs.Local.{Line}
@@ -10,7 +11,6 @@ use Rattle.mq_core.specs.Kinds.Tandem.{Swept, has_room, leaves, moves, sweep}
 use Rattle.mq_core.specs.declared.model.Demand.{Demand}
 use Rattle.mq_core.specs.declared.model.Stage.{Stage}
 use Rattle.mq_core.specs.declared.model.Rows.{Rows}
-use Rattle.mq_core.proofs.Lists.Each.{Each-append}
 use Rattle.mq_core.proofs.Tandem.TandemTimes.{ended}
 use Rattle.mq_core.proofs.Tandem.TandemStages.{upwards, Blocked, Front, Stages}
 

@@ -2,6 +2,7 @@
 use Rattle.std.proofs.Common.{List, [], ap, arith, length, map, refl, suc, true, ℕ, ◌*◌, ◌+◌, ◌^◌, ◌∙◌, ◌∷◌, ◌≡◌, ◌≤◌}
 use Rattle.std.proofs.lemmas.List.{length-map}
 use Rattle.std.specs.List.{AllByRecursion as Each}
+use Rattle.mq_base.proofs.lemmas.Each.{Each-weaker as each-weaker}
 use Rattle.mq_core.specs.ColumnLaws.{arrives_of, jobs_of}
 use Rattle.mq_core.specs.Handling.{demand_of_stages}
 use Rattle.mq_core.specs.Kinds.Tandem.{tandem}
@@ -14,7 +15,7 @@ use Rattle.mq_core.specs.declared.model.Kind.TheVariants.{Tandem}
 use Rattle.mq_core.specs.declared.model.Network.{Network}
 use Rattle.mq_core.specs.declared.model.Rows.{Rows}
 use Rattle.mq_core.specs.declared.model.Stage.{Stage}
-use Rattle.mq_core.proofs.Bounded.BoundedAsked.{all-small, asked, each-weaker}
+use Rattle.mq_core.proofs.Bounded.BoundedAsked.{all-small, asked}
 use Rattle.mq_core.proofs.Tandem.TandemBounded.{none-left, stages-small, tandem-by}
 use Rattle.mq_core.proofs.Bounded.BoundedStations.{AreBy, LeaveBy, by-later, departs-by}
 use Rattle.mq_core.proofs.Counting.ColumnNumbers.{leaving-numbered}

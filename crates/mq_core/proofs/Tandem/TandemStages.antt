@@ -4,6 +4,7 @@ use Rattle.std.proofs.lemmas.Bool.Decides.{nat_tests}
 use Rattle.std.proofs.lemmas.List.{append-nil}
 use Rattle.std.proofs.lemmas.List.Elements.{filter-append}
 use Rattle.std.specs.Prelude.{slice_get, filter}
+use Rattle.mq_base.proofs.lemmas.Each.{filter-yes}
 use Rattle.mq_core.specs.Event.{Event}
 use Rattle.mq_core.specs.Event.Event.{Arrive, Finish}
 use Rattle.mq_core.specs.Machine.{Visit, Emission, emission_of, finishes_of}
@@ -12,7 +13,6 @@ use Rattle.mq_core.specs.Handling.{demand_at, demand_of_visit, begins_alone}
 use Rattle.mq_core.specs.Kinds.Tandem.{has_room}
 use Rattle.mq_core.specs.declared.model.Stage.{Stage}
 use Rattle.mq_core.specs.declared.model.Rows.{Rows}
-use Rattle.mq_core.proofs.Lists.Each.{filter-yes}
 use Rattle.mq_core.proofs.Tandem.TandemTimes.{ago, ago-below, ago-same, ended}
 
 -- a finish of this server

@@ -6,6 +6,7 @@ use Rattle.std.proofs.lemmas.List.Elements.{filter-append}
 use Rattle.std.proofs.lemmas.Grind.{flat_map-append}
 use Rattle.std.specs.Prelude.{slice_get, filter, ◌&&◌, nat_lt}
 use Rattle.std.specs.List.{AllByRecursion as Each}
+use Rattle.mq_base.proofs.lemmas.Each.{Each-append, Each-weaker, Each-map, filter-none}
 use Rattle.mq_core.specs.Event.{Event}
 use Rattle.mq_core.specs.Event.Event.{Finish}
 use Rattle.mq_core.specs.Machine.{Visit, Emission, Release, Service, emission_of, emissions_of, finishes_of}
@@ -15,7 +16,6 @@ use Rattle.mq_core.specs.Kinds.Tandem.{Swept, has_room, leaves, moves, sweep}
 use Rattle.mq_core.specs.declared.model.Demand.{Demand}
 use Rattle.mq_core.specs.declared.model.Stage.{Stage}
 use Rattle.mq_core.specs.declared.model.Rows.{Rows}
-use Rattle.mq_core.proofs.Lists.Each.{Each-append, Each-weaker, Each-map, filter-none}
 use Rattle.mq_core.proofs.Tandem.TandemTimes.{ago, ago-at, ago-below, ended, room, Solved}
 use Rattle.mq_core.proofs.Tandem.TandemStages.{is_finish_of, upwards, upwards-length, Blocked, BlockedUntil, Front, AtStage, Stages, stages-other, stage-entered, came-by, ended-now, one_finish}
 

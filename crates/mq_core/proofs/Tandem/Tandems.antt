@@ -4,6 +4,7 @@ use Rattle.std.proofs.lemmas.Bool.Decides.{nat_tests}
 use Rattle.std.proofs.lemmas.List.{append-nil}
 use Rattle.std.specs.Prelude.{slice_get, filter, nat_lt}
 use Rattle.std.specs.List.{AllByRecursion as Each}
+use Rattle.mq_base.proofs.lemmas.Each.{Each-append, Each-both, Each-front, Each-back, Each-map}
 use Rattle.mq_core.specs.Event.{Event, time_of, earliest, sooner_of}
 use Rattle.mq_core.specs.Event.Event.{Arrive, Finish}
 use Rattle.mq_core.specs.Machine.{Visit, Emission, Service, emissions_of, finishes_of}
@@ -16,7 +17,6 @@ use Rattle.mq_core.specs.declared.model.Stage.{Stage}
 use Rattle.mq_core.specs.declared.model.Rows.{Rows}
 use Rattle.mq_core.proofs.Events.Areas.{get-front, get-last}
 use Rattle.mq_core.proofs.Delay.Delays.{CameBefore, place_in}
-use Rattle.mq_core.proofs.Lists.Each.{Each-append, Each-both, Each-front, Each-back, Each-map}
 use Rattle.mq_core.proofs.Events.Pending.{earliest-splits, earliest-filter, filter-earliest_other}
 use Rattle.mq_core.proofs.Delay.DelayNumbers.{earliest-each}
 use Rattle.mq_core.proofs.Networks.Soundness.{AreStages}

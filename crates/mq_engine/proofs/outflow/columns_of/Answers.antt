@@ -1,5 +1,5 @@
 use Rattle.std.proofs.Common.{◌≤◌, ◌++◌, ◌∷◌, [], ap, ◌∙◌, length, map, arith}
-use Rattle.mq_base.proofs.Lists.{map-all}
+use Rattle.mq_base.proofs.lemmas.Lists.{map-all}
 use Rattle.mq_core.specs.Handling.{demand_of_job}
 use Rattle.mq_engine.specs.Turns.{AreAsked}
 use Rattle.mq_engine.proofs.Lists.{map-more}
