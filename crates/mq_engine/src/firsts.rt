@@ -10,7 +10,8 @@ use crate::stations::{server_carries, server_sum, tandem_carries, tandem_sum};
 use crate::turns::{After, after_of};
 use mq_base::{List, OutOfMemory};
 use mq_crew::Pieces;
-use mq_maxplus::{Affine, Matrix, Mp, Vector};
+use mq_maxplus::{Affine, Matrix, Mp};
+use mq_tandem::Latest;
 use std::alloc::Global;
 
 /// A first piece of a station.
@@ -32,7 +33,7 @@ pub enum Stage {
     /// The last departure of a server before each block.
     Last(List<Mp>),
     /// The latest departures of a tandem before each block.
-    Latest(List<Vector>),
+    Latest(List<Latest>),
 }
 
 impl<'a> Pieces for Load<'a> {

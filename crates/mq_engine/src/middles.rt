@@ -11,7 +11,8 @@ use crate::stations::{server_departures, server_times, tandem_joined, tandem_tim
 use crate::turns::After;
 use mq_base::{List, OutOfMemory};
 use mq_crew::Pieces;
-use mq_maxplus::{Mp, Vector};
+use mq_maxplus::Mp;
+use mq_tandem::Latest;
 use std::alloc::Global;
 
 /// A station after its first pieces.
@@ -60,7 +61,7 @@ fn last_of(stage: &Stage) -> &List<Mp>
 }
 
 // The latest departures of a tandem before each block.
-fn latest_of(stage: &Stage) -> &List<Vector>
+fn latest_of(stage: &Stage) -> &List<Latest>
     requires { IsLatest stage.now }
     ensures { stage.now ≡ Latest result.now }
 {

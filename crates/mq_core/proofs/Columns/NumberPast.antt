@@ -5,7 +5,7 @@ use Rattle.mq_core.specs.Columns.{column_late, column_late_from, visits_by_node}
 use Rattle.mq_core.specs.Machine.{Visit, Emission, State}
 use Rattle.mq_core.specs.Local.{Local}
 use Rattle.mq_core.specs.Fates.{fate_by}
-use Rattle.mq_core.specs.NumberLaws.{IsOnTimeBelow, OnTimeGrows, PastIsFirst, PastIsNone}
+use Rattle.mq_core.specs.NumberLaws.{late_in, run_late, IsOnTimeBelow, OnTimeGrows, PastIsFirst, PastIsNone}
 use Rattle.mq_core.specs.Results.{Late, fates_from, late_fate, late_from, late_at, first_of, past_of, visits_of}
 use Rattle.mq_core.specs.StandardTable.{run_of}
 use Rattle.mq_core.specs.Theorems.{IsReadFor}

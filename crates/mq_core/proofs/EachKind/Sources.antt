@@ -5,7 +5,7 @@ use Rattle.std.specs.List.{list_all}
 use Rattle.std.specs.Prelude.{IsTrue, map, slice_get}
 use Rattle.mq_core.specs.Names.{is_name}
 use Rattle.mq_core.specs.Sound.{is_output, is_sound, is_sound_count}
-use Rattle.mq_core.specs.Wiring.{is_source, outputs_read}
+use Rattle.mq_core.specs.Wiring.{SourcesReadNothing, is_source, outputs_read}
 use Rattle.mq_core.specs.declared.model.Input.{Input}
 use Rattle.mq_core.specs.declared.model.Network.{Network}
 use Rattle.mq_core.specs.declared.model.Node.{Node}

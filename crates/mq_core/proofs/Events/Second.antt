@@ -9,7 +9,7 @@ use Rattle.mq_base.proofs.lemmas.Each.{Each-append, Each-front, Each-back, Each-
 use Rattle.mq_core.specs.Event.{Event, time_of, node_of, is_sooner, place_of, earliest}
 use Rattle.mq_core.specs.Event.Event.{Arrive, Finish}
 use Rattle.mq_core.specs.Machine.{Emission, Table, State, Station, after, handled, happens, caused, arrivals_of, emissions_at, finishes_of, reaction, until, opened}
-use Rattle.mq_core.specs.Laws.{alone, NotBefore, IsNoEarlier, IsPunctual, IsFeedForward, IsWired, Rises, port_of, is_arrival_at, by_time, stream_of, brought, read_by}
+use Rattle.mq_core.specs.Laws.{alone, NotBefore, IsNoEarlier, IsPunctual, IsFeedForward, IsWired, Rises, port_of, is_arrival_at, by_time, stream_of, brought, read_by, arrivals_in}
 use Rattle.mq_core.proofs.Lists.Order.{below-irrefl, not_below-cons}
 use Rattle.mq_core.proofs.Events.Pending.{earliest-splits, Splits-least}
 use Rattle.mq_core.proofs.Events.Steps.{handled-zero, handled-some, handled-none}

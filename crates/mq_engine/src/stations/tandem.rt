@@ -13,9 +13,9 @@ use crate::outflow::{Outflow, columns_of, in_turn};
 use crate::blocks::{applied, before_of, joined, sum_of};
 use mq_base::{List, OutOfMemory};
 use mq_core::{Demand, Rows, Stage, Stream, fates_are_in_time};
-use mq_maxplus::{Matrix, Vector};
+use mq_maxplus::Matrix;
 use mq_scan::{Blocks, cut};
-use mq_tandem::{TandemStep, carries_hold_departures, tandem_departures};
+use mq_tandem::{Latest, TandemStep, carries_hold_departures, tandem_departures};
 use std::alloc::Global;
 
 /// A tandem that is scanned, block by block.
@@ -98,7 +98,7 @@ pub fn tandem_carries(
     arrivals: &Stream,
     scan: &TandemScan,
     group: &List<Part>,
-) -> Result<List<Vector>, OutOfMemory>
+) -> Result<List<Latest>, OutOfMemory>
     requires load { IsTandemLoad arrivals.now.time scan.now.columns scan.now.places }
     requires all { scan.now.blocks.n ≡ length arrivals.now.time }
     requires len { length group.now ≡ scan.now.blocks.blocks }
@@ -136,7 +136,7 @@ pub fn tandem_times(
     alloc: Global,
     arrivals: &Stream,
     scan: &TandemScan,
-    before: &List<Vector>,
+    before: &List<Latest>,
     b: u32,
 ) -> Result<List<u64>, OutOfMemory>
     requires load { IsTandemLoad arrivals.now.time scan.now.columns scan.now.places }
