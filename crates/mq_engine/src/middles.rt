@@ -2,7 +2,7 @@
 ghost use Rattle.std.specs.Prelude.{◌≡◌, IfOk};
 ghost use Rattle.mq_crew.specs.Crew.{AreAll};
 ghost use Rattle.mq_engine.specs.Loads.{IsAll, IsApplied, IsExit, IsLast, IsLatest, IsLoaded, IsReadyMiddle, IsStage, applied_of};
-ghost use Rattle.mq_engine.specs.declared.firsts.Stage.TheVariants.{Ended, Last, Latest};
+ghost use Rattle.mq_engine.specs.declared.firsts.Stage.TheVariants.{Ended, Last};
 
 use crate::exits::Exit;
 use crate::firsts::Stage;
@@ -63,7 +63,7 @@ fn last_of(stage: &Stage) -> &List<Mp>
 // The latest departures of a tandem before each block.
 fn latest_of(stage: &Stage) -> &List<Latest>
     requires { IsLatest stage.now }
-    ensures { stage.now ≡ Latest result.now }
+    ensures { stage.now ≡ Stage.Latest result.now }
 {
     match stage {
         Stage::Latest(carries) => carries,
