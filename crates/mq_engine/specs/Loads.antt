@@ -1,5 +1,5 @@
 -- What comes to the nodes that are ready, and what the pieces of a wave are.
-use Rattle.std.specs.Prelude.{◌≡◌, ◌≤◌, ◌+◌, ◌-◌, ◌*◌, ℕ, List, Contains, length, map, min, Option, Some, None, slice_get}
+use Rattle.std.specs.Prelude.{◌≡◌, ◌≤◌, ℕ, List, Contains, length, map, Some, None, slice_get}
 use Rattle.mq_core.specs.ColumnLaws.{arrives_of, jobs_of}
 use Rattle.mq_core.specs.Columns.{column_fates, column_late_from, column_outs, founds_of, stream_in_order}
 use Rattle.mq_core.specs.Handling.{demand_of_job}
@@ -247,7 +247,8 @@ IsClosed plan rows v arrivals (Served departs) b closed = IsShut plan rows v arr
 
 -- a load that can be worked on
 abbrev pub IsReadyLoad : Load → Type 0
-IsReadyLoad load = IsReadFor load.plan.now.net load.rows.now × IsLoaded load.plan.now load.rows.now load.number load.arrivals load.scan
+IsReadyLoad load =
+    IsReadFor load.plan.now.net load.rows.now × IsLoaded load.plan.now load.rows.now load.number load.arrivals load.scan × (1 ≤ load.block)
 
 -- the load of one of these nodes
 abbrev pub IsLoadOf : Plan → Rows → List ℕ → Load → Type 0
