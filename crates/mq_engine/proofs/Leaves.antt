@@ -1,16 +1,19 @@
 -- What leaves a station, and which of it is late.
-use Rattle.std.proofs.Common.{◌≡◌, ℕ, zero, suc, ◌+◌, ◌^◌, ◌<◌, ◌≤◌, All, Bool, true, false, cond, List, [], ◌∷◌, ◌++◌, length, drop, map, max, Option, Some, None, sym, refl, ap, ◌∙◌, subst, arith}
+use Rattle.std.proofs.Common.{◌≡◌, ℕ, zero, suc, ◌+◌, ◌^◌, ◌<◌, ◌≤◌, ◌⊎◌, inl, inr, All, Bool, true, false, cond, List, [], ◌∷◌, ◌++◌, length, drop, map, max, Option, Some, None, sym, refl, ap, ◌∙◌, subst, arith}
 use Rattle.std.specs.Prelude.{IsTrue, nat_le, nat_lt, slice_get}
 use Rattle.std.specs.List.{AllByRecursion as Each, list_all}
 use Rattle.std.proofs.lemmas.Bool.{and_parts}
 use Rattle.std.proofs.lemmas.Bool.Decides.{nat_tests}
 use Rattle.std.proofs.lemmas.List.{length-map}
-use Rattle.mq_base.proofs.lemmas.Lists.{drop_suc}
+use Rattle.mq_base.proofs.lemmas.Lists.{drop_suc, some_inj}
 use Rattle.mq_core.specs.Came.{came_in}
 use Rattle.mq_core.specs.ColumnLaws.{FatesAreInTime}
-use Rattle.mq_core.specs.Columns.{IsSoundLoad, IsStream, column_fates, column_late_from, column_outs, leaving_times, picked, time_of_fate}
+use Rattle.mq_core.specs.Columns.{IsSoundLoad, IsStream, column_fates, column_late_from, column_outs, column_stream, leaving_times, picked, stream_in_order, time_of_fate}
 use Rattle.mq_core.specs.Kinds.Split.{routes_from}
-use Rattle.mq_core.specs.Recurrences.{lindley, delayed}
+use Rattle.mq_core.specs.Kinds.ForkJoin.{branch_demands}
+use Rattle.mq_core.specs.Kinds.Tandem.{tandem_times}
+use Rattle.mq_core.specs.Laws.{Rises}
+use Rattle.mq_core.specs.Recurrences.{delayed, fork_departs, lindley}
 use Rattle.mq_core.specs.Results.{Late, first_of, late_fate}
 use Rattle.mq_core.specs.Ranges.{is_sound_demand, is_within, rises}
 use Rattle.mq_core.specs.Sound.{outputs_in}
@@ -21,10 +24,11 @@ use Rattle.mq_core.specs.declared.model.Demand.{Demand}
 use Rattle.mq_core.specs.declared.model.Fate.{Fate}
 use Rattle.mq_core.specs.declared.model.Fate.TheVariants.{Departs, Lost}
 use Rattle.mq_core.specs.declared.model.Kind.{Kind}
-use Rattle.mq_core.specs.declared.model.Kind.TheVariants.{Source, Server, Delay, Split}
+use Rattle.mq_core.specs.declared.model.Kind.TheVariants.{Delay, ForkJoin, Server, Source, Split, Tandem}
 use Rattle.mq_core.specs.declared.model.Route.{Route}
 use Rattle.mq_core.specs.declared.model.Route.TheVariants.{Cut, Modulo, Turn}
 use Rattle.mq_core.specs.declared.model.Rows.{Rows}
+use Rattle.mq_core.specs.declared.model.Stage.{Stage}
 use Rattle.mq_core.specs.declared.model.Stream.{Stream}
 use Rattle.mq_split.specs.Outs.{AreParts, outs_from}
 use Rattle.mq_engine.specs.Loads.{AreServed}
@@ -201,6 +205,32 @@ served-left law rows kind arrivals departs streams even s e = one-stream rows ki
 pub served-leaves : FatesAreInTime → (rows : Rows) (kind : Kind) (arrivals : Stream) (departs : List ℕ) (fates : List Fate) (streams : List Stream) → length arrivals.job ≡ length arrivals.time → AreServed rows kind arrivals departs → LeaveInTurn arrivals.job departs fates streams → IsLeaving rows kind arrivals fates streams
 served-leaves law rows kind arrivals departs fates streams even s turn = record { leave = turn.fate ∙ sym s.fates; outflow = served-left law rows kind arrivals departs streams even s turn.stream }
 
+-- their departures are as many as their arrivals, and never fall
+pub served-even : FatesAreInTime → (rows : Rows) (kind : Kind) (arrivals : Stream) (departs : List ℕ) → IsLoad rows kind arrivals → AreServed rows kind arrivals departs → length departs ≡ length arrivals.time
+served-even law rows kind arrivals departs load s = times-many law rows kind arrivals departs load.ordered.ordered.even s.fates ∙ load.ordered.ordered.even
+
+-- the one stream that leaves
+served-one : FatesAreInTime → (rows : Rows) (kind : Kind) (arrivals : Stream) (departs : List ℕ) → IsLoad rows kind arrivals → AreServed rows kind arrivals departs → record { job = arrivals.job; time = departs } ≡ left_by rows kind arrivals 0
+served-one law rows kind arrivals departs load s =
+    let left : Stream = record { job = arrivals.job; time = departs } in
+    let one = s.one in
+    let inside : 0 < outputs_in kind = omega arith in
+    some_inj _ _ ((served-left law rows kind arrivals departs (left ∷ []) load.ordered.ordered.even s refl).each 0 inside)
+
+pub served-rises : FatesAreInTime → (rows : Rows) (kind : Kind) (arrivals : Stream) (departs : List ℕ) → IsLoad rows kind arrivals → AreServed rows kind arrivals departs → Rises (λ a b. a ≤ b) departs
+served-rises law rows kind arrivals departs load s =
+    let left : Stream = record { job = arrivals.job; time = departs } in
+    let column : column_stream rows kind (came_in arrivals) 0 ≡ left = ap (stream_in_order kind) (sym (served-one law rows kind arrivals departs load s)) ∙ s.order left in
+    subst (λ (stream : Stream). Rises (λ a b. a ≤ b) stream.time) column (load.leaves 0).rising
+
+-- the times of what leaves are the departures
+pub served-stream : FatesAreInTime → (rows : Rows) (kind : Kind) (arrivals : Stream) (departs : List ℕ) (streams : List Stream) (left : Stream) → IsLoad rows kind arrivals → AreServed rows kind arrivals departs → AreLeft rows kind arrivals streams → slice_get streams 0 ≡ Some left → AreServed rows kind arrivals left.time
+served-stream law rows kind arrivals departs streams left load s out e =
+    let one = s.one in
+    let inside : 0 < outputs_in kind = omega arith in
+    let same : record { job = arrivals.job; time = departs } ≡ left = served-one law rows kind arrivals departs load s ∙ some_inj _ _ (sym (out.each 0 inside) ∙ e) in
+    subst (AreServed rows kind arrivals) (ap (λ (stream : Stream). stream.time) same) s
+
 -- a server is such a station
 pub server-served : (rows : Rows) (demand : Demand) (arrivals : Stream) (demands departs : List ℕ) → demands ≡ map (demand_of_job rows demand) arrivals.job → departs ≡ lindley 0 arrivals.time demands → AreServed rows (Server demand) arrivals departs
 server-served rows demand arrivals demands departs m d =
@@ -210,3 +240,18 @@ server-served rows demand arrivals demands departs m d =
       outs = refl;
       fates = ap (map (λ time. Departs time)) (sym (d ∙ ap (lindley 0 arrivals.time) m));
     }
+
+-- and so are a tandem and a fork-join
+pub in-turn-served : (rows : Rows) (kind : Kind) (arrivals : Stream) → ((demand : Demand) × (kind ≡ Server demand)) ⊎ (((stages : List Stage) × (kind ≡ Tandem stages)) ⊎ ((branches : List (List Demand)) × (kind ≡ ForkJoin branches))) → (departs : List ℕ) × AreServed rows kind arrivals departs
+in-turn-served rows kind arrivals (inl s) = (
+  lindley 0 arrivals.time (map (demand_of_job rows s.0) arrivals.job),
+  subst (λ (k : Kind). AreServed rows k arrivals (lindley 0 arrivals.time (map (demand_of_job rows s.0) arrivals.job))) (sym s.1) (server-served rows s.0 arrivals _ _ refl refl),
+)
+in-turn-served rows kind arrivals (inr (inl s)) = (
+  tandem_times rows s.0 arrivals.job arrivals.time,
+  subst (λ (k : Kind). AreServed rows k arrivals (tandem_times rows s.0 arrivals.job arrivals.time)) (sym s.1) (record { one = refl; order = λ stream. refl; outs = refl; fates = refl }),
+)
+in-turn-served rows kind arrivals (inr (inr s)) = (
+  fork_departs arrivals.time (branch_demands rows s.0 arrivals.job),
+  subst (λ (k : Kind). AreServed rows k arrivals (fork_departs arrivals.time (branch_demands rows s.0 arrivals.job))) (sym s.1) (record { one = refl; order = λ stream. refl; outs = refl; fates = refl }),
+)

@@ -1,21 +1,19 @@
 -- A station that is scanned: its blocks, its summaries and its applied blocks.
-use Rattle.std.proofs.Common.{◌≡◌, ℕ, ◌+◌, ◌*◌, ◌<◌, ◌≤◌, ◌⊎◌, inl, inr, List, [], ◌∷◌, ◌++◌, length, get_or, map, min, Some, sym, refl, ap, ◌∙◌, subst, arith, length-append}
+use Rattle.std.proofs.Common.{◌≡◌, ℕ, ◌+◌, ◌*◌, ◌<◌, ◌≤◌, ◌⊎◌, inl, inr, List, [], ◌∷◌, ◌++◌, length, get_or, map, min, Some, sym, ap, ◌∙◌, subst, arith, length-append}
 use Rattle.std.proofs.Math.ListN.{get_or-append}
 use Rattle.std.proofs.Math.Seq.{get_or-append_seam}
 use Rattle.std.proofs.lemmas.Bool.{cases_lt}
 use Rattle.std.proofs.lemmas.List.{length-map}
-use Rattle.std.specs.Prelude.{IsTrue, slice_get}
+use Rattle.std.specs.Prelude.{slice_get}
 use Rattle.std.proofs.lemmas.Option.{slice_get_within}
 use Rattle.mq_base.proofs.lemmas.Lists.{some_inj}
 use Rattle.mq_core.specs.Came.{came_in}
 use Rattle.mq_core.specs.Columns.{IsSoundLoad, founds_of, column_stream, stream_in_order}
 use Rattle.mq_core.specs.Recurrences.{lindley}
 use Rattle.mq_core.specs.ColumnLaws.{FatesAreInTime}
+use Rattle.mq_core.specs.Columns.{IsSoundLoad, founds_of}
 use Rattle.mq_core.specs.Handling.{demand_of_job}
-use Rattle.mq_core.specs.Laws.{Rises}
-use Rattle.mq_core.specs.Ranges.{is_sound_demand}
 use Rattle.mq_core.specs.Recurrences.{lindley, tandem_departs}
-use Rattle.mq_core.specs.Sound.{is_sound_kind, outputs_in}
 use Rattle.mq_core.specs.declared.model.Fate.{Fate}
 use Rattle.mq_core.specs.declared.model.Fate.TheVariants.{Departs}
 use Rattle.mq_core.specs.declared.model.Node.{Node}
@@ -35,12 +33,12 @@ use Rattle.mq_engine.specs.Blocks.{AreSumsOf, AreTimesOf}
 use Rattle.mq_engine.specs.Loads.{AreServed, IsAfterAt, IsLoaded, IsScanOf, IsServed, IsShut}
 use Rattle.mq_engine.specs.declared.exits.Closed.TheVariants.{Fates, Found, Jobs}
 use Rattle.mq_engine.specs.declared.turns.After.TheVariants.{Seen}
-use Rattle.mq_engine.specs.Turns.{IsLoad, left_by}
+use Rattle.mq_engine.specs.Turns.{IsLoad}
 use Rattle.mq_engine.specs.declared.loads.Scan.{Scan}
 use Rattle.mq_engine.specs.declared.loads.Scan.TheVariants.{OfServer, OfTandem}
 use Rattle.mq_engine.specs.declared.stations.server.ServerScan.{ServerScan}
 use Rattle.mq_engine.specs.declared.stations.tandem.TandemScan.{TandemScan}
-use Rattle.mq_engine.proofs.Leaves.{load-sound, served-leaves, served-left, server-served}
+use Rattle.mq_engine.proofs.Leaves.{load-sound, served-even, served-leaves, server-served}
 use Rattle.mq_engine.proofs.StageFacts.{loads-sound, sound-stages, stages-are, tandem-served}
 
 -- a further item, where each is that of its place
@@ -130,29 +128,13 @@ tandem-leaves plan rows v arrivals scan its departs l e d =
     let load : IsLoad rows (Tandem is.0) arrivals = subst (λ (k : Kind). IsLoad rows k arrivals) is.1 l.load in
     served-at plan rows v arrivals scan (Tandem is.0) departs l is.1 (tandem-served (length load.net.columns) rows is.0 arrivals is.2.asked its.columns its.places departs load.sound is.2.asks is.2.columns is.2.places d)
 
--- the departures of such a station are as many as its arrivals
-pub served-even : FatesAreInTime → (plan : Plan) (rows : Rows) (v : ℕ) (arrivals : Stream) (scan : Scan) (departs : List ℕ) → IsLoaded plan rows v arrivals scan → IsServed plan rows v arrivals departs → length departs ≡ length arrivals.time
-served-even law plan rows v arrivals scan departs l served =
-    let s = served l.node l.there in
-    sym (length-map departs (λ time. Departs time)) ∙ (ap length (sym s.fates) ∙ (law rows l.node.kind arrivals.job arrivals.time l.load.ordered.ordered.even).even)
-
 pub served-few : FatesAreInTime → (plan : Plan) (rows : Rows) (v : ℕ) (arrivals : Stream) (scan : Scan) (departs : List ℕ) (fates : List Fate) → IsLoaded plan rows v arrivals scan → IsServed plan rows v arrivals departs → fates ≡ map (λ time. Departs time) departs → length fates ≤ 1048576
 served-few law plan rows v arrivals scan departs fates l served e =
     let few = l.load.few in
-    let long = served-even law plan rows v arrivals scan departs l served in
+    let long = served-even law rows l.node.kind arrivals departs l.load (served l.node l.there) in
     let count = ap length e in
     let same = length-map departs (λ time. Departs time) in
     omega arith
-
--- they never fall
-pub served-rises : FatesAreInTime → (rows : Rows) (kind : Kind) (arrivals : Stream) (departs : List ℕ) → IsLoad rows kind arrivals → AreServed rows kind arrivals departs → Rises (λ a b. a ≤ b) departs
-served-rises law rows kind arrivals departs load s =
-    let left : Stream = record { job = arrivals.job; time = departs } in
-    let one = s.one in
-    let inside : 0 < outputs_in kind = omega arith in
-    let is : left ≡ left_by rows kind arrivals 0 = some_inj _ _ ((served-left law rows kind arrivals departs (left ∷ []) load.ordered.ordered.even s refl).each 0 inside) in
-    let column : column_stream rows kind (came_in arrivals) 0 ≡ left = ap (stream_in_order kind) (sym is) ∙ s.order left in
-    subst (λ (stream : Stream). Rises (λ a b. a ≤ b) stream.time) column (load.leaves 0).rising
 
 -- what becomes of the arrivals at such a station
 pub opens : FatesAreInTime → (plan : Plan) (rows : Rows) (v : ℕ) (arrivals : Stream) (scan : Scan) (departs : List ℕ) (fates : List Fate) (found jobs : List ℕ) (streams : List Stream) → IsLoaded plan rows v arrivals scan → IsServed plan rows v arrivals departs → IsShut plan rows v arrivals departs 0 (Fates fates) → IsShut plan rows v arrivals departs 1 (Found found) → IsShut plan rows v arrivals departs 2 (Jobs jobs) →

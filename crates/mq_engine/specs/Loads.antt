@@ -248,7 +248,8 @@ IsClosed plan rows v arrivals (Served departs) b closed = IsShut plan rows v arr
 
 -- a load that can be worked on
 abbrev pub IsReadyLoad : Load → Type 0
-IsReadyLoad load = IsReadFor load.plan.now.net load.rows.now × IsLoaded load.plan.now load.rows.now load.number load.arrivals load.scan
+IsReadyLoad load =
+    IsReadFor load.plan.now.net load.rows.now × IsLoaded load.plan.now load.rows.now load.number load.arrivals load.scan × (1 ≤ load.block)
 
 -- the load of one of these nodes
 abbrev pub IsLoadOf : Plan → Rows → List ℕ → Load → Type 0

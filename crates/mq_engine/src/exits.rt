@@ -1,7 +1,5 @@
 // The stations whose departures are known, and their last pieces: who found how many, and what leaves.
-ghost use Rattle.std.specs.Prelude.{◌≡◌, ◌<◌, map, IfOk};
-ghost use Rattle.mq_core.specs.Columns.{founds_of};
-ghost use Rattle.mq_core.specs.declared.model.Fate.TheVariants.{Departs};
+ghost use Rattle.std.specs.Prelude.{◌≡◌, ◌<◌, IfOk};
 ghost use Rattle.mq_crew.specs.Crew.{AreAll};
 ghost use Rattle.mq_engine.specs.Loads.{IsAfterAt, IsClosed, IsLoaded, IsReadyExit, IsServed, IsShut, closings_of};
 ghost use Rattle.mq_engine.specs.Progress.{IsWorkedOut};
@@ -11,11 +9,10 @@ use crate::late::first_late;
 use crate::laws::core_laws;
 use crate::loads::Load;
 use crate::outflow::{fates_of, only};
-use crate::turns::{After, Turn, ending_of};
+use crate::turns::{After, Turn, ending_of, found_in_turn};
 use mq_base::{List, OutOfMemory};
 use mq_core::{Fate, Stream, fates_are_in_time};
 use mq_crew::Pieces;
-use mq_stats::found_piece_in_order;
 use std::alloc::Global;
 use std::thread::Threads;
 
@@ -84,11 +81,12 @@ fn closing_of(
     requires inside { b < 3 }
     ensures { IfOk result (λ closed. IsShut load.now.plan.now load.now.rows.now load.now.number load.now.arrivals departs.now b closed) }
 {
+    fates_are_in_time();
     if b == 0 {
         return fates_in_time(alloc, load, departs);
     }
     if b == 1 {
-        return Ok(Closed::Found(found_in_turn(alloc, load, departs)?));
+        return Ok(Closed::Found(found_in_turn(alloc, &load.arrivals, departs)?));
     }
     let jobs = Vec::from_slice(alloc, load.arrivals.job.as_slice())?;
     Ok(Closed::Jobs(List::from_vec(jobs)))
@@ -106,18 +104,6 @@ fn fates_in_time(alloc: Global, load: &Load, departs: &List<u64>) -> Result<Clos
         return Ok(Closed::Over(past));
     }
     Ok(Closed::Fates(fates))
-}
-
-// How many jobs each visit found, where they depart in turn.
-fn found_in_turn(alloc: Global, load: &Load, departs: &List<u64>) -> Result<List<u32>, OutOfMemory>
-    requires loaded { IsLoaded load.now.plan.now load.now.rows.now load.now.number load.now.arrivals load.now.scan }
-    requires served { IsServed load.now.plan.now load.now.rows.now load.now.number load.now.arrivals departs.now }
-    ensures { IfOk result (λ found. found ≡ founds_of load.now.arrivals.time (map (λ time. Departs time) departs.now)) }
-{
-    fates_are_in_time();
-    let count = load.arrivals.time.len() as u32;
-    let found = found_piece_in_order(alloc, &load.arrivals.time, departs, 0, count)?;
-    Ok(found)
 }
 
 // The turn of a station, of its last pieces where it has some.

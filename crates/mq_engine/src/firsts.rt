@@ -1,5 +1,5 @@
 // The first pieces of the stations that are ready: summaries of blocks, and whole stations.
-ghost use Rattle.std.specs.Prelude.{◌≡◌, length, IfOk, slice_index_or};
+ghost use Rattle.std.specs.Prelude.{◌≡◌, ◌≤◌, length, IfOk, slice_index_or};
 ghost use Rattle.mq_crew.specs.Crew.{AreAll};
 ghost use Rattle.mq_engine.specs.Loads.{IsAfterAt, IsLoaded, IsPart, IsReadyLoad, IsStage, IsWhole, blocks_of};
 ghost use Rattle.mq_engine.specs.declared.firsts.Part.{Part as ThePart};
@@ -67,7 +67,8 @@ impl<'a> Pieces for Load<'a> {
 
 // A station that is not scanned, whole.
 fn whole(alloc: Global, load: &Load) -> Result<After, OutOfMemory>
-    requires { IsLoaded load.now.plan.now load.now.rows.now load.now.number load.now.arrivals load.now.scan }
+    requires loaded { IsLoaded load.now.plan.now load.now.rows.now load.now.number load.now.arrivals load.now.scan }
+    requires some { 1 ≤ load.now.block }
     ensures { IfOk result (λ after. IsAfterAt load.now.plan.now load.now.rows.now load.now.number load.now.arrivals after) }
 {
     let kind = &load.plan.net.nodes.get(load.number as usize).kind;
@@ -78,6 +79,7 @@ fn whole(alloc: Global, load: &Load) -> Result<After, OutOfMemory>
         load.number,
         kind,
         &load.arrivals,
+        load.block,
     )
 }
 

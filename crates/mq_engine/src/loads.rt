@@ -22,6 +22,8 @@ pub struct Load<'a> {
     pub number: u32,
     pub arrivals: Stream,
     pub scan: Scan,
+    /// How many jobs a block has at least, and the first window of a loss station: 1 at least.
+    pub block: u32,
 }
 
 /// How a station is worked out.
@@ -53,7 +55,7 @@ impl<'a> Pieces for Arriving<'a> {
 
     ghost places = { λ s. length s.ready.now };
 
-    ghost is_piece = { λ s b load. (load.plan.now ≡ s.plan.now) × (load.rows.now ≡ s.rows.now) × (load.number ≡ slice_index s.ready.now b) × IsLoaded s.plan.now s.rows.now load.number load.arrivals load.scan };
+    ghost is_piece = { λ s b load. (load.plan.now ≡ s.plan.now) × (load.rows.now ≡ s.rows.now) × (load.number ≡ slice_index s.ready.now b) × IsLoaded s.plan.now s.rows.now load.number load.arrivals load.scan × (1 ≤ load.block) };
 
     fn count(&self) -> u32 {
         self.ready.len() as u32
@@ -78,6 +80,7 @@ impl<'a> Pieces for Arriving<'a> {
             number,
             arrivals,
             scan,
+            block: self.block,
         })
     }
 }

@@ -1,5 +1,5 @@
 // What leaves a station, by its kind: a file for each kind.
-ghost use Rattle.std.specs.Prelude.{IfOk};
+ghost use Rattle.std.specs.Prelude.{◌≤◌, IfOk};
 ghost use Rattle.mq_engine.specs.Turns.{IsLeaving, IsLoad};
 
 mod delay;
@@ -28,21 +28,26 @@ pub use tandem::{
     TandemScan, tandem_carries, tandem_joined, tandem_scan, tandem_sum, tandem_times,
 };
 
-// What leaves a station of this kind, given its arrivals. A further kind adds its case here.
+// What leaves a station of this kind, given its arrivals. The first window of a loss station is a block.
+// A further kind adds its case here.
 pub fn leaving(
     alloc: Global,
     rows: &Rows,
     kind: &Kind,
     arrivals: &Stream,
+    block: u32,
 ) -> Result<Outflow, OutOfMemory>
-    requires { IsLoad rows.now kind.now arrivals.now }
+    requires load { IsLoad rows.now kind.now arrivals.now }
+    requires some { 1 ≤ block }
     ensures { IfOk result (λ leaving. IsLeaving rows.now kind.now arrivals.now leaving.fates leaving.streams) }
 {
     match kind {
         Kind::Source => source_outflow(alloc, arrivals),
         Kind::Server(demand) => server_outflow(alloc, rows, demand, arrivals),
         Kind::Delay(demand) => delay_outflow(alloc, rows, demand, arrivals),
-        Kind::Loss { places, demand } => { loss_outflow(alloc, rows, *places, demand, arrivals) }
+        Kind::Loss { places, demand } => {
+            loss_outflow(alloc, rows, *places, demand, arrivals, block)
+        }
         Kind::Tandem(stages) => tandem_outflow(alloc, rows, stages, arrivals),
         Kind::ForkJoin(branches) => forkjoin_outflow(alloc, rows, branches, arrivals),
         Kind::Split(route) => split_outflow(alloc, rows, route, arrivals),

@@ -2,7 +2,9 @@
 ghost use Rattle.std.specs.Prelude.{◌≡◌, ◌≤◌, All, length, map, IfOk};
 ghost use Rattle.mq_core.specs.Came.{came_in};
 ghost use Rattle.mq_core.specs.Columns.{IsStream, by_first, column_fates, founds_of, pairs_of, stream_in_order};
+ghost use Rattle.mq_core.specs.Laws.{Rises};
 ghost use Rattle.mq_core.specs.Sound.{outputs_in};
+ghost use Rattle.mq_core.specs.declared.model.Fate.TheVariants.{Departs};
 ghost use Rattle.mq_engine.specs.Loads.{IsAfter};
 ghost use Rattle.mq_engine.specs.Progress.{IsEnding};
 ghost use Rattle.mq_engine.specs.Turns.{IsLeaving, IsLoad};
@@ -15,7 +17,7 @@ use mq_base::{List, OutOfMemory};
 use mq_core::{Fate, Kind, Network, Rows, Stream, Visits, fates_are_in_time};
 use mq_delay::delay_leaving;
 use mq_merge::by_time;
-use mq_stats::found;
+use mq_stats::{found, found_piece_in_order};
 use std::alloc::Global;
 use std::thread::Threads;
 
@@ -54,11 +56,13 @@ pub fn after_of(
     number: u32,
     kind: &Kind,
     arrivals: &Stream,
+    block: u32,
 ) -> Result<After, OutOfMemory>
-    requires { IsLoad rows.now kind.now arrivals.now }
+    requires load { IsLoad rows.now kind.now arrivals.now }
+    requires block { 1 ≤ block }
     ensures { IfOk result (λ after. IsAfter net.now rows.now number kind.now arrivals.now after) }
 {
-    let leaving = leaving(alloc, rows, kind, arrivals)?;
+    let leaving = leaving(alloc, rows, kind, arrivals, block)?;
     seen(alloc, net, rows, number, kind, arrivals, leaving)
 }
 
@@ -80,7 +84,7 @@ fn seen(
     if let Some(past) = first_late(net.bound, number, &leaving.fates) {
         return Ok(After::Missed(past));
     }
-    let found = found_at(alloc, rows, kind, arrivals, &leaving.fates)?;
+    let found = found_at(alloc, rows, kind, arrivals, &leaving)?;
     Ok(After::Seen(leaving.fates, found, leaving.streams))
 }
 
@@ -162,18 +166,37 @@ pub fn found_at(
     rows: &Rows,
     kind: &Kind,
     arrivals: &Stream,
-    fates: &List<Fate>,
+    leaving: &Outflow,
 ) -> Result<List<u32>, OutOfMemory>
-    requires stream { IsStream arrivals.now }
-    requires few { length arrivals.now.time ≤ 1048576 }
-    requires fates { fates.now ≡ column_fates rows.now kind.now (came_in arrivals.now) }
-    ensures { IfOk result (λ found. found ≡ founds_of arrivals.now.time fates.now) }
+    requires load { IsLoad rows.now kind.now arrivals.now }
+    requires leaving { IsLeaving rows.now kind.now arrivals.now leaving.now.fates leaving.now.streams }
+    ensures { IfOk result (λ found. found ≡ founds_of arrivals.now.time leaving.now.fates) }
 {
     fates_are_in_time();
     match kind {
         Kind::Source | Kind::Split(_) => nobody(alloc, &arrivals.time),
-        _ => found(alloc, &arrivals.time, fates),
+        Kind::Server(_) | Kind::Tandem(_) | Kind::ForkJoin(_) => {
+            found_in_turn(alloc, arrivals, &leaving.streams.get(0).time)
+        }
+        Kind::Delay(_) | Kind::Loss { .. } => found(alloc, &arrivals.time, &leaving.fates),
     }
+}
+
+// How many jobs each visit found, where the jobs leave at these times, in their order.
+pub fn found_in_turn(
+    alloc: Global,
+    arrivals: &Stream,
+    departs: &List<u64>,
+) -> Result<List<u32>, OutOfMemory>
+    requires arrivals { IsStream arrivals.now }
+    requires few { length arrivals.now.time ≤ 1048576 }
+    requires even { length departs.now ≡ length arrivals.now.time }
+    requires departs { Rises (λ a b. a ≤ b) departs.now }
+    ensures { IfOk result (λ found. found ≡ founds_of arrivals.now.time (map (λ time. Departs time) departs.now)) }
+{
+    let count = arrivals.time.len() as u32;
+    let found = found_piece_in_order(alloc, &arrivals.time, departs, 0, count)?;
+    Ok(found)
 }
 
 // 0 for each of these visits.

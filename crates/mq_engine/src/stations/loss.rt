@@ -14,24 +14,23 @@ use std::alloc::Global;
 use std::marker::Brand;
 use std::sync::ledger::{Blank, Ledger};
 
-// How many arrivals the first window has.
-const FIRST_WINDOW: u32 = 4_096;
-
 // What leaves a loss station: the jobs that find a place leave by output 0 once they are served, the
-// others by output 1 as they come.
+// others by output 1 as they come. So many arrivals are judged first.
 pub fn loss_outflow(
     alloc: Global,
     rows: &Rows,
     places: u32,
     demand: &Demand,
     arrivals: &Stream,
+    window: u32,
 ) -> Result<Outflow, OutOfMemory>
-    requires { IsLoad rows.now (Loss places demand.now) arrivals.now }
+    requires load { IsLoad rows.now (Loss places demand.now) arrivals.now }
+    requires some { 1 ≤ window }
     ensures { IfOk result (λ leaving. IsLeaving rows.now (Loss places demand.now) arrivals.now leaving.fates leaving.streams) }
 {
     fates_are_in_time();
     let demands = demands_of(alloc, rows, demand, &arrivals.job)?;
-    let settled = settled::<Brand>(alloc, arrivals, &demands, places, Blank::new(1))?;
+    let settled = settled::<Brand>(alloc, arrivals, &demands, places, window, Blank::new(1))?;
     // What comes takes the room that they had.
     drop(demands);
     let departs = settled.departs;
@@ -46,17 +45,19 @@ fn settled<L: Ledger>(
     arrivals: &Stream,
     demands: &List<u64>,
     places: u32,
+    window: u32,
     blank: Blank,
 ) -> Result<Settled, OutOfMemory>
     requires load { IsSoundLoad arrivals.now.time demands.now }
     requires places { 1 ≤ places }
+    requires window { 1 ≤ window }
     requires name { blank.name ≡ L.name }
     requires parts { blank.parts ≡ L.parts }
     requires some { 0 < blank.parts }
     ensures { IfOk result (λ settled. IsSettled places arrivals.now.time demands.now settled) }
 {
     let mut steps = Steps::<L>::new(blank);
-    settle(alloc, arrivals, demands, places, FIRST_WINDOW, &mut steps)
+    settle(alloc, arrivals, demands, places, window, &mut steps)
 }
 
 // The fate of each arrival.

@@ -8,9 +8,9 @@ ghost use Rattle.mq_engine.specs.Turns.{IsLeaving, IsLoad};
 ghost use Rattle.mq_engine.specs.declared.firsts.Part.{Part as ThePart};
 ghost use Rattle.mq_maxplus.specs.declared.affine.Affine.{Affine as TheAffine};
 
+use crate::blocks::{applied, before_of, joined, sum_of};
 use crate::firsts::Part;
 use crate::outflow::{Outflow, demands_of, in_turn};
-use crate::blocks::{applied, before_of, joined, sum_of};
 use mq_base::{List, OutOfMemory};
 use mq_core::{Demand, Rows, Stream};
 use mq_maxplus::{Affine, Mp};

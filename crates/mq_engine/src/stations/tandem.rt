@@ -8,9 +8,9 @@ ghost use Rattle.mq_engine.specs.declared.firsts.Part.{Part as ThePart};
 ghost use Rattle.mq_maxplus.specs.declared.mp.Mp.{Mp as TheMp};
 ghost use Rattle.mq_tandem.specs.Rows.{IsTandemLoad};
 
+use crate::blocks::{applied, before_of, joined, sum_of};
 use crate::firsts::Part;
 use crate::outflow::{Outflow, columns_of, in_turn};
-use crate::blocks::{applied, before_of, joined, sum_of};
 use mq_base::{List, OutOfMemory};
 use mq_core::{Demand, Rows, Stage, Stream, fates_are_in_time};
 use mq_maxplus::Matrix;

@@ -1,4 +1,4 @@
-use Rattle.mq_engine.proofs.Scanning.{server-leaves, server-sound, tandem-leaves, tandem-sound}
+use Rattle.mq_engine.proofs.Scanning.{server-sound, tandem-leaves, tandem-sound}
 use Rattle.mq_engine.proofs.middles.exit_of.Goals as goal
 
 pub server_departures-requires-clause-load : goal.server_departures-requires-clause-load

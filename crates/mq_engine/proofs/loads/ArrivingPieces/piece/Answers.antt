@@ -25,4 +25,5 @@ returns c =
         load = loaded c.core_laws.ensures s.plan.now s.rows.now s.outputs.now _ c.get-node.result.now c.in_ok-arrivals.arrivals fit.0 fit.1 can c.get-node.ensures c.in_ok-arrivals.ensures.stream c.in_ok-arrivals.ensures.items;
         scanned = c.in_ok-scan.ensures;
       },
+      fit.4,
     )
