@@ -14,6 +14,7 @@ use mq_core::{Demand, Input, Kind, Network, Node, Plan, Route, Stage, outputs_of
 use mq_graph::{RankFault, rank};
 use rand_pcg::Lcg64Xsh32;
 use std::alloc::Global;
+use std::mem;
 
 /// The nodes so far, the columns that they mention, and the outputs that the next section reads.
 #[derive(Drop)]
@@ -200,37 +201,29 @@ fn outputs_from(alloc: Global, node: u32, kind: &Kind) -> Result<List<Input>, Ou
     Ok(ends)
 }
 
-/// One section more, which reads each output of the section before it.
-fn next_section(
+/// Adds a section, which reads each output of the section before it.
+fn add_section(
     alloc: Global,
-    sections: Sections,
+    sections: &mut Sections,
     generator: &mut Lcg64Xsh32,
-) -> Result<Sections, OutOfMemory>
-    requires some { 2 ≤ length sections.nodes }
-    requires few { length sections.nodes ≤ 64 }
-    requires few_columns { length sections.columns ≤ 14 }
-    ensures { IfOk result (λ s. with_generator s generator.new ≡ next_section (with_generator sections generator.old)) }
+) -> Result<(), OutOfMemory>
+    requires some { 2 ≤ length sections.old.nodes }
+    requires few { length sections.old.nodes ≤ 64 }
+    requires few_columns { length sections.old.columns ≤ 14 }
+    ensures { OnOk result (with_generator sections.new generator.new ≡ next_section (with_generator sections.old generator.old)) }
 {
-    let Sections {
-        mut nodes,
-        mut columns,
-        ends,
-    } = sections;
     let drawn = draw(generator, 6);
     let places = places_by(drawn, generator);
-    mention_all(alloc, &mut columns, drawn)?;
-    let kind = kind_by(alloc, columns.as_slice(), places, drawn)?;
-    let outputs = outputs_from(alloc, nodes.len() as u32, &kind)?;
-    nodes.push(Node {
-        name: numbered(alloc, b'n', nodes.len() - 2)?,
+    mention_all(alloc, &mut sections.columns, drawn)?;
+    let kind = kind_by(alloc, sections.columns.as_slice(), places, drawn)?;
+    let outputs = outputs_from(alloc, sections.nodes.len() as u32, &kind)?;
+    let inputs = mem::replace(&mut sections.ends, outputs);
+    sections.nodes.push(Node {
+        name: numbered(alloc, b'n', sections.nodes.len() - 2)?,
         kind,
-        inputs: ends,
+        inputs,
     })?;
-    Ok(Sections {
-        nodes,
-        columns,
-        ends: outputs,
-    })
+    Ok(())
 }
 
 /// All sections that a generator draws, 1 to 12.
@@ -240,7 +233,7 @@ fn all_sections(alloc: Global, generator: &mut Lcg64Xsh32) -> Result<Sections, O
     let count = draw(generator, 12) + 1;
     let mut sections = no_sections(alloc)?;
     for _section in 0..count {
-        sections = next_section(alloc, sections, generator)?;
+        add_section(alloc, &mut sections, generator)?;
     }
     Ok(sections)
 }

@@ -260,12 +260,7 @@ fn read_words(
 }
 
 /// Adds the name of the node that a line declares, and the columns that it mentions.
-fn add_names(
-    alloc: Global,
-    said: &Said,
-    number: u32,
-    front: &mut Front,
-) -> Result<(), ModelFault>
+fn add_names(alloc: Global, said: &Said, number: u32, front: &mut Front) -> Result<(), ModelFault>
     ensures ok { IfOk result (λ _. (added_fault front.old number said.now ≡ None) × (front.new ≡ with_names front.old said.now)) }
     ensures err { IfErr result (λ e. Tells e (added_fault front.old number said.now)) }
 {

@@ -9,12 +9,12 @@ loop-section-init c = record {
   whole = ap (λ n. n + 1) c.draw-count.ensures.drawn;
 }
 
-pub next_section-requires-clause-few : goal.next_section-requires-clause-few
-next_section-requires-clause-few c = under_way_small c.args.generator.now _ _ _ c.loop-section.invariant.whole c.loop-section-test.true c.loop-section.invariant.way
+pub add_section-requires-clause-few : goal.add_section-requires-clause-few
+add_section-requires-clause-few c = under_way_small c.args.generator.now _ _ _ c.loop-section.invariant.whole c.loop-section-test.true c.loop-section.invariant.way
 
 pub loop-section-preserved : goal.loop-section-preserved
 loop-section-preserved c = record {
-  way = under_way_next c.args.generator.now _ _ _ _ c.loop-section.invariant.whole c.loop-section-test.true c.loop-section.invariant.way c.in_ok-sections-2.ensures;
+  way = under_way_next c.args.generator.now _ _ _ _ c.loop-section.invariant.whole c.loop-section-test.true c.loop-section.invariant.way c.in_ok-add_section.ensures;
   whole = c.loop-section.invariant.whole;
 }
 

@@ -1,4 +1,4 @@
-use Rattle.std.proofs.Common.{◌≡◌, ◌∙◌, ◌-◌, ◌<◌, [], ◌∷◌, length, refl, arith}
+use Rattle.std.proofs.Common.{◌∙◌, ◌-◌, ◌<◌, length, refl, arith}
 use Rattle.std.proofs.lemmas.Result.{err_from_is_err_and}
 use Rattle.mq_model.specs.Form.{read}
 use Rattle.mq_model.specs.Lines.{a_branch, branches}
