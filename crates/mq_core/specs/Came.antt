@@ -1,6 +1,7 @@
 -- The arrivals at a node, in columns.
 use Rattle.std.specs.Prelude.{ℕ, List, [], map}
 use Rattle.mq_core.specs.Machine.{Visit}
+use Rattle.mq_core.specs.declared.model.Stream.{Stream}
 
 -- at so many ports: by which port, of which job and when, one item an arrival
 pub record Came : Type 0 where
@@ -16,3 +17,7 @@ came_of ports visits = record { ports = ports; port = map (λ (x : Visit). x.por
 -- arrivals whose ports are not told
 abbrev pub came_by : List ℕ → List ℕ → Came
 came_by job arrive = record { ports = 0; port = []; job = job; arrive = arrive }
+
+-- the arrivals that a stream has
+abbrev pub came_in : Stream → Came
+came_in stream = came_by stream.job stream.time

@@ -1,7 +1,7 @@
 -- The laws that carry a run over to columns: a node's flow, visits, streams and arrivals.
 use Rattle.std.specs.Prelude.{◌≡◌, ◌<◌, ◌≤◌, ⊤, ℕ, ◌+◌, false, List, ◌++◌, length, map, slice_get, Some, true}
 use Rattle.std.specs.List.{AllByRecursion, zip, flat_map}
-use Rattle.mq_core.specs.Came.{Came, came_of}
+use Rattle.mq_core.specs.Came.{Came, came_by, came_of}
 use Rattle.mq_core.specs.Columns.{IsStream, column_fates, column_stream, column_visits, rows_at, stream_in_order}
 use Rattle.mq_core.specs.Laws.{Rises}
 use Rattle.mq_core.specs.Local.{Local}
@@ -45,6 +45,14 @@ abbrev pub NodesAreColumns : Type 0
 NodesAreColumns =
     (plan : Plan) (rows : Rows) → IsReadFor plan.net rows → (v : ℕ) (node : Node) → slice_get plan.net.nodes v ≡ Some node →
     IsInColumns rows (length node.inputs) node.kind ((run_of plan rows).stations v)
+
+-- by which ports jobs came changes nothing in the columns of a node
+pub record IsBlind (rows : Rows) (kind : Kind) (came : Came) : Type 0 where
+  pub visits : column_visits rows kind came ≡ column_visits rows kind (came_by came.job came.arrive)
+  pub stream : (out : ℕ) → column_stream rows kind came out ≡ column_stream rows kind (came_by came.job came.arrive) out
+
+abbrev pub ColumnsAreBlind : Type 0
+ColumnsAreBlind = (rows : Rows) (kind : Kind) (came : Came) → IsBlind rows kind came
 
 -- the arrivals at a node by time: the rows of a source in file order, or what the ports of another read, port after port
 pub record IsMerged (rows : Rows) (v : ℕ) (node : Node) (end : State Local) : Type 0 where

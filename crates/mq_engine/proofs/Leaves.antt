@@ -5,6 +5,7 @@ use Rattle.std.specs.List.{AllByRecursion as Each}
 use Rattle.std.proofs.lemmas.Bool.Decides.{nat_tests}
 use Rattle.std.proofs.lemmas.List.{length-map}
 use Rattle.mq_base.proofs.Lists.{drop_suc}
+use Rattle.mq_core.specs.Came.{came_in}
 use Rattle.mq_core.specs.Columns.{IsSoundLoad, IsStream, column_fates, column_late_from, column_outs, leaving_times, picked, time_of_fate}
 use Rattle.mq_core.specs.Kinds.Split.{routes_from}
 use Rattle.mq_core.specs.Recurrences.{lindley, delayed}
@@ -40,7 +41,7 @@ picked-all [] (i ∷ is) e = absurd (omega arith)
 picked-all (j ∷ js) [] e = refl
 picked-all (j ∷ js) (i ∷ is) e = ap (λ l. i ∷ l) (picked-all js is (omega arith))
 
-pub one-stream : (rows : Rows) (kind : Kind) (arrivals : Stream) (departs : List ℕ) (streams : List Stream) → length arrivals.job ≡ length arrivals.time → outputs_in kind ≡ 1 → column_outs rows kind arrivals.job arrivals.time ≡ map (λ _. 0) arrivals.job → column_fates rows kind arrivals.job arrivals.time ≡ map (λ time. Departs time) departs →
+pub one-stream : (rows : Rows) (kind : Kind) (arrivals : Stream) (departs : List ℕ) (streams : List Stream) → length arrivals.job ≡ length arrivals.time → outputs_in kind ≡ 1 → column_outs rows kind (came_in arrivals) ≡ map (λ _. 0) arrivals.job → column_fates rows kind (came_in arrivals) ≡ map (λ time. Departs time) departs →
     length departs ≡ length arrivals.job → streams ≡ record { job = arrivals.job; time = departs } ∷ [] → AreLeft rows kind arrivals streams
 one-stream rows kind arrivals departs streams same one outs fates even e =
     record {
@@ -50,8 +51,8 @@ one-stream rows kind arrivals departs streams same one outs fates even e =
   where
     stream : left_by rows kind arrivals 0 ≡ record { job = arrivals.job; time = departs }
     stream =
-        let jobs : picked 0 (column_outs rows kind arrivals.job arrivals.time) arrivals.job ≡ arrivals.job = ap (λ l. picked 0 l arrivals.job) outs ∙ picked-all arrivals.job arrivals.job refl in
-        let times : picked 0 (column_outs rows kind arrivals.job arrivals.time) (leaving_times arrivals.time (column_fates rows kind arrivals.job arrivals.time)) ≡ departs =
+        let jobs : picked 0 (column_outs rows kind (came_in arrivals)) arrivals.job ≡ arrivals.job = ap (λ l. picked 0 l arrivals.job) outs ∙ picked-all arrivals.job arrivals.job refl in
+        let times : picked 0 (column_outs rows kind (came_in arrivals)) (leaving_times arrivals.time (column_fates rows kind (came_in arrivals))) ≡ departs =
         (λ k. picked 0 (outs k) (leaving_times arrivals.time (fates k))) ∙ (ap (picked 0 (map (λ _. 0) arrivals.job)) (times-back arrivals.time departs (even ∙ same)) ∙ picked-all arrivals.job departs even) in
         λ k. record { job = jobs k; time = times k }
 

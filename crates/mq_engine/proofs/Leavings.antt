@@ -5,6 +5,7 @@ use Rattle.std.specs.Option.{option_map}
 use Rattle.std.proofs.lemmas.List.{length-map, map-id}
 use Rattle.std.proofs.lemmas.Option.{slice_get-map, slice_get_within}
 use Rattle.mq_base.proofs.Lists.{some_inj}
+use Rattle.mq_core.specs.Came.{came_in}
 use Rattle.mq_core.specs.ColumnLaws.{FatesAreInTime}
 use Rattle.mq_core.specs.Columns.{IsStream, by_first, column_fates, column_outs, founds_of, leaving_times, pairs_of, picked, sorted, stream_in_order}
 use Rattle.mq_core.specs.Sound.{outputs_in}
@@ -43,8 +44,8 @@ left-even law rows kind arrivals streams even left =
         let inside : out < outputs_in kind = subst (λ n. out < n) left.count (slice_get_within streams out stream e) in
         let same : left_by rows kind arrivals out ≡ stream = some_inj _ _ (sym (left.each out inside) ∙ e) in
         subst (λ (s : Stream). length s.job ≡ length s.time) same
-        (picked-even out (column_outs rows kind arrivals.job arrivals.time) arrivals.job (leaving_times arrivals.time (column_fates rows kind arrivals.job arrivals.time))
-        (even ∙ sym (leaving-many arrivals.time _ (law rows kind arrivals.job arrivals.time even).even)))
+        (picked-even out (column_outs rows kind (came_in arrivals)) arrivals.job (leaving_times arrivals.time (column_fates rows kind (came_in arrivals)))
+        (even ∙ sym (leaving-many arrivals.time _ (law rows kind (came_in arrivals) even).even)))
 
 -- put in the order of leaving it is the streams of the columns
 pub left-streams : (rows : Rows) (kind : Kind) (arrivals : Stream) (streams ordered : List Stream) → AreLeft rows kind arrivals streams → ordered ≡ map (stream_in_order kind) streams → AreStreams rows kind arrivals ordered
@@ -60,7 +61,7 @@ pub seen-turn : (rows : Rows) (kind : Kind) (arrivals : Stream) (fates : List Fa
 seen-turn rows kind arrivals fates found streams ordered left f o =
     record {
       columns =
-          let founds : found ≡ founds_of arrivals.time (column_fates rows kind arrivals.job arrivals.time) = f ∙ ap (founds_of arrivals.time) left.leave in
+          let founds : found ≡ founds_of arrivals.time (column_fates rows kind (came_in arrivals)) = f ∙ ap (founds_of arrivals.time) left.leave in
           λ k. record { job = arrivals.job; arrive = arrivals.time; found = founds k; fate = left.leave k };
       outflow = left-streams rows kind arrivals streams ordered left.outflow o;
     }

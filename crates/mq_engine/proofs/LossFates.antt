@@ -5,6 +5,7 @@ use Rattle.std.proofs.lemmas.Bool.{and_parts}
 use Rattle.std.proofs.lemmas.Bool.Decides.{nat_tests}
 use Rattle.std.proofs.lemmas.List.{append-nil, drop_all, length-map}
 use Rattle.mq_base.proofs.Lists.{drop_suc}
+use Rattle.mq_core.specs.Came.{came_in}
 use Rattle.mq_core.specs.ColumnLaws.{FatesAreInTime}
 use Rattle.mq_core.specs.Columns.{column_fates, leaving_times, picked}
 use Rattle.mq_core.specs.Kinds.Loss.{out_of_fate}
@@ -120,7 +121,7 @@ fates-back (Departs time ∷ fates) = ap (λ l. Departs time ∷ l) (fates-back 
 fates-back (Lost ∷ fates) = ap (λ l. Lost ∷ l) (fates-back fates)
 
 pub settled-fates : (rows : Rows) (places : ℕ) (demand : Demand) (arrivals : Stream) (demands : List ℕ) (settled : Settled) (fates : List Fate) → demands ≡ map (demand_of_job rows demand) arrivals.job → IsSettled places arrivals.time demands settled → fates ≡ fates_by settled.admitted settled.departs →
-    fates ≡ column_fates rows (Loss places demand) arrivals.job arrivals.time
+    fates ≡ column_fates rows (Loss places demand) (came_in arrivals)
 settled-fates rows places demand arrivals demands settled fates m s f =
     f ∙ ((λ k. fates_by (s.admitted k) (s.departs k)) ∙ (fates-back (loss_fates places [] arrivals.time demands) ∙ ap (loss_fates places [] arrivals.time) m))
 
@@ -152,7 +153,7 @@ admitted-many (one ∷ job) (Lost ∷ fates) e = admitted-many job fates (omega 
 
 -- a settled station: its fates, as many as there are arrivals
 settled-is : (rows : Rows) (places : ℕ) (demand : Demand) (arrivals : Stream) (demands : List ℕ) → demands ≡ map (demand_of_job rows demand) arrivals.job →
-    loss_fates places [] arrivals.time demands ≡ column_fates rows (Loss places demand) arrivals.job arrivals.time
+    loss_fates places [] arrivals.time demands ≡ column_fates rows (Loss places demand) (came_in arrivals)
 settled-is rows places demand arrivals demands m = ap (loss_fates places [] arrivals.time) m
 
 -- there is one answer an arrival, and a departure for each that is admitted
@@ -165,7 +166,7 @@ pub settled-even : FatesAreInTime → (rows : Rows) (places : ℕ) (demand : Dem
     IsEven arrivals settled
 settled-even law rows places demand arrivals demands settled e m s =
     let fates : List Fate = loss_fates places [] arrivals.time demands in
-    let many : length fates ≡ length arrivals.time = ap length (settled-is rows places demand arrivals demands m) ∙ (law rows (Loss places demand) arrivals.job arrivals.time e).even in
+    let many : length fates ≡ length arrivals.time = ap length (settled-is rows places demand arrivals demands m) ∙ (law rows (Loss places demand) (came_in arrivals) e).even in
     let answers : length settled.admitted ≡ length fates = ap length s.admitted ∙ length-map fates admits in
     record {
       jobs = e ∙ sym (answers ∙ many);
@@ -183,10 +184,10 @@ loses law rows places demand arrivals demands settled fates streams even m s f e
     }
   where
     those : List Fate
-    those = column_fates rows (Loss places demand) arrivals.job arrivals.time
+    those = column_fates rows (Loss places demand) (came_in arrivals)
 
     many : length those ≡ length arrivals.time
-    many = (law rows (Loss places demand) arrivals.job arrivals.time even).even
+    many = (law rows (Loss places demand) (came_in arrivals) even).even
 
     same : loss_fates places [] arrivals.time demands ≡ those
     same = settled-is rows places demand arrivals demands m

@@ -10,6 +10,7 @@ use Rattle.std.proofs.lemmas.List.{length-map, length-set}
 use Rattle.std.proofs.lemmas.Option.{slice_get_within}
 use Rattle.mq_base.proofs.Lists.{some_inj}
 use Rattle.mq_core.proofs.Lists.Each.{Each-weaker}
+use Rattle.mq_core.specs.Came.{came_by, came_in, came_of}
 use Rattle.mq_core.specs.ColumnLaws.{arrives_of, jobs_of}
 use Rattle.mq_core.specs.Columns.{IsStream, by_first, column_fates, column_late, column_late_from, column_outs, column_stream, column_visits, leaving_times, picked, pairs_of, rows_at, streams_below}
 use Rattle.mq_core.specs.Results.{Late as LateVisit, first_of, stream_from, visits_of}
@@ -122,18 +123,19 @@ loaded laws plan rows outputs v node arrivals read early can there s e =
 made : (laws : CoreLaws) (plan : Plan) (rows : Rows) (v : ℕ) (node : Node) (arrivals : Stream) (came : Visits) (left : List Stream) → IsReadFor plan.net rows → slice_get plan.net.nodes v ≡ Some node → IsArrived plan rows v arrivals → IsTurn rows node.kind arrivals came left →
     (came ≡ visits_of node.kind ((run_of plan rows).stations v)) × (left ≡ streams_below (run_of plan rows) v (outputs_in node.kind))
 made laws plan rows v node arrivals came left read there a t =
-    let c = laws.columns plan rows read v node there in (
-      t.columns ∙ ((λ k. column_visits rows node.kind (a.job k) (a.time k)) ∙ sym c.visits),
-      laws.make (run_of plan rows) v (outputs_in node.kind) left t.outflow.count (λ out l. t.outflow.each out l ∙ ((λ k. Some (column_stream rows node.kind (a.job k) (a.time k) out)) ∙ ap Some (sym (c.stream out)))),
+    let c = laws.columns plan rows read v node there in
+    let blind = laws.blind rows node.kind (came_of (length node.inputs) ((run_of plan rows).stations v).visits) in (
+      t.columns ∙ ((λ k. column_visits rows node.kind (came_by (a.job k) (a.time k))) ∙ sym (c.visits ∙ blind.visits)),
+      laws.make (run_of plan rows) v (outputs_in node.kind) left t.outflow.count (λ out l. t.outflow.each out l ∙ ((λ k. Some (column_stream rows node.kind (came_by (a.job k) (a.time k)) out)) ∙ ap Some (sym (c.stream out ∙ blind.stream out)))),
     )
 
 -- its late visits are those of the run
 pub same-late : (laws : CoreLaws) (plan : Plan) (rows : Rows) (v : ℕ) (node : Node) (arrivals : Stream) (first : Option LateVisit) → IsReadFor plan.net rows → slice_get plan.net.nodes v ≡ Some node → IsArrived plan rows v arrivals →
-    first_of (column_late_from plan.net.bound v 0 (column_fates rows node.kind arrivals.job arrivals.time)) ≡ first →
+    first_of (column_late_from plan.net.bound v 0 (column_fates rows node.kind (came_in arrivals))) ≡ first →
     first_of (column_late plan.net.bound v (visits_of node.kind ((run_of plan rows).stations v))) ≡ first
 same-late laws plan rows v node arrivals first read there a h =
-    ap (λ (x : Visits). first_of (column_late plan.net.bound v x)) (laws.columns plan rows read v node there).visits
-    ∙ ((λ k. first_of (column_late_from plan.net.bound v 0 (column_fates rows node.kind (sym a.job k) (sym a.time k)))) ∙ h)
+    ap (λ (x : Visits). first_of (column_late plan.net.bound v x)) ((laws.columns plan rows read v node there).visits ∙ (laws.blind rows node.kind (came_of (length node.inputs) ((run_of plan rows).stations v).visits)).visits)
+    ∙ ((λ k. first_of (column_late_from plan.net.bound v 0 (column_fates rows node.kind (came_by (sym a.job k) (sym a.time k))))) ∙ h)
 
 within-limits : (plan : Plan) → (length plan.net.nodes ≤ 64) × (plan.net.bound ≤ 2 ^ 60)
 within-limits plan =
@@ -179,15 +181,15 @@ order-few plan =
 
 -- the streams of a node whose visits are on time are early
 left-early : (laws : CoreLaws) (plan : Plan) (rows : Rows) (v : ℕ) (node : Node) (arrivals : Stream) (left : List Stream) → EarlyTimes arrivals.time → AreStreams rows node.kind arrivals left →
-    first_of (column_late_from plan.net.bound v 0 (column_fates rows node.kind arrivals.job arrivals.time)) ≡ None → (out : ℕ) (stream : Stream) → slice_get left out ≡ Some stream → EarlyTimes stream.time
+    first_of (column_late_from plan.net.bound v 0 (column_fates rows node.kind (came_in arrivals))) ≡ None → (out : ℕ) (stream : Stream) → slice_get left out ≡ Some stream → EarlyTimes stream.time
 left-early laws plan rows v node arrivals left came t h out stream e =
     let inside : out < outputs_in node.kind = subst (λ m. out < m) t.count (slice_get_within left out stream e) in
     let bound = bound-within plan in
     subst (λ (s : Stream). EarlyTimes s.time) (some_inj _ _ (sym (t.each out inside) ∙ e))
-    ((laws.keeps node.kind (record { job = picked out (column_outs rows node.kind arrivals.job arrivals.time) arrivals.job; time = picked out (column_outs rows node.kind arrivals.job arrivals.time) (leaving_times arrivals.time (column_fates rows node.kind arrivals.job arrivals.time)) })).times (2 ^ 60)
-    (picked-early out (column_outs rows node.kind arrivals.job arrivals.time) (leaving_times arrivals.time (column_fates rows node.kind arrivals.job arrivals.time))
-    (leaving-early arrivals.time (column_fates rows node.kind arrivals.job arrivals.time) came
-    (Each-weaker (λ time. time ≤ plan.net.bound) (λ time. time ≤ 2 ^ 60) (λ time l. omega arith) _ (none-late plan.net.bound v 0 (column_fates rows node.kind arrivals.job arrivals.time) h)))))
+    ((laws.keeps node.kind (record { job = picked out (column_outs rows node.kind (came_in arrivals)) arrivals.job; time = picked out (column_outs rows node.kind (came_in arrivals)) (leaving_times arrivals.time (column_fates rows node.kind (came_in arrivals))) })).times (2 ^ 60)
+    (picked-early out (column_outs rows node.kind (came_in arrivals)) (leaving_times arrivals.time (column_fates rows node.kind (came_in arrivals)))
+    (leaving-early arrivals.time (column_fates rows node.kind (came_in arrivals)) came
+    (Each-weaker (λ time. time ≤ plan.net.bound) (λ time. time ≤ 2 ^ 60) (λ time l. omega arith) _ (none-late plan.net.bound v 0 (column_fates rows node.kind (came_in arrivals)) h)))))
 
 left-ordered : (laws : CoreLaws) (plan : Plan) (rows : Rows) (v outs out : ℕ) (left : List Stream) (stream : Stream) → left ≡ streams_below (run_of plan rows) v outs → length left ≡ outs → slice_get left out ≡ Some stream → IsStream stream
 left-ordered laws plan rows v outs out left stream e count g =

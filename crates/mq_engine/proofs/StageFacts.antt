@@ -9,6 +9,7 @@ use Rattle.std.proofs.lemmas.List.Elements.{All-get_or}
 use Rattle.std.proofs.lemmas.Option.{get_or_from_slice_get, slice_get_within}
 use Rattle.mq_base.proofs.Lists.{sum-cons}
 use Rattle.mq_core.proofs.Lists.Each.{Each-flat_map, Each-map, Each-weaker}
+use Rattle.mq_core.specs.Came.{came_in}
 use Rattle.mq_core.specs.ColumnLaws.{FatesAreInTime}
 use Rattle.mq_core.specs.Columns.{IsSoundLoad, IsStream, column_fates}
 use Rattle.mq_core.specs.Handling.{demand_of_job}
@@ -193,8 +194,8 @@ times-of columns rows (stage ∷ stages) jobs arrives h =
     λ k. tandem_departs (map (λ (s : Stage). s.places) (stage ∷ stages)) (none-each (stage ∷ stages) k) arrives (column-each (λ demand. map (demand_of_job rows demand) jobs) (stage ∷ stages) k)
 
 -- there is one time an arrival
-times-many : FatesAreInTime → (rows : Rows) (kind : Kind) (arrivals : Stream) (times : List ℕ) → length arrivals.job ≡ length arrivals.time → column_fates rows kind arrivals.job arrivals.time ≡ map (λ time. Departs time) times → length times ≡ length arrivals.job
-times-many law rows kind arrivals times e f = sym (length-map times (λ time. Departs time)) ∙ (ap length (sym f) ∙ ((law rows kind arrivals.job arrivals.time e).even ∙ sym e))
+times-many : FatesAreInTime → (rows : Rows) (kind : Kind) (arrivals : Stream) (times : List ℕ) → length arrivals.job ≡ length arrivals.time → column_fates rows kind (came_in arrivals) ≡ map (λ time. Departs time) times → length times ≡ length arrivals.job
+times-many law rows kind arrivals times e f = sym (length-map times (λ time. Departs time)) ∙ (ap length (sym f) ∙ ((law rows kind (came_in arrivals) e).even ∙ sym e))
 
 pub goes-through : FatesAreInTime → (columns : ℕ) (rows : Rows) (stages : List Stage) (arrivals : Stream) (asked : List Demand) (demands : List (List ℕ)) (places departs : List ℕ) (fates : List Fate) (streams : List Stream) → are_sound_stages columns stages ≡ true → IsStream arrivals →
     asked ≡ map (λ (s : Stage). s.demand) stages → demands ≡ map (λ demand. map (demand_of_job rows demand) arrivals.job) asked → places ≡ map (λ (s : Stage). s.places) stages → departs ≡ tandem_departs places (map (λ _. []) places) arrivals.time demands →
@@ -202,7 +203,7 @@ pub goes-through : FatesAreInTime → (columns : ℕ) (rows : Rows) (stages : Li
 goes-through law columns rows stages arrivals asked demands places departs fates streams h s a m p d turn =
     let by : departs ≡ tandem_times rows stages arrivals.job arrivals.time =
     d ∙ ((λ k. tandem_departs (p k) (map (λ _. []) (p k)) arrivals.time ((m ∙ ap (map (λ demand. map (demand_of_job rows demand) arrivals.job)) a) k)) ∙ times-of columns rows stages arrivals.job arrivals.time h) in
-    let same : column_fates rows (Tandem stages) arrivals.job arrivals.time ≡ map (λ time. Departs time) departs = ap (map (λ time. Departs time)) (sym by) in
+    let same : column_fates rows (Tandem stages) (came_in arrivals) ≡ map (λ time. Departs time) departs = ap (map (λ time. Departs time)) (sym by) in
     record {
       leave = turn.fate ∙ sym same;
       outflow = one-stream rows (Tandem stages) arrivals departs streams s.even refl refl same (times-many law rows (Tandem stages) arrivals departs s.even same) turn.stream;
@@ -228,7 +229,7 @@ pub goes-abreast : FatesAreInTime → (rows : Rows) (branches : List (List Deman
 goes-abreast law rows branches arrivals asked demands servers departs fates streams s a m p d turn =
     let by : departs ≡ fork_departs arrivals.time (branch_demands rows branches arrivals.job) =
     d ∙ ((λ k. fork_departs arrivals.time (branches_of (p k) ((m ∙ ap (map (λ demand. map (demand_of_job rows demand) arrivals.job)) a) k))) ∙ ap (fork_departs arrivals.time) (branches-back (λ demand. map (demand_of_job rows demand) arrivals.job) branches)) in
-    let same : column_fates rows (ForkJoin branches) arrivals.job arrivals.time ≡ map (λ time. Departs time) departs = ap (map (λ time. Departs time)) (sym by) in
+    let same : column_fates rows (ForkJoin branches) (came_in arrivals) ≡ map (λ time. Departs time) departs = ap (map (λ time. Departs time)) (sym by) in
     record {
       leave = turn.fate ∙ sym same;
       outflow = one-stream rows (ForkJoin branches) arrivals departs streams s.even refl refl same (times-many law rows (ForkJoin branches) arrivals departs s.even same) turn.stream;

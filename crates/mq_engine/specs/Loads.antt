@@ -1,5 +1,6 @@
 -- What comes to the nodes that are ready, and what the pieces of a round are.
 use Rattle.std.specs.Prelude.{◌≡◌, ◌≤◌, ◌+◌, ◌-◌, ◌*◌, ℕ, List, Contains, length, map, min, Option, Some, None, slice_get}
+use Rattle.mq_core.specs.Came.{came_in}
 use Rattle.mq_core.specs.ColumnLaws.{arrives_of, jobs_of}
 use Rattle.mq_core.specs.Columns.{column_fates, column_late_from, founds_of}
 use Rattle.mq_core.specs.Handling.{demand_of_job}
@@ -81,9 +82,9 @@ size_of blocks b = min ((b + 1) * blocks.block) blocks.n - b * blocks.block
 abbrev pub IsAfter : Network → Rows → ℕ → Kind → Stream → After → Type 0
 IsAfter net rows v kind arrivals (Seen fates found streams) =
     IsLeaving rows kind arrivals fates streams × (found ≡ founds_of arrivals.time fates)
-    × (first_of (column_late_from net.bound v 0 (column_fates rows kind arrivals.job arrivals.time)) ≡ None)
+    × (first_of (column_late_from net.bound v 0 (column_fates rows kind (came_in arrivals))) ≡ None)
 IsAfter net rows v kind arrivals (Missed fault) =
-    first_of (column_late_from net.bound v 0 (column_fates rows kind arrivals.job arrivals.time)) ≡ Some (late_told fault)
+    first_of (column_late_from net.bound v 0 (column_fates rows kind (came_in arrivals))) ≡ Some (late_told fault)
 
 -- the same at a node of the plan
 abbrev pub IsAfterAt : Plan → Rows → ℕ → Stream → After → Type 0
@@ -140,10 +141,10 @@ closings_of (Served departs) = 3
 abbrev pub IsShut : Plan → Rows → ℕ → Stream → List ℕ → ℕ → Closed → Type 0
 IsShut plan rows v arrivals departs b (Fates fates) =
     (b ≡ 0) × (fates ≡ map (λ time. Departs time) departs)
-    × ((node : Node) → slice_get plan.net.nodes v ≡ Some node → first_of (column_late_from plan.net.bound v 0 (column_fates rows node.kind arrivals.job arrivals.time)) ≡ None)
+    × ((node : Node) → slice_get plan.net.nodes v ≡ Some node → first_of (column_late_from plan.net.bound v 0 (column_fates rows node.kind (came_in arrivals))) ≡ None)
 IsShut plan rows v arrivals departs b (Over fault) =
     (b ≡ 0)
-    × ((node : Node) → slice_get plan.net.nodes v ≡ Some node → first_of (column_late_from plan.net.bound v 0 (column_fates rows node.kind arrivals.job arrivals.time)) ≡ Some (late_told fault))
+    × ((node : Node) → slice_get plan.net.nodes v ≡ Some node → first_of (column_late_from plan.net.bound v 0 (column_fates rows node.kind (came_in arrivals))) ≡ Some (late_told fault))
 IsShut plan rows v arrivals departs b (Found found) = (b ≡ 1) × (found ≡ founds_of arrivals.time (map (λ time. Departs time) departs))
 IsShut plan rows v arrivals departs b (Jobs jobs) = (b ≡ 2) × (jobs ≡ arrivals.job)
 

@@ -1,6 +1,7 @@
 -- How far a run has come: which nodes are done, which of them may be worked out next, and what that gives.
 use Rattle.std.specs.Prelude.{◌≡◌, ◌<◌, ◌&&◌, ℕ, Bool, true, false, List, length, Option, Some, None, slice_get, slice_set}
 use Rattle.std.specs.List.{AllByRecursion, list_all, zip}
+use Rattle.mq_core.specs.Came.{came_in}
 use Rattle.mq_core.specs.ColumnLaws.{arrives_of, jobs_of}
 use Rattle.mq_core.specs.Columns.{by_first, column_fates, column_late, column_late_from, streams_below}
 use Rattle.mq_core.specs.Results.{first_of, visits_of}
@@ -70,9 +71,9 @@ CanWorkAll plan rows outputs ready = (k v : ℕ) → slice_get ready k ≡ Some 
 -- how the turn of a node ends: with the columns of its arrivals, none of them late, or with the first late visit
 abbrev pub IsEnding : Network → Rows → ℕ → Kind → Stream → Ending → Type 0
 IsEnding net rows v kind arrivals (OnTime visits streams) =
-    IsTurn rows kind arrivals visits streams × (first_of (column_late_from net.bound v 0 (column_fates rows kind arrivals.job arrivals.time)) ≡ None)
+    IsTurn rows kind arrivals visits streams × (first_of (column_late_from net.bound v 0 (column_fates rows kind (came_in arrivals))) ≡ None)
 IsEnding net rows v kind arrivals (TooLate fault) =
-    first_of (column_late_from net.bound v 0 (column_fates rows kind arrivals.job arrivals.time)) ≡ Some (late_told fault)
+    first_of (column_late_from net.bound v 0 (column_fates rows kind (came_in arrivals))) ≡ Some (late_told fault)
 
 -- what is known of a node, as the run has it
 abbrev pub IsKnown : Plan → Rows → ℕ → Node → Ending → Type 0

@@ -1,6 +1,7 @@
 -- What one turn of the engine makes of a node, in columns alone.
 use Rattle.std.specs.Prelude.{◌≡◌, ◌<◌, ◌≤◌, ◌^◌, ℕ, IsTrue, if◌then◌else◌, List, [], ◌∷◌, length, map, Option, Some, None, slice_get}
 use Rattle.std.specs.List.{AllByRecursion, flat_map}
+use Rattle.mq_core.specs.Came.{came_in}
 use Rattle.mq_core.specs.Columns.{IsStream, pairs_of, rows_at, column_fates, column_outs, column_stream, column_visits, leaving_times, picked}
 use Rattle.mq_core.specs.PlanLaws.{Tells}
 use Rattle.mq_core.specs.Sound.{is_sound_kind, outputs_in}
@@ -60,15 +61,15 @@ pub record IsLoad (net : Network) (rows : Rows) (kind : Kind) (arrivals : Stream
 -- the streams are those of the columns, one per output
 pub record AreStreams (rows : Rows) (kind : Kind) (arrivals : Stream) (streams : List Stream) : Type 0 where
   pub count : length streams ≡ outputs_in kind
-  pub each : (out : ℕ) → out < outputs_in kind → slice_get streams out ≡ Some (column_stream rows kind arrivals.job arrivals.time out)
+  pub each : (out : ℕ) → out < outputs_in kind → slice_get streams out ≡ Some (column_stream rows kind (came_in arrivals) out)
 
 -- what leaves by an output, by position: at a delay it is not in the order of leaving yet
 abbrev pub left_by : Rows → Kind → Stream → ℕ → Stream
 left_by rows kind arrivals out =
-    let outs = column_outs rows kind arrivals.job arrivals.time in
+    let outs = column_outs rows kind (came_in arrivals) in
     record {
       job = picked out outs arrivals.job;
-      time = picked out outs (leaving_times arrivals.time (column_fates rows kind arrivals.job arrivals.time));
+      time = picked out outs (leaving_times arrivals.time (column_fates rows kind (came_in arrivals)));
     }
 
 -- what leaves by each output, by position
@@ -78,7 +79,7 @@ pub record AreLeft (rows : Rows) (kind : Kind) (arrivals : Stream) (streams : Li
 
 -- what leaves a station: the fate of each arrival, and what leaves by each output, by position
 pub record IsLeaving (rows : Rows) (kind : Kind) (arrivals : Stream) (fates : List Fate) (streams : List Stream) : Type 0 where
-  pub leave : fates ≡ column_fates rows kind arrivals.job arrivals.time
+  pub leave : fates ≡ column_fates rows kind (came_in arrivals)
   pub outflow : AreLeft rows kind arrivals streams
 
 -- what leaves by one output, where these jobs depart at these times and keep their order
@@ -88,5 +89,5 @@ pub record LeaveInTurn (jobs departs : List ℕ) (fates : List Fate) (streams : 
 
 -- what a turn makes of a node: the columns of its arrivals
 pub record IsTurn (rows : Rows) (kind : Kind) (arrivals : Stream) (visits : Visits) (streams : List Stream) : Type 0 where
-  pub columns : visits ≡ column_visits rows kind arrivals.job arrivals.time
+  pub columns : visits ≡ column_visits rows kind (came_in arrivals)
   pub outflow : AreStreams rows kind arrivals streams

@@ -1,5 +1,6 @@
 // The turn of a node, from its arrivals to its visits and what leaves it.
 ghost use Rattle.std.specs.Prelude.{◌≡◌, ◌≤◌, All, length, map, IfOk};
+ghost use Rattle.mq_core.specs.Came.{came_in};
 ghost use Rattle.mq_core.specs.Columns.{IsStream, by_first, column_fates, founds_of, pairs_of, stream_in_order};
 ghost use Rattle.mq_core.specs.Sound.{outputs_in};
 ghost use Rattle.mq_engine.specs.Loads.{IsAfter};
@@ -165,7 +166,7 @@ pub fn found_at(
 ) -> Result<List<u32>, OutOfMemory>
     requires stream { IsStream arrivals.now }
     requires few { length arrivals.now.time ≤ 1048576 }
-    requires fates { fates.now ≡ column_fates rows.now kind.now arrivals.now.job arrivals.now.time }
+    requires fates { fates.now ≡ column_fates rows.now kind.now (came_in arrivals.now) }
     ensures { IfOk result (λ found. found ≡ founds_of arrivals.now.time fates.now) }
 {
     fates_are_in_time();

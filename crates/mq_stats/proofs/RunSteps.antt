@@ -4,6 +4,7 @@ use Rattle.std.specs.Prelude.{All, ◌==◌, if◌then◌else◌}
 use Rattle.std.specs.List.{AllByRecursion as Each}
 use Rattle.std.proofs.lemmas.List.Elements.{All-nil, All-cons}
 use Rattle.std.proofs.lemmas.List.Sums.{count_by-le-length}
+use Rattle.mq_core.specs.Came.{Came}
 use Rattle.mq_core.specs.Columns.{column_visits, departs_after, founds_from, leaving_times, picked}
 use Rattle.mq_core.specs.declared.model.Fate.{Fate}
 use Rattle.mq_core.specs.declared.model.Kind.{Kind}
@@ -23,10 +24,10 @@ founds-small limit before (arrive ∷ arrives) (fate ∷ fates) l =
     let few = count_by-le-length (departs_after arrive) before in
     All-cons (λ found. found ≤ limit) _ _ (omega arith) (founds-small limit (before ++ fate ∷ []) arrives fates (omega arith))
 
-pub columns-small : (rows : Rows) (kind : Kind) (jobs arrives : List ℕ) (visits : Visits) → visits ≡ column_visits rows kind jobs arrives → length arrives ≤ 1048576 → All (λ found. found ≤ 1048576) visits.found
-columns-small rows kind jobs arrives visits e l =
-    let columns = column_visits rows kind jobs arrives in
-    subst (All (λ found. found ≤ 1048576)) (sym (ap (λ v. v.found) e)) (founds-small 1048576 [] arrives columns.fate (omega arith))
+pub columns-small : (rows : Rows) (kind : Kind) (came : Came) (visits : Visits) → visits ≡ column_visits rows kind came → length came.arrive ≤ 1048576 → All (λ found. found ≤ 1048576) visits.found
+columns-small rows kind came visits e l =
+    let columns = column_visits rows kind came in
+    subst (All (λ found. found ≤ 1048576)) (sym (ap (λ v. v.found) e)) (founds-small 1048576 [] came.arrive columns.fate (omega arith))
 
 -- what is picked is among the items, and no more
 pub Each-picked : (P : ℕ → Type 0) (out : ℕ) (outs items : List ℕ) → Each P items → Each P (picked out outs items)

@@ -3,7 +3,7 @@ use Rattle.mq_core.specs.Came.{came_of}
 use Rattle.std.proofs.Common.{Bool, List, Some, [], ap, arith, cond, eqb, false, inl, inr, length, map, refl, suc, sym, true, zero, zero-add, ℕ, ◌<◌, ◌∙◌, ◌∷◌, ◌≡◌, ◌≤◌}
 use Rattle.std.specs.List.{zip}
 use Rattle.std.specs.Prelude.{slice_get}
-use Rattle.mq_core.specs.ColumnLaws.{NodesAreColumns, arrives_of, jobs_of}
+use Rattle.mq_core.specs.ColumnLaws.{ColumnsAreBlind, NodesAreColumns, arrives_of, jobs_of}
 use Rattle.mq_core.specs.Columns.{column_fates, column_outs, column_stream, column_visits, stream_in_order}
 use Rattle.mq_core.specs.Fates.{fate_by}
 use Rattle.mq_core.specs.KindTable.{behaviour_of}
@@ -138,4 +138,13 @@ nodes-are-columns plan rows read v node e =
     record {
       visits = station-visits rows (length node.inputs) node.kind ((run_of plan rows).stations v) flow rise (founds-are-counts plan rows read v (some-inside plan.net.nodes v node e));
       stream = λ out. station-stream rows (length node.inputs) node.kind ((run_of plan rows).stations v) out flow rise;
+    }
+
+-- the ports change neither fates nor outputs, from which all else follows
+pub columns-are-blind : ColumnsAreBlind
+columns-are-blind rows kind came =
+    let blind = (recurrence_of rows came.ports kind).blind came in
+    record {
+      visits = λ i. record { job = came.job; arrive = came.arrive; found = founds_of came.arrive (blind.0 i); fate = blind.0 i };
+      stream = λ out i. stream_in_order kind (record { job = picked out (blind.1 i) came.job; time = picked out (blind.1 i) (leaving_times came.arrive (blind.0 i)) });
     }

@@ -1,5 +1,5 @@
 -- What is to be shown of the recurrence of a kind that lets each visit out once: one value a kind, in the kind's folder.
-use Rattle.mq_core.specs.Came.{Came, came_of}
+use Rattle.mq_core.specs.Came.{Came, came_by, came_of}
 use Rattle.std.proofs.Common.{◌≡◌, ℕ, ◌+◌, ◌*◌, ◌^◌, ◌≤◌, true, List, Option, map, length}
 use Rattle.std.specs.List.{AllByRecursion as Each}
 use Rattle.mq_core.specs.Behaviour.{Behaviour}
@@ -38,6 +38,8 @@ pub record RecurrenceLaws (rows : Rows) (ports : ℕ) (b : Behaviour) : Type 0 w
   pub stays : (came : Came) → length came.job ≡ length came.arrive → FatesStay (b.bare rows) came.job came.arrive (b.fates rows came)
   -- each job adds at most the demands of 8 servers
   pub bounded : (net : Network) (came : Came) (limit top : ℕ) → b.sound (length net.columns) ≡ true → b.servers ≤ 8 → Each (λ job. Tells net rows job) came.job → top + length came.arrive * 2 ^ 39 ≤ limit → AreBy top came.arrive → LeaveBy limit (b.fates rows came)
+  -- by which ports jobs came changes nothing
+  pub blind : (came : Came) → (b.fates rows came ≡ b.fates rows (came_by came.job came.arrive)) × (b.outs rows came ≡ b.outs rows (came_by came.job came.arrive))
   -- who leaves later than one comes is there for it
   pub until : (time position : ℕ) (o : Option Emission) → one_if_there b.there time position o ≡ one_if_later time o
   -- what is found goes by the fates

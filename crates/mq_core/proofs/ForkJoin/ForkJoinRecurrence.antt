@@ -35,6 +35,7 @@ fork_join-recurrence rows ports branches =
           let small = all-small rows came.job (flat_map (λ (ds : List Demand). ds) branches) (each-weaker _ _ (λ job (t : Tells net rows job). (t.kind (ForkJoin branches) sound).small) came.job told) in
           departs-by limit (fork_departs came.arrive (branch_demands rows branches came.job))
           (fork-by limit top (length came.arrive) came.arrive (branch_demands rows branches came.job) (omega arith) room (branches-few rows came.job branches few) early (branches-small rows came.job branches small));
+      blind = λ came. (refl, refl);
       until = λ time position o. until-own time position o;
       finds = λ came. refl;
       streams = λ came out. refl;

@@ -40,6 +40,7 @@ loss-recurrence rows ports places demand =
           let s = (and_parts (is_within 1 1048576 places) (is_sound_demand (length net.columns) demand) sound).1 in
           let small = asked-small rows demand came.job (each-weaker _ _ (λ job (t : Tells net rows job). (t.demand demand s).1) came.job told) in
           loss-by limit top top places [] came.arrive (asked rows came.job demand) (omega arith) (omega arith) (omega arith) early small;
+      blind = λ came. (refl, refl);
       until = λ time position o. until-own time position o;
       finds = λ came. refl;
       streams = λ came out. refl;

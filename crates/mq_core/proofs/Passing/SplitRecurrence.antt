@@ -23,6 +23,7 @@ split-recurrence rows ports route =
       in_time = λ came e. at-once came.arrive;
       stays = λ came e. stay-fates (λ _. 0) came.job came.arrive came.arrive (stay-none came.job came.arrive e);
       bounded = λ net came limit top sound few told room early. departs-by limit came.arrive (by-later top limit came.arrive (omega arith) early);
+      blind = λ came. (refl, refl);
       until = λ time position o. until-own time position o;
       finds = λ came. refl;
       streams = λ came out. refl;

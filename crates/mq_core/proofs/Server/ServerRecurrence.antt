@@ -30,6 +30,7 @@ server-recurrence rows ports demand =
       bounded = λ net came limit top sound few told room early.
           let small = asked-small rows demand came.job (each-weaker _ _ (λ job (t : Tells net rows job). (t.demand demand sound).1) came.job told) in
           departs-by limit (lindley 0 came.arrive (asked rows came.job demand)) (lindley-by limit top top 0 came.arrive (asked rows came.job demand) (omega arith) (omega arith) (omega arith) early small);
+      blind = λ came. (refl, refl);
       until = λ time position o. until-own time position o;
       finds = λ came. refl;
       streams = λ came out. refl;

@@ -53,6 +53,7 @@ tandem-recurrence rows ports stages =
       in_time = λ came e. fates-at_least came.arrive (tandem_times rows stages came.job came.arrive) (tandem_times-late rows stages came.job came.arrive);
       stays = λ came e. stay-stages rows stages came.job came.arrive e;
       bounded = λ net came limit top sound few told room early. stages-by net rows stages came.job came.arrive limit top sound few told room early;
+      blind = λ came. (refl, refl);
       until = λ time position o. until-own time position o;
       finds = λ came. refl;
       streams = λ came out. refl;

@@ -1,6 +1,7 @@
 use Rattle.std.proofs.Common.{◌≡◌, ◌<◌, length, ap, ◌∙◌, sym, subst, arith}
 use Rattle.std.specs.Prelude.{All}
 use Rattle.std.proofs.lemmas.List.{length-map}
+use Rattle.mq_core.specs.Came.{came_of}
 use Rattle.mq_core.specs.ColumnLaws.{jobs_of, arrives_of}
 use Rattle.mq_core.specs.Columns.{column_fates, column_outs, leaving_times, picked}
 use Rattle.mq_core.specs.Machine.{Visit}
@@ -13,13 +14,14 @@ returns c plan rows read v node there out =
     let visits = ((run_of plan rows).stations v).visits in
     let jobs = jobs_of visits in
     let arrives = arrives_of visits in
-    let outs = column_outs rows node.kind jobs arrives in
-    let times = leaving_times arrives (column_fates rows node.kind jobs arrives) in
+    let came = came_of (length node.inputs) visits in
+    let outs = column_outs rows node.kind came in
+    let times = leaving_times arrives (column_fates rows node.kind came) in
     let columns = c.nodes_are_columns.ensures plan rows read v node there in
     let same = ap (λ s. s.job) (columns.stream out) in
     let keeps = c.orders_keep_items.ensures node.kind (record { job = picked out outs jobs; time = picked out outs times }) in
     let even : length times ≡ length jobs =
-    leaving-even arrives (column_fates rows node.kind jobs arrives)
+    leaving-even arrives (column_fates rows node.kind came)
     (sym (ap (λ x. length x.fate) columns.visits) ∙ (c.departs_in_time.ensures plan rows read v node there).fates)
     ∙ sym (c.departs_in_time.ensures plan rows read v node there).jobs in
     let long = ap length same in
