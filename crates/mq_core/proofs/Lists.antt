@@ -1,5 +1,3 @@
 pub mod Order
 pub mod Each
-pub mod StageDemands
-pub mod Sums
 pub mod NumberLists

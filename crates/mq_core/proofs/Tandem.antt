@@ -13,3 +13,5 @@ pub mod TandemRecurrence
 pub mod TandemLimits
 pub mod TandemStays
 pub mod TandemBounded
+pub mod TandemShapes
+pub mod TandemDemands

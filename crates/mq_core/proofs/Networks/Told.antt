@@ -1,11 +1,9 @@
 -- That rows which are read for a network tell what each job asks for.
-use Rattle.std.proofs.Common.{List, None, Option, Some, [], arith, length, refl, subst, sym, true, ℕ, ◌<◌, ◌^◌, ◌∷◌, ◌≡◌, ◌≤◌}
+use Rattle.std.proofs.Common.{List, None, Option, Some, arith, length, refl, subst, sym, true, ℕ, ◌<◌, ◌^◌, ◌≡◌, ◌≤◌}
 use Rattle.std.proofs.lemmas.Bool.{and_parts}
 use Rattle.std.proofs.lemmas.Bool.Decides.{nat_tests}
 use Rattle.std.proofs.lemmas.Option.{slice_get-get_or}
-use Rattle.std.specs.List.{AllByRecursion as Each, flat_map, list_all}
-use Rattle.std.specs.Prelude.{nat_le, nat_lt, slice_get, slice_index, ◌&&◌}
-use Rattle.mq_base.proofs.lemmas.Each.{Each-append, Each-weaker}
+use Rattle.std.specs.Prelude.{nat_le, nat_lt, slice_get, slice_index}
 use Rattle.mq_core.specs.Told.{HasDemand, HasValue}
 use Rattle.mq_core.specs.Handling.{column_value, demand_of_job, value_of}
 use Rattle.mq_core.specs.Ranges.{is_sound_demand, is_within}
@@ -14,7 +12,6 @@ use Rattle.mq_core.specs.declared.model.Demand.{Demand}
 use Rattle.mq_core.specs.declared.model.Demand.TheVariants.{Column, Fixed}
 use Rattle.mq_core.specs.declared.model.Network.{Network}
 use Rattle.mq_core.specs.declared.model.Rows.{Rows}
-use Rattle.mq_core.specs.declared.model.Stage.{Stage}
 
 -- a number between two limits
 pub within-most : (low high n : ℕ) → is_within low high n ≡ true → n ≤ high
@@ -41,22 +38,3 @@ pub tells-demand : (net : Network) (rows : Rows) → IsReadFor net rows → (job
 tells-demand net rows read job below (Column column) h =
     tells-value net rows read job below column (let t : nat_lt column (length net.columns) ≡ true = h in grind (arith, nat_tests))
 tells-demand net rows read job below (Fixed demand) h = (tt, let t : nat_le demand (2 ^ 36) ≡ true = h in grind (arith, nat_tests))
-
-pub tells-stages : (net : Network) (rows : Rows) → IsReadFor net rows → (job : ℕ) → job < length rows.source → (stages : List Stage) → Each (λ (stage : Stage). is_sound_demand (length net.columns) stage.demand ≡ true) stages →
-    Each (λ (stage : Stage). HasDemand rows stage.demand job × (demand_of_job rows stage.demand job ≤ 2 ^ 36)) stages
-tells-stages net rows read job below stages h = Each-weaker _ _ (λ (stage : Stage) k. tells-demand net rows read job below stage.demand k) stages h
-
--- the demands of all branches, one after another
-pub tells-demands : (net : Network) (rows : Rows) → IsReadFor net rows → (job : ℕ) → job < length rows.source → (demands : List Demand) → list_all (is_sound_demand (length net.columns)) demands ≡ true → Each (λ demand. HasDemand rows demand job × (demand_of_job rows demand job ≤ 2 ^ 36)) demands
-tells-demands net rows read job below [] h = tt
-tells-demands net rows read job below (d ∷ ds) h =
-    let a = and_parts (is_sound_demand (length net.columns) d) (list_all (is_sound_demand (length net.columns)) ds) h in
-    (tells-demand net rows read job below d a.0, tells-demands net rows read job below ds a.1)
-
-pub tells-branches : (net : Network) (rows : Rows) → IsReadFor net rows → (job : ℕ) → job < length rows.source → (branches : List (List Demand)) → list_all (λ demands. is_within 1 4 (length demands) && list_all (is_sound_demand (length net.columns)) demands) branches ≡ true →
-    Each (λ demand. HasDemand rows demand job × (demand_of_job rows demand job ≤ 2 ^ 36)) (flat_map (λ demands. demands) branches)
-tells-branches net rows read job below [] h = tt
-tells-branches net rows read job below (demands ∷ more) h =
-    let a = and_parts (is_within 1 4 (length demands) && list_all (is_sound_demand (length net.columns)) demands) _ h in
-    let b = and_parts (is_within 1 4 (length demands)) (list_all (is_sound_demand (length net.columns)) demands) a.0 in
-    Each-append _ demands (flat_map (λ ds. ds) more) (tells-demands net rows read job below demands b.1) (tells-branches net rows read job below more a.1)

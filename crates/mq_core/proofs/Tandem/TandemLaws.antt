@@ -9,7 +9,7 @@ use Rattle.mq_core.proofs.Counting.Released.{no_release}
 use Rattle.mq_core.proofs.Counting.Services.{services-count}
 use Rattle.mq_core.proofs.EachKind.KindLaws.{Inside, KindLaws, OnceLaws, OwnLaws, own_out}
 use Rattle.mq_core.proofs.Events.Remaining.{remaining}
-use Rattle.mq_core.proofs.Networks.Soundness.{sound-stages}
+use Rattle.mq_core.proofs.Tandem.TandemShapes.{sound-stages}
 use Rattle.mq_core.proofs.Tandem.TandemBusy.{begun-empty, begun_in, tandeming-busy_arrives, tandeming-busy_ends, tandeming-busy_waits, tandeming-served}
 use Rattle.mq_core.proofs.Tandem.TandemLoad.{held-empty, load-empty, load_in, tandem_arrives-few, tandeming-arrives_falls, tandeming-arrives_more, tandeming-ends_falls, tandeming-fewer, tandeming-shows}
 use Rattle.mq_core.proofs.Tandem.TandemNumbers.{tandem_arrives-out, tandeming-done, tandeming-earlier, tandeming-number}

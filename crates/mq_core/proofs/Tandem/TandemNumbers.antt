@@ -14,7 +14,7 @@ use Rattle.mq_core.specs.declared.model.Rows.{Rows}
 use Rattle.mq_core.proofs.Tandem.TandemFlow.{outs-flow, staying-outs}
 use Rattle.mq_core.proofs.Tandem.TandemStages.{upwards, upwards-length, outs, Blocked, Front, Stages}
 use Rattle.mq_core.proofs.Tandem.TandemTimes.{ended, time_at}
-use Rattle.mq_core.proofs.Networks.Soundness.{LaterPlaces}
+use Rattle.mq_core.proofs.Tandem.TandemShapes.{LaterPlaces}
 use Rattle.mq_core.proofs.Tandem.Tandems.{Tandeming, finish-moves, finish-behind}
 
 pub held-cons : (line : Line) (lines : List Line) → held_in (line ∷ lines) ≡ length line.queue + held_in lines

@@ -19,7 +19,7 @@ use Rattle.mq_core.proofs.Events.Areas.{get-front, get-last}
 use Rattle.mq_core.proofs.Delay.Delays.{CameBefore, place_in}
 use Rattle.mq_core.proofs.Events.Pending.{earliest-splits, earliest-filter, filter-earliest_other}
 use Rattle.mq_core.proofs.Delay.DelayNumbers.{earliest-each}
-use Rattle.mq_core.proofs.Networks.Soundness.{AreStages}
+use Rattle.mq_core.proofs.Tandem.TandemShapes.{AreStages}
 use Rattle.mq_core.proofs.Server.Serves.{latest-push, pair-inj}
 use Rattle.mq_core.proofs.Tandem.TandemTimes.{ended, time_at, times-solve, time-same}
 use Rattle.mq_core.proofs.Tandem.TandemStages.{is_finish_of, Blocked, BlockedUntil, Front, Stages, stages-wait, stages-agree, stages-other, front-other}

@@ -1,6 +1,6 @@
 use Rattle.std.proofs.Common.{◌≡◌, suc, ◌+◌, drop, ap, arith}
 use Rattle.mq_core.specs.Handling.{demand_of_stages}
-use Rattle.mq_core.proofs.Lists.StageDemands.{demands-at, demand-told, demands-most, demands-end}
+use Rattle.mq_core.proofs.Tandem.TandemDemands.{demands-at, demand-told, demands-most, demands-end}
 use Rattle.mq_core.proofs.demands.bare_of_stages.Goals as goal
 
 pub overflow_add-total : goal.overflow_add-total

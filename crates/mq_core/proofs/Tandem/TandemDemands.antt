@@ -4,12 +4,12 @@ use Rattle.std.proofs.Math.Nat.{suc-mul}
 use Rattle.std.proofs.lemmas.List.{length-map}
 use Rattle.std.specs.Prelude.{slice_get}
 use Rattle.std.specs.List.{AllByRecursion as Each}
-use Rattle.mq_base.proofs.lemmas.Lists.{some_inj}
 use Rattle.mq_core.specs.Told.{AreTold, HasDemand}
 use Rattle.mq_core.specs.Handling.{demand_of_job, demand_of_stages}
 use Rattle.mq_core.specs.declared.model.Demand.{Demand}
 use Rattle.mq_core.specs.declared.model.Stage.{Stage}
 use Rattle.mq_core.specs.declared.model.Rows.{Rows}
+use Rattle.mq_base.proofs.Lists.{some_inj}
 
 -- what a stage is asked for
 abbrev pub demand_at_stage : Stage → Demand
