@@ -3,6 +3,7 @@ use Rattle.std.proofs.Common.{List, arith, length, [], true, ℕ, ◌<◌, ◌^�
 use Rattle.std.proofs.lemmas.Bool.{and_parts}
 use Rattle.std.specs.List.{flat_map, AllByRecursion as Each, list_all}
 use Rattle.std.specs.Prelude.{nat_le, ◌&&◌}
+use Rattle.mq_base.proofs.lemmas.Each.{Each-weaker, Each-append}
 use Rattle.mq_core.specs.Kinds.ForkJoin.{fork_join}
 use Rattle.mq_core.specs.Ranges.{is_within, is_sound_demand}
 use Rattle.mq_core.specs.declared.model.Demand.{Demand}
@@ -13,7 +14,6 @@ use Rattle.mq_core.specs.declared.model.Network.{Network}
 use Rattle.mq_core.specs.declared.model.Rows.{Rows}
 use Rattle.mq_core.proofs.EachKind.LimitLaws.{LimitLaws}
 use Rattle.mq_core.proofs.ForkJoin.ForkShapes.{all-servers, branches-shaped}
-use Rattle.mq_core.proofs.Lists.Each.{Each-weaker, Each-append}
 use Rattle.mq_core.proofs.Networks.Told.{within-most, tells-demand}
 
 -- the demands of all branches, one after another

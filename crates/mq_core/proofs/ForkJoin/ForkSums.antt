@@ -4,12 +4,12 @@ use Rattle.std.specs.Prelude.{slice_get}
 use Rattle.std.specs.List.{AllByRecursion as Each, flat_map}
 use Rattle.std.proofs.Math.Nat.{suc-mul}
 use Rattle.std.proofs.lemmas.List.Sums.{sum_by-append, sum_by-cons}
+use Rattle.mq_base.proofs.lemmas.Each.{Each-front, Each-back}
 use Rattle.mq_core.specs.Told.{AreTold}
 use Rattle.mq_core.specs.Handling.{demand_of_job}
 use Rattle.mq_core.specs.declared.model.Demand.{Demand}
 use Rattle.mq_core.specs.declared.model.Rows.{Rows}
-use Rattle.mq_base.proofs.Lists.{drop_at, some_inj}
-use Rattle.mq_core.proofs.Lists.Each.{Each-front, Each-back}
+use Rattle.mq_base.proofs.lemmas.Lists.{drop_at, some_inj}
 
 -- what all have, the one at a place has
 pub each-at : {X : Type 0} (P : X → Type 0) (xs : List X) (i : ℕ) (x : X) → Each P xs → slice_get xs i ≡ Some x → P x

@@ -9,7 +9,7 @@ use Rattle.mq_core.specs.Wiring.{inputs_of, IsReadOnce}
 use Rattle.mq_core.specs.declared.model.Input.{Input}
 use Rattle.mq_core.specs.declared.model.Network.{Network}
 use Rattle.mq_core.specs.declared.model.Node.{Node}
-use Rattle.mq_base.proofs.Lists.{some_inj}
+use Rattle.mq_base.proofs.lemmas.Lists.{some_inj}
 
 abbrev pub pair_of : Input → ℕ × ℕ
 pair_of i = (i.node, i.out)

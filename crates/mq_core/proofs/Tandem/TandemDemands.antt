@@ -9,7 +9,7 @@ use Rattle.mq_core.specs.Handling.{demand_of_job, demand_of_stages}
 use Rattle.mq_core.specs.declared.model.Demand.{Demand}
 use Rattle.mq_core.specs.declared.model.Stage.{Stage}
 use Rattle.mq_core.specs.declared.model.Rows.{Rows}
-use Rattle.mq_base.proofs.Lists.{some_inj}
+use Rattle.mq_base.proofs.lemmas.Lists.{some_inj}
 
 -- what a stage is asked for
 abbrev pub demand_at_stage : Stage → Demand

@@ -2,6 +2,7 @@
 use Rattle.std.proofs.Common.{List, arith, length, true, ℕ, ◌<◌, ◌^◌, ◌≡◌, ◌≤◌}
 use Rattle.std.proofs.lemmas.List.{length-map}
 use Rattle.std.specs.List.{AllByRecursion as Each}
+use Rattle.mq_base.proofs.lemmas.Each.{Each-map, Each-weaker}
 use Rattle.mq_core.specs.Kinds.Tandem.{tandem}
 use Rattle.mq_core.specs.declared.model.Stage.{Stage}
 use Rattle.mq_core.specs.Told.{HasDemand}
@@ -11,7 +12,6 @@ use Rattle.mq_core.specs.Theorems.{IsReadFor}
 use Rattle.mq_core.specs.declared.model.Network.{Network}
 use Rattle.mq_core.specs.declared.model.Rows.{Rows}
 use Rattle.mq_core.proofs.EachKind.LimitLaws.{LimitLaws}
-use Rattle.mq_core.proofs.Lists.Each.{Each-map, Each-weaker}
 use Rattle.mq_core.proofs.Tandem.TandemShapes.{sound-stages, sound-stages_demands}
 use Rattle.mq_core.proofs.Networks.Told.{within-most, tells-demand}
 
