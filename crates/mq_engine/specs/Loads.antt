@@ -110,18 +110,20 @@ IsAfter net rows v kind arrivals (Missed fault) =
 abbrev pub IsAfterAt : Plan → Rows → ℕ → Stream → After → Type 0
 IsAfterAt plan rows v arrivals after = (node : Node) → slice_get plan.net.nodes v ≡ Some node → IsAfter plan.net rows v node.kind arrivals after
 
--- what the jobs of a block of a server do together, and of a tandem
+-- what the jobs of a block of a server do together
 abbrev pub IsServerSum : Stream → ServerScan → ℕ → Affine → Type 0
 IsServerSum arrivals scan b sum = IsSumOf affine_then (job arrivals.time scan.demands) scan.blocks b sum
 
+-- the same of a tandem
 abbrev pub IsTandemSum : Stream → TandemScan → ℕ → List (List Mp) → Type 0
 IsTandemSum arrivals scan b sum = IsSumOf matrix_then (job_matrix scan.places arrivals.time scan.columns) scan.blocks b sum
 
--- the carry before each block of a server, and of a tandem
+-- the last departure of a server before each block
 abbrev pub AreServerCarries : Stream → ServerScan → List Mp → Type 0
 AreServerCarries arrivals scan carries =
     (length carries ≡ scan.blocks.blocks) × AreBefore affine_act Void (job arrivals.time scan.demands) scan.blocks.block carries
 
+-- the latest departures of a tandem before each block
 abbrev pub AreTandemCarries : Stream → TandemScan → List (List Mp) → Type 0
 AreTandemCarries arrivals scan carries =
     (length carries ≡ scan.blocks.blocks) × AreBefore matrix_act (none_kept scan.places) (job_matrix scan.places arrivals.time scan.columns) scan.blocks.block carries
@@ -130,20 +132,22 @@ AreTandemCarries arrivals scan carries =
 abbrev pub latest_of : List ℕ → List Mp → ℕ
 latest_of places carry = mp_or_zero (entry carry (last_row (kept places)))
 
--- when the jobs of a block of a server depart, and of a tandem
+-- when the jobs of a block of a server depart
 abbrev pub AreServerTimes : Stream → ServerScan → ℕ → List ℕ → Type 0
 AreServerTimes arrivals scan b times = AreTimesOf mp_or_zero affine_act Void (job arrivals.time scan.demands) scan.blocks b times
 
+-- the same of a tandem
 abbrev pub AreTandemTimes : Stream → TandemScan → ℕ → List ℕ → Type 0
 AreTandemTimes arrivals scan b times =
     AreTimesOf (latest_of scan.places) matrix_act (none_kept scan.places) (job_matrix scan.places arrivals.time scan.columns) scan.blocks b times
 
--- a first piece that is what the jobs of a block do together
+-- a first piece that is what the jobs of a block of a server do together
 abbrev pub IsServerPart : Stream → ServerScan → ℕ → Part → Type 0
 IsServerPart arrivals scan b (Whole after) = ⊥
 IsServerPart arrivals scan b (Sum sum) = IsServerSum arrivals scan b sum
 IsServerPart arrivals scan b (Product sum) = ⊥
 
+-- the same of a tandem
 abbrev pub IsTandemPart : Stream → TandemScan → ℕ → Part → Type 0
 IsTandemPart arrivals scan b (Whole after) = ⊥
 IsTandemPart arrivals scan b (Sum sum) = ⊥
@@ -167,38 +171,43 @@ IsPart plan rows v arrivals Unscanned b part = IsWholePart plan rows v arrivals 
 IsPart plan rows v arrivals (OfServer scan) b part = IsServerPart arrivals scan b part
 IsPart plan rows v arrivals (OfTandem scan) b part = IsTandemPart arrivals scan b part
 
--- after its first pieces all is known of a station, or the last departure before each block, or the latest departures
+-- after its first pieces all is known of a station
 abbrev pub IsAll : Stage → Type 0
 IsAll (Ended after) = Unit {0}
 IsAll (Last carries) = ⊥
 IsAll (Latest carries) = ⊥
 
+-- the last departure before each block is known
 abbrev pub IsLast : Stage → Type 0
 IsLast (Ended after) = ⊥
 IsLast (Last carries) = Unit {0}
 IsLast (Latest carries) = ⊥
 
+-- the latest departures before each block are known
 abbrev pub IsLatest : Stage → Type 0
 IsLatest (Ended after) = ⊥
 IsLatest (Last carries) = ⊥
 IsLatest (Latest carries) = Unit {0}
 
--- what is known of a station after its first pieces: all, or the carry before each block
+-- what becomes of the arrivals is known
 abbrev pub IsEnded : Plan → Rows → ℕ → Stream → Stage → Type 0
 IsEnded plan rows v arrivals (Ended after) = IsAfterAt plan rows v arrivals after
 IsEnded plan rows v arrivals (Last carries) = ⊥
 IsEnded plan rows v arrivals (Latest carries) = ⊥
 
+-- the last departures before the blocks of a server are known
 abbrev pub IsServerStage : Stream → ServerScan → Stage → Type 0
 IsServerStage arrivals scan (Ended after) = ⊥
 IsServerStage arrivals scan (Last carries) = AreServerCarries arrivals scan carries
 IsServerStage arrivals scan (Latest carries) = ⊥
 
+-- the latest departures before the blocks of a tandem are known
 abbrev pub IsTandemStage : Stream → TandemScan → Stage → Type 0
 IsTandemStage arrivals scan (Ended after) = ⊥
 IsTandemStage arrivals scan (Last carries) = ⊥
 IsTandemStage arrivals scan (Latest carries) = AreTandemCarries arrivals scan carries
 
+-- what is known of a station after its first pieces: all, or the carry before each block
 abbrev pub IsStage : Plan → Rows → ℕ → Stream → Scan → Stage → Type 0
 IsStage plan rows v arrivals Unscanned stage = IsEnded plan rows v arrivals stage
 IsStage plan rows v arrivals (OfServer scan) stage = IsServerStage arrivals scan stage
