@@ -86,10 +86,6 @@ module _ (blocks seats : ℕ) where
       times-of : (xs : List ℕ) (x : ℕ) → Contains xs x → 1 ≤ Rattle.mq_claims.specs.Counts.times x xs
       times-of xs x (j, lt, e) = subst (λ (z : ℕ). 1 ≤ Rattle.mq_claims.specs.Counts.times z xs) e (times-here xs j x lt)
 
--- a word that held 0 gets a value
-abbrev Stored : List ℕ → ℕ → ℕ → List ℕ
-Stored ws a x = set ws a x
-
 pub kept-word : (ws : List ℕ) (a x c y : ℕ) → get_or ws a 0 ≡ 0 → y ≢ 0 → get_or ws c 0 ≡ y → get_or (set ws a x) c 0 ≡ y
 kept-word ws a x c y zero_there ne is = get_or-set_other ws a c x 0 (λ e. ne (sym is ∙ (ap (λ (z : ℕ). get_or ws z 0) e ∙ zero_there))) ∙ is
 

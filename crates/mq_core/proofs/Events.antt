@@ -1,8 +1,7 @@
+pub mod Tables
 pub mod Pending
 pub mod Steps
 pub mod Forward
-pub mod Rising
-pub mod Orders
 pub mod Arrivals
 pub mod Second
 pub mod Third

@@ -1,3 +1,4 @@
+pub mod lemmas
 pub mod Lists
 pub mod Events
 pub mod Networks

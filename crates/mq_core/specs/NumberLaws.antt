@@ -30,15 +30,6 @@ SpanIsColumns =
     (plan : Plan) (rows : Rows) → IsReadFor plan.net rows →
     (run_of plan rows).clock ≡ column_span (visits_by_node (run_of plan rows) 0 plan.net.nodes)
 
--- the late visits of a node of a plan, of which these are the columns
-abbrev pub late_in : Plan → ℕ → Option Visits → List Late
-late_in plan v None = []
-late_in plan v (Some visits) = column_late plan.net.bound v visits
-
--- the late visits of the run, by rank of the node and then position
-abbrev pub run_late : Plan → Rows → List ℕ → List Late
-run_late plan rows order = flat_map (λ v. late_in plan v (slice_get (visits_by_node (run_of plan rows) 0 plan.net.nodes) v)) order
-
 -- none of the first nodes, as many as this by rank, has a late visit
 abbrev pub IsOnTimeBelow : Plan → Rows → ℕ → Type 0
 IsOnTimeBelow plan rows rank =

@@ -1,5 +1,4 @@
 pub mod Merging
-pub mod Lists
 pub mod Moves
 pub mod Sorted
 pub mod CoRanks

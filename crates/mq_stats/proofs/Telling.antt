@@ -8,17 +8,17 @@ use Rattle.std.proofs.lemmas.Bool.Decides.{nat_tests}
 use Rattle.std.proofs.lemmas.List.{append-nil, length-take, length-take-le, take-set, take_more_set}
 use Rattle.std.proofs.lemmas.List.Sums.{sum_by-append, sum_by-take-drop, count_by-le-length}
 use Rattle.std.proofs.lemmas.Option.{slice_get_within}
+use Rattle.mq_core.proofs.lemmas.Orders.{firsts-order}
 use Rattle.mq_base.proofs.lemmas.Lists.{get-last, get-push, some_inj}
 use Rattle.mq_base.proofs.lemmas.Zips.{zip-drop}
 use Rattle.mq_base.proofs.lemmas.Each.{Each-weaker}
 use Rattle.mq_core.proofs.Events.Rising.{Rises-in_order_of}
+use Rattle.mq_core.proofs.lemmas.Rising.{Rises-in_order_of, Rises-drop}
 use Rattle.mq_core.specs.ColumnLaws.{LeavesFrom}
 use Rattle.mq_core.specs.Columns.{by_first, departs_after, founds_from, founds_of}
 use Rattle.mq_core.specs.Laws.{Rises, in_order_of}
 use Rattle.mq_core.specs.declared.model.Fate.{Fate}
 use Rattle.mq_core.specs.declared.model.Fate.TheVariants.{Departs, Lost}
-use Rattle.mq_merge.proofs.Lists.{Rises-drop}
-use Rattle.mq_merge.proofs.Sorted.{firsts-order}
 use Rattle.mq_stats.proofs.Counts.{count-cons}
 use Rattle.mq_stats.proofs.Founds.{founds-next, rises-at}
 use Rattle.mq_stats.proofs.Ordered.{as-many}

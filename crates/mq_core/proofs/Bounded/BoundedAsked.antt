@@ -1,22 +1,12 @@
 -- What jobs ask for, each at most 2^36.
-use Rattle.std.proofs.Common.{List, [], map, ℕ, ◌++◌, ◌^◌, ◌∷◌, ◌≤◌}
-use Rattle.std.specs.List.{AllByRecursion as Each}
+use Rattle.std.proofs.Common.{List, [], map, ℕ, ◌++◌, ◌^◌, ◌∷◌, ◌≤◌, arith, length, length-append}
+use Rattle.std.specs.List.{AllByRecursion as Each, flat_map}
+use Rattle.std.proofs.lemmas.List.{length-map}
+use Rattle.mq_base.proofs.lemmas.Each.{Each-weaker, Each-front, Each-back}
 use Rattle.mq_core.specs.Handling.{demand_of_job}
 use Rattle.mq_core.specs.declared.model.Demand.{Demand}
 use Rattle.mq_core.specs.declared.model.Rows.{Rows}
 use Rattle.mq_core.proofs.Bounded.BoundedStations.{AreSmall}
-
-pub each-weaker : {X : Type 0} (P Q : X → Type 0) → ((x : X) → P x → Q x) → (xs : List X) → Each P xs → Each Q xs
-each-weaker P Q f [] h = tt
-each-weaker P Q f (x ∷ xs) h = (f x h.0, each-weaker P Q f xs h.1)
-
-pub each-front : {X : Type 0} (P : X → Type 0) (xs ys : List X) → Each P (xs ++ ys) → Each P xs
-each-front P [] ys h = tt
-each-front P (x ∷ xs) ys h = (h.0, each-front P xs ys h.1)
-
-pub each-back : {X : Type 0} (P : X → Type 0) (xs ys : List X) → Each P (xs ++ ys) → Each P ys
-each-back P [] ys h = h
-each-back P (x ∷ xs) ys h = each-back P xs ys h.1
 
 -- what these jobs ask for
 abbrev pub asked : Rows → List ℕ → Demand → List ℕ
@@ -30,4 +20,4 @@ asked-small rows demand (job ∷ jobs) h = (h.0, asked-small rows demand jobs h.
 pub all-small : (rows : Rows) (jobs : List ℕ) (demands : List Demand) → Each (λ job. Each (λ demand. demand_of_job rows demand job ≤ 2 ^ 36) demands) jobs → Each (λ demand. AreSmall (asked rows jobs demand)) demands
 all-small rows jobs [] h = tt
 all-small rows jobs (demand ∷ demands) h =
-    (asked-small rows demand jobs (each-weaker _ _ (λ job k. k.0) jobs h), all-small rows jobs demands (each-weaker _ _ (λ job k. k.1) jobs h))
+    (asked-small rows demand jobs (Each-weaker _ _ (λ job k. k.0) jobs h), all-small rows jobs demands (Each-weaker _ _ (λ job k. k.1) jobs h))

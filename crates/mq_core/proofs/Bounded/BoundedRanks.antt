@@ -1,4 +1,6 @@
 -- No departure of a run passes the latest that there may be, node by node in the order of ranks.
+use Rattle.mq_base.proofs.lemmas.Each.{Each-weaker}
+use Rattle.mq_core.specs.Came.{came_of}
 use Rattle.std.proofs.Common.{◌≡◌, ◌⊎◌, inl, inr, ℕ, zero, suc, ◌+◌, ◌*◌, ◌^◌, ◌<◌, ◌≤◌, Bool, true, false, eqb, List, [], ◌∷◌, ◌++◌, length, take, Option, Some, None, sym, refl, ap, ◌∙◌, subst, arith, eqb-true, le-ltb, length-append}
 use Rattle.std.proofs.lemmas.Bool.{cases_Bool, cases_lt}
 use Rattle.std.proofs.lemmas.List.{length-map}
@@ -67,7 +69,7 @@ order-few : (plan : Plan) → length plan.order ≤ length plan.net.nodes
 order-few plan = let few = ranked-few (length plan.net.nodes) plan.net.nodes [] in let same = ap length plan.ranked in omega arith
 
 leave-later : (limit later : ℕ) → limit ≤ later → (fates : List Fate) → LeaveBy limit fates → LeaveBy later fates
-leave-later limit later l fates h = each-weaker (LeavesBy limit) (LeavesBy later) go fates h
+leave-later limit later l fates h = Each-weaker (LeavesBy limit) (LeavesBy later) go fates h
   where
     go : (fate : Fate) → LeavesBy limit fate → LeavesBy later fate
     go (Departs time) k = omega arith
@@ -128,7 +130,7 @@ module _ (laws : RunLaws) (plan : Plan) (rows : Rows) (read : IsReadFor plan.net
       }
     where
       told : Each (λ job. Tells plan.net rows job) (jobs_at v)
-      told = each-weaker (λ job. job < length rows.time) (Tells plan.net rows) (λ job l. laws.demands plan.net rows read job (subst (λ n. job < n) read.times l)) (jobs_at v) (laws.jobs plan rows v)
+      told = Each-weaker (λ job. job < length rows.time) (Tells plan.net rows) (λ job l. laws.demands plan.net rows read job (subst (λ n. job < n) read.times l)) (jobs_at v) (laws.jobs plan rows v)
 
       fates : LeaveBy limit (column_fates rows node.kind (came_of (length node.inputs) (station v).visits))
       fates =

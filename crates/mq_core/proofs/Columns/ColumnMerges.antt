@@ -23,8 +23,8 @@ use Rattle.mq_core.specs.declared.model.Plan.{Plan}
 use Rattle.mq_core.specs.declared.model.Rows.{Rows}
 use Rattle.mq_core.proofs.EachKind.AloneRuns.{visits-handled}
 use Rattle.mq_core.proofs.EachKind.Ends.{nothing-pending}
-use Rattle.mq_core.proofs.Events.Orders.{in_order_of-map, in_order_of-length}
-use Rattle.mq_core.proofs.Events.Rising.{in_order_of-append_left}
+use Rattle.mq_core.proofs.lemmas.Orders.{in_order_of-map, in_order_of-length}
+use Rattle.mq_core.proofs.lemmas.Rising.{in_order_of-append_left}
 use Rattle.mq_core.proofs.Networks.Whole.{arrivals-read}
 
 pub merges-twice : MergesTwice

@@ -19,6 +19,8 @@ use Rattle.mq_core.proofs.Events.Forward.{emissions-now}
 use Rattle.mq_core.proofs.Events.Kept.{Fact, Fits, Keeps, kept}
 use Rattle.mq_core.proofs.Events.Orders.{Each-order, in_order_of-length}
 use Rattle.mq_core.proofs.Events.Rising.{Rises-append, Rises-filter}
+use Rattle.mq_core.proofs.lemmas.Orders.{Each-order, in_order_of-length}
+use Rattle.mq_core.proofs.lemmas.Rising.{Rises-append, Rises-filter}
 use Rattle.mq_core.proofs.Networks.Whole.{starts-begin}
 use Rattle.mq_core.proofs.Networks.Wired.{feeds_forward}
 

@@ -5,7 +5,7 @@ use Rattle.mq_core.specs.Columns.{column_late, column_late_from, visits_by_node}
 use Rattle.mq_core.specs.Machine.{Visit, Emission, State}
 use Rattle.mq_core.specs.Local.{Local}
 use Rattle.mq_core.specs.Fates.{fate_by}
-use Rattle.mq_core.specs.NumberLaws.{late_in, run_late, IsOnTimeBelow, OnTimeGrows, PastIsFirst, PastIsNone}
+use Rattle.mq_core.specs.NumberLaws.{IsOnTimeBelow, OnTimeGrows, PastIsFirst, PastIsNone}
 use Rattle.mq_core.specs.Results.{Late, fates_from, late_fate, late_from, late_at, first_of, past_of, visits_of}
 use Rattle.mq_core.specs.StandardTable.{run_of}
 use Rattle.mq_core.specs.Theorems.{IsReadFor}
@@ -13,7 +13,17 @@ use Rattle.mq_core.specs.declared.model.Kind.{Kind}
 use Rattle.mq_core.specs.declared.model.Node.{Node}
 use Rattle.mq_core.specs.declared.model.Plan.{Plan}
 use Rattle.mq_core.specs.declared.model.Rows.{Rows}
+use Rattle.mq_core.specs.declared.model.Visits.{Visits}
 use Rattle.mq_core.proofs.Columns.NumberFates.{LetOut, all-let_out, fates-cons}
+
+-- the late visits of a node of a plan, of which these are the columns
+abbrev pub late_in : Plan → ℕ → Option Visits → List Late
+late_in plan v None = []
+late_in plan v (Some visits) = column_late plan.net.bound v visits
+
+-- the late visits of the run, by rank of the node and then position
+abbrev pub run_late : Plan → Rows → List ℕ → List Late
+run_late plan rows order = flat_map (λ v. late_in plan v (slice_get (visits_by_node (run_of plan rows) 0 plan.net.nodes) v)) order
 
 -- the late visits of a node are those of its fates
 late-fates : (bound v : ℕ) (kind : Kind) (emitted : List Emission) (k : ℕ) (xs : List Visit) → LetOut emitted k xs → late_from bound v kind emitted k xs ≡ column_late_from bound v k (fates_from kind emitted k xs)

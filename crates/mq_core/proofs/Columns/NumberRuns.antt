@@ -1,6 +1,7 @@
 -- That a run has columns, and that columns which agree with it make the run.
 use Rattle.std.proofs.Common.{◌≡◌, ◌⊎◌, inl, inr, ℕ, zero, suc, ◌+◌, ◌<◌, ◌≤◌, List, [], ◌∷◌, ◌++◌, length, Option, Some, None, sym, refl, ap, ◌∙◌, arith, slice_get, option_map, length-append}
 use Rattle.std.proofs.lemmas.Bool.{cases_lt}
+use Rattle.mq_base.proofs.lemmas.Lists.{get-last}
 use Rattle.mq_core.specs.Columns.{visits_by_node, streams_by_node, streams_below}
 use Rattle.mq_core.specs.Local.{Local}
 use Rattle.mq_core.specs.Machine.{State}
@@ -72,10 +73,6 @@ at-front [] ys i l = absurd (omega arith)
 at-front (x ∷ xs) ys zero l = refl
 at-front (x ∷ xs) ys (suc i) l = at-front xs ys i (omega arith)
 
-at-last : {X : Type 0} (xs : List X) (x : X) → slice_get (xs ++ x ∷ []) (length xs) ≡ Some x
-at-last [] x = refl
-at-last (y ∷ xs) x = at-last xs x
-
 below-long : (end : State Local) (v outs : ℕ) → length (streams_below end v outs) ≡ outs
 below-long end v zero = refl
 below-long end v (suc outs) = let rest = below-long end v outs in omega (arith, length-append (streams_below end v outs) (stream_from (end.stations v) outs ∷ []))
@@ -89,7 +86,7 @@ outputs-have_streams end v (suc outs) out l = go (cases_lt out outs) (outputs-ha
     go (inr k) earlier =
         let same : out ≡ outs = omega arith in
         ap (slice_get (streams_below end v outs ++ stream_from (end.stations v) outs ∷ [])) (same ∙ sym (below-long end v outs))
-        ∙ (at-last (streams_below end v outs) (stream_from (end.stations v) outs) ∙ ap (λ k. Some (stream_from (end.stations v) k)) (sym same))
+        ∙ (get-last (streams_below end v outs) (stream_from (end.stations v) outs) ∙ ap (λ k. Some (stream_from (end.stations v) k)) (sym same))
 
 at-inside : {X : Type 0} (xs : List X) (i : ℕ) (x : X) → slice_get xs i ≡ Some x → i < length xs
 at-inside [] i x h = absurd cc

@@ -1,6 +1,6 @@
 -- The laws of the kind's recurrence.
 use Rattle.std.proofs.Common.{arith, map, refl, ℕ}
-use Rattle.mq_base.proofs.lemmas.Each.{Each-weaker as each-weaker}
+use Rattle.mq_base.proofs.lemmas.Each.{Each-weaker as each-weaker, Each-weaker}
 use Rattle.mq_core.specs.Handling.{demand_of_job}
 use Rattle.mq_core.specs.Kinds.Delay.{delay}
 use Rattle.mq_core.specs.PlanLaws.{Tells}
@@ -9,9 +9,11 @@ use Rattle.mq_core.specs.declared.model.Demand.{Demand}
 use Rattle.mq_core.specs.declared.model.Kind.TheVariants.{Delay}
 use Rattle.mq_core.specs.declared.model.Rows.{Rows}
 use Rattle.mq_core.proofs.Bounded.BoundedAsked.{asked, asked-small}
-use Rattle.mq_core.proofs.Bounded.BoundedStations.{departs-by}
+use Rattle.mq_core.proofs.Bounded.BoundedStations.{departs-by, delayed-by}
 use Rattle.mq_core.proofs.Delay.DelayColumns.{delayed-by, delayed-numbered, delay-outs, delayed-fates, when-delayed}
-use Rattle.mq_core.proofs.Counting.FlowColumns.{departing-leaves}
+use Rattle.mq_core.proofs.Counting.FlowColumns.{departing-leaves, delay-outs, delayed-fates}
+use Rattle.mq_core.proofs.Counting.ColumnNumbers.{delayed-numbered}
+use Rattle.mq_core.proofs.Counting.InTime.{when-delayed}
 use Rattle.mq_core.proofs.Counting.Stays.{stay-fates}
 use Rattle.mq_core.proofs.EachKind.RecurrenceLaws.{RecurrenceLaws}
 use Rattle.mq_core.proofs.Events.Exits.{until-own}
@@ -29,7 +31,7 @@ delay-recurrence rows ports demand =
       in_time = λ came e. when-delayed (demand_of_job rows demand) came.job came.arrive e;
       stays = λ came e. stay-fates (demand_of_job rows demand) came.job came.arrive _ (at_least-refl (delayed came.arrive (map (demand_of_job rows demand) came.job)));
       bounded = λ net came limit top sound few told room early.
-          let small = asked-small rows demand came.job (each-weaker _ _ (λ job (t : Tells net rows job). (t.demand demand sound).1) came.job told) in
+          let small = asked-small rows demand came.job (Each-weaker _ _ (λ job (t : Tells net rows job). (t.demand demand sound).1) came.job told) in
           departs-by limit (delayed came.arrive (asked rows came.job demand)) (delayed-by limit top came.arrive (asked rows came.job demand) (omega arith) early small);
       blind = λ came. (refl, refl);
       until = λ time position o. until-own time position o;

@@ -17,7 +17,7 @@ use Rattle.mq_core.specs.declared.model.Demand.{Demand}
 use Rattle.mq_core.specs.declared.model.Rows.{Rows}
 use Rattle.mq_core.proofs.Lists.Order.{below-irrefl}
 use Rattle.mq_core.proofs.Events.Pending.{Splits, earliest-splits, filter-earliest_alike, filter-earliest_other}
-use Rattle.mq_core.proofs.Events.Rising.{Rises-append, same_by_key, Rises-in_order_of, filter-in_order_of}
+use Rattle.mq_core.proofs.lemmas.Rising.{Rises-append, same_by_key, Rises-in_order_of, filter-in_order_of}
 use Rattle.mq_core.proofs.Server.Serves.{latest-push}
 use Rattle.mq_core.proofs.Events.Areas.{get-front, get-last}
 use Rattle.mq_core.proofs.Events.EmissionsAt.{unknown, found-behind, other-behind}

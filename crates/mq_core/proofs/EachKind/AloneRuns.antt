@@ -8,7 +8,8 @@ use Rattle.mq_core.specs.Event.{Event, time_of, job_of, earliest}
 use Rattle.mq_core.specs.Event.Event.{Arrive, Finish}
 use Rattle.mq_core.specs.Machine.{Visit, Table, State, after, handled, happens, opened}
 use Rattle.mq_core.specs.Local.{Local}
-use Rattle.mq_core.specs.Laws.{IsFeedForward, alone, is_arrival_at, is_finish_at, port_of}
+use Rattle.mq_core.proofs.Events.Tables.{IsFeedForward}
+use Rattle.mq_core.specs.Laws.{alone, is_arrival_at, is_finish_at, port_of}
 use Rattle.mq_core.specs.Alone.{IsLoad, came, come_at, NodesFlowAlone}
 use Rattle.mq_core.specs.StandardTable.{standard}
 use Rattle.mq_core.specs.OnTime.{standard-on_time}

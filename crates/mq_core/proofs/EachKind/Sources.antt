@@ -1,16 +1,20 @@
 -- In a sound network a source reads nothing.
-use Rattle.std.proofs.Common.{List, None, Option, Some, [], arith, length, refl, true, ◌∷◌, ◌≡◌}
+use Rattle.std.proofs.Common.{List, None, Option, Some, [], arith, length, refl, true, ℕ, ◌∷◌, ◌≡◌}
 use Rattle.std.proofs.lemmas.Bool.{and_parts}
 use Rattle.std.specs.List.{list_all}
 use Rattle.std.specs.Prelude.{IsTrue, map, slice_get}
 use Rattle.mq_core.specs.Names.{is_name}
 use Rattle.mq_core.specs.Sound.{is_output, is_sound, is_sound_count}
-use Rattle.mq_core.specs.Wiring.{SourcesReadNothing, is_source, outputs_read}
+use Rattle.mq_core.specs.Wiring.{inputs_of, is_source, outputs_read}
 use Rattle.mq_core.specs.declared.model.Input.{Input}
 use Rattle.mq_core.specs.declared.model.Network.{Network}
 use Rattle.mq_core.specs.declared.model.Node.{Node}
 use Rattle.mq_core.proofs.EachKind.LawTable.{limits_of}
 use Rattle.mq_core.proofs.Networks.Soundness.{pair_of, sound-node}
+
+-- a source reads nothing
+abbrev pub SourcesReadNothing : List Node → Type 0
+SourcesReadNothing nodes = (v : ℕ) → IsTrue (is_source (slice_get nodes v)) → inputs_of nodes v ≡ []
 
 none-read : (is : List Input) → length is ≡ 0 → map pair_of is ≡ []
 none-read [] h = refl

@@ -5,7 +5,8 @@ use Rattle.std.specs.Prelude.{filter, slice_get}
 use Rattle.mq_core.specs.Event.{Event, earliest}
 use Rattle.mq_core.specs.Event.Event.{Arrive, Finish}
 use Rattle.mq_core.specs.Fates.{ComesAt, LeavesAt, SpanIsLatest}
-use Rattle.mq_core.specs.Laws.{IsFeedForward, IsPunctual, is_finish_at}
+use Rattle.mq_core.proofs.Events.Tables.{IsFeedForward, IsPunctual}
+use Rattle.mq_core.specs.Laws.{is_finish_at}
 use Rattle.mq_core.specs.Local.{Local}
 use Rattle.mq_core.specs.Machine.{Emission, State, Station, Table, acted, after, emissions_at, emissions_of, happens, opened, reaction, until}
 use Rattle.mq_core.specs.OnTime.{standard-on_time}

@@ -7,7 +7,8 @@ use Rattle.mq_base.proofs.lemmas.Each.{Each-append, Each-front, Each-back, not_t
 use Rattle.mq_core.specs.Event.{Event, time_of, node_of, earliest}
 use Rattle.mq_core.specs.Event.Event.{Arrive, Finish}
 use Rattle.mq_core.specs.Machine.{Emission, Service, Table, State, Station, after, happens, caused, arrivals_of, arrival_of, emissions_at, finishes_of, reaction, until, acted, aged, opened}
-use Rattle.mq_core.specs.Laws.{IsPunctual, IsFeedForward, is_finish_at}
+use Rattle.mq_core.proofs.Events.Tables.{IsPunctual, IsFeedForward}
+use Rattle.mq_core.specs.Laws.{is_finish_at}
 use Rattle.mq_core.specs.Tallies.{sum_below}
 use Rattle.mq_core.proofs.Events.Pending.{earliest-splits, earliest-none, earliest-filter}
 use Rattle.mq_core.proofs.Events.Steps.{after-some, after-none, after-zero, station-other, station-own}

@@ -6,7 +6,8 @@ use Rattle.mq_base.proofs.lemmas.Each.{Each-append, Each-front, Each-back, Each-
 use Rattle.mq_core.specs.Event.{Event, time_of, node_of, is_sooner, place_of, earliest}
 use Rattle.mq_core.specs.Event.Event.{Arrive, Finish}
 use Rattle.mq_core.specs.Machine.{Visit, Emission, Release, Service, Table, State, Station, handled, happens, caused, arrivals_of, arrival_of, emission_of, emissions_at, finishes_of, reaction, visits_after, until}
-use Rattle.mq_core.specs.Laws.{IsNoEarlier, GoesForward, IsPunctual, IsFeedForward}
+use Rattle.mq_core.specs.Laws.{IsNoEarlier, GoesForward}
+use Rattle.mq_core.proofs.Events.Tables.{IsPunctual, IsFeedForward}
 use Rattle.mq_core.proofs.Lists.Order.{not_below-cons}
 use Rattle.mq_core.proofs.Events.Pending.{earliest-splits, Splits-least}
 use Rattle.mq_core.proofs.Events.Steps.{handled-zero, handled-some, handled-none}

@@ -7,7 +7,8 @@ use Rattle.mq_base.proofs.lemmas.Each.{Each-any, Each-append, Each-back, Each-fi
 use Rattle.mq_core.specs.Event.{Event, time_of, node_of, is_sooner, place_of, earliest}
 use Rattle.mq_core.specs.Event.Event.{Arrive, Finish}
 use Rattle.mq_core.specs.Machine.{State, Station, Table, acted, after, aged, arrivals_of, caused, emissions_at, finishes_of, happens, opened, reaction, until}
-use Rattle.mq_core.specs.Laws.{IsPunctual, IsFeedForward, is_finish_at}
+use Rattle.mq_core.proofs.Events.Tables.{IsPunctual, IsFeedForward}
+use Rattle.mq_core.specs.Laws.{is_finish_at}
 use Rattle.mq_core.proofs.Lists.Order.{not_below-cons}
 use Rattle.mq_core.proofs.Events.Pending.{Splits, Splits-least, earliest-filter, earliest-splits, filter-earliest_other}
 use Rattle.mq_core.proofs.Events.Steps.{after-some, after-none, after-zero, station-other, station-own}

@@ -9,13 +9,18 @@ use Rattle.mq_base.proofs.lemmas.Each.{Each-append, Each-front, Each-back, Each-
 use Rattle.mq_core.specs.Event.{Event, time_of, node_of, is_sooner, place_of, earliest}
 use Rattle.mq_core.specs.Event.Event.{Arrive, Finish}
 use Rattle.mq_core.specs.Machine.{Emission, Table, State, Station, after, handled, happens, caused, arrivals_of, emissions_at, finishes_of, reaction, until, opened}
-use Rattle.mq_core.specs.Laws.{alone, NotBefore, IsNoEarlier, IsPunctual, IsFeedForward, IsWired, Rises, port_of, is_arrival_at, by_time, stream_of, brought, read_by, arrivals_in}
+use Rattle.mq_core.specs.Laws.{alone, NotBefore, IsNoEarlier, Rises, port_of, is_arrival_at, by_time, stream_of, brought, read_by}
+use Rattle.mq_core.proofs.Events.Tables.{IsPunctual, IsFeedForward, IsWired}
 use Rattle.mq_core.proofs.Lists.Order.{below-irrefl, not_below-cons}
 use Rattle.mq_core.proofs.Events.Pending.{earliest-splits, Splits-least}
 use Rattle.mq_core.proofs.Events.Steps.{handled-zero, handled-some, handled-none}
 use Rattle.mq_core.proofs.Events.Forward.{no_earlier_trans, Each-arrivals, Each-finishes, pending-no_earlier}
-use Rattle.mq_core.proofs.Events.Rising.{same_by_key, filter-in_order_of, Rises-in_order_of, Rises-append, Rises-filter, Rises-weaker}
+use Rattle.mq_core.proofs.lemmas.Rising.{same_by_key, filter-in_order_of, Rises-in_order_of, Rises-append, Rises-filter, Rises-weaker}
 use Rattle.mq_core.proofs.Events.Arrivals.{added, handled-in_order, is_at_port, stream-added, none-added}
+
+-- the arrivals at a node: what starts there and what its ports read, by time, then port, then place
+abbrev pub arrivals_in : {L : Type 0} → (ℕ → List (ℕ × ℕ)) → List Event → State L → ℕ → List Event
+arrivals_in inputs starts s v = by_time (filter (is_arrival_at v) starts ++ read_by s v 0 (inputs v))
 
 -- what isn't sooner than an arrival, at the same node
 not_sooner : (rank : ℕ → ℕ) (v : ℕ) (e f : Event) → is_arrival_at v e ≡ true → is_arrival_at v f ≡ true → is_sooner rank f e ≡ false → NotBefore e f

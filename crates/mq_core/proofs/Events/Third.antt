@@ -10,7 +10,8 @@ use Rattle.mq_base.proofs.lemmas.Each.{Each-append, Each-back, Each-weaker, Each
 use Rattle.mq_core.specs.Event.{Event, time_of, node_of, is_sooner, is_below, place_of, earliest}
 use Rattle.mq_core.specs.Event.Event.{Arrive, Finish}
 use Rattle.mq_core.specs.Machine.{Emission, Service, Table, State, Station, step, after, handled, happens, caused, arrivals_of, emissions_at, finishes_of, reaction, until, acted, opened}
-use Rattle.mq_core.specs.Laws.{NotBefore, IsNoEarlier, IsPunctual, IsFeedForward, is_arrival_at, is_finish_at, alone, count_at, IsSameAt, lone_after}
+use Rattle.mq_core.specs.Laws.{NotBefore, IsNoEarlier, is_arrival_at, is_finish_at, alone, count_at, IsSameAt, lone_after}
+use Rattle.mq_core.proofs.Events.Tables.{IsPunctual, IsFeedForward}
 use Rattle.mq_core.proofs.Lists.Order.{below-irrefl, not_below-intro, below-lt}
 use Rattle.mq_core.proofs.Events.Pending.{earliest-splits, Splits-least, splits-earliest, earliest-filter, filter-earliest_other, earliest-append}
 use Rattle.mq_core.proofs.Events.Steps.{handled-zero, handled-some, handled-none, step-some, after-some, after-none, after-zero, after-suc, station-other, station-own}

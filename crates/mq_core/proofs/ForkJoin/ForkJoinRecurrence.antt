@@ -1,7 +1,7 @@
 -- The laws of the kind's recurrence.
 use Rattle.std.proofs.Common.{List, arith, length, refl, ℕ}
 use Rattle.std.specs.List.{flat_map}
-use Rattle.mq_base.proofs.lemmas.Each.{Each-weaker as each-weaker}
+use Rattle.mq_base.proofs.lemmas.Each.{Each-weaker as each-weaker, Each-weaker}
 use Rattle.mq_core.specs.Kinds.ForkJoin.{fork_join}
 use Rattle.mq_core.specs.PlanLaws.{Tells}
 use Rattle.mq_core.specs.Recurrences.{fork_departs}
@@ -10,9 +10,9 @@ use Rattle.mq_core.specs.Kinds.ForkJoin.{branch_demands}
 use Rattle.mq_core.specs.declared.model.Demand.{Demand}
 use Rattle.mq_core.specs.declared.model.Kind.TheVariants.{ForkJoin}
 use Rattle.mq_core.specs.declared.model.Rows.{Rows}
-use Rattle.mq_core.proofs.Bounded.BoundedAsked.{all-small}
+use Rattle.mq_core.proofs.Bounded.BoundedAsked.{all-small, branches-few, branches-small}
 use Rattle.mq_core.proofs.ForkJoin.ForkJoinBounded.{branches-few, branches-small, fork-by}
-use Rattle.mq_core.proofs.Bounded.BoundedStations.{departs-by}
+use Rattle.mq_core.proofs.Bounded.BoundedStations.{departs-by, fork-by}
 use Rattle.mq_core.proofs.Counting.ColumnNumbers.{leaving-numbered}
 use Rattle.mq_core.proofs.Counting.FlowColumns.{departing-leaves, leaving-fates, leaving-outs}
 use Rattle.mq_core.proofs.Counting.Stays.{stay-fates}
@@ -33,7 +33,7 @@ fork_join-recurrence rows ports branches =
       in_time = λ came e. when-joined rows branches came.job came.arrive e;
       stays = λ came e. stay-fates (bare_time rows (ForkJoin branches)) came.job came.arrive _ (stay-joined rows branches came.job came.arrive e);
       bounded = λ net came limit top sound few told room early.
-          let small = all-small rows came.job (flat_map (λ (ds : List Demand). ds) branches) (each-weaker _ _ (λ job (t : Tells net rows job). (t.kind (ForkJoin branches) sound).small) came.job told) in
+          let small = all-small rows came.job (flat_map (λ (ds : List Demand). ds) branches) (Each-weaker _ _ (λ job (t : Tells net rows job). (t.kind (ForkJoin branches) sound).small) came.job told) in
           departs-by limit (fork_departs came.arrive (branch_demands rows branches came.job))
           (fork-by limit top (length came.arrive) came.arrive (branch_demands rows branches came.job) (omega arith) room (branches-few rows came.job branches few) early (branches-small rows came.job branches small));
       blind = λ came. (refl, refl);

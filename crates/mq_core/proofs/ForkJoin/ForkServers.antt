@@ -63,14 +63,6 @@ pub departing-push : (rows : Rows) (demand : Demand) (last : ℕ) (xs : List Vis
 departing-push rows demand last [] x = refl
 departing-push rows demand last (y ∷ xs) x = ap (λ l. record y { arrive = served rows demand last y } ∷ l) (departing-push rows demand (served rows demand last y) xs x)
 
-pub last_served-least : (rows : Rows) (demand : Demand) (last : ℕ) (xs : List Visit) → last ≤ last_served rows demand last xs
-last_served-least rows demand last [] = omega arith
-last_served-least rows demand last (x ∷ xs) = let l = last_served-least rows demand (served rows demand last x) xs in omega arith
-
-pub departing-within : (rows : Rows) (demand : Demand) (last now : ℕ) (xs : List Visit) → last_served rows demand last xs ≤ now → Each (λ (x : Visit). x.arrive ≤ now) (departing rows demand last xs)
-departing-within rows demand last now [] l = tt
-departing-within rows demand last now (x ∷ xs) l = ((let k = last_served-least rows demand (served rows demand last x) xs in omega arith), departing-within rows demand (served rows demand last x) now xs l)
-
 -- a visit that left keeps its job
 pub departing-get : (rows : Rows) (demand : Demand) (last k : ℕ) (xs : List Visit) (z : Visit) → slice_get (departing rows demand last xs) k ≡ Some z → (x : Visit) × (slice_get xs k ≡ Some x) × (z.job ≡ x.job)
 departing-get rows demand last k [] z h = absurd cc

@@ -4,6 +4,7 @@ use Rattle.std.specs.Prelude.{slice_get}
 use Rattle.std.specs.List.{AllByRecursion as Each, flat_map}
 use Rattle.std.proofs.Math.Nat.{suc-mul}
 use Rattle.std.proofs.lemmas.List.Sums.{sum_by-append, sum_by-cons}
+use Rattle.mq_base.proofs.lemmas.Lists.{drop_at}
 use Rattle.mq_base.proofs.lemmas.Each.{Each-front, Each-back}
 use Rattle.mq_core.specs.Told.{AreTold}
 use Rattle.mq_core.specs.Handling.{demand_of_job}

@@ -1,7 +1,7 @@
 -- The laws of the kind's recurrence.
 use Rattle.std.proofs.Common.{Bool, [], ap, arith, cond, eqb, false, length, map, refl, true, ℕ, ◌∙◌, ◌≤◌}
 use Rattle.std.proofs.lemmas.Bool.{and_parts}
-use Rattle.mq_base.proofs.lemmas.Each.{Each-weaker as each-weaker}
+use Rattle.mq_base.proofs.lemmas.Each.{Each-weaker as each-weaker, Each-weaker}
 use Rattle.mq_core.specs.ColumnLaws.{arrives_of}
 use Rattle.mq_core.specs.Kinds.Loss.{out_of_fate}
 use Rattle.mq_core.specs.Columns.{time_of_fate}
@@ -15,6 +15,11 @@ use Rattle.mq_core.specs.declared.model.Fate.TheVariants.{Departs, Lost}
 use Rattle.mq_core.specs.declared.model.Rows.{Rows}
 use Rattle.mq_core.proofs.Bounded.BoundedAsked.{asked, asked-small}
 use Rattle.mq_core.proofs.Loss.LossColumns.{loss-by, faring-numbered, loss-even, faring-fates, faring-leaves, faring-outs, loss-stream, demands-of, even-fates, stay-admitted, when-lost}
+use Rattle.mq_core.proofs.Bounded.BoundedStations.{loss-by}
+use Rattle.mq_core.proofs.Counting.ColumnNumbers.{faring-numbered, loss-even}
+use Rattle.mq_core.proofs.Counting.FlowColumns.{demands-of, even-fates}
+use Rattle.mq_core.proofs.Counting.InTime.{when-lost}
+use Rattle.mq_core.proofs.Counting.Stays.{stay-admitted}
 use Rattle.mq_core.proofs.EachKind.RecurrenceLaws.{RecurrenceLaws}
 use Rattle.mq_core.proofs.Events.Exits.{until-own}
 
@@ -39,7 +44,7 @@ loss-recurrence rows ports places demand =
       stays = λ came e. stay-admitted places (demand_of_job rows demand) [] came.job came.arrive;
       bounded = λ net came limit top sound few told room early.
           let s = (and_parts (is_within 1 1048576 places) (is_sound_demand (length net.columns) demand) sound).1 in
-          let small = asked-small rows demand came.job (each-weaker _ _ (λ job (t : Tells net rows job). (t.demand demand s).1) came.job told) in
+          let small = asked-small rows demand came.job (Each-weaker _ _ (λ job (t : Tells net rows job). (t.demand demand s).1) came.job told) in
           loss-by limit top top places [] came.arrive (asked rows came.job demand) (omega arith) (omega arith) (omega arith) early small;
       blind = λ came. (refl, refl);
       until = λ time position o. until-own time position o;

@@ -77,15 +77,6 @@ losing-once rows places demand v visits queue emitted fs now h p l =
     ∙ (times_at-in_order (λ (m : Emission). m.time) p (all_fared rows places demand visits)
     ∙ times_at-numbered 0 p (all_fared rows places demand visits) visits (fared-numbered (has_place places) rows demand 0 [] visits) (omega arith) (omega arith)))
 
--- no position is let out before it came
-pub losing-new : (rows : Rows) (places : ℕ) (demand : Demand) (v : ℕ) (visits : List Visit) (queue : List ℕ) (emitted : List Emission) (fs : List Event) (now : ℕ) → Losing rows places demand v visits queue emitted fs now → emission_at emitted (length visits) ≡ None
-losing-new rows places demand v visits queue emitted fs now h =
-    let a = times_at-beyond 0 (length visits) (all_fared rows places demand visits) visits (fared-numbered (has_place places) rows demand 0 [] visits) (omega arith) in
-    let b = times_at-in_order (λ (m : Emission). m.time) (length visits) (all_fared rows places demand visits) in
-    let c = times_at-append (length visits) emitted h.coming in
-    let d = ap (times_at (length visits)) h.left in
-    emission_at-none (length visits) emitted (omega arith)
-
 -- the number in it is that of the visits that haven't left
 pub losing-number : (rows : Rows) (places : ℕ) (demand : Demand) (v : ℕ) (visits : List Visit) (queue : List ℕ) (emitted : List Emission) (fs : List Event) (now : ℕ) → Losing rows places demand v visits queue emitted fs now → length queue ≡ staying visits emitted
 losing-number rows places demand v visits queue emitted fs now h =

@@ -5,7 +5,8 @@ use Rattle.std.specs.Prelude.{filter, slice_get}
 use Rattle.std.specs.List.{AllByRecursion as Each}
 use Rattle.mq_base.proofs.lemmas.Each.{filter-none}
 use Rattle.mq_core.specs.Machine.{Table, State, after, handled, opened}
-use Rattle.mq_core.specs.Laws.{IsPunctual, IsFeedForward, IsSameAt, is_arrival_at, is_finish_at, port_of, read_by, by_time, lone_after}
+use Rattle.mq_core.proofs.Events.Tables.{IsPunctual, IsFeedForward}
+use Rattle.mq_core.specs.Laws.{IsSameAt, is_arrival_at, is_finish_at, port_of, read_by, by_time, lone_after}
 use Rattle.mq_core.specs.Wiring.{inputs_of, is_source, reader_from, rank_in}
 use Rattle.mq_core.specs.Run.{starts, starts_from}
 use Rattle.mq_core.specs.Theorems.{arrivals_at, IsReadFor, RunsAlone}

@@ -1,6 +1,6 @@
 -- The laws of the kind's recurrence.
 use Rattle.std.proofs.Common.{arith, refl, ℕ}
-use Rattle.mq_base.proofs.lemmas.Each.{Each-weaker as each-weaker}
+use Rattle.mq_base.proofs.lemmas.Each.{Each-weaker as each-weaker, Each-weaker}
 use Rattle.mq_core.specs.Handling.{demand_of_job}
 use Rattle.mq_core.specs.Kinds.Server.{server}
 use Rattle.mq_core.specs.PlanLaws.{Tells}
@@ -9,11 +9,13 @@ use Rattle.mq_core.specs.declared.model.Demand.{Demand}
 use Rattle.mq_core.specs.declared.model.Kind.TheVariants.{Server}
 use Rattle.mq_core.specs.declared.model.Rows.{Rows}
 use Rattle.mq_core.proofs.Bounded.BoundedAsked.{asked, asked-small}
-use Rattle.mq_core.proofs.Bounded.BoundedStations.{departs-by}
+use Rattle.mq_core.proofs.Bounded.BoundedStations.{departs-by, lindley-by}
 use Rattle.mq_core.proofs.Server.ServerBounded.{lindley-by}
 use Rattle.mq_core.proofs.Server.ServerColumns.{served-numbered, served-fates, server-outs, stay-served, when-served}
-use Rattle.mq_core.proofs.Counting.FlowColumns.{departing-leaves}
-use Rattle.mq_core.proofs.Counting.Stays.{stay-fates}
+use Rattle.mq_core.proofs.Counting.FlowColumns.{departing-leaves, served-fates, server-outs}
+use Rattle.mq_core.proofs.Counting.Stays.{stay-fates, stay-served}
+use Rattle.mq_core.proofs.Counting.ColumnNumbers.{served-numbered}
+use Rattle.mq_core.proofs.Counting.InTime.{when-served}
 use Rattle.mq_core.proofs.EachKind.RecurrenceLaws.{RecurrenceLaws}
 use Rattle.mq_core.proofs.Events.Exits.{until-own}
 
@@ -29,7 +31,7 @@ server-recurrence rows ports demand =
       in_time = λ came e. when-served 0 (demand_of_job rows demand) came.job came.arrive e;
       stays = λ came e. stay-fates (demand_of_job rows demand) came.job came.arrive _ (stay-served 0 (demand_of_job rows demand) came.job came.arrive);
       bounded = λ net came limit top sound few told room early.
-          let small = asked-small rows demand came.job (each-weaker _ _ (λ job (t : Tells net rows job). (t.demand demand sound).1) came.job told) in
+          let small = asked-small rows demand came.job (Each-weaker _ _ (λ job (t : Tells net rows job). (t.demand demand sound).1) came.job told) in
           departs-by limit (lindley 0 came.arrive (asked rows came.job demand)) (lindley-by limit top top 0 came.arrive (asked rows came.job demand) (omega arith) (omega arith) (omega arith) early small);
       blind = λ came. (refl, refl);
       until = λ time position o. until-own time position o;

@@ -2,7 +2,7 @@
 use Rattle.std.proofs.Common.{List, [], ap, arith, length, map, refl, suc, true, ℕ, ◌*◌, ◌+◌, ◌^◌, ◌∙◌, ◌∷◌, ◌≡◌, ◌≤◌}
 use Rattle.std.proofs.lemmas.List.{length-map}
 use Rattle.std.specs.List.{AllByRecursion as Each}
-use Rattle.mq_base.proofs.lemmas.Each.{Each-weaker as each-weaker}
+use Rattle.mq_base.proofs.lemmas.Each.{Each-weaker as each-weaker, Each-weaker}
 use Rattle.mq_core.specs.ColumnLaws.{arrives_of, jobs_of}
 use Rattle.mq_core.specs.Handling.{demand_of_stages}
 use Rattle.mq_core.specs.Kinds.Tandem.{tandem}
@@ -15,7 +15,7 @@ use Rattle.mq_core.specs.declared.model.Kind.TheVariants.{Tandem}
 use Rattle.mq_core.specs.declared.model.Network.{Network}
 use Rattle.mq_core.specs.declared.model.Rows.{Rows}
 use Rattle.mq_core.specs.declared.model.Stage.{Stage}
-use Rattle.mq_core.proofs.Bounded.BoundedAsked.{all-small, asked}
+use Rattle.mq_core.proofs.Bounded.BoundedAsked.{all-small, asked, none-left, stages-small}
 use Rattle.mq_core.proofs.Tandem.TandemBounded.{none-left, stages-small, tandem-by}
 use Rattle.mq_core.proofs.Bounded.BoundedStations.{AreBy, LeaveBy, by-later, departs-by}
 use Rattle.mq_core.proofs.Counting.ColumnNumbers.{leaving-numbered}
@@ -37,7 +37,7 @@ stages-by : (net : Network) (rows : Rows) (stages : List Stage) (jobs arrives : 
 stages-by net rows [] jobs arrives limit top sound few told room early = departs-by limit arrives (by-later top limit arrives (omega arith) early)
 stages-by net rows (stage ∷ stages) jobs arrives limit top sound few told room early =
     let all : List Stage = stage ∷ stages in
-    let small = all-small rows jobs (map (λ (s : Stage). s.demand) all) (each-weaker _ _ (λ job (t : Tells net rows job). (t.kind (Tandem all) sound).small) jobs told) in
+    let small = all-small rows jobs (map (λ (s : Stage). s.demand) all) (Each-weaker _ _ (λ job (t : Tells net rows job). (t.kind (Tandem all) sound).small) jobs told) in
     let many = length-map all (λ (s : Stage). s.places) in
     departs-by limit (tandem_times rows all jobs arrives)
     (tandem-by limit top top (map (λ (s : Stage). s.places) all) (map (λ _. []) all) arrives (map (λ (s : Stage). asked rows jobs s.demand) all) (omega arith) (omega arith) (omega arith) early (none-left top all) (stages-small rows jobs all small))

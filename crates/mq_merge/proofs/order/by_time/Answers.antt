@@ -1,6 +1,6 @@
 use Rattle.std.proofs.Common.{◌≤◌, ℕ, sym, ap, ◌∙◌, subst}
 use Rattle.std.proofs.lemmas.Result.{IfOk-weaker}
-use Rattle.mq_core.proofs.Events.Rising.{Rises-in_order_of}
+use Rattle.mq_core.proofs.lemmas.Rising.{Rises-in_order_of}
 use Rattle.mq_core.specs.Columns.{by_first}
 use Rattle.mq_core.specs.Laws.{Rises}
 use Rattle.mq_merge.proofs.order.by_time.Goals as goal
