@@ -23,7 +23,7 @@ use Rattle.mq_chain.specs.Posting.{IsPut, Follows, Stands}
 use Rattle.mq_chain.specs.Rule.{Kept, Draws, Stores, Sees, SeesOnce}
 use Rattle.mq_chain.specs.Views.{hand, right_of, draws_of}
 use Rattle.mq_chain.specs.Machine as m
-use Rattle.mq_chain.specs.Machine.{IsCarry, MayPut, Runs}
+use Rattle.mq_chain.specs.Machine.{MayPut, Runs}
 use Rattle.mq_chain.proofs.Postings.{posted-view, posted-store, posted-snoc, posted-join, unput}
 
 word-some : (n : ℕ) → n ≢ 0 → mp_of_word n ≡ At (n - 1)

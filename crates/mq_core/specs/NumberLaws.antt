@@ -1,6 +1,5 @@
 -- That the numbers worked out from columns are the run's own tallies.
-use Rattle.std.specs.Prelude.{◌≡◌, ◌<◌, ◌+◌, ℕ, List, [], length, Option, Some, None, slice_get}
-use Rattle.std.specs.List.{flat_map}
+use Rattle.std.specs.Prelude.{◌≡◌, ◌<◌, ◌+◌, ℕ, length, Some, None, slice_get}
 use Rattle.mq_core.specs.Columns.{column_totals, column_exit, column_span, column_late, visits_by_node}
 use Rattle.mq_core.specs.Local.{Local}
 use Rattle.mq_core.specs.Machine.{Station}
@@ -10,7 +9,6 @@ use Rattle.mq_core.specs.Theorems.{IsReadFor}
 use Rattle.mq_core.specs.declared.model.Node.{Node}
 use Rattle.mq_core.specs.declared.model.Plan.{Plan}
 use Rattle.mq_core.specs.declared.model.Rows.{Rows}
-use Rattle.mq_core.specs.declared.model.Visits.{Visits}
 
 -- the totals of a node are those of its columns
 abbrev pub TotalsAreColumns : Type 0

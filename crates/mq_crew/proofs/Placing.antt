@@ -1,11 +1,12 @@
 -- Pieces that are put at their places.
-use Rattle.std.proofs.Common.{◌≡◌, ℕ, zero, suc, ◌+◌, ◌<◌, ◌⊎◌, Option, Some, None, IsSome, is_some, replicate, List, [], ◌∷◌, ◌++◌, length, get_or, set, refl, sym, ap, ◌∙◌, subst, inl, inr, ⊎_elim, arith, All, Contains, length-set, get_or-set_other, get_or-set_same, append_assoc}
-use Rattle.std.proofs.lemmas.List.{map-append, append-nil}
+use Rattle.std.proofs.Common.{◌≡◌, ℕ, zero, suc, ◌+◌, ◌<◌, ◌⊎◌, Option, Some, None, IsSome, is_some, List, [], ◌∷◌, ◌++◌, length, get_or, set, refl, sym, ap, ◌∙◌, subst, inl, inr, ⊎_elim, arith, All, Contains, length-set, get_or-set_other, get_or-set_same, append_assoc}
+use Rattle.std.proofs.lemmas.List.{map-append}
 use Rattle.std.proofs.Math.Seq.{get_or-append_seam}
 use Rattle.std.proofs.Math.ListN.{get_or-append}
 use Rattle.std.proofs.lemmas.List.Elements.{Contains-append_cases, Contains-append_left, Contains-append_right, All-contains}
 use native.Mathlib.Decide.{ℕ_discrete}
 use mathlib.Core.Logic.{dite}
+use Rattle.mq_base.proofs.lemmas.Lists.{only}
 use Rattle.mq_crew.specs.Crew.{numbers}
 
 All-front : {Y : Type 0} (P : Y → Type 0) (xs ys : List Y) → All P (xs ++ ys) → All P xs
@@ -15,10 +16,6 @@ All-front P (x ∷ xs) ys h (suc k) d lt = All-front P xs ys (λ j e l. h (suc j
 
 last-in : {Y : Type 0} (xs : List Y) (y : Y) → Contains (xs ++ y ∷ []) y
 last-in xs y = Contains-append_right xs (y ∷ []) y (0, omega arith, refl)
-
-only : (x n : ℕ) → Contains (n ∷ []) x → x ≡ n
-only x n (zero, lt, e) = sym e
-only x n (suc k, lt, e) = absurd (omega arith)
 
 Some-inj : {Y : Type 0} (a b : Y) → Some a ≡ Some b → a ≡ b
 Some-inj a b e = cc
@@ -48,7 +45,7 @@ module _ {X : Type 0} (count : ℕ) (all : List (ℕ × X)) where
         filled = λ x lt. dite (ℕ_discrete x n)
             (λ e. inr (subst (λ (k : ℕ). IsSome (get_or (set slots n (Some p)) k None)) (sym e) (ap is_some here)))
             (λ ne. ⊎_elim
-            (λ h. ⊎_elim (λ l. inl l) (λ r. absurd (ne (only x n r))) (Contains-append_cases (numbers left) (n ∷ []) x (subst (λ xs. Contains xs x) (map-append (λ (q : ℕ × X). q.0) left ((n, p) ∷ [])) h)))
+            (λ h. ⊎_elim (λ l. inl l) (λ r. absurd (ne (only n x r))) (Contains-append_cases (numbers left) (n ∷ []) x (subst (λ xs. Contains xs x) (map-append (λ (q : ℕ × X). q.0) left ((n, p) ∷ [])) h)))
             (λ h. inr (subst IsSome (sym (get_or-set_other slots n x (Some p) None ne)) h)) (w.filled x lt));
         own = λ x q e. dite (ℕ_discrete x n)
             (λ eq. let same : p ≡ q = Some-inj p q (sym here ∙ (ap (λ (k : ℕ). get_or (set slots n (Some p)) k None) (sym eq) ∙ e)) in

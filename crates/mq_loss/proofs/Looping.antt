@@ -1,6 +1,5 @@
 -- One item further in the loops over arrivals.
-use Rattle.std.proofs.Common.{◌≡◌, ℕ, suc, ◌+◌, ◌^◌, ◌<◌, ◌≤◌, Bool, true, false, List, [], ◌∷◌, ◌++◌, length, get_or, take, drop, refl, Some, sym, ap, ◌∙◌, subst, arith, drop-cons, append_assoc}
-use Rattle.std.proofs.Math.Seq.{take-suc}
+use Rattle.std.proofs.Common.{◌≡◌, ℕ, suc, ◌+◌, ◌^◌, ◌≤◌, Bool, true, false, List, [], ◌∷◌, ◌++◌, length, drop, refl, Some, sym, ap, ◌∙◌, subst, append_assoc}
 use Rattle.std.specs.Prelude.{reverse, slice_get}
 use Rattle.std.proofs.lemmas.Option.{slice_get_within, get_or_from_slice_get}
 use Rattle.std.proofs.lemmas.List.{append-nil, drop_all, reverse-append}
@@ -9,7 +8,6 @@ use Rattle.mq_base.proofs.lemmas.Lists.{drop_at}
 use Rattle.mq_core.specs.Columns.{IsSoundLoad}
 use Rattle.mq_core.specs.Recurrences.{is_admitted}
 use Rattle.mq_loss.specs.Rounds.{all_admitted, departure_behind, departures_from, left_behind, round_from}
-use Rattle.mq_loss.specs.Windows.{unchanged_in}
 use Rattle.mq_loss.proofs.Departing.{IsEarly, departures-none, early-next, early-same, round-none}
 
 -- the limits of an arrival and its demand

@@ -5,7 +5,7 @@ use Rattle.std.proofs.lemmas.Bool.{cases_lt}
 use Rattle.std.proofs.lemmas.List.{length-map, length-replicate, take_all}
 use Rattle.mq_core.specs.Recurrences.{is_admitted, loss_fates}
 use Rattle.mq_core.specs.declared.model.Fate.TheVariants.{Departs, Lost}
-use Rattle.mq_loss.specs.Rounds.{IsSettled, admission, admits, all_admitted, departure_behind, departures_of, guess_after, left_behind, round_from, round_of}
+use Rattle.mq_loss.specs.Rounds.{IsSettled, admission, admits, departure_behind, departures_of, guess_after, left_behind, round_from, round_of}
 use Rattle.mq_loss.specs.declared.answer.Settled.{Settled}
 use Rattle.mq_loss.proofs.Departing.{admission-departs}
 use Rattle.mq_loss.proofs.Guesses.{grows, right-stays, stays-right}

@@ -1,5 +1,5 @@
 -- A demand, as a line says it and as a network has it.
-use Rattle.std.proofs.Common.{◌≡◌, ap, refl, subst, ℕ, zero, suc, ◌<◌, List, [], ◌∷◌, length, get_or, Bool, true, arith}
+use Rattle.std.proofs.Common.{◌≡◌, ap, refl, subst, ◌<◌, List, [], length, true}
 use Rattle.std.specs.Prelude.{map, nat_lt}
 use Rattle.std.specs.List.{list_all}
 use Rattle.std.specs.Str.{bytes_eq}

@@ -1,6 +1,6 @@
 -- The network of a text without a fault is sound.
-use Rattle.std.proofs.Common.{◌≡◌, ◌∙◌, sym, ap, refl, ℕ, ◌≤◌, ◌^◌, List, [], ◌∷◌, ◌++◌, length, Bool, true, false, cond, Some, None, arith, inl, inr, append_assoc, IsTrue}
-use Rattle.std.specs.Prelude.{map, nat_lt, nat_le, slice_get}
+use Rattle.std.proofs.Common.{◌≡◌, ◌∙◌, sym, ap, refl, ℕ, ◌≤◌, ◌^◌, List, [], ◌∷◌, ◌++◌, length, Bool, true, None, arith, inl, inr, append_assoc, IsTrue}
+use Rattle.std.specs.Prelude.{map, nat_le, slice_get}
 use Rattle.std.specs.List.{list_all, list_any, flat_map}
 use Rattle.std.specs.Str.{bytes_eq}
 use Rattle.std.proofs.lemmas.Bool.{cases_Bool, and_parts, and_from, or_cases, or_left, or_right, le-leb}
@@ -12,12 +12,10 @@ use Rattle.mq_core.specs.Ranges.{is_within}
 use Rattle.mq_core.specs.Wiring.{is_source_kind}
 use Rattle.mq_core.specs.declared.model.Input.{Input}
 use Rattle.mq_core.specs.declared.model.Node.{Node}
-use Rattle.mq_base.specs.Text.{lines_of}
 use Rattle.mq_model.specs.Form.{Word}
-use Rattle.mq_model.specs.Model.{cycle_fault, inputs_fault, lines_fault, model_fault, reads_of_text, source_fault, text_fault}
-use Rattle.mq_model.specs.NetworkOf.{bound_of, input_in, kind_in, network_in, network_of, nodes_in, nodes_of, number_in, saids_of, without_mark}
+use Rattle.mq_model.specs.Model.{inputs_fault, lines_fault, reads_of_text}
+use Rattle.mq_model.specs.NetworkOf.{bound_of, input_in, kind_in, network_of, nodes_in, nodes_of, number_in, saids_of}
 use Rattle.mq_model.specs.Said.{columns_of, distinct_after, gives, is_among, is_source, is_source_said, mentioned, mentions_of_kind, names_of, reads_of}
-use Rattle.mq_model.specs.declared.fault.ModelFault.TheVariants.{TooLong, NoSource}
 use Rattle.mq_model.specs.declared.said.SaidInput.{SaidInput}
 use Rattle.mq_model.specs.declared.said.SaidKind.{SaidKind}
 use Rattle.mq_model.specs.declared.said.SaidKind.TheVariants.{Source, Server, Delay, Loss, Tandem, ForkJoin, Split}
@@ -30,7 +28,7 @@ use Rattle.mq_model.proofs.Stages.{stages_columns, stages_in_range, stages_names
 use Rattle.mq_model.proofs.SoundColumns.{are_distinct_after, list_all_after, mentions_in_order, same_name}
 use Rattle.mq_model.proofs.SoundInputs.{AreInputs, given_among, given_output, numbers_distinct, told_are_inputs}
 use Rattle.mq_model.proofs.SoundLines.{IsSoundKind, is_sound_reads}
-use Rattle.mq_model.proofs.SoundText.{AreFew, AreSound, cond_none, or_none, told_are_few, told_are_sound}
+use Rattle.mq_model.proofs.SoundText.{AreFew, AreSound, told_are_few, told_are_sound}
 
 -- What the nodes have of the lines.
 abbrev node_name : Node → Word

@@ -3,7 +3,7 @@ use Rattle.std.proofs.Common.{◌≡◌, ℕ, zero, suc, ◌+◌, ◌*◌, ◌^�
 use Rattle.std.specs.Prelude.{slice_get}
 use Rattle.std.proofs.lemmas.List.{append-nil, map-append}
 use Rattle.std.proofs.lemmas.List.Elements.{All-push}
-use Rattle.std.proofs.lemmas.Option.{get_or_from_slice_get}
+use Rattle.std.proofs.lemmas.Option.{get_or_from_slice_get, slice_get-get_or}
 use Rattle.mq_base.proofs.lemmas.Lists.{drop_at}
 use Rattle.mq_chain.proofs.Folding.{step}
 use Rattle.mq_maxplus.specs.declared.affine.Affine.{Affine}
@@ -97,11 +97,6 @@ map-at [] i b at = absurd cc
 map-at (q ∷ left) zero b at = (q, refl, cc, omega arith)
 map-at (q ∷ left) (suc i) b at = let rest = map-at left i b at in (rest.0, rest.1, rest.2, (let less = rest.3 in omega arith))
 
-get-some : {X : Type 0} (xs : List X) (i : ℕ) (d : X) → i < length xs → slice_get xs i ≡ Some (get_or xs i d)
-get-some [] i d lt = absurd (omega arith)
-get-some (x ∷ xs) zero d lt = refl
-get-some (x ∷ xs) (suc i) d lt = get-some xs i d (omega arith)
-
 module _ (times demands : List ℕ) (block : ℕ) where
   -- a piece is the departures of its block
   pub piece-is : (blocks : ℕ) (left : List Left) (i : ℕ) (d : Left) (l : List ℕ) → All (IsLeft times demands block blocks) left → i < length left
@@ -115,4 +110,4 @@ module _ (times demands : List ℕ) (block : ℕ) where
       let found = map-at left i b (ap (λ (z : List ℕ). slice_get z i) same ∙ at) in
       let len = all.len in
       let less = found.3 in
-      get-some applied i [] (omega arith) ∙ ap Some (all.each i [] less found.0 found.1 ∙ ap (λ (n : ℕ). departs_of times demands block n (carry_at times demands (n * block))) found.2)
+      slice_get-get_or applied i [] (omega arith) ∙ ap Some (all.each i [] less found.0 found.1 ∙ ap (λ (n : ℕ). departs_of times demands block n (carry_at times demands (n * block))) found.2)

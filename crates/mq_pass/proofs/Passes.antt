@@ -10,7 +10,7 @@ use Rattle.mq_maxplus.specs.declared.mp.Mp.{Mp}
 use Rattle.mq_maxplus.specs.declared.mp.Mp.TheVariants.{Void, At}
 use Rattle.mq_pass.specs.declared.block.Passed.{Passed}
 use Rattle.mq_pass.specs.Blocks.{departs_of}
-use Rattle.mq_pass.specs.Passing.{IsFresh, IsSeen, HasNoPut, IsGrown, IsOwn, IsPassed, IsPass}
+use Rattle.mq_pass.specs.Passing.{IsSeen, HasNoPut, IsGrown, IsOwn, IsPassed, IsPass}
 
 -- what a look found is found among more looks
 pub seen-more : (looks more : List (ℕ × ℕ)) (b : ℕ) (c : Mp) → ((e : ℕ × ℕ) → Contains looks e → Contains more e) → IsSeen looks b c → IsSeen more b c

@@ -1,13 +1,14 @@
 -- What a seat stores of a block.
 use Rattle.std.proofs.Common.{◌≡◌, ◌≢◌, ℕ, zero, suc, ◌+◌, ◌-◌, ◌^◌, ◌≤◌, ◌⊎◌, List, [], ◌∷◌, ◌++◌, max, refl, sym, ap, ◌∙◌, subst, arith, inl, inr, ⊎_elim, Contains}
 use Rattle.std.proofs.lemmas.List.Elements.{Contains-append_cases, Contains-append_left, Contains-append_right}
+use Rattle.mq_base.proofs.lemmas.Lists.{only}
 use Rattle.mq_chain.specs.Seats.{Seated}
 use Rattle.mq_chain.specs.Words.{sum_word, best_word, carry_word, block_of, value_of}
 use Rattle.mq_chain.specs.Stored.{with_summary, HasNoSummary, IsNext}
 use Rattle.mq_maxplus.specs.declared.affine.Affine.{Affine}
 use Rattle.mq_maxplus.specs.declared.mp.Mp.{Mp}
 use Rattle.mq_maxplus.specs.declared.mp.Mp.TheVariants.{Void, At}
-use Rattle.mq_maxplus.specs.Maxplus.{mp_max, mp_plus, affine_act, CanAct}
+use Rattle.mq_maxplus.specs.Maxplus.{mp_max, affine_act, CanAct}
 use Rattle.mq_maxplus.specs.Within.{IsWithin}
 use Rattle.mq_pass.specs.Blocks.{summary_at}
 use Rattle.mq_pass.specs.Passing.{IsSeen, HasNoPut, IsPutOf, IsGrown, IsOwn}
@@ -24,10 +25,6 @@ carry-block b = omega arith
 -- a block of which nothing was stored has no summary
 pub no-summary : (puts : List (ℕ × ℕ)) (b : ℕ) → HasNoPut puts b → HasNoSummary puts b
 no-summary puts b none x = ((λ h. none (sum_word b) x h (sum-block b)), (λ h. none (best_word b) x h (best-block b)))
-
-only : {X : Type 0} (x y : X) → Contains (x ∷ []) y → y ≡ x
-only x y (zero, lt, e) = sym e
-only x y (suc k, lt, e) = absurd (omega arith)
 
 -- what stands in the puts after a summary
 pub put-cases : (puts : List (ℕ × ℕ)) (b : ℕ) (s : Affine) (w x : ℕ) → Contains (with_summary puts b s) (w, x)

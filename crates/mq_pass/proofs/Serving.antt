@@ -1,13 +1,13 @@
 -- A block's jobs, served place after place, and what they do together.
 use Rattle.std.proofs.Common.{◌≡◌, ◌≢◌, ℕ, zero, suc, ◌+◌, ◌-◌, ◌*◌, ◌^◌, ◌<◌, ◌≤◌, List, [], ◌∷◌, ◌++◌, length, get_or, take, drop, min, max, refl, sym, ap, ◌∙◌, arith, append_assoc, mul-le-mul_right}
-use Rattle.std.proofs.lemmas.List.{append-nil, drop_more}
+use Rattle.std.proofs.lemmas.List.{drop_more}
 use Rattle.std.specs.Prelude.{slice_range}
 use Rattle.mq_chain.specs.Words.{value_of}
 use Rattle.mq_chain.specs.Stored.{IsShort}
 use Rattle.mq_core.specs.Recurrences.{lindley}
 use Rattle.mq_maxplus.specs.declared.mp.Mp.{Mp}
 use Rattle.mq_maxplus.specs.declared.mp.Mp.TheVariants.{Void, At}
-use Rattle.mq_maxplus.specs.Maxplus.{mp_max, affine, affine_act, affine_then, CanAct}
+use Rattle.mq_maxplus.specs.Maxplus.{mp_max, affine, affine_act, affine_then}
 use Rattle.mq_scan.specs.Folds.{span}
 use Rattle.mq_maxplus.specs.Within.{IsWithin}
 use Rattle.mq_server.specs.Bounds.{span-within, early-at, small-at}

@@ -1,13 +1,12 @@
 -- One job more, of the outputs and of what is picked.
-use Rattle.std.proofs.Common.{◌≡◌, ℕ, suc, ◌+◌, ◌<◌, ◌≤◌, ◌==◌, true, false, cond, ◌⊎◌, inl, inr, List, [], ◌∷◌, ◌++◌, length, get_or, drop, Some, refl, sym, ap, ◌∙◌, arith, drop-cons, append_assoc}
+use Rattle.std.proofs.Common.{◌≡◌, ℕ, suc, ◌+◌, ◌<◌, ◌≤◌, ◌==◌, true, false, cond, ◌⊎◌, inl, inr, List, [], ◌∷◌, ◌++◌, length, get_or, drop, Some, refl, sym, ap, ◌∙◌, arith, drop-cons}
 use Rattle.std.specs.Prelude.{slice_get, count_by}
 use Rattle.std.proofs.lemmas.List.Sums.{sum_by-cons}
 use Rattle.std.proofs.lemmas.Bool.Decides.{nat_tests}
 use Rattle.std.proofs.lemmas.List.{append-nil, drop_all}
 use Rattle.std.proofs.lemmas.Bool.{cases_lt}
-use Rattle.mq_base.proofs.lemmas.Lists.{drop_at, get-last, get-push}
+use Rattle.mq_base.proofs.lemmas.Lists.{get-last, get-push}
 use Rattle.mq_core.specs.Columns.{picked}
-use Rattle.mq_core.specs.Kinds.Split.{output_at}
 use Rattle.mq_core.specs.declared.model.Route.{Route}
 use Rattle.mq_split.specs.Outs.{outs_from}
 

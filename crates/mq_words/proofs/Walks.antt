@@ -2,8 +2,8 @@
 use Rattle.std.proofs.Common.{◌≡◌, ◌∙◌, ◌&&◌, ℕ, Bool, true, false, List, [], ◌∷◌, Option, Some, None, refl, ap, codes}
 use Rattle.std.specs.Prelude.{bytes_eq, option_and_then, if◌then◌else◌}
 use Rattle.clap.specs.Lexer.{long_of, long_of_rest, short_of_rest, strip_byte}
-use Rattle.clap.specs.Simple.{App, built, is_simple, new_app, new_rule, with_rule}
-use Rattle.clap.specs.Walk.{Held, Row, Rule, Text, Walk, idle, used, walked, settled_rows, reacted, finished, with_default, nothing_held, Waiting, Step, subcommand_or_other, plain_word, long_or_other, short_or_plain, option, after_step, pushed, settled, is_pending}
+use Rattle.clap.specs.Simple.{App, is_simple, new_app, new_rule, with_rule}
+use Rattle.clap.specs.Walk.{Held, Row, Rule, Text, Walk, idle, walked, settled_rows, reacted, Waiting, Step, subcommand_or_other, plain_word, long_or_other, short_or_plain, option, after_step, pushed, settled, is_pending}
 use Rattle.clap.specs.declared.builder.action.ArgAction.TheVariants.{Set, SetTrue}
 use Rattle.clap.specs.declared.builder.value_parser.ValueParser.TheVariants as parser
 use Rattle.mq_words.specs.Words.{begins_with_dash, block_option, jobs_option, made_option, workers_option}

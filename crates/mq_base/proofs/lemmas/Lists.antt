@@ -1,6 +1,7 @@
--- Lemmas on lists that the proofs of several crates use.
-use Rattle.std.proofs.Common.{◌≡◌, ℕ, zero, suc, ◌+◌, ◌<◌, ◌≤◌, List, [], ◌∷◌, ◌++◌, drop, length, map, take, Some, refl, ap, ◌∙◌, arith}
+-- Lists by place: what is left from a place on, first parts, an item more at the end.
+use Rattle.std.proofs.Common.{◌≡◌, ℕ, zero, suc, ◌+◌, ◌<◌, ◌≤◌, List, [], ◌∷◌, ◌++◌, drop, length, map, take, Some, refl, ap, ◌∙◌, arith, sym}
 use Rattle.std.proofs.lemmas.List.Sums.{sum_by-cons}
+use Rattle.std.specs.List.{Contains}
 use Rattle.std.specs.Prelude.{slice_get, sum}
 
 pub some_inj : {A : Type 0} (a b : A) → Some a ≡ Some b → a ≡ b
@@ -37,3 +38,8 @@ get-last (y ∷ xs) x = get-last xs x
 
 pub sum-cons : (x : ℕ) (xs : List ℕ) → sum (x ∷ xs) ≡ x + sum xs
 sum-cons x xs = sum_by-cons (λ y. y) x xs
+
+-- the item of a list of one
+pub only : {X : Type 0} (x y : X) → Contains (x ∷ []) y → y ≡ x
+only x y (zero, lt, e) = sym e
+only x y (suc k, lt, e) = absurd (omega arith)
