@@ -4,6 +4,7 @@ ghost use Rattle.mq_gen.specs.Accepted.{MadeInputsAreAccepted};
 use mq_core::departures_are_bounded;
 use mq_graph::cycles_are_left;
 use mq_model::printed_models_are_read;
+use mq_trace::traces_are_read;
 
 /// The model and the trace of each number have no fault, and no departure of their run passes the
 /// bound.
@@ -12,5 +13,6 @@ pub fn made_inputs_are_accepted()
 {
     cycles_are_left();
     printed_models_are_read();
+    traces_are_read();
     departures_are_bounded();
 }

@@ -6,6 +6,7 @@ use Rattle.std.specs.Str.{bytes_eq}
 use Rattle.std.specs.Str.Parse.{digits_value}
 use Rattle.csv.specs.Reading.{default_config, records, strip_bom}
 use Rattle.mq_base.specs.Text.{number_of}
+use Rattle.mq_core.specs.Theorems.{IsReadFor}
 use Rattle.mq_core.specs.Wiring.{is_source_kind}
 use Rattle.mq_core.specs.declared.model.Network.{Network}
 use Rattle.mq_core.specs.declared.model.Node.{Node}
@@ -92,3 +93,7 @@ Tells e fault = e ≢ Memory → fault ≡ Some e
 abbrev pub Answers : {A : Type 0} → Result A TraceFault → Option TraceFault → A → Type 0
 Answers (Ok x) fault rows = (fault ≡ None) × (x ≡ rows)
 Answers (Err e) fault rows = Tells e fault
+
+-- the rows of a text without a fault are such as the network reads
+abbrev pub TracesAreRead : Type 0
+TracesAreRead = (net : Network) (text : List ℕ) → trace_fault net text ≡ None → IsReadFor net (rows_in net text)

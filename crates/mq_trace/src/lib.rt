@@ -5,6 +5,7 @@ mod each;
 mod fault;
 mod header;
 mod join;
+mod laws;
 mod pieces;
 mod read;
 mod records;
@@ -14,4 +15,5 @@ mod rows;
 mod tests;
 
 pub use fault::TraceFault;
+pub use laws::traces_are_read;
 pub use read::read_trace;
