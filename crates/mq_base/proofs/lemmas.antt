@@ -4,5 +4,6 @@ pub mod Each
 pub mod Gathers
 pub mod Lines
 pub mod Lists
+pub mod Numbers
 pub mod Tests
 pub mod Zips

@@ -8,17 +8,16 @@ use Rattle.std.proofs.lemmas.Grind.{common_steps}
 use Rattle.std.proofs.lemmas.List.{length-map}
 use Rattle.csv.specs.Reading.{strip_bom}
 use Rattle.rand_pcg.specs.Lcg.{Lcg}
+use Rattle.mq_base.proofs.lemmas.Numbers.{number_again, number_of-decimal}
 use Rattle.mq_base.specs.Text.{number_of}
-use Rattle.mq_core.specs.Theorems.{IsReadFor}
 use Rattle.mq_core.specs.declared.model.Network.{Network}
 use Rattle.mq_core.specs.declared.model.Node.{Node}
 use Rattle.mq_trace.specs.Header.{bad_column, bad_header, field_of, is_among}
 use Rattle.mq_trace.specs.Trace.{bad_value, data_of, header_fault, header_of, records_fault, row_fault, rows_fault, rows_in, rows_of, source_named, text_records, trace_fault, two_marks}
 use Rattle.mq_trace.proofs.RowFacts.{none_is_missing}
-use Rattle.mq_trace.proofs.RowsRead.{rows_are_read}
 use Rattle.mq_gen.specs.Made.{Drawn, column_a, column_b, fields_of, header_fields, records_from, source_name, source_node, trace_text}
 use Rattle.mq_gen.proofs.CsvPlain.{plain_records}
-use Rattle.mq_gen.proofs.TraceRecords.{AreDrawn, IsDrawn, many_drawn, number_again, short_trace, trace_plain}
+use Rattle.mq_gen.proofs.TraceRecords.{AreDrawn, IsDrawn, many_drawn, short_trace, trace_plain}
 
 -- A network that reads such traces: its first two nodes are their sources, and its columns are theirs.
 pub record ReadsTraces (net : Network) : Type 0 where
@@ -45,7 +44,7 @@ source_at more net (suc (suc n)) e h = absurd (omega arith)
 
 -- the two values of a record
 in_range : (n limit : ℕ) → n ≤ limit → limit < 10 ^ 19 → is_none (number_of (decimal n) limit) ≡ false
-in_range n limit h small = ap is_none (number_again n limit h small).0
+in_range n limit h small = ap is_none (number_of-decimal n limit h small)
 
 neither : (x : Bool) → (x && false) ≡ false
 neither true = refl
@@ -118,7 +117,6 @@ all_early (r ∷ rs) drawn (suc k) d h = all_early rs drawn.1 k d (omega arith)
 -- what a generator's trace is for a network
 pub record IsTraceFor (net : Network) (g : Lcg) : Type 0 where
   pub clean : trace_fault net (trace_text (records_from g)) ≡ None
-  pub read : IsReadFor net (rows_in net (trace_text (records_from g)))
   pub sources : (rows_in net (trace_text (records_from g))).source ≡ map (λ r. r.source) (records_from g)
   pub times : (rows_in net (trace_text (records_from g))).time ≡ map (λ r. r.time) (records_from g)
   pub least : 20000 ≤ length (rows_in net (trace_text (records_from g))).time
@@ -134,7 +132,6 @@ trace_is_read net g reads =
     let size : length (rows_in net (trace_text rs)).time ≡ length rs = ap length times ∙ length-map rs (λ r. r.time) in
     record {
       clean = clean;
-      read = rows_are_read net (trace_text rs) clean;
       sources = trace_sources net rs reads drawn;
       times = times;
       least = rw size least;

@@ -1,15 +1,12 @@
 -- The records of a trace: how many there are, and what stands in them.
-use Rattle.std.proofs.Common.{rules, Some, ◌≡◌, ap, refl, ℕ, zero, suc, ◌+◌, ◌*◌, ◌<◌, ◌≤◌, ◌^◌, List, [], ◌∷◌, length, true, arith, length-append}
+use Rattle.std.proofs.Common.{◌≡◌, ap, refl, ℕ, zero, suc, ◌+◌, ◌*◌, ◌<◌, ◌≤◌, ◌^◌, List, [], ◌∷◌, length, true, arith, length-append}
 use Rattle.std.specs.Prelude.{decimal, map}
 use Rattle.std.specs.Char.{is_ascii_digit}
 use Rattle.std.specs.List.{flat_map, list_all}
-use Rattle.std.specs.Str.Parse.{digits_value}
 use Rattle.std.proofs.lemmas.Bool.{and_parts}
-use Rattle.std.proofs.lemmas.Fmt.{digits_decimal, length-decimal-le}
-use Rattle.std.proofs.lemmas.Str.Parse.{IsNumeralModel, numerals_by_value}
+use Rattle.std.proofs.lemmas.Fmt.{length-decimal-le}
 use Rattle.rand_pcg.specs.Lcg.{Lcg}
-use Rattle.mq_base.specs.Text.{number_of}
-use Rattle.mq_model.proofs.PrintedParts as printed
+use Rattle.mq_base.proofs.lemmas.Numbers.{decimal-digits}
 use Rattle.mq_gen.specs.Made.{Drawn, draw, fields_of, header_fields, next_record, record_text, records_after, records_from, trace_text}
 use Rattle.mq_gen.proofs.CsvPlain.{ArePlain, IsPlain, is_plain}
 
@@ -55,14 +52,6 @@ many_drawn g =
     (all_drawn ((draw 20001 g).0 + 20000) 0 (draw 20001 g).1 (omega arith), omega (arith, size, few), omega (arith, size, few))
 
 -- The fields of a record: numbers in decimal.
-own : IsNumeralModel (λ ds. list_all is_ascii_digit ds ≡ true) (digits_value 10)
-own = numerals_by_value _ (search rules)
-
-pub number_again : (n limit : ℕ) → n ≤ limit → limit < 10 ^ 19 → (number_of (decimal n) limit ≡ Some n) × (digits_value 10 (decimal n) ≡ n)
-number_again n limit h small =
-    let (number, value) = printed.number_again n limit h small in
-    (rw (number, value) refl, value)
-
 digits_plain : (bytes : List ℕ) → list_all is_ascii_digit bytes ≡ true → list_all is_plain bytes ≡ true
 digits_plain [] h = refl
 digits_plain (b ∷ bytes) h =
@@ -71,7 +60,7 @@ digits_plain (b ∷ bytes) h =
     rw (both.0, rest) refl
 
 decimal_plain : (n : ℕ) → n < 2 ^ 64 → list_all is_plain (decimal n) ≡ true
-decimal_plain n h = digits_plain (decimal n) (digits_decimal own n h)
+decimal_plain n h = digits_plain (decimal n) (decimal-digits n h)
 
 fields_plain : (r : Drawn) → IsDrawn r → IsPlain (fields_of r)
 fields_plain r drawn =

@@ -4,6 +4,7 @@ use Rattle.std.specs.Prelude.{codes, decimal, ◌==◌, nat_lt, nat_le, map}
 use Rattle.std.specs.List.{list_all}
 use Rattle.std.proofs.lemmas.Bool.{and_parts, and_from, and_right, leb-true, eqb-true}
 use Rattle.std.proofs.lemmas.Fmt.{decimal_digit}
+use Rattle.mq_base.proofs.lemmas.Numbers.{number_again}
 use Rattle.mq_core.specs.Names.{is_name}
 use Rattle.mq_core.specs.Ranges.{is_within, rises_from}
 use Rattle.mq_model.specs.Form.{Form, Word, one, read, whole}
@@ -23,7 +24,7 @@ use Rattle.mq_model.specs.Reading.{with_front}
 use Rattle.mq_model.proofs.ReadFacts.{kind_delay, kind_forkjoin, kind_loss, kind_server, kind_split, kind_tandem, line_bound, line_kind, line_source, read_one_yes, rising_no, rising_yes, route_counted, route_cut, thresholds_first, way_mod, way_turn}
 use Rattle.mq_model.proofs.PrintedBranches.{forkjoin_again}
 use Rattle.mq_model.proofs.PrintedStages.{tandem_again}
-use Rattle.mq_model.proofs.PrintedParts.{a_demand_again, inputs_again, name_again, number_again, within_again, AreInputs}
+use Rattle.mq_model.proofs.PrintedParts.{a_demand_again, inputs_again, name_again, within_again, AreInputs}
 use Rattle.mq_model.proofs.SoundLines.{AreSoundThresholds, IsSoundDemand, IsSoundRoute, IsSoundSaid}
 
 -- Thresholds, before the word `from`.

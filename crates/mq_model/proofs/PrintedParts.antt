@@ -1,16 +1,13 @@
 -- The words of the parts of a line say them again.
-use Rattle.std.proofs.Common.{rules, ◌≡◌, ◌∙◌, sym, ap, refl, subst, ℕ, suc, ◌+◌, ◌-◌, ◌<◌, ◌≤◌, ◌^◌, List, [], ◌∷◌, ◌++◌, length, take, get_or, true, false, Ok, arith, inl, inr, length-append}
+use Rattle.std.proofs.Common.{◌≡◌, ◌∙◌, sym, ap, refl, subst, ℕ, suc, ◌+◌, ◌-◌, ◌<◌, ◌≤◌, ◌^◌, List, [], ◌∷◌, ◌++◌, length, take, get_or, true, false, Ok, arith, inl, inr, length-append}
 use Rattle.std.specs.Prelude.{codes, decimal, ◌==◌, nat_le, map}
-use Rattle.std.specs.Char.{is_ascii_digit}
 use Rattle.std.specs.List.{list_all}
 use Rattle.std.proofs.Math.Seq.{take-append_seam}
 use Rattle.std.proofs.lemmas.Bool.{cases_Bool, and_parts, and_from, and_left, and_right, or_left, or_right, leb-true, le-leb, eq-eqb, eqb-true}
-use Rattle.std.proofs.lemmas.Fmt.{decimal_digit, decimal_nonempty, digits_decimal, digits_value-decimal, length-decimal-le}
+use Rattle.std.proofs.lemmas.Fmt.{decimal_digit}
 use Rattle.std.proofs.lemmas.Grind.{common_steps}
 use Rattle.std.proofs.lemmas.List.Folds.{list_all-append}
-use Rattle.std.proofs.lemmas.Str.Parse.{IsNumeralModel, numerals_by_value}
-use Rattle.std.specs.Str.Parse.{digits_value}
-use Rattle.mq_base.specs.Text.{is_number}
+use Rattle.mq_base.proofs.lemmas.Numbers.{number_again}
 use Rattle.mq_core.specs.Names.{is_name, is_name_byte}
 use Rattle.mq_core.specs.Ranges.{is_within}
 use Rattle.mq_model.specs.Form.{Word, one, up_to, read}
@@ -22,19 +19,6 @@ use Rattle.mq_model.specs.declared.said.SaidInput.{SaidInput}
 use Rattle.mq_model.specs.Reading.{with_front}
 use Rattle.mq_model.proofs.ReadFacts.{inputs_first, read_one_yes, up_to_none, up_to_yes}
 use Rattle.mq_model.proofs.SoundLines.{IsSoundDemand}
-
-own : IsNumeralModel (λ ds. list_all is_ascii_digit ds ≡ true) (digits_value 10)
-own = numerals_by_value _ (search rules)
-
--- a number in decimal is a number, with its value
-pub number_again : (n limit : ℕ) → n ≤ limit → limit < 10 ^ 19 → (is_number (decimal n) limit ≡ true) × (value_of (decimal n) ≡ n)
-number_again n limit h small =
-    let fits : n < 2 ^ 64 = omega arith in
-    let value = digits_value-decimal own n fits in
-    let digits = digits_decimal own n fits in
-    let short = length-decimal-le 19 n (omega arith) (omega arith) fits in
-    let some = decimal_nonempty n fits in
-    (grind (arith, common_steps, value, digits, short, some), value)
 
 name_begins : (b : ℕ) (more : List ℕ) → is_name (b ∷ more) ≡ true → (b == 61) ≡ false
 name_begins b more h = grind (arith, common_steps, h)

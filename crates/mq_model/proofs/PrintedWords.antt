@@ -8,6 +8,7 @@ use Rattle.std.proofs.lemmas.Fmt.{decimal_nonempty, length-decimal-le}
 use Rattle.std.proofs.lemmas.Grind.{common_steps}
 use Rattle.std.proofs.lemmas.List.Folds.{list_all-append}
 use Rattle.mq_base.proofs.lemmas.Tests.{list_all_wider}
+use Rattle.mq_base.proofs.lemmas.Numbers.{number_again}
 use Rattle.mq_core.specs.Names.{is_name, is_name_byte}
 use Rattle.mq_core.specs.Ranges.{is_within}
 use Rattle.mq_model.specs.Form.{Word}
@@ -24,7 +25,7 @@ use Rattle.mq_model.specs.declared.said.Said.{Said}
 use Rattle.mq_model.specs.declared.said.Said.TheVariants.{Bound, Node}
 use Rattle.mq_model.specs.Said.{reads_of}
 use Rattle.mq_model.proofs.Lists.{AreAll, all_both, all_told}
-use Rattle.mq_model.proofs.PrintedParts.{AreInputs, IsInput, number_again}
+use Rattle.mq_model.proofs.PrintedParts.{AreInputs, IsInput}
 use Rattle.std.proofs.lemmas.List.{length-map}
 use Rattle.mq_model.proofs.SoundLines.{AreSoundBranches, IsSoundBranch, AreSoundStages, IsSoundStage, IsSoundDemand, IsSoundKind, IsSoundRoute, IsSoundSaid, is_sound_reads}
 
