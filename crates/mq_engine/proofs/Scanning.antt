@@ -11,9 +11,8 @@ use Rattle.mq_core.specs.Came.{came_in}
 use Rattle.mq_core.specs.Columns.{IsSoundLoad, founds_of, column_stream, stream_in_order}
 use Rattle.mq_core.specs.Recurrences.{lindley}
 use Rattle.mq_core.specs.ColumnLaws.{FatesAreInTime}
-use Rattle.mq_core.specs.Columns.{IsSoundLoad, founds_of}
 use Rattle.mq_core.specs.Handling.{demand_of_job}
-use Rattle.mq_core.specs.Recurrences.{lindley, tandem_departs}
+use Rattle.mq_core.specs.Recurrences.{tandem_departs}
 use Rattle.mq_core.specs.declared.model.Fate.{Fate}
 use Rattle.mq_core.specs.declared.model.Fate.TheVariants.{Departs}
 use Rattle.mq_core.specs.declared.model.Node.{Node}

@@ -12,8 +12,8 @@ use Rattle.mq_core.proofs.lemmas.Orders.{firsts-order}
 use Rattle.mq_base.proofs.lemmas.Lists.{get-last, get-push, some_inj}
 use Rattle.mq_base.proofs.lemmas.Zips.{zip-drop}
 use Rattle.mq_base.proofs.lemmas.Each.{Each-weaker}
-use Rattle.mq_core.proofs.Events.Rising.{Rises-in_order_of}
-use Rattle.mq_core.proofs.lemmas.Rising.{Rises-in_order_of, Rises-drop}
+use Rattle.mq_core.proofs.lemmas.Rising.{Rises-in_order_of}
+use Rattle.mq_core.proofs.lemmas.Rising.{Rises-drop}
 use Rattle.mq_core.specs.ColumnLaws.{LeavesFrom}
 use Rattle.mq_core.specs.Columns.{by_first, departs_after, founds_from, founds_of}
 use Rattle.mq_core.specs.Laws.{Rises, in_order_of}

@@ -17,8 +17,6 @@ use Rattle.mq_core.specs.Streams.{by_first, pairs_of, stream_by}
 use Rattle.mq_core.proofs.EachKind.Facts.{network-fits}
 use Rattle.mq_core.proofs.Events.Forward.{emissions-now}
 use Rattle.mq_core.proofs.Events.Kept.{Fact, Fits, Keeps, kept}
-use Rattle.mq_core.proofs.Events.Orders.{Each-order, in_order_of-length}
-use Rattle.mq_core.proofs.Events.Rising.{Rises-append, Rises-filter}
 use Rattle.mq_core.proofs.lemmas.Orders.{Each-order, in_order_of-length}
 use Rattle.mq_core.proofs.lemmas.Rising.{Rises-append, Rises-filter}
 use Rattle.mq_core.proofs.Networks.Whole.{starts-begin}

@@ -29,7 +29,6 @@ use Rattle.mq_core.proofs.Counting.ColumnNumbers.{EachLeaves, LeavesAs, Numbered
 use Rattle.mq_core.proofs.EachKind.Flows.{flow-numbered}
 use Rattle.mq_core.proofs.EachKind.LawTable.{recurrence_of}
 use Rattle.mq_core.proofs.EachKind.Tallied.{founds-are-counts}
-use Rattle.mq_core.proofs.Events.Orders.{filter-order, in_order_of-map}
 use Rattle.mq_core.proofs.lemmas.Orders.{filter-order, in_order_of-map}
 
 pub flow-fates : (rows : Rows) (ports : ℕ) (kind : Kind) (visits : List Visit) → map (fate_by kind) (flow_of rows ports kind visits) ≡ column_fates rows kind (came_of ports visits)

@@ -22,7 +22,6 @@ use Rattle.mq_core.specs.declared.model.Fate.{Fate}
 use Rattle.mq_core.specs.declared.model.Fate.TheVariants.{Departs, Lost}
 use Rattle.mq_core.specs.declared.model.Kind.{Kind}
 use Rattle.mq_core.proofs.Events.EmissionsAt.{neq-eqb}
-use Rattle.mq_core.proofs.Events.Orders.{filter-order, short-order}
 use Rattle.mq_core.proofs.lemmas.Orders.{filter-order, short-order}
 
 -- one emission a visit, by position from this one on, with its job

@@ -9,11 +9,9 @@ use Rattle.mq_core.specs.declared.model.Demand.{Demand}
 use Rattle.mq_core.specs.declared.model.Kind.TheVariants.{Delay}
 use Rattle.mq_core.specs.declared.model.Rows.{Rows}
 use Rattle.mq_core.proofs.Bounded.BoundedAsked.{asked, asked-small}
-use Rattle.mq_core.proofs.Bounded.BoundedStations.{departs-by, delayed-by}
+use Rattle.mq_core.proofs.Bounded.BoundedStations.{departs-by}
 use Rattle.mq_core.proofs.Delay.DelayColumns.{delayed-by, delayed-numbered, delay-outs, delayed-fates, when-delayed}
-use Rattle.mq_core.proofs.Counting.FlowColumns.{departing-leaves, delay-outs, delayed-fates}
-use Rattle.mq_core.proofs.Counting.ColumnNumbers.{delayed-numbered}
-use Rattle.mq_core.proofs.Counting.InTime.{when-delayed}
+use Rattle.mq_core.proofs.Counting.FlowColumns.{departing-leaves}
 use Rattle.mq_core.proofs.Counting.Stays.{stay-fates}
 use Rattle.mq_core.proofs.EachKind.RecurrenceLaws.{RecurrenceLaws}
 use Rattle.mq_core.proofs.Events.Exits.{until-own}

@@ -9,8 +9,8 @@ use Rattle.mq_base.proofs.lemmas.Each.{Each-map, Each-any, filter-none, filter-y
 use Rattle.mq_core.specs.Event.{Event, time_of, node_of, is_sooner, earliest}
 use Rattle.mq_core.specs.Event.Event.{Arrive, Finish}
 use Rattle.mq_core.specs.Machine.{Emission, Service, Table, State, Station, step, after, handled, happens, caused, arrivals_of, arrival_of, emissions_at, finishes_of, reaction, until, acted}
-use Rattle.mq_core.specs.Laws.{IsWired, port_of, is_arrival_at, stream_of, brought}
 use Rattle.mq_core.proofs.Events.Tables.{IsWired}
+use Rattle.mq_core.specs.Laws.{port_of, is_arrival_at, stream_of, brought}
 use Rattle.mq_core.proofs.Events.Pending.{filter-earliest_alike, filter-earliest_other}
 use Rattle.mq_core.proofs.Events.Steps.{step-some, step-none, handled-zero, handled-some, handled-none, after-zero, after-some, after-none}
 use Rattle.mq_core.proofs.Events.Forward.{Each-arrivals}

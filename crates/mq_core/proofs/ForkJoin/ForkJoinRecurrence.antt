@@ -10,9 +10,9 @@ use Rattle.mq_core.specs.Kinds.ForkJoin.{branch_demands}
 use Rattle.mq_core.specs.declared.model.Demand.{Demand}
 use Rattle.mq_core.specs.declared.model.Kind.TheVariants.{ForkJoin}
 use Rattle.mq_core.specs.declared.model.Rows.{Rows}
-use Rattle.mq_core.proofs.Bounded.BoundedAsked.{all-small, branches-few, branches-small}
+use Rattle.mq_core.proofs.Bounded.BoundedAsked.{all-small}
 use Rattle.mq_core.proofs.ForkJoin.ForkJoinBounded.{branches-few, branches-small, fork-by}
-use Rattle.mq_core.proofs.Bounded.BoundedStations.{departs-by, fork-by}
+use Rattle.mq_core.proofs.Bounded.BoundedStations.{departs-by}
 use Rattle.mq_core.proofs.Counting.ColumnNumbers.{leaving-numbered}
 use Rattle.mq_core.proofs.Counting.FlowColumns.{departing-leaves, leaving-fates, leaving-outs}
 use Rattle.mq_core.proofs.Counting.Stays.{stay-fates}

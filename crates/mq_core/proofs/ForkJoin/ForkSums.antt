@@ -10,7 +10,7 @@ use Rattle.mq_core.specs.Told.{AreTold}
 use Rattle.mq_core.specs.Handling.{demand_of_job}
 use Rattle.mq_core.specs.declared.model.Demand.{Demand}
 use Rattle.mq_core.specs.declared.model.Rows.{Rows}
-use Rattle.mq_base.proofs.lemmas.Lists.{drop_at, some_inj}
+use Rattle.mq_base.proofs.lemmas.Lists.{some_inj}
 
 -- what all have, the one at a place has
 pub each-at : {X : Type 0} (P : X → Type 0) (xs : List X) (i : ℕ) (x : X) → Each P xs → slice_get xs i ≡ Some x → P x

@@ -16,7 +16,7 @@ use Rattle.mq_core.specs.declared.model.Fate.TheVariants.{Departs, Lost}
 use Rattle.mq_core.specs.declared.model.Kind.TheVariants.{Loss}
 use Rattle.mq_core.specs.declared.model.Rows.{Rows}
 use Rattle.mq_core.proofs.Counting.ColumnNumbers.{EachLeaves, Numbered}
-use Rattle.mq_core.proofs.Events.Rising.{Rises-filter, Rises-in_order_of, filter-in_order_of, same_by_key}
+use Rattle.mq_core.proofs.lemmas.Rising.{Rises-filter, Rises-in_order_of, filter-in_order_of, same_by_key}
 use Rattle.mq_core.proofs.Counting.Stays.{FatesStay, cons}
 use Rattle.mq_core.proofs.Bounded.BoundedStations.{AreBy, AreSmall, LeaveBy}
 

@@ -15,11 +15,6 @@ use Rattle.mq_core.specs.declared.model.Fate.TheVariants.{Departs, Lost}
 use Rattle.mq_core.specs.declared.model.Rows.{Rows}
 use Rattle.mq_core.proofs.Bounded.BoundedAsked.{asked, asked-small}
 use Rattle.mq_core.proofs.Loss.LossColumns.{loss-by, faring-numbered, loss-even, faring-fates, faring-leaves, faring-outs, loss-stream, demands-of, even-fates, stay-admitted, when-lost}
-use Rattle.mq_core.proofs.Bounded.BoundedStations.{loss-by}
-use Rattle.mq_core.proofs.Counting.ColumnNumbers.{faring-numbered, loss-even}
-use Rattle.mq_core.proofs.Counting.FlowColumns.{demands-of, even-fates}
-use Rattle.mq_core.proofs.Counting.InTime.{when-lost}
-use Rattle.mq_core.proofs.Counting.Stays.{stay-admitted}
 use Rattle.mq_core.proofs.EachKind.RecurrenceLaws.{RecurrenceLaws}
 use Rattle.mq_core.proofs.Events.Exits.{until-own}
 

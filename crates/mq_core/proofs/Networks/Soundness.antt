@@ -5,9 +5,9 @@ use Rattle.std.proofs.lemmas.List.Folds.{list_any-append}
 use Rattle.std.specs.Prelude.{◌&&◌, ◌||◌, ◌==◌, not, map, slice_get, IsTrue}
 use Rattle.std.specs.List.{flat_map, list_all, list_any}
 use Rattle.mq_core.specs.Sound.{is_sound, is_sound_node, are_distinct, same_input, mentions_from, columns_of_kind}
-use Rattle.mq_core.specs.Wiring.{inputs_of, IsReadOnce}
-use Rattle.mq_core.specs.Ranges.{is_sound_demand, is_within}
+use Rattle.mq_core.specs.Wiring.{inputs_of}
 use Rattle.mq_core.proofs.Networks.Wired.{IsReadOnce}
+use Rattle.mq_core.specs.Ranges.{is_sound_demand, is_within}
 use Rattle.mq_core.specs.declared.model.Input.{Input}
 use Rattle.mq_core.specs.declared.model.Network.{Network}
 use Rattle.mq_core.specs.declared.model.Node.{Node}

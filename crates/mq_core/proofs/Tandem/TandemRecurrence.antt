@@ -15,7 +15,7 @@ use Rattle.mq_core.specs.declared.model.Kind.TheVariants.{Tandem}
 use Rattle.mq_core.specs.declared.model.Network.{Network}
 use Rattle.mq_core.specs.declared.model.Rows.{Rows}
 use Rattle.mq_core.specs.declared.model.Stage.{Stage}
-use Rattle.mq_core.proofs.Bounded.BoundedAsked.{all-small, asked, none-left, stages-small}
+use Rattle.mq_core.proofs.Bounded.BoundedAsked.{all-small, asked}
 use Rattle.mq_core.proofs.Tandem.TandemBounded.{none-left, stages-small, tandem-by}
 use Rattle.mq_core.proofs.Bounded.BoundedStations.{AreBy, LeaveBy, by-later, departs-by}
 use Rattle.mq_core.proofs.Counting.ColumnNumbers.{leaving-numbered}
