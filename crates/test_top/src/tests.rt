@@ -11,16 +11,27 @@ const MODEL: &[u8] = b"model 1\nsource src\nserver desk d from src\n";
 // Its jobs.
 const TRACE: &[u8] = b"source,time,d\nsrc,0,4\nsrc,1,1\nsrc,2,3\n";
 
-// The model `m` and the trace `t`. The read of this number fails, from 1; of number 0 none does.
+// The model `m` and the trace `t` of the server. The read of this number fails, from 1; of number 0 none
+// does.
 fn files_of(alloc: Global, failing: u64) -> Result<MemFiles, OutOfMemory> {
+    files_with(alloc, MODEL, TRACE, failing)
+}
+
+// The same with this model and this trace.
+fn files_with(
+    alloc: Global,
+    model: &[u8],
+    trace: &[u8],
+    failing: u64,
+) -> Result<MemFiles, OutOfMemory> {
     let mut files = Vec::new(alloc);
     files.push(MemFile {
         name: String::from_str(alloc, "m")?,
-        bytes: Vec::from_slice(alloc, MODEL)?,
+        bytes: Vec::from_slice(alloc, model)?,
     })?;
     files.push(MemFile {
         name: String::from_str(alloc, "t")?,
-        bytes: Vec::from_slice(alloc, TRACE)?,
+        bytes: Vec::from_slice(alloc, trace)?,
     })?;
     Ok(MemFiles::new(files, Vec::from_slice(alloc, &[failing])?))
 }

@@ -1,5 +1,5 @@
 // Two threads make pieces of one run.
-use super::files_of;
+use super::{MODEL, TRACE, files_with};
 use mq_base::{MemSink, OutOfMemory};
 use mq_chain::ChainSeat;
 use mq_claims::ClaimSeat;
@@ -10,6 +10,12 @@ use std::sync::atomic::AtomicU64;
 use std::sync::atomic::Ordering::SeqCst;
 use std::test::Fail;
 use std::thread::Threads;
+
+// A source and a tandem of three stages.
+const TANDEM: &[u8] = b"model 1\nsource src\ntandem line a / 2 b / 1 c from src\n";
+
+// Its jobs.
+const TANDEM_TRACE: &[u8] = b"source,time,a,b,c\nsrc,0,2,3,1\nsrc,1,1,1,4\nsrc,2,2,1,1\n";
 
 // How often a held entry looks whether the other has come.
 const TURNS: u64 = 2_000_000_000;
@@ -42,9 +48,23 @@ impl Gate for Held {
     fn enter_block(&self, _seat: &ChainSeat, _worker: u32, _block: u32) {}
 }
 
-// Whether the run with this gate is done.
-fn is_done<R: Threads + Sync>(rt: &R, alloc: Global, gate: &Held) -> Result<bool, OutOfMemory> {
-    let mut files = files_of(alloc, 0)?;
+// A gate that no entry has come to.
+fn nobody() -> Held {
+    Held {
+        came: [AtomicU64::new(0), AtomicU64::new(0), AtomicU64::new(0)],
+        run_out: AtomicU64::new(0),
+    }
+}
+
+// Whether the run of this model over this trace with this gate is done.
+fn is_done<R: Threads + Sync>(
+    rt: &R,
+    alloc: Global,
+    model: &[u8],
+    trace: &[u8],
+    gate: &Held,
+) -> Result<bool, OutOfMemory> {
+    let mut files = files_with(alloc, model, trace, 0)?;
     let mut out = MemSink::new(alloc, 1024, Vec::new(alloc));
     let mut err = MemSink::new(alloc, 1024, Vec::new(alloc));
     let words = ["m", "t", "--workers", "2", "--block", "1"];
@@ -53,14 +73,23 @@ fn is_done<R: Threads + Sync>(rt: &R, alloc: Global, gate: &Held) -> Result<bool
 }
 
 #[test]
-fn two_threads_enter_the_gate(rt: HostRuntime) -> Result<(), Fail> {
-    let gate = Held {
-        came: [AtomicU64::new(0), AtomicU64::new(0), AtomicU64::new(0)],
-        run_out: AtomicU64::new(0),
-    };
-    assert!(rt; is_done(&rt, rt.alloc(), &gate)?);
+fn two_threads_enter_the_gate_at_a_server(rt: HostRuntime) -> Result<(), Fail> {
+    let gate = nobody();
+    assert!(rt; is_done(&rt, rt.alloc(), MODEL, TRACE, &gate)?);
     assert!(rt; gate.run_out.load(SeqCst) == 0);
     // once for a summary, once for an applied block, and once for the last lists of the server
+    for piece in 0..3usize {
+        assert!(rt; gate.came[piece].load(SeqCst) >= 3);
+    }
+    Ok(())
+}
+
+#[test]
+fn two_threads_enter_the_gate_at_a_tandem(rt: HostRuntime) -> Result<(), Fail> {
+    let gate = nobody();
+    assert!(rt; is_done(&rt, rt.alloc(), TANDEM, TANDEM_TRACE, &gate)?);
+    assert!(rt; gate.run_out.load(SeqCst) == 0);
+    // the same: a summary and an applied block of each job, and the last lists
     for piece in 0..3usize {
         assert!(rt; gate.came[piece].load(SeqCst) >= 3);
     }
