@@ -108,7 +108,7 @@ pub struct ChainSeat {
 
 impl Model for ChainSeat {
     ghost use Rattle.std.specs.Prelude.{◌≡◌, ◌≤◌, []};
-    ghost use Rattle.mq_chain.specs.Seats.{Seated, seated_code};
+    ghost use Rattle.mq_chain.specs.Seats.{Seated, seated_code, seated};
 
     ghost Value = { Seated };
 

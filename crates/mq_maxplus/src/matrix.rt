@@ -18,6 +18,7 @@ pub struct Matrix {
 impl Model for Matrix {
     ghost use Rattle.std.specs.Prelude.{◌-◌, ◌++◌, List, length, replicate, take};
     ghost use Rattle.mq_maxplus.specs.declared.mp.Mp.{Mp};
+    ghost use Rattle.mq_maxplus.specs.Matrices.{voids};
     ghost use Rattle.mq_maxplus.specs.Padded.{IsPaddedMatrix, columns-back, columns-size-back};
 
     ghost Value = { List (List Mp) };

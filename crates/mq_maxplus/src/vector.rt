@@ -16,6 +16,7 @@ pub struct Vector {
 impl Model for Vector {
     ghost use Rattle.std.specs.Prelude.{◌-◌, ◌++◌, List, length, take};
     ghost use Rattle.mq_maxplus.specs.declared.mp.Mp.{Mp};
+    ghost use Rattle.mq_maxplus.specs.Matrices.{voids};
     ghost use Rattle.mq_maxplus.specs.Padded.{IsPadded, items-back, size-back};
 
     ghost Value = { List Mp };
