@@ -10,6 +10,7 @@ pub mod Kept
 pub mod Remaining
 pub mod Falls
 pub mod Areas
+pub mod Later
 pub mod EmissionsAt
 pub mod Founds
 pub mod Leavings

@@ -26,7 +26,8 @@ pub fn nodes_run_alone<H: Handlers>()
     ensures { NodesRunAlone H.opening H.handle H.jobs H.working }
 {}
 
-/// The run has ended: nothing is pending, each visit has its fate, and no node holds a job.
+/// The run has ended: nothing is pending, each visit has its fate but where visits may stay for
+/// good, and each node holds those that haven't left.
 pub fn the_run_ends()
     ensures { RunEnds }
 {}
@@ -41,7 +42,7 @@ pub fn nodes_flow_alone()
     ensures { NodesFlowAlone }
 {}
 
-/// Each visit found as many as the earlier ones that leave later than it came.
+/// Each visit found as many as the earlier ones that were still there.
 pub fn founds_are_counts()
     ensures { FoundsAreCounts }
 {}

@@ -16,17 +16,18 @@ use Rattle.mq_core.specs.Results.{fates_from, stream_from, visits_of}
 use Rattle.mq_core.specs.Served.{flow_of, in_leaving_order}
 use Rattle.mq_core.specs.StandardTable.{run_of}
 use Rattle.mq_core.specs.Streams.{by_first, picked, stream_by}
-use Rattle.mq_core.specs.Tallies.{arrival_or, found_or, still_there}
+use Rattle.mq_core.specs.Tallies.{arrival_or, found_or}
 use Rattle.mq_core.specs.declared.model.Kind.{Kind}
 use Rattle.mq_core.specs.declared.model.Node.{Node}
 use Rattle.mq_core.specs.declared.model.Rows.{Rows}
 use Rattle.mq_core.specs.declared.model.Stream.{Stream}
 use Rattle.mq_core.proofs.Columns.ColumnFlow.{flow-leaves, nodes-flow}
 use Rattle.mq_core.proofs.Columns.ColumnOrder.{streams-rise}
-use Rattle.mq_core.proofs.Counting.ColumnNumbers.{EachLeaves, LeavesAs, Numbered, fates-numbered, founds-numbered, jobs-numbered, order-found}
+use Rattle.mq_core.proofs.Counting.ColumnNumbers.{EachLeaves, LeavesAs, Numbered, founds-numbered, jobs-numbered, order-found}
 use Rattle.mq_core.proofs.EachKind.Flows.{flow-numbered}
 use Rattle.mq_core.proofs.EachKind.LawTable.{recurrence_of}
 use Rattle.mq_core.proofs.EachKind.Tallied.{founds-are-counts}
+use Rattle.mq_core.proofs.Events.Later.{leaving_later}
 use Rattle.mq_core.proofs.Events.Orders.{filter-order, in_order_of-map}
 use Rattle.mq_core.proofs.Lists.Each.{Each-any}
 
@@ -56,20 +57,16 @@ leaves-times kind k (m ∷ ms) (x ∷ xs) n h = λ i. own h.0 i ∷ leaves-times
     own (inl e) = ap (leaving_time x.arrive) (sym e)
     own (inr e) = e.1 ∙ ap (leaving_time x.arrive) (sym e.0)
 
--- a station that let out its flow stands in columns
-pub station-visits : (rows : Rows) (ports : ℕ) (kind : Kind) (s : Station Local) → s.emitted ≡ in_leaving_order kind (flow_of rows ports kind s.visits) → Rises (λ a b. a ≤ b) (arrives_of s.visits) →
-    ((j : ℕ) → j < length s.visits → found_or 0 (slice_get s.visits j) ≡ still_there (arrival_or 0 (slice_get s.visits j)) s.emitted j) →
-    visits_of kind s ≡ column_visits rows kind (came_of ports s.visits)
-station-visits rows ports kind s flow rise found =
+-- what the visits of a station found that let out its flow stands in columns
+pub station-founds : (rows : Rows) (ports : ℕ) (kind : Kind) (s : Station Local) → s.emitted ≡ in_leaving_order kind (flow_of rows ports kind s.visits) → Rises (λ a b. a ≤ b) (arrives_of s.visits) →
+    ((j : ℕ) → j < length s.visits → found_or 0 (slice_get s.visits j) ≡ leaving_later (arrival_or 0 (slice_get s.visits j)) s.emitted j) →
+    map (λ (x : Visit). x.found) s.visits ≡ founds_of (arrives_of s.visits) (column_fates rows kind (came_of ports s.visits))
+station-founds rows ports kind s flow rise found =
     let numbered = flow-numbered rows ports kind s.visits in
     let order = order-found kind 0 (flow_of rows ports kind s.visits) s.visits numbered in
-    let fates : fates_from kind s.emitted 0 s.visits ≡ column_fates rows kind (came_of ports s.visits) =
-    ap (λ l. fates_from kind l 0 s.visits) flow ∙ (fates-numbered kind 0 (in_leaving_order kind (flow_of rows ports kind s.visits)) (flow_of rows ports kind s.visits) s.visits numbered (λ q l. order q) ∙ flow-fates rows ports kind s.visits) in
-    let founds : map (λ (x : Visit). x.found) s.visits ≡ founds_of (arrives_of s.visits) (column_fates rows kind (came_of ports s.visits)) =
     founds-numbered kind 0 0 (in_leaving_order kind (flow_of rows ports kind s.visits)) (flow_of rows ports kind s.visits) [] s.visits numbered (λ q l. order q) (flow-leaves rows ports kind s.visits) (Each-any _ (λ a. omega arith) (arrives_of s.visits), rise) (λ time l. refl)
-    (λ j l. found j l ∙ (λ i. still_there (arrival_or 0 (slice_get s.visits j)) (flow i) (sym (zero-add j) i)))
-    ∙ ap (founds_of (arrives_of s.visits)) (flow-fates rows ports kind s.visits) in
-    λ i. record { job = jobs_of s.visits; arrive = arrives_of s.visits; found = founds i; fate = fates i }
+    (λ j l. found j l ∙ (λ i. leaving_later (arrival_or 0 (slice_get s.visits j)) (flow i) (sym (zero-add j) i)))
+    ∙ ap (founds_of (arrives_of s.visits)) (flow-fates rows ports kind s.visits)
 
 -- the jobs and the times of what leaves by an output
 stream_in : ℕ → List Emission → Stream
@@ -124,26 +121,3 @@ pub station-stream : (rows : Rows) (ports : ℕ) (kind : Kind) (s : Station Loca
 unfolding stream_in
 station-stream rows ports kind s out flow rise =
     ap (stream_in out) flow ∙ (order-stream (behaviour_of kind).order (flow_of rows ports kind s.visits) out (λ mixed. (recurrence_of rows ports kind).stands mixed s.visits rise) ∙ ap (stream_in_order kind) (flow-stream rows ports kind s.visits out))
-
-pub some-inside : (nodes : List Node) (v : ℕ) (node : Node) → slice_get nodes v ≡ Some node → v < length nodes
-some-inside [] v node h = absurd cc
-some-inside (n ∷ nodes) zero node h = omega arith
-some-inside (n ∷ nodes) (suc v) node h = let l = some-inside nodes v node h in omega arith
-
-pub nodes-are-columns : NodesAreColumns
-nodes-are-columns plan rows read v node e =
-    let flow = nodes-flow plan rows read v node e in
-    let rise = (streams-rise plan rows v).arrivals in
-    record {
-      visits = station-visits rows (length node.inputs) node.kind ((run_of plan rows).stations v) flow rise (founds-are-counts plan rows read v (some-inside plan.net.nodes v node e));
-      stream = λ out. station-stream rows (length node.inputs) node.kind ((run_of plan rows).stations v) out flow rise;
-    }
-
--- the ports change neither fates nor outputs, from which all else follows
-pub columns-are-blind : ColumnsAreBlind
-columns-are-blind rows kind came =
-    let blind = (recurrence_of rows came.ports kind).blind came in
-    record {
-      visits = λ i. record { job = came.job; arrive = came.arrive; found = founds_of came.arrive (blind.0 i); fate = blind.0 i };
-      stream = λ out i. stream_in_order kind (record { job = picked out (blind.1 i) came.job; time = picked out (blind.1 i) (leaving_times came.arrive (blind.0 i)) });
-    }

@@ -1,8 +1,9 @@
 -- The services of visits, told of those that are there.
 use Rattle.std.proofs.Common.{List, None, Option, Some, [], arith, length, refl, suc, sym, zero, ℕ, ◌∷◌, ◌≡◌}
 use Rattle.std.proofs.lemmas.List.Sums.{sum_by-cons}
+use Rattle.std.specs.Option.{option_map}
 use Rattle.std.specs.Prelude.{slice_get, sum_by}
-use Rattle.mq_core.specs.Fates.{fate_of, service_of, service_time, unless_lost}
+use Rattle.mq_core.specs.Fates.{fate_of, service_of, service_time, unless_lost, fate_by}
 use Rattle.mq_core.specs.Handling.{demand_of_visit}
 use Rattle.mq_core.specs.Machine.{Emission, Visit}
 use Rattle.mq_core.specs.Tallies.{emission_at, sum_below}
@@ -31,5 +32,5 @@ no_sum (suc n) = omega (arith, no_sum n)
 
 -- where none is lost the services of all count
 pub services-count : (rows : Rows) (kind : Kind) (visits : List Visit) (emitted : List Emission) → Departing kind →
-    sum_below (length visits) (λ p. service_of rows kind (slice_get visits p)) ≡ sum_below (length visits) (λ p. unless_lost (fate_of kind emitted p) (service_of rows kind (slice_get visits p)))
+    sum_below (length visits) (λ p. service_of rows kind (slice_get visits p)) ≡ sum_below (length visits) (λ p. unless_lost (option_map (fate_by kind) (emission_at emitted p)) (service_of rows kind (slice_get visits p)))
 services-count rows kind visits emitted by = sum-same (length visits) _ _ (λ p l. sym (departing-whole kind by (emission_at emitted p) (service_of rows kind (slice_get visits p))))

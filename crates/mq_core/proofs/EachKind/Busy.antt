@@ -69,8 +69,6 @@ busy-is_services plan rows read v node here =
     (laws_of rows (length node.inputs) node.kind).served v (end.stations v) end.clock
     (subst (λ o. node_fact rows o v (end.stations v) [] end.clock) here fact.0)
     (subst (λ o. node_busy rows o (end.stations v) [] end.clock) here fact.1)
-    ∙ sum-same (length (end.stations v).visits) _ _
-    (λ p l. ap (λ o. unless_lost (option_map (fate_by node.kind) o) (service_of rows node.kind (slice_get (end.stations v).visits p))) ((own_of rows (length node.inputs) node.kind).exits (end.stations v) p))
   where
     end : State Local
     end = run_of plan rows

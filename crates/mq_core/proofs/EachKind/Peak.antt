@@ -5,7 +5,7 @@ use Rattle.std.specs.List.{AllByRecursion as Each}
 use Rattle.mq_core.specs.Behaviour.{Behaviour}
 use Rattle.mq_core.specs.Event.{Event, earliest}
 use Rattle.mq_core.specs.Event.Event.{Arrive, Finish}
-use Rattle.mq_core.specs.Fates.{unless_lost, PeakIsGreatest}
+use Rattle.mq_core.specs.Fates.{unless_lost, PeakIsGreatest, fate_by}
 use Rattle.mq_core.specs.KindTable.{behaviour_of}
 use Rattle.mq_core.specs.Local.{Local}
 use Rattle.mq_core.specs.Machine.{Visit, Emission, Release, Station, emission_of, emissions_of}
@@ -175,3 +175,7 @@ pub peak-is_greatest : PeakIsGreatest
 peak-is_greatest plan rows v node here holds =
     (subst (λ o. node_peaked o ((run_of plan rows).stations v)) here
     (kept (standard plan rows) (λ u s fs now. node_fact rows (slice_get plan.net.nodes u) u s fs now × node_peaked (slice_get plan.net.nodes u) s) (peak-keeps plan rows) (standard-on_time plan rows) (feeds_forward plan (standard plan rows) refl refl) (starts rows) (starts-begin (standard plan rows) 0 rows.source rows.time) (run_length plan.net.nodes rows) v).1 holds).greatest
+    ∙ greatest-same (length end.visits) _ _ (λ k l. ap (λ o. unless_lost (option_map (fate_by node.kind) o) (found_or 0 (slice_get end.visits k) + 1)) (sym ((own_of rows (length node.inputs) node.kind).exits end k)))
+  where
+    end : Station Local
+    end = (run_of plan rows).stations v

@@ -15,7 +15,7 @@ use Rattle.mq_core.specs.Tallies.{arrival_or}
 use Rattle.mq_core.specs.Wiring.{reader_from}
 use Rattle.mq_core.specs.declared.model.Node.{Node}
 use Rattle.mq_core.specs.declared.model.Rows.{Rows}
-use Rattle.mq_core.proofs.EachKind.Ends.{inside-some, run-ended}
+use Rattle.mq_core.proofs.EachKind.Ends.{inside-some, none-held}
 use Rattle.mq_core.proofs.EachKind.Facts.{node_fact, standard-keeps}
 use Rattle.mq_core.proofs.EachKind.KindLaws.{IsFilled}
 use Rattle.mq_core.proofs.EachKind.LawTable.{laws_of}
@@ -99,7 +99,7 @@ span-is_latest plan rows read =
     over (inl h) = inl h
     over (inr (inl h)) = inr (inl h)
     over (inr (inr (inl h))) = inr (inr h)
-    over (inr (inr (inr h))) = absurd (let some = h.1 in let none = (run-ended plan rows read).empty h.0 in omega arith)
+    over (inr (inr (inr h))) = absurd (let some = h.1 in let none = none-held plan rows read h.0 in omega arith)
 
     areas : (v : ℕ) → v < length plan.net.nodes → Areas (standard plan rows) ((run_of plan rows).stations v) (run_of plan rows).clock
     areas v inside =

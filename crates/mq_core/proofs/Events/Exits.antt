@@ -5,11 +5,12 @@ use Rattle.std.specs.Prelude.{nat_lt, slice_get}
 use Rattle.mq_core.specs.Event.{Event, earliest}
 use Rattle.mq_core.specs.Event.Event.{Arrive, Finish}
 use Rattle.mq_core.specs.Machine.{Visit, Emission, Table, Station, acted, aged, emissions_at}
-use Rattle.mq_core.specs.Tallies.{arrival_or, emission_at, found_or, one_if_later, one_if_none, sum_below}
+use Rattle.mq_core.specs.Tallies.{arrival_or, emission_at, found_or, one_if_none, sum_below, one_if_there}
 use Rattle.mq_core.proofs.Events.Areas.{get-front, get-last, sum-same}
 use Rattle.mq_core.proofs.Events.Forward.{emissions-now}
 use Rattle.mq_core.proofs.Events.Founds.{LeavesInTime, later-now, later-same}
 use Rattle.mq_core.proofs.Events.Kept.{Fact, Keeps}
+use Rattle.mq_core.proofs.Events.Later.{one_if_later}
 
 -- the emission with which the visit at a position of a node leaves, once it has
 abbrev pub Exit : Type 0 → Type 0
@@ -18,11 +19,6 @@ Exit L = ℕ → Station L → ℕ → Option Emission
 -- whether a visit to a node that leaves with an emission is still there for one that comes at a time, at a position
 abbrev pub There : Type 0
 There = ℕ → ℕ → ℕ → Emission → Bool
-
--- 1 where it is still there, or hasn't left
-abbrev pub one_if_there : (ℕ → ℕ → Emission → Bool) → ℕ → ℕ → Option Emission → ℕ
-one_if_there there time position None = 1
-one_if_there there time position (Some m) = cond (there time position m) 1 0
 
 -- who leaves does so after those that came before
 pub record ExitsInTime {L : Type 0} (t : Table L) (P : Fact L) (Q : ℕ → Type 0) (exit : Exit L) (there : There) : Type 0 where

@@ -143,7 +143,7 @@ emissions-leave now k emitted more same = go (emission_at-append emitted more k)
 
 -- where each visit is let out once and no one else is, visits leave by their emissions
 pub leaves-by_emission : {L : Type 0} (t : Table L) (P : Fact L) (Q : ℕ → Type 0) → ((v : ℕ) (s : Station L) (fs : List Event) (now : ℕ) → Q v → P v s fs now → Each (λ (m : Emission). m.position < length s.visits) s.emitted) →
-    ((v : ℕ) (s : Station L) (fs : List Event) (now : ℕ) → Q v → P v s fs now → t.jobs v s.visits s.local ≡ staying s.visits s.emitted) → LeavesNow t P Q left_by_emission
+    ((v : ℕ) (s : Station L) (fs : List Event) (now : ℕ) → Q v → P v s fs now → t.jobs v s.visits s.local ≡ staying s.visits (emission_at s.emitted)) → LeavesNow t P Q left_by_emission
 leaves-by_emission {L} t P Q known number =
     record {
       waits = λ v elapsed s k. refl;

@@ -88,7 +88,7 @@ losing-new rows places demand v visits queue emitted fs now h =
     emission_at-none (length visits) emitted (omega arith)
 
 -- the number in it is that of the visits that haven't left
-pub losing-number : (rows : Rows) (places : ℕ) (demand : Demand) (v : ℕ) (visits : List Visit) (queue : List ℕ) (emitted : List Emission) (fs : List Event) (now : ℕ) → Losing rows places demand v visits queue emitted fs now → length queue ≡ staying visits emitted
+pub losing-number : (rows : Rows) (places : ℕ) (demand : Demand) (v : ℕ) (visits : List Visit) (queue : List ℕ) (emitted : List Emission) (fs : List Event) (now : ℕ) → Losing rows places demand v visits queue emitted fs now → length queue ≡ staying visits (emission_at emitted)
 losing-number rows places demand v visits queue emitted fs now h =
     ap length h.waiting
     ∙ (length-map h.coming (λ (m : Emission). m.position)
