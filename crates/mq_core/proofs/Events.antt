@@ -11,6 +11,7 @@ pub mod Remaining
 pub mod Falls
 pub mod Areas
 pub mod Later
+pub mod Past
 pub mod EmissionsAt
 pub mod Founds
 pub mod Leavings

@@ -25,6 +25,7 @@ use Rattle.mq_core.proofs.Events.Areas.{get-front, get-last}
 use Rattle.mq_core.proofs.Events.EmissionsAt.{unknown}
 use Rattle.mq_core.proofs.Events.Founds.{emission_at-append}
 use Rattle.mq_core.proofs.Events.Kept.{Keeps, kept}
+use Rattle.mq_core.proofs.Events.Past.{emissions-known}
 use Rattle.mq_core.proofs.Lists.Each.{Each-append, Each-weaker}
 use Rattle.mq_core.proofs.Networks.Wired.{feeds_forward}
 use Rattle.mq_core.proofs.Networks.Whole.{starts-begin}
@@ -43,21 +44,6 @@ record Peaked (b : Behaviour) (s : Station Local) : Type 0 where
 greatest-same : (n : ℕ) (f g : ℕ → ℕ) → ((k : ℕ) → k < n → f k ≡ g k) → greatest_below n f ≡ greatest_below n g
 greatest-same zero f g h = refl
 greatest-same (suc n) f g h = (λ i. max (h n (omega arith) i) (greatest-same n f g (λ k l. h k (omega arith)) i))
-
--- a position that is a visit's is below their number
-below-all : (xs : List Visit) (k : ℕ) (x : Visit) → slice_get xs k ≡ Some x → k < length xs
-below-all [] k x e = absurd cc
-below-all (y ∷ xs) zero x e = omega arith
-below-all (y ∷ xs) (suc k) x e = let l = below-all xs k x e in omega arith
-
--- only visits are let out
-emissions-known : (now : ℕ) (visits : List Visit) (releases : List Release) → Each (λ (m : Emission). m.position < length visits) (emissions_of now visits releases)
-emissions-known now visits [] = tt
-emissions-known now visits (r ∷ releases) = go (slice_get visits r.position) refl (emissions-known now visits releases)
-  where
-    go : (o : Option Visit) → slice_get visits r.position ≡ o → Each (λ (m : Emission). m.position < length visits) (emissions_of now visits releases) → Each (λ (m : Emission). m.position < length visits) (emission_of now r.out r.position o ++ emissions_of now visits releases)
-    go None e ih = ih
-    go (Some x) e ih = (below-all visits r.position x e, ih)
 
 module _ (rows : Rows) (ports : ℕ) (b : Behaviour) (i : Inside) (laws : KindLaws rows ports b i) (one : OwnLaws rows ports b i) (once : OnceLaws rows ports b i) where
   peaked-opens : Peaked b (opening_of b)

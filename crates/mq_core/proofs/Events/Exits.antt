@@ -8,7 +8,7 @@ use Rattle.mq_core.specs.Machine.{Visit, Emission, Table, Station, acted, aged, 
 use Rattle.mq_core.specs.Tallies.{arrival_or, emission_at, found_or, one_if_none, sum_below, one_if_there}
 use Rattle.mq_core.proofs.Events.Areas.{get-front, get-last, sum-same}
 use Rattle.mq_core.proofs.Events.Forward.{emissions-now}
-use Rattle.mq_core.proofs.Events.Founds.{LeavesInTime, later-now, later-same}
+use Rattle.mq_core.proofs.Events.Founds.{later-now, later-same}
 use Rattle.mq_core.proofs.Events.Kept.{Fact, Keeps}
 use Rattle.mq_core.proofs.Events.Later.{one_if_later}
 
@@ -87,30 +87,7 @@ keeps-founds_by {L} t P Q exit there keeps leaves =
         front : slice_get (s.visits ++ x ∷ []) p ≡ slice_get s.visits p
         front = get-front p s.visits (x ∷ []) inside
 
--- each visit leaves with its own emission
-abbrev pub own_exit : {L : Type 0} → Exit L
-own_exit v s k = emission_at s.emitted k
-
--- it is there for whoever comes earlier than it leaves
-abbrev pub until_exit : There
-until_exit v time position m = nat_lt time m.time
-
--- where each visit leaves with its own emission, at a visit none but it, and at a finish none behind whom one came at that time
-pub exits-by_emission : {L : Type 0} (t : Table L) (P : Fact L) (Q : ℕ → Type 0) → LeavesInTime t P Q →
-    ((v : ℕ) (s : Station L) (fs : List Event) (now : ℕ) → Q v → P v s fs now → Each (λ (m : Emission). m.time ≤ now) s.emitted) →
-    ((v : ℕ) (s : Station L) (fs : List Event) (now : ℕ) → Q v → P v s fs now → t.jobs v s.visits s.local ≡ sum_below (length s.visits) (λ k. one_if_none (emission_at s.emitted k))) → ExitsInTime t P Q own_exit until_exit
-exits-by_emission {L} t P Q leaves past number =
-    record {
-      waits = λ v elapsed s k. refl;
-      finds = λ v port job s fs now q h k l.
-          later-same now now k s.emitted (emissions_at t s (Arrive now v port job)) (emissions-now t s (Arrive now v port job)) (λ m u. absurd (let o = leaves.own v port job s fs now q h k m u in omega arith))
-          ∙ later-now now k s.emitted (past v s fs now q h);
-      arrives = λ v port job s fs now q h k p l u. later-same (arrival_or 0 (slice_get s.visits p)) now k s.emitted (emissions_at t s (Arrive now v port job)) (emissions-now t s (Arrive now v port job)) (λ m w. absurd (let o = leaves.own v port job s fs now q h k m w in omega arith));
-      ends = λ v server position s fs rest now q h first k p l u. later-same (arrival_or 0 (slice_get s.visits p)) now k s.emitted (emissions_at t s (Finish now v server position)) (emissions-now t s (Finish now v server position)) (λ m w. leaves.earlier v server position s fs rest now q h first k p m w l u);
-      number = number;
-    }
-
--- so whoever leaves later than one comes is there for it
+-- whoever leaves later than one comes is there for it
 pub until-own : (time position : ℕ) (o : Option Emission) → one_if_there (λ t p (m : Emission). nat_lt t m.time) time position o ≡ one_if_later time o
 until-own time position None = refl
 until-own time position (Some m) = refl
