@@ -1,9 +1,9 @@
 use Rattle.mq_core.specs.Came.{came_of}
-use Rattle.std.proofs.Common.{Bool, List, Some, [], ap, arith, cond, eqb, false, inl, inr, length, map, refl, suc, sym, true, zero, zero-add, ℕ, ◌<◌, ◌∙◌, ◌∷◌, ◌≡◌, ◌≤◌}
+use Rattle.std.proofs.Common.{Bool, List, [], ap, arith, cond, eqb, false, inl, inr, length, map, refl, suc, sym, true, zero-add, ℕ, ◌<◌, ◌∙◌, ◌∷◌, ◌≡◌, ◌≤◌}
 use Rattle.std.specs.List.{zip}
 use Rattle.std.specs.Prelude.{slice_get}
-use Rattle.mq_core.specs.ColumnLaws.{ColumnsAreBlind, NodesAreColumns, arrives_of, jobs_of}
-use Rattle.mq_core.specs.Columns.{column_fates, column_outs, column_stream, column_visits, stream_in_order}
+use Rattle.mq_core.specs.ColumnLaws.{arrives_of, jobs_of}
+use Rattle.mq_core.specs.Columns.{column_fates, column_outs, column_stream, stream_in_order}
 use Rattle.mq_core.specs.Fates.{fate_by}
 use Rattle.mq_core.specs.KindTable.{behaviour_of}
 use Rattle.mq_core.specs.Laws.{Rises, in_order_of, stream_of}
@@ -12,21 +12,17 @@ use Rattle.mq_core.specs.Leaving.Leaving.{InTurn, Mixed, Overtaking}
 use Rattle.mq_core.specs.Local.{Local}
 use Rattle.mq_core.specs.Machine.{Emission, Station, Visit}
 use Rattle.mq_core.specs.OnceOut.{founds_of, leaving_time, leaving_times}
-use Rattle.mq_core.specs.Results.{fates_from, stream_from, visits_of}
+use Rattle.mq_core.specs.Results.{stream_from}
 use Rattle.mq_core.specs.Served.{flow_of, in_leaving_order}
-use Rattle.mq_core.specs.StandardTable.{run_of}
 use Rattle.mq_core.specs.Streams.{by_first, picked, stream_by}
 use Rattle.mq_core.specs.Tallies.{arrival_or, found_or}
 use Rattle.mq_core.specs.declared.model.Kind.{Kind}
-use Rattle.mq_core.specs.declared.model.Node.{Node}
 use Rattle.mq_core.specs.declared.model.Rows.{Rows}
 use Rattle.mq_core.specs.declared.model.Stream.{Stream}
-use Rattle.mq_core.proofs.Columns.ColumnFlow.{flow-leaves, nodes-flow}
-use Rattle.mq_core.proofs.Columns.ColumnOrder.{streams-rise}
+use Rattle.mq_core.proofs.Columns.ColumnFlow.{flow-leaves}
 use Rattle.mq_core.proofs.Counting.ColumnNumbers.{EachLeaves, LeavesAs, Numbered, founds-numbered, jobs-numbered, order-found}
 use Rattle.mq_core.proofs.EachKind.Flows.{flow-numbered}
 use Rattle.mq_core.proofs.EachKind.LawTable.{recurrence_of}
-use Rattle.mq_core.proofs.EachKind.Tallied.{founds-are-counts}
 use Rattle.mq_core.proofs.Events.Later.{leaving_later}
 use Rattle.mq_core.proofs.Events.Orders.{filter-order, in_order_of-map}
 use Rattle.mq_core.proofs.Lists.Each.{Each-any}

@@ -7,7 +7,7 @@ use Rattle.mq_core.specs.Machine.{Visit, Emission, Station}
 use Rattle.mq_core.specs.Fates.{fate_by, fate_of, leaves_with}
 use Rattle.mq_core.specs.Results.{fates_from}
 use Rattle.mq_core.specs.StandardTable.{run_of}
-use Rattle.mq_core.specs.Tallies.{sum_below, greatest_below, emission_at}
+use Rattle.mq_core.specs.Tallies.{sum_below, greatest_below}
 use Rattle.mq_core.specs.Theorems.{IsReadFor}
 use Rattle.mq_core.specs.declared.model.Fate.{Fate}
 use Rattle.mq_core.specs.declared.model.Kind.{Kind}

@@ -1,7 +1,7 @@
 use Rattle.std.proofs.Common.{◌≡◌, ◌⊎◌, inl, inr, ℕ, zero, suc, ◌+◌, ◌<◌, ◌≤◌, List, [], ◌∷◌, ◌++◌, length, Option, Some, None, sym, refl, ap, ◌∙◌, subst, arith, slice_get, option_map, flat_map}
 use Rattle.std.proofs.lemmas.Bool.{cases_lt}
 use Rattle.mq_core.specs.Columns.{column_late, column_late_from, visits_by_node}
-use Rattle.mq_core.specs.Machine.{Visit, Emission, State, Station}
+use Rattle.mq_core.specs.Machine.{Visit, State, Station}
 use Rattle.mq_core.specs.Local.{Local}
 use Rattle.mq_core.specs.Fates.{fate_by, leaves_with}
 use Rattle.mq_core.specs.NumberLaws.{late_in, run_late, IsOnTimeBelow, OnTimeGrows, PastIsFirst, PastIsNone}

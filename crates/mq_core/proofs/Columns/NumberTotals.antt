@@ -1,4 +1,4 @@
-use Rattle.std.proofs.Common.{Bool, List, Some, [], ap, arith, cond, count_by, false, fold, inl, inr, length, map, max, refl, slice_get, slice_index, subst, suc, sum, sum_by, sym, true, zero, ℕ, ◌+◌, ◌-◌, ◌<◌, ◌∙◌, ◌∷◌, ◌≡◌, Option}
+use Rattle.std.proofs.Common.{Bool, List, Some, [], ap, arith, cond, count_by, false, fold, inl, inr, length, map, max, refl, slice_get, slice_index, subst, sum, sum_by, sym, true, ℕ, ◌+◌, ◌-◌, ◌∙◌, ◌∷◌, ◌≡◌, Option}
 use Rattle.std.proofs.lemmas.List.{length-map}
 use Rattle.std.proofs.lemmas.List.Sums.{sum_by-cons}
 use Rattle.std.specs.Option.{option_map}
@@ -10,11 +10,10 @@ use Rattle.mq_core.specs.Machine.{Emission, Station, Visit}
 use Rattle.mq_core.specs.NumberLaws.{ExitsAreStreams, TotalsAreColumns}
 use Rattle.mq_core.specs.Results.{fates_from, is_lost, wait_of, waits_of}
 use Rattle.mq_core.specs.StandardTable.{run_of}
-use Rattle.mq_core.specs.Tallies.{arrival_or, emission_at, found_or, greatest_below, sojourn, sojourns, sum_below, time_or}
+use Rattle.mq_core.specs.Tallies.{arrival_or, found_or, greatest_below, sojourn, sojourns, sum_below, time_or}
 use Rattle.mq_core.specs.declared.model.Fate.{Fate}
 use Rattle.mq_core.specs.declared.model.Fate.TheVariants.{Departs, Lost}
 use Rattle.mq_core.specs.declared.model.Kind.{Kind}
-use Rattle.mq_core.specs.declared.model.Node.{Node}
 use Rattle.mq_core.specs.declared.model.Rows.{Rows}
 use Rattle.mq_core.proofs.Columns.ColumnFlow.{node-leaves}
 use Rattle.mq_core.proofs.Columns.NumberFates.{LetOut, all-let_out, greatest-values, sum-values, values}

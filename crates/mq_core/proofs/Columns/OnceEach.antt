@@ -12,7 +12,6 @@ use Rattle.mq_core.specs.Served.{flow_of}
 use Rattle.mq_core.specs.Tallies.{arrival_or, emission_at}
 use Rattle.mq_core.specs.declared.model.Kind.{Kind}
 use Rattle.mq_core.specs.declared.model.Rows.{Rows}
-use Rattle.mq_core.specs.declared.model.Visits.{Visits}
 use Rattle.mq_core.proofs.Columns.ColumnsEqual.{flow-fates, station-stream, station-founds}
 use Rattle.mq_core.proofs.Counting.ColumnNumbers.{FoundAs, Numbered, found_as-here, found_as-next, order-found}
 use Rattle.mq_core.proofs.EachKind.Flows.{flow-numbered}

@@ -1,19 +1,17 @@
 -- The stations of the kinds, one row a kind, and from it the columns of a run.
-use Rattle.std.proofs.Common.{List, Some, length, map, subst, sym, ℕ, ◌∙◌, ◌≡◌}
-use Rattle.std.specs.Prelude.{[], slice_get}
-use Rattle.mq_core.specs.Came.{came_by, came_of}
+use Rattle.std.proofs.Common.{length, map, subst, ℕ, ◌∙◌, ◌≡◌}
+use Rattle.std.specs.Prelude.{[]}
+use Rattle.mq_core.specs.Came.{came_of}
 use Rattle.mq_core.specs.ColumnLaws.{ColumnsAreBlind, NodesAreColumns, arrives_of, jobs_of}
-use Rattle.mq_core.specs.Columns.{column_fates, column_outs, stream_in_order}
+use Rattle.mq_core.specs.Columns.{column_fates, stream_in_order}
 use Rattle.mq_core.specs.KindTable.{behaviour_of}
-use Rattle.mq_core.specs.Local.{Local}
-use Rattle.mq_core.specs.Machine.{Station, Visit}
+use Rattle.mq_core.specs.Machine.{Visit}
 use Rattle.mq_core.specs.OnceOut.{founds_of, leaving_times}
 use Rattle.mq_core.specs.Results.{fates_from}
 use Rattle.mq_core.specs.StandardTable.{run_of}
 use Rattle.mq_core.specs.Streams.{picked}
 use Rattle.mq_core.specs.declared.model.Kind.{Kind}
 use Rattle.mq_core.specs.declared.model.Kind.TheVariants.{Source, Server, Delay, Loss, Tandem, ForkJoin, Split}
-use Rattle.mq_core.specs.declared.model.Node.{Node}
 use Rattle.mq_core.specs.declared.model.Rows.{Rows}
 use Rattle.mq_core.proofs.Columns.ColumnFlow.{nodes-flow}
 use Rattle.mq_core.proofs.Columns.ColumnOrder.{streams-rise}

@@ -13,7 +13,6 @@ use Rattle.mq_core.specs.Leaving.Leaving.{InTurn, Mixed, Overtaking}
 use Rattle.mq_core.specs.Machine.{Emission, Visit}
 use Rattle.mq_core.specs.OnceOut.{departs_after, founds_from}
 use Rattle.mq_core.specs.Recurrences.{is_admitted, loss_fates, time_or_none}
-use Rattle.mq_core.specs.Results.{fates_from}
 use Rattle.mq_core.specs.Kinds.Delay.{delayed_from}
 use Rattle.mq_core.specs.Kinds.Loss.{faring_from}
 use Rattle.mq_core.specs.Served.{in_leaving_order}

@@ -3,7 +3,7 @@ use Rattle.std.proofs.Common.{List, None, Option, Some, [], arith, length, refl,
 use Rattle.std.proofs.lemmas.List.Sums.{sum_by-cons}
 use Rattle.std.specs.Option.{option_map}
 use Rattle.std.specs.Prelude.{slice_get, sum_by}
-use Rattle.mq_core.specs.Fates.{fate_of, service_of, service_time, unless_lost, fate_by}
+use Rattle.mq_core.specs.Fates.{service_of, service_time, unless_lost, fate_by}
 use Rattle.mq_core.specs.Handling.{demand_of_visit}
 use Rattle.mq_core.specs.Machine.{Emission, Visit}
 use Rattle.mq_core.specs.Tallies.{emission_at, sum_below}

@@ -1,9 +1,9 @@
-use Rattle.std.proofs.Common.{List, None, Option, Some, [], ap, arith, eqb, length, length-append, refl, subst, suc, sym, true, zero, ℕ, ◌*◌, ◌++◌, ◌+◌, ◌-◌, ◌<◌, ◌∙◌, ◌∷◌, ◌≡◌, ◌≤◌, ◌^◌}
+use Rattle.std.proofs.Common.{List, None, Option, Some, [], ap, arith, length, length-append, refl, subst, suc, sym, true, zero, ℕ, ◌*◌, ◌++◌, ◌+◌, ◌-◌, ◌<◌, ◌∙◌, ◌∷◌, ◌≡◌, ◌≤◌, ◌^◌}
 use Rattle.std.proofs.Math.Nat.{mul_assoc, mul-suc, mul_comm, suc-mul}
 use Rattle.std.proofs.lemmas.List.{append-nil}
 use Rattle.std.specs.List.{AllByRecursion as Each}
 use Rattle.std.specs.Option.{option_to_list}
-use Rattle.std.specs.Prelude.{IfSome, IsSome, filter, find, slice_get}
+use Rattle.std.specs.Prelude.{IfSome, IsSome, filter, slice_get}
 use Rattle.mq_core.specs.Event.{Event, earliest, node_of}
 use Rattle.mq_core.specs.Event.Event.{Arrive, Finish}
 use Rattle.mq_core.specs.Fates.{IsEnded, fate_of, leaves_with}

@@ -1,6 +1,5 @@
 -- What is to be shown of how visits leave a node of a kind.
 use Rattle.std.proofs.Common.{List, None, Option, Some, [], ap, arith, length, subst, sym, ℕ, ◌++◌, ◌<◌, ◌∙◌, ◌∷◌, ◌≡◌}
-use Rattle.std.specs.Option.{option_map}
 use Rattle.std.specs.Prelude.{slice_get}
 use Rattle.mq_core.specs.Behaviour.{Behaviour}
 use Rattle.mq_core.specs.Event.{Event, earliest}

@@ -8,7 +8,7 @@ use Rattle.mq_core.specs.Event.Event.{Arrive, Finish}
 use Rattle.mq_core.specs.Fates.{unless_lost, PeakIsGreatest, fate_by}
 use Rattle.mq_core.specs.KindTable.{behaviour_of}
 use Rattle.mq_core.specs.Local.{Local}
-use Rattle.mq_core.specs.Machine.{Visit, Emission, Release, Station, emission_of, emissions_of}
+use Rattle.mq_core.specs.Machine.{Visit, Emission, Station, emissions_of}
 use Rattle.mq_core.specs.OnTime.{standard-on_time}
 use Rattle.mq_core.specs.Run.{run_length, starts}
 use Rattle.mq_core.specs.Standard.{node_jobs, node_on, node_opening, standard_handle, standard_jobs, standard_opening}

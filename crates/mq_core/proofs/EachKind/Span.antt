@@ -15,7 +15,7 @@ use Rattle.mq_core.specs.Tallies.{arrival_or}
 use Rattle.mq_core.specs.Wiring.{reader_from}
 use Rattle.mq_core.specs.declared.model.Node.{Node}
 use Rattle.mq_core.specs.declared.model.Rows.{Rows}
-use Rattle.mq_core.proofs.EachKind.Ends.{inside-some, none-held}
+use Rattle.mq_core.proofs.EachKind.Ends.{none-held}
 use Rattle.mq_core.proofs.EachKind.Facts.{node_fact, standard-keeps}
 use Rattle.mq_core.proofs.EachKind.KindLaws.{IsFilled}
 use Rattle.mq_core.proofs.EachKind.LawTable.{laws_of}

@@ -1,6 +1,5 @@
 -- What is to be shown of a station that has let out the flow of its kind: that its columns are those of its arrivals.
-use Rattle.std.proofs.Common.{◌≡◌, ℕ, suc, ◌++◌, ◌<◌, ◌≤◌, List, [], ◌∷◌, length, map}
-use Rattle.std.specs.Option.{option_map, option_to_list}
+use Rattle.std.proofs.Common.{◌≡◌, ℕ, ◌<◌, ◌≤◌, [], length, map}
 use Rattle.std.specs.Prelude.{slice_get}
 use Rattle.mq_core.specs.Behaviour.{Behaviour}
 use Rattle.mq_core.specs.Came.{came_of}
@@ -10,8 +9,7 @@ use Rattle.mq_core.specs.Leaving.{left_by}
 use Rattle.mq_core.specs.Local.{Local}
 use Rattle.mq_core.specs.Machine.{Station, Visit}
 use Rattle.mq_core.specs.Results.{stream_from, fates_by}
-use Rattle.mq_core.specs.Tallies.{arrival_or, found_or, sum_below, one_if_there, still_there}
-use Rattle.mq_core.specs.declared.model.Fate.{Fate}
+use Rattle.mq_core.specs.Tallies.{arrival_or, found_or, still_there}
 use Rattle.mq_core.specs.declared.model.Rows.{Rows}
 use Rattle.mq_core.proofs.EachKind.KindLaws.{Inside}
 

@@ -1,27 +1,27 @@
-use Rattle.std.proofs.Common.{List, None, Option, Some, [], length, ap, refl, ℕ, ◌∙◌, ◌++◌, ◌<◌, ◌∷◌, ◌≡◌, sym, ◌-◌, Bool, false}
+-- The areas of nodes and what visits find, from how visits leave, for all kinds.
+use Rattle.std.proofs.Common.{List, None, Option, Some, [], length, ap, refl, ℕ, ◌∙◌, ◌++◌, ◌<◌, ◌∷◌, ◌≡◌, ◌-◌, Bool, false}
 use Rattle.std.specs.Prelude.{slice_get}
 use Rattle.mq_core.specs.Event.{Event, earliest}
 use Rattle.mq_core.specs.Event.Event.{Arrive, Finish}
 use Rattle.mq_core.specs.Fates.{AreasAreSojourns, FoundsAreCounts, leaves_with}
 use Rattle.mq_core.specs.KindTable.{behaviour_of}
 use Rattle.mq_core.specs.Local.{Local}
-use Rattle.mq_core.specs.Machine.{Emission, Station, Visit, emissions_of}
+use Rattle.mq_core.specs.Machine.{Emission, Station, Visit}
 use Rattle.mq_core.specs.OnTime.{standard-on_time}
 use Rattle.mq_core.specs.Run.{run_length, starts}
 use Rattle.mq_core.specs.Standard.{node_jobs, node_on, standard_handle, standard_jobs}
 use Rattle.mq_core.specs.StandardTable.{standard, run_of}
-use Rattle.mq_core.specs.Tallies.{arrival_or, emission_at, one_if_none, staying, time_or, one_if_there, sum_below}
+use Rattle.mq_core.specs.Tallies.{arrival_or, one_if_none, staying, time_or, one_if_there, sum_below}
 use Rattle.mq_core.specs.Wiring.{reader_from}
 use Rattle.mq_core.specs.declared.model.Node.{Node}
 use Rattle.mq_core.specs.declared.model.Plan.{Plan}
 use Rattle.mq_core.specs.declared.model.Rows.{Rows}
 use Rattle.mq_core.proofs.EachKind.Ends.{inside-some, some-inside}
 use Rattle.mq_core.proofs.EachKind.Facts.{node_fact, standard-keeps}
-use Rattle.mq_core.proofs.EachKind.LawTable.{laws_of, own_of, recurrence_of, exits_of}
+use Rattle.mq_core.proofs.EachKind.LawTable.{laws_of, exits_of}
 use Rattle.mq_core.proofs.Events.Areas.{sum-same}
 use Rattle.mq_core.proofs.Events.Exits.{ExitsInTime, FoundsBy, keeps-founds_by}
 use Rattle.mq_core.proofs.Events.Kept.{kept, Fact, Keeps}
-use Rattle.mq_core.proofs.Events.Later.{one_if_later}
 use Rattle.mq_core.proofs.Events.Leavings.{AreasBy, LeavesNow, StaysOrLeaves, keeps-areas_by, one_if_here, time_of_exit, until_or}
 use Rattle.mq_core.proofs.Events.Past.{IsPast, keeps-past}
 use Rattle.mq_core.proofs.Networks.Whole.{starts-begin}

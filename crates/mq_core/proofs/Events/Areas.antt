@@ -1,14 +1,10 @@
-use Rattle.std.proofs.Common.{◌≡◌, ℕ, zero, suc, ◌+◌, ◌-◌, ◌*◌, ◌<◌, ◌≤◌, Bool, true, false, cond, eqb, List, [], ◌∷◌, ◌++◌, length, Option, Some, None, sym, refl, ap, ◌∙◌, arith, length-append}
+-- Sums over positions, and visits by position.
+use Rattle.std.proofs.Common.{◌≡◌, ℕ, zero, suc, ◌+◌, ◌*◌, ◌<◌, ◌≤◌, List, [], ◌∷◌, ◌++◌, length, Some, refl, arith}
 use Rattle.std.proofs.Math.Nat.{add-mul}
 use Rattle.std.specs.Prelude.{slice_get}
 use Rattle.std.specs.List.{AllByRecursion as Each}
-use Rattle.mq_core.specs.Event.{Event, time_of}
-use Rattle.mq_core.specs.Event.Event.{Arrive, Finish}
-use Rattle.mq_core.specs.Machine.{Visit, Emission, Table, Station, acted, emissions_at, visits_after}
-use Rattle.mq_core.specs.Tallies.{sum_below, emission_at, arrival_or, time_or, sojourn, one_if_none, staying, sojourns}
-use Rattle.mq_core.proofs.Lists.Each.{Each-append, Each-weaker}
-use Rattle.mq_core.proofs.Events.Forward.{emissions-now}
-use Rattle.mq_core.proofs.Events.Kept.{Fact, Keeps}
+use Rattle.mq_core.specs.Machine.{Visit}
+use Rattle.mq_core.specs.Tallies.{sum_below, arrival_or}
 
 pub sum-same : (n : ℕ) (f g : ℕ → ℕ) → ((k : ℕ) → k < n → f k ≡ g k) → sum_below n f ≡ sum_below n g
 sum-same zero f g h = refl

@@ -1,14 +1,11 @@
 -- What each visit found, by the emissions with which visits leave, however a kind tells these.
-use Rattle.std.proofs.Common.{◌≡◌, ℕ, suc, ◌-◌, ◌<◌, ◌≤◌, Bool, true, false, eqb, eqb-true, eq-eqb, cond, List, [], ◌∷◌, ◌++◌, length, Option, Some, None, sym, refl, ap, ◌∙◌, arith, length-append}
-use Rattle.std.specs.List.{AllByRecursion as Each}
+use Rattle.std.proofs.Common.{◌≡◌, ℕ, suc, ◌-◌, ◌<◌, Bool, true, false, eqb, eqb-true, eq-eqb, List, [], ◌∷◌, ◌++◌, length, Option, Some, None, sym, refl, ap, ◌∙◌, arith, length-append}
 use Rattle.std.specs.Prelude.{nat_lt, slice_get}
 use Rattle.mq_core.specs.Event.{Event, earliest}
 use Rattle.mq_core.specs.Event.Event.{Arrive, Finish}
-use Rattle.mq_core.specs.Machine.{Visit, Emission, Table, Station, acted, aged, emissions_at}
-use Rattle.mq_core.specs.Tallies.{arrival_or, emission_at, found_or, one_if_none, sum_below, one_if_there}
+use Rattle.mq_core.specs.Machine.{Visit, Emission, Table, Station, acted, aged}
+use Rattle.mq_core.specs.Tallies.{arrival_or, found_or, one_if_none, sum_below, one_if_there}
 use Rattle.mq_core.proofs.Events.Areas.{get-front, get-last, sum-same}
-use Rattle.mq_core.proofs.Events.Forward.{emissions-now}
-use Rattle.mq_core.proofs.Events.Founds.{later-now, later-same}
 use Rattle.mq_core.proofs.Events.Kept.{Fact, Keeps}
 use Rattle.mq_core.proofs.Events.Later.{one_if_later}
 

@@ -1,16 +1,11 @@
-use Rattle.std.proofs.Common.{◌≡◌, ◌⊎◌, inl, inr, ℕ, suc, ◌<◌, ◌≤◌, Bool, true, false, cond, eqb, ltb, List, [], ◌∷◌, ◌++◌, length, Option, Some, None, sym, refl, ap, ◌∙◌, subst, arith, eq-eqb, eqb-true, length-append}
+-- The emission of a position among more emissions, and what it tells of who leaves later.
+use Rattle.std.proofs.Common.{◌≡◌, ◌⊎◌, inl, inr, ℕ, ◌<◌, ◌≤◌, Bool, true, false, cond, eqb, ltb, List, [], ◌∷◌, ◌++◌, Option, Some, None, sym, refl, ap, ◌∙◌, subst, arith}
 use Rattle.std.proofs.lemmas.Bool.Decides.{nat_tests}
-use Rattle.std.specs.Prelude.{slice_get}
 use Rattle.std.specs.List.{AllByRecursion as Each}
 use Rattle.mq_base.proofs.Lists.{some_inj}
-use Rattle.mq_core.specs.Event.{Event, earliest}
-use Rattle.mq_core.specs.Event.Event.{Arrive, Finish}
-use Rattle.mq_core.specs.Machine.{Visit, Emission, Table, Station, acted, emissions_at}
-use Rattle.mq_core.specs.Tallies.{emission_at, arrival_or, one_if_none, staying, found_or}
-use Rattle.mq_core.proofs.Events.Forward.{emissions-now}
-use Rattle.mq_core.proofs.Events.Kept.{Fact, Keeps}
-use Rattle.mq_core.proofs.Events.Areas.{get-front, get-last, sum-same}
-use Rattle.mq_core.proofs.Events.Later.{leaving_later, one_if_later}
+use Rattle.mq_core.specs.Machine.{Emission}
+use Rattle.mq_core.specs.Tallies.{emission_at, one_if_none}
+use Rattle.mq_core.proofs.Events.Later.{one_if_later}
 
 -- the emission of a position among more emissions
 pub emission_at-append : (emitted more : List Emission) (q : ℕ) → ((m : Emission) × (emission_at emitted q ≡ Some m) × (emission_at (emitted ++ more) q ≡ Some m)) ⊎ ((emission_at emitted q ≡ None) × (emission_at (emitted ++ more) q ≡ emission_at more q))

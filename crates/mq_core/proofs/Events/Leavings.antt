@@ -1,16 +1,14 @@
 -- The area of a node, by when each visit left, however that is told.
-use Rattle.std.proofs.Common.{◌≡◌, ◌⊎◌, inl, inr, ℕ, suc, ◌+◌, ◌-◌, ◌*◌, ◌<◌, ◌≤◌, List, [], ◌∷◌, ◌++◌, length, Option, Some, None, sym, refl, ap, ◌∙◌, subst, arith, length-append}
+use Rattle.std.proofs.Common.{◌≡◌, ◌⊎◌, inl, inr, ℕ, suc, ◌+◌, ◌-◌, ◌*◌, ◌<◌, ◌≤◌, List, [], ◌∷◌, ◌++◌, length, Option, Some, None, sym, refl, ap, ◌∙◌, arith, length-append}
 use Rattle.std.specs.Prelude.{slice_get}
 use Rattle.std.specs.Option.{option_map}
 use Rattle.std.specs.List.{AllByRecursion as Each}
 use Rattle.mq_core.specs.Event.{Event, earliest}
 use Rattle.mq_core.specs.Event.Event.{Arrive, Finish}
-use Rattle.mq_core.specs.Machine.{Visit, Emission, Table, Station, acted, aged, emissions_at}
-use Rattle.mq_core.specs.Tallies.{sum_below, arrival_or, emission_at, one_if_none, staying}
+use Rattle.mq_core.specs.Machine.{Visit, Emission, Table, Station, acted, aged}
+use Rattle.mq_core.specs.Tallies.{sum_below, arrival_or, emission_at}
 use Rattle.mq_core.proofs.Lists.Each.{Each-append, Each-weaker}
 use Rattle.mq_core.proofs.Events.Areas.{get-front, get-last, get-visit, sum-same, sum-grows}
-use Rattle.mq_core.proofs.Events.EmissionsAt.{unknown}
-use Rattle.mq_core.proofs.Events.Forward.{emissions-now}
 use Rattle.mq_core.proofs.Events.Founds.{emission_at-append, found-each}
 use Rattle.mq_core.proofs.Events.Kept.{Fact, Keeps}
 

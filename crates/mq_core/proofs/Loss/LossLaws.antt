@@ -4,7 +4,7 @@ use Rattle.std.proofs.lemmas.Bool.{and_parts}
 use Rattle.std.proofs.lemmas.Bool.Decides.{nat_tests}
 use Rattle.std.specs.Option.{option_map}
 use Rattle.std.specs.Prelude.{nat_le, slice_get}
-use Rattle.mq_core.specs.Fates.{fate_of, unless_lost, fate_by}
+use Rattle.mq_core.specs.Fates.{unless_lost, fate_by}
 use Rattle.mq_core.specs.Handling.{demand_of_visit}
 use Rattle.mq_core.specs.Kinds.Loss.{loss}
 use Rattle.mq_core.specs.Ranges.{is_sound_demand, is_within}
