@@ -3,7 +3,7 @@ use Rattle.std.proofs.Common.{Bool, List, [], ap, arith, cond, eqb, false, inl, 
 use Rattle.std.specs.List.{zip}
 use Rattle.std.specs.Prelude.{slice_get}
 use Rattle.mq_core.specs.ColumnLaws.{arrives_of, jobs_of}
-use Rattle.mq_core.specs.Columns.{column_fates, column_outs, column_stream, stream_in_order}
+use Rattle.mq_core.specs.Columns.{column_fates, column_outs, stream_in_order}
 use Rattle.mq_core.specs.Fates.{fate_by}
 use Rattle.mq_core.specs.KindTable.{behaviour_of}
 use Rattle.mq_core.specs.Laws.{Rises, in_order_of, stream_of}
@@ -11,7 +11,7 @@ use Rattle.mq_core.specs.Leaving.{Leaving, left_by}
 use Rattle.mq_core.specs.Leaving.Leaving.{InTurn, Mixed, Overtaking}
 use Rattle.mq_core.specs.Local.{Local}
 use Rattle.mq_core.specs.Machine.{Emission, Station, Visit}
-use Rattle.mq_core.specs.OnceOut.{founds_of, leaving_time, leaving_times}
+use Rattle.mq_core.specs.OnceOut.{founds_of, leaving_time, leaving_times, once_out}
 use Rattle.mq_core.specs.Results.{stream_from}
 use Rattle.mq_core.specs.Served.{flow_of, in_leaving_order}
 use Rattle.mq_core.specs.Streams.{by_first, picked, stream_by}
@@ -113,7 +113,7 @@ order-stream Overtaking ms out h =
     let times = ap (map (λ (m : Emission). m.time)) sorted ∙ (sym (pairs-part (λ (p : ℕ × ℕ). p.0) (λ (m : Emission). m.time) (λ m. refl) (in_order_of (λ (m : Emission). m.time) (stream_of out ms))) ∙ ap (map (λ (p : ℕ × ℕ). p.0)) pairs) in
     λ i. record { job = jobs i; time = times i }
 
-pub station-stream : (rows : Rows) (ports : ℕ) (kind : Kind) (s : Station Local) (out : ℕ) → s.emitted ≡ in_leaving_order kind (flow_of rows ports kind s.visits) → Rises (λ a b. a ≤ b) (arrives_of s.visits) → stream_from s out ≡ column_stream rows kind (came_of ports s.visits) out
+pub station-stream : (rows : Rows) (ports : ℕ) (kind : Kind) (s : Station Local) (out : ℕ) → s.emitted ≡ in_leaving_order kind (flow_of rows ports kind s.visits) → Rises (λ a b. a ≤ b) (arrives_of s.visits) → stream_from s out ≡ once_out (behaviour_of kind).order (came_of ports s.visits) (column_fates rows kind (came_of ports s.visits)) (column_outs rows kind (came_of ports s.visits)) out
 unfolding stream_in
 station-stream rows ports kind s out flow rise =
     ap (stream_in out) flow ∙ (order-stream (behaviour_of kind).order (flow_of rows ports kind s.visits) out (λ mixed. (recurrence_of rows ports kind).stands mixed s.visits rise) ∙ ap (stream_in_order kind) (flow-stream rows ports kind s.visits out))

@@ -1,15 +1,14 @@
 -- The stations of the kinds, one row a kind, and from it the columns of a run.
-use Rattle.std.proofs.Common.{length, map, subst, ℕ, ◌∙◌, ◌≡◌}
+use Rattle.std.proofs.Common.{length, map, subst, ℕ, ◌∙◌, ◌≡◌, ap, sym}
 use Rattle.std.specs.Prelude.{[]}
-use Rattle.mq_core.specs.Came.{came_of}
-use Rattle.mq_core.specs.ColumnLaws.{ColumnsAreBlind, NodesAreColumns, arrives_of, jobs_of}
-use Rattle.mq_core.specs.Columns.{column_fates, stream_in_order}
+use Rattle.mq_core.specs.Came.{came_of, came_by}
+use Rattle.mq_core.specs.ColumnLaws.{ColumnsAreBlind, NodesAreColumns, arrives_of, jobs_of, ColumnsGoByFates}
+use Rattle.mq_core.specs.Columns.{column_fates}
 use Rattle.mq_core.specs.KindTable.{behaviour_of}
 use Rattle.mq_core.specs.Machine.{Visit}
-use Rattle.mq_core.specs.OnceOut.{founds_of, leaving_times}
+use Rattle.mq_core.specs.OnceOut.{founds_of, once_out}
 use Rattle.mq_core.specs.Results.{fates_from}
 use Rattle.mq_core.specs.StandardTable.{run_of}
-use Rattle.mq_core.specs.Streams.{picked}
 use Rattle.mq_core.specs.declared.model.Kind.{Kind}
 use Rattle.mq_core.specs.declared.model.Kind.TheVariants.{Source, Server, Delay, Loss, Tandem, ForkJoin, Split}
 use Rattle.mq_core.specs.declared.model.Rows.{Rows}
@@ -35,7 +34,6 @@ pub nodes-are-columns : NodesAreColumns
 nodes-are-columns plan rows read v node e =
     let s = (run_of plan rows).stations v in
     let laws = station_of rows (length node.inputs) node.kind in
-    let columns = recurrence_of rows (length node.inputs) node.kind in
     let came = came_of (length node.inputs) s.visits in
     let flowed : HasFlowed rows (length node.inputs) (behaviour_of node.kind) (inside_of rows (length node.inputs) node.kind) s =
     record {
@@ -46,17 +44,23 @@ nodes-are-columns plan rows read v node e =
       rise = (streams-rise plan rows v).arrivals;
     } in
     let fates : fates_from node.kind s 0 s.visits ≡ column_fates rows node.kind came = laws.fares s flowed in
-    let founds : map (λ (x : Visit). x.found) s.visits ≡ founds_of (arrives_of s.visits) (column_fates rows node.kind came) = laws.finds s flowed (founds-are-counts plan rows read v node e) ∙ columns.finds came in
+    let founds : map (λ (x : Visit). x.found) s.visits ≡ (behaviour_of node.kind).founds rows came = laws.finds s flowed (founds-are-counts plan rows read v node e) in
     record {
       visits = λ i. record { job = jobs_of s.visits; arrive = arrives_of s.visits; found = founds i; fate = fates i };
-      stream = λ out. laws.streams s out flowed ∙ columns.streams came out;
+      stream = λ out. laws.streams s out flowed;
     }
+
+pub columns-go-by_fates : ColumnsGoByFates
+columns-go-by_fates rows kind came = record { founds = (recurrence_of rows came.ports kind).finds came; stream = (recurrence_of rows came.ports kind).streams came }
 
 -- the ports change neither fates nor outputs, from which all else follows
 pub columns-are-blind : ColumnsAreBlind
 columns-are-blind rows kind came =
-    let blind = (recurrence_of rows came.ports kind).blind came in
+    let laws = recurrence_of rows came.ports kind in
+    let bare = came_by came.job came.arrive in
+    let blind = laws.blind came in
+    let founds : (behaviour_of kind).founds rows came ≡ (behaviour_of kind).founds rows bare = laws.finds came ∙ (ap (founds_of came.arrive) blind.0 ∙ sym (laws.finds bare)) in
     record {
-      visits = λ i. record { job = came.job; arrive = came.arrive; found = founds_of came.arrive (blind.0 i); fate = blind.0 i };
-      stream = λ out i. stream_in_order kind (record { job = picked out (blind.1 i) came.job; time = picked out (blind.1 i) (leaving_times came.arrive (blind.0 i)) });
+      visits = λ i. record { job = came.job; arrive = came.arrive; found = founds i; fate = blind.0 i };
+      stream = λ out. laws.streams came out ∙ ((λ i. once_out (behaviour_of kind).order bare (blind.0 i) (blind.1 i) out) ∙ sym (laws.streams bare out));
     }
