@@ -2,12 +2,12 @@
 use Rattle.std.proofs.Common.{List, None, Option, Some, [], arith, length, length-append, refl, suc, zero, ℕ, ◌++◌, ◌<◌, ◌∷◌, ◌≡◌, ◌≤◌}
 use Rattle.std.specs.List.{AllByRecursion as Each}
 use Rattle.std.specs.Prelude.{slice_get}
+use Rattle.mq_base.proofs.lemmas.Each.{Each-append, Each-weaker}
 use Rattle.mq_core.specs.Event.{Event, time_of}
 use Rattle.mq_core.specs.Event.Event.{Arrive, Finish}
 use Rattle.mq_core.specs.Machine.{Emission, Release, Station, Table, Visit, acted, emission_of, emissions_at, emissions_of, reaction}
 use Rattle.mq_core.proofs.Events.Forward.{emissions-now}
 use Rattle.mq_core.proofs.Events.Kept.{Fact, Keeps}
-use Rattle.mq_core.proofs.Lists.Each.{Each-append, Each-weaker}
 
 pub record IsPast {L : Type 0} (s : Station L) (now : ℕ) : Type 0 where
   pub left : Each (λ (m : Emission). m.time ≤ now) s.emitted
