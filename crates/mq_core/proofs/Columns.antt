@@ -12,3 +12,4 @@ pub mod BareTimes
 pub mod ColumnFew
 pub mod NumberRuns
 pub mod OnceEach
+pub mod StationTable

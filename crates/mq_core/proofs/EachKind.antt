@@ -1,4 +1,5 @@
 pub mod KindLaws
+pub mod ExitLaws
 pub mod LimitLaws
 pub mod RecurrenceLaws
 pub mod LawTable

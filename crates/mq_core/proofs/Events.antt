@@ -9,6 +9,8 @@ pub mod Kept
 pub mod Remaining
 pub mod Falls
 pub mod Areas
+pub mod Later
+pub mod Past
 pub mod EmissionsAt
 pub mod Founds
 pub mod Leavings

@@ -2,10 +2,12 @@
 use Rattle.std.specs.Prelude.{◌≡◌, ◌<◌, ◌≤◌, ⊤, ℕ, ◌+◌, false, List, ◌++◌, length, map, slice_get, Some, true}
 use Rattle.std.specs.List.{AllByRecursion, zip, flat_map}
 use Rattle.mq_core.specs.Came.{Came, came_by, came_of}
-use Rattle.mq_core.specs.Columns.{IsStream, column_fates, column_stream, column_visits, rows_at, stream_in_order}
+use Rattle.mq_core.specs.Columns.{IsStream, column_fates, column_stream, column_visits, rows_at, stream_in_order, column_outs}
+use Rattle.mq_core.specs.KindTable.{behaviour_of}
 use Rattle.mq_core.specs.Laws.{Rises}
 use Rattle.mq_core.specs.Local.{Local}
 use Rattle.mq_core.specs.Machine.{Visit, Station, State}
+use Rattle.mq_core.specs.OnceOut.{founds_of, once_out}
 use Rattle.mq_core.specs.Results.{bare_time, visits_of, stream_from}
 use Rattle.mq_core.specs.Served.{flow_of, in_leaving_order}
 use Rattle.mq_core.specs.StandardTable.{run_of}
@@ -45,6 +47,14 @@ abbrev pub NodesAreColumns : Type 0
 NodesAreColumns =
     (plan : Plan) (rows : Rows) → IsReadFor plan.net rows → (v : ℕ) (node : Node) → slice_get plan.net.nodes v ≡ Some node →
     IsInColumns rows (length node.inputs) node.kind ((run_of plan rows).stations v)
+
+-- the columns of a node go by the fates of its visits: what each visit found, and what leaves by an output, by the output of each
+pub record GoesByFates (rows : Rows) (kind : Kind) (came : Came) : Type 0 where
+  pub founds : (column_visits rows kind came).found ≡ founds_of came.arrive (column_fates rows kind came)
+  pub stream : (out : ℕ) → column_stream rows kind came out ≡ once_out (behaviour_of kind).order came (column_fates rows kind came) (column_outs rows kind came) out
+
+abbrev pub ColumnsGoByFates : Type 0
+ColumnsGoByFates = (rows : Rows) (kind : Kind) (came : Came) → GoesByFates rows kind came
 
 -- by which ports jobs came changes nothing in the columns of a node
 pub record IsBlind (rows : Rows) (kind : Kind) (came : Came) : Type 0 where

@@ -47,8 +47,7 @@ column_fates rows kind came = (behaviour_of kind).fates rows came
 -- the visits of a node, which has these jobs at these times
 abbrev pub column_visits : Rows → Kind → Came → Visits
 column_visits rows kind came =
-    let fate = column_fates rows kind came in
-    record { job = came.job; arrive = came.arrive; found = founds_of came.arrive fate; fate = fate }
+    record { job = came.job; arrive = came.arrive; found = (behaviour_of kind).founds rows came; fate = column_fates rows kind came }
 
 -- the output by which each job leaves a node of this kind, which has these jobs at these times
 abbrev pub column_outs : Rows → Kind → Came → List ℕ
@@ -65,12 +64,7 @@ stream_in_order kind stream = stream_by (behaviour_of kind).order stream
 
 -- what leaves a node by an output, where the node has these jobs at these times
 abbrev pub column_stream : Rows → Kind → Came → ℕ → Stream
-column_stream rows kind came out =
-    let outs = column_outs rows kind came in
-    stream_in_order kind (record {
-      job = picked out outs came.job;
-      time = picked out outs (leaving_times came.arrive (column_fates rows kind came));
-    })
+column_stream rows kind came out = (behaviour_of kind).stream rows came out
 
 -- Totals. How long each visit waited, stayed and was served.
 abbrev pub column_wait : Rows → Kind → ℕ → ℕ → Fate → ℕ

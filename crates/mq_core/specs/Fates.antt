@@ -1,13 +1,14 @@
 -- What becomes of visits: their fates, sojourns, services and numbers, and the laws of the tallies.
+-- How visits leave and fare, and what the tallies of a run come to.
 use Rattle.std.specs.List.{AllByRecursion}
 use Rattle.std.specs.Option.{option_map}
-use Rattle.std.specs.Prelude.{Bool, IsSome, IsTrue, List, None, Option, Some, [], find, length, slice_get, ℕ, ◌++◌, ◌+◌, ◌<◌, ◌==◌, ◌∷◌, ◌≡◌, ◌≤◌, ◌⊎◌}
+use Rattle.std.specs.Prelude.{Bool, IsSome, IsTrue, List, None, Option, Some, [], false, length, slice_get, ℕ, ◌++◌, ◌+◌, ◌<◌, ◌∷◌, ◌≡◌, ◌≤◌, ◌⊎◌}
 use Rattle.mq_core.specs.KindTable.{behaviour_of}
 use Rattle.mq_core.specs.Local.{Local}
-use Rattle.mq_core.specs.Machine.{Emission, State, Visit}
+use Rattle.mq_core.specs.Machine.{Emission, State, Station, Visit}
 use Rattle.mq_core.specs.Standard.{standard_jobs}
 use Rattle.mq_core.specs.StandardTable.{run_of}
-use Rattle.mq_core.specs.Tallies.{arrival_or, found_or, greatest_below, sojourns, still_there, sum_below}
+use Rattle.mq_core.specs.Tallies.{arrival_or, found_or, greatest_below, sojourns, staying, still_there, sum_below}
 use Rattle.mq_core.specs.Theorems.{IsReadFor}
 use Rattle.mq_core.specs.declared.model.Fate.{Fate}
 use Rattle.mq_core.specs.declared.model.Fate.TheVariants.{Departs, Lost}
@@ -20,15 +21,23 @@ use Rattle.mq_core.specs.declared.model.Rows.{Rows}
 abbrev pub fate_by : Kind → Emission → Fate
 fate_by kind m = (behaviour_of kind).fate m
 
--- the fate of a position, once it was let out
-abbrev pub fate_of : Kind → List Emission → ℕ → Option Fate
-fate_of kind emitted position = option_map (fate_by kind) (find (λ m. m.position == position) emitted)
+-- the emission with which the visit at a position leaves a node, once it has
+abbrev pub leaves_with : Kind → Station Local → ℕ → Option Emission
+leaves_with kind s position = (behaviour_of kind).exit s position
 
--- nothing is pending, each visit has its fate, and no node holds a job
+-- the fate of the visit at a position, once it has left
+abbrev pub fate_of : Kind → Station Local → ℕ → Option Fate
+fate_of kind s position = option_map (fate_by kind) (leaves_with kind s position)
+
+-- whether visits may stay in a node of this kind for good
+abbrev pub keeps_visits : Kind → Bool
+keeps_visits kind = (behaviour_of kind).keeps
+
+-- nothing is pending, each visit has its fate but where visits may stay for good, and each node holds those that haven't left
 pub record IsEnded (plan : Plan) (rows : Rows) (s : State Local) : Type 0 where
   pub nothing : s.pending ≡ []
-  pub fates : (v : ℕ) (node : Node) (position : ℕ) → slice_get plan.net.nodes v ≡ Some node → position < length (s.stations v).visits → IsSome (fate_of node.kind (s.stations v).emitted position)
-  pub empty : (v : ℕ) → standard_jobs plan rows v (s.stations v).visits (s.stations v).local ≡ 0
+  pub fates : (v : ℕ) (node : Node) (position : ℕ) → slice_get plan.net.nodes v ≡ Some node → keeps_visits node.kind ≡ false → position < length (s.stations v).visits → IsSome (fate_of node.kind (s.stations v) position)
+  pub here : (v : ℕ) (node : Node) → slice_get plan.net.nodes v ≡ Some node → standard_jobs plan rows v (s.stations v).visits (s.stations v).local ≡ staying (s.stations v).visits (leaves_with node.kind (s.stations v))
 
 -- after the steps of a run all is over
 abbrev pub RunEnds : Type 0
@@ -37,17 +46,17 @@ RunEnds = (plan : Plan) (rows : Rows) → IsReadFor plan.net rows → IsEnded pl
 -- the area of each node is the sum of the sojourns of its visits
 abbrev pub AreasAreSojourns : Type 0
 AreasAreSojourns =
-    (plan : Plan) (rows : Rows) → IsReadFor plan.net rows → (v : ℕ) → v < length plan.net.nodes →
+    (plan : Plan) (rows : Rows) → IsReadFor plan.net rows → (v : ℕ) (node : Node) → slice_get plan.net.nodes v ≡ Some node →
     let end = (run_of plan rows).stations v in
-    end.area ≡ sojourns (run_of plan rows).clock end.visits end.emitted
+    end.area ≡ sojourns (run_of plan rows).clock end.visits (leaves_with node.kind end)
 
--- each visit found as many as the earlier ones that leave later than it came
+-- each visit found as many as the earlier ones that were still there
 abbrev pub FoundsAreCounts : Type 0
 FoundsAreCounts =
-    (plan : Plan) (rows : Rows) → IsReadFor plan.net rows → (v : ℕ) → v < length plan.net.nodes →
+    (plan : Plan) (rows : Rows) → IsReadFor plan.net rows → (v : ℕ) (node : Node) → slice_get plan.net.nodes v ≡ Some node →
     let end = (run_of plan rows).stations v in
     (position : ℕ) → position < length end.visits →
-    found_or 0 (slice_get end.visits position) ≡ still_there (arrival_or 0 (slice_get end.visits position)) end.emitted position
+    found_or 0 (slice_get end.visits position) ≡ still_there (behaviour_of node.kind).there (arrival_or 0 (slice_get end.visits position)) (leaves_with node.kind end) position
 
 -- the service that a job asks for: at a tandem the demands of all stages, at a fork-join those of all servers, and none at a
 -- source or a split
@@ -70,7 +79,7 @@ abbrev pub BusyIsServices : Type 0
 BusyIsServices =
     (plan : Plan) (rows : Rows) → IsReadFor plan.net rows → (v : ℕ) (node : Node) → slice_get plan.net.nodes v ≡ Some node →
     let end = (run_of plan rows).stations v in
-    end.busy ≡ sum_below (length end.visits) (λ position. unless_lost (fate_of node.kind end.emitted position) (service_of rows node.kind (slice_get end.visits position)))
+    end.busy ≡ sum_below (length end.visits) (λ position. unless_lost (fate_of node.kind end position) (service_of rows node.kind (slice_get end.visits position)))
 
 -- whether jobs stay in a node of this kind; at a source or a split each goes on when it comes
 abbrev pub holds_jobs : Kind → Bool
@@ -81,7 +90,7 @@ abbrev pub PeakIsGreatest : Type 0
 PeakIsGreatest =
     (plan : Plan) (rows : Rows) (v : ℕ) (node : Node) → slice_get plan.net.nodes v ≡ Some node → IsTrue (holds_jobs node.kind) →
     let end = (run_of plan rows).stations v in
-    end.peak ≡ greatest_below (length end.visits) (λ position. unless_lost (fate_of node.kind end.emitted position) (found_or 0 (slice_get end.visits position) + 1))
+    end.peak ≡ greatest_below (length end.visits) (λ position. unless_lost (fate_of node.kind end position) (found_or 0 (slice_get end.visits position) + 1))
 
 -- a visit to a node that comes at this time
 pub record ComesAt (s : State Local) (time : ℕ) : Type 0 where

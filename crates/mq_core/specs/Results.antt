@@ -1,7 +1,9 @@
 -- What a run tells: bare times, totals of nodes, streams of outputs, and the first visit past the bound.
+-- What a run gives of a node: its visits, streams and totals, and the first departure after the bound.
 use Rattle.std.specs.List.{flat_map}
-use Rattle.std.specs.Option.{option_to_list}
+use Rattle.std.specs.Option.{option_map, option_to_list}
 use Rattle.std.specs.Prelude.{Bool, List, None, Option, Some, [], count_by, false, fold, if◌then◌else◌, length, map, max, nat_lt, slice_get, slice_index, suc, sum, sum_by, true, ℕ, ◌++◌, ◌-◌, ◌∷◌}
+use Rattle.mq_core.specs.Behaviour.{Behaviour}
 use Rattle.mq_core.specs.Fates.{fate_of}
 use Rattle.mq_core.specs.KindTable.{behaviour_of}
 use Rattle.mq_core.specs.Laws.{stream_of}
@@ -25,11 +27,14 @@ bare_time rows kind job = (behaviour_of kind).bare rows job
 abbrev pub servers_in : Kind → ℕ
 servers_in kind = (behaviour_of kind).servers
 
--- the fates of the positions from this one on, one for each visit that has its fate
-abbrev pub fates_from : Kind → List Emission → ℕ → List Visit → List Fate
-fates_from kind emitted position [] = []
-fates_from kind emitted position (visit ∷ visits) =
-    option_to_list (fate_of kind emitted position) ++ fates_from kind emitted (suc position) visits
+-- the fates of these visits of a station, the first at this position, one for each that has left
+abbrev pub fates_by : Behaviour → Station Local → ℕ → List Visit → List Fate
+fates_by b s position [] = []
+fates_by b s position (visit ∷ visits) = option_to_list (option_map b.fate (b.exit s position)) ++ fates_by b s (suc position) visits
+
+-- the same at a node of this kind
+abbrev pub fates_from : Kind → Station Local → ℕ → List Visit → List Fate
+fates_from kind s position visits = fates_by (behaviour_of kind) s position visits
 
 -- the visits of a node
 abbrev pub visits_of : Kind → Station Local → Visits
@@ -38,7 +43,7 @@ visits_of kind s =
       job = map (λ (x : Visit). x.job) s.visits;
       arrive = map (λ (x : Visit). x.arrive) s.visits;
       found = map (λ (x : Visit). x.found) s.visits;
-      fate = fates_from kind s.emitted 0 s.visits;
+      fate = fates_from kind s 0 s.visits;
     }
 
 -- the stream of an output
@@ -83,7 +88,7 @@ peak_of kind peak = if (behaviour_of kind).holds then peak else 0
 -- the totals of a node, from its visits, its fates and its tallies
 abbrev pub totals_of : Rows → Kind → Station Local → Totals
 totals_of rows kind s =
-    let fates = fates_from kind s.emitted 0 s.visits in
+    let fates = fates_from kind s 0 s.visits in
     let lost = count_by is_lost fates in
     let waits = waits_of rows kind s.visits fates in
     record {
@@ -116,15 +121,15 @@ late_fate bound node position (Some Lost) = []
 late_fate bound node position (Some (Departs time)) = if nat_lt bound time then record { node = node; position = position; time = time } ∷ [] else []
 
 -- the visits of a node that depart after the bound, from this position on
-abbrev pub late_from : ℕ → ℕ → Kind → List Emission → ℕ → List Visit → List Late
-late_from bound node kind emitted position [] = []
-late_from bound node kind emitted position (visit ∷ visits) =
-    late_fate bound node position (fate_of kind emitted position) ++ late_from bound node kind emitted (suc position) visits
+abbrev pub late_from : ℕ → ℕ → Kind → Station Local → ℕ → List Visit → List Late
+late_from bound node kind s position [] = []
+late_from bound node kind s position (visit ∷ visits) =
+    late_fate bound node position (fate_of kind s position) ++ late_from bound node kind s (suc position) visits
 
 -- the same at a node; none where there is no such node
 abbrev pub late_at : ℕ → ℕ → Option Node → Station Local → List Late
 late_at bound v None s = []
-late_at bound v (Some node) s = late_from bound v node.kind s.emitted 0 s.visits
+late_at bound v (Some node) s = late_from bound v node.kind s 0 s.visits
 
 -- the first of these, if there is one
 abbrev pub first_of : List Late → Option Late

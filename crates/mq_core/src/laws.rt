@@ -5,7 +5,7 @@ ghost use Rattle.mq_core.specs.PlanLaws.{NodesAreInLimits, OrdersRank, RowsTellD
 ghost use Rattle.mq_core.specs.Alone.{NodesFlowAlone};
 ghost use Rattle.mq_core.specs.Bounded.{DeparturesAreBounded};
 ghost use Rattle.mq_core.specs.Fates.{AreasAreSojourns, BusyIsServices, FoundsAreCounts, PeakIsGreatest, RunEnds, SpanIsLatest};
-ghost use Rattle.mq_core.specs.ColumnLaws.{ArrivalsAreStreams, ColumnsAreBlind, DepartsInTime, FatesAreInTime, JobsAreRows, MergesTwice, NodesAreColumns, NodesFlow, OrdersKeepItems, StreamsRise, VisitsAreFew, VisitsStayBareTime};
+ghost use Rattle.mq_core.specs.ColumnLaws.{ArrivalsAreStreams, ColumnsAreBlind, ColumnsGoByFates, DepartsInTime, FatesAreInTime, JobsAreRows, MergesTwice, NodesAreColumns, NodesFlow, OrdersKeepItems, StreamsRise, VisitsAreFew, VisitsStayBareTime};
 ghost use Rattle.mq_core.specs.NumberLaws.{ExitsAreStreams, OnTimeGrows, PastIsFirst, PastIsNone, SpanIsColumns, TotalsAreColumns};
 ghost use Rattle.mq_core.specs.RunLaws.{ColumnsMakeRuns, OutputsHaveStreams, RunsHaveColumns, StreamsMakeOutputs};
 
@@ -26,7 +26,8 @@ pub fn nodes_run_alone<H: Handlers>()
     ensures { NodesRunAlone H.opening H.handle H.jobs H.working }
 {}
 
-/// The run has ended: nothing is pending, each visit has its fate, and no node holds a job.
+/// The run has ended: nothing is pending, each visit has its fate but where visits may stay for
+/// good, and each node holds those that haven't left.
 pub fn the_run_ends()
     ensures { RunEnds }
 {}
@@ -41,7 +42,7 @@ pub fn nodes_flow_alone()
     ensures { NodesFlowAlone }
 {}
 
-/// Each visit found as many as the earlier ones that leave later than it came.
+/// Each visit found as many as the earlier ones that were still there.
 pub fn founds_are_counts()
     ensures { FoundsAreCounts }
 {}
@@ -127,6 +128,12 @@ pub fn nodes_flow()
 /// The visits and the streams of a node are the columns that its jobs and their times of arrival give.
 pub fn nodes_are_columns()
     ensures { NodesAreColumns }
+{}
+
+/// What the visits of a node found, and what leaves by an output, go by the fates of its visits and
+/// the output of each.
+pub fn columns_go_by_fates()
+    ensures { ColumnsGoByFates }
 {}
 
 /// By which ports jobs came to a node changes nothing in its columns.

@@ -7,8 +7,8 @@ use Rattle.std.proofs.lemmas.Option.{slice_get-map, slice_get_within}
 use Rattle.mq_base.proofs.lemmas.Lists.{some_inj}
 use Rattle.mq_base.proofs.lemmas.Zips.{zip-map}
 use Rattle.mq_core.specs.Came.{came_in}
-use Rattle.mq_core.specs.ColumnLaws.{FatesAreInTime}
-use Rattle.mq_core.specs.Columns.{IsStream, by_first, column_fates, column_outs, founds_of, leaving_times, pairs_of, picked, sorted, stream_in_order}
+use Rattle.mq_core.specs.ColumnLaws.{FatesAreInTime, ColumnsGoByFates}
+use Rattle.mq_core.specs.Columns.{IsStream, by_first, column_fates, column_outs, founds_of, leaving_times, pairs_of, picked, sorted, stream_in_order, column_visits}
 use Rattle.mq_core.specs.Sound.{outputs_in}
 use Rattle.mq_core.specs.declared.model.Demand.{Demand}
 use Rattle.mq_core.specs.declared.model.Fate.{Fate}
@@ -49,22 +49,22 @@ left-even law rows kind arrivals streams even left =
         (even ∙ sym (leaving-many arrivals.time _ (law rows kind (came_in arrivals) even).even)))
 
 -- put in the order of leaving it is the streams of the columns
-pub left-streams : (rows : Rows) (kind : Kind) (arrivals : Stream) (streams ordered : List Stream) → AreLeft rows kind arrivals streams → ordered ≡ map (stream_in_order kind) streams → AreStreams rows kind arrivals ordered
-left-streams rows kind arrivals streams ordered left e =
+pub left-streams : ColumnsGoByFates → (rows : Rows) (kind : Kind) (arrivals : Stream) (streams ordered : List Stream) → AreLeft rows kind arrivals streams → ordered ≡ map (stream_in_order kind) streams → AreStreams rows kind arrivals ordered
+left-streams law rows kind arrivals streams ordered left e =
     record {
       count = ap length e ∙ (length-map streams _ ∙ left.count);
-      each = λ out l. ap (λ (s : List Stream). slice_get s out) e ∙ (slice_get-map (stream_in_order kind) streams out ∙ ap (option_map (stream_in_order kind)) (left.each out l));
+      each = λ out l. ap (λ (s : List Stream). slice_get s out) e ∙ (slice_get-map (stream_in_order kind) streams out ∙ (ap (option_map (stream_in_order kind)) (left.each out l) ∙ ap Some (sym ((law rows kind (came_in arrivals)).stream out))));
     }
 
 -- what has been seen of a node is its turn, once what leaves is in order
-pub seen-turn : (rows : Rows) (kind : Kind) (arrivals : Stream) (fates : List Fate) (found : List ℕ) (streams ordered : List Stream) → IsLeaving rows kind arrivals fates streams → found ≡ founds_of arrivals.time fates → ordered ≡ map (stream_in_order kind) streams →
+pub seen-turn : ColumnsGoByFates → (rows : Rows) (kind : Kind) (arrivals : Stream) (fates : List Fate) (found : List ℕ) (streams ordered : List Stream) → IsLeaving rows kind arrivals fates streams → found ≡ founds_of arrivals.time fates → ordered ≡ map (stream_in_order kind) streams →
     IsTurn rows kind arrivals (record { job = arrivals.job; arrive = arrivals.time; found = found; fate = fates }) ordered
-seen-turn rows kind arrivals fates found streams ordered left f o =
+seen-turn law rows kind arrivals fates found streams ordered left f o =
     record {
       columns =
-          let founds : found ≡ founds_of arrivals.time (column_fates rows kind (came_in arrivals)) = f ∙ ap (founds_of arrivals.time) left.leave in
+          let founds : found ≡ (column_visits rows kind (came_in arrivals)).found = f ∙ (ap (founds_of arrivals.time) left.leave ∙ sym (law rows kind (came_in arrivals)).founds) in
           λ k. record { job = arrivals.job; arrive = arrivals.time; found = founds k; fate = left.leave k };
-      outflow = left-streams rows kind arrivals streams ordered left.outflow o;
+      outflow = left-streams law rows kind arrivals streams ordered left.outflow o;
     }
 
 -- a stream of the same items, by time

@@ -190,7 +190,7 @@ left-early : (laws : CoreLaws) (plan : Plan) (rows : Rows) (v : ℕ) (node : Nod
 left-early laws plan rows v node arrivals left came t h out stream e =
     let inside : out < outputs_in node.kind = subst (λ m. out < m) t.count (slice_get_within left out stream e) in
     let bound = bound-within plan in
-    subst (λ (s : Stream). EarlyTimes s.time) (some_inj _ _ (sym (t.each out inside) ∙ e))
+    subst (λ (s : Stream). EarlyTimes s.time) (sym ((laws.go rows node.kind (came_in arrivals)).stream out) ∙ some_inj _ _ (sym (t.each out inside) ∙ e))
     ((laws.keeps node.kind (record { job = picked out (column_outs rows node.kind (came_in arrivals)) arrivals.job; time = picked out (column_outs rows node.kind (came_in arrivals)) (leaving_times arrivals.time (column_fates rows node.kind (came_in arrivals))) })).times (2 ^ 60)
     (picked-early out (column_outs rows node.kind (came_in arrivals)) (leaving_times arrivals.time (column_fates rows node.kind (came_in arrivals)))
     (leaving-early arrivals.time (column_fates rows node.kind (came_in arrivals)) came

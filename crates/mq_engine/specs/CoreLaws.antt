@@ -1,5 +1,5 @@
 -- The laws of runs that the engine rests on, each proved in the core.
-use Rattle.mq_core.specs.ColumnLaws.{ArrivalsAreStreams, ColumnsAreBlind, FatesAreInTime, JobsAreRows, NodesAreColumns, OrdersKeepItems, StreamsRise, VisitsAreFew}
+use Rattle.mq_core.specs.ColumnLaws.{ArrivalsAreStreams, ColumnsAreBlind, ColumnsGoByFates, FatesAreInTime, JobsAreRows, NodesAreColumns, OrdersKeepItems, StreamsRise, VisitsAreFew}
 use Rattle.mq_core.specs.NumberLaws.{OnTimeGrows, PastIsFirst, PastIsNone}
 use Rattle.mq_core.specs.PlanLaws.{NodesAreInLimits, OrdersRank, RowsTellDemands}
 use Rattle.mq_core.specs.RunLaws.{ColumnsMakeRuns, OutputsHaveStreams, StreamsMakeOutputs}
@@ -15,6 +15,7 @@ pub record CoreLaws : Type 0 where
   pub keeps : OrdersKeepItems
   pub columns : NodesAreColumns
   pub blind : ColumnsAreBlind
+  pub go : ColumnsGoByFates
   pub streams : StreamsRise
   pub have : OutputsHaveStreams
   pub make : StreamsMakeOutputs

@@ -14,7 +14,7 @@ use crate::late::first_late;
 use crate::outflow::{Outflow, only};
 use crate::stations::leaving;
 use mq_base::{List, OutOfMemory};
-use mq_core::{Fate, Kind, Network, Rows, Stream, Visits, fates_are_in_time};
+use mq_core::{Fate, Kind, Network, Rows, Stream, Visits, columns_go_by_fates, fates_are_in_time};
 use mq_delay::delay_leaving;
 use mq_merge::by_time;
 use mq_stats::{found, found_piece_in_order};
@@ -104,6 +104,7 @@ pub fn ending_of<R: Threads + Sync>(
     requires after { IsAfter net.now rows.now number kind.now arrivals after }
     ensures { IfOk result (λ ending. IsEnding net.now rows.now number kind.now arrivals ending) }
 {
+    columns_go_by_fates();
     fates_are_in_time();
     match after {
         After::Seen(fate, found, streams) => {

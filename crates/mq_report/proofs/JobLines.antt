@@ -38,4 +38,4 @@ lines-are rows name kind (visit ∷ visits) (Lost ∷ fates) = ap (λ l. visit_l
 pub jobs-are : (rows : Rows) (node : Node) (station : Station Local) (visits : Visits) → visits_of node.kind station ≡ visits →
     column_lines rows node.name node.kind visits.job visits.arrive visits.fate ≡ node_jobs rows node station
 jobs-are rows node station visits h =
-    ap (λ (v : Visits). column_lines rows node.name node.kind v.job v.arrive v.fate) (sym h) ∙ lines-are rows node.name node.kind station.visits (fates_from node.kind station.emitted 0 station.visits)
+    ap (λ (v : Visits). column_lines rows node.name node.kind v.job v.arrive v.fate) (sym h) ∙ lines-are rows node.name node.kind station.visits (fates_from node.kind station 0 station.visits)

@@ -154,7 +154,7 @@ visit_lines rows name kind (visit ∷ visits) (fate ∷ fates) =
 
 -- the job lines of a node: one for each of its visits, by position
 abbrev pub node_jobs : Rows → Node → Station Local → List ℕ
-node_jobs rows node station = visit_lines rows node.name node.kind station.visits (fates_from node.kind station.emitted 0 station.visits)
+node_jobs rows node station = visit_lines rows node.name node.kind station.visits (fates_from node.kind station 0 station.visits)
 
 -- the job lines of a node of the network
 abbrev pub jobs_at : Rows → State Local → ℕ → Option Node → List ℕ

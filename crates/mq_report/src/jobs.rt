@@ -7,7 +7,7 @@ ghost use Rattle.mq_core.specs.StandardTable.{run_of};
 ghost use Rattle.mq_core.specs.Theorems.{IsReadFor};
 ghost use Rattle.mq_stats.specs.Numbers.{AreVisits};
 ghost use Rattle.mq_report.specs.Columns.{column_lines};
-ghost use Rattle.mq_report.specs.Text.{fate_words, jobs_text, node_jobs, visit_line, visit_words, };
+ghost use Rattle.mq_report.specs.Text.{fate_words, jobs_text, node_jobs, visit_line, visit_words};
 
 use crate::line::Line;
 use mq_base::{Gather, Sink, SinkFault, add_bytes};

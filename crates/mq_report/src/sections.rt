@@ -9,7 +9,7 @@ ghost use Rattle.mq_core.specs.StandardTable.{run_of};
 ghost use Rattle.mq_core.specs.Theorems.{IsReadFor};
 ghost use Rattle.mq_stats.specs.Numbers.{totals_from};
 ghost use Rattle.mq_report.specs.Totals.{AreNodeTotals};
-ghost use Rattle.mq_report.specs.Text.{asked_jobs, exit_lines, exit_lines_at, exits_text, is_read as reads_output, line_of, nodes_text, report_in, report_text, };
+ghost use Rattle.mq_report.specs.Text.{asked_jobs, exit_lines, exit_lines_at, exits_text, is_read as reads_output, line_of, nodes_text, report_in, report_text};
 
 use crate::jobs::add_jobs;
 use crate::lines::{add_exit, add_head, add_node};

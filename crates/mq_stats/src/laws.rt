@@ -2,14 +2,15 @@
 ghost use Rattle.mq_stats.specs.RunNumbers.{RunsGiveStreams, RunsGiveVisits};
 
 use mq_core::{
-    departs_in_time, jobs_are_rows, nodes_are_columns, nodes_are_in_limits, orders_keep_items,
-    rows_tell_demands, streams_rise, visits_are_few,
+    columns_go_by_fates, departs_in_time, jobs_are_rows, nodes_are_columns, nodes_are_in_limits,
+    orders_keep_items, rows_tell_demands, streams_rise, visits_are_few,
 };
 
 /// The visits of each node of a run are such that their totals are told.
 pub fn runs_give_visits()
     ensures { RunsGiveVisits }
 {
+    columns_go_by_fates();
     departs_in_time();
     jobs_are_rows();
     nodes_are_columns();
@@ -22,6 +23,7 @@ pub fn runs_give_visits()
 pub fn runs_give_streams()
     ensures { RunsGiveStreams }
 {
+    columns_go_by_fates();
     departs_in_time();
     jobs_are_rows();
     nodes_are_columns();

@@ -1,7 +1,7 @@
 // The totals of a node over a run.
 ghost use Rattle.std.specs.Prelude.{◌≡◌, ◌<◌, ◌≤◌, ◌^◌, ℕ, All, length, max, fold, sum, cond, count_by};
 ghost use Rattle.mq_core.specs.Asked.{HasDemands};
-ghost use Rattle.mq_core.specs.Columns.{column_numbers, column_peak, column_service, column_services, column_sojourn, column_sojourns, column_totals, column_wait, column_waits, one_more, };
+ghost use Rattle.mq_core.specs.Columns.{column_numbers, column_peak, column_service, column_services, column_sojourn, column_sojourns, column_totals, column_wait, column_waits, one_more};
 ghost use Rattle.mq_core.specs.Fates.{service_time};
 ghost use Rattle.mq_core.specs.Results.{bare_time, is_lost};
 ghost use Rattle.mq_core.specs.declared.model.Kind.{Kind as TheKind};

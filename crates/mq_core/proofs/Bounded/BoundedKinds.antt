@@ -1,6 +1,6 @@
 -- When jobs have departed at the latest from a node of each kind, and when they pass its outputs.
 use Rattle.mq_core.specs.Came.{Came}
-use Rattle.std.proofs.Common.{Bool, List, [], cond, eqb, false, length, true, ℕ, ◌*◌, ◌+◌, ◌^◌, ◌∷◌, ◌≡◌, ◌≤◌}
+use Rattle.std.proofs.Common.{Bool, List, [], cond, eqb, false, length, true, ℕ, ◌*◌, ◌+◌, ◌^◌, ◌∷◌, ◌≡◌, ◌≤◌, subst, sym}
 use Rattle.std.specs.List.{AllByRecursion as Each}
 use Rattle.mq_core.specs.ColumnLaws.{KeepsItems}
 use Rattle.mq_core.specs.Columns.{column_fates, column_outs, column_stream}
@@ -43,5 +43,6 @@ pub stream-by : (rows : Rows) (kind : Kind) (came : Came) (limit out : ℕ) → 
 stream-by rows kind came limit out keeps a f =
     let outs = column_outs rows kind came in
     let times = leaving_times came.arrive (column_fates rows kind came) in
-    (keeps (record { job = picked out outs came.job; time = picked out outs times })).times limit
-    (picked-by limit out outs times (leaving-by limit came.arrive (column_fates rows kind came) a f))
+    subst (λ (s : Stream). AreBy limit s.time) (sym ((recurrence_of rows came.ports kind).streams came out))
+    ((keeps (record { job = picked out outs came.job; time = picked out outs times })).times limit
+    (picked-by limit out outs times (leaving-by limit came.arrive (column_fates rows kind came) a f)))

@@ -14,7 +14,7 @@ use Rattle.mq_core.specs.declared.model.Kind.{Kind}
 use Rattle.mq_core.specs.declared.model.Rows.{Rows}
 use Rattle.mq_core.specs.declared.model.Visits.{Visits}
 use Rattle.mq_base.proofs.lemmas.Lists.{some_inj}
-use Rattle.mq_core.proofs.Columns.ColumnsEqual.{nodes-are-columns}
+use Rattle.mq_core.proofs.Columns.StationTable.{nodes-are-columns}
 use Rattle.mq_core.proofs.Counting.Stays.{FatesStay}
 use Rattle.mq_core.proofs.EachKind.LawTable.{recurrence_of}
 
@@ -33,7 +33,7 @@ by-position bare (x ∷ xs) (y ∷ ys) (z ∷ zs) h (suc k) j a t e f g = by-pos
 pub visits-stay-bare_time : VisitsStayBareTime
 visits-stay-bare_time plan rows read v node e =
     let s = (run_of plan rows).stations v in
-    let same : column_fates rows node.kind (came_of (length node.inputs) s.visits) ≡ fates_from node.kind s.emitted 0 s.visits = sym (ap (λ (x : Visits). x.fate) (nodes-are-columns plan rows read v node e).visits) in
+    let same : column_fates rows node.kind (came_of (length node.inputs) s.visits) ≡ fates_from node.kind s 0 s.visits = sym (ap (λ (x : Visits). x.fate) (nodes-are-columns plan rows read v node e).visits) in
     let long : length (jobs_of s.visits) ≡ length (arrives_of s.visits) = length-map s.visits (λ (x : Visit). x.job) ∙ sym (length-map s.visits (λ (x : Visit). x.arrive)) in
-    by-position (bare_time rows node.kind) (jobs_of s.visits) (arrives_of s.visits) (fates_from node.kind s.emitted 0 s.visits)
+    by-position (bare_time rows node.kind) (jobs_of s.visits) (arrives_of s.visits) (fates_from node.kind s 0 s.visits)
     (subst (FatesStay (bare_time rows node.kind) (jobs_of s.visits) (arrives_of s.visits)) same (stay-by-kind rows node.kind (came_of (length node.inputs) s.visits) long))

@@ -18,8 +18,7 @@ use Rattle.mq_core.specs.declared.model.Node.{Node}
 use Rattle.mq_core.specs.declared.model.Plan.{Plan}
 use Rattle.mq_core.specs.declared.model.Rows.{Rows}
 use Rattle.mq_core.proofs.Columns.ColumnMerges.{visits-nowhere}
-use Rattle.mq_core.proofs.Columns.ColumnsEqual.{some-inside}
-use Rattle.mq_core.proofs.EachKind.Ends.{source-inside, starts-inside, starts-weight, sum_below-zero}
+use Rattle.mq_core.proofs.EachKind.Ends.{source-inside, starts-inside, starts-weight, sum_below-zero, some-inside}
 use Rattle.mq_core.proofs.EachKind.Facts.{node_fact, standard-keeps}
 use Rattle.mq_core.proofs.EachKind.LawTable.{once_of}
 use Rattle.mq_core.proofs.Events.Falls.{Falls, never-grows-from_start}

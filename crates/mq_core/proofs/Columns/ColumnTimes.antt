@@ -13,7 +13,7 @@ use Rattle.mq_core.specs.declared.model.Fate.{Fate}
 use Rattle.mq_core.specs.declared.model.Fate.TheVariants.{Departs}
 use Rattle.mq_core.specs.declared.model.Visits.{Visits}
 use Rattle.mq_base.proofs.lemmas.Lists.{some_inj}
-use Rattle.mq_core.proofs.Columns.ColumnsEqual.{nodes-are-columns}
+use Rattle.mq_core.proofs.Columns.StationTable.{nodes-are-columns}
 use Rattle.mq_core.proofs.EachKind.LawTable.{recurrence_of}
 
 pub fates-in_time : FatesAreInTime
@@ -29,7 +29,7 @@ by-position (x ∷ xs) (y ∷ ys) h (suc k) a d e f = by-position xs ys h.1 k a 
 pub departs-in-time : DepartsInTime
 departs-in-time plan rows read v node e =
     let s = (run_of plan rows).stations v in
-    let same : column_fates rows node.kind (came_of (length node.inputs) s.visits) ≡ fates_from node.kind s.emitted 0 s.visits = sym (ap (λ (x : Visits). x.fate) (nodes-are-columns plan rows read v node e).visits) in
+    let same : column_fates rows node.kind (came_of (length node.inputs) s.visits) ≡ fates_from node.kind s 0 s.visits = sym (ap (λ (x : Visits). x.fate) (nodes-are-columns plan rows read v node e).visits) in
     let long : length (jobs_of s.visits) ≡ length (arrives_of s.visits) = length-map s.visits (λ (x : Visit). x.job) ∙ sym (length-map s.visits (λ (x : Visit). x.arrive)) in
     let h = subst (FatesInTime (arrives_of s.visits)) same (fates-in_time rows node.kind (came_of (length node.inputs) s.visits) long) in
     record {
@@ -37,5 +37,5 @@ departs-in-time plan rows read v node e =
       founds = length-map s.visits (λ (x : Visit). x.found) ∙ sym (length-map s.visits (λ (x : Visit). x.arrive));
       fates = h.even;
       each = h.each;
-      at = by-position (arrives_of s.visits) (fates_from node.kind s.emitted 0 s.visits) h.each;
+      at = by-position (arrives_of s.visits) (fates_from node.kind s 0 s.visits) h.each;
     }

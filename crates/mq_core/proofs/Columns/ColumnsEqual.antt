@@ -1,11 +1,11 @@
 -- That a node which let out its flow stands in columns.
 use Rattle.mq_base.proofs.lemmas.Each.{Each-any}
 use Rattle.mq_core.specs.Came.{came_of}
-use Rattle.std.proofs.Common.{Bool, List, Some, [], ap, arith, cond, eqb, false, inl, inr, length, map, refl, suc, sym, true, zero, zero-add, ℕ, ◌<◌, ◌∙◌, ◌∷◌, ◌≡◌, ◌≤◌}
+use Rattle.std.proofs.Common.{Bool, List, [], ap, arith, cond, eqb, false, inl, inr, length, map, refl, suc, sym, true, zero-add, ℕ, ◌<◌, ◌∙◌, ◌∷◌, ◌≡◌, ◌≤◌}
 use Rattle.std.specs.List.{zip}
 use Rattle.std.specs.Prelude.{slice_get}
-use Rattle.mq_core.specs.ColumnLaws.{ColumnsAreBlind, NodesAreColumns, arrives_of, jobs_of}
-use Rattle.mq_core.specs.Columns.{column_fates, column_outs, column_stream, column_visits, stream_in_order}
+use Rattle.mq_core.specs.ColumnLaws.{arrives_of, jobs_of}
+use Rattle.mq_core.specs.Columns.{column_fates, column_outs, stream_in_order}
 use Rattle.mq_core.specs.Fates.{fate_by}
 use Rattle.mq_core.specs.KindTable.{behaviour_of}
 use Rattle.mq_core.specs.Laws.{Rises, in_order_of, stream_of}
@@ -13,23 +13,20 @@ use Rattle.mq_core.specs.Leaving.{Leaving, left_by}
 use Rattle.mq_core.specs.Leaving.Leaving.{InTurn, Mixed, Overtaking}
 use Rattle.mq_core.specs.Local.{Local}
 use Rattle.mq_core.specs.Machine.{Emission, Station, Visit}
-use Rattle.mq_core.specs.OnceOut.{founds_of, leaving_time, leaving_times}
-use Rattle.mq_core.specs.Results.{fates_from, stream_from, visits_of}
+use Rattle.mq_core.specs.OnceOut.{founds_of, leaving_time, leaving_times, once_out}
+use Rattle.mq_core.specs.Results.{stream_from}
 use Rattle.mq_core.specs.Served.{flow_of, in_leaving_order}
-use Rattle.mq_core.specs.StandardTable.{run_of}
 use Rattle.mq_core.specs.Streams.{by_first, picked, stream_by}
-use Rattle.mq_core.specs.Tallies.{arrival_or, found_or, still_there}
+use Rattle.mq_core.specs.Tallies.{arrival_or, found_or}
 use Rattle.mq_core.specs.declared.model.Kind.{Kind}
-use Rattle.mq_core.specs.declared.model.Node.{Node}
 use Rattle.mq_core.specs.declared.model.Rows.{Rows}
 use Rattle.mq_core.specs.declared.model.Stream.{Stream}
-use Rattle.mq_core.proofs.Columns.ColumnFlow.{flow-leaves, nodes-flow}
-use Rattle.mq_core.proofs.Columns.ColumnOrder.{streams-rise}
-use Rattle.mq_core.proofs.Counting.ColumnNumbers.{EachLeaves, LeavesAs, Numbered, fates-numbered, founds-numbered, jobs-numbered, order-found}
+use Rattle.mq_core.proofs.Columns.ColumnFlow.{flow-leaves}
+use Rattle.mq_core.proofs.Counting.ColumnNumbers.{EachLeaves, LeavesAs, Numbered, founds-numbered, jobs-numbered, order-found}
 use Rattle.mq_core.proofs.EachKind.Flows.{flow-numbered}
 use Rattle.mq_core.proofs.EachKind.LawTable.{recurrence_of}
-use Rattle.mq_core.proofs.EachKind.Tallied.{founds-are-counts}
 use Rattle.mq_core.proofs.lemmas.Orders.{filter-order, in_order_of-map}
+use Rattle.mq_core.proofs.Events.Later.{leaving_later}
 
 pub flow-fates : (rows : Rows) (ports : ℕ) (kind : Kind) (visits : List Visit) → map (fate_by kind) (flow_of rows ports kind visits) ≡ column_fates rows kind (came_of ports visits)
 flow-fates rows ports kind = (recurrence_of rows ports kind).fares
@@ -57,20 +54,16 @@ leaves-times kind k (m ∷ ms) (x ∷ xs) n h = λ i. own h.0 i ∷ leaves-times
     own (inl e) = ap (leaving_time x.arrive) (sym e)
     own (inr e) = e.1 ∙ ap (leaving_time x.arrive) (sym e.0)
 
--- a station that let out its flow stands in columns
-pub station-visits : (rows : Rows) (ports : ℕ) (kind : Kind) (s : Station Local) → s.emitted ≡ in_leaving_order kind (flow_of rows ports kind s.visits) → Rises (λ a b. a ≤ b) (arrives_of s.visits) →
-    ((j : ℕ) → j < length s.visits → found_or 0 (slice_get s.visits j) ≡ still_there (arrival_or 0 (slice_get s.visits j)) s.emitted j) →
-    visits_of kind s ≡ column_visits rows kind (came_of ports s.visits)
-station-visits rows ports kind s flow rise found =
+-- what the visits of a station found that let out its flow stands in columns
+pub station-founds : (rows : Rows) (ports : ℕ) (kind : Kind) (s : Station Local) → s.emitted ≡ in_leaving_order kind (flow_of rows ports kind s.visits) → Rises (λ a b. a ≤ b) (arrives_of s.visits) →
+    ((j : ℕ) → j < length s.visits → found_or 0 (slice_get s.visits j) ≡ leaving_later (arrival_or 0 (slice_get s.visits j)) s.emitted j) →
+    map (λ (x : Visit). x.found) s.visits ≡ founds_of (arrives_of s.visits) (column_fates rows kind (came_of ports s.visits))
+station-founds rows ports kind s flow rise found =
     let numbered = flow-numbered rows ports kind s.visits in
     let order = order-found kind 0 (flow_of rows ports kind s.visits) s.visits numbered in
-    let fates : fates_from kind s.emitted 0 s.visits ≡ column_fates rows kind (came_of ports s.visits) =
-    ap (λ l. fates_from kind l 0 s.visits) flow ∙ (fates-numbered kind 0 (in_leaving_order kind (flow_of rows ports kind s.visits)) (flow_of rows ports kind s.visits) s.visits numbered (λ q l. order q) ∙ flow-fates rows ports kind s.visits) in
-    let founds : map (λ (x : Visit). x.found) s.visits ≡ founds_of (arrives_of s.visits) (column_fates rows kind (came_of ports s.visits)) =
     founds-numbered kind 0 0 (in_leaving_order kind (flow_of rows ports kind s.visits)) (flow_of rows ports kind s.visits) [] s.visits numbered (λ q l. order q) (flow-leaves rows ports kind s.visits) (Each-any _ (λ a. omega arith) (arrives_of s.visits), rise) (λ time l. refl)
-    (λ j l. found j l ∙ (λ i. still_there (arrival_or 0 (slice_get s.visits j)) (flow i) (sym (zero-add j) i)))
-    ∙ ap (founds_of (arrives_of s.visits)) (flow-fates rows ports kind s.visits) in
-    λ i. record { job = jobs_of s.visits; arrive = arrives_of s.visits; found = founds i; fate = fates i }
+    (λ j l. found j l ∙ (λ i. leaving_later (arrival_or 0 (slice_get s.visits j)) (flow i) (sym (zero-add j) i)))
+    ∙ ap (founds_of (arrives_of s.visits)) (flow-fates rows ports kind s.visits)
 
 -- the jobs and the times of what leaves by an output
 stream_in : ℕ → List Emission → Stream
@@ -121,30 +114,7 @@ order-stream Overtaking ms out h =
     let times = ap (map (λ (m : Emission). m.time)) sorted ∙ (sym (pairs-part (λ (p : ℕ × ℕ). p.0) (λ (m : Emission). m.time) (λ m. refl) (in_order_of (λ (m : Emission). m.time) (stream_of out ms))) ∙ ap (map (λ (p : ℕ × ℕ). p.0)) pairs) in
     λ i. record { job = jobs i; time = times i }
 
-pub station-stream : (rows : Rows) (ports : ℕ) (kind : Kind) (s : Station Local) (out : ℕ) → s.emitted ≡ in_leaving_order kind (flow_of rows ports kind s.visits) → Rises (λ a b. a ≤ b) (arrives_of s.visits) → stream_from s out ≡ column_stream rows kind (came_of ports s.visits) out
+pub station-stream : (rows : Rows) (ports : ℕ) (kind : Kind) (s : Station Local) (out : ℕ) → s.emitted ≡ in_leaving_order kind (flow_of rows ports kind s.visits) → Rises (λ a b. a ≤ b) (arrives_of s.visits) → stream_from s out ≡ once_out (behaviour_of kind).order (came_of ports s.visits) (column_fates rows kind (came_of ports s.visits)) (column_outs rows kind (came_of ports s.visits)) out
 unfolding stream_in
 station-stream rows ports kind s out flow rise =
     ap (stream_in out) flow ∙ (order-stream (behaviour_of kind).order (flow_of rows ports kind s.visits) out (λ mixed. (recurrence_of rows ports kind).stands mixed s.visits rise) ∙ ap (stream_in_order kind) (flow-stream rows ports kind s.visits out))
-
-pub some-inside : (nodes : List Node) (v : ℕ) (node : Node) → slice_get nodes v ≡ Some node → v < length nodes
-some-inside [] v node h = absurd cc
-some-inside (n ∷ nodes) zero node h = omega arith
-some-inside (n ∷ nodes) (suc v) node h = let l = some-inside nodes v node h in omega arith
-
-pub nodes-are-columns : NodesAreColumns
-nodes-are-columns plan rows read v node e =
-    let flow = nodes-flow plan rows read v node e in
-    let rise = (streams-rise plan rows v).arrivals in
-    record {
-      visits = station-visits rows (length node.inputs) node.kind ((run_of plan rows).stations v) flow rise (founds-are-counts plan rows read v (some-inside plan.net.nodes v node e));
-      stream = λ out. station-stream rows (length node.inputs) node.kind ((run_of plan rows).stations v) out flow rise;
-    }
-
--- the ports change neither fates nor outputs, from which all else follows
-pub columns-are-blind : ColumnsAreBlind
-columns-are-blind rows kind came =
-    let blind = (recurrence_of rows came.ports kind).blind came in
-    record {
-      visits = λ i. record { job = came.job; arrive = came.arrive; found = founds_of came.arrive (blind.0 i); fate = blind.0 i };
-      stream = λ out i. stream_in_order kind (record { job = picked out (blind.1 i) came.job; time = picked out (blind.1 i) (leaving_times came.arrive (blind.0 i)) });
-    }

@@ -2,9 +2,9 @@
 use Rattle.std.proofs.Common.{◌≡◌, ◌⊎◌, inl, inr, ℕ, zero, suc, ◌+◌, ◌<◌, ◌≤◌, List, [], ◌∷◌, ◌++◌, length, Option, Some, None, sym, refl, ap, ◌∙◌, subst, arith, slice_get, option_map, flat_map}
 use Rattle.std.proofs.lemmas.Bool.{cases_lt}
 use Rattle.mq_core.specs.Columns.{column_late, column_late_from, visits_by_node}
-use Rattle.mq_core.specs.Machine.{Visit, Emission, State}
+use Rattle.mq_core.specs.Machine.{Visit, State, Station}
 use Rattle.mq_core.specs.Local.{Local}
-use Rattle.mq_core.specs.Fates.{fate_by}
+use Rattle.mq_core.specs.Fates.{fate_by, leaves_with}
 use Rattle.mq_core.specs.NumberLaws.{IsOnTimeBelow, OnTimeGrows, PastIsFirst, PastIsNone}
 use Rattle.mq_core.specs.Results.{Late, fates_from, late_fate, late_from, late_at, first_of, past_of, visits_of}
 use Rattle.mq_core.specs.StandardTable.{run_of}
@@ -26,12 +26,12 @@ abbrev pub run_late : Plan → Rows → List ℕ → List Late
 run_late plan rows order = flat_map (λ v. late_in plan v (slice_get (visits_by_node (run_of plan rows) 0 plan.net.nodes) v)) order
 
 -- the late visits of a node are those of its fates
-late-fates : (bound v : ℕ) (kind : Kind) (emitted : List Emission) (k : ℕ) (xs : List Visit) → LetOut emitted k xs → late_from bound v kind emitted k xs ≡ column_late_from bound v k (fates_from kind emitted k xs)
-late-fates bound v kind emitted k [] out = refl
-late-fates bound v kind emitted k (x ∷ xs) out =
-    ap (λ o. late_fate bound v k (option_map (fate_by kind) o) ++ late_from bound v kind emitted (suc k) xs) out.0.1
-    ∙ (ap (λ l. late_fate bound v k (Some (fate_by kind out.0.0)) ++ l) (late-fates bound v kind emitted (suc k) xs out.1)
-    ∙ sym (ap (column_late_from bound v k) (fates-cons kind emitted k x xs out.0.0 out.0.1)))
+late-fates : (bound v : ℕ) (kind : Kind) (s : Station Local) (k : ℕ) (xs : List Visit) → LetOut (leaves_with kind s) k xs → late_from bound v kind s k xs ≡ column_late_from bound v k (fates_from kind s k xs)
+late-fates bound v kind s k [] out = refl
+late-fates bound v kind s k (x ∷ xs) out =
+    ap (λ o. late_fate bound v k (option_map (fate_by kind) o) ++ late_from bound v kind s (suc k) xs) out.0.1
+    ∙ (ap (λ l. late_fate bound v k (Some (fate_by kind out.0.0)) ++ l) (late-fates bound v kind s (suc k) xs out.1)
+    ∙ sym (ap (column_late_from bound v k) (fates-cons kind s k x xs out.0.0 out.0.1)))
 
 -- the columns of a node
 columns-at : (end : State Local) (from : ℕ) (nodes : List Node) (i : ℕ) → slice_get (visits_by_node end from nodes) i ≡ option_map (λ (n : Node). visits_of n.kind (end.stations (from + i))) (slice_get nodes i)
@@ -80,7 +80,7 @@ module _ (plan : Plan) (rows : Rows) (read : IsReadFor plan.net rows) where
 
   node-late : (v : ℕ) (o : Option Node) → slice_get plan.net.nodes v ≡ o → late_at plan.net.bound v o (end.stations v) ≡ late_in plan v (option_map (λ (n : Node). visits_of n.kind (end.stations v)) o)
   node-late v None here = refl
-  node-late v (Some node) here = late-fates plan.net.bound v node.kind (end.stations v).emitted 0 (end.stations v).visits (all-let_out plan rows read v node here)
+  node-late v (Some node) here = late-fates plan.net.bound v node.kind (end.stations v) 0 (end.stations v).visits (all-let_out plan rows read v node here)
 
   late-columns : (v : ℕ) → late_at plan.net.bound v (slice_get plan.net.nodes v) (end.stations v) ≡ late_in plan v (slice_get (visits_by_node end 0 plan.net.nodes) v)
   late-columns v = node-late v (slice_get plan.net.nodes v) refl ∙ sym (ap (late_in plan v) (columns-of_node end plan.net.nodes v))

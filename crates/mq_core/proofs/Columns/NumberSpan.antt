@@ -7,7 +7,7 @@ use Rattle.mq_core.specs.Alone.{came}
 use Rattle.mq_core.specs.Columns.{column_span, greatest_time, time_of_fate, visits_by_node}
 use Rattle.mq_core.specs.Event.{Event, job_of, time_of}
 use Rattle.mq_core.specs.Event.Event.{Arrive, Finish}
-use Rattle.mq_core.specs.Fates.{ComesAt, IsLatest, LeavesAt, fate_by}
+use Rattle.mq_core.specs.Fates.{ComesAt, IsLatest, LeavesAt, fate_by, leaves_with}
 use Rattle.mq_core.specs.Laws.{by_time, is_arrival_at, read_by}
 use Rattle.mq_core.specs.Local.{Local}
 use Rattle.mq_core.specs.Machine.{Emission, State, Station, Visit, emissions_of, opened}
@@ -28,13 +28,12 @@ use Rattle.mq_core.specs.declared.model.Rows.{Rows}
 use Rattle.mq_core.proofs.Columns.ColumnFlow.{node-leaves, nodes-flow}
 use Rattle.mq_core.proofs.Columns.NumberFates.{LetOut, all-let_out, fates-cons}
 use Rattle.mq_core.proofs.Columns.NumberPast.{columns-of_node}
-use Rattle.mq_core.proofs.Columns.NumberTotals.{node-inside}
 use Rattle.mq_core.proofs.Counting.ColumnNumbers.{LeavesAs, order-own}
 use Rattle.mq_core.proofs.EachKind.Facts.{network-fits}
 use Rattle.mq_core.proofs.EachKind.Flows.{flow-numbered}
 use Rattle.mq_core.proofs.EachKind.AloneRuns.{visits-handled}
-use Rattle.mq_core.proofs.EachKind.Ends.{nothing-pending}
-use Rattle.mq_core.proofs.EachKind.LawTable.{recurrence_of}
+use Rattle.mq_core.proofs.EachKind.Ends.{nothing-pending, some-inside}
+use Rattle.mq_core.proofs.EachKind.LawTable.{recurrence_of, own_of}
 use Rattle.mq_core.proofs.EachKind.Span.{span-is_latest}
 use Rattle.mq_core.proofs.Events.Kept.{Keeps, kept}
 use Rattle.mq_core.proofs.Lists.NumberLists.{greatest-bounds, greatest-least}
@@ -55,16 +54,16 @@ found-each P test (n ∷ ms) m h e = go (test n) e (found-each P test ms m h.1)
     go false e rest = rest e
 
 -- the fate of a position is in the column
-fate-at : (kind : Kind) (emitted : List Emission) (k i : ℕ) (xs : List Visit) (m : Emission) → LetOut emitted k xs → i < length xs → emission_at emitted (k + i) ≡ Some m → slice_get (fates_from kind emitted k xs) i ≡ Some (fate_by kind m)
-fate-at kind emitted k i [] m out l e = absurd (omega arith)
-fate-at kind emitted k zero (x ∷ xs) m out l e =
+fate-at : (kind : Kind) (s : Station Local) (k i : ℕ) (xs : List Visit) (m : Emission) → LetOut (leaves_with kind s) k xs → i < length xs → leaves_with kind s (k + i) ≡ Some m → slice_get (fates_from kind s k xs) i ≡ Some (fate_by kind m)
+fate-at kind s k i [] m out l e = absurd (omega arith)
+fate-at kind s k zero (x ∷ xs) m out l e =
     let place : k + zero ≡ k = omega arith in
-    let found = subst (λ p. emission_at emitted p ≡ Some m) place e in
-    ap (λ l. slice_get l 0) (fates-cons kind emitted k x xs m found)
-fate-at kind emitted k (suc i) (x ∷ xs) m out l e =
+    let found = subst (λ p. leaves_with kind s p ≡ Some m) place e in
+    ap (λ l. slice_get l 0) (fates-cons kind s k x xs m found)
+fate-at kind s k (suc i) (x ∷ xs) m out l e =
     let place : k + suc i ≡ suc k + i = omega arith in
-    ap (λ l. slice_get l (suc i)) (fates-cons kind emitted k x xs out.0.0 out.0.1)
-    ∙ fate-at kind emitted (suc k) i xs m out.1 (omega arith) (subst (λ p. emission_at emitted p ≡ Some m) place e)
+    ap (λ l. slice_get l (suc i)) (fates-cons kind s k x xs out.0.0 out.0.1)
+    ∙ fate-at kind s (suc k) i xs m out.1 (omega arith) (subst (λ p. leaves_with kind s p ≡ Some m) place e)
 
 -- a fate is no later than its emission
 early-fate : (rows : Rows) (kind : Kind) (now : ℕ) (m : Emission) → m.time ≤ now → time_of_fate (fate_by kind m) ≤ now
@@ -77,11 +76,11 @@ at-below (x ∷ xs) zero l = (x, refl)
 at-below (x ∷ xs) (suc i) l = at-below xs i (omega arith)
 
 -- no fate is later than all emissions
-fates-early : (rows : Rows) (kind : Kind) (now : ℕ) (emitted : List Emission) (k : ℕ) (xs : List Visit) → LetOut emitted k xs → Each (λ (m : Emission). m.time ≤ now) emitted → Each (λ fate. time_of_fate fate ≤ now) (fates_from kind emitted k xs)
-fates-early rows kind now emitted k [] out h = tt
-fates-early rows kind now emitted k (x ∷ xs) out h =
-    subst (λ l. Each (λ fate. time_of_fate fate ≤ now) l) (sym (fates-cons kind emitted k x xs out.0.0 out.0.1))
-    (early-fate rows kind now out.0.0 (found-each (λ (m : Emission). m.time ≤ now) _ emitted out.0.0 h out.0.1), fates-early rows kind now emitted (suc k) xs out.1 h)
+fates-early : (rows : Rows) (kind : Kind) (ports now : ℕ) (s : Station Local) (k : ℕ) (xs : List Visit) → LetOut (leaves_with kind s) k xs → Each (λ (m : Emission). m.time ≤ now) s.emitted → Each (λ fate. time_of_fate fate ≤ now) (fates_from kind s k xs)
+fates-early rows kind ports now s k [] out h = tt
+fates-early rows kind ports now s k (x ∷ xs) out h =
+    subst (λ l. Each (λ fate. time_of_fate fate ≤ now) l) (sym (fates-cons kind s k x xs out.0.0 out.0.1))
+    (early-fate rows kind now out.0.0 (found-each (λ (m : Emission). m.time ≤ now) _ s.emitted out.0.0 h (sym ((own_of rows ports kind).exits s k) ∙ out.0.1)), fates-early rows kind ports now s (suc k) xs out.1 h)
 
 nothing-came : (visits : List Visit) → came visits ≡ [] → visits ≡ []
 nothing-came [] h = refl
@@ -150,13 +149,13 @@ module _ (plan : Plan) (rows : Rows) (read : IsReadFor plan.net rows) where
       let place : m.position ≡ 0 + m.position = omega arith in
       let found : emission_at (end.stations v).emitted (0 + m.position) ≡ Some m = ap (emission_at (end.stations v).emitted) (sym place) ∙ (ap (λ l. emission_at l m.position) flow ∙ own.0) in
       let size = own.1 in
-      let fate = fate-at node.kind (end.stations v).emitted 0 m.position (end.stations v).visits m (all-let_out plan rows read v node here) size found in
+      let fate = fate-at node.kind (end.stations v) 0 m.position (end.stations v).visits m (all-let_out plan rows read v node here) size ((own_of rows (length node.inputs) node.kind).exits (end.stations v) (0 + m.position) ∙ found) in
       let visit = at-below (end.stations v).visits m.position own.1 in
       go fate visit.0 visit.1 (node-leaves plan rows read v node here m.position visit.0 m visit.1 (ap (emission_at (end.stations v).emitted) place ∙ found))
     where
-      go : slice_get (fates_from node.kind (end.stations v).emitted 0 (end.stations v).visits) m.position ≡ Some (fate_by node.kind m) → (x : Visit) → slice_get (end.stations v).visits m.position ≡ Some x → LeavesAs node.kind m x → m.time ≤ column_span (visits_by_node end 0 plan.net.nodes)
+      go : slice_get (fates_from node.kind (end.stations v) 0 (end.stations v).visits) m.position ≡ Some (fate_by node.kind m) → (x : Visit) → slice_get (end.stations v).visits m.position ≡ Some x → LeavesAs node.kind m x → m.time ≤ column_span (visits_by_node end 0 plan.net.nodes)
       go fate x at (inl e) =
-          let one : time_of_fate (fate_by node.kind m) ≤ fold max 0 (map time_of_fate (fates_from node.kind (end.stations v).emitted 0 (end.stations v).visits)) = greatest-bounds (map time_of_fate (fates_from node.kind (end.stations v).emitted 0 (end.stations v).visits)) m.position (time_of_fate (fate_by node.kind m)) (at-map time_of_fate (fates_from node.kind (end.stations v).emitted 0 (end.stations v).visits) m.position (fate_by node.kind m) fate) in
+          let one : time_of_fate (fate_by node.kind m) ≤ fold max 0 (map time_of_fate (fates_from node.kind (end.stations v) 0 (end.stations v).visits)) = greatest-bounds (map time_of_fate (fates_from node.kind (end.stations v) 0 (end.stations v).visits)) m.position (time_of_fate (fate_by node.kind m)) (at-map time_of_fate (fates_from node.kind (end.stations v) 0 (end.stations v).visits) m.position (fate_by node.kind m) fate) in
           let two = column-within v node here in
           let three : time_of_fate (fate_by node.kind m) ≡ m.time = ap time_of_fate e in
           omega arith
@@ -164,9 +163,9 @@ module _ (plan : Plan) (rows : Rows) (read : IsReadFor plan.net rows) where
 
   node-early : (v : ℕ) (node : Node) → slice_get plan.net.nodes v ≡ Some node → greatest_time (visits_of node.kind (end.stations v)) ≤ end.clock
   node-early v node here =
-      let inside = node-inside plan.net.nodes v node here in
+      let inside = some-inside plan.net.nodes v node here in
       let one = greatest-least end.clock (map (λ (x : Visit). x.arrive) (end.stations v).visits) (Each-map _ _ (λ (x : Visit). x.arrive) (λ x h. h) (end.stations v).visits (latest.came v inside)) in
-      let two = greatest-least end.clock (map time_of_fate (fates_from node.kind (end.stations v).emitted 0 (end.stations v).visits)) (Each-map _ _ time_of_fate (λ f h. h) (fates_from node.kind (end.stations v).emitted 0 (end.stations v).visits) (fates-early rows node.kind end.clock (end.stations v).emitted 0 (end.stations v).visits (all-let_out plan rows read v node here) (latest.left v inside))) in
+      let two = greatest-least end.clock (map time_of_fate (fates_from node.kind (end.stations v) 0 (end.stations v).visits)) (Each-map _ _ time_of_fate (λ f h. h) (fates_from node.kind (end.stations v) 0 (end.stations v).visits) (fates-early rows node.kind (length node.inputs) end.clock (end.stations v) 0 (end.stations v).visits (all-let_out plan rows read v node here) (latest.left v inside))) in
       omega arith
 
   nodes-early : (k : ℕ) (nodes : List Node) → ((i : ℕ) (node : Node) → slice_get nodes i ≡ Some node → greatest_time (visits_of node.kind (end.stations (k + i))) ≤ end.clock) → Each (λ time. time ≤ end.clock) (map greatest_time (visits_by_node end k nodes))

@@ -1,26 +1,26 @@
 -- That the totals of a node and of an output are those of their columns.
-use Rattle.std.proofs.Common.{Bool, List, Some, [], ap, arith, cond, count_by, false, fold, inl, inr, length, map, max, refl, slice_get, slice_index, subst, suc, sum, sum_by, sym, true, zero, ℕ, ◌+◌, ◌-◌, ◌<◌, ◌∙◌, ◌∷◌, ◌≡◌}
+use Rattle.std.proofs.Common.{Bool, List, Some, [], ap, arith, cond, count_by, false, fold, inl, inr, length, map, max, refl, slice_get, slice_index, subst, sum, sum_by, sym, true, ℕ, ◌+◌, ◌-◌, ◌∙◌, ◌∷◌, ◌≡◌, Option}
 use Rattle.std.proofs.lemmas.List.{length-map}
 use Rattle.std.proofs.lemmas.List.Sums.{sum_by-cons}
 use Rattle.std.specs.Option.{option_map}
 use Rattle.mq_core.specs.Columns.{column_numbers, column_service, column_services, column_sojourn, column_sojourns, column_waits, one_more, stream_sojourns}
-use Rattle.mq_core.specs.Fates.{fate_by, fate_of, holds_jobs, service_of, unless_lost}
+use Rattle.mq_core.specs.Fates.{fate_by, fate_of, holds_jobs, service_of, unless_lost, leaves_with}
 use Rattle.mq_core.specs.Laws.{stream_of}
 use Rattle.mq_core.specs.Local.{Local}
 use Rattle.mq_core.specs.Machine.{Emission, Station, Visit}
 use Rattle.mq_core.specs.NumberLaws.{ExitsAreStreams, TotalsAreColumns}
 use Rattle.mq_core.specs.Results.{fates_from, is_lost, wait_of, waits_of}
 use Rattle.mq_core.specs.StandardTable.{run_of}
-use Rattle.mq_core.specs.Tallies.{arrival_or, emission_at, found_or, greatest_below, sojourn, sojourns, sum_below, time_or}
+use Rattle.mq_core.specs.Tallies.{arrival_or, found_or, greatest_below, sojourn, sojourns, sum_below, time_or}
 use Rattle.mq_core.specs.declared.model.Fate.{Fate}
 use Rattle.mq_core.specs.declared.model.Fate.TheVariants.{Departs, Lost}
 use Rattle.mq_core.specs.declared.model.Kind.{Kind}
-use Rattle.mq_core.specs.declared.model.Node.{Node}
 use Rattle.mq_core.specs.declared.model.Rows.{Rows}
 use Rattle.mq_core.proofs.Columns.ColumnFlow.{node-leaves}
 use Rattle.mq_core.proofs.Columns.NumberFates.{LetOut, all-let_out, greatest-values, sum-values, values}
 use Rattle.mq_core.proofs.Counting.ColumnNumbers.{LeavesAs}
 use Rattle.mq_core.proofs.EachKind.Busy.{busy-is_services}
+use Rattle.mq_core.proofs.EachKind.LawTable.{own_of}
 use Rattle.mq_core.proofs.EachKind.Peak.{peak-is_greatest}
 use Rattle.mq_core.proofs.EachKind.Tallied.{areas-are-sojourns}
 
@@ -47,54 +47,49 @@ numbers-values (x ∷ xs) [] = refl
 numbers-values (x ∷ xs) (fate ∷ fates) = ap (λ l. one_more x.found fate ∷ l) (numbers-values xs fates)
 
 -- what is known of each position, where it is written from 0 on
-at-own : (emitted : List Emission) (i p : ℕ) (m : Emission) → p ≡ 0 + i → emission_at emitted p ≡ Some m → emission_at emitted i ≡ Some m
-at-own emitted i p m place e = subst (λ q. emission_at emitted q ≡ Some m) (let same : p ≡ i = omega arith in same) e
+at-own : (exits : ℕ → Option Emission) (i p : ℕ) (m : Emission) → p ≡ 0 + i → exits p ≡ Some m → exits i ≡ Some m
+at-own exits i p m place e = subst (λ q. exits q ≡ Some m) (let same : p ≡ i = omega arith in same) e
 
-area-columns : (kind : Kind) (now : ℕ) (visits : List Visit) (emitted : List Emission) → LetOut emitted 0 visits → ((i : ℕ) (x : Visit) (m : Emission) → slice_get visits i ≡ Some x → emission_at emitted i ≡ Some m → LeavesAs kind m x) → sojourns now visits emitted ≡ sum (column_sojourns (map (λ (x : Visit). x.arrive) visits) (fates_from kind emitted 0 visits))
-area-columns kind now visits emitted out leaves =
-    sym (ap sum (sojourns-values visits (fates_from kind emitted 0 visits))
-    ∙ sum-values kind emitted (λ x fate. column_sojourn x.arrive fate) 0 visits (sojourn now visits emitted) out
-    (λ i p x m place here e. ap (λ o. time_or now o - arrival_or 0 (slice_get visits i)) (at-own emitted i p m place e) ∙ (ap (λ o. m.time - arrival_or 0 o) here ∙ stays x m (leaves i x m here (at-own emitted i p m place e)))))
+area-columns : (kind : Kind) (now : ℕ) (s : Station Local) → LetOut (leaves_with kind s) 0 s.visits → ((i : ℕ) (x : Visit) (m : Emission) → slice_get s.visits i ≡ Some x → leaves_with kind s i ≡ Some m → LeavesAs kind m x) → sojourns now s.visits (leaves_with kind s) ≡ sum (column_sojourns (map (λ (x : Visit). x.arrive) s.visits) (fates_from kind s 0 s.visits))
+area-columns kind now s out leaves =
+    sym (ap sum (sojourns-values s.visits (fates_from kind s 0 s.visits))
+    ∙ sum-values kind s (λ x fate. column_sojourn x.arrive fate) 0 s.visits (sojourn now s.visits (leaves_with kind s)) out
+    (λ i p x m place here e. ap (λ o. time_or now o - arrival_or 0 (slice_get s.visits i)) (at-own (leaves_with kind s) i p m place e) ∙ (ap (λ o. m.time - arrival_or 0 o) here ∙ stays x m (leaves i x m here (at-own (leaves_with kind s) i p m place e)))))
   where
     stays : (x : Visit) (m : Emission) → LeavesAs kind m x → m.time - x.arrive ≡ column_sojourn x.arrive (fate_by kind m)
     stays x m (inl e) = ap (column_sojourn x.arrive) (sym e)
     stays x m (inr e) = let at = e.1 in let none : m.time - x.arrive ≡ 0 = omega arith in none ∙ ap (column_sojourn x.arrive) (sym e.0)
 
-busy-columns : (rows : Rows) (kind : Kind) (visits : List Visit) (emitted : List Emission) → LetOut emitted 0 visits → sum_below (length visits) (λ p. unless_lost (fate_of kind emitted p) (service_of rows kind (slice_get visits p))) ≡ sum (column_services rows kind (map (λ (x : Visit). x.job) visits) (fates_from kind emitted 0 visits))
-busy-columns rows kind visits emitted out =
-    sym (ap sum (services-values rows kind visits (fates_from kind emitted 0 visits))
-    ∙ sum-values kind emitted (λ x fate. column_service rows kind x.job fate) 0 visits (λ p. unless_lost (fate_of kind emitted p) (service_of rows kind (slice_get visits p))) out
-    (λ i p x m place here e. ap (λ o. unless_lost (option_map (fate_by kind) o) (service_of rows kind (slice_get visits i))) (at-own emitted i p m place e) ∙ (ap (λ o. unless_lost (Some (fate_by kind m)) (service_of rows kind o)) here ∙ served x (fate_by kind m))))
+busy-columns : (rows : Rows) (kind : Kind) (s : Station Local) → LetOut (leaves_with kind s) 0 s.visits → sum_below (length s.visits) (λ p. unless_lost (fate_of kind s p) (service_of rows kind (slice_get s.visits p))) ≡ sum (column_services rows kind (map (λ (x : Visit). x.job) s.visits) (fates_from kind s 0 s.visits))
+busy-columns rows kind s out =
+    sym (ap sum (services-values rows kind s.visits (fates_from kind s 0 s.visits))
+    ∙ sum-values kind s (λ x fate. column_service rows kind x.job fate) 0 s.visits (λ p. unless_lost (fate_of kind s p) (service_of rows kind (slice_get s.visits p))) out
+    (λ i p x m place here e. ap (λ o. unless_lost (option_map (fate_by kind) o) (service_of rows kind (slice_get s.visits i))) (at-own (leaves_with kind s) i p m place e) ∙ (ap (λ o. unless_lost (Some (fate_by kind m)) (service_of rows kind o)) here ∙ served x (fate_by kind m))))
   where
     served : (x : Visit) (fate : Fate) → unless_lost (Some fate) (service_of rows kind (Some x)) ≡ column_service rows kind x.job fate
     served x (Departs time) = refl
     served x Lost = refl
 
-numbers-columns : (kind : Kind) (visits : List Visit) (emitted : List Emission) → LetOut emitted 0 visits → greatest_below (length visits) (λ p. unless_lost (fate_of kind emitted p) (found_or 0 (slice_get visits p) + 1)) ≡ fold max 0 (column_numbers (map (λ (x : Visit). x.found) visits) (fates_from kind emitted 0 visits))
-numbers-columns kind visits emitted out =
-    sym (ap (fold max 0) (numbers-values visits (fates_from kind emitted 0 visits))
-    ∙ greatest-values kind emitted (λ x fate. one_more x.found fate) 0 visits (λ p. unless_lost (fate_of kind emitted p) (found_or 0 (slice_get visits p) + 1)) out
-    (λ i p x m place here e. ap (λ o. unless_lost (option_map (fate_by kind) o) (found_or 0 (slice_get visits i) + 1)) (at-own emitted i p m place e) ∙ (ap (λ o. unless_lost (Some (fate_by kind m)) (found_or 0 o + 1)) here ∙ number x (fate_by kind m))))
+numbers-columns : (kind : Kind) (s : Station Local) → LetOut (leaves_with kind s) 0 s.visits → greatest_below (length s.visits) (λ p. unless_lost (fate_of kind s p) (found_or 0 (slice_get s.visits p) + 1)) ≡ fold max 0 (column_numbers (map (λ (x : Visit). x.found) s.visits) (fates_from kind s 0 s.visits))
+numbers-columns kind s out =
+    sym (ap (fold max 0) (numbers-values s.visits (fates_from kind s 0 s.visits))
+    ∙ greatest-values kind s (λ x fate. one_more x.found fate) 0 s.visits (λ p. unless_lost (fate_of kind s p) (found_or 0 (slice_get s.visits p) + 1)) out
+    (λ i p x m place here e. ap (λ o. unless_lost (option_map (fate_by kind) o) (found_or 0 (slice_get s.visits i) + 1)) (at-own (leaves_with kind s) i p m place e) ∙ (ap (λ o. unless_lost (Some (fate_by kind m)) (found_or 0 o + 1)) here ∙ number x (fate_by kind m))))
   where
     number : (x : Visit) (fate : Fate) → unless_lost (Some fate) (x.found + 1) ≡ one_more x.found fate
     number x (Departs time) = refl
     number x Lost = refl
 
-pub node-inside : (nodes : List Node) (v : ℕ) (node : Node) → slice_get nodes v ≡ Some node → v < length nodes
-node-inside [] v node h = absurd cc
-node-inside (n ∷ nodes) zero node h = omega arith
-node-inside (n ∷ nodes) (suc v) node h = let one = node-inside nodes v node h in omega arith
-
 pub totals-are_columns : TotalsAreColumns
 totals-are_columns plan rows read v node here =
-    let area = areas-are-sojourns plan rows read v (node-inside plan.net.nodes v node here) ∙ area-columns node.kind (run_of plan rows).clock s.visits s.emitted out (node-leaves plan rows read v node here) in
-    let busy = busy-is_services plan rows read v node here ∙ busy-columns rows node.kind s.visits s.emitted out in
-    let waits = waits-columns rows node.kind s.visits (fates_from node.kind s.emitted 0 s.visits) in
+    let area = areas-are-sojourns plan rows read v node here ∙ area-columns node.kind (run_of plan rows).clock s out (λ i x m at e. node-leaves plan rows read v node here i x m at (sym ((own_of rows (length node.inputs) node.kind).exits s i) ∙ e)) in
+    let busy = busy-is_services plan rows read v node here ∙ busy-columns rows node.kind s out in
+    let waits = waits-columns rows node.kind s.visits (fates_from node.kind s 0 s.visits) in
     let size : length s.visits ≡ length (map (λ (x : Visit). x.job) s.visits) = sym (length-map s.visits (λ (x : Visit). x.job)) in
     λ i. record {
       came = size i;
-      left = size i - count_by is_lost (fates_from node.kind s.emitted 0 s.visits);
-      lost = count_by is_lost (fates_from node.kind s.emitted 0 s.visits);
+      left = size i - count_by is_lost (fates_from node.kind s 0 s.visits);
+      lost = count_by is_lost (fates_from node.kind s 0 s.visits);
       wait = sum (waits i);
       longest = fold max 0 (waits i);
       busy = busy i;
@@ -105,11 +100,11 @@ totals-are_columns plan rows read v node here =
     s : Station Local
     s = (run_of plan rows).stations v
 
-    out : LetOut ((run_of plan rows).stations v).emitted 0 ((run_of plan rows).stations v).visits
+    out : LetOut (leaves_with node.kind ((run_of plan rows).stations v)) 0 ((run_of plan rows).stations v).visits
     out = all-let_out plan rows read v node here
 
-    peak : (b : Bool) → holds_jobs node.kind ≡ b → cond b ((run_of plan rows).stations v).peak 0 ≡ cond b (fold max 0 (column_numbers (map (λ (x : Visit). x.found) ((run_of plan rows).stations v).visits) (fates_from node.kind ((run_of plan rows).stations v).emitted 0 ((run_of plan rows).stations v).visits))) 0
-    peak true holds = peak-is_greatest plan rows v node here holds ∙ numbers-columns node.kind ((run_of plan rows).stations v).visits ((run_of plan rows).stations v).emitted out
+    peak : (b : Bool) → holds_jobs node.kind ≡ b → cond b ((run_of plan rows).stations v).peak 0 ≡ cond b (fold max 0 (column_numbers (map (λ (x : Visit). x.found) ((run_of plan rows).stations v).visits) (fates_from node.kind ((run_of plan rows).stations v) 0 ((run_of plan rows).stations v).visits))) 0
+    peak true holds = peak-is_greatest plan rows v node here holds ∙ numbers-columns node.kind ((run_of plan rows).stations v) out
     peak false holds = refl
 
 -- the sum over a stream is the sum over its columns

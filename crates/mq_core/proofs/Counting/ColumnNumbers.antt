@@ -14,15 +14,15 @@ use Rattle.mq_core.specs.Leaving.{Leaving, left_by}
 use Rattle.mq_core.specs.Leaving.Leaving.{InTurn, Mixed, Overtaking}
 use Rattle.mq_core.specs.Machine.{Emission, Visit}
 use Rattle.mq_core.specs.OnceOut.{departs_after, founds_from}
-use Rattle.mq_core.specs.Results.{fates_from}
 use Rattle.mq_core.specs.Served.{in_leaving_order}
 use Rattle.mq_core.specs.Emitting.{leaving_from}
-use Rattle.mq_core.specs.Tallies.{arrival_or, emission_at, found_or, one_if_later, still_there}
+use Rattle.mq_core.specs.Tallies.{arrival_or, emission_at, found_or}
 use Rattle.mq_core.specs.declared.model.Fate.{Fate}
 use Rattle.mq_core.specs.declared.model.Fate.TheVariants.{Departs, Lost}
 use Rattle.mq_core.specs.declared.model.Kind.{Kind}
 use Rattle.mq_core.proofs.Events.EmissionsAt.{neq-eqb}
 use Rattle.mq_core.proofs.lemmas.Orders.{filter-order, short-order}
+use Rattle.mq_core.proofs.Events.Later.{leaving_later, one_if_later}
 
 -- one emission a visit, by position from this one on, with its job
 abbrev pub Numbered : ℕ → List Emission → List Visit → Type 0
@@ -139,14 +139,6 @@ found_as-next k emitted ms m at h q l =
 pub found_as-here : (k : ℕ) (emitted ms : List Emission) (m : Emission) → m.position ≡ k → FoundAs k emitted (m ∷ ms) → emission_at emitted k ≡ Some m
 found_as-here k emitted ms m at h = h k (omega arith) ∙ ap (λ b. cond b (Some m) (emission_at ms k)) (eq-eqb m.position k at)
 
--- the fates of the visits are those of the emissions in turn
-pub fates-numbered : (kind : Kind) (k : ℕ) (emitted ms : List Emission) (visits : List Visit) → Numbered k ms visits → FoundAs k emitted ms → fates_from kind emitted k visits ≡ map (fate_by kind) ms
-fates-numbered kind k emitted [] [] n h = refl
-fates-numbered kind k emitted [] (x ∷ xs) n h = absurd n
-fates-numbered kind k emitted (m ∷ ms) [] n h = absurd n
-fates-numbered kind k emitted (m ∷ ms) (x ∷ xs) n h =
-    rw (found_as-here k emitted ms m n.0 h) (ap (λ l. fate_by kind m ∷ l) (fates-numbered kind (suc k) emitted ms xs n.2 (found_as-next k emitted ms m n.0 h)))
-
 -- the jobs of the emissions are those of the visits
 pub jobs-numbered : (k : ℕ) (ms : List Emission) (visits : List Visit) → Numbered k ms visits → map (λ (m : Emission). m.job) ms ≡ jobs_of visits
 jobs-numbered k [] [] n = refl
@@ -180,8 +172,8 @@ later-departs kind time m x (inr e) l = rw e.0 (not-later time m.time (let at = 
 
 -- what each visit found is the number of the earlier ones that depart after its arrival, since none came later than it
 pub founds-numbered : (kind : Kind) (k low : ℕ) (emitted ms : List Emission) (before : List Fate) (visits : List Visit) → Numbered k ms visits → FoundAs k emitted ms → EachLeaves kind ms visits → Rises (λ a b. a ≤ b) (low ∷ arrives_of visits) →
-    ((time : ℕ) → low ≤ time → count_by (departs_after time) before ≡ still_there time emitted k) →
-    ((j : ℕ) → j < length visits → found_or 0 (slice_get visits j) ≡ still_there (arrival_or 0 (slice_get visits j)) emitted (k + j)) →
+    ((time : ℕ) → low ≤ time → count_by (departs_after time) before ≡ leaving_later time emitted k) →
+    ((j : ℕ) → j < length visits → found_or 0 (slice_get visits j) ≡ leaving_later (arrival_or 0 (slice_get visits j)) emitted (k + j)) →
     map (λ (x : Visit). x.found) visits ≡ founds_from before (arrives_of visits) (map (fate_by kind) ms)
 founds-numbered kind k low emitted [] before [] n h leaves rise same found = refl
 founds-numbered kind k low emitted [] before (x ∷ xs) n h leaves rise same found = absurd n
@@ -189,16 +181,16 @@ founds-numbered kind k low emitted (m ∷ ms) before [] n h leaves rise same fou
 founds-numbered kind k low emitted (m ∷ ms) before (x ∷ xs) n h leaves rise same found =
     let tail =
     founds-numbered kind (suc k) x.arrive emitted ms (before ++ fate_by kind m ∷ []) xs n.2 (found_as-next k emitted ms m n.0 h) leaves.1 rise.1 more
-    (λ j l. let e : k + suc j ≡ suc k + j = omega arith in found (suc j) (omega arith) ∙ ap (still_there (arrival_or 0 (slice_get xs j)) emitted) e) in
+    (λ j l. let e : k + suc j ≡ suc k + j = omega arith in found (suc j) (omega arith) ∙ ap (leaving_later (arrival_or 0 (slice_get xs j)) emitted) e) in
     λ i. head i ∷ tail i
   where
     above : low ≤ x.arrive
     above = rise.0.0
 
     head : x.found ≡ count_by (departs_after x.arrive) before
-    head = let z : k + 0 ≡ k = omega arith in found 0 (omega arith) ∙ (ap (still_there x.arrive emitted) z ∙ sym (same x.arrive above))
+    head = let z : k + 0 ≡ k = omega arith in found 0 (omega arith) ∙ (ap (leaving_later x.arrive emitted) z ∙ sym (same x.arrive above))
 
-    more : (time : ℕ) → x.arrive ≤ time → count_by (departs_after time) (before ++ fate_by kind m ∷ []) ≡ still_there time emitted (suc k)
+    more : (time : ℕ) → x.arrive ≤ time → count_by (departs_after time) (before ++ fate_by kind m ∷ []) ≡ leaving_later time emitted (suc k)
     more time l =
         let up = above in
         let a = sum_by-append (λ f. cond (departs_after time f) 1 0) before (fate_by kind m ∷ []) in

@@ -215,7 +215,7 @@ sum-times n (m ∷ ms) h =
             less a b n u = omega arith
 
 -- where each position was let out or is still to leave, once in all, as many stay as are to leave
-pub staying-coming : (visits : List Visit) (emitted coming : List Emission) → ((p : ℕ) → p < length visits → times_at p emitted + times_at p coming ≡ 1) → Each (λ (m : Emission). m.position < length visits) coming → staying visits emitted ≡ length coming
+pub staying-coming : (visits : List Visit) (emitted coming : List Emission) → ((p : ℕ) → p < length visits → times_at p emitted + times_at p coming ≡ 1) → Each (λ (m : Emission). m.position < length visits) coming → staying visits (emission_at emitted) ≡ length coming
 staying-coming visits emitted coming once inside =
     sum-alike (length visits) _ _ (λ p l. go p (times_at p emitted) refl (once p l)) ∙ sum-times (length visits) coming inside
   where

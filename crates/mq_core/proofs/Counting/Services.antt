@@ -1,7 +1,8 @@
 -- The services of visits, told of those that are there.
 use Rattle.std.proofs.Common.{List, None, Option, Some, length, sym, ℕ, ◌≡◌}
 use Rattle.std.specs.Prelude.{slice_get}
-use Rattle.mq_core.specs.Fates.{fate_of, service_of, service_time, unless_lost}
+use Rattle.mq_core.specs.Fates.{service_of, service_time, unless_lost, fate_by}
+use Rattle.std.specs.Option.{option_map}
 use Rattle.mq_core.specs.Machine.{Emission, Visit}
 use Rattle.mq_core.specs.Tallies.{emission_at, sum_below}
 use Rattle.mq_core.specs.declared.model.Kind.{Kind}
@@ -20,5 +21,5 @@ services-by rows kind visits f none some = sum-same (length visits) _ _ (λ p l.
 
 -- where none is lost the services of all count
 pub services-count : (rows : Rows) (kind : Kind) (visits : List Visit) (emitted : List Emission) → Departing kind →
-    sum_below (length visits) (λ p. service_of rows kind (slice_get visits p)) ≡ sum_below (length visits) (λ p. unless_lost (fate_of kind emitted p) (service_of rows kind (slice_get visits p)))
+    sum_below (length visits) (λ p. service_of rows kind (slice_get visits p)) ≡ sum_below (length visits) (λ p. unless_lost (option_map (fate_by kind) (emission_at emitted p)) (service_of rows kind (slice_get visits p)))
 services-count rows kind visits emitted by = sum-same (length visits) _ _ (λ p l. sym (departing-whole kind by (emission_at emitted p) (service_of rows kind (slice_get visits p))))

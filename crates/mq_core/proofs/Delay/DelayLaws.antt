@@ -72,6 +72,7 @@ pub delay-once : (rows : Rows) (ports : ℕ) (demand : Demand) → OnceLaws rows
 delay-once rows ports demand =
     record {
       one = omega arith;
+      all = refl;
       empty = λ v s now h. ap length (delaying-done rows demand v s.visits _ s.emitted _ h).0;
       enters = λ v port s fs now x at f. let a = length-append s.local.scheduled (latest (s.visits ++ x ∷ []) ∷ []) in omega arith;
       leaves = λ rank v server position s fs rest now first h.

@@ -8,7 +8,7 @@ use Rattle.mq_core.specs.Event.{Event, time_of, earliest}
 use Rattle.mq_core.specs.Event.Event.{Finish}
 use Rattle.mq_core.specs.Handling.{demand_at, demand_of_visit, latest}
 use Rattle.mq_core.specs.Machine.{Visit, Emission, emissions_of}
-use Rattle.mq_core.specs.Tallies.{sum_below, staying}
+use Rattle.mq_core.specs.Tallies.{sum_below, staying, emission_at}
 use Rattle.mq_core.specs.declared.model.Demand.{Demand}
 use Rattle.mq_core.specs.declared.model.Rows.{Rows}
 use Rattle.mq_core.proofs.Events.Areas.{get-front, sum-same}
@@ -37,7 +37,7 @@ asked rows demand visits = sum_below (length visits) (λ p. demand_at rows deman
 
 module _ (rows : Rows) (demand : Demand) (v : ℕ) where
   -- the number of jobs is that of the visits that haven't left
-  pub delaying-number : (visits : List Visit) (scheduled : List ℕ) (emitted : List Emission) (fs : List Event) (now : ℕ) → Delaying rows demand v visits scheduled emitted fs now → length scheduled ≡ staying visits emitted
+  pub delaying-number : (visits : List Visit) (scheduled : List ℕ) (emitted : List Emission) (fs : List Event) (now : ℕ) → Delaying rows demand v visits scheduled emitted fs now → length scheduled ≡ staying visits (emission_at emitted)
   delaying-number visits scheduled emitted fs now h = ap length h.listed ∙ (length-map fs place_in ∙ sym h.number)
 
   -- a finish takes one of the scheduled positions out

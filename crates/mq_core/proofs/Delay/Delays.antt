@@ -55,7 +55,7 @@ pub record Delaying (rows : Rows) (demand : Demand) (v : ℕ) (visits : List Vis
   pub before : Each (λ (m : Emission). m.time ≤ now) emitted
   pub absent : Each (λ f. emission_at emitted (place_in f) ≡ None) fs
   pub known : Each (λ (m : Emission). m.position < length visits) emitted
-  pub number : staying visits emitted ≡ length fs
+  pub number : staying visits (emission_at emitted) ≡ length fs
   pub behind : Each (λ f. CameBefore visits (place_in f) (time_of f)) fs
 
 pub delaying-opens : (rows : Rows) (demand : Demand) (v : ℕ) → Delaying rows demand v [] [] [] [] 0
@@ -145,9 +145,9 @@ delaying-arrives rows demand v visits scheduled emitted fs now x at soon h =
                 let there : p < length visits = less p (length visits) (λ k. let c = eq-eqb p (length visits) k in absurd cc) (let z = size in omega arith) in
                 subst (λ o. arrival_or 0 o < time_of g) (sym (get-front p visits (x ∷ []) there)) (b.0 p l there)
 
-    grown : staying (visits ++ x ∷ []) (emitted ++ []) ≡ length (fs ++ new ∷ [])
+    grown : staying (visits ++ x ∷ []) (emission_at (emitted ++ [])) ≡ length (fs ++ new ∷ [])
     grown =
-        let a : staying (visits ++ x ∷ []) (emitted ++ []) ≡ sum_below (suc (length visits)) (λ p. one_if_none (emission_at emitted p)) = (λ i. sum_below (size i) (λ p. one_if_none (emission_at (append-nil emitted i) p))) in
+        let a : staying (visits ++ x ∷ []) (emission_at (emitted ++ [])) ≡ sum_below (suc (length visits)) (λ p. one_if_none (emission_at emitted p)) = (λ i. sum_below (size i) (λ p. one_if_none (emission_at (append-nil emitted i) p))) in
         let b = ap one_if_none (unknown (length visits) (length visits) emitted (omega arith) h.known) in
         let c : length (fs ++ new ∷ []) ≡ suc (length fs) = omega (arith, length-append fs (new ∷ [])) in
         let d = h.number in
@@ -248,7 +248,7 @@ delaying-ends rows demand rank v server position visits scheduled emitted fs res
           before = subst (λ l. Each (λ (m : Emission). m.time ≤ now) (emitted ++ l)) (sym one) (Each-append _ emitted (to_leave visits e ∷ []) h.before (omega arith, tt));
           absent = subst (λ l. Each (λ f. emission_at (emitted ++ l) (place_in f) ≡ None) rest) (sym one) (subst (Each (λ f. emission_at (emitted ++ to_leave visits e ∷ []) (place_in f) ≡ None)) (sym s.left) still);
           known = subst (λ l. Each (λ (m : Emission). m.position < length visits) (emitted ++ l)) (sym one) (Each-append _ emitted (to_leave visits e ∷ []) h.known (own.1, tt));
-          number = ap (λ l. staying visits (emitted ++ l)) one ∙ fewer;
+          number = ap (λ l. staying visits (emission_at (emitted ++ l))) one ∙ fewer;
           behind = subst (Each (λ f. CameBefore visits (place_in f) (time_of f))) (sym s.left) (each-without _ s.front s.back e (subst (Each (λ f. CameBefore visits (place_in f) (time_of f))) s.whole h.behind));
         })
       where
@@ -273,7 +273,7 @@ delaying-ends rows demand rank v server position visits scheduled emitted fs res
             Each-both _ _ _ (λ f a b. other-behind (place_in f) emitted (to_leave visits e) (λ q. b (sym q)) ∙ a) (s.front ++ s.back)
             (each-without _ s.front s.back e absent) (others s.front s.back e rising)
 
-        fewer : staying visits (emitted ++ to_leave visits e ∷ []) ≡ length rest
+        fewer : staying visits (emission_at (emitted ++ to_leave visits e ∷ [])) ≡ length rest
         fewer =
             let none = (Each-back (λ f. emission_at emitted (place_in f) ≡ None) s.front (e ∷ s.back) absent).0 in
             let was = ap one_if_none none in

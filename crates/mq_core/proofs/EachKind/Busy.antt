@@ -1,11 +1,10 @@
 -- That the busy tally of a node is the sum of its services.
-use Rattle.std.proofs.Common.{List, None, Option, Some, [], ap, length, refl, subst, ℕ, ◌∙◌, ◌*◌, ◌++◌, ◌+◌, ◌-◌, ◌<◌, ◌∷◌, ◌≡◌, ◌≤◌}
+use Rattle.std.proofs.Common.{List, None, Option, Some, [], length, refl, subst, ℕ, ◌*◌, ◌++◌, ◌+◌, ◌-◌, ◌<◌, ◌∷◌, ◌≡◌, ◌≤◌}
 use Rattle.std.specs.List.{AllByRecursion as Each}
-use Rattle.std.specs.Option.{option_map}
 use Rattle.std.specs.Prelude.{filter, slice_get}
 use Rattle.mq_core.specs.Event.{Event, earliest, time_of}
 use Rattle.mq_core.specs.Event.Event.{Arrive, Finish}
-use Rattle.mq_core.specs.Fates.{BusyIsServices, fate_by, service_of, unless_lost}
+use Rattle.mq_core.specs.Fates.{BusyIsServices}
 use Rattle.mq_core.specs.Laws.{is_finish_at}
 use Rattle.mq_core.specs.Local.{Local}
 use Rattle.mq_core.specs.Machine.{State, Station, Visit, finishes_of}
@@ -20,8 +19,7 @@ use Rattle.mq_core.specs.declared.model.Plan.{Plan}
 use Rattle.mq_core.specs.declared.model.Rows.{Rows}
 use Rattle.mq_core.proofs.EachKind.Ends.{nothing-pending}
 use Rattle.mq_core.proofs.EachKind.Facts.{node_fact, standard-keeps}
-use Rattle.mq_core.proofs.EachKind.LawTable.{inside_of, laws_of, own_of}
-use Rattle.mq_core.proofs.Events.Areas.{sum-same}
+use Rattle.mq_core.proofs.EachKind.LawTable.{inside_of, laws_of}
 use Rattle.mq_core.proofs.Events.Kept.{Keeps, kept}
 use Rattle.mq_core.proofs.Networks.Whole.{starts-begin}
 use Rattle.mq_core.proofs.Networks.Wired.{feeds_forward}
@@ -70,8 +68,6 @@ busy-is_services plan rows read v node here =
     (laws_of rows (length node.inputs) node.kind).served v (end.stations v) end.clock
     (subst (λ o. node_fact rows o v (end.stations v) [] end.clock) here fact.0)
     (subst (λ o. node_busy rows o (end.stations v) [] end.clock) here fact.1)
-    ∙ sum-same (length (end.stations v).visits) _ _
-    (λ p l. ap (λ o. unless_lost (option_map (fate_by node.kind) o) (service_of rows node.kind (slice_get (end.stations v).visits p))) ((own_of rows (length node.inputs) node.kind).exits (end.stations v) p))
   where
     end : State Local
     end = run_of plan rows

@@ -1,13 +1,13 @@
 -- That a run ends: the weight of what is pending falls with each event.
-use Rattle.std.proofs.Common.{List, None, Option, Some, [], ap, arith, eqb, length, length-append, refl, subst, suc, sym, true, zero, ℕ, ◌*◌, ◌++◌, ◌+◌, ◌-◌, ◌<◌, ◌∙◌, ◌∷◌, ◌≡◌, ◌≤◌, ◌^◌}
+use Rattle.std.proofs.Common.{List, None, Option, Some, [], ap, arith, length, length-append, refl, subst, suc, sym, true, zero, ℕ, ◌*◌, ◌++◌, ◌+◌, ◌-◌, ◌<◌, ◌∙◌, ◌∷◌, ◌≡◌, ◌≤◌, ◌^◌}
 use Rattle.std.proofs.Math.Nat.{mul_assoc, mul-suc, mul_comm, suc-mul}
 use Rattle.std.proofs.lemmas.List.{append-nil}
 use Rattle.std.specs.List.{AllByRecursion as Each}
 use Rattle.std.specs.Option.{option_to_list}
-use Rattle.std.specs.Prelude.{IfSome, IsSome, filter, find, slice_get}
+use Rattle.std.specs.Prelude.{IfSome, IsSome, filter, slice_get}
 use Rattle.mq_core.specs.Event.{Event, earliest, node_of}
 use Rattle.mq_core.specs.Event.Event.{Arrive, Finish}
-use Rattle.mq_core.specs.Fates.{IsEnded, fate_of}
+use Rattle.mq_core.specs.Fates.{IsEnded, fate_of, leaves_with}
 use Rattle.mq_core.specs.KindTable.{behaviour_of}
 use Rattle.mq_core.specs.Laws.{is_finish_at}
 use Rattle.mq_core.specs.Local.{Local}
@@ -28,7 +28,7 @@ use Rattle.mq_core.proofs.Counting.ColumnNumbers.{numbered-found, order-found}
 use Rattle.mq_core.proofs.EachKind.Flows.{flow-numbered}
 use Rattle.mq_core.proofs.EachKind.Facts.{kind_fact, node_fact, standard-keeps}
 use Rattle.mq_core.proofs.EachKind.Flows.{kind-flow}
-use Rattle.mq_core.proofs.EachKind.LawTable.{inside_of, laws_of, once_of}
+use Rattle.mq_core.proofs.EachKind.LawTable.{inside_of, laws_of, once_of, own_of}
 use Rattle.mq_core.proofs.Events.Falls.{Falls, done-from_start, sum_over, total, weigh}
 use Rattle.mq_core.proofs.Events.Kept.{Fact, kept}
 use Rattle.mq_core.proofs.Networks.Whole.{starts-begin}
@@ -147,8 +147,13 @@ inside-some [] v l h = absurd (omega arith)
 inside-some (node ∷ nodes) zero l h = absurd cc
 inside-some (node ∷ nodes) (suc v) l h = inside-some nodes v (omega arith) h
 
-fate-some : (kind : Kind) (emitted : List Emission) (p : ℕ) (m : Emission) → find (λ (x : Emission). eqb x.position p) emitted ≡ Some m → IsSome (fate_of kind emitted p)
-fate-some kind emitted p m e = rw e refl
+pub some-inside : (nodes : List Node) (v : ℕ) (node : Node) → slice_get nodes v ≡ Some node → v < length nodes
+some-inside [] v node h = absurd cc
+some-inside (n ∷ nodes) zero node h = omega arith
+some-inside (n ∷ nodes) (suc v) node h = let l = some-inside nodes v node h in omega arith
+
+fate-some : (kind : Kind) (s : Station Local) (p : ℕ) (m : Emission) → leaves_with kind s p ≡ Some m → IsSome (fate_of kind s p)
+fate-some kind s p m e = rw e refl
 
 module _ (plan : Plan) (rows : Rows) (read : IsReadFor plan.net rows) where
   abbrev size : ℕ
@@ -224,18 +229,26 @@ module _ (plan : Plan) (rows : Rows) (read : IsReadFor plan.net rows) where
   run-ended =
       record {
         nothing = nothing-pending;
-        fates = λ v node p e l. has_fate v node p e l (subst (λ o. node_fact rows o v ((run_of plan rows).stations v) [] (run_of plan rows).clock) e (end-fact v));
-        empty = λ v. holds_none v (slice_get plan.net.nodes v) (end-fact v);
+        fates = λ v node p e keeps l. has_fate v node p e l (subst (λ o. node_fact rows o v ((run_of plan rows).stations v) [] (run_of plan rows).clock) e (end-fact v));
+        here = λ v node e.
+            let s = (run_of plan rows).stations v in
+            ap (λ o. node_jobs o s.visits s.local) e
+            ∙ (laws_of rows (length node.inputs) node.kind).number v s [] (run_of plan rows).clock (subst (λ o. node_fact rows o v s [] (run_of plan rows).clock) e (end-fact v));
       }
     where
-      has_fate : (v : ℕ) (node : Node) (p : ℕ) → slice_get plan.net.nodes v ≡ Some node → p < length ((run_of plan rows).stations v).visits → kind_fact rows (length node.inputs) node.kind v ((run_of plan rows).stations v) [] (run_of plan rows).clock → IsSome (fate_of node.kind ((run_of plan rows).stations v).emitted p)
+      has_fate : (v : ℕ) (node : Node) (p : ℕ) → slice_get plan.net.nodes v ≡ Some node → p < length ((run_of plan rows).stations v).visits → kind_fact rows (length node.inputs) node.kind v ((run_of plan rows).stations v) [] (run_of plan rows).clock → IsSome (fate_of node.kind ((run_of plan rows).stations v) p)
       has_fate v node p e l f =
           let s = (run_of plan rows).stations v in
           let flow = kind-flow rows (length node.inputs) node.kind v s (run_of plan rows).clock f in
           let numbered = flow-numbered rows (length node.inputs) node.kind s.visits in
           let one = numbered-found 0 p (flow_of rows (length node.inputs) node.kind s.visits) s.visits numbered (omega arith) (omega arith) in
-          fate-some node.kind s.emitted p one.0 (ap (λ l. emission_at l p) flow ∙ (order-found node.kind 0 (flow_of rows (length node.inputs) node.kind s.visits) s.visits numbered p ∙ one.1))
+          fate-some node.kind s p one.0 ((own_of rows (length node.inputs) node.kind).exits s p ∙ (ap (λ l. emission_at l p) flow ∙ (order-found node.kind 0 (flow_of rows (length node.inputs) node.kind s.visits) s.visits numbered p ∙ one.1)))
 
-      holds_none : (v : ℕ) (o : Option Node) → node_fact rows o v ((run_of plan rows).stations v) [] (run_of plan rows).clock → node_jobs o ((run_of plan rows).stations v).visits ((run_of plan rows).stations v).local ≡ 0
-      holds_none v None h = refl
-      holds_none v (Some node) h = (once_of rows (length node.inputs) node.kind).empty v ((run_of plan rows).stations v) (run_of plan rows).clock h
+  -- no node holds a job then
+  pub none-held : (v : ℕ) → standard_jobs plan rows v ((run_of plan rows).stations v).visits ((run_of plan rows).stations v).local ≡ 0
+  unfolding standard_jobs
+  none-held v = go (slice_get plan.net.nodes v) (end-fact v)
+    where
+      go : (o : Option Node) → node_fact rows o v ((run_of plan rows).stations v) [] (run_of plan rows).clock → node_jobs o ((run_of plan rows).stations v).visits ((run_of plan rows).stations v).local ≡ 0
+      go None h = refl
+      go (Some node) h = (once_of rows (length node.inputs) node.kind).empty v ((run_of plan rows).stations v) (run_of plan rows).clock h

@@ -1,5 +1,5 @@
 -- What is to be shown of the handler of a kind: one value of each record a kind, in the kind's folder.
-use Rattle.std.proofs.Common.{◌≡◌, ◌⊎◌, ℕ, ◌+◌, ◌-◌, ◌*◌, ◌<◌, ◌≤◌, true, List, [], ◌∷◌, ◌++◌, length, Option, Some, None, max}
+use Rattle.std.proofs.Common.{◌≡◌, ◌⊎◌, ℕ, ◌+◌, ◌-◌, ◌*◌, ◌<◌, ◌≤◌, true, List, [], ◌∷◌, ◌++◌, length, Option, Some, None, max, false}
 use Rattle.std.specs.Prelude.{slice_get}
 use Rattle.std.specs.List.{AllByRecursion as Each}
 use Rattle.mq_core.specs.Behaviour.{Behaviour}
@@ -120,6 +120,8 @@ pub record OwnLaws (rows : Rows) (ports : ℕ) (b : Behaviour) (i : Inside) : Ty
 pub record OnceLaws (rows : Rows) (ports : ℕ) (b : Behaviour) (i : Inside) : Type 0 where
   -- an event lets out at most one
   pub one : b.copies ≤ 1
+  -- no visit stays for good
+  pub all : b.keeps ≡ false
   -- with nothing to finish it holds none
   pub empty : (v : ℕ) (s : Station Local) (now : ℕ) → i.fact v s [] now → b.jobs s.visits s.local ≡ 0
   -- a visit brings one job in, which stays or is let out

@@ -1,9 +1,17 @@
 -- The laws of the kinds: in each table one row a kind.
 use Rattle.std.proofs.Common.{ℕ}
 use Rattle.mq_core.specs.KindTable.{behaviour_of}
+use Rattle.mq_core.specs.Kinds.Delay.{delay}
+use Rattle.mq_core.specs.Kinds.ForkJoin.{fork_join}
+use Rattle.mq_core.specs.Kinds.Loss.{loss}
+use Rattle.mq_core.specs.Kinds.Server.{server}
+use Rattle.mq_core.specs.Kinds.Source.{source}
+use Rattle.mq_core.specs.Kinds.Split.{split}
+use Rattle.mq_core.specs.Kinds.Tandem.{tandem}
 use Rattle.mq_core.specs.declared.model.Kind.{Kind}
 use Rattle.mq_core.specs.declared.model.Kind.TheVariants.{Source, Server, Delay, Loss, Tandem, ForkJoin, Split}
 use Rattle.mq_core.specs.declared.model.Rows.{Rows}
+use Rattle.mq_core.proofs.EachKind.ExitLaws.{ExitLaws, exits-own}
 use Rattle.mq_core.proofs.EachKind.KindLaws.{Inside, KindLaws, OnceLaws, OwnLaws}
 use Rattle.mq_core.proofs.EachKind.LimitLaws.{LimitLaws}
 use Rattle.mq_core.proofs.EachKind.RecurrenceLaws.{RecurrenceLaws}
@@ -78,6 +86,16 @@ recurrence_of rows ports (Loss places demand) = loss-recurrence rows ports place
 recurrence_of rows ports (Tandem stages) = tandem-recurrence rows ports stages
 recurrence_of rows ports (ForkJoin branches) = fork_join-recurrence rows ports branches
 recurrence_of rows ports (Split route) = split-recurrence rows ports route
+
+-- how its visits leave, and what others find of them
+pub exits_of : (rows : Rows) (ports : ℕ) (kind : Kind) → ExitLaws rows ports (behaviour_of kind) (inside_of rows ports kind)
+exits_of rows ports Source = exits-own rows ports source (source-inside rows) (source-own rows ports) (source-recurrence rows ports).until
+exits_of rows ports (Server demand) = exits-own rows ports (server demand) (server-inside rows demand) (server-own rows ports demand) (server-recurrence rows ports demand).until
+exits_of rows ports (Delay demand) = exits-own rows ports (delay demand) (delay-inside rows demand) (delay-own rows ports demand) (delay-recurrence rows ports demand).until
+exits_of rows ports (Loss places demand) = exits-own rows ports (loss places demand) (loss-inside rows places demand) (loss-own rows ports places demand) (loss-recurrence rows ports places demand).until
+exits_of rows ports (Tandem stages) = exits-own rows ports (tandem stages) (tandem-inside rows stages) (tandem-own rows ports stages) (tandem-recurrence rows ports stages).until
+exits_of rows ports (ForkJoin branches) = exits-own rows ports (fork_join branches) (fork_join-inside rows branches) (fork_join-own rows ports branches) (fork_join-recurrence rows ports branches).until
+exits_of rows ports (Split route) = exits-own rows ports (split route) (split-inside rows route) (split-own rows ports route) (split-recurrence rows ports route).until
 
 -- the laws of its ranges
 pub limits_of : (kind : Kind) → LimitLaws (behaviour_of kind)

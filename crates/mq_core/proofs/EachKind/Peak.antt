@@ -7,10 +7,10 @@ use Rattle.mq_base.proofs.lemmas.Each.{Each-append, Each-weaker}
 use Rattle.mq_core.specs.Behaviour.{Behaviour}
 use Rattle.mq_core.specs.Event.{Event, earliest}
 use Rattle.mq_core.specs.Event.Event.{Arrive, Finish}
-use Rattle.mq_core.specs.Fates.{unless_lost, PeakIsGreatest}
+use Rattle.mq_core.specs.Fates.{unless_lost, PeakIsGreatest, fate_by}
 use Rattle.mq_core.specs.KindTable.{behaviour_of}
 use Rattle.mq_core.specs.Local.{Local}
-use Rattle.mq_core.specs.Machine.{Visit, Emission, Release, Station, emission_of, emissions_of}
+use Rattle.mq_core.specs.Machine.{Visit, Emission, Station, emissions_of}
 use Rattle.mq_core.specs.OnTime.{standard-on_time}
 use Rattle.mq_core.specs.Run.{run_length, starts}
 use Rattle.mq_core.specs.Standard.{node_jobs, node_on, node_opening, standard_handle, standard_jobs, standard_opening}
@@ -27,6 +27,7 @@ use Rattle.mq_core.proofs.Events.Areas.{get-front, get-last}
 use Rattle.mq_core.proofs.Events.EmissionsAt.{unknown}
 use Rattle.mq_core.proofs.Events.Founds.{emission_at-append}
 use Rattle.mq_core.proofs.Events.Kept.{Keeps, kept}
+use Rattle.mq_core.proofs.Events.Past.{emissions-known}
 use Rattle.mq_core.proofs.Networks.Wired.{feeds_forward}
 use Rattle.mq_core.proofs.Networks.Whole.{starts-begin}
 use Rattle.mq_core.proofs.Passing.Passes.{after_reaction}
@@ -44,21 +45,6 @@ record Peaked (b : Behaviour) (s : Station Local) : Type 0 where
 greatest-same : (n : ℕ) (f g : ℕ → ℕ) → ((k : ℕ) → k < n → f k ≡ g k) → greatest_below n f ≡ greatest_below n g
 greatest-same zero f g h = refl
 greatest-same (suc n) f g h = (λ i. max (h n (omega arith) i) (greatest-same n f g (λ k l. h k (omega arith)) i))
-
--- a position that is a visit's is below their number
-below-all : (xs : List Visit) (k : ℕ) (x : Visit) → slice_get xs k ≡ Some x → k < length xs
-below-all [] k x e = absurd cc
-below-all (y ∷ xs) zero x e = omega arith
-below-all (y ∷ xs) (suc k) x e = let l = below-all xs k x e in omega arith
-
--- only visits are let out
-emissions-known : (now : ℕ) (visits : List Visit) (releases : List Release) → Each (λ (m : Emission). m.position < length visits) (emissions_of now visits releases)
-emissions-known now visits [] = tt
-emissions-known now visits (r ∷ releases) = go (slice_get visits r.position) refl (emissions-known now visits releases)
-  where
-    go : (o : Option Visit) → slice_get visits r.position ≡ o → Each (λ (m : Emission). m.position < length visits) (emissions_of now visits releases) → Each (λ (m : Emission). m.position < length visits) (emission_of now r.out r.position o ++ emissions_of now visits releases)
-    go None e ih = ih
-    go (Some x) e ih = (below-all visits r.position x e, ih)
 
 module _ (rows : Rows) (ports : ℕ) (b : Behaviour) (i : Inside) (laws : KindLaws rows ports b i) (one : OwnLaws rows ports b i) (once : OnceLaws rows ports b i) where
   peaked-opens : Peaked b (opening_of b)
@@ -176,3 +162,7 @@ pub peak-is_greatest : PeakIsGreatest
 peak-is_greatest plan rows v node here holds =
     (subst (λ o. node_peaked o ((run_of plan rows).stations v)) here
     (kept (standard plan rows) (λ u s fs now. node_fact rows (slice_get plan.net.nodes u) u s fs now × node_peaked (slice_get plan.net.nodes u) s) (peak-keeps plan rows) (standard-on_time plan rows) (feeds_forward plan (standard plan rows) refl refl) (starts rows) (starts-begin (standard plan rows) 0 rows.source rows.time) (run_length plan.net.nodes rows) v).1 holds).greatest
+    ∙ greatest-same (length end.visits) _ _ (λ k l. ap (λ o. unless_lost (option_map (fate_by node.kind) o) (found_or 0 (slice_get end.visits k) + 1)) (sym ((own_of rows (length node.inputs) node.kind).exits end k)))
+  where
+    end : Station Local
+    end = (run_of plan rows).stations v

@@ -10,13 +10,13 @@ use Rattle.mq_core.specs.Leaving.Leaving.{Mixed}
 use Rattle.mq_core.specs.Machine.{Visit, Emission}
 use Rattle.mq_core.specs.OnceOut.{founds_of, once_out}
 use Rattle.mq_core.specs.PlanLaws.{Tells}
-use Rattle.mq_core.specs.Tallies.{one_if_later}
+use Rattle.mq_core.specs.Tallies.{one_if_there}
 use Rattle.mq_core.specs.declared.model.Network.{Network}
 use Rattle.mq_core.specs.declared.model.Rows.{Rows}
 use Rattle.mq_core.proofs.Bounded.BoundedStations.{AreBy, LeaveBy}
 use Rattle.mq_core.proofs.Counting.ColumnNumbers.{Numbered, EachLeavesBy}
 use Rattle.mq_core.proofs.Counting.Stays.{FatesStay}
-use Rattle.mq_core.proofs.Events.Exits.{one_if_there}
+use Rattle.mq_core.proofs.Events.Later.{one_if_later}
 
 -- The laws of a kind whose columns are one value a visit.
 pub record RecurrenceLaws (rows : Rows) (ports : ℕ) (b : Behaviour) : Type 0 where

@@ -17,14 +17,15 @@ use Rattle.mq_core.specs.Tallies.{arrival_or}
 use Rattle.mq_core.specs.Wiring.{reader_from}
 use Rattle.mq_core.specs.declared.model.Node.{Node}
 use Rattle.mq_core.specs.declared.model.Rows.{Rows}
-use Rattle.mq_core.proofs.EachKind.Ends.{inside-some, run-ended}
+use Rattle.mq_core.proofs.EachKind.Ends.{none-held}
 use Rattle.mq_core.proofs.EachKind.Facts.{node_fact, standard-keeps}
 use Rattle.mq_core.proofs.EachKind.KindLaws.{IsFilled}
 use Rattle.mq_core.proofs.EachKind.LawTable.{laws_of}
-use Rattle.mq_core.proofs.EachKind.Tallied.{node-number}
-use Rattle.mq_core.proofs.Events.Areas.{Areas, get-last, keeps-areas}
+use Rattle.mq_core.proofs.EachKind.Tallied.{KnownAt, areas-by, known-keeps}
+use Rattle.mq_core.proofs.Events.Areas.{get-last}
 use Rattle.mq_core.proofs.Events.Forward.{emissions-now}
 use Rattle.mq_core.proofs.Events.Kept.{Fact, Holds, Keeps, holds-happens, holds-start, holds-until, kept}
+use Rattle.mq_core.proofs.Events.Past.{IsPast}
 use Rattle.mq_core.proofs.Events.Pending.{earliest-filter}
 use Rattle.mq_core.proofs.Events.Steps.{after-none, after-some, after-zero, station-own}
 use Rattle.mq_core.proofs.Networks.Whole.{starts-begin}
@@ -87,8 +88,8 @@ pub span-is_latest : SpanIsLatest
 unfolding standard_handle standard_jobs
 span-is_latest plan rows read =
     record {
-      came = λ v l. (areas v l).came;
-      left = λ v l. (areas v l).left;
+      came = λ v l. (areas-by plan rows v l).came;
+      left = λ v l. (past v).left;
       reached = over (reached-after (standard plan rows) (λ u. node_fact rows (slice_get plan.net.nodes u) u) (standard-keeps plan rows (reader_from 0 plan.net.nodes) refl)
           (λ v server position s fs rest now h first. node-emits rows (slice_get plan.net.nodes v) _ v server position s fs rest now h first)
           (standard-on_time plan rows) (feeds_forward plan (standard plan rows) refl refl) (run_length plan.net.nodes rows) (opened (standard plan rows) (starts rows))
@@ -101,12 +102,7 @@ span-is_latest plan rows read =
     over (inl h) = inl h
     over (inr (inl h)) = inr (inl h)
     over (inr (inr (inl h))) = inr (inr h)
-    over (inr (inr (inr h))) = absurd (let some = h.1 in let none = (run-ended plan rows read).empty h.0 in omega arith)
+    over (inr (inr (inr h))) = absurd (let some = h.1 in let none = none-held plan rows read h.0 in omega arith)
 
-    areas : (v : ℕ) → v < length plan.net.nodes → Areas (standard plan rows) ((run_of plan rows).stations v) (run_of plan rows).clock
-    areas v inside =
-        (kept (standard plan rows)
-        (λ u s fs now. node_fact rows (slice_get plan.net.nodes u) u s fs now × (u < length plan.net.nodes → Areas (standard plan rows) s now))
-        (keeps-areas (standard plan rows) (λ u. node_fact rows (slice_get plan.net.nodes u) u) (λ u. u < length plan.net.nodes) (standard-keeps plan rows (reader_from 0 plan.net.nodes) refl)
-        (λ u s fs now l h. node-number rows (slice_get plan.net.nodes u) u s fs now (inside-some plan.net.nodes u l) h))
-        (standard-on_time plan rows) (feeds_forward plan (standard plan rows) refl refl) (starts rows) (starts-begin (standard plan rows) 0 rows.source rows.time) (run_length plan.net.nodes rows) v).1 inside
+    past : (v : ℕ) → IsPast ((run_of plan rows).stations v) (run_of plan rows).clock
+    past v = (kept (standard plan rows) (KnownAt plan rows) (known-keeps plan rows) (standard-on_time plan rows) (feeds_forward plan (standard plan rows) refl refl) (starts rows) (starts-begin (standard plan rows) 0 rows.source rows.time) (run_length plan.net.nodes rows) v).1

@@ -1,6 +1,5 @@
 -- What is to be shown of a station that has let out the flow of its kind: that its columns are those of its arrivals.
-use Rattle.std.proofs.Common.{◌≡◌, ℕ, suc, ◌++◌, ◌<◌, ◌≤◌, List, [], ◌∷◌, length, map}
-use Rattle.std.specs.Option.{option_map, option_to_list}
+use Rattle.std.proofs.Common.{◌≡◌, ℕ, ◌<◌, ◌≤◌, [], length, map}
 use Rattle.std.specs.Prelude.{slice_get}
 use Rattle.mq_core.specs.Behaviour.{Behaviour}
 use Rattle.mq_core.specs.Came.{came_of}
@@ -9,17 +8,10 @@ use Rattle.mq_core.specs.Laws.{Rises}
 use Rattle.mq_core.specs.Leaving.{left_by}
 use Rattle.mq_core.specs.Local.{Local}
 use Rattle.mq_core.specs.Machine.{Station, Visit}
-use Rattle.mq_core.specs.Results.{stream_from}
-use Rattle.mq_core.specs.Tallies.{arrival_or, found_or, sum_below}
-use Rattle.mq_core.specs.declared.model.Fate.{Fate}
+use Rattle.mq_core.specs.Results.{stream_from, fates_by}
+use Rattle.mq_core.specs.Tallies.{arrival_or, found_or, still_there}
 use Rattle.mq_core.specs.declared.model.Rows.{Rows}
 use Rattle.mq_core.proofs.EachKind.KindLaws.{Inside}
-use Rattle.mq_core.proofs.Events.Exits.{one_if_there}
-
--- the fates of these visits of a station, the first at this position, for each that has left
-abbrev pub fates_by : Behaviour → Station Local → ℕ → List Visit → List Fate
-fates_by b s position [] = []
-fates_by b s position (visit ∷ visits) = option_to_list (option_map b.fate (b.exit s position)) ++ fates_by b s (suc position) visits
 
 -- a station with nothing to finish, whose visits came in order, and which let out the flow of its kind
 pub record HasFlowed (rows : Rows) (ports : ℕ) (b : Behaviour) (i : Inside) (s : Station Local) : Type 0 where
@@ -31,7 +23,7 @@ pub record HasFlowed (rows : Rows) (ports : ℕ) (b : Behaviour) (i : Inside) (s
 
 -- each visit found those that were still there
 abbrev pub HasFound : Behaviour → Station Local → Type 0
-HasFound b s = (p : ℕ) → p < length s.visits → found_or 0 (slice_get s.visits p) ≡ sum_below p (λ k. one_if_there b.there (arrival_or 0 (slice_get s.visits p)) p (b.exit s k))
+HasFound b s = (p : ℕ) → p < length s.visits → found_or 0 (slice_get s.visits p) ≡ still_there b.there (arrival_or 0 (slice_get s.visits p)) (b.exit s) p
 
 pub record StationLaws (rows : Rows) (ports : ℕ) (b : Behaviour) (i : Inside) : Type 0 where
   -- how its visits fared is what the recurrence says of its arrivals

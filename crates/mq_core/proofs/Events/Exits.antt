@@ -1,15 +1,13 @@
 -- What each visit found, by the emissions with which visits leave, however a kind tells these.
-use Rattle.std.proofs.Common.{◌≡◌, ℕ, suc, ◌-◌, ◌<◌, ◌≤◌, Bool, true, false, eqb, eqb-true, eq-eqb, cond, List, [], ◌∷◌, ◌++◌, length, Option, Some, None, sym, refl, ap, ◌∙◌, arith, length-append}
-use Rattle.std.specs.List.{AllByRecursion as Each}
+use Rattle.std.proofs.Common.{◌≡◌, ℕ, suc, ◌-◌, ◌<◌, Bool, true, false, eqb, eqb-true, eq-eqb, List, [], ◌∷◌, ◌++◌, length, Option, Some, None, sym, refl, ap, ◌∙◌, arith, length-append}
 use Rattle.std.specs.Prelude.{nat_lt, slice_get}
 use Rattle.mq_core.specs.Event.{Event, earliest}
 use Rattle.mq_core.specs.Event.Event.{Arrive, Finish}
-use Rattle.mq_core.specs.Machine.{Visit, Emission, Table, Station, acted, aged, emissions_at}
-use Rattle.mq_core.specs.Tallies.{arrival_or, emission_at, found_or, one_if_later, one_if_none, sum_below}
+use Rattle.mq_core.specs.Machine.{Visit, Emission, Table, Station, acted, aged}
+use Rattle.mq_core.specs.Tallies.{arrival_or, found_or, one_if_none, sum_below, one_if_there}
 use Rattle.mq_core.proofs.Events.Areas.{get-front, get-last, sum-same}
-use Rattle.mq_core.proofs.Events.Forward.{emissions-now}
-use Rattle.mq_core.proofs.Events.Founds.{LeavesInTime, later-now, later-same}
 use Rattle.mq_core.proofs.Events.Kept.{Fact, Keeps}
+use Rattle.mq_core.proofs.Events.Later.{one_if_later}
 
 -- the emission with which the visit at a position of a node leaves, once it has
 abbrev pub Exit : Type 0 → Type 0
@@ -18,11 +16,6 @@ Exit L = ℕ → Station L → ℕ → Option Emission
 -- whether a visit to a node that leaves with an emission is still there for one that comes at a time, at a position
 abbrev pub There : Type 0
 There = ℕ → ℕ → ℕ → Emission → Bool
-
--- 1 where it is still there, or hasn't left
-abbrev pub one_if_there : (ℕ → ℕ → Emission → Bool) → ℕ → ℕ → Option Emission → ℕ
-one_if_there there time position None = 1
-one_if_there there time position (Some m) = cond (there time position m) 1 0
 
 -- who leaves does so after those that came before
 pub record ExitsInTime {L : Type 0} (t : Table L) (P : Fact L) (Q : ℕ → Type 0) (exit : Exit L) (there : There) : Type 0 where
@@ -91,30 +84,7 @@ keeps-founds_by {L} t P Q exit there keeps leaves =
         front : slice_get (s.visits ++ x ∷ []) p ≡ slice_get s.visits p
         front = get-front p s.visits (x ∷ []) inside
 
--- each visit leaves with its own emission
-abbrev pub own_exit : {L : Type 0} → Exit L
-own_exit v s k = emission_at s.emitted k
-
--- it is there for whoever comes earlier than it leaves
-abbrev pub until_exit : There
-until_exit v time position m = nat_lt time m.time
-
--- where each visit leaves with its own emission, at a visit none but it, and at a finish none behind whom one came at that time
-pub exits-by_emission : {L : Type 0} (t : Table L) (P : Fact L) (Q : ℕ → Type 0) → LeavesInTime t P Q →
-    ((v : ℕ) (s : Station L) (fs : List Event) (now : ℕ) → Q v → P v s fs now → Each (λ (m : Emission). m.time ≤ now) s.emitted) →
-    ((v : ℕ) (s : Station L) (fs : List Event) (now : ℕ) → Q v → P v s fs now → t.jobs v s.visits s.local ≡ sum_below (length s.visits) (λ k. one_if_none (emission_at s.emitted k))) → ExitsInTime t P Q own_exit until_exit
-exits-by_emission {L} t P Q leaves past number =
-    record {
-      waits = λ v elapsed s k. refl;
-      finds = λ v port job s fs now q h k l.
-          later-same now now k s.emitted (emissions_at t s (Arrive now v port job)) (emissions-now t s (Arrive now v port job)) (λ m u. absurd (let o = leaves.own v port job s fs now q h k m u in omega arith))
-          ∙ later-now now k s.emitted (past v s fs now q h);
-      arrives = λ v port job s fs now q h k p l u. later-same (arrival_or 0 (slice_get s.visits p)) now k s.emitted (emissions_at t s (Arrive now v port job)) (emissions-now t s (Arrive now v port job)) (λ m w. absurd (let o = leaves.own v port job s fs now q h k m w in omega arith));
-      ends = λ v server position s fs rest now q h first k p l u. later-same (arrival_or 0 (slice_get s.visits p)) now k s.emitted (emissions_at t s (Finish now v server position)) (emissions-now t s (Finish now v server position)) (λ m w. leaves.earlier v server position s fs rest now q h first k p m w l u);
-      number = number;
-    }
-
--- so whoever leaves later than one comes is there for it
+-- whoever leaves later than one comes is there for it
 pub until-own : (time position : ℕ) (o : Option Emission) → one_if_there (λ t p (m : Emission). nat_lt t m.time) time position o ≡ one_if_later time o
 until-own time position None = refl
 until-own time position (Some m) = refl

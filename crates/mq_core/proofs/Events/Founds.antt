@@ -1,25 +1,12 @@
 -- That each visit found those that leave later than it came.
-use Rattle.std.proofs.Common.{◌≡◌, ◌⊎◌, inl, inr, ℕ, suc, ◌<◌, ◌≤◌, Bool, true, false, cond, eqb, ltb, List, [], ◌∷◌, ◌++◌, length, Option, Some, None, sym, refl, ap, ◌∙◌, subst, arith, eq-eqb, eqb-true, length-append}
+-- The emission of a position among more emissions, and what it tells of who leaves later.
+use Rattle.std.proofs.Common.{◌≡◌, ◌⊎◌, inl, inr, ℕ, ◌<◌, ◌≤◌, Bool, true, false, cond, eqb, ltb, List, [], ◌∷◌, ◌++◌, Option, Some, None, sym, refl, ap, ◌∙◌, subst, arith}
 use Rattle.std.proofs.lemmas.Bool.Decides.{nat_tests}
-use Rattle.std.specs.Prelude.{slice_get}
 use Rattle.std.specs.List.{AllByRecursion as Each}
 use Rattle.mq_base.proofs.lemmas.Lists.{some_inj}
-use Rattle.mq_core.specs.Event.{Event, earliest}
-use Rattle.mq_core.specs.Event.Event.{Arrive, Finish}
-use Rattle.mq_core.specs.Machine.{Visit, Emission, Table, Station, acted, emissions_at}
-use Rattle.mq_core.specs.Tallies.{emission_at, arrival_or, one_if_none, staying, one_if_later, still_there, found_or}
-use Rattle.mq_core.proofs.Events.Forward.{emissions-now}
-use Rattle.mq_core.proofs.Events.Kept.{Fact, Keeps}
-use Rattle.mq_core.proofs.Events.Areas.{Areas, get-front, get-last, sum-same}
-
--- each visit found as many as the earlier ones that leave later than it came
-pub record Founds {L : Type 0} (s : Station L) : Type 0 where
-  pub each : (p : ℕ) → p < length s.visits → found_or 0 (slice_get s.visits p) ≡ still_there (arrival_or 0 (slice_get s.visits p)) s.emitted p
-
--- what is let out at an arrival is its own position; what is let out at a finish came before those that came at that moment
-pub record LeavesInTime {L : Type 0} (t : Table L) (P : Fact L) (Q : ℕ → Type 0) : Type 0 where
-  pub own : (v port job : ℕ) (s : Station L) (fs : List Event) (now : ℕ) → Q v → P v s fs now → (q : ℕ) (m : Emission) → emission_at (emissions_at t s (Arrive now v port job)) q ≡ Some m → q ≡ length s.visits
-  pub earlier : (v server position : ℕ) (s : Station L) (fs rest : List Event) (now : ℕ) → Q v → P v s fs now → earliest t.rank fs ≡ Some (Finish now v server position, rest) → (q p : ℕ) (m : Emission) → emission_at (emissions_at t s (Finish now v server position)) q ≡ Some m → q < p → p < length s.visits → arrival_or 0 (slice_get s.visits p) < now
+use Rattle.mq_core.specs.Machine.{Emission}
+use Rattle.mq_core.specs.Tallies.{emission_at, one_if_none}
+use Rattle.mq_core.proofs.Events.Later.{one_if_later}
 
 -- the emission of a position among more emissions
 pub emission_at-append : (emitted more : List Emission) (q : ℕ) → ((m : Emission) × (emission_at emitted q ≡ Some m) × (emission_at (emitted ++ more) q ≡ Some m)) ⊎ ((emission_at emitted q ≡ None) × (emission_at (emitted ++ more) q ≡ emission_at more q))
@@ -56,9 +43,6 @@ later-same a now q emitted more same h = go (emission_at-append emitted more q)
     go (inl k) = ap (one_if_later a) (k.2 ∙ sym k.1)
     go (inr k) = ap (one_if_later a) k.1 ∙ (new (emission_at more q) refl ∙ sym (ap (one_if_later a) k.0))
 
-still_there-same : (a now p : ℕ) (emitted more : List Emission) → Each (λ (m : Emission). m.time ≡ now) more → ((q : ℕ) (m : Emission) → q < p → emission_at more q ≡ Some m → a < now) → still_there a (emitted ++ more) p ≡ still_there a emitted p
-still_there-same a now p emitted more same h = sum-same p _ _ (λ q l. later-same a now q emitted more same (λ m e. h q m l e))
-
 -- what hasn't left now leaves later
 pub later-now : (now q : ℕ) (emitted : List Emission) → Each (λ (m : Emission). m.time ≤ now) emitted → one_if_later now (emission_at emitted q) ≡ one_if_none (emission_at emitted q)
 later-now now q emitted h = go (emission_at emitted q) refl
@@ -66,42 +50,3 @@ later-now now q emitted h = go (emission_at emitted q) refl
     go : (o : Option Emission) → emission_at emitted q ≡ o → one_if_later now o ≡ one_if_none o
     go None e = refl
     go (Some m) e = later-none now m.time (found-each (λ (x : Emission). x.time ≤ now) emitted q m h e)
-
-pub keeps-founds : {L : Type 0} (t : Table L) (P : Fact L) (Q : ℕ → Type 0) → Keeps t (λ v s fs now. P v s fs now × (Q v → Areas t s now)) → ((v : ℕ) (s : Station L) (fs : List Event) (now : ℕ) → Q v → P v s fs now → t.jobs v s.visits s.local ≡ staying s.visits s.emitted) → LeavesInTime t P Q → Keeps t (λ v s fs now. P v s fs now × (Q v → Areas t s now) × (Q v → Founds s))
-keeps-founds {L} t P Q keeps number leaves =
-    record {
-      opens = λ v. let k = keeps.opens v in (k.0, k.1, λ _. record { each = λ p l. absurd (omega arith) });
-      waits = λ v s fs now later h l f. let k = keeps.waits v s fs now later (h.0, h.1) l f in (k.0, k.1, λ q. record { each = (h.2 q).each });
-      fits = keeps.fits;
-      arrives = λ v port job s fs now h f fit. let k = keeps.arrives v port job s fs now (h.0, h.1) f fit in (k.0, k.1, λ q. came v port job s fs now q h.0 (h.1 q) (h.2 q));
-      ends = λ v server position s fs rest now h first. let k = keeps.ends v server position s fs rest now (h.0, h.1) first in (k.0, k.1, λ q. record { each = λ p l. (h.2 q).each p l ∙ sym (still_there-same _ now p s.emitted (emissions_at t s (Finish now v server position)) (emissions-now t s (Finish now v server position)) (λ r m u e. leaves.earlier v server position s fs rest now q h.0 first r p m e u l)) });
-    }
-  where
-    came : (v port job : ℕ) (s : Station L) (fs : List Event) (now : ℕ) → Q v → P v s fs now → Areas t s now → Founds s → Founds (acted t s (Arrive now v port job))
-    came v port job s fs now q h areas founds = record { each = λ p l. go p (eqb p (length s.visits)) refl (omega arith) }
-      where
-        x : Visit
-        x = record { job = job; arrive = now; port = port; found = t.jobs v s.visits s.local }
-
-        more : List Emission
-        more = emissions_at t s (Arrive now v port job)
-
-        less : (a b : ℕ) → (a ≡ b → ⊥) → a < suc b → a < b
-        less a b n l = omega arith
-
-        go : (p : ℕ) (b : Bool) → eqb p (length s.visits) ≡ b → p < length (s.visits ++ x ∷ []) → found_or 0 (slice_get (s.visits ++ x ∷ []) p) ≡ still_there (arrival_or 0 (slice_get (s.visits ++ x ∷ []) p)) (s.emitted ++ more) p
-        go p true e l =
-            let at : p ≡ length s.visits = eqb-true p (length s.visits) e in
-            let self : slice_get (s.visits ++ x ∷ []) p ≡ Some x = ap (slice_get (s.visits ++ x ∷ [])) at ∙ get-last s.visits x in
-            ap (found_or 0) self
-            ∙ (number v s fs now q h
-            ∙ (sym (sum-same (length s.visits) _ _ (λ r u. later-now now r s.emitted areas.left))
-            ∙ (sym (still_there-same now now (length s.visits) s.emitted more (emissions-now t s (Arrive now v port job)) (λ r m u k. absurd (let o = leaves.own v port job s fs now q h r m k in omega arith)))
-            ∙ ((λ i. still_there now (s.emitted ++ more) (sym at i)) ∙ ap (λ o. still_there (arrival_or 0 o) (s.emitted ++ more) p) (sym self)))))
-        go p false e l =
-            let inside : p < length s.visits = less p (length s.visits) (λ k. let c = eq-eqb p (length s.visits) k in absurd cc) (omega (arith, length-append s.visits (x ∷ []))) in
-            let front : slice_get (s.visits ++ x ∷ []) p ≡ slice_get s.visits p = get-front p s.visits (x ∷ []) inside in
-            ap (found_or 0) front
-            ∙ (founds.each p inside
-            ∙ (sym (still_there-same (arrival_or 0 (slice_get s.visits p)) now p s.emitted more (emissions-now t s (Arrive now v port job)) (λ r m u k. absurd (let o = leaves.own v port job s fs now q h r m k in omega arith)))
-            ∙ ap (λ o. still_there (arrival_or 0 o) (s.emitted ++ more) p) (sym front)))

@@ -1,22 +1,24 @@
 -- The area of a node, by when each visit left, however that is told.
-use Rattle.std.proofs.Common.{◌≡◌, ◌⊎◌, inl, inr, ℕ, suc, ◌+◌, ◌-◌, ◌*◌, ◌<◌, ◌≤◌, List, [], ◌∷◌, ◌++◌, length, Option, Some, None, sym, refl, ap, ◌∙◌, subst, arith, length-append}
+use Rattle.std.proofs.Common.{◌≡◌, ◌⊎◌, inl, inr, ℕ, suc, ◌+◌, ◌-◌, ◌*◌, ◌<◌, ◌≤◌, List, [], ◌∷◌, ◌++◌, length, Option, Some, None, sym, refl, ap, ◌∙◌, arith, length-append}
 use Rattle.std.specs.Prelude.{slice_get}
 use Rattle.std.specs.Option.{option_map}
 use Rattle.std.specs.List.{AllByRecursion as Each}
 use Rattle.mq_base.proofs.lemmas.Each.{Each-append, Each-weaker}
 use Rattle.mq_core.specs.Event.{Event, earliest}
 use Rattle.mq_core.specs.Event.Event.{Arrive, Finish}
-use Rattle.mq_core.specs.Machine.{Visit, Emission, Table, Station, acted, aged, emissions_at}
-use Rattle.mq_core.specs.Tallies.{sum_below, arrival_or, emission_at, one_if_none, staying}
+use Rattle.mq_core.specs.Machine.{Visit, Emission, Table, Station, acted, aged}
+use Rattle.mq_core.specs.Tallies.{sum_below, arrival_or, emission_at}
 use Rattle.mq_core.proofs.Events.Areas.{get-front, get-last, get-visit, sum-same, sum-grows}
-use Rattle.mq_core.proofs.Events.EmissionsAt.{unknown}
-use Rattle.mq_core.proofs.Events.Forward.{emissions-now}
 use Rattle.mq_core.proofs.Events.Founds.{emission_at-append, found-each}
 use Rattle.mq_core.proofs.Events.Kept.{Fact, Keeps}
 
 -- when the visit at a position of a node left, if it did
 abbrev pub Left : Type 0 → Type 0
 Left L = ℕ → Station L → ℕ → Option ℕ
+
+-- when it left that leaves with an emission, once it does
+abbrev pub time_of_exit : Option Emission → Option ℕ
+time_of_exit o = option_map (λ (m : Emission). m.time) o
 
 -- by now: to when it left, if it did
 abbrev pub until_or : ℕ → Option ℕ → ℕ
@@ -125,12 +127,8 @@ keeps-areas_by {L} t P Q left keeps leaves =
                   (λ k l. (λ i. now-same now _ _ (leaves.arrives v port job s fs now q h k l) i - arrival_or 0 (get-front k s.visits (x ∷ []) l i))),
             )
 
--- when the emission of a position was, if there was one
-abbrev pub left_by_emission : {L : Type 0} → Left L
-left_by_emission v s k = option_map (λ (m : Emission). m.time) (emission_at s.emitted k)
-
 -- emissions now let out a position for good, or now
-emissions-leave : (now k : ℕ) (emitted more : List Emission) → Each (λ (m : Emission). m.time ≡ now) more → StaysOrLeaves now (option_map (λ (m : Emission). m.time) (emission_at emitted k)) (option_map (λ (m : Emission). m.time) (emission_at (emitted ++ more) k))
+pub emissions-leave : (now k : ℕ) (emitted more : List Emission) → Each (λ (m : Emission). m.time ≡ now) more → StaysOrLeaves now (option_map (λ (m : Emission). m.time) (emission_at emitted k)) (option_map (λ (m : Emission). m.time) (emission_at (emitted ++ more) k))
 emissions-leave now k emitted more same = go (emission_at-append emitted more k)
   where
     new : (o : Option Emission) → emission_at more k ≡ o → emission_at emitted k ≡ None → emission_at (emitted ++ more) k ≡ emission_at more k → StaysOrLeaves now (option_map (λ (m : Emission). m.time) (emission_at emitted k)) (option_map (λ (m : Emission). m.time) (emission_at (emitted ++ more) k))
@@ -140,21 +138,3 @@ emissions-leave now k emitted more same = go (emission_at-append emitted more k)
     go : ((m : Emission) × (emission_at emitted k ≡ Some m) × (emission_at (emitted ++ more) k ≡ Some m)) ⊎ ((emission_at emitted k ≡ None) × (emission_at (emitted ++ more) k ≡ emission_at more k)) → StaysOrLeaves now (option_map (λ (m : Emission). m.time) (emission_at emitted k)) (option_map (λ (m : Emission). m.time) (emission_at (emitted ++ more) k))
     go (inl e) = inl (ap (option_map (λ (m : Emission). m.time)) (e.2 ∙ sym e.1))
     go (inr e) = new (emission_at more k) refl e.0 e.1
-
--- where each visit is let out once and no one else is, visits leave by their emissions
-pub leaves-by_emission : {L : Type 0} (t : Table L) (P : Fact L) (Q : ℕ → Type 0) → ((v : ℕ) (s : Station L) (fs : List Event) (now : ℕ) → Q v → P v s fs now → Each (λ (m : Emission). m.position < length s.visits) s.emitted) →
-    ((v : ℕ) (s : Station L) (fs : List Event) (now : ℕ) → Q v → P v s fs now → t.jobs v s.visits s.local ≡ staying s.visits s.emitted) → LeavesNow t P Q left_by_emission
-leaves-by_emission {L} t P Q known number =
-    record {
-      waits = λ v elapsed s k. refl;
-      arrives = λ v port job s fs now q h k l. emissions-leave now k s.emitted (emissions_at t s (Arrive now v port job)) (emissions-now t s (Arrive now v port job));
-      comes = λ v port job s fs now q h.
-          subst (λ o. StaysOrLeaves now (option_map (λ (m : Emission). m.time) o) (left_by_emission v (acted t s (Arrive now v port job)) (length s.visits))) (unknown (length s.visits) (length s.visits) s.emitted (omega arith) (known v s fs now q h))
-          (emissions-leave now (length s.visits) s.emitted (emissions_at t s (Arrive now v port job)) (emissions-now t s (Arrive now v port job)));
-      ends = λ v server position s fs rest now q h first k l. emissions-leave now k s.emitted (emissions_at t s (Finish now v server position)) (emissions-now t s (Finish now v server position));
-      number = λ v s fs now q h. number v s fs now q h ∙ sum-same (length s.visits) _ _ (λ k l. alike (emission_at s.emitted k));
-    }
-  where
-    alike : (o : Option Emission) → one_if_none o ≡ one_if_here (option_map (λ (m : Emission). m.time) o)
-    alike None = refl
-    alike (Some m) = refl

@@ -66,6 +66,7 @@ pub fork_join-once : (rows : Rows) (ports : ℕ) (branches : List (List Demand))
 fork_join-once rows ports branches =
     record {
       one = omega arith;
+      all = refl;
       empty = λ v s now h. (joining-done rows branches v s.visits s.local.branches s.emitted _ h).0;
       enters = λ v port s fs now x at f. let more = joining-more rows branches v port s.local s.visits s.emitted fs now x at f in omega arith;
       leaves = λ rank v server position s fs rest now first h. joining-ends-few rows branches rank v server position s.local s.visits s.emitted fs rest now first h;

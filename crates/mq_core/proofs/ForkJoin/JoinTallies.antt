@@ -45,10 +45,10 @@ sum-behind a (suc n) f h k = go (ltb n a) refl (sum-behind a n f h k)
     go false e ih = let l = ltb-false n a e in let z = k n l in omega arith
 
 -- the number in a fork-join is that of its visits that haven't left
-pub joining-number : (rows : Rows) (demands : List (List Demand)) (v : ℕ) (visits : List Visit) (branches : List Branch) (emitted : List Emission) (fs : List Event) (now : ℕ) → Joining rows demands v visits branches emitted fs now → length visits - least_through branches ≡ staying visits emitted
+pub joining-number : (rows : Rows) (demands : List (List Demand)) (v : ℕ) (visits : List Visit) (branches : List Branch) (emitted : List Emission) (fs : List Event) (now : ℕ) → Joining rows demands v visits branches emitted fs now → length visits - least_through branches ≡ staying visits (emission_at emitted)
 joining-number rows demands v visits branches emitted fs now h =
     let least = joined-length rows v 0 now demands visits branches h.endeds (λ j. filter (is_at_server j) fs) h.branching in
-    sym (ap (staying visits) h.left
+    sym (ap (λ l. staying visits (emission_at l)) h.left
     ∙ (sum-behind (length (joined h.endeds)) (length visits) (λ p. one_if_none (emission_at (passed_from (λ _ _. 0) 0 (joined h.endeds)) p))
     (λ k l. let_out-found 0 k (joined h.endeds) (omega arith) (omega arith)) (λ k l. let_out-not_found 0 k (joined h.endeds) (omega arith))
     ∙ ap (λ n. length visits - n) least))

@@ -2,8 +2,9 @@
 use Rattle.std.proofs.Common.{[], ap, arith, inl, length, refl, subst, true, ℕ, ◌*◌, ◌++◌, ◌+◌, ◌∙◌, ◌∷◌, ◌≡◌, ◌≤◌}
 use Rattle.std.proofs.lemmas.Bool.{and_parts}
 use Rattle.std.proofs.lemmas.Bool.Decides.{nat_tests}
+use Rattle.std.specs.Option.{option_map}
 use Rattle.std.specs.Prelude.{nat_le, slice_get}
-use Rattle.mq_core.specs.Fates.{fate_of, unless_lost}
+use Rattle.mq_core.specs.Fates.{unless_lost, fate_by}
 use Rattle.mq_core.specs.Handling.{demand_of_visit}
 use Rattle.mq_core.specs.Kinds.Loss.{loss}
 use Rattle.mq_core.specs.Ranges.{is_sound_demand, is_within}
@@ -56,7 +57,7 @@ loss-laws rows ports places demand =
           let emitted = s.emitted in
           let done = losing-done rows places demand v visits _ emitted _ h.1 in
           losing-busy_done rows places demand visits emitted now s.busy (losing-same rows places demand v visits _ emitted _ h.1) (subst (λ q. LossBusy rows places demand visits q [] now s.busy) done.0 k)
-          ∙ sum-same (length visits) _ _ (λ p l. lost-out places demand (emission_at emitted p) (demand_of_visit rows demand (slice_get visits p)) ∙ ap (unless_lost (fate_of (Loss places demand) emitted p)) (service-by rows (Loss places demand) (demand_of_visit rows demand) refl (λ x. refl) (slice_get visits p)));
+          ∙ sum-same (length visits) _ _ (λ p l. lost-out places demand (emission_at emitted p) (demand_of_visit rows demand (slice_get visits p)) ∙ ap (unless_lost (option_map (fate_by (Loss places demand)) (emission_at emitted p))) (service-by rows (Loss places demand) (demand_of_visit rows demand) refl (λ x. refl) (slice_get visits p)));
     }
 
 -- each visit leaves with its own emission
@@ -73,6 +74,7 @@ pub loss-once : (rows : Rows) (ports : ℕ) (places : ℕ) (demand : Demand) →
 loss-once rows ports places demand =
     record {
       one = omega arith;
+      all = refl;
       empty = λ v s now h. ap length (losing-done rows places demand v s.visits _ s.emitted _ h.1).0;
       enters = λ v port s fs now x at f. losing-arrives-few rows places demand s.local (s.visits ++ x ∷ []) now port x.job v;
       leaves = λ rank v server position s fs rest now first h. losing-ends-few rows demand s.visits s.local now;

@@ -78,7 +78,7 @@ losing-once rows places demand v visits queue emitted fs now h p l =
     ∙ times_at-numbered 0 p (all_fared rows places demand visits) visits (fared-numbered (has_place places) rows demand 0 [] visits) (omega arith) (omega arith)))
 
 -- the number in it is that of the visits that haven't left
-pub losing-number : (rows : Rows) (places : ℕ) (demand : Demand) (v : ℕ) (visits : List Visit) (queue : List ℕ) (emitted : List Emission) (fs : List Event) (now : ℕ) → Losing rows places demand v visits queue emitted fs now → length queue ≡ staying visits emitted
+pub losing-number : (rows : Rows) (places : ℕ) (demand : Demand) (v : ℕ) (visits : List Visit) (queue : List ℕ) (emitted : List Emission) (fs : List Event) (now : ℕ) → Losing rows places demand v visits queue emitted fs now → length queue ≡ staying visits (emission_at emitted)
 losing-number rows places demand v visits queue emitted fs now h =
     ap length h.waiting
     ∙ (length-map h.coming (λ (m : Emission). m.position)

@@ -21,9 +21,9 @@ passed-found out k p (x ∷ xs) l u = go (eqb k p) refl (passed-found out (suc k
         let r = ih (omega arith) (omega arith) in
         (r.0, rw e r.1)
 
-pub passing-number : (out : Visit → ℕ → ℕ) (visits : List Visit) (emitted : List Emission) (fs : List Event) → Passing out visits emitted fs → 0 ≡ staying visits emitted
+pub passing-number : (out : Visit → ℕ → ℕ) (visits : List Visit) (emitted : List Emission) (fs : List Event) → Passing out visits emitted fs → 0 ≡ staying visits (emission_at emitted)
 passing-number out visits emitted fs h =
-    sym (ap (staying visits) h.left ∙ none (length visits) (λ k l. let r = passed-found out 0 k visits (omega arith) (omega arith) in ap one_if_none r.1))
+    sym (ap (λ l. staying visits (emission_at l)) h.left ∙ none (length visits) (λ k l. let r = passed-found out 0 k visits (omega arith) (omega arith) in ap one_if_none r.1))
   where
     none : (n : ℕ) → ((j : ℕ) → j < n → one_if_none (emission_at (passed_from out 0 visits) j) ≡ 0) → sum_below n (λ p. one_if_none (emission_at (passed_from out 0 visits) p)) ≡ 0
     none zero g = refl

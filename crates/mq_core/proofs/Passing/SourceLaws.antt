@@ -56,6 +56,7 @@ pub source-once : (rows : Rows) (ports : ℕ) → OnceLaws rows ports source (so
 source-once rows ports =
     record {
       one = omega arith;
+      all = refl;
       empty = λ v s now h. refl;
       enters = λ v port s fs now x at f. let l = emission-one now 0 (latest (s.visits ++ x ∷ [])) (slice_get (s.visits ++ x ∷ []) (latest (s.visits ++ x ∷ []))) in omega arith;
       leaves = λ rank v server position s fs rest now first h. omega arith;

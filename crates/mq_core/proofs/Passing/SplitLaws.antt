@@ -58,6 +58,7 @@ pub split-once : (rows : Rows) (ports : ℕ) (route : Route) → OnceLaws rows p
 split-once rows ports route =
     record {
       one = omega arith;
+      all = refl;
       empty = λ v s now h. refl;
       enters = λ v port s fs now x at f. let l = emission-one now (output_by rows route x.job (latest (s.visits ++ x ∷ []))) (latest (s.visits ++ x ∷ [])) (slice_get (s.visits ++ x ∷ []) (latest (s.visits ++ x ∷ []))) in omega arith;
       leaves = λ rank v server position s fs rest now first h. omega arith;

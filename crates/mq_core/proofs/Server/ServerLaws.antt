@@ -67,6 +67,7 @@ pub server-once : (rows : Rows) (ports : ℕ) (demand : Demand) → OnceLaws row
 server-once rows ports demand =
     record {
       one = omega arith;
+      all = refl;
       empty = λ v s now h. ap length (serving-done rows demand v s.visits _ s.emitted _ h).0;
       enters = λ v port s fs now x at f.
           let a = joins-length rows demand (s.visits ++ x ∷ []) s.local now s.local.queue (latest (s.visits ++ x ∷ [])) in

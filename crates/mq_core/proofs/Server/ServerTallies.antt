@@ -55,10 +55,10 @@ pub positions-length : (k : ℕ) (xs : List Visit) → length (positions k xs) �
 positions-length k [] = refl
 positions-length k (x ∷ xs) = ap suc (positions-length (suc k) xs)
 
-pub serving-number : (rows : Rows) (demand : Demand) (v : ℕ) (visits : List Visit) (queue : List ℕ) (emitted : List Emission) (fs : List Event) (now : ℕ) → Serving rows demand v visits queue emitted fs now → length queue ≡ staying visits emitted
+pub serving-number : (rows : Rows) (demand : Demand) (v : ℕ) (visits : List Visit) (queue : List ℕ) (emitted : List Emission) (fs : List Event) (now : ℕ) → Serving rows demand v visits queue emitted fs now → length queue ≡ staying visits (emission_at emitted)
 serving-number rows demand v visits queue emitted fs now h =
     ap length h.waiting ∙ (positions-length (length h.gone) h.here ∙ sym (
-    (λ i. staying (h.parts i) (h.left i))
+    (λ i. staying (h.parts i) (emission_at (h.left i)))
     ∙ (ap (λ n. sum_below n (λ p. one_if_none (emission_at (served_from rows demand 0 0 h.gone) p))) (length-append h.gone h.here)
     ∙ sum-step (length h.gone) (length h.here) (λ p. one_if_none (emission_at (served_from rows demand 0 0 h.gone) p))
     (λ k l. let r = served-found rows demand 0 0 k h.gone (omega arith) (omega arith) in ap one_if_none r.1)

@@ -149,7 +149,7 @@ sum-split (suc n) out f l none one = go (eqb out (suc n)) refl (sum-split n)
         low other = omega arith
 
 -- those that are not out are still there
-pub staying-outs : (visits : List Visit) (f : ℕ → ℕ) (out : ℕ) → out ≤ length visits → staying visits (outs visits f out) + out ≡ length visits
+pub staying-outs : (visits : List Visit) (f : ℕ → ℕ) (out : ℕ) → out ≤ length visits → staying visits (emission_at (outs visits f out)) + out ≡ length visits
 staying-outs visits f out l =
     sum-split (length visits) out (λ p. one_if_none (emission_at (outs visits f out) p)) l
     (λ k u. let m = outs-some visits f out k l u in ap one_if_none m.1)

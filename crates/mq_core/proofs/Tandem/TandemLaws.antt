@@ -61,6 +61,7 @@ pub tandem-once : (rows : Rows) (ports : ℕ) (stages : List Stage) → OnceLaws
 tandem-once rows ports stages =
     record {
       one = omega arith;
+      all = refl;
       empty = λ v s now h. (tandeming-done rows stages v s.visits _ s.emitted _ h).0;
       enters = λ v port s fs now x at f. tandem_arrives-few rows (s.visits ++ x ∷ []) s.local now stages s.local.lines refl;
       leaves = λ rank v server position s fs rest now first h. let all = tandeming-fewer rows v s.visits s.emitted rank fs rest now server position first stages s.local.lines h in omega arith;

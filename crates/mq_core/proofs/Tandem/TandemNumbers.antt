@@ -35,12 +35,12 @@ stages-number rows v visits time server came (stage ∷ stages) (line ∷ lines)
     (more.0, omega (arith, held-cons line lines), more.2)
 
 -- the number of jobs is that of the visits that haven't left
-pub tandeming-number : (rows : Rows) (stages : List Stage) (v : ℕ) (visits : List Visit) (lines : List Line) (emitted : List Emission) (fs : List Event) (now : ℕ) → Tandeming rows stages v visits lines emitted fs now → held_in lines ≡ staying visits emitted
+pub tandeming-number : (rows : Rows) (stages : List Stage) (v : ℕ) (visits : List Visit) (lines : List Line) (emitted : List Emission) (fs : List Event) (now : ℕ) → Tandeming rows stages v visits lines emitted fs now → held_in lines ≡ staying visits (emission_at emitted)
 tandeming-number rows stages v visits lines emitted fs now h =
     let k = stages-number rows v visits (time_at rows stages visits) 0 (length visits) stages lines emitted fs now h.tidy in
     let e = k.1 in
     let s = staying-outs visits (time_at rows stages visits (length stages)) k.0 (omega arith) in
-    let same = ap (staying visits) k.2 in
+    let same = ap (λ l. staying visits (emission_at l)) k.2 in
     omega arith
 
 -- with nothing pending no stage holds a job

@@ -1,4 +1,4 @@
-use Rattle.mq_core.proofs.Columns.ColumnsEqual.{columns-are-blind}
+use Rattle.mq_core.proofs.Columns.StationTable.{columns-are-blind}
 use Rattle.mq_core.proofs.laws.columns_are_blind.Goals as goal
 
 pub returns : goal.returns

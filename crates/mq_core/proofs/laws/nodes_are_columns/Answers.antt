@@ -1,4 +1,4 @@
-use Rattle.mq_core.proofs.Columns.ColumnsEqual.{nodes-are-columns}
+use Rattle.mq_core.proofs.Columns.StationTable.{nodes-are-columns}
 use Rattle.mq_core.proofs.laws.nodes_are_columns.Goals as goal
 
 pub returns : goal.returns

@@ -13,4 +13,4 @@ pub returns-in_ok-streams-in-Seen : goal.returns-in_ok-streams-in-Seen
 returns-in_ok-streams-in-Seen g c =
     let a = c.args in
     let after = subst (IsAfter a.net.now a.rows.now a.number a.kind.now a.arrivals) c.in-Seen.is c.requires.after in
-    (seen-turn a.rows.now a.kind.now a.arrivals c.in-Seen.fate c.in-Seen.found c.in-Seen.streams c.in_ok-streams-in-Seen.streams after.0 after.1 c.in_ok-streams-in-Seen.ensures, after.2)
+    (seen-turn c.columns_go_by_fates.ensures a.rows.now a.kind.now a.arrivals c.in-Seen.fate c.in-Seen.found c.in-Seen.streams c.in_ok-streams-in-Seen.streams after.0 after.1 c.in_ok-streams-in-Seen.ensures, after.2)

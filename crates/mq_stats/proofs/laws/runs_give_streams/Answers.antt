@@ -18,7 +18,7 @@ returns c plan rows read v node there out =
     let outs = column_outs rows node.kind came in
     let times = leaving_times arrives (column_fates rows node.kind came) in
     let columns = c.nodes_are_columns.ensures plan rows read v node there in
-    let same = ap (λ s. s.job) (columns.stream out) in
+    let same = ap (λ s. s.job) (columns.stream out ∙ (c.columns_go_by_fates.ensures rows node.kind came).stream out) in
     let keeps = c.orders_keep_items.ensures node.kind (record { job = picked out outs jobs; time = picked out outs times }) in
     let even : length times ≡ length jobs =
     leaving-even arrives (column_fates rows node.kind came)

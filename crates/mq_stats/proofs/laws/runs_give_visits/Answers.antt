@@ -31,6 +31,6 @@ returns c plan rows read v node there =
           (λ job below. (c.rows_tell_demands.ensures plan.net rows read job (subst (λ n. job < n) times below)).kind node.kind kind)
           (jobs_of end.visits) (c.jobs_are_rows.ensures plan rows v);
       small =
-          columns-small rows node.kind (came_of (length node.inputs) end.visits) (visits_of node.kind end)
+          columns-small rows node.kind (came_of (length node.inputs) end.visits) (visits_of node.kind end) c.columns_go_by_fates.ensures
           (c.nodes_are_columns.ensures plan rows read v node there).visits (omega arith);
     }
