@@ -33,11 +33,14 @@ fate_of kind s position = option_map (fate_by kind) (leaves_with kind s position
 abbrev pub keeps_visits : Kind → Bool
 keeps_visits kind = (behaviour_of kind).keeps
 
--- nothing is pending, each visit has its fate but where visits may stay for good, and each node holds those that haven't left
+-- nothing is pending, visits stay in no node for good, each has its fate where they don't, and each node holds those that haven't
+-- left, which are none
 pub record IsEnded (plan : Plan) (rows : Rows) (s : State Local) : Type 0 where
   pub nothing : s.pending ≡ []
+  pub leave : (v : ℕ) (node : Node) → slice_get plan.net.nodes v ≡ Some node → keeps_visits node.kind ≡ false
   pub fates : (v : ℕ) (node : Node) (position : ℕ) → slice_get plan.net.nodes v ≡ Some node → keeps_visits node.kind ≡ false → position < length (s.stations v).visits → IsSome (fate_of node.kind (s.stations v) position)
   pub here : (v : ℕ) (node : Node) → slice_get plan.net.nodes v ≡ Some node → standard_jobs plan rows v (s.stations v).visits (s.stations v).local ≡ staying (s.stations v).visits (leaves_with node.kind (s.stations v))
+  pub empty : (v : ℕ) → standard_jobs plan rows v (s.stations v).visits (s.stations v).local ≡ 0
 
 -- after the steps of a run all is over
 abbrev pub RunEnds : Type 0

@@ -26,8 +26,8 @@ pub fn nodes_run_alone<H: Handlers>()
     ensures { NodesRunAlone H.opening H.handle H.jobs H.working }
 {}
 
-/// The run has ended: nothing is pending, each visit has its fate but where visits may stay for
-/// good, and each node holds those that haven't left.
+/// The run has ended: nothing is pending, visits stay in no node for good, so that each has its
+/// fate, and each node holds those that haven't left, which are none.
 pub fn the_run_ends()
     ensures { RunEnds }
 {}

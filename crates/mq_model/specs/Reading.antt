@@ -1,5 +1,5 @@
 -- How the code's readers of words follow a form.
-use Rattle.std.specs.Prelude.{◌≡◌, ◌+◌, ℕ, List, length, drop, Result, Ok, Err}
+use Rattle.std.specs.Prelude.{◌≡◌, ◌+◌, ◌++◌, ℕ, List, length, drop, Result, Ok, Err}
 use Rattle.std.specs.Borrow.{Bor}
 use Rattle.mq_base.specs.Text.{texts}
 use Rattle.mq_model.specs.Form.{Form, Word}

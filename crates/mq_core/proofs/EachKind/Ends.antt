@@ -224,16 +224,27 @@ module _ (plan : Plan) (rows : Rows) (read : IsReadFor plan.net rows) where
       subst (λ l. node_fact rows (slice_get plan.net.nodes v) v ((run_of plan rows).stations v) (filter (is_finish_at v) l) (run_of plan rows).clock) nothing-pending
       (kept (standard plan rows) fact (standard-keeps plan rows (reader_from 0 plan.net.nodes) refl) (standard-on_time plan rows) (feeds_forward plan (standard plan rows) refl refl) (starts rows) (starts-begin (standard plan rows) 0 rows.source rows.time) (run_length plan.net.nodes rows) v)
 
+  -- no node holds a job then
+  pub none-held : (v : ℕ) → standard_jobs plan rows v ((run_of plan rows).stations v).visits ((run_of plan rows).stations v).local ≡ 0
+  unfolding standard_jobs
+  none-held v = go (slice_get plan.net.nodes v) (end-fact v)
+    where
+      go : (o : Option Node) → node_fact rows o v ((run_of plan rows).stations v) [] (run_of plan rows).clock → node_jobs o ((run_of plan rows).stations v).visits ((run_of plan rows).stations v).local ≡ 0
+      go None h = refl
+      go (Some node) h = (once_of rows (length node.inputs) node.kind).empty v ((run_of plan rows).stations v) (run_of plan rows).clock h
+
   pub run-ended : IsEnded plan rows (run_of plan rows)
   unfolding standard_jobs
   run-ended =
       record {
         nothing = nothing-pending;
+        leave = λ v node e. (once_of rows (length node.inputs) node.kind).all;
         fates = λ v node p e keeps l. has_fate v node p e l (subst (λ o. node_fact rows o v ((run_of plan rows).stations v) [] (run_of plan rows).clock) e (end-fact v));
         here = λ v node e.
             let s = (run_of plan rows).stations v in
             ap (λ o. node_jobs o s.visits s.local) e
             ∙ (laws_of rows (length node.inputs) node.kind).number v s [] (run_of plan rows).clock (subst (λ o. node_fact rows o v s [] (run_of plan rows).clock) e (end-fact v));
+        empty = none-held;
       }
     where
       has_fate : (v : ℕ) (node : Node) (p : ℕ) → slice_get plan.net.nodes v ≡ Some node → p < length ((run_of plan rows).stations v).visits → kind_fact rows (length node.inputs) node.kind v ((run_of plan rows).stations v) [] (run_of plan rows).clock → IsSome (fate_of node.kind ((run_of plan rows).stations v) p)
@@ -243,12 +254,3 @@ module _ (plan : Plan) (rows : Rows) (read : IsReadFor plan.net rows) where
           let numbered = flow-numbered rows (length node.inputs) node.kind s.visits in
           let one = numbered-found 0 p (flow_of rows (length node.inputs) node.kind s.visits) s.visits numbered (omega arith) (omega arith) in
           fate-some node.kind s p one.0 ((own_of rows (length node.inputs) node.kind).exits s p ∙ (ap (λ l. emission_at l p) flow ∙ (order-found node.kind 0 (flow_of rows (length node.inputs) node.kind s.visits) s.visits numbered p ∙ one.1)))
-
-  -- no node holds a job then
-  pub none-held : (v : ℕ) → standard_jobs plan rows v ((run_of plan rows).stations v).visits ((run_of plan rows).stations v).local ≡ 0
-  unfolding standard_jobs
-  none-held v = go (slice_get plan.net.nodes v) (end-fact v)
-    where
-      go : (o : Option Node) → node_fact rows o v ((run_of plan rows).stations v) [] (run_of plan rows).clock → node_jobs o ((run_of plan rows).stations v).visits ((run_of plan rows).stations v).local ≡ 0
-      go None h = refl
-      go (Some node) h = (once_of rows (length node.inputs) node.kind).empty v ((run_of plan rows).stations v) (run_of plan rows).clock h
