@@ -1,4 +1,5 @@
-// The stations whose departures are known, and their last pieces: who found how many, and what leaves.
+// The stations whose departures are known, and their last pieces: fates, who found how many, and what
+// leaves.
 ghost use Rattle.std.specs.Prelude.{◌≡◌, ◌<◌, IfOk};
 ghost use Rattle.mq_crew.specs.Crew.{AreAll};
 ghost use Rattle.mq_engine.specs.Loads.{IsAfterAt, IsClosed, IsLoaded, IsReadyExit, IsServed, IsShut, closings_of};

@@ -16,7 +16,7 @@ pub struct Outflow {
 }
 
 // The demand of each job, in ticks.
-// Its loop, like the one below, is not inlined, so that it has the registers to itself.
+// Its loop is not inlined, so that it has the registers to itself.
 #[inline(never)]
 pub fn demands_of(
     alloc: Global,

@@ -20,7 +20,8 @@ use std::alloc::Global;
 use std::thread::Threads;
 
 // The turns of the nodes that are ready, in four lists of pieces: what comes to each; the summaries
-// of the stations that are scanned, and the others whole; the applied blocks; and who found how many.
+// of the stations that are scanned, and the others whole; the applied blocks; and of the scanned ones the
+// fates, how many each visit found, and the jobs that leave.
 pub fn turns_of<R: Threads + Sync, G: Gate>(
     rt: &R,
     alloc: Global,
@@ -98,7 +99,7 @@ fn leavings_of<'a>(
     Ok(leavings)
 }
 
-// The turns of the stations, of their last pieces where they have one.
+// The turns of the stations, of their last pieces where they have some.
 fn ended<R: Threads + Sync>(
     rt: &R,
     alloc: Global,

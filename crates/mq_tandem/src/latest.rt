@@ -61,8 +61,8 @@ impl Latest {
         all
     }
 
-    // The same as a vector.
-    pub(crate) fn vector(&self) -> Vector
+    /// The same as a vector.
+    pub fn vector(&self) -> Vector
         ensures same { result ≡ self.now }
         ensures few { length result ≤ 14 }
     {

@@ -90,8 +90,8 @@ impl<'a> TandemStep<'a> {
     }
 }
 
-// Where the next run of a range ends. It has as many jobs as all runs before it: columns become alike
-// after few jobs, and then long runs spare looks.
+// Where the next run of a range ends. It has as many jobs as all runs before it, 16 at least and 256 at
+// most: columns become alike after few jobs, and then long runs spare looks.
 fn run_end(from: u32, at: u32, to: u32) -> u32
     requires begun { from ≤ at }
     requires some { at < to }
