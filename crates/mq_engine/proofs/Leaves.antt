@@ -7,7 +7,7 @@ use Rattle.std.proofs.lemmas.Bool.Decides.{nat_tests}
 use Rattle.std.proofs.lemmas.List.{length-map}
 use Rattle.mq_base.proofs.lemmas.Lists.{drop_suc, some_inj}
 use Rattle.mq_core.specs.Came.{came_in}
-use Rattle.mq_core.specs.ColumnLaws.{FatesAreInTime}
+use Rattle.mq_core.specs.ColumnLaws.{ColumnsGoByFates, FatesAreInTime}
 use Rattle.mq_core.specs.Columns.{IsSoundLoad, IsStream, column_fates, column_late_from, column_outs, column_stream, leaving_times, picked, stream_in_order, time_of_fate}
 use Rattle.mq_core.specs.Kinds.Split.{routes_from}
 use Rattle.mq_core.specs.Kinds.ForkJoin.{branch_demands}
@@ -242,10 +242,10 @@ served-one law rows kind arrivals departs load s =
     let inside : 0 < outputs_in kind = omega arith in
     some_inj _ _ ((served-left law rows kind arrivals departs (left ∷ []) load.ordered.ordered.even s refl).each 0 inside)
 
-pub served-rises : FatesAreInTime → (rows : Rows) (kind : Kind) (arrivals : Stream) (departs : List ℕ) → IsLoad rows kind arrivals → AreServed rows kind arrivals departs → Rises (λ a b. a ≤ b) departs
-served-rises law rows kind arrivals departs load s =
+pub served-rises : ColumnsGoByFates → FatesAreInTime → (rows : Rows) (kind : Kind) (arrivals : Stream) (departs : List ℕ) → IsLoad rows kind arrivals → AreServed rows kind arrivals departs → Rises (λ a b. a ≤ b) departs
+served-rises fated law rows kind arrivals departs load s =
     let left : Stream = record { job = arrivals.job; time = departs } in
-    let column : column_stream rows kind (came_in arrivals) 0 ≡ left = ap (stream_in_order kind) (sym (served-one law rows kind arrivals departs load s)) ∙ s.order left in
+    let column : column_stream rows kind (came_in arrivals) 0 ≡ left = (fated rows kind (came_in arrivals)).stream 0 ∙ (ap (stream_in_order kind) (sym (served-one law rows kind arrivals departs load s)) ∙ s.order left) in
     subst (λ (stream : Stream). Rises (λ a b. a ≤ b) stream.time) column (load.leaves 0).rising
 
 -- the times of what leaves are the departures
