@@ -7,7 +7,7 @@ use Rattle.std.proofs.lemmas.Bool.Decides.{nat_tests}
 use Rattle.std.proofs.lemmas.List.{length-map}
 use Rattle.mq_base.proofs.lemmas.Lists.{drop_suc, some_inj}
 use Rattle.mq_core.specs.Came.{came_in}
-use Rattle.mq_core.specs.ColumnLaws.{FatesAreInTime}
+use Rattle.mq_core.specs.ColumnLaws.{ColumnsGoByFates, FatesAreInTime}
 use Rattle.mq_core.specs.Columns.{IsSoundLoad, IsStream, column_fates, column_late_from, column_outs, column_stream, leaving_times, picked, stream_in_order, time_of_fate}
 use Rattle.mq_core.specs.Kinds.Split.{routes_from}
 use Rattle.mq_core.specs.Kinds.ForkJoin.{branch_demands}
@@ -30,7 +30,7 @@ use Rattle.mq_core.specs.declared.model.Route.TheVariants.{Cut, Modulo, Turn}
 use Rattle.mq_core.specs.declared.model.Rows.{Rows}
 use Rattle.mq_core.specs.declared.model.Stage.{Stage}
 use Rattle.mq_core.specs.declared.model.Stream.{Stream}
-use Rattle.mq_split.specs.Outs.{AreParts, outs_from}
+use Rattle.mq_split.specs.Outs.{AreParts, HasOutputs, outs_from}
 use Rattle.mq_engine.specs.Loads.{AreServed}
 use Rattle.mq_engine.specs.Turns.{AreAsked, AreLeft, AreRouted, HasRouteValue, IsLeaving, IsLoad, LeaveInTurn, left_by}
 use Rattle.mq_engine.proofs.Lists.{Each-get_or}
@@ -114,6 +114,31 @@ has-route columns rows (Cut column thresholds) job s h =
 
 pub routed-each : (rows : Rows) (route : Route) (arrivals : Stream) → IsLoad rows (Split route) arrivals → AreRouted rows route arrivals.job
 routed-each rows route arrivals h = λ k job g. has-route (length h.net.columns) rows route job h.sound (h.told k job g).value
+
+-- a sound route has as many outputs as a split asks for
+within : (low high n : ℕ) → is_within low high n ≡ true → (low ≤ n) × (n ≤ high)
+within low high n h =
+    let e = (and_parts (nat_le low n) (nat_le n high) h).0 in
+    let f = (and_parts (nat_le low n) (nat_le n high) h).1 in
+    ((grind (arith, nat_tests)), (grind (arith, nat_tests)))
+
+has-outputs : (columns : ℕ) (route : Route) → is_sound_route columns route ≡ true → HasOutputs route
+has-outputs columns (Modulo outputs column) s =
+    let l = within 2 8 outputs (and_parts (is_within 2 8 outputs) (nat_lt column columns) s).0 in
+    record { least = l.0; most = l.1 }
+has-outputs columns (Turn outputs) s =
+    let l = within 2 8 outputs s in
+    record { least = l.0; most = l.1 }
+has-outputs columns (Cut column thresholds) s =
+    let a = and_parts _ (list_all (λ threshold. nat_le threshold (2 ^ 36)) thresholds) s in
+    let b = and_parts _ (rises thresholds) a.0 in
+    let l = within 1 7 (length thresholds) (and_parts (nat_lt column columns) (is_within 1 7 (length thresholds)) b.0).1 in
+    let least : 1 ≤ length thresholds = l.0 in
+    let most : length thresholds ≤ 7 = l.1 in
+    record { least = omega arith; most = omega arith }
+
+pub routed-outputs : (rows : Rows) (route : Route) (arrivals : Stream) → IsLoad rows (Split route) arrivals → HasOutputs route
+routed-outputs rows route arrivals h = has-outputs (length h.net.columns) route h.sound
 
 pub load-sound : (rows : Rows) (kind : Kind) (demand : Demand) (arrivals : Stream) (demands : List ℕ) → (h : IsLoad rows kind arrivals) → IsTrue (is_sound_demand (length h.net.columns) demand) → demands ≡ map (demand_of_job rows demand) arrivals.job → IsSoundLoad arrivals.time demands
 load-sound rows kind demand arrivals demands h sound e =
@@ -217,10 +242,10 @@ served-one law rows kind arrivals departs load s =
     let inside : 0 < outputs_in kind = omega arith in
     some_inj _ _ ((served-left law rows kind arrivals departs (left ∷ []) load.ordered.ordered.even s refl).each 0 inside)
 
-pub served-rises : FatesAreInTime → (rows : Rows) (kind : Kind) (arrivals : Stream) (departs : List ℕ) → IsLoad rows kind arrivals → AreServed rows kind arrivals departs → Rises (λ a b. a ≤ b) departs
-served-rises law rows kind arrivals departs load s =
+pub served-rises : ColumnsGoByFates → FatesAreInTime → (rows : Rows) (kind : Kind) (arrivals : Stream) (departs : List ℕ) → IsLoad rows kind arrivals → AreServed rows kind arrivals departs → Rises (λ a b. a ≤ b) departs
+served-rises fated law rows kind arrivals departs load s =
     let left : Stream = record { job = arrivals.job; time = departs } in
-    let column : column_stream rows kind (came_in arrivals) 0 ≡ left = ap (stream_in_order kind) (sym (served-one law rows kind arrivals departs load s)) ∙ s.order left in
+    let column : column_stream rows kind (came_in arrivals) 0 ≡ left = (fated rows kind (came_in arrivals)).stream 0 ∙ (ap (stream_in_order kind) (sym (served-one law rows kind arrivals departs load s)) ∙ s.order left) in
     subst (λ (stream : Stream). Rises (λ a b. a ≤ b) stream.time) column (load.leaves 0).rising
 
 -- the times of what leaves are the departures

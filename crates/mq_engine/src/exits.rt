@@ -12,7 +12,7 @@ use crate::loads::Load;
 use crate::outflow::{fates_of, only};
 use crate::turns::{After, Turn, ending_of, found_in_turn};
 use mq_base::{List, OutOfMemory};
-use mq_core::{Fate, Stream, fates_are_in_time};
+use mq_core::{Fate, Stream, columns_go_by_fates, fates_are_in_time};
 use mq_crew::Pieces;
 use std::alloc::Global;
 use std::thread::Threads;
@@ -82,6 +82,7 @@ fn closing_of(
     requires inside { b < 3 }
     ensures { IfOk result (λ closed. IsShut load.now.plan.now load.now.rows.now load.now.number load.now.arrivals departs.now b closed) }
 {
+    columns_go_by_fates();
     fates_are_in_time();
     if b == 0 {
         return fates_in_time(alloc, load, departs);

@@ -173,6 +173,7 @@ pub fn found_at(
     requires leaving { IsLeaving rows.now kind.now arrivals.now leaving.now.fates leaving.now.streams }
     ensures { IfOk result (λ found. found ≡ founds_of arrivals.now.time leaving.now.fates) }
 {
+    columns_go_by_fates();
     fates_are_in_time();
     match kind {
         Kind::Source | Kind::Split(_) => nobody(alloc, &arrivals.time),

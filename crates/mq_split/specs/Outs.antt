@@ -1,10 +1,15 @@
--- The streams that leave a split.
+-- What a split asks of its route, and the streams that leave it.
 use Rattle.std.specs.Prelude.{◌≡◌, ◌<◌, ◌≤◌, ◌++◌, ℕ, suc, List, [], ◌∷◌, length, slice_get, Some}
 use Rattle.mq_base.specs.Lists.{between}
 use Rattle.mq_core.specs.Columns.{picked}
 use Rattle.mq_core.specs.Kinds.Split.{output_at, outputs_by}
 use Rattle.mq_core.specs.declared.model.Route.{Route}
 use Rattle.mq_core.specs.declared.model.Stream.{Stream}
+
+-- a route has 2 to 8 outputs
+pub record HasOutputs (route : Route) : Type 0 where
+  pub least : 2 ≤ outputs_by route
+  pub most : outputs_by route ≤ 8
 
 -- the output of each job, by its value, the first at this position
 abbrev pub outs_from : Route → ℕ → List ℕ → List ℕ

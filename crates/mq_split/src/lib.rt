@@ -1,11 +1,11 @@
 //! The split, which sends each job on by one of its outputs.
 #![tactic(auto)]
 
-ghost use Rattle.std.specs.Prelude.{◌≡◌, ◌==◌, ◌+◌, ◌<◌, ◌≤◌, ◌^◌, ℕ, length, count_by, nat_le, IfOk, IsTrue};
+ghost use Rattle.std.specs.Prelude.{◌≡◌, ◌==◌, ◌+◌, ◌<◌, ◌≤◌, ◌^◌, ℕ, length, count_by, nat_le, IfOk};
 ghost use Rattle.mq_base.specs.Lists.{between};
 ghost use Rattle.mq_core.specs.Columns.{IsStream, picked};
-ghost use Rattle.mq_core.specs.Kinds.Split.{is_sound_route, output_at, outputs_by};
-ghost use Rattle.mq_split.specs.Outs.{AreParts, ArePieces, PiecesJoin, outs_from};
+ghost use Rattle.mq_core.specs.Kinds.Split.{output_at, outputs_by};
+ghost use Rattle.mq_split.specs.Outs.{AreParts, ArePieces, HasOutputs, PiecesJoin, outs_from};
 
 use mq_base::{List, OutOfMemory};
 use mq_core::{Route, Stream, outputs_of_route};
@@ -24,9 +24,10 @@ fn passed(thresholds: &[u64], value: u64) -> usize
 
 /// The output that a route gives to a job: by the value modulo the number of outputs, by turns
 /// of the position, or by how many thresholds are at most the value. By turns the value is not
-/// looked at. Outputs count from 0.
+/// looked at. Outputs count from 0; the route has 2 to 8 of them. Of its column and of the order of
+/// its thresholds nothing is asked.
 pub fn route_of(route: &Route, value: u64, position: u32) -> u8
-    requires { (columns : ℕ) × IsTrue (is_sound_route columns route.now) }
+    requires { HasOutputs route.now }
     ensures output { result ≡ output_at route.now value position }
     ensures within { result < outputs_by route.now }
 {
@@ -55,7 +56,7 @@ fn outs_of(
     route: &Route,
     first: usize,
 ) -> Result<Vec<u8>, OutOfMemory>
-    requires route { (columns : ℕ) × IsTrue (is_sound_route columns route.now) }
+    requires route { HasOutputs route.now }
     requires few { first + length values.now ≤ 1048576 }
     ensures { IfOk result (λ outs. outs.items ≡ outs_from route.now first values.now) }
 {
@@ -111,8 +112,8 @@ fn pick(
 
 /// The items at the places from `from` up to `to` as they leave a split: one stream per output, by
 /// its number, each with the jobs that its route sends there, in their order. `values` has one value
-/// of the route's column per item of the whole stream, by position. It refuses for want of memory
-/// alone.
+/// of the route's column per item of the whole stream, by position. The route has 2 to 8 outputs. It
+/// refuses for want of memory alone.
 pub fn split_piece(
     alloc: Global,
     stream: &Stream,
@@ -121,7 +122,7 @@ pub fn split_piece(
     from: u32,
     to: u32,
 ) -> Result<List<Stream>, OutOfMemory>
-    requires route { (columns : ℕ) × IsTrue (is_sound_route columns route.now) }
+    requires route { HasOutputs route.now }
     requires stream { IsStream stream.now }
     requires values { length values.now ≡ length stream.now.job }
     requires few { length values.now ≤ 1048576 }
@@ -142,14 +143,14 @@ pub fn split_piece(
 
 /// The streams that leave a split: one per output, by its number, each with the jobs that its route
 /// sends there, in their order. `values` has one value of the route's column per item of the stream,
-/// by position. It refuses for want of memory alone.
+/// by position. The route has 2 to 8 outputs. It refuses for want of memory alone.
 pub fn split(
     alloc: Global,
     stream: &Stream,
     values: &List<u64>,
     route: &Route,
 ) -> Result<List<Stream>, OutOfMemory>
-    requires route { (columns : ℕ) × IsTrue (is_sound_route columns route.now) }
+    requires route { HasOutputs route.now }
     requires stream { IsStream stream.now }
     requires values { length values.now ≡ length stream.now.job }
     requires few { length values.now ≤ 1048576 }

@@ -1,7 +1,7 @@
 // Worked routes, and the streams and pieces of a split.
-ghost use Rattle.std.specs.Prelude.{◌≡◌, ◌≤◌, length, IfOk, IsTrue};
+ghost use Rattle.std.specs.Prelude.{◌≡◌, ◌≤◌, length, IfOk};
 ghost use Rattle.mq_core.specs.Columns.{IsStream};
-ghost use Rattle.mq_core.specs.Kinds.Split.{is_sound_route};
+ghost use Rattle.mq_split.specs.Outs.{HasOutputs};
 
 use mq_base::{List, OutOfMemory};
 use mq_core::{Route, Stream};
@@ -24,19 +24,19 @@ fn by_turn(position: u32) -> u8 {
     route_of(&route, 5, position)
 }
 
-// Cuts at 10 and 20.
-fn cut(alloc: Global) -> Result<Route, OutOfMemory>
-    ensures { IfOk result (λ route. IsTrue (is_sound_route 1 route)) }
+// Cuts at two thresholds, which needn't rise.
+fn cut(alloc: Global, thresholds: [u64; 2]) -> Result<Route, OutOfMemory>
+    ensures { IfOk result (λ route. HasOutputs route) }
 {
     Ok(Route::Cut {
         column: 0,
-        thresholds: List::from_vec(Vec::from_slice(alloc, &[10, 20])?),
+        thresholds: List::from_vec(Vec::from_slice(alloc, &thresholds)?),
     })
 }
 
-// The output of a value by these cuts.
-fn by_cut(alloc: Global, value: u64) -> Result<u8, OutOfMemory> {
-    let route = cut(alloc)?;
+// The output of a value by cuts at these thresholds.
+fn by_cut(alloc: Global, thresholds: [u64; 2], value: u64) -> Result<u8, OutOfMemory> {
+    let route = cut(alloc, thresholds)?;
     Ok(route_of(&route, value, 5))
 }
 
@@ -45,7 +45,10 @@ fn routes_give_outputs(rt: HostRuntime) -> Result<(), Fail> {
     let alloc = rt.alloc();
     assert!(rt; (by_modulo(6), by_modulo(7), by_modulo(8)) == (0, 1, 2));
     assert!(rt; (by_turn(0), by_turn(1), by_turn(2)) == (0, 1, 0));
-    assert!(rt; (by_cut(alloc, 9)?, by_cut(alloc, 10)?, by_cut(alloc, 20)?) == (0, 1, 2));
+    assert!(rt; by_cut(alloc, [10, 20], 9)? == 0);
+    assert!(rt; by_cut(alloc, [10, 20], 10)? == 1);
+    assert!(rt; by_cut(alloc, [10, 20], 20)? == 2);
+    assert!(rt; by_cut(alloc, [20, 10], 15)? == 1);
     Ok(())
 }
 
@@ -75,7 +78,7 @@ fn are_parts(streams: &List<Stream>, jobs: &[u32], times: &[u64]) -> bool {
 
 // Whether a split of values 9, 10 and 20 by the cuts sends these jobs on by its first output.
 fn split_sends(alloc: Global, jobs: &[u32], times: &[u64]) -> Result<bool, OutOfMemory> {
-    let (route, stream) = (cut(alloc)?, three(alloc)?);
+    let (route, stream) = (cut(alloc, [10, 20])?, three(alloc)?);
     let values = List::from_vec(Vec::from_slice(alloc, &[9, 10, 20])?);
     let streams = split(alloc, &stream, &values, &route)?;
     Ok(are_parts(&streams, jobs, times))
@@ -85,7 +88,7 @@ fn split_sends(alloc: Global, jobs: &[u32], times: &[u64]) -> Result<bool, OutOf
 fn piece_sends(alloc: Global, from: u32, jobs: &[u32], times: &[u64]) -> Result<bool, OutOfMemory>
     requires { from ≤ 3 }
 {
-    let (route, stream) = (cut(alloc)?, three(alloc)?);
+    let (route, stream) = (cut(alloc, [10, 20])?, three(alloc)?);
     let values = List::from_vec(Vec::from_slice(alloc, &[9, 10, 20])?);
     let streams = split_piece(alloc, &stream, &values, &route, from, 3)?;
     Ok(are_parts(&streams, jobs, times))

@@ -9,4 +9,4 @@ found_in_turn-requires-clause-even c =
 pub found_in_turn-requires-clause-departs : goal.found_in_turn-requires-clause-departs
 found_in_turn-requires-clause-departs c =
     let loaded = c.requires.loaded in
-    served-rises c.fates_are_in_time.ensures c.args.load.now.rows.now loaded.node.kind c.args.load.now.arrivals c.args.departs.now loaded.load (c.requires.served loaded.node loaded.there)
+    served-rises c.columns_go_by_fates.ensures c.fates_are_in_time.ensures c.args.load.now.rows.now loaded.node.kind c.args.load.now.arrivals c.args.departs.now loaded.load (c.requires.served loaded.node loaded.there)

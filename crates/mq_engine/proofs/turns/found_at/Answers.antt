@@ -21,7 +21,7 @@ found_in_turn-requires-clause-even c =
 pub found_in_turn-requires-clause-departs : goal.found_in_turn-requires-clause-departs
 found_in_turn-requires-clause-departs c =
     let served = in-turn-served c.args.rows.now c.args.kind.now c.args.arrivals.now c.in-Server.is in
-    served-rises c.fates_are_in_time.ensures c.args.rows.now c.args.kind.now c.args.arrivals.now _ c.requires.load (served-stream c.fates_are_in_time.ensures c.args.rows.now c.args.kind.now c.args.arrivals.now served.0 c.args.leaving.now.streams c.get.result.now c.requires.load served.1 c.requires.leaving.outflow c.get.ensures)
+    served-rises c.columns_go_by_fates.ensures c.fates_are_in_time.ensures c.args.rows.now c.args.kind.now c.args.arrivals.now _ c.requires.load (served-stream c.fates_are_in_time.ensures c.args.rows.now c.args.kind.now c.args.arrivals.now served.0 c.args.leaving.now.streams c.get.result.now c.requires.load served.1 c.requires.leaving.outflow c.get.ensures)
 
 pub returns-in-Server : goal.returns-in-Server
 returns-in-Server c =
