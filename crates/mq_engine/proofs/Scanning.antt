@@ -7,8 +7,7 @@ use Rattle.std.proofs.lemmas.List.{length-map}
 use Rattle.std.specs.Prelude.{slice_get}
 use Rattle.std.proofs.lemmas.Option.{slice_get_within}
 use Rattle.mq_base.proofs.lemmas.Lists.{some_inj}
-use Rattle.mq_core.specs.Came.{came_in}
-use Rattle.mq_core.specs.Columns.{IsSoundLoad, founds_of, column_stream, stream_in_order}
+use Rattle.mq_core.specs.Columns.{IsSoundLoad, founds_of}
 use Rattle.mq_core.specs.Recurrences.{lindley}
 use Rattle.mq_core.specs.ColumnLaws.{FatesAreInTime}
 use Rattle.mq_core.specs.Handling.{demand_of_job}
