@@ -36,6 +36,3 @@ module _ {X : Type 0} (is : ℕ → X → Type 0) where
           each = λ b d l. subst (is b) (get_or-append rest (x ∷ []) d b (subst (λ m. b < m) (sym few) l)) (whole.each b d (omega arith));
         },
       )
-
-  pub all-some : (n : ℕ) (items : List X) → items ≡ [] → AreAll is (suc n) items → ⊥
-  all-some n items e all = let len = all.len in let none : length items ≡ 0 = ap length e in absurd (omega arith)
