@@ -3,8 +3,6 @@ use Rattle.std.proofs.Common.{◌≡◌, ℕ, suc, ◌-◌, ◌<◌, List, [], �
 use Rattle.std.proofs.Math.ListN.{get_or-append}
 use Rattle.std.proofs.Math.Seq.{get_or-append_seam, take-length}
 use Rattle.std.proofs.lemmas.List.{length-map}
-use Rattle.std.specs.List.{AllByRecursion}
-use Rattle.mq_base.proofs.lemmas.Each.{Each-weaker}
 use Rattle.mq_core.specs.Columns.{founds_from, founds_of}
 use Rattle.mq_core.specs.declared.model.Fate.{Fate}
 use Rattle.mq_core.specs.declared.model.Fate.TheVariants.{Departs}
@@ -38,6 +36,3 @@ module _ {X : Type 0} (is : ℕ → X → Type 0) where
           each = λ b d l. subst (is b) (get_or-append rest (x ∷ []) d b (subst (λ m. b < m) (sym few) l)) (whole.each b d (omega arith));
         },
       )
-
-  pub all-some : (n : ℕ) (items : List X) → items ≡ [] → AreAll is (suc n) items → ⊥
-  all-some n items e all = let len = all.len in let none : length items ≡ 0 = ap length e in absurd (omega arith)

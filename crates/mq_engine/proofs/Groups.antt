@@ -54,14 +54,6 @@ module _ {P X : Type 0} (places : P → ℕ) (is_piece : P → ℕ → X → Typ
         all.each (length parts) part group (append-at parts part (length parts) refl) (append-at groups group (length parts) (sym even)),
       )
 
-  -- where there is a station left, there is a group
-  pub groups-some : (parts rest : List P) (part : P) (groups : List (List X)) → parts ≡ rest ++ part ∷ [] → groups ≡ [] → AreGroups places is_piece parts groups → ⊥
-  groups-some parts rest part groups e none all =
-      let a = ap length e ∙ length-append rest (part ∷ []) in
-      let b : length groups ≡ 0 = ap length none in
-      let len = all.len in
-      absurd (omega arith)
-
   -- what is kept while stations go from one stage to the next, from the back: those left, and what is made of the others
   module _ {Y : Type 0} (Fit : P → Type 0) (Made : Y → Type 0) (Of : Plan → Rows → List ℕ → P → Type 0) (Becomes : Plan → Rows → List ℕ → Y → Type 0) where
     pub record ArePassing (all left : List P) (given : List (List X)) (done : List Y) : Type 0 where

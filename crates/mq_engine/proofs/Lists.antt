@@ -93,15 +93,6 @@ zip-push ts js ts' js' t j h a b = (λ k. zip (a k) (b k)) ∙ go ts js h
     go (u ∷ us) [] e = absurd (omega arith)
     go (u ∷ us) (k ∷ ks) e = ap (λ l. (u, k) ∷ l) (go us ks (omega arith))
 
--- what is left of a zip from a place on begins with the items there
-pub zip-more : (ts js : List ℕ) (i t j : ℕ) (done done' all : List (ℕ × ℕ)) → slice_get ts i ≡ Some t → slice_get js i ≡ Some j → done' ≡ done ++ (t, j) ∷ [] →
-    done ++ zip (drop i ts) (drop i js) ≡ all → done' ++ zip (drop (i + 1) ts) (drop (i + 1) js) ≡ all
-zip-more ts js i t j done done' all a b p h =
-    let next : suc i ≡ i + 1 = omega arith in
-    ap (λ l. l ++ zip (drop (i + 1) ts) (drop (i + 1) js)) p
-    ∙ (append_assoc done _ _
-    ∙ (ap (λ n. done ++ (t, j) ∷ zip (drop n ts) (drop n js)) (sym next) ∙ (ap (λ l. done ++ l) (sym (λ k. zip (drop_suc ts i t a k) (drop_suc js i j b k))) ∙ h)))
-
 -- both lists of a zip, where they are as long
 pub zip-first : (ts js : List ℕ) → length js ≡ length ts → map (λ (p : ℕ × ℕ). p.0) (zip ts js) ≡ ts
 zip-first [] js h = refl

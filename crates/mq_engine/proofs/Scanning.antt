@@ -7,9 +7,7 @@ use Rattle.std.proofs.lemmas.List.{length-map}
 use Rattle.std.specs.Prelude.{slice_get}
 use Rattle.std.proofs.lemmas.Option.{slice_get_within}
 use Rattle.mq_base.proofs.lemmas.Lists.{some_inj}
-use Rattle.mq_core.specs.Came.{came_in}
-use Rattle.mq_core.specs.Columns.{IsSoundLoad, founds_of, column_stream, stream_in_order}
-use Rattle.mq_core.specs.Recurrences.{lindley}
+use Rattle.mq_core.specs.Columns.{IsSoundLoad, founds_of}
 use Rattle.mq_core.specs.ColumnLaws.{FatesAreInTime}
 use Rattle.mq_core.specs.Handling.{demand_of_job}
 use Rattle.mq_core.specs.Recurrences.{tandem_departs}
@@ -37,7 +35,7 @@ use Rattle.mq_engine.specs.declared.loads.Scan.{Scan}
 use Rattle.mq_engine.specs.declared.loads.Scan.TheVariants.{OfServer, OfTandem}
 use Rattle.mq_engine.specs.declared.stations.server.ServerScan.{ServerScan}
 use Rattle.mq_engine.specs.declared.stations.tandem.TandemScan.{TandemScan}
-use Rattle.mq_engine.proofs.Leaves.{load-sound, served-even, served-leaves, server-served}
+use Rattle.mq_engine.proofs.Leaves.{load-sound, served-even, served-leaves}
 use Rattle.mq_engine.proofs.StageFacts.{loads-sound, sound-stages, stages-are, tandem-served}
 
 -- a further item, where each is that of its place
@@ -115,11 +113,6 @@ load-at plan rows v arrivals scan node l there = subst (λ (n : Node). IsLoad ro
 served-at : (plan : Plan) (rows : Rows) (v : ℕ) (arrivals : Stream) (scan : Scan) (kind : Kind) (departs : List ℕ) → (l : IsLoaded plan rows v arrivals scan) → l.node.kind ≡ kind → AreServed rows kind arrivals departs → IsServed plan rows v arrivals departs
 served-at plan rows v arrivals scan kind departs l e s =
     λ node there. let same : l.node ≡ node = some_inj _ _ (sym l.there ∙ there) in subst (λ (k : Kind). AreServed rows k arrivals departs) (sym e ∙ ap (λ (n : Node). n.kind) same) s
-
-pub server-leaves : (plan : Plan) (rows : Rows) (v : ℕ) (arrivals : Stream) (scan : Scan) (its : ServerScan) (departs : List ℕ) → IsLoaded plan rows v arrivals scan → scan ≡ OfServer its → departs ≡ lindley 0 arrivals.time its.demands → IsServed plan rows v arrivals departs
-server-leaves plan rows v arrivals scan its departs l e d =
-    let is : IsScanOf rows l.node.kind arrivals (OfServer its) = subst (IsScanOf rows l.node.kind arrivals) e l.scanned in
-    served-at plan rows v arrivals scan (Server is.0) departs l is.1 (server-served rows is.0 arrivals its.demands departs is.2.demands d)
 
 pub tandem-leaves : (plan : Plan) (rows : Rows) (v : ℕ) (arrivals : Stream) (scan : Scan) (its : TandemScan) (departs : List ℕ) → IsLoaded plan rows v arrivals scan → scan ≡ OfTandem its → departs ≡ tandem_departs its.places (map (λ _. []) its.places) arrivals.time its.columns → IsServed plan rows v arrivals departs
 tandem-leaves plan rows v arrivals scan its departs l e d =

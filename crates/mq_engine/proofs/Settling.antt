@@ -81,21 +81,6 @@ pub record IsSettling (visits0 : List Visits) (outputs0 : List (List Stream)) (s
   pub reached : (plan : Plan) (rows : Rows) → IsReached plan rows visits0 outputs0 stands0 → AreWorkedOut plan rows turns0 → IsReached plan rows visits outputs stands × AreWorkedOut plan rows turns
   pub fewer : ((stands ≡ stands0) × (turns ≡ turns0)) ⊎ (count_by is_waiting stands < count_by is_waiting stands0)
 
-pub settling-starts : (visits : List Visits) (outputs : List (List Stream)) (stands : List Stand) (turns : List Turn) → length visits ≡ length stands → length outputs ≡ length stands → AreWaiting stands turns → IsSettling visits outputs stands turns visits outputs stands turns
-settling-starts visits outputs stands turns came left waits = record {
-  stand = refl;
-  came = came;
-  left = left;
-  waits = waits;
-  reached = λ plan rows r w. (r, w);
-  fewer = inl (refl, refl);
-}
-
-pub settling-inside : (visits0 visits : List Visits) (outputs0 outputs : List (List Stream)) (stands0 stands : List Stand) (turns0 turns rest : List Turn) (turn : Turn) → IsSettling visits0 outputs0 stands0 turns0 visits outputs stands turns → turns ≡ rest ++ turn ∷ [] →
-    turn.number < length stands0
-settling-inside visits0 visits outputs0 outputs stands0 stands turns0 turns rest turn s e =
-    waiting-inside stands0 turn.number (Each-back _ rest (turn ∷ []) (subst (AreWaiting stands0) e s.waits)).0
-
 pub settling-more : (visits0 visits visits' : List Visits) (outputs0 outputs outputs' : List (List Stream)) (stands0 stands stands' : List Stand) (turns0 turns rest : List Turn) (turn : Turn) → IsSettling visits0 outputs0 stands0 turns0 visits outputs stands turns → turns ≡ rest ++ turn ∷ [] →
     IsPut turn visits outputs stands visits' outputs' stands' → IsSettling visits0 outputs0 stands0 turns0 visits' outputs' stands' rest
 settling-more visits0 visits visits' outputs0 outputs outputs' stands0 stands stands' turns0 turns rest turn s e put =
@@ -132,14 +117,6 @@ settling-more visits0 visits visits' outputs0 outputs outputs' stands0 stands st
         let equal : count_by is_waiting stands ≡ count_by is_waiting stands0 = ap (count_by is_waiting) same.0 in
         omega arith
     count (inr less) = let most = gone.most in omega arith
-
--- an empty `pop` found nothing
-pub settling-ended : (visits0 visits : List Visits) (outputs0 outputs : List (List Stream)) (stands0 stands : List Stand) (turns0 turns : List Turn) → IsSettling visits0 outputs0 stands0 turns0 visits outputs stands turns → turns ≡ [] → 1 ≤ length turns0 → count_by is_waiting stands < count_by is_waiting stands0
-settling-ended visits0 visits outputs0 outputs stands0 stands turns0 turns s none some = go s.fewer
-  where
-    go : ((stands ≡ stands0) × (turns ≡ turns0)) ⊎ (count_by is_waiting stands < count_by is_waiting stands0) → count_by is_waiting stands < count_by is_waiting stands0
-    go (inl same) = let e : length turns0 ≡ 0 = ap length (sym same.1 ∙ none) in absurd (omega arith)
-    go (inr less) = less
 
 -- the turns of nodes that are ready are those of nodes that wait
 pub ready-wait : (plan : Plan) (rows : Rows) (stands : List Stand) (ready : List ℕ) (turns : List Turn) → ready ≡ filter (is_ready plan.net.nodes stands) plan.order → Each (IsTurnOf plan rows ready) turns → AreWaiting stands turns

@@ -9,9 +9,7 @@ use Rattle.std.proofs.lemmas.List.Elements.{All-get_or}
 use Rattle.std.proofs.lemmas.Option.{get_or_from_slice_get, slice_get_within}
 use Rattle.mq_base.proofs.lemmas.Lists.{sum-cons}
 use Rattle.mq_base.proofs.lemmas.Each.{Each-flat_map, Each-map, Each-weaker}
-use Rattle.mq_core.specs.Came.{came_in}
-use Rattle.mq_core.specs.ColumnLaws.{FatesAreInTime}
-use Rattle.mq_core.specs.Columns.{IsSoundLoad, IsStream, column_fates}
+use Rattle.mq_core.specs.Columns.{IsSoundLoad}
 use Rattle.mq_core.specs.Handling.{demand_of_job}
 use Rattle.mq_core.specs.Recurrences.{fork_departs, tandem_departs}
 use Rattle.mq_core.specs.Kinds.ForkJoin.{branch_demands}

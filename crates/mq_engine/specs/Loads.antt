@@ -1,5 +1,5 @@
 -- What comes to the nodes that are ready, and what the pieces of a wave are.
-use Rattle.std.specs.Prelude.{◌≡◌, ◌≤◌, ◌+◌, ◌-◌, ◌*◌, ℕ, List, Contains, length, map, min, Option, Some, None, slice_get}
+use Rattle.std.specs.Prelude.{◌≡◌, ◌≤◌, ◌+◌, ◌-◌, ◌*◌, ℕ, List, Contains, length, map, Some, None, slice_get}
 use Rattle.mq_core.specs.Came.{came_in}
 use Rattle.mq_core.specs.ColumnLaws.{arrives_of, jobs_of}
 use Rattle.mq_core.specs.Columns.{column_fates, column_late_from, column_outs, founds_of, stream_in_order}

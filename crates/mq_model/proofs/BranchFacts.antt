@@ -16,10 +16,6 @@ pub branch_first : (left : ℕ) (all rest : List Word) (first : SaidDemand) → 
 unfolding read a_branch
 branch_first left all rest first own = rw (read_then, own, read_then) (front_of first (read (up_to (room_of left) is_demand demand_of) rest))
 
-pub branch_fault : (left : ℕ) (all l : List Word) → read a_demand all ≡ Err l → read (a_branch left) all ≡ Err l
-unfolding read a_branch
-branch_fault left all l own = rw (read_then, own) refl
-
 -- further branches
 pub branches_zero : (left : ℕ) (ws : List Word) → read (branches 0 left) ws ≡ Ok ([], ws)
 unfolding read branches

@@ -1,8 +1,7 @@
 -- What jobs ask for, each at most 2^36.
-use Rattle.std.proofs.Common.{List, [], map, ℕ, ◌++◌, ◌^◌, ◌∷◌, ◌≤◌, arith, length, length-append}
-use Rattle.std.specs.List.{AllByRecursion as Each, flat_map}
-use Rattle.std.proofs.lemmas.List.{length-map}
-use Rattle.mq_base.proofs.lemmas.Each.{Each-weaker, Each-front, Each-back}
+use Rattle.std.proofs.Common.{List, [], map, ℕ, ◌++◌, ◌^◌, ◌∷◌, ◌≤◌}
+use Rattle.std.specs.List.{AllByRecursion as Each}
+use Rattle.mq_base.proofs.lemmas.Each.{Each-weaker}
 use Rattle.mq_core.specs.Handling.{demand_of_job}
 use Rattle.mq_core.specs.declared.model.Demand.{Demand}
 use Rattle.mq_core.specs.declared.model.Rows.{Rows}

@@ -8,7 +8,6 @@ use Rattle.std.proofs.lemmas.List.Elements.{recursion_from_All}
 use Rattle.std.specs.Option.{option_to_list}
 use Rattle.std.specs.Prelude.{◌||◌, slice_get}
 use Rattle.std.specs.List.{AllByRecursion as Each, zip}
-use Rattle.mq_base.proofs.lemmas.Each.{Each-weaker as each-weaker}
 use Rattle.mq_core.specs.ColumnLaws.{ArrivalsAreStreams, JobsAreRows, NodesAreColumns, OrdersKeepItems, VisitsAreFew, arrives_of, jobs_of}
 use Rattle.mq_core.specs.Columns.{column_fates, column_late, column_late_from}
 use Rattle.mq_core.specs.Local.{Local}

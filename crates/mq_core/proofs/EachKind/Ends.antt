@@ -1,6 +1,6 @@
 -- That a run ends: the weight of what is pending falls with each event.
 use Rattle.std.proofs.Common.{List, None, Option, Some, [], ap, arith, length, length-append, refl, subst, suc, sym, true, zero, ℕ, ◌*◌, ◌++◌, ◌+◌, ◌-◌, ◌<◌, ◌∙◌, ◌∷◌, ◌≡◌, ◌≤◌, ◌^◌}
-use Rattle.std.proofs.Math.Nat.{mul_assoc, mul-suc, mul_comm, suc-mul}
+use Rattle.std.proofs.Math.Nat.{mul-suc}
 use Rattle.std.proofs.lemmas.List.{append-nil}
 use Rattle.std.specs.List.{AllByRecursion as Each}
 use Rattle.std.specs.Option.{option_to_list}
@@ -51,29 +51,6 @@ weight_of most (suc nodes) = 9 + most * weight_of most nodes
 pub weight-one : (nodes : ℕ) → weight_of 1 nodes ≡ 9 * nodes
 weight-one zero = refl
 weight-one (suc nodes) = omega (arith, weight-one nodes)
-
--- where it lets out 8 at most
-pub weight-eight : (nodes : ℕ) → weight_of 8 nodes ≤ 9 * nodes * 8 ^ nodes
-weight-eight zero = omega arith
-weight-eight (suc nodes) = grow nodes (weight_of 8 nodes) (8 ^ nodes) (8 ^ suc nodes) (power nodes) (positive nodes) (weight-eight nodes)
-  where
-    power : (n : ℕ) → 8 ^ suc n ≡ 8 * 8 ^ n
-    power n = grind arith
-
-    positive : (n : ℕ) → 1 ≤ 8 ^ n
-    positive zero = omega arith
-    positive (suc n) = let p = power n in let q = positive n in omega arith
-
-    grow : (n w e f : ℕ) → f ≡ 8 * e → 1 ≤ e → w ≤ 9 * n * e → 9 + 8 * w ≤ 9 * suc n * f
-    grow n w e f p q l =
-        let a : 9 * n * e ≡ 9 * (n * e) = mul_assoc 9 n e in
-        let b : 9 * suc n * f ≡ 9 * (suc n * f) = mul_assoc 9 (suc n) f in
-        let c : suc n * f ≡ n * f + f = suc-mul n f in
-        let d : n * f ≡ n * (8 * e) = ap (λ x. n * x) p in
-        let g : n * (8 * e) ≡ (n * 8) * e = sym (mul_assoc n 8 e) in
-        let h : (n * 8) * e ≡ (8 * n) * e = ap (λ x. x * e) (mul_comm n 8) in
-        let i : (8 * n) * e ≡ 8 * (n * e) = mul_assoc 8 n e in
-        omega arith
 
 weight-rises : (most a b : ℕ) → a ≤ b → weight_of most a ≤ weight_of most b
 weight-rises most zero b l = omega arith

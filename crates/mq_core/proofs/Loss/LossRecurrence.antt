@@ -1,7 +1,7 @@
 -- The laws of the kind's recurrence.
 use Rattle.std.proofs.Common.{Bool, [], ap, arith, cond, eqb, false, length, map, refl, true, ℕ, ◌∙◌, ◌≤◌}
 use Rattle.std.proofs.lemmas.Bool.{and_parts}
-use Rattle.mq_base.proofs.lemmas.Each.{Each-weaker as each-weaker, Each-weaker}
+use Rattle.mq_base.proofs.lemmas.Each.{Each-weaker}
 use Rattle.mq_core.specs.ColumnLaws.{arrives_of}
 use Rattle.mq_core.specs.Kinds.Loss.{out_of_fate}
 use Rattle.mq_core.specs.Columns.{time_of_fate}

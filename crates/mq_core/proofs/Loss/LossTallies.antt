@@ -19,7 +19,7 @@ use Rattle.mq_core.specs.declared.model.Rows.{Rows}
 use Rattle.mq_core.proofs.Loss.Loses.{Losing, ToLeave, front_finish, all_fared, front-emission}
 use Rattle.mq_core.proofs.Loss.LossFlow.{has_place, fared-numbered, fared-fates}
 use Rattle.mq_core.proofs.Counting.Released.{emission-one, times-one, joins-length, joins-emits, one-release, no_release}
-use Rattle.mq_core.proofs.Counting.Reordered.{times_at, times_at-append, times_at-in_order, times_at-numbered, times_at-beyond, times_at-once, emission_at-none, emission_at-in_order, staying-coming}
+use Rattle.mq_core.proofs.Counting.Reordered.{times_at, times_at-append, times_at-in_order, times_at-numbered, times_at-once, emission_at-in_order, staying-coming}
 use Rattle.mq_core.proofs.Server.Serves.{latest-push, joins-releases, pair-inj}
 
 -- an arrival either joins the queue, or is let out at once

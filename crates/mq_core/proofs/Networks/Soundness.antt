@@ -7,7 +7,6 @@ use Rattle.std.specs.List.{flat_map, list_all, list_any}
 use Rattle.mq_core.specs.Sound.{is_sound, is_sound_node, are_distinct, same_input, mentions_from, columns_of_kind}
 use Rattle.mq_core.specs.Wiring.{inputs_of}
 use Rattle.mq_core.proofs.Networks.Wired.{IsReadOnce}
-use Rattle.mq_core.specs.Ranges.{is_sound_demand, is_within}
 use Rattle.mq_core.specs.declared.model.Input.{Input}
 use Rattle.mq_core.specs.declared.model.Network.{Network}
 use Rattle.mq_core.specs.declared.model.Node.{Node}

@@ -4,8 +4,6 @@ use Rattle.std.proofs.lemmas.Bool.{and_parts}
 use Rattle.std.proofs.lemmas.Bool.Decides.{nat_tests}
 use Rattle.std.proofs.lemmas.Option.{slice_get-get_or}
 use Rattle.std.specs.Prelude.{nat_le, nat_lt, slice_get, slice_index, ◌&&◌}
-use Rattle.std.specs.List.{AllByRecursion as Each, flat_map, list_all}
-use Rattle.mq_base.proofs.lemmas.Each.{Each-append, Each-weaker}
 use Rattle.mq_core.specs.Told.{HasDemand, HasValue}
 use Rattle.mq_core.specs.Handling.{column_value, demand_of_job, value_of}
 use Rattle.mq_core.specs.Ranges.{is_sound_demand, is_within}
@@ -14,7 +12,6 @@ use Rattle.mq_core.specs.declared.model.Demand.{Demand}
 use Rattle.mq_core.specs.declared.model.Demand.TheVariants.{Column, Fixed}
 use Rattle.mq_core.specs.declared.model.Network.{Network}
 use Rattle.mq_core.specs.declared.model.Rows.{Rows}
-use Rattle.mq_core.specs.declared.model.Stage.{Stage}
 
 -- a number between two limits
 pub within-most : (low high n : ℕ) → is_within low high n ≡ true → n ≤ high

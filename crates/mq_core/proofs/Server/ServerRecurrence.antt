@@ -1,6 +1,6 @@
 -- The laws of the kind's recurrence.
 use Rattle.std.proofs.Common.{arith, refl, ℕ}
-use Rattle.mq_base.proofs.lemmas.Each.{Each-weaker as each-weaker, Each-weaker}
+use Rattle.mq_base.proofs.lemmas.Each.{Each-weaker}
 use Rattle.mq_core.specs.Handling.{demand_of_job}
 use Rattle.mq_core.specs.Kinds.Server.{server}
 use Rattle.mq_core.specs.PlanLaws.{Tells}
