@@ -115,13 +115,13 @@ has-route columns rows (Cut column thresholds) job s h =
 pub routed-each : (rows : Rows) (route : Route) (arrivals : Stream) → IsLoad rows (Split route) arrivals → AreRouted rows route arrivals.job
 routed-each rows route arrivals h = λ k job g. has-route (length h.net.columns) rows route job h.sound (h.told k job g).value
 
--- a sound route has as many outputs as a split asks for
 within : (low high n : ℕ) → is_within low high n ≡ true → (low ≤ n) × (n ≤ high)
 within low high n h =
     let e = (and_parts (nat_le low n) (nat_le n high) h).0 in
     let f = (and_parts (nat_le low n) (nat_le n high) h).1 in
     ((grind (arith, nat_tests)), (grind (arith, nat_tests)))
 
+-- a sound route has as many outputs as a split asks for
 has-outputs : (columns : ℕ) (route : Route) → is_sound_route columns route ≡ true → HasOutputs route
 has-outputs columns (Modulo outputs column) s =
     let l = within 2 8 outputs (and_parts (is_within 2 8 outputs) (nat_lt column columns) s).0 in
