@@ -40,7 +40,7 @@ module _ {A : Type 0} where
   at-set-here (x ∷ xs) zero v a e = refl
   at-set-here (x ∷ xs) (suc i) v a e = at-set-here xs i v a e
 
-  -- one view at a place
+  -- one view at an index
   same-view : (l : List A) (i j : ℕ) (v u : A) → j ≡ i → get_elem? l i ≡ some v → get_elem? l j ≡ some u → u ≡ v
   same-view l i j v u e at to = some-injective u v (sym to ∙ (ap (get_elem? l) e ∙ at))
 

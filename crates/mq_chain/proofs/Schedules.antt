@@ -18,7 +18,7 @@ module _ (blocks : ℕ) (words : List ℕ) (views : List Hand) where
   stays _ _ (splits ws vs i share v before at some_share less) w some there = stays ws vs before w some there
   stays _ _ (joins ws vs i other v u before at apart to) w some there = stays ws vs before w some there
 
--- a word that is stored, where the place is inside; else nothing changes
+-- a word that is stored, where the index is inside; else nothing changes
 stored-or : (ws : List ℕ) (a x : ℕ) → (get_or (set ws a x) a 0 ≡ x) ⊎ (get_or (set ws a x) a 0 ≡ get_or ws a 0)
 stored-or [] a x = inr refl
 stored-or (y ∷ ws) zero x = inl refl

@@ -7,21 +7,21 @@ use Rattle.mq_maxplus.specs.Maxplus.{affine_act, affine_then}
 use Rattle.mq_scan.specs.Folds.{span, fold_to}
 use Rattle.mq_chain.specs.Words.{sum_word, best_word}
 
--- the summary of block b of the places, cut into runs of `block`
+-- the summary of block b of the indices, cut into runs of `block`
 abbrev pub block_summary : (ℕ → Affine) → ℕ → ℕ → ℕ → Affine
-block_summary part places block b = span affine_then part (b * block) ((min ((b + 1) * block) places - b * block) - 1)
+block_summary part size block b = span affine_then part (b * block) ((min ((b + 1) * block) size - b * block) - 1)
 
 -- each sum and each best that was stored is that of its block
-pub record AreOfCut (part : ℕ → Affine) (places block : ℕ) (puts : List (ℕ × ℕ)) : Type 0 where
+pub record AreOfCut (part : ℕ → Affine) (size block : ℕ) (puts : List (ℕ × ℕ)) : Type 0 where
   pub some : 1 ≤ block
-  pub sums : (b s : ℕ) → Contains puts (sum_word b, s + 1) → s ≡ (block_summary part places block b).add
-  pub bests : (b t : ℕ) → Contains puts (best_word b, t + 1) → At t ≡ (block_summary part places block b).least
+  pub sums : (b s : ℕ) → Contains puts (sum_word b, s + 1) → s ≡ (block_summary part size block b).add
+  pub bests : (b t : ℕ) → Contains puts (best_word b, t + 1) → At t ≡ (block_summary part size block b).least
 
 -- the carry after block b is the one of the fold
 abbrev pub IsCarryAfter : (ℕ → Affine) → ℕ → ℕ → ℕ → ℕ → Type 0
-IsCarryAfter part places block b c = At c ≡ fold_to affine_act Void part (min ((b + 1) * block) places)
+IsCarryAfter part size block b c = At c ≡ fold_to affine_act Void part (min ((b + 1) * block) size)
 
 -- where the summaries that were stored are those of a cut of some jobs, each carry that stands is the one of their fold
 abbrev pub AreFolded : List (ℕ × ℕ) → ℕ → List Mp → Type 0
 AreFolded puts blocks carries =
-    (part : ℕ → Affine) (places block b c : ℕ) → AreOfCut part places block puts → b < blocks → b * block < places → slice_index_or carries b Void ≡ At c → IsCarryAfter part places block b c
+    (part : ℕ → Affine) (size block b c : ℕ) → AreOfCut part size block puts → b < blocks → b * block < size → slice_index_or carries b Void ≡ At c → IsCarryAfter part size block b c

@@ -21,7 +21,7 @@ MayPut words looks w x =
     ⊎ (((b : ℕ) × (w ≡ best_word b) × (slice_index words (sum_word b) ≢ 0))
     ⊎ ((b : ℕ) × (w ≡ carry_word b) × (slice_index words (sum_word b) ≢ 0) × (slice_index words (best_word b) ≢ 0) × IsCarry words looks b x))
 
--- a seat at its place that isn't spent
+-- a seat at its index that isn't spent
 abbrev pub IsSeat : List Hand → ℕ → Hand → Type 0
 IsSeat views i v = (get_elem? views i ≡ some v) × (1 ≤ v.right)
 

@@ -11,8 +11,8 @@ pub fn views_show_workers()
     ensures { (count seats next : ℕ) (views : List Hand) → IsDrawn right_of draws_of count seats next views → IsShown right_of draws_of count next views }
 {}
 
-/// In each schedule in which a worker drew, and each that drew has reached the count, each place
+/// In each schedule in which a worker drew, and each that drew has reached the count, each index
 /// below the count has one piece, recorded by who drew it.
-pub fn places_have_pieces()
+pub fn indices_have_pieces()
     ensures { (count next : ℕ) (f : Name → Worker) → Reached count next f → ((w : Name) × ((f w).draws ≢ [])) → HasEnded count f → EachHasOne count f }
 {}

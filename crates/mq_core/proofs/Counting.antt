@@ -1,7 +1,7 @@
-pub mod ColumnNumbers
+pub mod SequenceNumbers
 pub mod Reordered
 pub mod Unlost
 pub mod Released
 pub mod Services
-pub mod FlowColumns
+pub mod FlowSequences
 pub mod Stays

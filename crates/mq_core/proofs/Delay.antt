@@ -3,4 +3,4 @@ pub mod DelayNumbers
 pub mod DelayLaws
 pub mod DelayRecurrence
 pub mod DelayLimits
-pub mod DelayColumns
+pub mod DelaySequences

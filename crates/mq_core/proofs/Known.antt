@@ -2,5 +2,5 @@ pub mod RecurrenceRows
 pub mod ShortRuns
 pub mod WorkedRows
 pub mod TandemRows
-pub mod ForkRows
+pub mod ForkJoinRows
 pub mod LossRows

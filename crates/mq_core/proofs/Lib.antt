@@ -8,7 +8,7 @@ pub mod Tandem
 pub mod EachKind
 pub mod ForkJoin
 pub mod Known
-pub mod Columns
+pub mod Sequences
 pub mod Counting
 pub mod Loss
 pub mod Bounded

@@ -3,7 +3,7 @@ pub mod Loses
 pub mod LossTallies
 pub mod LossBusy
 pub mod LossPeak
-pub mod LossColumns
+pub mod LossSequences
 pub mod LossLaws
 pub mod LossRecurrence
 pub mod LossLimits

@@ -6,4 +6,4 @@ pub mod SourceRecurrence
 pub mod SplitRecurrence
 pub mod SourceLimits
 pub mod SplitLimits
-pub mod PassingColumns
+pub mod PassingSequences

@@ -6,5 +6,5 @@ pub mod ServerLoads
 pub mod ServerLaws
 pub mod ServerRecurrence
 pub mod ServerLimits
-pub mod ServerColumns
+pub mod ServerSequences
 pub mod ServerBounded

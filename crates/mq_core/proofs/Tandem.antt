@@ -4,7 +4,7 @@ pub mod TandemSweep
 pub mod TandemOrder
 pub mod Tandems
 pub mod TandemFlow
-pub mod TandemColumns
+pub mod TandemSequences
 pub mod TandemNumbers
 pub mod TandemLoad
 pub mod TandemBusy

@@ -4,7 +4,7 @@ use Rattle.std.specs.List.{AllByRecursion}
 use Rattle.mq_core.specs.Event.{Event, time_of, job_of}
 use Rattle.mq_core.specs.Machine.{Emission, Visit, after, opened}
 use Rattle.mq_core.specs.Laws.{NotBefore, Rises, alone, is_arrival_at, port_of}
-use Rattle.mq_core.specs.Served.{flow_of, in_leaving_order}
+use Rattle.mq_core.specs.Served.{flow_of, in_emission_order}
 use Rattle.mq_core.specs.StandardTable.{standard}
 use Rattle.mq_core.specs.Wiring.{inputs_of}
 use Rattle.mq_core.specs.declared.model.Node.{Node}
@@ -31,11 +31,11 @@ pub record LetsOut (visits : List Visit) (emitted : List Emission) (arrivals : L
   pub visited : came visits ≡ come_at v arrivals
   pub left : emitted ≡ expected
 
--- a node alone lets out the recurrence of its kind over its visits, in the order of leaving
+-- a node alone lets out the recurrence of its kind over its visits, in emission order
 abbrev pub NodesFlowAlone : Type 0
 NodesFlowAlone =
     (plan : Plan) (rows : Rows) (v : ℕ) (node : Node) → slice_get plan.net.nodes v ≡ Some node →
     (arrivals : List Event) → IsLoad (length (inputs_of plan.net.nodes v)) v arrivals → (count : ℕ) →
     let end = after count (alone (standard plan rows)) (opened (alone (standard plan rows)) arrivals) in
     end.pending ≡ [] →
-    LetsOut (end.stations v).visits (end.stations v).emitted arrivals v (in_leaving_order node.kind (flow_of rows (length node.inputs) node.kind (end.stations v).visits))
+    LetsOut (end.stations v).visits (end.stations v).emitted arrivals v (in_emission_order node.kind (flow_of rows (length node.inputs) node.kind (end.stations v).visits))

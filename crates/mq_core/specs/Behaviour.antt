@@ -4,7 +4,7 @@
 use Rattle.mq_core.specs.Came.{Came}
 use Rattle.std.specs.Prelude.{Bool, List, Option, ℕ}
 use Rattle.mq_core.specs.Event.{Event}
-use Rattle.mq_core.specs.Leaving.{Leaving}
+use Rattle.mq_core.specs.EmissionOrder.{EmissionOrder}
 use Rattle.mq_core.specs.Local.{Local}
 use Rattle.mq_core.specs.Machine.{Emission, Reaction, Station, Visit}
 use Rattle.mq_core.specs.declared.model.Fate.{Fate}
@@ -52,7 +52,7 @@ pub record Behaviour : Type 1 where
   -- what these visits let out, by position, at a node of so many ports
   pub flow : Rows → ℕ → List Visit → List Emission
   -- the order in which it lets out
-  pub order : Leaving
+  pub order : EmissionOrder
   -- how many jobs one event may let out at most
   pub copies : ℕ
   -- the emission with which the visit at a position leaves, once it has

@@ -1,4 +1,4 @@
--- The arrivals at a node, in columns.
+-- The arrivals at a node, in sequences.
 use Rattle.std.specs.Prelude.{ℕ, List, [], map}
 use Rattle.mq_core.specs.Machine.{Visit}
 use Rattle.mq_core.specs.declared.model.Stream.{Stream}

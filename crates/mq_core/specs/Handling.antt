@@ -56,11 +56,11 @@ abbrev pub front_begins : Rows → Demand → List Visit → ℕ → List ℕ �
 front_begins rows demand visits now [] = []
 front_begins rows demand visits now (position ∷ queue) = begins rows demand visits now position ∷ []
 
--- the position joins the queue, and begins if it is alone
-abbrev pub joins : Rows → Demand → List Visit → Local → ℕ → List ℕ → ℕ → Reaction Local
-joins rows demand visits local now [] position =
+-- the position queues up, and begins if it is alone
+abbrev pub queues_up : Rows → Demand → List Visit → Local → ℕ → List ℕ → ℕ → Reaction Local
+queues_up rows demand visits local now [] position =
     record { local = record local { queue = position ∷ [] }; releases = []; services = begins rows demand visits now position ∷ [] }
-joins rows demand visits local now (front ∷ queue) position =
+queues_up rows demand visits local now (front ∷ queue) position =
     record { local = record local { queue = (front ∷ queue) ++ position ∷ [] }; releases = []; services = [] }
 
 -- the front leaves, and the next begins
@@ -84,7 +84,7 @@ begins_at rows demand visits now server [] = []
 begins_at rows demand visits now server (position ∷ queue) =
     record { server = server; position = position; time = now + demand_at rows demand visits position } ∷ []
 
--- the service of a position that joins this list: it begins where the list was empty
+-- the service of a position that queues up in this list: it begins where the list was empty
 abbrev pub begins_alone : Rows → Demand → List Visit → ℕ → ℕ → List ℕ → ℕ → List Service
 begins_alone rows demand visits now server [] position = begins_at rows demand visits now server (position ∷ [])
 begins_alone rows demand visits now server (front ∷ queue) position = []

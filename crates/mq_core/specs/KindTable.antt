@@ -1,7 +1,7 @@
 -- The table of the kinds: one row a kind. A kind's value stands in its file of `Kinds`.
 use Rattle.mq_core.specs.Behaviour.{Behaviour}
 use Rattle.mq_core.specs.Kinds.Delay.{delay}
-use Rattle.mq_core.specs.Kinds.ForkJoin.{fork_join}
+use Rattle.mq_core.specs.Kinds.ForkJoin.{forkjoin}
 use Rattle.mq_core.specs.Kinds.Loss.{loss}
 use Rattle.mq_core.specs.Kinds.Server.{server}
 use Rattle.mq_core.specs.Kinds.Source.{source}
@@ -17,5 +17,5 @@ behaviour_of (Server demand) = server demand
 behaviour_of (Delay demand) = delay demand
 behaviour_of (Loss places demand) = loss places demand
 behaviour_of (Tandem stages) = tandem stages
-behaviour_of (ForkJoin branches) = fork_join branches
+behaviour_of (ForkJoin branches) = forkjoin branches
 behaviour_of (Split route) = split route

@@ -2,7 +2,7 @@
 use Rattle.std.proofs.Common.{ℕ, ◌≤◌, List, [], ◌∷◌, ◌++◌, arith}
 use Rattle.std.specs.List.{AllByRecursion as Each}
 use Rattle.mq_core.specs.Machine.{Visit, Service}
-use Rattle.mq_core.specs.Handling.{begins_at, begins_alone, joins, front_begins, front_leaves}
+use Rattle.mq_core.specs.Handling.{begins_at, begins_alone, queues_up, front_begins, front_leaves}
 use Rattle.mq_core.specs.declared.model.Demand.{Demand}
 use Rattle.mq_core.specs.declared.model.Rows.{Rows}
 use Rattle.mq_core.specs.Local.{Local}
@@ -26,10 +26,10 @@ pub begins_alone-late : (rows : Rows) (demand : Demand) (visits : List Visit) (n
 begins_alone-late rows demand visits now server [] position = (omega arith, tt)
 begins_alone-late rows demand visits now server (front ∷ queue) position = tt
 
--- nor who joins a queue
-pub joins-late : (rows : Rows) (demand : Demand) (visits : List Visit) (local : Local) (now : ℕ) (queue : List ℕ) (position : ℕ) → Late now (joins rows demand visits local now queue position).services
-joins-late rows demand visits local now [] position = (omega arith, tt)
-joins-late rows demand visits local now (front ∷ queue) position = tt
+-- nor who queues up
+pub queues_up-late : (rows : Rows) (demand : Demand) (visits : List Visit) (local : Local) (now : ℕ) (queue : List ℕ) (position : ℕ) → Late now (queues_up rows demand visits local now queue position).services
+queues_up-late rows demand visits local now [] position = (omega arith, tt)
+queues_up-late rows demand visits local now (front ∷ queue) position = tt
 
 -- nor the front of a queue
 front_begins-late : (rows : Rows) (demand : Demand) (visits : List Visit) (now : ℕ) (queue : List ℕ) → Late now (front_begins rows demand visits now queue)

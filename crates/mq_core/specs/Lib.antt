@@ -12,7 +12,7 @@ pub mod Late
 pub mod Ranges
 pub mod Told
 pub mod Emitting
-pub mod Leaving
+pub mod EmissionOrder
 pub mod Came
 pub mod Streams
 pub mod OnceOut
@@ -29,10 +29,10 @@ pub mod Fates
 pub mod Alone
 pub mod Tallies
 pub mod Results
-pub mod Columns
+pub mod Sequences
 pub mod NetworkRun
 pub mod PlanLaws
 pub mod NumberLaws
-pub mod ColumnLaws
+pub mod SequenceLaws
 pub mod RunLaws
 pub mod Bounded

@@ -16,7 +16,7 @@ use Rattle.mq_core.specs.Kinds.Server.{server-late}
 use Rattle.mq_core.specs.Kinds.Delay.{delay-late}
 use Rattle.mq_core.specs.Kinds.Loss.{loss-late}
 use Rattle.mq_core.specs.Kinds.Tandem.{tandem-late}
-use Rattle.mq_core.specs.Kinds.ForkJoin.{fork_join-late}
+use Rattle.mq_core.specs.Kinds.ForkJoin.{forkjoin-late}
 use Rattle.mq_core.specs.Kinds.Split.{split-late}
 
 -- a node schedules nothing earlier than the clock
@@ -26,7 +26,7 @@ kind-late rows ports (Server demand) visits local now event = server-late rows d
 kind-late rows ports (Delay demand) visits local now event = delay-late rows demand visits local now event
 kind-late rows ports (Loss places demand) visits local now event = loss-late rows places demand visits local now event
 kind-late rows ports (Tandem stages) visits local now event = tandem-late rows stages visits local now event
-kind-late rows ports (ForkJoin branches) visits local now event = fork_join-late rows branches visits local now event
+kind-late rows ports (ForkJoin branches) visits local now event = forkjoin-late rows branches visits local now event
 kind-late rows ports (Split route) visits local now event = split-late rows route visits local now event
 
 -- nor where there is no node

@@ -1,7 +1,7 @@
--- The columns of a node that lets each visit out once, from its fates: what each visit found, and what leaves by an output.
+-- The sequences of a node that lets each visit out once, from its fates: what each visit found, and what leaves by an output.
 use Rattle.std.specs.Prelude.{Bool, List, [], count_by, false, nat_lt, ℕ, ◌++◌, ◌∷◌}
 use Rattle.mq_core.specs.Came.{Came}
-use Rattle.mq_core.specs.Leaving.{Leaving}
+use Rattle.mq_core.specs.EmissionOrder.{EmissionOrder}
 use Rattle.mq_core.specs.Streams.{picked, stream_by}
 use Rattle.mq_core.specs.declared.model.Fate.{Fate}
 use Rattle.mq_core.specs.declared.model.Fate.TheVariants.{Departs, Lost}
@@ -35,6 +35,6 @@ leaving_times (arrive ∷ arrives) [] = []
 leaving_times (arrive ∷ arrives) (fate ∷ fates) = leaving_time arrive fate ∷ leaving_times arrives fates
 
 -- what leaves by an output where each visit leaves once, by its own
-abbrev pub once_out : Leaving → Came → List Fate → List ℕ → ℕ → Stream
+abbrev pub once_out : EmissionOrder → Came → List Fate → List ℕ → ℕ → Stream
 once_out order came fates outs out =
     stream_by order (record { job = picked out outs came.job; time = picked out outs (leaving_times came.arrive fates) })

@@ -44,16 +44,16 @@ abbrev pub in_series : List ℕ → List (List ℕ) → List ℕ
 in_series arrive [] = arrive
 in_series arrive (demands ∷ more) = in_series (lindley 0 arrive demands) more
 
--- place by place the later of two times
+-- index by index the later of two times
 abbrev pub later_of : List ℕ → List ℕ → List ℕ
 later_of [] times = []
 later_of (time ∷ times) [] = []
 later_of (time ∷ times) (other ∷ others) = max time other ∷ later_of times others
 
 -- from a fork-join: a job leaves once it has gone through every branch, each of servers in series
-abbrev pub fork_departs : List ℕ → List (List (List ℕ)) → List ℕ
-fork_departs arrive [] = arrive
-fork_departs arrive (branch ∷ branches) = later_of (in_series arrive branch) (fork_departs arrive branches)
+abbrev pub forkjoin_departs : List ℕ → List (List (List ℕ)) → List ℕ
+forkjoin_departs arrive [] = arrive
+forkjoin_departs arrive (branch ∷ branches) = later_of (in_series arrive branch) (forkjoin_departs arrive branches)
 
 -- when a stage has room for one more: when the job left it that came as many before as it has places. These are its places
 -- and the departures from it, the latest first, and then those of the stages behind it; behind the last there is always room

@@ -1,6 +1,6 @@
--- That a run in columns and the columns of its nodes say the same.
+-- That a run in sequences and the sequences of its nodes say the same.
 use Rattle.std.specs.Prelude.{◌≡◌, ◌<◌, ℕ, List, length, Some, slice_get}
-use Rattle.mq_core.specs.Columns.{IsRunOf, streams_below}
+use Rattle.mq_core.specs.Sequences.{IsRunOf, streams_below}
 use Rattle.mq_core.specs.Local.{Local}
 use Rattle.mq_core.specs.Machine.{State}
 use Rattle.mq_core.specs.Results.{visits_of, stream_from}
@@ -12,24 +12,24 @@ use Rattle.mq_core.specs.declared.model.Rows.{Rows}
 use Rattle.mq_core.specs.declared.model.Run.{Run}
 use Rattle.mq_core.specs.declared.model.Stream.{Stream}
 
--- a run in columns has those of a node at its place
-pub record HasColumns (end : State Local) (run : Run) (v : ℕ) (node : Node) : Type 0 where
+-- a run in sequences has those of a node at its index
+pub record HasSequences (end : State Local) (run : Run) (v : ℕ) (node : Node) : Type 0 where
   pub visits : slice_get run.visits v ≡ Some (visits_of node.kind (end.stations v))
   pub outputs : slice_get run.outputs v ≡ Some (streams_below end v (outputs_in node.kind))
 
-abbrev pub RunsHaveColumns : Type 0
-RunsHaveColumns =
+abbrev pub RunsHaveSequences : Type 0
+RunsHaveSequences =
     (plan : Plan) (rows : Rows) (run : Run) → IsRunOf plan rows run → (v : ℕ) (node : Node) → slice_get plan.net.nodes v ≡ Some node →
-    HasColumns (run_of plan rows) run v node
+    HasSequences (run_of plan rows) run v node
 
--- what has as many as there are nodes, and those of each node, is the run in columns
-abbrev pub ColumnsMakeRuns : Type 0
-ColumnsMakeRuns =
+-- what has as many as there are nodes, and those of each node, is the run in sequences
+abbrev pub SequencesMakeRuns : Type 0
+SequencesMakeRuns =
     (plan : Plan) (rows : Rows) (run : Run) → length run.visits ≡ length plan.net.nodes → length run.outputs ≡ length plan.net.nodes →
-    ((v : ℕ) (node : Node) → slice_get plan.net.nodes v ≡ Some node → HasColumns (run_of plan rows) run v node) →
+    ((v : ℕ) (node : Node) → slice_get plan.net.nodes v ≡ Some node → HasSequences (run_of plan rows) run v node) →
     IsRunOf plan rows run
 
--- the streams of a node have that of each output at its place
+-- the streams of a node have that of each output at its index
 abbrev pub OutputsHaveStreams : Type 0
 OutputsHaveStreams =
     (end : State Local) (v outs out : ℕ) → out < outs → slice_get (streams_below end v outs) out ≡ Some (stream_from (end.stations v) out)

@@ -2,8 +2,8 @@
 use Rattle.std.specs.List.{zip}
 use Rattle.std.specs.Prelude.{List, [], if◌then◌else◌, map, ℕ, ◌==◌, ◌∷◌}
 use Rattle.mq_core.specs.Laws.{in_order_of}
-use Rattle.mq_core.specs.Leaving.{Leaving}
-use Rattle.mq_core.specs.Leaving.Leaving.{InTurn, Mixed, Overtaking}
+use Rattle.mq_core.specs.EmissionOrder.{EmissionOrder}
+use Rattle.mq_core.specs.EmissionOrder.EmissionOrder.{ByPosition, Mixed, Overtaking}
 use Rattle.mq_core.specs.declared.model.Stream.{Stream}
 
 -- the time and the job of each item
@@ -30,7 +30,7 @@ sorted stream =
     }
 
 -- jobs and times by position, in the order in which they leave by an output
-abbrev pub stream_by : Leaving → Stream → Stream
-stream_by InTurn stream = stream
+abbrev pub stream_by : EmissionOrder → Stream → Stream
+stream_by ByPosition stream = stream
 stream_by Mixed stream = stream
 stream_by Overtaking stream = sorted stream

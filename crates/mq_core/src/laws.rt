@@ -5,9 +5,9 @@ ghost use Rattle.mq_core.specs.PlanLaws.{NodesAreInLimits, OrdersRank, RowsTellD
 ghost use Rattle.mq_core.specs.Alone.{NodesFlowAlone};
 ghost use Rattle.mq_core.specs.Bounded.{DeparturesAreBounded};
 ghost use Rattle.mq_core.specs.Fates.{AreasAreSojourns, BusyIsServices, FoundsAreCounts, PeakIsGreatest, RunEnds, SpanIsLatest};
-ghost use Rattle.mq_core.specs.ColumnLaws.{ArrivalsAreStreams, ColumnsAreBlind, ColumnsGoByFates, DepartsInTime, FatesAreInTime, JobsAreRows, MergesTwice, NodesAreColumns, NodesFlow, OrdersKeepItems, StreamsRise, VisitsAreFew, VisitsStayBareTime};
-ghost use Rattle.mq_core.specs.NumberLaws.{ExitsAreStreams, OnTimeGrows, PastIsFirst, PastIsNone, SpanIsColumns, TotalsAreColumns};
-ghost use Rattle.mq_core.specs.RunLaws.{ColumnsMakeRuns, OutputsHaveStreams, RunsHaveColumns, StreamsMakeOutputs};
+ghost use Rattle.mq_core.specs.SequenceLaws.{ArrivalsAreStreams, SequencesAreBlind, SequencesGoByFates, DepartsInTime, FatesAreInTime, JobsAreRows, MergesTwice, NodesAreSequences, NodesFlow, OrdersKeepItems, StreamsRise, VisitsAreFew, VisitsStayBareTime};
+ghost use Rattle.mq_core.specs.NumberLaws.{ExitsAreStreams, OnTimeGrows, PastIsFirst, PastIsNone, SpanIsSequences, TotalsAreSequences};
+ghost use Rattle.mq_core.specs.RunLaws.{SequencesMakeRuns, OutputsHaveStreams, RunsHaveSequences, StreamsMakeOutputs};
 
 use crate::handlers::Handlers;
 
@@ -37,7 +37,7 @@ pub fn areas_are_sojourns()
     ensures { AreasAreSojourns }
 {}
 
-/// A node alone lets out the recurrence of its kind over its visits, in the order of leaving.
+/// A node alone lets out the recurrence of its kind over its visits, in emission order.
 pub fn nodes_flow_alone()
     ensures { NodesFlowAlone }
 {}
@@ -90,9 +90,9 @@ pub fn rows_tell_demands()
     ensures { RowsTellDemands }
 {}
 
-/// The totals of a node are those of its columns.
-pub fn totals_are_columns()
-    ensures { TotalsAreColumns }
+/// The totals of a node are those of its sequences.
+pub fn totals_are_sequences()
+    ensures { TotalsAreSequences }
 {}
 
 /// What leaves by an output is what its stream says.
@@ -100,9 +100,9 @@ pub fn exits_are_streams()
     ensures { ExitsAreStreams }
 {}
 
-/// The span is the greatest time in the columns.
-pub fn span_is_columns()
-    ensures { SpanIsColumns }
+/// The span is the greatest time in the sequences.
+pub fn span_is_sequences()
+    ensures { SpanIsSequences }
 {}
 
 /// Where no node below a rank has a late visit, the first of the node at that rank is the first of all.
@@ -125,20 +125,20 @@ pub fn nodes_flow()
     ensures { NodesFlow }
 {}
 
-/// The visits and the streams of a node are the columns that its jobs and their times of arrival give.
-pub fn nodes_are_columns()
-    ensures { NodesAreColumns }
+/// The visits and the streams of a node are the sequences that its jobs and their times of arrival give.
+pub fn nodes_are_sequences()
+    ensures { NodesAreSequences }
 {}
 
 /// What the visits of a node found, and what leaves by an output, go by the fates of its visits and
 /// the output of each.
-pub fn columns_go_by_fates()
-    ensures { ColumnsGoByFates }
+pub fn sequences_go_by_fates()
+    ensures { SequencesGoByFates }
 {}
 
-/// By which ports jobs came to a node changes nothing in its columns.
-pub fn columns_are_blind()
-    ensures { ColumnsAreBlind }
+/// By which ports jobs came to a node changes nothing in its sequences.
+pub fn sequences_are_blind()
+    ensures { SequencesAreBlind }
 {}
 
 /// The arrivals at a node are the rows of a source, or the streams that it reads, by time.
@@ -146,7 +146,7 @@ pub fn arrivals_are_streams()
     ensures { ArrivalsAreStreams }
 {}
 
-/// To put a stream in the order of leaving keeps how many items it has, and what bounds them.
+/// To put a stream in emission order keeps how many items it has, and what bounds them.
 pub fn orders_keep_items()
     ensures { OrdersKeepItems }
 {}
@@ -171,7 +171,7 @@ pub fn fates_are_in_time()
     ensures { FatesAreInTime }
 {}
 
-/// No visit departs before it came, and the columns of a node have one item a visit.
+/// No visit departs before it came, and the sequences of a node have one item a visit.
 pub fn departs_in_time()
     ensures { DepartsInTime }
 {}
@@ -186,22 +186,22 @@ pub fn visits_are_few()
     ensures { VisitsAreFew }
 {}
 
-/// A run in columns has the columns of each node at its place.
-pub fn runs_have_columns()
-    ensures { RunsHaveColumns }
+/// A run in sequences has the sequences of each node at its index.
+pub fn runs_have_sequences()
+    ensures { RunsHaveSequences }
 {}
 
-/// As many columns as there are nodes, with those of each node at its place, are the run in columns.
-pub fn columns_make_runs()
-    ensures { ColumnsMakeRuns }
+/// As many sequences as there are nodes, with those of each node at its index, are the run in sequences.
+pub fn sequences_make_runs()
+    ensures { SequencesMakeRuns }
 {}
 
-/// The streams of a node have that of each output at its place.
+/// The streams of a node have that of each output at its index.
 pub fn outputs_have_streams()
     ensures { OutputsHaveStreams }
 {}
 
-/// As many streams as there are outputs, with that of each at its place, are the streams of a node.
+/// As many streams as there are outputs, with that of each at its index, are the streams of a node.
 pub fn streams_make_outputs()
     ensures { StreamsMakeOutputs }
 {}
@@ -213,7 +213,7 @@ pub fn departures_are_bounded()
     ensures { DeparturesAreBounded }
 {
     arrivals_are_streams();
-    nodes_are_columns();
+    nodes_are_sequences();
     rows_tell_demands();
     visits_are_few();
     jobs_are_rows();

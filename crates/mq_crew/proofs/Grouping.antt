@@ -5,7 +5,7 @@ use Rattle.std.proofs.lemmas.Bool.{cases_lt}
 use Rattle.std.proofs.lemmas.List.{get_or-drop, get_or-take, length-take-le}
 use Rattle.std.proofs.lemmas.Option.{slice_get_within}
 use Rattle.std.proofs.Math.Seq.{drop-cons}
-use Rattle.mq_crew.specs.Crew.{AreAll, AreGroups, IsPieceOf, all_places}
+use Rattle.mq_crew.specs.Crew.{AreAll, AreGroups, IsPieceOf, total_size}
 
 -- one item more, of what is taken
 drop-step : {X : Type 0} (xs : List X) (n : ℕ) (x : X) (rest : List X) → drop n xs ≡ x ∷ rest → (take (suc n) xs ≡ take n xs ++ x ∷ []) × (drop (suc n) xs ≡ rest)
@@ -22,12 +22,12 @@ taken-more xs n x left left' done done' a b c d =
       sym step.1 ∙ ap (λ m. drop m xs) next,
     )
 
-module _ {P X : Type 0} (places : P → ℕ) (is_piece : P → ℕ → X → Type 0) where
+module _ {P X : Type 0} (size : P → ℕ) (is_piece : P → ℕ → X → Type 0) where
   -- the first of these takes the first pieces, and the others have the rest
-  pub first-group : (part : P) (parts : List P) (items : List X) → AreAll (IsPieceOf places is_piece (part ∷ parts)) (places part + all_places places parts) items →
-      AreAll (is_piece part) (places part) (take (places part) items) × AreAll (IsPieceOf places is_piece parts) (all_places places parts) (drop (places part) items)
+  pub first-group : (part : P) (parts : List P) (items : List X) → AreAll (IsPieceOf size is_piece (part ∷ parts)) (size part + total_size size parts) items →
+      AreAll (is_piece part) (size part) (take (size part) items) × AreAll (IsPieceOf size is_piece parts) (total_size size parts) (drop (size part) items)
   first-group part parts items all =
-      let n = places part in
+      let n = size part in
       let long = all.len in (
         record {
           len = length-take-le n items (omega arith);
@@ -38,13 +38,13 @@ module _ {P X : Type 0} (places : P → ℕ) (is_piece : P → ℕ → X → Typ
           each = λ b d l.
               let at = (all.each (n + b) d (omega arith)).1 (omega arith) in
               let back : (n + b) - n ≡ b = omega arith in
-              subst (λ (z : ℕ × X). IsPieceOf places is_piece parts z.0 z.1) (λ k. (back k, sym (get_or-drop n items b d) k)) at;
+              subst (λ (z : ℕ × X). IsPieceOf size is_piece parts z.0 z.1) (λ k. (back k, sym (get_or-drop n items b d) k)) at;
         },
       )
 
   -- one group more
-  pub group-more : (parts : List P) (i : ℕ) (part : P) (groups groups' : List (List X)) (group : List X) → slice_get parts i ≡ Some part → AreGroups places is_piece (take i parts) groups → AreAll (is_piece part) (places part) group → groups' ≡ groups ++ group ∷ [] →
-      AreGroups places is_piece (take (i + 1) parts) groups'
+  pub group-more : (parts : List P) (i : ℕ) (part : P) (groups groups' : List (List X)) (group : List X) → slice_get parts i ≡ Some part → AreGroups size is_piece (take i parts) groups → AreAll (is_piece part) (size part) group → groups' ≡ groups ++ group ∷ [] →
+      AreGroups size is_piece (take (i + 1) parts) groups'
   group-more parts i part groups groups' group at all own e =
       let inside = slice_get_within parts i part at in
       let before : length (take i parts) ≡ i = length-take-le i parts (omega arith) in
@@ -78,7 +78,7 @@ module _ {P X : Type 0} (places : P → ℕ) (is_piece : P → ℕ → X → Typ
       append-at [] y = refl
       append-at (x ∷ xs) y = append-at xs y
 
-      go : (k : ℕ) (other : P) (g : List X) → (k < i + 1) × (slice_get parts k ≡ Some other) → slice_get (groups ++ group ∷ []) k ≡ Some g → (k < i) ⊎ (i ≤ k) → AreAll (is_piece other) (places other) g
+      go : (k : ℕ) (other : P) (g : List X) → (k < i + 1) × (slice_get parts k ≡ Some other) → slice_get (groups ++ group ∷ []) k ≡ Some g → (k < i) ⊎ (i ≤ k) → AreAll (is_piece other) (size other) g
       go k other g a b (inl less) =
           let long = slice_get_within parts i part at in
           let before : length (take i parts) ≡ i = length-take-le i parts (omega arith) in
@@ -94,7 +94,7 @@ module _ {P X : Type 0} (places : P → ℕ) (is_piece : P → ℕ → X → Typ
           let is-group : Some group ≡ Some g = sym (append-at groups group) ∙ (ap (slice_get (groups ++ group ∷ [])) (count ∙ sym same) ∙ b) in
           let p : part ≡ other = cc in
           let q : group ≡ g = cc in
-          subst (λ (z : P × List X). AreAll (is_piece z.0) (places z.0) z.1) (λ j. (p j, q j)) own
+          subst (λ (z : P × List X). AreAll (is_piece z.0) (size z.0) z.1) (λ j. (p j, q j)) own
 
   -- a part, and those behind it
   pub part-here : (parts : List P) (i : ℕ) (part : P) → i < length parts → part ≡ get_or parts i part → drop i parts ≡ part ∷ drop (i + 1) parts
@@ -104,6 +104,6 @@ module _ {P X : Type 0} (places : P → ℕ) (is_piece : P → ℕ → X → Typ
       next = omega arith
 
   -- the pieces that are left, taken apart
-  pub rest-apart : (parts : List P) (i : ℕ) (part : P) (items : List X) → drop i parts ≡ part ∷ drop (i + 1) parts → AreAll (IsPieceOf places is_piece (drop i parts)) (all_places places (drop i parts)) items →
-      AreAll (IsPieceOf places is_piece (part ∷ drop (i + 1) parts)) (places part + all_places places (drop (i + 1) parts)) items
-  rest-apart parts i part items e all = subst (λ (l : List P). AreAll (IsPieceOf places is_piece l) (all_places places l) items) e all
+  pub rest-apart : (parts : List P) (i : ℕ) (part : P) (items : List X) → drop i parts ≡ part ∷ drop (i + 1) parts → AreAll (IsPieceOf size is_piece (drop i parts)) (total_size size (drop i parts)) items →
+      AreAll (IsPieceOf size is_piece (part ∷ drop (i + 1) parts)) (size part + total_size size (drop (i + 1) parts)) items
+  rest-apart parts i part items e all = subst (λ (l : List P). AreAll (IsPieceOf size is_piece l) (total_size size l) items) e all

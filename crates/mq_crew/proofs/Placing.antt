@@ -1,4 +1,4 @@
--- Pieces that are put at their places.
+-- Pieces that are put at their indices.
 use Rattle.std.proofs.Common.{◌≡◌, ℕ, zero, suc, ◌+◌, ◌<◌, ◌⊎◌, Option, Some, None, IsSome, is_some, List, [], ◌∷◌, ◌++◌, length, get_or, set, refl, sym, ap, ◌∙◌, subst, inl, inr, ⊎_elim, arith, All, Contains, length-set, get_or-set_other, get_or-set_same, append_assoc}
 use Rattle.std.proofs.lemmas.List.{map-append}
 use Rattle.std.proofs.Math.Seq.{get_or-append_seam}
@@ -24,7 +24,7 @@ none-some : {Y : Type 0} (a : Y) → None ≡ Some a → ⊥
 none-some a e = cc
 
 module _ {X : Type 0} (count : ℕ) (all : List (ℕ × X)) where
-  -- what is left are the first of all, and what stands at a place came with its number
+  -- what is left are the first of all, and what stands at an index came with its number
   pub record IsPlacing (left : List (ℕ × X)) (slots : List (Option X)) : Type 0 where
     pub len : length slots ≡ count
     pub rest : (r : List (ℕ × X)) × (all ≡ left ++ r)
@@ -53,11 +53,11 @@ module _ {X : Type 0} (count : ℕ) (all : List (ℕ × X)) where
             (λ ne. w.own x q (sym (get_or-set_other slots n x (Some p) None ne) ∙ e));
       }
 
-  -- where nothing is left, each place has an item
+  -- where nothing is left, each index has an item
   pub place-all : (slots : List (Option X)) → IsPlacing [] slots → (x : ℕ) → x < count → IsSome (get_or slots x None)
   place-all slots w x lt = ⊎_elim (λ (k, less, e). absurd (omega arith)) (λ h. h) (w.filled x lt)
 
--- a place that is taken out, and what was taken put behind the items
+-- an index that is taken out, and what was taken put behind the items
 pub taken : {X : Type 0} (first slots : List (Option X)) (items : List X) (i : ℕ) (p : X) → length items ≡ i → get_or first i None ≡ Some p
     → ((x : ℕ) (d : X) → x < i → get_or first x None ≡ Some (get_or items x d)) → (x : ℕ) (d : X) → x < i + 1 → get_or first x None ≡ Some (get_or (items ++ p ∷ []) x d)
 taken first slots items i p len at all x d lt = dite (ℕ_discrete x i)

@@ -89,7 +89,7 @@ module _ {X : Type 0} (is_piece : ℕ → X → Type 0) (count : ℕ) where
     ended = omega (arith, weigh-append (λ y. if nat_le count y then 1 else 0) a b, m.ended);
   }
 
-  -- each place has a piece that was made
+  -- each index has a piece that was made
   pub all-made : (ds : List ℕ) (made : List (ℕ × X)) → IsAllBelow ds → IsMadeOf is_piece count ds made → (x : ℕ) → x < count → Contains (numbers made) x
   all-made ds made all m x less =
       let some_late = late-some count ds m.ended in
@@ -128,7 +128,7 @@ module _ {X : Type 0} (is_piece : ℕ → X → Type 0) (count : ℕ) where
   both-made items (Ok x) (Ok y) (Ok v) ds es cs all put a b =
       subst (λ (z : List ℕ × List (ℕ × X)). IsMadeOf is_piece count z.0 z.1) (λ i. (sym all i, sym put i)) (made-both ds es (items x) (items y) a b)
 
-  -- what was put at the places are the pieces
+  -- what was put at the indices are the pieces
   pub all-placed : {E : Type 0} (made : List (ℕ × X)) (r : Result (List X) E) → All (λ p. is_piece p.0 p.1) made
       → IfOk r (λ l. length l ≡ count) → IfOk r (λ l. (x : ℕ) (d : X) → x < count → Contains made (x, get_or l x d)) → IfOk r (λ l. AreAll is_piece count l)
   all-placed made (Err e) pieces len own = tt

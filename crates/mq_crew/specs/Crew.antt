@@ -16,24 +16,24 @@ module _ {X : Type 0} where
     pub pieces : All (λ p. is_piece p.0 p.1) made
     pub ended : 1 ≤ late count draws
 
-  -- there is one item for each place, and each is the piece of its place
+  -- there is one item for each index, and each is the piece of its index
   pub record AreAll (is_piece : ℕ → X → Type 0) (count : ℕ) (items : List X) : Type 0 where
     pub len : length items ≡ count
     pub each : (b : ℕ) (d : X) → b < count → is_piece b (slice_index_or items b d)
 
-module _ {P : Type 0} (places : P → ℕ) where
-  -- how many places these have together
-  abbrev pub all_places : List P → ℕ
-  all_places [] = 0
-  all_places (part ∷ parts) = places part + all_places parts
+module _ {P : Type 0} (size : P → ℕ) where
+  -- how many pieces these have together
+  abbrev pub total_size : List P → ℕ
+  total_size [] = 0
+  total_size (part ∷ parts) = size part + total_size parts
 
-module _ {P X : Type 0} (places : P → ℕ) (is_piece : P → ℕ → X → Type 0) where
-  -- the piece at a place of these, whose places follow one another
+module _ {P X : Type 0} (size : P → ℕ) (is_piece : P → ℕ → X → Type 0) where
+  -- the piece at an index of these, whose indices follow one another
   abbrev pub IsPieceOf : List P → ℕ → X → Type 0
   IsPieceOf [] b piece = ⊥
-  IsPieceOf (part ∷ parts) b piece = (b < places part → is_piece part b piece) × (places part ≤ b → IsPieceOf parts (b - places part) piece)
+  IsPieceOf (part ∷ parts) b piece = (b < size part → is_piece part b piece) × (size part ≤ b → IsPieceOf parts (b - size part) piece)
 
   -- the pieces of each of these, in its own list
   pub record AreGroups (parts : List P) (groups : List (List X)) : Type 0 where
     pub len : length groups ≡ length parts
-    pub each : (i : ℕ) (part : P) (group : List X) → slice_get parts i ≡ Some part → slice_get groups i ≡ Some group → AreAll (is_piece part) (places part) group
+    pub each : (i : ℕ) (part : P) (group : List X) → slice_get parts i ≡ Some part → slice_get groups i ≡ Some group → AreAll (is_piece part) (size part) group

@@ -4,7 +4,7 @@ ghost use Rattle.std.specs.Thread.{IsSync, IsSend};
 ghost use Rattle.mq_claims.specs.Seats.{IsSeatOf};
 ghost use Rattle.mq_crew.specs.Crew.{IsMadeOf, AreAll};
 
-use crate::place::{merged, placed};
+use crate::order::{merged, placed};
 use crate::{Gate, Pieces};
 use mq_base::{List, OutOfMemory};
 use mq_claims::{ClaimSeat, Claims};
@@ -22,10 +22,10 @@ fn work<P: Pieces, G: Gate>(
 ) -> (ClaimSeat, Result<Vec<(u32, P::Piece)>, OutOfMemory>)
     requires fit { P.fit pieces.now }
     requires own { IsSeatOf claims.now seat }
-    requires limit { claims.now.limit ≡ P.places pieces.now }
+    requires limit { claims.now.limit ≡ P.size pieces.now }
     requires fresh { seat.draws ≡ [] }
     ensures seat { (result.0.table ≡ seat.table) × (result.0.right ≡ seat.right) }
-    ensures made { IfOk result.1 (λ v. IsMadeOf (P.is_piece pieces.now) (P.places pieces.now) result.0.draws v.items) }
+    ensures made { IfOk result.1 (λ v. IsMadeOf (P.is_piece pieces.now) (P.size pieces.now) result.0.draws v.items) }
 {
     let count = pieces.count();
     let mut made = Vec::new(alloc);
@@ -63,10 +63,10 @@ fn crew<P: Pieces, G: Gate, R: Threads + Sync>(
     requires room { first + workers ≤ 64 }
     requires own { IsSeatOf claims.now seat }
     requires right { seat.right ≡ workers }
-    requires limit { claims.now.limit ≡ P.places pieces.now }
+    requires limit { claims.now.limit ≡ P.size pieces.now }
     requires fresh { seat.draws ≡ [] }
     ensures seat { (result.0.table ≡ seat.table) × (result.0.right ≡ seat.right) }
-    ensures made { IfOk result.1 (λ v. IsMadeOf (P.is_piece pieces.now) (P.places pieces.now) result.0.draws v.items) }
+    ensures made { IfOk result.1 (λ v. IsMadeOf (P.is_piece pieces.now) (P.size pieces.now) result.0.draws v.items) }
 {
     if workers == 1 {
         return work(alloc, claims, seat, first, pieces, gate);
@@ -75,19 +75,19 @@ fn crew<P: Pieces, G: Gate, R: Threads + Sync>(
     let low = workers - high;
     let other = claims.split(&mut seat, high);
     let front = move || -> (ClaimSeat, Result<Vec<(u32, P::Piece)>, OutOfMemory>)
-        requires { IsSync R.row × IsSync P.row × IsSync G.row × IsSend P.Piece.row × P.fit pieces.now × (1 ≤ low) × (first + low ≤ 64) × IsSeatOf claims.now seat × (seat.right ≡ low) × (claims.now.limit ≡ P.places pieces.now) × (seat.draws ≡ []) }
-        ensures { (result.0.table ≡ seat.table) × (result.0.right ≡ seat.right) × IfOk result.1 (λ v. IsMadeOf (P.is_piece pieces.entry.now) (P.places pieces.entry.now) result.0.draws v.items) }
+        requires { IsSync R.row × IsSync P.row × IsSync G.row × IsSend P.Piece.row × P.fit pieces.now × (1 ≤ low) × (first + low ≤ 64) × IsSeatOf claims.now seat × (seat.right ≡ low) × (claims.now.limit ≡ P.size pieces.now) × (seat.draws ≡ []) }
+        ensures { (result.0.table ≡ seat.table) × (result.0.right ≡ seat.right) × IfOk result.1 (λ v. IsMadeOf (P.is_piece pieces.entry.now) (P.size pieces.entry.now) result.0.draws v.items) }
     { crew(rt, alloc, claims, seat, first, low, pieces, gate) };
     let back = move || -> (ClaimSeat, Result<Vec<(u32, P::Piece)>, OutOfMemory>)
-        requires { IsSync R.row × IsSync P.row × IsSync G.row × IsSend P.Piece.row × P.fit pieces.now × (1 ≤ high) × (first + low + high ≤ 64) × IsSeatOf claims.now other × (other.right ≡ high) × (claims.now.limit ≡ P.places pieces.now) × (other.draws ≡ []) }
-        ensures { (result.0.table ≡ other.table) × (result.0.right ≡ other.right) × IfOk result.1 (λ v. IsMadeOf (P.is_piece pieces.entry.now) (P.places pieces.entry.now) result.0.draws v.items) }
+        requires { IsSync R.row × IsSync P.row × IsSync G.row × IsSend P.Piece.row × P.fit pieces.now × (1 ≤ high) × (first + low + high ≤ 64) × IsSeatOf claims.now other × (other.right ≡ high) × (claims.now.limit ≡ P.size pieces.now) × (other.draws ≡ []) }
+        ensures { (result.0.table ≡ other.table) × (result.0.right ≡ other.right) × IfOk result.1 (λ v. IsMadeOf (P.is_piece pieces.entry.now) (P.size pieces.entry.now) result.0.draws v.items) }
     { crew(rt, alloc, claims, other, first + low, high, pieces, gate) };
     let ((mut mine, a), (its, b)) = join(rt, front, back);
     claims.join(&mut mine, its);
     (mine, merged(a, b))
 }
 
-/// All pieces, each at its place, made by 1 to 64 workers that draw the numbers of places. Each worker
+/// All pieces, each at its index, made by 1 to 64 workers that draw the indices. Each worker
 /// enters the gate with a number that it drew, and then makes that piece. It refuses for want of
 /// memory alone.
 pub fn run_pieces<P: Pieces, G: Gate, R: Threads + Sync>(
@@ -100,7 +100,7 @@ pub fn run_pieces<P: Pieces, G: Gate, R: Threads + Sync>(
     requires fit { P.fit pieces.now }
     requires some { 1 ≤ workers }
     requires most { workers ≤ 64 }
-    ensures { IfOk result (λ l. AreAll (P.is_piece pieces.now) (P.places pieces.now) l) }
+    ensures { IfOk result (λ l. AreAll (P.is_piece pieces.now) (P.size pieces.now) l) }
 {
     let count = pieces.count();
     let (claims, seat) = Claims::new(alloc, count, workers)?;
@@ -121,7 +121,7 @@ pub fn made<P: Pieces, G: Gate, R: Threads + Sync>(
     requires fit { P.fit pieces.now }
     requires some { 1 ≤ workers }
     requires most { workers ≤ 64 }
-    ensures { IfOk result (λ made. AreAll (P.is_piece pieces.now) (P.places pieces.now) made) }
+    ensures { IfOk result (λ made. AreAll (P.is_piece pieces.now) (P.size pieces.now) made) }
 {
     let count = pieces.count();
     if count > 1 {

@@ -3,12 +3,12 @@
 
 mod crew;
 mod gate;
+mod order;
 mod parts;
 mod pieces;
-mod place;
 
 pub use crew::{made, run_pieces};
 pub use gate::{Gate, Open};
+pub use order::{merged, placed};
 pub use parts::run_parts;
 pub use pieces::Pieces;
-pub use place::{merged, placed};

@@ -2,7 +2,7 @@
 ghost use Rattle.std.specs.Prelude.{◌≡◌, ◌<◌, ◌≤◌, ◌^◌, drop, length, take, IfOk, OnOk};
 ghost use Rattle.std.specs.List.{AllByRecursion};
 ghost use Rattle.std.specs.Vec.Iter.{into_iter_items, into_iter_len};
-ghost use Rattle.mq_crew.specs.Crew.{AreAll, AreGroups, IsPieceOf, all_places};
+ghost use Rattle.mq_crew.specs.Crew.{AreAll, AreGroups, IsPieceOf, total_size};
 
 use crate::{Gate, Pieces, made};
 use mq_base::{List, OutOfMemory};
@@ -19,11 +19,11 @@ struct Parts<'a, P> {
 impl<'a, P: Pieces> Pieces for Parts<'a, P> {
     type Piece = P::Piece;
 
-    ghost fit = { λ s. AllByRecursion P.fit s.parts.now × (all_places P.places s.parts.now < 2 ^ 32) };
+    ghost fit = { λ s. AllByRecursion P.fit s.parts.now × (total_size P.size s.parts.now < 2 ^ 32) };
 
-    ghost places = { λ s. all_places P.places s.parts.now };
+    ghost size = { λ s. total_size P.size s.parts.now };
 
-    ghost is_piece = { λ s b piece. IsPieceOf P.places P.is_piece s.parts.now b piece };
+    ghost is_piece = { λ s b piece. IsPieceOf P.size P.is_piece s.parts.now b piece };
 
     fn count(&self) -> u32 {
         let mut count = 0;
@@ -46,9 +46,9 @@ impl<'a, P: Pieces> Pieces for Parts<'a, P> {
     }
 }
 
-/// All pieces of each of these parts, in a list of its own, made as one list: the places of the first
+/// All pieces of each of these parts, in a list of its own, made as one list: the indices of the first
 /// part come first, and those of the others follow. There are 1 to 64 workers, and fewer than 2^32
-/// places. It refuses for want of memory alone.
+/// indices. It refuses for want of memory alone.
 pub fn run_parts<P: Pieces, G: Gate, R: Threads + Sync>(
     rt: &R,
     alloc: Global,
@@ -57,10 +57,10 @@ pub fn run_parts<P: Pieces, G: Gate, R: Threads + Sync>(
     gate: &G,
 ) -> Result<List<List<P::Piece>>, OutOfMemory>
     requires fit { AllByRecursion P.fit parts.now }
-    requires few { all_places P.places parts.now < 2 ^ 32 }
+    requires few { total_size P.size parts.now < 2 ^ 32 }
     requires some { 1 ≤ workers }
     requires most { workers ≤ 64 }
-    ensures { IfOk result (λ groups. AreGroups P.places P.is_piece parts.now groups) }
+    ensures { IfOk result (λ groups. AreGroups P.size P.is_piece parts.now groups) }
 {
     let made = made(rt, alloc, workers, &Parts { parts }, gate)?;
     grouped(alloc, parts, made)
@@ -73,8 +73,8 @@ fn grouped<P: Pieces>(
     made: List<P::Piece>,
 ) -> Result<List<List<P::Piece>>, OutOfMemory>
     requires fit { AllByRecursion P.fit parts.now }
-    requires all { AreAll (IsPieceOf P.places P.is_piece parts.now) (all_places P.places parts.now) made }
-    ensures { IfOk result (λ groups. AreGroups P.places P.is_piece parts.now groups) }
+    requires all { AreAll (IsPieceOf P.size P.is_piece parts.now) (total_size P.size parts.now) made }
+    ensures { IfOk result (λ groups. AreGroups P.size P.is_piece parts.now groups) }
 {
     let mut left = made.into_vec().into_iter();
     let mut groups = List::new(alloc);

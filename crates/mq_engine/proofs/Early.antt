@@ -3,13 +3,13 @@ use Rattle.std.proofs.Common.{◌≡◌, ℕ, suc, ◌^◌, ◌≤◌, Bool, tru
 use Rattle.std.specs.Prelude.{slice_get}
 use Rattle.std.specs.List.{AllByRecursion as Each, flat_map, zip}
 use Rattle.mq_base.proofs.lemmas.Each.{Each-append}
-use Rattle.mq_core.specs.Columns.{IsStream, by_first, leaving_times, pairs_of, picked, rows_at, time_of_fate}
+use Rattle.mq_core.specs.Sequences.{IsStream, by_first, leaving_times, pairs_of, picked, rows_at, time_of_fate}
 use Rattle.mq_core.specs.Laws.{insert_by}
 use Rattle.mq_core.specs.declared.model.Fate.{Fate}
 use Rattle.mq_core.specs.declared.model.Fate.TheVariants.{Departs, Lost}
 use Rattle.mq_core.specs.declared.model.Input.{Input}
 use Rattle.mq_core.specs.declared.model.Stream.{Stream}
-use Rattle.mq_engine.specs.Turns.{AreEarly, pairs_by, pairs_in, pairs_read}
+use Rattle.mq_engine.specs.Working.{AreEarly, pairs_by, pairs_in, pairs_read}
 use Rattle.mq_engine.proofs.Lists.{zip-first}
 
 abbrev Pairs : Type 0

@@ -6,7 +6,7 @@ use Rattle.std.specs.List.{list_all}
 use Rattle.std.proofs.lemmas.Bool.{cases_lt}
 use Rattle.std.proofs.lemmas.Option.{slice_get-map, slice_get_within}
 use Rattle.mq_base.proofs.lemmas.Lists.{some_inj}
-use Rattle.mq_core.specs.Columns.{IsRunOf}
+use Rattle.mq_core.specs.Sequences.{IsRunOf}
 use Rattle.mq_core.specs.NumberLaws.{IsOnTimeBelow}
 use Rattle.mq_core.specs.Results.{past_of}
 use Rattle.mq_core.specs.Theorems.{IsReadFor}
@@ -22,7 +22,7 @@ use Rattle.mq_engine.specs.Progress.{AreWithin, IsReached, is_done, is_read, is_
 use Rattle.mq_engine.specs.declared.fault.PastFault.{PastFault}
 use Rattle.mq_engine.specs.declared.progress.Stand.{Stand}
 use Rattle.mq_engine.specs.declared.progress.Stand.TheVariants.{Waiting, Done, Late}
-use Rattle.mq_engine.proofs.Lists.{filter-none, get-take, has-place}
+use Rattle.mq_engine.proofs.Lists.{filter-none, get-take, has-index}
 
 get-some : {X : Type 0} (xs : List X) (i : ℕ) → i < length xs → (x : X) × (slice_get xs i ≡ Some x)
 get-some [] i l = absurd (omega arith)
@@ -61,9 +61,9 @@ module _ (laws : CoreLaws) (plan : Plan) (rows : Rows) (read : IsReadFor plan.ne
       let node = get-some plan.net.nodes v (laws.ranks plan rank v e).inside in
       let reads : list_all (is_read stands) node.0.inputs ≡ true = all-pass (is_read stands) node.0.inputs (λ port input g.
       let before = (laws.ranks plan rank v e).reads port (input.node, input.out) (ap (λ o. slice_get (outputs_read o) port) node.1 ∙ (slice_get-map _ node.0.inputs port ∙ ap (option_map (λ (i : Input). (i.node, i.out))) g)) in
-      let place = has-place (take rank plan.order) input.node before in
-      let front = get-take plan.order rank place.0 input.node place.1 in
-      ap (stands_at is_done) (below place.0 input.node front.0 front.1)) in
+      let index = has-index (take rank plan.order) input.node before in
+      let front = get-take plan.order rank index.0 input.node index.1 in
+      ap (stands_at is_done) (below index.0 input.node front.0 front.1)) in
       let ready : is_ready plan.net.nodes stands v ≡ true = (λ k. stands_at is_waiting (at k) && reads_done stands (node.1 k)) ∙ reads in
       let fails = filter-none (is_ready plan.net.nodes stands) plan.order rank v stuck e in
       absurd cc
@@ -84,8 +84,8 @@ module _ (laws : CoreLaws) (plan : Plan) (rows : Rows) (read : IsReadFor plan.ne
     run-done =
         laws.runs plan rows (record { visits = visits; outputs = outputs }) r.came r.left
         (λ v node e.
-        let place = has-place plan.order v (plan.whole v (slice_get_within plan.net.nodes v node e)) in
-        (r.told v node Done e (all place.0 v (slice_get_within plan.order place.0 v place.1) place.1)).0)
+        let index = has-index plan.order v (plan.whole v (slice_get_within plan.net.nodes v node e)) in
+        (r.told v node Done e (all index.0 v (slice_get_within plan.order index.0 v index.1) index.1)).0)
 
     pub none-late : past_of plan rows ≡ None
     none-late = laws.none plan rows read (on-time-below (length plan.order) all)

@@ -12,21 +12,21 @@ use Rattle.mq_scan.specs.declared.blocks.Blocks.{Blocks}
 use Rattle.mq_engine.specs.declared.loads.Scan.{Scan}
 use Rattle.mq_engine.specs.declared.loads.Scan.TheVariants.{OfServer, OfTandem, Unscanned}
 use Rattle.mq_engine.proofs.Lists.{Each-at}
-use Rattle.mq_engine.specs.Loads.{IsApplied, IsClosed, IsLoaded, IsLoadOf, IsScanOf, IsPart, IsReadyExit, IsReadyLoad, IsReadyMiddle, IsTurnOf, applied_of, blocks_of, closings_of}
+use Rattle.mq_engine.specs.Loads.{IsApplied, IsClosed, IsLoaded, IsLoadOf, IsScanOf, IsPart, IsReadyExit, IsReadyLoad, IsReadyMiddle, IsResultOf, applied_of, blocks_of, closings_of}
 use Rattle.mq_engine.specs.Progress.{IsWorkedOut}
 use Rattle.mq_engine.specs.declared.exits.Closed.{Closed}
 use Rattle.mq_engine.specs.declared.exits.Exit.{Exit}
 use Rattle.mq_engine.specs.declared.exits.Exit.TheVariants.{Known, Served}
-use Rattle.mq_engine.specs.declared.exits.Leaving.{Leaving}
+use Rattle.mq_engine.specs.declared.exits.Emptied.{Emptied}
 use Rattle.mq_engine.specs.declared.firsts.Part.{Part}
 use Rattle.mq_engine.specs.declared.middles.Middle.{Middle}
 use Rattle.mq_engine.specs.declared.loads.Load.{Load}
-use Rattle.mq_engine.specs.declared.turns.Turn.{Turn}
+use Rattle.mq_engine.specs.declared.working.NodeResult.{NodeResult}
 use Rattle.std.proofs.lemmas.Option.{get_or_from_slice_get, slice_get_within}
 use Rattle.std.proofs.lemmas.Bool.{cases_lt}
 use Rattle.std.proofs.lemmas.List.{get_or_default}
 use Rattle.std.proofs.Math.Nat.{mul-le-mul_left}
-use Rattle.mq_crew.specs.Crew.{AreAll, AreGroups, all_places}
+use Rattle.mq_crew.specs.Crew.{AreAll, AreGroups, total_size}
 
 append-before : {Y : Type 0} (xs : List Y) (y z : Y) (k : ℕ) → slice_get xs k ≡ Some z → slice_get (xs ++ y ∷ []) k ≡ Some z
 append-before [] y z k e = absurd cc
@@ -39,9 +39,9 @@ append-at [] y (suc k) e = absurd (omega arith)
 append-at (x ∷ xs) y zero e = absurd (omega arith)
 append-at (x ∷ xs) y (suc k) e = append-at xs y k (omega arith)
 
-module _ {P X : Type 0} (places : P → ℕ) (is_piece : P → ℕ → X → Type 0) where
+module _ {P X : Type 0} (size : P → ℕ) (is_piece : P → ℕ → X → Type 0) where
   -- the last station and the last group belong together
-  pub groups-last : (parts : List P) (part : P) (groups : List (List X)) (group : List X) → AreGroups places is_piece (parts ++ part ∷ []) (groups ++ group ∷ []) → AreGroups places is_piece parts groups × AreAll (is_piece part) (places part) group
+  pub groups-last : (parts : List P) (part : P) (groups : List (List X)) (group : List X) → AreGroups size is_piece (parts ++ part ∷ []) (groups ++ group ∷ []) → AreGroups size is_piece parts groups × AreAll (is_piece part) (size part) group
   groups-last parts part groups group all =
       let a = length-append parts (part ∷ []) in
       let b = length-append groups (group ∷ []) in
@@ -58,15 +58,15 @@ module _ {P X : Type 0} (places : P → ℕ) (is_piece : P → ℕ → X → Typ
   module _ {Y : Type 0} (Fit : P → Type 0) (Made : Y → Type 0) (Of : Plan → Rows → List ℕ → P → Type 0) (Becomes : Plan → Rows → List ℕ → Y → Type 0) where
     pub record ArePassing (all left : List P) (given : List (List X)) (done : List Y) : Type 0 where
       pub fits : AllByRecursion Fit left
-      pub groups : AreGroups places is_piece left given
+      pub groups : AreGroups size is_piece left given
       pub len : length done + length left ≡ length all
       pub made : AllByRecursion Made done
       pub of : (plan : Plan) (rows : Rows) (ready : List ℕ) → AllByRecursion (Of plan rows ready) all → AllByRecursion (Of plan rows ready) left × AllByRecursion (Becomes plan rows ready) done
 
-    pub passing-last : (all left rest : List P) (part : P) (given others : List (List X)) (group : List X) (done : List Y) → ArePassing all left given done → left ≡ rest ++ part ∷ [] → given ≡ others ++ group ∷ [] → Fit part × AreAll (is_piece part) (places part) group
+    pub passing-last : (all left rest : List P) (part : P) (given others : List (List X)) (group : List X) (done : List Y) → ArePassing all left given done → left ≡ rest ++ part ∷ [] → given ≡ others ++ group ∷ [] → Fit part × AreAll (is_piece part) (size part) group
     passing-last all left rest part given others group done was a b = (
       (Each-back Fit rest (part ∷ []) (subst (AllByRecursion Fit) a was.fits)).0,
-      (groups-last rest part others group (subst (λ (z : List P × List (List X)). AreGroups places is_piece z.0 z.1) (λ k. (a k, b k)) was.groups)).1,
+      (groups-last rest part others group (subst (λ (z : List P × List (List X)). AreGroups size is_piece z.0 z.1) (λ k. (a k, b k)) was.groups)).1,
     )
 
     pub passing-more : (all left rest : List P) (part : P) (given others : List (List X)) (group : List X) (done done' : List Y) (y : Y) → ArePassing all left given done → left ≡ rest ++ part ∷ [] → given ≡ others ++ group ∷ [] → Made y →
@@ -74,7 +74,7 @@ module _ {P X : Type 0} (places : P → ℕ) (is_piece : P → ℕ → X → Typ
     passing-more all left rest part given others group done done' y was a b made becomes e =
         record {
           fits = Each-front Fit rest (part ∷ []) (subst (AllByRecursion Fit) a was.fits);
-          groups = (groups-last rest part others group (subst (λ (z : List P × List (List X)). AreGroups places is_piece z.0 z.1) (λ k. (a k, b k)) was.groups)).0;
+          groups = (groups-last rest part others group (subst (λ (z : List P × List (List X)). AreGroups size is_piece z.0 z.1) (λ k. (a k, b k)) was.groups)).0;
           len =
               let count = was.len in
               let more = ap length e in
@@ -93,43 +93,43 @@ module _ {P X : Type 0} (places : P → ℕ) (is_piece : P → ℕ → X → Typ
         }
 
 -- the stations of a wave, stage by stage
-abbrev pub load_places : Load → ℕ
-load_places load = blocks_of load.scan
+abbrev pub load_size : Load → ℕ
+load_size load = blocks_of load.scan
 
 abbrev pub load_piece : Load → ℕ → Part → Type 0
 load_piece load b part = IsPart load.plan.now load.rows.now load.number load.arrivals load.scan b part
 
-abbrev pub middle_places : Middle → ℕ
-middle_places m = applied_of m.load.scan
+abbrev pub middle_size : Middle → ℕ
+middle_size m = applied_of m.load.scan
 
 abbrev pub middle_piece : Middle → ℕ → List ℕ → Type 0
 middle_piece m b times = IsApplied m.load.arrivals m.load.scan b times
 
-abbrev pub leaving_places : Leaving → ℕ
-leaving_places l = closings_of l.exit
+abbrev pub emptied_size : Emptied → ℕ
+emptied_size l = closings_of l.exit
 
-abbrev pub leaving_piece : Leaving → ℕ → Closed → Type 0
-leaving_piece l b closed = IsClosed l.load.plan.now l.load.rows.now l.load.number l.load.arrivals l.exit b closed
+abbrev pub emptied_piece : Emptied → ℕ → Closed → Type 0
+emptied_piece l b closed = IsClosed l.load.plan.now l.load.rows.now l.load.number l.load.arrivals l.exit b closed
 
 abbrev pub IsMiddleOf : Plan → Rows → List ℕ → Middle → Type 0
 IsMiddleOf plan rows ready m = IsLoadOf plan rows ready m.load
 
-abbrev pub IsLeavingOf : Plan → Rows → List ℕ → Leaving → Type 0
-IsLeavingOf plan rows ready l = IsLoadOf plan rows ready l.load
+abbrev pub IsEmptiedOf : Plan → Rows → List ℕ → Emptied → Type 0
+IsEmptiedOf plan rows ready l = IsLoadOf plan rows ready l.load
 
 abbrev pub AreMiddling : List Load → List Load → List (List Part) → List Middle → Type 0
-AreMiddling = ArePassing load_places load_piece IsReadyLoad IsReadyMiddle IsLoadOf IsMiddleOf
+AreMiddling = ArePassing load_size load_piece IsReadyLoad IsReadyMiddle IsLoadOf IsMiddleOf
 
-abbrev pub AreLeaving : List Middle → List Middle → List (List (List ℕ)) → List Leaving → Type 0
-AreLeaving = ArePassing middle_places middle_piece IsReadyMiddle IsReadyExit IsMiddleOf IsLeavingOf
+abbrev pub AreEmptied : List Middle → List Middle → List (List (List ℕ)) → List Emptied → Type 0
+AreEmptied = ArePassing middle_size middle_piece IsReadyMiddle IsReadyExit IsMiddleOf IsEmptiedOf
 
-abbrev pub AreEnding : List Leaving → List Leaving → List (List Closed) → List Turn → Type 0
-AreEnding = ArePassing leaving_places leaving_piece IsReadyExit (λ turn. Unit {0}) IsLeavingOf IsTurnOf
+abbrev pub AreEnding : List Emptied → List Emptied → List (List Closed) → List NodeResult → Type 0
+AreEnding = ArePassing emptied_size emptied_piece IsReadyExit (λ node_result. Unit {0}) IsEmptiedOf IsResultOf
 
-pub turn-of : (plan : Plan) (rows : Rows) (ready : List ℕ) (l : Leaving) (turn : Turn) → IsLeavingOf plan rows ready l → turn.number ≡ l.load.number → IsWorkedOut l.load.plan.now l.load.rows.now turn → IsTurnOf plan rows ready turn
-turn-of plan rows ready l turn h number known = (
+pub result-of : (plan : Plan) (rows : Rows) (ready : List ℕ) (l : Emptied) (node_result : NodeResult) → IsEmptiedOf plan rows ready l → node_result.number ≡ l.load.number → IsWorkedOut l.load.plan.now l.load.rows.now node_result → IsResultOf plan rows ready node_result
+result-of plan rows ready l node_result h number known = (
   subst (Contains ready) (sym number) h.2,
-  subst (λ (z : Plan × Rows). IsWorkedOut z.0 z.1 turn) (λ k. (h.0 k, h.1 k)) known,
+  subst (λ (z : Plan × Rows). IsWorkedOut z.0 z.1 node_result) (λ k. (h.0 k, h.1 k)) known,
 )
 
 -- what came to the nodes that are ready
@@ -177,27 +177,27 @@ scan-few rows kind arrivals Unscanned few h = (omega arith, omega arith)
 scan-few rows kind arrivals (OfServer its) few h = let most = blocks-few its.blocks in let n = h.2.blocks.0 in (omega arith, omega arith)
 scan-few rows kind arrivals (OfTandem its) few h = let most = blocks-few its.blocks in let n = h.2.blocks.0 in (omega arith, omega arith)
 
-all-few : {P : Type 0} (places : P → ℕ) (parts : List P) → AllByRecursion (λ p. places p ≤ 1048576) parts → all_places places parts ≤ length parts * 1048576
-all-few places [] h = omega arith
-all-few places (p ∷ ps) h = let first = h.0 in let rest = all-few places ps h.1 in omega arith
+all-few : {P : Type 0} (size : P → ℕ) (parts : List P) → AllByRecursion (λ p. size p ≤ 1048576) parts → total_size size parts ≤ length parts * 1048576
+all-few size [] h = omega arith
+all-few size (p ∷ ps) h = let first = h.0 in let rest = all-few size ps h.1 in omega arith
 
-pub loads-few : (loads : List Load) → length loads ≤ 64 → AllByRecursion IsReadyLoad loads → all_places load_places loads < 2 ^ 32
+pub loads-few : (loads : List Load) → length loads ≤ 64 → AllByRecursion IsReadyLoad loads → total_size load_size loads < 2 ^ 32
 loads-few loads few ready =
-    let most = all-few load_places loads (Each-weaker IsReadyLoad _ (λ load h. (scan-few load.rows.now h.1.node.kind load.arrivals load.scan h.1.load.few h.1.scanned).0) loads ready) in
+    let most = all-few load_size loads (Each-weaker IsReadyLoad _ (λ load h. (scan-few load.rows.now h.1.node.kind load.arrivals load.scan h.1.load.few h.1.scanned).0) loads ready) in
     omega arith
 
-pub middles-few : (middles : List Middle) → length middles ≤ 64 → AllByRecursion IsReadyMiddle middles → all_places middle_places middles < 2 ^ 32
+pub middles-few : (middles : List Middle) → length middles ≤ 64 → AllByRecursion IsReadyMiddle middles → total_size middle_size middles < 2 ^ 32
 middles-few middles few ready =
-    let most = all-few middle_places middles (Each-weaker IsReadyMiddle _ (λ m h. (scan-few m.load.rows.now h.0.1.node.kind m.load.arrivals m.load.scan h.0.1.load.few h.0.1.scanned).1) middles ready) in
+    let most = all-few middle_size middles (Each-weaker IsReadyMiddle _ (λ m h. (scan-few m.load.rows.now h.0.1.node.kind m.load.arrivals m.load.scan h.0.1.load.few h.0.1.scanned).1) middles ready) in
     omega arith
 
-pub leavings-few : (leavings : List Leaving) → length leavings ≤ 64 → all_places leaving_places leavings < 2 ^ 32
-leavings-few leavings few = let most = all-few leaving_places leavings (each leavings) in omega arith
+pub emptied-few : (those_emptied : List Emptied) → length those_emptied ≤ 64 → total_size emptied_size those_emptied < 2 ^ 32
+emptied-few those_emptied few = let most = all-few emptied_size those_emptied (each those_emptied) in omega arith
   where
     one : (exit : Exit) → closings_of exit ≤ 1048576
     one (Known after) = omega arith
     one (Served departs) = omega arith
 
-    each : (ls : List Leaving) → AllByRecursion (λ l. leaving_places l ≤ 1048576) ls
+    each : (ls : List Emptied) → AllByRecursion (λ l. emptied_size l ≤ 1048576) ls
     each [] = tt
     each (l ∷ ls) = (one l.exit, each ls)

@@ -7,13 +7,13 @@ use Rattle.std.proofs.lemmas.Bool.Decides.{nat_tests}
 use Rattle.std.proofs.lemmas.List.{length-map}
 use Rattle.mq_base.proofs.lemmas.Lists.{drop_suc, some_inj}
 use Rattle.mq_core.specs.Came.{came_in}
-use Rattle.mq_core.specs.ColumnLaws.{ColumnsGoByFates, FatesAreInTime}
-use Rattle.mq_core.specs.Columns.{IsSoundLoad, IsStream, column_fates, column_late_from, column_outs, column_stream, leaving_times, picked, stream_in_order, time_of_fate}
+use Rattle.mq_core.specs.SequenceLaws.{SequencesGoByFates, FatesAreInTime}
+use Rattle.mq_core.specs.Sequences.{IsSoundLoad, IsStream, sequence_fates, sequence_late_from, sequence_outs, sequence_stream, leaving_times, picked, stream_in_order, time_of_fate}
 use Rattle.mq_core.specs.Kinds.Split.{routes_from}
 use Rattle.mq_core.specs.Kinds.ForkJoin.{branch_demands}
 use Rattle.mq_core.specs.Kinds.Tandem.{tandem_times}
 use Rattle.mq_core.specs.Laws.{Rises}
-use Rattle.mq_core.specs.Recurrences.{delayed, fork_departs, lindley}
+use Rattle.mq_core.specs.Recurrences.{delayed, forkjoin_departs, lindley}
 use Rattle.mq_core.specs.Results.{Late, first_of, late_fate}
 use Rattle.mq_core.specs.Ranges.{is_sound_demand, is_within, rises}
 use Rattle.mq_core.specs.Sound.{outputs_in}
@@ -32,7 +32,7 @@ use Rattle.mq_core.specs.declared.model.Stage.{Stage}
 use Rattle.mq_core.specs.declared.model.Stream.{Stream}
 use Rattle.mq_split.specs.Outs.{AreParts, HasOutputs, outs_from}
 use Rattle.mq_engine.specs.Loads.{AreServed}
-use Rattle.mq_engine.specs.Turns.{AreAsked, AreLeft, AreRouted, HasRouteValue, IsLeaving, IsLoad, LeaveInTurn, left_by}
+use Rattle.mq_engine.specs.Working.{AreAsked, AreLeft, AreRouted, HasRouteValue, IsLeaving, IsLoad, LeaveByPosition, left_by}
 use Rattle.mq_engine.proofs.Lists.{Each-get_or}
 
 -- a departure of each time is at that time
@@ -49,7 +49,7 @@ picked-all [] (i ∷ is) e = absurd (omega arith)
 picked-all (j ∷ js) [] e = refl
 picked-all (j ∷ js) (i ∷ is) e = ap (λ l. i ∷ l) (picked-all js is (omega arith))
 
-pub one-stream : (rows : Rows) (kind : Kind) (arrivals : Stream) (departs : List ℕ) (streams : List Stream) → length arrivals.job ≡ length arrivals.time → outputs_in kind ≡ 1 → column_outs rows kind (came_in arrivals) ≡ map (λ _. 0) arrivals.job → column_fates rows kind (came_in arrivals) ≡ map (λ time. Departs time) departs →
+pub one-stream : (rows : Rows) (kind : Kind) (arrivals : Stream) (departs : List ℕ) (streams : List Stream) → length arrivals.job ≡ length arrivals.time → outputs_in kind ≡ 1 → sequence_outs rows kind (came_in arrivals) ≡ map (λ _. 0) arrivals.job → sequence_fates rows kind (came_in arrivals) ≡ map (λ time. Departs time) departs →
     length departs ≡ length arrivals.job → streams ≡ record { job = arrivals.job; time = departs } ∷ [] → AreLeft rows kind arrivals streams
 one-stream rows kind arrivals departs streams same one outs fates even e =
     record {
@@ -59,8 +59,8 @@ one-stream rows kind arrivals departs streams same one outs fates even e =
   where
     stream : left_by rows kind arrivals 0 ≡ record { job = arrivals.job; time = departs }
     stream =
-        let jobs : picked 0 (column_outs rows kind (came_in arrivals)) arrivals.job ≡ arrivals.job = ap (λ l. picked 0 l arrivals.job) outs ∙ picked-all arrivals.job arrivals.job refl in
-        let times : picked 0 (column_outs rows kind (came_in arrivals)) (leaving_times arrivals.time (column_fates rows kind (came_in arrivals))) ≡ departs =
+        let jobs : picked 0 (sequence_outs rows kind (came_in arrivals)) arrivals.job ≡ arrivals.job = ap (λ l. picked 0 l arrivals.job) outs ∙ picked-all arrivals.job arrivals.job refl in
+        let times : picked 0 (sequence_outs rows kind (came_in arrivals)) (leaving_times arrivals.time (sequence_fates rows kind (came_in arrivals))) ≡ departs =
         (λ k. picked 0 (outs k) (leaving_times arrivals.time (fates k))) ∙ (ap (picked 0 (map (λ _. 0) arrivals.job)) (times-back arrivals.time departs (even ∙ same)) ∙ picked-all arrivals.job departs even) in
         λ k. record { job = jobs k; time = times k }
 
@@ -157,48 +157,48 @@ pub quiet : (bound node position : ℕ) (fate : Fate) → ((time : ℕ) → fate
 quiet bound node position (Departs time) h = let l : time ≤ bound = h time refl in grind (arith, nat_tests)
 quiet bound node position Lost h = refl
 
-pub late-next : (bound node position : ℕ) (fate : Fate) (fates : List Fate) (first : Option Late) → slice_get fates position ≡ Some fate → late_fate bound node position (Some fate) ≡ [] → first_of (column_late_from bound node position (drop position fates)) ≡ first →
-    first_of (column_late_from bound node (position + 1) (drop (position + 1) fates)) ≡ first
+pub late-next : (bound node position : ℕ) (fate : Fate) (fates : List Fate) (first : Option Late) → slice_get fates position ≡ Some fate → late_fate bound node position (Some fate) ≡ [] → first_of (sequence_late_from bound node position (drop position fates)) ≡ first →
+    first_of (sequence_late_from bound node (position + 1) (drop (position + 1) fates)) ≡ first
 late-next bound node position fate fates first e q h =
     let next : suc position ≡ position + 1 = omega arith in
-    ap (λ n. first_of (column_late_from bound node n (drop n fates))) (sym next)
-    ∙ (ap (λ (l : List Late). first_of (l ++ column_late_from bound node (suc position) (drop (suc position) fates))) (sym q)
-    ∙ (ap (λ l. first_of (column_late_from bound node position l)) (sym (drop_suc fates position fate e)) ∙ h))
+    ap (λ n. first_of (sequence_late_from bound node n (drop n fates))) (sym next)
+    ∙ (ap (λ (l : List Late). first_of (l ++ sequence_late_from bound node (suc position) (drop (suc position) fates))) (sym q)
+    ∙ (ap (λ l. first_of (sequence_late_from bound node position l)) (sym (drop_suc fates position fate e)) ∙ h))
 
-pub late-here : (bound node position time : ℕ) (fates : List Fate) (first : Option Late) → slice_get fates position ≡ Some (Departs time) → bound < time → first_of (column_late_from bound node position (drop position fates)) ≡ first →
+pub late-here : (bound node position time : ℕ) (fates : List Fate) (first : Option Late) → slice_get fates position ≡ Some (Departs time) → bound < time → first_of (sequence_late_from bound node position (drop position fates)) ≡ first →
     first ≡ Some (record { node = node; position = position; time = time })
 late-here bound node position time fates first e l h =
-    sym h ∙ (ap (λ l. first_of (column_late_from bound node position l)) (drop_suc fates position (Departs time) e) ∙ here)
+    sym h ∙ (ap (λ l. first_of (sequence_late_from bound node position l)) (drop_suc fates position (Departs time) e) ∙ here)
   where
-    here : first_of (column_late_from bound node position (Departs time ∷ drop (suc position) fates)) ≡ Some (record { node = node; position = position; time = time })
-    here = let t : nat_lt bound time ≡ true = grind (arith, nat_tests) in ap (λ (b : Bool). first_of (cond b (record { node = node; position = position; time = time } ∷ []) [] ++ column_late_from bound node (suc position) (drop (suc position) fates))) t
+    here : first_of (sequence_late_from bound node position (Departs time ∷ drop (suc position) fates)) ≡ Some (record { node = node; position = position; time = time })
+    here = let t : nat_lt bound time ≡ true = grind (arith, nat_tests) in ap (λ (b : Bool). first_of (cond b (record { node = node; position = position; time = time } ∷ []) [] ++ sequence_late_from bound node (suc position) (drop (suc position) fates))) t
 
 -- where no visit is late all leave within the bound
-pub none-late : (bound node position : ℕ) (fates : List Fate) → first_of (column_late_from bound node position fates) ≡ None → Each (λ time. time ≤ bound) (map time_of_fate fates)
+pub none-late : (bound node position : ℕ) (fates : List Fate) → first_of (sequence_late_from bound node position fates) ≡ None → Each (λ time. time ≤ bound) (map time_of_fate fates)
 none-late bound node position [] h = tt
 none-late bound node position (Lost ∷ fs) h = (omega arith, none-late bound node (suc position) fs h)
 none-late bound node position (Departs time ∷ fs) h = go (nat_lt bound time) refl h (none-late bound node (suc position) fs)
   where
-    go : (b : Bool) → nat_lt bound time ≡ b → first_of (cond b (record { node = node; position = position; time = time } ∷ []) [] ++ column_late_from bound node (suc position) fs) ≡ None → (first_of (column_late_from bound node (suc position) fs) ≡ None → Each (λ t. t ≤ bound) (map time_of_fate fs)) → Each (λ t. t ≤ bound) (map time_of_fate (Departs time ∷ fs))
+    go : (b : Bool) → nat_lt bound time ≡ b → first_of (cond b (record { node = node; position = position; time = time } ∷ []) [] ++ sequence_late_from bound node (suc position) fs) ≡ None → (first_of (sequence_late_from bound node (suc position) fs) ≡ None → Each (λ t. t ≤ bound) (map time_of_fate fs)) → Each (λ t. t ≤ bound) (map time_of_fate (Departs time ∷ fs))
     go true e k ih = absurd cc
     go false e k ih = (grind (arith, nat_tests), ih k)
 
 -- Kinds with one output.
-pub passes-on : (rows : Rows) (arrivals : Stream) (fates : List Fate) (departs : List ℕ) (streams : List Stream) → IsStream arrivals → departs ≡ arrivals.time → LeaveInTurn arrivals.job departs fates streams → IsLeaving rows Source arrivals fates streams
-passes-on rows arrivals fates departs streams s d turn =
+pub passes-on : (rows : Rows) (arrivals : Stream) (fates : List Fate) (departs : List ℕ) (streams : List Stream) → IsStream arrivals → departs ≡ arrivals.time → LeaveByPosition arrivals.job departs fates streams → IsLeaving rows Source arrivals fates streams
+passes-on rows arrivals fates departs streams s d in_order =
     record {
-      leave = turn.fate ∙ ap (map (λ time. Departs time)) d;
-      outflow = one-stream rows Source arrivals departs streams s.even refl refl (ap (map (λ time. Departs time)) (sym d)) (ap length d ∙ sym s.even) turn.stream;
+      leave = in_order.fate ∙ ap (map (λ time. Departs time)) d;
+      outflow = one-stream rows Source arrivals departs streams s.even refl refl (ap (map (λ time. Departs time)) (sym d)) (ap length d ∙ sym s.even) in_order.stream;
     }
 
 pub serves : (rows : Rows) (demand : Demand) (arrivals : Stream) (fates : List Fate) (demands departs : List ℕ) (streams : List Stream) → IsStream arrivals → demands ≡ map (demand_of_job rows demand) arrivals.job → departs ≡ lindley 0 arrivals.time demands →
-    LeaveInTurn arrivals.job departs fates streams → IsLeaving rows (Server demand) arrivals fates streams
-serves rows demand arrivals fates demands departs streams s m d turn =
+    LeaveByPosition arrivals.job departs fates streams → IsLeaving rows (Server demand) arrivals fates streams
+serves rows demand arrivals fates demands departs streams s m d in_order =
     let by : departs ≡ lindley 0 arrivals.time (map (demand_of_job rows demand) arrivals.job) = d ∙ ap (lindley 0 arrivals.time) m in
     let even : length (map (demand_of_job rows demand) arrivals.job) ≡ length arrivals.time = length-map arrivals.job _ ∙ s.even in
     record {
-      leave = turn.fate ∙ ap (map (λ time. Departs time)) by;
-      outflow = one-stream rows (Server demand) arrivals departs streams s.even refl refl (ap (map (λ time. Departs time)) (sym by)) (ap length by ∙ (lindley-length 0 arrivals.time _ even ∙ sym s.even)) turn.stream;
+      leave = in_order.fate ∙ ap (map (λ time. Departs time)) by;
+      outflow = one-stream rows (Server demand) arrivals departs streams s.even refl refl (ap (map (λ time. Departs time)) (sym by)) (ap length by ∙ (lindley-length 0 arrivals.time _ even ∙ sym s.even)) in_order.stream;
     }
 
 pub splits : (rows : Rows) (route : Route) (arrivals : Stream) (fates : List Fate) (values : List ℕ) (streams : List Stream) → IsStream arrivals → values ≡ map (route_value rows route) arrivals.job → fates ≡ map (λ time. Departs time) arrivals.time → AreParts route arrivals values streams → IsLeaving rows (Split route) arrivals fates streams
@@ -210,25 +210,25 @@ delayed-length (a ∷ rest) [] e = absurd (omega arith)
 delayed-length (a ∷ rest) (d ∷ ds) e = ap suc (delayed-length rest ds (omega arith))
 
 pub delays : (rows : Rows) (demand : Demand) (arrivals : Stream) (fates : List Fate) (demands departs : List ℕ) (streams : List Stream) → IsStream arrivals → demands ≡ map (demand_of_job rows demand) arrivals.job → departs ≡ delayed arrivals.time demands →
-    LeaveInTurn arrivals.job departs fates streams → IsLeaving rows (Delay demand) arrivals fates streams
-delays rows demand arrivals fates demands departs streams s m d turn =
+    LeaveByPosition arrivals.job departs fates streams → IsLeaving rows (Delay demand) arrivals fates streams
+delays rows demand arrivals fates demands departs streams s m d in_order =
     let by : departs ≡ delayed arrivals.time (map (demand_of_job rows demand) arrivals.job) = d ∙ ap (delayed arrivals.time) m in
     let even : length (map (demand_of_job rows demand) arrivals.job) ≡ length arrivals.time = length-map arrivals.job _ ∙ s.even in
     record {
-      leave = turn.fate ∙ ap (map (λ time. Departs time)) by;
-      outflow = one-stream rows (Delay demand) arrivals departs streams s.even refl refl (ap (map (λ time. Departs time)) (sym by)) (ap length by ∙ (delayed-length arrivals.time _ even ∙ sym s.even)) turn.stream;
+      leave = in_order.fate ∙ ap (map (λ time. Departs time)) by;
+      outflow = one-stream rows (Delay demand) arrivals departs streams s.even refl refl (ap (map (λ time. Departs time)) (sym by)) (ap length by ∙ (delayed-length arrivals.time _ even ∙ sym s.even)) in_order.stream;
     }
 
 -- Stations whose jobs leave in their order.
 -- there is one time an arrival
-times-many : FatesAreInTime → (rows : Rows) (kind : Kind) (arrivals : Stream) (times : List ℕ) → length arrivals.job ≡ length arrivals.time → column_fates rows kind (came_in arrivals) ≡ map (λ time. Departs time) times → length times ≡ length arrivals.job
+times-many : FatesAreInTime → (rows : Rows) (kind : Kind) (arrivals : Stream) (times : List ℕ) → length arrivals.job ≡ length arrivals.time → sequence_fates rows kind (came_in arrivals) ≡ map (λ time. Departs time) times → length times ≡ length arrivals.job
 times-many law rows kind arrivals times e f = sym (length-map times (λ time. Departs time)) ∙ (ap length (sym f) ∙ ((law rows kind (came_in arrivals) e).even ∙ sym e))
 
 pub served-left : FatesAreInTime → (rows : Rows) (kind : Kind) (arrivals : Stream) (departs : List ℕ) (streams : List Stream) → length arrivals.job ≡ length arrivals.time → AreServed rows kind arrivals departs → streams ≡ record { job = arrivals.job; time = departs } ∷ [] → AreLeft rows kind arrivals streams
 served-left law rows kind arrivals departs streams even s e = one-stream rows kind arrivals departs streams even s.one s.outs s.fates (times-many law rows kind arrivals departs even s.fates) e
 
-pub served-leaves : FatesAreInTime → (rows : Rows) (kind : Kind) (arrivals : Stream) (departs : List ℕ) (fates : List Fate) (streams : List Stream) → length arrivals.job ≡ length arrivals.time → AreServed rows kind arrivals departs → LeaveInTurn arrivals.job departs fates streams → IsLeaving rows kind arrivals fates streams
-served-leaves law rows kind arrivals departs fates streams even s turn = record { leave = turn.fate ∙ sym s.fates; outflow = served-left law rows kind arrivals departs streams even s turn.stream }
+pub served-leaves : FatesAreInTime → (rows : Rows) (kind : Kind) (arrivals : Stream) (departs : List ℕ) (fates : List Fate) (streams : List Stream) → length arrivals.job ≡ length arrivals.time → AreServed rows kind arrivals departs → LeaveByPosition arrivals.job departs fates streams → IsLeaving rows kind arrivals fates streams
+served-leaves law rows kind arrivals departs fates streams even s in_order = record { leave = in_order.fate ∙ sym s.fates; outflow = served-left law rows kind arrivals departs streams even s in_order.stream }
 
 -- their departures are as many as their arrivals, and never fall
 pub served-even : FatesAreInTime → (rows : Rows) (kind : Kind) (arrivals : Stream) (departs : List ℕ) → IsLoad rows kind arrivals → AreServed rows kind arrivals departs → length departs ≡ length arrivals.time
@@ -242,11 +242,11 @@ served-one law rows kind arrivals departs load s =
     let inside : 0 < outputs_in kind = omega arith in
     some_inj _ _ ((served-left law rows kind arrivals departs (left ∷ []) load.ordered.ordered.even s refl).each 0 inside)
 
-pub served-rises : ColumnsGoByFates → FatesAreInTime → (rows : Rows) (kind : Kind) (arrivals : Stream) (departs : List ℕ) → IsLoad rows kind arrivals → AreServed rows kind arrivals departs → Rises (λ a b. a ≤ b) departs
+pub served-rises : SequencesGoByFates → FatesAreInTime → (rows : Rows) (kind : Kind) (arrivals : Stream) (departs : List ℕ) → IsLoad rows kind arrivals → AreServed rows kind arrivals departs → Rises (λ a b. a ≤ b) departs
 served-rises fated law rows kind arrivals departs load s =
     let left : Stream = record { job = arrivals.job; time = departs } in
-    let column : column_stream rows kind (came_in arrivals) 0 ≡ left = (fated rows kind (came_in arrivals)).stream 0 ∙ (ap (stream_in_order kind) (sym (served-one law rows kind arrivals departs load s)) ∙ s.order left) in
-    subst (λ (stream : Stream). Rises (λ a b. a ≤ b) stream.time) column (load.leaves 0).rising
+    let sequence : sequence_stream rows kind (came_in arrivals) 0 ≡ left = (fated rows kind (came_in arrivals)).stream 0 ∙ (ap (stream_in_order kind) (sym (served-one law rows kind arrivals departs load s)) ∙ s.order left) in
+    subst (λ (stream : Stream). Rises (λ a b. a ≤ b) stream.time) sequence (load.leaves 0).rising
 
 -- the times of what leaves are the departures
 pub served-stream : FatesAreInTime → (rows : Rows) (kind : Kind) (arrivals : Stream) (departs : List ℕ) (streams : List Stream) (left : Stream) → IsLoad rows kind arrivals → AreServed rows kind arrivals departs → AreLeft rows kind arrivals streams → slice_get streams 0 ≡ Some left → AreServed rows kind arrivals left.time
@@ -267,16 +267,16 @@ server-served rows demand arrivals demands departs m d =
     }
 
 -- and so are a tandem and a fork-join
-pub in-turn-served : (rows : Rows) (kind : Kind) (arrivals : Stream) → ((demand : Demand) × (kind ≡ Server demand)) ⊎ (((stages : List Stage) × (kind ≡ Tandem stages)) ⊎ ((branches : List (List Demand)) × (kind ≡ ForkJoin branches))) → (departs : List ℕ) × AreServed rows kind arrivals departs
-in-turn-served rows kind arrivals (inl s) = (
+pub by-position-served : (rows : Rows) (kind : Kind) (arrivals : Stream) → ((demand : Demand) × (kind ≡ Server demand)) ⊎ (((stages : List Stage) × (kind ≡ Tandem stages)) ⊎ ((branches : List (List Demand)) × (kind ≡ ForkJoin branches))) → (departs : List ℕ) × AreServed rows kind arrivals departs
+by-position-served rows kind arrivals (inl s) = (
   lindley 0 arrivals.time (map (demand_of_job rows s.0) arrivals.job),
   subst (λ (k : Kind). AreServed rows k arrivals (lindley 0 arrivals.time (map (demand_of_job rows s.0) arrivals.job))) (sym s.1) (server-served rows s.0 arrivals _ _ refl refl),
 )
-in-turn-served rows kind arrivals (inr (inl s)) = (
+by-position-served rows kind arrivals (inr (inl s)) = (
   tandem_times rows s.0 arrivals.job arrivals.time,
   subst (λ (k : Kind). AreServed rows k arrivals (tandem_times rows s.0 arrivals.job arrivals.time)) (sym s.1) (record { one = refl; order = λ stream. refl; outs = refl; fates = refl }),
 )
-in-turn-served rows kind arrivals (inr (inr s)) = (
-  fork_departs arrivals.time (branch_demands rows s.0 arrivals.job),
-  subst (λ (k : Kind). AreServed rows k arrivals (fork_departs arrivals.time (branch_demands rows s.0 arrivals.job))) (sym s.1) (record { one = refl; order = λ stream. refl; outs = refl; fates = refl }),
+by-position-served rows kind arrivals (inr (inr s)) = (
+  forkjoin_departs arrivals.time (branch_demands rows s.0 arrivals.job),
+  subst (λ (k : Kind). AreServed rows k arrivals (forkjoin_departs arrivals.time (branch_demands rows s.0 arrivals.job))) (sym s.1) (record { one = refl; order = λ stream. refl; outs = refl; fates = refl }),
 )

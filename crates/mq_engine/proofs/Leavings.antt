@@ -1,4 +1,4 @@
--- What leaves a node, from the order of arrival into the order of leaving.
+-- What leaves a node, from the order of arrival into emission order.
 use Rattle.std.proofs.Common.{◌≡◌, ℕ, ◌<◌, All, Bool, true, false, cond, List, [], ◌∷◌, length, map, Some, sym, refl, ap, ◌∙◌, subst, arith}
 use Rattle.std.specs.Prelude.{◌==◌, slice_get}
 use Rattle.std.specs.Option.{option_map}
@@ -7,8 +7,8 @@ use Rattle.std.proofs.lemmas.Option.{slice_get-map, slice_get_within}
 use Rattle.mq_base.proofs.lemmas.Lists.{some_inj}
 use Rattle.mq_base.proofs.lemmas.Zips.{zip-map}
 use Rattle.mq_core.specs.Came.{came_in}
-use Rattle.mq_core.specs.ColumnLaws.{FatesAreInTime, ColumnsGoByFates}
-use Rattle.mq_core.specs.Columns.{IsStream, by_first, column_fates, column_outs, founds_of, leaving_times, pairs_of, picked, sorted, stream_in_order, column_visits}
+use Rattle.mq_core.specs.SequenceLaws.{FatesAreInTime, SequencesGoByFates}
+use Rattle.mq_core.specs.Sequences.{IsStream, by_first, sequence_fates, sequence_outs, founds_of, leaving_times, pairs_of, picked, sorted, stream_in_order, sequence_visits}
 use Rattle.mq_core.specs.Sound.{outputs_in}
 use Rattle.mq_core.specs.declared.model.Demand.{Demand}
 use Rattle.mq_core.specs.declared.model.Fate.{Fate}
@@ -16,7 +16,7 @@ use Rattle.mq_core.specs.declared.model.Kind.{Kind}
 use Rattle.mq_core.specs.declared.model.Kind.TheVariants.{Source, Server, Delay, Loss, Tandem, ForkJoin, Split}
 use Rattle.mq_core.specs.declared.model.Rows.{Rows}
 use Rattle.mq_core.specs.declared.model.Stream.{Stream}
-use Rattle.mq_engine.specs.Turns.{AreLeft, AreStreams, IsLeaving, IsTurn, left_by}
+use Rattle.mq_engine.specs.Working.{AreLeft, AreStreams, IsLeaving, IsResult, left_by}
 use Rattle.mq_engine.proofs.Lists.{Each-at, Each-get_or, zip-jobs, zip-times}
 
 -- what leaves by an output has one time a job
@@ -45,24 +45,24 @@ left-even law rows kind arrivals streams even left =
         let inside : out < outputs_in kind = subst (λ n. out < n) left.count (slice_get_within streams out stream e) in
         let same : left_by rows kind arrivals out ≡ stream = some_inj _ _ (sym (left.each out inside) ∙ e) in
         subst (λ (s : Stream). length s.job ≡ length s.time) same
-        (picked-even out (column_outs rows kind (came_in arrivals)) arrivals.job (leaving_times arrivals.time (column_fates rows kind (came_in arrivals)))
+        (picked-even out (sequence_outs rows kind (came_in arrivals)) arrivals.job (leaving_times arrivals.time (sequence_fates rows kind (came_in arrivals)))
         (even ∙ sym (leaving-many arrivals.time _ (law rows kind (came_in arrivals) even).even)))
 
--- put in the order of leaving it is the streams of the columns
-pub left-streams : ColumnsGoByFates → (rows : Rows) (kind : Kind) (arrivals : Stream) (streams ordered : List Stream) → AreLeft rows kind arrivals streams → ordered ≡ map (stream_in_order kind) streams → AreStreams rows kind arrivals ordered
+-- put in emission order it is the streams of the sequences
+pub left-streams : SequencesGoByFates → (rows : Rows) (kind : Kind) (arrivals : Stream) (streams ordered : List Stream) → AreLeft rows kind arrivals streams → ordered ≡ map (stream_in_order kind) streams → AreStreams rows kind arrivals ordered
 left-streams law rows kind arrivals streams ordered left e =
     record {
       count = ap length e ∙ (length-map streams _ ∙ left.count);
       each = λ out l. ap (λ (s : List Stream). slice_get s out) e ∙ (slice_get-map (stream_in_order kind) streams out ∙ (ap (option_map (stream_in_order kind)) (left.each out l) ∙ ap Some (sym ((law rows kind (came_in arrivals)).stream out))));
     }
 
--- what has been seen of a node is its turn, once what leaves is in order
-pub seen-turn : ColumnsGoByFates → (rows : Rows) (kind : Kind) (arrivals : Stream) (fates : List Fate) (found : List ℕ) (streams ordered : List Stream) → IsLeaving rows kind arrivals fates streams → found ≡ founds_of arrivals.time fates → ordered ≡ map (stream_in_order kind) streams →
-    IsTurn rows kind arrivals (record { job = arrivals.job; arrive = arrivals.time; found = found; fate = fates }) ordered
-seen-turn law rows kind arrivals fates found streams ordered left f o =
+-- what has been seen of a node is what it gives, once what leaves is in order
+pub seen-result : SequencesGoByFates → (rows : Rows) (kind : Kind) (arrivals : Stream) (fates : List Fate) (found : List ℕ) (streams ordered : List Stream) → IsLeaving rows kind arrivals fates streams → found ≡ founds_of arrivals.time fates → ordered ≡ map (stream_in_order kind) streams →
+    IsResult rows kind arrivals (record { job = arrivals.job; arrive = arrivals.time; found = found; fate = fates }) ordered
+seen-result law rows kind arrivals fates found streams ordered left f o =
     record {
-      columns =
-          let founds : found ≡ (column_visits rows kind (came_in arrivals)).found = f ∙ (ap (founds_of arrivals.time) left.leave ∙ sym (law rows kind (came_in arrivals)).founds) in
+      sequences =
+          let founds : found ≡ (sequence_visits rows kind (came_in arrivals)).found = f ∙ (ap (founds_of arrivals.time) left.leave ∙ sym (law rows kind (came_in arrivals)).founds) in
           λ k. record { job = arrivals.job; arrive = arrivals.time; found = founds k; fate = left.leave k };
       outflow = left-streams law rows kind arrivals streams ordered left.outflow o;
     }

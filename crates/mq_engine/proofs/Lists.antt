@@ -1,4 +1,4 @@
--- Lists by place, and what a loop has made of one so far.
+-- Lists by index, and what a loop has made of one so far.
 use Rattle.std.proofs.Common.{◌==◌, ◌||◌, ◌&&◌, subst, ◌≡◌, ◌≢◌, ℕ, zero, suc, ◌+◌, ◌<◌, Bool, true, false, cond, IsTrue, List, [], ◌∷◌, ◌++◌, length, get_or, set, take, drop, map, Some, sym, refl, ap, ◌∙◌, arith, eqb-true, append_assoc}
 use Rattle.std.specs.Prelude.{count_by, filter, slice_get}
 use Rattle.std.proofs.lemmas.List.Sums.{sum_by-cons}
@@ -10,7 +10,7 @@ use Rattle.std.proofs.lemmas.List.{append-nil}
 use Rattle.mq_base.proofs.lemmas.Lists.{drop_suc, some_inj}
 use Rattle.mq_core.specs.Wiring.{has}
 
--- those that pass a test, of what is left from a place on
+-- those that pass a test, of what is left from an index on
 pub count-at : {X : Type 0} (p : X → Bool) (xs : List X) (i : ℕ) (x : X) → slice_get xs i ≡ Some x → count_by p (drop i xs) ≡ cond (p x) 1 0 + count_by p (drop (i + 1) xs)
 count-at p xs i x h =
     let next : suc i ≡ i + 1 = omega arith in
@@ -54,7 +54,7 @@ Each-get_or P [] h k d l = absurd (omega arith)
 Each-get_or P (x ∷ xs) h zero d l = h.0
 Each-get_or P (x ∷ xs) h (suc k) d l = Each-get_or P xs h.1 k d (omega arith)
 
--- a place that is written
+-- an index that is written
 pub get-set_same : {X : Type 0} (xs : List X) (i : ℕ) (x : X) → i < length xs → slice_get (set xs i x) i ≡ Some x
 get-set_same [] i x l = absurd (omega arith)
 get-set_same (y ∷ ys) zero x l = refl
@@ -68,9 +68,9 @@ get-set_other (y ∷ ys) (suc i) zero x l = refl
 get-set_other (y ∷ ys) (suc i) (suc j) x l = get-set_other ys i j x (λ e. l (ap suc e))
 
 -- what a list has, and what its front has
-pub has-place : (xs : List ℕ) (n : ℕ) → IsTrue (has xs n) → (q : ℕ) × (slice_get xs q ≡ Some n)
-has-place [] n h = absurd cc
-has-place (m ∷ ms) n h = go (m == n) refl (λ k. has-place ms n k) h
+pub has-index : (xs : List ℕ) (n : ℕ) → IsTrue (has xs n) → (q : ℕ) × (slice_get xs q ≡ Some n)
+has-index [] n h = absurd cc
+has-index (m ∷ ms) n h = go (m == n) refl (λ k. has-index ms n k) h
   where
     go : (b : Bool) → (m == n) ≡ b → (IsTrue (has ms n) → (q : ℕ) × (slice_get ms q ≡ Some n)) → IsTrue (b || has ms n) → (q : ℕ) × (slice_get (m ∷ ms) q ≡ Some n)
     go true e ih k = (0, ap Some (eqb-true m n e))

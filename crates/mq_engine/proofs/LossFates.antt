@@ -6,8 +6,8 @@ use Rattle.std.proofs.lemmas.Bool.Decides.{nat_tests}
 use Rattle.std.proofs.lemmas.List.{append-nil, drop_all, length-map}
 use Rattle.mq_base.proofs.lemmas.Lists.{drop_suc}
 use Rattle.mq_core.specs.Came.{came_in}
-use Rattle.mq_core.specs.ColumnLaws.{FatesAreInTime}
-use Rattle.mq_core.specs.Columns.{column_fates, leaving_times, picked}
+use Rattle.mq_core.specs.SequenceLaws.{FatesAreInTime}
+use Rattle.mq_core.specs.Sequences.{sequence_fates, leaving_times, picked}
 use Rattle.mq_core.specs.Kinds.Loss.{out_of_fate}
 use Rattle.mq_core.specs.Handling.{demand_of_job}
 use Rattle.mq_core.specs.Recurrences.{loss_fates}
@@ -23,7 +23,7 @@ use Rattle.mq_core.specs.declared.model.Stream.{Stream}
 use Rattle.mq_loss.specs.Rounds.{IsSettled, admits, departures_in}
 use Rattle.mq_loss.specs.declared.answer.Settled.{Settled}
 use Rattle.mq_engine.specs.Losses.{AreAdmittedAndLost, fates_by, out_of_admission}
-use Rattle.mq_engine.specs.Turns.{IsLeaving, left_by}
+use Rattle.mq_engine.specs.Working.{IsLeaving, left_by}
 
 -- one arrival further: one that is admitted takes the next departure
 pub fates-yes : (done done' all : List Fate) (admitted : List Bool) (departs : List ℕ) (at next time : ℕ) → slice_get admitted at ≡ Some true → slice_get departs next ≡ Some time → done' ≡ done ++ Departs time ∷ [] →
@@ -67,7 +67,7 @@ elsewhere : (which : Bool) (item : ℕ) (outs items : List ℕ) → picked (out_
 elsewhere true item outs items = refl
 elsewhere false item outs items = refl
 
--- of what is left from a place on, that goes to an output
+-- of what is left from an index on, that goes to an output
 abbrev pub left : Bool → List Bool → List ℕ → ℕ → List ℕ
 left which admitted items at = picked (out_of_admission which) (map out_of_admission (drop at admitted)) (drop at items)
 
@@ -121,7 +121,7 @@ fates-back (Departs time ∷ fates) = ap (λ l. Departs time ∷ l) (fates-back 
 fates-back (Lost ∷ fates) = ap (λ l. Lost ∷ l) (fates-back fates)
 
 pub settled-fates : (rows : Rows) (places : ℕ) (demand : Demand) (arrivals : Stream) (demands : List ℕ) (settled : Settled) (fates : List Fate) → demands ≡ map (demand_of_job rows demand) arrivals.job → IsSettled places arrivals.time demands settled → fates ≡ fates_by settled.admitted settled.departs →
-    fates ≡ column_fates rows (Loss places demand) (came_in arrivals)
+    fates ≡ sequence_fates rows (Loss places demand) (came_in arrivals)
 settled-fates rows places demand arrivals demands settled fates m s f =
     f ∙ ((λ k. fates_by (s.admitted k) (s.departs k)) ∙ (fates-back (loss_fates places [] arrivals.time demands) ∙ ap (loss_fates places [] arrivals.time) m))
 
@@ -153,7 +153,7 @@ admitted-many (one ∷ job) (Lost ∷ fates) e = admitted-many job fates (omega 
 
 -- a settled station: its fates, as many as there are arrivals
 settled-is : (rows : Rows) (places : ℕ) (demand : Demand) (arrivals : Stream) (demands : List ℕ) → demands ≡ map (demand_of_job rows demand) arrivals.job →
-    loss_fates places [] arrivals.time demands ≡ column_fates rows (Loss places demand) (came_in arrivals)
+    loss_fates places [] arrivals.time demands ≡ sequence_fates rows (Loss places demand) (came_in arrivals)
 settled-is rows places demand arrivals demands m = ap (loss_fates places [] arrivals.time) m
 
 -- there is one answer an arrival, and a departure for each that is admitted
@@ -184,7 +184,7 @@ loses law rows places demand arrivals demands settled fates streams even m s f e
     }
   where
     those : List Fate
-    those = column_fates rows (Loss places demand) (came_in arrivals)
+    those = sequence_fates rows (Loss places demand) (came_in arrivals)
 
     many : length those ≡ length arrivals.time
     many = (law rows (Loss places demand) (came_in arrivals) even).even

@@ -7,7 +7,7 @@ use Rattle.std.proofs.lemmas.List.{map-append}
 use Rattle.std.proofs.lemmas.List.Sums.{sum_by-cons}
 use Rattle.mq_base.proofs.lemmas.Each.{Each-append}
 use Rattle.mq_core.specs.Came.{came_by}
-use Rattle.mq_core.specs.Columns.{column_fates, departs_after, founds_from, founds_of}
+use Rattle.mq_core.specs.Sequences.{sequence_fates, departs_after, founds_from, founds_of}
 use Rattle.mq_core.specs.Laws.{Rises}
 use Rattle.mq_core.specs.declared.model.Fate.{Fate}
 use Rattle.mq_core.specs.declared.model.Fate.TheVariants.{Departs}
@@ -34,6 +34,6 @@ none-among before (time ∷ times) h up =
     ∙ (ap (λ l. 0 ∷ founds_from l times (map (λ t. Departs t) times)) (sym grown)
     ∙ ap (λ l. 0 ∷ l) (none-among (before ++ time ∷ []) times (λ k late e. Each-append (λ t. t ≤ late) before (time ∷ []) (h (suc k) late e) (Each-get (λ t. time ≤ t) times k late up.0 e, tt)) up.1))
 
-pub passing-finds_none : (rows : Rows) (kind : Kind) (job arrive : List ℕ) (fates : List Fate) → (kind ≡ Source) ⊎ ((route : Route) × (kind ≡ Split route)) → Rises (λ a b. a ≤ b) arrive → fates ≡ column_fates rows kind (came_by job arrive) → founds_of arrive fates ≡ map (λ _. 0) arrive
-passing-finds_none rows kind job arrive fates (inl e) up f = ap (founds_of arrive) (f ∙ ap (λ k. column_fates rows k (came_by job arrive)) e) ∙ none-among [] arrive (λ k time g. tt) up
-passing-finds_none rows kind job arrive fates (inr e) up f = ap (founds_of arrive) (f ∙ ap (λ k. column_fates rows k (came_by job arrive)) e.1) ∙ none-among [] arrive (λ k time g. tt) up
+pub passing-finds_none : (rows : Rows) (kind : Kind) (job arrive : List ℕ) (fates : List Fate) → (kind ≡ Source) ⊎ ((route : Route) × (kind ≡ Split route)) → Rises (λ a b. a ≤ b) arrive → fates ≡ sequence_fates rows kind (came_by job arrive) → founds_of arrive fates ≡ map (λ _. 0) arrive
+passing-finds_none rows kind job arrive fates (inl e) up f = ap (founds_of arrive) (f ∙ ap (λ k. sequence_fates rows k (came_by job arrive)) e) ∙ none-among [] arrive (λ k time g. tt) up
+passing-finds_none rows kind job arrive fates (inr e) up f = ap (founds_of arrive) (f ∙ ap (λ k. sequence_fates rows k (came_by job arrive)) e.1) ∙ none-among [] arrive (λ k time g. tt) up

@@ -7,8 +7,8 @@ use Rattle.std.proofs.lemmas.List.{length-map}
 use Rattle.std.specs.Prelude.{slice_get}
 use Rattle.std.proofs.lemmas.Option.{slice_get_within}
 use Rattle.mq_base.proofs.lemmas.Lists.{some_inj}
-use Rattle.mq_core.specs.Columns.{IsSoundLoad, founds_of}
-use Rattle.mq_core.specs.ColumnLaws.{FatesAreInTime}
+use Rattle.mq_core.specs.Sequences.{IsSoundLoad, founds_of}
+use Rattle.mq_core.specs.SequenceLaws.{FatesAreInTime}
 use Rattle.mq_core.specs.Handling.{demand_of_job}
 use Rattle.mq_core.specs.Recurrences.{tandem_departs}
 use Rattle.mq_core.specs.declared.model.Fate.{Fate}
@@ -29,8 +29,8 @@ use Rattle.mq_tandem.specs.Rows.{IsTandemLoad}
 use Rattle.mq_engine.specs.Blocks.{AreSumsOf, AreTimesOf}
 use Rattle.mq_engine.specs.Loads.{AreServed, IsAfterAt, IsLoaded, IsScanOf, IsServed, IsShut}
 use Rattle.mq_engine.specs.declared.exits.Closed.TheVariants.{Fates, Found, Jobs}
-use Rattle.mq_engine.specs.declared.turns.After.TheVariants.{Seen}
-use Rattle.mq_engine.specs.Turns.{IsLoad}
+use Rattle.mq_engine.specs.declared.working.After.TheVariants.{Seen}
+use Rattle.mq_engine.specs.Working.{IsLoad}
 use Rattle.mq_engine.specs.declared.loads.Scan.{Scan}
 use Rattle.mq_engine.specs.declared.loads.Scan.TheVariants.{OfServer, OfTandem}
 use Rattle.mq_engine.specs.declared.stations.server.ServerScan.{ServerScan}
@@ -38,7 +38,7 @@ use Rattle.mq_engine.specs.declared.stations.tandem.TandemScan.{TandemScan}
 use Rattle.mq_engine.proofs.Leaves.{load-sound, served-even, served-leaves}
 use Rattle.mq_engine.proofs.StageFacts.{loads-sound, sound-stages, stages-are, tandem-served}
 
--- a further item, where each is that of its place
+-- a further item, where each is that of its index
 pub items-more : {S : Type 0} (is : ℕ → S → Type 0) (items items' : List S) (b : ℕ) (item : S) → length items ≡ b → ((k : ℕ) (d : S) → k < b → is k (get_or items k d)) → is b item → items' ≡ items ++ item ∷ [] →
     (length items' ≡ b + 1) × ((k : ℕ) (d : S) → k < b + 1 → is k (get_or items' k d))
 items-more {S} is items items' b item len each own e = (
@@ -89,15 +89,15 @@ server-sound plan rows v arrivals scan its l e =
     let load : IsLoad rows (Server is.0) arrivals = subst (λ (k : Kind). IsLoad rows k arrivals) is.1 l.load in
     (load-sound rows (Server is.0) is.0 arrivals its.demands load load.sound is.2.demands, is.2.blocks.0)
 
-pub tandem-sound : (plan : Plan) (rows : Rows) (v : ℕ) (arrivals : Stream) (scan : Scan) (its : TandemScan) → IsLoaded plan rows v arrivals scan → scan ≡ OfTandem its → IsTandemLoad arrivals.time its.columns its.places × (its.blocks.n ≡ length arrivals.time)
+pub tandem-sound : (plan : Plan) (rows : Rows) (v : ℕ) (arrivals : Stream) (scan : Scan) (its : TandemScan) → IsLoaded plan rows v arrivals scan → scan ≡ OfTandem its → IsTandemLoad arrivals.time its.demands its.places × (its.blocks.n ≡ length arrivals.time)
 tandem-sound plan rows v arrivals scan its l e =
     let is : IsScanOf rows l.node.kind arrivals (OfTandem its) = subst (IsScanOf rows l.node.kind arrivals) e l.scanned in
     let load : IsLoad rows (Tandem is.0) arrivals = subst (λ (k : Kind). IsLoad rows k arrivals) is.1 l.load in
     let columns = length load.net.columns in
     let its_scan = is.2 in (
       record {
-        load = loads-sound rows (Tandem is.0) its_scan.asked _ arrivals its.columns load its_scan.asks (sound-stages columns is.0 load.sound).asked its_scan.columns;
-        stages = stages-are columns is.0 its_scan.asked its.places (λ demand. map (demand_of_job rows demand) arrivals.job) its.columns load.sound its_scan.asks its_scan.places its_scan.columns;
+        load = loads-sound rows (Tandem is.0) its_scan.asked _ arrivals its.demands load its_scan.asks (sound-stages columns is.0 load.sound).asked its_scan.demands;
+        stages = stages-are columns is.0 its_scan.asked its.places (λ demand. map (demand_of_job rows demand) arrivals.job) its.demands load.sound its_scan.asks its_scan.places its_scan.demands;
       },
       its_scan.blocks.0,
     )
@@ -114,11 +114,11 @@ served-at : (plan : Plan) (rows : Rows) (v : ℕ) (arrivals : Stream) (scan : Sc
 served-at plan rows v arrivals scan kind departs l e s =
     λ node there. let same : l.node ≡ node = some_inj _ _ (sym l.there ∙ there) in subst (λ (k : Kind). AreServed rows k arrivals departs) (sym e ∙ ap (λ (n : Node). n.kind) same) s
 
-pub tandem-leaves : (plan : Plan) (rows : Rows) (v : ℕ) (arrivals : Stream) (scan : Scan) (its : TandemScan) (departs : List ℕ) → IsLoaded plan rows v arrivals scan → scan ≡ OfTandem its → departs ≡ tandem_departs its.places (map (λ _. []) its.places) arrivals.time its.columns → IsServed plan rows v arrivals departs
+pub tandem-leaves : (plan : Plan) (rows : Rows) (v : ℕ) (arrivals : Stream) (scan : Scan) (its : TandemScan) (departs : List ℕ) → IsLoaded plan rows v arrivals scan → scan ≡ OfTandem its → departs ≡ tandem_departs its.places (map (λ _. []) its.places) arrivals.time its.demands → IsServed plan rows v arrivals departs
 tandem-leaves plan rows v arrivals scan its departs l e d =
     let is : IsScanOf rows l.node.kind arrivals (OfTandem its) = subst (IsScanOf rows l.node.kind arrivals) e l.scanned in
     let load : IsLoad rows (Tandem is.0) arrivals = subst (λ (k : Kind). IsLoad rows k arrivals) is.1 l.load in
-    served-at plan rows v arrivals scan (Tandem is.0) departs l is.1 (tandem-served (length load.net.columns) rows is.0 arrivals is.2.asked its.columns its.places departs load.sound is.2.asks is.2.columns is.2.places d)
+    served-at plan rows v arrivals scan (Tandem is.0) departs l is.1 (tandem-served (length load.net.columns) rows is.0 arrivals is.2.asked its.demands its.places departs load.sound is.2.asks is.2.demands is.2.places d)
 
 pub served-few : FatesAreInTime → (plan : Plan) (rows : Rows) (v : ℕ) (arrivals : Stream) (scan : Scan) (departs : List ℕ) (fates : List Fate) → IsLoaded plan rows v arrivals scan → IsServed plan rows v arrivals departs → fates ≡ map (λ time. Departs time) departs → length fates ≤ 1048576
 served-few law plan rows v arrivals scan departs fates l served e =

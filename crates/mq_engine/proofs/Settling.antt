@@ -1,4 +1,4 @@
--- What the turns of a wave change: which nodes wait, and how many.
+-- What the nodes worked out in a wave change: which nodes wait, and how many.
 use Rattle.std.proofs.Common.{◌≡◌, ℕ, ◌+◌, ◌<◌, ◌≤◌, ◌⊎◌, inl, inr, Bool, true, false, cond, List, [], ◌∷◌, ◌++◌, length, get_or, set, Option, Some, None, refl, sym, ap, ◌∙◌, subst, arith}
 use Rattle.std.specs.Prelude.{count_by, filter, slice_get}
 use Rattle.std.specs.List.{AllByRecursion as Each}
@@ -12,13 +12,13 @@ use Rattle.mq_core.specs.declared.model.Plan.{Plan}
 use Rattle.mq_core.specs.declared.model.Rows.{Rows}
 use Rattle.mq_core.specs.declared.model.Stream.{Stream}
 use Rattle.mq_core.specs.declared.model.Visits.{Visits}
-use Rattle.mq_engine.specs.Loads.{IsTurnOf}
+use Rattle.mq_engine.specs.Loads.{IsResultOf}
 use Rattle.mq_engine.specs.Progress.{AreWaiting, AreWorkedOut, IsEndPut, IsPut, IsReached, is_ready, is_waiting, reads_done, stands_at}
 use Rattle.mq_engine.specs.declared.progress.Stand.{Stand}
 use Rattle.mq_engine.specs.declared.progress.Stand.TheVariants.{Done, Late}
-use Rattle.mq_engine.specs.declared.turns.Ending.{Ending}
-use Rattle.mq_engine.specs.declared.turns.Ending.TheVariants.{OnTime, TooLate}
-use Rattle.mq_engine.specs.declared.turns.Turn.{Turn}
+use Rattle.mq_engine.specs.declared.working.Ending.{Ending}
+use Rattle.mq_engine.specs.declared.working.Ending.TheVariants.{OnTime, TooLate}
+use Rattle.mq_engine.specs.declared.working.NodeResult.{NodeResult}
 use Rattle.mq_engine.proofs.Lists.{filter-passes}
 use Rattle.mq_engine.proofs.Waves.{order-few, put-keeps}
 
@@ -46,7 +46,7 @@ count-set stands v at l quiet =
     let none : bit (is_waiting at) ≡ 0 = ap bit quiet in
     omega (arith, none)
 
--- a turn that is put down leaves no more nodes that wait, and one less where its own did
+-- a node worked out that is put down leaves no more nodes that wait, and one less where its own did
 record IsFewer (stands stands' : List Stand) (v : ℕ) : Type 0 where
   same : length stands' ≡ length stands
   most : count_by is_waiting stands' ≤ count_by is_waiting stands
@@ -72,60 +72,60 @@ end-lengths : (v : ℕ) (ending : Ending) (visits visits' : List Visits) (output
 end-lengths v (OnTime came left) visits visits' outputs outputs' stands stands' h = (ap length h.0 ∙ length-set visits v came, ap length h.1 ∙ length-set outputs v left)
 end-lengths v (TooLate fault) visits visits' outputs outputs' stands stands' h = (ap length h.0, ap length h.1)
 
--- what is kept while the turns of a wave are put down: those left, of all of them
-pub record IsSettling (visits0 : List Visits) (outputs0 : List (List Stream)) (stands0 : List Stand) (turns0 : List Turn) (visits : List Visits) (outputs : List (List Stream)) (stands : List Stand) (turns : List Turn) : Type 0 where
+-- what is kept while the nodes worked out in a wave are put down: those left, of all of them
+pub record IsSettling (visits0 : List Visits) (outputs0 : List (List Stream)) (stands0 : List Stand) (results0 : List NodeResult) (visits : List Visits) (outputs : List (List Stream)) (stands : List Stand) (results : List NodeResult) : Type 0 where
   pub stand : length stands ≡ length stands0
   pub came : length visits ≡ length stands0
   pub left : length outputs ≡ length stands0
-  pub waits : AreWaiting stands0 turns
-  pub reached : (plan : Plan) (rows : Rows) → IsReached plan rows visits0 outputs0 stands0 → AreWorkedOut plan rows turns0 → IsReached plan rows visits outputs stands × AreWorkedOut plan rows turns
-  pub fewer : ((stands ≡ stands0) × (turns ≡ turns0)) ⊎ (count_by is_waiting stands < count_by is_waiting stands0)
+  pub waits : AreWaiting stands0 results
+  pub reached : (plan : Plan) (rows : Rows) → IsReached plan rows visits0 outputs0 stands0 → AreWorkedOut plan rows results0 → IsReached plan rows visits outputs stands × AreWorkedOut plan rows results
+  pub fewer : ((stands ≡ stands0) × (results ≡ results0)) ⊎ (count_by is_waiting stands < count_by is_waiting stands0)
 
-pub settling-more : (visits0 visits visits' : List Visits) (outputs0 outputs outputs' : List (List Stream)) (stands0 stands stands' : List Stand) (turns0 turns rest : List Turn) (turn : Turn) → IsSettling visits0 outputs0 stands0 turns0 visits outputs stands turns → turns ≡ rest ++ turn ∷ [] →
-    IsPut turn visits outputs stands visits' outputs' stands' → IsSettling visits0 outputs0 stands0 turns0 visits' outputs' stands' rest
-settling-more visits0 visits visits' outputs0 outputs outputs' stands0 stands stands' turns0 turns rest turn s e put =
+pub settling-more : (visits0 visits visits' : List Visits) (outputs0 outputs outputs' : List (List Stream)) (stands0 stands stands' : List Stand) (results0 results rest : List NodeResult) (node_result : NodeResult) → IsSettling visits0 outputs0 stands0 results0 visits outputs stands results → results ≡ rest ++ node_result ∷ [] →
+    IsPut node_result visits outputs stands visits' outputs' stands' → IsSettling visits0 outputs0 stands0 results0 visits' outputs' stands' rest
+settling-more visits0 visits visits' outputs0 outputs outputs' stands0 stands stands' results0 results rest node_result s e put =
     record {
       stand = gone.same ∙ s.stand;
       came = lengths.0 ∙ s.came;
       left = lengths.1 ∙ s.left;
-      waits = Each-front _ rest (turn ∷ []) waits;
+      waits = Each-front _ rest (node_result ∷ []) waits;
       reached = λ plan rows r w.
           let now = s.reached plan rows r w in
           let known = subst (AreWorkedOut plan rows) e now.1 in
-          (put-keeps plan rows turn visits visits' outputs outputs' stands stands' now.0 (Each-back _ rest (turn ∷ []) known).0 put, Each-front _ rest (turn ∷ []) known);
+          (put-keeps plan rows node_result visits visits' outputs outputs' stands stands' now.0 (Each-back _ rest (node_result ∷ []) known).0 put, Each-front _ rest (node_result ∷ []) known);
       fewer = inr (count s.fewer);
     }
   where
-    waits : AreWaiting stands0 (rest ++ turn ∷ [])
+    waits : AreWaiting stands0 (rest ++ node_result ∷ [])
     waits = subst (AreWaiting stands0) e s.waits
 
-    here : stands_at is_waiting (slice_get stands0 turn.number) ≡ true
-    here = (Each-back _ rest (turn ∷ []) waits).0
+    here : stands_at is_waiting (slice_get stands0 node_result.number) ≡ true
+    here = (Each-back _ rest (node_result ∷ []) waits).0
 
-    inside : turn.number < length stands
-    inside = subst (λ n. turn.number < n) (sym s.stand) (waiting-inside stands0 turn.number here)
+    inside : node_result.number < length stands
+    inside = subst (λ n. node_result.number < n) (sym s.stand) (waiting-inside stands0 node_result.number here)
 
-    gone : IsFewer stands stands' turn.number
-    gone = end-fewer turn.number turn.ending visits visits' outputs outputs' stands stands' inside put
+    gone : IsFewer stands stands' node_result.number
+    gone = end-fewer node_result.number node_result.ending visits visits' outputs outputs' stands stands' inside put
 
     lengths : (length visits' ≡ length visits) × (length outputs' ≡ length outputs)
-    lengths = end-lengths turn.number turn.ending visits visits' outputs outputs' stands stands' put
+    lengths = end-lengths node_result.number node_result.ending visits visits' outputs outputs' stands stands' put
 
-    count : ((stands ≡ stands0) × (turns ≡ turns0)) ⊎ (count_by is_waiting stands < count_by is_waiting stands0) → count_by is_waiting stands' < count_by is_waiting stands0
+    count : ((stands ≡ stands0) × (results ≡ results0)) ⊎ (count_by is_waiting stands < count_by is_waiting stands0) → count_by is_waiting stands' < count_by is_waiting stands0
     count (inl same) =
-        let less = gone.less (ap (λ (l : List Stand). stands_at is_waiting (slice_get l turn.number)) same.0 ∙ here) in
+        let less = gone.less (ap (λ (l : List Stand). stands_at is_waiting (slice_get l node_result.number)) same.0 ∙ here) in
         let equal : count_by is_waiting stands ≡ count_by is_waiting stands0 = ap (count_by is_waiting) same.0 in
         omega arith
     count (inr less) = let most = gone.most in omega arith
 
--- the turns of nodes that are ready are those of nodes that wait
-pub ready-wait : (plan : Plan) (rows : Rows) (stands : List Stand) (ready : List ℕ) (turns : List Turn) → ready ≡ filter (is_ready plan.net.nodes stands) plan.order → Each (IsTurnOf plan rows ready) turns → AreWaiting stands turns
-ready-wait plan rows stands ready turns e = Each-weaker (IsTurnOf plan rows ready) _ (λ turn h.
-    let passes = filter-passes (is_ready plan.net.nodes stands) plan.order h.0.0 turn.number (ap (λ (l : List ℕ). slice_get l h.0.0) (sym e) ∙ (slice_get-get_or ready h.0.0 turn.number h.0.1 ∙ ap Some h.0.2)) in
-    (and_parts _ (reads_done stands (slice_get plan.net.nodes turn.number)) passes).0) turns
+-- nodes that are ready are nodes that wait
+pub ready-wait : (plan : Plan) (rows : Rows) (stands : List Stand) (ready : List ℕ) (results : List NodeResult) → ready ≡ filter (is_ready plan.net.nodes stands) plan.order → Each (IsResultOf plan rows ready) results → AreWaiting stands results
+ready-wait plan rows stands ready results e = Each-weaker (IsResultOf plan rows ready) _ (λ node_result h.
+    let passes = filter-passes (is_ready plan.net.nodes stands) plan.order h.0.0 node_result.number (ap (λ (l : List ℕ). slice_get l h.0.0) (sym e) ∙ (slice_get-get_or ready h.0.0 node_result.number h.0.1 ∙ ap Some h.0.2)) in
+    (and_parts _ (reads_done stands (slice_get plan.net.nodes node_result.number)) passes).0) results
 
-pub turns-known : (plan : Plan) (rows : Rows) (ready : List ℕ) (turns : List Turn) → Each (IsTurnOf plan rows ready) turns → AreWorkedOut plan rows turns
-turns-known plan rows ready turns = Each-weaker (IsTurnOf plan rows ready) _ (λ turn h. h.1) turns
+pub results-known : (plan : Plan) (rows : Rows) (ready : List ℕ) (results : List NodeResult) → Each (IsResultOf plan rows ready) results → AreWorkedOut plan rows results
+results-known plan rows ready results = Each-weaker (IsResultOf plan rows ready) _ (λ node_result h. h.1) results
 
 -- few nodes are ready
 pub ready-few : (plan : Plan) (stands : List Stand) (ready : List ℕ) → ready ≡ filter (is_ready plan.net.nodes stands) plan.order → length ready ≤ 64

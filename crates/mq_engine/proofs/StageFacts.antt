@@ -9,9 +9,9 @@ use Rattle.std.proofs.lemmas.List.Elements.{All-get_or}
 use Rattle.std.proofs.lemmas.Option.{get_or_from_slice_get, slice_get_within}
 use Rattle.mq_base.proofs.lemmas.Lists.{sum-cons}
 use Rattle.mq_base.proofs.lemmas.Each.{Each-flat_map, Each-map, Each-weaker}
-use Rattle.mq_core.specs.Columns.{IsSoundLoad}
+use Rattle.mq_core.specs.Sequences.{IsSoundLoad}
 use Rattle.mq_core.specs.Handling.{demand_of_job}
-use Rattle.mq_core.specs.Recurrences.{fork_departs, tandem_departs}
+use Rattle.mq_core.specs.Recurrences.{forkjoin_departs, tandem_departs}
 use Rattle.mq_core.specs.Kinds.ForkJoin.{branch_demands}
 use Rattle.mq_core.specs.Kinds.Tandem.{tandem_times}
 use Rattle.mq_core.specs.Kinds.ForkJoin.{are_sound_branches}
@@ -27,13 +27,13 @@ use Rattle.mq_core.specs.declared.model.Stream.{Stream}
 use Rattle.mq_forkjoin.specs.Branches.{AreBranches, branches_of}
 use Rattle.mq_tandem.specs.Stages.{AreStages}
 use Rattle.mq_engine.specs.Loads.{AreServed}
-use Rattle.mq_engine.specs.Turns.{AreAsked, IsLoad}
+use Rattle.mq_engine.specs.Working.{AreAsked, IsLoad}
 use Rattle.mq_engine.proofs.Leaves.{asked-each, load-sound}
 use Rattle.mq_engine.proofs.Lists.{Each-get_or}
 
--- what holds of each item holds of the one at a place
-pub All-place : {X : Type 0} (P : X → Type 0) (xs : List X) (i : ℕ) (x : X) → All P xs → slice_get xs i ≡ Some x → P x
-All-place P xs i x h e = subst P (get_or_from_slice_get xs i x x e) (All-get_or P xs i x (slice_get_within xs i x e) h)
+-- what holds of each item holds of the one at an index
+pub All-index : {X : Type 0} (P : X → Type 0) (xs : List X) (i : ℕ) (x : X) → All P xs → slice_get xs i ≡ Some x → P x
+All-index P xs i x h e = subst P (get_or_from_slice_get xs i x x e) (All-get_or P xs i x (slice_get_within xs i x e) h)
 
 -- what follows from a test that each item passes holds of each
 each-tested : {X : Type 0} (test : X → Bool) (P : X → Type 0) → ((x : X) → test x ≡ true → P x) → (xs : List X) → list_all test xs ≡ true → Each P xs
@@ -117,14 +117,14 @@ branch columns demands h =
     record { some = b.0; few = b.1; asked = each-tested (is_sound_demand columns) (IsAsked columns) (λ d e. e) demands a.1 }
 
 -- the branches of a fork-join, in their ranges
-pub record AreForked (columns : ℕ) (branches : List (List Demand)) : Type 0 where
+pub record AreForkJoined (columns : ℕ) (branches : List (List Demand)) : Type 0 where
   pub some : 2 ≤ length branches
   pub few : length (flat_map (λ demands. demands) branches) ≤ 8
   pub served : Each (λ servers. 1 ≤ servers) (map length branches)
   pub narrow : Each (λ demands. length demands ≤ 4) branches
   pub asked : Each (IsAsked columns) (flat_map (λ demands. demands) branches)
 
-pub sound-branches : (columns : ℕ) (branches : List (List Demand)) → are_sound_branches columns branches ≡ true → AreForked columns branches
+pub sound-branches : (columns : ℕ) (branches : List (List Demand)) → are_sound_branches columns branches ≡ true → AreForkJoined columns branches
 sound-branches columns branches h =
     let a = and_parts _ (nat_le (length (flat_map (λ demands. demands) branches)) 8) h in
     let b = and_parts (is_within 2 8 (length branches)) _ a.0 in
@@ -166,8 +166,8 @@ branches-are columns branches asked servers f demands h a p d =
     }
 
 -- A station can work on what comes to it, at each of its servers.
-pub columns-asked : (rows : Rows) (kind : Kind) (asked all : List Demand) (arrivals : Stream) → (h : IsLoad rows kind arrivals) → asked ≡ all → Each (IsAsked (length h.net.columns)) all → All (λ demand. AreAsked rows demand arrivals.job) asked
-columns-asked rows kind asked all arrivals h e each =
+pub demands-asked : (rows : Rows) (kind : Kind) (asked all : List Demand) (arrivals : Stream) → (h : IsLoad rows kind arrivals) → asked ≡ all → Each (IsAsked (length h.net.columns)) all → All (λ demand. AreAsked rows demand arrivals.job) asked
+demands-asked rows kind asked all arrivals h e each =
     subst (All (λ demand. AreAsked rows demand arrivals.job)) (sym e)
     (λ k d l. Each-get_or (λ demand. AreAsked rows demand arrivals.job) all (Each-weaker (IsAsked (length h.net.columns)) (λ demand. AreAsked rows demand arrivals.job) (λ demand s. asked-each rows kind demand arrivals h s) all each) k d l)
 
@@ -182,15 +182,15 @@ none-each : (stages : List Stage) → map {B = List ℕ} (λ _. []) (map (λ (s 
 none-each [] = refl
 none-each (stage ∷ stages) = ap (λ l. [] ∷ l) (none-each stages)
 
-column-each : (f : Demand → List ℕ) (stages : List Stage) → map f (map (λ (s : Stage). s.demand) stages) ≡ map (λ (s : Stage). f s.demand) stages
-column-each f [] = refl
-column-each f (stage ∷ stages) = ap (λ l. f stage.demand ∷ l) (column-each f stages)
+demands-each : (f : Demand → List ℕ) (stages : List Stage) → map f (map (λ (s : Stage). s.demand) stages) ≡ map (λ (s : Stage). f s.demand) stages
+demands-each f [] = refl
+demands-each f (stage ∷ stages) = ap (λ l. f stage.demand ∷ l) (demands-each f stages)
 
 times-of : (columns : ℕ) (rows : Rows) (stages : List Stage) (jobs arrives : List ℕ) → are_sound_stages columns stages ≡ true →
     tandem_departs (map (λ (s : Stage). s.places) stages) (map (λ _. []) (map (λ (s : Stage). s.places) stages)) arrives (map (λ demand. map (demand_of_job rows demand) jobs) (map (λ (s : Stage). s.demand) stages)) ≡ tandem_times rows stages jobs arrives
 times-of columns rows [] jobs arrives h = absurd cc
 times-of columns rows (stage ∷ stages) jobs arrives h =
-    λ k. tandem_departs (map (λ (s : Stage). s.places) (stage ∷ stages)) (none-each (stage ∷ stages) k) arrives (column-each (λ demand. map (demand_of_job rows demand) jobs) (stage ∷ stages) k)
+    λ k. tandem_departs (map (λ (s : Stage). s.places) (stage ∷ stages)) (none-each (stage ∷ stages) k) arrives (demands-each (λ demand. map (demand_of_job rows demand) jobs) (stage ∷ stages) k)
 
 pub tandem-served : (columns : ℕ) (rows : Rows) (stages : List Stage) (arrivals : Stream) (asked : List Demand) (demands : List (List ℕ)) (places departs : List ℕ) → are_sound_stages columns stages ≡ true →
     asked ≡ map (λ (s : Stage). s.demand) stages → demands ≡ map (λ demand. map (demand_of_job rows demand) arrivals.job) asked → places ≡ map (λ (s : Stage). s.places) stages → departs ≡ tandem_departs places (map (λ _. []) places) arrivals.time demands →
@@ -200,7 +200,7 @@ tandem-served columns rows stages arrivals asked demands places departs h a m p 
     d ∙ ((λ k. tandem_departs (p k) (map (λ _. []) (p k)) arrivals.time ((m ∙ ap (map (λ demand. map (demand_of_job rows demand) arrivals.job)) a) k)) ∙ times-of columns rows stages arrivals.job arrivals.time h) in
     record { one = refl; order = λ stream. refl; outs = refl; fates = ap (map (λ time. Departs time)) (sym by) }
 
--- What leaves a fork-join. The columns of all servers, cut into branches, are those of each branch.
+-- What leaves a fork-join. The demands of all servers, cut into branches, are those of each branch.
 take-front : {X : Type 0} (f : Demand → X) (front rest : List Demand) → take (length front) (map f (front ++ rest)) ≡ map f front
 take-front f [] rest = refl
 take-front f (d ∷ front) rest = ap (λ l. f d ∷ l) (take-front f front rest)
@@ -214,10 +214,10 @@ branches-back f [] = refl
 branches-back f (demands ∷ more) =
     (λ k. take-front f demands (flat_map (λ ds. ds) more) k ∷ branches_of (map length more) (drop-front f demands (flat_map (λ ds. ds) more) k)) ∙ ap (λ l. map f demands ∷ l) (branches-back f more)
 
-pub fork-served : (rows : Rows) (branches : List (List Demand)) (arrivals : Stream) (asked : List Demand) (demands : List (List ℕ)) (servers departs : List ℕ) →
-    asked ≡ flat_map (λ ds. ds) branches → demands ≡ map (λ demand. map (demand_of_job rows demand) arrivals.job) asked → servers ≡ map length branches → departs ≡ fork_departs arrivals.time (branches_of servers demands) →
+pub forkjoin-served : (rows : Rows) (branches : List (List Demand)) (arrivals : Stream) (asked : List Demand) (demands : List (List ℕ)) (servers departs : List ℕ) →
+    asked ≡ flat_map (λ ds. ds) branches → demands ≡ map (λ demand. map (demand_of_job rows demand) arrivals.job) asked → servers ≡ map length branches → departs ≡ forkjoin_departs arrivals.time (branches_of servers demands) →
     AreServed rows (ForkJoin branches) arrivals departs
-fork-served rows branches arrivals asked demands servers departs a m p d =
-    let by : departs ≡ fork_departs arrivals.time (branch_demands rows branches arrivals.job) =
-    d ∙ ((λ k. fork_departs arrivals.time (branches_of (p k) ((m ∙ ap (map (λ demand. map (demand_of_job rows demand) arrivals.job)) a) k))) ∙ ap (fork_departs arrivals.time) (branches-back (λ demand. map (demand_of_job rows demand) arrivals.job) branches)) in
+forkjoin-served rows branches arrivals asked demands servers departs a m p d =
+    let by : departs ≡ forkjoin_departs arrivals.time (branch_demands rows branches arrivals.job) =
+    d ∙ ((λ k. forkjoin_departs arrivals.time (branches_of (p k) ((m ∙ ap (map (λ demand. map (demand_of_job rows demand) arrivals.job)) a) k))) ∙ ap (forkjoin_departs arrivals.time) (branches-back (λ demand. map (demand_of_job rows demand) arrivals.job) branches)) in
     record { one = refl; order = λ stream. refl; outs = refl; fates = ap (map (λ time. Departs time)) (sym by) }

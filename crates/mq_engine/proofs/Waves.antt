@@ -1,4 +1,4 @@
--- The waves of the engine: what is done so far are the columns of the run.
+-- The waves of the engine: what is done so far are the sequences of the run.
 use Rattle.std.proofs.Common.{◌≡◌, ◌≢◌, ℕ, zero, suc, [], ◌++◌, ◌+◌, ◌^◌, ◌<◌, ◌≤◌, ◌⊎◌, inl, inr, Bool, true, false, cond, List, length, set, map, Option, Some, None, refl, sym, ap, ◌∙◌, subst, arith, length-append}
 use Rattle.std.specs.Prelude.{◌==◌, nat_le, slice_get}
 use Rattle.std.specs.List.{flat_map, list_all, list_any, zip}
@@ -11,10 +11,10 @@ use Rattle.std.proofs.lemmas.Option.{slice_get_within}
 use Rattle.mq_base.proofs.lemmas.Lists.{some_inj}
 use Rattle.mq_base.proofs.lemmas.Each.{Each-weaker}
 use Rattle.mq_core.specs.Came.{came_by, came_in, came_of}
-use Rattle.mq_core.specs.ColumnLaws.{arrives_of, jobs_of}
-use Rattle.mq_core.specs.Columns.{IsStream, by_first, column_fates, column_late, column_late_from, column_outs, column_stream, column_visits, leaving_times, picked, pairs_of, rows_at, streams_below}
+use Rattle.mq_core.specs.SequenceLaws.{arrives_of, jobs_of}
+use Rattle.mq_core.specs.Sequences.{IsStream, by_first, sequence_fates, sequence_late, sequence_late_from, sequence_outs, sequence_stream, sequence_visits, leaving_times, picked, pairs_of, rows_at, streams_below}
 use Rattle.mq_core.specs.Results.{Late as LateVisit, first_of, stream_from, visits_of}
-use Rattle.mq_core.specs.RunLaws.{HasColumns}
+use Rattle.mq_core.specs.RunLaws.{HasSequences}
 use Rattle.mq_core.specs.Names.{is_name}
 use Rattle.mq_core.specs.Sound.{are_distinct, columns_of_kind, is_sound_node, mentions_from, outputs_in, same_input}
 use Rattle.mq_core.specs.Ranges.{is_within}
@@ -28,15 +28,15 @@ use Rattle.mq_core.specs.declared.model.Rows.{Rows}
 use Rattle.mq_core.specs.declared.model.Stream.{Stream}
 use Rattle.mq_core.specs.declared.model.Visits.{Visits}
 use Rattle.mq_engine.specs.CoreLaws.{CoreLaws}
-use Rattle.mq_engine.specs.Turns.{AreEarly, AreStreams, IsEarlyStream, IsLoad, IsThere, IsTurn, arriving, pairs_by, pairs_in, pairs_read}
+use Rattle.mq_engine.specs.Working.{AreEarly, AreStreams, IsEarlyStream, IsLoad, IsThere, IsResult, arriving, pairs_by, pairs_in, pairs_read}
 use Rattle.mq_engine.specs.Loads.{IsArrived}
 use Rattle.mq_engine.specs.Progress.{CanWork, IsEndPut, IsEnding, IsKnown, IsPut, IsReached, IsWorkedOut, Tells, is_done, is_read, is_ready, is_waiting, reads_done, stands_at}
 use Rattle.mq_engine.specs.declared.fault.PastFault.{PastFault}
 use Rattle.mq_engine.specs.declared.progress.Stand.{Stand}
 use Rattle.mq_engine.specs.declared.progress.Stand.TheVariants.{Waiting, Done, Late}
-use Rattle.mq_engine.specs.declared.turns.Ending.{Ending}
-use Rattle.mq_engine.specs.declared.turns.Ending.TheVariants.{OnTime, TooLate}
-use Rattle.mq_engine.specs.declared.turns.Turn.{Turn}
+use Rattle.mq_engine.specs.declared.working.Ending.{Ending}
+use Rattle.mq_engine.specs.declared.working.Ending.TheVariants.{OnTime, TooLate}
+use Rattle.mq_engine.specs.declared.working.NodeResult.{NodeResult}
 use Rattle.mq_engine.proofs.Early.{EarlyPairs, EarlyTimes, flat-early, picked-early, reads-early, rows-early, stream-early, leaving-early}
 use Rattle.mq_engine.proofs.Leaves.{none-late}
 use Rattle.mq_engine.proofs.Lists.{Each-at, Each-get, all-get, flat_map-same, get-set_other, get-set_same, zip-jobs, zip-times}
@@ -118,29 +118,29 @@ loaded laws plan rows outputs v node arrivals read early can there s e =
           let count = read.count in
           omega arith;
       leaves =
-          let columns = laws.columns plan rows read v node there in
+          let sequences = laws.sequences plan rows read v node there in
           let blind = laws.blind rows node.kind (came_of (length node.inputs) ((run_of plan rows).stations v).visits) in
-          λ out. subst IsStream (columns.stream out ∙ (blind.stream out ∙ (λ k. column_stream rows node.kind (came_by (sym a.job k) (sym a.time k)) out))) ((laws.streams plan rows v).streams out);
+          λ out. subst IsStream (sequences.stream out ∙ (blind.stream out ∙ (λ k. sequence_stream rows node.kind (came_by (sym a.job k) (sym a.time k)) out))) ((laws.streams plan rows v).streams out);
       told = λ k job g. laws.demands plan.net rows read job (subst (λ m. job < m) read.times (Each-get (λ j. j < length rows.time) (jobs_of xs) k job (laws.jobs plan rows v) (subst (λ l. slice_get l k ≡ Some job) a.job g)));
     }
 
--- what a turn makes of the node is what the run has
-made : (laws : CoreLaws) (plan : Plan) (rows : Rows) (v : ℕ) (node : Node) (arrivals : Stream) (came : Visits) (left : List Stream) → IsReadFor plan.net rows → slice_get plan.net.nodes v ≡ Some node → IsArrived plan rows v arrivals → IsTurn rows node.kind arrivals came left →
+-- what is worked out of the node is what the run has
+made : (laws : CoreLaws) (plan : Plan) (rows : Rows) (v : ℕ) (node : Node) (arrivals : Stream) (came : Visits) (left : List Stream) → IsReadFor plan.net rows → slice_get plan.net.nodes v ≡ Some node → IsArrived plan rows v arrivals → IsResult rows node.kind arrivals came left →
     (came ≡ visits_of node.kind ((run_of plan rows).stations v)) × (left ≡ streams_below (run_of plan rows) v (outputs_in node.kind))
 made laws plan rows v node arrivals came left read there a t =
-    let c = laws.columns plan rows read v node there in
+    let c = laws.sequences plan rows read v node there in
     let blind = laws.blind rows node.kind (came_of (length node.inputs) ((run_of plan rows).stations v).visits) in (
-      t.columns ∙ ((λ k. column_visits rows node.kind (came_by (a.job k) (a.time k))) ∙ sym (c.visits ∙ blind.visits)),
-      laws.make (run_of plan rows) v (outputs_in node.kind) left t.outflow.count (λ out l. t.outflow.each out l ∙ ((λ k. Some (column_stream rows node.kind (came_by (a.job k) (a.time k)) out)) ∙ ap Some (sym (c.stream out ∙ blind.stream out)))),
+      t.sequences ∙ ((λ k. sequence_visits rows node.kind (came_by (a.job k) (a.time k))) ∙ sym (c.visits ∙ blind.visits)),
+      laws.make (run_of plan rows) v (outputs_in node.kind) left t.outflow.count (λ out l. t.outflow.each out l ∙ ((λ k. Some (sequence_stream rows node.kind (came_by (a.job k) (a.time k)) out)) ∙ ap Some (sym (c.stream out ∙ blind.stream out)))),
     )
 
 -- its late visits are those of the run
 pub same-late : (laws : CoreLaws) (plan : Plan) (rows : Rows) (v : ℕ) (node : Node) (arrivals : Stream) (first : Option LateVisit) → IsReadFor plan.net rows → slice_get plan.net.nodes v ≡ Some node → IsArrived plan rows v arrivals →
-    first_of (column_late_from plan.net.bound v 0 (column_fates rows node.kind (came_in arrivals))) ≡ first →
-    first_of (column_late plan.net.bound v (visits_of node.kind ((run_of plan rows).stations v))) ≡ first
+    first_of (sequence_late_from plan.net.bound v 0 (sequence_fates rows node.kind (came_in arrivals))) ≡ first →
+    first_of (sequence_late plan.net.bound v (visits_of node.kind ((run_of plan rows).stations v))) ≡ first
 same-late laws plan rows v node arrivals first read there a h =
-    ap (λ (x : Visits). first_of (column_late plan.net.bound v x)) ((laws.columns plan rows read v node there).visits ∙ (laws.blind rows node.kind (came_of (length node.inputs) ((run_of plan rows).stations v).visits)).visits)
-    ∙ ((λ k. first_of (column_late_from plan.net.bound v 0 (column_fates rows node.kind (came_by (sym a.job k) (sym a.time k))))) ∙ h)
+    ap (λ (x : Visits). first_of (sequence_late plan.net.bound v x)) ((laws.sequences plan rows read v node there).visits ∙ (laws.blind rows node.kind (came_of (length node.inputs) ((run_of plan rows).stations v).visits)).visits)
+    ∙ ((λ k. first_of (sequence_late_from plan.net.bound v 0 (sequence_fates rows node.kind (came_by (sym a.job k) (sym a.time k))))) ∙ h)
 
 within-limits : (plan : Plan) → (length plan.net.nodes ≤ 64) × (plan.net.bound ≤ 2 ^ 60)
 within-limits plan =
@@ -186,15 +186,15 @@ order-few plan =
 
 -- the streams of a node whose visits are on time are early
 left-early : (laws : CoreLaws) (plan : Plan) (rows : Rows) (v : ℕ) (node : Node) (arrivals : Stream) (left : List Stream) → EarlyTimes arrivals.time → AreStreams rows node.kind arrivals left →
-    first_of (column_late_from plan.net.bound v 0 (column_fates rows node.kind (came_in arrivals))) ≡ None → (out : ℕ) (stream : Stream) → slice_get left out ≡ Some stream → EarlyTimes stream.time
+    first_of (sequence_late_from plan.net.bound v 0 (sequence_fates rows node.kind (came_in arrivals))) ≡ None → (out : ℕ) (stream : Stream) → slice_get left out ≡ Some stream → EarlyTimes stream.time
 left-early laws plan rows v node arrivals left came t h out stream e =
     let inside : out < outputs_in node.kind = subst (λ m. out < m) t.count (slice_get_within left out stream e) in
     let bound = bound-within plan in
     subst (λ (s : Stream). EarlyTimes s.time) (sym ((laws.go rows node.kind (came_in arrivals)).stream out) ∙ some_inj _ _ (sym (t.each out inside) ∙ e))
-    ((laws.keeps node.kind (record { job = picked out (column_outs rows node.kind (came_in arrivals)) arrivals.job; time = picked out (column_outs rows node.kind (came_in arrivals)) (leaving_times arrivals.time (column_fates rows node.kind (came_in arrivals))) })).times (2 ^ 60)
-    (picked-early out (column_outs rows node.kind (came_in arrivals)) (leaving_times arrivals.time (column_fates rows node.kind (came_in arrivals)))
-    (leaving-early arrivals.time (column_fates rows node.kind (came_in arrivals)) came
-    (Each-weaker (λ time. time ≤ plan.net.bound) (λ time. time ≤ 2 ^ 60) (λ time l. omega arith) _ (none-late plan.net.bound v 0 (column_fates rows node.kind (came_in arrivals)) h)))))
+    ((laws.keeps node.kind (record { job = picked out (sequence_outs rows node.kind (came_in arrivals)) arrivals.job; time = picked out (sequence_outs rows node.kind (came_in arrivals)) (leaving_times arrivals.time (sequence_fates rows node.kind (came_in arrivals))) })).times (2 ^ 60)
+    (picked-early out (sequence_outs rows node.kind (came_in arrivals)) (leaving_times arrivals.time (sequence_fates rows node.kind (came_in arrivals)))
+    (leaving-early arrivals.time (sequence_fates rows node.kind (came_in arrivals)) came
+    (Each-weaker (λ time. time ≤ plan.net.bound) (λ time. time ≤ 2 ^ 60) (λ time l. omega arith) _ (none-late plan.net.bound v 0 (sequence_fates rows node.kind (came_in arrivals)) h)))))
 
 left-ordered : (laws : CoreLaws) (plan : Plan) (rows : Rows) (v outs out : ℕ) (left : List Stream) (stream : Stream) → left ≡ streams_below (run_of plan rows) v outs → length left ≡ outs → slice_get left out ≡ Some stream → IsStream stream
 left-ordered laws plan rows v outs out left stream e count g =
@@ -209,7 +209,7 @@ decide-eq a b = go (a == b) refl
     go true e = inl (grind (arith, nat_tests))
     go false e = inr (λ s. grind (arith, nat_tests))
 
--- what the turn of a node gives is what the run has
+-- what a node that was worked out gives is what the run has
 pub known : (laws : CoreLaws) (plan : Plan) (rows : Rows) (v : ℕ) (node : Node) (arrivals : Stream) (ending : Ending) → IsReadFor plan.net rows → IsArrived plan rows v arrivals → IsLoad rows node.kind arrivals → slice_get plan.net.nodes v ≡ Some node →
     IsEnding plan.net rows v node.kind arrivals ending → IsKnown plan rows v node ending
 known laws plan rows v node arrivals (OnTime came left) read is load there h =
@@ -251,7 +251,7 @@ can-work laws plan rows visits outputs stands v read r ready =
           done-at input.node (slice_get stands input.node) refl (all-get (is_read stands) node.inputs port input all e);
     }
 
--- what stands at a node after its turn
+-- what stands at a node that was worked out
 module _ (plan : Plan) (rows : Rows) (visits : List Visits) (outputs : List (List Stream)) (stands : List Stand) (v : ℕ) (node : Node) (there : slice_get plan.net.nodes v ≡ Some node) (r : IsReached plan rows visits outputs stands) where
   inside : v < length plan.net.nodes
   inside = slice_get_within plan.net.nodes v node there
@@ -260,7 +260,7 @@ module _ (plan : Plan) (rows : Rows) (visits : List Visits) (outputs : List (Lis
   same-node w other same e = some_inj _ _ (sym there ∙ (ap (slice_get plan.net.nodes) (sym same) ∙ e))
 
   module _ (came : Visits) (left : List Stream) (k : IsKnown plan rows v node (OnTime came left)) where
-    here : HasColumns (run_of plan rows) (record { visits = set visits v came; outputs = set outputs v left }) v node
+    here : HasSequences (run_of plan rows) (record { visits = set visits v came; outputs = set outputs v left }) v node
     here =
         let in_visits : v < length visits = subst (λ m. v < m) (sym r.came) inside in
         let in_outputs : v < length outputs = subst (λ m. v < m) (sym r.left) inside in
@@ -320,7 +320,7 @@ module _ (plan : Plan) (rows : Rows) (visits : List Visits) (outputs : List (Lis
           subst (λ (p : ℕ × Node × Stand). Tells plan rows visits outputs p.0 p.1 p.2) (λ i. (sym same i, same-node w other same e i, is-late i)) k
       at_late w other at e g (inr apart) = r.told w other at e (sym (get-set_other stands v w (Late fault) apart) ∙ g)
 
--- a turn that is put down keeps what is reached
+-- a node worked out that is put down keeps what is reached
 put-ending : (plan : Plan) (rows : Rows) (v : ℕ) (node : Node) (ending : Ending) (visits visits' : List Visits) (outputs outputs' : List (List Stream)) (stands stands' : List Stand) → slice_get plan.net.nodes v ≡ Some node → IsReached plan rows visits outputs stands → IsKnown plan rows v node ending →
     IsEndPut v ending visits outputs stands visits' outputs' stands' → IsReached plan rows visits' outputs' stands'
 put-ending plan rows v node (OnTime came left) visits visits' outputs outputs' stands stands' there r k h =
@@ -328,6 +328,6 @@ put-ending plan rows v node (OnTime came left) visits visits' outputs outputs' s
 put-ending plan rows v node (TooLate fault) visits visits' outputs outputs' stands stands' there r k h =
     subst (λ (p : List Visits × List (List Stream) × List Stand). IsReached plan rows p.0 p.1 p.2) (λ i. (sym h.0 i, sym h.1 i, sym h.2 i)) (too-late plan rows visits outputs stands v node there r fault k)
 
-pub put-keeps : (plan : Plan) (rows : Rows) (turn : Turn) (visits visits' : List Visits) (outputs outputs' : List (List Stream)) (stands stands' : List Stand) → IsReached plan rows visits outputs stands → IsWorkedOut plan rows turn →
-    IsPut turn visits outputs stands visits' outputs' stands' → IsReached plan rows visits' outputs' stands'
-put-keeps plan rows turn visits visits' outputs outputs' stands stands' r w h = put-ending plan rows turn.number w.0 turn.ending visits visits' outputs outputs' stands stands' w.1 r w.2 h
+pub put-keeps : (plan : Plan) (rows : Rows) (node_result : NodeResult) (visits visits' : List Visits) (outputs outputs' : List (List Stream)) (stands stands' : List Stand) → IsReached plan rows visits outputs stands → IsWorkedOut plan rows node_result →
+    IsPut node_result visits outputs stands visits' outputs' stands' → IsReached plan rows visits' outputs' stands'
+put-keeps plan rows node_result visits visits' outputs outputs' stands stands' r w h = put-ending plan rows node_result.number w.0 node_result.ending visits visits' outputs outputs' stands stands' w.1 r w.2 h

@@ -3,11 +3,11 @@ use Rattle.std.specs.Prelude.{◌≡◌, ◌<◌, ◌+◌, ◌-◌, ◌*◌, ℕ
 use Rattle.mq_scan.specs.Folds.{carries_after, span}
 use Rattle.mq_scan.specs.declared.blocks.Blocks.{Blocks}
 
--- the first place of a block
+-- the first index of a block
 abbrev pub from_of : Blocks → ℕ → ℕ
 from_of blocks b = b * blocks.block
 
--- how many places it has
+-- how many indices it has
 abbrev pub size_of : Blocks → ℕ → ℕ
 size_of blocks b = min ((b + 1) * blocks.block) blocks.n - b * blocks.block
 

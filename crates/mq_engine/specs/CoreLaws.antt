@@ -1,8 +1,8 @@
 -- The laws of runs that the engine rests on, each proved in the core.
-use Rattle.mq_core.specs.ColumnLaws.{ArrivalsAreStreams, ColumnsAreBlind, ColumnsGoByFates, FatesAreInTime, JobsAreRows, NodesAreColumns, OrdersKeepItems, StreamsRise, VisitsAreFew}
+use Rattle.mq_core.specs.SequenceLaws.{ArrivalsAreStreams, SequencesAreBlind, SequencesGoByFates, FatesAreInTime, JobsAreRows, NodesAreSequences, OrdersKeepItems, StreamsRise, VisitsAreFew}
 use Rattle.mq_core.specs.NumberLaws.{OnTimeGrows, PastIsFirst, PastIsNone}
 use Rattle.mq_core.specs.PlanLaws.{NodesAreInLimits, OrdersRank, RowsTellDemands}
-use Rattle.mq_core.specs.RunLaws.{ColumnsMakeRuns, OutputsHaveStreams, StreamsMakeOutputs}
+use Rattle.mq_core.specs.RunLaws.{SequencesMakeRuns, OutputsHaveStreams, StreamsMakeOutputs}
 
 pub record CoreLaws : Type 0 where
   pub limits : NodesAreInLimits
@@ -13,13 +13,13 @@ pub record CoreLaws : Type 0 where
   pub jobs : JobsAreRows
   pub fates : FatesAreInTime
   pub keeps : OrdersKeepItems
-  pub columns : NodesAreColumns
-  pub blind : ColumnsAreBlind
-  pub go : ColumnsGoByFates
+  pub sequences : NodesAreSequences
+  pub blind : SequencesAreBlind
+  pub go : SequencesGoByFates
   pub streams : StreamsRise
   pub have : OutputsHaveStreams
   pub make : StreamsMakeOutputs
-  pub runs : ColumnsMakeRuns
+  pub runs : SequencesMakeRuns
   pub grows : OnTimeGrows
   pub first : PastIsFirst
   pub none : PastIsNone

@@ -4,4 +4,4 @@ pub mod CoreLaws
 pub mod Loads
 pub mod Losses
 pub mod Progress
-pub mod Turns
+pub mod Working

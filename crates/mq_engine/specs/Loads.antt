@@ -1,8 +1,8 @@
 -- What comes to the nodes that are ready, and what the pieces of a wave are.
 use Rattle.std.specs.Prelude.{◌≡◌, ◌≤◌, ◌+◌, ◌-◌, ◌*◌, ℕ, List, Contains, length, map, Some, None, slice_get}
 use Rattle.mq_core.specs.Came.{came_in}
-use Rattle.mq_core.specs.ColumnLaws.{arrives_of, jobs_of}
-use Rattle.mq_core.specs.Columns.{column_fates, column_late_from, column_outs, founds_of, stream_in_order}
+use Rattle.mq_core.specs.SequenceLaws.{arrives_of, jobs_of}
+use Rattle.mq_core.specs.Sequences.{sequence_fates, sequence_late_from, sequence_outs, founds_of, stream_in_order}
 use Rattle.mq_core.specs.Handling.{demand_of_job}
 use Rattle.mq_core.specs.Results.{first_of}
 use Rattle.mq_core.specs.Sound.{outputs_in}
@@ -30,21 +30,21 @@ use Rattle.mq_tandem.specs.Rows.{job_matrix, kept, last_row, none_kept}
 use Rattle.mq_engine.specs.Answer.{late_told}
 use Rattle.mq_engine.specs.Blocks.{AreTimesOf, IsSumOf}
 use Rattle.mq_engine.specs.Progress.{IsWorkedOut}
-use Rattle.mq_engine.specs.Turns.{IsLeaving, IsLoad}
+use Rattle.mq_engine.specs.Working.{IsLeaving, IsLoad}
 use Rattle.mq_engine.specs.declared.exits.Closed.{Closed}
 use Rattle.mq_engine.specs.declared.exits.Closed.TheVariants.{Fates, Found, Jobs, Over}
 use Rattle.mq_engine.specs.declared.exits.Exit.{Exit}
 use Rattle.mq_engine.specs.declared.exits.Exit.TheVariants.{Known, Served}
-use Rattle.mq_engine.specs.declared.exits.Leaving.{Leaving}
+use Rattle.mq_engine.specs.declared.exits.Emptied.{Emptied}
 use Rattle.mq_engine.specs.declared.middles.Middle.{Middle}
 use Rattle.mq_engine.specs.declared.loads.Load.{Load}
 use Rattle.mq_engine.specs.declared.loads.Scan.{Scan}
 use Rattle.mq_engine.specs.declared.loads.Scan.TheVariants.{OfServer, OfTandem, Unscanned}
 use Rattle.mq_engine.specs.declared.stations.server.ServerScan.{ServerScan}
 use Rattle.mq_engine.specs.declared.stations.tandem.TandemScan.{TandemScan}
-use Rattle.mq_engine.specs.declared.turns.Turn.{Turn}
-use Rattle.mq_engine.specs.declared.turns.After.{After}
-use Rattle.mq_engine.specs.declared.turns.After.TheVariants.{Seen, Missed}
+use Rattle.mq_engine.specs.declared.working.NodeResult.{NodeResult}
+use Rattle.mq_engine.specs.declared.working.After.{After}
+use Rattle.mq_engine.specs.declared.working.After.TheVariants.{Seen, Missed}
 use Rattle.mq_engine.specs.declared.firsts.Part.{Part}
 use Rattle.mq_engine.specs.declared.firsts.Part.TheVariants.{Product, Sum, Whole}
 use Rattle.mq_engine.specs.declared.firsts.Stage.{Stage}
@@ -55,7 +55,7 @@ pub record IsArrived (plan : Plan) (rows : Rows) (v : ℕ) (arrivals : Stream) :
   pub job : arrivals.job ≡ jobs_of ((run_of plan rows).stations v).visits
   pub time : arrivals.time ≡ arrives_of ((run_of plan rows).stations v).visits
 
--- places are cut into so many blocks at most
+-- indices are cut into so many blocks at most
 abbrev pub AreFewBlocks : ℕ → ℕ → Blocks → Type 0
 AreFewBlocks places most blocks = (blocks.n ≡ places) × (blocks.blocks ≤ most)
 
@@ -68,7 +68,7 @@ pub record IsServerScan (rows : Rows) (demand : Demand) (arrivals : Stream) (sca
 pub record IsTandemScan (rows : Rows) (stages : List TandemStage) (arrivals : Stream) (scan : TandemScan) : Type 0 where
   pub asked : List Demand
   pub asks : asked ≡ map (λ (stage : TandemStage). stage.demand) stages
-  pub columns : scan.columns ≡ map (λ demand. map (demand_of_job rows demand) arrivals.job) asked
+  pub demands : scan.demands ≡ map (λ demand. map (demand_of_job rows demand) arrivals.job) asked
   pub places : scan.places ≡ map (λ (stage : TandemStage). stage.places) stages
   pub blocks : AreFewBlocks (length arrivals.time) 1024 scan.blocks
 
@@ -102,9 +102,9 @@ applied_of (OfTandem scan) = scan.blocks.blocks
 abbrev pub IsAfter : Network → Rows → ℕ → Kind → Stream → After → Type 0
 IsAfter net rows v kind arrivals (Seen fates found streams) =
     IsLeaving rows kind arrivals fates streams × (found ≡ founds_of arrivals.time fates)
-    × (first_of (column_late_from net.bound v 0 (column_fates rows kind (came_in arrivals))) ≡ None)
+    × (first_of (sequence_late_from net.bound v 0 (sequence_fates rows kind (came_in arrivals))) ≡ None)
 IsAfter net rows v kind arrivals (Missed fault) =
-    first_of (column_late_from net.bound v 0 (column_fates rows kind (came_in arrivals))) ≡ Some (late_told fault)
+    first_of (sequence_late_from net.bound v 0 (sequence_fates rows kind (came_in arrivals))) ≡ Some (late_told fault)
 
 -- the same at a node of the plan
 abbrev pub IsAfterAt : Plan → Rows → ℕ → Stream → After → Type 0
@@ -116,7 +116,7 @@ IsServerSum arrivals scan b sum = IsSumOf affine_then (job arrivals.time scan.de
 
 -- the same of a tandem
 abbrev pub IsTandemSum : Stream → TandemScan → ℕ → List (List Mp) → Type 0
-IsTandemSum arrivals scan b sum = IsSumOf matrix_then (job_matrix scan.places arrivals.time scan.columns) scan.blocks b sum
+IsTandemSum arrivals scan b sum = IsSumOf matrix_then (job_matrix scan.places arrivals.time scan.demands) scan.blocks b sum
 
 -- the last departure of a server before each block
 abbrev pub AreServerCarries : Stream → ServerScan → List Mp → Type 0
@@ -126,7 +126,7 @@ AreServerCarries arrivals scan carries =
 -- the latest departures of a tandem before each block
 abbrev pub AreTandemCarries : Stream → TandemScan → List (List Mp) → Type 0
 AreTandemCarries arrivals scan carries =
-    (length carries ≡ scan.blocks.blocks) × AreBefore matrix_act (none_kept scan.places) (job_matrix scan.places arrivals.time scan.columns) scan.blocks.block carries
+    (length carries ≡ scan.blocks.blocks) × AreBefore matrix_act (none_kept scan.places) (job_matrix scan.places arrivals.time scan.demands) scan.blocks.block carries
 
 -- the latest departure from the last stage, of those that are kept
 abbrev pub latest_of : List ℕ → List Mp → ℕ
@@ -139,7 +139,7 @@ AreServerTimes arrivals scan b times = AreTimesOf mp_or_zero affine_act Void (jo
 -- the same of a tandem
 abbrev pub AreTandemTimes : Stream → TandemScan → ℕ → List ℕ → Type 0
 AreTandemTimes arrivals scan b times =
-    AreTimesOf (latest_of scan.places) matrix_act (none_kept scan.places) (job_matrix scan.places arrivals.time scan.columns) scan.blocks b times
+    AreTimesOf (latest_of scan.places) matrix_act (none_kept scan.places) (job_matrix scan.places arrivals.time scan.demands) scan.blocks b times
 
 -- a first piece that is what the jobs of a block of a server do together
 abbrev pub IsServerPart : Stream → ServerScan → ℕ → Part → Type 0
@@ -223,8 +223,8 @@ IsApplied arrivals (OfTandem scan) b times = AreTandemTimes arrivals scan b time
 pub record AreServed (rows : Rows) (kind : Kind) (arrivals : Stream) (departs : List ℕ) : Type 0 where
   pub one : outputs_in kind ≡ 1
   pub order : (stream : Stream) → stream_in_order kind stream ≡ stream
-  pub outs : column_outs rows kind (came_in arrivals) ≡ map (λ _. 0) arrivals.job
-  pub fates : column_fates rows kind (came_in arrivals) ≡ map (λ time. Departs time) departs
+  pub outs : sequence_outs rows kind (came_in arrivals) ≡ map (λ _. 0) arrivals.job
+  pub fates : sequence_fates rows kind (came_in arrivals) ≡ map (λ time. Departs time) departs
 
 -- those of a station of the plan do
 abbrev pub IsServed : Plan → Rows → ℕ → Stream → List ℕ → Type 0
@@ -244,10 +244,10 @@ closings_of (Served departs) = 3
 abbrev pub IsShut : Plan → Rows → ℕ → Stream → List ℕ → ℕ → Closed → Type 0
 IsShut plan rows v arrivals departs b (Fates fates) =
     (b ≡ 0) × (fates ≡ map (λ time. Departs time) departs)
-    × ((node : Node) → slice_get plan.net.nodes v ≡ Some node → first_of (column_late_from plan.net.bound v 0 (column_fates rows node.kind (came_in arrivals))) ≡ None)
+    × ((node : Node) → slice_get plan.net.nodes v ≡ Some node → first_of (sequence_late_from plan.net.bound v 0 (sequence_fates rows node.kind (came_in arrivals))) ≡ None)
 IsShut plan rows v arrivals departs b (Over fault) =
     (b ≡ 0)
-    × ((node : Node) → slice_get plan.net.nodes v ≡ Some node → first_of (column_late_from plan.net.bound v 0 (column_fates rows node.kind (came_in arrivals))) ≡ Some (late_told fault))
+    × ((node : Node) → slice_get plan.net.nodes v ≡ Some node → first_of (sequence_late_from plan.net.bound v 0 (sequence_fates rows node.kind (came_in arrivals))) ≡ Some (late_told fault))
 IsShut plan rows v arrivals departs b (Found found) = (b ≡ 1) × (found ≡ founds_of arrivals.time (map (λ time. Departs time) departs))
 IsShut plan rows v arrivals departs b (Jobs jobs) = (b ≡ 2) × (jobs ≡ arrivals.job)
 
@@ -269,9 +269,9 @@ abbrev pub IsReadyMiddle : Middle → Type 0
 IsReadyMiddle m = IsReadyLoad m.load × IsStage m.load.plan.now m.load.rows.now m.load.number m.load.arrivals m.load.scan m.stage
 
 -- what is known of a station near the end of a wave
-abbrev pub IsReadyExit : Leaving → Type 0
+abbrev pub IsReadyExit : Emptied → Type 0
 IsReadyExit l = IsReadyLoad l.load × IsExit l.load.plan.now l.load.rows.now l.load.number l.load.arrivals l.exit
 
--- the turn of one of these nodes
-abbrev pub IsTurnOf : Plan → Rows → List ℕ → Turn → Type 0
-IsTurnOf plan rows ready turn = Contains ready turn.number × IsWorkedOut plan rows turn
+-- what one of these nodes gives
+abbrev pub IsResultOf : Plan → Rows → List ℕ → NodeResult → Type 0
+IsResultOf plan rows ready node_result = Contains ready node_result.number × IsWorkedOut plan rows node_result

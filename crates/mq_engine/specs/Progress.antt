@@ -2,10 +2,10 @@
 use Rattle.std.specs.Prelude.{◌≡◌, ◌<◌, ◌&&◌, ℕ, Bool, true, false, List, length, Option, Some, None, slice_get, slice_set}
 use Rattle.std.specs.List.{AllByRecursion, list_all, zip}
 use Rattle.mq_core.specs.Came.{came_in}
-use Rattle.mq_core.specs.ColumnLaws.{arrives_of, jobs_of}
-use Rattle.mq_core.specs.Columns.{by_first, column_fates, column_late, column_late_from, streams_below}
+use Rattle.mq_core.specs.SequenceLaws.{arrives_of, jobs_of}
+use Rattle.mq_core.specs.Sequences.{by_first, sequence_fates, sequence_late, sequence_late_from, streams_below}
 use Rattle.mq_core.specs.Results.{first_of, visits_of}
-use Rattle.mq_core.specs.RunLaws.{HasColumns}
+use Rattle.mq_core.specs.RunLaws.{HasSequences}
 use Rattle.mq_core.specs.StandardTable.{run_of}
 use Rattle.mq_core.specs.Sound.{outputs_in}
 use Rattle.mq_core.specs.declared.model.Input.{Input}
@@ -17,12 +17,12 @@ use Rattle.mq_core.specs.declared.model.Rows.{Rows}
 use Rattle.mq_core.specs.declared.model.Stream.{Stream}
 use Rattle.mq_core.specs.declared.model.Visits.{Visits}
 use Rattle.mq_engine.specs.Answer.{late_told}
-use Rattle.mq_engine.specs.Turns.{AreEarly, IsEarlyStream, IsThere, IsTurn, arriving}
+use Rattle.mq_engine.specs.Working.{AreEarly, IsEarlyStream, IsThere, IsResult, arriving}
 use Rattle.mq_engine.specs.declared.progress.Stand.{Stand}
 use Rattle.mq_engine.specs.declared.progress.Stand.TheVariants.{Waiting, Done, Late}
-use Rattle.mq_engine.specs.declared.turns.Turn.{Turn}
-use Rattle.mq_engine.specs.declared.turns.Ending.{Ending}
-use Rattle.mq_engine.specs.declared.turns.Ending.TheVariants.{OnTime, TooLate}
+use Rattle.mq_engine.specs.declared.working.NodeResult.{NodeResult}
+use Rattle.mq_engine.specs.declared.working.Ending.{Ending}
+use Rattle.mq_engine.specs.declared.working.Ending.TheVariants.{OnTime, TooLate}
 
 -- a node that is not worked out yet
 abbrev pub is_waiting : Stand → Bool
@@ -30,7 +30,7 @@ is_waiting Waiting = true
 is_waiting Done = false
 is_waiting (Late fault) = false
 
--- a node whose columns are there
+-- a node whose sequences are there
 abbrev pub is_done : Stand → Bool
 is_done Waiting = false
 is_done Done = true
@@ -68,52 +68,52 @@ pub record CanWork (plan : Plan) (rows : Rows) (outputs : List (List Stream)) (v
 abbrev pub CanWorkAll : Plan → Rows → List (List Stream) → List ℕ → Type 0
 CanWorkAll plan rows outputs ready = (k v : ℕ) → slice_get ready k ≡ Some v → CanWork plan rows outputs v
 
--- how the turn of a node ends: with the columns of its arrivals, none of them late, or with the first late visit
+-- how a node ends that was worked out: with the sequences of its arrivals, none of them late, or with the first late visit
 abbrev pub IsEnding : Network → Rows → ℕ → Kind → Stream → Ending → Type 0
 IsEnding net rows v kind arrivals (OnTime visits streams) =
-    IsTurn rows kind arrivals visits streams × (first_of (column_late_from net.bound v 0 (column_fates rows kind (came_in arrivals))) ≡ None)
+    IsResult rows kind arrivals visits streams × (first_of (sequence_late_from net.bound v 0 (sequence_fates rows kind (came_in arrivals))) ≡ None)
 IsEnding net rows v kind arrivals (TooLate fault) =
-    first_of (column_late_from net.bound v 0 (column_fates rows kind (came_in arrivals))) ≡ Some (late_told fault)
+    first_of (sequence_late_from net.bound v 0 (sequence_fates rows kind (came_in arrivals))) ≡ Some (late_told fault)
 
 -- what is known of a node, as the run has it
 abbrev pub IsKnown : Plan → Rows → ℕ → Node → Ending → Type 0
 IsKnown plan rows v node (OnTime visits streams) =
     (visits ≡ visits_of node.kind ((run_of plan rows).stations v)) × (streams ≡ streams_below (run_of plan rows) v (outputs_in node.kind))
     × ((out : ℕ) (stream : Stream) → slice_get streams out ≡ Some stream → IsEarlyStream stream)
-    × (first_of (column_late plan.net.bound v (visits_of node.kind ((run_of plan rows).stations v))) ≡ None)
+    × (first_of (sequence_late plan.net.bound v (visits_of node.kind ((run_of plan rows).stations v))) ≡ None)
 IsKnown plan rows v node (TooLate fault) =
-    first_of (column_late plan.net.bound v (visits_of node.kind ((run_of plan rows).stations v))) ≡ Some (late_told fault)
+    first_of (sequence_late plan.net.bound v (visits_of node.kind ((run_of plan rows).stations v))) ≡ Some (late_told fault)
 
--- the turn tells of its node what the run has
-abbrev pub IsWorkedOut : Plan → Rows → Turn → Type 0
-IsWorkedOut plan rows turn = (node : Node) × (slice_get plan.net.nodes turn.number ≡ Some node) × IsKnown plan rows turn.number node turn.ending
+-- what was worked out of a node is what the run has
+abbrev pub IsWorkedOut : Plan → Rows → NodeResult → Type 0
+IsWorkedOut plan rows node_result = (node : Node) × (slice_get plan.net.nodes node_result.number ≡ Some node) × IsKnown plan rows node_result.number node node_result.ending
 
--- all of these turns do
-abbrev pub AreWorkedOut : Plan → Rows → List Turn → Type 0
-AreWorkedOut plan rows turns = AllByRecursion (IsWorkedOut plan rows) turns
+-- so it is of all of these
+abbrev pub AreWorkedOut : Plan → Rows → List NodeResult → Type 0
+AreWorkedOut plan rows results = AllByRecursion (IsWorkedOut plan rows) results
 
 -- what stands at a node is what the run has
 abbrev pub Tells : Plan → Rows → List Visits → List (List Stream) → ℕ → Node → Stand → Type 0
 Tells plan rows visits outputs v node Waiting = Unit {0}
 Tells plan rows visits outputs v node Done =
-    HasColumns (run_of plan rows) (record { visits = visits; outputs = outputs }) v node
-    × (first_of (column_late plan.net.bound v (visits_of node.kind ((run_of plan rows).stations v))) ≡ None)
+    HasSequences (run_of plan rows) (record { visits = visits; outputs = outputs }) v node
+    × (first_of (sequence_late plan.net.bound v (visits_of node.kind ((run_of plan rows).stations v))) ≡ None)
 Tells plan rows visits outputs v node (Late fault) =
-    first_of (column_late plan.net.bound v (visits_of node.kind ((run_of plan rows).stations v))) ≡ Some (late_told fault)
+    first_of (sequence_late plan.net.bound v (visits_of node.kind ((run_of plan rows).stations v))) ≡ Some (late_told fault)
 
--- a turn that ended on time is put at its node, and one that ended late leaves the fault there
+-- what ended on time is put at its node, and what ended late leaves the fault there
 abbrev pub IsEndPut : ℕ → Ending → List Visits → List (List Stream) → List Stand → List Visits → List (List Stream) → List Stand → Type 0
 IsEndPut v (OnTime came left) visits outputs stands visits' outputs' stands' =
     (visits' ≡ slice_set visits v came) × (outputs' ≡ slice_set outputs v left) × (stands' ≡ slice_set stands v Done)
 IsEndPut v (TooLate fault) visits outputs stands visits' outputs' stands' =
     (visits' ≡ visits) × (outputs' ≡ outputs) × (stands' ≡ slice_set stands v (Late fault))
 
-abbrev pub IsPut : Turn → List Visits → List (List Stream) → List Stand → List Visits → List (List Stream) → List Stand → Type 0
-IsPut turn visits outputs stands visits' outputs' stands' = IsEndPut turn.number turn.ending visits outputs stands visits' outputs' stands'
+abbrev pub IsPut : NodeResult → List Visits → List (List Stream) → List Stand → List Visits → List (List Stream) → List Stand → Type 0
+IsPut node_result visits outputs stands visits' outputs' stands' = IsEndPut node_result.number node_result.ending visits outputs stands visits' outputs' stands'
 
--- these are turns of nodes that wait
-abbrev pub AreWaiting : List Stand → List Turn → Type 0
-AreWaiting stands turns = AllByRecursion (λ turn. stands_at is_waiting (slice_get stands turn.number) ≡ true) turns
+-- these are nodes that wait
+abbrev pub AreWaiting : List Stand → List NodeResult → Type 0
+AreWaiting stands results = AllByRecursion (λ node_result. stands_at is_waiting (slice_get stands node_result.number) ≡ true) results
 
 -- what is done so far is what the run has
 pub record IsReached (plan : Plan) (rows : Rows) (visits : List Visits) (outputs : List (List Stream)) (stands : List Stand) : Type 0 where

@@ -9,7 +9,7 @@ use std::alloc::Global;
 
 // What the jobs of a block do together.
 pub fn sum_of<P: Step>(step: &P, blocks: &Blocks, b: u32) -> P::Summary
-    requires all { blocks.now.n ≡ P.places step.now }
+    requires all { blocks.now.n ≡ P.size step.now }
     requires inside { b < blocks.now.blocks }
     ensures { IsSumOf P.joined (P.part step.now) blocks.now b result }
 {
@@ -24,7 +24,7 @@ pub fn before_of<P: Step>(
     blocks: &Blocks,
     sums: &List<P::Summary>,
 ) -> Result<List<P::Carry>, OutOfMemory>
-    requires all { blocks.now.n ≡ P.places step.now }
+    requires all { blocks.now.n ≡ P.size step.now }
     requires len { length sums.now ≡ blocks.now.blocks }
     requires sums { AreSumsOf P.joined (P.part step.now) blocks.now sums.now }
     ensures len { IfOk result (λ before. length before ≡ blocks.now.blocks) }
@@ -41,7 +41,7 @@ pub fn applied<P: Timed>(
     before: &List<P::Carry>,
     b: u32,
 ) -> Result<List<u64>, OutOfMemory>
-    requires all { blocks.now.n ≡ P.places step.now }
+    requires all { blocks.now.n ≡ P.size step.now }
     requires inside { b < blocks.now.blocks }
     requires len { length before.now ≡ blocks.now.blocks }
     requires before { AreBefore P.acted (P.start step.now) (P.part step.now) blocks.now.block before.now }
@@ -58,10 +58,10 @@ pub fn joined<P: Timed>(
     blocks: &Blocks,
     group: &List<List<u64>>,
 ) -> Result<List<u64>, OutOfMemory>
-    requires all { blocks.now.n ≡ P.places step.now }
+    requires all { blocks.now.n ≡ P.size step.now }
     requires len { length group.now ≡ blocks.now.blocks }
     requires group { (b : ℕ) (d : Items ℕ) → b < length group.now → AreTimesOf (P.time_of step.now) P.acted (P.start step.now) (P.part step.now) blocks.now b (slice_index_or group.now b d) }
-    ensures { IfOk result (λ departs. departs ≡ map (P.time_of step.now) (carries_after P.acted (P.start step.now) (P.part step.now) 0 (P.places step.now))) }
+    ensures { IfOk result (λ departs. departs ≡ map (P.time_of step.now) (carries_after P.acted (P.start step.now) (P.part step.now) 0 (P.size step.now))) }
 {
     let mut departs = Vec::with_capacity(alloc, step.count() as usize)?;
     'parts: for b in 0..group.len() {

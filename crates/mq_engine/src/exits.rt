@@ -10,9 +10,9 @@ use crate::late::first_late;
 use crate::laws::core_laws;
 use crate::loads::Load;
 use crate::outflow::{fates_of, only};
-use crate::turns::{After, Turn, ending_of, found_in_turn};
+use crate::working::{After, NodeResult, ending_of, found_by_position};
 use mq_base::{List, OutOfMemory};
-use mq_core::{Fate, Stream, columns_go_by_fates, fates_are_in_time};
+use mq_core::{Fate, Stream, fates_are_in_time, sequences_go_by_fates};
 use mq_crew::Pieces;
 use std::alloc::Global;
 use std::thread::Threads;
@@ -28,7 +28,7 @@ pub enum Exit {
 
 /// A station whose departures are known.
 #[derive(Drop)]
-pub struct Leaving<'a> {
+pub struct Emptied<'a> {
     pub load: Load<'a>,
     pub exit: Exit,
 }
@@ -46,12 +46,12 @@ pub enum Closed {
     Jobs(List<u32>),
 }
 
-impl<'a> Pieces for Leaving<'a> {
+impl<'a> Pieces for Emptied<'a> {
     type Piece = Closed;
 
     ghost fit = { IsReadyExit };
 
-    ghost places = { λ s. closings_of s.exit };
+    ghost size = { λ s. closings_of s.exit };
 
     ghost is_piece = { λ s b closed. IsClosed s.load.plan.now s.load.rows.now s.load.number s.load.arrivals s.exit b closed };
 
@@ -82,13 +82,13 @@ fn closing_of(
     requires inside { b < 3 }
     ensures { IfOk result (λ closed. IsShut load.now.plan.now load.now.rows.now load.now.number load.now.arrivals departs.now b closed) }
 {
-    columns_go_by_fates();
+    sequences_go_by_fates();
     fates_are_in_time();
     if b == 0 {
         return fates_in_time(alloc, load, departs);
     }
     if b == 1 {
-        return Ok(Closed::Found(found_in_turn(alloc, &load.arrivals, departs)?));
+        return Ok(Closed::Found(found_by_position(alloc, &load.arrivals, departs)?));
     }
     let jobs = Vec::from_slice(alloc, load.arrivals.job.as_slice())?;
     Ok(Closed::Jobs(List::from_vec(jobs)))
@@ -108,21 +108,21 @@ fn fates_in_time(alloc: Global, load: &Load, departs: &List<u64>) -> Result<Clos
     Ok(Closed::Fates(fates))
 }
 
-// The turn of a station, of its last pieces where it has some.
-pub fn turn_of<R: Threads + Sync>(
+// What a station gives, of its last pieces where it has some.
+pub fn result_of<R: Threads + Sync>(
     rt: &R,
     alloc: Global,
     workers: u32,
-    leaving: Leaving,
+    emptied: Emptied,
     group: List<Closed>,
-) -> Result<Turn, OutOfMemory>
-    requires ready { IsReadyExit leaving }
-    requires group { AreAll (λ b closed. IsClosed leaving.load.plan.now leaving.load.rows.now leaving.load.number leaving.load.arrivals leaving.exit b closed) (closings_of leaving.exit) group }
-    ensures number { IfOk result (λ turn. turn.number ≡ leaving.entry.load.number) }
-    ensures known { IfOk result (λ turn. IsWorkedOut leaving.entry.load.plan.now leaving.entry.load.rows.now turn) }
+) -> Result<NodeResult, OutOfMemory>
+    requires ready { IsReadyExit emptied }
+    requires group { AreAll (λ b closed. IsClosed emptied.load.plan.now emptied.load.rows.now emptied.load.number emptied.load.arrivals emptied.exit b closed) (closings_of emptied.exit) group }
+    ensures number { IfOk result (λ node_result. node_result.number ≡ emptied.entry.load.number) }
+    ensures known { IfOk result (λ node_result. IsWorkedOut emptied.entry.load.plan.now emptied.entry.load.rows.now node_result) }
 {
     core_laws();
-    let Leaving { load, exit } = leaving;
+    let Emptied { load, exit } = emptied;
     let after = match exit {
         Exit::Known(after) => after,
         Exit::Served(departs) => opened(alloc, &load, group, departs)?,
@@ -139,7 +139,7 @@ pub fn turn_of<R: Threads + Sync>(
         load.arrivals,
         after,
     )?;
-    Ok(Turn {
+    Ok(NodeResult {
         number: load.number,
         ending,
     })

@@ -7,7 +7,7 @@ ghost use Rattle.mq_engine.specs.declared.firsts.Part.TheVariants.{Whole};
 
 use crate::loads::{Load, Scan};
 use crate::stations::{server_carries, server_sum, tandem_carries, tandem_sum};
-use crate::turns::{After, after_of};
+use crate::working::{After, after_of};
 use mq_base::{List, OutOfMemory};
 use mq_crew::Pieces;
 use mq_maxplus::{Affine, Matrix, Mp};
@@ -41,7 +41,7 @@ impl<'a> Pieces for Load<'a> {
 
     ghost fit = { IsReadyLoad };
 
-    ghost places = { λ s. blocks_of s.scan };
+    ghost size = { λ s. blocks_of s.scan };
 
     ghost is_piece = { λ s b part. IsPart s.plan.now s.rows.now s.number s.arrivals s.scan b part };
 

@@ -2,7 +2,7 @@
 #![tactic(auto)]
 
 ghost use Rattle.std.specs.Prelude.{◌≡◌, ◌≤◌, [], filter, IfErr, IfOk, None};
-ghost use Rattle.mq_core.specs.Columns.{IsRunOf};
+ghost use Rattle.mq_core.specs.Sequences.{IsRunOf};
 ghost use Rattle.mq_core.specs.Results.{past_of};
 ghost use Rattle.mq_core.specs.Theorems.{IsReadFor};
 ghost use Rattle.mq_engine.specs.Answer.{IsCause};
@@ -22,12 +22,12 @@ mod outflow;
 mod progress;
 mod ready;
 mod stations;
-mod turns;
+mod working;
 
 use crate::laws::core_laws;
 use crate::loads::Arriving;
 use crate::progress::{Progress, Stand, beginning, ready_nodes, settle};
-use crate::ready::turns_of;
+use crate::ready::results_of;
 pub use fault::{PastFault, RunFault};
 use mq_base::List;
 use mq_core::{Plan, Rows, Run};
@@ -82,8 +82,8 @@ pub fn run<R: Threads + Sync, G: Gate>(
             workers,
             block,
         };
-        let turns = turns_of(rt, alloc, &arriving, workers, gate)?;
-        settle(&mut progress, turns);
+        let results = results_of(rt, alloc, &arriving, workers, gate)?;
+        settle(&mut progress, results);
     }
 }
 

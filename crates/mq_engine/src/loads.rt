@@ -3,7 +3,7 @@ ghost use Rattle.std.specs.Prelude.{◌≡◌, ◌<◌, ◌≤◌, ◌^◌, leng
 ghost use Rattle.mq_core.specs.Theorems.{IsReadFor};
 ghost use Rattle.mq_engine.specs.Loads.{IsLoaded, IsScanOf};
 ghost use Rattle.mq_engine.specs.Progress.{CanWorkAll};
-ghost use Rattle.mq_engine.specs.Turns.{AreEarly, IsLoad};
+ghost use Rattle.mq_engine.specs.Working.{AreEarly, IsLoad};
 
 use crate::arrivals::arrivals_at;
 use crate::laws::core_laws;
@@ -53,7 +53,7 @@ impl<'a> Pieces for Arriving<'a> {
 
     ghost fit = { λ s. IsReadFor s.plan.now.net s.rows.now × AreEarly s.outputs.now × CanWorkAll s.plan.now s.rows.now s.outputs.now s.ready.now × (length s.ready.now < 2 ^ 32) × (1 ≤ s.block) };
 
-    ghost places = { λ s. length s.ready.now };
+    ghost size = { λ s. length s.ready.now };
 
     ghost is_piece = { λ s b load. (load.plan.now ≡ s.plan.now) × (load.rows.now ≡ s.rows.now) × (load.number ≡ slice_index s.ready.now b) × IsLoaded s.plan.now s.rows.now load.number load.arrivals load.scan × (1 ≤ load.block) };
 

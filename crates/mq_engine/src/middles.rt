@@ -8,7 +8,7 @@ use crate::exits::Exit;
 use crate::firsts::Stage;
 use crate::loads::{Load, Scan};
 use crate::stations::{server_departures, server_times, tandem_joined, tandem_times};
-use crate::turns::After;
+use crate::working::After;
 use mq_base::{List, OutOfMemory};
 use mq_crew::Pieces;
 use mq_maxplus::Mp;
@@ -27,7 +27,7 @@ impl<'a> Pieces for Middle<'a> {
 
     ghost fit = { IsReadyMiddle };
 
-    ghost places = { λ s. applied_of s.load.scan };
+    ghost size = { λ s. applied_of s.load.scan };
 
     ghost is_piece = { λ s b times. IsApplied s.load.arrivals s.load.scan b times };
 

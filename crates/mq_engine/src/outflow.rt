@@ -2,7 +2,7 @@
 ghost use Rattle.std.specs.Prelude.{◌≡◌, ◌∷◌, [], All, length, map, IfOk};
 ghost use Rattle.mq_core.specs.Handling.{demand_of_job};
 ghost use Rattle.mq_core.specs.declared.model.Fate.TheVariants.{Departs};
-ghost use Rattle.mq_engine.specs.Turns.{AreAsked, LeaveInTurn};
+ghost use Rattle.mq_engine.specs.Working.{AreAsked, LeaveByPosition};
 
 use mq_base::{List, OutOfMemory};
 use mq_core::{Demand, Fate, Rows, Stream, demand_of};
@@ -34,26 +34,30 @@ pub fn demands_of(
     Ok(List::from_vec(demands))
 }
 
-// What each job asks for at each server, in ticks: one column a server, with one demand a job.
-pub fn columns_of(
+// What each job asks for at each server, in ticks: one list a server, with one demand a job.
+pub fn all_demands_of(
     alloc: Global,
     rows: &Rows,
     asked: &List<Demand>,
     jobs: &List<u32>,
 ) -> Result<List<List<u64>>, OutOfMemory>
     requires { All (λ demand. AreAsked rows.now demand jobs.now) asked.now }
-    ensures { IfOk result (λ columns. columns ≡ map (λ demand. map (demand_of_job rows.now demand) jobs.now) asked.now) }
+    ensures { IfOk result (λ demands. demands ≡ map (λ demand. map (demand_of_job rows.now demand) jobs.now) asked.now) }
 {
-    let mut columns = List::new(alloc);
+    let mut demands = List::new(alloc);
     for at in 0..asked.len() {
-        columns.push(demands_of(alloc, rows, asked.get(at), jobs)?)?;
+        demands.push(demands_of(alloc, rows, asked.get(at), jobs)?)?;
     }
-    Ok(columns)
+    Ok(demands)
 }
 
 // What leaves a station with one output, which the arrivals leave at these times, in their order.
-pub fn in_turn(alloc: Global, arrivals: &Stream, departs: List<u64>) -> Result<Outflow, OutOfMemory>
-    ensures { IfOk result (λ leaving. LeaveInTurn arrivals.now.job departs leaving.fates leaving.streams) }
+pub fn by_position(
+    alloc: Global,
+    arrivals: &Stream,
+    departs: List<u64>,
+) -> Result<Outflow, OutOfMemory>
+    ensures { IfOk result (λ leaving. LeaveByPosition arrivals.now.job departs leaving.fates leaving.streams) }
 {
     let fates = fates_of(alloc, &departs)?;
     let job = List::from_vec(Vec::from_slice(alloc, arrivals.job.as_slice())?);

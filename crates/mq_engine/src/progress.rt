@@ -8,7 +8,7 @@ ghost use Rattle.mq_core.specs.declared.model.Rows.{Rows as TheRows};
 ghost use Rattle.mq_engine.specs.Progress.{AreWaiting, AreWithin, AreWorkedOut, IsPut, IsReached, is_done, is_read, is_ready, is_waiting};
 
 use crate::PastFault;
-use crate::turns::{Ending, Turn};
+use crate::working::{Ending, NodeResult};
 use mq_base::{List, OutOfMemory};
 use mq_core::{Input, Node, Plan, Stream, Visits};
 use std::alloc::Global;
@@ -18,7 +18,7 @@ use std::alloc::Global;
 pub enum Stand {
     /// It is not worked out yet.
     Waiting,
-    /// Its columns are there.
+    /// Its sequences are there.
     Done,
     /// Its first visit that departs after the bound. Nodes behind it are left out.
     Late(PastFault),
@@ -71,7 +71,7 @@ pub fn ready_nodes(alloc: Global, plan: &Plan, stands: &[Stand]) -> Result<Vec<u
     let mut ready = Vec::new(alloc);
     for rank in 0..plan.order.len() {
         let number = *plan.order.get(rank);
-        if may_turn(&plan.net.nodes, stands, number) {
+        if may_work(&plan.net.nodes, stands, number) {
             ready.push(number)?;
         }
     }
@@ -79,7 +79,7 @@ pub fn ready_nodes(alloc: Global, plan: &Plan, stands: &[Stand]) -> Result<Vec<u
 }
 
 // Whether a node waits, while all that it reads is done.
-fn may_turn(nodes: &List<Node>, stands: &[Stand], number: u32) -> bool
+fn may_work(nodes: &List<Node>, stands: &[Stand], number: u32) -> bool
     requires count { length stands.now ≡ length nodes.now }
     requires inside { number < length nodes.now }
     requires reads { (v port : ℕ) (node : TheNode) (input : Port) → slice_get nodes.now v ≡ Some node → slice_get node.inputs port ≡ Some input → input.node < length nodes.now }
@@ -115,29 +115,29 @@ fn has_ended(stand: Stand) -> bool
     }
 }
 
-// Puts down how these turns ended.
-pub fn settle(progress: &mut Progress, turns: List<Turn>)
-    requires waits { AreWaiting progress.old.stands.items turns }
+// Puts down how these nodes ended.
+pub fn settle(progress: &mut Progress, results: List<NodeResult>)
+    requires waits { AreWaiting progress.old.stands.items results }
     requires came { length progress.old.visits.items ≡ length progress.old.stands.items }
     requires left { length progress.old.outputs.items ≡ length progress.old.stands.items }
-    ensures reached { (plan : ThePlan) (rows : TheRows) → IsReached plan rows progress.old.visits.items progress.old.outputs.items progress.old.stands.items → AreWorkedOut plan rows turns → IsReached plan rows progress.new.visits.items progress.new.outputs.items progress.new.stands.items }
-    ensures fewer { 1 ≤ length turns → count_by is_waiting progress.new.stands.items < count_by is_waiting progress.old.stands.items }
+    ensures reached { (plan : ThePlan) (rows : TheRows) → IsReached plan rows progress.old.visits.items progress.old.outputs.items progress.old.stands.items → AreWorkedOut plan rows results → IsReached plan rows progress.new.visits.items progress.new.outputs.items progress.new.stands.items }
+    ensures fewer { 1 ≤ length results → count_by is_waiting progress.new.stands.items < count_by is_waiting progress.old.stands.items }
 {
-    let mut turns = turns.into_vec();
-    while let Some(turn) = turns.pop() {
-        put(progress, turn);
+    let mut results = results.into_vec();
+    while let Some(node_result) = results.pop() {
+        put(progress, node_result);
     }
 }
 
-// Puts down how a turn ended.
-fn put(progress: &mut Progress, turn: Turn)
-    requires came { turn.number < length progress.old.visits.items }
-    requires left { turn.number < length progress.old.outputs.items }
-    requires stand { turn.number < length progress.old.stands.items }
-    ensures { IsPut turn progress.old.visits.items progress.old.outputs.items progress.old.stands.items progress.new.visits.items progress.new.outputs.items progress.new.stands.items }
+// Puts down how a node ended.
+fn put(progress: &mut Progress, node_result: NodeResult)
+    requires came { node_result.number < length progress.old.visits.items }
+    requires left { node_result.number < length progress.old.outputs.items }
+    requires stand { node_result.number < length progress.old.stands.items }
+    ensures { IsPut node_result progress.old.visits.items progress.old.outputs.items progress.old.stands.items progress.new.visits.items progress.new.outputs.items progress.new.stands.items }
 {
-    let at = turn.number as usize;
-    match turn.ending {
+    let at = node_result.number as usize;
+    match node_result.ending {
         Ending::OnTime(visits, streams) => {
             progress.visits[at] = visits;
             progress.outputs[at] = streams;

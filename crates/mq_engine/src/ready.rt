@@ -1,34 +1,34 @@
-// The nodes that are ready: their turns, made by the crew.
+// The nodes that are ready, worked out by the crew.
 ghost use Rattle.std.specs.Prelude.{◌≡◌, ◌≤◌, ℕ, List as Items, length, IfOk};
 ghost use Rattle.std.specs.List.{AllByRecursion};
 ghost use Rattle.mq_core.specs.Theorems.{IsReadFor};
 ghost use Rattle.mq_crew.specs.Crew.{AreGroups};
 ghost use Rattle.mq_core.specs.declared.model.Plan.{Plan as ThePlan};
 ghost use Rattle.mq_core.specs.declared.model.Rows.{Rows as TheRows};
-ghost use Rattle.mq_engine.specs.Loads.{IsApplied, IsClosed, IsLoadOf, IsPart, IsReadyExit, IsReadyLoad, IsReadyMiddle, IsTurnOf, applied_of, blocks_of, closings_of};
+ghost use Rattle.mq_engine.specs.Loads.{IsApplied, IsClosed, IsLoadOf, IsPart, IsReadyExit, IsReadyLoad, IsReadyMiddle, IsResultOf, applied_of, blocks_of, closings_of};
 ghost use Rattle.mq_engine.specs.Progress.{CanWorkAll};
-ghost use Rattle.mq_engine.specs.Turns.{AreEarly};
+ghost use Rattle.mq_engine.specs.Working.{AreEarly};
 
-use crate::exits::{Closed, Leaving, turn_of};
+use crate::exits::{Closed, Emptied, result_of};
 use crate::firsts::{Part, stage_of};
 use crate::loads::{Arriving, Load};
 use crate::middles::{Middle, exit_of};
-use crate::turns::Turn;
+use crate::working::NodeResult;
 use mq_base::{List, OutOfMemory};
 use mq_crew::{Gate, made, run_parts};
 use std::alloc::Global;
 use std::thread::Threads;
 
-// The turns of the nodes that are ready, in four lists of pieces: what comes to each; the summaries
+// What the nodes that are ready give, in four lists of pieces: what comes to each; the summaries
 // of the stations that are scanned, and the others whole; the applied blocks; and of the scanned ones the
 // fates, how many each visit found, and the jobs that leave.
-pub fn turns_of<R: Threads + Sync, G: Gate>(
+pub fn results_of<R: Threads + Sync, G: Gate>(
     rt: &R,
     alloc: Global,
     arriving: &Arriving,
     workers: u32,
     gate: &G,
-) -> Result<List<Turn>, OutOfMemory>
+) -> Result<List<NodeResult>, OutOfMemory>
     requires read { IsReadFor arriving.now.plan.now.net arriving.now.rows.now }
     requires early { AreEarly arriving.now.outputs.now }
     requires can { CanWorkAll arriving.now.plan.now arriving.now.rows.now arriving.now.outputs.now arriving.now.ready.now }
@@ -36,16 +36,16 @@ pub fn turns_of<R: Threads + Sync, G: Gate>(
     requires block { 1 ≤ arriving.now.block }
     requires some { 1 ≤ workers }
     requires most { workers ≤ 64 }
-    ensures len { IfOk result (λ turns. length turns ≡ length arriving.now.ready.now) }
-    ensures known { IfOk result (λ turns. AllByRecursion (IsTurnOf arriving.now.plan.now arriving.now.rows.now arriving.now.ready.now) turns) }
+    ensures len { IfOk result (λ results. length results ≡ length arriving.now.ready.now) }
+    ensures known { IfOk result (λ results. AllByRecursion (IsResultOf arriving.now.plan.now arriving.now.rows.now arriving.now.ready.now) results) }
 {
     let loads = made(rt, alloc, workers, arriving, gate)?;
     let groups = run_parts(rt, alloc, workers, loads.as_slice(), gate)?;
     let middles = middles_of(alloc, loads, groups)?;
     let groups = run_parts(rt, alloc, workers, middles.as_slice(), gate)?;
-    let leavings = leavings_of(alloc, middles, groups)?;
-    let groups = run_parts(rt, alloc, workers, leavings.as_slice(), gate)?;
-    ended(rt, alloc, workers, leavings, groups)
+    let those_emptied = all_emptied(alloc, middles, groups)?;
+    let groups = run_parts(rt, alloc, workers, those_emptied.as_slice(), gate)?;
+    ended(rt, alloc, workers, those_emptied, groups)
 }
 
 // The stations after their first pieces.
@@ -74,52 +74,52 @@ fn middles_of<'a>(
 }
 
 // The stations whose departures are known, of their applied blocks where they are scanned.
-fn leavings_of<'a>(
+fn all_emptied<'a>(
     alloc: Global,
     middles: List<Middle<'a>>,
     groups: List<List<List<u64>>>,
-) -> Result<List<Leaving<'a>>, OutOfMemory>
+) -> Result<List<Emptied<'a>>, OutOfMemory>
     requires ready { AllByRecursion IsReadyMiddle middles }
     requires groups { AreGroups (λ m. applied_of m.load.scan) (λ m b times. IsApplied m.load.arrivals m.load.scan b times) middles groups }
-    ensures len { IfOk result (λ leavings. length leavings ≡ length middles.entry) }
-    ensures ready { IfOk result (λ leavings. AllByRecursion IsReadyExit leavings) }
-    ensures of { IfOk result (λ leavings. (plan : ThePlan) (rows : TheRows) (ready : Items ℕ) → AllByRecursion (λ m. IsLoadOf plan rows ready m.load) middles.entry → AllByRecursion (λ l. IsLoadOf plan rows ready l.load) leavings) }
+    ensures len { IfOk result (λ those_emptied. length those_emptied ≡ length middles.entry) }
+    ensures ready { IfOk result (λ those_emptied. AllByRecursion IsReadyExit those_emptied) }
+    ensures of { IfOk result (λ those_emptied. (plan : ThePlan) (rows : TheRows) (ready : Items ℕ) → AllByRecursion (λ m. IsLoadOf plan rows ready m.load) middles.entry → AllByRecursion (λ l. IsLoadOf plan rows ready l.load) those_emptied) }
 {
     let mut middles = middles.into_vec();
     let mut groups = groups.into_vec();
-    let mut leavings = List::new(alloc);
+    let mut those_emptied = List::new(alloc);
     while let Some(middle) = middles.pop() {
         let Some(group) = groups.pop() else {
             unreachable!()
         };
         let Middle { load, stage } = middle;
         let exit = exit_of(alloc, &load, stage, &group)?;
-        leavings.push(Leaving { load, exit })?;
+        those_emptied.push(Emptied { load, exit })?;
     }
-    Ok(leavings)
+    Ok(those_emptied)
 }
 
-// The turns of the stations, of their last pieces where they have some.
+// What the stations give, of their last pieces where they have some.
 fn ended<R: Threads + Sync>(
     rt: &R,
     alloc: Global,
     workers: u32,
-    leavings: List<Leaving>,
+    those_emptied: List<Emptied>,
     groups: List<List<Closed>>,
-) -> Result<List<Turn>, OutOfMemory>
-    requires ready { AllByRecursion IsReadyExit leavings }
-    requires groups { AreGroups (λ l. closings_of l.exit) (λ l b closed. IsClosed l.load.plan.now l.load.rows.now l.load.number l.load.arrivals l.exit b closed) leavings groups }
-    ensures len { IfOk result (λ turns. length turns ≡ length leavings.entry) }
-    ensures known { IfOk result (λ turns. (plan : ThePlan) (rows : TheRows) (ready : Items ℕ) → AllByRecursion (λ l. IsLoadOf plan rows ready l.load) leavings.entry → AllByRecursion (IsTurnOf plan rows ready) turns) }
+) -> Result<List<NodeResult>, OutOfMemory>
+    requires ready { AllByRecursion IsReadyExit those_emptied }
+    requires groups { AreGroups (λ l. closings_of l.exit) (λ l b closed. IsClosed l.load.plan.now l.load.rows.now l.load.number l.load.arrivals l.exit b closed) those_emptied groups }
+    ensures len { IfOk result (λ results. length results ≡ length those_emptied.entry) }
+    ensures known { IfOk result (λ results. (plan : ThePlan) (rows : TheRows) (ready : Items ℕ) → AllByRecursion (λ l. IsLoadOf plan rows ready l.load) those_emptied.entry → AllByRecursion (IsResultOf plan rows ready) results) }
 {
-    let mut leavings = leavings.into_vec();
+    let mut those_emptied = those_emptied.into_vec();
     let mut groups = groups.into_vec();
-    let mut turns = List::new(alloc);
-    while let Some(leaving) = leavings.pop() {
+    let mut results = List::new(alloc);
+    while let Some(emptied) = those_emptied.pop() {
         let Some(group) = groups.pop() else {
             unreachable!()
         };
-        turns.push(turn_of(rt, alloc, workers, leaving, group)?)?;
+        results.push(result_of(rt, alloc, workers, emptied, group)?)?;
     }
-    Ok(turns)
+    Ok(results)
 }

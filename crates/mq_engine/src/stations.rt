@@ -1,9 +1,9 @@
 // What leaves a station, by its kind: a file for each kind.
 ghost use Rattle.std.specs.Prelude.{◌≤◌, IfOk};
-ghost use Rattle.mq_engine.specs.Turns.{IsLeaving, IsLoad};
+ghost use Rattle.mq_engine.specs.Working.{IsLeaving, IsLoad};
 
 mod delay;
-mod fork_join;
+mod forkjoin;
 mod loss;
 mod server;
 mod source;
@@ -12,7 +12,7 @@ mod tandem;
 
 use crate::outflow::Outflow;
 use delay::delay_outflow;
-use fork_join::forkjoin_outflow;
+use forkjoin::forkjoin_outflow;
 use loss::loss_outflow;
 use mq_base::OutOfMemory;
 use mq_core::{Kind, Rows, Stream};

@@ -1,2 +1,2 @@
 mod Recurrence
-mod Forking
+mod ForkJoining

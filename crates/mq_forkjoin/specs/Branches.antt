@@ -1,12 +1,12 @@
 -- The servers of a fork-join, branch after branch.
 use Rattle.std.specs.Prelude.{◌≡◌, ◌≤◌, All, ℕ, List, [], ◌∷◌, length, sum, take, drop}
 
--- the columns of the servers, cut into branches of these many servers
+-- the demands of the servers, cut into branches of these many servers
 abbrev pub branches_of : List ℕ → List (List ℕ) → List (List (List ℕ))
 branches_of [] demands = []
 branches_of (servers ∷ more) demands = take servers demands ∷ branches_of more (drop servers demands)
 
--- What a fork-join can have: a branch or more, each of a server or more, and at most 8 servers in all, with a column each.
+-- What a fork-join can have: a branch or more, each of a server or more, and at most 8 servers in all, with a list of demands each.
 pub record AreBranches (branches : List ℕ) (demands : List (List ℕ)) : Type 0 where
   pub some : 1 ≤ length branches
   pub served : All (λ servers. 1 ≤ servers) branches

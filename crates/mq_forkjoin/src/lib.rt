@@ -2,8 +2,8 @@
 #![tactic(auto)]
 
 ghost use Rattle.std.specs.Prelude.{◌≡◌, ◌^◌, ◌≤◌, All, length, IfOk};
-ghost use Rattle.mq_core.specs.Columns.{IsSoundLoad};
-ghost use Rattle.mq_core.specs.Recurrences.{fork_departs, in_series, later_of};
+ghost use Rattle.mq_core.specs.Sequences.{IsSoundLoad};
+ghost use Rattle.mq_core.specs.Recurrences.{forkjoin_departs, in_series, later_of};
 ghost use Rattle.mq_forkjoin.specs.Branches.{AreBranches, branches_of};
 
 use mq_base::{List, OutOfMemory};
@@ -27,7 +27,7 @@ pub fn fork_departures(
 ) -> Result<List<u64>, OutOfMemory>
     requires load { All (λ column. IsSoundLoad stream.now.time column) demands.now }
     requires branches { AreBranches branches.now demands.now }
-    ensures { IfOk result (λ departs. departs ≡ fork_departs stream.now.time (branches_of branches.now demands.now)) }
+    ensures { IfOk result (λ departs. departs ≡ forkjoin_departs stream.now.time (branches_of branches.now demands.now)) }
 {
     let mut departs = copy_of(alloc, &stream.time)?;
     // From the last branch to the first, as the greatest of all is the later of one and the rest.
@@ -60,7 +60,7 @@ fn branch_departures(
     Ok(departs)
 }
 
-// Place by place the later of two times.
+// Index by index the later of two times.
 fn later_times(alloc: Global, one: &List<u64>, other: &List<u64>) -> Result<List<u64>, OutOfMemory>
     requires { length one.now ≡ length other.now }
     ensures { IfOk result (λ later. later ≡ later_of one.now other.now) }

@@ -94,7 +94,7 @@ fn mention_all(alloc: Global, columns: &mut List<List<u8>>, drawn: u32) -> Resul
     }
 }
 
-/// The place of a column, or the number of columns.
+/// The index of a column, or the number of columns.
 fn column_of(columns: &[List<u8>], name: &[u8]) -> usize
     ensures at { result ≡ number_in columns.now name.now }
     ensures within { result ≤ length columns.now }

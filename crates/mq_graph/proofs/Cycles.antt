@@ -14,7 +14,7 @@ use Rattle.mq_core.specs.Wiring.{has, first_ready, ranked_after, ranking}
 use Rattle.mq_graph.specs.Cycle.{Reads, ReadThrough, HasCycle}
 use Rattle.mq_graph.specs.Rank.{AreWired, left_node}
 use Rattle.mq_graph.proofs.Ready.{ready, blocked, reader-within, read-within}
-use Rattle.mq_graph.proofs.Turns.{has_all, lacking}
+use Rattle.mq_graph.proofs.RankSteps.{has_all, lacking}
 
 -- ---- numbers below a bound, no two equal
 
@@ -82,7 +82,7 @@ ranking_stays (suc count) nodes ranked h =
     let e : ranked ++ option_to_list (first_ready ranked 0 nodes) ≡ ranked = ap (λ o. ranked ++ option_to_list o) h ∙ append-nil ranked in
     ap (ranked_after count nodes) e ∙ ranking_stays count nodes ranked h
 
--- no node is ready, or each turn has ranked one
+-- no node is ready, or each step has ranked one
 ranking_ends : (count : ℕ) (nodes : List Node) (ranked : List ℕ) → AreFew (length nodes) ranked → AreFew (length nodes) (ranked_after count nodes ranked) × ((first_ready (ranked_after count nodes ranked) 0 nodes ≡ None) ⊎ (length (ranked_after count nodes ranked) ≡ length ranked + count))
 unfolding ranked_after
 ranking_ends zero nodes ranked h = (h, inr (omega arith))
@@ -179,11 +179,11 @@ around nodes first others through n h = let r = onward nodes first others first 
 unranked : (nodes : List Node) (cycle : List ℕ) → ((n : ℕ) → has cycle n ≡ true → (u : ℕ) × Reads nodes n u × (has cycle u ≡ true)) → (count : ℕ) (ranked : List ℕ) → ((n : ℕ) → has cycle n ≡ true → has ranked n ≡ false) → (n : ℕ) → has cycle n ≡ true → has (ranked_after count nodes ranked) n ≡ false
 unfolding ranked_after
 unranked nodes cycle reads zero ranked h = h
-unranked nodes cycle reads (suc count) ranked h = unranked nodes cycle reads count (ranked ++ option_to_list (first_ready ranked 0 nodes)) (turn (first_ready ranked 0 nodes) refl)
+unranked nodes cycle reads (suc count) ranked h = unranked nodes cycle reads count (ranked ++ option_to_list (first_ready ranked 0 nodes)) (step (first_ready ranked 0 nodes) refl)
   where
-    turn : (r : Option ℕ) → first_ready ranked 0 nodes ≡ r → (n : ℕ) → has cycle n ≡ true → has (ranked ++ option_to_list r) n ≡ false
-    turn None e n on = ap (λ l. has l n) (append-nil ranked) ∙ h n on
-    turn (Some m) e n on = has-push ranked m n ∙ (ap (λ b. b || eqb m n) (h n on) ∙ other (eqb m n) refl)
+    step : (r : Option ℕ) → first_ready ranked 0 nodes ≡ r → (n : ℕ) → has cycle n ≡ true → has (ranked ++ option_to_list r) n ≡ false
+    step None e n on = ap (λ l. has l n) (append-nil ranked) ∙ h n on
+    step (Some m) e n on = has-push ranked m n ∙ (ap (λ b. b || eqb m n) (h n on) ∙ other (eqb m n) refl)
       where
         other : (b : Bool) → eqb m n ≡ b → b ≡ false
         other false k = refl

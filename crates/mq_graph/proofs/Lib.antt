@@ -1,3 +1,3 @@
-pub mod Turns
+pub mod RankSteps
 pub mod Ready
 pub mod Cycles

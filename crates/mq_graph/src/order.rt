@@ -45,7 +45,7 @@ fn is_ready(node: &Node, order: &[u32]) -> bool
 }
 
 // The first declared node that isn't ranked yet and all of whose inputs are.
-#[tactic(auto, using(crate::proofs::Turns::ready_here, crate::proofs::Turns::ready_later, crate::proofs::Turns::none_ready))]
+#[tactic(auto, using(crate::proofs::RankSteps::ready_here, crate::proofs::RankSteps::ready_later, crate::proofs::RankSteps::none_ready))]
 fn first_ready(nodes: &[Node], order: &[u32]) -> Option<u32>
     requires { length nodes.now ≤ 64 }
     ensures { result ≡ first_ready order.now 0 nodes.now }
@@ -79,7 +79,7 @@ pub fn rank(alloc: Global, net: &Network) -> Result<List<u32>, RankFault>
 {
     let nodes = net.nodes.as_slice();
     let mut order = List::new(alloc);
-    for _turn in 0..nodes.len() {
+    for _step in 0..nodes.len() {
         if let Some(node) = first_ready(nodes, order.as_slice()) {
             order.push(node)?;
         }

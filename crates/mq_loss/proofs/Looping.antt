@@ -5,7 +5,7 @@ use Rattle.std.proofs.lemmas.Option.{slice_get_within, get_or_from_slice_get}
 use Rattle.std.proofs.lemmas.List.{append-nil, drop_all, reverse-append}
 use Rattle.std.proofs.lemmas.List.Elements.{All-get_or}
 use Rattle.mq_base.proofs.lemmas.Lists.{drop_at}
-use Rattle.mq_core.specs.Columns.{IsSoundLoad}
+use Rattle.mq_core.specs.Sequences.{IsSoundLoad}
 use Rattle.mq_core.specs.Recurrences.{is_admitted}
 use Rattle.mq_loss.specs.Rounds.{all_admitted, departure_behind, departures_from, left_behind, round_from}
 use Rattle.mq_loss.proofs.Departing.{IsEarly, departures-none, early-next, early-same, round-none}

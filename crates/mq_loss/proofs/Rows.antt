@@ -28,14 +28,14 @@ third-round = refl
 fourth-round : guess_after 1 times demands 4 ≡ guess_after 1 times demands 3
 fourth-round = refl
 
--- the first window of 2 is settled whole, though its last place was changed, so the next has 4 places, of which 2 are left
+-- the first window of 2 is settled whole, though its last index was changed, so the next has 4 indices, of which 2 are left
 windows-of-two : after_windows 1 times demands 2 1 ≡ record { settled = true ∷ false ∷ []; width = 4; judged = 2 }
 windows-of-two = refl
 
 all-of-two : after_windows 1 times demands 2 2 ≡ record { settled = true ∷ false ∷ true ∷ false ∷ []; width = 4; judged = 4 }
 all-of-two = refl
 
--- of a first window of 4 two places are settled
+-- of a first window of 4 two indices are settled
 windows-of-four : after_windows 1 times demands 4 1 ≡ record { settled = true ∷ false ∷ []; width = 2; judged = 4 }
 windows-of-four = refl
 

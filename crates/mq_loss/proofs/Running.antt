@@ -9,7 +9,7 @@ use Rattle.mq_loss.proofs.Departing.{admission-departs, departures-append, depar
 use Rattle.mq_loss.proofs.Standing.{IsWindow, window-is}
 use Rattle.mq_loss.proofs.Windowed.{settles-some, width-most, width-some, window-right}
 
--- the settled places are right, with the admission of what is left behind them
+-- the settled indices are right, with the admission of what is left behind them
 pub record IsRightSoFar (places : ℕ) (times demands : List ℕ) (settled : List Bool) : Type 0 where
   pub right :
       settled ++ admission_from places (reverse (departures_of times demands settled)) (drop (length settled) times) (drop (length settled) demands)
@@ -25,7 +25,7 @@ pub record IsStanding (places : ℕ) (times demands : List ℕ) (first windows :
   pub few : windows ≤ length stand.settled
   pub before : (earlier : ℕ) → earlier < windows → length (after_windows places times demands first earlier).settled < length times
 
--- what a window of this outcome makes of the settled places and the judgements
+-- what a window of this outcome makes of the settled indices and the judgements
 abbrev after-window : List Bool → ℕ → List Bool → Stand
 after-window settled judged outcome = record {
   settled = settled ++ take (settled_in outcome) outcome;

@@ -1,4 +1,4 @@
--- What one window makes of the settled places and their departures.
+-- What one window makes of the settled indices and their departures.
 use Rattle.std.proofs.Common.{◌≡◌, ℕ, zero, suc, ◌+◌, ◌-◌, ◌≤◌, Bool, List, [], ◌∷◌, ◌++◌, length, take, drop, refl, sym, ap, ◌∙◌, arith, length-drop, length-append}
 use Rattle.std.specs.Prelude.{min, reverse}
 use Rattle.std.proofs.Math.Seq.{drop-append_seam, take-append-add}
@@ -60,7 +60,7 @@ window-is places times demands settled width count departs departs' outcome d wi
           ∙ sym (departures-append [] times demands settled (take (settled_in outcome) outcome) d))))));
     }
 
--- the outcome that was put behind the settled places, and a first part of both
+-- the outcome that was put behind the settled indices, and a first part of both
 pub outcome-behind : (settled outcome admitted : List Bool) (from : ℕ) → from ≡ length settled → admitted ≡ settled ++ outcome → drop from admitted ≡ outcome
 outcome-behind settled outcome admitted from e h = (λ k. drop (e k) (h k)) ∙ drop-append_seam settled outcome
 

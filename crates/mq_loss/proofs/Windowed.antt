@@ -19,7 +19,7 @@ settled-more outcome = omega arith
 settled-one : (outcome : List Bool) → settled_in (false ∷ outcome) ≡ 1
 settled-one outcome = omega arith
 
--- of an outcome, the settled places are right, and so are those behind them
+-- of an outcome, the settled indices are right, and so are those behind them
 abbrev IsRight : ℕ → List ℕ → List ℕ → List ℕ → List Bool → ℕ → Type 0
 IsRight places left times demands outcome count =
     take count outcome
@@ -68,7 +68,7 @@ departs-step width left arrive demand arrives demands outcome false h =
     ap (λ (n : ℕ). departures_from left (arrive ∷ arrives) (demand ∷ demands) (take n (false ∷ outcome))) (settled-one outcome)
     ∙ departures-none left arrives demands
 
--- the departures of the settled places are the first of those of the window
+-- the departures of the settled indices are the first of those of the window
 pub window-departs : (width places : ℕ) (left times demands : List ℕ) → length demands ≡ length times →
     let outcome = round_from places left times demands (all_admitted width) in
     departures_from left times demands (take (settled_in outcome) outcome) ≡ take (unchanged_in outcome) (departures_from left times demands (all_admitted width))

@@ -3,13 +3,13 @@ use Rattle.std.specs.Prelude.{◌≡◌, ℕ, zero, suc, ◌+◌, ◌*◌, ◌<�
 use Rattle.mq_loss.specs.Rounds.{all_admitted, round_of}
 use Rattle.mq_loss.specs.declared.windows.Progress.{Progress}
 
--- how many places come before the first that a round changed, where all were guessed admitted
+-- how many indices come before the first that a round changed, where all were guessed admitted
 abbrev pub unchanged_in : List Bool → ℕ
 unchanged_in [] = 0
 unchanged_in (true ∷ outcome) = suc (unchanged_in outcome)
 unchanged_in (false ∷ outcome) = 0
 
--- how many places of a window are settled by its round: those up to the first that the round changed, or all
+-- how many indices of a window are settled by its round: those up to the first that the round changed, or all
 abbrev pub settled_in : List Bool → ℕ
 settled_in outcome = min (unchanged_in outcome + 1) (length outcome)
 
@@ -18,13 +18,13 @@ settled_in outcome = min (unchanged_in outcome + 1) (length outcome)
 abbrev pub next_width : ℕ → ℕ → ℕ
 next_width settled width = if settled == width then 2 * width else settled
 
--- what one round makes of a window: it begins behind the settled places, and all of it, up to the last arrival, is guessed
+-- what one round makes of a window: it begins behind the settled indices, and all of it, up to the last arrival, is guessed
 -- admitted
 abbrev pub window_after : ℕ → List ℕ → List ℕ → List Bool → ℕ → List Bool
 window_after places times demands settled width =
     drop (length settled) (round_of places times demands (settled ++ all_admitted width))
 
--- Where a run of windows stands: the settled places, the length of the next window, and the judgements made.
+-- Where a run of windows stands: the settled indices, the length of the next window, and the judgements made.
 pub record Stand : Type 0 where
   pub settled : List Bool
   pub width : ℕ
@@ -45,7 +45,7 @@ abbrev pub after_windows : ℕ → List ℕ → List ℕ → ℕ → ℕ → Sta
 after_windows places times demands first zero = record { settled = []; width = first; judged = 0 }
 after_windows places times demands first (suc windows) = one_window places times demands (after_windows places times demands first windows)
 
--- so many windows, one round each, settle all places, and the judgements are the sum of their lengths
+-- so many windows, one round each, settle all indices, and the judgements are the sum of their lengths
 pub record IsWindowRun (places : ℕ) (times demands : List ℕ) (first rounds judgements : ℕ) : Type 0 where
   pub before : (windows : ℕ) → windows < rounds → length (after_windows places times demands first windows).settled < length times
   pub all : length (after_windows places times demands first rounds).settled ≡ length times

@@ -1,5 +1,5 @@
 ghost use Rattle.std.specs.Prelude.{◌≡◌, ◌+◌, ◌≤◌, length, reverse, IfOk, IsTrue, ◌↔◌};
-ghost use Rattle.mq_core.specs.Columns.{IsSoundLoad};
+ghost use Rattle.mq_core.specs.Sequences.{IsSoundLoad};
 ghost use Rattle.mq_loss.specs.Rounds.{IsSettled, IsWholeRun, all_admitted, departures_of, round_of};
 
 use crate::answer::Settled;

@@ -1,5 +1,5 @@
 ghost use Rattle.std.specs.Prelude.{◌≡◌, ◌+◌, ◌-◌, ◌*◌, ◌^◌, ◌≤◌, ◌<◌, ◌++◌, drop, take, length, reverse, slice_get, IfOk, vec_len, vec_capacity};
-ghost use Rattle.mq_core.specs.Columns.{IsSoundLoad};
+ghost use Rattle.mq_core.specs.Sequences.{IsSoundLoad};
 ghost use Rattle.mq_core.specs.Recurrences.{time_or_none};
 ghost use Rattle.mq_loss.specs.Rounds.{IsSettled, all_admitted, departures_from, departures_of, round_from};
 ghost use Rattle.mq_loss.specs.Windows.{IsWindowRun, next_width, one_window, settled_in, stand_of, unchanged_in};

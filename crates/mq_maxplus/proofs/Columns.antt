@@ -14,18 +14,18 @@ use Rattle.mq_maxplus.proofs.MatrixLaws.{length-units, length-act, length-vplus,
 use Rattle.mq_maxplus.proofs.Vectors.{entry-vmax, entry-vplus}
 
 -- a column of the unit matrix
-pub unit-column : (size place : ℕ) → place < size → get_or (unit_matrix size) place [] ≡ set (voids size) place (At 0)
-unit-column zero place l = absurd (omega arith)
+pub unit-column : (size index : ℕ) → index < size → get_or (unit_matrix size) index [] ≡ set (voids size) index (At 0)
+unit-column zero index l = absurd (omega arith)
 unit-column (suc size) zero l = refl
-unit-column (suc size) (suc place) l =
+unit-column (suc size) (suc index) l =
     let long = length-units size in
-    get_or-map (λ column. Void ∷ column) (unit_matrix size) place [] [] (omega arith) ∙ ap (λ column. Void ∷ column) (unit-column size place (omega arith))
+    get_or-map (λ column. Void ∷ column) (unit_matrix size) index [] [] (omega arith) ∙ ap (λ column. Void ∷ column) (unit-column size index (omega arith))
 
--- What is kept while the columns of a unit matrix are made: those before this place are.
-pub record Uniting (size : ℕ) (columns : List (List Mp)) (place : ℕ) : Type 0 where
+-- What is kept while the columns of a unit matrix are made: those before this index are.
+pub record Uniting (size : ℕ) (columns : List (List Mp)) (index : ℕ) : Type 0 where
   pub long : length columns ≡ 16
-  pub done : take place columns ≡ take place (unit_matrix size)
-  pub left : drop place columns ≡ replicate (16 - place) (voids size)
+  pub done : take index columns ≡ take index (unit_matrix size)
+  pub left : drop index columns ≡ replicate (16 - index) (voids size)
   pub square : All (λ column. length column ≡ size) columns
 
 pub uniting-begins : (size : ℕ) (columns : List (List Mp)) → columns ≡ replicate 16 (voids size) → Uniting size columns 0
@@ -42,28 +42,28 @@ uniting-begins size columns e = record {
     drop-none : (xs : List (List Mp)) → drop 0 xs ≡ xs
     drop-none xs = refl
 
-pub uniting-next : (size : ℕ) (columns columns' : List (List Mp)) (place : ℕ) → size ≤ 16 → place < size → columns' ≡ set columns place (set (voids size) place (At 0)) → Uniting size columns place → Uniting size columns' (place + 1)
-uniting-next size columns columns' place few l s h =
-    let column = set (voids size) place (At 0) in
+pub uniting-next : (size : ℕ) (columns columns' : List (List Mp)) (index : ℕ) → size ≤ 16 → index < size → columns' ≡ set columns index (set (voids size) index (At 0)) → Uniting size columns index → Uniting size columns' (index + 1)
+uniting-next size columns columns' index few l s h =
+    let column = set (voids size) index (At 0) in
     let many = h.long in
     let units = length-units size in
-    let next : suc place ≡ place + 1 = omega arith in
-    let fewer : 16 - place - 1 ≡ 16 - (place + 1) = omega arith in
+    let next : suc index ≡ index + 1 = omega arith in
+    let fewer : 16 - index - 1 ≡ 16 - (index + 1) = omega arith in
     record {
-      long = ap length s ∙ (length-set columns place column ∙ h.long);
+      long = ap length s ∙ (length-set columns index column ∙ h.long);
       done =
-          ap (take (place + 1)) s
-          ∙ (take_more_set columns place column (omega arith)
-          ∙ ((λ i. h.done i ++ sym (unit-column size place l) i ∷ []) ∙ (sym (take-suc (unit_matrix size) place [] (omega arith)) ∙ ap (λ n. take n (unit_matrix size)) next)));
+          ap (take (index + 1)) s
+          ∙ (take_more_set columns index column (omega arith)
+          ∙ ((λ i. h.done i ++ sym (unit-column size index l) i ∷ []) ∙ (sym (take-suc (unit_matrix size) index [] (omega arith)) ∙ ap (λ n. take n (unit_matrix size)) next)));
       left =
-          ap (drop (place + 1)) s
-          ∙ (drop-set-lt (place + 1) columns place column (omega arith)
-          ∙ (sym (drop-drop 1 place columns) ∙ (ap (drop 1) h.left ∙ (drop-replicate 1 (16 - place) (voids size) ∙ ap (λ n. replicate n (voids size)) fewer))));
-      square = subst (All (λ column. length column ≡ size)) (sym s) (All-set (λ column. length column ≡ size) columns place column (length-set (voids size) place (At 0) ∙ length-replicate size Void) h.square);
+          ap (drop (index + 1)) s
+          ∙ (drop-set-lt (index + 1) columns index column (omega arith)
+          ∙ (sym (drop-drop 1 index columns) ∙ (ap (drop 1) h.left ∙ (drop-replicate 1 (16 - index) (voids size) ∙ ap (λ n. replicate n (voids size)) fewer))));
+      square = subst (All (λ column. length column ≡ size)) (sym s) (All-set (λ column. length column ≡ size) columns index column (length-set (voids size) index (At 0) ∙ length-replicate size Void) h.square);
     }
 
-pub uniting-padded : (size : ℕ) (columns : List (List Mp)) (place : ℕ) → 1 ≤ size → size ≤ 16 → place ≡ size → Uniting size columns place → IsPaddedMatrix size columns
-uniting-padded size columns place some few e h = record {
+pub uniting-padded : (size : ℕ) (columns : List (List Mp)) (index : ℕ) → 1 ≤ size → size ≤ 16 → index ≡ size → Uniting size columns index → IsPaddedMatrix size columns
+uniting-padded size columns index some few e h = record {
   some = some;
   few = few;
   all = h.long;
@@ -71,30 +71,30 @@ uniting-padded size columns place some few e h = record {
   padded = subst (λ (n : ℕ). drop n columns ≡ replicate (16 - n) (voids size)) e h.left;
 }
 
-pub uniting-ends : (size : ℕ) (columns : List (List Mp)) (place : ℕ) → place ≡ size → Uniting size columns place → take size columns ≡ unit_matrix size
-uniting-ends size columns place e h =
+pub uniting-ends : (size : ℕ) (columns : List (List Mp)) (index : ℕ) → index ≡ size → Uniting size columns index → take size columns ≡ unit_matrix size
+uniting-ends size columns index e h =
     let units = length-units size in
     subst (λ (n : ℕ). take n columns ≡ take n (unit_matrix size)) e h.done ∙ take_all size (unit_matrix size) (omega arith)
 
--- What is kept while a matrix takes the columns of another on: those before this place are.
-pub record Taking (first second all : List (List Mp)) (place : ℕ) : Type 0 where
+-- What is kept while a matrix takes the columns of another on: those before this index are.
+pub record Taking (first second all : List (List Mp)) (index : ℕ) : Type 0 where
   pub long : length all ≡ length first
-  pub done : take place all ≡ take place (matrix_then first second)
+  pub done : take index all ≡ take index (matrix_then first second)
 
-pub taking-next : (first second all all' : List (List Mp)) (place : ℕ) (column : List Mp) → slice_get first place ≡ Some column → all' ≡ set all place (matrix_act second column) → Taking first second all place → Taking first second all' (place + 1)
-taking-next first second all all' place column at s h =
-    let inside = slice_get_within first place column at in
+pub taking-next : (first second all all' : List (List Mp)) (index : ℕ) (column : List Mp) → slice_get first index ≡ Some column → all' ≡ set all index (matrix_act second column) → Taking first second all index → Taking first second all' (index + 1)
+taking-next first second all all' index column at s h =
+    let inside = slice_get_within first index column at in
     let many = h.long in
     let whole = length-map first (matrix_act second) in
-    let next : suc place ≡ place + 1 = omega arith in
-    let item : matrix_act second column ≡ get_or (matrix_then first second) place [] =
-    ap (matrix_act second) (sym (get_or_from_slice_get first place column [] at)) ∙ sym (get_or-map (matrix_act second) first place [] [] inside) in
+    let next : suc index ≡ index + 1 = omega arith in
+    let item : matrix_act second column ≡ get_or (matrix_then first second) index [] =
+    ap (matrix_act second) (sym (get_or_from_slice_get first index column [] at)) ∙ sym (get_or-map (matrix_act second) first index [] [] inside) in
     record {
-      long = ap length s ∙ (length-set all place (matrix_act second column) ∙ h.long);
+      long = ap length s ∙ (length-set all index (matrix_act second column) ∙ h.long);
       done =
-          ap (take (place + 1)) s
-          ∙ (take_more_set all place (matrix_act second column) (omega arith)
-          ∙ ((λ i. h.done i ++ item i ∷ []) ∙ (sym (take-suc (matrix_then first second) place [] (omega arith)) ∙ ap (λ n. take n (matrix_then first second)) next)));
+          ap (take (index + 1)) s
+          ∙ (take_more_set all index (matrix_act second column) (omega arith)
+          ∙ ((λ i. h.done i ++ item i ∷ []) ∙ (sym (take-suc (matrix_then first second) index [] (omega arith)) ∙ ap (λ n. take n (matrix_then first second)) next)));
     }
 
 -- the columns of a matrix as it is kept
@@ -105,20 +105,20 @@ square-view size columns now h e =
       subst (λ (z : List (List Mp) × ℕ). All (λ column. length column ≡ z.1) z.0) (λ i. (e i, sym long i)) (All-take (λ column. length column ≡ size) size columns h.square),
     )
 
--- What is kept while a matrix acts on a vector, from the last column to the first: those from this place on are taken.
-pub record Acting (columns : List (List Mp)) (xs all : List Mp) (place : ℕ) : Type 0 where
+-- What is kept while a matrix acts on a vector, from the last column to the first: those from this index on are taken.
+pub record Acting (columns : List (List Mp)) (xs all : List Mp) (index : ℕ) : Type 0 where
   pub long : length all ≡ length columns
-  pub done : all ≡ vec_max (matrix_act (drop place columns) (drop place xs)) (voids (length columns))
+  pub done : all ≡ vec_max (matrix_act (drop index columns) (drop index xs)) (voids (length columns))
 
-pub acting-next : (columns : List (List Mp)) (xs all all' : List Mp) (place : ℕ) (column : List Mp) (x : Mp) → slice_get columns place ≡ Some column → x ≡ entry xs place → length xs ≡ length columns → length column ≡ length columns → all' ≡ vec_max (vec_plus x column) all → Acting columns xs all (place + 1) →
-    Acting columns xs all' place
-acting-next columns xs all all' place column x at is same size s h =
-    let inside = slice_get_within columns place column at in
+pub acting-next : (columns : List (List Mp)) (xs all all' : List Mp) (index : ℕ) (column : List Mp) (x : Mp) → slice_get columns index ≡ Some column → x ≡ entry xs index → length xs ≡ length columns → length column ≡ length columns → all' ≡ vec_max (vec_plus x column) all → Acting columns xs all (index + 1) →
+    Acting columns xs all' index
+acting-next columns xs all all' index column x at is same size s h =
+    let inside = slice_get_within columns index column at in
     let long : length (vec_plus x column) ≡ length columns = length-vplus x column ∙ size in
-    let rest = matrix_act (drop (place + 1) columns) (drop (place + 1) xs) in
-    let next : suc place ≡ place + 1 = omega arith in
-    let item : drop place xs ≡ x ∷ drop (place + 1) xs = drop-cons xs place Void (omega arith) ∙ (λ i. sym is i ∷ drop (next i) xs) in
-    let here : drop place columns ≡ column ∷ drop (place + 1) columns = drop-cons columns place [] inside ∙ (λ i. get_or_from_slice_get columns place column [] at i ∷ drop (next i) columns) in
+    let rest = matrix_act (drop (index + 1) columns) (drop (index + 1) xs) in
+    let next : suc index ≡ index + 1 = omega arith in
+    let item : drop index xs ≡ x ∷ drop (index + 1) xs = drop-cons xs index Void (omega arith) ∙ (λ i. sym is i ∷ drop (next i) xs) in
+    let here : drop index columns ≡ column ∷ drop (index + 1) columns = drop-cons columns index [] inside ∙ (λ i. get_or_from_slice_get columns index column [] at i ∷ drop (next i) columns) in
     record {
       long = ap length s ∙ (length-vmax (vec_plus x column) all (long ∙ sym h.long) ∙ long);
       done =
@@ -132,9 +132,9 @@ acting-ends columns xs all same some square h =
     h.done ∙ vmax-voids (matrix_act columns xs) (length columns) (length-act (length columns) columns xs square some same)
 
 -- the sums that a column makes fit
-pub may-cover : (columns : List (List Mp)) (xs : List Mp) (place : ℕ) (column : List Mp) (x : Mp) → CanMatrixAct columns xs → slice_get columns place ≡ Some column → x ≡ entry xs place → (row : ℕ) → Fits (mp_plus x (entry column row))
-may-cover columns xs place column x can at is row =
-    subst (λ (z : Mp × List Mp). Fits (mp_plus z.0 (entry z.1 row))) (λ i. (sym is i, get_or_from_slice_get columns place column [] at i)) (can.sums place row)
+pub may-cover : (columns : List (List Mp)) (xs : List Mp) (index : ℕ) (column : List Mp) (x : Mp) → CanMatrixAct columns xs → slice_get columns index ≡ Some column → x ≡ entry xs index → (row : ℕ) → Fits (mp_plus x (entry column row))
+may-cover columns xs index column x can at is row =
+    subst (λ (z : Mp × List Mp). Fits (mp_plus z.0 (entry z.1 row))) (λ i. (sym is i, get_or_from_slice_get columns index column [] at i)) (can.sums index row)
 
 -- what a matrix makes of a vector, row by row
 pub entry-act : (columns : List (List Mp)) (xs : List Mp) (row : ℕ) → entry (matrix_act columns xs) row ≡ greatest_sum columns xs row

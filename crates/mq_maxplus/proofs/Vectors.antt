@@ -36,7 +36,7 @@ entry-drop xs ys row e = sym (front xs row) ∙ (ap (λ zs. entry zs 0) e ∙ fr
     front (x ∷ xs) zero = refl
     front (x ∷ xs) (suc row) = front xs row
 
--- lists that agree from a place on do so from the next one on
+-- lists that agree from an index on do so from the next one on
 drop-next : (xs ys : List Mp) (row : ℕ) → drop row xs ≡ drop row ys → drop (row + 1) xs ≡ drop (row + 1) ys
 drop-next xs ys row e = sym (drop-drop 1 row xs) ∙ (ap (drop 1) e ∙ drop-drop 1 row ys)
 

@@ -1,5 +1,5 @@
 -- Vectors and square matrices under max and plus. A vector is the list of its rows, a matrix the list of its columns, each a
--- vector: what the matrix makes of a zero in the row of that place and minus infinity in all others.
+-- vector: what the matrix makes of a zero in the row of that index and minus infinity in all others.
 use Rattle.std.specs.Prelude.{◌≡◌, ℕ, zero, suc, List, [], ◌∷◌, length, map, replicate, slice_index_or, All}
 use Rattle.mq_maxplus.specs.declared.mp.Mp.{Mp}
 use Rattle.mq_maxplus.specs.declared.mp.Mp.TheVariants.{Void, At}
@@ -23,13 +23,13 @@ vec_max (x ∷ xs) (y ∷ ys) = mp_max x y ∷ vec_max xs ys
 abbrev pub vec_plus : Mp → List Mp → List Mp
 vec_plus x xs = map (mp_plus x) xs
 
--- what a matrix makes of a vector: the greatest of its columns, each with the vector's item of its place added
+-- what a matrix makes of a vector: the greatest of its columns, each with the vector's item of its index added
 abbrev pub matrix_act : List (List Mp) → List Mp → List Mp
 matrix_act [] xs = []
 matrix_act (column ∷ columns) [] = []
 matrix_act (column ∷ columns) (x ∷ xs) = vec_max (vec_plus x column) (matrix_act columns xs)
 
--- the same in one row: the greatest, over the columns, of the number there and the vector's item of its place together
+-- the same in one row: the greatest, over the columns, of the number there and the vector's item of its index together
 abbrev pub greatest_sum : List (List Mp) → List Mp → ℕ → Mp
 greatest_sum [] xs row = Void
 greatest_sum (column ∷ columns) [] row = Void

@@ -8,7 +8,7 @@ use crate::{Mp, Vector};
 use std::marker::Model;
 
 /// A square matrix of 1 to 16 rows, a map of vectors of its size: what it makes of a vector is the
-/// greatest of its columns, each with the vector's number of its place added.
+/// greatest of its columns, each with the vector's number of its index added.
 #[derive(Clone, Copy)]
 pub struct Matrix {
     size: u8,
@@ -42,10 +42,10 @@ impl Matrix {
         ensures { result ≡ unit_matrix size }
     {
         let mut columns = [Vector::new(size); 16];
-        for place in 0..size {
+        for index in 0..size {
             let mut column = Vector::new(size);
-            column.set(place, Mp::At(0));
-            columns[place as usize] = column;
+            column.set(index, Mp::At(0));
+            columns[index as usize] = column;
         }
         Matrix { size, columns }
     }
@@ -108,10 +108,10 @@ impl Matrix {
         ensures { result ≡ matrix_then self.now next.now }
     {
         let mut all = *self;
-        for place in 0..self.size() {
-            let mut column = *self.column(place);
+        for index in 0..self.size() {
+            let mut column = *self.column(index);
             next.act(&mut column);
-            all.set_column(place, &column);
+            all.set_column(index, &column);
         }
         all
     }
@@ -124,23 +124,23 @@ impl Matrix {
         ensures size { length on.new ≡ length on.old }
     {
         let mut all = Vector::new(self.size);
-        for place in (0..self.size).rev() {
-            all.cover(self.column(place), on.get(place));
+        for index in (0..self.size).rev() {
+            all.cover(self.column(index), on.get(index));
         }
         *on = all;
     }
 }
 
 /// Laws. What a matrix makes of a vector has in each row the greatest, over the columns, of the number
-/// there and the vector's number of that place together; a composition has that in each row and column,
+/// there and the vector's number of that index together; a composition has that in each row and column,
 /// with the column of the first matrix as the vector. Acting by a composition of matrices is acting by
 /// one and then the other, and the composition is associative. A column of the unit matrix has a zero in
-/// the row of its place, and else minus infinity; the matrix leaves each vector of its size as it is.
+/// the row of its index, and else minus infinity; the matrix leaves each vector of its size as it is.
 pub fn matrix_laws()
     ensures rows { (s : Items (Items Number)) (x : Items Number) (row : ℕ) → entry (matrix_act s x) row ≡ greatest_sum s x row }
     ensures acts { (s t : Items (Items Number)) (x : Items Number) → matrix_act (matrix_then s t) x ≡ matrix_act t (matrix_act s x) }
     ensures joins { (s t u : Items (Items Number)) → matrix_then (matrix_then s t) u ≡ matrix_then s (matrix_then t u) }
     ensures products { (s t : Items (Items Number)) (row column : ℕ) → matrix_entry (matrix_then s t) row column ≡ greatest_sum t (slice_index_or s column []) row }
-    ensures diagonal { (size place : ℕ) → place < size → slice_index_or (unit_matrix size) place [] ≡ slice_set (voids size) place (At 0) }
+    ensures diagonal { (size index : ℕ) → index < size → slice_index_or (unit_matrix size) index [] ≡ slice_set (voids size) index (At 0) }
     ensures units { (x : Items Number) → matrix_act (unit_matrix (length x)) x ≡ x }
 {}

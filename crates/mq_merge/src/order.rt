@@ -1,7 +1,7 @@
 // Jobs put in order of the times at which they pass.
 ghost use Rattle.std.specs.Prelude.{◌≡◌, ◌≤◌, length, IfOk};
 ghost use Rattle.std.specs.List.{zip};
-ghost use Rattle.mq_core.specs.Columns.{IsStream, by_first, pairs_of};
+ghost use Rattle.mq_core.specs.Sequences.{IsStream, by_first, pairs_of};
 ghost use Rattle.mq_core.specs.Laws.{Rises};
 
 use crate::sort::{par_sort_by_first, sort_by_first};
@@ -20,7 +20,7 @@ pub fn by_time(alloc: Global, jobs: &List<u32>, times: &List<u64>) -> Result<Str
 {
     let mut items = items_of(alloc, jobs, times)?;
     sort_by_first(&mut items)?;
-    columns_of(alloc, &items)
+    stream_from_items(alloc, &items)
 }
 
 /// The stream that `by_time` gives, sorted in threads where they can be had. It refuses for want of
@@ -37,7 +37,7 @@ pub fn par_by_time<R: Threads + Sync>(
 {
     let mut items = items_of(alloc, jobs, times)?;
     par_sort_by_first(rt, alloc, &mut items)?;
-    columns_of(alloc, &items)
+    stream_from_items(alloc, &items)
 }
 
 // The time of each job, with the job.
@@ -57,7 +57,7 @@ fn items_of(
 }
 
 // The stream of items that are by time.
-fn columns_of(alloc: Global, items: &[(u64, u32)]) -> Result<Stream, OutOfMemory>
+fn stream_from_items(alloc: Global, items: &[(u64, u32)]) -> Result<Stream, OutOfMemory>
     requires { Rises (λ p q. p.0 ≤ q.0) items.now }
     ensures stream { IfOk result (λ stream. IsStream stream) }
     ensures items { IfOk result (λ stream. pairs_of stream ≡ items.now) }

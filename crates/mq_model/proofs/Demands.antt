@@ -18,7 +18,7 @@ use Rattle.mq_model.specs.SaidOf.{demand_by, name_at}
 use Rattle.mq_model.specs.declared.said.SaidDemand.{SaidDemand}
 use Rattle.mq_model.specs.declared.said.SaidDemand.TheVariants.{Column, Fixed}
 use Rattle.mq_model.proofs.NamesBack.{number_again}
-use Rattle.mq_model.proofs.SoundColumns.{place_in_front}
+use Rattle.mq_model.proofs.SoundColumns.{index_in_front}
 use Rattle.mq_model.proofs.SoundLines.{IsSoundDemand}
 
 -- Of a line without a fault: its columns, and its range.
@@ -32,7 +32,7 @@ demand_names (Fixed n) sound = refl
 
 pub number_below : (names : List Word) (name : Word) → is_among names name ≡ true → nat_lt (number_in names name) (length names) ≡ true
 number_below names name h =
-    let below = place_in_front (λ other. bytes_eq other name) names [] h in
+    let below = index_in_front (λ other. bytes_eq other name) names [] h in
     lt-ltb _ _ (subst (λ all. number_in all name < length names) (append-nil names) below)
 
 pub demand_in_range : (columns : List Word) (d : SaidDemand) → IsSoundDemand d → list_all (is_among columns) (mentions_of_demand d) ≡ true → is_sound_demand (length columns) (demand_in columns d) ≡ true

@@ -278,12 +278,12 @@ add_told before l number front said has_bound is n unskipped some e none bound =
     let names = cond_none (list_any (is_among front.names) (declared said)) (NameTwice number) (cond full (Some (TooMany number)) None) parts.0 in
     let few = cond_none full (TooMany number) None names.1 in
     let columns = cond_none (nat_lt 16 (length after)) (TooMany number) None parts.1 in
-    let place : number ≡ 1 + length before = omega arith in
+    let index : number ≡ 1 + length before = omega arith in
     record {
       head = some ∙ sym (ap not (skipped_more before l) ∙ rw (has_head_is before front is some) refl);
       bound = bound ∙ rw is.bound (sym (bound_more before l));
       saids = rw (is.saids, more) refl;
-      lines = rw (is.lines, numbers_append 1 before l, place) (ap (λ more. numbers_from 1 before ++ more) (sym (numbers_one (1 + length before) l (Some said) told)));
+      lines = rw (is.lines, numbers_append 1 before l, index) (ap (λ more. numbers_from 1 before ++ more) (sym (numbers_one (1 + length before) l (Some said) told)));
       names = rw (is.names, more) (sym (names_more (saids_of before) said));
       columns = rw (is.columns, more) (sym (columns_more (saids_of before) said));
       few_names = few_more front.names said is.few_names few.0;

@@ -40,7 +40,7 @@ pub any_read : (p : SaidInput → Bool) (saids : List Said) → list_any p (flat
 any_read p [] = refl
 any_read p (said ∷ saids) = list_any-append p (reads_of said) (flat_map reads_of saids) ∙ ap (λ b. list_any p (reads_of said) || b) (any_read p saids)
 
--- the item at a place
+-- the item at an index
 pub item_at : {A : Type 0} (xs : List A) (i : ℕ) (x : A) → i < length xs → x ≡ get_or xs i x → (drop i xs ≡ x ∷ drop (i + 1) xs) × (take (i + 1) xs ≡ take i xs ++ x ∷ [])
 item_at xs i x less is =
     (rw add-one (drop-cons xs i x less) ∙ ap (λ y. y ∷ drop (i + 1) xs) (sym is), take_more xs i x less ∙ ap (λ y. take i xs ++ y ∷ []) (sym is))

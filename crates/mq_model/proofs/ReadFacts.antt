@@ -1,4 +1,4 @@
--- The words from a place on, and what one word does.
+-- The words from an index on, and what one word does.
 use Rattle.std.proofs.Common.{◌≡◌, ◌∙◌, sym, ap, refl, ℕ, zero, suc, ◌+◌, ◌<◌, ◌≤◌, List, [], ◌∷◌, ◌++◌, length, drop, map, Bool, true, false, Some, None, Result, Ok, Err, Bor, arith, append_assoc, ◌-◌, ◌^◌, inl, inr}
 use Rattle.std.specs.Prelude.{slice_get, ◌&&◌, not, nat_le, nat_lt, get_or, codes}
 use Rattle.std.specs.Char.{is_ascii_lowercase}
@@ -50,7 +50,7 @@ pub name_parts : (w : Word) → 1 ≤ length w
 name_parts [] h = absurd (omega arith)
 name_parts (b ∷ more) h = refl
 
--- the words at a place in range
+-- the words at an index in range
 pub words_at : (words : List (Bor (List ℕ))) (at : ℕ) (d : Bor (List ℕ)) → at < length words → words_from words at ≡ (get_or words at d).now ∷ words_from words (at + 1)
 words_at [] at d h = absurd (omega arith)
 words_at (x ∷ words) zero d h = grind (arith, common_steps)

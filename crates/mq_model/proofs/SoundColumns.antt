@@ -53,22 +53,22 @@ list_all_after p before (name ∷ more) h =
     ]
 
 -- where an item is found, it is found among the first ones
-pub place_in_front : {X : Type 0} (p : X → Bool) (front rest : List X) → list_any p front ≡ true → position_or_len p (front ++ rest) < length front
-place_in_front p [] rest h = absurd (cc)
-place_in_front p (x ∷ front) rest h =
+pub index_in_front : {X : Type 0} (p : X → Bool) (front rest : List X) → list_any p front ≡ true → position_or_len p (front ++ rest) < length front
+index_in_front p [] rest h = absurd (cc)
+index_in_front p (x ∷ front) rest h =
     elim (cases_Bool (p x)) [
       | inl here ↦ rw here (omega arith)
       | inr later ↦
           let some : list_any p front ≡ true = rw later at h in
-          let again = place_in_front p front rest some in
+          let again = index_in_front p front rest some in
           rw later (omega arith)
     ]
 
-pub place_behind : {X : Type 0} (p : X → Bool) (front : List X) (x : X) (rest : List X) → list_any p front ≡ false → p x ≡ true → position_or_len p (front ++ x ∷ rest) ≡ length front
-place_behind p [] x rest none here = rw here refl
-place_behind p (y ∷ front) x rest none here =
+pub index_behind : {X : Type 0} (p : X → Bool) (front : List X) (x : X) (rest : List X) → list_any p front ≡ false → p x ≡ true → position_or_len p (front ++ x ∷ rest) ≡ length front
+index_behind p [] x rest none here = rw here refl
+index_behind p (y ∷ front) x rest none here =
     let (other, others) = or_parts (p y) (list_any p front) none in
-    let again = place_behind p front x rest others here in
+    let again = index_behind p front x rest others here in
     rw (other, again) (omega arith)
 
 -- the columns are mentioned in the order of their numbers
@@ -79,12 +79,12 @@ mentions_in_order before (name ∷ more) columns is =
     elim (cases_Bool (is_among before name)) [
       | inl known ↦
           let is_so : columns ≡ before ++ distinct_after before more = rw known at is in
-          let low : number_in columns name < length before = subst (λ cs. number_in cs name < length before) (sym is_so) (place_in_front (λ other. bytes_eq other name) before (distinct_after before more) known) in
+          let low : number_in columns name < length before = subst (λ cs. number_in cs name < length before) (sym is_so) (index_in_front (λ other. bytes_eq other name) before (distinct_after before more) known) in
           let again = mentions_in_order before more columns is_so in
           rw (ne_eqb (number_in columns name) (length before) (λ e. omega arith), lt-ltb (number_in columns name) (length before) low) again
       | inr new ↦
           let is_so : columns ≡ before ++ name ∷ distinct_after (before ++ name ∷ []) more = rw new at is in
-          let here : number_in columns name ≡ length before = subst (λ cs. number_in cs name ≡ length before) (sym is_so) (place_behind (λ other. bytes_eq other name) before name (distinct_after (before ++ name ∷ []) more) new (same_name name)) in
+          let here : number_in columns name ≡ length before = subst (λ cs. number_in cs name ≡ length before) (sym is_so) (index_behind (λ other. bytes_eq other name) before name (distinct_after (before ++ name ∷ []) more) new (same_name name)) in
           let again = mentions_in_order (before ++ name ∷ []) more columns (is_so ∙ sym (append_assoc before (name ∷ []) _)) in
           let count : length (before ++ name ∷ []) ≡ suc (length before) = length-append before (name ∷ []) ∙ omega arith in
           let later : mentions_from (suc (length before)) (length columns) (map (number_in columns) more) ≡ true = subst (λ n. mentions_from n (length columns) (map (number_in columns) more) ≡ true) count again in

@@ -21,7 +21,7 @@ more_words words word all rest more e h = grind (arith, common_steps, e, h)
 pub last_words : (words : List (Bor (List ℕ))) (all rest : List Word) → all ≡ texts words ++ rest → rest ≡ [] → texts words ≡ all
 last_words words all rest e h = rw (e, h) (sym (append-nil (texts words)))
 
--- the lines up to a place are read
+-- the lines up to an index are read
 pub record Lined (text : List ℕ) (from number : ℕ) (kept : Front) : Type 0 where
   pub done : List (List ℕ)
   pub all : lines_of text ≡ done ++ lines_of (drop from text)

@@ -38,7 +38,7 @@ saids_of lines = filter_map said_of lines
 abbrev pub without_mark : List ℕ → List ℕ
 without_mark text = if bytes_eq (take 3 text) (0xEF ∷ 0xBB ∷ 0xBF ∷ []) then drop 3 text else text
 
--- the number of a name: its place among the names
+-- the number of a name: its index among the names
 abbrev pub number_in : List Word → Word → ℕ
 number_in names name = position_or_len (λ other. bytes_eq other name) names
 

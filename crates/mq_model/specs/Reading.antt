@@ -12,7 +12,7 @@ use Rattle.mq_model.specs.declared.parts.Stop.TheVariants as why
 use Rattle.mq_model.specs.declared.line.LineFault.{LineFault}
 use Rattle.mq_model.specs.declared.line.LineFault.TheVariants as fault
 
--- the words from a place on
+-- the words from an index on
 abbrev pub words_from : List (Bor (List ℕ)) → ℕ → List Word
 words_from words at = drop at (texts words)
 
@@ -25,7 +25,7 @@ form_of first.Tandem = tandem_kind
 form_of first.ForkJoin = forkjoin_kind
 form_of first.Split = split_kind
 
--- What was read, and what is left, is what the form says; and the fault is at its place, unless memory ran out.
+-- What was read, and what is left, is what the form says; and the fault is at its index, unless memory ran out.
 abbrev pub Reads : {X : Type 0} → Result X Stop → List Word → Result (X × List Word) (List Word) → Type 0
 Reads (Ok x) left said = said ≡ Ok (x, left)
 Reads (Err why.Word) left said = said ≡ Err left

@@ -11,7 +11,7 @@ use mq_base::List;
 use mq_core::{Demand, Input, Kind, Network, Node, Route, Stage};
 use std::alloc::Global;
 
-/// The place of a name among these, or their number.
+/// The index of a name among these, or their number.
 fn number_in(names: &[List<u8>], name: &[u8]) -> usize
     ensures at { result ≡ number_in names.now name.now }
     ensures within { result ≤ length names.now }

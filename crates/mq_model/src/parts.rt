@@ -39,7 +39,7 @@ impl From<OutOfMemory> for Stop {
     }
 }
 
-/// The word at a place, if there is one.
+/// The word at an index, if there is one.
 #[tactic(auto, using(crate::proofs::ReadFacts::places))]
 pub fn word_at<'a>(words: &'a [&'a [u8]], at: usize) -> Option<&'a [u8]>
     ensures next { MatchOption result (words_from words.now at ≡ []) (λ w. words_from words.now at ≡ w.now ∷ words_from words.now (at + 1)) }

@@ -1,4 +1,4 @@
--- A block's jobs, served place after place, and what they do together.
+-- A block's jobs, served job after job, and what they do together.
 use Rattle.std.proofs.Common.{◌≡◌, ◌≢◌, ℕ, zero, suc, ◌+◌, ◌-◌, ◌*◌, ◌^◌, ◌<◌, ◌≤◌, List, [], ◌∷◌, ◌++◌, length, get_or, take, drop, min, max, refl, sym, ap, ◌∙◌, arith, append_assoc, mul-le-mul_right}
 use Rattle.std.proofs.lemmas.List.{drop_more}
 use Rattle.std.specs.Prelude.{slice_range}
@@ -55,8 +55,8 @@ serve-early times demands i bound c time load lt le early act =
     value-early (At x) h = let t = early-at times demands load i lt in let d = small-at times demands load i lt in omega arith
 
 -- a block begins before the end
-pub begins : (b block blocks places : ℕ) → b < blocks → blocks * block < places + block → b * block < places
-begins b block blocks places lt less =
+pub begins : (b block blocks size : ℕ) → b < blocks → blocks * block < size + block → b * block < size
+begins b block blocks size lt less =
     let more : (b + 1) * block ≤ blocks * block = mul-le-mul_right block (omega arith) in
     let e : (b + 1) * block ≡ b * block + block = omega arith in
     omega arith
@@ -89,9 +89,9 @@ module _ (times demands : List ℕ) (load : IsLateLoad times demands) where
   pub range-short : (from to : ℕ) → from < to → to ≤ length times → IsShort (span affine_then (job times demands) from ((to - from) - 1)) × ((span affine_then (job times demands) from ((to - from) - 1)).add ≤ 2 ^ 57)
   range-short from to lt le = span-short from ((to - from) - 1) (omega arith)
 
--- a block has a place
-pub holds : (b block blocks places from to : ℕ) → b < blocks → blocks * block < places + block → 1 ≤ block → from ≡ b * block → to ≡ min ((b + 1) * block) places → (from < to) × (to ≤ places)
-holds b block blocks places from to lt less some f t =
-    let inside = begins b block blocks places lt less in
+-- a block has an index
+pub holds : (b block blocks size from to : ℕ) → b < blocks → blocks * block < size + block → 1 ≤ block → from ≡ b * block → to ≡ min ((b + 1) * block) size → (from < to) × (to ≤ size)
+holds b block blocks size from to lt less some f t =
+    let inside = begins b block blocks size lt less in
     let e : (b + 1) * block ≡ b * block + block = omega arith in
     (omega arith, omega arith)

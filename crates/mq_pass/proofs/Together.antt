@@ -11,14 +11,14 @@ use Rattle.mq_pass.specs.Passing.{AreApplied, if_left, left_from}
 use Rattle.mq_pass.specs.declared.block.Passed.{Passed}
 
 module _ (times demands : List ℕ) (each : length demands ≡ length times) where
-  -- the last departure before a place, or 0
+  -- the last departure before an index, or 0
   abbrev Last : ℕ → ℕ
   Last n = value_of (carry_at times demands n)
 
   last-next : (n : ℕ) → Last (n + 1) ≡ max (get_or times n 0) (Last n) + get_or demands n 0
   last-next n = ap Last {x = n + 1} {y = suc n} (omega arith) ∙ ap value_of (act-next (carry_at times demands n) (get_or times n 0) (get_or demands n 0))
 
-  -- the departures from a place on
+  -- the departures from an index on
   abbrev Rest : ℕ → List ℕ
   Rest n = lindley (Last n) (drop n times) (drop n demands)
 
@@ -91,7 +91,7 @@ number-taken parts b p numbers next at none left =
 pub right-some : (o : Option (List ℕ)) (l x : List ℕ) → o ≡ Some l → IfSome o (λ l. l ≡ x) → l ≡ x
 right-some o l x is right = subst (λ (z : Option (List ℕ)). IfSome z (λ l. l ≡ x)) is right
 
--- a block that was left has its departures at the next place
+-- a block that was left has its departures at the next index
 pub applied-here : (times demands : List ℕ) (block : ℕ) (parts : List Passed) (applied : List (List ℕ)) (b next : ℕ) (p : Passed) → AreApplied times demands block (left_from 0 parts) applied → slice_get parts b ≡ Some p → p.departs ≡ None
     → drop next (left_from 0 parts) ≡ left_from b (drop b parts) → slice_get applied next ≡ Some (departs_of times demands block b (carry_at times demands (b * block)))
 applied-here times demands block parts applied b next p all at none numbers = all next b (number-here parts b p (left_from 0 parts) next at none numbers)

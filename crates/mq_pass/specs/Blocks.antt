@@ -10,12 +10,12 @@ use Rattle.mq_maxplus.specs.Maxplus.{affine_act}
 use Rattle.mq_scan.specs.Folds.{fold_to}
 use Rattle.mq_server.specs.Jobs.{job}
 
--- the items of block b, of these many places
+-- the items of block b, of this many
 abbrev pub items_of : ℕ → ℕ → ℕ → List ℕ → List ℕ
-items_of places block b xs = slice_range xs (b * block) (min ((b + 1) * block) places)
+items_of size block b xs = slice_range xs (b * block) (min ((b + 1) * block) size)
 
 module _ (times demands : List ℕ) where
-  -- the last departure before a place
+  -- the last departure before an index
   abbrev pub carry_at : ℕ → Mp
   carry_at = fold_to affine_act Void (job times demands)
 

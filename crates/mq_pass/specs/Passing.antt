@@ -63,7 +63,7 @@ module _ (times demands : List ℕ) (block : ℕ) where
     pub inside : q.block < blocks
     pub before : q.before ≡ carry_at times demands (q.block * block)
 
-  -- the departures of the block at a place of these
+  -- the departures of the block at an index of these
   abbrev pub IsApplied : List Left → ℕ → List ℕ → Type 0
   IsApplied left i l = (q : Left) → slice_get left i ≡ Some q → l ≡ departs_of times demands block q.block (carry_at times demands (q.block * block))
 

@@ -2,7 +2,7 @@
 ghost use Rattle.std.specs.Prelude.{◌≡◌, ◌+◌, ◌<◌, ◌≤◌, IfOk, length};
 ghost use Rattle.std.specs.Thread.{IsSync};
 ghost use Rattle.mq_chain.specs.Seats.{IsSeatOf};
-ghost use Rattle.mq_core.specs.Columns.{IsSoundLoad};
+ghost use Rattle.mq_core.specs.Sequences.{IsSoundLoad};
 ghost use Rattle.mq_pass.specs.Passing.{IsFresh, IsPass};
 
 use crate::block::{Passed, pass_block};

@@ -3,7 +3,7 @@ ghost use Rattle.std.specs.Prelude.{◌≡◌, ◌+◌, ◌*◌, ◌^◌, ◌<�
 ghost use Rattle.mq_chain.specs.Cut.{block_summary};
 ghost use Rattle.mq_chain.specs.Stored.{IsShort};
 ghost use Rattle.mq_chain.specs.Words.{value_of};
-ghost use Rattle.mq_core.specs.Columns.{IsSoundLoad};
+ghost use Rattle.mq_core.specs.Sequences.{IsSoundLoad};
 ghost use Rattle.mq_core.specs.Recurrences.{lindley};
 ghost use Rattle.mq_pass.specs.Blocks.{summary_at, departs_of};
 ghost use Rattle.mq_maxplus.specs.Within.{IsWithin};
@@ -15,7 +15,7 @@ use mq_scan::{Blocks, Step, summarise};
 use mq_server::ServerStep;
 use std::alloc::Global;
 
-/// A server's jobs, and their places cut into blocks.
+/// A server's jobs, and their indices cut into blocks.
 #[derive(Clone, Copy)]
 pub(crate) struct Jobs<'a> {
     pub step: ServerStep<'a>,
@@ -28,7 +28,7 @@ pub(crate) struct Jobs<'a> {
 pub(crate) fn jobs_of<'a>(stream: &'a Stream, demands: &'a List<u64>, blocks: &Blocks) -> Jobs<'a>
     requires load { IsSoundLoad stream.now.time demands.now }
     requires whole { blocks.now.n ≡ length stream.now.time }
-    ensures columns { (result.step.arrive.now ≡ stream.now.time) × (result.step.demands.now ≡ demands.now) }
+    ensures lists { (result.step.arrive.now ≡ stream.now.time) × (result.step.demands.now ≡ demands.now) }
     ensures blocks { (result.blocks.block ≡ blocks.now.block) × (result.blocks.blocks ≡ blocks.now.blocks) }
 {
     Jobs {
@@ -48,7 +48,7 @@ pub(crate) fn summary_of(jobs: &Jobs<'_>, b: u32) -> Affine
     summarise(&jobs.step, from, to)
 }
 
-/// The departures of the jobs of a block, place after place, from the carry before it.
+/// The departures of the jobs of a block, job after job, from the carry before it.
 #[inline(never)]
 pub(crate) fn served(
     alloc: Global,

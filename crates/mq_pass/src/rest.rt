@@ -29,7 +29,7 @@ impl<'a> Pieces for Rest<'a> {
 
     ghost fit = { λ s. Unit {0} };
 
-    ghost places = { λ s. length s.left.now };
+    ghost size = { λ s. length s.left.now };
 
     ghost is_piece = { λ s i p. IsApplied s.jobs.step.arrive.now s.jobs.step.demands.now s.jobs.blocks.block s.left.now i p };
 

@@ -1,3 +1,3 @@
-pub mod Columns
+pub mod Sequences
 pub mod Text
 pub mod Totals

@@ -2,16 +2,16 @@
 ghost use Rattle.std.specs.Prelude.{◌≡◌, ◌≤◌, ◌++◌, length, Some, slice_get};
 ghost use Rattle.mq_base.specs.Outside.{Adds};
 ghost use Rattle.mq_core.specs.Asked.{HasDemands};
-ghost use Rattle.mq_core.specs.Columns.{IsRunOf, column_wait};
+ghost use Rattle.mq_core.specs.Sequences.{IsRunOf, sequence_wait};
 ghost use Rattle.mq_core.specs.StandardTable.{run_of};
 ghost use Rattle.mq_core.specs.Theorems.{IsReadFor};
 ghost use Rattle.mq_stats.specs.Numbers.{AreVisits};
-ghost use Rattle.mq_report.specs.Columns.{column_lines};
+ghost use Rattle.mq_report.specs.Sequences.{sequence_lines};
 ghost use Rattle.mq_report.specs.Text.{fate_words, jobs_text, node_jobs, visit_line, visit_words};
 
 use crate::line::Line;
 use mq_base::{Gather, Sink, SinkFault, add_bytes};
-use mq_core::{Fate, Kind, Node, Plan, Rows, Run, Visits, orders_rank, runs_have_columns};
+use mq_core::{Fate, Kind, Node, Plan, Rows, Run, Visits, orders_rank, runs_have_sequences};
 use mq_stats::{runs_give_visits, wait_of};
 
 // Puts how a visit ended, and the end of its line, in the place of what the line had.
@@ -62,7 +62,7 @@ fn add_visit<O: Sink>(
 ) -> Result<(), SinkFault>
     requires name { length name.now ≤ 32 }
     requires told { HasDemands rows.now kind.now job }
-    ensures { Adds O.taken O.sure O.faults out.old out.new pending.old pending.new result (visit_line name.now job arrive (column_wait rows.now kind.now job arrive fate) fate) }
+    ensures { Adds O.taken O.sure O.faults out.old out.new pending.old pending.new result (visit_line name.now job arrive (sequence_wait rows.now kind.now job arrive fate) fate) }
 {
     put_fate(line, wait_of(rows, kind, job, arrive, fate), fate);
     put_words(line, name, job, arrive);
@@ -80,7 +80,7 @@ pub fn add_visits<O: Sink>(
 ) -> Result<(), SinkFault>
     requires name { length name.now ≤ 32 }
     requires visits { AreVisits rows.now kind.now visits.now }
-    ensures { Adds O.taken O.sure O.faults out.old out.new pending.old pending.new result (column_lines rows.now name.now kind.now visits.now.job visits.now.arrive visits.now.fate) }
+    ensures { Adds O.taken O.sure O.faults out.old out.new pending.old pending.new result (sequence_lines rows.now name.now kind.now visits.now.job visits.now.arrive visits.now.fate) }
 {
     let mut line = Line::new();
     for at in 0..visits.job.len() {
@@ -109,7 +109,7 @@ fn add_jobs_at<O: Sink>(
     requires there { slice_get plan.now.net.nodes node ≡ Some declared.now }
     ensures { Adds O.taken O.sure O.faults out.old out.new pending.old pending.new result (node_jobs rows.now declared.now ((run_of plan.now rows.now).stations node)) }
 {
-    runs_have_columns();
+    runs_have_sequences();
     runs_give_visits();
     let name = declared.name.as_slice();
     let visits = run.visits.get(node as usize);

@@ -2,7 +2,7 @@
 ghost use Rattle.std.specs.Prelude.{◌≡◌, ◌≤◌, ◌<◌, ◌^◌, ◌==◌, ◌&&◌, length, OnOk, OnErr, Some, slice_get};
 ghost use Rattle.std.specs.List.{list_any};
 ghost use Rattle.mq_base.specs.Outside.{Adds, Rose, TakesFirst, TakesPrefix};
-ghost use Rattle.mq_core.specs.Columns.{IsRunOf};
+ghost use Rattle.mq_core.specs.Sequences.{IsRunOf};
 ghost use Rattle.mq_core.specs.Results.{exit_of, totals_of};
 ghost use Rattle.mq_core.specs.Sound.{outputs_in};
 ghost use Rattle.mq_core.specs.StandardTable.{run_of};
@@ -16,8 +16,8 @@ use crate::lines::{add_exit, add_head, add_node};
 use mq_base::{Gather, List, Sink, SinkFault, flush};
 use mq_core::{
     Input, Node, Plan, Rows, Run, exits_are_streams, nodes_are_in_limits, orders_rank,
-    outputs_have_streams, outputs_of, runs_are_of_networks, runs_have_columns, span_is_columns,
-    totals_are_columns,
+    outputs_have_streams, outputs_of, runs_are_of_networks, runs_have_sequences, span_is_sequences,
+    totals_are_sequences,
 };
 use mq_stats::{Exit, NodeTotals, leaving, runs_give_streams, runs_give_visits, span, totals};
 
@@ -47,9 +47,9 @@ pub fn totals_at(plan: &Plan, rows: &Rows, run: &Run, node: u32, declared: &Node
     ensures totals { totals_from result ≡ totals_of rows.now declared.now.kind ((run_of plan.now rows.now).stations node) }
     ensures small { result.busy < 2 ^ 100 }
 {
-    runs_have_columns();
+    runs_have_sequences();
     runs_give_visits();
-    totals_are_columns();
+    totals_are_sequences();
     totals(rows, &declared.kind, run.visits.get(node as usize))
 }
 
@@ -59,7 +59,7 @@ fn span_of(plan: &Plan, rows: &Rows, run: &Run) -> u64
     requires run { IsRunOf plan.now rows.now run.now }
     ensures { result ≡ (run_of plan.now rows.now).clock }
 {
-    span_is_columns();
+    span_is_sequences();
     span(&run.visits)
 }
 
@@ -146,7 +146,7 @@ fn exit_at(plan: &Plan, rows: &Rows, run: &Run, node: u32, declared: &Node, outp
     exits_are_streams();
     outputs_have_streams();
     runs_give_streams();
-    runs_have_columns();
+    runs_have_sequences();
     leaving(rows, run.outputs.get(node as usize).get(output as usize))
 }
 

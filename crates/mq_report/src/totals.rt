@@ -1,6 +1,6 @@
 // The totals of the nodes, one piece a node.
 ghost use Rattle.std.specs.Prelude.{◌≡◌, ◌≤◌, ◌<◌, ◌^◌, length, IfOk, slice_get};
-ghost use Rattle.mq_core.specs.Columns.{IsRunOf};
+ghost use Rattle.mq_core.specs.Sequences.{IsRunOf};
 ghost use Rattle.mq_core.specs.Theorems.{IsReadFor};
 ghost use Rattle.mq_report.specs.Totals.{AreNodeTotals, IsTotalsAt};
 
@@ -25,7 +25,7 @@ impl<'a> Pieces for TotalsPieces<'a> {
 
     ghost fit = { λ s. IsReadFor s.plan.now.net s.rows.now × IsRunOf s.plan.now s.rows.now s.run.now × (length s.plan.now.net.nodes < 2 ^ 32) };
 
-    ghost places = { λ s. length s.plan.now.net.nodes };
+    ghost size = { λ s. length s.plan.now.net.nodes };
 
     ghost is_piece = { λ s b totals. IsTotalsAt s.plan.now s.rows.now b totals };
 

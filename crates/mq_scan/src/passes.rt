@@ -7,11 +7,11 @@ use crate::{Step, Timed, cut};
 use mq_base::{List, OutOfMemory};
 use std::alloc::Global;
 
-/// What the jobs from one place up to another do together. There is one at least. It acts on the
+/// What the jobs from one index up to another do together. There is one at least. It acts on the
 /// carry before them as they do in turn.
 pub fn summarise<P: Step>(step: &P, from: u32, to: u32) -> P::Summary
     requires some { from < to }
-    requires inside { to ≤ P.places step.now }
+    requires inside { to ≤ P.size step.now }
     ensures sum { result ≡ span P.joined (P.part step.now) from ((to - from) - 1) }
     ensures acts { P.acted result (fold_to P.acted (P.start step.now) (P.part step.now) from) ≡ fold_to P.acted (P.start step.now) (P.part step.now) to }
 {
@@ -27,9 +27,9 @@ pub fn carries<P: Step>(
     alloc: Global,
     sums: &List<P::Summary>,
 ) -> Result<List<P::Carry>, OutOfMemory>
-    requires { (block : ℕ) × AreSummaries P.joined (P.part step.now) (P.places step.now) block sums.now }
+    requires { (block : ℕ) × AreSummaries P.joined (P.part step.now) (P.size step.now) block sums.now }
     ensures len { IfOk result (λ before. length before ≡ length sums.now) }
-    ensures each { IfOk result (λ before. (block : ℕ) → AreSummaries P.joined (P.part step.now) (P.places step.now) block sums.now → AreBefore P.acted (P.start step.now) (P.part step.now) block before) }
+    ensures each { IfOk result (λ before. (block : ℕ) → AreSummaries P.joined (P.part step.now) (P.size step.now) block sums.now → AreBefore P.acted (P.start step.now) (P.part step.now) block before) }
 {
     let mut before = Vec::new(alloc);
     let mut carry = step.first();
@@ -40,7 +40,7 @@ pub fn carries<P: Step>(
     Ok(List::from_vec(before))
 }
 
-/// The carry after each job from one place up to another, where `carry` is the one before them. There
+/// The carry after each job from one index up to another, where `carry` is the one before them. There
 /// is one at least. It refuses for want of memory alone.
 pub fn apply<P: Step>(
     step: &P,
@@ -50,7 +50,7 @@ pub fn apply<P: Step>(
     carry: P::Carry,
 ) -> Result<List<P::Carry>, OutOfMemory>
     requires some { from < to }
-    requires inside { to ≤ P.places step.now }
+    requires inside { to ≤ P.size step.now }
     requires before { carry ≡ fold_to P.acted (P.start step.now) (P.part step.now) from }
     ensures { IfOk result (λ after. after ≡ carries_after P.acted (P.start step.now) (P.part step.now) from (to - from)) }
 {
@@ -60,7 +60,7 @@ pub fn apply<P: Step>(
     Ok(List::from_vec(after))
 }
 
-/// The time that is read of the carry after each job from one place up to another, where `carry` is
+/// The time that is read of the carry after each job from one index up to another, where `carry` is
 /// the one before them. There is one at least. It refuses for want of memory alone.
 pub fn times<P: Timed>(
     step: &P,
@@ -70,7 +70,7 @@ pub fn times<P: Timed>(
     carry: P::Carry,
 ) -> Result<List<u64>, OutOfMemory>
     requires some { from < to }
-    requires inside { to ≤ P.places step.now }
+    requires inside { to ≤ P.size step.now }
     requires before { carry ≡ fold_to P.acted (P.start step.now) (P.part step.now) from }
     ensures { IfOk result (λ times. times ≡ map (P.time_of step.now) (carries_after P.acted (P.start step.now) (P.part step.now) from (to - from))) }
 {
@@ -83,7 +83,7 @@ pub fn times<P: Timed>(
 // Appends the time that is read of the carry after each job of a range, for which there is room.
 fn push_times<P: Timed>(step: &P, from: u32, to: u32, carry: &mut P::Carry, times: &mut Vec<u64>)
     requires some { from ≤ to }
-    requires inside { to ≤ P.places step.now }
+    requires inside { to ≤ P.size step.now }
     requires before { carry.old ≡ fold_to P.acted (P.start step.now) (P.part step.now) from }
     requires room { vec_len times.old + (to - from) ≤ vec_capacity times.old }
     ensures carry { carry.new ≡ fold_to P.acted (P.start step.now) (P.part step.now) to }
@@ -106,7 +106,7 @@ fn push_carries<P: Step>(
     after: &mut Vec<P::Carry>,
 )
     requires some { from ≤ to }
-    requires inside { to ≤ P.places step.now }
+    requires inside { to ≤ P.size step.now }
     requires before { carry.old ≡ fold_to P.acted (P.start step.now) (P.part step.now) from }
     requires room { vec_len after.old + (to - from) ≤ vec_capacity after.old }
     ensures carry { carry.new ≡ fold_to P.acted (P.start step.now) (P.part step.now) to }
@@ -124,7 +124,7 @@ fn push_carries<P: Step>(
 // One thread knows the carry before each block when it comes there, and so needs no summaries.
 pub fn scan<P: Step>(step: &P, alloc: Global, block: u32) -> Result<List<P::Carry>, OutOfMemory>
     requires { 1 ≤ block }
-    ensures { IfOk result (λ after. after ≡ carries_after P.acted (P.start step.now) (P.part step.now) 0 (P.places step.now)) }
+    ensures { IfOk result (λ after. after ≡ carries_after P.acted (P.start step.now) (P.part step.now) 0 (P.size step.now)) }
 {
     let blocks = cut(step.count(), block);
     let mut after = Vec::with_capacity(alloc, blocks.n as usize)?;
@@ -140,7 +140,7 @@ pub fn scan<P: Step>(step: &P, alloc: Global, block: u32) -> Result<List<P::Carr
 /// memory alone.
 pub fn scan_times<P: Timed>(step: &P, alloc: Global, block: u32) -> Result<List<u64>, OutOfMemory>
     requires { 1 ≤ block }
-    ensures { IfOk result (λ times. times ≡ map (P.time_of step.now) (carries_after P.acted (P.start step.now) (P.part step.now) 0 (P.places step.now))) }
+    ensures { IfOk result (λ times. times ≡ map (P.time_of step.now) (carries_after P.acted (P.start step.now) (P.part step.now) 0 (P.size step.now))) }
 {
     let blocks = cut(step.count(), block);
     let mut times = Vec::with_capacity(alloc, blocks.n as usize)?;
@@ -155,7 +155,7 @@ pub fn scan_times<P: Timed>(step: &P, alloc: Global, block: u32) -> Result<List<
 /// Law. The summary of a range acts as its jobs in turn on every carry on which they may act, also on one
 /// that isn't the fold's.
 pub fn summaries_act<P: Step>(step: &P)
-    ensures { (carry : P.Carry) (from n : ℕ) → from + n + 1 ≤ P.places step.now → MayTurn P.joined P.acted P.can_act (P.part step.now) from (n + 1) carry → P.acted (span P.joined (P.part step.now) from n) carry ≡ fold_to P.acted carry (λ k. P.part step.now (from + k)) (n + 1) }
+    ensures { (carry : P.Carry) (from n : ℕ) → from + n + 1 ≤ P.size step.now → MayTurn P.joined P.acted P.can_act (P.part step.now) from (n + 1) carry → P.acted (span P.joined (P.part step.now) from n) carry ≡ fold_to P.acted carry (λ k. P.part step.now (from + k)) (n + 1) }
 {
     let _ = step;
 }

@@ -13,12 +13,12 @@ pub trait Step {
     type Summary: Copy;
 
     /// How many jobs there are.
-    ghost places: { Self → ℕ };
+    ghost size: { Self → ℕ };
 
     /// The carry before the first job.
     ghost start: { Self → Self.Carry };
 
-    /// What the job at a place does.
+    /// What the job at an index does.
     ghost part: { Self → ℕ → Self.Summary };
 
     /// What one summary and then another do together.
@@ -35,15 +35,15 @@ pub trait Step {
 
     /// How many jobs there are.
     fn count(&self) -> u32
-        ensures { result ≡ places self.now };
+        ensures { result ≡ size self.now };
 
     /// The carry before the first job.
     fn first(&self) -> Self::Carry
         ensures { result ≡ start self.now };
 
-    /// What the job at a place does, which is below the count.
+    /// What the job at an index does, which is below the count.
     fn one(&self, at: u32) -> Self::Summary
-        requires { at < places self.now }
+        requires { at < size self.now }
         ensures { result ≡ part self.now at };
 
     /// What one summary and then another do together.
@@ -56,11 +56,11 @@ pub trait Step {
         requires { can_act s c }
         ensures { result ≡ acted s c };
 
-    /// Adds the jobs from one place up to another behind those of a summary: one by one, or as a station
+    /// Adds the jobs from one index up to another behind those of a summary: one by one, or as a station
     /// does it faster.
     fn extend(&self, sum: &mut Self::Summary, from: u32, to: u32)
         requires order { from ≤ to }
-        requires inside { to ≤ places self.now }
+        requires inside { to ≤ size self.now }
         requires can { (n : ℕ) → from + n < to → can_join (extended joined (part self.now) sum.old from n) (part self.now (from + n)) }
         ensures { sum.new ≡ extended joined (part self.now) sum.old from (to - from) }
     {
@@ -69,10 +69,10 @@ pub trait Step {
         }
     }
 
-    /// Lets the job at a place, which is below the count, act on a carry: by its summary, or as a station
+    /// Lets the job at an index, which is below the count, act on a carry: by its summary, or as a station
     /// does it faster.
     fn advance(&self, carry: &mut Self::Carry, at: u32)
-        requires inside { at < places self.now }
+        requires inside { at < size self.now }
         requires can { can_act (part self.now at) carry.old }
         ensures { carry.new ≡ acted (part self.now at) carry.old }
     {
@@ -80,10 +80,10 @@ pub trait Step {
     }
 
     /// The summaries of neighbouring ranges may be composed.
-    ghost spans_join: { (s : Self) (from n m : ℕ) → from + n + m + 2 ≤ places s → can_join (span joined (part s) from n) (span joined (part s) (from + n + 1) m) };
+    ghost spans_join: { (s : Self) (from n m : ℕ) → from + n + m + 2 ≤ size s → can_join (span joined (part s) from n) (span joined (part s) (from + n + 1) m) };
 
     /// The summary of a range may act on the carry of the fold before it.
-    ghost spans_act: { (s : Self) (from n : ℕ) → from + n + 1 ≤ places s → can_act (span joined (part s) from n) (fold_to acted (start s) (part s) from) };
+    ghost spans_act: { (s : Self) (from n : ℕ) → from + n + 1 ≤ size s → can_act (span joined (part s) from n) (fold_to acted (start s) (part s) from) };
 
     /// Composition is associative, where it may be made.
     ghost joins: { (a b c : Self.Summary) → can_join a b → can_join (joined a b) c → can_join b c → can_join a (joined b c) → joined (joined a b) c ≡ joined a (joined b c) };
@@ -106,5 +106,5 @@ pub trait Timed: Step {
         ensures { result ≡ time_of self.now carry.now };
 
     /// The time may be read of the carries of the fold.
-    ghost folds_time: { (s : Self) (n : ℕ) → n ≤ Self.places s → can_time s (fold_to Self.acted (Self.start s) (Self.part s) n) };
+    ghost folds_time: { (s : Self) (n : ℕ) → n ≤ Self.size s → can_time s (fold_to Self.acted (Self.start s) (Self.part s) n) };
 }

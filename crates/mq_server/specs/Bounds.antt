@@ -8,7 +8,7 @@ use Rattle.mq_maxplus.specs.Maxplus.{mp_max, mp_plus, affine_act, affine_then, C
 use Rattle.mq_maxplus.specs.Within.{IsWithin}
 use Rattle.mq_maxplus.proofs.Within.{within-plus, within-max, within-more, fits-within}
 use Rattle.mq_scan.specs.Folds.{span, fold_to}
-use Rattle.mq_core.specs.Columns.{IsSoundLoad}
+use Rattle.mq_core.specs.Sequences.{IsSoundLoad}
 use Rattle.mq_server.specs.Jobs.{job, IsLateLoad}
 
 -- a sound load is one that comes early
@@ -28,7 +28,7 @@ module _ (arrive demands : List ℕ) (load : IsLateLoad arrive demands) where
   pub small-at : (k : ℕ) → k < length arrive → get_or demands k 0 ≤ 2 ^ 36
   small-at k l = let each = load.each in All-get_or (λ t. t ≤ 2 ^ 36) demands k 0 (omega arith) load.small
 
-  -- a sum that is made in front of the job at a place, and then its
+  -- a sum that is made in front of the job at an index, and then its
   job-within : (x : Mp) (at n : ℕ) → at < length arrive → IsWithin (2 ^ 62 + n * 2 ^ 36) x → IsWithin (2 ^ 62 + suc n * 2 ^ 36) (mp_max (mp_plus x (At (get_or demands at 0))) (At (get_or arrive at 0 + get_or demands at 0)))
   job-within x at n l h =
       let t = early-at at l in

@@ -4,7 +4,7 @@ use Rattle.mq_maxplus.specs.declared.mp.Mp.TheVariants.{At}
 use Rattle.mq_maxplus.specs.declared.affine.Affine.{Affine}
 use Rattle.mq_maxplus.specs.Maxplus.{affine}
 
--- what the job at a place does: it leaves its demand after the last departure, and no earlier than its demand after it came
+-- what the job at an index does: it leaves its demand after the last departure, and no earlier than its demand after it came
 abbrev pub job : List ℕ → List ℕ → ℕ → Affine
 job arrive demands at = affine (slice_index demands at) (At (slice_index arrive at + slice_index demands at))
 

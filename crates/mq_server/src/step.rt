@@ -1,6 +1,6 @@
 // A server's jobs, which act on the last departure one after another.
 ghost use Rattle.std.specs.Prelude.{◌≡◌, length};
-ghost use Rattle.mq_core.specs.Columns.{IsSoundLoad};
+ghost use Rattle.mq_core.specs.Sequences.{IsSoundLoad};
 ghost use Rattle.mq_maxplus.specs.declared.mp.Mp.TheVariants.{Void};
 ghost use Rattle.mq_maxplus.specs.Maxplus.{affine_act, affine_then, mp_or_zero, CanAct, CanThen};
 ghost use Rattle.mq_maxplus.proofs.Laws.{acts as acts_law, joins as joins_law};
@@ -49,7 +49,7 @@ impl<'a> Step for ServerStep<'a> {
 
     type Summary = Affine;
 
-    ghost places = { λ s. length s.arrive.now };
+    ghost size = { λ s. length s.arrive.now };
 
     ghost start = { λ s. Void };
 

@@ -6,7 +6,7 @@ use Rattle.std.proofs.lemmas.Bool.Decides.{nat_tests}
 use Rattle.std.proofs.lemmas.List.{append-nil, drop_all}
 use Rattle.std.proofs.lemmas.Bool.{cases_lt}
 use Rattle.mq_base.proofs.lemmas.Lists.{get-last, get-push}
-use Rattle.mq_core.specs.Columns.{picked}
+use Rattle.mq_core.specs.Sequences.{picked}
 use Rattle.mq_core.specs.declared.model.Route.{Route}
 use Rattle.mq_split.specs.Outs.{outs_from}
 
@@ -17,7 +17,7 @@ length-outs_from route position (value ∷ values) = let e = length-outs_from ro
 drop_next : (xs : List ℕ) (i : ℕ) → i < length xs → drop i xs ≡ get_or xs i 0 ∷ drop (i + 1) xs
 drop_next xs i l = let next : suc i ≡ i + 1 = omega arith in drop-cons xs i 0 l ∙ ap (λ n. get_or xs i 0 ∷ drop n xs) next
 
--- those that go to an output, of what is left from a place on
+-- those that go to an output, of what is left from an index on
 count-at : (out : ℕ) (outs : List ℕ) (i : ℕ) → i < length outs → count_by (λ o. o == out) (drop i outs) ≡ cond (get_or outs i 0 == out) 1 0 + count_by (λ o. o == out) (drop (i + 1) outs)
 count-at out outs i l = ap (count_by (λ o. o == out)) (drop_next outs i l) ∙ sum_by-cons (λ o. cond (o == out) 1 0) (get_or outs i 0) (drop (i + 1) outs)
 

@@ -2,7 +2,7 @@
 use Rattle.std.proofs.Common.{◌≡◌, ℕ, suc, ◌+◌, ◌≤◌, ◌==◌, Bool, true, false, cond, List, [], ◌∷◌, ◌++◌, length, refl, sym, ap, ◌∙◌, arith}
 use Rattle.mq_base.proofs.lemmas.Between.{between-all, between-join, length-between}
 use Rattle.mq_base.specs.Lists.{between}
-use Rattle.mq_core.specs.Columns.{picked}
+use Rattle.mq_core.specs.Sequences.{picked}
 use Rattle.mq_core.specs.Kinds.Split.{output_at}
 use Rattle.mq_core.specs.declared.model.Route.{Route}
 use Rattle.mq_split.proofs.Parts.{length-outs_from}
@@ -25,7 +25,7 @@ picked-append out (o ∷ outs) outs' (x ∷ items) items' h = go (o == out) (pic
     go true e = ap (λ l. x ∷ l) e
     go false e = e
 
--- one column of two pieces
+-- one sequence of two pieces
 column-join : (route : Route) (values items : List ℕ) → length items ≡ length values → (from middle to out : ℕ) → from ≤ middle → middle ≤ to → to ≤ length values →
     picked out (outs_from route from (between from middle values)) (between from middle items) ++ picked out (outs_from route middle (between middle to values)) (between middle to items)
     ≡ picked out (outs_from route from (between from to values)) (between from to items)

@@ -1,7 +1,7 @@
 -- What a split asks of its route, and the streams that leave it.
 use Rattle.std.specs.Prelude.{◌≡◌, ◌<◌, ◌≤◌, ◌++◌, ℕ, suc, List, [], ◌∷◌, length, slice_get, Some}
 use Rattle.mq_base.specs.Lists.{between}
-use Rattle.mq_core.specs.Columns.{picked}
+use Rattle.mq_core.specs.Sequences.{picked}
 use Rattle.mq_core.specs.Kinds.Split.{output_at, outputs_by}
 use Rattle.mq_core.specs.declared.model.Route.{Route}
 use Rattle.mq_core.specs.declared.model.Stream.{Stream}
@@ -25,12 +25,12 @@ pub record AreParts (route : Route) (stream : Stream) (values : List ℕ) (strea
   pub count : length streams ≡ outputs_by route
   pub parts : (out : ℕ) → out < outputs_by route → slice_get streams out ≡ Some (picked_stream (outs_from route 0 values) stream out)
 
--- Pieces. The items of a stream at these places that go to an output.
+-- Pieces. The items of a stream at these indices that go to an output.
 abbrev pub piece_of : Route → Stream → List ℕ → ℕ → ℕ → ℕ → Stream
 piece_of route stream values from to out =
     picked_stream (outs_from route from (between from to values)) (record { job = between from to stream.job; time = between from to stream.time }) out
 
--- one stream per output, each with the items at these places that go there
+-- one stream per output, each with the items at these indices that go there
 pub record ArePieces (route : Route) (stream : Stream) (values : List ℕ) (from to : ℕ) (streams : List Stream) : Type 0 where
   pub count : length streams ≡ outputs_by route
   pub parts : (out : ℕ) → out < outputs_by route → slice_get streams out ≡ Some (piece_of route stream values from to out)
@@ -44,7 +44,7 @@ pub record IsValued (stream : Stream) (values : List ℕ) : Type 0 where
   pub jobs : length stream.job ≡ length values
   pub times : length stream.time ≡ length values
 
--- Pieces whose ends meet are one piece, and the piece of all places is what goes to the output.
+-- Pieces whose ends meet are one piece, and the piece of all indices is what goes to the output.
 pub record PiecesJoin : Type 0 where
   pub join : (route : Route) (stream : Stream) (values : List ℕ) → IsValued stream values → (from middle to out : ℕ) → from ≤ middle → middle ≤ to → to ≤ length values →
       followed_by (piece_of route stream values from middle out) (piece_of route stream values middle to out) ≡ piece_of route stream values from to out

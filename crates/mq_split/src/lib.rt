@@ -3,7 +3,7 @@
 
 ghost use Rattle.std.specs.Prelude.{◌≡◌, ◌==◌, ◌+◌, ◌<◌, ◌≤◌, ◌^◌, ℕ, length, count_by, nat_le, IfOk};
 ghost use Rattle.mq_base.specs.Lists.{between};
-ghost use Rattle.mq_core.specs.Columns.{IsStream, picked};
+ghost use Rattle.mq_core.specs.Sequences.{IsStream, picked};
 ghost use Rattle.mq_core.specs.Kinds.Split.{output_at, outputs_by};
 ghost use Rattle.mq_split.specs.Outs.{AreParts, ArePieces, HasOutputs, PiecesJoin, outs_from};
 
@@ -38,7 +38,7 @@ pub fn route_of(route: &Route, value: u64, position: u32) -> u8
     }
 }
 
-// The items of a list from a place up to another.
+// The items of a list from an index up to another.
 fn part<T>(items: &List<T>, from: usize, to: usize) -> &[T]
     requires order { from ≤ to }
     requires within { to ≤ length items.now }
@@ -110,7 +110,7 @@ fn pick(
     })
 }
 
-/// The items at the places from `from` up to `to` as they leave a split: one stream per output, by
+/// The items at the indices from `from` up to `to` as they leave a split: one stream per output, by
 /// its number, each with the jobs that its route sends there, in their order. `values` has one value
 /// of the route's column per item of the whole stream, by position. The route has 2 to 8 outputs. It
 /// refuses for want of memory alone.
@@ -161,7 +161,7 @@ pub fn split(
 }
 
 /// Pieces of `split_piece` whose ends meet, one behind the other, are one piece, and the piece of all
-/// places is what `split` gives. It does nothing when it runs.
+/// indices is what `split` gives. It does nothing when it runs.
 pub fn pieces_join()
     ensures { PiecesJoin }
 {}

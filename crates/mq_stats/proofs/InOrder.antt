@@ -3,7 +3,7 @@ use Rattle.std.proofs.Common.{◌≡◌, ℕ, zero, suc, ◌+◌, ◌<◌, ◌�
 use Rattle.std.specs.Prelude.{count_by, nat_lt, slice_get}
 use Rattle.std.proofs.lemmas.Bool.Decides.{nat_tests}
 use Rattle.std.proofs.lemmas.List.Sums.{sum_by-le-sum_by}
-use Rattle.mq_core.specs.Columns.{departs_after}
+use Rattle.mq_core.specs.Sequences.{departs_after}
 use Rattle.mq_core.specs.declared.model.Fate.{Fate}
 use Rattle.mq_core.specs.declared.model.Fate.TheVariants.{Departs, Lost}
 use Rattle.mq_stats.proofs.Counts.{count-cons}
@@ -49,10 +49,10 @@ later-stay time latest (suc n) (Departs d ∷ fates) r l =
     let one = late-stays time latest d l order in
     omega arith
 
--- Of the first n visits, where those before a place are gone and the one there isn't, those are still there that aren't lost
+-- Of the first n visits, where those before an index are gone and the one there isn't, those are still there that aren't lost
 -- and stand behind it.
-pub there-behind : (time latest place n : ℕ) (fates : List Fate) → departures_rise latest fates ≡ true → place ≤ n → count_by (departs_after time) (take place fates) ≡ 0 → (place < n → stays_at time (slice_get fates place) ≡ true) →
-    count_by (departs_after time) (take n fates) + count_by stays (take place fates) ≡ count_by stays (take n fates)
+pub there-behind : (time latest index n : ℕ) (fates : List Fate) → departures_rise latest fates ≡ true → index ≤ n → count_by (departs_after time) (take index fates) ≡ 0 → (index < n → stays_at time (slice_get fates index) ≡ true) →
+    count_by (departs_after time) (take n fates) + count_by stays (take index fates) ≡ count_by stays (take n fates)
 there-behind time latest zero zero fates r l g f = refl
 there-behind time latest zero (suc n) [] r l g f = refl
 there-behind time latest zero (suc n) (Lost ∷ fates) r l g f =
@@ -66,22 +66,22 @@ there-behind time latest zero (suc n) (Departs d ∷ fates) r l g f =
     let all = count-cons stays (Departs d) (take n fates) in
     let one = late-stays time d d late (omega arith) in
     omega arith
-there-behind time latest (suc place) zero fates r l g f = absurd (omega arith)
-there-behind time latest (suc place) (suc n) [] r l g f = refl
-there-behind time latest (suc place) (suc n) (Lost ∷ fates) r l g f =
-    let gone = count-cons (departs_after time) Lost (take place fates) in
-    let rest = there-behind time latest place n fates r (omega arith) (omega arith) (λ h. f (omega arith)) in
+there-behind time latest (suc index) zero fates r l g f = absurd (omega arith)
+there-behind time latest (suc index) (suc n) [] r l g f = refl
+there-behind time latest (suc index) (suc n) (Lost ∷ fates) r l g f =
+    let gone = count-cons (departs_after time) Lost (take index fates) in
+    let rest = there-behind time latest index n fates r (omega arith) (omega arith) (λ h. f (omega arith)) in
     let there = count-cons (departs_after time) Lost (take n fates) in
     let all = count-cons stays Lost (take n fates) in
-    let before = count-cons stays Lost (take place fates) in
+    let before = count-cons stays Lost (take index fates) in
     omega arith
-there-behind time latest (suc place) (suc n) (Departs d ∷ fates) r l g f =
+there-behind time latest (suc index) (suc n) (Departs d ∷ fates) r l g f =
     let first = first-rises latest d fates r in
-    let gone = count-cons (departs_after time) (Departs d) (take place fates) in
-    let rest = there-behind time d place n fates first.1 (omega arith) (omega arith) (λ h. f (omega arith)) in
+    let gone = count-cons (departs_after time) (Departs d) (take index fates) in
+    let rest = there-behind time d index n fates first.1 (omega arith) (omega arith) (λ h. f (omega arith)) in
     let there = count-cons (departs_after time) (Departs d) (take n fates) in
     let all = count-cons stays (Departs d) (take n fates) in
-    let before = count-cons stays (Departs d) (take place fates) in
+    let before = count-cons stays (Departs d) (take index fates) in
     omega arith
 
 later-gone : (time later : ℕ) → time ≤ later → (fate : Fate) → cond {A = ℕ} (departs_after later fate) 1 0 ≤ cond {A = ℕ} (departs_after time fate) 1 0

@@ -64,20 +64,20 @@ at-most t time e = grind (arith, nat_tests)
 above : (t time : ℕ) → nat_le t time ≡ false → time < t
 above t time e = grind (arith, nat_tests)
 
--- a place is passed where the time there is
-pub one-passed : (time : ℕ) (times : List ℕ) (place : ℕ) → Rises (λ a b. a ≤ b) times → place < length times → place ≤ up_to time times → place + cond (nat_le (get_or times place 0) time) 1 0 ≤ up_to time times
-one-passed time times place h l k = go (nat_le (get_or times place 0) time) refl
+-- an index is passed where the time there is
+pub one-passed : (time : ℕ) (times : List ℕ) (index : ℕ) → Rises (λ a b. a ≤ b) times → index < length times → index ≤ up_to time times → index + cond (nat_le (get_or times index 0) time) 1 0 ≤ up_to time times
+one-passed time times index h l k = go (nat_le (get_or times index 0) time) refl
   where
-    go : (b : Bool) → nat_le (get_or times place 0) time ≡ b → place + cond b 1 0 ≤ up_to time times
-    go true e = let more = passed-one time times place h l (at-most (get_or times place 0) time e) in omega arith
+    go : (b : Bool) → nat_le (get_or times index 0) time ≡ b → index + cond b 1 0 ≤ up_to time times
+    go true e = let more = passed-one time times index h l (at-most (get_or times index 0) time e) in omega arith
     go false e = omega arith
 
-pub none-more : (time : ℕ) (times : List ℕ) (place : ℕ) → Rises (λ a b. a ≤ b) times → place < length times → cond {A = ℕ} (nat_le (get_or times place 0) time) 1 0 ≡ 0 → up_to time times ≤ place
-none-more time times place h l = go (nat_le (get_or times place 0) time) refl
+pub none-more : (time : ℕ) (times : List ℕ) (index : ℕ) → Rises (λ a b. a ≤ b) times → index < length times → cond {A = ℕ} (nat_le (get_or times index 0) time) 1 0 ≡ 0 → up_to time times ≤ index
+none-more time times index h l = go (nat_le (get_or times index 0) time) refl
   where
-    go : (b : Bool) → nat_le (get_or times place 0) time ≡ b → cond {A = ℕ} b 1 0 ≡ 0 → up_to time times ≤ place
+    go : (b : Bool) → nat_le (get_or times index 0) time ≡ b → cond {A = ℕ} b 1 0 ≡ 0 → up_to time times ≤ index
     go true e z = absurd (omega arith)
-    go false e z = not-passed time times place h l (above (get_or times place 0) time e)
+    go false e z = not-passed time times index h l (above (get_or times index 0) time e)
 
 -- the next time is no earlier
 pub rises-get : (times : List ℕ) (i : ℕ) → Rises (λ a b. a ≤ b) times → suc i < length times → get_or times i 0 ≤ get_or times (suc i) 0

@@ -1,12 +1,12 @@
--- What is known of the columns of a run.
+-- What is known of the sequences of a run.
 use Rattle.std.proofs.Common.{◌≡◌, ℕ, suc, ◌+◌, ◌≤◌, Bool, true, false, List, [], ◌∷◌, ◌++◌, length, sym, refl, ap, subst, arith, length-append, ◌∙◌}
 use Rattle.std.specs.Prelude.{All, ◌==◌, if◌then◌else◌}
 use Rattle.std.specs.List.{AllByRecursion as Each}
 use Rattle.std.proofs.lemmas.List.Elements.{All-nil, All-cons}
 use Rattle.std.proofs.lemmas.List.Sums.{count_by-le-length}
 use Rattle.mq_core.specs.Came.{Came}
-use Rattle.mq_core.specs.ColumnLaws.{ColumnsGoByFates}
-use Rattle.mq_core.specs.Columns.{column_visits, departs_after, founds_from, leaving_times, picked, column_fates}
+use Rattle.mq_core.specs.SequenceLaws.{SequencesGoByFates}
+use Rattle.mq_core.specs.Sequences.{sequence_visits, departs_after, founds_from, leaving_times, picked, sequence_fates}
 use Rattle.mq_core.specs.declared.model.Fate.{Fate}
 use Rattle.mq_core.specs.declared.model.Kind.{Kind}
 use Rattle.mq_core.specs.declared.model.Rows.{Rows}
@@ -25,9 +25,9 @@ founds-small limit before (arrive ∷ arrives) (fate ∷ fates) l =
     let few = count_by-le-length (departs_after arrive) before in
     All-cons (λ found. found ≤ limit) _ _ (omega arith) (founds-small limit (before ++ fate ∷ []) arrives fates (omega arith))
 
-pub columns-small : (rows : Rows) (kind : Kind) (came : Came) (visits : Visits) → ColumnsGoByFates → visits ≡ column_visits rows kind came → length came.arrive ≤ 1048576 → All (λ found. found ≤ 1048576) visits.found
-columns-small rows kind came visits law e l =
-    subst (All (λ found. found ≤ 1048576)) (sym (ap (λ v. v.found) e ∙ (law rows kind came).founds)) (founds-small 1048576 [] came.arrive (column_fates rows kind came) (omega arith))
+pub sequences-small : (rows : Rows) (kind : Kind) (came : Came) (visits : Visits) → SequencesGoByFates → visits ≡ sequence_visits rows kind came → length came.arrive ≤ 1048576 → All (λ found. found ≤ 1048576) visits.found
+sequences-small rows kind came visits law e l =
+    subst (All (λ found. found ≤ 1048576)) (sym (ap (λ v. v.found) e ∙ (law rows kind came).founds)) (founds-small 1048576 [] came.arrive (sequence_fates rows kind came) (omega arith))
 
 -- what is picked is among the items, and no more
 pub Each-picked : (P : ℕ → Type 0) (out : ℕ) (outs items : List ℕ) → Each P items → Each P (picked out outs items)

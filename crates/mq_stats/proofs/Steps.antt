@@ -1,8 +1,8 @@
--- One step of a loop over columns, and its end.
+-- One step of a loop over sequences, and its end.
 use Rattle.std.proofs.Common.{◌≡◌, ℕ, ◌+◌, ◌⊎◌, inl, inr, List, [], ◌∷◌, length, refl, cond, drop, Some, sym, ap, ◌∙◌, arith, max}
 use Rattle.std.specs.Prelude.{slice_get, fold, slice_index, ◌-◌, count_by, sum}
 use Rattle.mq_base.proofs.lemmas.Lists.{drop_at, sum-cons}
-use Rattle.mq_core.specs.Columns.{column_wait, column_waits, column_service, column_services, column_sojourn, column_sojourns, one_more, column_numbers, stream_sojourns}
+use Rattle.mq_core.specs.Sequences.{sequence_wait, sequence_waits, sequence_service, sequence_services, sequence_sojourn, sequence_sojourns, one_more, sequence_numbers, stream_sojourns}
 use Rattle.mq_core.specs.Fates.{service_time}
 use Rattle.mq_core.specs.Results.{bare_time, is_lost}
 use Rattle.mq_core.specs.declared.model.Fate.{Fate}
@@ -27,22 +27,22 @@ counts lost added all fates i fate m f h =
 pub grows : (greatest greatest' seen x all : ℕ) (rest rest' : List ℕ) → greatest' ≡ max greatest seen → seen ≡ x → rest ≡ x ∷ rest' → fold max greatest rest ≡ all → fold max greatest' rest' ≡ all
 grows greatest greatest' seen x all rest rest' m w e h = ap (λ n. fold max n rest') (m ∙ ap (max greatest) w) ∙ (sym (ap (fold max greatest) e) ∙ h)
 
--- Columns. What is left of each begins with the item of its visit.
+-- Sequences. What is left of each begins with the item of its visit.
 pub waits-at : (rows : Rows) (kind : Kind) (jobs arrives : List ℕ) (fates : List Fate) (i job arrive : ℕ) (fate : Fate) → slice_get jobs i ≡ Some job → slice_get arrives i ≡ Some arrive → slice_get fates i ≡ Some fate →
-    column_waits rows kind (drop i jobs) (drop i arrives) (drop i fates) ≡ column_wait rows kind job arrive fate ∷ column_waits rows kind (drop (i + 1) jobs) (drop (i + 1) arrives) (drop (i + 1) fates)
-waits-at rows kind jobs arrives fates i job arrive fate j a f = λ k. column_waits rows kind (drop_at jobs i job j k) (drop_at arrives i arrive a k) (drop_at fates i fate f k)
+    sequence_waits rows kind (drop i jobs) (drop i arrives) (drop i fates) ≡ sequence_wait rows kind job arrive fate ∷ sequence_waits rows kind (drop (i + 1) jobs) (drop (i + 1) arrives) (drop (i + 1) fates)
+waits-at rows kind jobs arrives fates i job arrive fate j a f = λ k. sequence_waits rows kind (drop_at jobs i job j k) (drop_at arrives i arrive a k) (drop_at fates i fate f k)
 
 pub services-at : (rows : Rows) (kind : Kind) (jobs : List ℕ) (fates : List Fate) (i job : ℕ) (fate : Fate) → slice_get jobs i ≡ Some job → slice_get fates i ≡ Some fate →
-    column_services rows kind (drop i jobs) (drop i fates) ≡ column_service rows kind job fate ∷ column_services rows kind (drop (i + 1) jobs) (drop (i + 1) fates)
-services-at rows kind jobs fates i job fate j f = λ k. column_services rows kind (drop_at jobs i job j k) (drop_at fates i fate f k)
+    sequence_services rows kind (drop i jobs) (drop i fates) ≡ sequence_service rows kind job fate ∷ sequence_services rows kind (drop (i + 1) jobs) (drop (i + 1) fates)
+services-at rows kind jobs fates i job fate j f = λ k. sequence_services rows kind (drop_at jobs i job j k) (drop_at fates i fate f k)
 
 pub sojourns-at : (arrives : List ℕ) (fates : List Fate) (i arrive : ℕ) (fate : Fate) → slice_get arrives i ≡ Some arrive → slice_get fates i ≡ Some fate →
-    column_sojourns (drop i arrives) (drop i fates) ≡ column_sojourn arrive fate ∷ column_sojourns (drop (i + 1) arrives) (drop (i + 1) fates)
-sojourns-at arrives fates i arrive fate a f = λ k. column_sojourns (drop_at arrives i arrive a k) (drop_at fates i fate f k)
+    sequence_sojourns (drop i arrives) (drop i fates) ≡ sequence_sojourn arrive fate ∷ sequence_sojourns (drop (i + 1) arrives) (drop (i + 1) fates)
+sojourns-at arrives fates i arrive fate a f = λ k. sequence_sojourns (drop_at arrives i arrive a k) (drop_at fates i fate f k)
 
 pub numbers-at : (founds : List ℕ) (fates : List Fate) (i found : ℕ) (fate : Fate) → slice_get founds i ≡ Some found → slice_get fates i ≡ Some fate →
-    column_numbers (drop i founds) (drop i fates) ≡ one_more found fate ∷ column_numbers (drop (i + 1) founds) (drop (i + 1) fates)
-numbers-at founds fates i found fate a f = λ k. column_numbers (drop_at founds i found a k) (drop_at fates i fate f k)
+    sequence_numbers (drop i founds) (drop i fates) ≡ one_more found fate ∷ sequence_numbers (drop (i + 1) founds) (drop (i + 1) fates)
+numbers-at founds fates i found fate a f = λ k. sequence_numbers (drop_at founds i found a k) (drop_at fates i fate f k)
 
 pub leaves-at : (rows : Rows) (jobs times : List ℕ) (i job time : ℕ) → slice_get jobs i ≡ Some job → slice_get times i ≡ Some time →
     stream_sojourns rows (drop i jobs) (drop i times) ≡ (time - slice_index rows.time job) ∷ stream_sojourns rows (drop (i + 1) jobs) (drop (i + 1) times)
@@ -57,25 +57,25 @@ pub passes : (rows : Rows) (kind : Kind) → (kind ≡ Source) ⊎ ((route : Rou
 passes rows kind (inl e) = record { bare = λ job. ap (λ k. bare_time rows k job) e; service = λ job. ap (λ k. service_time rows k job) e }
 passes rows kind (inr e) = record { bare = λ job. ap (λ k. bare_time rows k job) e.1; service = λ job. ap (λ k. service_time rows k job) e.1 }
 
-wait-is_stay : (rows : Rows) (kind : Kind) (job arrive : ℕ) (fate : Fate) → Passes rows kind → column_wait rows kind job arrive fate ≡ column_sojourn arrive fate
+wait-is_stay : (rows : Rows) (kind : Kind) (job arrive : ℕ) (fate : Fate) → Passes rows kind → sequence_wait rows kind job arrive fate ≡ sequence_sojourn arrive fate
 wait-is_stay rows kind job arrive (Departs time) h = let e = h.bare job in omega arith
 wait-is_stay rows kind job arrive Lost h = refl
 
-pub waits-are_stays : (rows : Rows) (kind : Kind) (jobs arrives : List ℕ) (fates : List Fate) → Passes rows kind → length arrives ≡ length jobs → column_waits rows kind jobs arrives fates ≡ column_sojourns arrives fates
+pub waits-are_stays : (rows : Rows) (kind : Kind) (jobs arrives : List ℕ) (fates : List Fate) → Passes rows kind → length arrives ≡ length jobs → sequence_waits rows kind jobs arrives fates ≡ sequence_sojourns arrives fates
 waits-are_stays rows kind [] [] fates h e = refl
 waits-are_stays rows kind [] (a ∷ arrives) fates h e = absurd (omega arith)
 waits-are_stays rows kind (j ∷ jobs) [] fates h e = refl
 waits-are_stays rows kind (j ∷ jobs) (a ∷ arrives) [] h e = refl
 waits-are_stays rows kind (j ∷ jobs) (a ∷ arrives) (f ∷ fates) h e = λ k. wait-is_stay rows kind j a f h k ∷ waits-are_stays rows kind jobs arrives fates h (omega arith) k
 
-none-served : (rows : Rows) (kind : Kind) (job : ℕ) (fate : Fate) → Passes rows kind → column_service rows kind job fate ≡ 0
+none-served : (rows : Rows) (kind : Kind) (job : ℕ) (fate : Fate) → Passes rows kind → sequence_service rows kind job fate ≡ 0
 none-served rows kind job (Departs time) h = h.service job
 none-served rows kind job Lost h = refl
 
-pub services-are_none : (rows : Rows) (kind : Kind) (jobs : List ℕ) (fates : List Fate) → Passes rows kind → sum (column_services rows kind jobs fates) ≡ 0
+pub services-are_none : (rows : Rows) (kind : Kind) (jobs : List ℕ) (fates : List Fate) → Passes rows kind → sum (sequence_services rows kind jobs fates) ≡ 0
 services-are_none rows kind [] fates h = refl
 services-are_none rows kind (j ∷ jobs) [] h = refl
 services-are_none rows kind (j ∷ jobs) (f ∷ fates) h =
     let first = none-served rows kind j f h in
     let rest = services-are_none rows kind jobs fates h in
-    sum-cons (column_service rows kind j f) (column_services rows kind jobs fates) ∙ omega arith
+    sum-cons (sequence_service rows kind j f) (sequence_services rows kind jobs fates) ∙ omega arith

@@ -14,8 +14,8 @@ use Rattle.mq_base.proofs.lemmas.Zips.{zip-drop}
 use Rattle.mq_base.proofs.lemmas.Each.{Each-weaker}
 use Rattle.mq_core.proofs.lemmas.Rising.{Rises-in_order_of}
 use Rattle.mq_core.proofs.lemmas.Rising.{Rises-drop}
-use Rattle.mq_core.specs.ColumnLaws.{LeavesFrom}
-use Rattle.mq_core.specs.Columns.{by_first, departs_after, founds_from, founds_of}
+use Rattle.mq_core.specs.SequenceLaws.{LeavesFrom}
+use Rattle.mq_core.specs.Sequences.{by_first, departs_after, founds_from, founds_of}
 use Rattle.mq_core.specs.Laws.{Rises, in_order_of}
 use Rattle.mq_core.specs.declared.model.Fate.{Fate}
 use Rattle.mq_core.specs.declared.model.Fate.TheVariants.{Departs, Lost}
@@ -23,7 +23,7 @@ use Rattle.mq_stats.proofs.Counts.{count-cons}
 use Rattle.mq_stats.proofs.Founds.{founds-next, rises-at}
 use Rattle.mq_stats.proofs.Ordered.{as-many}
 use Rattle.mq_stats.proofs.Passing.{none-passed, passed-later, passed-yes, rises-get, up_to}
-use Rattle.mq_stats.specs.Ahead.{AreCounts, IsAhead, departure_times, leaves_at_once, leaving_order}
+use Rattle.mq_stats.specs.Ahead.{AreCounts, IsAhead, departure_times, leaves_at_once, departure_order}
 use Rattle.mq_stats.specs.Departures.{departures_from, stays}
 use Rattle.mq_stats.specs.declared.pieces.AheadTable.{AheadTable}
 
@@ -65,7 +65,7 @@ count-departures time (Departs d ∷ fates) =
     omega arith
 
 -- of departures in order as many are by a time as of the visits
-count-leaving : (time : ℕ) (fates : List Fate) → up_to time (leaving_order fates) ≡ count_by (departs_by time) fates
+count-leaving : (time : ℕ) (fates : List Fate) → up_to time (departure_order fates) ≡ count_by (departs_by time) fates
 count-leaving time fates = as-many (λ t. t) (λ t. nat_le t time) (departure_times fates) ∙ count-departures time fates
 
 -- the departures in order are the firsts of those with their positions
@@ -74,7 +74,7 @@ firsts-departures position [] = refl
 firsts-departures position (Lost ∷ fates) = firsts-departures (suc position) fates
 firsts-departures position (Departs d ∷ fates) = ap (λ l. d ∷ l) (firsts-departures (suc position) fates)
 
-pub firsts-leaving : (fates : List Fate) → map (λ (d : ℕ × ℕ). d.0) (by_first (departures_from 0 fates)) ≡ leaving_order fates
+pub firsts-leaving : (fates : List Fate) → map (λ (d : ℕ × ℕ). d.0) (by_first (departures_from 0 fates)) ≡ departure_order fates
 firsts-leaving fates = firsts-order (departures_from 0 fates) ∙ ap (in_order_of (λ t. t)) (firsts-departures 0 fates)
 
 -- none that comes after a time departs by it
@@ -144,7 +144,7 @@ later-drop (suc i) (a ∷ arrives) [] z = none (drop i arrives)
     none (x ∷ xs) = tt
 later-drop (suc i) (a ∷ arrives) (f ∷ fates) z = later-drop i arrives fates z.1
 
--- those from a place on come at its time or later
+-- those from an index on come at its time or later
 from-on : (i time : ℕ) (times : List ℕ) → Rises (λ a b. a ≤ b) times → slice_get times i ≡ Some time → Each (λ t. time ≤ t) (drop i times)
 from-on i time [] h g = absurd cc
 from-on zero time (t ∷ times) h g =
@@ -152,7 +152,7 @@ from-on zero time (t ∷ times) h g =
     (omega arith, subst (λ x. Each (λ y. x ≤ y) times) same h.0)
 from-on (suc i) time (t ∷ times) h g = from-on i time times h.1 g
 
--- those before a place come by its time
+-- those before an index come by its time
 passed-front : (i time : ℕ) (times : List ℕ) → Rises (λ a b. a ≤ b) times → slice_get times i ≡ Some time → up_to time (take i times) ≡ i
 passed-front i time [] h g = absurd cc
 passed-front zero time (t ∷ times) h g = refl
@@ -173,17 +173,17 @@ come-by i time times h g =
     let front = passed-front i time times h g in
     omega arith
 
--- a count at a place
-pub counted : {X : Type 0} (test : X → Bool) (items : List X) (counts : List ℕ) (place count : ℕ) → AreCounts test items counts → slice_get counts place ≡ Some count → count ≡ count_by test (take place items)
-counted test items counts place count h g =
-    let within = slice_get_within counts place count g in
+-- a count at an index
+pub counted : {X : Type 0} (test : X → Bool) (items : List X) (counts : List ℕ) (index count : ℕ) → AreCounts test items counts → slice_get counts index ≡ Some count → count ≡ count_by test (take index items)
+counted test items counts index count h g =
+    let within = slice_get_within counts index count g in
     let many = h.many in
-    some_inj count _ (sym g ∙ h.at_places place (omega arith))
+    some_inj count _ (sym g ∙ h.at_indices index (omega arith))
 
 lengths : (i : ℕ) (arrives : List ℕ) (fates : List Fate) → length fates ≡ length arrives → length (drop i fates) ≡ length (drop i arrives)
 lengths i arrives fates e = length-drop i fates ∙ (ap (λ n. n - i) e ∙ sym (length-drop i arrives))
 
--- the visits that depart as they come, before the place behind those that have come by a visit's time
+-- the visits that depart as they come, before the index behind those that have come by a visit's time
 still-more : (arrive : List ℕ) (fate : List Fate) (ahead : AheadTable) (at time came before later : ℕ) → IsAhead arrive fate ahead → slice_get arrive at ≡ Some time → came ≡ up_to time arrive →
     slice_get ahead.still at ≡ Some before → slice_get ahead.still came ≡ Some later → later ≡ before + count_by once (take (up_to time (drop at arrive)) (drop at (zip arrive fate)))
 still-more arrive fate ahead at time came before later h g c b n =
@@ -197,7 +197,7 @@ still-more arrive fate ahead at time came before later h g c b n =
     let whole : count_by once (take came z) ≡ count_by once (take (at + r) z) = ap (λ m. count_by once (take m z)) all in
     omega arith
 
--- no fewer that depart as they come stand before a later place
+-- no fewer that depart as they come stand before a later index
 pub still-told : (arrive : List ℕ) (fate : List Fate) (ahead : AheadTable) (at time came before later : ℕ) → IsAhead arrive fate ahead → slice_get arrive at ≡ Some time → came ≡ up_to time arrive →
     slice_get ahead.still at ≡ Some before → slice_get ahead.still came ≡ Some later → before ≤ later
 still-told arrive fate ahead at time came before later h g c b n = let more = still-more arrive fate ahead at time came before later h g c b n in omega arith
@@ -245,7 +245,7 @@ pub told : (arrive : List ℕ) (fate : List Fate) (ahead : AheadTable) (leaving 
 told arrive fate ahead leaving came-at at time left came kept before later h g e l f c k b n =
     tells arrive fate ahead at time left came kept before later h g (l ∙ ap (up_to time) e) (c ∙ ap (up_to time) f) k b n
 
--- What the visits from a place on found is what all found, from that place on.
+-- What the visits from an index on found is what all found, from that index on.
 founds-none : (before : List Fate) (arrives : List ℕ) → founds_from before arrives [] ≡ []
 founds-none before [] = refl
 founds-none before (a ∷ arrives) = refl
@@ -260,7 +260,7 @@ founds-behind (suc i) before (a ∷ arrives) (f ∷ fates) =
 pub founds-start : (i : ℕ) (none : List ℕ) (arrives : List ℕ) (fates : List Fate) → none ≡ [] → none ++ founds_from (take i fates) (drop i arrives) (drop i fates) ≡ drop i (founds_of arrives fates)
 founds-start i none arrives fates e = ap (λ l. l ++ founds_from (take i fates) (drop i arrives) (drop i fates)) e ∙ founds-behind i [] arrives fates
 
--- there is an item at a place
+-- there is an item at an index
 pub there-is : {X : Type 0} (items : List X) (i : ℕ) → i < length items → (item : X) × (slice_get items i ≡ Some item)
 there-is [] i l = absurd (omega arith)
 there-is (x ∷ items) zero l = (x, refl)
@@ -271,7 +271,7 @@ pub leaving-rises : (arrive : List ℕ) (fate : List Fate) (ahead : AheadTable) 
 leaving-rises arrive fate ahead h =
     subst (Rises (λ a b. a ≤ b)) (sym h.leaving) (Rises-in_order_of (λ t. t) (departure_times fate))
 
--- Counts. One place more.
+-- Counts. One index more.
 pub count-most : {X : Type 0} (test : X → Bool) (items : List X) (i : ℕ) → count_by test (take i items) ≤ i
 count-most test items i = let all = count_by-le-length test (take i items) in let many = length-take i items in omega arith
 
@@ -292,7 +292,7 @@ zip-get (x ∷ arrives) [] i arrive fate a f = absurd cc
 zip-get (x ∷ arrives) (y ∷ fates) zero arrive fate a f = λ k. Some (some_inj x arrive a k, some_inj y fate f k)
 zip-get (x ∷ arrives) (y ∷ fates) (suc i) arrive fate a f = zip-get arrives fates i arrive fate a f
 
--- In order. Of the visits before a place those are gone that depart by a time, where none is lost.
+-- In order. Of the visits before an index those are gone that depart by a time, where none is lost.
 pub in-order : (time i : ℕ) (departs : List ℕ) → Rises (λ a b. a ≤ b) departs → i ≤ length departs → count_by (departs_after time) (take i (map (λ d. Departs d) departs)) ≡ i - up_to time departs
 in-order time zero departs h l = omega arith
 in-order time (suc i) [] h l = absurd (omega arith)
@@ -334,11 +334,11 @@ passed-next arrives times i time later passed h a b e =
     omega arith
 
 -- One round of the pass in order: a departure is passed, or what the visit found is told and the next one is looked at.
-pub fills-next : (found arrives departs all : List ℕ) (first place left passed value time : ℕ) → Rises (λ a b. a ≤ b) departs → length departs ≡ length arrives → place < length found → first + length found ≤ length arrives →
-    slice_get arrives (first + place) ≡ Some time → value ≡ first + place - left → passed ≤ 1 → left + passed ≤ up_to time departs → (passed ≡ 0 → up_to time departs ≤ left) →
-    take place found ++ founds_from (take (first + place) (map (λ d. Departs d) departs)) (drop (first + place) arrives) (drop (first + place) (map (λ d. Departs d) departs)) ≡ all →
-    take (place + (1 - passed)) (set found place value) ++ founds_from (take (first + (place + (1 - passed))) (map (λ d. Departs d) departs)) (drop (first + (place + (1 - passed))) arrives) (drop (first + (place + (1 - passed))) (map (λ d. Departs d) departs)) ≡ all
-fills-next found arrives departs all first place left passed value time h even l within g v bit least most k = go (cases_lt 0 passed)
+pub fills-next : (found arrives departs all : List ℕ) (first index left passed value time : ℕ) → Rises (λ a b. a ≤ b) departs → length departs ≡ length arrives → index < length found → first + length found ≤ length arrives →
+    slice_get arrives (first + index) ≡ Some time → value ≡ first + index - left → passed ≤ 1 → left + passed ≤ up_to time departs → (passed ≡ 0 → up_to time departs ≤ left) →
+    take index found ++ founds_from (take (first + index) (map (λ d. Departs d) departs)) (drop (first + index) arrives) (drop (first + index) (map (λ d. Departs d) departs)) ≡ all →
+    take (index + (1 - passed)) (set found index value) ++ founds_from (take (first + (index + (1 - passed))) (map (λ d. Departs d) departs)) (drop (first + (index + (1 - passed))) arrives) (drop (first + (index + (1 - passed))) (map (λ d. Departs d) departs)) ≡ all
+fills-next found arrives departs all first index left passed value time h even l within g v bit least most k = go (cases_lt 0 passed)
   where
     fates : List Fate
     fates = map (λ d. Departs d) departs
@@ -346,30 +346,30 @@ fills-next found arrives departs all first place left passed value time h even l
     rest : ℕ → List ℕ
     rest n = founds_from (take n fates) (drop n arrives) (drop n fates)
 
-    go : (0 < passed) ⊎ (passed ≤ 0) → take (place + (1 - passed)) (set found place value) ++ rest (first + (place + (1 - passed))) ≡ all
+    go : (0 < passed) ⊎ (passed ≤ 0) → take (index + (1 - passed)) (set found index value) ++ rest (first + (index + (1 - passed))) ≡ all
     go (inl m) =
-        let same : place + (1 - passed) ≡ place = omega arith in
-        ap (λ n. take n (set found place value) ++ rest (first + n)) same ∙ (ap (λ xs. xs ++ rest (first + place)) (take-set found place value) ∙ k)
+        let same : index + (1 - passed) ≡ index = omega arith in
+        ap (λ n. take n (set found index value) ++ rest (first + n)) same ∙ (ap (λ xs. xs ++ rest (first + index)) (take-set found index value) ∙ k)
     go (inr m) =
         let none : passed ≡ 0 = omega arith in
         let up = most none in
-        let here = there-is departs (first + place) (omega arith) in
-        let told = in-order time (first + place) departs h (omega arith) in
-        let next : place + (1 - passed) ≡ place + 1 = omega arith in
-        let on : first + (place + 1) ≡ first + place + 1 = omega arith in
-        ap (λ n. take n (set found place value) ++ rest (first + n)) next
-        ∙ (ap (λ n. take (place + 1) (set found place value) ++ rest n) on
-        ∙ founds-next (take place found) (take (place + 1) (set found place value)) all arrives fates (first + place) time value _ g (departs-get departs (first + place) here.0 here.1) (omega arith) (take_more_set found place value l) k)
+        let here = there-is departs (first + index) (omega arith) in
+        let told = in-order time (first + index) departs h (omega arith) in
+        let next : index + (1 - passed) ≡ index + 1 = omega arith in
+        let on : first + (index + 1) ≡ first + index + 1 = omega arith in
+        ap (λ n. take n (set found index value) ++ rest (first + n)) next
+        ∙ (ap (λ n. take (index + 1) (set found index value) ++ rest n) on
+        ∙ founds-next (take index found) (take (index + 1) (set found index value)) all arrives fates (first + index) time value _ g (departs-get departs (first + index) here.0 here.1) (omega arith) (take_more_set found index value l) k)
 
 -- what has left stays so for the next visit
-pub left-on : (arrives departs : List ℕ) (first place left passed : ℕ) → Rises (λ a b. a ≤ b) arrives → passed ≤ 1 → left + passed ≤ up_to (get_or arrives (first + place) 0) departs → first + (place + (1 - passed)) < length arrives →
-    left + passed ≤ up_to (get_or arrives (first + (place + (1 - passed))) 0) departs
-left-on arrives departs first place left passed h bit least l = go (cases_lt 0 passed)
+pub left-on : (arrives departs : List ℕ) (first index left passed : ℕ) → Rises (λ a b. a ≤ b) arrives → passed ≤ 1 → left + passed ≤ up_to (get_or arrives (first + index) 0) departs → first + (index + (1 - passed)) < length arrives →
+    left + passed ≤ up_to (get_or arrives (first + (index + (1 - passed))) 0) departs
+left-on arrives departs first index left passed h bit least l = go (cases_lt 0 passed)
   where
-    go : (0 < passed) ⊎ (passed ≤ 0) → left + passed ≤ up_to (get_or arrives (first + (place + (1 - passed))) 0) departs
-    go (inl m) = let same : first + place ≡ first + (place + (1 - passed)) = omega arith in subst (λ n. left + passed ≤ up_to (get_or arrives n 0) departs) same least
+    go : (0 < passed) ⊎ (passed ≤ 0) → left + passed ≤ up_to (get_or arrives (first + (index + (1 - passed))) 0) departs
+    go (inl m) = let same : first + index ≡ first + (index + (1 - passed)) = omega arith in subst (λ n. left + passed ≤ up_to (get_or arrives n 0) departs) same least
     go (inr m) =
-        let next : suc (first + place) ≡ first + (place + (1 - passed)) = omega arith in
-        let order = rises-get arrives (first + place) h (omega arith) in
-        let more = passed-later (get_or arrives (first + place) 0) (get_or arrives (suc (first + place)) 0) departs order in
+        let next : suc (first + index) ≡ first + (index + (1 - passed)) = omega arith in
+        let order = rises-get arrives (first + index) h (omega arith) in
+        let more = passed-later (get_or arrives (first + index) 0) (get_or arrives (suc (first + index)) 0) departs order in
         subst (λ n. left + passed ≤ up_to (get_or arrives n 0) departs) next (omega arith)

@@ -1,7 +1,7 @@
--- What is worked out ahead, so that what the visits at some places found can be told from it alone.
+-- What is worked out ahead, so that what the visits at some indices found can be told from it alone.
 use Rattle.std.specs.Prelude.{◌≡◌, ℕ, ◌+◌, ◌≤◌, ◌==◌, Bool, false, List, [], ◌∷◌, count_by, length, take, slice_get, Some}
 use Rattle.std.specs.List.{AllByRecursion, zip}
-use Rattle.mq_core.specs.ColumnLaws.{LeavesFrom}
+use Rattle.mq_core.specs.SequenceLaws.{LeavesFrom}
 use Rattle.mq_core.specs.Laws.{Rises, in_order_of}
 use Rattle.mq_core.specs.declared.model.Fate.{Fate}
 use Rattle.mq_core.specs.declared.model.Fate.TheVariants.{Departs, Lost}
@@ -22,22 +22,22 @@ departure_times (Departs time ∷ fates) = time ∷ departure_times fates
 departure_times (Lost ∷ fates) = departure_times fates
 
 -- the departures in order
-abbrev pub leaving_order : List Fate → List ℕ
-leaving_order fate = in_order_of (λ time. time) (departure_times fate)
+abbrev pub departure_order : List Fate → List ℕ
+departure_order fate = in_order_of (λ time. time) (departure_times fate)
 
 -- it departs as it comes
 abbrev pub leaves_at_once : ℕ → Fate → Bool
 leaves_at_once arrive (Departs time) = time == arrive
 leaves_at_once arrive Lost = false
 
--- for each place, and for the end, how many of the items before it pass a test
+-- for each index, and for the end, how many of the items before it pass a test
 pub record AreCounts {X : Type 0} (test : X → Bool) (items : List X) (counts : List ℕ) : Type 0 where
   pub many : length counts ≡ length items + 1
-  pub at_places : (place : ℕ) → place ≤ length items → slice_get counts place ≡ Some (count_by test (take place items))
+  pub at_indices : (index : ℕ) → index ≤ length items → slice_get counts index ≡ Some (count_by test (take index items))
 
--- The departures in order; how many before each place aren't lost; and how many of them depart as they come.
+-- The departures in order; how many before each index aren't lost; and how many of them depart as they come.
 pub record IsAhead (arrive : List ℕ) (fate : List Fate) (ahead : AheadTable) : Type 0 where
   pub comings : AreComings arrive fate
-  pub leaving : ahead.leaving ≡ leaving_order fate
+  pub leaving : ahead.leaving ≡ departure_order fate
   pub kept : AreCounts stays fate ahead.kept
   pub still : AreCounts (λ (p : ℕ × Fate). leaves_at_once p.0 p.1) (zip arrive fate) ahead.still

@@ -8,7 +8,7 @@ use Rattle.mq_core.specs.declared.model.Stream.{Stream}
 use Rattle.mq_core.specs.declared.model.Visits.{Visits}
 use Rattle.mq_stats.specs.declared.tallies.NodeTotals.{NodeTotals}
 
--- The visits of jobs to a node of this kind, in columns of one length: the rows tell what each job asks for there, and
+-- The visits of jobs to a node of this kind, in sequences of one length: the rows tell what each job asks for there, and
 -- there are no more visits, nor jobs found by one, than a trace has rows.
 pub record AreVisits (rows : Rows) (kind : Kind) (visits : Visits) : Type 0 where
   pub few : length visits.job ≤ 1048576

@@ -1,4 +1,4 @@
--- That the columns of a run are such as the numbers are worked out from.
+-- That the sequences of a run are such as the numbers are worked out from.
 use Rattle.std.specs.Prelude.{◌≡◌, ℕ, Some, slice_get}
 use Rattle.mq_core.specs.Results.{visits_of, stream_from}
 use Rattle.mq_core.specs.StandardTable.{run_of}

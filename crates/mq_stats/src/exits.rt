@@ -1,6 +1,6 @@
 // What leaves a network by an output.
 ghost use Rattle.std.specs.Prelude.{◌≡◌};
-ghost use Rattle.mq_core.specs.Columns.{column_exit};
+ghost use Rattle.mq_core.specs.Sequences.{sequence_exit};
 ghost use Rattle.mq_stats.specs.Numbers.{AreLeaving};
 
 use mq_core::{Rows, Stream};
@@ -17,7 +17,7 @@ pub struct Exit {
 /// How many jobs a stream has, and how long they were in the network, in ticks.
 pub fn leaving(rows: &Rows, stream: &Stream) -> Exit
     requires { AreLeaving rows.now stream.now }
-    ensures { (result.count, result.sojourn) ≡ column_exit rows.now stream.now }
+    ensures { (result.count, result.sojourn) ≡ sequence_exit rows.now stream.now }
 {
     let mut sojourn: u128 = 0;
     for at in 0..stream.job.len() {

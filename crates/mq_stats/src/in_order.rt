@@ -1,6 +1,6 @@
 // How many jobs each visit found, where no job overtakes another.
 ghost use Rattle.std.specs.Prelude.{◌≡◌, ◌<◌, ◌≤◌, ℕ, length, true, take, count_by, IfOk, Some, slice_get};
-ghost use Rattle.mq_core.specs.Columns.{departs_after, founds_of};
+ghost use Rattle.mq_core.specs.Sequences.{departs_after, founds_of};
 ghost use Rattle.mq_core.specs.Laws.{Rises};
 ghost use Rattle.mq_stats.specs.Departures.{departures_rise, stays, stays_at};
 
@@ -24,36 +24,36 @@ pub fn leave_in_order(fate: &List<Fate>) -> bool
     true
 }
 
-// All visits before a place are gone, and so many of them weren't lost.
+// All visits before an index are gone, and so many of them weren't lost.
 #[derive(Clone, Copy)]
 struct Gone {
-    place: usize,
+    index: usize,
     departed: u32,
 }
 
 // The same by a later time, of the visits before `to`.
 fn gone_by(fate: &List<Fate>, so_far: Gone, to: usize, time: u64) -> Gone
     requires few { length fate.now ≤ 1048576 }
-    requires order { so_far.place ≤ to }
+    requires order { so_far.index ≤ to }
     requires within { to ≤ length fate.now }
-    requires departed { so_far.departed ≡ count_by stays (take so_far.place fate.now) }
-    requires gone { count_by (departs_after time) (take so_far.place fate.now) ≡ 0 }
-    ensures order { result.place ≤ to }
-    ensures departed { result.departed ≡ count_by stays (take result.place fate.now) }
-    ensures gone { count_by (departs_after time) (take result.place fate.now) ≡ 0 }
-    ensures first { result.place < to → stays_at time (slice_get fate.now result.place) ≡ true }
+    requires departed { so_far.departed ≡ count_by stays (take so_far.index fate.now) }
+    requires gone { count_by (departs_after time) (take so_far.index fate.now) ≡ 0 }
+    ensures order { result.index ≤ to }
+    ensures departed { result.departed ≡ count_by stays (take result.index fate.now) }
+    ensures gone { count_by (departs_after time) (take result.index fate.now) ≡ 0 }
+    ensures first { result.index < to → stays_at time (slice_get fate.now result.index) ≡ true }
 {
     let mut departed = so_far.departed;
-    for place in so_far.place..to {
-        if let Fate::Departs(departure) = *fate.get(place) {
+    for index in so_far.index..to {
+        if let Fate::Departs(departure) = *fate.get(index) {
             if departure > time {
-                return Gone { place, departed };
+                return Gone { index, departed };
             }
             departed += 1;
         }
     }
     Gone {
-        place: to,
+        index: to,
         departed,
     }
 }
@@ -74,7 +74,7 @@ pub fn found_in_order(
 {
     let mut found = Vec::with_capacity(alloc, arrive.len())?;
     let mut gone = Gone {
-        place: 0,
+        index: 0,
         departed: 0,
     };
     let mut stayed = 0;

@@ -1,19 +1,19 @@
-// That the columns of a run are such as the numbers are worked out from.
+// That the sequences of a run are such as the numbers are worked out from.
 ghost use Rattle.mq_stats.specs.RunNumbers.{RunsGiveStreams, RunsGiveVisits};
 
 use mq_core::{
-    columns_go_by_fates, departs_in_time, jobs_are_rows, nodes_are_columns, nodes_are_in_limits,
-    orders_keep_items, rows_tell_demands, streams_rise, visits_are_few,
+    departs_in_time, jobs_are_rows, nodes_are_in_limits, nodes_are_sequences, orders_keep_items,
+    rows_tell_demands, sequences_go_by_fates, streams_rise, visits_are_few,
 };
 
 /// The visits of each node of a run are such that their totals are told.
 pub fn runs_give_visits()
     ensures { RunsGiveVisits }
 {
-    columns_go_by_fates();
+    sequences_go_by_fates();
     departs_in_time();
     jobs_are_rows();
-    nodes_are_columns();
+    nodes_are_sequences();
     nodes_are_in_limits();
     rows_tell_demands();
     visits_are_few();
@@ -23,10 +23,10 @@ pub fn runs_give_visits()
 pub fn runs_give_streams()
     ensures { RunsGiveStreams }
 {
-    columns_go_by_fates();
+    sequences_go_by_fates();
     departs_in_time();
     jobs_are_rows();
-    nodes_are_columns();
+    nodes_are_sequences();
     orders_keep_items();
     streams_rise();
     visits_are_few();

@@ -1,4 +1,4 @@
-//! The numbers of a run, worked out from its columns: what each visit found, the totals of a node,
+//! The numbers of a run, worked out from its sequences: what each visit found, the totals of a node,
 //! what leaves by an output, and the time span.
 #![tactic(auto)]
 

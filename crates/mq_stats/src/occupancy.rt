@@ -1,8 +1,8 @@
 // How many jobs each visit found, whatever the order in which they leave.
 ghost use Rattle.std.specs.Prelude.{◌≡◌, ◌≤◌, length, cond, count_by, IfOk};
 ghost use Rattle.std.specs.List.{AllByRecursion, zip};
-ghost use Rattle.mq_core.specs.ColumnLaws.{LeavesFrom};
-ghost use Rattle.mq_core.specs.Columns.{by_first, founds_of};
+ghost use Rattle.mq_core.specs.SequenceLaws.{LeavesFrom};
+ghost use Rattle.mq_core.specs.Sequences.{by_first, founds_of};
 ghost use Rattle.mq_core.specs.Laws.{Rises};
 ghost use Rattle.mq_stats.specs.Departures.{Ascends, departures_from, is_gone, stays};
 
@@ -54,9 +54,9 @@ fn gone_by(departures: &[(u64, u32)], from: usize, time: u64, position: u32) -> 
     requires from { from ≤ count_by (is_gone time position) departures.now }
     ensures { result ≡ count_by (is_gone time position) departures.now }
 {
-    for place in from..departures.len() {
-        if !gone(departures[place], time, position) {
-            return place;
+    for index in from..departures.len() {
+        if !gone(departures[index], time, position) {
+            return index;
         }
     }
     departures.len()

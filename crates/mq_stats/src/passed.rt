@@ -51,9 +51,9 @@ pub fn passed_by(times: &[u64], least: usize, time: u64) -> usize
     ensures { result ≡ count_by (λ t. nat_le t time) times.now }
 {
     let near = least + NEAR.min(times.len() - least);
-    for place in least..near {
-        if times[place] > time {
-            return place;
+    for index in least..near {
+        if times[index] > time {
+            return index;
         }
     }
     passed_far(times, near, time)

@@ -2,12 +2,12 @@
 ghost use Rattle.std.specs.Prelude.{◌≡◌, ◌+◌, ◌<◌, ◌≤◌, ℕ, List as Items, cond, count_by, length, map, nat_le, IfOk};
 ghost use Rattle.std.specs.List.{AllByRecursion, zip};
 ghost use Rattle.mq_base.specs.Lists.{between};
-ghost use Rattle.mq_core.specs.ColumnLaws.{LeavesFrom};
-ghost use Rattle.mq_core.specs.Columns.{founds_of};
+ghost use Rattle.mq_core.specs.SequenceLaws.{LeavesFrom};
+ghost use Rattle.mq_core.specs.Sequences.{founds_of};
 ghost use Rattle.mq_core.specs.Laws.{Rises};
 ghost use Rattle.mq_core.specs.declared.model.Fate.{Fate as TheFate};
 ghost use Rattle.mq_core.specs.declared.model.Fate.TheVariants.{Departs};
-ghost use Rattle.mq_stats.specs.Ahead.{IsAhead, leaves_at_once, leaving_order};
+ghost use Rattle.mq_stats.specs.Ahead.{IsAhead, leaves_at_once, departure_order};
 
 use crate::occupancy::{departures_in_order, one_if_stays};
 use crate::passed::passed_by;
@@ -30,7 +30,7 @@ pub struct AheadTable {
 // The departures in order.
 fn leaving_of(alloc: Global, fate: &List<Fate>) -> Result<List<u64>, OutOfMemory>
     requires few { length fate.now ≤ 1048576 }
-    ensures { IfOk result (λ leaving. leaving ≡ leaving_order fate.now) }
+    ensures { IfOk result (λ leaving. leaving ≡ departure_order fate.now) }
 {
     let departures = departures_in_order(alloc, fate)?;
     let mut leaving = Vec::with_capacity(alloc, departures.len())?;
@@ -63,7 +63,7 @@ pub fn ahead_of(
     requires few { length arrive.now ≤ 1048576 }
     requires arrive { Rises (λ a b. a ≤ b) arrive.now }
     requires fate { AllByRecursion (λ p. LeavesFrom p.0 p.1) (zip arrive.now fate.now) }
-    requires leaving { leaving ≡ leaving_order fate.now }
+    requires leaving { leaving ≡ departure_order fate.now }
     ensures { IfOk result (λ ahead. IsAhead arrive.now fate.now ahead) }
 {
     let mut kept = Vec::with_capacity(alloc, fate.len() + 1)?;
@@ -103,11 +103,11 @@ pub fn ahead(
     Ok(table)
 }
 
-/// How many jobs the visits at the places from `from` up to `to` found, as `found` tells it for the
+/// How many jobs the visits at the indices from `from` up to `to` found, as `found` tells it for the
 /// arrivals and fates that the table was made from. It refuses for want of memory alone.
 ///
-/// Of the visits before a place that aren't lost, those are gone that depart by its arrival. Of the
-/// departures by then, those of the visits from the place on are no more than those who come at its
+/// Of the visits before an index that aren't lost, those are gone that depart by its arrival. Of the
+/// departures by then, those of the visits from the index on are no more than those who come at its
 /// very time and depart as they come.
 pub fn found_piece(
     alloc: Global,
@@ -142,21 +142,21 @@ fn one_if_at_most(time: u64, other: u64) -> usize
     (time <= other) as usize
 }
 
-// 1 where the departure at a place is at most the time, and 0 where it is later or there is none.
-fn one_if_passed(departs: &[u64], place: usize, time: u64) -> usize
+// 1 where the departure at an index is at most the time, and 0 where it is later or there is none.
+fn one_if_passed(departs: &[u64], index: usize, time: u64) -> usize
     requires order { Rises (λ a b. a ≤ b) departs.now }
-    requires place { place ≤ count_by (λ t. nat_le t time) departs.now }
+    requires index { index ≤ count_by (λ t. nat_le t time) departs.now }
     ensures bit { result ≤ 1 }
-    ensures least { place + result ≤ count_by (λ t. nat_le t time) departs.now }
-    ensures most { result ≡ 0 → count_by (λ t. nat_le t time) departs.now ≤ place }
+    ensures least { index + result ≤ count_by (λ t. nat_le t time) departs.now }
+    ensures most { result ≡ 0 → count_by (λ t. nat_le t time) departs.now ≤ index }
 {
-    if place < departs.len() {
-        return one_if_at_most(departs[place], time);
+    if index < departs.len() {
+        return one_if_at_most(departs[index], time);
     }
     0
 }
 
-// Fills in what the visits from `first` on found, as many as there are places.
+// Fills in what the visits from `first` on found, as many as there are indices.
 //
 // Each round passes a departure or goes on to the next visit, by the answer of one comparison and
 // without a branch on it, which no processor could foresee.
@@ -173,16 +173,16 @@ fn fill_in_order(found: &mut [u32], arrive: &[u64], departs: &[u64], first: usiz
         return;
     }
     let mut left = passed_by(departs, 0, arrive[first]);
-    let mut place = 0;
-    while place < found.len() {
-        let passed = one_if_passed(departs, left, arrive[first + place]);
-        found[place] = (first + place).saturating_sub(left) as u32;
+    let mut index = 0;
+    while index < found.len() {
+        let passed = one_if_passed(departs, left, arrive[first + index]);
+        found[index] = (first + index).saturating_sub(left) as u32;
         left += passed;
-        place += 1 - passed;
+        index += 1 - passed;
     }
 }
 
-/// How many jobs the visits at the places from `from` up to `to` found, where none is lost and none
+/// How many jobs the visits at the indices from `from` up to `to` found, where none is lost and none
 /// overtakes another, from the departures of all visits by position. Neither the times of arrival nor
 /// those of departure fall. It refuses for want of memory alone.
 pub fn found_piece_in_order(

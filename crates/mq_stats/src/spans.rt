@@ -1,6 +1,6 @@
 // The time span of a run.
 ghost use Rattle.std.specs.Prelude.{◌≡◌, max, fold, map};
-ghost use Rattle.mq_core.specs.Columns.{column_span, greatest_time, time_of_fate};
+ghost use Rattle.mq_core.specs.Sequences.{sequence_span, greatest_time, time_of_fate};
 
 use mq_base::List;
 use mq_core::{Fate, Visits};
@@ -49,7 +49,7 @@ fn latest_visit(visits: &Visits) -> u64
 /// The time span of a run: the greatest time, in ticks, at which a job comes to a node or leaves
 /// one, or 0 where there is no visit.
 pub fn span(visits: &List<Visits>) -> u64
-    ensures { result ≡ column_span visits.now }
+    ensures { result ≡ sequence_span visits.now }
 {
     let mut span = 0;
     for node in visits.as_slice() {

@@ -1,7 +1,7 @@
 // The totals of a node over a run.
 ghost use Rattle.std.specs.Prelude.{◌≡◌, ◌<◌, ◌≤◌, ◌^◌, ℕ, All, length, max, fold, sum, cond, count_by};
 ghost use Rattle.mq_core.specs.Asked.{HasDemands};
-ghost use Rattle.mq_core.specs.Columns.{column_numbers, column_peak, column_service, column_services, column_sojourn, column_sojourns, column_totals, column_wait, column_waits, one_more};
+ghost use Rattle.mq_core.specs.Sequences.{sequence_numbers, sequence_peak, sequence_service, sequence_services, sequence_sojourn, sequence_sojourns, sequence_totals, sequence_wait, sequence_waits, one_more};
 ghost use Rattle.mq_core.specs.Fates.{service_time};
 ghost use Rattle.mq_core.specs.Results.{bare_time, is_lost};
 ghost use Rattle.mq_core.specs.declared.model.Kind.{Kind as TheKind};
@@ -48,14 +48,14 @@ fn one_if_lost(fate: Fate) -> u32
 /// The rows have each column that the kind's demands name, and the column has the job.
 pub fn wait_of(rows: &Rows, kind: &Kind, job: u32, arrive: u64, fate: Fate) -> u64
     requires { HasDemands rows.now kind.now job }
-    ensures { result ≡ column_wait rows.now kind.now job arrive fate }
+    ensures { result ≡ sequence_wait rows.now kind.now job arrive fate }
 {
     wait_beyond(bare_of(rows, kind, job), arrive, fate)
 }
 
 // How long a visit waited whose bare time this is, in ticks.
 fn wait_beyond(bare: u64, arrive: u64, fate: Fate) -> u64
-    ensures { (rows : TheRows) (kind : TheKind) (job : ℕ) → bare ≡ bare_time rows kind job → result ≡ column_wait rows kind job arrive fate }
+    ensures { (rows : TheRows) (kind : TheKind) (job : ℕ) → bare ≡ bare_time rows kind job → result ≡ sequence_wait rows kind job arrive fate }
 {
     match fate {
         Fate::Departs(time) => time.saturating_sub(arrive).saturating_sub(bare),
@@ -80,7 +80,7 @@ fn service_at(rows: &Rows, kind: &Kind, job: u32, bare: u64) -> u64
 fn service_of(rows: &Rows, kind: &Kind, job: u32, bare: u64, fate: Fate) -> u64
     requires told { HasDemands rows.now kind.now job }
     requires bare { bare ≡ bare_time rows.now kind.now job }
-    ensures { result ≡ column_service rows.now kind.now job fate }
+    ensures { result ≡ sequence_service rows.now kind.now job fate }
 {
     let service = service_at(rows, kind, job, bare);
     match fate {
@@ -91,7 +91,7 @@ fn service_of(rows: &Rows, kind: &Kind, job: u32, bare: u64, fate: Fate) -> u64
 
 // How long a visit stayed, in ticks.
 fn sojourn_of(arrive: u64, fate: Fate) -> u64
-    ensures { result ≡ column_sojourn arrive fate }
+    ensures { result ≡ sequence_sojourn arrive fate }
 {
     match fate {
         Fate::Departs(time) => time.saturating_sub(arrive),
@@ -130,9 +130,9 @@ fn stays_of(visits: &Visits) -> Stays
     requires small { All (λ found. found ≤ 1048576) visits.now.found }
     ensures lost { result.lost ≡ count_by is_lost visits.now.fate }
     ensures some { result.lost ≤ length visits.now.arrive }
-    ensures area { result.area ≡ sum (column_sojourns visits.now.arrive visits.now.fate) }
-    ensures longest { result.longest ≡ fold max 0 (column_sojourns visits.now.arrive visits.now.fate) }
-    ensures greatest { result.greatest ≡ fold max 0 (column_numbers visits.now.found visits.now.fate) }
+    ensures area { result.area ≡ sum (sequence_sojourns visits.now.arrive visits.now.fate) }
+    ensures longest { result.longest ≡ fold max 0 (sequence_sojourns visits.now.arrive visits.now.fate) }
+    ensures greatest { result.greatest ≡ fold max 0 (sequence_numbers visits.now.found visits.now.fate) }
 {
     let (mut lost, mut longest, mut greatest) = (0u32, 0u64, 0u32);
     let mut area = 0u128;
@@ -164,9 +164,9 @@ struct Waits {
 #[inline(never)]
 fn each_wait(rows: &Rows, kind: &Kind, visits: &Visits) -> Waits
     requires { AreVisits rows.now kind.now visits.now }
-    ensures wait { result.wait ≡ sum (column_waits rows.now kind.now visits.now.job visits.now.arrive visits.now.fate) }
-    ensures longest { result.longest ≡ fold max 0 (column_waits rows.now kind.now visits.now.job visits.now.arrive visits.now.fate) }
-    ensures busy { result.busy ≡ sum (column_services rows.now kind.now visits.now.job visits.now.fate) }
+    ensures wait { result.wait ≡ sum (sequence_waits rows.now kind.now visits.now.job visits.now.arrive visits.now.fate) }
+    ensures longest { result.longest ≡ fold max 0 (sequence_waits rows.now kind.now visits.now.job visits.now.arrive visits.now.fate) }
+    ensures busy { result.busy ≡ sum (sequence_services rows.now kind.now visits.now.job visits.now.fate) }
     ensures small { result.busy ≤ 2 ^ 84 }
 {
     let (mut wait, mut longest, mut busy) = (0u128, 0u64, 0u128);
@@ -189,11 +189,11 @@ fn each_wait(rows: &Rows, kind: &Kind, visits: &Visits) -> Waits
 // The waits at a node of this kind. A source and a split serve no job, so that each stay there is a wait.
 fn waits_of(rows: &Rows, kind: &Kind, visits: &Visits, stays: &Stays) -> Waits
     requires visits { AreVisits rows.now kind.now visits.now }
-    requires area { stays.now.area ≡ sum (column_sojourns visits.now.arrive visits.now.fate) }
-    requires longest { stays.now.longest ≡ fold max 0 (column_sojourns visits.now.arrive visits.now.fate) }
-    ensures wait { result.wait ≡ sum (column_waits rows.now kind.now visits.now.job visits.now.arrive visits.now.fate) }
-    ensures longest { result.longest ≡ fold max 0 (column_waits rows.now kind.now visits.now.job visits.now.arrive visits.now.fate) }
-    ensures busy { result.busy ≡ sum (column_services rows.now kind.now visits.now.job visits.now.fate) }
+    requires area { stays.now.area ≡ sum (sequence_sojourns visits.now.arrive visits.now.fate) }
+    requires longest { stays.now.longest ≡ fold max 0 (sequence_sojourns visits.now.arrive visits.now.fate) }
+    ensures wait { result.wait ≡ sum (sequence_waits rows.now kind.now visits.now.job visits.now.arrive visits.now.fate) }
+    ensures longest { result.longest ≡ fold max 0 (sequence_waits rows.now kind.now visits.now.job visits.now.arrive visits.now.fate) }
+    ensures busy { result.busy ≡ sum (sequence_services rows.now kind.now visits.now.job visits.now.fate) }
     ensures small { result.busy ≤ 2 ^ 84 }
 {
     match kind {
@@ -208,8 +208,8 @@ fn waits_of(rows: &Rows, kind: &Kind, visits: &Visits, stays: &Stays) -> Waits
 
 // The peak of a node of this kind, where this is the greatest number of jobs just after a visit came.
 fn peak_of(kind: &Kind, greatest: u32, visits: &Visits) -> u32
-    requires { greatest ≡ fold max 0 (column_numbers visits.now.found visits.now.fate) }
-    ensures { result ≡ column_peak kind.now visits.now.found visits.now.fate }
+    requires { greatest ≡ fold max 0 (sequence_numbers visits.now.found visits.now.fate) }
+    ensures { result ≡ sequence_peak kind.now visits.now.found visits.now.fate }
 {
     match kind {
         Kind::Source | Kind::Split(_) => 0,
@@ -226,7 +226,7 @@ fn peak_of(kind: &Kind, greatest: u32, visits: &Visits) -> u32
 /// The busy time is below 2^100 ticks.
 pub fn totals(rows: &Rows, kind: &Kind, visits: &Visits) -> NodeTotals
     requires { AreVisits rows.now kind.now visits.now }
-    ensures totals { totals_from result ≡ column_totals rows.now kind.now visits.now }
+    ensures totals { totals_from result ≡ sequence_totals rows.now kind.now visits.now }
     ensures small { result.busy < 2 ^ 100 }
 {
     let came = visits.job.len() as u32;

@@ -40,7 +40,7 @@ passing-next all counts demands many time time' rows rows' row row' stage count 
     let front = take row rows in
     let here = take count (time' ∷ drop row rows) in
     let sums : sum (drop stage counts) ≡ count + sum more = ap sum (drop_at counts stage count c) ∙ sum-cons count more in
-    let place = h.here in
+    let index = h.here in
     let size = h.size in
     let long = length-drop row rows in
     let first : length front ≡ row = length-take-le row rows (omega arith) in
@@ -72,7 +72,7 @@ served-fits all counts demands many time rows row stage count demand c d some fi
     let more = drop (stage + 1) counts in
     let leave = leaves time count demand more rows row in
     let sums : sum (drop stage counts) ≡ count + sum more = ap sum (drop_at counts stage count c) ∙ sum-cons count more in
-    let place = h.here in
+    let index = h.here in
     let size = h.size in
     let front : length (take row rows) ≡ row = length-take-le row rows (omega arith) in
     let rest = passed leave more (drop (stage + 1) demands) (drop (row + count) rows) in

@@ -10,10 +10,10 @@ set-seam : (xs ys : List Mp) (y z : Mp) → set (xs ++ y ∷ ys) (length xs) z �
 set-seam [] ys y z = refl
 set-seam (x ∷ xs) ys y z = ap (λ zs. x ∷ zs) (set-seam xs ys y z)
 
--- What is kept while it does: the rows of the stage before this place have what stood before them, the first the departure.
-pub record Putting (time : Mp) (old : List Mp) (row : ℕ) (now : List Mp) (moved : Mp) (place : ℕ) : Type 0 where
-  pub so_far : now ≡ take row old ++ (take (place - row) (time ∷ drop row old) ++ drop place old)
-  pub next : moved ≡ entry (time ∷ drop row old) (place - row)
+-- What is kept while it does: the rows of the stage before this index have what stood before them, the first the departure.
+pub record Putting (time : Mp) (old : List Mp) (row : ℕ) (now : List Mp) (moved : Mp) (index : ℕ) : Type 0 where
+  pub so_far : now ≡ take row old ++ (take (index - row) (time ∷ drop row old) ++ drop index old)
+  pub next : moved ≡ entry (time ∷ drop row old) (index - row)
   pub size : length now ≡ length old
 
 pub putting-begins : (time : Mp) (old : List Mp) (row : ℕ) → Putting time old row old time row
@@ -25,30 +25,30 @@ putting-begins time old row =
       size = refl;
     }
 
-pub putting-next : (time : Mp) (old : List Mp) (row : ℕ) (now now' : List Mp) (moved earlier : Mp) (place : ℕ) → row ≤ place → place < length old → earlier ≡ entry now place → now' ≡ set now place moved → Putting time old row now moved place → Putting time old row now' earlier (place + 1)
-putting-next time old row now now' moved earlier place a b e s h =
+pub putting-next : (time : Mp) (old : List Mp) (row : ℕ) (now now' : List Mp) (moved earlier : Mp) (index : ℕ) → row ≤ index → index < length old → earlier ≡ entry now index → now' ≡ set now index moved → Putting time old row now moved index → Putting time old row now' earlier (index + 1)
+putting-next time old row now now' moved earlier index a b e s h =
     let w = time ∷ drop row old in
-    let k = place - row in
+    let k = index - row in
     let front = take row old ++ take k w in
     let long = length-drop row old in
     let first : length (take row old) ≡ row = length-take-le row old (omega arith) in
     let second : length (take k w) ≡ k = length-take-le k w (omega arith) in
-    let size : length front ≡ place = length-append (take row old) (take k w) ∙ omega arith in
-    let left : drop place old ≡ entry old place ∷ drop (place + 1) old = drop-cons old place Void b ∙ (let n : suc place ≡ place + 1 = omega arith in ap (λ (m : ℕ). entry old place ∷ drop m old) n) in
-    let whole : now ≡ front ++ entry old place ∷ drop (place + 1) old = h.so_far ∙ (sym (append_assoc (take row old) (take k w) (drop place old)) ∙ ap (λ xs. front ++ xs) left) in
-    let count : suc k ≡ place + 1 - row = omega arith in
-    let here : row + k ≡ place = omega arith in
-    let item : earlier ≡ entry old place =
-    e ∙ (ap (λ xs. entry xs place) whole ∙ (ap (λ (n : ℕ). entry (front ++ entry old place ∷ drop (place + 1) old) n) (sym size) ∙ get_or-append_seam front (entry old place) (drop (place + 1) old) Void)) in
+    let size : length front ≡ index = length-append (take row old) (take k w) ∙ omega arith in
+    let left : drop index old ≡ entry old index ∷ drop (index + 1) old = drop-cons old index Void b ∙ (let n : suc index ≡ index + 1 = omega arith in ap (λ (m : ℕ). entry old index ∷ drop m old) n) in
+    let whole : now ≡ front ++ entry old index ∷ drop (index + 1) old = h.so_far ∙ (sym (append_assoc (take row old) (take k w) (drop index old)) ∙ ap (λ xs. front ++ xs) left) in
+    let count : suc k ≡ index + 1 - row = omega arith in
+    let here : row + k ≡ index = omega arith in
+    let item : earlier ≡ entry old index =
+    e ∙ (ap (λ xs. entry xs index) whole ∙ (ap (λ (n : ℕ). entry (front ++ entry old index ∷ drop (index + 1) old) n) (sym size) ∙ get_or-append_seam front (entry old index) (drop (index + 1) old) Void)) in
     record {
       so_far =
           s
-          ∙ ((λ i. set (whole i) place (h.next i))
-          ∙ (ap (λ (n : ℕ). set (front ++ entry old place ∷ drop (place + 1) old) n (entry w k)) (sym size)
-          ∙ (set-seam front (drop (place + 1) old) (entry old place) (entry w k)
-          ∙ (append_assoc (take row old) (take k w) (entry w k ∷ drop (place + 1) old)
+          ∙ ((λ i. set (whole i) index (h.next i))
+          ∙ (ap (λ (n : ℕ). set (front ++ entry old index ∷ drop (index + 1) old) n (entry w k)) (sym size)
+          ∙ (set-seam front (drop (index + 1) old) (entry old index) (entry w k)
+          ∙ (append_assoc (take row old) (take k w) (entry w k ∷ drop (index + 1) old)
           ∙ ap (λ xs. take row old ++ xs)
-          (sym (append_assoc (take k w) (entry w k ∷ []) (drop (place + 1) old)) ∙ ap (λ xs. xs ++ drop (place + 1) old) (sym (take-suc w k Void (omega arith)) ∙ ap (λ (n : ℕ). take n w) count))))));
+          (sym (append_assoc (take k w) (entry w k ∷ []) (drop (index + 1) old)) ∙ ap (λ xs. xs ++ drop (index + 1) old) (sym (take-suc w k Void (omega arith)) ∙ ap (λ (n : ℕ). take n w) count))))));
       next = item ∙ sym (ap (entry w) (sym count) ∙ (get_or-drop row old k Void ∙ ap (entry old) here));
-      size = ap length s ∙ (length-set now place moved ∙ h.size);
+      size = ap length s ∙ (length-set now index moved ∙ h.size);
     }

@@ -81,10 +81,10 @@ last-behind (count ∷ (next ∷ more)) l =
     let same : get_or (count ∷ (next ∷ more)) (length (count ∷ (next ∷ more)) - 1) 0 ≡ get_or (next ∷ more) (length (next ∷ more) - 1) 0 = ap (λ (n : ℕ). get_or (count ∷ (next ∷ more)) n 0) i in
     omega arith
 
-pub last-place : (places : List ℕ) (rows count : ℕ) → 2 ≤ length places → rows ≡ zero_row places + 1 → slice_get places (length places - 1) ≡ Some count → (rows - 1 - count ≡ last_row (kept places)) × (count + 1 ≤ rows)
-last-place [] rows count l e at = absurd (omega arith)
-last-place (first ∷ []) rows count l e at = absurd (omega arith)
-last-place (first ∷ (next ∷ more)) rows count l e at =
+pub last-index : (places : List ℕ) (rows count : ℕ) → 2 ≤ length places → rows ≡ zero_row places + 1 → slice_get places (length places - 1) ≡ Some count → (rows - 1 - count ≡ last_row (kept places)) × (count + 1 ≤ rows)
+last-index [] rows count l e at = absurd (omega arith)
+last-index (first ∷ []) rows count l e at = absurd (omega arith)
+last-index (first ∷ (next ∷ more)) rows count l e at =
     let i : length (first ∷ (next ∷ more)) - 1 ≡ suc (length (next ∷ more) - 1) = omega arith in
     let there : slice_get (next ∷ more) (length (next ∷ more) - 1) ≡ Some count = sym (ap (slice_get (first ∷ (next ∷ more))) i) ∙ at in
     let item : get_or (1 ∷ (next ∷ more)) (length (1 ∷ (next ∷ more)) - 1) 0 ≡ count = ap (λ (n : ℕ). get_or (1 ∷ (next ∷ more)) n 0) i ∙ get_or_from_slice_get (next ∷ more) (length (next ∷ more) - 1) count 0 there in

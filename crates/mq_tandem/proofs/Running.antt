@@ -47,9 +47,9 @@ module _ (places arrive : List ℕ) (demands : List (List ℕ)) where
   pub ran-append : (from n m : ℕ) (rows : List Mp) → Ran (from + n) m (Ran from n rows) ≡ Ran from (n + m) rows
   ran-append from n zero rows = let e : n ≡ n + 0 = omega arith in ap (λ (k : ℕ). Ran from k rows) e
   ran-append from n (suc m) rows =
-      let place : from + n + m ≡ from + (n + m) = omega arith in
+      let index : from + n + m ≡ from + (n + m) = omega arith in
       let count : suc (n + m) ≡ n + suc m = omega arith in
-      (λ i. job_act places arrive demands (place i) (ran-append from n m rows i)) ∙ ap (λ (k : ℕ). Ran from k rows) count
+      (λ i. job_act places arrive demands (index i) (ran-append from n m rows i)) ∙ ap (λ (k : ℕ). Ran from k rows) count
 
   pub fits-append : (from n m all : ℕ) (rows : List Mp) → n + m ≤ all → Fit from all rows → Fit (from + n) m (Ran from n rows)
   fits-append from n m all rows l h k less row =
@@ -113,13 +113,13 @@ module _ (places arrive : List ℕ) (demands : List (List ℕ)) where
   above-fits from count by low high now e is n some h row =
       subst Fits (ap (λ (xs : List Mp). entry xs row) (sym (above from count by low high now e is n)) ∙ entry-vplus (At by) now row) (end-fits from count high some h row)
 
--- a column by its place
-pub column-at : (columns : List (List Mp)) (place : ℕ) (column : List Mp) → slice_get columns place ≡ Some column → column ≡ get_or columns place []
-column-at columns place column at = sym (get_or_from_slice_get columns place column [] at)
+-- a column by its index
+pub column-at : (columns : List (List Mp)) (index : ℕ) (column : List Mp) → slice_get columns index ≡ Some column → column ≡ get_or columns index []
+column-at columns index column at = sym (get_or_from_slice_get columns index column [] at)
 
-pub fits-at : (places arrive : List ℕ) (demands : List (List ℕ)) (from count : ℕ) (columns : List (List Mp)) (place : ℕ) (column : List Mp) → slice_get columns place ≡ Some column → All (RunFits places arrive demands from count) columns → RunFits places arrive demands from count column
-fits-at places arrive demands from count columns place column at h =
-    subst (RunFits places arrive demands from count) (get_or_from_slice_get columns place column [] at) (All-get_or (RunFits places arrive demands from count) columns place [] (slice_get_within columns place column at) h)
+pub fits-at : (places arrive : List ℕ) (demands : List (List ℕ)) (from count : ℕ) (columns : List (List Mp)) (index : ℕ) (column : List Mp) → slice_get columns index ≡ Some column → All (RunFits places arrive demands from count) columns → RunFits places arrive demands from count column
+fits-at places arrive demands from count columns index column at h =
+    subst (RunFits places arrive demands from count) (get_or_from_slice_get columns index column [] at) (All-get_or (RunFits places arrive demands from count) columns index [] (slice_get_within columns index column at) h)
 
 -- one row more that is above by the number
 pub above-next : (low high : List Mp) (by row : ℕ) (x y : Mp) → row < length low → length low ≡ length high → x ≡ entry low row → y ≡ entry high row → y ≡ mp_plus (At by) x → take row high ≡ take row (vec_plus (At by) low) → take (row + 1) high ≡ take (row + 1) (vec_plus (At by) low)
@@ -131,7 +131,7 @@ above-next low high by row x y l e a b s h =
     ∙ (take-suc high row Void (omega arith)
     ∙ ((λ i. h i ++ item i ∷ []) ∙ (sym (take-suc (vec_plus (At by) low) row Void (omega arith)) ∙ ap (λ (n : ℕ). take n (vec_plus (At by) low)) next)))
 
--- a job at one place of a range of one
+-- a job at one index of a range of one
 pub one-fits : (places arrive : List ℕ) (demands : List (List ℕ)) (at many : ℕ) (columns : List (List Mp)) → many ≡ 1 → All (λ column. (row : ℕ) → Fits (entry (job_act places arrive demands at column) row)) columns → All (RunFits places arrive demands at many) columns
 one-fits places arrive demands at many columns e h = All-weaker (λ column. (row : ℕ) → Fits (entry (job_act places arrive demands at column) row)) (RunFits places arrive demands at many) first columns h
   where

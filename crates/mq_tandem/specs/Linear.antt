@@ -92,7 +92,7 @@ length-passed (count ∷ more) (demand ∷ demands) came rows l =
     let rest = length-passed more demands time (drop count rows) (omega arith) in
     length-append (take count (time ∷ rows)) (passed time more demands (drop count rows)) ∙ omega arith
 
--- The job at a place.
+-- The job at an index.
 module _ (places arrive : List ℕ) (demands : List (List ℕ)) (at : ℕ) where
   abbrev Act : List Mp → List Mp
   Act = job_act places arrive demands at

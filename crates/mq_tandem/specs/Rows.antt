@@ -1,7 +1,7 @@
 -- What a job leaves to the next in a tandem: a vector of the latest departures from each stage, those of a stage the latest
 -- first, and a zero behind them all. What a job makes of it is linear, and so a matrix.
 use Rattle.std.specs.Prelude.{ℕ, zero, suc, ◌+◌, ◌-◌, ◌<◌, List, [], ◌∷◌, ◌++◌, All, drop, map, replicate, slice_index, sum, take}
-use Rattle.mq_core.specs.Columns.{IsSoundLoad}
+use Rattle.mq_core.specs.Sequences.{IsSoundLoad}
 use Rattle.mq_core.specs.Recurrences.{firsts}
 use Rattle.mq_maxplus.specs.declared.mp.Mp.{Mp}
 use Rattle.mq_maxplus.specs.declared.mp.Mp.TheVariants.{Void, At}
@@ -40,7 +40,7 @@ passed came (count ∷ more) (demand ∷ demands) rows =
     let time = mp_max (mp_plus (mp_max came (entry rows 0)) (At demand)) (room_row more (drop count rows)) in
     take count (time ∷ rows) ++ passed time more demands (drop count rows)
 
--- what the job at a place makes of what is kept, by the places of the stages, the arrivals, and the demands at each stage
+-- what the job at an index makes of what is kept, by the places of the stages, the arrivals, and the demands at each stage
 abbrev pub job_act : List ℕ → List ℕ → List (List ℕ) → ℕ → List Mp → List Mp
 job_act places arrive demands at rows =
     passed (mp_plus (entry rows (zero_row places)) (At (slice_index arrive at))) (kept places) (firsts (map (drop at) demands)) rows
@@ -49,7 +49,7 @@ job_act places arrive demands at rows =
 abbrev pub job_matrix : List ℕ → List ℕ → List (List ℕ) → ℕ → List (List Mp)
 job_matrix places arrive demands at = map (job_act places arrive demands at) (unit_matrix (zero_row places + 1))
 
--- what the jobs of a range make of it in turn, so many of them from this place on
+-- what the jobs of a range make of it in turn, so many of them from this index on
 abbrev pub ran : List ℕ → List ℕ → List (List ℕ) → ℕ → ℕ → List Mp → List Mp
 ran places arrive demands from zero rows = rows
 ran places arrive demands from (suc n) rows = job_act places arrive demands (from + n) (ran places arrive demands from n rows)

@@ -98,9 +98,9 @@ impl Latest {
         ensures size { length self.new ≡ length self.old }
     {
         let mut moved = time;
-        for place in row..behind {
-            let earlier = self.get(place);
-            self.set(place, moved);
+        for index in row..behind {
+            let earlier = self.get(index);
+            self.set(index, moved);
             moved = earlier;
         }
     }

@@ -11,7 +11,7 @@ use mq_base::List;
 use mq_maxplus::{Matrix, Mp, Vector};
 
 impl<'a> TandemStep<'a> {
-    // Lets the job at a place act on a column.
+    // Lets the job at an index act on a column.
     fn pass(&self, rows: &mut Vector, at: usize)
         requires inside { at < length self.now.arrive.now }
         requires size { length rows.old ≡ self.now.rows }
@@ -56,9 +56,9 @@ impl<'a> TandemStep<'a> {
         ensures size { length all.new ≡ length all.old }
     {
         let old = *all;
-        for place in 0..self.rows {
-            let column = self.column_behind(&old, all, place, from, to);
-            all.set_column(place, &column);
+        for index in 0..self.rows {
+            let column = self.column_behind(&old, all, index, from, to);
+            all.set_column(index, &column);
         }
     }
 
@@ -66,30 +66,30 @@ impl<'a> TandemStep<'a> {
     // known. Columns that differ by a number do so behind the jobs too: the columns of a tandem's
     // matrices come to do so after few jobs, all but that of the zero (the memory of a max-plus product
     // is short), and then no more than two of them have to be gone through.
-    fn column_behind(&self, old: &Matrix, now: &Matrix, place: u8, from: usize, to: usize) -> Vector
+    fn column_behind(&self, old: &Matrix, now: &Matrix, index: u8, from: usize, to: usize) -> Vector
         requires some { from < to }
         requires inside { to ≤ length self.now.arrive.now }
-        requires place { place < self.now.rows }
+        requires index { index < self.now.rows }
         requires old { length old.now ≡ self.now.rows }
         requires now { length now.now ≡ self.now.rows }
         requires fits { All (RunFits self.now.places.now self.now.arrive.now self.now.demands.now from (to - from)) old.now }
-        requires done { take place now.now ≡ take place (map (ran self.now.places.now self.now.arrive.now self.now.demands.now from (to - from)) old.now) }
-        ensures acted { result ≡ ran self.now.places.now self.now.arrive.now self.now.demands.now from (to - from) (slice_index_or old.now place []) }
+        requires done { take index now.now ≡ take index (map (ran self.now.places.now self.now.arrive.now self.now.demands.now from (to - from)) old.now) }
+        ensures acted { result ≡ ran self.now.places.now self.now.arrive.now self.now.demands.now from (to - from) (slice_index_or old.now index []) }
         ensures size { length result ≡ self.now.rows }
     {
-        for earlier in 0..place {
-            if let Some(by) = rise(old.column(earlier), old.column(place), self.last) {
+        for earlier in 0..index {
+            if let Some(by) = rise(old.column(earlier), old.column(index), self.last) {
                 let mut rows = *now.column(earlier);
                 raise(&mut rows, by);
                 return rows;
             }
-            if let Some(by) = rise(old.column(place), old.column(earlier), self.last) {
+            if let Some(by) = rise(old.column(index), old.column(earlier), self.last) {
                 let mut rows = *now.column(earlier);
                 lower(&mut rows, by);
                 return rows;
             }
         }
-        let mut rows = *old.column(place);
+        let mut rows = *old.column(index);
         self.run(&mut rows, from, to);
         rows
     }
@@ -120,9 +120,9 @@ fn put_latest(rows: &mut Vector, row: u8, behind: u8, time: Mp)
     ensures size { length rows.new ≡ length rows.old }
 {
     let mut moved = time;
-    for place in row..behind {
-        let earlier = rows.get(place);
-        rows.set(place, moved);
+    for index in row..behind {
+        let earlier = rows.get(index);
+        rows.set(index, moved);
         moved = earlier;
     }
 }

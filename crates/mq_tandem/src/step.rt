@@ -1,6 +1,6 @@
 // A tandem's jobs, which act on the latest departures one after another.
 ghost use Rattle.std.specs.Prelude.{◌≡◌, ℕ, ◌+◌, ◌-◌, ◌<◌, ◌≤◌, [], ◌∷◌, ◌++◌, All, Some, drop, length, map, slice_get, slice_index_or, sum, take};
-ghost use Rattle.mq_core.specs.Columns.{IsSoundLoad};
+ghost use Rattle.mq_core.specs.Sequences.{IsSoundLoad};
 ghost use Rattle.mq_maxplus.specs.Maxplus.{mp_or_zero, Fits};
 ghost use Rattle.mq_maxplus.specs.Matrices.{entry, matrix_act, matrix_then, CanMatrixAct, CanMatrixThen};
 ghost use Rattle.mq_maxplus.proofs.MatrixLaws.{acts as acts_law, joins as joins_law};
@@ -71,7 +71,7 @@ impl<'a> TandemStep<'a> {
         }
     }
 
-    // Lets the job at a place go through the stages, by the latest departures.
+    // Lets the job at an index go through the stages, by the latest departures.
     fn serve(&self, latest: &mut Latest, at: usize)
         requires inside { at < length self.now.arrive.now }
         requires size { length latest.old ≡ self.now.rows }
@@ -147,7 +147,7 @@ impl<'a> Step for TandemStep<'a> {
 
     type Summary = Matrix;
 
-    ghost places = { λ s. length s.arrive.now };
+    ghost size = { λ s. length s.arrive.now };
 
     ghost start = { λ s. none_kept s.places.now };
 

@@ -65,8 +65,8 @@ IsOfMade Memory = Unit {0}
 IsOfMade _ = ⊥
 
 -- The count of faults rose in this read of a call, from 1. It is stated where the number of reads is below 2 ^ 63 at entry.
-abbrev pub FailedAt : (place reads reads' faults' : ℕ) → Type 0
-FailedAt place reads reads' faults' = reads < 2 ^ 63 → (reads' ≡ reads + place) × (faults' ≡ reads')
+abbrev pub FailedAt : (nth reads reads' faults' : ℕ) → Type 0
+FailedAt nth reads reads' faults' = reads < 2 ^ 63 → (reads' ≡ reads + nth) × (faults' ≡ reads')
 
 -- after every outcome but Done and WriteFault nothing changed
 abbrev pub Untouched : {A : Type 0} → Outcome → A → A → Type 0

@@ -12,7 +12,7 @@ use Rattle.mq_trace.specs.Header.{field_of}
 use Rattle.mq_trace.specs.Pieces.{Gains, behind, piece_data}
 use Rattle.mq_trace.proofs.RowFacts.{RowsSoFar}
 use Rattle.mq_trace.specs.Records.{Record}
-use Rattle.mq_trace.specs.Trace.{data_of, place_of, row_fault, rows_fault, rows_of, source_named, text_records}
+use Rattle.mq_trace.specs.Trace.{data_of, index_of, row_fault, rows_fault, rows_of, source_named, text_records}
 use Rattle.mq_trace.specs.declared.fault.TraceFault.{TraceFault}
 use Rattle.mq_trace.specs.declared.fault.TraceFault.TheVariants.{TooManyRows, BadCount, UnknownSource, BadNumber}
 use Rattle.mq_trace.proofs.RowsRead.{few_rows}
@@ -151,9 +151,9 @@ so_far_joined net header done rs source time old new rows so none is few gains =
       times = rw (map-append (λ r. digits_value 10 (field_of r 1)) done rs, so.times, is) refl;
       width = gains.len ∙ so.width;
       values = λ k less.
-          let all = map-append (λ r. digits_value 10 (field_of r (place_of header (get_or net.columns k [])))) done rs in
-          let there = get_or-map (λ (name : List ℕ). map (λ r. digits_value 10 (field_of r (place_of header name))) rs) net.columns k [] [] less in
-          let more : get_or rows.demands k [] ≡ map (λ r. digits_value 10 (field_of r (place_of header (get_or net.columns k [])))) rs = ap (λ (x : Rows). get_or x.demands k []) is ∙ there in
+          let all = map-append (λ r. digits_value 10 (field_of r (index_of header (get_or net.columns k [])))) done rs in
+          let there = get_or-map (λ (name : List ℕ). map (λ r. digits_value 10 (field_of r (index_of header name))) rs) net.columns k [] [] less in
+          let more : get_or rows.demands k [] ≡ map (λ r. digits_value 10 (field_of r (index_of header (get_or net.columns k [])))) rs = ap (λ (x : Rows). get_or x.demands k []) is ∙ there in
           gains.each k (omega (arith, so.width, less)) ∙ rw (so.values k less, more, all) refl;
     }
 

@@ -202,7 +202,7 @@ pub quote_found : (text : List ℕ) (r : Option ℕ) → IsFirstByte (is_byte 34
 quote_found text None h = sym (no_quote text (λ k less. h k (omega arith) less))
 quote_found text (Some k) h = sym (list_any_at (λ c. c == 34) text k 0 h.0.high h.1)
 
--- what stands behind the place of a line feed, or behind the end
+-- what stands behind the index of a line feed, or behind the end
 pub rest_after : (text : List ℕ) (n : ℕ) → (n ≡ length text) ⊎ (get_or text n 0 ≡ 10) → IsRest (drop n text)
 rest_after text n (inl e) = inl (drop_all n text (omega arith))
 rest_after text n (inr f) = let same : n + 0 ≡ n = omega arith in inr (get_or-drop n text 0 0 ∙ ap (λ k. get_or text k 0) same ∙ f)

@@ -11,7 +11,7 @@ use Rattle.csv.specs.Records.{fields_of}
 use Rattle.mq_trace.specs.Reading.{HoldsValues, IsHeaderOf, Pushes}
 use Rattle.mq_trace.specs.Records.{Record}
 use Rattle.mq_trace.specs.Header.{columns_of, field_of, is_among, missing_column, bad_header}
-use Rattle.mq_trace.specs.Trace.{place_of, row_fault, records_fault, rows_fault, rows_of, source_named}
+use Rattle.mq_trace.specs.Trace.{index_of, row_fault, records_fault, rows_fault, rows_of, source_named}
 use Rattle.mq_trace.specs.declared.fault.TraceFault.{TraceFault}
 use Rattle.mq_trace.specs.declared.fault.TraceFault.TheVariants.{BadHeader}
 use Rattle.mq_trace.specs.declared.header.Header.{Header}
@@ -28,7 +28,7 @@ pub record RowsSoFar (net : Network) (header : Record) (done : List Record) (sou
   pub sources : source ≡ map (λ r. unwrap_or (source_named net (field_of r 0)) 0) done
   pub times : time ≡ map (λ r. digits_value 10 (field_of r 1)) done
   pub width : length demands ≡ length net.columns
-  pub values : (k : ℕ) → k < length net.columns → get_or demands k [] ≡ map (λ r. digits_value 10 (field_of r (place_of header (get_or net.columns k [])))) done
+  pub values : (k : ℕ) → k < length net.columns → get_or demands k [] ≡ map (λ r. digits_value 10 (field_of r (index_of header (get_or net.columns k [])))) done
 
 -- no record yet
 pub so_far_none : (net : Network) (header : Record) → RowsSoFar net header [] [] [] (map (λ _. []) net.columns)
@@ -64,24 +64,24 @@ none_missing net header k none h =
 
 -- a column of the model stands in the header, and is read there
 pub column_stands : (net : Network) (h : Header) (k : ℕ) → IsHeaderOf net h → k < length net.columns
-    → (get_or h.places.items k 0 < length h.reads.items) × (get_or h.reads.items (get_or h.places.items k 0) false ≡ true)
-    × (get_or h.places.items k 0 + 2 ≡ place_of (fields_of h.names) (get_or net.columns k []))
+    → (get_or h.indices.items k 0 < length h.reads.items) × (get_or h.reads.items (get_or h.indices.items k 0) false ≡ true)
+    × (get_or h.indices.items k 0 + 2 ≡ index_of (fields_of h.names) (get_or net.columns k []))
 column_stands net h k is less =
     let C = columns_of (fields_of h.names) in
     let name = get_or net.columns k [] in
     let first = first_passes (λ other. bytes_eq other name) C (none_missing net (fields_of h.names) k is.complete less) in
-    let place : get_or h.places.items k 0 ≡ position_or_len (λ other. bytes_eq other name) C =
-    ap (λ xs. get_or xs k 0) is.places ∙ get_or-map (λ (name : List ℕ). position_or_len (λ other. bytes_eq other name) C) net.columns k [] 0 less in
+    let index : get_or h.indices.items k 0 ≡ position_or_len (λ other. bytes_eq other name) C =
+    ap (λ xs. get_or xs k 0) is.indices ∙ get_or-map (λ (name : List ℕ). position_or_len (λ other. bytes_eq other name) C) net.columns k [] 0 less in
     let size = length_noted net.columns C h.reads.items is.reads in
     let same : get_or C (position_or_len (λ other. bytes_eq other name) C) [] ≡ name = (bytes_eq-Decides _ _).0 first.1 in
     let read : get_or h.reads.items (position_or_len (λ other. bytes_eq other name) C) false ≡ true =
     noted net.columns C h.reads.items (position_or_len (λ other. bytes_eq other name) C) is.reads first.0 ∙ ap (λ x. is_among net.columns x) same ∙ among_at net.columns k less in
-    rw place (omega (arith, size, first.0), read, refl)
+    rw index (omega (arith, size, first.0), read, refl)
 
 -- one more record
 pub so_far_more : (net : Network) (h : Header) (done : List Record) (source time : List ℕ) (old new : List (List ℕ)) (r : Record) (node at : ℕ) (values : List ℕ)
     → IsHeaderOf net h → RowsSoFar net (fields_of h.names) done source time old → row_fault net (fields_of h.names) (1 + length done) r ≡ None
-    → source_named net (field_of r 0) ≡ Some node → at ≡ digits_value 10 (field_of r 1) → HoldsValues h.reads.items values r → Pushes old new h.places.items values
+    → source_named net (field_of r 0) ≡ Some node → at ≡ digits_value 10 (field_of r 1) → HoldsValues h.reads.items values r → Pushes old new h.indices.items values
     → RowsSoFar net (fields_of h.names) (done ++ r ∷ []) (source ++ node ∷ []) (time ++ at ∷ []) new
 unfolding rows_fault
 so_far_more net h done source time old new r node at values is so clean found time_is held pushed =
@@ -91,17 +91,17 @@ so_far_more net h done source time old new r node at values is so clean found ti
       times = rw (map-append (λ r. digits_value 10 (field_of r 1)) done (r ∷ []), so.times, time_is) refl;
       width = pushed.len ∙ so.width;
       values = λ k less.
-          let (stands, read, place) = column_stands net h k is less in
-          let value = held (get_or h.places.items k 0) stands read in
-          let all = map-append (λ r. digits_value 10 (field_of r (place_of (fields_of h.names) (get_or net.columns k [])))) done (r ∷ []) in
-          pushed.each k (omega (arith, so.width, less)) ∙ rw (so.values k less, value, place, all) refl;
+          let (stands, read, index) = column_stands net h k is less in
+          let value = held (get_or h.indices.items k 0) stands read in
+          let all = map-append (λ r. digits_value 10 (field_of r (index_of (fields_of h.names) (get_or net.columns k [])))) done (r ∷ []) in
+          pushed.each k (omega (arith, so.width, less)) ∙ rw (so.values k less, value, index, all) refl;
     }
 
 -- the rows of all records
 pub so_far_all : (net : Network) (header : Record) (all : List Record) (source time : List ℕ) (demands : List (List ℕ)) → RowsSoFar net header all source time demands
     → ◌≡◌ {A = Rows} (record { source = source; time = time; demands = demands }) (rows_of net header all)
 so_far_all net header all source time demands so =
-    let f = λ (name : List ℕ). map (λ r. digits_value 10 (field_of r (place_of header name))) all in
+    let f = λ (name : List ℕ). map (λ r. digits_value 10 (field_of r (index_of header name))) all in
     let same : demands ≡ map f net.columns = ext_get_or [] demands (map f net.columns) (so.width ∙ sym (length-map net.columns f))
     (λ k h. let less : k < length net.columns = omega (arith, so.width, h) in so.values k less ∙ sym (get_or-map f net.columns k [] [] less)) in
     rw (so.sources, so.times, same) refl
@@ -128,29 +128,29 @@ reads_few net h is =
     let most = is.most in
     grind (arith, common_steps, size, most)
 
--- a place in a text's names
-place_map : (names : List (Bor (List ℕ))) (name : List ℕ) → position_or_len (λ other. bytes_eq other name) (map (λ s. s.now) names) ≡ position_or_len (λ other. bytes_eq other.now name) names
-place_map [] name = refl
-place_map (x ∷ xs) name = let again = place_map xs name in grind (arith, again)
+-- an index in a text's names
+index_map : (names : List (Bor (List ℕ))) (name : List ℕ) → position_or_len (λ other. bytes_eq other name) (map (λ s. s.now) names) ≡ position_or_len (λ other. bytes_eq other.now name) names
+index_map [] name = refl
+index_map (x ∷ xs) name = let again = index_map xs name in grind (arith, again)
 
--- a name is among others where it has a place
+-- a name is among others where it has an index
 among_is : (xs : List (List ℕ)) (name : List ℕ) → is_among xs name ≡ nat_lt (position_or_len (λ other. bytes_eq other name) xs) (length xs)
 among_is [] name = refl
 among_is (x ∷ xs) name = let again = among_is xs name in grind (arith, common_steps, again)
 
-pub place_found : (names : List (Bor (List ℕ))) (columns : List (List ℕ)) (name : List ℕ) (p : ℕ) → map (λ s. s.now) names ≡ columns
+pub index_found : (names : List (Bor (List ℕ))) (columns : List (List ℕ)) (name : List ℕ) (p : ℕ) → map (λ s. s.now) names ≡ columns
     → Some p ≡ position (λ other. bytes_eq other.now name) names → (position_or_len (λ other. bytes_eq other name) columns ≡ p) × (is_among columns name ≡ true)
-place_found names columns name p is e =
-    let m = place_map names name in
+index_found names columns name p is e =
+    let m = index_map names name in
     let a = among_is (map (λ s. s.now) names) name in
     let n = length-map names (λ (s : Bor (List ℕ)). s.now) in
     let q : (position_or_len (λ other. bytes_eq other.now name) names ≡ p) × (position_or_len (λ other. bytes_eq other.now name) names < length names) = grind (arith, common_steps, e) in
     rw (← is) (m ∙ q.0, a ∙ rw (m, n) (lt-ltb _ _ q.1))
 
-pub place_absent : (names : List (Bor (List ℕ))) (columns : List (List ℕ)) (name : List ℕ) → map (λ s. s.now) names ≡ columns
+pub index_absent : (names : List (Bor (List ℕ))) (columns : List (List ℕ)) (name : List ℕ) → map (λ s. s.now) names ≡ columns
     → None ≡ position (λ other. bytes_eq other.now name) names → is_among columns name ≡ false
-place_absent names columns name is e =
-    let m = place_map names name in
+index_absent names columns name is e =
+    let m = index_map names name in
     let a = among_is (map (λ s. s.now) names) name in
     let n = length-map names (λ (s : Bor (List ℕ)). s.now) in
     rw (← is) (a ∙ rw (m, n) (grind (arith, common_steps, e)))
@@ -167,13 +167,13 @@ none_is_missing net header there =
     let p = position_or_len_is (λ name. not (is_among (columns_of header) name)) net.columns (length net.columns) [] (omega arith) (λ k less. rw (there k less) refl) (λ h. absurd (omega arith)) in
     rw p (grind (arith, common_steps))
 
--- the default makes no difference at a place that is there
+-- the default makes no difference at an index that is there
 get-same : {A : Type 0} (l : List A) (i : ℕ) (d e : A) → i < length l → get_or l i d ≡ get_or l i e
 get-same [] i d e h = absurd (omega arith)
 get-same (x ∷ xs) zero d e h = refl
 get-same (x ∷ xs) (suc i) d e h = get-same xs i d e (omega arith)
 
--- an item by its place, whatever the default
+-- an item by its index, whatever the default
 pub item_at : (xs : List (List ℕ)) (i : ℕ) (x : List ℕ) → i < length xs → x ≡ get_or xs i x → get_or xs i [] ≡ x
 item_at xs i x h e = get-same xs i [] x h ∙ sym e
 

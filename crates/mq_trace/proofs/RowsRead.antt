@@ -17,7 +17,7 @@ use Rattle.mq_core.specs.declared.model.Node.{Node}
 use Rattle.mq_core.specs.declared.model.Rows.{Rows}
 use Rattle.mq_trace.specs.Header.{columns_of, field_of, is_among, missing_column}
 use Rattle.mq_trace.specs.Records.{Record}
-use Rattle.mq_trace.specs.Trace.{Answers, bad_value, data_of, header_of, place_of, row_fault, rows_fault, rows_in, rows_of, source_named, text_records, trace_fault}
+use Rattle.mq_trace.specs.Trace.{Answers, bad_value, data_of, header_of, index_of, row_fault, rows_fault, rows_in, rows_of, source_named, text_records, trace_fault}
 use Rattle.mq_trace.specs.declared.fault.TraceFault.{TraceFault}
 use Rattle.mq_trace.proofs.RowFacts.{among_at, first_passes, none_missing, small_row}
 use Rattle.mq_trace.proofs.TraceFacts.{later_field}
@@ -73,16 +73,16 @@ in_range text limit h = grind (arith, common_steps, h)
 
 -- the demand of a record at a column of the model
 small_value : (net : Network) (header r : Record) (name : List ℕ) → is_among (columns_of header) name ≡ true → is_among net.columns name ≡ true → IsClean net header r
-    → digits_value 10 (field_of r (place_of header name)) ≤ 2 ^ 36
+    → digits_value 10 (field_of r (index_of header name)) ≤ 2 ^ 36
 small_value net header r name there named clean =
-    let place = position_or_len (λ other. bytes_eq other name) (columns_of header) in
+    let index = position_or_len (λ other. bytes_eq other name) (columns_of header) in
     let first = first_passes (λ other. bytes_eq other name) (columns_of header) there in
-    let same : get_or (columns_of header) place [] ≡ name = (bytes_eq-Decides _ _).0 first.1 in
-    let among : is_among net.columns (get_or (columns_of header) place []) ≡ true = ap (λ x. is_among net.columns x) same ∙ named in
-    let within : place < length (drop 2 r) = grind (arith, common_steps, first.0, clean.len) in
-    let number = value_clean net 3 (columns_of header) (drop 2 r) place clean.values first.0 within among in
-    let small : digits_value 10 (get_or (drop 2 r) place []) ≤ 2 ^ 36 = in_range (get_or (drop 2 r) place []) (2 ^ 36) number in
-    rw (later_field r place) at small
+    let same : get_or (columns_of header) index [] ≡ name = (bytes_eq-Decides _ _).0 first.1 in
+    let among : is_among net.columns (get_or (columns_of header) index []) ≡ true = ap (λ x. is_among net.columns x) same ∙ named in
+    let within : index < length (drop 2 r) = grind (arith, common_steps, first.0, clean.len) in
+    let number = value_clean net 3 (columns_of header) (drop 2 r) index clean.values first.0 within among in
+    let small : digits_value 10 (get_or (drop 2 r) index []) ≤ 2 ^ 36 = in_range (get_or (drop 2 r) index []) (2 ^ 36) number in
+    rw (later_field r index) at small
 
 -- the node that was found by name is a source
 named_at : (name : List ℕ) (nodes : List Node) (i : ℕ) → position (λ (node : Node). is_source_kind node.kind && bytes_eq node.name name) nodes ≡ Some i → IsTrue (is_source (slice_get nodes i))
@@ -104,9 +104,9 @@ image f (x ∷ xs) (suc k) y h = image f xs k y h
 
 -- the demands at a column of the model are in range
 small_column : (net : Network) (header : Record) (rs : List Record) (column : ℕ) (name : List ℕ) (k value : ℕ) → missing_column net header ≡ None → rows_fault net header 1 rs ≡ None
-    → slice_get net.columns column ≡ Some name → slice_get (map (λ r. digits_value 10 (field_of r (place_of header name))) rs) k ≡ Some value → value ≤ 2 ^ 36
+    → slice_get net.columns column ≡ Some name → slice_get (map (λ r. digits_value 10 (field_of r (index_of header name))) rs) k ≡ Some value → value ≤ 2 ^ 36
 small_column net header rs column name k value complete clean at h =
-    let (r, there, is) = image (λ r. digits_value 10 (field_of r (place_of header name))) rs k value h in
+    let (r, there, is) = image (λ r. digits_value 10 (field_of r (index_of header name))) rs k value h in
     let less = slice_get_within net.columns column name at in
     let same = get_or_from_slice_get net.columns column name [] at in
     let found = rw same at (none_missing net header column complete less) in
@@ -118,7 +118,7 @@ records_read : (net : Network) (header : Record) (rs : List Record) → missing_
 records_read net header rs complete clean =
     let source = λ (r : Record). unwrap_or (source_named net (field_of r 0)) 0 in
     let time = λ (r : Record). digits_value 10 (field_of r 1) in
-    let demand = λ (name : List ℕ) (r : Record). digits_value 10 (field_of r (place_of header name)) in
+    let demand = λ (name : List ℕ) (r : Record). digits_value 10 (field_of r (index_of header name)) in
     let count = length-map rs source in
     record {
       count = rw count (few_rows net header rs clean);

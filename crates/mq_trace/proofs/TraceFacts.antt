@@ -18,18 +18,18 @@ use Rattle.mq_trace.specs.Header.{bad_column, bad_header, columns_of, field_of, 
 use Rattle.mq_trace.specs.Trace.{bad_value, row_fault, rows_fault}
 use Rattle.mq_core.specs.declared.model.Network.{Network}
 
--- a list from a place on
+-- a list from an index on
 pub drop_next : {A : Type 0} (xs : List A) (i : ℕ) (d : A) → i < length xs → drop i xs ≡ get_or xs i d ∷ drop (i + 1) xs
 drop_next xs i d h = rw add-one (drop-cons xs i d h)
 
--- the field at a place
+-- the field at an index
 pub field_at_is : (r : Record) (i : ℕ) → field_at r i ≡ (if nat_lt i (length r) then Some (get_or r i []) else None)
 unfolding field_at
 field_at_is [] i = grind arith
 field_at_is (f ∷ fs) zero = grind arith
 field_at_is (f ∷ fs) (suc i) = let again = field_at_is fs i in grind (arith, again)
 
--- the columns and the fields from a place on
+-- the columns and the fields from an index on
 pub bad_value_step : (net : Network) (n i : ℕ) (columns : List (List ℕ)) (fields : Record) → i < length columns → i < length fields
     → bad_value net n (drop i columns) (drop i fields)
     ≡ (if is_among net.columns (get_or columns i []) && is_none (number_of (get_or fields i []) (2 ^ 36)) then Some n else bad_value net (n + 1) (drop (i + 1) columns) (drop (i + 1) fields))
@@ -63,7 +63,7 @@ bad_header_rest [] h a b = absurd (omega arith)
 bad_header_rest (x ∷ []) h a b = absurd (omega arith)
 bad_header_rest (x ∷ y ∷ r) h a b = rw (a, b) refl
 
--- the columns from a place on
+-- the columns from an index on
 pub bad_column_step : (n i : ℕ) (before columns : List (List ℕ)) → i < length columns
     → bad_column n before (drop i columns) ≡ (if (n == 19) || is_among before (get_or columns i []) then Some n else bad_column (n + 1) (before ++ get_or columns i [] ∷ []) (drop (i + 1) columns))
 unfolding bad_column
@@ -123,7 +123,7 @@ got r i x e = let f = field_at_is r i in grind (arith, common_steps, e, f)
 pub number_value : (text : List ℕ) (limit v : ℕ) → Some v ≡ number_of text limit → v ≡ digits_value 10 text
 number_value text limit v e = grind (arith, common_steps, e)
 
--- one more value is in its place
+-- one more value stands at its index
 pub hold_more : (reads : List Bool) (values : List ℕ) (r : Record) (i v : ℕ) → i < length values → v ≡ digits_value 10 (field_of r (i + 2))
     → ((k : ℕ) → k < i → get_or reads k false ≡ true → get_or values k 0 ≡ digits_value 10 (field_of r (k + 2)))
     → (k : ℕ) → k < i + 1 → get_or reads k false ≡ true → get_or (set values i v) k 0 ≡ digits_value 10 (field_of r (k + 2))
@@ -133,39 +133,39 @@ hold_more reads values r i v room e held k h t =
       | inr more ↦ let same : k ≡ i = omega arith in rw (same, get_or-set_same values i v 0 room) e
     ]
 
--- the name at a place of a header
-name_at : (r : Record) (place : ℕ) → 2 ≤ place → place < length r → (place - 2 < length (columns_of r)) × (get_or (columns_of r) (place - 2) [] ≡ get_or r place [])
-name_at r place low h =
-    let back : place - 2 + 2 ≡ place = omega arith in
-    let len : place - 2 < length (columns_of r) = grind (arith, common_steps) in
-    (len, later_field r (place - 2) ∙ ap (λ k. get_or r k []) back)
+-- the name at an index of a header
+name_at : (r : Record) (index : ℕ) → 2 ≤ index → index < length r → (index - 2 < length (columns_of r)) × (get_or (columns_of r) (index - 2) [] ≡ get_or r index [])
+name_at r index low h =
+    let back : index - 2 + 2 ≡ index = omega arith in
+    let len : index - 2 < length (columns_of r) = grind (arith, common_steps) in
+    (len, later_field r (index - 2) ∙ ap (λ k. get_or r k []) back)
 
 -- a column that stands among those before it
-pub column_repeats : (r : Record) (place : ℕ) (names : List (Bor (List ℕ))) (name : List ℕ) → 2 ≤ place → place < length r → map (λ s. s.now) names ≡ take (place - 2) (columns_of r)
-    → get_or r place [] ≡ name → list_any (λ other. bytes_eq other.now name) names ≡ true
-    → bad_column (place + 1) (take (place - 2) (columns_of r)) (drop (place - 2) (columns_of r)) ≡ Some (place + 1)
-column_repeats r place names name low h seen is among =
-    let at = name_at r place low h in
-    let a : is_among (take (place - 2) (columns_of r)) (get_or (columns_of r) (place - 2) []) ≡ true = rw (at.1, is, ← seen, among_map names name) among in
-    let step = bad_column_step (place + 1) (place - 2) (take (place - 2) (columns_of r)) (columns_of r) at.0 in
+pub column_repeats : (r : Record) (index : ℕ) (names : List (Bor (List ℕ))) (name : List ℕ) → 2 ≤ index → index < length r → map (λ s. s.now) names ≡ take (index - 2) (columns_of r)
+    → get_or r index [] ≡ name → list_any (λ other. bytes_eq other.now name) names ≡ true
+    → bad_column (index + 1) (take (index - 2) (columns_of r)) (drop (index - 2) (columns_of r)) ≡ Some (index + 1)
+column_repeats r index names name low h seen is among =
+    let at = name_at r index low h in
+    let a : is_among (take (index - 2) (columns_of r)) (get_or (columns_of r) (index - 2) []) ≡ true = rw (at.1, is, ← seen, among_map names name) among in
+    let step = bad_column_step (index + 1) (index - 2) (take (index - 2) (columns_of r)) (columns_of r) at.0 in
     grind (arith, common_steps, step, a)
 
 -- one that doesn't
-pub column_is_new : (r : Record) (place : ℕ) (names : List (Bor (List ℕ))) (name : List ℕ) → 2 ≤ place → place < length r → place ≢ 18 → map (λ s. s.now) names ≡ take (place - 2) (columns_of r)
-    → get_or r place [] ≡ name → list_any (λ other. bytes_eq other.now name) names ≡ false
-    → (take (place + 1 - 2) (columns_of r) ≡ take (place - 2) (columns_of r) ++ name ∷ [])
-    × (bad_column (place + 1) (take (place - 2) (columns_of r)) (drop (place - 2) (columns_of r)) ≡ bad_column (place + 1 + 1) (take (place + 1 - 2) (columns_of r)) (drop (place + 1 - 2) (columns_of r)))
-column_is_new r place names name low h few seen is among =
-    let at = name_at r place low h in
-    let a : is_among (take (place - 2) (columns_of r)) (get_or (columns_of r) (place - 2) []) ≡ false = rw (at.1, is, ← seen, among_map names name) among in
-    let n : ((place + 1) == 19) ≡ false = grind arith in
-    let step = bad_column_step (place + 1) (place - 2) (take (place - 2) (columns_of r)) (columns_of r) at.0 in
-    let next : place + 1 - 2 ≡ place - 2 + 1 = omega arith in
-    let more : take (place - 2 + 1) (columns_of r) ≡ take (place - 2) (columns_of r) ++ get_or (columns_of r) (place - 2) [] ∷ [] = take_more (columns_of r) (place - 2) [] at.0 in
+pub column_is_new : (r : Record) (index : ℕ) (names : List (Bor (List ℕ))) (name : List ℕ) → 2 ≤ index → index < length r → index ≢ 18 → map (λ s. s.now) names ≡ take (index - 2) (columns_of r)
+    → get_or r index [] ≡ name → list_any (λ other. bytes_eq other.now name) names ≡ false
+    → (take (index + 1 - 2) (columns_of r) ≡ take (index - 2) (columns_of r) ++ name ∷ [])
+    × (bad_column (index + 1) (take (index - 2) (columns_of r)) (drop (index - 2) (columns_of r)) ≡ bad_column (index + 1 + 1) (take (index + 1 - 2) (columns_of r)) (drop (index + 1 - 2) (columns_of r)))
+column_is_new r index names name low h few seen is among =
+    let at = name_at r index low h in
+    let a : is_among (take (index - 2) (columns_of r)) (get_or (columns_of r) (index - 2) []) ≡ false = rw (at.1, is, ← seen, among_map names name) among in
+    let n : ((index + 1) == 19) ≡ false = grind arith in
+    let step = bad_column_step (index + 1) (index - 2) (take (index - 2) (columns_of r)) (columns_of r) at.0 in
+    let next : index + 1 - 2 ≡ index - 2 + 1 = omega arith in
+    let more : take (index - 2 + 1) (columns_of r) ≡ take (index - 2) (columns_of r) ++ get_or (columns_of r) (index - 2) [] ∷ [] = take_more (columns_of r) (index - 2) [] at.0 in
     (rw (next, more, at.1, is) refl, step ∙ rw (n, a, next, more) refl)
 
 -- all columns were gone over
-pub columns_done : (r : Record) (place : ℕ) → length r ≤ place → (take (place - 2) (columns_of r) ≡ columns_of r) × (drop (place - 2) (columns_of r) ≡ [])
-columns_done r place h =
-    let size : length (columns_of r) ≤ place - 2 = grind (arith, common_steps) in
-    (take_all (place - 2) (columns_of r) size, drop_all (place - 2) (columns_of r) size)
+pub columns_done : (r : Record) (index : ℕ) → length r ≤ index → (take (index - 2) (columns_of r) ≡ columns_of r) × (drop (index - 2) (columns_of r) ≡ [])
+columns_done r index h =
+    let size : length (columns_of r) ≤ index - 2 = grind (arith, common_steps) in
+    (take_all (index - 2) (columns_of r) size, drop_all (index - 2) (columns_of r) size)

@@ -9,9 +9,9 @@ use Rattle.mq_trace.specs.Records.{Record}
 abbrev pub is_among : List (List ℕ) → List ℕ → Bool
 is_among names name = list_any (λ other. bytes_eq other name) names
 
--- the field at a place of a record, from 0
+-- the field at an index of a record, from 0
 abbrev pub field_of : Record → ℕ → List ℕ
-field_of r place = get_or r place []
+field_of r index = get_or r index []
 
 -- the columns of a header stand behind `source` and `time`
 abbrev pub columns_of : Record → List (List ℕ)

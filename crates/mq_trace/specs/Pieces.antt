@@ -47,7 +47,7 @@ behind before (UnknownSource row) = if_allowed (before + row) (UnknownSource (be
 behind before (BadNumber row field) = if_allowed (before + row) (BadNumber (before + row) field)
 behind before Memory = Memory
 
--- each list gained those of the same place
+-- each list gained those of the same index
 pub record Gains (old new more : List (List ℕ)) : Type 0 where
   pub len : length new ≡ length old
   pub each : (k : ℕ) → k < length old → get_or new k [] ≡ get_or old k [] ++ get_or more k []

@@ -14,13 +14,13 @@ pub record IsHeaderOf (net : Network) (h : Header) : Type 0 where
   pub most : length (fields_of h.names) ≤ 18
   pub complete : missing_column net (fields_of h.names) ≡ None
   pub reads : h.reads.items ≡ map (λ name. is_among net.columns name) (columns_of (fields_of h.names))
-  pub places : h.places.items ≡ map (λ name. position_or_len (λ other. bytes_eq other name) (columns_of (fields_of h.names))) net.columns
+  pub indices : h.indices.items ≡ map (λ name. position_or_len (λ other. bytes_eq other name) (columns_of (fields_of h.names))) net.columns
 
--- the places of these columns hold the numbers of a record, where the column is read
+-- the indices of these columns hold the numbers of a record, where the column is read
 abbrev pub HoldsValues : List Bool → List ℕ → Record → Type 0
-HoldsValues reads values r = (place : ℕ) → place < length reads → get_or reads place false ≡ true → get_or values place 0 ≡ digits_value 10 (field_of r (place + 2))
+HoldsValues reads values r = (index : ℕ) → index < length reads → get_or reads index false ≡ true → get_or values index 0 ≡ digits_value 10 (field_of r (index + 2))
 
--- each list gained the value at its place
-pub record Pushes (old new : List (List ℕ)) (places values : List ℕ) : Type 0 where
+-- each list gained the value at its index
+pub record Pushes (old new : List (List ℕ)) (indices values : List ℕ) : Type 0 where
   pub len : length new ≡ length old
-  pub each : (k : ℕ) → k < length old → get_or new k [] ≡ get_or old k [] ++ get_or values (get_or places k 0) 0 ∷ []
+  pub each : (k : ℕ) → k < length old → get_or new k [] ≡ get_or old k [] ++ get_or values (get_or indices k 0) 0 ∷ []

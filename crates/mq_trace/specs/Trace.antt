@@ -44,16 +44,16 @@ unfoldable pub rows_fault : Network → Record → ℕ → List Record → Optio
 rows_fault net header row [] = None
 rows_fault net header row (r ∷ rs) = option_or (row_fault net header row r) (rows_fault net header (row + 1) rs)
 
--- the place of a column's field
-abbrev pub place_of : Record → List ℕ → ℕ
-place_of header name = position_or_len (λ other. bytes_eq other name) (columns_of header) + 2
+-- the index of a column's field
+abbrev pub index_of : Record → List ℕ → ℕ
+index_of header name = position_or_len (λ other. bytes_eq other name) (columns_of header) + 2
 
--- the rows of data records: one place each, by the order of the records
+-- the rows of data records: one index each, by the order of the records
 abbrev pub rows_of : Network → Record → List Record → Rows
 rows_of net header rs = record {
   source = map (λ r. unwrap_or (source_named net (field_of r 0)) 0) rs;
   time = map (λ r. digits_value 10 (field_of r 1)) rs;
-  demands = map (λ name. map (λ r. digits_value 10 (field_of r (place_of header name))) rs) net.columns;
+  demands = map (λ name. map (λ r. digits_value 10 (field_of r (index_of header name))) rs) net.columns;
 }
 
 -- the records of a text, less one byte order mark, as `csv` defines them

@@ -54,7 +54,7 @@ impl<'a> Pieces for TracePieces<'a> {
 
     ghost fit = { λ s. Unit {0} };
 
-    ghost places = { λ s. length s.pieces.now };
+    ghost size = { λ s. length s.pieces.now };
 
     ghost is_piece = { λ s b p. Reads s.net.now (fields_of s.header.now.names) (piece_data b (get_or (map (λ t. t.now) s.pieces.now) b [])) p };
 

@@ -21,8 +21,8 @@ pub struct Header {
     pub names: ByteRecord,
     /// Of each column behind the time, whether the model names it.
     pub reads: Vec<bool>,
-    /// Of each column of the model, its place behind the time.
-    pub places: Vec<usize>,
+    /// Of each column of the model, its index behind the time.
+    pub indices: Vec<usize>,
 }
 
 /// Whether one of these names is this one.
@@ -40,7 +40,7 @@ fn is_seen(names: &[&[u8]], name: &[u8]) -> bool
 }
 
 /// Where a name stands among these, if it does.
-fn place_among(names: &[&[u8]], name: &[u8]) -> Option<usize>
+fn index_among(names: &[&[u8]], name: &[u8]) -> Option<usize>
     ensures { result ≡ position (λ other. bytes_eq other.now name.now) names.now }
 {
     names.iter().position(|other| *other == name)
@@ -66,16 +66,16 @@ fn read_columns<'a>(alloc: Global, row: &'a ByteRecord) -> Result<Vec<&'a [u8]>,
         return Err(TraceFault::BadHeader { field: 2 });
     }
     let mut columns = Vec::new(alloc);
-    for place in 2..row.len() {
-        let Some(name) = row.get(place) else {
+    for index in 2..row.len() {
+        let Some(name) = row.get(index) else {
             unreachable!()
         };
-        if place == 18 {
+        if index == 18 {
             return Err(TraceFault::BadHeader { field: 19 });
         }
         if is_seen(columns.as_slice(), name) {
             return Err(TraceFault::BadHeader {
-                field: place as u32 + 1,
+                field: index as u32 + 1,
             });
         }
         columns.push(name)?;
@@ -100,13 +100,13 @@ pub fn read_header(alloc: Global, names: ByteRecord, net: &Network) -> Result<He
     ensures err { IfErr result (λ e. Tells e (header_fault net.now (fields_of names))) }
 {
     let columns = read_columns(alloc, &names)?;
-    let mut places = Vec::new(alloc);
+    let mut indices = Vec::new(alloc);
     let mut column = 0u32;
     for name in net.columns.as_slice() {
-        let Some(place) = place_among(columns.as_slice(), name.as_slice()) else {
+        let Some(index) = index_among(columns.as_slice(), name.as_slice()) else {
             return Err(TraceFault::MissingColumn { column });
         };
-        places.push(place)?;
+        indices.push(index)?;
         column += 1;
     }
     let reads = listed(alloc, net.columns.as_slice(), columns.as_slice())?;
@@ -114,6 +114,6 @@ pub fn read_header(alloc: Global, names: ByteRecord, net: &Network) -> Result<He
     Ok(Header {
         names,
         reads,
-        places,
+        indices,
     })
 }

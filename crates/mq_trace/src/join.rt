@@ -34,7 +34,7 @@ fn fault_behind(before: u32, fault: TraceFault) -> TraceFault
     }
 }
 
-/// Each list gains the items of the list at its place.
+/// Each list gains the items of the list at its index.
 fn extend_each(lists: &mut [List<u64>], more: &[List<u64>]) -> Result<(), OutOfMemory>
     requires { length lists.old ≡ length more.now }
     ensures { OnOk result (Gains lists.old lists.new more.now) }

@@ -15,14 +15,14 @@ fn is_quoted(text: &[u8]) -> bool
     memchr(b'"', text).is_some()
 }
 
-/// The place of the first line feed from a place on, or the end.
+/// The index of the first line feed from an index on, or the end.
 fn line_from(text: &[u8], from: usize) -> usize
     requires { from ≤ length text.now }
     ensures within { result ≤ length text.now }
     ensures feed { (result ≡ length text.now) ⊎ (get_or text.now result 0 ≡ 10) }
 {
     match memchr(b'\n', &text[from..]) {
-        Some(place) => from + place,
+        Some(index) => from + index,
         None => text.len(),
     }
 }

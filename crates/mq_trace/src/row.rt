@@ -33,7 +33,7 @@ fn find_source(net: &Network, name: &[u8]) -> Option<usize>
 }
 
 #[tactic(auto, using(crate::proofs::TraceFacts::value_steps))]
-/// Puts the numbers that the model reads in their places, or answers the number of the least field that is none.
+/// Puts the numbers that the model reads at their indices, or answers the number of the least field that is none.
 fn read_values(row: &ByteRecord, net: &Network, header: &Header, values: &mut [u64]) -> Option<u32>
     requires header { IsHeaderOf net.now header.now }
     requires len { length (fields_of row.now) ≡ length (fields_of header.now.names) }
@@ -41,15 +41,15 @@ fn read_values(row: &ByteRecord, net: &Network, header: &Header, values: &mut [u
     ensures fault { result ≡ bad_value net.now 3 (columns_of (fields_of header.now.names)) (drop 2 (fields_of row.now)) }
     ensures values { result ≡ None → HoldsValues header.now.reads.items values.new (fields_of row.now) }
 {
-    for (place, reads) in header.reads.as_slice().iter().enumerate() {
+    for (index, reads) in header.reads.as_slice().iter().enumerate() {
         if *reads {
-            let Some(text) = row.get(place + 2) else {
+            let Some(text) = row.get(index + 2) else {
                 unreachable!()
             };
             let Some(value) = read_number(text, 1 << 36) else {
-                return Some(place as u32 + 3);
+                return Some(index as u32 + 3);
             };
-            values[place] = value;
+            values[index] = value;
         }
     }
     None

@@ -45,15 +45,19 @@ pub fn empty_lists(
     Ok(lists)
 }
 
-/// Each list gains the value at its place.
-fn push_values(lists: &mut [List<u64>], places: &[usize], values: &[u64]) -> Result<(), OutOfMemory>
-    requires same { length lists.old ≡ length places.now }
-    requires places { (k : ℕ) → k < length places.now → get_or places.now k 0 < length values.now }
-    ensures { OnOk result (Pushes lists.old lists.new places.now values.now) }
+/// Each list gains the value at its index.
+fn push_values(
+    lists: &mut [List<u64>],
+    indices: &[usize],
+    values: &[u64],
+) -> Result<(), OutOfMemory>
+    requires same { length lists.old ≡ length indices.now }
+    requires indices { (k : ℕ) → k < length indices.now → get_or indices.now k 0 < length values.now }
+    ensures { OnOk result (Pushes lists.old lists.new indices.now values.now) }
 {
-    for (k, place) in places.iter().enumerate() {
+    for (k, index) in indices.iter().enumerate() {
         let list = &mut lists[k];
-        list.push(values[*place])?;
+        list.push(values[*index])?;
     }
     Ok(())
 }
@@ -87,7 +91,7 @@ pub fn read_rows(
         let (node, at) = read_row(&row, number, net, header, &mut values)?;
         source.push(node)?;
         time.push(at)?;
-        push_values(demands.as_mut_slice(), header.places.as_slice(), &values)?;
+        push_values(demands.as_mut_slice(), header.indices.as_slice(), &values)?;
     }
     unreachable!()
 }

@@ -1,4 +1,4 @@
--- The items from a place up to another.
+-- The items from an index up to another.
 use Rattle.std.proofs.Common.{◌≡◌, ℕ, ◌+◌, ◌-◌, ◌≤◌, List, ◌++◌, length, length-drop, drop, take, sym, ap, ◌∙◌, arith}
 use Rattle.std.proofs.Math.Seq.{take-add}
 use Rattle.std.proofs.lemmas.List.{drop-drop, length-take-le}
@@ -16,6 +16,6 @@ between-join items from middle to l k =
     ap (λ rest. between from middle items ++ take (to - middle) rest) (sym (drop-drop (middle - from) from items ∙ ap (λ n. drop n items) start))
     ∙ (sym (take-add (middle - from) (to - middle) (drop from items)) ∙ ap (λ n. take n (drop from items)) many)
 
--- the part of all places is the list
+-- the part of all indices is the list
 pub between-all : {X : Type 0} (items : List X) (n : ℕ) → length items ≡ n → between 0 n items ≡ items
 between-all items n h = let e : n - 0 ≡ n = omega arith in ap (λ m. take m items) e ∙ take-all items n (omega arith)

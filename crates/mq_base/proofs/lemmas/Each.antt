@@ -106,7 +106,7 @@ filter-cong a b h (x ∷ xs) = rw (h x) (ap (λ l. cond (b x) (x ∷ l) l) (filt
 pub filter-swap : {X : Type 0} (a b : X → Bool) (xs : List X) → filter a (filter b xs) ≡ filter b (filter a xs)
 filter-swap a b xs = sym (filter-and b a xs) ∙ (filter-cong _ _ (λ x. and_comm' (b x) (a x)) xs ∙ filter-and a b xs)
 
--- a number that is at most each is at most the one at a place
+-- a number that is at most each is at most the one at an index
 pub first-least : (t : ℕ) (ts : List ℕ) (i : ℕ) → Each (λ x. t ≤ x) ts → i < length ts → t ≤ get_or ts i 0
 first-least t [] i h l = absurd (omega arith)
 first-least t (x ∷ ts) zero h l = h.0

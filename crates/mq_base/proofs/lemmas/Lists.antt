@@ -1,4 +1,4 @@
--- Lists by place: what is left from a place on, first parts, an item more at the end.
+-- Lists by index: what is left from an index on, first parts, an item more at the end.
 use Rattle.std.proofs.Common.{◌≡◌, ℕ, zero, suc, ◌+◌, ◌<◌, ◌≤◌, List, [], ◌∷◌, ◌++◌, drop, length, map, take, Some, refl, ap, ◌∙◌, arith, sym}
 use Rattle.std.proofs.lemmas.List.Sums.{sum_by-cons}
 use Rattle.std.specs.List.{Contains}
@@ -7,7 +7,7 @@ use Rattle.std.specs.Prelude.{slice_get, sum}
 pub some_inj : {A : Type 0} (a b : A) → Some a ≡ Some b → a ≡ b
 some_inj a b h = cc
 
--- what is left from a place on begins with the item there
+-- what is left from an index on begins with the item there
 pub drop_suc : {X : Type 0} (xs : List X) (i : ℕ) (x : X) → slice_get xs i ≡ Some x → drop i xs ≡ x ∷ drop (suc i) xs
 drop_suc [] i x h = absurd cc
 drop_suc (y ∷ ys) zero x h = ap (λ z. z ∷ ys) (some_inj y x h)

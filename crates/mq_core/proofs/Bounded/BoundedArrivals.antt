@@ -2,7 +2,7 @@
 use Rattle.std.proofs.Common.{◌≡◌, ℕ, zero, suc, ◌≤◌, Bool, true, false, cond, eqb, ltb, List, [], ◌∷◌, ◌++◌, map, length, Some, refl, ap, arith}
 use Rattle.std.specs.Prelude.{slice_get}
 use Rattle.std.specs.List.{AllByRecursion as Each, flat_map, zip}
-use Rattle.mq_core.specs.Columns.{rows_at}
+use Rattle.mq_core.specs.Sequences.{rows_at}
 use Rattle.mq_core.specs.Laws.{insert_by}
 use Rattle.mq_core.specs.Streams.{by_first}
 use Rattle.mq_core.specs.declared.model.Input.{Input}

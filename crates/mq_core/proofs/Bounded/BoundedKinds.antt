@@ -2,8 +2,8 @@
 use Rattle.mq_core.specs.Came.{Came}
 use Rattle.std.proofs.Common.{Bool, List, [], cond, eqb, false, length, true, ℕ, ◌*◌, ◌+◌, ◌^◌, ◌∷◌, ◌≡◌, ◌≤◌, subst, sym}
 use Rattle.std.specs.List.{AllByRecursion as Each}
-use Rattle.mq_core.specs.ColumnLaws.{KeepsItems}
-use Rattle.mq_core.specs.Columns.{column_fates, column_outs, column_stream}
+use Rattle.mq_core.specs.SequenceLaws.{KeepsItems}
+use Rattle.mq_core.specs.Sequences.{sequence_fates, sequence_outs, sequence_stream}
 use Rattle.mq_core.specs.OnceOut.{leaving_times}
 use Rattle.mq_core.specs.PlanLaws.{Tells}
 use Rattle.mq_core.specs.Results.{servers_in}
@@ -20,7 +20,7 @@ use Rattle.mq_core.proofs.EachKind.LawTable.{recurrence_of}
 
 -- a node in its limits whose jobs come by a time: each job adds at most the demands of 8 servers
 pub fates-by : (net : Network) (rows : Rows) (kind : Kind) (came : Came) (limit top : ℕ) → is_sound_kind (length net.columns) kind ≡ true → servers_in kind ≤ 8 → Each (λ job. Tells net rows job) came.job → top + length came.arrive * 2 ^ 39 ≤ limit → AreBy top came.arrive →
-    LeaveBy limit (column_fates rows kind came)
+    LeaveBy limit (sequence_fates rows kind came)
 fates-by net rows kind came limit top sound few told room early = (recurrence_of rows came.ports kind).bounded net came limit top sound few told room early
 
 leaving-by : (limit : ℕ) (arrives : List ℕ) (fates : List Fate) → AreBy limit arrives → LeaveBy limit fates → AreBy limit (leaving_times arrives fates)
@@ -39,10 +39,10 @@ picked-by limit out (o ∷ outs) (time ∷ times) h = go (eqb o out) (picked-by 
     go false k = k
 
 -- what leaves by an output, a lost job as it came
-pub stream-by : (rows : Rows) (kind : Kind) (came : Came) (limit out : ℕ) → ((stream : Stream) → KeepsItems kind stream) → AreBy limit came.arrive → LeaveBy limit (column_fates rows kind came) → AreBy limit (column_stream rows kind came out).time
+pub stream-by : (rows : Rows) (kind : Kind) (came : Came) (limit out : ℕ) → ((stream : Stream) → KeepsItems kind stream) → AreBy limit came.arrive → LeaveBy limit (sequence_fates rows kind came) → AreBy limit (sequence_stream rows kind came out).time
 stream-by rows kind came limit out keeps a f =
-    let outs = column_outs rows kind came in
-    let times = leaving_times came.arrive (column_fates rows kind came) in
+    let outs = sequence_outs rows kind came in
+    let times = leaving_times came.arrive (sequence_fates rows kind came) in
     subst (λ (s : Stream). AreBy limit s.time) (sym ((recurrence_of rows came.ports kind).streams came out))
     ((keeps (record { job = picked out outs came.job; time = picked out outs times })).times limit
-    (picked-by limit out outs times (leaving-by limit came.arrive (column_fates rows kind came) a f)))
+    (picked-by limit out outs times (leaving-by limit came.arrive (sequence_fates rows kind came) a f)))

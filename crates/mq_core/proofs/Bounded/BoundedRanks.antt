@@ -8,8 +8,8 @@ use Rattle.std.proofs.lemmas.List.Elements.{recursion_from_All}
 use Rattle.std.specs.Option.{option_to_list}
 use Rattle.std.specs.Prelude.{◌||◌, slice_get}
 use Rattle.std.specs.List.{AllByRecursion as Each, zip}
-use Rattle.mq_core.specs.ColumnLaws.{ArrivalsAreStreams, JobsAreRows, NodesAreColumns, OrdersKeepItems, VisitsAreFew, arrives_of, jobs_of}
-use Rattle.mq_core.specs.Columns.{column_fates, column_late, column_late_from}
+use Rattle.mq_core.specs.SequenceLaws.{ArrivalsAreStreams, JobsAreRows, NodesAreSequences, OrdersKeepItems, VisitsAreFew, arrives_of, jobs_of}
+use Rattle.mq_core.specs.Sequences.{sequence_fates, sequence_late, sequence_late_from}
 use Rattle.mq_core.specs.Local.{Local}
 use Rattle.mq_core.specs.Machine.{Station, Visit}
 use Rattle.mq_core.specs.NetworkRun.{RunsAreOfNetworks}
@@ -34,9 +34,9 @@ use Rattle.mq_core.proofs.Bounded.BoundedKinds.{fates-by, stream-by}
 
 -- where a node stands among the first so many
 record IsAt (order : List ℕ) (rank node : ℕ) : Type 0 where
-  place : ℕ
-  before : place < rank
-  at : slice_get order place ≡ Some node
+  index : ℕ
+  before : index < rank
+  at : slice_get order index ≡ Some node
 
 has-at : (order : List ℕ) (rank node : ℕ) → has (take rank order) node ≡ true → IsAt order rank node
 has-at [] zero node h = absurd cc
@@ -45,8 +45,8 @@ has-at (v ∷ order) zero node h = absurd cc
 has-at (v ∷ order) (suc rank) node h = go (eqb v node) refl h (has-at order rank node)
   where
     go : (b : Bool) → eqb v node ≡ b → (b || has (take rank order) node) ≡ true → (has (take rank order) node ≡ true → IsAt order rank node) → IsAt (v ∷ order) (suc rank) node
-    go true e k ih = record { place = 0; before = omega arith; at = ap Some (eqb-true v node e) }
-    go false e k ih = let i = ih k in record { place = suc i.place; before = let l = i.before in omega arith; at = i.at }
+    go true e k ih = record { index = 0; before = omega arith; at = ap Some (eqb-true v node e) }
+    go false e k ih = let i = ih k in record { index = suc i.index; before = let l = i.before in omega arith; at = i.at }
 
 -- a ranking has no more nodes than there are
 ranked-few : (count : ℕ) (nodes : List Node) (ranked : List ℕ) → length (ranked_after count nodes ranked) ≤ length ranked + count
@@ -73,7 +73,7 @@ leave-later limit later l fates h = Each-weaker (LeavesBy limit) (LeavesBy later
     go (Departs time) k = omega arith
     go Lost k = tt
 
-none-late : (bound node position : ℕ) (fates : List Fate) → LeaveBy bound fates → first_of (column_late_from bound node position fates) ≡ None
+none-late : (bound node position : ℕ) (fates : List Fate) → LeaveBy bound fates → first_of (sequence_late_from bound node position fates) ≡ None
 none-late bound node position [] h = refl
 none-late bound node position (Lost ∷ fates) h = none-late bound node (suc position) fates h.1
 none-late bound node position (Departs time ∷ fates) h = rw (le-ltb bound time h.0) (none-late bound node (suc position) fates h.1)
@@ -81,7 +81,7 @@ none-late bound node position (Departs time ∷ fates) h = rw (le-ltb bound time
 -- the laws of runs that the bound rests on
 pub record RunLaws : Type 0 where
   pub arrivals : ArrivalsAreStreams
-  pub columns : NodesAreColumns
+  pub sequences : NodesAreSequences
   pub demands : RowsTellDemands
   pub few : VisitsAreFew
   pub jobs : JobsAreRows
@@ -107,13 +107,13 @@ module _ (laws : RunLaws) (plan : Plan) (rows : Rows) (read : IsReadFor plan.net
 
   -- the jobs leave a node, and pass its outputs, by this time
   record IsBy (v : ℕ) (node : Node) (limit : ℕ) : Type 0 where
-    fates : LeaveBy limit (column_fates rows node.kind (came_of (length node.inputs) (station v).visits))
+    fates : LeaveBy limit (sequence_fates rows node.kind (came_of (length node.inputs) (station v).visits))
     streams : (out : ℕ) → AreBy limit (stream_from (station v) out).time
 
   by-weaker : (v : ℕ) (node : Node) (limit later : ℕ) → limit ≤ later → IsBy v node limit → IsBy v node later
   by-weaker v node limit later l h =
       record {
-        fates = leave-later limit later l (column_fates rows node.kind (came_of (length node.inputs) (station v).visits)) h.fates;
+        fates = leave-later limit later l (sequence_fates rows node.kind (came_of (length node.inputs) (station v).visits)) h.fates;
         streams = λ out. by-later limit later (stream_from (station v) out).time l (h.streams out);
       }
 
@@ -123,14 +123,14 @@ module _ (laws : RunLaws) (plan : Plan) (rows : Rows) (read : IsReadFor plan.net
       record {
         fates = fates;
         streams = λ out.
-            subst (λ (s : Stream). AreBy limit s.time) (sym ((laws.columns plan rows read v node here).stream out))
+            subst (λ (s : Stream). AreBy limit s.time) (sym ((laws.sequences plan rows read v node here).stream out))
             (stream-by rows node.kind (came_of (length node.inputs) (station v).visits) limit out (laws.keeps node.kind) (by-later top limit (arrives_at v) (omega arith) came) fates);
       }
     where
       told : Each (λ job. Tells plan.net rows job) (jobs_at v)
       told = Each-weaker (λ job. job < length rows.time) (Tells plan.net rows) (λ job l. laws.demands plan.net rows read job (subst (λ n. job < n) read.times l)) (jobs_at v) (laws.jobs plan rows v)
 
-      fates : LeaveBy limit (column_fates rows node.kind (came_of (length node.inputs) (station v).visits))
+      fates : LeaveBy limit (sequence_fates rows node.kind (came_of (length node.inputs) (station v).visits))
       fates =
           let sound = laws.limits plan v node here in
           let few = laws.few plan rows read v in
@@ -143,15 +143,15 @@ module _ (laws : RunLaws) (plan : Plan) (rows : Rows) (read : IsReadFor plan.net
   -- what the nodes of lower ranks let out, comes to a node of this rank
   arrives-by : (rank v : ℕ) (node : Node) (top : ℕ) → last ≤ top → slice_get plan.order rank ≡ Some v → slice_get plan.net.nodes v ≡ Some node →
       ((r u : ℕ) (n : Node) → r < rank → slice_get plan.order r ≡ Some u → slice_get plan.net.nodes u ≡ Some n → IsBy u n top) → AreBy top (arrives_at v)
-  arrives-by rank v node top l place here before = from-zip top (arrives_at v) (jobs_at v) (even v) (go (cases_Bool (is_source_kind node.kind)))
+  arrives-by rank v node top l index here before = from-zip top (arrives_at v) (jobs_at v) (even v) (go (cases_Bool (is_source_kind node.kind)))
     where
       read-by : (port : ℕ) (input : Input) → slice_get node.inputs port ≡ Some input → PairsBy top (pairs_of (stream_from (station input.node) input.out))
       read-by port input e =
           let names = (laws.limits plan v node here).reads port input e in
-          let reads = (laws.ranks plan rank v place).reads port (input.node, input.out) (ap (λ o. slice_get (outputs_read o) port) here ∙ read-at node.inputs port input e) in
+          let reads = (laws.ranks plan rank v index).reads port (input.node, input.out) (ap (λ o. slice_get (outputs_read o) port) here ∙ read-at node.inputs port input e) in
           let at = has-at plan.order rank input.node reads in
           let stream = stream_from (station input.node) input.out in
-          zip-by top stream.time stream.job ((before at.place input.node names.node at.before at.at names.there).streams input.out)
+          zip-by top stream.time stream.job ((before at.index input.node names.node at.before at.at names.there).streams input.out)
 
       go : (is_source_kind node.kind ≡ true) ⊎ (is_source_kind node.kind ≡ false) → PairsBy top (zip (arrives_at v) (jobs_at v))
       go (inl source) =
@@ -166,25 +166,25 @@ module _ (laws : RunLaws) (plan : Plan) (rows : Rows) (read : IsReadFor plan.net
   RanksBy rank = (r v : ℕ) (node : Node) → r < rank → slice_get plan.order r ≡ Some v → slice_get plan.net.nodes v ≡ Some node → IsBy v node (last + rank * added)
 
   ranks-by : (rank : ℕ) → RanksBy rank
-  ranks-by zero r v node l place here = absurd (omega arith)
-  ranks-by (suc rank) r v node l place here = go (cases_lt r rank) (ranks-by rank)
+  ranks-by zero r v node l index here = absurd (omega arith)
+  ranks-by (suc rank) r v node l index here = go (cases_lt r rank) (ranks-by rank)
     where
       go : (r < rank) ⊎ (rank ≤ r) → RanksBy rank → IsBy v node (last + suc rank * added)
-      go (inl k) before = by-weaker v node (last + rank * added) (last + suc rank * added) (omega arith) (before r v node k place here)
+      go (inl k) before = by-weaker v node (last + rank * added) (last + suc rank * added) (omega arith) (before r v node k index here)
       go (inr k) before =
           let same : r ≡ rank = omega arith in
           node-by v node (last + suc rank * added) (last + rank * added) here (omega arith)
-          (arrives-by rank v node (last + rank * added) (omega arith) (subst (λ n. slice_get plan.order n ≡ Some v) same place) here before)
+          (arrives-by rank v node (last + rank * added) (omega arith) (subst (λ n. slice_get plan.order n ≡ Some v) same index) here before)
 
   wide : (ranks nodes add : ℕ) → ranks ≤ nodes → ranks * add ≤ nodes * add
   wide ranks nodes add l = grind arith
 
   on-time : last + length plan.net.nodes * added ≤ plan.net.bound → IsOnTimeBelow plan rows (length plan.order)
-  on-time room r v node l place here =
+  on-time room r v node l index here =
       let few = wide (length plan.order) (length plan.net.nodes) added (order-few plan) in
-      let by = by-weaker v node (last + length plan.order * added) plan.net.bound (omega arith) (ranks-by (length plan.order) r v node l place here) in
-      ap (λ visits. first_of (column_late plan.net.bound v visits)) (laws.columns plan rows read v node here).visits
-      ∙ none-late plan.net.bound v 0 (column_fates rows node.kind (came_of (length node.inputs) (station v).visits)) by.fates
+      let by = by-weaker v node (last + length plan.order * added) plan.net.bound (omega arith) (ranks-by (length plan.order) r v node l index here) in
+      ap (λ visits. first_of (sequence_late plan.net.bound v visits)) (laws.sequences plan rows read v node here).visits
+      ∙ none-late plan.net.bound v 0 (sequence_fates rows node.kind (came_of (length node.inputs) (station v).visits)) by.fates
 
 pub departures-bounded : RunLaws → DeparturesAreBounded
 departures-bounded laws plan rows last read early room =

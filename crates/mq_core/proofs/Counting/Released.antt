@@ -1,7 +1,7 @@
 -- How much a single release lets out.
 use Rattle.std.proofs.Common.{Bool, List, None, Option, Some, [], arith, cond, eqb, eqb-true, false, length, length-append, refl, subst, suc, sym, true, zero, ℕ, ◌*◌, ◌++◌, ◌∷◌, ◌≡◌, ◌≤◌}
 use Rattle.std.specs.Prelude.{slice_get}
-use Rattle.mq_core.specs.Handling.{joins}
+use Rattle.mq_core.specs.Handling.{queues_up}
 use Rattle.mq_core.specs.Local.{Local}
 use Rattle.mq_core.specs.Machine.{Emission, Release, Visit, emission_of, emissions_of}
 use Rattle.mq_core.specs.Tallies.{emission_at}
@@ -18,13 +18,13 @@ times-one zero w h = omega arith
 times-one (suc zero) w h = omega arith
 times-one (suc (suc k)) w h = absurd (omega arith)
 
-pub joins-length : (rows : Rows) (demand : Demand) (visits : List Visit) (local : Local) (now : ℕ) (queue : List ℕ) (position : ℕ) → length (joins rows demand visits local now queue position).local.queue ≡ suc (length queue)
-joins-length rows demand visits local now [] position = refl
-joins-length rows demand visits local now (front ∷ queue) position = omega (arith, length-append queue (position ∷ []))
+pub queues_up-length : (rows : Rows) (demand : Demand) (visits : List Visit) (local : Local) (now : ℕ) (queue : List ℕ) (position : ℕ) → length (queues_up rows demand visits local now queue position).local.queue ≡ suc (length queue)
+queues_up-length rows demand visits local now [] position = refl
+queues_up-length rows demand visits local now (front ∷ queue) position = omega (arith, length-append queue (position ∷ []))
 
-pub joins-emits : (rows : Rows) (demand : Demand) (visits : List Visit) (local : Local) (now : ℕ) (queue : List ℕ) (position : ℕ) → emissions_of now visits (joins rows demand visits local now queue position).releases ≡ []
-joins-emits rows demand visits local now [] position = refl
-joins-emits rows demand visits local now (front ∷ queue) position = refl
+pub queues_up-emits : (rows : Rows) (demand : Demand) (visits : List Visit) (local : Local) (now : ℕ) (queue : List ℕ) (position : ℕ) → emissions_of now visits (queues_up rows demand visits local now queue position).releases ≡ []
+queues_up-emits rows demand visits local now [] position = refl
+queues_up-emits rows demand visits local now (front ∷ queue) position = refl
 
 -- a single release is found at its own position alone
 pub one-release : (now out p q : ℕ) (visits : List Visit) (m : Emission) → emission_at (emissions_of now visits (record { out = out; position = p } ∷ [])) q ≡ Some m → q ≡ p

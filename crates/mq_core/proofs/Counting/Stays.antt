@@ -1,11 +1,11 @@
 -- That departures are no earlier than after the bare time, and no earlier than the arrival.
 use Rattle.std.proofs.Common.{List, [], arith, length, map, ℕ, ◌∷◌, ◌≡◌, ap, suc, ◌≤◌}
 use Rattle.std.specs.List.{AllByRecursion as Each, zip}
-use Rattle.mq_core.specs.ColumnLaws.{LeavesFrom, FatesInTime}
+use Rattle.mq_core.specs.SequenceLaws.{LeavesFrom, FatesInTime}
 use Rattle.mq_core.specs.Recurrences.{delayed}
 use Rattle.mq_core.specs.declared.model.Fate.{Fate}
 use Rattle.mq_core.specs.declared.model.Fate.TheVariants.{Departs}
-use Rattle.mq_core.proofs.ForkJoin.ForkTimes.{AtLeast, fates-at_least}
+use Rattle.mq_core.proofs.ForkJoin.ForkJoinTimes.{AtLeast, fates-at_least}
 
 -- one departure a job, and none before it came and stayed its bare time
 abbrev pub Stay : (ℕ → ℕ) → List ℕ → List ℕ → List ℕ → Type 0

@@ -63,7 +63,7 @@ delay-own rows ports demand =
       exits = λ s p. refl;
       own = λ v port s now x q m e. absurd cc;
       earlier = λ rank v server position s fs rest now first h q p m e l u.
-          let place : q ≡ position = one-release now 0 position q s.visits m e in
+          let index : q ≡ position = one-release now 0 position q s.visits m e in
           delaying-earlier rows demand v rank server position s.visits s.local.scheduled s.emitted fs rest now first h p (omega arith) u;
     }
 

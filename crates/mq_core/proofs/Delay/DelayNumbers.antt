@@ -12,7 +12,7 @@ use Rattle.mq_core.specs.Tallies.{sum_below, staying, emission_at}
 use Rattle.mq_core.specs.declared.model.Demand.{Demand}
 use Rattle.mq_core.specs.declared.model.Rows.{Rows}
 use Rattle.mq_core.proofs.Events.Areas.{get-front, sum-same}
-use Rattle.mq_core.proofs.Delay.Delays.{Delaying, CameBefore, place_in, is_service, to_leave, lets-out, delaying-ends}
+use Rattle.mq_core.proofs.Delay.Delays.{Delaying, CameBefore, position_in, is_service, to_leave, lets-out, delaying-ends}
 use Rattle.mq_core.proofs.Events.Pending.{Splits, earliest-splits}
 use Rattle.mq_core.proofs.Events.Remaining.{remaining, remaining-append, remaining-waits}
 use Rattle.mq_core.proofs.Server.Serves.{latest-push}
@@ -38,28 +38,28 @@ asked rows demand visits = sum_below (length visits) (λ p. demand_at rows deman
 module _ (rows : Rows) (demand : Demand) (v : ℕ) where
   -- the number of jobs is that of the visits that haven't left
   pub delaying-number : (visits : List Visit) (scheduled : List ℕ) (emitted : List Emission) (fs : List Event) (now : ℕ) → Delaying rows demand v visits scheduled emitted fs now → length scheduled ≡ staying visits (emission_at emitted)
-  delaying-number visits scheduled emitted fs now h = ap length h.listed ∙ (length-map fs place_in ∙ sym h.number)
+  delaying-number visits scheduled emitted fs now h = ap length h.listed ∙ (length-map fs position_in ∙ sym h.number)
 
   -- a finish takes one of the scheduled positions out
   pub delaying-fewer : (rank : ℕ → ℕ) (server position : ℕ) (visits : List Visit) (scheduled : List ℕ) (emitted : List Emission) (fs rest : List Event) (now : ℕ) → earliest rank fs ≡ Some (Finish now v server position, rest) → Delaying rows demand v visits scheduled emitted fs now → length scheduled ≡ suc (length (filter (λ p. not (eqb p position)) scheduled))
   delaying-fewer rank server position visits scheduled emitted fs rest now first h =
       let after = delaying-ends rows demand rank v server position visits scheduled emitted fs rest now first h in
-      let a = ap length h.listed ∙ length-map fs place_in in
-      let b = ap length after.listed ∙ (length-map (rest ++ []) place_in ∙ ap length (append-nil rest)) in
+      let a = ap length h.listed ∙ length-map fs position_in in
+      let b = ap length after.listed ∙ (length-map (rest ++ []) position_in ∙ ap length (append-nil rest)) in
       let c = earliest-length rank fs rest _ first in
       omega arith
 
   -- a finish lets out one position
   pub delaying-emits : (rank : ℕ → ℕ) (server position : ℕ) (visits : List Visit) (scheduled : List ℕ) (emitted : List Emission) (fs rest : List Event) (now : ℕ) → earliest rank fs ≡ Some (Finish now v server position, rest) → Delaying rows demand v visits scheduled emitted fs now → emissions_of now visits (record { out = 0; position = position } ∷ []) ≡ to_leave visits (Finish now v server position) ∷ []
-  delaying-emits rank server position visits scheduled emitted fs rest now first h = lets-out visits now v server position (earliest-each (λ f. (is_service v f ≡ true) × (place_in f < length visits)) rank fs rest _ first h.inside).1
+  delaying-emits rank server position visits scheduled emitted fs rest now first h = lets-out visits now v server position (earliest-each (λ f. (is_service v f ≡ true) × (position_in f < length visits)) rank fs rest _ first h.inside).1
 
   -- which came before those that came now
   pub delaying-earlier : (rank : ℕ → ℕ) (server position : ℕ) (visits : List Visit) (scheduled : List ℕ) (emitted : List Emission) (fs rest : List Event) (now : ℕ) → earliest rank fs ≡ Some (Finish now v server position, rest) → Delaying rows demand v visits scheduled emitted fs now → CameBefore visits position now
-  delaying-earlier rank server position visits scheduled emitted fs rest now first h = earliest-each (λ f. CameBefore visits (place_in f) (time_of f)) rank fs rest _ first h.behind
+  delaying-earlier rank server position visits scheduled emitted fs rest now first h = earliest-each (λ f. CameBefore visits (position_in f) (time_of f)) rank fs rest _ first h.behind
 
   pub delaying-busy_waits : (visits : List Visit) (scheduled : List ℕ) (emitted : List Emission) (fs : List Event) (now later busy : ℕ) → now ≤ later → Each (λ f. later ≤ time_of f) fs → Delaying rows demand v visits scheduled emitted fs now → busy + remaining now fs ≡ asked rows demand visits → (busy + length scheduled * (later - now)) + remaining later fs ≡ asked rows demand visits
   delaying-busy_waits visits scheduled emitted fs now later busy l f h e =
-      let a = ap (λ n. n * (later - now)) (ap length h.listed ∙ length-map fs place_in) in
+      let a = ap (λ n. n * (later - now)) (ap length h.listed ∙ length-map fs position_in) in
       let b = remaining-waits now later fs l f in
       omega arith
 

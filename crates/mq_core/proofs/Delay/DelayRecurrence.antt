@@ -10,12 +10,12 @@ use Rattle.mq_core.specs.declared.model.Kind.TheVariants.{Delay}
 use Rattle.mq_core.specs.declared.model.Rows.{Rows}
 use Rattle.mq_core.proofs.Bounded.BoundedAsked.{asked, asked-small}
 use Rattle.mq_core.proofs.Bounded.BoundedStations.{departs-by}
-use Rattle.mq_core.proofs.Delay.DelayColumns.{delayed-by, delayed-numbered, delay-outs, delayed-fates, when-delayed}
-use Rattle.mq_core.proofs.Counting.FlowColumns.{departing-leaves}
+use Rattle.mq_core.proofs.Delay.DelaySequences.{delayed-by, delayed-numbered, delay-outs, delayed-fates, when-delayed}
+use Rattle.mq_core.proofs.Counting.FlowSequences.{departing-leaves}
 use Rattle.mq_core.proofs.Counting.Stays.{stay-fates}
 use Rattle.mq_core.proofs.EachKind.RecurrenceLaws.{RecurrenceLaws}
 use Rattle.mq_core.proofs.Events.Exits.{until-own}
-use Rattle.mq_core.proofs.ForkJoin.ForkTimes.{at_least-refl}
+use Rattle.mq_core.proofs.ForkJoin.ForkJoinTimes.{at_least-refl}
 
 pub delay-recurrence : (rows : Rows) (ports : ℕ) (demand : Demand) → RecurrenceLaws rows ports (delay demand)
 delay-recurrence rows ports demand =

@@ -6,7 +6,7 @@ use Rattle.std.proofs.lemmas.List.Elements.{filter-append}
 use Rattle.std.specs.Prelude.{filter, slice_get, not, ◌&&◌}
 use Rattle.std.specs.List.{AllByRecursion as Each}
 use Rattle.mq_base.proofs.lemmas.Each.{Each-append, Each-front, Each-back, Each-weaker, Each-both, Each-map, filter-all, filter-yes, filter-no}
-use Rattle.mq_core.specs.Event.{Event, time_of, is_sooner, place_of, earliest}
+use Rattle.mq_core.specs.Event.{Event, time_of, is_sooner, order_key, earliest}
 use Rattle.mq_core.specs.Event.Event.{Arrive, Finish}
 use Rattle.mq_core.specs.Machine.{Visit, Emission, emissions_of, emission_of}
 use Rattle.mq_core.specs.Laws.{Rises, in_order_of}
@@ -24,9 +24,9 @@ use Rattle.mq_core.proofs.Events.EmissionsAt.{unknown, found-behind, other-behin
 use Rattle.mq_core.proofs.Events.Falls.{sum_below-one}
 
 -- the position that a finish is of
-abbrev pub place_in : Event → ℕ
-place_in (Arrive time node port job) = 0
-place_in (Finish time node server position) = position
+abbrev pub position_in : Event → ℕ
+position_in (Arrive time node port job) = 0
+position_in (Finish time node server position) = position
 
 -- a finish of server 0 of a node
 abbrev pub is_service : ℕ → Event → Bool
@@ -39,24 +39,24 @@ job_in (Some visit) = visit.job
 
 -- what a pending finish will let out
 abbrev pub to_leave : List Visit → Event → Emission
-to_leave visits f = record { out = 0; position = place_in f; job = job_in (slice_get visits (place_in f)); time = time_of f }
+to_leave visits f = record { out = 0; position = position_in f; job = job_in (slice_get visits (position_in f)); time = time_of f }
 
 -- those behind this position came before this time
 abbrev pub CameBefore : List Visit → ℕ → ℕ → Type 0
-CameBefore visits place time = (p : ℕ) → place < p → p < length visits → arrival_or 0 (slice_get visits p) < time
+CameBefore visits index time = (p : ℕ) → index < p → p < length visits → arrival_or 0 (slice_get visits p) < time
 
 -- a delay between two events: who left and who is still to leave are the visits, each its demand after it came; who left did so in order of time
 pub record Delaying (rows : Rows) (demand : Demand) (v : ℕ) (visits : List Visit) (scheduled : List ℕ) (emitted : List Emission) (fs : List Event) (now : ℕ) : Type 0 where
-  pub listed : scheduled ≡ map place_in fs
-  pub rising : Rises (λ f g. place_in f < place_in g) fs
-  pub inside : Each (λ f. (is_service v f ≡ true) × (place_in f < length visits)) fs
+  pub listed : scheduled ≡ map position_in fs
+  pub rising : Rises (λ f g. position_in f < position_in g) fs
+  pub inside : Each (λ f. (is_service v f ≡ true) × (position_in f < length visits)) fs
   pub parts : (k : ℕ) → filter (λ (m : Emission). eqb m.time k) emitted ++ filter (λ (m : Emission). eqb m.time k) (map (to_leave visits) fs) ≡ filter (λ (m : Emission). eqb m.time k) (delayed_from rows demand 0 visits)
   pub ordered : Rises (λ (a b : Emission). a.time ≤ b.time) emitted
   pub before : Each (λ (m : Emission). m.time ≤ now) emitted
-  pub absent : Each (λ f. emission_at emitted (place_in f) ≡ None) fs
+  pub absent : Each (λ f. emission_at emitted (position_in f) ≡ None) fs
   pub known : Each (λ (m : Emission). m.position < length visits) emitted
   pub number : staying visits (emission_at emitted) ≡ length fs
-  pub behind : Each (λ f. CameBefore visits (place_in f) (time_of f)) fs
+  pub behind : Each (λ f. CameBefore visits (position_in f) (time_of f)) fs
 
 pub delaying-opens : (rows : Rows) (demand : Demand) (v : ℕ) → Delaying rows demand v [] [] [] [] 0
 delaying-opens rows demand v = record { listed = refl; rising = tt; inside = tt; parts = λ k. refl; ordered = tt; before = tt; absent = tt; known = tt; number = refl; behind = tt }
@@ -83,10 +83,10 @@ delayed_from-push rows demand k (y ∷ xs) x =
     (delayed_from-push rows demand (suc k) xs x ∙ ap (λ n. delayed_from rows demand (suc k) xs ++ record { out = 0; position = n; job = x.job; time = x.arrive + demand_of_job rows demand x.job } ∷ []) (omega arith))
 
 -- what is still to leave doesn't change with a later visit
-to_leave-push : (v : ℕ) (visits : List Visit) (x : Visit) (fs : List Event) → Each (λ f. (is_service v f ≡ true) × (place_in f < length visits)) fs → map (to_leave (visits ++ x ∷ [])) fs ≡ map (to_leave visits) fs
+to_leave-push : (v : ℕ) (visits : List Visit) (x : Visit) (fs : List Event) → Each (λ f. (is_service v f ≡ true) × (position_in f < length visits)) fs → map (to_leave (visits ++ x ∷ [])) fs ≡ map (to_leave visits) fs
 to_leave-push v visits x [] h = refl
 to_leave-push v visits x (f ∷ fs) h =
-    λ i. record { out = 0; position = place_in f; job = job_in (get-front (place_in f) visits (x ∷ []) h.0.1 i); time = time_of f } ∷ to_leave-push v visits x fs h.1 i
+    λ i. record { out = 0; position = position_in f; job = job_in (get-front (position_in f) visits (x ∷ []) h.0.1 i); time = time_of f } ∷ to_leave-push v visits x fs h.1 i
 
 -- an arrival at a delay
 pub delaying-arrives : (rows : Rows) (demand : Demand) (v : ℕ) (visits : List Visit) (scheduled : List ℕ) (emitted : List Emission) (fs : List Event) (now : ℕ) (x : Visit) → x.arrive ≡ now → Each (λ f. now < time_of f) fs → Delaying rows demand v visits scheduled emitted fs now →
@@ -94,9 +94,9 @@ pub delaying-arrives : (rows : Rows) (demand : Demand) (v : ℕ) (visits : List 
     (fs ++ Finish (now + demand_at rows demand (visits ++ x ∷ []) (latest (visits ++ x ∷ []))) v 0 (latest (visits ++ x ∷ [])) ∷ []) now
 delaying-arrives rows demand v visits scheduled emitted fs now x at soon h =
     record {
-      listed = ap (λ l. l ++ latest (visits ++ x ∷ []) ∷ []) h.listed ∙ sym (map-append place_in fs (new ∷ []));
-      rising = Rises-append (λ f g. place_in f < place_in g) fs (new ∷ []) h.rising (tt, tt) (Each-weaker _ _ (λ f k. (let l = k.1 in let p = place in omega arith, tt)) fs h.inside);
-      inside = Each-append _ fs (new ∷ []) (Each-weaker _ _ (λ f k. (k.0, let l = k.1 in let s = size in omega arith)) fs h.inside) ((rw (eq-eqb v v refl) refl, let p = place in let s = size in omega arith), tt);
+      listed = ap (λ l. l ++ latest (visits ++ x ∷ []) ∷ []) h.listed ∙ sym (map-append position_in fs (new ∷ []));
+      rising = Rises-append (λ f g. position_in f < position_in g) fs (new ∷ []) h.rising (tt, tt) (Each-weaker _ _ (λ f k. (let l = k.1 in let p = index in omega arith, tt)) fs h.inside);
+      inside = Each-append _ fs (new ∷ []) (Each-weaker _ _ (λ f k. (k.0, let l = k.1 in let s = size in omega arith)) fs h.inside) ((rw (eq-eqb v v refl) refl, let p = index in let s = size in omega arith), tt);
       parts = λ k.
           ap (λ l. l ++ filter (λ (m : Emission). eqb m.time k) (map (to_leave (visits ++ x ∷ [])) (fs ++ new ∷ []))) (ap (filter (λ (m : Emission). eqb m.time k)) (append-nil emitted))
           ∙ (ap (λ l. filter (λ (m : Emission). eqb m.time k) emitted ++ filter (λ (m : Emission). eqb m.time k) l) (map-append (to_leave (visits ++ x ∷ [])) fs (new ∷ []) ∙ ap (λ l. l ++ to_leave (visits ++ x ∷ []) new ∷ []) (to_leave-push v visits x fs h.inside))
@@ -108,17 +108,17 @@ delaying-arrives rows demand v visits scheduled emitted fs now x at soon h =
           ∙ ap (filter (λ (m : Emission). eqb m.time k)) (sym (delayed_from-push rows demand 0 visits x))))))));
       ordered = subst (Rises (λ (a b : Emission). a.time ≤ b.time)) (sym (append-nil emitted)) h.ordered;
       before = subst (Each (λ (m : Emission). m.time ≤ now)) (sym (append-nil emitted)) h.before;
-      absent = subst (λ l. Each (λ f. emission_at l (place_in f) ≡ None) (fs ++ new ∷ [])) (sym (append-nil emitted)) (Each-append _ fs (new ∷ []) h.absent (unknown (length visits) (latest (visits ++ x ∷ [])) emitted (let p = place in omega arith) h.known, tt));
+      absent = subst (λ l. Each (λ f. emission_at l (position_in f) ≡ None) (fs ++ new ∷ [])) (sym (append-nil emitted)) (Each-append _ fs (new ∷ []) h.absent (unknown (length visits) (latest (visits ++ x ∷ [])) emitted (let p = index in omega arith) h.known, tt));
       known = subst (Each (λ (m : Emission). m.position < length (visits ++ x ∷ []))) (sym (append-nil emitted)) (Each-weaker _ _ (λ m k. let s = size in omega arith) emitted h.known);
       number = grown;
-      behind = Each-append _ fs (new ∷ []) (later fs soon h.behind) ((λ p l u. absurd (let q = place in let s = size in omega arith)), tt);
+      behind = Each-append _ fs (new ∷ []) (later fs soon h.behind) ((λ p l u. absurd (let q = index in let s = size in omega arith)), tt);
     }
   where
     new : Event
     new = Finish (now + demand_at rows demand (visits ++ x ∷ []) (latest (visits ++ x ∷ []))) v 0 (latest (visits ++ x ∷ []))
 
-    place : latest (visits ++ x ∷ []) ≡ length visits
-    place = latest-push visits x
+    index : latest (visits ++ x ∷ []) ≡ length visits
+    index = latest-push visits x
 
     size : length (visits ++ x ∷ []) ≡ suc (length visits)
     size = omega (arith, length-append visits (x ∷ []))
@@ -127,13 +127,13 @@ delaying-arrives rows demand v visits scheduled emitted fs now x at soon h =
     added = record { out = 0; position = 0 + length visits; job = x.job; time = x.arrive + demand_of_job rows demand x.job }
 
     self : slice_get (visits ++ x ∷ []) (latest (visits ++ x ∷ [])) ≡ Some x
-    self = ap (slice_get (visits ++ x ∷ [])) place ∙ get-last visits x
+    self = ap (slice_get (visits ++ x ∷ [])) index ∙ get-last visits x
 
-    later : (gs : List Event) → Each (λ f. now < time_of f) gs → Each (λ f. CameBefore visits (place_in f) (time_of f)) gs → Each (λ f. CameBefore (visits ++ x ∷ []) (place_in f) (time_of f)) gs
+    later : (gs : List Event) → Each (λ f. now < time_of f) gs → Each (λ f. CameBefore visits (position_in f) (time_of f)) gs → Each (λ f. CameBefore (visits ++ x ∷ []) (position_in f) (time_of f)) gs
     later [] s b = tt
     later (g ∷ gs) s b = (one, later gs s.1 b.1)
       where
-        one : CameBefore (visits ++ x ∷ []) (place_in g) (time_of g)
+        one : CameBefore (visits ++ x ∷ []) (position_in g) (time_of g)
         one p l u = go (eqb p (length visits)) refl
           where
             less : (a b : ℕ) → (a ≡ b → ⊥) → a < suc b → a < b
@@ -157,14 +157,14 @@ delaying-arrives rows demand v visits scheduled emitted fs now x at soon h =
     same = λ i. record { out = 0; position = spot i; job = job_in (self i); time = moment i }
       where
         spot : latest (visits ++ x ∷ []) ≡ 0 + length visits
-        spot = place ∙ omega arith
+        spot = index ∙ omega arith
 
         moment : now + demand_at rows demand (visits ++ x ∷ []) (latest (visits ++ x ∷ [])) ≡ x.arrive + demand_of_job rows demand x.job
         moment = ap (λ o. now + demand_of_visit rows demand o) self ∙ ap (λ n. n + demand_of_job rows demand x.job) (sym at)
 
 -- finishes of a node's server 0 at one time are alike
 alike_services : (rank : ℕ → ℕ) (v k : ℕ) (e f : Event) → (is_service v e && eqb (time_of e) k) ≡ true → (is_service v f && eqb (time_of f) k) ≡ true → is_sooner rank e f ≡ false
-unfolding place_of
+unfolding order_key
 alike_services rank v k (Arrive t n q j) f a b = absurd cc
 alike_services rank v k (Finish t n q j) (Arrive t' n' q' j') a b = absurd cc
 alike_services rank v k (Finish t n q j) (Finish t' n' q' j') a b =
@@ -189,14 +189,14 @@ not_self : (a : ℕ) → not (eqb a a) ≡ false
 not_self a = grind (arith, nat_tests)
 
 -- the position of one of rising finishes is taken out
-taken_out : (front back : List Event) (e : Event) → Rises (λ f g. place_in f < place_in g) (front ++ e ∷ back) → filter (λ p. not (eqb p (place_in e))) (map place_in (front ++ e ∷ back)) ≡ map place_in (front ++ back)
+taken_out : (front back : List Event) (e : Event) → Rises (λ f g. position_in f < position_in g) (front ++ e ∷ back) → filter (λ p. not (eqb p (position_in e))) (map position_in (front ++ e ∷ back)) ≡ map position_in (front ++ back)
 taken_out [] back e r =
-    filter-no (λ p. not (eqb p (place_in e))) (place_in e) (map place_in back) (not_self (place_in e))
-    ∙ filter-all (λ p. not (eqb p (place_in e))) (map place_in back) (Each-map (λ g. place_in e < place_in g) (λ p. not (eqb p (place_in e)) ≡ true) place_in (λ g l. not_same (place_in g) (place_in e) (λ q. omega arith)) back r.0)
+    filter-no (λ p. not (eqb p (position_in e))) (position_in e) (map position_in back) (not_self (position_in e))
+    ∙ filter-all (λ p. not (eqb p (position_in e))) (map position_in back) (Each-map (λ g. position_in e < position_in g) (λ p. not (eqb p (position_in e)) ≡ true) position_in (λ g l. not_same (position_in g) (position_in e) (λ q. omega arith)) back r.0)
 taken_out (f ∷ front) back e r =
-    let before : place_in f < place_in e = (Each-back (λ g. place_in f < place_in g) front (e ∷ back) r.0).0 in
-    filter-yes (λ p. not (eqb p (place_in e))) (place_in f) (map place_in (front ++ e ∷ back)) (not_same (place_in f) (place_in e) (λ q. omega arith))
-    ∙ ap (λ l. place_in f ∷ l) (taken_out front back e r.1)
+    let before : position_in f < position_in e = (Each-back (λ g. position_in f < position_in g) front (e ∷ back) r.0).0 in
+    filter-yes (λ p. not (eqb p (position_in e))) (position_in f) (map position_in (front ++ e ∷ back)) (not_same (position_in f) (position_in e) (λ q. omega arith))
+    ∙ ap (λ l. position_in f ∷ l) (taken_out front back e r.1)
 
 each-without : {X : Type 0} (P : X → Type 0) (front back : List X) (e : X) → Each P (front ++ e ∷ back) → Each P (front ++ back)
 each-without P xs ys e p = Each-append P xs ys (Each-front P xs (e ∷ ys) p) (Each-back P xs (e ∷ ys) p).1
@@ -206,10 +206,10 @@ rises-without R [] back e r = r.1
 rises-without R (f ∷ front) back e r = (each-without (R f) front back e r.0, rises-without R front back e r.1)
 
 -- the positions of rising finishes are distinct
-others : (front back : List Event) (e : Event) → Rises (λ f g. place_in f < place_in g) (front ++ e ∷ back) → Each (λ f. place_in f ≡ place_in e → ⊥) (front ++ back)
+others : (front back : List Event) (e : Event) → Rises (λ f g. position_in f < position_in g) (front ++ e ∷ back) → Each (λ f. position_in f ≡ position_in e → ⊥) (front ++ back)
 others [] back e r = Each-weaker _ _ (λ g l q. omega arith) back r.0
 others (f ∷ front) back e r =
-    let before : place_in f < place_in e = (Each-back (λ g. place_in f < place_in g) front (e ∷ back) r.0).0 in
+    let before : position_in f < position_in e = (Each-back (λ g. position_in f < position_in g) front (e ∷ back) r.0).0 in
     ((λ q. omega arith), others front back e r.1)
 
 get-some : (xs : List Visit) (p : ℕ) → p < length xs → (x : Visit) × (slice_get xs p ≡ Some x)
@@ -237,45 +237,45 @@ delaying-ends rows demand rank v server position visits scheduled emitted fs res
     go : Splits rank fs (e, rest) → Delaying rows demand v visits (filter (λ p. not (eqb p position)) scheduled) (emitted ++ emissions_of now visits (record { out = 0; position = position } ∷ [])) (rest ++ []) now
     go s = rw (append-nil rest)
         (record {
-          listed = ap (filter (λ p. not (eqb p position))) (h.listed ∙ ap (map place_in) s.whole) ∙ (taken_out s.front s.back e rising ∙ ap (map place_in) (sym s.left));
-          rising = subst (Rises (λ f g. place_in f < place_in g)) (sym s.left) (rises-without _ s.front s.back e rising);
-          inside = subst (Each (λ f. (is_service v f ≡ true) × (place_in f < length visits))) (sym s.left) (Each-append _ s.front s.back (Each-front _ s.front (e ∷ s.back) all) (Each-back (λ f. (is_service v f ≡ true) × (place_in f < length visits)) s.front (e ∷ s.back) all).1);
+          listed = ap (filter (λ p. not (eqb p position))) (h.listed ∙ ap (map position_in) s.whole) ∙ (taken_out s.front s.back e rising ∙ ap (map position_in) (sym s.left));
+          rising = subst (Rises (λ f g. position_in f < position_in g)) (sym s.left) (rises-without _ s.front s.back e rising);
+          inside = subst (Each (λ f. (is_service v f ≡ true) × (position_in f < length visits))) (sym s.left) (Each-append _ s.front s.back (Each-front _ s.front (e ∷ s.back) all) (Each-back (λ f. (is_service v f ≡ true) × (position_in f < length visits)) s.front (e ∷ s.back) all).1);
           parts = λ k. ap (λ l. l ++ filter (λ (m : Emission). eqb m.time k) (map (to_leave visits) rest)) (ap (λ l. filter (λ (m : Emission). eqb m.time k) (emitted ++ l)) one)
               ∙ (ap (λ l. l ++ filter (λ (m : Emission). eqb m.time k) (map (to_leave visits) rest)) (filter-append (λ (m : Emission). eqb m.time k) emitted (to_leave visits e ∷ []))
               ∙ (append_assoc (filter (λ (m : Emission). eqb m.time k) emitted) (filter (λ (m : Emission). eqb m.time k) (to_leave visits e ∷ [])) (filter (λ (m : Emission). eqb m.time k) (map (to_leave visits) rest))
               ∙ (ap (λ l. filter (λ (m : Emission). eqb m.time k) emitted ++ l) (next k (eqb now k) refl) ∙ h.parts k)));
           ordered = subst (λ l. Rises (λ (a b : Emission). a.time ≤ b.time) (emitted ++ l)) (sym one) (Rises-append (λ (a b : Emission). a.time ≤ b.time) emitted (to_leave visits e ∷ []) h.ordered (tt, tt) (Each-weaker _ _ (λ m k. (k, tt)) emitted h.before));
           before = subst (λ l. Each (λ (m : Emission). m.time ≤ now) (emitted ++ l)) (sym one) (Each-append _ emitted (to_leave visits e ∷ []) h.before (omega arith, tt));
-          absent = subst (λ l. Each (λ f. emission_at (emitted ++ l) (place_in f) ≡ None) rest) (sym one) (subst (Each (λ f. emission_at (emitted ++ to_leave visits e ∷ []) (place_in f) ≡ None)) (sym s.left) still);
+          absent = subst (λ l. Each (λ f. emission_at (emitted ++ l) (position_in f) ≡ None) rest) (sym one) (subst (Each (λ f. emission_at (emitted ++ to_leave visits e ∷ []) (position_in f) ≡ None)) (sym s.left) still);
           known = subst (λ l. Each (λ (m : Emission). m.position < length visits) (emitted ++ l)) (sym one) (Each-append _ emitted (to_leave visits e ∷ []) h.known (own.1, tt));
           number = ap (λ l. staying visits (emission_at (emitted ++ l))) one ∙ fewer;
-          behind = subst (Each (λ f. CameBefore visits (place_in f) (time_of f))) (sym s.left) (each-without _ s.front s.back e (subst (Each (λ f. CameBefore visits (place_in f) (time_of f))) s.whole h.behind));
+          behind = subst (Each (λ f. CameBefore visits (position_in f) (time_of f))) (sym s.left) (each-without _ s.front s.back e (subst (Each (λ f. CameBefore visits (position_in f) (time_of f))) s.whole h.behind));
         })
       where
-        rising : Rises (λ f g. place_in f < place_in g) (s.front ++ e ∷ s.back)
-        rising = subst (Rises (λ f g. place_in f < place_in g)) s.whole h.rising
+        rising : Rises (λ f g. position_in f < position_in g) (s.front ++ e ∷ s.back)
+        rising = subst (Rises (λ f g. position_in f < position_in g)) s.whole h.rising
 
-        all : Each (λ f. (is_service v f ≡ true) × (place_in f < length visits)) (s.front ++ e ∷ s.back)
-        all = subst (Each (λ f. (is_service v f ≡ true) × (place_in f < length visits))) s.whole h.inside
+        all : Each (λ f. (is_service v f ≡ true) × (position_in f < length visits)) (s.front ++ e ∷ s.back)
+        all = subst (Each (λ f. (is_service v f ≡ true) × (position_in f < length visits))) s.whole h.inside
 
-        own : (is_service v e ≡ true) × (place_in e < length visits)
-        own = (Each-back (λ f. (is_service v f ≡ true) × (place_in f < length visits)) s.front (e ∷ s.back) all).0
+        own : (is_service v e ≡ true) × (position_in e < length visits)
+        own = (Each-back (λ f. (is_service v f ≡ true) × (position_in f < length visits)) s.front (e ∷ s.back) all).0
 
         one : emissions_of now visits (record { out = 0; position = position } ∷ []) ≡ to_leave visits e ∷ []
         one = lets-out visits now v server position own.1
 
-        absent : Each (λ f. emission_at emitted (place_in f) ≡ None) (s.front ++ e ∷ s.back)
-        absent = subst (Each (λ f. emission_at emitted (place_in f) ≡ None)) s.whole h.absent
+        absent : Each (λ f. emission_at emitted (position_in f) ≡ None) (s.front ++ e ∷ s.back)
+        absent = subst (Each (λ f. emission_at emitted (position_in f) ≡ None)) s.whole h.absent
 
         -- none of the others is let out
-        still : Each (λ f. emission_at (emitted ++ to_leave visits e ∷ []) (place_in f) ≡ None) (s.front ++ s.back)
+        still : Each (λ f. emission_at (emitted ++ to_leave visits e ∷ []) (position_in f) ≡ None) (s.front ++ s.back)
         still =
-            Each-both _ _ _ (λ f a b. other-behind (place_in f) emitted (to_leave visits e) (λ q. b (sym q)) ∙ a) (s.front ++ s.back)
+            Each-both _ _ _ (λ f a b. other-behind (position_in f) emitted (to_leave visits e) (λ q. b (sym q)) ∙ a) (s.front ++ s.back)
             (each-without _ s.front s.back e absent) (others s.front s.back e rising)
 
         fewer : staying visits (emission_at (emitted ++ to_leave visits e ∷ [])) ≡ length rest
         fewer =
-            let none = (Each-back (λ f. emission_at emitted (place_in f) ≡ None) s.front (e ∷ s.back) absent).0 in
+            let none = (Each-back (λ f. emission_at emitted (position_in f) ≡ None) s.front (e ∷ s.back) absent).0 in
             let was = ap one_if_none none in
             let is = ap one_if_none (found-behind position emitted (to_leave visits e) refl none) in
             let one = sum_below-one (length visits) position (λ p. one_if_none (emission_at (emitted ++ to_leave visits e ∷ []) p)) (λ p. one_if_none (emission_at emitted p)) own.1

@@ -24,7 +24,7 @@ use Rattle.mq_core.specs.declared.model.Kind.{Kind}
 use Rattle.mq_core.specs.declared.model.Node.{Node}
 use Rattle.mq_core.specs.declared.model.Plan.{Plan}
 use Rattle.mq_core.specs.declared.model.Rows.{Rows}
-use Rattle.mq_core.proofs.Counting.ColumnNumbers.{numbered-found, order-found}
+use Rattle.mq_core.proofs.Counting.SequenceNumbers.{numbered-found, order-found}
 use Rattle.mq_core.proofs.EachKind.Flows.{flow-numbered}
 use Rattle.mq_core.proofs.EachKind.Facts.{kind_fact, node_fact, standard-keeps}
 use Rattle.mq_core.proofs.EachKind.Flows.{kind-flow}

@@ -2,15 +2,15 @@
 use Rattle.std.proofs.Common.{List, [], ℕ, ◌≡◌}
 use Rattle.mq_core.specs.Local.{Local}
 use Rattle.mq_core.specs.Machine.{Station, Visit}
-use Rattle.mq_core.specs.Served.{flow_of, in_leaving_order}
+use Rattle.mq_core.specs.Served.{flow_of, in_emission_order}
 use Rattle.mq_core.specs.declared.model.Kind.{Kind}
 use Rattle.mq_core.specs.declared.model.Rows.{Rows}
-use Rattle.mq_core.proofs.Counting.ColumnNumbers.{Numbered}
+use Rattle.mq_core.proofs.Counting.SequenceNumbers.{Numbered}
 use Rattle.mq_core.proofs.EachKind.Facts.{kind_fact}
 use Rattle.mq_core.proofs.EachKind.LawTable.{laws_of, recurrence_of}
 
 -- a node with nothing to finish let out the flow of its kind
-pub kind-flow : (rows : Rows) (ports : ℕ) (kind : Kind) (v : ℕ) (s : Station Local) (now : ℕ) → kind_fact rows ports kind v s [] now → s.emitted ≡ in_leaving_order kind (flow_of rows ports kind s.visits)
+pub kind-flow : (rows : Rows) (ports : ℕ) (kind : Kind) (v : ℕ) (s : Station Local) (now : ℕ) → kind_fact rows ports kind v s [] now → s.emitted ≡ in_emission_order kind (flow_of rows ports kind s.visits)
 kind-flow rows ports kind v s now h = (laws_of rows ports kind).flow v s now h
 
 -- the flow has one emission a visit, by position

@@ -7,7 +7,7 @@ use Rattle.std.specs.Option.{option_map}
 use Rattle.mq_core.specs.Event.{Event, time_of, earliest}
 use Rattle.mq_core.specs.Event.Event.{Arrive, Finish}
 use Rattle.mq_core.specs.Fates.{unless_lost}
-use Rattle.mq_core.specs.Leaving.{left_by}
+use Rattle.mq_core.specs.EmissionOrder.{left_by}
 use Rattle.mq_core.specs.Local.{Local}
 use Rattle.mq_core.specs.Machine.{Visit, Emission, Reaction, Station, emissions_of, finishes_of}
 use Rattle.mq_core.specs.Tallies.{arrival_or, emission_at, one_if_none, sum_below}

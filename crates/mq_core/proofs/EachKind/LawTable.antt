@@ -2,7 +2,7 @@
 use Rattle.std.proofs.Common.{ℕ}
 use Rattle.mq_core.specs.KindTable.{behaviour_of}
 use Rattle.mq_core.specs.Kinds.Delay.{delay}
-use Rattle.mq_core.specs.Kinds.ForkJoin.{fork_join}
+use Rattle.mq_core.specs.Kinds.ForkJoin.{forkjoin}
 use Rattle.mq_core.specs.Kinds.Loss.{loss}
 use Rattle.mq_core.specs.Kinds.Server.{server}
 use Rattle.mq_core.specs.Kinds.Source.{source}
@@ -33,9 +33,9 @@ use Rattle.mq_core.proofs.Loss.LossLaws.{loss-inside, loss-laws, loss-once, loss
 use Rattle.mq_core.proofs.Tandem.TandemLimits.{tandem-limits}
 use Rattle.mq_core.proofs.Tandem.TandemRecurrence.{tandem-recurrence}
 use Rattle.mq_core.proofs.Tandem.TandemLaws.{tandem-inside, tandem-laws, tandem-once, tandem-own}
-use Rattle.mq_core.proofs.ForkJoin.ForkJoinLimits.{fork_join-limits}
-use Rattle.mq_core.proofs.ForkJoin.ForkJoinRecurrence.{fork_join-recurrence}
-use Rattle.mq_core.proofs.ForkJoin.ForkJoinLaws.{fork_join-inside, fork_join-laws, fork_join-once, fork_join-own}
+use Rattle.mq_core.proofs.ForkJoin.ForkJoinLimits.{forkjoin-limits}
+use Rattle.mq_core.proofs.ForkJoin.ForkJoinRecurrence.{forkjoin-recurrence}
+use Rattle.mq_core.proofs.ForkJoin.ForkJoinLaws.{forkjoin-inside, forkjoin-laws, forkjoin-once, forkjoin-own}
 
 -- what is said of a node between two events
 abbrev pub inside_of : Rows → ℕ → Kind → Inside
@@ -44,7 +44,7 @@ inside_of rows ports (Server demand) = server-inside rows demand
 inside_of rows ports (Delay demand) = delay-inside rows demand
 inside_of rows ports (Loss places demand) = loss-inside rows places demand
 inside_of rows ports (Tandem stages) = tandem-inside rows stages
-inside_of rows ports (ForkJoin branches) = fork_join-inside rows branches
+inside_of rows ports (ForkJoin branches) = forkjoin-inside rows branches
 inside_of rows ports (Split route) = split-inside rows route
 
 -- the laws of its handler
@@ -54,7 +54,7 @@ laws_of rows ports (Server demand) = server-laws rows ports demand
 laws_of rows ports (Delay demand) = delay-laws rows ports demand
 laws_of rows ports (Loss places demand) = loss-laws rows ports places demand
 laws_of rows ports (Tandem stages) = tandem-laws rows ports stages
-laws_of rows ports (ForkJoin branches) = fork_join-laws rows ports branches
+laws_of rows ports (ForkJoin branches) = forkjoin-laws rows ports branches
 laws_of rows ports (Split route) = split-laws rows ports route
 
 -- each kind lets each visit out once
@@ -64,7 +64,7 @@ once_of rows ports (Server demand) = server-once rows ports demand
 once_of rows ports (Delay demand) = delay-once rows ports demand
 once_of rows ports (Loss places demand) = loss-once rows ports places demand
 once_of rows ports (Tandem stages) = tandem-once rows ports stages
-once_of rows ports (ForkJoin branches) = fork_join-once rows ports branches
+once_of rows ports (ForkJoin branches) = forkjoin-once rows ports branches
 once_of rows ports (Split route) = split-once rows ports route
 
 -- each visit leaves with its own emission
@@ -74,7 +74,7 @@ own_of rows ports (Server demand) = server-own rows ports demand
 own_of rows ports (Delay demand) = delay-own rows ports demand
 own_of rows ports (Loss places demand) = loss-own rows ports places demand
 own_of rows ports (Tandem stages) = tandem-own rows ports stages
-own_of rows ports (ForkJoin branches) = fork_join-own rows ports branches
+own_of rows ports (ForkJoin branches) = forkjoin-own rows ports branches
 own_of rows ports (Split route) = split-own rows ports route
 
 -- the laws of its recurrence
@@ -84,7 +84,7 @@ recurrence_of rows ports (Server demand) = server-recurrence rows ports demand
 recurrence_of rows ports (Delay demand) = delay-recurrence rows ports demand
 recurrence_of rows ports (Loss places demand) = loss-recurrence rows ports places demand
 recurrence_of rows ports (Tandem stages) = tandem-recurrence rows ports stages
-recurrence_of rows ports (ForkJoin branches) = fork_join-recurrence rows ports branches
+recurrence_of rows ports (ForkJoin branches) = forkjoin-recurrence rows ports branches
 recurrence_of rows ports (Split route) = split-recurrence rows ports route
 
 -- how its visits leave, and what others find of them
@@ -94,7 +94,7 @@ exits_of rows ports (Server demand) = exits-own rows ports (server demand) (serv
 exits_of rows ports (Delay demand) = exits-own rows ports (delay demand) (delay-inside rows demand) (delay-own rows ports demand) (delay-recurrence rows ports demand).until
 exits_of rows ports (Loss places demand) = exits-own rows ports (loss places demand) (loss-inside rows places demand) (loss-own rows ports places demand) (loss-recurrence rows ports places demand).until
 exits_of rows ports (Tandem stages) = exits-own rows ports (tandem stages) (tandem-inside rows stages) (tandem-own rows ports stages) (tandem-recurrence rows ports stages).until
-exits_of rows ports (ForkJoin branches) = exits-own rows ports (fork_join branches) (fork_join-inside rows branches) (fork_join-own rows ports branches) (fork_join-recurrence rows ports branches).until
+exits_of rows ports (ForkJoin branches) = exits-own rows ports (forkjoin branches) (forkjoin-inside rows branches) (forkjoin-own rows ports branches) (forkjoin-recurrence rows ports branches).until
 exits_of rows ports (Split route) = exits-own rows ports (split route) (split-inside rows route) (split-own rows ports route) (split-recurrence rows ports route).until
 
 -- the laws of its ranges
@@ -104,5 +104,5 @@ limits_of (Server demand) = server-limits demand
 limits_of (Delay demand) = delay-limits demand
 limits_of (Loss places demand) = loss-limits places demand
 limits_of (Tandem stages) = tandem-limits stages
-limits_of (ForkJoin branches) = fork_join-limits branches
+limits_of (ForkJoin branches) = forkjoin-limits branches
 limits_of (Split route) = split-limits route

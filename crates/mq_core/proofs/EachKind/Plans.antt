@@ -35,11 +35,11 @@ before-at P seen (x ∷ xs) (suc rank) v h e = subst (λ l. P l v) (append_assoc
 
 -- the node that is ready, of those from w on
 record Ready (ranked : List ℕ) (nodes : List Node) (w n : ℕ) : Type 0 where
-  place : ℕ
-  at : n ≡ w + place
-  inside : place < length nodes
+  index : ℕ
+  at : n ≡ w + index
+  inside : index < length nodes
   once : has ranked n ≡ false
-  reads : (port : ℕ) (i : ℕ × ℕ) → slice_get (inputs_of nodes place) port ≡ Some i → has ranked i.0 ≡ true
+  reads : (port : ℕ) (i : ℕ × ℕ) → slice_get (inputs_of nodes index) port ≡ Some i → has ranked i.0 ≡ true
 
 first_ready-ready : (ranked : List ℕ) (w : ℕ) (nodes : List Node) (n : ℕ) → first_ready ranked w nodes ≡ Some n → Ready ranked nodes w n
 unfolding first_ready
@@ -50,9 +50,9 @@ first_ready-ready ranked w (node ∷ nodes) n h =
     later : Ready ranked nodes (suc w) n → Ready ranked (node ∷ nodes) w n
     later r =
         record {
-          place = suc r.place;
-          at = let e : n ≡ suc w + r.place = r.at in omega arith;
-          inside = let l : r.place < length nodes = r.inside in omega arith;
+          index = suc r.index;
+          at = let e : n ≡ suc w + r.index = r.at in omega arith;
+          inside = let l : r.index < length nodes = r.inside in omega arith;
           once = r.once;
           reads = r.reads;
         }
@@ -60,7 +60,7 @@ first_ready-ready ranked w (node ∷ nodes) n h =
     go : (a b : Bool) → has ranked w ≡ a → list_all (λ (i : Input). has ranked i.node) node.inputs ≡ b → cond (not a && b) (Some w) (first_ready ranked (suc w) nodes) ≡ Some n → (first_ready ranked (suc w) nodes ≡ Some n → Ready ranked nodes (suc w) n) → Ready ranked (node ∷ nodes) w n
     go false true x y k ih =
         record {
-          place = 0;
+          index = 0;
           at = sym (some_inj w n k) ∙ sym (add-zero w);
           inside = omega arith;
           once = subst (λ m. has ranked m ≡ false) (some_inj w n k) x;
@@ -78,7 +78,7 @@ ranked_after-before (suc count) nodes ranked h = go (first_ready ranked 0 nodes)
     go None e ih = ih (ranked ++ []) (subst (Before (IsRankedBehind nodes) []) (sym (append-nil ranked)) h)
     go (Some n) e ih =
         let r = first_ready-ready ranked 0 nodes n e in
-        let same : r.place ≡ n = sym (r.at ∙ zero-add r.place) in
+        let same : r.index ≡ n = sym (r.at ∙ zero-add r.index) in
         ih (ranked ++ n ∷ [])
         (before-push (IsRankedBehind nodes) [] ranked n h
         (record {

@@ -3,10 +3,10 @@ use Rattle.mq_core.specs.Came.{Came, came_by, came_of}
 use Rattle.std.proofs.Common.{◌≡◌, ℕ, ◌+◌, ◌*◌, ◌^◌, ◌≤◌, true, List, Option, map, length}
 use Rattle.std.specs.List.{AllByRecursion as Each}
 use Rattle.mq_core.specs.Behaviour.{Behaviour}
-use Rattle.mq_core.specs.ColumnLaws.{FatesInTime, arrives_of}
-use Rattle.mq_core.specs.Columns.{time_of_fate}
+use Rattle.mq_core.specs.SequenceLaws.{FatesInTime, arrives_of}
+use Rattle.mq_core.specs.Sequences.{time_of_fate}
 use Rattle.mq_core.specs.Laws.{Rises, in_order_of, stream_of}
-use Rattle.mq_core.specs.Leaving.Leaving.{Mixed}
+use Rattle.mq_core.specs.EmissionOrder.EmissionOrder.{Mixed}
 use Rattle.mq_core.specs.Machine.{Visit, Emission}
 use Rattle.mq_core.specs.OnceOut.{founds_of, once_out}
 use Rattle.mq_core.specs.PlanLaws.{Tells}
@@ -14,19 +14,19 @@ use Rattle.mq_core.specs.Tallies.{one_if_there}
 use Rattle.mq_core.specs.declared.model.Network.{Network}
 use Rattle.mq_core.specs.declared.model.Rows.{Rows}
 use Rattle.mq_core.proofs.Bounded.BoundedStations.{AreBy, LeaveBy}
-use Rattle.mq_core.proofs.Counting.ColumnNumbers.{Numbered, EachLeavesBy}
+use Rattle.mq_core.proofs.Counting.SequenceNumbers.{Numbered, EachLeavesBy}
 use Rattle.mq_core.proofs.Counting.Stays.{FatesStay}
 use Rattle.mq_core.proofs.Events.Later.{one_if_later}
 
--- The laws of a kind whose columns are one value a visit.
+-- The laws of a kind whose sequences are one value a visit.
 pub record RecurrenceLaws (rows : Rows) (ports : ℕ) (b : Behaviour) : Type 0 where
   -- the flow has one emission a visit, by position
   pub numbered : (visits : List Visit) → Numbered 0 (b.flow rows ports visits) visits
   -- each visit departs as it is let out, or is lost as it comes
   pub leaves : (visits : List Visit) → EachLeavesBy b.fate (b.flow rows ports visits) visits
-  -- the fates of the flow are those of the columns
+  -- the fates of the flow are those of the sequences
   pub fares : (visits : List Visit) → map b.fate (b.flow rows ports visits) ≡ b.fates rows (came_of ports visits)
-  -- its outputs are those of the columns
+  -- its outputs are those of the sequences
   pub goes : (visits : List Visit) → map (λ (m : Emission). m.out) (b.flow rows ports visits) ≡ b.outs rows (came_of ports visits)
   -- where only outputs mix, each output leaves by position
   pub stands : b.order ≡ Mixed → (visits : List Visit) → Rises (λ a b. a ≤ b) (arrives_of visits) → (out : ℕ) → in_order_of (λ (m : Emission). m.time) (stream_of out (b.flow rows ports visits)) ≡ stream_of out (b.flow rows ports visits)

@@ -1,11 +1,11 @@
--- What is to be shown of a station that has let out the flow of its kind: that its columns are those of its arrivals.
+-- What is to be shown of a station that has let out the flow of its kind: that its sequences are those of its arrivals.
 use Rattle.std.proofs.Common.{◌≡◌, ℕ, ◌<◌, ◌≤◌, [], length, map}
 use Rattle.std.specs.Prelude.{slice_get}
 use Rattle.mq_core.specs.Behaviour.{Behaviour}
 use Rattle.mq_core.specs.Came.{came_of}
-use Rattle.mq_core.specs.ColumnLaws.{arrives_of}
+use Rattle.mq_core.specs.SequenceLaws.{arrives_of}
 use Rattle.mq_core.specs.Laws.{Rises}
-use Rattle.mq_core.specs.Leaving.{left_by}
+use Rattle.mq_core.specs.EmissionOrder.{left_by}
 use Rattle.mq_core.specs.Local.{Local}
 use Rattle.mq_core.specs.Machine.{Station, Visit}
 use Rattle.mq_core.specs.Results.{stream_from, fates_by}

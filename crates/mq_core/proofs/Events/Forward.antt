@@ -3,7 +3,7 @@ use Rattle.std.proofs.Common.{◌≡◌, ℕ, zero, suc, ◌<◌, ◌≤◌, fal
 use Rattle.std.specs.Prelude.{slice_get, IfSome}
 use Rattle.std.specs.List.{AllByRecursion as Each}
 use Rattle.mq_base.proofs.lemmas.Each.{Each-append, Each-front, Each-back, Each-weaker, Each-flat_map, Each-map, Each-any}
-use Rattle.mq_core.specs.Event.{Event, time_of, node_of, is_sooner, place_of, earliest}
+use Rattle.mq_core.specs.Event.{Event, time_of, node_of, is_sooner, order_key, earliest}
 use Rattle.mq_core.specs.Event.Event.{Arrive, Finish}
 use Rattle.mq_core.specs.Machine.{Visit, Emission, Release, Service, Table, State, Station, handled, happens, caused, arrivals_of, arrival_of, emission_of, emissions_at, finishes_of, reaction, visits_after, until}
 use Rattle.mq_core.specs.Laws.{IsNoEarlier, GoesForward}
@@ -14,7 +14,7 @@ use Rattle.mq_core.proofs.Events.Steps.{handled-zero, handled-some, handled-none
 
 -- what is not sooner is no earlier
 pub no_earlier : (rank : ℕ → ℕ) (e f : Event) → is_sooner rank f e ≡ false → IsNoEarlier rank e f
-unfolding place_of
+unfolding order_key
 no_earlier rank (Arrive t n q j) (Arrive t' n' q' j') h = let p = not_below-cons _ _ _ _ h in (p.0, λ e. (not_below-cons _ _ _ _ (p.1 (sym e))).0)
 no_earlier rank (Arrive t n q j) (Finish t' n' q' j') h = let p = not_below-cons _ _ _ _ h in (p.0, λ e. (not_below-cons _ _ _ _ (p.1 (sym e))).0)
 no_earlier rank (Finish t n q j) (Arrive t' n' q' j') h = let p = not_below-cons _ _ _ _ h in (p.0, λ e. (not_below-cons _ _ _ _ (p.1 (sym e))).0)

@@ -4,7 +4,7 @@ use Rattle.std.proofs.lemmas.List.{append-nil}
 use Rattle.std.specs.Prelude.{filter}
 use Rattle.std.specs.List.{AllByRecursion as Each}
 use Rattle.mq_base.proofs.lemmas.Each.{Each-any, Each-append, Each-back, Each-filter, Each-filter_if, Each-front, Each-weaker, filter-none}
-use Rattle.mq_core.specs.Event.{Event, time_of, node_of, is_sooner, place_of, earliest}
+use Rattle.mq_core.specs.Event.{Event, time_of, node_of, is_sooner, order_key, earliest}
 use Rattle.mq_core.specs.Event.Event.{Arrive, Finish}
 use Rattle.mq_core.specs.Machine.{State, Station, Table, acted, after, aged, arrivals_of, caused, emissions_at, finishes_of, happens, opened, reaction, until}
 use Rattle.mq_core.proofs.Events.Tables.{IsPunctual, IsFeedForward}
@@ -45,7 +45,7 @@ strict a b l k = grind arith
 
 -- a finish at the node of an arrival that isn't sooner is strictly later
 finish-later : (rank : ℕ → ℕ) (v : ℕ) (e f : Event) → is_finish_at v f ≡ true → node_of e ≡ v → ((n : ℕ) → is_finish_at n e ≡ false) → is_sooner rank f e ≡ false → time_of e < time_of f
-unfolding place_of
+unfolding order_key
 finish-later rank v (Finish t n q j) f a b c h = absurd (let d = c n in let e = eq-eqb n n refl in cc)
 finish-later rank v (Arrive t n q j) (Arrive t' n' q' j') a b c h = absurd cc
 finish-later rank v (Arrive t n q j) (Finish t' n' q' j') a b c h =

@@ -114,15 +114,15 @@ keeps-areas_by {L} t P Q left keeps leaves =
         own : until_or now (left v (acted t s (Arrive now v port job)) (length s.visits)) ≡ now
         own = now-same now None _ (leaves.comes v port job s fs now q h)
 
-        place : arrival_or 0 (slice_get (s.visits ++ x ∷ []) (length s.visits)) ≡ now
-        place = ap (arrival_or 0) (get-last s.visits x)
+        index : arrival_or 0 (slice_get (s.visits ++ x ∷ []) (length s.visits)) ≡ now
+        index = ap (arrival_or 0) (get-last s.visits x)
 
         last : sum_below (suc (length s.visits)) (stay_by left v now (acted t s (Arrive now v port job))) ≡ sum_below (length s.visits) (stay_by left v now s)
         last =
             omega (
               arith,
               own,
-              place,
+              index,
               sum-same (length s.visits) (stay_by left v now (acted t s (Arrive now v port job))) (stay_by left v now s)
                   (λ k l. (λ i. now-same now _ _ (leaves.arrives v port job s fs now q h k l) i - arrival_or 0 (get-front k s.visits (x ∷ []) l i))),
             )

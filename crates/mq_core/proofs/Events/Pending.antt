@@ -3,7 +3,7 @@ use Rattle.std.proofs.Common.{◌≡◌, ℕ, Bool, true, false, cond, List, [],
 use Rattle.std.specs.Prelude.{filter}
 use Rattle.std.specs.List.{AllByRecursion as Each}
 use Rattle.mq_base.proofs.lemmas.Each.{Each-append, Each-back, Each-weaker, Each-filter, filter-none, filter-yes, filter-no, not_true}
-use Rattle.mq_core.specs.Event.{Event, place_of, is_sooner, sooner_of, earliest}
+use Rattle.mq_core.specs.Event.{Event, order_key, is_sooner, sooner_of, earliest}
 use Rattle.mq_core.proofs.Lists.Order.{not_below-trans, below-asym, below-irrefl}
 use Rattle.std.proofs.lemmas.List.Elements.{filter-append}
 use Rattle.mq_base.proofs.lemmas.Lists.{some_inj}
@@ -27,8 +27,8 @@ pub Splits-least : (rank : ℕ → ℕ) (es : List Event) (p : Event × List Eve
 Splits-least rank es p s =
     subst (Each (λ f. is_sooner rank f p.0 ≡ false)) (sym s.whole)
     (Each-append _ s.front (p.0 ∷ s.back)
-    (Each-weaker _ _ (λ f h. below-asym (place_of rank p.0) (place_of rank f) h) s.front s.ahead)
-    (below-irrefl (place_of rank p.0), s.behind))
+    (Each-weaker _ _ (λ f h. below-asym (order_key rank p.0) (order_key rank f) h) s.front s.ahead)
+    (below-irrefl (order_key rank p.0), s.behind))
 
 sooner-splits : (rank : ℕ → ℕ) (x : Event) (xs : List Event) (r : Option (Event × List Event)) → earliest rank xs ≡ r → ((p : Event × List Event) → earliest rank xs ≡ Some p → Splits rank xs p) → Splits rank (x ∷ xs) (sooner_of rank x xs r)
 unfolding sooner_of
@@ -63,7 +63,7 @@ sooner-splits rank x xs (Some p) q ih = go (is_sooner rank p.0 x) refl
           whole = refl;
           left = refl;
           ahead = tt;
-          behind = Each-weaker _ _ (λ f k. not_below-trans (place_of rank x) (place_of rank p.0) (place_of rank f) h k) xs (Splits-least rank xs p s);
+          behind = Each-weaker _ _ (λ f k. not_below-trans (order_key rank x) (order_key rank p.0) (order_key rank f) h k) xs (Splits-least rank xs p s);
         }
 
 -- what is earliest splits the list

@@ -6,7 +6,7 @@ use Rattle.std.proofs.lemmas.List.{append-nil}
 use Rattle.std.specs.Prelude.{filter, ◌&&◌, slice_get, IfSome}
 use Rattle.std.specs.List.{AllByRecursion as Each}
 use Rattle.mq_base.proofs.lemmas.Each.{Each-append, Each-front, Each-back, Each-weaker, Each-map, Each-any, Each-filter, Each-filter_if, Each-both, filter-none, filter-all, filter-yes, filter-no, filter-and, filter-swap}
-use Rattle.mq_core.specs.Event.{Event, time_of, node_of, is_sooner, place_of, earliest}
+use Rattle.mq_core.specs.Event.{Event, time_of, node_of, is_sooner, order_key, earliest}
 use Rattle.mq_core.specs.Event.Event.{Arrive, Finish}
 use Rattle.mq_core.specs.Machine.{Emission, Table, State, Station, after, handled, happens, caused, arrivals_of, emissions_at, finishes_of, reaction, until, opened}
 use Rattle.mq_core.specs.Laws.{alone, NotBefore, IsNoEarlier, Rises, port_of, is_arrival_at, by_time, stream_of, brought, read_by}
@@ -18,13 +18,13 @@ use Rattle.mq_core.proofs.Events.Forward.{no_earlier_trans, Each-arrivals, Each-
 use Rattle.mq_core.proofs.lemmas.Rising.{same_by_key, filter-in_order_of, Rises-in_order_of, Rises-append, Rises-filter, Rises-weaker}
 use Rattle.mq_core.proofs.Events.Arrivals.{added, handled-in_order, is_at_port, stream-added, none-added}
 
--- the arrivals at a node: what starts there and what its ports read, by time, then port, then place
+-- the arrivals at a node: what starts there and what its ports read, by time, then port, then index
 abbrev pub arrivals_in : {L : Type 0} → (ℕ → List (ℕ × ℕ)) → List Event → State L → ℕ → List Event
 arrivals_in inputs starts s v = by_time (filter (is_arrival_at v) starts ++ read_by s v 0 (inputs v))
 
 -- what isn't sooner than an arrival, at the same node
 not_sooner : (rank : ℕ → ℕ) (v : ℕ) (e f : Event) → is_arrival_at v e ≡ true → is_arrival_at v f ≡ true → is_sooner rank f e ≡ false → NotBefore e f
-unfolding place_of
+unfolding order_key
 not_sooner rank v (Finish t n q j) f a b h = absurd cc
 not_sooner rank v (Arrive t n q j) (Finish t' n' q' j') a b h = absurd cc
 not_sooner rank v (Arrive t n q j) (Arrive t' n' q' j') a b h =
@@ -176,7 +176,7 @@ read_by-at s v r (i ∷ is) =
 
 -- events of one node, port and time are alike
 alike_class : (rank : ℕ → ℕ) (v q k : ℕ) (e f : Event) → (is_at_port v q e && eqb (time_of e) k) ≡ true → (is_at_port v q f && eqb (time_of f) k) ≡ true → is_sooner rank e f ≡ false
-unfolding place_of
+unfolding order_key
 alike_class rank v q k (Finish t n p j) f a b = absurd cc
 alike_class rank v q k (Arrive t n p j) (Finish t' n' p' j') a b = absurd cc
 alike_class rank v q k (Arrive t n p j) (Arrive t' n' p' j') a b =

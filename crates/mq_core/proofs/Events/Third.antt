@@ -7,7 +7,7 @@ use Rattle.std.proofs.lemmas.List.{append-nil}
 use Rattle.std.specs.Prelude.{filter}
 use Rattle.std.specs.List.{AllByRecursion as Each}
 use Rattle.mq_base.proofs.lemmas.Each.{Each-append, Each-back, Each-weaker, Each-map, Each-any, Each-filter, Each-filter_if, filter-none, filter-all, filter-yes, filter-no}
-use Rattle.mq_core.specs.Event.{Event, time_of, node_of, is_sooner, is_below, place_of, earliest}
+use Rattle.mq_core.specs.Event.{Event, time_of, node_of, is_sooner, is_below, order_key, earliest}
 use Rattle.mq_core.specs.Event.Event.{Arrive, Finish}
 use Rattle.mq_core.specs.Machine.{Emission, Service, Table, State, Station, step, after, handled, happens, caused, arrivals_of, emissions_at, finishes_of, reaction, until, acted, opened}
 use Rattle.mq_core.specs.Laws.{NotBefore, IsNoEarlier, is_arrival_at, is_finish_at, alone, count_at, IsSameAt, lone_after}
@@ -20,7 +20,7 @@ use Rattle.mq_core.proofs.Events.Second.{arrivals-later, pending-not_before}
 
 -- of two arrivals at a node, what isn't before isn't sooner
 not_before-sooner : (rank : ℕ → ℕ) (v : ℕ) (e f : Event) → is_arrival_at v e ≡ true → is_arrival_at v f ≡ true → NotBefore e f → is_sooner rank f e ≡ false
-unfolding place_of
+unfolding order_key
 not_before-sooner rank v (Finish t n q j) f a b h = absurd cc
 not_before-sooner rank v (Arrive t n q j) (Finish t' n' q' j') a b h = absurd cc
 not_before-sooner rank v (Arrive t n q j) (Arrive t' n' q' j') a b h =
@@ -33,7 +33,7 @@ below-first x y xs ys h k = grind (arith, nat_tests)
 
 -- a finish at a node is sooner than an arrival there that is no earlier
 finish-sooner : (rank : ℕ → ℕ) (v : ℕ) (e f : Event) → is_finish_at v e ≡ true → is_arrival_at v f ≡ true → IsNoEarlier rank e f → is_sooner rank e f ≡ true
-unfolding place_of
+unfolding order_key
 finish-sooner rank v (Arrive t n q j) f a b h = absurd cc
 finish-sooner rank v (Finish t n q j) (Finish t' n' q' j') a b h = absurd cc
 finish-sooner rank v (Finish t n q j) (Arrive t' n' q' j') a b h =

@@ -3,7 +3,7 @@ use Rattle.std.proofs.Common.{ℕ, ◌+◌, ◌*◌, ◌^◌, ◌≤◌, List, [
 use Rattle.std.specs.List.{AllByRecursion as Each, flat_map}
 use Rattle.std.proofs.lemmas.List.{length-map}
 use Rattle.mq_base.proofs.lemmas.Each.{Each-back as each-back, Each-front as each-front}
-use Rattle.mq_core.specs.Recurrences.{lindley, in_series, later_of, fork_departs}
+use Rattle.mq_core.specs.Recurrences.{lindley, in_series, later_of, forkjoin_departs}
 use Rattle.mq_core.specs.Kinds.ForkJoin.{branch_demands}
 use Rattle.mq_core.specs.declared.model.Demand.{Demand}
 use Rattle.mq_core.specs.declared.model.Rows.{Rows}
@@ -31,13 +31,13 @@ series-room : (servers add : ℕ) → servers ≤ 8 → servers * add ≤ 8 * ad
 series-room servers add few = grind arith
 
 -- through branches side by side, none of more than 8 servers
-pub fork-by : (limit top jobs : ℕ) (times : List ℕ) (branches : List (List (List ℕ))) → length times ≤ jobs → top + jobs * 2 ^ 39 ≤ limit → Each (λ branch. length branch ≤ 8) branches → AreBy top times → Each (λ branch. Each AreSmall branch) branches → AreBy limit (fork_departs times branches)
-fork-by limit top jobs times [] few room servers ts ds = by-later top limit times (omega arith) ts
-fork-by limit top jobs times (branch ∷ branches) few room servers ts ds =
+pub forkjoin-by : (limit top jobs : ℕ) (times : List ℕ) (branches : List (List (List ℕ))) → length times ≤ jobs → top + jobs * 2 ^ 39 ≤ limit → Each (λ branch. length branch ≤ 8) branches → AreBy top times → Each (λ branch. Each AreSmall branch) branches → AreBy limit (forkjoin_departs times branches)
+forkjoin-by limit top jobs times [] few room servers ts ds = by-later top limit times (omega arith) ts
+forkjoin-by limit top jobs times (branch ∷ branches) few room servers ts ds =
     let wide = series-room (length branch) (jobs * 2 ^ 36) servers.0 in
-    later-by limit (in_series times branch) (fork_departs times branches)
+    later-by limit (in_series times branch) (forkjoin_departs times branches)
     (series-by limit top jobs times branch few (omega arith) ts ds.0)
-    (fork-by limit top jobs times branches few room servers.1 ts ds.1)
+    (forkjoin-by limit top jobs times branches few room servers.1 ts ds.1)
 
 pub servers-small : (rows : Rows) (jobs : List ℕ) (demands : List Demand) → Each (λ demand. AreSmall (asked rows jobs demand)) demands → Each AreSmall (map (λ demand. asked rows jobs demand) demands)
 servers-small rows jobs [] h = tt

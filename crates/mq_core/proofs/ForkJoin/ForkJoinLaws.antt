@@ -3,7 +3,7 @@ use Rattle.std.proofs.Common.{List, arith, inl, length, refl, ℕ, ◌+◌, ◌�
 use Rattle.std.specs.List.{flat_map}
 use Rattle.std.specs.Prelude.{sum_by}
 use Rattle.mq_core.specs.Handling.{demand_of_visit}
-use Rattle.mq_core.specs.Kinds.ForkJoin.{fork_join}
+use Rattle.mq_core.specs.Kinds.ForkJoin.{forkjoin}
 use Rattle.mq_core.specs.declared.model.Demand.{Demand}
 use Rattle.mq_core.specs.declared.model.Kind.TheVariants.{ForkJoin}
 use Rattle.mq_core.specs.declared.model.Rows.{Rows}
@@ -12,65 +12,65 @@ use Rattle.mq_core.proofs.Counting.Services.{services-by, services-count}
 use Rattle.mq_core.proofs.ForkJoin.ForkJoinStays.{none-asks}
 use Rattle.mq_core.proofs.EachKind.KindLaws.{Inside, KindLaws, OnceLaws, OwnLaws, own_out}
 use Rattle.mq_core.proofs.Events.Remaining.{remaining}
-use Rattle.mq_core.proofs.ForkJoin.JoinBusy.{branches_begun, joining-busy_arrives, joining-busy_ends, joining-busy_opens, joining-busy_waits}
-use Rattle.mq_core.proofs.ForkJoin.JoinEnds.{joining-done}
-use Rattle.mq_core.proofs.ForkJoin.JoinLoads.{fork_load, fork_load-opening, joining-arrives-falls, joining-ends-falls, joining-ends-few, joining-shows}
-use Rattle.mq_core.proofs.ForkJoin.JoinServices.{joining-busy_done}
-use Rattle.mq_core.proofs.ForkJoin.JoinTallies.{joining-earlier, joining-more, joining-number}
-use Rattle.mq_core.proofs.ForkJoin.Joins.{Joining, joining-arrives, joining-ends, joining-opens, joining-waits}
-use Rattle.mq_core.proofs.ForkJoin.ForkShapes.{branches-shaped}
+use Rattle.mq_core.proofs.ForkJoin.ForkJoinBusy.{branches_begun, forkjoining-busy_arrives, forkjoining-busy_ends, forkjoining-busy_opens, forkjoining-busy_waits}
+use Rattle.mq_core.proofs.ForkJoin.ForkJoinEnds.{forkjoining-done}
+use Rattle.mq_core.proofs.ForkJoin.ForkJoinLoads.{forkjoin_load, forkjoin_load-opening, forkjoining-arrives-falls, forkjoining-ends-falls, forkjoining-ends-few, forkjoining-shows}
+use Rattle.mq_core.proofs.ForkJoin.ForkJoinServices.{forkjoining-busy_done}
+use Rattle.mq_core.proofs.ForkJoin.ForkJoinTallies.{forkjoining-earlier, forkjoining-more, forkjoining-number}
+use Rattle.mq_core.proofs.ForkJoin.ForkJoins.{ForkJoining, forkjoining-arrives, forkjoining-ends, forkjoining-opens, forkjoining-waits}
+use Rattle.mq_core.proofs.ForkJoin.ForkJoinShapes.{branches-shaped}
 
 -- what holds of it between two events
-abbrev pub fork_join-inside : Rows → List (List Demand) → Inside
-fork_join-inside rows branches =
+abbrev pub forkjoin-inside : Rows → List (List Demand) → Inside
+forkjoin-inside rows branches =
     record {
-      fact = λ v s fs now. Joining rows branches v s.visits s.local.branches s.emitted fs now;
-      load = λ onward local. fork_load onward branches local;
+      fact = λ v s fs now. ForkJoining rows branches v s.visits s.local.branches s.emitted fs now;
+      load = λ onward local. forkjoin_load onward branches local;
       busy = λ s fs now. s.busy + remaining now fs ≡ branches_begun rows s.visits (length s.visits) branches s.local.branches;
     }
 
-pub fork_join-laws : (rows : Rows) (ports : ℕ) (branches : List (List Demand)) → KindLaws rows ports (fork_join branches) (fork_join-inside rows branches)
-fork_join-laws rows ports branches =
+pub forkjoin-laws : (rows : Rows) (ports : ℕ) (branches : List (List Demand)) → KindLaws rows ports (forkjoin branches) (forkjoin-inside rows branches)
+forkjoin-laws rows ports branches =
     record {
-      opens = λ columns v sound many. joining-opens rows branches v (branches-shaped columns branches sound);
-      waits = λ v s area busy fs now later l h. joining-waits rows branches v s.visits s.local.branches s.emitted fs now later l h;
-      arrives = λ peak v port s fs now x at by fit soon h. joining-arrives rows branches v port s.local s.visits s.emitted fs now x at soon h;
-      ends = λ peak rank v server position s fs rest now first h. joining-ends rows branches rank v server position s.local s.visits s.emitted fs rest now first h;
-      flow = λ v s now h. (joining-done rows branches v s.visits s.local.branches s.emitted now h).1;
-      number = λ v s fs now h. joining-number rows branches v s.visits s.local.branches s.emitted fs now h;
-      shows = λ rank v server position s fs rest now first h. joining-shows rows branches rank v server position s.local s.visits s.emitted fs rest now first h;
-      weightless = λ onward. fork_load-opening onward branches;
-      adds = λ onward v port job s visits fs now f. let a = joining-arrives-falls rows branches onward v port job s.local s.visits visits s.emitted fs now f in omega arith;
-      takes = λ onward rank v server position s fs rest now first f. joining-ends-falls rows branches rank onward v server position s.local s.visits s.emitted fs rest now first f;
-      idle = λ v. joining-busy_opens rows branches v;
-      works = λ v area s fs now later l f h b. joining-busy_waits rows branches v s.visits s.local.branches s.emitted fs now later s.busy l f h b;
-      busy_arrives = λ peak v port s fs now x at soon h b. joining-busy_arrives rows branches v port s.local s.visits fs now s.busy x b;
-      busy_ends = λ peak rank v server position s fs rest now first h b. joining-busy_ends rows branches v rank server position s.local s.visits s.emitted fs rest now s.busy first h b;
+      opens = λ columns v sound many. forkjoining-opens rows branches v (branches-shaped columns branches sound);
+      waits = λ v s area busy fs now later l h. forkjoining-waits rows branches v s.visits s.local.branches s.emitted fs now later l h;
+      arrives = λ peak v port s fs now x at by fit soon h. forkjoining-arrives rows branches v port s.local s.visits s.emitted fs now x at soon h;
+      ends = λ peak rank v server position s fs rest now first h. forkjoining-ends rows branches rank v server position s.local s.visits s.emitted fs rest now first h;
+      flow = λ v s now h. (forkjoining-done rows branches v s.visits s.local.branches s.emitted now h).1;
+      number = λ v s fs now h. forkjoining-number rows branches v s.visits s.local.branches s.emitted fs now h;
+      shows = λ rank v server position s fs rest now first h. forkjoining-shows rows branches rank v server position s.local s.visits s.emitted fs rest now first h;
+      weightless = λ onward. forkjoin_load-opening onward branches;
+      adds = λ onward v port job s visits fs now f. let a = forkjoining-arrives-falls rows branches onward v port job s.local s.visits visits s.emitted fs now f in omega arith;
+      takes = λ onward rank v server position s fs rest now first f. forkjoining-ends-falls rows branches rank onward v server position s.local s.visits s.emitted fs rest now first f;
+      idle = λ v. forkjoining-busy_opens rows branches v;
+      works = λ v area s fs now later l f h b. forkjoining-busy_waits rows branches v s.visits s.local.branches s.emitted fs now later s.busy l f h b;
+      busy_arrives = λ peak v port s fs now x at soon h b. forkjoining-busy_arrives rows branches v port s.local s.visits fs now s.busy x b;
+      busy_ends = λ peak rank v server position s fs rest now first h b. forkjoining-busy_ends rows branches v rank server position s.local s.visits s.emitted fs rest now s.busy first h b;
       served = λ v s now h k.
           let all = services-count rows (ForkJoin branches) s.visits s.emitted (λ m. refl) in
-          joining-busy_done rows branches v s.visits s.local.branches s.emitted _ _ h k
+          forkjoining-busy_done rows branches v s.visits s.local.branches s.emitted _ _ h k
           ∙ (services-by rows (ForkJoin branches) s.visits (λ o. sum_by (λ demand. demand_of_visit rows demand o) (flat_map (λ demands. demands) branches)) (none-asks rows (flat_map (λ demands. demands) branches)) (λ x. refl) ∙ all);
     }
 
 -- each visit leaves with its own emission
-pub fork_join-own : (rows : Rows) (ports : ℕ) (branches : List (List Demand)) → OwnLaws rows ports (fork_join branches) (fork_join-inside rows branches)
-fork_join-own rows ports branches =
+pub forkjoin-own : (rows : Rows) (ports : ℕ) (branches : List (List Demand)) → OwnLaws rows ports (forkjoin branches) (forkjoin-inside rows branches)
+forkjoin-own rows ports branches =
     record {
       exits = λ s p. refl;
       own = λ v port s now x q m e. absurd cc;
-      earlier = λ rank v server position s fs rest now first h q p m e l u. joining-earlier rows branches rank v server position s.local s.visits s.emitted fs rest now first h q p m e l u;
+      earlier = λ rank v server position s fs rest now first h q p m e l u. forkjoining-earlier rows branches rank v server position s.local s.visits s.emitted fs rest now first h q p m e l u;
     }
 
 -- what it owes as it lets each visit out once
-pub fork_join-once : (rows : Rows) (ports : ℕ) (branches : List (List Demand)) → OnceLaws rows ports (fork_join branches) (fork_join-inside rows branches)
-fork_join-once rows ports branches =
+pub forkjoin-once : (rows : Rows) (ports : ℕ) (branches : List (List Demand)) → OnceLaws rows ports (forkjoin branches) (forkjoin-inside rows branches)
+forkjoin-once rows ports branches =
     record {
       one = omega arith;
       all = refl;
-      empty = λ v s now h. (joining-done rows branches v s.visits s.local.branches s.emitted _ h).0;
-      enters = λ v port s fs now x at f. let more = joining-more rows branches v port s.local s.visits s.emitted fs now x at f in omega arith;
-      leaves = λ rank v server position s fs rest now first h. joining-ends-few rows branches rank v server position s.local s.visits s.emitted fs rest now first h;
+      empty = λ v s now h. (forkjoining-done rows branches v s.visits s.local.branches s.emitted _ h).0;
+      enters = λ v port s fs now x at f. let more = forkjoining-more rows branches v port s.local s.visits s.emitted fs now x at f in omega arith;
+      leaves = λ rank v server position s fs rest now first h. forkjoining-ends-few rows branches rank v server position s.local s.visits s.emitted fs rest now first h;
       vacant = omega arith;
-      raises = λ v port s fs now x at h f. inl (joining-more rows branches v port s.local s.visits s.emitted fs now x at f, λ n. departing-whole (ForkJoin branches) (λ m. refl) (own_out rows ports (fork_join branches) v port s now x) n);
+      raises = λ v port s fs now x at h f. inl (forkjoining-more rows branches v port s.local s.visits s.emitted fs now x at f, λ n. departing-whole (ForkJoin branches) (λ m. refl) (own_out rows ports (forkjoin branches) v port s now x) n);
       departs = λ v server position s now q m e. refl;
     }

@@ -4,7 +4,7 @@ use Rattle.std.proofs.lemmas.Bool.{and_parts}
 use Rattle.std.specs.List.{flat_map, AllByRecursion as Each, list_all}
 use Rattle.std.specs.Prelude.{nat_le, ◌&&◌}
 use Rattle.mq_base.proofs.lemmas.Each.{Each-weaker, Each-append}
-use Rattle.mq_core.specs.Kinds.ForkJoin.{fork_join}
+use Rattle.mq_core.specs.Kinds.ForkJoin.{forkjoin}
 use Rattle.mq_core.specs.Ranges.{is_within, is_sound_demand}
 use Rattle.mq_core.specs.declared.model.Demand.{Demand}
 use Rattle.mq_core.specs.Told.{HasDemand}
@@ -13,7 +13,7 @@ use Rattle.mq_core.specs.Theorems.{IsReadFor}
 use Rattle.mq_core.specs.declared.model.Network.{Network}
 use Rattle.mq_core.specs.declared.model.Rows.{Rows}
 use Rattle.mq_core.proofs.EachKind.LimitLaws.{LimitLaws}
-use Rattle.mq_core.proofs.ForkJoin.ForkShapes.{all-servers, branches-shaped}
+use Rattle.mq_core.proofs.ForkJoin.ForkJoinShapes.{all-servers, branches-shaped}
 use Rattle.mq_core.proofs.Networks.Told.{within-most, tells-demand}
 
 -- the demands of all branches, one after another
@@ -31,8 +31,8 @@ tells-branches net rows read job below (demands ∷ more) h =
     let b = and_parts (is_within 1 4 (length demands)) (list_all (is_sound_demand (length net.columns)) demands) a.0 in
     Each-append _ demands (flat_map (λ ds. ds) more) (tells-demands net rows read job below demands b.1) (tells-branches net rows read job below more a.1)
 
-pub fork_join-limits : (branches : List (List Demand)) → LimitLaws (fork_join branches)
-fork_join-limits branches =
+pub forkjoin-limits : (branches : List (List Demand)) → LimitLaws (forkjoin branches)
+forkjoin-limits branches =
     record {
       outputs = λ columns h. omega arith;
       servers = λ columns h. let l = (branches-shaped columns branches h).few in let e = all-servers branches in omega arith;

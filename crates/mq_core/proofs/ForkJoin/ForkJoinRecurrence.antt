@@ -2,40 +2,40 @@
 use Rattle.std.proofs.Common.{List, arith, length, refl, ℕ}
 use Rattle.std.specs.List.{flat_map}
 use Rattle.mq_base.proofs.lemmas.Each.{Each-weaker}
-use Rattle.mq_core.specs.Kinds.ForkJoin.{fork_join}
+use Rattle.mq_core.specs.Kinds.ForkJoin.{forkjoin}
 use Rattle.mq_core.specs.PlanLaws.{Tells}
-use Rattle.mq_core.specs.Recurrences.{fork_departs}
+use Rattle.mq_core.specs.Recurrences.{forkjoin_departs}
 use Rattle.mq_core.specs.Results.{bare_time}
 use Rattle.mq_core.specs.Kinds.ForkJoin.{branch_demands}
 use Rattle.mq_core.specs.declared.model.Demand.{Demand}
 use Rattle.mq_core.specs.declared.model.Kind.TheVariants.{ForkJoin}
 use Rattle.mq_core.specs.declared.model.Rows.{Rows}
 use Rattle.mq_core.proofs.Bounded.BoundedAsked.{all-small}
-use Rattle.mq_core.proofs.ForkJoin.ForkJoinBounded.{branches-few, branches-small, fork-by}
+use Rattle.mq_core.proofs.ForkJoin.ForkJoinBounded.{branches-few, branches-small, forkjoin-by}
 use Rattle.mq_core.proofs.Bounded.BoundedStations.{departs-by}
-use Rattle.mq_core.proofs.Counting.ColumnNumbers.{leaving-numbered}
-use Rattle.mq_core.proofs.Counting.FlowColumns.{departing-leaves, leaving-fates, leaving-outs}
+use Rattle.mq_core.proofs.Counting.SequenceNumbers.{leaving-numbered}
+use Rattle.mq_core.proofs.Counting.FlowSequences.{departing-leaves, leaving-fates, leaving-outs}
 use Rattle.mq_core.proofs.Counting.Stays.{stay-fates}
-use Rattle.mq_core.proofs.ForkJoin.ForkJoinStays.{stay-joined}
+use Rattle.mq_core.proofs.ForkJoin.ForkJoinStays.{stay-in_forkjoin}
 use Rattle.mq_core.proofs.EachKind.RecurrenceLaws.{RecurrenceLaws}
 use Rattle.mq_core.proofs.Events.Exits.{until-own}
-use Rattle.mq_core.proofs.ForkJoin.ForkTimes.{joined-long, when-joined}
+use Rattle.mq_core.proofs.ForkJoin.ForkJoinTimes.{forkjoin-long, when-in_forkjoin}
 
-pub fork_join-recurrence : (rows : Rows) (ports : ℕ) (branches : List (List Demand)) → RecurrenceLaws rows ports (fork_join branches)
-fork_join-recurrence rows ports branches =
+pub forkjoin-recurrence : (rows : Rows) (ports : ℕ) (branches : List (List Demand)) → RecurrenceLaws rows ports (forkjoin branches)
+forkjoin-recurrence rows ports branches =
     record {
-      numbered = λ visits. leaving-numbered 0 _ visits (joined-long rows branches visits);
+      numbered = λ visits. leaving-numbered 0 _ visits (forkjoin-long rows branches visits);
       leaves = λ visits. departing-leaves (ForkJoin branches) (λ m. refl) _ visits;
-      fares = λ visits. leaving-fates (ForkJoin branches) (λ m. refl) 0 _ visits (joined-long rows branches visits);
-      goes = λ visits. leaving-outs 0 _ visits (joined-long rows branches visits);
+      fares = λ visits. leaving-fates (ForkJoin branches) (λ m. refl) 0 _ visits (forkjoin-long rows branches visits);
+      goes = λ visits. leaving-outs 0 _ visits (forkjoin-long rows branches visits);
       stands = λ mixed visits rise out. absurd cc;
       prompt = λ now m l. l;
-      in_time = λ came e. when-joined rows branches came.job came.arrive e;
-      stays = λ came e. stay-fates (bare_time rows (ForkJoin branches)) came.job came.arrive _ (stay-joined rows branches came.job came.arrive e);
+      in_time = λ came e. when-in_forkjoin rows branches came.job came.arrive e;
+      stays = λ came e. stay-fates (bare_time rows (ForkJoin branches)) came.job came.arrive _ (stay-in_forkjoin rows branches came.job came.arrive e);
       bounded = λ net came limit top sound few told room early.
           let small = all-small rows came.job (flat_map (λ (ds : List Demand). ds) branches) (Each-weaker _ _ (λ job (t : Tells net rows job). (t.kind (ForkJoin branches) sound).small) came.job told) in
-          departs-by limit (fork_departs came.arrive (branch_demands rows branches came.job))
-          (fork-by limit top (length came.arrive) came.arrive (branch_demands rows branches came.job) (omega arith) room (branches-few rows came.job branches few) early (branches-small rows came.job branches small));
+          departs-by limit (forkjoin_departs came.arrive (branch_demands rows branches came.job))
+          (forkjoin-by limit top (length came.arrive) came.arrive (branch_demands rows branches came.job) (omega arith) room (branches-few rows came.job branches few) early (branches-small rows came.job branches small));
       blind = λ came. (refl, refl);
       until = λ time position o. until-own time position o;
       finds = λ came. refl;

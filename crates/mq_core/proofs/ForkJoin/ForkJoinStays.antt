@@ -3,15 +3,15 @@ use Rattle.std.proofs.Common.{List, [], arith, length, map, sym, ℕ, ◌+◌, �
 use Rattle.std.proofs.lemmas.List.Sums.{sum_by-cons}
 use Rattle.std.specs.Prelude.{max, sum_by}
 use Rattle.mq_core.specs.Handling.{demand_of_job, demand_of_visit}
-use Rattle.mq_core.specs.Recurrences.{fork_departs, in_series, later_of, lindley}
+use Rattle.mq_core.specs.Recurrences.{forkjoin_departs, in_series, later_of, lindley}
 use Rattle.mq_core.specs.Results.{bare_time}
 use Rattle.mq_core.specs.Kinds.ForkJoin.{branch_demands}
 use Rattle.mq_core.specs.declared.model.Demand.{Demand}
 use Rattle.mq_core.specs.declared.model.Kind.TheVariants.{ForkJoin}
 use Rattle.mq_core.specs.declared.model.Rows.{Rows}
-use Rattle.mq_core.proofs.ForkJoin.ForkTimes.{at_least-length, demands-long, in_series-at_least}
+use Rattle.mq_core.proofs.ForkJoin.ForkJoinTimes.{at_least-length, demands-long, in_series-at_least}
 use Rattle.mq_core.proofs.Lists.NumberLists.{greatest-cons}
-use Rattle.mq_core.proofs.Server.ServerColumns.{stay-served}
+use Rattle.mq_core.proofs.Server.ServerSequences.{stay-served}
 use Rattle.mq_core.proofs.Counting.Stays.{Stay, stay-none}
 
 -- to stay at one after the other is to stay both times
@@ -48,11 +48,11 @@ stay-in_series rows (d ∷ ds) job arrive e =
     stay-both (demand_of_job rows d) (in_branch rows ds) (in_branch rows (d ∷ ds)) (λ j. sum_by-cons (λ demand. demand_of_job rows demand j) d ds)
     job arrive between _ (stay-served 0 (demand_of_job rows d) job arrive) (stay-in_series rows ds job between (e ∙ sym long))
 
-pub stay-joined : (rows : Rows) (branches : List (List Demand)) (job arrive : List ℕ) → length job ≡ length arrive → Stay (bare_time rows (ForkJoin branches)) job arrive (fork_departs arrive (branch_demands rows branches job))
-stay-joined rows [] job arrive e = stay-none job arrive e
-stay-joined rows (ds ∷ more) job arrive e =
+pub stay-in_forkjoin : (rows : Rows) (branches : List (List Demand)) (job arrive : List ℕ) → length job ≡ length arrive → Stay (bare_time rows (ForkJoin branches)) job arrive (forkjoin_departs arrive (branch_demands rows branches job))
+stay-in_forkjoin rows [] job arrive e = stay-none job arrive e
+stay-in_forkjoin rows (ds ∷ more) job arrive e =
     stay-later (in_branch rows ds) (bare_time rows (ForkJoin more)) (bare_time rows (ForkJoin (ds ∷ more))) (λ j. greatest-cons (in_branch rows ds j) (map (λ demands. in_branch rows demands j) more))
-    job arrive _ _ (stay-in_series rows ds job arrive e) (stay-joined rows more job arrive e)
+    job arrive _ _ (stay-in_series rows ds job arrive e) (stay-in_forkjoin rows more job arrive e)
 
 pub none-asks : (rows : Rows) (demands : List Demand) → sum_by (λ demand. demand_of_visit rows demand None) demands ≡ 0
 none-asks rows [] = refl

@@ -2,8 +2,8 @@
 use Rattle.mq_core.specs.Came.{came_by}
 use Rattle.std.proofs.Common.{◌≡◌, ℕ, false, [], ◌∷◌, refl, arith}
 use Rattle.std.specs.Prelude.{IsTrue, codes}
-use Rattle.mq_core.specs.Columns.{column_exit, column_stream, column_totals, column_visits}
-use Rattle.mq_core.specs.Event.{earliest, is_below, place_of, sooner_of}
+use Rattle.mq_core.specs.Sequences.{sequence_exit, sequence_stream, sequence_totals, sequence_visits}
+use Rattle.mq_core.specs.Event.{earliest, is_below, order_key, sooner_of}
 use Rattle.mq_core.specs.Local.{Local}
 use Rattle.mq_core.specs.Machine.{State, after, step}
 use Rattle.mq_core.specs.NetworkRun.{run_in}
@@ -46,16 +46,16 @@ IsSingle end =
     × (stream_from (end.stations 1) 1 ≡ record { job = 1 ∷ 3 ∷ []; time = 1 ∷ 3 ∷ [] })
 
 single-row : IsSingle (run_in (loss_net 1 2) four)
-unfolding after step earliest sooner_of is_below place_of rank_in reader_from port_reading ranked_after first_ready
+unfolding after step earliest sooner_of is_below order_key rank_in reader_from port_reading ranked_after first_ready
 single-row = at-end 10 (loss_net 1 2) four IsSingle (omega arith) refl ((refl, refl), refl, refl, refl, refl, refl, refl, refl)
 
--- the same in columns
-columns-single : (column_visits four (Loss 1 (Fixed 2)) (came_by (0 ∷ 1 ∷ 2 ∷ 3 ∷ []) (0 ∷ 1 ∷ 2 ∷ 3 ∷ [])) ≡ single_visits)
-    × (column_stream four (Loss 1 (Fixed 2)) (came_by (0 ∷ 1 ∷ 2 ∷ 3 ∷ []) (0 ∷ 1 ∷ 2 ∷ 3 ∷ [])) 0 ≡ record { job = 0 ∷ 2 ∷ []; time = 2 ∷ 4 ∷ [] })
-    × (column_stream four (Loss 1 (Fixed 2)) (came_by (0 ∷ 1 ∷ 2 ∷ 3 ∷ []) (0 ∷ 1 ∷ 2 ∷ 3 ∷ [])) 1 ≡ record { job = 1 ∷ 3 ∷ []; time = 1 ∷ 3 ∷ [] })
-    × (column_totals four (Loss 1 (Fixed 2)) single_visits ≡ record { came = 4; left = 2; lost = 2; wait = 0; longest = 0; busy = 4; area = 4; peak = 1 })
-    × (column_exit four (record { job = 1 ∷ 3 ∷ []; time = 1 ∷ 3 ∷ [] }) ≡ (2, 0))
-columns-single = (refl, refl, refl, refl, refl)
+-- the same in sequences
+sequences-single : (sequence_visits four (Loss 1 (Fixed 2)) (came_by (0 ∷ 1 ∷ 2 ∷ 3 ∷ []) (0 ∷ 1 ∷ 2 ∷ 3 ∷ [])) ≡ single_visits)
+    × (sequence_stream four (Loss 1 (Fixed 2)) (came_by (0 ∷ 1 ∷ 2 ∷ 3 ∷ []) (0 ∷ 1 ∷ 2 ∷ 3 ∷ [])) 0 ≡ record { job = 0 ∷ 2 ∷ []; time = 2 ∷ 4 ∷ [] })
+    × (sequence_stream four (Loss 1 (Fixed 2)) (came_by (0 ∷ 1 ∷ 2 ∷ 3 ∷ []) (0 ∷ 1 ∷ 2 ∷ 3 ∷ [])) 1 ≡ record { job = 1 ∷ 3 ∷ []; time = 1 ∷ 3 ∷ [] })
+    × (sequence_totals four (Loss 1 (Fixed 2)) single_visits ≡ record { came = 4; left = 2; lost = 2; wait = 0; longest = 0; busy = 4; area = 4; peak = 1 })
+    × (sequence_exit four (record { job = 1 ∷ 3 ∷ []; time = 1 ∷ 3 ∷ [] }) ≡ (2, 0))
+sequences-single = (refl, refl, refl, refl, refl)
 
 -- Two places: the third job finds both taken, and the fourth comes as the first leaves.
 abbrev IsDouble : State Local → Type 0
@@ -65,7 +65,7 @@ IsDouble end =
     × (totals_of four (Loss 2 (Fixed 3)) (end.stations 1) ≡ record { came = 4; left = 3; lost = 1; wait = 5; longest = 3; busy = 9; area = 14; peak = 2 })
 
 double-row : IsDouble (run_in (loss_net 2 3) four)
-unfolding after step earliest sooner_of is_below place_of rank_in reader_from port_reading ranked_after first_ready
+unfolding after step earliest sooner_of is_below order_key rank_in reader_from port_reading ranked_after first_ready
 double-row = at-end 11 (loss_net 2 3) four IsDouble (omega arith) refl ((refl, refl), refl, refl)
 
 -- A server takes up those that are lost.
@@ -82,5 +82,5 @@ IsOverflow end =
     × (exit_of four (end.stations 1) 0 ≡ (2, 4)) × (exit_of four (end.stations 2) 0 ≡ (2, 7))
 
 overflow-row : IsTrue (is_sound overflow_net) × IsOverflow (run_in overflow_net four)
-unfolding after step earliest sooner_of is_below place_of rank_in reader_from port_reading ranked_after first_ready
+unfolding after step earliest sooner_of is_below order_key rank_in reader_from port_reading ranked_after first_ready
 overflow-row = (refl, at-end 14 overflow_net four IsOverflow (omega arith) refl ((refl, refl), refl, refl, refl, refl))

@@ -1,6 +1,6 @@
 -- The recurrences of the stations, computed on cases worked by hand.
 use Rattle.std.proofs.Common.{◌≡◌, [], ◌∷◌, refl}
-use Rattle.mq_core.specs.Recurrences.{lindley, delayed, loss_fates, fork_departs, tandem_departs}
+use Rattle.mq_core.specs.Recurrences.{lindley, delayed, loss_fates, forkjoin_departs, tandem_departs}
 use Rattle.mq_core.specs.declared.model.Fate.TheVariants.{Departs, Lost}
 
 server-row : lindley 0 (0 ∷ 1 ∷ 2 ∷ []) (4 ∷ 1 ∷ 3 ∷ []) ≡ 4 ∷ 5 ∷ 8 ∷ []
@@ -17,11 +17,11 @@ loss-row = refl
 expert-row : loss_fates 2 [] (2 ∷ 3 ∷ 6 ∷ 7 ∷ 9 ∷ 10 ∷ []) (6 ∷ 5 ∷ 4 ∷ 3 ∷ 2 ∷ 1 ∷ []) ≡ Departs 8 ∷ Departs 13 ∷ Lost ∷ Lost ∷ Departs 15 ∷ Lost ∷ []
 expert-row = refl
 
-fork-row : fork_departs (0 ∷ 1 ∷ []) (((2 ∷ 2 ∷ []) ∷ []) ∷ ((3 ∷ 3 ∷ []) ∷ []) ∷ []) ≡ 3 ∷ 6 ∷ []
-fork-row = refl
+forkjoin-row : forkjoin_departs (0 ∷ 1 ∷ []) (((2 ∷ 2 ∷ []) ∷ []) ∷ ((3 ∷ 3 ∷ []) ∷ []) ∷ []) ≡ 3 ∷ 6 ∷ []
+forkjoin-row = refl
 
 -- a branch of two servers beside one of a single server
-series-row : fork_departs (0 ∷ 1 ∷ []) (((1 ∷ 1 ∷ []) ∷ (2 ∷ 2 ∷ []) ∷ []) ∷ ((4 ∷ 4 ∷ []) ∷ []) ∷ []) ≡ 4 ∷ 8 ∷ []
+series-row : forkjoin_departs (0 ∷ 1 ∷ []) (((1 ∷ 1 ∷ []) ∷ (2 ∷ 2 ∷ []) ∷ []) ∷ ((4 ∷ 4 ∷ []) ∷ []) ∷ []) ≡ 4 ∷ 8 ∷ []
 series-row = refl
 
 tandem-row : tandem_departs (0 ∷ 1 ∷ []) ([] ∷ [] ∷ []) (0 ∷ 0 ∷ 0 ∷ []) ((1 ∷ 1 ∷ 1 ∷ []) ∷ (3 ∷ 3 ∷ 3 ∷ []) ∷ []) ≡ 4 ∷ 7 ∷ 10 ∷ []

@@ -2,8 +2,8 @@
 use Rattle.mq_core.specs.Came.{came_by}
 use Rattle.std.proofs.Common.{◌≡◌, ℕ, false, List, [], ◌∷◌, refl, arith}
 use Rattle.std.specs.Prelude.{IsTrue, codes}
-use Rattle.mq_core.specs.Columns.{column_stream, column_totals, column_visits}
-use Rattle.mq_core.specs.Event.{earliest, is_below, place_of, sooner_of}
+use Rattle.mq_core.specs.Sequences.{sequence_stream, sequence_totals, sequence_visits}
+use Rattle.mq_core.specs.Event.{earliest, is_below, order_key, sooner_of}
 use Rattle.mq_core.specs.Local.{Local}
 use Rattle.mq_core.specs.Machine.{State, after, step}
 use Rattle.mq_core.specs.NetworkRun.{run_in}
@@ -42,7 +42,7 @@ IsBlocking end =
     × (exit_of blocking_rows (end.stations 1) 0 ≡ (3, 21))
 
 blocking-row : IsTrue (is_sound (line_net [] blocking_stages)) × IsBlocking (run_in (line_net [] blocking_stages) blocking_rows)
-unfolding after step earliest sooner_of is_below place_of rank_in reader_from port_reading ranked_after first_ready
+unfolding after step earliest sooner_of is_below order_key rank_in reader_from port_reading ranked_after first_ready
 blocking-row = (refl, at-end 12 (line_net [] blocking_stages) blocking_rows IsBlocking (omega arith) refl ((refl, refl), refl, refl, refl))
 
 -- The second job is done at the first stage at 2 and stays there until 4, when the first job leaves; only then the third begins.
@@ -63,15 +63,15 @@ IsColumn end =
     × (exit_of column_rows (end.stations 1) 0 ≡ (3, 19))
 
 column-row : IsTrue (is_sound column_net) × IsColumn (run_in column_net column_rows)
-unfolding after step earliest sooner_of is_below place_of rank_in reader_from port_reading ranked_after first_ready
+unfolding after step earliest sooner_of is_below order_key rank_in reader_from port_reading ranked_after first_ready
 column-row = (refl, at-end 12 column_net column_rows IsColumn (omega arith) refl ((refl, refl), refl, refl, refl))
 
--- the same in columns
-column-columns : (column_visits column_rows (Tandem column_stages) (came_by (0 ∷ 1 ∷ 2 ∷ []) (0 ∷ 0 ∷ 0 ∷ [])) ≡ record { job = 0 ∷ 1 ∷ 2 ∷ []; arrive = 0 ∷ 0 ∷ 0 ∷ []; found = 0 ∷ 1 ∷ 2 ∷ []; fate = Departs 4 ∷ Departs 5 ∷ Departs 10 ∷ [] })
-    × (column_stream column_rows (Tandem column_stages) (came_by (0 ∷ 1 ∷ 2 ∷ []) (0 ∷ 0 ∷ 0 ∷ [])) 0 ≡ record { job = 0 ∷ 1 ∷ 2 ∷ []; time = 4 ∷ 5 ∷ 10 ∷ [] })
-    × (column_totals column_rows (Tandem column_stages) (column_visits column_rows (Tandem column_stages) (came_by (0 ∷ 1 ∷ 2 ∷ []) (0 ∷ 0 ∷ 0 ∷ []))) ≡ record { came = 3; left = 3; lost = 0; wait = 7; longest = 4; busy = 12; area = 19; peak = 3 })
+-- the same in sequences
+column-sequences : (sequence_visits column_rows (Tandem column_stages) (came_by (0 ∷ 1 ∷ 2 ∷ []) (0 ∷ 0 ∷ 0 ∷ [])) ≡ record { job = 0 ∷ 1 ∷ 2 ∷ []; arrive = 0 ∷ 0 ∷ 0 ∷ []; found = 0 ∷ 1 ∷ 2 ∷ []; fate = Departs 4 ∷ Departs 5 ∷ Departs 10 ∷ [] })
+    × (sequence_stream column_rows (Tandem column_stages) (came_by (0 ∷ 1 ∷ 2 ∷ []) (0 ∷ 0 ∷ 0 ∷ [])) 0 ≡ record { job = 0 ∷ 1 ∷ 2 ∷ []; time = 4 ∷ 5 ∷ 10 ∷ [] })
+    × (sequence_totals column_rows (Tandem column_stages) (sequence_visits column_rows (Tandem column_stages) (came_by (0 ∷ 1 ∷ 2 ∷ []) (0 ∷ 0 ∷ 0 ∷ []))) ≡ record { came = 3; left = 3; lost = 0; wait = 7; longest = 4; busy = 12; area = 19; peak = 3 })
     × (bare_time column_rows (Tandem column_stages) 2 ≡ 6) × (servers_in (Tandem column_stages) ≡ 2)
-column-columns = (refl, refl, refl, refl, refl)
+column-sequences = (refl, refl, refl, refl, refl)
 
 -- Three stages, the last of them slow: when it ends, the fronts of all stages move, each by one stage.
 abbrev long_stages : List Stage
@@ -86,7 +86,7 @@ IsLong end =
     × (seen end 1 ≡ record { left = (0, 0, 7) ∷ (1, 0, 12) ∷ (2, 0, 17) ∷ (3, 0, 22) ∷ []; found = 0 ∷ 1 ∷ 2 ∷ 3 ∷ []; area = 58; busy = 28; peak = 4 })
 
 long-row : IsTrue (is_sound (line_net [] long_stages)) × IsLong (run_in (line_net [] long_stages) long_rows)
-unfolding after step earliest sooner_of is_below place_of rank_in reader_from port_reading ranked_after first_ready
+unfolding after step earliest sooner_of is_below order_key rank_in reader_from port_reading ranked_after first_ready
 long-row = (refl, at-end 20 (line_net [] long_stages) long_rows IsLong (omega arith) refl ((refl, refl), refl))
 
 -- a demand of 0 at each stage: a job goes through at once, also where others come at the same time
@@ -100,7 +100,7 @@ abbrev IsIdle : State Local → Type 0
 IsIdle end = EndsAt end 3 × (seen end 1 ≡ record { left = (0, 0, 3) ∷ (1, 0, 3) ∷ []; found = 0 ∷ 0 ∷ []; area = 0; busy = 0; peak = 1 })
 
 idle-row : IsIdle (run_in idle_net idle_rows)
-unfolding after step earliest sooner_of is_below place_of rank_in reader_from port_reading ranked_after first_ready
+unfolding after step earliest sooner_of is_below order_key rank_in reader_from port_reading ranked_after first_ready
 idle-row = at-end 8 idle_net idle_rows IsIdle (omega arith) refl ((refl, refl), refl)
 
 -- one stage is too few and five are too many; the first has no place, and each other 1 to 4

@@ -2,8 +2,8 @@
 use Rattle.mq_core.specs.Came.{came_by}
 use Rattle.std.proofs.Common.{◌≡◌, ℕ, zero, suc, ◌<◌, List, [], ◌∷◌, Some, None, map, refl, arith, ◌∙◌}
 use Rattle.std.specs.Prelude.{IsTrue, codes}
-use Rattle.mq_core.specs.Columns.{column_exit, column_span, column_stream, column_totals, column_visits, visits_by_node}
-use Rattle.mq_core.specs.Event.{earliest, is_below, place_of, sooner_of}
+use Rattle.mq_core.specs.Sequences.{sequence_exit, sequence_span, sequence_stream, sequence_totals, sequence_visits, visits_by_node}
+use Rattle.mq_core.specs.Event.{earliest, is_below, order_key, sooner_of}
 use Rattle.mq_core.specs.Local.{Local}
 use Rattle.mq_core.specs.Machine.{Emission, State, Visit, after, step}
 use Rattle.mq_core.specs.NetworkRun.{past_in, run_in}
@@ -73,7 +73,7 @@ abbrev no_rows : Rows
 no_rows = rows_of [] [] ([] ∷ [])
 
 empty-row : EndsAt (run_in (desk_net 7) no_rows) 0 × (seen (run_in (desk_net 7) no_rows) 1 ≡ record { left = []; found = []; area = 0; busy = 0; peak = 0 })
-unfolding after step earliest sooner_of is_below place_of rank_in reader_from port_reading ranked_after first_ready
+unfolding after step earliest sooner_of is_below order_key rank_in reader_from port_reading ranked_after first_ready
 empty-row = ((refl, refl), refl)
 
 -- Three rows, of which two wait.
@@ -103,17 +103,17 @@ IsOrdinary end =
     × (visits_by_node end 0 (desk_net 100).nodes ≡ source_visits ∷ desk_visits ∷ []) × (stream_from (end.stations 1) 0 ≡ desk_stream)
 
 ordinary-row : IsOrdinary (run_in (desk_net 100) three)
-unfolding after step earliest sooner_of is_below place_of rank_in reader_from port_reading ranked_after first_ready
+unfolding after step earliest sooner_of is_below order_key rank_in reader_from port_reading ranked_after first_ready
 ordinary-row = at-end 9 (desk_net 100) three IsOrdinary (omega arith) refl ((refl, refl), refl, refl, refl, refl, refl, refl)
 
--- the same in columns
-ordinary-columns : (column_visits three (Server (Column 0)) (came_by (0 ∷ 1 ∷ 2 ∷ []) (0 ∷ 1 ∷ 2 ∷ [])) ≡ desk_visits)
-    × (column_visits three Source (came_by (0 ∷ 1 ∷ 2 ∷ []) (0 ∷ 1 ∷ 2 ∷ [])) ≡ source_visits)
-    × (column_stream three (Server (Column 0)) (came_by (0 ∷ 1 ∷ 2 ∷ []) (0 ∷ 1 ∷ 2 ∷ [])) 0 ≡ desk_stream)
-    × (column_totals three (Server (Column 0)) desk_visits ≡ record { came = 3; left = 3; lost = 0; wait = 6; longest = 3; busy = 8; area = 14; peak = 3 })
-    × (column_totals three Source source_visits ≡ record { came = 3; left = 3; lost = 0; wait = 0; longest = 0; busy = 0; area = 0; peak = 0 })
-    × (column_exit three desk_stream ≡ (3, 14)) × (column_span (source_visits ∷ desk_visits ∷ []) ≡ 8)
-ordinary-columns = (refl, refl, refl, refl, refl, refl, refl)
+-- the same in sequences
+ordinary-sequences : (sequence_visits three (Server (Column 0)) (came_by (0 ∷ 1 ∷ 2 ∷ []) (0 ∷ 1 ∷ 2 ∷ [])) ≡ desk_visits)
+    × (sequence_visits three Source (came_by (0 ∷ 1 ∷ 2 ∷ []) (0 ∷ 1 ∷ 2 ∷ [])) ≡ source_visits)
+    × (sequence_stream three (Server (Column 0)) (came_by (0 ∷ 1 ∷ 2 ∷ []) (0 ∷ 1 ∷ 2 ∷ [])) 0 ≡ desk_stream)
+    × (sequence_totals three (Server (Column 0)) desk_visits ≡ record { came = 3; left = 3; lost = 0; wait = 6; longest = 3; busy = 8; area = 14; peak = 3 })
+    × (sequence_totals three Source source_visits ≡ record { came = 3; left = 3; lost = 0; wait = 0; longest = 0; busy = 0; area = 0; peak = 0 })
+    × (sequence_exit three desk_stream ≡ (3, 14)) × (sequence_span (source_visits ∷ desk_visits ∷ []) ≡ 8)
+ordinary-sequences = (refl, refl, refl, refl, refl, refl, refl)
 
 -- The same rows in reverse: they go by time, and each keeps its number.
 abbrev reversed : Rows
@@ -123,7 +123,7 @@ abbrev IsReversed : State Local → Type 0
 IsReversed end = seen end 1 ≡ record { left = (2, 0, 4) ∷ (1, 0, 5) ∷ (0, 0, 8) ∷ []; found = 0 ∷ 1 ∷ 2 ∷ []; area = 14; busy = 8; peak = 3 }
 
 reversed-row : IsReversed (run_in (desk_net 100) reversed)
-unfolding after step earliest sooner_of is_below place_of rank_in reader_from port_reading ranked_after first_ready
+unfolding after step earliest sooner_of is_below order_key rank_in reader_from port_reading ranked_after first_ready
 reversed-row = at-end 9 (desk_net 100) reversed IsReversed (omega arith) refl refl
 
 -- Two sources at one time: the server reads b before a, so b's job is the first.
@@ -142,7 +142,7 @@ IsTied end =
     × (totals_of tie_rows (Server (Column 0)) (end.stations 2) ≡ record { came = 2; left = 2; lost = 0; wait = 3; longest = 3; busy = 5; area = 8; peak = 2 })
 
 tie-row : IsTrue (is_sound tie_net) × IsTied (run_in tie_net tie_rows)
-unfolding after step earliest sooner_of is_below place_of rank_in reader_from port_reading ranked_after first_ready
+unfolding after step earliest sooner_of is_below order_key rank_in reader_from port_reading ranked_after first_ready
 tie-row = (refl, at-end 6 tie_net tie_rows IsTied (omega arith) refl ((refl, refl), refl, refl))
 
 -- Two arrivals at one time with no demand: the first has left when the second comes.
@@ -153,22 +153,22 @@ abbrev IsFinishFirst : State Local → Type 0
 IsFinishFirst end = EndsAt end 3 × (seen end 1 ≡ record { left = (0, 0, 3) ∷ (1, 0, 3) ∷ []; found = 0 ∷ 0 ∷ []; area = 0; busy = 0; peak = 1 })
 
 finish-first-row : IsFinishFirst (run_in (desk_net 100) no_demand)
-unfolding after step earliest sooner_of is_below place_of rank_in reader_from port_reading ranked_after first_ready
+unfolding after step earliest sooner_of is_below order_key rank_in reader_from port_reading ranked_after first_ready
 finish-first-row = at-end 6 (desk_net 100) no_demand IsFinishFirst (omega arith) refl ((refl, refl), refl)
 
 -- The third departure passes the bound.
 past-row : past_in (desk_net 7) three ≡ Some (record { node = 1; position = 2; time = 8 })
-unfolding after step earliest sooner_of is_below place_of rank_in reader_from port_reading ranked_after first_ready
+unfolding after step earliest sooner_of is_below order_key rank_in reader_from port_reading ranked_after first_ready
 past-row = at-end 9 (desk_net 7) three (λ end. late_in (desk_net 7) end ≡ Some (record { node = 1; position = 2; time = 8 })) (omega arith) refl refl
 
 -- a departure at the bound doesn't pass it
 at-bound-row : past_in (desk_net 8) three ≡ None
-unfolding after step earliest sooner_of is_below place_of rank_in reader_from port_reading ranked_after first_ready
+unfolding after step earliest sooner_of is_below order_key rank_in reader_from port_reading ranked_after first_ready
 at-bound-row = at-end 9 (desk_net 8) three (λ end. late_in (desk_net 8) end ≡ None) (omega arith) refl refl
 
 -- a row later than the bound passes it at its source
 past-source-row : past_in (desk_net 1) three ≡ Some (record { node = 0; position = 2; time = 2 })
-unfolding after step earliest sooner_of is_below place_of rank_in reader_from port_reading ranked_after first_ready
+unfolding after step earliest sooner_of is_below order_key rank_in reader_from port_reading ranked_after first_ready
 past-source-row = at-end 9 (desk_net 1) three (λ end. late_in (desk_net 1) end ≡ Some (record { node = 0; position = 2; time = 2 })) (omega arith) refl refl
 
 -- Two departures pass the bound: that of the lower rank is named, though it is the smaller.
@@ -182,7 +182,7 @@ abbrev two_rows : Rows
 two_rows = rows_of (0 ∷ 1 ∷ []) (0 ∷ 0 ∷ []) []
 
 two-past-row : IsTrue (is_sound two_desks) × (past_in two_desks two_rows ≡ Some (record { node = 2; position = 0; time = 7 }))
-unfolding after step earliest sooner_of is_below place_of rank_in reader_from port_reading ranked_after first_ready
+unfolding after step earliest sooner_of is_below order_key rank_in reader_from port_reading ranked_after first_ready
 two-past-row = (refl, at-end 6 two_desks two_rows (λ end. late_in two_desks end ≡ Some (record { node = 2; position = 0; time = 7 })) (omega arith) refl refl)
 
 -- A split by two thresholds.
@@ -199,8 +199,8 @@ IsCut end =
     × (map {B = ℕ × ℕ} (exit_of cut_rows (end.stations 1)) (0 ∷ 1 ∷ 2 ∷ []) ≡ (1, 0) ∷ (1, 0) ∷ (1, 0) ∷ [])
 
 cut-row : IsTrue (is_sound cut_net) × IsCut (run_in cut_net cut_rows)
-    × (column_stream cut_rows (Split (Cut 0 (10 ∷ 20 ∷ []))) (came_by (0 ∷ 1 ∷ 2 ∷ []) (0 ∷ 1 ∷ 2 ∷ [])) 2 ≡ record { job = 2 ∷ []; time = 2 ∷ [] })
-unfolding after step earliest sooner_of is_below place_of rank_in reader_from port_reading ranked_after first_ready
+    × (sequence_stream cut_rows (Split (Cut 0 (10 ∷ 20 ∷ []))) (came_by (0 ∷ 1 ∷ 2 ∷ []) (0 ∷ 1 ∷ 2 ∷ [])) 2 ≡ record { job = 2 ∷ []; time = 2 ∷ [] })
+unfolding after step earliest sooner_of is_below order_key rank_in reader_from port_reading ranked_after first_ready
 cut-row = (refl, at-end 6 cut_net cut_rows IsCut (omega arith) refl ((refl, refl), refl, refl), refl)
 
 -- the three routes
@@ -224,7 +224,7 @@ AreSources end =
     × (exit_of sources_rows (end.stations 1) 0 ≡ (2, 0))
 
 sources-row : IsTrue (is_sound sources_net) × AreSources (run_in sources_net sources_rows)
-unfolding after step earliest sooner_of is_below place_of rank_in reader_from port_reading ranked_after first_ready
+unfolding after step earliest sooner_of is_below order_key rank_in reader_from port_reading ranked_after first_ready
 sources-row = (refl, at-end 4 sources_net sources_rows AreSources (omega arith) refl ((refl, refl), refl, refl, refl))
 
 -- A server that is declared before its source is ranked behind it.
@@ -238,7 +238,7 @@ abbrev IsBackward : State Local → Type 0
 IsBackward end = seen end 0 ≡ record { left = (0, 0, 5) ∷ (1, 0, 6) ∷ []; found = 0 ∷ 1 ∷ []; area = 3; busy = 2; peak = 2 }
 
 backward-row : IsTrue (is_sound backward_net) × (ranking backward_net.nodes ≡ 1 ∷ 0 ∷ []) × IsBackward (run_in backward_net backward_rows)
-unfolding after step earliest sooner_of is_below place_of rank_in reader_from port_reading ranked_after first_ready
+unfolding after step earliest sooner_of is_below order_key rank_in reader_from port_reading ranked_after first_ready
 backward-row = (refl, refl, at-end 6 backward_net backward_rows IsBackward (omega arith) refl refl)
 
 -- A ring is never ranked: its nodes are left out.
@@ -262,7 +262,7 @@ IsChain end =
     × (seen end 2 ≡ record { left = (0, 0, 5) ∷ (1, 0, 8) ∷ []; found = 0 ∷ 1 ∷ []; area = 7; busy = 6; peak = 2 })
 
 chain-row : IsTrue (is_sound chain_net) × IsChain (run_in chain_net chain_rows)
-unfolding after step earliest sooner_of is_below place_of rank_in reader_from port_reading ranked_after first_ready
+unfolding after step earliest sooner_of is_below order_key rank_in reader_from port_reading ranked_after first_ready
 chain-row = (refl, at-end 10 chain_net chain_rows IsChain (omega arith) refl ((refl, refl), refl, refl))
 
 -- A job overtakes another in a delay, and comes first at the server behind it.
@@ -282,8 +282,8 @@ IsOvertaking end =
     × (totals_of overtaking_rows (Delay (Column 0)) (end.stations 1) ≡ record { came = 2; left = 2; lost = 0; wait = 0; longest = 0; busy = 6; area = 6; peak = 2 })
 
 overtaking-row : IsTrue (is_sound overtaking_net) × IsOvertaking (run_in overtaking_net overtaking_rows)
-    × (column_stream overtaking_rows (Delay (Column 0)) (came_by (0 ∷ 1 ∷ []) (0 ∷ 1 ∷ [])) 0 ≡ record { job = 1 ∷ 0 ∷ []; time = 2 ∷ 5 ∷ [] })
-unfolding after step earliest sooner_of is_below place_of rank_in reader_from port_reading ranked_after first_ready
+    × (sequence_stream overtaking_rows (Delay (Column 0)) (came_by (0 ∷ 1 ∷ []) (0 ∷ 1 ∷ [])) 0 ≡ record { job = 1 ∷ 0 ∷ []; time = 2 ∷ 5 ∷ [] })
+unfolding after step earliest sooner_of is_below order_key rank_in reader_from port_reading ranked_after first_ready
 overtaking-row = (refl, at-end 10 overtaking_net overtaking_rows IsOvertaking (omega arith) refl ((refl, refl), refl, refl, refl), refl)
 
 -- A plan of the first network, whose run is that of the network.

@@ -10,7 +10,7 @@ use Rattle.mq_core.specs.Event.Event.{Arrive, Finish}
 use Rattle.mq_core.specs.Machine.{Visit, Emission, finishes_of, emissions_of, emission_of}
 use Rattle.mq_core.specs.Laws.{in_order_of}
 use Rattle.mq_core.specs.Local.{Local}
-use Rattle.mq_core.specs.Handling.{demand_of_job, demand_of_visit, demand_at, latest, joins, passes_on, front_leaves, front_begins}
+use Rattle.mq_core.specs.Handling.{demand_of_job, demand_of_visit, demand_at, latest, queues_up, passes_on, front_leaves, front_begins}
 use Rattle.mq_core.specs.Kinds.Loss.{loss_on, faring_by}
 use Rattle.mq_core.specs.Recurrences.{time_or_none}
 use Rattle.mq_core.specs.Tallies.{arrival_or}
@@ -19,7 +19,7 @@ use Rattle.mq_core.specs.declared.model.Rows.{Rows}
 use Rattle.mq_core.proofs.Events.Areas.{get-front, get-last}
 use Rattle.mq_core.proofs.Loss.LossFlow.{leaves_at, fate_if, left_if, fared, left_by, fared-push, left_by-push, count_after, has_place}
 use Rattle.mq_core.proofs.Counting.Reordered.{in_order-push}
-use Rattle.mq_core.proofs.Server.Serves.{latest-push, joins-releases, pair-inj}
+use Rattle.mq_core.proofs.Server.Serves.{latest-push, queues_up-releases, pair-inj}
 
 -- the last of some departures, behind one at this time
 abbrev pub last_of : ℕ → List Emission → ℕ
@@ -188,12 +188,12 @@ module _ (rows : Rows) (places : ℕ) (demand : Demand) (v : ℕ) (visits : List
       ∙ (sym (length-map h.coming (λ (m : Emission). m.position)) ∙ ap length (sym h.waiting))))
 
   -- an arrival that is admitted
-  losing-joins : (local : Local) (x : Visit) → x.arrive ≡ now → ltb (length queue) places ≡ true →
+  losing-queues_up : (local : Local) (x : Visit) → x.arrive ≡ now → ltb (length queue) places ≡ true →
       Losing rows places demand v (visits ++ x ∷ [])
-      (joins rows demand (visits ++ x ∷ []) local now queue (latest (visits ++ x ∷ []))).local.queue
-      (emitted ++ emissions_of now (visits ++ x ∷ []) (joins rows demand (visits ++ x ∷ []) local now queue (latest (visits ++ x ∷ []))).releases)
-      (fs ++ finishes_of v (joins rows demand (visits ++ x ∷ []) local now queue (latest (visits ++ x ∷ []))).services) now
-  losing-joins local x at free =
+      (queues_up rows demand (visits ++ x ∷ []) local now queue (latest (visits ++ x ∷ []))).local.queue
+      (emitted ++ emissions_of now (visits ++ x ∷ []) (queues_up rows demand (visits ++ x ∷ []) local now queue (latest (visits ++ x ∷ []))).releases)
+      (fs ++ finishes_of v (queues_up rows demand (visits ++ x ∷ []) local now queue (latest (visits ++ x ∷ []))).services) now
+  losing-queues_up local x at free =
       record {
         coming = h.coming ++ m ∷ [];
         done = h.done;
@@ -203,7 +203,7 @@ module _ (rows : Rows) (places : ℕ) (demand : Demand) (v : ℕ) (visits : List
             ∙ (in_order-push (λ (k : Emission). k.time) (emitted ++ h.coming) [] (all_fared rows places demand visits) m (append-nil (emitted ++ h.coming) ∙ h.left)
             (Each-append _ emitted h.coming (Each-weaker _ _ (λ k l. omega arith) emitted h.before) (Each-weaker _ _ (λ k l. omega arith) h.coming coming-last)) tt
             ∙ ap (in_order_of (λ (k : Emission). k.time)) (sym all)));
-        waiting = joins-queue queue ∙ (ap (λ q. q ++ latest (visits ++ x ∷ []) ∷ []) h.waiting ∙ (ap (λ n. map (λ (k : Emission). k.position) h.coming ++ n ∷ []) (latest-push visits x) ∙ sym (map-push h.coming m)));
+        waiting = queues_up-queue queue ∙ (ap (λ q. q ++ latest (visits ++ x ∷ []) ∷ []) h.waiting ∙ (ap (λ n. map (λ (k : Emission). k.position) h.coming ++ n ∷ []) (latest-push visits x) ∙ sym (map-push h.coming m)));
         next = go h.coming h.waiting h.next h.last;
         before = subst (Each (λ (k : Emission). k.time ≤ now)) (sym none) h.before;
         past = h.past;
@@ -237,12 +237,12 @@ module _ (rows : Rows) (places : ℕ) (demand : Demand) (v : ℕ) (visits : List
       departed : all_left rows places demand (visits ++ x ∷ []) ≡ time ∷ all_left rows places demand visits
       departed = left_by-push (has_place places) rows demand [] visits x ∙ ap (λ b. left_if b time (all_left rows places demand visits)) takes
 
-      none : emitted ++ emissions_of now (visits ++ x ∷ []) (joins rows demand (visits ++ x ∷ []) local now queue (latest (visits ++ x ∷ []))).releases ≡ emitted
-      none = ap (λ l. emitted ++ emissions_of now (visits ++ x ∷ []) l) (joins-releases rows demand (visits ++ x ∷ []) local now queue (latest (visits ++ x ∷ []))) ∙ append-nil emitted
+      none : emitted ++ emissions_of now (visits ++ x ∷ []) (queues_up rows demand (visits ++ x ∷ []) local now queue (latest (visits ++ x ∷ []))).releases ≡ emitted
+      none = ap (λ l. emitted ++ emissions_of now (visits ++ x ∷ []) l) (queues_up-releases rows demand (visits ++ x ∷ []) local now queue (latest (visits ++ x ∷ []))) ∙ append-nil emitted
 
-      joins-queue : (q : List ℕ) → (joins rows demand (visits ++ x ∷ []) local now q (latest (visits ++ x ∷ []))).local.queue ≡ q ++ latest (visits ++ x ∷ []) ∷ []
-      joins-queue [] = refl
-      joins-queue (front ∷ q) = refl
+      queues_up-queue : (q : List ℕ) → (queues_up rows demand (visits ++ x ∷ []) local now q (latest (visits ++ x ∷ []))).local.queue ≡ q ++ latest (visits ++ x ∷ []) ∷ []
+      queues_up-queue [] = refl
+      queues_up-queue (front ∷ q) = refl
 
       -- behind others it leaves its demand after the last
       leaves-last : (ms : List Emission) (k : Emission) → h.coming ≡ k ∷ ms → m.time ≡ last_of k.time ms + demand_of_job rows demand x.job
@@ -273,7 +273,7 @@ module _ (rows : Rows) (places : ℕ) (demand : Demand) (v : ℕ) (visits : List
             behind = λ p l u. absurd (omega (arith, length-append visits (x ∷ [])));
           }
 
-      go : (ms : List Emission) → queue ≡ map (λ (k : Emission). k.position) ms → fs ≡ front_finish v ms → last_of h.done ms ≡ time_or_none (slice_get (all_left rows places demand visits) 0) → fs ++ finishes_of v (joins rows demand (visits ++ x ∷ []) local now queue (latest (visits ++ x ∷ []))).services ≡ front_finish v (ms ++ m ∷ [])
+      go : (ms : List Emission) → queue ≡ map (λ (k : Emission). k.position) ms → fs ≡ front_finish v ms → last_of h.done ms ≡ time_or_none (slice_get (all_left rows places demand visits) 0) → fs ++ finishes_of v (queues_up rows demand (visits ++ x ∷ []) local now queue (latest (visits ++ x ∷ []))).services ≡ front_finish v (ms ++ m ∷ [])
       go [] q n l =
           let past = h.past in
           let p : latest (visits ++ x ∷ []) ≡ length visits = latest-push visits x in
@@ -340,10 +340,10 @@ pub losing-arrives : (rows : Rows) (places : ℕ) (demand : Demand) (v port : �
     (fs ++ finishes_of v (loss_on rows places demand (visits ++ x ∷ []) local now (Arrive now v port x.job)).services) now
 losing-arrives rows places demand v port local visits emitted fs now x at soon h = go (ltb (length local.queue) places) refl
   where
-    go : (b : Bool) → ltb (length local.queue) places ≡ b → Losing rows places demand v (visits ++ x ∷ []) (cond b (joins rows demand (visits ++ x ∷ []) local now local.queue (latest (visits ++ x ∷ []))) (passes_on local 1 (latest (visits ++ x ∷ [])))).local.queue
-        (emitted ++ emissions_of now (visits ++ x ∷ []) (cond b (joins rows demand (visits ++ x ∷ []) local now local.queue (latest (visits ++ x ∷ []))) (passes_on local 1 (latest (visits ++ x ∷ [])))).releases)
-        (fs ++ finishes_of v (cond b (joins rows demand (visits ++ x ∷ []) local now local.queue (latest (visits ++ x ∷ []))) (passes_on local 1 (latest (visits ++ x ∷ [])))).services) now
-    go true e = losing-joins rows places demand v visits local.queue emitted fs now h soon local x at e
+    go : (b : Bool) → ltb (length local.queue) places ≡ b → Losing rows places demand v (visits ++ x ∷ []) (cond b (queues_up rows demand (visits ++ x ∷ []) local now local.queue (latest (visits ++ x ∷ []))) (passes_on local 1 (latest (visits ++ x ∷ [])))).local.queue
+        (emitted ++ emissions_of now (visits ++ x ∷ []) (cond b (queues_up rows demand (visits ++ x ∷ []) local now local.queue (latest (visits ++ x ∷ []))) (passes_on local 1 (latest (visits ++ x ∷ [])))).releases)
+        (fs ++ finishes_of v (cond b (queues_up rows demand (visits ++ x ∷ []) local now local.queue (latest (visits ++ x ∷ []))) (passes_on local 1 (latest (visits ++ x ∷ [])))).services) now
+    go true e = losing-queues_up rows places demand v visits local.queue emitted fs now h soon local x at e
     go false e = losing-passes rows places demand v visits local.queue emitted fs now h soon x at e
 
 -- the next service begins now

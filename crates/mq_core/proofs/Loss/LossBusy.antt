@@ -9,7 +9,7 @@ use Rattle.mq_core.specs.Event.{Event, time_of, earliest, sooner_of}
 use Rattle.mq_core.specs.Event.Event.{Arrive, Finish}
 use Rattle.mq_core.specs.Machine.{Visit, Emission, finishes_of}
 use Rattle.mq_core.specs.Local.{Local}
-use Rattle.mq_core.specs.Handling.{demand_of_job, demand_of_visit, demand_at, latest, joins, passes_on, front_leaves, front_begins, one_if_some}
+use Rattle.mq_core.specs.Handling.{demand_of_job, demand_of_visit, demand_at, latest, queues_up, passes_on, front_leaves, front_begins, one_if_some}
 use Rattle.mq_core.specs.Kinds.Loss.{loss_on, faring_by}
 use Rattle.mq_core.specs.Tallies.{sum_below, emission_at}
 use Rattle.mq_core.specs.declared.model.Demand.{Demand}
@@ -18,7 +18,7 @@ use Rattle.mq_core.specs.Fates.{fate_by, unless_lost}
 use Rattle.mq_core.specs.declared.model.Fate.TheVariants.{Departs, Lost}
 use Rattle.mq_core.specs.declared.model.Kind.TheVariants.{Loss}
 use Rattle.mq_core.proofs.Events.Areas.{get-front, get-last, sum-same}
-use Rattle.mq_core.proofs.Counting.ColumnNumbers.{Numbered}
+use Rattle.mq_core.proofs.Counting.SequenceNumbers.{Numbered}
 use Rattle.mq_core.proofs.Events.EmissionsAt.{neq-eqb}
 use Rattle.mq_core.proofs.Loss.Loses.{Losing, ToLeave, front_finish, all_fared, all_left, place-free}
 use Rattle.mq_core.proofs.Loss.LossFlow.{leaves_at, fate_if, fared-push, fared-numbered, has_place}
@@ -109,14 +109,14 @@ module _ (rows : Rows) (places : ℕ) (demand : Demand) (v : ℕ) where
       takes : (b : Bool) → ltb (length local.queue) places ≡ b → has_place places (all_left rows places demand visits) x.arrive ≡ b
       takes b f = ap (has_place places (all_left rows places demand visits)) at ∙ (place-free rows places demand v visits local.queue emitted fs now h soon ∙ f)
 
-      joined : (ms : List Emission) → local.queue ≡ map (λ (m : Emission). m.position) ms → fs ≡ front_finish v ms → Each (ToLeave visits) ms → work rows demand (all_fared rows places demand (visits ++ x ∷ [])) ≡ work rows demand (all_fared rows places demand visits) + demand_of_job rows demand x.job →
-          LossBusy rows places demand (visits ++ x ∷ []) (joins rows demand (visits ++ x ∷ []) local now local.queue (latest (visits ++ x ∷ []))).local.queue (fs ++ finishes_of v (joins rows demand (visits ++ x ∷ []) local now local.queue (latest (visits ++ x ∷ []))).services) now busy
-      joined [] q n held w =
+      queued_up : (ms : List Emission) → local.queue ≡ map (λ (m : Emission). m.position) ms → fs ≡ front_finish v ms → Each (ToLeave visits) ms → work rows demand (all_fared rows places demand (visits ++ x ∷ [])) ≡ work rows demand (all_fared rows places demand visits) + demand_of_job rows demand x.job →
+          LossBusy rows places demand (visits ++ x ∷ []) (queues_up rows demand (visits ++ x ∷ []) local now local.queue (latest (visits ++ x ∷ []))).local.queue (fs ++ finishes_of v (queues_up rows demand (visits ++ x ∷ []) local now local.queue (latest (visits ++ x ∷ []))).services) now busy
+      queued_up [] q n held w =
           let a = ap (remaining now) n in
           let b = ap (λ k. asked_at rows demand visits (behind_front k)) q in
           let c : demand_at rows demand (visits ++ x ∷ []) (latest (visits ++ x ∷ [])) ≡ demand_of_job rows demand x.job = ap (demand_at rows demand (visits ++ x ∷ [])) (latest-push visits x) ∙ ap (demand_of_visit rows demand) (get-last visits x) in
           rw (q, n) (omega arith)
-      joined (m ∷ ms) q n held w =
+      queued_up (m ∷ ms) q n held w =
           let a = ap (remaining now) n in
           let b = ap (λ k. asked_at rows demand visits (behind_front k)) q in
           let c : demand_at rows demand (visits ++ x ∷ []) (latest (visits ++ x ∷ [])) ≡ demand_of_job rows demand x.job = ap (demand_at rows demand (visits ++ x ∷ [])) (latest-push visits x) ∙ ap (demand_of_visit rows demand) (get-last visits x) in
@@ -128,8 +128,8 @@ module _ (rows : Rows) (places : ℕ) (demand : Demand) (v : ℕ) where
       passed [] q held = rw q refl
       passed (m ∷ ms) q held = rw q (asked_at-front rows demand visits x ms held.1)
 
-      go : (b : Bool) → ltb (length local.queue) places ≡ b → LossBusy rows places demand (visits ++ x ∷ []) (cond b (joins rows demand (visits ++ x ∷ []) local now local.queue (latest (visits ++ x ∷ []))) (passes_on local 1 (latest (visits ++ x ∷ [])))).local.queue (fs ++ finishes_of v (cond b (joins rows demand (visits ++ x ∷ []) local now local.queue (latest (visits ++ x ∷ []))) (passes_on local 1 (latest (visits ++ x ∷ [])))).services) now busy
-      go true f = joined h.coming h.waiting h.next h.held (more-work visits x true (takes true f))
+      go : (b : Bool) → ltb (length local.queue) places ≡ b → LossBusy rows places demand (visits ++ x ∷ []) (cond b (queues_up rows demand (visits ++ x ∷ []) local now local.queue (latest (visits ++ x ∷ []))) (passes_on local 1 (latest (visits ++ x ∷ [])))).local.queue (fs ++ finishes_of v (cond b (queues_up rows demand (visits ++ x ∷ []) local now local.queue (latest (visits ++ x ∷ []))) (passes_on local 1 (latest (visits ++ x ∷ [])))).services) now busy
+      go true f = queued_up h.coming h.waiting h.next h.held (more-work visits x true (takes true f))
       go false f =
           let a = passed h.coming h.waiting h.held in
           let b = more-work visits x false (takes false f) in

@@ -13,7 +13,7 @@ use Rattle.mq_core.specs.declared.model.Demand.{Demand}
 use Rattle.mq_core.specs.declared.model.Fate.{Fate}
 use Rattle.mq_core.specs.declared.model.Fate.TheVariants.{Departs, Lost}
 use Rattle.mq_core.specs.declared.model.Rows.{Rows}
-use Rattle.mq_core.proofs.Counting.ColumnNumbers.{Numbered}
+use Rattle.mq_core.proofs.Counting.SequenceNumbers.{Numbered}
 
 -- when a visit leaves that is admitted, from the departures before it, the latest first
 abbrev pub leaves_at : Rows → Demand → List ℕ → Visit → ℕ

@@ -2,7 +2,7 @@
 use Rattle.std.proofs.Common.{◌≡◌, ◌⊎◌, ◌≤◌, inl, inr, ℕ, ◌+◌, Bool, true, false, cond, eqb, List, [], ◌∷◌, ◌++◌, length, Option, Some, None, refl, ap, subst, arith, eq-eqb}
 use Rattle.std.specs.Prelude.{slice_get, nat_lt}
 use Rattle.mq_base.proofs.lemmas.Lists.{some_inj}
-use Rattle.mq_core.specs.Handling.{front_leaves, joins, latest, passes_on}
+use Rattle.mq_core.specs.Handling.{front_leaves, queues_up, latest, passes_on}
 use Rattle.mq_core.specs.Kinds.Loss.{loss}
 use Rattle.mq_core.specs.Local.{Local}
 use Rattle.mq_core.specs.Machine.{Visit, Emission, Reaction, Station, emission_of, emissions_of}
@@ -12,7 +12,7 @@ use Rattle.mq_core.specs.Tallies.{emission_at}
 use Rattle.mq_core.specs.declared.model.Demand.{Demand}
 use Rattle.mq_core.specs.declared.model.Fate.TheVariants.{Departs}
 use Rattle.mq_core.specs.declared.model.Rows.{Rows}
-use Rattle.mq_core.proofs.Counting.Released.{joins-length, joins-emits}
+use Rattle.mq_core.proofs.Counting.Released.{queues_up-length, queues_up-emits}
 use Rattle.mq_core.proofs.EachKind.KindLaws.{Raises}
 use Rattle.mq_core.proofs.Server.Serves.{latest-push, slice_get-middle}
 
@@ -27,14 +27,14 @@ losing-raises rows ports places demand v port s now x = go (nat_lt (length s.loc
     visits = s.visits ++ x ∷ []
 
     after : Bool → Reaction Local
-    after b = cond b (joins rows demand (s.visits ++ x ∷ []) s.local now s.local.queue (latest (s.visits ++ x ∷ []))) (passes_on s.local 1 (latest (s.visits ++ x ∷ [])))
+    after b = cond b (queues_up rows demand (s.visits ++ x ∷ []) s.local now s.local.queue (latest (s.visits ++ x ∷ []))) (passes_on s.local 1 (latest (s.visits ++ x ∷ [])))
 
     go : (b : Bool) →
         ((length (after b).local.queue ≡ length s.local.queue + 1) × ((n : ℕ) → unless_lost (option_map (loss places demand).fate (emission_at (emissions_of now (s.visits ++ x ∷ []) (after b).releases) (length s.visits))) n ≡ n))
         ⊎ ((length (after b).local.queue ≤ length s.local.queue) × ((n : ℕ) → unless_lost (option_map (loss places demand).fate (emission_at (emissions_of now (s.visits ++ x ∷ []) (after b).releases) (length s.visits))) n ≡ 0))
     go true = inl (
-      (let l = joins-length rows demand visits s.local now s.local.queue (latest visits) in omega arith),
-      λ n. ap (λ l. unless_lost (option_map (loss places demand).fate (emission_at l (length s.visits))) n) (joins-emits rows demand visits s.local now s.local.queue (latest visits)),
+      (let l = queues_up-length rows demand visits s.local now s.local.queue (latest visits) in omega arith),
+      λ n. ap (λ l. unless_lost (option_map (loss places demand).fate (emission_at l (length s.visits))) n) (queues_up-emits rows demand visits s.local now s.local.queue (latest visits)),
     )
     go false = inr (omega arith, λ n. ap (λ o. unless_lost (option_map (loss places demand).fate o) n) (lost-out_now s now x))
 

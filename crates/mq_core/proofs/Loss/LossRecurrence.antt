@@ -2,9 +2,9 @@
 use Rattle.std.proofs.Common.{Bool, [], ap, arith, cond, eqb, false, length, map, refl, true, ℕ, ◌∙◌, ◌≤◌}
 use Rattle.std.proofs.lemmas.Bool.{and_parts}
 use Rattle.mq_base.proofs.lemmas.Each.{Each-weaker}
-use Rattle.mq_core.specs.ColumnLaws.{arrives_of}
+use Rattle.mq_core.specs.SequenceLaws.{arrives_of}
 use Rattle.mq_core.specs.Kinds.Loss.{out_of_fate}
-use Rattle.mq_core.specs.Columns.{time_of_fate}
+use Rattle.mq_core.specs.Sequences.{time_of_fate}
 use Rattle.mq_core.specs.Handling.{demand_of_job}
 use Rattle.mq_core.specs.Kinds.Loss.{loss}
 use Rattle.mq_core.specs.PlanLaws.{Tells}
@@ -14,7 +14,7 @@ use Rattle.mq_core.specs.declared.model.Demand.{Demand}
 use Rattle.mq_core.specs.declared.model.Fate.TheVariants.{Departs, Lost}
 use Rattle.mq_core.specs.declared.model.Rows.{Rows}
 use Rattle.mq_core.proofs.Bounded.BoundedAsked.{asked, asked-small}
-use Rattle.mq_core.proofs.Loss.LossColumns.{loss-by, faring-numbered, loss-even, faring-fates, faring-leaves, faring-outs, loss-stream, demands-of, even-fates, stay-admitted, when-lost}
+use Rattle.mq_core.proofs.Loss.LossSequences.{loss-by, faring-numbered, loss-even, faring-fates, faring-leaves, faring-outs, loss-stream, demands-of, even-fates, stay-admitted, when-lost}
 use Rattle.mq_core.proofs.EachKind.RecurrenceLaws.{RecurrenceLaws}
 use Rattle.mq_core.proofs.Events.Exits.{until-own}
 

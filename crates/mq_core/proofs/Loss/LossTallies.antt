@@ -10,7 +10,7 @@ use Rattle.mq_core.specs.Event.Event.{Arrive, Finish}
 use Rattle.mq_core.specs.Machine.{Visit, Emission, emissions_of, emission_of}
 use Rattle.mq_core.specs.Laws.{in_order_of}
 use Rattle.mq_core.specs.Local.{Local}
-use Rattle.mq_core.specs.Handling.{demand_of_job, latest, joins, passes_on, front_leaves}
+use Rattle.mq_core.specs.Handling.{demand_of_job, latest, queues_up, passes_on, front_leaves}
 use Rattle.mq_core.specs.Kinds.Loss.{loss_on, faring_from}
 use Rattle.mq_core.specs.Recurrences.{loss_fates}
 use Rattle.mq_core.specs.Tallies.{emission_at, staying, arrival_or}
@@ -18,20 +18,20 @@ use Rattle.mq_core.specs.declared.model.Demand.{Demand}
 use Rattle.mq_core.specs.declared.model.Rows.{Rows}
 use Rattle.mq_core.proofs.Loss.Loses.{Losing, ToLeave, front_finish, all_fared, front-emission}
 use Rattle.mq_core.proofs.Loss.LossFlow.{has_place, fared-numbered, fared-fates}
-use Rattle.mq_core.proofs.Counting.Released.{emission-one, times-one, joins-length, joins-emits, one-release, no_release}
+use Rattle.mq_core.proofs.Counting.Released.{emission-one, times-one, queues_up-length, queues_up-emits, one-release, no_release}
 use Rattle.mq_core.proofs.Counting.Reordered.{times_at, times_at-append, times_at-in_order, times_at-numbered, times_at-once, emission_at-in_order, staying-coming}
-use Rattle.mq_core.proofs.Server.Serves.{latest-push, joins-releases, pair-inj}
+use Rattle.mq_core.proofs.Server.Serves.{latest-push, queues_up-releases, pair-inj}
 
--- an arrival either joins the queue, or is let out at once
+-- an arrival either queues up, or is let out at once
 pub loss-arrives : (P : ℕ → ℕ → Type 0) (rows : Rows) (places : ℕ) (demand : Demand) (local : Local) (visits : List Visit) (now port job v : ℕ) →
     P (suc (length local.queue)) 0 → ((out : ℕ) → out ≤ 1 → P (length local.queue) out) →
     P (length (loss_on rows places demand visits local now (Arrive now v port job)).local.queue) (length (emissions_of now visits (loss_on rows places demand visits local now (Arrive now v port job)).releases))
 loss-arrives P rows places demand local visits now port job v in' out' = go (ltb (length local.queue) places)
   where
-    go : (b : Bool) → P (length (cond b (joins rows demand visits local now local.queue (latest visits)) (passes_on local 1 (latest visits))).local.queue) (length (emissions_of now visits (cond b (joins rows demand visits local now local.queue (latest visits)) (passes_on local 1 (latest visits))).releases))
+    go : (b : Bool) → P (length (cond b (queues_up rows demand visits local now local.queue (latest visits)) (passes_on local 1 (latest visits))).local.queue) (length (emissions_of now visits (cond b (queues_up rows demand visits local now local.queue (latest visits)) (passes_on local 1 (latest visits))).releases))
     go true =
-        subst (λ n. P n (length (emissions_of now visits (joins rows demand visits local now local.queue (latest visits)).releases))) (sym (joins-length rows demand visits local now local.queue (latest visits)))
-        (subst (P (suc (length local.queue))) (sym (ap length (joins-emits rows demand visits local now local.queue (latest visits)))) in')
+        subst (λ n. P n (length (emissions_of now visits (queues_up rows demand visits local now local.queue (latest visits)).releases))) (sym (queues_up-length rows demand visits local now local.queue (latest visits)))
+        (subst (P (suc (length local.queue))) (sym (ap length (queues_up-emits rows demand visits local now local.queue (latest visits)))) in')
     go false = out' (length (emission_of now 1 (latest visits) (slice_get visits (latest visits)) ++ [])) (emission-one now 1 (latest visits) (slice_get visits (latest visits)))
 
 -- it weighs more than what it leaves
@@ -89,8 +89,8 @@ pub losing-own : (rows : Rows) (places : ℕ) (demand : Demand) (local : Local) 
     emission_at (emissions_of now (visits ++ x ∷ []) (loss_on rows places demand (visits ++ x ∷ []) local now (Arrive now v port job)).releases) q ≡ Some m → q ≡ length visits
 losing-own rows places demand local visits x now port job v q m e = go (ltb (length local.queue) places) e
   where
-    go : (b : Bool) → emission_at (emissions_of now (visits ++ x ∷ []) (cond b (joins rows demand (visits ++ x ∷ []) local now local.queue (latest (visits ++ x ∷ []))) (passes_on local 1 (latest (visits ++ x ∷ [])))).releases) q ≡ Some m → q ≡ length visits
-    go true e = absurd (no_release now q (visits ++ x ∷ []) _ m (joins-releases rows demand (visits ++ x ∷ []) local now local.queue (latest (visits ++ x ∷ []))) e)
+    go : (b : Bool) → emission_at (emissions_of now (visits ++ x ∷ []) (cond b (queues_up rows demand (visits ++ x ∷ []) local now local.queue (latest (visits ++ x ∷ []))) (passes_on local 1 (latest (visits ++ x ∷ [])))).releases) q ≡ Some m → q ≡ length visits
+    go true e = absurd (no_release now q (visits ++ x ∷ []) _ m (queues_up-releases rows demand (visits ++ x ∷ []) local now local.queue (latest (visits ++ x ∷ []))) e)
     go false e = one-release now 1 (latest (visits ++ x ∷ [])) q (visits ++ x ∷ []) m e ∙ latest-push visits x
 
 -- what is let out at a finish came before those that came at that moment
@@ -104,7 +104,7 @@ losing-earlier rows places demand rank v server position local visits queue emit
     go (k ∷ ms) w n held =
         let one = subst (λ l. earliest rank l ≡ Some (Finish now v server position, rest)) n first in
         let time : k.time ≡ now = ap time_of (pair-inj (Finish k.time v 0 k.position, []) (Finish now v server position, rest) one).0 in
-        let place : q ≡ k.position = one-release now 0 k.position q visits m (subst (λ l. emission_at (emissions_of now visits (front_leaves rows demand visits local now l).releases) q ≡ Some m) w e) in
+        let index : q ≡ k.position = one-release now 0 k.position q visits m (subst (λ l. emission_at (emissions_of now visits (front_leaves rows demand visits local now l).releases) q ≡ Some m) w e) in
         let came = held.0.behind p (omega arith) u in
         omega arith
 

@@ -79,20 +79,20 @@ distinct-behind : (is js : List Input) → are_distinct same_input (is ++ js) �
 distinct-behind [] js d = d
 distinct-behind (i ∷ is) js d = distinct-behind is js (second (not (list_any (same_input i) (is ++ js))) (are_distinct same_input (is ++ js)) d)
 
--- distinct inputs that read one output stand at one place
-distinct-place : (is js : List Input) (u out q r : ℕ) → are_distinct same_input (is ++ js) ≡ true → slice_get (map pair_of is) q ≡ Some (u, out) → slice_get (map pair_of is) r ≡ Some (u, out) → q ≡ r
-distinct-place [] js u out q r d h k = absurd cc
-distinct-place (i ∷ is) js u out zero zero d h k = refl
-distinct-place (i ∷ is) js u out zero (suc r) d h k =
+-- distinct inputs that read one output stand at one index
+distinct-index : (is js : List Input) (u out q r : ℕ) → are_distinct same_input (is ++ js) ≡ true → slice_get (map pair_of is) q ≡ Some (u, out) → slice_get (map pair_of is) r ≡ Some (u, out) → q ≡ r
+distinct-index [] js u out q r d h k = absurd cc
+distinct-index (i ∷ is) js u out zero zero d h k = refl
+distinct-index (i ∷ is) js u out zero (suc r) d h k =
     absurd (distinct-apart (i ∷ []) (is ++ js) u out 0 d h (list_any-append (λ (j : Input). (u == j.node) && (out == j.out)) is js ∙ or-left (reads is u out) (reads js u out) (reads-at is u out r k)))
-distinct-place (i ∷ is) js u out (suc q) zero d h k =
+distinct-index (i ∷ is) js u out (suc q) zero d h k =
     absurd (distinct-apart (i ∷ []) (is ++ js) u out 0 d k (list_any-append (λ (j : Input). (u == j.node) && (out == j.out)) is js ∙ or-left (reads is u out) (reads js u out) (reads-at is u out q h)))
-distinct-place (i ∷ is) js u out (suc q) (suc r) d h k =
-    ap suc (distinct-place is js u out q r (second (not (list_any (same_input i) (is ++ js))) (are_distinct same_input (is ++ js)) d) h k)
+distinct-index (i ∷ is) js u out (suc q) (suc r) d h k =
+    ap suc (distinct-index is js u out q r (second (not (list_any (same_input i) (is ++ js))) (are_distinct same_input (is ++ js)) d) h k)
 
 distinct-read_once : (nodes : List Node) → are_distinct same_input (all_inputs nodes) ≡ true → IsReadOnce nodes
 distinct-read_once [] d u out v q w r h k = absurd cc
-distinct-read_once (node ∷ nodes) d u out zero q zero r h k = (refl, distinct-place node.inputs (all_inputs nodes) u out q r d h k)
+distinct-read_once (node ∷ nodes) d u out zero q zero r h k = (refl, distinct-index node.inputs (all_inputs nodes) u out q r d h k)
 distinct-read_once (node ∷ nodes) d u out zero q (suc w) r h k = absurd (distinct-apart node.inputs (all_inputs nodes) u out q d h (reads-somewhere nodes w r u out k))
 distinct-read_once (node ∷ nodes) d u out (suc v) q zero r h k = absurd (distinct-apart node.inputs (all_inputs nodes) u out r d k (reads-somewhere nodes v q u out h))
 distinct-read_once (node ∷ nodes) d u out (suc v) q (suc w) r h k =

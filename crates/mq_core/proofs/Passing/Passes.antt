@@ -24,14 +24,14 @@ passed_from-push out k (y ∷ xs) x =
 pub passing-arrives : (out : Visit → ℕ → ℕ) (v now by : ℕ) (visits : List Visit) (emitted : List Emission) (fs : List Event) (x : Visit) → x.arrive ≡ now → by ≡ out x (latest (visits ++ x ∷ [])) → Passing out visits emitted fs →
     Passing out (visits ++ x ∷ []) (emitted ++ emissions_of now (visits ++ x ∷ []) (record { out = by; position = latest (visits ++ x ∷ []) } ∷ [])) (fs ++ [])
 passing-arrives out v now by visits emitted fs x at where' h =
-    let place : latest (visits ++ x ∷ []) ≡ length visits = latest-push visits x in
+    let index : latest (visits ++ x ∷ []) ≡ length visits = latest-push visits x in
     let same : length visits ≡ 0 + length visits = omega arith in
-    let middle : slice_get (visits ++ x ∷ []) (latest (visits ++ x ∷ [])) ≡ Some x = ap (slice_get (visits ++ x ∷ [])) place ∙ slice_get-middle visits [] x in
+    let middle : slice_get (visits ++ x ∷ []) (latest (visits ++ x ∷ [])) ≡ Some x = ap (slice_get (visits ++ x ∷ [])) index ∙ slice_get-middle visits [] x in
     record {
       left =
           ap (λ o. emitted ++ (emission_of now by (latest (visits ++ x ∷ [])) o ++ [])) middle
           ∙ (ap (λ l. l ++ record { out = by; position = latest (visits ++ x ∷ []); job = x.job; time = now } ∷ []) h.left
-          ∙ (ap (λ (p : ℕ × ℕ × ℕ). passed_from out 0 visits ++ record { out = p.0; position = p.1; job = x.job; time = p.2 } ∷ []) (λ i. (((where' ∙ ap (out x) (place ∙ same)) i), ((place ∙ same) i), (sym at) i))
+          ∙ (ap (λ (p : ℕ × ℕ × ℕ). passed_from out 0 visits ++ record { out = p.0; position = p.1; job = x.job; time = p.2 } ∷ []) (λ i. (((where' ∙ ap (out x) (index ∙ same)) i), ((index ∙ same) i), (sym at) i))
           ∙ sym (passed_from-push out 0 visits x)));
       none = append-nil fs ∙ h.none;
     }

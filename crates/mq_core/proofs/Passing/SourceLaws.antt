@@ -7,7 +7,7 @@ use Rattle.mq_core.specs.declared.model.Kind.TheVariants.{Source}
 use Rattle.mq_core.specs.declared.model.Rows.{Rows}
 use Rattle.mq_core.proofs.Counting.Released.{emission-one, one-release, times-one}
 use Rattle.mq_core.proofs.Counting.Services.{services-by, services-count}
-use Rattle.mq_core.proofs.Passing.PassingColumns.{no_sum}
+use Rattle.mq_core.proofs.Passing.PassingSequences.{no_sum}
 use Rattle.mq_core.proofs.EachKind.KindLaws.{Inside, KindLaws, OnceLaws, OwnLaws}
 use Rattle.mq_core.proofs.Passing.Passes.{Passing, no_finish, passing-arrives}
 use Rattle.mq_core.proofs.Passing.PassingNumbers.{passing-number}

@@ -4,8 +4,8 @@ use Rattle.mq_core.specs.Kinds.Source.{source}
 use Rattle.mq_core.specs.declared.model.Kind.TheVariants.{Source}
 use Rattle.mq_core.specs.declared.model.Rows.{Rows}
 use Rattle.mq_core.proofs.Bounded.BoundedStations.{by-later, departs-by}
-use Rattle.mq_core.proofs.Passing.PassingColumns.{passed-numbered, passed-fates, source-outs, at-once}
-use Rattle.mq_core.proofs.Counting.FlowColumns.{departing-leaves}
+use Rattle.mq_core.proofs.Passing.PassingSequences.{passed-numbered, passed-fates, source-outs, at-once}
+use Rattle.mq_core.proofs.Counting.FlowSequences.{departing-leaves}
 use Rattle.mq_core.proofs.Counting.Stays.{stay-fates, stay-none}
 use Rattle.mq_core.proofs.EachKind.RecurrenceLaws.{RecurrenceLaws}
 use Rattle.mq_core.proofs.Events.Exits.{until-own}

@@ -4,7 +4,7 @@ use Rattle.std.proofs.lemmas.List.{append-nil}
 use Rattle.std.specs.List.{AllByRecursion as Each}
 use Rattle.mq_core.specs.Event.{Event, earliest, sooner_of, time_of}
 use Rattle.mq_core.specs.Event.Event.{Finish}
-use Rattle.mq_core.specs.Handling.{demand_at, demand_of_visit, front_begins, front_leaves, joins, latest, one_if_some}
+use Rattle.mq_core.specs.Handling.{demand_at, demand_of_visit, front_begins, front_leaves, queues_up, latest, one_if_some}
 use Rattle.mq_core.specs.Local.{Local}
 use Rattle.mq_core.specs.Machine.{Emission, Visit, finishes_of}
 use Rattle.mq_core.specs.Kinds.Server.{served}
@@ -36,7 +36,7 @@ module _ (rows : Rows) (demand : Demand) (v : ℕ) where
   front-sum n visits x l = sum-same n _ _ (λ k u. ap (demand_of_visit rows demand) (get-front k visits (x ∷ []) (omega arith)))
 
   pub busy-arrives : (local : Local) (visits : List Visit) (queue : List ℕ) (emitted : List Emission) (fs : List Event) (now busy : ℕ) (x : Visit) → Serving rows demand v visits queue emitted fs now → busy + remaining now fs ≡ begun rows demand visits queue →
-      busy + remaining now (fs ++ finishes_of v (joins rows demand (visits ++ x ∷ []) local now queue (latest (visits ++ x ∷ []))).services) ≡ begun rows demand (visits ++ x ∷ []) (joins rows demand (visits ++ x ∷ []) local now queue (latest (visits ++ x ∷ []))).local.queue
+      busy + remaining now (fs ++ finishes_of v (queues_up rows demand (visits ++ x ∷ []) local now queue (latest (visits ++ x ∷ []))).services) ≡ begun rows demand (visits ++ x ∷ []) (queues_up rows demand (visits ++ x ∷ []) local now queue (latest (visits ++ x ∷ []))).local.queue
   busy-arrives local visits queue emitted fs now busy x h e = go queue refl h.here h.waiting h.next
     where
       size : length (visits ++ x ∷ []) ≡ suc (length visits)
@@ -49,7 +49,7 @@ module _ (rows : Rows) (demand : Demand) (v : ℕ) where
           count k [] = refl
           count k (z ∷ zs) = ap suc (count (suc k) zs)
 
-      go : (q : List ℕ) → queue ≡ q → (here : List Visit) → queue ≡ positions (length h.gone) here → fs ≡ next_finish rows demand v (length h.gone) (last_served rows demand 0 h.gone) here → busy + remaining now (fs ++ finishes_of v (joins rows demand (visits ++ x ∷ []) local now queue (latest (visits ++ x ∷ []))).services) ≡ begun rows demand (visits ++ x ∷ []) (joins rows demand (visits ++ x ∷ []) local now queue (latest (visits ++ x ∷ []))).local.queue
+      go : (q : List ℕ) → queue ≡ q → (here : List Visit) → queue ≡ positions (length h.gone) here → fs ≡ next_finish rows demand v (length h.gone) (last_served rows demand 0 h.gone) here → busy + remaining now (fs ++ finishes_of v (queues_up rows demand (visits ++ x ∷ []) local now queue (latest (visits ++ x ∷ []))).services) ≡ begun rows demand (visits ++ x ∷ []) (queues_up rows demand (visits ++ x ∷ []) local now queue (latest (visits ++ x ∷ []))).local.queue
       go [] p [] w n =
           let a : busy ≡ sum_below (length visits) (λ k. demand_at rows demand visits k) = (let b = ap (remaining now) n in let c = ap (λ k. sum_below (length visits - (length k - 1)) (λ i. demand_at rows demand visits i)) p in let d : length visits - (0 - 1) ≡ length visits = omega arith in let f = ap (λ k. sum_below k (λ i. demand_at rows demand visits i)) d in omega arith) in
           let b : demand_at rows demand (visits ++ x ∷ []) (latest (visits ++ x ∷ [])) ≡ demand_at rows demand (visits ++ x ∷ []) (length visits) = ap (demand_at rows demand (visits ++ x ∷ [])) (latest-push visits x) in

@@ -7,7 +7,7 @@ use Rattle.mq_core.specs.declared.model.Demand.{Demand}
 use Rattle.mq_core.specs.declared.model.Kind.TheVariants.{Server}
 use Rattle.mq_core.specs.declared.model.Rows.{Rows}
 use Rattle.mq_core.proofs.Counting.Unlost.{departing-whole}
-use Rattle.mq_core.proofs.Counting.Released.{joins-emits, joins-length, no_release}
+use Rattle.mq_core.proofs.Counting.Released.{queues_up-emits, queues_up-length, no_release}
 use Rattle.mq_core.proofs.Counting.Services.{services-by, services-count}
 use Rattle.mq_core.proofs.EachKind.KindLaws.{Inside, KindLaws, OnceLaws, OwnLaws, own_out}
 use Rattle.mq_core.proofs.Events.Remaining.{remaining}
@@ -15,7 +15,7 @@ use Rattle.mq_core.proofs.Server.ServerBusy.{begun, busy-arrives, busy-ends, bus
 use Rattle.mq_core.proofs.Server.ServerLoads.{serving-adds, serving-leaves, serving-takes}
 use Rattle.mq_core.proofs.Server.ServerShows.{serving-emits}
 use Rattle.mq_core.proofs.Server.ServerTallies.{serving-earlier, serving-number}
-use Rattle.mq_core.proofs.Server.Serves.{Serving, joins-releases, serving-arrives, serving-done, serving-ends, serving-opens, serving-waits}
+use Rattle.mq_core.proofs.Server.Serves.{Serving, queues_up-releases, serving-arrives, serving-done, serving-ends, serving-opens, serving-waits}
 
 -- what holds of it between two events
 abbrev pub server-inside : Rows → Demand → Inside
@@ -58,7 +58,7 @@ pub server-own : (rows : Rows) (ports : ℕ) (demand : Demand) → OwnLaws rows 
 server-own rows ports demand =
     record {
       exits = λ s p. refl;
-      own = λ v port s now x q m e. absurd (no_release now q (s.visits ++ x ∷ []) _ m (joins-releases rows demand (s.visits ++ x ∷ []) s.local now s.local.queue (latest (s.visits ++ x ∷ []))) e);
+      own = λ v port s now x q m e. absurd (no_release now q (s.visits ++ x ∷ []) _ m (queues_up-releases rows demand (s.visits ++ x ∷ []) s.local now s.local.queue (latest (s.visits ++ x ∷ []))) e);
       earlier = λ rank v server position s fs rest now first h q p m e l u. serving-earlier rows demand rank v server position s.local s.visits s.local.queue s.emitted fs rest now first h q p m e l u;
     }
 
@@ -70,11 +70,11 @@ server-once rows ports demand =
       all = refl;
       empty = λ v s now h. ap length (serving-done rows demand v s.visits _ s.emitted _ h).0;
       enters = λ v port s fs now x at f.
-          let a = joins-length rows demand (s.visits ++ x ∷ []) s.local now s.local.queue (latest (s.visits ++ x ∷ [])) in
-          let b = ap length (joins-emits rows demand (s.visits ++ x ∷ []) s.local now s.local.queue (latest (s.visits ++ x ∷ []))) in
+          let a = queues_up-length rows demand (s.visits ++ x ∷ []) s.local now s.local.queue (latest (s.visits ++ x ∷ [])) in
+          let b = ap length (queues_up-emits rows demand (s.visits ++ x ∷ []) s.local now s.local.queue (latest (s.visits ++ x ∷ []))) in
           omega arith;
       leaves = λ rank v server position s fs rest now first h. serving-leaves rows demand s now;
       vacant = omega arith;
-      raises = λ v port s fs now x at h f. inl (let r = joins-length rows demand (s.visits ++ x ∷ []) s.local now s.local.queue (latest (s.visits ++ x ∷ [])) in omega arith, λ n. departing-whole (Server demand) (λ m. refl) (own_out rows ports (server demand) v port s now x) n);
+      raises = λ v port s fs now x at h f. inl (let r = queues_up-length rows demand (s.visits ++ x ∷ []) s.local now s.local.queue (latest (s.visits ++ x ∷ [])) in omega arith, λ n. departing-whole (Server demand) (λ m. refl) (own_out rows ports (server demand) v port s now x) n);
       departs = λ v server position s now q m e. refl;
     }

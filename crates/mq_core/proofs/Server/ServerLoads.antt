@@ -10,7 +10,7 @@ use Rattle.mq_core.specs.Machine.{Visit, Station, emissions_of}
 use Rattle.mq_core.specs.Kinds.Server.{server_on}
 use Rattle.mq_core.specs.declared.model.Demand.{Demand}
 use Rattle.mq_core.specs.declared.model.Rows.{Rows}
-use Rattle.mq_core.proofs.Counting.Released.{emission-one, times-one, joins-length, joins-emits}
+use Rattle.mq_core.proofs.Counting.Released.{emission-one, times-one, queues_up-length, queues_up-emits}
 use Rattle.mq_core.proofs.Passing.Passes.{no_finish}
 use Rattle.mq_core.proofs.Server.Serves.{Serving, positions, next_finish, last_served}
 
@@ -18,8 +18,8 @@ use Rattle.mq_core.proofs.Server.Serves.{Serving, positions, next_finish, last_s
 pub serving-adds : (rows : Rows) (demand : Demand) (onward v port job : ℕ) (local : Local) (visits : List Visit) (now : ℕ) →
     length (server_on rows demand visits local now (Arrive now v port job)).local.queue * (onward + 1) + length (emissions_of now visits (server_on rows demand visits local now (Arrive now v port job)).releases) * onward + 1 ≤ length local.queue * (onward + 1) + (onward + 9)
 serving-adds rows demand onward v port job local visits now =
-    let a = joins-length rows demand visits local now local.queue (latest visits) in
-    let b = ap length (joins-emits rows demand visits local now local.queue (latest visits)) in
+    let a = queues_up-length rows demand visits local now local.queue (latest visits) in
+    let b = ap length (queues_up-emits rows demand visits local now local.queue (latest visits)) in
     let c = ap (λ n. n * (onward + 1)) a in
     let d = ap (λ n. n * onward) b in
     let e = suc-mul (length local.queue) (onward + 1) in

@@ -11,8 +11,8 @@ use Rattle.mq_core.specs.declared.model.Rows.{Rows}
 use Rattle.mq_core.proofs.Bounded.BoundedAsked.{asked, asked-small}
 use Rattle.mq_core.proofs.Bounded.BoundedStations.{departs-by}
 use Rattle.mq_core.proofs.Server.ServerBounded.{lindley-by}
-use Rattle.mq_core.proofs.Server.ServerColumns.{served-numbered, served-fates, server-outs, stay-served, when-served}
-use Rattle.mq_core.proofs.Counting.FlowColumns.{departing-leaves}
+use Rattle.mq_core.proofs.Server.ServerSequences.{served-numbered, served-fates, server-outs, stay-served, when-served}
+use Rattle.mq_core.proofs.Counting.FlowSequences.{departing-leaves}
 use Rattle.mq_core.proofs.Counting.Stays.{stay-fates}
 use Rattle.mq_core.proofs.EachKind.RecurrenceLaws.{RecurrenceLaws}
 use Rattle.mq_core.proofs.Events.Exits.{until-own}

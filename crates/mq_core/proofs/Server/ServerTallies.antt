@@ -86,6 +86,6 @@ serving-earlier rows demand rank v server position local visits queue emitted fs
     go (y ∷ ys) a w n b =
         let one = subst (λ l. earliest rank l ≡ Some (Finish now v server position, rest)) n first in
         let time : served rows demand (last_served rows demand 0 h.gone) y ≡ now = ap time_of (pair-inj (Finish (served rows demand (last_served rows demand 0 h.gone) y) v 0 (length h.gone), []) (Finish now v server position, rest) one).0 in
-        let place : q ≡ length h.gone = one-release now 0 (length h.gone) q visits m (subst (λ l. emission_at (emissions_of now visits (front_leaves rows demand visits local now l).releases) q ≡ Some m) w e) in
+        let index : q ≡ length h.gone = one-release now 0 (length h.gone) q visits m (subst (λ l. emission_at (emissions_of now visits (front_leaves rows demand visits local now l).releases) q ≡ Some m) w e) in
         let all : Each (λ (x : Visit). x.arrive < now) ys = subst (λ k. Each (λ (x : Visit). x.arrive < k) ys) time b in
         subst (λ l. arrival_or 0 (slice_get l p) < now) (sym a) (get-behind now h.gone ys y p (omega arith) (let s = ap length a in omega arith) all)

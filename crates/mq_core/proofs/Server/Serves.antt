@@ -9,7 +9,7 @@ use Rattle.mq_core.specs.Event.{Event, time_of, earliest, sooner_of}
 use Rattle.mq_core.specs.Event.Event.{Finish}
 use Rattle.mq_core.specs.Machine.{Visit, Emission, finishes_of, emissions_of}
 use Rattle.mq_core.specs.Local.{Local}
-use Rattle.mq_core.specs.Handling.{demand_of_job, demand_of_visit, demand_at, latest, joins, front_leaves, front_begins}
+use Rattle.mq_core.specs.Handling.{demand_of_job, demand_of_visit, demand_at, latest, queues_up, front_leaves, front_begins}
 use Rattle.mq_core.specs.Kinds.Server.{served, served_from}
 use Rattle.mq_core.specs.declared.model.Demand.{Demand}
 use Rattle.mq_core.specs.declared.model.Rows.{Rows}
@@ -88,13 +88,13 @@ last_served-push rows demand last (y ∷ xs) x = last_served-push rows demand (s
 pub length-push : (xs : List Visit) (x : Visit) → length (xs ++ x ∷ []) ≡ suc (length xs)
 length-push xs x = omega (arith, length-append xs (x ∷ []))
 
-joins-queue : (rows : Rows) (demand : Demand) (visits : List Visit) (local : Local) (now : ℕ) (queue : List ℕ) (position : ℕ) → (joins rows demand visits local now queue position).local.queue ≡ queue ++ position ∷ []
-joins-queue rows demand visits local now [] position = refl
-joins-queue rows demand visits local now (front ∷ queue) position = refl
+queues_up-queue : (rows : Rows) (demand : Demand) (visits : List Visit) (local : Local) (now : ℕ) (queue : List ℕ) (position : ℕ) → (queues_up rows demand visits local now queue position).local.queue ≡ queue ++ position ∷ []
+queues_up-queue rows demand visits local now [] position = refl
+queues_up-queue rows demand visits local now (front ∷ queue) position = refl
 
-pub joins-releases : (rows : Rows) (demand : Demand) (visits : List Visit) (local : Local) (now : ℕ) (queue : List ℕ) (position : ℕ) → (joins rows demand visits local now queue position).releases ≡ []
-joins-releases rows demand visits local now [] position = refl
-joins-releases rows demand visits local now (front ∷ queue) position = refl
+pub queues_up-releases : (rows : Rows) (demand : Demand) (visits : List Visit) (local : Local) (now : ℕ) (queue : List ℕ) (position : ℕ) → (queues_up rows demand visits local now queue position).releases ≡ []
+queues_up-releases rows demand visits local now [] position = refl
+queues_up-releases rows demand visits local now (front ∷ queue) position = refl
 
 pub max-least : (a b : ℕ) → b ≤ a → max a b ≡ a
 max-least a b h = omega arith
@@ -105,20 +105,20 @@ demand_of-push rows demand visits x = ap (demand_of_visit rows demand) (slice_ge
 -- an arrival at a server
 pub serving-arrives : (rows : Rows) (demand : Demand) (v : ℕ) (local : Local) (visits : List Visit) (queue : List ℕ) (emitted : List Emission) (fs : List Event) (now : ℕ) (x : Visit) → x.arrive ≡ now → Each (λ f. now < time_of f) fs → Serving rows demand v visits queue emitted fs now →
     Serving rows demand v (visits ++ x ∷ [])
-    ((joins rows demand (visits ++ x ∷ []) local now queue (latest (visits ++ x ∷ []))).local.queue)
-    (emitted ++ emissions_of now (visits ++ x ∷ []) (joins rows demand (visits ++ x ∷ []) local now queue (latest (visits ++ x ∷ []))).releases)
-    (fs ++ finishes_of v (joins rows demand (visits ++ x ∷ []) local now queue (latest (visits ++ x ∷ []))).services) now
+    ((queues_up rows demand (visits ++ x ∷ []) local now queue (latest (visits ++ x ∷ []))).local.queue)
+    (emitted ++ emissions_of now (visits ++ x ∷ []) (queues_up rows demand (visits ++ x ∷ []) local now queue (latest (visits ++ x ∷ []))).releases)
+    (fs ++ finishes_of v (queues_up rows demand (visits ++ x ∷ []) local now queue (latest (visits ++ x ∷ []))).services) now
 serving-arrives rows demand v local visits queue emitted fs now x at soon h =
     record {
       gone = h.gone;
       here = h.here ++ x ∷ [];
       parts = ap (λ l. l ++ x ∷ []) h.parts ∙ append_assoc h.gone h.here (x ∷ []);
       waiting =
-          joins-queue rows demand (visits ++ x ∷ []) local now queue (latest (visits ++ x ∷ []))
+          queues_up-queue rows demand (visits ++ x ∷ []) local now queue (latest (visits ++ x ∷ []))
           ∙ (ap (λ q. q ++ latest (visits ++ x ∷ []) ∷ []) h.waiting
-          ∙ (ap (λ n. positions (length h.gone) h.here ++ n ∷ []) place ∙ sym (positions-push (length h.gone) h.here x)));
-      left = ap (λ l. emitted ++ emissions_of now (visits ++ x ∷ []) l) (joins-releases rows demand (visits ++ x ∷ []) local now queue (latest (visits ++ x ∷ []))) ∙ (append-nil emitted ∙ h.left);
-      next = go h.here h.waiting h.next place;
+          ∙ (ap (λ n. positions (length h.gone) h.here ++ n ∷ []) index ∙ sym (positions-push (length h.gone) h.here x)));
+      left = ap (λ l. emitted ++ emissions_of now (visits ++ x ∷ []) l) (queues_up-releases rows demand (visits ++ x ∷ []) local now queue (latest (visits ++ x ∷ []))) ∙ (append-nil emitted ∙ h.left);
+      next = go h.here h.waiting h.next index;
       before = h.before;
       came = Each-append _ h.here (x ∷ []) h.came (omega arith, tt);
       behind = after_front h.here h.next h.behind;
@@ -130,10 +130,10 @@ serving-arrives rows demand v local visits queue emitted fs now x at soon h =
         let later : now < served rows demand (last_served rows demand 0 h.gone) y = (subst (Each (λ f. now < time_of f)) n soon).0 in
         Each-append _ ys (x ∷ []) b (omega arith, tt)
 
-    place : latest (visits ++ x ∷ []) ≡ length h.gone + length h.here
-    place = latest-push visits x ∙ (ap length h.parts ∙ length-append h.gone h.here)
+    index : latest (visits ++ x ∷ []) ≡ length h.gone + length h.here
+    index = latest-push visits x ∙ (ap length h.parts ∙ length-append h.gone h.here)
 
-    go : (here : List Visit) → queue ≡ positions (length h.gone) here → fs ≡ next_finish rows demand v (length h.gone) (last_served rows demand 0 h.gone) here → latest (visits ++ x ∷ []) ≡ length h.gone + length here → fs ++ finishes_of v (joins rows demand (visits ++ x ∷ []) local now queue (latest (visits ++ x ∷ []))).services ≡ next_finish rows demand v (length h.gone) (last_served rows demand 0 h.gone) (here ++ x ∷ [])
+    go : (here : List Visit) → queue ≡ positions (length h.gone) here → fs ≡ next_finish rows demand v (length h.gone) (last_served rows demand 0 h.gone) here → latest (visits ++ x ∷ []) ≡ length h.gone + length here → fs ++ finishes_of v (queues_up rows demand (visits ++ x ∷ []) local now queue (latest (visits ++ x ∷ []))).services ≡ next_finish rows demand v (length h.gone) (last_served rows demand 0 h.gone) (here ++ x ∷ [])
     go [] q n k =
         let p : latest (visits ++ x ∷ []) ≡ length h.gone = omega arith in
         let service : now + demand_at rows demand (visits ++ x ∷ []) (latest (visits ++ x ∷ [])) ≡ served rows demand (last_served rows demand 0 h.gone) x =
@@ -183,7 +183,7 @@ serving-ends rows demand rank v server position local visits queue emitted fs re
         let both = pair-inj (Finish (served rows demand (last_served rows demand 0 h.gone) y) v 0 (length h.gone), []) (Finish now v server position, rest) one in
         let time : served rows demand (last_served rows demand 0 h.gone) y ≡ now = ap time_of both.0 in
         let middle : slice_get visits (length h.gone) ≡ Some y = ap (λ l. slice_get l (length h.gone)) p ∙ slice_get-middle h.gone ys y in
-        let place : length h.gone ≡ 0 + length h.gone = omega arith in
+        let index : length h.gone ≡ 0 + length h.gone = omega arith in
         let moment : now ≡ served rows demand (last_served rows demand 0 h.gone) y = sym time in
         let final : last_served rows demand 0 (h.gone ++ y ∷ []) ≡ now = last_served-push rows demand 0 h.gone y ∙ time in
         rw (q, ← both.1)
@@ -194,7 +194,7 @@ serving-ends rows demand rank v server position local visits queue emitted fs re
           waiting = ap (λ k. positions k ys) (sym (length-push h.gone y));
           left = rw middle (
               ap (λ l. l ++ record { out = 0; position = length h.gone; job = y.job; time = now } ∷ []) h.left
-              ∙ (ap (λ (x : ℕ × ℕ). served_from rows demand 0 0 h.gone ++ record { out = 0; position = x.0; job = y.job; time = x.1 } ∷ []) (λ i. (place i, moment i))
+              ∙ (ap (λ (x : ℕ × ℕ). served_from rows demand 0 0 h.gone ++ record { out = 0; position = x.0; job = y.job; time = x.1 } ∷ []) (λ i. (index i, moment i))
               ∙ sym (served_from-push rows demand 0 0 h.gone y)));
           next =
               ap (λ k. finishes_of v (front_begins rows demand visits now (positions k ys))) (sym (length-push h.gone y))

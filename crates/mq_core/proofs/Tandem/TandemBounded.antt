@@ -8,10 +8,10 @@ use Rattle.mq_core.specs.declared.model.Stage.{Stage}
 use Rattle.mq_core.proofs.Bounded.BoundedStations.{AreBy, AreSmall, by-later}
 use Rattle.mq_core.proofs.Bounded.BoundedAsked.{asked}
 
-one-by : (limit : ℕ) (times : List ℕ) (place : ℕ) → AreBy limit times → time_or_none (slice_get times place) ≤ limit
-one-by limit [] place h = omega arith
+one-by : (limit : ℕ) (times : List ℕ) (index : ℕ) → AreBy limit times → time_or_none (slice_get times index) ≤ limit
+one-by limit [] index h = omega arith
 one-by limit (time ∷ times) zero h = h.0
-one-by limit (time ∷ times) (suc place) h = one-by limit times place h.1
+one-by limit (time ∷ times) (suc index) h = one-by limit times index h.1
 
 last-by : (limit : ℕ) (times : List ℕ) → AreBy limit times → last_time times ≤ limit
 last-by limit [] h = omega arith
@@ -26,9 +26,9 @@ room-by limit (places ∷ more) (times ∷ left) h = one-by limit times (places 
 -- one job: each stage adds its demand to when it came, or to the latest departure before
 stages-by : (limit high here came : ℕ) (places demands : List ℕ) (left : List (List ℕ)) → high ≤ here → came ≤ here → here + length places * 2 ^ 36 ≤ limit → AreSmall demands → Each (AreBy high) left → AreBy limit (stage_departs came places demands left)
 stages-by limit high here came [] demands left h c room ds ls = tt
-stages-by limit high here came (place ∷ places) [] left h c room ds ls = tt
-stages-by limit high here came (place ∷ places) (demand ∷ demands) [] h c room ds ls = tt
-stages-by limit high here came (place ∷ places) (demand ∷ demands) (times ∷ left) h c room ds ls =
+stages-by limit high here came (index ∷ places) [] left h c room ds ls = tt
+stages-by limit high here came (index ∷ places) (demand ∷ demands) [] h c room ds ls = tt
+stages-by limit high here came (index ∷ places) (demand ∷ demands) (times ∷ left) h c room ds ls =
     let a = ds.0 in
     let last = one-by high times 0 ls.0 in
     let free = room-by high places left ls.1 in

@@ -3,7 +3,7 @@ use Rattle.std.proofs.Common.{List, [], ap, arith, length, map, refl, suc, true,
 use Rattle.std.proofs.lemmas.List.{length-map}
 use Rattle.std.specs.List.{AllByRecursion as Each}
 use Rattle.mq_base.proofs.lemmas.Each.{Each-weaker}
-use Rattle.mq_core.specs.ColumnLaws.{arrives_of, jobs_of}
+use Rattle.mq_core.specs.SequenceLaws.{arrives_of, jobs_of}
 use Rattle.mq_core.specs.Handling.{demand_of_stages}
 use Rattle.mq_core.specs.Kinds.Tandem.{tandem}
 use Rattle.mq_core.specs.Machine.{Visit}
@@ -18,14 +18,14 @@ use Rattle.mq_core.specs.declared.model.Stage.{Stage}
 use Rattle.mq_core.proofs.Bounded.BoundedAsked.{all-small, asked}
 use Rattle.mq_core.proofs.Tandem.TandemBounded.{none-left, stages-small, tandem-by}
 use Rattle.mq_core.proofs.Bounded.BoundedStations.{AreBy, LeaveBy, by-later, departs-by}
-use Rattle.mq_core.proofs.Counting.ColumnNumbers.{leaving-numbered}
-use Rattle.mq_core.proofs.Counting.FlowColumns.{departing-leaves, leaving-fates, leaving-outs}
-use Rattle.mq_core.proofs.Tandem.TandemColumns.{tandem-even, tandem_times-late, tandem_times-length}
+use Rattle.mq_core.proofs.Counting.SequenceNumbers.{leaving-numbered}
+use Rattle.mq_core.proofs.Counting.FlowSequences.{departing-leaves, leaving-fates, leaving-outs}
+use Rattle.mq_core.proofs.Tandem.TandemSequences.{tandem-even, tandem_times-late, tandem_times-length}
 use Rattle.mq_core.proofs.Counting.Stays.{FatesStay, stay-fates, stay-none}
 use Rattle.mq_core.proofs.Tandem.TandemStays.{stay-in_tandem}
 use Rattle.mq_core.proofs.EachKind.RecurrenceLaws.{RecurrenceLaws}
 use Rattle.mq_core.proofs.Events.Exits.{until-own}
-use Rattle.mq_core.proofs.ForkJoin.ForkTimes.{fates-at_least}
+use Rattle.mq_core.proofs.ForkJoin.ForkJoinTimes.{fates-at_least}
 
 -- a tandem keeps each job for its demands; one with no stage keeps none
 stay-stages : (rows : Rows) (stages : List Stage) (job arrive : List ℕ) → length job ≡ length arrive → FatesStay (demand_of_stages rows stages) job arrive (map (λ time. Departs time) (tandem_times rows stages job arrive))

@@ -16,7 +16,7 @@ use Rattle.mq_core.specs.declared.model.Demand.{Demand}
 use Rattle.mq_core.specs.declared.model.Stage.{Stage}
 use Rattle.mq_core.specs.declared.model.Rows.{Rows}
 use Rattle.mq_core.proofs.Events.Areas.{get-front, get-last}
-use Rattle.mq_core.proofs.Delay.Delays.{CameBefore, place_in}
+use Rattle.mq_core.proofs.Delay.Delays.{CameBefore, position_in}
 use Rattle.mq_core.proofs.Events.Pending.{earliest-splits, earliest-filter, filter-earliest_other}
 use Rattle.mq_core.proofs.Delay.DelayNumbers.{earliest-each}
 use Rattle.mq_core.proofs.Tandem.TandemShapes.{AreStages}
@@ -37,7 +37,7 @@ pub record Tandeming (rows : Rows) (stages : List Stage) (v : ℕ) (visits : Lis
   pub sound : AreStages stages
   pub tidy : Stages rows v Blocked visits (time_at rows stages visits) 0 (length visits) stages lines emitted fs now
   pub only : Each (λ f. is_finish_below (length stages) f ≡ true) fs
-  pub behind : Each (λ f. CameBefore visits (place_in f) (time_of f)) fs
+  pub behind : Each (λ f. CameBefore visits (position_in f) (time_of f)) fs
 
 stages-open : (rows : Rows) (v : ℕ) (time : ℕ → ℕ → ℕ) (server : ℕ) (stages : List Stage) → Stages rows v Blocked [] time server 0 stages (empty_lines stages) [] [] 0
 stages-open rows v time server [] = (refl, λ k l. absurd (omega arith))
@@ -76,7 +76,7 @@ behind-push now visits x k time at l h p u i = go (eqb p (length visits)) refl
         less other = omega (arith, length-append visits (x ∷ []))
 
 -- nobody is behind the last
-behind-last : (rows : Rows) (v : ℕ) (demand : Demand) (visits : List Visit) (now server : ℕ) (queue : List ℕ) (k : ℕ) → suc k ≡ length visits → Each (λ f. CameBefore visits (place_in f) (time_of f)) (finishes_of v (begins_alone rows demand visits now server queue k))
+behind-last : (rows : Rows) (v : ℕ) (demand : Demand) (visits : List Visit) (now server : ℕ) (queue : List ℕ) (k : ℕ) → suc k ≡ length visits → Each (λ f. CameBefore visits (position_in f) (time_of f)) (finishes_of v (begins_alone rows demand visits now server queue k))
 behind-last rows v demand visits now server [] k e = (λ p l i. absurd (omega arith), tt)
 behind-last rows v demand visits now server (front ∷ queue) k e = tt
 
@@ -100,7 +100,7 @@ tandeming-arrives rows (stage ∷ stages) v local visits (line ∷ lines) emitte
           (λ s k l. time-same rows (stage ∷ stages) visits (x ∷ []) s k l) (λ k l. get-front k visits (x ∷ []) l) 0 (length visits) (stage ∷ stages) (line ∷ lines) emitted fs now (omega arith) h.tidy)));
       only = Each-append _ fs _ h.only (within-only v 0 1 (length (stage ∷ stages)) _ (omega arith) (begins_alone-within rows stage.demand (visits ++ x ∷ []) now 0 line.queue (latest (visits ++ x ∷ [])) 0 1 (omega arith) (omega arith)));
       behind =
-          Each-append _ fs _ (Each-both _ _ _ (λ f l k. behind-push now visits x (place_in f) (time_of f) at l k) fs soon h.behind)
+          Each-append _ fs _ (Each-both _ _ _ (λ f l k. behind-push now visits x (position_in f) (time_of f) at l k) fs soon h.behind)
           (behind-last rows v stage.demand (visits ++ x ∷ []) now 0 line.queue (latest (visits ++ x ∷ [])) (ap suc (latest-push visits x) ∙ one-more visits x));
     }
 
@@ -122,7 +122,7 @@ module _ (rows : Rows) (v : ℕ) (visits : List Visit) (emitted : List Emission)
   one q end left e only =
       let own = earliest-filter rank (is_finish_of q) fs (Finish now v ending position, rest) first (eq-eqb ending q e) in
       let both = pair-inj (Finish end v q left, []) (Finish now v ending position, filter (is_finish_of q) rest) (subst (λ l. earliest rank l ≡ Some (Finish now v ending position, filter (is_finish_of q) rest)) only own) in
-      (ap time_of both.0, sym both.1, ap place_in both.0)
+      (ap time_of both.0, sym both.1, ap position_in both.0)
 
   none : (q : ℕ) → ending ≡ q → filter (is_finish_of q) fs ≡ [] → ⊥
   unfolding earliest
@@ -205,7 +205,7 @@ module _ (rows : Rows) (v : ℕ) (visits : List Visit) (emitted : List Emission)
 
   -- who is behind that job came before now
   pub finish-behind : (stages : List Stage) (lines : List Line) → Tandeming rows stages v visits lines emitted fs now → CameBefore visits position now
-  finish-behind stages lines h = earliest-each (λ f. CameBefore visits (place_in f) (time_of f)) rank fs rest (Finish now v ending position) first h.behind
+  finish-behind stages lines h = earliest-each (λ f. CameBefore visits (position_in f) (time_of f)) rank fs rest (Finish now v ending position) first h.behind
 
   -- what a finish makes of the stages
   pub finish-sweeps : (stages : List Stage) (lines : List Line) → Tandeming rows stages v visits lines emitted fs now → Sweeping rows v visits (time_at rows stages visits) 0 (length visits) stages (marked ending lines) emitted rest now (sweep rows visits now 0 stages (marked ending lines))
@@ -227,5 +227,5 @@ module _ (rows : Rows) (v : ℕ) (visits : List Visit) (emitted : List Emission)
         only = Each-append _ rest _ (rest-only _ h.only) (within-only v 0 (0 + length stages) (length stages) _ (omega arith) k.within);
         behind =
             Each-append _ rest _ (rest-only _ h.behind)
-            (Each-map (IsFrom position now) (λ f. CameBefore visits (place_in f) (time_of f)) (λ (s : Service). Finish s.time v s.server s.position) (λ s m p l i. let a = m.0 in let b = m.1 in let c = early p (omega arith) i in omega arith) (sweep rows visits now 0 stages (marked ending lines)).services (finish-moves stages lines h).0);
+            (Each-map (IsFrom position now) (λ f. CameBefore visits (position_in f) (time_of f)) (λ (s : Service). Finish s.time v s.server s.position) (λ s m p l i. let a = m.0 in let b = m.1 in let c = early p (omega arith) i in omega arith) (sweep rows visits now 0 stages (marked ending lines)).services (finish-moves stages lines h).0);
       }

@@ -3,7 +3,7 @@ use Rattle.std.specs.Prelude.{List, [], false, length, map, nat_lt, suc, true, â
 use Rattle.mq_core.specs.Behaviour.{Behaviour}
 use Rattle.mq_core.specs.Came.{Came}
 use Rattle.mq_core.specs.Handling.{demand_of_job, latest, begins}
-use Rattle.mq_core.specs.Leaving.Leaving.{Overtaking}
+use Rattle.mq_core.specs.EmissionOrder.EmissionOrder.{Overtaking}
 use Rattle.mq_core.specs.Local.{empty, Local}
 use Rattle.mq_core.specs.Machine.{Emission, Visit, Reaction}
 use Rattle.mq_core.specs.OnceOut.{founds_of, once_out}

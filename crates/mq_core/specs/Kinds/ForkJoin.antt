@@ -2,14 +2,14 @@
 use Rattle.std.specs.List.{flat_map, list_all}
 use Rattle.std.specs.Prelude.{Bool, List, false, fold, length, map, max, nat_le, nat_lt, sum_by, true, ℕ, ◌&&◌, ◌-◌, ◌+◌, ◌==◌, min, if◌then◌else◌, [], ◌∷◌, ◌++◌, count_by}
 use Rattle.mq_core.specs.Came.{Came}
-use Rattle.mq_core.specs.Leaving.Leaving.{InTurn}
+use Rattle.mq_core.specs.EmissionOrder.EmissionOrder.{ByPosition}
 use Rattle.mq_core.specs.Behaviour.{Behaviour}
 use Rattle.mq_core.specs.Emitting.{leaving_from}
 use Rattle.mq_core.specs.Handling.{demand_of_job, latest, begins_at, begins_alone}
 use Rattle.mq_core.specs.Machine.{Emission, Visit, Service, Reaction}
 use Rattle.mq_core.specs.OnceOut.{founds_of, once_out}
 use Rattle.mq_core.specs.Ranges.{columns_of_demand, is_sound_demand, is_within}
-use Rattle.mq_core.specs.Recurrences.{fork_departs}
+use Rattle.mq_core.specs.Recurrences.{forkjoin_departs}
 use Rattle.mq_core.specs.Tallies.{emission_at}
 use Rattle.mq_core.specs.Told.{AreTold}
 use Rattle.mq_core.specs.declared.model.Demand.{Demand}
@@ -54,12 +54,12 @@ finishes_at rows visits now finished server (demand ∷ demands) (queue ∷ queu
     then goes_on rows visits now server demand demands queue queues
     else (let moved = finishes_at rows visits now finished (server + 1) demands queues in record moved { queues = queue ∷ moved.queues })
 
-pub record Forked : Type 0 where
+pub record ForkJoinMoved : Type 0 where
   pub branches : List Branch
   pub services : List Service
 
 -- each branch after its part; each has its first server's number
-abbrev pub each_branch : (ℕ → List Demand → List (List ℕ) → Moved) → ℕ → List (List Demand) → List Branch → Forked
+abbrev pub each_branch : (ℕ → List Demand → List (List ℕ) → Moved) → ℕ → List (List Demand) → List Branch → ForkJoinMoved
 each_branch part server [] branches = record { branches = []; services = [] }
 each_branch part server (demands ∷ more) [] = record { branches = []; services = [] }
 each_branch part server (demands ∷ more) (branch ∷ branches) =
@@ -77,8 +77,8 @@ least_through (branch ∷ []) = branch.through
 least_through (branch ∷ (next ∷ branches)) = min branch.through (least_through (next ∷ branches))
 
 -- what a fork-join keeps at the start: nobody at any server, and nobody through
-abbrev pub fork_opening : List (List Demand) → Local
-fork_opening branches = record empty { branches = map (λ demands. record { queues = map (λ _. []) demands; through = 0 }) branches }
+abbrev pub forkjoin_opening : List (List Demand) → Local
+forkjoin_opening branches = record empty { branches = map (λ demands. record { queues = map (λ _. []) demands; through = 0 }) branches }
 
 -- a server has a job
 abbrev pub is_busy : List ℕ → Bool
@@ -89,18 +89,18 @@ is_busy (front ∷ queue) = true
 abbrev pub busy_servers : List Branch → ℕ
 busy_servers branches = count_by is_busy (flat_map (λ (branch : Branch). branch.queues) branches)
 
--- a fork-join: an arrival joins every branch; a finish moves a job on, and a position goes out once it is through all
-abbrev pub fork_on : Rows → List (List Demand) → List Visit → Local → ℕ → Event → Reaction Local
-fork_on rows demands visits local now (Arrive time node port job) =
-    let forked = each_branch (λ server ds queues. goes_in rows visits now server ds queues (latest visits)) 0 demands local.branches in
-    record { local = record local { branches = forked.branches }; releases = []; services = forked.services }
-fork_on rows demands visits local now (Finish time node server position) =
-    let forked = each_branch (λ first ds queues. finishes_at rows visits now server first ds queues) 0 demands local.branches in
-    let joined = least_through local.branches in
+-- a fork-join: an arrival enters every branch; a finish moves a job on, and a position goes out once it is through all
+abbrev pub forkjoin_on : Rows → List (List Demand) → List Visit → Local → ℕ → Event → Reaction Local
+forkjoin_on rows demands visits local now (Arrive time node port job) =
+    let moved_on = each_branch (λ server ds queues. goes_in rows visits now server ds queues (latest visits)) 0 demands local.branches in
+    record { local = record local { branches = moved_on.branches }; releases = []; services = moved_on.services }
+forkjoin_on rows demands visits local now (Finish time node server position) =
+    let moved_on = each_branch (λ first ds queues. finishes_at rows visits now server first ds queues) 0 demands local.branches in
+    let gone = least_through local.branches in
     record {
-      local = record local { branches = forked.branches };
-      releases = if nat_lt joined (least_through forked.branches) then record { out = 0; position = joined } ∷ [] else [];
-      services = forked.services;
+      local = record local { branches = moved_on.branches };
+      releases = if nat_lt gone (least_through moved_on.branches) then record { out = 0; position = gone } ∷ [] else [];
+      services = moved_on.services;
     }
 
 -- 2 to 8 branches of 1 to 4 servers, at most 8 servers together, and sound demands
@@ -115,25 +115,25 @@ abbrev pub branch_demands : Rows → List (List Demand) → List ℕ → List (L
 branch_demands rows branches job = map (λ demands. map (λ demand. map (demand_of_job rows demand) job) demands) branches
 
 -- what these visits let out at a fork-join: each leaves once it has gone through every branch
-abbrev pub joined_from : Rows → List (List Demand) → List Visit → List Emission
-joined_from rows branches visits =
-    leaving_from 0 (fork_departs (map (λ (visit : Visit). visit.arrive) visits) (branch_demands rows branches (map (λ (visit : Visit). visit.job) visits))) visits
+abbrev pub forkjoin_from : Rows → List (List Demand) → List Visit → List Emission
+forkjoin_from rows branches visits =
+    leaving_from 0 (forkjoin_departs (map (λ (visit : Visit). visit.arrive) visits) (branch_demands rows branches (map (λ (visit : Visit). visit.job) visits))) visits
 
 -- the fates of the arrivals
-abbrev pub fork_join_fates : Rows → List (List Demand) → Came → List Fate
-fork_join_fates rows branches came = map (λ time. Departs time) (fork_departs came.arrive (branch_demands rows branches came.job))
+abbrev pub forkjoin_fates : Rows → List (List Demand) → Came → List Fate
+forkjoin_fates rows branches came = map (λ time. Departs time) (forkjoin_departs came.arrive (branch_demands rows branches came.job))
 
 -- the outputs by which they leave
-abbrev pub fork_join_outs : Rows → List (List Demand) → Came → List ℕ
-fork_join_outs rows branches came = map (λ _. 0) came.job
+abbrev pub forkjoin_outs : Rows → List (List Demand) → Came → List ℕ
+forkjoin_outs rows branches came = map (λ _. 0) came.job
 
 -- branches side by side, each of servers in series
-abbrev pub fork_join : List (List Demand) → Behaviour
-fork_join branches =
+abbrev pub forkjoin : List (List Demand) → Behaviour
+forkjoin branches =
     record {
       starts = false;
-      opening = fork_opening branches;
-      on = λ rows ports visits local now event. fork_on rows branches visits local now event;
+      opening = forkjoin_opening branches;
+      on = λ rows ports visits local now event. forkjoin_on rows branches visits local now event;
       jobs = λ visits local. length visits - least_through local.branches;
       working = λ local. busy_servers local.branches;
       holds = true;
@@ -146,16 +146,16 @@ fork_join branches =
       bare = λ rows job. fold max 0 (map (λ demands. sum_by (λ demand. demand_of_job rows demand job) demands) branches);
       service = λ rows job. sum_by (λ demand. demand_of_job rows demand job) (flat_map (λ demands. demands) branches);
       fate = λ m. Departs m.time;
-      fates = λ rows came. fork_join_fates rows branches came;
-      outs = λ rows came. fork_join_outs rows branches came;
-      flow = λ rows ports visits. joined_from rows branches visits;
-      order = InTurn;
+      fates = λ rows came. forkjoin_fates rows branches came;
+      outs = λ rows came. forkjoin_outs rows branches came;
+      flow = λ rows ports visits. forkjoin_from rows branches visits;
+      order = ByPosition;
       copies = 1;
       exit = λ s position. emission_at s.emitted position;
       there = λ time position m. nat_lt time m.time;
       keeps = false;
-      founds = λ rows came. founds_of came.arrive (fork_join_fates rows branches came);
-      stream = λ rows came out. once_out InTurn came (fork_join_fates rows branches came) (fork_join_outs rows branches came) out;
+      founds = λ rows came. founds_of came.arrive (forkjoin_fates rows branches came);
+      stream = λ rows came out. once_out ByPosition came (forkjoin_fates rows branches came) (forkjoin_outs rows branches came) out;
     }
 
 -- a position that enters the first of these servers
@@ -188,6 +188,6 @@ each_branch-late now part server (demands ∷ more) (branch ∷ branches) h =
     both-late now (part server demands branch.queues).services _ (h server demands branch.queues) (each_branch-late now part (server + length demands) more branches h)
 
 -- a fork-join schedules nothing earlier than the clock
-pub fork_join-late : (rows : Rows) (demands : List (List Demand)) (visits : List Visit) (local : Local) (now : ℕ) (event : Event) → Late now (fork_on rows demands visits local now event).services
-fork_join-late rows demands visits local now (Arrive t n q j) = each_branch-late now (λ server ds queues. goes_in rows visits now server ds queues (latest visits)) 0 demands local.branches (λ first ds queues. goes_in-late rows visits now first ds queues (latest visits))
-fork_join-late rows demands visits local now (Finish t n server position) = each_branch-late now (λ first ds queues. finishes_at rows visits now server first ds queues) 0 demands local.branches (λ first ds queues. finishes_at-late rows visits now server first ds queues)
+pub forkjoin-late : (rows : Rows) (demands : List (List Demand)) (visits : List Visit) (local : Local) (now : ℕ) (event : Event) → Late now (forkjoin_on rows demands visits local now event).services
+forkjoin-late rows demands visits local now (Arrive t n q j) = each_branch-late now (λ server ds queues. goes_in rows visits now server ds queues (latest visits)) 0 demands local.branches (λ first ds queues. goes_in-late rows visits now first ds queues (latest visits))
+forkjoin-late rows demands visits local now (Finish t n server position) = each_branch-late now (λ first ds queues. finishes_at rows visits now server first ds queues) 0 demands local.branches (λ first ds queues. finishes_at-late rows visits now server first ds queues)

@@ -3,8 +3,8 @@ use Rattle.std.specs.Prelude.{List, [], false, if◌then◌else◌, length, map,
 use Rattle.std.proofs.Common.{Bool}
 use Rattle.mq_core.specs.Behaviour.{Behaviour}
 use Rattle.mq_core.specs.Came.{Came}
-use Rattle.mq_core.specs.Handling.{demand_of_job, one_if_some, latest, passes_on, joins, front_leaves}
-use Rattle.mq_core.specs.Leaving.Leaving.{Mixed}
+use Rattle.mq_core.specs.Handling.{demand_of_job, one_if_some, latest, passes_on, queues_up, front_leaves}
+use Rattle.mq_core.specs.EmissionOrder.EmissionOrder.{Mixed}
 use Rattle.mq_core.specs.Local.{empty, Local}
 use Rattle.mq_core.specs.Machine.{Emission, Visit, Reaction}
 use Rattle.mq_core.specs.OnceOut.{founds_of, once_out}
@@ -18,13 +18,13 @@ use Rattle.mq_core.specs.declared.model.Fate.TheVariants.{Departs, Lost}
 use Rattle.mq_core.specs.declared.model.Rows.{Rows}
 use Rattle.mq_core.specs.Event.{Event}
 use Rattle.mq_core.specs.Event.Event.{Arrive, Finish}
-use Rattle.mq_core.specs.Late.{Late, joins-late, front_leaves-late}
+use Rattle.mq_core.specs.Late.{Late, queues_up-late, front_leaves-late}
 
 -- a loss station: where all places are taken an arrival goes out by output 1, else it does as at a server
 abbrev pub loss_on : Rows → ℕ → Demand → List Visit → Local → ℕ → Event → Reaction Local
 loss_on rows places demand visits local now (Arrive time node port job) =
     if nat_lt (length local.queue) places
-    then joins rows demand visits local now local.queue (latest visits)
+    then queues_up rows demand visits local now local.queue (latest visits)
     else passes_on local 1 (latest visits)
 loss_on rows places demand visits local now (Finish time node server position) = front_leaves rows demand visits local now local.queue
 
@@ -84,8 +84,8 @@ loss places demand =
     }
 
 -- a visit that is admitted or not
-admits-late : (rows : Rows) (places : ℕ) (demand : Demand) (visits : List Visit) (local : Local) (now : ℕ) (b : Bool) → Late now (if b then joins rows demand visits local now local.queue (latest visits) else passes_on local 1 (latest visits)).services
-admits-late rows places demand visits local now true = joins-late rows demand visits local now local.queue (latest visits)
+admits-late : (rows : Rows) (places : ℕ) (demand : Demand) (visits : List Visit) (local : Local) (now : ℕ) (b : Bool) → Late now (if b then queues_up rows demand visits local now local.queue (latest visits) else passes_on local 1 (latest visits)).services
+admits-late rows places demand visits local now true = queues_up-late rows demand visits local now local.queue (latest visits)
 admits-late rows places demand visits local now false = tt
 
 -- a loss station schedules nothing earlier than the clock

@@ -4,8 +4,8 @@ use Rattle.mq_core.specs.Behaviour.{Behaviour}
 use Rattle.mq_core.specs.Came.{Came}
 use Rattle.mq_core.specs.Event.{Event}
 use Rattle.mq_core.specs.Event.Event.{Arrive, Finish}
-use Rattle.mq_core.specs.Handling.{demand_of_job, front_leaves, joins, latest, one_if_some}
-use Rattle.mq_core.specs.Leaving.Leaving.{InTurn}
+use Rattle.mq_core.specs.Handling.{demand_of_job, front_leaves, queues_up, latest, one_if_some}
+use Rattle.mq_core.specs.EmissionOrder.EmissionOrder.{ByPosition}
 use Rattle.mq_core.specs.Local.{Local, empty}
 use Rattle.mq_core.specs.Machine.{Emission, Reaction, Visit}
 use Rattle.mq_core.specs.OnceOut.{founds_of, once_out}
@@ -17,11 +17,11 @@ use Rattle.mq_core.specs.declared.model.Demand.{Demand}
 use Rattle.mq_core.specs.declared.model.Fate.{Fate}
 use Rattle.mq_core.specs.declared.model.Fate.TheVariants.{Departs}
 use Rattle.mq_core.specs.declared.model.Rows.{Rows}
-use Rattle.mq_core.specs.Late.{Late, front_leaves-late, joins-late}
+use Rattle.mq_core.specs.Late.{Late, front_leaves-late, queues_up-late}
 
--- a server: an arrival joins the queue, and at a finish the front leaves
+-- a server: an arrival queues up, and at a finish the front leaves
 abbrev pub server_on : Rows → Demand → List Visit → Local → ℕ → Event → Reaction Local
-server_on rows demand visits local now (Arrive time node port job) = joins rows demand visits local now local.queue (latest visits)
+server_on rows demand visits local now (Arrive time node port job) = queues_up rows demand visits local now local.queue (latest visits)
 server_on rows demand visits local now (Finish time node server position) = front_leaves rows demand visits local now local.queue
 
 -- when a visit leaves a server that the visit before it left at this time
@@ -65,16 +65,16 @@ server demand =
       fates = λ rows came. server_fates rows demand came;
       outs = λ rows came. server_outs rows demand came;
       flow = λ rows ports visits. served_from rows demand 0 0 visits;
-      order = InTurn;
+      order = ByPosition;
       copies = 1;
       exit = λ s position. emission_at s.emitted position;
       there = λ time position m. nat_lt time m.time;
       keeps = false;
       founds = λ rows came. founds_of came.arrive (server_fates rows demand came);
-      stream = λ rows came out. once_out InTurn came (server_fates rows demand came) (server_outs rows demand came) out;
+      stream = λ rows came out. once_out ByPosition came (server_fates rows demand came) (server_outs rows demand came) out;
     }
 
 -- a server schedules nothing earlier than the clock
 pub server-late : (rows : Rows) (demand : Demand) (visits : List Visit) (local : Local) (now : ℕ) (event : Event) → Late now (server_on rows demand visits local now event).services
-server-late rows demand visits local now (Arrive t n q j) = joins-late rows demand visits local now local.queue (latest visits)
+server-late rows demand visits local now (Arrive t n q j) = queues_up-late rows demand visits local now local.queue (latest visits)
 server-late rows demand visits local now (Finish t n q j) = front_leaves-late rows demand visits local now local.queue

@@ -6,7 +6,7 @@ use Rattle.mq_core.specs.Emitting.{passed_from}
 use Rattle.mq_core.specs.Event.{Event}
 use Rattle.mq_core.specs.Event.Event.{Arrive, Finish}
 use Rattle.mq_core.specs.Handling.{latest, passes_on, quiet}
-use Rattle.mq_core.specs.Leaving.Leaving.{InTurn}
+use Rattle.mq_core.specs.EmissionOrder.EmissionOrder.{ByPosition}
 use Rattle.mq_core.specs.Local.{Local, empty}
 use Rattle.mq_core.specs.Machine.{Reaction, Visit}
 use Rattle.mq_core.specs.OnceOut.{founds_of, once_out}
@@ -51,13 +51,13 @@ source =
       fates = λ rows came. source_fates rows came;
       outs = λ rows came. source_outs rows came;
       flow = λ rows ports visits. passed_from (λ _ _. 0) 0 visits;
-      order = InTurn;
+      order = ByPosition;
       copies = 1;
       exit = λ s position. emission_at s.emitted position;
       there = λ time position m. nat_lt time m.time;
       keeps = false;
       founds = λ rows came. founds_of came.arrive (source_fates rows came);
-      stream = λ rows came out. once_out InTurn came (source_fates rows came) (source_outs rows came) out;
+      stream = λ rows came out. once_out ByPosition came (source_fates rows came) (source_outs rows came) out;
     }
 
 -- a source schedules nothing

@@ -7,7 +7,7 @@ use Rattle.mq_core.specs.Emitting.{passed_from}
 use Rattle.mq_core.specs.Event.{Event}
 use Rattle.mq_core.specs.Event.Event.{Arrive, Finish}
 use Rattle.mq_core.specs.Handling.{latest, passes_on, quiet, value_of}
-use Rattle.mq_core.specs.Leaving.Leaving.{InTurn}
+use Rattle.mq_core.specs.EmissionOrder.EmissionOrder.{ByPosition}
 use Rattle.mq_core.specs.Local.{Local, empty}
 use Rattle.mq_core.specs.Machine.{Reaction, Visit}
 use Rattle.mq_core.specs.OnceOut.{founds_of, once_out}
@@ -95,13 +95,13 @@ split route =
       fates = λ rows came. split_fates rows route came;
       outs = λ rows came. split_outs rows route came;
       flow = λ rows ports visits. passed_from (λ visit position. output_by rows route visit.job position) 0 visits;
-      order = InTurn;
+      order = ByPosition;
       copies = 1;
       exit = λ s position. emission_at s.emitted position;
       there = λ time position m. nat_lt time m.time;
       keeps = false;
       founds = λ rows came. founds_of came.arrive (split_fates rows route came);
-      stream = λ rows came out. once_out InTurn came (split_fates rows route came) (split_outs rows route came) out;
+      stream = λ rows came out. once_out ByPosition came (split_fates rows route came) (split_outs rows route came) out;
     }
 
 -- a split schedules nothing

@@ -5,7 +5,7 @@ use Rattle.mq_core.specs.Behaviour.{Behaviour}
 use Rattle.mq_core.specs.Came.{Came}
 use Rattle.mq_core.specs.Emitting.{leaving_from}
 use Rattle.mq_core.specs.Handling.{demand_of_job, demand_of_stages, latest, quiet, begins_at, begins_alone}
-use Rattle.mq_core.specs.Leaving.Leaving.{InTurn}
+use Rattle.mq_core.specs.EmissionOrder.EmissionOrder.{ByPosition}
 use Rattle.mq_core.specs.Local.{empty, Local, Line}
 use Rattle.mq_core.specs.Machine.{Emission, Visit, Release, Service, Reaction}
 use Rattle.mq_core.specs.OnceOut.{founds_of, once_out}
@@ -160,13 +160,13 @@ tandem stages =
       fates = λ rows came. tandem_fates rows stages came;
       outs = λ rows came. tandem_outs rows stages came;
       flow = λ rows ports visits. tandem_flow rows stages visits;
-      order = InTurn;
+      order = ByPosition;
       copies = 1;
       exit = λ s position. emission_at s.emitted position;
       there = λ time position m. nat_lt time m.time;
       keeps = false;
       founds = λ rows came. founds_of came.arrive (tandem_fates rows stages came);
-      stream = λ rows came out. once_out InTurn came (tandem_fates rows stages came) (tandem_outs rows stages came) out;
+      stream = λ rows came out. once_out ByPosition came (tandem_fates rows stages came) (tandem_outs rows stages came) out;
     }
 
 -- a position that enters a stage

@@ -1,5 +1,5 @@
 use Rattle.std.proofs.Common.{sym, subst, arith}
-use Rattle.mq_core.specs.Columns.{IsRunOf}
+use Rattle.mq_core.specs.Sequences.{IsRunOf}
 use Rattle.mq_engine.specs.declared.progress.Stand.TheVariants.{Waiting, Done, Late}
 use Rattle.mq_engine.proofs.Endings.{done-more, late-is-first, none-late, none-waits, rank-inside, run-done}
 use Rattle.mq_engine.proofs.Settling.{stand-at}

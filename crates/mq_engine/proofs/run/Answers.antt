@@ -1,26 +1,26 @@
 use Rattle.std.proofs.Common.{◌∙◌, ap, filter, subst, sym}
 use Rattle.std.specs.Prelude.{slice_get}
-use Rattle.mq_engine.specs.Turns.{AreEarly}
+use Rattle.mq_engine.specs.Working.{AreEarly}
 use Rattle.mq_engine.specs.Progress.{CanWork, is_ready}
 use Rattle.mq_engine.proofs.Endings.{within}
 use Rattle.mq_engine.proofs.Lists.{filter-passes}
 use Rattle.mq_engine.proofs.Waves.{can-work}
-use Rattle.mq_engine.proofs.Settling.{ready-few, ready-wait, turns-known}
+use Rattle.mq_engine.proofs.Settling.{ready-few, ready-wait, results-known}
 use Rattle.mq_engine.proofs.run.Goals as goal
 
 pub ready_nodes-requires-clause-within : goal.ready_nodes-requires-clause-within
 ready_nodes-requires-clause-within g c = within c.core_laws.ensures c.args.plan.now
 
-pub turns_of-requires-clause-early : goal.turns_of-requires-clause-early
-turns_of-requires-clause-early g c κs inside = subst AreEarly (sym c.deref-in-waves.ensures.value) c.waves.invariant.early
+pub results_of-requires-clause-early : goal.results_of-requires-clause-early
+results_of-requires-clause-early g c κs inside = subst AreEarly (sym c.deref-in-waves.ensures.value) c.waves.invariant.early
 
-pub turns_of-requires-clause-few : goal.turns_of-requires-clause-few
-turns_of-requires-clause-few g c κs inside =
+pub results_of-requires-clause-few : goal.results_of-requires-clause-few
+results_of-requires-clause-few g c κs inside =
     ready-few c.args.plan.now c.waves.progress.stands.items c.deref-in-waves-2.result.now
     (c.deref-in-waves-2.ensures.value ∙ (c.in_ok-ready.ensures ∙ ap (λ stands. filter (is_ready c.args.plan.now.net.nodes stands) c.args.plan.now.order) c.deref.ensures.value))
 
-pub turns_of-requires-clause-can : goal.turns_of-requires-clause-can
-turns_of-requires-clause-can g c κs inside k v e =
+pub results_of-requires-clause-can : goal.results_of-requires-clause-can
+results_of-requires-clause-can g c κs inside k v e =
     let passes = filter-passes (is_ready c.args.plan.now.net.nodes c.waves.progress.stands.items) c.args.plan.now.order k v
     (ap (λ l. slice_get l k) (sym (c.deref-in-waves-2.ensures.value ∙ (c.in_ok-ready.ensures ∙ ap (λ stands. filter (is_ready c.args.plan.now.net.nodes stands) c.args.plan.now.order) c.deref.ensures.value))) ∙ e) in
     subst (λ outputs. CanWork c.args.plan.now c.args.rows.now outputs v) (sym c.deref-in-waves.ensures.value)
@@ -28,8 +28,8 @@ turns_of-requires-clause-can g c κs inside k v e =
 
 pub settle-requires-clause-waits : goal.settle-requires-clause-waits
 settle-requires-clause-waits g c =
-    ready-wait c.args.plan.now c.args.rows.now c.waves.progress.stands.items c.deref-in-waves-2.result.now c.in_ok-turns.turns
-    (c.deref-in-waves-2.ensures.value ∙ (c.in_ok-ready.ensures ∙ ap (λ stands. filter (is_ready c.args.plan.now.net.nodes stands) c.args.plan.now.order) c.deref.ensures.value)) c.in_ok-turns.ensures.known
+    ready-wait c.args.plan.now c.args.rows.now c.waves.progress.stands.items c.deref-in-waves-2.result.now c.in_ok-results.results
+    (c.deref-in-waves-2.ensures.value ∙ (c.in_ok-ready.ensures ∙ ap (λ stands. filter (is_ready c.args.plan.now.net.nodes stands) c.args.plan.now.order) c.deref.ensures.value)) c.in_ok-results.ensures.known
 
 pub waves-preserved : goal.waves-preserved
-waves-preserved g c = c.settle.ensures.reached c.args.plan.now c.args.rows.now c.waves.invariant (turns-known c.args.plan.now c.args.rows.now c.deref-in-waves-2.result.now c.in_ok-turns.turns c.in_ok-turns.ensures.known)
+waves-preserved g c = c.settle.ensures.reached c.args.plan.now c.args.rows.now c.waves.invariant (results-known c.args.plan.now c.args.rows.now c.deref-in-waves-2.result.now c.in_ok-results.results c.in_ok-results.ensures.known)

@@ -1,9 +1,9 @@
 // A delay.
 ghost use Rattle.std.specs.Prelude.{IfOk};
 ghost use Rattle.mq_core.specs.declared.model.Kind.TheVariants.{Delay};
-ghost use Rattle.mq_engine.specs.Turns.{IsLeaving, IsLoad};
+ghost use Rattle.mq_engine.specs.Working.{IsLeaving, IsLoad};
 
-use crate::outflow::{Outflow, demands_of, in_turn};
+use crate::outflow::{Outflow, by_position, demands_of};
 use mq_base::OutOfMemory;
 use mq_core::{Demand, Rows, Stream};
 use mq_delay::delay_departures;
@@ -22,5 +22,5 @@ pub fn delay_outflow(
     let demands = demands_of(alloc, rows, demand, &arrivals.job)?;
     let departs = delay_departures(alloc, arrivals, &demands)?;
     drop(demands);
-    in_turn(alloc, arrivals, departs)
+    by_position(alloc, arrivals, departs)
 }

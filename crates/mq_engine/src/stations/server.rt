@@ -1,16 +1,16 @@
 // A server, whole and by blocks.
 ghost use Rattle.std.specs.Prelude.{◌≡◌, ◌<◌, ◌≤◌, ℕ, List as Items, length, IfOk, slice_index_or};
-ghost use Rattle.mq_core.specs.Columns.{IsSoundLoad};
+ghost use Rattle.mq_core.specs.Sequences.{IsSoundLoad};
 ghost use Rattle.mq_core.specs.Recurrences.{lindley};
 ghost use Rattle.mq_core.specs.declared.model.Kind.TheVariants.{Server};
 ghost use Rattle.mq_engine.specs.Loads.{AreServerCarries, AreServerTimes, IsServerPart, IsServerScan, IsServerSum};
-ghost use Rattle.mq_engine.specs.Turns.{IsLeaving, IsLoad};
+ghost use Rattle.mq_engine.specs.Working.{IsLeaving, IsLoad};
 ghost use Rattle.mq_engine.specs.declared.firsts.Part.{Part as ThePart};
 ghost use Rattle.mq_maxplus.specs.declared.affine.Affine.{Affine as TheAffine};
 
 use crate::blocks::{applied, before_of, joined, sum_of};
 use crate::firsts::Part;
-use crate::outflow::{Outflow, demands_of, in_turn};
+use crate::outflow::{Outflow, by_position, demands_of};
 use mq_base::{List, OutOfMemory};
 use mq_core::{Demand, Rows, Stream};
 use mq_maxplus::{Affine, Mp};
@@ -40,7 +40,7 @@ pub fn server_outflow(
     let demands = demands_of(alloc, rows, demand, &arrivals.job)?;
     let departs = departures(alloc, arrivals, &demands)?;
     drop(demands);
-    in_turn(alloc, arrivals, departs)
+    by_position(alloc, arrivals, departs)
 }
 
 // How a server is scanned.

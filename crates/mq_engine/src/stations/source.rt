@@ -1,11 +1,11 @@
 // A source: each job goes on as it comes.
 ghost use Rattle.std.specs.Prelude.{IfOk};
-ghost use Rattle.mq_core.specs.Columns.{IsStream};
+ghost use Rattle.mq_core.specs.Sequences.{IsStream};
 ghost use Rattle.mq_core.specs.declared.model.Rows.{Rows as TheRows};
 ghost use Rattle.mq_core.specs.declared.model.Kind.TheVariants.{Source};
-ghost use Rattle.mq_engine.specs.Turns.{IsLeaving};
+ghost use Rattle.mq_engine.specs.Working.{IsLeaving};
 
-use crate::outflow::{Outflow, in_turn};
+use crate::outflow::{Outflow, by_position};
 use mq_base::{List, OutOfMemory};
 use mq_core::Stream;
 use std::alloc::Global;
@@ -16,5 +16,5 @@ pub fn source_outflow(alloc: Global, arrivals: &Stream) -> Result<Outflow, OutOf
     ensures { IfOk result (λ leaving. (rows : TheRows) → IsLeaving rows Source arrivals.now leaving.fates leaving.streams) }
 {
     let departs = List::from_vec(Vec::from_slice(alloc, arrivals.time.as_slice())?);
-    in_turn(alloc, arrivals, departs)
+    by_position(alloc, arrivals, departs)
 }

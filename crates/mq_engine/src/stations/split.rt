@@ -2,7 +2,7 @@
 ghost use Rattle.std.specs.Prelude.{◌≡◌, map, IfOk};
 ghost use Rattle.mq_core.specs.Kinds.Split.{route_value};
 ghost use Rattle.mq_core.specs.declared.model.Kind.TheVariants.{Split};
-ghost use Rattle.mq_engine.specs.Turns.{AreRouted, HasRouteValue, IsLeaving, IsLoad};
+ghost use Rattle.mq_engine.specs.Working.{AreRouted, HasRouteValue, IsLeaving, IsLoad};
 
 use crate::outflow::{Outflow, fates_of};
 use mq_base::{List, OutOfMemory};

@@ -3,14 +3,14 @@ ghost use Rattle.std.specs.Prelude.{◌≡◌, ◌<◌, ◌≤◌, ◌*◌, [], 
 ghost use Rattle.mq_core.specs.Recurrences.{tandem_departs};
 ghost use Rattle.mq_core.specs.declared.model.Kind.TheVariants.{Tandem};
 ghost use Rattle.mq_engine.specs.Loads.{AreTandemCarries, AreTandemTimes, IsTandemPart, IsTandemScan, IsTandemSum};
-ghost use Rattle.mq_engine.specs.Turns.{IsLeaving, IsLoad};
+ghost use Rattle.mq_engine.specs.Working.{IsLeaving, IsLoad};
 ghost use Rattle.mq_engine.specs.declared.firsts.Part.{Part as ThePart};
 ghost use Rattle.mq_maxplus.specs.declared.mp.Mp.{Mp as TheMp};
 ghost use Rattle.mq_tandem.specs.Rows.{IsTandemLoad};
 
 use crate::blocks::{applied, before_of, joined, sum_of};
 use crate::firsts::Part;
-use crate::outflow::{Outflow, columns_of, in_turn};
+use crate::outflow::{Outflow, all_demands_of, by_position};
 use mq_base::{List, OutOfMemory};
 use mq_core::{Demand, Rows, Stage, Stream, fates_are_in_time};
 use mq_maxplus::Matrix;
@@ -22,7 +22,7 @@ use std::alloc::Global;
 #[derive(Drop)]
 pub struct TandemScan {
     /// What each job asks for at each stage, in ticks.
-    pub columns: List<List<u64>>,
+    pub demands: List<List<u64>>,
     /// How many jobs each stage holds.
     pub places: List<u8>,
     pub blocks: Blocks,
@@ -40,11 +40,11 @@ pub fn tandem_outflow(
 {
     fates_are_in_time();
     let asked = stage_demands(alloc, stages)?;
-    let columns = columns_of(alloc, rows, &asked, &arrivals.job)?;
+    let demands = all_demands_of(alloc, rows, &asked, &arrivals.job)?;
     let places = stage_places(alloc, stages)?;
-    let departs = tandem_departures(alloc, arrivals, &columns, &places)?;
-    drop(columns);
-    in_turn(alloc, arrivals, departs)
+    let departs = tandem_departures(alloc, arrivals, &demands, &places)?;
+    drop(demands);
+    by_position(alloc, arrivals, departs)
 }
 
 // How a tandem is scanned.
@@ -61,11 +61,11 @@ pub fn tandem_scan(
 {
     let size = arrivals.job.len() as u32;
     let asked = stage_demands(alloc, stages)?;
-    let columns = columns_of(alloc, rows, &asked, &arrivals.job)?;
+    let demands = all_demands_of(alloc, rows, &asked, &arrivals.job)?;
     let places = stage_places(alloc, stages)?;
     let blocks = cut(size, long_block(size, block));
     Ok(TandemScan {
-        columns,
+        demands,
         places,
         blocks,
     })
@@ -83,12 +83,12 @@ fn long_block(jobs: u32, block: u32) -> u32
 
 // What the jobs of a block do together.
 pub fn tandem_sum(arrivals: &Stream, scan: &TandemScan, b: u32) -> Matrix
-    requires load { IsTandemLoad arrivals.now.time scan.now.columns scan.now.places }
+    requires load { IsTandemLoad arrivals.now.time scan.now.demands scan.now.places }
     requires all { scan.now.blocks.n ≡ length arrivals.now.time }
     requires inside { b < scan.now.blocks.blocks }
     ensures { IsTandemSum arrivals.now scan.now b result }
 {
-    let step = TandemStep::new(arrivals, &scan.columns, &scan.places);
+    let step = TandemStep::new(arrivals, &scan.demands, &scan.places);
     sum_of(&step, &scan.blocks, b)
 }
 
@@ -99,14 +99,14 @@ pub fn tandem_carries(
     scan: &TandemScan,
     group: &List<Part>,
 ) -> Result<List<Latest>, OutOfMemory>
-    requires load { IsTandemLoad arrivals.now.time scan.now.columns scan.now.places }
+    requires load { IsTandemLoad arrivals.now.time scan.now.demands scan.now.places }
     requires all { scan.now.blocks.n ≡ length arrivals.now.time }
     requires len { length group.now ≡ scan.now.blocks.blocks }
     requires group { (b : ℕ) (d : ThePart) → b < length group.now → IsTandemPart arrivals.now scan.now b (slice_index_or group.now b d) }
     ensures { IfOk result (λ carries. AreTandemCarries arrivals.now scan.now carries) }
 {
     let sums = tandem_sums(alloc, arrivals, scan, group)?;
-    let step = TandemStep::new(arrivals, &scan.columns, &scan.places);
+    let step = TandemStep::new(arrivals, &scan.demands, &scan.places);
     before_of(alloc, &step, &scan.blocks, &sums)
 }
 
@@ -139,13 +139,13 @@ pub fn tandem_times(
     before: &List<Latest>,
     b: u32,
 ) -> Result<List<u64>, OutOfMemory>
-    requires load { IsTandemLoad arrivals.now.time scan.now.columns scan.now.places }
+    requires load { IsTandemLoad arrivals.now.time scan.now.demands scan.now.places }
     requires all { scan.now.blocks.n ≡ length arrivals.now.time }
     requires inside { b < scan.now.blocks.blocks }
     requires before { AreTandemCarries arrivals.now scan.now before.now }
     ensures { IfOk result (λ times. AreTandemTimes arrivals.now scan.now b times) }
 {
-    let step = TandemStep::new(arrivals, &scan.columns, &scan.places);
+    let step = TandemStep::new(arrivals, &scan.demands, &scan.places);
     applied(alloc, &step, &scan.blocks, before, b)
 }
 
@@ -156,13 +156,13 @@ pub fn tandem_joined(
     scan: &TandemScan,
     group: &List<List<u64>>,
 ) -> Result<List<u64>, OutOfMemory>
-    requires load { IsTandemLoad arrivals.now.time scan.now.columns scan.now.places }
+    requires load { IsTandemLoad arrivals.now.time scan.now.demands scan.now.places }
     requires all { scan.now.blocks.n ≡ length arrivals.now.time }
     requires len { length group.now ≡ scan.now.blocks.blocks }
     requires group { (b : ℕ) (d : Items ℕ) → b < length group.now → AreTandemTimes arrivals.now scan.now b (slice_index_or group.now b d) }
-    ensures { IfOk result (λ departs. departs ≡ tandem_departs scan.now.places (map (λ _. []) scan.now.places) arrivals.now.time scan.now.columns) }
+    ensures { IfOk result (λ departs. departs ≡ tandem_departs scan.now.places (map (λ _. []) scan.now.places) arrivals.now.time scan.now.demands) }
 {
-    let step = TandemStep::new(arrivals, &scan.columns, &scan.places);
+    let step = TandemStep::new(arrivals, &scan.demands, &scan.places);
     carries_hold_departures(&step);
     joined(alloc, &step, &scan.blocks, group)
 }

@@ -1,10 +1,10 @@
 use Rattle.std.proofs.Common.{sym, ◌∙◌, ap, take, drop, ◌-◌}
 use Rattle.mq_core.specs.Recurrences.{in_series}
-use Rattle.mq_forkjoin.proofs.Forking.{servers-fit, early, length-branch, forking-begins, forking-next, forking-ends}
+use Rattle.mq_forkjoin.proofs.ForkJoining.{servers-fit, early, length-branch, forkjoining-begins, forkjoining-next, forkjoining-ends}
 use Rattle.mq_forkjoin.proofs.fork_departures.Goals as goal
 
 pub loop-branch-init : goal.loop-branch-init
-loop-branch-init c = forking-begins _ _ _ _ _ _ c.in_ok-departs.ensures c.len-branch.ensures c.len-end.ensures
+loop-branch-init c = forkjoining-begins _ _ _ _ _ _ c.in_ok-departs.ensures c.len-branch.ensures c.len-end.ensures
 
 pub overflow_sub-first : goal.overflow_sub-first
 overflow_sub-first c = servers-fit _ _ _ _ _ _ _ c.requires.branches c.loop-branch-test.true c.get.ensures c.loop-branch.invariant
@@ -20,7 +20,7 @@ later_times-requires c =
 pub loop-branch-preserved : goal.loop-branch-preserved
 loop-branch-preserved c =
     let through = c.in_ok-through.ensures ∙ ap (λ demands. in_series c.args.stream.now.time (take (c.loop-branch.end - (c.loop-branch.end - c.get.result.now)) (drop (c.loop-branch.end - c.get.result.now) demands))) c.as_slice.ensures in
-    forking-next c.args.stream.now.time _ _ _ c.args.demands.now c.args.branches.now _ c.loop-branch.end c.get.result.now c.requires.branches c.requires.load c.loop-branch-test.true c.get.ensures through c.in_ok-departs-2.ensures c.loop-branch.invariant
+    forkjoining-next c.args.stream.now.time _ _ _ c.args.demands.now c.args.branches.now _ c.loop-branch.end c.get.result.now c.requires.branches c.requires.load c.loop-branch-test.true c.get.ensures through c.in_ok-departs-2.ensures c.loop-branch.invariant
 
 pub returns : goal.returns
-returns c = forking-ends _ _ _ _ _ _ c.requires.branches c.loop-branch-test.false c.loop-branch.invariant
+returns c = forkjoining-ends _ _ _ _ _ _ c.requires.branches c.loop-branch-test.false c.loop-branch.invariant

@@ -1,5 +1,5 @@
 use Rattle.std.proofs.Common.{◌∙◌, ◌≤◌, length, arith, rules}
-use Rattle.mq_forkjoin.proofs.Forking.{later-next, later-all}
+use Rattle.mq_forkjoin.proofs.ForkJoining.{later-next, later-all}
 use Rattle.mq_forkjoin.proofs.later_times.Goals as goal
 
 pub loop-at-preserved : goal.loop-at-preserved

@@ -1,12 +1,12 @@
 use Rattle.std.proofs.Common.{◌≡◌, ◌-◌, ◌+◌, length, sym, ap, ◌∙◌, ◌∷◌, [], length-append, arith}
 use Rattle.mq_base.proofs.lemmas.Between.{length-between}
 use Rattle.mq_base.specs.Lists.{between}
-use Rattle.mq_core.specs.Columns.{picked}
+use Rattle.mq_core.specs.Sequences.{picked}
 use Rattle.mq_split.proofs.Parts.{length-outs_from, parts-next}
 use Rattle.mq_split.specs.Outs.{outs_from, piece_of}
 use Rattle.mq_split.proofs.split_piece.Goals as goal
 
--- the outputs of the jobs at these places
+-- the outputs of the jobs at these indices
 outs : (c : goal.After-as_slice) → c.as_slice.result.now ≡ outs_from c.args.route.now c.args.from (between c.args.from c.args.to c.args.values.now)
 outs c = c.as_slice.ensures.value ∙ (c.in_ok-outs.ensures ∙ ap (outs_from c.args.route.now c.args.from) c.part.ensures)
 

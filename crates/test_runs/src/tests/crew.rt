@@ -1,6 +1,6 @@
 // Squares as pieces, by several workers and through gates that count and hold.
 ghost use Rattle.std.specs.Prelude.{◌≡◌, ℕ, ◌+◌, ◌*◌, ◌<◌, ◌≤◌, ◌^◌, length, IfOk};
-ghost use Rattle.mq_crew.specs.Crew.{AreAll, IsLastOf, all_places};
+ghost use Rattle.mq_crew.specs.Crew.{AreAll, IsLastOf, total_size};
 
 use mq_base::{List, OutOfMemory};
 use mq_chain::ChainSeat;
@@ -22,7 +22,7 @@ impl Pieces for Squares {
 
     ghost fit = { λ s. Unit {0} };
 
-    ghost places = { λ s. s.count };
+    ghost size = { λ s. s.count };
 
     ghost is_piece = { λ s b p. p ≡ b * b };
 
@@ -63,7 +63,7 @@ fn the_pieces_stand_at_their_places(rt: HostRuntime) -> Result<(), Fail> {
     Ok(())
 }
 
-// Whether what two workers hand back, out of order, is put at its places.
+// Whether what two workers hand back, out of order, is put at its indices.
 fn both_are_placed(alloc: Global) -> Result<bool, OutOfMemory> {
     let first = Vec::from_slice(alloc, &[(2u32, 4u64), (0, 0)])?;
     let second = Vec::from_slice(alloc, &[(1u32, 1u64)])?;

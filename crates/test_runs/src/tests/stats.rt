@@ -1,7 +1,7 @@
 // Worked numbers of visits: totals, exits, the span, and what each visit found.
 ghost use Rattle.std.specs.Prelude.{◌≡◌, ◌<◌, ◌≤◌, All, length, IfOk, IsTrue};
 ghost use Rattle.std.specs.List.{AllByRecursion, zip};
-ghost use Rattle.mq_core.specs.ColumnLaws.{LeavesFrom};
+ghost use Rattle.mq_core.specs.SequenceLaws.{LeavesFrom};
 ghost use Rattle.mq_core.specs.Laws.{Rises};
 ghost use Rattle.mq_core.specs.Told.{HasValue};
 
@@ -31,7 +31,7 @@ fn three_rows(alloc: Global) -> Result<Rows, OutOfMemory> {
     })
 }
 
-// Columns of visits.
+// Sequences of visits.
 #[derive(Clone, Copy)]
 struct Columns<'a> {
     job: &'a [u32],

@@ -1,6 +1,6 @@
 // Jobs that overtake others, and jobs that leave at one time.
 ghost use Rattle.std.specs.Prelude.{◌≡◌, length};
-ghost use Rattle.mq_core.specs.Columns.{IsSoundLoad};
+ghost use Rattle.mq_core.specs.Sequences.{IsSoundLoad};
 
 use mq_base::{List, OutOfMemory};
 use mq_core::Stream;

@@ -1,5 +1,5 @@
 ghost use Rattle.std.specs.Prelude.{◌≡◌, ◌≤◌, ◌<◌, IfOk, length};
-ghost use Rattle.mq_core.specs.Columns.{IsSoundLoad};
+ghost use Rattle.mq_core.specs.Sequences.{IsSoundLoad};
 
 use mq_base::{List, OutOfMemory, Steps};
 use mq_core::Stream;

@@ -1,6 +1,6 @@
 // Worked merges, whole and by pieces, and sorts by time.
 ghost use Rattle.std.specs.Prelude.{◌≡◌, ◌≤◌, length, IfOk};
-ghost use Rattle.mq_core.specs.Columns.{IsStream};
+ghost use Rattle.mq_core.specs.Sequences.{IsStream};
 
 use mq_base::{List, OutOfMemory};
 use mq_core::Stream;
@@ -49,7 +49,7 @@ fn whole_has(alloc: Global, wanted: &Items) -> Result<bool, OutOfMemory> {
     Ok(has(&merged, wanted))
 }
 
-// Whether their merged items between two places are these.
+// Whether their merged items between two indices are these.
 fn piece_has(alloc: Global, from: u32, to: u32, wanted: &Items) -> Result<bool, OutOfMemory>
     requires order { from ≤ to }
     requires within { to ≤ 5 }
@@ -59,12 +59,12 @@ fn piece_has(alloc: Global, from: u32, to: u32, wanted: &Items) -> Result<bool, 
     Ok(has(&piece, wanted))
 }
 
-// Whether so many of the items before a place come from each.
-fn ranks_are(alloc: Global, place: u32, wanted: (u32, u32)) -> Result<bool, OutOfMemory>
-    requires { place ≤ 5 }
+// Whether so many of the items before an index come from each.
+fn ranks_are(alloc: Global, index: u32, wanted: (u32, u32)) -> Result<bool, OutOfMemory>
+    requires { index ≤ 5 }
 {
     let (a, b) = (three(alloc)?, two(alloc)?);
-    Ok(co_rank(&a, &b, place) == wanted)
+    Ok(co_rank(&a, &b, index) == wanted)
 }
 
 #[test]

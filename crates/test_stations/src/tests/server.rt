@@ -1,5 +1,5 @@
 ghost use Rattle.std.specs.Prelude.{◌≡◌, ◌≤◌, ◌∷◌, [], length, IfOk};
-ghost use Rattle.mq_core.specs.Columns.{IsSoundLoad};
+ghost use Rattle.mq_core.specs.Sequences.{IsSoundLoad};
 ghost use Rattle.mq_maxplus.specs.Maxplus.{affine_then};
 ghost use Rattle.mq_scan.specs.Folds.{AreSummaries};
 ghost use Rattle.mq_server.specs.Jobs.{job};

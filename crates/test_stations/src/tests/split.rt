@@ -1,6 +1,6 @@
 // Worked routes, and the streams and pieces of a split.
 ghost use Rattle.std.specs.Prelude.{◌≡◌, ◌≤◌, length, IfOk};
-ghost use Rattle.mq_core.specs.Columns.{IsStream};
+ghost use Rattle.mq_core.specs.Sequences.{IsStream};
 ghost use Rattle.mq_split.specs.Outs.{HasOutputs};
 
 use mq_base::{List, OutOfMemory};
@@ -84,7 +84,7 @@ fn split_sends(alloc: Global, jobs: &[u32], times: &[u64]) -> Result<bool, OutOf
     Ok(are_parts(&streams, jobs, times))
 }
 
-// The same of its piece from a place on.
+// The same of its piece from an index on.
 fn piece_sends(alloc: Global, from: u32, jobs: &[u32], times: &[u64]) -> Result<bool, OutOfMemory>
     requires { from ≤ 3 }
 {

@@ -1,5 +1,5 @@
 ghost use Rattle.std.specs.Prelude.{◌≡◌, ◌^◌, ◌≤◌, ◌∷◌, [], All, length, IfOk};
-ghost use Rattle.mq_core.specs.Columns.{IsSoundLoad};
+ghost use Rattle.mq_core.specs.Sequences.{IsSoundLoad};
 ghost use Rattle.mq_maxplus.specs.Matrices.{matrix_act, matrix_then};
 ghost use Rattle.mq_scan.specs.Folds.{AreBefore, AreSummaries};
 ghost use Rattle.mq_tandem.specs.Rows.{job_matrix, none_kept};

@@ -1,7 +1,7 @@
 use Rattle.std.proofs.Common.{◌≤◌, length, sum_by, ap, arith}
 use Rattle.std.specs.List.{flat_map}
 use Rattle.std.proofs.lemmas.List.{drop_all}
-use Rattle.mq_core.proofs.ForkJoin.ForkSums.{told-at, sum-part, sum-most}
+use Rattle.mq_core.proofs.ForkJoin.ForkJoinSums.{told-at, sum-part, sum-most}
 use Rattle.mq_core.specs.Handling.{demand_of_job}
 use Rattle.mq_core.proofs.demands.demand_of_branches.Goals as goal
 

@@ -1,6 +1,6 @@
 use Rattle.std.proofs.Common.{◌≤◌, ◌^◌, arith}
 use Rattle.mq_core.specs.Handling.{demand_of_job}
-use Rattle.mq_core.proofs.ForkJoin.ForkSums.{each-at, sum-next}
+use Rattle.mq_core.proofs.ForkJoin.ForkJoinSums.{each-at, sum-next}
 use Rattle.mq_core.proofs.demands.sum_of.Goals as goal
 
 pub loop-at-preserved : goal.loop-at-preserved

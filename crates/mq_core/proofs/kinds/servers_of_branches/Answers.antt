@@ -1,5 +1,5 @@
 use Rattle.std.proofs.Common.{arith}
-use Rattle.mq_core.proofs.ForkJoin.ForkSums.{servers-next}
+use Rattle.mq_core.proofs.ForkJoin.ForkJoinSums.{servers-next}
 use Rattle.mq_core.proofs.kinds.servers_of_branches.Goals as goal
 
 pub overflow_cast-servers : goal.overflow_cast-servers

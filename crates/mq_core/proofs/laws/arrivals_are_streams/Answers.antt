@@ -1,4 +1,4 @@
-use Rattle.mq_core.proofs.Columns.ColumnMerges.{arrivals-are-streams}
+use Rattle.mq_core.proofs.Sequences.SequenceMerges.{arrivals-are-streams}
 use Rattle.mq_core.proofs.laws.arrivals_are_streams.Goals as goal
 
 pub returns : goal.returns

@@ -1,4 +1,4 @@
-use Rattle.mq_core.proofs.Columns.ColumnTimes.{departs-in-time}
+use Rattle.mq_core.proofs.Sequences.SequenceTimes.{departs-in-time}
 use Rattle.mq_core.proofs.laws.departs_in_time.Goals as goal
 
 pub returns : goal.returns

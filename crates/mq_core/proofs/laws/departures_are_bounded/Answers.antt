@@ -5,7 +5,7 @@ pub returns : goal.returns
 returns c =
     departures-bounded (record {
       arrivals = c.arrivals_are_streams.ensures;
-      columns = c.nodes_are_columns.ensures;
+      sequences = c.nodes_are_sequences.ensures;
       demands = c.rows_tell_demands.ensures;
       few = c.visits_are_few.ensures;
       jobs = c.jobs_are_rows.ensures;

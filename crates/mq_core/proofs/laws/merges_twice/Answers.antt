@@ -1,4 +1,4 @@
-use Rattle.mq_core.proofs.Columns.ColumnMerges.{merges-twice}
+use Rattle.mq_core.proofs.Sequences.SequenceMerges.{merges-twice}
 use Rattle.mq_core.proofs.laws.merges_twice.Goals as goal
 
 pub returns : goal.returns

@@ -1,4 +1,4 @@
-use Rattle.mq_core.proofs.Columns.NumberPast.{past-is_first}
+use Rattle.mq_core.proofs.Sequences.NumberPast.{past-is_first}
 use Rattle.mq_core.proofs.laws.past_is_first.Goals as goal
 
 pub returns : goal.returns

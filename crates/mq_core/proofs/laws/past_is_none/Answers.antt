@@ -1,4 +1,4 @@
-use Rattle.mq_core.proofs.Columns.NumberPast.{past-is_none}
+use Rattle.mq_core.proofs.Sequences.NumberPast.{past-is_none}
 use Rattle.mq_core.proofs.laws.past_is_none.Goals as goal
 
 pub returns : goal.returns

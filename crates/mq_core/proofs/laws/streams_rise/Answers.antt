@@ -1,4 +1,4 @@
-use Rattle.mq_core.proofs.Columns.ColumnOrder.{streams-rise}
+use Rattle.mq_core.proofs.Sequences.SequenceOrder.{streams-rise}
 use Rattle.mq_core.proofs.laws.streams_rise.Goals as goal
 
 pub returns : goal.returns

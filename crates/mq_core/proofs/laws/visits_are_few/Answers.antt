@@ -1,4 +1,4 @@
-use Rattle.mq_core.proofs.Columns.ColumnFew.{visits-are-few}
+use Rattle.mq_core.proofs.Sequences.SequenceFew.{visits-are-few}
 use Rattle.mq_core.proofs.laws.visits_are_few.Goals as goal
 
 pub returns : goal.returns

@@ -5,5 +5,5 @@ use Rattle.mq_crew.proofs.crew.+crew.Goals as goal
 
 pub returns-clause-made : goal.returns-clause-made
 returns-clause-made g t c =
-    both-made (g.P.Pieces.is_piece c.args.pieces.now) (g.P.Pieces.places c.args.pieces.now) (λ v. v.items) c.join-mine.result.0.1 c.join-mine.result.1.1 c.merged.result _ _ _
+    both-made (g.P.Pieces.is_piece c.args.pieces.now) (g.P.Pieces.size c.args.pieces.now) (λ v. v.items) c.join-mine.result.0.1 c.join-mine.result.1.1 c.merged.result _ _ _
     (ap (λ (z : Seated). z.draws) c.join.ensures.joined) c.merged.ensures c.join-mine.ensures.first.2 c.join-mine.ensures.second.2

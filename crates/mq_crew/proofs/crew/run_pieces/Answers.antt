@@ -6,20 +6,20 @@ use Rattle.mq_crew.proofs.crew.run_pieces.Goals as goal
 
 pub placed-requires-clause-each : goal.placed-requires-clause-each
 placed-requires-clause-each g c =
-    let made : IsMadeOf (g.P.Pieces.is_piece c.args.pieces.now) (g.P.Pieces.places c.args.pieces.now) c.crew-seat.result.0.draws c.in_ok-made.field-0.items
-    = IfOk-at_ok (λ v. IsMadeOf (g.P.Pieces.is_piece c.args.pieces.now) (g.P.Pieces.places c.args.pieces.now) c.crew-seat.result.0.draws v.items) c.in_ok-made.was c.crew-seat.ensures.made in
+    let made : IsMadeOf (g.P.Pieces.is_piece c.args.pieces.now) (g.P.Pieces.size c.args.pieces.now) c.crew-seat.result.0.draws c.in_ok-made.field-0.items
+    = IfOk-at_ok (λ v. IsMadeOf (g.P.Pieces.is_piece c.args.pieces.now) (g.P.Pieces.size c.args.pieces.now) c.crew-seat.result.0.draws v.items) c.in_ok-made.was c.crew-seat.ensures.made in
     λ x lt. all-made _ _ _ _ c.close.ensures made x (subst (λ (n : ℕ). x < n) c.count-count.ensures lt)
 
 pub placed-requires-clause-within : goal.placed-requires-clause-within
 placed-requires-clause-within g c =
-    let made : IsMadeOf (g.P.Pieces.is_piece c.args.pieces.now) (g.P.Pieces.places c.args.pieces.now) c.crew-seat.result.0.draws c.in_ok-made.field-0.items
-    = IfOk-at_ok (λ v. IsMadeOf (g.P.Pieces.is_piece c.args.pieces.now) (g.P.Pieces.places c.args.pieces.now) c.crew-seat.result.0.draws v.items) c.in_ok-made.was c.crew-seat.ensures.made in
+    let made : IsMadeOf (g.P.Pieces.is_piece c.args.pieces.now) (g.P.Pieces.size c.args.pieces.now) c.crew-seat.result.0.draws c.in_ok-made.field-0.items
+    = IfOk-at_ok (λ v. IsMadeOf (g.P.Pieces.is_piece c.args.pieces.now) (g.P.Pieces.size c.args.pieces.now) c.crew-seat.result.0.draws v.items) c.in_ok-made.was c.crew-seat.ensures.made in
     subst (λ (n : ℕ). All (λ (p : ℕ × g.row.P-Piece.Denot). p.0 < n) c.in_ok-made.field-0.items) (sym c.count-count.ensures) (made-within _ _ _ _ made)
 
 pub returns : goal.returns
 returns g c =
-    let made : IsMadeOf (g.P.Pieces.is_piece c.args.pieces.now) (g.P.Pieces.places c.args.pieces.now) c.crew-seat.result.0.draws c.in_ok-made.field-0.items
-    = IfOk-at_ok (λ v. IsMadeOf (g.P.Pieces.is_piece c.args.pieces.now) (g.P.Pieces.places c.args.pieces.now) c.crew-seat.result.0.draws v.items) c.in_ok-made.was c.crew-seat.ensures.made in
+    let made : IsMadeOf (g.P.Pieces.is_piece c.args.pieces.now) (g.P.Pieces.size c.args.pieces.now) c.crew-seat.result.0.draws c.in_ok-made.field-0.items
+    = IfOk-at_ok (λ v. IsMadeOf (g.P.Pieces.is_piece c.args.pieces.now) (g.P.Pieces.size c.args.pieces.now) c.crew-seat.result.0.draws v.items) c.in_ok-made.was c.crew-seat.ensures.made in
     all-placed (g.P.Pieces.is_piece c.args.pieces.now) _ _ _ made.pieces
     (IfOk-weaker c.placed.result _ _ (λ l h. h ∙ c.count-count.ensures) c.placed.ensures.len)
     (IfOk-weaker c.placed.result _ _ (λ l h x d lt. h x d (subst (λ (n : ℕ). x < n) (sym c.count-count.ensures) lt)) c.placed.ensures.own)

@@ -9,7 +9,7 @@ returns-then-number-count-clause-made g c =
     let w = c.draws.invariant.3 in
     let drew = ap (λ (z : Seated). z.draws) c.claim-number.ensures.drawn in
     let count = c.draws.invariant.2 in
-    subst (λ (ds : List ℕ). IsMadeOf (g.P.Pieces.is_piece c.args.pieces.now) (g.P.Pieces.places c.args.pieces.now) ds c.draws.made.items) (sym drew)
+    subst (λ (ds : List ℕ). IsMadeOf (g.P.Pieces.is_piece c.args.pieces.now) (g.P.Pieces.size c.args.pieces.now) ds c.draws.made.items) (sym drew)
     (works-ended (g.P.Pieces.is_piece c.args.pieces.now) _ c.draws.seat.draws _ c.claim-number.result w (omega arith))
 
 pub draws-smaller : goal.draws-smaller
@@ -32,6 +32,6 @@ draws-preserved g c =
       table ∙ c.draws.invariant.0,
       right ∙ c.draws.invariant.1,
       count,
-      subst (λ (z : List ℕ × List (ℕ × g.row.P-Piece.Denot)). IsWorking (g.P.Pieces.is_piece c.args.pieces.now) (g.P.Pieces.places c.args.pieces.now) z.0 z.1) (λ i. (sym drew i, sym pushed i))
+      subst (λ (z : List ℕ × List (ℕ × g.row.P-Piece.Denot)). IsWorking (g.P.Pieces.is_piece c.args.pieces.now) (g.P.Pieces.size c.args.pieces.now) z.0 z.1) (λ i. (sym drew i, sym pushed i))
           (works-more (g.P.Pieces.is_piece c.args.pieces.now) _ c.draws.seat.draws c.draws.made.items c.claim-number.result c.in-Ok.piece w c.claim-number.ensures.fresh (omega arith) c.in-Ok.ensures),
     )

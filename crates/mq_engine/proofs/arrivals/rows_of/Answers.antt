@@ -2,7 +2,7 @@ use Rattle.std.proofs.Common.{◌≡◌, ◌==◌, ◌++◌, ◌∙◌, ◌∷�
 use Rattle.std.specs.List.{zip}
 use Rattle.std.specs.Vec.{vec_len, vec_capacity}
 use Rattle.std.proofs.lemmas.Bool.Decides.{nat_tests}
-use Rattle.mq_core.specs.Columns.{rows_at}
+use Rattle.mq_core.specs.Sequences.{rows_at}
 use Rattle.mq_engine.proofs.Lists.{count-at, zip-push}
 use Rattle.mq_engine.proofs.Sorted.{rows-skip, rows-take}
 use Rattle.mq_engine.proofs.arrivals.rows_of.Goals as goal

@@ -2,7 +2,7 @@ use Rattle.std.proofs.Common.{◌≡◌, ◌+◌, ◌≤◌, ◌==◌, ◌++◌,
 use Rattle.std.specs.List.{zip}
 use Rattle.std.specs.Prelude.{count_by}
 use Rattle.std.specs.Vec.{vec_len, vec_capacity}
-use Rattle.mq_core.specs.Columns.{rows_at}
+use Rattle.mq_core.specs.Sequences.{rows_at}
 use Rattle.mq_engine.proofs.arrivals.rows_of.Given as goal
 
 -- the rows so far and those of what is left are the rows, for all of which there is room

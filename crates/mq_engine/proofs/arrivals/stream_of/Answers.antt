@@ -1,7 +1,7 @@
 use Rattle.std.proofs.Common.{◌≡◌, length, Some, refl, sym, ap, ◌∙◌}
 use Rattle.std.specs.Prelude.{slice_get}
 use Rattle.std.proofs.lemmas.Option.{slice_get_read}
-use Rattle.mq_engine.specs.Turns.{pairs_by, pairs_in}
+use Rattle.mq_engine.specs.Working.{pairs_by, pairs_in}
 use Rattle.mq_engine.proofs.arrivals.stream_of.Goals as goal
 
 -- the streams of the node that the input names

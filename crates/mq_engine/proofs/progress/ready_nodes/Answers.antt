@@ -2,11 +2,11 @@ use Rattle.std.proofs.Common.{sym, ◌∙◌, ap}
 use Rattle.mq_engine.specs.Progress.{is_ready}
 use Rattle.mq_engine.proofs.Lists.{filter-kept, filter-left}
 use Rattle.mq_engine.proofs.progress.ready_nodes.Goals as goal
-use Rattle.mq_engine.proofs.progress.ready_nodes.Goals.{then-may_turn+in_ok-push, else-may_turn}
+use Rattle.mq_engine.proofs.progress.ready_nodes.Goals.{then-may_work+in_ok-push, else-may_work}
 
 pub loop-rank-preserved : goal.loop-rank-preserved
 loop-rank-preserved c =
-    elim c.if-may_turn.branch [
-      | then-may_turn+in_ok-push w ↦ filter-kept (is_ready c.args.plan.now.net.nodes c.args.stands.now) c.args.plan.now.order c.loop-rank.rank c.get-number.result.now c.loop-rank.ready.items _ c.get-number.ensures (sym c.may_turn.ensures ∙ w.if-may_turn.true) (ap (λ v. v.items) w.ready-is ∙ w.in_ok-push.ensures.items) c.loop-rank.invariant
-      | else-may_turn w ↦ ap (λ v. v.items) w.ready-is ∙ filter-left (is_ready c.args.plan.now.net.nodes c.args.stands.now) c.args.plan.now.order c.loop-rank.rank c.get-number.result.now c.loop-rank.ready.items c.get-number.ensures (sym c.may_turn.ensures ∙ w.if-may_turn.false) c.loop-rank.invariant
+    elim c.if-may_work.branch [
+      | then-may_work+in_ok-push w ↦ filter-kept (is_ready c.args.plan.now.net.nodes c.args.stands.now) c.args.plan.now.order c.loop-rank.rank c.get-number.result.now c.loop-rank.ready.items _ c.get-number.ensures (sym c.may_work.ensures ∙ w.if-may_work.true) (ap (λ v. v.items) w.ready-is ∙ w.in_ok-push.ensures.items) c.loop-rank.invariant
+      | else-may_work w ↦ ap (λ v. v.items) w.ready-is ∙ filter-left (is_ready c.args.plan.now.net.nodes c.args.stands.now) c.args.plan.now.order c.loop-rank.rank c.get-number.result.now c.loop-rank.ready.items c.get-number.ensures (sym c.may_work.ensures ∙ w.if-may_work.false) c.loop-rank.invariant
     ]

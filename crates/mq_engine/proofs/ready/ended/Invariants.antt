@@ -2,8 +2,8 @@ use Rattle.std.proofs.Common.{length}
 use Rattle.mq_engine.proofs.Groups.{AreEnding}
 use Rattle.mq_engine.proofs.ready.ended.Given as goal
 
-abbrev pub invariant-loop-leaving : goal.invariant-loop-leaving
-invariant-loop-leaving g l = AreEnding l.initial.leavings.items l.leavings.items l.groups.items l.turns
+abbrev pub invariant-loop-emptied : goal.invariant-loop-emptied
+invariant-loop-emptied g l = AreEnding l.initial.those_emptied.items l.those_emptied.items l.groups.items l.results
 
-abbrev pub decreases-loop-leaving : goal.decreases-loop-leaving
-decreases-loop-leaving g l = length l.leavings.items
+abbrev pub decreases-loop-emptied : goal.decreases-loop-emptied
+decreases-loop-emptied g l = length l.those_emptied.items

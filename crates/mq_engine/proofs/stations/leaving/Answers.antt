@@ -1,6 +1,6 @@
 use Rattle.std.proofs.Common.{sym, subst}
 use Rattle.std.proofs.lemmas.Result.{IfOk-weaker}
-use Rattle.mq_engine.specs.Turns.{IsLeaving}
+use Rattle.mq_engine.specs.Working.{IsLeaving}
 use Rattle.mq_engine.proofs.stations.leaving.Goals as goal
 
 pub returns-in-Source : goal.returns-in-Source

@@ -4,28 +4,28 @@ use Rattle.std.proofs.lemmas.List.{append-nil}
 use Rattle.mq_core.specs.Wiring.{first_ready}
 use Rattle.mq_graph.specs.Rank.{first_outside}
 use Rattle.mq_graph.proofs.Cycles.{cycles-left}
-use Rattle.mq_graph.proofs.Turns.{next_turn, last_turn, has_all, left_is}
+use Rattle.mq_graph.proofs.RankSteps.{next_step, last_step, has_all, left_is}
 use Rattle.mq_graph.proofs.order.rank.Goals as goal
 use Rattle.mq_graph.proofs.order.rank.Goals.{in-Some+in_ok-push, in_default}
 
-pub loop-turn-preserved : goal.loop-turn-preserved
-loop-turn-preserved c =
+pub loop-step-preserved : goal.loop-step-preserved
+loop-step-preserved c =
     let nodes = c.as_slice-nodes.result.now in
     elim c.match-first_ready.branch [
       | in-Some+in_ok-push w ↦
-          let found : first_ready c.loop-turn.order 0 nodes ≡ Some w.in-Some.node = cc in
-          rw (w.order-is, w.in_ok-push.ensures.ok) (next_turn nodes c.loop-turn.order c.loop-turn._turn _ c.loop-turn-test.true found c.loop-turn.invariant)
+          let found : first_ready c.loop-step.order 0 nodes ≡ Some w.in-Some.node = cc in
+          rw (w.order-is, w.in_ok-push.ensures.ok) (next_step nodes c.loop-step.order c.loop-step._step _ c.loop-step-test.true found c.loop-step.invariant)
       | in_default w ↦
-          let found : first_ready c.loop-turn.order 0 nodes ≡ None = cc in
-          rw (w.order-is) (rw (← append-nil c.loop-turn.order) (next_turn nodes c.loop-turn.order c.loop-turn._turn _ c.loop-turn-test.true found c.loop-turn.invariant))
+          let found : first_ready c.loop-step.order 0 nodes ≡ None = cc in
+          rw (w.order-is) (rw (← append-nil c.loop-step.order) (next_step nodes c.loop-step.order c.loop-step._step _ c.loop-step-test.true found c.loop-step.invariant))
     ]
 
 pub returns-in-Some-first_outside-clause-order : goal.returns-in-Some-first_outside-clause-order
 returns-in-Some-first_outside-clause-order c =
     let nodes = c.as_slice-nodes.result.now in
-    let last = last_turn nodes c.loop-turn.order c.loop-turn._turn (omega arith) c.loop-turn.invariant in
-    let lacks : first_outside c.loop-turn.order (length nodes) ≡ Some c.in-Some-first_outside.node = cc in
-    rw (← c.as_slice-nodes.ensures) (left_is nodes c.loop-turn.order _ last lacks)
+    let last = last_step nodes c.loop-step.order c.loop-step._step (omega arith) c.loop-step.invariant in
+    let lacks : first_outside c.loop-step.order (length nodes) ≡ Some c.in-Some-first_outside.node = cc in
+    rw (← c.as_slice-nodes.ensures) (left_is nodes c.loop-step.order _ last lacks)
 
 pub returns-in-Some-first_outside-clause-cycle : goal.returns-in-Some-first_outside-clause-cycle
 returns-in-Some-first_outside-clause-cycle c = λ node e. (cycles-left c.args.net.now.nodes c.requires.wired).0 (ap is_some (returns-in-Some-first_outside-clause-order c))
@@ -33,9 +33,9 @@ returns-in-Some-first_outside-clause-cycle c = λ node e. (cycles-left c.args.ne
 pub returns-in-None-clause-order : goal.returns-in-None-clause-order
 returns-in-None-clause-order c =
     let nodes = c.as_slice-nodes.result.now in
-    let last = last_turn nodes c.loop-turn.order c.loop-turn._turn (omega arith) c.loop-turn.invariant in
-    let lacks : first_outside c.loop-turn.order (length nodes) ≡ None = cc in
-    rw (← c.as_slice-nodes.ensures) (last, has_all c.loop-turn.order nodes lacks, left_is nodes c.loop-turn.order None last lacks)
+    let last = last_step nodes c.loop-step.order c.loop-step._step (omega arith) c.loop-step.invariant in
+    let lacks : first_outside c.loop-step.order (length nodes) ≡ None = cc in
+    rw (← c.as_slice-nodes.ensures) (last, has_all c.loop-step.order nodes lacks, left_is nodes c.loop-step.order None last lacks)
 
 pub returns-in-None-clause-feed_forward : goal.returns-in-None-clause-feed_forward
 returns-in-None-clause-feed_forward c =

@@ -65,7 +65,7 @@ within g c =
     let is = unchanged g c in
     omega arith
 
--- how many places are settled
+-- how many indices are settled
 count : (g : _) (c : After-min-count g) → let outcome = drop c.len-from.result c.judge_window.new.admitted.items in
     length outcome ≡ c.min-to.result - c.len-from.result → c.unchanged_of-unchanged.result ≡ unchanged_in outcome → c.min-count.result ≡ settled_in outcome
 count g c number is = c.min-count.ensures ∙ ap (λ (q : ℕ × ℕ). min (q.0 + 1) q.1) (λ k. (is k, sym number k))

@@ -24,24 +24,24 @@ pub ended-requires-clause-right : goal.ended-requires-clause-right
 ended-requires-clause-right g c κs within =
     let pass : IsPass c.args.stream.now.time c.args.demands.now c.cut-blocks.result.block c.cut-blocks.result.blocks c.crew-seat.result.0 c.in_ok-made.field-0.items
     = IfOk-at_ok (λ v. IsPass c.args.stream.now.time c.args.demands.now c.cut-blocks.result.block c.cut-blocks.result.blocks c.crew-seat.result.0 v.items) c.in_ok-made.was c.crew-seat.ensures.passed in
-    let columns = c.jobs_of-jobs.ensures.columns in
+    let lists = c.jobs_of-jobs.ensures.lists in
     let blocks = c.jobs_of-jobs.ensures.blocks in
     let less = c.cut-blocks.result.none_more in
     let n = c.cut-blocks.ensures.0 in
     let len = c.len.ensures in
     let all = c.in_ok-chain.ensures.0 in
-    subst (λ (z : List ℕ × List ℕ × ℕ × ℕ). (b : ℕ) (d : Passed) → b < z.3 → IsRight z.0 z.1 z.2 b (get_or c.in_ok-passed.passed b d)) (λ i. (sym columns.0 i, sym columns.1 i, sym blocks.0 i, sym blocks.1 i))
-    (all-right c.args.stream.now.time c.args.demands.now c.cut-blocks.result.block c.crew-seat.result.0.puts c.crew-seat.result.0.looks pass.own.cut c.cut-blocks.result.blocks c.in_ok-carries.carries (omega arith) (λ b lt. c.in_ok-carries.ensures.each b (omega arith)) (λ part places size b t cut lt inside is. c.in_ok-carries.ensures.folded part places size b t cut (omega arith) inside is) c.in_ok-made.field-0.items c.in_ok-passed.passed pass.pieces.pieces c.in_ok-passed.ensures.own)
+    subst (λ (z : List ℕ × List ℕ × ℕ × ℕ). (b : ℕ) (d : Passed) → b < z.3 → IsRight z.0 z.1 z.2 b (get_or c.in_ok-passed.passed b d)) (λ i. (sym lists.0 i, sym lists.1 i, sym blocks.0 i, sym blocks.1 i))
+    (all-right c.args.stream.now.time c.args.demands.now c.cut-blocks.result.block c.crew-seat.result.0.puts c.crew-seat.result.0.looks pass.own.cut c.cut-blocks.result.blocks c.in_ok-carries.carries (omega arith) (λ b lt. c.in_ok-carries.ensures.each b (omega arith)) (λ part size block b t cut lt inside is. c.in_ok-carries.ensures.folded part size block b t cut (omega arith) inside is) c.in_ok-made.field-0.items c.in_ok-passed.passed pass.pieces.pieces c.in_ok-passed.ensures.own)
 
 pub ended-requires-clause-known : goal.ended-requires-clause-known
 ended-requires-clause-known g c κs within =
     let pass : IsPass c.args.stream.now.time c.args.demands.now c.cut-blocks.result.block c.cut-blocks.result.blocks c.crew-seat.result.0 c.in_ok-made.field-0.items
     = IfOk-at_ok (λ v. IsPass c.args.stream.now.time c.args.demands.now c.cut-blocks.result.block c.cut-blocks.result.blocks c.crew-seat.result.0 v.items) c.in_ok-made.was c.crew-seat.ensures.passed in
-    let columns = c.jobs_of-jobs.ensures.columns in
+    let lists = c.jobs_of-jobs.ensures.lists in
     let blocks = c.jobs_of-jobs.ensures.blocks in
     let less = c.cut-blocks.result.none_more in
     let n = c.cut-blocks.ensures.0 in
     let len = c.len.ensures in
     let all = c.in_ok-chain.ensures.0 in
-    subst (λ (z : List ℕ × List ℕ × ℕ × ℕ). (b : ℕ) → b < z.3 → IsKnown z.0 z.1 z.2 b (get_or c.in_ok-carries.carries b Void)) (λ i. (sym columns.0 i, sym columns.1 i, sym blocks.0 i, sym blocks.1 i))
-    (all-known c.args.stream.now.time c.args.demands.now c.cut-blocks.result.block c.crew-seat.result.0.puts c.crew-seat.result.0.looks pass.own.cut c.cut-blocks.result.blocks c.in_ok-carries.carries (omega arith) (λ b lt. c.in_ok-carries.ensures.each b (omega arith)) (λ part places size b t cut lt inside is. c.in_ok-carries.ensures.folded part places size b t cut (omega arith) inside is))
+    subst (λ (z : List ℕ × List ℕ × ℕ × ℕ). (b : ℕ) → b < z.3 → IsKnown z.0 z.1 z.2 b (get_or c.in_ok-carries.carries b Void)) (λ i. (sym lists.0 i, sym lists.1 i, sym blocks.0 i, sym blocks.1 i))
+    (all-known c.args.stream.now.time c.args.demands.now c.cut-blocks.result.block c.crew-seat.result.0.puts c.crew-seat.result.0.looks pass.own.cut c.cut-blocks.result.blocks c.in_ok-carries.carries (omega arith) (λ b lt. c.in_ok-carries.ensures.each b (omega arith)) (λ part size block b t cut lt inside is. c.in_ok-carries.ensures.folded part size block b t cut (omega arith) inside is))

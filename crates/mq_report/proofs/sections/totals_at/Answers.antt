@@ -1,21 +1,21 @@
 use Rattle.std.proofs.Common.{◌∙◌, sym, ap, subst}
-use Rattle.mq_core.specs.Columns.{column_totals}
+use Rattle.mq_core.specs.Sequences.{sequence_totals}
 use Rattle.mq_stats.specs.Numbers.{AreVisits}
 use Rattle.mq_report.proofs.Runs.{visits_inside, visits_are}
 use Rattle.mq_report.proofs.sections.totals_at.Goals as goal
 
 pub get-requires : goal.get-requires
-get-requires c = visits_inside c.runs_have_columns.ensures c.args.plan.now c.args.rows.now c.args.run.now c.args.node c.args.declared.now c.requires.run c.requires.there
+get-requires c = visits_inside c.runs_have_sequences.ensures c.args.plan.now c.args.rows.now c.args.run.now c.args.node c.args.declared.now c.requires.run c.requires.there
 
 pub totals-requires : goal.totals-requires
 totals-requires c =
     subst (AreVisits c.args.rows.now c.args.declared.now.kind)
-    (visits_are c.runs_have_columns.ensures c.args.plan.now c.args.rows.now c.args.run.now c.args.node c.args.declared.now c.get.result.now c.requires.run c.requires.there c.get.ensures)
+    (visits_are c.runs_have_sequences.ensures c.args.plan.now c.args.rows.now c.args.run.now c.args.node c.args.declared.now c.get.result.now c.requires.run c.requires.there c.get.ensures)
     (c.runs_give_visits.ensures c.args.plan.now c.args.rows.now c.requires.read c.args.node c.args.declared.now c.requires.there)
 
 pub returns-clause-totals : goal.returns-clause-totals
 returns-clause-totals c =
     c.totals.ensures.totals
-    ∙ (sym (ap (column_totals c.args.rows.now c.args.declared.now.kind)
-    (visits_are c.runs_have_columns.ensures c.args.plan.now c.args.rows.now c.args.run.now c.args.node c.args.declared.now c.get.result.now c.requires.run c.requires.there c.get.ensures))
-    ∙ sym (c.totals_are_columns.ensures c.args.plan.now c.args.rows.now c.requires.read c.args.node c.args.declared.now c.requires.there))
+    ∙ (sym (ap (sequence_totals c.args.rows.now c.args.declared.now.kind)
+    (visits_are c.runs_have_sequences.ensures c.args.plan.now c.args.rows.now c.args.run.now c.args.node c.args.declared.now c.get.result.now c.requires.run c.requires.there c.get.ensures))
+    ∙ sym (c.totals_are_sequences.ensures c.args.plan.now c.args.rows.now c.requires.read c.args.node c.args.declared.now c.requires.there))

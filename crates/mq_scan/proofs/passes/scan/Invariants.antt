@@ -6,8 +6,8 @@ use Rattle.mq_scan.proofs.passes.scan.Given as goal
 -- the blocks so far are done
 abbrev pub invariant-parts : goal.invariant-parts
 invariant-parts g l = record {
-  carry : l.carry ≡ fold_to g.P.Step.acted (g.P.Step.start l.step) (g.P.Step.part l.step) (min (l.b * l.block) (g.P.Step.places l.step));
-  items : l.after.items ≡ carries_after g.P.Step.acted (g.P.Step.start l.step) (g.P.Step.part l.step) 0 (min (l.b * l.block) (g.P.Step.places l.step));
-  len : vec_len l.after ≡ min (l.b * l.block) (g.P.Step.places l.step);
-  room : g.P.Step.places l.step ≤ vec_capacity l.after;
+  carry : l.carry ≡ fold_to g.P.Step.acted (g.P.Step.start l.step) (g.P.Step.part l.step) (min (l.b * l.block) (g.P.Step.size l.step));
+  items : l.after.items ≡ carries_after g.P.Step.acted (g.P.Step.start l.step) (g.P.Step.part l.step) 0 (min (l.b * l.block) (g.P.Step.size l.step));
+  len : vec_len l.after ≡ min (l.b * l.block) (g.P.Step.size l.step);
+  room : g.P.Step.size l.step ≤ vec_capacity l.after;
 }

@@ -9,6 +9,6 @@ returns g c carry from n le may =
     let law = g.met.P.Step in
     let part = g.P.Step.part s in
     let count : n + 1 ≡ suc n = omega arith in
-    turns g.P.Step.joined g.P.Step.acted g.P.Step.can_join g.P.Step.can_act (g.P.Step.start s) part (g.P.Step.places s) (law.spans_join s) (law.spans_act s) law.acts carry from n le
+    turns g.P.Step.joined g.P.Step.acted g.P.Step.can_join g.P.Step.can_act (g.P.Step.start s) part (g.P.Step.size s) (law.spans_join s) (law.spans_act s) law.acts carry from n le
     (subst (λ (m : ℕ). MayTurn g.P.Step.joined g.P.Step.acted g.P.Step.can_act part from m carry) count may)
     ∙ ap (fold_to g.P.Step.acted carry (λ k. part (from + k))) (sym count)

@@ -33,5 +33,5 @@ returns-clause-acts g c =
     c.extend.ensures
     ∙ (ap (λ (sum : g.row.P-Summary.Denot). extended g.P.Step.joined (g.P.Step.part s) sum (from + 1) n) c.one-all.ensures ∙ span-extended g.P.Step.joined (g.P.Step.part s) from n) in
     ap (λ (sum : g.row.P-Summary.Denot). g.P.Step.acted sum (fold_to g.P.Step.acted (g.P.Step.start s) (g.P.Step.part s) from)) is
-    ∙ (acts-in-turn g.P.Step.joined g.P.Step.acted g.P.Step.can_join g.P.Step.can_act (g.P.Step.start s) (g.P.Step.part s) (g.P.Step.places s) (law.spans_join s) (law.spans_act s) law.acts from n (omega arith)
+    ∙ (acts-in-turn g.P.Step.joined g.P.Step.acted g.P.Step.can_join g.P.Step.can_act (g.P.Step.start s) (g.P.Step.part s) (g.P.Step.size s) (law.spans_join s) (law.spans_act s) law.acts from n (omega arith)
     ∙ ap (fold_to g.P.Step.acted (g.P.Step.start s) (g.P.Step.part s)) end)

@@ -1,6 +1,6 @@
 use Rattle.std.proofs.Common.{◌≡◌, ◌+◌, ◌*◌, ◌^◌, ◌≤◌, drop}
 use Rattle.std.specs.Prelude.{fold, sum}
-use Rattle.mq_core.specs.Columns.{stream_sojourns}
+use Rattle.mq_core.specs.Sequences.{stream_sojourns}
 use Rattle.mq_stats.proofs.exits.leaving.Given as goal
 
 -- what is added so far, with what is left, is all

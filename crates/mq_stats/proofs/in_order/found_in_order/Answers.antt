@@ -1,6 +1,6 @@
 use Rattle.std.proofs.Common.{◌≡◌, suc, ◌+◌, ◌-◌, Some, ap, ◌∙◌, subst, arith, count_by, take}
 use Rattle.std.specs.Prelude.{slice_get}
-use Rattle.mq_core.specs.Columns.{departs_after}
+use Rattle.mq_core.specs.Sequences.{departs_after}
 use Rattle.mq_stats.proofs.Founds.{count-next, founds-next, rises-at}
 use Rattle.mq_stats.proofs.InOrder.{gone-later, there-behind}
 use Rattle.mq_stats.specs.Departures.{stays}
@@ -9,7 +9,7 @@ use Rattle.mq_stats.proofs.in_order.found_in_order.Goals as goal
 
 pub overflow_sub-stayed : goal.overflow_sub-stayed
 overflow_sub-stayed c =
-    let behind = there-behind c.get.result.now 0 c.gone_by-gone.result.place c.loop-at.at c.args.fate.now c.requires.order c.gone_by-gone.ensures.order c.gone_by-gone.ensures.gone c.gone_by-gone.ensures.first in
+    let behind = there-behind c.get.result.now 0 c.gone_by-gone.result.index c.loop-at.at c.args.fate.now c.requires.order c.gone_by-gone.ensures.order c.gone_by-gone.ensures.gone c.gone_by-gone.ensures.first in
     omega arith
 
 pub loop-at-preserved : goal.loop-at-preserved
@@ -18,8 +18,8 @@ loop-at-preserved c =
     let fates = c.args.fate.now in
     let at = c.loop-at.at in
     let time = c.get.result.now in
-    let place = c.gone_by-gone.result.place in
-    let behind = there-behind time 0 place at fates c.requires.order c.gone_by-gone.ensures.order c.gone_by-gone.ensures.gone c.gone_by-gone.ensures.first in
+    let index = c.gone_by-gone.result.index in
+    let behind = there-behind time 0 index at fates c.requires.order c.gone_by-gone.ensures.order c.gone_by-gone.ensures.gone c.gone_by-gone.ensures.first in
     let there : c.loop-at.stayed - c.gone_by-gone.result.departed ≡ count_by (departs_after time) (take at fates) = omega arith in
     let next : at + 1 ≡ suc at = omega arith in
     record {
@@ -30,7 +30,7 @@ loop-at-preserved c =
         | in-Departs w ↦ let more = count-next stays fates at _ (c.get-in-loop-at.ensures ∙ ap (λ x. Some x) w.in-Departs.is) in omega arith
         | in_default w ↦ let more = count-next stays fates at _ (c.get-in-loop-at.ensures ∙ ap (λ x. Some x) w.in_default.is) in omega arith
       ];
-      place = omega arith;
+      index = omega arith;
       departed = c.gone_by-gone.ensures.departed;
-      gone = λ later h. gone-later time later (take place fates) (rises-at arrives at time later c.requires.arrive c.get.ensures (subst (λ n. slice_get arrives n ≡ Some later) next h)) c.gone_by-gone.ensures.gone;
+      gone = λ later h. gone-later time later (take index fates) (rises-at arrives at time later c.requires.arrive c.get.ensures (subst (λ n. slice_get arrives n ≡ Some later) next h)) c.gone_by-gone.ensures.gone;
     }

@@ -1,7 +1,7 @@
 use Rattle.std.proofs.Common.{◌≡◌, ℕ, ◌≤◌, ◌++◌, drop, length, take, count_by, Some}
 use Rattle.std.specs.Prelude.{slice_get}
 use Rattle.std.specs.Vec.{vec_len, vec_capacity}
-use Rattle.mq_core.specs.Columns.{departs_after, founds_from, founds_of}
+use Rattle.mq_core.specs.Sequences.{departs_after, founds_from, founds_of}
 use Rattle.mq_stats.specs.Departures.{stays}
 use Rattle.mq_stats.proofs.in_order.found_in_order.Given as goal
 
@@ -12,7 +12,7 @@ invariant-loop-at l = record {
   len : vec_len l.found ≡ l.at;
   room : length l.arrive ≤ vec_capacity l.found;
   stayed : l.stayed ≡ count_by stays (take l.at l.fate);
-  place : l.gone.place ≤ l.at;
-  departed : l.gone.departed ≡ count_by stays (take l.gone.place l.fate);
-  gone : (time : ℕ) → slice_get l.arrive l.at ≡ Some time → count_by (departs_after time) (take l.gone.place l.fate) ≡ 0;
+  index : l.gone.index ≤ l.at;
+  departed : l.gone.departed ≡ count_by stays (take l.gone.index l.fate);
+  gone : (time : ℕ) → slice_get l.arrive l.at ≡ Some time → count_by (departs_after time) (take l.gone.index l.fate) ≡ 0;
 }

@@ -2,8 +2,8 @@ use Rattle.std.proofs.Common.{◌≡◌, ◌<◌, length, ap, ◌∙◌, sym, su
 use Rattle.std.specs.Prelude.{All}
 use Rattle.std.proofs.lemmas.List.{length-map}
 use Rattle.mq_core.specs.Came.{came_of}
-use Rattle.mq_core.specs.ColumnLaws.{jobs_of, arrives_of}
-use Rattle.mq_core.specs.Columns.{column_fates, column_outs, leaving_times, picked}
+use Rattle.mq_core.specs.SequenceLaws.{jobs_of, arrives_of}
+use Rattle.mq_core.specs.Sequences.{sequence_fates, sequence_outs, leaving_times, picked}
 use Rattle.mq_core.specs.Machine.{Visit}
 use Rattle.mq_core.specs.StandardTable.{run_of}
 use Rattle.mq_stats.proofs.RunSteps.{each-so, Each-picked, length-picked, picked-even, leaving-even}
@@ -15,14 +15,14 @@ returns c plan rows read v node there out =
     let jobs = jobs_of visits in
     let arrives = arrives_of visits in
     let came = came_of (length node.inputs) visits in
-    let outs = column_outs rows node.kind came in
-    let times = leaving_times arrives (column_fates rows node.kind came) in
-    let columns = c.nodes_are_columns.ensures plan rows read v node there in
-    let same = ap (λ s. s.job) (columns.stream out ∙ (c.columns_go_by_fates.ensures rows node.kind came).stream out) in
+    let outs = sequence_outs rows node.kind came in
+    let times = leaving_times arrives (sequence_fates rows node.kind came) in
+    let sequences = c.nodes_are_sequences.ensures plan rows read v node there in
+    let same = ap (λ s. s.job) (sequences.stream out ∙ (c.sequences_go_by_fates.ensures rows node.kind came).stream out) in
     let keeps = c.orders_keep_items.ensures node.kind (record { job = picked out outs jobs; time = picked out outs times }) in
     let even : length times ≡ length jobs =
-    leaving-even arrives (column_fates rows node.kind came)
-    (sym (ap (λ x. length x.fate) columns.visits) ∙ (c.departs_in_time.ensures plan rows read v node there).fates)
+    leaving-even arrives (sequence_fates rows node.kind came)
+    (sym (ap (λ x. length x.fate) sequences.visits) ∙ (c.departs_in_time.ensures plan rows read v node there).fates)
     ∙ sym (c.departs_in_time.ensures plan rows read v node there).jobs in
     let long = ap length same in
     let kept = keeps.many (picked-even out outs jobs times even) in

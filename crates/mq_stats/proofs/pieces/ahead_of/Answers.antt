@@ -52,10 +52,10 @@ returns c =
       leaving = c.requires.leaving;
       kept = record {
         many = omega arith;
-        at_places = λ place l. ap (λ counts. slice_get counts place) c.from_vec.ensures ∙ c.loop-at.invariant.kept place (omega arith);
+        at_indices = λ index l. ap (λ counts. slice_get counts index) c.from_vec.ensures ∙ c.loop-at.invariant.kept index (omega arith);
       };
       still = record {
         many = omega arith;
-        at_places = λ place l. ap (λ counts. slice_get counts place) c.from_vec-2.ensures ∙ c.loop-at.invariant.still place (omega arith);
+        at_indices = λ index l. ap (λ counts. slice_get counts index) c.from_vec-2.ensures ∙ c.loop-at.invariant.still index (omega arith);
       };
     }

@@ -7,13 +7,13 @@ use Rattle.mq_stats.specs.Ahead.{leaves_at_once}
 use Rattle.mq_stats.specs.Departures.{stays}
 use Rattle.mq_stats.proofs.pieces.ahead_of.Given as goal
 
--- the counts of the places so far
+-- the counts of the indices so far
 abbrev pub invariant-loop-at : goal.invariant-loop-at
 invariant-loop-at l = record {
   stayed : l.stayed ≡ count_by stays (take l.at l.fate);
   at_once : l.at_once ≡ count_by (λ (p : ℕ × Fate). leaves_at_once p.0 p.1) (take l.at (zip l.arrive l.fate));
-  kept : (place : ℕ) → place < l.at + 1 → slice_get l.kept.items place ≡ Some (count_by stays (take place l.fate));
-  still : (place : ℕ) → place < l.at + 1 → slice_get l.still.items place ≡ Some (count_by (λ (p : ℕ × Fate). leaves_at_once p.0 p.1) (take place (zip l.arrive l.fate)));
+  kept : (index : ℕ) → index < l.at + 1 → slice_get l.kept.items index ≡ Some (count_by stays (take index l.fate));
+  still : (index : ℕ) → index < l.at + 1 → slice_get l.still.items index ≡ Some (count_by (λ (p : ℕ × Fate). leaves_at_once p.0 p.1) (take index (zip l.arrive l.fate)));
   few_stayed : l.stayed ≤ l.at;
   few_at_once : l.at_once ≤ l.at;
   kept_many : length l.kept.items ≡ l.at + 1;

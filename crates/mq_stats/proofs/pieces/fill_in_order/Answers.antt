@@ -2,14 +2,14 @@ use Rattle.std.proofs.Common.{◌≡◌, ◌+◌, ◌≤◌, refl, sym, ap, ◌�
 use Rattle.std.proofs.lemmas.List.Sums.{count_by-le-length}
 use Rattle.std.specs.Prelude.{nat_le}
 use Rattle.std.proofs.lemmas.Option.{slice_get-get_or}
-use Rattle.mq_core.specs.Columns.{founds_from}
+use Rattle.mq_core.specs.Sequences.{founds_from}
 use Rattle.mq_core.specs.declared.model.Fate.TheVariants.{Departs}
 use Rattle.mq_stats.proofs.Passing.{up_to}
 use Rattle.mq_stats.proofs.Telling.{fills-next, founds-start, left-on}
 use Rattle.mq_stats.proofs.pieces.fill_in_order.Goals as goal
 
-pub loop-place-init : goal.loop-place-init
-loop-place-init c =
+pub loop-index-init : goal.loop-index-init
+loop-index-init c =
     let fates = map (λ d. Departs d) c.args.departs.now in
     let start : c.args.first + 0 ≡ c.args.first = omega arith in
     let most = count_by-le-length (λ t. nat_le t (get_or c.args.arrive.now c.args.first 0)) c.args.departs.now in
@@ -21,19 +21,19 @@ loop-place-init c =
       len = refl;
     }
 
-pub loop-place-preserved : goal.loop-place-preserved
-loop-place-preserved c =
+pub loop-index-preserved : goal.loop-index-preserved
+loop-index-preserved c =
     let arrive = c.args.arrive.now in
     let departs = c.args.departs.now in
-    let at = c.args.first + c.loop-place.place in
+    let at = c.args.first + c.loop-index.index in
     let time = get_or arrive at 0 in
     let passed = c.one_if_passed-passed.ensures in
-    let long = length-set c.loop-place.found c.loop-place.place c.saturating_sub.result in
+    let long = length-set c.loop-index.found c.loop-index.index c.saturating_sub.result in
     let most = count_by-le-length (λ t. nat_le t time) departs in
     record {
-      so_far = fills-next c.loop-place.found arrive departs _ c.args.first c.loop-place.place c.loop-place.left c.one_if_passed-passed.result c.saturating_sub.result time c.requires.departs c.requires.even c.loop-place-test.true (omega arith) (slice_get-get_or arrive at 0 (omega arith)) c.saturating_sub.ensures passed.bit passed.least passed.most c.loop-place.invariant.so_far;
-      left = λ l. left-on arrive departs c.args.first c.loop-place.place c.loop-place.left c.one_if_passed-passed.result c.requires.arrive passed.bit passed.least (omega (arith, passed.bit));
+      so_far = fills-next c.loop-index.found arrive departs _ c.args.first c.loop-index.index c.loop-index.left c.one_if_passed-passed.result c.saturating_sub.result time c.requires.departs c.requires.even c.loop-index-test.true (omega arith) (slice_get-get_or arrive at 0 (omega arith)) c.saturating_sub.ensures passed.bit passed.least passed.most c.loop-index.invariant.so_far;
+      left = λ l. left-on arrive departs c.args.first c.loop-index.index c.loop-index.left c.one_if_passed-passed.result c.requires.arrive passed.bit passed.least (omega (arith, passed.bit));
       within = omega (arith, passed.bit);
       inside = omega (arith, passed.least);
-      len = long ∙ c.loop-place.invariant.len;
+      len = long ∙ c.loop-index.invariant.len;
     }

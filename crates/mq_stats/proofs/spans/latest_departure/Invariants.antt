@@ -1,6 +1,6 @@
 use Rattle.std.proofs.Common.{◌≡◌, drop, max}
 use Rattle.std.specs.Prelude.{fold, map}
-use Rattle.mq_core.specs.Columns.{time_of_fate}
+use Rattle.mq_core.specs.Sequences.{time_of_fate}
 use Rattle.mq_stats.proofs.spans.latest_departure.Given as goal
 
 -- the greatest so far, with what is left, is the greatest of all

@@ -1,6 +1,6 @@
 use Rattle.std.proofs.Common.{◌≡◌, drop, max}
 use Rattle.std.specs.Prelude.{fold, map}
-use Rattle.mq_core.specs.Columns.{greatest_time}
+use Rattle.mq_core.specs.Sequences.{greatest_time}
 use Rattle.mq_stats.proofs.spans.span.Given as goal
 
 -- the greatest so far, with what is left, is the greatest of all

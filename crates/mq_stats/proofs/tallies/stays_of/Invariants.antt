@@ -1,6 +1,6 @@
 use Rattle.std.proofs.Common.{◌≡◌, ◌+◌, ◌*◌, ◌^◌, ◌≤◌, drop, max}
 use Rattle.std.specs.Prelude.{fold, sum, count_by}
-use Rattle.mq_core.specs.Columns.{column_numbers, column_sojourns}
+use Rattle.mq_core.specs.Sequences.{sequence_numbers, sequence_sojourns}
 use Rattle.mq_core.specs.Results.{is_lost}
 use Rattle.mq_stats.proofs.tallies.stays_of.Given as goal
 
@@ -8,9 +8,9 @@ use Rattle.mq_stats.proofs.tallies.stays_of.Given as goal
 abbrev pub invariant-loop-at : goal.invariant-loop-at
 invariant-loop-at l = record {
   lost : l.lost + count_by is_lost (drop l.at l.visits.fate) ≡ count_by is_lost l.visits.fate;
-  area : fold (λ a y. a + y) l.area (column_sojourns (drop l.at l.visits.arrive) (drop l.at l.visits.fate)) ≡ sum (column_sojourns l.visits.arrive l.visits.fate);
-  longest : fold max l.longest (column_sojourns (drop l.at l.visits.arrive) (drop l.at l.visits.fate)) ≡ fold max 0 (column_sojourns l.visits.arrive l.visits.fate);
-  greatest : fold max l.greatest (column_numbers (drop l.at l.visits.found) (drop l.at l.visits.fate)) ≡ fold max 0 (column_numbers l.visits.found l.visits.fate);
+  area : fold (λ a y. a + y) l.area (sequence_sojourns (drop l.at l.visits.arrive) (drop l.at l.visits.fate)) ≡ sum (sequence_sojourns l.visits.arrive l.visits.fate);
+  longest : fold max l.longest (sequence_sojourns (drop l.at l.visits.arrive) (drop l.at l.visits.fate)) ≡ fold max 0 (sequence_sojourns l.visits.arrive l.visits.fate);
+  greatest : fold max l.greatest (sequence_numbers (drop l.at l.visits.found) (drop l.at l.visits.fate)) ≡ fold max 0 (sequence_numbers l.visits.found l.visits.fate);
   few : l.lost ≤ l.at;
   small : l.area ≤ l.at * 2 ^ 64;
 }

@@ -1,10 +1,10 @@
 use Rattle.std.proofs.Common.{◌≡◌, ◌∙◌, ap, sym, max}
 use Rattle.std.specs.Prelude.{fold, sum}
-use Rattle.mq_core.specs.Columns.{column_sojourns, column_waits}
+use Rattle.mq_core.specs.Sequences.{sequence_sojourns, sequence_waits}
 use Rattle.mq_stats.proofs.Steps.{passes, services-are_none, waits-are_stays}
 use Rattle.mq_stats.proofs.tallies.waits_of.Goals as goal
 
-stays : (c : goal.In-Source) → column_waits c.args.rows.now c.args.kind.now c.args.visits.now.job c.args.visits.now.arrive c.args.visits.now.fate ≡ column_sojourns c.args.visits.now.arrive c.args.visits.now.fate
+stays : (c : goal.In-Source) → sequence_waits c.args.rows.now c.args.kind.now c.args.visits.now.job c.args.visits.now.arrive c.args.visits.now.fate ≡ sequence_sojourns c.args.visits.now.arrive c.args.visits.now.fate
 stays c = waits-are_stays c.args.rows.now c.args.kind.now c.args.visits.now.job _ _ (passes c.args.rows.now c.args.kind.now c.in-Source.is) c.requires.visits.arrives
 
 pub returns-in-Source-clause-wait : goal.returns-in-Source-clause-wait

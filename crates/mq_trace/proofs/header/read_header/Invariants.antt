@@ -8,6 +8,6 @@ use Rattle.mq_trace.proofs.header.read_header.Given as goal
 abbrev pub invariant-loop-name : goal.invariant-loop-name
 invariant-loop-name l = record {
   count : l.column ≡ l.name-index;
-  places : l.places.items ≡ map (λ name. position_or_len (λ other. bytes_eq other name) (columns_of (fields_of l.fn.names))) (take l.name-index l.net.columns);
+  indices : l.indices.items ≡ map (λ name. position_or_len (λ other. bytes_eq other name) (columns_of (fields_of l.fn.names))) (take l.name-index l.net.columns);
   there : (k : ℕ) → k < l.name-index → is_among (columns_of (fields_of l.fn.names)) (get_or l.net.columns k []) ≡ true;
 }

@@ -13,32 +13,32 @@ returns-in_default-read_number-clause-fault c =
     let F = fields_of c.args.row.now in
     let H = columns_of (fields_of c.args.header.now.names) in
     let size = length_noted c.args.net.now.columns H c.args.header.now.reads.items c.requires.header.reads in
-    let g = got F (c.loop-place.place + 2) c.in-Some.text.now c.in-Some.ensures.value in
-    let h : c.loop-place.place < length H = omega (arith, size, c.loop-place-test.true) in
-    let k : c.loop-place.place < length (drop 2 F) = grind (arith, common_steps, g) in
-    let bad : number_of (get_or (drop 2 F) c.loop-place.place []) (2 ^ 36) ≡ None = rw (later_field F c.loop-place.place, g.1) (sym c.in_default-read_number.ensures) in
-    let e = value_is_bad c.args.net.now c.loop-place.place H (drop 2 F) c.args.header.now.reads.items c.requires.header.reads h k (search rules) bad in
-    sym (c.loop-place.invariant.left ∙ e)
+    let g = got F (c.loop-index.index + 2) c.in-Some.text.now c.in-Some.ensures.value in
+    let h : c.loop-index.index < length H = omega (arith, size, c.loop-index-test.true) in
+    let k : c.loop-index.index < length (drop 2 F) = grind (arith, common_steps, g) in
+    let bad : number_of (get_or (drop 2 F) c.loop-index.index []) (2 ^ 36) ≡ None = rw (later_field F c.loop-index.index, g.1) (sym c.in_default-read_number.ensures) in
+    let e = value_is_bad c.args.net.now c.loop-index.index H (drop 2 F) c.args.header.now.reads.items c.requires.header.reads h k (search rules) bad in
+    sym (c.loop-index.invariant.left ∙ e)
 
-pub loop-place-preserved : goal.loop-place-preserved
-loop-place-preserved c =
+pub loop-index-preserved : goal.loop-index-preserved
+loop-index-preserved c =
     let F = fields_of c.args.row.now in
     let H = columns_of (fields_of c.args.header.now.names) in
     let size = length_noted c.args.net.now.columns H c.args.header.now.reads.items c.requires.header.reads in
-    let h : c.loop-place.place < length H = omega (arith, size, c.loop-place-test.true) in
+    let h : c.loop-index.index < length H = omega (arith, size, c.loop-index-test.true) in
     let lens : length (drop 2 F) ≡ length H = grind (arith, common_steps, c.requires.len) in
-    let k : c.loop-place.place < length (drop 2 F) = omega (arith, lens, h) in
+    let k : c.loop-index.index < length (drop 2 F) = omega (arith, lens, h) in
     elim c.if-reads.branch [
       | then-reads+in-Some+in-Some-read_number w ↦
-          let g = got F (c.loop-place.place + 2) w.in-Some.text.now w.in-Some.ensures.value in
-          let num : is_none (number_of (get_or (drop 2 F) c.loop-place.place []) (2 ^ 36)) ≡ false = rw (later_field F c.loop-place.place, g.1, ← w.in-Some-read_number.ensures) refl in
+          let g = got F (c.loop-index.index + 2) w.in-Some.text.now w.in-Some.ensures.value in
+          let num : is_none (number_of (get_or (drop 2 F) c.loop-index.index []) (2 ^ 36)) ≡ false = rw (later_field F c.loop-index.index, g.1, ← w.in-Some-read_number.ensures) refl in
           record {
-            left = c.loop-place.invariant.left ∙ value_goes_on c.args.net.now c.loop-place.place H (drop 2 F) c.args.header.now.reads.items c.requires.header.reads h k (inr num);
-            held = rw w.values-is (hold_more c.args.header.now.reads.items c.loop-place.values F c.loop-place.place w.in-Some-read_number.value (omega arith)
-                (rw g.1 (number_value w.in-Some.text.now (2 ^ 36) w.in-Some-read_number.value w.in-Some-read_number.ensures)) c.loop-place.invariant.held);
+            left = c.loop-index.invariant.left ∙ value_goes_on c.args.net.now c.loop-index.index H (drop 2 F) c.args.header.now.reads.items c.requires.header.reads h k (inr num);
+            held = rw w.values-is (hold_more c.args.header.now.reads.items c.loop-index.values F c.loop-index.index w.in-Some-read_number.value (omega arith)
+                (rw g.1 (number_value w.in-Some.text.now (2 ^ 36) w.in-Some-read_number.value w.in-Some-read_number.ensures)) c.loop-index.invariant.held);
           }
       | else-reads w ↦ record {
-        left = c.loop-place.invariant.left ∙ value_goes_on c.args.net.now c.loop-place.place H (drop 2 F) c.args.header.now.reads.items c.requires.header.reads h k (inl (search rules));
-        held = λ j less t. grind (arith, common_steps, c.loop-place.invariant.held j, w.if-reads.false, w.values-is);
+        left = c.loop-index.invariant.left ∙ value_goes_on c.args.net.now c.loop-index.index H (drop 2 F) c.args.header.now.reads.items c.requires.header.reads h k (inl (search rules));
+        held = λ j less t. grind (arith, common_steps, c.loop-index.invariant.held j, w.if-reads.false, w.values-is);
       }
     ]

@@ -3,6 +3,6 @@ use Rattle.mq_trace.proofs.rows.push_values.Given as goal
 
 abbrev pub invariant-loop-k : goal.invariant-loop-k
 invariant-loop-k l = record {
-  before : (j : ℕ) → j < l.k → get_or l.lists j [] ≡ get_or l.fn.lists j [] ++ get_or l.values (get_or l.places j 0) 0 ∷ [];
+  before : (j : ℕ) → j < l.k → get_or l.lists j [] ≡ get_or l.fn.lists j [] ++ get_or l.values (get_or l.indices j 0) 0 ∷ [];
   behind : (j : ℕ) → l.k ≤ j → get_or l.lists j [] ≡ get_or l.fn.lists j [];
 }

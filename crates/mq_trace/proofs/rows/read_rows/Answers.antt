@@ -37,13 +37,13 @@ returns-in_err-node c =
 
 pub push_values-requires-clause-same : goal.push_values-requires-clause-same
 push_values-requires-clause-same c =
-    let n : length c.as_slice-in-loop-number.result.now ≡ length c.args.net.now.columns = ap length (c.as_slice-in-loop-number.ensures.value ∙ c.requires.header.places) ∙ length-map _ _ in
+    let n : length c.as_slice-in-loop-number.result.now ≡ length c.args.net.now.columns = ap length (c.as_slice-in-loop-number.ensures.value ∙ c.requires.header.indices) ∙ length-map _ _ in
     let m : length c.as_mut_slice.result.now ≡ length c.loop-number.demands.items = ap length c.as_mut_slice.ensures.value in
     omega (arith, n, m, c.loop-number.invariant.rows.width)
 
-pub push_values-requires-clause-places : goal.push_values-requires-clause-places
-push_values-requires-clause-places c = λ k less.
-    let n : length c.as_slice-in-loop-number.result.now ≡ length c.args.net.now.columns = ap length (c.as_slice-in-loop-number.ensures.value ∙ c.requires.header.places) ∙ length-map _ _ in
+pub push_values-requires-clause-indices : goal.push_values-requires-clause-indices
+push_values-requires-clause-indices c = λ k less.
+    let n : length c.as_slice-in-loop-number.result.now ≡ length c.args.net.now.columns = ap length (c.as_slice-in-loop-number.ensures.value ∙ c.requires.header.indices) ∙ length-map _ _ in
     let stands = column_stands _ _ k c.requires.header (omega (arith, n, less)) in
     let few = reads_few _ _ c.requires.header in
     rw c.as_slice-in-loop-number.ensures.value (omega (arith, stands.0, few, c.read_row.auto.values, c.loop-number.invariant.room))

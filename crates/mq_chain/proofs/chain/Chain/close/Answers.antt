@@ -69,8 +69,8 @@ returns-clause-each c b lt =
     (subst (λ (z : Seated). IsClosed z.puts z.looks b (mp_of_word (get_or (slots_items c.close_with-closed.result.words) (carry_word b) 0))) c.seat.view_is closed)
 
 pub returns-clause-folded : goal.returns-clause-folded
-returns-clause-folded c part places block b t cut lt inside is =
-    is-carry part places block c.args.seat.puts b t cut inside (subst (λ (z : Mp). IsClosed c.args.seat.puts c.args.seat.looks b z) is (returns-clause-each c b lt)).1
+returns-clause-folded c part size block b t cut lt inside is =
+    is-carry part size block c.args.seat.puts b t cut inside (subst (λ (z : Mp). IsClosed c.args.seat.puts c.args.seat.looks b z) is (returns-clause-each c b lt)).1
 
 pub returns-clause-drawn : goal.returns-clause-drawn
 returns-clause-drawn c =

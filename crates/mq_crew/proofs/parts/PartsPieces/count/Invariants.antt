@@ -1,6 +1,6 @@
 use Rattle.std.proofs.Common.{◌≡◌, ◌+◌, drop}
-use Rattle.mq_crew.specs.Crew.{all_places}
+use Rattle.mq_crew.specs.Crew.{total_size}
 use Rattle.mq_crew.proofs.parts.PartsPieces.count.Given as goal
 
 abbrev pub invariant-parts : goal.invariant-parts
-invariant-parts g l = l.count + all_places g.P.Pieces.places (drop l.part-index l.self.parts.now) ≡ all_places g.P.Pieces.places l.self.parts.now
+invariant-parts g l = l.count + total_size g.P.Pieces.size (drop l.part-index l.self.parts.now) ≡ total_size g.P.Pieces.size l.self.parts.now

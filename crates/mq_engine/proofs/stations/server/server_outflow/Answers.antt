@@ -10,4 +10,4 @@ pub departures-requires : goal.departures-requires
 departures-requires c = load-sound c.args.rows.now (Server c.args.demand.now) c.args.demand.now c.args.arrivals.now _ c.requires c.requires.sound c.in_ok-demands.ensures
 
 pub returns : goal.returns
-returns c = IfOk-weaker c.in_turn.result _ _ (λ x turn. serves c.args.rows.now c.args.demand.now c.args.arrivals.now _ _ _ _ c.requires.ordered.ordered c.in_ok-demands.ensures c.in_ok-departs.ensures turn) c.in_turn.ensures
+returns c = IfOk-weaker c.by_position.result _ _ (λ x in_order. serves c.args.rows.now c.args.demand.now c.args.arrivals.now _ _ _ _ c.requires.ordered.ordered c.in_ok-demands.ensures c.in_ok-departs.ensures in_order) c.by_position.ensures

@@ -1,11 +1,11 @@
 use Rattle.std.proofs.Common.{length, arith}
 use Rattle.mq_core.specs.declared.model.Kind.TheVariants.{Tandem}
 use Rattle.mq_engine.proofs.Groups.{blocks-most}
-use Rattle.mq_engine.proofs.StageFacts.{columns-asked, sound-stages}
+use Rattle.mq_engine.proofs.StageFacts.{demands-asked, sound-stages}
 use Rattle.mq_engine.proofs.stations.tandem.tandem_scan.Goals as goal
 
-pub columns_of-requires : goal.columns_of-requires
-columns_of-requires c = columns-asked c.args.rows.now (Tandem c.args.stages.now) _ _ c.args.arrivals.now c.requires.load c.in_ok-asked.ensures (sound-stages (length c.requires.load.net.columns) c.args.stages.now c.requires.load.sound).asked
+pub all_demands_of-requires : goal.all_demands_of-requires
+all_demands_of-requires c = demands-asked c.args.rows.now (Tandem c.args.stages.now) _ _ c.args.arrivals.now c.requires.load c.in_ok-asked.ensures (sound-stages (length c.requires.load.net.columns) c.args.stages.now c.requires.load.sound).asked
 
 pub returns : goal.returns
 returns c =
@@ -17,7 +17,7 @@ returns c =
     record {
       asked = c.in_ok-asked.asked;
       asks = c.in_ok-asked.ensures;
-      columns = c.in_ok-columns.ensures;
+      demands = c.in_ok-demands.ensures;
       places = c.in_ok-places.ensures;
       blocks = (omega arith, blocks-most 1024 c.cut-blocks.result (omega arith));
     }

@@ -5,10 +5,10 @@ use Rattle.mq_maxplus.proofs.matrix.Matrix.act.Goals as goal
 pub cover-requires-clause-sums : goal.cover-requires-clause-sums
 cover-requires-clause-sums c = may-cover _ _ _ _ _ c.requires c.column.ensures.item c.get.ensures
 
-pub loop-place-preserved : goal.loop-place-preserved
-loop-place-preserved c =
-    let back : c.loop-place.place ≡ c.loop-place.place - 1 + 1 = omega arith in
-    let was = subst (Acting c.args.self.now c.args.on.now c.loop-place.all) back c.loop-place.invariant in
+pub loop-index-preserved : goal.loop-index-preserved
+loop-index-preserved c =
+    let back : c.loop-index.index ≡ c.loop-index.index - 1 + 1 = omega arith in
+    let was = subst (Acting c.args.self.now c.args.on.now c.loop-index.all) back c.loop-index.invariant in
     acting-next _ _ _ _ _ _ _ c.column.ensures.item c.get.ensures c.requires.same c.column.ensures.size c.cover.ensures.covered was
 
 pub returns-clause-acted : goal.returns-clause-acted
@@ -17,5 +17,5 @@ returns-clause-acted c =
     let whole = square-view fields.size fields.columns c.args.self.now c.self.invariant c.self.view_is in
     let long = whole.0 in
     let some = c.self.invariant.some in
-    let none : c.loop-place.place ≡ 0 = omega arith in
-    acting-ends _ _ _ c.requires.same (omega arith) whole.1 (subst (Acting c.args.self.now c.args.on.now c.loop-place.all) none c.loop-place.invariant)
+    let none : c.loop-index.index ≡ 0 = omega arith in
+    acting-ends _ _ _ c.requires.same (omega arith) whole.1 (subst (Acting c.args.self.now c.args.on.now c.loop-index.all) none c.loop-index.invariant)

@@ -6,7 +6,7 @@ use Rattle.mq_report.proofs.line.Line.put_number.Goals as goal
 digits : (n : ℕ) → n < 2 ^ 64 → length (decimal n) ≤ 20
 digits n small = length-decimal-le 20 n (omega arith) (omega (arith, small)) small
 
--- bytes before a place, where few stand behind it
+-- bytes before an index, where few stand behind it
 room : (start : ℕ) (bytes now : List ℕ) → drop start bytes ≡ now → length bytes ≡ 160 → length now ≤ 140 → 20 ≤ start
 room start bytes now view long short =
     let behind : length now ≡ length bytes - start = sym (ap length view) ∙ length-drop start bytes in

@@ -14,14 +14,14 @@ raise-requires c =
     let count = c.args.to - c.args.from in
     let none : List Mp = [] in
     let before = c.loop-earlier-test.true in
-    let place = c.requires.place in
+    let index = c.requires.index in
     let old = c.requires.old in
     let low = column-at c.args.old.now c.loop-earlier.earlier c.column.result.now c.column.ensures.item in
     let now = column-at c.args.now.now c.loop-earlier.earlier c.column-in-Some.result.now c.column-in-Some.ensures.item
-    ∙ (item-done none (ran places arrive demands c.args.from count) c.args.old.now c.args.now.now c.args.place c.loop-earlier.earlier before (omega arith) c.requires.done ∙ ap (ran places arrive demands c.args.from count) (sym low)) in
+    ∙ (item-done none (ran places arrive demands c.args.from count) c.args.old.now c.args.now.now c.args.index c.loop-earlier.earlier before (omega arith) c.requires.done ∙ ap (ran places arrive demands c.args.from count) (sym low)) in
     let some = c.requires.some in
     above-fits places arrive demands c.args.from count c.in-Some.by c.column.result.now c.column-in-loop-earlier.result.now c.column-in-Some.result.now (c.column.ensures.size ∙ (old ∙ step.all_rows)) c.in-Some.ensures now (omega arith)
-    (fits-at places arrive demands c.args.from count c.args.old.now c.args.place c.column-in-loop-earlier.result.now c.column-in-loop-earlier.ensures.item c.requires.fits)
+    (fits-at places arrive demands c.args.from count c.args.old.now c.args.index c.column-in-loop-earlier.result.now c.column-in-loop-earlier.ensures.item c.requires.fits)
 
 pub returns-in-Some-clause-acted : goal.returns-in-Some-clause-acted
 returns-in-Some-clause-acted c =
@@ -32,12 +32,12 @@ returns-in-Some-clause-acted c =
     let count = c.args.to - c.args.from in
     let none : List Mp = [] in
     let before = c.loop-earlier-test.true in
-    let place = c.requires.place in
+    let index = c.requires.index in
     let old = c.requires.old in
     let low = column-at c.args.old.now c.loop-earlier.earlier c.column.result.now c.column.ensures.item in
-    let high = column-at c.args.old.now c.args.place c.column-in-loop-earlier.result.now c.column-in-loop-earlier.ensures.item in
+    let high = column-at c.args.old.now c.args.index c.column-in-loop-earlier.result.now c.column-in-loop-earlier.ensures.item in
     let now = column-at c.args.now.now c.loop-earlier.earlier c.column-in-Some.result.now c.column-in-Some.ensures.item
-    ∙ (item-done none (ran places arrive demands c.args.from count) c.args.old.now c.args.now.now c.args.place c.loop-earlier.earlier before (omega arith) c.requires.done ∙ ap (ran places arrive demands c.args.from count) (sym low)) in
+    ∙ (item-done none (ran places arrive demands c.args.from count) c.args.old.now c.args.now.now c.args.index c.loop-earlier.earlier before (omega arith) c.requires.done ∙ ap (ran places arrive demands c.args.from count) (sym low)) in
     c.raise.ensures.raised
     ∙ (above places arrive demands c.args.from count c.in-Some.by c.column.result.now c.column-in-loop-earlier.result.now c.column-in-Some.result.now (c.column.ensures.size ∙ (old ∙ step.all_rows)) c.in-Some.ensures now
     ∙ ap (ran places arrive demands c.args.from count) high)
@@ -51,12 +51,12 @@ returns-in-Some-rise-clause-acted c =
     let count = c.args.to - c.args.from in
     let none : List Mp = [] in
     let before = c.loop-earlier-test.true in
-    let place = c.requires.place in
+    let index = c.requires.index in
     let old = c.requires.old in
-    let low = column-at c.args.old.now c.args.place c.column-in-loop-earlier-2.result.now c.column-in-loop-earlier-2.ensures.item in
+    let low = column-at c.args.old.now c.args.index c.column-in-loop-earlier-2.result.now c.column-in-loop-earlier-2.ensures.item in
     let high = column-at c.args.old.now c.loop-earlier.earlier c.column-in-loop-earlier-3.result.now c.column-in-loop-earlier-3.ensures.item in
     let now = column-at c.args.now.now c.loop-earlier.earlier c.column-in-Some-rise.result.now c.column-in-Some-rise.ensures.item
-    ∙ (item-done none (ran places arrive demands c.args.from count) c.args.old.now c.args.now.now c.args.place c.loop-earlier.earlier before (omega arith) c.requires.done ∙ ap (ran places arrive demands c.args.from count) (sym high)) in
+    ∙ (item-done none (ran places arrive demands c.args.from count) c.args.old.now c.args.now.now c.args.index c.loop-earlier.earlier before (omega arith) c.requires.done ∙ ap (ran places arrive demands c.args.from count) (sym high)) in
     c.lower.ensures.lowered
     ∙ (below places arrive demands c.args.from count c.in-Some-rise.by c.column-in-loop-earlier-2.result.now c.column-in-loop-earlier-3.result.now c.column-in-Some-rise.result.now (c.column-in-loop-earlier-2.ensures.size ∙ (old ∙ step.all_rows)) c.in-Some-rise.ensures now
     ∙ ap (ran places arrive demands c.args.from count) low)
@@ -64,9 +64,9 @@ returns-in-Some-rise-clause-acted c =
 pub run-requires-clause-fits : goal.run-requires-clause-fits
 run-requires-clause-fits c =
     let step = c.args.self.now in
-    fits-at step.places.now step.arrive.now step.demands.now c.args.from (c.args.to - c.args.from) c.args.old.now c.args.place c.column-2.result.now c.column-2.ensures.item c.requires.fits
+    fits-at step.places.now step.arrive.now step.demands.now c.args.from (c.args.to - c.args.from) c.args.old.now c.args.index c.column-2.result.now c.column-2.ensures.item c.requires.fits
 
 pub returns-clause-acted : goal.returns-clause-acted
 returns-clause-acted c =
     let step = c.args.self.now in
-    c.run.ensures.acted ∙ ap (ran step.places.now step.arrive.now step.demands.now c.args.from (c.args.to - c.args.from)) (column-at c.args.old.now c.args.place c.column-2.result.now c.column-2.ensures.item)
+    c.run.ensures.acted ∙ ap (ran step.places.now step.arrive.now step.demands.now c.args.from (c.args.to - c.args.from)) (column-at c.args.old.now c.args.index c.column-2.result.now c.column-2.ensures.item)

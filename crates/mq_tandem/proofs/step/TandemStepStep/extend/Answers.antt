@@ -43,8 +43,8 @@ run_each-requires-clause-fits c =
     let within = c.run_end-end.ensures.within in
     let sized = all-sized places arrive demands old (from + 0) (job-size places arrive demands (from + 0)) (c.requires.can 0 (omega arith)) in
     let fit = all-fit places arrive demands old from (c.args.to - from) sized (λ k l. c.requires.can k (omega (arith, l))) in
-    let place : from + n ≡ c.loop-at.at = omega arith in
-    subst (λ (z : ℕ × List (List Mp)). All (RunFits places arrive demands z.0 m) z.1) (λ i. (place i, sym c.loop-at.invariant.ran i)) (fit-each places arrive demands from n m (c.args.to - from) old (omega arith) fit)
+    let index : from + n ≡ c.loop-at.at = omega arith in
+    subst (λ (z : ℕ × List (List Mp)). All (RunFits places arrive demands z.0 m) z.1) (λ i. (index i, sym c.loop-at.invariant.ran i)) (fit-each places arrive demands from n m (c.args.to - from) old (omega arith) fit)
 
 pub loop-at-preserved : goal.loop-at-preserved
 loop-at-preserved c =
@@ -58,12 +58,12 @@ loop-at-preserved c =
     let begun = c.loop-at.invariant.begun in
     let more = c.run_end-end.ensures.more in
     let within = c.run_end-end.ensures.within in
-    let place : c.loop-at.at ≡ from + n = omega arith in
+    let index : c.loop-at.at ≡ from + n = omega arith in
     let count : n + m ≡ c.run_end-end.result - from = omega arith in
     record {
       ran =
           c.run_each.ensures.ran
-          ∙ ((λ i. map (ran places arrive demands (place i) m) (c.loop-at.invariant.ran i))
+          ∙ ((λ i. map (ran places arrive demands (index i) m) (c.loop-at.invariant.ran i))
           ∙ (append-each places arrive demands from n m c.args.sum.now ∙ ap (λ (k : ℕ). map (ran places arrive demands from k) c.args.sum.now) count));
       begun = omega arith;
       inside = within;

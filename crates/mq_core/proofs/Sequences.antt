@@ -1,0 +1,15 @@
+pub mod NumberFates
+pub mod NumberTotals
+pub mod NumberSpan
+pub mod NumberPast
+pub mod SequenceFlow
+pub mod SequencesEqual
+pub mod SequenceMerges
+pub mod SequenceOrder
+pub mod SequenceJobs
+pub mod SequenceTimes
+pub mod BareTimes
+pub mod SequenceFew
+pub mod NumberRuns
+pub mod OnceEach
+pub mod StationTable

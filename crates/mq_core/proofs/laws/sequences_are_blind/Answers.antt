@@ -1,0 +1,5 @@
+use Rattle.mq_core.proofs.Sequences.StationTable.{sequences-are-blind}
+use Rattle.mq_core.proofs.laws.sequences_are_blind.Goals as goal
+
+pub returns : goal.returns
+returns c = sequences-are-blind

@@ -1,0 +1,5 @@
+use Rattle.mq_core.proofs.Sequences.StationTable.{sequences-go-by_fates}
+use Rattle.mq_core.proofs.laws.sequences_go_by_fates.Goals as goal
+
+pub returns : goal.returns
+returns c = sequences-go-by_fates

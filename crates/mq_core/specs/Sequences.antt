@@ -1,0 +1,180 @@
+-- A run in sequences: what the code keeps of it, one item a visit, by position.
+use Rattle.mq_core.specs.Came.{Came}
+use Rattle.std.specs.Prelude.{All, List, Some, [], count_by, fold, if◌then◌else◌, length, map, max, slice_index, suc, sum, zero, ℕ, ◌++◌, ◌+◌, ◌-◌, ◌==◌, ◌^◌, ◌∷◌, ◌≡◌, ◌≤◌}
+use Rattle.mq_core.specs.Fates.{service_time}
+use Rattle.mq_core.specs.KindTable.{behaviour_of}
+use Rattle.mq_core.specs.Laws.{Rises}
+use Rattle.mq_core.specs.Local.{Local}
+use Rattle.mq_core.specs.Machine.{State}
+pub use Rattle.mq_core.specs.OnceOut.{departs_after, founds_from, founds_of, leaving_time, leaving_times}
+use Rattle.mq_core.specs.Results.{Late, Totals, bare_time, is_lost, late_fate, stream_from, visits_of}
+use Rattle.mq_core.specs.Sound.{outputs_in}
+use Rattle.mq_core.specs.StandardTable.{run_of}
+pub use Rattle.mq_core.specs.Streams.{by_first, pairs_of, picked, sorted, stream_by}
+use Rattle.mq_core.specs.declared.model.Fate.{Fate}
+use Rattle.mq_core.specs.declared.model.Fate.TheVariants.{Departs, Lost}
+use Rattle.mq_core.specs.declared.model.Kind.{Kind}
+use Rattle.mq_core.specs.declared.model.Node.{Node}
+use Rattle.mq_core.specs.declared.model.Plan.{Plan}
+use Rattle.mq_core.specs.declared.model.Rows.{Rows}
+use Rattle.mq_core.specs.declared.model.Run.{Run}
+use Rattle.mq_core.specs.declared.model.Stream.{Stream}
+use Rattle.mq_core.specs.declared.model.Visits.{Visits}
+
+-- Streams. One job and one time an item, and the times never fall.
+pub record IsStream (stream : Stream) : Type 0 where
+  pub even : length stream.job ≡ length stream.time
+  pub rising : Rises (λ a b. a ≤ b) stream.time
+
+-- the rows of a source, in file order, from this job on
+abbrev pub rows_at : ℕ → ℕ → List ℕ → List ℕ → List (ℕ × ℕ)
+rows_at node job [] times = []
+rows_at node job (source ∷ sources) [] = []
+rows_at node job (source ∷ sources) (time ∷ times) =
+    if source == node then (time, job) ∷ rows_at node (suc job) sources times else rows_at node (suc job) sources times
+
+-- What a station can work on: arrivals and one demand each, in their limits.
+pub record IsSoundLoad (times demands : List ℕ) : Type 0 where
+  pub few : length times ≤ 1048576
+  pub each : length demands ≡ length times
+  pub early : All (λ time. time ≤ 2 ^ 60) times
+  pub small : All (λ demand. demand ≤ 2 ^ 36) demands
+
+-- the fates of the visits of a node, which has these jobs at these times
+abbrev pub sequence_fates : Rows → Kind → Came → List Fate
+sequence_fates rows kind came = (behaviour_of kind).fates rows came
+
+-- the visits of a node, which has these jobs at these times
+abbrev pub sequence_visits : Rows → Kind → Came → Visits
+sequence_visits rows kind came =
+    record { job = came.job; arrive = came.arrive; found = (behaviour_of kind).founds rows came; fate = sequence_fates rows kind came }
+
+-- the output by which each job leaves a node of this kind, which has these jobs at these times
+abbrev pub sequence_outs : Rows → Kind → Came → List ℕ
+sequence_outs rows kind came = (behaviour_of kind).outs rows came
+
+-- the time of a departure; 0 for a lost visit, which has none
+abbrev pub time_of_fate : Fate → ℕ
+time_of_fate (Departs time) = time
+time_of_fate Lost = 0
+
+-- jobs and times by position, in the order in which they leave: by time and then position at a delay, else by position
+abbrev pub stream_in_order : Kind → Stream → Stream
+stream_in_order kind stream = stream_by (behaviour_of kind).order stream
+
+-- what leaves a node by an output, where the node has these jobs at these times
+abbrev pub sequence_stream : Rows → Kind → Came → ℕ → Stream
+sequence_stream rows kind came out = (behaviour_of kind).stream rows came out
+
+-- Totals. How long each visit waited, stayed and was served.
+abbrev pub sequence_wait : Rows → Kind → ℕ → ℕ → Fate → ℕ
+sequence_wait rows kind job arrive (Departs time) = time - arrive - bare_time rows kind job
+sequence_wait rows kind job arrive Lost = 0
+
+-- the wait of each visit
+abbrev pub sequence_waits : Rows → Kind → List ℕ → List ℕ → List Fate → List ℕ
+sequence_waits rows kind [] arrives fates = []
+sequence_waits rows kind (job ∷ jobs) [] fates = []
+sequence_waits rows kind (job ∷ jobs) (arrive ∷ arrives) [] = []
+sequence_waits rows kind (job ∷ jobs) (arrive ∷ arrives) (fate ∷ fates) = sequence_wait rows kind job arrive fate ∷ sequence_waits rows kind jobs arrives fates
+
+-- how long a visit stayed; a lost one didn't
+abbrev pub sequence_sojourn : ℕ → Fate → ℕ
+sequence_sojourn arrive (Departs time) = time - arrive
+sequence_sojourn arrive Lost = 0
+
+-- the sojourn of each visit
+abbrev pub sequence_sojourns : List ℕ → List Fate → List ℕ
+sequence_sojourns [] fates = []
+sequence_sojourns (arrive ∷ arrives) [] = []
+sequence_sojourns (arrive ∷ arrives) (fate ∷ fates) = sequence_sojourn arrive fate ∷ sequence_sojourns arrives fates
+
+-- how long a visit was served; a lost one wasn't
+abbrev pub sequence_service : Rows → Kind → ℕ → Fate → ℕ
+sequence_service rows kind job (Departs time) = service_time rows kind job
+sequence_service rows kind job Lost = 0
+
+-- the service of each visit
+abbrev pub sequence_services : Rows → Kind → List ℕ → List Fate → List ℕ
+sequence_services rows kind [] fates = []
+sequence_services rows kind (job ∷ jobs) [] = []
+sequence_services rows kind (job ∷ jobs) (fate ∷ fates) = sequence_service rows kind job fate ∷ sequence_services rows kind jobs fates
+
+-- the number just after a visit came; 0 for a lost one
+abbrev pub one_more : ℕ → Fate → ℕ
+one_more found (Departs time) = found + 1
+one_more found Lost = 0
+
+-- for each visit the number in the node just after it came; 0 for a lost one
+abbrev pub sequence_numbers : List ℕ → List Fate → List ℕ
+sequence_numbers [] fates = []
+sequence_numbers (found ∷ founds) [] = []
+sequence_numbers (found ∷ founds) (fate ∷ fates) = one_more found fate ∷ sequence_numbers founds fates
+
+-- the greatest number just after an arrival; 0 at a source or a split, which hold no job
+abbrev pub sequence_peak : Kind → List ℕ → List Fate → ℕ
+sequence_peak kind founds fates = if (behaviour_of kind).holds then fold max 0 (sequence_numbers founds fates) else 0
+
+-- the totals of a node, from its visits alone
+abbrev pub sequence_totals : Rows → Kind → Visits → Totals
+sequence_totals rows kind visits =
+    let lost = count_by is_lost visits.fate in
+    let waits = sequence_waits rows kind visits.job visits.arrive visits.fate in
+    record {
+      came = length visits.job;
+      left = length visits.job - lost;
+      lost = lost;
+      wait = sum waits;
+      longest = fold max 0 waits;
+      busy = sum (sequence_services rows kind visits.job visits.fate);
+      area = sum (sequence_sojourns visits.arrive visits.fate);
+      peak = sequence_peak kind visits.found visits.fate;
+    }
+
+-- how long each of these jobs was in the network when it left by an output
+abbrev pub stream_sojourns : Rows → List ℕ → List ℕ → List ℕ
+stream_sojourns rows [] times = []
+stream_sojourns rows (job ∷ jobs) [] = []
+stream_sojourns rows (job ∷ jobs) (time ∷ times) = (time - slice_index rows.time job) ∷ stream_sojourns rows jobs times
+
+-- how many leave by an output, and the sum of their times since their rows
+abbrev pub sequence_exit : Rows → Stream → ℕ × ℕ
+sequence_exit rows stream = (length stream.job, sum (stream_sojourns rows stream.job stream.time))
+
+-- the greatest time of a visit, or 0
+abbrev pub greatest_time : Visits → ℕ
+greatest_time visits = max (fold max 0 visits.arrive) (fold max 0 (map time_of_fate visits.fate))
+
+-- the greatest time of a visit to any node, or 0
+abbrev pub sequence_span : List Visits → ℕ
+sequence_span visits = fold max 0 (map greatest_time visits)
+
+-- Late visits. Those of these fates, the first at this position, that are a departure after the bound.
+abbrev pub sequence_late_from : ℕ → ℕ → ℕ → List Fate → List Late
+sequence_late_from bound node position [] = []
+sequence_late_from bound node position (fate ∷ fates) =
+    late_fate bound node position (Some fate) ++ sequence_late_from bound node (suc position) fates
+
+-- the visits of a node that depart after the bound, in order
+abbrev pub sequence_late : ℕ → ℕ → Visits → List Late
+sequence_late bound node visits = sequence_late_from bound node 0 visits.fate
+
+-- The sequences of a state, node by node from this one on.
+abbrev pub visits_by_node : State Local → ℕ → List Node → List Visits
+visits_by_node end node [] = []
+visits_by_node end node (n ∷ nodes) = visits_of n.kind (end.stations node) ∷ visits_by_node end (suc node) nodes
+
+-- the streams of this many outputs
+abbrev pub streams_below : State Local → ℕ → ℕ → List Stream
+streams_below end node zero = []
+streams_below end node (suc outs) = streams_below end node outs ++ stream_from (end.stations node) outs ∷ []
+
+-- the streams of each node's outputs, node by node from this one on
+abbrev pub streams_by_node : State Local → ℕ → List Node → List (List Stream)
+streams_by_node end node [] = []
+streams_by_node end node (n ∷ nodes) = streams_below end node (outputs_in n.kind) ∷ streams_by_node end (suc node) nodes
+
+-- what a run gives is the event list's run in sequences
+pub record IsRunOf (plan : Plan) (rows : Rows) (run : Run) : Type 0 where
+  pub visits : run.visits ≡ visits_by_node (run_of plan rows) 0 plan.net.nodes
+  pub outputs : run.outputs ≡ streams_by_node (run_of plan rows) 0 plan.net.nodes
