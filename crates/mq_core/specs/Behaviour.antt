@@ -41,7 +41,7 @@ pub record Behaviour : Type 1 where
   -- what an emission says of its visit
   pub fate : Emission → Fate
   -- What its recurrence says, which the event list doesn't read: laws tie the two.
-  -- the rows tell what a job asks for
+  -- the rows tell what a job asks for, each demand in its limit
   pub asked : Rows → ℕ → Type 0
   -- the service that a job asks for
   pub service : Rows → ℕ → ℕ

@@ -2,6 +2,7 @@
 use Rattle.std.specs.Prelude.{◌≡◌, ◌+◌, ◌*◌, ◌^◌, ◌≤◌, ℕ, All, length, None}
 use Rattle.mq_core.specs.NetworkRun.{past_in}
 use Rattle.mq_core.specs.Results.{past_of}
+use Rattle.mq_core.specs.SequenceLaws.{NoNodeCopies}
 use Rattle.mq_core.specs.Theorems.{IsReadFor}
 use Rattle.mq_core.specs.declared.model.Plan.{Plan}
 use Rattle.mq_core.specs.declared.model.Rows.{Rows}
@@ -11,9 +12,9 @@ use Rattle.mq_core.specs.declared.model.Rows.{Rows}
 abbrev pub latest_departure : ℕ → ℕ → ℕ → ℕ
 latest_departure last nodes jobs = last + nodes * (jobs * 2 ^ 39)
 
--- where the latest departure that there may be is no later than the bound, no departure passes it
+-- where no node copies and the latest departure that there may be is no later than the bound, no departure passes it
 abbrev pub DeparturesAreBounded : Type 0
 DeparturesAreBounded =
-    (plan : Plan) (rows : Rows) (last : ℕ) → IsReadFor plan.net rows → All (λ time. time ≤ last) rows.time →
+    (plan : Plan) (rows : Rows) (last : ℕ) → IsReadFor plan.net rows → NoNodeCopies plan.net → All (λ time. time ≤ last) rows.time →
     latest_departure last (length plan.net.nodes) (length rows.time) ≤ plan.net.bound →
     (past_of plan rows ≡ None) × (past_in plan.net rows ≡ None)

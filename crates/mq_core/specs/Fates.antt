@@ -1,5 +1,4 @@
--- What becomes of visits: their fates, sojourns, services and numbers, and the laws of the tallies.
--- How visits leave and fare, and what the tallies of a run come to.
+-- How visits leave and fare: their fates, services and numbers; and the laws of what the tallies of a run come to.
 use Rattle.std.specs.List.{AllByRecursion}
 use Rattle.std.specs.Option.{option_map}
 use Rattle.std.specs.Prelude.{Bool, IsSome, IsTrue, List, None, Option, Some, [], false, length, slice_get, ℕ, ◌++◌, ◌+◌, ◌<◌, ◌∷◌, ◌≡◌, ◌≤◌, ◌⊎◌}

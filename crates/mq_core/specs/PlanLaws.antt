@@ -1,14 +1,10 @@
 -- What the type of a plan, and rows that are read for a network, give to whoever goes over them.
-use Rattle.std.specs.Prelude.{◌≡◌, ◌≤◌, ◌<◌, ◌^◌, ℕ, false, IsTrue, List, length, take, Some, slice_get}
-use Rattle.mq_core.specs.Told.{HasDemand, HasValue}
+use Rattle.std.specs.Prelude.{◌≡◌, ◌≤◌, ◌<◌, ℕ, false, IsTrue, List, length, take, Some, slice_get}
 use Rattle.mq_core.specs.Asked.{HasDemands}
 use Rattle.mq_core.specs.Results.{servers_in}
-use Rattle.mq_core.specs.Ranges.{is_sound_demand}
 use Rattle.mq_core.specs.Sound.{is_sound_kind, outputs_in}
-use Rattle.mq_core.specs.Handling.{demand_of_job, value_of}
 use Rattle.mq_core.specs.Theorems.{IsReadFor}
 use Rattle.mq_core.specs.Wiring.{has, inputs_of}
-use Rattle.mq_core.specs.declared.model.Demand.{Demand}
 use Rattle.mq_core.specs.declared.model.Input.{Input}
 use Rattle.mq_core.specs.declared.model.Kind.{Kind}
 use Rattle.mq_core.specs.declared.model.Network.{Network}
@@ -45,12 +41,8 @@ abbrev pub OrdersRank : Type 0
 OrdersRank =
     (plan : Plan) (rank v : ℕ) → slice_get plan.order rank ≡ Some v → IsRankedBehind plan.net.nodes (take rank plan.order) v
 
--- the rows tell what a job asks for at each node of the network, in its limit
-pub record Tells (net : Network) (rows : Rows) (job : ℕ) : Type 0 where
-  pub value : (column : ℕ) → column < length net.columns → HasValue rows column job × (value_of rows column job ≤ 2 ^ 36)
-  pub demand : (demand : Demand) → IsTrue (is_sound_demand (length net.columns) demand) → HasDemand rows demand job × (demand_of_job rows demand job ≤ 2 ^ 36)
-  pub kind : (kind : Kind) → IsTrue (is_sound_kind (length net.columns) kind) → HasDemands rows kind job
-
--- rows that are read for a network tell what each of their jobs asks for
+-- rows that are read for a network tell what each of their jobs asks for at a node in its limits
 abbrev pub RowsTellDemands : Type 0
-RowsTellDemands = (net : Network) (rows : Rows) → IsReadFor net rows → (job : ℕ) → job < length rows.source → Tells net rows job
+RowsTellDemands =
+    (net : Network) (rows : Rows) → IsReadFor net rows → (job : ℕ) → job < length rows.source → (kind : Kind) → IsTrue (is_sound_kind (length net.columns) kind) →
+    HasDemands rows kind job

@@ -1,5 +1,4 @@
--- What a run tells: bare times, totals of nodes, streams of outputs, and the first visit past the bound.
--- What a run gives of a node: its visits, streams and totals, and the first departure after the bound.
+-- What a run gives of a node: its visits, streams and totals, with the bare time of a job; and the first departure after the bound.
 use Rattle.std.specs.List.{flat_map}
 use Rattle.std.specs.Option.{option_map, option_to_list}
 use Rattle.std.specs.Prelude.{Bool, List, None, Option, Some, [], count_by, false, fold, if◌then◌else◌, length, map, max, nat_lt, slice_get, slice_index, suc, sum, sum_by, true, ℕ, ◌++◌, ◌-◌, ◌∷◌}

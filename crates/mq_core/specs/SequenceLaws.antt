@@ -18,6 +18,7 @@ use Rattle.mq_core.specs.declared.model.Fate.{Fate}
 use Rattle.mq_core.specs.declared.model.Fate.TheVariants.{Departs, Lost}
 use Rattle.mq_core.specs.declared.model.Input.{Input}
 use Rattle.mq_core.specs.declared.model.Kind.{Kind}
+use Rattle.mq_core.specs.declared.model.Network.{Network}
 use Rattle.mq_core.specs.declared.model.Node.{Node}
 use Rattle.mq_core.specs.declared.model.Plan.{Plan}
 use Rattle.mq_core.specs.declared.model.Rows.{Rows}
@@ -140,8 +141,20 @@ VisitsStayBareTime =
     (position job arrive time : ℕ) → slice_get visits.job position ≡ Some job → slice_get visits.arrive position ≡ Some arrive →
     slice_get visits.fate position ≡ Some (Departs time) → arrive + bare_time rows node.kind job ≤ time
 
--- a job visits a node at most once
+-- how many jobs a node of this kind lets out at most by one event
+abbrev pub copies_of : Kind → ℕ
+copies_of kind = (behaviour_of kind).copies
+
+-- no kind lets out more than one job by an event
+abbrev pub NoKindCopies : Type 0
+NoKindCopies = (kind : Kind) → copies_of kind ≤ 1
+
+-- no node of the network does
+abbrev pub NoNodeCopies : Network → Type 0
+NoNodeCopies net = (v : ℕ) (node : Node) → slice_get net.nodes v ≡ Some node → copies_of node.kind ≤ 1
+
+-- where no node copies, a job visits a node at most once
 abbrev pub VisitsAreFew : Type 0
 VisitsAreFew =
-    (plan : Plan) (rows : Rows) → IsReadFor plan.net rows → (v : ℕ) →
+    (plan : Plan) (rows : Rows) → IsReadFor plan.net rows → NoNodeCopies plan.net → (v : ℕ) →
     length ((run_of plan rows).stations v).visits ≤ length rows.time

@@ -6,11 +6,10 @@ use Rattle.mq_core.specs.KindTable.{behaviour_of}
 use Rattle.mq_core.specs.Laws.{Rises}
 use Rattle.mq_core.specs.Local.{Local}
 use Rattle.mq_core.specs.Machine.{State}
-pub use Rattle.mq_core.specs.OnceOut.{departs_after, founds_from, founds_of, leaving_time, leaving_times}
 use Rattle.mq_core.specs.Results.{Late, Totals, bare_time, is_lost, late_fate, stream_from, visits_of}
 use Rattle.mq_core.specs.Sound.{outputs_in}
 use Rattle.mq_core.specs.StandardTable.{run_of}
-pub use Rattle.mq_core.specs.Streams.{by_first, pairs_of, picked, sorted, stream_by}
+use Rattle.mq_core.specs.Streams.{stream_by}
 use Rattle.mq_core.specs.declared.model.Fate.{Fate}
 use Rattle.mq_core.specs.declared.model.Fate.TheVariants.{Departs, Lost}
 use Rattle.mq_core.specs.declared.model.Kind.{Kind}

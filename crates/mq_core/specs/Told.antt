@@ -16,6 +16,10 @@ abbrev pub HasDemand : Rows → Demand → ℕ → Type 0
 HasDemand rows (Column column) job = HasValue rows column job
 HasDemand rows (Fixed demand) job = Unit {0}
 
+-- the rows tell what this job asks for, which is in its limit
+abbrev pub IsTold : Rows → Demand → ℕ → Type 0
+IsTold rows demand job = HasDemand rows demand job × (demand_of_job rows demand job ≤ 2 ^ 36)
+
 -- the rows tell these demands of this job, at most 8, each at most 2^36: so they can be added
 pub record AreTold (rows : Rows) (demands : List Demand) (job : ℕ) : Type 0 where
   pub few : length demands ≤ 8

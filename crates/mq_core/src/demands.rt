@@ -26,8 +26,8 @@ pub fn demand_of(rows: &Rows, demand: &Demand, job: u32) -> u64
 /// waits. That is its demand at a server, a delay or a loss station, the sum of its demands at a
 /// tandem, the greatest sum of demands of a branch at a fork-join, and 0 at a source or a split.
 ///
-/// The rows have each column that the kind's demands name, and the column has the job. Demands that
-/// are added are at most 8, and each at most 2^36.
+/// The rows have each column that the kind's demands name, and the column has the job. Each demand
+/// is at most 2^36, and those that are added are at most 8.
 pub fn bare_of(rows: &Rows, kind: &Kind, job: u32) -> u64
     requires { HasDemands rows.now kind.now job }
     ensures { result ≡ bare_time rows.now kind.now job }

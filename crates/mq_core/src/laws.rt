@@ -5,7 +5,7 @@ ghost use Rattle.mq_core.specs.PlanLaws.{NodesAreInLimits, OrdersRank, RowsTellD
 ghost use Rattle.mq_core.specs.Alone.{NodesFlowAlone};
 ghost use Rattle.mq_core.specs.Bounded.{DeparturesAreBounded};
 ghost use Rattle.mq_core.specs.Fates.{AreasAreSojourns, BusyIsServices, FoundsAreCounts, PeakIsGreatest, RunEnds, SpanIsLatest};
-ghost use Rattle.mq_core.specs.SequenceLaws.{ArrivalsAreStreams, SequencesAreBlind, SequencesGoByFates, DepartsInTime, FatesAreInTime, JobsAreRows, MergesTwice, NodesAreSequences, NodesFlow, OrdersKeepItems, StreamsRise, VisitsAreFew, VisitsStayBareTime};
+ghost use Rattle.mq_core.specs.SequenceLaws.{ArrivalsAreStreams, SequencesAreBlind, SequencesGoByFates, DepartsInTime, FatesAreInTime, JobsAreRows, MergesTwice, NoKindCopies, NodesAreSequences, NodesFlow, OrdersKeepItems, StreamsRise, VisitsAreFew, VisitsStayBareTime};
 ghost use Rattle.mq_core.specs.NumberLaws.{ExitsAreStreams, OnTimeGrows, PastIsFirst, PastIsNone, SpanIsSequences, TotalsAreSequences};
 ghost use Rattle.mq_core.specs.RunLaws.{SequencesMakeRuns, OutputsHaveStreams, RunsHaveSequences, StreamsMakeOutputs};
 
@@ -84,8 +84,8 @@ pub fn orders_rank()
     ensures { OrdersRank }
 {}
 
-/// Rows that are read for a network tell what each job asks for: each value is there, and at most
-/// 2^36.
+/// Rows that are read for a network tell what each job asks for at a node in its limits: each value
+/// is there, and each demand is at most 2^36.
 pub fn rows_tell_demands()
     ensures { RowsTellDemands }
 {}
@@ -181,7 +181,13 @@ pub fn visits_stay_their_bare_time()
     ensures { VisitsStayBareTime }
 {}
 
-/// A job visits a node at most once.
+/// No kind of node lets out more than one job by an event.
+pub fn no_kind_copies()
+    ensures { NoKindCopies }
+{}
+
+/// Where no node of a network lets out more than one job by an event, a job visits a node at most
+/// once.
 pub fn visits_are_few()
     ensures { VisitsAreFew }
 {}
@@ -206,9 +212,9 @@ pub fn streams_make_outputs()
     ensures { StreamsMakeOutputs }
 {}
 
-/// No departure passes the bound of a network where the rows come early enough: where the bound is
-/// no earlier than the time of the latest row and 2^39 ticks for each row at each node, which are
-/// the greatest demands of 8 servers.
+/// No departure passes the bound of a network where no node lets out more than one job by an event
+/// and the rows come early enough: where the bound is no earlier than the time of the latest row
+/// and 2^39 ticks for each row at each node, which are the greatest demands of 8 servers.
 pub fn departures_are_bounded()
     ensures { DeparturesAreBounded }
 {

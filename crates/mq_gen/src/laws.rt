@@ -1,7 +1,7 @@
 // What holds of the definitions.
 ghost use Rattle.mq_gen.specs.Accepted.{MadeInputsAreAccepted};
 
-use mq_core::departures_are_bounded;
+use mq_core::{departures_are_bounded, no_kind_copies};
 use mq_graph::cycles_are_left;
 use mq_model::printed_models_are_read;
 use mq_trace::traces_are_read;
@@ -14,5 +14,6 @@ pub fn made_inputs_are_accepted()
     cycles_are_left();
     printed_models_are_read();
     traces_are_read();
+    no_kind_copies();
     departures_are_bounded();
 }

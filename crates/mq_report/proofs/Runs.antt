@@ -1,19 +1,29 @@
 -- The sequences of a run, at a node and an output.
-use Rattle.std.proofs.Common.{◌≡◌, ℕ, ◌<◌, List, Some, sym, ap, ◌∙◌, length}
+use Rattle.std.proofs.Common.{◌≡◌, ℕ, ◌<◌, ◌≤◌, List, Some, sym, ap, ◌∙◌, arith, length}
 use Rattle.std.specs.Prelude.{slice_get}
 use Rattle.std.proofs.lemmas.Option.{slice_get_within}
 use Rattle.mq_base.proofs.lemmas.Lists.{some_inj}
 use Rattle.mq_core.specs.Sequences.{IsRunOf, streams_below}
 use Rattle.mq_core.specs.Results.{visits_of, stream_from}
 use Rattle.mq_core.specs.RunLaws.{RunsHaveSequences, OutputsHaveStreams}
+use Rattle.mq_core.specs.SequenceLaws.{NoKindCopies, VisitsAreFew}
 use Rattle.mq_core.specs.Sound.{outputs_in}
 use Rattle.mq_core.specs.StandardTable.{run_of}
+use Rattle.mq_core.specs.Theorems.{IsReadFor}
 use Rattle.mq_core.specs.declared.model.Node.{Node}
 use Rattle.mq_core.specs.declared.model.Plan.{Plan}
 use Rattle.mq_core.specs.declared.model.Rows.{Rows}
 use Rattle.mq_core.specs.declared.model.Run.{Run}
 use Rattle.mq_core.specs.declared.model.Stream.{Stream}
 use Rattle.mq_core.specs.declared.model.Visits.{Visits}
+
+-- a node of a run has no more visits than a trace has rows
+pub visits_few : NoKindCopies → VisitsAreFew → (plan : Plan) (rows : Rows) (v : ℕ) → IsReadFor plan.net rows → length ((run_of plan rows).stations v).visits ≤ 1048576
+visits_few single few plan rows v read =
+    let most = few plan rows read (λ u node there. single node.kind) v in
+    let times = read.times in
+    let count = read.count in
+    omega arith
 
 pub visits_inside : RunsHaveSequences → (plan : Plan) (rows : Rows) (run : Run) (v : ℕ) (node : Node) → IsRunOf plan rows run → slice_get plan.net.nodes v ≡ Some node → v < length run.visits
 visits_inside law plan rows run v node is here = slice_get_within run.visits v _ (law plan rows run is v node here).visits

@@ -11,7 +11,10 @@ ghost use Rattle.mq_report.specs.Text.{fate_words, jobs_text, node_jobs, visit_l
 
 use crate::line::Line;
 use mq_base::{Gather, Sink, SinkFault, add_bytes};
-use mq_core::{Fate, Kind, Node, Plan, Rows, Run, Visits, orders_rank, runs_have_sequences};
+use mq_core::{
+    Fate, Kind, Node, Plan, Rows, Run, Visits, no_kind_copies, orders_rank, runs_have_sequences,
+    visits_are_few,
+};
 use mq_stats::{runs_give_visits, wait_of};
 
 // Puts how a visit ended, and the end of its line, in the place of what the line had.
@@ -111,6 +114,8 @@ fn add_jobs_at<O: Sink>(
 {
     runs_have_sequences();
     runs_give_visits();
+    no_kind_copies();
+    visits_are_few();
     let name = declared.name.as_slice();
     let visits = run.visits.get(node as usize);
     add_visits(out, pending, rows, name, &declared.kind, visits)

@@ -15,9 +15,9 @@ use crate::jobs::add_jobs;
 use crate::lines::{add_exit, add_head, add_node};
 use mq_base::{Gather, List, Sink, SinkFault, flush};
 use mq_core::{
-    Input, Node, Plan, Rows, Run, exits_are_streams, nodes_are_in_limits, orders_rank,
-    outputs_have_streams, outputs_of, runs_are_of_networks, runs_have_sequences, span_is_sequences,
-    totals_are_sequences,
+    Input, Node, Plan, Rows, Run, exits_are_streams, no_kind_copies, nodes_are_in_limits,
+    orders_rank, outputs_have_streams, outputs_of, runs_are_of_networks, runs_have_sequences,
+    span_is_sequences, totals_are_sequences, visits_are_few,
 };
 use mq_stats::{Exit, NodeTotals, leaving, runs_give_streams, runs_give_visits, span, totals};
 
@@ -49,6 +49,8 @@ pub fn totals_at(plan: &Plan, rows: &Rows, run: &Run, node: u32, declared: &Node
 {
     runs_have_sequences();
     runs_give_visits();
+    no_kind_copies();
+    visits_are_few();
     totals_are_sequences();
     totals(rows, &declared.kind, run.visits.get(node as usize))
 }
@@ -146,6 +148,8 @@ fn exit_at(plan: &Plan, rows: &Rows, run: &Run, node: u32, declared: &Node, outp
     exits_are_streams();
     outputs_have_streams();
     runs_give_streams();
+    no_kind_copies();
+    visits_are_few();
     runs_have_sequences();
     leaving(rows, run.outputs.get(node as usize).get(output as usize))
 }

@@ -8,7 +8,8 @@ use Rattle.std.proofs.lemmas.List.Sums.{sum_by-append, sum_by-le-sum_by}
 use Rattle.std.proofs.lemmas.Option.{slice_get_within, get_or_from_slice_get}
 use Rattle.mq_base.proofs.lemmas.Lists.{drop_at}
 use Rattle.mq_core.specs.SequenceLaws.{LeavesFrom}
-use Rattle.mq_core.specs.Sequences.{by_first, departs_after, founds_from}
+use Rattle.mq_core.specs.OnceOut.{departs_after, founds_from}
+use Rattle.mq_core.specs.Streams.{by_first}
 use Rattle.mq_core.specs.Laws.{Rises}
 use Rattle.mq_core.specs.declared.model.Fate.{Fate}
 use Rattle.mq_core.specs.declared.model.Fate.TheVariants.{Departs, Lost}

@@ -6,7 +6,7 @@ use Rattle.std.proofs.lemmas.Bool.Decides.{nat_tests}
 use Rattle.std.proofs.lemmas.List.Sums.{length-filter}
 use Rattle.mq_base.proofs.lemmas.Each.{Each-weaker}
 use Rattle.mq_core.proofs.lemmas.Orders.{Each-order, filter-order, in_order_of-length}
-use Rattle.mq_core.specs.Sequences.{by_first}
+use Rattle.mq_core.specs.Streams.{by_first}
 use Rattle.mq_core.specs.Laws.{in_order_of, insert_by}
 use Rattle.mq_core.specs.declared.model.Fate.{Fate}
 use Rattle.mq_core.specs.declared.model.Fate.TheVariants.{Departs, Lost}

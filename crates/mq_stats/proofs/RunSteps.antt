@@ -6,7 +6,9 @@ use Rattle.std.proofs.lemmas.List.Elements.{All-nil, All-cons}
 use Rattle.std.proofs.lemmas.List.Sums.{count_by-le-length}
 use Rattle.mq_core.specs.Came.{Came}
 use Rattle.mq_core.specs.SequenceLaws.{SequencesGoByFates}
-use Rattle.mq_core.specs.Sequences.{sequence_visits, departs_after, founds_from, leaving_times, picked, sequence_fates}
+use Rattle.mq_core.specs.Sequences.{sequence_visits, sequence_fates}
+use Rattle.mq_core.specs.OnceOut.{departs_after, founds_from, leaving_times}
+use Rattle.mq_core.specs.Streams.{picked}
 use Rattle.mq_core.specs.declared.model.Fate.{Fate}
 use Rattle.mq_core.specs.declared.model.Kind.{Kind}
 use Rattle.mq_core.specs.declared.model.Rows.{Rows}

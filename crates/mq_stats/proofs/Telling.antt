@@ -15,7 +15,8 @@ use Rattle.mq_base.proofs.lemmas.Each.{Each-weaker}
 use Rattle.mq_core.proofs.lemmas.Rising.{Rises-in_order_of}
 use Rattle.mq_core.proofs.lemmas.Rising.{Rises-drop}
 use Rattle.mq_core.specs.SequenceLaws.{LeavesFrom}
-use Rattle.mq_core.specs.Sequences.{by_first, departs_after, founds_from, founds_of}
+use Rattle.mq_core.specs.OnceOut.{departs_after, founds_from, founds_of}
+use Rattle.mq_core.specs.Streams.{by_first}
 use Rattle.mq_core.specs.Laws.{Rises, in_order_of}
 use Rattle.mq_core.specs.declared.model.Fate.{Fate}
 use Rattle.mq_core.specs.declared.model.Fate.TheVariants.{Departs, Lost}

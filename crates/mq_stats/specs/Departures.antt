@@ -1,6 +1,6 @@
 -- Departures in order, by which the jobs that are gone are counted.
 use Rattle.std.specs.Prelude.{◌≡◌, ℕ, suc, ◌≤◌, ◌==◌, ◌&&◌, ◌||◌, nat_le, nat_lt, Bool, true, false, List, [], ◌∷◌, Option, Some, None}
-use Rattle.mq_core.specs.Sequences.{departs_after}
+use Rattle.mq_core.specs.OnceOut.{departs_after}
 use Rattle.mq_core.specs.Laws.{Rises}
 use Rattle.mq_core.specs.declared.model.Fate.{Fate}
 use Rattle.mq_core.specs.declared.model.Fate.TheVariants.{Departs, Lost}

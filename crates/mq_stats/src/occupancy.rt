@@ -2,7 +2,8 @@
 ghost use Rattle.std.specs.Prelude.{◌≡◌, ◌≤◌, length, cond, count_by, IfOk};
 ghost use Rattle.std.specs.List.{AllByRecursion, zip};
 ghost use Rattle.mq_core.specs.SequenceLaws.{LeavesFrom};
-ghost use Rattle.mq_core.specs.Sequences.{by_first, founds_of};
+ghost use Rattle.mq_core.specs.OnceOut.{founds_of};
+ghost use Rattle.mq_core.specs.Streams.{by_first};
 ghost use Rattle.mq_core.specs.Laws.{Rises};
 ghost use Rattle.mq_stats.specs.Departures.{Ascends, departures_from, is_gone, stays};
 

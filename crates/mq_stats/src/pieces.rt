@@ -3,7 +3,7 @@ ghost use Rattle.std.specs.Prelude.{◌≡◌, ◌+◌, ◌<◌, ◌≤◌, ℕ,
 ghost use Rattle.std.specs.List.{AllByRecursion, zip};
 ghost use Rattle.mq_base.specs.Lists.{between};
 ghost use Rattle.mq_core.specs.SequenceLaws.{LeavesFrom};
-ghost use Rattle.mq_core.specs.Sequences.{founds_of};
+ghost use Rattle.mq_core.specs.OnceOut.{founds_of};
 ghost use Rattle.mq_core.specs.Laws.{Rises};
 ghost use Rattle.mq_core.specs.declared.model.Fate.{Fate as TheFate};
 ghost use Rattle.mq_core.specs.declared.model.Fate.TheVariants.{Departs};

@@ -45,7 +45,8 @@ fn one_if_lost(fate: Fate) -> u32
 /// How long a visit waited, in ticks: its sojourn less the time that it would have stayed anyway.
 /// A lost visit waited 0.
 ///
-/// The rows have each column that the kind's demands name, and the column has the job.
+/// The rows have each column that the kind's demands name, and the column has the job. Each demand
+/// is at most 2^36.
 pub fn wait_of(rows: &Rows, kind: &Kind, job: u32, arrive: u64, fate: Fate) -> u64
     requires { HasDemands rows.now kind.now job }
     ensures { result ≡ sequence_wait rows.now kind.now job arrive fate }

@@ -1,5 +1,5 @@
 -- What jobs ask for, each at most 2^36.
-use Rattle.std.proofs.Common.{List, [], map, ℕ, ◌++◌, ◌^◌, ◌∷◌, ◌≤◌}
+use Rattle.std.proofs.Common.{List, [], map, ℕ, ◌^◌, ◌∷◌, ◌≤◌}
 use Rattle.std.specs.List.{AllByRecursion as Each}
 use Rattle.mq_base.proofs.lemmas.Each.{Each-weaker}
 use Rattle.mq_core.specs.Handling.{demand_of_job}

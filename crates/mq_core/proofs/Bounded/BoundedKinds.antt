@@ -1,27 +1,25 @@
 -- When jobs have departed at the latest from a node of each kind, and when they pass its outputs.
 use Rattle.mq_core.specs.Came.{Came}
-use Rattle.std.proofs.Common.{Bool, List, [], cond, eqb, false, length, true, ℕ, ◌*◌, ◌+◌, ◌^◌, ◌∷◌, ◌≡◌, ◌≤◌, subst, sym}
+use Rattle.std.proofs.Common.{Bool, List, [], cond, eqb, false, length, true, ℕ, ◌*◌, ◌+◌, ◌^◌, ◌∷◌, ◌≤◌, subst, sym}
 use Rattle.std.specs.List.{AllByRecursion as Each}
 use Rattle.mq_core.specs.SequenceLaws.{KeepsItems}
 use Rattle.mq_core.specs.Sequences.{sequence_fates, sequence_outs, sequence_stream}
 use Rattle.mq_core.specs.OnceOut.{leaving_times}
-use Rattle.mq_core.specs.PlanLaws.{Tells}
+use Rattle.mq_core.specs.Asked.{HasDemands}
 use Rattle.mq_core.specs.Results.{servers_in}
-use Rattle.mq_core.specs.Sound.{is_sound_kind}
 use Rattle.mq_core.specs.Streams.{picked}
 use Rattle.mq_core.specs.declared.model.Fate.{Fate}
 use Rattle.mq_core.specs.declared.model.Fate.TheVariants.{Departs, Lost}
 use Rattle.mq_core.specs.declared.model.Kind.{Kind}
-use Rattle.mq_core.specs.declared.model.Network.{Network}
 use Rattle.mq_core.specs.declared.model.Rows.{Rows}
 use Rattle.mq_core.specs.declared.model.Stream.{Stream}
 use Rattle.mq_core.proofs.Bounded.BoundedStations.{AreBy, LeaveBy}
 use Rattle.mq_core.proofs.EachKind.LawTable.{recurrence_of}
 
--- a node in its limits whose jobs come by a time: each job adds at most the demands of 8 servers
-pub fates-by : (net : Network) (rows : Rows) (kind : Kind) (came : Came) (limit top : ℕ) → is_sound_kind (length net.columns) kind ≡ true → servers_in kind ≤ 8 → Each (λ job. Tells net rows job) came.job → top + length came.arrive * 2 ^ 39 ≤ limit → AreBy top came.arrive →
+-- a node whose jobs come by a time: each job adds at most the demands of 8 servers
+pub fates-by : (rows : Rows) (kind : Kind) (came : Came) (limit top : ℕ) → servers_in kind ≤ 8 → Each (λ job. HasDemands rows kind job) came.job → top + length came.arrive * 2 ^ 39 ≤ limit → AreBy top came.arrive →
     LeaveBy limit (sequence_fates rows kind came)
-fates-by net rows kind came limit top sound few told room early = (recurrence_of rows came.ports kind).bounded net came limit top sound few told room early
+fates-by rows kind came limit top few told room early = (recurrence_of rows came.ports kind).bounded came limit top few told room early
 
 leaving-by : (limit : ℕ) (arrives : List ℕ) (fates : List Fate) → AreBy limit arrives → LeaveBy limit fates → AreBy limit (leaving_times arrives fates)
 leaving-by limit [] fates a f = tt

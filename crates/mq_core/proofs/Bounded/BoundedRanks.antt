@@ -8,13 +8,14 @@ use Rattle.std.proofs.lemmas.List.Elements.{recursion_from_All}
 use Rattle.std.specs.Option.{option_to_list}
 use Rattle.std.specs.Prelude.{◌||◌, slice_get}
 use Rattle.std.specs.List.{AllByRecursion as Each, zip}
-use Rattle.mq_core.specs.SequenceLaws.{ArrivalsAreStreams, JobsAreRows, NodesAreSequences, OrdersKeepItems, VisitsAreFew, arrives_of, jobs_of}
+use Rattle.mq_core.specs.Asked.{HasDemands}
+use Rattle.mq_core.specs.SequenceLaws.{ArrivalsAreStreams, JobsAreRows, NoNodeCopies, NodesAreSequences, OrdersKeepItems, VisitsAreFew, arrives_of, jobs_of}
 use Rattle.mq_core.specs.Sequences.{sequence_fates, sequence_late, sequence_late_from}
 use Rattle.mq_core.specs.Local.{Local}
 use Rattle.mq_core.specs.Machine.{Station, Visit}
 use Rattle.mq_core.specs.NetworkRun.{RunsAreOfNetworks}
 use Rattle.mq_core.specs.NumberLaws.{IsOnTimeBelow, PastIsNone}
-use Rattle.mq_core.specs.PlanLaws.{NodesAreInLimits, OrdersRank, RowsTellDemands, Tells}
+use Rattle.mq_core.specs.PlanLaws.{NodesAreInLimits, OrdersRank, RowsTellDemands}
 use Rattle.mq_core.specs.Results.{first_of, stream_from}
 use Rattle.mq_core.specs.StandardTable.{run_of}
 use Rattle.mq_core.specs.Streams.{pairs_of}
@@ -91,7 +92,7 @@ pub record RunLaws : Type 0 where
   pub none : PastIsNone
   pub ranks : OrdersRank
 
-module _ (laws : RunLaws) (plan : Plan) (rows : Rows) (read : IsReadFor plan.net rows) (last : ℕ) (early : AreBy last rows.time) where
+module _ (laws : RunLaws) (plan : Plan) (rows : Rows) (read : IsReadFor plan.net rows) (single : NoNodeCopies plan.net) (last : ℕ) (early : AreBy last rows.time) where
   abbrev station : ℕ → Station Local
   station v = (run_of plan rows).stations v
 
@@ -127,15 +128,16 @@ module _ (laws : RunLaws) (plan : Plan) (rows : Rows) (read : IsReadFor plan.net
             (stream-by rows node.kind (came_of (length node.inputs) (station v).visits) limit out (laws.keeps node.kind) (by-later top limit (arrives_at v) (omega arith) came) fates);
       }
     where
-      told : Each (λ job. Tells plan.net rows job) (jobs_at v)
-      told = Each-weaker (λ job. job < length rows.time) (Tells plan.net rows) (λ job l. laws.demands plan.net rows read job (subst (λ n. job < n) read.times l)) (jobs_at v) (laws.jobs plan rows v)
+      told : Each (λ job. HasDemands rows node.kind job) (jobs_at v)
+      told =
+          Each-weaker (λ job. job < length rows.time) (λ job. HasDemands rows node.kind job)
+          (λ job l. laws.demands plan.net rows read job (subst (λ n. job < n) read.times l) node.kind (laws.limits plan v node here).kind) (jobs_at v) (laws.jobs plan rows v)
 
       fates : LeaveBy limit (sequence_fates rows node.kind (came_of (length node.inputs) (station v).visits))
       fates =
-          let sound = laws.limits plan v node here in
-          let few = laws.few plan rows read v in
+          let few = laws.few plan rows read single v in
           let many = length-map (station v).visits (λ (x : Visit). x.arrive) in
-          fates-by plan.net rows node.kind (came_of (length node.inputs) (station v).visits) limit top sound.kind sound.servers told (omega arith) came
+          fates-by rows node.kind (came_of (length node.inputs) (station v).visits) limit top (laws.limits plan v node here).servers told (omega arith) came
 
   even : (v : ℕ) → length (jobs_at v) ≡ length (arrives_at v)
   even v = length-map (station v).visits (λ (x : Visit). x.job) ∙ sym (length-map (station v).visits (λ (x : Visit). x.arrive))
@@ -187,6 +189,6 @@ module _ (laws : RunLaws) (plan : Plan) (rows : Rows) (read : IsReadFor plan.net
       ∙ none-late plan.net.bound v 0 (sequence_fates rows node.kind (came_of (length node.inputs) (station v).visits)) by.fates
 
 pub departures-bounded : RunLaws → DeparturesAreBounded
-departures-bounded laws plan rows last read early room =
-    let none = laws.none plan rows read (on-time laws plan rows read last (recursion_from_All (λ time. time ≤ last) rows.time early) room) in
+departures-bounded laws plan rows last read single early room =
+    let none = laws.none plan rows read (on-time laws plan rows read single last (recursion_from_All (λ time. time ≤ last) rows.time early) room) in
     (none, sym (laws.networks plan rows).1 ∙ none)

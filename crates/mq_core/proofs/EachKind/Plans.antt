@@ -16,7 +16,6 @@ use Rattle.mq_core.specs.declared.model.Node.{Node}
 use Rattle.mq_base.proofs.lemmas.Lists.{some_inj}
 use Rattle.mq_core.proofs.EachKind.LawTable.{limits_of}
 use Rattle.mq_core.proofs.Networks.Soundness.{sound-node}
-use Rattle.mq_core.proofs.Networks.Told.{tells-demand, tells-value}
 use Rattle.mq_core.proofs.Networks.Wired.{all-inputs}
 
 -- each item has this with those before it
@@ -117,9 +116,4 @@ nodes-are-in-limits plan v node e =
     }
 
 pub rows-tell-demands : RowsTellDemands
-rows-tell-demands net rows read job below =
-    record {
-      value = tells-value net rows read job below;
-      demand = tells-demand net rows read job below;
-      kind = λ kind h. (limits_of kind).told net rows read job below h;
-    }
+rows-tell-demands net rows read job below kind sound = (limits_of kind).told net rows read job below sound

@@ -1,6 +1,6 @@
 -- What is to be shown of the recurrence of a kind that lets each visit out once: one value a kind, in the kind's folder.
 use Rattle.mq_core.specs.Came.{Came, came_by, came_of}
-use Rattle.std.proofs.Common.{◌≡◌, ℕ, ◌+◌, ◌*◌, ◌^◌, ◌≤◌, true, List, Option, map, length}
+use Rattle.std.proofs.Common.{◌≡◌, ℕ, ◌+◌, ◌*◌, ◌^◌, ◌≤◌, List, Option, map, length}
 use Rattle.std.specs.List.{AllByRecursion as Each}
 use Rattle.mq_core.specs.Behaviour.{Behaviour}
 use Rattle.mq_core.specs.SequenceLaws.{FatesInTime, arrives_of}
@@ -9,9 +9,7 @@ use Rattle.mq_core.specs.Laws.{Rises, in_order_of, stream_of}
 use Rattle.mq_core.specs.EmissionOrder.EmissionOrder.{Mixed}
 use Rattle.mq_core.specs.Machine.{Visit, Emission}
 use Rattle.mq_core.specs.OnceOut.{founds_of, once_out}
-use Rattle.mq_core.specs.PlanLaws.{Tells}
 use Rattle.mq_core.specs.Tallies.{one_if_there}
-use Rattle.mq_core.specs.declared.model.Network.{Network}
 use Rattle.mq_core.specs.declared.model.Rows.{Rows}
 use Rattle.mq_core.proofs.Bounded.BoundedStations.{AreBy, LeaveBy}
 use Rattle.mq_core.proofs.Counting.SequenceNumbers.{Numbered, EachLeavesBy}
@@ -37,7 +35,7 @@ pub record RecurrenceLaws (rows : Rows) (ports : ℕ) (b : Behaviour) : Type 0 w
   -- none departs earlier than after its bare time
   pub stays : (came : Came) → length came.job ≡ length came.arrive → FatesStay (b.bare rows) came.job came.arrive (b.fates rows came)
   -- each job adds at most the demands of 8 servers
-  pub bounded : (net : Network) (came : Came) (limit top : ℕ) → b.sound (length net.columns) ≡ true → b.servers ≤ 8 → Each (λ job. Tells net rows job) came.job → top + length came.arrive * 2 ^ 39 ≤ limit → AreBy top came.arrive → LeaveBy limit (b.fates rows came)
+  pub bounded : (came : Came) (limit top : ℕ) → b.servers ≤ 8 → Each (λ job. b.asked rows job) came.job → top + length came.arrive * 2 ^ 39 ≤ limit → AreBy top came.arrive → LeaveBy limit (b.fates rows came)
   -- by which ports jobs came changes nothing
   pub blind : (came : Came) → (b.fates rows came ≡ b.fates rows (came_by came.job came.arrive)) × (b.outs rows came ≡ b.outs rows (came_by came.job came.arrive))
   -- who leaves later than one comes is there for it

@@ -1,5 +1,5 @@
 -- What the ranges of the kind give.
-use Rattle.std.proofs.Common.{List, arith, length, [], true, ℕ, ◌<◌, ◌^◌, ◌∷◌, ◌≡◌, ◌≤◌}
+use Rattle.std.proofs.Common.{List, arith, length, [], true, ℕ, ◌<◌, ◌∷◌, ◌≡◌}
 use Rattle.std.proofs.lemmas.Bool.{and_parts}
 use Rattle.std.specs.List.{flat_map, AllByRecursion as Each, list_all}
 use Rattle.std.specs.Prelude.{nat_le, ◌&&◌}
@@ -7,8 +7,7 @@ use Rattle.mq_base.proofs.lemmas.Each.{Each-weaker, Each-append}
 use Rattle.mq_core.specs.Kinds.ForkJoin.{forkjoin}
 use Rattle.mq_core.specs.Ranges.{is_within, is_sound_demand}
 use Rattle.mq_core.specs.declared.model.Demand.{Demand}
-use Rattle.mq_core.specs.Told.{HasDemand}
-use Rattle.mq_core.specs.Handling.{demand_of_job}
+use Rattle.mq_core.specs.Told.{IsTold}
 use Rattle.mq_core.specs.Theorems.{IsReadFor}
 use Rattle.mq_core.specs.declared.model.Network.{Network}
 use Rattle.mq_core.specs.declared.model.Rows.{Rows}
@@ -17,14 +16,14 @@ use Rattle.mq_core.proofs.ForkJoin.ForkJoinShapes.{all-servers, branches-shaped}
 use Rattle.mq_core.proofs.Networks.Told.{within-most, tells-demand}
 
 -- the demands of all branches, one after another
-pub tells-demands : (net : Network) (rows : Rows) → IsReadFor net rows → (job : ℕ) → job < length rows.source → (demands : List Demand) → list_all (is_sound_demand (length net.columns)) demands ≡ true → Each (λ demand. HasDemand rows demand job × (demand_of_job rows demand job ≤ 2 ^ 36)) demands
+pub tells-demands : (net : Network) (rows : Rows) → IsReadFor net rows → (job : ℕ) → job < length rows.source → (demands : List Demand) → list_all (is_sound_demand (length net.columns)) demands ≡ true → Each (λ demand. IsTold rows demand job) demands
 tells-demands net rows read job below [] h = tt
 tells-demands net rows read job below (d ∷ ds) h =
     let a = and_parts (is_sound_demand (length net.columns) d) (list_all (is_sound_demand (length net.columns)) ds) h in
     (tells-demand net rows read job below d a.0, tells-demands net rows read job below ds a.1)
 
 pub tells-branches : (net : Network) (rows : Rows) → IsReadFor net rows → (job : ℕ) → job < length rows.source → (branches : List (List Demand)) → list_all (λ demands. is_within 1 4 (length demands) && list_all (is_sound_demand (length net.columns)) demands) branches ≡ true →
-    Each (λ demand. HasDemand rows demand job × (demand_of_job rows demand job ≤ 2 ^ 36)) (flat_map (λ demands. demands) branches)
+    Each (λ demand. IsTold rows demand job) (flat_map (λ demands. demands) branches)
 tells-branches net rows read job below [] h = tt
 tells-branches net rows read job below (demands ∷ more) h =
     let a = and_parts (is_within 1 4 (length demands) && list_all (is_sound_demand (length net.columns)) demands) _ h in

@@ -3,10 +3,10 @@ use Rattle.std.proofs.Common.{List, arith, length, refl, ℕ}
 use Rattle.std.specs.List.{flat_map}
 use Rattle.mq_base.proofs.lemmas.Each.{Each-weaker}
 use Rattle.mq_core.specs.Kinds.ForkJoin.{forkjoin}
-use Rattle.mq_core.specs.PlanLaws.{Tells}
 use Rattle.mq_core.specs.Recurrences.{forkjoin_departs}
 use Rattle.mq_core.specs.Results.{bare_time}
 use Rattle.mq_core.specs.Kinds.ForkJoin.{branch_demands}
+use Rattle.mq_core.specs.Told.{AreTold}
 use Rattle.mq_core.specs.declared.model.Demand.{Demand}
 use Rattle.mq_core.specs.declared.model.Kind.TheVariants.{ForkJoin}
 use Rattle.mq_core.specs.declared.model.Rows.{Rows}
@@ -32,8 +32,8 @@ forkjoin-recurrence rows ports branches =
       prompt = λ now m l. l;
       in_time = λ came e. when-in_forkjoin rows branches came.job came.arrive e;
       stays = λ came e. stay-fates (bare_time rows (ForkJoin branches)) came.job came.arrive _ (stay-in_forkjoin rows branches came.job came.arrive e);
-      bounded = λ net came limit top sound few told room early.
-          let small = all-small rows came.job (flat_map (λ (ds : List Demand). ds) branches) (Each-weaker _ _ (λ job (t : Tells net rows job). (t.kind (ForkJoin branches) sound).small) came.job told) in
+      bounded = λ came limit top few told room early.
+          let small = all-small rows came.job (flat_map (λ (ds : List Demand). ds) branches) (Each-weaker _ _ (λ job (t : AreTold rows (flat_map (λ (ds : List Demand). ds) branches) job). t.small) came.job told) in
           departs-by limit (forkjoin_departs came.arrive (branch_demands rows branches came.job))
           (forkjoin-by limit top (length came.arrive) came.arrive (branch_demands rows branches came.job) (omega arith) room (branches-few rows came.job branches few) early (branches-small rows came.job branches small));
       blind = λ came. (refl, refl);

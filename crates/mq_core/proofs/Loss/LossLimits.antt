@@ -14,5 +14,5 @@ loss-limits places demand =
       servers = λ columns h. omega arith;
       ports = λ inputs h. within-most 1 8 inputs h;
       reads = λ inputs starts h. absurd cc;
-      told = λ net rows read job below h. (tells-demand net rows read job below demand (and_parts (is_within 1 1048576 places) (is_sound_demand (length net.columns) demand) h).1).0;
+      told = λ net rows read job below h. tells-demand net rows read job below demand (and_parts (is_within 1 1048576 places) (is_sound_demand (length net.columns) demand) h).1;
     }

@@ -1,15 +1,13 @@
 -- The laws of the kind's recurrence.
-use Rattle.std.proofs.Common.{Bool, [], ap, arith, cond, eqb, false, length, map, refl, true, ℕ, ◌∙◌, ◌≤◌}
-use Rattle.std.proofs.lemmas.Bool.{and_parts}
+use Rattle.std.proofs.Common.{Bool, [], ap, arith, cond, eqb, false, map, refl, true, ℕ, ◌∙◌, ◌≤◌}
 use Rattle.mq_base.proofs.lemmas.Each.{Each-weaker}
 use Rattle.mq_core.specs.SequenceLaws.{arrives_of}
 use Rattle.mq_core.specs.Kinds.Loss.{out_of_fate}
 use Rattle.mq_core.specs.Sequences.{time_of_fate}
 use Rattle.mq_core.specs.Handling.{demand_of_job}
 use Rattle.mq_core.specs.Kinds.Loss.{loss}
-use Rattle.mq_core.specs.PlanLaws.{Tells}
 use Rattle.mq_core.specs.Recurrences.{loss_fates}
-use Rattle.mq_core.specs.Ranges.{is_sound_demand, is_within}
+use Rattle.mq_core.specs.Told.{IsTold}
 use Rattle.mq_core.specs.declared.model.Demand.{Demand}
 use Rattle.mq_core.specs.declared.model.Fate.TheVariants.{Departs, Lost}
 use Rattle.mq_core.specs.declared.model.Rows.{Rows}
@@ -37,9 +35,8 @@ loss-recurrence rows ports places demand =
       prompt = λ now m l. lost-prompt m.out m.time now l;
       in_time = λ came e. when-lost places (demand_of_job rows demand) [] came.job came.arrive e;
       stays = λ came e. stay-admitted places (demand_of_job rows demand) [] came.job came.arrive;
-      bounded = λ net came limit top sound few told room early.
-          let s = (and_parts (is_within 1 1048576 places) (is_sound_demand (length net.columns) demand) sound).1 in
-          let small = asked-small rows demand came.job (Each-weaker _ _ (λ job (t : Tells net rows job). (t.demand demand s).1) came.job told) in
+      bounded = λ came limit top few told room early.
+          let small = asked-small rows demand came.job (Each-weaker _ _ (λ job (t : IsTold rows demand job). t.1) came.job told) in
           loss-by limit top top places [] came.arrive (asked rows came.job demand) (omega arith) (omega arith) (omega arith) early small;
       blind = λ came. (refl, refl);
       until = λ time position o. until-own time position o;

@@ -3,9 +3,9 @@ use Rattle.std.proofs.Common.{List, None, Option, Some, arith, length, refl, sub
 use Rattle.std.proofs.lemmas.Bool.{and_parts}
 use Rattle.std.proofs.lemmas.Bool.Decides.{nat_tests}
 use Rattle.std.proofs.lemmas.Option.{slice_get-get_or}
-use Rattle.std.specs.Prelude.{nat_le, nat_lt, slice_get, slice_index, ◌&&◌}
-use Rattle.mq_core.specs.Told.{HasDemand, HasValue}
-use Rattle.mq_core.specs.Handling.{column_value, demand_of_job, value_of}
+use Rattle.std.specs.Prelude.{nat_le, nat_lt, slice_get, slice_index}
+use Rattle.mq_core.specs.Told.{HasValue, IsTold}
+use Rattle.mq_core.specs.Handling.{column_value, value_of}
 use Rattle.mq_core.specs.Ranges.{is_sound_demand, is_within}
 use Rattle.mq_core.specs.Theorems.{IsReadFor}
 use Rattle.mq_core.specs.declared.model.Demand.{Demand}
@@ -34,7 +34,8 @@ tells-value net rows read job below column inside = (
     go None e = omega arith
     go (Some values) e = read.small column values job (slice_index values job) e (slice_get-get_or values job 0 (reach values e))
 
-pub tells-demand : (net : Network) (rows : Rows) → IsReadFor net rows → (job : ℕ) → job < length rows.source → (demand : Demand) → is_sound_demand (length net.columns) demand ≡ true → HasDemand rows demand job × (demand_of_job rows demand job ≤ 2 ^ 36)
+-- a demand that is read is told, in its limit
+pub tells-demand : (net : Network) (rows : Rows) → IsReadFor net rows → (job : ℕ) → job < length rows.source → (demand : Demand) → is_sound_demand (length net.columns) demand ≡ true → IsTold rows demand job
 tells-demand net rows read job below (Column column) h =
     tells-value net rows read job below column (let t : nat_lt column (length net.columns) ≡ true = h in grind (arith, nat_tests))
 tells-demand net rows read job below (Fixed demand) h = (tt, let t : nat_le demand (2 ^ 36) ≡ true = h in grind (arith, nat_tests))

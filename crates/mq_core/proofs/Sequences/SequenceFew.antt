@@ -1,8 +1,8 @@
--- That no node has more visits than there are rows.
+-- That no node has more visits than there are rows, where none copies; and that no kind does.
 use Rattle.std.proofs.Common.{Bool, List, None, Option, Some, [], ap, arith, cond, eq-eqb, eqb, eqb-true, false, length, length-append, ltb, ltb-true, refl, suc, true, zero, ℕ, ◌*◌, ◌++◌, ◌+◌, ◌<◌, ◌∷◌, ◌≡◌, ◌≤◌}
 use Rattle.std.proofs.lemmas.Bool.Decides.{nat_tests}
 use Rattle.std.specs.Prelude.{IfSome, slice_get}
-use Rattle.mq_core.specs.SequenceLaws.{VisitsAreFew}
+use Rattle.mq_core.specs.SequenceLaws.{NoKindCopies, VisitsAreFew}
 use Rattle.mq_core.specs.Event.{Event, earliest}
 use Rattle.mq_core.specs.Event.Event.{Arrive, Finish}
 use Rattle.mq_core.specs.Local.{Local}
@@ -156,8 +156,11 @@ module _ (plan : Plan) (rows : Rows) (read : IsReadFor plan.net rows) (v : ℕ) 
           not-below : (n : ℕ) → ltb n n ≡ false
           not-below n = grind (arith, nat_tests)
 
+pub no-kind-copies : NoKindCopies
+no-kind-copies kind = (once_of (record { source = []; time = []; demands = [] }) 0 kind).one
+
 pub visits-are-few : VisitsAreFew
-visits-are-few plan rows read v = go (slice_get plan.net.nodes v) refl
+visits-are-few plan rows read single v = go (slice_get plan.net.nodes v) refl
   where
     visits : List Visit
     visits = ((run_of plan rows).stations v).visits

@@ -12,5 +12,5 @@ server-limits demand =
       servers = λ columns h. omega arith;
       ports = λ inputs h. within-most 1 8 inputs h;
       reads = λ inputs starts h. absurd cc;
-      told = λ net rows read job below h. (tells-demand net rows read job below demand h).0;
+      told = λ net rows read job below h. tells-demand net rows read job below demand h;
     }

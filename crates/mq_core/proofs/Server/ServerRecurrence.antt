@@ -3,8 +3,8 @@ use Rattle.std.proofs.Common.{arith, refl, ℕ}
 use Rattle.mq_base.proofs.lemmas.Each.{Each-weaker}
 use Rattle.mq_core.specs.Handling.{demand_of_job}
 use Rattle.mq_core.specs.Kinds.Server.{server}
-use Rattle.mq_core.specs.PlanLaws.{Tells}
 use Rattle.mq_core.specs.Recurrences.{lindley}
+use Rattle.mq_core.specs.Told.{IsTold}
 use Rattle.mq_core.specs.declared.model.Demand.{Demand}
 use Rattle.mq_core.specs.declared.model.Kind.TheVariants.{Server}
 use Rattle.mq_core.specs.declared.model.Rows.{Rows}
@@ -28,8 +28,8 @@ server-recurrence rows ports demand =
       prompt = λ now m l. l;
       in_time = λ came e. when-served 0 (demand_of_job rows demand) came.job came.arrive e;
       stays = λ came e. stay-fates (demand_of_job rows demand) came.job came.arrive _ (stay-served 0 (demand_of_job rows demand) came.job came.arrive);
-      bounded = λ net came limit top sound few told room early.
-          let small = asked-small rows demand came.job (Each-weaker _ _ (λ job (t : Tells net rows job). (t.demand demand sound).1) came.job told) in
+      bounded = λ came limit top few told room early.
+          let small = asked-small rows demand came.job (Each-weaker _ _ (λ job (t : IsTold rows demand job). t.1) came.job told) in
           departs-by limit (lindley 0 came.arrive (asked rows came.job demand)) (lindley-by limit top top 0 came.arrive (asked rows came.job demand) (omega arith) (omega arith) (omega arith) early small);
       blind = λ came. (refl, refl);
       until = λ time position o. until-own time position o;

@@ -1,12 +1,11 @@
 -- What the ranges of the kind give.
-use Rattle.std.proofs.Common.{List, arith, length, true, ℕ, ◌<◌, ◌^◌, ◌≡◌, ◌≤◌}
+use Rattle.std.proofs.Common.{List, arith, length, true, ℕ, ◌<◌, ◌≡◌}
 use Rattle.std.proofs.lemmas.List.{length-map}
 use Rattle.std.specs.List.{AllByRecursion as Each}
 use Rattle.mq_base.proofs.lemmas.Each.{Each-map, Each-weaker}
 use Rattle.mq_core.specs.Kinds.Tandem.{tandem}
 use Rattle.mq_core.specs.declared.model.Stage.{Stage}
-use Rattle.mq_core.specs.Told.{HasDemand}
-use Rattle.mq_core.specs.Handling.{demand_of_job}
+use Rattle.mq_core.specs.Told.{IsTold}
 use Rattle.mq_core.specs.Ranges.{is_sound_demand}
 use Rattle.mq_core.specs.Theorems.{IsReadFor}
 use Rattle.mq_core.specs.declared.model.Network.{Network}
@@ -16,7 +15,7 @@ use Rattle.mq_core.proofs.Tandem.TandemShapes.{sound-stages, sound-stages_demand
 use Rattle.mq_core.proofs.Networks.Told.{within-most, tells-demand}
 
 pub tells-stages : (net : Network) (rows : Rows) → IsReadFor net rows → (job : ℕ) → job < length rows.source → (stages : List Stage) → Each (λ (stage : Stage). is_sound_demand (length net.columns) stage.demand ≡ true) stages →
-    Each (λ (stage : Stage). HasDemand rows stage.demand job × (demand_of_job rows stage.demand job ≤ 2 ^ 36)) stages
+    Each (λ (stage : Stage). IsTold rows stage.demand job) stages
 tells-stages net rows read job below stages h = Each-weaker _ _ (λ (stage : Stage) k. tells-demand net rows read job below stage.demand k) stages h
 
 pub tandem-limits : (stages : List Stage) → LimitLaws (tandem stages)

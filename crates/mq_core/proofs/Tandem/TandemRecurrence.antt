@@ -1,5 +1,5 @@
 -- The laws of the kind's recurrence.
-use Rattle.std.proofs.Common.{List, [], ap, arith, length, map, refl, suc, true, ℕ, ◌*◌, ◌+◌, ◌^◌, ◌∙◌, ◌∷◌, ◌≡◌, ◌≤◌}
+use Rattle.std.proofs.Common.{List, [], ap, arith, length, map, refl, suc, ℕ, ◌*◌, ◌+◌, ◌^◌, ◌∙◌, ◌∷◌, ◌≡◌, ◌≤◌}
 use Rattle.std.proofs.lemmas.List.{length-map}
 use Rattle.std.specs.List.{AllByRecursion as Each}
 use Rattle.mq_base.proofs.lemmas.Each.{Each-weaker}
@@ -7,12 +7,10 @@ use Rattle.mq_core.specs.SequenceLaws.{arrives_of, jobs_of}
 use Rattle.mq_core.specs.Handling.{demand_of_stages}
 use Rattle.mq_core.specs.Kinds.Tandem.{tandem}
 use Rattle.mq_core.specs.Machine.{Visit}
-use Rattle.mq_core.specs.PlanLaws.{Tells}
 use Rattle.mq_core.specs.Kinds.Tandem.{tandem_times}
-use Rattle.mq_core.specs.Kinds.Tandem.{are_sound_stages}
+use Rattle.mq_core.specs.Told.{AreTold}
 use Rattle.mq_core.specs.declared.model.Fate.TheVariants.{Departs}
 use Rattle.mq_core.specs.declared.model.Kind.TheVariants.{Tandem}
-use Rattle.mq_core.specs.declared.model.Network.{Network}
 use Rattle.mq_core.specs.declared.model.Rows.{Rows}
 use Rattle.mq_core.specs.declared.model.Stage.{Stage}
 use Rattle.mq_core.proofs.Bounded.BoundedAsked.{all-small, asked}
@@ -33,11 +31,11 @@ stay-stages rows [] job arrive e = stay-fates (λ _. 0) job arrive arrive (stay-
 stay-stages rows (stage ∷ stages) job arrive e =
     stay-fates (demand_of_stages rows (stage ∷ stages)) job arrive _ (stay-in_tandem rows stage stages (map (λ _. []) (stage ∷ stages)) job arrive (ap suc (length-map stages _)) e)
 
-stages-by : (net : Network) (rows : Rows) (stages : List Stage) (jobs arrives : List ℕ) (limit top : ℕ) → are_sound_stages (length net.columns) stages ≡ true → length stages ≤ 8 → Each (λ job. Tells net rows job) jobs → top + length arrives * 2 ^ 39 ≤ limit → AreBy top arrives → LeaveBy limit (map (λ time. Departs time) (tandem_times rows stages jobs arrives))
-stages-by net rows [] jobs arrives limit top sound few told room early = departs-by limit arrives (by-later top limit arrives (omega arith) early)
-stages-by net rows (stage ∷ stages) jobs arrives limit top sound few told room early =
+stages-by : (rows : Rows) (stages : List Stage) (jobs arrives : List ℕ) (limit top : ℕ) → length stages ≤ 8 → Each (λ job. AreTold rows (map (λ (s : Stage). s.demand) stages) job) jobs → top + length arrives * 2 ^ 39 ≤ limit → AreBy top arrives → LeaveBy limit (map (λ time. Departs time) (tandem_times rows stages jobs arrives))
+stages-by rows [] jobs arrives limit top few told room early = departs-by limit arrives (by-later top limit arrives (omega arith) early)
+stages-by rows (stage ∷ stages) jobs arrives limit top few told room early =
     let all : List Stage = stage ∷ stages in
-    let small = all-small rows jobs (map (λ (s : Stage). s.demand) all) (Each-weaker _ _ (λ job (t : Tells net rows job). (t.kind (Tandem all) sound).small) jobs told) in
+    let small = all-small rows jobs (map (λ (s : Stage). s.demand) all) (Each-weaker _ _ (λ job (t : AreTold rows (map (λ (s : Stage). s.demand) all) job). t.small) jobs told) in
     let many = length-map all (λ (s : Stage). s.places) in
     departs-by limit (tandem_times rows all jobs arrives)
     (tandem-by limit top top (map (λ (s : Stage). s.places) all) (map (λ _. []) all) arrives (map (λ (s : Stage). asked rows jobs s.demand) all) (omega arith) (omega arith) (omega arith) early (none-left top all) (stages-small rows jobs all small))
@@ -53,7 +51,7 @@ tandem-recurrence rows ports stages =
       prompt = λ now m l. l;
       in_time = λ came e. fates-at_least came.arrive (tandem_times rows stages came.job came.arrive) (tandem_times-late rows stages came.job came.arrive);
       stays = λ came e. stay-stages rows stages came.job came.arrive e;
-      bounded = λ net came limit top sound few told room early. stages-by net rows stages came.job came.arrive limit top sound few told room early;
+      bounded = λ came limit top few told room early. stages-by rows stages came.job came.arrive limit top few told room early;
       blind = λ came. (refl, refl);
       until = λ time position o. until-own time position o;
       finds = λ came. refl;

@@ -10,7 +10,7 @@ use Rattle.mq_core.specs.OnceOut.{founds_of, once_out}
 use Rattle.mq_core.specs.Ranges.{columns_of_demand, is_sound_demand, is_within}
 use Rattle.mq_core.specs.Recurrences.{delayed}
 use Rattle.mq_core.specs.Tallies.{emission_at}
-use Rattle.mq_core.specs.Told.{HasDemand}
+use Rattle.mq_core.specs.Told.{IsTold}
 use Rattle.mq_core.specs.declared.model.Demand.{Demand}
 use Rattle.mq_core.specs.declared.model.Fate.{Fate}
 use Rattle.mq_core.specs.declared.model.Fate.TheVariants.{Departs}
@@ -65,7 +65,7 @@ delay demand =
       ports = λ inputs. is_within 1 8 inputs;
       sound = λ columns. is_sound_demand columns demand;
       mentioned = columns_of_demand demand;
-      asked = λ rows job. HasDemand rows demand job;
+      asked = λ rows job. IsTold rows demand job;
       bare = λ rows job. demand_of_job rows demand job;
       service = λ rows job. demand_of_job rows demand job;
       fate = λ m. Departs m.time;

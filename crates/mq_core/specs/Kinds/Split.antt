@@ -13,6 +13,8 @@ use Rattle.mq_core.specs.Machine.{Reaction, Visit}
 use Rattle.mq_core.specs.OnceOut.{founds_of, once_out}
 use Rattle.mq_core.specs.Ranges.{is_within, rises}
 use Rattle.mq_core.specs.Tallies.{emission_at}
+use Rattle.mq_core.specs.Told.{HasDemand}
+use Rattle.mq_core.specs.declared.model.Demand.TheVariants.{Column}
 use Rattle.mq_core.specs.declared.model.Fate.{Fate}
 use Rattle.mq_core.specs.declared.model.Fate.TheVariants.{Departs}
 use Rattle.mq_core.specs.declared.model.Route.{Route}
@@ -31,6 +33,12 @@ abbrev pub route_value : Rows → Route → ℕ → ℕ
 route_value rows (Modulo outputs column) job = value_of rows column job
 route_value rows (Turn outputs) job = 0
 route_value rows (Cut column thresholds) job = value_of rows column job
+
+-- the rows have the value of this job that a route looks at; by turns it looks at none
+abbrev pub HasRouteValue : Rows → Route → ℕ → Type 0
+HasRouteValue rows (Modulo outputs column) job = HasDemand rows (Column column) job
+HasRouteValue rows (Turn outputs) job = Unit {0}
+HasRouteValue rows (Cut column thresholds) job = HasDemand rows (Column column) job
 
 -- the output that a route gives to a job at a position
 abbrev pub output_by : Rows → Route → ℕ → ℕ → ℕ
@@ -88,7 +96,7 @@ split route =
       ports = λ inputs. is_within 1 8 inputs;
       sound = λ columns. is_sound_route columns route;
       mentioned = columns_of_route route;
-      asked = λ rows job. Unit {0};
+      asked = λ rows job. HasRouteValue rows route job;
       bare = λ rows job. 0;
       service = λ rows job. 0;
       fate = λ m. Departs m.time;

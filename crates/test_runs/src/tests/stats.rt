@@ -1,5 +1,5 @@
 // Worked numbers of visits: totals, exits, the span, and what each visit found.
-ghost use Rattle.std.specs.Prelude.{◌≡◌, ◌<◌, ◌≤◌, All, length, IfOk, IsTrue};
+ghost use Rattle.std.specs.Prelude.{◌≡◌, ◌<◌, ◌≤◌, ◌^◌, ℕ, All, List as Items, Some, length, slice_get, IfOk, IsTrue};
 ghost use Rattle.std.specs.List.{AllByRecursion, zip};
 ghost use Rattle.mq_core.specs.SequenceLaws.{LeavesFrom};
 ghost use Rattle.mq_core.specs.Laws.{Rises};
@@ -59,6 +59,20 @@ fn are_told(rows: &Rows, jobs: &List<u32>) -> bool
     jobs.as_slice().iter().all(|job| (*job as usize) < count)
 }
 
+// Whether the first column has values of at most 2^36.
+fn is_column_small(rows: &Rows) -> bool
+    ensures { IsTrue result → (values : Items ℕ) → slice_get rows.now.demands 0 ≡ Some values → All (λ value. value ≤ 2 ^ 36) values }
+{
+    if rows.demands.is_empty() {
+        return false;
+    }
+    let values = rows.demands.get(0);
+    values
+        .as_slice()
+        .iter()
+        .all(|value| *value <= 68_719_476_736)
+}
+
 fn are_below(jobs: &[u32], count: usize) -> bool
     ensures { IsTrue result → All (λ job. job < count) jobs.now }
 {
@@ -87,6 +101,9 @@ fn are_even(visits: &Visits) -> bool
 // Whether a server has these totals.
 fn totals_are(rows: &Rows, visits: &Visits, wanted: &NodeTotals) -> bool {
     if !are_even(visits) || !are_told(rows, &visits.job) || !are_small(&visits.found) {
+        return false;
+    }
+    if !is_column_small(rows) {
         return false;
     }
     totals(rows, &Kind::Server(Demand::Column(0)), visits) == *wanted

@@ -1,6 +1,6 @@
 use Rattle.std.proofs.Common.{◌≡◌, suc, ◌+◌, ◌-◌, Some, ap, ◌∙◌, subst, arith, count_by, take}
 use Rattle.std.specs.Prelude.{slice_get}
-use Rattle.mq_core.specs.Sequences.{departs_after}
+use Rattle.mq_core.specs.OnceOut.{departs_after}
 use Rattle.mq_stats.proofs.Founds.{count-next, founds-next, rises-at}
 use Rattle.mq_stats.proofs.InOrder.{gone-later, there-behind}
 use Rattle.mq_stats.specs.Departures.{stays}

@@ -1,7 +1,7 @@
 use Rattle.std.proofs.Common.{◌≡◌, ℕ, ◌≤◌, ◌++◌, drop, length, take, count_by, Some}
 use Rattle.std.specs.Prelude.{slice_get}
 use Rattle.std.specs.Vec.{vec_len, vec_capacity}
-use Rattle.mq_core.specs.Sequences.{departs_after, founds_from, founds_of}
+use Rattle.mq_core.specs.OnceOut.{departs_after, founds_from, founds_of}
 use Rattle.mq_stats.specs.Departures.{stays}
 use Rattle.mq_stats.proofs.in_order.found_in_order.Given as goal
 

@@ -1,5 +1,5 @@
 use Rattle.std.proofs.Common.{◌≡◌, take, count_by}
-use Rattle.mq_core.specs.Sequences.{departs_after}
+use Rattle.mq_core.specs.OnceOut.{departs_after}
 use Rattle.mq_stats.specs.Departures.{stays}
 use Rattle.mq_stats.proofs.in_order.gone_by.Given as goal
 

@@ -10,16 +10,14 @@ use Rattle.mq_stats.proofs.RunSteps.{each-so, sequences-small}
 use Rattle.mq_stats.proofs.laws.runs_give_visits.Goals as goal
 
 pub returns : goal.returns
-returns c plan rows read v node there =
+returns c plan rows read v node there few =
     let end = (run_of plan rows).stations v in
     let lengths = c.departs_in_time.ensures plan rows read v node there in
     let jobs = lengths.jobs in
     let founds = lengths.founds in
     let fates = lengths.fates in
-    let most = c.visits_are_few.ensures plan rows read v in
     let many = length-map end.visits (λ (x : Visit). x.arrive) in
     let times = read.times in
-    let count = read.count in
     let kind = (c.nodes_are_in_limits.ensures plan v node there).kind in
     record {
       few = omega arith;
@@ -28,7 +26,7 @@ returns c plan rows read v node there =
       fates = omega arith;
       told =
           each-so (λ job. job < length rows.time) (λ job. HasDemands rows node.kind job)
-          (λ job below. (c.rows_tell_demands.ensures plan.net rows read job (subst (λ n. job < n) times below)).kind node.kind kind)
+          (λ job below. c.rows_tell_demands.ensures plan.net rows read job (subst (λ n. job < n) times below) node.kind kind)
           (jobs_of end.visits) (c.jobs_are_rows.ensures plan rows v);
       small =
           sequences-small rows node.kind (came_of (length node.inputs) end.visits) (visits_of node.kind end) c.sequences_go_by_fates.ensures

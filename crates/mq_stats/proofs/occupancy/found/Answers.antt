@@ -1,5 +1,5 @@
 use Rattle.std.proofs.Common.{◌≡◌, ◌-◌, ◌≤◌, ◌+◌, sym, ap, ◌∙◌, subst, arith, count_by, take}
-use Rattle.mq_core.specs.Sequences.{departs_after}
+use Rattle.mq_core.specs.OnceOut.{departs_after}
 use Rattle.mq_stats.proofs.Founds.{told, founds-next, count-next, gone-next}
 use Rattle.mq_stats.proofs.Ordered.{ascends}
 use Rattle.mq_stats.specs.Departures.{Ascends, is_gone, stays}

@@ -1,7 +1,7 @@
 use Rattle.std.proofs.Common.{◌≡◌, ℕ, ◌≤◌, ◌++◌, drop, take, count_by, length, Some}
 use Rattle.std.specs.Prelude.{slice_get}
 use Rattle.std.specs.Vec.{vec_len, vec_capacity}
-use Rattle.mq_core.specs.Sequences.{founds_from, founds_of}
+use Rattle.mq_core.specs.OnceOut.{founds_from, founds_of}
 use Rattle.mq_stats.specs.Departures.{is_gone, stays}
 use Rattle.mq_stats.proofs.occupancy.found.Given as goal
 

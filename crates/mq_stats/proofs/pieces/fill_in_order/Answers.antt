@@ -2,7 +2,7 @@ use Rattle.std.proofs.Common.{◌≡◌, ◌+◌, ◌≤◌, refl, sym, ap, ◌�
 use Rattle.std.proofs.lemmas.List.Sums.{count_by-le-length}
 use Rattle.std.specs.Prelude.{nat_le}
 use Rattle.std.proofs.lemmas.Option.{slice_get-get_or}
-use Rattle.mq_core.specs.Sequences.{founds_from}
+use Rattle.mq_core.specs.OnceOut.{founds_from}
 use Rattle.mq_core.specs.declared.model.Fate.TheVariants.{Departs}
 use Rattle.mq_stats.proofs.Passing.{up_to}
 use Rattle.mq_stats.proofs.Telling.{fills-next, founds-start, left-on}

@@ -1,5 +1,5 @@
 use Rattle.std.proofs.Common.{◌≡◌, ◌+◌, ◌-◌, ◌<◌, ◌≤◌, ◌++◌, drop, get_or, take, map, length}
-use Rattle.mq_core.specs.Sequences.{founds_from, founds_of}
+use Rattle.mq_core.specs.OnceOut.{founds_from, founds_of}
 use Rattle.mq_core.specs.declared.model.Fate.TheVariants.{Departs}
 use Rattle.mq_stats.proofs.Passing.{up_to}
 use Rattle.mq_stats.proofs.pieces.fill_in_order.Given as goal

@@ -1,7 +1,7 @@
 use Rattle.std.proofs.Common.{◌≡◌, ◌-◌, ◌+◌, ◌≤◌, ap, ◌∙◌, sym, subst, arith, take, count_by}
 use Rattle.std.specs.Prelude.{nat_le}
 use Rattle.std.proofs.lemmas.List.Sums.{count_by-le-length}
-use Rattle.mq_core.specs.Sequences.{departs_after}
+use Rattle.mq_core.specs.OnceOut.{departs_after}
 use Rattle.mq_core.specs.Laws.{Rises}
 use Rattle.mq_stats.proofs.Founds.{founds-next}
 use Rattle.mq_stats.proofs.Passing.{up_to}

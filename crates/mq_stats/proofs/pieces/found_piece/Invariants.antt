@@ -1,7 +1,7 @@
 use Rattle.std.proofs.Common.{◌≡◌, ℕ, ◌+◌, ◌≤◌, ◌++◌, List, drop, take, Some}
 use Rattle.std.specs.Prelude.{slice_get}
 use Rattle.std.specs.Vec.{vec_len, vec_capacity}
-use Rattle.mq_core.specs.Sequences.{founds_from, founds_of}
+use Rattle.mq_core.specs.OnceOut.{founds_from, founds_of}
 use Rattle.mq_core.specs.declared.model.Fate.{Fate}
 use Rattle.mq_stats.proofs.Passing.{up_to}
 use Rattle.mq_stats.specs.Ahead.{IsAhead}
