@@ -1,2 +1,2 @@
-mod Recurrence
-mod ForkJoining
+pub mod Recurrence
+pub mod ForkJoining

@@ -6,6 +6,7 @@ use Rattle.std.proofs.lemmas.List.Elements.{All-get_or, All-nil, All-cons, All-h
 use Rattle.mq_base.proofs.lemmas.Lists.{drop_at}
 use Rattle.mq_core.specs.Sequences.{IsSoundLoad}
 use Rattle.mq_core.specs.Recurrences.{lindley, in_series}
+use Rattle.mq_forkjoin.specs.Branches.{Passing}
 
 -- there are as many departures as arrivals
 pub length-lindley : (last : ℕ) (times demands : List ℕ) → length demands ≡ length times → length (lindley last times demands) ≡ length times
@@ -24,12 +25,6 @@ latest top done last (time ∷ times) (demand ∷ demands) l ts ds =
     let many : done + 1 + length times ≡ done + suc (length times) = omega arith in
     let first : max time last + demand ≤ top + (done + suc (length times)) * 2 ^ 36 = omega arith in
     All-cons (λ t. t ≤ top + (done + suc (length times)) * 2 ^ 36) (max time last + demand) _ first (subst (λ n. All (λ t. t ≤ top + n * 2 ^ 36) (lindley (max time last + demand) times demands)) many (latest top (done + 1) (max time last + demand) times demands now (All-tail (λ t. t ≤ top) time times ts) (All-tail (λ d. d ≤ 2 ^ 36) demand demands ds)))
-
--- What is kept of a branch: its departures so far, and what its servers that are left make of them.
-pub record Passing (arrive departs : List ℕ) (demands : List (List ℕ)) (server : ℕ) : Type 0 where
-  pub so_far : in_series departs (drop server demands) ≡ in_series arrive demands
-  pub many : length departs ≡ length arrive
-  pub early : All (λ time. time ≤ 2 ^ 60 + server * 2 ^ 56) departs
 
 -- the first server has what came
 pub passing-begins : (arrive departs : List ℕ) (demands : List (List ℕ)) → departs ≡ arrive → All (λ time. time ≤ 2 ^ 60) arrive → Passing arrive departs demands 0

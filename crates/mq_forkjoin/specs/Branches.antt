@@ -1,5 +1,6 @@
 -- The servers of a fork-join, branch after branch.
-use Rattle.std.specs.Prelude.{◌≡◌, ◌≤◌, All, ℕ, List, [], ◌∷◌, length, sum, take, drop}
+use Rattle.std.specs.Prelude.{◌≡◌, ◌+◌, ◌*◌, ◌^◌, ◌≤◌, All, ℕ, List, [], ◌∷◌, length, sum, take, drop}
+use Rattle.mq_core.specs.Recurrences.{in_series}
 
 -- the demands of the servers, cut into branches of these many servers
 abbrev pub branches_of : List ℕ → List (List ℕ) → List (List (List ℕ))
@@ -12,3 +13,9 @@ pub record AreBranches (branches : List ℕ) (demands : List (List ℕ)) : Type 
   pub served : All (λ servers. 1 ≤ servers) branches
   pub few : sum branches ≤ 8
   pub each : length demands ≡ sum branches
+
+-- jobs have come through so many servers of a branch at these times: what the others make of them is what all make of the arrivals
+pub record Passing (arrive departs : List ℕ) (demands : List (List ℕ)) (server : ℕ) : Type 0 where
+  pub so_far : in_series departs (drop server demands) ≡ in_series arrive demands
+  pub many : length departs ≡ length arrive
+  pub early : All (λ time. time ≤ 2 ^ 60 + server * 2 ^ 56) departs

@@ -60,8 +60,13 @@ fn branch_departures(
     Ok(departs)
 }
 
-// Index by index the later of two times.
-fn later_times(alloc: Global, one: &List<u64>, other: &List<u64>) -> Result<List<u64>, OutOfMemory>
+/// Index by index the later of two times, in ticks. The lists are of one length. It refuses for want of
+/// memory alone.
+pub fn later_times(
+    alloc: Global,
+    one: &List<u64>,
+    other: &List<u64>,
+) -> Result<List<u64>, OutOfMemory>
     requires { length one.now ≡ length other.now }
     ensures { IfOk result (λ later. later ≡ later_of one.now other.now) }
 {

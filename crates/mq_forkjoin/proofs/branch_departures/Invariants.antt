@@ -1,4 +1,4 @@
-use Rattle.mq_forkjoin.proofs.Recurrence.{Passing}
+use Rattle.mq_forkjoin.specs.Branches.{Passing}
 use Rattle.mq_forkjoin.proofs.branch_departures.Given as goal
 
 abbrev pub invariant-loop-column : goal.invariant-loop-column
