@@ -3,7 +3,8 @@ use Rattle.std.proofs.Common.{◌≡◌, ℕ, List, length, map, sym, ap, ◌∙
 use Rattle.std.specs.List.{zip}
 use Rattle.std.proofs.lemmas.Slice.Zip.{firsts-zip}
 use Rattle.mq_core.proofs.lemmas.Orders.{firsts-order}
-use Rattle.mq_core.specs.Sequences.{IsStream, by_first, pairs_of}
+use Rattle.mq_core.specs.Sequences.{IsStream}
+use Rattle.mq_core.specs.Streams.{by_first, pairs_of}
 use Rattle.mq_core.specs.Laws.{in_order_of}
 use Rattle.mq_core.specs.declared.model.Stream.{Stream}
 

@@ -3,7 +3,8 @@
 
 ghost use Rattle.std.specs.Prelude.{◌≡◌, ◌≤◌, length, IfOk};
 ghost use Rattle.std.specs.List.{zip};
-ghost use Rattle.mq_core.specs.Sequences.{IsSoundLoad, IsStream, by_first, pairs_of};
+ghost use Rattle.mq_core.specs.Sequences.{IsSoundLoad, IsStream};
+ghost use Rattle.mq_core.specs.Streams.{by_first, pairs_of};
 ghost use Rattle.mq_core.specs.Laws.{in_order_of};
 ghost use Rattle.mq_core.specs.Recurrences.{delayed};
 

@@ -1,7 +1,8 @@
 // Jobs put in order of the times at which they pass.
 ghost use Rattle.std.specs.Prelude.{◌≡◌, ◌≤◌, length, IfOk};
 ghost use Rattle.std.specs.List.{zip};
-ghost use Rattle.mq_core.specs.Sequences.{IsStream, by_first, pairs_of};
+ghost use Rattle.mq_core.specs.Sequences.{IsStream};
+ghost use Rattle.mq_core.specs.Streams.{by_first, pairs_of};
 ghost use Rattle.mq_core.specs.Laws.{Rises};
 
 use crate::sort::{par_sort_by_first, sort_by_first};

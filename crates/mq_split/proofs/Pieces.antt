@@ -2,7 +2,7 @@
 use Rattle.std.proofs.Common.{◌≡◌, ℕ, suc, ◌+◌, ◌≤◌, ◌==◌, Bool, true, false, cond, List, [], ◌∷◌, ◌++◌, length, refl, sym, ap, ◌∙◌, arith}
 use Rattle.mq_base.proofs.lemmas.Between.{between-all, between-join, length-between}
 use Rattle.mq_base.specs.Lists.{between}
-use Rattle.mq_core.specs.Sequences.{picked}
+use Rattle.mq_core.specs.Streams.{picked}
 use Rattle.mq_core.specs.Kinds.Split.{output_at}
 use Rattle.mq_core.specs.declared.model.Route.{Route}
 use Rattle.mq_split.proofs.Parts.{length-outs_from}

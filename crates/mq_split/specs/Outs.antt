@@ -1,7 +1,7 @@
 -- What a split asks of its route, and the streams that leave it.
 use Rattle.std.specs.Prelude.{◌≡◌, ◌<◌, ◌≤◌, ◌++◌, ℕ, suc, List, [], ◌∷◌, length, slice_get, Some}
 use Rattle.mq_base.specs.Lists.{between}
-use Rattle.mq_core.specs.Sequences.{picked}
+use Rattle.mq_core.specs.Streams.{picked}
 use Rattle.mq_core.specs.Kinds.Split.{output_at, outputs_by}
 use Rattle.mq_core.specs.declared.model.Route.{Route}
 use Rattle.mq_core.specs.declared.model.Stream.{Stream}

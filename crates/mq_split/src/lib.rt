@@ -3,7 +3,8 @@
 
 ghost use Rattle.std.specs.Prelude.{◌≡◌, ◌==◌, ◌+◌, ◌<◌, ◌≤◌, ◌^◌, ℕ, length, count_by, nat_le, IfOk};
 ghost use Rattle.mq_base.specs.Lists.{between};
-ghost use Rattle.mq_core.specs.Sequences.{IsStream, picked};
+ghost use Rattle.mq_core.specs.Sequences.{IsStream};
+ghost use Rattle.mq_core.specs.Streams.{picked};
 ghost use Rattle.mq_core.specs.Kinds.Split.{output_at, outputs_by};
 ghost use Rattle.mq_split.specs.Outs.{AreParts, ArePieces, HasOutputs, PiecesJoin, outs_from};
 

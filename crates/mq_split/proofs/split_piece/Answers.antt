@@ -1,7 +1,7 @@
 use Rattle.std.proofs.Common.{◌≡◌, ◌-◌, ◌+◌, length, sym, ap, ◌∙◌, ◌∷◌, [], length-append, arith}
 use Rattle.mq_base.proofs.lemmas.Between.{length-between}
 use Rattle.mq_base.specs.Lists.{between}
-use Rattle.mq_core.specs.Sequences.{picked}
+use Rattle.mq_core.specs.Streams.{picked}
 use Rattle.mq_split.proofs.Parts.{length-outs_from, parts-next}
 use Rattle.mq_split.specs.Outs.{outs_from, piece_of}
 use Rattle.mq_split.proofs.split_piece.Goals as goal

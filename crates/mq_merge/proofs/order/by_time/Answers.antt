@@ -1,7 +1,7 @@
 use Rattle.std.proofs.Common.{◌≤◌, ℕ, sym, ap, ◌∙◌, subst}
 use Rattle.std.proofs.lemmas.Result.{IfOk-weaker}
 use Rattle.mq_core.proofs.lemmas.Rising.{Rises-in_order_of}
-use Rattle.mq_core.specs.Sequences.{by_first}
+use Rattle.mq_core.specs.Streams.{by_first}
 use Rattle.mq_core.specs.Laws.{Rises}
 use Rattle.mq_merge.proofs.order.by_time.Goals as goal
 
