@@ -3,7 +3,9 @@ use Rattle.std.proofs.Common.{◌≡◌, ℕ, suc, ◌^◌, ◌≤◌, Bool, tru
 use Rattle.std.specs.Prelude.{slice_get}
 use Rattle.std.specs.List.{AllByRecursion as Each, flat_map, zip}
 use Rattle.mq_base.proofs.lemmas.Each.{Each-append}
-use Rattle.mq_core.specs.Sequences.{IsStream, by_first, leaving_times, pairs_of, picked, rows_at, time_of_fate}
+use Rattle.mq_core.specs.Sequences.{IsStream, rows_at, time_of_fate}
+use Rattle.mq_core.specs.OnceOut.{leaving_times}
+use Rattle.mq_core.specs.Streams.{by_first, pairs_of, picked}
 use Rattle.mq_core.specs.Laws.{insert_by}
 use Rattle.mq_core.specs.declared.model.Fate.{Fate}
 use Rattle.mq_core.specs.declared.model.Fate.TheVariants.{Departs, Lost}

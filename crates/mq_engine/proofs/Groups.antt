@@ -10,7 +10,7 @@ use Rattle.mq_core.specs.declared.model.Rows.{Rows}
 use Rattle.mq_core.specs.declared.model.Stream.{Stream}
 use Rattle.mq_scan.specs.declared.blocks.Blocks.{Blocks}
 use Rattle.mq_engine.specs.declared.loads.Scan.{Scan}
-use Rattle.mq_engine.specs.declared.loads.Scan.TheVariants.{OfServer, OfTandem, Unscanned}
+use Rattle.mq_engine.specs.declared.loads.Scan.TheVariants.{OfForkJoin, OfServer, OfTandem, Unscanned}
 use Rattle.mq_engine.proofs.Lists.{Each-at}
 use Rattle.mq_engine.specs.Loads.{IsApplied, IsClosed, IsLoaded, IsLoadOf, IsScanOf, IsPart, IsReadyExit, IsReadyLoad, IsReadyMiddle, IsResultOf, applied_of, blocks_of, closings_of}
 use Rattle.mq_engine.specs.Progress.{IsWorkedOut}
@@ -149,7 +149,7 @@ loads-known plan rows ready loads read e h =
     (Each-at IsReadyLoad loads (λ k load g. (each k load g).0), Each-at (IsLoadOf plan rows ready) loads (λ k load g. (each k load g).1))
 
 -- a scan has no more blocks than jobs
-blocks-few : (blocks : Blocks) → blocks.blocks ≤ blocks.n
+pub blocks-few : (blocks : Blocks) → blocks.blocks ≤ blocks.n
 blocks-few blocks = go (cases_lt blocks.n blocks.blocks)
   where
     go : (blocks.n < blocks.blocks) ⊎ (blocks.blocks ≤ blocks.n) → blocks.blocks ≤ blocks.n
@@ -176,8 +176,9 @@ scan-few : (rows : Rows) (kind : Kind) (arrivals : Stream) (scan : Scan) → len
 scan-few rows kind arrivals Unscanned few h = (omega arith, omega arith)
 scan-few rows kind arrivals (OfServer its) few h = let most = blocks-few its.blocks in let n = h.2.blocks.0 in (omega arith, omega arith)
 scan-few rows kind arrivals (OfTandem its) few h = let most = blocks-few its.blocks in let n = h.2.blocks.0 in (omega arith, omega arith)
+scan-few rows kind arrivals (OfForkJoin its) few h = (omega arith, omega arith)
 
-all-few : {P : Type 0} (size : P → ℕ) (parts : List P) → AllByRecursion (λ p. size p ≤ 1048576) parts → total_size size parts ≤ length parts * 1048576
+pub all-few : {P : Type 0} (size : P → ℕ) (parts : List P) → AllByRecursion (λ p. size p ≤ 1048576) parts → total_size size parts ≤ length parts * 1048576
 all-few size [] h = omega arith
 all-few size (p ∷ ps) h = let first = h.0 in let rest = all-few size ps h.1 in omega arith
 

@@ -1,6 +1,6 @@
 -- What leaves a station, and which of it is late.
 use Rattle.std.proofs.Common.{◌≡◌, ℕ, zero, suc, ◌+◌, ◌^◌, ◌<◌, ◌≤◌, ◌⊎◌, inl, inr, All, Bool, true, false, cond, List, [], ◌∷◌, ◌++◌, length, drop, map, max, Option, Some, None, sym, refl, ap, ◌∙◌, subst, arith}
-use Rattle.std.specs.Prelude.{IsTrue, nat_le, nat_lt, slice_get}
+use Rattle.std.specs.Prelude.{nat_le, nat_lt, slice_get}
 use Rattle.std.specs.List.{AllByRecursion as Each, list_all}
 use Rattle.std.proofs.lemmas.Bool.{and_parts}
 use Rattle.std.proofs.lemmas.Bool.Decides.{nat_tests}
@@ -8,18 +8,20 @@ use Rattle.std.proofs.lemmas.List.{length-map}
 use Rattle.mq_base.proofs.lemmas.Lists.{drop_suc, some_inj}
 use Rattle.mq_core.specs.Came.{came_in}
 use Rattle.mq_core.specs.SequenceLaws.{SequencesGoByFates, FatesAreInTime}
-use Rattle.mq_core.specs.Sequences.{IsSoundLoad, IsStream, sequence_fates, sequence_late_from, sequence_outs, sequence_stream, leaving_times, picked, stream_in_order, time_of_fate}
+use Rattle.mq_core.specs.Sequences.{IsSoundLoad, IsStream, sequence_fates, sequence_late_from, sequence_outs, sequence_stream, stream_in_order, time_of_fate}
+use Rattle.mq_core.specs.OnceOut.{leaving_times}
+use Rattle.mq_core.specs.Streams.{picked}
 use Rattle.mq_core.specs.Kinds.Split.{routes_from}
 use Rattle.mq_core.specs.Kinds.ForkJoin.{branch_demands}
 use Rattle.mq_core.specs.Kinds.Tandem.{tandem_times}
 use Rattle.mq_core.specs.Laws.{Rises}
 use Rattle.mq_core.specs.Recurrences.{delayed, forkjoin_departs, lindley}
 use Rattle.mq_core.specs.Results.{Late, first_of, late_fate}
-use Rattle.mq_core.specs.Ranges.{is_sound_demand, is_within, rises}
+use Rattle.mq_core.specs.Ranges.{is_within, rises}
 use Rattle.mq_core.specs.Sound.{outputs_in}
-use Rattle.mq_core.specs.Handling.{demand_of_job, value_of}
+use Rattle.mq_core.specs.Handling.{demand_of_job}
 use Rattle.mq_core.specs.Kinds.Split.{is_sound_route, output_by, route_value}
-use Rattle.mq_core.specs.Told.{HasValue}
+use Rattle.mq_core.specs.Told.{IsTold}
 use Rattle.mq_core.specs.declared.model.Demand.{Demand}
 use Rattle.mq_core.specs.declared.model.Fate.{Fate}
 use Rattle.mq_core.specs.declared.model.Fate.TheVariants.{Departs, Lost}
@@ -32,7 +34,7 @@ use Rattle.mq_core.specs.declared.model.Stage.{Stage}
 use Rattle.mq_core.specs.declared.model.Stream.{Stream}
 use Rattle.mq_split.specs.Outs.{AreParts, HasOutputs, outs_from}
 use Rattle.mq_engine.specs.Loads.{AreServed}
-use Rattle.mq_engine.specs.Working.{AreAsked, AreLeft, AreRouted, HasRouteValue, IsLeaving, IsLoad, LeaveByPosition, left_by}
+use Rattle.mq_engine.specs.Working.{AreAsked, AreLeft, IsLeaving, IsLoad, LeaveByPosition, left_by}
 use Rattle.mq_engine.proofs.Lists.{Each-get_or}
 
 -- a departure of each time is at that time
@@ -97,23 +99,12 @@ small-demands : (f : ℕ → ℕ) (jobs : List ℕ) → ((k job : ℕ) → slice
 small-demands f [] h = tt
 small-demands f (j ∷ js) h = (h 0 j refl, small-demands f js (λ k job e. h (suc k) job e))
 
-pub asked-each : (rows : Rows) (kind : Kind) (demand : Demand) (arrivals : Stream) → (h : IsLoad rows kind arrivals) → IsTrue (is_sound_demand (length h.net.columns) demand) → AreAsked rows demand arrivals.job
-asked-each rows kind demand arrivals h sound k job g = ((h.told k job g).demand demand sound).0
+-- the rows tell what each of these jobs asks for by this demand, which is in its limit
+abbrev pub AreToldBy : Rows → Demand → List ℕ → Type 0
+AreToldBy rows demand jobs = (k job : ℕ) → slice_get jobs k ≡ Some job → IsTold rows demand job
 
-below : (a b : ℕ) → nat_lt a b ≡ true → a < b
-below a b h = grind (arith, nat_tests)
-
-has-route : (columns : ℕ) (rows : Rows) (route : Route) (job : ℕ) → is_sound_route columns route ≡ true → ((column : ℕ) → column < columns → HasValue rows column job × (value_of rows column job ≤ 2 ^ 36)) → HasRouteValue rows route job
-has-route columns rows (Modulo outputs column) job s h =
-    let inside : nat_lt column columns ≡ true = (and_parts (is_within 2 8 outputs) (nat_lt column columns) s).1 in (h column (below column columns inside)).0
-has-route columns rows (Turn outputs) job s h = tt
-has-route columns rows (Cut column thresholds) job s h =
-    let a = and_parts _ (list_all (λ threshold. nat_le threshold (2 ^ 36)) thresholds) s in
-    let b = and_parts _ (rises thresholds) a.0 in
-    let inside : nat_lt column columns ≡ true = (and_parts (nat_lt column columns) (is_within 1 7 (length thresholds)) b.0).0 in (h column (below column columns inside)).0
-
-pub routed-each : (rows : Rows) (route : Route) (arrivals : Stream) → IsLoad rows (Split route) arrivals → AreRouted rows route arrivals.job
-routed-each rows route arrivals h = λ k job g. has-route (length h.net.columns) rows route job h.sound (h.told k job g).value
+pub asked-each : (rows : Rows) (demand : Demand) (jobs : List ℕ) → AreToldBy rows demand jobs → AreAsked rows demand jobs
+asked-each rows demand jobs told k job g = (told k job g).0
 
 within : (low high n : ℕ) → is_within low high n ≡ true → (low ≤ n) × (n ≤ high)
 within low high n h =
@@ -138,15 +129,15 @@ has-outputs columns (Cut column thresholds) s =
     record { least = omega arith; most = omega arith }
 
 pub routed-outputs : (rows : Rows) (route : Route) (arrivals : Stream) → IsLoad rows (Split route) arrivals → HasOutputs route
-routed-outputs rows route arrivals h = has-outputs (length h.net.columns) route h.sound
+routed-outputs rows route arrivals h = has-outputs h.columns route h.sound
 
-pub load-sound : (rows : Rows) (kind : Kind) (demand : Demand) (arrivals : Stream) (demands : List ℕ) → (h : IsLoad rows kind arrivals) → IsTrue (is_sound_demand (length h.net.columns) demand) → demands ≡ map (demand_of_job rows demand) arrivals.job → IsSoundLoad arrivals.time demands
-load-sound rows kind demand arrivals demands h sound e =
+pub load-sound : (rows : Rows) (kind : Kind) (demand : Demand) (arrivals : Stream) (demands : List ℕ) → IsLoad rows kind arrivals → AreToldBy rows demand arrivals.job → demands ≡ map (demand_of_job rows demand) arrivals.job → IsSoundLoad arrivals.time demands
+load-sound rows kind demand arrivals demands h told e =
     record {
       few = h.few;
       each = ap length e ∙ (length-map arrivals.job _ ∙ h.ordered.ordered.even);
       early = λ k d l. Each-get_or (λ time. time ≤ 2 ^ 60) arrivals.time h.ordered.early k d l;
-      small = subst (All (λ d. d ≤ 2 ^ 36)) (sym e) (λ k d l. Each-get_or (λ d. d ≤ 2 ^ 36) _ (small-demands (demand_of_job rows demand) arrivals.job (λ j job g. ((h.told j job g).demand demand sound).1)) k d l);
+      small = subst (All (λ d. d ≤ 2 ^ 36)) (sym e) (λ k d l. Each-get_or (λ d. d ≤ 2 ^ 36) _ (small-demands (demand_of_job rows demand) arrivals.job (λ j job g. (told j job g).1)) k d l);
     }
 
 pub departs_inj : (a b : ℕ) → Departs a ≡ Departs b → a ≡ b

@@ -8,7 +8,9 @@ use Rattle.mq_base.proofs.lemmas.Lists.{some_inj}
 use Rattle.mq_base.proofs.lemmas.Zips.{zip-map}
 use Rattle.mq_core.specs.Came.{came_in}
 use Rattle.mq_core.specs.SequenceLaws.{FatesAreInTime, SequencesGoByFates}
-use Rattle.mq_core.specs.Sequences.{IsStream, by_first, sequence_fates, sequence_outs, founds_of, leaving_times, pairs_of, picked, sorted, stream_in_order, sequence_visits}
+use Rattle.mq_core.specs.Sequences.{IsStream, sequence_fates, sequence_outs, stream_in_order, sequence_visits}
+use Rattle.mq_core.specs.OnceOut.{founds_of, leaving_times}
+use Rattle.mq_core.specs.Streams.{by_first, pairs_of, picked, sorted}
 use Rattle.mq_core.specs.Sound.{outputs_in}
 use Rattle.mq_core.specs.declared.model.Demand.{Demand}
 use Rattle.mq_core.specs.declared.model.Fate.{Fate}

@@ -12,3 +12,5 @@ pub mod Endings
 pub mod Scanning
 pub mod Groups
 pub mod Closings
+pub mod Serving
+pub mod Branching

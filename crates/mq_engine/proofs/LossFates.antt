@@ -7,7 +7,9 @@ use Rattle.std.proofs.lemmas.List.{append-nil, drop_all, length-map}
 use Rattle.mq_base.proofs.lemmas.Lists.{drop_suc}
 use Rattle.mq_core.specs.Came.{came_in}
 use Rattle.mq_core.specs.SequenceLaws.{FatesAreInTime}
-use Rattle.mq_core.specs.Sequences.{sequence_fates, leaving_times, picked}
+use Rattle.mq_core.specs.Sequences.{sequence_fates}
+use Rattle.mq_core.specs.OnceOut.{leaving_times}
+use Rattle.mq_core.specs.Streams.{picked}
 use Rattle.mq_core.specs.Kinds.Loss.{out_of_fate}
 use Rattle.mq_core.specs.Handling.{demand_of_job}
 use Rattle.mq_core.specs.Recurrences.{loss_fates}
@@ -17,7 +19,6 @@ use Rattle.mq_core.specs.declared.model.Demand.{Demand}
 use Rattle.mq_core.specs.declared.model.Fate.{Fate}
 use Rattle.mq_core.specs.declared.model.Fate.TheVariants.{Departs, Lost}
 use Rattle.mq_core.specs.declared.model.Kind.TheVariants.{Loss}
-use Rattle.mq_core.specs.declared.model.Network.{Network}
 use Rattle.mq_core.specs.declared.model.Rows.{Rows}
 use Rattle.mq_core.specs.declared.model.Stream.{Stream}
 use Rattle.mq_loss.specs.Rounds.{IsSettled, admits, departures_in}
@@ -214,11 +215,8 @@ loses law rows places demand arrivals demands settled fates streams even m s f e
     at (suc zero) l = ap Some second
     at (suc (suc out)) l = absurd (omega arith)
 
-pub sound-demand : (net : Network) (places : ℕ) (demand : Demand) → IsTrue (is_sound_kind (length net.columns) (Loss places demand)) → IsTrue (is_sound_demand (length net.columns) demand)
-sound-demand net places demand h = (and_parts (is_within 1 1048576 places) (is_sound_demand (length net.columns) demand) h).1
-
-pub some-places : (net : Network) (places : ℕ) (demand : Demand) → IsTrue (is_sound_kind (length net.columns) (Loss places demand)) → 1 ≤ places
-some-places net places demand h =
-    let a = and_parts (is_within 1 1048576 places) (is_sound_demand (length net.columns) demand) h in
+pub some-places : (columns places : ℕ) (demand : Demand) → IsTrue (is_sound_kind columns (Loss places demand)) → 1 ≤ places
+some-places columns places demand h =
+    let a = and_parts (is_within 1 1048576 places) (is_sound_demand columns demand) h in
     let b = (and_parts (nat_le 1 places) (nat_le places 1048576) a.0).0 in
     grind (arith, nat_tests)

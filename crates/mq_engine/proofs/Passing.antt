@@ -7,7 +7,8 @@ use Rattle.std.proofs.lemmas.List.{map-append}
 use Rattle.std.proofs.lemmas.List.Sums.{sum_by-cons}
 use Rattle.mq_base.proofs.lemmas.Each.{Each-append}
 use Rattle.mq_core.specs.Came.{came_by}
-use Rattle.mq_core.specs.Sequences.{sequence_fates, departs_after, founds_from, founds_of}
+use Rattle.mq_core.specs.Sequences.{sequence_fates}
+use Rattle.mq_core.specs.OnceOut.{departs_after, founds_from, founds_of}
 use Rattle.mq_core.specs.Laws.{Rises}
 use Rattle.mq_core.specs.declared.model.Fate.{Fate}
 use Rattle.mq_core.specs.declared.model.Fate.TheVariants.{Departs}

@@ -7,15 +7,16 @@ use Rattle.std.proofs.lemmas.List.{length-map}
 use Rattle.std.specs.Prelude.{slice_get}
 use Rattle.std.proofs.lemmas.Option.{slice_get_within}
 use Rattle.mq_base.proofs.lemmas.Lists.{some_inj}
-use Rattle.mq_core.specs.Sequences.{IsSoundLoad, founds_of}
+use Rattle.mq_core.specs.Sequences.{IsSoundLoad}
+use Rattle.mq_core.specs.OnceOut.{founds_of}
 use Rattle.mq_core.specs.SequenceLaws.{FatesAreInTime}
 use Rattle.mq_core.specs.Handling.{demand_of_job}
-use Rattle.mq_core.specs.Recurrences.{tandem_departs}
+use Rattle.mq_core.specs.Recurrences.{forkjoin_departs, tandem_departs}
 use Rattle.mq_core.specs.declared.model.Fate.{Fate}
 use Rattle.mq_core.specs.declared.model.Fate.TheVariants.{Departs}
 use Rattle.mq_core.specs.declared.model.Node.{Node}
 use Rattle.mq_core.specs.declared.model.Kind.{Kind}
-use Rattle.mq_core.specs.declared.model.Kind.TheVariants.{Server, Tandem}
+use Rattle.mq_core.specs.declared.model.Kind.TheVariants.{ForkJoin, Server, Tandem}
 use Rattle.mq_core.specs.declared.model.Plan.{Plan}
 use Rattle.mq_core.specs.declared.model.Rows.{Rows}
 use Rattle.mq_core.specs.declared.model.Stream.{Stream}
@@ -27,16 +28,18 @@ use Rattle.mq_scan.proofs.Spans.{block-inside, times-ranges-next}
 use Rattle.mq_server.specs.Jobs.{job}
 use Rattle.mq_tandem.specs.Rows.{IsTandemLoad}
 use Rattle.mq_engine.specs.Blocks.{AreSumsOf, AreTimesOf}
+use Rattle.mq_engine.specs.Branches.{AreBranchLoads}
 use Rattle.mq_engine.specs.Loads.{AreServed, IsAfterAt, IsLoaded, IsScanOf, IsServed, IsShut}
 use Rattle.mq_engine.specs.declared.exits.Closed.TheVariants.{Fates, Found, Jobs}
 use Rattle.mq_engine.specs.declared.working.After.TheVariants.{Seen}
 use Rattle.mq_engine.specs.Working.{IsLoad}
 use Rattle.mq_engine.specs.declared.loads.Scan.{Scan}
-use Rattle.mq_engine.specs.declared.loads.Scan.TheVariants.{OfServer, OfTandem}
+use Rattle.mq_engine.specs.declared.loads.Scan.TheVariants.{OfForkJoin, OfServer, OfTandem, Unscanned}
+use Rattle.mq_engine.specs.declared.stations.forkjoin.ForkJoinScan.{ForkJoinScan}
 use Rattle.mq_engine.specs.declared.stations.server.ServerScan.{ServerScan}
 use Rattle.mq_engine.specs.declared.stations.tandem.TandemScan.{TandemScan}
 use Rattle.mq_engine.proofs.Leaves.{load-sound, served-even, served-leaves}
-use Rattle.mq_engine.proofs.StageFacts.{loads-sound, sound-stages, stages-are, tandem-served}
+use Rattle.mq_engine.proofs.StageFacts.{branch-loads, demands-told, forkjoin-departs, loads-sound, stages-are, tandem-served}
 
 -- a further item, where each is that of its index
 pub items-more : {S : Type 0} (is : ℕ → S → Type 0) (items items' : List S) (b : ℕ) (item : S) → length items ≡ b → ((k : ℕ) (d : S) → k < b → is k (get_or items k d)) → is b item → items' ≡ items ++ item ∷ [] →
@@ -87,20 +90,29 @@ pub server-sound : (plan : Plan) (rows : Rows) (v : ℕ) (arrivals : Stream) (sc
 server-sound plan rows v arrivals scan its l e =
     let is : IsScanOf rows l.node.kind arrivals (OfServer its) = subst (IsScanOf rows l.node.kind arrivals) e l.scanned in
     let load : IsLoad rows (Server is.0) arrivals = subst (λ (k : Kind). IsLoad rows k arrivals) is.1 l.load in
-    (load-sound rows (Server is.0) is.0 arrivals its.demands load load.sound is.2.demands, is.2.blocks.0)
+    (load-sound rows (Server is.0) is.0 arrivals its.demands load load.told is.2.demands, is.2.blocks.0)
 
 pub tandem-sound : (plan : Plan) (rows : Rows) (v : ℕ) (arrivals : Stream) (scan : Scan) (its : TandemScan) → IsLoaded plan rows v arrivals scan → scan ≡ OfTandem its → IsTandemLoad arrivals.time its.demands its.places × (its.blocks.n ≡ length arrivals.time)
 tandem-sound plan rows v arrivals scan its l e =
     let is : IsScanOf rows l.node.kind arrivals (OfTandem its) = subst (IsScanOf rows l.node.kind arrivals) e l.scanned in
     let load : IsLoad rows (Tandem is.0) arrivals = subst (λ (k : Kind). IsLoad rows k arrivals) is.1 l.load in
-    let columns = length load.net.columns in
     let its_scan = is.2 in (
       record {
-        load = loads-sound rows (Tandem is.0) its_scan.asked _ arrivals its.demands load its_scan.asks (sound-stages columns is.0 load.sound).asked its_scan.demands;
-        stages = stages-are columns is.0 its_scan.asked its.places (λ demand. map (demand_of_job rows demand) arrivals.job) its.demands load.sound its_scan.asks its_scan.places its_scan.demands;
+        load = loads-sound rows (Tandem is.0) its_scan.asked _ arrivals its.demands load its_scan.asks (demands-told rows _ arrivals.job load.told) its_scan.demands;
+        stages = stages-are load.columns is.0 its_scan.asked its.places (λ demand. map (demand_of_job rows demand) arrivals.job) its.demands load.sound its_scan.asks its_scan.places its_scan.demands;
       },
       its_scan.blocks.0,
     )
+
+pub forkjoin-sound : (plan : Plan) (rows : Rows) (v : ℕ) (arrivals : Stream) (scan : Scan) (its : ForkJoinScan) → IsLoaded plan rows v arrivals scan → scan ≡ OfForkJoin its → AreBranchLoads arrivals.time its.demands × (its.blocks.n ≡ length arrivals.time)
+forkjoin-sound plan rows v arrivals scan its l e =
+    let is : IsScanOf rows l.node.kind arrivals (OfForkJoin its) = subst (IsScanOf rows l.node.kind arrivals) e l.scanned in
+    let load : IsLoad rows (ForkJoin is.0) arrivals = subst (λ (k : Kind). IsLoad rows k arrivals) is.1 l.load in
+    (branch-loads rows is.0 arrivals its.demands load is.2.demands, is.2.blocks.0)
+
+-- a station whose scan is let go is loaded as before
+pub unscanned : (plan : Plan) (rows : Rows) (v : ℕ) (arrivals : Stream) (scan : Scan) → IsLoaded plan rows v arrivals scan → IsLoaded plan rows v arrivals Unscanned
+unscanned plan rows v arrivals scan l = record { node = l.node; there = l.there; came = l.came; load = l.load; scanned = tt }
 
 -- a node of the plan that is loaded is there
 pub loaded-inside : (plan : Plan) (rows : Rows) (v : ℕ) (arrivals : Stream) (scan : Scan) → IsLoaded plan rows v arrivals scan → v < length plan.net.nodes
@@ -118,7 +130,12 @@ pub tandem-leaves : (plan : Plan) (rows : Rows) (v : ℕ) (arrivals : Stream) (s
 tandem-leaves plan rows v arrivals scan its departs l e d =
     let is : IsScanOf rows l.node.kind arrivals (OfTandem its) = subst (IsScanOf rows l.node.kind arrivals) e l.scanned in
     let load : IsLoad rows (Tandem is.0) arrivals = subst (λ (k : Kind). IsLoad rows k arrivals) is.1 l.load in
-    served-at plan rows v arrivals scan (Tandem is.0) departs l is.1 (tandem-served (length load.net.columns) rows is.0 arrivals is.2.asked its.demands its.places departs load.sound is.2.asks is.2.demands is.2.places d)
+    served-at plan rows v arrivals scan (Tandem is.0) departs l is.1 (tandem-served load.columns rows is.0 arrivals is.2.asked its.demands its.places departs load.sound is.2.asks is.2.demands is.2.places d)
+
+pub forkjoin-leaves : (plan : Plan) (rows : Rows) (v : ℕ) (arrivals : Stream) (scan : Scan) (its : ForkJoinScan) (departs : List ℕ) → IsLoaded plan rows v arrivals scan → scan ≡ OfForkJoin its → departs ≡ forkjoin_departs arrivals.time its.demands → IsServed plan rows v arrivals departs
+forkjoin-leaves plan rows v arrivals scan its departs l e d =
+    let is : IsScanOf rows l.node.kind arrivals (OfForkJoin its) = subst (IsScanOf rows l.node.kind arrivals) e l.scanned in
+    served-at plan rows v arrivals scan (ForkJoin is.0) departs l is.1 (forkjoin-departs rows is.0 arrivals its.demands departs is.2.demands d)
 
 pub served-few : FatesAreInTime → (plan : Plan) (rows : Rows) (v : ℕ) (arrivals : Stream) (scan : Scan) (departs : List ℕ) (fates : List Fate) → IsLoaded plan rows v arrivals scan → IsServed plan rows v arrivals departs → fates ≡ map (λ time. Departs time) departs → length fates ≤ 1048576
 served-few law plan rows v arrivals scan departs fates l served e =

@@ -1,6 +1,6 @@
 -- What the stages of a tandem and the branches of a fork-join are, and what leaves them.
-use Rattle.std.proofs.Common.{◌≡◌, ◌≤◌, ℕ, ◌+◌, Bool, true, List, [], ◌∷◌, ◌++◌, All, length, length-append, map, take, drop, sum, Some, sym, refl, ap, ◌∙◌, subst, arith}
-use Rattle.std.specs.Prelude.{◌&&◌, IsTrue, nat_le, slice_get}
+use Rattle.std.proofs.Common.{◌≡◌, ◌≤◌, ℕ, ◌+◌, ◌^◌, Bool, true, List, [], ◌∷◌, ◌++◌, All, length, length-append, map, take, drop, sum, Some, sym, refl, ap, ◌∙◌, subst, arith}
+use Rattle.std.specs.Prelude.{◌&&◌, nat_le, slice_get}
 use Rattle.std.specs.List.{AllByRecursion as Each, flat_map, list_all}
 use Rattle.std.proofs.lemmas.Bool.{and_parts}
 use Rattle.std.proofs.lemmas.Bool.Decides.{nat_tests}
@@ -8,7 +8,7 @@ use Rattle.std.proofs.lemmas.List.{length-map}
 use Rattle.std.proofs.lemmas.List.Elements.{All-get_or}
 use Rattle.std.proofs.lemmas.Option.{get_or_from_slice_get, slice_get_within}
 use Rattle.mq_base.proofs.lemmas.Lists.{sum-cons}
-use Rattle.mq_base.proofs.lemmas.Each.{Each-flat_map, Each-map, Each-weaker}
+use Rattle.mq_base.proofs.lemmas.Each.{Each-map, Each-weaker, Each-front, Each-back}
 use Rattle.mq_core.specs.Sequences.{IsSoundLoad}
 use Rattle.mq_core.specs.Handling.{demand_of_job}
 use Rattle.mq_core.specs.Recurrences.{forkjoin_departs, tandem_departs}
@@ -17,6 +17,7 @@ use Rattle.mq_core.specs.Kinds.Tandem.{tandem_times}
 use Rattle.mq_core.specs.Kinds.ForkJoin.{are_sound_branches}
 use Rattle.mq_core.specs.Kinds.Tandem.{are_sound_stages, is_sound_stage}
 use Rattle.mq_core.specs.Ranges.{is_sound_demand, is_within}
+use Rattle.mq_core.specs.Told.{AreTold, HasDemand}
 use Rattle.mq_core.specs.declared.model.Demand.{Demand}
 use Rattle.mq_core.specs.declared.model.Fate.TheVariants.{Departs}
 use Rattle.mq_core.specs.declared.model.Kind.{Kind}
@@ -26,9 +27,10 @@ use Rattle.mq_core.specs.declared.model.Stage.{Stage}
 use Rattle.mq_core.specs.declared.model.Stream.{Stream}
 use Rattle.mq_forkjoin.specs.Branches.{AreBranches, branches_of}
 use Rattle.mq_tandem.specs.Stages.{AreStages}
+use Rattle.mq_engine.specs.Branches.{AreBranchLoads, IsBranchLoad}
 use Rattle.mq_engine.specs.Loads.{AreServed}
 use Rattle.mq_engine.specs.Working.{AreAsked, IsLoad}
-use Rattle.mq_engine.proofs.Leaves.{asked-each, load-sound}
+use Rattle.mq_engine.proofs.Leaves.{AreToldBy, asked-each, load-sound}
 use Rattle.mq_engine.proofs.Lists.{Each-get_or}
 
 -- what holds of each item holds of the one at an index
@@ -46,46 +48,38 @@ within low high n h =
     let b : nat_le n high ≡ true = (and_parts (nat_le low n) (nat_le n high) h).1 in
     (grind (arith, nat_tests), grind (arith, nat_tests))
 
--- a demand that the network has
-abbrev IsAsked : ℕ → Demand → Type 0
-IsAsked columns demand = IsTrue (is_sound_demand columns demand)
-
 -- A stage after the first, in its ranges.
-record IsLater (columns : ℕ) (stage : Stage) : Type 0 where
+record IsLater (stage : Stage) : Type 0 where
   some : 1 ≤ stage.places
   few : stage.places ≤ 4
-  asked : IsAsked columns stage.demand
 
-later : (columns : ℕ) (stage : Stage) → is_sound_stage columns 1 4 stage ≡ true → IsLater columns stage
+later : (columns : ℕ) (stage : Stage) → is_sound_stage columns 1 4 stage ≡ true → IsLater stage
 later columns stage h =
     let a = and_parts (is_within 1 4 stage.places) (is_sound_demand columns stage.demand) h in
     let b = within 1 4 stage.places a.0 in
-    record { some = b.0; few = b.1; asked = a.1 }
+    record { some = b.0; few = b.1 }
 
 -- the stages of a tandem, in their ranges
-pub record AreSound (columns : ℕ) (stages : List Stage) : Type 0 where
+pub record AreSound (stages : List Stage) : Type 0 where
   pub some : 2 ≤ length stages
   pub few : length stages ≤ 4
   pub room : Each (λ count. 1 ≤ count) (drop 1 (map (λ (s : Stage). s.places) stages))
   pub narrow : Each (λ count. count ≤ 4) (drop 1 (map (λ (s : Stage). s.places) stages))
-  pub asked : Each (IsAsked columns) (map (λ (s : Stage). s.demand) stages)
 
-pub sound-stages : (columns : ℕ) (stages : List Stage) → are_sound_stages columns stages ≡ true → AreSound columns stages
+pub sound-stages : (columns : ℕ) (stages : List Stage) → are_sound_stages columns stages ≡ true → AreSound stages
 sound-stages columns [] h = absurd cc
 sound-stages columns (stage ∷ stages) h =
     let a = and_parts (is_sound_stage columns 0 0 stage && is_within 1 3 (length stages)) (list_all (is_sound_stage columns 1 4) stages) h in
     let b = and_parts (is_sound_stage columns 0 0 stage) (is_within 1 3 (length stages)) a.0 in
-    let first = (and_parts (is_within 0 0 stage.places) (is_sound_demand columns stage.demand) b.0).1 in
     let many = within 1 3 (length stages) b.1 in
     let least = many.0 in
     let most = many.1 in
-    let rest = each-tested (is_sound_stage columns 1 4) (IsLater columns) (later columns) stages a.1 in
+    let rest = each-tested (is_sound_stage columns 1 4) IsLater (later columns) stages a.1 in
     record {
       some = omega arith;
       few = omega arith;
-      room = Each-map (IsLater columns) (λ count. 1 ≤ count) (λ (s : Stage). s.places) (λ s l. l.some) stages rest;
-      narrow = Each-map (IsLater columns) (λ count. count ≤ 4) (λ (s : Stage). s.places) (λ s l. l.few) stages rest;
-      asked = (first, Each-map (IsLater columns) (IsAsked columns) (λ (s : Stage). s.demand) (λ s l. l.asked) stages rest);
+      room = Each-map IsLater (λ count. 1 ≤ count) (λ (s : Stage). s.places) (λ s l. l.some) stages rest;
+      narrow = Each-map IsLater (λ count. count ≤ 4) (λ (s : Stage). s.places) (λ s l. l.few) stages rest;
     }
 
 -- what a tandem must have
@@ -105,37 +99,38 @@ stages-are columns stages asked places f demands h a p d =
     }
 
 -- A branch of a fork-join, in its ranges.
-record IsBranch (columns : ℕ) (demands : List Demand) : Type 0 where
-  some : 1 ≤ length demands
-  few : length demands ≤ 4
-  asked : Each (IsAsked columns) demands
+pub record IsBranch (demands : List Demand) : Type 0 where
+  pub some : 1 ≤ length demands
+  pub few : length demands ≤ 4
 
-branch : (columns : ℕ) (demands : List Demand) → (is_within 1 4 (length demands) && list_all (is_sound_demand columns) demands) ≡ true → IsBranch columns demands
+branch : (columns : ℕ) (demands : List Demand) → (is_within 1 4 (length demands) && list_all (is_sound_demand columns) demands) ≡ true → IsBranch demands
 branch columns demands h =
     let a = and_parts (is_within 1 4 (length demands)) (list_all (is_sound_demand columns) demands) h in
     let b = within 1 4 (length demands) a.0 in
-    record { some = b.0; few = b.1; asked = each-tested (is_sound_demand columns) (IsAsked columns) (λ d e. e) demands a.1 }
+    record { some = b.0; few = b.1 }
 
 -- the branches of a fork-join, in their ranges
-pub record AreForkJoined (columns : ℕ) (branches : List (List Demand)) : Type 0 where
+pub record AreForkJoined (branches : List (List Demand)) : Type 0 where
   pub some : 2 ≤ length branches
   pub few : length (flat_map (λ demands. demands) branches) ≤ 8
   pub served : Each (λ servers. 1 ≤ servers) (map length branches)
   pub narrow : Each (λ demands. length demands ≤ 4) branches
-  pub asked : Each (IsAsked columns) (flat_map (λ demands. demands) branches)
+  pub wide : length branches ≤ 8
+  pub each : Each IsBranch branches
 
-pub sound-branches : (columns : ℕ) (branches : List (List Demand)) → are_sound_branches columns branches ≡ true → AreForkJoined columns branches
+pub sound-branches : (columns : ℕ) (branches : List (List Demand)) → are_sound_branches columns branches ≡ true → AreForkJoined branches
 sound-branches columns branches h =
     let a = and_parts _ (nat_le (length (flat_map (λ demands. demands) branches)) 8) h in
     let b = and_parts (is_within 2 8 (length branches)) _ a.0 in
     let many = within 2 8 (length branches) b.0 in
-    let each = each-tested (λ demands. is_within 1 4 (length demands) && list_all (is_sound_demand columns) demands) (IsBranch columns) (branch columns) branches b.1 in
+    let each = each-tested (λ demands. is_within 1 4 (length demands) && list_all (is_sound_demand columns) demands) IsBranch (branch columns) branches b.1 in
     record {
       some = many.0;
       few = most (length (flat_map (λ demands. demands) branches)) a.1;
-      served = Each-map (IsBranch columns) (λ servers. 1 ≤ servers) length (λ ds i. i.some) branches each;
-      narrow = Each-weaker (IsBranch columns) (λ demands. length demands ≤ 4) (λ ds i. i.few) branches each;
-      asked = Each-flat_map (IsBranch columns) (IsAsked columns) (λ demands. demands) (λ ds i. i.asked) branches each;
+      served = Each-map IsBranch (λ servers. 1 ≤ servers) length (λ ds i. i.some) branches each;
+      narrow = Each-weaker IsBranch (λ demands. length demands ≤ 4) (λ ds i. i.few) branches each;
+      wide = many.1;
+      each = each;
     }
   where
     most : (n : ℕ) → nat_le n 8 ≡ true → n ≤ 8
@@ -165,17 +160,66 @@ branches-are columns branches asked servers f demands h a p d =
       each = ap length d ∙ (length-map asked f ∙ (ap length a ∙ all));
     }
 
--- A station can work on what comes to it, at each of its servers.
-pub demands-asked : (rows : Rows) (kind : Kind) (asked all : List Demand) (arrivals : Stream) → (h : IsLoad rows kind arrivals) → asked ≡ all → Each (IsAsked (length h.net.columns)) all → All (λ demand. AreAsked rows demand arrivals.job) asked
-demands-asked rows kind asked all arrivals h e each =
-    subst (All (λ demand. AreAsked rows demand arrivals.job)) (sym e)
-    (λ k d l. Each-get_or (λ demand. AreAsked rows demand arrivals.job) all (Each-weaker (IsAsked (length h.net.columns)) (λ demand. AreAsked rows demand arrivals.job) (λ demand s. asked-each rows kind demand arrivals h s) all each) k d l)
+-- What the rows tell of several demands of each job, they tell of each demand.
+each-told : (rows : Rows) (demands : List Demand) (jobs : List ℕ) → ((k job : ℕ) → slice_get jobs k ≡ Some job → Each (λ demand. HasDemand rows demand job) demands) → ((k job : ℕ) → slice_get jobs k ≡ Some job → Each (λ demand. demand_of_job rows demand job ≤ 2 ^ 36) demands) →
+    Each (λ demand. AreToldBy rows demand jobs) demands
+each-told rows [] jobs each small = tt
+each-told rows (demand ∷ demands) jobs each small =
+    ((λ k job g. ((each k job g).0, (small k job g).0)), each-told rows demands jobs (λ k job g. (each k job g).1) (λ k job g. (small k job g).1))
 
-pub loads-sound : (rows : Rows) (kind : Kind) (asked all : List Demand) (arrivals : Stream) (demands : List (List ℕ)) → (h : IsLoad rows kind arrivals) → asked ≡ all → Each (IsAsked (length h.net.columns)) all → demands ≡ map (λ demand. map (demand_of_job rows demand) arrivals.job) asked →
+pub demands-told : (rows : Rows) (demands : List Demand) (jobs : List ℕ) → ((k job : ℕ) → slice_get jobs k ≡ Some job → AreTold rows demands job) → Each (λ demand. AreToldBy rows demand jobs) demands
+demands-told rows demands jobs told = each-told rows demands jobs (λ k job g. (told k job g).each) (λ k job g. (told k job g).small)
+
+-- A station can work on what comes to it, at each of its servers.
+pub demands-asked : (rows : Rows) (asked all : List Demand) (jobs : List ℕ) → asked ≡ all → Each (λ demand. AreToldBy rows demand jobs) all → All (λ demand. AreAsked rows demand jobs) asked
+demands-asked rows asked all jobs e each =
+    subst (All (λ demand. AreAsked rows demand jobs)) (sym e)
+    (λ k d l. Each-get_or (λ demand. AreAsked rows demand jobs) all (Each-weaker (λ demand. AreToldBy rows demand jobs) (λ demand. AreAsked rows demand jobs) (λ demand told. asked-each rows demand jobs told) all each) k d l)
+
+pub loads-sound : (rows : Rows) (kind : Kind) (asked all : List Demand) (arrivals : Stream) (demands : List (List ℕ)) → IsLoad rows kind arrivals → asked ≡ all → Each (λ demand. AreToldBy rows demand arrivals.job) all → demands ≡ map (λ demand. map (demand_of_job rows demand) arrivals.job) asked →
     All (λ column. IsSoundLoad arrivals.time column) demands
 loads-sound rows kind asked all arrivals demands h a s e =
     subst (All (λ column. IsSoundLoad arrivals.time column)) (sym (e ∙ ap (map (λ demand. map (demand_of_job rows demand) arrivals.job)) a))
-    (λ k d l. Each-get_or (λ column. IsSoundLoad arrivals.time column) _ (Each-map (IsAsked (length h.net.columns)) (λ column. IsSoundLoad arrivals.time column) (λ demand. map (demand_of_job rows demand) arrivals.job) (λ demand i. load-sound rows kind demand arrivals _ h i refl) all s) k d l)
+    (λ k d l. Each-get_or (λ column. IsSoundLoad arrivals.time column) _ (Each-map (λ demand. AreToldBy rows demand arrivals.job) (λ column. IsSoundLoad arrivals.time column) (λ demand. map (demand_of_job rows demand) arrivals.job) (λ demand told. load-sound rows kind demand arrivals _ h told refl) all s) k d l)
+
+-- The branches of a fork-join, each with what its servers ask for.
+by-branch : (P : Demand → Type 0) (branches : List (List Demand)) → Each P (flat_map (λ demands. demands) branches) → Each (λ demands. Each P demands) branches
+by-branch P [] h = tt
+by-branch P (demands ∷ more) h =
+    let rest = flat_map (λ (ds : List Demand). ds) more in (Each-front P demands rest h, by-branch P more (Each-back P demands rest h))
+
+told-by_branch : (rows : Rows) (branches : List (List Demand)) (arrivals : Stream) → IsLoad rows (ForkJoin branches) arrivals → Each (λ demands. Each (λ demand. AreToldBy rows demand arrivals.job) demands) branches
+told-by_branch rows branches arrivals h = by-branch (λ demand. AreToldBy rows demand arrivals.job) branches (demands-told rows (flat_map (λ demands. demands) branches) arrivals.job h.told)
+
+pub asked-by_branch : (rows : Rows) (branches : List (List Demand)) (arrivals : Stream) → IsLoad rows (ForkJoin branches) arrivals → Each (λ asked. All (λ demand. AreAsked rows demand arrivals.job) asked) branches
+asked-by_branch rows branches arrivals h =
+    Each-weaker (λ demands. Each (λ demand. AreToldBy rows demand arrivals.job) demands) (λ asked. All (λ demand. AreAsked rows demand arrivals.job) asked) (λ demands told. demands-asked rows demands demands arrivals.job refl told) branches (told-by_branch rows branches arrivals h)
+
+each-both : {X : Type 0} (P Q : X → Type 0) (xs : List X) → Each P xs → Each Q xs → Each (λ x. P x × Q x) xs
+each-both P Q [] p q = tt
+each-both P Q (x ∷ xs) p q = ((p.0, q.0), each-both P Q xs p.1 q.1)
+
+pub branch-loads : (rows : Rows) (branches : List (List Demand)) (arrivals : Stream) (demands : List (List (List ℕ))) → IsLoad rows (ForkJoin branches) arrivals → demands ≡ branch_demands rows branches arrivals.job → AreBranchLoads arrivals.time demands
+branch-loads rows branches arrivals demands h e =
+    let s = sound-branches h.columns branches h.sound in
+    record {
+      few = let wide = s.wide in let count = ap length e ∙ length-map branches _ in omega arith;
+      early = λ k d l. Each-get_or (λ time. time ≤ 2 ^ 60) arrivals.time h.ordered.early k d l;
+      each = subst (Each (IsBranchLoad arrivals.time)) (sym e) (Each-map Whole (IsBranchLoad arrivals.time) (map asks) (λ servers w. one servers w.0 w.1) branches (each-both IsBranch (λ servers. Each (λ demand. AreToldBy rows demand arrivals.job) servers) branches s.each (told-by_branch rows branches arrivals h)));
+    }
+  where
+    asks : Demand → List ℕ
+    asks demand = map (demand_of_job rows demand) arrivals.job
+
+    Whole : List Demand → Type 0
+    Whole servers = IsBranch servers × Each (λ demand. AreToldBy rows demand arrivals.job) servers
+
+    one : (servers : List Demand) → IsBranch servers → Each (λ demand. AreToldBy rows demand arrivals.job) servers → IsBranchLoad arrivals.time (map asks servers)
+    one servers i told =
+        let count = length-map servers asks in
+        let some = i.some in
+        let few = i.few in
+        record { some = omega arith; few = omega arith; load = loads-sound rows (ForkJoin branches) servers servers arrivals (map asks servers) h refl told refl }
 
 -- What leaves a tandem.
 none-each : (stages : List Stage) → map {B = List ℕ} (λ _. []) (map (λ (s : Stage). s.places) stages) ≡ map (λ _. []) stages
@@ -221,3 +265,7 @@ forkjoin-served rows branches arrivals asked demands servers departs a m p d =
     let by : departs ≡ forkjoin_departs arrivals.time (branch_demands rows branches arrivals.job) =
     d ∙ ((λ k. forkjoin_departs arrivals.time (branches_of (p k) ((m ∙ ap (map (λ demand. map (demand_of_job rows demand) arrivals.job)) a) k))) ∙ ap (forkjoin_departs arrivals.time) (branches-back (λ demand. map (demand_of_job rows demand) arrivals.job) branches)) in
     record { one = refl; order = λ stream. refl; outs = refl; fates = ap (map (λ time. Departs time)) (sym by) }
+
+-- the same of what its branches ask for, one by one
+pub forkjoin-departs : (rows : Rows) (branches : List (List Demand)) (arrivals : Stream) (demands : List (List (List ℕ))) (departs : List ℕ) → demands ≡ branch_demands rows branches arrivals.job → departs ≡ forkjoin_departs arrivals.time demands → AreServed rows (ForkJoin branches) arrivals departs
+forkjoin-departs rows branches arrivals demands departs m d = record { one = refl; order = λ stream. refl; outs = refl; fates = ap (map (λ time. Departs time)) (sym (d ∙ ap (forkjoin_departs arrivals.time) m)) }

@@ -12,7 +12,9 @@ use Rattle.mq_base.proofs.lemmas.Lists.{some_inj}
 use Rattle.mq_base.proofs.lemmas.Each.{Each-weaker}
 use Rattle.mq_core.specs.Came.{came_by, came_in, came_of}
 use Rattle.mq_core.specs.SequenceLaws.{arrives_of, jobs_of}
-use Rattle.mq_core.specs.Sequences.{IsStream, by_first, sequence_fates, sequence_late, sequence_late_from, sequence_outs, sequence_stream, sequence_visits, leaving_times, picked, pairs_of, rows_at, streams_below}
+use Rattle.mq_core.specs.Sequences.{IsStream, sequence_fates, sequence_late, sequence_late_from, sequence_outs, sequence_stream, sequence_visits, rows_at, streams_below}
+use Rattle.mq_core.specs.OnceOut.{leaving_times}
+use Rattle.mq_core.specs.Streams.{by_first, picked, pairs_of}
 use Rattle.mq_core.specs.Results.{Late as LateVisit, first_of, stream_from, visits_of}
 use Rattle.mq_core.specs.RunLaws.{HasSequences}
 use Rattle.mq_core.specs.Names.{is_name}
@@ -102,26 +104,33 @@ arriving-early plan rows outputs v node read early = go (is_source_kind node.kin
     go true = rows-early v 0 rows.source rows.time (Each-at _ rows.time read.early)
     go false = flat-early (pairs_read outputs) (λ input. reads-early outputs input early) node.inputs
 
-pub loaded : (laws : CoreLaws) (plan : Plan) (rows : Rows) (outputs : List (List Stream)) (v : ℕ) (node : Node) (arrivals : Stream) → IsReadFor plan.net rows → AreEarly outputs → CanWork plan rows outputs v → slice_get plan.net.nodes v ≡ Some node →
+-- a node of a run has no more visits than a trace has rows
+pub visits-few : (laws : CoreLaws) (plan : Plan) (rows : Rows) (v : ℕ) → IsReadFor plan.net rows → length ((run_of plan rows).stations v).visits ≤ 1048576
+visits-few laws plan rows v read =
+    let most = laws.few plan rows read (λ u node there. laws.single node.kind) v in
+    let times = read.times in
+    let count = read.count in
+    omega arith
+
+pub loaded : (laws : CoreLaws) (plan : Plan) (rows : Rows) (outputs : List (List Stream)) (v : ℕ) (node : Node) (arrivals : Stream) → IsReadFor plan.net rows → AreEarly outputs → CanWork plan rows outputs v → slice_get plan.net.nodes v ≡ Some node → length ((run_of plan rows).stations v).visits ≤ 1048576 →
     IsStream arrivals → pairs_of arrivals ≡ by_first (arriving rows v node outputs) → IsLoad rows node.kind arrivals
-loaded laws plan rows outputs v node arrivals read early can there s e =
+loaded laws plan rows outputs v node arrivals read early can there few s e =
     let a = arrived plan rows outputs v node arrivals can there s e in
     let xs = ((run_of plan rows).stations v).visits in
     record {
-      net = plan.net;
+      columns = length plan.net.columns;
       sound = (laws.limits plan v node there).kind;
       ordered = record { ordered = s; early = stream-early arrivals (arriving rows v node outputs) s e (arriving-early plan rows outputs v node read early) };
       few =
           let long : length arrivals.time ≡ length xs = ap length a.time ∙ length-map xs _ in
-          let most = laws.few plan rows read v in
-          let times = read.times in
-          let count = read.count in
           omega arith;
       leaves =
           let sequences = laws.sequences plan rows read v node there in
           let blind = laws.blind rows node.kind (came_of (length node.inputs) ((run_of plan rows).stations v).visits) in
           λ out. subst IsStream (sequences.stream out ∙ (blind.stream out ∙ (λ k. sequence_stream rows node.kind (came_by (sym a.job k) (sym a.time k)) out))) ((laws.streams plan rows v).streams out);
-      told = λ k job g. laws.demands plan.net rows read job (subst (λ m. job < m) read.times (Each-get (λ j. j < length rows.time) (jobs_of xs) k job (laws.jobs plan rows v) (subst (λ l. slice_get l k ≡ Some job) a.job g)));
+      told = λ k job g.
+          let below = subst (λ m. job < m) read.times (Each-get (λ j. j < length rows.time) (jobs_of xs) k job (laws.jobs plan rows v) (subst (λ l. slice_get l k ≡ Some job) a.job g)) in
+          laws.demands plan.net rows read job below node.kind (laws.limits plan v node there).kind;
     }
 
 -- what is worked out of the node is what the run has

@@ -1,9 +1,11 @@
 -- What comes to the nodes that are ready, and what the pieces of a wave are.
-use Rattle.std.specs.Prelude.{◌≡◌, ◌≤◌, ◌+◌, ◌-◌, ◌*◌, ℕ, List, Contains, length, map, Some, None, slice_get}
+use Rattle.std.specs.Prelude.{◌≡◌, ◌≤◌, ℕ, List, Contains, length, map, Some, None, slice_get}
 use Rattle.mq_core.specs.Came.{came_in}
 use Rattle.mq_core.specs.SequenceLaws.{arrives_of, jobs_of}
-use Rattle.mq_core.specs.Sequences.{sequence_fates, sequence_late_from, sequence_outs, founds_of, stream_in_order}
+use Rattle.mq_core.specs.Sequences.{sequence_fates, sequence_late_from, sequence_outs, stream_in_order}
+use Rattle.mq_core.specs.OnceOut.{founds_of}
 use Rattle.mq_core.specs.Handling.{demand_of_job}
+use Rattle.mq_core.specs.Kinds.ForkJoin.{branch_demands}
 use Rattle.mq_core.specs.Results.{first_of}
 use Rattle.mq_core.specs.Sound.{outputs_in}
 use Rattle.mq_core.specs.StandardTable.{run_of}
@@ -11,7 +13,7 @@ use Rattle.mq_core.specs.Theorems.{IsReadFor}
 use Rattle.mq_core.specs.declared.model.Demand.{Demand}
 use Rattle.mq_core.specs.declared.model.Fate.TheVariants.{Departs}
 use Rattle.mq_core.specs.declared.model.Kind.{Kind}
-use Rattle.mq_core.specs.declared.model.Kind.TheVariants.{Server, Tandem}
+use Rattle.mq_core.specs.declared.model.Kind.TheVariants.{ForkJoin, Server, Tandem}
 use Rattle.mq_core.specs.declared.model.Network.{Network}
 use Rattle.mq_core.specs.declared.model.Node.{Node}
 use Rattle.mq_core.specs.declared.model.Plan.{Plan}
@@ -39,7 +41,8 @@ use Rattle.mq_engine.specs.declared.exits.Emptied.{Emptied}
 use Rattle.mq_engine.specs.declared.middles.Middle.{Middle}
 use Rattle.mq_engine.specs.declared.loads.Load.{Load}
 use Rattle.mq_engine.specs.declared.loads.Scan.{Scan}
-use Rattle.mq_engine.specs.declared.loads.Scan.TheVariants.{OfServer, OfTandem, Unscanned}
+use Rattle.mq_engine.specs.declared.loads.Scan.TheVariants.{OfForkJoin, OfServer, OfTandem, Unscanned}
+use Rattle.mq_engine.specs.declared.stations.forkjoin.ForkJoinScan.{ForkJoinScan}
 use Rattle.mq_engine.specs.declared.stations.server.ServerScan.{ServerScan}
 use Rattle.mq_engine.specs.declared.stations.tandem.TandemScan.{TandemScan}
 use Rattle.mq_engine.specs.declared.working.NodeResult.{NodeResult}
@@ -48,7 +51,7 @@ use Rattle.mq_engine.specs.declared.working.After.TheVariants.{Seen, Missed}
 use Rattle.mq_engine.specs.declared.firsts.Part.{Part}
 use Rattle.mq_engine.specs.declared.firsts.Part.TheVariants.{Product, Sum, Whole}
 use Rattle.mq_engine.specs.declared.firsts.Stage.{Stage}
-use Rattle.mq_engine.specs.declared.firsts.Stage.TheVariants.{Ended, Last, Latest}
+use Rattle.mq_engine.specs.declared.firsts.Stage.TheVariants.{Ended, Last, Latest, Unbegun}
 
 -- the arrivals are those of the run
 pub record IsArrived (plan : Plan) (rows : Rows) (v : ℕ) (arrivals : Stream) : Type 0 where
@@ -72,11 +75,17 @@ pub record IsTandemScan (rows : Rows) (stages : List TandemStage) (arrivals : St
   pub places : scan.places ≡ map (λ (stage : TandemStage). stage.places) stages
   pub blocks : AreFewBlocks (length arrivals.time) 1024 scan.blocks
 
+-- a scan of a fork-join likewise, with what they ask for at each server of each branch, in 16,384 blocks at most
+pub record IsForkJoinScan (rows : Rows) (branches : List (List Demand)) (arrivals : Stream) (scan : ForkJoinScan) : Type 0 where
+  pub demands : scan.demands ≡ branch_demands rows branches arrivals.job
+  pub blocks : AreFewBlocks (length arrivals.time) 16384 scan.blocks
+
 -- a scan is that of the kind of its station
 abbrev pub IsScanOf : Rows → Kind → Stream → Scan → Type 0
 IsScanOf rows kind arrivals Unscanned = Unit {0}
 IsScanOf rows kind arrivals (OfServer scan) = (demand : Demand) × (kind ≡ Server demand) × IsServerScan rows demand arrivals scan
 IsScanOf rows kind arrivals (OfTandem scan) = (stages : List TandemStage) × (kind ≡ Tandem stages) × IsTandemScan rows stages arrivals scan
+IsScanOf rows kind arrivals (OfForkJoin scan) = (branches : List (List Demand)) × (kind ≡ ForkJoin branches) × IsForkJoinScan rows branches arrivals scan
 
 -- what comes to a node is what comes in the run, and it can be worked on
 pub record IsLoaded (plan : Plan) (rows : Rows) (v : ℕ) (arrivals : Stream) (scan : Scan) : Type 0 where
@@ -86,17 +95,19 @@ pub record IsLoaded (plan : Plan) (rows : Rows) (v : ℕ) (arrivals : Stream) (s
   pub load : IsLoad rows node.kind arrivals
   pub scanned : IsScanOf rows node.kind arrivals scan
 
--- how many blocks a scan has; a station that is not scanned is one piece
+-- how many first pieces a station has: one that is not scanned is one, and a fork-join has none yet
 abbrev pub blocks_of : Scan → ℕ
 blocks_of Unscanned = 1
 blocks_of (OfServer scan) = scan.blocks.blocks
 blocks_of (OfTandem scan) = scan.blocks.blocks
+blocks_of (OfForkJoin scan) = 0
 
 -- how many of its blocks are applied
 abbrev pub applied_of : Scan → ℕ
 applied_of Unscanned = 0
 applied_of (OfServer scan) = scan.blocks.blocks
 applied_of (OfTandem scan) = scan.blocks.blocks
+applied_of (OfForkJoin scan) = 0
 
 -- what becomes of the arrivals at a node of this kind: their fates, what each found, and what leaves; or the first that is late
 abbrev pub IsAfter : Network → Rows → ℕ → Kind → Stream → After → Type 0
@@ -170,54 +181,70 @@ abbrev pub IsPart : Plan → Rows → ℕ → Stream → Scan → ℕ → Part �
 IsPart plan rows v arrivals Unscanned b part = IsWholePart plan rows v arrivals part
 IsPart plan rows v arrivals (OfServer scan) b part = IsServerPart arrivals scan b part
 IsPart plan rows v arrivals (OfTandem scan) b part = IsTandemPart arrivals scan b part
+IsPart plan rows v arrivals (OfForkJoin scan) b part = ⊥
 
 -- after its first pieces all is known of a station
 abbrev pub IsAll : Stage → Type 0
 IsAll (Ended after) = Unit {0}
 IsAll (Last carries) = ⊥
 IsAll (Latest carries) = ⊥
+IsAll Unbegun = ⊥
 
 -- the last departure before each block is known
 abbrev pub IsLast : Stage → Type 0
 IsLast (Ended after) = ⊥
 IsLast (Last carries) = Unit {0}
 IsLast (Latest carries) = ⊥
+IsLast Unbegun = ⊥
 
 -- the latest departures before each block are known
 abbrev pub IsLatest : Stage → Type 0
 IsLatest (Ended after) = ⊥
 IsLatest (Last carries) = ⊥
 IsLatest (Latest carries) = Unit {0}
+IsLatest Unbegun = ⊥
 
 -- what becomes of the arrivals is known
 abbrev pub IsEnded : Plan → Rows → ℕ → Stream → Stage → Type 0
 IsEnded plan rows v arrivals (Ended after) = IsAfterAt plan rows v arrivals after
 IsEnded plan rows v arrivals (Last carries) = ⊥
 IsEnded plan rows v arrivals (Latest carries) = ⊥
+IsEnded plan rows v arrivals Unbegun = ⊥
 
 -- the last departures before the blocks of a server are known
 abbrev pub IsServerStage : Stream → ServerScan → Stage → Type 0
 IsServerStage arrivals scan (Ended after) = ⊥
 IsServerStage arrivals scan (Last carries) = AreServerCarries arrivals scan carries
 IsServerStage arrivals scan (Latest carries) = ⊥
+IsServerStage arrivals scan Unbegun = ⊥
 
 -- the latest departures before the blocks of a tandem are known
 abbrev pub IsTandemStage : Stream → TandemScan → Stage → Type 0
 IsTandemStage arrivals scan (Ended after) = ⊥
 IsTandemStage arrivals scan (Last carries) = ⊥
 IsTandemStage arrivals scan (Latest carries) = AreTandemCarries arrivals scan carries
+IsTandemStage arrivals scan Unbegun = ⊥
 
--- what is known of a station after its first pieces: all, or the carry before each block
+-- nothing is known yet, as of a fork-join, whose branches come later
+abbrev pub IsUnbegun : Stage → Type 0
+IsUnbegun (Ended after) = ⊥
+IsUnbegun (Last carries) = ⊥
+IsUnbegun (Latest carries) = ⊥
+IsUnbegun Unbegun = Unit {0}
+
+-- what is known of a station after its first pieces: all, the carry before each block, or nothing of a fork-join
 abbrev pub IsStage : Plan → Rows → ℕ → Stream → Scan → Stage → Type 0
 IsStage plan rows v arrivals Unscanned stage = IsEnded plan rows v arrivals stage
 IsStage plan rows v arrivals (OfServer scan) stage = IsServerStage arrivals scan stage
 IsStage plan rows v arrivals (OfTandem scan) stage = IsTandemStage arrivals scan stage
+IsStage plan rows v arrivals (OfForkJoin scan) stage = IsUnbegun stage
 
 -- a further piece: when the jobs of a block depart
 abbrev pub IsApplied : Stream → Scan → ℕ → List ℕ → Type 0
 IsApplied arrivals Unscanned b times = ⊥
 IsApplied arrivals (OfServer scan) b times = AreServerTimes arrivals scan b times
 IsApplied arrivals (OfTandem scan) b times = AreTandemTimes arrivals scan b times
+IsApplied arrivals (OfForkJoin scan) b times = ⊥
 
 -- the jobs of a station of this kind depart at these times, in their order, by its only output
 pub record AreServed (rows : Rows) (kind : Kind) (arrivals : Stream) (departs : List ℕ) : Type 0 where

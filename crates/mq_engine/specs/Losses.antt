@@ -1,6 +1,6 @@
 -- What becomes of the arrivals at a loss station.
 use Rattle.std.specs.Prelude.{◌≡◌, ℕ, Bool, true, false, List, [], ◌∷◌, map}
-use Rattle.mq_core.specs.Sequences.{picked}
+use Rattle.mq_core.specs.Streams.{picked}
 use Rattle.mq_core.specs.declared.model.Fate.{Fate}
 use Rattle.mq_core.specs.declared.model.Fate.TheVariants.{Departs, Lost}
 use Rattle.mq_core.specs.declared.model.Stream.{Stream}

@@ -3,7 +3,8 @@ use Rattle.std.specs.Prelude.{◌≡◌, ◌<◌, ◌&&◌, ℕ, Bool, true, fal
 use Rattle.std.specs.List.{AllByRecursion, list_all, zip}
 use Rattle.mq_core.specs.Came.{came_in}
 use Rattle.mq_core.specs.SequenceLaws.{arrives_of, jobs_of}
-use Rattle.mq_core.specs.Sequences.{by_first, sequence_fates, sequence_late, sequence_late_from, streams_below}
+use Rattle.mq_core.specs.Sequences.{sequence_fates, sequence_late, sequence_late_from, streams_below}
+use Rattle.mq_core.specs.Streams.{by_first}
 use Rattle.mq_core.specs.Results.{first_of, visits_of}
 use Rattle.mq_core.specs.RunLaws.{HasSequences}
 use Rattle.mq_core.specs.StandardTable.{run_of}

@@ -1,22 +1,22 @@
 -- What the engine works out of a node, in sequences alone.
 use Rattle.std.specs.Prelude.{◌≡◌, ◌<◌, ◌≤◌, ◌^◌, ℕ, IsTrue, if◌then◌else◌, List, [], ◌∷◌, length, map, Option, Some, None, slice_get}
 use Rattle.std.specs.List.{AllByRecursion, flat_map}
+use Rattle.mq_core.specs.Asked.{HasDemands}
 use Rattle.mq_core.specs.Came.{came_in}
-use Rattle.mq_core.specs.Sequences.{IsStream, pairs_of, rows_at, sequence_fates, sequence_outs, sequence_stream, sequence_visits, leaving_times, picked}
-use Rattle.mq_core.specs.PlanLaws.{Tells}
+use Rattle.mq_core.specs.Kinds.Split.{HasRouteValue}
+use Rattle.mq_core.specs.Sequences.{IsStream, rows_at, sequence_fates, sequence_outs, sequence_stream, sequence_visits}
+use Rattle.mq_core.specs.OnceOut.{leaving_times}
+use Rattle.mq_core.specs.Streams.{pairs_of, picked}
 use Rattle.mq_core.specs.Sound.{is_sound_kind, outputs_in}
 use Rattle.mq_core.specs.Told.{HasDemand}
 use Rattle.mq_core.specs.Wiring.{is_source_kind}
 use Rattle.mq_core.specs.declared.model.Demand.{Demand}
-use Rattle.mq_core.specs.declared.model.Demand.TheVariants.{Column}
 use Rattle.mq_core.specs.declared.model.Fate.{Fate}
 use Rattle.mq_core.specs.declared.model.Fate.TheVariants.{Departs}
 use Rattle.mq_core.specs.declared.model.Input.{Input}
 use Rattle.mq_core.specs.declared.model.Kind.{Kind}
-use Rattle.mq_core.specs.declared.model.Network.{Network}
 use Rattle.mq_core.specs.declared.model.Node.{Node}
 use Rattle.mq_core.specs.declared.model.Route.{Route}
-use Rattle.mq_core.specs.declared.model.Route.TheVariants.{Cut, Modulo, Turn}
 use Rattle.mq_core.specs.declared.model.Rows.{Rows}
 use Rattle.mq_core.specs.declared.model.Stream.{Stream}
 use Rattle.mq_core.specs.declared.model.Visits.{Visits}
@@ -52,32 +52,26 @@ pub record IsEarlyStream (stream : Stream) : Type 0 where
 abbrev pub AreEarly : List (List Stream) → Type 0
 AreEarly outputs = (u out : ℕ) (streams : List Stream) (stream : Stream) → slice_get outputs u ≡ Some streams → slice_get streams out ≡ Some stream → IsEarlyStream stream
 
--- the rows tell what each of these jobs asks for
-abbrev pub AreTold : Network → Rows → List ℕ → Type 0
-AreTold net rows jobs = (k job : ℕ) → slice_get jobs k ≡ Some job → Tells net rows job
+-- the rows tell what each of these jobs asks for at a node of this kind, each demand in its limit
+abbrev pub HaveDemands : Rows → Kind → List ℕ → Type 0
+HaveDemands rows kind jobs = (k job : ℕ) → slice_get jobs k ≡ Some job → HasDemands rows kind job
 
 -- the rows tell what each of these jobs asks for by this demand
 abbrev pub AreAsked : Rows → Demand → List ℕ → Type 0
 AreAsked rows demand jobs = (k job : ℕ) → slice_get jobs k ≡ Some job → HasDemand rows demand job
 
--- the rows have the value of this job that a route looks at; by turns it looks at none
-abbrev pub HasRouteValue : Rows → Route → ℕ → Type 0
-HasRouteValue rows (Modulo outputs column) job = HasDemand rows (Column column) job
-HasRouteValue rows (Turn outputs) job = Unit {0}
-HasRouteValue rows (Cut column thresholds) job = HasDemand rows (Column column) job
-
--- they have that of each of these jobs
+-- the rows have the value of each of these jobs that a route looks at
 abbrev pub AreRouted : Rows → Route → List ℕ → Type 0
 AreRouted rows route jobs = (k job : ℕ) → slice_get jobs k ≡ Some job → HasRouteValue rows route job
 
--- arrivals that a node of this kind can work on: in order, few and early; in some network its numbers are in their ranges, and
--- the rows tell what each job asks for at its nodes; and what leaves by each output is in order
+-- arrivals that a node of this kind can work on: in order, few and early; its numbers are in their ranges, in a model of so many
+-- columns, and the rows tell what each job asks for; and what leaves by each output is in order
 pub record IsLoad (rows : Rows) (kind : Kind) (arrivals : Stream) : Type 0 where
-  pub net : Network
-  pub sound : IsTrue (is_sound_kind (length net.columns) kind)
+  pub columns : ℕ
+  pub sound : IsTrue (is_sound_kind columns kind)
   pub ordered : IsEarlyStream arrivals
   pub few : length arrivals.time ≤ 1048576
-  pub told : AreTold net rows arrivals.job
+  pub told : HaveDemands rows kind arrivals.job
   pub leaves : (out : ℕ) → IsStream (sequence_stream rows kind (came_in arrivals) out)
 
 -- the streams are those of the sequences, one per output

@@ -1,7 +1,8 @@
 // What comes to a node: the rows of a source, or the streams that ports read, merged.
 ghost use Rattle.std.specs.Prelude.{◌≡◌, ◌==◌, ◌<◌, ◌≤◌, ℕ, count_by, length, IfOk, IsTrue, Some, slice_get};
 ghost use Rattle.std.specs.List.{flat_map};
-ghost use Rattle.mq_core.specs.Sequences.{IsStream, by_first, pairs_of, rows_at};
+ghost use Rattle.mq_core.specs.Sequences.{IsStream, rows_at};
+ghost use Rattle.mq_core.specs.Streams.{by_first, pairs_of};
 ghost use Rattle.mq_core.specs.Laws.{Rises};
 ghost use Rattle.mq_core.specs.declared.model.Input.{Input as Port};
 ghost use Rattle.mq_engine.specs.Working.{AreEarly, IsEarlyStream, IsThere, arriving, pairs_read};

@@ -34,6 +34,8 @@ pub enum Stage {
     Last(List<Mp>),
     /// The latest departures of a tandem before each block.
     Latest(List<Latest>),
+    /// Nothing yet: the branches of a fork-join come later.
+    Unbegun,
 }
 
 impl<'a> Pieces for Load<'a> {
@@ -50,6 +52,7 @@ impl<'a> Pieces for Load<'a> {
             Scan::Unscanned => 1,
             Scan::OfServer(scan) => scan.blocks.blocks,
             Scan::OfTandem(scan) => scan.blocks.blocks,
+            Scan::OfForkJoin(_) => 0,
         }
     }
 
@@ -61,6 +64,7 @@ impl<'a> Pieces for Load<'a> {
                 let sum = tandem_sum(&self.arrivals, scan, b);
                 Ok(Part::Product(Box::new(alloc, sum)?))
             }
+            Scan::OfForkJoin(_) => unreachable!(),
         }
     }
 }
@@ -99,6 +103,7 @@ pub fn stage_of(alloc: Global, load: &Load, group: List<Part>) -> Result<Stage, 
             let carries = tandem_carries(alloc, &load.arrivals, scan, &group)?;
             Ok(Stage::Latest(carries))
         }
+        Scan::OfForkJoin(_) => Ok(Stage::Unbegun),
     }
 }
 

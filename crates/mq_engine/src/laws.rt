@@ -2,7 +2,7 @@
 ghost use Rattle.mq_engine.specs.CoreLaws.{CoreLaws};
 
 use mq_core::{
-    arrivals_are_streams, fates_are_in_time, jobs_are_rows, nodes_are_in_limits,
+    arrivals_are_streams, fates_are_in_time, jobs_are_rows, no_kind_copies, nodes_are_in_limits,
     nodes_are_sequences, on_time_grows, orders_keep_items, orders_rank, outputs_have_streams,
     past_is_first, past_is_none, rows_tell_demands, sequences_are_blind, sequences_go_by_fates,
     sequences_make_runs, streams_make_outputs, streams_rise, visits_are_few,
@@ -16,6 +16,7 @@ pub fn core_laws()
     orders_rank();
     rows_tell_demands();
     arrivals_are_streams();
+    no_kind_copies();
     visits_are_few();
     jobs_are_rows();
     fates_are_in_time();

@@ -11,6 +11,7 @@ ghost use Rattle.mq_engine.specs.Progress.{IsReached, is_ready};
 
 mod arrivals;
 mod blocks;
+mod branches;
 mod exits;
 mod fault;
 mod firsts;
@@ -21,6 +22,7 @@ mod middles;
 mod outflow;
 mod progress;
 mod ready;
+mod servers;
 mod stations;
 mod working;
 
@@ -42,9 +44,9 @@ use std::thread::Threads;
 /// Each node is worked out alone, behind all that it reads: its arrivals are the rows of a source by
 /// time, or the streams that its ports read, merged by time and then port; the recurrence of its
 /// kind gives the departures. All nodes whose inputs are done are worked out in one wave, by 1 to 64
-/// workers that draw pieces. For several workers a server or a tandem with more jobs than a block is
-/// cut into blocks of at least that many jobs, at most 16,384 and 1,024 of them, and scanned (Greenberg,
-/// Lubachevsky and Mitrani 1991). A block is also the first window of a loss station. The gate is
+/// workers that draw pieces. For several workers a server, a fork-join or a tandem with more jobs than a
+/// block is cut into blocks of at least that many jobs, at most 16,384 and for a tandem 1,024 of them, and
+/// scanned (Greenberg, Lubachevsky and Mitrani 1991), a fork-join server after server of its branches. A block is also the first window of a loss station. The gate is
 /// entered with each piece that is drawn. The run is the same for all workers, blocks and gates.
 ///
 /// It refuses a run in which a visit departs after the bound, and names the first such visit by rank

@@ -7,7 +7,9 @@ ghost use Rattle.mq_engine.specs.Working.{AreEarly, IsLoad};
 
 use crate::arrivals::arrivals_at;
 use crate::laws::core_laws;
-use crate::stations::{ServerScan, TandemScan, server_scan, tandem_scan};
+use crate::stations::{
+    ForkJoinScan, ServerScan, TandemScan, forkjoin_scan, server_scan, tandem_scan,
+};
 use mq_base::{List, OutOfMemory};
 use mq_core::{Kind, Plan, Rows, Stream};
 use mq_crew::Pieces;
@@ -35,6 +37,8 @@ pub enum Scan {
     OfServer(ServerScan),
     /// A tandem, block by block.
     OfTandem(TandemScan),
+    /// A fork-join, block by block at each server.
+    OfForkJoin(ForkJoinScan),
 }
 
 /// The nodes that are ready, and the streams of those that are done.
@@ -110,8 +114,9 @@ fn scan_of(
         Kind::Tandem(stages) => Ok(Scan::OfTandem(tandem_scan(
             alloc, rows, stages, arrivals, block,
         )?)),
-        Kind::Source | Kind::Delay(_) | Kind::Loss { .. } | Kind::ForkJoin(_) | Kind::Split(_) => {
-            Ok(Scan::Unscanned)
-        }
+        Kind::ForkJoin(branches) => Ok(Scan::OfForkJoin(forkjoin_scan(
+            alloc, rows, branches, arrivals, block,
+        )?)),
+        Kind::Source | Kind::Delay(_) | Kind::Loss { .. } | Kind::Split(_) => Ok(Scan::Unscanned),
     }
 }

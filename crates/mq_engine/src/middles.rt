@@ -1,19 +1,21 @@
 // The further pieces of the stations that are scanned: their blocks, applied.
-ghost use Rattle.std.specs.Prelude.{◌≡◌, IfOk};
+ghost use Rattle.std.specs.Prelude.{◌≡◌, ◌≤◌, IfOk};
 ghost use Rattle.mq_crew.specs.Crew.{AreAll};
 ghost use Rattle.mq_engine.specs.Loads.{IsAll, IsApplied, IsExit, IsLast, IsLatest, IsLoaded, IsReadyMiddle, IsStage, applied_of};
 ghost use Rattle.mq_engine.specs.declared.firsts.Stage.TheVariants.{Ended, Last};
 
+use crate::branches::forkjoin_departures;
 use crate::exits::Exit;
 use crate::firsts::Stage;
 use crate::loads::{Load, Scan};
 use crate::stations::{server_departures, server_times, tandem_joined, tandem_times};
 use crate::working::After;
 use mq_base::{List, OutOfMemory};
-use mq_crew::Pieces;
+use mq_crew::{Gate, Pieces};
 use mq_maxplus::Mp;
 use mq_tandem::Latest;
 use std::alloc::Global;
+use std::thread::Threads;
 
 /// A station after its first pieces.
 #[derive(Drop)]
@@ -36,6 +38,7 @@ impl<'a> Pieces for Middle<'a> {
             Scan::Unscanned => 0,
             Scan::OfServer(scan) => scan.blocks.blocks,
             Scan::OfTandem(scan) => scan.blocks.blocks,
+            Scan::OfForkJoin(_) => 0,
         }
     }
 
@@ -45,6 +48,7 @@ impl<'a> Pieces for Middle<'a> {
             Scan::Unscanned => unreachable!(),
             Scan::OfServer(scan) => server_times(alloc, arrivals, scan, last_of(&self.stage), b),
             Scan::OfTandem(scan) => tandem_times(alloc, arrivals, scan, latest_of(&self.stage), b),
+            Scan::OfForkJoin(_) => unreachable!(),
         }
     }
 }
@@ -56,7 +60,7 @@ fn last_of(stage: &Stage) -> &List<Mp>
 {
     match stage {
         Stage::Last(carries) => carries,
-        Stage::Ended(_) | Stage::Latest(_) => unreachable!(),
+        Stage::Ended(_) | Stage::Latest(_) | Stage::Unbegun => unreachable!(),
     }
 }
 
@@ -67,20 +71,26 @@ fn latest_of(stage: &Stage) -> &List<Latest>
 {
     match stage {
         Stage::Latest(carries) => carries,
-        Stage::Ended(_) | Stage::Last(_) => unreachable!(),
+        Stage::Ended(_) | Stage::Last(_) | Stage::Unbegun => unreachable!(),
     }
 }
 
-// What is known of a station when all its jobs have left: of its applied blocks, where it is scanned.
-pub fn exit_of(
+// What is known of a station when all its jobs have left: of its applied blocks, where it is scanned. The
+// branches of a fork-join are scanned here.
+pub fn exit_of<R: Threads + Sync, G: Gate>(
+    rt: &R,
     alloc: Global,
+    workers: u32,
     load: &Load,
     stage: Stage,
     group: &List<List<u64>>,
+    gate: &G,
 ) -> Result<Exit, OutOfMemory>
     requires loaded { IsLoaded load.now.plan.now load.now.rows.now load.now.number load.now.arrivals load.now.scan }
     requires stage { IsStage load.now.plan.now load.now.rows.now load.now.number load.now.arrivals load.now.scan stage }
     requires group { AreAll (IsApplied load.now.arrivals load.now.scan) (applied_of load.now.scan) group.now }
+    requires some { 1 ≤ workers }
+    requires most { workers ≤ 64 }
     ensures { IfOk result (λ exit. IsExit load.now.plan.now load.now.rows.now load.now.number load.now.arrivals exit) }
 {
     match &load.scan {
@@ -91,6 +101,10 @@ pub fn exit_of(
         }
         Scan::OfTandem(scan) => {
             let departs = tandem_joined(alloc, &load.arrivals, scan, group)?;
+            Ok(Exit::Served(departs))
+        }
+        Scan::OfForkJoin(scan) => {
+            let departs = forkjoin_departures(rt, alloc, workers, &load.arrivals, scan, gate)?;
             Ok(Exit::Served(departs))
         }
     }
@@ -105,5 +119,6 @@ fn the_end(stage: Stage) -> After
         Stage::Ended(after) => after,
         Stage::Last(_carries) => unreachable!(),
         Stage::Latest(_carries) => unreachable!(),
+        Stage::Unbegun => unreachable!(),
     }
 }

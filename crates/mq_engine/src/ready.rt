@@ -11,7 +11,7 @@ ghost use Rattle.mq_engine.specs.Working.{AreEarly};
 
 use crate::exits::{Closed, Emptied, result_of};
 use crate::firsts::{Part, stage_of};
-use crate::loads::{Arriving, Load};
+use crate::loads::{Arriving, Load, Scan};
 use crate::middles::{Middle, exit_of};
 use crate::working::NodeResult;
 use mq_base::{List, OutOfMemory};
@@ -21,7 +21,8 @@ use std::thread::Threads;
 
 // What the nodes that are ready give, in four lists of pieces: what comes to each; the summaries
 // of the stations that are scanned, and the others whole; the applied blocks; and of the scanned ones the
-// fates, how many each visit found, and the jobs that leave.
+// fates, how many each visit found, and the jobs that leave. Before the last list each fork-join has
+// lists of its own.
 pub fn results_of<R: Threads + Sync, G: Gate>(
     rt: &R,
     alloc: Global,
@@ -43,7 +44,7 @@ pub fn results_of<R: Threads + Sync, G: Gate>(
     let groups = run_parts(rt, alloc, workers, loads.as_slice(), gate)?;
     let middles = middles_of(alloc, loads, groups)?;
     let groups = run_parts(rt, alloc, workers, middles.as_slice(), gate)?;
-    let those_emptied = all_emptied(alloc, middles, groups)?;
+    let those_emptied = all_emptied(rt, alloc, workers, middles, groups, gate)?;
     let groups = run_parts(rt, alloc, workers, those_emptied.as_slice(), gate)?;
     ended(rt, alloc, workers, those_emptied, groups)
 }
@@ -74,13 +75,18 @@ fn middles_of<'a>(
 }
 
 // The stations whose departures are known, of their applied blocks where they are scanned.
-fn all_emptied<'a>(
+fn all_emptied<'a, R: Threads + Sync, G: Gate>(
+    rt: &R,
     alloc: Global,
+    workers: u32,
     middles: List<Middle<'a>>,
     groups: List<List<List<u64>>>,
+    gate: &G,
 ) -> Result<List<Emptied<'a>>, OutOfMemory>
     requires ready { AllByRecursion IsReadyMiddle middles }
     requires groups { AreGroups (λ m. applied_of m.load.scan) (λ m b times. IsApplied m.load.arrivals m.load.scan b times) middles groups }
+    requires some { 1 ≤ workers }
+    requires most { workers ≤ 64 }
     ensures len { IfOk result (λ those_emptied. length those_emptied ≡ length middles.entry) }
     ensures ready { IfOk result (λ those_emptied. AllByRecursion IsReadyExit those_emptied) }
     ensures of { IfOk result (λ those_emptied. (plan : ThePlan) (rows : TheRows) (ready : Items ℕ) → AllByRecursion (λ m. IsLoadOf plan rows ready m.load) middles.entry → AllByRecursion (λ l. IsLoadOf plan rows ready l.load) those_emptied) }
@@ -92,8 +98,10 @@ fn all_emptied<'a>(
         let Some(group) = groups.pop() else {
             unreachable!()
         };
-        let Middle { load, stage } = middle;
-        let exit = exit_of(alloc, &load, stage, &group)?;
+        let Middle { mut load, stage } = middle;
+        let exit = exit_of(rt, alloc, workers, &load, stage, &group, gate)?;
+        // No last piece looks at what the scan holds, which is large.
+        load.scan = Scan::Unscanned;
         those_emptied.push(Emptied { load, exit })?;
     }
     Ok(those_emptied)

@@ -13,6 +13,7 @@ mod tandem;
 use crate::outflow::Outflow;
 use delay::delay_outflow;
 use forkjoin::forkjoin_outflow;
+pub use forkjoin::{ForkJoinScan, forkjoin_scan};
 use loss::loss_outflow;
 use mq_base::OutOfMemory;
 use mq_core::{Kind, Rows, Stream};

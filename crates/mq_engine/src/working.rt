@@ -1,7 +1,9 @@
 // How a node is worked out, from its arrivals to its visits and what leaves it.
 ghost use Rattle.std.specs.Prelude.{◌≡◌, ◌≤◌, All, length, map, IfOk};
 ghost use Rattle.mq_core.specs.Came.{came_in};
-ghost use Rattle.mq_core.specs.Sequences.{IsStream, by_first, sequence_fates, founds_of, pairs_of, stream_in_order};
+ghost use Rattle.mq_core.specs.Sequences.{IsStream, sequence_fates, stream_in_order};
+ghost use Rattle.mq_core.specs.OnceOut.{founds_of};
+ghost use Rattle.mq_core.specs.Streams.{by_first, pairs_of};
 ghost use Rattle.mq_core.specs.Laws.{Rises};
 ghost use Rattle.mq_core.specs.Sound.{outputs_in};
 ghost use Rattle.mq_core.specs.declared.model.Fate.TheVariants.{Departs};

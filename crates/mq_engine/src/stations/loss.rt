@@ -1,6 +1,7 @@
 // A loss station: which arrivals find a place, and where each goes.
 ghost use Rattle.std.specs.Prelude.{◌≡◌, ◌<◌, ◌≤◌, length, map, IfOk};
-ghost use Rattle.mq_core.specs.Sequences.{IsSoundLoad, picked};
+ghost use Rattle.mq_core.specs.Sequences.{IsSoundLoad};
+ghost use Rattle.mq_core.specs.Streams.{picked};
 ghost use Rattle.mq_core.specs.declared.model.Kind.TheVariants.{Loss};
 ghost use Rattle.mq_engine.specs.Losses.{AreAdmittedAndLost, fates_by, out_of_admission};
 ghost use Rattle.mq_engine.specs.Working.{IsLeaving, IsLoad};

@@ -1,8 +1,8 @@
 // A split: each job goes on as it comes, by the output of its route.
 ghost use Rattle.std.specs.Prelude.{◌≡◌, map, IfOk};
-ghost use Rattle.mq_core.specs.Kinds.Split.{route_value};
+ghost use Rattle.mq_core.specs.Kinds.Split.{HasRouteValue, route_value};
 ghost use Rattle.mq_core.specs.declared.model.Kind.TheVariants.{Split};
-ghost use Rattle.mq_engine.specs.Working.{AreRouted, HasRouteValue, IsLeaving, IsLoad};
+ghost use Rattle.mq_engine.specs.Working.{AreRouted, IsLeaving, IsLoad};
 
 use crate::outflow::{Outflow, fates_of};
 use mq_base::{List, OutOfMemory};

@@ -1,5 +1,5 @@
 // A tandem, whole and by blocks.
-ghost use Rattle.std.specs.Prelude.{◌≡◌, ◌<◌, ◌≤◌, ◌*◌, [], ℕ, List as Items, length, map, IfOk, slice_index_or};
+ghost use Rattle.std.specs.Prelude.{◌≡◌, ◌<◌, ◌≤◌, ◌+◌, ◌*◌, ◌/◌, [], ℕ, List as Items, length, map, max, IfOk, slice_index_or};
 ghost use Rattle.mq_core.specs.Recurrences.{tandem_departs};
 ghost use Rattle.mq_core.specs.declared.model.Kind.TheVariants.{Tandem};
 ghost use Rattle.mq_engine.specs.Loads.{AreTandemCarries, AreTandemTimes, IsTandemPart, IsTandemScan, IsTandemSum};
@@ -75,6 +75,7 @@ pub fn tandem_scan(
 // blocks, since the matrix of each takes some 4,000 bytes.
 fn long_block(jobs: u32, block: u32) -> u32
     requires { 1 ≤ block }
+    ensures is { result ≡ max block ((jobs + 1023) / 1024) }
     ensures some { 1 ≤ result }
     ensures few { jobs ≤ 1024 * result }
 {

@@ -14,8 +14,11 @@ use std::thread::Threads;
 // A source and a tandem of three stages.
 const TANDEM: &[u8] = b"model 1\nsource src\ntandem line a / 2 b / 1 c from src\n";
 
-// Its jobs.
-const TANDEM_TRACE: &[u8] = b"source,time,a,b,c\nsrc,0,2,3,1\nsrc,1,1,1,4\nsrc,2,2,1,1\n";
+// A source and a fork-join of two branches, one of them of two servers.
+const FORKJOIN: &[u8] = b"model 1\nsource src\nforkjoin both a b | c from src\n";
+
+// Their jobs.
+const JOBS: &[u8] = b"source,time,a,b,c\nsrc,0,2,3,1\nsrc,1,1,1,4\nsrc,2,2,1,1\n";
 
 // How often a held entry looks whether the other has come.
 const TURNS: u64 = 2_000_000_000;
@@ -87,11 +90,24 @@ fn two_threads_enter_the_gate_at_a_server(rt: HostRuntime) -> Result<(), Fail> {
 #[test]
 fn two_threads_enter_the_gate_at_a_tandem(rt: HostRuntime) -> Result<(), Fail> {
     let gate = nobody();
-    assert!(rt; is_done(&rt, rt.alloc(), TANDEM, TANDEM_TRACE, &gate)?);
+    assert!(rt; is_done(&rt, rt.alloc(), TANDEM, JOBS, &gate)?);
     assert!(rt; gate.run_out.load(SeqCst) == 0);
     // the same: a summary and an applied block of each job, and the last lists
     for piece in 0..3usize {
         assert!(rt; gate.came[piece].load(SeqCst) >= 3);
+    }
+    Ok(())
+}
+
+#[test]
+fn two_threads_enter_the_gate_at_a_forkjoin(rt: HostRuntime) -> Result<(), Fail> {
+    let gate = nobody();
+    assert!(rt; is_done(&rt, rt.alloc(), FORKJOIN, JOBS, &gate)?);
+    assert!(rt; gate.run_out.load(SeqCst) == 0);
+    // a summary and an applied block of each job at the first servers and again at the second, and the
+    // last lists
+    for piece in 0..3usize {
+        assert!(rt; gate.came[piece].load(SeqCst) >= 5);
     }
     Ok(())
 }

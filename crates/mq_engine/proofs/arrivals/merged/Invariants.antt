@@ -1,6 +1,7 @@
 use Rattle.std.proofs.Common.{◌≡◌, take}
 use Rattle.std.specs.List.{flat_map}
-use Rattle.mq_core.specs.Sequences.{IsStream, by_first, pairs_of}
+use Rattle.mq_core.specs.Sequences.{IsStream}
+use Rattle.mq_core.specs.Streams.{by_first, pairs_of}
 use Rattle.mq_engine.specs.Working.{pairs_read}
 use Rattle.mq_engine.proofs.arrivals.merged.Given as goal
 

@@ -1,5 +1,5 @@
 use Rattle.std.proofs.Common.{◌∙◌, sym, ap, rules}
-use Rattle.mq_core.specs.Sequences.{by_first}
+use Rattle.mq_core.specs.Streams.{by_first}
 use Rattle.mq_engine.proofs.Sorted.{by_first-rises}
 use Rattle.mq_engine.proofs.arrivals.rows_by_time.Goals as goal
 

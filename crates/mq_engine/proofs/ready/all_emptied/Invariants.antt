@@ -3,7 +3,7 @@ use Rattle.mq_engine.proofs.Groups.{AreEmptied}
 use Rattle.mq_engine.proofs.ready.all_emptied.Given as goal
 
 abbrev pub invariant-loop-middle : goal.invariant-loop-middle
-invariant-loop-middle l = AreEmptied l.initial.middles.items l.middles.items l.groups.items l.those_emptied
+invariant-loop-middle g l = AreEmptied l.initial.middles.items l.middles.items l.groups.items l.those_emptied
 
 abbrev pub decreases-loop-middle : goal.decreases-loop-middle
-decreases-loop-middle l = length l.middles.items
+decreases-loop-middle g l = length l.middles.items

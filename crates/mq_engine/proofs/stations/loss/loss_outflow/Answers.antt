@@ -1,16 +1,16 @@
 use Rattle.mq_core.specs.declared.model.Kind.TheVariants.{Loss}
 use Rattle.mq_engine.proofs.Leaves.{asked-each, load-sound}
-use Rattle.mq_engine.proofs.LossFates.{loses, settled-even, sound-demand, some-places}
+use Rattle.mq_engine.proofs.LossFates.{loses, settled-even, some-places}
 use Rattle.mq_engine.proofs.stations.loss.loss_outflow.Goals as goal
 
 pub demands_of-requires : goal.demands_of-requires
-demands_of-requires c = asked-each c.args.rows.now (Loss c.args.places c.args.demand.now) c.args.demand.now c.args.arrivals.now c.requires.load (sound-demand c.requires.load.net c.args.places c.args.demand.now c.requires.load.sound)
+demands_of-requires c = asked-each c.args.rows.now c.args.demand.now c.args.arrivals.now.job c.requires.load.told
 
 pub settled-requires-clause-load : goal.settled-requires-clause-load
-settled-requires-clause-load c = load-sound c.args.rows.now (Loss c.args.places c.args.demand.now) c.args.demand.now c.args.arrivals.now _ c.requires.load (sound-demand c.requires.load.net c.args.places c.args.demand.now c.requires.load.sound) c.in_ok-demands.ensures
+settled-requires-clause-load c = load-sound c.args.rows.now (Loss c.args.places c.args.demand.now) c.args.demand.now c.args.arrivals.now _ c.requires.load c.requires.load.told c.in_ok-demands.ensures
 
 pub settled-requires-clause-places : goal.settled-requires-clause-places
-settled-requires-clause-places c = some-places c.requires.load.net c.args.places c.args.demand.now c.requires.load.sound
+settled-requires-clause-places c = some-places c.requires.load.columns c.args.places c.args.demand.now c.requires.load.sound
 
 pub streams_of-requires : goal.streams_of-requires
 streams_of-requires c =

@@ -1,6 +1,6 @@
 use Rattle.std.proofs.Common.{Global, Vec, ◌≤◌, ◌++◌, ◌∷◌, [], ℕ, List, Bool, true, false, length, map, Some, ap, ◌∙◌, arith}
 use Rattle.std.specs.Vec.{vec_len, vec_capacity}
-use Rattle.mq_core.specs.Sequences.{picked}
+use Rattle.mq_core.specs.Streams.{picked}
 use Rattle.mq_engine.specs.Losses.{out_of_admission}
 use Rattle.mq_engine.proofs.LossFates.{both, elsewhere-next, here-next, here-room, left-end}
 use Rattle.mq_engine.proofs.stations.loss.streams_of.Goals as goal

@@ -1,6 +1,6 @@
 use Rattle.std.proofs.Common.{◌≡◌, ◌≤◌, ◌++◌, true, false, length, map}
 use Rattle.std.specs.Vec.{vec_len, vec_capacity}
-use Rattle.mq_core.specs.Sequences.{picked}
+use Rattle.mq_core.specs.Streams.{picked}
 use Rattle.mq_engine.specs.Losses.{out_of_admission}
 use Rattle.mq_engine.proofs.LossFates.{left}
 use Rattle.mq_engine.proofs.stations.loss.streams_of.Given as goal

@@ -1,11 +1,10 @@
 use Rattle.std.proofs.Common.{arith}
-use Rattle.mq_core.specs.declared.model.Kind.TheVariants.{Server}
 use Rattle.mq_engine.proofs.Groups.{blocks-most}
 use Rattle.mq_engine.proofs.Leaves.{asked-each}
 use Rattle.mq_engine.proofs.stations.server.server_scan.Goals as goal
 
 pub demands_of-requires : goal.demands_of-requires
-demands_of-requires c = asked-each c.args.rows.now (Server c.args.demand.now) c.args.demand.now c.args.arrivals.now c.requires.load c.requires.load.sound
+demands_of-requires c = asked-each c.args.rows.now c.args.demand.now c.args.arrivals.now.job c.requires.load.told
 
 pub returns : goal.returns
 returns c =

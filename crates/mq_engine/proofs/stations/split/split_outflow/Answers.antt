@@ -1,8 +1,8 @@
-use Rattle.mq_engine.proofs.Leaves.{routed-each, routed-outputs, splits}
+use Rattle.mq_engine.proofs.Leaves.{routed-outputs, splits}
 use Rattle.mq_engine.proofs.stations.split.split_outflow.Goals as goal
 
 pub values_of-requires : goal.values_of-requires
-values_of-requires c = routed-each c.args.rows.now c.args.route.now c.args.arrivals.now c.requires
+values_of-requires c = c.requires.told
 
 pub split-requires-clause-route : goal.split-requires-clause-route
 split-requires-clause-route c = routed-outputs c.args.rows.now c.args.route.now c.args.arrivals.now c.requires

@@ -1,11 +1,10 @@
-use Rattle.std.proofs.Common.{length, arith}
-use Rattle.mq_core.specs.declared.model.Kind.TheVariants.{Tandem}
+use Rattle.std.proofs.Common.{arith}
 use Rattle.mq_engine.proofs.Groups.{blocks-most}
-use Rattle.mq_engine.proofs.StageFacts.{demands-asked, sound-stages}
+use Rattle.mq_engine.proofs.StageFacts.{demands-asked, demands-told}
 use Rattle.mq_engine.proofs.stations.tandem.tandem_scan.Goals as goal
 
 pub all_demands_of-requires : goal.all_demands_of-requires
-all_demands_of-requires c = demands-asked c.args.rows.now (Tandem c.args.stages.now) _ _ c.args.arrivals.now c.requires.load c.in_ok-asked.ensures (sound-stages (length c.requires.load.net.columns) c.args.stages.now c.requires.load.sound).asked
+all_demands_of-requires c = demands-asked c.args.rows.now _ _ c.args.arrivals.now.job c.in_ok-asked.ensures (demands-told c.args.rows.now _ c.args.arrivals.now.job c.requires.load.told)
 
 pub returns : goal.returns
 returns c =
