@@ -6,3 +6,4 @@ pub mod Founds
 pub mod InOrder
 pub mod Passing
 pub mod Telling
+pub mod Joins

@@ -1,7 +1,14 @@
 -- What the numbers of a node are worked out from, and how they are read.
-use Rattle.std.specs.Prelude.{◌≡◌, ◌<◌, ◌≤◌, All, length}
+use Rattle.std.specs.Prelude.{◌≡◌, ◌+◌, ◌*◌, ◌^◌, ◌<◌, ◌≤◌, ℕ, List, All, length, max}
+use Rattle.mq_base.specs.Lists.{between}
 use Rattle.mq_core.specs.Asked.{HasDemands}
-use Rattle.mq_core.specs.Results.{Totals}
+use Rattle.mq_core.specs.Fates.{service_time}
+use Rattle.mq_core.specs.Handling.{demand_of_job}
+use Rattle.mq_core.specs.Results.{Totals, bare_time}
+use Rattle.mq_core.specs.Sequences.{sequence_totals}
+use Rattle.mq_core.specs.Told.{HasDemand}
+use Rattle.mq_core.specs.declared.model.Demand.{Demand}
+use Rattle.mq_core.specs.declared.model.Fate.{Fate}
 use Rattle.mq_core.specs.declared.model.Kind.{Kind}
 use Rattle.mq_core.specs.declared.model.Rows.{Rows}
 use Rattle.mq_core.specs.declared.model.Stream.{Stream}
@@ -17,6 +24,28 @@ pub record AreVisits (rows : Rows) (kind : Kind) (visits : Visits) : Type 0 wher
   pub fates : length visits.fate ≡ length visits.job
   pub told : All (λ job. HasDemands rows kind job) visits.job
   pub small : All (λ found. found ≤ 1048576) visits.found
+
+-- The same of jobs, arrivals and fates alone.
+pub record AreWaiting (rows : Rows) (kind : Kind) (job arrive : List ℕ) (fate : List Fate) : Type 0 where
+  pub few : length job ≤ 1048576
+  pub arrives : length arrive ≡ length job
+  pub fates : length fate ≡ length job
+  pub told : All (λ j. HasDemands rows kind j) job
+
+-- visits whose columns are these
+abbrev pub visits_of_columns : List ℕ → List ℕ → List ℕ → List Fate → Visits
+visits_of_columns job arrive found fate = record { job = job; arrive = arrive; found = found; fate = fate }
+
+-- the visits from a position up to another
+abbrev pub visits_between : ℕ → ℕ → Visits → Visits
+visits_between from to visits =
+    visits_of_columns (between from to visits.job) (between from to visits.arrive) (between from to visits.found) (between from to visits.fate)
+
+-- what a job asks for at a node of this kind is this demand alone: it is both its bare time and its service
+pub record AsksOnce (kind : Kind) (demand : Demand) : Type 0 where
+  pub told : (rows : Rows) (job : ℕ) → HasDemands rows kind job → HasDemand rows demand job
+  pub bare : (rows : Rows) (job : ℕ) → bare_time rows kind job ≡ demand_of_job rows demand job
+  pub service : (rows : Rows) (job : ℕ) → service_time rows kind job ≡ demand_of_job rows demand job
 
 -- a stream of jobs of these rows, no longer than a trace
 pub record AreLeaving (rows : Rows) (stream : Stream) : Type 0 where
@@ -37,3 +66,32 @@ totals_from totals =
       area = totals.area;
       peak = totals.peak;
     }
+
+-- the totals of no more visits than a trace has rows, with sums of fewer than 2^64 ticks a visit
+pub record AreSmall (totals : NodeTotals) : Type 0 where
+  pub few : totals.came ≤ 1048576
+  pub left : totals.left ≤ totals.came
+  pub lost : totals.lost ≤ totals.came
+  pub wait : totals.wait ≤ totals.came * 2 ^ 64
+  pub busy : totals.busy ≤ totals.came * 2 ^ 64
+  pub area : totals.area ≤ totals.came * 2 ^ 64
+
+-- counts and sums added, and of greatest numbers the greater
+abbrev pub added_totals : Totals → Totals → Totals
+added_totals before after =
+    record {
+      came = before.came + after.came;
+      left = before.left + after.left;
+      lost = before.lost + after.lost;
+      wait = before.wait + after.wait;
+      longest = max before.longest after.longest;
+      busy = before.busy + after.busy;
+      area = before.area + after.area;
+      peak = max before.peak after.peak;
+    }
+
+-- The totals of neighbouring visits, added up, are those of all of them; and the visits from the first to the last are all.
+pub record TotalsJoin : Type 0 where
+  pub join : (rows : Rows) (kind : Kind) (visits : Visits) → AreVisits rows kind visits → (from middle to : ℕ) → from ≤ middle → middle ≤ to → to ≤ length visits.job →
+      added_totals (sequence_totals rows kind (visits_between from middle visits)) (sequence_totals rows kind (visits_between middle to visits)) ≡ sequence_totals rows kind (visits_between from to visits)
+  pub whole : (rows : Rows) (kind : Kind) (visits : Visits) → AreVisits rows kind visits → visits_between 0 (length visits.job) visits ≡ visits

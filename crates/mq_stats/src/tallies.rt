@@ -1,14 +1,13 @@
 // The totals of a node over a run.
-ghost use Rattle.std.specs.Prelude.{◌≡◌, ◌<◌, ◌≤◌, ◌^◌, ℕ, All, length, max, fold, sum, cond, count_by};
-ghost use Rattle.mq_core.specs.Asked.{HasDemands};
-ghost use Rattle.mq_core.specs.Sequences.{sequence_numbers, sequence_peak, sequence_service, sequence_services, sequence_sojourn, sequence_sojourns, sequence_totals, sequence_wait, sequence_waits, one_more};
-ghost use Rattle.mq_core.specs.Fates.{service_time};
-ghost use Rattle.mq_core.specs.Results.{bare_time, is_lost};
-ghost use Rattle.mq_core.specs.declared.model.Kind.{Kind as TheKind};
-ghost use Rattle.mq_core.specs.declared.model.Rows.{Rows as TheRows};
-ghost use Rattle.mq_stats.specs.Numbers.{AreVisits, totals_from};
+ghost use Rattle.std.specs.Prelude.{◌≡◌, ◌+◌, ◌*◌, ◌<◌, ◌≤◌, ◌^◌, All, length, max, fold, sum, cond, count_by};
+ghost use Rattle.mq_base.specs.Lists.{between};
+ghost use Rattle.mq_core.specs.Results.{is_lost};
+ghost use Rattle.mq_core.specs.Sequences.{one_more, sequence_numbers, sequence_peak, sequence_sojourn, sequence_sojourns, sequence_totals};
+ghost use Rattle.mq_stats.specs.Numbers.{AreSmall, AreVisits, TotalsJoin, added_totals, totals_from, visits_between, visits_of_columns};
 
-use mq_core::{Fate, Kind, Rows, Visits, bare_of, demand_of_branches, rows_tell_demands};
+use crate::waits::waits_of;
+use mq_base::List;
+use mq_core::{Fate, Kind, Rows, Visits};
 
 /// The totals of a node over a run.
 #[derive(Clone, Copy, Debug, PartialEq, Eq)]
@@ -42,54 +41,6 @@ fn one_if_lost(fate: Fate) -> u32
     }
 }
 
-/// How long a visit waited, in ticks: its sojourn less the time that it would have stayed anyway.
-/// A lost visit waited 0.
-///
-/// The rows have each column that the kind's demands name, and the column has the job. Each demand
-/// is at most 2^36.
-pub fn wait_of(rows: &Rows, kind: &Kind, job: u32, arrive: u64, fate: Fate) -> u64
-    requires { HasDemands rows.now kind.now job }
-    ensures { result ≡ sequence_wait rows.now kind.now job arrive fate }
-{
-    wait_beyond(bare_of(rows, kind, job), arrive, fate)
-}
-
-// How long a visit waited whose bare time this is, in ticks.
-fn wait_beyond(bare: u64, arrive: u64, fate: Fate) -> u64
-    ensures { (rows : TheRows) (kind : TheKind) (job : ℕ) → bare ≡ bare_time rows kind job → result ≡ sequence_wait rows kind job arrive fate }
-{
-    match fate {
-        Fate::Departs(time) => time.saturating_sub(arrive).saturating_sub(bare),
-        Fate::Lost => 0,
-    }
-}
-
-// How long a node of this kind serves a job that it doesn't lose, whose bare time this is, in ticks.
-fn service_at(rows: &Rows, kind: &Kind, job: u32, bare: u64) -> u64
-    requires told { HasDemands rows.now kind.now job }
-    requires bare { bare ≡ bare_time rows.now kind.now job }
-    ensures { result ≡ service_time rows.now kind.now job }
-{
-    match kind {
-        Kind::Source | Kind::Split(_) => 0,
-        Kind::Server(_) | Kind::Delay(_) | Kind::Loss { .. } | Kind::Tandem(_) => bare,
-        Kind::ForkJoin(branches) => demand_of_branches(rows, branches, job),
-    }
-}
-
-// How long a visit was served whose bare time this is, in ticks.
-fn service_of(rows: &Rows, kind: &Kind, job: u32, bare: u64, fate: Fate) -> u64
-    requires told { HasDemands rows.now kind.now job }
-    requires bare { bare ≡ bare_time rows.now kind.now job }
-    ensures { result ≡ sequence_service rows.now kind.now job fate }
-{
-    let service = service_at(rows, kind, job, bare);
-    match fate {
-        Fate::Departs(_) => service,
-        Fate::Lost => 0,
-    }
-}
-
 // How long a visit stayed, in ticks.
 fn sojourn_of(arrive: u64, fate: Fate) -> u64
     ensures { result ≡ sequence_sojourn arrive fate }
@@ -113,37 +64,37 @@ fn number_after(found: u32, fate: Fate) -> u32
 
 // What is counted, added up and greatest over visits, whatever the kind of the node.
 #[derive(Clone, Copy)]
-struct Stays {
-    lost: u32,
-    area: u128,
-    longest: u64,
-    greatest: u32,
+pub struct Stays {
+    pub lost: u32,
+    pub area: u128,
+    pub longest: u64,
+    pub greatest: u32,
 }
 
 // The lost visits, the sum and the greatest of the sojourns, and the greatest number of jobs just
 // after a visit came.
-// Its loop, like others below, is not inlined, so that it has the registers to itself.
+// Its loop is not inlined, so that it has the registers to itself.
 #[inline(never)]
-fn stays_of(visits: &Visits) -> Stays
-    requires few { length visits.now.arrive ≤ 1048576 }
-    requires founds { length visits.now.found ≡ length visits.now.arrive }
-    requires fates { length visits.now.fate ≡ length visits.now.arrive }
-    requires small { All (λ found. found ≤ 1048576) visits.now.found }
-    ensures lost { result.lost ≡ count_by is_lost visits.now.fate }
-    ensures some { result.lost ≤ length visits.now.arrive }
-    ensures area { result.area ≡ sum (sequence_sojourns visits.now.arrive visits.now.fate) }
-    ensures longest { result.longest ≡ fold max 0 (sequence_sojourns visits.now.arrive visits.now.fate) }
-    ensures greatest { result.greatest ≡ fold max 0 (sequence_numbers visits.now.found visits.now.fate) }
+fn stays_of(arrive: &[u64], found: &[u32], fate: &[Fate]) -> Stays
+    requires few { length arrive.now ≤ 1048576 }
+    requires founds { length found.now ≡ length arrive.now }
+    requires fates { length fate.now ≡ length arrive.now }
+    requires small { All (λ n. n ≤ 1048576) found.now }
+    ensures lost { result.lost ≡ count_by is_lost fate.now }
+    ensures some { result.lost ≤ length arrive.now }
+    ensures area { result.area ≡ sum (sequence_sojourns arrive.now fate.now) }
+    ensures longest { result.longest ≡ fold max 0 (sequence_sojourns arrive.now fate.now) }
+    ensures greatest { result.greatest ≡ fold max 0 (sequence_numbers found.now fate.now) }
+    ensures small { result.area ≤ length arrive.now * 2 ^ 64 }
 {
     let (mut lost, mut longest, mut greatest) = (0u32, 0u64, 0u32);
     let mut area = 0u128;
-    for at in 0..visits.arrive.len() {
-        let fate = *visits.fate.get(at);
-        let stayed = sojourn_of(*visits.arrive.get(at), fate);
-        lost += one_if_lost(fate);
+    for at in 0..arrive.len() {
+        let stayed = sojourn_of(arrive[at], fate[at]);
+        lost += one_if_lost(fate[at]);
         area += stayed as u128;
         longest = longest.max(stayed);
-        greatest = greatest.max(number_after(*visits.found.get(at), fate));
+        greatest = greatest.max(number_after(found[at], fate[at]));
     }
     Stays {
         lost,
@@ -153,64 +104,10 @@ fn stays_of(visits: &Visits) -> Stays
     }
 }
 
-// The sum and the greatest of the waiting times, and the sum of the services.
-#[derive(Clone, Copy)]
-struct Waits {
-    wait: u128,
-    longest: u64,
-    busy: u128,
-}
-
-// The waits at a node of this kind, one visit after another.
-#[inline(never)]
-fn each_wait(rows: &Rows, kind: &Kind, visits: &Visits) -> Waits
-    requires { AreVisits rows.now kind.now visits.now }
-    ensures wait { result.wait ≡ sum (sequence_waits rows.now kind.now visits.now.job visits.now.arrive visits.now.fate) }
-    ensures longest { result.longest ≡ fold max 0 (sequence_waits rows.now kind.now visits.now.job visits.now.arrive visits.now.fate) }
-    ensures busy { result.busy ≡ sum (sequence_services rows.now kind.now visits.now.job visits.now.fate) }
-    ensures small { result.busy ≤ 2 ^ 84 }
-{
-    let (mut wait, mut longest, mut busy) = (0u128, 0u64, 0u128);
-    for at in 0..visits.job.len() {
-        let (job, fate) = (*visits.job.get(at), *visits.fate.get(at));
-        let bare = bare_of(rows, kind, job);
-        let served = service_of(rows, kind, job, bare, fate);
-        let waited = wait_beyond(bare, *visits.arrive.get(at), fate);
-        busy += served as u128;
-        wait += waited as u128;
-        longest = longest.max(waited);
-    }
-    Waits {
-        wait,
-        longest,
-        busy,
-    }
-}
-
-// The waits at a node of this kind. A source and a split serve no job, so that each stay there is a wait.
-fn waits_of(rows: &Rows, kind: &Kind, visits: &Visits, stays: &Stays) -> Waits
-    requires visits { AreVisits rows.now kind.now visits.now }
-    requires area { stays.now.area ≡ sum (sequence_sojourns visits.now.arrive visits.now.fate) }
-    requires longest { stays.now.longest ≡ fold max 0 (sequence_sojourns visits.now.arrive visits.now.fate) }
-    ensures wait { result.wait ≡ sum (sequence_waits rows.now kind.now visits.now.job visits.now.arrive visits.now.fate) }
-    ensures longest { result.longest ≡ fold max 0 (sequence_waits rows.now kind.now visits.now.job visits.now.arrive visits.now.fate) }
-    ensures busy { result.busy ≡ sum (sequence_services rows.now kind.now visits.now.job visits.now.fate) }
-    ensures small { result.busy ≤ 2 ^ 84 }
-{
-    match kind {
-        Kind::Source | Kind::Split(_) => Waits {
-            wait: stays.area,
-            longest: stays.longest,
-            busy: 0,
-        },
-        _ => each_wait(rows, kind, visits),
-    }
-}
-
 // The peak of a node of this kind, where this is the greatest number of jobs just after a visit came.
-fn peak_of(kind: &Kind, greatest: u32, visits: &Visits) -> u32
-    requires { greatest ≡ fold max 0 (sequence_numbers visits.now.found visits.now.fate) }
-    ensures { result ≡ sequence_peak kind.now visits.now.found visits.now.fate }
+fn peak_of(kind: &Kind, greatest: u32, found: &[u32], fate: &[Fate]) -> u32
+    requires { greatest ≡ fold max 0 (sequence_numbers found.now fate.now) }
+    ensures { result ≡ sequence_peak kind.now found.now fate.now }
 {
     match kind {
         Kind::Source | Kind::Split(_) => 0,
@@ -222,17 +119,22 @@ fn peak_of(kind: &Kind, greatest: u32, visits: &Visits) -> u32
     }
 }
 
-/// The totals of a node of this kind, from its visits alone.
-///
-/// The busy time is below 2^100 ticks.
-pub fn totals(rows: &Rows, kind: &Kind, visits: &Visits) -> NodeTotals
-    requires { AreVisits rows.now kind.now visits.now }
-    ensures totals { totals_from result ≡ sequence_totals rows.now kind.now visits.now }
-    ensures small { result.busy < 2 ^ 100 }
+// The totals of visits to a node of this kind, which stand in these columns.
+fn totals_of(
+    rows: &Rows,
+    kind: &Kind,
+    job: &[u32],
+    arrive: &[u64],
+    found: &[u32],
+    fate: &[Fate],
+) -> NodeTotals
+    requires { AreVisits rows.now kind.now (visits_of_columns job.now arrive.now found.now fate.now) }
+    ensures totals { totals_from result ≡ sequence_totals rows.now kind.now (visits_of_columns job.now arrive.now found.now fate.now) }
+    ensures small { AreSmall result }
 {
-    let came = visits.job.len() as u32;
-    let stays = stays_of(visits);
-    let waits = waits_of(rows, kind, visits, &stays);
+    let came = job.len() as u32;
+    let stays = stays_of(arrive, found, fate);
+    let waits = waits_of(rows, kind, job, arrive, fate, &stays);
     NodeTotals {
         came,
         left: came - stays.lost,
@@ -241,6 +143,76 @@ pub fn totals(rows: &Rows, kind: &Kind, visits: &Visits) -> NodeTotals
         longest: waits.longest,
         busy: waits.busy,
         area: stays.area,
-        peak: peak_of(kind, stays.greatest, visits),
+        peak: peak_of(kind, stays.greatest, found, fate),
     }
+}
+
+// The items from one index up to another.
+fn part<T>(items: &List<T>, from: u32, to: u32) -> &[T]
+    requires order { from ≤ to }
+    requires within { to ≤ length items.now }
+    ensures { result.now ≡ between from to items.now }
+{
+    &items.as_slice()[from as usize..to as usize]
+}
+
+/// The totals of the visits to a node of this kind from one position up to another, as if no other
+/// came.
+pub fn totals_between(rows: &Rows, kind: &Kind, visits: &Visits, from: u32, to: u32) -> NodeTotals
+    requires visits { AreVisits rows.now kind.now visits.now }
+    requires order { from ≤ to }
+    requires within { to ≤ length visits.now.job }
+    ensures totals { totals_from result ≡ sequence_totals rows.now kind.now (visits_between from to visits.now) }
+    ensures small { AreSmall result }
+{
+    let job = part(&visits.job, from, to);
+    let arrive = part(&visits.arrive, from, to);
+    let found = part(&visits.found, from, to);
+    let fate = part(&visits.fate, from, to);
+    totals_of(rows, kind, job, arrive, found, fate)
+}
+
+/// The totals of visits to a node, of the totals of those before a position and of those from it on.
+/// Together they are at most 1,048,576 visits.
+pub fn totals_added(before: &NodeTotals, after: &NodeTotals) -> NodeTotals
+    requires before { AreSmall before.now }
+    requires after { AreSmall after.now }
+    requires few { before.now.came + after.now.came ≤ 1048576 }
+    ensures totals { totals_from result ≡ added_totals (totals_from before.now) (totals_from after.now) }
+    ensures small { AreSmall result }
+{
+    NodeTotals {
+        came: before.came + after.came,
+        left: before.left + after.left,
+        lost: before.lost + after.lost,
+        wait: before.wait + after.wait,
+        longest: before.longest.max(after.longest),
+        busy: before.busy + after.busy,
+        area: before.area + after.area,
+        peak: before.peak.max(after.peak),
+    }
+}
+
+/// The totals of neighbouring visits, added up, are those of all of them, and the visits from the first
+/// to the last are all. It does nothing when it runs.
+pub fn totals_join()
+    ensures { TotalsJoin }
+{}
+
+/// The totals of a node of this kind, from its visits alone.
+///
+/// The busy time is below 2^100 ticks.
+pub fn totals(rows: &Rows, kind: &Kind, visits: &Visits) -> NodeTotals
+    requires { AreVisits rows.now kind.now visits.now }
+    ensures totals { totals_from result ≡ sequence_totals rows.now kind.now visits.now }
+    ensures small { result.busy < 2 ^ 100 }
+{
+    totals_of(
+        rows,
+        kind,
+        visits.job.as_slice(),
+        visits.arrive.as_slice(),
+        visits.found.as_slice(),
+        visits.fate.as_slice(),
+    )
 }
