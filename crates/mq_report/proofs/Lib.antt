@@ -2,3 +2,4 @@ pub mod Runs
 pub mod Loops
 pub mod JobLines
 pub mod Names
+pub mod NodeTotals

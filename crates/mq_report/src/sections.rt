@@ -17,9 +17,9 @@ use mq_base::{Gather, List, Sink, SinkFault, flush};
 use mq_core::{
     Input, Node, Plan, Rows, Run, exits_are_streams, no_kind_copies, nodes_are_in_limits,
     orders_rank, outputs_have_streams, outputs_of, runs_are_of_networks, runs_have_sequences,
-    span_is_sequences, totals_are_sequences, visits_are_few,
+    span_is_sequences, visits_are_few,
 };
-use mq_stats::{Exit, NodeTotals, leaving, runs_give_streams, runs_give_visits, span, totals};
+use mq_stats::{Exit, NodeTotals, leaving, runs_give_streams, span};
 
 // Whether one of these inputs reads the output of the node.
 fn reads(inputs: &[Input], node: u32, output: u8) -> bool
@@ -37,22 +37,6 @@ fn is_read(nodes: &[Node], node: u32, output: u8) -> bool
     nodes
         .iter()
         .any(|other| reads(other.inputs.as_slice(), node, output))
-}
-
-// The totals of a node over the run.
-pub fn totals_at(plan: &Plan, rows: &Rows, run: &Run, node: u32, declared: &Node) -> NodeTotals
-    requires read { IsReadFor plan.now.net rows.now }
-    requires run { IsRunOf plan.now rows.now run.now }
-    requires there { slice_get plan.now.net.nodes node ≡ Some declared.now }
-    ensures totals { totals_from result ≡ totals_of rows.now declared.now.kind ((run_of plan.now rows.now).stations node) }
-    ensures small { result.busy < 2 ^ 100 }
-{
-    runs_have_sequences();
-    runs_give_visits();
-    no_kind_copies();
-    visits_are_few();
-    totals_are_sequences();
-    totals(rows, &declared.kind, run.visits.get(node as usize))
 }
 
 // The time of the last event of the run.

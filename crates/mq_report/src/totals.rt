@@ -1,45 +1,146 @@
-// The totals of the nodes, one piece a node.
-ghost use Rattle.std.specs.Prelude.{◌≡◌, ◌≤◌, ◌<◌, ◌^◌, length, IfOk, slice_get};
-ghost use Rattle.mq_core.specs.Sequences.{IsRunOf};
+// The totals of the nodes, by pieces of their visits.
+ghost use Rattle.std.specs.Prelude.{◌≡◌, ◌≤◌, ◌<◌, ◌^◌, length, IfOk, Some, slice_get};
+ghost use Rattle.mq_core.specs.Results.{totals_of};
+ghost use Rattle.mq_core.specs.Sequences.{IsRunOf, sequence_totals};
+ghost use Rattle.mq_core.specs.StandardTable.{run_of};
 ghost use Rattle.mq_core.specs.Theorems.{IsReadFor};
-ghost use Rattle.mq_report.specs.Totals.{AreNodeTotals, IsTotalsAt};
+ghost use Rattle.mq_crew.specs.Crew.{AreAll, AreGroups};
+ghost use Rattle.mq_stats.specs.Numbers.{totals_from};
+ghost use Rattle.mq_report.specs.Totals.{AreNodeTotals, AreNodeVisits, IsPieceTotals, IsVisited, pieces_in, pieces_of};
 
-use crate::sections::totals_at;
 use mq_base::{List, OutOfMemory};
-use mq_core::{Plan, Rows, Run, nodes_are_in_limits};
-use mq_crew::{Gate, Pieces, made};
-use mq_stats::NodeTotals;
+use mq_core::{
+    Kind, Node, Plan, Rows, Run, Visits, no_kind_copies, nodes_are_in_limits, runs_have_sequences,
+    totals_are_sequences, visits_are_few,
+};
+use mq_crew::{Gate, Pieces, run_parts};
+use mq_stats::{NodeTotals, runs_give_visits, totals_added, totals_between, totals_join};
 use std::alloc::Global;
 use std::thread::Threads;
 
-// The nodes of a run, of which each is a piece: its totals.
-#[derive(Drop)]
-struct TotalsPieces<'a> {
-    plan: &'a Plan,
-    rows: &'a Rows,
-    run: &'a Run,
+// How many visits are a piece: what is read of them fits a processor's own memory.
+const PIECE: u32 = 16_384;
+
+/// The visits to a node of this kind. A piece of them is the totals of so many neighbours.
+#[derive(Clone, Copy)]
+pub struct NodeVisits<'a> {
+    pub rows: &'a Rows,
+    pub kind: &'a Kind,
+    pub visits: &'a Visits,
 }
 
-impl<'a> Pieces for TotalsPieces<'a> {
+impl<'a> Pieces for NodeVisits<'a> {
     type Piece = NodeTotals;
 
-    ghost fit = { λ s. IsReadFor s.plan.now.net s.rows.now × IsRunOf s.plan.now s.rows.now s.run.now × (length s.plan.now.net.nodes < 2 ^ 32) };
+    ghost fit = { IsVisited };
 
-    ghost size = { λ s. length s.plan.now.net.nodes };
+    ghost size = { pieces_of };
 
-    ghost is_piece = { λ s b totals. IsTotalsAt s.plan.now s.rows.now b totals };
+    ghost is_piece = { IsPieceTotals };
 
     fn count(&self) -> u32 {
-        self.plan.net.nodes.len() as u32
+        piece_count(self.visits.job.len() as u32)
     }
 
     fn piece(&self, _alloc: Global, b: u32) -> Result<NodeTotals, OutOfMemory> {
-        let declared = self.plan.net.nodes.get(b as usize);
-        Ok(totals_at(self.plan, self.rows, self.run, b, declared))
+        let count = self.visits.job.len() as u32;
+        let from = b * PIECE;
+        let to = count.min(from + PIECE);
+        let totals = totals_between(self.rows, self.kind, self.visits, from, to);
+        Ok(totals)
     }
 }
 
-/// The totals of each node over a run, by node. Each node is a piece that one of 1 to 64 workers makes, who enter the gate.
+// How many pieces so many visits make.
+fn piece_count(count: u32) -> u32
+    requires { count ≤ 1048576 }
+    ensures { result ≡ pieces_in count }
+{
+    (count + (PIECE - 1)) / PIECE
+}
+
+// The visits to a node over the run.
+fn visits_at<'a>(
+    plan: &'a Plan,
+    rows: &'a Rows,
+    run: &'a Run,
+    node: u32,
+    declared: &'a Node,
+) -> NodeVisits<'a>
+    requires read { IsReadFor plan.now.net rows.now }
+    requires run { IsRunOf plan.now rows.now run.now }
+    requires there { slice_get plan.now.net.nodes node ≡ Some declared.now }
+    ensures visited { IsVisited result }
+    ensures totals { sequence_totals result.rows.now result.kind.now result.visits.now ≡ totals_of rows.now declared.now.kind ((run_of plan.now rows.now).stations node) }
+{
+    runs_have_sequences();
+    runs_give_visits();
+    no_kind_copies();
+    visits_are_few();
+    totals_are_sequences();
+    NodeVisits {
+        rows,
+        kind: &declared.kind,
+        visits: run.visits.get(node as usize),
+    }
+}
+
+// The visits to each node over the run, by node.
+fn visits_by_node<'a>(
+    alloc: Global,
+    plan: &'a Plan,
+    rows: &'a Rows,
+    run: &'a Run,
+) -> Result<List<NodeVisits<'a>>, OutOfMemory>
+    requires read { IsReadFor plan.now.net rows.now }
+    requires run { IsRunOf plan.now rows.now run.now }
+    ensures { IfOk result (λ all. AreNodeVisits plan.now rows.now (length plan.now.net.nodes) all) }
+{
+    nodes_are_in_limits();
+    let mut all = List::new(alloc);
+    for node in 0..plan.net.nodes.len() {
+        let declared = plan.net.nodes.get(node);
+        all.push(visits_at(plan, rows, run, node as u32, declared))?;
+    }
+    Ok(all)
+}
+
+// The totals of a node, of those of its pieces one after another.
+fn sum_of(node: &NodeVisits, group: &List<NodeTotals>) -> NodeTotals
+    requires visited { IsVisited node.now }
+    requires group { AreAll (IsPieceTotals node.now) (pieces_of node.now) group.now }
+    ensures totals { totals_from result ≡ sequence_totals node.now.rows.now node.now.kind.now node.now.visits.now }
+    ensures small { result.busy < 2 ^ 100 }
+{
+    totals_join();
+    let mut sum = totals_between(node.rows, node.kind, node.visits, 0, 0);
+    for b in 0..group.len() {
+        sum = totals_added(&sum, group.get(b));
+    }
+    sum
+}
+
+// The totals of each node, of those of its pieces.
+fn sums_of(
+    alloc: Global,
+    plan: &Plan,
+    rows: &Rows,
+    all: &List<NodeVisits>,
+    groups: &List<List<NodeTotals>>,
+) -> Result<List<NodeTotals>, OutOfMemory>
+    requires visits { AreNodeVisits plan.now rows.now (length plan.now.net.nodes) all.now }
+    requires groups { AreGroups pieces_of IsPieceTotals all.now groups.now }
+    ensures { IfOk result (λ totals. AreNodeTotals plan.now rows.now totals) }
+{
+    let mut totals = List::new(alloc);
+    for node in 0..all.len() {
+        totals.push(sum_of(all.get(node), groups.get(node)))?;
+    }
+    Ok(totals)
+}
+
+/// The totals of each node over a run, by node. The visits to a node are cut into pieces of 16,384, and the
+/// pieces of all nodes are a list that 1 to 64 workers make, who enter the gate.
 /// It refuses for want of memory alone.
 pub fn node_totals<R: Threads + Sync, G: Gate>(
     rt: &R,
@@ -56,8 +157,7 @@ pub fn node_totals<R: Threads + Sync, G: Gate>(
     requires run { IsRunOf plan.now rows.now run.now }
     ensures { IfOk result (λ totals. AreNodeTotals plan.now rows.now totals) }
 {
-    nodes_are_in_limits();
-    let all = TotalsPieces { plan, rows, run };
-    let totals = made(rt, alloc, workers, &all, gate)?;
-    Ok(totals)
+    let all = visits_by_node(alloc, plan, rows, run)?;
+    let groups = run_parts(rt, alloc, workers, all.as_slice(), gate)?;
+    sums_of(alloc, plan, rows, &all, &groups)
 }

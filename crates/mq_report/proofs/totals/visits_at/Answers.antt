@@ -2,20 +2,19 @@ use Rattle.std.proofs.Common.{◌∙◌, sym, ap, subst}
 use Rattle.mq_core.specs.Sequences.{sequence_totals}
 use Rattle.mq_stats.specs.Numbers.{AreVisits}
 use Rattle.mq_report.proofs.Runs.{visits_are, visits_few, visits_inside}
-use Rattle.mq_report.proofs.sections.totals_at.Goals as goal
+use Rattle.mq_report.proofs.totals.visits_at.Goals as goal
 
 pub get-requires : goal.get-requires
 get-requires c = visits_inside c.runs_have_sequences.ensures c.args.plan.now c.args.rows.now c.args.run.now c.args.node c.args.declared.now c.requires.run c.requires.there
 
-pub totals-requires : goal.totals-requires
-totals-requires c =
+pub returns-clause-visited : goal.returns-clause-visited
+returns-clause-visited c =
     subst (AreVisits c.args.rows.now c.args.declared.now.kind)
     (visits_are c.runs_have_sequences.ensures c.args.plan.now c.args.rows.now c.args.run.now c.args.node c.args.declared.now c.get.result.now c.requires.run c.requires.there c.get.ensures)
     (c.runs_give_visits.ensures c.args.plan.now c.args.rows.now c.requires.read c.args.node c.args.declared.now c.requires.there (visits_few c.no_kind_copies.ensures c.visits_are_few.ensures c.args.plan.now c.args.rows.now c.args.node c.requires.read))
 
 pub returns-clause-totals : goal.returns-clause-totals
 returns-clause-totals c =
-    c.totals.ensures.totals
-    ∙ (sym (ap (sequence_totals c.args.rows.now c.args.declared.now.kind)
+    sym (ap (sequence_totals c.args.rows.now c.args.declared.now.kind)
     (visits_are c.runs_have_sequences.ensures c.args.plan.now c.args.rows.now c.args.run.now c.args.node c.args.declared.now c.get.result.now c.requires.run c.requires.there c.get.ensures))
-    ∙ sym (c.totals_are_sequences.ensures c.args.plan.now c.args.rows.now c.requires.read c.args.node c.args.declared.now c.requires.there))
+    ∙ sym (c.totals_are_sequences.ensures c.args.plan.now c.args.rows.now c.requires.read c.args.node c.args.declared.now c.requires.there)
