@@ -3,3 +3,4 @@ pub mod Loops
 pub mod JobLines
 pub mod Names
 pub mod NodeTotals
+pub mod Spans

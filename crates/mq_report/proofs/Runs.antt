@@ -35,7 +35,7 @@ visits_are law plan rows run v node visits is here there = some_inj _ _ (sym (la
 pub outputs_inside : RunsHaveSequences → (plan : Plan) (rows : Rows) (run : Run) (v : ℕ) (node : Node) → IsRunOf plan rows run → slice_get plan.net.nodes v ≡ Some node → v < length run.outputs
 outputs_inside law plan rows run v node is here = slice_get_within run.outputs v _ (law plan rows run is v node here).outputs
 
-outputs_are : RunsHaveSequences → (plan : Plan) (rows : Rows) (run : Run) (v : ℕ) (node : Node) (streams : List Stream) → IsRunOf plan rows run → slice_get plan.net.nodes v ≡ Some node → slice_get run.outputs v ≡ Some streams →
+pub outputs_are : RunsHaveSequences → (plan : Plan) (rows : Rows) (run : Run) (v : ℕ) (node : Node) (streams : List Stream) → IsRunOf plan rows run → slice_get plan.net.nodes v ≡ Some node → slice_get run.outputs v ≡ Some streams →
     streams_below (run_of plan rows) v (outputs_in node.kind) ≡ streams
 outputs_are law plan rows run v node streams is here there = some_inj _ _ (sym (law plan rows run is v node here).outputs ∙ there)
 

@@ -2,8 +2,8 @@
 ghost use Rattle.std.specs.Prelude.{◌≡◌, ◌≤◌, ◌<◌, ◌^◌, ◌==◌, ◌&&◌, length, OnOk, OnErr, Some, slice_get};
 ghost use Rattle.std.specs.List.{list_any};
 ghost use Rattle.mq_base.specs.Outside.{Adds, Rose, TakesFirst, TakesPrefix};
-ghost use Rattle.mq_core.specs.Sequences.{IsRunOf};
-ghost use Rattle.mq_core.specs.Results.{exit_of, totals_of};
+ghost use Rattle.mq_core.specs.Sequences.{IsRunOf, greatest_time};
+ghost use Rattle.mq_core.specs.Results.{exit_of, totals_of, visits_of};
 ghost use Rattle.mq_core.specs.Sound.{outputs_in};
 ghost use Rattle.mq_core.specs.StandardTable.{run_of};
 ghost use Rattle.mq_core.specs.Theorems.{IsReadFor};
@@ -19,7 +19,7 @@ use mq_core::{
     orders_rank, outputs_have_streams, outputs_of, runs_are_of_networks, runs_have_sequences,
     span_is_sequences, visits_are_few,
 };
-use mq_stats::{Exit, NodeTotals, leaving, runs_give_streams, span};
+use mq_stats::{Exit, NodeTotals, last_at, lasts_are_greatest, leaving, runs_give_streams};
 
 // Whether one of these inputs reads the output of the node.
 fn reads(inputs: &[Input], node: u32, output: u8) -> bool
@@ -39,14 +39,35 @@ fn is_read(nodes: &[Node], node: u32, output: u8) -> bool
         .any(|other| reads(other.inputs.as_slice(), node, output))
 }
 
+// The greatest time of a visit to a node over the run, by the ends of its lists.
+fn latest_at(plan: &Plan, rows: &Rows, run: &Run, node: u32, declared: &Node) -> u64
+    requires read { IsReadFor plan.now.net rows.now }
+    requires run { IsRunOf plan.now rows.now run.now }
+    requires there { slice_get plan.now.net.nodes node ≡ Some declared.now }
+    ensures { result ≡ greatest_time (visits_of declared.now.kind ((run_of plan.now rows.now).stations node)) }
+{
+    runs_have_sequences();
+    lasts_are_greatest();
+    last_at(
+        run.visits.get(node as usize),
+        run.outputs.get(node as usize),
+    )
+}
+
 // The time of the last event of the run.
 fn span_of(plan: &Plan, rows: &Rows, run: &Run) -> u64
     requires read { IsReadFor plan.now.net rows.now }
     requires run { IsRunOf plan.now rows.now run.now }
     ensures { result ≡ (run_of plan.now rows.now).clock }
 {
+    nodes_are_in_limits();
     span_is_sequences();
-    span(&run.visits)
+    let mut span = 0;
+    for node in 0..plan.net.nodes.len() {
+        let declared = plan.net.nodes.get(node);
+        span = span.max(latest_at(plan, rows, run, node as u32, declared));
+    }
+    span
 }
 
 // The totals of a node, from those of all.

@@ -7,3 +7,4 @@ pub mod InOrder
 pub mod Passing
 pub mod Telling
 pub mod Joins
+pub mod Lasts

@@ -1,4 +1,5 @@
 pub mod Ahead
 pub mod Departures
+pub mod Lasts
 pub mod Numbers
 pub mod RunNumbers

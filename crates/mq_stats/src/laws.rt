@@ -1,9 +1,10 @@
 // That the sequences of a run are such as the numbers are worked out from.
+ghost use Rattle.mq_stats.specs.Lasts.{LastsAreGreatest};
 ghost use Rattle.mq_stats.specs.RunNumbers.{RunsGiveStreams, RunsGiveVisits};
 
 use mq_core::{
     departs_in_time, jobs_are_rows, nodes_are_in_limits, nodes_are_sequences, orders_keep_items,
-    rows_tell_demands, sequences_go_by_fates, streams_rise,
+    outputs_have_streams, rows_tell_demands, sequences_go_by_fates, streams_rise,
 };
 
 /// The visits of each node of a run, at most 1,048,576, are such that their totals are told.
@@ -29,4 +30,16 @@ pub fn runs_give_streams()
     nodes_are_sequences();
     orders_keep_items();
     streams_rise();
+}
+
+/// At each node of a run the greatest time of a visit is that of its last event.
+pub fn lasts_are_greatest()
+    ensures { LastsAreGreatest }
+{
+    sequences_go_by_fates();
+    departs_in_time();
+    nodes_are_sequences();
+    orders_keep_items();
+    streams_rise();
+    outputs_have_streams();
 }

@@ -1,9 +1,10 @@
 // The time span of a run.
 ghost use Rattle.std.specs.Prelude.{◌≡◌, max, fold, map};
 ghost use Rattle.mq_core.specs.Sequences.{sequence_span, greatest_time, time_of_fate};
+ghost use Rattle.mq_stats.specs.Lasts.{last_event, last_time};
 
 use mq_base::List;
-use mq_core::{Fate, Visits};
+use mq_core::{Fate, Stream, Visits};
 
 // The time of a departure; 0 for a lost visit, which has none.
 fn time_of(fate: &Fate) -> u64
@@ -56,4 +57,27 @@ pub fn span(visits: &List<Visits>) -> u64
         span = span.max(latest_visit(node));
     }
     span
+}
+
+// The last of these times, or 0.
+fn last(times: &[u64]) -> u64
+    ensures { result ≡ last_time times.now }
+{
+    if times.is_empty() {
+        return 0;
+    }
+    times[times.len() - 1]
+}
+
+/// The greatest of the last arrival at a node and the last times at which jobs leave it by its outputs,
+/// in ticks, or 0 where there is none. Of a run that is the greatest time at the node, since arrivals and
+/// streams never go back in time.
+pub fn last_at(visits: &Visits, streams: &List<Stream>) -> u64
+    ensures { result ≡ last_event visits.now streams.now }
+{
+    let mut latest = last(visits.arrive.as_slice());
+    for stream in streams.as_slice() {
+        latest = latest.max(last(stream.time.as_slice()));
+    }
+    latest
 }
