@@ -1,5 +1,5 @@
 -- The totals of the nodes, node by node and piece by piece.
-use Rattle.std.proofs.Common.{◌≡◌, ℕ, ◌+◌, ◌*◌, ◌/◌, ◌%◌, ◌^◌, ◌<◌, ◌≤◌, ◌++◌, Bool, true, false, List, [], ◌∷◌, Some, length, length-append, ltb, min, refl, sym, subst, ap, ◌∙◌, arith}
+use Rattle.std.proofs.Common.{◌≡◌, ℕ, ◌+◌, ◌*◌, ◌%◌, ◌^◌, ◌<◌, ◌≤◌, ◌++◌, Bool, true, false, List, [], ◌∷◌, Some, length, length-append, ltb, refl, sym, subst, ap, ◌∙◌, arith}
 use Rattle.std.specs.Prelude.{map, nat_le, slice_get, slice_index_or, ◌-◌}
 use Rattle.std.proofs.Math.Nat.{mod-add-div'}
 use Rattle.std.proofs.lemmas.Bool.{and_parts, ltb-true}
@@ -23,7 +23,7 @@ use Rattle.mq_core.specs.declared.model.Rows.{Rows}
 use Rattle.mq_crew.specs.Crew.{AreAll, total_size}
 use Rattle.mq_report.specs.Totals.{AreNodeTotals, AreNodeVisits, AreVisitsAt, IsPieceTotals, IsTotalsAt, IsVisited, pieces_in, pieces_of, start_of}
 use Rattle.mq_report.specs.declared.totals.NodeVisits.{NodeVisits}
-use Rattle.mq_stats.specs.Numbers.{AreSmall, TotalsJoin, added_totals, totals_from, visits_between}
+use Rattle.mq_stats.specs.Numbers.{TotalsJoin, added_totals, totals_from, visits_between}
 use Rattle.mq_stats.specs.declared.tallies.NodeTotals.{NodeTotals}
 
 -- what holds of each item of a list with its index still does when the next has been pushed

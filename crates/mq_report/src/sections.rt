@@ -62,7 +62,7 @@ fn span_of(plan: &Plan, rows: &Rows, run: &Run) -> u64
 {
     nodes_are_in_limits();
     span_is_sequences();
-    let mut span = 0;
+    let mut span = 0u64;
     for node in 0..plan.net.nodes.len() {
         let declared = plan.net.nodes.get(node);
         span = span.max(latest_at(plan, rows, run, node as u32, declared));

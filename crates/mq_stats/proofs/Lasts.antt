@@ -1,5 +1,5 @@
 -- The last event at a node has its greatest time.
-use Rattle.std.proofs.Common.{◌≡◌, ℕ, zero, suc, ◌<◌, ◌≤◌, ◌⊎◌, inl, inr, Bool, true, false, List, [], ◌∷◌, ◌++◌, Some, get_or, length, map, max, refl, sym, subst, ap, ◌∙◌, arith}
+use Rattle.std.proofs.Common.{◌≡◌, ℕ, zero, suc, ◌<◌, ◌≤◌, ◌⊎◌, inl, inr, Bool, true, false, List, [], ◌∷◌, Some, get_or, length, map, max, refl, sym, subst, ap, ◌∙◌, arith}
 use Rattle.std.specs.Prelude.{⊤, ◌==◌, fold, if◌then◌else◌, nat_lt, slice_get, ◌-◌}
 use Rattle.std.specs.List.{AllByRecursion as Each, zip}
 use Rattle.std.proofs.lemmas.Bool.Decides.{nat_tests}
@@ -20,7 +20,6 @@ use Rattle.mq_core.specs.Machine.{State}
 use Rattle.mq_core.specs.Results.{stream_from}
 use Rattle.mq_core.specs.Sound.{outputs_in}
 use Rattle.mq_core.specs.Streams.{picked, stream_by}
-use Rattle.mq_core.specs.declared.model.Demand.{Demand}
 use Rattle.mq_core.specs.declared.model.Fate.{Fate}
 use Rattle.mq_core.specs.declared.model.Fate.TheVariants.{Departs, Lost}
 use Rattle.mq_core.specs.declared.model.Kind.{Kind}

@@ -8,8 +8,8 @@ ghost use Rattle.mq_core.specs.Told.{HasValue};
 use mq_base::{List, OutOfMemory};
 use mq_core::{Demand, Fate, Kind, Rows, Stream, Visits};
 use mq_stats::{
-    AheadTable, Exit, NodeTotals, ahead, found, found_piece, found_piece_in_order, leaving, span,
-    totals,
+    AheadTable, Exit, NodeTotals, ahead, found, found_piece, found_piece_in_order, last_at,
+    leaving, span, totals, totals_added, totals_between,
 };
 use std::alloc::Global;
 use std::test::Fail;
@@ -178,6 +178,40 @@ fn servers_have_totals(rt: HostRuntime) -> Result<(), Fail> {
     Ok(())
 }
 
+// Whether the totals of a server's visits before a position and of those from it on, added up, are those of all.
+fn totals_join_at(rows: &Rows, visits: &Visits, at: u32) -> bool {
+    if !are_even(visits) || !are_told(rows, &visits.job) || !are_small(&visits.found) {
+        return false;
+    }
+    let count = visits.job.len() as u32;
+    if !is_column_small(rows) || at > count {
+        return false;
+    }
+    let kind = Kind::Server(Demand::Column(0));
+    let before = totals_between(rows, &kind, visits, 0, at);
+    let after = totals_between(rows, &kind, visits, at, count);
+    if before.came != at || after.came != count - at {
+        return false;
+    }
+    totals_added(&before, &after) == totals(rows, &kind, visits)
+}
+
+// Whether that is so of these visits of the three jobs.
+fn server_joins(alloc: Global, columns: &Columns, at: u32) -> Result<bool, OutOfMemory> {
+    let rows = three_rows(alloc)?;
+    let visits = visits_of(alloc, columns)?;
+    Ok(totals_join_at(&rows, &visits, at))
+}
+
+#[test]
+fn totals_of_pieces_add_up(rt: HostRuntime) -> Result<(), Fail> {
+    assert!(rt; server_joins(rt.alloc(), &SERVED, 0)?);
+    assert!(rt; server_joins(rt.alloc(), &SERVED, 1)?);
+    assert!(rt; server_joins(rt.alloc(), &LOST, 2)?);
+    assert!(rt; server_joins(rt.alloc(), &NO_VISITS, 0)?);
+    Ok(())
+}
+
 // Whether a stream of these rows has this exit.
 fn exit_is(rows: &Rows, stream: &Stream, wanted: Exit) -> bool {
     let jobs = stream.job.as_slice();
@@ -195,6 +229,25 @@ fn jobs_leave(alloc: Global, times: &[u64], wanted: Exit) -> Result<bool, OutOfM
         time: list(alloc, times)?,
     };
     Ok(exit_is(&rows, &stream, wanted))
+}
+
+// The last event at a node with these visits, whose jobs leave by one output at these times.
+fn last_of(alloc: Global, columns: &Columns, times: &[u64]) -> Result<u64, OutOfMemory> {
+    let visits = visits_of(alloc, columns)?;
+    let mut streams = List::new(alloc);
+    streams.push(Stream {
+        job: list(alloc, columns.job)?,
+        time: list(alloc, times)?,
+    })?;
+    Ok(last_at(&visits, &streams))
+}
+
+#[test]
+fn the_last_event_is_at_the_end_of_a_list(rt: HostRuntime) -> Result<(), Fail> {
+    assert!(rt; last_of(rt.alloc(), &SERVED, &[4, 5, 8])? == 8);
+    assert!(rt; last_of(rt.alloc(), &LOST, &[])? == 2);
+    assert!(rt; last_of(rt.alloc(), &NO_VISITS, &[])? == 0);
+    Ok(())
 }
 
 // The spans of a run of no node, of a server, and of a server and a node that loses a job at 9.

@@ -1,5 +1,4 @@
 use Rattle.std.proofs.Common.{◌∙◌, sym}
-use Rattle.mq_core.specs.Sequences.{greatest_time}
 use Rattle.mq_stats.specs.Lasts.{last_event}
 use Rattle.mq_report.proofs.Runs.{outputs_are, outputs_inside, visits_are, visits_inside}
 use Rattle.mq_report.proofs.sections.latest_at.Goals as goal

@@ -1,4 +1,4 @@
-use Rattle.std.proofs.Common.{◌∙◌, arith, length, sym}
+use Rattle.std.proofs.Common.{arith, sym}
 use Rattle.mq_report.proofs.Spans.{ended, grown}
 use Rattle.mq_report.proofs.sections.span_of.Goals as goal
 
