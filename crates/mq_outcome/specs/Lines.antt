@@ -9,8 +9,8 @@ use Rattle.mq_model.specs.declared.fault.ModelFault.{ModelFault}
 use Rattle.mq_model.specs.declared.fault.ModelFault.TheVariants as model
 use Rattle.mq_trace.specs.declared.fault.TraceFault.{TraceFault}
 use Rattle.mq_trace.specs.declared.fault.TraceFault.TheVariants as trace
-use Rattle.mq_top.specs.declared.outcome.Outcome.{Outcome}
-use Rattle.mq_top.specs.declared.outcome.Outcome.TheVariants.{Done, Usage, Model, Trace, Past, ReadFault, WriteFault, Memory}
+use Rattle.mq_outcome.specs.declared.outcome.Outcome.{Outcome}
+use Rattle.mq_outcome.specs.declared.outcome.Outcome.TheVariants.{Done, Usage, Model, Trace, Past, ReadFault, WriteFault, Memory}
 use Rattle.mq_words.specs.declared.fault.UsageFault.{UsageFault}
 use Rattle.mq_words.specs.declared.fault.UsageFault.TheVariants as usage
 

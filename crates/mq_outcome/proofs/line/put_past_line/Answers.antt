@@ -1,7 +1,7 @@
 use Rattle.std.proofs.Common.{ℕ, List, [], ◌∷◌, ◌++◌, ◌∙◌, codes, decimal, append_assoc}
 use Rattle.std.specs.declared.option.Option.{Option}
-use Rattle.mq_top.specs.Lines.{PutsLine}
-use Rattle.mq_top.proofs.line.put_past_line.Goals as goal
+use Rattle.mq_outcome.specs.Lines.{PutsLine}
+use Rattle.mq_outcome.proofs.line.put_past_line.Goals as goal
 
 -- seven pieces, one behind another
 puts_seven : {S : Type 0} (t : S → Option (List ℕ)) (s f : S → ℕ) (o o' : S) (a b c d e x y : List ℕ)

@@ -1,4 +1,4 @@
-use Rattle.mq_top.proofs.line.put_trace_line.Goals as goal
+use Rattle.mq_outcome.proofs.line.put_trace_line.Goals as goal
 
 pub returns-in-BadHeader : goal.returns-in-BadHeader
 returns-in-BadHeader g c = rw c.in-BadHeader.is c.put_numbered.ensures

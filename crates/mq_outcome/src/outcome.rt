@@ -1,9 +1,9 @@
 // How a call ends.
 ghost use Rattle.std.specs.Prelude.{◌≡◌};
-ghost use Rattle.mq_top.specs.Ends.{status_of};
+ghost use Rattle.mq_outcome.specs.Status.{status_of};
 
-use mq_engine::PastFault;
 use mq_model::ModelFault;
+use mq_stations::PastFault;
 use mq_trace::TraceFault;
 use mq_words::UsageFault;
 

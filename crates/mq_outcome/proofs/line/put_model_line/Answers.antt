@@ -1,4 +1,4 @@
-use Rattle.mq_top.proofs.line.put_model_line.Goals as goal
+use Rattle.mq_outcome.proofs.line.put_model_line.Goals as goal
 
 pub returns-in-BadByte : goal.returns-in-BadByte
 returns-in-BadByte g c = rw c.in-BadByte.is c.put_numbered.ensures
