@@ -1,11 +1,14 @@
-// An allocator that refuses one allocation: the one of the number REFUSED, from 1, of the program that loads it. It makes the file TOLD
-// where it has refused. The gate builds it with the kit's compiler, which has no headers.
+// An allocator that refuses one allocation: that of the number REFUSED, from 1, of the program that loads it. The file TOLD is
+// there afterwards exactly where it has refused. The gate builds it with the kit's compiler, which has no headers.
 typedef unsigned long size;
 
 extern void *__libc_malloc(size), *__libc_calloc(size, size), *__libc_realloc(void *, size), *__libc_memalign(size, size);
 extern char *getenv(const char *);
 extern size strtoul(const char *, char **, int);
-extern int creat(const char *, unsigned);
+extern int creat(const char *, unsigned), unlink(const char *);
+extern int *__errno_location(void);
+
+enum { NO_MEMORY = 12 };
 
 static size refused, count;
 static const char *told;
@@ -13,7 +16,10 @@ static const char *told;
 __attribute__((constructor)) static void begin(void) {
     const char *number = getenv("REFUSED");
     told = getenv("TOLD");
-    refused = number ? strtoul(number, 0, 10) : 0;
+    if (number && told) {
+        unlink(told);
+        refused = strtoul(number, 0, 10);
+    }
 }
 
 static int refuses(void) {
@@ -22,6 +28,7 @@ static int refuses(void) {
         return 0;
     }
     creat(told, 0600);
+    *__errno_location() = NO_MEMORY;
     return 1;
 }
 
@@ -38,5 +45,5 @@ int posix_memalign(void **to, size align, size bytes) {
     if (room) {
         *to = room;
     }
-    return room ? 0 : 12;
+    return room ? 0 : NO_MEMORY;
 }
