@@ -82,6 +82,13 @@ fn a_node_goes_after_those_that_it_reads(rt: HostRuntime) -> Result<(), Fail> {
             Ok(&[0, 1, 2, 3, 5, 4]),
         )?
     );
+    assert!(rt;
+        ranks(
+            rt.alloc(),
+            &[&[], &[], &[0, 1], &[2], &[3], &[3, 4], &[5, 4]],
+            Ok(&[0, 1, 2, 3, 4, 5, 6]),
+        )?
+    );
     Ok(())
 }
 

@@ -299,6 +299,7 @@ fn visits_find(
 #[test]
 fn visits_find_those_who_are_there(rt: HostRuntime) -> Result<(), Fail> {
     let alloc = rt.alloc();
+    let in_turn = [Fate::Departs(4), Fate::Departs(5), Fate::Departs(8)];
     let at_once = [Fate::Departs(5), Fate::Departs(3), Fate::Departs(3)];
     let lost = [Fate::Departs(9), Fate::Lost, Fate::Departs(3), Fate::Lost];
     let overtaking = [
@@ -309,6 +310,7 @@ fn visits_find_those_who_are_there(rt: HostRuntime) -> Result<(), Fail> {
         Fate::Departs(6),
         Fate::Departs(8),
     ];
+    assert!(rt; visits_find(alloc, &[0, 1, 2], &in_turn, &[0, 1, 2])?);
     assert!(rt; visits_find(alloc, &[0, 3, 3], &at_once, &[0, 1, 1])?);
     assert!(rt; visits_find(alloc, &[0, 1, 2, 6], &lost, &[0, 1, 1, 1])?);
     assert!(rt; visits_find(alloc, &[0, 1, 2, 4, 4, 7], &overtaking, &[0, 1, 2, 1, 1, 1])?);

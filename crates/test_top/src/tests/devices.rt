@@ -1,5 +1,5 @@
 // A read or a put that fails.
-use super::files_of;
+use super::{MODEL, TRACE, files_of, files_with};
 use mq_base::{MemSink, OutOfMemory};
 use mq_model::ModelFault;
 use mq_top::{Outcome, UsageFault, simulate};
@@ -164,5 +164,55 @@ fn an_error_output_that_fails_changes_no_outcome(rt: HostRuntime) -> Result<(), 
             wanted(Outcome::WriteFault, 7, b"".as_slice())
         )?
     );
+    Ok(())
+}
+
+const BOUND: &[u8] = b"model 1\nbound 7\nsource src\nserver desk d from src\n";
+
+// How the call over this model and the jobs ends, where the put of this number on the error output
+// fails.
+fn outcome_of<R: Threads + Sync>(
+    rt: &R,
+    alloc: Global,
+    words: &[&str],
+    model: &[u8],
+    failing: u64,
+) -> Result<Outcome, OutOfMemory> {
+    let mut files = files_with(alloc, model, TRACE, 0)?;
+    let mut out = sink(alloc, 0)?;
+    let mut err = sink(alloc, failing)?;
+    Ok(simulate(rt, alloc, words, &mut files, &mut out, &mut err))
+}
+
+// Whether it ends with this status, and as it does where no put fails.
+fn is_kept<R: Threads + Sync>(
+    rt: &R,
+    alloc: Global,
+    words: &[&str],
+    model: &[u8],
+    status: u8,
+) -> Result<bool, OutOfMemory> {
+    let told = outcome_of(rt, alloc, words, model, 0)?;
+    let untold = outcome_of(rt, alloc, words, model, 1)?;
+    Ok(untold == told && untold.status() == status)
+}
+
+#[test]
+fn an_error_output_that_takes_nothing_changes_no_status(rt: HostRuntime) -> Result<(), Fail> {
+    for (words, model, status) in [
+        (["m", "t", "--jobs"].as_slice(), MODEL, 0),
+        ([].as_slice(), MODEL, 2),
+        (["m", "t", "--workers", "65"].as_slice(), MODEL, 2),
+        (["m", "t", "--block", "0"].as_slice(), MODEL, 2),
+        (["--made", "x"].as_slice(), MODEL, 2),
+        (["m", "t"].as_slice(), b"model 1\n", 3),
+        (["m", "t"].as_slice(), b"model 1\nsource s\nsource s\n", 3),
+        (["m", "m"].as_slice(), MODEL, 4),
+        (["m", "t"].as_slice(), BOUND, 5),
+        (["x", "t"].as_slice(), MODEL, 6),
+        (["m", "x"].as_slice(), MODEL, 6),
+    ] {
+        assert!(rt; is_kept(&rt, rt.alloc(), words, model, status)?);
+    }
     Ok(())
 }
