@@ -1,7 +1,7 @@
 -- Pieces that begin within quotes, put behind those before them.
-use Rattle.std.proofs.Common.{◌≡◌, ◌∙◌, sym, ap, refl, append_assoc, ◌⊎◌, ℕ, zero, suc, ◌+◌, ◌<◌, ◌≤◌, List, [], ◌∷◌, ◌++◌, length, drop, take, get_or, Bool, true, false, arith, inl, inr}
+use Rattle.std.proofs.Common.{◌≡◌, ◌∙◌, sym, ap, refl, append_assoc, ◌⊎◌, ℕ, suc, ◌+◌, ◌<◌, ◌≤◌, List, [], ◌∷◌, ◌++◌, length, drop, take, get_or, Bool, true, false, arith, inl, inr}
 use Rattle.std.specs.List.{concat}
-use Rattle.std.proofs.lemmas.Bool.{cases_Bool, cases_lt}
+use Rattle.std.proofs.lemmas.Bool.{cases_lt}
 use Rattle.std.proofs.lemmas.List.{append-nil, drop_more, get_or-drop, length-append, length-drop, length-take-le, take-append-drop}
 use Rattle.std.proofs.Math.ListN.{get_or-append}
 use Rattle.std.proofs.Math.Seq.{drop-append_seam, get_or-append_seam, take-append_seam}
@@ -9,7 +9,7 @@ use Rattle.csv.specs.Reading.{strip_bom}
 use Rattle.csv.specs.declared.parser.State.{State}
 use Rattle.csv.specs.declared.parser.State.TheVariants as st
 use Rattle.mq_trace.specs.Pieces.{AreClosed, AreLines, IsRest}
-use Rattle.mq_trace.specs.Quotes.{begins, is_closed, is_outside, place_of, state_after}
+use Rattle.mq_trace.specs.Quotes.{is_closed, is_outside, place_of, state_after}
 use Rattle.mq_trace.proofs.PieceFacts.{concat_more, feed_begins, is_met, lines_more, rest_bare, rest_front, strip_feed}
 use Rattle.mq_trace.proofs.QuoteFacts.{after-append, after_met}
 

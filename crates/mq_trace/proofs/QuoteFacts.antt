@@ -1,5 +1,5 @@
 -- Where csv stands behind quotes and what lies between them.
-use Rattle.std.proofs.Common.{◌≡◌, ◌∙◌, sym, ap, refl, append_assoc, ◌⊎◌, ℕ, zero, suc, ◌+◌, ◌-◌, ◌<◌, ◌≤◌, List, [], ◌∷◌, ◌++◌, length, drop, take, get_or, Bool, true, false, Option, Some, None, arith, inl, inr}
+use Rattle.std.proofs.Common.{◌≡◌, ◌∙◌, sym, ap, refl, ℕ, zero, suc, ◌+◌, ◌-◌, ◌<◌, List, [], ◌∷◌, ◌++◌, length, drop, take, get_or, Bool, true, false, Option, Some, None, arith, inl, inr}
 use Rattle.std.specs.Prelude.{◌==◌, ◌||◌, if◌then◌else◌, is_some, slice_get}
 use Rattle.std.specs.List.{starts_with}
 use Rattle.std.proofs.lemmas.List.{drop_more, get_or-take, length-take-le}
@@ -10,8 +10,7 @@ use Rattle.csv.specs.Machine.{step, in_field}
 use Rattle.csv.specs.Reading.{default_config, strip_bom}
 use Rattle.csv.specs.declared.parser.State.{State}
 use Rattle.csv.specs.declared.parser.State.TheVariants as st
-use Rattle.mq_trace.specs.Pieces.{IsRest}
-use Rattle.mq_trace.specs.Quotes.{begins, has_quote, is_closed, is_outside, place_after, place_of, state_after}
+use Rattle.mq_trace.specs.Quotes.{begins, has_quote, is_outside, place_after, place_of, state_after}
 use Rattle.mq_trace.specs.declared.quotes.Place.{Place}
 use Rattle.mq_trace.specs.declared.quotes.Place.TheVariants.{Start, Field, Quoted}
 use Rattle.mq_trace.proofs.PieceFacts.{is_met, met}

@@ -1,5 +1,5 @@
 -- A text in pieces, which are cut at line feeds and read by themselves.
-use Rattle.std.specs.Prelude.{◌≡◌, ◌⊎◌, ◌+◌, ◌<◌, ◌++◌, ◌==◌, [], ℕ, List, Bool, flat_map, get_or, length, nat_lt, if◌then◌else◌, Result, true}
+use Rattle.std.specs.Prelude.{◌≡◌, ◌⊎◌, ◌+◌, ◌<◌, ◌++◌, ◌==◌, [], ℕ, List, flat_map, get_or, length, nat_lt, if◌then◌else◌, Result, true}
 use Rattle.mq_core.specs.declared.model.Network.{Network}
 use Rattle.mq_core.specs.declared.model.Rows.{Rows}
 use Rattle.mq_trace.specs.Quotes.{is_closed}

@@ -7,7 +7,7 @@ ghost use Rattle.mq_trace.specs.Quotes.{has_quote, is_closed, is_outside, place_
 use memchr::memchr;
 
 /// What a quote does where csv stands.
-#[derive(Clone, Copy, Debug, PartialEq, Eq)]
+#[derive(Clone, Copy)]
 pub enum Place {
     /// It begins a quoted field, or goes on with one.
     Start,

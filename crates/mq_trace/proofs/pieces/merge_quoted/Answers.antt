@@ -1,4 +1,4 @@
-use Rattle.std.proofs.Common.{◌≡◌, ◌∙◌, ◌+◌, ◌<◌, ◌≤◌, ◌∷◌, ◌++◌, [], List, ℕ, Bor, arith, ap, get_or, length, map, rules, sym}
+use Rattle.std.proofs.Common.{◌≡◌, ◌∙◌, ◌<◌, ◌∷◌, ◌++◌, [], List, ℕ, Bor, arith, ap, get_or, length, map, rules, sym}
 use Rattle.std.proofs.lemmas.List.{get_or-map, length-map, map-append}
 use Rattle.mq_trace.specs.Quotes.{is_closed}
 use Rattle.mq_trace.proofs.MergeFacts.{merged_lines, merged_whole, merging_cut, merging_first, merging_on, next_part, rest_less}
