@@ -14,9 +14,7 @@ use mq_base::{List, OutOfMemory};
 use mq_core::Stream;
 use mq_crew::Pieces;
 use mq_maxplus::{Affine, Matrix, Mp};
-use mq_stations::{
-    ServerScan, TandemScan, server_carries, server_sum, tandem_carries, tandem_sum,
-};
+use mq_stations::{ServerScan, TandemScan, server_carries, server_sum, tandem_carries, tandem_sum};
 use mq_tandem::Latest;
 use std::alloc::Global;
 

@@ -11,9 +11,7 @@ use crate::laws::core_laws;
 use mq_base::{List, OutOfMemory};
 use mq_core::{Kind, Plan, Rows, Stream};
 use mq_crew::Pieces;
-use mq_stations::{
-    ForkJoinScan, ServerScan, TandemScan, forkjoin_scan, server_scan, tandem_scan,
-};
+use mq_stations::{ForkJoinScan, ServerScan, TandemScan, forkjoin_scan, server_scan, tandem_scan};
 use std::alloc::Global;
 
 /// What comes to a node, and how its station is scanned.
