@@ -1,39 +1,23 @@
 -- The records of a text that is cut at line feeds.
-use Rattle.std.proofs.Common.{◌≡◌, ◌∙◌, sym, ap, refl, append_assoc, ◌⊎◌, ℕ, zero, suc, ◌+◌, ◌<◌, ◌≤◌, List, [], ◌∷◌, ◌++◌, length, drop, take, get_or, Bool, true, false, Option, Some, None, arith, inl, inr}
-use Rattle.std.specs.Prelude.{◌==◌, ◌||◌, flat_map, if◌then◌else◌, is_some}
+use Rattle.std.proofs.Common.{◌≡◌, ◌∙◌, sym, ap, refl, append_assoc, ◌⊎◌, ℕ, zero, suc, ◌+◌, ◌<◌, ◌≤◌, List, [], ◌∷◌, ◌++◌, length, drop, take, get_or, Bool, true, false, arith, inl, inr}
+use Rattle.std.specs.Prelude.{flat_map, if◌then◌else◌}
 use Rattle.std.specs.List.{concat}
 use Rattle.std.proofs.lemmas.List.{append-nil}
 use Rattle.std.proofs.Math.ListN.{get_or-append}
 use Rattle.std.proofs.Math.Seq.{get_or-append_seam}
 use Rattle.std.proofs.lemmas.List.{drop_all, get_or-drop, length-append}
-use Rattle.std.proofs.lemmas.List.Folds.{concat-append, list_any-append, list_any_at}
-use Rattle.memchr.specs.Find.{IsFirstByte, is_byte}
+use Rattle.std.proofs.lemmas.List.Folds.{concat-append}
 use Rattle.std.proofs.lemmas.Bool.{cases_Bool, cases_lt}
 use Rattle.csv.specs.Machine.{step, is_end, ends_at_end, in_field, next_record, field_after, fields_after}
 use Rattle.csv.specs.Reading.{default_config, is_bom, records_next, strip_bom}
 use Rattle.csv.specs.declared.parser.Action.TheVariants as act
 use Rattle.csv.specs.declared.parser.State.{State}
 use Rattle.csv.specs.declared.parser.State.TheVariants as st
-use Rattle.mq_trace.specs.Pieces.{AreLines, ArePieces, IsRest, has_quote}
+use Rattle.mq_trace.specs.Pieces.{AreClosed, AreLines, ArePieces, IsRest}
+use Rattle.mq_trace.specs.Quotes.{is_outside, place_of, state_after}
 use Rattle.mq_trace.specs.Records.{Record, records_at}
 use Rattle.mq_trace.specs.Trace.{text_records}
 use Rattle.mq_trace.proofs.RecordFacts.{end_between, records_at-next}
-
--- a line feed ends the record at hand, or there is none: not within quotes
-abbrev pub is_shut : State → Bool
-is_shut st.StartRecord = true
-is_shut st.AfterCr = true
-is_shut st.StartField = true
-is_shut st.InField = true
-is_shut st.AfterQuote = true
-is_shut st.InQuoted = false
-is_shut st.InEscape = false
-is_shut st.InComment = false
-
--- the machine's state after a text
-unfoldable pub state_after : State → List ℕ → State
-state_after s [] = s
-state_after s (c ∷ rest) = state_after (step default_config s c).0 rest
 
 -- the machine may be in this state by the crate's defaults, which have no comments and no escapes
 abbrev pub is_met : State → Bool
@@ -50,7 +34,7 @@ is_met st.InComment = false
 field_met : (c : ℕ) → is_met (in_field default_config c).0 ≡ true
 field_met c = grind arith
 
-met : (s : State) (c : ℕ) → is_met s ≡ true → is_met (step default_config s c).0 ≡ true
+pub met : (s : State) (c : ℕ) → is_met s ≡ true → is_met (step default_config s c).0 ≡ true
 met st.StartRecord c h = grind (arith, field_met)
 met st.StartField c h = grind (arith, field_met)
 met st.InField c h = field_met c
@@ -100,107 +84,44 @@ no_records : records_at st.StartRecord [] ≡ []
 unfolding next_record
 no_records = records_at-next st.StartRecord [] refl
 
+-- outside quotes a line feed ends the record at hand, or there is none
+abbrev pub stands_outside : State → Bool
+stands_outside s = is_outside (place_of s)
+
 -- at the end of the front
-cut_here : (s : State) (fields : Record) (field back : List ℕ) → is_shut s ≡ true → Holds s fields field
+cut_here : (s : State) (fields : Record) (field back : List ℕ) → is_met s ≡ true → stands_outside s ≡ true → Holds s fields field
     → from_here s fields field (10 ∷ back) ≡ from_here s fields field [] ++ records_at st.StartRecord (10 ∷ back)
 unfolding next_record
-cut_here st.StartRecord fields field back shut holds = let e = holds refl in rw (e.0, e.1) (sym (feed_passes back))
-cut_here st.AfterCr fields field back shut holds = let e = holds refl in rw (e.0, e.1) (sym (feed_passes back))
-cut_here st.StartField fields field back shut holds = rw (no_records, feed_passes back, records_at-next st.StartRecord back refl) refl
-cut_here st.InField fields field back shut holds = rw (no_records, feed_passes back, records_at-next st.StartRecord back refl) refl
-cut_here st.AfterQuote fields field back shut holds = rw (no_records, feed_passes back, records_at-next st.StartRecord back refl) refl
-cut_here st.InQuoted fields field back shut holds = cc
-cut_here st.InEscape fields field back shut holds = cc
-cut_here st.InComment fields field back shut holds = cc
+cut_here st.StartRecord fields field back m out holds = let e = holds refl in rw (e.0, e.1) (sym (feed_passes back))
+cut_here st.AfterCr fields field back m out holds = let e = holds refl in rw (e.0, e.1) (sym (feed_passes back))
+cut_here st.StartField fields field back m out holds = rw (no_records, feed_passes back, records_at-next st.StartRecord back refl) refl
+cut_here st.InField fields field back m out holds = rw (no_records, feed_passes back, records_at-next st.StartRecord back refl) refl
+cut_here st.AfterQuote fields field back m out holds = rw (no_records, feed_passes back, records_at-next st.StartRecord back refl) refl
+cut_here st.InQuoted fields field back m out holds = cc
+cut_here st.InEscape fields field back m out holds = cc
+cut_here st.InComment fields field back m out holds = cc
 
 -- from any state
-pub cut_from_here : (s : State) (fields : Record) (field front back : List ℕ) → is_met s ≡ true → Holds s fields field → is_shut (state_after s front) ≡ true
+pub cut_from_here : (s : State) (fields : Record) (field front back : List ℕ) → is_met s ≡ true → Holds s fields field → stands_outside (state_after s front) ≡ true
     → from_here s fields field (front ++ 10 ∷ back) ≡ from_here s fields field front ++ records_at st.StartRecord (10 ∷ back)
 unfolding next_record state_after
-cut_from_here s fields field [] back m holds shut = cut_here s fields field back shut holds
-cut_from_here s fields field (c ∷ front) back m holds shut =
+cut_from_here s fields field [] back m holds out = cut_here s fields field back m out holds
+cut_from_here s fields field (c ∷ front) back m holds out =
     let next = (step default_config s c).0 in
     elim (cases_Bool (is_end (step default_config s c).1)) [
       | inl ends ↦
           let b = end_between s c ends in
           rw (ends, records_at-next next (front ++ 10 ∷ back) b, records_at-next next front b)
-          (ap (λ more. fields_after (step default_config s c).1 fields field ∷ more) (cut_from_here next [] [] front back (met s c m) (λ _. (refl, refl)) shut))
-      | inr goes ↦ rw goes (cut_from_here next _ _ front back (met s c m) (holds_on s fields field c m goes holds) shut)
+          (ap (λ more. fields_after (step default_config s c).1 fields field ∷ more) (cut_from_here next [] [] front back (met s c m) (λ _. (refl, refl)) out))
+      | inr goes ↦ rw goes (cut_from_here next _ _ front back (met s c m) (holds_on s fields field c m goes holds) out)
     ]
 
 -- where a text stops outside quotes, a line feed and what follows have records of their own
-pub records_cut : (front back : List ℕ) → is_shut (state_after st.StartRecord front) ≡ true
+pub records_cut : (front back : List ℕ) → stands_outside (state_after st.StartRecord front) ≡ true
     → records_at st.StartRecord (front ++ 10 ∷ back) ≡ records_at st.StartRecord front ++ records_at st.StartRecord (10 ∷ back)
-records_cut front back shut =
-    records_at-next st.StartRecord (front ++ 10 ∷ back) refl ∙ cut_from_here st.StartRecord [] [] front back refl (λ _. (refl, refl)) shut
+records_cut front back out =
+    records_at-next st.StartRecord (front ++ 10 ∷ back) refl ∙ cut_from_here st.StartRecord [] [] front back refl (λ _. (refl, refl)) out
     ∙ ap (λ first. first ++ records_at st.StartRecord (10 ∷ back)) (sym (records_at-next st.StartRecord front refl))
-
--- neither holds
-or_false : (a b : Bool) → (a || b) ≡ false → (a ≡ false) × (b ≡ false)
-or_false true b h = cc
-or_false false b h = (refl, h)
-
--- a byte that is no quote leaves the machine outside quotes
-abbrev pub is_outside : State → Bool
-is_outside st.StartRecord = true
-is_outside st.AfterCr = true
-is_outside st.StartField = true
-is_outside st.InField = true
-is_outside st.AfterQuote = false
-is_outside st.InQuoted = false
-is_outside st.InEscape = false
-is_outside st.InComment = false
-
-field_outside : (c : ℕ) → is_outside (in_field default_config c).0 ≡ true
-field_outside c = grind arith
-
-outside : (s : State) (c : ℕ) → is_outside s ≡ true → (c == 34) ≡ false → is_outside (step default_config s c).0 ≡ true
-outside st.StartRecord c h q = grind (arith, field_outside, q)
-outside st.StartField c h q = grind (arith, field_outside, q)
-outside st.InField c h q = field_outside c
-outside st.InQuoted c h q = cc
-outside st.InEscape c h q = cc
-outside st.AfterQuote c h q = cc
-outside st.InComment c h q = cc
-outside st.AfterCr c h q = grind (arith, field_outside, q)
-
-outside_shut : (s : State) → is_outside s ≡ true → is_shut s ≡ true
-outside_shut st.StartRecord h = refl
-outside_shut st.StartField h = refl
-outside_shut st.InField h = refl
-outside_shut st.AfterCr h = refl
-outside_shut st.InQuoted h = cc
-outside_shut st.InEscape h = cc
-outside_shut st.AfterQuote h = cc
-outside_shut st.InComment h = cc
-
--- a text without a quote stops outside quotes
-plain_from : (s : State) (text : List ℕ) → is_outside s ≡ true → has_quote text ≡ false → is_shut (state_after s text) ≡ true
-unfolding state_after
-plain_from s [] h q = outside_shut s h
-plain_from s (c ∷ rest) h q =
-    let p : ((c == 34) ≡ false) × (has_quote rest ≡ false) = or_false (c == 34) (has_quote rest) q in
-    plain_from (step default_config s c).0 rest (outside s c h p.0) p.1
-
-pub plain_shut : (text : List ℕ) → has_quote text ≡ false → is_shut (state_after st.StartRecord text) ≡ true
-plain_shut text q = plain_from st.StartRecord text refl q
-
--- parts of a text without a quote have none
-pub plain_parts : (front back : List ℕ) → has_quote (front ++ back) ≡ false → (has_quote front ≡ false) × (has_quote back ≡ false)
-plain_parts front back q = or_false (has_quote front) (has_quote back) (sym (list_any-append (λ c. c == 34) front back) ∙ q)
-
--- what a search for a quote finds
-no_quote : (text : List ℕ) → ((k : ℕ) → k < length text → ¬ ((get_or text k 0 == 34) ≡ true)) → has_quote text ≡ false
-no_quote [] h = refl
-no_quote (c ∷ rest) h =
-    elim (cases_Bool (c == 34)) [
-      | inl quote ↦ absurd (h 0 (omega arith) quote)
-      | inr plain ↦ rw plain (no_quote rest (λ k less. h (suc k) (omega arith)))
-    ]
-
-pub quote_found : (text : List ℕ) (r : Option ℕ) → IsFirstByte (is_byte 34) text r → is_some r ≡ has_quote text
-quote_found text None h = sym (no_quote text (λ k less. h k (omega arith) less))
-quote_found text (Some k) h = sym (list_any_at (λ c. c == 34) text k 0 h.0.high h.1)
 
 -- what stands behind the index of a line feed, or behind the end
 pub rest_after : (text : List ℕ) (n : ℕ) → (n ≡ length text) ⊎ (get_or text n 0 ≡ 10) → IsRest (drop n text)
@@ -229,12 +150,12 @@ concat_more pieces more rest text e =
     rw (concat-append pieces (more ∷ []), append-nil more, append_assoc (concat pieces) more rest) e
 
 -- a text that begins with a line feed
-feed_begins : (text : List ℕ) → get_or text 0 0 ≡ 10 → text ≡ 10 ∷ drop 1 text
+pub feed_begins : (text : List ℕ) → get_or text 0 0 ≡ 10 → text ≡ 10 ∷ drop 1 text
 feed_begins [] h = cc
 feed_begins (c ∷ rest) h = ap (λ x. x ∷ rest) h
 
 -- a byte order mark ends before a line feed
-strip_feed : (front back : List ℕ) → strip_bom (front ++ 10 ∷ back) ≡ strip_bom front ++ 10 ∷ back
+pub strip_feed : (front back : List ℕ) → strip_bom (front ++ 10 ∷ back) ≡ strip_bom front ++ 10 ∷ back
 unfolding strip_bom
 strip_feed [] [] = refl
 strip_feed [] (x ∷ []) = refl
@@ -244,41 +165,35 @@ strip_feed (a ∷ []) (x ∷ back) = grind arith
 strip_feed (a ∷ b ∷ []) back = grind arith
 strip_feed (a ∷ b ∷ c ∷ front) back = elim (is_bom a b c) as (λ o. (if o then front ++ 10 ∷ back else a ∷ b ∷ c ∷ (front ++ 10 ∷ back)) ≡ (if o then front else a ∷ b ∷ c ∷ front) ++ 10 ∷ back) [ true ↦ refl | false ↦ refl ]
 
--- what is left without its mark has no quote either
-strip_plain : (text : List ℕ) → has_quote text ≡ false → has_quote (strip_bom text) ≡ false
-unfolding strip_bom
-strip_plain [] q = q
-strip_plain (a ∷ []) q = q
-strip_plain (a ∷ b ∷ []) q = q
-strip_plain (a ∷ b ∷ c ∷ rest) q =
-    let tail : has_quote rest ≡ false = (plain_parts (a ∷ b ∷ c ∷ []) rest q).1 in
-    elim (is_bom a b c) as (λ o. has_quote (if o then rest else a ∷ b ∷ c ∷ rest) ≡ false) [ true ↦ tail | false ↦ q ]
-
 -- a piece that is nothing, or begins with a line feed, has no mark
-rest_records : (text : List ℕ) → IsRest text → text_records text ≡ records_at st.StartRecord text
-unfolding records_at strip_bom
-rest_records text (inl e) = rw e refl
-rest_records text (inr e) = rw (feed_begins text e, strip_feed [] (drop 1 text)) refl
+pub rest_bare : (text : List ℕ) → IsRest text → strip_bom text ≡ text
+unfolding strip_bom
+rest_bare text (inl e) = rw e refl
+rest_bare text (inr e) = rw (feed_begins text e, strip_feed [] (drop 1 text)) refl
 
 pub text_is : (text : List ℕ) → text_records text ≡ records_at st.StartRecord (strip_bom text)
 unfolding records_at
 text_is text = refl
 
--- behind a text, pieces of lines have records of their own
-lines_records : (front : List ℕ) (pieces : List (List ℕ)) → has_quote (front ++ concat pieces) ≡ false → ((k : ℕ) → k < length pieces → IsRest (get_or pieces k []))
+rest_records : (text : List ℕ) → IsRest text → text_records text ≡ records_at st.StartRecord text
+rest_records text h = text_is text ∙ ap (λ t. records_at st.StartRecord t) (rest_bare text h)
+
+-- behind a text that ends outside quotes, pieces that do so have records of their own
+lines_records : (front : List ℕ) (pieces : List (List ℕ)) → (1 ≤ length pieces → stands_outside (state_after st.StartRecord front) ≡ true)
+    → ((k : ℕ) → k < length pieces → IsRest (get_or pieces k [])) → ((k : ℕ) → k + 1 < length pieces → stands_outside (state_after st.StartRecord (get_or pieces k [])) ≡ true)
     → records_at st.StartRecord (front ++ concat pieces) ≡ records_at st.StartRecord front ++ flat_map text_records pieces
-lines_records front [] q lines = rw (append-nil front, append-nil (records_at st.StartRecord front)) refl
-lines_records front (p ∷ pieces) q lines =
-    let parts = plain_parts front (p ++ concat pieces) q in
+lines_records front [] out lines outs = rw (append-nil front, append-nil (records_at st.StartRecord front)) refl
+lines_records front (p ∷ pieces) out lines outs =
     let later : (k : ℕ) → k < length pieces → IsRest (get_or pieces k []) = λ k h. lines (suc k) (omega arith) in
+    let closed : (k : ℕ) → k + 1 < length pieces → stands_outside (state_after st.StartRecord (get_or pieces k [])) ≡ true = λ k h. outs (suc k) (omega arith) in
     let first = rest_records p (lines 0 (omega arith)) in
-    let again = lines_records p pieces parts.1 later in
     elim (lines 0 (omega arith)) [
       | inl none ↦
-          rw (first, none, no_records) (lines_records front pieces (rw none at q) later)
+          rw (first, none, no_records) (lines_records front pieces (λ _. out (omega arith)) later closed)
       | inr feed ↦
           let begins = feed_begins p feed in
-          let cut = records_cut front (drop 1 p ++ concat pieces) (plain_shut front parts.0) in
+          let again = lines_records p pieces (λ h. outs 0 (omega arith)) later closed in
+          let cut = records_cut front (drop 1 p ++ concat pieces) (out (omega arith)) in
           let whole : records_at st.StartRecord (front ++ (p ++ concat pieces)) ≡ records_at st.StartRecord front ++ records_at st.StartRecord (p ++ concat pieces) = rw begins cut in
           whole ∙ rw (again, first) refl
     ]
@@ -292,22 +207,15 @@ strip_front front (p ∷ pieces) lines =
       | inr feed ↦ rw (feed_begins p feed) (strip_feed front (drop 1 p ++ concat pieces))
     ]
 
-first_piece : (p : List ℕ) (pieces : List (List ℕ)) → has_quote (p ++ concat pieces) ≡ false → ((k : ℕ) → k < length pieces → IsRest (get_or pieces k []))
+first_piece : (p : List ℕ) (pieces : List (List ℕ)) → AreClosed (p ∷ pieces) → ((k : ℕ) → k < length pieces → IsRest (get_or pieces k []))
     → ArePieces (p ++ concat pieces) (p ∷ pieces)
-first_piece p pieces q lines =
-    let parts = plain_parts p (concat pieces) q in
-    let front = strip_plain p parts.0 in
-    let both : has_quote (strip_bom p ++ concat pieces) ≡ false = list_any-append (λ c. c == 34) (strip_bom p) (concat pieces) ∙ rw (front, parts.1) refl in
-    text_is (p ++ concat pieces) ∙ ap (λ t. records_at st.StartRecord t) (strip_front p pieces lines) ∙ lines_records (strip_bom p) pieces both lines
+first_piece p pieces closed lines =
+    let outs : (k : ℕ) → k + 1 < length pieces → stands_outside (state_after st.StartRecord (get_or pieces k [])) ≡ true = λ k h.
+    ap (λ t. stands_outside (state_after st.StartRecord t)) (sym (rest_bare (get_or pieces k []) (lines k (omega arith)))) ∙ closed (suc k) (omega arith) in
+    text_is (p ++ concat pieces) ∙ ap (λ t. records_at st.StartRecord t) (strip_front p pieces lines) ∙ lines_records (strip_bom p) pieces (λ h. closed 0 (omega arith)) lines outs
     ∙ ap (λ rs. rs ++ flat_map text_records pieces) (sym (text_is p))
 
--- the records of the pieces of a text without a quote are those of the text
-pub plain_pieces : (text : List ℕ) (pieces : List (List ℕ)) → 1 ≤ length pieces → concat pieces ≡ text → AreLines pieces → has_quote text ≡ false → ArePieces text pieces
-plain_pieces text [] some e lines q = absurd (omega arith)
-plain_pieces text (p ∷ pieces) some e lines q = rw (← e) (first_piece p pieces (rw (← e) at q) (λ k h. lines (suc k) (omega arith) (omega arith)))
-
--- a text that is left whole
-pub whole_piece : (text : List ℕ) (pieces : List (List ℕ)) → length pieces ≡ 1 → concat pieces ≡ text → ArePieces text pieces
-whole_piece text [] one e = absurd (omega arith)
-whole_piece text (p ∷ []) one e = rw (← e, append-nil p, append-nil (text_records p)) refl
-whole_piece text (p ∷ q ∷ pieces) one e = absurd (omega arith)
+-- the records of pieces that end outside quotes are those of the text
+pub closed_pieces : (text : List ℕ) (pieces : List (List ℕ)) → 1 ≤ length pieces → concat pieces ≡ text → AreLines pieces → AreClosed pieces → ArePieces text pieces
+closed_pieces text [] some e lines closed = absurd (omega arith)
+closed_pieces text (p ∷ pieces) some e lines closed = rw (← e) (first_piece p pieces closed (λ k h. lines (suc k) (omega arith) (omega arith)))

@@ -1,16 +1,12 @@
 -- A text in pieces, which are cut at line feeds and read by themselves.
-use Rattle.std.specs.Prelude.{◌≡◌, ◌⊎◌, ◌+◌, ◌<◌, ◌++◌, ◌==◌, [], ℕ, List, Bool, flat_map, get_or, length, nat_lt, if◌then◌else◌, Result}
-use Rattle.std.specs.List.{list_any}
+use Rattle.std.specs.Prelude.{◌≡◌, ◌⊎◌, ◌+◌, ◌<◌, ◌++◌, ◌==◌, [], ℕ, List, flat_map, get_or, length, nat_lt, if◌then◌else◌, Result, true}
 use Rattle.mq_core.specs.declared.model.Network.{Network}
 use Rattle.mq_core.specs.declared.model.Rows.{Rows}
+use Rattle.mq_trace.specs.Quotes.{is_closed}
 use Rattle.mq_trace.specs.Records.{Record}
 use Rattle.mq_trace.specs.Trace.{Answers, data_of, rows_fault, rows_of, text_records}
 use Rattle.mq_trace.specs.declared.fault.TraceFault.{TraceFault}
 use Rattle.mq_trace.specs.declared.fault.TraceFault.TheVariants.{TooLong, BadHeader, MissingColumn, TooManyRows, BadCount, UnknownSource, BadNumber, Memory}
-
--- a quote stands in the text
-abbrev pub has_quote : List ℕ → Bool
-has_quote text = list_any (λ c. c == 34) text
 
 -- nothing, or a line feed and what follows
 abbrev pub IsRest : List ℕ → Type 0
@@ -19,6 +15,10 @@ IsRest text = (text ≡ []) ⊎ (get_or text 0 0 ≡ 10)
 -- each piece but the first is nothing, or begins with a line feed
 abbrev pub AreLines : List (List ℕ) → Type 0
 AreLines pieces = (k : ℕ) → 0 < k → k < length pieces → IsRest (get_or pieces k [])
+
+-- each piece but the last ends outside quotes
+abbrev pub AreClosed : List (List ℕ) → Type 0
+AreClosed pieces = (k : ℕ) → k + 1 < length pieces → is_closed true (get_or pieces k []) ≡ true
 
 -- the records of pieces that are read by themselves are those of the text
 abbrev pub ArePieces : List ℕ → List (List ℕ) → Type 0

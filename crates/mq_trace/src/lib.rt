@@ -2,11 +2,13 @@
 #![tactic(auto)]
 
 mod each;
+mod ends;
 mod fault;
 mod header;
 mod join;
 mod laws;
 mod pieces;
+mod quotes;
 mod read;
 mod records;
 mod row;

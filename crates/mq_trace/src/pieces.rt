@@ -1,19 +1,16 @@
 // A text in pieces, which are cut at line feeds.
 
-ghost use Rattle.std.specs.Prelude.{◌≡◌, ◌⊎◌, ◌≤◌, length, get_or, map, vec_len, IfOk};
+ghost use Rattle.std.specs.Prelude.{◌≡◌, ◌⊎◌, ◌<◌, ◌≤◌, ℕ, [], true, false, length, get_or, map, vec_len, IfOk};
 ghost use Rattle.std.specs.List.{concat};
-ghost use Rattle.mq_trace.specs.Pieces.{AreLines, ArePieces, has_quote};
+ghost use Rattle.mq_trace.specs.Pieces.{AreClosed, AreLines, ArePieces};
+ghost use Rattle.mq_trace.specs.Quotes.{is_closed};
 
+use crate::ends::find_ends;
+use crate::quotes::ends_outside;
 use memchr::memchr;
 use mq_base::OutOfMemory;
 use std::alloc::Global;
-
-/// Whether a quote stands in the text.
-fn is_quoted(text: &[u8]) -> bool
-    ensures { result ≡ has_quote text.now }
-{
-    memchr(b'"', text).is_some()
-}
+use std::thread::Threads;
 
 /// The index of the first line feed from an index on, or the end.
 fn line_from(text: &[u8], from: usize) -> usize
@@ -46,21 +43,74 @@ fn cut_lines<'a>(alloc: Global, text: &'a [u8], count: u32) -> Result<Vec<&'a [u
     Ok(pieces)
 }
 
-/// A text in at most so many pieces, whose records are those of the text. A text with a quote is left whole, since a line
-/// feed may then be part of a field.
+/// Whether a piece ends outside quotes, where it is known for the case that it begins outside them.
+fn ends_from(piece: &[u8], outside: bool, end: bool) -> bool
+    requires { end ≡ is_closed true piece.now }
+    ensures { result ≡ is_closed outside piece.now }
+{
+    if outside {
+        end
+    } else {
+        ends_outside(piece, false)
+    }
+}
+
+/// The pieces of a text, of which each that begins within quotes is put behind the one before it.
+fn merge_quoted<'a>(
+    alloc: Global,
+    text: &'a [u8],
+    pieces: &[&[u8]],
+    ends: &[bool],
+) -> Result<Vec<&'a [u8]>, OutOfMemory>
+    requires some { 1 ≤ length pieces.now }
+    requires len { length ends.now ≡ length pieces.now }
+    requires whole { concat (map (λ s. s.now) pieces.now) ≡ text.now }
+    requires lines { AreLines (map (λ s. s.now) pieces.now) }
+    requires ends { (i : ℕ) → i < length pieces.now → get_or ends.now i false ≡ is_closed true (get_or (map (λ s. s.now) pieces.now) i []) }
+    ensures some { IfOk result (λ v. 1 ≤ vec_len v) }
+    ensures most { IfOk result (λ v. vec_len v ≤ length pieces.now) }
+    ensures whole { IfOk result (λ v. concat (map (λ s. s.now) v.items) ≡ text.now) }
+    ensures lines { IfOk result (λ v. AreLines (map (λ s. s.now) v.items)) }
+    ensures closed { IfOk result (λ v. AreClosed (map (λ s. s.now) v.items)) }
+{
+    let mut merged = Vec::new(alloc);
+    let mut rest = text;
+    let mut at = 0;
+    let mut outside = true;
+    for k in 0..pieces.len() - 1 {
+        at += pieces[k].len();
+        outside = ends_from(pieces[k], outside, ends[k]);
+        if outside {
+            let (piece, more) = rest.split_at(at);
+            merged.push(piece)?;
+            rest = more;
+            at = 0;
+        }
+    }
+    merged.push(rest)?;
+    Ok(merged)
+}
+
+/// A text in at most so many pieces, whose records are those of the text. Where a line feed is part of a quoted field
+/// the text isn't cut.
 ///
 /// A piece ends in front of a line feed, so that none but the first begins with a byte order mark.
-pub fn pieces_of<'a>(
+pub fn pieces_of<'a, R: Threads + Sync>(
+    rt: &R,
     alloc: Global,
+    workers: u32,
     text: &'a [u8],
     count: u32,
 ) -> Result<Vec<&'a [u8]>, OutOfMemory>
-    requires { 1 ≤ count }
+    requires one { 1 ≤ workers }
+    requires sixty_four { workers ≤ 64 }
+    requires count { 1 ≤ count }
     ensures some { IfOk result (λ v. 1 ≤ vec_len v) }
     ensures most { IfOk result (λ v. vec_len v ≤ count) }
     ensures same { IfOk result (λ v. ArePieces text.now (map (λ s. s.now) v.items)) }
 {
-    let count = if is_quoted(text) { 1 } else { count };
-    let pieces = cut_lines(alloc, text, count)?;
-    Ok(pieces)
+    let lines = cut_lines(alloc, text, count)?;
+    let ends = find_ends(rt, alloc, workers, lines.as_slice())?;
+    let merged = merge_quoted(alloc, text, lines.as_slice(), ends.as_slice())?;
+    Ok(merged)
 }

@@ -83,7 +83,7 @@ pub(crate) fn read_text<R: Threads + Sync>(
     ensures { Answers result (records_fault net.now (text_records text.now)) (rows_in net.now text.now) }
 {
     if count > 1 {
-        let pieces = pieces_of(alloc, text, count)?;
+        let pieces = pieces_of(rt, alloc, workers, text, count)?;
         return read_apart(rt, alloc, workers, text, &pieces, net);
     }
     read_whole(alloc, text, net)
@@ -108,7 +108,7 @@ fn pieces_for(workers: u32, len: usize) -> u32 {
 /// A text is refused for its first fault: its length, the least faulty field of the header, the least column of the
 /// model that the header lacks, or the first faulty record.
 ///
-/// A long text without a quote is read in pieces by 1 to 64 workers. The answer is the same for each number of them.
+/// A long text is read in pieces by 1 to 64 workers. The answer is the same for each number of them.
 pub fn read_trace<R: Threads + Sync>(
     rt: &R,
     alloc: Global,

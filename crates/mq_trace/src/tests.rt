@@ -194,6 +194,14 @@ fn pieces_give_what_the_whole_text_gives(rt: HostRuntime) -> Result<(), Fail> {
         b"source,time,d\nsrc,7,4\nsrc,8,5\nsrc,9,6\nsrc,x,7\nsrc,11,8\n",
         b"source,time,d\nsrc,7,4\nsrc,8,5\nsrc,9\nno,x,7\nsrc,11,8\n",
         b"source,time,d\nsrc,7,4\nsrc,8,5\nsrc,9,6\nno,10,7\nsrc,x,8\n",
+        // quotes: around fields of every kind, doubled, within a field without quotes, behind a mark, never closed
+        b"\"source\",\"time\",\"d\"\r\n\"src\",\"7\",\"4\"\r\nsrc,8,\"5\"\r\n\"src\",9,6\r\n",
+        b"source,time,note,d\nsrc,7,\"say \"\"a\n\"\"\",4\nsrc,8,\"\"\"\n\",5\nsrc,9,\"\",6\n",
+        b"source,time,note,d\nsrc,7,a\"b,4\nsrc,8,\"c\nd\",5\nsrc,9,e\"f\"g,6\nsrc,10,\"\n\"h\"i,7\n",
+        b"source,time,note,d\r\nsrc,7,\"a\r\n\r\nb\",4\r\nsrc,8,\"\r\n\",5\r\nsrc,9,\",\",6",
+        b"\xEF\xBB\xBF\"source\",time,\"no\nte\",d\nsrc,7,\"x\n\",4\nsrc,8,y,5\n",
+        b"source,time,d\nsrc,7,4\nsrc,8,5\nsrc,9,\"6\nsrc,10,7\nsrc,11,8\n",
+        b"source,time,note,d\nsrc,7,\"a\nb\",4\nsrc,8,\"c\n\n\nd\",5\nsrc,x,\"e\nf\",6\nno,9,g,7\n",
     ] {
         for count in 2..14u32 {
             assert!(rt; pieces_agree(&rt, rt.alloc(), bytes, count)?);

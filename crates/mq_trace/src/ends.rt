@@ -1,0 +1,52 @@
+// The ends of pieces, which workers find.
+
+ghost use Rattle.std.specs.Prelude.{◌≡◌, ◌^◌, ◌<◌, ◌≤◌, ℕ, [], true, false, length, map, get_or, IfOk};
+ghost use Rattle.mq_trace.specs.Quotes.{is_closed};
+
+use crate::quotes::ends_outside;
+use mq_base::{List, OutOfMemory};
+use mq_crew::{Open, Pieces, made};
+use std::alloc::Global;
+use std::thread::Threads;
+
+/// Pieces of a text, of which each is read as if it began outside quotes.
+#[derive(Drop)]
+struct Ends<'a> {
+    pieces: &'a [&'a [u8]],
+    ghost few: { length pieces.now < 2 ^ 32 },
+}
+
+impl<'a> Pieces for Ends<'a> {
+    type Piece = bool;
+
+    ghost fit = { λ s. Unit {0} };
+
+    ghost size = { λ s. length s.pieces.now };
+
+    ghost is_piece = { λ s b p. p ≡ is_closed true (get_or (map (λ t. t.now) s.pieces.now) b []) };
+
+    fn count(&self) -> u32 {
+        self.pieces.len() as u32
+    }
+
+    fn piece(&self, _: Global, b: u32) -> Result<bool, OutOfMemory> {
+        Ok(ends_outside(self.pieces[b as usize], true))
+    }
+}
+
+/// Of each piece, whether it ends outside quotes where it begins outside them.
+pub fn find_ends<R: Threads + Sync>(
+    rt: &R,
+    alloc: Global,
+    workers: u32,
+    pieces: &[&[u8]],
+) -> Result<List<bool>, OutOfMemory>
+    requires some { 1 ≤ workers }
+    requires most { workers ≤ 64 }
+    requires few { length pieces.now < 2 ^ 32 }
+    ensures len { IfOk result (λ l. length l ≡ length pieces.now) }
+    ensures each { IfOk result (λ l. (i : ℕ) → i < length pieces.now → get_or l i false ≡ is_closed true (get_or (map (λ s. s.now) pieces.now) i [])) }
+{
+    let ends = made(rt, alloc, workers, &Ends { pieces }, &Open)?;
+    Ok(ends)
+}
