@@ -6,11 +6,11 @@ ghost use Rattle.mq_engine.specs.declared.firsts.Part.{Part as ThePart};
 ghost use Rattle.mq_engine.specs.declared.firsts.Part.TheVariants.{Whole};
 
 use crate::loads::{Load, Scan};
-use crate::stations::{server_carries, server_sum, tandem_carries, tandem_sum};
+use crate::stations::{tandem_carries, tandem_sum};
 use crate::working::{After, after_of};
 use mq_base::{List, OutOfMemory};
 use mq_crew::Pieces;
-use mq_maxplus::{Affine, Matrix, Mp};
+use mq_maxplus::Matrix;
 use mq_tandem::Latest;
 use std::alloc::Global;
 
@@ -19,8 +19,6 @@ use std::alloc::Global;
 pub enum Part {
     /// All of it.
     Whole(After),
-    /// What the jobs of a block of a server do together.
-    Sum(Affine),
     /// What the jobs of a block of a tandem do together, which is large.
     Product(Box<Matrix>),
 }
@@ -30,11 +28,9 @@ pub enum Part {
 pub enum Stage {
     /// All of it.
     Ended(After),
-    /// The last departure of a server before each block.
-    Last(List<Mp>),
     /// The latest departures of a tandem before each block.
     Latest(List<Latest>),
-    /// Nothing yet: the branches of a fork-join come later.
+    /// Nothing yet: a server and the branches of a fork-join come later.
     Unbegun,
 }
 
@@ -50,21 +46,19 @@ impl<'a> Pieces for Load<'a> {
     fn count(&self) -> u32 {
         match &self.scan {
             Scan::Unscanned => 1,
-            Scan::OfServer(scan) => scan.blocks.blocks,
             Scan::OfTandem(scan) => scan.blocks.blocks,
-            Scan::OfForkJoin(_) => 0,
+            Scan::OfServer(_) | Scan::OfForkJoin(_) => 0,
         }
     }
 
     fn piece(&self, alloc: Global, b: u32) -> Result<Part, OutOfMemory> {
         match &self.scan {
             Scan::Unscanned => Ok(Part::Whole(whole(alloc, self)?)),
-            Scan::OfServer(scan) => Ok(Part::Sum(server_sum(&self.arrivals, scan, b))),
             Scan::OfTandem(scan) => {
                 let sum = tandem_sum(&self.arrivals, scan, b);
                 Ok(Part::Product(Box::new(alloc, sum)?))
             }
-            Scan::OfForkJoin(_) => unreachable!(),
+            Scan::OfServer(_) | Scan::OfForkJoin(_) => unreachable!(),
         }
     }
 }
@@ -95,15 +89,11 @@ pub fn stage_of(alloc: Global, load: &Load, group: List<Part>) -> Result<Stage, 
 {
     match &load.scan {
         Scan::Unscanned => Ok(Stage::Ended(the_whole(group))),
-        Scan::OfServer(scan) => {
-            let carries = server_carries(alloc, &load.arrivals, scan, &group)?;
-            Ok(Stage::Last(carries))
-        }
         Scan::OfTandem(scan) => {
             let carries = tandem_carries(alloc, &load.arrivals, scan, &group)?;
             Ok(Stage::Latest(carries))
         }
-        Scan::OfForkJoin(_) => Ok(Stage::Unbegun),
+        Scan::OfServer(_) | Scan::OfForkJoin(_) => Ok(Stage::Unbegun),
     }
 }
 

@@ -17,10 +17,8 @@ pub use forkjoin::{ForkJoinScan, forkjoin_scan};
 use loss::loss_outflow;
 use mq_base::OutOfMemory;
 use mq_core::{Kind, Rows, Stream};
+pub use server::server_departures;
 use server::server_outflow;
-pub use server::{
-    ServerScan, server_carries, server_departures, server_scan, server_sum, server_times,
-};
 use source::source_outflow;
 use split::split_outflow;
 use std::alloc::Global;

@@ -126,7 +126,7 @@ fn tandem_sums(
     for b in 0..group.len() {
         match group.get(b) {
             Part::Product(sum) => sums.push(**sum)?,
-            Part::Whole(_) | Part::Sum(_) => unreachable!(),
+            Part::Whole(_) => unreachable!(),
         }
     }
     Ok(sums)
