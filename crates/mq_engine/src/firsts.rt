@@ -1,16 +1,19 @@
 // The first pieces of the stations that are ready: summaries of blocks, and whole stations.
-ghost use Rattle.std.specs.Prelude.{◌≡◌, ◌≤◌, length, IfOk, slice_index_or};
+ghost use Rattle.std.specs.Prelude.{◌≡◌, ◌<◌, ◌≤◌, ℕ, List as Items, length, IfOk, slice_index_or};
 ghost use Rattle.mq_crew.specs.Crew.{AreAll};
-ghost use Rattle.mq_engine.specs.Loads.{IsAfterAt, IsLoaded, IsPart, IsReadyLoad, IsStage, IsWhole, blocks_of};
+ghost use Rattle.mq_engine.specs.Loads.{IsAfterAt, IsLoaded, IsPart, IsReadyLoad, IsStage, IsTandemPart, IsWhole, blocks_of};
+ghost use Rattle.mq_stations.specs.Scans.{IsTandemSum};
+ghost use Rattle.mq_maxplus.specs.declared.mp.Mp.{Mp as TheMp};
 ghost use Rattle.mq_engine.specs.declared.firsts.Part.{Part as ThePart};
 ghost use Rattle.mq_engine.specs.declared.firsts.Part.TheVariants.{Whole};
 
 use crate::loads::{Load, Scan};
-use crate::stations::{tandem_carries, tandem_sum};
 use crate::working::{After, after_of};
 use mq_base::{List, OutOfMemory};
+use mq_core::Stream;
 use mq_crew::Pieces;
 use mq_maxplus::Matrix;
+use mq_stations::{TandemScan, tandem_carries, tandem_sum};
 use mq_tandem::Latest;
 use std::alloc::Global;
 
@@ -90,11 +93,33 @@ pub fn stage_of(alloc: Global, load: &Load, group: List<Part>) -> Result<Stage, 
     match &load.scan {
         Scan::Unscanned => Ok(Stage::Ended(the_whole(group))),
         Scan::OfTandem(scan) => {
-            let carries = tandem_carries(alloc, &load.arrivals, scan, &group)?;
+            let sums = tandem_sums(alloc, &load.arrivals, scan, &group)?;
+            let carries = tandem_carries(alloc, &load.arrivals, scan, &sums)?;
             Ok(Stage::Latest(carries))
         }
         Scan::OfServer(_) | Scan::OfForkJoin(_) => Ok(Stage::Unbegun),
     }
+}
+
+// The summaries of all blocks of a tandem.
+fn tandem_sums(
+    alloc: Global,
+    arrivals: &Stream,
+    scan: &TandemScan,
+    group: &List<Part>,
+) -> Result<List<Matrix>, OutOfMemory>
+    requires { (b : ℕ) (d : ThePart) → b < length group.now → IsTandemPart arrivals.now scan.now b (slice_index_or group.now b d) }
+    ensures len { IfOk result (λ sums. length sums ≡ length group.now) }
+    ensures each { IfOk result (λ sums. (b : ℕ) (d : Items (Items TheMp)) → b < length sums → IsTandemSum arrivals.now scan.now b (slice_index_or sums b d)) }
+{
+    let mut sums = List::new(alloc);
+    for b in 0..group.len() {
+        match group.get(b) {
+            Part::Product(sum) => sums.push(**sum)?,
+            Part::Whole(_) => unreachable!(),
+        }
+    }
+    Ok(sums)
 }
 
 // The one piece of a station that is not scanned.

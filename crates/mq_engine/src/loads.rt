@@ -3,15 +3,15 @@ ghost use Rattle.std.specs.Prelude.{◌≡◌, ◌<◌, ◌≤◌, ◌^◌, leng
 ghost use Rattle.mq_core.specs.Theorems.{IsReadFor};
 ghost use Rattle.mq_engine.specs.Loads.{IsLoaded, IsScanOf};
 ghost use Rattle.mq_engine.specs.Progress.{CanWorkAll};
-ghost use Rattle.mq_engine.specs.Working.{AreEarly, IsLoad};
+ghost use Rattle.mq_engine.specs.Working.{AreEarly};
+ghost use Rattle.mq_stations.specs.Leaving.{IsLoad};
 
 use crate::arrivals::arrivals_at;
 use crate::laws::core_laws;
-use crate::outflow::demands_of;
-use crate::stations::{ForkJoinScan, TandemScan, forkjoin_scan, tandem_scan};
 use mq_base::{List, OutOfMemory};
 use mq_core::{Kind, Plan, Rows, Stream};
 use mq_crew::Pieces;
+use mq_stations::{ForkJoinScan, TandemScan, demands_of, forkjoin_scan, tandem_scan};
 use std::alloc::Global;
 
 /// What comes to a node, and how its station is scanned.

@@ -1,17 +1,22 @@
 // The further pieces of the stations that are scanned: their blocks, applied.
 ghost use Rattle.std.specs.Prelude.{◌≡◌, ◌≤◌, IfOk};
+ghost use Rattle.mq_core.specs.Recurrences.{lindley};
+ghost use Rattle.mq_core.specs.Sequences.{IsSoundLoad};
 ghost use Rattle.mq_crew.specs.Crew.{AreAll};
 ghost use Rattle.mq_engine.specs.Loads.{IsAll, IsApplied, IsExit, IsLatest, IsLoaded, IsReadyMiddle, IsStage, applied_of};
 ghost use Rattle.mq_engine.specs.declared.firsts.Stage.TheVariants.{Ended};
 
-use crate::branches::forkjoin_departures;
 use crate::exits::Exit;
 use crate::firsts::Stage;
 use crate::loads::{Load, Scan};
-use crate::stations::{server_departures, tandem_joined, tandem_times};
 use crate::working::After;
 use mq_base::{List, OutOfMemory};
+use mq_branches::forkjoin_departures;
+use mq_core::Stream;
 use mq_crew::{Gate, Pieces};
+use mq_pass::chain_departures;
+use mq_scan::block_size;
+use mq_stations::{tandem_joined, tandem_times};
 use mq_tandem::Latest;
 use std::alloc::Global;
 use std::thread::Threads;
@@ -57,6 +62,27 @@ fn latest_of(stage: &Stage) -> &List<Latest>
         Stage::Latest(carries) => carries,
         Stage::Ended(_) | Stage::Unbegun => unreachable!(),
     }
+}
+
+// When the jobs of a server depart, in a single pass over blocks of at least so many jobs.
+fn server_departures<R: Threads + Sync, G: Gate>(
+    rt: &R,
+    alloc: Global,
+    workers: u32,
+    block: u32,
+    arrivals: &Stream,
+    demands: &List<u64>,
+    gate: &G,
+) -> Result<List<u64>, OutOfMemory>
+    requires load { IsSoundLoad arrivals.now.time demands.now }
+    requires some { 1 ≤ workers }
+    requires most { workers ≤ 64 }
+    requires block { 1 ≤ block }
+    ensures { IfOk result (λ departs. departs ≡ lindley 0 arrivals.now.time demands.now) }
+{
+    let jobs = arrivals.time.len() as u32;
+    let block = block_size(jobs, block);
+    chain_departures(rt, alloc, workers, block, arrivals, demands, gate)
 }
 
 // What is known of a station when all its jobs have left: of its applied blocks, where it has some. The

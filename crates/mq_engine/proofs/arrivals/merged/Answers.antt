@@ -2,7 +2,7 @@ use Rattle.std.proofs.Common.{◌++◌, take, sym, ap, ◌∙◌}
 use Rattle.std.specs.List.{flat_map}
 use Rattle.mq_core.specs.Streams.{by_first}
 use Rattle.mq_engine.specs.Working.{pairs_read}
-use Rattle.mq_engine.proofs.Lists.{flat_map-more}
+use Rattle.mq_stations.proofs.lemmas.Lists.{flat_map-more}
 use Rattle.mq_engine.proofs.arrivals.merged.Goals as goal
 
 pub loop-port-preserved : goal.loop-port-preserved

@@ -1,7 +1,7 @@
 use Rattle.std.proofs.Common.{subst}
 use Rattle.mq_core.specs.declared.model.Kind.{Kind}
-use Rattle.mq_engine.specs.Working.{HaveDemands}
-use Rattle.mq_engine.proofs.Leaves.{asked-each}
+use Rattle.mq_stations.specs.Leaving.{HaveDemands}
+use Rattle.mq_stations.proofs.lemmas.Leaves.{asked-each}
 use Rattle.mq_engine.proofs.loads.scan_of.Goals as goal
 
 pub demands_of-requires : goal.demands_of-requires
