@@ -149,7 +149,7 @@ loads-known plan rows ready loads read e h =
 
 scan-few : (rows : Rows) (kind : Kind) (arrivals : Stream) (scan : Scan) → length arrivals.time ≤ 1048576 → IsScanOf rows kind arrivals scan → (blocks_of scan ≤ 1048576) × (applied_of scan ≤ 1048576)
 scan-few rows kind arrivals Unscanned few h = (omega arith, omega arith)
-scan-few rows kind arrivals (OfServer its) few h = let most = blocks-few its.blocks in let n = h.2.blocks.0 in (omega arith, omega arith)
+scan-few rows kind arrivals (OfServer demands) few h = (omega arith, omega arith)
 scan-few rows kind arrivals (OfTandem its) few h = let most = blocks-few its.blocks in let n = h.2.blocks.0 in (omega arith, omega arith)
 scan-few rows kind arrivals (OfForkJoin its) few h = (omega arith, omega arith)
 

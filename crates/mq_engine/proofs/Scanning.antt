@@ -11,7 +11,7 @@ use Rattle.mq_core.specs.Sequences.{IsSoundLoad}
 use Rattle.mq_core.specs.OnceOut.{founds_of}
 use Rattle.mq_core.specs.SequenceLaws.{FatesAreInTime}
 use Rattle.mq_core.specs.Handling.{demand_of_job}
-use Rattle.mq_core.specs.Recurrences.{forkjoin_departs, tandem_departs}
+use Rattle.mq_core.specs.Recurrences.{forkjoin_departs, lindley, tandem_departs}
 use Rattle.mq_core.specs.declared.model.Fate.{Fate}
 use Rattle.mq_core.specs.declared.model.Fate.TheVariants.{Departs}
 use Rattle.mq_core.specs.declared.model.Node.{Node}
@@ -29,9 +29,8 @@ use Rattle.mq_engine.specs.declared.working.After.TheVariants.{Seen}
 use Rattle.mq_engine.specs.declared.loads.Scan.{Scan}
 use Rattle.mq_engine.specs.declared.loads.Scan.TheVariants.{OfForkJoin, OfServer, OfTandem, Unscanned}
 use Rattle.mq_stations.specs.declared.forkjoin.ForkJoinScan.{ForkJoinScan}
-use Rattle.mq_stations.specs.declared.server.ServerScan.{ServerScan}
 use Rattle.mq_stations.specs.declared.tandem.TandemScan.{TandemScan}
-use Rattle.mq_stations.proofs.lemmas.Leaves.{load-sound, served-even, served-leaves}
+use Rattle.mq_stations.proofs.lemmas.Leaves.{load-sound, served-even, served-leaves, server-served}
 use Rattle.mq_stations.proofs.lemmas.StageFacts.{branch-loads, demands-told, forkjoin-departs, loads-sound, stages-are, tandem-served}
 
 -- a further item, where each is that of its index
@@ -51,11 +50,11 @@ items-more {S} is items items' b item len each own e = (
         subst (λ (z : ℕ × S). is z.0 z.1) (λ i. (at i, found i)) own
 
 -- what is scanned is a sound load of all arrivals
-pub server-sound : (plan : Plan) (rows : Rows) (v : ℕ) (arrivals : Stream) (scan : Scan) (its : ServerScan) → IsLoaded plan rows v arrivals scan → scan ≡ OfServer its → IsSoundLoad arrivals.time its.demands × (its.blocks.n ≡ length arrivals.time)
-server-sound plan rows v arrivals scan its l e =
-    let is : IsScanOf rows l.node.kind arrivals (OfServer its) = subst (IsScanOf rows l.node.kind arrivals) e l.scanned in
+pub server-sound : (plan : Plan) (rows : Rows) (v : ℕ) (arrivals : Stream) (scan : Scan) (demands : List ℕ) → IsLoaded plan rows v arrivals scan → scan ≡ OfServer demands → IsSoundLoad arrivals.time demands
+server-sound plan rows v arrivals scan demands l e =
+    let is : IsScanOf rows l.node.kind arrivals (OfServer demands) = subst (IsScanOf rows l.node.kind arrivals) e l.scanned in
     let load : IsLoad rows (Server is.0) arrivals = subst (λ (k : Kind). IsLoad rows k arrivals) is.1 l.load in
-    (load-sound rows (Server is.0) is.0 arrivals its.demands load load.told is.2.demands, is.2.blocks.0)
+    load-sound rows (Server is.0) is.0 arrivals demands load load.told is.2
 
 pub tandem-sound : (plan : Plan) (rows : Rows) (v : ℕ) (arrivals : Stream) (scan : Scan) (its : TandemScan) → IsLoaded plan rows v arrivals scan → scan ≡ OfTandem its → IsTandemLoad arrivals.time its.demands its.places × (its.blocks.n ≡ length arrivals.time)
 tandem-sound plan rows v arrivals scan its l e =
@@ -86,10 +85,15 @@ loaded-inside plan rows v arrivals scan l = slice_get_within plan.net.nodes v l.
 pub load-at : (plan : Plan) (rows : Rows) (v : ℕ) (arrivals : Stream) (scan : Scan) (node : Node) → IsLoaded plan rows v arrivals scan → slice_get plan.net.nodes v ≡ Some node → IsLoad rows node.kind arrivals
 load-at plan rows v arrivals scan node l there = subst (λ (n : Node). IsLoad rows n.kind arrivals) (some_inj _ _ (sym l.there ∙ there)) l.load
 
--- what its blocks give is when its jobs depart
+-- what its blocks give, or its single pass, is when its jobs depart
 served-at : (plan : Plan) (rows : Rows) (v : ℕ) (arrivals : Stream) (scan : Scan) (kind : Kind) (departs : List ℕ) → (l : IsLoaded plan rows v arrivals scan) → l.node.kind ≡ kind → AreServed rows kind arrivals departs → IsServed plan rows v arrivals departs
 served-at plan rows v arrivals scan kind departs l e s =
     λ node there. let same : l.node ≡ node = some_inj _ _ (sym l.there ∙ there) in subst (λ (k : Kind). AreServed rows k arrivals departs) (sym e ∙ ap (λ (n : Node). n.kind) same) s
+
+pub server-leaves : (plan : Plan) (rows : Rows) (v : ℕ) (arrivals : Stream) (scan : Scan) (demands departs : List ℕ) → IsLoaded plan rows v arrivals scan → scan ≡ OfServer demands → departs ≡ lindley 0 arrivals.time demands → IsServed plan rows v arrivals departs
+server-leaves plan rows v arrivals scan demands departs l e d =
+    let is : IsScanOf rows l.node.kind arrivals (OfServer demands) = subst (IsScanOf rows l.node.kind arrivals) e l.scanned in
+    served-at plan rows v arrivals scan (Server is.0) departs l is.1 (server-served rows is.0 arrivals demands departs is.2 d)
 
 pub tandem-leaves : (plan : Plan) (rows : Rows) (v : ℕ) (arrivals : Stream) (scan : Scan) (its : TandemScan) (departs : List ℕ) → IsLoaded plan rows v arrivals scan → scan ≡ OfTandem its → departs ≡ tandem_departs its.places (map (λ _. []) its.places) arrivals.time its.demands → IsServed plan rows v arrivals departs
 tandem-leaves plan rows v arrivals scan its departs l e d =

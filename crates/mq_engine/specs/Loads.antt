@@ -4,6 +4,7 @@ use Rattle.mq_core.specs.Came.{came_in}
 use Rattle.mq_core.specs.SequenceLaws.{arrives_of, jobs_of}
 use Rattle.mq_core.specs.Sequences.{sequence_fates, sequence_late_from}
 use Rattle.mq_core.specs.OnceOut.{founds_of}
+use Rattle.mq_core.specs.Handling.{demand_of_job}
 use Rattle.mq_core.specs.Results.{first_of}
 use Rattle.mq_core.specs.StandardTable.{run_of}
 use Rattle.mq_core.specs.Theorems.{IsReadFor}
@@ -20,7 +21,7 @@ use Rattle.mq_core.specs.declared.model.Stream.{Stream}
 use Rattle.mq_stations.specs.Late.{late_told}
 use Rattle.mq_engine.specs.Progress.{IsWorkedOut}
 use Rattle.mq_stations.specs.Leaving.{AreServed, IsLeaving, IsLoad}
-use Rattle.mq_stations.specs.Scans.{AreServerCarries, AreServerTimes, AreTandemCarries, AreTandemTimes, IsForkJoinScan, IsServerScan, IsServerSum, IsTandemScan, IsTandemSum}
+use Rattle.mq_stations.specs.Scans.{AreTandemCarries, AreTandemTimes, IsForkJoinScan, IsTandemScan, IsTandemSum}
 use Rattle.mq_engine.specs.declared.exits.Closed.{Closed}
 use Rattle.mq_engine.specs.declared.exits.Closed.TheVariants.{Fates, Found, Jobs, Over}
 use Rattle.mq_engine.specs.declared.exits.Exit.{Exit}
@@ -30,25 +31,24 @@ use Rattle.mq_engine.specs.declared.middles.Middle.{Middle}
 use Rattle.mq_engine.specs.declared.loads.Load.{Load}
 use Rattle.mq_engine.specs.declared.loads.Scan.{Scan}
 use Rattle.mq_engine.specs.declared.loads.Scan.TheVariants.{OfForkJoin, OfServer, OfTandem, Unscanned}
-use Rattle.mq_stations.specs.declared.server.ServerScan.{ServerScan}
 use Rattle.mq_stations.specs.declared.tandem.TandemScan.{TandemScan}
 use Rattle.mq_engine.specs.declared.working.NodeResult.{NodeResult}
 use Rattle.mq_engine.specs.declared.working.After.{After}
 use Rattle.mq_engine.specs.declared.working.After.TheVariants.{Seen, Missed}
 use Rattle.mq_engine.specs.declared.firsts.Part.{Part}
-use Rattle.mq_engine.specs.declared.firsts.Part.TheVariants.{Product, Sum, Whole}
+use Rattle.mq_engine.specs.declared.firsts.Part.TheVariants.{Product, Whole}
 use Rattle.mq_engine.specs.declared.firsts.Stage.{Stage}
-use Rattle.mq_engine.specs.declared.firsts.Stage.TheVariants.{Ended, Last, Latest, Unbegun}
+use Rattle.mq_engine.specs.declared.firsts.Stage.TheVariants.{Ended, Latest, Unbegun}
 
 -- the arrivals are those of the run
 pub record IsArrived (plan : Plan) (rows : Rows) (v : ℕ) (arrivals : Stream) : Type 0 where
   pub job : arrivals.job ≡ jobs_of ((run_of plan rows).stations v).visits
   pub time : arrivals.time ≡ arrives_of ((run_of plan rows).stations v).visits
 
--- a scan is that of the kind of its station
+-- a scan is that of the kind of its station; of a server it is what its arrivals ask for
 abbrev pub IsScanOf : Rows → Kind → Stream → Scan → Type 0
 IsScanOf rows kind arrivals Unscanned = Unit {0}
-IsScanOf rows kind arrivals (OfServer scan) = (demand : Demand) × (kind ≡ Server demand) × IsServerScan rows demand arrivals scan
+IsScanOf rows kind arrivals (OfServer demands) = (demand : Demand) × (kind ≡ Server demand) × (demands ≡ map (demand_of_job rows demand) arrivals.job)
 IsScanOf rows kind arrivals (OfTandem scan) = (stages : List TandemStage) × (kind ≡ Tandem stages) × IsTandemScan rows stages arrivals scan
 IsScanOf rows kind arrivals (OfForkJoin scan) = (branches : List (List Demand)) × (kind ≡ ForkJoin branches) × IsForkJoinScan rows branches arrivals scan
 
@@ -60,17 +60,17 @@ pub record IsLoaded (plan : Plan) (rows : Rows) (v : ℕ) (arrivals : Stream) (s
   pub load : IsLoad rows node.kind arrivals
   pub scanned : IsScanOf rows node.kind arrivals scan
 
--- how many first pieces a station has: one that is not scanned is one, and a fork-join has none yet
+-- how many first pieces a station has: one that is not scanned is one, and a server and a fork-join have none yet
 abbrev pub blocks_of : Scan → ℕ
 blocks_of Unscanned = 1
-blocks_of (OfServer scan) = scan.blocks.blocks
+blocks_of (OfServer demands) = 0
 blocks_of (OfTandem scan) = scan.blocks.blocks
 blocks_of (OfForkJoin scan) = 0
 
 -- how many of its blocks are applied
 abbrev pub applied_of : Scan → ℕ
 applied_of Unscanned = 0
-applied_of (OfServer scan) = scan.blocks.blocks
+applied_of (OfServer demands) = 0
 applied_of (OfTandem scan) = scan.blocks.blocks
 applied_of (OfForkJoin scan) = 0
 
@@ -86,97 +86,69 @@ IsAfter net rows v kind arrivals (Missed fault) =
 abbrev pub IsAfterAt : Plan → Rows → ℕ → Stream → After → Type 0
 IsAfterAt plan rows v arrivals after = (node : Node) → slice_get plan.net.nodes v ≡ Some node → IsAfter plan.net rows v node.kind arrivals after
 
--- a first piece that is what the jobs of a block of a server do together
-abbrev pub IsServerPart : Stream → ServerScan → ℕ → Part → Type 0
-IsServerPart arrivals scan b (Whole after) = ⊥
-IsServerPart arrivals scan b (Sum sum) = IsServerSum arrivals scan b sum
-IsServerPart arrivals scan b (Product sum) = ⊥
-
--- the same of a tandem
+-- a first piece that is what the jobs of a block of a tandem do together
 abbrev pub IsTandemPart : Stream → TandemScan → ℕ → Part → Type 0
 IsTandemPart arrivals scan b (Whole after) = ⊥
-IsTandemPart arrivals scan b (Sum sum) = ⊥
 IsTandemPart arrivals scan b (Product sum) = IsTandemSum arrivals scan b sum.value
 
 -- a first piece that is all of its station
 abbrev pub IsWhole : Part → Type 0
 IsWhole (Whole after) = Unit {0}
-IsWhole (Sum sum) = ⊥
 IsWhole (Product sum) = ⊥
 
 -- a first piece that is a whole station
 abbrev pub IsWholePart : Plan → Rows → ℕ → Stream → Part → Type 0
 IsWholePart plan rows v arrivals (Whole after) = IsAfterAt plan rows v arrivals after
-IsWholePart plan rows v arrivals (Sum sum) = ⊥
 IsWholePart plan rows v arrivals (Product sum) = ⊥
 
 -- a first piece: a whole station, or what the jobs of a block do together
 abbrev pub IsPart : Plan → Rows → ℕ → Stream → Scan → ℕ → Part → Type 0
 IsPart plan rows v arrivals Unscanned b part = IsWholePart plan rows v arrivals part
-IsPart plan rows v arrivals (OfServer scan) b part = IsServerPart arrivals scan b part
+IsPart plan rows v arrivals (OfServer demands) b part = ⊥
 IsPart plan rows v arrivals (OfTandem scan) b part = IsTandemPart arrivals scan b part
 IsPart plan rows v arrivals (OfForkJoin scan) b part = ⊥
 
 -- after its first pieces all is known of a station
 abbrev pub IsAll : Stage → Type 0
 IsAll (Ended after) = Unit {0}
-IsAll (Last carries) = ⊥
 IsAll (Latest carries) = ⊥
 IsAll Unbegun = ⊥
-
--- the last departure before each block is known
-abbrev pub IsLast : Stage → Type 0
-IsLast (Ended after) = ⊥
-IsLast (Last carries) = Unit {0}
-IsLast (Latest carries) = ⊥
-IsLast Unbegun = ⊥
 
 -- the latest departures before each block are known
 abbrev pub IsLatest : Stage → Type 0
 IsLatest (Ended after) = ⊥
-IsLatest (Last carries) = ⊥
 IsLatest (Latest carries) = Unit {0}
 IsLatest Unbegun = ⊥
 
 -- what becomes of the arrivals is known
 abbrev pub IsEnded : Plan → Rows → ℕ → Stream → Stage → Type 0
 IsEnded plan rows v arrivals (Ended after) = IsAfterAt plan rows v arrivals after
-IsEnded plan rows v arrivals (Last carries) = ⊥
 IsEnded plan rows v arrivals (Latest carries) = ⊥
 IsEnded plan rows v arrivals Unbegun = ⊥
-
--- the last departures before the blocks of a server are known
-abbrev pub IsServerStage : Stream → ServerScan → Stage → Type 0
-IsServerStage arrivals scan (Ended after) = ⊥
-IsServerStage arrivals scan (Last carries) = AreServerCarries arrivals scan carries
-IsServerStage arrivals scan (Latest carries) = ⊥
-IsServerStage arrivals scan Unbegun = ⊥
 
 -- the latest departures before the blocks of a tandem are known
 abbrev pub IsTandemStage : Stream → TandemScan → Stage → Type 0
 IsTandemStage arrivals scan (Ended after) = ⊥
-IsTandemStage arrivals scan (Last carries) = ⊥
 IsTandemStage arrivals scan (Latest carries) = AreTandemCarries arrivals scan carries
 IsTandemStage arrivals scan Unbegun = ⊥
 
--- nothing is known yet, as of a fork-join, whose branches come later
+-- nothing is known yet, as of a server and of a fork-join, which come later
 abbrev pub IsUnbegun : Stage → Type 0
 IsUnbegun (Ended after) = ⊥
-IsUnbegun (Last carries) = ⊥
 IsUnbegun (Latest carries) = ⊥
 IsUnbegun Unbegun = Unit {0}
 
--- what is known of a station after its first pieces: all, the carry before each block, or nothing of a fork-join
+-- what is known of a station after its first pieces: all, the carry before each block, or nothing of a server and of a fork-join
 abbrev pub IsStage : Plan → Rows → ℕ → Stream → Scan → Stage → Type 0
 IsStage plan rows v arrivals Unscanned stage = IsEnded plan rows v arrivals stage
-IsStage plan rows v arrivals (OfServer scan) stage = IsServerStage arrivals scan stage
+IsStage plan rows v arrivals (OfServer demands) stage = IsUnbegun stage
 IsStage plan rows v arrivals (OfTandem scan) stage = IsTandemStage arrivals scan stage
 IsStage plan rows v arrivals (OfForkJoin scan) stage = IsUnbegun stage
 
 -- a further piece: when the jobs of a block depart
 abbrev pub IsApplied : Stream → Scan → ℕ → List ℕ → Type 0
 IsApplied arrivals Unscanned b times = ⊥
-IsApplied arrivals (OfServer scan) b times = AreServerTimes arrivals scan b times
+IsApplied arrivals (OfServer demands) b times = ⊥
 IsApplied arrivals (OfTandem scan) b times = AreTandemTimes arrivals scan b times
 IsApplied arrivals (OfForkJoin scan) b times = ⊥
 

@@ -1,9 +1,8 @@
 // The first pieces of the stations that are ready: summaries of blocks, and whole stations.
 ghost use Rattle.std.specs.Prelude.{◌≡◌, ◌<◌, ◌≤◌, ℕ, List as Items, length, IfOk, slice_index_or};
 ghost use Rattle.mq_crew.specs.Crew.{AreAll};
-ghost use Rattle.mq_engine.specs.Loads.{IsAfterAt, IsLoaded, IsPart, IsReadyLoad, IsServerPart, IsStage, IsTandemPart, IsWhole, blocks_of};
-ghost use Rattle.mq_stations.specs.Scans.{IsServerSum, IsTandemSum};
-ghost use Rattle.mq_maxplus.specs.declared.affine.Affine.{Affine as TheAffine};
+ghost use Rattle.mq_engine.specs.Loads.{IsAfterAt, IsLoaded, IsPart, IsReadyLoad, IsStage, IsTandemPart, IsWhole, blocks_of};
+ghost use Rattle.mq_stations.specs.Scans.{IsTandemSum};
 ghost use Rattle.mq_maxplus.specs.declared.mp.Mp.{Mp as TheMp};
 ghost use Rattle.mq_engine.specs.declared.firsts.Part.{Part as ThePart};
 ghost use Rattle.mq_engine.specs.declared.firsts.Part.TheVariants.{Whole};
@@ -13,8 +12,13 @@ use crate::working::{After, after_of};
 use mq_base::{List, OutOfMemory};
 use mq_core::Stream;
 use mq_crew::Pieces;
+<<<<<<< HEAD
 use mq_maxplus::{Affine, Matrix, Mp};
 use mq_stations::{ServerScan, TandemScan, server_carries, server_sum, tandem_carries, tandem_sum};
+=======
+use mq_maxplus::Matrix;
+use mq_stations::{TandemScan, tandem_carries, tandem_sum};
+>>>>>>> 9ba1c2d3607af52f35f2f0a5bcdd36e333d88e60
 use mq_tandem::Latest;
 use std::alloc::Global;
 
@@ -23,8 +27,6 @@ use std::alloc::Global;
 pub enum Part {
     /// All of it.
     Whole(After),
-    /// What the jobs of a block of a server do together.
-    Sum(Affine),
     /// What the jobs of a block of a tandem do together, which is large.
     Product(Box<Matrix>),
 }
@@ -34,11 +36,9 @@ pub enum Part {
 pub enum Stage {
     /// All of it.
     Ended(After),
-    /// The last departure of a server before each block.
-    Last(List<Mp>),
     /// The latest departures of a tandem before each block.
     Latest(List<Latest>),
-    /// Nothing yet: the branches of a fork-join come later.
+    /// Nothing yet: a server and the branches of a fork-join come later.
     Unbegun,
 }
 
@@ -54,21 +54,19 @@ impl<'a> Pieces for Load<'a> {
     fn count(&self) -> u32 {
         match &self.scan {
             Scan::Unscanned => 1,
-            Scan::OfServer(scan) => scan.blocks.blocks,
             Scan::OfTandem(scan) => scan.blocks.blocks,
-            Scan::OfForkJoin(_) => 0,
+            Scan::OfServer(_) | Scan::OfForkJoin(_) => 0,
         }
     }
 
     fn piece(&self, alloc: Global, b: u32) -> Result<Part, OutOfMemory> {
         match &self.scan {
             Scan::Unscanned => Ok(Part::Whole(whole(alloc, self)?)),
-            Scan::OfServer(scan) => Ok(Part::Sum(server_sum(&self.arrivals, scan, b))),
             Scan::OfTandem(scan) => {
                 let sum = tandem_sum(&self.arrivals, scan, b);
                 Ok(Part::Product(Box::new(alloc, sum)?))
             }
-            Scan::OfForkJoin(_) => unreachable!(),
+            Scan::OfServer(_) | Scan::OfForkJoin(_) => unreachable!(),
         }
     }
 }
@@ -99,39 +97,13 @@ pub fn stage_of(alloc: Global, load: &Load, group: List<Part>) -> Result<Stage, 
 {
     match &load.scan {
         Scan::Unscanned => Ok(Stage::Ended(the_whole(group))),
-        Scan::OfServer(scan) => {
-            let sums = server_sums(alloc, &load.arrivals, scan, &group)?;
-            let carries = server_carries(alloc, &load.arrivals, scan, &sums)?;
-            Ok(Stage::Last(carries))
-        }
         Scan::OfTandem(scan) => {
             let sums = tandem_sums(alloc, &load.arrivals, scan, &group)?;
             let carries = tandem_carries(alloc, &load.arrivals, scan, &sums)?;
             Ok(Stage::Latest(carries))
         }
-        Scan::OfForkJoin(_) => Ok(Stage::Unbegun),
+        Scan::OfServer(_) | Scan::OfForkJoin(_) => Ok(Stage::Unbegun),
     }
-}
-
-// The summaries of all blocks of a server.
-fn server_sums(
-    alloc: Global,
-    arrivals: &Stream,
-    scan: &ServerScan,
-    group: &List<Part>,
-) -> Result<List<Affine>, OutOfMemory>
-    requires { (b : ℕ) (d : ThePart) → b < length group.now → IsServerPart arrivals.now scan.now b (slice_index_or group.now b d) }
-    ensures len { IfOk result (λ sums. length sums ≡ length group.now) }
-    ensures each { IfOk result (λ sums. (b : ℕ) (d : TheAffine) → b < length sums → IsServerSum arrivals.now scan.now b (slice_index_or sums b d)) }
-{
-    let mut sums = List::new(alloc);
-    for b in 0..group.len() {
-        match group.get(b) {
-            Part::Sum(sum) => sums.push(*sum)?,
-            Part::Whole(_) | Part::Product(_) => unreachable!(),
-        }
-    }
-    Ok(sums)
 }
 
 // The summaries of all blocks of a tandem.
@@ -149,7 +121,7 @@ fn tandem_sums(
     for b in 0..group.len() {
         match group.get(b) {
             Part::Product(sum) => sums.push(**sum)?,
-            Part::Whole(_) | Part::Sum(_) => unreachable!(),
+            Part::Whole(_) => unreachable!(),
         }
     }
     Ok(sums)

@@ -11,7 +11,7 @@ use crate::laws::core_laws;
 use mq_base::{List, OutOfMemory};
 use mq_core::{Kind, Plan, Rows, Stream};
 use mq_crew::Pieces;
-use mq_stations::{ForkJoinScan, ServerScan, TandemScan, forkjoin_scan, server_scan, tandem_scan};
+use mq_stations::{ForkJoinScan, TandemScan, demands_of, forkjoin_scan, tandem_scan};
 use std::alloc::Global;
 
 /// What comes to a node, and how its station is scanned.
@@ -32,8 +32,8 @@ pub struct Load<'a> {
 pub enum Scan {
     /// Whole, as one piece.
     Unscanned,
-    /// A server, block by block.
-    OfServer(ServerScan),
+    /// A server, in a single pass over blocks: what each job asks for, in ticks.
+    OfServer(List<u64>),
     /// A tandem, block by block.
     OfTandem(TandemScan),
     /// A fork-join, block by block at each server.
@@ -107,9 +107,7 @@ fn scan_of(
         return Ok(Scan::Unscanned);
     }
     match kind {
-        Kind::Server(demand) => Ok(Scan::OfServer(server_scan(
-            alloc, rows, demand, arrivals, block,
-        )?)),
+        Kind::Server(demand) => Ok(Scan::OfServer(demands_of(alloc, rows, demand, &arrivals.job)?)),
         Kind::Tandem(stages) => Ok(Scan::OfTandem(tandem_scan(
             alloc, rows, stages, arrivals, block,
         )?)),

@@ -1,8 +1,10 @@
 // The further pieces of the stations that are scanned: their blocks, applied.
 ghost use Rattle.std.specs.Prelude.{◌≡◌, ◌≤◌, IfOk};
+ghost use Rattle.mq_core.specs.Recurrences.{lindley};
+ghost use Rattle.mq_core.specs.Sequences.{IsSoundLoad};
 ghost use Rattle.mq_crew.specs.Crew.{AreAll};
-ghost use Rattle.mq_engine.specs.Loads.{IsAll, IsApplied, IsExit, IsLast, IsLatest, IsLoaded, IsReadyMiddle, IsStage, applied_of};
-ghost use Rattle.mq_engine.specs.declared.firsts.Stage.TheVariants.{Ended, Last};
+ghost use Rattle.mq_engine.specs.Loads.{IsAll, IsApplied, IsExit, IsLatest, IsLoaded, IsReadyMiddle, IsStage, applied_of};
+ghost use Rattle.mq_engine.specs.declared.firsts.Stage.TheVariants.{Ended};
 
 use crate::exits::Exit;
 use crate::firsts::Stage;
@@ -10,9 +12,11 @@ use crate::loads::{Load, Scan};
 use crate::working::After;
 use mq_base::{List, OutOfMemory};
 use mq_branches::forkjoin_departures;
+use mq_core::Stream;
 use mq_crew::{Gate, Pieces};
-use mq_maxplus::Mp;
-use mq_stations::{server_departures, server_times, tandem_joined, tandem_times};
+use mq_pass::chain_departures;
+use mq_scan::block_size;
+use mq_stations::{tandem_joined, tandem_times};
 use mq_tandem::Latest;
 use std::alloc::Global;
 use std::thread::Threads;
@@ -35,32 +39,17 @@ impl<'a> Pieces for Middle<'a> {
 
     fn count(&self) -> u32 {
         match &self.load.scan {
-            Scan::Unscanned => 0,
-            Scan::OfServer(scan) => scan.blocks.blocks,
             Scan::OfTandem(scan) => scan.blocks.blocks,
-            Scan::OfForkJoin(_) => 0,
+            Scan::Unscanned | Scan::OfServer(_) | Scan::OfForkJoin(_) => 0,
         }
     }
 
     fn piece(&self, alloc: Global, b: u32) -> Result<List<u64>, OutOfMemory> {
         let arrivals = &self.load.arrivals;
         match &self.load.scan {
-            Scan::Unscanned => unreachable!(),
-            Scan::OfServer(scan) => server_times(alloc, arrivals, scan, last_of(&self.stage), b),
             Scan::OfTandem(scan) => tandem_times(alloc, arrivals, scan, latest_of(&self.stage), b),
-            Scan::OfForkJoin(_) => unreachable!(),
+            Scan::Unscanned | Scan::OfServer(_) | Scan::OfForkJoin(_) => unreachable!(),
         }
-    }
-}
-
-// The last departure of a server before each block.
-fn last_of(stage: &Stage) -> &List<Mp>
-    requires { IsLast stage.now }
-    ensures { stage.now ≡ Last result.now }
-{
-    match stage {
-        Stage::Last(carries) => carries,
-        Stage::Ended(_) | Stage::Latest(_) | Stage::Unbegun => unreachable!(),
     }
 }
 
@@ -71,12 +60,33 @@ fn latest_of(stage: &Stage) -> &List<Latest>
 {
     match stage {
         Stage::Latest(carries) => carries,
-        Stage::Ended(_) | Stage::Last(_) | Stage::Unbegun => unreachable!(),
+        Stage::Ended(_) | Stage::Unbegun => unreachable!(),
     }
 }
 
-// What is known of a station when all its jobs have left: of its applied blocks, where it is scanned. The
-// branches of a fork-join are scanned here.
+// When the jobs of a server depart, in a single pass over blocks of at least so many jobs.
+fn server_departures<R: Threads + Sync, G: Gate>(
+    rt: &R,
+    alloc: Global,
+    workers: u32,
+    block: u32,
+    arrivals: &Stream,
+    demands: &List<u64>,
+    gate: &G,
+) -> Result<List<u64>, OutOfMemory>
+    requires load { IsSoundLoad arrivals.now.time demands.now }
+    requires some { 1 ≤ workers }
+    requires most { workers ≤ 64 }
+    requires block { 1 ≤ block }
+    ensures { IfOk result (λ departs. departs ≡ lindley 0 arrivals.now.time demands.now) }
+{
+    let jobs = arrivals.time.len() as u32;
+    let block = block_size(jobs, block);
+    chain_departures(rt, alloc, workers, block, arrivals, demands, gate)
+}
+
+// What is known of a station when all its jobs have left: of its applied blocks, where it has some. The
+// single pass of a server is made here, and the branches of a fork-join are scanned here.
 pub fn exit_of<R: Threads + Sync, G: Gate>(
     rt: &R,
     alloc: Global,
@@ -91,12 +101,21 @@ pub fn exit_of<R: Threads + Sync, G: Gate>(
     requires group { AreAll (IsApplied load.now.arrivals load.now.scan) (applied_of load.now.scan) group.now }
     requires some { 1 ≤ workers }
     requires most { workers ≤ 64 }
+    requires block { 1 ≤ load.now.block }
     ensures { IfOk result (λ exit. IsExit load.now.plan.now load.now.rows.now load.now.number load.now.arrivals exit) }
 {
     match &load.scan {
         Scan::Unscanned => Ok(Exit::Known(the_end(stage))),
-        Scan::OfServer(scan) => {
-            let departs = server_departures(alloc, &load.arrivals, scan, group)?;
+        Scan::OfServer(demands) => {
+            let departs = server_departures(
+                rt,
+                alloc,
+                workers,
+                load.block,
+                &load.arrivals,
+                demands,
+                gate,
+            )?;
             Ok(Exit::Served(departs))
         }
         Scan::OfTandem(scan) => {
@@ -117,7 +136,6 @@ fn the_end(stage: Stage) -> After
 {
     match stage {
         Stage::Ended(after) => after,
-        Stage::Last(_carries) => unreachable!(),
         Stage::Latest(_carries) => unreachable!(),
         Stage::Unbegun => unreachable!(),
     }

@@ -21,8 +21,8 @@ use std::thread::Threads;
 
 // What the nodes that are ready give, in four lists of pieces: what comes to each; the summaries
 // of the stations that are scanned, and the others whole; the applied blocks; and of the scanned ones the
-// fates, how many each visit found, and the jobs that leave. Before the last list each fork-join has
-// lists of its own.
+// fates, how many each visit found, and the jobs that leave. Before the last list each server has its
+// single pass, one after another, and each fork-join lists of its own.
 pub fn results_of<R: Threads + Sync, G: Gate>(
     rt: &R,
     alloc: Global,

@@ -23,11 +23,8 @@ pub use late::{PastFault, first_late};
 use loss::loss_outflow;
 use mq_base::OutOfMemory;
 use mq_core::{Kind, Rows, Stream};
-pub use outflow::{Outflow, fates_of, only};
+pub use outflow::{Outflow, demands_of, fates_of, only};
 use server::server_outflow;
-pub use server::{
-    ServerScan, server_carries, server_departures, server_scan, server_sum, server_times,
-};
 use source::source_outflow;
 use split::split_outflow;
 use std::alloc::Global;

@@ -17,7 +17,7 @@ pub struct Outflow {
     pub streams: List<Stream>,
 }
 
-// The demand of each job, in ticks.
+/// The demand of each of these jobs, in ticks, by position. It refuses for want of memory alone.
 // Its loop is not inlined, so that it has the registers to itself.
 #[inline(never)]
 pub fn demands_of(

@@ -23,20 +23,27 @@ const JOBS: &[u8] = b"source,time,a,b,c\nsrc,0,2,3,1\nsrc,1,1,1,4\nsrc,2,2,1,1\n
 // How often a held entry looks whether the other has come.
 const TURNS: u64 = 2_000_000_000;
 
-// Holds the first entry with piece 0 until one with piece 1 has come, and the other way round, and
-// counts the entries with the pieces 0, 1 and 2.
+// The entries with the numbers 0, 1 and 2. The first with 0 is held until one with 1 has come, and the other
+// way round.
 #[derive(Drop)]
-struct Held {
+struct Entries {
     came: [AtomicU64; 3],
     run_out: AtomicU64,
 }
 
-impl Gate for Held {
-    fn enter(&self, _seat: &ClaimSeat, _worker: u32, piece: u32) {
-        if piece > 2 {
+impl Entries {
+    fn none() -> Entries {
+        Entries {
+            came: [AtomicU64::new(0), AtomicU64::new(0), AtomicU64::new(0)],
+            run_out: AtomicU64::new(0),
+        }
+    }
+
+    fn enter(&self, number: u32) {
+        if number > 2 {
             return;
         }
-        let here = piece as usize;
+        let here = number as usize;
         if self.came[here].fetch_add(1, SeqCst) > 0 || here == 2 {
             return;
         }
@@ -47,15 +54,30 @@ impl Gate for Held {
         }
         self.run_out.fetch_add(1, SeqCst);
     }
+}
 
-    fn enter_block(&self, _seat: &ChainSeat, _worker: u32, _block: u32) {}
+// Counts the pieces that are made apart from the blocks of a single pass.
+#[derive(Drop)]
+struct Held {
+    pieces: Entries,
+    blocks: Entries,
+}
+
+impl Gate for Held {
+    fn enter(&self, _seat: &ClaimSeat, _worker: u32, piece: u32) {
+        self.pieces.enter(piece);
+    }
+
+    fn enter_block(&self, _seat: &ChainSeat, _worker: u32, block: u32) {
+        self.blocks.enter(block);
+    }
 }
 
 // A gate that no entry has come to.
 fn nobody() -> Held {
     Held {
-        came: [AtomicU64::new(0), AtomicU64::new(0), AtomicU64::new(0)],
-        run_out: AtomicU64::new(0),
+        pieces: Entries::none(),
+        blocks: Entries::none(),
     }
 }
 
@@ -79,10 +101,12 @@ fn is_done<R: Threads + Sync>(
 fn two_threads_enter_the_gate_at_a_server(rt: HostRuntime) -> Result<(), Fail> {
     let gate = nobody();
     assert!(rt; is_done(&rt, rt.alloc(), MODEL, TRACE, &gate)?);
-    assert!(rt; gate.run_out.load(SeqCst) == 0);
-    // once for a summary, once for an applied block, and once for the last lists of the server
-    for piece in 0..3usize {
-        assert!(rt; gate.came[piece].load(SeqCst) >= 3);
+    assert!(rt; gate.blocks.run_out.load(SeqCst) == 0);
+    assert!(rt; gate.pieces.run_out.load(SeqCst) == 0);
+    // once with each block, whoever draws it; its last lists are pieces
+    for number in 0..3usize {
+        assert!(rt; gate.blocks.came[number].load(SeqCst) == 1);
+        assert!(rt; gate.pieces.came[number].load(SeqCst) >= 1);
     }
     Ok(())
 }
@@ -91,10 +115,11 @@ fn two_threads_enter_the_gate_at_a_server(rt: HostRuntime) -> Result<(), Fail> {
 fn two_threads_enter_the_gate_at_a_tandem(rt: HostRuntime) -> Result<(), Fail> {
     let gate = nobody();
     assert!(rt; is_done(&rt, rt.alloc(), TANDEM, JOBS, &gate)?);
-    assert!(rt; gate.run_out.load(SeqCst) == 0);
-    // the same: a summary and an applied block of each job, and the last lists
-    for piece in 0..3usize {
-        assert!(rt; gate.came[piece].load(SeqCst) >= 3);
+    assert!(rt; gate.pieces.run_out.load(SeqCst) == 0);
+    // once for a summary, once for an applied block, and once for the last lists of the tandem
+    for number in 0..3usize {
+        assert!(rt; gate.pieces.came[number].load(SeqCst) >= 3);
+        assert!(rt; gate.blocks.came[number].load(SeqCst) == 0);
     }
     Ok(())
 }
@@ -103,11 +128,12 @@ fn two_threads_enter_the_gate_at_a_tandem(rt: HostRuntime) -> Result<(), Fail> {
 fn two_threads_enter_the_gate_at_a_forkjoin(rt: HostRuntime) -> Result<(), Fail> {
     let gate = nobody();
     assert!(rt; is_done(&rt, rt.alloc(), FORKJOIN, JOBS, &gate)?);
-    assert!(rt; gate.run_out.load(SeqCst) == 0);
+    assert!(rt; gate.pieces.run_out.load(SeqCst) == 0);
     // a summary and an applied block of each job at the first servers and again at the second, and the
     // last lists
-    for piece in 0..3usize {
-        assert!(rt; gate.came[piece].load(SeqCst) >= 5);
+    for number in 0..3usize {
+        assert!(rt; gate.pieces.came[number].load(SeqCst) >= 5);
+        assert!(rt; gate.blocks.came[number].load(SeqCst) == 0);
     }
     Ok(())
 }

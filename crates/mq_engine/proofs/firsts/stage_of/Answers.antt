@@ -4,11 +4,8 @@ use Rattle.mq_engine.specs.Loads.{IsPart, IsStage, IsWholePart, blocks_of}
 use Rattle.mq_engine.specs.declared.firsts.Part.TheVariants.{Whole}
 use Rattle.mq_engine.specs.declared.firsts.Stage.TheVariants.{Ended}
 use Rattle.mq_engine.specs.declared.loads.Scan.{Scan}
-use Rattle.mq_engine.proofs.Scanning.{server-sound, tandem-sound}
+use Rattle.mq_engine.proofs.Scanning.{tandem-sound}
 use Rattle.mq_engine.proofs.firsts.stage_of.Goals as goal
-
-pub server_carries-requires-clause-load : goal.server_carries-requires-clause-load
-server_carries-requires-clause-load c = (server-sound _ _ _ _ _ c.in-OfServer.scan c.requires.loaded c.in-OfServer.is).0
 
 pub tandem_carries-requires-clause-load : goal.tandem_carries-requires-clause-load
 tandem_carries-requires-clause-load c = (tandem-sound _ _ _ _ _ c.in-OfTandem.scan c.requires.loaded c.in-OfTandem.is).0

@@ -1,8 +1,8 @@
-use Rattle.mq_engine.proofs.Scanning.{forkjoin-leaves, forkjoin-sound, server-sound, tandem-leaves, tandem-sound}
+use Rattle.mq_engine.proofs.Scanning.{forkjoin-leaves, forkjoin-sound, server-leaves, server-sound, tandem-leaves, tandem-sound}
 use Rattle.mq_engine.proofs.middles.exit_of.Goals as goal
 
 pub server_departures-requires-clause-load : goal.server_departures-requires-clause-load
-server_departures-requires-clause-load g c = (server-sound _ _ _ _ _ c.in-OfServer.scan c.requires.loaded c.in-OfServer.is).0
+server_departures-requires-clause-load g c κs inside = server-sound _ _ _ _ _ c.in-OfServer.demands c.requires.loaded c.in-OfServer.is
 
 pub tandem_joined-requires-clause-load : goal.tandem_joined-requires-clause-load
 tandem_joined-requires-clause-load g c = (tandem-sound _ _ _ _ _ c.in-OfTandem.scan c.requires.loaded c.in-OfTandem.is).0
@@ -12,6 +12,11 @@ forkjoin_departures-requires-clause-load g c κs inside = (forkjoin-sound _ _ _ 
 
 pub forkjoin_departures-requires-clause-all : goal.forkjoin_departures-requires-clause-all
 forkjoin_departures-requires-clause-all g c κs inside = (forkjoin-sound _ _ _ _ _ c.in-OfForkJoin.scan c.requires.loaded c.in-OfForkJoin.is).1
+
+pub returns-in_ok-departs-in-OfServer : goal.returns-in_ok-departs-in-OfServer
+returns-in_ok-departs-in-OfServer g c =
+    let load = c.args.load.now in
+    server-leaves load.plan.now load.rows.now load.number load.arrivals load.scan c.in-OfServer.demands c.in_ok-departs-in-OfServer.departs c.requires.loaded c.in-OfServer.is c.in_ok-departs-in-OfServer.ensures
 
 pub returns-in_ok-departs-in-OfTandem : goal.returns-in_ok-departs-in-OfTandem
 returns-in_ok-departs-in-OfTandem g c =
