@@ -12,13 +12,8 @@ use crate::working::{After, after_of};
 use mq_base::{List, OutOfMemory};
 use mq_core::Stream;
 use mq_crew::Pieces;
-<<<<<<< HEAD
-use mq_maxplus::{Affine, Matrix, Mp};
-use mq_stations::{ServerScan, TandemScan, server_carries, server_sum, tandem_carries, tandem_sum};
-=======
 use mq_maxplus::Matrix;
 use mq_stations::{TandemScan, tandem_carries, tandem_sum};
->>>>>>> 9ba1c2d3607af52f35f2f0a5bcdd36e333d88e60
 use mq_tandem::Latest;
 use std::alloc::Global;
 
