@@ -174,24 +174,7 @@ none-late bound node position (Departs time ∷ fs) h = go (nat_lt bound time) r
     go true e k ih = absurd cc
     go false e k ih = (grind (arith, nat_tests), ih k)
 
--- Kinds with one output.
-pub passes-on : (rows : Rows) (arrivals : Stream) (fates : List Fate) (departs : List ℕ) (streams : List Stream) → IsStream arrivals → departs ≡ arrivals.time → LeaveByPosition arrivals.job departs fates streams → IsLeaving rows Source arrivals fates streams
-passes-on rows arrivals fates departs streams s d in_order =
-    record {
-      leave = in_order.fate ∙ ap (map (λ time. Departs time)) d;
-      outflow = one-stream rows Source arrivals departs streams s.even refl refl (ap (map (λ time. Departs time)) (sym d)) (ap length d ∙ sym s.even) in_order.stream;
-    }
-
-pub serves : (rows : Rows) (demand : Demand) (arrivals : Stream) (fates : List Fate) (demands departs : List ℕ) (streams : List Stream) → IsStream arrivals → demands ≡ map (demand_of_job rows demand) arrivals.job → departs ≡ lindley 0 arrivals.time demands →
-    LeaveByPosition arrivals.job departs fates streams → IsLeaving rows (Server demand) arrivals fates streams
-serves rows demand arrivals fates demands departs streams s m d in_order =
-    let by : departs ≡ lindley 0 arrivals.time (map (demand_of_job rows demand) arrivals.job) = d ∙ ap (lindley 0 arrivals.time) m in
-    let even : length (map (demand_of_job rows demand) arrivals.job) ≡ length arrivals.time = length-map arrivals.job _ ∙ s.even in
-    record {
-      leave = in_order.fate ∙ ap (map (λ time. Departs time)) by;
-      outflow = one-stream rows (Server demand) arrivals departs streams s.even refl refl (ap (map (λ time. Departs time)) (sym by)) (ap length by ∙ (lindley-length 0 arrivals.time _ even ∙ sym s.even)) in_order.stream;
-    }
-
+-- What leaves a split, and a delay.
 pub splits : (rows : Rows) (route : Route) (arrivals : Stream) (fates : List Fate) (values : List ℕ) (streams : List Stream) → IsStream arrivals → values ≡ map (route_value rows route) arrivals.job → fates ≡ map (λ time. Departs time) arrivals.time → AreParts route arrivals values streams → IsLeaving rows (Split route) arrivals fates streams
 splits rows route arrivals fates values streams s v f h = record { leave = f; outflow = split-streams rows route arrivals values streams s v h }
 
@@ -239,14 +222,6 @@ served-rises fated law rows kind arrivals departs load s =
     let sequence : sequence_stream rows kind (came_in arrivals) 0 ≡ left = (fated rows kind (came_in arrivals)).stream 0 ∙ (ap (stream_in_order kind) (sym (served-one law rows kind arrivals departs load s)) ∙ s.order left) in
     subst (λ (stream : Stream). Rises (λ a b. a ≤ b) stream.time) sequence (load.leaves 0).rising
 
--- the times of what leaves are the departures
-pub served-stream : FatesAreInTime → (rows : Rows) (kind : Kind) (arrivals : Stream) (departs : List ℕ) (streams : List Stream) (left : Stream) → IsLoad rows kind arrivals → AreServed rows kind arrivals departs → AreLeft rows kind arrivals streams → slice_get streams 0 ≡ Some left → AreServed rows kind arrivals left.time
-served-stream law rows kind arrivals departs streams left load s out e =
-    let one = s.one in
-    let inside : 0 < outputs_in kind = omega arith in
-    let same : record { job = arrivals.job; time = departs } ≡ left = served-one law rows kind arrivals departs load s ∙ some_inj _ _ (sym (out.each 0 inside) ∙ e) in
-    subst (AreServed rows kind arrivals) (ap (λ (stream : Stream). stream.time) same) s
-
 -- a server is such a station
 pub server-served : (rows : Rows) (demand : Demand) (arrivals : Stream) (demands departs : List ℕ) → demands ≡ map (demand_of_job rows demand) arrivals.job → departs ≡ lindley 0 arrivals.time demands → AreServed rows (Server demand) arrivals departs
 server-served rows demand arrivals demands departs m d =
@@ -257,17 +232,6 @@ server-served rows demand arrivals demands departs m d =
       fates = ap (map (λ time. Departs time)) (sym (d ∙ ap (lindley 0 arrivals.time) m));
     }
 
--- and so are a tandem and a fork-join
-pub by-position-served : (rows : Rows) (kind : Kind) (arrivals : Stream) → ((demand : Demand) × (kind ≡ Server demand)) ⊎ (((stages : List Stage) × (kind ≡ Tandem stages)) ⊎ ((branches : List (List Demand)) × (kind ≡ ForkJoin branches))) → (departs : List ℕ) × AreServed rows kind arrivals departs
-by-position-served rows kind arrivals (inl s) = (
-  lindley 0 arrivals.time (map (demand_of_job rows s.0) arrivals.job),
-  subst (λ (k : Kind). AreServed rows k arrivals (lindley 0 arrivals.time (map (demand_of_job rows s.0) arrivals.job))) (sym s.1) (server-served rows s.0 arrivals _ _ refl refl),
-)
-by-position-served rows kind arrivals (inr (inl s)) = (
-  tandem_times rows s.0 arrivals.job arrivals.time,
-  subst (λ (k : Kind). AreServed rows k arrivals (tandem_times rows s.0 arrivals.job arrivals.time)) (sym s.1) (record { one = refl; order = λ stream. refl; outs = refl; fates = refl }),
-)
-by-position-served rows kind arrivals (inr (inr s)) = (
-  forkjoin_departs arrivals.time (branch_demands rows s.0 arrivals.job),
-  subst (λ (k : Kind). AreServed rows k arrivals (forkjoin_departs arrivals.time (branch_demands rows s.0 arrivals.job))) (sym s.1) (record { one = refl; order = λ stream. refl; outs = refl; fates = refl }),
-)
+-- and so is a source
+pub source-served : (rows : Rows) (arrivals : Stream) (departs : List ℕ) → departs ≡ arrivals.time → AreServed rows Source arrivals departs
+source-served rows arrivals departs d = record { one = refl; order = λ stream. refl; outs = refl; fates = ap (map (λ time. Departs time)) (sym d) }

@@ -48,6 +48,8 @@ use Rattle.mq_engine.specs.declared.stations.tandem.TandemScan.{TandemScan}
 use Rattle.mq_engine.specs.declared.working.NodeResult.{NodeResult}
 use Rattle.mq_engine.specs.declared.working.After.{After}
 use Rattle.mq_engine.specs.declared.working.After.TheVariants.{Seen, Missed}
+use Rattle.mq_engine.specs.declared.working.Worked.{Worked}
+use Rattle.mq_engine.specs.declared.working.Worked.TheVariants.{Departed, Finished}
 use Rattle.mq_engine.specs.declared.firsts.Part.{Part}
 use Rattle.mq_engine.specs.declared.firsts.Part.TheVariants.{Product, Sum, Whole}
 use Rattle.mq_engine.specs.declared.firsts.Stage.{Stage}
@@ -121,6 +123,26 @@ IsAfter net rows v kind arrivals (Missed fault) =
 abbrev pub IsAfterAt : Plan → Rows → ℕ → Stream → After → Type 0
 IsAfterAt plan rows v arrivals after = (node : Node) → slice_get plan.net.nodes v ≡ Some node → IsAfter plan.net rows v node.kind arrivals after
 
+-- the jobs of a station of this kind depart at these times, in their order, by its only output
+pub record AreServed (rows : Rows) (kind : Kind) (arrivals : Stream) (departs : List ℕ) : Type 0 where
+  pub one : outputs_in kind ≡ 1
+  pub order : (stream : Stream) → stream_in_order kind stream ≡ stream
+  pub outs : sequence_outs rows kind (came_in arrivals) ≡ map (λ _. 0) arrivals.job
+  pub fates : sequence_fates rows kind (came_in arrivals) ≡ map (λ time. Departs time) departs
+
+-- those of a station of the plan do
+abbrev pub IsServed : Plan → Rows → ℕ → Stream → List ℕ → Type 0
+IsServed plan rows v arrivals departs = (node : Node) → slice_get plan.net.nodes v ≡ Some node → AreServed rows node.kind arrivals departs
+
+-- what one piece tells of a node of this kind: what becomes of its arrivals, or when its jobs depart, in their order
+abbrev pub IsWorked : Network → Rows → ℕ → Kind → Stream → Worked → Type 0
+IsWorked net rows v kind arrivals (Finished after) = IsAfter net rows v kind arrivals after
+IsWorked net rows v kind arrivals (Departed departs) = AreServed rows kind arrivals departs
+
+-- the same at a node of the plan
+abbrev pub IsWorkedAt : Plan → Rows → ℕ → Stream → Worked → Type 0
+IsWorkedAt plan rows v arrivals worked = (node : Node) → slice_get plan.net.nodes v ≡ Some node → IsWorked plan.net rows v node.kind arrivals worked
+
 -- what the jobs of a block of a server do together
 abbrev pub IsServerSum : Stream → ServerScan → ℕ → Affine → Type 0
 IsServerSum arrivals scan b sum = IsSumOf affine_then (job arrivals.time scan.demands) scan.blocks b sum
@@ -154,25 +176,25 @@ AreTandemTimes arrivals scan b times =
 
 -- a first piece that is what the jobs of a block of a server do together
 abbrev pub IsServerPart : Stream → ServerScan → ℕ → Part → Type 0
-IsServerPart arrivals scan b (Whole after) = ⊥
+IsServerPart arrivals scan b (Whole worked) = ⊥
 IsServerPart arrivals scan b (Sum sum) = IsServerSum arrivals scan b sum
 IsServerPart arrivals scan b (Product sum) = ⊥
 
 -- the same of a tandem
 abbrev pub IsTandemPart : Stream → TandemScan → ℕ → Part → Type 0
-IsTandemPart arrivals scan b (Whole after) = ⊥
+IsTandemPart arrivals scan b (Whole worked) = ⊥
 IsTandemPart arrivals scan b (Sum sum) = ⊥
 IsTandemPart arrivals scan b (Product sum) = IsTandemSum arrivals scan b sum.value
 
--- a first piece that is all of its station
+-- a first piece that is a whole station
 abbrev pub IsWhole : Part → Type 0
-IsWhole (Whole after) = Unit {0}
+IsWhole (Whole worked) = Unit {0}
 IsWhole (Sum sum) = ⊥
 IsWhole (Product sum) = ⊥
 
--- a first piece that is a whole station
+-- the same, with what it tells
 abbrev pub IsWholePart : Plan → Rows → ℕ → Stream → Part → Type 0
-IsWholePart plan rows v arrivals (Whole after) = IsAfterAt plan rows v arrivals after
+IsWholePart plan rows v arrivals (Whole worked) = IsWorkedAt plan rows v arrivals worked
 IsWholePart plan rows v arrivals (Sum sum) = ⊥
 IsWholePart plan rows v arrivals (Product sum) = ⊥
 
@@ -183,56 +205,56 @@ IsPart plan rows v arrivals (OfServer scan) b part = IsServerPart arrivals scan 
 IsPart plan rows v arrivals (OfTandem scan) b part = IsTandemPart arrivals scan b part
 IsPart plan rows v arrivals (OfForkJoin scan) b part = ⊥
 
--- after its first pieces all is known of a station
+-- the station was one first piece
 abbrev pub IsAll : Stage → Type 0
-IsAll (Ended after) = Unit {0}
+IsAll (Ended worked) = Unit {0}
 IsAll (Last carries) = ⊥
 IsAll (Latest carries) = ⊥
 IsAll Unbegun = ⊥
 
 -- the last departure before each block is known
 abbrev pub IsLast : Stage → Type 0
-IsLast (Ended after) = ⊥
+IsLast (Ended worked) = ⊥
 IsLast (Last carries) = Unit {0}
 IsLast (Latest carries) = ⊥
 IsLast Unbegun = ⊥
 
 -- the latest departures before each block are known
 abbrev pub IsLatest : Stage → Type 0
-IsLatest (Ended after) = ⊥
+IsLatest (Ended worked) = ⊥
 IsLatest (Last carries) = ⊥
 IsLatest (Latest carries) = Unit {0}
 IsLatest Unbegun = ⊥
 
--- what becomes of the arrivals is known
+-- what one piece told of the station is known
 abbrev pub IsEnded : Plan → Rows → ℕ → Stream → Stage → Type 0
-IsEnded plan rows v arrivals (Ended after) = IsAfterAt plan rows v arrivals after
+IsEnded plan rows v arrivals (Ended worked) = IsWorkedAt plan rows v arrivals worked
 IsEnded plan rows v arrivals (Last carries) = ⊥
 IsEnded plan rows v arrivals (Latest carries) = ⊥
 IsEnded plan rows v arrivals Unbegun = ⊥
 
 -- the last departures before the blocks of a server are known
 abbrev pub IsServerStage : Stream → ServerScan → Stage → Type 0
-IsServerStage arrivals scan (Ended after) = ⊥
+IsServerStage arrivals scan (Ended worked) = ⊥
 IsServerStage arrivals scan (Last carries) = AreServerCarries arrivals scan carries
 IsServerStage arrivals scan (Latest carries) = ⊥
 IsServerStage arrivals scan Unbegun = ⊥
 
 -- the latest departures before the blocks of a tandem are known
 abbrev pub IsTandemStage : Stream → TandemScan → Stage → Type 0
-IsTandemStage arrivals scan (Ended after) = ⊥
+IsTandemStage arrivals scan (Ended worked) = ⊥
 IsTandemStage arrivals scan (Last carries) = ⊥
 IsTandemStage arrivals scan (Latest carries) = AreTandemCarries arrivals scan carries
 IsTandemStage arrivals scan Unbegun = ⊥
 
 -- nothing is known yet, as of a fork-join, whose branches come later
 abbrev pub IsUnbegun : Stage → Type 0
-IsUnbegun (Ended after) = ⊥
+IsUnbegun (Ended worked) = ⊥
 IsUnbegun (Last carries) = ⊥
 IsUnbegun (Latest carries) = ⊥
 IsUnbegun Unbegun = Unit {0}
 
--- what is known of a station after its first pieces: all, the carry before each block, or nothing of a fork-join
+-- what is known of a station after its first pieces: what one told, the carry before each block, or nothing of a fork-join
 abbrev pub IsStage : Plan → Rows → ℕ → Stream → Scan → Stage → Type 0
 IsStage plan rows v arrivals Unscanned stage = IsEnded plan rows v arrivals stage
 IsStage plan rows v arrivals (OfServer scan) stage = IsServerStage arrivals scan stage
@@ -245,17 +267,6 @@ IsApplied arrivals Unscanned b times = ⊥
 IsApplied arrivals (OfServer scan) b times = AreServerTimes arrivals scan b times
 IsApplied arrivals (OfTandem scan) b times = AreTandemTimes arrivals scan b times
 IsApplied arrivals (OfForkJoin scan) b times = ⊥
-
--- the jobs of a station of this kind depart at these times, in their order, by its only output
-pub record AreServed (rows : Rows) (kind : Kind) (arrivals : Stream) (departs : List ℕ) : Type 0 where
-  pub one : outputs_in kind ≡ 1
-  pub order : (stream : Stream) → stream_in_order kind stream ≡ stream
-  pub outs : sequence_outs rows kind (came_in arrivals) ≡ map (λ _. 0) arrivals.job
-  pub fates : sequence_fates rows kind (came_in arrivals) ≡ map (λ time. Departs time) departs
-
--- those of a station of the plan do
-abbrev pub IsServed : Plan → Rows → ℕ → Stream → List ℕ → Type 0
-IsServed plan rows v arrivals departs = (node : Node) → slice_get plan.net.nodes v ≡ Some node → AreServed rows node.kind arrivals departs
 
 -- what is known of a station when all its jobs have left
 abbrev pub IsExit : Plan → Rows → ℕ → Stream → Exit → Type 0

@@ -1,18 +1,20 @@
 // The stations whose departures are known, and their last pieces: fates, who found how many, and what
 // leaves.
-ghost use Rattle.std.specs.Prelude.{◌≡◌, ◌<◌, IfOk};
+ghost use Rattle.std.specs.Prelude.{◌≡◌, ◌<◌, map, IfOk};
+ghost use Rattle.mq_core.specs.OnceOut.{founds_of};
+ghost use Rattle.mq_core.specs.declared.model.Fate.TheVariants.{Departs};
 ghost use Rattle.mq_crew.specs.Crew.{AreAll};
 ghost use Rattle.mq_engine.specs.Loads.{IsAfterAt, IsClosed, IsLoaded, IsReadyExit, IsServed, IsShut, closings_of};
 ghost use Rattle.mq_engine.specs.Progress.{IsWorkedOut};
 
 use crate::PastFault;
-use crate::late::first_late;
+use crate::late::first_late_in_turn;
 use crate::laws::core_laws;
 use crate::loads::Load;
 use crate::outflow::{fates_of, only};
-use crate::working::{After, NodeResult, ending_of, found_by_position};
+use crate::working::{After, NodeResult, ending_of, found_by_position, nobody};
 use mq_base::{List, OutOfMemory};
-use mq_core::{Fate, Stream, fates_are_in_time, sequences_go_by_fates};
+use mq_core::{Fate, Kind, Stream, fates_are_in_time, sequences_go_by_fates};
 use mq_crew::Pieces;
 use std::alloc::Global;
 use std::thread::Threads;
@@ -70,7 +72,7 @@ impl<'a> Pieces for Emptied<'a> {
     }
 }
 
-// A last piece of a station that is scanned, of the departures of all its jobs.
+// A last piece of a station whose jobs leave in their order, of the departures of all its jobs.
 fn closing_of(
     alloc: Global,
     load: &Load,
@@ -82,13 +84,11 @@ fn closing_of(
     requires inside { b < 3 }
     ensures { IfOk result (λ closed. IsShut load.now.plan.now load.now.rows.now load.now.number load.now.arrivals departs.now b closed) }
 {
-    sequences_go_by_fates();
-    fates_are_in_time();
     if b == 0 {
         return fates_in_time(alloc, load, departs);
     }
     if b == 1 {
-        return Ok(Closed::Found(found_by_position(alloc, &load.arrivals, departs)?));
+        return Ok(Closed::Found(found_in_turn(alloc, load, departs)?));
     }
     let jobs = Vec::from_slice(alloc, load.arrivals.job.as_slice())?;
     Ok(Closed::Jobs(List::from_vec(jobs)))
@@ -100,12 +100,30 @@ fn fates_in_time(alloc: Global, load: &Load, departs: &List<u64>) -> Result<Clos
     requires served { IsServed load.now.plan.now load.now.rows.now load.now.number load.now.arrivals departs.now }
     ensures { IfOk result (λ closed. IsShut load.now.plan.now load.now.rows.now load.now.number load.now.arrivals departs.now 0 closed) }
 {
+    sequences_go_by_fates();
     fates_are_in_time();
-    let fates = fates_of(alloc, departs)?;
-    if let Some(past) = first_late(load.plan.net.bound, load.number, &fates) {
+    if let Some(past) = first_late_in_turn(load.plan.net.bound, load.number, departs) {
         return Ok(Closed::Over(past));
     }
-    Ok(Closed::Fates(fates))
+    Ok(Closed::Fates(fates_of(alloc, departs)?))
+}
+
+// How many jobs each visit found, of the departures. A source holds none.
+fn found_in_turn(
+    alloc: Global,
+    load: &Load,
+    departs: &List<u64>,
+) -> Result<List<u32>, OutOfMemory>
+    requires loaded { IsLoaded load.now.plan.now load.now.rows.now load.now.number load.now.arrivals load.now.scan }
+    requires served { IsServed load.now.plan.now load.now.rows.now load.now.number load.now.arrivals departs.now }
+    ensures { IfOk result (λ found. found ≡ founds_of load.now.arrivals.time (map (λ time. Departs time) departs.now)) }
+{
+    sequences_go_by_fates();
+    fates_are_in_time();
+    match &load.plan.net.nodes.get(load.number as usize).kind {
+        Kind::Source => nobody(alloc, &load.arrivals.time),
+        _ => found_by_position(alloc, &load.arrivals, departs),
+    }
 }
 
 // What a station gives, of its last pieces where it has some.
@@ -145,7 +163,8 @@ pub fn result_of<R: Threads + Sync>(
     })
 }
 
-// What becomes of the arrivals at a station that is scanned, of its last pieces and the departures, which are moved.
+// What becomes of the arrivals at a station whose jobs leave in their order, of its last pieces and the
+// departures, which are moved.
 fn opened(
     alloc: Global,
     load: &Load,

@@ -1,8 +1,10 @@
 // The first visit to a node that departs after the bound.
-ghost use Rattle.std.specs.Prelude.{◌≡◌, ◌≤◌, length};
+ghost use Rattle.std.specs.Prelude.{◌≡◌, ◌≤◌, length, map};
 ghost use Rattle.std.specs.Option.{option_map};
+ghost use Rattle.mq_core.specs.Laws.{Rises};
 ghost use Rattle.mq_core.specs.Sequences.{sequence_late_from};
 ghost use Rattle.mq_core.specs.Results.{first_of};
+ghost use Rattle.mq_core.specs.declared.model.Fate.TheVariants.{Departs};
 ghost use Rattle.mq_engine.specs.Answer.{late_told};
 
 use crate::PastFault;
@@ -26,4 +28,31 @@ pub fn first_late(bound: u64, node: u32, fates: &List<Fate>) -> Option<PastFault
         }
     }
     None
+}
+
+// The same of departures that never fall, found by halving: none is late exactly where the last is not.
+pub fn first_late_in_turn(bound: u64, node: u32, departs: &List<u64>) -> Option<PastFault>
+    requires few { length departs.now ≤ 1048576 }
+    requires rising { Rises (λ a b. a ≤ b) departs.now }
+    ensures { first_of (sequence_late_from bound node 0 (map (λ time. Departs time) departs.now)) ≡ option_map late_told result }
+{
+    let count = departs.len();
+    let (mut first, mut last) = (0, count);
+    while first < last {
+        let middle = first + (last - first) / 2;
+        let time = *departs.get(middle);
+        if time <= bound {
+            first = middle + 1;
+        } else {
+            last = middle;
+        }
+    }
+    if first == count {
+        return None;
+    }
+    Some(PastFault {
+        node,
+        position: first as u32,
+        time: *departs.get(first),
+    })
 }

@@ -1,7 +1,10 @@
 // The further pieces of the stations that are scanned: their blocks, applied.
-ghost use Rattle.std.specs.Prelude.{◌≡◌, ◌≤◌, IfOk};
+ghost use Rattle.std.specs.Prelude.{◌≡◌, ◌≤◌, ℕ, IfOk};
+ghost use Rattle.mq_core.specs.declared.model.Plan.{Plan as ThePlan};
+ghost use Rattle.mq_core.specs.declared.model.Rows.{Rows as TheRows};
+ghost use Rattle.mq_core.specs.declared.model.Stream.{Stream as TheStream};
 ghost use Rattle.mq_crew.specs.Crew.{AreAll};
-ghost use Rattle.mq_engine.specs.Loads.{IsAll, IsApplied, IsExit, IsLast, IsLatest, IsLoaded, IsReadyMiddle, IsStage, applied_of};
+ghost use Rattle.mq_engine.specs.Loads.{IsAll, IsApplied, IsExit, IsLast, IsLatest, IsLoaded, IsReadyMiddle, IsStage, IsWorkedAt, applied_of};
 ghost use Rattle.mq_engine.specs.declared.firsts.Stage.TheVariants.{Ended, Last};
 
 use crate::branches::forkjoin_departures;
@@ -9,7 +12,7 @@ use crate::exits::Exit;
 use crate::firsts::Stage;
 use crate::loads::{Load, Scan};
 use crate::stations::{server_departures, server_times, tandem_joined, tandem_times};
-use crate::working::After;
+use crate::working::Worked;
 use mq_base::{List, OutOfMemory};
 use mq_crew::{Gate, Pieces};
 use mq_maxplus::Mp;
@@ -94,7 +97,7 @@ pub fn exit_of<R: Threads + Sync, G: Gate>(
     ensures { IfOk result (λ exit. IsExit load.now.plan.now load.now.rows.now load.now.number load.now.arrivals exit) }
 {
     match &load.scan {
-        Scan::Unscanned => Ok(Exit::Known(the_end(stage))),
+        Scan::Unscanned => Ok(left_by(the_end(stage))),
         Scan::OfServer(scan) => {
             let departs = server_departures(alloc, &load.arrivals, scan, group)?;
             Ok(Exit::Served(departs))
@@ -110,13 +113,23 @@ pub fn exit_of<R: Threads + Sync, G: Gate>(
     }
 }
 
-// What became of the arrivals at a station that is not scanned.
-fn the_end(stage: Stage) -> After
+// What is known of a station that is not scanned.
+fn left_by(worked: Worked) -> Exit
+    ensures { (plan : ThePlan) (rows : TheRows) (v : ℕ) (arrivals : TheStream) → IsWorkedAt plan rows v arrivals worked → IsExit plan rows v arrivals result }
+{
+    match worked {
+        Worked::Finished(after) => Exit::Known(after),
+        Worked::Departed(departs) => Exit::Served(departs),
+    }
+}
+
+// What one piece told of a station that is not scanned.
+fn the_end(stage: Stage) -> Worked
     requires { IsAll stage }
     ensures { stage ≡ Ended result }
 {
     match stage {
-        Stage::Ended(after) => after,
+        Stage::Ended(worked) => worked,
         Stage::Last(_carries) => unreachable!(),
         Stage::Latest(_carries) => unreachable!(),
         Stage::Unbegun => unreachable!(),

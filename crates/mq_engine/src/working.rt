@@ -7,14 +7,13 @@ ghost use Rattle.mq_core.specs.Streams.{by_first, pairs_of};
 ghost use Rattle.mq_core.specs.Laws.{Rises};
 ghost use Rattle.mq_core.specs.Sound.{outputs_in};
 ghost use Rattle.mq_core.specs.declared.model.Fate.TheVariants.{Departs};
-ghost use Rattle.mq_engine.specs.Loads.{IsAfter};
+ghost use Rattle.mq_engine.specs.Loads.{IsAfter, IsWorked};
 ghost use Rattle.mq_engine.specs.Progress.{IsEnding};
 ghost use Rattle.mq_engine.specs.Working.{IsLeaving, IsLoad};
 
 use crate::PastFault;
 use crate::late::first_late;
 use crate::outflow::{Outflow, only};
-use crate::stations::leaving;
 use mq_base::{List, OutOfMemory};
 use mq_core::{
     Fate, Kind, Network, Rows, Stream, Visits, fates_are_in_time, sequences_go_by_fates,
@@ -52,26 +51,17 @@ pub enum After {
     Missed(PastFault),
 }
 
-// What becomes of the arrivals at a node of this kind.
-pub fn after_of(
-    alloc: Global,
-    net: &Network,
-    rows: &Rows,
-    number: u32,
-    kind: &Kind,
-    arrivals: &Stream,
-    block: u32,
-) -> Result<After, OutOfMemory>
-    requires load { IsLoad rows.now kind.now arrivals.now }
-    requires block { 1 ≤ block }
-    ensures { IfOk result (λ after. IsAfter net.now rows.now number kind.now arrivals.now after) }
-{
-    let leaving = leaving(alloc, rows, kind, arrivals, block)?;
-    seen(alloc, net, rows, number, kind, arrivals, leaving)
+/// What one piece tells of a station that is not scanned.
+#[derive(Drop)]
+pub enum Worked {
+    /// What becomes of its arrivals.
+    Finished(After),
+    /// When its jobs depart, in their order.
+    Departed(List<u64>),
 }
 
-// The same, where it is known what leaves.
-fn seen(
+// What becomes of the arrivals at a node of this kind, of what leaves it.
+pub fn seen(
     alloc: Global,
     net: &Network,
     rows: &Rows,
@@ -79,17 +69,18 @@ fn seen(
     kind: &Kind,
     arrivals: &Stream,
     leaving: Outflow,
-) -> Result<After, OutOfMemory>
+) -> Result<Worked, OutOfMemory>
     requires load { IsLoad rows.now kind.now arrivals.now }
     requires leaving { IsLeaving rows.now kind.now arrivals.now leaving.fates leaving.streams }
-    ensures { IfOk result (λ after. IsAfter net.now rows.now number kind.now arrivals.now after) }
+    ensures { IfOk result (λ worked. IsWorked net.now rows.now number kind.now arrivals.now worked) }
 {
     fates_are_in_time();
     if let Some(past) = first_late(net.bound, number, &leaving.fates) {
-        return Ok(After::Missed(past));
+        return Ok(Worked::Finished(After::Missed(past)));
     }
     let found = found_at(alloc, rows, kind, arrivals, &leaving)?;
-    Ok(After::Seen(leaving.fates, found, leaving.streams))
+    let after = After::Seen(leaving.fates, found, leaving.streams);
+    Ok(Worked::Finished(after))
 }
 
 // How a node ends to which these came.
@@ -165,8 +156,8 @@ fn by_departure<R: Threads + Sync>(
     delay_leaving(rt, alloc, &left.job, &left.time)
 }
 
-// How many jobs each visit to a node of this kind found. A source and a split hold none.
-pub fn found_at(
+// How many jobs each visit to a node of this kind found. A split holds none.
+fn found_at(
     alloc: Global,
     rows: &Rows,
     kind: &Kind,
@@ -180,11 +171,8 @@ pub fn found_at(
     sequences_go_by_fates();
     fates_are_in_time();
     match kind {
-        Kind::Source | Kind::Split(_) => nobody(alloc, &arrivals.time),
-        Kind::Server(_) | Kind::Tandem(_) | Kind::ForkJoin(_) => {
-            found_by_position(alloc, arrivals, &leaving.streams.get(0).time)
-        }
-        Kind::Delay(_) | Kind::Loss { .. } => found(alloc, &arrivals.time, &leaving.fates),
+        Kind::Split(_) => nobody(alloc, &arrivals.time),
+        _ => found(alloc, &arrivals.time, &leaving.fates),
     }
 }
 
@@ -206,7 +194,7 @@ pub fn found_by_position(
 }
 
 // 0 for each of these visits.
-fn nobody(alloc: Global, arrive: &List<u64>) -> Result<List<u32>, OutOfMemory>
+pub fn nobody(alloc: Global, arrive: &List<u64>) -> Result<List<u32>, OutOfMemory>
     ensures { IfOk result (λ found. found ≡ map (λ _. 0) arrive.now) }
 {
     let mut found = Vec::with_capacity(alloc, arrive.len())?;

@@ -3,14 +3,14 @@ ghost use Rattle.std.specs.Prelude.{◌≡◌, ◌<◌, ◌≤◌, ℕ, List as 
 ghost use Rattle.mq_core.specs.Sequences.{IsSoundLoad};
 ghost use Rattle.mq_core.specs.Recurrences.{lindley};
 ghost use Rattle.mq_core.specs.declared.model.Kind.TheVariants.{Server};
-ghost use Rattle.mq_engine.specs.Loads.{AreServerCarries, AreServerTimes, IsServerPart, IsServerScan, IsServerSum};
-ghost use Rattle.mq_engine.specs.Working.{IsLeaving, IsLoad};
+ghost use Rattle.mq_engine.specs.Loads.{AreServed, AreServerCarries, AreServerTimes, IsServerPart, IsServerScan, IsServerSum};
+ghost use Rattle.mq_engine.specs.Working.{IsLoad};
 ghost use Rattle.mq_engine.specs.declared.firsts.Part.{Part as ThePart};
 ghost use Rattle.mq_maxplus.specs.declared.affine.Affine.{Affine as TheAffine};
 
 use crate::blocks::{applied, before_of, joined, sum_of};
 use crate::firsts::Part;
-use crate::outflow::{Outflow, by_position, demands_of};
+use crate::outflow::demands_of;
 use mq_base::{List, OutOfMemory};
 use mq_core::{Demand, Rows, Stream};
 use mq_maxplus::{Affine, Mp};
@@ -27,20 +27,18 @@ pub struct ServerScan {
     pub blocks: Blocks,
 }
 
-// What leaves a server.
-pub fn server_outflow(
+// When all jobs depart from a server that is worked out whole.
+pub fn server_whole(
     alloc: Global,
     rows: &Rows,
     demand: &Demand,
     arrivals: &Stream,
-) -> Result<Outflow, OutOfMemory>
+) -> Result<List<u64>, OutOfMemory>
     requires { IsLoad rows.now (Server demand.now) arrivals.now }
-    ensures { IfOk result (λ leaving. IsLeaving rows.now (Server demand.now) arrivals.now leaving.fates leaving.streams) }
+    ensures { IfOk result (λ departs. AreServed rows.now (Server demand.now) arrivals.now departs) }
 {
     let demands = demands_of(alloc, rows, demand, &arrivals.job)?;
-    let departs = departures(alloc, arrivals, &demands)?;
-    drop(demands);
-    by_position(alloc, arrivals, departs)
+    departures(alloc, arrivals, &demands)
 }
 
 // How a server is scanned.
