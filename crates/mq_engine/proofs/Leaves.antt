@@ -33,8 +33,8 @@ use Rattle.mq_core.specs.declared.model.Rows.{Rows}
 use Rattle.mq_core.specs.declared.model.Stage.{Stage}
 use Rattle.mq_core.specs.declared.model.Stream.{Stream}
 use Rattle.mq_split.specs.Outs.{AreParts, HasOutputs, outs_from}
-use Rattle.mq_engine.specs.Loads.{AreServed}
-use Rattle.mq_engine.specs.Working.{AreAsked, AreLeft, IsLeaving, IsLoad, LeaveByPosition, left_by}
+use Rattle.mq_engine.specs.Loads.{AreDepartures, AreServed}
+use Rattle.mq_engine.specs.Working.{AreAsked, AreLeft, IsLeaving, IsLoad, left_by}
 use Rattle.mq_engine.proofs.Lists.{Each-get_or}
 
 -- a departure of each time is at that time
@@ -174,64 +174,49 @@ none-late bound node position (Departs time ∷ fs) h = go (nat_lt bound time) r
     go true e k ih = absurd cc
     go false e k ih = (grind (arith, nat_tests), ih k)
 
--- What leaves a split, and a delay.
+-- What leaves a split.
 pub splits : (rows : Rows) (route : Route) (arrivals : Stream) (fates : List Fate) (values : List ℕ) (streams : List Stream) → IsStream arrivals → values ≡ map (route_value rows route) arrivals.job → fates ≡ map (λ time. Departs time) arrivals.time → AreParts route arrivals values streams → IsLeaving rows (Split route) arrivals fates streams
 splits rows route arrivals fates values streams s v f h = record { leave = f; outflow = split-streams rows route arrivals values streams s v h }
 
-delayed-length : (arrives demands : List ℕ) → length demands ≡ length arrives → length (delayed arrives demands) ≡ length arrives
-delayed-length [] demands e = refl
-delayed-length (a ∷ rest) [] e = absurd (omega arith)
-delayed-length (a ∷ rest) (d ∷ ds) e = ap suc (delayed-length rest ds (omega arith))
-
-pub delays : (rows : Rows) (demand : Demand) (arrivals : Stream) (fates : List Fate) (demands departs : List ℕ) (streams : List Stream) → IsStream arrivals → demands ≡ map (demand_of_job rows demand) arrivals.job → departs ≡ delayed arrivals.time demands →
-    LeaveByPosition arrivals.job departs fates streams → IsLeaving rows (Delay demand) arrivals fates streams
-delays rows demand arrivals fates demands departs streams s m d in_order =
-    let by : departs ≡ delayed arrivals.time (map (demand_of_job rows demand) arrivals.job) = d ∙ ap (delayed arrivals.time) m in
-    let even : length (map (demand_of_job rows demand) arrivals.job) ≡ length arrivals.time = length-map arrivals.job _ ∙ s.even in
-    record {
-      leave = in_order.fate ∙ ap (map (λ time. Departs time)) by;
-      outflow = one-stream rows (Delay demand) arrivals departs streams s.even refl refl (ap (map (λ time. Departs time)) (sym by)) (ap length by ∙ (delayed-length arrivals.time _ even ∙ sym s.even)) in_order.stream;
-    }
-
--- Stations whose jobs leave in their order.
+-- Stations whose jobs all depart.
 -- there is one time an arrival
 times-many : FatesAreInTime → (rows : Rows) (kind : Kind) (arrivals : Stream) (times : List ℕ) → length arrivals.job ≡ length arrivals.time → sequence_fates rows kind (came_in arrivals) ≡ map (λ time. Departs time) times → length times ≡ length arrivals.job
 times-many law rows kind arrivals times e f = sym (length-map times (λ time. Departs time)) ∙ (ap length (sym f) ∙ ((law rows kind (came_in arrivals) e).even ∙ sym e))
 
-pub served-left : FatesAreInTime → (rows : Rows) (kind : Kind) (arrivals : Stream) (departs : List ℕ) (streams : List Stream) → length arrivals.job ≡ length arrivals.time → AreServed rows kind arrivals departs → streams ≡ record { job = arrivals.job; time = departs } ∷ [] → AreLeft rows kind arrivals streams
-served-left law rows kind arrivals departs streams even s e = one-stream rows kind arrivals departs streams even s.one s.outs s.fates (times-many law rows kind arrivals departs even s.fates) e
+pub departs-left : FatesAreInTime → (rows : Rows) (kind : Kind) (arrivals : Stream) (departs : List ℕ) (streams : List Stream) → length arrivals.job ≡ length arrivals.time → AreDepartures rows kind arrivals departs → streams ≡ record { job = arrivals.job; time = departs } ∷ [] → AreLeft rows kind arrivals streams
+departs-left law rows kind arrivals departs streams even s e = one-stream rows kind arrivals departs streams even s.one s.outs s.fates (times-many law rows kind arrivals departs even s.fates) e
 
-pub served-leaves : FatesAreInTime → (rows : Rows) (kind : Kind) (arrivals : Stream) (departs : List ℕ) (fates : List Fate) (streams : List Stream) → length arrivals.job ≡ length arrivals.time → AreServed rows kind arrivals departs → LeaveByPosition arrivals.job departs fates streams → IsLeaving rows kind arrivals fates streams
-served-leaves law rows kind arrivals departs fates streams even s in_order = record { leave = in_order.fate ∙ sym s.fates; outflow = served-left law rows kind arrivals departs streams even s in_order.stream }
-
--- their departures are as many as their arrivals, and never fall
-pub served-even : FatesAreInTime → (rows : Rows) (kind : Kind) (arrivals : Stream) (departs : List ℕ) → IsLoad rows kind arrivals → AreServed rows kind arrivals departs → length departs ≡ length arrivals.time
-served-even law rows kind arrivals departs load s = times-many law rows kind arrivals departs load.ordered.ordered.even s.fates ∙ load.ordered.ordered.even
+-- their departures are as many as their arrivals
+pub departs-even : FatesAreInTime → (rows : Rows) (kind : Kind) (arrivals : Stream) (departs : List ℕ) → IsLoad rows kind arrivals → AreDepartures rows kind arrivals departs → length departs ≡ length arrivals.time
+departs-even law rows kind arrivals departs load s = times-many law rows kind arrivals departs load.ordered.ordered.even s.fates ∙ load.ordered.ordered.even
 
 -- the one stream that leaves
-served-one : FatesAreInTime → (rows : Rows) (kind : Kind) (arrivals : Stream) (departs : List ℕ) → IsLoad rows kind arrivals → AreServed rows kind arrivals departs → record { job = arrivals.job; time = departs } ≡ left_by rows kind arrivals 0
-served-one law rows kind arrivals departs load s =
+pub departs-one : FatesAreInTime → (rows : Rows) (kind : Kind) (arrivals : Stream) (departs : List ℕ) → length arrivals.job ≡ length arrivals.time → AreDepartures rows kind arrivals departs → record { job = arrivals.job; time = departs } ≡ left_by rows kind arrivals 0
+departs-one law rows kind arrivals departs even s =
     let left : Stream = record { job = arrivals.job; time = departs } in
     let one = s.one in
     let inside : 0 < outputs_in kind = omega arith in
-    some_inj _ _ ((served-left law rows kind arrivals departs (left ∷ []) load.ordered.ordered.even s refl).each 0 inside)
+    some_inj _ _ ((departs-left law rows kind arrivals departs (left ∷ []) even s refl).each 0 inside)
+
+-- where they keep their order, their departures never fall
+pub served-even : FatesAreInTime → (rows : Rows) (kind : Kind) (arrivals : Stream) (departs : List ℕ) → IsLoad rows kind arrivals → AreServed rows kind arrivals departs → length departs ≡ length arrivals.time
+served-even law rows kind arrivals departs load s = departs-even law rows kind arrivals departs load s.0
 
 pub served-rises : SequencesGoByFates → FatesAreInTime → (rows : Rows) (kind : Kind) (arrivals : Stream) (departs : List ℕ) → IsLoad rows kind arrivals → AreServed rows kind arrivals departs → Rises (λ a b. a ≤ b) departs
 served-rises fated law rows kind arrivals departs load s =
     let left : Stream = record { job = arrivals.job; time = departs } in
-    let sequence : sequence_stream rows kind (came_in arrivals) 0 ≡ left = (fated rows kind (came_in arrivals)).stream 0 ∙ (ap (stream_in_order kind) (sym (served-one law rows kind arrivals departs load s)) ∙ s.order left) in
+    let one = departs-one law rows kind arrivals departs load.ordered.ordered.even s.0 in
+    let sequence : sequence_stream rows kind (came_in arrivals) 0 ≡ left = (fated rows kind (came_in arrivals)).stream 0 ∙ (ap (stream_in_order kind) (sym one) ∙ s.1 left) in
     subst (λ (stream : Stream). Rises (λ a b. a ≤ b) stream.time) sequence (load.leaves 0).rising
 
 -- a server is such a station
 pub server-served : (rows : Rows) (demand : Demand) (arrivals : Stream) (demands departs : List ℕ) → demands ≡ map (demand_of_job rows demand) arrivals.job → departs ≡ lindley 0 arrivals.time demands → AreServed rows (Server demand) arrivals departs
-server-served rows demand arrivals demands departs m d =
-    record {
-      one = refl;
-      order = λ stream. refl;
-      outs = refl;
-      fates = ap (map (λ time. Departs time)) (sym (d ∙ ap (lindley 0 arrivals.time) m));
-    }
+server-served rows demand arrivals demands departs m d = (record { one = refl; outs = refl; fates = ap (map (λ time. Departs time)) (sym (d ∙ ap (lindley 0 arrivals.time) m)) }, λ stream. refl)
 
 -- and so is a source
 pub source-served : (rows : Rows) (arrivals : Stream) (departs : List ℕ) → departs ≡ arrivals.time → AreServed rows Source arrivals departs
-source-served rows arrivals departs d = record { one = refl; order = λ stream. refl; outs = refl; fates = ap (map (λ time. Departs time)) (sym d) }
+source-served rows arrivals departs d = (record { one = refl; outs = refl; fates = ap (map (λ time. Departs time)) (sym d) }, λ stream. refl)
+
+-- from a delay all depart too
+pub delay-departs : (rows : Rows) (demand : Demand) (arrivals : Stream) (demands departs : List ℕ) → demands ≡ map (demand_of_job rows demand) arrivals.job → departs ≡ delayed arrivals.time demands → AreDepartures rows (Delay demand) arrivals departs
+delay-departs rows demand arrivals demands departs m d = record { one = refl; outs = refl; fates = ap (map (λ time. Departs time)) (sym (d ∙ ap (delayed arrivals.time) m)) }

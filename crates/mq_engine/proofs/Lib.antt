@@ -15,3 +15,4 @@ pub mod Closings
 pub mod Serving
 pub mod Branching
 pub mod FirstLate
+pub mod DelayOrder

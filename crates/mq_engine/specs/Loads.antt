@@ -1,5 +1,5 @@
 -- What comes to the nodes that are ready, and what the pieces of a wave are.
-use Rattle.std.specs.Prelude.{◌≡◌, ◌≤◌, ℕ, List, Contains, length, map, Some, None, slice_get}
+use Rattle.std.specs.Prelude.{◌≡◌, ◌≤◌, ℕ, List, [], ◌∷◌, Contains, length, map, Some, None, slice_get}
 use Rattle.mq_core.specs.Came.{came_in}
 use Rattle.mq_core.specs.SequenceLaws.{arrives_of, jobs_of}
 use Rattle.mq_core.specs.Sequences.{sequence_fates, sequence_late_from, sequence_outs, stream_in_order}
@@ -7,10 +7,12 @@ use Rattle.mq_core.specs.OnceOut.{founds_of}
 use Rattle.mq_core.specs.Handling.{demand_of_job}
 use Rattle.mq_core.specs.Kinds.ForkJoin.{branch_demands}
 use Rattle.mq_core.specs.Results.{first_of}
+use Rattle.mq_core.specs.Streams.{sorted}
 use Rattle.mq_core.specs.Sound.{outputs_in}
 use Rattle.mq_core.specs.StandardTable.{run_of}
 use Rattle.mq_core.specs.Theorems.{IsReadFor}
 use Rattle.mq_core.specs.declared.model.Demand.{Demand}
+use Rattle.mq_core.specs.declared.model.Fate.{Fate}
 use Rattle.mq_core.specs.declared.model.Fate.TheVariants.{Departs}
 use Rattle.mq_core.specs.declared.model.Kind.{Kind}
 use Rattle.mq_core.specs.declared.model.Kind.TheVariants.{ForkJoin, Server, Tandem}
@@ -28,15 +30,17 @@ use Rattle.mq_maxplus.specs.declared.mp.Mp.TheVariants.{Void}
 use Rattle.mq_scan.specs.Folds.{AreBefore}
 use Rattle.mq_scan.specs.declared.blocks.Blocks.{Blocks}
 use Rattle.mq_server.specs.Jobs.{job}
+use Rattle.mq_stats.specs.Ahead.{IsAhead}
 use Rattle.mq_tandem.specs.Rows.{job_matrix, kept, last_row, none_kept}
 use Rattle.mq_engine.specs.Answer.{late_told}
 use Rattle.mq_engine.specs.Blocks.{AreTimesOf, IsSumOf}
 use Rattle.mq_engine.specs.Progress.{IsWorkedOut}
-use Rattle.mq_engine.specs.Working.{IsLeaving, IsLoad}
+use Rattle.mq_engine.specs.Working.{AreStreams, IsLoad}
 use Rattle.mq_engine.specs.declared.exits.Closed.{Closed}
 use Rattle.mq_engine.specs.declared.exits.Closed.TheVariants.{Fates, Found, Jobs, Over}
 use Rattle.mq_engine.specs.declared.exits.Exit.{Exit}
-use Rattle.mq_engine.specs.declared.exits.Exit.TheVariants.{Known, Served}
+use Rattle.mq_engine.specs.declared.exits.Exit.TheVariants.{Known, Served, Sorted}
+use Rattle.mq_engine.specs.declared.overtaking.Overtaken.{Overtaken}
 use Rattle.mq_engine.specs.declared.exits.Emptied.{Emptied}
 use Rattle.mq_engine.specs.declared.middles.Middle.{Middle}
 use Rattle.mq_engine.specs.declared.loads.Load.{Load}
@@ -111,11 +115,16 @@ applied_of (OfServer scan) = scan.blocks.blocks
 applied_of (OfTandem scan) = scan.blocks.blocks
 applied_of (OfForkJoin scan) = 0
 
+-- the fates of the arrivals at a node of this kind, none of them late, and what leaves by each output
+pub record AreOnTime (net : Network) (rows : Rows) (v : ℕ) (kind : Kind) (arrivals : Stream) (fates : List Fate) (streams : List Stream) : Type 0 where
+  pub fates_are : fates ≡ sequence_fates rows kind (came_in arrivals)
+  pub streams_are : AreStreams rows kind arrivals streams
+  pub none : first_of (sequence_late_from net.bound v 0 (sequence_fates rows kind (came_in arrivals))) ≡ None
+
 -- what becomes of the arrivals at a node of this kind: their fates, what each found, and what leaves; or the first that is late
 abbrev pub IsAfter : Network → Rows → ℕ → Kind → Stream → After → Type 0
 IsAfter net rows v kind arrivals (Seen fates found streams) =
-    IsLeaving rows kind arrivals fates streams × (found ≡ founds_of arrivals.time fates)
-    × (first_of (sequence_late_from net.bound v 0 (sequence_fates rows kind (came_in arrivals))) ≡ None)
+    AreOnTime net rows v kind arrivals fates streams × (found ≡ founds_of arrivals.time fates)
 IsAfter net rows v kind arrivals (Missed fault) =
     first_of (sequence_late_from net.bound v 0 (sequence_fates rows kind (came_in arrivals))) ≡ Some (late_told fault)
 
@@ -123,21 +132,36 @@ IsAfter net rows v kind arrivals (Missed fault) =
 abbrev pub IsAfterAt : Plan → Rows → ℕ → Stream → After → Type 0
 IsAfterAt plan rows v arrivals after = (node : Node) → slice_get plan.net.nodes v ≡ Some node → IsAfter plan.net rows v node.kind arrivals after
 
--- the jobs of a station of this kind depart at these times, in their order, by its only output
-pub record AreServed (rows : Rows) (kind : Kind) (arrivals : Stream) (departs : List ℕ) : Type 0 where
+-- the jobs of a station of this kind depart at these times, by position, by its only output
+pub record AreDepartures (rows : Rows) (kind : Kind) (arrivals : Stream) (departs : List ℕ) : Type 0 where
   pub one : outputs_in kind ≡ 1
-  pub order : (stream : Stream) → stream_in_order kind stream ≡ stream
   pub outs : sequence_outs rows kind (came_in arrivals) ≡ map (λ _. 0) arrivals.job
   pub fates : sequence_fates rows kind (came_in arrivals) ≡ map (λ time. Departs time) departs
 
--- those of a station of the plan do
+-- jobs that leave a node of this kind keep their order
+abbrev pub KeepsOrder : Kind → Type 0
+KeepsOrder kind = (stream : Stream) → stream_in_order kind stream ≡ stream
+
+-- the same, where they keep their order
+abbrev pub AreServed : Rows → Kind → Stream → List ℕ → Type 0
+AreServed rows kind arrivals departs = AreDepartures rows kind arrivals departs × KeepsOrder kind
+
+-- the jobs of a station of the plan depart at these times, by position
+abbrev pub AreDeparturesAt : Plan → Rows → ℕ → Stream → List ℕ → Type 0
+AreDeparturesAt plan rows v arrivals departs = (node : Node) → slice_get plan.net.nodes v ≡ Some node → AreDepartures rows node.kind arrivals departs
+
+-- jobs that leave a node of the plan do so by time
+abbrev pub Overtakes : Plan → ℕ → Type 0
+Overtakes plan v = (node : Node) → slice_get plan.net.nodes v ≡ Some node → (stream : Stream) → stream_in_order node.kind stream ≡ sorted stream
+
+-- those of a station of the plan keep their order too
 abbrev pub IsServed : Plan → Rows → ℕ → Stream → List ℕ → Type 0
 IsServed plan rows v arrivals departs = (node : Node) → slice_get plan.net.nodes v ≡ Some node → AreServed rows node.kind arrivals departs
 
--- what one piece tells of a node of this kind: what becomes of its arrivals, or when its jobs depart, in their order
+-- what one piece tells of a node of this kind: what becomes of its arrivals, or when its jobs depart
 abbrev pub IsWorked : Network → Rows → ℕ → Kind → Stream → Worked → Type 0
 IsWorked net rows v kind arrivals (Finished after) = IsAfter net rows v kind arrivals after
-IsWorked net rows v kind arrivals (Departed departs) = AreServed rows kind arrivals departs
+IsWorked net rows v kind arrivals (Departed departs) = AreDepartures rows kind arrivals departs
 
 -- the same at a node of the plan
 abbrev pub IsWorkedAt : Plan → Rows → ℕ → Stream → Worked → Type 0
@@ -268,15 +292,22 @@ IsApplied arrivals (OfServer scan) b times = AreServerTimes arrivals scan b time
 IsApplied arrivals (OfTandem scan) b times = AreTandemTimes arrivals scan b times
 IsApplied arrivals (OfForkJoin scan) b times = ⊥
 
+-- what is known of a delay whose jobs were put in the order in which they leave
+pub record IsOvertaken (plan : Plan) (rows : Rows) (v : ℕ) (arrivals : Stream) (overtaken : Overtaken) : Type 0 where
+  pub on_time : (node : Node) → slice_get plan.net.nodes v ≡ Some node → AreOnTime plan.net rows v node.kind arrivals overtaken.fates (record { job = overtaken.job; time = overtaken.ahead.leaving } ∷ [])
+  pub ahead : IsAhead arrivals.time overtaken.fates overtaken.ahead
+
 -- what is known of a station when all its jobs have left
 abbrev pub IsExit : Plan → Rows → ℕ → Stream → Exit → Type 0
 IsExit plan rows v arrivals (Known after) = IsAfterAt plan rows v arrivals after
 IsExit plan rows v arrivals (Served departs) = IsServed plan rows v arrivals departs
+IsExit plan rows v arrivals (Sorted overtaken) = IsOvertaken plan rows v arrivals overtaken
 
 -- how many last pieces a station has
 abbrev pub closings_of : Exit → ℕ
 closings_of (Known after) = 0
 closings_of (Served departs) = 3
+closings_of (Sorted overtaken) = 1
 
 -- a last piece: the fates of these departures, none of them late, or the first that is; how many each found; or the jobs
 abbrev pub IsShut : Plan → Rows → ℕ → Stream → List ℕ → ℕ → Closed → Type 0
@@ -289,9 +320,17 @@ IsShut plan rows v arrivals departs b (Over fault) =
 IsShut plan rows v arrivals departs b (Found found) = (b ≡ 1) × (found ≡ founds_of arrivals.time (map (λ time. Departs time) departs))
 IsShut plan rows v arrivals departs b (Jobs jobs) = (b ≡ 2) × (jobs ≡ arrivals.job)
 
+-- the one last piece of a delay: how many each found
+abbrev pub IsFound : Stream → Overtaken → Closed → Type 0
+IsFound arrivals overtaken (Fates fates) = ⊥
+IsFound arrivals overtaken (Over fault) = ⊥
+IsFound arrivals overtaken (Found found) = found ≡ founds_of arrivals.time overtaken.fates
+IsFound arrivals overtaken (Jobs jobs) = ⊥
+
 abbrev pub IsClosed : Plan → Rows → ℕ → Stream → Exit → ℕ → Closed → Type 0
 IsClosed plan rows v arrivals (Known after) b closed = ⊥
 IsClosed plan rows v arrivals (Served departs) b closed = IsShut plan rows v arrivals departs b closed
+IsClosed plan rows v arrivals (Sorted overtaken) b closed = IsFound arrivals overtaken closed
 
 -- a load that can be worked on
 abbrev pub IsReadyLoad : Load → Type 0

@@ -98,11 +98,6 @@ pub record IsLeaving (rows : Rows) (kind : Kind) (arrivals : Stream) (fates : Li
   pub leave : fates ≡ sequence_fates rows kind (came_in arrivals)
   pub outflow : AreLeft rows kind arrivals streams
 
--- what leaves by one output, where these jobs depart at these times and keep their order
-pub record LeaveByPosition (jobs departs : List ℕ) (fates : List Fate) (streams : List Stream) : Type 0 where
-  pub fate : fates ≡ map (λ time. Departs time) departs
-  pub stream : streams ≡ record { job = jobs; time = departs } ∷ []
-
 -- what is worked out of a node: the sequences of its arrivals
 pub record IsResult (rows : Rows) (kind : Kind) (arrivals : Stream) (visits : Visits) (streams : List Stream) : Type 0 where
   pub sequences : visits ≡ sequence_visits rows kind (came_in arrivals)

@@ -6,6 +6,7 @@ ghost use Rattle.mq_core.specs.Sequences.{sequence_late_from};
 ghost use Rattle.mq_core.specs.Results.{first_of};
 ghost use Rattle.mq_core.specs.declared.model.Fate.TheVariants.{Departs};
 ghost use Rattle.mq_engine.specs.Answer.{late_told};
+ghost use Rattle.mq_stats.specs.Ahead.{departure_order};
 
 use crate::PastFault;
 use mq_base::List;
@@ -55,4 +56,27 @@ pub fn first_late_in_turn(bound: u64, node: u32, departs: &List<u64>) -> Option<
         position: first as u32,
         time: *departs.get(first),
     })
+}
+
+// The same of visits whose departures are also given in order: one is late exactly where the last of
+// those is.
+pub fn first_late_overtaken(
+    bound: u64,
+    node: u32,
+    fates: &List<Fate>,
+    leaving: &List<u64>,
+) -> Option<PastFault>
+    requires few { length fates.now ≤ 1048576 }
+    requires leaving { leaving.now ≡ departure_order fates.now }
+    ensures { first_of (sequence_late_from bound node 0 fates.now) ≡ option_map late_told result }
+{
+    let count = leaving.len();
+    if count == 0 {
+        return None;
+    }
+    let last = *leaving.get(count - 1);
+    if last <= bound {
+        return None;
+    }
+    first_late(bound, node, fates)
 }

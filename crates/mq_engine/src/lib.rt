@@ -20,6 +20,7 @@ mod laws;
 mod loads;
 mod middles;
 mod outflow;
+mod overtaking;
 mod progress;
 mod ready;
 mod servers;

@@ -1,8 +1,5 @@
 // The further pieces of the stations that are scanned: their blocks, applied.
-ghost use Rattle.std.specs.Prelude.{◌≡◌, ◌≤◌, ℕ, IfOk};
-ghost use Rattle.mq_core.specs.declared.model.Plan.{Plan as ThePlan};
-ghost use Rattle.mq_core.specs.declared.model.Rows.{Rows as TheRows};
-ghost use Rattle.mq_core.specs.declared.model.Stream.{Stream as TheStream};
+ghost use Rattle.std.specs.Prelude.{◌≡◌, ◌≤◌, IfOk};
 ghost use Rattle.mq_crew.specs.Crew.{AreAll};
 ghost use Rattle.mq_engine.specs.Loads.{IsAll, IsApplied, IsExit, IsLast, IsLatest, IsLoaded, IsReadyMiddle, IsStage, IsWorkedAt, applied_of};
 ghost use Rattle.mq_engine.specs.declared.firsts.Stage.TheVariants.{Ended, Last};
@@ -11,6 +8,7 @@ use crate::branches::forkjoin_departures;
 use crate::exits::Exit;
 use crate::firsts::Stage;
 use crate::loads::{Load, Scan};
+use crate::overtaking::left_at;
 use crate::stations::{server_departures, server_times, tandem_joined, tandem_times};
 use crate::working::Worked;
 use mq_base::{List, OutOfMemory};
@@ -97,7 +95,7 @@ pub fn exit_of<R: Threads + Sync, G: Gate>(
     ensures { IfOk result (λ exit. IsExit load.now.plan.now load.now.rows.now load.now.number load.now.arrivals exit) }
 {
     match &load.scan {
-        Scan::Unscanned => Ok(left_by(the_end(stage))),
+        Scan::Unscanned => left_by(rt, alloc, workers, load, the_end(stage)),
         Scan::OfServer(scan) => {
             let departs = server_departures(alloc, &load.arrivals, scan, group)?;
             Ok(Exit::Served(departs))
@@ -114,12 +112,20 @@ pub fn exit_of<R: Threads + Sync, G: Gate>(
 }
 
 // What is known of a station that is not scanned.
-fn left_by(worked: Worked) -> Exit
-    ensures { (plan : ThePlan) (rows : TheRows) (v : ℕ) (arrivals : TheStream) → IsWorkedAt plan rows v arrivals worked → IsExit plan rows v arrivals result }
+fn left_by<R: Threads + Sync>(
+    rt: &R,
+    alloc: Global,
+    workers: u32,
+    load: &Load,
+    worked: Worked,
+) -> Result<Exit, OutOfMemory>
+    requires loaded { IsLoaded load.now.plan.now load.now.rows.now load.now.number load.now.arrivals load.now.scan }
+    requires worked { IsWorkedAt load.now.plan.now load.now.rows.now load.now.number load.now.arrivals worked }
+    ensures { IfOk result (λ exit. IsExit load.now.plan.now load.now.rows.now load.now.number load.now.arrivals exit) }
 {
     match worked {
-        Worked::Finished(after) => Exit::Known(after),
-        Worked::Departed(departs) => Exit::Served(departs),
+        Worked::Finished(after) => Ok(Exit::Known(after)),
+        Worked::Departed(departs) => left_at(rt, alloc, workers, load, departs),
     }
 }
 

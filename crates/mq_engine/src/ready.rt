@@ -46,7 +46,7 @@ pub fn results_of<R: Threads + Sync, G: Gate>(
     let groups = run_parts(rt, alloc, workers, middles.as_slice(), gate)?;
     let those_emptied = all_emptied(rt, alloc, workers, middles, groups, gate)?;
     let groups = run_parts(rt, alloc, workers, those_emptied.as_slice(), gate)?;
-    ended(rt, alloc, workers, those_emptied, groups)
+    ended(alloc, those_emptied, groups)
 }
 
 // The stations after their first pieces.
@@ -108,10 +108,8 @@ fn all_emptied<'a, R: Threads + Sync, G: Gate>(
 }
 
 // What the stations give, of their last pieces where they have some.
-fn ended<R: Threads + Sync>(
-    rt: &R,
+fn ended(
     alloc: Global,
-    workers: u32,
     those_emptied: List<Emptied>,
     groups: List<List<Closed>>,
 ) -> Result<List<NodeResult>, OutOfMemory>
@@ -127,7 +125,7 @@ fn ended<R: Threads + Sync>(
         let Some(group) = groups.pop() else {
             unreachable!()
         };
-        results.push(result_of(rt, alloc, workers, emptied, group)?)?;
+        results.push(result_of(alloc, emptied, group)?)?;
     }
     Ok(results)
 }

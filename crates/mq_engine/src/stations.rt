@@ -12,7 +12,7 @@ mod split;
 mod tandem;
 
 use crate::working::{Worked, seen};
-use delay::delay_outflow;
+use delay::delay_whole;
 pub use forkjoin::{ForkJoinScan, forkjoin_scan};
 use forkjoin::forkjoin_whole;
 use loss::loss_outflow;
@@ -60,8 +60,8 @@ pub fn work_out(
             Ok(Worked::Departed(departs))
         }
         Kind::Delay(demand) => {
-            let leaving = delay_outflow(alloc, rows, demand, arrivals)?;
-            seen(alloc, net, rows, number, kind, arrivals, leaving)
+            let departs = delay_whole(alloc, rows, demand, arrivals)?;
+            Ok(Worked::Departed(departs))
         }
         Kind::Loss { places, demand } => {
             let leaving = loss_outflow(alloc, rows, *places, demand, arrivals, block)?;

@@ -2,7 +2,7 @@
 ghost use Rattle.std.specs.Prelude.{◌≡◌, ◌≤◌, length};
 
 use crate::arrivals::arrivals_at;
-use crate::late::{first_late, first_late_in_turn};
+use crate::late::first_late;
 use crate::{PastFault, RunFault};
 use mq_base::{List, OutOfMemory};
 use mq_core::{Fate, Kind, Node, Rows};
@@ -49,13 +49,11 @@ fn the_rows_of_a_source_come_by_time(rt: HostRuntime) -> Result<(), Fail> {
     Ok(())
 }
 
-// Whether this is the first visit to node 1 after the bound, of those that depart at 4, 8 and 9: looked for
-// one by one, and by halving.
+// Whether this is the first visit to node 1 after the bound, of those that depart at 4, 8 and 9.
 fn is_late(alloc: Global, bound: u64, wanted: Option<PastFault>) -> Result<bool, OutOfMemory> {
     let fates = [Fate::Departs(4), Fate::Departs(8), Fate::Departs(9)];
     let fates = List::from_vec(Vec::from_slice(alloc, &fates)?);
-    let departs = List::from_vec(Vec::from_slice(alloc, &[4u64, 8, 9])?);
-    Ok(first_late(bound, 1, &fates) == wanted && first_late_in_turn(bound, 1, &departs) == wanted)
+    Ok(first_late(bound, 1, &fates) == wanted)
 }
 
 #[test]

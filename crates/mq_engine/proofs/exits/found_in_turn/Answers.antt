@@ -19,4 +19,4 @@ pub returns-in-Source : goal.returns-in-Source
 returns-in-Source c =
     let load = c.args.load.now in
     let served = c.requires.served c.get.result.now c.get.ensures in
-    IfOk-weaker c.nobody.result _ _ (λ x e. e ∙ sym (passing-finds_none load.rows.now c.get.result.now.kind load.arrivals.job load.arrivals.time _ (inl c.in-Source.is) c.requires.loaded.load.ordered.ordered.rising (sym served.fates))) c.nobody.ensures
+    IfOk-weaker c.nobody.result _ _ (λ x e. e ∙ sym (passing-finds_none load.rows.now c.get.result.now.kind load.arrivals.job load.arrivals.time _ (inl c.in-Source.is) c.requires.loaded.load.ordered.ordered.rising (sym served.0.fates))) c.nobody.ensures

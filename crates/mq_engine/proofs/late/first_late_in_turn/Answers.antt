@@ -23,7 +23,7 @@ loop-first-preserved c =
       order = omega arith;
       within = omega arith;
       early = was.early;
-      late = λ time e. let over = c.if-time-bound.false in let same = some_inj _ _ (e ∙ c.get-time.ensures) in omega arith;
+      late = λ time e. let over = c.if-time-bound.false in let same = some_inj _ _ (sym e ∙ c.get-time.ensures) in omega arith;
     }
 
 pub returns-then-first-count : goal.returns-then-first-count
