@@ -114,11 +114,7 @@ fn fates_in_time(alloc: Global, load: &Load, departs: &List<u64>) -> Result<Clos
 }
 
 // How many jobs each visit found, of the departures. A source holds none.
-fn found_in_turn(
-    alloc: Global,
-    load: &Load,
-    departs: &List<u64>,
-) -> Result<List<u32>, OutOfMemory>
+fn found_in_turn(alloc: Global, load: &Load, departs: &List<u64>) -> Result<List<u32>, OutOfMemory>
     requires loaded { IsLoaded load.now.plan.now load.now.rows.now load.now.number load.now.arrivals load.now.scan }
     requires served { IsServed load.now.plan.now load.now.rows.now load.now.number load.now.arrivals departs.now }
     ensures { IfOk result (λ found. found ≡ founds_of load.now.arrivals.time (map (λ time. Departs time) departs.now)) }

@@ -77,7 +77,7 @@ fn latest_of(stage: &Stage) -> &List<Latest>
 }
 
 // What is known of a station when all its jobs have left: of its applied blocks, where it is scanned. The
-// branches of a fork-join are scanned here.
+// branches of a fork-join are scanned here, and the jobs of a delay are put in order.
 pub fn exit_of<R: Threads + Sync, G: Gate>(
     rt: &R,
     alloc: Global,

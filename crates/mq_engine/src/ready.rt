@@ -20,9 +20,9 @@ use std::alloc::Global;
 use std::thread::Threads;
 
 // What the nodes that are ready give, in four lists of pieces: what comes to each; the summaries
-// of the stations that are scanned, and the others whole; the applied blocks; and of the scanned ones the
-// fates, how many each visit found, and the jobs that leave. Before the last list each fork-join has
-// lists of its own.
+// of the stations that are scanned, and the others whole; the applied blocks; and where the jobs leave in
+// their order the fates, how many each visit found, and the jobs, at a delay how many each found. Before
+// the last list each fork-join has lists of its own, and the jobs of a delay are put in order.
 pub fn results_of<R: Threads + Sync, G: Gate>(
     rt: &R,
     alloc: Global,

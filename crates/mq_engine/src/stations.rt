@@ -13,22 +13,22 @@ mod tandem;
 
 use crate::working::{Worked, seen};
 use delay::delay_whole;
-pub use forkjoin::{ForkJoinScan, forkjoin_scan};
 use forkjoin::forkjoin_whole;
+pub use forkjoin::{ForkJoinScan, forkjoin_scan};
 use loss::loss_outflow;
 use mq_base::OutOfMemory;
 use mq_core::{Kind, Network, Rows, Stream};
+use server::server_whole;
 pub use server::{
     ServerScan, server_carries, server_departures, server_scan, server_sum, server_times,
 };
-use server::server_whole;
 use source::source_departures;
 use split::split_outflow;
 use std::alloc::Global;
+use tandem::tandem_whole;
 pub use tandem::{
     TandemScan, tandem_carries, tandem_joined, tandem_scan, tandem_sum, tandem_times,
 };
-use tandem::tandem_whole;
 
 // What one piece tells of a station of this kind, given its arrivals. The first window of a loss station
 // is a block. A further kind adds its case here.
