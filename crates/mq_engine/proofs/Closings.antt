@@ -1,8 +1,10 @@
--- The last pieces of a station that is scanned.
-use Rattle.std.proofs.Common.{◌≡◌, ℕ, suc, ◌-◌, ◌<◌, List, [], ◌∷◌, ◌++◌, length, get_or, take, drop, map, refl, sym, ap, ◌∙◌, subst, arith, length-append}
+-- The last pieces of a station.
+use Rattle.std.proofs.Common.{◌≡◌, ℕ, suc, ◌<◌, List, [], ◌∷◌, ◌++◌, length, get_or, map, refl, sym, ap, ◌∙◌, subst, arith, length-append}
 use Rattle.std.proofs.Math.ListN.{get_or-append}
-use Rattle.std.proofs.Math.Seq.{get_or-append_seam, take-length}
+use Rattle.std.proofs.Math.Seq.{get_or-append_seam}
 use Rattle.std.proofs.lemmas.List.{length-map}
+use Rattle.mq_base.specs.Lists.{between}
+use Rattle.mq_base.proofs.lemmas.Between.{between-all}
 use Rattle.mq_core.specs.OnceOut.{founds_from, founds_of}
 use Rattle.mq_core.specs.declared.model.Fate.{Fate}
 use Rattle.mq_core.specs.declared.model.Fate.TheVariants.{Departs}
@@ -14,12 +16,11 @@ founds-length before [] fates e = refl
 founds-length before (a ∷ more) [] e = absurd (omega arith)
 founds-length before (a ∷ more) (f ∷ fs) e = ap suc (founds-length (before ++ f ∷ []) more fs (omega arith))
 
-pub founds-whole : (arrives departs : List ℕ) (n : ℕ) → n ≡ length arrives → length departs ≡ length arrives → take (n - 0) (drop 0 (founds_of arrives (map (λ time. Departs time) departs))) ≡ founds_of arrives (map (λ time. Departs time) departs)
-founds-whole arrives departs n e even =
-    let all = founds_of arrives (map (λ time. Departs time) departs) in
-    let len : length all ≡ length arrives = founds-length [] arrives _ (length-map departs _ ∙ even) in
-    let same : n - 0 ≡ length all = omega arith in
-    ap (λ m. take m all) same ∙ take-length all
+pub founds-all : (arrives : List ℕ) (fates : List Fate) (n : ℕ) → n ≡ length arrives → length fates ≡ length arrives → between 0 n (founds_of arrives fates) ≡ founds_of arrives fates
+founds-all arrives fates n e even = between-all (founds_of arrives fates) n (founds-length [] arrives fates even ∙ sym e)
+
+pub founds-whole : (arrives departs : List ℕ) (n : ℕ) → n ≡ length arrives → length departs ≡ length arrives → between 0 n (founds_of arrives (map (λ time. Departs time) departs)) ≡ founds_of arrives (map (λ time. Departs time) departs)
+founds-whole arrives departs n e even = founds-all arrives (map (λ time. Departs time) departs) n e (length-map departs _ ∙ even)
 
 module _ {X : Type 0} (is : ℕ → X → Type 0) where
   -- the last of some pieces, and those before it

@@ -15,7 +15,7 @@ use Rattle.mq_engine.specs.Loads.{IsApplied, IsClosed, IsLoaded, IsLoadOf, IsSca
 use Rattle.mq_engine.specs.Progress.{IsWorkedOut}
 use Rattle.mq_engine.specs.declared.exits.Closed.{Closed}
 use Rattle.mq_engine.specs.declared.exits.Exit.{Exit}
-use Rattle.mq_engine.specs.declared.exits.Exit.TheVariants.{Known, Served}
+use Rattle.mq_engine.specs.declared.exits.Exit.TheVariants.{Known, Served, Sorted}
 use Rattle.mq_engine.specs.declared.exits.Emptied.{Emptied}
 use Rattle.mq_engine.specs.declared.firsts.Part.{Part}
 use Rattle.mq_engine.specs.declared.middles.Middle.{Middle}
@@ -169,6 +169,7 @@ emptied-few those_emptied few = let most = total-most 1048576 emptied_size those
     one : (exit : Exit) → closings_of exit ≤ 1048576
     one (Known after) = omega arith
     one (Served departs) = omega arith
+    one (Sorted overtaken) = omega arith
 
     each : (ls : List Emptied) → AllByRecursion (λ l. emptied_size l ≤ 1048576) ls
     each [] = tt

@@ -1,78 +1,62 @@
--- What leaves a node, from the order of arrival into emission order.
-use Rattle.std.proofs.Common.{◌≡◌, ℕ, ◌<◌, All, Bool, true, false, cond, List, [], ◌∷◌, length, map, Some, sym, refl, ap, ◌∙◌, subst, arith}
-use Rattle.std.specs.Prelude.{◌==◌, slice_get}
-use Rattle.std.specs.Option.{option_map}
-use Rattle.std.proofs.lemmas.List.{length-map, map-id}
-use Rattle.std.proofs.lemmas.Option.{slice_get-map, slice_get_within}
-use Rattle.mq_base.proofs.lemmas.Lists.{some_inj}
+-- What leaves a node, in emission order.
+use Rattle.std.proofs.Common.{◌≡◌, ℕ, zero, suc, ◌<◌, List, [], ◌∷◌, length, map, Option, Some, sym, refl, ap, ◌∙◌, subst, arith}
+use Rattle.std.specs.Prelude.{slice_get}
+use Rattle.std.specs.List.{zip}
+use Rattle.std.proofs.lemmas.List.{length-map}
 use Rattle.mq_base.proofs.lemmas.Zips.{zip-map}
 use Rattle.mq_core.specs.Came.{came_in}
+use Rattle.mq_core.specs.Laws.{in_order_of}
+use Rattle.mq_core.specs.Results.{Late, first_of}
 use Rattle.mq_core.specs.SequenceLaws.{FatesAreInTime, SequencesGoByFates}
-use Rattle.mq_core.specs.Sequences.{IsStream, sequence_fates, sequence_outs, stream_in_order, sequence_visits}
-use Rattle.mq_core.specs.OnceOut.{founds_of, leaving_times}
-use Rattle.mq_core.specs.Streams.{by_first, pairs_of, picked, sorted}
-use Rattle.mq_core.specs.Sound.{outputs_in}
+use Rattle.mq_core.specs.Sequences.{IsStream, sequence_late_from, sequence_stream, stream_in_order, sequence_visits}
+use Rattle.mq_core.specs.OnceOut.{founds_of}
+use Rattle.mq_core.specs.Streams.{by_first, pairs_of, sorted}
 use Rattle.mq_core.specs.declared.model.Demand.{Demand}
 use Rattle.mq_core.specs.declared.model.Fate.{Fate}
+use Rattle.mq_core.specs.declared.model.Fate.TheVariants.{Departs}
 use Rattle.mq_core.specs.declared.model.Kind.{Kind}
 use Rattle.mq_core.specs.declared.model.Kind.TheVariants.{Source, Server, Delay, Loss, Tandem, ForkJoin, Split}
+use Rattle.mq_core.specs.declared.model.Network.{Network}
 use Rattle.mq_core.specs.declared.model.Rows.{Rows}
 use Rattle.mq_core.specs.declared.model.Stream.{Stream}
-use Rattle.mq_stations.specs.Leaving.{AreLeft, IsLeaving, left_by}
+use Rattle.mq_stats.specs.Ahead.{departure_order, departure_times}
+use Rattle.mq_stations.specs.Leaving.{AreDepartures, AreLeft, KeepsOrder, left_by}
+use Rattle.mq_stations.proofs.lemmas.Leaves.{departs-one}
+use Rattle.mq_engine.specs.Loads.{AreOnTime}
 use Rattle.mq_engine.specs.Working.{AreStreams, IsResult}
-use Rattle.mq_engine.proofs.Lists.{Each-at, zip-jobs, zip-times}
-use Rattle.mq_stations.proofs.lemmas.Lists.{Each-get_or}
+use Rattle.mq_engine.proofs.Lists.{zip-first, zip-jobs, zip-times}
 
--- what leaves by an output has one time a job
-leaving-many : (arrives : List ℕ) (fates : List Fate) → length fates ≡ length arrives → length (leaving_times arrives fates) ≡ length arrives
-leaving-many [] fates e = refl
-leaving-many (a ∷ arrives) [] e = absurd (omega arith)
-leaving-many (a ∷ arrives) (f ∷ fates) e = let rest = leaving-many arrives fates (omega arith) in omega arith
-
-picked-even : (out : ℕ) (outs jobs times : List ℕ) → length jobs ≡ length times → length (picked out outs jobs) ≡ length (picked out outs times)
-picked-even out [] jobs times e = refl
-picked-even out (o ∷ outs) [] [] e = refl
-picked-even out (o ∷ outs) [] (t ∷ times) e = absurd (omega arith)
-picked-even out (o ∷ outs) (j ∷ jobs) [] e = absurd (omega arith)
-picked-even out (o ∷ outs) (j ∷ jobs) (t ∷ times) e = go (o == out) (picked-even out outs jobs times (omega arith))
-  where
-    go : (b : Bool) → length (picked out outs jobs) ≡ length (picked out outs times) → length (cond b (j ∷ picked out outs jobs) (picked out outs jobs)) ≡ length (cond b (t ∷ picked out outs times) (picked out outs times))
-    go true h = omega arith
-    go false h = h
-
-pub left-even : FatesAreInTime → (rows : Rows) (kind : Kind) (arrivals : Stream) (streams : List Stream) → length arrivals.job ≡ length arrivals.time → AreLeft rows kind arrivals streams → All (λ (s : Stream). length s.job ≡ length s.time) streams
-left-even law rows kind arrivals streams even left =
-    λ k d l. Each-get_or (λ (s : Stream). length s.job ≡ length s.time) streams (Each-at (λ (s : Stream). length s.job ≡ length s.time) streams at) k d l
-  where
-    at : (out : ℕ) (stream : Stream) → slice_get streams out ≡ Some stream → length stream.job ≡ length stream.time
-    at out stream e =
-        let inside : out < outputs_in kind = subst (λ n. out < n) left.count (slice_get_within streams out stream e) in
-        let same : left_by rows kind arrivals out ≡ stream = some_inj _ _ (sym (left.each out inside) ∙ e) in
-        subst (λ (s : Stream). length s.job ≡ length s.time) same
-        (picked-even out (sequence_outs rows kind (came_in arrivals)) arrivals.job (leaving_times arrivals.time (sequence_fates rows kind (came_in arrivals)))
-        (even ∙ sym (leaving-many arrivals.time _ (law rows kind (came_in arrivals) even).even)))
-
--- put in emission order it is the streams of the sequences
-pub left-streams : SequencesGoByFates → (rows : Rows) (kind : Kind) (arrivals : Stream) (streams ordered : List Stream) → AreLeft rows kind arrivals streams → ordered ≡ map (stream_in_order kind) streams → AreStreams rows kind arrivals ordered
-left-streams law rows kind arrivals streams ordered left e =
+-- where the jobs keep their order, what leaves by position is what the sequences say
+pub kept-streams : SequencesGoByFates → (rows : Rows) (kind : Kind) (arrivals : Stream) (streams : List Stream) → KeepsOrder kind → AreLeft rows kind arrivals streams → AreStreams rows kind arrivals streams
+kept-streams law rows kind arrivals streams keeps left =
     record {
-      count = ap length e ∙ (length-map streams _ ∙ left.count);
-      each = λ out l. ap (λ (s : List Stream). slice_get s out) e ∙ (slice_get-map (stream_in_order kind) streams out ∙ (ap (option_map (stream_in_order kind)) (left.each out l) ∙ ap Some (sym ((law rows kind (came_in arrivals)).stream out))));
+      count = left.count;
+      each = λ out l. left.each out l ∙ ap Some (sym ((law rows kind (came_in arrivals)).stream out ∙ keeps (left_by rows kind arrivals out)));
     }
 
--- what has been seen of a node is what it gives, once what leaves is in order
-pub seen-result : SequencesGoByFates → (rows : Rows) (kind : Kind) (arrivals : Stream) (fates : List Fate) (found : List ℕ) (streams ordered : List Stream) → IsLeaving rows kind arrivals fates streams → found ≡ founds_of arrivals.time fates → ordered ≡ map (stream_in_order kind) streams →
-    IsResult rows kind arrivals (record { job = arrivals.job; arrive = arrivals.time; found = found; fate = fates }) ordered
-seen-result law rows kind arrivals fates found streams ordered left f o =
+-- at all kinds but a delay they do
+pub keeps-order : (kind : Kind) → ((demand : Demand) → kind ≡ Delay demand → ⊥) → KeepsOrder kind
+keeps-order Source h stream = refl
+keeps-order (Server demand) h stream = refl
+keeps-order (Delay demand) h stream = absurd (h demand refl)
+keeps-order (Loss places demand) h stream = refl
+keeps-order (Tandem stages) h stream = refl
+keeps-order (ForkJoin branches) h stream = refl
+keeps-order (Split route) h stream = refl
+
+-- what has been seen of a node is what it gives
+pub seen-result : SequencesGoByFates → (net : Network) (rows : Rows) (v : ℕ) (kind : Kind) (arrivals : Stream) (fates : List Fate) (found : List ℕ) (streams : List Stream) → AreOnTime net rows v kind arrivals fates streams → found ≡ founds_of arrivals.time fates →
+    IsResult rows kind arrivals (record { job = arrivals.job; arrive = arrivals.time; found = found; fate = fates }) streams
+seen-result law net rows v kind arrivals fates found streams seen f =
     record {
       sequences =
-          let founds : found ≡ (sequence_visits rows kind (came_in arrivals)).found = f ∙ (ap (founds_of arrivals.time) left.leave ∙ sym (law rows kind (came_in arrivals)).founds) in
-          λ k. record { job = arrivals.job; arrive = arrivals.time; found = founds k; fate = left.leave k };
-      outflow = left-streams law rows kind arrivals streams ordered left.outflow o;
+          let founds : found ≡ (sequence_visits rows kind (came_in arrivals)).found = f ∙ (ap (founds_of arrivals.time) seen.fates_are ∙ sym (law rows kind (came_in arrivals)).founds) in
+          λ k. record { job = arrivals.job; arrive = arrivals.time; found = founds k; fate = seen.fates_are k };
+      outflow = seen.streams_are;
     }
 
--- a stream of the same items, by time
-pub is-sorted : (left leaving : Stream) → IsStream leaving → pairs_of leaving ≡ by_first (pairs_of left) → leaving ≡ sorted left
+-- A delay. A stream of the same items, by time.
+is-sorted : (left leaving : Stream) → IsStream leaving → pairs_of leaving ≡ by_first (pairs_of left) → leaving ≡ sorted left
 is-sorted left leaving s e =
     let pairs = by_first (pairs_of left) in
     let even : length (map (λ (p : ℕ × ℕ). p.1) pairs) ≡ length (map (λ (p : ℕ × ℕ). p.0) pairs) = length-map pairs _ ∙ sym (length-map pairs _) in
@@ -81,24 +65,40 @@ is-sorted left leaving s e =
     let times = zip-times leaving.time leaving.job _ _ s.even even same in
     λ k. record { job = jobs k; time = times k }
 
--- what leaves a delay, sorted
-pub sorts : (kind : Kind) (demand : Demand) (streams : List Stream) (left leaving : Stream) (ordered : List Stream) → kind ≡ Delay demand → length streams ≡ outputs_in kind → slice_get streams 0 ≡ Some left → IsStream leaving → pairs_of leaving ≡ by_first (pairs_of left) → ordered ≡ leaving ∷ [] → ordered ≡ map (stream_in_order kind) streams
-sorts kind demand streams left leaving ordered is count first s e o =
-    o
-    ∙ (ap (λ (l : Stream). l ∷ []) (is-sorted left leaving s e)
-    ∙ (ap (λ (k : Kind). stream_in_order k left ∷ []) (sym is) ∙ ap (map (stream_in_order kind)) (sym (single streams (count ∙ ap outputs_in is) first))))
+-- the jobs by departure are what leaves
+pub sorted-streams : SequencesGoByFates → FatesAreInTime → (rows : Rows) (kind : Kind) (arrivals : Stream) (departs : List ℕ) (leaving : Stream) → length arrivals.job ≡ length arrivals.time → AreDepartures rows kind arrivals departs → ((stream : Stream) → stream_in_order kind stream ≡ sorted stream) →
+    IsStream leaving → pairs_of leaving ≡ by_first (zip departs arrivals.job) → AreStreams rows kind arrivals (leaving ∷ [])
+sorted-streams fated law rows kind arrivals departs leaving even d order s e =
+    record {
+      count = sym d.one;
+      each = λ out l. only out (subst (λ n. out < n) d.one l);
+    }
   where
-    single : (ss : List Stream) → length ss ≡ 1 → slice_get ss 0 ≡ Some left → ss ≡ left ∷ []
-    single [] n h = absurd (omega arith)
-    single (a ∷ []) n h = ap (λ (l : Stream). l ∷ []) (some_inj _ _ h)
-    single (a ∷ (b ∷ ss)) n h = absurd (omega arith)
+    left : Stream
+    left = record { job = arrivals.job; time = departs }
 
--- at all kinds but a delay the jobs keep their order
-pub keeps-order : (kind : Kind) (streams : List Stream) → ((demand : Demand) → kind ≡ Delay demand → ⊥) → streams ≡ map (stream_in_order kind) streams
-keeps-order Source streams h = sym (map-id streams)
-keeps-order (Server demand) streams h = sym (map-id streams)
-keeps-order (Delay demand) streams h = absurd (h demand refl)
-keeps-order (Loss places demand) streams h = sym (map-id streams)
-keeps-order (Tandem stages) streams h = sym (map-id streams)
-keeps-order (ForkJoin branches) streams h = sym (map-id streams)
-keeps-order (Split route) streams h = sym (map-id streams)
+    stream : leaving ≡ sequence_stream rows kind (came_in arrivals) 0
+    stream =
+        is-sorted left leaving s e
+        ∙ (sym (order left) ∙ (ap (stream_in_order kind) (departs-one law rows kind arrivals departs even d) ∙ sym ((fated rows kind (came_in arrivals)).stream 0)))
+
+    only : (out : ℕ) → out < 1 → slice_get (leaving ∷ []) out ≡ Some (sequence_stream rows kind (came_in arrivals) out)
+    only zero l = ap Some stream
+    only (suc out) l = absurd (omega arith)
+
+-- the times of a stream that is these items in order
+pub times-in_order : (s : Stream) (jobs times : List ℕ) → IsStream s → length jobs ≡ length times → pairs_of s ≡ by_first (zip times jobs) → s.time ≡ in_order_of (λ t. t) times
+times-in_order s jobs times h e k =
+    sym (zip-first s.time s.job h.even) ∙ (ap (map (λ (p : ℕ × ℕ). p.0)) k ∙ (firsts-order (zip times jobs) ∙ ap (in_order_of (λ t. t)) (zip-first times jobs e)))
+
+-- where all depart, the departures are those times
+pub departures-of : (times : List ℕ) → departure_times (map (λ t. Departs t) times) ≡ times
+departures-of [] = refl
+departures-of (t ∷ ts) = ap (λ l. t ∷ l) (departures-of ts)
+
+pub departures-order : (times leaving : List ℕ) (fates : List Fate) → fates ≡ map (λ t. Departs t) times → leaving ≡ in_order_of (λ t. t) times → leaving ≡ departure_order fates
+departures-order times leaving fates f e = e ∙ ap (in_order_of (λ t. t)) (sym (ap departure_times f ∙ departures-of times))
+
+-- the first late visit of the same fates
+pub late-by : (bound v : ℕ) (fates fates' : List Fate) (late : Option Late) → fates ≡ fates' → first_of (sequence_late_from bound v 0 fates') ≡ late → first_of (sequence_late_from bound v 0 fates) ≡ late
+late-by bound v fates fates' late e h = ap (λ l. first_of (sequence_late_from bound v 0 l)) e ∙ h

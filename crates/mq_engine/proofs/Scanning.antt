@@ -9,7 +9,7 @@ use Rattle.std.proofs.lemmas.Option.{slice_get_within}
 use Rattle.mq_base.proofs.lemmas.Lists.{some_inj}
 use Rattle.mq_core.specs.Sequences.{IsSoundLoad}
 use Rattle.mq_core.specs.OnceOut.{founds_of}
-use Rattle.mq_core.specs.SequenceLaws.{FatesAreInTime}
+use Rattle.mq_core.specs.SequenceLaws.{FatesAreInTime, SequencesGoByFates}
 use Rattle.mq_core.specs.Handling.{demand_of_job}
 use Rattle.mq_core.specs.Recurrences.{forkjoin_departs, lindley, tandem_departs}
 use Rattle.mq_core.specs.declared.model.Fate.{Fate}
@@ -30,8 +30,9 @@ use Rattle.mq_engine.specs.declared.loads.Scan.{Scan}
 use Rattle.mq_engine.specs.declared.loads.Scan.TheVariants.{OfForkJoin, OfServer, OfTandem, Unscanned}
 use Rattle.mq_stations.specs.declared.forkjoin.ForkJoinScan.{ForkJoinScan}
 use Rattle.mq_stations.specs.declared.tandem.TandemScan.{TandemScan}
-use Rattle.mq_stations.proofs.lemmas.Leaves.{load-sound, served-even, served-leaves, server-served}
+use Rattle.mq_stations.proofs.lemmas.Leaves.{departs-left, load-sound, server-served}
 use Rattle.mq_stations.proofs.lemmas.StageFacts.{branch-loads, demands-told, forkjoin-departs, loads-sound, stages-are, tandem-served}
+use Rattle.mq_engine.proofs.Leavings.{kept-streams}
 
 -- a further item, where each is that of its index
 pub items-more : {S : Type 0} (is : ℕ → S → Type 0) (items items' : List S) (b : ℕ) (item : S) → length items ≡ b → ((k : ℕ) (d : S) → k < b → is k (get_or items k d)) → is b item → items' ≡ items ++ item ∷ [] →
@@ -106,19 +107,14 @@ forkjoin-leaves plan rows v arrivals scan its departs l e d =
     let is : IsScanOf rows l.node.kind arrivals (OfForkJoin its) = subst (IsScanOf rows l.node.kind arrivals) e l.scanned in
     served-at plan rows v arrivals scan (ForkJoin is.0) departs l is.1 (forkjoin-departs rows is.0 arrivals its.demands departs is.2.demands d)
 
-pub served-few : FatesAreInTime → (plan : Plan) (rows : Rows) (v : ℕ) (arrivals : Stream) (scan : Scan) (departs : List ℕ) (fates : List Fate) → IsLoaded plan rows v arrivals scan → IsServed plan rows v arrivals departs → fates ≡ map (λ time. Departs time) departs → length fates ≤ 1048576
-served-few law plan rows v arrivals scan departs fates l served e =
-    let few = l.load.few in
-    let long = served-even law rows l.node.kind arrivals departs l.load (served l.node l.there) in
-    let count = ap length e in
-    let same = length-map departs (λ time. Departs time) in
-    omega arith
-
 -- what becomes of the arrivals at such a station
-pub opens : FatesAreInTime → (plan : Plan) (rows : Rows) (v : ℕ) (arrivals : Stream) (scan : Scan) (departs : List ℕ) (fates : List Fate) (found jobs : List ℕ) (streams : List Stream) → IsLoaded plan rows v arrivals scan → IsServed plan rows v arrivals departs → IsShut plan rows v arrivals departs 0 (Fates fates) → IsShut plan rows v arrivals departs 1 (Found found) → IsShut plan rows v arrivals departs 2 (Jobs jobs) →
+pub opens : SequencesGoByFates → FatesAreInTime → (plan : Plan) (rows : Rows) (v : ℕ) (arrivals : Stream) (scan : Scan) (departs : List ℕ) (fates : List Fate) (found jobs : List ℕ) (streams : List Stream) → IsLoaded plan rows v arrivals scan → IsServed plan rows v arrivals departs → IsShut plan rows v arrivals departs 0 (Fates fates) → IsShut plan rows v arrivals departs 1 (Found found) → IsShut plan rows v arrivals departs 2 (Jobs jobs) →
     streams ≡ record { job = jobs; time = departs } ∷ [] → IsAfterAt plan rows v arrivals (Seen fates found streams)
-opens law plan rows v arrivals scan departs fates found jobs streams l served f g h e = λ node there. (
-  served-leaves law rows node.kind arrivals departs fates streams l.load.ordered.ordered.even (served node there) (record { fate = f.1; stream = e ∙ (λ k. record { job = h.1 k; time = departs } ∷ []) }),
+opens fated law plan rows v arrivals scan departs fates found jobs streams l served f g h e = λ node there. (
+  record {
+    fates_are = f.1 ∙ sym (served node there).0.fates;
+    streams_are = kept-streams fated rows node.kind arrivals streams (served node there).1 (departs-left law rows node.kind arrivals departs streams l.load.ordered.ordered.even (served node there).0 (e ∙ (λ k. record { job = h.1 k; time = departs } ∷ [])));
+    none = f.2 node there;
+  },
   g.1 ∙ ap (founds_of arrivals.time) (sym f.1),
-  f.2 node there,
 )

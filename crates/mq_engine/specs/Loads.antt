@@ -1,14 +1,16 @@
 -- What comes to the nodes that are ready, and what the pieces of a wave are.
-use Rattle.std.specs.Prelude.{◌≡◌, ◌≤◌, ℕ, List, Contains, map, Some, None, slice_get}
+use Rattle.std.specs.Prelude.{◌≡◌, ◌≤◌, ℕ, List, [], ◌∷◌, Contains, map, Some, None, slice_get}
 use Rattle.mq_core.specs.Came.{came_in}
 use Rattle.mq_core.specs.SequenceLaws.{arrives_of, jobs_of}
-use Rattle.mq_core.specs.Sequences.{sequence_fates, sequence_late_from}
+use Rattle.mq_core.specs.Sequences.{sequence_fates, sequence_late_from, stream_in_order}
 use Rattle.mq_core.specs.OnceOut.{founds_of}
 use Rattle.mq_core.specs.Handling.{demand_of_job}
 use Rattle.mq_core.specs.Results.{first_of}
+use Rattle.mq_core.specs.Streams.{sorted}
 use Rattle.mq_core.specs.StandardTable.{run_of}
 use Rattle.mq_core.specs.Theorems.{IsReadFor}
 use Rattle.mq_core.specs.declared.model.Demand.{Demand}
+use Rattle.mq_core.specs.declared.model.Fate.{Fate}
 use Rattle.mq_core.specs.declared.model.Fate.TheVariants.{Departs}
 use Rattle.mq_core.specs.declared.model.Kind.{Kind}
 use Rattle.mq_core.specs.declared.model.Kind.TheVariants.{ForkJoin, Server, Tandem}
@@ -18,14 +20,17 @@ use Rattle.mq_core.specs.declared.model.Plan.{Plan}
 use Rattle.mq_core.specs.declared.model.Rows.{Rows}
 use Rattle.mq_core.specs.declared.model.Stage.{Stage as TandemStage}
 use Rattle.mq_core.specs.declared.model.Stream.{Stream}
+use Rattle.mq_stats.specs.Ahead.{IsAhead}
 use Rattle.mq_stations.specs.Late.{late_told}
-use Rattle.mq_engine.specs.Progress.{IsWorkedOut}
-use Rattle.mq_stations.specs.Leaving.{AreServed, IsLeaving, IsLoad}
+use Rattle.mq_stations.specs.Leaving.{AreDepartures, AreServed, IsLoad}
 use Rattle.mq_stations.specs.Scans.{AreTandemCarries, AreTandemTimes, IsForkJoinScan, IsTandemScan, IsTandemSum}
+use Rattle.mq_engine.specs.Progress.{IsWorkedOut}
+use Rattle.mq_engine.specs.Working.{AreStreams}
 use Rattle.mq_engine.specs.declared.exits.Closed.{Closed}
 use Rattle.mq_engine.specs.declared.exits.Closed.TheVariants.{Fates, Found, Jobs, Over}
 use Rattle.mq_engine.specs.declared.exits.Exit.{Exit}
-use Rattle.mq_engine.specs.declared.exits.Exit.TheVariants.{Known, Served}
+use Rattle.mq_engine.specs.declared.exits.Exit.TheVariants.{Known, Served, Sorted}
+use Rattle.mq_engine.specs.declared.overtaking.Overtaken.{Overtaken}
 use Rattle.mq_engine.specs.declared.exits.Emptied.{Emptied}
 use Rattle.mq_engine.specs.declared.middles.Middle.{Middle}
 use Rattle.mq_engine.specs.declared.loads.Load.{Load}
@@ -35,6 +40,8 @@ use Rattle.mq_stations.specs.declared.tandem.TandemScan.{TandemScan}
 use Rattle.mq_engine.specs.declared.working.NodeResult.{NodeResult}
 use Rattle.mq_engine.specs.declared.working.After.{After}
 use Rattle.mq_engine.specs.declared.working.After.TheVariants.{Seen, Missed}
+use Rattle.mq_engine.specs.declared.working.Worked.{Worked}
+use Rattle.mq_engine.specs.declared.working.Worked.TheVariants.{Departed, Finished}
 use Rattle.mq_engine.specs.declared.firsts.Part.{Part}
 use Rattle.mq_engine.specs.declared.firsts.Part.TheVariants.{Product, Whole}
 use Rattle.mq_engine.specs.declared.firsts.Stage.{Stage}
@@ -74,11 +81,16 @@ applied_of (OfServer demands) = 0
 applied_of (OfTandem scan) = scan.blocks.blocks
 applied_of (OfForkJoin scan) = 0
 
+-- the fates of the arrivals at a node of this kind, none of them late, and what leaves by each output
+pub record AreOnTime (net : Network) (rows : Rows) (v : ℕ) (kind : Kind) (arrivals : Stream) (fates : List Fate) (streams : List Stream) : Type 0 where
+  pub fates_are : fates ≡ sequence_fates rows kind (came_in arrivals)
+  pub streams_are : AreStreams rows kind arrivals streams
+  pub none : first_of (sequence_late_from net.bound v 0 (sequence_fates rows kind (came_in arrivals))) ≡ None
+
 -- what becomes of the arrivals at a node of this kind: their fates, what each found, and what leaves; or the first that is late
 abbrev pub IsAfter : Network → Rows → ℕ → Kind → Stream → After → Type 0
 IsAfter net rows v kind arrivals (Seen fates found streams) =
-    IsLeaving rows kind arrivals fates streams × (found ≡ founds_of arrivals.time fates)
-    × (first_of (sequence_late_from net.bound v 0 (sequence_fates rows kind (came_in arrivals))) ≡ None)
+    AreOnTime net rows v kind arrivals fates streams × (found ≡ founds_of arrivals.time fates)
 IsAfter net rows v kind arrivals (Missed fault) =
     first_of (sequence_late_from net.bound v 0 (sequence_fates rows kind (came_in arrivals))) ≡ Some (late_told fault)
 
@@ -86,19 +98,40 @@ IsAfter net rows v kind arrivals (Missed fault) =
 abbrev pub IsAfterAt : Plan → Rows → ℕ → Stream → After → Type 0
 IsAfterAt plan rows v arrivals after = (node : Node) → slice_get plan.net.nodes v ≡ Some node → IsAfter plan.net rows v node.kind arrivals after
 
+-- the jobs of a station of the plan depart at these times, by position
+abbrev pub AreDeparturesAt : Plan → Rows → ℕ → Stream → List ℕ → Type 0
+AreDeparturesAt plan rows v arrivals departs = (node : Node) → slice_get plan.net.nodes v ≡ Some node → AreDepartures rows node.kind arrivals departs
+
+-- jobs that leave a node of the plan do so by time
+abbrev pub Overtakes : Plan → ℕ → Type 0
+Overtakes plan v = (node : Node) → slice_get plan.net.nodes v ≡ Some node → (stream : Stream) → stream_in_order node.kind stream ≡ sorted stream
+
+-- those of a station of the plan keep their order too
+abbrev pub IsServed : Plan → Rows → ℕ → Stream → List ℕ → Type 0
+IsServed plan rows v arrivals departs = (node : Node) → slice_get plan.net.nodes v ≡ Some node → AreServed rows node.kind arrivals departs
+
+-- what one piece tells of a node of this kind: what becomes of its arrivals, or when its jobs depart
+abbrev pub IsWorked : Network → Rows → ℕ → Kind → Stream → Worked → Type 0
+IsWorked net rows v kind arrivals (Finished after) = IsAfter net rows v kind arrivals after
+IsWorked net rows v kind arrivals (Departed departs) = AreDepartures rows kind arrivals departs
+
+-- the same at a node of the plan
+abbrev pub IsWorkedAt : Plan → Rows → ℕ → Stream → Worked → Type 0
+IsWorkedAt plan rows v arrivals worked = (node : Node) → slice_get plan.net.nodes v ≡ Some node → IsWorked plan.net rows v node.kind arrivals worked
+
 -- a first piece that is what the jobs of a block of a tandem do together
 abbrev pub IsTandemPart : Stream → TandemScan → ℕ → Part → Type 0
-IsTandemPart arrivals scan b (Whole after) = ⊥
+IsTandemPart arrivals scan b (Whole worked) = ⊥
 IsTandemPart arrivals scan b (Product sum) = IsTandemSum arrivals scan b sum.value
 
--- a first piece that is all of its station
+-- a first piece that is a whole station
 abbrev pub IsWhole : Part → Type 0
-IsWhole (Whole after) = Unit {0}
+IsWhole (Whole worked) = Unit {0}
 IsWhole (Product sum) = ⊥
 
--- a first piece that is a whole station
+-- the same, with what it tells
 abbrev pub IsWholePart : Plan → Rows → ℕ → Stream → Part → Type 0
-IsWholePart plan rows v arrivals (Whole after) = IsAfterAt plan rows v arrivals after
+IsWholePart plan rows v arrivals (Whole worked) = IsWorkedAt plan rows v arrivals worked
 IsWholePart plan rows v arrivals (Product sum) = ⊥
 
 -- a first piece: a whole station, or what the jobs of a block do together
@@ -108,37 +141,37 @@ IsPart plan rows v arrivals (OfServer demands) b part = ⊥
 IsPart plan rows v arrivals (OfTandem scan) b part = IsTandemPart arrivals scan b part
 IsPart plan rows v arrivals (OfForkJoin scan) b part = ⊥
 
--- after its first pieces all is known of a station
+-- the station was one first piece
 abbrev pub IsAll : Stage → Type 0
-IsAll (Ended after) = Unit {0}
+IsAll (Ended worked) = Unit {0}
 IsAll (Latest carries) = ⊥
 IsAll Unbegun = ⊥
 
 -- the latest departures before each block are known
 abbrev pub IsLatest : Stage → Type 0
-IsLatest (Ended after) = ⊥
+IsLatest (Ended worked) = ⊥
 IsLatest (Latest carries) = Unit {0}
 IsLatest Unbegun = ⊥
 
--- what becomes of the arrivals is known
+-- what one piece told of the station is known
 abbrev pub IsEnded : Plan → Rows → ℕ → Stream → Stage → Type 0
-IsEnded plan rows v arrivals (Ended after) = IsAfterAt plan rows v arrivals after
+IsEnded plan rows v arrivals (Ended worked) = IsWorkedAt plan rows v arrivals worked
 IsEnded plan rows v arrivals (Latest carries) = ⊥
 IsEnded plan rows v arrivals Unbegun = ⊥
 
 -- the latest departures before the blocks of a tandem are known
 abbrev pub IsTandemStage : Stream → TandemScan → Stage → Type 0
-IsTandemStage arrivals scan (Ended after) = ⊥
+IsTandemStage arrivals scan (Ended worked) = ⊥
 IsTandemStage arrivals scan (Latest carries) = AreTandemCarries arrivals scan carries
 IsTandemStage arrivals scan Unbegun = ⊥
 
 -- nothing is known yet, as of a server and of a fork-join, which come later
 abbrev pub IsUnbegun : Stage → Type 0
-IsUnbegun (Ended after) = ⊥
+IsUnbegun (Ended worked) = ⊥
 IsUnbegun (Latest carries) = ⊥
 IsUnbegun Unbegun = Unit {0}
 
--- what is known of a station after its first pieces: all, the carry before each block, or nothing of a server and of a fork-join
+-- what is known of a station after its first pieces: what one told, the carry before each block, or nothing of a server and of a fork-join
 abbrev pub IsStage : Plan → Rows → ℕ → Stream → Scan → Stage → Type 0
 IsStage plan rows v arrivals Unscanned stage = IsEnded plan rows v arrivals stage
 IsStage plan rows v arrivals (OfServer demands) stage = IsUnbegun stage
@@ -152,19 +185,22 @@ IsApplied arrivals (OfServer demands) b times = ⊥
 IsApplied arrivals (OfTandem scan) b times = AreTandemTimes arrivals scan b times
 IsApplied arrivals (OfForkJoin scan) b times = ⊥
 
--- those of a station of the plan do
-abbrev pub IsServed : Plan → Rows → ℕ → Stream → List ℕ → Type 0
-IsServed plan rows v arrivals departs = (node : Node) → slice_get plan.net.nodes v ≡ Some node → AreServed rows node.kind arrivals departs
+-- what is known of a delay whose jobs were put in the order in which they leave
+pub record IsOvertaken (plan : Plan) (rows : Rows) (v : ℕ) (arrivals : Stream) (overtaken : Overtaken) : Type 0 where
+  pub on_time : (node : Node) → slice_get plan.net.nodes v ≡ Some node → AreOnTime plan.net rows v node.kind arrivals overtaken.fates (record { job = overtaken.job; time = overtaken.ahead.leaving } ∷ [])
+  pub ahead : IsAhead arrivals.time overtaken.fates overtaken.ahead
 
 -- what is known of a station when all its jobs have left
 abbrev pub IsExit : Plan → Rows → ℕ → Stream → Exit → Type 0
 IsExit plan rows v arrivals (Known after) = IsAfterAt plan rows v arrivals after
 IsExit plan rows v arrivals (Served departs) = IsServed plan rows v arrivals departs
+IsExit plan rows v arrivals (Sorted overtaken) = IsOvertaken plan rows v arrivals overtaken
 
 -- how many last pieces a station has
 abbrev pub closings_of : Exit → ℕ
 closings_of (Known after) = 0
 closings_of (Served departs) = 3
+closings_of (Sorted overtaken) = 1
 
 -- a last piece: the fates of these departures, none of them late, or the first that is; how many each found; or the jobs
 abbrev pub IsShut : Plan → Rows → ℕ → Stream → List ℕ → ℕ → Closed → Type 0
@@ -177,9 +213,17 @@ IsShut plan rows v arrivals departs b (Over fault) =
 IsShut plan rows v arrivals departs b (Found found) = (b ≡ 1) × (found ≡ founds_of arrivals.time (map (λ time. Departs time) departs))
 IsShut plan rows v arrivals departs b (Jobs jobs) = (b ≡ 2) × (jobs ≡ arrivals.job)
 
+-- the one last piece of a delay: how many each found
+abbrev pub IsFound : Stream → Overtaken → Closed → Type 0
+IsFound arrivals overtaken (Fates fates) = ⊥
+IsFound arrivals overtaken (Over fault) = ⊥
+IsFound arrivals overtaken (Found found) = found ≡ founds_of arrivals.time overtaken.fates
+IsFound arrivals overtaken (Jobs jobs) = ⊥
+
 abbrev pub IsClosed : Plan → Rows → ℕ → Stream → Exit → ℕ → Closed → Type 0
 IsClosed plan rows v arrivals (Known after) b closed = ⊥
 IsClosed plan rows v arrivals (Served departs) b closed = IsShut plan rows v arrivals departs b closed
+IsClosed plan rows v arrivals (Sorted overtaken) b closed = IsFound arrivals overtaken closed
 
 -- a load that can be worked on
 abbrev pub IsReadyLoad : Load → Type 0

@@ -1,19 +1,22 @@
 // The stations whose departures are known, and their last pieces: fates, who found how many, and what
 // leaves.
-ghost use Rattle.std.specs.Prelude.{◌≡◌, ◌<◌, IfOk};
+ghost use Rattle.std.specs.Prelude.{◌≡◌, ◌<◌, map, IfOk};
+ghost use Rattle.mq_core.specs.OnceOut.{founds_of};
+ghost use Rattle.mq_core.specs.declared.model.Fate.TheVariants.{Departs};
 ghost use Rattle.mq_crew.specs.Crew.{AreAll};
-ghost use Rattle.mq_engine.specs.Loads.{IsAfterAt, IsClosed, IsLoaded, IsReadyExit, IsServed, IsShut, closings_of};
+ghost use Rattle.mq_engine.specs.Loads.{IsAfterAt, IsClosed, IsExit, IsFound, IsLoaded, IsOvertaken, IsReadyExit, IsServed, IsShut, closings_of};
 ghost use Rattle.mq_engine.specs.Progress.{IsWorkedOut};
 
 use crate::laws::core_laws;
 use crate::loads::Load;
-use crate::working::{After, NodeResult, ending_of, found_by_position};
+use crate::overtaking::Overtaken;
+use crate::working::{After, NodeResult, ending_of, found_by_position, nobody};
 use mq_base::{List, OutOfMemory};
-use mq_core::{Fate, Stream, fates_are_in_time, sequences_go_by_fates};
+use mq_core::{Fate, Kind, Stream, fates_are_in_time, sequences_go_by_fates};
 use mq_crew::Pieces;
-use mq_stations::{PastFault, fates_of, first_late, only};
+use mq_stations::{PastFault, fates_of, first_late_in_turn, only};
+use mq_stats::found_piece;
 use std::alloc::Global;
-use std::thread::Threads;
 
 /// What is known of a station when all its jobs have left.
 #[derive(Drop)]
@@ -22,6 +25,8 @@ pub enum Exit {
     Known(After),
     /// When its jobs depart, in their order.
     Served(List<u64>),
+    /// When they depart, and in which order.
+    Sorted(Overtaken),
 }
 
 /// A station whose departures are known.
@@ -57,18 +62,20 @@ impl<'a> Pieces for Emptied<'a> {
         match &self.exit {
             Exit::Known(_) => 0,
             Exit::Served(_) => 3,
+            Exit::Sorted(_) => 1,
         }
     }
 
     fn piece(&self, alloc: Global, b: u32) -> Result<Closed, OutOfMemory> {
         match &self.exit {
             Exit::Served(departs) => closing_of(alloc, &self.load, departs, b),
+            Exit::Sorted(overtaken) => found_of(alloc, &self.load, overtaken),
             Exit::Known(_) => unreachable!(),
         }
     }
 }
 
-// A last piece of a station that is scanned, of the departures of all its jobs.
+// A last piece of a station whose jobs leave in their order, of the departures of all its jobs.
 fn closing_of(
     alloc: Global,
     load: &Load,
@@ -80,13 +87,11 @@ fn closing_of(
     requires inside { b < 3 }
     ensures { IfOk result (λ closed. IsShut load.now.plan.now load.now.rows.now load.now.number load.now.arrivals departs.now b closed) }
 {
-    sequences_go_by_fates();
-    fates_are_in_time();
     if b == 0 {
         return fates_in_time(alloc, load, departs);
     }
     if b == 1 {
-        return Ok(Closed::Found(found_by_position(alloc, &load.arrivals, departs)?));
+        return Ok(Closed::Found(found_in_turn(alloc, load, departs)?));
     }
     let jobs = Vec::from_slice(alloc, load.arrivals.job.as_slice())?;
     Ok(Closed::Jobs(List::from_vec(jobs)))
@@ -98,19 +103,42 @@ fn fates_in_time(alloc: Global, load: &Load, departs: &List<u64>) -> Result<Clos
     requires served { IsServed load.now.plan.now load.now.rows.now load.now.number load.now.arrivals departs.now }
     ensures { IfOk result (λ closed. IsShut load.now.plan.now load.now.rows.now load.now.number load.now.arrivals departs.now 0 closed) }
 {
+    sequences_go_by_fates();
     fates_are_in_time();
-    let fates = fates_of(alloc, departs)?;
-    if let Some(past) = first_late(load.plan.net.bound, load.number, &fates) {
+    if let Some(past) = first_late_in_turn(load.plan.net.bound, load.number, departs) {
         return Ok(Closed::Over(past));
     }
-    Ok(Closed::Fates(fates))
+    Ok(Closed::Fates(fates_of(alloc, departs)?))
+}
+
+// How many jobs each visit found, of the departures. A source holds none.
+fn found_in_turn(alloc: Global, load: &Load, departs: &List<u64>) -> Result<List<u32>, OutOfMemory>
+    requires loaded { IsLoaded load.now.plan.now load.now.rows.now load.now.number load.now.arrivals load.now.scan }
+    requires served { IsServed load.now.plan.now load.now.rows.now load.now.number load.now.arrivals departs.now }
+    ensures { IfOk result (λ found. found ≡ founds_of load.now.arrivals.time (map (λ time. Departs time) departs.now)) }
+{
+    sequences_go_by_fates();
+    fates_are_in_time();
+    match &load.plan.net.nodes.get(load.number as usize).kind {
+        Kind::Source => nobody(alloc, &load.arrivals.time),
+        _ => found_by_position(alloc, &load.arrivals, departs),
+    }
+}
+
+// The one last piece of a delay.
+fn found_of(alloc: Global, load: &Load, overtaken: &Overtaken) -> Result<Closed, OutOfMemory>
+    requires loaded { IsLoaded load.now.plan.now load.now.rows.now load.now.number load.now.arrivals load.now.scan }
+    requires overtaken { IsOvertaken load.now.plan.now load.now.rows.now load.now.number load.now.arrivals overtaken.now }
+    ensures { IfOk result (λ closed. IsFound load.now.arrivals overtaken.now closed) }
+{
+    let arrive = &load.arrivals.time;
+    let found = found_piece(alloc, arrive, &overtaken.ahead, 0, arrive.len() as u32)?;
+    Ok(Closed::Found(found))
 }
 
 // What a station gives, of its last pieces where it has some.
-pub fn result_of<R: Threads + Sync>(
-    rt: &R,
+pub fn result_of(
     alloc: Global,
-    workers: u32,
     emptied: Emptied,
     group: List<Closed>,
 ) -> Result<NodeResult, OutOfMemory>
@@ -121,29 +149,35 @@ pub fn result_of<R: Threads + Sync>(
 {
     core_laws();
     let Emptied { load, exit } = emptied;
-    let after = match exit {
-        Exit::Known(after) => after,
-        Exit::Served(departs) => opened(alloc, &load, group, departs)?,
-    };
-    let kind = &load.plan.net.nodes.get(load.number as usize).kind;
-    let ending = ending_of(
-        rt,
-        alloc,
-        workers,
-        &load.plan.net,
-        load.rows,
-        kind,
-        load.number,
-        load.arrivals,
-        after,
-    )?;
+    let after = after_of(alloc, &load, exit, group)?;
+    let ending = ending_of(load.arrivals, after);
     Ok(NodeResult {
         number: load.number,
         ending,
     })
 }
 
-// What becomes of the arrivals at a station that is scanned, of its last pieces and the departures, which are moved.
+// What becomes of the arrivals at a station, of its last pieces where it has some.
+fn after_of(
+    alloc: Global,
+    load: &Load,
+    exit: Exit,
+    group: List<Closed>,
+) -> Result<After, OutOfMemory>
+    requires loaded { IsLoaded load.now.plan.now load.now.rows.now load.now.number load.now.arrivals load.now.scan }
+    requires exit { IsExit load.now.plan.now load.now.rows.now load.now.number load.now.arrivals exit }
+    requires group { AreAll (IsClosed load.now.plan.now load.now.rows.now load.now.number load.now.arrivals exit) (closings_of exit) group }
+    ensures { IfOk result (λ after. IsAfterAt load.now.plan.now load.now.rows.now load.now.number load.now.arrivals after) }
+{
+    match exit {
+        Exit::Known(after) => Ok(after),
+        Exit::Served(departs) => opened(alloc, load, group, departs),
+        Exit::Sorted(overtaken) => found_last(alloc, load, group, overtaken),
+    }
+}
+
+// What becomes of the arrivals at a station whose jobs leave in their order, of its last pieces and the
+// departures, which are moved.
 fn opened(
     alloc: Global,
     load: &Load,
@@ -155,6 +189,7 @@ fn opened(
     requires group { AreAll (IsShut load.now.plan.now load.now.rows.now load.now.number load.now.arrivals departs) 3 group }
     ensures { IfOk result (λ after. IsAfterAt load.now.plan.now load.now.rows.now load.now.number load.now.arrivals after) }
 {
+    sequences_go_by_fates();
     fates_are_in_time();
     let mut group = group.into_vec();
     let job = match group.pop() {
@@ -173,4 +208,29 @@ fn opened(
         Some(Closed::Over(past)) => Ok(After::Missed(past)),
         _ => unreachable!(),
     }
+}
+
+// What becomes of the arrivals at a delay, of its one last piece.
+fn found_last(
+    alloc: Global,
+    load: &Load,
+    group: List<Closed>,
+    overtaken: Overtaken,
+) -> Result<After, OutOfMemory>
+    requires overtaken { IsOvertaken load.now.plan.now load.now.rows.now load.now.number load.now.arrivals overtaken }
+    requires group { AreAll (λ b closed. IsFound load.now.arrivals overtaken closed) 1 group }
+    ensures { IfOk result (λ after. IsAfterAt load.now.plan.now load.now.rows.now load.now.number load.now.arrivals after) }
+{
+    let mut group = group.into_vec();
+    let found = match group.pop() {
+        Some(Closed::Found(found)) => found,
+        _ => unreachable!(),
+    };
+    let Overtaken { fates, job, ahead } = overtaken;
+    let leaving = Stream {
+        job,
+        time: ahead.leaving,
+    };
+    let streams = only(alloc, leaving)?;
+    Ok(After::Seen(fates, found, streams))
 }

@@ -1,14 +1,14 @@
 // The first pieces of the stations that are ready: summaries of blocks, and whole stations.
 ghost use Rattle.std.specs.Prelude.{◌≡◌, ◌<◌, ◌≤◌, ℕ, List as Items, length, IfOk, slice_index_or};
 ghost use Rattle.mq_crew.specs.Crew.{AreAll};
-ghost use Rattle.mq_engine.specs.Loads.{IsAfterAt, IsLoaded, IsPart, IsReadyLoad, IsStage, IsTandemPart, IsWhole, blocks_of};
+ghost use Rattle.mq_engine.specs.Loads.{IsLoaded, IsPart, IsReadyLoad, IsStage, IsTandemPart, IsWhole, IsWorkedAt, blocks_of};
 ghost use Rattle.mq_stations.specs.Scans.{IsTandemSum};
 ghost use Rattle.mq_maxplus.specs.declared.mp.Mp.{Mp as TheMp};
 ghost use Rattle.mq_engine.specs.declared.firsts.Part.{Part as ThePart};
 ghost use Rattle.mq_engine.specs.declared.firsts.Part.TheVariants.{Whole};
 
 use crate::loads::{Load, Scan};
-use crate::working::{After, after_of};
+use crate::working::{Worked, work_out};
 use mq_base::{List, OutOfMemory};
 use mq_core::Stream;
 use mq_crew::Pieces;
@@ -20,8 +20,8 @@ use std::alloc::Global;
 /// A first piece of a station.
 #[derive(Drop)]
 pub enum Part {
-    /// All of it.
-    Whole(After),
+    /// What one piece tells of it.
+    Whole(Worked),
     /// What the jobs of a block of a tandem do together, which is large.
     Product(Box<Matrix>),
 }
@@ -29,8 +29,8 @@ pub enum Part {
 /// What is known of a station after its first pieces.
 #[derive(Drop)]
 pub enum Stage {
-    /// All of it.
-    Ended(After),
+    /// What one piece told of it.
+    Ended(Worked),
     /// The latest departures of a tandem before each block.
     Latest(List<Latest>),
     /// Nothing yet: a server and the branches of a fork-join come later.
@@ -67,13 +67,13 @@ impl<'a> Pieces for Load<'a> {
 }
 
 // A station that is not scanned, whole.
-fn whole(alloc: Global, load: &Load) -> Result<After, OutOfMemory>
+fn whole(alloc: Global, load: &Load) -> Result<Worked, OutOfMemory>
     requires loaded { IsLoaded load.now.plan.now load.now.rows.now load.now.number load.now.arrivals load.now.scan }
     requires some { 1 ≤ load.now.block }
-    ensures { IfOk result (λ after. IsAfterAt load.now.plan.now load.now.rows.now load.now.number load.now.arrivals after) }
+    ensures { IfOk result (λ worked. IsWorkedAt load.now.plan.now load.now.rows.now load.now.number load.now.arrivals worked) }
 {
     let kind = &load.plan.net.nodes.get(load.number as usize).kind;
-    after_of(
+    work_out(
         alloc,
         &load.plan.net,
         load.rows,
@@ -123,14 +123,14 @@ fn tandem_sums(
 }
 
 // The one piece of a station that is not scanned.
-fn the_whole(group: List<Part>) -> After
+fn the_whole(group: List<Part>) -> Worked
     requires one { length group ≡ 1 }
     requires whole { (d : ThePart) → IsWhole (slice_index_or group 0 d) }
     ensures { (d : ThePart) → slice_index_or group 0 d ≡ Whole result }
 {
     let mut group = group.into_vec();
     match group.pop() {
-        Some(Part::Whole(after)) => after,
+        Some(Part::Whole(worked)) => worked,
         _ => unreachable!(),
     }
 }

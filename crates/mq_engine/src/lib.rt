@@ -16,6 +16,7 @@ mod firsts;
 mod laws;
 mod loads;
 mod middles;
+mod overtaking;
 mod progress;
 mod ready;
 mod working;

@@ -3,13 +3,14 @@ ghost use Rattle.std.specs.Prelude.{◌≡◌, ◌≤◌, IfOk};
 ghost use Rattle.mq_core.specs.Recurrences.{lindley};
 ghost use Rattle.mq_core.specs.Sequences.{IsSoundLoad};
 ghost use Rattle.mq_crew.specs.Crew.{AreAll};
-ghost use Rattle.mq_engine.specs.Loads.{IsAll, IsApplied, IsExit, IsLatest, IsLoaded, IsReadyMiddle, IsStage, applied_of};
+ghost use Rattle.mq_engine.specs.Loads.{IsAll, IsApplied, IsExit, IsLatest, IsLoaded, IsReadyMiddle, IsStage, IsWorkedAt, applied_of};
 ghost use Rattle.mq_engine.specs.declared.firsts.Stage.TheVariants.{Ended};
 
 use crate::exits::Exit;
 use crate::firsts::Stage;
 use crate::loads::{Load, Scan};
-use crate::working::After;
+use crate::overtaking::left_at;
+use crate::working::Worked;
 use mq_base::{List, OutOfMemory};
 use mq_branches::forkjoin_departures;
 use mq_core::Stream;
@@ -86,7 +87,8 @@ fn server_departures<R: Threads + Sync, G: Gate>(
 }
 
 // What is known of a station when all its jobs have left: of its applied blocks, where it has some. The
-// single pass of a server is made here, and the branches of a fork-join are scanned here.
+// single pass of a server is made here, the branches of a fork-join are scanned here, and the jobs of a
+// delay are put in order.
 pub fn exit_of<R: Threads + Sync, G: Gate>(
     rt: &R,
     alloc: Global,
@@ -105,7 +107,7 @@ pub fn exit_of<R: Threads + Sync, G: Gate>(
     ensures { IfOk result (λ exit. IsExit load.now.plan.now load.now.rows.now load.now.number load.now.arrivals exit) }
 {
     match &load.scan {
-        Scan::Unscanned => Ok(Exit::Known(the_end(stage))),
+        Scan::Unscanned => left_by(rt, alloc, workers, load, the_end(stage)),
         Scan::OfServer(demands) => {
             let departs = server_departures(
                 rt,
@@ -129,13 +131,31 @@ pub fn exit_of<R: Threads + Sync, G: Gate>(
     }
 }
 
-// What became of the arrivals at a station that is not scanned.
-fn the_end(stage: Stage) -> After
+// What is known of a station that is not scanned.
+fn left_by<R: Threads + Sync>(
+    rt: &R,
+    alloc: Global,
+    workers: u32,
+    load: &Load,
+    worked: Worked,
+) -> Result<Exit, OutOfMemory>
+    requires loaded { IsLoaded load.now.plan.now load.now.rows.now load.now.number load.now.arrivals load.now.scan }
+    requires worked { IsWorkedAt load.now.plan.now load.now.rows.now load.now.number load.now.arrivals worked }
+    ensures { IfOk result (λ exit. IsExit load.now.plan.now load.now.rows.now load.now.number load.now.arrivals exit) }
+{
+    match worked {
+        Worked::Finished(after) => Ok(Exit::Known(after)),
+        Worked::Departed(departs) => left_at(rt, alloc, workers, load, departs),
+    }
+}
+
+// What one piece told of a station that is not scanned.
+fn the_end(stage: Stage) -> Worked
     requires { IsAll stage }
     ensures { stage ≡ Ended result }
 {
     match stage {
-        Stage::Ended(after) => after,
+        Stage::Ended(worked) => worked,
         Stage::Latest(_carries) => unreachable!(),
         Stage::Unbegun => unreachable!(),
     }

@@ -20,9 +20,10 @@ use std::alloc::Global;
 use std::thread::Threads;
 
 // What the nodes that are ready give, in four lists of pieces: what comes to each; the summaries
-// of the stations that are scanned, and the others whole; the applied blocks; and of the scanned ones the
-// fates, how many each visit found, and the jobs that leave. Before the last list each server has its
-// single pass, one after another, and each fork-join lists of its own.
+// of the stations that are scanned, and the others whole; the applied blocks; and where the jobs leave in
+// their order the fates, how many each visit found, and the jobs, at a delay how many each found. Before
+// the last list each server has its single pass, one after another, each fork-join lists of its own, and
+// the jobs of a delay are put in order.
 pub fn results_of<R: Threads + Sync, G: Gate>(
     rt: &R,
     alloc: Global,
@@ -46,7 +47,7 @@ pub fn results_of<R: Threads + Sync, G: Gate>(
     let groups = run_parts(rt, alloc, workers, middles.as_slice(), gate)?;
     let those_emptied = all_emptied(rt, alloc, workers, middles, groups, gate)?;
     let groups = run_parts(rt, alloc, workers, those_emptied.as_slice(), gate)?;
-    ended(rt, alloc, workers, those_emptied, groups)
+    ended(alloc, those_emptied, groups)
 }
 
 // The stations after their first pieces.
@@ -108,10 +109,8 @@ fn all_emptied<'a, R: Threads + Sync, G: Gate>(
 }
 
 // What the stations give, of their last pieces where they have some.
-fn ended<R: Threads + Sync>(
-    rt: &R,
+fn ended(
     alloc: Global,
-    workers: u32,
     those_emptied: List<Emptied>,
     groups: List<List<Closed>>,
 ) -> Result<List<NodeResult>, OutOfMemory>
@@ -127,7 +126,7 @@ fn ended<R: Threads + Sync>(
         let Some(group) = groups.pop() else {
             unreachable!()
         };
-        results.push(result_of(rt, alloc, workers, emptied, group)?)?;
+        results.push(result_of(alloc, emptied, group)?)?;
     }
     Ok(results)
 }

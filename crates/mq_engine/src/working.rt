@@ -1,26 +1,23 @@
 // How a node is worked out, from its arrivals to its visits and what leaves it.
-ghost use Rattle.std.specs.Prelude.{◌≡◌, ◌≤◌, All, length, map, IfOk};
-ghost use Rattle.mq_core.specs.Came.{came_in};
-ghost use Rattle.mq_core.specs.Sequences.{IsStream, sequence_fates, stream_in_order};
+ghost use Rattle.std.specs.Prelude.{◌≡◌, ◌≤◌, ℕ, length, map, IfOk};
+ghost use Rattle.mq_core.specs.Sequences.{IsStream};
 ghost use Rattle.mq_core.specs.OnceOut.{founds_of};
-ghost use Rattle.mq_core.specs.Streams.{by_first, pairs_of};
 ghost use Rattle.mq_core.specs.Laws.{Rises};
-ghost use Rattle.mq_core.specs.Sound.{outputs_in};
 ghost use Rattle.mq_core.specs.declared.model.Fate.TheVariants.{Departs};
-ghost use Rattle.mq_engine.specs.Loads.{IsAfter};
+ghost use Rattle.mq_core.specs.declared.model.Kind.{Kind as TheKind};
+ghost use Rattle.mq_core.specs.declared.model.Network.{Network as TheNetwork};
+ghost use Rattle.mq_core.specs.declared.model.Rows.{Rows as TheRows};
+ghost use Rattle.mq_engine.specs.Loads.{IsAfter, IsWorked};
 ghost use Rattle.mq_engine.specs.Progress.{IsEnding};
-ghost use Rattle.mq_stations.specs.Leaving.{IsLeaving, IsLoad};
+ghost use Rattle.mq_stations.specs.Leaving.{IsLeaving, IsLoad, KeepsOrder};
 
 use mq_base::{List, OutOfMemory};
 use mq_core::{
     Fate, Kind, Network, Rows, Stream, Visits, fates_are_in_time, sequences_go_by_fates,
 };
-use mq_delay::delay_leaving;
-use mq_merge::by_time;
-use mq_stations::{Outflow, PastFault, first_late, leaving, only};
+use mq_stations::{Left, Outflow, PastFault, first_late, leaving};
 use mq_stats::{found, found_piece_in_order};
 use std::alloc::Global;
-use std::thread::Threads;
 
 /// A node that was worked out: what it gives.
 #[derive(Drop)]
@@ -42,15 +39,24 @@ pub enum Ending {
 /// What becomes of the arrivals at a node.
 #[derive(Drop)]
 pub enum After {
-    /// Their fates, how many each found, and what leaves by each output, by position: none departs
-    /// after the bound.
+    /// Their fates, how many each found, and what leaves by each output, in emission order: none
+    /// departs after the bound.
     Seen(List<Fate>, List<u32>, List<Stream>),
     /// The first that departs after the bound.
     Missed(PastFault),
 }
 
-// What becomes of the arrivals at a node of this kind.
-pub fn after_of(
+/// What one piece tells of a station that is not scanned.
+#[derive(Drop)]
+pub enum Worked {
+    /// What becomes of its arrivals.
+    Finished(After),
+    /// When its jobs depart, by position: none is lost.
+    Departed(List<u64>),
+}
+
+// What one piece tells of a node of this kind, given its arrivals.
+pub fn work_out(
     alloc: Global,
     net: &Network,
     rows: &Rows,
@@ -58,16 +64,18 @@ pub fn after_of(
     kind: &Kind,
     arrivals: &Stream,
     block: u32,
-) -> Result<After, OutOfMemory>
+) -> Result<Worked, OutOfMemory>
     requires load { IsLoad rows.now kind.now arrivals.now }
-    requires block { 1 ≤ block }
-    ensures { IfOk result (λ after. IsAfter net.now rows.now number kind.now arrivals.now after) }
+    requires some { 1 ≤ block }
+    ensures { IfOk result (λ worked. IsWorked net.now rows.now number kind.now arrivals.now worked) }
 {
-    let leaving = leaving(alloc, rows, kind, arrivals, block)?;
-    seen(alloc, net, rows, number, kind, arrivals, leaving)
+    match leaving(alloc, rows, kind, arrivals, block)? {
+        Left::Departures(departs) => Ok(Worked::Departed(departs)),
+        Left::Streams(outflow) => seen(alloc, net, rows, number, kind, arrivals, outflow),
+    }
 }
 
-// The same, where it is known what leaves.
+// What becomes of the arrivals at a node of this kind, of what leaves it in their order.
 fn seen(
     alloc: Global,
     net: &Network,
@@ -76,94 +84,45 @@ fn seen(
     kind: &Kind,
     arrivals: &Stream,
     leaving: Outflow,
-) -> Result<After, OutOfMemory>
+) -> Result<Worked, OutOfMemory>
     requires load { IsLoad rows.now kind.now arrivals.now }
     requires leaving { IsLeaving rows.now kind.now arrivals.now leaving.fates leaving.streams }
-    ensures { IfOk result (λ after. IsAfter net.now rows.now number kind.now arrivals.now after) }
+    requires order { KeepsOrder kind.now }
+    ensures { IfOk result (λ worked. IsWorked net.now rows.now number kind.now arrivals.now worked) }
 {
     fates_are_in_time();
-    if let Some(past) = first_late(net.bound, number, &leaving.fates) {
-        return Ok(After::Missed(past));
+    sequences_go_by_fates();
+    match first_late(net.bound, number, &leaving.fates) {
+        Some(past) => Ok(Worked::Finished(After::Missed(past))),
+        None => {
+            let found = found_at(alloc, rows, kind, arrivals, &leaving)?;
+            let after = After::Seen(leaving.fates, found, leaving.streams);
+            Ok(Worked::Finished(after))
+        }
     }
-    let found = found_at(alloc, rows, kind, arrivals, &leaving)?;
-    Ok(After::Seen(leaving.fates, found, leaving.streams))
 }
 
 // How a node ends to which these came.
-pub fn ending_of<R: Threads + Sync>(
-    rt: &R,
-    alloc: Global,
-    workers: u32,
-    net: &Network,
-    rows: &Rows,
-    kind: &Kind,
-    number: u32,
-    arrivals: Stream,
-    after: After,
-) -> Result<Ending, OutOfMemory>
-    requires even { length arrivals.job ≡ length arrivals.time }
-    requires after { IsAfter net.now rows.now number kind.now arrivals after }
-    ensures { IfOk result (λ ending. IsEnding net.now rows.now number kind.now arrivals ending) }
+pub fn ending_of(arrivals: Stream, after: After) -> Ending
+    ensures { (net : TheNetwork) (rows : TheRows) (v : ℕ) (kind : TheKind) → IsAfter net rows v kind arrivals after → IsEnding net rows v kind arrivals result }
 {
     sequences_go_by_fates();
-    fates_are_in_time();
     match after {
         After::Seen(fate, found, streams) => {
-            let streams = in_order(rt, alloc, workers, kind, streams)?;
             let visits = Visits {
                 job: arrivals.job,
                 arrive: arrivals.time,
                 found,
                 fate,
             };
-            Ok(Ending::OnTime(visits, streams))
+            Ending::OnTime(visits, streams)
         }
-        After::Missed(past) => Ok(Ending::TooLate(past)),
+        After::Missed(past) => Ending::TooLate(past),
     }
 }
 
-// What leaves a node of this kind, in emission order: the jobs of a delay are sorted by
-// departure, and those of the others keep their order.
-fn in_order<R: Threads + Sync>(
-    rt: &R,
-    alloc: Global,
-    workers: u32,
-    kind: &Kind,
-    streams: List<Stream>,
-) -> Result<List<Stream>, OutOfMemory>
-    requires count { length streams ≡ outputs_in kind.now }
-    requires even { All (λ stream. length stream.job ≡ length stream.time) streams }
-    ensures { IfOk result (λ ordered. ordered ≡ map (stream_in_order kind.now) streams) }
-{
-    match kind {
-        Kind::Delay(_) => {
-            let left = streams.get(0);
-            let leaving = by_departure(rt, alloc, workers, left)?;
-            only(alloc, leaving)
-        }
-        _ => Ok(streams),
-    }
-}
-
-// What leaves a delay, by departure. One worker makes no thread.
-fn by_departure<R: Threads + Sync>(
-    rt: &R,
-    alloc: Global,
-    workers: u32,
-    left: &Stream,
-) -> Result<Stream, OutOfMemory>
-    requires { length left.now.job ≡ length left.now.time }
-    ensures stream { IfOk result (λ leaving. IsStream leaving) }
-    ensures items { IfOk result (λ leaving. pairs_of leaving ≡ by_first (pairs_of left.now)) }
-{
-    if workers == 1 {
-        return by_time(alloc, &left.job, &left.time);
-    }
-    delay_leaving(rt, alloc, &left.job, &left.time)
-}
-
-// How many jobs each visit to a node of this kind found. A source and a split hold none.
-pub fn found_at(
+// How many jobs each visit to a node of this kind found. A split holds none.
+fn found_at(
     alloc: Global,
     rows: &Rows,
     kind: &Kind,
@@ -177,11 +136,8 @@ pub fn found_at(
     sequences_go_by_fates();
     fates_are_in_time();
     match kind {
-        Kind::Source | Kind::Split(_) => nobody(alloc, &arrivals.time),
-        Kind::Server(_) | Kind::Tandem(_) | Kind::ForkJoin(_) => {
-            found_by_position(alloc, arrivals, &leaving.streams.get(0).time)
-        }
-        Kind::Delay(_) | Kind::Loss { .. } => found(alloc, &arrivals.time, &leaving.fates),
+        Kind::Split(_) => nobody(alloc, &arrivals.time),
+        _ => found(alloc, &arrivals.time, &leaving.fates),
     }
 }
 
@@ -203,7 +159,7 @@ pub fn found_by_position(
 }
 
 // 0 for each of these visits.
-fn nobody(alloc: Global, arrive: &List<u64>) -> Result<List<u32>, OutOfMemory>
+pub fn nobody(alloc: Global, arrive: &List<u64>) -> Result<List<u32>, OutOfMemory>
     ensures { IfOk result (λ found. found ≡ map (λ _. 0) arrive.now) }
 {
     let mut found = Vec::with_capacity(alloc, arrive.len())?;

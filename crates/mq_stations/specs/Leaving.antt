@@ -1,5 +1,5 @@
 -- What comes to a station and what leaves it, in sequences alone.
-use Rattle.std.specs.Prelude.{◌≡◌, ◌<◌, ◌≤◌, ◌^◌, ℕ, IsTrue, List, [], ◌∷◌, length, map, Some, slice_get}
+use Rattle.std.specs.Prelude.{◌≡◌, ◌<◌, ◌≤◌, ◌^◌, ℕ, IsTrue, List, length, map, Some, slice_get}
 use Rattle.std.specs.List.{AllByRecursion}
 use Rattle.mq_core.specs.Asked.{HasDemands}
 use Rattle.mq_core.specs.Came.{came_in}
@@ -16,6 +16,8 @@ use Rattle.mq_core.specs.declared.model.Kind.{Kind}
 use Rattle.mq_core.specs.declared.model.Route.{Route}
 use Rattle.mq_core.specs.declared.model.Rows.{Rows}
 use Rattle.mq_core.specs.declared.model.Stream.{Stream}
+use Rattle.mq_stations.specs.declared.outflow.Left.{Left}
+use Rattle.mq_stations.specs.declared.outflow.Left.TheVariants.{Departures, Streams}
 
 -- a stream whose times are at most 2^60
 pub record IsEarlyStream (stream : Stream) : Type 0 where
@@ -63,14 +65,21 @@ pub record IsLeaving (rows : Rows) (kind : Kind) (arrivals : Stream) (fates : Li
   pub leave : fates ≡ sequence_fates rows kind (came_in arrivals)
   pub outflow : AreLeft rows kind arrivals streams
 
--- what leaves by one output, where these jobs depart at these times and keep their order
-pub record LeaveByPosition (jobs departs : List ℕ) (fates : List Fate) (streams : List Stream) : Type 0 where
-  pub fate : fates ≡ map (λ time. Departs time) departs
-  pub stream : streams ≡ record { job = jobs; time = departs } ∷ []
+-- jobs that leave a node of this kind keep their order
+abbrev pub KeepsOrder : Kind → Type 0
+KeepsOrder kind = (stream : Stream) → stream_in_order kind stream ≡ stream
 
--- the jobs of a station of this kind depart at these times, in their order, by its only output
-pub record AreServed (rows : Rows) (kind : Kind) (arrivals : Stream) (departs : List ℕ) : Type 0 where
+-- the jobs of a station of this kind depart at these times, by position, by its only output
+pub record AreDepartures (rows : Rows) (kind : Kind) (arrivals : Stream) (departs : List ℕ) : Type 0 where
   pub one : outputs_in kind ≡ 1
-  pub order : (stream : Stream) → stream_in_order kind stream ≡ stream
   pub outs : sequence_outs rows kind (came_in arrivals) ≡ map (λ _. 0) arrivals.job
   pub fates : sequence_fates rows kind (came_in arrivals) ≡ map (λ time. Departs time) departs
+
+-- the same, where they keep their order
+abbrev pub AreServed : Rows → Kind → Stream → List ℕ → Type 0
+AreServed rows kind arrivals departs = AreDepartures rows kind arrivals departs × KeepsOrder kind
+
+-- what leaves a station of this kind: when its jobs depart; or the fate of each and what leaves by each output, in their order
+abbrev pub IsLeft : Rows → Kind → Stream → Left → Type 0
+IsLeft rows kind arrivals (Departures departs) = AreDepartures rows kind arrivals departs
+IsLeft rows kind arrivals (Streams outflow) = IsLeaving rows kind arrivals outflow.fates outflow.streams × KeepsOrder kind

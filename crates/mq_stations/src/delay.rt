@@ -1,26 +1,24 @@
 // A delay.
 ghost use Rattle.std.specs.Prelude.{IfOk};
 ghost use Rattle.mq_core.specs.declared.model.Kind.TheVariants.{Delay};
-ghost use Rattle.mq_stations.specs.Leaving.{IsLeaving, IsLoad};
+ghost use Rattle.mq_stations.specs.Leaving.{AreDepartures, IsLoad};
 
-use crate::outflow::{Outflow, by_position, demands_of};
-use mq_base::OutOfMemory;
+use crate::outflow::demands_of;
+use mq_base::{List, OutOfMemory};
 use mq_core::{Demand, Rows, Stream};
 use mq_delay::delay_departures;
 use std::alloc::Global;
 
-// What leaves a delay, by position.
-pub fn delay_outflow(
+// When all jobs depart from a delay, by position.
+pub fn delay_whole(
     alloc: Global,
     rows: &Rows,
     demand: &Demand,
     arrivals: &Stream,
-) -> Result<Outflow, OutOfMemory>
+) -> Result<List<u64>, OutOfMemory>
     requires { IsLoad rows.now (Delay demand.now) arrivals.now }
-    ensures { IfOk result (λ leaving. IsLeaving rows.now (Delay demand.now) arrivals.now leaving.fates leaving.streams) }
+    ensures { IfOk result (λ departs. AreDepartures rows.now (Delay demand.now) arrivals.now departs) }
 {
     let demands = demands_of(alloc, rows, demand, &arrivals.job)?;
-    let departs = delay_departures(alloc, arrivals, &demands)?;
-    drop(demands);
-    by_position(alloc, arrivals, departs)
+    delay_departures(alloc, arrivals, &demands)
 }

@@ -4,11 +4,11 @@ ghost use Rattle.std.specs.List.{AllByRecursion, flat_map};
 ghost use Rattle.mq_core.specs.Kinds.ForkJoin.{branch_demands as demands_by_branch};
 ghost use Rattle.mq_core.specs.declared.model.Kind.TheVariants.{ForkJoin};
 ghost use Rattle.mq_stations.specs.Scans.{IsForkJoinScan};
-ghost use Rattle.mq_stations.specs.Leaving.{AreAsked, IsLeaving, IsLoad};
+ghost use Rattle.mq_stations.specs.Leaving.{AreAsked, AreServed, IsLoad};
 
-use crate::outflow::{Outflow, all_demands_of, by_position};
+use crate::outflow::all_demands_of;
 use mq_base::{List, OutOfMemory};
-use mq_core::{Demand, Rows, Stream, fates_are_in_time};
+use mq_core::{Demand, Rows, Stream};
 use mq_forkjoin::fork_departures;
 use mq_scan::{Blocks, block_size, cut};
 use std::alloc::Global;
@@ -22,23 +22,20 @@ pub struct ForkJoinScan {
     pub blocks: Blocks,
 }
 
-// What leaves a fork-join.
-pub fn forkjoin_outflow(
+// When all jobs depart from a fork-join that is worked out whole.
+pub fn forkjoin_whole(
     alloc: Global,
     rows: &Rows,
     branches: &List<List<Demand>>,
     arrivals: &Stream,
-) -> Result<Outflow, OutOfMemory>
+) -> Result<List<u64>, OutOfMemory>
     requires { IsLoad rows.now (ForkJoin branches.now) arrivals.now }
-    ensures { IfOk result (λ leaving. IsLeaving rows.now (ForkJoin branches.now) arrivals.now leaving.fates leaving.streams) }
+    ensures { IfOk result (λ departs. AreServed rows.now (ForkJoin branches.now) arrivals.now departs) }
 {
-    fates_are_in_time();
     let asked = branch_demands(alloc, branches)?;
     let demands = all_demands_of(alloc, rows, &asked, &arrivals.job)?;
     let servers = branch_servers(alloc, branches)?;
-    let departs = fork_departures(alloc, arrivals, &demands, &servers)?;
-    drop(demands);
-    by_position(alloc, arrivals, departs)
+    fork_departures(alloc, arrivals, &demands, &servers)
 }
 
 /// How a fork-join is scanned: by blocks of at least so many jobs, which is 1 at least, at most 16,384 of

@@ -2,7 +2,7 @@
 #![tactic(auto)]
 
 ghost use Rattle.std.specs.Prelude.{◌≤◌, IfOk};
-ghost use Rattle.mq_stations.specs.Leaving.{IsLeaving, IsLoad};
+ghost use Rattle.mq_stations.specs.Leaving.{IsLeft, IsLoad};
 
 mod blocks;
 mod delay;
@@ -16,26 +16,26 @@ mod split;
 mod tandem;
 
 pub use blocks::{applied, before_of, joined, sum_of};
-use delay::delay_outflow;
-use forkjoin::forkjoin_outflow;
+use delay::delay_whole;
+use forkjoin::forkjoin_whole;
 pub use forkjoin::{ForkJoinScan, forkjoin_scan};
-pub use late::{PastFault, first_late};
+pub use late::{PastFault, first_late, first_late_in_turn, first_late_overtaken};
 use loss::loss_outflow;
 use mq_base::OutOfMemory;
 use mq_core::{Kind, Rows, Stream};
-pub use outflow::{Outflow, demands_of, fates_of, only};
-use server::server_outflow;
-use source::source_outflow;
+pub use outflow::{Left, Outflow, demands_of, fates_of, only};
+use server::server_whole;
+use source::source_departures;
 use split::split_outflow;
 use std::alloc::Global;
-use tandem::tandem_outflow;
+use tandem::tandem_whole;
 pub use tandem::{
     TandemScan, tandem_carries, tandem_joined, tandem_scan, tandem_sum, tandem_times,
 };
 
-/// What leaves a station of this kind, given its arrivals, which it can work on: their fates, and by
-/// each output the jobs and the times at which they leave, in ticks, by position. At a delay these are
-/// not in emission order yet.
+/// What leaves a station of this kind, given its arrivals, which it can work on: where no job is lost and
+/// there is one output, when its jobs depart; else their fates, and by each output the jobs and the times
+/// at which they leave, in ticks, by position.
 ///
 /// The first window of a loss station is a block, of at least one job. It refuses for want of memory
 /// alone.
@@ -46,20 +46,36 @@ pub fn leaving(
     kind: &Kind,
     arrivals: &Stream,
     block: u32,
-) -> Result<Outflow, OutOfMemory>
+) -> Result<Left, OutOfMemory>
     requires load { IsLoad rows.now kind.now arrivals.now }
     requires some { 1 ≤ block }
-    ensures { IfOk result (λ leaving. IsLeaving rows.now kind.now arrivals.now leaving.fates leaving.streams) }
+    ensures { IfOk result (λ left. IsLeft rows.now kind.now arrivals.now left) }
 {
     match kind {
-        Kind::Source => source_outflow(alloc, arrivals),
-        Kind::Server(demand) => server_outflow(alloc, rows, demand, arrivals),
-        Kind::Delay(demand) => delay_outflow(alloc, rows, demand, arrivals),
-        Kind::Loss { places, demand } => {
-            loss_outflow(alloc, rows, *places, demand, arrivals, block)
+        Kind::Source => Ok(Left::Departures(source_departures(alloc, arrivals)?)),
+        Kind::Server(demand) => {
+            let departs = server_whole(alloc, rows, demand, arrivals)?;
+            Ok(Left::Departures(departs))
         }
-        Kind::Tandem(stages) => tandem_outflow(alloc, rows, stages, arrivals),
-        Kind::ForkJoin(branches) => forkjoin_outflow(alloc, rows, branches, arrivals),
-        Kind::Split(route) => split_outflow(alloc, rows, route, arrivals),
+        Kind::Tandem(stages) => {
+            let departs = tandem_whole(alloc, rows, stages, arrivals)?;
+            Ok(Left::Departures(departs))
+        }
+        Kind::ForkJoin(branches) => {
+            let departs = forkjoin_whole(alloc, rows, branches, arrivals)?;
+            Ok(Left::Departures(departs))
+        }
+        Kind::Delay(demand) => {
+            let departs = delay_whole(alloc, rows, demand, arrivals)?;
+            Ok(Left::Departures(departs))
+        }
+        Kind::Loss { places, demand } => {
+            let outflow = loss_outflow(alloc, rows, *places, demand, arrivals, block)?;
+            Ok(Left::Streams(outflow))
+        }
+        Kind::Split(route) => {
+            let outflow = split_outflow(alloc, rows, route, arrivals)?;
+            Ok(Left::Streams(outflow))
+        }
     }
 }

@@ -2,13 +2,23 @@
 ghost use Rattle.std.specs.Prelude.{◌≡◌, ◌∷◌, [], All, length, map, IfOk};
 ghost use Rattle.mq_core.specs.Handling.{demand_of_job};
 ghost use Rattle.mq_core.specs.declared.model.Fate.TheVariants.{Departs};
-ghost use Rattle.mq_stations.specs.Leaving.{AreAsked, LeaveByPosition};
+ghost use Rattle.mq_stations.specs.Leaving.{AreAsked};
 
 use mq_base::{List, OutOfMemory};
 use mq_core::{Demand, Fate, Rows, Stream, demand_of};
 use std::alloc::Global;
 
 /// What leaves a station.
+#[derive(Drop)]
+pub enum Left {
+    /// When its jobs depart, in ticks, by position: none is lost, and all leave by the only output. At a
+    /// delay they may overtake one another.
+    Departures(List<u64>),
+    /// The fates of its jobs and what leaves by each output, where they keep their order.
+    Streams(Outflow),
+}
+
+/// The fates of the jobs that come to a station, and what leaves it.
 #[derive(Drop)]
 pub struct Outflow {
     /// The fate of each arrival, by position.
@@ -51,20 +61,6 @@ pub fn all_demands_of(
         demands.push(demands_of(alloc, rows, asked.get(at), jobs)?)?;
     }
     Ok(demands)
-}
-
-// What leaves a station with one output, which the arrivals leave at these times, in their order.
-pub fn by_position(
-    alloc: Global,
-    arrivals: &Stream,
-    departs: List<u64>,
-) -> Result<Outflow, OutOfMemory>
-    ensures { IfOk result (λ leaving. LeaveByPosition arrivals.now.job departs leaving.fates leaving.streams) }
-{
-    let fates = fates_of(alloc, &departs)?;
-    let job = List::from_vec(Vec::from_slice(alloc, arrivals.job.as_slice())?);
-    let streams = only(alloc, Stream { job, time: departs })?;
-    Ok(Outflow { fates, streams })
 }
 
 /// The fates of visits that depart at these times, in ticks. It refuses for want of memory alone.

@@ -1,26 +1,24 @@
 // A server, whole.
 ghost use Rattle.std.specs.Prelude.{IfOk};
 ghost use Rattle.mq_core.specs.declared.model.Kind.TheVariants.{Server};
-ghost use Rattle.mq_stations.specs.Leaving.{IsLeaving, IsLoad};
+ghost use Rattle.mq_stations.specs.Leaving.{AreServed, IsLoad};
 
-use crate::outflow::{Outflow, by_position, demands_of};
-use mq_base::OutOfMemory;
+use crate::outflow::demands_of;
+use mq_base::{List, OutOfMemory};
 use mq_core::{Demand, Rows, Stream};
 use mq_server::departures;
 use std::alloc::Global;
 
-// What leaves a server.
-pub fn server_outflow(
+// When all jobs depart from a server that is worked out whole.
+pub fn server_whole(
     alloc: Global,
     rows: &Rows,
     demand: &Demand,
     arrivals: &Stream,
-) -> Result<Outflow, OutOfMemory>
+) -> Result<List<u64>, OutOfMemory>
     requires { IsLoad rows.now (Server demand.now) arrivals.now }
-    ensures { IfOk result (λ leaving. IsLeaving rows.now (Server demand.now) arrivals.now leaving.fates leaving.streams) }
+    ensures { IfOk result (λ departs. AreServed rows.now (Server demand.now) arrivals.now departs) }
 {
     let demands = demands_of(alloc, rows, demand, &arrivals.job)?;
-    let departs = departures(alloc, arrivals, &demands)?;
-    drop(demands);
-    by_position(alloc, arrivals, departs)
+    departures(alloc, arrivals, &demands)
 }

@@ -3,14 +3,14 @@ ghost use Rattle.std.specs.Prelude.{◌≡◌, ◌<◌, ◌≤◌, ◌+◌, ◌*
 ghost use Rattle.mq_core.specs.Recurrences.{tandem_departs};
 ghost use Rattle.mq_core.specs.declared.model.Kind.TheVariants.{Tandem};
 ghost use Rattle.mq_stations.specs.Scans.{AreTandemCarries, AreTandemTimes, IsTandemScan, IsTandemSum};
-ghost use Rattle.mq_stations.specs.Leaving.{IsLeaving, IsLoad};
+ghost use Rattle.mq_stations.specs.Leaving.{AreServed, IsLoad};
 ghost use Rattle.mq_maxplus.specs.declared.mp.Mp.{Mp as TheMp};
 ghost use Rattle.mq_tandem.specs.Rows.{IsTandemLoad};
 
 use crate::blocks::{applied, before_of, joined, sum_of};
-use crate::outflow::{Outflow, all_demands_of, by_position};
+use crate::outflow::all_demands_of;
 use mq_base::{List, OutOfMemory};
-use mq_core::{Demand, Rows, Stage, Stream, fates_are_in_time};
+use mq_core::{Demand, Rows, Stage, Stream};
 use mq_maxplus::Matrix;
 use mq_scan::{Blocks, cut};
 use mq_tandem::{Latest, TandemStep, carries_hold_departures, tandem_departures};
@@ -27,23 +27,20 @@ pub struct TandemScan {
     pub blocks: Blocks,
 }
 
-// What leaves a tandem.
-pub fn tandem_outflow(
+// When all jobs depart from a tandem that is worked out whole.
+pub fn tandem_whole(
     alloc: Global,
     rows: &Rows,
     stages: &List<Stage>,
     arrivals: &Stream,
-) -> Result<Outflow, OutOfMemory>
+) -> Result<List<u64>, OutOfMemory>
     requires { IsLoad rows.now (Tandem stages.now) arrivals.now }
-    ensures { IfOk result (λ leaving. IsLeaving rows.now (Tandem stages.now) arrivals.now leaving.fates leaving.streams) }
+    ensures { IfOk result (λ departs. AreServed rows.now (Tandem stages.now) arrivals.now departs) }
 {
-    fates_are_in_time();
     let asked = stage_demands(alloc, stages)?;
     let demands = all_demands_of(alloc, rows, &asked, &arrivals.job)?;
     let places = stage_places(alloc, stages)?;
-    let departs = tandem_departures(alloc, arrivals, &demands, &places)?;
-    drop(demands);
-    by_position(alloc, arrivals, departs)
+    tandem_departures(alloc, arrivals, &demands, &places)
 }
 
 /// How a tandem is scanned: by blocks of at least so many jobs, which is 1 at least, at most 1,024 of them.

@@ -31,7 +31,7 @@ use Rattle.mq_core.specs.declared.model.Rows.{Rows}
 use Rattle.mq_core.specs.declared.model.Stage.{Stage}
 use Rattle.mq_core.specs.declared.model.Stream.{Stream}
 use Rattle.mq_split.specs.Outs.{AreParts, HasOutputs, outs_from}
-use Rattle.mq_stations.specs.Leaving.{AreServed, AreAsked, AreLeft, IsLeaving, IsLoad, LeaveByPosition, left_by}
+use Rattle.mq_stations.specs.Leaving.{AreDepartures, AreServed, AreAsked, AreLeft, IsLeaving, IsLoad, left_by}
 use Rattle.mq_stations.proofs.lemmas.Lists.{Each-get_or}
 
 -- a departure of each time is at that time
@@ -85,12 +85,6 @@ split-streams rows route arrivals values streams s e h =
     part : (out : ℕ) → record { job = picked out (outs_from route 0 values) arrivals.job; time = picked out (outs_from route 0 values) arrivals.time } ≡ left_by rows (Split route) arrivals out
     part out = λ k. record { job = picked out (outs k) arrivals.job; time = picked out (outs k) (sym (times-back arrivals.time arrivals.time refl) k) }
 
--- the recurrence of a server
-pub lindley-length : (last : ℕ) (arrives demands : List ℕ) → length demands ≡ length arrives → length (lindley last arrives demands) ≡ length arrives
-lindley-length last [] demands e = refl
-lindley-length last (a ∷ rest) [] e = absurd (omega arith)
-lindley-length last (a ∷ rest) (d ∷ ds) e = ap suc (lindley-length (max a last + d) rest ds (omega arith))
-
 -- a station can work on what comes to it
 small-demands : (f : ℕ → ℕ) (jobs : List ℕ) → ((k job : ℕ) → slice_get jobs k ≡ Some job → f job ≤ 2 ^ 36) → Each (λ demand. demand ≤ 2 ^ 36) (map f jobs)
 small-demands f [] h = tt
@@ -137,100 +131,49 @@ load-sound rows kind demand arrivals demands h told e =
       small = subst (All (λ d. d ≤ 2 ^ 36)) (sym e) (λ k d l. Each-get_or (λ d. d ≤ 2 ^ 36) _ (small-demands (demand_of_job rows demand) arrivals.job (λ j job g. (told j job g).1)) k d l);
     }
 
--- Kinds with one output.
-pub passes-on : (rows : Rows) (arrivals : Stream) (fates : List Fate) (departs : List ℕ) (streams : List Stream) → IsStream arrivals → departs ≡ arrivals.time → LeaveByPosition arrivals.job departs fates streams → IsLeaving rows Source arrivals fates streams
-passes-on rows arrivals fates departs streams s d in_order =
-    record {
-      leave = in_order.fate ∙ ap (map (λ time. Departs time)) d;
-      outflow = one-stream rows Source arrivals departs streams s.even refl refl (ap (map (λ time. Departs time)) (sym d)) (ap length d ∙ sym s.even) in_order.stream;
-    }
-
-pub serves : (rows : Rows) (demand : Demand) (arrivals : Stream) (fates : List Fate) (demands departs : List ℕ) (streams : List Stream) → IsStream arrivals → demands ≡ map (demand_of_job rows demand) arrivals.job → departs ≡ lindley 0 arrivals.time demands →
-    LeaveByPosition arrivals.job departs fates streams → IsLeaving rows (Server demand) arrivals fates streams
-serves rows demand arrivals fates demands departs streams s m d in_order =
-    let by : departs ≡ lindley 0 arrivals.time (map (demand_of_job rows demand) arrivals.job) = d ∙ ap (lindley 0 arrivals.time) m in
-    let even : length (map (demand_of_job rows demand) arrivals.job) ≡ length arrivals.time = length-map arrivals.job _ ∙ s.even in
-    record {
-      leave = in_order.fate ∙ ap (map (λ time. Departs time)) by;
-      outflow = one-stream rows (Server demand) arrivals departs streams s.even refl refl (ap (map (λ time. Departs time)) (sym by)) (ap length by ∙ (lindley-length 0 arrivals.time _ even ∙ sym s.even)) in_order.stream;
-    }
-
+-- What leaves a split.
 pub splits : (rows : Rows) (route : Route) (arrivals : Stream) (fates : List Fate) (values : List ℕ) (streams : List Stream) → IsStream arrivals → values ≡ map (route_value rows route) arrivals.job → fates ≡ map (λ time. Departs time) arrivals.time → AreParts route arrivals values streams → IsLeaving rows (Split route) arrivals fates streams
 splits rows route arrivals fates values streams s v f h = record { leave = f; outflow = split-streams rows route arrivals values streams s v h }
 
-delayed-length : (arrives demands : List ℕ) → length demands ≡ length arrives → length (delayed arrives demands) ≡ length arrives
-delayed-length [] demands e = refl
-delayed-length (a ∷ rest) [] e = absurd (omega arith)
-delayed-length (a ∷ rest) (d ∷ ds) e = ap suc (delayed-length rest ds (omega arith))
-
-pub delays : (rows : Rows) (demand : Demand) (arrivals : Stream) (fates : List Fate) (demands departs : List ℕ) (streams : List Stream) → IsStream arrivals → demands ≡ map (demand_of_job rows demand) arrivals.job → departs ≡ delayed arrivals.time demands →
-    LeaveByPosition arrivals.job departs fates streams → IsLeaving rows (Delay demand) arrivals fates streams
-delays rows demand arrivals fates demands departs streams s m d in_order =
-    let by : departs ≡ delayed arrivals.time (map (demand_of_job rows demand) arrivals.job) = d ∙ ap (delayed arrivals.time) m in
-    let even : length (map (demand_of_job rows demand) arrivals.job) ≡ length arrivals.time = length-map arrivals.job _ ∙ s.even in
-    record {
-      leave = in_order.fate ∙ ap (map (λ time. Departs time)) by;
-      outflow = one-stream rows (Delay demand) arrivals departs streams s.even refl refl (ap (map (λ time. Departs time)) (sym by)) (ap length by ∙ (delayed-length arrivals.time _ even ∙ sym s.even)) in_order.stream;
-    }
-
--- Stations whose jobs leave in their order.
+-- Stations whose jobs all depart.
 -- there is one time an arrival
 times-many : FatesAreInTime → (rows : Rows) (kind : Kind) (arrivals : Stream) (times : List ℕ) → length arrivals.job ≡ length arrivals.time → sequence_fates rows kind (came_in arrivals) ≡ map (λ time. Departs time) times → length times ≡ length arrivals.job
 times-many law rows kind arrivals times e f = sym (length-map times (λ time. Departs time)) ∙ (ap length (sym f) ∙ ((law rows kind (came_in arrivals) e).even ∙ sym e))
 
-pub served-left : FatesAreInTime → (rows : Rows) (kind : Kind) (arrivals : Stream) (departs : List ℕ) (streams : List Stream) → length arrivals.job ≡ length arrivals.time → AreServed rows kind arrivals departs → streams ≡ record { job = arrivals.job; time = departs } ∷ [] → AreLeft rows kind arrivals streams
-served-left law rows kind arrivals departs streams even s e = one-stream rows kind arrivals departs streams even s.one s.outs s.fates (times-many law rows kind arrivals departs even s.fates) e
+pub departs-left : FatesAreInTime → (rows : Rows) (kind : Kind) (arrivals : Stream) (departs : List ℕ) (streams : List Stream) → length arrivals.job ≡ length arrivals.time → AreDepartures rows kind arrivals departs → streams ≡ record { job = arrivals.job; time = departs } ∷ [] → AreLeft rows kind arrivals streams
+departs-left law rows kind arrivals departs streams even s e = one-stream rows kind arrivals departs streams even s.one s.outs s.fates (times-many law rows kind arrivals departs even s.fates) e
 
-pub served-leaves : FatesAreInTime → (rows : Rows) (kind : Kind) (arrivals : Stream) (departs : List ℕ) (fates : List Fate) (streams : List Stream) → length arrivals.job ≡ length arrivals.time → AreServed rows kind arrivals departs → LeaveByPosition arrivals.job departs fates streams → IsLeaving rows kind arrivals fates streams
-served-leaves law rows kind arrivals departs fates streams even s in_order = record { leave = in_order.fate ∙ sym s.fates; outflow = served-left law rows kind arrivals departs streams even s in_order.stream }
-
--- their departures are as many as their arrivals, and never fall
-pub served-even : FatesAreInTime → (rows : Rows) (kind : Kind) (arrivals : Stream) (departs : List ℕ) → IsLoad rows kind arrivals → AreServed rows kind arrivals departs → length departs ≡ length arrivals.time
-served-even law rows kind arrivals departs load s = times-many law rows kind arrivals departs load.ordered.ordered.even s.fates ∙ load.ordered.ordered.even
+-- their departures are as many as their arrivals
+pub departs-even : FatesAreInTime → (rows : Rows) (kind : Kind) (arrivals : Stream) (departs : List ℕ) → IsLoad rows kind arrivals → AreDepartures rows kind arrivals departs → length departs ≡ length arrivals.time
+departs-even law rows kind arrivals departs load s = times-many law rows kind arrivals departs load.ordered.ordered.even s.fates ∙ load.ordered.ordered.even
 
 -- the one stream that leaves
-served-one : FatesAreInTime → (rows : Rows) (kind : Kind) (arrivals : Stream) (departs : List ℕ) → IsLoad rows kind arrivals → AreServed rows kind arrivals departs → record { job = arrivals.job; time = departs } ≡ left_by rows kind arrivals 0
-served-one law rows kind arrivals departs load s =
+pub departs-one : FatesAreInTime → (rows : Rows) (kind : Kind) (arrivals : Stream) (departs : List ℕ) → length arrivals.job ≡ length arrivals.time → AreDepartures rows kind arrivals departs → record { job = arrivals.job; time = departs } ≡ left_by rows kind arrivals 0
+departs-one law rows kind arrivals departs even s =
     let left : Stream = record { job = arrivals.job; time = departs } in
     let one = s.one in
     let inside : 0 < outputs_in kind = omega arith in
-    some_inj _ _ ((served-left law rows kind arrivals departs (left ∷ []) load.ordered.ordered.even s refl).each 0 inside)
+    some_inj _ _ ((departs-left law rows kind arrivals departs (left ∷ []) even s refl).each 0 inside)
+
+-- where they keep their order, their departures never fall
+pub served-even : FatesAreInTime → (rows : Rows) (kind : Kind) (arrivals : Stream) (departs : List ℕ) → IsLoad rows kind arrivals → AreServed rows kind arrivals departs → length departs ≡ length arrivals.time
+served-even law rows kind arrivals departs load s = departs-even law rows kind arrivals departs load s.0
 
 pub served-rises : SequencesGoByFates → FatesAreInTime → (rows : Rows) (kind : Kind) (arrivals : Stream) (departs : List ℕ) → IsLoad rows kind arrivals → AreServed rows kind arrivals departs → Rises (λ a b. a ≤ b) departs
 served-rises fated law rows kind arrivals departs load s =
     let left : Stream = record { job = arrivals.job; time = departs } in
-    let sequence : sequence_stream rows kind (came_in arrivals) 0 ≡ left = (fated rows kind (came_in arrivals)).stream 0 ∙ (ap (stream_in_order kind) (sym (served-one law rows kind arrivals departs load s)) ∙ s.order left) in
+    let one = departs-one law rows kind arrivals departs load.ordered.ordered.even s.0 in
+    let sequence : sequence_stream rows kind (came_in arrivals) 0 ≡ left = (fated rows kind (came_in arrivals)).stream 0 ∙ (ap (stream_in_order kind) (sym one) ∙ s.1 left) in
     subst (λ (stream : Stream). Rises (λ a b. a ≤ b) stream.time) sequence (load.leaves 0).rising
-
--- the times of what leaves are the departures
-pub served-stream : FatesAreInTime → (rows : Rows) (kind : Kind) (arrivals : Stream) (departs : List ℕ) (streams : List Stream) (left : Stream) → IsLoad rows kind arrivals → AreServed rows kind arrivals departs → AreLeft rows kind arrivals streams → slice_get streams 0 ≡ Some left → AreServed rows kind arrivals left.time
-served-stream law rows kind arrivals departs streams left load s out e =
-    let one = s.one in
-    let inside : 0 < outputs_in kind = omega arith in
-    let same : record { job = arrivals.job; time = departs } ≡ left = served-one law rows kind arrivals departs load s ∙ some_inj _ _ (sym (out.each 0 inside) ∙ e) in
-    subst (AreServed rows kind arrivals) (ap (λ (stream : Stream). stream.time) same) s
 
 -- a server is such a station
 pub server-served : (rows : Rows) (demand : Demand) (arrivals : Stream) (demands departs : List ℕ) → demands ≡ map (demand_of_job rows demand) arrivals.job → departs ≡ lindley 0 arrivals.time demands → AreServed rows (Server demand) arrivals departs
-server-served rows demand arrivals demands departs m d =
-    record {
-      one = refl;
-      order = λ stream. refl;
-      outs = refl;
-      fates = ap (map (λ time. Departs time)) (sym (d ∙ ap (lindley 0 arrivals.time) m));
-    }
+server-served rows demand arrivals demands departs m d = (record { one = refl; outs = refl; fates = ap (map (λ time. Departs time)) (sym (d ∙ ap (lindley 0 arrivals.time) m)) }, λ stream. refl)
 
--- and so are a tandem and a fork-join
-pub by-position-served : (rows : Rows) (kind : Kind) (arrivals : Stream) → ((demand : Demand) × (kind ≡ Server demand)) ⊎ (((stages : List Stage) × (kind ≡ Tandem stages)) ⊎ ((branches : List (List Demand)) × (kind ≡ ForkJoin branches))) → (departs : List ℕ) × AreServed rows kind arrivals departs
-by-position-served rows kind arrivals (inl s) = (
-  lindley 0 arrivals.time (map (demand_of_job rows s.0) arrivals.job),
-  subst (λ (k : Kind). AreServed rows k arrivals (lindley 0 arrivals.time (map (demand_of_job rows s.0) arrivals.job))) (sym s.1) (server-served rows s.0 arrivals _ _ refl refl),
-)
-by-position-served rows kind arrivals (inr (inl s)) = (
-  tandem_times rows s.0 arrivals.job arrivals.time,
-  subst (λ (k : Kind). AreServed rows k arrivals (tandem_times rows s.0 arrivals.job arrivals.time)) (sym s.1) (record { one = refl; order = λ stream. refl; outs = refl; fates = refl }),
-)
-by-position-served rows kind arrivals (inr (inr s)) = (
-  forkjoin_departs arrivals.time (branch_demands rows s.0 arrivals.job),
-  subst (λ (k : Kind). AreServed rows k arrivals (forkjoin_departs arrivals.time (branch_demands rows s.0 arrivals.job))) (sym s.1) (record { one = refl; order = λ stream. refl; outs = refl; fates = refl }),
-)
+-- and so is a source
+pub source-served : (rows : Rows) (arrivals : Stream) (departs : List ℕ) → departs ≡ arrivals.time → AreServed rows Source arrivals departs
+source-served rows arrivals departs d = (record { one = refl; outs = refl; fates = ap (map (λ time. Departs time)) (sym d) }, λ stream. refl)
+
+-- from a delay all depart too
+pub delay-departs : (rows : Rows) (demand : Demand) (arrivals : Stream) (demands departs : List ℕ) → demands ≡ map (demand_of_job rows demand) arrivals.job → departs ≡ delayed arrivals.time demands → AreDepartures rows (Delay demand) arrivals departs
+delay-departs rows demand arrivals demands departs m d = record { one = refl; outs = refl; fates = ap (map (λ time. Departs time)) (sym (d ∙ ap (delayed arrivals.time) m)) }

@@ -5,12 +5,12 @@ use Rattle.mq_engine.proofs.Groups.{IsEmptiedOf, emptied_piece, emptied_size, pa
 use Rattle.mq_engine.proofs.ready.ended.Goals as goal
 
 pub result_of-requires-clause-group : goal.result_of-requires-clause-group
-result_of-requires-clause-group g c κs inside = (passing-last emptied_size emptied_piece IsReadyExit (λ node_result. Unit {0}) IsEmptiedOf IsResultOf _ _ _ _ _ _ _ _ c.loop-emptied.invariant c.in-Some.ensures.items c.in-Some-pop.ensures.items).1
+result_of-requires-clause-group c = (passing-last emptied_size emptied_piece IsReadyExit (λ node_result. Unit {0}) IsEmptiedOf IsResultOf _ _ _ _ _ _ _ _ c.loop-emptied.invariant c.in-Some.ensures.items c.in-Some-pop.ensures.items).1
 
 pub loop-emptied-preserved : goal.loop-emptied-preserved
-loop-emptied-preserved g c =
+loop-emptied-preserved c =
     passing-more emptied_size emptied_piece IsReadyExit (λ node_result. Unit {0}) IsEmptiedOf IsResultOf _ _ _ _ _ _ _ _ _ _ c.loop-emptied.invariant c.in-Some.ensures.items c.in-Some-pop.ensures.items tt
     (λ plan rows ready h. result-of plan rows ready c.in-Some.emptied c.in_ok-result_of.field-0 h c.in_ok-result_of.ensures.number c.in_ok-result_of.ensures.known) c.in_ok-push.ensures.ok
 
 pub returns-clause-known : goal.returns-clause-known
-returns-clause-known g c plan rows ready h = (c.loop-emptied.invariant.of plan rows ready (subst (AllByRecursion (IsEmptiedOf plan rows ready)) (sym c.into_vec-those_emptied.ensures) h)).1
+returns-clause-known c plan rows ready h = (c.loop-emptied.invariant.of plan rows ready (subst (AllByRecursion (IsEmptiedOf plan rows ready)) (sym c.into_vec-those_emptied.ensures) h)).1

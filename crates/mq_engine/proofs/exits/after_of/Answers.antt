@@ -1,0 +1,15 @@
+use Rattle.std.proofs.Common.{subst}
+use Rattle.mq_crew.specs.Crew.{AreAll}
+use Rattle.mq_engine.specs.Loads.{IsClosed, closings_of}
+use Rattle.mq_engine.specs.declared.exits.Exit.{Exit}
+use Rattle.mq_engine.proofs.exits.after_of.Goals as goal
+
+pub opened-requires-clause-group : goal.opened-requires-clause-group
+opened-requires-clause-group c =
+    let load = c.args.load.now in
+    subst (λ (e : Exit). AreAll (IsClosed load.plan.now load.rows.now load.number load.arrivals e) (closings_of e) c.args.group) c.in-Served.is c.requires.group
+
+pub found_last-requires-clause-group : goal.found_last-requires-clause-group
+found_last-requires-clause-group c =
+    let load = c.args.load.now in
+    subst (λ (e : Exit). AreAll (IsClosed load.plan.now load.rows.now load.number load.arrivals e) (closings_of e) c.args.group) c.in-Sorted.is c.requires.group

@@ -1,0 +1,96 @@
+// A delay, whose jobs may overtake one another: in which order they leave, and what tells how many each
+// found.
+ghost use Rattle.std.specs.Prelude.{◌≡◌, length, IfOk};
+ghost use Rattle.std.specs.List.{zip};
+ghost use Rattle.mq_core.specs.Laws.{in_order_of};
+ghost use Rattle.mq_core.specs.Sequences.{IsStream};
+ghost use Rattle.mq_core.specs.Streams.{by_first, pairs_of};
+ghost use Rattle.mq_engine.specs.Loads.{AreDeparturesAt, IsExit, IsLoaded, Overtakes};
+
+use crate::exits::Exit;
+use crate::loads::Load;
+use crate::working::After;
+use mq_base::{List, OutOfMemory};
+use mq_core::{Fate, Kind, Stream, fates_are_in_time, sequences_go_by_fates};
+use mq_delay::delay_leaving;
+use mq_merge::by_time;
+use mq_stations::{fates_of, first_late_overtaken};
+use mq_stats::{AheadTable, ahead_of};
+use std::alloc::Global;
+use std::thread::Threads;
+
+/// A delay whose jobs were put in the order in which they leave, none of them late.
+#[derive(Drop)]
+pub struct Overtaken {
+    pub fates: List<Fate>,
+    /// The jobs as they leave.
+    pub job: List<u32>,
+    /// What tells how many each found, with the departures in order.
+    pub ahead: AheadTable,
+}
+
+// What is known of a station whose jobs depart at these times, by position. Those of a delay are put in
+// order here, where threads can be had; all others keep theirs.
+pub fn left_at<R: Threads + Sync>(
+    rt: &R,
+    alloc: Global,
+    workers: u32,
+    load: &Load,
+    departs: List<u64>,
+) -> Result<Exit, OutOfMemory>
+    requires loaded { IsLoaded load.now.plan.now load.now.rows.now load.now.number load.now.arrivals load.now.scan }
+    requires departs { AreDeparturesAt load.now.plan.now load.now.rows.now load.now.number load.now.arrivals departs }
+    ensures { IfOk result (λ exit. IsExit load.now.plan.now load.now.rows.now load.now.number load.now.arrivals exit) }
+{
+    match &load.plan.net.nodes.get(load.number as usize).kind {
+        Kind::Delay(_) => overtaken_at(rt, alloc, workers, load, &departs),
+        _ => Ok(Exit::Served(departs)),
+    }
+}
+
+// What is known of a delay whose jobs depart at these times, by position.
+fn overtaken_at<R: Threads + Sync>(
+    rt: &R,
+    alloc: Global,
+    workers: u32,
+    load: &Load,
+    departs: &List<u64>,
+) -> Result<Exit, OutOfMemory>
+    requires loaded { IsLoaded load.now.plan.now load.now.rows.now load.now.number load.now.arrivals load.now.scan }
+    requires departs { AreDeparturesAt load.now.plan.now load.now.rows.now load.now.number load.now.arrivals departs.now }
+    requires overtakes { Overtakes load.now.plan.now load.now.number }
+    ensures { IfOk result (λ exit. IsExit load.now.plan.now load.now.rows.now load.now.number load.now.arrivals exit) }
+{
+    sequences_go_by_fates();
+    fates_are_in_time();
+    let leaving = by_departure(rt, alloc, workers, &load.arrivals.job, departs)?;
+    let fates = fates_of(alloc, departs)?;
+    match first_late_overtaken(load.plan.net.bound, load.number, &fates, &leaving.time) {
+        Some(past) => Ok(Exit::Known(After::Missed(past))),
+        None => {
+            let Stream { job, time } = leaving;
+            let ahead = ahead_of(alloc, &load.arrivals.time, &fates, time)?;
+            Ok(Exit::Sorted(Overtaken { fates, job, ahead }))
+        }
+    }
+}
+
+// The jobs by departure. One worker makes no thread.
+fn by_departure<R: Threads + Sync>(
+    rt: &R,
+    alloc: Global,
+    workers: u32,
+    jobs: &List<u32>,
+    departs: &List<u64>,
+) -> Result<Stream, OutOfMemory>
+    requires even { length jobs.now ≡ length departs.now }
+    ensures stream { IfOk result (λ leaving. IsStream leaving) }
+    ensures items { IfOk result (λ leaving. pairs_of leaving ≡ by_first (zip departs.now jobs.now)) }
+    ensures times { IfOk result (λ leaving. leaving.time ≡ in_order_of (λ time. time) departs.now) }
+{
+    if workers == 1 {
+        let leaving = by_time(alloc, jobs, departs)?;
+        return Ok(leaving);
+    }
+    delay_leaving(rt, alloc, jobs, departs)
+}
