@@ -1,7 +1,7 @@
 // The first late visit.
 use mq_base::{List, OutOfMemory};
 use mq_core::Fate;
-use mq_stations::{PastFault, first_late};
+use mq_stations::{PastFault, first_late, first_late_in_turn, first_late_overtaken};
 use std::alloc::Global;
 use std::test::Fail;
 
@@ -10,6 +10,28 @@ fn is_late(alloc: Global, bound: u64, wanted: Option<PastFault>) -> Result<bool,
     let fates = [Fate::Departs(4), Fate::Departs(8), Fate::Departs(9)];
     let fates = List::from_vec(Vec::from_slice(alloc, &fates)?);
     Ok(first_late(bound, 1, &fates) == wanted)
+}
+
+// The same of the departures alone.
+fn is_late_in_turn(
+    alloc: Global,
+    bound: u64,
+    wanted: Option<PastFault>,
+) -> Result<bool, OutOfMemory> {
+    let departs = List::from_vec(Vec::from_slice(alloc, &[4, 8, 9])?);
+    Ok(first_late_in_turn(bound, 1, &departs) == wanted)
+}
+
+// The same of visits that depart at 9, 4 and 8.
+fn is_late_overtaken(
+    alloc: Global,
+    bound: u64,
+    wanted: Option<PastFault>,
+) -> Result<bool, OutOfMemory> {
+    let fates = [Fate::Departs(9), Fate::Departs(4), Fate::Departs(8)];
+    let fates = List::from_vec(Vec::from_slice(alloc, &fates)?);
+    let leaving = List::from_vec(Vec::from_slice(alloc, &[4, 8, 9])?);
+    Ok(first_late_overtaken(bound, 1, &fates, &leaving) == wanted)
 }
 
 #[test]
@@ -21,5 +43,29 @@ fn the_first_departure_after_the_bound_is_named(rt: HostRuntime) -> Result<(), F
     };
     assert!(rt; is_late(rt.alloc(), 7, Some(past))?);
     assert!(rt; is_late(rt.alloc(), 9, None)?);
+    Ok(())
+}
+
+#[test]
+fn of_departures_that_never_fall_it_is_found_by_halving(rt: HostRuntime) -> Result<(), Fail> {
+    let past = PastFault {
+        node: 1,
+        position: 1,
+        time: 8,
+    };
+    assert!(rt; is_late_in_turn(rt.alloc(), 7, Some(past))?);
+    assert!(rt; is_late_in_turn(rt.alloc(), 9, None)?);
+    Ok(())
+}
+
+#[test]
+fn where_jobs_overtake_it_is_the_first_by_position(rt: HostRuntime) -> Result<(), Fail> {
+    let past = PastFault {
+        node: 1,
+        position: 0,
+        time: 9,
+    };
+    assert!(rt; is_late_overtaken(rt.alloc(), 7, Some(past))?);
+    assert!(rt; is_late_overtaken(rt.alloc(), 9, None)?);
     Ok(())
 }
