@@ -19,6 +19,7 @@ use Rattle.mq_core.specs.declared.model.Kind.TheVariants.{Source, Server, Delay,
 use Rattle.mq_core.specs.declared.model.Network.{Network}
 use Rattle.mq_core.specs.declared.model.Rows.{Rows}
 use Rattle.mq_core.specs.declared.model.Stream.{Stream}
+use Rattle.mq_core.proofs.lemmas.Orders.{firsts-order}
 use Rattle.mq_stats.specs.Ahead.{departure_order, departure_times}
 use Rattle.mq_stations.specs.Leaving.{AreDepartures, AreLeft, KeepsOrder, left_by}
 use Rattle.mq_stations.proofs.lemmas.Leaves.{departs-one}
