@@ -14,3 +14,4 @@ pub mod Groups
 pub mod Closings
 pub mod Serving
 pub mod Branching
+pub mod Comings

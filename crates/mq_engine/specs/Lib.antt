@@ -4,6 +4,7 @@ pub mod Branches
 pub mod CoreLaws
 pub mod Loads
 pub mod Losses
+pub mod Merges
 pub mod Progress
 pub mod Servers
 pub mod Working

@@ -18,6 +18,7 @@ mod firsts;
 mod late;
 mod laws;
 mod loads;
+mod merges;
 mod middles;
 mod outflow;
 mod progress;

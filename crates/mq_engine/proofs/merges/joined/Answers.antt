@@ -1,0 +1,20 @@
+use Rattle.std.proofs.Common.{◌≤◌, ◌∙◌, List, ℕ, ◌++◌, ap, subst, sym, arith}
+use Rattle.std.proofs.lemmas.Option.{get_or_from_slice_get, slice_get_within}
+use Rattle.mq_engine.specs.Merges.{IsBlockOf}
+use Rattle.mq_engine.proofs.Comings.{behind-begins, behind-ends, behind-more, single-block}
+use Rattle.mq_engine.proofs.merges.joined.Goals as goal
+
+pub loop-b-init : goal.loop-b-init
+loop-b-init c pairs all = behind-begins pairs c.args.blocks.now
+
+pub loop-b-preserved : goal.loop-b-preserved
+loop-b-preserved c pairs all =
+    let blocks = c.args.blocks.now in
+    let group = c.args.group in
+    let block = c.get-block.result.now in
+    let inside = slice_get_within group c.loop-b.b block c.get-block.ensures in
+    let count = c.requires in
+    let own = subst (IsBlockOf pairs blocks c.loop-b.b) (get_or_from_slice_get group c.loop-b.b block block c.get-block.ensures) (all.each c.loop-b.b block (omega arith)) in
+    behind-more pairs blocks c.loop-b.b c.loop-b.time.items c.loop-b.job.items _ _ block (omega arith) own
+    (c.in_ok-extend_from_slice-2.ensures.items ∙ ap (λ (ts : List ℕ). c.loop-b.time.items ++ ts) c.as_slice-2.ensures)
+    (c.in_ok-extend_from_slice.ensures.items ∙ ap (λ (ts : List ℕ). c.loop-b.job.items ++ ts) c.as_slice.ensures) (c.loop-b.invariant pairs all)
