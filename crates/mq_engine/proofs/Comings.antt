@@ -1,6 +1,6 @@
 -- What comes to a node by its ports, one after another, and the blocks of which it is put in order.
 use Rattle.std.proofs.Common.{◌≡◌, ℕ, zero, suc, ◌+◌, ◌*◌, ◌^◌, ◌<◌, ◌≤◌, ◌⊎◌, inl, inr, Bool, true, false, cond, List, [], ◌∷◌, ◌++◌, length, get_or, map, take, min, Option, Some, None, sym, refl, ap, ◌∙◌, subst, arith, append_assoc, length-append}
-use Rattle.std.specs.Prelude.{Contains, nat_lt, slice_get}
+use Rattle.std.specs.Prelude.{◌&&◌, Contains, nat_lt, not, slice_get}
 use Rattle.std.specs.List.{AllByRecursion as Each, flat_map, zip}
 use Rattle.std.proofs.Math.Nat.{mul-le-mul_left}
 use Rattle.std.proofs.lemmas.List.{append-nil, length-map}
@@ -239,7 +239,7 @@ has-come-at s v ports node stream ready there ordered e =
 pub no-port : (rows : Rows) (v : ℕ) (node : Node) (outputs : List (List Stream)) (port : ℕ) → has_port node port ≡ false → arriving_by rows v node outputs port ≡ arriving_by rows v node outputs (port + 1)
 no-port rows v node outputs port = go (is_source_kind node.kind)
   where
-    go : (b : Bool) → cond b false (nat_lt port (length node.inputs)) ≡ false → cond b (rows_at v 0 rows.source rows.time) (flat_map (pairs_read outputs) (take port node.inputs)) ≡ cond b (rows_at v 0 rows.source rows.time) (flat_map (pairs_read outputs) (take (port + 1) node.inputs))
+    go : (b : Bool) → (not b && nat_lt port (length node.inputs)) ≡ false → cond b (rows_at v 0 rows.source rows.time) (flat_map (pairs_read outputs) (take port node.inputs)) ≡ cond b (rows_at v 0 rows.source rows.time) (flat_map (pairs_read outputs) (take (port + 1) node.inputs))
     go true h = refl
     go false h =
         let ended : length node.inputs ≤ port = grind (arith, nat_tests) in
@@ -318,7 +318,7 @@ load-come laws s load h come p r u b = go (slice_get_cases s.plan.now.net.nodes 
 pub port-there : (node : Node) (port : ℕ) → has_port node port ≡ true → (is_source_kind node.kind ≡ false) × (port < length node.inputs)
 port-there node port = go (is_source_kind node.kind) refl
   where
-    go : (b : Bool) → is_source_kind node.kind ≡ b → cond b false (nat_lt port (length node.inputs)) ≡ true → (is_source_kind node.kind ≡ false) × (port < length node.inputs)
+    go : (b : Bool) → is_source_kind node.kind ≡ b → (not b && nat_lt port (length node.inputs)) ≡ true → (is_source_kind node.kind ≡ false) × (port < length node.inputs)
     go true e h = absurd cc
     go false e h = (e, grind (arith, nat_tests))
 
@@ -427,12 +427,6 @@ comings-few s ports comings few each =
     let most = all-few coming_size comings (Each-weaker (IsComing s ports) _ (λ c h. one c.number c.origin h.origin h.few) comings each) in
     omega arith
   where
-    one : (v : ℕ) (origin : Origin) → IsReadyOrigin origin → length (pairs_from v origin) ≤ 1048576 → pieces_of origin ≤ 1048576
-    one v (Unsorted rows) h few = omega arith
-    one v (Ports a b blocks) h few = pair-few a.now b.now blocks h few
-    one v (Further a b blocks) h few = pair-few a b.now blocks h few
-    one v (Ended stream) h few = omega arith
-
     pair-few : (a b : Stream) (blocks : Blocks) → IsPair a b blocks → length (pairs_of a ++ pairs_of b) ≤ 1048576 → blocks.blocks ≤ 1048576
     pair-few a b blocks h few =
         let most = blocks-few blocks in
@@ -441,6 +435,12 @@ comings-few s ports comings few each =
         let other = pairs-length b h.second in
         let both = length-append (pairs_of a) (pairs_of b) in
         omega arith
+
+    one : (v : ℕ) (origin : Origin) → IsReadyOrigin origin → length (pairs_from v origin) ≤ 1048576 → pieces_of origin ≤ 1048576
+    one v (Unsorted rows) h few = omega arith
+    one v (Ports a b blocks) h few = pair-few a.now b.now blocks h few
+    one v (Further a b blocks) h few = pair-few a b.now blocks h few
+    one v (Ended stream) h few = omega arith
 
 pub arrived-few : (arrived : List Arrived) → length arrived ≤ 64 → total_size arrived_size arrived < 2 ^ 32
 arrived-few arrived few = let most = all-few arrived_size arrived (each arrived) in omega arith

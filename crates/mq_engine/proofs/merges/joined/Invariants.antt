@@ -5,4 +5,4 @@ use Rattle.mq_engine.proofs.merges.joined.Given as goal
 
 -- the blocks so far, one behind the other
 abbrev pub invariant-loop-b : goal.invariant-loop-b
-invariant-loop-b l = (pairs : Pairs) → AreAll (IsBlockOf pairs l.blocks) l.blocks.blocks l.group → AreBehind pairs l.blocks l.b l.time.items l.job.items
+invariant-loop-b l = (pairs : Pairs) → AreAll (IsBlockOf pairs l.blocks) l.blocks.blocks l.fn.group → AreBehind pairs l.blocks l.b l.time.items l.job.items
