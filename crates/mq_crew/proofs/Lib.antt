@@ -1,3 +1,4 @@
+pub mod lemmas
 pub mod Working
 pub mod Placing
 pub mod Grouping

@@ -40,7 +40,8 @@ use Rattle.mq_engine.specs.declared.loads.Scan.TheVariants.{Unscanned}
 use Rattle.mq_engine.specs.declared.merges.Coming.{Coming}
 use Rattle.mq_engine.specs.declared.merges.Origin.{Origin}
 use Rattle.mq_engine.specs.declared.merges.Origin.TheVariants.{Ended, Further, Ports, Unsorted}
-use Rattle.mq_engine.proofs.Groups.{ArePassing, all-few, blocks-few}
+use Rattle.mq_stations.proofs.lemmas.Blocks.{blocks-few}
+use Rattle.mq_engine.proofs.Groups.{ArePassing, all-few}
 use Rattle.mq_engine.proofs.Lists.{flat_map-more, zip-first}
 use Rattle.mq_engine.proofs.Sorted.{by_first-rises}
 use Rattle.mq_engine.proofs.Waves.{arrived, loaded, visits-few}

@@ -16,10 +16,10 @@ use Rattle.mq_core.specs.declared.model.Plan.{Plan}
 use Rattle.mq_core.specs.declared.model.Rows.{Rows}
 use Rattle.mq_core.specs.declared.model.Stream.{Stream}
 use Rattle.mq_core.specs.declared.model.Visits.{Visits}
-use Rattle.mq_engine.specs.Answer.{late_told}
+use Rattle.mq_stations.specs.Late.{late_told}
 use Rattle.mq_engine.specs.CoreLaws.{CoreLaws}
 use Rattle.mq_engine.specs.Progress.{AreWithin, IsReached, is_done, is_read, is_ready, is_waiting, reads_done, stands_at}
-use Rattle.mq_engine.specs.declared.fault.PastFault.{PastFault}
+use Rattle.mq_stations.specs.declared.late.PastFault.{PastFault}
 use Rattle.mq_engine.specs.declared.progress.Stand.{Stand}
 use Rattle.mq_engine.specs.declared.progress.Stand.TheVariants.{Waiting, Done, Late}
 use Rattle.mq_engine.proofs.Lists.{filter-none, get-take, has-index}

@@ -1,5 +1,5 @@
 -- Stations and their groups of pieces, taken from the back.
-use Rattle.std.proofs.Common.{◌≡◌, ℕ, zero, suc, ◌+◌, ◌*◌, ◌^◌, ◌<◌, ◌≤◌, ◌⊎◌, inl, inr, get_or, List, [], ◌∷◌, ◌++◌, length, Some, sym, refl, ap, ◌∙◌, subst, arith, length-append}
+use Rattle.std.proofs.Common.{◌≡◌, ℕ, zero, suc, ◌+◌, ◌*◌, ◌^◌, ◌<◌, ◌≤◌, get_or, List, [], ◌∷◌, ◌++◌, length, Some, sym, refl, ap, ◌∙◌, subst, arith, length-append}
 use Rattle.std.specs.Prelude.{Contains, slice_get}
 use Rattle.std.specs.List.{AllByRecursion}
 use Rattle.mq_base.proofs.lemmas.Each.{Each-append, Each-back, Each-front, Each-weaker}
@@ -8,7 +8,6 @@ use Rattle.mq_core.specs.declared.model.Kind.{Kind}
 use Rattle.mq_core.specs.declared.model.Plan.{Plan}
 use Rattle.mq_core.specs.declared.model.Rows.{Rows}
 use Rattle.mq_core.specs.declared.model.Stream.{Stream}
-use Rattle.mq_scan.specs.declared.blocks.Blocks.{Blocks}
 use Rattle.mq_engine.specs.declared.loads.Scan.{Scan}
 use Rattle.mq_engine.specs.declared.loads.Scan.TheVariants.{OfForkJoin, OfServer, OfTandem, Unscanned}
 use Rattle.mq_engine.proofs.Lists.{Each-at}
@@ -23,10 +22,10 @@ use Rattle.mq_engine.specs.declared.middles.Middle.{Middle}
 use Rattle.mq_engine.specs.declared.loads.Load.{Load}
 use Rattle.mq_engine.specs.declared.working.NodeResult.{NodeResult}
 use Rattle.std.proofs.lemmas.Option.{get_or_from_slice_get, slice_get_within}
-use Rattle.std.proofs.lemmas.Bool.{cases_lt}
 use Rattle.std.proofs.lemmas.List.{get_or_default}
-use Rattle.std.proofs.Math.Nat.{mul-le-mul_left}
 use Rattle.mq_crew.specs.Crew.{AreAll, AreGroups, total_size}
+use Rattle.mq_crew.proofs.lemmas.Sizes.{total-most}
+use Rattle.mq_stations.proofs.lemmas.Blocks.{blocks-few}
 
 append-before : {Y : Type 0} (xs : List Y) (y z : Y) (k : ℕ) → slice_get xs k ≡ Some z → slice_get (xs ++ y ∷ []) k ≡ Some z
 append-before [] y z k e = absurd cc
@@ -132,29 +131,6 @@ result-of plan rows ready l node_result h number known = (
   subst (λ (z : Plan × Rows). IsWorkedOut z.0 z.1 node_result) (λ k. (h.0 k, h.1 k)) known,
 )
 
--- a scan has no more blocks than jobs
-pub blocks-few : (blocks : Blocks) → blocks.blocks ≤ blocks.n
-blocks-few blocks = go (cases_lt blocks.n blocks.blocks)
-  where
-    go : (blocks.n < blocks.blocks) ⊎ (blocks.blocks ≤ blocks.n) → blocks.blocks ≤ blocks.n
-    go (inr few) = few
-    go (inl many) =
-        let some = blocks.some in
-        let more = blocks.none_more in
-        let a : blocks.block * (blocks.n + 1) ≤ blocks.block * blocks.blocks = mul-le-mul_left blocks.block (omega arith) in
-        let b : blocks.n * 1 ≤ blocks.n * blocks.block = mul-le-mul_left blocks.n some in
-        absurd (omega arith)
-
--- nor more than so many, where they are long enough
-pub blocks-most : (most : ℕ) (blocks : Blocks) → blocks.n ≤ most * blocks.block → blocks.blocks ≤ most
-blocks-most most blocks long = go (cases_lt most blocks.blocks)
-  where
-    go : (most < blocks.blocks) ⊎ (blocks.blocks ≤ most) → blocks.blocks ≤ most
-    go (inr few) = few
-    go (inl many) =
-        let more = blocks.none_more in
-        let a : blocks.block * (most + 1) ≤ blocks.block * blocks.blocks = mul-le-mul_left blocks.block (omega arith) in
-        absurd (omega arith)
 
 scan-few : (rows : Rows) (kind : Kind) (arrivals : Stream) (scan : Scan) → length arrivals.time ≤ 1048576 → IsScanOf rows kind arrivals scan → (blocks_of scan ≤ 1048576) × (applied_of scan ≤ 1048576)
 scan-few rows kind arrivals Unscanned few h = (omega arith, omega arith)
@@ -162,22 +138,18 @@ scan-few rows kind arrivals (OfServer its) few h = let most = blocks-few its.blo
 scan-few rows kind arrivals (OfTandem its) few h = let most = blocks-few its.blocks in let n = h.2.blocks.0 in (omega arith, omega arith)
 scan-few rows kind arrivals (OfForkJoin its) few h = (omega arith, omega arith)
 
-pub all-few : {P : Type 0} (size : P → ℕ) (parts : List P) → AllByRecursion (λ p. size p ≤ 1048576) parts → total_size size parts ≤ length parts * 1048576
-all-few size [] h = omega arith
-all-few size (p ∷ ps) h = let first = h.0 in let rest = all-few size ps h.1 in omega arith
-
 pub loads-few : (loads : List Load) → length loads ≤ 64 → AllByRecursion IsReadyLoad loads → total_size load_size loads < 2 ^ 32
 loads-few loads few ready =
-    let most = all-few load_size loads (Each-weaker IsReadyLoad _ (λ load h. (scan-few load.rows.now h.1.node.kind load.arrivals load.scan h.1.load.few h.1.scanned).0) loads ready) in
+    let most = total-most 1048576 load_size loads (Each-weaker IsReadyLoad _ (λ load h. (scan-few load.rows.now h.1.node.kind load.arrivals load.scan h.1.load.few h.1.scanned).0) loads ready) in
     omega arith
 
 pub middles-few : (middles : List Middle) → length middles ≤ 64 → AllByRecursion IsReadyMiddle middles → total_size middle_size middles < 2 ^ 32
 middles-few middles few ready =
-    let most = all-few middle_size middles (Each-weaker IsReadyMiddle _ (λ m h. (scan-few m.load.rows.now h.0.1.node.kind m.load.arrivals m.load.scan h.0.1.load.few h.0.1.scanned).1) middles ready) in
+    let most = total-most 1048576 middle_size middles (Each-weaker IsReadyMiddle _ (λ m h. (scan-few m.load.rows.now h.0.1.node.kind m.load.arrivals m.load.scan h.0.1.load.few h.0.1.scanned).1) middles ready) in
     omega arith
 
 pub emptied-few : (those_emptied : List Emptied) → length those_emptied ≤ 64 → total_size emptied_size those_emptied < 2 ^ 32
-emptied-few those_emptied few = let most = all-few emptied_size those_emptied (each those_emptied) in omega arith
+emptied-few those_emptied few = let most = total-most 1048576 emptied_size those_emptied (each those_emptied) in omega arith
   where
     one : (exit : Exit) → closings_of exit ≤ 1048576
     one (Known after) = omega arith

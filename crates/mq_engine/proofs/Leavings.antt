@@ -18,8 +18,10 @@ use Rattle.mq_core.specs.declared.model.Kind.{Kind}
 use Rattle.mq_core.specs.declared.model.Kind.TheVariants.{Source, Server, Delay, Loss, Tandem, ForkJoin, Split}
 use Rattle.mq_core.specs.declared.model.Rows.{Rows}
 use Rattle.mq_core.specs.declared.model.Stream.{Stream}
-use Rattle.mq_engine.specs.Working.{AreLeft, AreStreams, IsLeaving, IsResult, left_by}
-use Rattle.mq_engine.proofs.Lists.{Each-at, Each-get_or, zip-jobs, zip-times}
+use Rattle.mq_stations.specs.Leaving.{AreLeft, IsLeaving, left_by}
+use Rattle.mq_engine.specs.Working.{AreStreams, IsResult}
+use Rattle.mq_engine.proofs.Lists.{Each-at, zip-jobs, zip-times}
+use Rattle.mq_stations.proofs.lemmas.Lists.{Each-get_or}
 
 -- what leaves by an output has one time a job
 leaving-many : (arrives : List ℕ) (fates : List Fate) → length fates ≡ length arrives → length (leaving_times arrives fates) ≡ length arrives

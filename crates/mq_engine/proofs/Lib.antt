@@ -1,10 +1,7 @@
 pub mod Lists
 pub mod Sorted
-pub mod Leaves
 pub mod Leavings
 pub mod Passing
-pub mod LossFates
-pub mod StageFacts
 pub mod Early
 pub mod Waves
 pub mod Settling
@@ -12,6 +9,4 @@ pub mod Endings
 pub mod Scanning
 pub mod Groups
 pub mod Closings
-pub mod Serving
-pub mod Branching
 pub mod Comings

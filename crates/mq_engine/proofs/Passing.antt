@@ -16,7 +16,7 @@ use Rattle.mq_core.specs.declared.model.Kind.{Kind}
 use Rattle.mq_core.specs.declared.model.Kind.TheVariants.{Source, Split}
 use Rattle.mq_core.specs.declared.model.Route.{Route}
 use Rattle.mq_core.specs.declared.model.Rows.{Rows}
-use Rattle.mq_engine.proofs.Lists.{Each-get}
+use Rattle.mq_stations.proofs.lemmas.Lists.{Each-get}
 
 -- Where each leaves when it comes, none is found.
 none-later : (time : ℕ) (before : List ℕ) → Each (λ t. t ≤ time) before → count_by (departs_after time) (map (λ t. Departs t) before) ≡ 0

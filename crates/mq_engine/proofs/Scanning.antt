@@ -1,5 +1,5 @@
 -- A station that is scanned: its blocks, its summaries and its applied blocks.
-use Rattle.std.proofs.Common.{◌≡◌, ℕ, ◌+◌, ◌*◌, ◌<◌, ◌≤◌, ◌⊎◌, inl, inr, List, [], ◌∷◌, ◌++◌, length, get_or, map, min, Some, sym, ap, ◌∙◌, subst, arith, length-append}
+use Rattle.std.proofs.Common.{◌≡◌, ℕ, ◌+◌, ◌<◌, ◌≤◌, ◌⊎◌, inl, inr, List, [], ◌∷◌, ◌++◌, length, get_or, map, Some, sym, ap, ◌∙◌, subst, arith, length-append}
 use Rattle.std.proofs.Math.ListN.{get_or-append}
 use Rattle.std.proofs.Math.Seq.{get_or-append_seam}
 use Rattle.std.proofs.lemmas.Bool.{cases_lt}
@@ -20,26 +20,19 @@ use Rattle.mq_core.specs.declared.model.Kind.TheVariants.{ForkJoin, Server, Tand
 use Rattle.mq_core.specs.declared.model.Plan.{Plan}
 use Rattle.mq_core.specs.declared.model.Rows.{Rows}
 use Rattle.mq_core.specs.declared.model.Stream.{Stream}
-use Rattle.mq_maxplus.specs.Maxplus.{affine_act, mp_or_zero}
-use Rattle.mq_maxplus.specs.declared.mp.Mp.TheVariants.{Void}
-use Rattle.mq_scan.specs.Folds.{AreSummaries, carries_after}
-use Rattle.mq_scan.specs.declared.blocks.Blocks.{Blocks}
-use Rattle.mq_scan.proofs.Spans.{block-inside, times-ranges-next}
-use Rattle.mq_server.specs.Jobs.{job}
 use Rattle.mq_tandem.specs.Rows.{IsTandemLoad}
-use Rattle.mq_engine.specs.Blocks.{AreSumsOf, AreTimesOf}
-use Rattle.mq_engine.specs.Branches.{AreBranchLoads}
-use Rattle.mq_engine.specs.Loads.{AreServed, IsAfterAt, IsLoaded, IsScanOf, IsServed, IsShut}
+use Rattle.mq_stations.specs.Scans.{AreBranchLoads}
+use Rattle.mq_stations.specs.Leaving.{AreServed, IsLoad}
+use Rattle.mq_engine.specs.Loads.{IsAfterAt, IsLoaded, IsScanOf, IsServed, IsShut}
 use Rattle.mq_engine.specs.declared.exits.Closed.TheVariants.{Fates, Found, Jobs}
 use Rattle.mq_engine.specs.declared.working.After.TheVariants.{Seen}
-use Rattle.mq_engine.specs.Working.{IsLoad}
 use Rattle.mq_engine.specs.declared.loads.Scan.{Scan}
 use Rattle.mq_engine.specs.declared.loads.Scan.TheVariants.{OfForkJoin, OfServer, OfTandem, Unscanned}
-use Rattle.mq_engine.specs.declared.stations.forkjoin.ForkJoinScan.{ForkJoinScan}
-use Rattle.mq_engine.specs.declared.stations.server.ServerScan.{ServerScan}
-use Rattle.mq_engine.specs.declared.stations.tandem.TandemScan.{TandemScan}
-use Rattle.mq_engine.proofs.Leaves.{load-sound, served-even, served-leaves}
-use Rattle.mq_engine.proofs.StageFacts.{branch-loads, demands-told, forkjoin-departs, loads-sound, stages-are, tandem-served}
+use Rattle.mq_stations.specs.declared.forkjoin.ForkJoinScan.{ForkJoinScan}
+use Rattle.mq_stations.specs.declared.server.ServerScan.{ServerScan}
+use Rattle.mq_stations.specs.declared.tandem.TandemScan.{TandemScan}
+use Rattle.mq_stations.proofs.lemmas.Leaves.{load-sound, served-even, served-leaves}
+use Rattle.mq_stations.proofs.lemmas.StageFacts.{branch-loads, demands-told, forkjoin-departs, loads-sound, stages-are, tandem-served}
 
 -- a further item, where each is that of its index
 pub items-more : {S : Type 0} (is : ℕ → S → Type 0) (items items' : List S) (b : ℕ) (item : S) → length items ≡ b → ((k : ℕ) (d : S) → k < b → is k (get_or items k d)) → is b item → items' ≡ items ++ item ∷ [] →
@@ -56,34 +49,6 @@ items-more {S} is items items' b item len each own e = (
         let at : b ≡ k = omega arith in
         let found : item ≡ get_or (items ++ item ∷ []) k d = sym (ap (λ j. get_or (items ++ item ∷ []) j d) same ∙ get_or-append_seam items item [] d) in
         subst (λ (z : ℕ × S). is z.0 z.1) (λ i. (at i, found i)) own
-
--- a further block
-pub joined-more : {S C : Type 0} (time : C → ℕ) (acted : S → C → C) (start : C) (part : ℕ → S) (blocks : Blocks) (b : ℕ) (times done done' : List ℕ) → b < blocks.blocks → AreTimesOf time acted start part blocks b times →
-    done ≡ map time (carries_after acted start part 0 (min (b * blocks.block) blocks.n)) → done' ≡ done ++ times → done' ≡ map time (carries_after acted start part 0 (min ((b + 1) * blocks.block) blocks.n))
-joined-more time acted start part blocks b times done done' l own h e =
-    let within = block-inside b blocks.block blocks.blocks blocks.n l blocks.none_more in
-    let so_far : min (b * blocks.block) blocks.n ≡ b * blocks.block = omega arith in
-    let next : (b + 1) * blocks.block ≡ b * blocks.block + blocks.block = omega arith in
-    let rises : b * blocks.block ≤ min ((b + 1) * blocks.block) blocks.n = omega arith in
-    times-ranges-next acted start part time (min (b * blocks.block) blocks.n) (b * blocks.block) (min ((b + 1) * blocks.block) blocks.n) done done' so_far rises h (e ∙ ap (λ ts. done ++ ts) own)
-
--- the times of a block of a server, where its lists are these
-pub server-times : (arrive arrive' demands demands' : List ℕ) (from n : ℕ) (times : List ℕ) → arrive ≡ arrive' → demands ≡ demands' → times ≡ map mp_or_zero (carries_after affine_act Void (job arrive demands) from n) → times ≡ map mp_or_zero (carries_after affine_act Void (job arrive' demands') from n)
-server-times arrive arrive' demands demands' from n times a d h = h ∙ (λ k. map mp_or_zero (carries_after affine_act Void (job (a k) (d k)) from n))
-
--- all blocks together are all jobs
-pub blocks-all : (blocks : Blocks) → min (blocks.blocks * blocks.block) blocks.n ≡ blocks.n
-blocks-all blocks = let h = blocks.all in omega arith
-
--- the summaries of all blocks
-pub are-summaries : {S : Type 0} (joined : S → S → S) (part : ℕ → S) (n : ℕ) (blocks : Blocks) (sums : List S) → blocks.n ≡ n → length sums ≡ blocks.blocks → AreSumsOf joined part blocks sums → AreSummaries joined part n blocks.block sums
-are-summaries joined part n blocks sums e len each =
-    subst (λ (m : ℕ). AreSummaries joined part m blocks.block sums) e
-    (record {
-      some = blocks.some;
-      within = λ b l. block-inside b blocks.block blocks.blocks blocks.n (omega arith) blocks.none_more;
-      each = λ b d l. each b d l;
-    })
 
 -- what is scanned is a sound load of all arrivals
 pub server-sound : (plan : Plan) (rows : Rows) (v : ℕ) (arrivals : Stream) (scan : Scan) (its : ServerScan) → IsLoaded plan rows v arrivals scan → scan ≡ OfServer its → IsSoundLoad arrivals.time its.demands × (its.blocks.n ≡ length arrivals.time)

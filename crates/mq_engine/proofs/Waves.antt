@@ -30,18 +30,20 @@ use Rattle.mq_core.specs.declared.model.Rows.{Rows}
 use Rattle.mq_core.specs.declared.model.Stream.{Stream}
 use Rattle.mq_core.specs.declared.model.Visits.{Visits}
 use Rattle.mq_engine.specs.CoreLaws.{CoreLaws}
-use Rattle.mq_engine.specs.Working.{AreEarly, AreStreams, IsEarlyStream, IsLoad, IsThere, IsResult, arriving, pairs_by, pairs_in, pairs_read}
+use Rattle.mq_engine.specs.Working.{AreEarly, AreStreams, IsThere, IsResult, arriving, pairs_by, pairs_in, pairs_read}
+use Rattle.mq_stations.specs.Leaving.{IsEarlyStream, IsLoad}
 use Rattle.mq_engine.specs.Loads.{IsArrived}
 use Rattle.mq_engine.specs.Progress.{CanWork, IsEndPut, IsEnding, IsKnown, IsPut, IsReached, IsWorkedOut, Tells, is_done, is_read, is_ready, is_waiting, reads_done, stands_at}
-use Rattle.mq_engine.specs.declared.fault.PastFault.{PastFault}
+use Rattle.mq_stations.specs.declared.late.PastFault.{PastFault}
 use Rattle.mq_engine.specs.declared.progress.Stand.{Stand}
 use Rattle.mq_engine.specs.declared.progress.Stand.TheVariants.{Waiting, Done, Late}
 use Rattle.mq_engine.specs.declared.working.Ending.{Ending}
 use Rattle.mq_engine.specs.declared.working.Ending.TheVariants.{OnTime, TooLate}
 use Rattle.mq_engine.specs.declared.working.NodeResult.{NodeResult}
 use Rattle.mq_engine.proofs.Early.{EarlyPairs, EarlyTimes, flat-early, picked-early, reads-early, rows-early, stream-early, leaving-early}
-use Rattle.mq_engine.proofs.Leaves.{none-late}
-use Rattle.mq_engine.proofs.Lists.{Each-at, Each-get, all-get, flat_map-same, get-set_other, get-set_same, zip-jobs, zip-times}
+use Rattle.mq_stations.proofs.lemmas.Late.{none-late}
+use Rattle.mq_engine.proofs.Lists.{Each-at, all-get, flat_map-same, get-set_other, get-set_same, zip-jobs, zip-times}
+use Rattle.mq_stations.proofs.lemmas.Lists.{Each-get}
 
 -- a node all of whose inputs are done
 pub record IsReady (plan : Plan) (stands : List Stand) (v : ℕ) (node : Node) : Type 0 where

@@ -1,10 +1,6 @@
 pub mod Answer
-pub mod Blocks
-pub mod Branches
 pub mod CoreLaws
 pub mod Loads
-pub mod Losses
 pub mod Merges
 pub mod Progress
-pub mod Servers
 pub mod Working

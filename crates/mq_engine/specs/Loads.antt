@@ -1,13 +1,10 @@
 -- What comes to the nodes that are ready, and what the pieces of a wave are.
-use Rattle.std.specs.Prelude.{◌≡◌, ◌≤◌, ℕ, List, Contains, length, map, Some, None, slice_get}
+use Rattle.std.specs.Prelude.{◌≡◌, ◌≤◌, ℕ, List, Contains, map, Some, None, slice_get}
 use Rattle.mq_core.specs.Came.{came_in}
 use Rattle.mq_core.specs.SequenceLaws.{arrives_of, jobs_of}
-use Rattle.mq_core.specs.Sequences.{sequence_fates, sequence_late_from, sequence_outs, stream_in_order}
+use Rattle.mq_core.specs.Sequences.{sequence_fates, sequence_late_from}
 use Rattle.mq_core.specs.OnceOut.{founds_of}
-use Rattle.mq_core.specs.Handling.{demand_of_job}
-use Rattle.mq_core.specs.Kinds.ForkJoin.{branch_demands}
 use Rattle.mq_core.specs.Results.{first_of}
-use Rattle.mq_core.specs.Sound.{outputs_in}
 use Rattle.mq_core.specs.StandardTable.{run_of}
 use Rattle.mq_core.specs.Theorems.{IsReadFor}
 use Rattle.mq_core.specs.declared.model.Demand.{Demand}
@@ -20,19 +17,10 @@ use Rattle.mq_core.specs.declared.model.Plan.{Plan}
 use Rattle.mq_core.specs.declared.model.Rows.{Rows}
 use Rattle.mq_core.specs.declared.model.Stage.{Stage as TandemStage}
 use Rattle.mq_core.specs.declared.model.Stream.{Stream}
-use Rattle.mq_maxplus.specs.Matrices.{entry, matrix_act, matrix_then}
-use Rattle.mq_maxplus.specs.Maxplus.{affine_act, affine_then, mp_or_zero}
-use Rattle.mq_maxplus.specs.declared.affine.Affine.{Affine}
-use Rattle.mq_maxplus.specs.declared.mp.Mp.{Mp}
-use Rattle.mq_maxplus.specs.declared.mp.Mp.TheVariants.{Void}
-use Rattle.mq_scan.specs.Folds.{AreBefore}
-use Rattle.mq_scan.specs.declared.blocks.Blocks.{Blocks}
-use Rattle.mq_server.specs.Jobs.{job}
-use Rattle.mq_tandem.specs.Rows.{job_matrix, kept, last_row, none_kept}
-use Rattle.mq_engine.specs.Answer.{late_told}
-use Rattle.mq_engine.specs.Blocks.{AreTimesOf, IsSumOf}
+use Rattle.mq_stations.specs.Late.{late_told}
 use Rattle.mq_engine.specs.Progress.{IsWorkedOut}
-use Rattle.mq_engine.specs.Working.{IsLeaving, IsLoad}
+use Rattle.mq_stations.specs.Leaving.{AreServed, IsLeaving, IsLoad}
+use Rattle.mq_stations.specs.Scans.{AreServerCarries, AreServerTimes, AreTandemCarries, AreTandemTimes, IsForkJoinScan, IsServerScan, IsServerSum, IsTandemScan, IsTandemSum}
 use Rattle.mq_engine.specs.declared.exits.Closed.{Closed}
 use Rattle.mq_engine.specs.declared.exits.Closed.TheVariants.{Fates, Found, Jobs, Over}
 use Rattle.mq_engine.specs.declared.exits.Exit.{Exit}
@@ -42,9 +30,8 @@ use Rattle.mq_engine.specs.declared.middles.Middle.{Middle}
 use Rattle.mq_engine.specs.declared.loads.Load.{Load}
 use Rattle.mq_engine.specs.declared.loads.Scan.{Scan}
 use Rattle.mq_engine.specs.declared.loads.Scan.TheVariants.{OfForkJoin, OfServer, OfTandem, Unscanned}
-use Rattle.mq_engine.specs.declared.stations.forkjoin.ForkJoinScan.{ForkJoinScan}
-use Rattle.mq_engine.specs.declared.stations.server.ServerScan.{ServerScan}
-use Rattle.mq_engine.specs.declared.stations.tandem.TandemScan.{TandemScan}
+use Rattle.mq_stations.specs.declared.server.ServerScan.{ServerScan}
+use Rattle.mq_stations.specs.declared.tandem.TandemScan.{TandemScan}
 use Rattle.mq_engine.specs.declared.working.NodeResult.{NodeResult}
 use Rattle.mq_engine.specs.declared.working.After.{After}
 use Rattle.mq_engine.specs.declared.working.After.TheVariants.{Seen, Missed}
@@ -57,28 +44,6 @@ use Rattle.mq_engine.specs.declared.firsts.Stage.TheVariants.{Ended, Last, Lates
 pub record IsArrived (plan : Plan) (rows : Rows) (v : ℕ) (arrivals : Stream) : Type 0 where
   pub job : arrivals.job ≡ jobs_of ((run_of plan rows).stations v).visits
   pub time : arrivals.time ≡ arrives_of ((run_of plan rows).stations v).visits
-
--- indices are cut into so many blocks at most
-abbrev pub AreFewBlocks : ℕ → ℕ → Blocks → Type 0
-AreFewBlocks places most blocks = (blocks.n ≡ places) × (blocks.blocks ≤ most)
-
--- a scan of a server is over all its arrivals and what they ask for, in 16,384 blocks at most
-pub record IsServerScan (rows : Rows) (demand : Demand) (arrivals : Stream) (scan : ServerScan) : Type 0 where
-  pub demands : scan.demands ≡ map (demand_of_job rows demand) arrivals.job
-  pub blocks : AreFewBlocks (length arrivals.time) 16384 scan.blocks
-
--- a scan of a tandem likewise, with what they ask for at each stage, in 1,024 blocks at most
-pub record IsTandemScan (rows : Rows) (stages : List TandemStage) (arrivals : Stream) (scan : TandemScan) : Type 0 where
-  pub asked : List Demand
-  pub asks : asked ≡ map (λ (stage : TandemStage). stage.demand) stages
-  pub demands : scan.demands ≡ map (λ demand. map (demand_of_job rows demand) arrivals.job) asked
-  pub places : scan.places ≡ map (λ (stage : TandemStage). stage.places) stages
-  pub blocks : AreFewBlocks (length arrivals.time) 1024 scan.blocks
-
--- a scan of a fork-join likewise, with what they ask for at each server of each branch, in 16,384 blocks at most
-pub record IsForkJoinScan (rows : Rows) (branches : List (List Demand)) (arrivals : Stream) (scan : ForkJoinScan) : Type 0 where
-  pub demands : scan.demands ≡ branch_demands rows branches arrivals.job
-  pub blocks : AreFewBlocks (length arrivals.time) 16384 scan.blocks
 
 -- a scan is that of the kind of its station
 abbrev pub IsScanOf : Rows → Kind → Stream → Scan → Type 0
@@ -124,37 +89,6 @@ IsAfter net rows v kind arrivals (Missed fault) =
 -- the same at a node of the plan
 abbrev pub IsAfterAt : Plan → Rows → ℕ → Stream → After → Type 0
 IsAfterAt plan rows v arrivals after = (node : Node) → slice_get plan.net.nodes v ≡ Some node → IsAfter plan.net rows v node.kind arrivals after
-
--- what the jobs of a block of a server do together
-abbrev pub IsServerSum : Stream → ServerScan → ℕ → Affine → Type 0
-IsServerSum arrivals scan b sum = IsSumOf affine_then (job arrivals.time scan.demands) scan.blocks b sum
-
--- the same of a tandem
-abbrev pub IsTandemSum : Stream → TandemScan → ℕ → List (List Mp) → Type 0
-IsTandemSum arrivals scan b sum = IsSumOf matrix_then (job_matrix scan.places arrivals.time scan.demands) scan.blocks b sum
-
--- the last departure of a server before each block
-abbrev pub AreServerCarries : Stream → ServerScan → List Mp → Type 0
-AreServerCarries arrivals scan carries =
-    (length carries ≡ scan.blocks.blocks) × AreBefore affine_act Void (job arrivals.time scan.demands) scan.blocks.block carries
-
--- the latest departures of a tandem before each block
-abbrev pub AreTandemCarries : Stream → TandemScan → List (List Mp) → Type 0
-AreTandemCarries arrivals scan carries =
-    (length carries ≡ scan.blocks.blocks) × AreBefore matrix_act (none_kept scan.places) (job_matrix scan.places arrivals.time scan.demands) scan.blocks.block carries
-
--- the latest departure from the last stage, of those that are kept
-abbrev pub latest_of : List ℕ → List Mp → ℕ
-latest_of places carry = mp_or_zero (entry carry (last_row (kept places)))
-
--- when the jobs of a block of a server depart
-abbrev pub AreServerTimes : Stream → ServerScan → ℕ → List ℕ → Type 0
-AreServerTimes arrivals scan b times = AreTimesOf mp_or_zero affine_act Void (job arrivals.time scan.demands) scan.blocks b times
-
--- the same of a tandem
-abbrev pub AreTandemTimes : Stream → TandemScan → ℕ → List ℕ → Type 0
-AreTandemTimes arrivals scan b times =
-    AreTimesOf (latest_of scan.places) matrix_act (none_kept scan.places) (job_matrix scan.places arrivals.time scan.demands) scan.blocks b times
 
 -- a first piece that is what the jobs of a block of a server do together
 abbrev pub IsServerPart : Stream → ServerScan → ℕ → Part → Type 0
@@ -249,13 +183,6 @@ IsApplied arrivals Unscanned b times = ⊥
 IsApplied arrivals (OfServer scan) b times = AreServerTimes arrivals scan b times
 IsApplied arrivals (OfTandem scan) b times = AreTandemTimes arrivals scan b times
 IsApplied arrivals (OfForkJoin scan) b times = ⊥
-
--- the jobs of a station of this kind depart at these times, in their order, by its only output
-pub record AreServed (rows : Rows) (kind : Kind) (arrivals : Stream) (departs : List ℕ) : Type 0 where
-  pub one : outputs_in kind ≡ 1
-  pub order : (stream : Stream) → stream_in_order kind stream ≡ stream
-  pub outs : sequence_outs rows kind (came_in arrivals) ≡ map (λ _. 0) arrivals.job
-  pub fates : sequence_fates rows kind (came_in arrivals) ≡ map (λ time. Departs time) departs
 
 -- those of a station of the plan do
 abbrev pub IsServed : Plan → Rows → ℕ → Stream → List ℕ → Type 0

@@ -17,8 +17,9 @@ use Rattle.mq_core.specs.declared.model.Plan.{Plan}
 use Rattle.mq_core.specs.declared.model.Rows.{Rows}
 use Rattle.mq_core.specs.declared.model.Stream.{Stream}
 use Rattle.mq_core.specs.declared.model.Visits.{Visits}
-use Rattle.mq_engine.specs.Answer.{late_told}
-use Rattle.mq_engine.specs.Working.{AreEarly, IsEarlyStream, IsThere, IsResult, arriving}
+use Rattle.mq_stations.specs.Late.{late_told}
+use Rattle.mq_engine.specs.Working.{AreEarly, IsThere, IsResult, arriving}
+use Rattle.mq_stations.specs.Leaving.{IsEarlyStream}
 use Rattle.mq_engine.specs.declared.progress.Stand.{Stand}
 use Rattle.mq_engine.specs.declared.progress.Stand.TheVariants.{Waiting, Done, Late}
 use Rattle.mq_engine.specs.declared.working.NodeResult.{NodeResult}

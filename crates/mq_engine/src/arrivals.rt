@@ -3,7 +3,8 @@ ghost use Rattle.std.specs.Prelude.{◌≡◌, ◌==◌, ◌<◌, ◌≤◌, cou
 ghost use Rattle.mq_core.specs.Sequences.{IsStream, rows_at};
 ghost use Rattle.mq_core.specs.Streams.{by_first, pairs_of};
 ghost use Rattle.mq_core.specs.Laws.{Rises};
-ghost use Rattle.mq_engine.specs.Working.{AreEarly, IsEarlyStream, IsThere, pairs_read};
+ghost use Rattle.mq_engine.specs.Working.{AreEarly, IsThere, pairs_read};
+ghost use Rattle.mq_stations.specs.Leaving.{IsEarlyStream};
 
 use mq_base::{List, OutOfMemory};
 use mq_core::{Input, Stream};

@@ -5,15 +5,13 @@ ghost use Rattle.mq_crew.specs.Crew.{AreAll};
 ghost use Rattle.mq_engine.specs.Loads.{IsAfterAt, IsClosed, IsLoaded, IsReadyExit, IsServed, IsShut, closings_of};
 ghost use Rattle.mq_engine.specs.Progress.{IsWorkedOut};
 
-use crate::PastFault;
-use crate::late::first_late;
 use crate::laws::core_laws;
 use crate::loads::Load;
-use crate::outflow::{fates_of, only};
 use crate::working::{After, NodeResult, ending_of, found_by_position};
 use mq_base::{List, OutOfMemory};
 use mq_core::{Fate, Stream, fates_are_in_time, sequences_go_by_fates};
 use mq_crew::Pieces;
+use mq_stations::{PastFault, fates_of, first_late, only};
 use std::alloc::Global;
 use std::thread::Threads;
 

@@ -3,17 +3,7 @@ ghost use Rattle.std.specs.Prelude.{◌≡◌};
 ghost use Rattle.mq_engine.specs.declared.fault.RunFault.TheVariants.{Memory};
 
 use mq_base::OutOfMemory;
-
-/// A visit that departs after the bound.
-#[derive(Clone, Copy, Debug, PartialEq, Eq)]
-pub struct PastFault {
-    /// The node, by order of declaration, from 0.
-    pub node: u32,
-    /// The position of the visit among those to the node, from 0.
-    pub position: u32,
-    /// When it departs, in ticks.
-    pub time: u64,
-}
+use mq_stations::PastFault;
 
 /// Why there is no run.
 #[derive(Clone, Copy, Debug, PartialEq, Eq)]

@@ -1,16 +1,20 @@
 // The first pieces of the stations that are ready: summaries of blocks, and whole stations.
-ghost use Rattle.std.specs.Prelude.{◌≡◌, ◌≤◌, length, IfOk, slice_index_or};
+ghost use Rattle.std.specs.Prelude.{◌≡◌, ◌<◌, ◌≤◌, ℕ, List as Items, length, IfOk, slice_index_or};
 ghost use Rattle.mq_crew.specs.Crew.{AreAll};
-ghost use Rattle.mq_engine.specs.Loads.{IsAfterAt, IsLoaded, IsPart, IsReadyLoad, IsStage, IsWhole, blocks_of};
+ghost use Rattle.mq_engine.specs.Loads.{IsAfterAt, IsLoaded, IsPart, IsReadyLoad, IsServerPart, IsStage, IsTandemPart, IsWhole, blocks_of};
+ghost use Rattle.mq_stations.specs.Scans.{IsServerSum, IsTandemSum};
+ghost use Rattle.mq_maxplus.specs.declared.affine.Affine.{Affine as TheAffine};
+ghost use Rattle.mq_maxplus.specs.declared.mp.Mp.{Mp as TheMp};
 ghost use Rattle.mq_engine.specs.declared.firsts.Part.{Part as ThePart};
 ghost use Rattle.mq_engine.specs.declared.firsts.Part.TheVariants.{Whole};
 
 use crate::loads::{Load, Scan};
-use crate::stations::{server_carries, server_sum, tandem_carries, tandem_sum};
 use crate::working::{After, after_of};
 use mq_base::{List, OutOfMemory};
+use mq_core::Stream;
 use mq_crew::Pieces;
 use mq_maxplus::{Affine, Matrix, Mp};
+use mq_stations::{ServerScan, TandemScan, server_carries, server_sum, tandem_carries, tandem_sum};
 use mq_tandem::Latest;
 use std::alloc::Global;
 
@@ -96,15 +100,59 @@ pub fn stage_of(alloc: Global, load: &Load, group: List<Part>) -> Result<Stage, 
     match &load.scan {
         Scan::Unscanned => Ok(Stage::Ended(the_whole(group))),
         Scan::OfServer(scan) => {
-            let carries = server_carries(alloc, &load.arrivals, scan, &group)?;
+            let sums = server_sums(alloc, &load.arrivals, scan, &group)?;
+            let carries = server_carries(alloc, &load.arrivals, scan, &sums)?;
             Ok(Stage::Last(carries))
         }
         Scan::OfTandem(scan) => {
-            let carries = tandem_carries(alloc, &load.arrivals, scan, &group)?;
+            let sums = tandem_sums(alloc, &load.arrivals, scan, &group)?;
+            let carries = tandem_carries(alloc, &load.arrivals, scan, &sums)?;
             Ok(Stage::Latest(carries))
         }
         Scan::OfForkJoin(_) => Ok(Stage::Unbegun),
     }
+}
+
+// The summaries of all blocks of a server.
+fn server_sums(
+    alloc: Global,
+    arrivals: &Stream,
+    scan: &ServerScan,
+    group: &List<Part>,
+) -> Result<List<Affine>, OutOfMemory>
+    requires { (b : ℕ) (d : ThePart) → b < length group.now → IsServerPart arrivals.now scan.now b (slice_index_or group.now b d) }
+    ensures len { IfOk result (λ sums. length sums ≡ length group.now) }
+    ensures each { IfOk result (λ sums. (b : ℕ) (d : TheAffine) → b < length sums → IsServerSum arrivals.now scan.now b (slice_index_or sums b d)) }
+{
+    let mut sums = List::new(alloc);
+    for b in 0..group.len() {
+        match group.get(b) {
+            Part::Sum(sum) => sums.push(*sum)?,
+            Part::Whole(_) | Part::Product(_) => unreachable!(),
+        }
+    }
+    Ok(sums)
+}
+
+// The summaries of all blocks of a tandem.
+fn tandem_sums(
+    alloc: Global,
+    arrivals: &Stream,
+    scan: &TandemScan,
+    group: &List<Part>,
+) -> Result<List<Matrix>, OutOfMemory>
+    requires { (b : ℕ) (d : ThePart) → b < length group.now → IsTandemPart arrivals.now scan.now b (slice_index_or group.now b d) }
+    ensures len { IfOk result (λ sums. length sums ≡ length group.now) }
+    ensures each { IfOk result (λ sums. (b : ℕ) (d : Items (Items TheMp)) → b < length sums → IsTandemSum arrivals.now scan.now b (slice_index_or sums b d)) }
+{
+    let mut sums = List::new(alloc);
+    for b in 0..group.len() {
+        match group.get(b) {
+            Part::Product(sum) => sums.push(**sum)?,
+            Part::Whole(_) | Part::Sum(_) => unreachable!(),
+        }
+    }
+    Ok(sums)
 }
 
 // The one piece of a station that is not scanned.

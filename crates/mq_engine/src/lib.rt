@@ -10,32 +10,27 @@ ghost use Rattle.mq_engine.specs.CoreLaws.{CoreLaws};
 ghost use Rattle.mq_engine.specs.Progress.{IsReached, is_ready};
 
 mod arrivals;
-mod blocks;
-mod branches;
 mod exits;
 mod fault;
 mod firsts;
-mod late;
 mod laws;
 mod loads;
 mod merges;
 mod middles;
-mod outflow;
 mod progress;
 mod ready;
-mod servers;
-mod stations;
 mod working;
 
 use crate::laws::core_laws;
 use crate::loads::Arriving;
 use crate::progress::{Progress, Stand, beginning, ready_nodes, settle};
 use crate::ready::results_of;
-pub use fault::{PastFault, RunFault};
+pub use fault::RunFault;
 use mq_base::List;
 use mq_core::{Plan, Rows, Run};
 use mq_crew::Gate;
 pub use mq_pass::chain_departures;
+pub use mq_stations::PastFault;
 use std::alloc::Global;
 use std::thread::Threads;
 

@@ -6,16 +6,14 @@ ghost use Rattle.mq_core.specs.declared.model.Plan.{Plan as ThePlan};
 ghost use Rattle.mq_core.specs.declared.model.Rows.{Rows as TheRows};
 ghost use Rattle.mq_engine.specs.Loads.{IsLoadOf, IsReadyLoad, IsScanAt, IsScanOf};
 ghost use Rattle.mq_engine.specs.Merges.{IsArriving, IsComing, IsSortedPiece, pieces_of};
-ghost use Rattle.mq_engine.specs.Working.{IsLoad};
+ghost use Rattle.mq_stations.specs.Leaving.{IsLoad};
 
 use crate::laws::core_laws;
 use crate::merges::{Coming, alone, comings_of, merged_of};
-use crate::stations::{
-    ForkJoinScan, ServerScan, TandemScan, forkjoin_scan, server_scan, tandem_scan,
-};
 use mq_base::{List, OutOfMemory};
 use mq_core::{Kind, Plan, Rows, Stream};
 use mq_crew::{Gate, Pieces, run_parts};
+use mq_stations::{ForkJoinScan, ServerScan, TandemScan, forkjoin_scan, server_scan, tandem_scan};
 use std::alloc::Global;
 use std::thread::Threads;
 

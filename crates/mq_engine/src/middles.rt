@@ -4,15 +4,15 @@ ghost use Rattle.mq_crew.specs.Crew.{AreAll};
 ghost use Rattle.mq_engine.specs.Loads.{IsAll, IsApplied, IsExit, IsLast, IsLatest, IsLoaded, IsReadyMiddle, IsStage, applied_of};
 ghost use Rattle.mq_engine.specs.declared.firsts.Stage.TheVariants.{Ended, Last};
 
-use crate::branches::forkjoin_departures;
 use crate::exits::Exit;
 use crate::firsts::Stage;
 use crate::loads::{Load, Scan};
-use crate::stations::{server_departures, server_times, tandem_joined, tandem_times};
 use crate::working::After;
 use mq_base::{List, OutOfMemory};
+use mq_branches::forkjoin_departures;
 use mq_crew::{Gate, Pieces};
 use mq_maxplus::Mp;
+use mq_stations::{server_departures, server_times, tandem_joined, tandem_times};
 use mq_tandem::Latest;
 use std::alloc::Global;
 use std::thread::Threads;

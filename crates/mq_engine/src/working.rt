@@ -9,18 +9,15 @@ ghost use Rattle.mq_core.specs.Sound.{outputs_in};
 ghost use Rattle.mq_core.specs.declared.model.Fate.TheVariants.{Departs};
 ghost use Rattle.mq_engine.specs.Loads.{IsAfter};
 ghost use Rattle.mq_engine.specs.Progress.{IsEnding};
-ghost use Rattle.mq_engine.specs.Working.{IsLeaving, IsLoad};
+ghost use Rattle.mq_stations.specs.Leaving.{IsLeaving, IsLoad};
 
-use crate::PastFault;
-use crate::late::first_late;
-use crate::outflow::{Outflow, only};
-use crate::stations::leaving;
 use mq_base::{List, OutOfMemory};
 use mq_core::{
     Fate, Kind, Network, Rows, Stream, Visits, fates_are_in_time, sequences_go_by_fates,
 };
 use mq_delay::delay_leaving;
 use mq_merge::by_time;
+use mq_stations::{Outflow, PastFault, first_late, leaving, only};
 use mq_stats::{found, found_piece_in_order};
 use std::alloc::Global;
 use std::thread::Threads;

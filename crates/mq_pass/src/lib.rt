@@ -8,4 +8,4 @@ mod left;
 mod pass;
 mod rest;
 
-pub use pass::{block_size, chain_departures};
+pub use pass::chain_departures;

@@ -1,5 +1,5 @@
 // The single pass.
-ghost use Rattle.std.specs.Prelude.{◌≡◌, ◌+◌, ◌*◌, ◌/◌, ◌≤◌, IfOk, length, max};
+ghost use Rattle.std.specs.Prelude.{◌≡◌, ◌*◌, ◌≤◌, IfOk, length};
 ghost use Rattle.mq_core.specs.Sequences.{IsSoundLoad};
 ghost use Rattle.mq_core.specs.Recurrences.{lindley};
 
@@ -49,15 +49,4 @@ pub fn chain_departures<R: Threads + Sync, G: Gate>(
     let passed = placed(alloc, blocks.blocks, made?)?;
     let jobs = jobs_of(stream, demands, &blocks);
     ended(rt, alloc, workers, &jobs, &carries, &passed, gate)
-}
-
-/// How many jobs a block of a station has: at least this many, and so many that there are at most
-/// 16,384 blocks.
-pub fn block_size(jobs: u32, block: u32) -> u32
-    requires { 1 ≤ block }
-    ensures is { result ≡ max block ((jobs + 16383) / 16384) }
-    ensures some { 1 ≤ result }
-    ensures few { jobs ≤ 16384 * result }
-{
-    block.max(jobs.div_ceil(16384))
 }

@@ -6,7 +6,7 @@ mod blocks;
 mod passes;
 mod step;
 
-pub use blocks::{Blocks, cut};
+pub use blocks::{Blocks, block_size, cut};
 pub use passes::{
     apply, carries, ranges_append, scan, scan_times, summaries_act, summarise, times, times_append,
 };

@@ -12,8 +12,8 @@ use Rattle.mq_trace.specs.Trace.{rows_in}
 use Rattle.mq_top.specs.Answer.{Answer, answer, model_answer, run_answer, trace_answer}
 use Rattle.mq_top.specs.Answer.Answer.{ModelRefused, TraceRefused, PassesBound, Reported}
 use Rattle.mq_top.specs.Ends.{Ends, IsOfMade, RefusesModel, RefusesTrace, Taken}
-use Rattle.mq_top.specs.declared.outcome.Outcome.{Outcome}
-use Rattle.mq_top.specs.declared.outcome.Outcome.TheVariants.{Done, Usage, Model, Trace, Past, ReadFault, WriteFault, Memory}
+use Rattle.mq_outcome.specs.declared.outcome.Outcome.{Outcome}
+use Rattle.mq_outcome.specs.declared.outcome.Outcome.TheVariants.{Done, Usage, Model, Trace, Past, ReadFault, WriteFault, Memory}
 
 some_is_none : {A : Type 0} {B : Type 0} (o : Option A) (x : A) → o ≡ Some x → o ≡ None → B
 some_is_none o x some none = absurd (true≢false (sym (ap is_some some) ∙ ap is_some none))

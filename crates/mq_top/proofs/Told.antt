@@ -7,8 +7,8 @@ use Rattle.mq_model.specs.Model.{model_fault}
 use Rattle.mq_model.specs.NetworkOf.{network_in}
 use Rattle.mq_top.specs.Answer.{answer, answer_over, model_answer}
 use Rattle.mq_top.specs.Ends.{RefusesModel, RefusesTrace}
-use Rattle.mq_top.specs.declared.outcome.Outcome.{Outcome}
-use Rattle.mq_top.specs.declared.outcome.Outcome.TheVariants.{Done, Usage, Model, Trace, Past, ReadFault, WriteFault, Memory}
+use Rattle.mq_outcome.specs.declared.outcome.Outcome.{Outcome}
+use Rattle.mq_outcome.specs.declared.outcome.Outcome.TheVariants.{Done, Usage, Model, Trace, Past, ReadFault, WriteFault, Memory}
 
 pub if_told : (told : Option (List ℕ)) (P Q : List ℕ → Type 0) → IfSome told P → ((bytes : List ℕ) → P bytes → Q bytes) → IfSome told Q
 if_told None P Q h k = tt

@@ -10,8 +10,8 @@ use Rattle.mq_trace.specs.declared.fault.TraceFault.TheVariants as trace
 use Rattle.mq_top.specs.Answer.{Answer}
 use Rattle.mq_top.specs.Answer.Answer.{ModelRefused, TraceRefused, PassesBound, Reported}
 use Rattle.mq_words.specs.Words.{refuses_words, usage_fault}
-use Rattle.mq_top.specs.declared.outcome.Outcome.{Outcome}
-use Rattle.mq_top.specs.declared.outcome.Outcome.TheVariants.{Done, Usage, Model, Trace, Past, ReadFault, WriteFault, Memory}
+use Rattle.mq_outcome.specs.declared.outcome.Outcome.{Outcome}
+use Rattle.mq_outcome.specs.declared.outcome.Outcome.TheVariants.{Done, Usage, Model, Trace, Past, ReadFault, WriteFault, Memory}
 
 -- what a sink had taken, and has taken now, each where it is told, and its sure bytes then and now
 pub record Taken : Type 0 where
@@ -73,17 +73,6 @@ abbrev pub Untouched : {A : Type 0} → Outcome → A → A → Type 0
 Untouched Done before now = Unit {0}
 Untouched WriteFault before now = Unit {0}
 Untouched _ before now = now ≡ before
-
--- the status with which the program ends
-abbrev pub status_of : Outcome → ℕ
-status_of Done = 0
-status_of (Usage f) = 2
-status_of (Model f) = 3
-status_of (Trace f) = 4
-status_of (Past f) = 5
-status_of (ReadFault second) = 6
-status_of WriteFault = 7
-status_of Memory = 8
 
 -- how a command may end before the model is read; want of memory comes only where the words pass the rule
 abbrev pub RefusesCall : List (List ℕ) → Outcome → Type 0

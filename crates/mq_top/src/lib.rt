@@ -1,11 +1,9 @@
 //! The top call: all that the program does.
 #![tactic(auto)]
 
-mod line;
-mod outcome;
 mod stages;
 
+pub use mq_outcome::Outcome;
 // Who matches on an outcome names the fault of the words here, without the crate that reads them.
 pub use mq_words::UsageFault;
-pub use outcome::Outcome;
 pub use stages::{simulate, simulate_gated};

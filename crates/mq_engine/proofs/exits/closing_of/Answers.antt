@@ -1,4 +1,4 @@
-use Rattle.mq_engine.proofs.Leaves.{served-even, served-rises}
+use Rattle.mq_stations.proofs.lemmas.Leaves.{served-even, served-rises}
 use Rattle.mq_engine.proofs.exits.closing_of.Goals as goal
 
 pub found_by_position-requires-clause-even : goal.found_by_position-requires-clause-even

@@ -3,7 +3,7 @@ use Rattle.std.proofs.lemmas.Result.{IfOk-weaker}
 use Rattle.mq_core.specs.Came.{came_in}
 use Rattle.mq_core.specs.SequenceLaws.{FatesInTime}
 use Rattle.mq_core.specs.OnceOut.{founds_of}
-use Rattle.mq_engine.proofs.Leaves.{by-position-served, served-even, served-rises, served-stream}
+use Rattle.mq_stations.proofs.lemmas.Leaves.{by-position-served, served-even, served-rises, served-stream}
 use Rattle.mq_engine.proofs.Passing.{passing-finds_none}
 use Rattle.mq_engine.proofs.working.found_at.Goals as goal
 

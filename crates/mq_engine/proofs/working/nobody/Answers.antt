@@ -1,6 +1,6 @@
 use Rattle.std.proofs.Common.{◌<◌, length, get_or, ap, arith}
 use Rattle.std.proofs.lemmas.Option.{slice_get-get_or}
-use Rattle.mq_engine.proofs.Lists.{map-more}
+use Rattle.mq_stations.proofs.lemmas.Lists.{map-more}
 use Rattle.mq_engine.proofs.working.nobody.Goals as goal
 
 pub loop-preserved : goal.loop-preserved

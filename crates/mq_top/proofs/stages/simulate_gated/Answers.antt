@@ -3,7 +3,7 @@ use Rattle.mq_model.specs.Model.{model_fault}
 use Rattle.mq_model.specs.NetworkOf.{network_in}
 use Rattle.mq_top.specs.Answer.{answer_over}
 use Rattle.mq_top.specs.Ends.{Ends, Taken, takings}
-use Rattle.mq_top.specs.Lines.{PutsLine, line_text, name_of}
+use Rattle.mq_outcome.specs.Lines.{PutsLine, line_text, name_of}
 use Rattle.mq_words.specs.Words.{Asks, AsksFor, Makes, Names, jobs_asked}
 use Rattle.mq_words.proofs.Faults.{not_both, same_names, same_number}
 use Rattle.mq_top.proofs.MadeRuns.{same_answer}

@@ -1,0 +1,218 @@
+// The branches of a fork-join by blocks: the servers of each one after another, the branches side by side.
+ghost use Rattle.std.specs.Prelude.{◌≡◌, ◌+◌, ◌<◌, ◌≤◌, length, map, IfOk};
+ghost use Rattle.std.specs.List.{AllByRecursion};
+ghost use Rattle.mq_core.specs.Recurrences.{forkjoin_departs, lindley};
+ghost use Rattle.mq_stations.specs.Scans.{AreBranchLoads};
+ghost use Rattle.mq_branches.specs.Branches.{IsPassage, IsResumed, IsRunning, IsThrough, next_departs};
+ghost use Rattle.mq_branches.specs.Servers.{IsTask};
+
+use crate::servers::{Task, serve_all};
+use mq_base::{List, OutOfMemory};
+use mq_core::Stream;
+use mq_crew::Gate;
+use mq_forkjoin::later_times;
+use mq_stations::ForkJoinScan;
+use std::alloc::Global;
+use std::thread::Threads;
+
+/// A branch of a fork-join that has a server left.
+#[derive(Drop)]
+pub struct Branch<'a> {
+    /// When the jobs come to its next server, in ticks.
+    pub arrive: List<u64>,
+    /// What each job asks for at each of its servers, in ticks.
+    pub servers: &'a List<List<u64>>,
+}
+
+/// A fork-join while its jobs pass through the branches.
+#[derive(Drop)]
+pub struct Passage<'a> {
+    /// The branches that have a server left.
+    pub branches: List<Branch<'a>>,
+    /// When the jobs have come through all other branches, in ticks.
+    pub latest: List<u64>,
+}
+
+/// A tier of a fork-join: the servers with one number in their branches.
+#[derive(Clone, Copy)]
+pub struct Tier<'a> {
+    pub arrivals: &'a Stream,
+    pub scan: &'a ForkJoinScan,
+    pub server: usize,
+}
+
+// The jobs before the first server of each branch.
+fn begun<'a>(
+    alloc: Global,
+    arrivals: &Stream,
+    scan: &'a ForkJoinScan,
+) -> Result<Passage<'a>, OutOfMemory>
+    requires { AreBranchLoads arrivals.now.time scan.now.demands }
+    ensures { IfOk result (λ passage. IsPassage arrivals.now.time scan.now.demands 0 passage) }
+{
+    let mut branches = List::new(alloc);
+    for at in 0..scan.demands.len() {
+        let arrive = copy_of(alloc, &arrivals.time)?;
+        let servers = scan.demands.get(at);
+        branches.push(Branch { arrive, servers })?;
+    }
+    let latest = copy_of(alloc, &arrivals.time)?;
+    Ok(Passage { branches, latest })
+}
+
+fn copy_of(alloc: Global, times: &List<u64>) -> Result<List<u64>, OutOfMemory>
+    ensures { IfOk result (λ copy. copy ≡ times.now) }
+{
+    Ok(List::from_vec(Vec::from_slice(alloc, times.as_slice())?))
+}
+
+// The next server of a branch.
+fn task_of<'b>(tier: &Tier, branch: &'b Branch) -> Task<'b>
+    requires running { IsRunning tier.now.arrivals.now.time tier.now.server branch.now }
+    requires all { tier.now.scan.now.blocks.n ≡ length tier.now.arrivals.now.time }
+    ensures task { IsTask result }
+    ensures departs { lindley 0 result.arrive.now result.demands.now ≡ next_departs tier.now.server branch.now }
+{
+    Task {
+        arrive: &branch.arrive,
+        demands: branch.servers.get(tier.server),
+        blocks: tier.scan.blocks,
+    }
+}
+
+// The next server of each branch.
+fn tasks_of<'b>(
+    alloc: Global,
+    tier: &Tier,
+    branches: &'b List<Branch>,
+) -> Result<List<Task<'b>>, OutOfMemory>
+    requires running { AllByRecursion (IsRunning tier.now.arrivals.now.time tier.now.server) branches.now }
+    requires all { tier.now.scan.now.blocks.n ≡ length tier.now.arrivals.now.time }
+    ensures tasks { IfOk result (λ tasks. AllByRecursion IsTask tasks) }
+    ensures departs { IfOk result (λ tasks. map (λ task. lindley 0 task.arrive.now task.demands.now) tasks ≡ map (next_departs tier.now.server) branches.now) }
+{
+    let mut tasks = List::new(alloc);
+    for at in 0..branches.len() {
+        let branch = branches.get(at);
+        tasks.push(task_of(tier, branch))?;
+    }
+    Ok(tasks)
+}
+
+// When the jobs depart from the next server of each branch.
+fn next_departures<R: Threads + Sync, G: Gate>(
+    rt: &R,
+    alloc: Global,
+    workers: u32,
+    tier: &Tier,
+    branches: &List<Branch>,
+    gate: &G,
+) -> Result<List<List<u64>>, OutOfMemory>
+    requires running { AllByRecursion (IsRunning tier.now.arrivals.now.time tier.now.server) branches.now }
+    requires all { tier.now.scan.now.blocks.n ≡ length tier.now.arrivals.now.time }
+    requires few { length branches.now ≤ 8 }
+    requires some { 1 ≤ workers }
+    requires most { workers ≤ 64 }
+    ensures { IfOk result (λ all. all ≡ map (next_departs tier.now.server) branches.now) }
+{
+    let tasks = tasks_of(alloc, tier, branches)?;
+    serve_all(rt, alloc, workers, &tasks, gate)
+}
+
+// A branch whose jobs have come through so many of its servers at these times is put to the others that
+// have a server left, or to those that have none.
+fn resumed<'a>(
+    alloc: Global,
+    tier: &Tier,
+    passage: Passage<'a>,
+    servers: &'a List<List<u64>>,
+    departs: List<u64>,
+) -> Result<Passage<'a>, OutOfMemory>
+    requires through { IsThrough tier.now.arrivals.now.time tier.now.server servers.now departs }
+    requires running { AllByRecursion (IsRunning tier.now.arrivals.now.time tier.now.server) passage.branches }
+    requires long { length passage.latest ≡ length tier.now.arrivals.now.time }
+    ensures { IfOk result (λ next. IsResumed tier.now.arrivals.now.time tier.now.server servers.now passage.entry next) }
+{
+    let Passage {
+        mut branches,
+        latest,
+    } = passage;
+    if tier.server < servers.len() {
+        branches.push(Branch {
+            arrive: departs,
+            servers,
+        })?;
+        return Ok(Passage { branches, latest });
+    }
+    let later = later_times(alloc, &departs, &latest)?;
+    Ok(Passage {
+        branches,
+        latest: later,
+    })
+}
+
+// The jobs behind this server of each branch, which they leave at these times.
+fn advanced<'a>(
+    alloc: Global,
+    tier: &Tier,
+    passage: Passage<'a>,
+    departs: List<List<u64>>,
+) -> Result<Passage<'a>, OutOfMemory>
+    requires within { tier.now.server < 4 }
+    requires passage { IsPassage tier.now.arrivals.now.time tier.now.scan.now.demands tier.now.server passage }
+    requires departs { departs ≡ map (next_departs tier.now.server) passage.branches }
+    ensures { IfOk result (λ next. IsPassage tier.now.arrivals.now.time tier.now.scan.now.demands (tier.now.server + 1) next) }
+{
+    let next = Tier {
+        arrivals: tier.arrivals,
+        scan: tier.scan,
+        server: tier.server + 1,
+    };
+    let Passage { branches, latest } = passage;
+    let mut left = branches.into_vec();
+    let mut lists = departs.into_vec();
+    let mut done = Passage {
+        branches: List::new(alloc),
+        latest,
+    };
+    while let Some(branch) = left.pop() {
+        let Some(through) = lists.pop() else {
+            unreachable!()
+        };
+        done = resumed(alloc, &next, done, branch.servers, through)?;
+    }
+    Ok(done)
+}
+
+/// When each job leaves a fork-join that is scanned, in ticks, by position: tier by tier, in two lists of
+/// pieces over all branches that have a server there. A branch has at most 4; where none is left a tier
+/// makes no piece. The blocks are a cut of all jobs.
+///
+/// There are 1 to 64 workers. The gate is entered with each piece that is drawn. It refuses for want of
+/// memory alone.
+pub fn forkjoin_departures<R: Threads + Sync, G: Gate>(
+    rt: &R,
+    alloc: Global,
+    workers: u32,
+    arrivals: &Stream,
+    scan: &ForkJoinScan,
+    gate: &G,
+) -> Result<List<u64>, OutOfMemory>
+    requires load { AreBranchLoads arrivals.now.time scan.now.demands }
+    requires all { scan.now.blocks.n ≡ length arrivals.now.time }
+    requires some { 1 ≤ workers }
+    requires most { workers ≤ 64 }
+    ensures { IfOk result (λ departs. departs ≡ forkjoin_departs arrivals.now.time scan.now.demands) }
+{
+    let mut passage = begun(alloc, arrivals, scan)?;
+    for server in 0..4 {
+        let tier = Tier {
+            arrivals,
+            scan,
+            server,
+        };
+        let departs = next_departures(rt, alloc, workers, &tier, &passage.branches, gate)?;
+        passage = advanced(alloc, &tier, passage, departs)?;
+    }
+    Ok(passage.latest)
+}

@@ -1,9 +1,0 @@
-use Rattle.std.proofs.lemmas.Result.{IfOk-weaker}
-use Rattle.mq_engine.specs.Blocks.{from_of, size_of}
-use Rattle.mq_engine.proofs.Scanning.{server-times}
-use Rattle.mq_engine.proofs.stations.server.server_times.Goals as goal
-
-pub returns : goal.returns
-returns c =
-    IfOk-weaker c.applied.result _ _
-    (λ times e. server-times _ c.args.arrivals.now.time _ c.args.scan.now.demands (from_of c.args.scan.now.blocks c.args.b) (size_of c.args.scan.now.blocks c.args.b) times c.new-step.ensures.arrive c.new-step.ensures.demands e) c.applied.ensures

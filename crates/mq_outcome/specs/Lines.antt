@@ -1,0 +1,92 @@
+-- The line that each outcome puts on the error output.
+use Rattle.std.specs.Prelude.{◌≡◌, ◌≤◌, ℕ, List, length, [], ◌∷◌, ◌++◌, codes, decimal, true, false, Option, Some, None, slice_get}
+use Rattle.std.specs.Io.KnownBytes.{append_known}
+use Rattle.mq_base.specs.Outside.{TakesPrefix, Rose}
+use Rattle.mq_core.specs.declared.model.Network.{Network}
+use Rattle.mq_core.specs.declared.model.Node.{Node}
+use Rattle.mq_stations.specs.declared.late.PastFault.{PastFault}
+use Rattle.mq_model.specs.declared.fault.ModelFault.{ModelFault}
+use Rattle.mq_model.specs.declared.fault.ModelFault.TheVariants as model
+use Rattle.mq_trace.specs.declared.fault.TraceFault.{TraceFault}
+use Rattle.mq_trace.specs.declared.fault.TraceFault.TheVariants as trace
+use Rattle.mq_outcome.specs.declared.outcome.Outcome.{Outcome}
+use Rattle.mq_outcome.specs.declared.outcome.Outcome.TheVariants.{Done, Usage, Model, Trace, Past, ReadFault, WriteFault, Memory}
+use Rattle.mq_words.specs.declared.fault.UsageFault.{UsageFault}
+use Rattle.mq_words.specs.declared.fault.UsageFault.TheVariants as usage
+
+abbrev pub model_line : ModelFault → List ℕ
+model_line model.TooLong = codes "mpsim: model: longer than 65536 bytes" ++ 10 ∷ []
+model_line (model.BadByte l) = codes "mpsim: model line " ++ decimal l ++ codes ": byte not allowed" ++ 10 ∷ []
+model_line (model.BadHead l) = codes "mpsim: model line " ++ decimal l ++ codes ": expected model 1" ++ 10 ∷ []
+model_line (model.BadLine l w) = codes "mpsim: model line " ++ decimal l ++ codes ": word " ++ decimal w ++ codes " not allowed" ++ 10 ∷ []
+model_line (model.NameTwice l) = codes "mpsim: model line " ++ decimal l ++ codes ": name declared twice" ++ 10 ∷ []
+model_line (model.TooMany l) = codes "mpsim: model line " ++ decimal l ++ codes ": too many nodes or columns" ++ 10 ∷ []
+model_line (model.UnknownInput l i) = codes "mpsim: model line " ++ decimal l ++ codes ": input " ++ decimal i ++ codes " unknown" ++ 10 ∷ []
+model_line (model.OutputTaken l i) = codes "mpsim: model line " ++ decimal l ++ codes ": input " ++ decimal i ++ codes " already read" ++ 10 ∷ []
+model_line model.NoSource = codes "mpsim: model: no source" ++ 10 ∷ []
+model_line (model.Cycle l node) = codes "mpsim: model line " ++ decimal l ++ codes ": node on or behind a cycle" ++ 10 ∷ []
+model_line model.Memory = codes "mpsim: out of memory" ++ 10 ∷ []
+
+-- with the name of the column that is missing
+abbrev pub trace_line : List ℕ → TraceFault → List ℕ
+trace_line name trace.TooLong = codes "mpsim: trace: longer than 134217728 bytes" ++ 10 ∷ []
+trace_line name (trace.BadHeader f) = codes "mpsim: trace header: field " ++ decimal f ++ codes " not allowed" ++ 10 ∷ []
+trace_line name (trace.MissingColumn c) = codes "mpsim: trace header: column " ++ name ++ codes " missing" ++ 10 ∷ []
+trace_line name trace.TooManyRows = codes "mpsim: trace: more than 1048576 records" ++ 10 ∷ []
+trace_line name (trace.BadCount r) = codes "mpsim: trace record " ++ decimal r ++ codes ": wrong number of fields" ++ 10 ∷ []
+trace_line name (trace.UnknownSource r) = codes "mpsim: trace record " ++ decimal r ++ codes ": unknown source" ++ 10 ∷ []
+trace_line name (trace.BadNumber r f) = codes "mpsim: trace record " ++ decimal r ++ codes ": field " ++ decimal f ++ codes " is not a number in range" ++ 10 ∷ []
+trace_line name trace.Memory = codes "mpsim: out of memory" ++ 10 ∷ []
+
+-- with the name of the node
+abbrev pub past_line : List ℕ → PastFault → List ℕ
+past_line name f = codes "mpsim: node " ++ name ++ codes " position " ++ decimal f.position ++ codes " passes the bound at time " ++ decimal f.time ++ 10 ∷ []
+
+-- the two forms of a command
+abbrev pub usage_text : List ℕ
+usage_text = codes "mpsim: usage: mpsim MODEL TRACE [--workers N] [--block N] [--jobs] or mpsim --made N [--workers N] [--block N] [--jobs]"
+
+abbrev pub usage_line : UsageFault → List ℕ
+usage_line usage.Words = usage_text ++ 10 ∷ []
+usage_line usage.Form = usage_text ++ 10 ∷ []
+usage_line usage.Workers = codes "mpsim: --workers takes a whole number from 1 to 64" ++ 10 ∷ []
+usage_line usage.Block = codes "mpsim: --block takes a whole number from 1 to 65536" ++ 10 ∷ []
+usage_line usage.Made = codes "mpsim: --made takes a whole number from 0 to 18446744073709551615" ++ 10 ∷ []
+
+-- the line of an outcome, with the name that it speaks of
+abbrev pub line_text : List ℕ → Outcome → List ℕ
+line_text name Done = []
+line_text name (Usage f) = usage_line f
+line_text name (Model f) = model_line f
+line_text name (Trace f) = trace_line name f
+line_text name (Past f) = past_line name f
+line_text name (ReadFault false) = codes "mpsim: cannot read the model" ++ 10 ∷ []
+line_text name (ReadFault true) = codes "mpsim: cannot read the trace" ++ 10 ∷ []
+line_text name WriteFault = codes "mpsim: cannot write the report" ++ 10 ∷ []
+line_text name Memory = codes "mpsim: out of memory" ++ 10 ∷ []
+
+abbrev pub node_name : Option Node → List ℕ
+node_name None = []
+node_name (Some node) = node.name
+
+abbrev pub column_name : Option (List ℕ) → List ℕ
+column_name None = []
+column_name (Some name) = name
+
+abbrev pub fault_name : Network → TraceFault → List ℕ
+fault_name net (trace.MissingColumn c) = column_name (slice_get net.columns c)
+fault_name net _ = []
+
+-- the name that an outcome speaks of: that of a missing column, or of the node that passed the bound
+abbrev pub name_of : Network → Outcome → List ℕ
+name_of net (Trace f) = fault_name net f
+name_of net (Past f) = node_name (slice_get net.nodes f.node)
+name_of net _ = []
+
+-- the error output gained a first part of a line, and the whole where its count of faults didn't rise; that never falls, and
+-- stays where as many bytes are sure as the line has
+pub record PutsLine {S : Type 0} (taken : S → Option (List ℕ)) (sure faults : S → ℕ) (before after : S) (text : List ℕ) : Type 0 where
+  pub part : TakesPrefix (taken before) (taken after) (sure before) (sure after) text
+  pub whole : ¬ (Rose (faults before) (faults after)) → taken after ≡ append_known (taken before) text
+  pub later : faults before ≤ faults after
+  pub calm : length text ≤ sure before → faults after ≡ faults before

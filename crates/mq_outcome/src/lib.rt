@@ -1,0 +1,8 @@
+//! How a call of the program ends, its status, and the line that it puts on the error output.
+#![tactic(auto)]
+
+mod line;
+mod outcome;
+
+pub use line::{name_of, put_line};
+pub use outcome::Outcome;

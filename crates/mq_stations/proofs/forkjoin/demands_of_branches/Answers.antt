@@ -1,0 +1,21 @@
+use Rattle.std.proofs.Common.{◌≤◌, ◌++◌, ◌∷◌, [], ℕ, List, All, ap, ◌∙◌, length, map, arith}
+use Rattle.mq_base.proofs.lemmas.Lists.{map-all}
+use Rattle.mq_core.specs.Handling.{demand_of_job}
+use Rattle.mq_core.specs.declared.model.Demand.{Demand}
+use Rattle.mq_stations.specs.Leaving.{AreAsked}
+use Rattle.mq_stations.proofs.lemmas.Lists.{Each-get, map-more}
+use Rattle.mq_stations.proofs.forkjoin.demands_of_branches.Goals as goal
+
+pub all_demands_of-requires : goal.all_demands_of-requires
+all_demands_of-requires c =
+    Each-get (λ asked. All (λ demand. AreAsked c.args.rows.now demand c.args.jobs.now) asked) c.args.branches.now c.loop-at.at c.get.result.now c.requires c.get.ensures
+
+pub loop-at-preserved : goal.loop-at-preserved
+loop-at-preserved c =
+    map-more (λ (demands : List Demand). map (λ demand. map (demand_of_job c.args.rows.now demand) c.args.jobs.now) demands) c.args.branches.now c.loop-at.at c.get.result.now _ _ c.get.ensures
+    (c.in_ok-push.ensures.ok ∙ ap (λ (lists : List (List ℕ)). c.loop-at.demands ++ lists ∷ []) c.in_ok-all_demands_of.ensures) c.loop-at.invariant
+
+pub returns : goal.returns
+returns c =
+    let ended : length c.args.branches.now ≤ c.loop-at.at = omega arith in
+    map-all (λ (demands : List Demand). map (λ demand. map (demand_of_job c.args.rows.now demand) c.args.jobs.now) demands) c.args.branches.now c.loop-at.at _ ended c.loop-at.invariant

@@ -1,0 +1,88 @@
+-- A station that is worked out by blocks: what is scanned, and what is worked out of each block.
+use Rattle.std.specs.Prelude.{◌≡◌, ◌≤◌, ◌^◌, All, ℕ, List, length, map}
+use Rattle.std.specs.List.{AllByRecursion}
+use Rattle.mq_core.specs.Handling.{demand_of_job}
+use Rattle.mq_core.specs.Kinds.ForkJoin.{branch_demands}
+use Rattle.mq_core.specs.Sequences.{IsSoundLoad}
+use Rattle.mq_core.specs.declared.model.Demand.{Demand}
+use Rattle.mq_core.specs.declared.model.Rows.{Rows}
+use Rattle.mq_core.specs.declared.model.Stage.{Stage as TandemStage}
+use Rattle.mq_core.specs.declared.model.Stream.{Stream}
+use Rattle.mq_maxplus.specs.Matrices.{entry, matrix_act, matrix_then}
+use Rattle.mq_maxplus.specs.Maxplus.{affine_act, affine_then, mp_or_zero}
+use Rattle.mq_maxplus.specs.declared.affine.Affine.{Affine}
+use Rattle.mq_maxplus.specs.declared.mp.Mp.{Mp}
+use Rattle.mq_maxplus.specs.declared.mp.Mp.TheVariants.{Void}
+use Rattle.mq_scan.specs.Folds.{AreBefore}
+use Rattle.mq_scan.specs.declared.blocks.Blocks.{Blocks}
+use Rattle.mq_server.specs.Jobs.{job}
+use Rattle.mq_tandem.specs.Rows.{job_matrix, kept, last_row, none_kept}
+use Rattle.mq_stations.specs.Blocks.{AreTimesOf, IsSumOf}
+use Rattle.mq_stations.specs.declared.forkjoin.ForkJoinScan.{ForkJoinScan}
+use Rattle.mq_stations.specs.declared.server.ServerScan.{ServerScan}
+use Rattle.mq_stations.specs.declared.tandem.TandemScan.{TandemScan}
+
+-- indices are cut into so many blocks at most
+abbrev pub AreFewBlocks : ℕ → ℕ → Blocks → Type 0
+AreFewBlocks places most blocks = (blocks.n ≡ places) × (blocks.blocks ≤ most)
+
+-- a scan of a server is over all its arrivals and what they ask for, in 16,384 blocks at most
+pub record IsServerScan (rows : Rows) (demand : Demand) (arrivals : Stream) (scan : ServerScan) : Type 0 where
+  pub demands : scan.demands ≡ map (demand_of_job rows demand) arrivals.job
+  pub blocks : AreFewBlocks (length arrivals.time) 16384 scan.blocks
+
+-- a scan of a tandem likewise, with what they ask for at each stage, in 1,024 blocks at most
+pub record IsTandemScan (rows : Rows) (stages : List TandemStage) (arrivals : Stream) (scan : TandemScan) : Type 0 where
+  pub asked : List Demand
+  pub asks : asked ≡ map (λ (stage : TandemStage). stage.demand) stages
+  pub demands : scan.demands ≡ map (λ demand. map (demand_of_job rows demand) arrivals.job) asked
+  pub places : scan.places ≡ map (λ (stage : TandemStage). stage.places) stages
+  pub blocks : AreFewBlocks (length arrivals.time) 1024 scan.blocks
+
+-- a scan of a fork-join likewise, with what they ask for at each server of each branch, in 16,384 blocks at most
+pub record IsForkJoinScan (rows : Rows) (branches : List (List Demand)) (arrivals : Stream) (scan : ForkJoinScan) : Type 0 where
+  pub demands : scan.demands ≡ branch_demands rows branches arrivals.job
+  pub blocks : AreFewBlocks (length arrivals.time) 16384 scan.blocks
+
+-- what the jobs of a block of a server do together
+abbrev pub IsServerSum : Stream → ServerScan → ℕ → Affine → Type 0
+IsServerSum arrivals scan b sum = IsSumOf affine_then (job arrivals.time scan.demands) scan.blocks b sum
+
+-- the same of a tandem
+abbrev pub IsTandemSum : Stream → TandemScan → ℕ → List (List Mp) → Type 0
+IsTandemSum arrivals scan b sum = IsSumOf matrix_then (job_matrix scan.places arrivals.time scan.demands) scan.blocks b sum
+
+-- the last departure of a server before each block
+abbrev pub AreServerCarries : Stream → ServerScan → List Mp → Type 0
+AreServerCarries arrivals scan carries =
+    (length carries ≡ scan.blocks.blocks) × AreBefore affine_act Void (job arrivals.time scan.demands) scan.blocks.block carries
+
+-- the latest departures of a tandem before each block
+abbrev pub AreTandemCarries : Stream → TandemScan → List (List Mp) → Type 0
+AreTandemCarries arrivals scan carries =
+    (length carries ≡ scan.blocks.blocks) × AreBefore matrix_act (none_kept scan.places) (job_matrix scan.places arrivals.time scan.demands) scan.blocks.block carries
+
+-- the latest departure from the last stage, of those that are kept
+abbrev pub latest_of : List ℕ → List Mp → ℕ
+latest_of places carry = mp_or_zero (entry carry (last_row (kept places)))
+
+-- when the jobs of a block of a server depart
+abbrev pub AreServerTimes : Stream → ServerScan → ℕ → List ℕ → Type 0
+AreServerTimes arrivals scan b times = AreTimesOf mp_or_zero affine_act Void (job arrivals.time scan.demands) scan.blocks b times
+
+-- the same of a tandem
+abbrev pub AreTandemTimes : Stream → TandemScan → ℕ → List ℕ → Type 0
+AreTandemTimes arrivals scan b times =
+    AreTimesOf (latest_of scan.places) matrix_act (none_kept scan.places) (job_matrix scan.places arrivals.time scan.demands) scan.blocks b times
+
+-- a branch has 1 to 4 servers, and what its jobs ask for at each is a sound load
+pub record IsBranchLoad (arrive : List ℕ) (servers : List (List ℕ)) : Type 0 where
+  pub some : 1 ≤ length servers
+  pub few : length servers ≤ 4
+  pub load : All (λ demands. IsSoundLoad arrive demands) servers
+
+-- a fork-join has at most 8 branches, each of them such a one
+pub record AreBranchLoads (arrive : List ℕ) (branches : List (List (List ℕ))) : Type 0 where
+  pub few : length branches ≤ 8
+  pub early : All (λ time. time ≤ 2 ^ 60) arrive
+  pub each : AllByRecursion (IsBranchLoad arrive) branches

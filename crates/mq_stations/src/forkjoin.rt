@@ -1,0 +1,101 @@
+// A fork-join, whole and by blocks.
+ghost use Rattle.std.specs.Prelude.{◌≡◌, ◌≤◌, All, length, map, IfOk};
+ghost use Rattle.std.specs.List.{AllByRecursion, flat_map};
+ghost use Rattle.mq_core.specs.Kinds.ForkJoin.{branch_demands as demands_by_branch};
+ghost use Rattle.mq_core.specs.declared.model.Kind.TheVariants.{ForkJoin};
+ghost use Rattle.mq_stations.specs.Scans.{IsForkJoinScan};
+ghost use Rattle.mq_stations.specs.Leaving.{AreAsked, IsLeaving, IsLoad};
+
+use crate::outflow::{Outflow, all_demands_of, by_position};
+use mq_base::{List, OutOfMemory};
+use mq_core::{Demand, Rows, Stream, fates_are_in_time};
+use mq_forkjoin::fork_departures;
+use mq_scan::{Blocks, block_size, cut};
+use std::alloc::Global;
+
+/// A fork-join that is scanned, block by block at each server.
+#[derive(Drop)]
+pub struct ForkJoinScan {
+    /// What each job asks for at each server of each branch, in ticks.
+    pub demands: List<List<List<u64>>>,
+    /// The jobs by position, cut into blocks.
+    pub blocks: Blocks,
+}
+
+// What leaves a fork-join.
+pub fn forkjoin_outflow(
+    alloc: Global,
+    rows: &Rows,
+    branches: &List<List<Demand>>,
+    arrivals: &Stream,
+) -> Result<Outflow, OutOfMemory>
+    requires { IsLoad rows.now (ForkJoin branches.now) arrivals.now }
+    ensures { IfOk result (λ leaving. IsLeaving rows.now (ForkJoin branches.now) arrivals.now leaving.fates leaving.streams) }
+{
+    fates_are_in_time();
+    let asked = branch_demands(alloc, branches)?;
+    let demands = all_demands_of(alloc, rows, &asked, &arrivals.job)?;
+    let servers = branch_servers(alloc, branches)?;
+    let departs = fork_departures(alloc, arrivals, &demands, &servers)?;
+    drop(demands);
+    by_position(alloc, arrivals, departs)
+}
+
+/// How a fork-join is scanned: by blocks of at least so many jobs, which is 1 at least, at most 16,384 of
+/// them. It refuses for want of memory alone.
+pub fn forkjoin_scan(
+    alloc: Global,
+    rows: &Rows,
+    branches: &List<List<Demand>>,
+    arrivals: &Stream,
+    block: u32,
+) -> Result<ForkJoinScan, OutOfMemory>
+    requires load { IsLoad rows.now (ForkJoin branches.now) arrivals.now }
+    requires some { 1 ≤ block }
+    ensures { IfOk result (λ scan. IsForkJoinScan rows.now branches.now arrivals.now scan) }
+{
+    let size = arrivals.job.len() as u32;
+    let demands = demands_of_branches(alloc, rows, branches, &arrivals.job)?;
+    let blocks = cut(size, block_size(size, block));
+    Ok(ForkJoinScan { demands, blocks })
+}
+
+// What each job asks for at each server of each branch, in ticks.
+fn demands_of_branches(
+    alloc: Global,
+    rows: &Rows,
+    branches: &List<List<Demand>>,
+    jobs: &List<u32>,
+) -> Result<List<List<List<u64>>>, OutOfMemory>
+    requires { AllByRecursion (λ asked. All (λ demand. AreAsked rows.now demand jobs.now) asked) branches.now }
+    ensures { IfOk result (λ demands. demands ≡ demands_by_branch rows.now branches.now jobs.now) }
+{
+    let mut demands = List::new(alloc);
+    for at in 0..branches.len() {
+        demands.push(all_demands_of(alloc, rows, branches.get(at), jobs)?)?;
+    }
+    Ok(demands)
+}
+
+// What the servers ask for, branch after branch.
+fn branch_demands(alloc: Global, branches: &List<List<Demand>>) -> Result<List<Demand>, OutOfMemory>
+    ensures { IfOk result (λ asked. asked ≡ flat_map (λ demands. demands) branches.now) }
+{
+    let mut asked = Vec::new(alloc);
+    for at in 0..branches.len() {
+        asked.extend_from_slice(branches.get(at).as_slice())?;
+    }
+    Ok(List::from_vec(asked))
+}
+
+// How many servers each branch has.
+fn branch_servers(alloc: Global, branches: &List<List<Demand>>) -> Result<List<u8>, OutOfMemory>
+    requires { All (λ demands. length demands ≤ 4) branches.now }
+    ensures { IfOk result (λ servers. servers ≡ map length branches.now) }
+{
+    let mut servers = List::new(alloc);
+    for at in 0..branches.len() {
+        servers.push(branches.get(at).len() as u8)?;
+    }
+    Ok(servers)
+}

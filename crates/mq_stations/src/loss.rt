@@ -1,0 +1,123 @@
+// A loss station: which arrivals find a place, and where each goes.
+ghost use Rattle.std.specs.Prelude.{◌≡◌, ◌<◌, ◌≤◌, length, map, IfOk};
+ghost use Rattle.mq_core.specs.Sequences.{IsSoundLoad};
+ghost use Rattle.mq_core.specs.Streams.{picked};
+ghost use Rattle.mq_core.specs.declared.model.Kind.TheVariants.{Loss};
+ghost use Rattle.mq_stations.specs.Losses.{AreAdmittedAndLost, fates_by, out_of_admission};
+ghost use Rattle.mq_stations.specs.Leaving.{IsLeaving, IsLoad};
+ghost use Rattle.mq_loss.specs.Rounds.{IsSettled};
+
+use crate::outflow::{Outflow, demands_of};
+use mq_base::{List, OutOfMemory, Steps};
+use mq_core::{Demand, Fate, Rows, Stream, fates_are_in_time};
+use mq_loss::{Settled, settle};
+use std::alloc::Global;
+use std::marker::Brand;
+use std::sync::ledger::{Blank, Ledger};
+
+// What leaves a loss station: the jobs that find a place leave by output 0 once they are served, the
+// others by output 1 as they come. So many arrivals are judged first.
+pub fn loss_outflow(
+    alloc: Global,
+    rows: &Rows,
+    places: u32,
+    demand: &Demand,
+    arrivals: &Stream,
+    window: u32,
+) -> Result<Outflow, OutOfMemory>
+    requires load { IsLoad rows.now (Loss places demand.now) arrivals.now }
+    requires some { 1 ≤ window }
+    ensures { IfOk result (λ leaving. IsLeaving rows.now (Loss places demand.now) arrivals.now leaving.fates leaving.streams) }
+{
+    fates_are_in_time();
+    let demands = demands_of(alloc, rows, demand, &arrivals.job)?;
+    let settled = settled::<Brand>(alloc, arrivals, &demands, places, window, Blank::new(1))?;
+    // What comes takes the room that they had.
+    drop(demands);
+    let departs = settled.departs;
+    let fates = fates_by_admission(alloc, &settled.admitted, &departs)?;
+    let streams = streams_of(alloc, arrivals, &settled.admitted, departs)?;
+    Ok(Outflow { fates, streams })
+}
+
+// Which arrivals find a place, and when those depart, settled with a counter of their own.
+fn settled<L: Ledger>(
+    alloc: Global,
+    arrivals: &Stream,
+    demands: &List<u64>,
+    places: u32,
+    window: u32,
+    blank: Blank,
+) -> Result<Settled, OutOfMemory>
+    requires load { IsSoundLoad arrivals.now.time demands.now }
+    requires places { 1 ≤ places }
+    requires window { 1 ≤ window }
+    requires name { blank.name ≡ L.name }
+    requires parts { blank.parts ≡ L.parts }
+    requires some { 0 < blank.parts }
+    ensures { IfOk result (λ settled. IsSettled places arrivals.now.time demands.now settled) }
+{
+    let mut steps = Steps::<L>::new(blank);
+    settle(alloc, arrivals, demands, places, window, &mut steps)
+}
+
+// The fate of each arrival.
+// Not inlined, like the one below, so that its loop has the registers to itself.
+#[inline(never)]
+fn fates_by_admission(
+    alloc: Global,
+    admitted: &List<bool>,
+    departs: &List<u64>,
+) -> Result<List<Fate>, OutOfMemory>
+    ensures { IfOk result (λ fates. fates ≡ fates_by admitted.now departs.now) }
+{
+    let mut fates = Vec::with_capacity(alloc, admitted.len())?;
+    let mut next = 0;
+    for at in 0..admitted.len() {
+        if *admitted.get(at) && next < departs.len() {
+            fates.push_reserved(Fate::Departs(*departs.get(next)));
+            next += 1;
+        } else {
+            fates.push_reserved(Fate::Lost);
+        }
+    }
+    Ok(List::from_vec(fates))
+}
+
+// The streams that leave: the jobs that are admitted, at their departures, and the others, which
+// leave as they come.
+#[inline(never)]
+fn streams_of(
+    alloc: Global,
+    arrivals: &Stream,
+    admitted: &List<bool>,
+    departs: List<u64>,
+) -> Result<List<Stream>, OutOfMemory>
+    requires jobs { length arrivals.now.job ≡ length admitted.now }
+    requires times { length arrivals.now.time ≡ length admitted.now }
+    requires departs { length departs ≡ length (picked 0 (map out_of_admission admitted.now) arrivals.now.job) }
+    ensures { IfOk result (λ streams. AreAdmittedAndLost arrivals.now admitted.now departs streams) }
+{
+    let lost = admitted.len() - departs.len();
+    let mut served = Vec::with_capacity(alloc, departs.len())?;
+    let mut job = Vec::with_capacity(alloc, lost)?;
+    let mut time = Vec::with_capacity(alloc, lost)?;
+    for at in 0..admitted.len() {
+        if *admitted.get(at) {
+            served.push_reserved(*arrivals.job.get(at));
+        } else {
+            job.push_reserved(*arrivals.job.get(at));
+            time.push_reserved(*arrivals.time.get(at));
+        }
+    }
+    let mut streams = List::new(alloc);
+    streams.push(Stream {
+        job: List::from_vec(served),
+        time: departs,
+    })?;
+    streams.push(Stream {
+        job: List::from_vec(job),
+        time: List::from_vec(time),
+    })?;
+    Ok(streams)
+}

@@ -1,0 +1,90 @@
+// What leaves a station, and what several kinds of station have in common.
+ghost use Rattle.std.specs.Prelude.{◌≡◌, ◌∷◌, [], All, length, map, IfOk};
+ghost use Rattle.mq_core.specs.Handling.{demand_of_job};
+ghost use Rattle.mq_core.specs.declared.model.Fate.TheVariants.{Departs};
+ghost use Rattle.mq_stations.specs.Leaving.{AreAsked, LeaveByPosition};
+
+use mq_base::{List, OutOfMemory};
+use mq_core::{Demand, Fate, Rows, Stream, demand_of};
+use std::alloc::Global;
+
+/// What leaves a station.
+#[derive(Drop)]
+pub struct Outflow {
+    /// The fate of each arrival, by position.
+    pub fates: List<Fate>,
+    /// By output the jobs that leave and when, by position.
+    pub streams: List<Stream>,
+}
+
+// The demand of each job, in ticks.
+// Its loop is not inlined, so that it has the registers to itself.
+#[inline(never)]
+pub fn demands_of(
+    alloc: Global,
+    rows: &Rows,
+    demand: &Demand,
+    jobs: &List<u32>,
+) -> Result<List<u64>, OutOfMemory>
+    requires { AreAsked rows.now demand.now jobs.now }
+    ensures { IfOk result (λ demands. demands ≡ map (demand_of_job rows.now demand.now) jobs.now) }
+{
+    let mut demands = Vec::with_capacity(alloc, jobs.len())?;
+    for at in 0..jobs.len() {
+        demands.push_reserved(demand_of(rows, demand, *jobs.get(at)));
+    }
+    Ok(List::from_vec(demands))
+}
+
+// What each job asks for at each server, in ticks: one list a server, with one demand a job.
+pub fn all_demands_of(
+    alloc: Global,
+    rows: &Rows,
+    asked: &List<Demand>,
+    jobs: &List<u32>,
+) -> Result<List<List<u64>>, OutOfMemory>
+    requires { All (λ demand. AreAsked rows.now demand jobs.now) asked.now }
+    ensures { IfOk result (λ demands. demands ≡ map (λ demand. map (demand_of_job rows.now demand) jobs.now) asked.now) }
+{
+    let mut demands = List::new(alloc);
+    for at in 0..asked.len() {
+        demands.push(demands_of(alloc, rows, asked.get(at), jobs)?)?;
+    }
+    Ok(demands)
+}
+
+// What leaves a station with one output, which the arrivals leave at these times, in their order.
+pub fn by_position(
+    alloc: Global,
+    arrivals: &Stream,
+    departs: List<u64>,
+) -> Result<Outflow, OutOfMemory>
+    ensures { IfOk result (λ leaving. LeaveByPosition arrivals.now.job departs leaving.fates leaving.streams) }
+{
+    let fates = fates_of(alloc, &departs)?;
+    let job = List::from_vec(Vec::from_slice(alloc, arrivals.job.as_slice())?);
+    let streams = only(alloc, Stream { job, time: departs })?;
+    Ok(Outflow { fates, streams })
+}
+
+/// The fates of visits that depart at these times, in ticks. It refuses for want of memory alone.
+#[inline(never)]
+pub fn fates_of(alloc: Global, departs: &List<u64>) -> Result<List<Fate>, OutOfMemory>
+    ensures { IfOk result (λ fates. fates ≡ map (λ time. Departs time) departs.now) }
+{
+    let mut fates = Vec::with_capacity(alloc, departs.len())?;
+    for at in 0..departs.len() {
+        fates.push_reserved(Fate::Departs(*departs.get(at)));
+    }
+    Ok(List::from_vec(fates))
+}
+
+/// The streams of a node with one output, of which this is the stream. It refuses for want of memory
+/// alone.
+pub fn only(alloc: Global, stream: Stream) -> Result<List<Stream>, OutOfMemory>
+    ensures { IfOk result (λ streams. streams ≡ stream ∷ []) }
+{
+    let mut streams = List::new(alloc);
+    streams.push(stream)?;
+    Ok(streams)
+}
