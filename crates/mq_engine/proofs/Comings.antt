@@ -29,7 +29,7 @@ use Rattle.mq_crew.specs.Crew.{AreAll, total_size}
 use Rattle.mq_scan.specs.declared.blocks.Blocks.{Blocks}
 use Rattle.mq_engine.specs.CoreLaws.{CoreLaws}
 use Rattle.mq_engine.specs.Loads.{IsLoadOf, IsLoaded, IsReadyLoad, IsScanAt}
-use Rattle.mq_engine.specs.Merges.{ArePairsOf, HasCome, IsArriving, IsBlockOf, IsComing, IsPair, IsReadyOrigin, IsSortedPiece, Pairs, arriving_by, has_port, pairs_from, pieces_of}
+use Rattle.mq_engine.specs.Merges.{ArePairsOf, HasCome, IsAllOf, IsArriving, IsBlockOf, IsComing, IsPair, IsReadyOrigin, IsSortedPiece, Pairs, arriving_by, has_port, pairs_from, pieces_of}
 use Rattle.mq_engine.specs.Progress.{CanWork}
 use Rattle.mq_engine.specs.Working.{AreEarly, arriving, pairs_read}
 use Rattle.mq_engine.specs.declared.loads.Arrived.{Arrived}
@@ -41,7 +41,7 @@ use Rattle.mq_engine.specs.declared.merges.Coming.{Coming}
 use Rattle.mq_engine.specs.declared.merges.Origin.{Origin}
 use Rattle.mq_engine.specs.declared.merges.Origin.TheVariants.{Ended, Further, Ports, Unsorted}
 use Rattle.mq_stations.proofs.lemmas.Blocks.{blocks-few}
-use Rattle.mq_engine.proofs.Groups.{ArePassing, all-few}
+use Rattle.mq_engine.proofs.Groups.{ArePassing, all-few, passing-more}
 use Rattle.mq_engine.proofs.Lists.{flat_map-more, zip-first}
 use Rattle.mq_engine.proofs.Sorted.{by_first-rises}
 use Rattle.mq_engine.proofs.Waves.{arrived, loaded, visits-few}
@@ -336,12 +336,6 @@ AreCut blocks (Ports one other own) = own ≡ blocks
 AreCut blocks (Further before next own) = own ≡ blocks
 AreCut blocks (Ended stream) = ⊥
 
-abbrev pub IsAllOf : Stream → Origin → Type 0
-IsAllOf stream (Unsorted rows) = ⊥
-IsAllOf stream (Ports one other blocks) = ⊥
-IsAllOf stream (Further before next blocks) = ⊥
-IsAllOf stream (Ended own) = own ≡ stream
-
 pub rows-alone : (v : ℕ) (origin : Origin) (group : List Stream) → AreRows origin → AreAll (IsSortedPiece v origin) (pieces_of origin) group → length group ≡ 1
 rows-alone v (Unsorted rows) group h all = all.len
 rows-alone v (Ports one other blocks) group h all = absurd h
@@ -456,3 +450,14 @@ settled load load' scan h is p r v a u b =
     let l = h.1 in
     let own : IsLoaded load.plan.now load.rows.now load.number load.arrivals scan = record { node = l.node; there = l.there; came = l.came; load = l.load; scanned = is l.node l.there } in
     subst (λ (z : Plan × Rows × ℕ × Stream × Scan × ℕ). IsReadFor z.0.net z.1 × IsLoaded z.0 z.1 z.2 z.3 z.4 × (1 ≤ z.5)) (λ k. (sym p k, sym r k, sym v k, sym a k, sym u k, sym b k)) (h.0, own, h.2)
+
+-- one node more
+pub arriving-more : (laws : CoreLaws) (s : Arriving) (all left rest : List Coming) (coming : Coming) (given others : List (List Stream)) (group : List Stream) (done done' : List Arrived) (a : Arrived) → done' ≡ done ++ a ∷ [] → AreArriving s all left given done → left ≡ rest ++ coming ∷ [] → given ≡ others ++ group ∷ [] → IsArriving s →
+    HasCome s a.load.number 8 a.load.arrivals → a.load.plan.now ≡ s.plan.now → a.load.rows.now ≡ s.rows.now → a.load.scan ≡ Unscanned → a.load.block ≡ s.block → AreArriving s all rest others done'
+arriving-more laws s all left rest coming given others group done done' a e was l g arr come p r u b =
+    passing-more coming_size coming_piece (IsComing s 8) (IsArrivedAt s) Any Any all left rest coming given others group done done' a was l g (load-come laws s a.load arr come p r u b) (λ plan rows ready h. tt) e
+
+pub loading-more : (all left rest : List Arrived) (one : Arrived) (given others : List (List Scan)) (group : List Scan) (done done' : List Load) (load : Load) (scan : Scan) → done' ≡ done ++ load ∷ [] → AreLoading all left given done → left ≡ rest ++ one ∷ [] → given ≡ others ++ group ∷ [] →
+    IsReadyLoad load → ((plan : Plan) (rows : Rows) (ready : List ℕ) → IsArrivedOf plan rows ready one → IsLoadOf plan rows ready load) → AreLoading all rest others done'
+loading-more all left rest one given others group done done' load scan e was l g ready becomes =
+    passing-more arrived_size arrived_piece IsReadyArrived IsReadyLoad IsArrivedOf IsLoadOf all left rest one given others group done done' load was l g ready becomes e

@@ -74,6 +74,20 @@ IsSortedPiece v (Ports one other blocks) b stream = IsBlockOf (pairs_of one.now 
 IsSortedPiece v (Further before next blocks) b stream = IsBlockOf (pairs_of before ++ pairs_of next.now) blocks b stream
 IsSortedPiece v (Ended stream) b piece = ⊥
 
+-- nothing more comes
+abbrev pub IsEnded : Origin → Type 0
+IsEnded (Unsorted rows) = ⊥
+IsEnded (Ports one other blocks) = ⊥
+IsEnded (Further before next blocks) = ⊥
+IsEnded (Ended stream) = Unit {0}
+
+-- this is all that came
+abbrev pub IsAllOf : Stream → Origin → Type 0
+IsAllOf stream (Unsorted rows) = ⊥
+IsAllOf stream (Ports one other blocks) = ⊥
+IsAllOf stream (Further before next blocks) = ⊥
+IsAllOf stream (Ended own) = own ≡ stream
+
 -- all of these nodes can be worked on
 pub record IsArriving (s : Arriving) : Type 0 where
   pub read : IsReadFor s.plan.now.net s.rows.now

@@ -5,7 +5,7 @@ ghost use Rattle.std.specs.List.{AllByRecursion};
 ghost use Rattle.mq_core.specs.Streams.{pairs_of};
 ghost use Rattle.mq_core.specs.Wiring.{is_source_kind};
 ghost use Rattle.mq_crew.specs.Crew.{AreAll, AreGroups};
-ghost use Rattle.mq_engine.specs.Merges.{ArePairsOf, HasCome, IsArriving, IsBlockOf, IsComing, IsPair, IsReadyOrigin, IsSortedPiece, Pairs, has_port, pairs_from, pieces_of};
+ghost use Rattle.mq_engine.specs.Merges.{ArePairsOf, HasCome, IsArriving, IsAllOf, IsBlockOf, IsComing, IsEnded, IsPair, IsReadyOrigin, IsSortedPiece, Pairs, has_port, pairs_from, pieces_of};
 
 use crate::arrivals::{rows_by_time, stream_of};
 use crate::laws::core_laws;
@@ -173,11 +173,25 @@ pub fn merged_of(
     requires group { AreAll (IsSortedPiece coming.number coming.origin) (pieces_of coming.origin) group }
     ensures { IfOk result (λ stream. ArePairsOf (pairs_from coming.entry.number coming.entry.origin) stream) }
 {
-    match coming.origin {
-        Origin::Unsorted(_rows) => Ok(alone(group)),
-        Origin::Ports(_first, _second, blocks) => joined(alloc, &blocks, group),
-        Origin::Further(_first, _second, blocks) => joined(alloc, &blocks, group),
-        Origin::Ended(stream) => Ok(stream),
+    match &coming.origin {
+        Origin::Unsorted(_) => return Ok(alone(group)),
+        Origin::Ports(_, _, blocks) => return joined(alloc, blocks, group),
+        Origin::Further(_, _, blocks) => return joined(alloc, blocks, group),
+        Origin::Ended(_) => {}
+    }
+    Ok(the_all(coming.origin))
+}
+
+// The stream to which nothing more comes.
+fn the_all(origin: Origin) -> Stream
+    requires { IsEnded origin }
+    ensures { IsAllOf result origin.entry }
+{
+    match origin {
+        Origin::Unsorted(_rows) => unreachable!(),
+        Origin::Ports(_first, _second, _blocks) => unreachable!(),
+        Origin::Further(_before, _next, _blocks) => unreachable!(),
+        Origin::Ended(stream) => stream,
     }
 }
 

@@ -1,3 +1,4 @@
+use Rattle.std.proofs.Common.{◌+◌}
 use Rattle.mq_engine.specs.Merges.{IsComing}
 use Rattle.mq_engine.proofs.Comings.{Any, coming_piece, coming_size, has-come}
 use Rattle.mq_engine.proofs.Groups.{passing-last, passing-more}

@@ -19,9 +19,6 @@ run_parts-requires-clause-few g c κs inside =
     let few = c.requires.few in
     subst (λ (l : List Coming). total_size coming_size l < 2 ^ 32) (sym c.as_slice.ensures) (comings-few s c.loop-port.port c.loop-port.comings (omega arith) c.loop-port.invariant.each)
 
-pub loop-port-preserved : goal.loop-port-preserved
-loop-port-preserved g c = record { len = c.in_ok-comings.ensures.len ∙ c.loop-port.invariant.len; each = c.in_ok-comings.ensures.each }
-
 pub returns-clause-each : goal.returns-clause-each
 returns-clause-each g c =
     let s = c.args.arriving.now in
