@@ -458,6 +458,7 @@ arriving-more laws s all left rest coming given others group done done' a e was 
     passing-more coming_size coming_piece (IsComing s 8) (IsArrivedAt s) Any Any all left rest coming given others group done done' a was l g (load-come laws s a.load arr come p r u b) (λ plan rows ready h. tt) e
 
 pub loading-more : (all left rest : List Arrived) (one : Arrived) (given others : List (List Scan)) (group : List Scan) (done done' : List Load) (load : Load) (scan : Scan) → done' ≡ done ++ load ∷ [] → AreLoading all left given done → left ≡ rest ++ one ∷ [] → given ≡ others ++ group ∷ [] →
-    IsReadyLoad load → ((plan : Plan) (rows : Rows) (ready : List ℕ) → IsArrivedOf plan rows ready one → IsLoadOf plan rows ready load) → AreLoading all rest others done'
-loading-more all left rest one given others group done done' load scan e was l g ready becomes =
-    passing-more arrived_size arrived_piece IsReadyArrived IsReadyLoad IsArrivedOf IsLoadOf all left rest one given others group done done' load was l g ready becomes e
+    IsReadyLoad one.load → IsScanAt one.load.plan.now one.load.rows.now one.load.number one.load.arrivals scan → load.plan.now ≡ one.load.plan.now → load.rows.now ≡ one.load.rows.now → load.number ≡ one.load.number → load.arrivals ≡ one.load.arrivals → load.scan ≡ scan → load.block ≡ one.load.block → AreLoading all rest others done'
+loading-more all left rest one given others group done done' load scan e was l g ready is p r v a u b =
+    passing-more arrived_size arrived_piece IsReadyArrived IsReadyLoad IsArrivedOf IsLoadOf all left rest one given others group done done' load was l g (settled one.load load scan ready is p r v a u b)
+    (λ plan rows nodes h. (p ∙ h.0, r ∙ h.1, subst (Contains nodes) (sym v) h.2)) e
