@@ -9,3 +9,4 @@ pub mod Endings
 pub mod Scanning
 pub mod Groups
 pub mod Closings
+pub mod Comings
