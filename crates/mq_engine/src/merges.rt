@@ -14,8 +14,7 @@ use mq_base::{List, OutOfMemory};
 use mq_core::{Kind, Node, Rows, Stream};
 use mq_crew::{Gate, Pieces, run_parts};
 use mq_merge::merge_piece;
-use mq_pass::block_size;
-use mq_scan::{Blocks, cut};
+use mq_scan::{Blocks, block_size, cut};
 use std::alloc::Global;
 use std::thread::Threads;
 
