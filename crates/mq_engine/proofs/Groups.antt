@@ -131,21 +131,6 @@ result-of plan rows ready l node_result h number known = (
   subst (λ (z : Plan × Rows). IsWorkedOut z.0 z.1 node_result) (λ k. (h.0 k, h.1 k)) known,
 )
 
--- what came to the nodes that are ready
-load-known : (plan : Plan) (rows : Rows) (ready : List ℕ) (b : ℕ) (load : Load) → IsReadFor plan.net rows → b < length ready → (load.plan.now ≡ plan) × (load.rows.now ≡ rows) × (load.number ≡ get_or ready b 0) × IsLoaded plan rows load.number load.arrivals load.scan × (1 ≤ load.block) → IsReadyLoad load × IsLoadOf plan rows ready load
-load-known plan rows ready b load read l h = (
-  subst (λ (z : Plan × Rows). IsReadFor z.0.net z.1 × IsLoaded z.0 z.1 load.number load.arrivals load.scan × (1 ≤ load.block)) (λ k. (sym h.0 k, sym h.1 k)) (read, h.3, h.4),
-  (h.0, h.1, (b, l, get_or_default ready b load.number 0 l ∙ sym h.2)),
-)
-
-pub loads-known : (plan : Plan) (rows : Rows) (ready : List ℕ) (loads : List Load) → IsReadFor plan.net rows → length loads ≡ length ready →
-    ((b : ℕ) (d : Load) → b < length ready → ((get_or loads b d).plan.now ≡ plan) × ((get_or loads b d).rows.now ≡ rows) × ((get_or loads b d).number ≡ get_or ready b 0) × IsLoaded plan rows (get_or loads b d).number (get_or loads b d).arrivals (get_or loads b d).scan × (1 ≤ (get_or loads b d).block)) →
-    AllByRecursion IsReadyLoad loads × AllByRecursion (IsLoadOf plan rows ready) loads
-loads-known plan rows ready loads read e h =
-    let each = λ (k : ℕ) (load : Load) (g : slice_get loads k ≡ Some load).
-    let inside : k < length ready = subst (λ n. k < n) e (slice_get_within loads k load g) in
-    load-known plan rows ready k load read inside (subst (λ (l : Load). (l.plan.now ≡ plan) × (l.rows.now ≡ rows) × (l.number ≡ get_or ready k 0) × IsLoaded plan rows l.number l.arrivals l.scan × (1 ≤ l.block)) (get_or_from_slice_get loads k load load g) (h k load inside)) in
-    (Each-at IsReadyLoad loads (λ k load g. (each k load g).0), Each-at (IsLoadOf plan rows ready) loads (λ k load g. (each k load g).1))
 
 scan-few : (rows : Rows) (kind : Kind) (arrivals : Stream) (scan : Scan) → length arrivals.time ≤ 1048576 → IsScanOf rows kind arrivals scan → (blocks_of scan ≤ 1048576) × (applied_of scan ≤ 1048576)
 scan-few rows kind arrivals Unscanned few h = (omega arith, omega arith)

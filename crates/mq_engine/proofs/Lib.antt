@@ -10,3 +10,4 @@ pub mod Scanning
 pub mod Groups
 pub mod Closings
 pub mod DelayOrder
+pub mod Comings

@@ -67,6 +67,10 @@ pub record IsLoaded (plan : Plan) (rows : Rows) (v : ℕ) (arrivals : Stream) (s
   pub load : IsLoad rows node.kind arrivals
   pub scanned : IsScanOf rows node.kind arrivals scan
 
+-- so is one at a node of the plan
+abbrev pub IsScanAt : Plan → Rows → ℕ → Stream → Scan → Type 0
+IsScanAt plan rows v arrivals scan = (node : Node) → slice_get plan.net.nodes v ≡ Some node → IsScanOf rows node.kind arrivals scan
+
 -- how many first pieces a station has: one that is not scanned is one, and a server and a fork-join have none yet
 abbrev pub blocks_of : Scan → ℕ
 blocks_of Unscanned = 1

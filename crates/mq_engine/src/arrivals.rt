@@ -1,43 +1,18 @@
-// What comes to a node: the rows of a source, or the streams that ports read, merged.
-ghost use Rattle.std.specs.Prelude.{◌≡◌, ◌==◌, ◌<◌, ◌≤◌, ℕ, count_by, length, IfOk, IsTrue, Some, slice_get};
-ghost use Rattle.std.specs.List.{flat_map};
+// What comes to a node: the rows of a source, and the streams that ports read.
+ghost use Rattle.std.specs.Prelude.{◌≡◌, ◌==◌, ◌<◌, ◌≤◌, count_by, length, IfOk, IsTrue};
 ghost use Rattle.mq_core.specs.Sequences.{IsStream, rows_at};
 ghost use Rattle.mq_core.specs.Streams.{by_first, pairs_of};
 ghost use Rattle.mq_core.specs.Laws.{Rises};
-ghost use Rattle.mq_core.specs.declared.model.Input.{Input as Port};
-ghost use Rattle.mq_engine.specs.Working.{AreEarly, IsThere, arriving, pairs_read};
+ghost use Rattle.mq_engine.specs.Working.{AreEarly, IsThere, pairs_read};
 ghost use Rattle.mq_stations.specs.Leaving.{IsEarlyStream};
 
 use mq_base::{List, OutOfMemory};
-use mq_core::{Input, Kind, Node, Rows, Stream, merges_twice};
-use mq_merge::{by_time, merge_two};
+use mq_core::{Input, Stream};
+use mq_merge::by_time;
 use std::alloc::Global;
 
-// The arrivals at a node: the rows of a source, or the streams that the ports of another node read,
-// where the nodes have these streams. They come by time, and those of one time in file order or by
-// port.
-pub fn arrivals_at(
-    alloc: Global,
-    rows: &Rows,
-    number: u32,
-    node: &Node,
-    outputs: &[List<Stream>],
-) -> Result<Stream, OutOfMemory>
-    requires even { length rows.now.source ≡ length rows.now.time }
-    requires few { length rows.now.time ≤ 1048576 }
-    requires there { (port : ℕ) (input : Port) → slice_get node.now.inputs port ≡ Some input → IsThere outputs.now input }
-    requires early { AreEarly outputs.now }
-    ensures stream { IfOk result (λ stream. IsStream stream) }
-    ensures items { IfOk result (λ stream. pairs_of stream ≡ by_first (arriving rows.now number node.now outputs.now)) }
-{
-    match node.kind {
-        Kind::Source => rows_by_time(alloc, number, &rows.source, &rows.time),
-        _ => merged(alloc, &node.inputs, outputs),
-    }
-}
-
 // The rows of a source by time, those of one time in file order.
-fn rows_by_time(
+pub fn rows_by_time(
     alloc: Global,
     node: u32,
     source: &List<u32>,
@@ -104,31 +79,8 @@ fn rises(times: &List<u64>) -> bool
     times.as_slice().is_sorted()
 }
 
-// What these ports read, by time and then port.
-fn merged(
-    alloc: Global,
-    inputs: &List<Input>,
-    outputs: &[List<Stream>],
-) -> Result<Stream, OutOfMemory>
-    requires there { (port : ℕ) (input : Port) → slice_get inputs.now port ≡ Some input → IsThere outputs.now input }
-    requires early { AreEarly outputs.now }
-    ensures stream { IfOk result (λ stream. IsStream stream) }
-    ensures items { IfOk result (λ stream. pairs_of stream ≡ by_first (flat_map (pairs_read outputs.now) inputs.now)) }
-{
-    merges_twice();
-    let mut merged = Stream {
-        job: List::new(alloc),
-        time: List::new(alloc),
-    };
-    for port in 0..inputs.len() {
-        let input = inputs.get(port);
-        merged = merge_two(alloc, &merged, stream_of(outputs, input))?;
-    }
-    Ok(merged)
-}
-
 // The stream that an input reads.
-fn stream_of<'a>(outputs: &'a [List<Stream>], input: &Input) -> &'a Stream
+pub fn stream_of<'a>(outputs: &'a [List<Stream>], input: &Input) -> &'a Stream
     requires there { IsThere outputs.now input.now }
     requires early { AreEarly outputs.now }
     ensures stream { IsEarlyStream result.now }

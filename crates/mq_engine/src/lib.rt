@@ -15,6 +15,7 @@ mod fault;
 mod firsts;
 mod laws;
 mod loads;
+mod merges;
 mod middles;
 mod overtaking;
 mod progress;

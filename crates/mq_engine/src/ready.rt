@@ -11,11 +11,11 @@ ghost use Rattle.mq_engine.specs.Working.{AreEarly};
 
 use crate::exits::{Closed, Emptied, result_of};
 use crate::firsts::{Part, stage_of};
-use crate::loads::{Arriving, Load, Scan};
+use crate::loads::{Arriving, Load, Scan, loads_of};
 use crate::middles::{Middle, exit_of};
 use crate::working::NodeResult;
 use mq_base::{List, OutOfMemory};
-use mq_crew::{Gate, made, run_parts};
+use mq_crew::{Gate, run_parts};
 use std::alloc::Global;
 use std::thread::Threads;
 
@@ -41,7 +41,7 @@ pub fn results_of<R: Threads + Sync, G: Gate>(
     ensures len { IfOk result (λ results. length results ≡ length arriving.now.ready.now) }
     ensures known { IfOk result (λ results. AllByRecursion (IsResultOf arriving.now.plan.now arriving.now.rows.now arriving.now.ready.now) results) }
 {
-    let loads = made(rt, alloc, workers, arriving, gate)?;
+    let loads = loads_of(rt, alloc, workers, arriving, gate)?;
     let groups = run_parts(rt, alloc, workers, loads.as_slice(), gate)?;
     let middles = middles_of(alloc, loads, groups)?;
     let groups = run_parts(rt, alloc, workers, middles.as_slice(), gate)?;

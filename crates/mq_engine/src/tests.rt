@@ -1,9 +1,8 @@
 // The rows of a source by time.
 ghost use Rattle.std.specs.Prelude.{◌≡◌, ◌≤◌, length};
 
-use crate::arrivals::arrivals_at;
+use crate::arrivals::rows_by_time;
 use mq_base::{List, OutOfMemory};
-use mq_core::{Kind, Node, Rows};
 use std::alloc::Global;
 use std::test::Fail;
 
@@ -21,17 +20,9 @@ fn comes_so(alloc: Global, case: &Case<'_>) -> Result<bool, OutOfMemory>
     requires even { length case.now.source.now ≡ length case.now.time.now }
     requires few { length case.now.time.now ≤ 1048576 }
 {
-    let rows = Rows {
-        source: List::from_vec(Vec::from_slice(alloc, case.source)?),
-        time: List::from_vec(Vec::from_slice(alloc, case.time)?),
-        demands: List::new(alloc),
-    };
-    let node = Node {
-        name: List::new(alloc),
-        kind: Kind::Source,
-        inputs: List::new(alloc),
-    };
-    let arrivals = arrivals_at(alloc, &rows, 0, &node, &[])?;
+    let source = List::from_vec(Vec::from_slice(alloc, case.source)?);
+    let time = List::from_vec(Vec::from_slice(alloc, case.time)?);
+    let arrivals = rows_by_time(alloc, 0, &source, &time)?;
     Ok(arrivals.job.as_slice() == case.jobs && arrivals.time.as_slice() == case.arrive)
 }
 

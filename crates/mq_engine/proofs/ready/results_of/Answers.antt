@@ -4,21 +4,17 @@ use Rattle.mq_crew.specs.Crew.{total_size}
 use Rattle.mq_engine.specs.declared.exits.Emptied.{Emptied}
 use Rattle.mq_engine.specs.declared.middles.Middle.{Middle}
 use Rattle.mq_engine.specs.declared.loads.Load.{Load}
-use Rattle.mq_engine.proofs.Groups.{emptied_size, emptied-few, load_size, loads-few, loads-known, middle_size, middles-few}
+use Rattle.mq_engine.proofs.Groups.{emptied_size, emptied-few, load_size, loads-few, middle_size, middles-few}
 use Rattle.mq_engine.proofs.ready.results_of.Goals as goal
 
-pub middles_of-requires-clause-ready : goal.middles_of-requires-clause-ready
-middles_of-requires-clause-ready g c =
-    let s = c.args.arriving.now in
-    (loads-known s.plan.now s.rows.now s.ready.now c.in_ok-loads.loads c.requires.read c.in_ok-loads.ensures.len c.in_ok-loads.ensures.each).0
+pub loads_of-requires-clause-arriving : goal.loads_of-requires-clause-arriving
+loads_of-requires-clause-arriving g c κs inside = record { read = c.requires.read; early = c.requires.early; can = c.requires.can; block = c.requires.block }
 
 pub run_parts-requires-clause-few : goal.run_parts-requires-clause-few
 run_parts-requires-clause-few g c κs inside =
-    let s = c.args.arriving.now in
-    let ready = (loads-known s.plan.now s.rows.now s.ready.now c.in_ok-loads.loads c.requires.read c.in_ok-loads.ensures.len c.in_ok-loads.ensures.each).0 in
     let len = c.in_ok-loads.ensures.len in
     let few = c.requires.few in
-    subst (λ (l : List Load). total_size load_size l < 2 ^ 32) (sym c.as_slice.ensures) (loads-few c.in_ok-loads.loads (omega arith) ready)
+    subst (λ (l : List Load). total_size load_size l < 2 ^ 32) (sym c.as_slice.ensures) (loads-few c.in_ok-loads.loads (omega arith) c.in_ok-loads.ensures.ready)
 
 pub run_parts-requires-2-clause-few : goal.run_parts-requires-2-clause-few
 run_parts-requires-2-clause-few g c κs inside =
@@ -38,5 +34,4 @@ run_parts-requires-3-clause-few g c κs inside =
 pub returns-clause-known : goal.returns-clause-known
 returns-clause-known g c =
     let s = c.args.arriving.now in
-    let of = (loads-known s.plan.now s.rows.now s.ready.now c.in_ok-loads.loads c.requires.read c.in_ok-loads.ensures.len c.in_ok-loads.ensures.each).1 in
-    IfOk-weaker c.ended.result _ _ (λ results h. h s.plan.now s.rows.now s.ready.now (c.in_ok-those_emptied.ensures.of s.plan.now s.rows.now s.ready.now (c.in_ok-middles.ensures.of s.plan.now s.rows.now s.ready.now of))) c.ended.ensures.known
+    IfOk-weaker c.ended.result _ _ (λ results h. h s.plan.now s.rows.now s.ready.now (c.in_ok-those_emptied.ensures.of s.plan.now s.rows.now s.ready.now (c.in_ok-middles.ensures.of s.plan.now s.rows.now s.ready.now c.in_ok-loads.ensures.of))) c.ended.ensures.known
