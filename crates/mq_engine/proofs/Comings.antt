@@ -1,5 +1,5 @@
 -- What comes to a node by its ports, one after another, and the blocks of which it is put in order.
-use Rattle.std.proofs.Common.{◌≡◌, ℕ, zero, suc, ◌+◌, ◌*◌, ◌^◌, ◌<◌, ◌≤◌, ◌⊎◌, inl, inr, Bool, true, false, cond, List, [], ◌∷◌, ◌++◌, length, get_or, map, take, min, Option, Some, None, sym, refl, ap, ◌∙◌, subst, arith, append_assoc, length-append}
+use Rattle.std.proofs.Common.{◌≡◌, ℕ, zero, suc, ◌+◌, ◌*◌, ◌^◌, ◌<◌, ◌≤◌, ◌⊎◌, inl, inr, Bool, true, false, cond, List, [], ◌∷◌, ◌++◌, length, get_or, map, take, min, Some, None, sym, refl, ap, ◌∙◌, subst, arith, length-append}
 use Rattle.std.specs.Prelude.{◌&&◌, Contains, nat_lt, not, slice_get}
 use Rattle.std.specs.List.{AllByRecursion as Each, flat_map, zip}
 use Rattle.std.proofs.Math.Nat.{mul-le-mul_left}
@@ -31,7 +31,7 @@ use Rattle.mq_engine.specs.CoreLaws.{CoreLaws}
 use Rattle.mq_engine.specs.Loads.{IsLoadOf, IsLoaded, IsReadyLoad, IsScanAt}
 use Rattle.mq_engine.specs.Merges.{ArePairsOf, HasCome, IsAllOf, IsArriving, IsBlockOf, IsComing, IsPair, IsReadyOrigin, IsSortedPiece, Pairs, arriving_by, has_port, pairs_from, pieces_of}
 use Rattle.mq_engine.specs.Progress.{CanWork}
-use Rattle.mq_engine.specs.Working.{AreEarly, arriving, pairs_read}
+use Rattle.mq_engine.specs.Working.{arriving, pairs_read}
 use Rattle.mq_engine.specs.declared.loads.Arrived.{Arrived}
 use Rattle.mq_engine.specs.declared.loads.Arriving.{Arriving}
 use Rattle.mq_engine.specs.declared.loads.Load.{Load}
@@ -40,9 +40,11 @@ use Rattle.mq_engine.specs.declared.loads.Scan.TheVariants.{Unscanned}
 use Rattle.mq_engine.specs.declared.merges.Coming.{Coming}
 use Rattle.mq_engine.specs.declared.merges.Origin.{Origin}
 use Rattle.mq_engine.specs.declared.merges.Origin.TheVariants.{Ended, Further, Ports, Unsorted}
+use Rattle.mq_crew.proofs.lemmas.Sizes.{total-most}
 use Rattle.mq_stations.proofs.lemmas.Blocks.{blocks-few}
-use Rattle.mq_engine.proofs.Groups.{ArePassing, all-few, passing-more}
-use Rattle.mq_engine.proofs.Lists.{flat_map-more, zip-first}
+use Rattle.mq_stations.proofs.lemmas.Lists.{flat_map-more}
+use Rattle.mq_engine.proofs.Groups.{ArePassing, passing-more}
+use Rattle.mq_engine.proofs.Lists.{zip-first}
 use Rattle.mq_engine.proofs.Sorted.{by_first-rises}
 use Rattle.mq_engine.proofs.Waves.{arrived, loaded, visits-few}
 
@@ -419,7 +421,7 @@ AreLoading = ArePassing arrived_size arrived_piece IsReadyArrived IsReadyLoad Is
 
 pub comings-few : (s : Arriving) (ports : ℕ) (comings : List Coming) → length comings ≤ 64 → Each (IsComing s ports) comings → total_size coming_size comings < 2 ^ 32
 comings-few s ports comings few each =
-    let most = all-few coming_size comings (Each-weaker (IsComing s ports) _ (λ c h. one c.number c.origin h.origin h.few) comings each) in
+    let most = total-most 1048576 coming_size comings (Each-weaker (IsComing s ports) _ (λ c h. one c.number c.origin h.origin h.few) comings each) in
     omega arith
   where
     pair-few : (a b : Stream) (blocks : Blocks) → IsPair a b blocks → length (pairs_of a ++ pairs_of b) ≤ 1048576 → blocks.blocks ≤ 1048576
@@ -438,7 +440,7 @@ comings-few s ports comings few each =
     one v (Ended stream) h few = omega arith
 
 pub arrived-few : (arrived : List Arrived) → length arrived ≤ 64 → total_size arrived_size arrived < 2 ^ 32
-arrived-few arrived few = let most = all-few arrived_size arrived (each arrived) in omega arith
+arrived-few arrived few = let most = total-most 1048576 arrived_size arrived (each arrived) in omega arith
   where
     each : (xs : List Arrived) → Each (λ a. arrived_size a ≤ 1048576) xs
     each [] = tt

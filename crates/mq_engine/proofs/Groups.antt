@@ -1,17 +1,15 @@
 -- Stations and their groups of pieces, taken from the back.
-use Rattle.std.proofs.Common.{◌≡◌, ℕ, zero, suc, ◌+◌, ◌*◌, ◌^◌, ◌<◌, ◌≤◌, get_or, List, [], ◌∷◌, ◌++◌, length, Some, sym, refl, ap, ◌∙◌, subst, arith, length-append}
+use Rattle.std.proofs.Common.{◌≡◌, ℕ, zero, suc, ◌+◌, ◌^◌, ◌<◌, ◌≤◌, List, [], ◌∷◌, ◌++◌, length, Some, sym, refl, ap, subst, arith, length-append}
 use Rattle.std.specs.Prelude.{Contains, slice_get}
 use Rattle.std.specs.List.{AllByRecursion}
 use Rattle.mq_base.proofs.lemmas.Each.{Each-append, Each-back, Each-front, Each-weaker}
-use Rattle.mq_core.specs.Theorems.{IsReadFor}
 use Rattle.mq_core.specs.declared.model.Kind.{Kind}
 use Rattle.mq_core.specs.declared.model.Plan.{Plan}
 use Rattle.mq_core.specs.declared.model.Rows.{Rows}
 use Rattle.mq_core.specs.declared.model.Stream.{Stream}
 use Rattle.mq_engine.specs.declared.loads.Scan.{Scan}
 use Rattle.mq_engine.specs.declared.loads.Scan.TheVariants.{OfForkJoin, OfServer, OfTandem, Unscanned}
-use Rattle.mq_engine.proofs.Lists.{Each-at}
-use Rattle.mq_engine.specs.Loads.{IsApplied, IsClosed, IsLoaded, IsLoadOf, IsScanOf, IsPart, IsReadyExit, IsReadyLoad, IsReadyMiddle, IsResultOf, applied_of, blocks_of, closings_of}
+use Rattle.mq_engine.specs.Loads.{IsApplied, IsClosed, IsLoadOf, IsScanOf, IsPart, IsReadyExit, IsReadyLoad, IsReadyMiddle, IsResultOf, applied_of, blocks_of, closings_of}
 use Rattle.mq_engine.specs.Progress.{IsWorkedOut}
 use Rattle.mq_engine.specs.declared.exits.Closed.{Closed}
 use Rattle.mq_engine.specs.declared.exits.Exit.{Exit}
@@ -21,8 +19,6 @@ use Rattle.mq_engine.specs.declared.firsts.Part.{Part}
 use Rattle.mq_engine.specs.declared.middles.Middle.{Middle}
 use Rattle.mq_engine.specs.declared.loads.Load.{Load}
 use Rattle.mq_engine.specs.declared.working.NodeResult.{NodeResult}
-use Rattle.std.proofs.lemmas.Option.{get_or_from_slice_get, slice_get_within}
-use Rattle.std.proofs.lemmas.List.{get_or_default}
 use Rattle.mq_crew.specs.Crew.{AreAll, AreGroups, total_size}
 use Rattle.mq_crew.proofs.lemmas.Sizes.{total-most}
 use Rattle.mq_stations.proofs.lemmas.Blocks.{blocks-few}
@@ -130,7 +126,6 @@ result-of plan rows ready l node_result h number known = (
   subst (Contains ready) (sym number) h.2,
   subst (λ (z : Plan × Rows). IsWorkedOut z.0 z.1 node_result) (λ k. (h.0 k, h.1 k)) known,
 )
-
 
 scan-few : (rows : Rows) (kind : Kind) (arrivals : Stream) (scan : Scan) → length arrivals.time ≤ 1048576 → IsScanOf rows kind arrivals scan → (blocks_of scan ≤ 1048576) × (applied_of scan ≤ 1048576)
 scan-few rows kind arrivals Unscanned few h = (omega arith, omega arith)

@@ -1,5 +1,5 @@
 -- What comes to a node by its ports, one after another, and the pieces of which it is put in order.
-use Rattle.std.specs.Prelude.{◌≡◌, ◌+◌, ◌*◌, ◌<◌, ◌≤◌, ◌&&◌, ◌++◌, ℕ, Bool, Contains, if◌then◌else◌, List, length, min, nat_lt, not, Some, slice_get, take}
+use Rattle.std.specs.Prelude.{◌≡◌, ◌+◌, ◌*◌, ◌≤◌, ◌&&◌, ◌++◌, ℕ, Bool, Contains, if◌then◌else◌, List, length, min, nat_lt, not, Some, slice_get, take}
 use Rattle.std.specs.List.{flat_map}
 use Rattle.mq_base.specs.Lists.{between}
 use Rattle.mq_core.specs.Sequences.{IsStream, rows_at}

@@ -147,10 +147,7 @@ fn nothing(alloc: Global) -> Stream
 }
 
 // The same for all nodes that are ready.
-fn openings<'a>(
-    alloc: Global,
-    arriving: &Arriving<'a>,
-) -> Result<List<Coming<'a>>, OutOfMemory>
+fn openings<'a>(alloc: Global, arriving: &Arriving<'a>) -> Result<List<Coming<'a>>, OutOfMemory>
     requires arriving { IsArriving arriving.now }
     ensures len { IfOk result (λ all. length all ≡ length arriving.now.ready.now) }
     ensures each { IfOk result (λ all. AllByRecursion (IsComing arriving.now 2) all) }
@@ -163,11 +160,7 @@ fn openings<'a>(
 }
 
 // What came to a node by these ports, of the pieces in their order.
-pub fn merged_of(
-    alloc: Global,
-    coming: Coming,
-    group: List<Stream>,
-) -> Result<Stream, OutOfMemory>
+pub fn merged_of(alloc: Global, coming: Coming, group: List<Stream>) -> Result<Stream, OutOfMemory>
     requires ready { IsReadyOrigin coming.origin }
     requires group { AreAll (IsSortedPiece coming.number coming.origin) (pieces_of coming.origin) group }
     ensures { IfOk result (λ stream. ArePairsOf (pairs_from coming.entry.number coming.entry.origin) stream) }
@@ -228,12 +221,7 @@ fn joined(alloc: Global, blocks: &Blocks, group: List<Stream>) -> Result<Stream,
 }
 
 // What comes to a node by one port more, where it has one, and what came before.
-fn further<'a>(
-    arriving: &Arriving<'a>,
-    number: u32,
-    before: Stream,
-    port: usize,
-) -> Coming<'a>
+fn further<'a>(arriving: &Arriving<'a>, number: u32, before: Stream, port: usize) -> Coming<'a>
     requires arriving { IsArriving arriving.now }
     requires before { HasCome arriving.now number port before }
     ensures number { result.number ≡ number }

@@ -1,4 +1,4 @@
-use Rattle.std.proofs.Common.{◌≡◌, ◌≤◌, ◌∙◌, List, [], ℕ, ◌++◌, length, ap, subst, sym, arith, rules}
+use Rattle.std.proofs.Common.{◌≡◌, ◌∙◌, List, [], ℕ, ◌++◌, length, ap, subst, sym, arith, rules}
 use Rattle.std.proofs.lemmas.Option.{get_or_from_slice_get, slice_get_within}
 use Rattle.mq_engine.specs.Merges.{IsBlockOf}
 use Rattle.mq_engine.proofs.Comings.{AreBehind, behind-begins, behind-ends, behind-more, single-block}

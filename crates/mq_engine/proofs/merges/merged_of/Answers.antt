@@ -1,4 +1,4 @@
-use Rattle.std.proofs.Common.{refl, subst, sym, rules}
+use Rattle.std.proofs.Common.{refl, subst, sym}
 use Rattle.std.proofs.lemmas.Result.{IfOk-weaker}
 use Rattle.mq_engine.proofs.Comings.{AreCut, AreRows, blocks-all-there, of-all, of-blocks, of-rows, rows-alone}
 use Rattle.mq_engine.proofs.merges.merged_of.Goals as goal

@@ -1,4 +1,4 @@
-use Rattle.std.proofs.Common.{◌≡◌, ◌≤◌, ◌∙◌, false, true, length, sym, subst, ap, arith, rules}
+use Rattle.std.proofs.Common.{◌≡◌, ◌∙◌, false, true, sym, ap, arith, rules}
 use Rattle.std.specs.Prelude.{slice_get}
 use Rattle.mq_core.specs.Streams.{by_first}
 use Rattle.mq_core.specs.Wiring.{is_source_kind}

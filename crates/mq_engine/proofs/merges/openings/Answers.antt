@@ -1,4 +1,4 @@
-use Rattle.std.proofs.Common.{◌+◌, ◌∷◌, [], length, subst, sym, ap, arith, length-append}
+use Rattle.std.proofs.Common.{◌∷◌, [], length, subst, sym, ap, arith, length-append}
 use Rattle.std.specs.List.{AllByRecursion}
 use Rattle.mq_base.proofs.lemmas.Each.{Each-append}
 use Rattle.mq_engine.specs.Merges.{IsComing}
