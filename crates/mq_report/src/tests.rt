@@ -1,5 +1,5 @@
 // The lines of the visits to a node.
-ghost use Rattle.std.specs.Prelude.{◌≡◌, ◌≤◌, All, IfOk, IsTrue};
+ghost use Rattle.std.specs.Prelude.{◌≡◌, ◌≤◌, ◌^◌, ℕ, All, List as Items, Some, slice_get, IfOk, IsTrue};
 ghost use Rattle.mq_core.specs.Told.{HasValue};
 
 use crate::jobs::add_visits;
@@ -63,6 +63,20 @@ fn are_told(rows: &Rows, jobs: &List<u32>) -> bool
     jobs.as_slice().iter().all(|job| (*job as usize) < count)
 }
 
+// Whether the first column has values of at most 2^36.
+fn is_column_small(rows: &Rows) -> bool
+    ensures { IsTrue result → (values : Items ℕ) → slice_get rows.now.demands 0 ≡ Some values → All (λ value. value ≤ 2 ^ 36) values }
+{
+    if rows.demands.is_empty() {
+        return false;
+    }
+    let values = rows.demands.get(0);
+    values
+        .as_slice()
+        .iter()
+        .all(|value| *value <= 68_719_476_736)
+}
+
 fn are_small(founds: &List<u32>) -> bool
     ensures { IsTrue result → All (λ found. found ≤ 1048576) founds.now }
 {
@@ -83,6 +97,7 @@ fn put_lines(
     assert!(rt; visits.found.len() == visits.job.len());
     assert!(rt; visits.fate.len() == visits.job.len());
     assert!(rt; are_told(rows, &visits.job));
+    assert!(rt; is_column_small(rows));
     assert!(rt; are_small(&visits.found));
     let mut pending = Gather::new();
     let kind = Kind::Server(Demand::Column(0));
