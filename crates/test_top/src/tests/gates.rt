@@ -1,4 +1,6 @@
 // Two threads make pieces of one run.
+ghost use Rattle.std.specs.Prelude.{◌<◌};
+
 use super::{MODEL, TRACE, files_with};
 use mq_base::{MemSink, OutOfMemory};
 use mq_chain::ChainSeat;
@@ -54,6 +56,13 @@ impl Entries {
         }
         self.run_out.fetch_add(1, SeqCst);
     }
+
+    // How often this number came.
+    fn times(&self, number: usize) -> u64
+        requires { number < 3 }
+    {
+        self.came[number].load(SeqCst)
+    }
 }
 
 // Counts the pieces that are made apart from the blocks of a single pass.
@@ -105,8 +114,8 @@ fn two_threads_enter_the_gate_at_a_server(rt: HostRuntime) -> Result<(), Fail> {
     assert!(rt; gate.pieces.run_out.load(SeqCst) == 0);
     // once with each block, whoever draws it; its last lists are pieces
     for number in 0..3usize {
-        assert!(rt; gate.blocks.came[number].load(SeqCst) == 1);
-        assert!(rt; gate.pieces.came[number].load(SeqCst) >= 1);
+        assert!(rt; gate.blocks.times(number) == 1);
+        assert!(rt; gate.pieces.times(number) >= 1);
     }
     Ok(())
 }
@@ -118,8 +127,8 @@ fn two_threads_enter_the_gate_at_a_tandem(rt: HostRuntime) -> Result<(), Fail> {
     assert!(rt; gate.pieces.run_out.load(SeqCst) == 0);
     // once for a summary, once for an applied block, and once for the last lists of the tandem
     for number in 0..3usize {
-        assert!(rt; gate.pieces.came[number].load(SeqCst) >= 3);
-        assert!(rt; gate.blocks.came[number].load(SeqCst) == 0);
+        assert!(rt; gate.pieces.times(number) >= 3);
+        assert!(rt; gate.blocks.times(number) == 0);
     }
     Ok(())
 }
@@ -132,8 +141,8 @@ fn two_threads_enter_the_gate_at_a_forkjoin(rt: HostRuntime) -> Result<(), Fail>
     // a summary and an applied block of each job at the first servers and again at the second, and the
     // last lists
     for number in 0..3usize {
-        assert!(rt; gate.pieces.came[number].load(SeqCst) >= 5);
-        assert!(rt; gate.blocks.came[number].load(SeqCst) == 0);
+        assert!(rt; gate.pieces.times(number) >= 5);
+        assert!(rt; gate.blocks.times(number) == 0);
     }
     Ok(())
 }
