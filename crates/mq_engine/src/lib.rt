@@ -110,6 +110,3 @@ fn ended(plan: &Plan, rows: &Rows, progress: Progress) -> Result<Run, RunFault>
         outputs: List::from_vec(progress.outputs),
     })
 }
-
-#[cfg(test)]
-mod tests;
