@@ -5,8 +5,6 @@ mod jobs;
 mod line;
 mod lines;
 mod sections;
-#[cfg(test)]
-mod tests;
 mod totals;
 
 pub use sections::report;

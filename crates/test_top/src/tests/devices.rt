@@ -12,6 +12,13 @@ const REPORT: &[u8] = b"mpsim report 1\njobs 3 span 8\n\
     node desk server in 3 out 3 lost 0 wait 6 max 3 busy 8 area 14 peak 3 util 1.0000\n\
     exit desk.0 3 sojourn 14\n";
 
+// The first of its bytes with the lines of the jobs, up to those of the put that fails.
+const FIRST_LINES: &[u8] = b"mpsim report 1\njobs 3 span 8\n\
+    node src source in 3 out 3 lost 0 wait 0 max 0 busy 0 area 0 peak 0 util -\n\
+    node desk server in 3 out 3 lost 0 wait 6 max 3 busy 8 area 14 peak 3 util 1.0000\n\
+    exit desk.0 3 sojourn 14\n\
+    job 1 src arrive 0 wait 0 depart 0\njob 2 src arrive 1 wait 0 depart 1\njob 3 s";
+
 const UNWRITTEN: &[u8] = b"mpsim: cannot write the report\n";
 
 // The numbers of the read and of the puts on the two outputs that fail, from 1; of number 0 none does.
@@ -127,6 +134,21 @@ fn an_output_that_fails_has_a_first_part(rt: HostRuntime) -> Result<(), Fail> {
             )?
         );
     }
+    Ok(())
+}
+
+#[test]
+fn an_output_that_fails_among_the_lines_of_jobs_has_a_first_part(
+    rt: HostRuntime,
+) -> Result<(), Fail> {
+    let wanted = Ending {
+        outcome: Outcome::WriteFault,
+        status: 7,
+        out: FIRST_LINES,
+        err: UNWRITTEN,
+    };
+    let failing = Failing { out: 19, ..NONE };
+    assert!(rt; ends(&rt, rt.alloc(), &["m", "t", "--jobs"], failing, wanted)?);
     Ok(())
 }
 
