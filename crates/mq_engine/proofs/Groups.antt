@@ -8,12 +8,12 @@ use Rattle.mq_core.specs.declared.model.Plan.{Plan}
 use Rattle.mq_core.specs.declared.model.Rows.{Rows}
 use Rattle.mq_core.specs.declared.model.Stream.{Stream}
 use Rattle.mq_engine.specs.declared.loads.Scan.{Scan}
-use Rattle.mq_engine.specs.declared.loads.Scan.TheVariants.{OfForkJoin, OfServer, OfTandem, Unscanned}
+use Rattle.mq_engine.specs.declared.loads.Scan.TheVariants.{OfForkJoin, OfServer, OfSplit, OfTandem, Unscanned}
 use Rattle.mq_engine.specs.Loads.{IsApplied, IsClosed, IsLoadOf, IsScanOf, IsPart, IsReadyExit, IsReadyLoad, IsReadyMiddle, IsResultOf, applied_of, blocks_of, closings_of}
 use Rattle.mq_engine.specs.Progress.{IsWorkedOut}
 use Rattle.mq_engine.specs.declared.exits.Closed.{Closed}
 use Rattle.mq_engine.specs.declared.exits.Exit.{Exit}
-use Rattle.mq_engine.specs.declared.exits.Exit.TheVariants.{Known, Served, Sorted}
+use Rattle.mq_engine.specs.declared.exits.Exit.TheVariants.{Known, Passed, Served, Sorted}
 use Rattle.mq_engine.specs.declared.exits.Emptied.{Emptied}
 use Rattle.mq_engine.specs.declared.firsts.Part.{Part}
 use Rattle.mq_engine.specs.declared.middles.Middle.{Middle}
@@ -132,6 +132,7 @@ scan-few rows kind arrivals Unscanned few h = (omega arith, omega arith)
 scan-few rows kind arrivals (OfServer demands) few h = (omega arith, omega arith)
 scan-few rows kind arrivals (OfTandem its) few h = let most = blocks-few its.blocks in let n = h.2.blocks.0 in (omega arith, omega arith)
 scan-few rows kind arrivals (OfForkJoin its) few h = (omega arith, omega arith)
+scan-few rows kind arrivals (OfSplit blocks) few h = let most = blocks-few blocks in let n = h.2.0 in (omega arith, omega arith)
 
 pub loads-few : (loads : List Load) → length loads ≤ 64 → AllByRecursion IsReadyLoad loads → total_size load_size loads < 2 ^ 32
 loads-few loads few ready =
@@ -150,6 +151,7 @@ emptied-few those_emptied few = let most = total-most 1048576 emptied_size those
     one (Known after) = omega arith
     one (Served departs) = omega arith
     one (Sorted overtaken) = omega arith
+    one (Passed streams) = omega arith
 
     each : (ls : List Emptied) → AllByRecursion (λ l. emptied_size l ≤ 1048576) ls
     each [] = tt

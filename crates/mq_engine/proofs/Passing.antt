@@ -35,6 +35,9 @@ none-among before (time ∷ times) h up =
     ∙ (ap (λ l. 0 ∷ founds_from l times (map (λ t. Departs t) times)) (sym grown)
     ∙ ap (λ l. 0 ∷ l) (none-among (before ++ time ∷ []) times (λ k late e. Each-append (λ t. t ≤ late) before (time ∷ []) (h (suc k) late e) (Each-get (λ t. time ≤ t) times k late up.0 e, tt)) up.1))
 
+pub none-found : (times : List ℕ) → Rises (λ a b. a ≤ b) times → founds_of times (map (λ time. Departs time) times) ≡ map (λ _. 0) times
+none-found times up = none-among [] times (λ k time g. tt) up
+
 pub passing-finds_none : (rows : Rows) (kind : Kind) (job arrive : List ℕ) (fates : List Fate) → (kind ≡ Source) ⊎ ((route : Route) × (kind ≡ Split route)) → Rises (λ a b. a ≤ b) arrive → fates ≡ sequence_fates rows kind (came_by job arrive) → founds_of arrive fates ≡ map (λ _. 0) arrive
 passing-finds_none rows kind job arrive fates (inl e) up f = ap (founds_of arrive) (f ∙ ap (λ k. sequence_fates rows k (came_by job arrive)) e) ∙ none-among [] arrive (λ k time g. tt) up
 passing-finds_none rows kind job arrive fates (inr e) up f = ap (founds_of arrive) (f ∙ ap (λ k. sequence_fates rows k (came_by job arrive)) e.1) ∙ none-among [] arrive (λ k time g. tt) up

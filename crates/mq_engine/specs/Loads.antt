@@ -1,10 +1,11 @@
 -- What comes to the nodes that are ready, and what the pieces of a wave are.
-use Rattle.std.specs.Prelude.{◌≡◌, ◌≤◌, ℕ, List, [], ◌∷◌, Contains, map, Some, None, slice_get}
+use Rattle.std.specs.Prelude.{◌≡◌, ◌≤◌, ℕ, List, [], ◌∷◌, Contains, length, map, Some, None, slice_get}
 use Rattle.mq_core.specs.Came.{came_in}
 use Rattle.mq_core.specs.SequenceLaws.{arrives_of, jobs_of}
 use Rattle.mq_core.specs.Sequences.{sequence_fates, sequence_late_from, stream_in_order}
 use Rattle.mq_core.specs.OnceOut.{founds_of}
 use Rattle.mq_core.specs.Handling.{demand_of_job}
+use Rattle.mq_core.specs.Kinds.Split.{route_value}
 use Rattle.mq_core.specs.Results.{first_of}
 use Rattle.mq_core.specs.Streams.{sorted}
 use Rattle.mq_core.specs.StandardTable.{run_of}
@@ -13,29 +14,31 @@ use Rattle.mq_core.specs.declared.model.Demand.{Demand}
 use Rattle.mq_core.specs.declared.model.Fate.{Fate}
 use Rattle.mq_core.specs.declared.model.Fate.TheVariants.{Departs}
 use Rattle.mq_core.specs.declared.model.Kind.{Kind}
-use Rattle.mq_core.specs.declared.model.Kind.TheVariants.{ForkJoin, Server, Tandem}
+use Rattle.mq_core.specs.declared.model.Kind.TheVariants.{ForkJoin, Server, Split, Tandem}
 use Rattle.mq_core.specs.declared.model.Network.{Network}
 use Rattle.mq_core.specs.declared.model.Node.{Node}
 use Rattle.mq_core.specs.declared.model.Plan.{Plan}
+use Rattle.mq_core.specs.declared.model.Route.{Route}
 use Rattle.mq_core.specs.declared.model.Rows.{Rows}
 use Rattle.mq_core.specs.declared.model.Stage.{Stage as TandemStage}
 use Rattle.mq_core.specs.declared.model.Stream.{Stream}
+use Rattle.mq_scan.specs.declared.blocks.Blocks.{Blocks}
 use Rattle.mq_stats.specs.Ahead.{IsAhead}
 use Rattle.mq_stations.specs.Late.{late_told}
-use Rattle.mq_stations.specs.Leaving.{AreDepartures, AreServed, IsLoad}
-use Rattle.mq_stations.specs.Scans.{AreTandemCarries, AreTandemTimes, IsForkJoinScan, IsTandemScan, IsTandemSum}
+use Rattle.mq_stations.specs.Leaving.{AreDepartures, AreServed, IsLeaving, IsLoad, KeepsOrder}
+use Rattle.mq_stations.specs.Scans.{AreFewBlocks, AreSplitParts, AreTandemCarries, AreTandemTimes, IsForkJoinScan, IsTandemScan, IsTandemSum}
 use Rattle.mq_engine.specs.Progress.{IsWorkedOut}
 use Rattle.mq_engine.specs.Working.{AreStreams}
 use Rattle.mq_engine.specs.declared.exits.Closed.{Closed}
 use Rattle.mq_engine.specs.declared.exits.Closed.TheVariants.{Fates, Found, Jobs, Over}
 use Rattle.mq_engine.specs.declared.exits.Exit.{Exit}
-use Rattle.mq_engine.specs.declared.exits.Exit.TheVariants.{Known, Served, Sorted}
+use Rattle.mq_engine.specs.declared.exits.Exit.TheVariants.{Known, Passed, Served, Sorted}
 use Rattle.mq_engine.specs.declared.overtaking.Overtaken.{Overtaken}
 use Rattle.mq_engine.specs.declared.exits.Emptied.{Emptied}
 use Rattle.mq_engine.specs.declared.middles.Middle.{Middle}
 use Rattle.mq_engine.specs.declared.loads.Load.{Load}
 use Rattle.mq_engine.specs.declared.loads.Scan.{Scan}
-use Rattle.mq_engine.specs.declared.loads.Scan.TheVariants.{OfForkJoin, OfServer, OfTandem, Unscanned}
+use Rattle.mq_engine.specs.declared.loads.Scan.TheVariants.{OfForkJoin, OfServer, OfSplit, OfTandem, Unscanned}
 use Rattle.mq_stations.specs.declared.tandem.TandemScan.{TandemScan}
 use Rattle.mq_engine.specs.declared.working.NodeResult.{NodeResult}
 use Rattle.mq_engine.specs.declared.working.After.{After}
@@ -43,21 +46,22 @@ use Rattle.mq_engine.specs.declared.working.After.TheVariants.{Seen, Missed}
 use Rattle.mq_engine.specs.declared.working.Worked.{Worked}
 use Rattle.mq_engine.specs.declared.working.Worked.TheVariants.{Departed, Finished}
 use Rattle.mq_engine.specs.declared.firsts.Part.{Part}
-use Rattle.mq_engine.specs.declared.firsts.Part.TheVariants.{Product, Whole}
+use Rattle.mq_engine.specs.declared.firsts.Part.TheVariants.{Product, Routed, Whole}
 use Rattle.mq_engine.specs.declared.firsts.Stage.{Stage}
-use Rattle.mq_engine.specs.declared.firsts.Stage.TheVariants.{Ended, Latest, Unbegun}
+use Rattle.mq_engine.specs.declared.firsts.Stage.TheVariants.{Ended, Latest, Parted, Unbegun}
 
 -- the arrivals are those of the run
 pub record IsArrived (plan : Plan) (rows : Rows) (v : ℕ) (arrivals : Stream) : Type 0 where
   pub job : arrivals.job ≡ jobs_of ((run_of plan rows).stations v).visits
   pub time : arrivals.time ≡ arrives_of ((run_of plan rows).stations v).visits
 
--- a scan is that of the kind of its station; of a server it is what its arrivals ask for
+-- a scan is that of the kind of its station; of a server it is what its arrivals ask for, of a split its blocks, 16,384 at most
 abbrev pub IsScanOf : Rows → Kind → Stream → Scan → Type 0
 IsScanOf rows kind arrivals Unscanned = Unit {0}
 IsScanOf rows kind arrivals (OfServer demands) = (demand : Demand) × (kind ≡ Server demand) × (demands ≡ map (demand_of_job rows demand) arrivals.job)
 IsScanOf rows kind arrivals (OfTandem scan) = (stages : List TandemStage) × (kind ≡ Tandem stages) × IsTandemScan rows stages arrivals scan
 IsScanOf rows kind arrivals (OfForkJoin scan) = (branches : List (List Demand)) × (kind ≡ ForkJoin branches) × IsForkJoinScan rows branches arrivals scan
+IsScanOf rows kind arrivals (OfSplit blocks) = (route : Route) × (kind ≡ Split route) × AreFewBlocks (length arrivals.time) 16384 blocks
 
 -- what comes to a node is what comes in the run, and it can be worked on
 pub record IsLoaded (plan : Plan) (rows : Rows) (v : ℕ) (arrivals : Stream) (scan : Scan) : Type 0 where
@@ -77,6 +81,7 @@ blocks_of Unscanned = 1
 blocks_of (OfServer demands) = 0
 blocks_of (OfTandem scan) = scan.blocks.blocks
 blocks_of (OfForkJoin scan) = 0
+blocks_of (OfSplit blocks) = blocks.blocks
 
 -- how many of its blocks are applied
 abbrev pub applied_of : Scan → ℕ
@@ -84,6 +89,7 @@ applied_of Unscanned = 0
 applied_of (OfServer demands) = 0
 applied_of (OfTandem scan) = scan.blocks.blocks
 applied_of (OfForkJoin scan) = 0
+applied_of (OfSplit blocks) = 0
 
 -- the fates of the arrivals at a node of this kind, none of them late, and what leaves by each output
 pub record AreOnTime (net : Network) (rows : Rows) (v : ℕ) (kind : Kind) (arrivals : Stream) (fates : List Fate) (streams : List Stream) : Type 0 where
@@ -106,6 +112,10 @@ IsAfterAt plan rows v arrivals after = (node : Node) → slice_get plan.net.node
 abbrev pub AreDeparturesAt : Plan → Rows → ℕ → Stream → List ℕ → Type 0
 AreDeparturesAt plan rows v arrivals departs = (node : Node) → slice_get plan.net.nodes v ≡ Some node → AreDepartures rows node.kind arrivals departs
 
+-- all jobs of a station of the plan depart, at these times, by position
+abbrev pub AllDepartAt : Plan → Rows → ℕ → Stream → List ℕ → Type 0
+AllDepartAt plan rows v arrivals departs = (node : Node) → slice_get plan.net.nodes v ≡ Some node → sequence_fates rows node.kind (came_in arrivals) ≡ map (λ time. Departs time) departs
+
 -- jobs that leave a node of the plan do so by time
 abbrev pub Overtakes : Plan → ℕ → Type 0
 Overtakes plan v = (node : Node) → slice_get plan.net.nodes v ≡ Some node → (stream : Stream) → stream_in_order node.kind stream ≡ sorted stream
@@ -127,60 +137,109 @@ IsWorkedAt plan rows v arrivals worked = (node : Node) → slice_get plan.net.no
 abbrev pub IsTandemPart : Stream → TandemScan → ℕ → Part → Type 0
 IsTandemPart arrivals scan b (Whole worked) = ⊥
 IsTandemPart arrivals scan b (Product sum) = IsTandemSum arrivals scan b sum.value
+IsTandemPart arrivals scan b (Routed streams) = ⊥
+
+-- the node is a split
+abbrev pub IsSplitAt : Plan → ℕ → Type 0
+IsSplitAt plan v = (node : Node) × (route : Route) × (slice_get plan.net.nodes v ≡ Some node) × (node.kind ≡ Split route)
+
+-- what leaves a block of a split of the plan
+abbrev pub ArePartsAt : Plan → Rows → ℕ → Stream → Blocks → ℕ → List Stream → Type 0
+ArePartsAt plan rows v arrivals blocks b streams =
+    (node : Node) (route : Route) → slice_get plan.net.nodes v ≡ Some node → node.kind ≡ Split route → AreSplitParts route arrivals (map (route_value rows route) arrivals.job) blocks b streams
+
+-- a first piece that is what leaves a block of a split
+abbrev pub IsRouted : Part → Type 0
+IsRouted (Whole worked) = ⊥
+IsRouted (Product sum) = ⊥
+IsRouted (Routed streams) = Unit {0}
+
+-- the same, with what leaves
+abbrev pub IsSplitPart : Plan → Rows → ℕ → Stream → Blocks → ℕ → Part → Type 0
+IsSplitPart plan rows v arrivals blocks b (Whole worked) = ⊥
+IsSplitPart plan rows v arrivals blocks b (Product sum) = ⊥
+IsSplitPart plan rows v arrivals blocks b (Routed streams) = ArePartsAt plan rows v arrivals blocks b streams
 
 -- a first piece that is a whole station
 abbrev pub IsWhole : Part → Type 0
 IsWhole (Whole worked) = Unit {0}
 IsWhole (Product sum) = ⊥
+IsWhole (Routed streams) = ⊥
 
 -- the same, with what it tells
 abbrev pub IsWholePart : Plan → Rows → ℕ → Stream → Part → Type 0
 IsWholePart plan rows v arrivals (Whole worked) = IsWorkedAt plan rows v arrivals worked
 IsWholePart plan rows v arrivals (Product sum) = ⊥
+IsWholePart plan rows v arrivals (Routed streams) = ⊥
 
--- a first piece: a whole station, or what the jobs of a block do together
+-- a first piece: a whole station, what the jobs of a block do together, or what leaves a block
 abbrev pub IsPart : Plan → Rows → ℕ → Stream → Scan → ℕ → Part → Type 0
 IsPart plan rows v arrivals Unscanned b part = IsWholePart plan rows v arrivals part
 IsPart plan rows v arrivals (OfServer demands) b part = ⊥
 IsPart plan rows v arrivals (OfTandem scan) b part = IsTandemPart arrivals scan b part
 IsPart plan rows v arrivals (OfForkJoin scan) b part = ⊥
+IsPart plan rows v arrivals (OfSplit blocks) b part = IsSplitPart plan rows v arrivals blocks b part
 
 -- the station was one first piece
 abbrev pub IsAll : Stage → Type 0
 IsAll (Ended worked) = Unit {0}
 IsAll (Latest carries) = ⊥
+IsAll (Parted streams) = ⊥
 IsAll Unbegun = ⊥
 
 -- the latest departures before each block are known
 abbrev pub IsLatest : Stage → Type 0
 IsLatest (Ended worked) = ⊥
 IsLatest (Latest carries) = Unit {0}
+IsLatest (Parted streams) = ⊥
 IsLatest Unbegun = ⊥
+
+-- what leaves a split is known
+abbrev pub IsParted : Stage → Type 0
+IsParted (Ended worked) = ⊥
+IsParted (Latest carries) = ⊥
+IsParted (Parted streams) = Unit {0}
+IsParted Unbegun = ⊥
 
 -- what one piece told of the station is known
 abbrev pub IsEnded : Plan → Rows → ℕ → Stream → Stage → Type 0
 IsEnded plan rows v arrivals (Ended worked) = IsWorkedAt plan rows v arrivals worked
 IsEnded plan rows v arrivals (Latest carries) = ⊥
+IsEnded plan rows v arrivals (Parted streams) = ⊥
 IsEnded plan rows v arrivals Unbegun = ⊥
 
 -- the latest departures before the blocks of a tandem are known
 abbrev pub IsTandemStage : Stream → TandemScan → Stage → Type 0
 IsTandemStage arrivals scan (Ended worked) = ⊥
 IsTandemStage arrivals scan (Latest carries) = AreTandemCarries arrivals scan carries
+IsTandemStage arrivals scan (Parted streams) = ⊥
 IsTandemStage arrivals scan Unbegun = ⊥
 
 -- nothing is known yet, as of a server and of a fork-join, which come later
 abbrev pub IsUnbegun : Stage → Type 0
 IsUnbegun (Ended worked) = ⊥
 IsUnbegun (Latest carries) = ⊥
+IsUnbegun (Parted streams) = ⊥
 IsUnbegun Unbegun = Unit {0}
 
--- what is known of a station after its first pieces: what one told, the carry before each block, or nothing of a server and of a fork-join
+-- the jobs of a split of the plan go on as they come, in these streams
+abbrev pub AreSplitStreams : Plan → Rows → ℕ → Stream → List Stream → Type 0
+AreSplitStreams plan rows v arrivals streams = (node : Node) → slice_get plan.net.nodes v ≡ Some node → IsLeaving rows node.kind arrivals (map (λ time. Departs time) arrivals.time) streams × KeepsOrder node.kind
+
+-- what leaves a split is known
+abbrev pub IsSplitStage : Plan → Rows → ℕ → Stream → Stage → Type 0
+IsSplitStage plan rows v arrivals (Ended worked) = ⊥
+IsSplitStage plan rows v arrivals (Latest carries) = ⊥
+IsSplitStage plan rows v arrivals (Parted streams) = AreSplitStreams plan rows v arrivals streams
+IsSplitStage plan rows v arrivals Unbegun = ⊥
+
+-- what is known of a station after its first pieces: what one told, the carry before each block, what leaves a split, or nothing of a server and of a fork-join
 abbrev pub IsStage : Plan → Rows → ℕ → Stream → Scan → Stage → Type 0
 IsStage plan rows v arrivals Unscanned stage = IsEnded plan rows v arrivals stage
 IsStage plan rows v arrivals (OfServer demands) stage = IsUnbegun stage
 IsStage plan rows v arrivals (OfTandem scan) stage = IsTandemStage arrivals scan stage
 IsStage plan rows v arrivals (OfForkJoin scan) stage = IsUnbegun stage
+IsStage plan rows v arrivals (OfSplit blocks) stage = IsSplitStage plan rows v arrivals stage
 
 -- a further piece: when the jobs of a block depart
 abbrev pub IsApplied : Stream → Scan → ℕ → List ℕ → Type 0
@@ -188,6 +247,7 @@ IsApplied arrivals Unscanned b times = ⊥
 IsApplied arrivals (OfServer demands) b times = ⊥
 IsApplied arrivals (OfTandem scan) b times = AreTandemTimes arrivals scan b times
 IsApplied arrivals (OfForkJoin scan) b times = ⊥
+IsApplied arrivals (OfSplit blocks) b times = ⊥
 
 -- what is known of a delay whose jobs were put in the order in which they leave
 pub record IsOvertaken (plan : Plan) (rows : Rows) (v : ℕ) (arrivals : Stream) (overtaken : Overtaken) : Type 0 where
@@ -199,12 +259,14 @@ abbrev pub IsExit : Plan → Rows → ℕ → Stream → Exit → Type 0
 IsExit plan rows v arrivals (Known after) = IsAfterAt plan rows v arrivals after
 IsExit plan rows v arrivals (Served departs) = IsServed plan rows v arrivals departs
 IsExit plan rows v arrivals (Sorted overtaken) = IsOvertaken plan rows v arrivals overtaken
+IsExit plan rows v arrivals (Passed streams) = AreSplitStreams plan rows v arrivals streams
 
 -- how many last pieces a station has
 abbrev pub closings_of : Exit → ℕ
 closings_of (Known after) = 0
 closings_of (Served departs) = 3
 closings_of (Sorted overtaken) = 1
+closings_of (Passed streams) = 2
 
 -- a last piece: the fates of these departures, none of them late, or the first that is; how many each found; or the jobs
 abbrev pub IsShut : Plan → Rows → ℕ → Stream → List ℕ → ℕ → Closed → Type 0
@@ -228,6 +290,7 @@ abbrev pub IsClosed : Plan → Rows → ℕ → Stream → Exit → ℕ → Clos
 IsClosed plan rows v arrivals (Known after) b closed = ⊥
 IsClosed plan rows v arrivals (Served departs) b closed = IsShut plan rows v arrivals departs b closed
 IsClosed plan rows v arrivals (Sorted overtaken) b closed = IsFound arrivals overtaken closed
+IsClosed plan rows v arrivals (Passed streams) b closed = IsShut plan rows v arrivals arrivals.time b closed
 
 -- a load that can be worked on
 abbrev pub IsReadyLoad : Load → Type 0

@@ -1,15 +1,17 @@
 // The stations whose departures are known, and their last pieces: fates, who found how many, and what
 // leaves.
-ghost use Rattle.std.specs.Prelude.{◌≡◌, ◌<◌, map, IfOk};
+ghost use Rattle.std.specs.Prelude.{◌≡◌, ◌<◌, ◌≤◌, length, map, IfOk};
+ghost use Rattle.mq_core.specs.Laws.{Rises};
 ghost use Rattle.mq_core.specs.OnceOut.{founds_of};
 ghost use Rattle.mq_core.specs.declared.model.Fate.TheVariants.{Departs};
 ghost use Rattle.mq_crew.specs.Crew.{AreAll};
-ghost use Rattle.mq_engine.specs.Loads.{IsAfterAt, IsClosed, IsExit, IsFound, IsLoaded, IsOvertaken, IsReadyExit, IsServed, IsShut, closings_of};
+ghost use Rattle.mq_engine.specs.Loads.{AllDepartAt, IsAfterAt, IsClosed, IsExit, IsFound, IsLoaded, IsOvertaken, IsReadyExit, IsServed, IsShut, closings_of};
 ghost use Rattle.mq_engine.specs.Progress.{IsWorkedOut};
 
 use crate::laws::core_laws;
 use crate::loads::Load;
 use crate::overtaking::Overtaken;
+use crate::splitting::{passed, passed_of};
 use crate::working::{After, NodeResult, ending_of, found_by_position, nobody};
 use mq_base::{List, OutOfMemory};
 use mq_core::{Fate, Kind, Stream, fates_are_in_time, sequences_go_by_fates};
@@ -27,6 +29,8 @@ pub enum Exit {
     Served(List<u64>),
     /// When they depart, and in which order.
     Sorted(Overtaken),
+    /// What leaves by each output, where they depart as they come.
+    Passed(List<Stream>),
 }
 
 /// A station whose departures are known.
@@ -63,6 +67,7 @@ impl<'a> Pieces for Emptied<'a> {
             Exit::Known(_) => 0,
             Exit::Served(_) => 3,
             Exit::Sorted(_) => 1,
+            Exit::Passed(_) => 2,
         }
     }
 
@@ -70,6 +75,7 @@ impl<'a> Pieces for Emptied<'a> {
         match &self.exit {
             Exit::Served(departs) => closing_of(alloc, &self.load, departs, b),
             Exit::Sorted(overtaken) => found_of(alloc, &self.load, overtaken),
+            Exit::Passed(_) => passed_of(alloc, &self.load, b),
             Exit::Known(_) => unreachable!(),
         }
     }
@@ -87,6 +93,8 @@ fn closing_of(
     requires inside { b < 3 }
     ensures { IfOk result (λ closed. IsShut load.now.plan.now load.now.rows.now load.now.number load.now.arrivals departs.now b closed) }
 {
+    sequences_go_by_fates();
+    fates_are_in_time();
     if b == 0 {
         return fates_in_time(alloc, load, departs);
     }
@@ -97,14 +105,13 @@ fn closing_of(
     Ok(Closed::Jobs(List::from_vec(jobs)))
 }
 
-// The fates of these departures, or the first that is after the bound.
-fn fates_in_time(alloc: Global, load: &Load, departs: &List<u64>) -> Result<Closed, OutOfMemory>
-    requires loaded { IsLoaded load.now.plan.now load.now.rows.now load.now.number load.now.arrivals load.now.scan }
-    requires served { IsServed load.now.plan.now load.now.rows.now load.now.number load.now.arrivals departs.now }
+// The fates of these departures, which never fall, or the first that is after the bound.
+pub fn fates_in_time(alloc: Global, load: &Load, departs: &List<u64>) -> Result<Closed, OutOfMemory>
+    requires all { AllDepartAt load.now.plan.now load.now.rows.now load.now.number load.now.arrivals departs.now }
+    requires few { length departs.now ≤ 1048576 }
+    requires rising { Rises (λ a b. a ≤ b) departs.now }
     ensures { IfOk result (λ closed. IsShut load.now.plan.now load.now.rows.now load.now.number load.now.arrivals departs.now 0 closed) }
 {
-    sequences_go_by_fates();
-    fates_are_in_time();
     if let Some(past) = first_late_in_turn(load.plan.net.bound, load.number, departs) {
         return Ok(Closed::Over(past));
     }
@@ -173,6 +180,7 @@ fn after_of(
         Exit::Known(after) => Ok(after),
         Exit::Served(departs) => opened(alloc, load, group, departs),
         Exit::Sorted(overtaken) => found_last(alloc, load, group, overtaken),
+        Exit::Passed(streams) => Ok(passed(load, group, streams)),
     }
 }
 

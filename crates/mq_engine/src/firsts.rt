@@ -8,6 +8,7 @@ ghost use Rattle.mq_engine.specs.declared.firsts.Part.{Part as ThePart};
 ghost use Rattle.mq_engine.specs.declared.firsts.Part.TheVariants.{Whole};
 
 use crate::loads::{Load, Scan};
+use crate::splitting::{parted, routed};
 use crate::working::{Worked, work_out};
 use mq_base::{List, OutOfMemory};
 use mq_core::Stream;
@@ -24,6 +25,8 @@ pub enum Part {
     Whole(Worked),
     /// What the jobs of a block of a tandem do together, which is large.
     Product(Box<Matrix>),
+    /// What leaves a block of a split by each output.
+    Routed(List<Stream>),
 }
 
 /// What is known of a station after its first pieces.
@@ -33,6 +36,8 @@ pub enum Stage {
     Ended(Worked),
     /// The latest departures of a tandem before each block.
     Latest(List<Latest>),
+    /// What leaves a split by each output.
+    Parted(List<Stream>),
     /// Nothing yet: a server and the branches of a fork-join come later.
     Unbegun,
 }
@@ -50,6 +55,7 @@ impl<'a> Pieces for Load<'a> {
         match &self.scan {
             Scan::Unscanned => 1,
             Scan::OfTandem(scan) => scan.blocks.blocks,
+            Scan::OfSplit(blocks) => blocks.blocks,
             Scan::OfServer(_) | Scan::OfForkJoin(_) => 0,
         }
     }
@@ -61,6 +67,7 @@ impl<'a> Pieces for Load<'a> {
                 let sum = tandem_sum(&self.arrivals, scan, b);
                 Ok(Part::Product(Box::new(alloc, sum)?))
             }
+            Scan::OfSplit(blocks) => Ok(Part::Routed(routed(alloc, self, blocks, b)?)),
             Scan::OfServer(_) | Scan::OfForkJoin(_) => unreachable!(),
         }
     }
@@ -97,6 +104,7 @@ pub fn stage_of(alloc: Global, load: &Load, group: List<Part>) -> Result<Stage, 
             let carries = tandem_carries(alloc, &load.arrivals, scan, &sums)?;
             Ok(Stage::Latest(carries))
         }
+        Scan::OfSplit(blocks) => Ok(Stage::Parted(parted(alloc, load, blocks, group)?)),
         Scan::OfServer(_) | Scan::OfForkJoin(_) => Ok(Stage::Unbegun),
     }
 }
@@ -116,7 +124,7 @@ fn tandem_sums(
     for b in 0..group.len() {
         match group.get(b) {
             Part::Product(sum) => sums.push(**sum)?,
-            Part::Whole(_) => unreachable!(),
+            Part::Whole(_) | Part::Routed(_) => unreachable!(),
         }
     }
     Ok(sums)

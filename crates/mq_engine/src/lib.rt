@@ -20,6 +20,7 @@ mod middles;
 mod overtaking;
 mod progress;
 mod ready;
+mod splitting;
 mod working;
 
 use crate::laws::core_laws;
@@ -44,8 +45,9 @@ use std::thread::Threads;
 /// workers that draw pieces. For several workers a server, a fork-join or a tandem with more jobs than a
 /// block is cut into blocks of at least that many jobs, at most 16,384 and for a tandem 1,024 of them, and
 /// scanned (Greenberg, Lubachevsky and Mitrani 1991): a server in a single pass (`chain_departures`), a fork-join
-/// server after server of its branches. A block is also the first window of a loss station. The gate is
-/// entered with each piece and each block that is drawn. The run is the same for all workers, blocks and gates.
+/// server after server of its branches. A split is cut likewise, and what leaves its blocks put one behind the
+/// other. A block is also the first window of a loss station. The gate is entered with each piece and each block
+/// that is drawn. The run is the same for all workers, blocks and gates.
 ///
 /// It refuses a run in which a visit departs after the bound, and names the first such visit by rank
 /// of the node and then position; nodes behind one with such a visit are left out. Else it refuses

@@ -13,7 +13,8 @@ use crate::merges::{Coming, alone, comings_of, merged_of};
 use mq_base::{List, OutOfMemory};
 use mq_core::{Kind, Plan, Rows, Stream};
 use mq_crew::{Gate, Pieces, run_parts};
-use mq_stations::{ForkJoinScan, TandemScan, demands_of, forkjoin_scan, tandem_scan};
+use mq_scan::Blocks;
+use mq_stations::{ForkJoinScan, TandemScan, demands_of, forkjoin_scan, split_blocks, tandem_scan};
 use std::alloc::Global;
 use std::thread::Threads;
 
@@ -41,6 +42,8 @@ pub enum Scan {
     OfTandem(TandemScan),
     /// A fork-join, block by block at each server.
     OfForkJoin(ForkJoinScan),
+    /// A split, block by block: its jobs by position, cut into blocks.
+    OfSplit(Blocks),
 }
 
 /// The nodes that are ready, and the streams of those that are done.
@@ -205,6 +208,7 @@ fn scan_of(
         Kind::ForkJoin(branches) => Ok(Scan::OfForkJoin(forkjoin_scan(
             alloc, rows, branches, arrivals, block,
         )?)),
-        Kind::Source | Kind::Delay(_) | Kind::Loss { .. } | Kind::Split(_) => Ok(Scan::Unscanned),
+        Kind::Split(_) => Ok(Scan::OfSplit(split_blocks(arrivals, block))),
+        Kind::Source | Kind::Delay(_) | Kind::Loss { .. } => Ok(Scan::Unscanned),
     }
 }

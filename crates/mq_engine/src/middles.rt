@@ -10,6 +10,7 @@ use crate::exits::Exit;
 use crate::firsts::Stage;
 use crate::loads::{Load, Scan};
 use crate::overtaking::left_at;
+use crate::splitting::the_parts;
 use crate::working::Worked;
 use mq_base::{List, OutOfMemory};
 use mq_branches::forkjoin_departures;
@@ -41,7 +42,7 @@ impl<'a> Pieces for Middle<'a> {
     fn count(&self) -> u32 {
         match &self.load.scan {
             Scan::OfTandem(scan) => scan.blocks.blocks,
-            Scan::Unscanned | Scan::OfServer(_) | Scan::OfForkJoin(_) => 0,
+            Scan::Unscanned | Scan::OfServer(_) | Scan::OfForkJoin(_) | Scan::OfSplit(_) => 0,
         }
     }
 
@@ -49,7 +50,9 @@ impl<'a> Pieces for Middle<'a> {
         let arrivals = &self.load.arrivals;
         match &self.load.scan {
             Scan::OfTandem(scan) => tandem_times(alloc, arrivals, scan, latest_of(&self.stage), b),
-            Scan::Unscanned | Scan::OfServer(_) | Scan::OfForkJoin(_) => unreachable!(),
+            Scan::Unscanned | Scan::OfServer(_) | Scan::OfForkJoin(_) | Scan::OfSplit(_) => {
+                unreachable!()
+            }
         }
     }
 }
@@ -61,7 +64,7 @@ fn latest_of(stage: &Stage) -> &List<Latest>
 {
     match stage {
         Stage::Latest(carries) => carries,
-        Stage::Ended(_) | Stage::Unbegun => unreachable!(),
+        Stage::Ended(_) | Stage::Parted(_) | Stage::Unbegun => unreachable!(),
     }
 }
 
@@ -128,6 +131,7 @@ pub fn exit_of<R: Threads + Sync, G: Gate>(
             let departs = forkjoin_departures(rt, alloc, workers, &load.arrivals, scan, gate)?;
             Ok(Exit::Served(departs))
         }
+        Scan::OfSplit(_) => Ok(Exit::Passed(the_parts(stage))),
     }
 }
 
@@ -157,6 +161,7 @@ fn the_end(stage: Stage) -> Worked
     match stage {
         Stage::Ended(worked) => worked,
         Stage::Latest(_carries) => unreachable!(),
+        Stage::Parted(_streams) => unreachable!(),
         Stage::Unbegun => unreachable!(),
     }
 }

@@ -25,15 +25,22 @@ pub record AreParts (route : Route) (stream : Stream) (values : List ℕ) (strea
   pub count : length streams ≡ outputs_by route
   pub parts : (out : ℕ) → out < outputs_by route → slice_get streams out ≡ Some (picked_stream (outs_from route 0 values) stream out)
 
--- Pieces. The items of a stream at these indices that go to an output.
-abbrev pub piece_of : Route → Stream → List ℕ → ℕ → ℕ → ℕ → Stream
-piece_of route stream values from to out =
-    picked_stream (outs_from route from (between from to values)) (record { job = between from to stream.job; time = between from to stream.time }) out
+-- Pieces. The items of a stream at these indices that go to an output, where these are their values.
+abbrev pub part_between : Route → Stream → List ℕ → ℕ → ℕ → ℕ → Stream
+part_between route stream values from to out =
+    picked_stream (outs_from route from values) (record { job = between from to stream.job; time = between from to stream.time }) out
 
 -- one stream per output, each with the items at these indices that go there
-pub record ArePieces (route : Route) (stream : Stream) (values : List ℕ) (from to : ℕ) (streams : List Stream) : Type 0 where
+pub record ArePartsBetween (route : Route) (stream : Stream) (values : List ℕ) (from to : ℕ) (streams : List Stream) : Type 0 where
   pub count : length streams ≡ outputs_by route
-  pub parts : (out : ℕ) → out < outputs_by route → slice_get streams out ≡ Some (piece_of route stream values from to out)
+  pub parts : (out : ℕ) → out < outputs_by route → slice_get streams out ≡ Some (part_between route stream values from to out)
+
+-- the same, where these are the values of the whole stream
+abbrev pub piece_of : Route → Stream → List ℕ → ℕ → ℕ → ℕ → Stream
+piece_of route stream values from to out = part_between route stream (between from to values) from to out
+
+abbrev pub ArePieces : Route → Stream → List ℕ → ℕ → ℕ → List Stream → Type 0
+ArePieces route stream values from to streams = ArePartsBetween route stream (between from to values) from to streams
 
 -- the items of a stream, and behind them those of another
 abbrev pub followed_by : Stream → Stream → Stream

@@ -6,7 +6,7 @@ ghost use Rattle.mq_base.specs.Lists.{between};
 ghost use Rattle.mq_core.specs.Sequences.{IsStream};
 ghost use Rattle.mq_core.specs.Streams.{picked};
 ghost use Rattle.mq_core.specs.Kinds.Split.{output_at, outputs_by};
-ghost use Rattle.mq_split.specs.Outs.{AreParts, ArePieces, HasOutputs, PiecesJoin, outs_from};
+ghost use Rattle.mq_split.specs.Outs.{AreParts, ArePartsBetween, ArePieces, HasOutputs, PiecesJoin, outs_from};
 
 use mq_base::{List, OutOfMemory};
 use mq_core::{Route, Stream, outputs_of_route};
@@ -111,10 +111,38 @@ fn pick(
     })
 }
 
-/// The items at the indices from `from` up to `to` as they leave a split: one stream per output, by
-/// its number, each with the jobs that its route sends there, in their order. `values` has one value
-/// of the route's column per item of the whole stream, by position. The route has 2 to 8 outputs. It
-/// refuses for want of memory alone.
+/// The items at the indices from `from` up to `to` as they leave a split, of the values of these items
+/// alone: one stream per output, by its number, each with the jobs that its route sends there, in their
+/// order. `values` has one value of the route's column per item of them, in their order. The route has 2 to
+/// 8 outputs. It refuses for want of memory alone.
+pub fn split_between(
+    alloc: Global,
+    stream: &Stream,
+    values: &[u64],
+    route: &Route,
+    from: u32,
+    to: u32,
+) -> Result<List<Stream>, OutOfMemory>
+    requires route { HasOutputs route.now }
+    requires stream { IsStream stream.now }
+    requires few { to ≤ 1048576 }
+    requires within { to ≤ length stream.now.job }
+    requires values { from + length values.now ≡ to }
+    ensures { IfOk result (λ streams. ArePartsBetween route.now stream.now values.now from to streams) }
+{
+    let (first, end) = (from as usize, to as usize);
+    let jobs = part(&stream.job, first, end);
+    let times = part(&stream.time, first, end);
+    let outs = outs_of(alloc, values, route, first)?;
+    let mut streams = List::new(alloc);
+    for out in 0..outputs_of_route(route) {
+        streams.push(pick(alloc, jobs, times, outs.as_slice(), out)?)?;
+    }
+    Ok(streams)
+}
+
+/// The same of the values of the whole stream: `values` has one value of the route's column per item of
+/// it, by position. It refuses for want of memory alone.
 pub fn split_piece(
     alloc: Global,
     stream: &Stream,
@@ -131,14 +159,8 @@ pub fn split_piece(
     requires within { to ≤ length values.now }
     ensures { IfOk result (λ streams. ArePieces route.now stream.now values.now from to streams) }
 {
-    let (first, end) = (from as usize, to as usize);
-    let jobs = part(&stream.job, first, end);
-    let times = part(&stream.time, first, end);
-    let outs = outs_of(alloc, part(values, first, end), route, first)?;
-    let mut streams = List::new(alloc);
-    for out in 0..outputs_of_route(route) {
-        streams.push(pick(alloc, jobs, times, outs.as_slice(), out)?)?;
-    }
+    let own = part(values, from as usize, to as usize);
+    let streams = split_between(alloc, stream, own, route, from, to)?;
     Ok(streams)
 }
 

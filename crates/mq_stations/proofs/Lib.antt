@@ -1,3 +1,4 @@
 pub mod lemmas
 mod LossFates
 mod FirstLate
+mod SplitBlocks

@@ -7,6 +7,10 @@ use Rattle.mq_scan.specs.declared.blocks.Blocks.{Blocks}
 abbrev pub from_of : Blocks → ℕ → ℕ
 from_of blocks b = b * blocks.block
 
+-- the index behind its last
+abbrev pub to_of : Blocks → ℕ → ℕ
+to_of blocks b = min ((b + 1) * blocks.block) blocks.n
+
 -- how many indices it has
 abbrev pub size_of : Blocks → ℕ → ℕ
 size_of blocks b = min ((b + 1) * blocks.block) blocks.n - b * blocks.block

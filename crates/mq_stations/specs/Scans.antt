@@ -1,10 +1,11 @@
 -- A station that is worked out by blocks: what is scanned, and what is worked out of each block.
-use Rattle.std.specs.Prelude.{◌≡◌, ◌≤◌, ◌^◌, All, ℕ, List, length, map}
+use Rattle.std.specs.Prelude.{◌≡◌, ◌<◌, ◌≤◌, ◌^◌, All, ℕ, List, length, map, Some, slice_get, slice_index_or}
 use Rattle.std.specs.List.{AllByRecursion}
 use Rattle.mq_core.specs.Handling.{demand_of_job}
 use Rattle.mq_core.specs.Kinds.ForkJoin.{branch_demands}
 use Rattle.mq_core.specs.Sequences.{IsSoundLoad}
 use Rattle.mq_core.specs.declared.model.Demand.{Demand}
+use Rattle.mq_core.specs.declared.model.Route.{Route}
 use Rattle.mq_core.specs.declared.model.Rows.{Rows}
 use Rattle.mq_core.specs.declared.model.Stage.{Stage as TandemStage}
 use Rattle.mq_core.specs.declared.model.Stream.{Stream}
@@ -13,8 +14,9 @@ use Rattle.mq_maxplus.specs.Maxplus.{mp_or_zero}
 use Rattle.mq_maxplus.specs.declared.mp.Mp.{Mp}
 use Rattle.mq_scan.specs.Folds.{AreBefore}
 use Rattle.mq_scan.specs.declared.blocks.Blocks.{Blocks}
+use Rattle.mq_split.specs.Outs.{ArePieces, IsValued}
 use Rattle.mq_tandem.specs.Rows.{job_matrix, kept, last_row, none_kept}
-use Rattle.mq_stations.specs.Blocks.{AreTimesOf, IsSumOf}
+use Rattle.mq_stations.specs.Blocks.{AreTimesOf, IsSumOf, from_of, to_of}
 use Rattle.mq_stations.specs.declared.forkjoin.ForkJoinScan.{ForkJoinScan}
 use Rattle.mq_stations.specs.declared.tandem.TandemScan.{TandemScan}
 
@@ -64,3 +66,20 @@ pub record AreBranchLoads (arrive : List ℕ) (branches : List (List (List ℕ))
   pub few : length branches ≤ 8
   pub early : All (λ time. time ≤ 2 ^ 60) arrive
   pub each : AllByRecursion (IsBranchLoad arrive) branches
+
+-- what leaves a block of a split whose jobs have these values: one stream per output, each with the jobs of the block that go there
+abbrev pub AreSplitParts : Route → Stream → List ℕ → Blocks → ℕ → List Stream → Type 0
+AreSplitParts route arrivals values blocks b streams = ArePieces route arrivals values (from_of blocks b) (to_of blocks b) streams
+
+-- what leaves all its blocks, in their order
+pub record AreSplitBlocks (route : Route) (arrivals : Stream) (values : List ℕ) (blocks : Blocks) (group : List (List Stream)) : Type 0 where
+  pub valued : IsValued arrivals values
+  pub few : length values ≤ 1048576
+  pub all : blocks.n ≡ length values
+  pub len : length group ≡ blocks.blocks
+  pub each : (b : ℕ) (d : List Stream) → b < length group → AreSplitParts route arrivals values blocks b (slice_index_or group b d)
+
+-- each block has a stream of this output, with few jobs
+abbrev pub HaveParts : ℕ → List (List Stream) → Type 0
+HaveParts out group =
+    (b : ℕ) (streams : List Stream) → slice_get group b ≡ Some streams → (part : Stream) × (slice_get streams out ≡ Some part) × (length part.job ≤ 1048576)

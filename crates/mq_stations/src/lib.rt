@@ -27,6 +27,7 @@ pub use outflow::{Left, Outflow, demands_of, fates_of, only};
 use server::server_whole;
 use source::source_departures;
 use split::split_outflow;
+pub use split::{split_blocks, split_joined, split_part};
 use std::alloc::Global;
 use tandem::tandem_whole;
 pub use tandem::{

@@ -13,3 +13,8 @@ pub found_last-requires-clause-group : goal.found_last-requires-clause-group
 found_last-requires-clause-group c =
     let load = c.args.load.now in
     subst (λ (e : Exit). AreAll (IsClosed load.plan.now load.rows.now load.number load.arrivals e) (closings_of e) c.args.group) c.in-Sorted.is c.requires.group
+
+pub passed-requires-clause-group : goal.passed-requires-clause-group
+passed-requires-clause-group c =
+    let load = c.args.load.now in
+    subst (λ (e : Exit). AreAll (IsClosed load.plan.now load.rows.now load.number load.arrivals e) (closings_of e) c.args.group) c.in-Passed.is c.requires.group

@@ -1,6 +1,6 @@
 use Rattle.std.proofs.Common.{subst, sym, arith}
 use Rattle.mq_crew.specs.Crew.{AreAll}
-use Rattle.mq_engine.specs.Loads.{IsPart, IsStage, IsWholePart, blocks_of}
+use Rattle.mq_engine.specs.Loads.{IsLoaded, IsPart, IsStage, IsWholePart, blocks_of}
 use Rattle.mq_engine.specs.declared.firsts.Part.TheVariants.{Whole}
 use Rattle.mq_engine.specs.declared.firsts.Stage.TheVariants.{Ended}
 use Rattle.mq_engine.specs.declared.loads.Scan.{Scan}
@@ -17,3 +17,13 @@ returns-in-Unscanned c =
     let d = Whole c.the_whole.result in
     let after = subst (IsWholePart load.plan.now load.rows.now load.number load.arrivals) (c.the_whole.ensures d) (group.each 0 d (omega arith)) in
     subst (λ (s : Scan). IsStage load.plan.now load.rows.now load.number load.arrivals s (Ended c.the_whole.result)) (sym c.in-Unscanned.is) after
+
+pub parted-requires-clause-loaded : goal.parted-requires-clause-loaded
+parted-requires-clause-loaded c =
+    let load = c.args.load.now in
+    subst (λ (s : Scan). IsLoaded load.plan.now load.rows.now load.number load.arrivals s) c.in-OfSplit.is c.requires.loaded
+
+pub parted-requires-clause-group : goal.parted-requires-clause-group
+parted-requires-clause-group c =
+    let load = c.args.load.now in
+    subst (λ (s : Scan). AreAll (IsPart load.plan.now load.rows.now load.number load.arrivals s) (blocks_of s) c.args.group) c.in-OfSplit.is c.requires.group

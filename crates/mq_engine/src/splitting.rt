@@ -1,0 +1,123 @@
+// A split that is worked out by blocks: what leaves each, what leaves all of them, and its last pieces.
+ghost use Rattle.std.specs.Prelude.{◌≡◌, ◌<◌, ℕ, length, map, IfOk, Some, slice_get, slice_index_or};
+ghost use Rattle.mq_core.specs.declared.model.Kind.TheVariants.{Split};
+ghost use Rattle.mq_core.specs.declared.model.Node.{Node as TheNode};
+ghost use Rattle.mq_crew.specs.Crew.{AreAll};
+ghost use Rattle.mq_engine.specs.Loads.{AllDepartAt, ArePartsAt, AreSplitStreams, IsAfterAt, IsLoaded, IsParted, IsRouted, IsShut, IsSplitAt, IsSplitPart};
+ghost use Rattle.mq_engine.specs.declared.firsts.Part.{Part as ThePart};
+ghost use Rattle.mq_engine.specs.declared.firsts.Part.TheVariants.{Routed};
+ghost use Rattle.mq_engine.specs.declared.firsts.Stage.TheVariants.{Parted};
+ghost use Rattle.mq_engine.specs.declared.loads.Scan.TheVariants.{OfSplit};
+
+use crate::exits::{Closed, fates_in_time};
+use crate::firsts::{Part, Stage};
+use crate::loads::Load;
+use crate::working::{After, nobody};
+use mq_base::{List, OutOfMemory};
+use mq_core::{Kind, Route, Stream, sequences_go_by_fates};
+use mq_scan::Blocks;
+use mq_stations::{split_joined, split_part};
+use std::alloc::Global;
+
+// The route of a split.
+fn route_at<'a>(load: &'a Load) -> &'a Route
+    requires { IsSplitAt load.now.plan.now load.now.number }
+    ensures { (node : TheNode) → slice_get load.now.plan.now.net.nodes load.now.number ≡ Some node → node.kind ≡ Split result.now }
+{
+    match &load.plan.net.nodes.get(load.number as usize).kind {
+        Kind::Split(route) => route,
+        _ => unreachable!(),
+    }
+}
+
+// What leaves a block of a split by each output.
+pub fn routed(
+    alloc: Global,
+    load: &Load,
+    blocks: &Blocks,
+    b: u32,
+) -> Result<List<Stream>, OutOfMemory>
+    requires loaded { IsLoaded load.now.plan.now load.now.rows.now load.now.number load.now.arrivals (OfSplit blocks.now) }
+    requires inside { b < blocks.now.blocks }
+    ensures { IfOk result (λ streams. ArePartsAt load.now.plan.now load.now.rows.now load.now.number load.now.arrivals blocks.now b streams) }
+{
+    let route = route_at(load);
+    split_part(alloc, load.rows, route, &load.arrivals, blocks, b)
+}
+
+// What leaves a split by each output, of its blocks.
+pub fn parted(
+    alloc: Global,
+    load: &Load,
+    blocks: &Blocks,
+    group: List<Part>,
+) -> Result<List<Stream>, OutOfMemory>
+    requires loaded { IsLoaded load.now.plan.now load.now.rows.now load.now.number load.now.arrivals (OfSplit blocks.now) }
+    requires group { AreAll (IsSplitPart load.now.plan.now load.now.rows.now load.now.number load.now.arrivals blocks.now) blocks.now.blocks group }
+    ensures { IfOk result (λ streams. AreSplitStreams load.now.plan.now load.now.rows.now load.now.number load.now.arrivals streams) }
+{
+    let group = those_routed(alloc, group)?;
+    split_joined(alloc, route_at(load), &group)
+}
+
+// What leaves each of these blocks of a split.
+fn those_routed(alloc: Global, group: List<Part>) -> Result<List<List<Stream>>, OutOfMemory>
+    requires { (b : ℕ) (d : ThePart) → b < length group → IsRouted (slice_index_or group b d) }
+    ensures { IfOk result (λ all. group ≡ map (λ streams. Routed streams) all) }
+{
+    let mut all = Vec::with_capacity(alloc, group.len())?;
+    'parts: for part in group.into_vec() {
+        match part {
+            Part::Routed(streams) => all.push_reserved(streams),
+            Part::Whole(_worked) => unreachable!(),
+            Part::Product(_sum) => unreachable!(),
+        }
+    }
+    Ok(List::from_vec(all))
+}
+
+// What leaves a split after its first pieces.
+pub fn the_parts(stage: Stage) -> List<Stream>
+    requires { IsParted stage }
+    ensures { stage ≡ Parted result }
+{
+    match stage {
+        Stage::Parted(streams) => streams,
+        Stage::Ended(_worked) => unreachable!(),
+        Stage::Latest(_carries) => unreachable!(),
+        Stage::Unbegun => unreachable!(),
+    }
+}
+
+// A last piece of a split in blocks, whose jobs depart as they come.
+pub fn passed_of(alloc: Global, load: &Load, b: u32) -> Result<Closed, OutOfMemory>
+    requires loaded { IsLoaded load.now.plan.now load.now.rows.now load.now.number load.now.arrivals load.now.scan }
+    requires all { AllDepartAt load.now.plan.now load.now.rows.now load.now.number load.now.arrivals load.now.arrivals.time }
+    requires inside { b < 2 }
+    ensures { IfOk result (λ closed. IsShut load.now.plan.now load.now.rows.now load.now.number load.now.arrivals load.now.arrivals.time b closed) }
+{
+    let times = &load.arrivals.time;
+    if b == 0 {
+        return fates_in_time(alloc, load, times);
+    }
+    Ok(Closed::Found(nobody(alloc, times)?))
+}
+
+// What becomes of the arrivals at such a split, of its last pieces and what leaves it.
+pub fn passed(load: &Load, group: List<Closed>, streams: List<Stream>) -> After
+    requires passed { AreSplitStreams load.now.plan.now load.now.rows.now load.now.number load.now.arrivals streams }
+    requires group { AreAll (IsShut load.now.plan.now load.now.rows.now load.now.number load.now.arrivals load.now.arrivals.time) 2 group }
+    ensures { IsAfterAt load.now.plan.now load.now.rows.now load.now.number load.now.arrivals result }
+{
+    sequences_go_by_fates();
+    let mut group = group.into_vec();
+    let found = match group.pop() {
+        Some(Closed::Found(found)) => found,
+        _ => unreachable!(),
+    };
+    match group.pop() {
+        Some(Closed::Fates(fates)) => After::Seen(fates, found, streams),
+        Some(Closed::Over(past)) => After::Missed(past),
+        _ => unreachable!(),
+    }
+}

@@ -1,0 +1,145 @@
+-- The blocks of a split: what leaves each, and what leaves all, one behind the other.
+use Rattle.std.proofs.Common.{◌≡◌, ℕ, zero, suc, ◌+◌, ◌-◌, ◌*◌, ◌<◌, ◌≤◌, ◌⊎◌, ◌==◌, inl, inr, Bool, true, false, cond, List, [], ◌∷◌, ◌++◌, length, drop, take, map, min, Some, refl, sym, ap, ◌∙◌, subst, arith}
+use Rattle.std.specs.Prelude.{slice_get}
+use Rattle.std.proofs.lemmas.Bool.{cases_lt}
+use Rattle.std.proofs.lemmas.List.{drop-map, take-map}
+use Rattle.std.proofs.lemmas.Option.{get_or_from_slice_get, slice_get_within}
+use Rattle.mq_base.proofs.lemmas.Between.{length-between}
+use Rattle.mq_base.proofs.lemmas.Lists.{get-last, get-push, some_inj}
+use Rattle.mq_base.specs.Lists.{between}
+use Rattle.mq_core.specs.Kinds.Split.{outputs_by}
+use Rattle.mq_core.specs.Streams.{picked}
+use Rattle.mq_core.specs.declared.model.Route.{Route}
+use Rattle.mq_core.specs.declared.model.Rows.{Rows}
+use Rattle.mq_core.specs.declared.model.Stream.{Stream}
+use Rattle.mq_scan.specs.declared.blocks.Blocks.{Blocks}
+use Rattle.mq_scan.proofs.Spans.{block-inside}
+use Rattle.mq_split.specs.Outs.{PiecesJoin, outs_from, picked_stream, piece_of}
+use Rattle.mq_stations.specs.Blocks.{from_of, to_of}
+use Rattle.mq_stations.specs.Leaving.{AreRouted}
+use Rattle.mq_stations.specs.Scans.{AreSplitBlocks, AreSplitParts, HaveParts}
+use Rattle.mq_stations.proofs.lemmas.Blocks.{blocks-all, blocks-few}
+
+-- Parts of a list.
+get-drop : {X : Type 0} (xs : List X) (n k : ℕ) → slice_get (drop n xs) k ≡ slice_get xs (n + k)
+get-drop xs zero k = let e : k ≡ 0 + k = omega arith in ap (slice_get xs) e
+get-drop [] (suc n) k = refl
+get-drop (x ∷ xs) (suc n) k = let e : suc (n + k) ≡ suc n + k = omega arith in get-drop xs n k ∙ ap (slice_get (x ∷ xs)) e
+
+get-take : {X : Type 0} (xs : List X) (n k : ℕ) (x : X) → slice_get (take n xs) k ≡ Some x → slice_get xs k ≡ Some x
+get-take xs zero k x h = absurd cc
+get-take [] (suc n) k x h = h
+get-take (y ∷ ys) (suc n) zero x h = h
+get-take (y ∷ ys) (suc n) (suc k) x h = get-take ys n k x h
+
+-- what is told of all jobs is told of those at these indices
+pub told-between : (rows : Rows) (route : Route) (jobs : List ℕ) (from to : ℕ) → AreRouted rows route jobs → AreRouted rows route (between from to jobs)
+told-between rows route jobs from to told k job e = told (from + k) job (sym (get-drop jobs from k) ∙ get-take (drop from jobs) (to - from) k job e)
+
+pub map-between : {X Y : Type 0} (f : X → Y) (xs : List X) (from to : ℕ) → map f (between from to xs) ≡ between from to (map f xs)
+map-between f xs from to = sym (ap (take (to - from)) (drop-map f from xs) ∙ take-map f (to - from) (drop from xs))
+
+picked-few : (out : ℕ) (outs items : List ℕ) → length (picked out outs items) ≤ length items
+picked-few out [] items = omega arith
+picked-few out (o ∷ outs) [] = omega arith
+picked-few out (o ∷ outs) (item ∷ items) = go (o == out) (picked-few out outs items)
+  where
+    go : (b : Bool) → length (picked out outs items) ≤ length items → length (cond b (item ∷ picked out outs items) (picked out outs items)) ≤ suc (length items)
+    go true h = omega arith
+    go false h = omega arith
+
+-- a stream more, where each is that of its output
+pub part-more : (streams streams' : List Stream) (stream : Stream) (part : ℕ → Stream) (n : ℕ) → length streams ≡ n → streams' ≡ streams ++ stream ∷ [] → stream ≡ part n → ((k : ℕ) → k < n → slice_get streams k ≡ Some (part k)) → (k : ℕ) → k < n + 1 → slice_get streams' k ≡ Some (part k)
+part-more streams streams' stream part n count p e h k l = ap (λ (s : List Stream). slice_get s k) p ∙ go (cases_lt k n)
+  where
+    go : (k < n) ⊎ (n ≤ k) → slice_get (streams ++ stream ∷ []) k ≡ Some (part k)
+    go (inl less) = get-push streams stream k (omega arith) ∙ h k less
+    go (inr more) =
+        let at : k ≡ length streams = omega arith in
+        let same : n ≡ k = omega arith in
+        ap (slice_get (streams ++ stream ∷ [])) at ∙ (get-last streams stream ∙ ap Some (e ∙ ap part same))
+
+-- Blocks. Their first index, and the one behind their last.
+pub block-order : (blocks : Blocks) (b : ℕ) → b < blocks.blocks → (from_of blocks b ≤ to_of blocks b) × (to_of blocks b ≤ blocks.n)
+block-order blocks b l =
+    let inside = block-inside b blocks.block blocks.blocks blocks.n l blocks.none_more in
+    let next : (b + 1) * blocks.block ≡ b * blocks.block + blocks.block = omega arith in
+    (omega arith, omega arith)
+
+-- indices from one up to another, which is at most this
+pub record IsWithin (from to most : ℕ) : Type 0 where
+  pub order : from ≤ to
+  pub within : to ≤ most
+
+pub is-within : (blocks : Blocks) (b from to most : ℕ) → b < blocks.blocks → from ≡ from_of blocks b → to ≡ to_of blocks b → blocks.n ≡ most → IsWithin from to most
+is-within blocks b from to most l f t n =
+    let order = block-order blocks b l in
+    record {
+      order = (let o = order.0 in omega arith);
+      within = (let o = order.1 in omega arith);
+    }
+
+-- what leaves a block
+pub block-parts : (route : Route) (arrivals : Stream) (values : List ℕ) (blocks : Blocks) (group : List (List Stream)) (b : ℕ) (streams : List Stream) → AreSplitBlocks route arrivals values blocks group → slice_get group b ≡ Some streams → AreSplitParts route arrivals values blocks b streams
+block-parts route arrivals values blocks group b streams h e =
+    subst (AreSplitParts route arrivals values blocks b) (get_or_from_slice_get group b streams streams e) (h.each b streams (slice_get_within group b streams e))
+
+pub blocks-short : (route : Route) (arrivals : Stream) (values : List ℕ) (blocks : Blocks) (group : List (List Stream)) → AreSplitBlocks route arrivals values blocks group → length group ≤ 1048576
+blocks-short route arrivals values blocks group h =
+    let most = blocks-few blocks in
+    let few = h.few in
+    let all = h.all in
+    let len = h.len in
+    omega arith
+
+pub have-parts : (route : Route) (arrivals : Stream) (values : List ℕ) (blocks : Blocks) (group : List (List Stream)) (out : ℕ) → out < outputs_by route → AreSplitBlocks route arrivals values blocks group → HaveParts out group
+have-parts route arrivals values blocks group out l h b streams e =
+    let own = block-parts route arrivals values blocks group b streams h e in
+    let len = h.len in
+    let all = h.all in
+    let few = h.few in
+    let valued = h.valued.jobs in
+    let inside = slice_get_within group b streams e in
+    let order = block-order blocks b (omega arith) in
+    let from = from_of blocks b in
+    let to = to_of blocks b in
+    let before : from ≤ to = order.0 in
+    let behind : to ≤ length arrivals.job = (let k = order.1 in omega arith) in
+    let part = piece_of route arrivals values from to out in
+    let most = picked-few out (outs_from route from (between from to values)) (between from to arrivals.job) in
+    let many = length-between arrivals.job from to before behind in
+    (part, own.parts out l, omega arith)
+
+-- what leaves by an output is so far that of these blocks
+abbrev pub IsBehind : ℕ → List (List Stream) → ℕ → List ℕ → List ℕ → Type 0
+IsBehind out group b jobs times =
+    (route : Route) (arrivals : Stream) (values : List ℕ) (blocks : Blocks) → out < outputs_by route → AreSplitBlocks route arrivals values blocks group → record { job = jobs; time = times } ≡ piece_of route arrivals values 0 (min (b * blocks.block) blocks.n) out
+
+pub behind-begins : (out : ℕ) (group : List (List Stream)) → IsBehind out group 0 [] []
+behind-begins out group route arrivals values blocks l h =
+    let none : min (0 * blocks.block) blocks.n ≡ 0 = omega arith in
+    ap (λ n. piece_of route arrivals values 0 n out) (sym none)
+
+pub behind-more : PiecesJoin → (out : ℕ) (group : List (List Stream)) (b : ℕ) (streams : List Stream) (part : Stream) (jobs times jobs' times' : List ℕ) → slice_get group b ≡ Some streams → slice_get streams out ≡ Some part → jobs' ≡ jobs ++ part.job → times' ≡ times ++ part.time → IsBehind out group b jobs times → IsBehind out group (b + 1) jobs' times'
+behind-more law out group b streams part jobs times jobs' times' e f j t was route arrivals values blocks l h =
+    let len = h.len in
+    let all = h.all in
+    let inside = slice_get_within group b streams e in
+    let within = block-inside b blocks.block blocks.blocks blocks.n (omega arith) blocks.none_more in
+    let from = from_of blocks b in
+    let to = to_of blocks b in
+    let start : min (b * blocks.block) blocks.n ≡ from = omega arith in
+    let next : (b + 1) * blocks.block ≡ b * blocks.block + blocks.block = omega arith in
+    let order : from ≤ to = omega arith in
+    let ends : to ≤ length values = omega arith in
+    let own : part ≡ piece_of route arrivals values from to out = some_inj _ _ (sym f ∙ (block-parts route arrivals values blocks group b streams h e).parts out l) in
+    let before : record { job = jobs; time = times } ≡ piece_of route arrivals values 0 from out = was route arrivals values blocks l h ∙ ap (λ n. piece_of route arrivals values 0 n out) start in
+    (λ k. record { job = j k; time = t k }) ∙ ((λ k. record { job = (before k).job ++ (own k).job; time = (before k).time ++ (own k).time }) ∙ law.join route arrivals values h.valued 0 from to out (omega arith) order ends)
+
+pub behind-ends : PiecesJoin → (out : ℕ) (group : List (List Stream)) (b : ℕ) (stream : Stream) → length group ≤ b → b ≤ length group → IsBehind out group b stream.job stream.time →
+    (route : Route) (arrivals : Stream) (values : List ℕ) (blocks : Blocks) → out < outputs_by route → AreSplitBlocks route arrivals values blocks group → stream ≡ picked_stream (outs_from route 0 values) arrivals out
+behind-ends law out group b stream more less was route arrivals values blocks l h =
+    let len = h.len in
+    let last : b ≡ blocks.blocks = omega arith in
+    let ends : min (b * blocks.block) blocks.n ≡ length values = ap (λ n. min (n * blocks.block) blocks.n) last ∙ (blocks-all blocks ∙ h.all) in
+    was route arrivals values blocks l h ∙ (ap (λ n. piece_of route arrivals values 0 n out) ends ∙ law.whole route arrivals values h.valued out)
