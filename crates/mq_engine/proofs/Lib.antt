@@ -11,3 +11,4 @@ pub mod Groups
 pub mod Closings
 pub mod DelayOrder
 pub mod Comings
+pub mod Founding
