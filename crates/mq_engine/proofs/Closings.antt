@@ -11,7 +11,7 @@ use Rattle.mq_core.specs.declared.model.Fate.TheVariants.{Departs}
 use Rattle.mq_crew.specs.Crew.{AreAll}
 
 -- each visit found some
-founds-length : (before : List Fate) (arrives : List ℕ) (fates : List Fate) → length fates ≡ length arrives → length (founds_from before arrives fates) ≡ length arrives
+pub founds-length : (before : List Fate) (arrives : List ℕ) (fates : List Fate) → length fates ≡ length arrives → length (founds_from before arrives fates) ≡ length arrives
 founds-length before [] fates e = refl
 founds-length before (a ∷ more) [] e = absurd (omega arith)
 founds-length before (a ∷ more) (f ∷ fs) e = ap suc (founds-length (before ++ f ∷ []) more fs (omega arith))

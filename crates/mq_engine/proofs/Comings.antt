@@ -96,7 +96,7 @@ block-start blocks b l =
 abbrev pub end_of : Blocks → ℕ → ℕ
 end_of blocks b = min (b * blocks.block) blocks.n
 
-start-is : (blocks : Blocks) (b : ℕ) → b < blocks.blocks → b * blocks.block ≡ end_of blocks b
+pub start-is : (blocks : Blocks) (b : ℕ) → b < blocks.blocks → b * blocks.block ≡ end_of blocks b
 start-is blocks b l = let inside = block-start blocks b l in omega arith
 
 pub block-order : (blocks : Blocks) (b : ℕ) → b < blocks.blocks → b * blocks.block ≤ end_of blocks (b + 1)
@@ -105,7 +105,7 @@ block-order blocks b l =
     let most : blocks.block * b ≤ blocks.block * (b + 1) = mul-le-mul_left blocks.block (omega arith) in
     omega arith
 
-last-end : (blocks : Blocks) (b : ℕ) → blocks.blocks ≤ b → end_of blocks b ≡ blocks.n
+pub last-end : (blocks : Blocks) (b : ℕ) → blocks.blocks ≤ b → end_of blocks b ≡ blocks.n
 last-end blocks b l =
     let all = blocks.all in
     let most : blocks.block * blocks.blocks ≤ blocks.block * b = mul-le-mul_left blocks.block l in

@@ -9,7 +9,7 @@ use Rattle.mq_core.specs.declared.model.Rows.{Rows}
 use Rattle.mq_core.specs.declared.model.Stream.{Stream}
 use Rattle.mq_engine.specs.declared.loads.Scan.{Scan}
 use Rattle.mq_engine.specs.declared.loads.Scan.TheVariants.{OfForkJoin, OfServer, OfSplit, OfTandem, Unscanned}
-use Rattle.mq_engine.specs.Loads.{IsApplied, IsClosed, IsLoadOf, IsScanOf, IsPart, IsReadyExit, IsReadyLoad, IsReadyMiddle, IsResultOf, applied_of, blocks_of, closings_of}
+use Rattle.mq_engine.specs.Loads.{IsApplied, IsClosed, IsExit, IsLoadOf, IsScanOf, IsPart, IsReadyExit, IsReadyLoad, IsReadyMiddle, IsResultOf, applied_of, blocks_of, closings_of}
 use Rattle.mq_engine.specs.Progress.{IsWorkedOut}
 use Rattle.mq_engine.specs.declared.exits.Closed.{Closed}
 use Rattle.mq_engine.specs.declared.exits.Exit.{Exit}
@@ -144,15 +144,13 @@ middles-few middles few ready =
     let most = total-most 1048576 middle_size middles (Each-weaker IsReadyMiddle _ (λ m h. (scan-few m.load.rows.now h.0.1.node.kind m.load.arrivals m.load.scan h.0.1.load.few h.0.1.scanned).1) middles ready) in
     omega arith
 
-pub emptied-few : (those_emptied : List Emptied) → length those_emptied ≤ 64 → total_size emptied_size those_emptied < 2 ^ 32
-emptied-few those_emptied few = let most = total-most 1048576 emptied_size those_emptied (each those_emptied) in omega arith
-  where
-    one : (exit : Exit) → closings_of exit ≤ 1048576
-    one (Known after) = omega arith
-    one (Served departs) = omega arith
-    one (Sorted overtaken) = omega arith
-    one (Passed streams) = omega arith
+exit-few : (plan : Plan) (rows : Rows) (v : ℕ) (arrivals : Stream) (exit : Exit) → IsExit plan rows v arrivals exit → closings_of exit ≤ 1048576
+exit-few plan rows v arrivals (Known after) h = omega arith
+exit-few plan rows v arrivals (Served departs) h = omega arith
+exit-few plan rows v arrivals (Sorted overtaken) h = let few = h.counted.blocks.1 in omega arith
+exit-few plan rows v arrivals (Passed streams) h = omega arith
 
-    each : (ls : List Emptied) → AllByRecursion (λ l. emptied_size l ≤ 1048576) ls
-    each [] = tt
-    each (l ∷ ls) = (one l.exit, each ls)
+pub emptied-few : (those_emptied : List Emptied) → length those_emptied ≤ 64 → AllByRecursion IsReadyExit those_emptied → total_size emptied_size those_emptied < 2 ^ 32
+emptied-few those_emptied few ready =
+    let most = total-most 1048576 emptied_size those_emptied (Each-weaker IsReadyExit _ (λ l h. exit-few l.load.plan.now l.load.rows.now l.load.number l.load.arrivals l.exit h.1) those_emptied ready) in
+    omega arith

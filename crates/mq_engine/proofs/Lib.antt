@@ -12,3 +12,4 @@ pub mod Closings
 pub mod DelayOrder
 pub mod Comings
 pub mod SplitBlocks
+pub mod Founding

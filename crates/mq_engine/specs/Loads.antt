@@ -1,5 +1,6 @@
 -- What comes to the nodes that are ready, and what the pieces of a wave are.
-use Rattle.std.specs.Prelude.{◌≡◌, ◌≤◌, ℕ, List, [], ◌∷◌, Contains, length, map, Some, None, slice_get}
+use Rattle.std.specs.Prelude.{◌≡◌, ◌+◌, ◌*◌, ◌≤◌, ℕ, List, [], ◌∷◌, Contains, length, map, min, Some, None, slice_get}
+use Rattle.mq_base.specs.Lists.{between}
 use Rattle.mq_core.specs.Came.{came_in}
 use Rattle.mq_core.specs.SequenceLaws.{arrives_of, jobs_of}
 use Rattle.mq_core.specs.Sequences.{sequence_fates, sequence_late_from, stream_in_order}
@@ -249,10 +250,15 @@ IsApplied arrivals (OfTandem scan) b times = AreTandemTimes arrivals scan b time
 IsApplied arrivals (OfForkJoin scan) b times = ⊥
 IsApplied arrivals (OfSplit blocks) b times = ⊥
 
+-- the table of a delay is that of these arrivals, which are in its blocks, 16,384 at most
+pub record IsCounted (arrivals : Stream) (overtaken : Overtaken) : Type 0 where
+  pub ahead : IsAhead arrivals.time (map (λ time. Departs time) overtaken.departs) overtaken.ahead
+  pub blocks : AreFewBlocks (length arrivals.time) 16384 overtaken.blocks
+
 -- what is known of a delay whose jobs were put in the order in which they leave
 pub record IsOvertaken (plan : Plan) (rows : Rows) (v : ℕ) (arrivals : Stream) (overtaken : Overtaken) : Type 0 where
-  pub on_time : (node : Node) → slice_get plan.net.nodes v ≡ Some node → AreOnTime plan.net rows v node.kind arrivals overtaken.fates (record { job = overtaken.job; time = overtaken.ahead.leaving } ∷ [])
-  pub ahead : IsAhead arrivals.time overtaken.fates overtaken.ahead
+  pub on_time : (node : Node) → slice_get plan.net.nodes v ≡ Some node → AreOnTime plan.net rows v node.kind arrivals (map (λ time. Departs time) overtaken.departs) (record { job = overtaken.job; time = overtaken.ahead.leaving } ∷ [])
+  pub counted : IsCounted arrivals overtaken
 
 -- what is known of a station when all its jobs have left
 abbrev pub IsExit : Plan → Rows → ℕ → Stream → Exit → Type 0
@@ -265,7 +271,7 @@ IsExit plan rows v arrivals (Passed streams) = AreSplitStreams plan rows v arriv
 abbrev pub closings_of : Exit → ℕ
 closings_of (Known after) = 0
 closings_of (Served departs) = 3
-closings_of (Sorted overtaken) = 1
+closings_of (Sorted overtaken) = overtaken.blocks.blocks + 1
 closings_of (Passed streams) = 2
 
 -- a last piece: the fates of these departures, none of them late, or the first that is; how many each found; or the jobs
@@ -279,17 +285,32 @@ IsShut plan rows v arrivals departs b (Over fault) =
 IsShut plan rows v arrivals departs b (Found found) = (b ≡ 1) × (found ≡ founds_of arrivals.time (map (λ time. Departs time) departs))
 IsShut plan rows v arrivals departs b (Jobs jobs) = (b ≡ 2) × (jobs ≡ arrivals.job)
 
--- the one last piece of a delay: how many each found
-abbrev pub IsFound : Stream → Overtaken → Closed → Type 0
-IsFound arrivals overtaken (Fates fates) = ⊥
-IsFound arrivals overtaken (Over fault) = ⊥
-IsFound arrivals overtaken (Found found) = found ≡ founds_of arrivals.time overtaken.fates
-IsFound arrivals overtaken (Jobs jobs) = ⊥
+-- what each of these arrivals found, where they depart at these times
+abbrev pub founds_by : Stream → List ℕ → List ℕ
+founds_by arrivals departs = founds_of arrivals.time (map (λ time. Departs time) departs)
+
+-- those of a block of them
+abbrev pub IsFoundBlock : List ℕ → Blocks → ℕ → List ℕ → Type 0
+IsFoundBlock founds blocks k found = found ≡ between (k * blocks.block) (min ((k + 1) * blocks.block) blocks.n) founds
+
+-- a last piece of a delay: the fates, and behind them block by block how many each visit found
+abbrev pub IsDelayPiece : Stream → Overtaken → ℕ → Closed → Type 0
+IsDelayPiece arrivals overtaken b (Fates fates) = (b ≡ 0) × (fates ≡ map (λ time. Departs time) overtaken.departs)
+IsDelayPiece arrivals overtaken b (Over fault) = ⊥
+IsDelayPiece arrivals overtaken b (Found found) = (k : ℕ) × (b ≡ k + 1) × IsFoundBlock (founds_by arrivals overtaken.departs) overtaken.blocks k found
+IsDelayPiece arrivals overtaken b (Jobs jobs) = ⊥
+
+-- a last piece that tells how many visits found
+abbrev pub IsFound : Closed → Type 0
+IsFound (Fates fates) = ⊥
+IsFound (Over fault) = ⊥
+IsFound (Found found) = Unit {0}
+IsFound (Jobs jobs) = ⊥
 
 abbrev pub IsClosed : Plan → Rows → ℕ → Stream → Exit → ℕ → Closed → Type 0
 IsClosed plan rows v arrivals (Known after) b closed = ⊥
 IsClosed plan rows v arrivals (Served departs) b closed = IsShut plan rows v arrivals departs b closed
-IsClosed plan rows v arrivals (Sorted overtaken) b closed = IsFound arrivals overtaken closed
+IsClosed plan rows v arrivals (Sorted overtaken) b closed = IsDelayPiece arrivals overtaken b closed
 IsClosed plan rows v arrivals (Passed streams) b closed = IsShut plan rows v arrivals arrivals.time b closed
 
 -- a load that can be worked on

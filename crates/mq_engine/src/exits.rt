@@ -5,9 +5,10 @@ ghost use Rattle.mq_core.specs.Laws.{Rises};
 ghost use Rattle.mq_core.specs.OnceOut.{founds_of};
 ghost use Rattle.mq_core.specs.declared.model.Fate.TheVariants.{Departs};
 ghost use Rattle.mq_crew.specs.Crew.{AreAll};
-ghost use Rattle.mq_engine.specs.Loads.{AllDepartAt, IsAfterAt, IsClosed, IsExit, IsFound, IsLoaded, IsOvertaken, IsReadyExit, IsServed, IsShut, closings_of};
+ghost use Rattle.mq_engine.specs.Loads.{AllDepartAt, IsAfterAt, IsClosed, IsExit, IsLoaded, IsReadyExit, IsServed, IsShut, closings_of};
 ghost use Rattle.mq_engine.specs.Progress.{IsWorkedOut};
 
+use crate::founds::{after_delay, delay_piece};
 use crate::laws::core_laws;
 use crate::loads::Load;
 use crate::overtaking::Overtaken;
@@ -17,7 +18,6 @@ use mq_base::{List, OutOfMemory};
 use mq_core::{Fate, Kind, Stream, fates_are_in_time, sequences_go_by_fates};
 use mq_crew::Pieces;
 use mq_stations::{PastFault, fates_of, first_late_in_turn, only};
-use mq_stats::found_piece;
 use std::alloc::Global;
 
 /// What is known of a station when all its jobs have left.
@@ -40,14 +40,15 @@ pub struct Emptied<'a> {
     pub exit: Exit,
 }
 
-/// A last piece of a station: each is a list of its own, which a worker makes whole.
+/// A last piece of a station, which a worker makes whole: a list, or of what the visits to a delay found a
+/// block.
 #[derive(Drop)]
 pub enum Closed {
     /// The fates: none departs after the bound.
     Fates(List<Fate>),
     /// The first that departs after the bound.
     Over(PastFault),
-    /// How many each found.
+    /// How many each found, or each of a block.
     Found(List<u32>),
     /// The jobs, which leave in their order.
     Jobs(List<u32>),
@@ -66,7 +67,7 @@ impl<'a> Pieces for Emptied<'a> {
         match &self.exit {
             Exit::Known(_) => 0,
             Exit::Served(_) => 3,
-            Exit::Sorted(_) => 1,
+            Exit::Sorted(overtaken) => overtaken.blocks.blocks + 1,
             Exit::Passed(_) => 2,
         }
     }
@@ -74,7 +75,7 @@ impl<'a> Pieces for Emptied<'a> {
     fn piece(&self, alloc: Global, b: u32) -> Result<Closed, OutOfMemory> {
         match &self.exit {
             Exit::Served(departs) => closing_of(alloc, &self.load, departs, b),
-            Exit::Sorted(overtaken) => found_of(alloc, &self.load, overtaken),
+            Exit::Sorted(overtaken) => delay_piece(alloc, &self.load.arrivals, overtaken, b),
             Exit::Passed(_) => passed_of(alloc, &self.load, b),
             Exit::Known(_) => unreachable!(),
         }
@@ -132,17 +133,6 @@ fn found_in_turn(alloc: Global, load: &Load, departs: &List<u64>) -> Result<List
     }
 }
 
-// The one last piece of a delay.
-fn found_of(alloc: Global, load: &Load, overtaken: &Overtaken) -> Result<Closed, OutOfMemory>
-    requires loaded { IsLoaded load.now.plan.now load.now.rows.now load.now.number load.now.arrivals load.now.scan }
-    requires overtaken { IsOvertaken load.now.plan.now load.now.rows.now load.now.number load.now.arrivals overtaken.now }
-    ensures { IfOk result (λ closed. IsFound load.now.arrivals overtaken.now closed) }
-{
-    let arrive = &load.arrivals.time;
-    let found = found_piece(alloc, arrive, &overtaken.ahead, 0, arrive.len() as u32)?;
-    Ok(Closed::Found(found))
-}
-
 // What a station gives, of its last pieces where it has some.
 pub fn result_of(
     alloc: Global,
@@ -179,7 +169,7 @@ fn after_of(
     match exit {
         Exit::Known(after) => Ok(after),
         Exit::Served(departs) => opened(alloc, load, group, departs),
-        Exit::Sorted(overtaken) => found_last(alloc, load, group, overtaken),
+        Exit::Sorted(overtaken) => after_delay(alloc, load, group, overtaken),
         Exit::Passed(streams) => Ok(passed(load, group, streams)),
     }
 }
@@ -216,29 +206,4 @@ fn opened(
         Some(Closed::Over(past)) => Ok(After::Missed(past)),
         _ => unreachable!(),
     }
-}
-
-// What becomes of the arrivals at a delay, of its one last piece.
-fn found_last(
-    alloc: Global,
-    load: &Load,
-    group: List<Closed>,
-    overtaken: Overtaken,
-) -> Result<After, OutOfMemory>
-    requires overtaken { IsOvertaken load.now.plan.now load.now.rows.now load.now.number load.now.arrivals overtaken }
-    requires group { AreAll (λ b closed. IsFound load.now.arrivals overtaken closed) 1 group }
-    ensures { IfOk result (λ after. IsAfterAt load.now.plan.now load.now.rows.now load.now.number load.now.arrivals after) }
-{
-    let mut group = group.into_vec();
-    let found = match group.pop() {
-        Some(Closed::Found(found)) => found,
-        _ => unreachable!(),
-    };
-    let Overtaken { fates, job, ahead } = overtaken;
-    let leaving = Stream {
-        job,
-        time: ahead.leaving,
-    };
-    let streams = only(alloc, leaving)?;
-    Ok(After::Seen(fates, found, streams))
 }

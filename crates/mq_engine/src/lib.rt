@@ -13,6 +13,7 @@ mod arrivals;
 mod exits;
 mod fault;
 mod firsts;
+mod founds;
 mod laws;
 mod loads;
 mod merges;

@@ -145,6 +145,7 @@ fn left_by<R: Threads + Sync>(
 ) -> Result<Exit, OutOfMemory>
     requires loaded { IsLoaded load.now.plan.now load.now.rows.now load.now.number load.now.arrivals load.now.scan }
     requires worked { IsWorkedAt load.now.plan.now load.now.rows.now load.now.number load.now.arrivals worked }
+    requires block { 1 ≤ load.now.block }
     ensures { IfOk result (λ exit. IsExit load.now.plan.now load.now.rows.now load.now.number load.now.arrivals exit) }
 {
     match worked {

@@ -1,32 +1,37 @@
 // A delay, whose jobs may overtake one another: in which order they leave, and what tells how many each
 // found.
-ghost use Rattle.std.specs.Prelude.{◌≡◌, length, IfOk};
+ghost use Rattle.std.specs.Prelude.{◌≡◌, ◌≤◌, length, IfOk};
 ghost use Rattle.std.specs.List.{zip};
 ghost use Rattle.mq_core.specs.Laws.{in_order_of};
 ghost use Rattle.mq_core.specs.Sequences.{IsStream};
 ghost use Rattle.mq_core.specs.Streams.{by_first, pairs_of};
 ghost use Rattle.mq_engine.specs.Loads.{AreDeparturesAt, IsExit, IsLoaded, Overtakes};
+ghost use Rattle.mq_stations.specs.Scans.{AreFewBlocks};
 
 use crate::exits::Exit;
 use crate::loads::Load;
 use crate::working::After;
 use mq_base::{List, OutOfMemory};
-use mq_core::{Fate, Kind, Stream, fates_are_in_time, sequences_go_by_fates};
+use mq_core::{Kind, Stream, fates_are_in_time, sequences_go_by_fates};
 use mq_delay::delay_leaving;
 use mq_merge::by_time;
-use mq_stations::{fates_of, first_late_overtaken};
-use mq_stats::{AheadTable, ahead_of};
+use mq_scan::{Blocks, block_size, cut};
+use mq_stations::first_late_overtaken;
+use mq_stats::{AheadTable, ahead_of_departures};
 use std::alloc::Global;
 use std::thread::Threads;
 
 /// A delay whose jobs were put in the order in which they leave, none of them late.
 #[derive(Drop)]
 pub struct Overtaken {
-    pub fates: List<Fate>,
+    /// When they depart, in ticks, by position.
+    pub departs: List<u64>,
     /// The jobs as they leave.
     pub job: List<u32>,
     /// What tells how many each found, with the departures in order.
     pub ahead: AheadTable,
+    /// How the visits are cut for that.
+    pub blocks: Blocks,
 }
 
 // What is known of a station whose jobs depart at these times, by position. Those of a delay are put in
@@ -40,10 +45,11 @@ pub fn left_at<R: Threads + Sync>(
 ) -> Result<Exit, OutOfMemory>
     requires loaded { IsLoaded load.now.plan.now load.now.rows.now load.now.number load.now.arrivals load.now.scan }
     requires departs { AreDeparturesAt load.now.plan.now load.now.rows.now load.now.number load.now.arrivals departs }
+    requires block { 1 ≤ load.now.block }
     ensures { IfOk result (λ exit. IsExit load.now.plan.now load.now.rows.now load.now.number load.now.arrivals exit) }
 {
     match &load.plan.net.nodes.get(load.number as usize).kind {
-        Kind::Delay(_) => overtaken_at(rt, alloc, workers, load, &departs),
+        Kind::Delay(_) => overtaken_at(rt, alloc, workers, load, departs),
         _ => Ok(Exit::Served(departs)),
     }
 }
@@ -54,25 +60,44 @@ fn overtaken_at<R: Threads + Sync>(
     alloc: Global,
     workers: u32,
     load: &Load,
-    departs: &List<u64>,
+    departs: List<u64>,
 ) -> Result<Exit, OutOfMemory>
     requires loaded { IsLoaded load.now.plan.now load.now.rows.now load.now.number load.now.arrivals load.now.scan }
-    requires departs { AreDeparturesAt load.now.plan.now load.now.rows.now load.now.number load.now.arrivals departs.now }
+    requires departs { AreDeparturesAt load.now.plan.now load.now.rows.now load.now.number load.now.arrivals departs }
     requires overtakes { Overtakes load.now.plan.now load.now.number }
+    requires block { 1 ≤ load.now.block }
     ensures { IfOk result (λ exit. IsExit load.now.plan.now load.now.rows.now load.now.number load.now.arrivals exit) }
 {
     sequences_go_by_fates();
     fates_are_in_time();
-    let leaving = by_departure(rt, alloc, workers, &load.arrivals.job, departs)?;
-    let fates = fates_of(alloc, departs)?;
-    match first_late_overtaken(load.plan.net.bound, load.number, &fates, &leaving.time) {
+    let leaving = by_departure(rt, alloc, workers, &load.arrivals.job, &departs)?;
+    match first_late_overtaken(load.plan.net.bound, load.number, &departs, &leaving.time) {
         Some(past) => Ok(Exit::Known(After::Missed(past))),
         None => {
             let Stream { job, time } = leaving;
-            let ahead = ahead_of(alloc, &load.arrivals.time, &fates, time)?;
-            Ok(Exit::Sorted(Overtaken { fates, job, ahead }))
+            let ahead = ahead_of_departures(alloc, &load.arrivals.time, &departs, time)?;
+            let blocks = visit_blocks(workers, load);
+            Ok(Exit::Sorted(Overtaken {
+                departs,
+                job,
+                ahead,
+                blocks,
+            }))
         }
     }
+}
+
+// How the visits are cut: for one worker they are one block.
+fn visit_blocks(workers: u32, load: &Load) -> Blocks
+    requires few { length load.now.arrivals.time ≤ 1048576 }
+    requires block { 1 ≤ load.now.block }
+    ensures { AreFewBlocks (length load.now.arrivals.time) 16384 result }
+{
+    let visits = load.arrivals.time.len() as u32;
+    if workers == 1 {
+        return cut(visits, visits.max(1));
+    }
+    cut(visits, block_size(visits, load.block))
 }
 
 // The jobs by departure. One worker makes no thread.

@@ -1,18 +1,17 @@
--- The first late departure, where departures never fall.
-use Rattle.std.proofs.Common.{◌≡◌, ℕ, zero, suc, ◌+◌, ◌<◌, ◌≤◌, Bool, true, false, cond, List, [], ◌∷◌, ◌++◌, length, drop, map, take, Some, None, refl, sym, ap, ◌∙◌, subst, arith}
+-- The first late departure, where departures never fall, and where they come in any order.
+use Rattle.std.proofs.Common.{◌≡◌, ℕ, zero, suc, ◌+◌, ◌<◌, ◌≤◌, Bool, true, false, cond, List, [], ◌∷◌, ◌++◌, length, drop, map, take, Option, Some, None, refl, sym, ap, ◌∙◌, subst, arith}
 use Rattle.std.specs.Prelude.{nat_lt, slice_get}
 use Rattle.std.specs.List.{AllByRecursion as Each}
 use Rattle.std.specs.Option.{option_map}
+use Rattle.std.proofs.lemmas.List.{drop_all, length-map}
 use Rattle.std.proofs.lemmas.Option.{slice_get-map}
 use Rattle.mq_base.proofs.lemmas.Lists.{some_inj, take-all}
 use Rattle.mq_core.specs.Laws.{Rises, in_order_of, insert_by}
 use Rattle.mq_core.specs.Results.{Late, first_of, late_fate}
 use Rattle.mq_core.specs.Sequences.{sequence_late_from}
-use Rattle.mq_core.specs.declared.model.Fate.{Fate}
-use Rattle.mq_core.specs.declared.model.Fate.TheVariants.{Departs, Lost}
+use Rattle.mq_core.specs.declared.model.Fate.TheVariants.{Departs}
 use Rattle.mq_core.proofs.lemmas.Rising.{Rises-in_order_of}
-use Rattle.mq_stats.specs.Ahead.{departure_order, departure_times}
-use Rattle.mq_stations.proofs.lemmas.Late.{departs_inj, late-here, quiet}
+use Rattle.mq_stations.proofs.lemmas.Late.{departs_inj, late-here, late-next, quiet}
 use Rattle.mq_stations.proofs.lemmas.Lists.{Each-get}
 
 -- where one is within the bound, so are those before it
@@ -46,12 +45,16 @@ after-early bound node position (suc n) (t ∷ ts) h =
     one-quiet bound node position t _ h.0
     ∙ (after-early bound node (suc position) n ts h.1 ∙ ap (λ m. sequence_late_from bound node m (drop n (map (λ u. Departs u) ts))) next)
 
+-- the fate of a departure
+fate-at : (departs : List ℕ) (i time : ℕ) → slice_get departs i ≡ Some time → slice_get (map (λ t. Departs t) departs) i ≡ Some (Departs time)
+fate-at departs i time e = slice_get-map (λ t. Departs t) departs i ∙ ap (option_map (λ t. Departs t)) e
+
 -- the one behind them that is not is the first late one
 pub first-is : (bound node n time : ℕ) (times : List ℕ) → Each (λ t. t ≤ bound) (take n times) → slice_get times n ≡ Some time → bound < time →
     first_of (sequence_late_from bound node 0 (map (λ t. Departs t) times)) ≡ Some (record { node = node; position = n; time = time })
 first-is bound node n time times h e l =
     let fates = map (λ t. Departs t) times in
-    let at : slice_get fates n ≡ Some (Departs time) = slice_get-map (λ t. Departs t) times n ∙ ap (option_map (λ t. Departs t)) e in
+    let at : slice_get fates n ≡ Some (Departs time) = fate-at times n time e in
     let start : 0 + n ≡ n = omega arith in
     let rest = after-early bound node 0 n times h ∙ ap (λ m. sequence_late_from bound node m (drop n fates)) start in
     late-here bound node n time fates (first_of (sequence_late_from bound node 0 fates)) at l (ap first_of (sym rest))
@@ -69,25 +72,37 @@ order-back : (P : ℕ → Type 0) (ts : List ℕ) → Each P (in_order_of (λ u.
 order-back P [] h = tt
 order-back P (t ∷ ts) h = let both = insert-back P t (in_order_of (λ u. u) ts) h in (both.0, order-back P ts both.1)
 
--- where no departure is after the bound, none is late
-none-departs : (bound node position : ℕ) (fates : List Fate) → Each (λ t. t ≤ bound) (departure_times fates) → sequence_late_from bound node position fates ≡ []
-none-departs bound node position [] h = refl
-none-departs bound node position (Departs t ∷ fates) h = one-quiet bound node position t _ h.0 ∙ none-departs bound node (suc position) fates h.1
-none-departs bound node position (Lost ∷ fates) h = none-departs bound node (suc position) fates h
-
--- so it is where the last of them is not
-pub none-overtaken : (bound node : ℕ) (fates : List Fate) (leaving : List ℕ) (i last : ℕ) → leaving ≡ departure_order fates → slice_get leaving i ≡ Some last → length leaving ≤ i + 1 → last ≤ bound → sequence_late_from bound node 0 fates ≡ []
-none-overtaken bound node fates leaving i last e g n l =
-    let times = departure_times fates in
-    let up : Rises (λ a b. a ≤ b) leaving = subst (Rises (λ a b. a ≤ b)) (sym e) (Rises-in_order_of (λ t. t) times) in
+-- none is late where the last of those in order is not
+pub none-overtaken : (bound node : ℕ) (departs leaving : List ℕ) (i last : ℕ) → leaving ≡ in_order_of (λ t. t) departs → slice_get leaving i ≡ Some last → length leaving ≤ i + 1 → last ≤ bound → sequence_late_from bound node 0 (map (λ t. Departs t) departs) ≡ []
+none-overtaken bound node departs leaving i last e g n l =
+    let up : Rises (λ a b. a ≤ b) leaving = subst (Rises (λ a b. a ≤ b)) (sym e) (Rises-in_order_of (λ t. t) departs) in
     let front = early-before bound leaving i last up g l in
     let all : Each (λ t. t ≤ bound) leaving = subst (Each (λ t. t ≤ bound)) (take-all leaving (i + 1) n) front in
-    none-departs bound node 0 fates (order-back (λ t. t ≤ bound) times (subst (Each (λ t. t ≤ bound)) e all))
+    none-after bound node 0 departs (order-back (λ t. t ≤ bound) departs (subst (Each (λ t. t ≤ bound)) e all))
 
-pub none-leaves : (bound node : ℕ) (fates : List Fate) (leaving : List ℕ) → leaving ≡ departure_order fates → length leaving ≤ 0 → sequence_late_from bound node 0 fates ≡ []
-none-leaves bound node fates leaving e n =
-    none-departs bound node 0 fates (order-back (λ t. t ≤ bound) (departure_times fates) (subst (Each (λ t. t ≤ bound)) e (nothing leaving n)))
+pub none-leaves : (bound node : ℕ) (departs leaving : List ℕ) → leaving ≡ in_order_of (λ t. t) departs → length leaving ≤ 0 → sequence_late_from bound node 0 (map (λ t. Departs t) departs) ≡ []
+none-leaves bound node departs leaving e n =
+    none-after bound node 0 departs (order-back (λ t. t ≤ bound) departs (subst (Each (λ t. t ≤ bound)) e (nothing leaving n)))
   where
     nothing : (ts : List ℕ) → length ts ≤ 0 → Each (λ t. t ≤ bound) ts
     nothing [] l = tt
     nothing (t ∷ ts) l = absurd (omega arith)
+
+-- Departures in whatever order. One more that is within the bound
+pub early-next : (bound node position time : ℕ) (departs : List ℕ) (first : Option Late) → slice_get departs position ≡ Some time → time ≤ bound →
+    first_of (sequence_late_from bound node position (drop position (map (λ t. Departs t) departs))) ≡ first →
+    first_of (sequence_late_from bound node (position + 1) (drop (position + 1) (map (λ t. Departs t) departs))) ≡ first
+early-next bound node position time departs first e l h =
+    late-next bound node position (Departs time) (map (λ t. Departs t) departs) first (fate-at departs position time e) (quiet bound node position (Departs time) (λ t k. subst (λ u. u ≤ bound) (departs_inj _ _ k) l)) h
+
+-- the first that is not
+pub late-at : (bound node position time : ℕ) (departs : List ℕ) (first : Option Late) → slice_get departs position ≡ Some time → bound < time →
+    first_of (sequence_late_from bound node position (drop position (map (λ t. Departs t) departs))) ≡ first → first ≡ Some (record { node = node; position = position; time = time })
+late-at bound node position time departs first e l h = late-here bound node position time (map (λ t. Departs t) departs) first (fate-at departs position time e) l h
+
+-- or there is none
+pub late-end : (bound node position : ℕ) (departs : List ℕ) (first : Option Late) → length departs ≤ position → first_of (sequence_late_from bound node position (drop position (map (λ t. Departs t) departs))) ≡ first → first ≡ None
+late-end bound node position departs first l h =
+    let fates = map (λ t. Departs t) departs in
+    let many = length-map departs (λ t. Departs t) in
+    sym h ∙ ap (λ fs. first_of (sequence_late_from bound node position fs)) (drop_all position fates (omega arith))

@@ -15,7 +15,9 @@ mod waits;
 pub use exits::{Exit, leaving};
 pub use laws::{lasts_are_greatest, runs_give_streams, runs_give_visits};
 pub use occupancy::found;
-pub use pieces::{AheadTable, ahead, ahead_of, found_piece, found_piece_in_order};
+pub use pieces::{
+    AheadTable, ahead, ahead_of, ahead_of_departures, found_piece, found_piece_in_order,
+};
 pub use spans::{last_at, span};
 pub use tallies::{NodeTotals, totals, totals_added, totals_between, totals_join};
 pub use waits::wait_of;

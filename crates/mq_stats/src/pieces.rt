@@ -4,7 +4,7 @@ ghost use Rattle.std.specs.List.{AllByRecursion, zip};
 ghost use Rattle.mq_base.specs.Lists.{between};
 ghost use Rattle.mq_core.specs.SequenceLaws.{LeavesFrom};
 ghost use Rattle.mq_core.specs.OnceOut.{founds_of};
-ghost use Rattle.mq_core.specs.Laws.{Rises};
+ghost use Rattle.mq_core.specs.Laws.{Rises, in_order_of};
 ghost use Rattle.mq_core.specs.declared.model.Fate.{Fate as TheFate};
 ghost use Rattle.mq_core.specs.declared.model.Fate.TheVariants.{Departs};
 ghost use Rattle.mq_stats.specs.Ahead.{IsAhead, leaves_at_once, departure_order};
@@ -40,12 +40,19 @@ fn leaving_of(alloc: Global, fate: &List<Fate>) -> Result<List<u64>, OutOfMemory
     Ok(List::from_vec(leaving))
 }
 
+// 1 for a visit that departs as it comes, and 0 for one that departs at another time.
+fn one_if_same_time(arrive: u64, departs: u64) -> usize
+    ensures { result ≡ cond (leaves_at_once arrive (Departs departs)) 1 0 }
+{
+    (departs == arrive) as usize
+}
+
 // 1 for a visit that departs as it comes, and 0 for another.
 fn one_if_at_once(arrive: u64, fate: &Fate) -> usize
     ensures { result ≡ cond (leaves_at_once arrive fate.now) 1 0 }
 {
     match fate {
-        Fate::Departs(time) => (*time == arrive) as usize,
+        Fate::Departs(time) => one_if_same_time(arrive, *time),
         Fate::Lost => 0,
     }
 }
@@ -101,6 +108,39 @@ pub fn ahead(
     let leaving = leaving_of(alloc, fate)?;
     let table = ahead_of(alloc, arrive, fate, leaving)?;
     Ok(table)
+}
+
+/// The table of visits of which none is lost, as `ahead_of`, of their departures by position, in ticks, in
+/// place of their fates; the departures are given in order too. No time of arrival falls, and no job leaves
+/// before it came. It refuses for want of memory alone.
+pub fn ahead_of_departures(
+    alloc: Global,
+    arrive: &List<u64>,
+    departs: &List<u64>,
+    leaving: List<u64>,
+) -> Result<AheadTable, OutOfMemory>
+    requires even { length departs.now ≡ length arrive.now }
+    requires few { length arrive.now ≤ 1048576 }
+    requires arrive { Rises (λ a b. a ≤ b) arrive.now }
+    requires departs { AllByRecursion (λ p. LeavesFrom p.0 p.1) (zip arrive.now (map (λ time. Departs time) departs.now)) }
+    requires leaving { leaving ≡ in_order_of (λ time. time) departs.now }
+    ensures { IfOk result (λ ahead. IsAhead arrive.now (map (λ time. Departs time) departs.now) ahead) }
+{
+    let mut kept = Vec::with_capacity(alloc, departs.len() + 1)?;
+    let mut still = Vec::with_capacity(alloc, departs.len() + 1)?;
+    let mut at_once = 0;
+    kept.push_reserved(0);
+    still.push_reserved(0);
+    for at in 0..departs.len() {
+        at_once += one_if_same_time(*arrive.get(at), *departs.get(at));
+        kept.push_reserved(at as u32 + 1);
+        still.push_reserved(at_once as u32);
+    }
+    Ok(AheadTable {
+        leaving,
+        kept: List::from_vec(kept),
+        still: List::from_vec(still),
+    })
 }
 
 /// How many jobs the visits at the indices from `from` up to `to` found, as `found` tells it for the

@@ -8,8 +8,8 @@ ghost use Rattle.mq_core.specs.Told.{HasValue};
 use mq_base::{List, OutOfMemory};
 use mq_core::{Demand, Fate, Kind, Rows, Stream, Visits};
 use mq_stats::{
-    AheadTable, Exit, NodeTotals, ahead, found, found_piece, found_piece_in_order, last_at,
-    leaving, span, totals, totals_added, totals_between,
+    AheadTable, Exit, NodeTotals, ahead, ahead_of_departures, found, found_piece,
+    found_piece_in_order, last_at, leaving, span, totals, totals_added, totals_between,
 };
 use std::alloc::Global;
 use std::test::Fail;
@@ -343,6 +343,16 @@ fn table_tells(alloc: Global, table: &Lists, wanted: &[u32]) -> Result<bool, Out
     Ok(table_has(&ahead, table) && founds.as_slice() == wanted)
 }
 
+// The same of the departures alone, which are given in order too.
+fn departures_tell(alloc: Global, table: &Lists, wanted: &[u32]) -> Result<bool, OutOfMemory> {
+    let arrive = list(alloc, &[0u64, 3, 3])?;
+    let departs = list(alloc, &[5u64, 3, 3])?;
+    let leaving = list(alloc, &[3u64, 3, 5])?;
+    let ahead = ahead_of_departures(alloc, &arrive, &departs, leaving)?;
+    let founds = found_piece(alloc, &arrive, &ahead, 1, 3)?;
+    Ok(table_has(&ahead, table) && founds.as_slice() == wanted)
+}
+
 // Whether those from the third on of five visits that leave in order found so many.
 fn order_tells(alloc: Global, wanted: &[u32]) -> Result<bool, OutOfMemory> {
     let arrive = list(alloc, &[0u64, 1, 2, 5, 6])?;
@@ -360,6 +370,7 @@ fn pieces_have_what_their_visits_found(rt: HostRuntime) -> Result<(), Fail> {
         still: &[0, 0, 1, 2],
     };
     assert!(rt; table_tells(alloc, &table, &[1, 1])?);
+    assert!(rt; departures_tell(alloc, &table, &[1, 1])?);
     assert!(rt; order_tells(alloc, &[2, 1, 2])?);
     Ok(())
 }

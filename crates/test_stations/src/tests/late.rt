@@ -28,10 +28,9 @@ fn is_late_overtaken(
     bound: u64,
     wanted: Option<PastFault>,
 ) -> Result<bool, OutOfMemory> {
-    let fates = [Fate::Departs(9), Fate::Departs(4), Fate::Departs(8)];
-    let fates = List::from_vec(Vec::from_slice(alloc, &fates)?);
+    let departs = List::from_vec(Vec::from_slice(alloc, &[9, 4, 8])?);
     let leaving = List::from_vec(Vec::from_slice(alloc, &[4, 8, 9])?);
-    Ok(first_late_overtaken(bound, 1, &fates, &leaving) == wanted)
+    Ok(first_late_overtaken(bound, 1, &departs, &leaving) == wanted)
 }
 
 #[test]

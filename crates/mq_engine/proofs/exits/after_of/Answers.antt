@@ -9,8 +9,8 @@ opened-requires-clause-group c =
     let load = c.args.load.now in
     subst (λ (e : Exit). AreAll (IsClosed load.plan.now load.rows.now load.number load.arrivals e) (closings_of e) c.args.group) c.in-Served.is c.requires.group
 
-pub found_last-requires-clause-group : goal.found_last-requires-clause-group
-found_last-requires-clause-group c =
+pub after_delay-requires-clause-group : goal.after_delay-requires-clause-group
+after_delay-requires-clause-group c =
     let load = c.args.load.now in
     subst (λ (e : Exit). AreAll (IsClosed load.plan.now load.rows.now load.number load.arrivals e) (closings_of e) c.args.group) c.in-Sorted.is c.requires.group
 

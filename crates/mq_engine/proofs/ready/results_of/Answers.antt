@@ -29,7 +29,7 @@ run_parts-requires-3-clause-few g c κs inside =
     let same = c.in_ok-middles.ensures.len in
     let again = c.in_ok-those_emptied.ensures.len in
     let few = c.requires.few in
-    subst (λ (l : List Emptied). total_size emptied_size l < 2 ^ 32) (sym c.as_slice-3.ensures) (emptied-few c.in_ok-those_emptied.those_emptied (omega arith))
+    subst (λ (l : List Emptied). total_size emptied_size l < 2 ^ 32) (sym c.as_slice-3.ensures) (emptied-few c.in_ok-those_emptied.those_emptied (omega arith) c.in_ok-those_emptied.ensures.ready)
 
 pub returns-clause-known : goal.returns-clause-known
 returns-clause-known g c =
