@@ -27,7 +27,7 @@ use Rattle.mq_stations.specs.Scans.{AreTandemCarries, AreTandemTimes, IsForkJoin
 use Rattle.mq_engine.specs.Progress.{IsWorkedOut}
 use Rattle.mq_engine.specs.Working.{AreStreams}
 use Rattle.mq_engine.specs.declared.exits.Closed.{Closed}
-use Rattle.mq_engine.specs.declared.exits.Closed.TheVariants.{Fates, Found, Jobs, Over}
+use Rattle.mq_engine.specs.declared.exits.Closed.TheVariants.{Found, Jobs, Over, Times}
 use Rattle.mq_engine.specs.declared.exits.Exit.{Exit}
 use Rattle.mq_engine.specs.declared.exits.Exit.TheVariants.{Known, Served, Sorted}
 use Rattle.mq_engine.specs.declared.overtaking.Overtaken.{Overtaken}
@@ -206,10 +206,10 @@ closings_of (Known after) = 0
 closings_of (Served departs) = 3
 closings_of (Sorted overtaken) = 1
 
--- a last piece: the fates of these departures, none of them late, or the first that is; how many each found; or the jobs
+-- a last piece: these departures, none of them late, or the first that is; how many each found; or the jobs
 abbrev pub IsShut : Plan → Rows → ℕ → Stream → List ℕ → ℕ → Closed → Type 0
-IsShut plan rows v arrivals departs b (Fates fates) =
-    (b ≡ 0) × (fates ≡ map (λ time. Departs time) departs)
+IsShut plan rows v arrivals departs b (Times times) =
+    (b ≡ 0) × (times ≡ departs)
     × ((node : Node) → slice_get plan.net.nodes v ≡ Some node → first_of (sequence_late_from plan.net.bound v 0 (sequence_fates rows node.kind (came_in arrivals))) ≡ None)
 IsShut plan rows v arrivals departs b (Over fault) =
     (b ≡ 0)
@@ -219,7 +219,7 @@ IsShut plan rows v arrivals departs b (Jobs jobs) = (b ≡ 2) × (jobs ≡ arriv
 
 -- the one last piece of a delay: how many each found
 abbrev pub IsFound : Stream → Overtaken → Closed → Type 0
-IsFound arrivals overtaken (Fates fates) = ⊥
+IsFound arrivals overtaken (Times times) = ⊥
 IsFound arrivals overtaken (Over fault) = ⊥
 IsFound arrivals overtaken (Found found) = found ≡ founds_of arrivals.time overtaken.fates
 IsFound arrivals overtaken (Jobs jobs) = ⊥

@@ -1,5 +1,4 @@
-// The stations whose departures are known, and their last pieces: fates, who found how many, and what
-// leaves.
+// The stations whose departures are known, and their last pieces: who found how many, and what leaves.
 ghost use Rattle.std.specs.Prelude.{◌≡◌, ◌<◌, map, IfOk};
 ghost use Rattle.mq_core.specs.OnceOut.{founds_of};
 ghost use Rattle.mq_core.specs.declared.model.Fate.TheVariants.{Departs};
@@ -12,9 +11,9 @@ use crate::loads::Load;
 use crate::overtaking::Overtaken;
 use crate::working::{After, NodeResult, ending_of, found_by_position, nobody};
 use mq_base::{List, OutOfMemory};
-use mq_core::{Fate, Kind, Stream, fates_are_in_time, sequences_go_by_fates};
+use mq_core::{Fates, Kind, Stream, fates_are_in_time, sequences_go_by_fates};
 use mq_crew::Pieces;
-use mq_stations::{PastFault, fates_of, first_late_in_turn, only};
+use mq_stations::{PastFault, first_late_in_turn, only};
 use mq_stats::found_piece;
 use std::alloc::Global;
 
@@ -39,8 +38,8 @@ pub struct Emptied<'a> {
 /// A last piece of a station: each is a list of its own, which a worker makes whole.
 #[derive(Drop)]
 pub enum Closed {
-    /// The fates: none departs after the bound.
-    Fates(List<Fate>),
+    /// When the jobs leave, in their order: none departs after the bound.
+    Times(List<u64>),
     /// The first that departs after the bound.
     Over(PastFault),
     /// How many each found.
@@ -88,7 +87,7 @@ fn closing_of(
     ensures { IfOk result (λ closed. IsShut load.now.plan.now load.now.rows.now load.now.number load.now.arrivals departs.now b closed) }
 {
     if b == 0 {
-        return fates_in_time(alloc, load, departs);
+        return times_in_bound(alloc, load, departs);
     }
     if b == 1 {
         return Ok(Closed::Found(found_in_turn(alloc, load, departs)?));
@@ -97,8 +96,8 @@ fn closing_of(
     Ok(Closed::Jobs(List::from_vec(jobs)))
 }
 
-// The fates of these departures, or the first that is after the bound.
-fn fates_in_time(alloc: Global, load: &Load, departs: &List<u64>) -> Result<Closed, OutOfMemory>
+// When the jobs leave that depart so, or the first departure that is after the bound.
+fn times_in_bound(alloc: Global, load: &Load, departs: &List<u64>) -> Result<Closed, OutOfMemory>
     requires loaded { IsLoaded load.now.plan.now load.now.rows.now load.now.number load.now.arrivals load.now.scan }
     requires served { IsServed load.now.plan.now load.now.rows.now load.now.number load.now.arrivals departs.now }
     ensures { IfOk result (λ closed. IsShut load.now.plan.now load.now.rows.now load.now.number load.now.arrivals departs.now 0 closed) }
@@ -108,7 +107,8 @@ fn fates_in_time(alloc: Global, load: &Load, departs: &List<u64>) -> Result<Clos
     if let Some(past) = first_late_in_turn(load.plan.net.bound, load.number, departs) {
         return Ok(Closed::Over(past));
     }
-    Ok(Closed::Fates(fates_of(alloc, departs)?))
+    let times = Vec::from_slice(alloc, departs.as_slice())?;
+    Ok(Closed::Times(List::from_vec(times)))
 }
 
 // How many jobs each visit found, of the departures. A source holds none.
@@ -177,7 +177,7 @@ fn after_of(
 }
 
 // What becomes of the arrivals at a station whose jobs leave in their order, of its last pieces and the
-// departures, which are moved.
+// departures, which are kept as the fates.
 fn opened(
     alloc: Global,
     load: &Load,
@@ -201,9 +201,9 @@ fn opened(
         _ => unreachable!(),
     };
     match group.pop() {
-        Some(Closed::Fates(fates)) => {
-            let streams = only(alloc, Stream { job, time: departs })?;
-            Ok(After::Seen(fates, found, streams))
+        Some(Closed::Times(time)) => {
+            let streams = only(alloc, Stream { job, time })?;
+            Ok(After::Seen(Fates::departures(departs), found, streams))
         }
         Some(Closed::Over(past)) => Ok(After::Missed(past)),
         _ => unreachable!(),
@@ -232,5 +232,5 @@ fn found_last(
         time: ahead.leaving,
     };
     let streams = only(alloc, leaving)?;
-    Ok(After::Seen(fates, found, streams))
+    Ok(After::Seen(Fates::each(fates), found, streams))
 }

@@ -3,7 +3,7 @@ use Rattle.std.specs.Option.{option_map}
 use Rattle.mq_core.specs.Sequences.{sequence_late_from}
 use Rattle.mq_core.specs.Results.{first_of}
 use Rattle.mq_stations.proofs.lemmas.Leaves.{served-even, served-rises}
-use Rattle.mq_engine.proofs.exits.fates_in_time.Goals as goal
+use Rattle.mq_engine.proofs.exits.times_in_bound.Goals as goal
 
 pub first_late_in_turn-requires-clause-few : goal.first_late_in_turn-requires-clause-few
 first_late_in_turn-requires-clause-few c =
