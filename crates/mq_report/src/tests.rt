@@ -4,7 +4,7 @@ ghost use Rattle.mq_core.specs.Told.{HasValue};
 
 use crate::jobs::add_visits;
 use mq_base::{Gather, List, MemSink, OutOfMemory, SinkFault, flush};
-use mq_core::{Demand, Fate, Kind, Rows, Visits};
+use mq_core::{Demand, Fate, Fates, Kind, Rows, Visits};
 use std::alloc::Global;
 use std::process::Abort;
 use std::test::Fail;
@@ -49,7 +49,7 @@ fn visits_of(
         job: list(alloc, jobs)?,
         arrive: list(alloc, times)?,
         found,
-        fate: list(alloc, fates)?,
+        fate: Fates::each(list(alloc, fates)?),
     })
 }
 
