@@ -26,6 +26,7 @@ pub mod Asked
 pub mod Recurrences
 pub mod Served
 pub mod Fates
+pub mod FateLists
 pub mod Alone
 pub mod Tallies
 pub mod Results

@@ -2,12 +2,14 @@
 #![tactic(auto)]
 
 mod demands;
+mod fate_lists;
 mod handlers;
 mod kinds;
 mod laws;
 mod model;
 
 pub use demands::{bare_of, demand_of, demand_of_branches};
+pub use fate_lists::{FateSlice, Fates};
 pub use handlers::{Handlers, Standard};
 pub use kinds::{outputs_of, outputs_of_route, servers_of};
 pub use laws::{

@@ -3,6 +3,7 @@ ghost use Rattle.std.specs.Prelude.{◌≡◌, ℕ, ◌<◌, length, IsTrue};
 ghost use Rattle.mq_core.specs.Sound.{is_sound};
 ghost use Rattle.mq_core.specs.Wiring.{has, ranking};
 
+use crate::fate_lists::Fates;
 use mq_base::List;
 
 /// The service demand of a job, in ticks.
@@ -149,7 +150,7 @@ pub struct Visits {
     /// How many jobs were in the node just before each came.
     pub found: List<u32>,
     /// How each visit ended.
-    pub fate: List<Fate>,
+    pub fate: Fates,
 }
 
 /// What a run gives.

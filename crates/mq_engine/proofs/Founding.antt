@@ -7,7 +7,7 @@ use Rattle.mq_core.specs.declared.model.Stream.{Stream}
 use Rattle.mq_scan.specs.declared.blocks.Blocks.{Blocks}
 use Rattle.mq_engine.specs.Loads.{IsCounted, IsDelayPiece, IsFound, IsFoundBlock, founds_by}
 use Rattle.mq_engine.specs.declared.exits.Closed.{Closed}
-use Rattle.mq_engine.specs.declared.exits.Closed.TheVariants.{Fates, Found, Jobs, Over}
+use Rattle.mq_engine.specs.declared.exits.Closed.TheVariants.{Found, Jobs, Over, Times}
 use Rattle.mq_engine.specs.declared.overtaking.Overtaken.{Overtaken}
 use Rattle.mq_engine.proofs.Closings.{founds-length}
 use Rattle.mq_engine.proofs.Comings.{block-order, end_of, last-end, start-is}
@@ -32,15 +32,9 @@ founds-end arrivals overtaken k done h l was =
     let ends : end_of overtaken.blocks k ≡ length arrivals.time = last-end overtaken.blocks k l ∙ h.blocks.0 in
     was ∙ (ap (λ n. between 0 n founds) ends ∙ between-all founds (length arrivals.time) (founds-length [] arrivals.time (map (λ time. Departs time) overtaken.departs) h.ahead.comings.even))
 
--- The pieces. Behind the first one each tells of a block
-pub tells-found : (arrivals : Stream) (overtaken : Overtaken) (k : ℕ) (closed : Closed) → IsDelayPiece arrivals overtaken (k + 1) closed → IsFound closed
-tells-found arrivals overtaken k (Fates fates) h = let first = h.0 in absurd (omega arith)
-tells-found arrivals overtaken k (Over fault) h = h
-tells-found arrivals overtaken k (Found found) h = tt
-tells-found arrivals overtaken k (Jobs jobs) h = h
-
--- that is its own
-pub tells-block : (arrivals : Stream) (overtaken : Overtaken) (k : ℕ) (found : List ℕ) → IsDelayPiece arrivals overtaken (k + 1) (Found found) → IsFoundBlock (founds_by arrivals overtaken.departs) overtaken.blocks k found
-tells-block arrivals overtaken k found h =
-    let same : h.0 ≡ k = let next = h.1 in omega arith in
-    h.2 ∙ ap (λ j. between (j * overtaken.blocks.block) (min ((j + 1) * overtaken.blocks.block) overtaken.blocks.n) (founds_by arrivals overtaken.departs)) same
+-- each piece tells of a block
+pub tells-found : (arrivals : Stream) (overtaken : Overtaken) (b : ℕ) (closed : Closed) → IsDelayPiece arrivals overtaken b closed → IsFound closed
+tells-found arrivals overtaken b (Times times) h = h
+tells-found arrivals overtaken b (Over fault) h = h
+tells-found arrivals overtaken b (Found found) h = tt
+tells-found arrivals overtaken b (Jobs jobs) h = h

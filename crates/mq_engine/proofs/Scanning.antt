@@ -24,7 +24,7 @@ use Rattle.mq_tandem.specs.Rows.{IsTandemLoad}
 use Rattle.mq_stations.specs.Scans.{AreBranchLoads}
 use Rattle.mq_stations.specs.Leaving.{AreServed, IsLoad}
 use Rattle.mq_engine.specs.Loads.{IsAfterAt, IsLoaded, IsScanOf, IsServed, IsShut}
-use Rattle.mq_engine.specs.declared.exits.Closed.TheVariants.{Fates, Found, Jobs}
+use Rattle.mq_engine.specs.declared.exits.Closed.TheVariants.{Found, Jobs, Times}
 use Rattle.mq_engine.specs.declared.working.After.TheVariants.{Seen}
 use Rattle.mq_engine.specs.declared.loads.Scan.{Scan}
 use Rattle.mq_engine.specs.declared.loads.Scan.TheVariants.{OfForkJoin, OfServer, OfTandem, Unscanned}
@@ -108,13 +108,13 @@ forkjoin-leaves plan rows v arrivals scan its departs l e d =
     served-at plan rows v arrivals scan (ForkJoin is.0) departs l is.1 (forkjoin-departs rows is.0 arrivals its.demands departs is.2.demands d)
 
 -- what becomes of the arrivals at such a station
-pub opens : SequencesGoByFates → FatesAreInTime → (plan : Plan) (rows : Rows) (v : ℕ) (arrivals : Stream) (scan : Scan) (departs : List ℕ) (fates : List Fate) (found jobs : List ℕ) (streams : List Stream) → IsLoaded plan rows v arrivals scan → IsServed plan rows v arrivals departs → IsShut plan rows v arrivals departs 0 (Fates fates) → IsShut plan rows v arrivals departs 1 (Found found) → IsShut plan rows v arrivals departs 2 (Jobs jobs) →
-    streams ≡ record { job = jobs; time = departs } ∷ [] → IsAfterAt plan rows v arrivals (Seen fates found streams)
-opens fated law plan rows v arrivals scan departs fates found jobs streams l served f g h e = λ node there. (
+pub opens : SequencesGoByFates → FatesAreInTime → (plan : Plan) (rows : Rows) (v : ℕ) (arrivals : Stream) (scan : Scan) (departs times : List ℕ) (fates : List Fate) (found jobs : List ℕ) (streams : List Stream) → IsLoaded plan rows v arrivals scan → IsServed plan rows v arrivals departs → IsShut plan rows v arrivals departs 0 (Times times) → IsShut plan rows v arrivals departs 1 (Found found) → IsShut plan rows v arrivals departs 2 (Jobs jobs) →
+    fates ≡ map (λ time. Departs time) departs → streams ≡ record { job = jobs; time = times } ∷ [] → IsAfterAt plan rows v arrivals (Seen fates found streams)
+opens fated law plan rows v arrivals scan departs times fates found jobs streams l served f g h d e = λ node there. (
   record {
-    fates_are = f.1 ∙ sym (served node there).0.fates;
-    streams_are = kept-streams fated rows node.kind arrivals streams (served node there).1 (departs-left law rows node.kind arrivals departs streams l.load.ordered.ordered.even (served node there).0 (e ∙ (λ k. record { job = h.1 k; time = departs } ∷ [])));
+    fates_are = d ∙ sym (served node there).0.fates;
+    streams_are = kept-streams fated rows node.kind arrivals streams (served node there).1 (departs-left law rows node.kind arrivals departs streams l.load.ordered.ordered.even (served node there).0 (e ∙ (λ k. record { job = h.1 k; time = f.1 k } ∷ [])));
     none = f.2 node there;
   },
-  g.1 ∙ ap (founds_of arrivals.time) (sym f.1),
+  g.1 ∙ ap (founds_of arrivals.time) (sym d),
 )

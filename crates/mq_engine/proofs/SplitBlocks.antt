@@ -22,7 +22,7 @@ use Rattle.mq_stations.specs.Leaving.{IsLeaving, IsLoad, KeepsOrder}
 use Rattle.mq_stations.specs.Scans.{AreSplitBlocks, AreSplitParts}
 use Rattle.mq_stations.proofs.lemmas.Leaves.{splits}
 use Rattle.mq_engine.specs.Loads.{ArePartsAt, AreSplitStreams, IsAfterAt, IsLoaded, IsRouted, IsShut, IsSplitAt, IsSplitPart}
-use Rattle.mq_engine.specs.declared.exits.Closed.TheVariants.{Fates, Found}
+use Rattle.mq_engine.specs.declared.exits.Closed.TheVariants.{Found, Times}
 use Rattle.mq_engine.specs.declared.firsts.Part.{Part}
 use Rattle.mq_engine.specs.declared.firsts.Part.TheVariants.{Product, Routed, Whole}
 use Rattle.mq_engine.specs.declared.loads.Scan.TheVariants.{OfSplit}
@@ -81,12 +81,15 @@ parts-leave plan rows v arrivals blocks route streams l is h node there = (
 )
 
 -- what becomes of the arrivals at such a split
-pub passes : SequencesGoByFates → (plan : Plan) (rows : Rows) (v : ℕ) (arrivals : Stream) (fates : List Fate) (found : List ℕ) (streams : List Stream) → AreSplitStreams plan rows v arrivals streams → IsShut plan rows v arrivals arrivals.time 0 (Fates fates) → IsShut plan rows v arrivals arrivals.time 1 (Found found) → IsAfterAt plan rows v arrivals (Seen fates found streams)
-passes fated plan rows v arrivals fates found streams s f g node there = (
+pub passes : SequencesGoByFates → (plan : Plan) (rows : Rows) (v : ℕ) (arrivals : Stream) (times : List ℕ) (fates : List Fate) (found : List ℕ) (streams : List Stream) → AreSplitStreams plan rows v arrivals streams → IsShut plan rows v arrivals arrivals.time 0 (Times times) → IsShut plan rows v arrivals arrivals.time 1 (Found found) → fates ≡ map (λ time. Departs time) times → IsAfterAt plan rows v arrivals (Seen fates found streams)
+passes fated plan rows v arrivals times fates found streams s f g d node there = (
   record {
-    fates_are = f.1 ∙ (s node there).0.leave;
+    fates_are = whole ∙ (s node there).0.leave;
     streams_are = kept-streams fated rows node.kind arrivals streams (s node there).1 (s node there).0.outflow;
     none = f.2 node there;
   },
-  g.1 ∙ ap (founds_of arrivals.time) (sym f.1),
+  g.1 ∙ ap (founds_of arrivals.time) (sym whole),
 )
+  where
+    whole : fates ≡ map (λ time. Departs time) arrivals.time
+    whole = d ∙ ap (map (λ time. Departs time)) f.1

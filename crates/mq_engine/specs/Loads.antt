@@ -31,7 +31,7 @@ use Rattle.mq_stations.specs.Scans.{AreFewBlocks, AreSplitParts, AreTandemCarrie
 use Rattle.mq_engine.specs.Progress.{IsWorkedOut}
 use Rattle.mq_engine.specs.Working.{AreStreams}
 use Rattle.mq_engine.specs.declared.exits.Closed.{Closed}
-use Rattle.mq_engine.specs.declared.exits.Closed.TheVariants.{Fates, Found, Jobs, Over}
+use Rattle.mq_engine.specs.declared.exits.Closed.TheVariants.{Found, Jobs, Over, Times}
 use Rattle.mq_engine.specs.declared.exits.Exit.{Exit}
 use Rattle.mq_engine.specs.declared.exits.Exit.TheVariants.{Known, Passed, Served, Sorted}
 use Rattle.mq_engine.specs.declared.overtaking.Overtaken.{Overtaken}
@@ -271,13 +271,13 @@ IsExit plan rows v arrivals (Passed streams) = AreSplitStreams plan rows v arriv
 abbrev pub closings_of : Exit → ℕ
 closings_of (Known after) = 0
 closings_of (Served departs) = 3
-closings_of (Sorted overtaken) = overtaken.blocks.blocks + 1
+closings_of (Sorted overtaken) = overtaken.blocks.blocks
 closings_of (Passed streams) = 2
 
--- a last piece: the fates of these departures, none of them late, or the first that is; how many each found; or the jobs
+-- a last piece: these departures, none of them late, or the first that is; how many each found; or the jobs
 abbrev pub IsShut : Plan → Rows → ℕ → Stream → List ℕ → ℕ → Closed → Type 0
-IsShut plan rows v arrivals departs b (Fates fates) =
-    (b ≡ 0) × (fates ≡ map (λ time. Departs time) departs)
+IsShut plan rows v arrivals departs b (Times times) =
+    (b ≡ 0) × (times ≡ departs)
     × ((node : Node) → slice_get plan.net.nodes v ≡ Some node → first_of (sequence_late_from plan.net.bound v 0 (sequence_fates rows node.kind (came_in arrivals))) ≡ None)
 IsShut plan rows v arrivals departs b (Over fault) =
     (b ≡ 0)
@@ -291,18 +291,18 @@ founds_by arrivals departs = founds_of arrivals.time (map (λ time. Departs time
 
 -- those of a block of them
 abbrev pub IsFoundBlock : List ℕ → Blocks → ℕ → List ℕ → Type 0
-IsFoundBlock founds blocks k found = found ≡ between (k * blocks.block) (min ((k + 1) * blocks.block) blocks.n) founds
+IsFoundBlock founds blocks b found = found ≡ between (b * blocks.block) (min ((b + 1) * blocks.block) blocks.n) founds
 
--- a last piece of a delay: the fates, and behind them block by block how many each visit found
+-- a last piece of a delay: how many each visit of a block found
 abbrev pub IsDelayPiece : Stream → Overtaken → ℕ → Closed → Type 0
-IsDelayPiece arrivals overtaken b (Fates fates) = (b ≡ 0) × (fates ≡ map (λ time. Departs time) overtaken.departs)
+IsDelayPiece arrivals overtaken b (Times times) = ⊥
 IsDelayPiece arrivals overtaken b (Over fault) = ⊥
-IsDelayPiece arrivals overtaken b (Found found) = (k : ℕ) × (b ≡ k + 1) × IsFoundBlock (founds_by arrivals overtaken.departs) overtaken.blocks k found
+IsDelayPiece arrivals overtaken b (Found found) = IsFoundBlock (founds_by arrivals overtaken.departs) overtaken.blocks b found
 IsDelayPiece arrivals overtaken b (Jobs jobs) = ⊥
 
 -- a last piece that tells how many visits found
 abbrev pub IsFound : Closed → Type 0
-IsFound (Fates fates) = ⊥
+IsFound (Times times) = ⊥
 IsFound (Over fault) = ⊥
 IsFound (Found found) = Unit {0}
 IsFound (Jobs jobs) = ⊥

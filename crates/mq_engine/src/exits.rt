@@ -1,5 +1,4 @@
-// The stations whose departures are known, and their last pieces: fates, who found how many, and what
-// leaves.
+// The stations whose departures are known, and their last pieces: who found how many, and what leaves.
 ghost use Rattle.std.specs.Prelude.{◌≡◌, ◌<◌, ◌≤◌, length, map, IfOk};
 ghost use Rattle.mq_core.specs.Laws.{Rises};
 ghost use Rattle.mq_core.specs.OnceOut.{founds_of};
@@ -15,9 +14,9 @@ use crate::overtaking::Overtaken;
 use crate::splitting::{passed, passed_of};
 use crate::working::{After, NodeResult, ending_of, found_by_position, nobody};
 use mq_base::{List, OutOfMemory};
-use mq_core::{Fate, Kind, Stream, fates_are_in_time, sequences_go_by_fates};
+use mq_core::{Fates, Kind, Stream, fates_are_in_time, sequences_go_by_fates};
 use mq_crew::Pieces;
-use mq_stations::{PastFault, fates_of, first_late_in_turn, only};
+use mq_stations::{PastFault, first_late_in_turn, only};
 use std::alloc::Global;
 
 /// What is known of a station when all its jobs have left.
@@ -44,8 +43,8 @@ pub struct Emptied<'a> {
 /// block.
 #[derive(Drop)]
 pub enum Closed {
-    /// The fates: none departs after the bound.
-    Fates(List<Fate>),
+    /// When the jobs leave, in their order: none departs after the bound.
+    Times(List<u64>),
     /// The first that departs after the bound.
     Over(PastFault),
     /// How many each found, or each of a block.
@@ -67,7 +66,7 @@ impl<'a> Pieces for Emptied<'a> {
         match &self.exit {
             Exit::Known(_) => 0,
             Exit::Served(_) => 3,
-            Exit::Sorted(overtaken) => overtaken.blocks.blocks + 1,
+            Exit::Sorted(overtaken) => overtaken.blocks.blocks,
             Exit::Passed(_) => 2,
         }
     }
@@ -97,7 +96,7 @@ fn closing_of(
     sequences_go_by_fates();
     fates_are_in_time();
     if b == 0 {
-        return fates_in_time(alloc, load, departs);
+        return times_in_bound(alloc, load, departs);
     }
     if b == 1 {
         return Ok(Closed::Found(found_in_turn(alloc, load, departs)?));
@@ -106,8 +105,13 @@ fn closing_of(
     Ok(Closed::Jobs(List::from_vec(jobs)))
 }
 
-// The fates of these departures, which never fall, or the first that is after the bound.
-pub fn fates_in_time(alloc: Global, load: &Load, departs: &List<u64>) -> Result<Closed, OutOfMemory>
+// When the jobs leave that depart so, where these times never fall, or the first departure that is after
+// the bound.
+pub fn times_in_bound(
+    alloc: Global,
+    load: &Load,
+    departs: &List<u64>,
+) -> Result<Closed, OutOfMemory>
     requires all { AllDepartAt load.now.plan.now load.now.rows.now load.now.number load.now.arrivals departs.now }
     requires few { length departs.now ≤ 1048576 }
     requires rising { Rises (λ a b. a ≤ b) departs.now }
@@ -116,7 +120,8 @@ pub fn fates_in_time(alloc: Global, load: &Load, departs: &List<u64>) -> Result<
     if let Some(past) = first_late_in_turn(load.plan.net.bound, load.number, departs) {
         return Ok(Closed::Over(past));
     }
-    Ok(Closed::Fates(fates_of(alloc, departs)?))
+    let times = Vec::from_slice(alloc, departs.as_slice())?;
+    Ok(Closed::Times(List::from_vec(times)))
 }
 
 // How many jobs each visit found, of the departures. A source holds none.
@@ -175,7 +180,7 @@ fn after_of(
 }
 
 // What becomes of the arrivals at a station whose jobs leave in their order, of its last pieces and the
-// departures, which are moved.
+// departures, which are kept as the fates.
 fn opened(
     alloc: Global,
     load: &Load,
@@ -199,9 +204,9 @@ fn opened(
         _ => unreachable!(),
     };
     match group.pop() {
-        Some(Closed::Fates(fates)) => {
-            let streams = only(alloc, Stream { job, time: departs })?;
-            Ok(After::Seen(fates, found, streams))
+        Some(Closed::Times(time)) => {
+            let streams = only(alloc, Stream { job, time })?;
+            Ok(After::Seen(Fates::departures(departs), found, streams))
         }
         Some(Closed::Over(past)) => Ok(After::Missed(past)),
         _ => unreachable!(),

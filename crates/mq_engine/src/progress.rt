@@ -9,7 +9,7 @@ ghost use Rattle.mq_engine.specs.Progress.{AreWaiting, AreWithin, AreWorkedOut, 
 
 use crate::working::{Ending, NodeResult};
 use mq_base::{List, OutOfMemory};
-use mq_core::{Input, Node, Plan, Stream, Visits};
+use mq_core::{Fates, Input, Node, Plan, Stream, Visits};
 use mq_stations::PastFault;
 use std::alloc::Global;
 
@@ -58,7 +58,7 @@ fn no_visits(alloc: Global) -> Visits {
         job: List::new(alloc),
         arrive: List::new(alloc),
         found: List::new(alloc),
-        fate: List::new(alloc),
+        fate: Fates::each(List::new(alloc)),
     }
 }
 

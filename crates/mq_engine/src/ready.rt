@@ -21,8 +21,8 @@ use std::thread::Threads;
 
 // What the nodes that are ready give, in four lists of pieces: what comes to each; the summaries
 // of the stations that are scanned, what leaves the blocks of a split, and the others whole; the applied
-// blocks; and where the jobs leave in their order the fates, how many each visit found, and the jobs, at a
-// split in blocks the fates and zeros, at a delay the fates and by blocks how many each found. Before
+// blocks; and where the jobs leave in their order when they do, how many each visit found, and the jobs, at
+// a split in blocks when they leave and zeros, at a delay by blocks how many each visit found. Before
 // the last list each server has its single pass, one after another, each fork-join lists of its own, and
 // the jobs of a delay are put in order.
 pub fn results_of<R: Threads + Sync, G: Gate>(

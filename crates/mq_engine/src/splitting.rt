@@ -9,12 +9,12 @@ ghost use Rattle.mq_engine.specs.declared.firsts.Part.TheVariants.{Routed};
 ghost use Rattle.mq_engine.specs.declared.firsts.Stage.TheVariants.{Parted};
 ghost use Rattle.mq_engine.specs.declared.loads.Scan.TheVariants.{OfSplit};
 
-use crate::exits::{Closed, fates_in_time};
+use crate::exits::{Closed, times_in_bound};
 use crate::firsts::{Part, Stage};
 use crate::loads::Load;
 use crate::working::{After, nobody};
 use mq_base::{List, OutOfMemory};
-use mq_core::{Kind, Route, Stream, sequences_go_by_fates};
+use mq_core::{Fates, Kind, Route, Stream, sequences_go_by_fates};
 use mq_scan::Blocks;
 use mq_stations::{split_joined, split_part};
 use std::alloc::Global;
@@ -98,7 +98,7 @@ pub fn passed_of(alloc: Global, load: &Load, b: u32) -> Result<Closed, OutOfMemo
 {
     let times = &load.arrivals.time;
     if b == 0 {
-        return fates_in_time(alloc, load, times);
+        return times_in_bound(alloc, load, times);
     }
     Ok(Closed::Found(nobody(alloc, times)?))
 }
@@ -116,7 +116,7 @@ pub fn passed(load: &Load, group: List<Closed>, streams: List<Stream>) -> After
         _ => unreachable!(),
     };
     match group.pop() {
-        Some(Closed::Fates(fates)) => After::Seen(fates, found, streams),
+        Some(Closed::Times(times)) => After::Seen(Fates::departures(times), found, streams),
         Some(Closed::Over(past)) => After::Missed(past),
         _ => unreachable!(),
     }

@@ -13,7 +13,7 @@ ghost use Rattle.mq_stations.specs.Leaving.{IsLeaving, IsLoad, KeepsOrder};
 
 use mq_base::{List, OutOfMemory};
 use mq_core::{
-    Fate, Kind, Network, Rows, Stream, Visits, fates_are_in_time, sequences_go_by_fates,
+    Fates, Kind, Network, Rows, Stream, Visits, fates_are_in_time, sequences_go_by_fates,
 };
 use mq_stations::{Left, Outflow, PastFault, first_late, leaving};
 use mq_stats::{found, found_piece_in_order};
@@ -41,7 +41,7 @@ pub enum Ending {
 pub enum After {
     /// Their fates, how many each found, and what leaves by each output, in emission order: none
     /// departs after the bound.
-    Seen(List<Fate>, List<u32>, List<Stream>),
+    Seen(Fates, List<u32>, List<Stream>),
     /// The first that departs after the bound.
     Missed(PastFault),
 }
@@ -96,7 +96,7 @@ fn seen(
         Some(past) => Ok(Worked::Finished(After::Missed(past))),
         None => {
             let found = found_at(alloc, rows, kind, arrivals, &leaving)?;
-            let after = After::Seen(leaving.fates, found, leaving.streams);
+            let after = After::Seen(Fates::each(leaving.fates), found, leaving.streams);
             Ok(Worked::Finished(after))
         }
     }

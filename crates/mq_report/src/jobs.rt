@@ -90,7 +90,7 @@ pub fn add_visits<O: Sink>(
         let (job, arrive, fate) = (
             *visits.job.get(at),
             *visits.arrive.get(at),
-            *visits.fate.get(at),
+            visits.fate.at(at),
         );
         add_visit(out, pending, &mut line, rows, name, kind, job, arrive, fate)?;
     }

@@ -1,6 +1,5 @@
 -- One step of a loop over sequences, and its end.
-use Rattle.std.proofs.lemmas.List.{drop_more}
-use Rattle.std.proofs.Common.{◌≡◌, ℕ, ◌+◌, ◌<◌, ◌⊎◌, inl, inr, List, [], ◌∷◌, length, refl, cond, drop, get_or, Some, sym, ap, ◌∙◌, arith, max}
+use Rattle.std.proofs.Common.{◌≡◌, ℕ, ◌+◌, ◌⊎◌, inl, inr, List, [], ◌∷◌, length, refl, cond, drop, Some, sym, ap, ◌∙◌, arith, max}
 use Rattle.std.specs.Prelude.{slice_get, fold, slice_index, ◌-◌, count_by, sum}
 use Rattle.mq_base.proofs.lemmas.Lists.{drop_at, sum-cons}
 use Rattle.mq_core.specs.Sequences.{sequence_wait, sequence_waits, sequence_service, sequence_services, sequence_sojourn, sequence_sojourns, one_more, sequence_numbers, stream_sojourns}
@@ -36,15 +35,6 @@ waits-at rows kind jobs arrives fates i job arrive fate j a f = λ k. sequence_w
 pub services-at : (rows : Rows) (kind : Kind) (jobs : List ℕ) (fates : List Fate) (i job : ℕ) (fate : Fate) → slice_get jobs i ≡ Some job → slice_get fates i ≡ Some fate →
     sequence_services rows kind (drop i jobs) (drop i fates) ≡ sequence_service rows kind job fate ∷ sequence_services rows kind (drop (i + 1) jobs) (drop (i + 1) fates)
 services-at rows kind jobs fates i job fate j f = λ k. sequence_services rows kind (drop_at jobs i job j k) (drop_at fates i fate f k)
-
--- the same of an item below the length
-pub waits-more : (rows : Rows) (kind : Kind) (jobs arrives : List ℕ) (fates : List Fate) (i job arrive : ℕ) (fate : Fate) → i < length jobs → i < length arrives → i < length fates →
-    sequence_waits rows kind (drop i jobs) (drop i arrives) (drop i fates) ≡ sequence_wait rows kind (get_or jobs i job) (get_or arrives i arrive) (get_or fates i fate) ∷ sequence_waits rows kind (drop (i + 1) jobs) (drop (i + 1) arrives) (drop (i + 1) fates)
-waits-more rows kind jobs arrives fates i job arrive fate j a f = λ k. sequence_waits rows kind (drop_more jobs i job j k) (drop_more arrives i arrive a k) (drop_more fates i fate f k)
-
-pub services-more : (rows : Rows) (kind : Kind) (jobs : List ℕ) (fates : List Fate) (i job : ℕ) (fate : Fate) → i < length jobs → i < length fates →
-    sequence_services rows kind (drop i jobs) (drop i fates) ≡ sequence_service rows kind (get_or jobs i job) (get_or fates i fate) ∷ sequence_services rows kind (drop (i + 1) jobs) (drop (i + 1) fates)
-services-more rows kind jobs fates i job fate j f = λ k. sequence_services rows kind (drop_more jobs i job j k) (drop_more fates i fate f k)
 
 pub sojourns-at : (arrives : List ℕ) (fates : List Fate) (i arrive : ℕ) (fate : Fate) → slice_get arrives i ≡ Some arrive → slice_get fates i ≡ Some fate →
     sequence_sojourns (drop i arrives) (drop i fates) ≡ sequence_sojourn arrive fate ∷ sequence_sojourns (drop (i + 1) arrives) (drop (i + 1) fates)

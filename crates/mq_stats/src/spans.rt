@@ -4,14 +4,14 @@ ghost use Rattle.mq_core.specs.Sequences.{sequence_span, greatest_time, time_of_
 ghost use Rattle.mq_stats.specs.Lasts.{last_event, last_time};
 
 use mq_base::List;
-use mq_core::{Fate, Stream, Visits};
+use mq_core::{Fate, Fates, Stream, Visits};
 
 // The time of a departure; 0 for a lost visit, which has none.
-fn time_of(fate: &Fate) -> u64
-    ensures { result ≡ time_of_fate fate.now }
+fn time_of(fate: Fate) -> u64
+    ensures { result ≡ time_of_fate fate }
 {
     match fate {
-        Fate::Departs(time) => *time,
+        Fate::Departs(time) => time,
         Fate::Lost => 0,
     }
 }
@@ -30,12 +30,12 @@ fn latest(times: &[u64]) -> u64
 // The greatest time of a departure, or 0.
 // It is not inlined, so that its loop has the registers to itself.
 #[inline(never)]
-fn latest_departure(fates: &[Fate]) -> u64
+fn latest_departure(fates: &Fates) -> u64
     ensures { result ≡ fold max 0 (map time_of_fate fates.now) }
 {
-    let mut latest = 0;
-    for fate in fates {
-        latest = latest.max(time_of(fate));
+    let mut latest = 0u64;
+    for at in 0..fates.len() {
+        latest = latest.max(time_of(fates.at(at)));
     }
     latest
 }
@@ -44,7 +44,7 @@ fn latest_departure(fates: &[Fate]) -> u64
 fn latest_visit(visits: &Visits) -> u64
     ensures { result ≡ greatest_time visits.now }
 {
-    latest(visits.arrive.as_slice()).max(latest_departure(visits.fate.as_slice()))
+    latest(visits.arrive.as_slice()).max(latest_departure(&visits.fate))
 }
 
 /// The time span of a run: the greatest time, in ticks, at which a job comes to a node or leaves

@@ -7,7 +7,7 @@ ghost use Rattle.mq_stats.specs.Numbers.{AreSmall, AreVisits, TotalsJoin, added_
 
 use crate::waits::waits_of;
 use mq_base::List;
-use mq_core::{Fate, Kind, Rows, Visits};
+use mq_core::{Fate, FateSlice, Kind, Rows, Visits};
 
 /// The totals of a node over a run.
 #[derive(Clone, Copy, Debug, PartialEq, Eq)]
@@ -75,7 +75,7 @@ pub struct Stays {
 // after a visit came.
 // Its loop is not inlined, so that it has the registers to itself.
 #[inline(never)]
-fn stays_of(arrive: &[u64], found: &[u32], fate: &[Fate]) -> Stays
+fn stays_of(arrive: &[u64], found: &[u32], fate: &FateSlice) -> Stays
     requires few { length arrive.now ≤ 1048576 }
     requires founds { length found.now ≡ length arrive.now }
     requires fates { length fate.now ≡ length arrive.now }
@@ -90,11 +90,12 @@ fn stays_of(arrive: &[u64], found: &[u32], fate: &[Fate]) -> Stays
     let (mut lost, mut longest, mut greatest) = (0u32, 0u64, 0u32);
     let mut area = 0u128;
     for at in 0..arrive.len() {
-        let stayed = sojourn_of(arrive[at], fate[at]);
-        lost += one_if_lost(fate[at]);
+        let ending = fate.at(at);
+        let stayed = sojourn_of(arrive[at], ending);
+        lost += one_if_lost(ending);
         area += stayed as u128;
         longest = longest.max(stayed);
-        greatest = greatest.max(number_after(found[at], fate[at]));
+        greatest = greatest.max(number_after(found[at], ending));
     }
     Stays {
         lost,
@@ -105,7 +106,7 @@ fn stays_of(arrive: &[u64], found: &[u32], fate: &[Fate]) -> Stays
 }
 
 // The peak of a node of this kind, where this is the greatest number of jobs just after a visit came.
-fn peak_of(kind: &Kind, greatest: u32, found: &[u32], fate: &[Fate]) -> u32
+fn peak_of(kind: &Kind, greatest: u32, found: &[u32], fate: &FateSlice) -> u32
     requires { greatest ≡ fold max 0 (sequence_numbers found.now fate.now) }
     ensures { result ≡ sequence_peak kind.now found.now fate.now }
 {
@@ -126,7 +127,7 @@ fn totals_of(
     job: &[u32],
     arrive: &[u64],
     found: &[u32],
-    fate: &[Fate],
+    fate: &FateSlice,
 ) -> NodeTotals
     requires { AreVisits rows.now kind.now (visits_of_columns job.now arrive.now found.now fate.now) }
     ensures totals { totals_from result ≡ sequence_totals rows.now kind.now (visits_of_columns job.now arrive.now found.now fate.now) }
@@ -168,8 +169,8 @@ pub fn totals_between(rows: &Rows, kind: &Kind, visits: &Visits, from: u32, to: 
     let job = part(&visits.job, from, to);
     let arrive = part(&visits.arrive, from, to);
     let found = part(&visits.found, from, to);
-    let fate = part(&visits.fate, from, to);
-    totals_of(rows, kind, job, arrive, found, fate)
+    let fate = visits.fate.part(from as usize, to as usize);
+    totals_of(rows, kind, job, arrive, found, &fate)
 }
 
 /// The totals of visits to a node, of the totals of those before a position and of those from it on.
@@ -207,12 +208,13 @@ pub fn totals(rows: &Rows, kind: &Kind, visits: &Visits) -> NodeTotals
     ensures totals { totals_from result ≡ sequence_totals rows.now kind.now visits.now }
     ensures small { result.busy < 2 ^ 100 }
 {
+    let fate = visits.fate.as_slice();
     totals_of(
         rows,
         kind,
         visits.job.as_slice(),
         visits.arrive.as_slice(),
         visits.found.as_slice(),
-        visits.fate.as_slice(),
+        &fate,
     )
 }

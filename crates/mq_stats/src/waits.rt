@@ -10,7 +10,7 @@ ghost use Rattle.mq_core.specs.declared.model.Rows.{Rows as TheRows};
 ghost use Rattle.mq_stats.specs.Numbers.{AreWaiting, AsksOnce};
 
 use crate::tallies::Stays;
-use mq_core::{Demand, Fate, Kind, Rows, bare_of, demand_of_branches};
+use mq_core::{Demand, Fate, FateSlice, Kind, Rows, bare_of, demand_of_branches};
 
 /// How long a visit waited, in ticks: its sojourn less the time that it would have stayed anyway.
 /// A lost visit waited 0.
@@ -132,7 +132,7 @@ fn each_wait<A: Asking>(
     kind: &Kind,
     job: &[u32],
     arrive: &[u64],
-    fate: &[Fate],
+    fate: &FateSlice,
 ) -> Waits
     requires tells { A.tells asking.now kind.now }
     requires visits { AreWaiting rows.now kind.now job.now arrive.now fate.now }
@@ -144,10 +144,11 @@ fn each_wait<A: Asking>(
 {
     let (mut wait, mut longest, mut busy) = (0u128, 0u64, 0u128);
     for at in 0..job.len() {
+        let ending = fate.at(at);
         let bare = asking.bare(rows, kind, job[at]);
         let service = asking.service(rows, kind, job[at], bare);
-        let waited = wait_beyond(bare, arrive[at], fate[at]);
-        busy += served(service, fate[at]) as u128;
+        let waited = wait_beyond(bare, arrive[at], ending);
+        busy += served(service, ending) as u128;
         wait += waited as u128;
         longest = longest.max(waited);
     }
@@ -165,7 +166,7 @@ fn waits_for(
     kind: &Kind,
     job: &[u32],
     arrive: &[u64],
-    fate: &[Fate],
+    fate: &FateSlice,
 ) -> Waits
     requires tells { AsksOnce kind.now demand.now }
     requires visits { AreWaiting rows.now kind.now job.now arrive.now fate.now }
@@ -187,7 +188,7 @@ pub fn waits_of(
     kind: &Kind,
     job: &[u32],
     arrive: &[u64],
-    fate: &[Fate],
+    fate: &FateSlice,
     stays: &Stays,
 ) -> Waits
     requires visits { AreWaiting rows.now kind.now job.now arrive.now fate.now }

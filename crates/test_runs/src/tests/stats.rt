@@ -6,7 +6,7 @@ ghost use Rattle.mq_core.specs.Laws.{Rises};
 ghost use Rattle.mq_core.specs.Told.{HasValue};
 
 use mq_base::{List, OutOfMemory};
-use mq_core::{Demand, Fate, Kind, Rows, Stream, Visits};
+use mq_core::{Demand, Fate, Fates, Kind, Rows, Stream, Visits};
 use mq_stats::{
     AheadTable, Exit, NodeTotals, ahead, ahead_of_departures, found, found_piece,
     found_piece_in_order, last_at, leaving, span, totals, totals_added, totals_between,
@@ -45,7 +45,7 @@ fn visits_of(alloc: Global, columns: &Columns) -> Result<Visits, OutOfMemory> {
         job: list(alloc, columns.job)?,
         arrive: list(alloc, columns.arrive)?,
         found: list(alloc, columns.found)?,
-        fate: list(alloc, columns.fate)?,
+        fate: Fates::each(list(alloc, columns.fate)?),
     })
 }
 
@@ -124,6 +124,17 @@ const SERVED: Columns<'static> = Columns {
     fate: &[Fate::Departs(4), Fate::Departs(5), Fate::Departs(8)],
 };
 
+const SERVED_TOTALS: NodeTotals = NodeTotals {
+    came: 3,
+    left: 3,
+    lost: 0,
+    wait: 6,
+    longest: 3,
+    busy: 8,
+    area: 14,
+    peak: 3,
+};
+
 // The second is lost.
 const LOST: Columns<'static> = Columns {
     job: &[0, 1, 2],
@@ -142,16 +153,6 @@ const NO_VISITS: Columns<'static> = Columns {
 #[test]
 fn servers_have_totals(rt: HostRuntime) -> Result<(), Fail> {
     let alloc = rt.alloc();
-    let served = NodeTotals {
-        came: 3,
-        left: 3,
-        lost: 0,
-        wait: 6,
-        longest: 3,
-        busy: 8,
-        area: 14,
-        peak: 3,
-    };
     let lost = NodeTotals {
         came: 3,
         left: 2,
@@ -172,7 +173,7 @@ fn servers_have_totals(rt: HostRuntime) -> Result<(), Fail> {
         area: 0,
         peak: 0,
     };
-    assert!(rt; server_has(alloc, &SERVED, &served)?);
+    assert!(rt; server_has(alloc, &SERVED, &SERVED_TOTALS)?);
     assert!(rt; server_has(alloc, &LOST, &lost)?);
     assert!(rt; server_has(alloc, &NO_VISITS, &none)?);
     Ok(())
@@ -209,6 +210,26 @@ fn totals_of_pieces_add_up(rt: HostRuntime) -> Result<(), Fail> {
     assert!(rt; server_joins(rt.alloc(), &SERVED, 1)?);
     assert!(rt; server_joins(rt.alloc(), &LOST, 2)?);
     assert!(rt; server_joins(rt.alloc(), &NO_VISITS, 0)?);
+    Ok(())
+}
+
+// The visits of the three jobs that a server serves one after another, with their departures as fates.
+fn served_by_departures(alloc: Global) -> Result<Visits, OutOfMemory> {
+    let departs = list(alloc, &[4u64, 5, 8])?;
+    Ok(Visits {
+        job: list(alloc, SERVED.job)?,
+        arrive: list(alloc, SERVED.arrive)?,
+        found: list(alloc, SERVED.found)?,
+        fate: Fates::departures(departs),
+    })
+}
+
+#[test]
+fn departures_are_fates(rt: HostRuntime) -> Result<(), Fail> {
+    let rows = three_rows(rt.alloc())?;
+    let visits = served_by_departures(rt.alloc())?;
+    assert!(rt; totals_are(&rows, &visits, &SERVED_TOTALS));
+    assert!(rt; totals_join_at(&rows, &visits, 2));
     Ok(())
 }
 

@@ -8,8 +8,7 @@ use Rattle.mq_engine.proofs.founds.after_delay.Goals as goal
 pub returns : goal.returns
 returns c node there =
     let load = c.args.load.now in
-    let seen = c.in_ok-fates.ensures in
     let on_time = c.requires.overtaken.on_time node there in (
-      subst (λ (z : List Fate × List Stream). AreOnTime load.plan.now.net load.rows.now load.number node.kind load.arrivals z.0 z.1) (λ k. (sym seen.fates k, sym c.in_ok-streams.ensures k)) on_time,
-      seen.found ∙ ap (founds_of load.arrivals.time) (sym seen.fates),
+      subst (λ (z : List Fate × List Stream). AreOnTime load.plan.now.net load.rows.now load.number node.kind load.arrivals z.0 z.1) (λ k. (sym c.departures.ensures k, sym c.in_ok-streams.ensures k)) on_time,
+      c.in_ok-found.ensures ∙ ap (founds_of load.arrivals.time) (sym c.departures.ensures),
     )

@@ -5,15 +5,15 @@ use Rattle.mq_engine.proofs.Closings.{all-last}
 use Rattle.mq_engine.proofs.SplitBlocks.{passes}
 use Rattle.mq_engine.proofs.splitting.passed.Goals as goal
 
-pub returns-in-Some-Fates : goal.returns-in-Some-Fates
-returns-in-Some-Fates c =
+pub returns-in-Some-Times : goal.returns-in-Some-Times
+returns-in-Some-Times c =
     let load = c.args.load.now in
     let is = IsShut load.plan.now load.rows.now load.number load.arrivals load.arrivals.time in
     let whole = subst (AreAll is 2) (sym c.into_vec-group.ensures) c.requires.group in
     let found = all-last is 1 _ _ _ c.in-Some-Found.ensures.items whole in
-    let fates = all-last is 0 _ _ _ c.in-Some-Fates.ensures.items found.1 in
-    passes c.sequences_go_by_fates.ensures load.plan.now load.rows.now load.number load.arrivals c.in-Some-Fates.fates c.in-Some-Found.found c.args.streams c.requires.passed
-    (subst (is 0) c.in-Some-Fates.field-0-is fates.0) (subst (is 1) c.in-Some-Found.field-0-is found.0)
+    let times = all-last is 0 _ _ _ c.in-Some-Times.ensures.items found.1 in
+    passes c.sequences_go_by_fates.ensures load.plan.now load.rows.now load.number load.arrivals c.in-Some-Times.times c.departures.result c.in-Some-Found.found c.args.streams c.requires.passed
+    (subst (is 0) c.in-Some-Times.field-0-is times.0) (subst (is 1) c.in-Some-Found.field-0-is found.0) c.departures.ensures
 
 pub returns-in-Some-Over : goal.returns-in-Some-Over
 returns-in-Some-Over c =

@@ -4,8 +4,8 @@ use Rattle.mq_report.proofs.jobs.add_visits.Goals as goal
 
 pub loop-at-preserved : goal.loop-at-preserved
 loop-at-preserved g c =
-    gathers_added _ (lines-next c.args.rows.now c.args.name.now c.args.kind.now c.args.visits.now.job c.args.visits.now.arrive c.args.visits.now.fate c.loop-at.at _ _ _ c.get.ensures c.get-in-loop-at.ensures c.get-in-loop-at-2.ensures) c.loop-at.invariant c.in_ok-add_visit.ensures
+    gathers_added _ (lines-next c.args.rows.now c.args.name.now c.args.kind.now c.args.visits.now.job c.args.visits.now.arrive c.args.visits.now.fate c.loop-at.at _ _ _ c.get.ensures c.get-in-loop-at.ensures c.at-fate.ensures) c.loop-at.invariant c.in_ok-add_visit.ensures
 
 pub returns-in_err-add_visit : goal.returns-in_err-add_visit
 returns-in_err-add_visit g c =
-    gathers_refused _ c.from_residual.ensures.0 _ (lines-next c.args.rows.now c.args.name.now c.args.kind.now c.args.visits.now.job c.args.visits.now.arrive c.args.visits.now.fate c.loop-at.at _ _ _ c.get.ensures c.get-in-loop-at.ensures c.get-in-loop-at-2.ensures) c.loop-at.invariant c.in_err-add_visit.ensures
+    gathers_refused _ c.from_residual.ensures.0 _ (lines-next c.args.rows.now c.args.name.now c.args.kind.now c.args.visits.now.job c.args.visits.now.arrive c.args.visits.now.fate c.loop-at.at _ _ _ c.get.ensures c.get-in-loop-at.ensures c.at-fate.ensures) c.loop-at.invariant c.in_err-add_visit.ensures

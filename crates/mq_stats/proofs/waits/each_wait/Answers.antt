@@ -1,18 +1,22 @@
 use Rattle.std.proofs.Common.{◌<◌, arith, length}
-use Rattle.mq_stats.proofs.Steps.{adds, grows, services-more, waits-more}
+use Rattle.std.proofs.lemmas.Option.{slice_get-get_or}
+use Rattle.mq_stats.proofs.Steps.{adds, grows, services-at, waits-at}
 use Rattle.mq_stats.proofs.waits.each_wait.Goals as goal
 
 pub loop-at-preserved : goal.loop-at-preserved
 loop-at-preserved g c =
     let rows = c.args.rows.now in
     let kind = c.args.kind.now in
+    let jobs = c.args.job.now in
+    let arrives = c.args.arrive.now in
+    let at = c.loop-at.at in
     let more = c.loop-at-test.true in
     let even = c.requires.visits.arrives in
-    let fates = c.requires.visits.fates in
-    let came : c.loop-at.at < length c.args.arrive.now = omega arith in
-    let fared : c.loop-at.at < length c.args.fate.now = omega arith in
-    let waits = waits-more rows kind c.args.job.now c.args.arrive.now c.args.fate.now c.loop-at.at _ _ _ more came fared in
-    let services = services-more rows kind c.args.job.now c.args.fate.now c.loop-at.at _ _ more fared in
+    let came : at < length arrives = omega arith in
+    let job = slice_get-get_or jobs at 0 more in
+    let arrive = slice_get-get_or arrives at 0 came in
+    let waits = waits-at rows kind jobs arrives c.args.fate.now at _ _ _ job arrive c.at-ending.ensures in
+    let services = services-at rows kind jobs c.args.fate.now at _ _ job c.at-ending.ensures in
     let waited = c.wait_beyond-waited.ensures rows kind _ c.bare-bare.ensures in
     record {
       wait = adds c.loop-at.wait _ _ _ _ _ waited waits c.loop-at.invariant.wait;
