@@ -3,8 +3,9 @@ ghost use Rattle.std.specs.Prelude.{◌≡◌, ◌≤◌, ◌^◌, ℕ, All, Lis
 ghost use Rattle.mq_core.specs.Told.{HasValue};
 
 use crate::jobs::add_visits;
-use mq_base::{Gather, List, MemSink, OutOfMemory, SinkFault, flush};
+use mq_base::{List, OutOfMemory};
 use mq_core::{Demand, Fate, Kind, Rows, Visits};
+use mq_outside::{Gather, MemSink, SinkFault, flush};
 use std::alloc::Global;
 use std::process::Abort;
 use std::test::Fail;
