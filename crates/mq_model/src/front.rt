@@ -283,6 +283,36 @@ fn add_said(alloc: Global, said: Said, number: u32, front: &mut Front) -> Result
     Ok(())
 }
 
+/// Adds one line more, whose words these are.
+fn add_line(
+    alloc: Global,
+    line: &[u8],
+    words: &[&[u8]],
+    number: u32,
+    front: &mut Front,
+) -> Result<(), ModelFault>
+    requires words { texts words.now ≡ words_of line.now }
+    requires few { length words.now ≤ 65536 }
+    ensures { AddsLine result number line.now front.old front.new }
+{
+    if begins_comment(words) {
+        return Ok(());
+    }
+    if !all_allowed(line) {
+        return Err(ModelFault::BadByte { line: number });
+    }
+    if !front.has_head {
+        if !is_head(words) {
+            return Err(ModelFault::BadHead { line: number });
+        }
+        front.has_head = true;
+        return Ok(());
+    }
+    let said = read_words(alloc, words, number, front.has_bound)?;
+    front.has_bound |= begins_bound(words);
+    add_said(alloc, said, number, front)
+}
+
 /// Reads one line more.
 pub fn read_next(
     alloc: Global,
@@ -294,20 +324,5 @@ pub fn read_next(
     ensures { AddsLine result number line.now front.old front.new }
 {
     let words = split_words(alloc, line)?;
-    if begins_comment(words.as_slice()) {
-        return Ok(());
-    }
-    if !all_allowed(line) {
-        return Err(ModelFault::BadByte { line: number });
-    }
-    if !front.has_head {
-        if !is_head(words.as_slice()) {
-            return Err(ModelFault::BadHead { line: number });
-        }
-        front.has_head = true;
-        return Ok(());
-    }
-    let said = read_words(alloc, words.as_slice(), number, front.has_bound)?;
-    front.has_bound |= begins_bound(words.as_slice());
-    add_said(alloc, said, number, front)
+    add_line(alloc, line, words.as_slice(), number, front)
 }

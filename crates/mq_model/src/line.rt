@@ -126,7 +126,7 @@ fn read_first(alloc: Global, words: &[&[u8]], at: &mut usize) -> Result<Said, St
 }
 
 /// Why a line is none.
-#[derive(Clone, Copy, Debug, PartialEq, Eq)]
+#[derive(Clone, Copy)]
 pub enum LineFault {
     /// The least number of words that begin no line.
     Word(usize),

@@ -10,7 +10,7 @@ use mq_base::{List, OutOfMemory, read_number};
 use std::alloc::{AllocError, Global};
 
 /// Why no line was read.
-#[derive(Clone, Copy, Debug, PartialEq, Eq)]
+#[derive(Clone, Copy)]
 pub enum Stop {
     /// The word at hand goes no way.
     Word,

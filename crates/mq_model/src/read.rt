@@ -90,6 +90,12 @@ pub fn read_model(alloc: Global, bytes: &[u8]) -> Result<Plan, ModelFault>
         return Err(ModelFault::TooLong);
     }
     let front = read_lines(alloc, without_mark(bytes))?;
+    if let Some(fault) = inputs_fault(front.saids.as_slice(), front.lines.as_slice()) {
+        return Err(fault);
+    }
+    if !has_source(front.saids.as_slice()) {
+        return Err(ModelFault::NoSource);
+    }
     let Front {
         saids,
         lines,
@@ -97,12 +103,6 @@ pub fn read_model(alloc: Global, bytes: &[u8]) -> Result<Plan, ModelFault>
         columns,
         ..
     } = front;
-    if let Some(fault) = inputs_fault(saids.as_slice(), lines.as_slice()) {
-        return Err(fault);
-    }
-    if !has_source(saids.as_slice()) {
-        return Err(ModelFault::NoSource);
-    }
     let net = network_of(alloc, names.as_slice(), columns, saids.as_slice())?;
     let order = order_of(alloc, &net, saids.as_slice(), lines.as_slice())?;
     Ok(Plan { net, order })

@@ -1,7 +1,7 @@
 -- The line that each outcome puts on the error output.
 use Rattle.std.specs.Prelude.{◌≡◌, ◌≤◌, ℕ, List, length, [], ◌∷◌, ◌++◌, codes, decimal, true, false, Option, Some, None, slice_get}
 use Rattle.std.specs.Io.KnownBytes.{append_known}
-use Rattle.mq_base.specs.Outside.{TakesPrefix, Rose}
+use Rattle.mq_outside.specs.Outside.{TakesPrefix, Rose}
 use Rattle.mq_core.specs.declared.model.Network.{Network}
 use Rattle.mq_core.specs.declared.model.Node.{Node}
 use Rattle.mq_stations.specs.declared.late.PastFault.{PastFault}

@@ -1,13 +1,13 @@
 // The lines on the error output.
 ghost use Rattle.std.specs.Prelude.{◌≡◌, ◌≤◌, [], ◌∷◌, ◌++◌, length, decimal, OnOk, OnErr};
-ghost use Rattle.mq_base.specs.Outside.{Rose, TakesFirst, TakesPrefix};
-ghost use Rattle.mq_base.specs.Pieces.{pieces_text};
+ghost use Rattle.mq_outside.specs.Outside.{Rose, TakesFirst, TakesPrefix};
+ghost use Rattle.mq_outside.specs.Pieces.{pieces_text};
 ghost use Rattle.mq_outcome.specs.Lines.{PutsLine, line_text, model_line, trace_line, past_line, usage_line, name_of as name_of_outcome};
 
 use crate::outcome::Outcome;
-use mq_base::{Gather, Piece, Sink, SinkFault, add_pieces, flush};
 use mq_core::Network;
 use mq_model::ModelFault;
+use mq_outside::{Gather, Piece, Sink, SinkFault, add_pieces, flush};
 use mq_stations::PastFault;
 use mq_trace::TraceFault;
 use mq_words::UsageFault;

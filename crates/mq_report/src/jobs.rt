@@ -1,6 +1,6 @@
 // The job lines of a report: one for each visit, by rank of its node and then position.
 ghost use Rattle.std.specs.Prelude.{◌≡◌, ◌≤◌, ◌++◌, length, Some, slice_get};
-ghost use Rattle.mq_base.specs.Outside.{Adds};
+ghost use Rattle.mq_outside.specs.Outside.{Adds};
 ghost use Rattle.mq_core.specs.Asked.{HasDemands};
 ghost use Rattle.mq_core.specs.Sequences.{IsRunOf, sequence_wait};
 ghost use Rattle.mq_core.specs.StandardTable.{run_of};
@@ -10,11 +10,11 @@ ghost use Rattle.mq_report.specs.Sequences.{sequence_lines};
 ghost use Rattle.mq_report.specs.Text.{fate_words, jobs_text, node_jobs, visit_line, visit_words};
 
 use crate::line::Line;
-use mq_base::{Gather, Sink, SinkFault, add_bytes};
 use mq_core::{
     Fate, Kind, Node, Plan, Rows, Run, Visits, no_kind_copies, orders_rank, runs_have_sequences,
     visits_are_few,
 };
+use mq_outside::{Gather, Sink, SinkFault, add_bytes};
 use mq_stats::{runs_give_visits, wait_of};
 
 // Puts how a visit ended, and the end of its line, in the place of what the line had.

@@ -1,12 +1,12 @@
 // The lines of a report.
 ghost use Rattle.std.specs.Prelude.{◌≡◌, ◌≤◌, ◌<◌, ◌^◌, ◌++◌};
-ghost use Rattle.mq_base.specs.Outside.{Adds};
+ghost use Rattle.mq_outside.specs.Outside.{Adds};
 ghost use Rattle.mq_report.specs.Text.{exit_line, head_line, jobs_line, kind_word as word_of_kind, last_digits, node_counts, node_line, node_losses, node_numbers, node_tallies, node_waits, node_words, ten_thousandths, utilisation as utilisation_of, utilisation_text};
 ghost use Rattle.mq_core.specs.Results.{servers_in};
 ghost use Rattle.mq_stats.specs.Numbers.{totals_from};
 
-use mq_base::{Gather, Piece, Sink, SinkFault, add_pieces};
 use mq_core::{Kind, servers_of};
+use mq_outside::{Gather, Piece, Sink, SinkFault, add_pieces};
 use mq_stats::{Exit, NodeTotals};
 
 /// Adds the head, and the line of the jobs and the span.

@@ -1,7 +1,7 @@
 // The sections of a report, and the whole.
 ghost use Rattle.std.specs.Prelude.{◌≡◌, ◌≤◌, ◌<◌, ◌^◌, ◌==◌, ◌&&◌, length, OnOk, OnErr, Some, slice_get};
 ghost use Rattle.std.specs.List.{list_any};
-ghost use Rattle.mq_base.specs.Outside.{Adds, Rose, TakesFirst, TakesPrefix};
+ghost use Rattle.mq_outside.specs.Outside.{Adds, Rose, TakesFirst, TakesPrefix};
 ghost use Rattle.mq_core.specs.Sequences.{IsRunOf, greatest_time};
 ghost use Rattle.mq_core.specs.Results.{exit_of, totals_of, visits_of};
 ghost use Rattle.mq_core.specs.Sound.{outputs_in};
@@ -13,12 +13,13 @@ ghost use Rattle.mq_report.specs.Text.{asked_jobs, exit_lines, exit_lines_at, ex
 
 use crate::jobs::add_jobs;
 use crate::lines::{add_exit, add_head, add_node};
-use mq_base::{Gather, List, Sink, SinkFault, flush};
+use mq_base::List;
 use mq_core::{
     Input, Node, Plan, Rows, Run, exits_are_streams, no_kind_copies, nodes_are_in_limits,
     orders_rank, outputs_have_streams, outputs_of, runs_are_of_networks, runs_have_sequences,
     span_is_sequences, visits_are_few,
 };
+use mq_outside::{Gather, Sink, SinkFault, flush};
 use mq_stats::{Exit, NodeTotals, last_at, lasts_are_greatest, leaving, runs_give_streams};
 
 // Whether one of these inputs reads the output of the node.

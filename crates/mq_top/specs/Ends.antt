@@ -1,7 +1,7 @@
 -- How a call may end, for each answer of the definitions.
 use Rattle.std.specs.Prelude.{◌≡◌, ◌≢◌, ◌⊎◌, ◌<◌, ◌+◌, ◌^◌, ℕ, true, false, List, Option, Some, IfSome}
 use Rattle.std.specs.Io.KnownBytes.{append_known}
-use Rattle.mq_base.specs.Outside.{TakesPrefix, next_count}
+use Rattle.mq_outside.specs.Outside.{TakesPrefix, next_count}
 use Rattle.mq_core.specs.declared.model.Network.{Network}
 use Rattle.mq_model.specs.Model.{model_fault}
 use Rattle.mq_model.specs.declared.fault.ModelFault.TheVariants as model

@@ -1,6 +1,6 @@
 // The call that the program makes, stage by stage.
 ghost use Rattle.std.specs.Prelude.{◌≡◌, ◌≢◌, ◌⊎◌, ◌-◌, ◌^◌, ◌<◌, ◌≤◌, ℕ, List, Bool, true, false, length, Err, IsErrOf, IfOk, IfErr, IfSome, IsTrue, Some, None, []};
-ghost use Rattle.mq_base.specs.Outside.{next_count, Rose};
+ghost use Rattle.mq_outside.specs.Outside.{next_count, Rose};
 ghost use Rattle.mq_base.specs.Text.{texts};
 ghost use Rattle.mq_core.specs.NetworkRun.{past_in};
 ghost use Rattle.mq_core.specs.Theorems.{IsReadFor};
@@ -15,13 +15,13 @@ ghost use Rattle.mq_top.specs.Ends.{Ends, FailedAt, IsLate, IsOfMade, Reads, Ref
 ghost use Rattle.mq_outcome.specs.Lines.{PutsLine, line_text, name_of as name_of_outcome};
 ghost use Rattle.mq_words.specs.Words.{Asks, Makes, Names, asks_made, jobs_asked, refuses_words, usage_fault};
 
-use mq_base::{FileFault, Files, Sink};
 use mq_core::{Plan, Rows, runs_are_of_networks};
 use mq_crew::{Gate, Open};
 use mq_engine::{RunFault, run};
 use mq_gen::{made, made_inputs_are_accepted};
 use mq_model::{ModelFault, read_model};
 use mq_outcome::{Outcome, name_of, put_line};
+use mq_outside::{FileFault, Files, Sink};
 use mq_report::{node_totals, report};
 use mq_trace::{TraceFault, read_trace};
 use mq_words::{Input, Settings, UsageFault, WordsFault, settings_of};

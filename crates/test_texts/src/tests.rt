@@ -8,6 +8,8 @@ use mq_model::{
 use std::alloc::Global;
 use std::test::Fail;
 
+mod base;
+mod outside;
 mod words;
 
 // Whether the canonical text of what a text declares is this one.

@@ -1,5 +1,6 @@
 // What needs a device that fails, or a gate of its own. The other cases are files that the program is given.
-use mq_base::{MemFile, MemFiles, OutOfMemory};
+use mq_base::OutOfMemory;
+use mq_outside::{MemFile, MemFiles};
 use std::alloc::Global;
 
 mod devices;

@@ -1,7 +1,8 @@
 // A read or a put that fails.
 use super::{MODEL, TRACE, files_of, files_with};
-use mq_base::{MemSink, OutOfMemory};
+use mq_base::OutOfMemory;
 use mq_model::ModelFault;
+use mq_outside::MemSink;
 use mq_top::{Outcome, UsageFault, simulate};
 use std::alloc::Global;
 use std::test::Fail;

@@ -2,10 +2,11 @@
 ghost use Rattle.std.specs.Prelude.{◌<◌};
 
 use super::{MODEL, TRACE, files_with};
-use mq_base::{MemSink, OutOfMemory};
+use mq_base::OutOfMemory;
 use mq_chain::ChainSeat;
 use mq_claims::ClaimSeat;
 use mq_crew::Gate;
+use mq_outside::MemSink;
 use mq_top::{Outcome, simulate_gated};
 use std::alloc::Global;
 use std::sync::atomic::AtomicU64;

@@ -1,6 +1,6 @@
 use Rattle.std.proofs.lemmas.Result.{on_err_weaker}
-use Rattle.mq_base.specs.Pieces.{pieces_text}
-use Rattle.mq_base.proofs.lemmas.Gathers.{part_flushed}
+use Rattle.mq_outside.specs.Pieces.{pieces_text}
+use Rattle.mq_outside.proofs.lemmas.Gathers.{part_flushed}
 use Rattle.mq_outcome.proofs.line.try_pieces.Goals as goal
 
 pub returns-clause-err : goal.returns-clause-err

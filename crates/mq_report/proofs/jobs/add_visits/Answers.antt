@@ -1,4 +1,4 @@
-use Rattle.mq_base.proofs.lemmas.Gathers.{gathers_added, gathers_refused}
+use Rattle.mq_outside.proofs.lemmas.Gathers.{gathers_added, gathers_refused}
 use Rattle.mq_report.proofs.JobLines.{lines-next}
 use Rattle.mq_report.proofs.jobs.add_visits.Goals as goal
 

@@ -1,5 +1,5 @@
 use Rattle.std.proofs.Common.{◌++◌, drop}
-use Rattle.mq_base.proofs.lemmas.Gathers.{Gathers}
+use Rattle.mq_outside.proofs.lemmas.Gathers.{Gathers}
 use Rattle.mq_report.specs.Sequences.{sequence_lines}
 use Rattle.mq_report.proofs.jobs.add_visits.Given as goal
 

@@ -1,4 +1,4 @@
-use Rattle.mq_base.proofs.lemmas.Gathers.{adds_both, adds_front}
+use Rattle.mq_outside.proofs.lemmas.Gathers.{adds_both, adds_front}
 use Rattle.mq_report.proofs.lines.add_node.Goals as goal
 
 pub returns-in_err-add_words : goal.returns-in_err-add_words

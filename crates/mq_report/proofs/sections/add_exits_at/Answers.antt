@@ -1,5 +1,5 @@
 use Rattle.std.proofs.Common.{◌≤◌, arith}
-use Rattle.mq_base.proofs.lemmas.Gathers.{gathers_added, gathers_all, gathers_refused}
+use Rattle.mq_outside.proofs.lemmas.Gathers.{gathers_added, gathers_all, gathers_refused}
 use Rattle.mq_core.specs.StandardTable.{run_of}
 use Rattle.mq_report.proofs.Loops.{outputs-next, no_outputs}
 use Rattle.mq_report.proofs.sections.add_exits_at.Goals as goal

@@ -1,5 +1,5 @@
 use Rattle.std.proofs.Common.{◌++◌, ◌-◌}
-use Rattle.mq_base.proofs.lemmas.Gathers.{Gathers}
+use Rattle.mq_outside.proofs.lemmas.Gathers.{Gathers}
 use Rattle.mq_core.specs.Sound.{outputs_in}
 use Rattle.mq_core.specs.StandardTable.{run_of}
 use Rattle.mq_report.specs.Text.{exit_lines}

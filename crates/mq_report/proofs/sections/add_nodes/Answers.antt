@@ -1,4 +1,4 @@
-use Rattle.mq_base.proofs.lemmas.Gathers.{gathers_added, gathers_refused}
+use Rattle.mq_outside.proofs.lemmas.Gathers.{gathers_added, gathers_refused}
 use Rattle.mq_core.specs.StandardTable.{run_of}
 use Rattle.mq_report.proofs.Loops.{nodes-next}
 use Rattle.mq_report.proofs.sections.add_nodes.Goals as goal

@@ -1,5 +1,5 @@
 use Rattle.std.proofs.Common.{◌++◌, drop}
-use Rattle.mq_base.proofs.lemmas.Gathers.{Gathers}
+use Rattle.mq_outside.proofs.lemmas.Gathers.{Gathers}
 use Rattle.mq_core.specs.StandardTable.{run_of}
 use Rattle.mq_report.specs.Text.{nodes_text}
 use Rattle.mq_report.proofs.sections.add_nodes.Given as goal

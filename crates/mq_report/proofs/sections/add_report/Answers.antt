@@ -1,5 +1,5 @@
 use Rattle.std.proofs.Common.{◌≡◌, ◌++◌, sym, ℕ}
-use Rattle.mq_base.proofs.lemmas.Gathers.{adds_both, adds_front}
+use Rattle.mq_outside.proofs.lemmas.Gathers.{adds_both, adds_front}
 use Rattle.mq_report.specs.Text.{head_line, jobs_line}
 use Rattle.mq_report.proofs.sections.add_report.Goals as goal
 

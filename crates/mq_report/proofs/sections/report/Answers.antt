@@ -1,7 +1,7 @@
 use Rattle.std.proofs.Common.{◌≡◌, List, ℕ, ap, subst}
 use Rattle.std.proofs.lemmas.Result.{on_err_weaker}
-use Rattle.mq_base.specs.Outside.{TakesPrefix}
-use Rattle.mq_base.proofs.lemmas.Gathers.{part_flushed}
+use Rattle.mq_outside.specs.Outside.{TakesPrefix}
+use Rattle.mq_outside.proofs.lemmas.Gathers.{part_flushed}
 use Rattle.mq_core.specs.Local.{Local}
 use Rattle.mq_core.specs.Machine.{State}
 use Rattle.mq_core.specs.StandardTable.{run_of}

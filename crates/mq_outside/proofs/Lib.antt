@@ -1,0 +1,4 @@
+pub mod lemmas
+mod PiecesLemmas
+mod Puts
+mod Whole
