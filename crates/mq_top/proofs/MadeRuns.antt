@@ -24,6 +24,11 @@ accepted_answer model trace jobs a =
     ap (model_answer model trace jobs) a.model
     ∙ (ap (trace_answer (network_in model) trace jobs) a.trace ∙ ap (run_answer (network_in model) (rows_in (network_in model) trace) jobs) a.past)
 
+-- the same texts are accepted too
+pub same_accepted : (model trace model' trace' : List ℕ) → model' ≡ model → trace' ≡ trace → IsAccepted model trace → IsAccepted model' trace'
+same_accepted model trace model' trace' m t accepted =
+    subst (λ text. IsAccepted text trace') (sym m) (subst (λ text. IsAccepted model text) (sym t) accepted)
+
 -- a way for a run to end, which is none of a refusal
 pub record EndsAccepted (model trace : List ℕ) (jobs : Bool) (o : Outcome) (t : Taken) : Type 0 where
   pub ends : Ends (answer model trace jobs) o t

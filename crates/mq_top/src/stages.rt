@@ -4,6 +4,7 @@ ghost use Rattle.mq_outside.specs.Outside.{next_count, Rose};
 ghost use Rattle.mq_base.specs.Text.{texts};
 ghost use Rattle.mq_core.specs.NetworkRun.{past_in};
 ghost use Rattle.mq_core.specs.Theorems.{IsReadFor};
+ghost use Rattle.mq_gen.specs.Accepted.{IsAccepted};
 ghost use Rattle.mq_gen.specs.Made.{made_model, made_trace};
 ghost use Rattle.mq_model.specs.Model.{model_fault};
 ghost use Rattle.mq_model.specs.NetworkOf.{network_in};
@@ -219,6 +220,34 @@ fn run_trace<R: Threads + Sync, G: Gate, F: Files, O: Sink>(
     }
 }
 
+// Runs two texts that are accepted, and writes the report.
+fn run_accepted<R: Threads + Sync, G: Gate, O: Sink>(
+    alloc: Global,
+    crew: &Crew<R, G>,
+    model: &[u8],
+    trace: &[u8],
+    jobs: bool,
+    out: &mut O,
+) -> Outcome
+    requires { IsAccepted model.now trace.now }
+    ensures ends { Ends (answer model.now trace.now jobs) result (takings O.taken O.sure out.old out.new) }
+    ensures made { IsOfMade result }
+    ensures later { O.faults out.old ≤ O.faults out.new }
+    ensures rose { result ≡ Outcome.WriteFault → Rose (O.faults out.old) (O.faults out.new) }
+    ensures quiet { (result ≡ Outcome.WriteFault) ⊎ (O.faults out.new ≡ O.faults out.old) }
+    ensures sure { (text : List ℕ) → answer model.now trace.now jobs ≡ Reported text → length text ≤ O.sure out.old → O.faults out.new ≡ O.faults out.old }
+    ensures untouched { Untouched result out.old out.new }
+{
+    let plan = match judge_model(alloc, model) {
+        Ok(plan) => plan,
+        Err(outcome) => return outcome,
+    };
+    match judge_trace(alloc, crew, &plan, trace) {
+        Ok(rows) => report_run(alloc, crew, &plan, &rows, jobs, out),
+        Err(outcome) => outcome,
+    }
+}
+
 // Runs the made input of this number, and writes the report.
 fn run_made<R: Threads + Sync, G: Gate, O: Sink>(
     alloc: Global,
@@ -239,14 +268,14 @@ fn run_made<R: Threads + Sync, G: Gate, O: Sink>(
     let Ok(input) = made(alloc, number) else {
         return Outcome::Memory;
     };
-    let plan = match judge_model(alloc, input.model.as_slice()) {
-        Ok(plan) => plan,
-        Err(outcome) => return outcome,
-    };
-    match judge_trace(alloc, crew, &plan, input.trace.as_slice()) {
-        Ok(rows) => report_run(alloc, crew, &plan, &rows, jobs, out),
-        Err(outcome) => outcome,
-    }
+    run_accepted(
+        alloc,
+        crew,
+        input.model.as_slice(),
+        input.trace.as_slice(),
+        jobs,
+        out,
+    )
 }
 
 /// Reads the model and the trace that the words name, or makes those of a number, runs the network
