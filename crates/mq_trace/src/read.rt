@@ -64,7 +64,7 @@ fn read_apart<R: Threads + Sync>(
     }
     let header = read_header(alloc, names, net)?;
     let read = read_each(rt, alloc, workers, pieces, net, &header)?;
-    join_rows(alloc, pieces, read.as_slice(), net, &header)
+    join_rows(rt, alloc, workers, pieces, read.as_slice(), net, &header)
 }
 
 /// Reads a text by so many pieces and workers.
