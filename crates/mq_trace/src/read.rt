@@ -35,8 +35,7 @@ fn read_whole(alloc: Global, text: &[u8], net: &Network) -> Result<Rows, TraceFa
         return Err(TraceFault::BadHeader { field: 1 });
     }
     let header = read_header(alloc, names, net)?;
-    let room = room_for(text, &header);
-    read_rows(alloc, room, &mut reader, net, &header)
+    read_rows(alloc, room_for(text), &mut reader, net, &header)
 }
 
 /// The same, by pieces. Where the first has no record the header stands in a later one, and the text is read whole.
