@@ -126,7 +126,7 @@ rows_many net header n row (r ∷ rs) h low high =
     ] refl h
 
 -- the first fault of a piece behind records that have none is the first of all
-pub joined_fault : (net : Network) (header : Record) (all done rs rest : List Record) (f : TraceFault) → all ≡ done ++ (rs ++ rest) → rows_fault net header 1 done ≡ None
+joined_fault : (net : Network) (header : Record) (all done rs rest : List Record) (f : TraceFault) → all ≡ done ++ (rs ++ rest) → rows_fault net header 1 done ≡ None
     → rows_fault net header 1 rs ≡ Some f → rows_fault net header 1 all ≡ Some (behind (length done) f)
 joined_fault net header all done rs rest f split clean found =
     let turn : 1 + length done ≡ length done + 1 = omega arith in
@@ -134,7 +134,7 @@ joined_fault net header all done rs rest f split clean found =
     rw (split, rows_fault_append net header 1 done (rs ++ rest), clean, turn, rows_fault_append net header (length done + 1) rs rest, moved) refl
 
 -- so are too many rows
-pub joined_many : (net : Network) (header : Record) (all done rs rest : List Record) → all ≡ done ++ (rs ++ rest) → rows_fault net header 1 done ≡ None → length done ≤ 1048576
+joined_many : (net : Network) (header : Record) (all done rs rest : List Record) → all ≡ done ++ (rs ++ rest) → rows_fault net header 1 done ≡ None → length done ≤ 1048576
     → rows_fault net header 1 rs ≡ None → 1048576 < length done + length rs → rows_fault net header 1 all ≡ Some TooManyRows
 joined_many net header all done rs rest split clean allowed none many =
     let turn : 1 + length done ≡ length done + 1 = omega arith in
@@ -150,7 +150,7 @@ joined_clean net header done rs clean none few =
     rw (rows_fault_append net header 1 done rs, clean, turn) later
 
 -- how many rows a piece has
-pub piece_rows : (net : Network) (header : Record) (rs : List Record) (rows : Rows) → rows ≡ rows_of net header rs → length rows.source ≡ length rs
+piece_rows : (net : Network) (header : Record) (rs : List Record) (rows : Rows) → rows ≡ rows_of net header rs → length rows.source ≡ length rs
 piece_rows net header rs rows is = ap (λ (x : Rows). length x.source) is ∙ length-map rs _
 
 -- the data records of texts, behind the first that has a record
@@ -163,7 +163,7 @@ some_record [] i some h = absurd (omega arith)
 some_record (t ∷ texts) i some h = rw add-one (omega (arith, length-append (text_records t) (flat_map text_records (take i texts))))
 
 -- one more piece
-pub data_more : (texts : List (List ℕ)) (i : ℕ) → 1 ≤ length (text_records (get_or texts 0 [])) → i < length texts
+data_more : (texts : List (List ℕ)) (i : ℕ) → 1 ≤ length (text_records (get_or texts 0 [])) → i < length texts
     → data_of (flat_map text_records (take (i + 1) texts)) ≡ data_of (flat_map text_records (take i texts)) ++ piece_data i (get_or texts i [])
 data_more [] i some h = absurd (omega arith)
 data_more (t ∷ texts) zero some h = ap data_of (append-nil (text_records t))
@@ -176,7 +176,7 @@ data_more (t ∷ texts) (suc i) some h =
     ∙ ap (λ rs. data_of (flat_map text_records (take (suc i) (t ∷ texts))) ++ rs) (append-nil (text_records (get_or texts i []))))
 
 -- the data records of all pieces, by a piece on the way
-pub data_split : (texts : List (List ℕ)) (i : ℕ) → 1 ≤ length (text_records (get_or texts 0 [])) → i < length texts
+data_split : (texts : List (List ℕ)) (i : ℕ) → 1 ≤ length (text_records (get_or texts 0 [])) → i < length texts
     → data_of (flat_map text_records texts) ≡ data_of (flat_map text_records (take i texts)) ++ (piece_data i (get_or texts i []) ++ flat_map text_records (drop (i + 1) texts))
 data_split texts i some h =
     let front = some_record texts i some (omega arith) in
