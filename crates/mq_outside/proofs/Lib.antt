@@ -1,4 +1,3 @@
 pub mod lemmas
 mod PiecesLemmas
 mod Puts
-mod Whole

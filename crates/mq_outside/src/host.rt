@@ -65,25 +65,12 @@ pub(crate) fn read_to<R: Read>(
     ensures fits { OnOk result (IfSome (R.remaining from.old) (λ bytes. length bytes ≤ limit)) }
     ensures too_long { IsErrOf result FileFault.TooLong → IfSome (R.remaining from.old) (λ bytes. limit < length bytes) }
 {
-    let mut buffer = [0u8; 16384];
-    let mut left = limit;
-    loop {
-        // One byte more than is left tells that the file is too long.
-        let room = left.saturating_add(1).min(buffer.len() as u64) as usize;
-        let count = match from.read(&mut buffer[..room]) {
-            Ok(count) => count,
-            Err(error) => return Err(fault_of(&error)),
-        };
-        if count == 0 {
-            return Ok(());
-        }
-        if count as u64 > left {
-            return Err(FileFault::TooLong);
-        }
-        if into.extend_from_slice(&buffer[..count]).is_err() {
-            return Err(FileFault::Memory);
-        }
-        left -= count as u64;
+    // One byte more than the limit tells that the file is too long.
+    let mut part = from.take(limit.saturating_add(1));
+    match part.read_to_end(into) {
+        Ok(count) if count as u64 > limit => Err(FileFault::TooLong),
+        Ok(_) => Ok(()),
+        Err(error) => Err(fault_of(&error)),
     }
 }
 

@@ -1,16 +1,19 @@
 -- The rows of pieces, one behind the other.
-use Rattle.std.proofs.Common.{◌≡◌, ◌∙◌, sym, ap, refl, ℕ, zero, suc, ◌+◌, ◌-◌, ◌<◌, ◌≤◌, List, [], ◌∷◌, ◌++◌, length, take, drop, get_or, map, Bool, true, false, Option, Some, None, arith, inl, inr, lt-ltb, add-one, append_assoc}
-use Rattle.std.specs.Prelude.{flat_map, if◌then◌else◌, nat_lt, ◌==◌, option_map, unwrap_or}
+use Rattle.std.proofs.Common.{◌≡◌, ◌∙◌, sym, ap, refl, subst, ℕ, zero, suc, ◌+◌, ◌<◌, ◌≤◌, List, [], ◌∷◌, ◌++◌, length, take, drop, get_or, map, Bool, true, false, Option, Some, None, arith, inl, inr, lt-ltb, add-one, append_assoc}
+use Rattle.std.specs.Prelude.{flat_map, if◌then◌else◌, nat_lt, ◌==◌, option_map, slice_get, unwrap_or, Ok}
 use Rattle.std.specs.Option.{option_or}
 use Rattle.std.specs.Str.Parse.{digits_value}
 use Rattle.std.proofs.lemmas.Bool.{cases_lt}
 use Rattle.std.proofs.lemmas.Grind.{common_steps, flat_map-append}
 use Rattle.std.proofs.lemmas.List.{append-nil, get_or-map, length-append, length-map, map-append, take-append-drop, take_all, take_more}
+use Rattle.std.proofs.lemmas.Option.{get_or_from_slice_get, slice_get_within}
 use Rattle.mq_core.specs.declared.model.Network.{Network}
 use Rattle.mq_core.specs.declared.model.Rows.{Rows}
 use Rattle.mq_trace.specs.Header.{field_of}
-use Rattle.mq_trace.specs.Pieces.{Gains, behind, piece_data}
-use Rattle.mq_trace.proofs.RowFacts.{RowsSoFar}
+use Rattle.mq_base.proofs.lemmas.Lists.{some_inj}
+use Rattle.mq_trace.specs.Joined.{AreJoined, HasColumns, HaveColumns, Piece, piece_numbers, piece_sources}
+use Rattle.mq_trace.specs.Pieces.{behind, piece_data}
+use Rattle.mq_trace.proofs.RowFacts.{so_far_all}
 use Rattle.mq_trace.specs.Records.{Record}
 use Rattle.mq_trace.specs.Trace.{data_of, index_of, row_fault, rows_fault, rows_of, source_named, text_records}
 use Rattle.mq_trace.specs.declared.fault.TraceFault.{TraceFault}
@@ -123,7 +126,7 @@ rows_many net header n row (r ∷ rs) h low high =
     ] refl h
 
 -- the first fault of a piece behind records that have none is the first of all
-pub joined_fault : (net : Network) (header : Record) (all done rs rest : List Record) (f : TraceFault) → all ≡ done ++ (rs ++ rest) → rows_fault net header 1 done ≡ None
+joined_fault : (net : Network) (header : Record) (all done rs rest : List Record) (f : TraceFault) → all ≡ done ++ (rs ++ rest) → rows_fault net header 1 done ≡ None
     → rows_fault net header 1 rs ≡ Some f → rows_fault net header 1 all ≡ Some (behind (length done) f)
 joined_fault net header all done rs rest f split clean found =
     let turn : 1 + length done ≡ length done + 1 = omega arith in
@@ -131,34 +134,23 @@ joined_fault net header all done rs rest f split clean found =
     rw (split, rows_fault_append net header 1 done (rs ++ rest), clean, turn, rows_fault_append net header (length done + 1) rs rest, moved) refl
 
 -- so are too many rows
-pub joined_many : (net : Network) (header : Record) (all done rs rest : List Record) → all ≡ done ++ (rs ++ rest) → rows_fault net header 1 done ≡ None → length done ≤ 1048576
+joined_many : (net : Network) (header : Record) (all done rs rest : List Record) → all ≡ done ++ (rs ++ rest) → rows_fault net header 1 done ≡ None → length done ≤ 1048576
     → rows_fault net header 1 rs ≡ None → 1048576 < length done + length rs → rows_fault net header 1 all ≡ Some TooManyRows
 joined_many net header all done rs rest split clean allowed none many =
     let turn : 1 + length done ≡ length done + 1 = omega arith in
     let over = rows_many net header (length done) 1 rs none (omega arith) (omega arith) in
     rw (split, rows_fault_append net header 1 done (rs ++ rest), clean, turn, rows_fault_append net header (length done + 1) rs rest, over) refl
 
--- the rows of one more piece
-pub so_far_joined : (net : Network) (header : Record) (done rs : List Record) (source time : List ℕ) (old new : List (List ℕ)) (rows : Rows)
-    → RowsSoFar net header done source time old → rows_fault net header 1 rs ≡ None → rows ≡ rows_of net header rs → length done + length rs ≤ 1048576
-    → Gains old new rows.demands → RowsSoFar net header (done ++ rs) (source ++ rows.source) (time ++ rows.time) new
-so_far_joined net header done rs source time old new rows so none is few gains =
+-- nor has a piece without a fault one behind them, as far as its rows are allowed
+joined_clean : (net : Network) (header : Record) (done rs : List Record) → rows_fault net header 1 done ≡ None → rows_fault net header 1 rs ≡ None → length done + length rs ≤ 1048576
+    → rows_fault net header 1 (done ++ rs) ≡ None
+joined_clean net header done rs clean none few =
     let turn : 1 + length done ≡ length done + 1 = omega arith in
-    let clean = rows_clean net header (length done) 1 rs none (omega arith) in
-    record {
-      clean = rw (rows_fault_append net header 1 done rs, so.clean, turn) clean;
-      sources = rw (map-append (λ r. unwrap_or (source_named net (field_of r 0)) 0) done rs, so.sources, is) refl;
-      times = rw (map-append (λ r. digits_value 10 (field_of r 1)) done rs, so.times, is) refl;
-      width = gains.len ∙ so.width;
-      values = λ k less.
-          let all = map-append (λ r. digits_value 10 (field_of r (index_of header (get_or net.columns k [])))) done rs in
-          let there = get_or-map (λ (name : List ℕ). map (λ r. digits_value 10 (field_of r (index_of header name))) rs) net.columns k [] [] less in
-          let more : get_or rows.demands k [] ≡ map (λ r. digits_value 10 (field_of r (index_of header (get_or net.columns k [])))) rs = ap (λ (x : Rows). get_or x.demands k []) is ∙ there in
-          gains.each k (omega (arith, so.width, less)) ∙ rw (so.values k less, more, all) refl;
-    }
+    let later = rows_clean net header (length done) 1 rs none (omega arith) in
+    rw (rows_fault_append net header 1 done rs, clean, turn) later
 
 -- how many rows a piece has
-pub piece_rows : (net : Network) (header : Record) (rs : List Record) (rows : Rows) → rows ≡ rows_of net header rs → length rows.source ≡ length rs
+piece_rows : (net : Network) (header : Record) (rs : List Record) (rows : Rows) → rows ≡ rows_of net header rs → length rows.source ≡ length rs
 piece_rows net header rs rows is = ap (λ (x : Rows). length x.source) is ∙ length-map rs _
 
 -- the data records of texts, behind the first that has a record
@@ -171,7 +163,7 @@ some_record [] i some h = absurd (omega arith)
 some_record (t ∷ texts) i some h = rw add-one (omega (arith, length-append (text_records t) (flat_map text_records (take i texts))))
 
 -- one more piece
-pub data_more : (texts : List (List ℕ)) (i : ℕ) → 1 ≤ length (text_records (get_or texts 0 [])) → i < length texts
+data_more : (texts : List (List ℕ)) (i : ℕ) → 1 ≤ length (text_records (get_or texts 0 [])) → i < length texts
     → data_of (flat_map text_records (take (i + 1) texts)) ≡ data_of (flat_map text_records (take i texts)) ++ piece_data i (get_or texts i [])
 data_more [] i some h = absurd (omega arith)
 data_more (t ∷ texts) zero some h = ap data_of (append-nil (text_records t))
@@ -184,7 +176,7 @@ data_more (t ∷ texts) (suc i) some h =
     ∙ ap (λ rs. data_of (flat_map text_records (take (suc i) (t ∷ texts))) ++ rs) (append-nil (text_records (get_or texts i []))))
 
 -- the data records of all pieces, by a piece on the way
-pub data_split : (texts : List (List ℕ)) (i : ℕ) → 1 ≤ length (text_records (get_or texts 0 [])) → i < length texts
+data_split : (texts : List (List ℕ)) (i : ℕ) → 1 ≤ length (text_records (get_or texts 0 [])) → i < length texts
     → data_of (flat_map text_records texts) ≡ data_of (flat_map text_records (take i texts)) ++ (piece_data i (get_or texts i []) ++ flat_map text_records (drop (i + 1) texts))
 data_split texts i some h =
     let front = some_record texts i some (omega arith) in
@@ -196,42 +188,104 @@ data_split texts i some h =
 abbrev pub so_far : List (List ℕ) → ℕ → List Record
 so_far texts i = data_of (flat_map text_records (take i texts))
 
--- there are no more of them than are allowed
-pub few_so_far : (net : Network) (header : Record) (done : List Record) (source time : List ℕ) (demands : List (List ℕ)) → RowsSoFar net header done source time demands
-    → (length source ≡ length done) × (length source ≤ 1048576)
-few_so_far net header done source time demands so =
-    let same : length source ≡ length done = ap length so.sources ∙ length-map done _ in
-    let few = few_rows net header done so.clean in
-    (same, omega (arith, same, few))
-
 -- a piece with a fault
-pub piece_fault : (net : Network) (header : Record) (texts : List (List ℕ)) (i : ℕ) (source time : List ℕ) (demands : List (List ℕ)) (f : TraceFault)
-    → 1 ≤ length (text_records (get_or texts 0 [])) → i < length texts → RowsSoFar net header (so_far texts i) source time demands
-    → rows_fault net header 1 (piece_data i (get_or texts i [])) ≡ Some f → rows_fault net header 1 (data_of (flat_map text_records texts)) ≡ Some (behind (length source) f)
-piece_fault net header texts i source time demands f some h so found =
-    let few = few_so_far net header (so_far texts i) source time demands so in
-    rw few.0 (joined_fault net header _ (so_far texts i) _ _ f (data_split texts i some h) so.clean found)
+pub piece_fault : (net : Network) (header : Record) (texts : List (List ℕ)) (i : ℕ) (f : TraceFault) → 1 ≤ length (text_records (get_or texts 0 [])) → i < length texts
+    → rows_fault net header 1 (so_far texts i) ≡ None → rows_fault net header 1 (piece_data i (get_or texts i [])) ≡ Some f
+    → rows_fault net header 1 (data_of (flat_map text_records texts)) ≡ Some (behind (length (so_far texts i)) f)
+piece_fault net header texts i f some h clean found = joined_fault net header _ (so_far texts i) _ _ f (data_split texts i some h) clean found
 
 -- a piece with too many rows
-pub piece_many : (net : Network) (header : Record) (texts : List (List ℕ)) (i : ℕ) (source time : List ℕ) (demands : List (List ℕ)) (rows : Rows)
-    → 1 ≤ length (text_records (get_or texts 0 [])) → i < length texts → RowsSoFar net header (so_far texts i) source time demands
-    → rows_fault net header 1 (piece_data i (get_or texts i [])) ≡ None → rows ≡ rows_of net header (piece_data i (get_or texts i [])) → 1048576 - length source < length rows.source
-    → rows_fault net header 1 (data_of (flat_map text_records texts)) ≡ Some TooManyRows
-piece_many net header texts i source time demands rows some h so none is many =
-    let few = few_so_far net header (so_far texts i) source time demands so in
+pub piece_many : (net : Network) (header : Record) (texts : List (List ℕ)) (i : ℕ) (rows : Rows) → 1 ≤ length (text_records (get_or texts 0 [])) → i < length texts
+    → rows_fault net header 1 (so_far texts i) ≡ None → rows_fault net header 1 (piece_data i (get_or texts i [])) ≡ None → rows ≡ rows_of net header (piece_data i (get_or texts i []))
+    → 1048576 < length (so_far texts i) + length rows.source → rows_fault net header 1 (data_of (flat_map text_records texts)) ≡ Some TooManyRows
+piece_many net header texts i rows some h clean none is many =
+    let few = few_rows net header (so_far texts i) clean in
     let size = piece_rows net header _ rows is in
-    joined_many net header _ (so_far texts i) _ _ (data_split texts i some h) so.clean (omega (arith, few.0, few.1)) none (omega (arith, few.0, few.1, size))
+    joined_many net header _ (so_far texts i) _ _ (data_split texts i some h) clean few none (omega (arith, size, many))
 
--- a piece whose rows are added
-pub piece_joined : (net : Network) (header : Record) (texts : List (List ℕ)) (i : ℕ) (source time : List ℕ) (old new : List (List ℕ)) (rows : Rows)
-    → 1 ≤ length (text_records (get_or texts 0 [])) → i < length texts → RowsSoFar net header (so_far texts i) source time old
-    → rows_fault net header 1 (piece_data i (get_or texts i [])) ≡ None → rows ≡ rows_of net header (piece_data i (get_or texts i [])) → ¬ (1048576 - length source < length rows.source)
-    → Gains old new rows.demands → RowsSoFar net header (so_far texts (i + 1)) (source ++ rows.source) (time ++ rows.time) new
-piece_joined net header texts i source time old new rows some h so none is few gains =
-    let less = few_so_far net header (so_far texts i) source time old so in
+-- a piece without a fault whose rows are allowed: none has one so far, and there are so many rows
+pub piece_clean : (net : Network) (header : Record) (texts : List (List ℕ)) (i : ℕ) (rows : Rows) → 1 ≤ length (text_records (get_or texts 0 [])) → i < length texts
+    → rows_fault net header 1 (so_far texts i) ≡ None → rows_fault net header 1 (piece_data i (get_or texts i [])) ≡ None → rows ≡ rows_of net header (piece_data i (get_or texts i []))
+    → length (so_far texts i) + length rows.source ≤ 1048576
+    → (rows_fault net header 1 (so_far texts (i + 1)) ≡ None) × (length (so_far texts (i + 1)) ≡ length (so_far texts i) + length rows.source)
+piece_clean net header texts i rows some h clean none is few =
     let size = piece_rows net header _ rows is in
-    rw (data_more texts i some h) (so_far_joined net header (so_far texts i) _ source time old new rows so none is (omega (arith, less.0, less.1, size, few)) gains)
+    let more = data_more texts i some h in (
+      rw more (joined_clean net header (so_far texts i) _ clean none (omega (arith, size, few))),
+      ap length more ∙ length-append (so_far texts i) (piece_data i (get_or texts i [])) ∙ ap (λ n. length (so_far texts i) + n) (sym size),
+    )
+
+-- before the first piece
+pub nothing_clean : (net : Network) (header : Record) → rows_fault net header 1 [] ≡ None
+unfolding rows_fault
+nothing_clean net header = refl
 
 -- all pieces
 pub all_joined : (texts : List (List ℕ)) (i : ℕ) → length texts ≤ i → so_far texts i ≡ data_of (flat_map text_records texts)
 all_joined texts i h = rw (take_all i texts h) refl
+
+-- the first pieces gave these rows
+abbrev pub AreRead : Network → Record → List (List ℕ) → List Piece → ℕ → Type 0
+AreRead net header texts read i = (j : ℕ) → j < i → slice_get read j ≡ Some (Ok (rows_of net header (piece_data j (get_or texts j []))))
+
+-- one more
+pub read_more : (net : Network) (header : Record) (texts : List (List ℕ)) (read : List Piece) (i : ℕ) → AreRead net header texts read i
+    → slice_get read i ≡ Some (Ok (rows_of net header (piece_data i (get_or texts i [])))) → AreRead net header texts read (i + 1)
+read_more net header texts read i so here j less =
+    elim (cases_lt j i) [
+      | inl before ↦ so j before
+      | inr not_before ↦ let e : j ≡ i = omega arith in rw e here
+    ]
+
+-- they have a list for each column
+pub read_columns : (net : Network) (header : Record) (texts : List (List ℕ)) (read : List Piece) → AreRead net header texts read (length read) → HaveColumns (length net.columns) read
+read_columns net header texts read so i piece there =
+    let e : piece ≡ Ok (rows_of net header (piece_data i (get_or texts i []))) = some_inj _ _ (sym there ∙ so i (slice_get_within read i piece there)) in
+    subst (HasColumns (length net.columns)) (sym e) (length-map net.columns _)
+
+module _ (net : Network) (header : Record) (texts : List (List ℕ)) (read : List Piece) (part : Piece → List ℕ) (value : Record → ℕ) where
+  -- where a list has a value of each record of a piece, the lists of the pieces together have one of each record
+  joined_part : ((rs : List Record) → part (Ok (rows_of net header rs)) ≡ map value rs) → 1 ≤ length (text_records (get_or texts 0 [])) → length read ≡ length texts
+      → AreRead net header texts read (length read) → (i : ℕ) → i ≤ length read → flat_map part (take i read) ≡ map value (so_far texts i)
+  joined_part are some same so zero h = refl
+  joined_part are some same so (suc i) h =
+      let less : i < length read = omega arith in
+      let before = joined_part are some same so i (omega arith) in
+      let held = piece_data i (get_or texts i []) in
+      let here = so i less in
+      let d : Piece = Ok (rows_of net header held) in
+      let item : part (get_or read i d) ≡ map value held = ap part (get_or_from_slice_get read i d d here) ∙ are held in
+      let front : flat_map part (take (i + 1) read) ≡ flat_map part (take i read) ++ part (get_or read i d) =
+      ap (λ l. flat_map part l) (take_more read i d less) ∙ flat_map-append part (take i read) (get_or read i d ∷ []) ∙ ap (λ l. flat_map part (take i read) ++ l) (append-nil (part (get_or read i d))) in
+      let back : map value (so_far texts (i + 1)) ≡ map value (so_far texts i) ++ map value held =
+      ap (λ rs. map value rs) (data_more texts i some (omega (arith, same, less))) ∙ map-append value (so_far texts i) held in
+      let step : flat_map part (take (i + 1) read) ≡ map value (so_far texts (i + 1)) =
+      front ∙ ap (λ l. l ++ part (get_or read i d)) before ∙ ap (λ l. map value (so_far texts i) ++ l) item ∙ sym back in
+      let next : i + 1 ≡ suc i = omega arith in
+      subst (λ (n : ℕ). flat_map part (take n read) ≡ map value (so_far texts n)) next step
+
+  joined_parts : ((rs : List Record) → part (Ok (rows_of net header rs)) ≡ map value rs) → 1 ≤ length (text_records (get_or texts 0 [])) → length read ≡ length texts
+      → AreRead net header texts read (length read) → flat_map part read ≡ map value (data_of (flat_map text_records texts))
+  joined_parts are some same so =
+      ap (λ l. flat_map part l) (sym (take_all (length read) read (omega arith))) ∙ joined_part are some same so (length read) (omega arith)
+      ∙ ap (λ rs. map value rs) (all_joined texts (length read) (omega (arith, same)))
+
+-- the numbers behind the times
+numbers_behind : (time : List ℕ) (demands : List (List ℕ)) (k : ℕ) → get_or (time ∷ demands) (k + 1) [] ≡ get_or demands k []
+numbers_behind time demands k = let next : k + 1 ≡ suc k = omega arith in ap (λ n. get_or (time ∷ demands) n []) next
+
+-- the rows of all pieces, one behind the other, are those of all data records
+pub rows_joined : (net : Network) (header : Record) (texts : List (List ℕ)) (read : List Piece) (rows : Rows) → 1 ≤ length (text_records (get_or texts 0 [])) → length read ≡ length texts
+    → AreRead net header texts read (length read) → rows_fault net header 1 (data_of (flat_map text_records texts)) ≡ None → AreJoined (length net.columns) read rows
+    → rows ≡ rows_of net header (data_of (flat_map text_records texts))
+rows_joined net header texts read rows some same so clean are =
+    let demand = λ (name : List ℕ) (r : Record). digits_value 10 (field_of r (index_of header name)) in
+    so_far_all net header (data_of (flat_map text_records texts)) rows.source rows.time rows.demands (record {
+      clean = clean;
+      sources = are.sources ∙ joined_parts net header texts read piece_sources (λ r. unwrap_or (source_named net (field_of r 0)) 0) (λ rs. refl) some same so;
+      times = are.times ∙ joined_parts net header texts read (piece_numbers 0) (λ r. digits_value 10 (field_of r 1)) (λ rs. refl) some same so;
+      width = are.width;
+      values = λ k less.
+          are.values k less ∙ joined_parts net header texts read (piece_numbers (k + 1)) (demand (get_or net.columns k []))
+          (λ rs. numbers_behind _ _ k ∙ get_or-map (λ (name : List ℕ). map (demand name) rs) net.columns k [] [] less) some same so;
+    })

@@ -7,3 +7,4 @@ pub mod RowFacts
 pub mod FaultRows
 pub mod RowsRead
 pub mod JoinFacts
+pub mod ListFacts

@@ -1,4 +1,5 @@
 pub mod Header
+pub mod Joined
 pub mod Pieces
 pub mod Quotes
 pub mod Reading

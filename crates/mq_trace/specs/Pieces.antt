@@ -1,5 +1,5 @@
 -- A text in pieces, which are cut at line feeds and read by themselves.
-use Rattle.std.specs.Prelude.{◌≡◌, ◌⊎◌, ◌+◌, ◌<◌, ◌++◌, ◌==◌, [], ℕ, List, flat_map, get_or, length, nat_lt, if◌then◌else◌, Result, true}
+use Rattle.std.specs.Prelude.{◌≡◌, ◌⊎◌, ◌+◌, ◌<◌, ◌==◌, [], ℕ, List, flat_map, get_or, length, nat_lt, if◌then◌else◌, Result, true}
 use Rattle.mq_core.specs.declared.model.Network.{Network}
 use Rattle.mq_core.specs.declared.model.Rows.{Rows}
 use Rattle.mq_trace.specs.Quotes.{is_closed}
@@ -46,8 +46,3 @@ behind before (BadCount row) = if_allowed (before + row) (BadCount (before + row
 behind before (UnknownSource row) = if_allowed (before + row) (UnknownSource (before + row))
 behind before (BadNumber row field) = if_allowed (before + row) (BadNumber (before + row) field)
 behind before Memory = Memory
-
--- each list gained those of the same index
-pub record Gains (old new more : List (List ℕ)) : Type 0 where
-  pub len : length new ≡ length old
-  pub each : (k : ℕ) → k < length old → get_or new k [] ≡ get_or old k [] ++ get_or more k []

@@ -34,7 +34,7 @@ fn read_piece(
     if at == 0 && !next_record(&mut reader, &mut ByteRecord::new(alloc))? {
         unreachable!()
     }
-    read_rows(alloc, room_for(piece, header), &mut reader, net, header)
+    read_rows(alloc, room_for(piece), &mut reader, net, header)
 }
 
 /// A text in pieces, of which each is read by itself. The header is the first record of the first.

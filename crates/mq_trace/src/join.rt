@@ -1,17 +1,19 @@
 // The rows of pieces, one behind the other.
 
-ghost use Rattle.std.specs.Prelude.{◌≡◌, ◌+◌, ◌^◌, ◌<◌, ◌≤◌, ℕ, [], length, get_or, map, flat_map, slice_index_or, OnOk};
+ghost use Rattle.std.specs.Prelude.{◌≡◌, ◌+◌, ◌^◌, ◌<◌, ◌≤◌, ℕ, [], length, get_or, map, flat_map, slice_index_or, Ok, OnOk, IfErr};
 ghost use Rattle.csv.specs.Records.{fields_of};
-ghost use Rattle.mq_trace.specs.Reading.{IsHeaderOf};
-ghost use Rattle.mq_trace.specs.Pieces.{Gains, Reads, behind, piece_data};
-ghost use Rattle.mq_trace.specs.Trace.{data_of, text_records};
+ghost use Rattle.mq_core.specs.declared.model.Rows.{Rows};
+ghost use Rattle.mq_trace.specs.Joined.{AreJoined, HaveColumns};
+ghost use Rattle.mq_trace.specs.Pieces.{Reads, behind, piece_data};
+ghost use Rattle.mq_trace.specs.Trace.{Tells, data_of, rows_fault, text_records};
 
 use crate::fault::TraceFault;
 use crate::header::Header;
-use crate::rows::{MOST_ROWS, empty_lists};
-use mq_base::{List, OutOfMemory};
+use crate::lists::{Lists, joined};
+use crate::rows::MOST_ROWS;
 use mq_core::{Network, Rows};
 use std::alloc::Global;
+use std::thread::Threads;
 
 /// The fault of a piece, where so many data records stand before it.
 fn fault_behind(before: u32, fault: TraceFault) -> TraceFault
@@ -34,65 +36,60 @@ fn fault_behind(before: u32, fault: TraceFault) -> TraceFault
     }
 }
 
-/// Each list gains the items of the list at its index.
-fn extend_each(lists: &mut [List<u64>], more: &[List<u64>]) -> Result<(), OutOfMemory>
-    requires { length lists.old ≡ length more.now }
-    ensures { OnOk result (Gains lists.old lists.new more.now) }
-{
-    for (k, items) in more.iter().enumerate() {
-        let list = &mut lists[k];
-        list.extend_from_slice(items.as_slice())?;
-    }
-    Ok(())
-}
-
-/// How many rows were read, as far as they are allowed.
-fn rows_read(read: &[Result<Rows, TraceFault>]) -> usize {
-    let mut count = 0usize;
-    for piece in read {
-        if let Ok(rows) = piece {
-            count = count.saturating_add(rows.source.len());
-        }
-    }
-    count.min(MOST_ROWS as usize)
-}
-
-/// Puts together what was read of each piece. The first fault is that of the first piece that has one, unless there are
-/// too many rows before it.
-pub fn join_rows(
-    alloc: Global,
+/// How many rows all pieces have. The first fault is that of the first piece that has one, unless there are too many
+/// rows before it.
+fn judge(
     pieces: &[&[u8]],
     read: &[Result<Rows, TraceFault>],
     net: &Network,
     header: &Header,
-) -> Result<Rows, TraceFault>
-    requires header { IsHeaderOf net.now header.now }
+) -> Result<u32, TraceFault>
     requires len { length read.now ≡ length pieces.now }
     requires first { 1 ≤ length (text_records (get_or (map (λ s. s.now) pieces.now) 0 [])) }
     requires each { (i : ℕ) (d : _) → i < length read.now → Reads net.now (fields_of header.now.names) (piece_data i (get_or (map (λ s. s.now) pieces.now) i [])) (slice_index_or read.now i d) }
-    ensures { Reads net.now (fields_of header.now.names) (data_of (flat_map text_records (map (λ s. s.now) pieces.now))) result }
+    ensures columns { OnOk result (HaveColumns (length net.now.columns) read.now) }
+    ensures rows { OnOk result ((rows : Rows) → AreJoined (length net.now.columns) read.now rows → Reads net.now (fields_of header.now.names) (data_of (flat_map text_records (map (λ s. s.now) pieces.now))) (Ok rows)) }
+    ensures fault { IfErr result (λ e. Tells e (rows_fault net.now (fields_of header.now.names) 1 (data_of (flat_map text_records (map (λ s. s.now) pieces.now))))) }
 {
-    let room = rows_read(read);
-    let mut source = List::from_vec(Vec::with_capacity(alloc, room)?);
-    let mut time = List::from_vec(Vec::with_capacity(alloc, room)?);
-    let mut demands = empty_lists(alloc, net.columns.as_slice(), room)?;
+    let mut before = 0u32;
     for piece in read {
-        let before = source.len() as u32;
         match piece {
             Err(fault) => return Err(fault_behind(before, *fault)),
             Ok(rows) => {
                 if rows.source.len() > (MOST_ROWS - before) as usize {
                     return Err(TraceFault::TooManyRows);
                 }
-                source.extend_from_slice(rows.source.as_slice())?;
-                time.extend_from_slice(rows.time.as_slice())?;
-                extend_each(demands.as_mut_slice(), rows.demands.as_slice())?;
+                before += rows.source.len() as u32;
             }
         }
     }
-    Ok(Rows {
-        source,
-        time,
-        demands: List::from_vec(demands),
-    })
+    Ok(before)
+}
+
+/// Puts together what was read of each piece, by so many workers. A fault is judged before anything is joined.
+pub fn join_rows<R: Threads + Sync>(
+    rt: &R,
+    alloc: Global,
+    workers: u32,
+    pieces: &[&[u8]],
+    read: &[Result<Rows, TraceFault>],
+    net: &Network,
+    header: &Header,
+) -> Result<Rows, TraceFault>
+    requires some { 1 ≤ workers }
+    requires most { workers ≤ 64 }
+    requires columns { length net.now.columns ≤ 16 }
+    requires len { length read.now ≡ length pieces.now }
+    requires first { 1 ≤ length (text_records (get_or (map (λ s. s.now) pieces.now) 0 [])) }
+    requires each { (i : ℕ) (d : _) → i < length read.now → Reads net.now (fields_of header.now.names) (piece_data i (get_or (map (λ s. s.now) pieces.now) i [])) (slice_index_or read.now i d) }
+    ensures { Reads net.now (fields_of header.now.names) (data_of (flat_map text_records (map (λ s. s.now) pieces.now))) result }
+{
+    let count = judge(pieces, read, net, header)?;
+    let lists = Lists {
+        read,
+        count,
+        columns: net.columns.len() as u32,
+    };
+    let rows = joined(rt, alloc, workers, &lists)?;
+    Ok(rows)
 }

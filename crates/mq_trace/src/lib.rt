@@ -7,6 +7,7 @@ mod fault;
 mod header;
 mod join;
 mod laws;
+mod lists;
 mod pieces;
 mod quotes;
 mod read;

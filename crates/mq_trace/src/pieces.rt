@@ -1,6 +1,6 @@
 // A text in pieces, which are cut at line feeds.
 
-ghost use Rattle.std.specs.Prelude.{◌≡◌, ◌⊎◌, ◌<◌, ◌≤◌, ℕ, [], true, false, length, get_or, map, vec_len, IfOk};
+ghost use Rattle.std.specs.Prelude.{◌≡◌, ◌⊎◌, ◌+◌, ◌<◌, ◌≤◌, ℕ, [], true, false, length, get_or, map, vec_len, IfOk};
 ghost use Rattle.std.specs.List.{concat};
 ghost use Rattle.mq_trace.specs.Pieces.{AreClosed, AreLines, ArePieces};
 ghost use Rattle.mq_trace.specs.Quotes.{is_closed};
@@ -55,18 +55,18 @@ fn ends_from(piece: &[u8], outside: bool, end: bool) -> bool
     }
 }
 
-/// The pieces of a text, of which each that begins within quotes is put behind the one before it.
+/// The pieces of a text, of which each that begins within quotes is put behind the one before it. Where the last one ends
+/// isn't asked.
 fn merge_quoted<'a>(
     alloc: Global,
     text: &'a [u8],
     pieces: &[&[u8]],
     ends: &[bool],
 ) -> Result<Vec<&'a [u8]>, OutOfMemory>
-    requires some { 1 ≤ length pieces.now }
-    requires len { length ends.now ≡ length pieces.now }
+    requires len { length ends.now + 1 ≡ length pieces.now }
     requires whole { concat (map (λ s. s.now) pieces.now) ≡ text.now }
     requires lines { AreLines (map (λ s. s.now) pieces.now) }
-    requires ends { (i : ℕ) → i < length pieces.now → get_or ends.now i false ≡ is_closed true (get_or (map (λ s. s.now) pieces.now) i []) }
+    requires ends { (i : ℕ) → i < length ends.now → get_or ends.now i false ≡ is_closed true (get_or (map (λ s. s.now) pieces.now) i []) }
     ensures some { IfOk result (λ v. 1 ≤ vec_len v) }
     ensures most { IfOk result (λ v. vec_len v ≤ length pieces.now) }
     ensures whole { IfOk result (λ v. concat (map (λ s. s.now) v.items) ≡ text.now) }
@@ -110,7 +110,7 @@ pub fn pieces_of<'a, R: Threads + Sync>(
     ensures same { IfOk result (λ v. ArePieces text.now (map (λ s. s.now) v.items)) }
 {
     let lines = cut_lines(alloc, text, count)?;
-    let ends = find_ends(rt, alloc, workers, lines.as_slice())?;
+    let ends = find_ends(rt, alloc, workers, &lines.as_slice()[..lines.len() - 1])?;
     let merged = merge_quoted(alloc, text, lines.as_slice(), ends.as_slice())?;
     Ok(merged)
 }

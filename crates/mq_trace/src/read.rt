@@ -35,8 +35,7 @@ fn read_whole(alloc: Global, text: &[u8], net: &Network) -> Result<Rows, TraceFa
         return Err(TraceFault::BadHeader { field: 1 });
     }
     let header = read_header(alloc, names, net)?;
-    let room = room_for(text, &header);
-    read_rows(alloc, room, &mut reader, net, &header)
+    read_rows(alloc, room_for(text), &mut reader, net, &header)
 }
 
 /// The same, by pieces. Where the first has no record the header stands in a later one, and the text is read whole.
@@ -64,7 +63,7 @@ fn read_apart<R: Threads + Sync>(
     }
     let header = read_header(alloc, names, net)?;
     let read = read_each(rt, alloc, workers, pieces, net, &header)?;
-    join_rows(alloc, pieces, read.as_slice(), net, &header)
+    join_rows(rt, alloc, workers, pieces, read.as_slice(), net, &header)
 }
 
 /// Reads a text by so many pieces and workers.

@@ -21,17 +21,22 @@ pub const MOST_ROWS: u32 = 1_048_576;
 // A record has room for so many bytes at first, so that the reader mostly takes a record at once.
 const RECORD_ROOM: usize = 1024;
 
-// So many bytes a field, with the comma behind it, are reckoned with where room is made for rows.
-const FIELD_BYTES: usize = 4;
+// So many bytes in the middle of a text are looked through for line feeds, before room is made for its rows.
+const SAMPLE_BYTES: usize = 4096;
 
-/// For how many rows room is made before a text is read. Where it has more their lists grow.
-pub fn room_for(text: &[u8], header: &Header) -> usize {
-    let rows = text.len() / header.names.len().max(1) / FIELD_BYTES;
-    rows.min(MOST_ROWS as usize)
+/// For how many rows room is made before a text is read: as many as it has where all its lines are as long as those in
+/// its middle, and a sixteenth more. Where it has still more their lists grow.
+pub fn room_for(text: &[u8]) -> usize {
+    let size = text.len().min(SAMPLE_BYTES);
+    let from = (text.len() - size) / 2;
+    let sample = &text[from..from + size];
+    let feeds = sample.iter().filter(|byte| **byte == b'\n').count();
+    let rows = (text.len() / SAMPLE_BYTES + 1).saturating_mul(feeds + 1);
+    rows.saturating_add(rows / 16).min(MOST_ROWS as usize)
 }
 
 /// Empty lists with room, one for each column.
-pub fn empty_lists(
+fn empty_lists(
     alloc: Global,
     columns: &[List<u8>],
     room: usize,

@@ -1,0 +1,5 @@
+use Rattle.mq_base.proofs.DigitsLemmas.{ReadsDigits}
+use Rattle.mq_base.proofs.text.long_value.Given as goal
+
+abbrev pub invariant-loop-byte : goal.invariant-loop-byte
+invariant-loop-byte l = ReadsDigits l.text l.byte-index l.value

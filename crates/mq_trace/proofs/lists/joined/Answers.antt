@@ -1,0 +1,46 @@
+use Rattle.std.proofs.Common.{◌≡◌, ◌∙◌, ◌+◌, ◌-◌, ◌++◌, ◌∷◌, [], arith, ap, sym, subst, get_or, length, length-append}
+use Rattle.mq_crew.specs.Crew.{AreAll}
+use Rattle.mq_trace.specs.Joined.{IsListAt, all_numbers}
+use Rattle.mq_trace.proofs.ListFacts.{all_last, columns_more}
+use Rattle.mq_trace.proofs.lists.joined.Goals as goal
+
+pub loop-list-preserved : goal.loop-list-preserved
+loop-list-preserved g c =
+    let i = c.loop-list.invariant in
+    let columns = c.args.lists.now.columns in
+    let read = c.args.lists.now.read.now in
+    let is = IsListAt columns read in
+    let rest = c.pop-in-loop-list.new.self.items in
+    let demands = c.loop-list.demands.items in
+    let values = c.in-Numbers.values in
+    let popped : c.loop-list.left.items ≡ rest ++ c.in-Some.list ∷ [] = c.in-Some.ensures.items in
+    let last = all_last is _ _ rest _ popped i.rest in
+    let numbers = subst (is (length rest)) c.in-Numbers.is last.0 in
+    let fewer = length-append rest (c.in-Some.list ∷ []) in
+    let place : columns - length rest ≡ length demands + 1 = omega (arith, i.count, ap length popped, fewer) in
+    record {
+      rest = last.1;
+      count = omega (arith, i.count, ap length popped, fewer, ap length c.push_reserved.ensures.items, length-append demands (values ∷ []));
+      room = omega (arith, i.room, c.push_reserved.ensures.capacity);
+      done = columns_more read demands _ values c.push_reserved.ensures.items i.done (numbers.1 ∙ ap (λ place. all_numbers place read) place);
+    }
+
+pub returns : goal.returns
+returns g c =
+    let i = c.loop-list.invariant in
+    let columns = c.args.lists.now.columns in
+    let read = c.args.lists.now.read.now in
+    let is = IsListAt columns read in
+    let whole = subst (AreAll is (columns + 2)) (sym c.into_vec-left.ensures) c.in_ok-made.ensures in
+    let sources = all_last is _ _ c.pop.new.self.items _ c.in-Some-Sources.ensures.items whole in
+    let times = all_last is _ _ c.pop-2.new.self.items _ c.in-Some-Numbers.ensures.items sources.1 in
+    let first = length-append c.pop.new.self.items (c.in-Some-Sources.field-0 ∷ []) in
+    let second = length-append c.pop-2.new.self.items (c.in-Some-Numbers.field-0 ∷ []) in
+    let place : columns - length c.pop-2.new.self.items ≡ 0 = omega (arith, whole.len, ap length c.in-Some-Sources.ensures.items, first, ap length c.in-Some-Numbers.ensures.items, second) in
+    let all : length c.loop-list.demands.items ≡ columns = omega (arith, i.count, c.in_default-pop-2.ensures.cases, c.loop-list.left.ok) in
+    record {
+      sources = (subst (is _) c.in-Some-Sources.field-0-is sources.0).1;
+      times = (subst (is _) c.in-Some-Numbers.field-0-is times.0).1 ∙ ap (λ place. all_numbers place read) place;
+      width = ap length c.from_vec.ensures ∙ all;
+      values = λ k less. ap (λ l. get_or l k []) c.from_vec.ensures ∙ i.done k (omega (arith, all, less));
+    }
