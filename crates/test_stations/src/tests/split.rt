@@ -1,11 +1,16 @@
 // Worked routes, and the streams and pieces of a split.
-ghost use Rattle.std.specs.Prelude.{◌≡◌, ◌≤◌, length, IfOk};
+ghost use Rattle.std.specs.Prelude.{◌≡◌, ◌≤◌, length, map, IfOk};
+ghost use Rattle.mq_core.specs.Kinds.Split.{route_value};
 ghost use Rattle.mq_core.specs.Sequences.{IsStream};
 ghost use Rattle.mq_split.specs.Outs.{HasOutputs};
+ghost use Rattle.mq_stations.specs.Leaving.{AreRouted};
+ghost use Rattle.mq_stations.specs.Scans.{AreSplitBlocks};
 
 use mq_base::{List, OutOfMemory};
-use mq_core::{Route, Stream};
-use mq_split::{route_of, split, split_piece};
+use mq_core::{Route, Rows, Stream};
+use mq_scan::Blocks;
+use mq_split::{route_of, split, split_between, split_piece};
+use mq_stations::{split_blocks, split_joined, split_part};
 use std::alloc::Global;
 use std::test::Fail;
 
@@ -94,10 +99,67 @@ fn piece_sends(alloc: Global, from: u32, jobs: &[u32], times: &[u64]) -> Result<
     Ok(are_parts(&streams, jobs, times))
 }
 
+// The same of its last two items, by their own values.
+fn own_values_send(alloc: Global) -> Result<bool, OutOfMemory> {
+    let (route, stream) = (cut(alloc, [10, 20])?, three(alloc)?);
+    let streams = split_between(alloc, &stream, &[10, 20], &route, 1, 3)?;
+    Ok(are_parts(&streams, &[], &[]))
+}
+
 #[test]
 fn each_job_leaves_by_its_output(rt: HostRuntime) -> Result<(), Fail> {
     let alloc = rt.alloc();
     assert!(rt; split_sends(alloc, &[0], &[0])?);
     assert!(rt; piece_sends(alloc, 1, &[], &[])?);
+    assert!(rt; own_values_send(alloc)?);
+    Ok(())
+}
+
+// What leaves each block of a split.
+fn parts_of(
+    alloc: Global,
+    rows: &Rows,
+    route: &Route,
+    stream: &Stream,
+    blocks: &Blocks,
+) -> Result<List<List<Stream>>, OutOfMemory>
+    requires route { HasOutputs route.now }
+    requires stream { IsStream stream.now }
+    requires few { length stream.now.time ≤ 1048576 }
+    requires told { AreRouted rows.now route.now stream.now.job }
+    requires all { blocks.now.n ≡ length stream.now.time }
+    ensures { IfOk result (λ group. AreSplitBlocks route.now stream.now (map (route_value rows.now route.now) stream.now.job) blocks.now group) }
+{
+    let mut group = List::new(alloc);
+    for b in 0..blocks.blocks {
+        group.push(split_part(alloc, rows, route, stream, blocks, b)?)?;
+    }
+    Ok(group)
+}
+
+// Rows without a column.
+fn no_rows(alloc: Global) -> Rows {
+    Rows {
+        source: List::new(alloc),
+        time: List::new(alloc),
+        demands: List::new(alloc),
+    }
+}
+
+// Whether three jobs that go by turns of two outputs, in blocks of two, leave one behind the other.
+fn turns_go_on(alloc: Global) -> Result<bool, OutOfMemory> {
+    let (rows, stream) = (no_rows(alloc), three(alloc)?);
+    let route = Route::Turn { outputs: 2 };
+    let blocks = split_blocks(&stream, 2);
+    let group = parts_of(alloc, &rows, &route, &stream, &blocks)?;
+    let streams = split_joined(alloc, &route, &group)?;
+    Ok(streams.len() == 2
+        && has(streams.get(0), &[0, 2], &[0, 2])
+        && has(streams.get(1), &[1], &[1]))
+}
+
+#[test]
+fn the_blocks_of_a_split_are_put_together(rt: HostRuntime) -> Result<(), Fail> {
+    assert!(rt; turns_go_on(rt.alloc())?);
     Ok(())
 }

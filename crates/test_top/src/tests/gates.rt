@@ -20,6 +20,9 @@ const TANDEM: &[u8] = b"model 1\nsource src\ntandem line a / 2 b / 1 c from src\
 // A source and a fork-join of two branches, one of them of two servers.
 const FORKJOIN: &[u8] = b"model 1\nsource src\nforkjoin both a b | c from src\n";
 
+// A source and a split.
+const SPLIT: &[u8] = b"model 1\nsource src\nsplit ways 2 turn from src\n";
+
 // Their jobs.
 const JOBS: &[u8] = b"source,time,a,b,c\nsrc,0,2,3,1\nsrc,1,1,1,4\nsrc,2,2,1,1\n";
 
@@ -143,6 +146,19 @@ fn two_threads_enter_the_gate_at_a_forkjoin(rt: HostRuntime) -> Result<(), Fail>
     // last lists
     for number in 0..3usize {
         assert!(rt; gate.pieces.times(number) >= 5);
+        assert!(rt; gate.blocks.times(number) == 0);
+    }
+    Ok(())
+}
+
+#[test]
+fn two_threads_enter_the_gate_at_a_split(rt: HostRuntime) -> Result<(), Fail> {
+    let gate = nobody();
+    assert!(rt; is_done(&rt, rt.alloc(), SPLIT, JOBS, &gate)?);
+    assert!(rt; gate.pieces.run_out.load(SeqCst) == 0);
+    // once for a block, and once for the last lists of the source
+    for number in 0..3usize {
+        assert!(rt; gate.pieces.times(number) >= 2);
         assert!(rt; gate.blocks.times(number) == 0);
     }
     Ok(())
