@@ -100,9 +100,9 @@ def begin(name, uses, jobs):
 
 def end(name):
     """Takes what a room kept back into the crate's folder; answers what was told in it."""
-    room = f"{ROOMS}/{name}"
-    if os.path.isdir(f"{room}/crates/{name}/out"):
-        os.rename(f"{room}/crates/{name}/out", f"{ROOT}/crates/{name}/out")
+    room, out = f"{ROOMS}/{name}", f"crates/{name}/out"
+    if os.path.isdir(f"{room}/{out}") and not os.path.isdir(f"{ROOT}/{out}"):
+        os.rename(f"{room}/{out}", f"{ROOT}/{out}")
     with open(f"{room}/log", errors="replace") as log:
         told = log.read()
     shutil.rmtree(room)
