@@ -153,9 +153,11 @@ fn turns_go_on(alloc: Global) -> Result<bool, OutOfMemory> {
     let blocks = split_blocks(&stream, 2);
     let group = parts_of(alloc, &rows, &route, &stream, &blocks)?;
     let streams = split_joined(alloc, &route, &group)?;
-    Ok(streams.len() == 2
-        && has(streams.get(0), &[0, 2], &[0, 2])
-        && has(streams.get(1), &[1], &[1]))
+    Ok(
+        streams.len() == 2
+            && has(streams.get(0), &[0, 2], &[0, 2])
+            && has(streams.get(1), &[1], &[1]),
+    )
 }
 
 #[test]
