@@ -12,6 +12,6 @@ pub mod AloneRuns
 pub mod Tallied
 pub mod Plans
 pub mod Busy
-pub mod Peak
 pub mod Span
 pub mod StationLaws
+pub mod ArrivalLaws

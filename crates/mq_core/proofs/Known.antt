@@ -4,3 +4,4 @@ pub mod WorkedRows
 pub mod TandemRows
 pub mod ForkJoinRows
 pub mod LossRows
+pub mod JoinRows

@@ -7,6 +7,8 @@ pub mod Delay
 pub mod Tandem
 pub mod EachKind
 pub mod ForkJoin
+pub mod Fork
+pub mod Join
 pub mod Known
 pub mod Sequences
 pub mod Counting

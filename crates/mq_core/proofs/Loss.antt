@@ -2,7 +2,6 @@ pub mod LossFlow
 pub mod Loses
 pub mod LossTallies
 pub mod LossBusy
-pub mod LossPeak
 pub mod LossSequences
 pub mod LossLaws
 pub mod LossRecurrence

@@ -1,7 +1,7 @@
 pub mod NumberFates
 pub mod NumberTotals
 pub mod NumberSpan
-pub mod NumberPast
+pub mod NumberRefusals
 pub mod SequenceFlow
 pub mod SequencesEqual
 pub mod SequenceMerges
@@ -13,3 +13,4 @@ pub mod SequenceFew
 pub mod NumberRuns
 pub mod OnceEach
 pub mod StationTable
+pub mod ArrivalTable

@@ -11,13 +11,13 @@ use Rattle.mq_core.specs.declared.model.Node.{Node}
 use Rattle.mq_core.specs.declared.model.Plan.{Plan}
 use Rattle.mq_core.specs.declared.model.Rows.{Rows}
 
--- the time and the job of each visit, and of each arrival at a node
-abbrev pub came : List Visit → List (ℕ × ℕ)
-came visits = map {B = ℕ × ℕ} (λ (x : Visit). (x.arrive, x.job)) visits
+-- the time, the port and the job of each visit
+abbrev pub came : List Visit → List (ℕ × ℕ × ℕ)
+came visits = map {B = ℕ × ℕ × ℕ} (λ (x : Visit). (x.arrive, x.port, x.job)) visits
 
--- the time and the job of each arrival at a node
-abbrev pub come_at : ℕ → List Event → List (ℕ × ℕ)
-come_at v events = map {B = ℕ × ℕ} (λ e. (time_of e, job_of e)) (filter (is_arrival_at v) events)
+-- the time, the port and the job of each arrival at a node
+abbrev pub come_at : ℕ → List Event → List (ℕ × ℕ × ℕ)
+come_at v events = map {B = ℕ × ℕ × ℕ} (λ e. (time_of e, port_of e, job_of e)) (filter (is_arrival_at v) events)
 
 -- these are arrivals at a node, by time, and at one time by port
 pub record IsLoad (ports v : ℕ) (arrivals : List Event) : Type 0 where

@@ -32,6 +32,8 @@ pub record Behaviour : Type 1 where
   pub outputs : ℕ
   -- it may have this many ports
   pub ports : ℕ → Bool
+  -- the version of the models' language from which on it stands in models
+  pub version : ℕ
   -- its numbers are in their ranges, in a model of so many columns
   pub sound : ℕ → Bool
   -- the columns that it mentions, in order
@@ -61,6 +63,8 @@ pub record Behaviour : Type 1 where
   pub there : ℕ → ℕ → Emission → Bool
   -- visits may stay for good
   pub keeps : Bool
+  -- each visit leaves once, alone: its sequences go by its fate and its output
+  pub once : Bool
   -- what each arrival finds
   pub founds : Rows → Came → List ℕ
   -- what leaves by an output

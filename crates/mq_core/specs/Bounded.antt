@@ -1,7 +1,7 @@
--- That no departure passes the bound of a network where its rows come early enough.
+-- That no run of a network is refused where no node copies and its rows come early enough.
 use Rattle.std.specs.Prelude.{◌≡◌, ◌+◌, ◌*◌, ◌^◌, ◌≤◌, ℕ, All, length, None}
-use Rattle.mq_core.specs.NetworkRun.{past_in}
-use Rattle.mq_core.specs.Results.{past_of}
+use Rattle.mq_core.specs.NetworkRun.{refusal_in}
+use Rattle.mq_core.specs.Results.{refusal_of}
 use Rattle.mq_core.specs.SequenceLaws.{NoNodeCopies}
 use Rattle.mq_core.specs.Theorems.{IsReadFor}
 use Rattle.mq_core.specs.declared.model.Plan.{Plan}
@@ -12,9 +12,9 @@ use Rattle.mq_core.specs.declared.model.Rows.{Rows}
 abbrev pub latest_departure : ℕ → ℕ → ℕ → ℕ
 latest_departure last nodes jobs = last + nodes * (jobs * 2 ^ 39)
 
--- where no node copies and the latest departure that there may be is no later than the bound, no departure passes it
+-- where no node copies and the latest departure that there may be is no later than the bound, the run isn't refused
 abbrev pub DeparturesAreBounded : Type 0
 DeparturesAreBounded =
     (plan : Plan) (rows : Rows) (last : ℕ) → IsReadFor plan.net rows → NoNodeCopies plan.net → All (λ time. time ≤ last) rows.time →
     latest_departure last (length plan.net.nodes) (length rows.time) ≤ plan.net.bound →
-    (past_of plan rows ≡ None) × (past_in plan.net rows ≡ None)
+    (refusal_of plan rows ≡ None) × (refusal_in plan.net rows ≡ None)

@@ -1,17 +1,20 @@
 -- How visits leave and fare: their fates, services and numbers; and the laws of what the tallies of a run come to.
 use Rattle.std.specs.List.{AllByRecursion}
 use Rattle.std.specs.Option.{option_map}
-use Rattle.std.specs.Prelude.{Bool, IsSome, IsTrue, List, None, Option, Some, [], false, length, slice_get, ℕ, ◌++◌, ◌+◌, ◌<◌, ◌∷◌, ◌≡◌, ◌≤◌, ◌⊎◌}
+use Rattle.std.specs.Prelude.{Bool, IfSome, IsSome, List, None, Option, Some, [], false, is_none, length, slice_get, ℕ, ◌++◌, ◌<◌, ◌∷◌, ◌≡◌, ◌≤◌, ◌⊎◌}
 use Rattle.mq_core.specs.KindTable.{behaviour_of}
+use Rattle.mq_core.specs.Kinds.Join.{has_entry}
 use Rattle.mq_core.specs.Local.{Local}
-use Rattle.mq_core.specs.Machine.{Emission, State, Station, Visit}
+use Rattle.mq_core.specs.Machine.{Emission, State, Station, Visit, after, opened}
+use Rattle.mq_core.specs.Run.{starts}
 use Rattle.mq_core.specs.Standard.{standard_jobs}
-use Rattle.mq_core.specs.StandardTable.{run_of}
-use Rattle.mq_core.specs.Tallies.{arrival_or, found_or, greatest_below, sojourns, staying, still_there, sum_below}
+use Rattle.mq_core.specs.StandardTable.{run_of, standard}
+use Rattle.mq_core.specs.Tallies.{arrival_or, found_or, sojourns, staying, still_there, sum_below}
 use Rattle.mq_core.specs.Theorems.{IsReadFor}
 use Rattle.mq_core.specs.declared.model.Fate.{Fate}
-use Rattle.mq_core.specs.declared.model.Fate.TheVariants.{Departs, Lost}
+use Rattle.mq_core.specs.declared.model.Fate.TheVariants.{Departs, Held, Lost}
 use Rattle.mq_core.specs.declared.model.Kind.{Kind}
+use Rattle.mq_core.specs.declared.model.Kind.TheVariants.{Join}
 use Rattle.mq_core.specs.declared.model.Node.{Node}
 use Rattle.mq_core.specs.declared.model.Plan.{Plan}
 use Rattle.mq_core.specs.declared.model.Rows.{Rows}
@@ -32,18 +35,25 @@ fate_of kind s position = option_map (fate_by kind) (leaves_with kind s position
 abbrev pub keeps_visits : Kind → Bool
 keeps_visits kind = (behaviour_of kind).keeps
 
--- nothing is pending, visits stay in no node for good, each has its fate where they don't, and each node holds those that haven't
--- left, which are none
+-- nothing is pending, each node holds the visits that haven't left, and these are none where visits don't stay for good: there
+-- each has its fate
 pub record IsEnded (plan : Plan) (rows : Rows) (s : State Local) : Type 0 where
   pub nothing : s.pending ≡ []
-  pub leave : (v : ℕ) (node : Node) → slice_get plan.net.nodes v ≡ Some node → keeps_visits node.kind ≡ false
   pub fates : (v : ℕ) (node : Node) (position : ℕ) → slice_get plan.net.nodes v ≡ Some node → keeps_visits node.kind ≡ false → position < length (s.stations v).visits → IsSome (fate_of node.kind (s.stations v) position)
   pub here : (v : ℕ) (node : Node) → slice_get plan.net.nodes v ≡ Some node → standard_jobs plan rows v (s.stations v).visits (s.stations v).local ≡ staying (s.stations v).visits (leaves_with node.kind (s.stations v))
-  pub empty : (v : ℕ) → standard_jobs plan rows v (s.stations v).visits (s.stations v).local ≡ 0
+  pub empty : (v : ℕ) → IfSome (slice_get plan.net.nodes v) (λ node. keeps_visits node.kind ≡ false) → standard_jobs plan rows v (s.stations v).visits (s.stations v).local ≡ 0
 
 -- after the steps of a run all is over
 abbrev pub RunEnds : Type 0
 RunEnds = (plan : Plan) (rows : Rows) → IsReadFor plan.net rows → IsEnded plan rows (run_of plan rows)
+
+-- at each moment of a run, the visits to a join that haven't left are those that have an entry in it: so a visit departs when its
+-- entry is taken out, and is held where it never is
+abbrev pub HeldAreEntries : Type 0
+HeldAreEntries =
+    (plan : Plan) (rows : Rows) (count v position : ℕ) (node : Node) → slice_get plan.net.nodes v ≡ Some node → node.kind ≡ Join →
+    let s = (after count (standard plan rows) (opened (standard plan rows) (starts rows))).stations v in
+    position < length s.visits → has_entry position s.local.held ≡ is_none (leaves_with Join s position)
 
 -- the area of each node is the sum of the sojourns of its visits
 abbrev pub AreasAreSojourns : Type 0
@@ -61,7 +71,7 @@ FoundsAreCounts =
     found_or 0 (slice_get end.visits position) ≡ still_there (behaviour_of node.kind).there (arrival_or 0 (slice_get end.visits position)) (leaves_with node.kind end) position
 
 -- the service that a job asks for: at a tandem the demands of all stages, at a fork-join those of all servers, and none at a
--- source or a split
+-- source, a split, a fork or a join
 abbrev pub service_time : Rows → Kind → ℕ → ℕ
 service_time rows kind job = (behaviour_of kind).service rows job
 
@@ -75,6 +85,7 @@ abbrev pub unless_lost : Option Fate → ℕ → ℕ
 unless_lost None number = number
 unless_lost (Some (Departs time)) number = number
 unless_lost (Some Lost) number = 0
+unless_lost (Some Held) number = number
 
 -- the busy tally of each node is the sum of the services of those that aren't lost
 abbrev pub BusyIsServices : Type 0
@@ -82,17 +93,6 @@ BusyIsServices =
     (plan : Plan) (rows : Rows) → IsReadFor plan.net rows → (v : ℕ) (node : Node) → slice_get plan.net.nodes v ≡ Some node →
     let end = (run_of plan rows).stations v in
     end.busy ≡ sum_below (length end.visits) (λ position. unless_lost (fate_of node.kind end position) (service_of rows node.kind (slice_get end.visits position)))
-
--- whether jobs stay in a node of this kind; at a source or a split each goes on when it comes
-abbrev pub holds_jobs : Kind → Bool
-holds_jobs kind = (behaviour_of kind).holds
-
--- the peak of a node that holds jobs is the greatest found of its visits that aren't lost, plus 1
-abbrev pub PeakIsGreatest : Type 0
-PeakIsGreatest =
-    (plan : Plan) (rows : Rows) (v : ℕ) (node : Node) → slice_get plan.net.nodes v ≡ Some node → IsTrue (holds_jobs node.kind) →
-    let end = (run_of plan rows).stations v in
-    end.peak ≡ greatest_below (length end.visits) (λ position. unless_lost (fate_of node.kind end position) (found_or 0 (slice_get end.visits position) + 1))
 
 -- a visit to a node that comes at this time
 pub record ComesAt (s : State Local) (time : ℕ) : Type 0 where

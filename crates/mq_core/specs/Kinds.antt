@@ -5,3 +5,5 @@ pub mod Loss
 pub mod Tandem
 pub mod ForkJoin
 pub mod Split
+pub mod Fork
+pub mod Join

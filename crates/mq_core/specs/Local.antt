@@ -12,13 +12,14 @@ pub record Branch : Type 0 where
   pub through : ℕ
 
 -- what a node keeps: the positions at a server or a loss station, the one in service first; those that a delay has
--- scheduled; the stages of a tandem; the branches of a fork-join
+-- scheduled; the stages of a tandem; the branches of a fork-join; the ports and positions that a join has not matched yet
 pub record Local : Type 0 where
   pub queue : List ℕ
   pub scheduled : List ℕ
   pub lines : List Line
   pub branches : List Branch
+  pub held : List (ℕ × ℕ)
 
 -- nothing kept
 abbrev pub empty : Local
-empty = record { queue = []; scheduled = []; lines = []; branches = [] }
+empty = record { queue = []; scheduled = []; lines = []; branches = []; held = [] }

@@ -1,9 +1,8 @@
 -- The run of a network over rows, for whoever has a network and no plan.
 use Rattle.std.specs.Prelude.{◌≡◌, length, slice_get, Option}
-use Rattle.std.specs.List.{flat_map}
 use Rattle.mq_core.specs.Machine.{Table, State, after, opened}
 use Rattle.mq_core.specs.Local.{Local}
-use Rattle.mq_core.specs.Results.{Late, first_of, late_at, past_of}
+use Rattle.mq_core.specs.Results.{Refusal, first_refusal, refusal_at, refusal_of}
 use Rattle.mq_core.specs.Run.{run_length, starts}
 use Rattle.mq_core.specs.Standard.{node_on, node_opening, node_jobs, node_working}
 use Rattle.mq_core.specs.StandardTable.{run_of}
@@ -29,12 +28,11 @@ network_table net rows =
 abbrev pub run_in : Network → Rows → State Local
 run_in net rows = after (run_length net.nodes rows) (network_table net rows) (opened (network_table net rows) (starts rows))
 
--- the first departure after the bound, by rank of the node and then position
-abbrev pub past_in : Network → Rows → Option Late
-past_in net rows =
-    first_of (flat_map (λ v. late_at net.bound v (slice_get net.nodes v) ((run_in net rows).stations v)) (ranking net.nodes))
+-- the refusal of a run: that of the node of least rank that has one
+abbrev pub refusal_in : Network → Rows → Option Refusal
+refusal_in net rows = first_refusal (λ v. refusal_at net.bound v (slice_get net.nodes v) ((run_in net rows).stations v)) (ranking net.nodes)
 
--- the run of a plan is that of its network, and so is its first departure after the bound
+-- the run of a plan is that of its network, and so is its refusal
 abbrev pub RunsAreOfNetworks : Type 0
 RunsAreOfNetworks =
-    (plan : Plan) (rows : Rows) → (run_of plan rows ≡ run_in plan.net rows) × (past_of plan rows ≡ past_in plan.net rows)
+    (plan : Plan) (rows : Rows) → (run_of plan rows ≡ run_in plan.net rows) × (refusal_of plan rows ≡ refusal_in plan.net rows)

@@ -1,16 +1,17 @@
 -- The sequences of a node that lets each visit out once, from its fates: what each visit found, and what leaves by an output.
-use Rattle.std.specs.Prelude.{Bool, List, [], count_by, false, nat_lt, ℕ, ◌++◌, ◌∷◌}
+use Rattle.std.specs.Prelude.{Bool, List, [], count_by, false, nat_lt, true, ℕ, ◌++◌, ◌∷◌}
 use Rattle.mq_core.specs.Came.{Came}
 use Rattle.mq_core.specs.EmissionOrder.{EmissionOrder}
 use Rattle.mq_core.specs.Streams.{picked, stream_by}
 use Rattle.mq_core.specs.declared.model.Fate.{Fate}
-use Rattle.mq_core.specs.declared.model.Fate.TheVariants.{Departs, Lost}
+use Rattle.mq_core.specs.declared.model.Fate.TheVariants.{Departs, Held, Lost}
 use Rattle.mq_core.specs.declared.model.Stream.{Stream}
 
--- it departs after this time
+-- it departs after this time, if ever
 abbrev pub departs_after : ℕ → Fate → Bool
 departs_after time (Departs departure) = nat_lt time departure
 departs_after time Lost = false
+departs_after time Held = true
 
 -- how many of the earlier visits, these first, depart after each arrival
 abbrev pub founds_from : List Fate → List ℕ → List Fate → List ℕ
@@ -27,6 +28,7 @@ founds_of arrive fate = founds_from [] arrive fate
 abbrev pub leaving_time : ℕ → Fate → ℕ
 leaving_time arrive (Departs time) = time
 leaving_time arrive Lost = arrive
+leaving_time arrive Held = arrive
 
 -- when each visit leaves
 abbrev pub leaving_times : List ℕ → List Fate → List ℕ

@@ -1,21 +1,24 @@
 -- The laws that carry a run over to sequences: a node's flow, visits, streams and arrivals.
-use Rattle.std.specs.Prelude.{◌≡◌, ◌<◌, ◌≤◌, ⊤, ℕ, ◌+◌, false, List, ◌++◌, length, map, slice_get, Some, true}
+use Rattle.std.specs.Prelude.{Bool, IsTrue, ◌≡◌, ◌<◌, ◌≤◌, ⊤, ℕ, ◌+◌, false, List, ◌++◌, length, map, slice_get, Some, true, suc, [], ◌∷◌}
 use Rattle.std.specs.List.{AllByRecursion, zip, flat_map}
+use Rattle.mq_core.specs.Alone.{came}
 use Rattle.mq_core.specs.Came.{Came, came_by, came_of}
 use Rattle.mq_core.specs.Sequences.{IsStream, sequence_fates, sequence_stream, sequence_visits, rows_at, stream_in_order, sequence_outs}
+use Rattle.mq_core.specs.Fates.{keeps_visits}
 use Rattle.mq_core.specs.KindTable.{behaviour_of}
-use Rattle.mq_core.specs.Laws.{Rises}
+use Rattle.mq_core.specs.Laws.{Rises, in_order_of}
 use Rattle.mq_core.specs.Local.{Local}
 use Rattle.mq_core.specs.Machine.{Visit, Station, State}
 use Rattle.mq_core.specs.OnceOut.{founds_of, once_out}
 use Rattle.mq_core.specs.Results.{bare_time, visits_of, stream_from}
 use Rattle.mq_core.specs.Served.{flow_of, in_emission_order}
+use Rattle.mq_core.specs.Sound.{is_sound}
 use Rattle.mq_core.specs.StandardTable.{run_of}
-use Rattle.mq_core.specs.Streams.{by_first, pairs_of}
+use Rattle.mq_core.specs.Streams.{by_first, by_port, pairs_of}
 use Rattle.mq_core.specs.Theorems.{IsReadFor}
 use Rattle.mq_core.specs.Wiring.{is_source_kind}
 use Rattle.mq_core.specs.declared.model.Fate.{Fate}
-use Rattle.mq_core.specs.declared.model.Fate.TheVariants.{Departs, Lost}
+use Rattle.mq_core.specs.declared.model.Fate.TheVariants.{Departs, Held, Lost}
 use Rattle.mq_core.specs.declared.model.Input.{Input}
 use Rattle.mq_core.specs.declared.model.Kind.{Kind}
 use Rattle.mq_core.specs.declared.model.Network.{Network}
@@ -49,26 +52,37 @@ NodesAreSequences =
     (plan : Plan) (rows : Rows) → IsReadFor plan.net rows → (v : ℕ) (node : Node) → slice_get plan.net.nodes v ≡ Some node →
     IsInSequences rows (length node.inputs) node.kind ((run_of plan rows).stations v)
 
+-- each visit to a node of this kind leaves once, alone
+abbrev pub sends_once : Kind → Bool
+sends_once kind = (behaviour_of kind).once
+
 -- the sequences of a node go by the fates of its visits: what each visit found, and what leaves by an output, by the output of each
 pub record GoesByFates (rows : Rows) (kind : Kind) (came : Came) : Type 0 where
   pub founds : (sequence_visits rows kind came).found ≡ founds_of came.arrive (sequence_fates rows kind came)
   pub stream : (out : ℕ) → sequence_stream rows kind came out ≡ once_out (behaviour_of kind).order came (sequence_fates rows kind came) (sequence_outs rows kind came) out
 
 abbrev pub SequencesGoByFates : Type 0
-SequencesGoByFates = (rows : Rows) (kind : Kind) (came : Came) → GoesByFates rows kind came
+SequencesGoByFates = (rows : Rows) (kind : Kind) (came : Came) → sends_once kind ≡ true → GoesByFates rows kind came
 
--- by which ports jobs came changes nothing in the sequences of a node
+-- by which ports jobs came changes nothing in the sequences of a node where visits don't stay for good
 pub record IsBlind (rows : Rows) (kind : Kind) (came : Came) : Type 0 where
   pub visits : sequence_visits rows kind came ≡ sequence_visits rows kind (came_by came.job came.arrive)
   pub stream : (out : ℕ) → sequence_stream rows kind came out ≡ sequence_stream rows kind (came_by came.job came.arrive) out
 
 abbrev pub SequencesAreBlind : Type 0
-SequencesAreBlind = (rows : Rows) (kind : Kind) (came : Came) → IsBlind rows kind came
+SequencesAreBlind = (rows : Rows) (kind : Kind) (came : Came) → keeps_visits kind ≡ false → IsBlind rows kind came
 
--- the arrivals at a node by time: the rows of a source in file order, or what the ports of another read, port after port
+-- what comes by these ports, the first of this number, port after port: time, port and job of each item
+abbrev pub read_from : State Local → ℕ → List Input → List (ℕ × ℕ × ℕ)
+read_from end port [] = []
+read_from end port (i ∷ is) = by_port port (stream_from (end.stations i.node) i.out) ++ read_from end (suc port) is
+
+-- the arrivals at a node by time: the rows of a source in file order, or what the ports of another read, port after port; with the
+-- port of each, and without
 pub record IsMerged (rows : Rows) (v : ℕ) (node : Node) (end : State Local) : Type 0 where
   pub source : is_source_kind node.kind ≡ true → zip (arrives_of (end.stations v).visits) (jobs_of (end.stations v).visits) ≡ by_first (rows_at v 0 rows.source rows.time)
   pub other : is_source_kind node.kind ≡ false → zip (arrives_of (end.stations v).visits) (jobs_of (end.stations v).visits) ≡ by_first (flat_map (λ (i : Input). pairs_of (stream_from (end.stations i.node) i.out)) node.inputs)
+  pub ports : is_source_kind node.kind ≡ false → came (end.stations v).visits ≡ in_order_of (λ (p : ℕ × ℕ × ℕ). p.0) (read_from end 0 node.inputs)
 
 abbrev pub ArrivalsAreStreams : Type 0
 ArrivalsAreStreams =
@@ -106,26 +120,29 @@ JobsAreRows =
     (plan : Plan) (rows : Rows) (v : ℕ) →
     AllByRecursion (λ job. job < length rows.time) (jobs_of ((run_of plan rows).stations v).visits)
 
--- no earlier than this time, or lost
+-- no earlier than this time, lost or held
 abbrev pub LeavesFrom : ℕ → Fate → Type 0
 LeavesFrom arrive (Departs time) = arrive ≤ time
 LeavesFrom arrive Lost = ⊤
+LeavesFrom arrive Held = ⊤
 
 -- as many fates as arrivals, and no departure before its arrival
 pub record FatesInTime (arrive : List ℕ) (fate : List Fate) : Type 0 where
   pub even : length fate ≡ length arrive
   pub each : AllByRecursion (λ (p : ℕ × Fate). LeavesFrom p.0 p.1) (zip arrive fate)
 
--- the fates of jobs that come to a node at these times
+-- the fates of jobs that come at these times to a node where visits don't stay for good
 abbrev pub FatesAreInTime : Type 0
-FatesAreInTime = (rows : Rows) (kind : Kind) (came : Came) → length came.job ≡ length came.arrive → FatesInTime came.arrive (sequence_fates rows kind came)
+FatesAreInTime = (rows : Rows) (kind : Kind) (came : Came) → keeps_visits kind ≡ false → length came.job ≡ length came.arrive → FatesInTime came.arrive (sequence_fates rows kind came)
 
--- the sequences have one item a visit, and none departs before it came: item by item, and by position
+-- the sequences have one item a visit, none departs before it came, item by item, and by position, and none found more than came
+-- before it
 pub record IsInTime (visits : Visits) : Type 0 where
   pub jobs : length visits.job ≡ length visits.arrive
   pub founds : length visits.found ≡ length visits.arrive
   pub fates : length visits.fate ≡ length visits.arrive
   pub each : AllByRecursion (λ (p : ℕ × Fate). LeavesFrom p.0 p.1) (zip visits.arrive visits.fate)
+  pub few : (position found : ℕ) → slice_get visits.found position ≡ Some found → found ≤ position
   pub at : (position arrive time : ℕ) → slice_get visits.arrive position ≡ Some arrive → slice_get visits.fate position ≡ Some (Departs time) → arrive ≤ time
 
 abbrev pub DepartsInTime : Type 0
@@ -145,13 +162,13 @@ VisitsStayBareTime =
 abbrev pub copies_of : Kind → ℕ
 copies_of kind = (behaviour_of kind).copies
 
--- no kind lets out more than one job by an event
-abbrev pub NoKindCopies : Type 0
-NoKindCopies = (kind : Kind) → copies_of kind ≤ 1
-
--- no node of the network does
+-- no node of the network lets out more than one
 abbrev pub NoNodeCopies : Network → Type 0
 NoNodeCopies net = (v : ℕ) (node : Node) → slice_get net.nodes v ≡ Some node → copies_of node.kind ≤ 1
+
+-- a network of the first version has no such node
+abbrev pub FirstVersionCopiesNothing : Type 0
+FirstVersionCopiesNothing = (net : Network) → IsTrue (is_sound net) → net.version ≡ 1 → NoNodeCopies net
 
 -- where no node copies, a job visits a node at most once
 abbrev pub VisitsAreFew : Type 0

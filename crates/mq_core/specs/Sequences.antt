@@ -1,17 +1,17 @@
 -- A run in sequences: what the code keeps of it, one item a visit, by position.
 use Rattle.mq_core.specs.Came.{Came}
-use Rattle.std.specs.Prelude.{All, List, Some, [], count_by, fold, if◌then◌else◌, length, map, max, slice_index, suc, sum, zero, ℕ, ◌++◌, ◌+◌, ◌-◌, ◌==◌, ◌^◌, ◌∷◌, ◌≡◌, ◌≤◌}
+use Rattle.std.specs.Prelude.{All, List, Option, Some, [], count_by, fold, if◌then◌else◌, length, map, max, slice_index, suc, sum, zero, ℕ, ◌++◌, ◌-◌, ◌==◌, ◌^◌, ◌∷◌, ◌≡◌, ◌≤◌}
 use Rattle.mq_core.specs.Fates.{service_time}
 use Rattle.mq_core.specs.KindTable.{behaviour_of}
 use Rattle.mq_core.specs.Laws.{Rises}
 use Rattle.mq_core.specs.Local.{Local}
 use Rattle.mq_core.specs.Machine.{State}
-use Rattle.mq_core.specs.Results.{Late, Totals, bare_time, is_lost, late_fate, stream_from, visits_of}
+use Rattle.mq_core.specs.Results.{Late, Refusal, Totals, bare_time, is_departed, is_held, first_of, is_lost, late_fate, peak_of, refusal_by, stream_from, visits_of}
 use Rattle.mq_core.specs.Sound.{outputs_in}
 use Rattle.mq_core.specs.StandardTable.{run_of}
 use Rattle.mq_core.specs.Streams.{stream_by}
 use Rattle.mq_core.specs.declared.model.Fate.{Fate}
-use Rattle.mq_core.specs.declared.model.Fate.TheVariants.{Departs, Lost}
+use Rattle.mq_core.specs.declared.model.Fate.TheVariants.{Departs, Held, Lost}
 use Rattle.mq_core.specs.declared.model.Kind.{Kind}
 use Rattle.mq_core.specs.declared.model.Node.{Node}
 use Rattle.mq_core.specs.declared.model.Plan.{Plan}
@@ -52,10 +52,11 @@ sequence_visits rows kind came =
 abbrev pub sequence_outs : Rows → Kind → Came → List ℕ
 sequence_outs rows kind came = (behaviour_of kind).outs rows came
 
--- the time of a departure; 0 for a lost visit, which has none
+-- the time of a departure; 0 for a visit that is lost or held, which has none
 abbrev pub time_of_fate : Fate → ℕ
 time_of_fate (Departs time) = time
 time_of_fate Lost = 0
+time_of_fate Held = 0
 
 -- jobs and times by position, in the order in which they leave: by time and then position at a delay, else by position
 abbrev pub stream_in_order : Kind → Stream → Stream
@@ -69,6 +70,7 @@ sequence_stream rows kind came out = (behaviour_of kind).stream rows came out
 abbrev pub sequence_wait : Rows → Kind → ℕ → ℕ → Fate → ℕ
 sequence_wait rows kind job arrive (Departs time) = time - arrive - bare_time rows kind job
 sequence_wait rows kind job arrive Lost = 0
+sequence_wait rows kind job arrive Held = 0
 
 -- the wait of each visit
 abbrev pub sequence_waits : Rows → Kind → List ℕ → List ℕ → List Fate → List ℕ
@@ -77,21 +79,23 @@ sequence_waits rows kind (job ∷ jobs) [] fates = []
 sequence_waits rows kind (job ∷ jobs) (arrive ∷ arrives) [] = []
 sequence_waits rows kind (job ∷ jobs) (arrive ∷ arrives) (fate ∷ fates) = sequence_wait rows kind job arrive fate ∷ sequence_waits rows kind jobs arrives fates
 
--- how long a visit stayed; a lost one didn't
-abbrev pub sequence_sojourn : ℕ → Fate → ℕ
-sequence_sojourn arrive (Departs time) = time - arrive
-sequence_sojourn arrive Lost = 0
+-- how long a visit stayed by the end of the run, which is this span; a lost one didn't
+abbrev pub sequence_sojourn : ℕ → ℕ → Fate → ℕ
+sequence_sojourn span arrive (Departs time) = time - arrive
+sequence_sojourn span arrive Lost = 0
+sequence_sojourn span arrive Held = span - arrive
 
 -- the sojourn of each visit
-abbrev pub sequence_sojourns : List ℕ → List Fate → List ℕ
-sequence_sojourns [] fates = []
-sequence_sojourns (arrive ∷ arrives) [] = []
-sequence_sojourns (arrive ∷ arrives) (fate ∷ fates) = sequence_sojourn arrive fate ∷ sequence_sojourns arrives fates
+abbrev pub sequence_sojourns : ℕ → List ℕ → List Fate → List ℕ
+sequence_sojourns span [] fates = []
+sequence_sojourns span (arrive ∷ arrives) [] = []
+sequence_sojourns span (arrive ∷ arrives) (fate ∷ fates) = sequence_sojourn span arrive fate ∷ sequence_sojourns span arrives fates
 
 -- how long a visit was served; a lost one wasn't
 abbrev pub sequence_service : Rows → Kind → ℕ → Fate → ℕ
 sequence_service rows kind job (Departs time) = service_time rows kind job
 sequence_service rows kind job Lost = 0
+sequence_service rows kind job Held = service_time rows kind job
 
 -- the service of each visit
 abbrev pub sequence_services : Rows → Kind → List ℕ → List Fate → List ℕ
@@ -99,35 +103,20 @@ sequence_services rows kind [] fates = []
 sequence_services rows kind (job ∷ jobs) [] = []
 sequence_services rows kind (job ∷ jobs) (fate ∷ fates) = sequence_service rows kind job fate ∷ sequence_services rows kind jobs fates
 
--- the number just after a visit came; 0 for a lost one
-abbrev pub one_more : ℕ → Fate → ℕ
-one_more found (Departs time) = found + 1
-one_more found Lost = 0
-
--- for each visit the number in the node just after it came; 0 for a lost one
-abbrev pub sequence_numbers : List ℕ → List Fate → List ℕ
-sequence_numbers [] fates = []
-sequence_numbers (found ∷ founds) [] = []
-sequence_numbers (found ∷ founds) (fate ∷ fates) = one_more found fate ∷ sequence_numbers founds fates
-
--- the greatest number just after an arrival; 0 at a source or a split, which hold no job
-abbrev pub sequence_peak : Kind → List ℕ → List Fate → ℕ
-sequence_peak kind founds fates = if (behaviour_of kind).holds then fold max 0 (sequence_numbers founds fates) else 0
-
--- the totals of a node, from its visits alone
-abbrev pub sequence_totals : Rows → Kind → Visits → Totals
-sequence_totals rows kind visits =
-    let lost = count_by is_lost visits.fate in
+-- the totals of a node, from its visits and the span of the run
+abbrev pub sequence_totals : Rows → Kind → Visits → ℕ → Totals
+sequence_totals rows kind visits span =
     let waits = sequence_waits rows kind visits.job visits.arrive visits.fate in
     record {
       came = length visits.job;
-      left = length visits.job - lost;
-      lost = lost;
+      left = count_by is_departed visits.fate;
+      lost = count_by is_lost visits.fate;
+      held = count_by is_held visits.fate;
       wait = sum waits;
       longest = fold max 0 waits;
       busy = sum (sequence_services rows kind visits.job visits.fate);
-      area = sum (sequence_sojourns visits.arrive visits.fate);
-      peak = sequence_peak kind visits.found visits.fate;
+      area = sum (sequence_sojourns span visits.arrive visits.fate);
+      peak = peak_of kind visits.found visits.fate;
     }
 
 -- how long each of these jobs was in the network when it left by an output
@@ -154,9 +143,9 @@ sequence_late_from bound node position [] = []
 sequence_late_from bound node position (fate ∷ fates) =
     late_fate bound node position (Some fate) ++ sequence_late_from bound node (suc position) fates
 
--- the visits of a node that depart after the bound, in order
-abbrev pub sequence_late : ℕ → ℕ → Visits → List Late
-sequence_late bound node visits = sequence_late_from bound node 0 visits.fate
+-- why a node is refused that has these visits
+abbrev pub sequence_refusal : ℕ → ℕ → Visits → Option Refusal
+sequence_refusal bound node visits = refusal_by node (length visits.job) (first_of (sequence_late_from bound node 0 visits.fate))
 
 -- The sequences of a state, node by node from this one on.
 abbrev pub visits_by_node : State Local → ℕ → List Node → List Visits

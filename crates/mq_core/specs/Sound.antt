@@ -15,6 +15,10 @@ use Rattle.mq_core.specs.Ranges.{is_within}
 abbrev pub is_sound_kind : ℕ → Kind → Bool
 is_sound_kind columns kind = (behaviour_of kind).sound columns
 
+-- the version of the models' language from which on a kind stands in models
+abbrev pub version_of : Kind → ℕ
+version_of kind = (behaviour_of kind).version
+
 -- how many outputs a kind has
 abbrev pub outputs_in : Kind → ℕ
 outputs_in kind = (behaviour_of kind).outputs
@@ -54,11 +58,13 @@ mentions_from next columns [] = next == columns
 mentions_from next columns (column ∷ more) =
     ((column == next) && mentions_from (suc next) columns more) || (nat_lt column next && mentions_from next columns more)
 
--- a network in its limits: 1 to 64 nodes, at most 16 columns, a bound of at most 2^60, a source, distinct names,
--- sound nodes, no output that is read twice, and its columns all mentioned and in order of first mention
+-- a network in its limits: version 1 or 2, kinds that stand in models of that version, 1 to 64 nodes, at most 16 columns, a bound
+-- of at most 2^60, a source, distinct names, sound nodes, no output that is read twice, and its columns all mentioned and in order
+-- of first mention
 abbrev pub is_sound : Network → Bool
 is_sound net =
-    is_within 1 64 (length net.nodes) && nat_le (length net.columns) 16 && nat_le net.bound (2 ^ 60)
+    is_within 1 2 net.version && list_all (λ (node : Node). nat_le (version_of node.kind) net.version) net.nodes
+    && is_within 1 64 (length net.nodes) && nat_le (length net.columns) 16 && nat_le net.bound (2 ^ 60)
     && list_any (λ (node : Node). is_source_kind node.kind) net.nodes
     && are_distinct bytes_eq (map (λ (node : Node). node.name) net.nodes)
     && list_all is_name net.columns && are_distinct bytes_eq net.columns

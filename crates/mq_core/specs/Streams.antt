@@ -10,6 +10,10 @@ use Rattle.mq_core.specs.declared.model.Stream.{Stream}
 abbrev pub pairs_of : Stream → List (ℕ × ℕ)
 pairs_of stream = zip stream.time stream.job
 
+-- the time and the job of each item, with the port by which it comes
+abbrev pub by_port : ℕ → Stream → List (ℕ × ℕ × ℕ)
+by_port port stream = map {B = ℕ × ℕ × ℕ} (λ (p : ℕ × ℕ). (p.0, port, p.1)) (pairs_of stream)
+
 -- these by time, those of one time in their order
 abbrev pub by_first : List (ℕ × ℕ) → List (ℕ × ℕ)
 by_first pairs = in_order_of (λ (p : ℕ × ℕ). p.0) pairs

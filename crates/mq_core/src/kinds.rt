@@ -9,7 +9,7 @@ use crate::model::{Demand, Kind, Route};
 use mq_base::List;
 
 /// How many outputs a node of this kind has: those that its route chooses from at a split, 2 at a
-/// loss station, of which the second is for those that are lost, else 1.
+/// loss station, of which the second is for those that are lost, those that it has at a fork, else 1.
 ///
 /// They are at most 8, as for every kind in a plan.
 pub fn outputs_of(kind: &Kind) -> u8
@@ -21,6 +21,8 @@ pub fn outputs_of(kind: &Kind) -> u8
         Kind::Loss { .. } => 2,
         Kind::Tandem(_) | Kind::ForkJoin(_) => 1,
         Kind::Split(route) => outputs_of_route(route),
+        Kind::Fork { outputs } => *outputs,
+        Kind::Join => 1,
     }
 }
 
@@ -38,8 +40,8 @@ pub fn outputs_of_route(route: &Route) -> u8
 }
 
 /// How many servers a node of this kind has, by which its utilisation is reckoned: one for each
-/// stage of a tandem, those of all branches at a fork-join, and 0 at a source, a delay or a split,
-/// which have none.
+/// stage of a tandem, those of all branches at a fork-join, and 0 at a source, a delay, a split, a
+/// fork or a join, which have none.
 ///
 /// They are at most 8, as for every kind in a plan.
 pub fn servers_of(kind: &Kind) -> u8
@@ -52,6 +54,7 @@ pub fn servers_of(kind: &Kind) -> u8
         Kind::Tandem(stages) => stages.len() as u8,
         Kind::ForkJoin(branches) => servers_of_branches(branches),
         Kind::Source | Kind::Delay(_) | Kind::Split(_) => 0,
+        Kind::Fork { .. } | Kind::Join => 0,
     }
 }
 

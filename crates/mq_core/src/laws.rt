@@ -4,9 +4,9 @@ ghost use Rattle.mq_core.specs.NetworkRun.{RunsAreOfNetworks};
 ghost use Rattle.mq_core.specs.PlanLaws.{NodesAreInLimits, OrdersRank, RowsTellDemands};
 ghost use Rattle.mq_core.specs.Alone.{NodesFlowAlone};
 ghost use Rattle.mq_core.specs.Bounded.{DeparturesAreBounded};
-ghost use Rattle.mq_core.specs.Fates.{AreasAreSojourns, BusyIsServices, FoundsAreCounts, PeakIsGreatest, RunEnds, SpanIsLatest};
-ghost use Rattle.mq_core.specs.SequenceLaws.{ArrivalsAreStreams, SequencesAreBlind, SequencesGoByFates, DepartsInTime, FatesAreInTime, JobsAreRows, MergesTwice, NoKindCopies, NodesAreSequences, NodesFlow, OrdersKeepItems, StreamsRise, VisitsAreFew, VisitsStayBareTime};
-ghost use Rattle.mq_core.specs.NumberLaws.{ExitsAreStreams, OnTimeGrows, PastIsFirst, PastIsNone, SpanIsSequences, TotalsAreSequences};
+ghost use Rattle.mq_core.specs.Fates.{AreasAreSojourns, BusyIsServices, FoundsAreCounts, HeldAreEntries, RunEnds, SpanIsLatest};
+ghost use Rattle.mq_core.specs.SequenceLaws.{ArrivalsAreStreams, SequencesAreBlind, SequencesGoByFates, DepartsInTime, FatesAreInTime, JobsAreRows, MergesTwice, FirstVersionCopiesNothing, NodesAreSequences, NodesFlow, OrdersKeepItems, StreamsRise, VisitsAreFew, VisitsStayBareTime};
+ghost use Rattle.mq_core.specs.NumberLaws.{ExitsAreStreams, FineGrows, RefusalIsFirst, RefusalIsNone, SpanIsSequences, TotalsAreSequences};
 ghost use Rattle.mq_core.specs.RunLaws.{SequencesMakeRuns, OutputsHaveStreams, RunsHaveSequences, StreamsMakeOutputs};
 
 use crate::handlers::Handlers;
@@ -26,10 +26,16 @@ pub fn nodes_run_alone<H: Handlers>()
     ensures { NodesRunAlone H.opening H.handle H.jobs H.working }
 {}
 
-/// The run has ended: nothing is pending, visits stay in no node for good, so that each has its
-/// fate, and each node holds those that haven't left, which are none.
+/// The run has ended: nothing is pending, and each node holds the visits that haven't left, which
+/// are none where visits don't stay for good, so that there each has its fate.
 pub fn the_run_ends()
     ensures { RunEnds }
+{}
+
+/// At each moment of a run, the visits to a join that haven't left are those that have an entry in it:
+/// a visit departs when its entry is taken out, and is held where it never is.
+pub fn held_are_entries()
+    ensures { HeldAreEntries }
 {}
 
 /// The area of a node is the sum of the sojourns of its visits.
@@ -52,12 +58,6 @@ pub fn busy_is_services()
     ensures { BusyIsServices }
 {}
 
-/// The peak of a node that holds jobs is the greatest number found by a visit that isn't lost,
-/// plus 1.
-pub fn peak_is_greatest()
-    ensures { PeakIsGreatest }
-{}
-
 /// The span is the greatest time of a visit.
 pub fn span_is_latest()
     ensures { SpanIsLatest }
@@ -68,7 +68,7 @@ pub fn visits_are_arrivals<H: Handlers>()
     ensures { VisitsAreArrivals H.opening H.handle H.jobs H.working }
 {}
 
-/// The run of a plan, and its first departure past the bound, are those of its network.
+/// The run of a plan, and its refusal, are those of its network.
 pub fn runs_are_of_networks()
     ensures { RunsAreOfNetworks }
 {}
@@ -105,19 +105,19 @@ pub fn span_is_sequences()
     ensures { SpanIsSequences }
 {}
 
-/// Where no node below a rank has a late visit, the first of the node at that rank is the first of all.
-pub fn past_is_first()
-    ensures { PastIsFirst }
+/// Where no node below a rank is refused, the refusal of the node at that rank is that of the run.
+pub fn refusal_is_first()
+    ensures { RefusalIsFirst }
 {}
 
-/// Where no node has a late visit, no departure passes the bound.
-pub fn past_is_none()
-    ensures { PastIsNone }
+/// Where no node is refused, the run isn't.
+pub fn refusal_is_none()
+    ensures { RefusalIsNone }
 {}
 
-/// That no node below a rank has a late visit, one rank further.
-pub fn on_time_grows()
-    ensures { OnTimeGrows }
+/// That no node below a rank is refused, one rank further.
+pub fn fine_grows()
+    ensures { FineGrows }
 {}
 
 /// What a node lets out is the recurrence of its kind over its visits.
@@ -130,13 +130,14 @@ pub fn nodes_are_sequences()
     ensures { NodesAreSequences }
 {}
 
-/// What the visits of a node found, and what leaves by an output, go by the fates of its visits and
-/// the output of each.
+/// Where each visit leaves once, alone, what the visits of a node found, and what leaves by an output,
+/// go by the fates of its visits and the output of each.
 pub fn sequences_go_by_fates()
     ensures { SequencesGoByFates }
 {}
 
-/// By which ports jobs came to a node changes nothing in its sequences.
+/// By which ports jobs came to a node changes nothing in its sequences where visits don't stay for
+/// good.
 pub fn sequences_are_blind()
     ensures { SequencesAreBlind }
 {}
@@ -166,7 +167,7 @@ pub fn jobs_are_rows()
     ensures { JobsAreRows }
 {}
 
-/// No job departs from a node before it came.
+/// No job departs before it came from a node where visits don't stay for good.
 pub fn fates_are_in_time()
     ensures { FatesAreInTime }
 {}
@@ -181,9 +182,9 @@ pub fn visits_stay_their_bare_time()
     ensures { VisitsStayBareTime }
 {}
 
-/// No kind of node lets out more than one job by an event.
-pub fn no_kind_copies()
-    ensures { NoKindCopies }
+/// No node of a network of the first version lets out more than one job by an event.
+pub fn first_version_copies_nothing()
+    ensures { FirstVersionCopiesNothing }
 {}
 
 /// Where no node of a network lets out more than one job by an event, a job visits a node at most
@@ -212,8 +213,8 @@ pub fn streams_make_outputs()
     ensures { StreamsMakeOutputs }
 {}
 
-/// No departure passes the bound of a network where no node lets out more than one job by an event
-/// and the rows come early enough: where the bound is no earlier than the time of the latest row
+/// No run of a network is refused where no node lets out more than one job by an event and the rows
+/// come early enough: where the bound is no earlier than the time of the latest row
 /// and 2^39 ticks for each row at each node, which are the greatest demands of 8 servers.
 pub fn departures_are_bounded()
     ensures { DeparturesAreBounded }
@@ -223,9 +224,8 @@ pub fn departures_are_bounded()
     rows_tell_demands();
     visits_are_few();
     jobs_are_rows();
-    orders_keep_items();
     nodes_are_in_limits();
     runs_are_of_networks();
-    past_is_none();
+    refusal_is_none();
     orders_rank();
 }

@@ -14,14 +14,14 @@ pub use handlers::{Handlers, Standard};
 pub use kinds::{outputs_of, outputs_of_route, servers_of};
 pub use laws::{
     areas_are_sojourns, arrivals_are_read, arrivals_are_streams, busy_is_services, departs_in_time,
-    departures_are_bounded, events_go_forward, exits_are_streams, fates_are_in_time,
-    founds_are_counts, jobs_are_rows, merges_twice, no_kind_copies, nodes_are_in_limits,
-    nodes_are_sequences, nodes_flow, nodes_flow_alone, nodes_run_alone, on_time_grows,
-    orders_keep_items, orders_rank, outputs_have_streams, past_is_first, past_is_none,
-    peak_is_greatest, rows_tell_demands, runs_are_of_networks, runs_have_sequences,
-    sequences_are_blind, sequences_go_by_fates, sequences_make_runs, span_is_latest,
-    span_is_sequences, streams_make_outputs, streams_rise, the_run_ends, totals_are_sequences,
-    visits_are_arrivals, visits_are_few, visits_stay_their_bare_time,
+    departures_are_bounded, events_go_forward, exits_are_streams, fates_are_in_time, fine_grows,
+    first_version_copies_nothing, founds_are_counts, held_are_entries, jobs_are_rows, merges_twice,
+    nodes_are_in_limits, nodes_are_sequences, nodes_flow, nodes_flow_alone, nodes_run_alone,
+    orders_keep_items, orders_rank, outputs_have_streams, refusal_is_first, refusal_is_none,
+    rows_tell_demands, runs_are_of_networks, runs_have_sequences, sequences_are_blind,
+    sequences_go_by_fates, sequences_make_runs, span_is_latest, span_is_sequences,
+    streams_make_outputs, streams_rise, the_run_ends, totals_are_sequences, visits_are_arrivals,
+    visits_are_few, visits_stay_their_bare_time,
 };
 pub use model::{
     Demand, Fate, Input, Kind, Network, Node, Plan, Route, Rows, Run, Stage, Stream, Visits,

@@ -67,6 +67,11 @@ pub enum Kind {
     ForkJoin(List<List<Demand>>),
     /// Sends each job on at once, by one of its outputs.
     Split(Route),
+    /// Sends each job on at once by each of its outputs, of which there are 2 to 4.
+    Fork { outputs: u8 },
+    /// Puts together what comes by all its ports, of which there are 2 to 8: the first of a job by each
+    /// port go on as one when the last of them comes, and so do the second, and so on.
+    Join,
 }
 
 /// A node of a network.
@@ -89,14 +94,18 @@ pub struct Network {
     pub columns: List<List<u8>>,
     /// The latest time, in ticks, at which a job may depart.
     pub bound: u64,
+    /// The version of the language that the model is written in, 1 or 2. Forks and joins are nodes of
+    /// models of version 2 alone.
+    pub version: u8,
 }
 
 /// A network that is sound and has no cycle, with its nodes in an order of simulation.
 ///
 /// The type keeps the limits and ranges of the network: 1 to 64 nodes, of which one is a source, at
-/// most 16 columns, a bound of at most 2^60, distinct names, inputs that name an output of the
-/// network, no output that is read twice, and columns that are all mentioned, in order of first
-/// mention. It also keeps that `order` is the ranking of the nodes and holds them all.
+/// most 16 columns, a bound of at most 2^60, a version that has the kinds of all nodes, distinct
+/// names, inputs that name an output of the network, no output that is read twice, and columns that
+/// are all mentioned, in order of first mention. It also keeps that `order` is the ranking of the
+/// nodes and holds them all.
 #[derive(Drop)]
 pub struct Plan {
     /// The network.
@@ -138,6 +147,8 @@ pub enum Fate {
     Departs(u64),
     /// The job found no place and was lost when it came.
     Lost,
+    /// The job is in the node for good: what it waits for never comes.
+    Held,
 }
 
 /// The visits of jobs to a node: four lists of one length, one item a visit, by position.

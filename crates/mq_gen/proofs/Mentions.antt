@@ -5,7 +5,7 @@ use Rattle.std.specs.List.{list_all}
 use Rattle.std.specs.Str.{bytes_eq}
 use Rattle.std.proofs.lemmas.Bool.{and_from, and_parts, le-leb, leb-true}
 use Rattle.mq_core.specs.Names.{is_name}
-use Rattle.mq_core.specs.Sound.{are_distinct, columns_of_kind, is_sound_kind, mentions_from, outputs_in}
+use Rattle.mq_core.specs.Sound.{are_distinct, columns_of_kind, is_sound_kind, mentions_from, outputs_in, version_of}
 use Rattle.mq_core.specs.Ranges.{is_within}
 use Rattle.mq_core.specs.Wiring.{is_source_kind}
 use Rattle.mq_core.specs.declared.model.Kind.{Kind}
@@ -82,6 +82,7 @@ pub record Suits (before after : List (List ℕ)) (k : Kind) : Type 0 where
   pub mentions : mentions_from (length before) (length after) (columns_of_kind k) ≡ true
   pub kind : is_sound_kind (length after) k ≡ true
   pub station : is_source_kind k ≡ false
+  pub first : nat_le (version_of k) 1 ≡ true
   pub outputs : (outputs_in k ≡ 1) ⊎ (outputs_in k ≡ 2)
 
 -- the section of this draw suits these columns
@@ -98,46 +99,46 @@ loss_places places h =
     and_from _ _ both.0 (le-leb places 1048576 (omega arith))
 
 server : (m : Mentioned) (places : ℕ) → SectionSuits (columns_in m) 0 places
-server Neither places = record { mentioned = OnlyA; columns = refl; grows = refl; mentions = refl; kind = refl; station = refl; outputs = inl refl }
-server OnlyA places = record { mentioned = OnlyA; columns = refl; grows = refl; mentions = refl; kind = refl; station = refl; outputs = inl refl }
-server OnlyB places = record { mentioned = BThenA; columns = refl; grows = refl; mentions = refl; kind = refl; station = refl; outputs = inl refl }
-server AThenB places = record { mentioned = AThenB; columns = refl; grows = refl; mentions = refl; kind = refl; station = refl; outputs = inl refl }
-server BThenA places = record { mentioned = BThenA; columns = refl; grows = refl; mentions = refl; kind = refl; station = refl; outputs = inl refl }
+server Neither places = record { mentioned = OnlyA; columns = refl; grows = refl; mentions = refl; kind = refl; station = refl; first = refl; outputs = inl refl }
+server OnlyA places = record { mentioned = OnlyA; columns = refl; grows = refl; mentions = refl; kind = refl; station = refl; first = refl; outputs = inl refl }
+server OnlyB places = record { mentioned = BThenA; columns = refl; grows = refl; mentions = refl; kind = refl; station = refl; first = refl; outputs = inl refl }
+server AThenB places = record { mentioned = AThenB; columns = refl; grows = refl; mentions = refl; kind = refl; station = refl; first = refl; outputs = inl refl }
+server BThenA places = record { mentioned = BThenA; columns = refl; grows = refl; mentions = refl; kind = refl; station = refl; first = refl; outputs = inl refl }
 
 delay : (m : Mentioned) (places : ℕ) → SectionSuits (columns_in m) 1 places
-delay Neither places = record { mentioned = OnlyB; columns = refl; grows = refl; mentions = refl; kind = refl; station = refl; outputs = inl refl }
-delay OnlyA places = record { mentioned = AThenB; columns = refl; grows = refl; mentions = refl; kind = refl; station = refl; outputs = inl refl }
-delay OnlyB places = record { mentioned = OnlyB; columns = refl; grows = refl; mentions = refl; kind = refl; station = refl; outputs = inl refl }
-delay AThenB places = record { mentioned = AThenB; columns = refl; grows = refl; mentions = refl; kind = refl; station = refl; outputs = inl refl }
-delay BThenA places = record { mentioned = BThenA; columns = refl; grows = refl; mentions = refl; kind = refl; station = refl; outputs = inl refl }
+delay Neither places = record { mentioned = OnlyB; columns = refl; grows = refl; mentions = refl; kind = refl; station = refl; first = refl; outputs = inl refl }
+delay OnlyA places = record { mentioned = AThenB; columns = refl; grows = refl; mentions = refl; kind = refl; station = refl; first = refl; outputs = inl refl }
+delay OnlyB places = record { mentioned = OnlyB; columns = refl; grows = refl; mentions = refl; kind = refl; station = refl; first = refl; outputs = inl refl }
+delay AThenB places = record { mentioned = AThenB; columns = refl; grows = refl; mentions = refl; kind = refl; station = refl; first = refl; outputs = inl refl }
+delay BThenA places = record { mentioned = BThenA; columns = refl; grows = refl; mentions = refl; kind = refl; station = refl; first = refl; outputs = inl refl }
 
 loss : (m : Mentioned) (places : ℕ) → is_within 1 4 places ≡ true → SectionSuits (columns_in m) 2 places
-loss Neither places h = record { mentioned = OnlyA; columns = refl; grows = refl; mentions = refl; kind = and_from _ _ (loss_places places h) refl; station = refl; outputs = inr refl }
-loss OnlyA places h = record { mentioned = OnlyA; columns = refl; grows = refl; mentions = refl; kind = and_from _ _ (loss_places places h) refl; station = refl; outputs = inr refl }
-loss OnlyB places h = record { mentioned = BThenA; columns = refl; grows = refl; mentions = refl; kind = and_from _ _ (loss_places places h) refl; station = refl; outputs = inr refl }
-loss AThenB places h = record { mentioned = AThenB; columns = refl; grows = refl; mentions = refl; kind = and_from _ _ (loss_places places h) refl; station = refl; outputs = inr refl }
-loss BThenA places h = record { mentioned = BThenA; columns = refl; grows = refl; mentions = refl; kind = and_from _ _ (loss_places places h) refl; station = refl; outputs = inr refl }
+loss Neither places h = record { mentioned = OnlyA; columns = refl; grows = refl; mentions = refl; kind = and_from _ _ (loss_places places h) refl; station = refl; first = refl; outputs = inr refl }
+loss OnlyA places h = record { mentioned = OnlyA; columns = refl; grows = refl; mentions = refl; kind = and_from _ _ (loss_places places h) refl; station = refl; first = refl; outputs = inr refl }
+loss OnlyB places h = record { mentioned = BThenA; columns = refl; grows = refl; mentions = refl; kind = and_from _ _ (loss_places places h) refl; station = refl; first = refl; outputs = inr refl }
+loss AThenB places h = record { mentioned = AThenB; columns = refl; grows = refl; mentions = refl; kind = and_from _ _ (loss_places places h) refl; station = refl; first = refl; outputs = inr refl }
+loss BThenA places h = record { mentioned = BThenA; columns = refl; grows = refl; mentions = refl; kind = and_from _ _ (loss_places places h) refl; station = refl; first = refl; outputs = inr refl }
 
 tandem : (m : Mentioned) (places : ℕ) → is_within 1 4 places ≡ true → SectionSuits (columns_in m) 3 places
-tandem Neither places h = record { mentioned = AThenB; columns = refl; grows = refl; mentions = refl; kind = and_from _ _ refl (and_from _ _ (and_from _ _ h refl) refl); station = refl; outputs = inl refl }
-tandem OnlyA places h = record { mentioned = AThenB; columns = refl; grows = refl; mentions = refl; kind = and_from _ _ refl (and_from _ _ (and_from _ _ h refl) refl); station = refl; outputs = inl refl }
-tandem OnlyB places h = record { mentioned = BThenA; columns = refl; grows = refl; mentions = refl; kind = and_from _ _ refl (and_from _ _ (and_from _ _ h refl) refl); station = refl; outputs = inl refl }
-tandem AThenB places h = record { mentioned = AThenB; columns = refl; grows = refl; mentions = refl; kind = and_from _ _ refl (and_from _ _ (and_from _ _ h refl) refl); station = refl; outputs = inl refl }
-tandem BThenA places h = record { mentioned = BThenA; columns = refl; grows = refl; mentions = refl; kind = and_from _ _ refl (and_from _ _ (and_from _ _ h refl) refl); station = refl; outputs = inl refl }
+tandem Neither places h = record { mentioned = AThenB; columns = refl; grows = refl; mentions = refl; kind = and_from _ _ refl (and_from _ _ (and_from _ _ h refl) refl); station = refl; first = refl; outputs = inl refl }
+tandem OnlyA places h = record { mentioned = AThenB; columns = refl; grows = refl; mentions = refl; kind = and_from _ _ refl (and_from _ _ (and_from _ _ h refl) refl); station = refl; first = refl; outputs = inl refl }
+tandem OnlyB places h = record { mentioned = BThenA; columns = refl; grows = refl; mentions = refl; kind = and_from _ _ refl (and_from _ _ (and_from _ _ h refl) refl); station = refl; first = refl; outputs = inl refl }
+tandem AThenB places h = record { mentioned = AThenB; columns = refl; grows = refl; mentions = refl; kind = and_from _ _ refl (and_from _ _ (and_from _ _ h refl) refl); station = refl; first = refl; outputs = inl refl }
+tandem BThenA places h = record { mentioned = BThenA; columns = refl; grows = refl; mentions = refl; kind = and_from _ _ refl (and_from _ _ (and_from _ _ h refl) refl); station = refl; first = refl; outputs = inl refl }
 
 forkjoin : (m : Mentioned) (places : ℕ) → SectionSuits (columns_in m) 4 places
-forkjoin Neither places = record { mentioned = AThenB; columns = refl; grows = refl; mentions = refl; kind = refl; station = refl; outputs = inl refl }
-forkjoin OnlyA places = record { mentioned = AThenB; columns = refl; grows = refl; mentions = refl; kind = refl; station = refl; outputs = inl refl }
-forkjoin OnlyB places = record { mentioned = BThenA; columns = refl; grows = refl; mentions = refl; kind = refl; station = refl; outputs = inl refl }
-forkjoin AThenB places = record { mentioned = AThenB; columns = refl; grows = refl; mentions = refl; kind = refl; station = refl; outputs = inl refl }
-forkjoin BThenA places = record { mentioned = BThenA; columns = refl; grows = refl; mentions = refl; kind = refl; station = refl; outputs = inl refl }
+forkjoin Neither places = record { mentioned = AThenB; columns = refl; grows = refl; mentions = refl; kind = refl; station = refl; first = refl; outputs = inl refl }
+forkjoin OnlyA places = record { mentioned = AThenB; columns = refl; grows = refl; mentions = refl; kind = refl; station = refl; first = refl; outputs = inl refl }
+forkjoin OnlyB places = record { mentioned = BThenA; columns = refl; grows = refl; mentions = refl; kind = refl; station = refl; first = refl; outputs = inl refl }
+forkjoin AThenB places = record { mentioned = AThenB; columns = refl; grows = refl; mentions = refl; kind = refl; station = refl; first = refl; outputs = inl refl }
+forkjoin BThenA places = record { mentioned = BThenA; columns = refl; grows = refl; mentions = refl; kind = refl; station = refl; first = refl; outputs = inl refl }
 
 split : (m : Mentioned) (places : ℕ) → SectionSuits (columns_in m) 5 places
-split Neither places = record { mentioned = Neither; columns = refl; grows = refl; mentions = refl; kind = refl; station = refl; outputs = inr refl }
-split OnlyA places = record { mentioned = OnlyA; columns = refl; grows = refl; mentions = refl; kind = refl; station = refl; outputs = inr refl }
-split OnlyB places = record { mentioned = OnlyB; columns = refl; grows = refl; mentions = refl; kind = refl; station = refl; outputs = inr refl }
-split AThenB places = record { mentioned = AThenB; columns = refl; grows = refl; mentions = refl; kind = refl; station = refl; outputs = inr refl }
-split BThenA places = record { mentioned = BThenA; columns = refl; grows = refl; mentions = refl; kind = refl; station = refl; outputs = inr refl }
+split Neither places = record { mentioned = Neither; columns = refl; grows = refl; mentions = refl; kind = refl; station = refl; first = refl; outputs = inr refl }
+split OnlyA places = record { mentioned = OnlyA; columns = refl; grows = refl; mentions = refl; kind = refl; station = refl; first = refl; outputs = inr refl }
+split OnlyB places = record { mentioned = OnlyB; columns = refl; grows = refl; mentions = refl; kind = refl; station = refl; first = refl; outputs = inr refl }
+split AThenB places = record { mentioned = AThenB; columns = refl; grows = refl; mentions = refl; kind = refl; station = refl; first = refl; outputs = inr refl }
+split BThenA places = record { mentioned = BThenA; columns = refl; grows = refl; mentions = refl; kind = refl; station = refl; first = refl; outputs = inr refl }
 
 pub section_suits : (m : Mentioned) (drawn places : ℕ) → drawn < 6 → has_places drawn places ≡ true → SectionSuits (columns_in m) drawn places
 section_suits m drawn places low h =

@@ -5,7 +5,7 @@ use Rattle.std.specs.List.{flat_map, list_all, list_any}
 use Rattle.std.specs.Str.{bytes_eq}
 use Rattle.std.proofs.lemmas.Bool.{and_from, le-leb}
 use Rattle.mq_core.specs.Names.{is_name}
-use Rattle.mq_core.specs.Sound.{are_distinct, is_sound, same_input}
+use Rattle.mq_core.specs.Sound.{are_distinct, is_sound, same_input, version_of}
 use Rattle.mq_core.specs.Ranges.{is_within}
 use Rattle.mq_core.specs.Wiring.{is_source_kind, ranking}
 use Rattle.mq_core.specs.declared.model.Node.{Node}
@@ -36,7 +36,8 @@ made_sound count s few made =
     let named : list_all is_name s.columns ≡ true = ap (list_all is_name) made.columns ∙ columns_named made.mentioned in
     let apart : are_distinct bytes_eq s.columns ≡ true = ap (are_distinct bytes_eq) made.columns ∙ columns_distinct made.mentioned in
     let once : are_distinct same_input (flat_map inputs_in s.nodes) ≡ true = distinct_front same_input (flat_map inputs_in s.nodes) s.ends made.once in
-    and_from _ _ (and_from _ _ (and_from _ _ (and_from _ _ (and_from _ _ (and_from _ _ (and_from _ _ (and_from _ _ (and_from _ _ within narrow) refl) source) distinct) named) apart) made.sound) once) made.mentions
+    let first : list_all (λ (node : Node). nat_le (version_of node.kind) 1) s.nodes ≡ true = ap (list_all (λ (node : Node). nat_le (version_of node.kind) 1)) made.nodes ∙ made.first in
+    and_from _ _ (and_from _ _ (and_from _ _ (and_from _ _ (and_from _ _ (and_from _ _ (and_from _ _ (and_from _ _ (and_from _ _ (and_from _ _ first within) narrow) refl) source) distinct) named) apart) made.sound) once) made.mentions
 
 pub drawn_sound : (generator : Lcg) → is_sound (network_from (sections_from generator)) ≡ true
 drawn_sound generator = made_sound (sections_count generator) (sections_from generator) (few_sections generator) (all_made generator)

@@ -1,6 +1,6 @@
 -- What holds of the sections that a generator draws, however many are drawn.
 use Rattle.std.proofs.Common.{◌≡◌, ◌∙◌, refl, sym, subst, ap, ℕ, zero, suc, ◌+◌, ◌-◌, ◌<◌, ◌≤◌, List, [], ◌∷◌, ◌++◌, length, Bool, true, false, cond, Some, arith, inl, inr}
-use Rattle.std.specs.Prelude.{◌%◌, ◌==◌, ◌⊎◌, map, nat_lt, not, slice_get}
+use Rattle.std.specs.Prelude.{◌%◌, ◌==◌, ◌⊎◌, map, nat_le, nat_lt, not, slice_get}
 use Rattle.std.specs.Fmt.{digits}
 use Rattle.std.specs.List.{flat_map, list_all}
 use Rattle.std.proofs.lemmas.Bool.{and_from, eq-eqb, leb-true, lt-ltb, not_from_false}
@@ -9,12 +9,12 @@ use Rattle.std.proofs.lemmas.List.{append-nil, length-append, length-map, map-ap
 use Rattle.std.proofs.lemmas.List.Folds.{list_all-append}
 use Rattle.mq_base.proofs.lemmas.Tests.{list_all_wider}
 use Rattle.mq_core.specs.Names.{is_name}
-use Rattle.mq_core.specs.Sound.{are_distinct, columns_of_kind, is_output, is_sound_count, is_sound_node, mentions_from, outputs_in, same_input}
+use Rattle.mq_core.specs.Sound.{are_distinct, columns_of_kind, is_output, is_sound_count, is_sound_node, mentions_from, outputs_in, same_input, version_of}
 use Rattle.mq_core.specs.Ranges.{is_within}
 use Rattle.mq_core.specs.Wiring.{is_source_kind}
 use Rattle.mq_core.specs.declared.model.Input.{Input}
 use Rattle.mq_core.specs.declared.model.Kind.{Kind}
-use Rattle.mq_core.specs.declared.model.Kind.TheVariants.{Source, Server, Delay, Loss, Tandem, ForkJoin, Split}
+use Rattle.mq_core.specs.declared.model.Kind.TheVariants.{Source, Server, Delay, Loss, Tandem, ForkJoin, Split, Fork, Join}
 use Rattle.mq_core.specs.declared.model.Node.{Node}
 use Rattle.rand_pcg.specs.Lcg.{Lcg}
 use Rattle.rand_pcg.specs.Pcg.{pcg32}
@@ -37,6 +37,10 @@ columns_at node = columns_of_kind node.kind
 abbrev pub is_station : Node → Bool
 is_station node = not (is_source_kind node.kind)
 
+-- the first version of the models' language has its kind
+abbrev pub is_first : Node → Bool
+is_first node = nat_le (version_of node.kind) 1
+
 -- an input reads an output of one of these nodes
 abbrev is_given : List Node → Input → Bool
 is_given nodes i = is_output (slice_get nodes i.node) i.out
@@ -49,6 +53,7 @@ pub record AreMade (count : ℕ) (s : Sections) : Type 0 where
   pub nodes : s.nodes ≡ source_node 0 ∷ source_node 1 ∷ later
   pub names : map name_of later ≡ section_names count
   pub stations : list_all is_station later ≡ true
+  pub first : list_all is_first later ≡ true
   pub sound : list_all (is_sound_node (length s.columns) s.nodes) s.nodes ≡ true
   pub forward : forward_from 0 s.nodes ≡ true
   pub once : are_distinct same_input (flat_map inputs_in s.nodes ++ s.ends) ≡ true
@@ -65,6 +70,7 @@ none_made generator = record {
   nodes = refl;
   names = refl;
   stations = refl;
+  first = refl;
   sound = refl;
   forward = refl;
   once = refl;
@@ -82,15 +88,17 @@ nodes_count count s made =
     let later : length made.later ≡ count = sym (length-map made.later name_of) ∙ ap length made.names ∙ names_count count in
     ap length made.nodes ∙ omega arith
 
--- a station reads at 1 to 8 ports
-count_sound : (kind : Kind) (ports : ℕ) → is_source_kind kind ≡ false → is_within 1 8 ports ≡ true → is_sound_count kind ports ≡ true
-count_sound Source ports h k = absurd (cc)
-count_sound (Server d) ports h k = k
-count_sound (Delay d) ports h k = k
-count_sound (Loss places d) ports h k = k
-count_sound (Tandem stages) ports h k = k
-count_sound (ForkJoin branches) ports h k = k
-count_sound (Split route) ports h k = k
+-- a station of the first version reads at 1 to 8 ports
+count_sound : (kind : Kind) (ports : ℕ) → is_source_kind kind ≡ false → nat_le (version_of kind) 1 ≡ true → is_within 1 8 ports ≡ true → is_sound_count kind ports ≡ true
+count_sound Source ports h first k = absurd (cc)
+count_sound (Server d) ports h first k = k
+count_sound (Delay d) ports h first k = k
+count_sound (Loss places d) ports h first k = k
+count_sound (Tandem stages) ports h first k = k
+count_sound (ForkJoin branches) ports h first k = k
+count_sound (Split route) ports h first k = k
+count_sound (Fork outputs) ports h first k = absurd (cc)
+count_sound Join ports h first k = absurd (cc)
 
 -- the outputs of a node are distinct, and outputs that it has
 record AreOutputs (n : ℕ) (kind : Kind) (ends : List Input) : Type 0 where
@@ -150,7 +158,7 @@ added_sound : (count : ℕ) → count < 12 → (s : Sections) (columns : List (L
 added_sound count low s columns kind made suits =
     let outputs = list_all_wider (is_given s.nodes) (is_given (s.nodes ++ added s kind ∷ [])) s.ends (λ i. output_stays s.nodes (added s kind ∷ []) i.node i.out) made.given in
     let named : is_name (added s kind).name ≡ true = ap is_name (added_named count s kind made) ∙ section_named count low in
-    and_from _ _ (and_from _ _ (and_from _ _ suits.kind (count_sound kind (length s.ends) suits.station made.some)) outputs) named
+    and_from _ _ (and_from _ _ (and_from _ _ suits.kind (count_sound kind (length s.ends) suits.station suits.first made.some)) outputs) named
 
 sound_more : (count : ℕ) → count < 12 → (s : Sections) (columns : List (List ℕ)) (kind : Kind) → AreMade count s → Suits s.columns columns kind
     → list_all (is_sound_node (length columns) (s.nodes ++ added s kind ∷ [])) (s.nodes ++ added s kind ∷ []) ≡ true
@@ -197,6 +205,7 @@ one_more_made count low s columns kind generator made suits =
       nodes = ap (λ nodes. nodes ++ added s kind ∷ []) made.nodes;
       names = names_more count s kind made;
       stations = list_all-append is_station made.later (added s kind ∷ []) ∙ and_from _ _ made.stations (and_from _ _ (not_from_false _ suits.station) refl);
+      first = list_all-append is_first made.later (added s kind ∷ []) ∙ and_from _ _ made.first (and_from _ _ suits.first refl);
       sound = sound_more count low s columns kind made suits;
       forward = forward_on 0 s.nodes (added s kind) (length s.nodes) (omega arith) made.forward (ends_below count s made);
       once = once_more count s kind (outputs_from (length s.nodes) kind) made outputs;

@@ -1,16 +1,16 @@
--- The made input of each number is accepted, and none of its departures passes the bound.
+-- The made input of each number is accepted, and its run isn't refused.
 use Rattle.std.specs.Prelude.{◌≡◌, ◌<◌, ◌^◌, ℕ, List, None}
-use Rattle.mq_core.specs.NetworkRun.{past_in}
+use Rattle.mq_core.specs.NetworkRun.{refusal_in}
 use Rattle.mq_gen.specs.Made.{made_model, made_trace}
 use Rattle.mq_model.specs.Model.{model_fault}
 use Rattle.mq_model.specs.NetworkOf.{network_in}
 use Rattle.mq_trace.specs.Trace.{rows_in, trace_fault}
 
--- the two texts have no fault, and a run over them has no departure past the bound
+-- the two texts have no fault, and a run over them has no departure past the bound and no node with too many visits
 pub record IsAccepted (model_text trace_text : List ℕ) : Type 0 where
   pub model : model_fault model_text ≡ None
   pub trace : trace_fault (network_in model_text) trace_text ≡ None
-  pub past : past_in (network_in model_text) (rows_in (network_in model_text) trace_text) ≡ None
+  pub run : refusal_in (network_in model_text) (rows_in (network_in model_text) trace_text) ≡ None
 
 abbrev pub MadeInputsAreAccepted : Type 0
 MadeInputsAreAccepted = (number : ℕ) → number < 2 ^ 64 → IsAccepted (made_model number) (made_trace number)

@@ -125,9 +125,9 @@ sections_from generator =
 abbrev pub sections_of : ℕ → Sections
 sections_of number = sections_from (generator_of number)
 
--- the network of these sections
+-- the network of these sections, in the first version of the models' language
 abbrev pub network_from : Sections → Network
-network_from s = record { nodes = s.nodes; columns = s.columns; bound = 2 ^ 60 }
+network_from s = record { nodes = s.nodes; columns = s.columns; bound = 2 ^ 60; version = 1 }
 
 -- the network of a number
 abbrev pub made_network : ℕ → Network

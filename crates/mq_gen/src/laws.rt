@@ -1,19 +1,18 @@
 // What holds of the definitions.
 ghost use Rattle.mq_gen.specs.Accepted.{MadeInputsAreAccepted};
 
-use mq_core::{departures_are_bounded, no_kind_copies};
+use mq_core::{departures_are_bounded, first_version_copies_nothing};
 use mq_graph::cycles_are_left;
 use mq_model::printed_models_are_read;
 use mq_trace::traces_are_read;
 
-/// The model and the trace of each number have no fault, and no departure of their run passes the
-/// bound.
+/// The model and the trace of each number have no fault, and their run isn't refused.
 pub fn made_inputs_are_accepted()
     ensures { MadeInputsAreAccepted }
 {
     cycles_are_left();
     printed_models_are_read();
     traces_are_read();
-    no_kind_copies();
+    first_version_copies_nothing();
     departures_are_bounded();
 }

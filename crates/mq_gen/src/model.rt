@@ -248,6 +248,7 @@ pub(crate) fn made_plan(alloc: Global, generator: &mut Lcg64Xsh32) -> Result<Pla
         nodes: sections.nodes,
         columns: sections.columns,
         bound: 1 << 60,
+        version: 1,
     };
     match rank(alloc, &net) {
         Ok(order) => Ok(Plan { net, order }),

@@ -2,19 +2,21 @@
 use Rattle.std.specs.Prelude.{◌≡◌, ℕ, zero, suc, ◌+◌, ◌*◌, ◌≤◌, ◌<◌, ◌≢◌, max, Bool, true, false, List, [], ◌∷◌, length, map, replicate, slice_get}
 use Rattle.mq_core.specs.Recurrences.{is_admitted, loss_fates, time_or_none}
 use Rattle.mq_core.specs.declared.model.Fate.{Fate}
-use Rattle.mq_core.specs.declared.model.Fate.TheVariants.{Departs, Lost}
+use Rattle.mq_core.specs.declared.model.Fate.TheVariants.{Departs, Held, Lost}
 use Rattle.mq_loss.specs.declared.answer.Settled.{Settled}
 
--- whether a visit is admitted
+-- whether a visit is admitted; at a loss station none is held
 abbrev pub admits : Fate → Bool
 admits (Departs time) = true
 admits Lost = false
+admits Held = true
 
 -- when those that are admitted depart, in order
 abbrev pub departures_in : List Fate → List ℕ
 departures_in [] = []
 departures_in (Departs time ∷ fates) = time ∷ departures_in fates
 departures_in (Lost ∷ fates) = departures_in fates
+departures_in (Held ∷ fates) = departures_in fates
 
 -- which arrivals are admitted, where those admitted before them left at these times, the latest first
 abbrev pub admission_from : ℕ → List ℕ → List ℕ → List ℕ → List Bool

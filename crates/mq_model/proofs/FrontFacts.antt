@@ -8,9 +8,10 @@ use Rattle.std.proofs.lemmas.Grind.{common_steps, flat_map-append}
 use Rattle.std.proofs.lemmas.List.Folds.{list_all-append, list_any-append}
 use Rattle.mq_base.specs.Text.{words_of}
 use Rattle.mq_model.specs.Form.{Word, read, whole}
+use Rattle.mq_model.specs.Head.{begins_comment, is_head, is_skipped, version_in, version_said}
 use Rattle.mq_model.specs.Front.{IsFront, TakesLine, added_fault, columns_fault, grammar_fault, name_fault, numbers_from, unread_fault, with_said}
 use Rattle.mq_model.specs.Lines.{line}
-use Rattle.mq_model.specs.Model.{begins_bound, begins_comment, is_allowed, is_head, is_skipped, Tells, line_fault, read_fault, said_fault, words_fault}
+use Rattle.mq_model.specs.Model.{begins_bound, is_allowed, is_barred, Tells, line_fault, read_fault, said_fault, words_fault}
 use Rattle.mq_model.specs.NetworkOf.{said_of, saids_of}
 use Rattle.mq_model.specs.Said.{added, columns_after, columns_of, declared, distinct_after, is_among, mentioned, names_of}
 use Rattle.mq_model.specs.declared.fault.ModelFault.{ModelFault}
@@ -19,6 +20,7 @@ use Rattle.mq_model.specs.declared.front.Front.{Front}
 use Rattle.mq_model.specs.declared.said.Said.{Said}
 use Rattle.mq_model.specs.declared.said.Said.TheVariants.{Bound, Node}
 use Rattle.mq_model.proofs.FormFacts.{first_fault}
+use Rattle.mq_model.proofs.HeadFacts.{version_first, version_kept, version_skipped}
 use Rattle.mq_model.proofs.LineFacts.{live_line}
 use Rattle.mq_model.proofs.SoundColumns.{name_is}
 use Rattle.mq_model.proofs.SoundText.{cond_none, head_says_nothing, or_none, saids_more, skipped_says_nothing}
@@ -27,22 +29,12 @@ use Rattle.mq_model.proofs.SoundText.{cond_none, head_says_nothing, or_none, sai
 pub left_short : (ws left : List Word) → whole (read line ws) ≡ Err left → length left ≤ length ws
 left_short ws left e = let f = first_fault line ws left live_line e in rw (f.is, length-append f.front left) (omega arith)
 
-pub word_number : (has_bound : Bool) (n number : ℕ) (ws : List Word) → (begins_bound ws && has_bound) ≡ false → (left : List Word) × (whole (read line ws) ≡ Err left) × (n + length left ≡ length ws + 1)
-    → grammar_fault number has_bound ws ≡ Some (BadLine number n)
-word_number has_bound n number ws first (left, e, h) =
+pub word_number : (has_bound : Bool) (version n number : ℕ) (ws : List Word) → is_barred has_bound version ws ≡ false → (left : List Word) × (whole (read line ws) ≡ Err left) × (n + length left ≡ length ws + 1)
+    → grammar_fault number has_bound version ws ≡ Some (BadLine number n)
+word_number has_bound version n number ws first (left, e, h) =
     let short = left_short ws left e in
     let same : n ≡ length ws - length left + 1 = omega arith in
     rw (first, e, same) refl
-
-pub no_bound_word : (ws : List Word) (has_bound : Bool) → false ≡ begins_bound ws → (begins_bound ws && has_bound) ≡ false
-no_bound_word ws has_bound h = rw (← h) refl
-
-pub no_bound_line : (ws : List Word) (has_bound : Bool) → has_bound ≡ false → (begins_bound ws && has_bound) ≡ false
-no_bound_line ws has_bound h = rw h (and_false (begins_bound ws))
-  where
-    and_false : (b : Bool) → (b && false) ≡ false
-    and_false true = refl
-    and_false false = refl
 
 -- Columns.
 pub distinct_is : (before names : List Word) → before ++ distinct_after before names ≡ columns_after before names
@@ -135,13 +127,14 @@ or_false : (a b : Bool) → b ≡ false → a ≡ (a || b)
 or_false true b h = refl
 or_false false b h = sym h
 
-pub add_nothing : (before : List (List ℕ)) (l : List ℕ) (front : Front) (head : Bool) → IsFront before front → said_of l ≡ None → begins_bound (words_of l) ≡ false
-    → head ≡ not (list_all is_skipped before && is_skipped l)
-    → IsFront (before ++ l ∷ []) (record { has_head = head; has_bound = front.has_bound; saids = front.saids; lines = front.lines; names = front.names; columns = front.columns })
-add_nothing before l front head is none no_bound has_head =
+pub add_nothing : (before : List (List ℕ)) (l : List ℕ) (front : Front) (head : Bool) (version : ℕ) → IsFront before front → said_of l ≡ None → begins_bound (words_of l) ≡ false
+    → head ≡ not (list_all is_skipped before && is_skipped l) → version ≡ version_in (before ++ l ∷ [])
+    → IsFront (before ++ l ∷ []) (record { has_head = head; version = version; has_bound = front.has_bound; saids = front.saids; lines = front.lines; names = front.names; columns = front.columns })
+add_nothing before l front head version is none no_bound has_head tells =
     let same : saids_of (before ++ l ∷ []) ≡ saids_of before = saids_more before l ∙ ap (λ more. saids_of before ++ more) (saids_one l None none) ∙ append-nil (saids_of before) in
     record {
       head = has_head ∙ ap not (sym (skipped_more before l));
+      version = tells;
       bound = is.bound ∙ or_false _ _ no_bound ∙ sym (bound_more before l);
       saids = is.saids ∙ sym same;
       lines = is.lines ∙ sym (numbers_append 1 before l ∙ ap (λ more. numbers_from 1 before ++ more) (numbers_one (1 + length before) l None none) ∙ append-nil (numbers_from 1 before));
@@ -156,8 +149,8 @@ pub add_skipped : (before : List (List ℕ)) (l : List ℕ) (front : Front) → 
 unfolding line_fault
 add_skipped before l front is skipped = (
   rw skipped refl,
-  add_nothing before l front front.has_head is (nothing_said l (λ said e. skipped_says_nothing (words_of l) said skipped e)) (skipped_no_bound (words_of l) skipped)
-      (is.head ∙ ap not (and_true (list_all is_skipped before) (is_skipped l) skipped)),
+  add_nothing before l front front.has_head front.version is (nothing_said l (λ said e. skipped_says_nothing (words_of l) said skipped e)) (skipped_no_bound (words_of l) skipped)
+      (is.head ∙ ap not (and_true (list_all is_skipped before) (is_skipped l) skipped)) (is.version ∙ sym (version_skipped before l skipped)),
 )
   where
     and_true : (a b : Bool) → b ≡ true → a ≡ (a && b)
@@ -171,14 +164,15 @@ head_is_none before front is none = let e : not (list_all is_skipped before) ≡
     not_false true h = refl
     not_false false h = absurd (cc)
 
-pub add_head : (before : List (List ℕ)) (l : List ℕ) (front : Front) → IsFront before front → front.has_head ≡ false → list_all is_allowed l ≡ true → is_head (words_of l) ≡ true
-    → (line_fault before l ≡ None) × IsFront (before ++ l ∷ []) (record { has_head = true; has_bound = front.has_bound; saids = front.saids; lines = front.lines; names = front.names; columns = front.columns })
+pub add_head : (before : List (List ℕ)) (l : List ℕ) (front : Front) (version : ℕ) → IsFront before front → front.has_head ≡ false → list_all is_allowed l ≡ true → is_head (words_of l) ≡ true
+    → version ≡ version_said (words_of l)
+    → (line_fault before l ≡ None) × IsFront (before ++ l ∷ []) (record { has_head = true; version = version; has_bound = front.has_bound; saids = front.saids; lines = front.lines; names = front.names; columns = front.columns })
 unfolding line_fault
-add_head before l front is none allowed head =
+add_head before l front version is none allowed head says =
     let unskipped = head_not_skipped (words_of l) head in (
       rw (unskipped, allowed, head_is_none before front is none, head) refl,
-      add_nothing before l front true is (nothing_said l (λ said e. head_says_nothing (words_of l) said head e)) (head_no_bound (words_of l) head)
-          (rw (unskipped, head_is_none before front is none) refl),
+      add_nothing before l front true version is (nothing_said l (λ said e. head_says_nothing (words_of l) said head e)) (head_no_bound (words_of l) head)
+          (rw (unskipped, head_is_none before front is none) refl) (says ∙ sym (version_first before l (head_is_none before front is none) unskipped)),
     )
 
 -- faults
@@ -205,25 +199,17 @@ unfolding line_fault
 line_is_read before l front is unskipped allowed some = rw (unskipped, allowed, has_head_is before front is some) refl
 
 grammar_is : (before : List (List ℕ)) (ws : List Word) (number : ℕ) (front : Front) (e : ModelFault) → IsFront before front → number ≡ length before + 1
-    → grammar_fault number front.has_bound ws ≡ Some e → words_fault before ws ≡ Some e
-grammar_is before ws number front e is n h = first (begins_bound ws) (whole (read line ws)) (rw (is.bound, n) at h)
+    → grammar_fault number front.has_bound front.version ws ≡ Some e → words_fault before ws ≡ Some e
+grammar_is before ws number front e is n h = first (is_barred (list_any (λ l. begins_bound (words_of l)) before) (version_in before) ws) (whole (read line ws)) (rw (is.bound, is.version, n) at h)
   where
-    bound : Bool
-    bound = list_any (λ l. begins_bound (words_of l)) before
-
-    first : (b : Bool) (r : Result Said (List Word)) → cond (b && bound) (Some (BadLine (length before + 1) 1)) (unread_fault (length before + 1) ws r) ≡ Some e
-        → cond (b && bound) (Some (BadLine (length before + 1) 1)) (read_fault before ws r) ≡ Some e
-    first b r h = elim (cases_Bool (b && bound)) [
-      | inl bad ↦ rw bad (rw bad at h)
-      | inr good ↦ rw good (second r (rw good at h))
-    ]
-      where
-        second : (r : Result Said (List Word)) → unread_fault (length before + 1) ws r ≡ Some e → read_fault before ws r ≡ Some e
-        second (Ok said) h = absurd (cc)
-        second (Err left) h = h
+    first : (b : Bool) (r : Result Said (List Word)) → cond b (Some (BadLine (length before + 1) 1)) (unread_fault (length before + 1) ws r) ≡ Some e
+        → cond b (Some (BadLine (length before + 1) 1)) (read_fault before ws r) ≡ Some e
+    first true r h = h
+    first false (Ok said) h = absurd (cc)
+    first false (Err left) h = h
 
 pub words_faulty : (before : List (List ℕ)) (l : List ℕ) (number : ℕ) (front : Front) (e : ModelFault) → IsFront before front → number ≡ length before + 1 → begins_comment (words_of l) ≡ false → list_all is_allowed l ≡ true
-    → front.has_head ≡ true → grammar_fault number front.has_bound (words_of l) ≡ Some e → line_fault before l ≡ Some e
+    → front.has_head ≡ true → grammar_fault number front.has_bound front.version (words_of l) ≡ Some e → line_fault before l ≡ Some e
 words_faulty before l number front e is n unskipped allowed some h = line_is_read before l front is unskipped allowed some ∙ grammar_is before (words_of l) number front e is n h
 
 -- A line that says something.
@@ -241,14 +227,14 @@ said_is_added before number front said is n =
     (nat_lt 16 (length (columns_after (columns_of (saids_of before)) (mentioned said)))) (NameTwice (length before + 1)) (TooMany (length before + 1)))
 
 no_grammar_fault : (before : List (List ℕ)) (number : ℕ) (front : Front) (ws : List Word) (said : Said) → IsFront before front → number ≡ length before + 1
-    → grammar_fault number front.has_bound ws ≡ None → whole (read line ws) ≡ Ok said → words_fault before ws ≡ said_fault (length before + 1) (saids_of before) said
+    → grammar_fault number front.has_bound front.version ws ≡ None → whole (read line ws) ≡ Ok said → words_fault before ws ≡ said_fault (length before + 1) (saids_of before) said
 no_grammar_fault before number front ws said is n h e =
-    let bound : (begins_bound ws && front.has_bound) ≡ false = (cond_none (begins_bound ws && front.has_bound) (BadLine number 1) (unread_fault number ws (whole (read line ws))) h).0 in
-    let no_bound : (begins_bound ws && list_any (λ l. begins_bound (words_of l)) before) ≡ false = rw is.bound at bound in
-    rw (no_bound, e) refl
+    let free : is_barred front.has_bound front.version ws ≡ false = (cond_none (is_barred front.has_bound front.version ws) (BadLine number 1) (unread_fault number ws (whole (read line ws))) h).0 in
+    let none : is_barred (list_any (λ l. begins_bound (words_of l)) before) (version_in before) ws ≡ false = rw (is.bound, is.version) at free in
+    rw (none, e) refl
 
 pub told_fault : (before : List (List ℕ)) (l : List ℕ) (number : ℕ) (front : Front) (said : Said) → IsFront before front → number ≡ length before + 1 → begins_comment (words_of l) ≡ false → list_all is_allowed l ≡ true
-    → front.has_head ≡ true → grammar_fault number front.has_bound (words_of l) ≡ None → whole (read line (words_of l)) ≡ Ok said → line_fault before l ≡ added_fault front number said
+    → front.has_head ≡ true → grammar_fault number front.has_bound front.version (words_of l) ≡ None → whole (read line (words_of l)) ≡ Ok said → line_fault before l ≡ added_fault front number said
 told_fault before l number front said is n unskipped allowed some h e =
     line_is_read before l front is unskipped allowed some ∙ no_grammar_fault before number front (words_of l) said is n h e ∙ said_is_added before number front said is n
 
@@ -268,7 +254,7 @@ said_one l said e = ap (λ r. elim r as (λ _. Option Said) [ Ok said ↦ Some s
 
 pub add_told : (before : List (List ℕ)) (l : List ℕ) (number : ℕ) (front : Front) (said : Said) (has_bound : Bool) → IsFront before front → number ≡ length before + 1 → begins_comment (words_of l) ≡ false
     → front.has_head ≡ true → whole (read line (words_of l)) ≡ Ok said → added_fault front number said ≡ None → has_bound ≡ (front.has_bound || begins_bound (words_of l))
-    → IsFront (before ++ l ∷ []) (with_said (record { has_head = front.has_head; has_bound = has_bound; saids = front.saids; lines = front.lines; names = front.names; columns = front.columns }) number said)
+    → IsFront (before ++ l ∷ []) (with_said (record { has_head = front.has_head; version = front.version; has_bound = has_bound; saids = front.saids; lines = front.lines; names = front.names; columns = front.columns }) number said)
 add_told before l number front said has_bound is n unskipped some e none bound =
     let told : said_of l ≡ Some said = said_one l said e in
     let more : saids_of (before ++ l ∷ []) ≡ saids_of before ++ said ∷ [] = saids_more before l ∙ ap (λ more. saids_of before ++ more) (saids_one l (Some said) told) in
@@ -281,6 +267,7 @@ add_told before l number front said has_bound is n unskipped some e none bound =
     let index : number ≡ 1 + length before = omega arith in
     record {
       head = some ∙ sym (ap not (skipped_more before l) ∙ rw (has_head_is before front is some) refl);
+      version = is.version ∙ sym (version_kept before (l ∷ []) (has_head_is before front is some));
       bound = bound ∙ rw is.bound (sym (bound_more before l));
       saids = rw (is.saids, more) refl;
       lines = rw (is.lines, numbers_append 1 before l, index) (ap (λ more. numbers_from 1 before ++ more) (sym (numbers_one (1 + length before) l (Some said) told)));
@@ -299,11 +286,12 @@ adds_told before l number said old new (Ok u) good bad same front = (same ∙ go
 adds_told before l number said old new (Err e) good bad same front = λ h. same ∙ bad h
 
 pub front_of_nothing : (saids : List Said) (lines : List ℕ) (names columns : List Word) → saids ≡ [] → lines ≡ [] → names ≡ [] → columns ≡ []
-    → IsFront [] (record { has_head = false; has_bound = false; saids = saids; lines = lines; names = names; columns = columns })
+    → IsFront [] (record { has_head = false; version = 1; has_bound = false; saids = saids; lines = lines; names = names; columns = columns })
 unfolding distinct_after
 front_of_nothing saids lines names columns no_saids no_lines no_names no_columns =
     record {
       head = refl;
+      version = refl;
       bound = refl;
       saids = no_saids;
       lines = no_lines;

@@ -1,4 +1,6 @@
 pub mod FormFacts
+pub mod HeadFacts
+pub mod Versions
 pub mod LineFacts
 pub mod ExampleFacts
 pub mod ReadFacts

@@ -7,7 +7,7 @@ use Rattle.mq_model.specs.Form.{◌>>=◌, Form, Word, stop, word, maybe, one, u
 use Rattle.mq_model.specs.declared.said.SaidDemand.{SaidDemand}
 use Rattle.mq_model.specs.declared.said.SaidKind.{SaidKind}
 use Rattle.mq_model.specs.declared.said.SaidKind.TheVariants.{Server, Delay}
-use Rattle.mq_model.specs.Lines.{key, is_input, input_of, is_up_to, a_name, a_demand, inputs, rising, thresholds, a_route, cut_route, counted_route, modulo_route, way_of, loss_kind, a_stage, stages, stages_behind, tandem_kind, a_branch, branches, all_branches, forkjoin_kind, room_of, is_demand, demand_of, split_kind, node_line, kind_line, line, is_key, is_from_to, greatest_demand, value_of}
+use Rattle.mq_model.specs.Lines.{key, is_input, input_of, is_up_to, a_name, a_demand, inputs, rising, thresholds, a_route, cut_route, counted_route, modulo_route, way_of, loss_kind, a_stage, stages, stages_behind, tandem_kind, a_branch, branches, all_branches, forkjoin_kind, room_of, is_demand, demand_of, split_kind, fork_kind, join_line, joined_inputs, node_line, first_line, kind_line, line, is_key, is_from_to, greatest_demand, value_of}
 use Rattle.mq_model.proofs.FormFacts.{IsLive}
 
 live_weak : {A : Type 0} (must : Bool) (f : Form A) → IsLive true f → IsLive must f
@@ -62,6 +62,13 @@ live_demand = live_one _ _ (codes "=0") refl
 live_inputs : IsLive true inputs
 unfolding inputs
 live_inputs = live_behind (codes "from") _ (λ _. live_then true (one is_input input_of) _ (live_one _ _ (codes "a") refl) (λ first. live_then true (up_to 7 is_input input_of) _ (live_up_to 7 _ _ (codes "a") refl) (λ more. live_stop _)))
+
+live_joined : IsLive true joined_inputs
+unfolding joined_inputs
+live_joined =
+    live_behind (codes "from") _ (λ _. live_then true (one is_input input_of) _ (live_one _ _ (codes "a") refl)
+    (λ first. live_then true (one is_input input_of) _ (live_one _ _ (codes "a") refl)
+    (λ second. live_then true (up_to 6 is_input input_of) _ (live_up_to 6 _ _ (codes "a") refl) (λ more. live_stop _))))
 
 live_rising : (n last : ℕ) → IsLive true (rising n last)
 unfolding rising
@@ -156,6 +163,13 @@ live_forkjoin : IsLive true forkjoin_kind
 unfolding forkjoin_kind
 live_forkjoin = live_then true all_branches _ live_all (λ all. live_stop _)
 
+live_fork : IsLive true fork_kind
+live_fork = live_one _ _ (codes "2") refl
+
+live_join : IsLive true join_line
+unfolding join_line
+live_join = live_then true a_name _ live_name (λ name. live_then true joined_inputs _ live_joined (λ reads. live_stop _))
+
 live_kinds : IsLive false kind_line
 unfolding kind_line
 live_kinds =
@@ -166,9 +180,15 @@ live_kinds =
     (live_maybe false _ _ _ (codes "forkjoin") refl (λ _ _. live_node _ live_forkjoin)
     (live_word false _ _ (codes "split") refl (λ _ _. live_node _ live_split))))))
 
+live_first : IsLive false first_line
+unfolding first_line
+live_first =
+    live_maybe false _ _ _ (codes "bound") refl (λ _ _. live_one _ _ (codes "0") refl)
+    (live_maybe false _ _ _ (codes "source") refl (λ _ _. live_then true a_name _ live_name (λ name. live_stop _)) live_kinds)
+
 -- the whole table can be completed
 pub live_line : IsLive true line
 unfolding line
 live_line =
-    live_maybe true _ _ _ (codes "bound") refl (λ _ _. live_one _ _ (codes "0") refl)
-    (live_maybe false _ _ _ (codes "source") refl (λ _ _. live_then true a_name _ live_name (λ name. live_stop _)) live_kinds)
+    live_maybe true _ _ _ (codes "fork") refl (λ _ _. live_node _ live_fork)
+    (live_maybe false _ _ _ (codes "join") refl (λ _ _. live_join) live_first)

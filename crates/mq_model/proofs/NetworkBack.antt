@@ -7,7 +7,7 @@ use Rattle.std.proofs.lemmas.Bool.{and_parts, ltb-true}
 use Rattle.std.proofs.lemmas.List.{map-append, length-map}
 use Rattle.mq_graph.specs.Rank.{AreWired}
 use Rattle.mq_core.specs.Names.{is_name}
-use Rattle.mq_core.specs.Sound.{are_distinct, columns_of_kind, is_output, is_sound, is_sound_kind, is_sound_node, mentions_from, same_input}
+use Rattle.mq_core.specs.Sound.{are_distinct, columns_of_kind, is_output, is_sound, is_sound_kind, is_sound_node, mentions_from, same_input, version_of}
 use Rattle.mq_core.specs.Ranges.{is_within}
 use Rattle.mq_core.specs.Wiring.{is_source_kind}
 use Rattle.mq_core.specs.declared.model.Input.{Input}
@@ -39,6 +39,8 @@ mentions_said columns (kind.ForkJoin branches) = branches_mentions columns branc
 mentions_said columns (kind.Split (route.Modulo outputs column)) = refl
 mentions_said columns (kind.Split (route.Turn outputs)) = refl
 mentions_said columns (kind.Split (route.Cut column thresholds)) = refl
+mentions_said columns (kind.Fork outputs) = refl
+mentions_said columns kind.Join = refl
 
 all_mentions_said : (names columns : List Word) (nodes : List Node) → flat_map mentioned (map (node_by names columns) nodes) ≡ map (name_at columns) (flat_map (λ (node : Node). columns_of_kind node.kind) nodes)
 all_mentions_said names columns [] = refl
@@ -63,6 +65,8 @@ kind_again columns (kind.Split (route.Cut column thresholds)) distinct sound =
     let rising = and_parts _ _ small.0 in
     let count = and_parts _ _ rising.0 in
     ap (λ n. kind.Split (route.Cut n thresholds)) (number_again columns column [] distinct (ltb-true _ _ count.0))
+kind_again columns (kind.Fork outputs) distinct sound = refl
+kind_again columns kind.Join distinct sound = refl
 
 pub output_within : (nodes : List Node) (n out : ℕ) → is_output (slice_get nodes n) out ≡ true → n < length nodes
 output_within [] n out h = absurd (cc)
@@ -92,6 +96,8 @@ nodes_again names columns all (node ∷ nodes) named size distinct h =
 
 -- The parts of a sound network.
 pub record HasParts (net : Network) : Type 0 where
+  pub version : is_within 1 2 net.version ≡ true
+  pub kinds : list_all (λ (node : Node). nat_le (version_of node.kind) net.version) net.nodes ≡ true
   pub size : is_within 1 64 (length net.nodes) ≡ true
   pub few_columns : nat_le (length net.columns) 16 ≡ true
   pub bound : nat_le net.bound (2 ^ 60) ≡ true
@@ -114,8 +120,12 @@ has_parts net sound =
     let source = and_parts _ _ named.0 in
     let bound = and_parts _ _ source.0 in
     let few_columns = and_parts _ _ bound.0 in
+    let size = and_parts _ _ few_columns.0 in
+    let version = and_parts _ _ size.0 in
     record {
-      size = few_columns.0;
+      version = version.0;
+      kinds = version.1;
+      size = size.1;
       few_columns = few_columns.1;
       bound = bound.1;
       source = source.1;
@@ -128,7 +138,7 @@ has_parts net sound =
     }
 
 -- the network of what a sound network says is this network
-pub network_again : (net : Network) → is_sound net ≡ true → network_of (saids_in net) ≡ net
+pub network_again : (net : Network) → is_sound net ≡ true → network_of net.version (saids_in net) ≡ net
 network_again net sound =
     let parts = has_parts net sound in
     let names : List Word = names_in net in
@@ -138,7 +148,8 @@ network_again net sound =
     let nodes_are : flat_map (nodes_in names net.columns) (saids_in net) ≡ net.nodes = nodes_again names net.columns net.nodes net.nodes parts.named (length-map net.nodes _) parts.distinct parts.nodes in
     let by_names : nodes_of (saids_in net) ≡ net.nodes =
     ap (λ all. flat_map (nodes_in all (columns_of (saids_in net))) (saids_in net)) names_are ∙ ap (λ columns. flat_map (nodes_in names columns) (saids_in net)) columns_are ∙ nodes_are in
-    ap (λ nodes. record { nodes = nodes; columns = columns_of (saids_in net); bound = net.bound }) by_names ∙ ap (λ columns. record { nodes = net.nodes; columns = columns; bound = net.bound }) columns_are
+    ap (λ nodes. record { nodes = nodes; columns = columns_of (saids_in net); bound = net.bound; version = net.version }) by_names
+    ∙ ap (λ columns. record { nodes = net.nodes; columns = columns; bound = net.bound; version = net.version }) columns_are
 
 inputs_wired : (nodes : List Node) (inputs : List Input) → list_all (λ (i : Input). is_output (slice_get nodes i.node) i.out) inputs ≡ true → All (λ (i : Input). i.node < length nodes) inputs
 inputs_wired nodes [] h k d within = absurd (omega arith)

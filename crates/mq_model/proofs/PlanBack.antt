@@ -9,9 +9,10 @@ use Rattle.mq_core.specs.Sound.{are_distinct, is_sound}
 use Rattle.mq_core.specs.declared.model.Network.{Network}
 use Rattle.mq_core.specs.declared.model.Node.{Node}
 use Rattle.mq_model.specs.Form.{Word, read, whole}
+use Rattle.mq_model.specs.Head.{begins_comment, is_head, is_skipped, version_in, version_said}
 use Rattle.mq_graph.specs.Rank.{left_node}
 use Rattle.mq_model.specs.Lines.{line}
-use Rattle.mq_model.specs.Model.{begins_bound, begins_comment, cycle_fault, inputs_fault, is_allowed, is_head, is_skipped, lines_fault, model_fault, reads_of_text, source_fault, text_fault}
+use Rattle.mq_model.specs.Model.{begins_bound, cycle_fault, inputs_fault, is_allowed, lines_fault, model_fault, reads_of_text, source_fault, text_fault}
 use Rattle.mq_model.specs.NetworkOf.{network_in, network_of, nodes_of, said_of, saids_of, without_mark}
 use Rattle.mq_model.specs.Said.{columns_of, gives, is_same_input, is_source, names_of, reads_of}
 use Rattle.mq_model.specs.SaidOf.{input_by, names_in, node_by, saids_in}
@@ -23,6 +24,8 @@ use Rattle.mq_model.proofs.NetworkBack.{has_parts, names_said, network_again}
 use Rattle.mq_model.proofs.SoundColumns.{name_is}
 use Rattle.mq_model.proofs.SoundText.{AreFew, head_says_nothing, saids_more}
 use Rattle.mq_model.proofs.TextBack.{AreNodes, AreSaid, head_first, headed_more, is_new, no_line_fault, no_lines_fault, saids_said, says_so}
+use Rattle.mq_model.proofs.HeadFacts.{version_kept}
+use Rattle.mq_model.proofs.Versions.{saids_of_version}
 
 -- The head is no empty line, no comment and no bound, and says nothing.
 head_kept : (ws : List Word) → is_head ws ≡ true → begins_comment ws ≡ false
@@ -63,25 +66,28 @@ nodes_said : (names columns : List Word) (nodes : List Node) → AreNodes (map (
 nodes_said names columns [] = refl
 nodes_said names columns (node ∷ nodes) = nodes_said names columns nodes
 
+-- a text that begins with a head is of the version that it says
+version_of_head : (version : ℕ) (head : List ℕ) (ls : List (List ℕ)) → is_head (words_of head) ≡ true → version_said (words_of head) ≡ version → version_in (head ∷ ls) ≡ version
+version_of_head version head ls is says = rw (head_kept (words_of head) is) says
+
 -- the lines have no fault
-lines_back : (net : Network) (head : List ℕ) (ls : List (List ℕ)) → is_sound net ≡ true → list_all is_allowed head ≡ true → is_head (words_of head) ≡ true → AreSaid ls (saids_in net) → lines_fault [] (head ∷ ls) ≡ None
+lines_back : (net : Network) (head : List ℕ) (ls : List (List ℕ)) → is_sound net ≡ true → list_all is_allowed head ≡ true → is_head (words_of head) ≡ true → version_said (words_of head) ≡ net.version
+    → AreSaid ls (saids_in net) → lines_fault [] (head ∷ ls) ≡ None
 unfolding lines_fault
-lines_back net head [] sound allowed is said = absurd said
-lines_back net head (l ∷ ls) sound allowed is said =
+lines_back net head [] sound allowed is says said = absurd said
+lines_back net head (l ∷ ls) sound allowed is says said =
     let few = few_said net sound in
     let headed : list_all is_skipped (head ∷ []) ≡ false = and_left _ _ (head_kept (words_of head) is) in
     let nothing : saids_of (head ∷ []) ≡ [] = rw (head_said head is) refl in
-    let once : (begins_bound (words_of l) && list_any (λ k. begins_bound (words_of k)) (head ∷ [])) ≡ false = rw (head_no_bound (words_of head) is) (and_right_false (begins_bound (words_of l))) in
+    let version : version_in (head ∷ []) ≡ net.version = version_of_head net.version head [] is says in
+    let once : (list_any (λ k. begins_bound (words_of k)) (head ∷ []) && begins_bound (words_of l)) ≡ false = rw (head_no_bound (words_of head) is) refl in
     let few_here : AreFew (saids_of (head ∷ []) ++ saids_in net) = rw nothing few in
-    let bound = no_line_fault (head ∷ []) l (Bound net.bound) headed said.0 (is_new (saids_of (head ∷ [])) _ (Bound net.bound) few_here) once in
+    let bound = no_line_fault (head ∷ []) l (Bound net.bound) headed refl said.0 (is_new (saids_of (head ∷ [])) _ (Bound net.bound) few_here) once in
     let more : saids_of (head ∷ l ∷ []) ≡ Bound net.bound ∷ [] = saids_more (head ∷ []) l ∙ rw (nothing, says_so l (Bound net.bound) said.0) refl in
     let few_more : AreFew (saids_of (head ∷ l ∷ []) ++ map (node_by (names_in net) net.columns) net.nodes) = rw more few in
-    let rest = no_lines_fault (head ∷ l ∷ []) ls (map (node_by (names_in net) net.columns) net.nodes) (headed_more (head ∷ []) l headed) said.1 (nodes_said (names_in net) net.columns net.nodes) few_more in
+    let of = saids_of_version (names_in net) net.columns net.version net.nodes (has_parts net sound).kinds in
+    let rest = no_lines_fault net.version (head ∷ l ∷ []) ls (map (node_by (names_in net) net.columns) net.nodes) (headed_more (head ∷ []) l headed) (version_kept (head ∷ []) (l ∷ []) headed ∙ version) of said.1 (nodes_said (names_in net) net.columns net.nodes) few_more in
     rw (head_first head allowed is, bound) rest
-  where
-    and_right_false : (b : Bool) → (b && false) ≡ false
-    and_right_false true = refl
-    and_right_false false = refl
 
 -- The whole text of the lines.
 no_fault_back : (net : Network) (ls : List (List ℕ)) → is_sound net ≡ true → left_node net.nodes ≡ None → lines_fault [] ls ≡ None → saids_of ls ≡ saids_in net → text_fault ls ≡ None
@@ -104,10 +110,13 @@ no_fault_back net ls sound left lines said =
 
 -- A text of a head, and of lines that say what a sound network says, declares this network, where none of its nodes is on or behind a cycle.
 pub text_again : (net : Network) (text head : List ℕ) (ls : List (List ℕ)) → is_sound net ≡ true → left_node net.nodes ≡ None → length text ≤ 65536 → lines_of (without_mark text) ≡ head ∷ ls
-    → list_all is_allowed head ≡ true → is_head (words_of head) ≡ true → AreSaid ls (saids_in net) → (model_fault text ≡ None) × (network_in text ≡ net)
-text_again net text head ls sound left short lines allowed is said =
+    → list_all is_allowed head ≡ true → is_head (words_of head) ≡ true → version_said (words_of head) ≡ net.version → AreSaid ls (saids_in net) → (model_fault text ≡ None) × (network_in text ≡ net)
+text_again net text head ls sound left short lines allowed is version said =
     let says : saids_of (head ∷ ls) ≡ saids_in net = rw (head_said head is) (saids_said ls (saids_in net) said) in
-    let here = no_fault_back net (head ∷ ls) sound left (lines_back net head ls sound allowed is said) says in
+    let here = no_fault_back net (head ∷ ls) sound left (lines_back net head ls sound allowed is version said) says in
     let fault : text_fault (lines_of (without_mark text)) ≡ None = rw lines here in
-    let long : nat_lt 65536 (length text) ≡ false = le-ltb 65536 (length text) short in
-    (rw long fault, ap network_of (ap saids_of lines ∙ says) ∙ network_again net sound)
+    let long : nat_lt 65536 (length text) ≡ false = le-ltb 65536 (length text) short in (
+      rw long fault,
+      ap (λ all. network_of (version_in all) (saids_of all)) lines ∙ ap (λ v. network_of v (saids_of (head ∷ ls))) (version_of_head net.version head ls is version)
+          ∙ ap (network_of net.version) says ∙ network_again net sound,
+    )

@@ -11,13 +11,13 @@ use Rattle.mq_base.proofs.lemmas.Numbers.{number_again}
 use Rattle.mq_core.specs.Names.{is_name, is_name_byte}
 use Rattle.mq_core.specs.Ranges.{is_within}
 use Rattle.mq_model.specs.Form.{Word, one, up_to, read}
-use Rattle.mq_model.specs.Lines.{a_demand, a_name, demand_of, ends_in_output, input_of, inputs, is_demand, is_from_to, is_input, key, last_byte, value_of}
+use Rattle.mq_model.specs.Lines.{a_demand, a_name, demand_of, ends_in_output, input_of, inputs, joined_inputs, is_demand, is_from_to, is_input, key, last_byte, value_of}
 use Rattle.mq_model.specs.Printed.{demand_word, input_word, inputs_words}
 use Rattle.mq_model.specs.declared.said.SaidDemand.{SaidDemand}
 use Rattle.mq_model.specs.declared.said.SaidDemand.TheVariants.{Column, Fixed}
 use Rattle.mq_model.specs.declared.said.SaidInput.{SaidInput}
 use Rattle.mq_model.specs.Reading.{with_front}
-use Rattle.mq_model.proofs.ReadFacts.{inputs_first, read_one_yes, up_to_none, up_to_yes}
+use Rattle.mq_model.proofs.ReadFacts.{inputs_first, joined_by, read_one_yes, several_are, up_to_none, up_to_yes}
 use Rattle.mq_model.proofs.SoundLines.{IsSoundDemand}
 
 name_begins : (b : ℕ) (more : List ℕ) → is_name (b ∷ more) ≡ true → (b == 61) ≡ false
@@ -95,6 +95,13 @@ inputs_again (input ∷ reads) count are =
     let again = input_again input are.0 in
     inputs_first (inputs_words (input ∷ reads)) (input_word input ∷ map input_word reads) (map input_word reads) (input_word input) (from_again (input_word input ∷ map input_word reads)) refl again.0
     ∙ ap (with_front (input_of (input_word input) ∷ [])) (up_to_again 7 reads fits are.1) ∙ ap (λ first. Ok (first ∷ reads, [])) again.1
+
+pub joined_again : (reads : List SaidInput) → is_within 2 8 (length reads) ≡ true → AreInputs reads → read joined_inputs (inputs_words reads) ≡ Ok (reads, [])
+joined_again reads count are =
+    let both = and_parts _ _ count in
+    let many : 2 ≤ length reads = leb-true _ _ both.0 in
+    let some : is_within 1 8 (length reads) ≡ true = and_from _ _ (le-leb 1 (length reads) (omega arith)) both.1 in
+    joined_by (inputs_words reads) ∙ several_are (read inputs (inputs_words reads)) reads [] (inputs_again reads some are) many
 
 pub name_again : (name : Word) (more : List Word) → is_name name ≡ true → read a_name (name ∷ more) ≡ Ok (name, more)
 name_again name more named = read_one_yes is_name (λ w. w) (name ∷ more) more name refl named

@@ -1,15 +1,17 @@
 -- The canonical text of a sound network has no fault and declares it again.
 use Rattle.std.proofs.Common.{◌≡◌, ◌∙◌, ap, refl, ℕ, ◌+◌, ◌*◌, ◌-◌, ◌<◌, ◌≤◌, List, [], ◌∷◌, ◌++◌, length, get_or, Bool, true, false, None, arith, append_assoc, length-append}
-use Rattle.std.specs.Prelude.{codes, ◌&&◌, ◌==◌, nat_le, map}
+use Rattle.std.specs.Prelude.{◌&&◌, ◌==◌, decimal, nat_le, map}
 use Rattle.std.specs.List.{All, list_all, flat_map, join_with_byte}
 use Rattle.std.specs.Str.Lines.{strip_carriage_return}
-use Rattle.std.proofs.lemmas.Bool.{and_parts, and_from, leb-true, ltb-true}
+use Rattle.std.proofs.lemmas.Bool.{and_parts, and_from, le-leb, leb-true, lt-ltb, ltb-true}
 use Rattle.std.proofs.lemmas.Grind.{common_steps}
 use Rattle.std.proofs.lemmas.List.Folds.{list_all-append}
 use Rattle.mq_base.specs.Text.{is_blank, lines_of, words_of}
 use Rattle.mq_base.proofs.lemmas.Lines.{lines_of-line, words_of-last, words_of-word}
 use Rattle.mq_base.proofs.lemmas.Tests.{all_at, list_all_wider}
 use Rattle.mq_model.specs.Form.{Word}
+use Rattle.mq_model.specs.Head.{is_head, version_said}
+use Rattle.mq_model.proofs.HeadFacts.{version_again}
 use Rattle.mq_model.specs.Model.{is_allowed, model_fault}
 use Rattle.mq_model.specs.Printed.{head_words, line_text, printed, said_words}
 use Rattle.mq_model.specs.declared.said.Said.{Said}
@@ -20,6 +22,7 @@ use Rattle.mq_model.proofs.TextBack.{AreSaid}
 use Rattle.mq_graph.specs.Rank.{left_node}
 use Rattle.mq_core.specs.declared.model.Network.{Network}
 use Rattle.mq_core.specs.Sound.{is_sound}
+use Rattle.mq_core.specs.Ranges.{is_within}
 use Rattle.mq_model.specs.NetworkOf.{network_in, without_mark}
 use Rattle.mq_model.specs.SaidOf.{names_in, node_by, saids_in}
 use Rattle.mq_model.proofs.NetworkBack.{has_parts}
@@ -130,17 +133,35 @@ text_length (said ∷ saids) h =
     length-append (line_text (said_words said)) (flat_map line_text (map said_words saids)) in
     omega arith
 
+head_solid : (version : ℕ) → is_within 1 2 version ≡ true → list_all is_solid (head_words version) ≡ true
+head_solid version within =
+    let read = version_again version within in
+    let short = read.short in
+    let few : is_solid (decimal version) ≡ true = and_from _ _ (and_from _ _ (lt-ltb 0 (length (decimal version)) (omega arith)) (le-leb (length (decimal version)) 34 (omega arith))) read.visible in
+    and_from _ _ refl (and_from _ _ few refl)
+
 printed_short : (net : Network) → is_sound net ≡ true → length (printed net) ≤ 65536
 printed_short net sound =
     let most : length net.nodes ≤ 64 = leb-true _ _ (and_parts _ _ (has_parts net sound).size).1 in
     let count : length (map (node_by (names_in net) net.columns) net.nodes) ≡ length net.nodes = length-map net.nodes _ in
     let rest : length (flat_map line_text (map said_words (saids_in net))) ≤ 910 * length (saids_in net) = text_length (saids_in net) (said_in_range net sound) in
+    let head : length (line_text (head_words net.version)) ≤ 35 * length (head_words net.version) = line_length (head_words net.version) (head_solid net.version (has_parts net sound).version) (omega arith) in
+    let size : length (printed net) ≡ length (line_text (head_words net.version)) + length (flat_map line_text (map said_words (saids_in net))) =
+    length-append (line_text (head_words net.version)) (flat_map line_text (map said_words (saids_in net))) in
     omega arith
 
 -- The canonical text of a sound network without a cycle has no fault, and declares this network.
 pub printed_again : (net : Network) → is_sound net ≡ true → left_node net.nodes ≡ None → (model_fault (printed net) ≡ None) × (network_in (printed net) ≡ net)
 printed_again net sound left =
     let range = said_in_range net sound in
-    let lines : lines_of (without_mark (printed net)) ≡ codes "model 1" ∷ map (join_with_byte 32) (map said_words (saids_in net)) =
-    lines_again (head_words ∷ map said_words (saids_in net)) (refl, all_solid (saids_in net) range) in
-    text_again net (printed net) (codes "model 1") (map (join_with_byte 32) (map said_words (saids_in net))) sound left (printed_short net sound) lines refl refl (all_said (saids_in net) range)
+    let within = (has_parts net sound).version in
+    let read = version_again net.version within in
+    let solid = head_solid net.version within in
+    let head : List ℕ = join_with_byte 32 (head_words net.version) in
+    let words : words_of head ≡ head_words net.version = words_again (head_words net.version) solid in
+    let lines : lines_of (without_mark (printed net)) ≡ head ∷ map (join_with_byte 32) (map said_words (saids_in net)) =
+    lines_again (head_words net.version ∷ map said_words (saids_in net)) (solid, all_solid (saids_in net) range) in
+    let allowed : list_all is_allowed head ≡ true = list_all_wider is_plain is_allowed head plain_allowed (joined_plain (head_words net.version) solid) in
+    let is : is_head (words_of head) ≡ true = rw words (and_from _ _ refl read.known) in
+    let version : version_said (words_of head) ≡ net.version = rw words read.said in
+    text_again net (printed net) head (map (join_with_byte 32) (map said_words (saids_in net))) sound left (printed_short net sound) lines allowed is version (all_said (saids_in net) range)

@@ -18,7 +18,7 @@ use Rattle.mq_model.specs.declared.said.SaidDemand.TheVariants.{Column, Fixed}
 use Rattle.mq_model.specs.declared.said.SaidInput.{SaidInput}
 use Rattle.mq_model.specs.declared.said.SaidStage.{SaidStage}
 use Rattle.mq_model.specs.declared.said.SaidKind.{SaidKind}
-use Rattle.mq_model.specs.declared.said.SaidKind.TheVariants.{Source, Server, Delay, Loss, Tandem, ForkJoin, Split}
+use Rattle.mq_model.specs.declared.said.SaidKind.TheVariants.{Source, Server, Delay, Loss, Tandem, ForkJoin, Split, Fork, Join}
 use Rattle.mq_model.specs.declared.said.SaidRoute.{SaidRoute}
 use Rattle.mq_model.specs.declared.said.SaidRoute.TheVariants.{Modulo, Turn, Cut}
 use Rattle.mq_model.specs.declared.said.Said.{Said}
@@ -118,6 +118,11 @@ places_solid places within =
     let most : places ≤ 1048576 = leb-true _ _ (and_parts _ _ within).1 in
     solid 7 (decimal places) (omega arith) (decimal_short places 1048576 7 most (omega arith) (omega arith) (omega arith))
 
+fork_solid : (outputs : ℕ) → is_within 2 4 outputs ≡ true → is_solid (decimal outputs) ≡ true
+fork_solid outputs within =
+    let most : outputs ≤ 4 = leb-true _ _ (and_parts _ _ within).1 in
+    solid 1 (decimal outputs) (omega arith) (decimal_short outputs 4 1 most (omega arith) (omega arith) (omega arith))
+
 stage_solid : (stage : SaidStage) → IsSoundStage 1 4 stage → list_all is_solid (stage_words stage) ≡ true
 stage_solid stage sound =
     let most : stage.places ≤ 4 = leb-true _ _ (and_parts _ _ sound.0).1 in
@@ -151,6 +156,8 @@ first_solid (Loss places d) = refl
 first_solid (Tandem stages) = refl
 first_solid (ForkJoin branches) = refl
 first_solid (Split route) = refl
+first_solid (Fork outputs) = refl
+first_solid Join = refl
 
 kind_solid : (kind : SaidKind) → IsSoundKind kind → list_all is_solid (kind_words kind) ≡ true
 kind_solid Source sound = refl
@@ -160,6 +167,8 @@ kind_solid (Loss places d) sound = and_from _ _ (places_solid places sound.0) (a
 kind_solid (Tandem stages) sound = stages_solid stages sound
 kind_solid (ForkJoin branches) sound = branches_solid branches sound
 kind_solid (Split route) sound = route_solid route sound
+kind_solid (Fork outputs) sound = and_from _ _ (fork_solid outputs sound) refl
+kind_solid Join sound = refl
 
 reads_solid : (kind : SaidKind) (reads : List SaidInput) → AreInputs reads → list_all is_solid (reads_words kind reads) ≡ true
 reads_solid Source reads are = refl
@@ -169,6 +178,8 @@ reads_solid (Loss places d) reads are = inputs_solid reads are
 reads_solid (Tandem stages) reads are = inputs_solid reads are
 reads_solid (ForkJoin branches) reads are = inputs_solid reads are
 reads_solid (Split route) reads are = inputs_solid reads are
+reads_solid (Fork outputs) reads are = inputs_solid reads are
+reads_solid Join reads are = inputs_solid reads are
 
 pub said_solid : (said : Said) → IsSoundSaid said → AreInputs (reads_of said) → list_all is_solid (said_words said) ≡ true
 said_solid (Bound n) sound are =
@@ -184,20 +195,22 @@ pub record IsFew (ws : List Word) : Type 0 where
   pub some : 0 < length ws
   pub few : length ws ≤ 26
 
-inputs_few : (reads : List SaidInput) → is_within 1 8 (length reads) ≡ true → length (inputs_words reads) ≤ 9
-inputs_few reads count =
+inputs_few : (reads : List SaidInput) (least : ℕ) → is_within least 8 (length reads) ≡ true → length (inputs_words reads) ≤ 9
+inputs_few reads least count =
     let most : length reads ≤ 8 = leb-true _ _ (and_parts _ _ count).1 in
     let size : length (map input_word reads) ≡ length reads = length-map reads input_word in
     omega arith
 
 reads_few : (kind : SaidKind) (reads : List SaidInput) → is_sound_reads kind (length reads) ≡ true → length (reads_words kind reads) ≤ 9
 reads_few Source reads count = omega arith
-reads_few (Server d) reads count = inputs_few reads count
-reads_few (Delay d) reads count = inputs_few reads count
-reads_few (Loss places d) reads count = inputs_few reads count
-reads_few (Tandem stages) reads count = inputs_few reads count
-reads_few (ForkJoin branches) reads count = inputs_few reads count
-reads_few (Split route) reads count = inputs_few reads count
+reads_few (Server d) reads count = inputs_few reads 1 count
+reads_few (Delay d) reads count = inputs_few reads 1 count
+reads_few (Loss places d) reads count = inputs_few reads 1 count
+reads_few (Tandem stages) reads count = inputs_few reads 1 count
+reads_few (ForkJoin branches) reads count = inputs_few reads 1 count
+reads_few (Split route) reads count = inputs_few reads 1 count
+reads_few (Fork outputs) reads count = inputs_few reads 1 count
+reads_few Join reads count = inputs_few reads 2 count
 
 further_count : (stages : List SaidStage) → length (flat_map stage_words stages) ≡ 3 * length stages
 further_count [] = refl
@@ -243,6 +256,8 @@ kind_few (Split (Cut column cuts)) sound =
     let most : length cuts ≤ 7 = leb-true _ _ (and_parts _ _ sound.1.0).1 in
     let same : length (map decimal cuts) ≡ length cuts = length-map cuts decimal in
     omega arith
+kind_few (Fork outputs) sound = omega arith
+kind_few Join sound = omega arith
 
 pub said_few : (said : Said) → IsSoundSaid said → IsFew (said_words said)
 said_few (Bound n) sound = record { some = omega arith; few = omega arith }

@@ -8,8 +8,9 @@ use Rattle.std.proofs.lemmas.Bool.{cases_Bool}
 use Rattle.mq_base.specs.Text.{is_number, number_of}
 use Rattle.mq_model.specs.declared.said.Said.TheVariants.{Bound}
 use Rattle.mq_model.specs.declared.said.SaidInput.{SaidInput}
+use Rattle.mq_model.specs.declared.said.SaidKind.TheVariants.{Fork}
 use Rattle.mq_model.specs.declared.said.SaidRoute.TheVariants.{Turn}
-use Rattle.mq_model.specs.Lines.{a_route, counted_route, cut_route, greatest_demand, is_above, is_from_to, is_up_to, modulo_route, rising, thresholds, value_of, way_of, bound_line, inputs, input_of, is_input, is_key, key, kind_line, line, node_line, delay_kind, forkjoin_kind, loss_kind, server_kind, tandem_kind, source_line, split_kind}
+use Rattle.mq_model.specs.Lines.{a_route, counted_route, cut_route, greatest_demand, is_above, is_from_to, is_up_to, modulo_route, rising, thresholds, value_of, way_of, bound_line, first_line, fork_kind, inputs, input_of, is_input, is_key, join_line, joined_inputs, key, kind_line, line, node_line, delay_kind, forkjoin_kind, loss_kind, server_kind, tandem_kind, source_line, split_kind}
 use Rattle.mq_core.specs.Names.{is_name, is_name_byte}
 use Rattle.std.proofs.lemmas.Grind.{common_steps}
 use Rattle.mq_model.specs.Form.{◌>>=◌, Form, Word, stop, word, maybe, one, read, up_to, whole}
@@ -201,6 +202,68 @@ pub inputs_first : (all ws more : List Word) (v : Word) → read (key (codes "fr
 inputs_first all ws more v h f yes_way =
     rw (inputs_then, h, read_then, read_one_yes is_input input_of ws more v f yes_way, read_then) (front_of (input_of v) (read (up_to 7 is_input input_of) more))
 
+-- The inputs of a join: those of other nodes, where they are at least two.
+abbrev pub two_or_more : {A : Type 0} → Result (List A × List Word) (List Word) → Result (List A × List Word) (List Word)
+two_or_more (Ok ([], rest)) = Err rest
+two_or_more (Ok (first ∷ [], rest)) = Err rest
+two_or_more (Ok (first ∷ second ∷ more, rest)) = Ok (first ∷ second ∷ more, rest)
+two_or_more (Err left) = Err left
+
+both_read : {A : Type 0} (first second : A) (r : Result (List A × List Word) (List Word))
+    → go_on r (λ more. stop (first ∷ second ∷ more)) ≡ two_or_more (go_on (go_on r (λ more. stop (second ∷ more))) (λ more. stop (first ∷ more)))
+unfolding read
+both_read first second (Ok (more, rest)) = refl
+both_read first second (Err left) = refl
+
+-- behind a first that passes, one more, and at most n more
+second_then : {A : Type 0} (first : A) (n : ℕ) (p : Word → Bool) (value : Word → A) (ws : List Word)
+    → read (one p value >>= λ second. up_to n p value >>= λ more. stop (first ∷ second ∷ more)) ws ≡ two_or_more (read (up_to (suc n) p value >>= λ more. stop (first ∷ more)) ws)
+unfolding read up_to
+second_then first n p value [] = rw (read_then (one p value), read_then (up_to (suc n) p value)) refl
+second_then first n p value (w ∷ ws) =
+    elim (cases_Bool (p w)) [
+      | inl good ↦
+          rw (read_then (one p value), read_then (up_to (suc n) p value), good, read_then (up_to n p value) (λ more. stop (first ∷ value w ∷ more)) ws, read_then (up_to n p value) (λ more. stop (value w ∷ more)) ws)
+          (both_read first (value w) (read (up_to n p value) ws))
+      | inr bad ↦ rw (read_then (one p value), read_then (up_to (suc n) p value), bad) refl
+    ]
+
+-- two that pass, and at most n more
+two_then : {A : Type 0} (n : ℕ) (p : Word → Bool) (value : Word → A) (ws : List Word)
+    → read (one p value >>= λ first. one p value >>= λ second. up_to n p value >>= λ more. stop (first ∷ second ∷ more)) ws
+    ≡ two_or_more (read (one p value >>= λ first. up_to (suc n) p value >>= λ more. stop (first ∷ more)) ws)
+unfolding read
+two_then n p value [] = rw (read_then (one p value), read_then (one p value)) refl
+two_then n p value (w ∷ ws) =
+    elim (cases_Bool (p w)) [
+      | inl good ↦ rw (read_then (one p value), read_then (one p value), good) (second_then (value w) n p value ws)
+      | inr bad ↦ rw (read_then (one p value), read_then (one p value), bad) refl
+    ]
+
+abbrev behind_two : Form (List SaidInput)
+behind_two = one is_input input_of >>= λ first. one is_input input_of >>= λ second. up_to 6 is_input input_of >>= λ more. stop (first ∷ second ∷ more)
+
+joined_then : (all : List Word) → read joined_inputs all ≡ go_on (read (key (codes "from")) all) (λ _. behind_two)
+unfolding joined_inputs
+joined_then all = read_then (key (codes "from")) (λ _. behind_two) all
+
+pub joined_by : (all : List Word) → read joined_inputs all ≡ two_or_more (read inputs all)
+joined_by all = joined_then all ∙ go (read (key (codes "from")) all) ∙ ap two_or_more (sym (inputs_then all))
+  where
+    go : (r : Result (Unit {0} × List Word) (List Word)) → go_on r (λ _. behind_two) ≡ two_or_more (go_on r (λ _. behind_from))
+    go (Ok (u, ws)) = two_then 6 is_input input_of ws
+    go (Err left) = refl
+
+pub few_is_fault : {A : Type 0} (r : Result (List A × List Word) (List Word)) (all : List A) (left : List Word) → r ≡ Ok (all, left) → length all < 2 → two_or_more r ≡ Err left
+few_is_fault r [] left e few = rw e refl
+few_is_fault r (first ∷ []) left e few = rw e refl
+few_is_fault r (first ∷ second ∷ more) left e few = absurd (omega arith)
+
+pub several_are : {A : Type 0} (r : Result (List A × List Word) (List Word)) (all : List A) (left : List Word) → r ≡ Ok (all, left) → 2 ≤ length all → two_or_more r ≡ Ok (all, left)
+several_are r [] left e many = absurd (omega arith)
+several_are r (first ∷ []) left e many = absurd (omega arith)
+several_are r (first ∷ second ∷ more) left e many = rw e refl
+
 -- the first way, or the second
 pub read_maybe_yes : {A : Type 0} (p : Word → Bool) (f : Word → Form A) (g : Form A) (all ws : List Word) (w : Word) → all ≡ w ∷ ws → p w ≡ true → read (maybe p f g) all ≡ read (f w) ws
 unfolding read
@@ -228,22 +291,49 @@ read_word_none p f all e = rw e refl
 
 pub ruleset choices = (common_steps, read_maybe_yes, read_maybe_no, read_maybe_none, read_word_yes, read_word_no, read_word_none)
 
-pub line_bound : (all ws : List Word) (w : Word) → all ≡ w ∷ ws → is_key (codes "bound") w ≡ true → read line all ≡ read bound_line ws
+-- the lines that version 2 has besides
+pub line_fork : (all ws : List Word) (w : Word) → all ≡ w ∷ ws → is_key (codes "fork") w ≡ true → read line all ≡ read (node_line fork_kind) ws
 unfolding line
+line_fork all ws w e h = read_maybe_yes _ _ _ all ws w e h
+
+pub line_join : (all ws : List Word) (w : Word) → all ≡ w ∷ ws → is_key (codes "fork") w ≡ false → is_key (codes "join") w ≡ true → read line all ≡ read join_line ws
+unfolding line
+line_join all ws w e a h = read_maybe_no _ _ _ all ws w e a ∙ read_maybe_yes _ _ _ all ws w e h
+
+pub line_first : (all ws : List Word) (w : Word) → all ≡ w ∷ ws → is_key (codes "fork") w ≡ false → is_key (codes "join") w ≡ false → read line all ≡ read first_line all
+unfolding line
+line_first all ws w e a b = read_maybe_no _ _ _ all ws w e a ∙ read_maybe_no _ _ _ all ws w e b
+
+-- the number of a fork's outputs
+pub fork_is : (ws rest : List Word) (n : ℕ) → read (one (is_from_to 2 4) value_of) ws ≡ Ok (n, rest) → read fork_kind ws ≡ Ok (Fork n, rest)
+unfolding ◌>>=◌
+fork_is ws rest n h = then_stop (one (is_from_to 2 4) value_of) (λ n. Fork n) ws rest n h
+
+pub fork_fault : (ws left : List Word) → read (one (is_from_to 2 4) value_of) ws ≡ Err left → read fork_kind ws ≡ Err left
+unfolding ◌>>=◌
+fork_fault ws left h = then_fault (one (is_from_to 2 4) value_of) (λ n. stop (Fork n)) ws left h
+
+-- the lines of version 1
+pub line_bound : (all ws : List Word) (w : Word) → all ≡ w ∷ ws → is_key (codes "bound") w ≡ true → read first_line all ≡ read bound_line ws
+unfolding first_line
 line_bound all ws w e h = read_maybe_yes _ _ _ all ws w e h
 
-pub line_source : (all ws : List Word) (w : Word) → all ≡ w ∷ ws → is_key (codes "bound") w ≡ false → is_key (codes "source") w ≡ true → read line all ≡ read source_line ws
-unfolding line
+pub line_source : (all ws : List Word) (w : Word) → all ≡ w ∷ ws → is_key (codes "bound") w ≡ false → is_key (codes "source") w ≡ true → read first_line all ≡ read source_line ws
+unfolding first_line
 line_source all ws w e a h = read_maybe_no _ _ _ all ws w e a ∙ read_maybe_yes _ _ _ all ws w e h
 
-pub line_kind : (all ws : List Word) (w : Word) → all ≡ w ∷ ws → is_key (codes "bound") w ≡ false → is_key (codes "source") w ≡ false → read line all ≡ read kind_line all
-unfolding line
+pub line_kind : (all ws : List Word) (w : Word) → all ≡ w ∷ ws → is_key (codes "bound") w ≡ false → is_key (codes "source") w ≡ false → read first_line all ≡ read kind_line all
+unfolding first_line
 line_kind all ws w e a b = read_maybe_no _ _ _ all ws w e a ∙ read_maybe_no _ _ _ all ws w e b
 
-pub line_none : (all : List Word) → all ≡ [] → read line all ≡ Err all
-unfolding line kind_line
+pub line_none : (all : List Word) → all ≡ [] → read first_line all ≡ Err all
+unfolding first_line kind_line
 line_none all e =
     read_maybe_none _ _ _ all e ∙ read_maybe_none _ _ _ all e ∙ read_maybe_none _ _ _ all e ∙ read_maybe_none _ _ _ all e ∙ read_maybe_none _ _ _ all e ∙ read_maybe_none _ _ _ all e ∙ read_maybe_none _ _ _ all e ∙ read_word_none _ _ all e
+
+pub line_nothing : (all : List Word) → all ≡ [] → read line all ≡ Err all
+unfolding line
+line_nothing all e = read_maybe_none _ _ _ all e ∙ read_maybe_none _ _ _ all e ∙ line_none all e
 
 -- the kinds that read inputs
 pub kind_server : (all ws : List Word) (w : Word) → all ≡ w ∷ ws → is_key (codes "server") w ≡ true → read kind_line all ≡ read (node_line server_kind) ws

@@ -11,6 +11,7 @@ use Rattle.mq_core.specs.Ranges.{is_within}
 use Rattle.mq_core.specs.declared.model.Network.{Network}
 use Rattle.mq_graph.specs.Rank.{AreWired, left_node}
 use Rattle.mq_model.specs.Front.{IsFront}
+use Rattle.mq_model.specs.Head.{version_in}
 use Rattle.mq_model.specs.Model.{cycle_fault, inputs_fault, lines_fault, model_fault, reads_of_text, source_fault}
 use Rattle.mq_model.specs.NetworkOf.{network_in, network_of, nodes_of, saids_of, without_mark}
 use Rattle.mq_model.specs.Placed.{AreNarrow, cycle_of, placed_inputs}
@@ -19,7 +20,7 @@ use Rattle.mq_model.specs.declared.fault.ModelFault.{ModelFault}
 use Rattle.mq_model.specs.declared.fault.ModelFault.TheVariants.{Cycle, NoSource}
 use Rattle.mq_model.specs.declared.front.Front.{Front}
 use Rattle.mq_model.specs.declared.said.SaidKind.{SaidKind}
-use Rattle.mq_model.specs.declared.said.SaidKind.TheVariants.{Source, Server, Delay, Loss, Tandem, ForkJoin, Split}
+use Rattle.mq_model.specs.declared.said.SaidKind.TheVariants.{Source, Server, Delay, Loss, Tandem, ForkJoin, Split, Fork, Join}
 use Rattle.mq_model.specs.declared.said.Said.{Said}
 use Rattle.mq_model.specs.declared.said.Said.TheVariants.{Bound, Node}
 use Rattle.mq_model.proofs.InputFacts.{beside_are, declaring_are, placed_are}
@@ -45,17 +46,19 @@ too_long bytes e short h = let less : nat_lt 65536 (length bytes) ≡ false = gr
 none_few : (n : ℕ) → (n == 0) ≡ true → n ≤ 8
 none_few n h = grind (arith, common_steps, h)
 
-some_few : (n : ℕ) → is_within 1 8 n ≡ true → n ≤ 8
-some_few n h = let most : nat_le n 8 ≡ true = (and_parts _ _ h).1 in grind (arith, common_steps, most)
+some_few : (least n : ℕ) → is_within least 8 n ≡ true → n ≤ 8
+some_few least n h = let most : nat_le n 8 ≡ true = (and_parts _ _ h).1 in grind (arith, common_steps, most)
 
 few_reads : (kind : SaidKind) (n : ℕ) → is_sound_reads kind n ≡ true → n ≤ 8
 few_reads Source n h = none_few n h
-few_reads (Server d) n h = some_few n h
-few_reads (Delay d) n h = some_few n h
-few_reads (Loss places d) n h = some_few n h
-few_reads (Tandem stages) n h = some_few n h
-few_reads (ForkJoin branches) n h = some_few n h
-few_reads (Split route) n h = some_few n h
+few_reads (Server d) n h = some_few 1 n h
+few_reads (Delay d) n h = some_few 1 n h
+few_reads (Loss places d) n h = some_few 1 n h
+few_reads (Tandem stages) n h = some_few 1 n h
+few_reads (ForkJoin branches) n h = some_few 1 n h
+few_reads (Split route) n h = some_few 1 n h
+few_reads (Fork outputs) n h = some_few 1 n h
+few_reads Join n h = some_few 2 n h
 
 narrow : (saids : List Said) → AreSound saids → AreNarrow saids
 narrow [] sound = tt
@@ -89,18 +92,18 @@ pub record Unranked (bytes : List ℕ) (front : Front) (net : Network) : Type 0 
   pub fault : model_fault bytes ≡ cycle_of front.lines front.saids net.nodes
 
 pub unranked : (bytes : List ℕ) (front : Front) (net : Network) → Kept bytes front → None ≡ inputs_fault front.saids [] (placed_inputs front.lines front.saids) → list_any is_source front.saids ≡ true
-    → net ≡ network_of front.saids → Unranked bytes front net
+    → net ≡ network_of front.version front.saids → Unranked bytes front net
 unranked bytes front net k none source is =
     let ls : List (List ℕ) = lines_of (without_mark bytes) in
-    let here : net ≡ network_in bytes = is ∙ ap network_of k.is.saids in
+    let here : net ≡ network_in bytes = is ∙ ap (λ version. network_of version front.saids) k.is.version ∙ ap (network_of (version_in ls)) k.is.saids in
     let inputs : inputs_fault (saids_of ls) [] (reads_of_text ls) ≡ None = sym (none ∙ rw (k.is.saids, k.is.lines) (ap (λ placed. inputs_fault (saids_of ls) [] placed) (placed_are 1 ls))) in
     let some : list_any is_source (saids_of ls) ≡ true = subst (λ saids. list_any is_source saids ≡ true) k.is.saids source in
-    let sound : is_sound (network_of (saids_of ls)) ≡ true = unranked_is_sound ls k.lines inputs some in
+    let sound : is_sound (network_of (version_in ls) (saids_of ls)) ≡ true = unranked_is_sound ls k.lines inputs some in
     let cycles : cycle_of front.lines front.saids net.nodes ≡ cycle_fault ls =
     rw (here, k.is.saids, k.is.lines) (ap (λ lines. option_map (λ node. Cycle (get_or lines node 0) node) (left_node (nodes_of (saids_of ls)))) (declaring_are 1 ls)) in
     record {
       few = rw here (unranked_is_small ls k.lines inputs some);
-      wired = rw here (sound_is_wired (network_of (saids_of ls)) sound);
+      wired = rw here (sound_is_wired (network_of (version_in ls) (saids_of ls)) sound);
       beside = kept_beside bytes front k;
       sound = rw here sound;
       declared = here;

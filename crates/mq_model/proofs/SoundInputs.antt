@@ -12,7 +12,7 @@ use Rattle.mq_model.specs.NetworkOf.{input_in, kind_in, nodes_in, number_in, sai
 use Rattle.mq_model.specs.Said.{gives, is_among, is_same_input, names_of, outputs_of, reads_of}
 use Rattle.mq_model.specs.declared.said.SaidInput.{SaidInput}
 use Rattle.mq_model.specs.declared.said.SaidKind.{SaidKind}
-use Rattle.mq_model.specs.declared.said.SaidKind.TheVariants.{Source, Server, Delay, Loss, Tandem, ForkJoin, Split}
+use Rattle.mq_model.specs.declared.said.SaidKind.TheVariants.{Source, Server, Delay, Loss, Tandem, ForkJoin, Split, Fork, Join}
 use Rattle.mq_model.specs.declared.said.SaidRoute.TheVariants.{Modulo, Turn, Cut}
 use Rattle.mq_model.specs.declared.said.Said.{Said}
 use Rattle.mq_model.specs.declared.said.Said.TheVariants as said
@@ -118,6 +118,8 @@ outputs_are columns (ForkJoin branches) = refl
 outputs_are columns (Split (Modulo outputs column)) = refl
 outputs_are columns (Split (Turn outputs)) = refl
 outputs_are columns (Split (Cut column thresholds)) = refl
+outputs_are columns (Fork outputs) = refl
+outputs_are columns Join = refl
 
 -- the node of the input's number has its output
 pub given_output : (names columns : List Word) (input : SaidInput) (saids : List Said) → are_distinct bytes_eq (names_of saids) ≡ true → list_any (gives input) saids ≡ true

@@ -1,5 +1,5 @@
 -- What a line in the grammar says is in its ranges.
-use Rattle.std.proofs.Common.{◌≡◌, ◌∙◌, sym, ap, refl, subst, ℕ, zero, suc, ◌+◌, ◌-◌, ◌≤◌, ◌^◌, List, [], ◌∷◌, ◌++◌, length, length-append, Bool, true, Result, Ok, Err, arith, inl, inr}
+use Rattle.std.proofs.Common.{◌≡◌, ◌∙◌, sym, ap, refl, subst, ℕ, zero, suc, ◌+◌, ◌-◌, ◌≤◌, ◌^◌, List, [], ◌∷◌, ◌++◌, length, length-append, Bool, true, false, Result, Ok, Err, arith, inl, inr}
 use Rattle.std.specs.Prelude.{◌==◌, nat_lt, nat_le, codes}
 use Rattle.std.specs.List.{flat_map, list_all}
 use Rattle.std.proofs.lemmas.Bool.{cases_Bool, and_parts, and_from, le-leb, leb-true, ltb-true, ltb-false}
@@ -7,14 +7,14 @@ use Rattle.mq_core.specs.Names.{is_name}
 use Rattle.mq_core.specs.Ranges.{is_within, rises, rises_from}
 use Rattle.mq_model.specs.Form.{◌>>=◌, Form, Word, stop, word, maybe, one, up_to, read, whole}
 use Rattle.mq_base.specs.Text.{is_number}
-use Rattle.mq_model.specs.Lines.{key, is_input, input_of, is_demand, demand_of, is_from_to, is_up_to, a_name, a_demand, inputs, rising, cut_route, counted_route, server_kind, delay_kind, loss_kind, a_stage, stages, stages_behind, tandem_kind, a_branch, branches, all_branches, forkjoin_kind, room_of, split_kind, a_route, thresholds, way_of, modulo_route, node_line, bound_line, source_line, kind_line, line, is_key, is_above, greatest_demand, value_of}
+use Rattle.mq_model.specs.Lines.{key, is_input, input_of, is_demand, demand_of, is_from_to, is_up_to, a_name, a_demand, inputs, rising, cut_route, counted_route, server_kind, delay_kind, loss_kind, a_stage, stages, stages_behind, tandem_kind, a_branch, branches, all_branches, forkjoin_kind, room_of, split_kind, a_route, thresholds, way_of, modulo_route, node_line, bound_line, source_line, kind_line, line, is_key, is_above, greatest_demand, value_of, first_line, fork_kind, join_line, joined_inputs}
 use Rattle.mq_model.specs.declared.said.SaidDemand.{SaidDemand}
 use Rattle.mq_model.specs.declared.said.SaidDemand.TheVariants.{Column, Fixed}
 use Rattle.mq_model.specs.declared.said.SaidRoute.{SaidRoute}
 use Rattle.mq_model.specs.declared.said.SaidRoute.TheVariants.{Modulo, Turn, Cut}
 use Rattle.mq_model.specs.declared.said.SaidStage.{SaidStage}
 use Rattle.mq_model.specs.declared.said.SaidKind.{SaidKind}
-use Rattle.mq_model.specs.declared.said.SaidKind.TheVariants.{Source, Server, Delay, Loss, Tandem, ForkJoin, Split}
+use Rattle.mq_model.specs.declared.said.SaidKind.TheVariants.{Source, Server, Delay, Loss, Tandem, ForkJoin, Split, Fork, Join}
 use Rattle.mq_model.specs.declared.said.Said.{Said}
 use Rattle.mq_model.specs.declared.said.Said.TheVariants.{Bound, Node}
 use Rattle.mq_model.proofs.Lists.{AreAll}
@@ -53,15 +53,44 @@ IsSoundKind (Loss places demand) = (is_within 1 1048576 places ≡ true) × IsSo
 IsSoundKind (Tandem stages) = AreSoundStages stages
 IsSoundKind (ForkJoin branches) = AreSoundBranches branches
 IsSoundKind (Split route) = IsSoundRoute route
+IsSoundKind (Fork outputs) = is_within 2 4 outputs ≡ true
+IsSoundKind Join = Unit {0}
 
--- a source reads nothing, and each other node at 1 to 8 ports
+-- a source reads nothing, a join at 2 to 8 ports, and each other node at 1 to 8
 abbrev pub is_sound_reads : SaidKind → ℕ → Bool
 is_sound_reads Source reads = reads == 0
-is_sound_reads _ reads = is_within 1 8 reads
+is_sound_reads (Server demand) reads = is_within 1 8 reads
+is_sound_reads (Delay demand) reads = is_within 1 8 reads
+is_sound_reads (Loss places demand) reads = is_within 1 8 reads
+is_sound_reads (Tandem stages) reads = is_within 1 8 reads
+is_sound_reads (ForkJoin branches) reads = is_within 1 8 reads
+is_sound_reads (Split route) reads = is_within 1 8 reads
+is_sound_reads (Fork outputs) reads = is_within 1 8 reads
+is_sound_reads Join reads = is_within 2 8 reads
+
+-- a kind that version 1 has, and a line
+abbrev pub is_first_kind : SaidKind → Bool
+is_first_kind Source = true
+is_first_kind (Server demand) = true
+is_first_kind (Delay demand) = true
+is_first_kind (Loss places demand) = true
+is_first_kind (Tandem stages) = true
+is_first_kind (ForkJoin branches) = true
+is_first_kind (Split route) = true
+is_first_kind (Fork outputs) = false
+is_first_kind Join = false
+
+abbrev pub is_first : Said → Bool
+is_first (Bound n) = true
+is_first (Node name kind reads) = is_first_kind kind
 
 abbrev pub IsSoundSaid : Said → Type 0
 IsSoundSaid (Bound n) = nat_le n (2 ^ 60) ≡ true
 IsSoundSaid (Node name kind reads) = (is_name name ≡ true) × IsSoundKind kind × (is_sound_reads kind (length reads) ≡ true)
+
+-- in its ranges, and a line that version 1 has or not
+abbrev pub IsSaidOf : Bool → Said → Type 0
+IsSaidOf first said = IsSoundSaid said × (is_first said ≡ first)
 
 -- Each value that a form gives has a property.
 unfoldable pub Keeps : {A : Type 0} → (A → Type 0) → Form A → Type 0
@@ -74,6 +103,12 @@ unfolding Keeps ◌>>=◌
 keeps_then P Q (stop a) more h next = next a h
 keeps_then P Q (word p f) more h next = λ w passes. keeps_then P Q (f w) more (h w passes) next
 keeps_then P Q (maybe p f g) more h next = (λ w passes. keeps_then P Q (f w) more (h.0 w passes) next, keeps_then P Q g more h.1 next)
+
+keeps_weaker : {A : Type 0} (P Q : A → Type 0) (f : Form A) → ((a : A) → P a → Q a) → Keeps P f → Keeps Q f
+unfolding Keeps
+keeps_weaker P Q (stop a) weaker h = weaker a h
+keeps_weaker P Q (word p f) weaker h = λ w passes. keeps_weaker P Q (f w) weaker (h w passes)
+keeps_weaker P Q (maybe p f g) weaker h = (λ w passes. keeps_weaker P Q (f w) weaker (h.0 w passes), keeps_weaker P Q g weaker h.1)
 
 keeps_stop : {A : Type 0} (P : A → Type 0) (a : A) → P a → Keeps P (stop a)
 unfolding Keeps
@@ -174,6 +209,22 @@ keeps_inputs =
     (λ first _. keeps_then (λ more. length more ≤ 7) IsCount (up_to 7 is_input input_of) _ (keeps_up_to 7 is_input input_of)
     (λ more few. keeps_stop IsCount (first ∷ more) (count_is first more few))))
 
+-- at least two
+abbrev IsSeveral : {A : Type 0} → List A → Type 0
+IsSeveral xs = is_within 2 8 (length xs) ≡ true
+
+several_is : {A : Type 0} (x y : A) (xs : List A) → length xs ≤ 6 → IsSeveral (x ∷ y ∷ xs)
+several_is x y xs h = and_from _ _ (le-leb 2 (length (x ∷ y ∷ xs)) (omega arith)) (le-leb (length (x ∷ y ∷ xs)) 8 (omega arith))
+
+keeps_joined : Keeps IsSeveral joined_inputs
+unfolding joined_inputs
+keeps_joined =
+    keeps_then IsAny IsSeveral (key (codes "from")) _ (keeps_key (codes "from"))
+    (λ _ _. keeps_then IsAny IsSeveral (one is_input input_of) _ (keeps_one IsAny is_input input_of (λ w h. tt))
+    (λ first _. keeps_then IsAny IsSeveral (one is_input input_of) _ (keeps_one IsAny is_input input_of (λ w h. tt))
+    (λ second _. keeps_then (λ more. length more ≤ 6) IsSeveral (up_to 6 is_input input_of) _ (keeps_up_to 6 is_input input_of)
+    (λ more few. keeps_stop IsSeveral (first ∷ second ∷ more) (several_is first second more few)))))
+
 -- thresholds above this
 record AreAbove (n last : ℕ) (thresholds : List ℕ) : Type 0 where
   few : length thresholds ≤ n
@@ -226,21 +277,24 @@ unfolding counted_route
 keeps_counted =
     keeps_then (λ outputs. is_within 2 8 outputs ≡ true) IsSoundRoute (one (is_from_to 2 8) value_of) way_of (keeps_one _ (is_from_to 2 8) value_of (λ w h. within_from_to 2 8 w h)) keeps_way
 
--- a kind that reads at 1 to 8 ports
+-- a kind that reads at 1 to 8 ports, and that version 1 has or not
+abbrev ReadsAny : Bool → SaidKind → Type 0
+ReadsAny first kind = IsSoundKind kind × ((reads : ℕ) → is_within 1 8 reads ≡ true → is_sound_reads kind reads ≡ true) × (is_first_kind kind ≡ first)
+
 abbrev ReadsSome : SaidKind → Type 0
-ReadsSome kind = IsSoundKind kind × ((reads : ℕ) → is_within 1 8 reads ≡ true → is_sound_reads kind reads ≡ true)
+ReadsSome kind = ReadsAny true kind
 
 keeps_server : Keeps ReadsSome server_kind
-keeps_server = keeps_then IsSoundDemand ReadsSome a_demand _ keeps_demand (λ demand sound. keeps_stop ReadsSome (Server demand) (sound, λ reads h. h))
+keeps_server = keeps_then IsSoundDemand ReadsSome a_demand _ keeps_demand (λ demand sound. keeps_stop ReadsSome (Server demand) (sound, (λ reads h. h), refl))
 
 keeps_delay : Keeps ReadsSome delay_kind
-keeps_delay = keeps_then IsSoundDemand ReadsSome a_demand _ keeps_demand (λ demand sound. keeps_stop ReadsSome (Delay demand) (sound, λ reads h. h))
+keeps_delay = keeps_then IsSoundDemand ReadsSome a_demand _ keeps_demand (λ demand sound. keeps_stop ReadsSome (Delay demand) (sound, (λ reads h. h), refl))
 
 keeps_loss : Keeps ReadsSome loss_kind
 unfolding loss_kind
 keeps_loss =
     keeps_then (λ places. is_within 1 1048576 places ≡ true) ReadsSome (one (is_from_to 1 1048576) value_of) _ (keeps_one _ (is_from_to 1 1048576) value_of (λ w h. within_from_to 1 1048576 w h))
-    (λ places within. keeps_then IsSoundDemand ReadsSome a_demand _ keeps_demand (λ demand sound. keeps_stop ReadsSome (Loss places demand) ((within, sound), λ reads h. h)))
+    (λ places within. keeps_then IsSoundDemand ReadsSome a_demand _ keeps_demand (λ demand sound. keeps_stop ReadsSome (Loss places demand) ((within, sound), (λ reads h. h), refl)))
 
 keeps_stage : Keeps (IsSoundStage 1 4) a_stage
 unfolding a_stage
@@ -276,7 +330,7 @@ keeps_tandem : Keeps ReadsSome tandem_kind
 unfolding tandem_kind
 keeps_tandem =
     keeps_then IsSoundDemand ReadsSome a_demand _ keeps_demand
-    (λ first sound. keeps_then AreSoundStages ReadsSome (stages_behind first) _ (keeps_behind first sound) (λ all are. keeps_stop ReadsSome (Tandem all) (are, λ reads h. h)))
+    (λ first sound. keeps_then AreSoundStages ReadsSome (stages_behind first) _ (keeps_behind first sound) (λ all are. keeps_stop ReadsSome (Tandem all) (are, (λ reads h. h), refl)))
 
 -- at most so many demands
 record AreFewDemands (n : ℕ) (demands : List SaidDemand) : Type 0 where
@@ -358,42 +412,63 @@ keeps_all =
 
 keeps_forkjoin : Keeps ReadsSome forkjoin_kind
 unfolding forkjoin_kind
-keeps_forkjoin = keeps_then AreSoundBranches ReadsSome all_branches _ keeps_all (λ all are. keeps_stop ReadsSome (ForkJoin all) (are, λ reads h. h))
+keeps_forkjoin = keeps_then AreSoundBranches ReadsSome all_branches _ keeps_all (λ all are. keeps_stop ReadsSome (ForkJoin all) (are, (λ reads h. h), refl))
 
 keeps_route : Keeps IsSoundRoute a_route
 unfolding a_route
 keeps_route = keeps_maybe IsSoundRoute (is_key (codes "cut")) _ _ (λ _ _. keeps_cut) keeps_counted
 
 keeps_split : Keeps ReadsSome split_kind
-keeps_split = keeps_then IsSoundRoute ReadsSome a_route _ keeps_route (λ route sound. keeps_stop ReadsSome (Split route) (sound, λ reads h. h))
+keeps_split = keeps_then IsSoundRoute ReadsSome a_route _ keeps_route (λ route sound. keeps_stop ReadsSome (Split route) (sound, (λ reads h. h), refl))
 
-keeps_node : (kind : Form SaidKind) → Keeps ReadsSome kind → Keeps IsSoundSaid (node_line kind)
+keeps_fork_kind : Keeps (ReadsAny false) fork_kind
+keeps_fork_kind = keeps_one (ReadsAny false) (is_from_to 2 4) (λ w. Fork (value_of w)) (λ w h. (within_from_to 2 4 w h, (λ reads h. h), refl))
+
+keeps_node : (first : Bool) (kind : Form SaidKind) → Keeps (ReadsAny first) kind → Keeps (IsSaidOf first) (node_line kind)
 unfolding node_line
-keeps_node kind keeps =
-    keeps_then (λ name. is_name name ≡ true) IsSoundSaid a_name _ keeps_name
-    (λ name named. keeps_then ReadsSome IsSoundSaid kind _ keeps
-    (λ said sound. keeps_then IsCount IsSoundSaid inputs _ keeps_inputs
-    (λ reads count. keeps_stop IsSoundSaid (Node name said reads) (named, sound.0, sound.1 (length reads) count))))
+keeps_node first kind keeps =
+    keeps_then (λ name. is_name name ≡ true) (IsSaidOf first) a_name _ keeps_name
+    (λ name named. keeps_then (ReadsAny first) (IsSaidOf first) kind _ keeps
+    (λ said sound. keeps_then IsCount (IsSaidOf first) inputs _ keeps_inputs
+    (λ reads count. keeps_stop (IsSaidOf first) (Node name said reads) ((named, sound.0, sound.1 (length reads) count), sound.2))))
 
-keeps_bound : Keeps IsSoundSaid bound_line
-keeps_bound = keeps_one IsSoundSaid (is_up_to (2 ^ 60)) (λ w. Bound (value_of w)) (λ w h. number_within w (2 ^ 60) h)
+pub keeps_fork : Keeps (IsSaidOf false) (node_line fork_kind)
+keeps_fork = keeps_node false fork_kind keeps_fork_kind
 
-keeps_source : Keeps IsSoundSaid source_line
-keeps_source = keeps_then (λ name. is_name name ≡ true) IsSoundSaid a_name _ keeps_name (λ name named. keeps_stop IsSoundSaid (Node name Source []) (named, tt, refl))
+pub keeps_join : Keeps (IsSaidOf false) join_line
+unfolding join_line
+keeps_join =
+    keeps_then (λ name. is_name name ≡ true) (IsSaidOf false) a_name _ keeps_name
+    (λ name named. keeps_then IsSeveral (IsSaidOf false) joined_inputs _ keeps_joined
+    (λ reads count. keeps_stop (IsSaidOf false) (Node name Join reads) ((named, tt, count), refl)))
 
-keeps_kinds : Keeps IsSoundSaid kind_line
+keeps_bound : Keeps (IsSaidOf true) bound_line
+keeps_bound = keeps_one (IsSaidOf true) (is_up_to (2 ^ 60)) (λ w. Bound (value_of w)) (λ w h. (number_within w (2 ^ 60) h, refl))
+
+keeps_source : Keeps (IsSaidOf true) source_line
+keeps_source = keeps_then (λ name. is_name name ≡ true) (IsSaidOf true) a_name _ keeps_name (λ name named. keeps_stop (IsSaidOf true) (Node name Source []) ((named, tt, refl), refl))
+
+keeps_kinds : Keeps (IsSaidOf true) kind_line
 unfolding kind_line
 keeps_kinds =
-    keeps_maybe IsSoundSaid (is_key (codes "server")) _ _ (λ _ _. keeps_node server_kind keeps_server)
-    (keeps_maybe IsSoundSaid (is_key (codes "delay")) _ _ (λ _ _. keeps_node delay_kind keeps_delay)
-    (keeps_maybe IsSoundSaid (is_key (codes "loss")) _ _ (λ _ _. keeps_node loss_kind keeps_loss)
-    (keeps_maybe IsSoundSaid (is_key (codes "tandem")) _ _ (λ _ _. keeps_node tandem_kind keeps_tandem)
-    (keeps_maybe IsSoundSaid (is_key (codes "forkjoin")) _ _ (λ _ _. keeps_node forkjoin_kind keeps_forkjoin)
-    (keeps_word IsSoundSaid (is_key (codes "split")) _ (λ _ _. keeps_node split_kind keeps_split))))))
+    keeps_maybe (IsSaidOf true) (is_key (codes "server")) _ _ (λ _ _. keeps_node true server_kind keeps_server)
+    (keeps_maybe (IsSaidOf true) (is_key (codes "delay")) _ _ (λ _ _. keeps_node true delay_kind keeps_delay)
+    (keeps_maybe (IsSaidOf true) (is_key (codes "loss")) _ _ (λ _ _. keeps_node true loss_kind keeps_loss)
+    (keeps_maybe (IsSaidOf true) (is_key (codes "tandem")) _ _ (λ _ _. keeps_node true tandem_kind keeps_tandem)
+    (keeps_maybe (IsSaidOf true) (is_key (codes "forkjoin")) _ _ (λ _ _. keeps_node true forkjoin_kind keeps_forkjoin)
+    (keeps_word (IsSaidOf true) (is_key (codes "split")) _ (λ _ _. keeps_node true split_kind keeps_split))))))
+
+-- what the lines of version 1 say
+pub keeps_first : Keeps (IsSaidOf true) first_line
+unfolding first_line
+keeps_first =
+    keeps_maybe (IsSaidOf true) (is_key (codes "bound")) _ _ (λ _ _. keeps_bound)
+    (keeps_maybe (IsSaidOf true) (is_key (codes "source")) _ _ (λ _ _. keeps_source) keeps_kinds)
 
 -- what the table says is in its ranges
 pub keeps_line : Keeps IsSoundSaid line
 unfolding line
 keeps_line =
-    keeps_maybe IsSoundSaid (is_key (codes "bound")) _ _ (λ _ _. keeps_bound)
-    (keeps_maybe IsSoundSaid (is_key (codes "source")) _ _ (λ _ _. keeps_source) keeps_kinds)
+    keeps_maybe IsSoundSaid (is_key (codes "fork")) _ _ (λ _ _. keeps_weaker (IsSaidOf false) IsSoundSaid (node_line fork_kind) (λ said is. is.0) keeps_fork)
+    (keeps_maybe IsSoundSaid (is_key (codes "join")) _ _ (λ _ _. keeps_weaker (IsSaidOf false) IsSoundSaid join_line (λ said is. is.0) keeps_join)
+    (keeps_weaker (IsSaidOf true) IsSoundSaid first_line (λ said is. is.0) keeps_first))

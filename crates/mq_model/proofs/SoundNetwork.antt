@@ -13,12 +13,15 @@ use Rattle.mq_core.specs.Wiring.{is_source_kind}
 use Rattle.mq_core.specs.declared.model.Input.{Input}
 use Rattle.mq_core.specs.declared.model.Node.{Node}
 use Rattle.mq_model.specs.Form.{Word}
+use Rattle.mq_model.specs.Head.{version_in}
+use Rattle.mq_model.proofs.HeadFacts.{version_within}
+use Rattle.mq_model.proofs.Lists.{AreAll}
 use Rattle.mq_model.specs.Model.{inputs_fault, lines_fault, reads_of_text}
 use Rattle.mq_model.specs.NetworkOf.{bound_of, input_in, kind_in, network_of, nodes_in, nodes_of, number_in, saids_of}
 use Rattle.mq_model.specs.Said.{columns_of, distinct_after, gives, is_among, is_source, is_source_said, mentioned, mentions_of_kind, names_of, reads_of}
 use Rattle.mq_model.specs.declared.said.SaidInput.{SaidInput}
 use Rattle.mq_model.specs.declared.said.SaidKind.{SaidKind}
-use Rattle.mq_model.specs.declared.said.SaidKind.TheVariants.{Source, Server, Delay, Loss, Tandem, ForkJoin, Split}
+use Rattle.mq_model.specs.declared.said.SaidKind.TheVariants.{Source, Server, Delay, Loss, Tandem, ForkJoin, Split, Fork, Join}
 use Rattle.mq_model.specs.declared.said.SaidRoute.TheVariants.{Modulo, Turn, Cut}
 use Rattle.mq_model.specs.declared.said.Said.{Said}
 use Rattle.mq_model.specs.declared.said.Said.TheVariants as said
@@ -28,7 +31,8 @@ use Rattle.mq_model.proofs.Stages.{stages_columns, stages_in_range, stages_names
 use Rattle.mq_model.proofs.SoundColumns.{are_distinct_after, list_all_after, mentions_in_order, same_name}
 use Rattle.mq_model.proofs.SoundInputs.{AreInputs, given_among, given_output, numbers_distinct, told_are_inputs}
 use Rattle.mq_model.proofs.SoundLines.{IsSoundKind, is_sound_reads}
-use Rattle.mq_model.proofs.SoundText.{AreFew, AreSound, told_are_few, told_are_sound}
+use Rattle.mq_model.proofs.SoundText.{AreFew, AreSound, lines_of_version, told_are_few, told_are_sound}
+use Rattle.mq_model.proofs.Versions.{is_of, nodes_of_version}
 
 -- What the nodes have of the lines.
 abbrev node_name : Node → Word
@@ -55,6 +59,8 @@ columns_are columns (ForkJoin branches) = branches_columns columns branches
 columns_are columns (Split (Modulo outputs column)) = refl
 columns_are columns (Split (Turn outputs)) = refl
 columns_are columns (Split (Cut column thresholds)) = refl
+columns_are columns (Fork outputs) = refl
+columns_are columns Join = refl
 
 mentions_are : (names columns : List Word) (saids : List Said) → flat_map (λ (node : Node). columns_of_kind node.kind) (flat_map (nodes_in names columns) saids) ≡ map (number_in columns) (flat_map mentioned saids)
 mentions_are names columns [] = refl
@@ -72,6 +78,8 @@ source_is columns (Loss places d) = refl
 source_is columns (Tandem stages) = refl
 source_is columns (ForkJoin branches) = refl
 source_is columns (Split route) = refl
+source_is columns (Fork outputs) = refl
+source_is columns Join = refl
 
 sources_are : (names columns : List Word) (saids : List Said) → list_any is_source saids ≡ true → list_any (λ (node : Node). is_source_kind node.kind) (flat_map (nodes_in names columns) saids) ≡ true
 sources_are names columns [] h = absurd (cc)
@@ -102,6 +110,8 @@ kind_names (ForkJoin branches) sound = branches_names branches sound
 kind_names (Split (Modulo outputs column)) sound = and_from _ _ sound.1 refl
 kind_names (Split (Turn outputs)) sound = refl
 kind_names (Split (Cut column thresholds)) sound = and_from _ _ sound.0 refl
+kind_names (Fork outputs) sound = refl
+kind_names Join sound = refl
 
 mentioned_names : (saids : List Said) → AreSound saids → list_all is_name (flat_map mentioned saids) ≡ true
 mentioned_names [] sound = refl
@@ -137,6 +147,8 @@ kind_sound columns (Split (Modulo outputs column)) sound among = and_from _ _ so
 kind_sound columns (Split (Turn outputs)) sound among = sound
 kind_sound columns (Split (Cut column thresholds)) sound among =
     and_from _ _ (and_from _ _ (and_from _ _ (number_below columns column (and_parts _ _ among).0) sound.1.0) sound.1.1) sound.1.2
+kind_sound columns (Fork outputs) sound among = sound
+kind_sound columns Join sound among = refl
 
 count_sound : (columns : List Word) (kind : SaidKind) (reads : ℕ) → is_sound_reads kind reads ≡ true → is_sound_count (kind_in columns kind) reads ≡ true
 count_sound columns Source reads h = h
@@ -146,6 +158,8 @@ count_sound columns (Loss places d) reads h = h
 count_sound columns (Tandem stages) reads h = h
 count_sound columns (ForkJoin branches) reads h = h
 count_sound columns (Split route) reads h = h
+count_sound columns (Fork outputs) reads h = h
+count_sound columns Join reads h = h
 
 outputs_sound : (names : List Word) (nodes : List Node) (inputs : List SaidInput) → list_all (λ (i : SaidInput). is_output (slice_get nodes (number_in names i.name)) i.out) inputs ≡ true
     → list_all (λ (i : Input). is_output (slice_get nodes i.node) i.out) (map (input_in names) inputs) ≡ true
@@ -178,17 +192,19 @@ all_named saids [] h = refl
 all_named saids (input ∷ inputs) h = let both = and_parts _ _ h in and_from _ _ (given_among input saids both.0) (all_named saids inputs both.1)
 
 -- The parts that a text without a fault has.
-record IsSoundText (saids : List Said) : Type 0 where
+record IsSoundText (version : ℕ) (saids : List Said) : Type 0 where
+  within : is_within 1 2 version ≡ true
+  all_of : AreAll (λ said. is_of version said ≡ true) saids
   sound : AreSound saids
   few : AreFew saids
   inputs : AreInputs saids [] (flat_map reads_of saids)
   source : list_any is_source saids ≡ true
 
-sound_parts : (ls : List (List ℕ)) → lines_fault [] ls ≡ None → inputs_fault (saids_of ls) [] (reads_of_text ls) ≡ None → list_any is_source (saids_of ls) ≡ true → IsSoundText (saids_of ls)
-sound_parts ls lines inputs source = record { sound = told_are_sound ls lines; few = told_are_few ls lines; inputs = told_are_inputs ls inputs; source = source }
+sound_parts : (ls : List (List ℕ)) → lines_fault [] ls ≡ None → inputs_fault (saids_of ls) [] (reads_of_text ls) ≡ None → list_any is_source (saids_of ls) ≡ true → IsSoundText (version_in ls) (saids_of ls)
+sound_parts ls lines inputs source = record { within = version_within ls; all_of = lines_of_version [] ls lines; sound = told_are_sound ls lines; few = told_are_few ls lines; inputs = told_are_inputs ls inputs; source = source }
 
-network_sound : (saids : List Said) → IsSoundText saids → is_sound (network_of saids) ≡ true
-network_sound saids text =
+network_sound : (version : ℕ) (saids : List Said) → IsSoundText version saids → is_sound (network_of version saids) ≡ true
+network_sound version saids text =
     let names : List Word = names_of saids in
     let columns : List Word = columns_of saids in
     let reads : List SaidInput = flat_map reads_of saids in
@@ -198,6 +214,7 @@ network_sound saids text =
     let source = sources_are names columns saids text.source in
     let some : 1 ≤ length (nodes_of saids) = some_node (λ (node : Node). is_source_kind node.kind) (nodes_of saids) source in
     let within : is_within 1 64 (length (nodes_of saids)) ≡ true = and_from _ _ (le-leb _ _ some) (le-leb _ _ (omega arith)) in
+    let kinds = nodes_of_version names columns version saids (and_parts _ _ text.within).0 text.all_of in
     let few_columns = le-leb _ _ text.few.columns in
     let bound = bound_small saids text.sound in
     let distinct : are_distinct bytes_eq (map (λ (node : Node). node.name) (nodes_of saids)) ≡ true = rw named text.few.distinct in
@@ -209,11 +226,11 @@ network_sound saids text =
     rw (inputs_are names columns saids) (numbers_distinct names reads (all_named saids reads text.inputs.given) (text.inputs.distinct refl)) in
     let mentions : mentions_from 0 (length columns) (flat_map (λ (node : Node). columns_of_kind node.kind) (nodes_of saids)) ≡ true =
     rw (mentions_are names columns saids) (mentions_in_order [] (flat_map mentioned saids) columns refl) in
-    and_from _ _ (and_from _ _ (and_from _ _ (and_from _ _ (and_from _ _ (and_from _ _ (and_from _ _ (and_from _ _ (and_from _ _ within few_columns) bound) source) distinct) column_names) columns_distinct) nodes) once) mentions
+    and_from _ _ (and_from _ _ (and_from _ _ (and_from _ _ (and_from _ _ (and_from _ _ (and_from _ _ (and_from _ _ (and_from _ _ (and_from _ _ (and_from _ _ text.within kinds) within) few_columns) bound) source) distinct) column_names) columns_distinct) nodes) once) mentions
 
 -- the same before the nodes are ranked
-pub unranked_is_sound : (ls : List (List ℕ)) → lines_fault [] ls ≡ None → inputs_fault (saids_of ls) [] (reads_of_text ls) ≡ None → list_any is_source (saids_of ls) ≡ true → IsTrue (is_sound (network_of (saids_of ls)))
-unranked_is_sound ls lines inputs source = network_sound (saids_of ls) (sound_parts ls lines inputs source)
+pub unranked_is_sound : (ls : List (List ℕ)) → lines_fault [] ls ≡ None → inputs_fault (saids_of ls) [] (reads_of_text ls) ≡ None → list_any is_source (saids_of ls) ≡ true → IsTrue (is_sound (network_of (version_in ls) (saids_of ls)))
+unranked_is_sound ls lines inputs source = network_sound (version_in ls) (saids_of ls) (sound_parts ls lines inputs source)
 
 pub unranked_is_small : (ls : List (List ℕ)) → lines_fault [] ls ≡ None → inputs_fault (saids_of ls) [] (reads_of_text ls) ≡ None → list_any is_source (saids_of ls) ≡ true → length (nodes_of (saids_of ls)) ≤ 64
 unranked_is_small ls lines inputs source =

@@ -11,15 +11,19 @@ use Rattle.std.proofs.lemmas.List.Elements.{filter_map-append}
 use Rattle.mq_base.specs.Text.{words_of}
 use Rattle.mq_core.specs.Sound.{are_distinct}
 use Rattle.mq_model.specs.Form.{Word, read, whole}
-use Rattle.mq_model.specs.Lines.{kind_line, line}
-use Rattle.mq_model.specs.Model.{begins_comment, is_allowed, is_head, is_skipped, is_too_many, line_fault, lines_fault, read_fault, said_fault, words_fault}
+use Rattle.mq_model.specs.Head.{begins_comment, is_head, is_skipped, version_in}
+use Rattle.mq_model.specs.Lines.{first_line, kind_line, line}
+use Rattle.mq_model.specs.Model.{begins_bound, begins_later, is_allowed, is_barred, is_too_many, line_fault, lines_fault, read_fault, said_fault, words_fault}
 use Rattle.mq_model.specs.NetworkOf.{said_of, saids_of}
 use Rattle.mq_model.specs.Said.{columns_of, declared, distinct_after, is_among, names_of}
 use Rattle.mq_model.specs.declared.fault.ModelFault.TheVariants.{BadByte, BadHead}
 use Rattle.mq_model.specs.declared.said.Said.{Said}
 use Rattle.mq_model.specs.declared.said.Said.TheVariants.{Bound, Node}
 use Rattle.mq_model.proofs.SoundColumns.{name_is, are_distinct_push}
+use Rattle.mq_model.proofs.HeadFacts.{version_kept}
+use Rattle.mq_model.proofs.Lists.{AreAll}
 use Rattle.mq_model.proofs.SoundLines.{IsSoundSaid, keeps_line, keeps_whole}
+use Rattle.mq_model.proofs.Versions.{is_of, of_words}
 
 -- What a line says is in its ranges; its name is new, and its names are few, behind those before it.
 pub record IsClean (before : List Said) (said : Said) : Type 0 where
@@ -41,13 +45,13 @@ or_none (Some a) y h = absurd (cc)
 
 -- neither an empty line, nor a comment, nor the head says anything
 pub skipped_says_nothing : (ws : List Word) (said : Said) → begins_comment ws ≡ true → whole (read line ws) ≡ Ok said → ⊥
-unfolding read line kind_line
+unfolding read line first_line kind_line
 skipped_says_nothing [] said h e = cc
 skipped_says_nothing ([] ∷ ws) said h e = cc
 skipped_says_nothing ((b ∷ more) ∷ ws) said h e = let k = rw (eqb-true b 35 h) at e in cc
 
 pub head_says_nothing : (ws : List Word) (said : Said) → is_head ws ≡ true → whole (read line ws) ≡ Ok said → ⊥
-unfolding read line kind_line
+unfolding read line first_line kind_line
 head_says_nothing [] said h e = cc
 head_says_nothing (w ∷ []) said h e = cc
 head_says_nothing (w ∷ v ∷ []) said h e = let head = and_parts _ _ h in let k = rw (name_is w (codes "model") head.0) at e in cc
@@ -57,11 +61,11 @@ said_is : (r : Result Said (List Word)) (said : Said) → elim r [ Ok said ↦ S
 said_is (Ok other) said h = cc
 said_is (Err left) said h = absurd (cc)
 
--- a line that says something, and has no fault behind these lines
-clean_line : (before : List (List ℕ)) (l : List ℕ) (said : Said) → line_fault before l ≡ None → said_of l ≡ Some said → IsClean (saids_of before) said
+-- a line that says something stands behind the head, and without a fault its words have none
+words_are_fine : (before : List (List ℕ)) (l : List ℕ) (said : Said) → line_fault before l ≡ None → whole (read line (words_of l)) ≡ Ok said
+    → (list_all is_skipped before ≡ false) × (words_fault before (words_of l) ≡ None)
 unfolding line_fault
-clean_line before l said none says =
-    let is : whole (read line (words_of l)) ≡ Ok said = said_is (whole (read line (words_of l))) said says in
+words_are_fine before l said none is =
     elim (cases_Bool (is_skipped l)) [
       | inl skipped ↦ absurd (skipped_says_nothing (words_of l) said skipped is)
       | inr kept ↦
@@ -76,13 +80,41 @@ clean_line before l said none says =
                 ]
             | inr later ↦
                 let behind : words_fault before (words_of l) ≡ None = rw later at head_or_words in
-                let words = cond_none _ _ _ behind in
-                let fault : said_fault (length before + 1) (saids_of before) said ≡ None = subst (λ r. read_fault before (words_of l) r ≡ None) is words.1 in
-                let fresh = cond_none _ _ _ fault in
-                let few = cond_none _ _ _ fresh.1 in
-                record { sound = keeps_whole IsSoundSaid line (words_of l) said keeps_line is; fresh = fresh.0; few = few.0 }
+                (later, behind)
           ]
     ]
+
+-- a line that says something, and has no fault behind these lines
+clean_line : (before : List (List ℕ)) (l : List ℕ) (said : Said) → line_fault before l ≡ None → said_of l ≡ Some said → IsClean (saids_of before) said
+clean_line before l said none says =
+    let is : whole (read line (words_of l)) ≡ Ok said = said_is (whole (read line (words_of l))) said says in
+    let words = cond_none _ _ _ (words_are_fine before l said none is).1 in
+    let fault : said_fault (length before + 1) (saids_of before) said ≡ None = subst (λ r. read_fault before (words_of l) r ≡ None) is words.1 in
+    let fresh = cond_none _ _ _ fault in
+    let few = cond_none _ _ _ fresh.1 in
+    record { sound = keeps_whole IsSoundSaid line (words_of l) said keeps_line is; fresh = fresh.0; few = few.0 }
+
+-- such a line is one of the text's version
+line_of_version : (before ls : List (List ℕ)) (l : List ℕ) (said : Said) → line_fault before l ≡ None → said_of l ≡ Some said → is_of (version_in (before ++ l ∷ ls)) said ≡ true
+line_of_version before ls l said none says =
+    let is : whole (read line (words_of l)) ≡ Ok said = said_is (whole (read line (words_of l))) said says in
+    let fine = words_are_fine before l said none is in
+    let second : Bool = list_any (λ k. begins_bound (words_of k)) before && begins_bound (words_of l) in
+    let later : Bool = nat_lt (version_in before) 2 && begins_later (words_of l) in
+    let free : (nat_lt (version_in before) 2 && begins_later (words_of l)) ≡ false = (or_parts second later (cond_none _ _ _ fine.1).0).1 in
+    rw (version_kept before (l ∷ ls) fine.0) (of_words (version_in before) (words_of l) said is free)
+
+pub lines_of_version : (before ls : List (List ℕ)) → lines_fault before ls ≡ None → AreAll (λ said. is_of (version_in (before ++ ls)) said ≡ true) (saids_of ls)
+unfolding lines_fault
+lines_of_version before [] none = tt
+lines_of_version before (l ∷ ls) none =
+    let here = or_none (line_fault before l) (lines_fault (before ++ l ∷ []) ls) none in
+    go (said_of l) refl here.0 (subst (λ all. AreAll (λ said. is_of (version_in all) said ≡ true) (saids_of ls)) (append_assoc before (l ∷ []) ls) (lines_of_version (before ++ l ∷ []) ls here.1))
+  where
+    go : (o : Option Said) → said_of l ≡ o → line_fault before l ≡ None → AreAll (λ said. is_of (version_in (before ++ l ∷ ls)) said ≡ true) (saids_of ls)
+        → AreAll (λ said. is_of (version_in (before ++ l ∷ ls)) said ≡ true) (saids_of (l ∷ ls))
+    go None says none more = rw says more
+    go (Some said) says none more = rw says (line_of_version before ls l said none says, more)
 
 -- what one more line says
 pub saids_more : (before : List (List ℕ)) (l : List ℕ) → saids_of (before ++ l ∷ []) ≡ saids_of before ++ saids_of (l ∷ [])

@@ -3,21 +3,25 @@ use Rattle.std.proofs.Common.{◌≡◌, ◌∙◌, sym, ap, refl, subst, ℕ, �
 use Rattle.std.specs.Prelude.{◌&&◌, ◌==◌, not, nat_le, codes}
 use Rattle.std.specs.List.{list_all, list_any, flat_map}
 use Rattle.std.specs.Str.{bytes_eq}
-use Rattle.std.proofs.lemmas.Bool.{cases_Bool, both_ways, or_from, or_parts, and_left, and_cases, le-ltb, lt-leb, false_from_ne_true}
+use Rattle.std.proofs.lemmas.Bool.{cases_Bool, both_ways, or_from, or_parts, and_left, and_right, and_cases, le-ltb, lt-leb, false_from_ne_true}
 use Rattle.std.proofs.lemmas.Grind.{flat_map-append}
 use Rattle.mq_base.specs.Text.{words_of}
 use Rattle.mq_core.specs.Sound.{are_distinct}
 use Rattle.mq_model.specs.Form.{Word, read, whole}
-use Rattle.mq_model.specs.Lines.{bound_line, line}
-use Rattle.mq_model.specs.Model.{begins_bound, is_allowed, is_head, is_skipped, is_too_many, line_fault, lines_fault, read_fault, said_fault}
+use Rattle.mq_model.specs.Head.{is_head, is_skipped, version_in}
+use Rattle.mq_model.specs.Lines.{bound_line, first_line, line}
+use Rattle.mq_model.specs.Model.{begins_bound, is_allowed, is_barred, is_too_many, line_fault, lines_fault, read_fault, said_fault}
 use Rattle.mq_model.specs.NetworkOf.{said_of, saids_of}
 use Rattle.mq_model.specs.Said.{columns_of, declared, distinct_after, is_among, mentioned, names_of}
 use Rattle.mq_model.specs.declared.said.Said.{Said}
 use Rattle.mq_model.specs.declared.said.Said.TheVariants.{Bound, Node}
 use Rattle.mq_model.proofs.NamesBack.{others_before}
+use Rattle.mq_model.proofs.HeadFacts.{version_kept}
+use Rattle.mq_model.proofs.Lists.{AreAll}
 use Rattle.mq_model.proofs.SoundColumns.{name_is}
 use Rattle.mq_model.proofs.SoundLines.{Keeps, keeps_whole}
 use Rattle.mq_model.proofs.SoundText.{AreFew, saids_more, skipped_says_nothing}
+use Rattle.mq_model.proofs.Versions.{is_of, words_of_version}
 
 -- A line of allowed bytes that says this.
 pub record Says (l : List ℕ) (said : Said) : Type 0 where
@@ -49,7 +53,7 @@ unfolding Keeps
 keeps_bound_line = λ w h. refl
 
 bound_says : (ws : List Word) (said : Said) → begins_bound ws ≡ true → whole (read line ws) ≡ Ok said → is_bound said ≡ true
-unfolding read line
+unfolding read line first_line
 bound_says [] said h e = absurd (cc)
 bound_says (w ∷ ws) said h e = keeps_whole (λ said. is_bound said ≡ true) bound_line ws said keeps_bound_line (rw (name_is w (codes "bound") h) at e)
 
@@ -92,15 +96,16 @@ is_new before saids said few =
 no_said_fault : (n : ℕ) (before : List Said) (said : Said) → IsNew before said → said_fault n before said ≡ None
 no_said_fault n before said h = rw (h.0, h.1) refl
 
--- a line behind the head, and no second bound
-pub no_line_fault : (before : List (List ℕ)) (l : List ℕ) (said : Said) → list_all is_skipped before ≡ false → Says l said → IsNew (saids_of before) said
-    → (begins_bound (words_of l) && list_any (λ k. begins_bound (words_of k)) before) ≡ false → line_fault before l ≡ None
+-- a line behind the head, of the text's version, and no second bound
+pub no_line_fault : (before : List (List ℕ)) (l : List ℕ) (said : Said) → list_all is_skipped before ≡ false → is_of (version_in before) said ≡ true → Says l said → IsNew (saids_of before) said
+    → (list_any (λ k. begins_bound (words_of k)) before && begins_bound (words_of l)) ≡ false → line_fault before l ≡ None
 unfolding line_fault
-no_line_fault before l said headed says new once =
+no_line_fault before l said headed of says new once =
     let kept : is_skipped l ≡ false = false_from_ne_true (is_skipped l) (λ skipped. skipped_says_nothing (words_of l) said skipped says.says) in
     let fault : read_fault before (words_of l) (whole (read line (words_of l))) ≡ None =
     ap (read_fault before (words_of l)) says.says ∙ no_said_fault (length before + 1) (saids_of before) said new in
-    rw (kept, says.allowed, headed, once) fault
+    let free : is_barred (list_any (λ k. begins_bound (words_of k)) before) (version_in before) (words_of l) ≡ false = or_from _ _ once (words_of_version (version_in before) (words_of l) said says.says of) in
+    rw (kept, says.allowed, headed, free) fault
 
 abbrev pub AreNodes : List Said → Type 0
 AreNodes saids = list_any is_bound saids ≡ false
@@ -117,17 +122,18 @@ headed_more (k ∷ before) l h =
     and_right_at true b e = e
     and_right_at false b e = refl
 
-pub no_lines_fault : (before ls : List (List ℕ)) (saids : List Said) → list_all is_skipped before ≡ false → AreSaid ls saids → AreNodes saids → AreFew (saids_of before ++ saids) → lines_fault before ls ≡ None
+pub no_lines_fault : (version : ℕ) (before ls : List (List ℕ)) (saids : List Said) → list_all is_skipped before ≡ false → version_in before ≡ version → AreAll (λ said. is_of version said ≡ true) saids
+    → AreSaid ls saids → AreNodes saids → AreFew (saids_of before ++ saids) → lines_fault before ls ≡ None
 unfolding lines_fault
-no_lines_fault before [] saids headed said nodes few = rw headed refl
-no_lines_fault before (l ∷ ls) [] headed said nodes few = absurd said
-no_lines_fault before (l ∷ ls) (s ∷ saids) headed said nodes few =
+no_lines_fault version before [] saids headed same all said nodes few = rw headed refl
+no_lines_fault version before (l ∷ ls) [] headed same all said nodes few = absurd said
+no_lines_fault version before (l ∷ ls) (s ∷ saids) headed same all said nodes few =
     let other = or_parts (is_bound s) (list_any is_bound saids) nodes in
     let no_bound : begins_bound (words_of l) ≡ false = false_from_ne_true _ (λ h. both_ways _ other.0 (bound_says (words_of l) s h said.0.says)) in
-    let here = no_line_fault before l s headed said.0 (is_new (saids_of before) saids s few) (and_left _ _ no_bound) in
+    let here = no_line_fault before l s headed (rw same all.0) said.0 (is_new (saids_of before) saids s few) (and_right _ _ no_bound) in
     let one : saids_of (before ++ l ∷ []) ≡ saids_of before ++ s ∷ [] = saids_more before l ∙ rw (says_so l s said.0) refl in
     let few_more : AreFew (saids_of (before ++ l ∷ []) ++ saids) = subst AreFew (sym (ap (λ xs. xs ++ saids) one ∙ append_assoc (saids_of before) (s ∷ []) saids)) few in
-    rw here (no_lines_fault (before ++ l ∷ []) ls saids (headed_more before l headed) said.1 other.1 few_more)
+    rw here (no_lines_fault version (before ++ l ∷ []) ls saids (headed_more before l headed) (version_kept before (l ∷ []) headed ∙ same) all.1 said.1 other.1 few_more)
 
 -- A head, a bound and nodes.
 pub head_first : (head : List ℕ) → list_all is_allowed head ≡ true → is_head (words_of head) ≡ true → line_fault [] head ≡ None

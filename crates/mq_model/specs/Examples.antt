@@ -1,7 +1,8 @@
 -- Texts, each with its first fault.
 use Rattle.std.specs.Prelude.{◌≡◌, ◌^◌, ◌∷◌, ◌++◌, [], ℕ, zero, suc, List, replicate, Option, Some, None, codes}
 use Rattle.std.specs.Fmt.{decimal}
-use Rattle.mq_core.specs.declared.model.Kind.TheVariants.{Source}
+use Rattle.mq_core.specs.declared.model.Input.{Input}
+use Rattle.mq_core.specs.declared.model.Kind.TheVariants.{Fork, Join, Source}
 use Rattle.mq_core.specs.declared.model.Network.{Network}
 use Rattle.mq_model.specs.Model.{model_fault}
 use Rattle.mq_model.specs.NetworkOf.{network_in}
@@ -23,7 +24,7 @@ source_lines (suc n) = codes "source s" ++ decimal n ++ 10 ∷ source_lines n
 abbrev pub line_examples : List Example
 line_examples =
     ([], Some (BadHead 1))
-    ∷ (codes "model 2\n", Some (BadHead 1))
+    ∷ (codes "model 3\n", Some (BadHead 1))
     ∷ (codes "# x\n\n", Some (BadHead 3))
     ∷ (codes "# x\n\nmodel 1\nsource a\nsource a\n", Some (NameTwice 5))
     ∷ (codes "model 1\nsource s\ntandem t =1 from s\n", Some (BadLine 3 4))
@@ -47,6 +48,12 @@ line_examples =
     ∷ (codes "model 1\nsource from\n", Some (BadLine 2 2))
     ∷ (codes "model 1\nbound 1\nbound 1\nsource s\n", Some (BadLine 3 1))
     ∷ (codes "model 1\nbound 1152921504606846977\n", Some (BadLine 2 2))
+    ∷ (codes "model 1\nsource s\nfork f 2 from s\n", Some (BadLine 3 1))
+    ∷ (codes "model 1\nsource s\njoin j from s\n", Some (BadLine 3 1))
+    ∷ (codes "model 2\nsource s\nfork f 1 from s\n", Some (BadLine 3 3))
+    ∷ (codes "model 2\nsource s\nfork f 5 from s\n", Some (BadLine 3 3))
+    ∷ (codes "model 2\nsource s\njoin j from s\n", Some (BadLine 3 5))
+    ∷ (codes "model 2\nsource s\njoin j from a b c d e f g h i\n", Some (BadLine 3 12))
     ∷ (codes "model 1\n" ++ source_lines 65, Some (TooMany 66))
     ∷ (codes "model 1\nsource s" ++ (128 ∷ []), Some (BadByte 2))
     ∷ (replicate 65537 10, Some TooLong)
@@ -59,6 +66,7 @@ input_examples =
     ∷ (codes "model 1\nsource s\nserver q =1 from s\nserver r =1 from s\n", Some (OutputTaken 4 0))
     ∷ (codes "model 1\nsource s\nserver q =1 from s s.0\n", Some (OutputTaken 3 1))
     ∷ (codes "model 1\n", Some NoSource)
+    ∷ (codes "model 2\n", Some NoSource)
     ∷ (codes "model 1\nserver a =1 from b\nserver b =1 from a\n", Some NoSource)
     ∷ (codes "model 1\n\nsource s\nserver a =1 from b\nserver b =1 from a\n", Some (Cycle 4 1))
     ∷ (codes "model 1\r\n\tsource  s\r\n", None)
@@ -68,13 +76,36 @@ input_examples =
     ∷ (codes "model 1\nsource s\nforkjoin f =1 | j | k | =4 | j | =6 | =7 | =8 from s\nforkjoin g =1 =2 =3 =4 | =5 =6 =7 =8 from f\n", None)
     ∷ (codes "model 1\nsource s\nloss l 1048576 k from s\nserver r =1 from l.1 l\n", None)
     ∷ (codes "model 1\nsource s\nloss l 1 k from s\nserver r =1 from l.2\n", Some (UnknownInput 4 0))
+    ∷ (codes "model 2\nsource s\nfork f 4 from s\njoin j from f f.1 f.2 f.3\n", None)
+    ∷ (codes "model 2\nsource s\nfork f 3 from s\njoin j from f f.3\n", Some (UnknownInput 4 1))
+    ∷ (codes "model 2\nsource s\nfork f 2 from s\njoin j from f f.1\nserver q =1 from j.1\n", Some (UnknownInput 5 0))
     ∷ []
 
 -- the network of a text with carriage returns and a tab
 abbrev pub one_source : Network
-one_source = record { nodes = record { name = codes "s"; kind = Source; inputs = [] } ∷ []; columns = []; bound = 2 ^ 60 }
+one_source = record { nodes = record { name = codes "s"; kind = Source; inputs = [] } ∷ []; columns = []; bound = 2 ^ 60; version = 1 }
+
+-- the text of a fork whose outputs a join puts together again, and its network
+abbrev pub forked_text : List ℕ
+forked_text = codes "# parts\n\nmodel 2\nsource s\nfork f 2 from s\njoin j from f.1 f\n"
+
+abbrev pub output_of : ℕ → ℕ → Input
+output_of node out = record { node = node; out = out }
+
+abbrev pub forked : Network
+forked = record {
+  nodes =
+      record { name = codes "s"; kind = Source; inputs = [] }
+      ∷ record { name = codes "f"; kind = Fork 2; inputs = output_of 0 0 ∷ [] }
+      ∷ record { name = codes "j"; kind = Join; inputs = output_of 1 1 ∷ output_of 1 0 ∷ [] }
+      ∷ [];
+  columns = [];
+  bound = 2 ^ 60;
+  version = 2;
+}
 
 pub record AreAnswered : Type 0 where
   pub lines : AllAnswered line_examples
   pub inputs : AllAnswered input_examples
   pub network : network_in (codes "model 1\r\n\tsource  s\r\n") ≡ one_source
+  pub forks : network_in forked_text ≡ forked

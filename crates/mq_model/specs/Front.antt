@@ -4,8 +4,9 @@ use Rattle.std.specs.List.{list_all, list_any}
 use Rattle.std.specs.Option.{option_or}
 use Rattle.mq_base.specs.Text.{words_of}
 use Rattle.mq_model.specs.Form.{Word, read, whole}
+use Rattle.mq_model.specs.Head.{is_skipped, version_in}
 use Rattle.mq_model.specs.Lines.{line}
-use Rattle.mq_model.specs.Model.{Tells, begins_bound, is_skipped, line_fault}
+use Rattle.mq_model.specs.Model.{Tells, begins_bound, is_barred, line_fault}
 use Rattle.mq_model.specs.NetworkOf.{said_of, saids_of}
 use Rattle.mq_model.specs.Said.{columns_after, columns_of, declared, is_among, mentioned, names_of}
 use Rattle.mq_model.specs.declared.fault.ModelFault.{ModelFault}
@@ -21,6 +22,7 @@ numbers_from n (l ∷ ls) = elim (said_of l) [ None ↦ numbers_from (suc n) ls 
 -- what is kept of these lines
 pub record IsFront (before : List (List ℕ)) (front : Front) : Type 0 where
   pub head : front.has_head ≡ not (list_all is_skipped before)
+  pub version : front.version ≡ version_in before
   pub bound : front.has_bound ≡ list_any (λ l. begins_bound (words_of l)) before
   pub saids : front.saids ≡ saids_of before
   pub lines : front.lines ≡ numbers_from 1 before
@@ -40,18 +42,19 @@ name_fault n names said =
 abbrev pub columns_fault : ℕ → List Word → Option ModelFault
 columns_fault n columns = if nat_lt 16 (length columns) then Some (TooMany n) else None
 
--- the fault of words that are no line, where an earlier line began as a bound does or not
+-- the fault of words that are no line of a text of this version, where an earlier line began as a bound does or not
 abbrev pub unread_fault : ℕ → List Word → Result Said (List Word) → Option ModelFault
 unread_fault n ws (Err left) = Some (BadLine n (length ws - length left + 1))
 unread_fault n ws (Ok said) = None
 
-abbrev pub grammar_fault : ℕ → Bool → List Word → Option ModelFault
-grammar_fault n has_bound ws = if begins_bound ws && has_bound then Some (BadLine n 1) else unread_fault n ws (whole (read line ws))
+abbrev pub grammar_fault : ℕ → Bool → ℕ → List Word → Option ModelFault
+grammar_fault n has_bound version ws = if is_barred has_bound version ws then Some (BadLine n 1) else unread_fault n ws (whole (read line ws))
 
 -- The names that a line declares and mentions are added.
 abbrev pub with_names : Front → Said → Front
 with_names old said = record {
   has_head = old.has_head;
+  version = old.version;
   has_bound = old.has_bound;
   saids = old.saids;
   lines = old.lines;
@@ -63,6 +66,7 @@ with_names old said = record {
 abbrev pub with_said : Front → ℕ → Said → Front
 with_said old number said = record {
   has_head = old.has_head;
+  version = old.version;
   has_bound = old.has_bound;
   saids = old.saids ++ said ∷ [];
   lines = old.lines ++ number ∷ [];

@@ -1,6 +1,7 @@
 pub mod Printed
 pub mod SaidOf
 pub mod Form
+pub mod Head
 pub mod Lines
 pub mod Reading
 pub mod Said

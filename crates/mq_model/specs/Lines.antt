@@ -11,7 +11,7 @@ use Rattle.mq_model.specs.declared.said.SaidRoute.{SaidRoute}
 use Rattle.mq_model.specs.declared.said.SaidRoute.TheVariants.{Modulo, Turn, Cut}
 use Rattle.mq_model.specs.declared.said.SaidStage.{SaidStage}
 use Rattle.mq_model.specs.declared.said.SaidKind.{SaidKind}
-use Rattle.mq_model.specs.declared.said.SaidKind.TheVariants.{Source, Server, Delay, Loss, Tandem, ForkJoin, Split}
+use Rattle.mq_model.specs.declared.said.SaidKind.TheVariants.{Source, Server, Delay, Loss, Tandem, ForkJoin, Split, Fork, Join}
 use Rattle.mq_model.specs.declared.said.Said.{Said}
 use Rattle.mq_model.specs.declared.said.Said.TheVariants.{Bound, Node}
 use Rattle.mq_model.specs.Form.{◌>>=◌, Form, Word, stop, word, maybe, one, up_to}
@@ -73,6 +73,15 @@ inputs = do
   first ← one is_input input_of
   more ← up_to 7 is_input input_of
   stop (first ∷ more)
+
+-- the inputs of a join, which end a line: at least two
+unfoldable pub joined_inputs : Form (List SaidInput)
+joined_inputs = do
+  _ ← key (codes "from")
+  first ← one is_input input_of
+  second ← one is_input input_of
+  more ← up_to 6 is_input input_of
+  stop (first ∷ second ∷ more)
 
 -- a threshold above this one
 abbrev pub is_above : ℕ → Word → Bool
@@ -180,6 +189,9 @@ forkjoin_kind = all_branches >>= λ all. stop (ForkJoin all)
 abbrev pub split_kind : Form SaidKind
 split_kind = a_route >>= λ route. stop (Split route)
 
+abbrev pub fork_kind : Form SaidKind
+fork_kind = one (is_from_to 2 4) (λ w. Fork (value_of w))
+
 unfoldable pub node_line : Form SaidKind → Form Said
 node_line kind = do
   name ← a_name
@@ -194,7 +206,14 @@ bound_line = one (is_up_to (2 ^ 60)) (λ w. Bound (value_of w))
 abbrev pub source_line : Form Said
 source_line = a_name >>= λ name. stop (Node name Source [])
 
--- The table: a line by its first word. Of the kinds that read inputs, and of all lines.
+unfoldable pub join_line : Form Said
+join_line = do
+  name ← a_name
+  reads ← joined_inputs
+  stop (Node name Join reads)
+
+-- The table: a line by its first word. Of the kinds that read inputs, of all lines of version 1, and of those of version 2, which
+-- has two lines more.
 unfoldable pub kind_line : Form Said
 kind_line =
     maybe (is_key (codes "server")) (λ _. node_line server_kind)
@@ -204,5 +223,8 @@ kind_line =
     (maybe (is_key (codes "forkjoin")) (λ _. node_line forkjoin_kind)
     (word (is_key (codes "split")) (λ _. node_line split_kind))))))
 
+unfoldable pub first_line : Form Said
+first_line = maybe (is_key (codes "bound")) (λ _. bound_line) (maybe (is_key (codes "source")) (λ _. source_line) kind_line)
+
 unfoldable pub line : Form Said
-line = maybe (is_key (codes "bound")) (λ _. bound_line) (maybe (is_key (codes "source")) (λ _. source_line) kind_line)
+line = maybe (is_key (codes "fork")) (λ _. node_line fork_kind) (maybe (is_key (codes "join")) (λ _. join_line) first_line)

@@ -6,6 +6,7 @@ use Rattle.std.specs.Str.{bytes_eq}
 use Rattle.mq_base.specs.Text.{lines_of, words_of}
 use Rattle.mq_model.specs.NetworkOf.{nodes_of, said_of, saids_of, without_mark}
 use Rattle.mq_model.specs.Form.{Word, read, whole}
+use Rattle.mq_model.specs.Head.{is_head, is_skipped, version_in}
 use Rattle.mq_graph.specs.Rank.{left_node}
 use Rattle.mq_model.specs.Lines.{line}
 use Rattle.mq_model.specs.Said.{columns_of, declared, gives, is_among, is_same_input, is_source, names_of, reads_of}
@@ -14,27 +15,22 @@ use Rattle.mq_model.specs.declared.fault.ModelFault.TheVariants.{TooLong, BadByt
 use Rattle.mq_model.specs.declared.said.SaidInput.{SaidInput}
 use Rattle.mq_model.specs.declared.said.Said.{Said}
 
--- Lines. The words of an empty line or of a comment.
-abbrev pub begins_comment : List Word → Bool
-begins_comment [] = true
-begins_comment ([] ∷ ws) = false
-begins_comment ((b ∷ more) ∷ ws) = b == 35
-
-abbrev pub is_skipped : List ℕ → Bool
-is_skipped l = begins_comment (words_of l)
-
+-- Lines.
 abbrev pub is_allowed : ℕ → Bool
 is_allowed b = (b == 9) || (nat_le 32 b && nat_le b 126)
-
-abbrev pub is_head : List Word → Bool
-is_head [] = false
-is_head (w ∷ []) = false
-is_head (w ∷ v ∷ []) = bytes_eq w (codes "model") && bytes_eq v (codes "1")
-is_head (w ∷ v ∷ u ∷ ws) = false
 
 abbrev pub begins_bound : List Word → Bool
 begins_bound [] = false
 begins_bound (w ∷ ws) = bytes_eq w (codes "bound")
+
+-- a line that version 1 doesn't have
+abbrev pub begins_later : List Word → Bool
+begins_later [] = false
+begins_later (w ∷ ws) = bytes_eq w (codes "fork") || bytes_eq w (codes "join")
+
+-- a line that begins as none may: as a second bound, behind an earlier one, or as a line of version 2 in a text of version 1
+abbrev pub is_barred : Bool → ℕ → List Word → Bool
+is_barred has_bound version ws = (has_bound && begins_bound ws) || (nat_lt version 2 && begins_later ws)
 
 -- a line that declares the 65th node, or names a 17th column
 abbrev pub is_too_many : List Said → Said → Bool
@@ -54,7 +50,7 @@ read_fault before ws (Ok said) = said_fault (length before + 1) (saids_of before
 
 abbrev pub words_fault : List (List ℕ) → List Word → Option ModelFault
 words_fault before ws =
-    if begins_bound ws && list_any (λ l. begins_bound (words_of l)) before then Some (BadLine (length before + 1) 1)
+    if is_barred (list_any (λ l. begins_bound (words_of l)) before) (version_in before) ws then Some (BadLine (length before + 1) 1)
     else read_fault before ws (whole (read line ws))
 
 -- the fault of a line behind these lines, which have none

@@ -14,6 +14,7 @@ use Rattle.mq_core.specs.declared.model.Kind.TheVariants as kind
 use Rattle.mq_core.specs.declared.model.Node.{Node}
 use Rattle.mq_core.specs.declared.model.Network.{Network}
 use Rattle.mq_model.specs.Form.{Word, read, whole}
+use Rattle.mq_model.specs.Head.{version_in}
 use Rattle.mq_model.specs.Lines.{line}
 use Rattle.mq_model.specs.Said.{columns_of, names_of}
 use Rattle.mq_model.specs.declared.said.SaidDemand.{SaidDemand}
@@ -23,7 +24,7 @@ use Rattle.mq_model.specs.declared.said.SaidRoute.{SaidRoute}
 use Rattle.mq_model.specs.declared.said.SaidRoute.TheVariants.{Modulo, Turn, Cut}
 use Rattle.mq_model.specs.declared.said.SaidStage.{SaidStage}
 use Rattle.mq_model.specs.declared.said.SaidKind.{SaidKind}
-use Rattle.mq_model.specs.declared.said.SaidKind.TheVariants.{Source, Server, Delay, Loss, Tandem, ForkJoin, Split}
+use Rattle.mq_model.specs.declared.said.SaidKind.TheVariants.{Source, Server, Delay, Loss, Tandem, ForkJoin, Split, Fork, Join}
 use Rattle.mq_model.specs.declared.said.Said.{Said}
 use Rattle.mq_model.specs.declared.said.Said.TheVariants as said
 
@@ -62,6 +63,8 @@ kind_in columns (Loss places d) = kind.Loss places (demand_in columns d)
 kind_in columns (Tandem stages) = kind.Tandem (map (stage_in columns) stages)
 kind_in columns (ForkJoin branches) = kind.ForkJoin (map (map (demand_in columns)) branches)
 kind_in columns (Split route) = kind.Split (route_in columns route)
+kind_in columns (Fork outputs) = kind.Fork outputs
+kind_in columns Join = kind.Join
 
 abbrev pub input_in : List Word → SaidInput → Input
 input_in names input = record { node = number_in names input.name; out = input.out }
@@ -80,8 +83,9 @@ bound_of [] = 2 ^ 60
 bound_of (said.Bound n ∷ saids) = n
 bound_of (said.Node name kind reads ∷ saids) = bound_of saids
 
-abbrev pub network_of : List Said → Network
-network_of saids = record { nodes = nodes_of saids; columns = columns_of saids; bound = bound_of saids }
+-- the network that is said in a text of this version
+abbrev pub network_of : ℕ → List Said → Network
+network_of version saids = record { nodes = nodes_of saids; columns = columns_of saids; bound = bound_of saids; version = version }
 
 abbrev pub network_in : List ℕ → Network
-network_in text = network_of (saids_of (lines_of (without_mark text)))
+network_in text = let lines = lines_of (without_mark text) in network_of (version_in lines) (saids_of lines)

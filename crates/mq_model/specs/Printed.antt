@@ -1,4 +1,4 @@
--- The canonical text of a network: the line `model 1`, the bound, and a line for each node in order of declaration.
+-- The canonical text of a network: its head, with its version, the bound, and a line for each node in order of declaration.
 -- Numbers are decimal, without leading zeros.
 use Rattle.std.specs.Prelude.{ℕ, ◌∷◌, ◌++◌, ◌==◌, [], List, map, if◌then◌else◌, codes, decimal}
 use Rattle.std.specs.List.{flat_map, join_with_byte}
@@ -12,7 +12,7 @@ use Rattle.mq_model.specs.declared.said.SaidRoute.{SaidRoute}
 use Rattle.mq_model.specs.declared.said.SaidRoute.TheVariants.{Modulo, Turn, Cut}
 use Rattle.mq_model.specs.declared.said.SaidStage.{SaidStage}
 use Rattle.mq_model.specs.declared.said.SaidKind.{SaidKind}
-use Rattle.mq_model.specs.declared.said.SaidKind.TheVariants.{Source, Server, Delay, Loss, Tandem, ForkJoin, Split}
+use Rattle.mq_model.specs.declared.said.SaidKind.TheVariants.{Source, Server, Delay, Loss, Tandem, ForkJoin, Split, Fork, Join}
 use Rattle.mq_model.specs.declared.said.Said.{Said}
 use Rattle.mq_model.specs.declared.said.Said.TheVariants.{Bound, Node}
 
@@ -60,6 +60,8 @@ first_word (Loss places d) = codes "loss"
 first_word (Tandem stages) = codes "tandem"
 first_word (ForkJoin branches) = codes "forkjoin"
 first_word (Split route) = codes "split"
+first_word (Fork outputs) = codes "fork"
+first_word Join = codes "join"
 
 -- what stands between the name and the inputs
 abbrev pub kind_words : SaidKind → List Word
@@ -70,6 +72,8 @@ kind_words (Loss places d) = decimal places ∷ demand_word d ∷ []
 kind_words (Tandem stages) = stages_words stages
 kind_words (ForkJoin branches) = branches_words branches
 kind_words (Split route) = route_words route
+kind_words (Fork outputs) = decimal outputs ∷ []
+kind_words Join = []
 
 -- a source has no inputs to be read
 abbrev pub reads_words : SaidKind → List SaidInput → List Word
@@ -80,6 +84,8 @@ reads_words (Loss places d) reads = inputs_words reads
 reads_words (Tandem stages) reads = inputs_words reads
 reads_words (ForkJoin branches) reads = inputs_words reads
 reads_words (Split route) reads = inputs_words reads
+reads_words (Fork outputs) reads = inputs_words reads
+reads_words Join reads = inputs_words reads
 
 abbrev pub said_words : Said → List Word
 said_words (Bound n) = codes "bound" ∷ decimal n ∷ []
@@ -89,12 +95,12 @@ said_words (Node name kind reads) = first_word kind ∷ name ∷ (kind_words kin
 abbrev pub line_text : List Word → List ℕ
 line_text words = join_with_byte 32 words ++ 10 ∷ []
 
-abbrev pub head_words : List Word
-head_words = codes "model" ∷ codes "1" ∷ []
+abbrev pub head_words : ℕ → List Word
+head_words version = codes "model" ∷ decimal version ∷ []
 
 -- the head, and what the network says, line by line
 abbrev pub printed : Network → List ℕ
-printed net = flat_map line_text (head_words ∷ map said_words (saids_in net))
+printed net = flat_map line_text (head_words net.version ∷ map said_words (saids_in net))
 
 -- words behind others in a line: each behind a space
 abbrev pub spaced : List Word → List ℕ

@@ -10,7 +10,7 @@ use Rattle.mq_model.specs.declared.said.SaidRoute.{SaidRoute}
 use Rattle.mq_model.specs.declared.said.SaidRoute.TheVariants.{Modulo, Turn, Cut}
 use Rattle.mq_model.specs.declared.said.SaidStage.{SaidStage}
 use Rattle.mq_model.specs.declared.said.SaidKind.{SaidKind}
-use Rattle.mq_model.specs.declared.said.SaidKind.TheVariants.{Source, Server, Delay, Loss, Tandem, ForkJoin, Split}
+use Rattle.mq_model.specs.declared.said.SaidKind.TheVariants.{Source, Server, Delay, Loss, Tandem, ForkJoin, Split, Fork, Join}
 use Rattle.mq_model.specs.declared.said.Said.{Said}
 use Rattle.mq_model.specs.declared.said.Said.TheVariants.{Bound, Node}
 
@@ -40,6 +40,8 @@ mentions_of_kind (Loss places d) = mentions_of_demand d
 mentions_of_kind (Tandem stages) = flat_map (λ (stage : SaidStage). mentions_of_demand stage.demand) stages
 mentions_of_kind (ForkJoin branches) = flat_map (λ demands. flat_map mentions_of_demand demands) branches
 mentions_of_kind (Split route) = mentions_of_route route
+mentions_of_kind (Fork outputs) = []
+mentions_of_kind Join = []
 
 abbrev pub mentioned : Said → List Word
 mentioned (Bound n) = []
@@ -84,6 +86,8 @@ outputs_of (Loss places d) = 2
 outputs_of (Tandem stages) = 1
 outputs_of (ForkJoin branches) = 1
 outputs_of (Split route) = outputs_of_route route
+outputs_of (Fork outputs) = outputs
+outputs_of Join = 1
 
 -- a line declares the node of this input, and the node has the output
 abbrev pub gives : SaidInput → Said → Bool
@@ -101,6 +105,8 @@ is_source_said (Loss places d) = false
 is_source_said (Tandem stages) = false
 is_source_said (ForkJoin branches) = false
 is_source_said (Split route) = false
+is_source_said (Fork outputs) = false
+is_source_said Join = false
 
 abbrev pub is_source : Said → Bool
 is_source (Bound n) = false

@@ -9,9 +9,10 @@ pub enum ModelFault {
     TooLong,
     /// The line holds a byte other than tab and the bytes 32 to 126.
     BadByte { line: u32 },
-    /// The first line that is neither empty nor a comment isn't `model 1`; the line after the last, where there is none.
+    /// The first line that is neither empty nor a comment is neither `model 1` nor `model 2`; the line after the last, where there is none.
     BadHead { line: u32 },
     /// The line isn't in the grammar. Its first `word` words begin no line, and its first `word` - 1 do; `word` is one more than it has, where its end is missing.
+    /// `word` is 1 at a second line that begins with `bound`, and at a line of version 2 in a model of version 1.
     BadLine { line: u32, word: u32 },
     /// An earlier line declares a node of this name.
     NameTwice { line: u32 },

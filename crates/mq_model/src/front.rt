@@ -4,8 +4,9 @@ ghost use Rattle.std.specs.List.{flat_map, list_all};
 ghost use Rattle.mq_base.specs.Text.{words_of, texts};
 ghost use Rattle.mq_model.specs.Form.{read, whole};
 ghost use Rattle.mq_model.specs.Front.{AddsLine, added_fault, grammar_fault, name_fault, with_names, with_said};
+ghost use Rattle.mq_model.specs.Head.{begins_comment, is_head, is_version, version_said};
 ghost use Rattle.mq_model.specs.Lines.{line};
-ghost use Rattle.mq_model.specs.Model.{Tells, begins_bound, begins_comment, is_allowed, is_head};
+ghost use Rattle.mq_model.specs.Model.{Tells, begins_bound, begins_later, is_allowed, is_barred};
 ghost use Rattle.mq_model.specs.Said.{added, columns_after, declared, is_among, mentioned, mentions_of_demand, mentions_of_kind, mentions_of_route};
 
 use crate::fault::ModelFault;
@@ -16,10 +17,12 @@ use mq_base::{List, next_word};
 use std::alloc::Global;
 
 /// What the lines so far say: their heads and bounds, each line of the grammar with its number,
-/// and the names of nodes and columns in order of declaration and of first mention.
+/// and the names of nodes and columns in order of declaration and of first mention. The version is 1
+/// until there is a head.
 #[derive(Drop)]
 pub struct Front {
     pub has_head: bool,
+    pub version: u8,
     pub has_bound: bool,
     pub saids: List<Said>,
     pub lines: List<u32>,
@@ -62,7 +65,17 @@ fn begins_comment(words: &[&[u8]]) -> bool
     }
 }
 
-/// Whether these are the words of the head.
+/// Whether a word is the number of a version.
+fn is_version(word: &[u8]) -> bool
+    ensures { result ≡ is_version word.now }
+{
+    if word == b"1".as_slice() {
+        return true;
+    }
+    word == b"2".as_slice()
+}
+
+/// Whether these are the words of a head.
 fn is_head(words: &[&[u8]]) -> bool
     ensures { result ≡ is_head (texts words.now) }
 {
@@ -72,7 +85,17 @@ fn is_head(words: &[&[u8]]) -> bool
     if words[0] != b"model".as_slice() {
         return false;
     }
-    words[1] == b"1".as_slice()
+    is_version(words[1])
+}
+
+/// The version that the words of a head say.
+fn version_said(words: &[&[u8]]) -> u8
+    ensures { result ≡ version_said (texts words.now) }
+{
+    if words.len() < 2 {
+        return 1;
+    }
+    if words[1] == b"2".as_slice() { 2 } else { 1 }
 }
 
 /// Whether a line begins as a bound does.
@@ -83,6 +106,30 @@ fn begins_bound(words: &[&[u8]]) -> bool
         return false;
     };
     *word == b"bound".as_slice()
+}
+
+/// Whether a line begins as one that version 1 doesn't have.
+fn begins_later(words: &[&[u8]]) -> bool
+    ensures { result ≡ begins_later (texts words.now) }
+{
+    let Some(word) = words.first() else {
+        return false;
+    };
+    if *word == b"fork".as_slice() {
+        return true;
+    }
+    *word == b"join".as_slice()
+}
+
+/// Whether a line begins as none may: as a bound behind an earlier one, or as a line of version 2
+/// in a model of version 1.
+fn is_barred(words: &[&[u8]], has_bound: bool, version: u8) -> bool
+    ensures { result ≡ is_barred has_bound version (texts words.now) }
+{
+    if has_bound && begins_bound(words) {
+        return true;
+    }
+    version < 2 && begins_later(words)
 }
 
 /// Whether a name is among these.
@@ -218,6 +265,7 @@ fn add_of_kind(
         SaidKind::Tandem(stages) => add_of_stages(alloc, stages.as_slice(), columns),
         SaidKind::ForkJoin(branches) => add_of_branches(alloc, branches.as_slice(), columns),
         SaidKind::Split(route) => add_of_route(alloc, route, columns),
+        SaidKind::Fork { .. } | SaidKind::Join => Ok(()),
     }
 }
 
@@ -238,12 +286,13 @@ fn read_words(
     words: &[&[u8]],
     number: u32,
     has_bound: bool,
+    version: u8,
 ) -> Result<Said, ModelFault>
     requires { length words.now ≤ 65536 }
-    ensures ok { IfOk result (λ said. (grammar_fault number has_bound (texts words.now) ≡ None) × (whole (read line (texts words.now)) ≡ Ok said)) }
-    ensures err { IfErr result (λ e. Tells e (grammar_fault number has_bound (texts words.now))) }
+    ensures ok { IfOk result (λ said. (grammar_fault number has_bound version (texts words.now) ≡ None) × (whole (read line (texts words.now)) ≡ Ok said)) }
+    ensures err { IfErr result (λ e. Tells e (grammar_fault number has_bound version (texts words.now))) }
 {
-    if has_bound && begins_bound(words) {
+    if is_barred(words, has_bound, version) {
         return Err(ModelFault::BadLine {
             line: number,
             word: 1,
@@ -306,9 +355,10 @@ fn add_line(
             return Err(ModelFault::BadHead { line: number });
         }
         front.has_head = true;
+        front.version = version_said(words);
         return Ok(());
     }
-    let said = read_words(alloc, words, number, front.has_bound)?;
+    let said = read_words(alloc, words, number, front.has_bound, front.version)?;
     front.has_bound |= begins_bound(words);
     add_said(alloc, said, number, front)
 }

@@ -16,10 +16,12 @@ fn has_output(kind: &SaidKind, out: u8) -> bool
         | SaidKind::Server(_)
         | SaidKind::Delay(_)
         | SaidKind::Tandem(_)
-        | SaidKind::ForkJoin(_) => out == 0,
+        | SaidKind::ForkJoin(_)
+        | SaidKind::Join => out == 0,
         SaidKind::Loss { .. } => out < 2,
         SaidKind::Split(SaidRoute::Modulo { outputs, .. })
-        | SaidKind::Split(SaidRoute::Turn { outputs }) => out < *outputs,
+        | SaidKind::Split(SaidRoute::Turn { outputs })
+        | SaidKind::Fork { outputs } => out < *outputs,
         SaidKind::Split(SaidRoute::Cut { thresholds, .. }) => out as usize <= thresholds.len(),
     }
 }

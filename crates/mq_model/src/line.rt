@@ -1,10 +1,12 @@
 // A line, by its first word.
 ghost use Rattle.std.specs.Prelude.{◌≡◌, ◌≤◌, ◌∷◌, List, Err, MatchOption, length};
 ghost use Rattle.mq_model.specs.Form.{Word, read, whole};
-ghost use Rattle.mq_model.specs.Lines.{bound_line, kind_line, line, node_line, source_line};
+ghost use Rattle.mq_model.specs.Lines.{bound_line, first_line, fork_kind, join_line, kind_line, line, node_line, source_line};
 ghost use Rattle.mq_model.specs.Reading.{Reads, ReadsLine, form_of, words_from};
 
-use crate::parts::{Stop, read_demand, read_inputs, read_name, read_within, word_at};
+use crate::parts::{
+    Stop, read_demand, read_inputs, read_joined_inputs, read_name, read_within, word_at,
+};
 use crate::route::read_route;
 use crate::said::{Said, SaidKind};
 use crate::station::{read_forkjoin, read_loss, read_tandem};
@@ -67,6 +69,17 @@ fn read_kind(
     }
 }
 
+/// Reads how many outputs a fork has.
+fn read_fork_kind(words: &[&[u8]], at: &mut usize) -> Result<SaidKind, Stop>
+    ensures reads { Reads result (words_from words.now at.new) (read fork_kind (words_from words.now at.old)) }
+    ensures within { at.old ≤ length words.now → at.new ≤ length words.now }
+{
+    let outputs = read_within(words, at, 2, 4)?;
+    Ok(SaidKind::Fork {
+        outputs: outputs as u8,
+    })
+}
+
 /// Reads what stands behind the first word, where the node reads inputs.
 #[tactic(auto, using(crate::proofs::ReadFacts::reading), unfolding(crate::specs::Lines::node_line))]
 fn read_node(alloc: Global, words: &[&[u8]], at: &mut usize, first: KindWord) -> Result<Said, Stop>
@@ -101,10 +114,37 @@ fn read_source(alloc: Global, words: &[&[u8]], at: &mut usize) -> Result<Said, S
     })
 }
 
-/// Reads a line by its first word.
-#[tactic(auto, using(crate::proofs::ReadFacts::choices), unfolding(crate::specs::Lines::line))]
+/// Reads what stands behind `fork`.
+#[tactic(auto, using(crate::proofs::ReadFacts::reading), unfolding(crate::specs::Lines::node_line))]
+fn read_fork(alloc: Global, words: &[&[u8]], at: &mut usize) -> Result<Said, Stop>
+    ensures reads { Reads result (words_from words.now at.new) (read (node_line fork_kind) (words_from words.now at.old)) }
+    ensures within { at.old ≤ length words.now → at.new ≤ length words.now }
+{
+    let name = read_name(alloc, words, at)?;
+    let kind = read_fork_kind(words, at)?;
+    let reads = read_inputs(alloc, words, at)?;
+    Ok(Said::Node { name, kind, reads })
+}
+
+/// Reads what stands behind `join`.
+#[tactic(auto, using(crate::proofs::ReadFacts::reading), unfolding(crate::specs::Lines::join_line))]
+fn read_join(alloc: Global, words: &[&[u8]], at: &mut usize) -> Result<Said, Stop>
+    ensures reads { Reads result (words_from words.now at.new) (read join_line (words_from words.now at.old)) }
+    ensures within { at.old ≤ length words.now → at.new ≤ length words.now }
+{
+    let name = read_name(alloc, words, at)?;
+    let reads = read_joined_inputs(alloc, words, at)?;
+    Ok(Said::Node {
+        name,
+        kind: SaidKind::Join,
+        reads,
+    })
+}
+
+/// Reads a line of version 1 by its first word.
+#[tactic(auto, using(crate::proofs::ReadFacts::choices), unfolding(crate::specs::Lines::first_line))]
 fn read_first(alloc: Global, words: &[&[u8]], at: &mut usize) -> Result<Said, Stop>
-    ensures reads { Reads result (words_from words.now at.new) (read line (words_from words.now at.old)) }
+    ensures reads { Reads result (words_from words.now at.new) (read first_line (words_from words.now at.old)) }
     ensures within { at.old ≤ length words.now → at.new ≤ length words.now }
 {
     let Some(word) = word_at(words, *at) else {
@@ -125,6 +165,26 @@ fn read_first(alloc: Global, words: &[&[u8]], at: &mut usize) -> Result<Said, St
     read_node(alloc, words, at, first)
 }
 
+/// Reads a line by its first word.
+#[tactic(auto, using(crate::proofs::ReadFacts::choices), unfolding(crate::specs::Lines::line))]
+fn read_any(alloc: Global, words: &[&[u8]], at: &mut usize) -> Result<Said, Stop>
+    ensures reads { Reads result (words_from words.now at.new) (read line (words_from words.now at.old)) }
+    ensures within { at.old ≤ length words.now → at.new ≤ length words.now }
+{
+    let Some(word) = word_at(words, *at) else {
+        return Err(Stop::Word);
+    };
+    if word == b"fork".as_slice() {
+        *at += 1;
+        return read_fork(alloc, words, at);
+    }
+    if word == b"join".as_slice() {
+        *at += 1;
+        return read_join(alloc, words, at);
+    }
+    read_first(alloc, words, at)
+}
+
 /// Why a line is none.
 #[derive(Clone, Copy)]
 pub enum LineFault {
@@ -138,7 +198,7 @@ pub fn read_line(alloc: Global, words: &[&[u8]]) -> Result<Said, LineFault>
     ensures { ReadsLine result (words_from words.now 0) (whole (read line (words_from words.now 0))) }
 {
     let mut at = 0;
-    match read_first(alloc, words, &mut at) {
+    match read_any(alloc, words, &mut at) {
         Ok(said) => {
             if at < words.len() {
                 return Err(LineFault::Word(at + 1));

@@ -128,6 +128,8 @@ fn kind_in(alloc: Global, columns: &[List<u8>], kind: &SaidKind) -> Result<Kind,
             branches.as_slice(),
         )?)),
         SaidKind::Split(route) => Ok(Kind::Split(route_in(alloc, columns, route)?)),
+        SaidKind::Fork { outputs } => Ok(Kind::Fork { outputs: *outputs }),
+        SaidKind::Join => Ok(Kind::Join),
     }
 }
 
@@ -188,9 +190,10 @@ fn bound_of(saids: &[Said]) -> u64
     1 << 60
 }
 
-/// The network that lines declare, whose nodes and columns have these names.
+/// The network that lines of a text of this version declare, whose nodes and columns have these names.
 pub fn network_of(
     alloc: Global,
+    version: u8,
     names: &[List<u8>],
     columns: List<List<u8>>,
     saids: &[Said],
@@ -199,7 +202,7 @@ pub fn network_of(
     requires columns { columns ≡ columns_of saids.now }
     requires few { length names.now ≤ 64 }
     requires few_columns { length columns ≤ 16 }
-    ensures ok { IfOk result (λ net. net ≡ network_of saids.now) }
+    ensures ok { IfOk result (λ net. net ≡ network_of version saids.now) }
     ensures err { IfErr result (λ e. e ≡ ModelFault.Memory) }
 {
     let nodes = nodes_in(alloc, names, columns.as_slice(), saids)?;
@@ -207,5 +210,6 @@ pub fn network_of(
         nodes,
         columns,
         bound: bound_of(saids),
+        version,
     })
 }

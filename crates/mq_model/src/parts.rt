@@ -1,7 +1,7 @@
 // The parts of a line that several kinds share.
 ghost use Rattle.std.specs.Prelude.{◌≡◌, ◌+◌, ◌<◌, ◌≤◌, [], ◌∷◌, IfOk, IfSome, MatchOption, length};
 ghost use Rattle.mq_model.specs.Form.{one, read, up_to};
-ghost use Rattle.mq_model.specs.Lines.{a_demand, a_name, input_of, inputs, is_from_to, is_input, key, value_of};
+ghost use Rattle.mq_model.specs.Lines.{a_demand, a_name, input_of, inputs, is_from_to, is_input, joined_inputs, key, value_of};
 ghost use Rattle.mq_model.specs.Reading.{Reads, words_from};
 
 use crate::said::{SaidDemand, SaidInput};
@@ -149,6 +149,22 @@ pub fn read_inputs(alloc: Global, words: &[&[u8]], at: &mut usize) -> Result<Lis
     read_key(words, at, b"from")?;
     let reads = read_input_list(alloc, words, at)?;
     if reads.is_empty() {
+        return Err(Stop::Word);
+    }
+    Ok(reads)
+}
+
+/// Reads the inputs that end the line of a join, at least two.
+pub fn read_joined_inputs(
+    alloc: Global,
+    words: &[&[u8]],
+    at: &mut usize,
+) -> Result<List<SaidInput>, Stop>
+    ensures reads { Reads result (words_from words.now at.new) (read joined_inputs (words_from words.now at.old)) }
+    ensures within { at.old ≤ length words.now → at.new ≤ length words.now }
+{
+    let reads = read_inputs(alloc, words, at)?;
+    if reads.len() < 2 {
         return Err(Stop::Word);
     }
     Ok(reads)

@@ -204,6 +204,8 @@ fn first_word(kind: &Kind) -> &[u8]
         Kind::Tandem(_) => b"tandem",
         Kind::ForkJoin(_) => b"forkjoin",
         Kind::Split(_) => b"split",
+        Kind::Fork { .. } => b"fork",
+        Kind::Join => b"join",
     }
 }
 
@@ -212,7 +214,7 @@ fn push_kind(text: &mut Vec<u8>, net: &Network, kind: &Kind) -> Result<(), OutOf
     ensures { OnOk result (text.new.items ≡ text.old.items ++ spaced (kind_words (kind_by net.now.columns kind.now))) }
 {
     match kind {
-        Kind::Source => Ok(()),
+        Kind::Source | Kind::Join => Ok(()),
         Kind::Server(demand) | Kind::Delay(demand) => push_demand(text, net, demand),
         Kind::Loss { places, demand } => {
             push_number(text, *places as u64)?;
@@ -221,6 +223,7 @@ fn push_kind(text: &mut Vec<u8>, net: &Network, kind: &Kind) -> Result<(), OutOf
         Kind::Tandem(stages) => push_stages(text, net, stages.as_slice()),
         Kind::ForkJoin(branches) => push_branches(text, net, branches.as_slice()),
         Kind::Split(route) => push_route(text, net, route),
+        Kind::Fork { outputs } => push_number(text, *outputs as u64),
     }
 }
 
@@ -253,10 +256,12 @@ fn push_node(text: &mut Vec<u8>, net: &Network, node: &Node) -> Result<(), OutOf
 }
 
 /// Adds the head and the bound.
-fn push_head(text: &mut Vec<u8>, bound: u64) -> Result<(), OutOfMemory>
-    ensures { OnOk result (text.new.items ≡ text.old.items ++ codes "model 1\nbound " ++ decimal bound ++ 10 ∷ []) }
+fn push_head(text: &mut Vec<u8>, version: u8, bound: u64) -> Result<(), OutOfMemory>
+    ensures { OnOk result (text.new.items ≡ text.old.items ++ codes "model " ++ decimal version ++ codes "\nbound " ++ decimal bound ++ 10 ∷ []) }
 {
-    text.extend_from_slice(b"model 1\nbound ")?;
+    text.extend_from_slice(b"model ")?;
+    push_digits(text, version as u64)?;
+    text.extend_from_slice(b"\nbound ")?;
     push_digits(text, bound)?;
     text.push(b'\n')?;
     Ok(())
@@ -271,7 +276,7 @@ pub fn print_model(alloc: Global, plan: &Plan) -> Result<List<u8>, OutOfMemory>
 {
     let net = &plan.net;
     let mut text = Vec::new(alloc);
-    push_head(&mut text, net.bound)?;
+    push_head(&mut text, net.version, net.bound)?;
     for node in net.nodes.as_slice() {
         push_node(&mut text, net, node)?;
     }

@@ -97,13 +97,14 @@ pub fn read_model(alloc: Global, bytes: &[u8]) -> Result<Plan, ModelFault>
         return Err(ModelFault::NoSource);
     }
     let Front {
+        version,
         saids,
         lines,
         names,
         columns,
         ..
     } = front;
-    let net = network_of(alloc, names.as_slice(), columns, saids.as_slice())?;
+    let net = network_of(alloc, version, names.as_slice(), columns, saids.as_slice())?;
     let order = order_of(alloc, &net, saids.as_slice(), lines.as_slice())?;
     Ok(Plan { net, order })
 }

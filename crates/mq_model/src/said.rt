@@ -48,6 +48,8 @@ pub enum SaidKind {
     Tandem(List<SaidStage>),
     ForkJoin(List<List<SaidDemand>>),
     Split(SaidRoute),
+    Fork { outputs: u8 },
+    Join,
 }
 
 /// A line: the bound of the times, in ticks, or a node with its inputs by port.

@@ -14,6 +14,7 @@ fn no_lines(alloc: Global) -> Front
 {
     Front {
         has_head: false,
+        version: 1,
         has_bound: false,
         saids: List::new(alloc),
         lines: List::new(alloc),

@@ -1,18 +1,29 @@
 // The lines on the error output.
-ghost use Rattle.std.specs.Prelude.{◌≡◌, ◌≤◌, [], ◌∷◌, ◌++◌, length, decimal, OnOk, OnErr};
+ghost use Rattle.std.specs.Prelude.{◌≡◌, ◌≤◌, [], ◌∷◌, ◌++◌, length, decimal, slice_get, OnOk, OnErr};
 ghost use Rattle.mq_outside.specs.Outside.{Rose, TakesFirst, TakesPrefix};
 ghost use Rattle.mq_outside.specs.Pieces.{pieces_text};
-ghost use Rattle.mq_outcome.specs.Lines.{PutsLine, line_text, model_line, trace_line, past_line, usage_line, name_of as name_of_outcome};
+ghost use Rattle.mq_outcome.specs.Lines.{PutsLine, line_text, model_line, node_name, trace_line, over_line, past_line, usage_line, name_of as name_of_outcome};
 
 use crate::outcome::Outcome;
 use mq_core::Network;
 use mq_model::ModelFault;
 use mq_outside::{Gather, Piece, Sink, SinkFault, add_pieces, flush};
-use mq_stations::PastFault;
+use mq_stations::{OverFault, PastFault};
 use mq_trace::TraceFault;
 use mq_words::UsageFault;
 
-/// The name that an outcome speaks of: that of a missing column, or of the node that passed the bound.
+// The name of a node; where there is no such node, it is empty.
+fn node_name(net: &Network, node: u32) -> &[u8]
+    ensures { result.now ≡ node_name (slice_get net.now.nodes node) }
+{
+    match net.nodes.as_slice().get(node as usize) {
+        Some(node) => node.name.as_slice(),
+        None => &[],
+    }
+}
+
+/// The name that an outcome speaks of: that of a missing column, or of the node that passed the bound or
+/// has too many visits.
 pub fn name_of<'a>(net: &'a Network, outcome: &Outcome) -> &'a [u8]
     ensures { result.now ≡ name_of_outcome net.now outcome.now }
 {
@@ -23,10 +34,8 @@ pub fn name_of<'a>(net: &'a Network, outcome: &Outcome) -> &'a [u8]
                 None => &[],
             }
         }
-        Outcome::Past(fault) => match net.nodes.as_slice().get(fault.node as usize) {
-            Some(node) => node.name.as_slice(),
-            None => &[],
-        },
+        Outcome::Past(fault) => node_name(net, fault.node),
+        Outcome::Over(fault) => node_name(net, fault.node),
         _ => &[],
     }
 }
@@ -150,6 +159,22 @@ fn put_past_line<E: Sink>(err: &mut E, name: &[u8], fault: &PastFault)
     );
 }
 
+// Puts the line of a node with too many visits.
+fn put_over_line<E: Sink>(err: &mut E, name: &[u8], fault: &OverFault)
+    ensures { PutsLine E.taken E.sure E.faults err.old err.new (over_line name.now fault.now) }
+{
+    put_pieces(
+        err,
+        &[
+            Piece::Text(b"mpsim: node "),
+            Piece::Text(name),
+            Piece::Text(b" has "),
+            Piece::Number(fault.count as u128),
+            Piece::Text(b" visits\n"),
+        ],
+    );
+}
+
 // Puts the line of a model's fault.
 fn put_model_line<E: Sink>(err: &mut E, fault: &ModelFault)
     ensures { PutsLine E.taken E.sure E.faults err.old err.new (model_line fault.now) }
@@ -158,7 +183,12 @@ fn put_model_line<E: Sink>(err: &mut E, fault: &ModelFault)
     match fault {
         ModelFault::TooLong => put_text(err, b"mpsim: model: longer than 65536 bytes"),
         ModelFault::BadByte { line } => put_numbered(err, front, *line, b": byte not allowed"),
-        ModelFault::BadHead { line } => put_numbered(err, front, *line, b": expected model 1"),
+        ModelFault::BadHead { line } => put_numbered(
+            err,
+            front,
+            *line,
+            b": expected model 1 or model 2",
+        ),
         ModelFault::BadLine { line, word } => {
             put_numbered_twice(err, front, *line, b": word ", *word, b" not allowed")
         }
@@ -225,6 +255,7 @@ pub fn put_line<E: Sink>(err: &mut E, name: &[u8], outcome: &Outcome)
         Outcome::Model(fault) => put_model_line(err, fault),
         Outcome::Trace(fault) => put_trace_line(err, name, fault),
         Outcome::Past(fault) => put_past_line(err, name, fault),
+        Outcome::Over(fault) => put_over_line(err, name, fault),
         Outcome::ReadFault { second: false } => put_text(err, b"mpsim: cannot read the model"),
         Outcome::ReadFault { second: true } => put_text(err, b"mpsim: cannot read the trace"),
         Outcome::WriteFault => put_text(err, b"mpsim: cannot write the report"),

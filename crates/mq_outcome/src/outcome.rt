@@ -3,7 +3,7 @@ ghost use Rattle.std.specs.Prelude.{◌≡◌};
 ghost use Rattle.mq_outcome.specs.Status.{status_of};
 
 use mq_model::ModelFault;
-use mq_stations::PastFault;
+use mq_stations::{OverFault, PastFault};
 use mq_trace::TraceFault;
 use mq_words::UsageFault;
 
@@ -21,6 +21,8 @@ pub enum Outcome {
     /// A visit departs after the model's bound: at which node, at which position among the visits
     /// to it, and at which tick.
     Past(PastFault),
+    /// A node has more visits than the 1,048,576 that it may have: which one, and how many.
+    Over(OverFault),
     /// The model can't be read, or with `second` the trace.
     ReadFault {
         /// It was the second read of the call, which is that of the trace.
@@ -33,8 +35,8 @@ pub enum Outcome {
 }
 
 impl Outcome {
-    /// The status with which the program ends: 0 after `Done`, and from 2 to 8 after the others, in
-    /// their order.
+    /// The status with which the program ends: 0 after `Done`, 9 after `Over`, and from 2 to 8 after
+    /// the others, in their order.
     pub fn status(&self) -> u8
         ensures { result ≡ status_of self.now }
     {
@@ -44,6 +46,7 @@ impl Outcome {
             Outcome::Model(_) => 3,
             Outcome::Trace(_) => 4,
             Outcome::Past(_) => 5,
+            Outcome::Over(_) => 9,
             Outcome::ReadFault { .. } => 6,
             Outcome::WriteFault => 7,
             Outcome::Memory => 8,

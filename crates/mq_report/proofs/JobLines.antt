@@ -7,7 +7,7 @@ use Rattle.mq_core.specs.Local.{Local}
 use Rattle.mq_core.specs.Machine.{State, Station, Visit}
 use Rattle.mq_core.specs.Results.{visits_of, fates_from}
 use Rattle.mq_core.specs.declared.model.Fate.{Fate}
-use Rattle.mq_core.specs.declared.model.Fate.TheVariants.{Departs, Lost}
+use Rattle.mq_core.specs.declared.model.Fate.TheVariants.{Departs, Held, Lost}
 use Rattle.mq_core.specs.declared.model.Kind.{Kind}
 use Rattle.mq_core.specs.declared.model.Network.{Network}
 use Rattle.mq_core.specs.declared.model.Node.{Node}
@@ -34,6 +34,7 @@ lines-are rows name kind [] fates = refl
 lines-are rows name kind (visit ∷ visits) [] = refl
 lines-are rows name kind (visit ∷ visits) (Departs time ∷ fates) = ap (λ l. visit_line name visit.job visit.arrive (sequence_wait rows kind visit.job visit.arrive (Departs time)) (Departs time) ++ l) (lines-are rows name kind visits fates)
 lines-are rows name kind (visit ∷ visits) (Lost ∷ fates) = ap (λ l. visit_line name visit.job visit.arrive 0 Lost ++ l) (lines-are rows name kind visits fates)
+lines-are rows name kind (visit ∷ visits) (Held ∷ fates) = ap (λ l. visit_line name visit.job visit.arrive 0 Held ++ l) (lines-are rows name kind visits fates)
 
 pub jobs-are : (rows : Rows) (node : Node) (station : Station Local) (visits : Visits) → visits_of node.kind station ≡ visits →
     sequence_lines rows node.name node.kind visits.job visits.arrive visits.fate ≡ node_jobs rows node station

@@ -51,7 +51,7 @@ piece-at node group b totals all here =
 
 -- the totals of the visits before a piece, and those of the piece, added up, are those of the visits before the next
 abbrev pub AreBefore : NodeVisits → ℕ → NodeTotals → Type 0
-AreBefore node b totals = totals_from totals ≡ sequence_totals node.rows.now node.kind.now (visits_between 0 (start_of (length node.visits.now.job) b) node.visits.now)
+AreBefore node b totals = totals_from totals ≡ sequence_totals node.rows.now node.kind.now (visits_between 0 (start_of (length node.visits.now.job) b) node.visits.now) node.span
 
 pub before-more : TotalsJoin → (node : NodeVisits) (b : ℕ) (sum piece sum' : NodeTotals) → IsVisited node → AreBefore node b sum → IsPieceTotals node b piece → totals_from sum' ≡ added_totals (totals_from sum) (totals_from piece) → AreBefore node (b + 1) sum'
 before-more law node b sum piece sum' visited before its added =
@@ -59,7 +59,7 @@ before-more law node b sum piece sum' visited before its added =
     let first : 0 ≤ start_of count b = omega arith in
     let rises : start_of count b ≤ start_of count (b + 1) = omega arith in
     let within : start_of count (b + 1) ≤ count = omega arith in
-    added ∙ ((λ k. added_totals (before k) (its.0 k)) ∙ law.join node.rows.now node.kind.now node.visits.now visited 0 (start_of count b) (start_of count (b + 1)) first rises within)
+    added ∙ ((λ k. added_totals (before k) (its.0 k)) ∙ law.join node.rows.now node.kind.now node.visits.now visited node.span 0 (start_of count b) (start_of count (b + 1)) first rises within)
 
 -- together they are no more than came
 pub before-few : (node : NodeVisits) (b : ℕ) (sum piece : NodeTotals) → IsVisited node → AreBefore node b sum → IsPieceTotals node b piece → sum.came + piece.came ≤ 1048576
@@ -80,11 +80,11 @@ pieces-all count =
     let rest : (count + 16383) % 16384 < 16384 = omega arith in
     omega arith
 
-pub before-all : TotalsJoin → (node : NodeVisits) (b : ℕ) (sum : NodeTotals) → IsVisited node → b ≡ pieces_of node → AreBefore node b sum → totals_from sum ≡ sequence_totals node.rows.now node.kind.now node.visits.now
+pub before-all : TotalsJoin → (node : NodeVisits) (b : ℕ) (sum : NodeTotals) → IsVisited node → b ≡ pieces_of node → AreBefore node b sum → totals_from sum ≡ sequence_totals node.rows.now node.kind.now node.visits.now node.span
 before-all law node b sum visited e before =
     let count = length node.visits.now.job in
     let end : start_of count b ≡ count = ap (start_of count) e ∙ pieces-all count in
-    before ∙ ap (sequence_totals node.rows.now node.kind.now) (ap (λ n. visits_between 0 n node.visits.now) end ∙ law.whole node.rows.now node.kind.now node.visits.now visited)
+    before ∙ ap (λ v. sequence_totals node.rows.now node.kind.now v node.span) (ap (λ n. visits_between 0 n node.visits.now) end ∙ law.whole node.rows.now node.kind.now node.visits.now visited)
 
 -- Nodes. Few visits make few pieces.
 pieces-few : (all : List NodeVisits) → Each IsVisited all → total_size pieces_of all ≤ length all * 65
@@ -111,14 +111,14 @@ nodes-few plan =
     let f = and_parts _ (are_distinct bytes_eq (map (λ (node : Node). node.name) net.nodes)) e.0 in
     let g = and_parts _ (list_any (λ (node : Node). is_source_kind node.kind) net.nodes) f.0 in
     let h = and_parts _ (nat_le net.bound (2 ^ 60)) g.0 in
-    let i = and_parts (is_within 1 64 (length net.nodes)) _ h.0 in
-    let j = and_parts (nat_le 1 (length net.nodes)) (nat_le (length net.nodes) 64) i.0 in
-    let few : nat_le (length net.nodes) 64 ≡ true = j.1 in
+    let i = and_parts _ (nat_le (length net.columns) 16) h.0 in
+    let j = and_parts _ (is_within 1 64 (length net.nodes)) i.0 in
+    let few : nat_le (length net.nodes) 64 ≡ true = (and_parts (nat_le 1 (length net.nodes)) (nat_le (length net.nodes) 64) j.1).1 in
     grind (arith, nat_tests)
 
 -- those of a declared node
 pub visits-at : (plan : Plan) (rows : Rows) (v : ℕ) (declared : Node) (its : NodeVisits) → slice_get plan.net.nodes v ≡ Some declared →
-    sequence_totals its.rows.now its.kind.now its.visits.now ≡ totals_of rows declared.kind ((run_of plan rows).stations v) → AreVisitsAt plan rows v its
+    sequence_totals its.rows.now its.kind.now its.visits.now its.span ≡ totals_of rows declared.kind ((run_of plan rows).stations v) → AreVisitsAt plan rows v its
 visits-at plan rows v declared its here e node there = e ∙ ap (λ (n : Node). totals_of rows n.kind ((run_of plan rows).stations v)) (some_inj declared node (sym here ∙ there))
 
 -- the visits to one node more
@@ -139,7 +139,7 @@ pub record AreTotalsTo (plan : Plan) (rows : Rows) (count : ℕ) (totals : List 
   pub each : (v : ℕ) (its : NodeTotals) → slice_get totals v ≡ Some its → IsTotalsAt plan rows v its
 
 -- those of a node, of all its visits
-pub totals-at : (plan : Plan) (rows : Rows) (v : ℕ) (node : NodeVisits) (its : NodeTotals) → AreVisitsAt plan rows v node → totals_from its ≡ sequence_totals node.rows.now node.kind.now node.visits.now → its.busy < 2 ^ 100 → IsTotalsAt plan rows v its
+pub totals-at : (plan : Plan) (rows : Rows) (v : ℕ) (node : NodeVisits) (its : NodeTotals) → AreVisitsAt plan rows v node → totals_from its ≡ sequence_totals node.rows.now node.kind.now node.visits.now node.span → its.busy < 2 ^ 100 → IsTotalsAt plan rows v its
 totals-at plan rows v node its at e small declared there = (e ∙ at declared there, small)
 
 -- one node more

@@ -6,7 +6,6 @@ use Rattle.mq_base.proofs.lemmas.Lists.{some_inj}
 use Rattle.mq_core.specs.Sequences.{IsRunOf, streams_below}
 use Rattle.mq_core.specs.Results.{visits_of, stream_from}
 use Rattle.mq_core.specs.RunLaws.{RunsHaveSequences, OutputsHaveStreams}
-use Rattle.mq_core.specs.SequenceLaws.{NoKindCopies, VisitsAreFew}
 use Rattle.mq_core.specs.Sound.{outputs_in}
 use Rattle.mq_core.specs.StandardTable.{run_of}
 use Rattle.mq_core.specs.Theorems.{IsReadFor}
@@ -16,14 +15,6 @@ use Rattle.mq_core.specs.declared.model.Rows.{Rows}
 use Rattle.mq_core.specs.declared.model.Run.{Run}
 use Rattle.mq_core.specs.declared.model.Stream.{Stream}
 use Rattle.mq_core.specs.declared.model.Visits.{Visits}
-
--- a node of a run has no more visits than a trace has rows
-pub visits_few : NoKindCopies → VisitsAreFew → (plan : Plan) (rows : Rows) (v : ℕ) → IsReadFor plan.net rows → length ((run_of plan rows).stations v).visits ≤ 1048576
-visits_few single few plan rows v read =
-    let most = few plan rows read (λ u node there. single node.kind) v in
-    let times = read.times in
-    let count = read.count in
-    omega arith
 
 pub visits_inside : RunsHaveSequences → (plan : Plan) (rows : Rows) (run : Run) (v : ℕ) (node : Node) → IsRunOf plan rows run → slice_get plan.net.nodes v ≡ Some node → v < length run.visits
 visits_inside law plan rows run v node is here = slice_get_within run.visits v _ (law plan rows run is v node here).visits

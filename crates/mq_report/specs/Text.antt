@@ -1,5 +1,5 @@
--- The text of a report: a head, the jobs and the span, a line for each node by rank, and a line for each output that
--- no input reads, by rank of its node and then output. Where the job lines are asked for, a line for each visit follows, by
+-- The text of a report: a head, the jobs and the span, a line for each node by rank, which tells of held visits where the model is
+-- of version 2, and a line for each output that no input reads, by rank of its node and then output. Where the job lines are asked for, a line for each visit follows, by
 -- rank of its node and then position. Words are separated by one space, and each line ends with a line feed.
 use Rattle.std.specs.Prelude.{ℕ, zero, suc, ◌+◌, ◌*◌, ◌/◌, ◌%◌, ◌==◌, ◌&&◌, Bool, if◌then◌else◌, List, [], ◌∷◌, ◌++◌, length, Option, Some, None, slice_get, codes, decimal}
 use Rattle.std.specs.List.{list_any}
@@ -10,10 +10,10 @@ use Rattle.mq_core.specs.Results.{Totals, totals_of, exit_of, servers_in, wait_o
 use Rattle.mq_core.specs.Sound.{outputs_in}
 use Rattle.mq_core.specs.Wiring.{ranking}
 use Rattle.mq_core.specs.declared.model.Fate.{Fate}
-use Rattle.mq_core.specs.declared.model.Fate.TheVariants.{Departs, Lost}
+use Rattle.mq_core.specs.declared.model.Fate.TheVariants.{Departs, Held, Lost}
 use Rattle.mq_core.specs.declared.model.Input.{Input}
 use Rattle.mq_core.specs.declared.model.Kind.{Kind}
-use Rattle.mq_core.specs.declared.model.Kind.TheVariants.{Source, Server, Delay, Loss, Tandem, ForkJoin, Split}
+use Rattle.mq_core.specs.declared.model.Kind.TheVariants.{Source, Server, Delay, Loss, Tandem, ForkJoin, Split, Fork, Join}
 use Rattle.mq_core.specs.declared.model.Network.{Network}
 use Rattle.mq_core.specs.declared.model.Node.{Node}
 use Rattle.mq_core.specs.declared.model.Rows.{Rows}
@@ -35,6 +35,8 @@ kind_word (Loss places demand) = codes "loss"
 kind_word (Tandem stages) = codes "tandem"
 kind_word (ForkJoin branches) = codes "forkjoin"
 kind_word (Split route) = codes "split"
+kind_word (Fork outputs) = codes "fork"
+kind_word Join = codes "join"
 
 -- the four digits of a number below 10,000
 abbrev pub last_digits : ℕ → List ℕ
@@ -58,13 +60,16 @@ utilisation_text busy servers span = if servers == 0 then codes "-" ++ 10 ∷ []
 unfoldable pub node_words : List ℕ → List ℕ → List ℕ
 node_words name word = codes "node " ++ name ++ codes " " ++ word ++ codes " in "
 
--- the visits, and those of them that were not lost
+-- the visits, and those of them that departed
 unfoldable pub node_counts : Totals → List ℕ
 node_counts totals = decimal totals.came ++ codes " out " ++ decimal totals.left ++ codes " lost "
 
--- the visits that a loss station had no place for
-unfoldable pub node_losses : Totals → List ℕ
-node_losses totals = decimal totals.lost ++ codes " wait "
+-- the visits that a loss station had no place for, and in version 2 those that are held
+unfoldable pub node_losses : ℕ → Totals → List ℕ
+node_losses version totals =
+    if version == 2
+    then decimal totals.lost ++ codes " held " ++ decimal totals.held ++ codes " wait "
+    else decimal totals.lost ++ codes " wait "
 
 -- the sum and the greatest of the waiting times
 unfoldable pub node_waits : Totals → List ℕ
@@ -75,12 +80,13 @@ unfoldable pub node_tallies : Totals → List ℕ
 node_tallies totals = decimal totals.busy ++ codes " area " ++ decimal totals.area ++ codes " peak " ++ decimal totals.peak ++ codes " util "
 
 -- all the numbers of a node's line but its utilisation
-abbrev pub node_numbers : Totals → List ℕ
-node_numbers totals = node_counts totals ++ (node_losses totals ++ (node_waits totals ++ node_tallies totals))
+abbrev pub node_numbers : ℕ → Totals → List ℕ
+node_numbers version totals = node_counts totals ++ (node_losses version totals ++ (node_waits totals ++ node_tallies totals))
 
--- the line of a node of this name and kind, with these totals, over this span
-abbrev pub node_line : List ℕ → Kind → Totals → ℕ → List ℕ
-node_line name kind totals span = node_words name (kind_word kind) ++ (node_numbers totals ++ utilisation_text totals.busy (servers_in kind) span)
+-- the line of a node of this name and kind, with these totals, over this span, in a model of this version
+abbrev pub node_line : ℕ → List ℕ → Kind → Totals → ℕ → List ℕ
+node_line version name kind totals span =
+    node_words name (kind_word kind) ++ (node_numbers version totals ++ utilisation_text totals.busy (servers_in kind) span)
 
 -- the name and the output, the number of jobs that left by it, and the sum of their times in the network
 unfoldable pub exit_line : List ℕ → ℕ → ℕ × ℕ → List ℕ
@@ -101,18 +107,18 @@ exit_lines nodes rows v name station out zero = []
 exit_lines nodes rows v name station out (suc more) = exit_lines_at nodes rows v name station out ++ exit_lines nodes rows v name station (out + 1) more
 
 -- the line of a node that has this index, by its totals in the state at the end
-abbrev pub line_of : Rows → State Local → ℕ → Node → List ℕ
-line_of rows end v node = node_line node.name node.kind (totals_of rows node.kind (end.stations v)) end.clock
+abbrev pub line_of : ℕ → Rows → State Local → ℕ → Node → List ℕ
+line_of version rows end v node = node_line version node.name node.kind (totals_of rows node.kind (end.stations v)) end.clock
 
 -- the line of a node, if the network has a node of this index
-abbrev pub line_at : Rows → State Local → ℕ → Option Node → List ℕ
-line_at rows end v None = []
-line_at rows end v (Some node) = line_of rows end v node
+abbrev pub line_at : ℕ → Rows → State Local → ℕ → Option Node → List ℕ
+line_at version rows end v None = []
+line_at version rows end v (Some node) = line_of version rows end v node
 
 -- the lines of these nodes
 abbrev pub nodes_text : Network → Rows → State Local → List ℕ → List ℕ
 nodes_text net rows end [] = []
-nodes_text net rows end (v ∷ order) = line_at rows end v (slice_get net.nodes v) ++ nodes_text net rows end order
+nodes_text net rows end (v ∷ order) = line_at net.version rows end v (slice_get net.nodes v) ++ nodes_text net rows end order
 
 -- the lines of the exits of a node of the network
 abbrev pub exits_at : List Node → Rows → State Local → ℕ → Option Node → List ℕ
@@ -136,10 +142,15 @@ departs_words wait time = codes " wait " ++ decimal wait ++ codes " depart " ++ 
 unfoldable pub lost_words : List ℕ
 lost_words = codes " lost" ++ 10 ∷ []
 
--- the wait and the time of departure, or that the job was lost
+-- that the job is in the node for good, and the line's end
+unfoldable pub held_words : List ℕ
+held_words = codes " held" ++ 10 ∷ []
+
+-- the wait and the time of departure, or that the job was lost, or that it is held
 abbrev pub fate_words : ℕ → Fate → List ℕ
 fate_words wait (Departs time) = departs_words wait time
 fate_words wait Lost = lost_words
+fate_words wait Held = held_words
 
 -- the line of a visit, from its job, its time of arrival, its wait and its fate
 abbrev pub visit_line : List ℕ → ℕ → ℕ → ℕ → Fate → List ℕ

@@ -41,13 +41,13 @@ pieces_of node = pieces_in (length node.visits.now.job)
 abbrev pub IsPieceTotals : NodeVisits → ℕ → NodeTotals → Type 0
 IsPieceTotals node b totals =
     let count = length node.visits.now.job in
-    (totals_from totals ≡ sequence_totals node.rows.now node.kind.now (visits_between (start_of count b) (start_of count (b + 1)) node.visits.now)) × AreSmall totals
+    (totals_from totals ≡ sequence_totals node.rows.now node.kind.now (visits_between (start_of count b) (start_of count (b + 1)) node.visits.now) node.span) × AreSmall totals
 
--- these are visits to a node of the run: all of them, so that their totals are those of the node
+-- the totals of these visits are those of a node of the run
 abbrev pub AreVisitsAt : Plan → Rows → ℕ → NodeVisits → Type 0
 AreVisitsAt plan rows v its =
     (node : Node) → slice_get plan.net.nodes v ≡ Some node →
-    sequence_totals its.rows.now its.kind.now its.visits.now ≡ totals_of rows node.kind ((run_of plan rows).stations v)
+    sequence_totals its.rows.now its.kind.now its.visits.now its.span ≡ totals_of rows node.kind ((run_of plan rows).stations v)
 
 -- the visits to the first nodes, as many as this
 pub record AreNodeVisits (plan : Plan) (rows : Rows) (count : ℕ) (all : List NodeVisits) : Type 0 where

@@ -6,19 +6,17 @@ ghost use Rattle.mq_core.specs.Sequences.{IsRunOf, sequence_wait};
 ghost use Rattle.mq_core.specs.StandardTable.{run_of};
 ghost use Rattle.mq_core.specs.Theorems.{IsReadFor};
 ghost use Rattle.mq_stats.specs.Numbers.{AreVisits};
+ghost use Rattle.mq_stats.specs.RunNumbers.{HasFewVisits};
 ghost use Rattle.mq_report.specs.Sequences.{sequence_lines};
 ghost use Rattle.mq_report.specs.Text.{fate_words, jobs_text, node_jobs, visit_line, visit_words};
 
 use crate::line::Line;
-use mq_core::{
-    Fate, Kind, Node, Plan, Rows, Run, Visits, no_kind_copies, orders_rank, runs_have_sequences,
-    visits_are_few,
-};
+use mq_core::{Fate, Kind, Node, Plan, Rows, Run, Visits, orders_rank, runs_have_sequences};
 use mq_outside::{Gather, Sink, SinkFault, add_bytes};
 use mq_stats::{runs_give_visits, wait_of};
 
 // Puts how a visit ended, and the end of its line, in the place of what the line had.
-#[tactic(auto, unfolding(crate::specs::Text::departs_words, crate::specs::Text::lost_words))]
+#[tactic(auto, unfolding(crate::specs::Text::departs_words, crate::specs::Text::lost_words, crate::specs::Text::held_words))]
 fn put_fate(line: &mut Line, wait: u64, fate: Fate)
     ensures text { line.new ≡ fate_words wait fate }
     ensures short { length line.new ≤ 55 }
@@ -33,6 +31,7 @@ fn put_fate(line: &mut Line, wait: u64, fate: Fate)
             line.put_text(b" wait ");
         }
         Fate::Lost => line.put_text(b" lost\n"),
+        Fate::Held => line.put_text(b" held\n"),
     }
 }
 
@@ -109,13 +108,12 @@ fn add_jobs_at<O: Sink>(
 ) -> Result<(), SinkFault>
     requires read { IsReadFor plan.now.net rows.now }
     requires run { IsRunOf plan.now rows.now run.now }
+    requires few { HasFewVisits plan.now rows.now }
     requires there { slice_get plan.now.net.nodes node ≡ Some declared.now }
     ensures { Adds O.taken O.sure O.faults out.old out.new pending.old pending.new result (node_jobs rows.now declared.now ((run_of plan.now rows.now).stations node)) }
 {
     runs_have_sequences();
     runs_give_visits();
-    no_kind_copies();
-    visits_are_few();
     let name = declared.name.as_slice();
     let visits = run.visits.get(node as usize);
     add_visits(out, pending, rows, name, &declared.kind, visits)
@@ -131,6 +129,7 @@ pub fn add_jobs<O: Sink>(
 ) -> Result<(), SinkFault>
     requires read { IsReadFor plan.now.net rows.now }
     requires run { IsRunOf plan.now rows.now run.now }
+    requires few { HasFewVisits plan.now rows.now }
     ensures { Adds O.taken O.sure O.faults out.old out.new pending.old pending.new result (jobs_text plan.now.net rows.now (run_of plan.now rows.now) plan.now.order) }
 {
     orders_rank();

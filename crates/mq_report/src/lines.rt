@@ -43,6 +43,8 @@ fn kind_word(kind: &Kind) -> &'static [u8]
         Kind::Tandem(_) => b"tandem",
         Kind::ForkJoin(_) => b"forkjoin",
         Kind::Split(_) => b"split",
+        Kind::Fork { .. } => b"fork",
+        Kind::Join => b"join",
     }
 }
 
@@ -151,15 +153,28 @@ fn add_counts<O: Sink>(
     )
 }
 
-// Adds the number of those lost.
+// Adds the number of those lost, and in version 2 of those held.
 #[tactic(auto, unfolding(crate::specs::Text::node_losses))]
 fn add_losses<O: Sink>(
     out: &mut O,
     pending: &mut Gather,
+    version: u8,
     totals: &NodeTotals,
 ) -> Result<(), SinkFault>
-    ensures { Adds O.taken O.sure O.faults out.old out.new pending.old pending.new result (node_losses (totals_from totals.now)) }
+    ensures { Adds O.taken O.sure O.faults out.old out.new pending.old pending.new result (node_losses version (totals_from totals.now)) }
 {
+    if version == 2 {
+        return add_pieces(
+            out,
+            pending,
+            &[
+                Piece::Number(totals.lost as u128),
+                Piece::Text(b" held "),
+                Piece::Number(totals.held as u128),
+                Piece::Text(b" wait "),
+            ],
+        );
+    }
     add_pieces(
         out,
         pending,
@@ -215,20 +230,22 @@ fn add_tallies<O: Sink>(
 fn add_numbers<O: Sink>(
     out: &mut O,
     pending: &mut Gather,
+    version: u8,
     totals: &NodeTotals,
 ) -> Result<(), SinkFault>
-    ensures { Adds O.taken O.sure O.faults out.old out.new pending.old pending.new result (node_numbers (totals_from totals.now)) }
+    ensures { Adds O.taken O.sure O.faults out.old out.new pending.old pending.new result (node_numbers version (totals_from totals.now)) }
 {
     add_counts(out, pending, totals)?;
-    add_losses(out, pending, totals)?;
+    add_losses(out, pending, version, totals)?;
     add_waits(out, pending, totals)?;
     add_tallies(out, pending, totals)
 }
 
-/// Adds the line of a node.
+/// Adds the line of a node of a model of this version.
 pub fn add_node<O: Sink>(
     out: &mut O,
     pending: &mut Gather,
+    version: u8,
     name: &[u8],
     kind: &Kind,
     totals: &NodeTotals,
@@ -236,10 +253,10 @@ pub fn add_node<O: Sink>(
 ) -> Result<(), SinkFault>
     requires servers { servers_in kind.now ≤ 8 }
     requires small { totals.now.busy < 2 ^ 100 }
-    ensures { Adds O.taken O.sure O.faults out.old out.new pending.old pending.new result (node_line name.now kind.now (totals_from totals.now) span) }
+    ensures { Adds O.taken O.sure O.faults out.old out.new pending.old pending.new result (node_line version name.now kind.now (totals_from totals.now) span) }
 {
     add_words(out, pending, name, kind)?;
-    add_numbers(out, pending, totals)?;
+    add_numbers(out, pending, version, totals)?;
     add_utilisation(out, pending, totals.busy, servers_of(kind), span)
 }
 

@@ -8,6 +8,7 @@ ghost use Rattle.mq_core.specs.Sound.{outputs_in};
 ghost use Rattle.mq_core.specs.StandardTable.{run_of};
 ghost use Rattle.mq_core.specs.Theorems.{IsReadFor};
 ghost use Rattle.mq_stats.specs.Numbers.{totals_from};
+ghost use Rattle.mq_stats.specs.RunNumbers.{HasFewVisits};
 ghost use Rattle.mq_report.specs.Totals.{AreNodeTotals};
 ghost use Rattle.mq_report.specs.Text.{asked_jobs, exit_lines, exit_lines_at, exits_text, is_read as reads_output, line_of, nodes_text, report_in, report_text};
 
@@ -15,9 +16,8 @@ use crate::jobs::add_jobs;
 use crate::lines::{add_exit, add_head, add_node};
 use mq_base::List;
 use mq_core::{
-    Input, Node, Plan, Rows, Run, exits_are_streams, no_kind_copies, nodes_are_in_limits,
-    orders_rank, outputs_have_streams, outputs_of, runs_are_of_networks, runs_have_sequences,
-    span_is_sequences, visits_are_few,
+    Input, Node, Plan, Rows, Run, exits_are_streams, nodes_are_in_limits, orders_rank,
+    outputs_have_streams, outputs_of, runs_are_of_networks, runs_have_sequences, span_is_sequences,
 };
 use mq_outside::{Gather, Sink, SinkFault, flush};
 use mq_stats::{Exit, NodeTotals, last_at, lasts_are_greatest, leaving, runs_give_streams};
@@ -55,8 +55,8 @@ fn latest_at(plan: &Plan, rows: &Rows, run: &Run, node: u32, declared: &Node) ->
     )
 }
 
-// The time of the last event of the run.
-fn span_of(plan: &Plan, rows: &Rows, run: &Run) -> u64
+/// The time of the last event of a run, in ticks.
+pub fn span_of(plan: &Plan, rows: &Rows, run: &Run) -> u64
     requires read { IsReadFor plan.now.net rows.now }
     requires run { IsRunOf plan.now rows.now run.now }
     ensures { result ≡ (run_of plan.now rows.now).clock }
@@ -104,13 +104,14 @@ fn add_node_at<O: Sink>(
     requires there { slice_get plan.now.net.nodes node ≡ Some declared.now }
     requires totals { AreNodeTotals plan.now rows.now totals.now }
     requires span { span ≡ (run_of plan.now rows.now).clock }
-    ensures { Adds O.taken O.sure O.faults out.old out.new pending.old pending.new result (line_of rows.now (run_of plan.now rows.now) node declared.now) }
+    ensures { Adds O.taken O.sure O.faults out.old out.new pending.old pending.new result (line_of plan.now.net.version rows.now (run_of plan.now rows.now) node declared.now) }
 {
     nodes_are_in_limits();
     let own = listed_totals(plan, rows, totals, node, declared);
     add_node(
         out,
         pending,
+        plan.net.version,
         declared.name.as_slice(),
         &declared.kind,
         &own,
@@ -147,6 +148,7 @@ fn add_nodes<O: Sink>(
 fn exit_at(plan: &Plan, rows: &Rows, run: &Run, node: u32, declared: &Node, output: u8) -> Exit
     requires read { IsReadFor plan.now.net rows.now }
     requires run { IsRunOf plan.now rows.now run.now }
+    requires few { HasFewVisits plan.now rows.now }
     requires there { slice_get plan.now.net.nodes node ≡ Some declared.now }
     requires output { output < outputs_in declared.now.kind }
     ensures { (result.count, result.sojourn) ≡ exit_of rows.now ((run_of plan.now rows.now).stations node) output }
@@ -154,8 +156,6 @@ fn exit_at(plan: &Plan, rows: &Rows, run: &Run, node: u32, declared: &Node, outp
     exits_are_streams();
     outputs_have_streams();
     runs_give_streams();
-    no_kind_copies();
-    visits_are_few();
     runs_have_sequences();
     leaving(rows, run.outputs.get(node as usize).get(output as usize))
 }
@@ -173,6 +173,7 @@ fn add_exit_at<O: Sink>(
 ) -> Result<(), SinkFault>
     requires read { IsReadFor plan.now.net rows.now }
     requires run { IsRunOf plan.now rows.now run.now }
+    requires few { HasFewVisits plan.now rows.now }
     requires there { slice_get plan.now.net.nodes node ≡ Some declared.now }
     requires output { output < outputs_in declared.now.kind }
     ensures { Adds O.taken O.sure O.faults out.old out.new pending.old pending.new result (exit_lines_at plan.now.net.nodes rows.now node declared.now.name ((run_of plan.now rows.now).stations node) output) }
@@ -196,6 +197,7 @@ fn add_exits_at<O: Sink>(
 ) -> Result<(), SinkFault>
     requires read { IsReadFor plan.now.net rows.now }
     requires run { IsRunOf plan.now rows.now run.now }
+    requires few { HasFewVisits plan.now rows.now }
     requires there { slice_get plan.now.net.nodes node ≡ Some declared.now }
     ensures { Adds O.taken O.sure O.faults out.old out.new pending.old pending.new result (exit_lines plan.now.net.nodes rows.now node declared.now.name ((run_of plan.now rows.now).stations node) 0 (outputs_in declared.now.kind)) }
 {
@@ -216,6 +218,7 @@ fn add_exits<O: Sink>(
 ) -> Result<(), SinkFault>
     requires read { IsReadFor plan.now.net rows.now }
     requires run { IsRunOf plan.now rows.now run.now }
+    requires few { HasFewVisits plan.now rows.now }
     ensures { Adds O.taken O.sure O.faults out.old out.new pending.old pending.new result (exits_text plan.now.net rows.now (run_of plan.now rows.now) plan.now.order) }
 {
     orders_rank();
@@ -238,6 +241,7 @@ fn add_asked_jobs<O: Sink>(
 ) -> Result<(), SinkFault>
     requires read { IsReadFor plan.now.net rows.now }
     requires run { IsRunOf plan.now rows.now run.now }
+    requires few { HasFewVisits plan.now rows.now }
     ensures { Adds O.taken O.sure O.faults out.old out.new pending.old pending.new result (asked_jobs plan.now.net rows.now (run_of plan.now rows.now) plan.now.order jobs) }
 {
     if !jobs {
@@ -258,6 +262,7 @@ fn add_report<O: Sink>(
 ) -> Result<(), SinkFault>
     requires read { IsReadFor plan.now.net rows.now }
     requires run { IsRunOf plan.now rows.now run.now }
+    requires few { HasFewVisits plan.now rows.now }
     requires totals { AreNodeTotals plan.now rows.now totals.now }
     ensures { Adds O.taken O.sure O.faults out.old out.new pending.old pending.new result (report_text plan.now.net plan.now.order rows.now (run_of plan.now rows.now) jobs) }
 {
@@ -270,7 +275,8 @@ fn add_report<O: Sink>(
 
 /// Writes the report of a run: the counts and times of each node by rank, what leaves by each
 /// output that no input reads, and, where `jobs` is true, a line for each visit by rank of its node
-/// and then position. It takes no memory of its own.
+/// and then position. No node has more than 1,048,576 visits, as in each run that isn't refused. It takes
+/// no memory of its own.
 ///
 /// After a fault the sink took a first part of the report.
 pub fn report<O: Sink>(
@@ -283,6 +289,7 @@ pub fn report<O: Sink>(
 ) -> Result<(), SinkFault>
     requires read { IsReadFor plan.now.net rows.now }
     requires run { IsRunOf plan.now rows.now run.now }
+    requires few { HasFewVisits plan.now rows.now }
     requires totals { AreNodeTotals plan.now rows.now totals.now }
     ensures ok { OnOk result (TakesFirst (O.taken out.old) (O.taken out.new) (O.sure out.old) (O.sure out.new) (report_in plan.now.net rows.now jobs) (length (report_in plan.now.net rows.now jobs))) }
     ensures err { OnErr result (TakesPrefix (O.taken out.old) (O.taken out.new) (O.sure out.old) (O.sure out.new) (report_in plan.now.net rows.now jobs)) }

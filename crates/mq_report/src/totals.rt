@@ -6,12 +6,14 @@ ghost use Rattle.mq_core.specs.StandardTable.{run_of};
 ghost use Rattle.mq_core.specs.Theorems.{IsReadFor};
 ghost use Rattle.mq_crew.specs.Crew.{AreAll, AreGroups};
 ghost use Rattle.mq_stats.specs.Numbers.{totals_from};
+ghost use Rattle.mq_stats.specs.RunNumbers.{HasFewVisits};
 ghost use Rattle.mq_report.specs.Totals.{AreNodeTotals, AreNodeVisits, IsPieceTotals, IsVisited, pieces_in, pieces_of};
 
+use crate::sections::span_of;
 use mq_base::{List, OutOfMemory};
 use mq_core::{
-    Kind, Node, Plan, Rows, Run, Visits, no_kind_copies, nodes_are_in_limits, runs_have_sequences,
-    totals_are_sequences, visits_are_few,
+    Kind, Node, Plan, Rows, Run, Visits, nodes_are_in_limits, runs_have_sequences,
+    totals_are_sequences,
 };
 use mq_crew::{Gate, Pieces, run_parts};
 use mq_stats::{NodeTotals, runs_give_visits, totals_added, totals_between, totals_join};
@@ -21,12 +23,14 @@ use std::thread::Threads;
 // How many visits are a piece: what is read of them fits a processor's own memory.
 const PIECE: u32 = 16_384;
 
-/// The visits to a node of this kind. A piece of them is the totals of so many neighbours.
+/// The visits to a node of this kind over a run with this span, in ticks. A piece of them is the totals of
+/// so many neighbours.
 #[derive(Clone, Copy)]
 pub struct NodeVisits<'a> {
     pub rows: &'a Rows,
     pub kind: &'a Kind,
     pub visits: &'a Visits,
+    pub span: u64,
 }
 
 impl<'a> Pieces for NodeVisits<'a> {
@@ -46,7 +50,7 @@ impl<'a> Pieces for NodeVisits<'a> {
         let count = self.visits.job.len() as u32;
         let from = b * PIECE;
         let to = count.min(from + PIECE);
-        let totals = totals_between(self.rows, self.kind, self.visits, from, to);
+        let totals = totals_between(self.rows, self.kind, self.visits, self.span, from, to);
         Ok(totals)
     }
 }
@@ -64,24 +68,26 @@ fn visits_at<'a>(
     plan: &'a Plan,
     rows: &'a Rows,
     run: &'a Run,
+    span: u64,
     node: u32,
     declared: &'a Node,
 ) -> NodeVisits<'a>
     requires read { IsReadFor plan.now.net rows.now }
     requires run { IsRunOf plan.now rows.now run.now }
+    requires few { HasFewVisits plan.now rows.now }
+    requires span { span ≡ (run_of plan.now rows.now).clock }
     requires there { slice_get plan.now.net.nodes node ≡ Some declared.now }
     ensures visited { IsVisited result }
-    ensures totals { sequence_totals result.rows.now result.kind.now result.visits.now ≡ totals_of rows.now declared.now.kind ((run_of plan.now rows.now).stations node) }
+    ensures totals { sequence_totals result.rows.now result.kind.now result.visits.now result.span ≡ totals_of rows.now declared.now.kind ((run_of plan.now rows.now).stations node) }
 {
     runs_have_sequences();
     runs_give_visits();
-    no_kind_copies();
-    visits_are_few();
     totals_are_sequences();
     NodeVisits {
         rows,
         kind: &declared.kind,
         visits: run.visits.get(node as usize),
+        span,
     }
 }
 
@@ -94,13 +100,15 @@ fn visits_by_node<'a>(
 ) -> Result<List<NodeVisits<'a>>, OutOfMemory>
     requires read { IsReadFor plan.now.net rows.now }
     requires run { IsRunOf plan.now rows.now run.now }
+    requires few { HasFewVisits plan.now rows.now }
     ensures { IfOk result (λ all. AreNodeVisits plan.now rows.now (length plan.now.net.nodes) all) }
 {
     nodes_are_in_limits();
+    let span = span_of(plan, rows, run);
     let mut all = List::new(alloc);
     for node in 0..plan.net.nodes.len() {
         let declared = plan.net.nodes.get(node);
-        all.push(visits_at(plan, rows, run, node as u32, declared))?;
+        all.push(visits_at(plan, rows, run, span, node as u32, declared))?;
     }
     Ok(all)
 }
@@ -109,11 +117,11 @@ fn visits_by_node<'a>(
 fn sum_of(node: &NodeVisits, group: &List<NodeTotals>) -> NodeTotals
     requires visited { IsVisited node.now }
     requires group { AreAll (IsPieceTotals node.now) (pieces_of node.now) group.now }
-    ensures totals { totals_from result ≡ sequence_totals node.now.rows.now node.now.kind.now node.now.visits.now }
+    ensures totals { totals_from result ≡ sequence_totals node.now.rows.now node.now.kind.now node.now.visits.now node.now.span }
     ensures small { result.busy < 2 ^ 100 }
 {
     totals_join();
-    let mut sum = totals_between(node.rows, node.kind, node.visits, 0, 0);
+    let mut sum = totals_between(node.rows, node.kind, node.visits, node.span, 0, 0);
     for b in 0..group.len() {
         sum = totals_added(&sum, group.get(b));
     }
@@ -139,8 +147,8 @@ fn sums_of(
     Ok(totals)
 }
 
-/// The totals of each node over a run, by node. The visits to a node are cut into pieces of 16,384, and the
-/// pieces of all nodes are a list that 1 to 64 workers make, who enter the gate.
+/// The totals of each node over a run, by node. The visits to a node, at most 1,048,576, are cut into pieces
+/// of 16,384, and the pieces of all nodes are a list that 1 to 64 workers make, who enter the gate.
 /// It refuses for want of memory alone.
 pub fn node_totals<R: Threads + Sync, G: Gate>(
     rt: &R,
@@ -155,6 +163,7 @@ pub fn node_totals<R: Threads + Sync, G: Gate>(
     requires most { workers ≤ 64 }
     requires read { IsReadFor plan.now.net rows.now }
     requires run { IsRunOf plan.now rows.now run.now }
+    requires few { HasFewVisits plan.now rows.now }
     ensures { IfOk result (λ totals. AreNodeTotals plan.now rows.now totals) }
 {
     let all = visits_by_node(alloc, plan, rows, run)?;

@@ -1,6 +1,7 @@
 -- What becomes of the arrivals at a loss station.
 use Rattle.std.proofs.Common.{◌≡◌, ℕ, zero, suc, ◌+◌, ◌<◌, ◌≤◌, Bool, true, false, not, List, [], ◌∷◌, ◌++◌, length, get_or, drop, map, Some, sym, refl, ap, ◌∙◌, arith, append_assoc, drop-cons, length-append}
-use Rattle.std.specs.Prelude.{IsTrue, nat_le, slice_get}
+use Rattle.std.specs.Prelude.{⊤, IsTrue, if◌then◌else◌, max, nat_le, slice_get}
+use Rattle.std.specs.List.{AllByRecursion as Each}
 use Rattle.std.proofs.lemmas.Bool.{and_parts}
 use Rattle.std.proofs.lemmas.Bool.Decides.{nat_tests}
 use Rattle.std.proofs.lemmas.List.{append-nil, drop_all, length-map}
@@ -12,12 +13,12 @@ use Rattle.mq_core.specs.OnceOut.{leaving_times}
 use Rattle.mq_core.specs.Streams.{picked}
 use Rattle.mq_core.specs.Kinds.Loss.{out_of_fate}
 use Rattle.mq_core.specs.Handling.{demand_of_job}
-use Rattle.mq_core.specs.Recurrences.{loss_fates}
+use Rattle.mq_core.specs.Recurrences.{is_admitted, loss_fates, time_or_none}
 use Rattle.mq_core.specs.Ranges.{is_sound_demand, is_within}
 use Rattle.mq_core.specs.Sound.{is_sound_kind}
 use Rattle.mq_core.specs.declared.model.Demand.{Demand}
 use Rattle.mq_core.specs.declared.model.Fate.{Fate}
-use Rattle.mq_core.specs.declared.model.Fate.TheVariants.{Departs, Lost}
+use Rattle.mq_core.specs.declared.model.Fate.TheVariants.{Departs, Held, Lost}
 use Rattle.mq_core.specs.declared.model.Kind.TheVariants.{Loss}
 use Rattle.mq_core.specs.declared.model.Rows.{Rows}
 use Rattle.mq_core.specs.declared.model.Stream.{Stream}
@@ -115,42 +116,66 @@ both (admit ∷ admitted) [] e = absurd (omega arith)
 both (true ∷ admitted) (item ∷ items) e = let h = both admitted items (omega arith) in omega arith
 both (false ∷ admitted) (item ∷ items) e = let h = both admitted items (omega arith) in omega arith
 
+-- At a loss station no visit is held.
+abbrev IsOver : Fate → Type 0
+IsOver (Departs time) = ⊤
+IsOver Lost = ⊤
+IsOver Held = ⊥
+
+over-all : (places : ℕ) (left arrives demands : List ℕ) → Each IsOver (loss_fates places left arrives demands)
+over-all places left [] demands = tt
+over-all places left (a ∷ arrives) [] = tt
+over-all places left (a ∷ arrives) (d ∷ demands) = go (is_admitted places left a) (over-all places (time ∷ left) arrives demands) (over-all places left arrives demands)
+  where
+    time : ℕ
+    time = max a (time_or_none (slice_get left 0)) + d
+
+    go : (b : Bool) → Each IsOver (loss_fates places (time ∷ left) arrives demands) → Each IsOver (loss_fates places left arrives demands) →
+        Each IsOver (if b then (Departs time ∷ loss_fates places (time ∷ left) arrives demands) else (Lost ∷ loss_fates places left arrives demands))
+    go true h k = (tt, h)
+    go false h k = (tt, k)
+
 -- fates are told by who is admitted and when those depart
-fates-back : (fates : List Fate) → fates_by (map admits fates) (departures_in fates) ≡ fates
-fates-back [] = refl
-fates-back (Departs time ∷ fates) = ap (λ l. Departs time ∷ l) (fates-back fates)
-fates-back (Lost ∷ fates) = ap (λ l. Lost ∷ l) (fates-back fates)
+fates-back : (fates : List Fate) → Each IsOver fates → fates_by (map admits fates) (departures_in fates) ≡ fates
+fates-back [] o = refl
+fates-back (Departs time ∷ fates) o = ap (λ l. Departs time ∷ l) (fates-back fates o.1)
+fates-back (Lost ∷ fates) o = ap (λ l. Lost ∷ l) (fates-back fates o.1)
+fates-back (Held ∷ fates) o = absurd o.0
 
 pub settled-fates : (rows : Rows) (places : ℕ) (demand : Demand) (arrivals : Stream) (demands : List ℕ) (settled : Settled) (fates : List Fate) → demands ≡ map (demand_of_job rows demand) arrivals.job → IsSettled places arrivals.time demands settled → fates ≡ fates_by settled.admitted settled.departs →
     fates ≡ sequence_fates rows (Loss places demand) (came_in arrivals)
 settled-fates rows places demand arrivals demands settled fates m s f =
-    f ∙ ((λ k. fates_by (s.admitted k) (s.departs k)) ∙ (fates-back (loss_fates places [] arrivals.time demands) ∙ ap (loss_fates places [] arrivals.time) m))
+    f ∙ ((λ k. fates_by (s.admitted k) (s.departs k)) ∙ (fates-back (loss_fates places [] arrivals.time demands) (over-all places [] arrivals.time demands) ∙ ap (loss_fates places [] arrivals.time) m))
 
 -- the outputs by admission are those by fate
 outs-back : (fates : List Fate) → map out_of_admission (map admits fates) ≡ map out_of_fate fates
 outs-back [] = refl
 outs-back (Departs time ∷ fates) = ap (λ l. 0 ∷ l) (outs-back fates)
 outs-back (Lost ∷ fates) = ap (λ l. 1 ∷ l) (outs-back fates)
+outs-back (Held ∷ fates) = ap (λ l. 0 ∷ l) (outs-back fates)
 
 -- those that are admitted leave as they depart, and the others as they came
-admitted-leave : (arrive : List ℕ) (fates : List Fate) → length fates ≡ length arrive → picked 0 (map out_of_fate fates) (leaving_times arrive fates) ≡ departures_in fates
-admitted-leave [] [] e = refl
-admitted-leave [] (fate ∷ fates) e = absurd (omega arith)
-admitted-leave (time ∷ arrive) [] e = refl
-admitted-leave (time ∷ arrive) (Departs departs ∷ fates) e = ap (λ l. departs ∷ l) (admitted-leave arrive fates (omega arith))
-admitted-leave (time ∷ arrive) (Lost ∷ fates) e = admitted-leave arrive fates (omega arith)
+admitted-leave : (arrive : List ℕ) (fates : List Fate) → length fates ≡ length arrive → Each IsOver fates → picked 0 (map out_of_fate fates) (leaving_times arrive fates) ≡ departures_in fates
+admitted-leave [] [] e o = refl
+admitted-leave [] (fate ∷ fates) e o = absurd (omega arith)
+admitted-leave (time ∷ arrive) [] e o = refl
+admitted-leave (time ∷ arrive) (Departs departs ∷ fates) e o = ap (λ l. departs ∷ l) (admitted-leave arrive fates (omega arith) o.1)
+admitted-leave (time ∷ arrive) (Lost ∷ fates) e o = admitted-leave arrive fates (omega arith) o.1
+admitted-leave (time ∷ arrive) (Held ∷ fates) e o = absurd o.0
 
 lost-leave : (arrive : List ℕ) (fates : List Fate) → picked 1 (map out_of_fate fates) (leaving_times arrive fates) ≡ picked 1 (map out_of_fate fates) arrive
 lost-leave arrive [] = refl
 lost-leave [] (fate ∷ fates) = refl
 lost-leave (time ∷ arrive) (Departs departs ∷ fates) = lost-leave arrive fates
 lost-leave (time ∷ arrive) (Lost ∷ fates) = ap (λ l. time ∷ l) (lost-leave arrive fates)
+lost-leave (time ∷ arrive) (Held ∷ fates) = lost-leave arrive fates
 
-admitted-many : (job : List ℕ) (fates : List Fate) → length fates ≡ length job → length (departures_in fates) ≡ length (picked 0 (map out_of_admission (map admits fates)) job)
-admitted-many job [] e = refl
-admitted-many [] (fate ∷ fates) e = absurd (omega arith)
-admitted-many (one ∷ job) (Departs departs ∷ fates) e = ap suc (admitted-many job fates (omega arith))
-admitted-many (one ∷ job) (Lost ∷ fates) e = admitted-many job fates (omega arith)
+admitted-many : (job : List ℕ) (fates : List Fate) → length fates ≡ length job → Each IsOver fates → length (departures_in fates) ≡ length (picked 0 (map out_of_admission (map admits fates)) job)
+admitted-many job [] e o = refl
+admitted-many [] (fate ∷ fates) e o = absurd (omega arith)
+admitted-many (one ∷ job) (Departs departs ∷ fates) e o = ap suc (admitted-many job fates (omega arith) o.1)
+admitted-many (one ∷ job) (Lost ∷ fates) e o = admitted-many job fates (omega arith) o.1
+admitted-many (one ∷ job) (Held ∷ fates) e o = absurd o.0
 
 -- a settled station: its fates, as many as there are arrivals
 settled-is : (rows : Rows) (places : ℕ) (demand : Demand) (arrivals : Stream) (demands : List ℕ) → demands ≡ map (demand_of_job rows demand) arrivals.job →
@@ -167,12 +192,12 @@ pub settled-even : FatesAreInTime → (rows : Rows) (places : ℕ) (demand : Dem
     IsEven arrivals settled
 settled-even law rows places demand arrivals demands settled e m s =
     let fates : List Fate = loss_fates places [] arrivals.time demands in
-    let many : length fates ≡ length arrivals.time = ap length (settled-is rows places demand arrivals demands m) ∙ (law rows (Loss places demand) (came_in arrivals) e).even in
+    let many : length fates ≡ length arrivals.time = ap length (settled-is rows places demand arrivals demands m) ∙ (law rows (Loss places demand) (came_in arrivals) refl e).even in
     let answers : length settled.admitted ≡ length fates = ap length s.admitted ∙ length-map fates admits in
     record {
       jobs = e ∙ sym (answers ∙ many);
       times = sym (answers ∙ many);
-      departs = ap length s.departs ∙ (admitted-many arrivals.job fates (many ∙ sym e) ∙ ap (λ (xs : List Bool). length (picked 0 (map out_of_admission xs) arrivals.job)) (sym s.admitted));
+      departs = ap length s.departs ∙ (admitted-many arrivals.job fates (many ∙ sym e) (over-all places [] arrivals.time demands) ∙ ap (λ (xs : List Bool). length (picked 0 (map out_of_admission xs) arrivals.job)) (sym s.admitted));
     }
 
 -- the two streams of a loss station
@@ -188,7 +213,7 @@ loses law rows places demand arrivals demands settled fates streams even m s f e
     those = sequence_fates rows (Loss places demand) (came_in arrivals)
 
     many : length those ≡ length arrivals.time
-    many = (law rows (Loss places demand) (came_in arrivals) even).even
+    many = (law rows (Loss places demand) (came_in arrivals) refl even).even
 
     same : loss_fates places [] arrivals.time demands ≡ those
     same = settled-is rows places demand arrivals demands m
@@ -197,7 +222,7 @@ loses law rows places demand arrivals demands settled fates streams even m s f e
     outs = ap (map out_of_admission) s.admitted ∙ (outs-back (loss_fates places [] arrivals.time demands) ∙ ap (map out_of_fate) same)
 
     departs : settled.departs ≡ picked 0 (map out_of_fate those) (leaving_times arrivals.time those)
-    departs = s.departs ∙ (ap departures_in same ∙ sym (admitted-leave arrivals.time those many))
+    departs = s.departs ∙ (ap departures_in same ∙ sym (admitted-leave arrivals.time those many (over-all places [] arrivals.time (map (demand_of_job rows demand) arrivals.job))))
 
     first : ◌≡◌ {A = Stream} (record { job = picked 0 (map out_of_admission settled.admitted) arrivals.job; time = settled.departs }) (left_by rows (Loss places demand) arrivals 0)
     first = λ k. record { job = picked 0 (outs k) arrivals.job; time = departs k }

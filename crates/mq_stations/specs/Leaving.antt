@@ -1,9 +1,10 @@
 -- What comes to a station and what leaves it, in sequences alone.
-use Rattle.std.specs.Prelude.{◌≡◌, ◌<◌, ◌≤◌, ◌^◌, ℕ, IsTrue, List, length, map, Some, slice_get}
+use Rattle.std.specs.Prelude.{◌≡◌, ◌<◌, ◌≤◌, ◌^◌, ℕ, IsTrue, List, length, map, Some, slice_get, true}
 use Rattle.std.specs.List.{AllByRecursion}
 use Rattle.mq_core.specs.Asked.{HasDemands}
 use Rattle.mq_core.specs.Came.{came_in}
 use Rattle.mq_core.specs.Kinds.Split.{HasRouteValue}
+use Rattle.mq_core.specs.SequenceLaws.{sends_once}
 use Rattle.mq_core.specs.Sequences.{IsStream, sequence_fates, sequence_outs, sequence_stream, stream_in_order}
 use Rattle.mq_core.specs.OnceOut.{leaving_times}
 use Rattle.mq_core.specs.Streams.{picked}
@@ -55,22 +56,28 @@ left_by rows kind arrivals out =
       time = picked out outs (leaving_times arrivals.time (sequence_fates rows kind (came_in arrivals)));
     }
 
--- what leaves by each output, by position
+-- what leaves by each output, in emission order
+pub record AreStreams (rows : Rows) (kind : Kind) (arrivals : Stream) (streams : List Stream) : Type 0 where
+  pub count : length streams ≡ outputs_in kind
+  pub each : (out : ℕ) → out < outputs_in kind → slice_get streams out ≡ Some (sequence_stream rows kind (came_in arrivals) out)
+
+-- the same by position
 pub record AreLeft (rows : Rows) (kind : Kind) (arrivals : Stream) (streams : List Stream) : Type 0 where
   pub count : length streams ≡ outputs_in kind
   pub each : (out : ℕ) → out < outputs_in kind → slice_get streams out ≡ Some (left_by rows kind arrivals out)
 
--- what leaves a station: the fate of each arrival, and what leaves by each output, by position
+-- what leaves a station: the fate of each arrival, and what leaves by each output
 pub record IsLeaving (rows : Rows) (kind : Kind) (arrivals : Stream) (fates : List Fate) (streams : List Stream) : Type 0 where
   pub leave : fates ≡ sequence_fates rows kind (came_in arrivals)
-  pub outflow : AreLeft rows kind arrivals streams
+  pub outflow : AreStreams rows kind arrivals streams
 
 -- jobs that leave a node of this kind keep their order
 abbrev pub KeepsOrder : Kind → Type 0
 KeepsOrder kind = (stream : Stream) → stream_in_order kind stream ≡ stream
 
--- the jobs of a station of this kind depart at these times, by position, by its only output
+-- the jobs of a station of this kind depart at these times, by position, each once by its only output
 pub record AreDepartures (rows : Rows) (kind : Kind) (arrivals : Stream) (departs : List ℕ) : Type 0 where
+  pub once : sends_once kind ≡ true
   pub one : outputs_in kind ≡ 1
   pub outs : sequence_outs rows kind (came_in arrivals) ≡ map (λ _. 0) arrivals.job
   pub fates : sequence_fates rows kind (came_in arrivals) ≡ map (λ time. Departs time) departs
@@ -79,7 +86,7 @@ pub record AreDepartures (rows : Rows) (kind : Kind) (arrivals : Stream) (depart
 abbrev pub AreServed : Rows → Kind → Stream → List ℕ → Type 0
 AreServed rows kind arrivals departs = AreDepartures rows kind arrivals departs × KeepsOrder kind
 
--- what leaves a station of this kind: when its jobs depart; or the fate of each and what leaves by each output, in their order
+-- what leaves a station of this kind: when its jobs depart; or the fate of each and what leaves by each output
 abbrev pub IsLeft : Rows → Kind → Stream → Left → Type 0
 IsLeft rows kind arrivals (Departures departs) = AreDepartures rows kind arrivals departs
-IsLeft rows kind arrivals (Streams outflow) = IsLeaving rows kind arrivals outflow.fates outflow.streams × KeepsOrder kind
+IsLeft rows kind arrivals (Streams outflow) = IsLeaving rows kind arrivals outflow.fates outflow.streams

@@ -21,6 +21,15 @@ pub struct PastFault {
     pub time: u64,
 }
 
+/// A node with more visits than the 1,048,576 that it may have.
+#[derive(Clone, Copy, Debug, PartialEq, Eq)]
+pub struct OverFault {
+    /// The node, by order of declaration, from 0.
+    pub node: u32,
+    /// How many visits it has.
+    pub count: u32,
+}
+
 /// The first of these visits to a node, by position, that departs after the bound, if there is one. There
 /// are at most 1,048,576.
 pub fn first_late(bound: u64, node: u32, fates: &List<Fate>) -> Option<PastFault>

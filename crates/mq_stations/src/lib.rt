@@ -1,7 +1,8 @@
 //! What leaves a station, given its arrivals, by its kind: whole, or by blocks of jobs.
 #![tactic(auto)]
 
-ghost use Rattle.std.specs.Prelude.{◌≤◌, IfOk};
+ghost use Rattle.std.specs.Prelude.{◌≡◌, ◌≤◌, IfOk, true};
+ghost use Rattle.mq_core.specs.SequenceLaws.{sends_once};
 ghost use Rattle.mq_stations.specs.Leaving.{IsLeft, IsLoad};
 
 mod blocks;
@@ -19,7 +20,7 @@ pub use blocks::{applied, before_of, joined, sum_of};
 use delay::delay_whole;
 use forkjoin::forkjoin_whole;
 pub use forkjoin::{ForkJoinScan, forkjoin_scan};
-pub use late::{PastFault, first_late, first_late_in_turn, first_late_overtaken};
+pub use late::{OverFault, PastFault, first_late, first_late_in_turn, first_late_overtaken};
 use loss::loss_outflow;
 use mq_base::OutOfMemory;
 use mq_core::{Kind, Rows, Stream};
@@ -36,7 +37,7 @@ pub use tandem::{
 
 /// What leaves a station of this kind, given its arrivals, which it can work on: where no job is lost and
 /// there is one output, when its jobs depart; else their fates, and by each output the jobs and the times
-/// at which they leave, in ticks, by position.
+/// at which they leave, in ticks. The kind lets each job out once, alone, as all do but forks and joins.
 ///
 /// The first window of a loss station is a block, of at least one job. It refuses for want of memory
 /// alone.
@@ -48,6 +49,7 @@ pub fn leaving(
     arrivals: &Stream,
     block: u32,
 ) -> Result<Left, OutOfMemory>
+    requires once { sends_once kind.now ≡ true }
     requires load { IsLoad rows.now kind.now arrivals.now }
     requires some { 1 ≤ block }
     ensures { IfOk result (λ left. IsLeft rows.now kind.now arrivals.now left) }
@@ -78,5 +80,6 @@ pub fn leaving(
             let outflow = split_outflow(alloc, rows, route, arrivals)?;
             Ok(Left::Streams(outflow))
         }
+        Kind::Fork { .. } | Kind::Join => unreachable!(),
     }
 }

@@ -14,7 +14,7 @@ pub enum Left {
     /// When its jobs depart, in ticks, by position: none is lost, and all leave by the only output. At a
     /// delay they may overtake one another.
     Departures(List<u64>),
-    /// The fates of its jobs and what leaves by each output, where they keep their order.
+    /// The fates of its jobs and what leaves by each output.
     Streams(Outflow),
 }
 
@@ -23,7 +23,7 @@ pub enum Left {
 pub struct Outflow {
     /// The fate of each arrival, by position.
     pub fates: List<Fate>,
-    /// By output the jobs that leave and when, by position.
+    /// By output the jobs that leave and when, in the order in which they leave.
     pub streams: List<Stream>,
 }
 

@@ -12,11 +12,11 @@ use Rattle.mq_core.specs.OnceOut.{departs_after, founds_from}
 use Rattle.mq_core.specs.Streams.{by_first}
 use Rattle.mq_core.specs.Laws.{Rises}
 use Rattle.mq_core.specs.declared.model.Fate.{Fate}
-use Rattle.mq_core.specs.declared.model.Fate.TheVariants.{Departs, Lost}
+use Rattle.mq_core.specs.declared.model.Fate.TheVariants.{Departs, Held, Lost}
 use Rattle.mq_stats.proofs.Counts.{count-cons}
 use Rattle.mq_stats.proofs.Ordered.{as-many}
 use Rattle.mq_stats.proofs.Passing.{rises-get}
-use Rattle.mq_stats.specs.Departures.{departures_from, is_gone, stays}
+use Rattle.mq_stats.specs.Departures.{departures_from, is_gone, stays, with_departure}
 
 not-yet : (time at d position : ℕ) → at ≤ position → time ≤ d → is_gone time at (d, position) ≡ false
 not-yet time at d position l h = grind (arith, nat_tests)
@@ -32,6 +32,7 @@ later-gone time later at l x = grind (arith, nat_tests)
 none-left : (time at position : ℕ) (fates : List Fate) → at ≤ position → Each (λ f. LeavesFrom time f) fates → count_by (is_gone time at) (departures_from position fates) ≡ 0
 none-left time at position [] l h = refl
 none-left time at position (Lost ∷ fates) l h = none-left time at (suc position) fates (omega arith) h.1
+none-left time at position (Held ∷ fates) l h = none-left time at (suc position) fates (omega arith) h.1
 none-left time at position (Departs d ∷ fates) l h =
     let rest = none-left time at (suc position) fates (omega arith) h.1 in
     count-cons (is_gone time at) (d, position) (departures_from (suc position) fates)
@@ -43,6 +44,7 @@ left-after time [] [] e a z = tt
 left-after time [] (f ∷ fates) e a z = absurd (omega arith)
 left-after time (x ∷ arrives) [] e a z = tt
 left-after time (x ∷ arrives) (Lost ∷ fates) e a z = (tt, left-after time arrives fates (omega arith) a.1 z.1)
+left-after time (x ∷ arrives) (Held ∷ fates) e a z = (tt, left-after time arrives fates (omega arith) a.1 z.1)
 left-after time (x ∷ arrives) (Departs d ∷ fates) e a z =
     let early = a.0 in
     let late = z.0 in
@@ -62,6 +64,11 @@ gone-and-there at position (suc i) time (a ∷ arrives) (Lost ∷ fates) s e r z
     let rest = gone-and-there at (suc position) i time arrives fates (omega arith) (omega arith) r.1 z.1 h in
     let there = count-cons (departs_after time) Lost (take i fates) in
     let all = count-cons stays Lost (take i fates) in
+    omega arith
+gone-and-there at position (suc i) time (a ∷ arrives) (Held ∷ fates) s e r z h =
+    let rest = gone-and-there at (suc position) i time arrives fates (omega arith) (omega arith) r.1 z.1 h in
+    let there = count-cons (departs_after time) Held (take i fates) in
+    let all = count-cons stays Held (take i fates) in
     omega arith
 gone-and-there at position (suc i) time (a ∷ arrives) (Departs d ∷ fates) s e r z h =
     let rest = gone-and-there at (suc position) i time arrives fates (omega arith) (omega arith) r.1 z.1 h in
@@ -119,10 +126,17 @@ departs-next done done' all fates i time f p h =
     let next : departures_from i (drop i fates) ≡ (time, i) ∷ departures_from (i + 1) (drop (i + 1) fates) = departures-at fates i (Departs time) f ∙ ap (λ n. (time, i) ∷ departures_from n (drop (i + 1) fates)) e in
     ap (λ l. l ++ departures_from (i + 1) (drop (i + 1) fates)) p ∙ (append_assoc done ((time, i) ∷ []) _ ∙ (sym (ap (λ l. done ++ l) next) ∙ h))
 
-pub lost-next : (done all : List (ℕ × ℕ)) (fates : List Fate) (i : ℕ) → slice_get fates i ≡ Some Lost → done ++ departures_from i (drop i fates) ≡ all → done ++ departures_from (i + 1) (drop (i + 1) fates) ≡ all
-lost-next done all fates i f h =
+-- one that is lost or held has none
+pub no-departure : (position : ℕ) (fate : Fate) → ((time : ℕ) → fate ≡ Departs time → ⊥) → (more : List (ℕ × ℕ)) → with_departure position fate more ≡ more
+no-departure position (Departs time) none more = absurd (none time refl)
+no-departure position Lost none more = refl
+no-departure position Held none more = refl
+
+pub none-next : (done all : List (ℕ × ℕ)) (fates : List Fate) (i : ℕ) (fate : Fate) → slice_get fates i ≡ Some fate → ((more : List (ℕ × ℕ)) → with_departure i fate more ≡ more) → done ++ departures_from i (drop i fates) ≡ all → done ++ departures_from (i + 1) (drop (i + 1) fates) ≡ all
+none-next done all fates i fate f none h =
     let e : suc i ≡ i + 1 = omega arith in
-    let next : departures_from i (drop i fates) ≡ departures_from (i + 1) (drop (i + 1) fates) = departures-at fates i Lost f ∙ ap (λ n. departures_from n (drop (i + 1) fates)) e in
+    let next : departures_from i (drop i fates) ≡ departures_from (i + 1) (drop (i + 1) fates) =
+    departures-at fates i fate f ∙ (none (departures_from (suc i) (drop (i + 1) fates)) ∙ ap (λ n. departures_from n (drop (i + 1) fates)) e) in
     sym (ap (λ l. done ++ l) next) ∙ h
 
 -- what is gone and what the visit found are the earlier visits that stay

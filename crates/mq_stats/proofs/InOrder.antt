@@ -5,7 +5,7 @@ use Rattle.std.proofs.lemmas.Bool.Decides.{nat_tests}
 use Rattle.std.proofs.lemmas.List.Sums.{sum_by-le-sum_by}
 use Rattle.mq_core.specs.OnceOut.{departs_after}
 use Rattle.mq_core.specs.declared.model.Fate.{Fate}
-use Rattle.mq_core.specs.declared.model.Fate.TheVariants.{Departs, Lost}
+use Rattle.mq_core.specs.declared.model.Fate.TheVariants.{Departs, Held, Lost}
 use Rattle.mq_stats.proofs.Counts.{count-cons}
 use Rattle.mq_stats.proofs.Founds.{count-next}
 use Rattle.mq_stats.specs.Departures.{departures_rise, stays, stays_at}
@@ -40,6 +40,7 @@ later-stay time latest (suc n) (Lost ∷ fates) r l =
     let there = count-cons (departs_after time) Lost (take n fates) in
     let all = count-cons stays Lost (take n fates) in
     omega arith
+later-stay time latest (suc n) (Held ∷ fates) r l = cc
 later-stay time latest (suc n) (Departs d ∷ fates) r l =
     let first = first-rises latest d fates r in
     let order = first.0 in
@@ -58,6 +59,7 @@ there-behind time latest zero (suc n) [] r l g f = refl
 there-behind time latest zero (suc n) (Lost ∷ fates) r l g f =
     let no = f (omega arith) in
     cc
+there-behind time latest zero (suc n) (Held ∷ fates) r l g f = cc
 there-behind time latest zero (suc n) (Departs d ∷ fates) r l g f =
     let first = first-rises latest d fates r in
     let late = is-late time d (f (omega arith)) in
@@ -75,6 +77,7 @@ there-behind time latest (suc index) (suc n) (Lost ∷ fates) r l g f =
     let all = count-cons stays Lost (take n fates) in
     let before = count-cons stays Lost (take index fates) in
     omega arith
+there-behind time latest (suc index) (suc n) (Held ∷ fates) r l g f = cc
 there-behind time latest (suc index) (suc n) (Departs d ∷ fates) r l g f =
     let first = first-rises latest d fates r in
     let gone = count-cons (departs_after time) (Departs d) (take index fates) in
@@ -86,6 +89,7 @@ there-behind time latest (suc index) (suc n) (Departs d ∷ fates) r l g f =
 
 later-gone : (time later : ℕ) → time ≤ later → (fate : Fate) → cond {A = ℕ} (departs_after later fate) 1 0 ≤ cond {A = ℕ} (departs_after time fate) 1 0
 later-gone time later l Lost = omega arith
+later-gone time later l Held = omega arith
 later-gone time later l (Departs d) = grind (arith, nat_tests)
 
 -- those that are gone by a time are gone by a later one

@@ -1,18 +1,17 @@
 -- The totals of neighbouring visits are added up.
-use Rattle.std.proofs.Common.{◌≡◌, ℕ, ◌+◌, ◌≤◌, Bool, true, false, List, [], ◌∷◌, ◌++◌, length, length-append, max, refl, sym, ap, ◌∙◌, arith}
+use Rattle.std.proofs.Common.{◌≡◌, ℕ, ◌+◌, ◌≤◌, Bool, true, false, cond, List, [], ◌∷◌, ◌++◌, length, length-append, max, refl, sym, ap, ◌∙◌, arith}
 use Rattle.std.specs.Prelude.{count_by, fold, if◌then◌else◌, sum, ◌-◌}
 use Rattle.std.proofs.lemmas.List.Elements.{All-drop, All-take}
-use Rattle.std.proofs.lemmas.List.Sums.{count_by-le-length, sum_by-append}
+use Rattle.std.proofs.lemmas.List.Sums.{sum_by-append}
 use Rattle.mq_base.proofs.lemmas.Between.{between-all, between-join, length-between}
 use Rattle.mq_core.specs.Asked.{HasDemands}
 use Rattle.mq_core.specs.KindTable.{behaviour_of}
-use Rattle.mq_core.specs.Results.{is_lost}
-use Rattle.mq_core.specs.Sequences.{one_more, sequence_numbers, sequence_peak, sequence_service, sequence_services, sequence_sojourn, sequence_sojourns, sequence_totals, sequence_wait, sequence_waits}
+use Rattle.mq_core.specs.Results.{is_departed, is_held, is_lost, numbers_of, one_more, peak_of}
+use Rattle.mq_core.specs.Sequences.{sequence_service, sequence_services, sequence_sojourn, sequence_sojourns, sequence_totals, sequence_wait, sequence_waits}
 use Rattle.mq_core.specs.declared.model.Fate.{Fate}
 use Rattle.mq_core.specs.declared.model.Kind.{Kind}
 use Rattle.mq_core.specs.declared.model.Rows.{Rows}
 use Rattle.mq_core.specs.declared.model.Visits.{Visits}
-use Rattle.mq_stats.proofs.Counts.{count-cons}
 use Rattle.mq_stats.specs.Numbers.{AreVisits, added_totals, visits_between, visits_of_columns}
 
 -- Sequences of visits behind others.
@@ -32,15 +31,15 @@ services-append rows kind [] (x ∷ fates) jobs' fates' f = absurd (omega arith)
 services-append rows kind (j ∷ jobs) [] jobs' fates' f = absurd (omega arith)
 services-append rows kind (j ∷ jobs) (x ∷ fates) jobs' fates' f = ap (λ l. sequence_service rows kind j x ∷ l) (services-append rows kind jobs fates jobs' fates' (omega arith))
 
-sojourns-append : (arrives : List ℕ) (fates : List Fate) (arrives' : List ℕ) (fates' : List Fate) → length fates ≡ length arrives →
-    sequence_sojourns (arrives ++ arrives') (fates ++ fates') ≡ sequence_sojourns arrives fates ++ sequence_sojourns arrives' fates'
-sojourns-append [] [] arrives' fates' f = refl
-sojourns-append [] (x ∷ fates) arrives' fates' f = absurd (omega arith)
-sojourns-append (a ∷ arrives) [] arrives' fates' f = absurd (omega arith)
-sojourns-append (a ∷ arrives) (x ∷ fates) arrives' fates' f = ap (λ l. sequence_sojourn a x ∷ l) (sojourns-append arrives fates arrives' fates' (omega arith))
+sojourns-append : (span : ℕ) (arrives : List ℕ) (fates : List Fate) (arrives' : List ℕ) (fates' : List Fate) → length fates ≡ length arrives →
+    sequence_sojourns span (arrives ++ arrives') (fates ++ fates') ≡ sequence_sojourns span arrives fates ++ sequence_sojourns span arrives' fates'
+sojourns-append span [] [] arrives' fates' f = refl
+sojourns-append span [] (x ∷ fates) arrives' fates' f = absurd (omega arith)
+sojourns-append span (a ∷ arrives) [] arrives' fates' f = absurd (omega arith)
+sojourns-append span (a ∷ arrives) (x ∷ fates) arrives' fates' f = ap (λ l. sequence_sojourn span a x ∷ l) (sojourns-append span arrives fates arrives' fates' (omega arith))
 
 numbers-append : (founds : List ℕ) (fates : List Fate) (founds' : List ℕ) (fates' : List Fate) → length fates ≡ length founds →
-    sequence_numbers (founds ++ founds') (fates ++ fates') ≡ sequence_numbers founds fates ++ sequence_numbers founds' fates'
+    numbers_of (founds ++ founds') (fates ++ fates') ≡ numbers_of founds fates ++ numbers_of founds' fates'
 numbers-append [] [] founds' fates' f = refl
 numbers-append [] (x ∷ fates) founds' fates' f = absurd (omega arith)
 numbers-append (n ∷ founds) [] founds' fates' f = absurd (omega arith)
@@ -62,11 +61,11 @@ sum-append : (xs ys : List ℕ) → sum (xs ++ ys) ≡ sum xs + sum ys
 sum-append xs ys = sum_by-append (λ x. x) xs ys
 
 peak-append : (kind : Kind) (founds : List ℕ) (fates : List Fate) (founds' : List ℕ) (fates' : List Fate) → length fates ≡ length founds →
-    max (sequence_peak kind founds fates) (sequence_peak kind founds' fates') ≡ sequence_peak kind (founds ++ founds') (fates ++ fates')
+    max (peak_of kind founds fates) (peak_of kind founds' fates') ≡ peak_of kind (founds ++ founds') (fates ++ fates')
 peak-append kind founds fates founds' fates' f = go (behaviour_of kind).holds
   where
-    go : (b : Bool) → max (if b then fold max 0 (sequence_numbers founds fates) else 0) (if b then fold max 0 (sequence_numbers founds' fates') else 0) ≡ (if b then fold max 0 (sequence_numbers (founds ++ founds') (fates ++ fates')) else 0)
-    go true = sym (ap (fold max 0) (numbers-append founds fates founds' fates' f) ∙ greatest-append (sequence_numbers founds fates) (sequence_numbers founds' fates'))
+    go : (b : Bool) → max (if b then fold max 0 (numbers_of founds fates) else 0) (if b then fold max 0 (numbers_of founds' fates') else 0) ≡ (if b then fold max 0 (numbers_of (founds ++ founds') (fates ++ fates')) else 0)
+    go true = sym (ap (fold max 0) (numbers-append founds fates founds' fates' f) ∙ greatest-append (numbers_of founds fates) (numbers_of founds' fates'))
     go false = refl
 
 -- columns of one length
@@ -102,36 +101,27 @@ part-visits rows kind visits h from to l m =
       small = All-take (λ found. found ≤ 1048576) (to - from) _ (All-drop (λ found. found ≤ 1048576) from visits.found h.small);
     }
 
-lost-append : (fates fates' : List Fate) → count_by is_lost (fates ++ fates') ≡ count_by is_lost fates + count_by is_lost fates'
-lost-append [] fates' = let none : count_by is_lost [] ≡ 0 = refl in omega arith
-lost-append (f ∷ fates) fates' =
-    let all = count-cons is_lost f (fates ++ fates') in
-    let some = count-cons is_lost f fates in
-    let rest = lost-append fates fates' in
-    omega arith
+count-append : (test : Fate → Bool) (fates fates' : List Fate) → count_by test (fates ++ fates') ≡ count_by test fates + count_by test fates'
+count-append test fates fates' = sum_by-append (λ f. cond (test f) 1 0) fates fates'
 
-totals-append : (rows : Rows) (kind : Kind) (a b : Visits) → AreEven a → AreEven b → added_totals (sequence_totals rows kind a) (sequence_totals rows kind b) ≡ sequence_totals rows kind (followed a b)
-totals-append rows kind a b p q =
+totals-append : (rows : Rows) (kind : Kind) (span : ℕ) (a b : Visits) → AreEven a → AreEven b → added_totals (sequence_totals rows kind a span) (sequence_totals rows kind b span) ≡ sequence_totals rows kind (followed a b) span
+totals-append rows kind span a b p q =
     let jobs = length-append a.job b.job in
-    let lost = lost-append a.fate b.fate in
-    let few = count_by-le-length is_lost a.fate in
-    let few' = count_by-le-length is_lost b.fate in
     let fates = p.fates in
-    let fates' = q.fates in
     let arrives = p.arrives in
     let founds = p.founds in
     let waits = waits-append rows kind a.job a.arrive a.fate b.job b.arrive b.fate p.arrives p.fates in
     let services = services-append rows kind a.job a.fate b.job b.fate p.fates in
-    let sojourns = sojourns-append a.arrive a.fate b.arrive b.fate (omega arith) in
-    let left : (length a.job - count_by is_lost a.fate) + (length b.job - count_by is_lost b.fate) ≡ length (a.job ++ b.job) - count_by is_lost (a.fate ++ b.fate) = omega arith in
+    let sojourns = sojourns-append span a.arrive a.fate b.arrive b.fate (omega arith) in
     λ k. record {
       came = sym jobs k;
-      left = left k;
-      lost = sym lost k;
+      left = sym (count-append is_departed a.fate b.fate) k;
+      lost = sym (count-append is_lost a.fate b.fate) k;
+      held = sym (count-append is_held a.fate b.fate) k;
       wait = sym (ap sum waits ∙ sum-append (sequence_waits rows kind a.job a.arrive a.fate) (sequence_waits rows kind b.job b.arrive b.fate)) k;
       longest = sym (ap (fold max 0) waits ∙ greatest-append (sequence_waits rows kind a.job a.arrive a.fate) (sequence_waits rows kind b.job b.arrive b.fate)) k;
       busy = sym (ap sum services ∙ sum-append (sequence_services rows kind a.job a.fate) (sequence_services rows kind b.job b.fate)) k;
-      area = sym (ap sum sojourns ∙ sum-append (sequence_sojourns a.arrive a.fate) (sequence_sojourns b.arrive b.fate)) k;
+      area = sym (ap sum sojourns ∙ sum-append (sequence_sojourns span a.arrive a.fate) (sequence_sojourns span b.arrive b.fate)) k;
       peak = peak-append kind a.found a.fate b.found b.fate (omega arith) k;
     }
 
@@ -140,12 +130,12 @@ parts-join : (visits : Visits) (from middle to : ℕ) → from ≤ middle → mi
 parts-join visits from middle to l m = λ k.
     visits_of_columns (between-join visits.job from middle to l m k) (between-join visits.arrive from middle to l m k) (between-join visits.found from middle to l m k) (between-join visits.fate from middle to l m k)
 
-pub totals-join : (rows : Rows) (kind : Kind) (visits : Visits) → AreVisits rows kind visits → (from middle to : ℕ) → from ≤ middle → middle ≤ to → to ≤ length visits.job →
-    added_totals (sequence_totals rows kind (visits_between from middle visits)) (sequence_totals rows kind (visits_between middle to visits)) ≡ sequence_totals rows kind (visits_between from to visits)
-totals-join rows kind visits h from middle to l m n =
-    totals-append rows kind (visits_between from middle visits) (visits_between middle to visits)
+pub totals-join : (rows : Rows) (kind : Kind) (visits : Visits) → AreVisits rows kind visits → (span from middle to : ℕ) → from ≤ middle → middle ≤ to → to ≤ length visits.job →
+    added_totals (sequence_totals rows kind (visits_between from middle visits) span) (sequence_totals rows kind (visits_between middle to visits) span) ≡ sequence_totals rows kind (visits_between from to visits) span
+totals-join rows kind visits h span from middle to l m n =
+    totals-append rows kind span (visits_between from middle visits) (visits_between middle to visits)
     (even rows kind _ (part-visits rows kind visits h from middle l (omega arith))) (even rows kind _ (part-visits rows kind visits h middle to m n))
-    ∙ ap (sequence_totals rows kind) (parts-join visits from middle to l m)
+    ∙ ap (λ v. sequence_totals rows kind v span) (parts-join visits from middle to l m)
 
 -- the visits from the first to the last are all
 pub totals-whole : (rows : Rows) (kind : Kind) (visits : Visits) → AreVisits rows kind visits → visits_between 0 (length visits.job) visits ≡ visits

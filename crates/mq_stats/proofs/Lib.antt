@@ -6,5 +6,8 @@ pub mod Founds
 pub mod InOrder
 pub mod Passing
 pub mod Telling
+pub mod Fine
+pub mod Held
 pub mod Joins
+pub mod Leaves
 pub mod Lasts

@@ -9,7 +9,7 @@ use Rattle.mq_core.proofs.lemmas.Orders.{Each-order, filter-order, in_order_of-l
 use Rattle.mq_core.specs.Streams.{by_first}
 use Rattle.mq_core.specs.Laws.{in_order_of, insert_by}
 use Rattle.mq_core.specs.declared.model.Fate.{Fate}
-use Rattle.mq_core.specs.declared.model.Fate.TheVariants.{Departs, Lost}
+use Rattle.mq_core.specs.declared.model.Fate.TheVariants.{Departs, Held, Lost}
 use Rattle.mq_stats.specs.Departures.{Ascends, departures_from}
 
 abbrev Pairs : Type 0
@@ -52,6 +52,7 @@ late-positions : (position late : ℕ) (fates : List Fate) → position ≤ late
 late-positions position late [] l = tt
 late-positions position late (Departs time ∷ fates) l = (l, late-positions position (suc late) fates (omega arith))
 late-positions position late (Lost ∷ fates) l = late-positions position (suc late) fates (omega arith)
+late-positions position late (Held ∷ fates) l = late-positions position (suc late) fates (omega arith)
 
 pub ascends : (position : ℕ) (fates : List Fate) → Ascends (by_first (departures_from position fates))
 ascends position [] = tt
@@ -59,3 +60,4 @@ ascends position (Departs time ∷ fates) =
     insert-ascends (time, position) (by_first (departures_from (suc position) fates)) (ascends (suc position) fates)
     (Each-order (λ (q : ℕ × ℕ). position ≤ q.1) (λ (q : ℕ × ℕ). q.0) _ (late-positions position (suc position) fates (omega arith)))
 ascends position (Lost ∷ fates) = ascends (suc position) fates
+ascends position (Held ∷ fates) = ascends (suc position) fates

@@ -1,35 +1,20 @@
 -- What is known of the sequences of a run.
-use Rattle.std.proofs.Common.{◌≡◌, ℕ, suc, ◌+◌, ◌≤◌, Bool, true, false, List, [], ◌∷◌, ◌++◌, length, sym, refl, ap, subst, arith, length-append, ◌∙◌}
-use Rattle.std.specs.Prelude.{All, ◌==◌, if◌then◌else◌}
+use Rattle.std.proofs.Common.{◌≡◌, ℕ, suc, ◌≤◌, Bool, true, false, List, [], ◌∷◌, Some, get_or, length, refl, ap, arith}
+use Rattle.std.specs.Prelude.{All, ◌==◌, if◌then◌else◌, slice_get}
 use Rattle.std.specs.List.{AllByRecursion as Each}
-use Rattle.std.proofs.lemmas.List.Elements.{All-nil, All-cons}
-use Rattle.std.proofs.lemmas.List.Sums.{count_by-le-length}
-use Rattle.mq_core.specs.Came.{Came}
-use Rattle.mq_core.specs.SequenceLaws.{SequencesGoByFates}
-use Rattle.mq_core.specs.Sequences.{sequence_visits, sequence_fates}
-use Rattle.mq_core.specs.OnceOut.{departs_after, founds_from, leaving_times}
+use Rattle.std.proofs.lemmas.List.Elements.{All-nil, All-cons, All-from_get_or}
+use Rattle.std.proofs.lemmas.Option.{slice_get-get_or}
+use Rattle.mq_core.specs.OnceOut.{leaving_times}
 use Rattle.mq_core.specs.Streams.{picked}
 use Rattle.mq_core.specs.declared.model.Fate.{Fate}
-use Rattle.mq_core.specs.declared.model.Kind.{Kind}
-use Rattle.mq_core.specs.declared.model.Rows.{Rows}
-use Rattle.mq_core.specs.declared.model.Visits.{Visits}
 
 pub each-so : {X : Type 0} (P Q : X → Type 0) → ((x : X) → P x → Q x) → (xs : List X) → Each P xs → All Q xs
 each-so P Q f [] h = All-nil Q
 each-so P Q f (x ∷ xs) h = All-cons Q x xs (f x h.0) (each-so P Q f xs h.1)
 
--- no visit finds more than came
-founds-small : (limit : ℕ) (before : List Fate) (arrives : List ℕ) (fates : List Fate) → length before + length arrives ≤ limit → All (λ found. found ≤ limit) (founds_from before arrives fates)
-founds-small limit before [] fates l = All-nil _
-founds-small limit before (arrive ∷ arrives) [] l = All-nil _
-founds-small limit before (arrive ∷ arrives) (fate ∷ fates) l =
-    let grown = length-append before (fate ∷ []) in
-    let few = count_by-le-length (departs_after arrive) before in
-    All-cons (λ found. found ≤ limit) _ _ (omega arith) (founds-small limit (before ++ fate ∷ []) arrives fates (omega arith))
-
-pub sequences-small : (rows : Rows) (kind : Kind) (came : Came) (visits : Visits) → SequencesGoByFates → visits ≡ sequence_visits rows kind came → length came.arrive ≤ 1048576 → All (λ found. found ≤ 1048576) visits.found
-sequences-small rows kind came visits law e l =
-    subst (All (λ found. found ≤ 1048576)) (sym (ap (λ v. v.found) e ∙ (law rows kind came).founds)) (founds-small 1048576 [] came.arrive (sequence_fates rows kind came) (omega arith))
+-- where each found no more than came before it, none found more than came
+pub founds-small : (limit : ℕ) (founds : List ℕ) → ((position found : ℕ) → slice_get founds position ≡ Some found → found ≤ position) → length founds ≤ limit → All (λ found. found ≤ limit) founds
+founds-small limit founds few l = All-from_get_or (λ found. found ≤ limit) founds 0 (λ i within. let least = few i (get_or founds i 0) (slice_get-get_or founds i 0 within) in omega arith)
 
 -- what is picked is among the items, and no more
 pub Each-picked : (P : ℕ → Type 0) (out : ℕ) (outs items : List ℕ) → Each P items → Each P (picked out outs items)

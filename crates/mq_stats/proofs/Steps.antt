@@ -1,14 +1,14 @@
 -- One step of a loop over sequences, and its end.
-use Rattle.std.proofs.Common.{◌≡◌, ℕ, ◌+◌, ◌⊎◌, inl, inr, List, [], ◌∷◌, length, refl, cond, drop, Some, sym, ap, ◌∙◌, arith, max}
+use Rattle.std.proofs.Common.{◌≡◌, ℕ, ◌+◌, ◌<◌, ◌⊎◌, inl, inr, Bool, List, [], ◌∷◌, length, refl, cond, drop, get_or, Some, sym, subst, ap, ◌∙◌, arith, max}
 use Rattle.std.specs.Prelude.{slice_get, fold, slice_index, ◌-◌, count_by, sum}
 use Rattle.mq_base.proofs.lemmas.Lists.{drop_at, sum-cons}
-use Rattle.mq_core.specs.Sequences.{sequence_wait, sequence_waits, sequence_service, sequence_services, sequence_sojourn, sequence_sojourns, one_more, sequence_numbers, stream_sojourns}
+use Rattle.mq_core.specs.Sequences.{sequence_wait, sequence_waits, sequence_service, sequence_services, sequence_sojourn, sequence_sojourns, stream_sojourns}
 use Rattle.mq_core.specs.Fates.{service_time}
-use Rattle.mq_core.specs.Results.{bare_time, is_lost}
+use Rattle.mq_core.specs.Results.{bare_time, numbers_of, one_more}
 use Rattle.mq_core.specs.declared.model.Fate.{Fate}
-use Rattle.mq_core.specs.declared.model.Fate.TheVariants.{Departs, Lost}
+use Rattle.mq_core.specs.declared.model.Fate.TheVariants.{Departs, Held, Lost}
 use Rattle.mq_core.specs.declared.model.Kind.{Kind}
-use Rattle.mq_core.specs.declared.model.Kind.TheVariants.{Source, Split}
+use Rattle.mq_core.specs.declared.model.Kind.TheVariants.{Fork, Join, Source, Split}
 use Rattle.mq_core.specs.declared.model.Route.{Route}
 use Rattle.mq_core.specs.declared.model.Rows.{Rows}
 use Rattle.mq_stats.proofs.Counts.{count-cons}
@@ -18,9 +18,9 @@ pub adds : (total added x all : ℕ) (rest rest' : List ℕ) → added ≡ x →
 adds total added x all rest rest' m e h = ap (λ n. fold (λ a y. a + y) (total + n) rest') m ∙ (sym (ap (fold (λ a y. a + y) total) e) ∙ h)
 
 -- what is counted so far, with what is left, is all
-pub counts : (lost added all : ℕ) (fates : List Fate) (i : ℕ) (fate : Fate) → added ≡ cond (is_lost fate) 1 0 → slice_get fates i ≡ Some fate → lost + count_by is_lost (drop i fates) ≡ all → lost + added + count_by is_lost (drop (i + 1) fates) ≡ all
-counts lost added all fates i fate m f h =
-    let e = ap (count_by is_lost) (drop_at fates i fate f) ∙ count-cons is_lost fate (drop (i + 1) fates) in
+pub counts : (test : Fate → Bool) (count added all : ℕ) (fates : List Fate) (i : ℕ) (fate : Fate) → added ≡ cond (test fate) 1 0 → slice_get fates i ≡ Some fate → count + count_by test (drop i fates) ≡ all → count + added + count_by test (drop (i + 1) fates) ≡ all
+counts test count added all fates i fate m f h =
+    let e = ap (count_by test) (drop_at fates i fate f) ∙ count-cons test fate (drop (i + 1) fates) in
     omega arith
 
 -- the greatest so far, with what is left, is the greatest of all
@@ -36,13 +36,13 @@ pub services-at : (rows : Rows) (kind : Kind) (jobs : List ℕ) (fates : List Fa
     sequence_services rows kind (drop i jobs) (drop i fates) ≡ sequence_service rows kind job fate ∷ sequence_services rows kind (drop (i + 1) jobs) (drop (i + 1) fates)
 services-at rows kind jobs fates i job fate j f = λ k. sequence_services rows kind (drop_at jobs i job j k) (drop_at fates i fate f k)
 
-pub sojourns-at : (arrives : List ℕ) (fates : List Fate) (i arrive : ℕ) (fate : Fate) → slice_get arrives i ≡ Some arrive → slice_get fates i ≡ Some fate →
-    sequence_sojourns (drop i arrives) (drop i fates) ≡ sequence_sojourn arrive fate ∷ sequence_sojourns (drop (i + 1) arrives) (drop (i + 1) fates)
-sojourns-at arrives fates i arrive fate a f = λ k. sequence_sojourns (drop_at arrives i arrive a k) (drop_at fates i fate f k)
+pub sojourns-at : (span : ℕ) (arrives : List ℕ) (fates : List Fate) (i arrive : ℕ) (fate : Fate) → slice_get arrives i ≡ Some arrive → slice_get fates i ≡ Some fate →
+    sequence_sojourns span (drop i arrives) (drop i fates) ≡ sequence_sojourn span arrive fate ∷ sequence_sojourns span (drop (i + 1) arrives) (drop (i + 1) fates)
+sojourns-at span arrives fates i arrive fate a f = λ k. sequence_sojourns span (drop_at arrives i arrive a k) (drop_at fates i fate f k)
 
 pub numbers-at : (founds : List ℕ) (fates : List Fate) (i found : ℕ) (fate : Fate) → slice_get founds i ≡ Some found → slice_get fates i ≡ Some fate →
-    sequence_numbers (drop i founds) (drop i fates) ≡ one_more found fate ∷ sequence_numbers (drop (i + 1) founds) (drop (i + 1) fates)
-numbers-at founds fates i found fate a f = λ k. sequence_numbers (drop_at founds i found a k) (drop_at fates i fate f k)
+    numbers_of (drop i founds) (drop i fates) ≡ one_more found fate ∷ numbers_of (drop (i + 1) founds) (drop (i + 1) fates)
+numbers-at founds fates i found fate a f = λ k. numbers_of (drop_at founds i found a k) (drop_at fates i fate f k)
 
 pub leaves-at : (rows : Rows) (jobs times : List ℕ) (i job time : ℕ) → slice_get jobs i ≡ Some job → slice_get times i ≡ Some time →
     stream_sojourns rows (drop i jobs) (drop i times) ≡ (time - slice_index rows.time job) ∷ stream_sojourns rows (drop (i + 1) jobs) (drop (i + 1) times)
@@ -53,15 +53,22 @@ pub record Passes (rows : Rows) (kind : Kind) : Type 0 where
   pub bare : (job : ℕ) → bare_time rows kind job ≡ 0
   pub service : (job : ℕ) → service_time rows kind job ≡ 0
 
-pub passes : (rows : Rows) (kind : Kind) → (kind ≡ Source) ⊎ ((route : Route) × (kind ≡ Split route)) → Passes rows kind
-passes rows kind (inl e) = record { bare = λ job. ap (λ k. bare_time rows k job) e; service = λ job. ap (λ k. service_time rows k job) e }
-passes rows kind (inr e) = record { bare = λ job. ap (λ k. bare_time rows k job) e.1; service = λ job. ap (λ k. service_time rows k job) e.1 }
+by-kind : (rows : Rows) (kind passing : Kind) → Passes rows passing → kind ≡ passing → Passes rows kind
+by-kind rows kind passing h e = subst (Passes rows) (sym e) h
 
-wait-is_stay : (rows : Rows) (kind : Kind) (job arrive : ℕ) (fate : Fate) → Passes rows kind → sequence_wait rows kind job arrive fate ≡ sequence_sojourn arrive fate
+pub passes : (rows : Rows) (kind : Kind) → (kind ≡ Source) ⊎ (((route : Route) × (kind ≡ Split route)) ⊎ (((outputs : ℕ) × (kind ≡ Fork outputs)) ⊎ (kind ≡ Join))) → Passes rows kind
+passes rows kind (inl e) = by-kind rows kind Source (record { bare = λ job. refl; service = λ job. refl }) e
+passes rows kind (inr (inl e)) = by-kind rows kind (Split e.0) (record { bare = λ job. refl; service = λ job. refl }) e.1
+passes rows kind (inr (inr (inl e))) = by-kind rows kind (Fork e.0) (record { bare = λ job. refl; service = λ job. refl }) e.1
+passes rows kind (inr (inr (inr e))) = by-kind rows kind Join (record { bare = λ job. refl; service = λ job. refl }) e
+
+-- with a span of 0 a held visit doesn't stay
+wait-is_stay : (rows : Rows) (kind : Kind) (job arrive : ℕ) (fate : Fate) → Passes rows kind → sequence_wait rows kind job arrive fate ≡ sequence_sojourn 0 arrive fate
 wait-is_stay rows kind job arrive (Departs time) h = let e = h.bare job in omega arith
 wait-is_stay rows kind job arrive Lost h = refl
+wait-is_stay rows kind job arrive Held h = omega arith
 
-pub waits-are_stays : (rows : Rows) (kind : Kind) (jobs arrives : List ℕ) (fates : List Fate) → Passes rows kind → length arrives ≡ length jobs → sequence_waits rows kind jobs arrives fates ≡ sequence_sojourns arrives fates
+pub waits-are_stays : (rows : Rows) (kind : Kind) (jobs arrives : List ℕ) (fates : List Fate) → Passes rows kind → length arrives ≡ length jobs → sequence_waits rows kind jobs arrives fates ≡ sequence_sojourns 0 arrives fates
 waits-are_stays rows kind [] [] fates h e = refl
 waits-are_stays rows kind [] (a ∷ arrives) fates h e = absurd (omega arith)
 waits-are_stays rows kind (j ∷ jobs) [] fates h e = refl
@@ -71,6 +78,7 @@ waits-are_stays rows kind (j ∷ jobs) (a ∷ arrives) (f ∷ fates) h e = λ k.
 none-served : (rows : Rows) (kind : Kind) (job : ℕ) (fate : Fate) → Passes rows kind → sequence_service rows kind job fate ≡ 0
 none-served rows kind job (Departs time) h = h.service job
 none-served rows kind job Lost h = refl
+none-served rows kind job Held h = h.service job
 
 pub services-are_none : (rows : Rows) (kind : Kind) (jobs : List ℕ) (fates : List Fate) → Passes rows kind → sum (sequence_services rows kind jobs fates) ≡ 0
 services-are_none rows kind [] fates h = refl

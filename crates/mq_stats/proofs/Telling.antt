@@ -19,7 +19,7 @@ use Rattle.mq_core.specs.OnceOut.{departs_after, founds_from, founds_of}
 use Rattle.mq_core.specs.Streams.{by_first}
 use Rattle.mq_core.specs.Laws.{Rises, in_order_of}
 use Rattle.mq_core.specs.declared.model.Fate.{Fate}
-use Rattle.mq_core.specs.declared.model.Fate.TheVariants.{Departs, Lost}
+use Rattle.mq_core.specs.declared.model.Fate.TheVariants.{Departs, Held, Lost}
 use Rattle.mq_stats.proofs.Counts.{count-cons}
 use Rattle.mq_stats.proofs.Founds.{founds-next, rises-at}
 use Rattle.mq_stats.proofs.Ordered.{as-many}
@@ -32,6 +32,7 @@ use Rattle.mq_stats.specs.declared.pieces.AheadTable.{AheadTable}
 abbrev departs_by : ℕ → Fate → Bool
 departs_by time (Departs departure) = nat_le departure time
 departs_by time Lost = false
+departs_by time Held = false
 
 abbrev once : ℕ × Fate → Bool
 once p = leaves_at_once p.0 p.1
@@ -48,6 +49,12 @@ there time (Lost ∷ fates) =
     let b = count-cons (departs_by time) Lost fates in
     let all = count-cons stays Lost fates in
     omega arith
+there time (Held ∷ fates) =
+    let rest = there time fates in
+    let a = count-cons (departs_after time) Held fates in
+    let b = count-cons (departs_by time) Held fates in
+    let all = count-cons stays Held fates in
+    omega arith
 there time (Departs d ∷ fates) =
     let rest = there time fates in
     let one = by-or-after time d in
@@ -59,6 +66,7 @@ there time (Departs d ∷ fates) =
 count-departures : (time : ℕ) (fates : List Fate) → up_to time (departure_times fates) ≡ count_by (departs_by time) fates
 count-departures time [] = refl
 count-departures time (Lost ∷ fates) = let rest = count-departures time fates in let b = count-cons (departs_by time) Lost fates in omega arith
+count-departures time (Held ∷ fates) = let rest = count-departures time fates in let b = count-cons (departs_by time) Held fates in omega arith
 count-departures time (Departs d ∷ fates) =
     let rest = count-departures time fates in
     let a = count-cons (λ t. nat_le t time) d (departure_times fates) in
@@ -73,6 +81,7 @@ count-leaving time fates = as-many (λ t. t) (λ t. nat_le t time) (departure_ti
 firsts-departures : (position : ℕ) (fates : List Fate) → map (λ (d : ℕ × ℕ). d.0) (departures_from position fates) ≡ departure_times fates
 firsts-departures position [] = refl
 firsts-departures position (Lost ∷ fates) = firsts-departures (suc position) fates
+firsts-departures position (Held ∷ fates) = firsts-departures (suc position) fates
 firsts-departures position (Departs d ∷ fates) = ap (λ l. d ∷ l) (firsts-departures (suc position) fates)
 
 pub firsts-leaving : (fates : List Fate) → map (λ (d : ℕ × ℕ). d.0) (by_first (departures_from 0 fates)) ≡ departure_order fates
@@ -87,6 +96,7 @@ none-by time [] [] e h z = refl
 none-by time [] (f ∷ fates) e h z = absurd (omega arith)
 none-by time (a ∷ arrives) [] e h z = refl
 none-by time (a ∷ arrives) (Lost ∷ fates) e h z = let rest = none-by time arrives fates (omega arith) h.1 z.1 in let b = count-cons (departs_by time) Lost fates in omega arith
+none-by time (a ∷ arrives) (Held ∷ fates) e h z = let rest = none-by time arrives fates (omega arith) h.1 z.1 in let b = count-cons (departs_by time) Held fates in omega arith
 none-by time (a ∷ arrives) (Departs d ∷ fates) e h z =
     let rest = none-by time arrives fates (omega arith) h.1 z.1 in
     let early = h.0 in
@@ -119,6 +129,11 @@ once-by time (suc r) (a ∷ arrives) (f ∷ fates) n e u h z = go (cases_lt time
         let rest = k l in
         let b = count-cons (departs_by time) Lost fates in
         let c = count-cons once (a, Lost) (take r (zip arrives fates)) in
+        omega arith
+    go (inr l) Held g k =
+        let rest = k l in
+        let b = count-cons (departs_by time) Held fates in
+        let c = count-cons once (a, Held) (take r (zip arrives fates)) in
         omega arith
     go (inr l) (Departs d) g k =
         let rest = k l in

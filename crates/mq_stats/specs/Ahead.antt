@@ -4,7 +4,7 @@ use Rattle.std.specs.List.{AllByRecursion, zip}
 use Rattle.mq_core.specs.SequenceLaws.{LeavesFrom}
 use Rattle.mq_core.specs.Laws.{Rises, in_order_of}
 use Rattle.mq_core.specs.declared.model.Fate.{Fate}
-use Rattle.mq_core.specs.declared.model.Fate.TheVariants.{Departs, Lost}
+use Rattle.mq_core.specs.declared.model.Fate.TheVariants.{Departs, Held, Lost}
 use Rattle.mq_stats.specs.Departures.{stays}
 use Rattle.mq_stats.specs.declared.pieces.AheadTable.{AheadTable}
 
@@ -15,11 +15,12 @@ pub record AreComings (arrive : List ℕ) (fate : List Fate) : Type 0 where
   pub rising : Rises (λ a b. a ≤ b) arrive
   pub later : AllByRecursion (λ (p : ℕ × Fate). LeavesFrom p.0 p.1) (zip arrive fate)
 
--- the departures of those that aren't lost, by position
+-- the departures, by position
 abbrev pub departure_times : List Fate → List ℕ
 departure_times [] = []
 departure_times (Departs time ∷ fates) = time ∷ departure_times fates
 departure_times (Lost ∷ fates) = departure_times fates
+departure_times (Held ∷ fates) = departure_times fates
 
 -- the departures in order
 abbrev pub departure_order : List Fate → List ℕ
@@ -29,6 +30,7 @@ departure_order fate = in_order_of (λ time. time) (departure_times fate)
 abbrev pub leaves_at_once : ℕ → Fate → Bool
 leaves_at_once arrive (Departs time) = time == arrive
 leaves_at_once arrive Lost = false
+leaves_at_once arrive Held = false
 
 -- for each index, and for the end, how many of the items before it pass a test
 pub record AreCounts {X : Type 0} (test : X → Bool) (items : List X) (counts : List ℕ) : Type 0 where

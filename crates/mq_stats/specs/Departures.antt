@@ -3,12 +3,13 @@ use Rattle.std.specs.Prelude.{◌≡◌, ℕ, suc, ◌≤◌, ◌==◌, ◌&&◌
 use Rattle.mq_core.specs.OnceOut.{departs_after}
 use Rattle.mq_core.specs.Laws.{Rises}
 use Rattle.mq_core.specs.declared.model.Fate.{Fate}
-use Rattle.mq_core.specs.declared.model.Fate.TheVariants.{Departs, Lost}
+use Rattle.mq_core.specs.declared.model.Fate.TheVariants.{Departs, Held, Lost}
 
--- these, and before them the departure of the visit at a position, with that position; a lost visit has none
+-- these, and before them the departure of the visit at a position, with that position; one that is lost or held has none
 abbrev pub with_departure : ℕ → Fate → List (ℕ × ℕ) → List (ℕ × ℕ)
 with_departure position (Departs time) departures = (time, position) ∷ departures
 with_departure position Lost departures = departures
+with_departure position Held departures = departures
 
 -- the departures of visits, the first at this position, with their positions
 abbrev pub departures_from : ℕ → List Fate → List (ℕ × ℕ)
@@ -23,18 +24,20 @@ is_gone time position departure = nat_lt departure.0 time || ((departure.0 == ti
 abbrev pub Ascends : List (ℕ × ℕ) → Type 0
 Ascends departures = Rises (λ x y. (x.0 ≤ y.0) × (x.0 ≡ y.0 → x.1 ≤ y.1)) departures
 
--- it departs some time
+-- it isn't lost
 abbrev pub stays : Fate → Bool
 stays (Departs time) = true
 stays Lost = false
+stays Held = true
 
--- those that aren't lost depart in the order in which they came, none before this time
+-- those that aren't lost depart in the order in which they came, none before this time, and none is held
 abbrev pub departures_rise : ℕ → List Fate → Bool
 departures_rise latest [] = true
 departures_rise latest (Departs time ∷ fates) = nat_le latest time && departures_rise time fates
 departures_rise latest (Lost ∷ fates) = departures_rise latest fates
+departures_rise latest (Held ∷ fates) = false
 
--- there is a visit, and it departs after this time
+-- there is a visit, and it departs after this time, if ever
 abbrev pub stays_at : ℕ → Option Fate → Bool
 stays_at time None = false
 stays_at time (Some fate) = departs_after time fate

@@ -16,7 +16,7 @@ use Rattle.mq_core.specs.declared.model.Visits.{Visits}
 use Rattle.mq_stats.specs.declared.tallies.NodeTotals.{NodeTotals}
 
 -- The visits of jobs to a node of this kind, in sequences of one length: the rows tell what each job asks for there, and
--- there are no more visits, nor jobs found by one, than a trace has rows.
+-- there are no more visits, nor jobs found by one, than 1,048,576.
 pub record AreVisits (rows : Rows) (kind : Kind) (visits : Visits) : Type 0 where
   pub few : length visits.job ≤ 1048576
   pub arrives : length visits.arrive ≡ length visits.job
@@ -47,7 +47,7 @@ pub record AsksOnce (kind : Kind) (demand : Demand) : Type 0 where
   pub bare : (rows : Rows) (job : ℕ) → bare_time rows kind job ≡ demand_of_job rows demand job
   pub service : (rows : Rows) (job : ℕ) → service_time rows kind job ≡ demand_of_job rows demand job
 
--- a stream of jobs of these rows, no longer than a trace
+-- a stream of jobs of these rows, no longer than that
 pub record AreLeaving (rows : Rows) (stream : Stream) : Type 0 where
   pub jobs : All (λ job. job < length rows.time) stream.job
   pub few : length stream.job ≤ 1048576
@@ -60,6 +60,7 @@ totals_from totals =
       came = totals.came;
       left = totals.left;
       lost = totals.lost;
+      held = totals.held;
       wait = totals.wait;
       longest = totals.longest;
       busy = totals.busy;
@@ -67,11 +68,12 @@ totals_from totals =
       peak = totals.peak;
     }
 
--- the totals of no more visits than a trace has rows, with sums of fewer than 2^64 ticks a visit
+-- the totals of no more visits than 1,048,576, with sums of fewer than 2^64 ticks a visit
 pub record AreSmall (totals : NodeTotals) : Type 0 where
   pub few : totals.came ≤ 1048576
   pub left : totals.left ≤ totals.came
   pub lost : totals.lost ≤ totals.came
+  pub held : totals.held ≤ totals.came
   pub wait : totals.wait ≤ totals.came * 2 ^ 64
   pub busy : totals.busy ≤ totals.came * 2 ^ 64
   pub area : totals.area ≤ totals.came * 2 ^ 64
@@ -83,6 +85,7 @@ added_totals before after =
       came = before.came + after.came;
       left = before.left + after.left;
       lost = before.lost + after.lost;
+      held = before.held + after.held;
       wait = before.wait + after.wait;
       longest = max before.longest after.longest;
       busy = before.busy + after.busy;
@@ -92,6 +95,6 @@ added_totals before after =
 
 -- The totals of neighbouring visits, added up, are those of all of them; and the visits from the first to the last are all.
 pub record TotalsJoin : Type 0 where
-  pub join : (rows : Rows) (kind : Kind) (visits : Visits) → AreVisits rows kind visits → (from middle to : ℕ) → from ≤ middle → middle ≤ to → to ≤ length visits.job →
-      added_totals (sequence_totals rows kind (visits_between from middle visits)) (sequence_totals rows kind (visits_between middle to visits)) ≡ sequence_totals rows kind (visits_between from to visits)
+  pub join : (rows : Rows) (kind : Kind) (visits : Visits) → AreVisits rows kind visits → (span from middle to : ℕ) → from ≤ middle → middle ≤ to → to ≤ length visits.job →
+      added_totals (sequence_totals rows kind (visits_between from middle visits) span) (sequence_totals rows kind (visits_between middle to visits) span) ≡ sequence_totals rows kind (visits_between from to visits) span
   pub whole : (rows : Rows) (kind : Kind) (visits : Visits) → AreVisits rows kind visits → visits_between 0 (length visits.job) visits ≡ visits

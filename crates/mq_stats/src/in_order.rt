@@ -4,21 +4,26 @@ ghost use Rattle.mq_core.specs.OnceOut.{departs_after, founds_of};
 ghost use Rattle.mq_core.specs.Laws.{Rises};
 ghost use Rattle.mq_stats.specs.Departures.{departures_rise, stays, stays_at};
 
+use crate::occupancy::one_if_stays;
 use mq_base::{List, OutOfMemory};
 use mq_core::Fate;
 use std::alloc::Global;
 
-/// Whether the visits that aren't lost depart in the order in which they came.
+/// Whether the visits that aren't lost depart in the order in which they came, and none is held.
 pub fn leave_in_order(fate: &List<Fate>) -> bool
     ensures { result ≡ departures_rise 0 fate.now }
 {
     let mut latest = 0;
     for at in 0..fate.len() {
-        if let Fate::Departs(time) = *fate.get(at) {
-            if time < latest {
-                return false;
+        match *fate.get(at) {
+            Fate::Departs(time) => {
+                if time < latest {
+                    return false;
+                }
+                latest = time;
             }
-            latest = time;
+            Fate::Lost => {}
+            Fate::Held => return false,
         }
     }
     true
@@ -45,11 +50,15 @@ fn gone_by(fate: &List<Fate>, so_far: Gone, to: usize, time: u64) -> Gone
 {
     let mut departed = so_far.departed;
     for index in so_far.index..to {
-        if let Fate::Departs(departure) = *fate.get(index) {
-            if departure > time {
-                return Gone { index, departed };
+        match *fate.get(index) {
+            Fate::Departs(departure) => {
+                if departure > time {
+                    return Gone { index, departed };
+                }
+                departed += 1;
             }
-            departed += 1;
+            Fate::Lost => {}
+            Fate::Held => return Gone { index, departed },
         }
     }
     Gone {
@@ -59,7 +68,7 @@ fn gone_by(fate: &List<Fate>, so_far: Gone, to: usize, time: u64) -> Gone
 }
 
 /// How many jobs each visit found, where the visits that aren't lost depart in the order in which
-/// they came: those between the first that isn't gone and itself. No time of arrival falls. It
+/// they came, and none is held: those between the first that isn't gone and itself. No time of arrival falls. It
 /// refuses for want of memory alone.
 pub fn found_in_order(
     alloc: Global,
@@ -81,9 +90,7 @@ pub fn found_in_order(
     for at in 0..arrive.len() {
         gone = gone_by(fate, gone, at, *arrive.get(at));
         found.push_reserved(stayed - gone.departed);
-        if let Fate::Departs(_) = fate.get(at) {
-            stayed += 1;
-        }
+        stayed += one_if_stays(fate.get(at)) as u32;
     }
     Ok(List::from_vec(found))
 }

@@ -13,7 +13,7 @@ mod tallies;
 mod waits;
 
 pub use exits::{Exit, leaving};
-pub use laws::{lasts_are_greatest, runs_give_streams, runs_give_visits};
+pub use laws::{lasts_are_greatest, runs_give_streams, runs_give_visits, runs_have_few_visits};
 pub use occupancy::found;
 pub use pieces::{
     AheadTable, ahead, ahead_of, ahead_of_departures, found_piece, found_piece_in_order,

@@ -13,23 +13,22 @@ use mq_core::Fate;
 use mq_merge::sort_by_first;
 use std::alloc::Global;
 
-// The departures of the visits that aren't lost, by position, each with its position.
+// The departures, by position, each with its position.
 fn departures_of(alloc: Global, fates: &List<Fate>) -> Result<Vec<(u64, u32)>, OutOfMemory>
     requires few { length fates.now ≤ 1048576 }
     ensures { IfOk result (λ departures. departures.items ≡ departures_from 0 fates.now) }
 {
     let mut departures = Vec::with_capacity(alloc, fates.len())?;
     for at in 0..fates.len() {
-        match fates.get(at) {
-            Fate::Departs(time) => departures.push_reserved((*time, at as u32)),
-            Fate::Lost => {}
+        if let Fate::Departs(time) = fates.get(at) {
+            departures.push_reserved((*time, at as u32));
         }
     }
     Ok(departures)
 }
 
-/// The departures of the visits that aren't lost, each with its position, by time, those of one time
-/// by position. It refuses for want of memory alone.
+/// The departures, each with the position of its visit, by time, those of one time by position. It
+/// refuses for want of memory alone.
 pub fn departures_in_order(
     alloc: Global,
     fates: &List<Fate>,
@@ -68,16 +67,16 @@ pub fn one_if_stays(fate: &Fate) -> usize
     ensures { result ≡ cond (stays fate.now) 1 0 }
 {
     match fate {
-        Fate::Departs(_) => 1,
+        Fate::Departs(_) | Fate::Held => 1,
         Fate::Lost => 0,
     }
 }
 
 /// How many jobs each visit found in the node: of the earlier visits, those that depart after its
-/// arrival. Jobs may leave in any order; no time of arrival falls, and no job leaves before it
-/// came. It refuses for want of memory alone.
+/// arrival, and those that are held. Jobs may leave in any order; no time of arrival falls, and no job
+/// leaves before it came. It refuses for want of memory alone.
 ///
-/// Where no job overtakes another one pass over the fates tells who is still there. Else the
+/// Where no job overtakes another and none is held one pass over the fates tells who is still there. Else the
 /// departures are put in order: only earlier visits can have departed before a visit comes, and of
 /// those that depart at its very time the ones that come later are told by their position, so one
 /// pass over the departures in their order tells how many are gone.

@@ -53,7 +53,7 @@ fn one_if_at_once(arrive: u64, fate: &Fate) -> usize
 {
     match fate {
         Fate::Departs(time) => one_if_same_time(arrive, *time),
-        Fate::Lost => 0,
+        Fate::Lost | Fate::Held => 0,
     }
 }
 

@@ -6,13 +6,13 @@ ghost use Rattle.mq_stats.specs.Lasts.{last_event, last_time};
 use mq_base::List;
 use mq_core::{Fate, Fates, Stream, Visits};
 
-// The time of a departure; 0 for a lost visit, which has none.
+// The time of a departure; 0 for a visit that is lost or held, which has none.
 fn time_of(fate: Fate) -> u64
     ensures { result ≡ time_of_fate fate }
 {
     match fate {
         Fate::Departs(time) => time,
-        Fate::Lost => 0,
+        Fate::Lost | Fate::Held => 0,
     }
 }
 

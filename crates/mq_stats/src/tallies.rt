@@ -1,8 +1,8 @@
 // The totals of a node over a run.
 ghost use Rattle.std.specs.Prelude.{◌≡◌, ◌+◌, ◌*◌, ◌<◌, ◌≤◌, ◌^◌, All, length, max, fold, sum, cond, count_by};
 ghost use Rattle.mq_base.specs.Lists.{between};
-ghost use Rattle.mq_core.specs.Results.{is_lost};
-ghost use Rattle.mq_core.specs.Sequences.{one_more, sequence_numbers, sequence_peak, sequence_sojourn, sequence_sojourns, sequence_totals};
+ghost use Rattle.mq_core.specs.Results.{is_held, is_lost, numbers_of, one_more, peak_of};
+ghost use Rattle.mq_core.specs.Sequences.{sequence_sojourn, sequence_sojourns, sequence_totals};
 ghost use Rattle.mq_stats.specs.Numbers.{AreSmall, AreVisits, TotalsJoin, added_totals, totals_from, visits_between, visits_of_columns};
 
 use crate::waits::waits_of;
@@ -18,13 +18,16 @@ pub struct NodeTotals {
     pub left: u32,
     /// How many of them were lost.
     pub lost: u32,
+    /// How many of them are in the node for good.
+    pub held: u32,
     /// The sum of the waiting times, in ticks.
     pub wait: u128,
     /// The longest waiting time, in ticks.
     pub longest: u64,
     /// The time, in ticks, that the servers worked, summed over them.
     pub busy: u128,
-    /// The sum of the sojourns, in ticks: the number of jobs in the node, summed over time.
+    /// The sum of the sojourns, in ticks: the number of jobs in the node, summed over time up to the
+    /// end of the run.
     pub area: u128,
     /// The greatest number of jobs in the node just after an arrival; 0 where a node holds none.
     pub peak: u32,
@@ -36,18 +39,30 @@ fn one_if_lost(fate: Fate) -> u32
     ensures most { result ≤ 1 }
 {
     match fate {
-        Fate::Departs(_) => 0,
+        Fate::Departs(_) | Fate::Held => 0,
         Fate::Lost => 1,
     }
 }
 
-// How long a visit stayed, in ticks.
-fn sojourn_of(arrive: u64, fate: Fate) -> u64
-    ensures { result ≡ sequence_sojourn arrive fate }
+// 1 for a held visit, and 0 for another.
+fn one_if_held(fate: Fate) -> u32
+    ensures value { result ≡ cond (is_held fate) 1 0 }
+    ensures most { result ≤ 1 }
+{
+    match fate {
+        Fate::Departs(_) | Fate::Lost => 0,
+        Fate::Held => 1,
+    }
+}
+
+// How long a visit stayed by the end of a run, in ticks.
+fn sojourn_of(span: u64, arrive: u64, fate: Fate) -> u64
+    ensures { result ≡ sequence_sojourn span arrive fate }
 {
     match fate {
         Fate::Departs(time) => time.saturating_sub(arrive),
         Fate::Lost => 0,
+        Fate::Held => span.saturating_sub(arrive),
     }
 }
 
@@ -57,22 +72,24 @@ fn number_after(found: u32, fate: Fate) -> u32
     ensures { result ≡ one_more found fate }
 {
     match fate {
-        Fate::Departs(_) => found + 1,
+        Fate::Departs(_) | Fate::Held => found + 1,
         Fate::Lost => 0,
     }
 }
 
-// What is counted, added up and greatest over visits, whatever the kind of the node.
+// What is counted, added up and greatest over visits, whatever the kind of the node and the span of
+// the run. A stay is that of a visit that departed.
 #[derive(Clone, Copy)]
 pub struct Stays {
     pub lost: u32,
-    pub area: u128,
+    pub held: u32,
+    pub stay: u128,
     pub longest: u64,
     pub greatest: u32,
 }
 
-// The lost visits, the sum and the greatest of the sojourns, and the greatest number of jobs just
-// after a visit came.
+// The lost visits, the held ones, the sum and the greatest of the stays, and the greatest number of
+// jobs just after a visit came. With a span of 0 a held visit doesn't stay.
 // Its loop is not inlined, so that it has the registers to itself.
 #[inline(never)]
 fn stays_of(arrive: &[u64], found: &[u32], fate: &FateSlice) -> Stays
@@ -81,56 +98,91 @@ fn stays_of(arrive: &[u64], found: &[u32], fate: &FateSlice) -> Stays
     requires fates { length fate.now ≡ length arrive.now }
     requires small { All (λ n. n ≤ 1048576) found.now }
     ensures lost { result.lost ≡ count_by is_lost fate.now }
-    ensures some { result.lost ≤ length arrive.now }
-    ensures area { result.area ≡ sum (sequence_sojourns arrive.now fate.now) }
-    ensures longest { result.longest ≡ fold max 0 (sequence_sojourns arrive.now fate.now) }
-    ensures greatest { result.greatest ≡ fold max 0 (sequence_numbers found.now fate.now) }
-    ensures small { result.area ≤ length arrive.now * 2 ^ 64 }
+    ensures held { result.held ≡ count_by is_held fate.now }
+    ensures stay { result.stay ≡ sum (sequence_sojourns 0 arrive.now fate.now) }
+    ensures longest { result.longest ≡ fold max 0 (sequence_sojourns 0 arrive.now fate.now) }
+    ensures greatest { result.greatest ≡ fold max 0 (numbers_of found.now fate.now) }
+    ensures small { result.stay ≤ length arrive.now * 2 ^ 64 }
 {
-    let (mut lost, mut longest, mut greatest) = (0u32, 0u64, 0u32);
-    let mut area = 0u128;
+    let (mut lost, mut held, mut longest, mut greatest) = (0u32, 0u32, 0u64, 0u32);
+    let mut stay = 0u128;
     for at in 0..arrive.len() {
         let ending = fate.at(at);
-        let stayed = sojourn_of(arrive[at], ending);
+        let stayed = sojourn_of(0, arrive[at], ending);
         lost += one_if_lost(ending);
-        area += stayed as u128;
+        held += one_if_held(ending);
+        stay += stayed as u128;
         longest = longest.max(stayed);
         greatest = greatest.max(number_after(found[at], ending));
     }
     Stays {
         lost,
-        area,
+        held,
+        stay,
         longest,
         greatest,
     }
 }
 
+// The sum of the sojourns by the end of a run with this span.
+fn sojourns_of(span: u64, arrive: &[u64], fate: &FateSlice) -> u128
+    requires few { length arrive.now ≤ 1048576 }
+    requires fates { length fate.now ≡ length arrive.now }
+    ensures sum { result ≡ sum (sequence_sojourns span arrive.now fate.now) }
+    ensures small { result ≤ length arrive.now * 2 ^ 64 }
+{
+    let mut area = 0u128;
+    for at in 0..arrive.len() {
+        let ending = fate.at(at);
+        area += sojourn_of(span, arrive[at], ending) as u128;
+    }
+    area
+}
+
+// The same from the stays, and one visit after another only where some are held.
+fn area_of(span: u64, arrive: &[u64], fate: &FateSlice, stays: &Stays) -> u128
+    requires few { length arrive.now ≤ 1048576 }
+    requires fates { length fate.now ≡ length arrive.now }
+    requires held { stays.now.held ≡ count_by is_held fate.now }
+    requires stay { stays.now.stay ≡ sum (sequence_sojourns 0 arrive.now fate.now) }
+    requires stay_small { stays.now.stay ≤ length arrive.now * 2 ^ 64 }
+    ensures sum { result ≡ sum (sequence_sojourns span arrive.now fate.now) }
+    ensures small { result ≤ length arrive.now * 2 ^ 64 }
+{
+    if stays.held == 0 {
+        return stays.stay;
+    }
+    sojourns_of(span, arrive, fate)
+}
+
 // The peak of a node of this kind, where this is the greatest number of jobs just after a visit came.
-fn peak_of(kind: &Kind, greatest: u32, found: &[u32], fate: &FateSlice) -> u32
-    requires { greatest ≡ fold max 0 (sequence_numbers found.now fate.now) }
-    ensures { result ≡ sequence_peak kind.now found.now fate.now }
+fn peak_at(kind: &Kind, greatest: u32, found: &[u32], fate: &FateSlice) -> u32
+    requires { greatest ≡ fold max 0 (numbers_of found.now fate.now) }
+    ensures { result ≡ peak_of kind.now found.now fate.now }
 {
     match kind {
-        Kind::Source | Kind::Split(_) => 0,
+        Kind::Source | Kind::Split(_) | Kind::Fork { .. } => 0,
         Kind::Server(_)
         | Kind::Delay(_)
         | Kind::Loss { .. }
         | Kind::Tandem(_)
-        | Kind::ForkJoin(_) => greatest,
+        | Kind::ForkJoin(_)
+        | Kind::Join => greatest,
     }
 }
 
-// The totals of visits to a node of this kind, which stand in these columns.
+// The totals of visits to a node of this kind, which stand in these columns, in a run with this span.
 fn totals_of(
     rows: &Rows,
     kind: &Kind,
+    span: u64,
     job: &[u32],
     arrive: &[u64],
     found: &[u32],
     fate: &FateSlice,
 ) -> NodeTotals
     requires { AreVisits rows.now kind.now (visits_of_columns job.now arrive.now found.now fate.now) }
-    ensures totals { totals_from result ≡ sequence_totals rows.now kind.now (visits_of_columns job.now arrive.now found.now fate.now) }
+    ensures totals { totals_from result ≡ sequence_totals rows.now kind.now (visits_of_columns job.now arrive.now found.now fate.now) span }
     ensures small { AreSmall result }
 {
     let came = job.len() as u32;
@@ -138,13 +190,14 @@ fn totals_of(
     let waits = waits_of(rows, kind, job, arrive, fate, &stays);
     NodeTotals {
         came,
-        left: came - stays.lost,
+        left: came - stays.lost - stays.held,
         lost: stays.lost,
+        held: stays.held,
         wait: waits.wait,
         longest: waits.longest,
         busy: waits.busy,
-        area: stays.area,
-        peak: peak_of(kind, stays.greatest, found, fate),
+        area: area_of(span, arrive, fate, &stays),
+        peak: peak_at(kind, stays.greatest, found, fate),
     }
 }
 
@@ -158,19 +211,26 @@ fn part<T>(items: &List<T>, from: u32, to: u32) -> &[T]
 }
 
 /// The totals of the visits to a node of this kind from one position up to another, as if no other
-/// came.
-pub fn totals_between(rows: &Rows, kind: &Kind, visits: &Visits, from: u32, to: u32) -> NodeTotals
+/// came, in a run with this span.
+pub fn totals_between(
+    rows: &Rows,
+    kind: &Kind,
+    visits: &Visits,
+    span: u64,
+    from: u32,
+    to: u32,
+) -> NodeTotals
     requires visits { AreVisits rows.now kind.now visits.now }
     requires order { from ≤ to }
     requires within { to ≤ length visits.now.job }
-    ensures totals { totals_from result ≡ sequence_totals rows.now kind.now (visits_between from to visits.now) }
+    ensures totals { totals_from result ≡ sequence_totals rows.now kind.now (visits_between from to visits.now) span }
     ensures small { AreSmall result }
 {
     let job = part(&visits.job, from, to);
     let arrive = part(&visits.arrive, from, to);
     let found = part(&visits.found, from, to);
     let fate = visits.fate.part(from as usize, to as usize);
-    totals_of(rows, kind, job, arrive, found, &fate)
+    totals_of(rows, kind, span, job, arrive, found, &fate)
 }
 
 /// The totals of visits to a node, of the totals of those before a position and of those from it on.
@@ -186,6 +246,7 @@ pub fn totals_added(before: &NodeTotals, after: &NodeTotals) -> NodeTotals
         came: before.came + after.came,
         left: before.left + after.left,
         lost: before.lost + after.lost,
+        held: before.held + after.held,
         wait: before.wait + after.wait,
         longest: before.longest.max(after.longest),
         busy: before.busy + after.busy,
@@ -200,18 +261,20 @@ pub fn totals_join()
     ensures { TotalsJoin }
 {}
 
-/// The totals of a node of this kind, from its visits alone.
+/// The totals of a node of this kind, from its visits and the span of the run, in ticks, by which
+/// those end that are held.
 ///
 /// The busy time is below 2^100 ticks.
-pub fn totals(rows: &Rows, kind: &Kind, visits: &Visits) -> NodeTotals
+pub fn totals(rows: &Rows, kind: &Kind, visits: &Visits, span: u64) -> NodeTotals
     requires { AreVisits rows.now kind.now visits.now }
-    ensures totals { totals_from result ≡ sequence_totals rows.now kind.now visits.now }
+    ensures totals { totals_from result ≡ sequence_totals rows.now kind.now visits.now span }
     ensures small { result.busy < 2 ^ 100 }
 {
     let fate = visits.fate.as_slice();
     totals_of(
         rows,
         kind,
+        span,
         visits.job.as_slice(),
         visits.arrive.as_slice(),
         visits.found.as_slice(),

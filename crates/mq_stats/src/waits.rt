@@ -13,7 +13,7 @@ use crate::tallies::Stays;
 use mq_core::{Demand, Fate, FateSlice, Kind, Rows, bare_of, demand_of_branches};
 
 /// How long a visit waited, in ticks: its sojourn less the time that it would have stayed anyway.
-/// A lost visit waited 0.
+/// A visit that is lost or held waited 0.
 ///
 /// The rows have each column that the kind's demands name, and the column has the job. Each demand
 /// is at most 2^36.
@@ -30,7 +30,7 @@ fn wait_beyond(bare: u64, arrive: u64, fate: Fate) -> u64
 {
     match fate {
         Fate::Departs(time) => time.saturating_sub(arrive).saturating_sub(bare),
-        Fate::Lost => 0,
+        Fate::Lost | Fate::Held => 0,
     }
 }
 
@@ -39,7 +39,7 @@ fn served(service: u64, fate: Fate) -> u64
     ensures { (rows : TheRows) (kind : TheKind) (job : ℕ) → service ≡ service_time rows kind job → result ≡ sequence_service rows kind job fate }
 {
     match fate {
-        Fate::Departs(_) => service,
+        Fate::Departs(_) | Fate::Held => service,
         Fate::Lost => 0,
     }
 }
@@ -108,7 +108,7 @@ impl Asking for AtServers {
 
     fn service(&self, rows: &Rows, kind: &Kind, job: u32, bare: u64) -> u64 {
         match kind {
-            Kind::Source | Kind::Split(_) => 0,
+            Kind::Source | Kind::Split(_) | Kind::Fork { .. } | Kind::Join => 0,
             Kind::Server(_) | Kind::Delay(_) | Kind::Loss { .. } | Kind::Tandem(_) => bare,
             Kind::ForkJoin(branches) => demand_of_branches(rows, branches, job),
         }
@@ -182,7 +182,8 @@ fn waits_for(
     }
 }
 
-// The waits at a node of this kind. A source and a split serve no job, so that each stay there is a wait.
+// The waits at a node of this kind. A source, a split, a fork and a join serve no job, so that each stay
+// there is a wait.
 pub fn waits_of(
     rows: &Rows,
     kind: &Kind,
@@ -192,9 +193,9 @@ pub fn waits_of(
     stays: &Stays,
 ) -> Waits
     requires visits { AreWaiting rows.now kind.now job.now arrive.now fate.now }
-    requires area { stays.now.area ≡ sum (sequence_sojourns arrive.now fate.now) }
-    requires longest { stays.now.longest ≡ fold max 0 (sequence_sojourns arrive.now fate.now) }
-    requires small { stays.now.area ≤ length job.now * 2 ^ 64 }
+    requires stay { stays.now.stay ≡ sum (sequence_sojourns 0 arrive.now fate.now) }
+    requires longest { stays.now.longest ≡ fold max 0 (sequence_sojourns 0 arrive.now fate.now) }
+    requires small { stays.now.stay ≤ length job.now * 2 ^ 64 }
     ensures wait { result.wait ≡ sum (sequence_waits rows.now kind.now job.now arrive.now fate.now) }
     ensures longest { result.longest ≡ fold max 0 (sequence_waits rows.now kind.now job.now arrive.now fate.now) }
     ensures busy { result.busy ≡ sum (sequence_services rows.now kind.now job.now fate.now) }
@@ -202,8 +203,8 @@ pub fn waits_of(
     ensures small_busy { result.busy ≤ length job.now * 2 ^ 64 }
 {
     match kind {
-        Kind::Source | Kind::Split(_) => Waits {
-            wait: stays.area,
+        Kind::Source | Kind::Split(_) | Kind::Fork { .. } | Kind::Join => Waits {
+            wait: stays.stay,
             longest: stays.longest,
             busy: 0,
         },

@@ -21,6 +21,7 @@ small = record {
   nodes = record { name = codes "src"; kind = Source; inputs = [] } ∷ record { name = codes "desk"; kind = Server (Column 0); inputs = record { node = 0; out = 0 } ∷ [] } ∷ [];
   columns = codes "d" ∷ [];
   bound = 2 ^ 60;
+  version = 1;
 }
 
 abbrev pub mark : List ℕ

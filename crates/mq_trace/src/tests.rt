@@ -37,6 +37,7 @@ fn one_server(alloc: Global) -> Result<Network, OutOfMemory>
         nodes,
         columns,
         bound: 1 << 60,
+        version: 1,
     })
 }
 

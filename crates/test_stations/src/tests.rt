@@ -1,6 +1,7 @@
 // A file for each crate.
 mod delay;
 mod forkjoin;
+mod join;
 mod late;
 mod loss;
 mod maxplus;

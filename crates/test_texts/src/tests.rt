@@ -50,6 +50,16 @@ fn printed_texts_print_the_same(rt: HostRuntime) {
     assert!(rt; prints(rt.alloc(), canonical, canonical));
 }
 
+#[test]
+fn forks_and_joins_are_printed(rt: HostRuntime) {
+    let text =
+        b"# Parts.\nmodel  2\nsource s\nfork f 03 from s.0\nserver q =1 from f.2\njoin j from q f.1 f\nfork g 2 from j";
+    let canonical =
+        b"model 2\nbound 1152921504606846976\nsource s\nfork f 3 from s\nserver q =1 from f.2\njoin j from q f.1 f\nfork g 2 from j\n";
+    assert!(rt; prints(rt.alloc(), text, canonical));
+    assert!(rt; prints(rt.alloc(), canonical, canonical));
+}
+
 // Whether this is the first fault of a text.
 fn has_fault(alloc: Global, text: &[u8], wanted: ModelFault) -> bool {
     match read_model(alloc, text) {

@@ -9,20 +9,20 @@ use Rattle.std.specs.Option.{option_to_list}
 use Rattle.std.specs.Prelude.{◌||◌, slice_get}
 use Rattle.std.specs.List.{AllByRecursion as Each, zip}
 use Rattle.mq_core.specs.Asked.{HasDemands}
-use Rattle.mq_core.specs.SequenceLaws.{ArrivalsAreStreams, JobsAreRows, NoNodeCopies, NodesAreSequences, OrdersKeepItems, VisitsAreFew, arrives_of, jobs_of}
-use Rattle.mq_core.specs.Sequences.{sequence_fates, sequence_late, sequence_late_from}
+use Rattle.mq_core.specs.SequenceLaws.{ArrivalsAreStreams, JobsAreRows, NoNodeCopies, NodesAreSequences, VisitsAreFew, arrives_of, jobs_of}
+use Rattle.mq_core.specs.Sequences.{sequence_fates, sequence_late_from, sequence_refusal}
 use Rattle.mq_core.specs.Local.{Local}
 use Rattle.mq_core.specs.Machine.{Station, Visit}
 use Rattle.mq_core.specs.NetworkRun.{RunsAreOfNetworks}
-use Rattle.mq_core.specs.NumberLaws.{IsOnTimeBelow, PastIsNone}
+use Rattle.mq_core.specs.NumberLaws.{IsFineBelow, RefusalIsNone}
 use Rattle.mq_core.specs.PlanLaws.{NodesAreInLimits, OrdersRank, RowsTellDemands}
-use Rattle.mq_core.specs.Results.{first_of, stream_from}
+use Rattle.mq_core.specs.Results.{Late, first_of, most_visits, refusal_by, stream_from}
 use Rattle.mq_core.specs.StandardTable.{run_of}
 use Rattle.mq_core.specs.Streams.{pairs_of}
 use Rattle.mq_core.specs.Theorems.{IsReadFor}
 use Rattle.mq_core.specs.Wiring.{first_ready, has, is_source_kind, outputs_read, ranked_after}
 use Rattle.mq_core.specs.declared.model.Fate.{Fate}
-use Rattle.mq_core.specs.declared.model.Fate.TheVariants.{Departs, Lost}
+use Rattle.mq_core.specs.declared.model.Fate.TheVariants.{Departs, Held, Lost}
 use Rattle.mq_core.specs.declared.model.Input.{Input}
 use Rattle.mq_core.specs.declared.model.Node.{Node}
 use Rattle.mq_core.specs.declared.model.Plan.{Plan}
@@ -31,7 +31,7 @@ use Rattle.mq_core.specs.declared.model.Stream.{Stream}
 use Rattle.mq_core.specs.Bounded.{DeparturesAreBounded}
 use Rattle.mq_core.proofs.Bounded.BoundedArrivals.{PairsBy, from-zip, order-by, read-at, reads-by, rows-by, zip-by}
 use Rattle.mq_core.proofs.Bounded.BoundedStations.{AreBy, LeaveBy, LeavesBy, by-later}
-use Rattle.mq_core.proofs.Bounded.BoundedKinds.{fates-by, stream-by}
+use Rattle.mq_core.proofs.Sequences.ArrivalTable.{arrivals_of}
 
 -- where a node stands among the first so many
 record IsAt (order : List ℕ) (rank node : ℕ) : Type 0 where
@@ -73,10 +73,12 @@ leave-later limit later l fates h = Each-weaker (LeavesBy limit) (LeavesBy later
     go : (fate : Fate) → LeavesBy limit fate → LeavesBy later fate
     go (Departs time) k = omega arith
     go Lost k = tt
+    go Held k = tt
 
 none-late : (bound node position : ℕ) (fates : List Fate) → LeaveBy bound fates → first_of (sequence_late_from bound node position fates) ≡ None
 none-late bound node position [] h = refl
 none-late bound node position (Lost ∷ fates) h = none-late bound node (suc position) fates h.1
+none-late bound node position (Held ∷ fates) h = none-late bound node (suc position) fates h.1
 none-late bound node position (Departs time ∷ fates) h = rw (le-ltb bound time h.0) (none-late bound node (suc position) fates h.1)
 
 -- the laws of runs that the bound rests on
@@ -86,10 +88,9 @@ pub record RunLaws : Type 0 where
   pub demands : RowsTellDemands
   pub few : VisitsAreFew
   pub jobs : JobsAreRows
-  pub keeps : OrdersKeepItems
   pub limits : NodesAreInLimits
   pub networks : RunsAreOfNetworks
-  pub none : PastIsNone
+  pub none : RefusalIsNone
   pub ranks : OrdersRank
 
 module _ (laws : RunLaws) (plan : Plan) (rows : Rows) (read : IsReadFor plan.net rows) (single : NoNodeCopies plan.net) (last : ℕ) (early : AreBy last rows.time) where
@@ -125,7 +126,7 @@ module _ (laws : RunLaws) (plan : Plan) (rows : Rows) (read : IsReadFor plan.net
         fates = fates;
         streams = λ out.
             subst (λ (s : Stream). AreBy limit s.time) (sym ((laws.sequences plan rows read v node here).stream out))
-            (stream-by rows node.kind (came_of (length node.inputs) (station v).visits) limit out (laws.keeps node.kind) (by-later top limit (arrives_at v) (omega arith) came) fates);
+            ((arrivals_of rows node.kind).streamed (came_of (length node.inputs) (station v).visits) limit out (by-later top limit (arrives_at v) (omega arith) came) fates);
       }
     where
       told : Each (λ job. HasDemands rows node.kind job) (jobs_at v)
@@ -137,7 +138,7 @@ module _ (laws : RunLaws) (plan : Plan) (rows : Rows) (read : IsReadFor plan.net
       fates =
           let few = laws.few plan rows read single v in
           let many = length-map (station v).visits (λ (x : Visit). x.arrive) in
-          fates-by rows node.kind (came_of (length node.inputs) (station v).visits) limit top (laws.limits plan v node here).servers told (omega arith) came
+          (arrivals_of rows node.kind).bounded (came_of (length node.inputs) (station v).visits) limit top (laws.limits plan v node here).servers told (omega arith) came
 
   even : (v : ℕ) → length (jobs_at v) ≡ length (arrives_at v)
   even v = length-map (station v).visits (λ (x : Visit). x.job) ∙ sym (length-map (station v).visits (λ (x : Visit). x.arrive))
@@ -181,14 +182,27 @@ module _ (laws : RunLaws) (plan : Plan) (rows : Rows) (read : IsReadFor plan.net
   wide : (ranks nodes add : ℕ) → ranks ≤ nodes → ranks * add ≤ nodes * add
   wide ranks nodes add l = grind arith
 
-  on-time : last + length plan.net.nodes * added ≤ plan.net.bound → IsOnTimeBelow plan rows (length plan.order)
-  on-time room r v node l index here =
+  fine : last + length plan.net.nodes * added ≤ plan.net.bound → IsFineBelow plan rows (length plan.order)
+  fine room r v node l index here =
       let few = wide (length plan.order) (length plan.net.nodes) added (order-few plan) in
       let by = by-weaker v node (last + length plan.order * added) plan.net.bound (omega arith) (ranks-by (length plan.order) r v node l index here) in
-      ap (λ visits. first_of (sequence_late plan.net.bound v visits)) (laws.sequences plan rows read v node here).visits
-      ∙ none-late plan.net.bound v 0 (sequence_fates rows node.kind (came_of (length node.inputs) (station v).visits)) by.fates
+      let late = none-late plan.net.bound v 0 (sequence_fates rows node.kind (came_of (length node.inputs) (station v).visits)) by.fates in
+      ap (sequence_refusal plan.net.bound v) (laws.sequences plan rows read v node here).visits
+      ∙ none-refused v (length (jobs_at v)) _ (many v) late
+    where
+      -- a job visits a node at most once
+      many : (u : ℕ) → length (jobs_at u) ≤ most_visits
+      many u =
+          let few = laws.few plan rows read single u in
+          let size = length-map (station u).visits (λ (x : Visit). x.job) in
+          let count = read.count in
+          let times = read.times in
+          omega arith
+
+      none-refused : (node count : ℕ) (late : Option Late) → count ≤ most_visits → late ≡ None → refusal_by node count late ≡ None
+      none-refused node count late l none = rw (le-ltb most_visits count l, none) refl
 
 pub departures-bounded : RunLaws → DeparturesAreBounded
 departures-bounded laws plan rows last read single early room =
-    let none = laws.none plan rows read (on-time laws plan rows read single last (recursion_from_All (λ time. time ≤ last) rows.time early) room) in
+    let none = laws.none plan rows read (fine laws plan rows read single last (recursion_from_All (λ time. time ≤ last) rows.time early) room) in
     (none, sym (laws.networks plan rows).1 ∙ none)

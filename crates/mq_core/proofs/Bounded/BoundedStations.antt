@@ -2,7 +2,7 @@
 use Rattle.std.proofs.Common.{ℕ, ◌^◌, ◌≤◌, List, [], ◌∷◌, map, arith}
 use Rattle.std.specs.List.{AllByRecursion as Each}
 use Rattle.mq_core.specs.declared.model.Fate.{Fate}
-use Rattle.mq_core.specs.declared.model.Fate.TheVariants.{Departs, Lost}
+use Rattle.mq_core.specs.declared.model.Fate.TheVariants.{Departs, Held, Lost}
 
 -- none of these times is later than this
 abbrev pub AreBy : ℕ → List ℕ → Type 0
@@ -12,10 +12,11 @@ AreBy limit times = Each (λ time. time ≤ limit) times
 abbrev pub AreSmall : List ℕ → Type 0
 AreSmall demands = Each (λ demand. demand ≤ 2 ^ 36) demands
 
--- lost, or gone by this time
+-- lost, held, or gone by this time
 abbrev pub LeavesBy : ℕ → Fate → Type 0
 LeavesBy limit (Departs time) = time ≤ limit
 LeavesBy limit Lost = Unit {0}
+LeavesBy limit Held = Unit {0}
 
 abbrev pub LeaveBy : ℕ → List Fate → Type 0
 LeaveBy limit fates = Each (LeavesBy limit) fates

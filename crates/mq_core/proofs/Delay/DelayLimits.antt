@@ -9,6 +9,8 @@ pub delay-limits : (demand : Demand) → LimitLaws (delay demand)
 delay-limits demand =
     record {
       outputs = λ columns h. omega arith;
+      copies = λ columns sound. omega arith;
+      first = λ first. omega arith;
       servers = λ columns h. omega arith;
       ports = λ inputs h. within-most 1 8 inputs h;
       reads = λ inputs starts h. absurd cc;

@@ -25,7 +25,6 @@ delay-recurrence rows ports demand =
       fares = λ visits. delayed-fates (Delay demand) (λ m. refl) rows demand 0 visits;
       goes = λ visits. delay-outs rows demand 0 visits;
       stands = λ mixed visits rise out. absurd cc;
-      prompt = λ now m l. l;
       in_time = λ came e. when-delayed (demand_of_job rows demand) came.job came.arrive e;
       stays = λ came e. stay-fates (demand_of_job rows demand) came.job came.arrive _ (at_least-refl (delayed came.arrive (map (demand_of_job rows demand) came.job)));
       bounded = λ came limit top few told room early.

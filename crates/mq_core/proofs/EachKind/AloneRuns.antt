@@ -28,7 +28,7 @@ visits-event : {L : Type 0} (t : Table L) (s : State L) (e : Event) (rest : List
 visits-event t s (Arrive now n port job) rest v = go (eqb v n) refl
   where
     go : (b : Bool) → eqb v n ≡ b → came ((happens t s (Arrive now n port job, rest)).stations v).visits ≡ came (s.stations v).visits ++ come_at v (Arrive now n port job ∷ [])
-    go true h = rw (h, eqb-swap v n true h) (map-append (λ (x : Visit). (x.arrive, x.job)) (s.stations v).visits _)
+    go true h = rw (h, eqb-swap v n true h) (map-append (λ (x : Visit). (x.arrive, x.port, x.job)) (s.stations v).visits _)
     go false h = rw (h, eqb-swap v n false h) (sym (append-nil (came (s.stations v).visits)))
 visits-event t s (Finish now n server position) rest v = go (eqb v n) refl
   where
@@ -39,7 +39,7 @@ visits-event t s (Finish now n server position) rest v = go (eqb v n) refl
 come-cons : (v : ℕ) (e : Event) (es : List Event) → come_at v (e ∷ es) ≡ come_at v (e ∷ []) ++ come_at v es
 come-cons v e es = go (is_arrival_at v e)
   where
-    go : (b : Bool) → map {B = ℕ × ℕ} (λ f. (time_of f, job_of f)) (cond b (e ∷ filter (is_arrival_at v) es) (filter (is_arrival_at v) es)) ≡ map {B = ℕ × ℕ} (λ f. (time_of f, job_of f)) (cond b (e ∷ []) []) ++ come_at v es
+    go : (b : Bool) → map {B = ℕ × ℕ × ℕ} (λ f. (time_of f, port_of f, job_of f)) (cond b (e ∷ filter (is_arrival_at v) es) (filter (is_arrival_at v) es)) ≡ map {B = ℕ × ℕ × ℕ} (λ f. (time_of f, port_of f, job_of f)) (cond b (e ∷ []) []) ++ come_at v es
     go true = refl
     go false = refl
 
@@ -82,7 +82,7 @@ begins plan rows v (Finish t n q j ∷ es) h k = absurd (let c = h.0 in cc)
 lone-visits : (plan : Plan) (rows : Rows) (v : ℕ) (arrivals : List Event) → IsLoad (length (inputs_of plan.net.nodes v)) v arrivals → (count : ℕ) → (after count (alone (standard plan rows)) (opened (alone (standard plan rows)) arrivals)).pending ≡ [] → came ((after count (alone (standard plan rows)) (opened (alone (standard plan rows)) arrivals)).stations v).visits ≡ come_at v arrivals
 lone-visits plan rows v arrivals load count done =
     visits-handled (alone (standard plan rows)) v count (opened (alone (standard plan rows)) arrivals)
-    ∙ ap (map {B = ℕ × ℕ} (λ e. (time_of e, job_of e))) (alone-arrivals (standard plan rows) (standard-on_time plan rows) v arrivals load.here load.ordered count done ∙ sym (filter-all (is_arrival_at v) arrivals load.here))
+    ∙ ap (map {B = ℕ × ℕ × ℕ} (λ e. (time_of e, port_of e, job_of e))) (alone-arrivals (standard plan rows) (standard-on_time plan rows) v arrivals load.here load.ordered count done ∙ sym (filter-all (is_arrival_at v) arrivals load.here))
 
 pub nodes-flow_alone : NodesFlowAlone
 nodes-flow_alone plan rows v node here arrivals load count done =

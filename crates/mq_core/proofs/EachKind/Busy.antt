@@ -33,7 +33,7 @@ abbrev pub node_busy : Rows → Option Node → Station Local → List Event →
 node_busy rows None s fs now = Unit {0}
 node_busy rows (Some node) s fs now = kind_busy rows (length node.inputs) node.kind s fs now
 
-busy-opens : (rows : Rows) (o : Option Node) (v : ℕ) → node_busy rows o (record { local = node_opening o; visits = []; emitted = []; area = 0; busy = 0; peak = 0 }) [] 0
+busy-opens : (rows : Rows) (o : Option Node) (v : ℕ) → node_busy rows o (record { local = node_opening o; visits = []; emitted = []; area = 0; busy = 0 }) [] 0
 busy-opens rows None v = tt
 busy-opens rows (Some node) v = (laws_of rows (length node.inputs) node.kind).idle v
 
@@ -41,15 +41,15 @@ node_busy-waits : (rows : Rows) (o : Option Node) (v area : ℕ) (s : Station Lo
 node_busy-waits rows None v area s fs now later l f h b = tt
 node_busy-waits rows (Some node) v area s fs now later l f h b = (laws_of rows (length node.inputs) node.kind).works v area s fs now later l f h b
 
-node_busy-arrives : (peak : ℕ) (rows : Rows) (o : Option Node) (v port : ℕ) (s : Station Local) (fs : List Event) (now : ℕ) (x : Visit) → x.arrive ≡ now → Each (λ f. now < time_of f) fs → node_fact rows o v s fs now → node_busy rows o s fs now →
-    node_busy rows o (after_reaction peak s (s.visits ++ x ∷ []) now (node_on rows o (s.visits ++ x ∷ []) s.local now (Arrive now v port x.job))) (fs ++ finishes_of v (node_on rows o (s.visits ++ x ∷ []) s.local now (Arrive now v port x.job)).services) now
-node_busy-arrives peak rows None v port s fs now x at soon h b = tt
-node_busy-arrives peak rows (Some node) v port s fs now x at soon h b = (laws_of rows (length node.inputs) node.kind).busy_arrives peak v port s fs now x at soon h b
+node_busy-arrives : (rows : Rows) (o : Option Node) (v port : ℕ) (s : Station Local) (fs : List Event) (now : ℕ) (x : Visit) → x.arrive ≡ now → Each (λ f. now < time_of f) fs → node_fact rows o v s fs now → node_busy rows o s fs now →
+    node_busy rows o (after_reaction s (s.visits ++ x ∷ []) now (node_on rows o (s.visits ++ x ∷ []) s.local now (Arrive now v port x.job))) (fs ++ finishes_of v (node_on rows o (s.visits ++ x ∷ []) s.local now (Arrive now v port x.job)).services) now
+node_busy-arrives rows None v port s fs now x at soon h b = tt
+node_busy-arrives rows (Some node) v port s fs now x at soon h b = (laws_of rows (length node.inputs) node.kind).busy_arrives v port s fs now x at soon h b
 
-node_busy-ends : (peak : ℕ) (rows : Rows) (o : Option Node) (rank : ℕ → ℕ) (v server position : ℕ) (s : Station Local) (fs rest : List Event) (now : ℕ) → earliest rank fs ≡ Some (Finish now v server position, rest) → node_fact rows o v s fs now → node_busy rows o s fs now →
-    node_busy rows o (after_reaction peak s s.visits now (node_on rows o s.visits s.local now (Finish now v server position))) (rest ++ finishes_of v (node_on rows o s.visits s.local now (Finish now v server position)).services) now
-node_busy-ends peak rows None rank v server position s fs rest now first h b = tt
-node_busy-ends peak rows (Some node) rank v server position s fs rest now first h b = (laws_of rows (length node.inputs) node.kind).busy_ends peak rank v server position s fs rest now first h b
+node_busy-ends : (rows : Rows) (o : Option Node) (rank : ℕ → ℕ) (v server position : ℕ) (s : Station Local) (fs rest : List Event) (now : ℕ) → earliest rank fs ≡ Some (Finish now v server position, rest) → node_fact rows o v s fs now → node_busy rows o s fs now →
+    node_busy rows o (after_reaction s s.visits now (node_on rows o s.visits s.local now (Finish now v server position))) (rest ++ finishes_of v (node_on rows o s.visits s.local now (Finish now v server position)).services) now
+node_busy-ends rows None rank v server position s fs rest now first h b = tt
+node_busy-ends rows (Some node) rank v server position s fs rest now first h b = (laws_of rows (length node.inputs) node.kind).busy_ends rank v server position s fs rest now first h b
 
 busy-keeps : (plan : Plan) (rows : Rows) → Keeps (standard plan rows) (λ v s fs now. node_fact rows (slice_get plan.net.nodes v) v s fs now × node_busy rows (slice_get plan.net.nodes v) s fs now)
 unfolding standard_opening standard_handle standard_working
@@ -59,8 +59,8 @@ busy-keeps plan rows =
       opens = λ v. (keeps.opens v, busy-opens rows (slice_get plan.net.nodes v) v);
       waits = λ v s fs now later h l f. (keeps.waits v s fs now later h.0 l f, node_busy-waits rows (slice_get plan.net.nodes v) v _ s fs now later l f h.0 h.1);
       fits = keeps.fits;
-      arrives = λ v port job s fs now h f fit. (keeps.arrives v port job s fs now h.0 f fit, node_busy-arrives _ rows (slice_get plan.net.nodes v) v port s fs now (record { job = job; arrive = now; port = port; found = standard_jobs plan rows v s.visits s.local }) refl f h.0 h.1);
-      ends = λ v server position s fs rest now h first. (keeps.ends v server position s fs rest now h.0 first, node_busy-ends _ rows (slice_get plan.net.nodes v) _ v server position s fs rest now first h.0 h.1);
+      arrives = λ v port job s fs now h f fit. (keeps.arrives v port job s fs now h.0 f fit, node_busy-arrives rows (slice_get plan.net.nodes v) v port s fs now (record { job = job; arrive = now; port = port; found = standard_jobs plan rows v s.visits s.local }) refl f h.0 h.1);
+      ends = λ v server position s fs rest now h first. (keeps.ends v server position s fs rest now h.0 first, node_busy-ends rows (slice_get plan.net.nodes v) _ v server position s fs rest now first h.0 h.1);
     }
 
 pub busy-is_services : BusyIsServices

@@ -1,34 +1,32 @@
 -- That a run ends: the weight of what is pending falls with each event.
-use Rattle.std.proofs.Common.{List, None, Option, Some, [], ap, arith, length, length-append, refl, subst, suc, sym, true, zero, ℕ, ◌*◌, ◌++◌, ◌+◌, ◌-◌, ◌<◌, ◌∙◌, ◌∷◌, ◌≡◌, ◌≤◌}
-use Rattle.std.proofs.Math.Nat.{mul-suc}
+use Rattle.std.proofs.Common.{Bool, List, None, Option, Some, [], ap, arith, eq-eqb, eqb, eqb-true, false, length, length-append, refl, subst, suc, sym, true, zero, ℕ, ◌*◌, ◌++◌, ◌+◌, ◌-◌, ◌<◌, ◌^◌, ◌∙◌, ◌∷◌, ◌≡◌, ◌≤◌}
+use Rattle.std.proofs.Math.Nat.{mul-suc, mul_assoc, mul_comm, suc-mul}
 use Rattle.std.proofs.lemmas.List.{append-nil}
 use Rattle.std.specs.List.{AllByRecursion as Each}
-use Rattle.std.specs.Option.{option_to_list}
+use Rattle.std.specs.Option.{option_map, option_to_list}
 use Rattle.std.specs.Prelude.{IfSome, IsSome, filter, slice_get}
 use Rattle.mq_core.specs.Event.{Event, earliest, node_of}
 use Rattle.mq_core.specs.Event.Event.{Arrive, Finish}
-use Rattle.mq_core.specs.Fates.{IsEnded, fate_of, leaves_with}
+use Rattle.mq_core.specs.Fates.{IsEnded, fate_by, fate_of, keeps_visits, leaves_with}
 use Rattle.mq_core.specs.KindTable.{behaviour_of}
 use Rattle.mq_core.specs.Laws.{is_finish_at}
 use Rattle.mq_core.specs.Local.{Local}
 use Rattle.mq_core.specs.Machine.{Emission, Station, Visit, emissions_of, opened}
 use Rattle.mq_core.specs.OnTime.{standard-on_time}
 use Rattle.mq_core.specs.Run.{run_length, starts, starts_from}
-use Rattle.mq_core.specs.Served.{flow_of}
-use Rattle.mq_core.specs.Standard.{node_jobs, node_on, node_opening, standard_handle, standard_jobs, standard_opening}
+use Rattle.mq_core.specs.Sound.{is_sound_kind}
+use Rattle.mq_core.specs.Standard.{jobs_in, node_jobs, node_on, node_opening, standard_handle, standard_jobs, standard_opening}
 use Rattle.mq_core.specs.StandardTable.{run_of, standard}
-use Rattle.mq_core.specs.Tallies.{emission_at, sum_below}
+use Rattle.mq_core.specs.Tallies.{one_if_none, staying, sum_below}
 use Rattle.mq_core.specs.Theorems.{IsReadFor}
 use Rattle.mq_core.specs.Wiring.{first_ready, is_source, rank_in, ranked_after, reader_from}
 use Rattle.mq_core.specs.declared.model.Kind.{Kind}
 use Rattle.mq_core.specs.declared.model.Node.{Node}
 use Rattle.mq_core.specs.declared.model.Plan.{Plan}
 use Rattle.mq_core.specs.declared.model.Rows.{Rows}
-use Rattle.mq_core.proofs.Counting.SequenceNumbers.{numbered-found, order-found}
-use Rattle.mq_core.proofs.EachKind.Flows.{flow-numbered}
-use Rattle.mq_core.proofs.EachKind.Facts.{kind_fact, node_fact, standard-keeps}
-use Rattle.mq_core.proofs.EachKind.Flows.{kind-flow}
-use Rattle.mq_core.proofs.EachKind.LawTable.{inside_of, laws_of, once_of, own_of}
+use Rattle.mq_core.proofs.EachKind.Facts.{node_fact, standard-keeps}
+use Rattle.mq_core.proofs.EachKind.LawTable.{inside_of, laws_of, limits_of}
+use Rattle.mq_core.proofs.EachKind.Shapes.{node-sound}
 use Rattle.mq_core.proofs.Events.Falls.{Falls, done-from_start, sum_over, total, weigh}
 use Rattle.mq_core.proofs.Events.Kept.{Fact, kept}
 use Rattle.mq_core.proofs.Networks.Whole.{starts-begin}
@@ -47,10 +45,28 @@ abbrev pub weight_of : ℕ → ℕ → ℕ
 weight_of most zero = 0
 weight_of most (suc nodes) = 9 + most * weight_of most nodes
 
--- where an event lets out one at most, 9 for each node
-pub weight-one : (nodes : ℕ) → weight_of 1 nodes ≡ 9 * nodes
-weight-one zero = refl
-weight-one (suc nodes) = omega (arith, weight-one nodes)
+-- where it lets out 8 at most
+pub weight-eight : (nodes : ℕ) → weight_of 8 nodes ≤ 9 * nodes * 8 ^ nodes
+weight-eight zero = omega arith
+weight-eight (suc nodes) = grow nodes (weight_of 8 nodes) (8 ^ nodes) (8 ^ suc nodes) (power nodes) (positive nodes) (weight-eight nodes)
+  where
+    power : (n : ℕ) → 8 ^ suc n ≡ 8 * 8 ^ n
+    power n = grind arith
+
+    positive : (n : ℕ) → 1 ≤ 8 ^ n
+    positive zero = omega arith
+    positive (suc n) = let p = power n in let q = positive n in omega arith
+
+    grow : (n w e f : ℕ) → f ≡ 8 * e → 1 ≤ e → w ≤ 9 * n * e → 9 + 8 * w ≤ 9 * suc n * f
+    grow n w e f p q l =
+        let a : 9 * n * e ≡ 9 * (n * e) = mul_assoc 9 n e in
+        let b : 9 * suc n * f ≡ 9 * (suc n * f) = mul_assoc 9 (suc n) f in
+        let c : suc n * f ≡ n * f + f = suc-mul n f in
+        let d : n * f ≡ n * (8 * e) = ap (λ x. n * x) p in
+        let g : n * (8 * e) ≡ (n * 8) * e = sym (mul_assoc n 8 e) in
+        let h : (n * 8) * e ≡ (8 * n) * e = ap (λ x. x * e) (mul_comm n 8) in
+        let i : (8 * n) * e ≡ 8 * (n * e) = mul_assoc 8 n e in
+        omega arith
 
 weight-rises : (most a b : ℕ) → a ≤ b → weight_of most a ≤ weight_of most b
 weight-rises most zero b l = omega arith
@@ -60,17 +76,32 @@ weight-rises most (suc a) (suc b) l = grow (weight_of most a) (weight_of most b)
     grow : (x y : ℕ) → x ≤ y → 9 + most * x ≤ 9 + most * y
     grow x y h = grind arith
 
+-- so many steps for each row
+long-enough : (nodes rows : ℕ) → weight_of 8 nodes * rows ≤ 9 * nodes * rows * 8 ^ nodes
+long-enough nodes rows = grow (weight_of 8 nodes) (9 * nodes) rows (8 ^ nodes) (weight-eight nodes)
+  where
+    grow : (w n r e : ℕ) → w ≤ n * e → w * r ≤ n * r * e
+    grow w n r e l =
+        let a : w * r ≤ (n * e) * r = wide w (n * e) r l in
+        let b : (n * e) * r ≡ n * (e * r) = mul_assoc n e r in
+        let c : n * (e * r) ≡ n * (r * e) = ap (λ x. n * x) (mul_comm e r) in
+        let d : n * (r * e) ≡ n * r * e = sym (mul_assoc n r e) in
+        omega arith
+      where
+        wide : (a b c : ℕ) → a ≤ b → a * c ≤ b * c
+        wide a b c h = grind arith
+
 -- the most that one event of the kinds lets out
 abbrev pub most : ℕ
-most = 1
+most = 8
 
 -- an arrival at a node weighs more than what it leaves
-node-arrives-falls : (rows : Rows) (o : Option Node) → (onward : ℕ) (s : Station Local) (fs : List Event) (visits : List Visit) (now port job v : ℕ) → node_fact rows o v s fs now →
+node-arrives-falls : (rows : Rows) (columns : ℕ) (o : Option Node) → IfSome o (λ node. is_sound_kind columns node.kind ≡ true) → (onward : ℕ) (s : Station Local) (fs : List Event) (visits : List Visit) (now port job v : ℕ) → node_fact rows o v s fs now →
     node_load rows onward o (node_on rows o visits s.local now (Arrive now v port job)).local + length (emissions_of now visits (node_on rows o visits s.local now (Arrive now v port job)).releases) * onward + 1 ≤ node_load rows onward o s.local + (most * onward + 9)
-node-arrives-falls rows None onward s fs visits now port job v fact = omega arith
-node-arrives-falls rows (Some node) onward s fs visits now port job v fact =
+node-arrives-falls rows columns None sound onward s fs visits now port job v fact = omega arith
+node-arrives-falls rows columns (Some node) sound onward s fs visits now port job v fact =
     let a = (laws_of rows (length node.inputs) node.kind).adds onward v port job s visits fs now fact in
-    let b = few (behaviour_of node.kind).copies (once_of rows (length node.inputs) node.kind).one in
+    let b = few (behaviour_of node.kind).copies ((limits_of node.kind).copies columns sound) in
     omega arith
   where
     few : (n : ℕ) → n ≤ most → n * onward ≤ most * onward
@@ -129,8 +160,25 @@ some-inside [] v node h = absurd cc
 some-inside (n ∷ nodes) zero node h = omega arith
 some-inside (n ∷ nodes) (suc v) node h = let l = some-inside nodes v node h in omega arith
 
-fate-some : (kind : Kind) (s : Station Local) (p : ℕ) (m : Emission) → leaves_with kind s p ≡ Some m → IsSome (fate_of kind s p)
-fate-some kind s p m e = rw e refl
+-- what sums up to nothing is nothing everywhere
+sum-nothing : (n : ℕ) (f : ℕ → ℕ) → sum_below n f ≡ 0 → (k : ℕ) → k < n → f k ≡ 0
+sum-nothing zero f e k l = absurd (omega arith)
+sum-nothing (suc n) f e k l = go (eqb k n) refl (sum-nothing n f (omega arith) k)
+  where
+    go : (b : Bool) → eqb k n ≡ b → (k < n → f k ≡ 0) → f k ≡ 0
+    go true same ih = ap f (eqb-true k n same) ∙ omega arith
+    go false other ih = ih (let apart : k ≡ n → ⊥ = λ q. let c = eq-eqb k n q in absurd cc in less apart)
+      where
+        less : (k ≡ n → ⊥) → k < n
+        less apart = omega arith
+
+-- who has left has a fate
+fate-some : (kind : Kind) (s : Station Local) (p : ℕ) → one_if_none (leaves_with kind s p) ≡ 0 → IsSome (fate_of kind s p)
+fate-some kind s p e = go (leaves_with kind s p) e
+  where
+    go : (o : Option Emission) → one_if_none o ≡ 0 → IsSome (option_map (fate_by kind) o)
+    go None h = absurd cc
+    go (Some m) h = refl
 
 module _ (plan : Plan) (rows : Rows) (read : IsReadFor plan.net rows) where
   abbrev size : ℕ
@@ -162,7 +210,7 @@ module _ (plan : Plan) (rows : Rows) (read : IsReadFor plan.net rows) where
         follows = λ n out l. follow n out (reader_from 0 plan.net.nodes n out) refl (feeds_forward plan (standard plan rows) refl refl n out);
         waits = λ v elapsed s. refl;
         arrives = λ v port job s fs now l f.
-            let a = node-arrives-falls rows (slice_get plan.net.nodes v) (onward v) s fs (s.visits ++ record { job = job; arrive = now; port = port; found = standard_jobs plan rows v s.visits s.local } ∷ []) now port job v f in
+            let a = node-arrives-falls rows (length plan.net.columns) (slice_get plan.net.nodes v) (node-sound plan v) (onward v) s fs (s.visits ++ record { job = job; arrive = now; port = port; found = standard_jobs plan rows v s.visits s.local } ∷ []) now port job v f in
             let b = whole v l in
             omega arith;
         ends = λ v server position s fs rest now l f first.
@@ -191,8 +239,8 @@ module _ (plan : Plan) (rows : Rows) (read : IsReadFor plan.net rows) where
       enough : total size weight load (opened (standard plan rows) (starts rows)) ≤ run_length plan.net.nodes rows
       enough =
           let a = starts-weight weight (weight_of most size) (λ v. weight-rises most _ _ (omega arith)) 0 rows.source rows.time in
-          let c = ap (λ n. n * length rows.time) (weight-one size) in
-          let b = sum_below-zero size (λ v. load v (record { local = node_opening (slice_get plan.net.nodes v); visits = []; emitted = []; area = 0; busy = 0; peak = 0 })) (λ v. load-opening rows (onward v) (slice_get plan.net.nodes v)) in
+          let c = long-enough size (length rows.time) in
+          let b = sum_below-zero size (λ v. load v (record { local = node_opening (slice_get plan.net.nodes v); visits = []; emitted = []; area = 0; busy = 0 })) (λ v. load-opening rows (onward v) (slice_get plan.net.nodes v)) in
           omega arith
 
   -- what holds of each node at the end
@@ -201,33 +249,29 @@ module _ (plan : Plan) (rows : Rows) (read : IsReadFor plan.net rows) where
       subst (λ l. node_fact rows (slice_get plan.net.nodes v) v ((run_of plan rows).stations v) (filter (is_finish_at v) l) (run_of plan rows).clock) nothing-pending
       (kept (standard plan rows) fact (standard-keeps plan rows (reader_from 0 plan.net.nodes) refl) (standard-on_time plan rows) (feeds_forward plan (standard plan rows) refl refl) (starts rows) (starts-begin (standard plan rows) 0 rows.source rows.time) (run_length plan.net.nodes rows) v)
 
-  -- no node holds a job then
-  pub none-held : (v : ℕ) → standard_jobs plan rows v ((run_of plan rows).stations v).visits ((run_of plan rows).stations v).local ≡ 0
+  -- a node where no visit stays for good holds none then
+  pub none-held : (v : ℕ) → IfSome (slice_get plan.net.nodes v) (λ node. keeps_visits node.kind ≡ false) → standard_jobs plan rows v ((run_of plan rows).stations v).visits ((run_of plan rows).stations v).local ≡ 0
   unfolding standard_jobs
-  none-held v = go (slice_get plan.net.nodes v) (end-fact v)
+  none-held v leave = go (slice_get plan.net.nodes v) leave (end-fact v)
     where
-      go : (o : Option Node) → node_fact rows o v ((run_of plan rows).stations v) [] (run_of plan rows).clock → node_jobs o ((run_of plan rows).stations v).visits ((run_of plan rows).stations v).local ≡ 0
-      go None h = refl
-      go (Some node) h = (once_of rows (length node.inputs) node.kind).empty v ((run_of plan rows).stations v) (run_of plan rows).clock h
+      go : (o : Option Node) → IfSome o (λ node. keeps_visits node.kind ≡ false) → node_fact rows o v ((run_of plan rows).stations v) [] (run_of plan rows).clock → node_jobs o ((run_of plan rows).stations v).visits ((run_of plan rows).stations v).local ≡ 0
+      go None leave h = refl
+      go (Some node) leave h = (laws_of rows (length node.inputs) node.kind).empty leave v ((run_of plan rows).stations v) (run_of plan rows).clock h
 
   pub run-ended : IsEnded plan rows (run_of plan rows)
   unfolding standard_jobs
   run-ended =
       record {
         nothing = nothing-pending;
-        leave = λ v node e. (once_of rows (length node.inputs) node.kind).all;
-        fates = λ v node p e keeps l. has_fate v node p e l (subst (λ o. node_fact rows o v ((run_of plan rows).stations v) [] (run_of plan rows).clock) e (end-fact v));
-        here = λ v node e.
+        fates = λ v node p e leave l.
             let s = (run_of plan rows).stations v in
-            ap (λ o. node_jobs o s.visits s.local) e
-            ∙ (laws_of rows (length node.inputs) node.kind).number v s [] (run_of plan rows).clock (subst (λ o. node_fact rows o v s [] (run_of plan rows).clock) e (end-fact v));
+            let none : node_jobs (Some node) s.visits s.local ≡ 0 = ap (λ o. node_jobs o s.visits s.local) (sym e) ∙ none-held v (subst (λ o. IfSome o (λ (n : Node). keeps_visits n.kind ≡ false)) (sym e) leave) in
+            fate-some node.kind s p (sum-nothing (length s.visits) (λ q. one_if_none (leaves_with node.kind s q)) (sym (here v node e) ∙ none) p l);
+        here = λ v node e. let s = (run_of plan rows).stations v in ap (λ o. node_jobs o s.visits s.local) e ∙ here v node e;
         empty = none-held;
       }
     where
-      has_fate : (v : ℕ) (node : Node) (p : ℕ) → slice_get plan.net.nodes v ≡ Some node → p < length ((run_of plan rows).stations v).visits → kind_fact rows (length node.inputs) node.kind v ((run_of plan rows).stations v) [] (run_of plan rows).clock → IsSome (fate_of node.kind ((run_of plan rows).stations v) p)
-      has_fate v node p e l f =
+      here : (v : ℕ) (node : Node) → slice_get plan.net.nodes v ≡ Some node → jobs_in node.kind ((run_of plan rows).stations v).visits ((run_of plan rows).stations v).local ≡ staying ((run_of plan rows).stations v).visits (leaves_with node.kind ((run_of plan rows).stations v))
+      here v node e =
           let s = (run_of plan rows).stations v in
-          let flow = kind-flow rows (length node.inputs) node.kind v s (run_of plan rows).clock f in
-          let numbered = flow-numbered rows (length node.inputs) node.kind s.visits in
-          let one = numbered-found 0 p (flow_of rows (length node.inputs) node.kind s.visits) s.visits numbered (omega arith) (omega arith) in
-          fate-some node.kind s p one.0 ((own_of rows (length node.inputs) node.kind).exits s p ∙ (ap (λ l. emission_at l p) flow ∙ (order-found node.kind 0 (flow_of rows (length node.inputs) node.kind s.visits) s.visits numbered p ∙ one.1)))
+          (laws_of rows (length node.inputs) node.kind).number v s [] (run_of plan rows).clock (subst (λ o. node_fact rows o v s [] (run_of plan rows).clock) e (end-fact v))

@@ -36,22 +36,22 @@ node_fact rows (Some node) v s fs now = kind_fact rows (length node.inputs) node
 abbrev pub wired_by : Plan → Rows → (ℕ → ℕ → Option (ℕ × ℕ)) → Table Local
 wired_by plan rows reader = record (standard plan rows) { reader = reader }
 
-node-arrives : (peak : ℕ) (rows : Rows) (o : Option Node) (v port : ℕ) (s : Station Local) (fs : List Event) (now : ℕ) (x : Visit) → x.arrive ≡ now → x.port ≡ port → IfSome o (λ node. port < max 1 (length node.inputs)) → Each (λ f. now < time_of f) fs → node_fact rows o v s fs now →
-    node_fact rows o v (after_reaction peak s (s.visits ++ x ∷ []) now (node_on rows o (s.visits ++ x ∷ []) s.local now (Arrive now v port x.job))) (fs ++ finishes_of v (node_on rows o (s.visits ++ x ∷ []) s.local now (Arrive now v port x.job)).services) now
-node-arrives peak rows None v port s fs now x at by fit soon h = append-nil fs ∙ h
-node-arrives peak rows (Some node) v port s fs now x at by fit soon h = (laws_of rows (length node.inputs) node.kind).arrives peak v port s fs now x at by fit soon h
+node-arrives : (rows : Rows) (o : Option Node) (v port : ℕ) (s : Station Local) (fs : List Event) (now : ℕ) (x : Visit) → x.arrive ≡ now → x.port ≡ port → IfSome o (λ node. port < max 1 (length node.inputs)) → Each (λ f. now < time_of f) fs → node_fact rows o v s fs now →
+    node_fact rows o v (after_reaction s (s.visits ++ x ∷ []) now (node_on rows o (s.visits ++ x ∷ []) s.local now (Arrive now v port x.job))) (fs ++ finishes_of v (node_on rows o (s.visits ++ x ∷ []) s.local now (Arrive now v port x.job)).services) now
+node-arrives rows None v port s fs now x at by fit soon h = append-nil fs ∙ h
+node-arrives rows (Some node) v port s fs now x at by fit soon h = (laws_of rows (length node.inputs) node.kind).arrives v port s fs now x at by fit soon h
 
 -- a port of a node
-some-port : (o : Option Node) (port : ℕ) → port < max 1 (length (outputs_read o)) → IfSome o (λ node. port < max 1 (length node.inputs))
+pub some-port : (o : Option Node) (port : ℕ) → port < max 1 (length (outputs_read o)) → IfSome o (λ node. port < max 1 (length node.inputs))
 some-port None port l = tt
 some-port (Some node) port l = let e : length (outputs_read (Some node)) ≡ length node.inputs = length-map node.inputs (λ (i : Input). (i.node, i.out)) in omega arith
 
-node-ends : (peak : ℕ) (rows : Rows) (o : Option Node) (rank : ℕ → ℕ) (v server position : ℕ) (s : Station Local) (fs rest : List Event) (now : ℕ) → earliest rank fs ≡ Some (Finish now v server position, rest) → node_fact rows o v s fs now →
-    node_fact rows o v (after_reaction peak s s.visits now (node_on rows o s.visits s.local now (Finish now v server position))) (rest ++ finishes_of v (node_on rows o s.visits s.local now (Finish now v server position)).services) now
-node-ends peak rows None rank v server position s fs rest now first h = absurd (no_finish rank fs rest _ h first)
-node-ends peak rows (Some node) rank v server position s fs rest now first h = (laws_of rows (length node.inputs) node.kind).ends peak rank v server position s fs rest now first h
+node-ends : (rows : Rows) (o : Option Node) (rank : ℕ → ℕ) (v server position : ℕ) (s : Station Local) (fs rest : List Event) (now : ℕ) → earliest rank fs ≡ Some (Finish now v server position, rest) → node_fact rows o v s fs now →
+    node_fact rows o v (after_reaction s s.visits now (node_on rows o s.visits s.local now (Finish now v server position))) (rest ++ finishes_of v (node_on rows o s.visits s.local now (Finish now v server position)).services) now
+node-ends rows None rank v server position s fs rest now first h = absurd (no_finish rank fs rest _ h first)
+node-ends rows (Some node) rank v server position s fs rest now first h = (laws_of rows (length node.inputs) node.kind).ends rank v server position s fs rest now first h
 
-node-opens : (rows : Rows) (columns : ℕ) (o : Option Node) (v : ℕ) → IfSome o (λ node. is_sound_kind columns node.kind ≡ true) → IfSome o (λ node. is_sound_count node.kind (length node.inputs) ≡ true) → node_fact rows o v (record { local = node_opening o; visits = []; emitted = []; area = 0; busy = 0; peak = 0 }) [] 0
+node-opens : (rows : Rows) (columns : ℕ) (o : Option Node) (v : ℕ) → IfSome o (λ node. is_sound_kind columns node.kind ≡ true) → IfSome o (λ node. is_sound_count node.kind (length node.inputs) ≡ true) → node_fact rows o v (record { local = node_opening o; visits = []; emitted = []; area = 0; busy = 0 }) [] 0
 node-opens rows columns None v sound many = refl
 node-opens rows columns (Some node) v sound many = (laws_of rows (length node.inputs) node.kind).opens columns v sound many
 
@@ -66,8 +66,8 @@ standard-keeps_by plan rows reader fits =
       opens = λ v. node-opens rows (length plan.net.columns) (slice_get plan.net.nodes v) v (node-sound plan v) (node-counted plan v);
       waits = λ v s fs now later h l _. node-waits rows (slice_get plan.net.nodes v) v s _ _ fs now later l h;
       fits = fits;
-      arrives = λ v port job s fs now h soon fit. node-arrives _ rows (slice_get plan.net.nodes v) v port s fs now (record { job = job; arrive = now; port = port; found = standard_jobs plan rows v s.visits s.local }) refl refl (some-port (slice_get plan.net.nodes v) port fit) soon h;
-      ends = λ v server position s fs rest now h first. node-ends _ rows (slice_get plan.net.nodes v) (wired_by plan rows reader).rank v server position s fs rest now first h;
+      arrives = λ v port job s fs now h soon fit. node-arrives rows (slice_get plan.net.nodes v) v port s fs now (record { job = job; arrive = now; port = port; found = standard_jobs plan rows v s.visits s.local }) refl refl (some-port (slice_get plan.net.nodes v) port fit) soon h;
+      ends = λ v server position s fs rest now h first. node-ends rows (slice_get plan.net.nodes v) (wired_by plan rows reader).rank v server position s fs rest now first h;
     }
 
 -- what an output is read by is a port that there is

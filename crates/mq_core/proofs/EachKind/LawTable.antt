@@ -1,41 +1,49 @@
 -- The laws of the kinds: in each table one row a kind.
-use Rattle.std.proofs.Common.{ℕ}
+use Rattle.std.proofs.Common.{true, ℕ, ◌≡◌}
 use Rattle.mq_core.specs.KindTable.{behaviour_of}
 use Rattle.mq_core.specs.Kinds.Delay.{delay}
+use Rattle.mq_core.specs.Kinds.Fork.{fork}
 use Rattle.mq_core.specs.Kinds.ForkJoin.{forkjoin}
 use Rattle.mq_core.specs.Kinds.Loss.{loss}
 use Rattle.mq_core.specs.Kinds.Server.{server}
 use Rattle.mq_core.specs.Kinds.Source.{source}
 use Rattle.mq_core.specs.Kinds.Split.{split}
 use Rattle.mq_core.specs.Kinds.Tandem.{tandem}
+use Rattle.mq_core.specs.SequenceLaws.{sends_once}
 use Rattle.mq_core.specs.declared.model.Kind.{Kind}
-use Rattle.mq_core.specs.declared.model.Kind.TheVariants.{Source, Server, Delay, Loss, Tandem, ForkJoin, Split}
+use Rattle.mq_core.specs.declared.model.Kind.TheVariants.{Source, Server, Delay, Loss, Tandem, ForkJoin, Split, Fork, Join}
 use Rattle.mq_core.specs.declared.model.Rows.{Rows}
 use Rattle.mq_core.proofs.EachKind.ExitLaws.{ExitLaws, exits-own}
-use Rattle.mq_core.proofs.EachKind.KindLaws.{Inside, KindLaws, OnceLaws, OwnLaws}
+use Rattle.mq_core.proofs.EachKind.KindLaws.{Inside, KindLaws, OwnLaws}
 use Rattle.mq_core.proofs.EachKind.LimitLaws.{LimitLaws}
 use Rattle.mq_core.proofs.EachKind.RecurrenceLaws.{RecurrenceLaws}
 use Rattle.mq_core.proofs.Passing.SourceLimits.{source-limits}
 use Rattle.mq_core.proofs.Passing.SourceRecurrence.{source-recurrence}
-use Rattle.mq_core.proofs.Passing.SourceLaws.{source-inside, source-laws, source-once, source-own}
+use Rattle.mq_core.proofs.Passing.SourceLaws.{source-inside, source-laws, source-own}
 use Rattle.mq_core.proofs.Passing.SplitLimits.{split-limits}
 use Rattle.mq_core.proofs.Passing.SplitRecurrence.{split-recurrence}
-use Rattle.mq_core.proofs.Passing.SplitLaws.{split-inside, split-laws, split-once, split-own}
+use Rattle.mq_core.proofs.Passing.SplitLaws.{split-inside, split-laws, split-own}
 use Rattle.mq_core.proofs.Server.ServerLimits.{server-limits}
 use Rattle.mq_core.proofs.Server.ServerRecurrence.{server-recurrence}
-use Rattle.mq_core.proofs.Server.ServerLaws.{server-inside, server-laws, server-once, server-own}
+use Rattle.mq_core.proofs.Server.ServerLaws.{server-inside, server-laws, server-own}
 use Rattle.mq_core.proofs.Delay.DelayLimits.{delay-limits}
 use Rattle.mq_core.proofs.Delay.DelayRecurrence.{delay-recurrence}
-use Rattle.mq_core.proofs.Delay.DelayLaws.{delay-inside, delay-laws, delay-once, delay-own}
+use Rattle.mq_core.proofs.Delay.DelayLaws.{delay-inside, delay-laws, delay-own}
 use Rattle.mq_core.proofs.Loss.LossLimits.{loss-limits}
 use Rattle.mq_core.proofs.Loss.LossRecurrence.{loss-recurrence}
-use Rattle.mq_core.proofs.Loss.LossLaws.{loss-inside, loss-laws, loss-once, loss-own}
+use Rattle.mq_core.proofs.Loss.LossLaws.{loss-inside, loss-laws, loss-own}
 use Rattle.mq_core.proofs.Tandem.TandemLimits.{tandem-limits}
 use Rattle.mq_core.proofs.Tandem.TandemRecurrence.{tandem-recurrence}
-use Rattle.mq_core.proofs.Tandem.TandemLaws.{tandem-inside, tandem-laws, tandem-once, tandem-own}
+use Rattle.mq_core.proofs.Tandem.TandemLaws.{tandem-inside, tandem-laws, tandem-own}
 use Rattle.mq_core.proofs.ForkJoin.ForkJoinLimits.{forkjoin-limits}
 use Rattle.mq_core.proofs.ForkJoin.ForkJoinRecurrence.{forkjoin-recurrence}
-use Rattle.mq_core.proofs.ForkJoin.ForkJoinLaws.{forkjoin-inside, forkjoin-laws, forkjoin-once, forkjoin-own}
+use Rattle.mq_core.proofs.ForkJoin.ForkJoinLaws.{forkjoin-inside, forkjoin-laws, forkjoin-own}
+use Rattle.mq_core.proofs.Fork.ForkLaws.{fork-inside, fork-laws, fork-own}
+use Rattle.mq_core.proofs.Fork.ForkLimits.{fork-limits}
+use Rattle.mq_core.proofs.Join.JoinExits.{join-exits}
+use Rattle.mq_core.proofs.Join.JoinLaws.{join-inside, join-laws}
+use Rattle.mq_core.proofs.Join.JoinLimits.{join-limits}
+use Rattle.mq_core.proofs.Events.Exits.{until-own}
 
 -- what is said of a node between two events
 abbrev pub inside_of : Rows → ℕ → Kind → Inside
@@ -46,6 +54,8 @@ inside_of rows ports (Loss places demand) = loss-inside rows places demand
 inside_of rows ports (Tandem stages) = tandem-inside rows stages
 inside_of rows ports (ForkJoin branches) = forkjoin-inside rows branches
 inside_of rows ports (Split route) = split-inside rows route
+inside_of rows ports (Fork outputs) = fork-inside outputs
+inside_of rows ports Join = join-inside ports
 
 -- the laws of its handler
 pub laws_of : (rows : Rows) (ports : ℕ) (kind : Kind) → KindLaws rows ports (behaviour_of kind) (inside_of rows ports kind)
@@ -56,36 +66,32 @@ laws_of rows ports (Loss places demand) = loss-laws rows ports places demand
 laws_of rows ports (Tandem stages) = tandem-laws rows ports stages
 laws_of rows ports (ForkJoin branches) = forkjoin-laws rows ports branches
 laws_of rows ports (Split route) = split-laws rows ports route
+laws_of rows ports (Fork outputs) = fork-laws rows ports outputs
+laws_of rows ports Join = join-laws rows ports
 
--- each kind lets each visit out once
-pub once_of : (rows : Rows) (ports : ℕ) (kind : Kind) → OnceLaws rows ports (behaviour_of kind) (inside_of rows ports kind)
-once_of rows ports Source = source-once rows ports
-once_of rows ports (Server demand) = server-once rows ports demand
-once_of rows ports (Delay demand) = delay-once rows ports demand
-once_of rows ports (Loss places demand) = loss-once rows ports places demand
-once_of rows ports (Tandem stages) = tandem-once rows ports stages
-once_of rows ports (ForkJoin branches) = forkjoin-once rows ports branches
-once_of rows ports (Split route) = split-once rows ports route
+-- where each visit leaves once, it does so with its own emission
+pub own_of : (rows : Rows) (ports : ℕ) (kind : Kind) → sends_once kind ≡ true → OwnLaws rows ports (behaviour_of kind) (inside_of rows ports kind)
+own_of rows ports Source once = source-own rows ports
+own_of rows ports (Server demand) once = server-own rows ports demand
+own_of rows ports (Delay demand) once = delay-own rows ports demand
+own_of rows ports (Loss places demand) once = loss-own rows ports places demand
+own_of rows ports (Tandem stages) once = tandem-own rows ports stages
+own_of rows ports (ForkJoin branches) once = forkjoin-own rows ports branches
+own_of rows ports (Split route) once = split-own rows ports route
+own_of rows ports (Fork outputs) once = absurd cc
+own_of rows ports Join once = absurd cc
 
--- each visit leaves with its own emission
-pub own_of : (rows : Rows) (ports : ℕ) (kind : Kind) → OwnLaws rows ports (behaviour_of kind) (inside_of rows ports kind)
-own_of rows ports Source = source-own rows ports
-own_of rows ports (Server demand) = server-own rows ports demand
-own_of rows ports (Delay demand) = delay-own rows ports demand
-own_of rows ports (Loss places demand) = loss-own rows ports places demand
-own_of rows ports (Tandem stages) = tandem-own rows ports stages
-own_of rows ports (ForkJoin branches) = forkjoin-own rows ports branches
-own_of rows ports (Split route) = split-own rows ports route
-
--- the laws of its recurrence
-pub recurrence_of : (rows : Rows) (ports : ℕ) (kind : Kind) → RecurrenceLaws rows ports (behaviour_of kind)
-recurrence_of rows ports Source = source-recurrence rows ports
-recurrence_of rows ports (Server demand) = server-recurrence rows ports demand
-recurrence_of rows ports (Delay demand) = delay-recurrence rows ports demand
-recurrence_of rows ports (Loss places demand) = loss-recurrence rows ports places demand
-recurrence_of rows ports (Tandem stages) = tandem-recurrence rows ports stages
-recurrence_of rows ports (ForkJoin branches) = forkjoin-recurrence rows ports branches
-recurrence_of rows ports (Split route) = split-recurrence rows ports route
+-- and the laws of its recurrence
+pub recurrence_of : (rows : Rows) (ports : ℕ) (kind : Kind) → sends_once kind ≡ true → RecurrenceLaws rows ports (behaviour_of kind)
+recurrence_of rows ports Source once = source-recurrence rows ports
+recurrence_of rows ports (Server demand) once = server-recurrence rows ports demand
+recurrence_of rows ports (Delay demand) once = delay-recurrence rows ports demand
+recurrence_of rows ports (Loss places demand) once = loss-recurrence rows ports places demand
+recurrence_of rows ports (Tandem stages) once = tandem-recurrence rows ports stages
+recurrence_of rows ports (ForkJoin branches) once = forkjoin-recurrence rows ports branches
+recurrence_of rows ports (Split route) once = split-recurrence rows ports route
+recurrence_of rows ports (Fork outputs) once = absurd cc
+recurrence_of rows ports Join once = absurd cc
 
 -- how its visits leave, and what others find of them
 pub exits_of : (rows : Rows) (ports : ℕ) (kind : Kind) → ExitLaws rows ports (behaviour_of kind) (inside_of rows ports kind)
@@ -96,6 +102,8 @@ exits_of rows ports (Loss places demand) = exits-own rows ports (loss places dem
 exits_of rows ports (Tandem stages) = exits-own rows ports (tandem stages) (tandem-inside rows stages) (tandem-own rows ports stages) (tandem-recurrence rows ports stages).until
 exits_of rows ports (ForkJoin branches) = exits-own rows ports (forkjoin branches) (forkjoin-inside rows branches) (forkjoin-own rows ports branches) (forkjoin-recurrence rows ports branches).until
 exits_of rows ports (Split route) = exits-own rows ports (split route) (split-inside rows route) (split-own rows ports route) (split-recurrence rows ports route).until
+exits_of rows ports (Fork outputs) = exits-own rows ports (fork outputs) (fork-inside outputs) (fork-own rows ports outputs) (λ time position o. until-own time position o)
+exits_of rows ports Join = join-exits rows ports
 
 -- the laws of its ranges
 pub limits_of : (kind : Kind) → LimitLaws (behaviour_of kind)
@@ -106,3 +114,5 @@ limits_of (Loss places demand) = loss-limits places demand
 limits_of (Tandem stages) = tandem-limits stages
 limits_of (ForkJoin branches) = forkjoin-limits branches
 limits_of (Split route) = split-limits route
+limits_of (Fork outputs) = fork-limits outputs
+limits_of Join = join-limits

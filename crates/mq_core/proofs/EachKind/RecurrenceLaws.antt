@@ -4,7 +4,6 @@ use Rattle.std.proofs.Common.{◌≡◌, ℕ, ◌+◌, ◌*◌, ◌^◌, ◌≤�
 use Rattle.std.specs.List.{AllByRecursion as Each}
 use Rattle.mq_core.specs.Behaviour.{Behaviour}
 use Rattle.mq_core.specs.SequenceLaws.{FatesInTime, arrives_of}
-use Rattle.mq_core.specs.Sequences.{time_of_fate}
 use Rattle.mq_core.specs.Laws.{Rises, in_order_of, stream_of}
 use Rattle.mq_core.specs.EmissionOrder.EmissionOrder.{Mixed}
 use Rattle.mq_core.specs.Machine.{Visit, Emission}
@@ -28,8 +27,6 @@ pub record RecurrenceLaws (rows : Rows) (ports : ℕ) (b : Behaviour) : Type 0 w
   pub goes : (visits : List Visit) → map (λ (m : Emission). m.out) (b.flow rows ports visits) ≡ b.outs rows (came_of ports visits)
   -- where only outputs mix, each output leaves by position
   pub stands : b.order ≡ Mixed → (visits : List Visit) → Rises (λ a b. a ≤ b) (arrives_of visits) → (out : ℕ) → in_order_of (λ (m : Emission). m.time) (stream_of out (b.flow rows ports visits)) ≡ stream_of out (b.flow rows ports visits)
-  -- no emission says a later time than its own
-  pub prompt : (now : ℕ) (m : Emission) → m.time ≤ now → time_of_fate (b.fate m) ≤ now
   -- no job departs before it came
   pub in_time : (came : Came) → length came.job ≡ length came.arrive → FatesInTime came.arrive (b.fates rows came)
   -- none departs earlier than after its bare time

@@ -1,10 +1,10 @@
 -- That the clock of a run ends at the latest departure.
-use Rattle.std.proofs.Common.{List, None, Option, Some, [], ap, arith, eq-eqb, inl, inr, length, length-append, refl, subst, suc, sym, zero, ℕ, ◌++◌, ◌<◌, ◌∙◌, ◌∷◌, ◌≡◌, ◌⊎◌}
+use Rattle.std.proofs.Common.{List, None, Option, Some, [], ap, arith, eq-eqb, false, inl, inr, length, length-append, refl, subst, suc, sym, zero, ℕ, ◌++◌, ◌<◌, ◌∙◌, ◌∷◌, ◌≡◌, ◌⊎◌}
 use Rattle.std.specs.List.{AllByRecursion as Each}
-use Rattle.std.specs.Prelude.{filter, slice_get}
+use Rattle.std.specs.Prelude.{IfSome, filter, slice_get}
 use Rattle.mq_core.specs.Event.{Event, earliest}
 use Rattle.mq_core.specs.Event.Event.{Arrive, Finish}
-use Rattle.mq_core.specs.Fates.{ComesAt, LeavesAt, SpanIsLatest}
+use Rattle.mq_core.specs.Fates.{ComesAt, LeavesAt, SpanIsLatest, keeps_visits}
 use Rattle.mq_core.proofs.Events.Tables.{IsFeedForward, IsPunctual}
 use Rattle.mq_core.specs.Laws.{is_finish_at}
 use Rattle.mq_core.specs.Local.{Local}
@@ -31,20 +31,20 @@ use Rattle.mq_core.proofs.Events.Steps.{after-none, after-some, after-zero, stat
 use Rattle.mq_core.proofs.Networks.Whole.{starts-begin}
 use Rattle.mq_core.proofs.Networks.Wired.{feeds_forward}
 
--- some node holds a job
-abbrev IsInside : Table Local → State Local → Type 0
-IsInside t s = (v : ℕ) × (0 < t.jobs v (s.stations v).visits (s.stations v).local)
+-- some node holds a job, of those where none stays for good
+abbrev IsInside : Table Local → (ℕ → Type 0) → State Local → Type 0
+IsInside t Leave s = (v : ℕ) × (Leave v × (0 < t.jobs v (s.stations v).visits (s.stations v).local))
 
-abbrev Reached : Table Local → State Local → Type 0
-Reached t s = (s.clock ≡ 0) ⊎ (ComesAt s s.clock ⊎ (LeavesAt s s.clock ⊎ IsInside t s))
+abbrev Reached : Table Local → (ℕ → Type 0) → State Local → Type 0
+Reached t Leave s = (s.clock ≡ 0) ⊎ (ComesAt s s.clock ⊎ (LeavesAt s s.clock ⊎ IsInside t Leave s))
 
--- a finish lets something out, or leaves a job in the node
-abbrev Shows : Table Local → ℕ → Station Local → Event → Type 0
-Shows t v s e = IsFilled (emissions_at t s e) ⊎ (0 < t.jobs v s.visits (reaction t s e).local)
+-- a finish lets something out, or leaves a job in a node where none stays for good
+abbrev Shows : Table Local → (ℕ → Type 0) → ℕ → Station Local → Event → Type 0
+Shows t Leave v s e = IsFilled (emissions_at t s e) ⊎ (Leave v × (0 < t.jobs v s.visits (reaction t s e).local))
 
-module _ (t : Table Local) (P : Fact Local) (keeps : Keeps t P) (emits : (v server position : ℕ) (s : Station Local) (fs rest : List Event) (now : ℕ) → P v s fs now → earliest t.rank fs ≡ Some (Finish now v server position, rest) → Shows t v s (Finish now v server position)) where
+module _ (t : Table Local) (Leave : ℕ → Type 0) (P : Fact Local) (keeps : Keeps t P) (emits : (v server position : ℕ) (s : Station Local) (fs rest : List Event) (now : ℕ) → P v s fs now → earliest t.rank fs ≡ Some (Finish now v server position, rest) → Shows t Leave v s (Finish now v server position)) where
   -- an event reaches its time, or leaves a job in its node
-  event-reaches : (s : State Local) (e : Event) (rest : List Event) → earliest t.rank s.pending ≡ Some (e, rest) → Holds t P s → Reached t (happens t s (e, rest))
+  event-reaches : (s : State Local) (e : Event) (rest : List Event) → earliest t.rank s.pending ≡ Some (e, rest) → Holds t P s → Reached t Leave (happens t s (e, rest))
   event-reaches s (Arrive now n port job) rest q h =
       let own = station-own t s (Arrive now n port job, rest) n (eq-eqb n n refl) in
       inr (inl (record {
@@ -58,7 +58,7 @@ module _ (t : Table Local) (P : Fact Local) (keeps : Keeps t P) (emits : (v serv
       let first = earliest-filter t.rank (is_finish_at n) s.pending (Finish now n server position, rest) q (eq-eqb n n refl) in
       go own (emits n server position (until t s now n) (filter (is_finish_at n) s.pending) (filter (is_finish_at n) rest) now (holds-until t P keeps s (Finish now n server position, rest) q h n) first)
     where
-      go : (happens t s (Finish now n server position, rest)).stations n ≡ acted t (until t s now n) (Finish now n server position) → Shows t n (until t s now n) (Finish now n server position) → Reached t (happens t s (Finish now n server position, rest))
+      go : (happens t s (Finish now n server position, rest)).stations n ≡ acted t (until t s now n) (Finish now n server position) → Shows t Leave n (until t s now n) (Finish now n server position) → Reached t Leave (happens t s (Finish now n server position, rest))
       go own (inl some) =
           inr (inr (inl (record {
             node = n;
@@ -68,18 +68,18 @@ module _ (t : Table Local) (P : Fact Local) (keeps : Keeps t P) (emits : (v serv
             inside = ap (λ (z : Station Local). z.emitted) own ∙ ap (λ l. (s.stations n).emitted ++ l) some.2;
             at = (subst (Each (λ (m : Emission). m.time ≡ now)) some.2 (emissions-now t (until t s now n) (Finish now n server position))).0;
           })))
-      go own (inr more) = inr (inr (inr (n, subst (λ (z : Station Local). 0 < t.jobs n z.visits z.local) (sym own) more)))
+      go own (inr more) = inr (inr (inr (n, (more.0, subst (λ (z : Station Local). 0 < t.jobs n z.visits z.local) (sym own) more.1))))
 
-  reached-after : IsPunctual t → IsFeedForward t → (n : ℕ) (s : State Local) → Holds t P s → Reached t s → Reached t (after n t s)
+  reached-after : IsPunctual t → IsFeedForward t → (n : ℕ) (s : State Local) → Holds t P s → Reached t Leave s → Reached t Leave (after n t s)
   reached-after on_time forward zero s h r = rw (after-zero t s) r
   reached-after on_time forward (suc n) s h r = go (earliest t.rank s.pending) refl (reached-after on_time forward n)
     where
-      go : (o : Option (Event × List Event)) → earliest t.rank s.pending ≡ o → ((s' : State Local) → Holds t P s' → Reached t s' → Reached t (after n t s')) → Reached t (after (suc n) t s)
+      go : (o : Option (Event × List Event)) → earliest t.rank s.pending ≡ o → ((s' : State Local) → Holds t P s' → Reached t Leave s' → Reached t Leave (after n t s')) → Reached t Leave (after (suc n) t s)
       go None q ih = rw (after-none (suc n) t s q) r
       go (Some p) q ih = rw (after-some n t s p q) (ih (happens t s p) (holds-happens t P keeps on_time forward s p q h) (event-reaches s p.0 p.1 q h))
 
 node-emits : (rows : Rows) (o : Option Node) (rank : ℕ → ℕ) (v server position : ℕ) (s : Station Local) (fs rest : List Event) (now : ℕ) → node_fact rows o v s fs now → earliest rank fs ≡ Some (Finish now v server position, rest) →
-    IsFilled (emissions_of now s.visits (node_on rows o s.visits s.local now (Finish now v server position)).releases) ⊎ (0 < node_jobs o s.visits (node_on rows o s.visits s.local now (Finish now v server position)).local)
+    IsFilled (emissions_of now s.visits (node_on rows o s.visits s.local now (Finish now v server position)).releases) ⊎ (IfSome o (λ node. keeps_visits node.kind ≡ false) × (0 < node_jobs o s.visits (node_on rows o s.visits s.local now (Finish now v server position)).local))
 unfolding earliest
 node-emits rows None rank v server position s fs rest now h first = let c = subst (λ l. earliest rank l ≡ Some (Finish now v server position, rest)) h first in absurd cc
 node-emits rows (Some node) rank v server position s fs rest now h first = (laws_of rows (length node.inputs) node.kind).shows rank v server position s fs rest now first h
@@ -90,19 +90,23 @@ span-is_latest plan rows read =
     record {
       came = λ v l. (areas-by plan rows v l).came;
       left = λ v l. (past v).left;
-      reached = over (reached-after (standard plan rows) (λ u. node_fact rows (slice_get plan.net.nodes u) u) (standard-keeps plan rows (reader_from 0 plan.net.nodes) refl)
+      reached = over (reached-after (standard plan rows) leave (λ u. node_fact rows (slice_get plan.net.nodes u) u) (standard-keeps plan rows (reader_from 0 plan.net.nodes) refl)
           (λ v server position s fs rest now h first. node-emits rows (slice_get plan.net.nodes v) _ v server position s fs rest now h first)
           (standard-on_time plan rows) (feeds_forward plan (standard plan rows) refl refl) (run_length plan.net.nodes rows) (opened (standard plan rows) (starts rows))
           (holds-start (standard plan rows) (λ u. node_fact rows (slice_get plan.net.nodes u) u) (standard-keeps plan rows (reader_from 0 plan.net.nodes) refl) (starts rows) (starts-begin (standard plan rows) 0 rows.source rows.time))
           (inl refl));
     }
   where
-    -- at the end no node holds a job
-    over : Reached (standard plan rows) (run_of plan rows) → ((run_of plan rows).clock ≡ 0) ⊎ (ComesAt (run_of plan rows) (run_of plan rows).clock ⊎ LeavesAt (run_of plan rows) (run_of plan rows).clock)
+    -- a node where no visit stays for good
+    leave : ℕ → Type 0
+    leave v = IfSome (slice_get plan.net.nodes v) (λ node. keeps_visits node.kind ≡ false)
+
+    -- at the end no such node holds a job
+    over : Reached (standard plan rows) leave (run_of plan rows) → ((run_of plan rows).clock ≡ 0) ⊎ (ComesAt (run_of plan rows) (run_of plan rows).clock ⊎ LeavesAt (run_of plan rows) (run_of plan rows).clock)
     over (inl h) = inl h
     over (inr (inl h)) = inr (inl h)
     over (inr (inr (inl h))) = inr (inr h)
-    over (inr (inr (inr h))) = absurd (let some = h.1 in let none = none-held plan rows read h.0 in omega arith)
+    over (inr (inr (inr h))) = absurd (let some = h.1.1 in let none = none-held plan rows read h.0 h.1.0 in omega arith)
 
     past : (v : ℕ) → IsPast ((run_of plan rows).stations v) (run_of plan rows).clock
     past v = (kept (standard plan rows) (KnownAt plan rows) (known-keeps plan rows) (standard-on_time plan rows) (feeds_forward plan (standard plan rows) refl refl) (starts rows) (starts-begin (standard plan rows) 0 rows.source rows.time) (run_length plan.net.nodes rows) v).1

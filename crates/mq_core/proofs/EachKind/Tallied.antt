@@ -1,6 +1,6 @@
 -- That a node holds the visits that have not left.
 -- The areas of nodes and what visits find, from how visits leave, for all kinds.
-use Rattle.std.proofs.Common.{List, None, Option, Some, [], length, ap, refl, ℕ, ◌∙◌, ◌++◌, ◌<◌, ◌∷◌, ◌≡◌, ◌-◌, Bool, false}
+use Rattle.std.proofs.Common.{IfSome, List, None, Option, Some, [], length, ap, max, refl, subst, ℕ, ◌≤◌, ◌∙◌, ◌++◌, ◌<◌, ◌∷◌, ◌≡◌, ◌-◌, Bool, false}
 use Rattle.std.specs.Prelude.{slice_get}
 use Rattle.mq_core.specs.Event.{Event, earliest}
 use Rattle.mq_core.specs.Event.Event.{Arrive, Finish}
@@ -18,7 +18,9 @@ use Rattle.mq_core.specs.declared.model.Node.{Node}
 use Rattle.mq_core.specs.declared.model.Plan.{Plan}
 use Rattle.mq_core.specs.declared.model.Rows.{Rows}
 use Rattle.mq_core.proofs.EachKind.Ends.{inside-some, some-inside}
-use Rattle.mq_core.proofs.EachKind.Facts.{node_fact, standard-keeps}
+use Rattle.std.proofs.lemmas.Option.{slice_get_within}
+use Rattle.mq_core.proofs.EachKind.StationLaws.{HasLeft}
+use Rattle.mq_core.proofs.EachKind.Facts.{node_fact, some-port, standard-keeps}
 use Rattle.mq_core.proofs.EachKind.LawTable.{laws_of, exits_of}
 use Rattle.mq_core.proofs.Events.Areas.{sum-same}
 use Rattle.mq_core.proofs.Events.Exits.{ExitsInTime, FoundsBy, keeps-founds_by}
@@ -56,37 +58,37 @@ exit-waits : (rows : Rows) (o : Option Node) (s : Station Local) (area busy k : 
 exit-waits rows None s area busy k = refl
 exit-waits rows (Some node) s area busy k = (exits_of rows (length node.inputs) node.kind).waits s area busy k
 
-module _ (rows : Rows) (v port peak : ℕ) (s : Station Local) (fs : List Event) (now : ℕ) (x : Visit) (at : x.arrive ≡ now) (past : IsPast s now) where
+module _ (rows : Rows) (v port : ℕ) (s : Station Local) (fs : List Event) (now : ℕ) (x : Visit) (at : x.arrive ≡ now) (by : x.port ≡ port) (past : IsPast s now) where
   abbrev visited : Option Node → Station Local
-  visited o = after_reaction peak s (s.visits ++ x ∷ []) now (node_on rows o (s.visits ++ x ∷ []) s.local now (Arrive now v port x.job))
+  visited o = after_reaction s (s.visits ++ x ∷ []) now (node_on rows o (s.visits ++ x ∷ []) s.local now (Arrive now v port x.job))
 
-  exit-arrives : (o : Option Node) → (o ≡ None → ⊥) → node_fact rows o v s fs now → (k : ℕ) → k < length s.visits → StaysOrLeaves now (time_of_exit (node_exit o s k)) (time_of_exit (node_exit o (visited o) k))
-  exit-arrives None there h k l = absurd (there refl)
-  exit-arrives (Some node) there h k l = (exits_of rows (length node.inputs) node.kind).arrives peak v port s fs now x at h past k l
+  exit-arrives : (o : Option Node) → (o ≡ None → ⊥) → IfSome o (λ node. port < max 1 (length node.inputs)) → node_fact rows o v s fs now → (k : ℕ) → k < length s.visits → StaysOrLeaves now (time_of_exit (node_exit o s k)) (time_of_exit (node_exit o (visited o) k))
+  exit-arrives None there fit h k l = absurd (there refl)
+  exit-arrives (Some node) there fit h k l = (exits_of rows (length node.inputs) node.kind).arrives v port s fs now x at by fit h past k l
 
-  exit-comes : (o : Option Node) → (o ≡ None → ⊥) → node_fact rows o v s fs now → StaysOrLeaves now None (time_of_exit (node_exit o (visited o) (length s.visits)))
-  exit-comes None there h = absurd (there refl)
-  exit-comes (Some node) there h = (exits_of rows (length node.inputs) node.kind).comes peak v port s fs now x at h past
+  exit-comes : (o : Option Node) → (o ≡ None → ⊥) → IfSome o (λ node. port < max 1 (length node.inputs)) → node_fact rows o v s fs now → StaysOrLeaves now None (time_of_exit (node_exit o (visited o) (length s.visits)))
+  exit-comes None there fit h = absurd (there refl)
+  exit-comes (Some node) there fit h = (exits_of rows (length node.inputs) node.kind).comes v port s fs now x at by fit h past
 
-  exit-finds : (o : Option Node) → (o ≡ None → ⊥) → node_fact rows o v s fs now → (k : ℕ) → k < length s.visits → one_if_there (node_there o) now (length s.visits) (node_exit o (visited o) k) ≡ one_if_none (node_exit o s k)
-  exit-finds None there h k l = absurd (there refl)
-  exit-finds (Some node) there h k l = (exits_of rows (length node.inputs) node.kind).finds peak v port s fs now x at h past k l
+  exit-finds : (o : Option Node) → (o ≡ None → ⊥) → IfSome o (λ node. port < max 1 (length node.inputs)) → node_fact rows o v s fs now → (k : ℕ) → k < length s.visits → one_if_there (node_there o) now (length s.visits) (node_exit o (visited o) k) ≡ one_if_none (node_exit o s k)
+  exit-finds None there fit h k l = absurd (there refl)
+  exit-finds (Some node) there fit h k l = (exits_of rows (length node.inputs) node.kind).finds v port s fs now x at by fit h past k l
 
-  exit-keeps_arrives : (o : Option Node) → (o ≡ None → ⊥) → node_fact rows o v s fs now → (k p : ℕ) → k < p → p < length s.visits → one_if_there (node_there o) (arrival_or 0 (slice_get s.visits p)) p (node_exit o (visited o) k) ≡ one_if_there (node_there o) (arrival_or 0 (slice_get s.visits p)) p (node_exit o s k)
-  exit-keeps_arrives None there h k p l u = absurd (there refl)
-  exit-keeps_arrives (Some node) there h k p l u = (exits_of rows (length node.inputs) node.kind).keeps_arrives peak v port s fs now x at h past k p l u
+  exit-keeps_arrives : (o : Option Node) → (o ≡ None → ⊥) → IfSome o (λ node. port < max 1 (length node.inputs)) → node_fact rows o v s fs now → (k p : ℕ) → k < p → p < length s.visits → one_if_there (node_there o) (arrival_or 0 (slice_get s.visits p)) p (node_exit o (visited o) k) ≡ one_if_there (node_there o) (arrival_or 0 (slice_get s.visits p)) p (node_exit o s k)
+  exit-keeps_arrives None there fit h k p l u = absurd (there refl)
+  exit-keeps_arrives (Some node) there fit h k p l u = (exits_of rows (length node.inputs) node.kind).keeps_arrives v port s fs now x at by fit h past k p l u
 
-module _ (rows : Rows) (rank : ℕ → ℕ) (v server position peak : ℕ) (s : Station Local) (fs rest : List Event) (now : ℕ) (first : earliest rank fs ≡ Some (Finish now v server position, rest)) (past : IsPast s now) where
+module _ (rows : Rows) (rank : ℕ → ℕ) (v server position : ℕ) (s : Station Local) (fs rest : List Event) (now : ℕ) (first : earliest rank fs ≡ Some (Finish now v server position, rest)) (past : IsPast s now) where
   abbrev finished : Option Node → Station Local
-  finished o = after_reaction peak s s.visits now (node_on rows o s.visits s.local now (Finish now v server position))
+  finished o = after_reaction s s.visits now (node_on rows o s.visits s.local now (Finish now v server position))
 
   exit-ends : (o : Option Node) → (o ≡ None → ⊥) → node_fact rows o v s fs now → (k : ℕ) → k < length s.visits → StaysOrLeaves now (time_of_exit (node_exit o s k)) (time_of_exit (node_exit o (finished o) k))
   exit-ends None there h k l = absurd (there refl)
-  exit-ends (Some node) there h k l = (exits_of rows (length node.inputs) node.kind).ends peak rank v server position s fs rest now first h past k l
+  exit-ends (Some node) there h k l = (exits_of rows (length node.inputs) node.kind).ends rank v server position s fs rest now first h past k l
 
   exit-keeps_ends : (o : Option Node) → (o ≡ None → ⊥) → node_fact rows o v s fs now → (k p : ℕ) → k < p → p < length s.visits → one_if_there (node_there o) (arrival_or 0 (slice_get s.visits p)) p (node_exit o (finished o) k) ≡ one_if_there (node_there o) (arrival_or 0 (slice_get s.visits p)) p (node_exit o s k)
   exit-keeps_ends None there h k p l u = absurd (there refl)
-  exit-keeps_ends (Some node) there h k p l u = (exits_of rows (length node.inputs) node.kind).keeps_ends peak rank v server position s fs rest now first h past k p l u
+  exit-keeps_ends (Some node) there h k p l u = (exits_of rows (length node.inputs) node.kind).keeps_ends rank v server position s fs rest now first h past k p l u
 
 module _ (plan : Plan) (rows : Rows) where
   abbrev exit_at : ℕ → Station Local → ℕ → Option Emission
@@ -100,9 +102,9 @@ module _ (plan : Plan) (rows : Rows) where
   leaves-now =
       record {
         waits = λ v elapsed s k. ap time_of_exit (exit-waits rows (slice_get plan.net.nodes v) s _ _ k);
-        arrives = λ v port job s fs now q h k l. exit-arrives rows v port _ s fs now (come v s port job now) refl h.1 (slice_get plan.net.nodes v) (inside-some plan.net.nodes v q) h.0 k l;
-        comes = λ v port job s fs now q h. exit-comes rows v port _ s fs now (come v s port job now) refl h.1 (slice_get plan.net.nodes v) (inside-some plan.net.nodes v q) h.0;
-        ends = λ v server position s fs rest now q h first k l. exit-ends rows _ v server position _ s fs rest now first h.1 (slice_get plan.net.nodes v) (inside-some plan.net.nodes v q) h.0 k l;
+        arrives = λ v port job s fs now q fit h k l. exit-arrives rows v port s fs now (come v s port job now) refl refl h.1 (slice_get plan.net.nodes v) (inside-some plan.net.nodes v q) (some-port (slice_get plan.net.nodes v) port fit) h.0 k l;
+        comes = λ v port job s fs now q fit h. exit-comes rows v port s fs now (come v s port job now) refl refl h.1 (slice_get plan.net.nodes v) (inside-some plan.net.nodes v q) (some-port (slice_get plan.net.nodes v) port fit) h.0;
+        ends = λ v server position s fs rest now q h first k l. exit-ends rows _ v server position s fs rest now first h.1 (slice_get plan.net.nodes v) (inside-some plan.net.nodes v q) h.0 k l;
         number = λ v s fs now q h. node-number rows (slice_get plan.net.nodes v) v s fs now (inside-some plan.net.nodes v q) h.0 ∙ sum-same (length s.visits) _ _ (λ k l. alike (exit_at v s k));
       }
     where
@@ -115,9 +117,9 @@ module _ (plan : Plan) (rows : Rows) where
   exits-in_time =
       record {
         waits = λ v elapsed s k. exit-waits rows (slice_get plan.net.nodes v) s _ _ k;
-        finds = λ v port job s fs now q h k l. exit-finds rows v port _ s fs now (come v s port job now) refl h.1 (slice_get plan.net.nodes v) (inside-some plan.net.nodes v q) h.0 k l;
-        arrives = λ v port job s fs now q h k p l u. exit-keeps_arrives rows v port _ s fs now (come v s port job now) refl h.1 (slice_get plan.net.nodes v) (inside-some plan.net.nodes v q) h.0 k p l u;
-        ends = λ v server position s fs rest now q h first k p l u. exit-keeps_ends rows _ v server position _ s fs rest now first h.1 (slice_get plan.net.nodes v) (inside-some plan.net.nodes v q) h.0 k p l u;
+        finds = λ v port job s fs now q fit h k l. exit-finds rows v port s fs now (come v s port job now) refl refl h.1 (slice_get plan.net.nodes v) (inside-some plan.net.nodes v q) (some-port (slice_get plan.net.nodes v) port fit) h.0 k l;
+        arrives = λ v port job s fs now q fit h k p l u. exit-keeps_arrives rows v port s fs now (come v s port job now) refl refl h.1 (slice_get plan.net.nodes v) (inside-some plan.net.nodes v q) (some-port (slice_get plan.net.nodes v) port fit) h.0 k p l u;
+        ends = λ v server position s fs rest now q h first k p l u. exit-keeps_ends rows _ v server position s fs rest now first h.1 (slice_get plan.net.nodes v) (inside-some plan.net.nodes v q) h.0 k p l u;
         number = λ v s fs now q h. node-number rows (slice_get plan.net.nodes v) v s fs now (inside-some plan.net.nodes v q) h.0;
       }
 
@@ -151,3 +153,10 @@ founds-are-counts plan rows read v node here p l =
   where
     end : Station Local
     end = (run_of plan rows).stations v
+
+-- who left a node did so no earlier than it came
+pub nodes-left : (plan : Plan) (rows : Rows) (v : ℕ) (node : Node) → slice_get plan.net.nodes v ≡ Some node → HasLeft (behaviour_of node.kind) ((run_of plan rows).stations v)
+nodes-left plan rows v node here p x m at leaves =
+    let s = (run_of plan rows).stations v in
+    let left : time_of_exit (node_exit (slice_get plan.net.nodes v) s p) ≡ Some m.time = ap (λ o. time_of_exit (node_exit o s p)) here ∙ ap time_of_exit leaves in
+    subst (λ o. arrival_or 0 o ≤ m.time) at ((areas-by plan rows v (some-inside plan.net.nodes v node here)).late p m.time (slice_get_within s.visits p x at) left)

@@ -6,7 +6,7 @@ use Rattle.mq_core.specs.Event.Event.{Arrive, Finish}
 use Rattle.mq_core.specs.Machine.{Visit, Emission, Table, Station, acted, aged}
 use Rattle.mq_core.specs.Tallies.{arrival_or, found_or, one_if_none, sum_below, one_if_there}
 use Rattle.mq_core.proofs.Events.Areas.{get-front, get-last, sum-same}
-use Rattle.mq_core.proofs.Events.Kept.{Fact, Keeps}
+use Rattle.mq_core.proofs.Events.Kept.{Fact, Fits, Keeps}
 use Rattle.mq_core.proofs.Events.Later.{one_if_later}
 
 -- the emission with which the visit at a position of a node leaves, once it has
@@ -22,9 +22,9 @@ pub record ExitsInTime {L : Type 0} (t : Table L) (P : Fact L) (Q : ℕ → Type
   -- nobody leaves while time goes by
   pub waits : (v elapsed : ℕ) (s : Station L) (k : ℕ) → exit v (aged t elapsed v s) k ≡ exit v s k
   -- a visit finds those that haven't left
-  pub finds : (v port job : ℕ) (s : Station L) (fs : List Event) (now : ℕ) → Q v → P v s fs now → (k : ℕ) → k < length s.visits → one_if_there (there v) now (length s.visits) (exit v (acted t s (Arrive now v port job)) k) ≡ one_if_none (exit v s k)
+  pub finds : (v port job : ℕ) (s : Station L) (fs : List Event) (now : ℕ) → Q v → Fits t v port → P v s fs now → (k : ℕ) → k < length s.visits → one_if_there (there v) now (length s.visits) (exit v (acted t s (Arrive now v port job)) k) ≡ one_if_none (exit v s k)
   -- at a visit nothing changes in what earlier ones found
-  pub arrives : (v port job : ℕ) (s : Station L) (fs : List Event) (now : ℕ) → Q v → P v s fs now → (k p : ℕ) → k < p → p < length s.visits → one_if_there (there v) (arrival_or 0 (slice_get s.visits p)) p (exit v (acted t s (Arrive now v port job)) k) ≡ one_if_there (there v) (arrival_or 0 (slice_get s.visits p)) p (exit v s k)
+  pub arrives : (v port job : ℕ) (s : Station L) (fs : List Event) (now : ℕ) → Q v → Fits t v port → P v s fs now → (k p : ℕ) → k < p → p < length s.visits → one_if_there (there v) (arrival_or 0 (slice_get s.visits p)) p (exit v (acted t s (Arrive now v port job)) k) ≡ one_if_there (there v) (arrival_or 0 (slice_get s.visits p)) p (exit v s k)
   -- nor at a finish
   pub ends : (v server position : ℕ) (s : Station L) (fs rest : List Event) (now : ℕ) → Q v → P v s fs now → earliest t.rank fs ≡ Some (Finish now v server position, rest) → (k p : ℕ) → k < p → p < length s.visits → one_if_there (there v) (arrival_or 0 (slice_get s.visits p)) p (exit v (acted t s (Finish now v server position)) k) ≡ one_if_there (there v) (arrival_or 0 (slice_get s.visits p)) p (exit v s k)
   -- the node holds those that haven't left
@@ -42,19 +42,19 @@ keeps-founds_by {L} t P Q exit there keeps leaves =
       opens = λ v. (keeps.opens v, λ _. record { each = λ p l. absurd (omega arith) });
       waits = λ v s fs now later h l f. (keeps.waits v s fs now later h.0 l f, λ q. record { each = λ p u. (h.1 q).each p u ∙ sum-same p _ _ (λ k w. ap (one_if_there (there v) (arrival_or 0 (slice_get s.visits p)) p) (sym (leaves.waits v (later - now) s k))) });
       fits = keeps.fits;
-      arrives = λ v port job s fs now h f fit. (keeps.arrives v port job s fs now h.0 f fit, λ q. record { each = λ p l. came v port job s fs now q h.0 (h.1 q) p (eqb p (length s.visits)) refl l });
+      arrives = λ v port job s fs now h f fit. (keeps.arrives v port job s fs now h.0 f fit, λ q. record { each = λ p l. came v port job s fs now q fit h.0 (h.1 q) p (eqb p (length s.visits)) refl l });
       ends = λ v server position s fs rest now h first. (keeps.ends v server position s fs rest now h.0 first, λ q. record { each = λ p l. (h.1 q).each p l ∙ sum-same p _ _ (λ k u. sym (leaves.ends v server position s fs rest now q h.0 first k p u l)) });
     }
   where
     less : (a b : ℕ) → (a ≡ b → ⊥) → a < suc b → a < b
     less a b n l = omega arith
 
-    came : (v port job : ℕ) (s : Station L) (fs : List Event) (now : ℕ) → Q v → P v s fs now → FoundsBy exit there v s → (p : ℕ) (b : Bool) → eqb p (length s.visits) ≡ b → p < length (acted t s (Arrive now v port job)).visits →
+    came : (v port job : ℕ) (s : Station L) (fs : List Event) (now : ℕ) → Q v → Fits t v port → P v s fs now → FoundsBy exit there v s → (p : ℕ) (b : Bool) → eqb p (length s.visits) ≡ b → p < length (acted t s (Arrive now v port job)).visits →
         found_or 0 (slice_get (acted t s (Arrive now v port job)).visits p) ≡ sum_below p (λ k. one_if_there (there v) (arrival_or 0 (slice_get (acted t s (Arrive now v port job)).visits p)) p (exit v (acted t s (Arrive now v port job)) k))
-    came v port job s fs now q h founds p true e l =
+    came v port job s fs now q fit h founds p true e l =
         ap (found_or 0) self
         ∙ (leaves.number v s fs now q h
-        ∙ (sym (sum-same (length s.visits) _ _ (λ k u. leaves.finds v port job s fs now q h k u))
+        ∙ (sym (sum-same (length s.visits) _ _ (λ k u. leaves.finds v port job s fs now q fit h k u))
         ∙ (ap (λ n. sum_below n (λ k. one_if_there (there v) now n (exit v next k))) (sym at)
         ∙ ap (λ o. sum_below p (λ k. one_if_there (there v) (arrival_or 0 o) p (exit v next k))) (sym self))))
       where
@@ -69,10 +69,10 @@ keeps-founds_by {L} t P Q exit there keeps leaves =
 
         self : slice_get (s.visits ++ x ∷ []) p ≡ Some x
         self = ap (slice_get (s.visits ++ x ∷ [])) at ∙ get-last s.visits x
-    came v port job s fs now q h founds p false e l =
+    came v port job s fs now q fit h founds p false e l =
         ap (found_or 0) front
         ∙ (founds.each p inside
-        ∙ (sum-same p _ _ (λ k u. sym (leaves.arrives v port job s fs now q h k p u inside))
+        ∙ (sum-same p _ _ (λ k u. sym (leaves.arrives v port job s fs now q fit h k p u inside))
         ∙ ap (λ o. sum_below p (λ k. one_if_there (there v) (arrival_or 0 o) p (exit v (acted t s (Arrive now v port job)) k))) (sym front)))
       where
         x : Visit

@@ -34,7 +34,7 @@ Begins t e = ((n : ℕ) → is_finish_at n e ≡ false) × FitsIn t e
 
 -- a fact of each node that holds at the start and that time and the node's own events keep
 pub record Keeps {L : Type 0} (t : Table L) (P : Fact L) : Type 0 where
-  pub opens : (v : ℕ) → P v (record { local = t.opening v; visits = []; emitted = []; area = 0; busy = 0; peak = 0 }) [] 0
+  pub opens : (v : ℕ) → P v (record { local = t.opening v; visits = []; emitted = []; area = 0; busy = 0 }) [] 0
   pub waits : (v : ℕ) (s : Station L) (fs : List Event) (now later : ℕ) → P v s fs now → now ≤ later → Each (λ f. later ≤ time_of f) fs → P v (aged t (later - now) v s) fs later
   pub arrives : (v port job : ℕ) (s : Station L) (fs : List Event) (now : ℕ) → P v s fs now → Each (λ f. now < time_of f) fs → Fits t v port → P v (acted t s (Arrive now v port job)) (fs ++ finishes_of v (reaction t s (Arrive now v port job)).services) now
   pub fits : (n out : ℕ) → IfSome (t.reader n out) (λ to. Fits t to.0 to.1)
@@ -152,7 +152,7 @@ holds-after {L} t P keeps on_time forward (suc n) s h = go (earliest t.rank s.pe
 pub holds-start : {L : Type 0} (t : Table L) (P : Fact L) → Keeps t P → (starts : List Event) → Each (Begins t) starts → Holds t P (opened t starts)
 holds-start t P keeps starts arrive =
     record {
-      each = λ u. subst (λ l. P u (record { local = t.opening u; visits = []; emitted = []; area = 0; busy = 0; peak = 0 }) l 0) (sym (filter-none (is_finish_at u) starts (Each-weaker _ _ (λ e h. h.0 u) starts arrive))) (keeps.opens u);
+      each = λ u. subst (λ l. P u (record { local = t.opening u; visits = []; emitted = []; area = 0; busy = 0 }) l 0) (sym (filter-none (is_finish_at u) starts (Each-weaker _ _ (λ e h. h.0 u) starts arrive))) (keeps.opens u);
       current = Each-any _ (λ e. omega arith) starts;
       fitting = Each-weaker _ _ (λ e h. h.1) starts arrive;
     }

@@ -54,7 +54,6 @@ record Follows {L : Type 0} (t : Table L) (v m : ℕ) (s lone : State L) : Type 
   clock : lone.clock ≤ s.clock
   current : Each (λ f. s.clock ≤ time_of f) s.pending
   area : (s.stations v).area ≡ (lone.stations v).area + t.jobs v (lone.stations v).visits (lone.stations v).local * (s.clock - lone.clock)
-  peak : (s.stations v).peak ≡ (lone.stations v).peak
   busy : (s.stations v).busy ≡ (lone.stations v).busy + t.working v (lone.stations v).visits (lone.stations v).local * (s.clock - lone.clock)
 
 -- an event isn't before the clock
@@ -63,8 +62,8 @@ now-current t s p q h =
     let k = earliest-splits t.rank s.pending p q in
     (Each-back (λ f. s.clock ≤ time_of f) k.front (p.0 ∷ k.back) (subst (Each (λ f. s.clock ≤ time_of f)) k.whole h)).0
 
-station_same : {L : Type 0} (x y : Station L) → x.local ≡ y.local → x.visits ≡ y.visits → x.emitted ≡ y.emitted → x.area ≡ y.area → x.busy ≡ y.busy → x.peak ≡ y.peak → x ≡ y
-station_same x y a b c d e f = λ i. record { local = a i; visits = b i; emitted = c i; area = d i; busy = e i; peak = f i }
+station_same : {L : Type 0} (x y : Station L) → x.local ≡ y.local → x.visits ≡ y.visits → x.emitted ≡ y.emitted → x.area ≡ y.area → x.busy ≡ y.busy → x ≡ y
+station_same x y a b c d e = λ i. record { local = a i; visits = b i; emitted = c i; area = d i; busy = e i }
 
 -- just before an event the node is the same in both runs
 until-same : {L : Type 0} (t : Table L) (v m now : ℕ) (s lone : State L) → Follows t v m s lone → s.clock ≤ now → until t s now v ≡ until (alone t) lone now v
@@ -72,7 +71,6 @@ until-same t v m now s lone f h =
     station_same (until t s now v) (until (alone t) lone now v) f.local f.visits f.emitted
     (ap (λ k. (s.stations v).area + k * (now - s.clock)) (λ i. t.jobs v (f.visits i) (f.local i)) ∙ elapsed _ _ (t.jobs v (lone.stations v).visits (lone.stations v).local) s.clock lone.clock now f.area f.clock h)
     (ap (λ k. (s.stations v).busy + k * (now - s.clock)) (λ i. t.working v (f.visits i) (f.local i)) ∙ elapsed _ _ (t.working v (lone.stations v).visits (lone.stations v).local) s.clock lone.clock now f.busy f.clock h)
-    f.peak
 
 no_arrivals : {L : Type 0} (t : Table L) (n : ℕ) (ms : List Emission) → arrivals_of (alone t) n ms ≡ []
 no_arrivals t n [] = refl
@@ -125,7 +123,6 @@ follows-other t on_time forward v m s lone p q other f =
       clock = omega arith;
       current = Each-weaker _ _ (λ g k. k.0) (happens t s p).pending (pending-no_earlier t on_time forward s p q);
       area = ap (λ (x : Station _). x.area) same;
-      peak = ap (λ (x : Station _). x.peak) same;
       busy = ap (λ (x : Station _). x.busy) same;
     }
 
@@ -169,7 +166,6 @@ follows-own t on_time forward v m s lone p q own f =
       clock = omega arith;
       current = Each-weaker _ _ (λ g k. k.0) (happens t s p).pending (pending-no_earlier t on_time forward s p q);
       area = ap (λ (x : Station _). x.area) same ∙ no_time _ _ (time_of p.0);
-      peak = ap (λ (x : Station _). x.peak) same;
       busy = ap (λ (x : Station _). x.busy) same ∙ no_time _ _ (time_of p.0);
     })
   where
@@ -211,7 +207,6 @@ follows-none t v m s lone q f =
       current = f.current;
       area = f.area;
       busy = f.busy;
-      peak = f.peak;
     }
 
 -- a number of steps, and as many of the lone run as there are events of the node among them
@@ -253,7 +248,6 @@ follows-start t v m starts arrive =
       clock = omega arith;
       current = Each-any _ (λ e. omega arith) starts;
       area = no_time 0 _ 0;
-      peak = refl;
       busy = no_time 0 _ 0;
     }
 
@@ -269,7 +263,6 @@ same-alone t on_time forward v starts arrive i j =
       clock = f.clock;
       area = f.area;
       busy = f.busy;
-      peak = f.peak;
     }
 
 -- at the end of the network's run the lone run is at its end too

@@ -34,6 +34,8 @@ pub forkjoin-limits : (branches : List (List Demand)) → LimitLaws (forkjoin br
 forkjoin-limits branches =
     record {
       outputs = λ columns h. omega arith;
+      copies = λ columns sound. omega arith;
+      first = λ first. omega arith;
       servers = λ columns h. let l = (branches-shaped columns branches h).few in let e = all-servers branches in omega arith;
       ports = λ inputs h. within-most 1 8 inputs h;
       reads = λ inputs starts h. absurd cc;

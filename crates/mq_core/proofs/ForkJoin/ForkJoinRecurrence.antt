@@ -29,7 +29,6 @@ forkjoin-recurrence rows ports branches =
       fares = λ visits. leaving-fates (ForkJoin branches) (λ m. refl) 0 _ visits (forkjoin-long rows branches visits);
       goes = λ visits. leaving-outs 0 _ visits (forkjoin-long rows branches visits);
       stands = λ mixed visits rise out. absurd cc;
-      prompt = λ now m l. l;
       in_time = λ came e. when-in_forkjoin rows branches came.job came.arrive e;
       stays = λ came e. stay-fates (bare_time rows (ForkJoin branches)) came.job came.arrive _ (stay-in_forkjoin rows branches came.job came.arrive e);
       bounded = λ came limit top few told room early.

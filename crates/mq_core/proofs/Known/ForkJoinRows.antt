@@ -35,8 +35,8 @@ two_rows = rows_of (0 ∷ 0 ∷ []) (0 ∷ 1 ∷ []) ([] ∷ [] ∷ [])
 abbrev IsForkJoined : State Local → Type 0
 IsForkJoined end =
     EndsAt end 6
-    × (seen end 1 ≡ record { left = (0, 0, 3) ∷ (1, 0, 6) ∷ []; found = 0 ∷ 1 ∷ []; area = 8; busy = 10; peak = 2 })
-    × (totals_of two_rows two_branches (end.stations 1) ≡ record { came = 2; left = 2; lost = 0; wait = 2; longest = 2; busy = 10; area = 8; peak = 2 })
+    × (seen end 1 ≡ record { left = (0, 0, 3) ∷ (1, 0, 6) ∷ []; found = 0 ∷ 1 ∷ []; area = 8; busy = 10 })
+    × (totals_of two_rows two_branches (end.stations 1) ≡ record { came = 2; left = 2; lost = 0; held = 0; wait = 2; longest = 2; busy = 10; area = 8; peak = 2 })
     × (exit_of two_rows (end.stations 1) 0 ≡ (2, 8))
 
 forkjoin-row : IsForkJoined (run_in (forkjoin_net two_branches) two_rows) × (servers_in two_branches ≡ 2) × (bare_time two_rows two_branches 0 ≡ 3)
@@ -49,7 +49,7 @@ forkjoin_visits = record { job = 0 ∷ 1 ∷ []; arrive = 0 ∷ 1 ∷ []; found 
 
 forkjoin-sequences : (sequence_visits two_rows two_branches (came_by (0 ∷ 1 ∷ []) (0 ∷ 1 ∷ [])) ≡ forkjoin_visits)
     × (sequence_stream two_rows two_branches (came_by (0 ∷ 1 ∷ []) (0 ∷ 1 ∷ [])) 0 ≡ record { job = 0 ∷ 1 ∷ []; time = 3 ∷ 6 ∷ [] })
-    × (sequence_totals two_rows two_branches forkjoin_visits ≡ record { came = 2; left = 2; lost = 0; wait = 2; longest = 2; busy = 10; area = 8; peak = 2 })
+    × (sequence_totals two_rows two_branches forkjoin_visits 6 ≡ record { came = 2; left = 2; lost = 0; held = 0; wait = 2; longest = 2; busy = 10; area = 8; peak = 2 })
     × (sequence_exit two_rows (record { job = 0 ∷ 1 ∷ []; time = 3 ∷ 6 ∷ [] }) ≡ (2, 8))
 forkjoin-sequences = (refl, refl, refl, refl)
 
@@ -60,8 +60,8 @@ series = ForkJoin ((Fixed 1 ∷ Fixed 2 ∷ []) ∷ (Fixed 4 ∷ []) ∷ [])
 abbrev IsSeries : State Local → Type 0
 IsSeries end =
     EndsAt end 8
-    × (seen end 1 ≡ record { left = (0, 0, 4) ∷ (1, 0, 8) ∷ []; found = 0 ∷ 1 ∷ []; area = 11; busy = 14; peak = 2 })
-    × (totals_of two_rows series (end.stations 1) ≡ record { came = 2; left = 2; lost = 0; wait = 3; longest = 3; busy = 14; area = 11; peak = 2 })
+    × (seen end 1 ≡ record { left = (0, 0, 4) ∷ (1, 0, 8) ∷ []; found = 0 ∷ 1 ∷ []; area = 11; busy = 14 })
+    × (totals_of two_rows series (end.stations 1) ≡ record { came = 2; left = 2; lost = 0; held = 0; wait = 3; longest = 3; busy = 14; area = 11; peak = 2 })
     × (exit_of two_rows (end.stations 1) 0 ≡ (2, 11))
 
 series-row : IsSeries (run_in (forkjoin_net series) two_rows) × (servers_in series ≡ 3) × (bare_time two_rows series 0 ≡ 4)
@@ -78,7 +78,7 @@ crossed_rows = rows_of (0 ∷ 0 ∷ 0 ∷ []) (0 ∷ 0 ∷ 5 ∷ []) ((5 ∷ 1 �
 abbrev IsCrossed : State Local → Type 0
 IsCrossed end =
     EndsAt end 6
-    × (seen end 1 ≡ record { left = (0, 0, 5) ∷ (1, 0, 6) ∷ (2, 0, 6) ∷ []; found = 0 ∷ 1 ∷ 1 ∷ []; area = 12; busy = 8; peak = 2 })
+    × (seen end 1 ≡ record { left = (0, 0, 5) ∷ (1, 0, 6) ∷ (2, 0, 6) ∷ []; found = 0 ∷ 1 ∷ 1 ∷ []; area = 12; busy = 8 })
 
 crossed-row : IsTrue (is_sound (forkjoin_net crossed)) × IsCrossed (run_in (forkjoin_net crossed) crossed_rows)
 unfolding after step earliest sooner_of is_below order_key rank_in reader_from port_reading ranked_after first_ready
@@ -89,7 +89,7 @@ abbrev idle : Kind
 idle = ForkJoin ((Fixed 0 ∷ Fixed 0 ∷ []) ∷ (Fixed 0 ∷ []) ∷ [])
 
 abbrev IsIdle : State Local → Type 0
-IsIdle end = seen end 1 ≡ record { left = (0, 0, 0) ∷ (1, 0, 1) ∷ []; found = 0 ∷ 0 ∷ []; area = 0; busy = 0; peak = 1 }
+IsIdle end = seen end 1 ≡ record { left = (0, 0, 0) ∷ (1, 0, 1) ∷ []; found = 0 ∷ 0 ∷ []; area = 0; busy = 0 }
 
 idle-row : IsIdle (run_in (forkjoin_net idle) two_rows)
 unfolding after step earliest sooner_of is_below order_key rank_in reader_from port_reading ranked_after first_ready

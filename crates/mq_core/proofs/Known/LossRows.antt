@@ -38,8 +38,8 @@ single_visits =
 abbrev IsSingle : State Local → Type 0
 IsSingle end =
     EndsAt end 4
-    × (seen end 1 ≡ record { left = (1, 1, 1) ∷ (0, 0, 2) ∷ (3, 1, 3) ∷ (2, 0, 4) ∷ []; found = 0 ∷ 1 ∷ 0 ∷ 1 ∷ []; area = 4; busy = 4; peak = 1 })
-    × (totals_of four (Loss 1 (Fixed 2)) (end.stations 1) ≡ record { came = 4; left = 2; lost = 2; wait = 0; longest = 0; busy = 4; area = 4; peak = 1 })
+    × (seen end 1 ≡ record { left = (1, 1, 1) ∷ (0, 0, 2) ∷ (3, 1, 3) ∷ (2, 0, 4) ∷ []; found = 0 ∷ 1 ∷ 0 ∷ 1 ∷ []; area = 4; busy = 4 })
+    × (totals_of four (Loss 1 (Fixed 2)) (end.stations 1) ≡ record { came = 4; left = 2; lost = 2; held = 0; wait = 0; longest = 0; busy = 4; area = 4; peak = 1 })
     × (exit_of four (end.stations 1) 0 ≡ (2, 4)) × (exit_of four (end.stations 1) 1 ≡ (2, 0))
     × (visits_of (Loss 1 (Fixed 2)) (end.stations 1) ≡ single_visits)
     × (stream_from (end.stations 1) 0 ≡ record { job = 0 ∷ 2 ∷ []; time = 2 ∷ 4 ∷ [] })
@@ -53,7 +53,7 @@ single-row = at-end 10 (loss_net 1 2) four IsSingle (omega arith) refl ((refl, r
 sequences-single : (sequence_visits four (Loss 1 (Fixed 2)) (came_by (0 ∷ 1 ∷ 2 ∷ 3 ∷ []) (0 ∷ 1 ∷ 2 ∷ 3 ∷ [])) ≡ single_visits)
     × (sequence_stream four (Loss 1 (Fixed 2)) (came_by (0 ∷ 1 ∷ 2 ∷ 3 ∷ []) (0 ∷ 1 ∷ 2 ∷ 3 ∷ [])) 0 ≡ record { job = 0 ∷ 2 ∷ []; time = 2 ∷ 4 ∷ [] })
     × (sequence_stream four (Loss 1 (Fixed 2)) (came_by (0 ∷ 1 ∷ 2 ∷ 3 ∷ []) (0 ∷ 1 ∷ 2 ∷ 3 ∷ [])) 1 ≡ record { job = 1 ∷ 3 ∷ []; time = 1 ∷ 3 ∷ [] })
-    × (sequence_totals four (Loss 1 (Fixed 2)) single_visits ≡ record { came = 4; left = 2; lost = 2; wait = 0; longest = 0; busy = 4; area = 4; peak = 1 })
+    × (sequence_totals four (Loss 1 (Fixed 2)) single_visits 4 ≡ record { came = 4; left = 2; lost = 2; held = 0; wait = 0; longest = 0; busy = 4; area = 4; peak = 1 })
     × (sequence_exit four (record { job = 1 ∷ 3 ∷ []; time = 1 ∷ 3 ∷ [] }) ≡ (2, 0))
 sequences-single = (refl, refl, refl, refl, refl)
 
@@ -61,8 +61,8 @@ sequences-single = (refl, refl, refl, refl, refl)
 abbrev IsDouble : State Local → Type 0
 IsDouble end =
     EndsAt end 9
-    × (seen end 1 ≡ record { left = (2, 1, 2) ∷ (0, 0, 3) ∷ (1, 0, 6) ∷ (3, 0, 9) ∷ []; found = 0 ∷ 1 ∷ 2 ∷ 1 ∷ []; area = 14; busy = 9; peak = 2 })
-    × (totals_of four (Loss 2 (Fixed 3)) (end.stations 1) ≡ record { came = 4; left = 3; lost = 1; wait = 5; longest = 3; busy = 9; area = 14; peak = 2 })
+    × (seen end 1 ≡ record { left = (2, 1, 2) ∷ (0, 0, 3) ∷ (1, 0, 6) ∷ (3, 0, 9) ∷ []; found = 0 ∷ 1 ∷ 2 ∷ 1 ∷ []; area = 14; busy = 9 })
+    × (totals_of four (Loss 2 (Fixed 3)) (end.stations 1) ≡ record { came = 4; left = 3; lost = 1; held = 0; wait = 5; longest = 3; busy = 9; area = 14; peak = 2 })
 
 double-row : IsDouble (run_in (loss_net 2 3) four)
 unfolding after step earliest sooner_of is_below order_key rank_in reader_from port_reading ranked_after first_ready
@@ -77,8 +77,8 @@ overflow_net =
 abbrev IsOverflow : State Local → Type 0
 IsOverflow end =
     EndsAt end 7
-    × (totals_of four (Loss 1 (Fixed 2)) (end.stations 1) ≡ record { came = 4; left = 2; lost = 2; wait = 0; longest = 0; busy = 4; area = 4; peak = 1 })
-    × (totals_of four (Server (Fixed 3)) (end.stations 2) ≡ record { came = 2; left = 2; lost = 0; wait = 1; longest = 1; busy = 6; area = 7; peak = 2 })
+    × (totals_of four (Loss 1 (Fixed 2)) (end.stations 1) ≡ record { came = 4; left = 2; lost = 2; held = 0; wait = 0; longest = 0; busy = 4; area = 4; peak = 1 })
+    × (totals_of four (Server (Fixed 3)) (end.stations 2) ≡ record { came = 2; left = 2; lost = 0; held = 0; wait = 1; longest = 1; busy = 6; area = 7; peak = 2 })
     × (exit_of four (end.stations 1) 0 ≡ (2, 4)) × (exit_of four (end.stations 2) 0 ≡ (2, 7))
 
 overflow-row : IsTrue (is_sound overflow_net) × IsOverflow (run_in overflow_net four)

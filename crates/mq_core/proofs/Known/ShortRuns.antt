@@ -1,10 +1,9 @@
 -- Worked runs by the few steps after which nothing is pending.
 use Rattle.std.proofs.Common.{Option, [], slice_get, subst, sym, ℕ, ◌≡◌, ◌≤◌}
-use Rattle.std.specs.List.{flat_map}
 use Rattle.mq_core.specs.Local.{Local}
 use Rattle.mq_core.specs.Machine.{State, after, opened}
 use Rattle.mq_core.specs.NetworkRun.{network_table, run_in}
-use Rattle.mq_core.specs.Results.{Late, first_of, late_at}
+use Rattle.mq_core.specs.Results.{Refusal, first_refusal, refusal_at}
 use Rattle.mq_core.specs.Run.{run_length, starts}
 use Rattle.mq_core.specs.Wiring.{ranking}
 use Rattle.mq_core.specs.declared.model.Network.{Network}
@@ -20,6 +19,6 @@ pub at-end : (count : ℕ) (net : Network) (rows : Rows) (P : State Local → Ty
 at-end count net rows P short none holds =
     subst P (sym (settles count (run_length net.nodes rows) (network_table net rows) (opened (network_table net rows) (starts rows)) short none)) holds
 
--- the first departure of a state after the bound of a network
-abbrev pub late_in : Network → State Local → Option Late
-late_in net end = first_of (flat_map (λ v. late_at net.bound v (slice_get net.nodes v) (end.stations v)) (ranking net.nodes))
+-- the refusal of a state by the bound of a network
+abbrev pub refused_in : Network → State Local → Option Refusal
+refused_in net end = first_refusal (λ v. refusal_at net.bound v (slice_get net.nodes v) (end.stations v)) (ranking net.nodes)

@@ -37,8 +37,8 @@ blocking_rows = rows_of (0 ∷ 0 ∷ 0 ∷ []) (0 ∷ 0 ∷ 0 ∷ []) []
 abbrev IsBlocking : State Local → Type 0
 IsBlocking end =
     EndsAt end 10
-    × (seen end 1 ≡ record { left = (0, 0, 4) ∷ (1, 0, 7) ∷ (2, 0, 10) ∷ []; found = 0 ∷ 1 ∷ 2 ∷ []; area = 21; busy = 12; peak = 3 })
-    × (totals_of blocking_rows (Tandem blocking_stages) (end.stations 1) ≡ record { came = 3; left = 3; lost = 0; wait = 9; longest = 6; busy = 12; area = 21; peak = 3 })
+    × (seen end 1 ≡ record { left = (0, 0, 4) ∷ (1, 0, 7) ∷ (2, 0, 10) ∷ []; found = 0 ∷ 1 ∷ 2 ∷ []; area = 21; busy = 12 })
+    × (totals_of blocking_rows (Tandem blocking_stages) (end.stations 1) ≡ record { came = 3; left = 3; lost = 0; held = 0; wait = 9; longest = 6; busy = 12; area = 21; peak = 3 })
     × (exit_of blocking_rows (end.stations 1) 0 ≡ (3, 21))
 
 blocking-row : IsTrue (is_sound (line_net [] blocking_stages)) × IsBlocking (run_in (line_net [] blocking_stages) blocking_rows)
@@ -58,8 +58,8 @@ column_net = line_net (codes "a" ∷ codes "b" ∷ []) column_stages
 abbrev IsColumn : State Local → Type 0
 IsColumn end =
     EndsAt end 10
-    × (seen end 1 ≡ record { left = (0, 0, 4) ∷ (1, 0, 5) ∷ (2, 0, 10) ∷ []; found = 0 ∷ 1 ∷ 2 ∷ []; area = 19; busy = 12; peak = 3 })
-    × (totals_of column_rows (Tandem column_stages) (end.stations 1) ≡ record { came = 3; left = 3; lost = 0; wait = 7; longest = 4; busy = 12; area = 19; peak = 3 })
+    × (seen end 1 ≡ record { left = (0, 0, 4) ∷ (1, 0, 5) ∷ (2, 0, 10) ∷ []; found = 0 ∷ 1 ∷ 2 ∷ []; area = 19; busy = 12 })
+    × (totals_of column_rows (Tandem column_stages) (end.stations 1) ≡ record { came = 3; left = 3; lost = 0; held = 0; wait = 7; longest = 4; busy = 12; area = 19; peak = 3 })
     × (exit_of column_rows (end.stations 1) 0 ≡ (3, 19))
 
 column-row : IsTrue (is_sound column_net) × IsColumn (run_in column_net column_rows)
@@ -69,7 +69,7 @@ column-row = (refl, at-end 12 column_net column_rows IsColumn (omega arith) refl
 -- the same in sequences
 column-sequences : (sequence_visits column_rows (Tandem column_stages) (came_by (0 ∷ 1 ∷ 2 ∷ []) (0 ∷ 0 ∷ 0 ∷ [])) ≡ record { job = 0 ∷ 1 ∷ 2 ∷ []; arrive = 0 ∷ 0 ∷ 0 ∷ []; found = 0 ∷ 1 ∷ 2 ∷ []; fate = Departs 4 ∷ Departs 5 ∷ Departs 10 ∷ [] })
     × (sequence_stream column_rows (Tandem column_stages) (came_by (0 ∷ 1 ∷ 2 ∷ []) (0 ∷ 0 ∷ 0 ∷ [])) 0 ≡ record { job = 0 ∷ 1 ∷ 2 ∷ []; time = 4 ∷ 5 ∷ 10 ∷ [] })
-    × (sequence_totals column_rows (Tandem column_stages) (sequence_visits column_rows (Tandem column_stages) (came_by (0 ∷ 1 ∷ 2 ∷ []) (0 ∷ 0 ∷ 0 ∷ []))) ≡ record { came = 3; left = 3; lost = 0; wait = 7; longest = 4; busy = 12; area = 19; peak = 3 })
+    × (sequence_totals column_rows (Tandem column_stages) (sequence_visits column_rows (Tandem column_stages) (came_by (0 ∷ 1 ∷ 2 ∷ []) (0 ∷ 0 ∷ 0 ∷ []))) 10 ≡ record { came = 3; left = 3; lost = 0; held = 0; wait = 7; longest = 4; busy = 12; area = 19; peak = 3 })
     × (bare_time column_rows (Tandem column_stages) 2 ≡ 6) × (servers_in (Tandem column_stages) ≡ 2)
 column-sequences = (refl, refl, refl, refl, refl)
 
@@ -83,7 +83,7 @@ long_rows = rows_of (0 ∷ 0 ∷ 0 ∷ 0 ∷ []) (0 ∷ 0 ∷ 0 ∷ 0 ∷ []) []
 abbrev IsLong : State Local → Type 0
 IsLong end =
     EndsAt end 22
-    × (seen end 1 ≡ record { left = (0, 0, 7) ∷ (1, 0, 12) ∷ (2, 0, 17) ∷ (3, 0, 22) ∷ []; found = 0 ∷ 1 ∷ 2 ∷ 3 ∷ []; area = 58; busy = 28; peak = 4 })
+    × (seen end 1 ≡ record { left = (0, 0, 7) ∷ (1, 0, 12) ∷ (2, 0, 17) ∷ (3, 0, 22) ∷ []; found = 0 ∷ 1 ∷ 2 ∷ 3 ∷ []; area = 58; busy = 28 })
 
 long-row : IsTrue (is_sound (line_net [] long_stages)) × IsLong (run_in (line_net [] long_stages) long_rows)
 unfolding after step earliest sooner_of is_below order_key rank_in reader_from port_reading ranked_after first_ready
@@ -97,7 +97,7 @@ abbrev idle_rows : Rows
 idle_rows = rows_of (0 ∷ 0 ∷ []) (3 ∷ 3 ∷ []) []
 
 abbrev IsIdle : State Local → Type 0
-IsIdle end = EndsAt end 3 × (seen end 1 ≡ record { left = (0, 0, 3) ∷ (1, 0, 3) ∷ []; found = 0 ∷ 0 ∷ []; area = 0; busy = 0; peak = 1 })
+IsIdle end = EndsAt end 3 × (seen end 1 ≡ record { left = (0, 0, 3) ∷ (1, 0, 3) ∷ []; found = 0 ∷ 0 ∷ []; area = 0; busy = 0 })
 
 idle-row : IsIdle (run_in idle_net idle_rows)
 unfolding after step earliest sooner_of is_below order_key rank_in reader_from port_reading ranked_after first_ready

@@ -6,8 +6,9 @@ use Rattle.mq_core.specs.Sequences.{sequence_exit, sequence_span, sequence_strea
 use Rattle.mq_core.specs.Event.{earliest, is_below, order_key, sooner_of}
 use Rattle.mq_core.specs.Local.{Local}
 use Rattle.mq_core.specs.Machine.{Emission, State, Visit, after, step}
-use Rattle.mq_core.specs.NetworkRun.{past_in, run_in}
-use Rattle.mq_core.specs.Results.{exit_of, past_of, stream_from, totals_of}
+use Rattle.mq_core.specs.NetworkRun.{refusal_in, run_in}
+use Rattle.mq_core.specs.Results.Refusal.{Past}
+use Rattle.mq_core.specs.Results.{exit_of, refusal_of, stream_from, totals_of}
 use Rattle.mq_core.specs.Sound.{is_sound}
 use Rattle.mq_core.specs.Kinds.Split.{output_at}
 use Rattle.mq_core.specs.Wiring.{first_ready, has, port_reading, rank_in, ranked_after, ranking, reader_from}
@@ -23,7 +24,7 @@ use Rattle.mq_core.specs.declared.model.Route.TheVariants.{Cut, Modulo, Turn}
 use Rattle.mq_core.specs.declared.model.Rows.{Rows}
 use Rattle.mq_core.specs.declared.model.Stream.{Stream}
 use Rattle.mq_core.specs.declared.model.Visits.{Visits}
-use Rattle.mq_core.proofs.Known.ShortRuns.{at-end, late_in}
+use Rattle.mq_core.proofs.Known.ShortRuns.{at-end, refused_in}
 use Rattle.mq_core.proofs.Networks.NetworkRuns.{runs-are-of-networks}
 
 abbrev pub node_of : List ℕ → Kind → List Input → Node
@@ -34,7 +35,7 @@ abbrev pub from : ℕ → Input
 from node = record { node = node; out = 0 }
 
 abbrev pub net_of : List (List ℕ) → ℕ → List Node → Network
-net_of columns bound nodes = record { nodes = nodes; columns = columns; bound = bound }
+net_of columns bound nodes = record { nodes = nodes; columns = columns; bound = bound; version = 1 }
 
 abbrev pub rows_of : List ℕ → List ℕ → List (List ℕ) → Rows
 rows_of sources times demands = record { source = sources; time = times; demands = demands }
@@ -45,7 +46,6 @@ pub record Seen : Type 0 where
   pub found : List ℕ
   pub area : ℕ
   pub busy : ℕ
-  pub peak : ℕ
 
 abbrev pub seen : State Local → ℕ → Seen
 seen end v =
@@ -54,7 +54,6 @@ seen end v =
       found = map (λ (x : Visit). x.found) (end.stations v).visits;
       area = (end.stations v).area;
       busy = (end.stations v).busy;
-      peak = (end.stations v).peak;
     }
 
 -- a run that ended at this time: nothing is pending
@@ -72,7 +71,7 @@ desk-sound = (refl, refl)
 abbrev no_rows : Rows
 no_rows = rows_of [] [] ([] ∷ [])
 
-empty-row : EndsAt (run_in (desk_net 7) no_rows) 0 × (seen (run_in (desk_net 7) no_rows) 1 ≡ record { left = []; found = []; area = 0; busy = 0; peak = 0 })
+empty-row : EndsAt (run_in (desk_net 7) no_rows) 0 × (seen (run_in (desk_net 7) no_rows) 1 ≡ record { left = []; found = []; area = 0; busy = 0 })
 unfolding after step earliest sooner_of is_below order_key rank_in reader_from port_reading ranked_after first_ready
 empty-row = ((refl, refl), refl)
 
@@ -96,9 +95,9 @@ desk_stream = record { job = 0 ∷ 1 ∷ 2 ∷ []; time = 4 ∷ 5 ∷ 8 ∷ [] }
 abbrev IsOrdinary : State Local → Type 0
 IsOrdinary end =
     EndsAt end 8
-    × (seen end 0 ≡ record { left = (0, 0, 0) ∷ (1, 0, 1) ∷ (2, 0, 2) ∷ []; found = 0 ∷ 0 ∷ 0 ∷ []; area = 0; busy = 0; peak = 0 })
-    × (seen end 1 ≡ record { left = (0, 0, 4) ∷ (1, 0, 5) ∷ (2, 0, 8) ∷ []; found = 0 ∷ 1 ∷ 2 ∷ []; area = 14; busy = 8; peak = 3 })
-    × (totals_of three (Server (Column 0)) (end.stations 1) ≡ record { came = 3; left = 3; lost = 0; wait = 6; longest = 3; busy = 8; area = 14; peak = 3 })
+    × (seen end 0 ≡ record { left = (0, 0, 0) ∷ (1, 0, 1) ∷ (2, 0, 2) ∷ []; found = 0 ∷ 0 ∷ 0 ∷ []; area = 0; busy = 0 })
+    × (seen end 1 ≡ record { left = (0, 0, 4) ∷ (1, 0, 5) ∷ (2, 0, 8) ∷ []; found = 0 ∷ 1 ∷ 2 ∷ []; area = 14; busy = 8 })
+    × (totals_of three (Server (Column 0)) (end.stations 1) ≡ record { came = 3; left = 3; lost = 0; held = 0; wait = 6; longest = 3; busy = 8; area = 14; peak = 3 })
     × (exit_of three (end.stations 1) 0 ≡ (3, 14))
     × (visits_by_node end 0 (desk_net 100).nodes ≡ source_visits ∷ desk_visits ∷ []) × (stream_from (end.stations 1) 0 ≡ desk_stream)
 
@@ -110,8 +109,8 @@ ordinary-row = at-end 9 (desk_net 100) three IsOrdinary (omega arith) refl ((ref
 ordinary-sequences : (sequence_visits three (Server (Column 0)) (came_by (0 ∷ 1 ∷ 2 ∷ []) (0 ∷ 1 ∷ 2 ∷ [])) ≡ desk_visits)
     × (sequence_visits three Source (came_by (0 ∷ 1 ∷ 2 ∷ []) (0 ∷ 1 ∷ 2 ∷ [])) ≡ source_visits)
     × (sequence_stream three (Server (Column 0)) (came_by (0 ∷ 1 ∷ 2 ∷ []) (0 ∷ 1 ∷ 2 ∷ [])) 0 ≡ desk_stream)
-    × (sequence_totals three (Server (Column 0)) desk_visits ≡ record { came = 3; left = 3; lost = 0; wait = 6; longest = 3; busy = 8; area = 14; peak = 3 })
-    × (sequence_totals three Source source_visits ≡ record { came = 3; left = 3; lost = 0; wait = 0; longest = 0; busy = 0; area = 0; peak = 0 })
+    × (sequence_totals three (Server (Column 0)) desk_visits 8 ≡ record { came = 3; left = 3; lost = 0; held = 0; wait = 6; longest = 3; busy = 8; area = 14; peak = 3 })
+    × (sequence_totals three Source source_visits 8 ≡ record { came = 3; left = 3; lost = 0; held = 0; wait = 0; longest = 0; busy = 0; area = 0; peak = 0 })
     × (sequence_exit three desk_stream ≡ (3, 14)) × (sequence_span (source_visits ∷ desk_visits ∷ []) ≡ 8)
 ordinary-sequences = (refl, refl, refl, refl, refl, refl, refl)
 
@@ -120,7 +119,7 @@ abbrev reversed : Rows
 reversed = rows_of (0 ∷ 0 ∷ 0 ∷ []) (2 ∷ 1 ∷ 0 ∷ []) ((3 ∷ 1 ∷ 4 ∷ []) ∷ [])
 
 abbrev IsReversed : State Local → Type 0
-IsReversed end = seen end 1 ≡ record { left = (2, 0, 4) ∷ (1, 0, 5) ∷ (0, 0, 8) ∷ []; found = 0 ∷ 1 ∷ 2 ∷ []; area = 14; busy = 8; peak = 3 }
+IsReversed end = seen end 1 ≡ record { left = (2, 0, 4) ∷ (1, 0, 5) ∷ (0, 0, 8) ∷ []; found = 0 ∷ 1 ∷ 2 ∷ []; area = 14; busy = 8 }
 
 reversed-row : IsReversed (run_in (desk_net 100) reversed)
 unfolding after step earliest sooner_of is_below order_key rank_in reader_from port_reading ranked_after first_ready
@@ -138,8 +137,8 @@ tie_rows = rows_of (0 ∷ 1 ∷ []) (5 ∷ 5 ∷ []) ((2 ∷ 3 ∷ []) ∷ [])
 abbrev IsTied : State Local → Type 0
 IsTied end =
     EndsAt end 10
-    × (seen end 2 ≡ record { left = (1, 0, 8) ∷ (0, 0, 10) ∷ []; found = 0 ∷ 1 ∷ []; area = 8; busy = 5; peak = 2 })
-    × (totals_of tie_rows (Server (Column 0)) (end.stations 2) ≡ record { came = 2; left = 2; lost = 0; wait = 3; longest = 3; busy = 5; area = 8; peak = 2 })
+    × (seen end 2 ≡ record { left = (1, 0, 8) ∷ (0, 0, 10) ∷ []; found = 0 ∷ 1 ∷ []; area = 8; busy = 5 })
+    × (totals_of tie_rows (Server (Column 0)) (end.stations 2) ≡ record { came = 2; left = 2; lost = 0; held = 0; wait = 3; longest = 3; busy = 5; area = 8; peak = 2 })
 
 tie-row : IsTrue (is_sound tie_net) × IsTied (run_in tie_net tie_rows)
 unfolding after step earliest sooner_of is_below order_key rank_in reader_from port_reading ranked_after first_ready
@@ -150,26 +149,26 @@ abbrev no_demand : Rows
 no_demand = rows_of (0 ∷ 0 ∷ []) (3 ∷ 3 ∷ []) ((0 ∷ 0 ∷ []) ∷ [])
 
 abbrev IsFinishFirst : State Local → Type 0
-IsFinishFirst end = EndsAt end 3 × (seen end 1 ≡ record { left = (0, 0, 3) ∷ (1, 0, 3) ∷ []; found = 0 ∷ 0 ∷ []; area = 0; busy = 0; peak = 1 })
+IsFinishFirst end = EndsAt end 3 × (seen end 1 ≡ record { left = (0, 0, 3) ∷ (1, 0, 3) ∷ []; found = 0 ∷ 0 ∷ []; area = 0; busy = 0 })
 
 finish-first-row : IsFinishFirst (run_in (desk_net 100) no_demand)
 unfolding after step earliest sooner_of is_below order_key rank_in reader_from port_reading ranked_after first_ready
 finish-first-row = at-end 6 (desk_net 100) no_demand IsFinishFirst (omega arith) refl ((refl, refl), refl)
 
 -- The third departure passes the bound.
-past-row : past_in (desk_net 7) three ≡ Some (record { node = 1; position = 2; time = 8 })
+past-row : refusal_in (desk_net 7) three ≡ Some (Past (record { node = 1; position = 2; time = 8 }))
 unfolding after step earliest sooner_of is_below order_key rank_in reader_from port_reading ranked_after first_ready
-past-row = at-end 9 (desk_net 7) three (λ end. late_in (desk_net 7) end ≡ Some (record { node = 1; position = 2; time = 8 })) (omega arith) refl refl
+past-row = at-end 9 (desk_net 7) three (λ end. refused_in (desk_net 7) end ≡ Some (Past (record { node = 1; position = 2; time = 8 }))) (omega arith) refl refl
 
 -- a departure at the bound doesn't pass it
-at-bound-row : past_in (desk_net 8) three ≡ None
+at-bound-row : refusal_in (desk_net 8) three ≡ None
 unfolding after step earliest sooner_of is_below order_key rank_in reader_from port_reading ranked_after first_ready
-at-bound-row = at-end 9 (desk_net 8) three (λ end. late_in (desk_net 8) end ≡ None) (omega arith) refl refl
+at-bound-row = at-end 9 (desk_net 8) three (λ end. refused_in (desk_net 8) end ≡ None) (omega arith) refl refl
 
 -- a row later than the bound passes it at its source
-past-source-row : past_in (desk_net 1) three ≡ Some (record { node = 0; position = 2; time = 2 })
+past-source-row : refusal_in (desk_net 1) three ≡ Some (Past (record { node = 0; position = 2; time = 2 }))
 unfolding after step earliest sooner_of is_below order_key rank_in reader_from port_reading ranked_after first_ready
-past-source-row = at-end 9 (desk_net 1) three (λ end. late_in (desk_net 1) end ≡ Some (record { node = 0; position = 2; time = 2 })) (omega arith) refl refl
+past-source-row = at-end 9 (desk_net 1) three (λ end. refused_in (desk_net 1) end ≡ Some (Past (record { node = 0; position = 2; time = 2 }))) (omega arith) refl refl
 
 -- Two departures pass the bound: that of the lower rank is named, though it is the smaller.
 abbrev two_desks : Network
@@ -181,9 +180,9 @@ two_desks =
 abbrev two_rows : Rows
 two_rows = rows_of (0 ∷ 1 ∷ []) (0 ∷ 0 ∷ []) []
 
-two-past-row : IsTrue (is_sound two_desks) × (past_in two_desks two_rows ≡ Some (record { node = 2; position = 0; time = 7 }))
+two-past-row : IsTrue (is_sound two_desks) × (refusal_in two_desks two_rows ≡ Some (Past (record { node = 2; position = 0; time = 7 })))
 unfolding after step earliest sooner_of is_below order_key rank_in reader_from port_reading ranked_after first_ready
-two-past-row = (refl, at-end 6 two_desks two_rows (λ end. late_in two_desks end ≡ Some (record { node = 2; position = 0; time = 7 })) (omega arith) refl refl)
+two-past-row = (refl, at-end 6 two_desks two_rows (λ end. refused_in two_desks end ≡ Some (Past (record { node = 2; position = 0; time = 7 }))) (omega arith) refl refl)
 
 -- A split by two thresholds.
 abbrev cut_net : Network
@@ -195,7 +194,7 @@ cut_rows = rows_of (0 ∷ 0 ∷ 0 ∷ []) (0 ∷ 1 ∷ 2 ∷ []) ((9 ∷ 10 ∷ 
 abbrev IsCut : State Local → Type 0
 IsCut end =
     EndsAt end 2
-    × (seen end 1 ≡ record { left = (0, 0, 0) ∷ (1, 1, 1) ∷ (2, 2, 2) ∷ []; found = 0 ∷ 0 ∷ 0 ∷ []; area = 0; busy = 0; peak = 0 })
+    × (seen end 1 ≡ record { left = (0, 0, 0) ∷ (1, 1, 1) ∷ (2, 2, 2) ∷ []; found = 0 ∷ 0 ∷ 0 ∷ []; area = 0; busy = 0 })
     × (map {B = ℕ × ℕ} (exit_of cut_rows (end.stations 1)) (0 ∷ 1 ∷ 2 ∷ []) ≡ (1, 0) ∷ (1, 0) ∷ (1, 0) ∷ [])
 
 cut-row : IsTrue (is_sound cut_net) × IsCut (run_in cut_net cut_rows)
@@ -219,8 +218,8 @@ sources_rows = rows_of (0 ∷ 1 ∷ 0 ∷ 1 ∷ []) (0 ∷ 9 ∷ 4 ∷ 2 ∷ [])
 abbrev AreSources : State Local → Type 0
 AreSources end =
     EndsAt end 9
-    × (seen end 0 ≡ record { left = (0, 0, 0) ∷ (2, 0, 4) ∷ []; found = 0 ∷ 0 ∷ []; area = 0; busy = 0; peak = 0 })
-    × (seen end 1 ≡ record { left = (3, 0, 2) ∷ (1, 0, 9) ∷ []; found = 0 ∷ 0 ∷ []; area = 0; busy = 0; peak = 0 })
+    × (seen end 0 ≡ record { left = (0, 0, 0) ∷ (2, 0, 4) ∷ []; found = 0 ∷ 0 ∷ []; area = 0; busy = 0 })
+    × (seen end 1 ≡ record { left = (3, 0, 2) ∷ (1, 0, 9) ∷ []; found = 0 ∷ 0 ∷ []; area = 0; busy = 0 })
     × (exit_of sources_rows (end.stations 1) 0 ≡ (2, 0))
 
 sources-row : IsTrue (is_sound sources_net) × AreSources (run_in sources_net sources_rows)
@@ -235,7 +234,7 @@ abbrev backward_rows : Rows
 backward_rows = rows_of (1 ∷ 1 ∷ []) (4 ∷ 4 ∷ []) []
 
 abbrev IsBackward : State Local → Type 0
-IsBackward end = seen end 0 ≡ record { left = (0, 0, 5) ∷ (1, 0, 6) ∷ []; found = 0 ∷ 1 ∷ []; area = 3; busy = 2; peak = 2 }
+IsBackward end = seen end 0 ≡ record { left = (0, 0, 5) ∷ (1, 0, 6) ∷ []; found = 0 ∷ 1 ∷ []; area = 3; busy = 2 }
 
 backward-row : IsTrue (is_sound backward_net) × (ranking backward_net.nodes ≡ 1 ∷ 0 ∷ []) × IsBackward (run_in backward_net backward_rows)
 unfolding after step earliest sooner_of is_below order_key rank_in reader_from port_reading ranked_after first_ready
@@ -258,8 +257,8 @@ chain_rows = rows_of (0 ∷ 0 ∷ []) (0 ∷ 1 ∷ []) []
 abbrev IsChain : State Local → Type 0
 IsChain end =
     EndsAt end 8
-    × (seen end 1 ≡ record { left = (0, 0, 2) ∷ (1, 0, 4) ∷ []; found = 0 ∷ 1 ∷ []; area = 5; busy = 4; peak = 2 })
-    × (seen end 2 ≡ record { left = (0, 0, 5) ∷ (1, 0, 8) ∷ []; found = 0 ∷ 1 ∷ []; area = 7; busy = 6; peak = 2 })
+    × (seen end 1 ≡ record { left = (0, 0, 2) ∷ (1, 0, 4) ∷ []; found = 0 ∷ 1 ∷ []; area = 5; busy = 4 })
+    × (seen end 2 ≡ record { left = (0, 0, 5) ∷ (1, 0, 8) ∷ []; found = 0 ∷ 1 ∷ []; area = 7; busy = 6 })
 
 chain-row : IsTrue (is_sound chain_net) × IsChain (run_in chain_net chain_rows)
 unfolding after step earliest sooner_of is_below order_key rank_in reader_from port_reading ranked_after first_ready
@@ -277,9 +276,9 @@ overtaking_rows = rows_of (0 ∷ 0 ∷ []) (0 ∷ 1 ∷ []) ((5 ∷ 1 ∷ []) �
 abbrev IsOvertaking : State Local → Type 0
 IsOvertaking end =
     EndsAt end 7
-    × (seen end 1 ≡ record { left = (1, 0, 2) ∷ (0, 0, 5) ∷ []; found = 0 ∷ 1 ∷ []; area = 6; busy = 6; peak = 2 })
-    × (seen end 2 ≡ record { left = (1, 0, 4) ∷ (0, 0, 7) ∷ []; found = 0 ∷ 0 ∷ []; area = 4; busy = 4; peak = 1 })
-    × (totals_of overtaking_rows (Delay (Column 0)) (end.stations 1) ≡ record { came = 2; left = 2; lost = 0; wait = 0; longest = 0; busy = 6; area = 6; peak = 2 })
+    × (seen end 1 ≡ record { left = (1, 0, 2) ∷ (0, 0, 5) ∷ []; found = 0 ∷ 1 ∷ []; area = 6; busy = 6 })
+    × (seen end 2 ≡ record { left = (1, 0, 4) ∷ (0, 0, 7) ∷ []; found = 0 ∷ 0 ∷ []; area = 4; busy = 4 })
+    × (totals_of overtaking_rows (Delay (Column 0)) (end.stations 1) ≡ record { came = 2; left = 2; lost = 0; held = 0; wait = 0; longest = 0; busy = 6; area = 6; peak = 2 })
 
 overtaking-row : IsTrue (is_sound overtaking_net) × IsOvertaking (run_in overtaking_net overtaking_rows)
     × (sequence_stream overtaking_rows (Delay (Column 0)) (came_by (0 ∷ 1 ∷ []) (0 ∷ 1 ∷ [])) 0 ≡ record { job = 1 ∷ 0 ∷ []; time = 2 ∷ 5 ∷ [] })
@@ -299,5 +298,5 @@ desk-ranked = refl
 abbrev desk_plan : Plan
 desk_plan = record { net = desk_net 7; order = 0 ∷ 1 ∷ []; sound = refl; ranked = desk-ranked; whole = desk-whole }
 
-plan-row : past_of desk_plan three ≡ Some (record { node = 1; position = 2; time = 8 })
+plan-row : refusal_of desk_plan three ≡ Some (Past (record { node = 1; position = 2; time = 8 }))
 plan-row = (runs-are-of-networks desk_plan three).1 ∙ past-row

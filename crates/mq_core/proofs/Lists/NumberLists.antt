@@ -1,7 +1,7 @@
 -- Sums and greatest numbers of lists.
-use Rattle.std.proofs.Common.{◌≡◌, ℕ, zero, suc, ◌+◌, ◌≤◌, List, [], ◌∷◌, Some, arith, max, fold, slice_get}
+use Rattle.std.proofs.Common.{◌≡◌, ℕ, zero, suc, ◌+◌, ◌<◌, ◌≤◌, List, [], ◌∷◌, Some, arith, length, max, fold, refl, slice_get}
 use Rattle.std.specs.List.{AllByRecursion as Each}
-use Rattle.mq_core.specs.Tallies.{sum_below, greatest_below}
+use Rattle.mq_core.specs.Tallies.{sum_below}
 
 pub greatest-from : (a : ℕ) (xs : List ℕ) → fold max a xs ≡ max a (fold max 0 xs)
 greatest-from a [] = omega arith
@@ -39,6 +39,8 @@ pub sum_below-first : (n : ℕ) (f : ℕ → ℕ) → sum_below (suc n) f ≡ f 
 sum_below-first zero f = omega arith
 sum_below-first (suc n) f = let one = sum_below-first n f in omega arith
 
-pub greatest_below-first : (n : ℕ) (f : ℕ → ℕ) → greatest_below (suc n) f ≡ max (f 0) (greatest_below n (λ i. f (suc i)))
-greatest_below-first zero f = omega arith
-greatest_below-first (suc n) f = let one = greatest_below-first n f in omega arith
+-- a number below the length is that of an item
+pub at-below : {X : Type 0} (xs : List X) (i : ℕ) → i < length xs → (x : X) × (slice_get xs i ≡ Some x)
+at-below [] i l = absurd (omega arith)
+at-below (x ∷ xs) zero l = (x, refl)
+at-below (x ∷ xs) (suc i) l = at-below xs i (omega arith)

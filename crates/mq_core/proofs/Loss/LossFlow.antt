@@ -11,7 +11,7 @@ use Rattle.mq_core.specs.Recurrences.{time_or_none, is_past, is_admitted, loss_f
 use Rattle.mq_core.specs.Kinds.Loss.{faring_by, faring_from}
 use Rattle.mq_core.specs.declared.model.Demand.{Demand}
 use Rattle.mq_core.specs.declared.model.Fate.{Fate}
-use Rattle.mq_core.specs.declared.model.Fate.TheVariants.{Departs, Lost}
+use Rattle.mq_core.specs.declared.model.Fate.TheVariants.{Departs, Held, Lost}
 use Rattle.mq_core.specs.declared.model.Rows.{Rows}
 use Rattle.mq_core.proofs.Counting.SequenceNumbers.{Numbered}
 
@@ -58,6 +58,7 @@ left_by-push takes rows demand left (y ∷ ys) x = left_by-push takes rows deman
 faring-position : (k : ℕ) (fate : Fate) (x : Visit) → ((faring_by k fate x).position ≡ k) × ((faring_by k fate x).job ≡ x.job)
 faring-position k (Departs time) x = (refl, refl)
 faring-position k Lost x = (refl, refl)
+faring-position k Held x = (refl, refl)
 
 -- one emission a visit, by position
 pub fared-numbered : (takes : List ℕ → ℕ → Bool) (rows : Rows) (demand : Demand) (k : ℕ) (left : List ℕ) (visits : List Visit) → Numbered k (fared takes rows demand k left visits) visits

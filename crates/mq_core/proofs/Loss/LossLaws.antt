@@ -12,10 +12,9 @@ use Rattle.mq_core.specs.Tallies.{emission_at}
 use Rattle.mq_core.specs.declared.model.Demand.{Demand}
 use Rattle.mq_core.specs.declared.model.Kind.TheVariants.{Loss}
 use Rattle.mq_core.specs.declared.model.Rows.{Rows}
-use Rattle.mq_core.proofs.Loss.LossPeak.{losing-raises, losing-departs}
 use Rattle.mq_core.proofs.Counting.Services.{service-by}
 use Rattle.mq_core.proofs.Loss.LossBusy.{lost-out, LossBusy, losing-busy_arrives, losing-busy_done, losing-busy_ends, losing-busy_waits}
-use Rattle.mq_core.proofs.EachKind.KindLaws.{Inside, KindLaws, OnceLaws, OwnLaws}
+use Rattle.mq_core.proofs.EachKind.KindLaws.{Inside, KindLaws, OwnLaws}
 use Rattle.mq_core.proofs.Events.Areas.{sum-same}
 use Rattle.mq_core.proofs.Loss.Loses.{Losing, losing-arrives, losing-ends, losing-opens, losing-waits}
 use Rattle.mq_core.proofs.Loss.LossTallies.{losing-arrives-falls, losing-arrives-few, losing-done, losing-earlier, losing-emits, losing-ends-falls, losing-ends-few, losing-flow, losing-number, losing-own, losing-same}
@@ -40,18 +39,22 @@ loss-laws rows ports places demand =
           in
           (shape, losing-opens rows places demand v);
       waits = λ v s area busy fs now later l h. (h.0, losing-waits rows places demand v s.visits s.local.queue s.emitted fs now later l h.1);
-      arrives = λ peak v port s fs now x at by fit soon h. (h.0, losing-arrives rows places demand v port s.local s.visits s.emitted fs now x at soon h.1);
-      ends = λ peak rank v server position s fs rest now first h. (h.0, losing-ends rows places demand rank v server position s.local s.visits s.local.queue s.emitted fs rest now first h.1);
+      arrives = λ v port s fs now x at by fit soon h. (h.0, losing-arrives rows places demand v port s.local s.visits s.emitted fs now x at soon h.1);
+      ends = λ rank v server position s fs rest now first h. (h.0, losing-ends rows places demand rank v server position s.local s.visits s.local.queue s.emitted fs rest now first h.1);
       flow = λ v s now h. losing-flow rows places demand v s.visits _ s.emitted now h.0 h.1;
       number = λ v s fs now h. losing-number rows places demand v s.visits s.local.queue s.emitted fs now h.1;
       shows = λ rank v server position s fs rest now first h. inl (losing-emits rows places demand rank v server position s.local s.visits s.local.queue s.emitted fs rest now first h.1);
+      empty = λ keeps v s now h. ap length (losing-done rows places demand v s.visits _ s.emitted _ h.1).0;
+      enters = λ v port s fs now x at f. losing-arrives-few rows places demand s.local (s.visits ++ x ∷ []) now port x.job v;
+      leaves = λ rank v server position s fs rest now first h. losing-ends-few rows demand s.visits s.local now;
+      vacant = omega arith;
       weightless = λ onward. omega arith;
       adds = λ onward v port job s visits fs now f. let a = losing-arrives-falls rows places demand onward s.local visits now port job v in omega arith;
       takes = λ onward rank v server position s fs rest now first f. losing-ends-falls rows places demand onward rank v server position s.local s.visits s.local.queue s.emitted fs rest now first f.1;
       idle = λ v. refl;
       works = λ v area s fs now later l f h b. losing-busy_waits rows places demand v s.visits s.local.queue s.emitted fs now later s.busy l f h.1 b;
-      busy_arrives = λ peak v port s fs now x at soon h b. losing-busy_arrives rows places demand v port s.local s.visits s.emitted fs now s.busy x at soon h.1 b;
-      busy_ends = λ peak rank v server position s fs rest now first h b. losing-busy_ends rows places demand v s.local rank server position s.visits s.local.queue s.emitted fs rest now s.busy first h.1 b;
+      busy_arrives = λ v port s fs now x at soon h b. losing-busy_arrives rows places demand v port s.local s.visits s.emitted fs now s.busy x at soon h.1 b;
+      busy_ends = λ rank v server position s fs rest now first h b. losing-busy_ends rows places demand v s.local rank server position s.visits s.local.queue s.emitted fs rest now s.busy first h.1 b;
       served = λ v s now h k.
           let visits = s.visits in
           let emitted = s.emitted in
@@ -67,18 +70,4 @@ loss-own rows ports places demand =
       exits = λ s p. refl;
       own = λ v port s now x q m e. losing-own rows places demand s.local s.visits x now port x.job v q m e;
       earlier = λ rank v server position s fs rest now first h q p m e l u. losing-earlier rows places demand rank v server position s.local s.visits s.local.queue s.emitted fs rest now first h.1 q p m e l u;
-    }
-
--- what it owes as it lets each visit out once
-pub loss-once : (rows : Rows) (ports : ℕ) (places : ℕ) (demand : Demand) → OnceLaws rows ports (loss places demand) (loss-inside rows places demand)
-loss-once rows ports places demand =
-    record {
-      one = omega arith;
-      all = refl;
-      empty = λ v s now h. ap length (losing-done rows places demand v s.visits _ s.emitted _ h.1).0;
-      enters = λ v port s fs now x at f. losing-arrives-few rows places demand s.local (s.visits ++ x ∷ []) now port x.job v;
-      leaves = λ rank v server position s fs rest now first h. losing-ends-few rows demand s.visits s.local now;
-      vacant = omega arith;
-      raises = λ v port s fs now x at h f. losing-raises rows ports places demand v port s now x;
-      departs = λ v server position s now q m e. losing-departs rows places demand s now q m s.local.queue e;
     }

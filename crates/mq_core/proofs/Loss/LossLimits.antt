@@ -11,6 +11,8 @@ pub loss-limits : (places : ℕ) (demand : Demand) → LimitLaws (loss places de
 loss-limits places demand =
     record {
       outputs = λ columns h. omega arith;
+      copies = λ columns sound. omega arith;
+      first = λ first. omega arith;
       servers = λ columns h. omega arith;
       ports = λ inputs h. within-most 1 8 inputs h;
       reads = λ inputs starts h. absurd cc;

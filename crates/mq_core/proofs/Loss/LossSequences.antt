@@ -12,7 +12,7 @@ use Rattle.mq_core.specs.Machine.{Visit, Emission}
 use Rattle.mq_core.specs.Recurrences.{is_admitted, loss_fates, time_or_none}
 use Rattle.mq_core.specs.declared.model.Demand.{Demand}
 use Rattle.mq_core.specs.declared.model.Fate.{Fate}
-use Rattle.mq_core.specs.declared.model.Fate.TheVariants.{Departs, Lost}
+use Rattle.mq_core.specs.declared.model.Fate.TheVariants.{Departs, Held, Lost}
 use Rattle.mq_core.specs.declared.model.Kind.TheVariants.{Loss}
 use Rattle.mq_core.specs.declared.model.Rows.{Rows}
 use Rattle.mq_core.proofs.Counting.SequenceNumbers.{EachLeaves, Numbered}
@@ -38,25 +38,48 @@ faring-numbered k [] (x ∷ xs) e = absurd (omega arith)
 faring-numbered k (fate ∷ fates) [] e = absurd (omega arith)
 faring-numbered k (Departs time ∷ fates) (x ∷ xs) e = (refl, refl, faring-numbered (suc k) fates xs (omega arith))
 faring-numbered k (Lost ∷ fates) (x ∷ xs) e = (refl, refl, faring-numbered (suc k) fates xs (omega arith))
+faring-numbered k (Held ∷ fates) (x ∷ xs) e = (refl, refl, faring-numbered (suc k) fates xs (omega arith))
+
+-- a visit that isn't held
+abbrev IsOver : Fate → Type 0
+IsOver (Departs time) = Unit {0}
+IsOver Lost = Unit {0}
+IsOver Held = ⊥
+
+-- a loss station holds none of its visits for good
+pub loss-over : (places : ℕ) (left arrives demands : List ℕ) → Each IsOver (loss_fates places left arrives demands)
+loss-over places left [] demands = tt
+loss-over places left (a ∷ times) [] = tt
+loss-over places left (a ∷ times) (d ∷ ds) = go (is_admitted places left a) (λ l. loss-over places l times ds)
+  where
+    time : ℕ
+    time = max a (time_or_none (slice_get left 0)) + d
+
+    go : (b : Bool) → ((l : List ℕ) → Each IsOver (loss_fates places l times ds)) → Each IsOver (cond b (Departs time ∷ loss_fates places (time ∷ left) times ds) (Lost ∷ loss_fates places left times ds))
+    go true ih = (tt, ih (time ∷ left))
+    go false ih = (tt, ih left)
 
 -- each visit fares as it is let out
-pub faring-fates : (places : ℕ) (demand : Demand) (k : ℕ) (fates : List Fate) (visits : List Visit) → length fates ≡ length visits → map (fate_by (Loss places demand)) (faring_from k fates visits) ≡ fates
-faring-fates places demand k [] visits e = refl
-faring-fates places demand k (fate ∷ fates) [] e = absurd (omega arith)
-faring-fates places demand k (Departs time ∷ fates) (x ∷ xs) e = ap (λ l. Departs time ∷ l) (faring-fates places demand (suc k) fates xs (omega arith))
-faring-fates places demand k (Lost ∷ fates) (x ∷ xs) e = ap (λ l. Lost ∷ l) (faring-fates places demand (suc k) fates xs (omega arith))
+pub faring-fates : (places : ℕ) (demand : Demand) (k : ℕ) (fates : List Fate) (visits : List Visit) → length fates ≡ length visits → Each IsOver fates → map (fate_by (Loss places demand)) (faring_from k fates visits) ≡ fates
+faring-fates places demand k [] visits e o = refl
+faring-fates places demand k (fate ∷ fates) [] e o = absurd (omega arith)
+faring-fates places demand k (Departs time ∷ fates) (x ∷ xs) e o = ap (λ l. Departs time ∷ l) (faring-fates places demand (suc k) fates xs (omega arith) o.1)
+faring-fates places demand k (Lost ∷ fates) (x ∷ xs) e o = ap (λ l. Lost ∷ l) (faring-fates places demand (suc k) fates xs (omega arith) o.1)
+faring-fates places demand k (Held ∷ fates) (x ∷ xs) e o = absurd o.0
 
 pub faring-leaves : (places : ℕ) (demand : Demand) (k : ℕ) (fates : List Fate) (visits : List Visit) → EachLeaves (Loss places demand) (faring_from k fates visits) visits
 faring-leaves places demand k [] visits = tt
 faring-leaves places demand k (fate ∷ fates) [] = tt
 faring-leaves places demand k (Departs time ∷ fates) (x ∷ xs) = (inl refl, faring-leaves places demand (suc k) fates xs)
 faring-leaves places demand k (Lost ∷ fates) (x ∷ xs) = (inr (refl, refl), faring-leaves places demand (suc k) fates xs)
+faring-leaves places demand k (Held ∷ fates) (x ∷ xs) = (inl refl, faring-leaves places demand (suc k) fates xs)
 
 pub faring-outs : (k : ℕ) (fates : List Fate) (visits : List Visit) → length fates ≡ length visits → map (λ (m : Emission). m.out) (faring_from k fates visits) ≡ map out_of_fate fates
 faring-outs k [] visits e = refl
 faring-outs k (fate ∷ fates) [] e = absurd (omega arith)
 faring-outs k (Departs time ∷ fates) (x ∷ xs) e = ap (λ l. 0 ∷ l) (faring-outs (suc k) fates xs (omega arith))
 faring-outs k (Lost ∷ fates) (x ∷ xs) e = ap (λ l. 1 ∷ l) (faring-outs (suc k) fates xs (omega arith))
+faring-outs k (Held ∷ fates) (x ∷ xs) e = ap (λ l. 0 ∷ l) (faring-outs (suc k) fates xs (omega arith))
 
 -- what these visits let out, where these departures were before them
 abbrev loss_flow : Rows → ℕ → Demand → ℕ → List ℕ → List Visit → List Emission

@@ -1,10 +1,9 @@
 -- That a run is that of its network.
 use Rattle.std.proofs.Common.{◌≡◌, ℕ, List, ap, slice_get}
-use Rattle.std.specs.List.{flat_map}
 use Rattle.mq_core.specs.Local.{Local}
 use Rattle.mq_core.specs.Machine.{Table, after, opened}
 use Rattle.mq_core.specs.NetworkRun.{network_table, run_in, RunsAreOfNetworks}
-use Rattle.mq_core.specs.Results.{first_of, late_at}
+use Rattle.mq_core.specs.Results.{first_refusal, refusal_at}
 use Rattle.mq_core.specs.Run.{run_length, starts}
 use Rattle.mq_core.specs.Standard.{standard_opening, standard_handle, standard_jobs, standard_working}
 use Rattle.mq_core.specs.StandardTable.{standard, run_of}
@@ -24,5 +23,5 @@ pub runs-are-of-networks : RunsAreOfNetworks
 runs-are-of-networks plan rows = (
   same-run plan rows,
   λ i.
-      first_of (flat_map (λ v. late_at plan.net.bound v (slice_get plan.net.nodes v) ((same-run plan rows i).stations v)) (plan.ranked i)),
+      first_refusal (λ v. refusal_at plan.net.bound v (slice_get plan.net.nodes v) ((same-run plan rows i).stations v)) (plan.ranked i),
 )

@@ -41,5 +41,5 @@ unfolding earliest
 no_finish rank fs rest e h k = let c = subst (λ l. earliest rank l ≡ Some (e, rest)) h k in cc
 
 -- a node after what a handler says
-abbrev pub after_reaction : ℕ → Station Local → List Visit → ℕ → Reaction Local → Station Local
-after_reaction peak s visits now r = record { local = r.local; visits = visits; emitted = s.emitted ++ emissions_of now visits r.releases; area = s.area; busy = s.busy; peak = peak }
+abbrev pub after_reaction : Station Local → List Visit → ℕ → Reaction Local → Station Local
+after_reaction s visits now r = record { local = r.local; visits = visits; emitted = s.emitted ++ emissions_of now visits r.releases; area = s.area; busy = s.busy }

@@ -8,7 +8,7 @@ use Rattle.mq_core.specs.declared.model.Rows.{Rows}
 use Rattle.mq_core.proofs.Counting.Released.{emission-one, one-release, times-one}
 use Rattle.mq_core.proofs.Counting.Services.{services-by, services-count}
 use Rattle.mq_core.proofs.Passing.PassingSequences.{no_sum}
-use Rattle.mq_core.proofs.EachKind.KindLaws.{Inside, KindLaws, OnceLaws, OwnLaws}
+use Rattle.mq_core.proofs.EachKind.KindLaws.{Inside, KindLaws, OwnLaws}
 use Rattle.mq_core.proofs.Passing.Passes.{Passing, no_finish, passing-arrives}
 use Rattle.mq_core.proofs.Passing.PassingNumbers.{passing-number}
 use Rattle.mq_core.proofs.Server.Serves.{latest-push}
@@ -27,18 +27,22 @@ source-laws rows ports =
     record {
       opens = λ columns v sound many. record { left = refl; none = refl };
       waits = λ v s area busy fs now later l h. h;
-      arrives = λ peak v port s fs now x at by fit soon h. passing-arrives (λ _ _. 0) v now 0 s.visits s.emitted fs x at refl h;
-      ends = λ peak rank v server position s fs rest now first h. absurd (no_finish rank fs rest _ h.none first);
+      arrives = λ v port s fs now x at by fit soon h. passing-arrives (λ _ _. 0) v now 0 s.visits s.emitted fs x at refl h;
+      ends = λ rank v server position s fs rest now first h. absurd (no_finish rank fs rest _ h.none first);
       flow = λ v s now h. h.left;
       number = λ v s fs now h. passing-number (λ _ _. 0) s.visits s.emitted fs h;
       shows = λ rank v server position s fs rest now first h. absurd (no_finish rank fs rest _ h.none first);
+      empty = λ keeps v s now h. refl;
+      enters = λ v port s fs now x at f. let l = emission-one now 0 (latest (s.visits ++ x ∷ [])) (slice_get (s.visits ++ x ∷ []) (latest (s.visits ++ x ∷ []))) in omega arith;
+      leaves = λ rank v server position s fs rest now first h. omega arith;
+      vacant = refl;
       weightless = λ onward. refl;
       adds = λ onward v port job s visits fs now f. let l = times-one _ onward (emission-one now 0 (latest visits) (slice_get visits (latest visits))) in omega arith;
       takes = λ onward rank v server position s fs rest now first f. absurd (no_finish rank fs rest _ f.none first);
       idle = λ v. refl;
       works = λ v area s fs now later l f h b. omega arith;
-      busy_arrives = λ peak v port s fs now x at soon h b. b;
-      busy_ends = λ peak rank v server position s fs rest now first h b. b;
+      busy_arrives = λ v port s fs now x at soon h b. b;
+      busy_ends = λ rank v server position s fs rest now first h b. b;
       served = λ v s now h k. k ∙ (sym (no_sum (length s.visits)) ∙ (services-by rows Source s.visits (λ o. 0) refl (λ x. refl) ∙ services-count rows Source s.visits s.emitted (λ m. refl)));
     }
 
@@ -49,18 +53,4 @@ source-own rows ports =
       exits = λ s p. refl;
       own = λ v port s now x q m e. one-release now 0 (latest (s.visits ++ x ∷ [])) q (s.visits ++ x ∷ []) m e ∙ latest-push s.visits x;
       earlier = λ rank v server position s fs rest now first h q p m e l u. absurd cc;
-    }
-
--- what it owes as it lets each visit out once
-pub source-once : (rows : Rows) (ports : ℕ) → OnceLaws rows ports source (source-inside rows)
-source-once rows ports =
-    record {
-      one = omega arith;
-      all = refl;
-      empty = λ v s now h. refl;
-      enters = λ v port s fs now x at f. let l = emission-one now 0 (latest (s.visits ++ x ∷ [])) (slice_get (s.visits ++ x ∷ []) (latest (s.visits ++ x ∷ []))) in omega arith;
-      leaves = λ rank v server position s fs rest now first h. omega arith;
-      vacant = refl;
-      raises = λ v port s fs now x at h f. absurd cc;
-      departs = λ v server position s now q m e. refl;
     }

@@ -8,6 +8,8 @@ pub source-limits : LimitLaws source
 source-limits =
     record {
       outputs = λ columns h. omega arith;
+      copies = λ columns sound. omega arith;
+      first = λ first. omega arith;
       servers = λ columns h. omega arith;
       ports = λ inputs h. grind (arith, nat_tests);
       reads = λ inputs starts h. eqb-true inputs 0 h;

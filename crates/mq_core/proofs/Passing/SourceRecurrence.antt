@@ -18,7 +18,6 @@ source-recurrence rows ports =
       fares = λ visits. passed-fates Source (λ m. refl) _ 0 visits;
       goes = λ visits. source-outs 0 visits;
       stands = λ mixed visits rise out. absurd cc;
-      prompt = λ now m l. l;
       in_time = λ came e. at-once came.arrive;
       stays = λ came e. stay-fates (λ _. 0) came.job came.arrive came.arrive (stay-none came.job came.arrive e);
       bounded = λ came limit top few told room early. departs-by limit came.arrive (by-later top limit came.arrive (omega arith) early);

@@ -10,7 +10,7 @@ use Rattle.mq_core.specs.declared.model.Rows.{Rows}
 use Rattle.mq_core.proofs.Counting.Released.{emission-one, one-release, times-one}
 use Rattle.mq_core.proofs.Counting.Services.{services-by, services-count}
 use Rattle.mq_core.proofs.Passing.PassingSequences.{no_sum}
-use Rattle.mq_core.proofs.EachKind.KindLaws.{Inside, KindLaws, OnceLaws, OwnLaws}
+use Rattle.mq_core.proofs.EachKind.KindLaws.{Inside, KindLaws, OwnLaws}
 use Rattle.mq_core.proofs.Passing.Passes.{Passing, no_finish, passing-arrives}
 use Rattle.mq_core.proofs.Passing.PassingNumbers.{passing-number}
 use Rattle.mq_core.proofs.Server.Serves.{latest-push}
@@ -29,18 +29,22 @@ split-laws rows ports route =
     record {
       opens = λ columns v sound many. record { left = refl; none = refl };
       waits = λ v s area busy fs now later l h. h;
-      arrives = λ peak v port s fs now x at by fit soon h. passing-arrives (λ y p. output_by rows route y.job p) v now (output_by rows route x.job (latest (s.visits ++ x ∷ []))) s.visits s.emitted fs x at refl h;
-      ends = λ peak rank v server position s fs rest now first h. absurd (no_finish rank fs rest _ h.none first);
+      arrives = λ v port s fs now x at by fit soon h. passing-arrives (λ y p. output_by rows route y.job p) v now (output_by rows route x.job (latest (s.visits ++ x ∷ []))) s.visits s.emitted fs x at refl h;
+      ends = λ rank v server position s fs rest now first h. absurd (no_finish rank fs rest _ h.none first);
       flow = λ v s now h. h.left;
       number = λ v s fs now h. passing-number (λ x p. output_by rows route x.job p) s.visits s.emitted fs h;
       shows = λ rank v server position s fs rest now first h. absurd (no_finish rank fs rest _ h.none first);
+      empty = λ keeps v s now h. refl;
+      enters = λ v port s fs now x at f. let l = emission-one now (output_by rows route x.job (latest (s.visits ++ x ∷ []))) (latest (s.visits ++ x ∷ [])) (slice_get (s.visits ++ x ∷ []) (latest (s.visits ++ x ∷ []))) in omega arith;
+      leaves = λ rank v server position s fs rest now first h. omega arith;
+      vacant = refl;
       weightless = λ onward. refl;
       adds = λ onward v port job s visits fs now f. let l = times-one _ onward (emission-one now (output_by rows route job (latest visits)) (latest visits) (slice_get visits (latest visits))) in omega arith;
       takes = λ onward rank v server position s fs rest now first f. absurd (no_finish rank fs rest _ f.none first);
       idle = λ v. refl;
       works = λ v area s fs now later l f h b. omega arith;
-      busy_arrives = λ peak v port s fs now x at soon h b. b;
-      busy_ends = λ peak rank v server position s fs rest now first h b. b;
+      busy_arrives = λ v port s fs now x at soon h b. b;
+      busy_ends = λ rank v server position s fs rest now first h b. b;
       served = λ v s now h k. k ∙ (sym (no_sum (length s.visits)) ∙ (services-by rows (Split route) s.visits (λ o. 0) refl (λ x. refl) ∙ services-count rows (Split route) s.visits s.emitted (λ m. refl)));
     }
 
@@ -51,18 +55,4 @@ split-own rows ports route =
       exits = λ s p. refl;
       own = λ v port s now x q m e. one-release now (output_by rows route x.job (latest (s.visits ++ x ∷ []))) (latest (s.visits ++ x ∷ [])) q (s.visits ++ x ∷ []) m e ∙ latest-push s.visits x;
       earlier = λ rank v server position s fs rest now first h q p m e l u. absurd cc;
-    }
-
--- what it owes as it lets each visit out once
-pub split-once : (rows : Rows) (ports : ℕ) (route : Route) → OnceLaws rows ports (split route) (split-inside rows route)
-split-once rows ports route =
-    record {
-      one = omega arith;
-      all = refl;
-      empty = λ v s now h. refl;
-      enters = λ v port s fs now x at f. let l = emission-one now (output_by rows route x.job (latest (s.visits ++ x ∷ []))) (latest (s.visits ++ x ∷ [])) (slice_get (s.visits ++ x ∷ []) (latest (s.visits ++ x ∷ []))) in omega arith;
-      leaves = λ rank v server position s fs rest now first h. omega arith;
-      vacant = refl;
-      raises = λ v port s fs now x at h f. absurd cc;
-      departs = λ v server position s now q m e. refl;
     }

@@ -43,6 +43,8 @@ pub split-limits : (route : Route) → LimitLaws (split route)
 split-limits route =
     record {
       outputs = λ columns h. route-outputs columns route h;
+      copies = λ columns sound. omega arith;
+      first = λ first. omega arith;
       servers = λ columns h. omega arith;
       ports = λ inputs h. within-most 1 8 inputs h;
       reads = λ inputs starts h. absurd cc;

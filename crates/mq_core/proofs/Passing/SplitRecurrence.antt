@@ -19,7 +19,6 @@ split-recurrence rows ports route =
       fares = λ visits. passed-fates (Split route) (λ m. refl) _ 0 visits;
       goes = λ visits. split-outs rows route 0 visits;
       stands = λ mixed visits rise out. absurd cc;
-      prompt = λ now m l. l;
       in_time = λ came e. at-once came.arrive;
       stays = λ came e. stay-fates (λ _. 0) came.job came.arrive came.arrive (stay-none came.job came.arrive e);
       bounded = λ came limit top few told room early. departs-by limit came.arrive (by-later top limit came.arrive (omega arith) early);

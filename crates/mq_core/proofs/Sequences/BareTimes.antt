@@ -1,25 +1,14 @@
 -- Each visit that departs stays at least the bare time of its job: it leaves no earlier than from a delay of that time.
-use Rattle.mq_core.specs.Came.{Came, came_of}
-use Rattle.std.proofs.Common.{List, Some, [], ap, length, subst, suc, sym, zero, ℕ, ◌+◌, ◌∙◌, ◌∷◌, ◌≡◌, ◌≤◌}
-use Rattle.std.proofs.lemmas.List.{length-map}
+use Rattle.std.proofs.Common.{List, Some, [], subst, suc, zero, ℕ, ◌+◌, ◌∷◌, ◌≡◌, ◌≤◌}
 use Rattle.std.specs.Prelude.{slice_get}
 use Rattle.mq_core.specs.SequenceLaws.{LeavesFrom, VisitsStayBareTime, arrives_of, jobs_of}
-use Rattle.mq_core.specs.Sequences.{sequence_fates}
-use Rattle.mq_core.specs.Machine.{Visit}
 use Rattle.mq_core.specs.Results.{bare_time, fates_from}
 use Rattle.mq_core.specs.StandardTable.{run_of}
 use Rattle.mq_core.specs.declared.model.Fate.{Fate}
 use Rattle.mq_core.specs.declared.model.Fate.TheVariants.{Departs}
-use Rattle.mq_core.specs.declared.model.Kind.{Kind}
-use Rattle.mq_core.specs.declared.model.Rows.{Rows}
-use Rattle.mq_core.specs.declared.model.Visits.{Visits}
 use Rattle.mq_base.proofs.lemmas.Lists.{some_inj}
-use Rattle.mq_core.proofs.Sequences.StationTable.{nodes-are-sequences}
+use Rattle.mq_core.proofs.Sequences.StationTable.{nodes-stay}
 use Rattle.mq_core.proofs.Counting.Stays.{FatesStay}
-use Rattle.mq_core.proofs.EachKind.LawTable.{recurrence_of}
-
-stay-by-kind : (rows : Rows) (kind : Kind) (came : Came) → length came.job ≡ length came.arrive → FatesStay (bare_time rows kind) came.job came.arrive (sequence_fates rows kind came)
-stay-by-kind rows kind came = (recurrence_of rows came.ports kind).stays came
 
 by-position : (bare : ℕ → ℕ) (job arrive : List ℕ) (fate : List Fate) → FatesStay bare job arrive fate →
     (k j a t : ℕ) → slice_get job k ≡ Some j → slice_get arrive k ≡ Some a → slice_get fate k ≡ Some (Departs t) → a + bare j ≤ t
@@ -33,7 +22,4 @@ by-position bare (x ∷ xs) (y ∷ ys) (z ∷ zs) h (suc k) j a t e f g = by-pos
 pub visits-stay-bare_time : VisitsStayBareTime
 visits-stay-bare_time plan rows read v node e =
     let s = (run_of plan rows).stations v in
-    let same : sequence_fates rows node.kind (came_of (length node.inputs) s.visits) ≡ fates_from node.kind s 0 s.visits = sym (ap (λ (x : Visits). x.fate) (nodes-are-sequences plan rows read v node e).visits) in
-    let long : length (jobs_of s.visits) ≡ length (arrives_of s.visits) = length-map s.visits (λ (x : Visit). x.job) ∙ sym (length-map s.visits (λ (x : Visit). x.arrive)) in
-    by-position (bare_time rows node.kind) (jobs_of s.visits) (arrives_of s.visits) (fates_from node.kind s 0 s.visits)
-    (subst (FatesStay (bare_time rows node.kind) (jobs_of s.visits) (arrives_of s.visits)) same (stay-by-kind rows node.kind (came_of (length node.inputs) s.visits) long))
+    by-position (bare_time rows node.kind) (jobs_of s.visits) (arrives_of s.visits) (fates_from node.kind s 0 s.visits) (nodes-stay plan rows read v node e)

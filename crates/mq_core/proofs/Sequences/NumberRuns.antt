@@ -12,7 +12,7 @@ use Rattle.mq_core.specs.StandardTable.{run_of}
 use Rattle.mq_core.specs.declared.model.Node.{Node}
 use Rattle.mq_core.specs.declared.model.Stream.{Stream}
 use Rattle.mq_core.specs.declared.model.Visits.{Visits}
-use Rattle.mq_core.proofs.Sequences.NumberPast.{sequences-of_node}
+use Rattle.mq_core.proofs.Sequences.NumberRefusals.{sequences-of_node}
 
 -- two lists of one length that agree at each index of the second
 same-indices : {X : Type 0} (xs ys : List X) → length xs ≡ length ys → ((i : ℕ) (y : X) → slice_get ys i ≡ Some y → slice_get xs i ≡ Some y) → xs ≡ ys

@@ -1,5 +1,5 @@
 -- That the span of a run is the latest time in its sequences.
-use Rattle.std.proofs.Common.{Bool, List, None, Option, Some, [], ap, arith, cond, false, filter, find, fold, inl, inr, le_antisymm, length, length-append, map, max, option_map, refl, slice_get, subst, suc, sym, true, zero, ℕ, ◌++◌, ◌+◌, ◌<◌, ◌∙◌, ◌∷◌, ◌≡◌, ◌≤◌, ◌⊎◌}
+use Rattle.std.proofs.Common.{List, None, Option, Some, [], ap, arith, cond, filter, fold, inl, inr, le_antisymm, length, length-append, map, max, option_map, refl, slice_get, subst, suc, sym, zero, ℕ, ◌++◌, ◌+◌, ◌<◌, ◌∙◌, ◌∷◌, ◌≡◌, ◌≤◌, ◌⊎◌}
 use Rattle.std.proofs.lemmas.List.{append-nil}
 use Rattle.std.specs.List.{AllByRecursion as Each}
 use Rattle.mq_base.proofs.lemmas.Each.{Each-map}
@@ -7,34 +7,34 @@ use Rattle.mq_core.specs.Alone.{came}
 use Rattle.mq_core.specs.Sequences.{sequence_span, greatest_time, time_of_fate, visits_by_node}
 use Rattle.mq_core.specs.Event.{Event, job_of, time_of}
 use Rattle.mq_core.specs.Event.Event.{Arrive, Finish}
-use Rattle.mq_core.specs.Fates.{ComesAt, IsLatest, LeavesAt, fate_by, leaves_with}
-use Rattle.mq_core.specs.Laws.{by_time, is_arrival_at, read_by}
+use Rattle.mq_core.specs.Fates.{ComesAt, IsLatest, LeavesAt, fate_by, fate_of, leaves_with}
+use Rattle.mq_core.specs.KindTable.{behaviour_of}
+use Rattle.mq_core.specs.Laws.{by_time, is_arrival_at, port_of, read_by}
 use Rattle.mq_core.specs.Local.{Local}
 use Rattle.mq_core.specs.Machine.{Emission, State, Station, Visit, emissions_of, opened}
 use Rattle.mq_core.specs.NumberLaws.{SpanIsSequences}
 use Rattle.mq_core.specs.OnTime.{standard-on_time}
-use Rattle.mq_core.specs.Results.{fates_from, visits_of}
+use Rattle.mq_core.specs.Results.{fates_from, or_held, visits_of}
 use Rattle.mq_core.specs.Run.{run_length, starts}
-use Rattle.mq_core.specs.Served.{flow_of}
 use Rattle.mq_core.specs.Standard.{node_on, standard_handle, standard_jobs, standard_opening}
 use Rattle.mq_core.specs.StandardTable.{run_of, standard}
-use Rattle.mq_core.specs.Tallies.{arrival_or, emission_at}
+use Rattle.mq_core.specs.Tallies.{arrival_or}
 use Rattle.mq_core.specs.Theorems.{IsReadFor}
 use Rattle.mq_core.specs.Wiring.{is_source, outputs_read}
+use Rattle.mq_core.specs.declared.model.Fate.TheVariants.{Departs}
 use Rattle.mq_core.specs.declared.model.Kind.{Kind}
 use Rattle.mq_core.specs.declared.model.Node.{Node}
 use Rattle.mq_core.specs.declared.model.Plan.{Plan}
 use Rattle.mq_core.specs.declared.model.Rows.{Rows}
-use Rattle.mq_core.proofs.Sequences.SequenceFlow.{node-leaves, nodes-flow}
-use Rattle.mq_core.proofs.Sequences.NumberFates.{LetOut, all-let_out, fates-cons}
-use Rattle.mq_core.proofs.Sequences.NumberPast.{sequences-of_node}
-use Rattle.mq_core.proofs.Counting.SequenceNumbers.{LeavesAs, order-own}
+use Rattle.mq_core.proofs.Sequences.NumberRefusals.{sequences-of_node}
+use Rattle.mq_core.proofs.Sequences.StationTable.{nodes-leave, nodes-reach}
+use Rattle.mq_core.proofs.Counting.SequenceNumbers.{LeavesAs}
 use Rattle.mq_core.proofs.EachKind.Facts.{network-fits}
-use Rattle.mq_core.proofs.EachKind.Flows.{flow-numbered}
 use Rattle.mq_core.proofs.EachKind.AloneRuns.{visits-handled}
-use Rattle.mq_core.proofs.EachKind.Ends.{nothing-pending, some-inside}
-use Rattle.mq_core.proofs.EachKind.LawTable.{recurrence_of, own_of}
+use Rattle.mq_core.proofs.EachKind.Ends.{nothing-pending, some-inside as some-node}
+use Rattle.mq_core.proofs.EachKind.LawTable.{exits_of}
 use Rattle.mq_core.proofs.EachKind.Span.{span-is_latest}
+use Rattle.mq_core.proofs.EachKind.StationLaws.{Reaches}
 use Rattle.mq_core.proofs.Events.Kept.{Keeps, kept}
 use Rattle.mq_core.proofs.Lists.NumberLists.{greatest-bounds, greatest-least}
 use Rattle.mq_core.proofs.Networks.Whole.{arrivals-read, starts-begin}
@@ -45,42 +45,36 @@ at-map f [] i x h = absurd cc
 at-map f (y ∷ xs) zero x h = let same : y ≡ x = cc in ap (λ z. Some (f z)) same
 at-map f (y ∷ xs) (suc i) x h = at-map f xs i x h
 
-found-each : (P : Emission → Type 0) (test : Emission → Bool) (ms : List Emission) (m : Emission) → Each P ms → find test ms ≡ Some m → P m
-found-each P test [] m h e = absurd cc
-found-each P test (n ∷ ms) m h e = go (test n) e (found-each P test ms m h.1)
-  where
-    go : (b : Bool) → cond b (Some n) (find test ms) ≡ Some m → (find test ms ≡ Some m → P m) → P m
-    go true e rest = subst P (let same : n ≡ m = cc in same) h.0
-    go false e rest = rest e
-
 -- the fate of a position is in the sequence
-fate-at : (kind : Kind) (s : Station Local) (k i : ℕ) (xs : List Visit) (m : Emission) → LetOut (leaves_with kind s) k xs → i < length xs → leaves_with kind s (k + i) ≡ Some m → slice_get (fates_from kind s k xs) i ≡ Some (fate_by kind m)
-fate-at kind s k i [] m out l e = absurd (omega arith)
-fate-at kind s k zero (x ∷ xs) m out l e =
-    let index : k + zero ≡ k = omega arith in
-    let found = subst (λ p. leaves_with kind s p ≡ Some m) index e in
-    ap (λ l. slice_get l 0) (fates-cons kind s k x xs m found)
-fate-at kind s k (suc i) (x ∷ xs) m out l e =
-    let index : k + suc i ≡ suc k + i = omega arith in
-    ap (λ l. slice_get l (suc i)) (fates-cons kind s k x xs out.0.0 out.0.1)
-    ∙ fate-at kind s (suc k) i xs m out.1 (omega arith) (subst (λ p. leaves_with kind s p ≡ Some m) index e)
+fate-at : (kind : Kind) (s : Station Local) (k i : ℕ) (xs : List Visit) → i < length xs → slice_get (fates_from kind s k xs) i ≡ Some (or_held (fate_of kind s (k + i)))
+fate-at kind s k i [] l = absurd (omega arith)
+fate-at kind s k zero (x ∷ xs) l = let index : k ≡ k + zero = omega arith in ap (λ n. Some (or_held (fate_of kind s n))) index
+fate-at kind s k (suc i) (x ∷ xs) l = let index : suc k + i ≡ k + suc i = omega arith in fate-at kind s (suc k) i xs (omega arith) ∙ ap (λ n. Some (or_held (fate_of kind s n))) index
 
--- a fate is no later than its emission
-early-fate : (rows : Rows) (kind : Kind) (now : ℕ) (m : Emission) → m.time ≤ now → time_of_fate (fate_by kind m) ≤ now
-early-fate rows kind = (recurrence_of rows 0 kind).prompt
+-- where an item stands is inside
+some-inside : (xs : List Visit) (i : ℕ) (x : Visit) → slice_get xs i ≡ Some x → i < length xs
+some-inside [] i x e = absurd cc
+some-inside (y ∷ xs) zero x e = omega arith
+some-inside (y ∷ xs) (suc i) x e = let l = some-inside xs i x e in omega arith
 
--- a number below the length is that of an item
-at-below : (xs : List Visit) (i : ℕ) → i < length xs → (x : Visit) × (slice_get xs i ≡ Some x)
-at-below [] i l = absurd (omega arith)
-at-below (x ∷ xs) zero l = (x, refl)
-at-below (x ∷ xs) (suc i) l = at-below xs i (omega arith)
+-- who leaves so departs no later than at that time
+early-fate : (kind : Kind) (now : ℕ) (m : Emission) (x : Visit) → LeavesAs kind m x → m.time ≤ now → time_of_fate (fate_by kind m) ≤ now
+early-fate kind now m x (inl e) l = rw e l
+early-fate kind now m x (inr e) l = rw e.0 (omega arith)
 
--- no fate is later than all emissions
-fates-early : (rows : Rows) (kind : Kind) (ports now : ℕ) (s : Station Local) (k : ℕ) (xs : List Visit) → LetOut (leaves_with kind s) k xs → Each (λ (m : Emission). m.time ≤ now) s.emitted → Each (λ fate. time_of_fate fate ≤ now) (fates_from kind s k xs)
-fates-early rows kind ports now s k [] out h = tt
-fates-early rows kind ports now s k (x ∷ xs) out h =
-    subst (λ l. Each (λ fate. time_of_fate fate ≤ now) l) (sym (fates-cons kind s k x xs out.0.0 out.0.1))
-    (early-fate rows kind now out.0.0 (found-each (λ (m : Emission). m.time ≤ now) _ s.emitted out.0.0 h (sym ((own_of rows ports kind).exits s k) ∙ out.0.1)), fates-early rows kind ports now s (suc k) xs out.1 h)
+-- no fate is later than all that leaves
+fates-early : (kind : Kind) (now : ℕ) (s : Station Local) → ((p : ℕ) (x : Visit) (m : Emission) → slice_get s.visits p ≡ Some x → leaves_with kind s p ≡ Some m → (m.time ≤ now) × LeavesAs kind m x) →
+    (k : ℕ) (xs : List Visit) → ((i : ℕ) (x : Visit) → slice_get xs i ≡ Some x → slice_get s.visits (k + i) ≡ Some x) → Each (λ fate. time_of_fate fate ≤ now) (fates_from kind s k xs)
+fates-early kind now s left k [] all = tt
+fates-early kind now s left k (x ∷ xs) all =
+    (one (leaves_with kind s k) refl, fates-early kind now s left (suc k) xs (λ i y e. ap (slice_get s.visits) (let same : suc k + i ≡ k + suc i = omega arith in same) ∙ all (suc i) y e))
+  where
+    here : slice_get s.visits k ≡ Some x
+    here = ap (slice_get s.visits) (let same : k ≡ k + 0 = omega arith in same) ∙ all 0 x refl
+
+    one : (o : Option Emission) → leaves_with kind s k ≡ o → time_of_fate (or_held (option_map (fate_by kind) o)) ≤ now
+    one None e = omega arith
+    one (Some m) e = let l = left k x m here e in early-fate kind now m x l.1 l.0
 
 nothing-came : (visits : List Visit) → came visits ≡ [] → visits ≡ []
 nothing-came [] h = refl
@@ -122,7 +116,7 @@ module _ (plan : Plan) (rows : Rows) (read : IsReadFor plan.net rows) where
   no-visits v none =
       nothing-came (end.stations v).visits
       (visits-handled (standard plan rows) v (run_length plan.net.nodes rows) (opened (standard plan rows) (starts rows))
-      ∙ ap (map {B = ℕ × ℕ} (λ e. (time_of e, job_of e)))
+      ∙ ap (map {B = ℕ × ℕ × ℕ} (λ e. (time_of e, port_of e, job_of e)))
       (arrivals-read plan rows (standard plan rows) (standard-on_time plan rows) refl refl (run_length plan.net.nodes rows) v read (nothing-pending plan rows read)
       ∙ no-arrivals (slice_get plan.net.nodes v) none))
     where
@@ -143,29 +137,29 @@ module _ (plan : Plan) (rows : Rows) (read : IsReadFor plan.net rows) where
       omega arith
 
   leaves-within : (v : ℕ) (node : Node) (before after : List Emission) (m : Emission) → slice_get plan.net.nodes v ≡ Some node → (end.stations v).emitted ≡ before ++ m ∷ after → m.time ≤ sequence_span (visits_by_node end 0 plan.net.nodes)
-  leaves-within v node before after m here inside =
-      let flow = nodes-flow plan rows read v node here in
-      let own = order-own node.kind (flow_of rows (length node.inputs) node.kind (end.stations v).visits) (end.stations v).visits (flow-numbered rows (length node.inputs) node.kind (end.stations v).visits) before after m (sym flow ∙ inside) in
-      let index : m.position ≡ 0 + m.position = omega arith in
-      let found : emission_at (end.stations v).emitted (0 + m.position) ≡ Some m = ap (emission_at (end.stations v).emitted) (sym index) ∙ (ap (λ l. emission_at l m.position) flow ∙ own.0) in
-      let size = own.1 in
-      let fate = fate-at node.kind (end.stations v) 0 m.position (end.stations v).visits m (all-let_out plan rows read v node here) size ((own_of rows (length node.inputs) node.kind).exits (end.stations v) (0 + m.position) ∙ found) in
-      let visit = at-below (end.stations v).visits m.position own.1 in
-      go fate visit.0 visit.1 (node-leaves plan rows read v node here m.position visit.0 m visit.1 (ap (emission_at (end.stations v).emitted) index ∙ found))
+  leaves-within v node before after m here inside = go reached.at
     where
-      go : slice_get (fates_from node.kind (end.stations v) 0 (end.stations v).visits) m.position ≡ Some (fate_by node.kind m) → (x : Visit) → slice_get (end.stations v).visits m.position ≡ Some x → LeavesAs node.kind m x → m.time ≤ sequence_span (visits_by_node end 0 plan.net.nodes)
-      go fate x at (inl e) =
-          let one : time_of_fate (fate_by node.kind m) ≤ fold max 0 (map time_of_fate (fates_from node.kind (end.stations v) 0 (end.stations v).visits)) = greatest-bounds (map time_of_fate (fates_from node.kind (end.stations v) 0 (end.stations v).visits)) m.position (time_of_fate (fate_by node.kind m)) (at-map time_of_fate (fates_from node.kind (end.stations v) 0 (end.stations v).visits) m.position (fate_by node.kind m) fate) in
+      reached : Reaches (behaviour_of node.kind) ((run_of plan rows).stations v) m
+      reached = nodes-reach plan rows read v node here before after m inside
+
+      go : (reached.visit.arrive ≡ m.time) ⊎ (fate_of node.kind ((run_of plan rows).stations v) reached.position ≡ Some (Departs m.time)) → m.time ≤ sequence_span (visits_by_node (run_of plan rows) 0 plan.net.nodes)
+      go (inl e) = let came = arrives-within v reached.position node reached.visit here reached.here in omega arith
+      go (inr e) =
+          let s = (run_of plan rows).stations v in
+          let index : 0 + reached.position ≡ reached.position = omega arith in
+          let fate : slice_get (fates_from node.kind s 0 s.visits) reached.position ≡ Some (Departs m.time) = fate-at node.kind s 0 reached.position s.visits (some-inside s.visits reached.position reached.visit reached.here) ∙ (ap (λ n. Some (or_held (fate_of node.kind s n))) index ∙ ap (λ o. Some (or_held o)) e) in
+          let one : m.time ≤ fold max 0 (map time_of_fate (fates_from node.kind s 0 s.visits)) = greatest-bounds (map time_of_fate (fates_from node.kind s 0 s.visits)) reached.position m.time (at-map time_of_fate (fates_from node.kind s 0 s.visits) reached.position (Departs m.time) fate) in
           let two = sequence-within v node here in
-          let three : time_of_fate (fate_by node.kind m) ≡ m.time = ap time_of_fate e in
           omega arith
-      go fate x at (inr e) = let came = arrives-within v m.position node x here at in let same = e.1 in omega arith
 
   node-early : (v : ℕ) (node : Node) → slice_get plan.net.nodes v ≡ Some node → greatest_time (visits_of node.kind (end.stations v)) ≤ end.clock
   node-early v node here =
-      let inside = some-inside plan.net.nodes v node here in
-      let one = greatest-least end.clock (map (λ (x : Visit). x.arrive) (end.stations v).visits) (Each-map _ _ (λ (x : Visit). x.arrive) (λ x h. h) (end.stations v).visits (latest.came v inside)) in
-      let two = greatest-least end.clock (map time_of_fate (fates_from node.kind (end.stations v) 0 (end.stations v).visits)) (Each-map _ _ time_of_fate (λ f h. h) (fates_from node.kind (end.stations v) 0 (end.stations v).visits) (fates-early rows node.kind (length node.inputs) end.clock (end.stations v) 0 (end.stations v).visits (all-let_out plan rows read v node here) (latest.left v inside))) in
+      let s = end.stations v in
+      let inside = some-node plan.net.nodes v node here in
+      let one = greatest-least end.clock (map (λ (x : Visit). x.arrive) s.visits) (Each-map _ _ (λ (x : Visit). x.arrive) (λ x h. h) s.visits (latest.came v inside)) in
+      let left : (p : ℕ) (x : Visit) (m : Emission) → slice_get s.visits p ≡ Some x → leaves_with node.kind s p ≡ Some m → (m.time ≤ end.clock) × LeavesAs node.kind m x = λ p x m at e. ((exits_of rows (length node.inputs) node.kind).among s p end.clock m (latest.left v inside) e, nodes-leave plan rows read v node here p x m at e) in
+      let fates = fates-early node.kind end.clock s left 0 s.visits (λ i x e. ap (slice_get s.visits) (let same : 0 + i ≡ i = omega arith in same) ∙ e) in
+      let two = greatest-least end.clock (map time_of_fate (fates_from node.kind s 0 s.visits)) (Each-map _ _ time_of_fate (λ f h. h) (fates_from node.kind s 0 s.visits) fates) in
       omega arith
 
   nodes-early : (k : ℕ) (nodes : List Node) → ((i : ℕ) (node : Node) → slice_get nodes i ≡ Some node → greatest_time (visits_of node.kind (end.stations (k + i))) ≤ end.clock) → Each (λ time. time ≤ end.clock) (map greatest_time (visits_by_node end k nodes))

@@ -1,8 +1,15 @@
--- That no node has more visits than there are rows, where none copies; and that no kind does.
-use Rattle.std.proofs.Common.{Bool, List, None, Option, Some, [], ap, arith, cond, eq-eqb, eqb, eqb-true, false, length, length-append, ltb, ltb-true, refl, suc, true, zero, ℕ, ◌*◌, ◌++◌, ◌+◌, ◌<◌, ◌∷◌, ◌≡◌, ◌≤◌}
+-- That no node has more visits than there are rows, where none copies, as in networks of the first version.
+use Rattle.std.proofs.Common.{Bool, List, None, Option, Some, [], ap, arith, cond, eq-eqb, eqb, eqb-true, false, length, length-append, ltb, ltb-true, refl, subst, suc, true, zero, ℕ, ◌*◌, ◌^◌, ◌++◌, ◌+◌, ◌<◌, ◌∷◌, ◌≡◌, ◌≤◌}
 use Rattle.std.proofs.lemmas.Bool.Decides.{nat_tests}
-use Rattle.std.specs.Prelude.{IfSome, slice_get}
-use Rattle.mq_core.specs.SequenceLaws.{NoKindCopies, VisitsAreFew}
+use Rattle.std.proofs.lemmas.Bool.{and_parts}
+use Rattle.std.specs.List.{flat_map, list_all, list_any}
+use Rattle.std.specs.Prelude.{IfSome, map, nat_le, slice_get}
+use Rattle.std.specs.Str.{bytes_eq}
+use Rattle.mq_base.proofs.lemmas.Lists.{some_inj}
+use Rattle.mq_core.specs.Names.{is_name}
+use Rattle.mq_core.specs.Ranges.{is_within}
+use Rattle.mq_core.specs.Sound.{are_distinct, columns_of_kind, is_sound_node, mentions_from, same_input, version_of}
+use Rattle.mq_core.specs.SequenceLaws.{FirstVersionCopiesNothing, NoNodeCopies, VisitsAreFew, copies_of}
 use Rattle.mq_core.specs.Event.{Event, earliest}
 use Rattle.mq_core.specs.Event.Event.{Arrive, Finish}
 use Rattle.mq_core.specs.Local.{Local}
@@ -13,30 +20,30 @@ use Rattle.mq_core.specs.Standard.{node_jobs, node_on, node_opening, standard_ha
 use Rattle.mq_core.specs.StandardTable.{run_of, standard}
 use Rattle.mq_core.specs.Tallies.{sum_below}
 use Rattle.mq_core.specs.Theorems.{IsReadFor}
-use Rattle.mq_core.specs.Wiring.{rank_in, reader_from}
+use Rattle.mq_core.specs.Wiring.{is_source_kind, rank_in, reader_from}
 use Rattle.mq_core.specs.declared.model.Node.{Node}
 use Rattle.mq_core.specs.declared.model.Plan.{Plan}
 use Rattle.mq_core.specs.declared.model.Rows.{Rows}
 use Rattle.mq_core.proofs.Sequences.SequenceMerges.{visits-nowhere}
 use Rattle.mq_core.proofs.EachKind.Ends.{source-inside, starts-inside, starts-weight, sum_below-zero, some-inside}
 use Rattle.mq_core.proofs.EachKind.Facts.{node_fact, standard-keeps}
-use Rattle.mq_core.proofs.EachKind.LawTable.{once_of}
+use Rattle.mq_core.proofs.EachKind.LawTable.{laws_of, limits_of}
 use Rattle.mq_core.proofs.Events.Falls.{Falls, never-grows-from_start}
 use Rattle.mq_core.proofs.Events.Kept.{Fact}
 use Rattle.mq_core.proofs.Networks.Whole.{starts-begin}
 use Rattle.mq_core.proofs.Networks.Wired.{feeds_forward, has_inputs, reads-from}
 
 -- an arrival brings one job in, which stays or is let out
-node-arrives-few : (rows : Rows) (o : Option Node) (s : Station Local) (fs : List Event) (x : Visit) (now port v : ℕ) → x.arrive ≡ now → node_fact rows o v s fs now →
+node-arrives-few : (rows : Rows) (o : Option Node) → IfSome o (λ node. copies_of node.kind ≤ 1) → (s : Station Local) (fs : List Event) (x : Visit) (now port v : ℕ) → x.arrive ≡ now → node_fact rows o v s fs now →
     node_jobs o (s.visits ++ x ∷ []) (node_on rows o (s.visits ++ x ∷ []) s.local now (Arrive now v port x.job)).local + length (emissions_of now (s.visits ++ x ∷ []) (node_on rows o (s.visits ++ x ∷ []) s.local now (Arrive now v port x.job)).releases) ≤ node_jobs o s.visits s.local + 1
-node-arrives-few rows None s fs x now port v at fact = omega arith
-node-arrives-few rows (Some node) s fs x now port v at fact = (once_of rows (length node.inputs) node.kind).enters v port s fs now x at fact
+node-arrives-few rows None single s fs x now port v at fact = omega arith
+node-arrives-few rows (Some node) single s fs x now port v at fact = let l = (laws_of rows (length node.inputs) node.kind).enters v port s fs now x at fact in omega arith
 
 -- a finish lets out no more jobs than it takes from those inside
 node-ends-few : (rows : Rows) (o : Option Node) (rank : ℕ → ℕ) (v server position : ℕ) (s : Station Local) (fs rest : List Event) (now : ℕ) → node_fact rows o v s fs now → earliest rank fs ≡ Some (Finish now v server position, rest) →
     node_jobs o s.visits (node_on rows o s.visits s.local now (Finish now v server position)).local + length (emissions_of now s.visits (node_on rows o s.visits s.local now (Finish now v server position)).releases) ≤ node_jobs o s.visits s.local
 node-ends-few rows None rank v server position s fs rest now h first = omega arith
-node-ends-few rows (Some node) rank v server position s fs rest now h first = (once_of rows (length node.inputs) node.kind).leaves rank v server position s fs rest now first h
+node-ends-few rows (Some node) rank v server position s fs rest now h first = (laws_of rows (length node.inputs) node.kind).leaves rank v server position s fs rest now first h
 
 -- one where a test passes
 abbrev one_if : Bool → ℕ
@@ -74,7 +81,7 @@ sum_below-least (suc n) k f l = go (eqb k n) refl (sum_below-least n k f)
         less : (k ≡ n → ⊥) → k < n
         less other = omega arith
 
-module _ (plan : Plan) (rows : Rows) (read : IsReadFor plan.net rows) (v : ℕ) where
+module _ (plan : Plan) (rows : Rows) (read : IsReadFor plan.net rows) (single : NoNodeCopies plan.net) (v : ℕ) where
   abbrev size : ℕ
   size = length plan.net.nodes
 
@@ -107,11 +114,18 @@ module _ (plan : Plan) (rows : Rows) (read : IsReadFor plan.net rows) (v : ℕ) 
         arrives = λ u port job s fs now l f.
             let x : Visit = record { job = job; arrive = now; port = port; found = standard_jobs plan rows u s.visits s.local } in
             arrive-few (before u) (eqb u v) (ltb (rank u) (suc (rank v))) (lower (rank u) (rank v)) (λ c. same (rank u) (rank v) (ap rank (eqb-true u v c))) _ _ _ (length s.visits) _
-            (node-arrives-few rows (slice_get plan.net.nodes u) s fs x now port u refl f) (push s.visits x);
+            (node-arrives-few rows (slice_get plan.net.nodes u) (one u) s fs x now port u refl f) (push s.visits x);
         ends = λ u server position s fs rest now l f first.
             end-few (before u) (eqb u v) _ _ _ (length s.visits) (node-ends-few rows (slice_get plan.net.nodes u) _ u server position s fs rest now f first);
       }
     where
+      one : (u : ℕ) → IfSome (slice_get plan.net.nodes u) (λ node. copies_of node.kind ≤ 1)
+      one u = go (slice_get plan.net.nodes u) refl
+        where
+          go : (o : Option Node) → slice_get plan.net.nodes u ≡ o → IfSome o (λ node. copies_of node.kind ≤ 1)
+          go None e = tt
+          go (Some node) e = single u node e
+
       follow : (n out : ℕ) (r : Option (ℕ × ℕ)) → reader_from 0 plan.net.nodes n out ≡ r → IfSome r (λ to. rank_in plan.order n < rank_in plan.order to.0) → IfSome r (λ to. (to.0 < size) × (weight to.0 ≤ onward n))
       follow n out None e h = tt
       follow n out (Some to) e h = (has_inputs plan.net.nodes to.0 to.1 (n, out) (reads-from plan.net.nodes n out to.0 to.1 e), later-less (rank to.0) (rank n) (rank v) h)
@@ -135,7 +149,7 @@ module _ (plan : Plan) (rows : Rows) (read : IsReadFor plan.net rows) (v : ℕ) 
       (starts-inside size 0 rows.source rows.time (λ k source e. source-inside plan.net.nodes source (read.sources k source e)))
       (run_length plan.net.nodes rows) in
       let a = starts-weight weight 1 (λ u. at-most (ltb (rank u) (suc (rank v)))) 0 rows.source rows.time in
-      let b = sum_below-zero size (λ u. load u (record { local = node_opening (slice_get plan.net.nodes u); visits = []; emitted = []; area = 0; busy = 0; peak = 0 })) (λ u. opening (before u) (eqb u v) (slice_get plan.net.nodes u)) in
+      let b = sum_below-zero size (λ u. load u (record { local = node_opening (slice_get plan.net.nodes u); visits = []; emitted = []; area = 0; busy = 0 })) (λ u. opening (before u) (eqb u v) (slice_get plan.net.nodes u)) in
       let c = sum_below-least size v (λ u. load u (end.stations u)) l in
       let d : load v (end.stations v) ≡ length (end.stations v).visits = own (rank v) v (node_jobs (slice_get plan.net.nodes v) (end.stations v).visits (end.stations v).local) (length (end.stations v).visits) in
       omega arith
@@ -148,7 +162,7 @@ module _ (plan : Plan) (rows : Rows) (read : IsReadFor plan.net rows) (v : ℕ) 
       opening false true o = omega arith
       opening false false o = refl
       opening true c None = refl
-      opening true c (Some node) = (once_of rows (length node.inputs) node.kind).vacant
+      opening true c (Some node) = (laws_of rows (length node.inputs) node.kind).vacant
 
       own : (r u jobs number : ℕ) → cond (ltb r r) jobs (cond (eqb u u) number 0) ≡ number
       own r u jobs number = rw (eq-eqb u u refl, not-below r) refl
@@ -156,8 +170,30 @@ module _ (plan : Plan) (rows : Rows) (read : IsReadFor plan.net rows) (v : ℕ) 
           not-below : (n : ℕ) → ltb n n ≡ false
           not-below n = grind (arith, nat_tests)
 
-pub no-kind-copies : NoKindCopies
-no-kind-copies kind = (once_of (record { source = []; time = []; demands = [] }) 0 kind).one
+-- each node of a sound network is of a kind of its version
+kinds-of_version : (version : ℕ) (nodes : List Node) → list_all (λ (node : Node). nat_le (version_of node.kind) version) nodes ≡ true → (v : ℕ) (node : Node) → slice_get nodes v ≡ Some node → nat_le (version_of node.kind) version ≡ true
+kinds-of_version version [] h v node e = absurd cc
+kinds-of_version version (n ∷ nodes) h zero node e = subst (λ (m : Node). nat_le (version_of m.kind) version ≡ true) (some_inj n node e) (and_parts (nat_le (version_of n.kind) version) (list_all (λ (m : Node). nat_le (version_of m.kind) version) nodes) h).0
+kinds-of_version version (n ∷ nodes) h (suc v) node e = kinds-of_version version nodes (and_parts (nat_le (version_of n.kind) version) (list_all (λ (m : Node). nat_le (version_of m.kind) version) nodes) h).1 v node e
+
+pub first-version_copies_nothing : FirstVersionCopiesNothing
+first-version_copies_nothing net sound first v node e =
+    let a = and_parts _ (mentions_from 0 (length net.columns) (flat_map (λ (n : Node). columns_of_kind n.kind) net.nodes)) sound in
+    let b = and_parts _ (are_distinct same_input (flat_map (λ (n : Node). n.inputs) net.nodes)) a.0 in
+    let c = and_parts _ (list_all (is_sound_node (length net.columns) net.nodes) net.nodes) b.0 in
+    let d = and_parts _ (are_distinct bytes_eq net.columns) c.0 in
+    let f = and_parts _ (list_all is_name net.columns) d.0 in
+    let g = and_parts _ (are_distinct bytes_eq (map (λ (n : Node). n.name) net.nodes)) f.0 in
+    let h = and_parts _ (list_any (λ (n : Node). is_source_kind n.kind) net.nodes) g.0 in
+    let i = and_parts _ (nat_le net.bound (2 ^ 60)) h.0 in
+    let j = and_parts _ (nat_le (length net.columns) 16) i.0 in
+    let k = and_parts _ (is_within 1 64 (length net.nodes)) j.0 in
+    let l = (and_parts (is_within 1 2 net.version) _ k.0).1 in
+    let own = kinds-of_version net.version net.nodes l v node e in
+    (limits_of node.kind).first (below (version_of node.kind) net.version own first)
+  where
+    below : (a b : ℕ) → nat_le a b ≡ true → b ≡ 1 → a ≤ 1
+    below a b m n = grind (arith, nat_tests)
 
 pub visits-are-few : VisitsAreFew
 visits-are-few plan rows read single v = go (slice_get plan.net.nodes v) refl
@@ -166,5 +202,5 @@ visits-are-few plan rows read single v = go (slice_get plan.net.nodes v) refl
     visits = ((run_of plan rows).stations v).visits
 
     go : (o : Option Node) → slice_get plan.net.nodes v ≡ o → length visits ≤ length rows.time
-    go (Some node) e = visits-inside plan rows read v (some-inside plan.net.nodes v node e)
+    go (Some node) e = visits-inside plan rows read single v (some-inside plan.net.nodes v node e)
     go None e = let none = visits-nowhere plan rows read v e in omega arith

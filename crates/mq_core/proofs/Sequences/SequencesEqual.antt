@@ -4,7 +4,7 @@ use Rattle.mq_core.specs.Came.{came_of}
 use Rattle.std.proofs.Common.{Bool, List, [], ap, arith, cond, eqb, false, inl, inr, length, map, refl, suc, sym, true, zero-add, ℕ, ◌<◌, ◌∙◌, ◌∷◌, ◌≡◌, ◌≤◌}
 use Rattle.std.specs.List.{zip}
 use Rattle.std.specs.Prelude.{slice_get}
-use Rattle.mq_core.specs.SequenceLaws.{arrives_of, jobs_of}
+use Rattle.mq_core.specs.SequenceLaws.{arrives_of, jobs_of, sends_once}
 use Rattle.mq_core.specs.Sequences.{sequence_fates, sequence_outs, stream_in_order}
 use Rattle.mq_core.specs.Fates.{fate_by}
 use Rattle.mq_core.specs.KindTable.{behaviour_of}
@@ -28,11 +28,11 @@ use Rattle.mq_core.proofs.EachKind.LawTable.{recurrence_of}
 use Rattle.mq_core.proofs.lemmas.Orders.{filter-order, in_order_of-map}
 use Rattle.mq_core.proofs.Events.Later.{leaving_later}
 
-pub flow-fates : (rows : Rows) (ports : ℕ) (kind : Kind) (visits : List Visit) → map (fate_by kind) (flow_of rows ports kind visits) ≡ sequence_fates rows kind (came_of ports visits)
-flow-fates rows ports kind = (recurrence_of rows ports kind).fares
+pub flow-fates : (rows : Rows) (ports : ℕ) (kind : Kind) → sends_once kind ≡ true → (visits : List Visit) → map (fate_by kind) (flow_of rows ports kind visits) ≡ sequence_fates rows kind (came_of ports visits)
+flow-fates rows ports kind once = (recurrence_of rows ports kind once).fares
 
-flow-outs : (rows : Rows) (ports : ℕ) (kind : Kind) (visits : List Visit) → map (λ (m : Emission). m.out) (flow_of rows ports kind visits) ≡ sequence_outs rows kind (came_of ports visits)
-flow-outs rows ports kind = (recurrence_of rows ports kind).goes
+flow-outs : (rows : Rows) (ports : ℕ) (kind : Kind) → sends_once kind ≡ true → (visits : List Visit) → map (λ (m : Emission). m.out) (flow_of rows ports kind visits) ≡ sequence_outs rows kind (came_of ports visits)
+flow-outs rows ports kind once = (recurrence_of rows ports kind once).goes
 
 -- the emissions by an output are picked by their outputs
 picked-stream : (out : ℕ) (f : Emission → ℕ) (ms : List Emission) → map f (stream_of out ms) ≡ picked out (map (λ (m : Emission). m.out) ms) (map f ms)
@@ -55,31 +55,31 @@ leaves-times kind k (m ∷ ms) (x ∷ xs) n h = λ i. own h.0 i ∷ leaves-times
     own (inr e) = e.1 ∙ ap (leaving_time x.arrive) (sym e.0)
 
 -- what the visits of a station found that let out its flow stands in sequences
-pub station-founds : (rows : Rows) (ports : ℕ) (kind : Kind) (s : Station Local) → s.emitted ≡ in_emission_order kind (flow_of rows ports kind s.visits) → Rises (λ a b. a ≤ b) (arrives_of s.visits) →
+pub station-founds : (rows : Rows) (ports : ℕ) (kind : Kind) → sends_once kind ≡ true → (s : Station Local) → s.emitted ≡ in_emission_order kind (flow_of rows ports kind s.visits) → Rises (λ a b. a ≤ b) (arrives_of s.visits) →
     ((j : ℕ) → j < length s.visits → found_or 0 (slice_get s.visits j) ≡ leaving_later (arrival_or 0 (slice_get s.visits j)) s.emitted j) →
     map (λ (x : Visit). x.found) s.visits ≡ founds_of (arrives_of s.visits) (sequence_fates rows kind (came_of ports s.visits))
-station-founds rows ports kind s flow rise found =
-    let numbered = flow-numbered rows ports kind s.visits in
+station-founds rows ports kind once s flow rise found =
+    let numbered = flow-numbered rows ports kind once s.visits in
     let order = order-found kind 0 (flow_of rows ports kind s.visits) s.visits numbered in
-    founds-numbered kind 0 0 (in_emission_order kind (flow_of rows ports kind s.visits)) (flow_of rows ports kind s.visits) [] s.visits numbered (λ q l. order q) (flow-leaves rows ports kind s.visits) (Each-any _ (λ a. omega arith) (arrives_of s.visits), rise) (λ time l. refl)
+    founds-numbered kind 0 0 (in_emission_order kind (flow_of rows ports kind s.visits)) (flow_of rows ports kind s.visits) [] s.visits numbered (λ q l. order q) (flow-leaves rows ports kind once s.visits) (Each-any _ (λ a. omega arith) (arrives_of s.visits), rise) (λ time l. refl)
     (λ j l. found j l ∙ (λ i. leaving_later (arrival_or 0 (slice_get s.visits j)) (flow i) (sym (zero-add j) i)))
-    ∙ ap (founds_of (arrives_of s.visits)) (flow-fates rows ports kind s.visits)
+    ∙ ap (founds_of (arrives_of s.visits)) (flow-fates rows ports kind once s.visits)
 
 -- the jobs and the times of what leaves by an output
 stream_in : ℕ → List Emission → Stream
 stream_in out ms = record { job = map (λ (m : Emission). m.job) (stream_of out ms); time = map (λ (m : Emission). m.time) (stream_of out ms) }
 
 -- the stream of the flow by position stands in sequences
-flow-stream : (rows : Rows) (ports : ℕ) (kind : Kind) (visits : List Visit) (out : ℕ) → stream_in out (flow_of rows ports kind visits) ≡ record { job = picked out (sequence_outs rows kind (came_of ports visits)) (jobs_of visits); time = picked out (sequence_outs rows kind (came_of ports visits)) (leaving_times (arrives_of visits) (sequence_fates rows kind (came_of ports visits))) }
+flow-stream : (rows : Rows) (ports : ℕ) (kind : Kind) → sends_once kind ≡ true → (visits : List Visit) (out : ℕ) → stream_in out (flow_of rows ports kind visits) ≡ record { job = picked out (sequence_outs rows kind (came_of ports visits)) (jobs_of visits); time = picked out (sequence_outs rows kind (came_of ports visits)) (leaving_times (arrives_of visits) (sequence_fates rows kind (came_of ports visits))) }
 unfolding stream_in
-flow-stream rows ports kind visits out =
-    let outs = flow-outs rows ports kind visits in
+flow-stream rows ports kind once visits out =
+    let outs = flow-outs rows ports kind once visits in
     let jobs : map (λ (m : Emission). m.job) (stream_of out (flow_of rows ports kind visits)) ≡ picked out (sequence_outs rows kind (came_of ports visits)) (jobs_of visits) =
     picked-stream out (λ (m : Emission). m.job) (flow_of rows ports kind visits)
-    ∙ (λ i. picked out (outs i) (jobs-numbered 0 (flow_of rows ports kind visits) visits (flow-numbered rows ports kind visits) i)) in
+    ∙ (λ i. picked out (outs i) (jobs-numbered 0 (flow_of rows ports kind visits) visits (flow-numbered rows ports kind once visits) i)) in
     let times : map (λ (m : Emission). m.time) (stream_of out (flow_of rows ports kind visits)) ≡ picked out (sequence_outs rows kind (came_of ports visits)) (leaving_times (arrives_of visits) (sequence_fates rows kind (came_of ports visits))) =
     picked-stream out (λ (m : Emission). m.time) (flow_of rows ports kind visits)
-    ∙ (λ i. picked out (outs i) ((leaves-times kind 0 (flow_of rows ports kind visits) visits (flow-numbered rows ports kind visits) (flow-leaves rows ports kind visits) ∙ ap (leaving_times (arrives_of visits)) (flow-fates rows ports kind visits)) i)) in
+    ∙ (λ i. picked out (outs i) ((leaves-times kind 0 (flow_of rows ports kind visits) visits (flow-numbered rows ports kind once visits) (flow-leaves rows ports kind once visits) ∙ ap (leaving_times (arrives_of visits)) (flow-fates rows ports kind once visits)) i)) in
     λ i. record { job = jobs i; time = times i }
 
 -- the time and the job of an emission
@@ -114,7 +114,7 @@ order-stream Overtaking ms out h =
     let times = ap (map (λ (m : Emission). m.time)) sorted ∙ (sym (pairs-part (λ (p : ℕ × ℕ). p.0) (λ (m : Emission). m.time) (λ m. refl) (in_order_of (λ (m : Emission). m.time) (stream_of out ms))) ∙ ap (map (λ (p : ℕ × ℕ). p.0)) pairs) in
     λ i. record { job = jobs i; time = times i }
 
-pub station-stream : (rows : Rows) (ports : ℕ) (kind : Kind) (s : Station Local) (out : ℕ) → s.emitted ≡ in_emission_order kind (flow_of rows ports kind s.visits) → Rises (λ a b. a ≤ b) (arrives_of s.visits) → stream_from s out ≡ once_out (behaviour_of kind).order (came_of ports s.visits) (sequence_fates rows kind (came_of ports s.visits)) (sequence_outs rows kind (came_of ports s.visits)) out
+pub station-stream : (rows : Rows) (ports : ℕ) (kind : Kind) → sends_once kind ≡ true → (s : Station Local) (out : ℕ) → s.emitted ≡ in_emission_order kind (flow_of rows ports kind s.visits) → Rises (λ a b. a ≤ b) (arrives_of s.visits) → stream_from s out ≡ once_out (behaviour_of kind).order (came_of ports s.visits) (sequence_fates rows kind (came_of ports s.visits)) (sequence_outs rows kind (came_of ports s.visits)) out
 unfolding stream_in
-station-stream rows ports kind s out flow rise =
-    ap (stream_in out) flow ∙ (order-stream (behaviour_of kind).order (flow_of rows ports kind s.visits) out (λ mixed. (recurrence_of rows ports kind).stands mixed s.visits rise) ∙ ap (stream_in_order kind) (flow-stream rows ports kind s.visits out))
+station-stream rows ports kind once s out flow rise =
+    ap (stream_in out) flow ∙ (order-stream (behaviour_of kind).order (flow_of rows ports kind s.visits) out (λ mixed. (recurrence_of rows ports kind once).stands mixed s.visits rise) ∙ ap (stream_in_order kind) (flow-stream rows ports kind once s.visits out))

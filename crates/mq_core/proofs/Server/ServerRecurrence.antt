@@ -25,7 +25,6 @@ server-recurrence rows ports demand =
       fares = λ visits. served-fates (Server demand) (λ m. refl) rows demand 0 0 visits;
       goes = λ visits. server-outs rows demand 0 0 visits;
       stands = λ mixed visits rise out. absurd cc;
-      prompt = λ now m l. l;
       in_time = λ came e. when-served 0 (demand_of_job rows demand) came.job came.arrive e;
       stays = λ came e. stay-fates (demand_of_job rows demand) came.job came.arrive _ (stay-served 0 (demand_of_job rows demand) came.job came.arrive);
       bounded = λ came limit top few told room early.

@@ -1,17 +1,16 @@
 -- The laws of the kind.
-use Rattle.std.proofs.Common.{List, [], arith, inl, length, refl, ℕ, ◌++◌, ◌+◌, ◌∷◌, ◌≡◌}
+use Rattle.std.proofs.Common.{false, List, [], arith, length, refl, ℕ, ◌++◌, ◌+◌, ◌∷◌, ◌≡◌}
 use Rattle.mq_core.specs.Kinds.Tandem.{tandem}
 use Rattle.mq_core.specs.declared.model.Kind.TheVariants.{Tandem}
 use Rattle.mq_core.specs.declared.model.Rows.{Rows}
 use Rattle.mq_core.specs.declared.model.Stage.{Stage}
-use Rattle.mq_core.proofs.Counting.Unlost.{departing-whole}
 use Rattle.mq_core.proofs.Counting.Released.{no_release}
 use Rattle.mq_core.proofs.Counting.Services.{services-count}
-use Rattle.mq_core.proofs.EachKind.KindLaws.{Inside, KindLaws, OnceLaws, OwnLaws, own_out}
+use Rattle.mq_core.proofs.EachKind.KindLaws.{Inside, KindLaws, OwnLaws, or-inside}
 use Rattle.mq_core.proofs.Events.Remaining.{remaining}
 use Rattle.mq_core.proofs.Tandem.TandemShapes.{sound-stages}
 use Rattle.mq_core.proofs.Tandem.TandemBusy.{begun-empty, begun_in, tandeming-busy_arrives, tandeming-busy_ends, tandeming-busy_waits, tandeming-served}
-use Rattle.mq_core.proofs.Tandem.TandemLoad.{held-empty, load-empty, load_in, tandem_arrives-few, tandeming-arrives_falls, tandeming-arrives_more, tandeming-ends_falls, tandeming-fewer, tandeming-shows}
+use Rattle.mq_core.proofs.Tandem.TandemLoad.{held-empty, load-empty, load_in, tandem_arrives-few, tandeming-arrives_falls, tandeming-ends_falls, tandeming-fewer, tandeming-shows}
 use Rattle.mq_core.proofs.Tandem.TandemNumbers.{tandem_arrives-out, tandeming-done, tandeming-earlier, tandeming-number}
 use Rattle.mq_core.proofs.Tandem.Tandems.{Tandeming, tandeming-arrives, tandeming-ends, tandeming-opens, tandeming-waits}
 
@@ -29,18 +28,22 @@ tandem-laws rows ports stages =
     record {
       opens = λ columns v sound many. tandeming-opens rows stages v (sound-stages columns stages sound);
       waits = λ v s area busy fs now later l h. tandeming-waits rows stages v s.visits s.local.lines s.emitted fs now later l h;
-      arrives = λ peak v port s fs now x at by fit soon h. tandeming-arrives rows stages v s.local s.visits s.local.lines s.emitted fs now x at soon h;
-      ends = λ peak rank v server position s fs rest now first h. tandeming-ends rows v s.visits s.emitted rank fs rest now server position first stages s.local.lines h;
+      arrives = λ v port s fs now x at by fit soon h. tandeming-arrives rows stages v s.local s.visits s.local.lines s.emitted fs now x at soon h;
+      ends = λ rank v server position s fs rest now first h. tandeming-ends rows v s.visits s.emitted rank fs rest now server position first stages s.local.lines h;
       flow = λ v s now h. (tandeming-done rows stages v s.visits _ s.emitted now h).1;
       number = λ v s fs now h. tandeming-number rows stages v s.visits s.local.lines s.emitted fs now h;
-      shows = λ rank v server position s fs rest now first h. tandeming-shows rows v s.visits s.emitted rank fs rest now server position first stages s.local.lines h;
+      shows = λ rank v server position s fs rest now first h. or-inside false refl (tandeming-shows rows v s.visits s.emitted rank fs rest now server position first stages s.local.lines h);
+      empty = λ keeps v s now h. (tandeming-done rows stages v s.visits _ s.emitted _ h).0;
+      enters = λ v port s fs now x at f. tandem_arrives-few rows (s.visits ++ x ∷ []) s.local now stages s.local.lines refl;
+      leaves = λ rank v server position s fs rest now first h. let all = tandeming-fewer rows v s.visits s.emitted rank fs rest now server position first stages s.local.lines h in omega arith;
+      vacant = held-empty stages;
       weightless = λ onward. load-empty onward stages;
       adds = λ onward v port job s visits fs now f. let a = tandeming-arrives_falls rows onward stages v s.local s.visits visits s.local.lines s.emitted fs now f in omega arith;
       takes = λ onward rank v server position s fs rest now first f. tandeming-ends_falls rows v s.visits s.emitted rank fs rest now server position first onward stages s.local.lines f;
       idle = λ v. omega (arith, begun-empty rows [] stages);
       works = λ v area s fs now later l f h b. tandeming-busy_waits rows stages v s.visits s.local.lines s.emitted fs now later s.busy l f h b;
-      busy_arrives = λ peak v port s fs now x at soon h b. tandeming-busy_arrives rows stages v s.local s.visits s.local.lines s.emitted fs now s.busy x h b;
-      busy_ends = λ peak rank v server position s fs rest now first h b. tandeming-busy_ends rows rank stages v server position s.visits s.local.lines s.emitted fs rest now s.busy first h b;
+      busy_arrives = λ v port s fs now x at soon h b. tandeming-busy_arrives rows stages v s.local s.visits s.local.lines s.emitted fs now s.busy x h b;
+      busy_ends = λ rank v server position s fs rest now first h b. tandeming-busy_ends rows rank stages v server position s.visits s.local.lines s.emitted fs rest now s.busy first h b;
       served = λ v s now h k.
           let all = services-count rows (Tandem stages) s.visits s.emitted (λ m. refl) in
           let served = tandeming-served rows stages v s.visits _ s.emitted _ h in
@@ -54,18 +57,4 @@ tandem-own rows ports stages =
       exits = λ s p. refl;
       own = λ v port s now x q m e. absurd (no_release now q (s.visits ++ x ∷ []) _ m (tandem_arrives-out rows (s.visits ++ x ∷ []) s.local now stages s.local.lines) e);
       earlier = λ rank v server position s fs rest now first h q p m e l u. tandeming-earlier rows rank stages v server position s.visits s.local.lines s.emitted fs rest now first h q p m e l u;
-    }
-
--- what it owes as it lets each visit out once
-pub tandem-once : (rows : Rows) (ports : ℕ) (stages : List Stage) → OnceLaws rows ports (tandem stages) (tandem-inside rows stages)
-tandem-once rows ports stages =
-    record {
-      one = omega arith;
-      all = refl;
-      empty = λ v s now h. (tandeming-done rows stages v s.visits _ s.emitted _ h).0;
-      enters = λ v port s fs now x at f. tandem_arrives-few rows (s.visits ++ x ∷ []) s.local now stages s.local.lines refl;
-      leaves = λ rank v server position s fs rest now first h. let all = tandeming-fewer rows v s.visits s.emitted rank fs rest now server position first stages s.local.lines h in omega arith;
-      vacant = held-empty stages;
-      raises = λ v port s fs now x at h f. inl (tandeming-arrives_more rows stages v s.local s.visits (s.visits ++ x ∷ []) s.local.lines s.emitted fs now f, λ n. departing-whole (Tandem stages) (λ m. refl) (own_out rows ports (tandem stages) v port s now x) n);
-      departs = λ v server position s now q m e. refl;
     }

@@ -22,6 +22,8 @@ pub tandem-limits : (stages : List Stage) → LimitLaws (tandem stages)
 tandem-limits stages =
     record {
       outputs = λ columns h. omega arith;
+      copies = λ columns sound. omega arith;
+      first = λ first. omega arith;
       servers = λ columns h. (sound-stages columns stages h).few;
       ports = λ inputs h. within-most 1 8 inputs h;
       reads = λ inputs starts h. absurd cc;

@@ -48,7 +48,6 @@ tandem-recurrence rows ports stages =
       fares = λ visits. leaving-fates (Tandem stages) (λ m. refl) 0 _ visits (tandem-even rows stages visits);
       goes = λ visits. leaving-outs 0 _ visits (tandem-even rows stages visits);
       stands = λ mixed visits rise out. absurd cc;
-      prompt = λ now m l. l;
       in_time = λ came e. fates-at_least came.arrive (tandem_times rows stages came.job came.arrive) (tandem_times-late rows stages came.job came.arrive);
       stays = λ came e. stay-stages rows stages came.job came.arrive e;
       bounded = λ came limit top few told room early. stages-by rows stages came.job came.arrive limit top few told room early;

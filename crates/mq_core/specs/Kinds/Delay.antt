@@ -63,6 +63,7 @@ delay demand =
       servers = 0;
       outputs = 1;
       ports = λ inputs. is_within 1 8 inputs;
+      version = 1;
       sound = λ columns. is_sound_demand columns demand;
       mentioned = columns_of_demand demand;
       asked = λ rows job. IsTold rows demand job;
@@ -77,6 +78,7 @@ delay demand =
       exit = λ s position. emission_at s.emitted position;
       there = λ time position m. nat_lt time m.time;
       keeps = false;
+      once = true;
       founds = λ rows came. founds_of came.arrive (delay_fates rows demand came);
       stream = λ rows came out. once_out Overtaking came (delay_fates rows demand came) (delay_outs rows demand came) out;
     }

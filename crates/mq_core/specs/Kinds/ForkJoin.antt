@@ -140,6 +140,7 @@ forkjoin branches =
       servers = length (flat_map (λ demands. demands) branches);
       outputs = 1;
       ports = λ inputs. is_within 1 8 inputs;
+      version = 1;
       sound = λ columns. are_sound_branches columns branches;
       mentioned = flat_map columns_of_demand (flat_map (λ demands. demands) branches);
       asked = λ rows job. AreTold rows (flat_map (λ demands. demands) branches) job;
@@ -154,6 +155,7 @@ forkjoin branches =
       exit = λ s position. emission_at s.emitted position;
       there = λ time position m. nat_lt time m.time;
       keeps = false;
+      once = true;
       founds = λ rows came. founds_of came.arrive (forkjoin_fates rows branches came);
       stream = λ rows came out. once_out ByPosition came (forkjoin_fates rows branches came) (forkjoin_outs rows branches came) out;
     }

@@ -14,7 +14,7 @@ use Rattle.mq_core.specs.Tallies.{emission_at}
 use Rattle.mq_core.specs.Told.{IsTold}
 use Rattle.mq_core.specs.declared.model.Demand.{Demand}
 use Rattle.mq_core.specs.declared.model.Fate.{Fate}
-use Rattle.mq_core.specs.declared.model.Fate.TheVariants.{Departs, Lost}
+use Rattle.mq_core.specs.declared.model.Fate.TheVariants.{Departs, Held, Lost}
 use Rattle.mq_core.specs.declared.model.Rows.{Rows}
 use Rattle.mq_core.specs.Event.{Event}
 use Rattle.mq_core.specs.Event.Event.{Arrive, Finish}
@@ -32,11 +32,13 @@ loss_on rows places demand visits local now (Finish time node server position) =
 abbrev pub out_of_fate : Fate → ℕ
 out_of_fate (Departs time) = 0
 out_of_fate Lost = 1
+out_of_fate Held = 0
 
 -- what a visit lets out that fares so: by output 0 as it departs, or by output 1 at once where it is lost
 abbrev pub faring_by : ℕ → Fate → Visit → Emission
 faring_by position (Departs time) visit = record { out = 0; position = position; job = visit.job; time = time }
 faring_by position Lost visit = record { out = 1; position = position; job = visit.job; time = visit.arrive }
+faring_by position Held visit = record { out = 0; position = position; job = visit.job; time = visit.arrive }
 
 -- what these visits let out that fare so, the first at this position
 abbrev pub faring_from : ℕ → List Fate → List Visit → List Emission
@@ -65,6 +67,7 @@ loss places demand =
       servers = 1;
       outputs = 2;
       ports = λ inputs. is_within 1 8 inputs;
+      version = 1;
       sound = λ columns. is_within 1 1048576 places && is_sound_demand columns demand;
       mentioned = columns_of_demand demand;
       asked = λ rows job. IsTold rows demand job;
@@ -79,6 +82,7 @@ loss places demand =
       exit = λ s position. emission_at s.emitted position;
       there = λ time position m. nat_lt time m.time;
       keeps = false;
+      once = true;
       founds = λ rows came. founds_of came.arrive (loss_by rows places demand came);
       stream = λ rows came out. once_out Mixed came (loss_by rows places demand came) (loss_outs rows places demand came) out;
     }

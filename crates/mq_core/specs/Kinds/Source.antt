@@ -42,6 +42,7 @@ source =
       servers = 0;
       outputs = 1;
       ports = λ inputs. inputs == 0;
+      version = 1;
       sound = λ columns. true;
       mentioned = [];
       asked = λ rows job. Unit {0};
@@ -56,6 +57,7 @@ source =
       exit = λ s position. emission_at s.emitted position;
       there = λ time position m. nat_lt time m.time;
       keeps = false;
+      once = true;
       founds = λ rows came. founds_of came.arrive (source_fates rows came);
       stream = λ rows came out. once_out ByPosition came (source_fates rows came) (source_outs rows came) out;
     }

@@ -1,6 +1,6 @@
 -- A split, as one value: its routes, and which output each job leaves by.
 use Rattle.std.specs.List.{list_all}
-use Rattle.std.specs.Prelude.{Bool, List, [], count_by, false, length, map, nat_le, nat_lt, suc, ℕ, ◌%◌, ◌&&◌, ◌+◌, ◌^◌, ◌∷◌}
+use Rattle.std.specs.Prelude.{Bool, List, [], count_by, false, length, map, nat_le, nat_lt, suc, true, ℕ, ◌%◌, ◌&&◌, ◌+◌, ◌^◌, ◌∷◌}
 use Rattle.mq_core.specs.Behaviour.{Behaviour}
 use Rattle.mq_core.specs.Came.{Came}
 use Rattle.mq_core.specs.Emitting.{passed_from}
@@ -94,6 +94,7 @@ split route =
       servers = 0;
       outputs = outputs_by route;
       ports = λ inputs. is_within 1 8 inputs;
+      version = 1;
       sound = λ columns. is_sound_route columns route;
       mentioned = columns_of_route route;
       asked = λ rows job. HasRouteValue rows route job;
@@ -108,6 +109,7 @@ split route =
       exit = λ s position. emission_at s.emitted position;
       there = λ time position m. nat_lt time m.time;
       keeps = false;
+      once = true;
       founds = λ rows came. founds_of came.arrive (split_fates rows route came);
       stream = λ rows came out. once_out ByPosition came (split_fates rows route came) (split_outs rows route came) out;
     }

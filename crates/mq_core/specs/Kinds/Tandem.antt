@@ -151,6 +151,7 @@ tandem stages =
       servers = length stages;
       outputs = 1;
       ports = λ inputs. is_within 1 8 inputs;
+      version = 1;
       sound = λ columns. are_sound_stages columns stages;
       mentioned = flat_map (λ (stage : Stage). columns_of_demand stage.demand) stages;
       asked = λ rows job. AreTold rows (map (λ (stage : Stage). stage.demand) stages) job;
@@ -165,6 +166,7 @@ tandem stages =
       exit = λ s position. emission_at s.emitted position;
       there = λ time position m. nat_lt time m.time;
       keeps = false;
+      once = true;
       founds = λ rows came. founds_of came.arrive (tandem_fates rows stages came);
       stream = λ rows came out. once_out ByPosition came (tandem_fates rows stages came) (tandem_outs rows stages came) out;
     }

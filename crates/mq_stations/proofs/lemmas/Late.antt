@@ -7,7 +7,7 @@ use Rattle.mq_base.proofs.lemmas.Lists.{drop_suc}
 use Rattle.mq_core.specs.Sequences.{sequence_late_from, time_of_fate}
 use Rattle.mq_core.specs.Results.{Late, first_of, late_fate}
 use Rattle.mq_core.specs.declared.model.Fate.{Fate}
-use Rattle.mq_core.specs.declared.model.Fate.TheVariants.{Departs, Lost}
+use Rattle.mq_core.specs.declared.model.Fate.TheVariants.{Departs, Held, Lost}
 
 pub departs_inj : (a b : ℕ) → Departs a ≡ Departs b → a ≡ b
 departs_inj a b h = cc
@@ -16,6 +16,7 @@ departs_inj a b h = cc
 pub quiet : (bound node position : ℕ) (fate : Fate) → ((time : ℕ) → fate ≡ Departs time → time ≤ bound) → late_fate bound node position (Some fate) ≡ []
 quiet bound node position (Departs time) h = let l : time ≤ bound = h time refl in grind (arith, nat_tests)
 quiet bound node position Lost h = refl
+quiet bound node position Held h = refl
 
 pub late-next : (bound node position : ℕ) (fate : Fate) (fates : List Fate) (first : Option Late) → slice_get fates position ≡ Some fate → late_fate bound node position (Some fate) ≡ [] → first_of (sequence_late_from bound node position (drop position fates)) ≡ first →
     first_of (sequence_late_from bound node (position + 1) (drop (position + 1) fates)) ≡ first
@@ -37,6 +38,7 @@ late-here bound node position time fates first e l h =
 pub none-late : (bound node position : ℕ) (fates : List Fate) → first_of (sequence_late_from bound node position fates) ≡ None → Each (λ time. time ≤ bound) (map time_of_fate fates)
 none-late bound node position [] h = tt
 none-late bound node position (Lost ∷ fs) h = (omega arith, none-late bound node (suc position) fs h)
+none-late bound node position (Held ∷ fs) h = (omega arith, none-late bound node (suc position) fs h)
 none-late bound node position (Departs time ∷ fs) h = go (nat_lt bound time) refl h (none-late bound node (suc position) fs)
   where
     go : (b : Bool) → nat_lt bound time ≡ b → first_of (cond b (record { node = node; position = position; time = time } ∷ []) [] ++ sequence_late_from bound node (suc position) fs) ≡ None → (first_of (sequence_late_from bound node (suc position) fs) ≡ None → Each (λ t. t ≤ bound) (map time_of_fate fs)) → Each (λ t. t ≤ bound) (map time_of_fate (Departs time ∷ fs))

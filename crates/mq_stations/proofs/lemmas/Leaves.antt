@@ -1,5 +1,5 @@
 -- What leaves a station, by its kind.
-use Rattle.std.proofs.Common.{◌≡◌, ℕ, zero, suc, ◌+◌, ◌^◌, ◌<◌, ◌≤◌, ◌⊎◌, inl, inr, All, true, List, [], ◌∷◌, length, map, max, Some, sym, refl, ap, ◌∙◌, subst, arith}
+use Rattle.std.proofs.Common.{◌≡◌, ℕ, zero, suc, ◌+◌, ◌^◌, ◌<◌, ◌≤◌, ◌⊎◌, inl, inr, All, false, true, List, [], ◌∷◌, length, map, max, Some, sym, refl, ap, ◌∙◌, subst, arith}
 use Rattle.std.specs.Prelude.{nat_le, nat_lt, slice_get}
 use Rattle.std.specs.List.{AllByRecursion as Each, list_all}
 use Rattle.std.proofs.lemmas.Bool.{and_parts}
@@ -7,7 +7,8 @@ use Rattle.std.proofs.lemmas.Bool.Decides.{nat_tests}
 use Rattle.std.proofs.lemmas.List.{length-map}
 use Rattle.mq_base.proofs.lemmas.Lists.{some_inj}
 use Rattle.mq_core.specs.Came.{came_in}
-use Rattle.mq_core.specs.SequenceLaws.{SequencesGoByFates, FatesAreInTime}
+use Rattle.mq_core.specs.Fates.{keeps_visits}
+use Rattle.mq_core.specs.SequenceLaws.{SequencesGoByFates, FatesAreInTime, sends_once}
 use Rattle.mq_core.specs.Sequences.{IsSoundLoad, IsStream, sequence_fates, sequence_outs, sequence_stream, stream_in_order}
 use Rattle.mq_core.specs.OnceOut.{leaving_times}
 use Rattle.mq_core.specs.Streams.{picked}
@@ -24,7 +25,7 @@ use Rattle.mq_core.specs.declared.model.Demand.{Demand}
 use Rattle.mq_core.specs.declared.model.Fate.{Fate}
 use Rattle.mq_core.specs.declared.model.Fate.TheVariants.{Departs}
 use Rattle.mq_core.specs.declared.model.Kind.{Kind}
-use Rattle.mq_core.specs.declared.model.Kind.TheVariants.{Delay, ForkJoin, Server, Source, Split, Tandem}
+use Rattle.mq_core.specs.declared.model.Kind.TheVariants.{Delay, Fork, ForkJoin, Join, Loss, Server, Source, Split, Tandem}
 use Rattle.mq_core.specs.declared.model.Route.{Route}
 use Rattle.mq_core.specs.declared.model.Route.TheVariants.{Cut, Modulo, Turn}
 use Rattle.mq_core.specs.declared.model.Rows.{Rows}
@@ -133,19 +134,36 @@ load-sound rows kind demand arrivals demands h told e =
 
 -- What leaves a split.
 pub splits : (rows : Rows) (route : Route) (arrivals : Stream) (fates : List Fate) (values : List ℕ) (streams : List Stream) → IsStream arrivals → values ≡ map (route_value rows route) arrivals.job → fates ≡ map (λ time. Departs time) arrivals.time → AreParts route arrivals values streams → IsLeaving rows (Split route) arrivals fates streams
-splits rows route arrivals fates values streams s v f h = record { leave = f; outflow = split-streams rows route arrivals values streams s v h }
+splits rows route arrivals fates values streams s v f h = record { leave = f; outflow = record { count = h.count; each = (split-streams rows route arrivals values streams s v h).each } }
 
 -- Stations whose jobs all depart.
+-- where each leaves once, none stays for good
+once-leaves : (kind : Kind) → sends_once kind ≡ true → keeps_visits kind ≡ false
+once-leaves Source once = refl
+once-leaves (Server demand) once = refl
+once-leaves (Delay demand) once = refl
+once-leaves (Loss places demand) once = refl
+once-leaves (Tandem stages) once = refl
+once-leaves (ForkJoin branches) once = refl
+once-leaves (Split route) once = refl
+once-leaves (Fork outputs) once = refl
+once-leaves Join once = absurd cc
+
+-- forks and joins don't
+pub never-once : (kind : Kind) → ((outputs : ℕ) × (kind ≡ Fork outputs)) ⊎ (kind ≡ Join) → sends_once kind ≡ true → ⊥
+never-once kind (inl e) once = let no : sends_once (Fork e.0) ≡ true = ap sends_once (sym e.1) ∙ once in absurd cc
+never-once kind (inr e) once = let no : sends_once Join ≡ true = ap sends_once (sym e) ∙ once in absurd cc
+
 -- there is one time an arrival
-times-many : FatesAreInTime → (rows : Rows) (kind : Kind) (arrivals : Stream) (times : List ℕ) → length arrivals.job ≡ length arrivals.time → sequence_fates rows kind (came_in arrivals) ≡ map (λ time. Departs time) times → length times ≡ length arrivals.job
-times-many law rows kind arrivals times e f = sym (length-map times (λ time. Departs time)) ∙ (ap length (sym f) ∙ ((law rows kind (came_in arrivals) e).even ∙ sym e))
+times-many : FatesAreInTime → (rows : Rows) (kind : Kind) (arrivals : Stream) (times : List ℕ) → sends_once kind ≡ true → length arrivals.job ≡ length arrivals.time → sequence_fates rows kind (came_in arrivals) ≡ map (λ time. Departs time) times → length times ≡ length arrivals.job
+times-many law rows kind arrivals times once e f = sym (length-map times (λ time. Departs time)) ∙ (ap length (sym f) ∙ ((law rows kind (came_in arrivals) (once-leaves kind once) e).even ∙ sym e))
 
 pub departs-left : FatesAreInTime → (rows : Rows) (kind : Kind) (arrivals : Stream) (departs : List ℕ) (streams : List Stream) → length arrivals.job ≡ length arrivals.time → AreDepartures rows kind arrivals departs → streams ≡ record { job = arrivals.job; time = departs } ∷ [] → AreLeft rows kind arrivals streams
-departs-left law rows kind arrivals departs streams even s e = one-stream rows kind arrivals departs streams even s.one s.outs s.fates (times-many law rows kind arrivals departs even s.fates) e
+departs-left law rows kind arrivals departs streams even s e = one-stream rows kind arrivals departs streams even s.one s.outs s.fates (times-many law rows kind arrivals departs s.once even s.fates) e
 
 -- their departures are as many as their arrivals
 pub departs-even : FatesAreInTime → (rows : Rows) (kind : Kind) (arrivals : Stream) (departs : List ℕ) → IsLoad rows kind arrivals → AreDepartures rows kind arrivals departs → length departs ≡ length arrivals.time
-departs-even law rows kind arrivals departs load s = times-many law rows kind arrivals departs load.ordered.ordered.even s.fates ∙ load.ordered.ordered.even
+departs-even law rows kind arrivals departs load s = times-many law rows kind arrivals departs s.once load.ordered.ordered.even s.fates ∙ load.ordered.ordered.even
 
 -- the one stream that leaves
 pub departs-one : FatesAreInTime → (rows : Rows) (kind : Kind) (arrivals : Stream) (departs : List ℕ) → length arrivals.job ≡ length arrivals.time → AreDepartures rows kind arrivals departs → record { job = arrivals.job; time = departs } ≡ left_by rows kind arrivals 0
@@ -163,17 +181,17 @@ pub served-rises : SequencesGoByFates → FatesAreInTime → (rows : Rows) (kind
 served-rises fated law rows kind arrivals departs load s =
     let left : Stream = record { job = arrivals.job; time = departs } in
     let one = departs-one law rows kind arrivals departs load.ordered.ordered.even s.0 in
-    let sequence : sequence_stream rows kind (came_in arrivals) 0 ≡ left = (fated rows kind (came_in arrivals)).stream 0 ∙ (ap (stream_in_order kind) (sym one) ∙ s.1 left) in
+    let sequence : sequence_stream rows kind (came_in arrivals) 0 ≡ left = (fated rows kind (came_in arrivals) s.0.once).stream 0 ∙ (ap (stream_in_order kind) (sym one) ∙ s.1 left) in
     subst (λ (stream : Stream). Rises (λ a b. a ≤ b) stream.time) sequence (load.leaves 0).rising
 
 -- a server is such a station
 pub server-served : (rows : Rows) (demand : Demand) (arrivals : Stream) (demands departs : List ℕ) → demands ≡ map (demand_of_job rows demand) arrivals.job → departs ≡ lindley 0 arrivals.time demands → AreServed rows (Server demand) arrivals departs
-server-served rows demand arrivals demands departs m d = (record { one = refl; outs = refl; fates = ap (map (λ time. Departs time)) (sym (d ∙ ap (lindley 0 arrivals.time) m)) }, λ stream. refl)
+server-served rows demand arrivals demands departs m d = (record { once = refl; one = refl; outs = refl; fates = ap (map (λ time. Departs time)) (sym (d ∙ ap (lindley 0 arrivals.time) m)) }, λ stream. refl)
 
 -- and so is a source
 pub source-served : (rows : Rows) (arrivals : Stream) (departs : List ℕ) → departs ≡ arrivals.time → AreServed rows Source arrivals departs
-source-served rows arrivals departs d = (record { one = refl; outs = refl; fates = ap (map (λ time. Departs time)) (sym d) }, λ stream. refl)
+source-served rows arrivals departs d = (record { once = refl; one = refl; outs = refl; fates = ap (map (λ time. Departs time)) (sym d) }, λ stream. refl)
 
 -- from a delay all depart too
 pub delay-departs : (rows : Rows) (demand : Demand) (arrivals : Stream) (demands departs : List ℕ) → demands ≡ map (demand_of_job rows demand) arrivals.job → departs ≡ delayed arrivals.time demands → AreDepartures rows (Delay demand) arrivals departs
-delay-departs rows demand arrivals demands departs m d = record { one = refl; outs = refl; fates = ap (map (λ time. Departs time)) (sym (d ∙ ap (delayed arrivals.time) m)) }
+delay-departs rows demand arrivals demands departs m d = record { once = refl; one = refl; outs = refl; fates = ap (map (λ time. Departs time)) (sym (d ∙ ap (delayed arrivals.time) m)) }

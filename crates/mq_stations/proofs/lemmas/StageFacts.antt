@@ -239,7 +239,7 @@ pub tandem-served : (columns : ℕ) (rows : Rows) (stages : List Stage) (arrival
 tandem-served columns rows stages arrivals asked demands places departs h a m p d =
     let by : departs ≡ tandem_times rows stages arrivals.job arrivals.time =
     d ∙ ((λ k. tandem_departs (p k) (map (λ _. []) (p k)) arrivals.time ((m ∙ ap (map (λ demand. map (demand_of_job rows demand) arrivals.job)) a) k)) ∙ times-of columns rows stages arrivals.job arrivals.time h) in
-    (record { one = refl; outs = refl; fates = ap (map (λ time. Departs time)) (sym by) }, λ stream. refl)
+    (record { once = refl; one = refl; outs = refl; fates = ap (map (λ time. Departs time)) (sym by) }, λ stream. refl)
 
 -- What leaves a fork-join. The demands of all servers, cut into branches, are those of each branch.
 take-front : {X : Type 0} (f : Demand → X) (front rest : List Demand) → take (length front) (map f (front ++ rest)) ≡ map f front
@@ -261,8 +261,8 @@ pub forkjoin-served : (rows : Rows) (branches : List (List Demand)) (arrivals : 
 forkjoin-served rows branches arrivals asked demands servers departs a m p d =
     let by : departs ≡ forkjoin_departs arrivals.time (branch_demands rows branches arrivals.job) =
     d ∙ ((λ k. forkjoin_departs arrivals.time (branches_of (p k) ((m ∙ ap (map (λ demand. map (demand_of_job rows demand) arrivals.job)) a) k))) ∙ ap (forkjoin_departs arrivals.time) (branches-back (λ demand. map (demand_of_job rows demand) arrivals.job) branches)) in
-    (record { one = refl; outs = refl; fates = ap (map (λ time. Departs time)) (sym by) }, λ stream. refl)
+    (record { once = refl; one = refl; outs = refl; fates = ap (map (λ time. Departs time)) (sym by) }, λ stream. refl)
 
 -- the same of what its branches ask for, one by one
 pub forkjoin-departs : (rows : Rows) (branches : List (List Demand)) (arrivals : Stream) (demands : List (List (List ℕ))) (departs : List ℕ) → demands ≡ branch_demands rows branches arrivals.job → departs ≡ forkjoin_departs arrivals.time demands → AreServed rows (ForkJoin branches) arrivals departs
-forkjoin-departs rows branches arrivals demands departs m d = (record { one = refl; outs = refl; fates = ap (map (λ time. Departs time)) (sym (d ∙ ap (forkjoin_departs arrivals.time) m)) }, λ stream. refl)
+forkjoin-departs rows branches arrivals demands departs m d = (record { once = refl; one = refl; outs = refl; fates = ap (map (λ time. Departs time)) (sym (d ∙ ap (forkjoin_departs arrivals.time) m)) }, λ stream. refl)

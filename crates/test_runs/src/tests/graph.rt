@@ -37,6 +37,7 @@ fn network(alloc: Global, reads: &[&[u32]]) -> Result<Network, OutOfMemory> {
         nodes,
         columns: List::new(alloc),
         bound: 0,
+        version: 1,
     })
 }
 
@@ -125,6 +126,7 @@ fn chain(alloc: Global) -> Result<Network, OutOfMemory> {
         nodes,
         columns: List::new(alloc),
         bound: 0,
+        version: 1,
     })
 }
 

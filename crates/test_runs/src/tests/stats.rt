@@ -98,7 +98,7 @@ fn are_even(visits: &Visits) -> bool
         && visits.fate.len() == count
 }
 
-// Whether a server has these totals.
+// Whether a server has these totals in a run up to 10.
 fn totals_are(rows: &Rows, visits: &Visits, wanted: &NodeTotals) -> bool {
     if !are_even(visits) || !are_told(rows, &visits.job) || !are_small(&visits.found) {
         return false;
@@ -106,7 +106,7 @@ fn totals_are(rows: &Rows, visits: &Visits, wanted: &NodeTotals) -> bool {
     if !is_column_small(rows) {
         return false;
     }
-    totals(rows, &Kind::Server(Demand::Column(0)), visits) == *wanted
+    totals(rows, &Kind::Server(Demand::Column(0)), visits, 10) == *wanted
 }
 
 // Whether a server with these visits of the three jobs has these totals.
@@ -128,6 +128,7 @@ const SERVED_TOTALS: NodeTotals = NodeTotals {
     came: 3,
     left: 3,
     lost: 0,
+    held: 0,
     wait: 6,
     longest: 3,
     busy: 8,
@@ -141,6 +142,14 @@ const LOST: Columns<'static> = Columns {
     arrive: &[0, 1, 2],
     found: &[0, 1, 1],
     fate: &[Fate::Departs(4), Fate::Lost, Fate::Departs(7)],
+};
+
+// The second is held.
+const HELD: Columns<'static> = Columns {
+    job: &[0, 1, 2],
+    arrive: &[0, 1, 2],
+    found: &[0, 1, 2],
+    fate: &[Fate::Departs(4), Fate::Held, Fate::Departs(7)],
 };
 
 const NO_VISITS: Columns<'static> = Columns {
@@ -157,16 +166,29 @@ fn servers_have_totals(rt: HostRuntime) -> Result<(), Fail> {
         came: 3,
         left: 2,
         lost: 1,
+        held: 0,
         wait: 2,
         longest: 2,
         busy: 7,
         area: 9,
         peak: 2,
     };
+    let held = NodeTotals {
+        came: 3,
+        left: 2,
+        lost: 0,
+        held: 1,
+        wait: 2,
+        longest: 2,
+        busy: 8,
+        area: 18,
+        peak: 3,
+    };
     let none = NodeTotals {
         came: 0,
         left: 0,
         lost: 0,
+        held: 0,
         wait: 0,
         longest: 0,
         busy: 0,
@@ -175,6 +197,7 @@ fn servers_have_totals(rt: HostRuntime) -> Result<(), Fail> {
     };
     assert!(rt; server_has(alloc, &SERVED, &SERVED_TOTALS)?);
     assert!(rt; server_has(alloc, &LOST, &lost)?);
+    assert!(rt; server_has(alloc, &HELD, &held)?);
     assert!(rt; server_has(alloc, &NO_VISITS, &none)?);
     Ok(())
 }
@@ -189,12 +212,12 @@ fn totals_join_at(rows: &Rows, visits: &Visits, at: u32) -> bool {
         return false;
     }
     let kind = Kind::Server(Demand::Column(0));
-    let before = totals_between(rows, &kind, visits, 0, at);
-    let after = totals_between(rows, &kind, visits, at, count);
+    let before = totals_between(rows, &kind, visits, 10, 0, at);
+    let after = totals_between(rows, &kind, visits, 10, at, count);
     if before.came != at || after.came != count - at {
         return false;
     }
-    totals_added(&before, &after) == totals(rows, &kind, visits)
+    totals_added(&before, &after) == totals(rows, &kind, visits, 10)
 }
 
 // Whether that is so of these visits of the three jobs.
@@ -209,6 +232,7 @@ fn totals_of_pieces_add_up(rt: HostRuntime) -> Result<(), Fail> {
     assert!(rt; server_joins(rt.alloc(), &SERVED, 0)?);
     assert!(rt; server_joins(rt.alloc(), &SERVED, 1)?);
     assert!(rt; server_joins(rt.alloc(), &LOST, 2)?);
+    assert!(rt; server_joins(rt.alloc(), &HELD, 2)?);
     assert!(rt; server_joins(rt.alloc(), &NO_VISITS, 0)?);
     Ok(())
 }
@@ -323,6 +347,7 @@ fn visits_find_those_who_are_there(rt: HostRuntime) -> Result<(), Fail> {
     let in_turn = [Fate::Departs(4), Fate::Departs(5), Fate::Departs(8)];
     let at_once = [Fate::Departs(5), Fate::Departs(3), Fate::Departs(3)];
     let lost = [Fate::Departs(9), Fate::Lost, Fate::Departs(3), Fate::Lost];
+    let held = [Fate::Departs(9), Fate::Held, Fate::Departs(3), Fate::Held];
     let overtaking = [
         Fate::Departs(9),
         Fate::Departs(4),
@@ -334,6 +359,7 @@ fn visits_find_those_who_are_there(rt: HostRuntime) -> Result<(), Fail> {
     assert!(rt; visits_find(alloc, &[0, 1, 2], &in_turn, &[0, 1, 2])?);
     assert!(rt; visits_find(alloc, &[0, 3, 3], &at_once, &[0, 1, 1])?);
     assert!(rt; visits_find(alloc, &[0, 1, 2, 6], &lost, &[0, 1, 1, 1])?);
+    assert!(rt; visits_find(alloc, &[0, 1, 2, 6], &held, &[0, 1, 2, 2])?);
     assert!(rt; visits_find(alloc, &[0, 1, 2, 4, 4, 7], &overtaking, &[0, 1, 2, 1, 1, 1])?);
     Ok(())
 }

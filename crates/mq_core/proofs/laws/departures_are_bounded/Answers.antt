@@ -9,9 +9,8 @@ returns c =
       demands = c.rows_tell_demands.ensures;
       few = c.visits_are_few.ensures;
       jobs = c.jobs_are_rows.ensures;
-      keeps = c.orders_keep_items.ensures;
       limits = c.nodes_are_in_limits.ensures;
       networks = c.runs_are_of_networks.ensures;
-      none = c.past_is_none.ensures;
+      none = c.refusal_is_none.ensures;
       ranks = c.orders_rank.ensures;
     })

@@ -1,4 +1,4 @@
-use Rattle.mq_core.proofs.Sequences.SequenceTimes.{fates-in_time}
+use Rattle.mq_core.proofs.Sequences.ArrivalTable.{fates-in_time}
 use Rattle.mq_core.proofs.laws.fates_are_in_time.Goals as goal
 
 pub returns : goal.returns

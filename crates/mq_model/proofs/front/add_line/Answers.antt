@@ -2,7 +2,8 @@ use Rattle.std.proofs.Common.{sym, ◌≡◌, ◌||◌, refl, true, false}
 use Rattle.std.specs.List.{list_all}
 use Rattle.std.proofs.lemmas.Result.{err_from_is_err_and}
 use Rattle.mq_base.specs.Text.{words_of}
-use Rattle.mq_model.specs.Model.{begins_comment, is_allowed}
+use Rattle.mq_model.specs.Head.{begins_comment}
+use Rattle.mq_model.specs.Model.{is_allowed}
 use Rattle.mq_model.specs.declared.front.Front.{Front}
 use Rattle.mq_model.proofs.FrontFacts.{add_head, add_skipped, add_told, adds_told, byte_fault, head_fault, told_fault, words_faulty}
 use Rattle.mq_model.proofs.front.add_line.Goals as goal
@@ -21,7 +22,7 @@ returns-then-not-is_head c = λ before is number _.
 
 pub returns-then-not-front : goal.returns-then-not-front
 returns-then-not-front c = λ before is number.
-    add_head before c.args.line.now c.args.front.now is c.if-not-front.true (sym c.if-not-all_allowed.ensures) (sym (rw c.requires.words at c.if-not-is_head.ensures))
+    add_head before c.args.line.now c.args.front.now c.version_said-front.result is c.if-not-front.true (sym c.if-not-all_allowed.ensures) (sym (rw c.requires.words at c.if-not-is_head.ensures)) (rw c.requires.words at c.version_said-front.ensures)
 
 pub returns-in_err-said : goal.returns-in_err-said
 returns-in_err-said c = λ before is number.
@@ -34,7 +35,7 @@ returns c = λ before is number.
     let unskipped : begins_comment (words_of c.args.line.now) ≡ false = sym (rw c.requires.words at c.if-begins_comment.ensures) in
     let old : Front = c.args.front.now in
     let mid : Front =
-    record { has_head = old.has_head; has_bound = old.has_bound || c.begins_bound.result; saids = old.saids; lines = old.lines; names = old.names; columns = old.columns } in
+    record { has_head = old.has_head; version = old.version; has_bound = old.has_bound || c.begins_bound.result; saids = old.saids; lines = old.lines; names = old.names; columns = old.columns } in
     let allowed : list_all is_allowed c.args.line.now ≡ true = sym c.if-not-all_allowed.ensures in
     let said = rw c.requires.words at c.in_ok-said.ensures.ok in
     let fault = told_fault before c.args.line.now c.args.number old c.in_ok-said.said is number unskipped allowed c.if-not-front.false said.0 said.1 in

@@ -5,7 +5,7 @@ use Rattle.mq_report.specs.Sequences.{sequence_lines}
 use Rattle.mq_report.specs.Text.{node_jobs}
 use Rattle.mq_report.proofs.JobLines.{jobs-are}
 use Rattle.mq_report.proofs.Names.{names-short}
-use Rattle.mq_report.proofs.Runs.{visits_are, visits_few, visits_inside}
+use Rattle.mq_report.proofs.Runs.{visits_are, visits_inside}
 use Rattle.mq_report.proofs.jobs.add_jobs_at.Given as Given
 use Rattle.mq_report.proofs.jobs.add_jobs_at.Goals as goal
 
@@ -22,7 +22,7 @@ pub add_visits-requires-clause-visits : goal.add_visits-requires-clause-visits
 add_visits-requires-clause-visits g c =
     subst (AreVisits c.args.rows.now c.args.declared.now.kind)
     (visits_are c.runs_have_sequences.ensures c.args.plan.now c.args.rows.now c.args.run.now c.args.node c.args.declared.now c.get-visits.result.now c.requires.run c.requires.there c.get-visits.ensures)
-    (c.runs_give_visits.ensures c.args.plan.now c.args.rows.now c.requires.read c.args.node c.args.declared.now c.requires.there (visits_few c.no_kind_copies.ensures c.visits_are_few.ensures c.args.plan.now c.args.rows.now c.args.node c.requires.read))
+    (c.runs_give_visits.ensures c.args.plan.now c.args.rows.now c.requires.read c.args.node c.args.declared.now c.requires.there (c.requires.few c.args.node c.args.declared.now c.requires.there))
 
 -- the lines of the sequences are those of the node's visits
 lines_are : (g : Given.Over) (c : goal.After-add_visits g) → sequence_lines c.args.rows.now c.as_slice-name.result.now c.args.declared.now.kind c.get-visits.result.now.job c.get-visits.result.now.arrive c.get-visits.result.now.fate ≡ node_jobs c.args.rows.now c.args.declared.now ((run_of c.args.plan.now c.args.rows.now).stations c.args.node)

@@ -4,7 +4,6 @@ use Rattle.mq_core.specs.OnceOut.{departs_after}
 use Rattle.mq_stats.proofs.Founds.{count-next, founds-next, rises-at}
 use Rattle.mq_stats.proofs.InOrder.{gone-later, there-behind}
 use Rattle.mq_stats.specs.Departures.{stays}
-use Rattle.mq_stats.proofs.in_order.found_in_order.Goals.{in-Departs, in_default}
 use Rattle.mq_stats.proofs.in_order.found_in_order.Goals as goal
 
 pub overflow_sub-stayed : goal.overflow_sub-stayed
@@ -26,10 +25,7 @@ loop-at-preserved c =
       so_far = founds-next c.loop-at.found.items c.push_reserved.new.self.items _ arrives fates at time _ _ c.get.ensures c.get-in-loop-at.ensures there c.push_reserved.ensures.items c.loop-at.invariant.so_far;
       len = omega arith;
       room = omega arith;
-      stayed = elim c.match-get.branch [
-        | in-Departs w ↦ let more = count-next stays fates at _ (c.get-in-loop-at.ensures ∙ ap (λ x. Some x) w.in-Departs.is) in omega arith
-        | in_default w ↦ let more = count-next stays fates at _ (c.get-in-loop-at.ensures ∙ ap (λ x. Some x) w.in_default.is) in omega arith
-      ];
+      stayed = let more = count-next stays fates at _ c.get-in-loop-at.ensures in let one = c.one_if_stays.ensures in omega arith;
       index = omega arith;
       departed = c.gone_by-gone.ensures.departed;
       gone = λ later h. gone-later time later (take index fates) (rises-at arrives at time later c.requires.arrive c.get.ensures (subst (λ n. slice_get arrives n ≡ Some later) next h)) c.gone_by-gone.ensures.gone;

@@ -1,12 +1,11 @@
 use Rattle.std.proofs.Common.{◌<◌, length, arith, subst}
 use Rattle.std.proofs.lemmas.List.{length-map}
 use Rattle.mq_core.specs.Asked.{HasDemands}
-use Rattle.mq_core.specs.Came.{came_of}
 use Rattle.mq_core.specs.SequenceLaws.{jobs_of}
 use Rattle.mq_core.specs.Machine.{Visit}
 use Rattle.mq_core.specs.Results.{visits_of}
 use Rattle.mq_core.specs.StandardTable.{run_of}
-use Rattle.mq_stats.proofs.RunSteps.{each-so, sequences-small}
+use Rattle.mq_stats.proofs.RunSteps.{each-so, founds-small}
 use Rattle.mq_stats.proofs.laws.runs_give_visits.Goals as goal
 
 pub returns : goal.returns
@@ -28,7 +27,5 @@ returns c plan rows read v node there few =
           each-so (λ job. job < length rows.time) (λ job. HasDemands rows node.kind job)
           (λ job below. c.rows_tell_demands.ensures plan.net rows read job (subst (λ n. job < n) times below) node.kind kind)
           (jobs_of end.visits) (c.jobs_are_rows.ensures plan rows v);
-      small =
-          sequences-small rows node.kind (came_of (length node.inputs) end.visits) (visits_of node.kind end) c.sequences_go_by_fates.ensures
-          (c.nodes_are_sequences.ensures plan rows read v node there).visits (omega arith);
+      small = founds-small 1048576 (visits_of node.kind end).found lengths.few (omega arith);
     }

@@ -1,9 +1,9 @@
 use Rattle.std.proofs.Common.{◌+◌, ◌++◌, Some, ap, ◌∙◌, drop, arith}
 use Rattle.std.specs.Vec.{vec_len, vec_capacity}
-use Rattle.mq_stats.proofs.Founds.{departs-next, lost-next}
+use Rattle.mq_stats.proofs.Founds.{departs-next, no-departure, none-next}
 use Rattle.mq_stats.specs.Departures.{departures_from}
 use Rattle.mq_stats.proofs.occupancy.departures_of.Goals as goal
-use Rattle.mq_stats.proofs.occupancy.departures_of.Goals.{in-Departs, in-Lost}
+use Rattle.mq_stats.proofs.occupancy.departures_of.Goals.{in-Departs, in_default}
 
 pub loop-at-preserved : goal.loop-at-preserved
 loop-at-preserved c =
@@ -16,13 +16,13 @@ loop-at-preserved c =
             len = omega arith;
             room = omega arith;
           }
-      | in-Lost w ↦
+      | in_default w ↦
           let len = ap vec_len w.departures-is in
           let room = ap vec_capacity w.departures-is in
           record {
             so_far =
                 ap (λ v. v.items ++ departures_from (c.loop-at.at + 1) (drop (c.loop-at.at + 1) c.args.fates.now)) w.departures-is
-                ∙ lost-next c.loop-at.departures.items _ c.args.fates.now c.loop-at.at (c.get.ensures ∙ ap Some w.in-Lost.is) c.loop-at.invariant.so_far;
+                ∙ none-next c.loop-at.departures.items _ c.args.fates.now c.loop-at.at _ c.get.ensures (no-departure c.loop-at.at _ w.in_default.not-Departs) c.loop-at.invariant.so_far;
             len = omega arith;
             room = omega arith;
           }

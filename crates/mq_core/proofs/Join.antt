@@ -1,0 +1,12 @@
+pub mod Entries
+pub mod Joinings
+pub mod Numbers
+pub mod JoinFlow
+pub mod HeldEntries
+pub mod JoinSequences
+pub mod JoinLaws
+pub mod JoinStation
+pub mod JoinExits
+pub mod JoinLimits
+pub mod JoinArrivals
+pub mod HeldVisits

@@ -1,0 +1,9 @@
+use Rattle.std.proofs.Common.{refl}
+use Rattle.mq_model.specs.Form.{read}
+use Rattle.mq_model.specs.Lines.{node_line}
+use Rattle.mq_model.proofs.FormFacts.{read_then}
+use Rattle.mq_model.proofs.line.read_fork.Goals as goal
+
+pub returns-clause-reads : goal.returns-clause-reads
+unfolding node_line read
+returns-clause-reads c = rw (read_then, c.in_ok-name.ensures.reads, read_then, c.in_ok-kind.ensures.reads, read_then, c.in_ok-reads.ensures.reads) refl
