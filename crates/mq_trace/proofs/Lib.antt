@@ -1,5 +1,7 @@
 pub mod RecordFacts
 pub mod PieceFacts
+pub mod PlainFacts
+pub mod PlainRows
 pub mod QuoteFacts
 pub mod MergeFacts
 pub mod TraceFacts

@@ -80,7 +80,7 @@ pub feed_passes : (back : List ℕ) → records_at st.StartRecord (10 ∷ back) 
 unfolding next_record
 feed_passes back = records_at-next st.StartRecord (10 ∷ back) refl
 
-no_records : records_at st.StartRecord [] ≡ []
+pub no_records : records_at st.StartRecord [] ≡ []
 unfolding next_record
 no_records = records_at-next st.StartRecord [] refl
 

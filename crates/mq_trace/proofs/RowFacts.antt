@@ -97,6 +97,11 @@ so_far_more net h done source time old new r node at values is so clean found ti
           pushed.each k (omega (arith, so.width, less)) ∙ rw (so.values k less, value, index, all) refl;
     }
 
+-- how many there are
+pub so_far_count : (net : Network) (header : Record) (done : List Record) (source time : List ℕ) (demands : List (List ℕ)) → RowsSoFar net header done source time demands → length source ≡ length done
+so_far_count net header done source time demands so =
+    ap length so.sources ∙ length-map done (λ r. unwrap_or (source_named net (field_of r 0)) 0)
+
 -- the rows of all records
 pub so_far_all : (net : Network) (header : Record) (all : List Record) (source time : List ℕ) (demands : List (List ℕ)) → RowsSoFar net header all source time demands
     → ◌≡◌ {A = Rows} (record { source = source; time = time; demands = demands }) (rows_of net header all)

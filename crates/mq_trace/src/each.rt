@@ -8,34 +8,12 @@ ghost use Rattle.mq_trace.specs.Trace.{text_records};
 
 use crate::fault::TraceFault;
 use crate::header::Header;
-use crate::records::{next_record, text_reader};
-use crate::rows::{read_rows, room_for};
-use csv::ByteRecord;
+use crate::piece::read_piece;
 use mq_base::{List, OutOfMemory};
 use mq_core::{Network, Rows};
 use mq_crew::{Open, Pieces, made};
 use std::alloc::Global;
 use std::thread::Threads;
-
-/// Reads the data records of a piece, without the header where it is the first. They are numbered from 1.
-fn read_piece(
-    alloc: Global,
-    at: usize,
-    piece: &[u8],
-    net: &Network,
-    header: &Header,
-) -> Result<Rows, TraceFault>
-    requires header { IsHeaderOf net.now header.now }
-    requires nodes { length net.now.nodes < 2 ^ 32 }
-    requires first { at ≡ 0 → 1 ≤ length (text_records piece.now) }
-    ensures { Reads net.now (fields_of header.now.names) (piece_data at piece.now) result }
-{
-    let mut reader = text_reader(alloc, piece);
-    if at == 0 && !next_record(&mut reader, &mut ByteRecord::new(alloc))? {
-        unreachable!()
-    }
-    read_rows(alloc, room_for(piece), &mut reader, net, header)
-}
 
 /// A text in pieces, of which each is read by itself. The header is the first record of the first.
 #[derive(Drop)]

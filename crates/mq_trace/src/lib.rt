@@ -4,11 +4,15 @@
 mod each;
 mod ends;
 mod fault;
+mod growing;
 mod header;
 mod join;
 mod laws;
 mod lists;
+mod piece;
 mod pieces;
+mod plain;
+mod plain_rows;
 mod quotes;
 mod read;
 mod records;

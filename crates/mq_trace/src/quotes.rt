@@ -18,7 +18,7 @@ pub enum Place {
 }
 
 /// Whether a byte outside quotes ends a field.
-fn ends_field(byte: u8) -> bool
+pub fn ends_field(byte: u8) -> bool
     ensures { result ≡ ((byte == 44) || (byte == 13) || (byte == 10)) }
 {
     byte == b',' || byte == b'\r' || byte == b'\n'
@@ -61,7 +61,7 @@ fn stands_outside(place: Place) -> bool
 }
 
 /// A text less its byte order mark.
-fn unmarked(text: &[u8]) -> &[u8]
+pub fn unmarked(text: &[u8]) -> &[u8]
     ensures { result.now ≡ strip_bom text.now }
 {
     if text.starts_with(b"\xEF\xBB\xBF") {

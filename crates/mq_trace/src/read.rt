@@ -9,9 +9,9 @@ use crate::each::read_each;
 use crate::fault::TraceFault;
 use crate::header::read_header;
 use crate::join::join_rows;
+use crate::piece::read_piece;
 use crate::pieces::pieces_of;
 use crate::records::{next_record, text_reader};
-use crate::rows::{read_rows, room_for};
 use csv::ByteRecord;
 use mq_core::{Network, Rows};
 use std::alloc::Global;
@@ -35,7 +35,7 @@ fn read_whole(alloc: Global, text: &[u8], net: &Network) -> Result<Rows, TraceFa
         return Err(TraceFault::BadHeader { field: 1 });
     }
     let header = read_header(alloc, names, net)?;
-    read_rows(alloc, room_for(text), &mut reader, net, &header)
+    read_piece(alloc, 0, text, net, &header)
 }
 
 /// The same, by pieces. Where the first has no record the header stands in a later one, and the text is read whole.

@@ -23,7 +23,7 @@ fn is_source_named(node: &Node, name: &[u8]) -> bool
 }
 
 /// The source node of this name, if there is one.
-fn find_source(net: &Network, name: &[u8]) -> Option<usize>
+pub fn find_source(net: &Network, name: &[u8]) -> Option<usize>
     ensures { result ≡ source_named net.now name.now }
 {
     net.nodes

@@ -1,17 +1,17 @@
 // The data records that a reader has left, as rows.
 
-ghost use Rattle.std.specs.Prelude.{◌≡◌, ◌+◌, ◌^◌, ◌<◌, ◌∷◌, ◌++◌, [], length, map, get_or, ℕ, OnOk, IfOk};
+ghost use Rattle.std.specs.Prelude.{◌^◌, ◌<◌, length};
 ghost use Rattle.csv.specs.Records.{fields_of};
 ghost use Rattle.mq_trace.specs.Pieces.{Reads};
-ghost use Rattle.mq_trace.specs.Reading.{IsHeaderOf, Pushes};
+ghost use Rattle.mq_trace.specs.Reading.{IsHeaderOf};
 ghost use Rattle.mq_trace.specs.Records.{IsBetween, records_left};
 
 use crate::fault::TraceFault;
+use crate::growing::GrowingRows;
 use crate::header::Header;
 use crate::records::next_record;
 use crate::row::read_row;
 use csv::{ByteRecord, Reader};
-use mq_base::{List, OutOfMemory};
 use mq_core::{Network, Rows};
 use std::alloc::Global;
 
@@ -35,38 +35,6 @@ pub fn room_for(text: &[u8]) -> usize {
     rows.saturating_add(rows / 16).min(MOST_ROWS as usize)
 }
 
-/// Empty lists with room, one for each column.
-fn empty_lists(
-    alloc: Global,
-    columns: &[List<u8>],
-    room: usize,
-) -> Result<Vec<List<u64>>, OutOfMemory>
-    ensures { IfOk result (λ v. v.items ≡ map (λ _. []) columns.now) }
-{
-    let mut lists = Vec::new(alloc);
-    for _ in columns {
-        lists.push(List::from_vec(Vec::with_capacity(alloc, room)?))?;
-    }
-    Ok(lists)
-}
-
-/// Each list gains the value at its index.
-fn push_values(
-    lists: &mut [List<u64>],
-    indices: &[usize],
-    values: &[u64],
-) -> Result<(), OutOfMemory>
-    requires same { length lists.old ≡ length indices.now }
-    requires indices { (k : ℕ) → k < length indices.now → get_or indices.now k 0 < length values.now }
-    ensures { OnOk result (Pushes lists.old lists.new indices.now values.now) }
-{
-    for (k, index) in indices.iter().enumerate() {
-        let list = &mut lists[k];
-        list.push(values[*index])?;
-    }
-    Ok(())
-}
-
 /// Reads the data records that are left. The last turn of the loop is the record that is one too many.
 pub fn read_rows(
     alloc: Global,
@@ -80,23 +48,15 @@ pub fn read_rows(
     requires nodes { length net.now.nodes < 2 ^ 32 }
     ensures { Reads net.now (fields_of header.now.names) (records_left reader.old) result }
 {
-    let mut source = List::from_vec(Vec::with_capacity(alloc, room)?);
-    let mut time = List::from_vec(Vec::with_capacity(alloc, room)?);
-    let mut demands = empty_lists(alloc, net.columns.as_slice(), room)?;
+    let mut rows = GrowingRows::new(alloc, net.columns.as_slice(), room)?;
     let mut values = [0u64; 16];
     let mut row = ByteRecord::with_capacity(alloc, RECORD_ROOM, 18)?;
     for number in 1..1_048_578u32 {
         if !next_record(reader, &mut row)? {
-            return Ok(Rows {
-                source,
-                time,
-                demands: List::from_vec(demands),
-            });
+            return Ok(rows.into_rows());
         }
         let (node, at) = read_row(&row, number, net, header, &mut values)?;
-        source.push(node)?;
-        time.push(at)?;
-        push_values(demands.as_mut_slice(), header.indices.as_slice(), &values)?;
+        rows.push(node, at, header.indices.as_slice(), &values)?;
     }
     unreachable!()
 }

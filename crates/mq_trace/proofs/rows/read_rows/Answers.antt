@@ -3,7 +3,7 @@ use Rattle.std.proofs.lemmas.List.{length-map}
 use Rattle.std.proofs.lemmas.Result.{err_from_is_err_and}
 use Rattle.csv.specs.Records.{fields_of}
 use Rattle.mq_trace.specs.Records.{records_left}
-use Rattle.mq_trace.proofs.RowFacts.{so_far_all, so_far_more, so_far_none, column_stands, small_row, first_fault, reads_few, written_back}
+use Rattle.mq_trace.proofs.RowFacts.{so_far_all, so_far_more, so_far_none, column_stands, small_row, first_fault, reads_few}
 use Rattle.mq_trace.proofs.rows.read_rows.Goals as goal
 
 pub loop-number-init : goal.loop-number-init
@@ -14,7 +14,7 @@ loop-number-init c = record {
   split = refl;
   count = refl;
   most = omega arith;
-  rows = rw (c.from_vec-source.ensures, c.in_ok-with_capacity.ensures.items, c.from_vec-time.ensures, c.in_ok-with_capacity-2.ensures.items, c.in_ok-demands.ensures, c.as_slice.ensures) (so_far_none _ _);
+  rows = rw (c.in_ok-rows.ensures.source, c.in_ok-rows.ensures.time, c.in_ok-rows.ensures.demands, c.as_slice.ensures) (so_far_none _ _);
 }
 
 pub returns-then-not-branch : goal.returns-then-not-branch
@@ -23,7 +23,7 @@ returns-then-not-branch c =
     let gone : c.in_ok-next_record.field-0 ≡ false = search rules in
     let none = rw gone at c.in_ok-next_record.ensures.found in
     let all : records_left c.args.reader.now ≡ i.done = i.split ∙ ap (λ more. i.done ++ more) none ∙ append-nil i.done in
-    rw (all, c.from_vec.ensures) (i.rows.clean, so_far_all _ _ i.done _ _ _ i.rows)
+    rw all (i.rows.clean, c.into_rows.ensures ∙ so_far_all _ _ i.done _ _ _ i.rows)
 
 pub returns-in_err-node : goal.returns-in_err-node
 returns-in_err-node c =
@@ -35,14 +35,8 @@ returns-in_err-node c =
     let p = err_from_is_err_and c.from_residual-in_err-node.result c.from_residual-in_err-node.ensures.1 in
     rw (p.1, p.2) (λ _. fault)
 
-pub push_values-requires-clause-same : goal.push_values-requires-clause-same
-push_values-requires-clause-same c =
-    let n : length c.as_slice-in-loop-number.result.now ≡ length c.args.net.now.columns = ap length (c.as_slice-in-loop-number.ensures.value ∙ c.requires.header.indices) ∙ length-map _ _ in
-    let m : length c.as_mut_slice.result.now ≡ length c.loop-number.demands.items = ap length c.as_mut_slice.ensures.value in
-    omega (arith, n, m, c.loop-number.invariant.rows.width)
-
-pub push_values-requires-clause-indices : goal.push_values-requires-clause-indices
-push_values-requires-clause-indices c = λ k less.
+pub push-requires-clause-indices : goal.push-requires-clause-indices
+push-requires-clause-indices c = λ k less.
     let n : length c.as_slice-in-loop-number.result.now ≡ length c.args.net.now.columns = ap length (c.as_slice-in-loop-number.ensures.value ∙ c.requires.header.indices) ∙ length-map _ _ in
     let stands = column_stands _ _ k c.requires.header (omega (arith, n, less)) in
     let few = reads_few _ _ c.requires.header in
@@ -55,8 +49,7 @@ loop-number-preserved c =
     let took = rw there at c.in_ok-next_record.ensures.found in
     let r = fields_of c.next_record.new.row in
     let e = c.in_ok-node.ensures in
-    let pushed = c.in_ok-push_values.ensures in
-    let len : c.loop-number.demands.len ≡ length c.push_values.new.lists = omega (arith, c.push_values.auto.lists, ap length c.as_mut_slice.ensures.value, c.as_mut_slice.ensures.len) in
+    let pushed = c.in_ok-push.ensures in
     record {
       between = took.0;
       room = c.read_row.auto.values ∙ i.room;
@@ -64,5 +57,5 @@ loop-number-preserved c =
       split = i.split ∙ ap (λ more. i.done ++ more) took.1 ∙ sym (append_assoc i.done (r ∷ []) _);
       count = rw (length-append i.done (r ∷ [])) (omega (arith, i.count));
       most = let small = small_row _ _ _ _ e.clean in omega (arith, small);
-      rows = rw (c.in_ok-push.ensures.ok, c.in_ok-push-2.ensures.ok, written_back _ _ _ len) (so_far_more _ _ _ _ _ _ _ _ _ _ _ c.requires.header i.rows (rw i.count e.clean) e.source e.time e.values (rw (c.as_mut_slice.ensures.value, c.as_slice-in-loop-number.ensures.value) at pushed));
+      rows = rw (pushed.source, pushed.time) (so_far_more _ _ _ _ _ _ _ _ _ _ _ c.requires.header i.rows (rw i.count e.clean) e.source e.time e.values (rw c.as_slice-in-loop-number.ensures.value at pushed.demands));
     }

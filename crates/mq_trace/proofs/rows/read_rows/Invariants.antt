@@ -12,5 +12,5 @@ invariant-loop-number l = record {
   split : records_left l.fn.reader ≡ done ++ records_left l.reader;
   count : 1 + length done ≡ l.number;
   most : l.number ≤ 1048577;
-  rows : RowsSoFar l.net (fields_of l.header.names) done l.source l.time l.demands.items;
+  rows : RowsSoFar l.net (fields_of l.header.names) done l.rows.source l.rows.time l.rows.demands.items;
 }

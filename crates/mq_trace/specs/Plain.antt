@@ -1,0 +1,39 @@
+-- Records whose fields have no quotes, as they stand in a text.
+use Rattle.std.specs.Prelude.{◌≡◌, ◌∷◌, ◌<◌, ◌≤◌, ◌==◌, ◌||◌, [], ℕ, List, Bool, true, None, Some, not, length}
+use Rattle.std.specs.Str.Parse.{digits_value}
+use Rattle.csv.specs.Records.{fields_of}
+use Rattle.csv.specs.declared.parser.State.TheVariants as st
+use Rattle.mq_core.specs.declared.model.Network.{Network}
+use Rattle.mq_trace.specs.Header.{field_of}
+use Rattle.mq_trace.specs.Reading.{HoldsValues}
+use Rattle.mq_trace.specs.Records.{Record, records_at}
+use Rattle.mq_trace.specs.Trace.{row_fault, source_named}
+use Rattle.mq_trace.specs.declared.header.Header.{Header}
+use Rattle.mq_trace.specs.declared.plain.PlainRow.{PlainRow}
+
+-- a byte that ends a record
+abbrev pub is_line_end : ℕ → Bool
+is_line_end c = (c == 13) || (c == 10)
+
+-- a byte of a field without quotes
+abbrev pub is_plain : ℕ → Bool
+is_plain c = not ((c == 34) || (c == 44) || (c == 13) || (c == 10))
+
+-- where this text begins a record ends: there is nothing, or a byte that ends one
+abbrev pub ends_record : List ℕ → Bool
+ends_record [] = true
+ends_record (c ∷ more) = is_line_end c
+
+-- this is the first record of a text, and this is left behind it
+pub record BeginsWith (text : List ℕ) (first : Record) (rest : List ℕ) : Type 0 where
+  pub records : records_at st.StartRecord text ≡ first ∷ records_at st.StartRecord rest
+  pub less : length rest < length text
+
+-- what was read is the first record of a text, which has this number and no fault
+pub record IsFirstRow (net : Network) (header : Header) (text : List ℕ) (number : ℕ) (row : PlainRow) (values : List ℕ) : Type 0 where
+  pub fields : Record
+  pub first : BeginsWith text fields row.rest.now
+  pub clean : row_fault net (fields_of header.names) number fields ≡ None
+  pub source : source_named net (field_of fields 0) ≡ Some row.node
+  pub time : row.time ≡ digits_value 10 (field_of fields 1)
+  pub held : HoldsValues header.reads.items values fields

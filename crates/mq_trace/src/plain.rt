@@ -1,0 +1,153 @@
+// Records whose fields have no quotes, which are read as they stand in a text.
+
+ghost use Rattle.std.specs.Prelude.{◌≡◌, ◌+◌, ◌^◌, ◌<◌, ◌≤◌, ◌∷◌, ◌++◌, ℕ, List, length, true, Some, IfSome, drop, take};
+ghost use Rattle.std.specs.Char.{is_ascii_digit};
+ghost use Rattle.std.specs.List.{list_all, prefix_len};
+ghost use Rattle.std.specs.Str.Parse.{digits_value};
+ghost use Rattle.mq_base.specs.Text.{number_of};
+ghost use Rattle.mq_trace.specs.Plain.{BeginsWith, IsFirstRow, ends_record, is_plain};
+ghost use Rattle.mq_trace.specs.Reading.{IsHeaderOf};
+ghost use Rattle.mq_trace.specs.Records.{Record};
+
+use crate::header::Header;
+use crate::quotes::ends_field;
+use crate::row::find_source;
+use crate::rows::MOST_ROWS;
+use mq_core::Network;
+
+/// What a record gives, beside the numbers of its columns.
+#[derive(Clone, Copy)]
+pub struct PlainRow<'a> {
+    /// The node of its source.
+    pub node: u32,
+    /// When the job comes, in ticks.
+    pub time: u64,
+    /// The text behind the record.
+    pub rest: &'a [u8],
+}
+
+/// Whether a field without quotes may have this byte.
+fn is_plain_byte(byte: u8) -> bool
+    ensures { result ≡ is_plain byte }
+{
+    byte != b'"' && !ends_field(byte)
+}
+
+/// How many bytes of a field a text begins with.
+fn field_length(text: &[u8]) -> usize
+    ensures at { result ≡ prefix_len is_plain text.now }
+    ensures within { result ≤ length text.now }
+{
+    text.iter().take_while(|byte| is_plain_byte(**byte)).count()
+}
+
+/// The field that a text begins with, and what stands behind it.
+fn split_field(text: &[u8]) -> (&[u8], &[u8])
+    ensures whole { text.now ≡ result.0.now ++ result.1.now }
+    ensures plain { list_all is_plain result.0.now ≡ true }
+{
+    text.split_at(field_length(text))
+}
+
+/// How many digits a text begins with, of which at most 19 are taken, and their value.
+fn leading_digits(text: &[u8]) -> (usize, u64)
+    ensures within { result.0 ≤ length text.now }
+    ensures few { result.0 ≤ 19 }
+    ensures digits { list_all is_ascii_digit (take result.0 text.now) ≡ true }
+    ensures value { result.1 ≡ digits_value 10 (take result.0 text.now) }
+{
+    let most = text.len().min(19);
+    let mut value = 0u64;
+    for (index, byte) in text[..most].iter().enumerate() {
+        if !byte.is_ascii_digit() {
+            return (index, value);
+        }
+        value = value * 10 + u64::from(byte - b'0');
+    }
+    (most, value)
+}
+
+/// The number that a text begins with, and what stands behind it. Nothing where there is no digit or the number is
+/// greater than the limit. Of more than 19 digits the others stand behind it.
+fn split_number(text: &[u8], limit: u64) -> Option<(u64, &[u8])>
+    ensures { IfSome result (λ p. (digits : List ℕ) × (text.now ≡ digits ++ p.1.now) × (number_of digits limit ≡ Some p.0)) }
+{
+    let (length, value) = leading_digits(text);
+    if length == 0 || value > limit {
+        return None;
+    }
+    Some((value, &text[length..]))
+}
+
+/// What stands behind a comma, where a text begins with one.
+fn behind_comma(text: &[u8]) -> Option<&[u8]>
+    ensures { IfSome result (λ more. text.now ≡ 44 ∷ more.now) }
+{
+    match text {
+        [b',', more @ ..] => Some(more),
+        _ => None,
+    }
+}
+
+/// What stands behind a record, where one ends here.
+pub fn behind_record(text: &[u8]) -> Option<&[u8]>
+    ensures ends { IfSome result (λ _. ends_record text.now ≡ true) }
+    ensures rest { IfSome result (λ more. more.now ≡ drop 1 text.now) }
+{
+    match text {
+        [] => Some(text),
+        [b'\r' | b'\n', more @ ..] => Some(more),
+        _ => None,
+    }
+}
+
+/// What stands behind the first record of a text, where it has no quotes and more than one field.
+pub fn behind_first(text: &[u8]) -> Option<&[u8]>
+    ensures { IfSome result (λ rest. (first : Record) × BeginsWith text.now first rest.now) }
+{
+    let mut field = behind_comma(split_field(text).1)?;
+    loop {
+        let end = split_field(field).1;
+        match behind_comma(end) {
+            Some(next) => field = next,
+            None => return behind_record(end),
+        }
+    }
+}
+
+/// Reads the first record of a text, behind so many others, where it has no quotes and no fault. The numbers of its
+/// columns go into `values`.
+pub fn plain_row<'a>(
+    text: &'a [u8],
+    before: usize,
+    net: &Network,
+    header: &Header,
+    values: &mut [u64],
+) -> Option<PlainRow<'a>>
+    requires header { IsHeaderOf net.now header.now }
+    requires nodes { length net.now.nodes < 2 ^ 32 }
+    requires room { length values.old ≡ 16 }
+    ensures { IfSome result (λ row. IsFirstRow net.now header.now text.now (before + 1) row values.new) }
+{
+    if before >= MOST_ROWS as usize {
+        return None;
+    }
+    let (name, behind) = split_field(text);
+    let node = find_source(net, name)?;
+    let (time, mut end) = split_number(behind_comma(behind)?, 1 << 60)?;
+    for (index, reads) in header.reads.as_slice().iter().enumerate() {
+        let field = behind_comma(end)?;
+        end = if *reads {
+            let (value, rest) = split_number(field, 1 << 36)?;
+            values[index] = value;
+            rest
+        } else {
+            split_field(field).1
+        };
+    }
+    Some(PlainRow {
+        node: node as u32,
+        time,
+        rest: behind_record(end)?,
+    })
+}
