@@ -20,8 +20,8 @@ from collections import namedtuple
 HERE = os.path.dirname(os.path.abspath(__file__))
 
 # The lines of a model behind its sources, the columns of its trace and what they hold: a number below this one, or this
-# text. From one record to the next the time grows by a number below `step`, or by 1 where that is 0.
-Input = namedtuple("Input", "sources lines columns step")
+# text. From one record to the next the time grows by a number below `step`, or by 1 where that is 0. The model is of this version.
+Input = namedtuple("Input", "sources lines columns step version", defaults=[1])
 
 INPUTS = {
     "server": Input(["src"], ["server desk d from src"], {"d": 9}, 10),
@@ -39,6 +39,13 @@ INPUTS = {
     "overload": Input(["src"], ["loss l 1 =2 from src"], {}, 0),
     # as a spreadsheet writes it: a column of quoted text that the model doesn't read
     "quoted": Input(["src"], ["server desk d from src"], {"d": 9, "note": '"seen, then called back"'}, 10),
+    "fork-and-join": Input(
+        ["src"],
+        ["fork f 2 from src", "server a d from f", "server b e from f.1", "join j from a b"],
+        {"d": 9, "e": 9},
+        12,
+        2,
+    ),
     "call-centre": Input(
         ["phone", "web"],
         [
@@ -58,7 +65,7 @@ Measure = namedtuple("Measure", "seconds megabytes status out err")
 
 def write_model(path, given):
     with open(path, "w") as out:
-        for line in ["model 1", *(f"source {name}" for name in given.sources), *given.lines]:
+        for line in [f"model {given.version}", *(f"source {name}" for name in given.sources), *given.lines]:
             print(line, file=out)
 
 
