@@ -1,5 +1,5 @@
 -- No match is whole before a visit of it, and each is whole at a visit.
-use Rattle.std.proofs.Common.{◌≡◌, ℕ, zero, suc, ◌+◌, ◌<◌, ◌≤◌, List, [], ◌∷◌, ◌++◌, length, take, drop, get_or, Option, Some, refl, sym, ap, arith, subst, ◌∙◌}
+use Rattle.std.proofs.Common.{◌≡◌, ℕ, zero, suc, ◌<◌, ◌≤◌, List, [], ◌∷◌, ◌++◌, length, take, drop, Some, refl, sym, ap, arith, ◌∙◌}
 use Rattle.std.proofs.lemmas.List.{length-take-le, take-append-drop}
 use Rattle.std.proofs.lemmas.Option.{slice_get_within}
 use Rattle.std.specs.List.{zip}
@@ -9,7 +9,7 @@ use Rattle.mq_core.specs.Kinds.Join.{is_item, match_of, matches_from}
 use Rattle.mq_core.proofs.lemmas.Matches.{match-behind}
 use Rattle.mq_join.specs.Below.{AreBelow}
 use Rattle.mq_join.specs.Items.{AreBehind}
-use Rattle.mq_join.proofs.Steps.{match-at, match-below, matches-many, zip-many}
+use Rattle.mq_join.proofs.Steps.{match-at, match-below, matches-many}
 
 pub item-there : {X : Type 0} (xs : List X) (i : ℕ) → i < length xs → (x : X) × (slice_get xs i ≡ Some x)
 item-there [] i l = absurd (omega arith)

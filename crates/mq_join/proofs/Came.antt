@@ -2,8 +2,7 @@
 use Rattle.std.proofs.Common.{◌≡◌, ℕ, List, [], ◌∷◌, length, map, refl, sym, ap, arith, ◌∙◌}
 use Rattle.mq_core.specs.Alone.{came}
 use Rattle.mq_core.specs.Machine.{Visit}
-use Rattle.mq_join.specs.Gathers.{GatheredCame, arrivals_of}
-use Rattle.mq_join.specs.declared.gathered.Gathered.{Gathered}
+use Rattle.mq_join.specs.Gathers.{GatheredCame}
 use Rattle.mq_join.proofs.Gathering.{triples}
 
 abbrev Triple : Type 0

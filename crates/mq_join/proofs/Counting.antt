@@ -1,12 +1,12 @@
 -- One item more of a job, and how many visits to a join are open at a position.
-use Rattle.std.proofs.Common.{◌≡◌, ◌⊎◌, inl, inr, ℕ, zero, suc, ◌+◌, ◌-◌, ◌<◌, ◌≤◌, Bool, true, false, cond, eqb, eqb-true, eq-eqb, List, [], ◌∷◌, ◌++◌, length, take, drop, set, get_or, Option, Some, None, refl, sym, ap, arith, subst, ◌∙◌, get_or-set_other, get_or-set_same}
+use Rattle.std.proofs.Common.{◌≡◌, ℕ, zero, suc, ◌+◌, ◌<◌, ◌≤◌, Bool, true, false, cond, eqb, eqb-true, eq-eqb, List, [], ◌∷◌, ◌++◌, length, take, drop, set, Option, Some, None, refl, sym, ap, arith, subst, ◌∙◌, get_or-set_other, get_or-set_same}
 use Rattle.std.proofs.lemmas.Bool.{and_parts}
 use Rattle.std.proofs.lemmas.Bool.Decides.{nat_tests}
 use Rattle.std.proofs.lemmas.List.{length-set, take-append-drop}
 use Rattle.std.proofs.lemmas.List.Sums.{sum_by-append, sum_by-cons}
 use Rattle.std.specs.List.{list_all}
 use Rattle.std.specs.Prelude.{count_by, nat_le, nat_lt, slice_get, slice_index, ◌&&◌}
-use Rattle.mq_core.specs.Kinds.Join.{is_item, is_open_at, is_whole_at, match_of, opens_from}
+use Rattle.mq_core.specs.Kinds.Join.{is_item, is_open_at, is_whole_at}
 use Rattle.mq_core.proofs.lemmas.Matches.{match-other, places-grow, places-stay}
 use Rattle.mq_join.specs.Items.{IsCounted}
 

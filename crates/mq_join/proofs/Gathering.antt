@@ -1,7 +1,7 @@
 -- Items put in the order of their times by their indices.
-use Rattle.std.proofs.Common.{◌≡◌, ℕ, zero, suc, ◌+◌, ◌-◌, ◌<◌, ◌≤◌, ◌⊎◌, inl, inr, true, false, cond, List, [], ◌∷◌, ◌++◌, length, length-append, map, replicate, Some, refl, sym, ap, arith, subst, ◌∙◌}
+use Rattle.std.proofs.Common.{◌≡◌, ℕ, zero, suc, ◌+◌, ◌-◌, ◌<◌, ◌≤◌, ◌⊎◌, inl, inr, true, false, cond, List, [], ◌∷◌, ◌++◌, length, length-append, map, replicate, refl, sym, ap, arith, subst, ◌∙◌}
 use Rattle.std.specs.List.{AllByRecursion as Each, range_with_len, zip}
-use Rattle.std.specs.Prelude.{nat_lt, slice_get, slice_index}
+use Rattle.std.specs.Prelude.{nat_lt, slice_index}
 use Rattle.std.proofs.lemmas.Bool.{cases_lt}
 use Rattle.std.proofs.lemmas.Bool.Decides.{nat_tests}
 use Rattle.std.proofs.lemmas.Option.{slice_get-get_or}

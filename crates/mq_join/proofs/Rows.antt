@@ -1,12 +1,11 @@
 -- The rows of the jobs to which items come, one after the other.
-use Rattle.std.proofs.Common.{◌≡◌, ℕ, zero, suc, ◌+◌, ◌<◌, ◌≤◌, Bool, true, false, eqb, eqb-true, eq-eqb, List, [], ◌∷◌, ◌++◌, length, replicate, take, set, Option, Some, None, refl, sym, ap, arith, subst, ◌∙◌}
+use Rattle.std.proofs.Common.{◌≡◌, ℕ, zero, suc, ◌<◌, ◌≤◌, Bool, true, false, eqb, eqb-true, eq-eqb, List, [], ◌∷◌, ◌++◌, length, replicate, take, set, Some, refl, sym, ap, arith, subst, ◌∙◌}
 use Rattle.std.proofs.lemmas.List.{length-take-le}
 use Rattle.std.proofs.lemmas.List.Sums.{count_by-le-length}
 use Rattle.std.specs.Prelude.{count_by, slice_get, slice_index}
 use Rattle.mq_base.proofs.lemmas.Lists.{some_inj}
 use Rattle.mq_core.specs.Kinds.Join.{is_item, match_of}
 use Rattle.mq_core.proofs.lemmas.Matches.{match-none}
-use Rattle.mq_join.specs.Below.{AreBelow}
 use Rattle.mq_join.specs.Items.{AreCounted, AreFresh, IsCounted, indices_from}
 use Rattle.mq_join.specs.declared.matches.Row.{Row}
 use Rattle.mq_join.proofs.Counting.{row-other}

@@ -1,11 +1,11 @@
 -- One position further through the matches of a join: how many are whole at a position, what is open, what leaves.
-use Rattle.std.proofs.Common.{◌≡◌, ℕ, zero, suc, ◌+◌, ◌-◌, ◌<◌, ◌≤◌, Bool, true, false, cond, eqb, eqb-true, eq-eqb, List, [], ◌∷◌, ◌++◌, append_assoc, length, map, take, drop, set, Option, Some, None, refl, sym, ap, arith, subst, ◌∙◌, get_or-set_other, get_or-set_same}
+use Rattle.std.proofs.Common.{◌≡◌, ℕ, suc, ◌+◌, ◌-◌, ◌<◌, ◌≤◌, Bool, true, false, cond, eqb, eqb-true, eq-eqb, List, [], ◌∷◌, ◌++◌, append_assoc, length, take, drop, set, Option, Some, None, refl, sym, ap, arith, ◌∙◌, get_or-set_other, get_or-set_same}
 use Rattle.std.proofs.lemmas.List.{append-nil, drop_all}
 use Rattle.std.specs.Prelude.{count_by, slice_get, slice_index}
 use Rattle.mq_base.proofs.lemmas.Lists.{drop_at}
 use Rattle.mq_core.specs.Kinds.Join.{is_open_at, is_whole_at, opens_from, wholes_from}
 use Rattle.mq_join.specs.Items.{AreBehind}
-use Rattle.mq_join.proofs.Counting.{closed-next, count-next, is_closed, opens-before}
+use Rattle.mq_join.proofs.Counting.{count-next, is_closed, opens-before}
 use Rattle.mq_join.proofs.Steps.{take_at}
 
 -- a match more, of those that are whole at a position

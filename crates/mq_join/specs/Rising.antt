@@ -1,6 +1,6 @@
 -- That times rise is one fact.
 use Rattle.std.specs.Coded.{Unit-prop, le_prop, ×_prop}
-use Rattle.std.specs.List.{AllByRecursion, AllByRecursion-prop}
+use Rattle.std.specs.List.{AllByRecursion-prop}
 use Rattle.std.specs.Prelude.{List, [], ◌∷◌, ℕ, ◌≤◌}
 use Rattle.mq_core.specs.Laws.{Rises}
 

@@ -8,7 +8,6 @@ use Rattle.mq_core.specs.Results.{Late, Refusal, first_some, most_visits, refusa
 use Rattle.mq_core.specs.Results.Refusal.{Over, Past}
 use Rattle.mq_core.specs.StandardTable.{run_of}
 use Rattle.mq_core.specs.Wiring.{has}
-use Rattle.mq_core.specs.declared.model.Node.{Node}
 use Rattle.mq_core.specs.declared.model.Plan.{Plan}
 use Rattle.mq_core.specs.declared.model.Rows.{Rows}
 use Rattle.mq_stats.specs.RunNumbers.{HasFewVisits}

@@ -1,5 +1,5 @@
 -- Held visits: how many there are beside the others, and that without any the span of the run changes nothing.
-use Rattle.std.proofs.Common.{◌≡◌, ℕ, suc, ◌+◌, List, [], ◌∷◌, length, refl, ap, ◌∙◌, arith}
+use Rattle.std.proofs.Common.{◌≡◌, ℕ, ◌+◌, List, [], ◌∷◌, length, refl, ap, arith}
 use Rattle.std.specs.Prelude.{count_by}
 use Rattle.mq_core.specs.Results.{is_departed, is_held, is_lost}
 use Rattle.mq_core.specs.Sequences.{sequence_sojourn, sequence_sojourns}

@@ -14,7 +14,7 @@ use Rattle.mq_core.specs.Kinds.Loss.{out_of_fate}
 use Rattle.mq_core.specs.Laws.{in_order_of, insert_by}
 use Rattle.mq_core.specs.OnceOut.{leaving_times}
 use Rattle.mq_core.specs.SequenceLaws.{GoesByFates, KeepsItems, OrdersKeepItems, SequencesGoByFates}
-use Rattle.mq_core.specs.Sequences.{sequence_fates, sequence_outs, sequence_stream, stream_in_order, time_of_fate}
+use Rattle.mq_core.specs.Sequences.{sequence_fates, sequence_outs, sequence_stream, time_of_fate}
 use Rattle.mq_core.specs.Sound.{outputs_in}
 use Rattle.mq_core.specs.Streams.{picked, stream_by}
 use Rattle.mq_core.specs.declared.model.Fate.{Fate}

@@ -1,5 +1,5 @@
 -- One step of a loop over sequences, and its end.
-use Rattle.std.proofs.Common.{◌≡◌, ℕ, ◌+◌, ◌<◌, ◌⊎◌, inl, inr, Bool, List, [], ◌∷◌, length, refl, cond, drop, get_or, Some, sym, subst, ap, ◌∙◌, arith, max}
+use Rattle.std.proofs.Common.{◌≡◌, ℕ, ◌+◌, ◌⊎◌, inl, inr, Bool, List, [], ◌∷◌, length, refl, cond, drop, Some, sym, subst, ap, ◌∙◌, arith, max}
 use Rattle.std.specs.Prelude.{slice_get, fold, slice_index, ◌-◌, count_by, sum}
 use Rattle.mq_base.proofs.lemmas.Lists.{drop_at, sum-cons}
 use Rattle.mq_core.specs.Sequences.{sequence_wait, sequence_waits, sequence_service, sequence_services, sequence_sojourn, sequence_sojourns, stream_sojourns}

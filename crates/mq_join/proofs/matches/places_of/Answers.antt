@@ -1,4 +1,4 @@
-use Rattle.std.proofs.Common.{Some, ◌≡◌, ◌+◌, ◌++◌, ◌∷◌, ◌∙◌, ◌≤◌, ◌<◌, [], ap, arith, drop, get_or, length, sym, take}
+use Rattle.std.proofs.Common.{Some, ◌+◌, ◌++◌, ◌∷◌, ◌∙◌, [], ap, arith, drop, length, sym, take}
 use Rattle.std.proofs.lemmas.Option.{slice_get-get_or}
 use Rattle.mq_core.specs.Kinds.Join.{matches_from}
 use Rattle.mq_join.specs.Items.{items_of}

@@ -1,4 +1,4 @@
-use Rattle.std.proofs.Common.{Some, ◌++◌, ◌∷◌, ◌∙◌, ◌<◌, [], ap, arith}
+use Rattle.std.proofs.Common.{Some, ◌++◌, ◌∷◌, ◌∙◌, [], ap, arith}
 use Rattle.mq_core.specs.Kinds.Join.{fate_by_match}
 use Rattle.mq_join.proofs.Steps.{map-more}
 use Rattle.mq_join.proofs.visits.fates_of.Goals as goal

@@ -1,4 +1,4 @@
-use Rattle.std.proofs.Common.{None, ◌≡◌, ◌∙◌, ◌+◌, ◌++◌, ◌≤◌, [], ap, arith, drop, length, take}
+use Rattle.std.proofs.Common.{None, ◌∙◌, ◌+◌, ◌++◌, [], ap, arith, drop, take}
 use Rattle.std.proofs.lemmas.Option.{slice_get-get_or}
 use Rattle.mq_core.specs.Kinds.Join.{opens_from}
 use Rattle.mq_join.proofs.Counting.{closed-next}

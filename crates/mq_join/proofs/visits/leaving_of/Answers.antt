@@ -1,4 +1,4 @@
-use Rattle.std.proofs.Common.{◌≡◌, ◌∙◌, ◌+◌, ◌++◌, ap, arith, drop, sym}
+use Rattle.std.proofs.Common.{◌∙◌, ◌+◌, ◌++◌, ap, arith, drop, sym}
 use Rattle.std.proofs.lemmas.Option.{slice_get-get_or}
 use Rattle.mq_core.specs.Kinds.Join.{wholes_from}
 use Rattle.mq_core.specs.declared.model.Stream.{Stream}

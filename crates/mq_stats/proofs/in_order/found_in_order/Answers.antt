@@ -1,4 +1,4 @@
-use Rattle.std.proofs.Common.{◌≡◌, suc, ◌+◌, ◌-◌, Some, ap, ◌∙◌, subst, arith, count_by, take}
+use Rattle.std.proofs.Common.{◌≡◌, suc, ◌+◌, ◌-◌, Some, subst, arith, count_by, take}
 use Rattle.std.specs.Prelude.{slice_get}
 use Rattle.mq_core.specs.OnceOut.{departs_after}
 use Rattle.mq_stats.proofs.Founds.{count-next, founds-next, rises-at}

@@ -1,5 +1,4 @@
-use Rattle.std.proofs.Common.{length, arith}
-use Rattle.mq_core.specs.StandardTable.{run_of}
+use Rattle.std.proofs.Common.{arith}
 use Rattle.mq_stats.proofs.Fine.{fine-few}
 use Rattle.mq_stats.proofs.laws.runs_have_few_visits.Goals as goal
 

@@ -1,4 +1,4 @@
-use Rattle.std.proofs.Common.{◌≡◌, ◌∙◌, ℕ, ◌+◌, ◌<◌, Some, ap, arith, count_by, length, map, refl, sym, take}
+use Rattle.std.proofs.Common.{◌∙◌, ℕ, ◌+◌, Some, ap, arith, count_by, length, map, sym, take}
 use Rattle.std.specs.Prelude.{slice_get}
 use Rattle.std.specs.List.{zip}
 use Rattle.std.proofs.lemmas.List.{length-map}

@@ -1,4 +1,4 @@
-use Rattle.std.proofs.Common.{◌<◌, arith, length}
+use Rattle.std.proofs.Common.{arith}
 use Rattle.std.proofs.lemmas.Option.{slice_get-get_or}
 use Rattle.mq_stats.proofs.Steps.{adds, sojourns-at}
 use Rattle.mq_stats.proofs.tallies.sojourns_of.Goals as goal
