@@ -17,7 +17,7 @@ use Rattle.mq_base.specs.Text.{number_of}
 use Rattle.mq_base.proofs.lemmas.Numbers.{decimals}
 use Rattle.mq_core.specs.declared.model.Network.{Network}
 use Rattle.mq_trace.specs.Header.{columns_of, field_of, is_among}
-use Rattle.mq_trace.specs.Plain.{IsFirstRow, ends_record, is_plain}
+use Rattle.mq_trace.specs.Plain.{IsField, IsFirstRow, ends_record, is_plain}
 use Rattle.mq_trace.specs.Reading.{IsHeaderOf}
 use Rattle.mq_trace.specs.Records.{Record}
 use Rattle.mq_trace.specs.Trace.{bad_value, row_fault, source_named}
@@ -73,8 +73,11 @@ digits_plain (c ∷ text) h =
     let rest = digits_plain text both.1 in
     rw (byte, rest) refl
 
-pub number_plain : (text : List ℕ) (limit value : ℕ) → number_of text limit ≡ Some value → list_all is_plain text ≡ true
+number_plain : (text : List ℕ) (limit value : ℕ) → number_of text limit ≡ Some value → list_all is_plain text ≡ true
 number_plain text limit value h = digits_plain text (grind (arith, common_steps, h))
+
+pub number_field : (text digits rest : List ℕ) (limit value : ℕ) → text ≡ digits ++ rest → number_of digits limit ≡ Some value → IsField text digits rest
+number_field text digits rest limit value e h = inl (number_plain digits limit value h, e)
 
 pub number_is : (text : List ℕ) (limit value : ℕ) → number_of text limit ≡ Some value → value ≡ digits_value 10 text
 number_is text limit value h = grind (arith, common_steps, h)
@@ -128,14 +131,14 @@ held_more reads old new later field i len same value held k less read =
     ]
 
 -- the first two fields
-pub row_begins : (net : Network) (header : Header) (text : List ℕ) (node time : ℕ) (values first behind back second end : List ℕ) → list_all is_plain first ≡ true → text ≡ first ++ behind
-    → behind ≡ 44 ∷ back → back ≡ second ++ end → source_named net first ≡ Some node → number_of second (2 ^ 60) ≡ Some time → RowSoFar net header text 0 node time values end
+pub row_begins : (net : Network) (header : Header) (text : List ℕ) (node time : ℕ) (values first behind back second end : List ℕ) → IsField text first behind → behind ≡ 44 ∷ back
+    → IsField back second end → source_named net first ≡ Some node → number_of second (2 ^ 60) ≡ Some time → RowSoFar net header text 0 node time values end
 unfolding bad_value
-row_begins net header text node time values first behind back second end plain whole comma split source number = record {
+row_begins net header text node time values first behind back second end begins comma follows source number = record {
   first = first;
   second = second;
   later = [];
-  ends = goes_over text (first ∷ []) back second end (goes_first text first back plain (whole ∙ ap (λ more. first ++ more) comma)) (number_plain second (2 ^ 60) time number) split;
+  ends = goes_over text (first ∷ []) back second end (goes_first text first behind back begins comma) follows;
   count = refl;
   source = source;
   number = number;
@@ -145,10 +148,10 @@ row_begins net header text node time values first behind back second end plain w
 
 -- one more field
 pub row_more : (net : Network) (header : Header) (text : List ℕ) (index node time : ℕ) (old new end from field rest : List ℕ) → IsHeaderOf net header
-    → RowSoFar net header text index node time old end → index < length header.reads.items → end ≡ 44 ∷ from → from ≡ field ++ rest → list_all is_plain field ≡ true
+    → RowSoFar net header text index node time old end → index < length header.reads.items → end ≡ 44 ∷ from → IsField from field rest
     → ((k : ℕ) → k < index → get_or new k 0 ≡ get_or old k 0) → IsNoted (get_or header.reads.items index false) (get_or new index 0) field
     → RowSoFar net header text (index + 1) node time new rest
-row_more net header text index node time old new end from field rest is so less comma split plain same noted_here =
+row_more net header text index node time old new end from field rest is so less comma follows same noted_here =
     let columns = columns_of (fields_of header.names) in
     let size = length_noted net.columns columns header.reads.items is.reads in
     let within : index < length columns = omega arith in
@@ -159,7 +162,7 @@ row_more net header text index node time old new end from field rest is so less 
       first = so.first;
       second = so.second;
       later = so.later ++ field ∷ [];
-      ends = goes_over text (so.first ∷ so.second ∷ so.later) from field rest (so.ends.goes from comma) plain split;
+      ends = goes_over text (so.first ∷ so.second ∷ so.later) from field rest (so.ends.goes from comma) follows;
       count = length-append so.later (field ∷ []) ∙ ap (λ n. n + 1) so.count;
       source = so.source;
       number = so.number;

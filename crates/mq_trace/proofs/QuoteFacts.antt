@@ -64,7 +64,7 @@ byte_does st.InEscape c m q = cc
 byte_does st.InComment c m q = cc
 
 -- neither holds
-or_false : (a b : Bool) → (a || b) ≡ false → (a ≡ false) × (b ≡ false)
+pub or_false : (a b : Bool) → (a || b) ≡ false → (a ≡ false) × (b ≡ false)
 or_false true b h = cc
 or_false false b h = (refl, h)
 

@@ -1,10 +1,12 @@
--- Records whose fields have no quotes, as they stand in a text.
-use Rattle.std.specs.Prelude.{◌≡◌, ◌∷◌, ◌<◌, ◌≤◌, ◌==◌, ◌||◌, [], ℕ, List, Bool, true, None, Some, not, length}
+-- Records that are read as they stand in a text: in their fields no quote stands, but around them.
+use Rattle.std.specs.Prelude.{◌≡◌, ◌⊎◌, ◌∷◌, ◌++◌, ◌+◌, ◌<◌, ◌==◌, ◌||◌, [], ℕ, List, Bool, true, false, None, Some, not, length}
+use Rattle.std.specs.List.{list_all}
 use Rattle.std.specs.Str.Parse.{digits_value}
 use Rattle.csv.specs.Records.{fields_of}
 use Rattle.csv.specs.declared.parser.State.TheVariants as st
 use Rattle.mq_core.specs.declared.model.Network.{Network}
 use Rattle.mq_trace.specs.Header.{field_of}
+use Rattle.mq_trace.specs.Quotes.{has_quote}
 use Rattle.mq_trace.specs.Reading.{HoldsValues}
 use Rattle.mq_trace.specs.Records.{Record, records_at}
 use Rattle.mq_trace.specs.Trace.{row_fault, source_named}
@@ -15,9 +17,13 @@ use Rattle.mq_trace.specs.declared.plain.PlainRow.{PlainRow}
 abbrev pub is_line_end : ℕ → Bool
 is_line_end c = (c == 13) || (c == 10)
 
--- a byte of a field without quotes
+-- a byte of a field that no quotes stand around
 abbrev pub is_plain : ℕ → Bool
 is_plain c = not ((c == 34) || (c == 44) || (c == 13) || (c == 10))
+
+-- a text begins with this field, as it stands or between quotes, and this is left behind it
+abbrev pub IsField : List ℕ → List ℕ → List ℕ → Type 0
+IsField text field rest = ((list_all is_plain field ≡ true) × (text ≡ field ++ rest)) ⊎ ((has_quote field ≡ false) × (text ≡ 34 ∷ (field ++ 34 ∷ rest)))
 
 -- where this text begins a record ends: there is nothing, or a byte that ends one
 abbrev pub ends_record : List ℕ → Bool

@@ -5,7 +5,7 @@ ghost use Rattle.std.specs.Char.{is_ascii_digit};
 ghost use Rattle.std.specs.List.{list_all, prefix_len};
 ghost use Rattle.std.specs.Str.Parse.{digits_value};
 ghost use Rattle.mq_base.specs.Text.{number_of};
-ghost use Rattle.mq_trace.specs.Plain.{BeginsWith, IsFirstRow, ends_record, is_plain};
+ghost use Rattle.mq_trace.specs.Plain.{BeginsWith, IsField, IsFirstRow, ends_record, is_plain};
 ghost use Rattle.mq_trace.specs.Reading.{IsHeaderOf};
 ghost use Rattle.mq_trace.specs.Records.{Record};
 
@@ -13,6 +13,7 @@ use crate::header::Header;
 use crate::quotes::ends_field;
 use crate::row::find_source;
 use crate::rows::MOST_ROWS;
+use memchr::memchr;
 use mq_core::Network;
 
 /// What a record gives, beside the numbers of its columns.
@@ -26,7 +27,7 @@ pub struct PlainRow<'a> {
     pub rest: &'a [u8],
 }
 
-/// Whether a field without quotes may have this byte.
+/// Whether a field that no quotes stand around may have this byte.
 fn is_plain_byte(byte: u8) -> bool
     ensures { result ≡ is_plain byte }
 {
@@ -41,12 +42,26 @@ fn field_length(text: &[u8]) -> usize
     text.iter().take_while(|byte| is_plain_byte(**byte)).count()
 }
 
-/// The field that a text begins with, and what stands behind it.
-fn split_field(text: &[u8]) -> (&[u8], &[u8])
-    ensures whole { text.now ≡ result.0.now ++ result.1.now }
-    ensures plain { list_all is_plain result.0.now ≡ true }
+/// What stands behind a byte, where a text begins with it.
+fn behind_byte(byte: u8, text: &[u8]) -> Option<&[u8]>
+    ensures { IfSome result (λ more. text.now ≡ byte ∷ more.now) }
 {
-    text.split_at(field_length(text))
+    match text {
+        [first, more @ ..] if *first == byte => Some(more),
+        _ => None,
+    }
+}
+
+/// The field that a text begins with, and what stands behind it. Where quotes stand around the field, the second one
+/// that the text has ends it.
+fn split_field(text: &[u8]) -> Option<(&[u8], &[u8])>
+    ensures { IfSome result (λ p. IsField text.now p.0.now p.1.now) }
+{
+    if let Some(quoted) = behind_byte(b'"', text) {
+        let (field, end) = quoted.split_at(memchr(b'"', quoted)?);
+        return Some((field, &end[1..]));
+    }
+    Some(text.split_at(field_length(text)))
 }
 
 /// How many digits a text begins with, of which at most 19 are taken, and their value.
@@ -79,16 +94,6 @@ fn split_number(text: &[u8], limit: u64) -> Option<(u64, &[u8])>
     Some((value, &text[length..]))
 }
 
-/// What stands behind a comma, where a text begins with one.
-fn behind_comma(text: &[u8]) -> Option<&[u8]>
-    ensures { IfSome result (λ more. text.now ≡ 44 ∷ more.now) }
-{
-    match text {
-        [b',', more @ ..] => Some(more),
-        _ => None,
-    }
-}
-
 /// What stands behind a record, where one ends here.
 pub fn behind_record(text: &[u8]) -> Option<&[u8]>
     ensures ends { IfSome result (λ _. ends_record text.now ≡ true) }
@@ -101,21 +106,21 @@ pub fn behind_record(text: &[u8]) -> Option<&[u8]>
     }
 }
 
-/// What stands behind the first record of a text, where it has no quotes and more than one field.
+/// What stands behind the first record of a text, where it is plain and has more than one field.
 pub fn behind_first(text: &[u8]) -> Option<&[u8]>
     ensures { IfSome result (λ rest. (first : Record) × BeginsWith text.now first rest.now) }
 {
-    let mut field = behind_comma(split_field(text).1)?;
+    let mut field = behind_byte(b',', split_field(text)?.1)?;
     loop {
-        let end = split_field(field).1;
-        match behind_comma(end) {
+        let end = split_field(field)?.1;
+        match behind_byte(b',', end) {
             Some(next) => field = next,
             None => return behind_record(end),
         }
     }
 }
 
-/// Reads the first record of a text, behind so many others, where it has no quotes and no fault. The numbers of its
+/// Reads the first record of a text, behind so many others, where it is plain and has no fault. The numbers of its
 /// columns go into `values`.
 pub fn plain_row<'a>(
     text: &'a [u8],
@@ -132,17 +137,17 @@ pub fn plain_row<'a>(
     if before >= MOST_ROWS as usize {
         return None;
     }
-    let (name, behind) = split_field(text);
+    let (name, behind) = split_field(text)?;
     let node = find_source(net, name)?;
-    let (time, mut end) = split_number(behind_comma(behind)?, 1 << 60)?;
+    let (time, mut end) = split_number(behind_byte(b',', behind)?, 1 << 60)?;
     for (index, reads) in header.reads.as_slice().iter().enumerate() {
-        let field = behind_comma(end)?;
+        let field = behind_byte(b',', end)?;
         end = if *reads {
             let (value, rest) = split_number(field, 1 << 36)?;
             values[index] = value;
             rest
         } else {
-            split_field(field).1
+            split_field(field)?.1
         };
     }
     Some(PlainRow {

@@ -58,8 +58,8 @@ fn plain_rows(
     Ok(Some(rows.into_rows()))
 }
 
-/// Reads the data records of a piece, without the header where it is the first, if they have no quotes and no fault. Else
-/// it answers nothing, and `csv` decides.
+/// Reads the data records of a piece, without the header where it is the first, if they are plain and have no fault. Else it
+/// answers nothing, and `csv` decides.
 pub fn read_plain(
     alloc: Global,
     room: usize,

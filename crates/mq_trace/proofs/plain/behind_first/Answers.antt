@@ -1,26 +1,22 @@
-use Rattle.std.proofs.Common.{◌∙◌, ◌∷◌, ◌++◌, [], ap}
+use Rattle.std.proofs.Common.{◌++◌, ◌∷◌, []}
 use Rattle.mq_trace.proofs.PlainFacts.{first_behind, goes_first, goes_over}
 use Rattle.mq_trace.proofs.plain.behind_first.Goals as goal
 
-pub loop-next-init : goal.loop-next-init
-loop-next-init c =
-    let e = c.split_field.ensures in
-    let name = c.split_field.result.0.now in
-    (name ∷ [], goes_first c.args.text.now name c.in_ok-field.field.now e.plain (e.whole ∙ ap (λ more. name ++ more) c.in_ok-field.ensures))
+pub loop-end-init : goal.loop-end-init
+loop-end-init c =
+    let (name, end) = c.in_ok-split_field.field-0 in
+    (name.now ∷ [], goes_first c.args.text.now name.now end.now c.in_ok-field.field.now c.in_ok-split_field.ensures c.in_ok-field.ensures)
 
-pub loop-next-preserved : goal.loop-next-preserved
-loop-next-preserved c =
-    let (fields, goes) = c.loop-next.invariant in
-    let e = c.split_field-in-loop-next.ensures in
-    let field = c.split_field-in-loop-next.result.0.now in
-    let ends = goes_over c.args.text.now fields c.loop-next.field.now field c.split_field-in-loop-next.result.1.now goes e.plain e.whole in
-    (fields ++ field ∷ [], ends.goes c.in-Some.next.now c.in-Some.ensures)
+pub loop-end-preserved : goal.loop-end-preserved
+loop-end-preserved c =
+    let (fields, goes) = c.loop-end.invariant in
+    let (field, end) = c.in_ok-end.field-0 in
+    let ends = goes_over c.args.text.now fields c.loop-end.field.now field.now end.now goes c.in_ok-end.ensures in
+    (fields ++ field.now ∷ [], ends.goes c.in-Some.next.now c.in-Some.ensures)
 
 pub returns-in-None : goal.returns-in-None
 returns-in-None c =
-    let (fields, goes) = c.loop-next.invariant in
-    let e = c.split_field-in-loop-next.ensures in
-    let field = c.split_field-in-loop-next.result.0.now in
-    let end = c.split_field-in-loop-next.result.1.now in
-    first_behind c.args.text.now (fields ++ field ∷ []) end c.behind_record.result
-    (goes_over c.args.text.now fields c.loop-next.field.now field end goes e.plain e.whole) c.behind_record.ensures.ends c.behind_record.ensures.rest
+    let (fields, goes) = c.loop-end.invariant in
+    let (field, end) = c.in_ok-end.field-0 in
+    first_behind c.args.text.now (fields ++ field.now ∷ []) end.now c.behind_record.result
+    (goes_over c.args.text.now fields c.loop-end.field.now field.now end.now goes c.in_ok-end.ensures) c.behind_record.ensures.ends c.behind_record.ensures.rest
