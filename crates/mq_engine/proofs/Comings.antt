@@ -446,7 +446,7 @@ arrived-few arrived few = let most = total-most 1048576 arrived_size arrived (ea
 pub settled : (load load' : Load) (scan : Scan) → IsReadyLoad load → IsScanAt load.plan.now load.rows.now load.number load.arrivals scan → load'.plan.now ≡ load.plan.now → load'.rows.now ≡ load.rows.now → load'.number ≡ load.number → load'.arrivals ≡ load.arrivals → load'.scan ≡ scan → load'.block ≡ load.block → IsReadyLoad load'
 settled load load' scan h is p r v a u b =
     let l = h.1 in
-    let own : IsLoaded load.plan.now load.rows.now load.number load.arrivals scan = record { node = l.node; there = l.there; came = l.came; load = l.load; scanned = is l.node l.there } in
+    let own : IsLoaded load.plan.now load.rows.now load.number load.arrivals scan = record { node = l.node; there = l.there; once = l.once; came = l.came; load = l.load; scanned = is l.node l.there } in
     subst (λ (z : Plan × Rows × ℕ × Stream × Scan × ℕ). IsReadFor z.0.net z.1 × IsLoaded z.0 z.1 z.2 z.3 z.4 × (1 ≤ z.5)) (λ k. (sym p k, sym r k, sym v k, sym a k, sym u k, sym b k)) (h.0, own, h.2)
 
 -- one node more

@@ -26,7 +26,7 @@ use Rattle.mq_engine.specs.declared.progress.Stand.{Stand}
 use Rattle.mq_engine.specs.declared.progress.Stand.TheVariants.{Waiting, Done, Crowded, Late}
 use Rattle.mq_engine.proofs.Lists.{filter-none, get-take, has-index}
 
-get-some : {X : Type 0} (xs : List X) (i : ℕ) → i < length xs → (x : X) × (slice_get xs i ≡ Some x)
+pub get-some : {X : Type 0} (xs : List X) (i : ℕ) → i < length xs → (x : X) × (slice_get xs i ≡ Some x)
 get-some [] i l = absurd (omega arith)
 get-some (x ∷ xs) zero l = (x, refl)
 get-some (x ∷ xs) (suc i) l = get-some xs i (omega arith)

@@ -1,5 +1,5 @@
 -- Forks and joins: what is gathered, port after port, and that what is made of it is what the run has.
-use Rattle.std.proofs.Common.{◌≡◌, ℕ, zero, suc, ◌+◌, ◌^◌, ◌<◌, ◌≤◌, Bool, true, false, cond, List, [], ◌∷◌, ◌++◌, length, map, take, Option, Some, None, sym, refl, ap, ◌∙◌, subst, arith, append_assoc, length-append}
+use Rattle.std.proofs.Common.{◌≡◌, ℕ, zero, suc, ◌+◌, ◌^◌, ◌<◌, ◌≤◌, Bool, true, false, cond, List, [], ◌∷◌, ◌++◌, length, get_or, map, take, Option, Some, None, sym, refl, ap, ◌∙◌, subst, arith, append_assoc, length-append}
 use Rattle.std.specs.Prelude.{nat_lt, slice_get}
 use Rattle.std.specs.List.{AllByRecursion as Each}
 use Rattle.std.specs.Option.{option_map}
@@ -149,6 +149,24 @@ apart-early rows (Fork outputs) came out a h = copies-early (nat_lt out outputs)
 apart-early rows Join came zero a h = wholes-early 0 (matches_of came) came.arrive h
 apart-early rows Join came (suc out) a h = tt
 
+-- what leaves a join is one stream
+pub one-stream : (rows : Rows) (came : Came) (visits : Visits) (streams : List Stream) (leaving : Stream) → visits ≡ sequence_visits rows Join came → leaving ≡ sequence_stream rows Join came 0 → streams ≡ leaving ∷ [] → AreSequences rows Join came visits streams
+one-stream rows came visits streams leaving v l s =
+    record {
+      visits = v;
+      count = ap length s;
+      each = λ out k. ap (λ (all : List Stream). slice_get all out) s ∙ only out k;
+    }
+  where
+    only : (out : ℕ) → out < 1 → slice_get (leaving ∷ []) out ≡ Some (sequence_stream rows Join came out)
+    only zero k = ap Some l
+    only (suc out) k = absurd (omega arith)
+
+-- what each index finds
+pub each-found : {X : Type 0} (P : X → Type 0) (xs : List X) → ((b : ℕ) (d : X) → b < length xs → P (get_or xs b d)) → Each P xs
+each-found P [] h = tt
+each-found P (x ∷ xs) h = (h 0 x (omega arith), each-found P xs (λ b d l. h (suc b) d (omega arith)))
+
 -- each visit has its fate
 fates-many : (b : Behaviour) (s : Station Local) (position : ℕ) (xs : List Visit) → length (fates_by b s position xs) ≡ length xs
 fates-many b s position [] = refl
@@ -156,7 +174,7 @@ fates-many b s position (x ∷ xs) = ap suc (fates-many b s (suc position) xs)
 
 -- A fork or a join of a run.
 module _ (laws : CoreLaws) (plan : Plan) (rows : Rows) (outputs : List (List Stream)) (v : ℕ) (node : Node) (read : IsReadFor plan.net rows) (can : CanGather plan rows outputs v) (there : slice_get plan.net.nodes v ≡ Some node) where
-  xs : List Visit
+  abbrev xs : List Visit
   xs = ((run_of plan rows).stations v).visits
 
   -- it has room for one port more

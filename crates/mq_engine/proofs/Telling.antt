@@ -22,14 +22,19 @@ use Rattle.mq_core.specs.declared.model.Rows.{Rows}
 use Rattle.mq_core.specs.declared.model.Stream.{Stream}
 use Rattle.mq_engine.specs.Apart.{CanGather}
 use Rattle.mq_engine.specs.Loads.{IsResultOf}
-use Rattle.mq_engine.specs.Progress.{CanWork, HasAll}
-use Rattle.mq_engine.specs.Waves.{IsCrowded, IsWave}
+use Rattle.mq_core.specs.Results.{visits_of}
+use Rattle.mq_engine.specs.Progress.{CanWork, HasAll, IsKnown}
+use Rattle.mq_engine.specs.Waves.{AreSorted, IsApartOf, IsCrowded, IsStationOf, IsWave, IsWay}
+use Rattle.mq_engine.specs.declared.wave.Wave.{Wave}
+use Rattle.mq_engine.specs.declared.wave.Way.{Way}
+use Rattle.mq_engine.specs.declared.wave.Way.TheVariants.{Crowded, Apart, Station}
 use Rattle.mq_engine.specs.Working.{arriving, pairs_read}
 use Rattle.mq_engine.specs.declared.loads.Arriving.{Arriving}
 use Rattle.mq_engine.specs.declared.working.Ending.TheVariants.{TooMany}
 use Rattle.mq_engine.specs.declared.working.NodeResult.{NodeResult}
 use Rattle.mq_stations.proofs.lemmas.Lists.{flat_map-more}
 use Rattle.mq_engine.proofs.Comings.{pairs-length}
+use Rattle.mq_engine.proofs.Endings.{get-some}
 use Rattle.mq_engine.proofs.Lists.{zip-length}
 use Rattle.mq_engine.proofs.Waves.{refusal-many}
 
@@ -127,3 +132,76 @@ each-contained P xs all v h = go xs all h.0 h.1 h.2
     go [] k i l e = absurd (omega arith)
     go (y ∷ ys) k zero l e = subst P e k.0
     go (y ∷ ys) k (suc i) l e = go ys k.1 i (omega arith) e
+
+-- a stream that a port reads
+pub port-short : (pairs : List (ℕ × ℕ)) (stream : Stream) → IsStream stream → pairs_of stream ≡ pairs → length pairs ≤ 1048576 → length stream.time ≤ 1048576
+port-short pairs stream is e few =
+    let long = pairs-length stream is in
+    let same = ap length e in
+    omega arith
+
+-- what comes by all ports
+pub all-count : (outputs : List (List Stream)) (nodes : List Node) (v : ℕ) (own node : Node) (port count : ℕ) → slice_get nodes v ≡ Some own → slice_get nodes v ≡ Some node → length own.inputs ≤ port → count ≡ length (flat_map (pairs_read outputs) (take port own.inputs)) →
+    count ≡ length (flat_map (pairs_read outputs) node.inputs)
+all-count outputs nodes v own node port count a b l e =
+    e
+    ∙ (ap (λ is. length (flat_map (pairs_read outputs) is)) (take-all own.inputs port l)
+    ∙ ap (λ (n : Node). length (flat_map (pairs_read outputs) n.inputs)) (some_inj own node (sym a ∙ b)))
+
+-- what stands at an index is among them
+contains-at : (xs : List ℕ) (i d : ℕ) → i < length xs → Contains xs (get_or xs i d)
+contains-at xs i d l = (i, l, some_inj _ _ (sym (slice_get-get_or xs i (get_or xs i d) l) ∙ slice_get-get_or xs i d l))
+
+-- how a node ends that has too many visits
+crowded-result : (s : Arriving) (v count : ℕ) (r : NodeResult) → IsWave s → Contains s.ready.now v → IsCrowded s.plan.now s.rows.now v count → r.number ≡ v → r.ending ≡ TooMany (record { node = v; count = count }) → IsResultOf s.plan.now s.rows.now s.ready.now r
+crowded-result s v count r wave ready many number ending =
+    let at = get-some s.plan.now.net.nodes v (all-at s v wave ready).inside in
+    let xs = ((run_of s.plan.now s.rows.now).stations v).visits in
+    let known : IsKnown s.plan.now s.rows.now v at.0 (TooMany (record { node = v; count = count })) = refusal-many s.plan.now.net.bound v count (visits_of at.0.kind ((run_of s.plan.now s.rows.now).stations v)) (length-map xs _ ∙ many.0) many.1 in
+    subst (IsResultOf s.plan.now s.rows.now s.ready.now) (λ k. record { number = sym number k; ending = sym ending k }) (ready, (at.0, at.1, known))
+
+-- how many nodes have been told apart
+abbrev pub told_apart : Wave → ℕ
+told_apart wave = length wave.crowded + length wave.apart.items + length wave.stations.items
+
+-- one node more: it has too many visits, is a fork or a join, or a station
+pub sorted-crowded : (s : Arriving) (at d count : ℕ) (way : Way) (wave wave' : Wave) (r : NodeResult) → IsWave s → at < length s.ready.now → IsWay s (get_or s.ready.now at d) way → way ≡ Crowded count → r.number ≡ get_or s.ready.now at d → r.ending ≡ TooMany (record { node = get_or s.ready.now at d; count = count }) →
+    wave'.crowded ≡ wave.crowded ++ r ∷ [] → wave'.apart.items ≡ wave.apart.items → wave'.stations.items ≡ wave.stations.items → told_apart wave ≡ at → AreSorted s wave → (told_apart wave' ≡ at + 1) × AreSorted s wave'
+sorted-crowded s at d count way wave wave' r is inside told e number ending a b c len sorted =
+    let v = get_or s.ready.now at d in
+    let many = subst (IsWay s v) e told in
+    let own = crowded-result s v count r is (contains-at s.ready.now at d inside) many number ending in
+    let P = IsResultOf s.plan.now s.rows.now s.ready.now in (
+      (let x = ap length a in let y = ap length b in let z = ap length c in let g = length-append wave.crowded (r ∷ []) in omega arith),
+      record {
+        crowded = subst (Each P) (sym a) (Each-append P wave.crowded (r ∷ []) sorted.crowded (own, tt));
+        apart = subst (Each (IsApartOf s)) (sym b) sorted.apart;
+        stations = subst (Each (IsStationOf s)) (sym c) sorted.stations;
+      },
+    )
+
+pub sorted-apart : (s : Arriving) (at d : ℕ) (way : Way) (wave wave' : Wave) → at < length s.ready.now → IsWay s (get_or s.ready.now at d) way → way ≡ Apart →
+    wave'.crowded ≡ wave.crowded → wave'.apart.items ≡ wave.apart.items ++ get_or s.ready.now at d ∷ [] → wave'.stations.items ≡ wave.stations.items → told_apart wave ≡ at → AreSorted s wave → (told_apart wave' ≡ at + 1) × AreSorted s wave'
+sorted-apart s at d way wave wave' inside told e a b c len sorted =
+    let v = get_or s.ready.now at d in
+    let can = subst (IsWay s v) e told in (
+      (let x = ap length a in let y = ap length b in let z = ap length c in let g = length-append wave.apart.items (v ∷ []) in omega arith),
+      record {
+        crowded = subst (Each (IsResultOf s.plan.now s.rows.now s.ready.now)) (sym a) sorted.crowded;
+        apart = subst (Each (IsApartOf s)) (sym b) (Each-append (IsApartOf s) wave.apart.items (v ∷ []) sorted.apart ((contains-at s.ready.now at d inside, can), tt));
+        stations = subst (Each (IsStationOf s)) (sym c) sorted.stations;
+      },
+    )
+
+pub sorted-station : (s : Arriving) (at d : ℕ) (way : Way) (wave wave' : Wave) → at < length s.ready.now → IsWay s (get_or s.ready.now at d) way → way ≡ Station →
+    wave'.crowded ≡ wave.crowded → wave'.apart.items ≡ wave.apart.items → wave'.stations.items ≡ wave.stations.items ++ get_or s.ready.now at d ∷ [] → told_apart wave ≡ at → AreSorted s wave → (told_apart wave' ≡ at + 1) × AreSorted s wave'
+sorted-station s at d way wave wave' inside told e a b c len sorted =
+    let v = get_or s.ready.now at d in
+    let can = subst (IsWay s v) e told in (
+      (let x = ap length a in let y = ap length b in let z = ap length c in let g = length-append wave.stations.items (v ∷ []) in omega arith),
+      record {
+        crowded = subst (Each (IsResultOf s.plan.now s.rows.now s.ready.now)) (sym a) sorted.crowded;
+        apart = subst (Each (IsApartOf s)) (sym b) sorted.apart;
+        stations = subst (Each (IsStationOf s)) (sym c) (Each-append (IsStationOf s) wave.stations.items (v ∷ []) sorted.stations ((contains-at s.ready.now at d inside, can), tt));
+      },
+    )

@@ -1,5 +1,5 @@
 -- The waves of the engine: what is done so far are the sequences of the run.
-use Rattle.std.proofs.Common.{◌≡◌, ◌≢◌, ℕ, zero, suc, [], ◌++◌, ◌+◌, ◌^◌, ◌<◌, ◌≤◌, ◌⊎◌, inl, inr, Bool, true, false, cond, List, length, set, map, Option, Some, None, refl, sym, ap, ◌∙◌, subst, arith, length-append}
+use Rattle.std.proofs.Common.{◌≡◌, ◌≢◌, ℕ, zero, suc, [], ◌∷◌, ◌++◌, ◌+◌, ◌^◌, ◌<◌, ◌≤◌, ◌⊎◌, inl, inr, Bool, true, false, cond, List, length, set, map, Option, Some, None, refl, sym, ap, ◌∙◌, subst, arith, length-append}
 use Rattle.std.specs.Prelude.{◌==◌, nat_le, nat_lt, slice_get}
 use Rattle.std.specs.List.{flat_map, list_all, list_any, zip}
 use Rattle.std.specs.Option.{option_map, option_to_list}
@@ -86,6 +86,26 @@ inputs-read laws plan rows visits outputs stands v node r n port input e =
     let h = has-input laws plan rows visits outputs stands v node r n port input e in
     ap (λ o. pairs_in o input.out) h.streams ∙ ap pairs_by (laws.have (run_of plan rows) input.node (outputs_in h.node.kind) input.out h.out)
 
+-- A refusal. Of a node with no more visits than it may have it is the first late visit.
+pub refusal-few : (bound v : ℕ) (visits : Visits) (first : Option LateVisit) → length visits.job ≤ 1048576 → first_of (sequence_late_from bound v 0 visits.fate) ≡ first → sequence_refusal bound v visits ≡ option_map (λ late. Past late) first
+refusal-few bound v visits first few e =
+    let below : nat_lt most_visits (length visits.job) ≡ false = grind (arith, nat_tests) in
+    λ k. cond (below k) (Some (Over v (length visits.job))) (option_map (λ late. Past late) (e k))
+
+-- of one with more it is that
+pub refusal-many : (bound v count : ℕ) (visits : Visits) → length visits.job ≡ count → 1048576 < count → sequence_refusal bound v visits ≡ Some (Over v count)
+refusal-many bound v count visits e more =
+    let above : nat_lt most_visits (length visits.job) ≡ true = grind (arith, nat_tests) in
+    (λ k. cond (above k) (Some (Over v (length visits.job))) (option_map (λ late. Past late) (first_of (sequence_late_from bound v 0 visits.fate)))) ∙ ap (λ n. Some (Over v n)) e
+
+-- a node that isn't refused has no more
+pub fine-few : (bound v : ℕ) (visits : Visits) → sequence_refusal bound v visits ≡ None → length visits.job ≤ 1048576
+fine-few bound v visits h = go (nat_lt most_visits (length visits.job)) refl h
+  where
+    go : (b : Bool) → nat_lt most_visits (length visits.job) ≡ b → cond b (Some (Over v (length visits.job))) (option_map (λ late. Past late) (first_of (sequence_late_from bound v 0 visits.fate))) ≡ None → length visits.job ≤ 1048576
+    go true e k = absurd cc
+    go false e k = grind (arith, nat_tests)
+
 -- the stream of a port is no longer than what a node may let out
 inputs-short : (laws : CoreLaws) (plan : Plan) (rows : Rows) (visits : List Visits) (outputs : List (List Stream)) (stands : List Stand) (v : ℕ) (node : Node) → IsReached plan rows visits outputs stands → IsReady plan stands v node → IsReadFor plan.net rows → (port : ℕ) (input : Input) → slice_get node.inputs port ≡ Some input →
     length (pairs_read outputs input) ≤ 1048576
@@ -120,26 +140,6 @@ module _ (laws : CoreLaws) (plan : Plan) (rows : Rows) (visits : List Visits) (o
   arriving-ports : IsReadFor plan.net rows → is_source_kind node.kind ≡ false → came_at ((run_of plan rows).stations v).visits ≡ in_order_of (λ (p : ℕ × ℕ × ℕ). p.0) (read_by outputs 0 node.inputs)
   arriving-ports read e =
       (laws.arrivals plan rows read v node n.there).ports e ∙ ap (in_order_of (λ (p : ℕ × ℕ × ℕ). p.0)) (read-ports 0 node.inputs (inputs-read laws plan rows visits outputs stands v node r n))
-
--- A refusal. Of a node with no more visits than it may have it is the first late visit.
-pub refusal-few : (bound v : ℕ) (visits : Visits) (first : Option LateVisit) → length visits.job ≤ 1048576 → first_of (sequence_late_from bound v 0 visits.fate) ≡ first → sequence_refusal bound v visits ≡ option_map (λ late. Past late) first
-refusal-few bound v visits first few e =
-    let below : nat_lt most_visits (length visits.job) ≡ false = grind (arith, nat_tests) in
-    λ k. cond (below k) (Some (Over v (length visits.job))) (option_map (λ late. Past late) (e k))
-
--- of one with more it is that
-pub refusal-many : (bound v count : ℕ) (visits : Visits) → length visits.job ≡ count → 1048576 < count → sequence_refusal bound v visits ≡ Some (Over v count)
-refusal-many bound v count visits e more =
-    let above : nat_lt most_visits (length visits.job) ≡ true = grind (arith, nat_tests) in
-    (λ k. cond (above k) (Some (Over v (length visits.job))) (option_map (λ late. Past late) (first_of (sequence_late_from bound v 0 visits.fate)))) ∙ ap (λ n. Some (Over v n)) e
-
--- a node that isn't refused has no more
-pub fine-few : (bound v : ℕ) (visits : Visits) → sequence_refusal bound v visits ≡ None → length visits.job ≤ 1048576
-fine-few bound v visits h = go (nat_lt most_visits (length visits.job)) refl h
-  where
-    go : (b : Bool) → nat_lt most_visits (length visits.job) ≡ b → cond b (Some (Over v (length visits.job))) (option_map (λ late. Past late) (first_of (sequence_late_from bound v 0 visits.fate))) ≡ None → length visits.job ≤ 1048576
-    go true e k = absurd cc
-    go false e k = grind (arith, nat_tests)
 
 pub arrived : (plan : Plan) (rows : Rows) (outputs : List (List Stream)) (v : ℕ) (node : Node) (arrivals : Stream) → CanWork plan rows outputs v → slice_get plan.net.nodes v ≡ Some node →
     IsStream arrivals → pairs_of arrivals ≡ by_first (arriving rows v node outputs) → IsArrived plan rows v arrivals
@@ -214,8 +214,9 @@ within-limits plan =
     let f = and_parts _ (are_distinct bytes_eq (map (λ (node : Node). node.name) net.nodes)) e.0 in
     let g = and_parts _ (list_any (λ (node : Node). is_source_kind node.kind) net.nodes) f.0 in
     let h = and_parts _ (nat_le net.bound (2 ^ 60)) g.0 in
-    let i = and_parts (is_within 1 64 (length net.nodes)) _ h.0 in
-    let j = and_parts (nat_le 1 (length net.nodes)) (nat_le (length net.nodes) 64) i.0 in
+    let i = and_parts _ (nat_le (length net.columns) 16) h.0 in
+    let nodes = and_parts _ (is_within 1 64 (length net.nodes)) i.0 in
+    let j = and_parts (nat_le 1 (length net.nodes)) (nat_le (length net.nodes) 64) nodes.1 in
     let few : nat_le (length net.nodes) 64 ≡ true = j.1 in
     let early : nat_le net.bound (2 ^ 60) ≡ true = h.1 in
     (grind (arith, nat_tests), grind (arith, nat_tests))

@@ -150,11 +150,16 @@ fn result_at(alloc: Global, arriving: &Arriving, number: u32) -> Result<NodeResu
     let gathered = gathered_at(alloc, arriving, number)?;
     let kind = &arriving.plan.net.nodes.get(number as usize).kind;
     let Sequences { visits, streams } = sequences_of(alloc, kind, &gathered)?;
-    let ending = match late_among(arriving.plan.net.bound, number, &visits.fate) {
-        Some(past) => Ending::TooLate(past),
-        None => Ending::OnTime(visits, streams),
-    };
-    Ok(NodeResult { number, ending })
+    match late_among(arriving.plan.net.bound, number, &visits.fate) {
+        Some(past) => Ok(NodeResult {
+            number,
+            ending: Ending::TooLate(past),
+        }),
+        None => Ok(NodeResult {
+            number,
+            ending: Ending::OnTime(visits, streams),
+        }),
+    }
 }
 
 /// What these forks and joins give, one piece a node.
