@@ -15,6 +15,7 @@ use Rattle.mq_outcome.specs.declared.outcome.Outcome.TheVariants.{Done, Usage, M
 use Rattle.mq_words.specs.declared.fault.UsageFault.{UsageFault}
 use Rattle.mq_words.specs.declared.fault.UsageFault.TheVariants as usage
 
+-- the line of a fault of a model
 abbrev pub model_line : ModelFault → List ℕ
 model_line model.TooLong = codes "mpsim: model: longer than 65536 bytes" ++ 10 ∷ []
 model_line (model.BadByte l) = codes "mpsim: model line " ++ decimal l ++ codes ": byte not allowed" ++ 10 ∷ []
@@ -28,7 +29,7 @@ model_line model.NoSource = codes "mpsim: model: no source" ++ 10 ∷ []
 model_line (model.Cycle l node) = codes "mpsim: model line " ++ decimal l ++ codes ": node on or behind a cycle" ++ 10 ∷ []
 model_line model.Memory = codes "mpsim: out of memory" ++ 10 ∷ []
 
--- with the name of the column that is missing
+-- the line of a fault of a trace, with the name of the column that is missing
 abbrev pub trace_line : List ℕ → TraceFault → List ℕ
 trace_line name trace.TooLong = codes "mpsim: trace: longer than 134217728 bytes" ++ 10 ∷ []
 trace_line name (trace.BadHeader f) = codes "mpsim: trace header: field " ++ decimal f ++ codes " not allowed" ++ 10 ∷ []
@@ -39,11 +40,11 @@ trace_line name (trace.UnknownSource r) = codes "mpsim: trace record " ++ decima
 trace_line name (trace.BadNumber r f) = codes "mpsim: trace record " ++ decimal r ++ codes ": field " ++ decimal f ++ codes " is not a number in range" ++ 10 ∷ []
 trace_line name trace.Memory = codes "mpsim: out of memory" ++ 10 ∷ []
 
--- with the name of the node
+-- the line of a visit that departs after the bound, with the name of its node
 abbrev pub past_line : List ℕ → PastFault → List ℕ
 past_line name f = codes "mpsim: node " ++ name ++ codes " position " ++ decimal f.position ++ codes " passes the bound at time " ++ decimal f.time ++ 10 ∷ []
 
--- the same of a node with too many visits
+-- the line of a node of this name that has too many visits
 abbrev pub over_line : List ℕ → OverFault → List ℕ
 over_line name f = codes "mpsim: node " ++ name ++ codes " has " ++ decimal f.count ++ codes " visits" ++ 10 ∷ []
 
@@ -51,6 +52,7 @@ over_line name f = codes "mpsim: node " ++ name ++ codes " has " ++ decimal f.co
 abbrev pub usage_text : List ℕ
 usage_text = codes "mpsim: usage: mpsim MODEL TRACE [--workers N] [--block N] [--jobs] or mpsim --made N [--workers N] [--block N] [--jobs]"
 
+-- the line of a fault of the words
 abbrev pub usage_line : UsageFault → List ℕ
 usage_line usage.Words = usage_text ++ 10 ∷ []
 usage_line usage.Form = usage_text ++ 10 ∷ []
@@ -71,24 +73,38 @@ line_text name (ReadFault true) = codes "mpsim: cannot read the trace" ++ 10 ∷
 line_text name WriteFault = codes "mpsim: cannot write the report" ++ 10 ∷ []
 line_text name Memory = codes "mpsim: out of memory" ++ 10 ∷ []
 
+-- the name of a node, if there is one
 abbrev pub node_name : Option Node → List ℕ
 node_name None = []
 node_name (Some node) = node.name
 
+-- the name of a column, if there is one
 abbrev pub column_name : Option (List ℕ) → List ℕ
 column_name None = []
 column_name (Some name) = name
 
+-- the name that a fault of a trace speaks of: that of a missing column
 abbrev pub fault_name : Network → TraceFault → List ℕ
+fault_name net trace.TooLong = []
+fault_name net (trace.BadHeader f) = []
 fault_name net (trace.MissingColumn c) = column_name (slice_get net.columns c)
-fault_name net _ = []
+fault_name net trace.TooManyRows = []
+fault_name net (trace.BadCount r) = []
+fault_name net (trace.UnknownSource r) = []
+fault_name net (trace.BadNumber r f) = []
+fault_name net trace.Memory = []
 
 -- the name that an outcome speaks of: that of a missing column, or of the node that passed the bound or has too many visits
 abbrev pub name_of : Network → Outcome → List ℕ
+name_of net Done = []
+name_of net (Usage f) = []
+name_of net (Model f) = []
 name_of net (Trace f) = fault_name net f
 name_of net (Past f) = node_name (slice_get net.nodes f.node)
 name_of net (Over f) = node_name (slice_get net.nodes f.node)
-name_of net _ = []
+name_of net (ReadFault second) = []
+name_of net WriteFault = []
+name_of net Memory = []
 
 -- the error output gained a first part of a line, and the whole where its count of faults didn't rise; that never falls, and
 -- stays where as many bytes are sure as the line has

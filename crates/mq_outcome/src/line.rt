@@ -170,8 +170,7 @@ fn put_over_line<E: Sink>(err: &mut E, name: &[u8], fault: &OverFault)
             Piece::Text(name),
             Piece::Text(b" has "),
             Piece::Number(fault.count as u128),
-            Piece::Text(b" visits"),
-            Piece::Text(b"\n"),
+            Piece::Text(b" visits\n"),
         ],
     );
 }

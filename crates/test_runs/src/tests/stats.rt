@@ -128,6 +128,7 @@ const SERVED_TOTALS: NodeTotals = NodeTotals {
     came: 3,
     left: 3,
     lost: 0,
+    held: 0,
     wait: 6,
     longest: 3,
     busy: 8,

@@ -3,7 +3,7 @@ ghost use Rattle.std.specs.Prelude.{◌≡◌, ◌+◌, ◌≤◌, length, IfOk}
 ghost use Rattle.mq_core.specs.Sequences.{IsStream};
 
 use mq_base::{List, OutOfMemory};
-use mq_core::{Fate, Stream};
+use mq_core::{Fate, Fates, Stream};
 use mq_join::{Gathered, fork_copies, join_visits};
 use std::alloc::Global;
 use std::test::Fail;
@@ -79,12 +79,12 @@ fn gathered(alloc: Global, case: &Case) -> Result<Gathered, OutOfMemory>
 }
 
 // Whether visits fare so.
-fn fares_so(fates: &List<Fate>, departs: &[Option<u64>]) -> bool {
+fn fares_so(fates: &Fates, departs: &[Option<u64>]) -> bool {
     if fates.len() != departs.len() {
         return false;
     }
     for at in 0..fates.len() {
-        let so = match *fates.get(at) {
+        let so = match fates.at(at) {
             Fate::Departs(time) => departs[at] == Some(time),
             Fate::Lost => false,
             Fate::Held => departs[at].is_none(),
