@@ -3,7 +3,7 @@ use Rattle.std.specs.Prelude.{◌≡◌, ◌≢◌, ◌⊎◌, ◌<◌, ◌+◌,
 use Rattle.std.specs.Io.KnownBytes.{append_known}
 use Rattle.mq_outside.specs.Outside.{TakesPrefix, next_count}
 use Rattle.mq_core.specs.declared.model.Network.{Network}
-use Rattle.mq_core.specs.Results.Refusal as refusal
+use Rattle.mq_core.specs.Results.Refusal.{Over as OverRefusal, Past as PastRefusal}
 use Rattle.mq_model.specs.Model.{model_fault}
 use Rattle.mq_model.specs.declared.fault.ModelFault.TheVariants as model
 use Rattle.mq_trace.specs.Trace.{trace_fault}
@@ -47,8 +47,8 @@ Ends (TraceRefused f) (Model g) t = ⊥
 Ends (TraceRefused f) (Past g) t = ⊥
 Ends (TraceRefused f) (Over g) t = ⊥
 Ends (TraceRefused f) WriteFault t = ⊥
-Ends (Refused why) (Past f) t = why ≡ refusal.Past (record { node = f.node; position = f.position; time = f.time })
-Ends (Refused why) (Over f) t = why ≡ refusal.Over f.node f.count
+Ends (Refused why) (Past f) t = why ≡ PastRefusal (record { node = f.node; position = f.position; time = f.time })
+Ends (Refused why) (Over f) t = why ≡ OverRefusal f.node f.count
 Ends (Refused why) (ReadFault second) t = Unit {0}
 Ends (Refused why) Memory t = Unit {0}
 Ends (Refused why) Done t = ⊥
