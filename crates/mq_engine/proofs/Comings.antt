@@ -44,9 +44,9 @@ use Rattle.mq_crew.proofs.lemmas.Sizes.{total-most}
 use Rattle.mq_stations.proofs.lemmas.Blocks.{blocks-few}
 use Rattle.mq_stations.proofs.lemmas.Lists.{flat_map-more}
 use Rattle.mq_engine.proofs.Groups.{ArePassing, passing-more}
-use Rattle.mq_engine.proofs.Lists.{zip-first}
+use Rattle.mq_engine.proofs.Lists.{zip-first, zip-length}
 use Rattle.mq_engine.proofs.Sorted.{by_first-rises}
-use Rattle.mq_engine.proofs.Waves.{arrived, loaded, visits-few}
+use Rattle.mq_engine.proofs.Waves.{arrived, loaded}
 
 -- Pairs in order of time.
 by_first-length : (ps : Pairs) → length (by_first ps) ≡ length ps
@@ -76,11 +76,6 @@ in-order pairs stream even e =
       };
       items = e;
     }
-
-zip-length : (ts js : List ℕ) → length js ≡ length ts → length (zip ts js) ≡ length ts
-zip-length [] js h = refl
-zip-length (t ∷ ts) [] h = absurd (omega arith)
-zip-length (t ∷ ts) (j ∷ js) h = let rest = zip-length ts js (omega arith) in omega arith
 
 pub pairs-length : (s : Stream) → IsStream s → length (pairs_of s) ≡ length s.time
 pairs-length s h = zip-length s.time s.job h.even
@@ -184,7 +179,7 @@ pub arriving-few : (laws : CoreLaws) (s : Arriving) (v : ℕ) (node : Node) (por
 arriving-few laws s v node ports h ready there =
     let can = can-at s v h ready in
     let xs = ((run_of s.plan.now s.rows.now).stations v).visits in
-    let few = visits-few laws s.plan.now s.rows.now v h.read in
+    let few = can.few in
     let some : length (zip (arrives_of xs) (jobs_of xs)) ≡ length (arrives_of xs) = zip-length (arrives_of xs) (jobs_of xs) (length-map xs _ ∙ sym (length-map xs _)) in
     let many : length (arrives_of xs) ≡ length xs = length-map xs _ in
     let same = ap length (can.comes node there) in
@@ -309,8 +304,9 @@ load-come laws s load h come p r u b = go (slice_get_cases s.plan.now.net.nodes 
         let own : IsLoaded s.plan.now s.rows.now load.number load.arrivals Unscanned = record {
           node = node;
           there = there;
+          once = can.once node there;
           came = arrived s.plan.now s.rows.now s.outputs.now load.number node load.arrivals can there come.ordered items;
-          load = loaded laws s.plan.now s.rows.now s.outputs.now load.number node load.arrivals h.read h.early can there (visits-few laws s.plan.now s.rows.now load.number h.read) come.ordered items;
+          load = loaded laws s.plan.now s.rows.now s.outputs.now load.number node load.arrivals h.read h.early can there come.ordered items;
           scanned = tt;
         } in (
           subst (λ (z : Plan × Rows × Scan × ℕ). IsReadFor z.0.net z.1 × IsLoaded z.0 z.1 load.number load.arrivals z.2 × (1 ≤ z.3)) (λ k. (sym p k, sym r k, sym u k, sym b k)) (h.read, own, h.block),
@@ -450,7 +446,7 @@ arrived-few arrived few = let most = total-most 1048576 arrived_size arrived (ea
 pub settled : (load load' : Load) (scan : Scan) → IsReadyLoad load → IsScanAt load.plan.now load.rows.now load.number load.arrivals scan → load'.plan.now ≡ load.plan.now → load'.rows.now ≡ load.rows.now → load'.number ≡ load.number → load'.arrivals ≡ load.arrivals → load'.scan ≡ scan → load'.block ≡ load.block → IsReadyLoad load'
 settled load load' scan h is p r v a u b =
     let l = h.1 in
-    let own : IsLoaded load.plan.now load.rows.now load.number load.arrivals scan = record { node = l.node; there = l.there; came = l.came; load = l.load; scanned = is l.node l.there } in
+    let own : IsLoaded load.plan.now load.rows.now load.number load.arrivals scan = record { node = l.node; there = l.there; once = l.once; came = l.came; load = l.load; scanned = is l.node l.there } in
     subst (λ (z : Plan × Rows × ℕ × Stream × Scan × ℕ). IsReadFor z.0.net z.1 × IsLoaded z.0 z.1 z.2 z.3 z.4 × (1 ≤ z.5)) (λ k. (sym p k, sym r k, sym v k, sym a k, sym u k, sym b k)) (h.0, own, h.2)
 
 -- one node more

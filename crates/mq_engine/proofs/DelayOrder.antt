@@ -16,18 +16,17 @@ use Rattle.mq_core.specs.declared.model.Stream.{Stream}
 use Rattle.mq_scan.specs.declared.blocks.Blocks.{Blocks}
 use Rattle.mq_stats.specs.Ahead.{IsAhead}
 use Rattle.mq_stats.specs.declared.pieces.AheadTable.{AheadTable}
-use Rattle.mq_stations.specs.Leaving.{AreDepartures, IsLoad}
+use Rattle.mq_stations.specs.Leaving.{AreDepartures, AreStreams, IsLoad}
 use Rattle.mq_stations.specs.Scans.{AreFewBlocks}
 use Rattle.mq_engine.specs.Loads.{AreDeparturesAt, IsLoaded, IsOvertaken, Overtakes}
-use Rattle.mq_engine.specs.Working.{AreStreams}
 use Rattle.mq_engine.specs.declared.loads.Scan.{Scan}
 use Rattle.mq_stations.proofs.lemmas.Leaves.{departs-even}
-use Rattle.mq_engine.proofs.Leavings.{departures-order, late-by, sorted-streams}
+use Rattle.mq_engine.proofs.Leavings.{departures-order, late-by, once-leaves, sorted-streams}
 
 -- none of its jobs departs before it came
 pub departs-later : FatesAreInTime → (rows : Rows) (kind : Kind) (arrivals : Stream) (departs : List ℕ) → IsLoad rows kind arrivals → AreDepartures rows kind arrivals departs →
     AllByRecursion (λ (p : ℕ × Fate). LeavesFrom p.0 p.1) (zip arrivals.time (map (λ time. Departs time) departs))
-departs-later law rows kind arrivals departs load d = (subst (FatesInTime arrivals.time) d.fates (law rows kind (came_in arrivals) load.ordered.ordered.even)).each
+departs-later law rows kind arrivals departs load d = (subst (FatesInTime arrivals.time) d.fates (law rows kind (came_in arrivals) (once-leaves kind d.once) load.ordered.ordered.even)).each
 
 -- they are few
 pub departs-few : FatesAreInTime → (rows : Rows) (kind : Kind) (arrivals : Stream) (departs : List ℕ) → IsLoad rows kind arrivals → AreDepartures rows kind arrivals departs → length departs ≤ 1048576

@@ -8,7 +8,7 @@ use Rattle.mq_core.specs.OnceOut.{leaving_times}
 use Rattle.mq_core.specs.Streams.{by_first, pairs_of, picked}
 use Rattle.mq_core.specs.Laws.{insert_by}
 use Rattle.mq_core.specs.declared.model.Fate.{Fate}
-use Rattle.mq_core.specs.declared.model.Fate.TheVariants.{Departs, Lost}
+use Rattle.mq_core.specs.declared.model.Fate.TheVariants.{Departs, Held, Lost}
 use Rattle.mq_core.specs.declared.model.Input.{Input}
 use Rattle.mq_core.specs.declared.model.Stream.{Stream}
 use Rattle.mq_engine.specs.Working.{AreEarly, pairs_by, pairs_in, pairs_read}
@@ -89,3 +89,4 @@ leaving-early [] fates h k = tt
 leaving-early (a ∷ rest) [] h k = tt
 leaving-early (a ∷ rest) (Departs time ∷ fates) h k = (k.0, leaving-early rest fates h.1 k.1)
 leaving-early (a ∷ rest) (Lost ∷ fates) h k = (h.0, leaving-early rest fates h.1 k.1)
+leaving-early (a ∷ rest) (Held ∷ fates) h k = (h.0, leaving-early rest fates h.1 k.1)

@@ -1,4 +1,4 @@
--- The end of the waves: where no node is ready any more, each is done, or the first by rank that is not has a late visit.
+-- The end of the waves: where no node is ready any more, each is done, or the first by rank that is not has too many visits or a late one.
 use Rattle.std.proofs.Common.{◌≡◌, ℕ, zero, suc, ◌+◌, ◌<◌, ◌≤◌, ◌⊎◌, inl, inr, Bool, true, List, [], ◌∷◌, length, take, Some, None, refl, sym, ap, ◌∙◌, subst, arith}
 use Rattle.std.specs.Prelude.{◌&&◌, filter, slice_get}
 use Rattle.std.specs.Option.{option_map}
@@ -6,9 +6,10 @@ use Rattle.std.specs.List.{list_all}
 use Rattle.std.proofs.lemmas.Bool.{cases_lt}
 use Rattle.std.proofs.lemmas.Option.{slice_get-map, slice_get_within}
 use Rattle.mq_base.proofs.lemmas.Lists.{some_inj}
-use Rattle.mq_core.specs.Sequences.{IsRunOf}
-use Rattle.mq_core.specs.NumberLaws.{IsOnTimeBelow}
-use Rattle.mq_core.specs.Results.{past_of}
+use Rattle.mq_core.specs.Sequences.{IsRunOf, sequence_refusal}
+use Rattle.mq_core.specs.StandardTable.{run_of}
+use Rattle.mq_core.specs.NumberLaws.{IsFineBelow}
+use Rattle.mq_core.specs.Results.{Refusal, refusal_of, visits_of}
 use Rattle.mq_core.specs.Theorems.{IsReadFor}
 use Rattle.mq_core.specs.Wiring.{outputs_read}
 use Rattle.mq_core.specs.declared.model.Input.{Input}
@@ -16,15 +17,16 @@ use Rattle.mq_core.specs.declared.model.Plan.{Plan}
 use Rattle.mq_core.specs.declared.model.Rows.{Rows}
 use Rattle.mq_core.specs.declared.model.Stream.{Stream}
 use Rattle.mq_core.specs.declared.model.Visits.{Visits}
-use Rattle.mq_stations.specs.Late.{late_told}
+use Rattle.mq_engine.specs.Refusals.{over_told, past_told}
 use Rattle.mq_engine.specs.CoreLaws.{CoreLaws}
 use Rattle.mq_engine.specs.Progress.{AreWithin, IsReached, is_done, is_read, is_ready, is_waiting, reads_done, stands_at}
+use Rattle.mq_stations.specs.declared.late.OverFault.{OverFault}
 use Rattle.mq_stations.specs.declared.late.PastFault.{PastFault}
 use Rattle.mq_engine.specs.declared.progress.Stand.{Stand}
-use Rattle.mq_engine.specs.declared.progress.Stand.TheVariants.{Waiting, Done, Late}
+use Rattle.mq_engine.specs.declared.progress.Stand.TheVariants.{Waiting, Done, Crowded, Late}
 use Rattle.mq_engine.proofs.Lists.{filter-none, get-take, has-index}
 
-get-some : {X : Type 0} (xs : List X) (i : ℕ) → i < length xs → (x : X) × (slice_get xs i ≡ Some x)
+pub get-some : {X : Type 0} (xs : List X) (i : ℕ) → i < length xs → (x : X) × (slice_get xs i ≡ Some x)
 get-some [] i l = absurd (omega arith)
 get-some (x ∷ xs) zero l = (x, refl)
 get-some (x ∷ xs) (suc i) l = get-some xs i (omega arith)
@@ -46,14 +48,19 @@ module _ (laws : CoreLaws) (plan : Plan) (rows : Rows) (read : IsReadFor plan.ne
   pub rank-inside : (rank v : ℕ) → slice_get plan.order rank ≡ Some v → v < length stands
   rank-inside rank v e = subst (λ n. v < n) (sym r.stand) (laws.ranks plan rank v e).inside
 
-  on-time-below : (rank : ℕ) → ((q v : ℕ) → q < rank → slice_get plan.order q ≡ Some v → slice_get stands v ≡ Some Done) → IsOnTimeBelow plan rows rank
-  on-time-below rank below = λ q v node l e there. (r.told v node Done there (below q v l e)).1
+  fine-below : (rank : ℕ) → ((q v : ℕ) → q < rank → slice_get plan.order q ≡ Some v → slice_get stands v ≡ Some Done) → IsFineBelow plan rows rank
+  fine-below rank below = λ q v node l e there. (r.told v node Done there (below q v l e)).1
 
-  -- the next that is not done has the first late visit
-  pub late-is-first : (rank v : ℕ) (fault : PastFault) → ((q w : ℕ) → q < rank → slice_get plan.order q ≡ Some w → slice_get stands w ≡ Some Done) → slice_get plan.order rank ≡ Some v → slice_get stands v ≡ Some (Late fault) → past_of plan rows ≡ Some (late_told fault)
+  -- the next that is not done is why the run is refused: it has too many visits, or a late one
+  pub crowd-is-first : (rank v : ℕ) (fault : OverFault) → ((q w : ℕ) → q < rank → slice_get plan.order q ≡ Some w → slice_get stands w ≡ Some Done) → slice_get plan.order rank ≡ Some v → slice_get stands v ≡ Some (Crowded fault) → refusal_of plan rows ≡ Some (over_told fault)
+  crowd-is-first rank v fault below e at =
+      let node = get-some plan.net.nodes v (laws.ranks plan rank v e).inside in
+      laws.first plan rows read rank v node.0 (over_told fault) e node.1 (fine-below rank below) (r.told v node.0 (Crowded fault) node.1 at)
+
+  pub late-is-first : (rank v : ℕ) (fault : PastFault) → ((q w : ℕ) → q < rank → slice_get plan.order q ≡ Some w → slice_get stands w ≡ Some Done) → slice_get plan.order rank ≡ Some v → slice_get stands v ≡ Some (Late fault) → refusal_of plan rows ≡ Some (past_told fault)
   late-is-first rank v fault below e at =
       let node = get-some plan.net.nodes v (laws.ranks plan rank v e).inside in
-      laws.first plan rows read rank v node.0 (late_told fault) e node.1 (on-time-below rank below) (r.told v node.0 (Late fault) node.1 at)
+      laws.first plan rows read rank v node.0 (past_told fault) e node.1 (fine-below rank below) (r.told v node.0 (Late fault) node.1 at)
 
   -- it does not wait, since all that it reads is done
   pub none-waits : (rank v : ℕ) → ((q w : ℕ) → q < rank → slice_get plan.order q ≡ Some w → slice_get stands w ≡ Some Done) → slice_get plan.order rank ≡ Some v → slice_get stands v ≡ Some Waiting → filter (is_ready plan.net.nodes stands) plan.order ≡ [] → ⊥
@@ -87,5 +94,5 @@ module _ (laws : CoreLaws) (plan : Plan) (rows : Rows) (read : IsReadFor plan.ne
         let index = has-index plan.order v (plan.whole v (slice_get_within plan.net.nodes v node e)) in
         (r.told v node Done e (all index.0 v (slice_get_within plan.order index.0 v index.1) index.1)).0)
 
-    pub none-late : past_of plan rows ≡ None
-    none-late = laws.none plan rows read (on-time-below (length plan.order) all)
+    pub none-refused : refusal_of plan rows ≡ None
+    none-refused = laws.none plan rows read (fine-below (length plan.order) all)

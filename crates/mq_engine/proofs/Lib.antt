@@ -13,3 +13,5 @@ pub mod DelayOrder
 pub mod Comings
 pub mod SplitBlocks
 pub mod Founding
+pub mod Gathers
+pub mod Telling

@@ -70,6 +70,11 @@ zip-first [] js h = refl
 zip-first (t ∷ ts) [] h = absurd (omega arith)
 zip-first (t ∷ ts) (j ∷ js) h = ap (λ l. t ∷ l) (zip-first ts js (omega arith))
 
+pub zip-length : (ts js : List ℕ) → length js ≡ length ts → length (zip ts js) ≡ length ts
+zip-length [] js h = refl
+zip-length (t ∷ ts) [] h = absurd (omega arith)
+zip-length (t ∷ ts) (j ∷ js) h = let rest = zip-length ts js (omega arith) in omega arith
+
 zip-second : (ts js : List ℕ) → length js ≡ length ts → map (λ (p : ℕ × ℕ). p.1) (zip ts js) ≡ js
 zip-second [] [] h = refl
 zip-second [] (j ∷ js) h = absurd (omega arith)

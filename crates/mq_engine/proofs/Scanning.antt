@@ -77,7 +77,7 @@ forkjoin-sound plan rows v arrivals scan its l e =
 
 -- a station whose scan is let go is loaded as before
 pub unscanned : (plan : Plan) (rows : Rows) (v : ℕ) (arrivals : Stream) (scan : Scan) → IsLoaded plan rows v arrivals scan → IsLoaded plan rows v arrivals Unscanned
-unscanned plan rows v arrivals scan l = record { node = l.node; there = l.there; came = l.came; load = l.load; scanned = tt }
+unscanned plan rows v arrivals scan l = record { node = l.node; there = l.there; once = l.once; came = l.came; load = l.load; scanned = tt }
 
 -- a node of the plan that is loaded is there
 pub loaded-inside : (plan : Plan) (rows : Rows) (v : ℕ) (arrivals : Stream) (scan : Scan) → IsLoaded plan rows v arrivals scan → v < length plan.net.nodes
@@ -113,7 +113,7 @@ pub opens : SequencesGoByFates → FatesAreInTime → (plan : Plan) (rows : Rows
 opens fated law plan rows v arrivals scan departs times fates found jobs streams l served f g h d e = λ node there. (
   record {
     fates_are = d ∙ sym (served node there).0.fates;
-    streams_are = kept-streams fated rows node.kind arrivals streams (served node there).1 (departs-left law rows node.kind arrivals departs streams l.load.ordered.ordered.even (served node there).0 (e ∙ (λ k. record { job = h.1 k; time = f.1 k } ∷ [])));
+    streams_are = kept-streams fated rows node.kind arrivals streams (served node there).0.once (served node there).1 (departs-left law rows node.kind arrivals departs streams l.load.ordered.ordered.even (served node there).0 (e ∙ (λ k. record { job = h.1 k; time = f.1 k } ∷ [])));
     none = f.2 node there;
   },
   g.1 ∙ ap (founds_of arrivals.time) (sym d),

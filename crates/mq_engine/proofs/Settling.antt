@@ -15,9 +15,9 @@ use Rattle.mq_core.specs.declared.model.Visits.{Visits}
 use Rattle.mq_engine.specs.Loads.{IsResultOf}
 use Rattle.mq_engine.specs.Progress.{AreWaiting, AreWorkedOut, IsEndPut, IsPut, IsReached, is_ready, is_waiting, reads_done, stands_at}
 use Rattle.mq_engine.specs.declared.progress.Stand.{Stand}
-use Rattle.mq_engine.specs.declared.progress.Stand.TheVariants.{Done, Late}
+use Rattle.mq_engine.specs.declared.progress.Stand.TheVariants.{Done, Crowded, Late}
 use Rattle.mq_engine.specs.declared.working.Ending.{Ending}
-use Rattle.mq_engine.specs.declared.working.Ending.TheVariants.{OnTime, TooLate}
+use Rattle.mq_engine.specs.declared.working.Ending.TheVariants.{OnTime, TooMany, TooLate}
 use Rattle.mq_engine.specs.declared.working.NodeResult.{NodeResult}
 use Rattle.mq_engine.proofs.Lists.{filter-passes}
 use Rattle.mq_engine.proofs.Waves.{order-few, put-keeps}
@@ -66,10 +66,12 @@ set-fewer stands stands' v at l quiet e =
 
 end-fewer : (v : ℕ) (ending : Ending) (visits visits' : List Visits) (outputs outputs' : List (List Stream)) (stands stands' : List Stand) → v < length stands → IsEndPut v ending visits outputs stands visits' outputs' stands' → IsFewer stands stands' v
 end-fewer v (OnTime came left) visits visits' outputs outputs' stands stands' l h = set-fewer stands stands' v Done l refl h.2
+end-fewer v (TooMany fault) visits visits' outputs outputs' stands stands' l h = set-fewer stands stands' v (Crowded fault) l refl h.2
 end-fewer v (TooLate fault) visits visits' outputs outputs' stands stands' l h = set-fewer stands stands' v (Late fault) l refl h.2
 
 end-lengths : (v : ℕ) (ending : Ending) (visits visits' : List Visits) (outputs outputs' : List (List Stream)) (stands stands' : List Stand) → IsEndPut v ending visits outputs stands visits' outputs' stands' → (length visits' ≡ length visits) × (length outputs' ≡ length outputs)
 end-lengths v (OnTime came left) visits visits' outputs outputs' stands stands' h = (ap length h.0 ∙ length-set visits v came, ap length h.1 ∙ length-set outputs v left)
+end-lengths v (TooMany fault) visits visits' outputs outputs' stands stands' h = (ap length h.0, ap length h.1)
 end-lengths v (TooLate fault) visits visits' outputs outputs' stands stands' h = (ap length h.0, ap length h.1)
 
 -- what is kept while the nodes worked out in a wave are put down: those left, of all of them

@@ -5,7 +5,6 @@ use Rattle.std.proofs.lemmas.List.{length-map}
 use Rattle.std.specs.Prelude.{slice_get}
 use Rattle.mq_core.specs.Kinds.Split.{route_value}
 use Rattle.mq_core.specs.OnceOut.{founds_of}
-use Rattle.mq_core.specs.SequenceLaws.{SequencesGoByFates}
 use Rattle.mq_core.specs.declared.model.Fate.{Fate}
 use Rattle.mq_core.specs.declared.model.Fate.TheVariants.{Departs}
 use Rattle.mq_core.specs.declared.model.Kind.{Kind}
@@ -18,7 +17,7 @@ use Rattle.mq_core.specs.declared.model.Stream.{Stream}
 use Rattle.mq_crew.specs.Crew.{AreAll}
 use Rattle.mq_scan.specs.declared.blocks.Blocks.{Blocks}
 use Rattle.mq_split.specs.Outs.{AreParts}
-use Rattle.mq_stations.specs.Leaving.{IsLeaving, IsLoad, KeepsOrder}
+use Rattle.mq_stations.specs.Leaving.{IsLeaving, IsLoad}
 use Rattle.mq_stations.specs.Scans.{AreSplitBlocks, AreSplitParts}
 use Rattle.mq_stations.proofs.lemmas.Leaves.{splits}
 use Rattle.mq_engine.specs.Loads.{ArePartsAt, AreSplitStreams, IsAfterAt, IsLoaded, IsRouted, IsShut, IsSplitAt, IsSplitPart}
@@ -27,7 +26,6 @@ use Rattle.mq_engine.specs.declared.firsts.Part.{Part}
 use Rattle.mq_engine.specs.declared.firsts.Part.TheVariants.{Product, Routed, Whole}
 use Rattle.mq_engine.specs.declared.loads.Scan.TheVariants.{OfSplit}
 use Rattle.mq_engine.specs.declared.working.After.TheVariants.{Seen}
-use Rattle.mq_engine.proofs.Leavings.{kept-streams}
 
 split_inj : (a b : Route) → Split a ≡ Split b → a ≡ b
 split_inj a b h = cc
@@ -75,17 +73,15 @@ split-blocks plan rows v arrivals blocks route group all l is each e =
 
 -- they are what leaves the split
 pub parts-leave : (plan : Plan) (rows : Rows) (v : ℕ) (arrivals : Stream) (blocks : Blocks) (route : Route) (streams : List Stream) → IsLoaded plan rows v arrivals (OfSplit blocks) → IsRouteAt plan v route → AreParts route arrivals (map (route_value rows route) arrivals.job) streams → AreSplitStreams plan rows v arrivals streams
-parts-leave plan rows v arrivals blocks route streams l is h node there = (
-  subst (λ (k : Kind). IsLeaving rows k arrivals (map (λ time. Departs time) arrivals.time) streams) (sym (is node there)) (splits rows route arrivals _ _ streams l.load.ordered.ordered refl refl h),
-  subst KeepsOrder (sym (is node there)) (λ stream. refl),
-)
+parts-leave plan rows v arrivals blocks route streams l is h node there =
+    subst (λ (k : Kind). IsLeaving rows k arrivals (map (λ time. Departs time) arrivals.time) streams) (sym (is node there)) (splits rows route arrivals _ _ streams l.load.ordered.ordered refl refl h)
 
 -- what becomes of the arrivals at such a split
-pub passes : SequencesGoByFates → (plan : Plan) (rows : Rows) (v : ℕ) (arrivals : Stream) (times : List ℕ) (fates : List Fate) (found : List ℕ) (streams : List Stream) → AreSplitStreams plan rows v arrivals streams → IsShut plan rows v arrivals arrivals.time 0 (Times times) → IsShut plan rows v arrivals arrivals.time 1 (Found found) → fates ≡ map (λ time. Departs time) times → IsAfterAt plan rows v arrivals (Seen fates found streams)
-passes fated plan rows v arrivals times fates found streams s f g d node there = (
+pub passes : (plan : Plan) (rows : Rows) (v : ℕ) (arrivals : Stream) (times : List ℕ) (fates : List Fate) (found : List ℕ) (streams : List Stream) → AreSplitStreams plan rows v arrivals streams → IsShut plan rows v arrivals arrivals.time 0 (Times times) → IsShut plan rows v arrivals arrivals.time 1 (Found found) → fates ≡ map (λ time. Departs time) times → IsAfterAt plan rows v arrivals (Seen fates found streams)
+passes plan rows v arrivals times fates found streams s f g d node there = (
   record {
-    fates_are = whole ∙ (s node there).0.leave;
-    streams_are = kept-streams fated rows node.kind arrivals streams (s node there).1 (s node there).0.outflow;
+    fates_are = whole ∙ (s node there).leave;
+    streams_are = (s node there).outflow;
     none = f.2 node there;
   },
   g.1 ∙ ap (founds_of arrivals.time) (sym whole),

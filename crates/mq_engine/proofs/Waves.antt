@@ -1,8 +1,8 @@
 -- The waves of the engine: what is done so far are the sequences of the run.
-use Rattle.std.proofs.Common.{◌≡◌, ◌≢◌, ℕ, zero, suc, [], ◌++◌, ◌+◌, ◌^◌, ◌<◌, ◌≤◌, ◌⊎◌, inl, inr, Bool, true, false, cond, List, length, set, map, Option, Some, None, refl, sym, ap, ◌∙◌, subst, arith, length-append}
-use Rattle.std.specs.Prelude.{◌==◌, nat_le, slice_get}
+use Rattle.std.proofs.Common.{◌≡◌, ◌≢◌, ℕ, zero, suc, [], ◌∷◌, ◌++◌, ◌+◌, ◌^◌, ◌<◌, ◌≤◌, ◌⊎◌, inl, inr, Bool, true, false, cond, List, length, set, map, Option, Some, None, refl, sym, ap, ◌∙◌, subst, arith, length-append}
+use Rattle.std.specs.Prelude.{◌==◌, nat_le, nat_lt, slice_get}
 use Rattle.std.specs.List.{flat_map, list_all, list_any, zip}
-use Rattle.std.specs.Option.{option_to_list}
+use Rattle.std.specs.Option.{option_map, option_to_list}
 use Rattle.std.specs.Str.{bytes_eq}
 use Rattle.std.proofs.lemmas.Bool.{and_parts}
 use Rattle.std.proofs.lemmas.Bool.Decides.{nat_tests}
@@ -11,11 +11,14 @@ use Rattle.std.proofs.lemmas.Option.{slice_get_within}
 use Rattle.mq_base.proofs.lemmas.Lists.{some_inj}
 use Rattle.mq_base.proofs.lemmas.Each.{Each-weaker}
 use Rattle.mq_core.specs.Came.{came_by, came_in, came_of}
-use Rattle.mq_core.specs.SequenceLaws.{arrives_of, jobs_of}
-use Rattle.mq_core.specs.Sequences.{IsStream, sequence_fates, sequence_late, sequence_late_from, sequence_outs, sequence_stream, sequence_visits, rows_at, streams_below}
+use Rattle.mq_core.specs.Alone.{came as came_at}
+use Rattle.mq_core.specs.Laws.{in_order_of}
+use Rattle.mq_core.specs.SequenceLaws.{arrives_of, jobs_of, read_from, sends_once}
+use Rattle.mq_core.specs.Sequences.{IsStream, sequence_fates, sequence_late_from, sequence_outs, sequence_refusal, sequence_stream, sequence_visits, rows_at, streams_below}
 use Rattle.mq_core.specs.OnceOut.{leaving_times}
 use Rattle.mq_core.specs.Streams.{by_first, picked, pairs_of}
-use Rattle.mq_core.specs.Results.{Late as LateVisit, first_of, stream_from, visits_of}
+use Rattle.mq_core.specs.Results.{Late as LateVisit, Refusal, first_of, most_visits, stream_from, visits_of}
+use Rattle.mq_core.specs.Results.Refusal.{Over, Past}
 use Rattle.mq_core.specs.RunLaws.{HasSequences}
 use Rattle.mq_core.specs.Names.{is_name}
 use Rattle.mq_core.specs.Sound.{are_distinct, columns_of_kind, is_sound_node, mentions_from, outputs_in, same_input}
@@ -30,19 +33,23 @@ use Rattle.mq_core.specs.declared.model.Rows.{Rows}
 use Rattle.mq_core.specs.declared.model.Stream.{Stream}
 use Rattle.mq_core.specs.declared.model.Visits.{Visits}
 use Rattle.mq_engine.specs.CoreLaws.{CoreLaws}
-use Rattle.mq_engine.specs.Working.{AreEarly, AreStreams, IsThere, IsResult, arriving, pairs_by, pairs_in, pairs_read}
-use Rattle.mq_stations.specs.Leaving.{IsEarlyStream, IsLoad}
+use Rattle.mq_engine.specs.Refusals.{over_told, past_told}
+use Rattle.mq_engine.specs.Working.{AreEarly, IsThere, IsResult, arriving, pairs_by, pairs_in, pairs_read, read_by}
+use Rattle.mq_stations.specs.Late.{late_told}
+use Rattle.mq_stations.specs.Leaving.{AreStreams, IsEarlyStream, IsLoad}
 use Rattle.mq_engine.specs.Loads.{IsArrived}
-use Rattle.mq_engine.specs.Progress.{CanWork, IsEndPut, IsEnding, IsKnown, IsPut, IsReached, IsWorkedOut, Tells, is_done, is_read, is_ready, is_waiting, reads_done, stands_at}
+use Rattle.mq_engine.specs.Progress.{CanWork, HasAll, IsEndPut, IsEnding, IsKnown, IsPut, IsReached, IsWorkedOut, Tells, is_done, is_read, is_ready, is_waiting, reads_done, stands_at}
+use Rattle.mq_stations.specs.declared.late.OverFault.{OverFault}
 use Rattle.mq_stations.specs.declared.late.PastFault.{PastFault}
 use Rattle.mq_engine.specs.declared.progress.Stand.{Stand}
-use Rattle.mq_engine.specs.declared.progress.Stand.TheVariants.{Waiting, Done, Late}
+use Rattle.mq_engine.specs.declared.progress.Stand.TheVariants.{Waiting, Done, Crowded, Late}
 use Rattle.mq_engine.specs.declared.working.Ending.{Ending}
-use Rattle.mq_engine.specs.declared.working.Ending.TheVariants.{OnTime, TooLate}
+use Rattle.mq_engine.specs.declared.working.Ending.TheVariants.{OnTime, TooMany, TooLate}
 use Rattle.mq_engine.specs.declared.working.NodeResult.{NodeResult}
 use Rattle.mq_engine.proofs.Early.{EarlyPairs, EarlyTimes, flat-early, picked-early, reads-early, rows-early, stream-early, leaving-early}
 use Rattle.mq_stations.proofs.lemmas.Late.{none-late}
-use Rattle.mq_engine.proofs.Lists.{Each-at, all-get, flat_map-same, get-set_other, get-set_same, zip-jobs, zip-times}
+use Rattle.mq_engine.proofs.Leavings.{once-leaves}
+use Rattle.mq_engine.proofs.Lists.{Each-at, all-get, flat_map-same, get-set_other, get-set_same, zip-jobs, zip-length, zip-times}
 use Rattle.mq_stations.proofs.lemmas.Lists.{Each-get}
 
 -- a node all of whose inputs are done
@@ -79,6 +86,42 @@ inputs-read laws plan rows visits outputs stands v node r n port input e =
     let h = has-input laws plan rows visits outputs stands v node r n port input e in
     ap (λ o. pairs_in o input.out) h.streams ∙ ap pairs_by (laws.have (run_of plan rows) input.node (outputs_in h.node.kind) input.out h.out)
 
+-- A refusal. Of a node with no more visits than it may have it is the first late visit.
+pub refusal-few : (bound v : ℕ) (visits : Visits) (first : Option LateVisit) → length visits.job ≤ 1048576 → first_of (sequence_late_from bound v 0 visits.fate) ≡ first → sequence_refusal bound v visits ≡ option_map (λ late. Past late) first
+refusal-few bound v visits first few e =
+    let below : nat_lt most_visits (length visits.job) ≡ false = grind (arith, nat_tests) in
+    λ k. cond (below k) (Some (Over v (length visits.job))) (option_map (λ late. Past late) (e k))
+
+-- of one with more it is that
+pub refusal-many : (bound v count : ℕ) (visits : Visits) → length visits.job ≡ count → 1048576 < count → sequence_refusal bound v visits ≡ Some (Over v count)
+refusal-many bound v count visits e more =
+    let above : nat_lt most_visits (length visits.job) ≡ true = grind (arith, nat_tests) in
+    (λ k. cond (above k) (Some (Over v (length visits.job))) (option_map (λ late. Past late) (first_of (sequence_late_from bound v 0 visits.fate)))) ∙ ap (λ n. Some (Over v n)) e
+
+-- a node that isn't refused has no more
+pub fine-few : (bound v : ℕ) (visits : Visits) → sequence_refusal bound v visits ≡ None → length visits.job ≤ 1048576
+fine-few bound v visits h = go (nat_lt most_visits (length visits.job)) refl h
+  where
+    go : (b : Bool) → nat_lt most_visits (length visits.job) ≡ b → cond b (Some (Over v (length visits.job))) (option_map (λ late. Past late) (first_of (sequence_late_from bound v 0 visits.fate))) ≡ None → length visits.job ≤ 1048576
+    go true e k = absurd cc
+    go false e k = grind (arith, nat_tests)
+
+-- the stream of a port is no longer than what a node may let out
+inputs-short : (laws : CoreLaws) (plan : Plan) (rows : Rows) (visits : List Visits) (outputs : List (List Stream)) (stands : List Stand) (v : ℕ) (node : Node) → IsReached plan rows visits outputs stands → IsReady plan stands v node → IsReadFor plan.net rows → (port : ℕ) (input : Input) → slice_get node.inputs port ≡ Some input →
+    length (pairs_read outputs input) ≤ 1048576
+inputs-short laws plan rows visits outputs stands v node r n read port input e =
+    let named = (laws.limits plan v node n.there).reads port input e in
+    let end = (run_of plan rows).stations input.node in
+    let fine = (r.told input.node named.node Done named.there (n.reads port input e)).1 in
+    let few = fine-few plan.net.bound input.node (visits_of named.node.kind end) fine in
+    let many : length (jobs_of end.visits) ≡ length end.visits = length-map end.visits _ in
+    let leaves = laws.leave plan rows read input.node named.node named.there (omega arith) input.out in
+    let same = ap length (inputs-read laws plan rows visits outputs stands v node r n port input e) in
+    let long = zip-length (stream_from end input.out).time (stream_from end input.out).job leaves.even in
+    let most = leaves.few in
+    let even = leaves.even in
+    omega arith
+
 arriving-run : (laws : CoreLaws) (plan : Plan) (rows : Rows) (visits : List Visits) (outputs : List (List Stream)) (stands : List Stand) (v : ℕ) (node : Node) → IsReadFor plan.net rows → IsReached plan rows visits outputs stands → IsReady plan stands v node →
     zip (arrives_of ((run_of plan rows).stations v).visits) (jobs_of ((run_of plan rows).stations v).visits) ≡ by_first (arriving rows v node outputs)
 arriving-run laws plan rows visits outputs stands v node read r n = go (is_source_kind node.kind) refl
@@ -86,6 +129,17 @@ arriving-run laws plan rows visits outputs stands v node read r n = go (is_sourc
     go : (b : Bool) → is_source_kind node.kind ≡ b → zip (arrives_of ((run_of plan rows).stations v).visits) (jobs_of ((run_of plan rows).stations v).visits) ≡ by_first (cond b (rows_at v 0 rows.source rows.time) (flat_map (pairs_read outputs) node.inputs))
     go true e = (laws.arrivals plan rows read v node n.there).source e
     go false e = (laws.arrivals plan rows read v node n.there).other e ∙ ap by_first (sym (flat_map-same _ _ node.inputs (inputs-read laws plan rows visits outputs stands v node r n)))
+
+-- the same with the port of each
+module _ (laws : CoreLaws) (plan : Plan) (rows : Rows) (visits : List Visits) (outputs : List (List Stream)) (stands : List Stand) (v : ℕ) (node : Node) (r : IsReached plan rows visits outputs stands) (n : IsReady plan stands v node) where
+  read-ports : (first : ℕ) (inputs : List Input) → ((port : ℕ) (input : Input) → slice_get inputs port ≡ Some input → pairs_read outputs input ≡ pairs_of (stream_from ((run_of plan rows).stations input.node) input.out)) →
+      read_from (run_of plan rows) first inputs ≡ read_by outputs first inputs
+  read-ports first [] h = refl
+  read-ports first (input ∷ inputs) h = (λ k. map {B = ℕ × ℕ × ℕ} (λ (p : ℕ × ℕ). (p.0, first, p.1)) (sym (h 0 input refl) k) ++ read-ports (suc first) inputs (λ port i e. h (suc port) i e) k)
+
+  arriving-ports : IsReadFor plan.net rows → is_source_kind node.kind ≡ false → came_at ((run_of plan rows).stations v).visits ≡ in_order_of (λ (p : ℕ × ℕ × ℕ). p.0) (read_by outputs 0 node.inputs)
+  arriving-ports read e =
+      (laws.arrivals plan rows read v node n.there).ports e ∙ ap (in_order_of (λ (p : ℕ × ℕ × ℕ). p.0)) (read-ports 0 node.inputs (inputs-read laws plan rows visits outputs stands v node r n))
 
 pub arrived : (plan : Plan) (rows : Rows) (outputs : List (List Stream)) (v : ℕ) (node : Node) (arrivals : Stream) → CanWork plan rows outputs v → slice_get plan.net.nodes v ≡ Some node →
     IsStream arrivals → pairs_of arrivals ≡ by_first (arriving rows v node outputs) → IsArrived plan rows v arrivals
@@ -99,24 +153,16 @@ arrived plan rows outputs v node arrivals can there s e =
     }
 
 -- the station can work on them
-arriving-early : (plan : Plan) (rows : Rows) (outputs : List (List Stream)) (v : ℕ) (node : Node) → IsReadFor plan.net rows → AreEarly outputs → EarlyPairs (arriving rows v node outputs)
+pub arriving-early : (plan : Plan) (rows : Rows) (outputs : List (List Stream)) (v : ℕ) (node : Node) → IsReadFor plan.net rows → AreEarly outputs → EarlyPairs (arriving rows v node outputs)
 arriving-early plan rows outputs v node read early = go (is_source_kind node.kind)
   where
     go : (b : Bool) → EarlyPairs (cond b (rows_at v 0 rows.source rows.time) (flat_map (pairs_read outputs) node.inputs))
     go true = rows-early v 0 rows.source rows.time (Each-at _ rows.time read.early)
     go false = flat-early (pairs_read outputs) (λ input. reads-early outputs input early) node.inputs
 
--- a node of a run has no more visits than a trace has rows
-pub visits-few : (laws : CoreLaws) (plan : Plan) (rows : Rows) (v : ℕ) → IsReadFor plan.net rows → length ((run_of plan rows).stations v).visits ≤ 1048576
-visits-few laws plan rows v read =
-    let most = laws.few plan rows read (λ u node there. laws.single node.kind) v in
-    let times = read.times in
-    let count = read.count in
-    omega arith
-
-pub loaded : (laws : CoreLaws) (plan : Plan) (rows : Rows) (outputs : List (List Stream)) (v : ℕ) (node : Node) (arrivals : Stream) → IsReadFor plan.net rows → AreEarly outputs → CanWork plan rows outputs v → slice_get plan.net.nodes v ≡ Some node → length ((run_of plan rows).stations v).visits ≤ 1048576 →
+pub loaded : (laws : CoreLaws) (plan : Plan) (rows : Rows) (outputs : List (List Stream)) (v : ℕ) (node : Node) (arrivals : Stream) → IsReadFor plan.net rows → AreEarly outputs → CanWork plan rows outputs v → slice_get plan.net.nodes v ≡ Some node →
     IsStream arrivals → pairs_of arrivals ≡ by_first (arriving rows v node outputs) → IsLoad rows node.kind arrivals
-loaded laws plan rows outputs v node arrivals read early can there few s e =
+loaded laws plan rows outputs v node arrivals read early can there s e =
     let a = arrived plan rows outputs v node arrivals can there s e in
     let xs = ((run_of plan rows).stations v).visits in
     record {
@@ -125,10 +171,11 @@ loaded laws plan rows outputs v node arrivals read early can there few s e =
       ordered = record { ordered = s; early = stream-early arrivals (arriving rows v node outputs) s e (arriving-early plan rows outputs v node read early) };
       few =
           let long : length arrivals.time ≡ length xs = ap length a.time ∙ length-map xs _ in
+          let few = can.few in
           omega arith;
       leaves =
           let sequences = laws.sequences plan rows read v node there in
-          let blind = laws.blind rows node.kind (came_of (length node.inputs) ((run_of plan rows).stations v).visits) in
+          let blind = laws.blind rows node.kind (came_of (length node.inputs) ((run_of plan rows).stations v).visits) (once-leaves node.kind (can.once node there)) in
           λ out. subst IsStream (sequences.stream out ∙ (blind.stream out ∙ (λ k. sequence_stream rows node.kind (came_by (sym a.job k) (sym a.time k)) out))) ((laws.streams plan rows v).streams out);
       told = λ k job g.
           let below = subst (λ m. job < m) read.times (Each-get (λ j. j < length rows.time) (jobs_of xs) k job (laws.jobs plan rows v) (subst (λ l. slice_get l k ≡ Some job) a.job g)) in
@@ -136,22 +183,25 @@ loaded laws plan rows outputs v node arrivals read early can there few s e =
     }
 
 -- what is worked out of the node is what the run has
-made : (laws : CoreLaws) (plan : Plan) (rows : Rows) (v : ℕ) (node : Node) (arrivals : Stream) (came : Visits) (left : List Stream) → IsReadFor plan.net rows → slice_get plan.net.nodes v ≡ Some node → IsArrived plan rows v arrivals → IsResult rows node.kind arrivals came left →
+made : (laws : CoreLaws) (plan : Plan) (rows : Rows) (v : ℕ) (node : Node) (arrivals : Stream) (came : Visits) (left : List Stream) → IsReadFor plan.net rows → slice_get plan.net.nodes v ≡ Some node → sends_once node.kind ≡ true → IsArrived plan rows v arrivals → IsResult rows node.kind arrivals came left →
     (came ≡ visits_of node.kind ((run_of plan rows).stations v)) × (left ≡ streams_below (run_of plan rows) v (outputs_in node.kind))
-made laws plan rows v node arrivals came left read there a t =
+made laws plan rows v node arrivals came left read there once a t =
     let c = laws.sequences plan rows read v node there in
-    let blind = laws.blind rows node.kind (came_of (length node.inputs) ((run_of plan rows).stations v).visits) in (
+    let blind = laws.blind rows node.kind (came_of (length node.inputs) ((run_of plan rows).stations v).visits) (once-leaves node.kind once) in (
       t.sequences ∙ ((λ k. sequence_visits rows node.kind (came_by (a.job k) (a.time k))) ∙ sym (c.visits ∙ blind.visits)),
       laws.make (run_of plan rows) v (outputs_in node.kind) left t.outflow.count (λ out l. t.outflow.each out l ∙ ((λ k. Some (sequence_stream rows node.kind (came_by (a.job k) (a.time k)) out)) ∙ ap Some (sym (c.stream out ∙ blind.stream out)))),
     )
 
--- its late visits are those of the run
-pub same-late : (laws : CoreLaws) (plan : Plan) (rows : Rows) (v : ℕ) (node : Node) (arrivals : Stream) (first : Option LateVisit) → IsReadFor plan.net rows → slice_get plan.net.nodes v ≡ Some node → IsArrived plan rows v arrivals →
+-- why it is refused is what the run says
+pub same-late : (laws : CoreLaws) (plan : Plan) (rows : Rows) (v : ℕ) (node : Node) (arrivals : Stream) (first : Option LateVisit) → IsReadFor plan.net rows → slice_get plan.net.nodes v ≡ Some node → sends_once node.kind ≡ true → IsArrived plan rows v arrivals → length arrivals.time ≤ 1048576 →
     first_of (sequence_late_from plan.net.bound v 0 (sequence_fates rows node.kind (came_in arrivals))) ≡ first →
-    first_of (sequence_late plan.net.bound v (visits_of node.kind ((run_of plan rows).stations v))) ≡ first
-same-late laws plan rows v node arrivals first read there a h =
-    ap (λ (x : Visits). first_of (sequence_late plan.net.bound v x)) ((laws.sequences plan rows read v node there).visits ∙ (laws.blind rows node.kind (came_of (length node.inputs) ((run_of plan rows).stations v).visits)).visits)
-    ∙ ((λ k. first_of (sequence_late_from plan.net.bound v 0 (sequence_fates rows node.kind (came_by (sym a.job k) (sym a.time k))))) ∙ h)
+    sequence_refusal plan.net.bound v (visits_of node.kind ((run_of plan rows).stations v)) ≡ option_map (λ late. Past late) first
+same-late laws plan rows v node arrivals first read there once a few h =
+    let xs = ((run_of plan rows).stations v).visits in
+    let many : length (jobs_of xs) ≡ length arrivals.time = length-map xs _ ∙ (sym (length-map xs _) ∙ ap length (sym a.time)) in
+    refusal-few plan.net.bound v (visits_of node.kind ((run_of plan rows).stations v)) first (omega arith)
+    (ap (λ (x : Visits). first_of (sequence_late_from plan.net.bound v 0 x.fate)) ((laws.sequences plan rows read v node there).visits ∙ (laws.blind rows node.kind (came_of (length node.inputs) xs) (once-leaves node.kind once)).visits)
+    ∙ ((λ k. first_of (sequence_late_from plan.net.bound v 0 (sequence_fates rows node.kind (came_by (sym a.job k) (sym a.time k))))) ∙ h))
 
 within-limits : (plan : Plan) → (length plan.net.nodes ≤ 64) × (plan.net.bound ≤ 2 ^ 60)
 within-limits plan =
@@ -164,8 +214,9 @@ within-limits plan =
     let f = and_parts _ (are_distinct bytes_eq (map (λ (node : Node). node.name) net.nodes)) e.0 in
     let g = and_parts _ (list_any (λ (node : Node). is_source_kind node.kind) net.nodes) f.0 in
     let h = and_parts _ (nat_le net.bound (2 ^ 60)) g.0 in
-    let i = and_parts (is_within 1 64 (length net.nodes)) _ h.0 in
-    let j = and_parts (nat_le 1 (length net.nodes)) (nat_le (length net.nodes) 64) i.0 in
+    let i = and_parts _ (nat_le (length net.columns) 16) h.0 in
+    let nodes = and_parts _ (is_within 1 64 (length net.nodes)) i.0 in
+    let j = and_parts (nat_le 1 (length net.nodes)) (nat_le (length net.nodes) 64) nodes.1 in
     let few : nat_le (length net.nodes) 64 ≡ true = j.1 in
     let early : nat_le net.bound (2 ^ 60) ≡ true = h.1 in
     (grind (arith, nat_tests), grind (arith, nat_tests))
@@ -196,18 +247,18 @@ order-few plan =
     omega arith
 
 -- the streams of a node whose visits are on time are early
-left-early : (laws : CoreLaws) (plan : Plan) (rows : Rows) (v : ℕ) (node : Node) (arrivals : Stream) (left : List Stream) → EarlyTimes arrivals.time → AreStreams rows node.kind arrivals left →
+left-early : (laws : CoreLaws) (plan : Plan) (rows : Rows) (v : ℕ) (node : Node) (arrivals : Stream) (left : List Stream) → sends_once node.kind ≡ true → EarlyTimes arrivals.time → AreStreams rows node.kind arrivals left →
     first_of (sequence_late_from plan.net.bound v 0 (sequence_fates rows node.kind (came_in arrivals))) ≡ None → (out : ℕ) (stream : Stream) → slice_get left out ≡ Some stream → EarlyTimes stream.time
-left-early laws plan rows v node arrivals left came t h out stream e =
+left-early laws plan rows v node arrivals left once came t h out stream e =
     let inside : out < outputs_in node.kind = subst (λ m. out < m) t.count (slice_get_within left out stream e) in
     let bound = bound-within plan in
-    subst (λ (s : Stream). EarlyTimes s.time) (sym ((laws.go rows node.kind (came_in arrivals)).stream out) ∙ some_inj _ _ (sym (t.each out inside) ∙ e))
+    subst (λ (s : Stream). EarlyTimes s.time) (sym ((laws.go rows node.kind (came_in arrivals) once).stream out) ∙ some_inj _ _ (sym (t.each out inside) ∙ e))
     ((laws.keeps node.kind (record { job = picked out (sequence_outs rows node.kind (came_in arrivals)) arrivals.job; time = picked out (sequence_outs rows node.kind (came_in arrivals)) (leaving_times arrivals.time (sequence_fates rows node.kind (came_in arrivals))) })).times (2 ^ 60)
     (picked-early out (sequence_outs rows node.kind (came_in arrivals)) (leaving_times arrivals.time (sequence_fates rows node.kind (came_in arrivals)))
     (leaving-early arrivals.time (sequence_fates rows node.kind (came_in arrivals)) came
     (Each-weaker (λ time. time ≤ plan.net.bound) (λ time. time ≤ 2 ^ 60) (λ time l. omega arith) _ (none-late plan.net.bound v 0 (sequence_fates rows node.kind (came_in arrivals)) h)))))
 
-left-ordered : (laws : CoreLaws) (plan : Plan) (rows : Rows) (v outs out : ℕ) (left : List Stream) (stream : Stream) → left ≡ streams_below (run_of plan rows) v outs → length left ≡ outs → slice_get left out ≡ Some stream → IsStream stream
+pub left-ordered : (laws : CoreLaws) (plan : Plan) (rows : Rows) (v outs out : ℕ) (left : List Stream) (stream : Stream) → left ≡ streams_below (run_of plan rows) v outs → length left ≡ outs → slice_get left out ≡ Some stream → IsStream stream
 left-ordered laws plan rows v outs out left stream e count g =
     let inside : out < outs = subst (λ m. out < m) count (slice_get_within left out stream g) in
     let same : stream_from ((run_of plan rows).stations v) out ≡ stream = some_inj _ _ (sym (laws.have (run_of plan rows) v outs out inside) ∙ (ap (λ (l : List Stream). slice_get l out) (sym e) ∙ g)) in
@@ -221,27 +272,30 @@ decide-eq a b = go (a == b) refl
     go false e = inr (λ s. grind (arith, nat_tests))
 
 -- what a node that was worked out gives is what the run has
-pub known : (laws : CoreLaws) (plan : Plan) (rows : Rows) (v : ℕ) (node : Node) (arrivals : Stream) (ending : Ending) → IsReadFor plan.net rows → IsArrived plan rows v arrivals → IsLoad rows node.kind arrivals → slice_get plan.net.nodes v ≡ Some node →
+pub known : (laws : CoreLaws) (plan : Plan) (rows : Rows) (v : ℕ) (node : Node) (arrivals : Stream) (ending : Ending) → IsReadFor plan.net rows → sends_once node.kind ≡ true → IsArrived plan rows v arrivals → IsLoad rows node.kind arrivals → slice_get plan.net.nodes v ≡ Some node →
     IsEnding plan.net rows v node.kind arrivals ending → IsKnown plan rows v node ending
-known laws plan rows v node arrivals (OnTime came left) read is load there h =
-    let new = made laws plan rows v node arrivals came left read there is h.0 in (
+known laws plan rows v node arrivals (OnTime came left) read once is load there h =
+    let new = made laws plan rows v node arrivals came left read there once is h.0 in (
       new.0,
       new.1,
       λ out stream g. record {
         ordered = left-ordered laws plan rows v (outputs_in node.kind) out left stream new.1 h.0.outflow.count g;
-        early = left-early laws plan rows v node arrivals left load.ordered.early h.0.outflow h.1 out stream g;
+        early = left-early laws plan rows v node arrivals left once load.ordered.early h.0.outflow h.1 out stream g;
       },
-      same-late laws plan rows v node arrivals None read there is h.1,
+      same-late laws plan rows v node arrivals None read there once is load.few h.1,
     )
-known laws plan rows v node arrivals (TooLate fault) read is load there h = same-late laws plan rows v node arrivals _ read there is h
+known laws plan rows v node arrivals (TooMany fault) read once is load there h = absurd h
+known laws plan rows v node arrivals (TooLate fault) read once is load there h = same-late laws plan rows v node arrivals _ read there once is load.few h
 
--- a node that is ready can be worked out
-pub can-work : (laws : CoreLaws) (plan : Plan) (rows : Rows) (visits : List Visits) (outputs : List (List Stream)) (stands : List Stand) (v : ℕ) → IsReadFor plan.net rows → IsReached plan rows visits outputs stands → is_ready plan.net.nodes stands v ≡ true → CanWork plan rows outputs v
-can-work laws plan rows visits outputs stands v read r ready =
+-- to a node that is ready all has come
+pub has-all : (laws : CoreLaws) (plan : Plan) (rows : Rows) (visits : List Visits) (outputs : List (List Stream)) (stands : List Stand) (v : ℕ) → IsReadFor plan.net rows → IsReached plan rows visits outputs stands → is_ready plan.net.nodes stands v ≡ true → HasAll plan rows outputs v
+has-all laws plan rows visits outputs stands v read r ready =
     record {
       inside = subst (λ m. v < m) r.stand (stands-inside (slice_get stands v) refl (and_parts _ _ ready).0);
       there = λ node port input at e. inputs-there laws plan rows visits outputs stands v node r (is-ready node at) port input e;
+      short = λ node port input at e. inputs-short laws plan rows visits outputs stands v node r (is-ready node at) read port input e;
       comes = λ node at. arriving-run laws plan rows visits outputs stands v node read r (is-ready node at);
+      ports = λ node at other. arriving-ports laws plan rows visits outputs stands v node r (is-ready node at) read other;
     }
   where
     stands-inside : (o : Option Stand) → slice_get stands v ≡ o → stands_at is_waiting o ≡ true → v < length stands
@@ -252,6 +306,7 @@ can-work laws plan rows visits outputs stands v read r ready =
     done-at u None e h = absurd cc
     done-at u (Some Waiting) e h = absurd cc
     done-at u (Some Done) e h = e
+    done-at u (Some (Crowded fault)) e h = absurd cc
     done-at u (Some (Late fault)) e h = absurd cc
 
     is-ready : (node : Node) → slice_get plan.net.nodes v ≡ Some node → IsReady plan stands v node
@@ -289,6 +344,7 @@ module _ (plan : Plan) (rows : Rows) (visits : List Visits) (outputs : List (Lis
       },
       h.1,
     )
+    elsewhere w other (Crowded fault) d h = h
     elsewhere w other (Late fault) d h = h
 
     told : (w : ℕ) (other : Node) (at : Stand) → slice_get plan.net.nodes w ≡ Some other → slice_get (set stands v Done) w ≡ Some at → (w ≡ v) ⊎ (w ≢ v) → Tells plan rows (set visits v came) (set outputs v left) w other at
@@ -314,30 +370,33 @@ module _ (plan : Plan) (rows : Rows) (visits : List Visits) (outputs : List (Lis
       early = λ u out streams stream a b. early u out streams stream a b (decide-eq u v);
     }
 
-  too-late : (fault : PastFault) → IsKnown plan rows v node (TooLate fault) → IsReached plan rows visits outputs (set stands v (Late fault))
-  too-late fault k =
+  -- where a fault is put
+  refused : (stand : Stand) → Tells plan rows visits outputs v node stand → IsReached plan rows visits outputs (set stands v stand)
+  refused stand k =
       record {
         came = r.came;
         left = r.left;
-        stand = length-set stands v (Late fault) ∙ r.stand;
-        told = λ w other at e g. at_late w other at e g (decide-eq w v);
+        stand = length-set stands v stand ∙ r.stand;
+        told = λ w other at e g. at_fault w other at e g (decide-eq w v);
         early = r.early;
       }
     where
-      at_late : (w : ℕ) (other : Node) (at : Stand) → slice_get plan.net.nodes w ≡ Some other → slice_get (set stands v (Late fault)) w ≡ Some at → (w ≡ v) ⊎ (w ≢ v) → Tells plan rows visits outputs w other at
-      at_late w other at e g (inl same) =
+      at_fault : (w : ℕ) (other : Node) (at : Stand) → slice_get plan.net.nodes w ≡ Some other → slice_get (set stands v stand) w ≡ Some at → (w ≡ v) ⊎ (w ≢ v) → Tells plan rows visits outputs w other at
+      at_fault w other at e g (inl same) =
           let in_stands : v < length stands = subst (λ m. v < m) (sym r.stand) inside in
-          let is-late : Late fault ≡ at = some_inj _ _ (sym (get-set_same stands v (Late fault) in_stands) ∙ (ap (slice_get (set stands v (Late fault))) (sym same) ∙ g)) in
-          subst (λ (p : ℕ × Node × Stand). Tells plan rows visits outputs p.0 p.1 p.2) (λ i. (sym same i, same-node w other same e i, is-late i)) k
-      at_late w other at e g (inr apart) = r.told w other at e (sym (get-set_other stands v w (Late fault) apart) ∙ g)
+          let is-it : stand ≡ at = some_inj _ _ (sym (get-set_same stands v stand in_stands) ∙ (ap (slice_get (set stands v stand)) (sym same) ∙ g)) in
+          subst (λ (p : ℕ × Node × Stand). Tells plan rows visits outputs p.0 p.1 p.2) (λ i. (sym same i, same-node w other same e i, is-it i)) k
+      at_fault w other at e g (inr apart) = r.told w other at e (sym (get-set_other stands v w stand apart) ∙ g)
 
 -- a node worked out that is put down keeps what is reached
 put-ending : (plan : Plan) (rows : Rows) (v : ℕ) (node : Node) (ending : Ending) (visits visits' : List Visits) (outputs outputs' : List (List Stream)) (stands stands' : List Stand) → slice_get plan.net.nodes v ≡ Some node → IsReached plan rows visits outputs stands → IsKnown plan rows v node ending →
     IsEndPut v ending visits outputs stands visits' outputs' stands' → IsReached plan rows visits' outputs' stands'
 put-ending plan rows v node (OnTime came left) visits visits' outputs outputs' stands stands' there r k h =
     subst (λ (p : List Visits × List (List Stream) × List Stand). IsReached plan rows p.0 p.1 p.2) (λ i. (sym h.0 i, sym h.1 i, sym h.2 i)) (on-time plan rows visits outputs stands v node there r came left k)
+put-ending plan rows v node (TooMany fault) visits visits' outputs outputs' stands stands' there r k h =
+    subst (λ (p : List Visits × List (List Stream) × List Stand). IsReached plan rows p.0 p.1 p.2) (λ i. (sym h.0 i, sym h.1 i, sym h.2 i)) (refused plan rows visits outputs stands v node there r (Crowded fault) k)
 put-ending plan rows v node (TooLate fault) visits visits' outputs outputs' stands stands' there r k h =
-    subst (λ (p : List Visits × List (List Stream) × List Stand). IsReached plan rows p.0 p.1 p.2) (λ i. (sym h.0 i, sym h.1 i, sym h.2 i)) (too-late plan rows visits outputs stands v node there r fault k)
+    subst (λ (p : List Visits × List (List Stream) × List Stand). IsReached plan rows p.0 p.1 p.2) (λ i. (sym h.0 i, sym h.1 i, sym h.2 i)) (refused plan rows visits outputs stands v node there r (Late fault) k)
 
 pub put-keeps : (plan : Plan) (rows : Rows) (node_result : NodeResult) (visits visits' : List Visits) (outputs outputs' : List (List Stream)) (stands stands' : List Stand) → IsReached plan rows visits outputs stands → IsWorkedOut plan rows node_result →
     IsPut node_result visits outputs stands visits' outputs' stands' → IsReached plan rows visits' outputs' stands'

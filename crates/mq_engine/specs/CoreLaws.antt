@@ -1,16 +1,16 @@
--- The laws of runs that the engine rests on, each proved in the core.
-use Rattle.mq_core.specs.SequenceLaws.{ArrivalsAreStreams, SequencesAreBlind, SequencesGoByFates, FatesAreInTime, JobsAreRows, NoKindCopies, NodesAreSequences, OrdersKeepItems, StreamsRise, VisitsAreFew}
-use Rattle.mq_core.specs.NumberLaws.{OnTimeGrows, PastIsFirst, PastIsNone}
+-- The laws that the engine rests on: those of runs, and of what is gathered at a join.
+use Rattle.mq_core.specs.SequenceLaws.{ArrivalsAreStreams, SequencesAreBlind, SequencesGoByFates, FatesAreInTime, JobsAreRows, NodesAreSequences, OrdersKeepItems, StreamsRise}
+use Rattle.mq_core.specs.NumberLaws.{RefusalIsFirst, RefusalIsNone}
 use Rattle.mq_core.specs.PlanLaws.{NodesAreInLimits, OrdersRank, RowsTellDemands}
 use Rattle.mq_core.specs.RunLaws.{SequencesMakeRuns, OutputsHaveStreams, StreamsMakeOutputs}
+use Rattle.mq_join.specs.Gathers.{GatheredCame}
+use Rattle.mq_stats.specs.RunNumbers.{RunsGiveStreams}
 
 pub record CoreLaws : Type 0 where
   pub limits : NodesAreInLimits
   pub ranks : OrdersRank
   pub demands : RowsTellDemands
   pub arrivals : ArrivalsAreStreams
-  pub single : NoKindCopies
-  pub few : VisitsAreFew
   pub jobs : JobsAreRows
   pub fates : FatesAreInTime
   pub keeps : OrdersKeepItems
@@ -21,6 +21,7 @@ pub record CoreLaws : Type 0 where
   pub have : OutputsHaveStreams
   pub make : StreamsMakeOutputs
   pub runs : SequencesMakeRuns
-  pub grows : OnTimeGrows
-  pub first : PastIsFirst
-  pub none : PastIsNone
+  pub first : RefusalIsFirst
+  pub none : RefusalIsNone
+  pub gathered : GatheredCame
+  pub leave : RunsGiveStreams

@@ -1,8 +1,8 @@
 -- What comes to the nodes that are ready, and what the pieces of a wave are.
-use Rattle.std.specs.Prelude.{◌≡◌, ◌+◌, ◌*◌, ◌≤◌, ℕ, List, [], ◌∷◌, Contains, length, map, min, Some, None, slice_get}
+use Rattle.std.specs.Prelude.{◌≡◌, ◌+◌, ◌*◌, ◌≤◌, ℕ, List, [], ◌∷◌, Contains, length, map, min, true, Some, None, slice_get}
 use Rattle.mq_base.specs.Lists.{between}
 use Rattle.mq_core.specs.Came.{came_in}
-use Rattle.mq_core.specs.SequenceLaws.{arrives_of, jobs_of}
+use Rattle.mq_core.specs.SequenceLaws.{arrives_of, jobs_of, sends_once}
 use Rattle.mq_core.specs.Sequences.{sequence_fates, sequence_late_from, stream_in_order}
 use Rattle.mq_core.specs.OnceOut.{founds_of}
 use Rattle.mq_core.specs.Handling.{demand_of_job}
@@ -26,10 +26,9 @@ use Rattle.mq_core.specs.declared.model.Stream.{Stream}
 use Rattle.mq_scan.specs.declared.blocks.Blocks.{Blocks}
 use Rattle.mq_stats.specs.Ahead.{IsAhead}
 use Rattle.mq_stations.specs.Late.{late_told}
-use Rattle.mq_stations.specs.Leaving.{AreDepartures, AreServed, IsLeaving, IsLoad, KeepsOrder}
+use Rattle.mq_stations.specs.Leaving.{AreDepartures, AreServed, AreStreams, IsLeaving, IsLoad}
 use Rattle.mq_stations.specs.Scans.{AreFewBlocks, AreSplitParts, AreTandemCarries, AreTandemTimes, IsForkJoinScan, IsTandemScan, IsTandemSum}
 use Rattle.mq_engine.specs.Progress.{IsWorkedOut}
-use Rattle.mq_engine.specs.Working.{AreStreams}
 use Rattle.mq_engine.specs.declared.exits.Closed.{Closed}
 use Rattle.mq_engine.specs.declared.exits.Closed.TheVariants.{Found, Jobs, Over, Times}
 use Rattle.mq_engine.specs.declared.exits.Exit.{Exit}
@@ -64,10 +63,11 @@ IsScanOf rows kind arrivals (OfTandem scan) = (stages : List TandemStage) × (ki
 IsScanOf rows kind arrivals (OfForkJoin scan) = (branches : List (List Demand)) × (kind ≡ ForkJoin branches) × IsForkJoinScan rows branches arrivals scan
 IsScanOf rows kind arrivals (OfSplit blocks) = (route : Route) × (kind ≡ Split route) × AreFewBlocks (length arrivals.time) 16384 blocks
 
--- what comes to a node is what comes in the run, and it can be worked on
+-- what comes to a node that lets each job out once, alone, is what comes in the run, and it can be worked on
 pub record IsLoaded (plan : Plan) (rows : Rows) (v : ℕ) (arrivals : Stream) (scan : Scan) : Type 0 where
   pub node : Node
   pub there : slice_get plan.net.nodes v ≡ Some node
+  pub once : sends_once node.kind ≡ true
   pub came : IsArrived plan rows v arrivals
   pub load : IsLoad rows node.kind arrivals
   pub scanned : IsScanOf rows node.kind arrivals scan
@@ -225,7 +225,7 @@ IsUnbegun Unbegun = Unit {0}
 
 -- the jobs of a split of the plan go on as they come, in these streams
 abbrev pub AreSplitStreams : Plan → Rows → ℕ → Stream → List Stream → Type 0
-AreSplitStreams plan rows v arrivals streams = (node : Node) → slice_get plan.net.nodes v ≡ Some node → IsLeaving rows node.kind arrivals (map (λ time. Departs time) arrivals.time) streams × KeepsOrder node.kind
+AreSplitStreams plan rows v arrivals streams = (node : Node) → slice_get plan.net.nodes v ≡ Some node → IsLeaving rows node.kind arrivals (map (λ time. Departs time) arrivals.time) streams
 
 -- what leaves a split is known
 abbrev pub IsSplitStage : Plan → Rows → ℕ → Stream → Stage → Type 0

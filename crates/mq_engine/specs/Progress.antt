@@ -1,9 +1,11 @@
 -- How far a run has come: which nodes are done, which of them may be worked out next, and what that gives.
-use Rattle.std.specs.Prelude.{◌≡◌, ◌<◌, ◌&&◌, ℕ, Bool, true, false, List, length, Option, Some, None, slice_get, slice_set}
+use Rattle.std.specs.Prelude.{◌≡◌, ◌<◌, ◌≤◌, ◌&&◌, ℕ, Bool, true, false, List, length, Option, Some, None, slice_get, slice_set}
 use Rattle.std.specs.List.{AllByRecursion, list_all, zip}
+use Rattle.mq_core.specs.Alone.{came}
 use Rattle.mq_core.specs.Came.{came_in}
-use Rattle.mq_core.specs.SequenceLaws.{arrives_of, jobs_of}
-use Rattle.mq_core.specs.Sequences.{sequence_fates, sequence_late, sequence_late_from, streams_below}
+use Rattle.mq_core.specs.Laws.{in_order_of}
+use Rattle.mq_core.specs.SequenceLaws.{arrives_of, jobs_of, sends_once}
+use Rattle.mq_core.specs.Sequences.{sequence_fates, sequence_late_from, sequence_refusal, streams_below}
 use Rattle.mq_core.specs.Streams.{by_first}
 use Rattle.mq_core.specs.Results.{first_of, visits_of}
 use Rattle.mq_core.specs.RunLaws.{HasSequences}
@@ -18,24 +20,28 @@ use Rattle.mq_core.specs.declared.model.Rows.{Rows}
 use Rattle.mq_core.specs.declared.model.Stream.{Stream}
 use Rattle.mq_core.specs.declared.model.Visits.{Visits}
 use Rattle.mq_stations.specs.Late.{late_told}
-use Rattle.mq_engine.specs.Working.{AreEarly, IsThere, IsResult, arriving}
+use Rattle.mq_core.specs.Wiring.{is_source_kind}
+use Rattle.mq_engine.specs.Refusals.{over_told, past_told}
+use Rattle.mq_engine.specs.Working.{AreEarly, IsThere, IsResult, arriving, pairs_read, read_by}
 use Rattle.mq_stations.specs.Leaving.{IsEarlyStream}
 use Rattle.mq_engine.specs.declared.progress.Stand.{Stand}
-use Rattle.mq_engine.specs.declared.progress.Stand.TheVariants.{Waiting, Done, Late}
+use Rattle.mq_engine.specs.declared.progress.Stand.TheVariants.{Waiting, Done, Crowded, Late}
 use Rattle.mq_engine.specs.declared.working.NodeResult.{NodeResult}
 use Rattle.mq_engine.specs.declared.working.Ending.{Ending}
-use Rattle.mq_engine.specs.declared.working.Ending.TheVariants.{OnTime, TooLate}
+use Rattle.mq_engine.specs.declared.working.Ending.TheVariants.{OnTime, TooMany, TooLate}
 
 -- a node that is not worked out yet
 abbrev pub is_waiting : Stand → Bool
 is_waiting Waiting = true
 is_waiting Done = false
+is_waiting (Crowded fault) = false
 is_waiting (Late fault) = false
 
 -- a node whose sequences are there
 abbrev pub is_done : Stand → Bool
 is_done Waiting = false
 is_done Done = true
+is_done (Crowded fault) = false
 is_done (Late fault) = false
 
 abbrev pub stands_at : (Stand → Bool) → Option Stand → Bool
@@ -59,21 +65,40 @@ pub record AreWithin (nodes : List Node) (order : List ℕ) : Type 0 where
   pub ranked : (rank v : ℕ) → slice_get order rank ≡ Some v → v < length nodes
   pub reads : (v port : ℕ) (node : Node) (input : Input) → slice_get nodes v ≡ Some node → slice_get node.inputs port ≡ Some input → input.node < length nodes
 
--- a node can be worked out: what it reads is there, and what comes to it is what comes in the run
+-- all has come to a node: what it reads is there, no stream longer than that, and what comes to it is what comes in the run, with
+-- the port of each and without
+pub record HasAll (plan : Plan) (rows : Rows) (outputs : List (List Stream)) (v : ℕ) : Type 0 where
+  pub inside : v < length plan.net.nodes
+  pub there : (node : Node) (port : ℕ) (input : Input) → slice_get plan.net.nodes v ≡ Some node → slice_get node.inputs port ≡ Some input → IsThere outputs input
+  pub short : (node : Node) (port : ℕ) (input : Input) → slice_get plan.net.nodes v ≡ Some node → slice_get node.inputs port ≡ Some input → length (pairs_read outputs input) ≤ 1048576
+  pub comes : (node : Node) → slice_get plan.net.nodes v ≡ Some node →
+      zip (arrives_of ((run_of plan rows).stations v).visits) (jobs_of ((run_of plan rows).stations v).visits) ≡ by_first (arriving rows v node outputs)
+  pub ports : (node : Node) → slice_get plan.net.nodes v ≡ Some node → is_source_kind node.kind ≡ false →
+      came ((run_of plan rows).stations v).visits ≡ in_order_of (λ (p : ℕ × ℕ × ℕ). p.0) (read_by outputs 0 node.inputs)
+
+-- all has come to each of these nodes
+abbrev pub HaveAll : Plan → Rows → List (List Stream) → List ℕ → Type 0
+HaveAll plan rows outputs ready = (k v : ℕ) → slice_get ready k ≡ Some v → HasAll plan rows outputs v
+
+-- a station can be worked out: it lets each job out once, alone, what it reads is there, and what comes to it is what comes in the
+-- run, no more than a node may have
 pub record CanWork (plan : Plan) (rows : Rows) (outputs : List (List Stream)) (v : ℕ) : Type 0 where
   pub inside : v < length plan.net.nodes
   pub there : (node : Node) (port : ℕ) (input : Input) → slice_get plan.net.nodes v ≡ Some node → slice_get node.inputs port ≡ Some input → IsThere outputs input
   pub comes : (node : Node) → slice_get plan.net.nodes v ≡ Some node →
       zip (arrives_of ((run_of plan rows).stations v).visits) (jobs_of ((run_of plan rows).stations v).visits) ≡ by_first (arriving rows v node outputs)
+  pub few : length ((run_of plan rows).stations v).visits ≤ 1048576
+  pub once : (node : Node) → slice_get plan.net.nodes v ≡ Some node → sends_once node.kind ≡ true
 
--- all of these nodes can
+-- all of these stations can
 abbrev pub CanWorkAll : Plan → Rows → List (List Stream) → List ℕ → Type 0
 CanWorkAll plan rows outputs ready = (k v : ℕ) → slice_get ready k ≡ Some v → CanWork plan rows outputs v
 
--- how a node ends that was worked out: with the sequences of its arrivals, none of them late, or with the first late visit
+-- how a station ends that was worked out: with the sequences of its arrivals, none of them late, or with the first late visit
 abbrev pub IsEnding : Network → Rows → ℕ → Kind → Stream → Ending → Type 0
 IsEnding net rows v kind arrivals (OnTime visits streams) =
     IsResult rows kind arrivals visits streams × (first_of (sequence_late_from net.bound v 0 (sequence_fates rows kind (came_in arrivals))) ≡ None)
+IsEnding net rows v kind arrivals (TooMany fault) = ⊥
 IsEnding net rows v kind arrivals (TooLate fault) =
     first_of (sequence_late_from net.bound v 0 (sequence_fates rows kind (came_in arrivals))) ≡ Some (late_told fault)
 
@@ -82,9 +107,11 @@ abbrev pub IsKnown : Plan → Rows → ℕ → Node → Ending → Type 0
 IsKnown plan rows v node (OnTime visits streams) =
     (visits ≡ visits_of node.kind ((run_of plan rows).stations v)) × (streams ≡ streams_below (run_of plan rows) v (outputs_in node.kind))
     × ((out : ℕ) (stream : Stream) → slice_get streams out ≡ Some stream → IsEarlyStream stream)
-    × (first_of (sequence_late plan.net.bound v (visits_of node.kind ((run_of plan rows).stations v))) ≡ None)
+    × (sequence_refusal plan.net.bound v (visits_of node.kind ((run_of plan rows).stations v)) ≡ None)
+IsKnown plan rows v node (TooMany fault) =
+    sequence_refusal plan.net.bound v (visits_of node.kind ((run_of plan rows).stations v)) ≡ Some (over_told fault)
 IsKnown plan rows v node (TooLate fault) =
-    first_of (sequence_late plan.net.bound v (visits_of node.kind ((run_of plan rows).stations v))) ≡ Some (late_told fault)
+    sequence_refusal plan.net.bound v (visits_of node.kind ((run_of plan rows).stations v)) ≡ Some (past_told fault)
 
 -- what was worked out of a node is what the run has
 abbrev pub IsWorkedOut : Plan → Rows → NodeResult → Type 0
@@ -99,14 +126,18 @@ abbrev pub Tells : Plan → Rows → List Visits → List (List Stream) → ℕ 
 Tells plan rows visits outputs v node Waiting = Unit {0}
 Tells plan rows visits outputs v node Done =
     HasSequences (run_of plan rows) (record { visits = visits; outputs = outputs }) v node
-    × (first_of (sequence_late plan.net.bound v (visits_of node.kind ((run_of plan rows).stations v))) ≡ None)
+    × (sequence_refusal plan.net.bound v (visits_of node.kind ((run_of plan rows).stations v)) ≡ None)
+Tells plan rows visits outputs v node (Crowded fault) =
+    sequence_refusal plan.net.bound v (visits_of node.kind ((run_of plan rows).stations v)) ≡ Some (over_told fault)
 Tells plan rows visits outputs v node (Late fault) =
-    first_of (sequence_late plan.net.bound v (visits_of node.kind ((run_of plan rows).stations v))) ≡ Some (late_told fault)
+    sequence_refusal plan.net.bound v (visits_of node.kind ((run_of plan rows).stations v)) ≡ Some (past_told fault)
 
--- what ended on time is put at its node, and what ended late leaves the fault there
+-- what ended on time is put at its node, and what ended with a fault leaves it there
 abbrev pub IsEndPut : ℕ → Ending → List Visits → List (List Stream) → List Stand → List Visits → List (List Stream) → List Stand → Type 0
 IsEndPut v (OnTime came left) visits outputs stands visits' outputs' stands' =
     (visits' ≡ slice_set visits v came) × (outputs' ≡ slice_set outputs v left) × (stands' ≡ slice_set stands v Done)
+IsEndPut v (TooMany fault) visits outputs stands visits' outputs' stands' =
+    (visits' ≡ visits) × (outputs' ≡ outputs) × (stands' ≡ slice_set stands v (Crowded fault))
 IsEndPut v (TooLate fault) visits outputs stands visits' outputs' stands' =
     (visits' ≡ visits) × (outputs' ≡ outputs) × (stands' ≡ slice_set stands v (Late fault))
 

@@ -209,6 +209,8 @@ fn opened(
             Ok(After::Seen(Fates::departures(departs), found, streams))
         }
         Some(Closed::Over(past)) => Ok(After::Missed(past)),
-        _ => unreachable!(),
+        Some(Closed::Found(_found)) => unreachable!(),
+        Some(Closed::Jobs(_jobs)) => unreachable!(),
+        None => unreachable!(),
     }
 }

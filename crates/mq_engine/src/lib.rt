@@ -3,7 +3,7 @@
 
 ghost use Rattle.std.specs.Prelude.{◌≡◌, ◌≤◌, [], filter, IfErr, IfOk, None};
 ghost use Rattle.mq_core.specs.Sequences.{IsRunOf};
-ghost use Rattle.mq_core.specs.Results.{past_of};
+ghost use Rattle.mq_core.specs.Results.{refusal_of};
 ghost use Rattle.mq_core.specs.Theorems.{IsReadFor};
 ghost use Rattle.mq_engine.specs.Answer.{IsCause};
 ghost use Rattle.mq_engine.specs.CoreLaws.{CoreLaws};
@@ -14,6 +14,7 @@ mod exits;
 mod fault;
 mod firsts;
 mod founds;
+mod gathering;
 mod laws;
 mod loads;
 mod merges;
@@ -22,18 +23,19 @@ mod overtaking;
 mod progress;
 mod ready;
 mod splitting;
+mod wave;
 mod working;
 
 use crate::laws::core_laws;
 use crate::loads::Arriving;
 use crate::progress::{Progress, Stand, beginning, ready_nodes, settle};
-use crate::ready::results_of;
+use crate::wave::wave_of;
 pub use fault::RunFault;
 use mq_base::List;
 use mq_core::{Plan, Rows, Run};
 use mq_crew::Gate;
 pub use mq_pass::chain_departures;
-pub use mq_stations::PastFault;
+pub use mq_stations::{OverFault, PastFault};
 use std::alloc::Global;
 use std::thread::Threads;
 
@@ -48,11 +50,12 @@ use std::thread::Threads;
 /// scanned (Greenberg, Lubachevsky and Mitrani 1991): a server in a single pass (`chain_departures`), a fork-join
 /// server after server of its branches. A split is cut likewise, and what leaves its blocks put one behind the
 /// other. A block is also the first window of a loss station. The gate is entered with each piece and each block
-/// that is drawn. The run is the same for all workers, blocks and gates.
+/// that is drawn. A fork and a join are one piece each. The run is the same for all workers, blocks and gates.
 ///
-/// It refuses a run in which a visit departs after the bound, and names the first such visit by rank
-/// of the node and then position; nodes behind one with such a visit are left out. Else it refuses
-/// for want of memory alone.
+/// It refuses a run in which a node has more than 1,048,576 visits, or a visit departs after the bound:
+/// it names the first node by rank of which that is so, with the number of its visits where they are too
+/// many, else with its first such visit by position. A node with too many visits, and nodes behind either,
+/// are left out. Else it refuses for want of memory alone.
 pub fn run<R: Threads + Sync, G: Gate>(
     rt: &R,
     alloc: Global,
@@ -67,7 +70,7 @@ pub fn run<R: Threads + Sync, G: Gate>(
     requires most { workers ≤ 64 }
     requires block { 1 ≤ block }
     ensures ok { IfOk result (λ run. IsRunOf plan.now rows.now run) }
-    ensures on_time { IfOk result (λ run. past_of plan.now rows.now ≡ None) }
+    ensures fine { IfOk result (λ run. refusal_of plan.now rows.now ≡ None) }
     ensures cause { IfErr result (λ fault. IsCause plan.now rows.now fault) }
 {
     core_laws();
@@ -85,25 +88,26 @@ pub fn run<R: Threads + Sync, G: Gate>(
             workers,
             block,
         };
-        let results = results_of(rt, alloc, &arriving, workers, gate)?;
+        let results = wave_of(rt, alloc, &arriving, gate)?;
         settle(&mut progress, results);
     }
 }
 
 // The run, where no node is ready any more: all nodes are done, or the first by rank that is not
-// has a visit that departs after the bound.
+// has too many visits or one that departs after the bound.
 fn ended(plan: &Plan, rows: &Rows, progress: Progress) -> Result<Run, RunFault>
     requires read { IsReadFor plan.now.net rows.now }
     requires laws { CoreLaws }
     requires reached { IsReached plan.now rows.now progress.visits.items progress.outputs.items progress.stands.items }
     requires stuck { filter (is_ready plan.now.net.nodes progress.stands.items) plan.now.order ≡ [] }
     ensures ok { IfOk result (λ run. IsRunOf plan.now rows.now run) }
-    ensures on_time { IfOk result (λ run. past_of plan.now rows.now ≡ None) }
+    ensures fine { IfOk result (λ run. refusal_of plan.now rows.now ≡ None) }
     ensures cause { IfErr result (λ fault. IsCause plan.now rows.now fault) }
 {
     for rank in 0..plan.order.len() {
         match progress.stands[*plan.order.get(rank) as usize] {
             Stand::Done => {}
+            Stand::Crowded(over) => return Err(RunFault::Over(over)),
             Stand::Late(past) => return Err(RunFault::Past(past)),
             Stand::Waiting => unreachable!(),
         }

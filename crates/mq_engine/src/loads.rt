@@ -210,5 +210,7 @@ fn scan_of(
         )?)),
         Kind::Split(_) => Ok(Scan::OfSplit(split_blocks(arrivals, block))),
         Kind::Source | Kind::Delay(_) | Kind::Loss { .. } => Ok(Scan::Unscanned),
+        // Those are no stations, and never come here.
+        Kind::Fork { .. } | Kind::Join => Ok(Scan::Unscanned),
     }
 }

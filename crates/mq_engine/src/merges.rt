@@ -97,7 +97,7 @@ fn blocks_of(arriving: &Arriving, first: &Stream, second: &Stream) -> Blocks
 }
 
 // Whether a node is a source.
-fn is_source(kind: &Kind) -> bool
+pub fn is_source(kind: &Kind) -> bool
     ensures { result ≡ is_source_kind kind.now }
 {
     match kind {

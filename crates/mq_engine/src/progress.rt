@@ -10,7 +10,7 @@ ghost use Rattle.mq_engine.specs.Progress.{AreWaiting, AreWithin, AreWorkedOut, 
 use crate::working::{Ending, NodeResult};
 use mq_base::{List, OutOfMemory};
 use mq_core::{Fates, Input, Node, Plan, Stream, Visits};
-use mq_stations::PastFault;
+use mq_stations::{OverFault, PastFault};
 use std::alloc::Global;
 
 /// What stands at a node.
@@ -20,6 +20,8 @@ pub enum Stand {
     Waiting,
     /// Its sequences are there.
     Done,
+    /// It has more visits than a node may have. It and the nodes behind it are left out.
+    Crowded(OverFault),
     /// Its first visit that departs after the bound. Nodes behind it are left out.
     Late(PastFault),
 }
@@ -87,8 +89,7 @@ fn may_work(nodes: &List<Node>, stands: &[Stand], number: u32) -> bool
 {
     match stands[number as usize] {
         Stand::Waiting => all_done(stands, &nodes.get(number as usize).inputs),
-        Stand::Done => false,
-        Stand::Late(_) => false,
+        Stand::Done | Stand::Crowded(_) | Stand::Late(_) => false,
     }
 }
 
@@ -111,7 +112,7 @@ fn has_ended(stand: Stand) -> bool
 {
     match stand {
         Stand::Done => true,
-        Stand::Waiting | Stand::Late(_) => false,
+        Stand::Waiting | Stand::Crowded(_) | Stand::Late(_) => false,
     }
 }
 
@@ -143,6 +144,7 @@ fn put(progress: &mut Progress, node_result: NodeResult)
             progress.outputs[at] = streams;
             progress.stands[at] = Stand::Done;
         }
+        Ending::TooMany(over) => progress.stands[at] = Stand::Crowded(over),
         Ending::TooLate(past) => progress.stands[at] = Stand::Late(past),
     }
 }

@@ -14,7 +14,7 @@ use crate::firsts::{Part, Stage};
 use crate::loads::Load;
 use crate::working::{After, nobody};
 use mq_base::{List, OutOfMemory};
-use mq_core::{Fates, Kind, Route, Stream, sequences_go_by_fates};
+use mq_core::{Fates, Kind, Route, Stream};
 use mq_scan::Blocks;
 use mq_stations::{split_joined, split_part};
 use std::alloc::Global;
@@ -109,7 +109,6 @@ pub fn passed(load: &Load, group: List<Closed>, streams: List<Stream>) -> After
     requires group { AreAll (IsShut load.now.plan.now load.now.rows.now load.now.number load.now.arrivals load.now.arrivals.time) 2 group }
     ensures { IsAfterAt load.now.plan.now load.now.rows.now load.now.number load.now.arrivals result }
 {
-    sequences_go_by_fates();
     let mut group = group.into_vec();
     let found = match group.pop() {
         Some(Closed::Found(found)) => found,

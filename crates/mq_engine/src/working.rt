@@ -1,5 +1,6 @@
 // How a node is worked out, from its arrivals to its visits and what leaves it.
-ghost use Rattle.std.specs.Prelude.{◌≡◌, ◌≤◌, ℕ, length, map, IfOk};
+ghost use Rattle.std.specs.Prelude.{◌≡◌, ◌≤◌, ℕ, length, map, true, IfOk};
+ghost use Rattle.mq_core.specs.SequenceLaws.{sends_once};
 ghost use Rattle.mq_core.specs.Sequences.{IsStream};
 ghost use Rattle.mq_core.specs.OnceOut.{founds_of};
 ghost use Rattle.mq_core.specs.Laws.{Rises};
@@ -9,13 +10,13 @@ ghost use Rattle.mq_core.specs.declared.model.Network.{Network as TheNetwork};
 ghost use Rattle.mq_core.specs.declared.model.Rows.{Rows as TheRows};
 ghost use Rattle.mq_engine.specs.Loads.{IsAfter, IsWorked};
 ghost use Rattle.mq_engine.specs.Progress.{IsEnding};
-ghost use Rattle.mq_stations.specs.Leaving.{IsLeaving, IsLoad, KeepsOrder};
+ghost use Rattle.mq_stations.specs.Leaving.{IsLeaving, IsLoad};
 
 use mq_base::{List, OutOfMemory};
 use mq_core::{
     Fates, Kind, Network, Rows, Stream, Visits, fates_are_in_time, sequences_go_by_fates,
 };
-use mq_stations::{Left, Outflow, PastFault, first_late, leaving};
+use mq_stations::{Left, Outflow, OverFault, PastFault, first_late, leaving};
 use mq_stats::{found, found_piece_in_order};
 use std::alloc::Global;
 
@@ -32,6 +33,8 @@ pub struct NodeResult {
 pub enum Ending {
     /// With its visits and what leaves it by each output: no visit departs after the bound.
     OnTime(Visits, List<Stream>),
+    /// With more visits than it may have: it is not worked out.
+    TooMany(OverFault),
     /// With the first visit that departs after the bound.
     TooLate(PastFault),
 }
@@ -65,6 +68,7 @@ pub fn work_out(
     arrivals: &Stream,
     block: u32,
 ) -> Result<Worked, OutOfMemory>
+    requires once { sends_once kind.now ≡ true }
     requires load { IsLoad rows.now kind.now arrivals.now }
     requires some { 1 ≤ block }
     ensures { IfOk result (λ worked. IsWorked net.now rows.now number kind.now arrivals.now worked) }
@@ -85,9 +89,9 @@ fn seen(
     arrivals: &Stream,
     leaving: Outflow,
 ) -> Result<Worked, OutOfMemory>
+    requires once { sends_once kind.now ≡ true }
     requires load { IsLoad rows.now kind.now arrivals.now }
     requires leaving { IsLeaving rows.now kind.now arrivals.now leaving.fates leaving.streams }
-    requires order { KeepsOrder kind.now }
     ensures { IfOk result (λ worked. IsWorked net.now rows.now number kind.now arrivals.now worked) }
 {
     fates_are_in_time();
@@ -104,7 +108,7 @@ fn seen(
 
 // How a node ends to which these came.
 pub fn ending_of(arrivals: Stream, after: After) -> Ending
-    ensures { (net : TheNetwork) (rows : TheRows) (v : ℕ) (kind : TheKind) → IsAfter net rows v kind arrivals after → IsEnding net rows v kind arrivals result }
+    ensures { (net : TheNetwork) (rows : TheRows) (v : ℕ) (kind : TheKind) → sends_once kind ≡ true → IsAfter net rows v kind arrivals after → IsEnding net rows v kind arrivals result }
 {
     sequences_go_by_fates();
     match after {
@@ -129,6 +133,7 @@ fn found_at(
     arrivals: &Stream,
     leaving: &Outflow,
 ) -> Result<List<u32>, OutOfMemory>
+    requires once { sends_once kind.now ≡ true }
     requires load { IsLoad rows.now kind.now arrivals.now }
     requires leaving { IsLeaving rows.now kind.now arrivals.now leaving.now.fates leaving.now.streams }
     ensures { IfOk result (λ found. found ≡ founds_of arrivals.now.time leaving.now.fates) }

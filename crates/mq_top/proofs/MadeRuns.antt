@@ -1,7 +1,7 @@
 -- What follows for the answer, and for how a run ends, where the model and the trace are accepted.
 use Rattle.std.proofs.Common.{◌≡◌, ◌∙◌, ℕ, Bool, true, false, List, Option, Some, None, is_some, refl, sym, ap, ap₂, subst, true≢false}
 use Rattle.std.specs.Prelude.{◌≢◌}
-use Rattle.mq_core.specs.NetworkRun.{past_in}
+use Rattle.mq_core.specs.NetworkRun.{refusal_in}
 use Rattle.mq_core.specs.declared.model.Network.{Network}
 use Rattle.mq_core.specs.declared.model.Rows.{Rows}
 use Rattle.mq_gen.specs.Accepted.{IsAccepted}
@@ -10,10 +10,10 @@ use Rattle.mq_model.specs.NetworkOf.{network_in}
 use Rattle.mq_report.specs.Text.{report_in}
 use Rattle.mq_trace.specs.Trace.{rows_in}
 use Rattle.mq_top.specs.Answer.{Answer, answer, model_answer, run_answer, trace_answer}
-use Rattle.mq_top.specs.Answer.Answer.{ModelRefused, TraceRefused, PassesBound, Reported}
+use Rattle.mq_top.specs.Answer.Answer.{ModelRefused, TraceRefused, Refused, Reported}
 use Rattle.mq_top.specs.Ends.{Ends, IsOfMade, RefusesModel, RefusesTrace, Taken}
 use Rattle.mq_outcome.specs.declared.outcome.Outcome.{Outcome}
-use Rattle.mq_outcome.specs.declared.outcome.Outcome.TheVariants.{Done, Usage, Model, Trace, Past, ReadFault, WriteFault, Memory}
+use Rattle.mq_outcome.specs.declared.outcome.Outcome.TheVariants.{Done, Usage, Model, Trace, Past, Over, ReadFault, WriteFault, Memory}
 
 some_is_none : {A : Type 0} {B : Type 0} (o : Option A) (x : A) → o ≡ Some x → o ≡ None → B
 some_is_none o x some none = absurd (true≢false (sym (ap is_some some) ∙ ap is_some none))
@@ -22,7 +22,7 @@ some_is_none o x some none = absurd (true≢false (sym (ap is_some some) ∙ ap 
 accepted_answer : (model trace : List ℕ) (jobs : Bool) → IsAccepted model trace → answer model trace jobs ≡ Reported (report_in (network_in model) (rows_in (network_in model) trace) jobs)
 accepted_answer model trace jobs a =
     ap (model_answer model trace jobs) a.model
-    ∙ (ap (trace_answer (network_in model) trace jobs) a.trace ∙ ap (run_answer (network_in model) (rows_in (network_in model) trace) jobs) a.past)
+    ∙ (ap (trace_answer (network_in model) trace jobs) a.trace ∙ ap (run_answer (network_in model) (rows_in (network_in model) trace) jobs) a.run)
 
 -- the same texts are accepted too
 pub same_accepted : (model trace model' trace' : List ℕ) → model' ≡ model → trace' ≡ trace → IsAccepted model trace → IsAccepted model' trace'
@@ -51,6 +51,7 @@ ends_at_model model trace jobs o t a refused unread = wants_memory model trace j
     go (Usage _) r u = elim r [ ]
     go (Trace _) r u = elim r [ ]
     go (Past _) r u = elim r [ ]
+    go (Over _) r u = elim r [ ]
     go (ReadFault true) r u = elim r [ ]
     go WriteFault r u = elim r [ ]
 
@@ -68,20 +69,21 @@ ends_at_trace model trace jobs net o t a is refused unread =
     go (Usage _) r u = elim r [ ]
     go (Model _) r u = elim r [ ]
     go (Past _) r u = elim r [ ]
+    go (Over _) r u = elim r [ ]
     go (ReadFault false) r u = elim r [ ]
     go WriteFault r u = elim r [ ]
 
 -- the run's own answer is that to the two texts
 run_is : (model trace : List ℕ) (jobs : Bool) (net : Network) (rows : Rows) → IsAccepted model trace → net ≡ network_in model → rows ≡ rows_in net trace
-    → run_answer net rows jobs (past_in net rows) ≡ answer model trace jobs
+    → run_answer net rows jobs (refusal_in net rows) ≡ answer model trace jobs
 run_is model trace jobs net rows a net_is rows_are =
     let same : rows ≡ rows_in (network_in model) trace = rows_are ∙ ap (λ n. rows_in n trace) net_is in
-    ap (λ (n : Network). run_answer n rows jobs (past_in n rows)) net_is
-    ∙ (ap (λ (r : Rows). run_answer (network_in model) r jobs (past_in (network_in model) r)) same
+    ap (λ (n : Network). run_answer n rows jobs (refusal_in n rows)) net_is
+    ∙ (ap (λ (r : Rows). run_answer (network_in model) r jobs (refusal_in (network_in model) r)) same
     ∙ (sym (ap (trace_answer (network_in model) trace jobs) a.trace) ∙ sym (ap (model_answer model trace jobs) a.model)))
 
 pub ends_at_run : (model trace : List ℕ) (jobs : Bool) (net : Network) (rows : Rows) (o : Outcome) (t : Taken) → IsAccepted model trace → net ≡ network_in model → rows ≡ rows_in net trace
-    → Ends (run_answer net rows jobs (past_in net rows)) o t → ((second : Bool) → o ≢ ReadFault second) → EndsAccepted model trace jobs o t
+    → Ends (run_answer net rows jobs (refusal_in net rows)) o t → ((second : Bool) → o ≢ ReadFault second) → EndsAccepted model trace jobs o t
 ends_at_run model trace jobs net rows o t a net_is rows_are ends unread =
     let whole : Ends (answer model trace jobs) o t = subst (λ b. Ends b o t) (run_is model trace jobs net rows a net_is rows_are) ends in
     record { ends = whole; made = go o (subst (λ b. Ends b o t) (accepted_answer model trace jobs a) whole) unread }
@@ -95,6 +97,7 @@ ends_at_run model trace jobs net rows o t a net_is rows_are ends unread =
     go (Model _) e u = elim e [ ]
     go (Trace _) e u = elim e [ ]
     go (Past _) e u = elim e [ ]
+    go (Over _) e u = elim e [ ]
 
 -- the report that is written is that of the answer
 pub report_is : (model trace : List ℕ) (jobs : Bool) (net : Network) (rows : Rows) (text : List ℕ) → IsAccepted model trace → net ≡ network_in model → rows ≡ rows_in net trace
@@ -108,7 +111,7 @@ report_is model trace jobs net rows text a net_is rows_are is =
     text_of (Reported t) = t
     text_of (ModelRefused f) = text
     text_of (TraceRefused f) = text
-    text_of (PassesBound late) = text
+    text_of (Refused why) = text
 
 -- the answer for one number, with the lines of the jobs or without
 pub same_answer : (number asked : ℕ) (jobs said : Bool) → number ≡ asked → jobs ≡ said → answer (made_model asked) (made_trace asked) said ≡ answer (made_model number) (made_trace number) jobs

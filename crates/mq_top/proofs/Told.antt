@@ -8,7 +8,7 @@ use Rattle.mq_model.specs.NetworkOf.{network_in}
 use Rattle.mq_top.specs.Answer.{answer, answer_over, model_answer}
 use Rattle.mq_top.specs.Ends.{RefusesModel, RefusesTrace}
 use Rattle.mq_outcome.specs.declared.outcome.Outcome.{Outcome}
-use Rattle.mq_outcome.specs.declared.outcome.Outcome.TheVariants.{Done, Usage, Model, Trace, Past, ReadFault, WriteFault, Memory}
+use Rattle.mq_outcome.specs.declared.outcome.Outcome.TheVariants.{Done, Usage, Model, Trace, Past, Over, ReadFault, WriteFault, Memory}
 
 pub if_told : (told : Option (List ℕ)) (P Q : List ℕ → Type 0) → IfSome told P → ((bytes : List ℕ) → P bytes → Q bytes) → IfSome told Q
 if_told None P Q h k = tt
@@ -33,6 +33,7 @@ model_refused Done None read is refused = elim refused [ ]
 model_refused (Usage _) None read is refused = elim refused [ ]
 model_refused (Trace _) None read is refused = elim refused [ ]
 model_refused (Past _) None read is refused = elim refused [ ]
+model_refused (Over _) None read is refused = elim refused [ ]
 model_refused (ReadFault true) None read is refused = elim refused [ ]
 model_refused WriteFault None read is refused = elim refused [ ]
 
@@ -45,6 +46,7 @@ trace_refused net Done None read is refused = elim refused [ ]
 trace_refused net (Usage _) None read is refused = elim refused [ ]
 trace_refused net (Model _) None read is refused = elim refused [ ]
 trace_refused net (Past _) None read is refused = elim refused [ ]
+trace_refused net (Over _) None read is refused = elim refused [ ]
 trace_refused net (ReadFault false) None read is refused = elim refused [ ]
 trace_refused net WriteFault None read is refused = elim refused [ ]
 

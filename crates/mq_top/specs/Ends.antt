@@ -3,15 +3,16 @@ use Rattle.std.specs.Prelude.{◌≡◌, ◌≢◌, ◌⊎◌, ◌<◌, ◌+◌,
 use Rattle.std.specs.Io.KnownBytes.{append_known}
 use Rattle.mq_outside.specs.Outside.{TakesPrefix, next_count}
 use Rattle.mq_core.specs.declared.model.Network.{Network}
+use Rattle.mq_core.specs.Results.Refusal.{Over as OverRefusal, Past as PastRefusal}
 use Rattle.mq_model.specs.Model.{model_fault}
 use Rattle.mq_model.specs.declared.fault.ModelFault.TheVariants as model
 use Rattle.mq_trace.specs.Trace.{trace_fault}
 use Rattle.mq_trace.specs.declared.fault.TraceFault.TheVariants as trace
 use Rattle.mq_top.specs.Answer.{Answer}
-use Rattle.mq_top.specs.Answer.Answer.{ModelRefused, TraceRefused, PassesBound, Reported}
+use Rattle.mq_top.specs.Answer.Answer.{ModelRefused, TraceRefused, Refused, Reported}
 use Rattle.mq_words.specs.Words.{refuses_words, usage_fault}
 use Rattle.mq_outcome.specs.declared.outcome.Outcome.{Outcome}
-use Rattle.mq_outcome.specs.declared.outcome.Outcome.TheVariants.{Done, Usage, Model, Trace, Past, ReadFault, WriteFault, Memory}
+use Rattle.mq_outcome.specs.declared.outcome.Outcome.TheVariants.{Done, Usage, Model, Trace, Past, Over, ReadFault, WriteFault, Memory}
 
 -- what a sink had taken, and has taken now, each where it is told, and its sure bytes then and now
 pub record Taken : Type 0 where
@@ -30,20 +31,40 @@ abbrev pub Ends : Answer → Outcome → Taken → Type 0
 Ends (ModelRefused f) (Model g) t = f ≡ g
 Ends (ModelRefused f) (ReadFault false) t = Unit {0}
 Ends (ModelRefused f) Memory t = Unit {0}
-Ends (ModelRefused f) _ t = ⊥
+Ends (ModelRefused f) Done t = ⊥
+Ends (ModelRefused f) (Usage g) t = ⊥
+Ends (ModelRefused f) (Trace g) t = ⊥
+Ends (ModelRefused f) (Past g) t = ⊥
+Ends (ModelRefused f) (Over g) t = ⊥
+Ends (ModelRefused f) (ReadFault true) t = ⊥
+Ends (ModelRefused f) WriteFault t = ⊥
 Ends (TraceRefused f) (Trace g) t = f ≡ g
 Ends (TraceRefused f) (ReadFault second) t = Unit {0}
 Ends (TraceRefused f) Memory t = Unit {0}
-Ends (TraceRefused f) _ t = ⊥
-Ends (PassesBound late) (Past f) t = late ≡ record { node = f.node; position = f.position; time = f.time }
-Ends (PassesBound late) (ReadFault second) t = Unit {0}
-Ends (PassesBound late) Memory t = Unit {0}
-Ends (PassesBound late) _ t = ⊥
+Ends (TraceRefused f) Done t = ⊥
+Ends (TraceRefused f) (Usage g) t = ⊥
+Ends (TraceRefused f) (Model g) t = ⊥
+Ends (TraceRefused f) (Past g) t = ⊥
+Ends (TraceRefused f) (Over g) t = ⊥
+Ends (TraceRefused f) WriteFault t = ⊥
+Ends (Refused why) (Past f) t = why ≡ PastRefusal (record { node = f.node; position = f.position; time = f.time })
+Ends (Refused why) (Over f) t = why ≡ OverRefusal f.node f.count
+Ends (Refused why) (ReadFault second) t = Unit {0}
+Ends (Refused why) Memory t = Unit {0}
+Ends (Refused why) Done t = ⊥
+Ends (Refused why) (Usage g) t = ⊥
+Ends (Refused why) (Model g) t = ⊥
+Ends (Refused why) (Trace g) t = ⊥
+Ends (Refused why) WriteFault t = ⊥
 Ends (Reported text) Done t = t.now ≡ append_known t.before text
 Ends (Reported text) WriteFault t = TakesPrefix t.before t.now t.sure_before t.sure_now text
 Ends (Reported text) (ReadFault second) t = Unit {0}
 Ends (Reported text) Memory t = Unit {0}
-Ends (Reported text) _ t = ⊥
+Ends (Reported text) (Usage g) t = ⊥
+Ends (Reported text) (Model g) t = ⊥
+Ends (Reported text) (Trace g) t = ⊥
+Ends (Reported text) (Past g) t = ⊥
+Ends (Reported text) (Over g) t = ⊥
 
 -- no read, one or two
 abbrev pub AtMostTwo : ℕ → ℕ → Type 0
@@ -55,14 +76,24 @@ Reads (Usage f) before now = now ≡ before
 Reads (Model f) before now = now ≡ next_count before
 Reads (ReadFault false) before now = now ≡ next_count before
 Reads Memory before now = AtMostTwo before now
-Reads _ before now = now ≡ next_count (next_count before)
+Reads Done before now = now ≡ next_count (next_count before)
+Reads (Trace f) before now = now ≡ next_count (next_count before)
+Reads (Past f) before now = now ≡ next_count (next_count before)
+Reads (Over f) before now = now ≡ next_count (next_count before)
+Reads (ReadFault true) before now = now ≡ next_count (next_count before)
+Reads WriteFault before now = now ≡ next_count (next_count before)
 
 -- an outcome of a made input, which is never refused and reads no file
 abbrev pub IsOfMade : Outcome → Type 0
 IsOfMade Done = Unit {0}
 IsOfMade WriteFault = Unit {0}
 IsOfMade Memory = Unit {0}
-IsOfMade _ = ⊥
+IsOfMade (Usage f) = ⊥
+IsOfMade (Model f) = ⊥
+IsOfMade (Trace f) = ⊥
+IsOfMade (Past f) = ⊥
+IsOfMade (Over f) = ⊥
+IsOfMade (ReadFault second) = ⊥
 
 -- The count of faults rose in this read of a call, from 1. It is stated where the number of reads is below 2 ^ 63 at entry.
 abbrev pub FailedAt : (nth reads reads' faults' : ℕ) → Type 0
@@ -72,34 +103,61 @@ FailedAt nth reads reads' faults' = reads < 2 ^ 63 → (reads' ≡ reads + nth) 
 abbrev pub Untouched : {A : Type 0} → Outcome → A → A → Type 0
 Untouched Done before now = Unit {0}
 Untouched WriteFault before now = Unit {0}
-Untouched _ before now = now ≡ before
+Untouched (Usage f) before now = now ≡ before
+Untouched (Model f) before now = now ≡ before
+Untouched (Trace f) before now = now ≡ before
+Untouched (Past f) before now = now ≡ before
+Untouched (Over f) before now = now ≡ before
+Untouched (ReadFault second) before now = now ≡ before
+Untouched Memory before now = now ≡ before
 
 -- how a command may end before the model is read; want of memory comes only where the words pass the rule
 abbrev pub RefusesCall : List (List ℕ) → Outcome → Type 0
 RefusesCall words (Usage f) = usage_fault words ≡ Some f
 RefusesCall words Memory = refuses_words words ≡ false
-RefusesCall words _ = ⊥
+RefusesCall words Done = ⊥
+RefusesCall words (Model f) = ⊥
+RefusesCall words (Trace f) = ⊥
+RefusesCall words (Past f) = ⊥
+RefusesCall words (Over f) = ⊥
+RefusesCall words (ReadFault second) = ⊥
+RefusesCall words WriteFault = ⊥
 
 -- how an accepted command may end before the trace is read, where this is told of the model
 abbrev pub RefusesModel : Outcome → Option (List ℕ) → Type 0
 RefusesModel (Model f) told = (f ≢ model.Memory) × IfSome told (λ bytes. model_fault bytes ≡ Some f)
 RefusesModel (ReadFault false) told = Unit {0}
 RefusesModel Memory told = Unit {0}
-RefusesModel _ told = ⊥
+RefusesModel Done told = ⊥
+RefusesModel (Usage f) told = ⊥
+RefusesModel (Trace f) told = ⊥
+RefusesModel (Past f) told = ⊥
+RefusesModel (Over f) told = ⊥
+RefusesModel (ReadFault true) told = ⊥
+RefusesModel WriteFault told = ⊥
 
 -- how it may end before the run, where this is told of the trace
 abbrev pub RefusesTrace : Network → Outcome → Option (List ℕ) → Type 0
 RefusesTrace net (Trace f) told = (f ≢ trace.Memory) × IfSome told (λ bytes. trace_fault net bytes ≡ Some f)
 RefusesTrace net (ReadFault true) told = Unit {0}
 RefusesTrace net Memory told = Unit {0}
-RefusesTrace net _ told = ⊥
+RefusesTrace net Done told = ⊥
+RefusesTrace net (Usage f) told = ⊥
+RefusesTrace net (Model f) told = ⊥
+RefusesTrace net (Past f) told = ⊥
+RefusesTrace net (Over f) told = ⊥
+RefusesTrace net (ReadFault false) told = ⊥
+RefusesTrace net WriteFault told = ⊥
 
 -- an outcome that comes once the model was accepted
 abbrev pub IsLate : Outcome → Type 0
 IsLate Done = Unit {0}
 IsLate (Trace f) = f ≢ trace.Memory
 IsLate (Past f) = Unit {0}
+IsLate (Over f) = Unit {0}
 IsLate (ReadFault true) = Unit {0}
 IsLate WriteFault = Unit {0}
 IsLate Memory = Unit {0}
-IsLate _ = ⊥
+IsLate (Usage f) = ⊥
+IsLate (Model f) = ⊥
+IsLate (ReadFault false) = ⊥

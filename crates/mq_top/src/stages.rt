@@ -2,7 +2,7 @@
 ghost use Rattle.std.specs.Prelude.{◌≡◌, ◌≢◌, ◌⊎◌, ◌-◌, ◌^◌, ◌<◌, ◌≤◌, ℕ, List, Bool, true, false, length, Err, IsErrOf, IfOk, IfErr, IfSome, IsTrue, Some, None, []};
 ghost use Rattle.mq_outside.specs.Outside.{next_count, Rose};
 ghost use Rattle.mq_base.specs.Text.{texts};
-ghost use Rattle.mq_core.specs.NetworkRun.{past_in};
+ghost use Rattle.mq_core.specs.NetworkRun.{refusal_in};
 ghost use Rattle.mq_core.specs.Theorems.{IsReadFor};
 ghost use Rattle.mq_gen.specs.Accepted.{IsAccepted};
 ghost use Rattle.mq_gen.specs.Made.{made_model, made_trace};
@@ -24,6 +24,7 @@ use mq_model::{ModelFault, read_model};
 use mq_outcome::{Outcome, name_of, put_line};
 use mq_outside::{FileFault, Files, Sink};
 use mq_report::{node_totals, report};
+use mq_stats::runs_have_few_visits;
 use mq_trace::{TraceFault, read_trace};
 use mq_words::{Input, Settings, UsageFault, WordsFault, settings_of};
 use std::alloc::Global;
@@ -156,7 +157,7 @@ fn report_run<R: Threads + Sync, G: Gate, O: Sink>(
     out: &mut O,
 ) -> Outcome
     requires { IsReadFor plan.now.net rows.now }
-    ensures ends { Ends (run_answer plan.now.net rows.now jobs (past_in plan.now.net rows.now)) result (takings O.taken O.sure out.old out.new) }
+    ensures ends { Ends (run_answer plan.now.net rows.now jobs (refusal_in plan.now.net rows.now)) result (takings O.taken O.sure out.old out.new) }
     ensures unread { (second : Bool) → result ≢ Outcome.ReadFault second }
     ensures later { O.faults out.old ≤ O.faults out.new }
     ensures rose { result ≡ Outcome.WriteFault → Rose (O.faults out.old) (O.faults out.new) }
@@ -165,6 +166,7 @@ fn report_run<R: Threads + Sync, G: Gate, O: Sink>(
     ensures untouched { Untouched result out.old out.new }
 {
     runs_are_of_networks();
+    runs_have_few_visits();
     let run = match run(
         crew.rt,
         alloc,
@@ -175,6 +177,7 @@ fn report_run<R: Threads + Sync, G: Gate, O: Sink>(
         crew.gate,
     ) {
         Ok(run) => run,
+        Err(RunFault::Over(fault)) => return Outcome::Over(fault),
         Err(RunFault::Past(fault)) => return Outcome::Past(fault),
         Err(RunFault::Memory) => return Outcome::Memory,
     };

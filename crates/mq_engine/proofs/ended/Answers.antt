@@ -1,12 +1,17 @@
 use Rattle.std.proofs.Common.{sym, subst, arith}
 use Rattle.mq_core.specs.Sequences.{IsRunOf}
-use Rattle.mq_engine.specs.declared.progress.Stand.TheVariants.{Waiting, Done, Late}
-use Rattle.mq_engine.proofs.Endings.{done-more, late-is-first, none-late, none-waits, rank-inside, run-done}
+use Rattle.mq_engine.specs.declared.progress.Stand.TheVariants.{Waiting, Done, Crowded, Late}
+use Rattle.mq_engine.proofs.Endings.{crowd-is-first, done-more, late-is-first, none-refused, none-waits, rank-inside, run-done}
 use Rattle.mq_engine.proofs.Settling.{stand-at}
 use Rattle.mq_engine.proofs.ended.Goals as goal
 
 pub index-requires : goal.index-requires
 index-requires c = let l = rank-inside c.requires.laws c.args.plan.now c.args.rows.now c.requires.read _ _ _ c.requires.reached c.loop-rank.rank c.get.result.now c.get.ensures in omega arith
+
+pub returns-in-Crowded-clause-cause : goal.returns-in-Crowded-clause-cause
+returns-in-Crowded-clause-cause c =
+    let inside = rank-inside c.requires.laws c.args.plan.now c.args.rows.now c.requires.read _ _ _ c.requires.reached c.loop-rank.rank c.get.result.now c.get.ensures in
+    crowd-is-first c.requires.laws c.args.plan.now c.args.rows.now c.requires.read _ _ _ c.requires.reached c.loop-rank.rank c.get.result.now c.in-Crowded.over c.loop-rank.invariant c.get.ensures (stand-at c.args.progress.stands.items c.get.result.now _ (Crowded c.in-Crowded.over) inside c.index.ensures c.in-Crowded.is)
 
 pub returns-in-Late-clause-cause : goal.returns-in-Late-clause-cause
 returns-in-Late-clause-cause c =
@@ -28,5 +33,5 @@ returns-clause-ok c =
     subst (IsRunOf c.args.plan.now c.args.rows.now) (λ k. record { visits = sym c.from_vec.ensures k; outputs = sym c.from_vec-2.ensures k })
     (run-done c.requires.laws c.args.plan.now c.args.rows.now c.requires.read _ _ _ c.requires.reached (λ q v l e. c.loop-rank.invariant q v (omega arith) e))
 
-pub returns-clause-on_time : goal.returns-clause-on_time
-returns-clause-on_time c = none-late c.requires.laws c.args.plan.now c.args.rows.now c.requires.read _ _ _ c.requires.reached (λ q v l e. c.loop-rank.invariant q v (omega arith) e)
+pub returns-clause-fine : goal.returns-clause-fine
+returns-clause-fine c = none-refused c.requires.laws c.args.plan.now c.args.rows.now c.requires.read _ _ _ c.requires.reached (λ q v l e. c.loop-rank.invariant q v (omega arith) e)

@@ -8,5 +8,5 @@ returns-clause-known c =
     let after = c.in_ok-after.ensures loaded.node loaded.there in (
       loaded.node,
       loaded.there,
-      known c.core_laws.ensures load.plan.now load.rows.now load.number loaded.node load.arrivals c.ending_of-ending.result c.requires.ready.0.0 loaded.came loaded.load loaded.there (c.ending_of-ending.ensures load.plan.now.net load.rows.now load.number loaded.node.kind after),
+      known c.core_laws.ensures load.plan.now load.rows.now load.number loaded.node load.arrivals c.ending_of-ending.result c.requires.ready.0.0 loaded.once loaded.came loaded.load loaded.there (c.ending_of-ending.ensures load.plan.now.net load.rows.now load.number loaded.node.kind loaded.once after),
     )

@@ -37,3 +37,6 @@ returns-clause-coming c =
     coming-is c.core_laws.ensures s (c.args.port + 1) v node (Further c.args.before c.stream_of-next.result c.blocks_of-blocks.result) c.requires.arriving before.ready c.get-node.ensures
     (record { first = before.ordered; second = c.stream_of-next.ensures.stream.ordered; all = c.blocks_of-blocks.ensures })
     (further-port s.rows.now v node s.outputs.now c.args.port c.get.result.now c.args.before c.stream_of-next.result.now (port-there node c.args.port has).0 c.get.ensures (before.items node c.get-node.ensures) c.stream_of-next.ensures.items)
+
+pub get-node-requires : goal.get-node-requires
+get-node-requires c = (can-at c.args.arriving.now c.args.number c.requires.arriving c.requires.before.ready).inside

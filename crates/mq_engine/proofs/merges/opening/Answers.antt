@@ -59,3 +59,6 @@ returns c =
     coming-is c.core_laws.ensures s 2 v node (Ports c.stream_of-first.result c.stream_of-second.result c.blocks_of-blocks.result) c.requires.arriving c.requires.ready c.get-node.ensures
     (record { first = c.stream_of-first.ensures.stream.ordered; second = c.stream_of-second.ensures.stream.ordered; all = c.blocks_of-blocks.ensures })
     (ap by_first (opens-ports s v node c.get.result.now c.get-2.result.now c.stream_of-first.result.now c.stream_of-second.result.now other c.get.ensures c.get-2.ensures c.stream_of-first.ensures.items c.stream_of-second.ensures.items))
+
+pub get-node-requires : goal.get-node-requires
+get-node-requires c = (can-at c.args.arriving.now c.args.number c.requires.arriving c.requires.ready).inside

@@ -1,4 +1,4 @@
-use Rattle.std.proofs.Common.{◌≡◌, ◌∙◌, ap₂, subst, rules, List, ℕ}
+use Rattle.std.proofs.Common.{◌∙◌, ap₂, subst, rules, List, ℕ}
 use Rattle.mq_gen.specs.Accepted.{IsAccepted}
 use Rattle.mq_gen.specs.Made.{made_model, made_trace}
 use Rattle.mq_top.specs.Answer.{answer}

@@ -65,6 +65,13 @@ returns-in-Made-clause-made_sure g c number text made is room =
     let makes : Makes words c.in-Made.number = subst (AsksFor words) c.in-Made.is asked.input in
     c.run_made-outcome.ensures.sure text (same_answer number c.in-Made.number (jobs_asked words) c.in-Ok.settings.jobs (same_number words number c.in-Made.number made makes) asked.jobs ∙ is) room
 
+pub returns-in-Made-clause-sure : goal.returns-in-Made-clause-sure
+returns-in-Made-clause-sure g c m t model trace text names told_m told_t is room =
+    let words : List (List ℕ) = map (λ w. w.now) c.args.words.now in
+    let asked : Asks words c.in-Ok.settings = c.in-Ok.ensures.asked in
+    let makes : Makes words c.in-Made.number = subst (AsksFor words) c.in-Made.is asked.input in
+    elim (not_both words m t c.in-Made.number names makes) [ ]
+
 pub returns-in-Ok-accept_model-clause-made : goal.returns-in-Ok-accept_model-clause-made
 returns-in-Ok-accept_model-clause-made g c number made =
     let words : List (List ℕ) = map (λ w. w.now) c.args.words.now in

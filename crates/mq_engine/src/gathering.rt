@@ -1,0 +1,184 @@
+// Forks and joins: each is worked out whole, as one piece, of what its ports read.
+ghost use Rattle.std.specs.Prelude.{◌≡◌, ◌≤◌, ℕ, Contains, false, length, IfOk};
+ghost use Rattle.std.specs.List.{AllByRecursion};
+ghost use Rattle.std.specs.Option.{option_map};
+ghost use Rattle.mq_core.specs.Laws.{Rises};
+ghost use Rattle.mq_core.specs.Results.{first_of};
+ghost use Rattle.mq_core.specs.SequenceLaws.{sends_once};
+ghost use Rattle.mq_core.specs.Sequences.{sequence_late_from, sequence_visits};
+ghost use Rattle.mq_core.specs.Came.{came_in};
+ghost use Rattle.mq_core.specs.declared.model.Kind.TheVariants.{Fork, Join};
+ghost use Rattle.mq_core.specs.declared.model.Rows.{Rows as TheRows};
+ghost use Rattle.mq_join.specs.Gathers.{came_to};
+ghost use Rattle.mq_stations.specs.Late.{late_told};
+ghost use Rattle.mq_engine.specs.Apart.{AreSequences, IsGathering, IsGatheredAt};
+ghost use Rattle.mq_engine.specs.Loads.{IsResultOf};
+
+use crate::arrivals::stream_of;
+use crate::laws::core_laws;
+use crate::loads::Arriving;
+use crate::working::{Ending, NodeResult, nobody};
+use mq_base::{List, OutOfMemory};
+use mq_core::{Fate, Fates, Kind, Stream, Visits, sequences_are_blind};
+use mq_crew::{Gate, Pieces, made};
+use mq_join::{Gathered, Joined, fork_copies, join_visits};
+use mq_stations::{PastFault, only};
+use std::alloc::Global;
+use std::thread::Threads;
+
+/// Forks and joins that are ready.
+#[derive(Drop)]
+pub struct Apart<'a> {
+    pub arriving: Arriving<'a>,
+}
+
+/// What is made of the arrivals at a fork or a join.
+#[derive(Drop)]
+pub struct Sequences {
+    pub visits: Visits,
+    /// What leaves by each output.
+    pub streams: List<Stream>,
+}
+
+impl<'a> Pieces for Apart<'a> {
+    type Piece = NodeResult;
+
+    ghost fit = { λ s. IsGathering s.arriving × (length s.arriving.ready.now ≤ 64) };
+
+    ghost size = { λ s. length s.arriving.ready.now };
+
+    ghost is_piece = { λ s b node_result. IsResultOf s.arriving.plan.now s.arriving.rows.now s.arriving.ready.now node_result };
+
+    fn count(&self) -> u32 {
+        self.arriving.ready.len() as u32
+    }
+
+    fn piece(&self, alloc: Global, b: u32) -> Result<NodeResult, OutOfMemory> {
+        result_at(alloc, &self.arriving, self.arriving.ready[b as usize])
+    }
+}
+
+// What comes to a fork or a join, gathered port after port.
+fn gathered_at(alloc: Global, arriving: &Arriving, number: u32) -> Result<Gathered, OutOfMemory>
+    requires gathering { IsGathering arriving.now }
+    requires ready { Contains arriving.now.ready.now number }
+    ensures { IfOk result (IsGatheredAt arriving.now.plan.now arriving.now.rows.now number) }
+{
+    core_laws();
+    let inputs = &arriving.plan.net.nodes.get(number as usize).inputs;
+    let mut gathered = Gathered::new(alloc);
+    for port in 0..inputs.len() {
+        gathered.add(alloc, stream_of(arriving.outputs, inputs.get(port)))?;
+    }
+    Ok(gathered)
+}
+
+// The visits of jobs that depart as they come.
+fn passing_visits(alloc: Global, stream: &Stream) -> Result<Visits, OutOfMemory>
+    requires { Rises (λ a b. a ≤ b) stream.now.time }
+    ensures { IfOk result (λ visits. (rows : TheRows) (outputs : ℕ) → visits ≡ sequence_visits rows (Fork outputs) (came_in stream.now)) }
+{
+    let job = Vec::from_slice(alloc, stream.job.as_slice())?;
+    let arrive = Vec::from_slice(alloc, stream.time.as_slice())?;
+    let departs = Vec::from_slice(alloc, stream.time.as_slice())?;
+    let found = nobody(alloc, &stream.time)?;
+    Ok(Visits {
+        job: List::from_vec(job),
+        arrive: List::from_vec(arrive),
+        found,
+        fate: Fates::departures(List::from_vec(departs)),
+    })
+}
+
+// What is made of the arrivals at a fork: each departs as it comes, by each output.
+fn forked(alloc: Global, gathered: &Gathered, outputs: u8) -> Result<Sequences, OutOfMemory>
+    ensures { IfOk result (λ all. (rows : TheRows) → AreSequences rows (Fork outputs) (came_to gathered.now) all.visits all.streams) }
+{
+    sequences_are_blind();
+    let visits = passing_visits(alloc, &gathered.stream)?;
+    let streams = fork_copies(alloc, &gathered.stream, outputs)?;
+    Ok(Sequences { visits, streams })
+}
+
+// What is made of the arrivals at a join.
+fn joined(alloc: Global, gathered: &Gathered) -> Result<Sequences, OutOfMemory>
+    ensures { IfOk result (λ all. (rows : TheRows) → AreSequences rows Join (came_to gathered.now) all.visits all.streams) }
+{
+    let Joined { visits, leaving } = join_visits(alloc, gathered)?;
+    let streams = only(alloc, leaving)?;
+    Ok(Sequences { visits, streams })
+}
+
+// What is made of the arrivals at a fork or a join.
+fn sequences_of(alloc: Global, kind: &Kind, gathered: &Gathered) -> Result<Sequences, OutOfMemory>
+    requires { sends_once kind.now ≡ false }
+    ensures { IfOk result (λ all. (rows : TheRows) → AreSequences rows kind.now (came_to gathered.now) all.visits all.streams) }
+{
+    match kind {
+        Kind::Fork { outputs } => forked(alloc, gathered, *outputs),
+        Kind::Join => joined(alloc, gathered),
+        _ => unreachable!(),
+    }
+}
+
+// The first of these visits to a node, by position, that departs after the bound, if there is one.
+fn late_among(bound: u64, node: u32, fates: &Fates) -> Option<PastFault>
+    requires { length fates.now ≤ 1048576 }
+    ensures { first_of (sequence_late_from bound node 0 fates.now) ≡ option_map late_told result }
+{
+    for position in 0..fates.len() {
+        if let Fate::Departs(time) = fates.at(position) {
+            if time > bound {
+                return Some(PastFault {
+                    node,
+                    position: position as u32,
+                    time,
+                });
+            }
+        }
+    }
+    None
+}
+
+// What a fork or a join gives.
+fn result_at(alloc: Global, arriving: &Arriving, number: u32) -> Result<NodeResult, OutOfMemory>
+    requires gathering { IsGathering arriving.now }
+    requires ready { Contains arriving.now.ready.now number }
+    ensures { IfOk result (IsResultOf arriving.now.plan.now arriving.now.rows.now arriving.now.ready.now) }
+{
+    core_laws();
+    let gathered = gathered_at(alloc, arriving, number)?;
+    let kind = &arriving.plan.net.nodes.get(number as usize).kind;
+    let Sequences { visits, streams } = sequences_of(alloc, kind, &gathered)?;
+    match late_among(arriving.plan.net.bound, number, &visits.fate) {
+        Some(past) => Ok(NodeResult {
+            number,
+            ending: Ending::TooLate(past),
+        }),
+        None => Ok(NodeResult {
+            number,
+            ending: Ending::OnTime(visits, streams),
+        }),
+    }
+}
+
+/// What these forks and joins give, one piece a node.
+pub fn apart_results<R: Threads + Sync, G: Gate>(
+    rt: &R,
+    alloc: Global,
+    arriving: &Arriving,
+    gate: &G,
+) -> Result<List<NodeResult>, OutOfMemory>
+    requires gathering { IsGathering arriving.now }
+    requires few { length arriving.now.ready.now ≤ 64 }
+    requires some { 1 ≤ arriving.now.workers }
+    requires most { arriving.now.workers ≤ 64 }
+    ensures len { IfOk result (λ results. length results ≡ length arriving.now.ready.now) }
+    ensures known { IfOk result (λ results. AllByRecursion (IsResultOf arriving.now.plan.now arriving.now.rows.now arriving.now.ready.now) results) }
+{
+    let apart = Apart {
+        arriving: *arriving,
+    };
+    let results = made(rt, alloc, arriving.workers, &apart, gate)?;
+    Ok(results)
+}

@@ -1,0 +1,184 @@
+// The nodes of a wave, by how they are worked out: those with too many visits not at all, forks and joins
+// each as one piece, and stations in lists of pieces.
+ghost use Rattle.std.specs.Prelude.{◌≡◌, ◌+◌, ◌++◌, ◌≤◌, Contains, Some, length, slice_get, IfOk};
+ghost use Rattle.std.specs.List.{AllByRecursion, flat_map};
+ghost use Rattle.mq_core.specs.SequenceLaws.{sends_once};
+ghost use Rattle.mq_core.specs.declared.model.Node.{Node as TheNode};
+ghost use Rattle.mq_engine.specs.Loads.{IsResultOf};
+ghost use Rattle.mq_engine.specs.Waves.{AreSorted, IsWave, IsWay};
+ghost use Rattle.mq_engine.specs.Working.{pairs_read};
+ghost use Rattle.mq_engine.specs.declared.working.Ending.TheVariants.{TooMany};
+
+use crate::arrivals::stream_of;
+use crate::gathering::apart_results;
+use crate::laws::core_laws;
+use crate::loads::Arriving;
+use crate::merges::is_source;
+use crate::ready::results_of;
+use crate::working::{Ending, NodeResult};
+use mq_base::{List, OutOfMemory};
+use mq_core::Kind;
+use mq_crew::Gate;
+use mq_stations::OverFault;
+use std::alloc::Global;
+use std::thread::Threads;
+
+// How many visits a node may have.
+const MOST_VISITS: u32 = 1_048_576;
+
+/// How a node is worked out.
+#[derive(Drop)]
+pub enum Way {
+    /// Not at all: it has so many visits, more than it may.
+    Crowded(u32),
+    /// As a fork or a join.
+    Apart,
+    /// As a station, which lets each job out once.
+    Station,
+}
+
+/// The nodes of a wave.
+#[derive(Drop)]
+pub struct Wave {
+    /// How those end that have too many visits.
+    pub crowded: List<NodeResult>,
+    /// The forks and the joins.
+    pub apart: Vec<u32>,
+    pub stations: Vec<u32>,
+}
+
+// How many jobs come to a node by its ports: 8 times as many at most as a node may let out.
+fn coming_by_ports(arriving: &Arriving, number: u32) -> u32
+    requires wave { IsWave arriving.now }
+    requires ready { Contains arriving.now.ready.now number }
+    ensures { (node : TheNode) → slice_get arriving.now.plan.now.net.nodes number ≡ Some node → result ≡ length (flat_map (pairs_read arriving.now.outputs.now) node.inputs) }
+{
+    core_laws();
+    let inputs = &arriving.plan.net.nodes.get(number as usize).inputs;
+    let mut count = 0;
+    for port in 0..inputs.len() {
+        count += stream_of(arriving.outputs, inputs.get(port)).time.len() as u32;
+    }
+    count
+}
+
+// Whether a node of this kind lets each job out once, alone.
+// A further kind adds its case here.
+fn lets_out_once(kind: &Kind) -> bool
+    ensures { result ≡ sends_once kind.now }
+{
+    match kind {
+        Kind::Source
+        | Kind::Server(_)
+        | Kind::Delay(_)
+        | Kind::Loss { .. }
+        | Kind::Tandem(_)
+        | Kind::ForkJoin(_)
+        | Kind::Split(_) => true,
+        Kind::Fork { .. } | Kind::Join => false,
+    }
+}
+
+// How a node is worked out to which all has come. A source has no more visits than a trace may have rows.
+fn way_of(arriving: &Arriving, number: u32) -> Way
+    requires wave { IsWave arriving.now }
+    requires ready { Contains arriving.now.ready.now number }
+    ensures { IsWay arriving.now number result }
+{
+    let kind = &arriving.plan.net.nodes.get(number as usize).kind;
+    if is_source(kind) {
+        return Way::Station;
+    }
+    let count = coming_by_ports(arriving, number);
+    if count > MOST_VISITS {
+        return Way::Crowded(count);
+    }
+    if lets_out_once(kind) {
+        Way::Station
+    } else {
+        Way::Apart
+    }
+}
+
+// How a node ends that has so many visits, more than it may.
+fn crowded(number: u32, count: u32) -> NodeResult
+    ensures number { result.number ≡ number }
+    ensures ending { result.ending ≡ TooMany (record { node = number; count = count }) }
+{
+    let over = OverFault {
+        node: number,
+        count,
+    };
+    NodeResult {
+        number,
+        ending: Ending::TooMany(over),
+    }
+}
+
+// The nodes that are ready, told apart.
+fn sorted_out(alloc: Global, arriving: &Arriving) -> Result<Wave, OutOfMemory>
+    requires wave { IsWave arriving.now }
+    ensures len { IfOk result (λ wave. length wave.crowded + length wave.apart.items + length wave.stations.items ≡ length arriving.now.ready.now) }
+    ensures sorted { IfOk result (AreSorted arriving.now) }
+{
+    let mut wave = Wave {
+        crowded: List::new(alloc),
+        apart: Vec::new(alloc),
+        stations: Vec::new(alloc),
+    };
+    for at in 0..arriving.ready.len() {
+        let number = arriving.ready[at];
+        match way_of(arriving, number) {
+            Way::Crowded(count) => wave.crowded.push(crowded(number, count))?,
+            Way::Apart => wave.apart.push(number)?,
+            Way::Station => wave.stations.push(number)?,
+        }
+    }
+    Ok(wave)
+}
+
+// These results, and more behind them.
+fn with_more(
+    results: List<NodeResult>,
+    more: List<NodeResult>,
+) -> Result<List<NodeResult>, OutOfMemory>
+    ensures { IfOk result (λ all. all ≡ results ++ more) }
+{
+    let mut results = results;
+    'more: for node_result in more.into_vec() {
+        results.push(node_result)?;
+    }
+    Ok(results)
+}
+
+/// What the nodes that are ready give.
+pub fn wave_of<R: Threads + Sync, G: Gate>(
+    rt: &R,
+    alloc: Global,
+    arriving: &Arriving,
+    gate: &G,
+) -> Result<List<NodeResult>, OutOfMemory>
+    requires wave { IsWave arriving.now }
+    requires few { length arriving.now.ready.now ≤ 64 }
+    requires some { 1 ≤ arriving.now.workers }
+    requires most { arriving.now.workers ≤ 64 }
+    ensures len { IfOk result (λ results. length results ≡ length arriving.now.ready.now) }
+    ensures known { IfOk result (λ results. AllByRecursion (IsResultOf arriving.now.plan.now arriving.now.rows.now arriving.now.ready.now) results) }
+{
+    let Wave {
+        crowded,
+        apart,
+        stations,
+    } = sorted_out(alloc, arriving)?;
+    let gathering = Arriving {
+        ready: &apart,
+        ..*arriving
+    };
+    let gathered = apart_results(rt, alloc, &gathering, gate)?;
+    let serving = Arriving {
+        ready: &stations,
+        ..*arriving
+    };
+    let served = results_of(rt, alloc, &serving, arriving.workers, gate)?;
+    with_more(with_more(crowded, gathered)?, served)
+}
