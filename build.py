@@ -18,8 +18,8 @@ ROOT = os.path.dirname(os.path.realpath(__file__))
 PROGRAM = "mpsim"
 ROOMS = f"{ROOT}/crates/{PROGRAM}/out/rooms"
 RT = os.environ.get("RT", "rt")
-# The memory, in bytes, that a check is given.
-CHECK = 3 << 30
+# The memory, in bytes, that a check by one job is given, and how much of it each further job takes.
+CHECK, MORE = 2 << 30, 0.6
 
 
 def tell(text):
@@ -62,15 +62,16 @@ def chains(names, uses):
 
 
 def lanes():
-    """How many checks there are at a time."""
+    """How many checks there are at a time, and by how many jobs each but that with the longest way up."""
     count = len(os.sched_getaffinity(0))
+    free = count * CHECK
     try:
         with open("/proc/meminfo") as lines:
-            free = next(int(line.split()[1]) for line in lines if line.startswith("MemAvailable:"))
-        count = min(count, 1024 * free // CHECK)
+            free = 1024 * next(int(line.split()[1]) for line in lines if line.startswith("MemAvailable:"))
     except (OSError, StopIteration):
         pass
-    return max(count, 1)
+    most = max(min(count, free // CHECK), 1)
+    return most, max(min(most, 1 + int((free / most / CHECK - 1) / MORE)), 1)
 
 
 def link(name, to, parts):
@@ -80,8 +81,8 @@ def link(name, to, parts):
             shutil.copytree(f"{ROOT}/crates/{name}/{part}", f"{to}/crates/{name}/{part}", copy_function=os.link)
 
 
-def begin(name, uses, jobs):
-    """Begins to prove a crate in a room."""
+def begin(name, uses, jobs, nice):
+    """Begins to prove a crate in a room, by so many jobs, which give way to those that are less nice."""
     room, lower = f"{ROOMS}/{name}", below(name, uses)
     os.makedirs(f"{room}/crates")
     with open(f"{room}/crates.txt", "w") as out:
@@ -94,7 +95,7 @@ def begin(name, uses, jobs):
         os.rename(f"{ROOT}/crates/{name}/out", f"{room}/crates/{name}/out")
     with open(f"{room}/log", "w") as log:
         return subprocess.Popen(
-            [RT, "lib", "--jobs", str(jobs)], cwd=f"{room}/crates/{name}", stdin=subprocess.DEVNULL, stdout=log, stderr=log
+            ["nice", "-n", str(nice), RT, "lib", "--jobs", str(jobs)], cwd=f"{room}/crates/{name}", stdin=subprocess.DEVNULL, stdout=log, stderr=log
         )
 
 
@@ -118,23 +119,21 @@ def clear():
 def prove_all(uses):
     """Proves all crates below the program. Answers whether all are proved."""
     names = [it for it in uses if it in below(PROGRAM, uses)]
-    chain, most = chains([*names, PROGRAM], uses), lanes()
+    chain, (most, jobs) = chains([*names, PROGRAM], uses), lanes()
     left, running, done = sorted(names, key=lambda it: -chain[it]), {}, set()
     failed = False
     while running or (left and not failed):
-        ready = [] if failed else [it for it in left if done >= below(it, uses)]
-        for at, name in enumerate(ready):
-            idle = most - sum(jobs for _, jobs in running.values())
-            if idle < 1:
+        for name in [] if failed else [it for it in left if done >= below(it, uses)]:
+            if len(running) == most:
                 break
-            # The crate with the longest way up gets half of the processors, and each those that no other crate waits for.
-            longest = max([*left, *running], key=lambda it: chain[it])
-            jobs = max(idle // (len(ready) - at), most // 2 if name == longest else 1)
-            running[name] = begin(name, uses, jobs), jobs
+            # There are more jobs than processors, so that none waits where a crate can't use all of its own; what is further from the
+            # program goes first, and the longest way up has the most jobs.
+            others = [it for it in [*left, *running] if chain[it] > chain[name]]
+            running[name] = begin(name, uses, jobs if others else most, min(len(others), 10))
             left.remove(name)
         time.sleep(0.2)
-        for name in [it for it, (check, _) in running.items() if check.poll() is not None]:
-            status, told = running.pop(name)[0].returncode, end(name)
+        for name in [it for it, check in running.items() if check.poll() is not None]:
+            status, told = running.pop(name).returncode, end(name)
             if status:
                 tell(f"{told}{name} is not proved")
                 failed = True
