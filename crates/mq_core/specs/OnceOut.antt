@@ -24,7 +24,7 @@ founds_from before (arrive ∷ arrives) (fate ∷ fates) =
 abbrev pub founds_of : List ℕ → List Fate → List ℕ
 founds_of arrive fate = founds_from [] arrive fate
 
--- when a visit leaves: as it departs, or as it came where it is lost
+-- when a visit leaves: as it departs, or as it came where it is lost; a held one never does, and where visits leave once none is held
 abbrev pub leaving_time : ℕ → Fate → ℕ
 leaving_time arrive (Departs time) = time
 leaving_time arrive Lost = arrive

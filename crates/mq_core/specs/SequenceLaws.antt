@@ -150,7 +150,7 @@ DepartsInTime =
     (plan : Plan) (rows : Rows) → IsReadFor plan.net rows → (v : ℕ) (node : Node) → slice_get plan.net.nodes v ≡ Some node →
     IsInTime (visits_of node.kind ((run_of plan rows).stations v))
 
--- each visit that isn't lost stays at least the bare time of its job, so that no wait is cut off at 0
+-- each visit that departs stayed at least the bare time of its job, so that no wait is cut off at 0
 abbrev pub VisitsStayBareTime : Type 0
 VisitsStayBareTime =
     (plan : Plan) (rows : Rows) → IsReadFor plan.net rows → (v : ℕ) (node : Node) → slice_get plan.net.nodes v ≡ Some node →

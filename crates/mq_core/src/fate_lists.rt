@@ -1,4 +1,4 @@
-// The fates of visits, which take the room of their departures where no visit is lost.
+// The fates of visits, which take the room of their departures where all visits depart.
 ghost use Rattle.std.specs.Prelude.{◌≡◌, ◌<◌, ◌≤◌, Some, length, map, slice_get};
 ghost use Rattle.mq_base.specs.Lists.{between};
 ghost use Rattle.mq_core.specs.declared.model.Fate.TheVariants.{Departs};
@@ -10,7 +10,7 @@ use std::marker::Model;
 // How fates are kept.
 #[derive(Drop)]
 enum Kept {
-    // When each visit departs, in ticks: none is lost.
+    // When each visit departs, in ticks: none is lost or held.
     Departures(List<u64>),
     // How each visit ends.
     Each(List<Fate>),
@@ -35,7 +35,7 @@ impl Model for Fates {
 }
 
 impl Fates {
-    /// The fates of visits that depart at these times, in ticks: none is lost. It takes no memory.
+    /// The fates of visits that depart at these times, in ticks: none is lost or held. It takes no memory.
     pub fn departures(times: List<u64>) -> Self
         ensures { result ≡ map (λ time. Departs time) times }
     {
@@ -109,7 +109,7 @@ impl Fates {
 // How neighbouring fates are kept.
 #[derive(Drop)]
 enum KeptSlice<'a> {
-    // When each visit departs, in ticks: none is lost.
+    // When each visit departs, in ticks: none is lost or held.
     Departures(&'a [u64]),
     // How each visit ends.
     Each(&'a [Fate]),

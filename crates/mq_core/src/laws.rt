@@ -177,7 +177,7 @@ pub fn departs_in_time()
     ensures { DepartsInTime }
 {}
 
-/// Each visit that isn't lost stays at least the bare time of its job: no wait is cut off at 0.
+/// Each visit that departs stayed at least the bare time of its job: no wait is cut off at 0.
 pub fn visits_stay_their_bare_time()
     ensures { VisitsStayBareTime }
 {}

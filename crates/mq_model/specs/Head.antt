@@ -10,6 +10,7 @@ begins_comment [] = true
 begins_comment ([] ∷ ws) = false
 begins_comment ((b ∷ more) ∷ ws) = b == 35
 
+-- an empty line, or a comment
 abbrev pub is_skipped : List ℕ → Bool
 is_skipped l = begins_comment (words_of l)
 
@@ -17,6 +18,7 @@ is_skipped l = begins_comment (words_of l)
 abbrev pub is_version : Word → Bool
 is_version w = bytes_eq w (codes "1") || bytes_eq w (codes "2")
 
+-- the words of a head: `model`, and the number of a version
 abbrev pub is_head : List Word → Bool
 is_head [] = false
 is_head (w ∷ []) = false

@@ -189,6 +189,7 @@ forkjoin_kind = all_branches >>= λ all. stop (ForkJoin all)
 abbrev pub split_kind : Form SaidKind
 split_kind = a_route >>= λ route. stop (Split route)
 
+-- how many outputs a fork has
 abbrev pub fork_kind : Form SaidKind
 fork_kind = one (is_from_to 2 4) (λ w. Fork (value_of w))
 
@@ -206,14 +207,14 @@ bound_line = one (is_up_to (2 ^ 60)) (λ w. Bound (value_of w))
 abbrev pub source_line : Form Said
 source_line = a_name >>= λ name. stop (Node name Source [])
 
+-- a join has nothing between its name and its inputs, of which it has two at least
 unfoldable pub join_line : Form Said
 join_line = do
   name ← a_name
   reads ← joined_inputs
   stop (Node name Join reads)
 
--- The table: a line by its first word. Of the kinds that read inputs, of all lines of version 1, and of those of version 2, which
--- has two lines more.
+-- The table: a line by its first word. Of the kinds that read inputs.
 unfoldable pub kind_line : Form Said
 kind_line =
     maybe (is_key (codes "server")) (λ _. node_line server_kind)
@@ -223,8 +224,10 @@ kind_line =
     (maybe (is_key (codes "forkjoin")) (λ _. node_line forkjoin_kind)
     (word (is_key (codes "split")) (λ _. node_line split_kind))))))
 
+-- all lines of version 1
 unfoldable pub first_line : Form Said
 first_line = maybe (is_key (codes "bound")) (λ _. bound_line) (maybe (is_key (codes "source")) (λ _. source_line) kind_line)
 
+-- those of version 2, which has two more
 unfoldable pub line : Form Said
 line = maybe (is_key (codes "fork")) (λ _. node_line fork_kind) (maybe (is_key (codes "join")) (λ _. join_line) first_line)

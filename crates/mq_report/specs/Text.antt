@@ -1,6 +1,7 @@
--- The text of a report: a head, the jobs and the span, a line for each node by rank, which tells of held visits where the model is
--- of version 2, and a line for each output that no input reads, by rank of its node and then output. Where the job lines are asked for, a line for each visit follows, by
--- rank of its node and then position. Words are separated by one space, and each line ends with a line feed.
+-- The text of a report: a head, the jobs and the span, a line for each node by rank, which tells of held visits where the model is of
+-- version 2, and a line for each output that no input reads, by rank of its node and then output. Where the job lines are asked for, a
+-- line for each visit follows, by rank of its node and then position. Words are separated by one space, and each line ends with a line
+-- feed.
 use Rattle.std.specs.Prelude.{ℕ, zero, suc, ◌+◌, ◌*◌, ◌/◌, ◌%◌, ◌==◌, ◌&&◌, Bool, if◌then◌else◌, List, [], ◌∷◌, ◌++◌, length, Option, Some, None, slice_get, codes, decimal}
 use Rattle.std.specs.List.{list_any}
 use Rattle.mq_core.specs.Local.{Local}

@@ -1,6 +1,6 @@
 -- Rows that are read field after field.
-use Rattle.std.proofs.Common.{◌≡◌, ◌∙◌, sym, ap, refl, ℕ, zero, suc, ◌+◌, ◌-◌, ◌*◌, ◌<◌, ◌≤◌, ◌^◌, ◌⊎◌, List, [], ◌∷◌, ◌++◌, length, length-take, drop, take, get_or, Bool, true, false, Some, None, arith, inl, inr}
-use Rattle.std.specs.Prelude.{◌&&◌, ◌==◌, is_none, nat_lt}
+use Rattle.std.proofs.Common.{◌≡◌, ◌∙◌, sym, ap, refl, ℕ, ◌+◌, ◌-◌, ◌*◌, ◌<◌, ◌≤◌, ◌^◌, ◌⊎◌, List, [], ◌∷◌, ◌++◌, length, length-take, drop, take, get_or, Bool, true, false, Some, None, arith, inl, inr}
+use Rattle.std.specs.Prelude.{◌&&◌, is_none}
 use Rattle.std.specs.Char.{digit_value, is_ascii_digit}
 use Rattle.std.specs.List.{list_all}
 use Rattle.std.specs.Str.Parse.{digits_value}
@@ -16,7 +16,7 @@ use Rattle.csv.specs.Records.{fields_of}
 use Rattle.mq_base.specs.Text.{number_of}
 use Rattle.mq_base.proofs.lemmas.Numbers.{decimals}
 use Rattle.mq_core.specs.declared.model.Network.{Network}
-use Rattle.mq_trace.specs.Header.{columns_of, field_of, is_among}
+use Rattle.mq_trace.specs.Header.{columns_of, is_among}
 use Rattle.mq_trace.specs.Plain.{IsField, IsFirstRow, ends_record, is_plain}
 use Rattle.mq_trace.specs.Reading.{IsHeaderOf}
 use Rattle.mq_trace.specs.Records.{Record}

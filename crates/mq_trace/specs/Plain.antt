@@ -1,5 +1,5 @@
 -- Records that are read as they stand in a text: in their fields no quote stands, but around them.
-use Rattle.std.specs.Prelude.{◌≡◌, ◌⊎◌, ◌∷◌, ◌++◌, ◌+◌, ◌<◌, ◌==◌, ◌||◌, [], ℕ, List, Bool, true, false, None, Some, not, length}
+use Rattle.std.specs.Prelude.{◌≡◌, ◌⊎◌, ◌∷◌, ◌++◌, ◌<◌, ◌==◌, ◌||◌, [], ℕ, List, Bool, true, false, None, Some, not, length}
 use Rattle.std.specs.List.{list_all}
 use Rattle.std.specs.Str.Parse.{digits_value}
 use Rattle.csv.specs.Records.{fields_of}

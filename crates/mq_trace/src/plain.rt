@@ -1,4 +1,4 @@
-// Records whose fields have no quotes, which are read as they stand in a text.
+// Records that are read as they stand in the text: in their fields no quote stands, but around them.
 
 ghost use Rattle.std.specs.Prelude.{◌≡◌, ◌+◌, ◌^◌, ◌<◌, ◌≤◌, ◌∷◌, ◌++◌, ℕ, List, length, true, Some, IfSome, drop, take};
 ghost use Rattle.std.specs.Char.{is_ascii_digit};

@@ -23,14 +23,18 @@ const FORKJOIN: &[u8] = b"model 1\nsource src\nforkjoin both a b | c from src\n"
 // A source and a split.
 const SPLIT: &[u8] = b"model 1\nsource src\nsplit ways 2 turn from src\n";
 
+// A source, and two forks that are ready at one time.
+const FORKS: &[u8] =
+    b"model 2\nsource src\nfork f 2 from src\nfork a 2 from f\nfork b 2 from f.1\n";
+
 // Their jobs.
 const JOBS: &[u8] = b"source,time,a,b,c\nsrc,0,2,3,1\nsrc,1,1,1,4\nsrc,2,2,1,1\n";
 
 // How often a held entry looks whether the other has come.
 const TURNS: u64 = 2_000_000_000;
 
-// The entries with the numbers 0, 1 and 2. The first with 0 is held until one with 1 has come, and the other
-// way round.
+// The entries with the numbers 0, 1 and 2. In each list the one with 0 is held until the one with 1 has come, and
+// the other way round.
 #[derive(Drop)]
 struct Entries {
     came: [AtomicU64; 3],
@@ -50,11 +54,12 @@ impl Entries {
             return;
         }
         let here = number as usize;
-        if self.came[here].fetch_add(1, SeqCst) > 0 || here == 2 {
+        let before = self.came[here].fetch_add(1, SeqCst);
+        if here == 2 {
             return;
         }
         for _ in 0..TURNS {
-            if self.came[1 - here].load(SeqCst) > 0 {
+            if self.came[1 - here].load(SeqCst) > before {
                 return;
             }
         }
@@ -159,6 +164,19 @@ fn two_threads_enter_the_gate_at_a_split(rt: HostRuntime) -> Result<(), Fail> {
     // once for a block, and once for the last lists of the source
     for number in 0..3usize {
         assert!(rt; gate.pieces.times(number) >= 2);
+        assert!(rt; gate.blocks.times(number) == 0);
+    }
+    Ok(())
+}
+
+#[test]
+fn two_threads_enter_the_gate_at_two_forks(rt: HostRuntime) -> Result<(), Fail> {
+    let gate = nobody();
+    assert!(rt; is_done(&rt, rt.alloc(), FORKS, JOBS, &gate)?);
+    assert!(rt; gate.pieces.run_out.load(SeqCst) == 0);
+    // once for the last lists of the source, once for a fork, and once for the totals
+    for number in 0..2usize {
+        assert!(rt; gate.pieces.times(number) >= 3);
         assert!(rt; gate.blocks.times(number) == 0);
     }
     Ok(())

@@ -1,4 +1,4 @@
-use Rattle.std.proofs.Common.{◌+◌, arith}
+use Rattle.std.proofs.Common.{arith}
 use Rattle.mq_base.proofs.DigitsLemmas.{reads_more, reads_short}
 use Rattle.mq_base.proofs.text.short_value.Goals as goal
 

@@ -1,4 +1,4 @@
-use Rattle.std.proofs.Common.{◌+◌, arith, length-take, take}
+use Rattle.std.proofs.Common.{arith, length-take, take}
 use Rattle.mq_trace.proofs.PlainRows.{digits_more, digits_short}
 use Rattle.mq_trace.proofs.plain.leading_digits.Goals as goal
 

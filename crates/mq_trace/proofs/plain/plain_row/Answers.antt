@@ -1,4 +1,4 @@
-use Rattle.std.proofs.Common.{◌≡◌, ◌≢◌, ◌<◌, ◌^◌, ◌∙◌, ◌∷◌, ◌++◌, ℕ, Some, ap, arith, false, get_or, inl, inr, length, length-set, refl, rules, set, sym, true}
+use Rattle.std.proofs.Common.{◌≡◌, ◌≢◌, ◌<◌, ◌^◌, ◌∙◌, Some, ap, arith, false, get_or, inl, inr, length, length-set, refl, rules, set, sym}
 use Rattle.std.proofs.lemmas.List.{get_or-set_other, get_or-set_same}
 use Rattle.mq_base.specs.Text.{number_of}
 use Rattle.mq_trace.proofs.PlainRows.{number_field, row_begins, row_ends, row_more}

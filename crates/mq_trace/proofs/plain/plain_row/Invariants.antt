@@ -1,4 +1,4 @@
-use Rattle.std.proofs.Common.{◌≡◌, ◌≤◌, length}
+use Rattle.std.proofs.Common.{◌≡◌, length}
 use Rattle.mq_trace.proofs.PlainRows.{RowSoFar}
 use Rattle.mq_trace.proofs.plain.plain_row.Given as goal
 

@@ -1,8 +1,6 @@
 use Rattle.std.proofs.Common.{◌≡◌, ◌∙◌, ◌+◌, ◌++◌, ◌∷◌, [], ap, arith, length, refl, sym}
 use Rattle.std.proofs.lemmas.Bool.{eqb-true}
 use Rattle.std.proofs.lemmas.List.{length-map}
-use Rattle.csv.specs.declared.parser.State.TheVariants as st
-use Rattle.mq_trace.specs.Records.{records_at}
 use Rattle.mq_trace.proofs.PlainFacts.{done_all, done_more, none_begins}
 use Rattle.mq_trace.proofs.RowFacts.{column_stands, reads_few, so_far_all, so_far_count, so_far_more, so_far_none}
 use Rattle.mq_trace.proofs.plain_rows.plain_rows.Goals as goal
