@@ -1,0 +1,20 @@
+use Rattle.std.proofs.Common.{◌∙◌, sym, ap, subst}
+use Rattle.mq_core.specs.declared.model.Visits.{Visits}
+use Rattle.mq_stats.specs.Numbers.{AreVisits}
+use Rattle.mq_report.proofs.Runs.{visits_are, visits_inside}
+use Rattle.mq_report.proofs.NodeTails.{tail-at}
+use Rattle.mq_report.proofs.tails.tail_at.Goals as goal
+
+pub get-requires : goal.get-requires
+get-requires c = visits_inside c.runs_have_sequences.ensures c.args.plan.now c.args.rows.now c.args.run.now c.args.node c.args.declared.now c.requires.run c.requires.there
+
+pub tail-requires : goal.tail-requires
+tail-requires c =
+    subst (AreVisits c.args.rows.now c.args.declared.now.kind)
+    (visits_are c.runs_have_sequences.ensures c.args.plan.now c.args.rows.now c.args.run.now c.args.node c.args.declared.now c.get.result.now c.requires.run c.requires.there c.get.ensures)
+    (c.runs_give_visits.ensures c.args.plan.now c.args.rows.now c.requires.read c.args.node c.args.declared.now c.requires.there (c.requires.few c.args.node c.args.declared.now c.requires.there))
+
+pub returns : goal.returns
+returns c =
+    tail-at c.args.plan.now c.args.rows.now c.args.node c.args.declared.now c.get.result.now c.tail.result c.requires.there
+    (visits_are c.runs_have_sequences.ensures c.args.plan.now c.args.rows.now c.args.run.now c.args.node c.args.declared.now c.get.result.now c.requires.run c.requires.there c.get.ensures) c.tail.ensures
