@@ -36,11 +36,13 @@ pub struct Settings<'a> {
     pub workers: u64,
     /// How many jobs a block has, from 1 to 65,536; 4,096 where the words don't say.
     pub block: u64,
+    /// The form of the report, 1 or 2; 2 where the words don't say.
+    pub form: u64,
     /// Whether the report has the lines of the jobs, one for each visit.
     pub jobs: bool,
 }
 
-/// Which of the two forms the words have.
+/// Which of the two forms the words have: two names, or a made input.
 #[derive(Clone, Copy)]
 pub enum Form<'a> {
     /// Two names.
@@ -112,6 +114,7 @@ fn matches_of<'a>(alloc: Global, words: &'a [&'a str]) -> Result<ArgMatches<'a>,
         .arg(Arg::new(alloc, "workers").long("workers"))?
         .arg(Arg::new(alloc, "block").long("block"))?
         .arg(Arg::new(alloc, "made").long("made"))?
+        .arg(Arg::new(alloc, "report").long("report"))?
         .arg(
             Arg::new(alloc, "jobs")
                 .long("jobs")
@@ -131,7 +134,7 @@ pub fn settings_of<'a>(alloc: Global, words: &'a [&'a str]) -> Result<Settings<'
     let Ok(matches) = matches_of(alloc, words) else {
         return Err(WordsFault::Memory);
     };
-    let Some(form) = form_of(&matches) else {
+    let Some(names) = form_of(&matches) else {
         return Err(WordsFault::Usage(UsageFault::Form));
     };
     let Some(workers) = number_of(matches.get_str("workers"), 4, 1, 64) else {
@@ -140,14 +143,18 @@ pub fn settings_of<'a>(alloc: Global, words: &'a [&'a str]) -> Result<Settings<'
     let Some(block) = number_of(matches.get_str("block"), 4_096, 1, 65_536) else {
         return Err(WordsFault::Usage(UsageFault::Block));
     };
-    let Some(input) = input_of(form) else {
+    let Some(input) = input_of(names) else {
         return Err(WordsFault::Usage(UsageFault::Made));
+    };
+    let Some(form) = number_of(matches.get_str("report"), 2, 1, 2) else {
+        return Err(WordsFault::Usage(UsageFault::Report));
     };
     let jobs = matches.get_flag("jobs");
     Ok(Settings {
         input,
         workers,
         block,
+        form,
         jobs,
     })
 }

@@ -1,10 +1,10 @@
 use Rattle.std.proofs.Common.{◌≡◌, ◌∙◌, sym, ap, subst, map, ℕ, List, Some, None}
 use Rattle.mq_model.specs.Model.{model_fault}
 use Rattle.mq_model.specs.NetworkOf.{network_in}
-use Rattle.mq_top.specs.Answer.{answer_over}
+use Rattle.mq_top.specs.Answer.{answer_over, wanted_by}
 use Rattle.mq_top.specs.Ends.{Ends, Taken, takings}
 use Rattle.mq_outcome.specs.Lines.{PutsLine, line_text, name_of}
-use Rattle.mq_words.specs.Words.{Asks, AsksFor, Makes, Names, jobs_asked}
+use Rattle.mq_words.specs.Words.{Asks, AsksFor, Makes, Names}
 use Rattle.mq_words.proofs.Faults.{not_both, same_names, same_number}
 use Rattle.mq_top.proofs.MadeRuns.{same_answer}
 use Rattle.mq_top.proofs.Told.{answer_is, told_is}
@@ -21,8 +21,8 @@ returns-in-Ok-accept_model-clause-ends g c m t model trace names told_m told_t =
     c.accept_model.ensures.same_told c.in-Named.trace.now ∙ (ap (g.F.Files.told c.args.files.now) (sym same.1) ∙ told_t) in
     let read = told_is _ model (λ bytes. (model_fault bytes ≡ None) × (c.in-Ok-accept_model.plan.net ≡ network_in bytes)) of_model c.in-Ok-accept_model.ensures.accepted in
     let taken : Taken = takings g.O.Sink.taken g.O.Sink.sure c.args.out.now c.run_trace-outcome.new.out in
-    subst (λ a. Ends a c.run_trace-outcome.result taken) (answer_is c.in-Ok-accept_model.plan.net model trace c.in-Ok.settings.jobs (jobs_asked words) read.0 read.1 (sym asked.jobs))
-    (told_is _ trace (λ bytes. Ends (answer_over c.in-Ok-accept_model.plan.net bytes c.in-Ok.settings.jobs) c.run_trace-outcome.result taken) of_trace c.run_trace-outcome.ensures.ends)
+    subst (λ a. Ends a c.run_trace-outcome.result taken) (answer_is c.in-Ok-accept_model.plan.net model trace c.wanted.wanted (wanted_by words) read.0 read.1 (sym (wanted_is words c.in-Ok.settings asked)))
+    (told_is _ trace (λ bytes. Ends (answer_over c.in-Ok-accept_model.plan.net bytes c.wanted.wanted) c.run_trace-outcome.result taken) of_trace c.run_trace-outcome.ensures.ends)
 
 pub returns-in-Ok-accept_model-clause-sure : goal.returns-in-Ok-accept_model-clause-sure
 returns-in-Ok-accept_model-clause-sure g c m t model trace text names told_m told_t is room =
@@ -35,7 +35,7 @@ returns-in-Ok-accept_model-clause-sure g c m t model trace text names told_m tol
     c.accept_model.ensures.same_told c.in-Named.trace.now ∙ (ap (g.F.Files.told c.args.files.now) (sym same.1) ∙ told_t) in
     let read = told_is _ model (λ bytes. (model_fault bytes ≡ None) × (c.in-Ok-accept_model.plan.net ≡ network_in bytes)) of_model c.in-Ok-accept_model.ensures.accepted in
     c.run_trace-outcome.ensures.sure trace text of_trace
-    (answer_is c.in-Ok-accept_model.plan.net model trace c.in-Ok.settings.jobs (jobs_asked words) read.0 read.1 (sym asked.jobs) ∙ is) room
+    (answer_is c.in-Ok-accept_model.plan.net model trace c.wanted.wanted (wanted_by words) read.0 read.1 (sym (wanted_is words c.in-Ok.settings asked)) ∙ is) room
 
 pub returns-in-Ok-accept_model-clause-named : goal.returns-in-Ok-accept_model-clause-named
 returns-in-Ok-accept_model-clause-named g c m t model names told_m =
@@ -56,14 +56,14 @@ returns-in-Made-clause-made g c number made =
     let asked : Asks words c.in-Ok.settings = c.in-Ok.ensures.asked in
     let makes : Makes words c.in-Made.number = subst (AsksFor words) c.in-Made.is asked.input in
     subst (λ a. Ends a c.run_made-outcome.result (takings g.O.Sink.taken g.O.Sink.sure c.args.out.now c.run_made-outcome.new.out))
-    (same_answer number c.in-Made.number (jobs_asked words) c.in-Ok.settings.jobs (same_number words number c.in-Made.number made makes) asked.jobs) c.run_made-outcome.ensures.ends
+    (same_answer number c.in-Made.number (wanted_by words) c.wanted.wanted (same_number words number c.in-Made.number made makes) (wanted_is words c.in-Ok.settings asked)) c.run_made-outcome.ensures.ends
 
 pub returns-in-Made-clause-made_sure : goal.returns-in-Made-clause-made_sure
 returns-in-Made-clause-made_sure g c number text made is room =
     let words : List (List ℕ) = map (λ w. w.now) c.args.words.now in
     let asked : Asks words c.in-Ok.settings = c.in-Ok.ensures.asked in
     let makes : Makes words c.in-Made.number = subst (AsksFor words) c.in-Made.is asked.input in
-    c.run_made-outcome.ensures.sure text (same_answer number c.in-Made.number (jobs_asked words) c.in-Ok.settings.jobs (same_number words number c.in-Made.number made makes) asked.jobs ∙ is) room
+    c.run_made-outcome.ensures.sure text (same_answer number c.in-Made.number (wanted_by words) c.wanted.wanted (same_number words number c.in-Made.number made makes) (wanted_is words c.in-Ok.settings asked) ∙ is) room
 
 pub returns-in-Made-clause-sure : goal.returns-in-Made-clause-sure
 returns-in-Made-clause-sure g c m t model trace text names told_m told_t is room =
