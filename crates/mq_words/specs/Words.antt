@@ -77,8 +77,8 @@ words_left words = left_from false words
 -- a word is empty or an unknown option, an option stands twice or lacks its value, or more than two words are left
 abbrev pub refuses_words : List (List ℕ) → Bool
 refuses_words words = list_any is_bad_word words || stands_twice workers_option words
-    || stands_twice block_option words || stands_twice made_option words || stands_twice report_option words
-    || stands_twice jobs_option words || lacks_value words || nat_lt 2 (length (words_left words))
+    || stands_twice block_option words || stands_twice made_option words || stands_twice report_option words || stands_twice jobs_option words
+    || lacks_value words || nat_lt 2 (length (words_left words))
 
 -- the word directly behind the option
 abbrev pub value_of : List ℕ → List (List ℕ) → Option (List ℕ)

@@ -42,7 +42,7 @@ pub struct Settings<'a> {
     pub jobs: bool,
 }
 
-/// Which of the two forms the words have: two names, or a made input.
+/// Which of the two forms the words have.
 #[derive(Clone, Copy)]
 pub enum Form<'a> {
     /// Two names.
@@ -134,7 +134,7 @@ pub fn settings_of<'a>(alloc: Global, words: &'a [&'a str]) -> Result<Settings<'
     let Ok(matches) = matches_of(alloc, words) else {
         return Err(WordsFault::Memory);
     };
-    let Some(names) = form_of(&matches) else {
+    let Some(form) = form_of(&matches) else {
         return Err(WordsFault::Usage(UsageFault::Form));
     };
     let Some(workers) = number_of(matches.get_str("workers"), 4, 1, 64) else {
@@ -143,10 +143,10 @@ pub fn settings_of<'a>(alloc: Global, words: &'a [&'a str]) -> Result<Settings<'
     let Some(block) = number_of(matches.get_str("block"), 4_096, 1, 65_536) else {
         return Err(WordsFault::Usage(UsageFault::Block));
     };
-    let Some(input) = input_of(names) else {
+    let Some(input) = input_of(form) else {
         return Err(WordsFault::Usage(UsageFault::Made));
     };
-    let Some(form) = number_of(matches.get_str("report"), 2, 1, 2) else {
+    let Some(report) = number_of(matches.get_str("report"), 2, 1, 2) else {
         return Err(WordsFault::Usage(UsageFault::Report));
     };
     let jobs = matches.get_flag("jobs");
@@ -154,7 +154,7 @@ pub fn settings_of<'a>(alloc: Global, words: &'a [&'a str]) -> Result<Settings<'
         input,
         workers,
         block,
-        form,
+        form: report,
         jobs,
     })
 }
