@@ -127,18 +127,21 @@ same_names words m t n u one other =
 pub same_number : (words : List (List ℕ)) (n k : ℕ) → Makes words n → Makes words k → n ≡ k
 same_number words n k one other = some_is n k (sym one.made ∙ other.made)
 
--- and never for both
-pub not_both : (words : List (List ℕ)) (m t : List ℕ) (n : ℕ) → Names words m t → Makes words n → ⊥
-not_both words m t n named made =
-    let asked : asks_made words ≡ true = some_in (value_of made_option words) made.made in
+-- words that name them ask for no made input
+pub names_alone : (words : List (List ℕ)) (m t : List ℕ) → Names words m t → asks_made words ≡ true → ⊥
+names_alone words m t named asked =
     let fits : has_names words ≡ true = passes (refuses_words words) (has_names words) _ named.accepted in
     true≢false (sym fits ∙ ap₂ (λ (b : Bool) (left : List (List ℕ)). length left == (if b then 0 else 2)) asked named.named)
   where
-    some_in : (o : Option (List ℕ)) → option_and_then (λ text. number_of text (2 ^ 64 - 1)) o ≡ Some n → is_some o ≡ true
-    some_in None e = some_is_none n (sym e)
-    some_in (Some text) e = refl
-
     passes : (refused fits : Bool) (rest : Option UsageFault) → (if refused then Some fault.Words else if not fits then Some fault.Form else rest) ≡ None → fits ≡ true
     passes true fits rest e = some_is_none fault.Words e
     passes false true rest e = refl
     passes false false rest e = some_is_none fault.Form e
+
+-- and never for both
+pub not_both : (words : List (List ℕ)) (m t : List ℕ) (n : ℕ) → Names words m t → Makes words n → ⊥
+not_both words m t n named made = names_alone words m t named (some_in (value_of made_option words) made.made)
+  where
+    some_in : (o : Option (List ℕ)) → option_and_then (λ text. number_of text (2 ^ 64 - 1)) o ≡ Some n → is_some o ≡ true
+    some_in None e = some_is_none n (sym e)
+    some_in (Some text) e = refl
