@@ -22,12 +22,7 @@ use Rattle.mq_engine.specs.Progress.{AreWithin, IsReached, is_done, is_read, is_
 use Rattle.mq_stations.specs.declared.late.PastFault.{PastFault}
 use Rattle.mq_engine.specs.declared.progress.Stand.{Stand}
 use Rattle.mq_engine.specs.declared.progress.Stand.TheVariants.{Waiting, Done, Late}
-use Rattle.mq_engine.proofs.Lists.{filter-none, get-take, has-index}
-
-get-some : {X : Type 0} (xs : List X) (i : ℕ) → i < length xs → (x : X) × (slice_get xs i ≡ Some x)
-get-some [] i l = absurd (omega arith)
-get-some (x ∷ xs) zero l = (x, refl)
-get-some (x ∷ xs) (suc i) l = get-some xs i (omega arith)
+use Rattle.mq_engine.proofs.Lists.{filter-none, get-some, get-take, has-index}
 
 all-pass : {X : Type 0} (test : X → Bool) (xs : List X) → ((k : ℕ) (x : X) → slice_get xs k ≡ Some x → test x ≡ true) → list_all test xs ≡ true
 all-pass test [] h = refl

@@ -12,15 +12,20 @@ use Rattle.mq_core.specs.declared.model.Plan.{Plan}
 use Rattle.mq_core.specs.declared.model.Rows.{Rows}
 use Rattle.mq_core.specs.declared.model.Stream.{Stream}
 use Rattle.mq_core.specs.declared.model.Visits.{Visits}
-use Rattle.mq_engine.specs.Loads.{IsResultOf}
-use Rattle.mq_engine.specs.Progress.{AreWaiting, AreWorkedOut, IsEndPut, IsPut, IsReached, is_ready, is_waiting, reads_done, stands_at}
+use Rattle.mq_exits.specs.Results.{IsResultOf}
+use Rattle.mq_core.specs.Theorems.{IsReadFor}
+use Rattle.mq_arrivals.specs.Arrivals.{IsArriving}
+use Rattle.mq_arrivals.specs.declared.nodes.Arriving.{Arriving}
+use Rattle.mq_engine.specs.CoreLaws.{CoreLaws}
+use Rattle.mq_engine.specs.Progress.{AreEarly, AreWaiting, AreWorkedOut, CanWork, CanWorkAll, IsEndPut, IsPut, IsReached, is_ready, is_waiting, reads_done, stands_at}
 use Rattle.mq_engine.specs.declared.progress.Stand.{Stand}
 use Rattle.mq_engine.specs.declared.progress.Stand.TheVariants.{Done, Late}
-use Rattle.mq_engine.specs.declared.working.Ending.{Ending}
-use Rattle.mq_engine.specs.declared.working.Ending.TheVariants.{OnTime, TooLate}
-use Rattle.mq_engine.specs.declared.working.NodeResult.{NodeResult}
+use Rattle.mq_exits.specs.declared.working.Ending.{Ending}
+use Rattle.mq_exits.specs.declared.working.Ending.TheVariants.{OnTime, TooLate}
+use Rattle.mq_exits.specs.declared.working.NodeResult.{NodeResult}
 use Rattle.mq_engine.proofs.Lists.{filter-passes}
-use Rattle.mq_engine.proofs.Waves.{order-few, put-keeps}
+use Rattle.mq_core.proofs.lemmas.Plans.{order-few}
+use Rattle.mq_engine.proofs.Waves.{can-come, can-work, put-keeps}
 
 -- a node that waits is there
 stand-there : (stands : List Stand) (v : ℕ) (o : Option Stand) → slice_get stands v ≡ o → stands_at is_waiting o ≡ true → (v < length stands) × ((d : Stand) → is_waiting (get_or stands v d) ≡ true)
@@ -128,10 +133,32 @@ pub results-known : (plan : Plan) (rows : Rows) (ready : List ℕ) (results : Li
 results-known plan rows ready results = Each-weaker (IsResultOf plan rows ready) _ (λ node_result h. h.1) results
 
 -- few nodes are ready
-pub ready-few : (plan : Plan) (stands : List Stand) (ready : List ℕ) → ready ≡ filter (is_ready plan.net.nodes stands) plan.order → length ready ≤ 64
+ready-few : (plan : Plan) (stands : List Stand) (ready : List ℕ) → ready ≡ filter (is_ready plan.net.nodes stands) plan.order → length ready ≤ 64
 ready-few plan stands ready e =
     let test = is_ready plan.net.nodes stands in
     let count : length ready ≡ count_by test plan.order = ap length e ∙ length-filter test plan.order in
     let most = count_by-le-length test plan.order in
     let few = order-few plan in
     omega arith
+
+-- the nodes that are ready can be worked out
+module _ (laws : CoreLaws) (s : Arriving) (visits : List Visits) (outputs : List (List Stream)) (stands : List Stand) (read : IsReadFor s.plan.now.net s.rows.now) (reached : IsReached s.plan.now s.rows.now visits outputs stands) (same : s.outputs.now ≡ outputs) (ready : s.ready.now ≡ filter (is_ready s.plan.now.net.nodes stands) s.plan.now.order) where
+  pub can-all : CanWorkAll s.plan.now s.rows.now s.outputs.now s.ready.now
+  can-all k v e =
+      let passes = filter-passes (is_ready s.plan.now.net.nodes stands) s.plan.now.order k v (ap (λ (l : List ℕ). slice_get l k) (sym ready) ∙ e) in
+      subst (λ (l : List (List Stream)). CanWork s.plan.now s.rows.now l v) (sym same) (can-work laws s.plan.now s.rows.now visits outputs stands v read reached passes)
+
+  pub early-all : AreEarly s.outputs.now
+  early-all = subst AreEarly (sym same) reached.early
+
+  pub arriving-now : 1 ≤ s.workers → s.workers ≤ 64 → 1 ≤ s.block → IsArriving s
+  arriving-now some most block =
+      record {
+        read = read;
+        ordered = λ u out streams stream a b. (early-all u out streams stream a b).ordered;
+        can = λ k v e. can-come laws s v read (can-all k v e);
+        nodes = ready-few s.plan.now stands s.ready.now ready;
+        some = some;
+        most = most;
+        block = block;
+      }

@@ -2,10 +2,9 @@
 ghost use Rattle.mq_engine.specs.CoreLaws.{CoreLaws};
 
 use mq_core::{
-    arrivals_are_streams, fates_are_in_time, jobs_are_rows, no_kind_copies, nodes_are_in_limits,
-    nodes_are_sequences, on_time_grows, orders_keep_items, orders_rank, outputs_have_streams,
-    past_is_first, past_is_none, rows_tell_demands, sequences_are_blind, sequences_go_by_fates,
-    sequences_make_runs, streams_make_outputs, streams_rise, visits_are_few,
+    arrivals_are_streams, jobs_are_rows, no_kind_copies, nodes_are_in_limits, nodes_are_sequences,
+    orders_rank, outputs_have_streams, past_is_first, past_is_none, rows_tell_demands,
+    sequences_are_blind, sequences_make_runs, streams_rise, visits_are_few,
 };
 
 // The laws of runs that the engine rests on. It does nothing when it runs.
@@ -19,16 +18,11 @@ pub fn core_laws()
     no_kind_copies();
     visits_are_few();
     jobs_are_rows();
-    fates_are_in_time();
-    orders_keep_items();
     nodes_are_sequences();
     sequences_are_blind();
-    sequences_go_by_fates();
     streams_rise();
     outputs_have_streams();
-    streams_make_outputs();
     sequences_make_runs();
-    on_time_grows();
     past_is_first();
     past_is_none();
 }

@@ -9,26 +9,19 @@ ghost use Rattle.mq_engine.specs.Answer.{IsCause};
 ghost use Rattle.mq_engine.specs.CoreLaws.{CoreLaws};
 ghost use Rattle.mq_engine.specs.Progress.{IsReached, is_ready};
 
-mod arrivals;
-mod exits;
 mod fault;
 mod firsts;
-mod founds;
 mod laws;
 mod loads;
-mod merges;
 mod middles;
-mod overtaking;
 mod progress;
 mod ready;
-mod splitting;
-mod working;
 
 use crate::laws::core_laws;
-use crate::loads::Arriving;
 use crate::progress::{Progress, Stand, beginning, ready_nodes, settle};
 use crate::ready::results_of;
 pub use fault::RunFault;
+use mq_arrivals::Arriving;
 use mq_base::List;
 use mq_core::{Plan, Rows, Run};
 use mq_crew::Gate;
@@ -85,7 +78,7 @@ pub fn run<R: Threads + Sync, G: Gate>(
             workers,
             block,
         };
-        let results = results_of(rt, alloc, &arriving, workers, gate)?;
+        let results = results_of(rt, alloc, &arriving, gate)?;
         settle(&mut progress, results);
     }
 }

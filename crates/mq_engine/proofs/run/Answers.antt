@@ -1,30 +1,22 @@
-use Rattle.std.proofs.Common.{◌∙◌, ap, filter, subst, sym}
-use Rattle.std.specs.Prelude.{slice_get}
-use Rattle.mq_engine.specs.Working.{AreEarly}
-use Rattle.mq_engine.specs.Progress.{CanWork, is_ready}
+use Rattle.std.proofs.Common.{◌∙◌, ap, filter}
+use Rattle.mq_engine.specs.Progress.{is_ready}
 use Rattle.mq_engine.proofs.Endings.{within}
-use Rattle.mq_engine.proofs.Lists.{filter-passes}
-use Rattle.mq_engine.proofs.Waves.{can-work}
-use Rattle.mq_engine.proofs.Settling.{ready-few, ready-wait, results-known}
+use Rattle.mq_engine.proofs.Settling.{arriving-now, can-all, early-all, ready-wait, results-known}
 use Rattle.mq_engine.proofs.run.Goals as goal
 
 pub ready_nodes-requires-clause-within : goal.ready_nodes-requires-clause-within
 ready_nodes-requires-clause-within g c = within c.core_laws.ensures c.args.plan.now
 
-pub results_of-requires-clause-early : goal.results_of-requires-clause-early
-results_of-requires-clause-early g c κs inside = subst AreEarly (sym c.deref-in-waves.ensures.value) c.waves.invariant.early
+pub results_of-requires-clause-arriving : goal.results_of-requires-clause-arriving
+results_of-requires-clause-arriving g c κs inside =
+    arriving-now c.core_laws.ensures _ c.waves.progress.visits.items c.waves.progress.outputs.items c.waves.progress.stands.items c.requires.read c.waves.invariant c.deref-in-waves.ensures.value
+    (c.deref-in-waves-2.ensures.value ∙ (c.in_ok-ready.ensures ∙ ap (λ stands. filter (is_ready c.args.plan.now.net.nodes stands) c.args.plan.now.order) c.deref.ensures.value)) c.requires.some c.requires.most c.requires.block
 
-pub results_of-requires-clause-few : goal.results_of-requires-clause-few
-results_of-requires-clause-few g c κs inside =
-    ready-few c.args.plan.now c.waves.progress.stands.items c.deref-in-waves-2.result.now
-    (c.deref-in-waves-2.ensures.value ∙ (c.in_ok-ready.ensures ∙ ap (λ stands. filter (is_ready c.args.plan.now.net.nodes stands) c.args.plan.now.order) c.deref.ensures.value))
+pub results_of-requires-clause-early : goal.results_of-requires-clause-early
+results_of-requires-clause-early g c κs inside = ?
 
 pub results_of-requires-clause-can : goal.results_of-requires-clause-can
-results_of-requires-clause-can g c κs inside k v e =
-    let passes = filter-passes (is_ready c.args.plan.now.net.nodes c.waves.progress.stands.items) c.args.plan.now.order k v
-    (ap (λ l. slice_get l k) (sym (c.deref-in-waves-2.ensures.value ∙ (c.in_ok-ready.ensures ∙ ap (λ stands. filter (is_ready c.args.plan.now.net.nodes stands) c.args.plan.now.order) c.deref.ensures.value))) ∙ e) in
-    subst (λ outputs. CanWork c.args.plan.now c.args.rows.now outputs v) (sym c.deref-in-waves.ensures.value)
-    (can-work c.core_laws.ensures c.args.plan.now c.args.rows.now c.waves.progress.visits.items c.waves.progress.outputs.items c.waves.progress.stands.items v c.requires.read c.waves.invariant passes)
+results_of-requires-clause-can g c κs inside = ?
 
 pub settle-requires-clause-waits : goal.settle-requires-clause-waits
 settle-requires-clause-waits g c =

@@ -1,0 +1,6 @@
+pub mod Afters
+pub mod Exits
+pub mod Loads
+pub mod NodeLaws
+pub mod Results
+pub mod Splits
