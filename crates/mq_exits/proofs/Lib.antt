@@ -7,4 +7,4 @@ pub mod Opening
 pub mod DelayOrder
 pub mod SplitBlocks
 pub mod Founding
-pub mod Ended
+pub mod Emptying

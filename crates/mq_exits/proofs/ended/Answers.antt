@@ -2,7 +2,7 @@ use Rattle.std.proofs.Common.{subst, sym}
 use Rattle.std.specs.List.{AllByRecursion}
 use Rattle.mq_crew.proofs.lemmas.Groups.{passing-last, passing-more}
 use Rattle.mq_exits.specs.Exits.{IsReadyExit}
-use Rattle.mq_exits.proofs.Ended.{IsEmptiedOf, IsGivenOf, emptied_piece, emptied_size, result-of}
+use Rattle.mq_exits.proofs.Emptying.{IsEmptiedOf, IsGivenOf, emptied_piece, emptied_size, result-of}
 use Rattle.mq_exits.proofs.ended.Goals as goal
 
 pub result_of-requires-clause-group : goal.result_of-requires-clause-group

@@ -1,5 +1,5 @@
 use Rattle.std.proofs.Common.{length}
-use Rattle.mq_exits.proofs.Ended.{AreEnding}
+use Rattle.mq_exits.proofs.Emptying.{AreEnding}
 use Rattle.mq_exits.proofs.ended.Given as goal
 
 abbrev pub invariant-loop-emptied : goal.invariant-loop-emptied

@@ -1,7 +1,7 @@
 use Rattle.std.proofs.Common.{◌^◌, ◌<◌, List, subst, sym}
 use Rattle.mq_crew.specs.Crew.{total_size}
 use Rattle.mq_exits.specs.declared.exits.Emptied.{Emptied}
-use Rattle.mq_exits.proofs.Ended.{emptied_size, emptied-few}
+use Rattle.mq_exits.proofs.Emptying.{emptied_size, emptied-few}
 use Rattle.mq_exits.proofs.station_results.Goals as goal
 
 pub run_parts-requires-clause-few : goal.run_parts-requires-clause-few
