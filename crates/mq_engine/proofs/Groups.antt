@@ -67,7 +67,7 @@ scanning-more s all left rest one scans others scan done done' scanned was a b e
           omega arith;
       made =
           subst (AllByRecursion (IsScannedAt s)) (sym e)
-          (Each-append (IsScannedAt s) done (scanned ∷ []) was.made (subst (IsScannedAt s) (sym is) ((read, record { loaded = here.0; scan = own }, block), (refl, refl, here.1)), tt));
+          (Each-append (IsScannedAt s) done (scanned ∷ []) was.made (subst (IsScannedAt s) (sym is) ((read, record { loaded = here.0; way = own }, block), (refl, refl, here.1)), tt));
     }
 
 -- the nodes of a wave, of a plan over rows
@@ -110,10 +110,10 @@ scan-few rows kind arrivals (OfSplit blocks) few h = let most = blocks-few block
 
 pub loads-few : (loads : List Scanned) → length loads ≤ 64 → AllByRecursion IsReadyScanned loads → total_size scanned_size loads < 2 ^ 32
 loads-few loads few ready =
-    let most = total-most 1048576 scanned_size loads (Each-weaker IsReadyScanned _ (λ s h. (scan-few s.load.rows.now h.1.loaded.node.kind s.load.arrivals s.scan h.1.loaded.load.few h.1.scan).0) loads ready) in
+    let most = total-most 1048576 scanned_size loads (Each-weaker IsReadyScanned _ (λ s h. (scan-few s.load.rows.now h.1.loaded.node.kind s.load.arrivals s.scan h.1.loaded.load.few h.1.way).0) loads ready) in
     omega arith
 
 pub middles-few : (middles : List Middle) → length middles ≤ 64 → AllByRecursion IsReadyMiddle middles → total_size middle_size middles < 2 ^ 32
 middles-few middles few ready =
-    let most = total-most 1048576 middle_size middles (Each-weaker IsReadyMiddle _ (λ m h. (scan-few m.scanned.load.rows.now h.0.1.loaded.node.kind m.scanned.load.arrivals m.scanned.scan h.0.1.loaded.load.few h.0.1.scan).1) middles ready) in
+    let most = total-most 1048576 middle_size middles (Each-weaker IsReadyMiddle _ (λ m h. (scan-few m.scanned.load.rows.now h.0.1.loaded.node.kind m.scanned.load.arrivals m.scanned.scan h.0.1.loaded.load.few h.0.1.way).1) middles ready) in
     omega arith

@@ -52,13 +52,13 @@ items-more {S} is items items' b item len each own e = (
 -- what is scanned is a sound load of all arrivals
 pub server-sound : (plan : Plan) (rows : Rows) (v : ℕ) (arrivals : Stream) (scan : Scan) (demands : List ℕ) → IsScanned plan rows v arrivals scan → scan ≡ OfServer demands → IsSoundLoad arrivals.time demands
 server-sound plan rows v arrivals scan demands l e =
-    let is : IsScanOf rows l.loaded.node.kind arrivals (OfServer demands) = subst (IsScanOf rows l.loaded.node.kind arrivals) e l.scan in
+    let is : IsScanOf rows l.loaded.node.kind arrivals (OfServer demands) = subst (IsScanOf rows l.loaded.node.kind arrivals) e l.way in
     let load : IsLoad rows (Server is.0) arrivals = subst (λ (k : Kind). IsLoad rows k arrivals) is.1 l.loaded.load in
     load-sound rows (Server is.0) is.0 arrivals demands load load.told is.2
 
 pub tandem-sound : (plan : Plan) (rows : Rows) (v : ℕ) (arrivals : Stream) (scan : Scan) (its : TandemScan) → IsScanned plan rows v arrivals scan → scan ≡ OfTandem its → IsTandemLoad arrivals.time its.demands its.places × (its.blocks.n ≡ length arrivals.time)
 tandem-sound plan rows v arrivals scan its l e =
-    let is : IsScanOf rows l.loaded.node.kind arrivals (OfTandem its) = subst (IsScanOf rows l.loaded.node.kind arrivals) e l.scan in
+    let is : IsScanOf rows l.loaded.node.kind arrivals (OfTandem its) = subst (IsScanOf rows l.loaded.node.kind arrivals) e l.way in
     let load : IsLoad rows (Tandem is.0) arrivals = subst (λ (k : Kind). IsLoad rows k arrivals) is.1 l.loaded.load in
     let its_scan = is.2 in (
       record {
@@ -70,7 +70,7 @@ tandem-sound plan rows v arrivals scan its l e =
 
 pub forkjoin-sound : (plan : Plan) (rows : Rows) (v : ℕ) (arrivals : Stream) (scan : Scan) (its : ForkJoinScan) → IsScanned plan rows v arrivals scan → scan ≡ OfForkJoin its → AreBranchLoads arrivals.time its.demands × (its.blocks.n ≡ length arrivals.time)
 forkjoin-sound plan rows v arrivals scan its l e =
-    let is : IsScanOf rows l.loaded.node.kind arrivals (OfForkJoin its) = subst (IsScanOf rows l.loaded.node.kind arrivals) e l.scan in
+    let is : IsScanOf rows l.loaded.node.kind arrivals (OfForkJoin its) = subst (IsScanOf rows l.loaded.node.kind arrivals) e l.way in
     let load : IsLoad rows (ForkJoin is.0) arrivals = subst (λ (k : Kind). IsLoad rows k arrivals) is.1 l.loaded.load in
     (branch-loads rows is.0 arrivals its.demands load is.2.demands, is.2.blocks.0)
 
@@ -81,24 +81,24 @@ served-at plan rows v arrivals kind departs l e s =
 
 pub server-leaves : (plan : Plan) (rows : Rows) (v : ℕ) (arrivals : Stream) (scan : Scan) (demands departs : List ℕ) → IsScanned plan rows v arrivals scan → scan ≡ OfServer demands → departs ≡ lindley 0 arrivals.time demands → IsServed plan rows v arrivals departs
 server-leaves plan rows v arrivals scan demands departs l e d =
-    let is : IsScanOf rows l.loaded.node.kind arrivals (OfServer demands) = subst (IsScanOf rows l.loaded.node.kind arrivals) e l.scan in
+    let is : IsScanOf rows l.loaded.node.kind arrivals (OfServer demands) = subst (IsScanOf rows l.loaded.node.kind arrivals) e l.way in
     served-at plan rows v arrivals (Server is.0) departs l.loaded is.1 (server-served rows is.0 arrivals demands departs is.2 d)
 
 pub tandem-leaves : (plan : Plan) (rows : Rows) (v : ℕ) (arrivals : Stream) (scan : Scan) (its : TandemScan) (departs : List ℕ) → IsScanned plan rows v arrivals scan → scan ≡ OfTandem its → departs ≡ tandem_departs its.places (map (λ _. []) its.places) arrivals.time its.demands → IsServed plan rows v arrivals departs
 tandem-leaves plan rows v arrivals scan its departs l e d =
-    let is : IsScanOf rows l.loaded.node.kind arrivals (OfTandem its) = subst (IsScanOf rows l.loaded.node.kind arrivals) e l.scan in
+    let is : IsScanOf rows l.loaded.node.kind arrivals (OfTandem its) = subst (IsScanOf rows l.loaded.node.kind arrivals) e l.way in
     let load : IsLoad rows (Tandem is.0) arrivals = subst (λ (k : Kind). IsLoad rows k arrivals) is.1 l.loaded.load in
     served-at plan rows v arrivals (Tandem is.0) departs l.loaded is.1 (tandem-served load.columns rows is.0 arrivals is.2.asked its.demands its.places departs load.sound is.2.asks is.2.demands is.2.places d)
 
 pub forkjoin-leaves : (plan : Plan) (rows : Rows) (v : ℕ) (arrivals : Stream) (scan : Scan) (its : ForkJoinScan) (departs : List ℕ) → IsScanned plan rows v arrivals scan → scan ≡ OfForkJoin its → departs ≡ forkjoin_departs arrivals.time its.demands → IsServed plan rows v arrivals departs
 forkjoin-leaves plan rows v arrivals scan its departs l e d =
-    let is : IsScanOf rows l.loaded.node.kind arrivals (OfForkJoin its) = subst (IsScanOf rows l.loaded.node.kind arrivals) e l.scan in
+    let is : IsScanOf rows l.loaded.node.kind arrivals (OfForkJoin its) = subst (IsScanOf rows l.loaded.node.kind arrivals) e l.way in
     served-at plan rows v arrivals (ForkJoin is.0) departs l.loaded is.1 (forkjoin-departs rows is.0 arrivals its.demands departs is.2.demands d)
 
 -- where blocks of a split are scanned the node is one, and they are over all its arrivals
 pub split-at : (plan : Plan) (rows : Rows) (v : ℕ) (arrivals : Stream) (scan : Scan) (blocks : Blocks) → IsScanned plan rows v arrivals scan → scan ≡ OfSplit blocks → IsSplitAt plan v × (blocks.n ≡ length arrivals.time)
 split-at plan rows v arrivals scan blocks l e =
-    let is : IsScanOf rows l.loaded.node.kind arrivals (OfSplit blocks) = subst (IsScanOf rows l.loaded.node.kind arrivals) e l.scan in
+    let is : IsScanOf rows l.loaded.node.kind arrivals (OfSplit blocks) = subst (IsScanOf rows l.loaded.node.kind arrivals) e l.way in
     ((l.loaded.node, is.0, l.loaded.there, is.1), is.2.0)
 
 -- what leaves the blocks of a split

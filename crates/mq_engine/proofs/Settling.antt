@@ -142,23 +142,23 @@ ready-few plan stands ready e =
     omega arith
 
 -- the nodes that are ready can be worked out
-module _ (laws : CoreLaws) (s : Arriving) (visits : List Visits) (outputs : List (List Stream)) (stands : List Stand) (read : IsReadFor s.plan.now.net s.rows.now) (reached : IsReached s.plan.now s.rows.now visits outputs stands) (same : s.outputs.now ≡ outputs) (ready : s.ready.now ≡ filter (is_ready s.plan.now.net.nodes stands) s.plan.now.order) where
-  pub can-all : CanWorkAll s.plan.now s.rows.now s.outputs.now s.ready.now
-  can-all k v e =
-      let passes = filter-passes (is_ready s.plan.now.net.nodes stands) s.plan.now.order k v (ap (λ (l : List ℕ). slice_get l k) (sym ready) ∙ e) in
-      subst (λ (l : List (List Stream)). CanWork s.plan.now s.rows.now l v) (sym same) (can-work laws s.plan.now s.rows.now visits outputs stands v read reached passes)
+pub can-all : (laws : CoreLaws) (plan : Plan) (rows : Rows) (visits : List Visits) (outputs outputs' : List (List Stream)) (stands : List Stand) (ready : List ℕ) → IsReadFor plan.net rows → IsReached plan rows visits outputs stands → outputs' ≡ outputs → ready ≡ filter (is_ready plan.net.nodes stands) plan.order → CanWorkAll plan rows outputs' ready
+can-all laws plan rows visits outputs outputs' stands ready read reached same e k v g =
+    let passes = filter-passes (is_ready plan.net.nodes stands) plan.order k v (ap (λ (l : List ℕ). slice_get l k) (sym e) ∙ g) in
+    subst (λ (l : List (List Stream)). CanWork plan rows l v) (sym same) (can-work laws plan rows visits outputs stands v read reached passes)
 
-  pub early-all : AreEarly s.outputs.now
-  early-all = subst AreEarly (sym same) reached.early
-
-  pub arriving-now : 1 ≤ s.workers → s.workers ≤ 64 → 1 ≤ s.block → IsArriving s
-  arriving-now some most block =
-      record {
-        read = read;
-        ordered = λ u out streams stream a b. (early-all u out streams stream a b).ordered;
-        can = λ k v e. can-come laws s v read (can-all k v e);
-        nodes = ready-few s.plan.now stands s.ready.now ready;
-        some = some;
-        most = most;
-        block = block;
-      }
+-- what comes to them can be put in order
+pub arriving-now : (laws : CoreLaws) (s : Arriving) (visits : List Visits) (outputs : List (List Stream)) (stands : List Stand) → IsReadFor s.plan.now.net s.rows.now → IsReached s.plan.now s.rows.now visits outputs stands → s.outputs.now ≡ outputs → s.ready.now ≡ filter (is_ready s.plan.now.net.nodes stands) s.plan.now.order → 1 ≤ s.workers → s.workers ≤ 64 → 1 ≤ s.block →
+    IsArriving s
+arriving-now laws s visits outputs stands read reached same e some most block =
+    let early = subst AreEarly (sym same) reached.early in
+    let can = can-all laws s.plan.now s.rows.now visits outputs s.outputs.now stands s.ready.now read reached same e in
+    record {
+      read = read;
+      ordered = λ u out streams stream a b. (early u out streams stream a b).ordered;
+      can = λ k v g. can-come laws s v read (can k v g);
+      nodes = ready-few s.plan.now stands s.ready.now e;
+      some = some;
+      most = most;
+      block = block;
+    }

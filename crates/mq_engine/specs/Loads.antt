@@ -59,7 +59,7 @@ IsScanFor plan rows all b scan = (arrived : Arrived) → slice_get all b ≡ Som
 -- what comes to a node of the plan can be worked on in this way
 pub record IsScanned (plan : Plan) (rows : Rows) (v : ℕ) (arrivals : Stream) (scan : Scan) : Type 0 where
   pub loaded : IsLoaded plan rows v arrivals
-  pub scan : IsScanOf rows loaded.node.kind arrivals scan
+  pub way : IsScanOf rows loaded.node.kind arrivals scan
 
 -- a load and its scan that can be worked on
 abbrev pub IsReadyScanned : Scanned → Type 0

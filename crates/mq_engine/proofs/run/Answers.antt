@@ -17,7 +17,7 @@ results_of-requires-clause-early g c κs inside = subst AreEarly (sym c.deref-in
 
 pub results_of-requires-clause-can : goal.results_of-requires-clause-can
 results_of-requires-clause-can g c κs inside =
-    can-all c.core_laws.ensures _ c.waves.progress.visits.items c.waves.progress.outputs.items c.waves.progress.stands.items c.requires.read c.waves.invariant c.deref-in-waves.ensures.value
+    can-all c.core_laws.ensures c.args.plan.now c.args.rows.now c.waves.progress.visits.items c.waves.progress.outputs.items c.deref-in-waves.result.now c.waves.progress.stands.items c.deref-in-waves-2.result.now c.requires.read c.waves.invariant c.deref-in-waves.ensures.value
     (c.deref-in-waves-2.ensures.value ∙ (c.in_ok-ready.ensures ∙ ap (λ stands. filter (is_ready c.args.plan.now.net.nodes stands) c.args.plan.now.order) c.deref.ensures.value))
 
 pub settle-requires-clause-waits : goal.settle-requires-clause-waits

@@ -8,6 +8,15 @@ use Rattle.mq_engine.specs.Loads.{IsReadyMiddle}
 use Rattle.mq_engine.proofs.Groups.{IsEmptiedOf, IsMiddleOf, middle_piece, middle_size}
 use Rattle.mq_engine.proofs.ready.all_emptied.Goals as goal
 
+pub exit_of-requires-clause-scanned : goal.exit_of-requires-clause-scanned
+exit_of-requires-clause-scanned g c κs inside = (passing-last middle_size middle_piece IsReadyMiddle IsReadyExit IsMiddleOf IsEmptiedOf _ _ _ _ _ _ _ _ c.loop-middle.invariant c.in-Some.ensures.items c.in-Some-pop.ensures.items).0.0.1
+
+pub exit_of-requires-clause-stage : goal.exit_of-requires-clause-stage
+exit_of-requires-clause-stage g c κs inside = (passing-last middle_size middle_piece IsReadyMiddle IsReadyExit IsMiddleOf IsEmptiedOf _ _ _ _ _ _ _ _ c.loop-middle.invariant c.in-Some.ensures.items c.in-Some-pop.ensures.items).0.1
+
+pub exit_of-requires-clause-block : goal.exit_of-requires-clause-block
+exit_of-requires-clause-block g c κs inside = (passing-last middle_size middle_piece IsReadyMiddle IsReadyExit IsMiddleOf IsEmptiedOf _ _ _ _ _ _ _ _ c.loop-middle.invariant c.in-Some.ensures.items c.in-Some-pop.ensures.items).0.0.2
+
 pub exit_of-requires-clause-group : goal.exit_of-requires-clause-group
 exit_of-requires-clause-group g c κs inside = (passing-last middle_size middle_piece IsReadyMiddle IsReadyExit IsMiddleOf IsEmptiedOf _ _ _ _ _ _ _ _ c.loop-middle.invariant c.in-Some.ensures.items c.in-Some-pop.ensures.items).1
 

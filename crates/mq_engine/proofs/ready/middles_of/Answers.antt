@@ -5,6 +5,12 @@ use Rattle.mq_engine.specs.Loads.{IsReadyMiddle, IsReadyScanned}
 use Rattle.mq_engine.proofs.Groups.{IsMiddleOf, IsScannedOf, scanned_piece, scanned_size}
 use Rattle.mq_engine.proofs.ready.middles_of.Goals as goal
 
+pub stage_of-requires-clause-scanned : goal.stage_of-requires-clause-scanned
+stage_of-requires-clause-scanned c = (passing-last scanned_size scanned_piece IsReadyScanned IsReadyMiddle IsScannedOf IsMiddleOf _ _ _ _ _ _ _ _ c.loop-scanned.invariant c.in-Some.ensures.items c.in-Some-pop.ensures.items).0.1
+
+pub stage_of-requires-clause-group : goal.stage_of-requires-clause-group
+stage_of-requires-clause-group c = (passing-last scanned_size scanned_piece IsReadyScanned IsReadyMiddle IsScannedOf IsMiddleOf _ _ _ _ _ _ _ _ c.loop-scanned.invariant c.in-Some.ensures.items c.in-Some-pop.ensures.items).1
+
 pub loop-scanned-preserved : goal.loop-scanned-preserved
 loop-scanned-preserved c =
     let last = passing-last scanned_size scanned_piece IsReadyScanned IsReadyMiddle IsScannedOf IsMiddleOf _ _ _ _ _ _ _ _ c.loop-scanned.invariant c.in-Some.ensures.items c.in-Some-pop.ensures.items in
