@@ -1,6 +1,5 @@
 -- The stations of a wave, stage by stage, taken from the back.
-use Rattle.std.proofs.Common.{◌≡◌, ℕ, suc, ◌+◌, ◌^◌, ◌<◌, ◌≤◌, List, [], ◌∷◌, ◌++◌, length, Some, refl, sym, ap, ◌∙◌, subst, arith, length-append}
-use Rattle.std.specs.Prelude.{slice_get}
+use Rattle.std.proofs.Common.{◌≡◌, ℕ, suc, ◌+◌, ◌^◌, ◌<◌, ◌≤◌, List, [], ◌∷◌, ◌++◌, length, refl, sym, ap, ◌∙◌, subst, arith, length-append}
 use Rattle.std.specs.List.{AllByRecursion}
 use Rattle.mq_base.proofs.lemmas.Each.{Each-append, Each-back, Each-front, Each-weaker}
 use Rattle.mq_core.specs.Theorems.{IsReadFor}
@@ -15,7 +14,7 @@ use Rattle.mq_scan.proofs.lemmas.Blocks.{blocks-few}
 use Rattle.mq_arrivals.specs.declared.nodes.Arrived.{Arrived}
 use Rattle.mq_arrivals.specs.declared.nodes.Arriving.{Arriving}
 use Rattle.mq_exits.specs.Exits.{IsReadyExit}
-use Rattle.mq_exits.specs.Loads.{IsLoadOf, IsLoaded}
+use Rattle.mq_exits.specs.Loads.{IsLoadOf}
 use Rattle.mq_exits.specs.declared.exits.Emptied.{Emptied}
 use Rattle.mq_engine.specs.Loads.{IsApplied, IsArrivedAt, IsPart, IsReadyMiddle, IsReadyScanned, IsScanFor, IsScanOf, applied_of, blocks_of}
 use Rattle.mq_engine.specs.declared.firsts.Part.{Part}

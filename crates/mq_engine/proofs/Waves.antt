@@ -1,6 +1,6 @@
 -- The waves of the engine: what is done so far are the sequences of the run.
 use Rattle.std.proofs.Common.{◌≡◌, ◌≢◌, ℕ, ◌<◌, ◌≤◌, ◌⊎◌, inl, inr, Bool, true, false, cond, List, length, set, Option, Some, None, refl, sym, ap, ◌∙◌, subst, arith}
-use Rattle.std.specs.Prelude.{◌==◌, Contains, slice_get}
+use Rattle.std.specs.Prelude.{◌==◌, slice_get}
 use Rattle.std.specs.List.{flat_map, list_all, zip}
 use Rattle.std.proofs.lemmas.Bool.{and_parts}
 use Rattle.std.proofs.lemmas.Bool.Decides.{nat_tests}
@@ -32,7 +32,7 @@ use Rattle.mq_stations.proofs.lemmas.Lists.{Each-get}
 use Rattle.mq_arrivals.specs.Arrivals.{CanCome, HasArrived, IsArriving, IsThere, arriving, pairs_by, pairs_in, pairs_read}
 use Rattle.mq_arrivals.specs.declared.nodes.Arrived.{Arrived}
 use Rattle.mq_arrivals.specs.declared.nodes.Arriving.{Arriving}
-use Rattle.mq_exits.specs.Loads.{IsArrived, IsLoaded}
+use Rattle.mq_exits.specs.Loads.{IsArrived}
 use Rattle.mq_exits.specs.Results.{IsKnown, IsWorkedOut}
 use Rattle.mq_exits.specs.declared.working.Ending.{Ending}
 use Rattle.mq_exits.specs.declared.working.Ending.TheVariants.{OnTime, TooLate}

@@ -5,7 +5,7 @@ use Rattle.mq_core.specs.Came.{came_in}
 use Rattle.mq_core.specs.Laws.{in_order_of}
 use Rattle.mq_core.specs.Results.{first_of}
 use Rattle.mq_core.specs.SequenceLaws.{FatesAreInTime, FatesInTime, LeavesFrom, SequencesGoByFates}
-use Rattle.mq_core.specs.Sequences.{IsStream, sequence_fates, sequence_late_from}
+use Rattle.mq_core.specs.Sequences.{IsStream, sequence_late_from}
 use Rattle.mq_core.specs.Streams.{by_first, pairs_of}
 use Rattle.mq_core.specs.declared.model.Fate.{Fate}
 use Rattle.mq_core.specs.declared.model.Fate.TheVariants.{Departs}

@@ -1,6 +1,5 @@
-use Rattle.std.proofs.Common.{sym, ap, ◌∙◌, inl}
+use Rattle.std.proofs.Common.{sym, ◌∙◌, inl}
 use Rattle.std.proofs.lemmas.Result.{IfOk-weaker}
-use Rattle.mq_core.specs.OnceOut.{founds_of}
 use Rattle.mq_stations.proofs.lemmas.Leaves.{served-even, served-rises}
 use Rattle.mq_exits.proofs.Passing.{passing-finds_none}
 use Rattle.mq_exits.proofs.exits.found_in_turn.Goals as goal
