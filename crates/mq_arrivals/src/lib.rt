@@ -13,10 +13,10 @@ mod nodes;
 mod rows;
 
 use crate::merges::{Coming, comings_of, merged_of};
+pub use merges::is_source;
 use mq_base::{List, OutOfMemory};
 use mq_core::{Stream, nodes_are_in_limits};
 use mq_crew::{Gate, run_parts};
-pub use merges::is_source;
 pub use nodes::{Arrived, Arriving};
 pub use rows::stream_of;
 use std::alloc::Global;
