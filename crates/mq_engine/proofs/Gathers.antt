@@ -38,13 +38,15 @@ use Rattle.mq_join.specs.Gathers.{AddsPort, came_to}
 use Rattle.mq_join.specs.declared.gathered.Gathered.{Gathered}
 use Rattle.mq_engine.specs.Apart.{AreGathered, AreSequences, CanGather, IsGatheredAt}
 use Rattle.mq_engine.specs.CoreLaws.{CoreLaws}
-use Rattle.mq_engine.specs.Progress.{HasAll, IsKnown}
-use Rattle.mq_engine.specs.Working.{AreEarly, pairs_read, read_by}
-use Rattle.mq_engine.specs.declared.working.Ending.TheVariants.{OnTime}
+use Rattle.mq_arrivals.specs.Arrivals.{pairs_read}
+use Rattle.mq_engine.specs.Progress.{AreEarly, HasAll, read_by}
+use Rattle.mq_exits.specs.Results.{IsKnown}
+use Rattle.mq_exits.specs.declared.working.Ending.TheVariants.{OnTime}
 use Rattle.mq_stations.specs.Leaving.{IsEarlyStream}
-use Rattle.mq_engine.proofs.Comings.{pairs-length}
+use Rattle.mq_arrivals.proofs.Comings.{pairs-length}
 use Rattle.mq_engine.proofs.Early.{EarlyTimes, stream-early}
-use Rattle.mq_engine.proofs.Waves.{arriving-early, left-ordered, refusal-few}
+use Rattle.mq_engine.proofs.Waves.{arriving-early}
+use Rattle.mq_exits.proofs.Known.{left-ordered, refusal-few}
 
 -- an item, by this port
 abbrev by : ℕ → List (ℕ × ℕ) → List (ℕ × ℕ × ℕ)
@@ -252,7 +254,7 @@ module _ (laws : CoreLaws) (plan : Plan) (rows : Rows) (outputs : List (List Str
         let inside : out < outputs_in node.kind = subst (λ m. out < m) s.count (slice_get_within streams out stream e) in
         let is : stream_from ((run_of plan rows).stations v) out ≡ stream = some_inj _ _ (sym (laws.have (run_of plan rows) v (outputs_in node.kind) out inside) ∙ (ap (λ (l : List Stream). slice_get l out) (sym same) ∙ e)) in
         record {
-          ordered = left-ordered laws plan rows v (outputs_in node.kind) out streams stream same s.count e;
+          ordered = left-ordered laws.have laws.streams plan rows v (outputs_in node.kind) out streams stream same s.count e;
           early = subst (λ (z : Stream). EarlyTimes z.time) is (stream-is-early early out);
         },
     apart-refusal gathered visits streams None g s h,
