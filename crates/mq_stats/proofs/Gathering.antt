@@ -4,7 +4,6 @@ use Rattle.std.specs.Prelude.{slice_get}
 use Rattle.std.proofs.lemmas.List.{take-set, take_more_set}
 use Rattle.mq_base.proofs.lemmas.Lists.{drop_at}
 use Rattle.mq_core.specs.Sequences.{sequence_wait}
-use Rattle.mq_core.specs.declared.model.Demand.TheVariants.{Fixed}
 use Rattle.mq_core.specs.declared.model.Fate.{Fate}
 use Rattle.mq_core.specs.declared.model.Fate.TheVariants.{Departs, Held, Lost}
 use Rattle.mq_core.specs.declared.model.Kind.{Kind}

@@ -1,4 +1,4 @@
-use Rattle.std.proofs.Common.{ℕ, ◌+◌, ◌*◌, ◌/◌, ◌≡◌, ◌≤◌, ◌<◌, arith, length, ap}
+use Rattle.std.proofs.Common.{◌≡◌, arith, length, ap}
 use Rattle.std.proofs.lemmas.List.Sorted.{IsNonDecreasingBy-from_sort}
 use Rattle.mq_stats.proofs.Least.{percentile-is}
 use Rattle.mq_stats.specs.Percentiles.{hundredths}

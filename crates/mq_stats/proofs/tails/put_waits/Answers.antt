@@ -1,4 +1,4 @@
-use Rattle.std.proofs.Common.{◌≡◌, ◌+◌, ◌<◌, ◌≤◌, arith, length, length-set, ◌∙◌}
+use Rattle.std.proofs.Common.{◌<◌, arith, length, length-set, ◌∙◌}
 use Rattle.std.proofs.lemmas.Option.{slice_get-get_or}
 use Rattle.mq_stats.proofs.Gathering.{one-more, puts}
 use Rattle.mq_stats.proofs.tails.put_waits.Goals as goal
