@@ -1,6 +1,6 @@
 -- What is told of a file, and what was read of it.
 use Rattle.std.proofs.Common.{◌≡◌, ℕ, List, [], ◌++◌, ap, ap₂, subst, sym, ◌∙◌}
-use Rattle.std.specs.Prelude.{Bool, true, false, IfSome, Some, None}
+use Rattle.std.specs.Prelude.{true, false, IfSome, Some, None}
 use Rattle.std.specs.declared.option.Option.{Option}
 use Rattle.mq_core.specs.declared.model.Network.{Network}
 use Rattle.mq_model.specs.Model.{model_fault}

@@ -1,5 +1,4 @@
-use Rattle.std.proofs.Common.{◌∙◌, sym, ap, subst}
-use Rattle.mq_core.specs.declared.model.Visits.{Visits}
+use Rattle.std.proofs.Common.{subst}
 use Rattle.mq_stats.specs.Numbers.{AreVisits}
 use Rattle.mq_report.proofs.Runs.{visits_are, visits_inside}
 use Rattle.mq_report.proofs.NodeTails.{tail-at}
