@@ -6,10 +6,9 @@ use Rattle.std.specs.List.{list_all}
 use Rattle.std.proofs.lemmas.Bool.{cases_lt}
 use Rattle.std.proofs.lemmas.Option.{slice_get-map, slice_get_within}
 use Rattle.mq_base.proofs.lemmas.Lists.{some_inj}
-use Rattle.mq_core.specs.Sequences.{IsRunOf, sequence_refusal}
-use Rattle.mq_core.specs.StandardTable.{run_of}
+use Rattle.mq_core.specs.Sequences.{IsRunOf}
 use Rattle.mq_core.specs.NumberLaws.{IsFineBelow}
-use Rattle.mq_core.specs.Results.{Refusal, refusal_of, visits_of}
+use Rattle.mq_core.specs.Results.{refusal_of}
 use Rattle.mq_core.specs.Theorems.{IsReadFor}
 use Rattle.mq_core.specs.Wiring.{outputs_read}
 use Rattle.mq_core.specs.declared.model.Input.{Input}

@@ -1,5 +1,5 @@
 -- Forks and joins: what is gathered, port after port, and that what is made of it is what the run has.
-use Rattle.std.proofs.Common.{◌≡◌, ℕ, zero, suc, ◌+◌, ◌^◌, ◌<◌, ◌≤◌, Bool, true, false, cond, List, [], ◌∷◌, ◌++◌, length, get_or, map, take, Option, Some, None, sym, refl, ap, ◌∙◌, subst, arith, append_assoc, length-append}
+use Rattle.std.proofs.Common.{◌≡◌, ℕ, zero, suc, ◌+◌, ◌<◌, ◌≤◌, Bool, true, false, cond, List, [], ◌∷◌, ◌++◌, length, get_or, map, take, Option, Some, None, sym, refl, ap, ◌∙◌, subst, arith, append_assoc, length-append}
 use Rattle.std.specs.Prelude.{nat_lt, slice_get}
 use Rattle.std.specs.List.{AllByRecursion as Each}
 use Rattle.std.specs.Option.{option_map}
@@ -23,7 +23,7 @@ use Rattle.mq_core.specs.SequenceLaws.{arrives_of, jobs_of, sends_once}
 use Rattle.mq_core.specs.Sequences.{IsStream, sequence_late_from, sequence_refusal, sequence_stream, sequence_visits, streams_below}
 use Rattle.mq_core.specs.Sound.{outputs_in}
 use Rattle.mq_core.specs.StandardTable.{run_of}
-use Rattle.mq_core.specs.Streams.{by_port, pairs_of}
+use Rattle.mq_core.specs.Streams.{pairs_of}
 use Rattle.mq_core.specs.Theorems.{IsReadFor}
 use Rattle.mq_core.specs.Wiring.{is_source_kind}
 use Rattle.mq_core.specs.declared.model.Input.{Input}
@@ -39,10 +39,9 @@ use Rattle.mq_join.specs.declared.gathered.Gathered.{Gathered}
 use Rattle.mq_engine.specs.Apart.{AreGathered, AreSequences, CanGather, IsGatheredAt}
 use Rattle.mq_engine.specs.CoreLaws.{CoreLaws}
 use Rattle.mq_arrivals.specs.Arrivals.{pairs_read}
-use Rattle.mq_engine.specs.Progress.{AreEarly, HasAll, read_by}
+use Rattle.mq_engine.specs.Progress.{AreEarly, read_by}
 use Rattle.mq_exits.specs.Results.{IsKnown}
 use Rattle.mq_exits.specs.declared.working.Ending.TheVariants.{OnTime}
-use Rattle.mq_stations.specs.Leaving.{IsEarlyStream}
 use Rattle.mq_arrivals.proofs.Comings.{pairs-length}
 use Rattle.mq_engine.proofs.Early.{EarlyTimes, stream-early}
 use Rattle.mq_engine.proofs.Waves.{arriving-early}

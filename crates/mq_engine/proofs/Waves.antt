@@ -13,7 +13,7 @@ use Rattle.mq_core.proofs.lemmas.Orders.{in_order_of-length}
 use Rattle.mq_core.specs.Alone.{came as came_at}
 use Rattle.mq_core.specs.Came.{came_by, came_of}
 use Rattle.mq_core.specs.Laws.{in_order_of}
-use Rattle.mq_core.specs.SequenceLaws.{arrives_of, jobs_of, read_from, sends_once}
+use Rattle.mq_core.specs.SequenceLaws.{arrives_of, jobs_of, read_from}
 use Rattle.mq_core.specs.Sequences.{IsStream, sequence_stream, rows_at, streams_below}
 use Rattle.mq_core.specs.Streams.{by_first, pairs_of}
 use Rattle.mq_core.specs.Results.{stream_from, visits_of}
@@ -29,8 +29,6 @@ use Rattle.mq_core.specs.declared.model.Rows.{Rows}
 use Rattle.mq_core.specs.declared.model.Stream.{Stream}
 use Rattle.mq_core.specs.declared.model.Visits.{Visits}
 use Rattle.mq_stations.specs.Leaving.{IsEarlyStream, IsLoad}
-use Rattle.mq_stations.specs.declared.late.OverFault.{OverFault}
-use Rattle.mq_stations.specs.declared.late.PastFault.{PastFault}
 use Rattle.mq_stations.proofs.lemmas.Lists.{Each-get}
 use Rattle.mq_arrivals.specs.Arrivals.{CanCome, HasArrived, IsArriving, IsThere, arriving, pairs_by, pairs_in, pairs_read}
 use Rattle.mq_arrivals.specs.declared.nodes.Arrived.{Arrived}

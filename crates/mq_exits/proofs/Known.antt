@@ -1,5 +1,5 @@
 -- That what a node gives is what the run has.
-use Rattle.std.proofs.Common.{◌≡◌, ℕ, ◌^◌, ◌<◌, ◌≤◌, Bool, true, false, cond, List, length, map, Option, Some, None, refl, sym, ap, ◌∙◌, subst, arith}
+use Rattle.std.proofs.Common.{◌≡◌, ℕ, ◌^◌, ◌<◌, ◌≤◌, Bool, true, false, cond, List, length, Option, Some, None, refl, sym, ap, ◌∙◌, subst, arith}
 use Rattle.std.specs.Prelude.{nat_lt, slice_get}
 use Rattle.std.specs.Option.{option_map}
 use Rattle.std.proofs.lemmas.Bool.Decides.{nat_tests}
@@ -13,7 +13,7 @@ use Rattle.mq_core.specs.SequenceLaws.{StreamsRise, jobs_of, sends_once}
 use Rattle.mq_core.specs.Sequences.{IsStream, sequence_fates, sequence_late_from, sequence_outs, sequence_refusal, sequence_stream, sequence_visits, streams_below}
 use Rattle.mq_core.specs.OnceOut.{leaving_times}
 use Rattle.mq_core.specs.Streams.{picked}
-use Rattle.mq_core.specs.Results.{Late as LateVisit, Refusal, first_of, most_visits, stream_from, visits_of}
+use Rattle.mq_core.specs.Results.{Late as LateVisit, first_of, most_visits, stream_from, visits_of}
 use Rattle.mq_core.specs.Results.Refusal.{Over, Past}
 use Rattle.mq_core.specs.RunLaws.{OutputsHaveStreams}
 use Rattle.mq_core.specs.Sound.{outputs_in}

@@ -1,4 +1,4 @@
-use Rattle.std.proofs.Common.{◌≡◌, ◌<◌, length, refl, ap, ◌∙◌, arith}
+use Rattle.std.proofs.Common.{length, ap, arith}
 use Rattle.std.proofs.lemmas.Option.{slice_get_within}
 use Rattle.mq_engine.proofs.Gathers.{gather-few, gathered-all, gathered-more}
 use Rattle.mq_engine.proofs.gathering.gathered_at.Goals as goal

@@ -1,10 +1,11 @@
 use Rattle.std.proofs.Common.{◌≤◌, List, length, subst, sym, arith}
 use Rattle.std.specs.List.{AllByRecursion}
 use Rattle.mq_base.proofs.lemmas.Each.{Each-weaker}
+use Rattle.mq_crew.specs.Crew.{AreAll}
 use Rattle.mq_arrivals.specs.Arrivals.{HasArrived}
 use Rattle.mq_arrivals.specs.declared.nodes.Arrived.{Arrived}
 use Rattle.mq_exits.specs.Loads.{IsLoaded}
-use Rattle.mq_engine.specs.Loads.{IsArrivedAt}
+use Rattle.mq_engine.specs.Loads.{IsArrivedAt, IsScanFor}
 use Rattle.mq_engine.proofs.Waves.{has-loaded}
 use Rattle.mq_engine.proofs.loads.loads_of.Goals as goal
 
@@ -24,3 +25,8 @@ pub all_scanned-requires-clause-arrived : goal.all_scanned-requires-clause-arriv
 all_scanned-requires-clause-arrived g c =
     let s = c.args.arriving.now in
     Each-weaker (HasArrived s) (IsArrivedAt s) (λ a h. has-loaded c.core_laws.ensures s a c.requires.arriving c.requires.early c.requires.can h) c.in_ok-arrived.arrived c.in_ok-arrived.ensures.each
+
+pub all_scanned-requires-clause-scans : goal.all_scanned-requires-clause-scans
+all_scanned-requires-clause-scans g c =
+    let s = c.args.arriving.now in
+    subst (λ (l : List Arrived). AreAll (IsScanFor s.plan.now s.rows.now l) (length l) c.in_ok-scans.scans) c.as_slice.ensures c.in_ok-scans.ensures

@@ -1,4 +1,4 @@
-use Rattle.std.proofs.Common.{◌≡◌, ◌+◌, ◌*◌, ◌<◌, ◌≤◌, length, refl, sym, ap, ◌∙◌, arith}
+use Rattle.std.proofs.Common.{arith}
 use Rattle.std.proofs.lemmas.Option.{slice_get_within}
 use Rattle.mq_engine.proofs.Telling.{all-at, all-count, count-more, port-short}
 use Rattle.mq_engine.proofs.wave.coming_by_ports.Goals as goal
