@@ -1,5 +1,5 @@
 -- The percentiles of the waits at a node, from its visits, and from those of all nodes.
-use Rattle.std.proofs.Common.{◌≡◌, ℕ, ◌<◌, List, Some, Ok, Err, subst, sym, ap, ◌∙◌}
+use Rattle.std.proofs.Common.{◌≡◌, ℕ, Some, Ok, Err, subst, sym, ◌∙◌}
 use Rattle.std.specs.Prelude.{IfOk, Result, slice_get}
 use Rattle.mq_base.proofs.lemmas.Lists.{some_inj}
 use Rattle.mq_core.specs.Results.{visits_of}
