@@ -9,6 +9,7 @@ use Rattle.mq_core.specs.declared.model.Plan.{Plan}
 use Rattle.mq_core.specs.declared.model.Rows.{Rows}
 use Rattle.mq_crew.specs.Crew.{AreAll}
 use Rattle.mq_report.specs.Text.{Tail}
+use Rattle.mq_report.specs.Totals.{AreNodeTotals}
 use Rattle.mq_report.specs.declared.tails.RunTails.{RunTails}
 use Rattle.mq_stats.specs.Percentiles.{ArePercentiles, waits_at}
 use Rattle.mq_stats.specs.RunNumbers.{HasFewVisits}
@@ -27,8 +28,9 @@ IsTailAt plan rows v tail =
 abbrev pub AreNodeTails : Plan → Rows → List Percentiles → Type 0
 AreNodeTails plan rows tails = AreAll (IsTailAt plan rows) (length plan.net.nodes) tails
 
--- it is the run of a plan over rows, in which no node has too many visits
+-- it is the run of a plan over rows, in which no node has too many visits, with its totals
 pub record IsRun (of : RunTails) : Type 0 where
   pub read : IsReadFor of.plan.now.net of.rows.now
   pub run : IsRunOf of.plan.now of.rows.now of.run.now
   pub few : HasFewVisits of.plan.now of.rows.now
+  pub totals : AreNodeTotals of.plan.now of.rows.now of.totals.now

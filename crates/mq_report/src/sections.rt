@@ -75,8 +75,8 @@ pub fn span_of(plan: &Plan, rows: &Rows, run: &Run) -> u64
     span
 }
 
-// The totals of a node, from those of all.
-fn listed_totals(
+/// The totals of a node, from those of all.
+pub fn listed_totals(
     plan: &Plan,
     rows: &Rows,
     totals: &List<NodeTotals>,

@@ -11,6 +11,7 @@ ghost use Rattle.mq_model.specs.NetworkOf.{network_in};
 ghost use Rattle.mq_core.specs.Sequences.{IsRunOf};
 ghost use Rattle.mq_report.specs.Tails.{AreNodeTails};
 ghost use Rattle.mq_report.specs.Text.{report_in};
+ghost use Rattle.mq_report.specs.Totals.{AreNodeTotals};
 ghost use Rattle.mq_stats.specs.RunNumbers.{HasFewVisits};
 ghost use Rattle.mq_trace.specs.Trace.{trace_fault, rows_in};
 ghost use Rattle.mq_top.specs.Answer.{answer, answer_over, run_answer, wanted_by};
@@ -28,7 +29,7 @@ use mq_model::{ModelFault, read_model};
 use mq_outcome::{Outcome, name_of, put_line};
 use mq_outside::{FileFault, Files, Sink};
 use mq_report::{node_tails, node_totals, report};
-use mq_stats::{Percentiles, runs_have_few_visits};
+use mq_stats::{NodeTotals, Percentiles, runs_have_few_visits};
 use mq_trace::{TraceFault, read_trace};
 use mq_words::{Input, Settings, UsageFault, WordsFault, settings_of};
 use std::alloc::Global;
@@ -167,17 +168,28 @@ fn told_tails<R: Threads + Sync, G: Gate>(
     plan: &Plan,
     rows: &Rows,
     run: &Run,
+    totals: &List<NodeTotals>,
     form: u8,
 ) -> Result<List<Percentiles>, OutOfMemory>
     requires read { IsReadFor plan.now.net rows.now }
     requires run { IsRunOf plan.now rows.now run.now }
     requires few { HasFewVisits plan.now rows.now }
+    requires totals { AreNodeTotals plan.now rows.now totals.now }
     ensures { form ≡ 2 → IfOk result (λ tails. AreNodeTails plan.now rows.now tails) }
 {
     if form == 1 {
         return Ok(List::new(alloc));
     }
-    node_tails(crew.rt, alloc, crew.workers, plan, rows, run, crew.gate)
+    node_tails(
+        crew.rt,
+        alloc,
+        crew.workers,
+        plan,
+        rows,
+        run,
+        totals,
+        crew.gate,
+    )
 }
 
 // Runs a plan over its rows, and writes the report as it is wanted.
@@ -217,7 +229,7 @@ fn report_run<R: Threads + Sync, G: Gate, O: Sink>(
     let Ok(totals) = node_totals(crew.rt, alloc, crew.workers, plan, rows, &run, crew.gate) else {
         return Outcome::Memory;
     };
-    let Ok(tails) = told_tails(alloc, crew, plan, rows, &run, wanted.form) else {
+    let Ok(tails) = told_tails(alloc, crew, plan, rows, &run, &totals, wanted.form) else {
         return Outcome::Memory;
     };
     match report(
