@@ -1,0 +1,3 @@
+pub mod TrunkLaws
+pub mod TrunkLimits
+pub mod TrunkRecurrence
