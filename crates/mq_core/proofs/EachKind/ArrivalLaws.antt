@@ -1,5 +1,5 @@
 -- What is to be shown of the sequences of a kind, as its arrivals give them: one value a kind.
-use Rattle.std.proofs.Common.{false, length, ℕ, ◌*◌, ◌+◌, ◌^◌, ◌≡◌, ◌≤◌}
+use Rattle.std.proofs.Common.{false, length, true, ℕ, ◌*◌, ◌+◌, ◌^◌, ◌≡◌, ◌≤◌}
 use Rattle.std.specs.List.{AllByRecursion as Each}
 use Rattle.mq_core.specs.Behaviour.{Behaviour}
 use Rattle.mq_core.specs.Came.{Came, came_by}

@@ -1,6 +1,6 @@
 -- What is to be shown of the recurrence of a kind that lets each visit out once: one value a kind, in the kind's folder.
 use Rattle.mq_core.specs.Came.{Came, came_by, came_of}
-use Rattle.std.proofs.Common.{◌≡◌, ℕ, ◌+◌, ◌*◌, ◌^◌, ◌≤◌, List, Option, map, length}
+use Rattle.std.proofs.Common.{◌≡◌, ℕ, ◌+◌, ◌*◌, ◌^◌, ◌≤◌, List, Option, map, length, true}
 use Rattle.std.specs.List.{AllByRecursion as Each}
 use Rattle.mq_core.specs.Behaviour.{Behaviour}
 use Rattle.mq_core.specs.SequenceLaws.{FatesInTime, arrives_of}

@@ -12,7 +12,7 @@ trunk-limits servers demand =
     record {
       outputs = λ columns h. omega arith;
       copies = λ columns sound. omega arith;
-      first = λ first. absurd cc;
+      first = λ first. omega arith;
       servers = λ columns h. within-most 1 255 servers (and_parts (is_within 1 255 servers) (is_sound_demand columns demand) h).0;
       ports = λ inputs h. within-most 1 8 inputs h;
       reads = λ inputs starts h. absurd cc;
