@@ -1,0 +1,78 @@
+#!/usr/bin/env python3
+"""A trunk group beside Erlang's loss formula.
+
+Draws a trace of calls that come at random (a Poisson process) and hold a line for an exponential time, runs mpsim on
+it with the model of this folder, and prints the share of calls that were lost beside the share that the formula says.
+
+    ./erlang.py [CALLS [SEED]]        100000 calls and seed 1, unless told
+    ./erlang.py --trace CALLS SEED    prints the trace alone
+"""
+
+import math
+import pathlib
+import random
+import re
+import subprocess
+import sys
+import tempfile
+
+HERE = pathlib.Path(__file__).resolve().parent
+MPSIM = HERE.parent.parent / "mpsim"
+HOLD = 180_000.0  # the mean time for which a call holds a line, in ticks of a millisecond
+LOAD = 25.0  # how many lines the calls would hold on average if none were lost, in erlangs
+PARTS = 50  # the spread is told by the shares of so many parts of the trace
+
+
+def drawn(calls, seed):
+    """The times and the holding times of so many calls."""
+    draw = random.Random(seed)
+    now = 0.0
+    for _ in range(calls):
+        now += draw.expovariate(LOAD / HOLD)
+        yield round(now), round(draw.expovariate(1 / HOLD))
+
+
+def trace(calls, seed):
+    """The text of the trace."""
+    return "source,time,hold\n" + "".join(f"calls,{time},{hold}\n" for time, hold in drawn(calls, seed))
+
+
+def erlang(load, lines):
+    """Erlang's loss formula: the share of calls that find all lines taken."""
+    share = 1.0
+    for line in range(1, lines + 1):
+        share = load * share / (line + load * share)
+    return share
+
+
+def main(words):
+    """Prints the two shares."""
+    if words[:1] == ["--trace"]:
+        sys.stdout.write(trace(int(words[1]), int(words[2])))
+        return 0
+    calls = int(words[0]) if words else 100_000
+    seed = int(words[1]) if len(words) > 1 else 1
+    lines = int(re.search(r"^trunk \S+ (\d+)", (HERE / "model.txt").read_text(), re.MULTILINE).group(1))
+    with tempfile.NamedTemporaryFile("w", suffix=".csv") as file:
+        file.write(trace(calls, seed))
+        file.flush()
+        report = subprocess.run(
+            [MPSIM, HERE / "model.txt", file.name, "--jobs"], check=True, capture_output=True, text=True
+        ).stdout
+    lost = [line.endswith(" lost") for line in report.splitlines() if re.match(r"job \d+ lines ", line)]
+    share = sum(lost) / calls
+    # Neighbouring calls fare alike, so the spread isn't that of calls drawn one by one: it is told by parts of the trace,
+    # each long beside the time for which a call holds its line.
+    ends = [calls * part // PARTS for part in range(PARTS + 1)]
+    shares = [sum(lost[start:end]) / (end - start) for start, end in zip(ends, ends[1:])]
+    spread = math.sqrt(sum((part - share) ** 2 for part in shares) / (PARTS - 1) / PARTS)
+    says = erlang(LOAD, lines)
+    print(f"{calls} calls, {lines} lines, {LOAD:g} erlangs, seed {seed}")
+    print(f"lost by mpsim      {share:.5f}")
+    print(f"lost by Erlang     {says:.5f}")
+    print(f"difference         {share - says:+.5f}, {(share - says) / spread:+.2f} standard errors of {spread:.5f}")
+    return 0
+
+
+if __name__ == "__main__":
+    sys.exit(main(sys.argv[1:]))
