@@ -1,5 +1,5 @@
 -- The laws of the kind.
-use Rattle.std.proofs.Common.{[], ap, arith, eqb, inl, length, refl, suc, ℕ, ◌*◌, ◌++◌, ◌+◌, ◌∙◌, ◌∷◌, ◌≡◌}
+use Rattle.std.proofs.Common.{[], ap, arith, eqb, inl, length, refl, ℕ, ◌*◌, ◌++◌, ◌+◌, ◌∙◌, ◌∷◌, ◌≡◌}
 use Rattle.std.proofs.Math.Nat.{suc-mul}
 use Rattle.std.specs.Option.{option_map}
 use Rattle.std.specs.Prelude.{filter, not, slice_get}

@@ -1,17 +1,16 @@
 -- What a trunk group weighs, how many it holds, whom it lets out, and how busy it is.
-use Rattle.std.proofs.Common.{◌≡◌, ℕ, suc, ◌+◌, ◌-◌, ◌*◌, ◌<◌, ◌≤◌, Bool, true, false, cond, eqb, ltb, List, [], ◌∷◌, ◌++◌, length, Option, None, Some, sym, ap, ◌∙◌, refl, subst, arith, length-append}
+use Rattle.std.proofs.Common.{◌≡◌, ℕ, suc, ◌+◌, ◌*◌, ◌<◌, ◌≤◌, Bool, true, false, cond, eqb, ltb, List, [], ◌∷◌, ◌++◌, length, Option, None, Some, ap, ◌∙◌, refl, subst, arith, length-append}
 use Rattle.std.proofs.Math.Nat.{suc-mul}
 use Rattle.std.proofs.lemmas.List.{append-nil}
 use Rattle.std.specs.Prelude.{slice_get}
 use Rattle.std.specs.List.{AllByRecursion as Each}
 use Rattle.std.specs.Option.{option_map}
 use Rattle.mq_core.specs.Event.{Event, time_of}
-use Rattle.mq_core.specs.Event.Event.{Arrive, Finish}
+use Rattle.mq_core.specs.Event.Event.{Arrive}
 use Rattle.mq_core.specs.Machine.{Visit, Emission, emissions_of, emission_of, finishes_of}
-use Rattle.mq_core.specs.Laws.{in_order_of}
 use Rattle.mq_core.specs.Local.{Local}
 use Rattle.mq_core.specs.Fates.{fate_by, unless_lost}
-use Rattle.mq_core.specs.Handling.{demand_at, demand_of_job, demand_of_visit, latest, passes_on}
+use Rattle.mq_core.specs.Handling.{demand_of_job, demand_of_visit, latest, passes_on}
 use Rattle.mq_core.specs.Kinds.Loss.{faring_by}
 use Rattle.mq_core.specs.Kinds.Trunk.{joins_service, trunk_on}
 use Rattle.mq_core.specs.Tallies.{emission_at, sum_below}

@@ -1,5 +1,5 @@
 -- A trunk group between two events.
-use Rattle.std.proofs.Common.{◌≡◌, ◌⊎◌, inl, inr, ℕ, suc, ◌+◌, ◌<◌, ◌≤◌, Bool, true, false, cond, eqb, ltb, List, [], ◌∷◌, ◌++◌, length, map, None, Some, sym, refl, ap, ◌∙◌, subst, arith, length-append, eqb-true}
+use Rattle.std.proofs.Common.{◌≡◌, ◌⊎◌, inl, inr, ℕ, suc, ◌+◌, ◌<◌, ◌≤◌, Bool, true, false, cond, eqb, ltb, List, [], ◌∷◌, ◌++◌, length, map, Some, sym, refl, ap, ◌∙◌, subst, arith, length-append, eqb-true}
 use Rattle.std.proofs.lemmas.List.{append-nil, length-map, map-append}
 use Rattle.std.proofs.lemmas.List.Elements.{filter-append}
 use Rattle.std.specs.Prelude.{filter, not, slice_get}
@@ -8,7 +8,6 @@ use Rattle.mq_base.proofs.lemmas.Each.{Each-append, Each-both, Each-map, Each-we
 use Rattle.mq_core.specs.Event.{Event, time_of, earliest}
 use Rattle.mq_core.specs.Event.Event.{Arrive, Finish}
 use Rattle.mq_core.specs.Machine.{Visit, Emission, finishes_of, emissions_of, emission_of}
-use Rattle.mq_core.specs.Laws.{Rises}
 use Rattle.mq_core.specs.Local.{Local}
 use Rattle.mq_core.specs.Handling.{demand_of_job, demand_of_visit, demand_at, latest, passes_on}
 use Rattle.mq_core.specs.Kinds.Loss.{faring_by}
@@ -17,8 +16,8 @@ use Rattle.mq_core.specs.Recurrences.{busy_at, finds_server}
 use Rattle.mq_core.specs.Tallies.{emission_at, one_if_none, staying, sum_below}
 use Rattle.mq_core.specs.declared.model.Demand.{Demand}
 use Rattle.mq_core.specs.declared.model.Rows.{Rows}
-use Rattle.mq_core.specs.declared.model.Fate.TheVariants.{Departs, Lost}
-use Rattle.mq_core.proofs.Delay.Schedules.{Scheduling, came_before-push, departing, is_service, position_in, scheduling-ends, scheduling-joins, scheduling-opens, scheduling-waits, to_leave, to_leave-push}
+use Rattle.mq_core.specs.declared.model.Fate.TheVariants.{Lost}
+use Rattle.mq_core.proofs.Delay.Schedules.{Scheduling, came_before-push, position_in, scheduling-ends, scheduling-joins, scheduling-opens, scheduling-waits, to_leave, to_leave-push}
 use Rattle.mq_core.proofs.Events.Areas.{get-last, sum-same}
 use Rattle.mq_core.proofs.Events.EmissionsAt.{found-behind, neq-eqb, other-behind, unknown}
 use Rattle.mq_core.proofs.Events.Pending.{Splits, earliest-splits}
