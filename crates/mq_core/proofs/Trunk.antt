@@ -1,3 +1,4 @@
 pub mod TrunkLaws
 pub mod TrunkLimits
 pub mod TrunkRecurrence
+pub mod TrunkSequences
