@@ -43,8 +43,8 @@ trunk-over servers left (a ∷ times) (d ∷ ds) = go (finds_server servers left
     go false ih = (tt, ih left)
 
 -- each visit fares as it is let out, by the outputs of a loss station
-pub trunk-fates : (servers : ℕ) (demand : Demand) (k : ℕ) (fates : List Fate) (visits : List Visit) → length fates ≡ length visits → Each IsOver fates → map (fate_by (Trunk servers demand)) (faring_from k fates visits) ≡ fates
-trunk-fates servers demand k fates visits e o = faring-fates servers demand k fates visits e o
+pub trunk-fares : (servers : ℕ) (demand : Demand) (k : ℕ) (fates : List Fate) (visits : List Visit) → length fates ≡ length visits → Each IsOver fates → map (fate_by (Trunk servers demand)) (faring_from k fates visits) ≡ fates
+trunk-fares servers demand k fates visits e o = faring-fates servers demand k fates visits e o
 
 pub trunk-leaves : (servers : ℕ) (demand : Demand) (k : ℕ) (fates : List Fate) (visits : List Visit) → EachLeaves (Trunk servers demand) (faring_from k fates visits) visits
 trunk-leaves servers demand k fates visits = faring-leaves servers demand k fates visits
