@@ -4,3 +4,4 @@ pub mod TrunkNumbers
 pub mod TrunkLaws
 pub mod TrunkLimits
 pub mod TrunkRecurrence
+pub mod TrunkSequences
