@@ -13,6 +13,7 @@ use Rattle.mq_core.specs.declared.model.Rows.{Rows}
 use Rattle.mq_core.proofs.Counting.SequenceNumbers.{Numbered}
 use Rattle.mq_core.proofs.Loss.LossFlow.{fate_if, left_if}
 use Rattle.mq_core.proofs.Loss.LossSequences.{faring-numbered}
+use Rattle.mq_core.proofs.Trunk.TrunkSequences.{even-trunk}
 
 -- when a visit departs that finds a server
 abbrev pub served_by : Rows → Demand → Visit → ℕ
@@ -56,18 +57,9 @@ faring-push rows servers demand k left (y ∷ ys) x = go (finds_server servers l
     go true ih = ap (λ l. faring_by k (Departs (served_by rows demand y)) y ∷ l) (ih (served_by rows demand y ∷ left) ∙ ap (λ n. faring_from (suc k) (fates_behind rows servers demand (served_by rows demand y ∷ left) ys) ys ++ further n (served_by rows demand y ∷ left) ∷ []) (omega arith))
     go false ih = ap (λ l. faring_by k Lost y ∷ l) (ih left ∙ ap (λ n. faring_from (suc k) (fates_behind rows servers demand left ys) ys ++ further n left ∷ []) (omega arith))
 
--- a trunk group has a fate for each visit
-pub fates-even : (rows : Rows) (servers : ℕ) (demand : Demand) (left : List ℕ) (visits : List Visit) → length (fates_behind rows servers demand left visits) ≡ length visits
-fates-even rows servers demand left [] = refl
-fates-even rows servers demand left (x ∷ xs) = go (finds_server servers left x.arrive) (λ l. fates-even rows servers demand l xs)
-  where
-    go : (b : Bool) → ((l : List ℕ) → length (fates_behind rows servers demand l xs) ≡ length xs) → length (cond b (Departs (served_by rows demand x) ∷ fates_behind rows servers demand (served_by rows demand x ∷ left) xs) (Lost ∷ fates_behind rows servers demand left xs)) ≡ suc (length xs)
-    go true ih = ap suc (ih (served_by rows demand x ∷ left))
-    go false ih = ap suc (ih left)
-
 -- one emission a visit, by position
 pub flow-numbered : (rows : Rows) (servers : ℕ) (demand : Demand) (visits : List Visit) → Numbered 0 (trunk_flow rows servers demand visits) visits
-flow-numbered rows servers demand visits = faring-numbered 0 (fates_behind rows servers demand [] visits) visits (fates-even rows servers demand [] visits)
+flow-numbered rows servers demand visits = faring-numbered 0 (fates_behind rows servers demand [] visits) visits (even-trunk rows servers demand visits)
 
 -- the busy servers by two lists of departures
 pub busy_at-append : (now : ℕ) (xs ys : List ℕ) → busy_at now (xs ++ ys) ≡ busy_at now xs + busy_at now ys

@@ -12,13 +12,14 @@ use Rattle.mq_core.specs.declared.model.Rows.{Rows}
 use Rattle.mq_core.proofs.Bounded.BoundedAsked.{asked, asked-small}
 use Rattle.mq_core.proofs.EachKind.RecurrenceLaws.{RecurrenceLaws}
 use Rattle.mq_core.proofs.Events.Exits.{until-own}
-use Rattle.mq_core.proofs.Loss.LossSequences.{demands-of, faring-numbered, faring-outs}
+use Rattle.mq_core.proofs.Loss.LossSequences.{demands-of, faring-outs}
+use Rattle.mq_core.proofs.Trunk.TrunkFlow.{flow-numbered}
 use Rattle.mq_core.proofs.Trunk.TrunkSequences.{even-trunk, stay-served, trunk-by, trunk-fares, trunk-leaves, trunk-over, when-served}
 
 pub trunk-recurrence : (rows : Rows) (ports servers : ℕ) (demand : Demand) → RecurrenceLaws rows ports (trunk servers demand)
 trunk-recurrence rows ports servers demand =
     record {
-      numbered = λ visits. faring-numbered 0 _ visits (even-trunk rows servers demand visits);
+      numbered = λ visits. flow-numbered rows servers demand visits;
       leaves = λ visits. trunk-leaves servers demand 0 _ visits;
       fares = λ visits. trunk-fares servers demand 0 _ visits (even-trunk rows servers demand visits) (trunk-over servers [] _ _) ∙ ap (trunk_fates servers [] (arrives_of visits)) (demands-of rows demand visits);
       goes = λ visits. faring-outs 0 _ visits (even-trunk rows servers demand visits) ∙ ap (λ d. map out_of_fate (trunk_fates servers [] (arrives_of visits) d)) (demands-of rows demand visits);
