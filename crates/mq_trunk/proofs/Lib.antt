@@ -1,0 +1,4 @@
+pub mod Guesses
+pub mod Keeping
+pub mod Looping
+pub mod Reading
