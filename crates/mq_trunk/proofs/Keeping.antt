@@ -5,7 +5,7 @@ use Rattle.std.proofs.lemmas.List.{length-replicate}
 use Rattle.std.proofs.lemmas.Option.{slice_get-get_or}
 use Rattle.std.proofs.lemmas.Bool.Decides.{nat_tests}
 use Rattle.mq_trunk.specs.Rounds.{busy_at, finds_server}
-use Rattle.mq_trunk.specs.Kept.{IsFalling, take_place}
+use Rattle.mq_trunk.specs.Kept.{IsFalling, IsKept, take_place}
 
 -- one departure more
 pub busy-later : (now time : ℕ) (left : List ℕ) → now < time → busy_at now (time ∷ left) ≡ suc (busy_at now left)
@@ -92,12 +92,6 @@ length-by time other times false s k = ap suc k
 pub place-length : (time : ℕ) (times : List ℕ) → length (take_place time times) ≡ length times
 place-length time [] = refl
 place-length time (other ∷ times) = length-by time other times (nat_lt other time) (place-length other times) (place-length time times)
-
--- the latest departures, of as many as there are servers, stand for all of them
-pub record IsKept (servers : ℕ) (latest left : List ℕ) : Type 0 where
-  pub falls : IsFalling latest
-  pub number : length latest ≡ servers
-  pub same : (now : ℕ) → min servers (busy_at now latest) ≡ min servers (busy_at now left)
 
 none-busy : (now count : ℕ) → busy_at now (replicate count 0) ≡ 0
 none-busy now zero = refl

@@ -2,3 +2,5 @@ pub mod Guesses
 pub mod Keeping
 pub mod Looping
 pub mod Reading
+pub mod Running
+pub mod Windowed

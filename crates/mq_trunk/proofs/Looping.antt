@@ -6,9 +6,10 @@ use Rattle.std.proofs.lemmas.List.{append-nil, drop_all, reverse-append}
 use Rattle.std.proofs.lemmas.List.Elements.{All-get_or}
 use Rattle.mq_base.proofs.lemmas.Lists.{drop_at}
 use Rattle.mq_core.specs.Sequences.{IsSoundLoad}
-use Rattle.mq_trunk.specs.Kept.{take_place}
-use Rattle.mq_trunk.specs.Rounds.{all_admitted, departures_of, finds_server, left_behind, round_from}
-use Rattle.mq_trunk.proofs.Keeping.{IsKept, kept-next}
+use Rattle.mq_trunk.specs.Kept.{IsKept, take_place}
+use Rattle.mq_trunk.specs.Rounds.{all_admitted, departures_of, finds_server, left_behind, left_of, round_from}
+use Rattle.mq_trunk.specs.Windows.{settled_part}
+use Rattle.mq_trunk.proofs.Keeping.{kept-next}
 
 -- the limits of an arrival and its demand
 pub record IsItem (arrive demand : ℕ) : Type 0 where
@@ -24,10 +25,6 @@ item-at times demands i arrive demand load t d =
       early = subst (λ x. x ≤ 2 ^ 60) (get_or_from_slice_get times i arrive 0 t) (All-get_or (λ x. x ≤ 2 ^ 60) times i 0 a load.early);
       small = subst (λ x. x ≤ 2 ^ 36) (get_or_from_slice_get demands i demand 0 d) (All-get_or (λ x. x ≤ 2 ^ 36) demands i 0 b load.small);
     }
-
--- when those leave that a guess admits, the latest admitted first
-abbrev pub left_of : List ℕ → List ℕ → List Bool → List ℕ
-left_of times demands guess = reverse (departures_of times demands guess)
 
 pub departures-none : (times demands : List ℕ) → departures_of times demands [] ≡ []
 departures-none [] demands = refl
@@ -104,3 +101,53 @@ take-more xs i x h = let next : suc i ≡ i + 1 = omega arith in ap (λ n. take 
     take-suc [] i x h = absurd (cc)
     take-suc (y ∷ xs) zero x h = let same : y ≡ x = cc in ap (λ z. z ∷ []) same
     take-suc (y ∷ xs) (suc i) x h = ap (λ l. y ∷ l) (take-suc xs i x h)
+
+-- no more depart than a guess admits
+pub departures-few : (times demands : List ℕ) (guess : List Bool) → length (departures_of times demands guess) ≤ length guess
+departures-few [] demands guess = omega arith
+departures-few (arrive ∷ arrives) [] guess = omega arith
+departures-few (arrive ∷ arrives) (demand ∷ demands) [] = omega arith
+departures-few (arrive ∷ arrives) (demand ∷ demands) (true ∷ guess) = let h = departures-few arrives demands guess in omega arith
+departures-few (arrive ∷ arrives) (demand ∷ demands) (false ∷ guess) = let h = departures-few arrives demands guess in omega arith
+
+-- the round of a window begins with its first arrival
+window-first : (servers : ℕ) (left times demands : List ℕ) (at count rest arrive demand : ℕ) → count ≡ suc rest → slice_get times at ≡ Some arrive → slice_get demands at ≡ Some demand →
+    round_from servers left (drop at times) (drop at demands) (all_admitted count)
+    ≡ finds_server servers left arrive ∷ round_from servers ((arrive + demand) ∷ left) (drop (at + 1) times) (drop (at + 1) demands) (all_admitted rest)
+window-first servers left times demands at count rest arrive demand e t d =
+    ap (λ (q : List ℕ × (List ℕ × ℕ)). round_from servers left q.0 q.1.0 (all_admitted q.1.1)) (λ k. (drop_at times at arrive t k, (drop_at demands at demand d k, e k)))
+
+-- an arrival that finds a server is settled, and the window goes on
+pub window-next : (servers : ℕ) (done done' all : List Bool) (left left' times demands : List ℕ) (at count rest arrive demand : ℕ) → count ≡ suc rest → slice_get times at ≡ Some arrive → slice_get demands at ≡ Some demand →
+    finds_server servers left arrive ≡ true → done' ≡ done ++ true ∷ [] → left' ≡ (arrive + demand) ∷ left →
+    done ++ settled_part (round_from servers left (drop at times) (drop at demands) (all_admitted count)) ≡ all →
+    done' ++ settled_part (round_from servers left' (drop (at + 1) times) (drop (at + 1) demands) (all_admitted rest)) ≡ all
+window-next servers done done' all left left' times demands at count rest arrive demand e t d found p l h =
+    let others : List Bool = round_from servers ((arrive + demand) ∷ left) (drop (at + 1) times) (drop (at + 1) demands) (all_admitted rest) in
+    ap (λ (q : List Bool × List ℕ). q.0 ++ settled_part (round_from servers q.1 (drop (at + 1) times) (drop (at + 1) demands) (all_admitted rest))) (λ k. (p k, l k))
+    ∙ (append_assoc done (true ∷ []) (settled_part others)
+    ∙ (ap (λ (b : Bool). done ++ settled_part (b ∷ others)) (sym found)
+    ∙ (ap (λ (os : List Bool). done ++ settled_part os) (sym (window-first servers left times demands at count rest arrive demand e t d)) ∙ h)))
+
+-- one that finds none is the last that is settled
+pub window-lost : (servers : ℕ) (done done' all : List Bool) (left times demands : List ℕ) (at count rest arrive demand : ℕ) → count ≡ suc rest → slice_get times at ≡ Some arrive → slice_get demands at ≡ Some demand →
+    finds_server servers left arrive ≡ false → done' ≡ done ++ false ∷ [] →
+    done ++ settled_part (round_from servers left (drop at times) (drop at demands) (all_admitted count)) ≡ all → done' ≡ all
+window-lost servers done done' all left times demands at count rest arrive demand e t d lost p h =
+    let others : List Bool = round_from servers ((arrive + demand) ∷ left) (drop (at + 1) times) (drop (at + 1) demands) (all_admitted rest) in
+    p
+    ∙ (ap (λ (b : Bool). done ++ settled_part (b ∷ others)) (sym lost)
+    ∙ (ap (λ (os : List Bool). done ++ settled_part os) (sym (window-first servers left times demands at count rest arrive demand e t d)) ∙ h))
+
+round-none : (servers : ℕ) (left times demands : List ℕ) → round_from servers left times demands [] ≡ []
+round-none servers left [] demands = refl
+round-none servers left (arrive ∷ arrives) [] = refl
+round-none servers left (arrive ∷ arrives) (demand ∷ demands) = refl
+
+-- at the end of a window nothing is left
+pub window-all : (servers rest : ℕ) (done all : List Bool) (left times demands : List ℕ) → rest ≡ 0 →
+    done ++ settled_part (round_from servers left times demands (all_admitted rest)) ≡ all → done ≡ all
+window-all servers rest done all left times demands e h =
+    sym (append-nil done)
+    ∙ (ap (λ (os : List Bool). done ++ settled_part os) (sym (round-none servers left times demands))
+    ∙ (ap (λ (n : ℕ). done ++ settled_part (round_from servers left times demands (all_admitted n))) (sym e) ∙ h))

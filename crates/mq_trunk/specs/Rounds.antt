@@ -1,5 +1,5 @@
 -- Rounds of guesses at a trunk: which arrivals a guess admits, and what one round makes of it.
-use Rattle.std.specs.Prelude.{ℕ, suc, ◌+◌, nat_lt, Bool, true, false, if◌then◌else◌, List, [], ◌∷◌, map, replicate}
+use Rattle.std.specs.Prelude.{ℕ, suc, ◌+◌, nat_lt, Bool, true, false, if◌then◌else◌, List, [], ◌∷◌, map, replicate, reverse}
 use Rattle.mq_core.specs.declared.model.Fate.{Fate}
 use Rattle.mq_core.specs.declared.model.Fate.TheVariants.{Departs, Held, Lost}
 
@@ -71,3 +71,7 @@ departures_of (arrive ∷ arrives) (demand ∷ demands) (false ∷ guess) = depa
 -- this many arrivals, all guessed admitted
 abbrev pub all_admitted : ℕ → List Bool
 all_admitted count = replicate count true
+
+-- the same times, of the latest admitted first
+abbrev pub left_of : List ℕ → List ℕ → List Bool → List ℕ
+left_of times demands guess = reverse (departures_of times demands guess)

@@ -1,6 +1,7 @@
 -- Rounds of guesses over windows that grow while they settle.
 use Rattle.std.specs.Prelude.{◌≡◌, ℕ, zero, suc, ◌+◌, ◌*◌, ◌<◌, Bool, true, false, List, [], ◌∷◌, ◌++◌, length, drop, ◌==◌, if◌then◌else◌}
 use Rattle.mq_trunk.specs.Rounds.{all_admitted, round_of}
+use Rattle.mq_trunk.specs.declared.windows.Progress.{Progress}
 
 -- what the round of a window settles, where all were guessed admitted: its outcome up to the first that it changed, or all
 abbrev pub settled_part : List Bool → List Bool
@@ -45,3 +46,7 @@ pub record IsWindowRun (servers : ℕ) (times demands : List ℕ) (first rounds 
   pub before : (windows : ℕ) → windows < rounds → length (after_windows servers times demands first windows).settled < length times
   pub all : length (after_windows servers times demands first rounds).settled ≡ length times
   pub judged : judgements ≡ (after_windows servers times demands first rounds).judged
+
+-- where the run stands that has come so far, with the length of the next window
+abbrev pub stand_of : Progress → ℕ → Stand
+stand_of progress width = record { settled = progress.admitted.items; width = width; judged = progress.judged }

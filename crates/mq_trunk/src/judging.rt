@@ -34,7 +34,7 @@ pub fn busy_among(latest: &[u64], now: u64) -> usize
 }
 
 // Puts one departure more in its place among these, the latest first; the earliest goes.
-pub fn keep_latest(latest: &mut [u64], depart: u64)
+fn put_in_place(latest: &mut [u64], depart: u64)
     ensures { latest.new ≡ take_place depart latest.old }
 {
     let mut held = depart;
@@ -45,4 +45,11 @@ pub fn keep_latest(latest: &mut [u64], depart: u64)
             held = other;
         }
     }
+}
+
+// The same in a vector.
+pub fn keep_latest(latest: &mut Vec<u64>, depart: u64)
+    ensures { latest.new.items ≡ take_place depart latest.old.items }
+{
+    put_in_place(latest.as_mut_slice(), depart);
 }

@@ -6,6 +6,7 @@
 mod judging;
 mod laws;
 mod whole;
+mod windows;
 
 pub use judging::judge_trunk;
 pub use laws::{guesses_grow, one_guess_stays, rounds_judge_each};

@@ -32,7 +32,7 @@ fn follow(latest: &mut Vec<u64>, admit: bool, depart: u64)
     ensures { latest.new.items ≡ (if admit then take_place depart latest.old.items else latest.old.items) }
 {
     if admit {
-        keep_latest(latest.as_mut_slice(), depart);
+        keep_latest(latest, depart);
     }
 }
 

@@ -1,9 +1,10 @@
 use Rattle.std.proofs.Common.{◌≡◌, ◌++◌, ◌+◌, ◌<◌, ◌≤◌, ℕ, Bool, List, [], ◌∷◌, length, take, Some, sym, ap, ◌∙◌, subst, arith}
 use Rattle.std.specs.Prelude.{nat_lt, replicate, slice_get}
 use Rattle.std.proofs.lemmas.List.{length-take-le}
-use Rattle.mq_trunk.specs.Rounds.{busy_at, finds_server, round_from}
-use Rattle.mq_trunk.proofs.Keeping.{IsKept, kept-judges, kept-none}
-use Rattle.mq_trunk.proofs.Looping.{item-at, kept-behind, left-none, left-push, left_of, round-all, round-next, take-more}
+use Rattle.mq_trunk.specs.Kept.{IsKept}
+use Rattle.mq_trunk.specs.Rounds.{busy_at, finds_server, left_of, round_from}
+use Rattle.mq_trunk.proofs.Keeping.{kept-judges, kept-none}
+use Rattle.mq_trunk.proofs.Looping.{item-at, kept-behind, left-none, left-push, round-all, round-next, take-more}
 use Rattle.mq_trunk.proofs.whole.trunk_round.Goals as goal
 
 pub loop-at-init : goal.loop-at-init

@@ -1,7 +1,6 @@
 use Rattle.std.proofs.Common.{◌≡◌, ◌++◌, drop, take}
-use Rattle.mq_trunk.specs.Rounds.{round_from, round_of}
-use Rattle.mq_trunk.proofs.Keeping.{IsKept}
-use Rattle.mq_trunk.proofs.Looping.{left_of}
+use Rattle.mq_trunk.specs.Kept.{IsKept}
+use Rattle.mq_trunk.specs.Rounds.{left_of, round_from, round_of}
 use Rattle.mq_trunk.proofs.whole.trunk_round.Given as goal
 
 -- the answers so far and those of what is left are all, and the latest departures stand for those of the guess so far

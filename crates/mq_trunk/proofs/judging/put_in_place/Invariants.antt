@@ -1,6 +1,6 @@
 use Rattle.std.proofs.Common.{◌≡◌, ◌++◌, drop, take, length}
 use Rattle.mq_trunk.specs.Kept.{take_place}
-use Rattle.mq_trunk.proofs.judging.keep_latest.Given as goal
+use Rattle.mq_trunk.proofs.judging.put_in_place.Given as goal
 
 -- the places so far, and what is held takes its place in what is left
 abbrev pub invariant-loop-at : goal.invariant-loop-at
