@@ -1,5 +1,6 @@
 pub mod Guesses
 pub mod Keeping
+pub mod Known
 pub mod Looping
 pub mod Reading
 pub mod Running

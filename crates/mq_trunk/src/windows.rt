@@ -1,4 +1,4 @@
-ghost use Rattle.std.specs.Prelude.{◌≡◌, ◌+◌, ◌-◌, ◌*◌, ◌^◌, ◌≤◌, ◌<◌, ◌++◌, drop, length, nat_lt, IfOk, vec_len, vec_capacity};
+ghost use Rattle.std.specs.Prelude.{◌≡◌, ◌+◌, ◌-◌, ◌*◌, ◌^◌, ◌≤◌, ◌<◌, ◌++◌, [], drop, length, nat_lt, IfOk, vec_len, vec_capacity};
 ghost use Rattle.mq_core.specs.Sequences.{IsSoundLoad};
 ghost use Rattle.mq_trunk.specs.Kept.{IsFalling, IsKept};
 ghost use Rattle.mq_trunk.specs.Rounds.{admission, all_admitted, busy_at, departures_of, left_of, round_from};
@@ -130,4 +130,75 @@ fn settle_window<L: Ledger>(
     progress.rounds += 1;
     progress.judged += (to - from) as u64;
     width_after(count, to - from)
+}
+
+// What a run of windows gives: the admission, the departures of those admitted, and its rounds.
+#[derive(Drop)]
+pub struct Settled {
+    pub admitted: List<bool>,
+    pub departs: List<u64>,
+    pub rounds: u32,
+    pub judged: u64,
+}
+
+// A run of windows that has not begun, with room for so many arrivals.
+fn with_room(alloc: Global, count: usize) -> Result<Progress, OutOfMemory>
+    ensures admitted { IfOk result (λ progress. progress.admitted.items ≡ []) }
+    ensures departs { IfOk result (λ progress. progress.departs.items ≡ []) }
+    ensures room { IfOk result (λ progress. count ≤ vec_capacity progress.admitted) }
+    ensures space { IfOk result (λ progress. count ≤ vec_capacity progress.departs) }
+    ensures rounds { IfOk result (λ progress. progress.rounds ≡ 0) }
+    ensures judged { IfOk result (λ progress. progress.judged ≡ 0) }
+{
+    let admitted = Vec::with_capacity(alloc, count)?;
+    let departs = Vec::with_capacity(alloc, count)?;
+    Ok(Progress {
+        admitted,
+        departs,
+        rounds: 0,
+        judged: 0,
+    })
+}
+
+// Settles all windows, the first of `first` arrivals.
+pub fn settle_windows<L: Ledger>(
+    alloc: Global,
+    stream: &Stream,
+    demands: &List<u64>,
+    servers: u8,
+    first: u32,
+    steps: &mut Steps<L>,
+) -> Result<Settled, OutOfMemory>
+    requires load { IsSoundLoad stream.now.time demands.now }
+    requires first { 1 ≤ first }
+    ensures admitted { IfOk result (λ settled. settled.admitted ≡ admission servers stream.now.time demands.now) }
+    ensures departs { IfOk result (λ settled. settled.departs ≡ departures_of stream.now.time demands.now settled.admitted) }
+    ensures run { IfOk result (λ settled. IsWindowRun servers stream.now.time demands.now first settled.rounds settled.judged) }
+    ensures rounds { IfOk result (λ settled. settled.rounds ≤ length stream.now.time) }
+    ensures judged { IfOk result (λ settled. settled.judged ≤ 2 * length stream.now.time + first) }
+    ensures least { IfOk result (λ settled. length stream.now.time ≤ settled.judged) }
+    ensures cost { IfOk result (λ settled. steps.new ≡ steps.old + length stream.now.time) }
+    ensures most { steps.new ≤ steps.old + length stream.now.time }
+{
+    let mut latest = all_free(alloc, servers)?;
+    let count = stream.time.len();
+    let mut progress = with_room(alloc, count)?;
+    let mut width = first as usize;
+    'window: while progress.admitted.len() < count {
+        width = settle_window(
+            stream,
+            demands,
+            servers,
+            width,
+            &mut progress,
+            &mut latest,
+            steps,
+        );
+    }
+    Ok(Settled {
+        admitted: List::from_vec(progress.admitted),
+        departs: List::from_vec(progress.departs),
+        rounds: progress.rounds,
+        judged: progress.judged,
+    })
 }
