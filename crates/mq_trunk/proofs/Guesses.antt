@@ -15,6 +15,7 @@ pub admission-next : (servers : ℕ) (left : List ℕ) (arrive demand : ℕ) (ar
     admission_from servers left (arrive ∷ arrives) (demand ∷ demands)
     ≡ finds_server servers left arrive ∷ admission_from servers (left_behind (finds_server servers left arrive) left arrive demand) arrives demands
 admission-next servers left arrive demand arrives demands = by-verdict servers left arrive demand arrives demands (finds_server servers left arrive)
+
 -- a right guess of the first arrival leaves the others as they are in truth
 step : (count servers : ℕ) (left : List ℕ) (arrive demand : ℕ) (arrives demands : List ℕ) (admit verdict : Bool) (guess : List Bool) →
     admit ∷ take count guess ≡ verdict ∷ take count (admission_from servers (left_behind verdict left arrive demand) arrives demands) →

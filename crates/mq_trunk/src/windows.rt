@@ -22,12 +22,7 @@ pub struct Progress {
 }
 
 // Whether an arrival finds a server, by the latest departures, one a server; counts one step.
-fn judge_arrival<L: Ledger>(
-    latest: &[u64],
-    servers: u8,
-    arrive: u64,
-    steps: &mut Steps<L>,
-) -> bool
+fn judge_arrival<L: Ledger>(latest: &[u64], servers: u8, arrive: u64, steps: &mut Steps<L>) -> bool
     requires falls { IsFalling latest.now }
     requires number { length latest.now ≡ servers }
     ensures answer { result ≡ nat_lt (busy_at arrive latest.now) servers }
