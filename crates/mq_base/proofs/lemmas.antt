@@ -1,6 +1,7 @@
 -- The lemmas that proofs of other crates cite too, a page a topic. What else stands in proofs is this crate's own.
 pub mod Between
 pub mod Each
+pub mod FlatMaps
 pub mod Lines
 pub mod Lists
 pub mod Numbers

@@ -9,7 +9,7 @@ use Rattle.mq_crew.proofs.lemmas.Sizes.{total-most}
 use Rattle.mq_branches.specs.Servers.{IsCarried, IsTask}
 use Rattle.mq_branches.specs.declared.servers.Carried.{Carried}
 use Rattle.mq_branches.specs.declared.servers.Task.{Task}
-use Rattle.mq_stations.proofs.lemmas.Blocks.{blocks-few}
+use Rattle.mq_scan.proofs.lemmas.Blocks.{blocks-few}
 use Rattle.mq_stations.proofs.lemmas.Lists.{map-more}
 
 abbrev pub task_of : Carried → Task

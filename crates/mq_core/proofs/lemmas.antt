@@ -1,4 +1,5 @@
 -- The lemmas that proofs of other crates cite too, a page a topic. What else stands in proofs is this crate's own.
 pub mod Orders
+pub mod Plans
 pub mod Rising
 pub mod Matches

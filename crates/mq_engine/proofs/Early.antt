@@ -3,19 +3,14 @@ use Rattle.std.proofs.Common.{◌≡◌, ℕ, suc, ◌^◌, ◌≤◌, Bool, tru
 use Rattle.std.specs.Prelude.{slice_get}
 use Rattle.std.specs.List.{AllByRecursion as Each, flat_map, zip}
 use Rattle.mq_base.proofs.lemmas.Each.{Each-append}
-use Rattle.mq_core.specs.Sequences.{IsStream, rows_at, time_of_fate}
-use Rattle.mq_core.specs.OnceOut.{leaving_times}
-use Rattle.mq_core.specs.Streams.{by_first, pairs_of, picked}
+use Rattle.mq_core.specs.Sequences.{IsStream, rows_at}
+use Rattle.mq_core.specs.Streams.{by_first, pairs_of}
 use Rattle.mq_core.specs.Laws.{insert_by}
-use Rattle.mq_core.specs.declared.model.Fate.{Fate}
-use Rattle.mq_core.specs.declared.model.Fate.TheVariants.{Departs, Held, Lost}
 use Rattle.mq_core.specs.declared.model.Input.{Input}
 use Rattle.mq_core.specs.declared.model.Stream.{Stream}
-use Rattle.mq_engine.specs.Working.{AreEarly, pairs_by, pairs_in, pairs_read}
-use Rattle.mq_engine.proofs.Lists.{zip-first}
-
-abbrev Pairs : Type 0
-Pairs = List (ℕ × ℕ)
+use Rattle.mq_engine.specs.Progress.{AreEarly}
+use Rattle.mq_arrivals.specs.Arrivals.{Pairs, pairs_by, pairs_in, pairs_read}
+use Rattle.mq_base.proofs.lemmas.Zips.{zip-first}
 
 abbrev pub EarlyTimes : List ℕ → Type 0
 EarlyTimes times = Each (λ time. time ≤ 2 ^ 60) times
@@ -72,21 +67,3 @@ firsts-early (p ∷ ps) h = (h.0, firsts-early ps h.1)
 pub stream-early : (s : Stream) (ps : Pairs) → IsStream s → pairs_of s ≡ by_first ps → EarlyPairs ps → EarlyTimes s.time
 stream-early s ps even e h =
     subst EarlyTimes (zip-first s.time s.job even.even) (firsts-early (pairs_of s) (subst EarlyPairs (sym e) (merged-early ps h)))
-
--- what is picked of early times is early
-pub picked-early : (out : ℕ) (outs times : List ℕ) → EarlyTimes times → EarlyTimes (picked out outs times)
-picked-early out [] times h = tt
-picked-early out (o ∷ os) [] h = tt
-picked-early out (o ∷ os) (t ∷ ts) h = go (eqb o out) (picked-early out os ts h.1)
-  where
-    go : (b : Bool) → EarlyTimes (picked out os ts) → EarlyTimes (cond b (t ∷ picked out os ts) (picked out os ts))
-    go true ih = (h.0, ih)
-    go false ih = ih
-
--- what leaves is early where the arrivals and the departures are
-pub leaving-early : (arrives : List ℕ) (fates : List Fate) → EarlyTimes arrives → EarlyTimes (map time_of_fate fates) → EarlyTimes (leaving_times arrives fates)
-leaving-early [] fates h k = tt
-leaving-early (a ∷ rest) [] h k = tt
-leaving-early (a ∷ rest) (Departs time ∷ fates) h k = (k.0, leaving-early rest fates h.1 k.1)
-leaving-early (a ∷ rest) (Lost ∷ fates) h k = (h.0, leaving-early rest fates h.1 k.1)
-leaving-early (a ∷ rest) (Held ∷ fates) h k = (h.0, leaving-early rest fates h.1 k.1)

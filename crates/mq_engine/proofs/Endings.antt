@@ -1,15 +1,14 @@
 -- The end of the waves: where no node is ready any more, each is done, or the first by rank that is not has too many visits or a late one.
-use Rattle.std.proofs.Common.{◌≡◌, ℕ, zero, suc, ◌+◌, ◌<◌, ◌≤◌, ◌⊎◌, inl, inr, Bool, true, List, [], ◌∷◌, length, take, Some, None, refl, sym, ap, ◌∙◌, subst, arith}
+use Rattle.std.proofs.Common.{◌≡◌, ℕ, suc, ◌+◌, ◌<◌, ◌≤◌, ◌⊎◌, inl, inr, Bool, true, List, [], ◌∷◌, length, take, Some, None, refl, sym, ap, ◌∙◌, subst, arith}
 use Rattle.std.specs.Prelude.{◌&&◌, filter, slice_get}
 use Rattle.std.specs.Option.{option_map}
 use Rattle.std.specs.List.{list_all}
 use Rattle.std.proofs.lemmas.Bool.{cases_lt}
 use Rattle.std.proofs.lemmas.Option.{slice_get-map, slice_get_within}
 use Rattle.mq_base.proofs.lemmas.Lists.{some_inj}
-use Rattle.mq_core.specs.Sequences.{IsRunOf, sequence_refusal}
-use Rattle.mq_core.specs.StandardTable.{run_of}
+use Rattle.mq_core.specs.Sequences.{IsRunOf}
 use Rattle.mq_core.specs.NumberLaws.{IsFineBelow}
-use Rattle.mq_core.specs.Results.{Refusal, refusal_of, visits_of}
+use Rattle.mq_core.specs.Results.{refusal_of}
 use Rattle.mq_core.specs.Theorems.{IsReadFor}
 use Rattle.mq_core.specs.Wiring.{outputs_read}
 use Rattle.mq_core.specs.declared.model.Input.{Input}
@@ -17,19 +16,14 @@ use Rattle.mq_core.specs.declared.model.Plan.{Plan}
 use Rattle.mq_core.specs.declared.model.Rows.{Rows}
 use Rattle.mq_core.specs.declared.model.Stream.{Stream}
 use Rattle.mq_core.specs.declared.model.Visits.{Visits}
-use Rattle.mq_engine.specs.Refusals.{over_told, past_told}
+use Rattle.mq_exits.specs.Refusals.{over_told, past_told}
 use Rattle.mq_engine.specs.CoreLaws.{CoreLaws}
 use Rattle.mq_engine.specs.Progress.{AreWithin, IsReached, is_done, is_read, is_ready, is_waiting, reads_done, stands_at}
 use Rattle.mq_stations.specs.declared.late.OverFault.{OverFault}
 use Rattle.mq_stations.specs.declared.late.PastFault.{PastFault}
 use Rattle.mq_engine.specs.declared.progress.Stand.{Stand}
 use Rattle.mq_engine.specs.declared.progress.Stand.TheVariants.{Waiting, Done, Crowded, Late}
-use Rattle.mq_engine.proofs.Lists.{filter-none, get-take, has-index}
-
-pub get-some : {X : Type 0} (xs : List X) (i : ℕ) → i < length xs → (x : X) × (slice_get xs i ≡ Some x)
-get-some [] i l = absurd (omega arith)
-get-some (x ∷ xs) zero l = (x, refl)
-get-some (x ∷ xs) (suc i) l = get-some xs i (omega arith)
+use Rattle.mq_engine.proofs.Lists.{filter-none, get-some, get-take, has-index}
 
 all-pass : {X : Type 0} (test : X → Bool) (xs : List X) → ((k : ℕ) (x : X) → slice_get xs k ≡ Some x → test x ≡ true) → list_all test xs ≡ true
 all-pass test [] h = refl

@@ -1,5 +1,5 @@
 -- Forks and joins: what is gathered, port after port, and that what is made of it is what the run has.
-use Rattle.std.proofs.Common.{◌≡◌, ℕ, zero, suc, ◌+◌, ◌^◌, ◌<◌, ◌≤◌, Bool, true, false, cond, List, [], ◌∷◌, ◌++◌, length, get_or, map, take, Option, Some, None, sym, refl, ap, ◌∙◌, subst, arith, append_assoc, length-append}
+use Rattle.std.proofs.Common.{◌≡◌, ℕ, zero, suc, ◌+◌, ◌<◌, ◌≤◌, Bool, true, false, cond, List, [], ◌∷◌, ◌++◌, length, get_or, map, take, Option, Some, None, sym, refl, ap, ◌∙◌, subst, arith, append_assoc, length-append}
 use Rattle.std.specs.Prelude.{nat_lt, slice_get}
 use Rattle.std.specs.List.{AllByRecursion as Each}
 use Rattle.std.specs.Option.{option_map}
@@ -23,7 +23,7 @@ use Rattle.mq_core.specs.SequenceLaws.{arrives_of, jobs_of, sends_once}
 use Rattle.mq_core.specs.Sequences.{IsStream, sequence_late_from, sequence_refusal, sequence_stream, sequence_visits, streams_below}
 use Rattle.mq_core.specs.Sound.{outputs_in}
 use Rattle.mq_core.specs.StandardTable.{run_of}
-use Rattle.mq_core.specs.Streams.{by_port, pairs_of}
+use Rattle.mq_core.specs.Streams.{pairs_of}
 use Rattle.mq_core.specs.Theorems.{IsReadFor}
 use Rattle.mq_core.specs.Wiring.{is_source_kind}
 use Rattle.mq_core.specs.declared.model.Input.{Input}
@@ -38,13 +38,14 @@ use Rattle.mq_join.specs.Gathers.{AddsPort, came_to}
 use Rattle.mq_join.specs.declared.gathered.Gathered.{Gathered}
 use Rattle.mq_engine.specs.Apart.{AreGathered, AreSequences, CanGather, IsGatheredAt}
 use Rattle.mq_engine.specs.CoreLaws.{CoreLaws}
-use Rattle.mq_engine.specs.Progress.{HasAll, IsKnown}
-use Rattle.mq_engine.specs.Working.{AreEarly, pairs_read, read_by}
-use Rattle.mq_engine.specs.declared.working.Ending.TheVariants.{OnTime}
-use Rattle.mq_stations.specs.Leaving.{IsEarlyStream}
-use Rattle.mq_engine.proofs.Comings.{pairs-length}
+use Rattle.mq_arrivals.specs.Arrivals.{pairs_read}
+use Rattle.mq_engine.specs.Progress.{AreEarly, read_by}
+use Rattle.mq_exits.specs.Results.{IsKnown}
+use Rattle.mq_exits.specs.declared.working.Ending.TheVariants.{OnTime}
+use Rattle.mq_arrivals.proofs.Comings.{pairs-length}
 use Rattle.mq_engine.proofs.Early.{EarlyTimes, stream-early}
-use Rattle.mq_engine.proofs.Waves.{arriving-early, left-ordered, refusal-few}
+use Rattle.mq_engine.proofs.Waves.{arriving-early}
+use Rattle.mq_exits.proofs.Known.{left-ordered, refusal-few}
 
 -- an item, by this port
 abbrev by : ℕ → List (ℕ × ℕ) → List (ℕ × ℕ × ℕ)
@@ -252,7 +253,7 @@ module _ (laws : CoreLaws) (plan : Plan) (rows : Rows) (outputs : List (List Str
         let inside : out < outputs_in node.kind = subst (λ m. out < m) s.count (slice_get_within streams out stream e) in
         let is : stream_from ((run_of plan rows).stations v) out ≡ stream = some_inj _ _ (sym (laws.have (run_of plan rows) v (outputs_in node.kind) out inside) ∙ (ap (λ (l : List Stream). slice_get l out) (sym same) ∙ e)) in
         record {
-          ordered = left-ordered laws plan rows v (outputs_in node.kind) out streams stream same s.count e;
+          ordered = left-ordered laws.have laws.streams plan rows v (outputs_in node.kind) out streams stream same s.count e;
           early = subst (λ (z : Stream). EarlyTimes z.time) is (stream-is-early early out);
         },
     apart-refusal gathered visits streams None g s h,

@@ -1,17 +1,9 @@
 pub mod Lists
-pub mod Sorted
-pub mod Leavings
-pub mod Passing
 pub mod Early
 pub mod Waves
 pub mod Settling
 pub mod Endings
 pub mod Scanning
 pub mod Groups
-pub mod Closings
-pub mod DelayOrder
-pub mod Comings
-pub mod SplitBlocks
-pub mod Founding
 pub mod Gathers
 pub mod Telling

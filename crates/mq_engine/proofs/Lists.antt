@@ -1,29 +1,23 @@
 -- Lists by index, and what a loop has made of one so far.
-use Rattle.std.proofs.Common.{◌==◌, ◌||◌, ◌&&◌, ◌≡◌, ◌≢◌, ℕ, zero, suc, ◌+◌, ◌<◌, Bool, true, false, cond, IsTrue, List, [], ◌∷◌, ◌++◌, length, set, take, drop, map, Some, sym, refl, ap, ◌∙◌, arith, eqb-true}
-use Rattle.std.specs.Prelude.{count_by, filter, slice_get}
-use Rattle.std.proofs.lemmas.List.Sums.{sum_by-cons}
-use Rattle.std.specs.List.{AllByRecursion as Each, flat_map, list_all, zip}
+use Rattle.std.proofs.Common.{◌==◌, ◌||◌, ◌&&◌, ◌≡◌, ◌≢◌, ℕ, zero, suc, ◌+◌, ◌<◌, Bool, true, false, cond, IsTrue, List, [], ◌∷◌, ◌++◌, length, set, take, Some, sym, refl, ap, ◌∙◌, arith, eqb-true}
+use Rattle.std.specs.Prelude.{filter, slice_get}
+use Rattle.std.specs.List.{AllByRecursion as Each, list_all, zip}
 use Rattle.std.proofs.lemmas.Bool.{and_parts}
 use Rattle.std.proofs.lemmas.List.Folds.{list_all_at, list_all_more}
 use Rattle.std.proofs.lemmas.Option.{get_or_from_slice_get, slice_get_within}
 use Rattle.std.proofs.lemmas.List.{append-nil}
-use Rattle.mq_base.proofs.lemmas.Lists.{drop_suc, some_inj}
+use Rattle.mq_base.proofs.lemmas.Lists.{some_inj}
 use Rattle.mq_core.specs.Wiring.{has}
-
--- those that pass a test, of what is left from an index on
-pub count-at : {X : Type 0} (p : X → Bool) (xs : List X) (i : ℕ) (x : X) → slice_get xs i ≡ Some x → count_by p (drop i xs) ≡ cond (p x) 1 0 + count_by p (drop (i + 1) xs)
-count-at p xs i x h =
-    let next : suc i ≡ i + 1 = omega arith in
-    ap (count_by p) (drop_suc xs i x h) ∙ (sum_by-cons (λ y. cond (p y) 1 0) x (drop (suc i) xs) ∙ ap (λ n. cond (p x) 1 0 + count_by p (drop n xs)) next)
-
--- two functions that agree on the items of a list
-pub flat_map-same : {X Y : Type 0} (f g : X → List Y) (xs : List X) → ((k : ℕ) (x : X) → slice_get xs k ≡ Some x → f x ≡ g x) → flat_map f xs ≡ flat_map g xs
-flat_map-same f g [] h = refl
-flat_map-same f g (x ∷ xs) h = (λ k. h zero x refl k ++ flat_map-same f g xs (λ j y e. h (suc j) y e) k)
 
 pub Each-at : {X : Type 0} (P : X → Type 0) (xs : List X) → ((k : ℕ) (x : X) → slice_get xs k ≡ Some x → P x) → Each P xs
 Each-at P [] h = tt
 Each-at P (x ∷ xs) h = (h zero x refl, Each-at P xs (λ k y e. h (suc k) y e))
+
+-- what stands at an index
+pub get-some : {X : Type 0} (xs : List X) (i : ℕ) → i < length xs → (x : X) × (slice_get xs i ≡ Some x)
+get-some [] i l = absurd (omega arith)
+get-some (x ∷ xs) zero l = (x, refl)
+get-some (x ∷ xs) (suc i) l = get-some xs i (omega arith)
 
 -- an index that is written
 pub get-set_same : {X : Type 0} (xs : List X) (i : ℕ) (x : X) → i < length xs → slice_get (set xs i x) i ≡ Some x
@@ -54,38 +48,11 @@ get-take (y ∷ ys) zero q x h = absurd cc
 get-take (y ∷ ys) (suc rank) zero x h = (omega arith, h)
 get-take (y ∷ ys) (suc rank) (suc q) x h = let r = get-take ys rank q x h in (let l = r.0 in omega arith, r.1)
 
--- one item more in both lists of a zip
-pub zip-push : (ts js ts' js' : List ℕ) (t j : ℕ) → length js ≡ length ts → ts' ≡ ts ++ t ∷ [] → js' ≡ js ++ j ∷ [] → zip ts' js' ≡ zip ts js ++ (t, j) ∷ []
-zip-push ts js ts' js' t j h a b = (λ k. zip (a k) (b k)) ∙ go ts js h
-  where
-    go : (us ks : List ℕ) → length ks ≡ length us → zip (us ++ t ∷ []) (ks ++ j ∷ []) ≡ zip us ks ++ (t, j) ∷ []
-    go [] [] e = refl
-    go [] (k ∷ ks) e = absurd (omega arith)
-    go (u ∷ us) [] e = absurd (omega arith)
-    go (u ∷ us) (k ∷ ks) e = ap (λ l. (u, k) ∷ l) (go us ks (omega arith))
-
--- both lists of a zip, where they are as long
-pub zip-first : (ts js : List ℕ) → length js ≡ length ts → map (λ (p : ℕ × ℕ). p.0) (zip ts js) ≡ ts
-zip-first [] js h = refl
-zip-first (t ∷ ts) [] h = absurd (omega arith)
-zip-first (t ∷ ts) (j ∷ js) h = ap (λ l. t ∷ l) (zip-first ts js (omega arith))
-
+-- how long a zip is
 pub zip-length : (ts js : List ℕ) → length js ≡ length ts → length (zip ts js) ≡ length ts
 zip-length [] js h = refl
 zip-length (t ∷ ts) [] h = absurd (omega arith)
 zip-length (t ∷ ts) (j ∷ js) h = let rest = zip-length ts js (omega arith) in omega arith
-
-zip-second : (ts js : List ℕ) → length js ≡ length ts → map (λ (p : ℕ × ℕ). p.1) (zip ts js) ≡ js
-zip-second [] [] h = refl
-zip-second [] (j ∷ js) h = absurd (omega arith)
-zip-second (t ∷ ts) [] h = refl
-zip-second (t ∷ ts) (j ∷ js) h = ap (λ l. j ∷ l) (zip-second ts js (omega arith))
-
-pub zip-times : (ts js us ks : List ℕ) → length js ≡ length ts → length ks ≡ length us → zip ts js ≡ zip us ks → ts ≡ us
-zip-times ts js us ks a b h = sym (zip-first ts js a) ∙ (ap (map (λ (p : ℕ × ℕ). p.0)) h ∙ zip-first us ks b)
-
-pub zip-jobs : (ts js us ks : List ℕ) → length js ≡ length ts → length ks ≡ length us → zip ts js ≡ zip us ks → js ≡ ks
-zip-jobs ts js us ks a b h = sym (zip-second ts js a) ∙ (ap (map (λ (p : ℕ × ℕ). p.1)) h ∙ zip-second us ks b)
 
 -- what all pass, each passes
 pub all-get : {X : Type 0} (test : X → Bool) (xs : List X) (k : ℕ) (x : X) → list_all test xs ≡ true → slice_get xs k ≡ Some x → test x ≡ true

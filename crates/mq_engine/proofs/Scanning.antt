@@ -1,38 +1,36 @@
 -- A station that is scanned: its blocks, its summaries and its applied blocks.
-use Rattle.std.proofs.Common.{◌≡◌, ℕ, ◌+◌, ◌<◌, ◌≤◌, ◌⊎◌, inl, inr, List, [], ◌∷◌, ◌++◌, length, get_or, map, Some, sym, ap, ◌∙◌, subst, arith, length-append}
-use Rattle.std.proofs.Math.ListN.{get_or-append}
+use Rattle.std.proofs.Common.{◌≡◌, ℕ, ◌+◌, ◌<◌, ◌≤◌, ◌⊎◌, inl, inr, List, [], ◌∷◌, ◌++◌, length, get_or, map, sym, ap, ◌∙◌, subst, arith, length-append}
+use Rattle.std.proofs.Math.ListN.{get_or-append, get_or-map}
 use Rattle.std.proofs.Math.Seq.{get_or-append_seam}
 use Rattle.std.proofs.lemmas.Bool.{cases_lt}
 use Rattle.std.proofs.lemmas.List.{length-map}
-use Rattle.std.specs.Prelude.{slice_get}
-use Rattle.std.proofs.lemmas.Option.{slice_get_within}
 use Rattle.mq_base.proofs.lemmas.Lists.{some_inj}
 use Rattle.mq_core.specs.Sequences.{IsSoundLoad}
-use Rattle.mq_core.specs.OnceOut.{founds_of}
-use Rattle.mq_core.specs.SequenceLaws.{FatesAreInTime, SequencesGoByFates}
 use Rattle.mq_core.specs.Handling.{demand_of_job}
 use Rattle.mq_core.specs.Recurrences.{forkjoin_departs, lindley, tandem_departs}
-use Rattle.mq_core.specs.declared.model.Fate.{Fate}
-use Rattle.mq_core.specs.declared.model.Fate.TheVariants.{Departs}
 use Rattle.mq_core.specs.declared.model.Node.{Node}
 use Rattle.mq_core.specs.declared.model.Kind.{Kind}
 use Rattle.mq_core.specs.declared.model.Kind.TheVariants.{ForkJoin, Server, Tandem}
 use Rattle.mq_core.specs.declared.model.Plan.{Plan}
 use Rattle.mq_core.specs.declared.model.Rows.{Rows}
 use Rattle.mq_core.specs.declared.model.Stream.{Stream}
+use Rattle.mq_crew.specs.Crew.{AreAll}
+use Rattle.mq_scan.specs.declared.blocks.Blocks.{Blocks}
 use Rattle.mq_tandem.specs.Rows.{IsTandemLoad}
 use Rattle.mq_stations.specs.Scans.{AreBranchLoads}
 use Rattle.mq_stations.specs.Leaving.{AreServed, IsLoad}
-use Rattle.mq_engine.specs.Loads.{IsAfterAt, IsLoaded, IsScanOf, IsServed, IsShut}
-use Rattle.mq_engine.specs.declared.exits.Closed.TheVariants.{Found, Jobs, Times}
-use Rattle.mq_engine.specs.declared.working.After.TheVariants.{Seen}
+use Rattle.mq_exits.specs.Afters.{IsServed}
+use Rattle.mq_exits.specs.Loads.{IsLoaded}
+use Rattle.mq_exits.specs.Splits.{AreSplitGroup, IsSplitAt}
+use Rattle.mq_engine.specs.Loads.{IsRouted, IsScanOf, IsScanned, IsSplitPart}
+use Rattle.mq_engine.specs.declared.firsts.Part.{Part}
+use Rattle.mq_engine.specs.declared.firsts.Part.TheVariants.{Product, Routed, Whole}
 use Rattle.mq_engine.specs.declared.loads.Scan.{Scan}
-use Rattle.mq_engine.specs.declared.loads.Scan.TheVariants.{OfForkJoin, OfServer, OfTandem, Unscanned}
+use Rattle.mq_engine.specs.declared.loads.Scan.TheVariants.{OfForkJoin, OfServer, OfSplit, OfTandem}
 use Rattle.mq_stations.specs.declared.forkjoin.ForkJoinScan.{ForkJoinScan}
 use Rattle.mq_stations.specs.declared.tandem.TandemScan.{TandemScan}
-use Rattle.mq_stations.proofs.lemmas.Leaves.{departs-left, load-sound, server-served}
+use Rattle.mq_stations.proofs.lemmas.Leaves.{load-sound, server-served}
 use Rattle.mq_stations.proofs.lemmas.StageFacts.{branch-loads, demands-told, forkjoin-departs, loads-sound, stages-are, tandem-served}
-use Rattle.mq_engine.proofs.Leavings.{kept-streams}
 
 -- a further item, where each is that of its index
 pub items-more : {S : Type 0} (is : ℕ → S → Type 0) (items items' : List S) (b : ℕ) (item : S) → length items ≡ b → ((k : ℕ) (d : S) → k < b → is k (get_or items k d)) → is b item → items' ≡ items ++ item ∷ [] →
@@ -51,16 +49,16 @@ items-more {S} is items items' b item len each own e = (
         subst (λ (z : ℕ × S). is z.0 z.1) (λ i. (at i, found i)) own
 
 -- what is scanned is a sound load of all arrivals
-pub server-sound : (plan : Plan) (rows : Rows) (v : ℕ) (arrivals : Stream) (scan : Scan) (demands : List ℕ) → IsLoaded plan rows v arrivals scan → scan ≡ OfServer demands → IsSoundLoad arrivals.time demands
+pub server-sound : (plan : Plan) (rows : Rows) (v : ℕ) (arrivals : Stream) (scan : Scan) (demands : List ℕ) → IsScanned plan rows v arrivals scan → scan ≡ OfServer demands → IsSoundLoad arrivals.time demands
 server-sound plan rows v arrivals scan demands l e =
-    let is : IsScanOf rows l.node.kind arrivals (OfServer demands) = subst (IsScanOf rows l.node.kind arrivals) e l.scanned in
-    let load : IsLoad rows (Server is.0) arrivals = subst (λ (k : Kind). IsLoad rows k arrivals) is.1 l.load in
+    let is : IsScanOf rows l.loaded.node.kind arrivals (OfServer demands) = subst (IsScanOf rows l.loaded.node.kind arrivals) e l.way in
+    let load : IsLoad rows (Server is.0) arrivals = subst (λ (k : Kind). IsLoad rows k arrivals) is.1 l.loaded.load in
     load-sound rows (Server is.0) is.0 arrivals demands load load.told is.2
 
-pub tandem-sound : (plan : Plan) (rows : Rows) (v : ℕ) (arrivals : Stream) (scan : Scan) (its : TandemScan) → IsLoaded plan rows v arrivals scan → scan ≡ OfTandem its → IsTandemLoad arrivals.time its.demands its.places × (its.blocks.n ≡ length arrivals.time)
+pub tandem-sound : (plan : Plan) (rows : Rows) (v : ℕ) (arrivals : Stream) (scan : Scan) (its : TandemScan) → IsScanned plan rows v arrivals scan → scan ≡ OfTandem its → IsTandemLoad arrivals.time its.demands its.places × (its.blocks.n ≡ length arrivals.time)
 tandem-sound plan rows v arrivals scan its l e =
-    let is : IsScanOf rows l.node.kind arrivals (OfTandem its) = subst (IsScanOf rows l.node.kind arrivals) e l.scanned in
-    let load : IsLoad rows (Tandem is.0) arrivals = subst (λ (k : Kind). IsLoad rows k arrivals) is.1 l.load in
+    let is : IsScanOf rows l.loaded.node.kind arrivals (OfTandem its) = subst (IsScanOf rows l.loaded.node.kind arrivals) e l.way in
+    let load : IsLoad rows (Tandem is.0) arrivals = subst (λ (k : Kind). IsLoad rows k arrivals) is.1 l.loaded.load in
     let its_scan = is.2 in (
       record {
         load = loads-sound rows (Tandem is.0) its_scan.asked _ arrivals its.demands load its_scan.asks (demands-told rows _ arrivals.job load.told) its_scan.demands;
@@ -69,52 +67,53 @@ tandem-sound plan rows v arrivals scan its l e =
       its_scan.blocks.0,
     )
 
-pub forkjoin-sound : (plan : Plan) (rows : Rows) (v : ℕ) (arrivals : Stream) (scan : Scan) (its : ForkJoinScan) → IsLoaded plan rows v arrivals scan → scan ≡ OfForkJoin its → AreBranchLoads arrivals.time its.demands × (its.blocks.n ≡ length arrivals.time)
+pub forkjoin-sound : (plan : Plan) (rows : Rows) (v : ℕ) (arrivals : Stream) (scan : Scan) (its : ForkJoinScan) → IsScanned plan rows v arrivals scan → scan ≡ OfForkJoin its → AreBranchLoads arrivals.time its.demands × (its.blocks.n ≡ length arrivals.time)
 forkjoin-sound plan rows v arrivals scan its l e =
-    let is : IsScanOf rows l.node.kind arrivals (OfForkJoin its) = subst (IsScanOf rows l.node.kind arrivals) e l.scanned in
-    let load : IsLoad rows (ForkJoin is.0) arrivals = subst (λ (k : Kind). IsLoad rows k arrivals) is.1 l.load in
+    let is : IsScanOf rows l.loaded.node.kind arrivals (OfForkJoin its) = subst (IsScanOf rows l.loaded.node.kind arrivals) e l.way in
+    let load : IsLoad rows (ForkJoin is.0) arrivals = subst (λ (k : Kind). IsLoad rows k arrivals) is.1 l.loaded.load in
     (branch-loads rows is.0 arrivals its.demands load is.2.demands, is.2.blocks.0)
 
--- a station whose scan is let go is loaded as before
-pub unscanned : (plan : Plan) (rows : Rows) (v : ℕ) (arrivals : Stream) (scan : Scan) → IsLoaded plan rows v arrivals scan → IsLoaded plan rows v arrivals Unscanned
-unscanned plan rows v arrivals scan l = record { node = l.node; there = l.there; once = l.once; came = l.came; load = l.load; scanned = tt }
-
--- a node of the plan that is loaded is there
-pub loaded-inside : (plan : Plan) (rows : Rows) (v : ℕ) (arrivals : Stream) (scan : Scan) → IsLoaded plan rows v arrivals scan → v < length plan.net.nodes
-loaded-inside plan rows v arrivals scan l = slice_get_within plan.net.nodes v l.node l.there
-
-pub load-at : (plan : Plan) (rows : Rows) (v : ℕ) (arrivals : Stream) (scan : Scan) (node : Node) → IsLoaded plan rows v arrivals scan → slice_get plan.net.nodes v ≡ Some node → IsLoad rows node.kind arrivals
-load-at plan rows v arrivals scan node l there = subst (λ (n : Node). IsLoad rows n.kind arrivals) (some_inj _ _ (sym l.there ∙ there)) l.load
-
 -- what its blocks give, or its single pass, is when its jobs depart
-served-at : (plan : Plan) (rows : Rows) (v : ℕ) (arrivals : Stream) (scan : Scan) (kind : Kind) (departs : List ℕ) → (l : IsLoaded plan rows v arrivals scan) → l.node.kind ≡ kind → AreServed rows kind arrivals departs → IsServed plan rows v arrivals departs
-served-at plan rows v arrivals scan kind departs l e s =
+served-at : (plan : Plan) (rows : Rows) (v : ℕ) (arrivals : Stream) (kind : Kind) (departs : List ℕ) → (l : IsLoaded plan rows v arrivals) → l.node.kind ≡ kind → AreServed rows kind arrivals departs → IsServed plan rows v arrivals departs
+served-at plan rows v arrivals kind departs l e s =
     λ node there. let same : l.node ≡ node = some_inj _ _ (sym l.there ∙ there) in subst (λ (k : Kind). AreServed rows k arrivals departs) (sym e ∙ ap (λ (n : Node). n.kind) same) s
 
-pub server-leaves : (plan : Plan) (rows : Rows) (v : ℕ) (arrivals : Stream) (scan : Scan) (demands departs : List ℕ) → IsLoaded plan rows v arrivals scan → scan ≡ OfServer demands → departs ≡ lindley 0 arrivals.time demands → IsServed plan rows v arrivals departs
+pub server-leaves : (plan : Plan) (rows : Rows) (v : ℕ) (arrivals : Stream) (scan : Scan) (demands departs : List ℕ) → IsScanned plan rows v arrivals scan → scan ≡ OfServer demands → departs ≡ lindley 0 arrivals.time demands → IsServed plan rows v arrivals departs
 server-leaves plan rows v arrivals scan demands departs l e d =
-    let is : IsScanOf rows l.node.kind arrivals (OfServer demands) = subst (IsScanOf rows l.node.kind arrivals) e l.scanned in
-    served-at plan rows v arrivals scan (Server is.0) departs l is.1 (server-served rows is.0 arrivals demands departs is.2 d)
+    let is : IsScanOf rows l.loaded.node.kind arrivals (OfServer demands) = subst (IsScanOf rows l.loaded.node.kind arrivals) e l.way in
+    served-at plan rows v arrivals (Server is.0) departs l.loaded is.1 (server-served rows is.0 arrivals demands departs is.2 d)
 
-pub tandem-leaves : (plan : Plan) (rows : Rows) (v : ℕ) (arrivals : Stream) (scan : Scan) (its : TandemScan) (departs : List ℕ) → IsLoaded plan rows v arrivals scan → scan ≡ OfTandem its → departs ≡ tandem_departs its.places (map (λ _. []) its.places) arrivals.time its.demands → IsServed plan rows v arrivals departs
+pub tandem-leaves : (plan : Plan) (rows : Rows) (v : ℕ) (arrivals : Stream) (scan : Scan) (its : TandemScan) (departs : List ℕ) → IsScanned plan rows v arrivals scan → scan ≡ OfTandem its → departs ≡ tandem_departs its.places (map (λ _. []) its.places) arrivals.time its.demands → IsServed plan rows v arrivals departs
 tandem-leaves plan rows v arrivals scan its departs l e d =
-    let is : IsScanOf rows l.node.kind arrivals (OfTandem its) = subst (IsScanOf rows l.node.kind arrivals) e l.scanned in
-    let load : IsLoad rows (Tandem is.0) arrivals = subst (λ (k : Kind). IsLoad rows k arrivals) is.1 l.load in
-    served-at plan rows v arrivals scan (Tandem is.0) departs l is.1 (tandem-served load.columns rows is.0 arrivals is.2.asked its.demands its.places departs load.sound is.2.asks is.2.demands is.2.places d)
+    let is : IsScanOf rows l.loaded.node.kind arrivals (OfTandem its) = subst (IsScanOf rows l.loaded.node.kind arrivals) e l.way in
+    let load : IsLoad rows (Tandem is.0) arrivals = subst (λ (k : Kind). IsLoad rows k arrivals) is.1 l.loaded.load in
+    served-at plan rows v arrivals (Tandem is.0) departs l.loaded is.1 (tandem-served load.columns rows is.0 arrivals is.2.asked its.demands its.places departs load.sound is.2.asks is.2.demands is.2.places d)
 
-pub forkjoin-leaves : (plan : Plan) (rows : Rows) (v : ℕ) (arrivals : Stream) (scan : Scan) (its : ForkJoinScan) (departs : List ℕ) → IsLoaded plan rows v arrivals scan → scan ≡ OfForkJoin its → departs ≡ forkjoin_departs arrivals.time its.demands → IsServed plan rows v arrivals departs
+pub forkjoin-leaves : (plan : Plan) (rows : Rows) (v : ℕ) (arrivals : Stream) (scan : Scan) (its : ForkJoinScan) (departs : List ℕ) → IsScanned plan rows v arrivals scan → scan ≡ OfForkJoin its → departs ≡ forkjoin_departs arrivals.time its.demands → IsServed plan rows v arrivals departs
 forkjoin-leaves plan rows v arrivals scan its departs l e d =
-    let is : IsScanOf rows l.node.kind arrivals (OfForkJoin its) = subst (IsScanOf rows l.node.kind arrivals) e l.scanned in
-    served-at plan rows v arrivals scan (ForkJoin is.0) departs l is.1 (forkjoin-departs rows is.0 arrivals its.demands departs is.2.demands d)
+    let is : IsScanOf rows l.loaded.node.kind arrivals (OfForkJoin its) = subst (IsScanOf rows l.loaded.node.kind arrivals) e l.way in
+    served-at plan rows v arrivals (ForkJoin is.0) departs l.loaded is.1 (forkjoin-departs rows is.0 arrivals its.demands departs is.2.demands d)
 
--- what becomes of the arrivals at such a station
-pub opens : SequencesGoByFates → FatesAreInTime → (plan : Plan) (rows : Rows) (v : ℕ) (arrivals : Stream) (scan : Scan) (departs times : List ℕ) (fates : List Fate) (found jobs : List ℕ) (streams : List Stream) → IsLoaded plan rows v arrivals scan → IsServed plan rows v arrivals departs → IsShut plan rows v arrivals departs 0 (Times times) → IsShut plan rows v arrivals departs 1 (Found found) → IsShut plan rows v arrivals departs 2 (Jobs jobs) →
-    fates ≡ map (λ time. Departs time) departs → streams ≡ record { job = jobs; time = times } ∷ [] → IsAfterAt plan rows v arrivals (Seen fates found streams)
-opens fated law plan rows v arrivals scan departs times fates found jobs streams l served f g h d e = λ node there. (
-  record {
-    fates_are = d ∙ sym (served node there).0.fates;
-    streams_are = kept-streams fated rows node.kind arrivals streams (served node there).0.once (served node there).1 (departs-left law rows node.kind arrivals departs streams l.load.ordered.ordered.even (served node there).0 (e ∙ (λ k. record { job = h.1 k; time = f.1 k } ∷ [])));
-    none = f.2 node there;
-  },
-  g.1 ∙ ap (founds_of arrivals.time) (sym d),
-)
+-- where blocks of a split are scanned the node is one, and they are over all its arrivals
+pub split-at : (plan : Plan) (rows : Rows) (v : ℕ) (arrivals : Stream) (scan : Scan) (blocks : Blocks) → IsScanned plan rows v arrivals scan → scan ≡ OfSplit blocks → IsSplitAt plan v × (blocks.n ≡ length arrivals.time)
+split-at plan rows v arrivals scan blocks l e =
+    let is : IsScanOf rows l.loaded.node.kind arrivals (OfSplit blocks) = subst (IsScanOf rows l.loaded.node.kind arrivals) e l.way in
+    ((l.loaded.node, is.0, l.loaded.there, is.1), is.2.0)
+
+-- what leaves the blocks of a split
+pub routed-part : (plan : Plan) (rows : Rows) (v : ℕ) (arrivals : Stream) (blocks : Blocks) (b : ℕ) (part : Part) → IsSplitPart plan rows v arrivals blocks b part → IsRouted part
+routed-part plan rows v arrivals blocks b (Whole worked) h = h
+routed-part plan rows v arrivals blocks b (Product sum) h = h
+routed-part plan rows v arrivals blocks b (Routed streams) h = tt
+
+pub routed-group : (plan : Plan) (rows : Rows) (v : ℕ) (arrivals : Stream) (blocks : Blocks) (group : List Part) (all : List (List Stream)) → blocks.n ≡ length arrivals.time → AreAll (IsSplitPart plan rows v arrivals blocks) blocks.blocks group → group ≡ map (λ streams. Routed streams) all → AreSplitGroup plan rows v arrivals all
+routed-group plan rows v arrivals blocks group all n each e =
+    let same : length group ≡ length all = ap length e ∙ length-map all (λ streams. Routed streams) in
+    record {
+      blocks = blocks;
+      all = n;
+      each = record {
+        len = sym same ∙ each.len;
+        each = λ b d l. subst (IsSplitPart plan rows v arrivals blocks b) (ap (λ (ps : List Part). get_or ps b (Routed d)) e ∙ get_or-map (λ (streams : List Stream). Routed streams) all b d) (each.each b (Routed d) l);
+      };
+    }

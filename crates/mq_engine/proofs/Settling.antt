@@ -12,15 +12,16 @@ use Rattle.mq_core.specs.declared.model.Plan.{Plan}
 use Rattle.mq_core.specs.declared.model.Rows.{Rows}
 use Rattle.mq_core.specs.declared.model.Stream.{Stream}
 use Rattle.mq_core.specs.declared.model.Visits.{Visits}
-use Rattle.mq_engine.specs.Loads.{IsResultOf}
+use Rattle.mq_exits.specs.Results.{IsResultOf}
 use Rattle.mq_engine.specs.Progress.{AreWaiting, AreWorkedOut, IsEndPut, IsPut, IsReached, is_ready, is_waiting, reads_done, stands_at}
 use Rattle.mq_engine.specs.declared.progress.Stand.{Stand}
 use Rattle.mq_engine.specs.declared.progress.Stand.TheVariants.{Done, Crowded, Late}
-use Rattle.mq_engine.specs.declared.working.Ending.{Ending}
-use Rattle.mq_engine.specs.declared.working.Ending.TheVariants.{OnTime, TooMany, TooLate}
-use Rattle.mq_engine.specs.declared.working.NodeResult.{NodeResult}
+use Rattle.mq_exits.specs.declared.working.Ending.{Ending}
+use Rattle.mq_exits.specs.declared.working.Ending.TheVariants.{OnTime, TooMany, TooLate}
+use Rattle.mq_exits.specs.declared.working.NodeResult.{NodeResult}
 use Rattle.mq_engine.proofs.Lists.{filter-passes}
-use Rattle.mq_engine.proofs.Waves.{order-few, put-keeps}
+use Rattle.mq_core.proofs.lemmas.Plans.{order-few}
+use Rattle.mq_engine.proofs.Waves.{put-keeps}
 
 -- a node that waits is there
 stand-there : (stands : List Stand) (v : ℕ) (o : Option Stand) → slice_get stands v ≡ o → stands_at is_waiting o ≡ true → (v < length stands) × ((d : Stand) → is_waiting (get_or stands v d) ≡ true)

@@ -1,7 +1,7 @@
 -- How the nodes of a wave are told apart: by how many jobs come to each, and by its kind.
-use Rattle.std.proofs.Common.{◌≡◌, ℕ, zero, suc, ◌+◌, ◌*◌, ◌<◌, ◌≤◌, Bool, true, false, cond, eqb, List, [], ◌∷◌, ◌++◌, length, get_or, map, take, Some, sym, refl, ap, ◌∙◌, subst, arith, length-append}
+use Rattle.std.proofs.Common.{◌≡◌, ℕ, zero, suc, ◌+◌, ◌*◌, ◌<◌, ◌≤◌, Bool, true, false, cond, eqb, List, [], ◌∷◌, ◌++◌, length, get_or, take, Some, sym, refl, ap, ◌∙◌, subst, arith, length-append}
 use Rattle.std.specs.Prelude.{Contains, slice_get}
-use Rattle.std.specs.List.{AllByRecursion as Each, flat_map, zip}
+use Rattle.std.specs.List.{AllByRecursion as Each, flat_map}
 use Rattle.std.proofs.lemmas.List.{length-map}
 use Rattle.std.proofs.lemmas.Option.{slice_get-get_or}
 use Rattle.mq_base.proofs.lemmas.Each.{Each-append, Each-weaker}
@@ -10,7 +10,7 @@ use Rattle.mq_core.proofs.lemmas.Orders.{in_order_of-length}
 use Rattle.mq_core.specs.SequenceLaws.{arrives_of, jobs_of, sends_once}
 use Rattle.mq_core.specs.Sequences.{IsStream, rows_at}
 use Rattle.mq_core.specs.StandardTable.{run_of}
-use Rattle.mq_core.specs.Streams.{by_first, pairs_of}
+use Rattle.mq_core.specs.Streams.{pairs_of}
 use Rattle.mq_core.specs.Theorems.{IsReadFor}
 use Rattle.mq_core.specs.Wiring.{is_source_kind}
 use Rattle.mq_core.specs.declared.model.Input.{Input}
@@ -21,22 +21,22 @@ use Rattle.mq_core.specs.declared.model.Plan.{Plan}
 use Rattle.mq_core.specs.declared.model.Rows.{Rows}
 use Rattle.mq_core.specs.declared.model.Stream.{Stream}
 use Rattle.mq_engine.specs.Apart.{CanGather}
-use Rattle.mq_engine.specs.Loads.{IsResultOf}
+use Rattle.mq_exits.specs.Results.{IsKnown, IsResultOf}
 use Rattle.mq_core.specs.Results.{visits_of}
-use Rattle.mq_engine.specs.Progress.{CanWork, HasAll, IsKnown}
+use Rattle.mq_engine.specs.Progress.{AreEarly, CanWork, CanWorkAll, HasAll}
 use Rattle.mq_engine.specs.Waves.{AreSorted, IsApartOf, IsCrowded, IsStationOf, IsWave, IsWay}
 use Rattle.mq_engine.specs.declared.wave.Wave.{Wave}
 use Rattle.mq_engine.specs.declared.wave.Way.{Way}
 use Rattle.mq_engine.specs.declared.wave.Way.TheVariants.{Crowded, Apart, Station}
-use Rattle.mq_engine.specs.Working.{arriving, pairs_read}
-use Rattle.mq_engine.specs.declared.loads.Arriving.{Arriving}
-use Rattle.mq_engine.specs.declared.working.Ending.TheVariants.{TooMany}
-use Rattle.mq_engine.specs.declared.working.NodeResult.{NodeResult}
-use Rattle.mq_stations.proofs.lemmas.Lists.{flat_map-more}
-use Rattle.mq_engine.proofs.Comings.{pairs-length}
-use Rattle.mq_engine.proofs.Endings.{get-some}
-use Rattle.mq_engine.proofs.Lists.{zip-length}
-use Rattle.mq_engine.proofs.Waves.{refusal-many}
+use Rattle.mq_arrivals.specs.Arrivals.{IsArriving, arriving, pairs_read}
+use Rattle.mq_arrivals.specs.declared.nodes.Arriving.{Arriving}
+use Rattle.mq_exits.specs.declared.working.Ending.TheVariants.{TooMany}
+use Rattle.mq_exits.specs.declared.working.NodeResult.{NodeResult}
+use Rattle.mq_base.proofs.lemmas.FlatMaps.{flat_map-more}
+use Rattle.mq_arrivals.proofs.Comings.{pairs-length}
+use Rattle.mq_exits.proofs.Known.{refusal-many}
+use Rattle.mq_engine.proofs.Lists.{get-some, zip-length}
+use Rattle.mq_engine.proofs.Waves.{can-come}
 
 -- the item at an index of a list is in it
 pub all-at : (s : Arriving) (v : ℕ) → IsWave s → Contains s.ready.now v → HasAll s.plan.now s.rows.now s.outputs.now v
@@ -205,3 +205,24 @@ sorted-station s at d way wave wave' inside told e a b c len sorted =
         stations = subst (Each (IsStationOf s)) (sym c) (Each-append (IsStationOf s) wave.stations.items (v ∷ []) sorted.stations ((contains-at s.ready.now at d inside, can), tt));
       },
     )
+
+-- the stations can be worked out, and what comes to them can be put in order
+pub can-all : (s : Arriving) (stations : List ℕ) → Each (IsStationOf s) stations → CanWorkAll s.plan.now s.rows.now s.outputs.now stations
+can-all s stations all k v e = go stations all k e
+  where
+    go : (vs : List ℕ) → Each (IsStationOf s) vs → (i : ℕ) → slice_get vs i ≡ Some v → CanWork s.plan.now s.rows.now s.outputs.now v
+    go [] h i g = absurd cc
+    go (w ∷ ws) h zero g = subst (CanWork s.plan.now s.rows.now s.outputs.now) (some_inj w v g) h.0.1
+    go (w ∷ ws) h (suc i) g = go ws h.1 i g
+
+pub serves : (s : Arriving) → IsReadFor s.plan.now.net s.rows.now → AreEarly s.outputs.now → CanWorkAll s.plan.now s.rows.now s.outputs.now s.ready.now → length s.ready.now ≤ 64 → 1 ≤ s.workers → s.workers ≤ 64 → 1 ≤ s.block → IsArriving s
+serves s read early can few some most block =
+    record {
+      read = read;
+      ordered = λ u out streams stream a b. (early u out streams stream a b).ordered;
+      can = λ k v e. can-come s v (can k v e);
+      nodes = few;
+      some = some;
+      most = most;
+      block = block;
+    }

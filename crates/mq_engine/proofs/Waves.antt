@@ -1,56 +1,52 @@
 -- The waves of the engine: what is done so far are the sequences of the run.
-use Rattle.std.proofs.Common.{◌≡◌, ◌≢◌, ℕ, zero, suc, [], ◌∷◌, ◌++◌, ◌+◌, ◌^◌, ◌<◌, ◌≤◌, ◌⊎◌, inl, inr, Bool, true, false, cond, List, length, set, map, Option, Some, None, refl, sym, ap, ◌∙◌, subst, arith, length-append}
-use Rattle.std.specs.Prelude.{◌==◌, nat_le, nat_lt, slice_get}
-use Rattle.std.specs.List.{flat_map, list_all, list_any, zip}
-use Rattle.std.specs.Option.{option_map, option_to_list}
-use Rattle.std.specs.Str.{bytes_eq}
+use Rattle.std.proofs.Common.{◌≡◌, ◌≢◌, ℕ, suc, [], ◌∷◌, ◌++◌, ◌<◌, ◌≤◌, ◌⊎◌, inl, inr, Bool, true, false, cond, List, length, set, map, Option, Some, None, refl, sym, ap, ◌∙◌, subst, arith}
+use Rattle.std.specs.Prelude.{◌==◌, slice_get}
+use Rattle.std.specs.List.{flat_map, list_all, zip}
 use Rattle.std.proofs.lemmas.Bool.{and_parts}
 use Rattle.std.proofs.lemmas.Bool.Decides.{nat_tests}
 use Rattle.std.proofs.lemmas.List.{length-map, length-set}
-use Rattle.std.proofs.lemmas.Option.{slice_get_within}
+use Rattle.std.proofs.lemmas.Option.{slice_get-get_or, slice_get_within}
+use Rattle.mq_base.proofs.lemmas.FlatMaps.{flat_map-same}
 use Rattle.mq_base.proofs.lemmas.Lists.{some_inj}
-use Rattle.mq_base.proofs.lemmas.Each.{Each-weaker}
-use Rattle.mq_core.specs.Came.{came_by, came_in, came_of}
+use Rattle.mq_base.proofs.lemmas.Zips.{zip-jobs, zip-times}
+use Rattle.mq_core.proofs.lemmas.Orders.{in_order_of-length}
 use Rattle.mq_core.specs.Alone.{came as came_at}
+use Rattle.mq_core.specs.Came.{came_by, came_of}
 use Rattle.mq_core.specs.Laws.{in_order_of}
-use Rattle.mq_core.specs.SequenceLaws.{arrives_of, jobs_of, read_from, sends_once}
-use Rattle.mq_core.specs.Sequences.{IsStream, sequence_fates, sequence_late_from, sequence_outs, sequence_refusal, sequence_stream, sequence_visits, rows_at, streams_below}
-use Rattle.mq_core.specs.OnceOut.{leaving_times}
-use Rattle.mq_core.specs.Streams.{by_first, picked, pairs_of}
-use Rattle.mq_core.specs.Results.{Late as LateVisit, Refusal, first_of, most_visits, stream_from, visits_of}
-use Rattle.mq_core.specs.Results.Refusal.{Over, Past}
+use Rattle.mq_core.specs.SequenceLaws.{arrives_of, jobs_of, read_from}
+use Rattle.mq_core.specs.Sequences.{IsStream, sequence_stream, rows_at, streams_below}
+use Rattle.mq_core.specs.Streams.{by_first, pairs_of}
+use Rattle.mq_core.specs.Results.{stream_from, visits_of}
 use Rattle.mq_core.specs.RunLaws.{HasSequences}
-use Rattle.mq_core.specs.Names.{is_name}
-use Rattle.mq_core.specs.Sound.{are_distinct, columns_of_kind, is_sound_node, mentions_from, outputs_in, same_input}
-use Rattle.mq_core.specs.Ranges.{is_within}
+use Rattle.mq_core.specs.Sound.{outputs_in}
 use Rattle.mq_core.specs.StandardTable.{run_of}
 use Rattle.mq_core.specs.Theorems.{IsReadFor}
-use Rattle.mq_core.specs.Wiring.{first_ready, is_source_kind, ranked_after}
+use Rattle.mq_core.specs.Wiring.{is_source_kind}
 use Rattle.mq_core.specs.declared.model.Input.{Input}
 use Rattle.mq_core.specs.declared.model.Node.{Node}
 use Rattle.mq_core.specs.declared.model.Plan.{Plan}
 use Rattle.mq_core.specs.declared.model.Rows.{Rows}
 use Rattle.mq_core.specs.declared.model.Stream.{Stream}
 use Rattle.mq_core.specs.declared.model.Visits.{Visits}
+use Rattle.mq_stations.specs.Leaving.{IsEarlyStream, IsLoad}
+use Rattle.mq_stations.proofs.lemmas.Lists.{Each-get}
+use Rattle.mq_arrivals.specs.Arrivals.{CanCome, HasArrived, IsArriving, IsThere, arriving, pairs_by, pairs_in, pairs_read}
+use Rattle.mq_arrivals.specs.declared.nodes.Arrived.{Arrived}
+use Rattle.mq_arrivals.specs.declared.nodes.Arriving.{Arriving}
+use Rattle.mq_exits.specs.Loads.{IsArrived}
+use Rattle.mq_exits.specs.Results.{IsKnown, IsWorkedOut}
+use Rattle.mq_exits.specs.declared.working.Ending.{Ending}
+use Rattle.mq_exits.specs.declared.working.Ending.TheVariants.{OnTime, TooMany, TooLate}
+use Rattle.mq_exits.specs.declared.working.NodeResult.{NodeResult}
+use Rattle.mq_exits.proofs.Known.{fine-few}
+use Rattle.mq_exits.proofs.Leavings.{once-leaves}
 use Rattle.mq_engine.specs.CoreLaws.{CoreLaws}
-use Rattle.mq_engine.specs.Refusals.{over_told, past_told}
-use Rattle.mq_engine.specs.Working.{AreEarly, IsThere, IsResult, arriving, pairs_by, pairs_in, pairs_read, read_by}
-use Rattle.mq_stations.specs.Late.{late_told}
-use Rattle.mq_stations.specs.Leaving.{AreStreams, IsEarlyStream, IsLoad}
-use Rattle.mq_engine.specs.Loads.{IsArrived}
-use Rattle.mq_engine.specs.Progress.{CanWork, HasAll, IsEndPut, IsEnding, IsKnown, IsPut, IsReached, IsWorkedOut, Tells, is_done, is_read, is_ready, is_waiting, reads_done, stands_at}
-use Rattle.mq_stations.specs.declared.late.OverFault.{OverFault}
-use Rattle.mq_stations.specs.declared.late.PastFault.{PastFault}
+use Rattle.mq_engine.specs.Loads.{IsArrivedAt}
+use Rattle.mq_engine.specs.Progress.{AreEarly, CanWork, CanWorkAll, HasAll, IsEndPut, IsPut, IsReached, Tells, is_done, is_read, is_ready, is_waiting, read_by, reads_done, stands_at}
 use Rattle.mq_engine.specs.declared.progress.Stand.{Stand}
 use Rattle.mq_engine.specs.declared.progress.Stand.TheVariants.{Waiting, Done, Crowded, Late}
-use Rattle.mq_engine.specs.declared.working.Ending.{Ending}
-use Rattle.mq_engine.specs.declared.working.Ending.TheVariants.{OnTime, TooMany, TooLate}
-use Rattle.mq_engine.specs.declared.working.NodeResult.{NodeResult}
-use Rattle.mq_engine.proofs.Early.{EarlyPairs, EarlyTimes, flat-early, picked-early, reads-early, rows-early, stream-early, leaving-early}
-use Rattle.mq_stations.proofs.lemmas.Late.{none-late}
-use Rattle.mq_engine.proofs.Leavings.{once-leaves}
-use Rattle.mq_engine.proofs.Lists.{Each-at, all-get, flat_map-same, get-set_other, get-set_same, zip-jobs, zip-length, zip-times}
-use Rattle.mq_stations.proofs.lemmas.Lists.{Each-get}
+use Rattle.mq_engine.proofs.Early.{EarlyPairs, flat-early, reads-early, rows-early, stream-early}
+use Rattle.mq_engine.proofs.Lists.{Each-at, all-get, get-set_other, get-set_same, get-some, zip-length}
 
 -- a node all of whose inputs are done
 pub record IsReady (plan : Plan) (stands : List Stand) (v : ℕ) (node : Node) : Type 0 where
@@ -85,26 +81,6 @@ inputs-read : (laws : CoreLaws) (plan : Plan) (rows : Rows) (visits : List Visit
 inputs-read laws plan rows visits outputs stands v node r n port input e =
     let h = has-input laws plan rows visits outputs stands v node r n port input e in
     ap (λ o. pairs_in o input.out) h.streams ∙ ap pairs_by (laws.have (run_of plan rows) input.node (outputs_in h.node.kind) input.out h.out)
-
--- A refusal. Of a node with no more visits than it may have it is the first late visit.
-pub refusal-few : (bound v : ℕ) (visits : Visits) (first : Option LateVisit) → length visits.job ≤ 1048576 → first_of (sequence_late_from bound v 0 visits.fate) ≡ first → sequence_refusal bound v visits ≡ option_map (λ late. Past late) first
-refusal-few bound v visits first few e =
-    let below : nat_lt most_visits (length visits.job) ≡ false = grind (arith, nat_tests) in
-    λ k. cond (below k) (Some (Over v (length visits.job))) (option_map (λ late. Past late) (e k))
-
--- of one with more it is that
-pub refusal-many : (bound v count : ℕ) (visits : Visits) → length visits.job ≡ count → 1048576 < count → sequence_refusal bound v visits ≡ Some (Over v count)
-refusal-many bound v count visits e more =
-    let above : nat_lt most_visits (length visits.job) ≡ true = grind (arith, nat_tests) in
-    (λ k. cond (above k) (Some (Over v (length visits.job))) (option_map (λ late. Past late) (first_of (sequence_late_from bound v 0 visits.fate)))) ∙ ap (λ n. Some (Over v n)) e
-
--- a node that isn't refused has no more
-pub fine-few : (bound v : ℕ) (visits : Visits) → sequence_refusal bound v visits ≡ None → length visits.job ≤ 1048576
-fine-few bound v visits h = go (nat_lt most_visits (length visits.job)) refl h
-  where
-    go : (b : Bool) → nat_lt most_visits (length visits.job) ≡ b → cond b (Some (Over v (length visits.job))) (option_map (λ late. Past late) (first_of (sequence_late_from bound v 0 visits.fate))) ≡ None → length visits.job ≤ 1048576
-    go true e k = absurd cc
-    go false e k = grind (arith, nat_tests)
 
 -- the stream of a port is no longer than what a node may let out
 inputs-short : (laws : CoreLaws) (plan : Plan) (rows : Rows) (visits : List Visits) (outputs : List (List Stream)) (stands : List Stand) (v : ℕ) (node : Node) → IsReached plan rows visits outputs stands → IsReady plan stands v node → IsReadFor plan.net rows → (port : ℕ) (input : Input) → slice_get node.inputs port ≡ Some input →
@@ -141,9 +117,9 @@ module _ (laws : CoreLaws) (plan : Plan) (rows : Rows) (visits : List Visits) (o
   arriving-ports read e =
       (laws.arrivals plan rows read v node n.there).ports e ∙ ap (in_order_of (λ (p : ℕ × ℕ × ℕ). p.0)) (read-ports 0 node.inputs (inputs-read laws plan rows visits outputs stands v node r n))
 
-pub arrived : (plan : Plan) (rows : Rows) (outputs : List (List Stream)) (v : ℕ) (node : Node) (arrivals : Stream) → CanWork plan rows outputs v → slice_get plan.net.nodes v ≡ Some node →
+is-arrived : (plan : Plan) (rows : Rows) (outputs : List (List Stream)) (v : ℕ) (node : Node) (arrivals : Stream) → CanWork plan rows outputs v → slice_get plan.net.nodes v ≡ Some node →
     IsStream arrivals → pairs_of arrivals ≡ by_first (arriving rows v node outputs) → IsArrived plan rows v arrivals
-arrived plan rows outputs v node arrivals can there s e =
+is-arrived plan rows outputs v node arrivals can there s e =
     let xs = ((run_of plan rows).stations v).visits in
     let even : length (jobs_of xs) ≡ length (arrives_of xs) = length-map xs _ ∙ sym (length-map xs _) in
     let same : zip arrivals.time arrivals.job ≡ zip (arrives_of xs) (jobs_of xs) = e ∙ sym (can.comes node there) in
@@ -160,10 +136,10 @@ arriving-early plan rows outputs v node read early = go (is_source_kind node.kin
     go true = rows-early v 0 rows.source rows.time (Each-at _ rows.time read.early)
     go false = flat-early (pairs_read outputs) (λ input. reads-early outputs input early) node.inputs
 
-pub loaded : (laws : CoreLaws) (plan : Plan) (rows : Rows) (outputs : List (List Stream)) (v : ℕ) (node : Node) (arrivals : Stream) → IsReadFor plan.net rows → AreEarly outputs → CanWork plan rows outputs v → slice_get plan.net.nodes v ≡ Some node →
+loaded : (laws : CoreLaws) (plan : Plan) (rows : Rows) (outputs : List (List Stream)) (v : ℕ) (node : Node) (arrivals : Stream) → IsReadFor plan.net rows → AreEarly outputs → CanWork plan rows outputs v → slice_get plan.net.nodes v ≡ Some node →
     IsStream arrivals → pairs_of arrivals ≡ by_first (arriving rows v node outputs) → IsLoad rows node.kind arrivals
 loaded laws plan rows outputs v node arrivals read early can there s e =
-    let a = arrived plan rows outputs v node arrivals can there s e in
+    let a = is-arrived plan rows outputs v node arrivals can there s e in
     let xs = ((run_of plan rows).stations v).visits in
     record {
       columns = length plan.net.columns;
@@ -182,87 +158,40 @@ loaded laws plan rows outputs v node arrivals read early can there s e =
           laws.demands plan.net rows read job below node.kind (laws.limits plan v node there).kind;
     }
 
--- what is worked out of the node is what the run has
-made : (laws : CoreLaws) (plan : Plan) (rows : Rows) (v : ℕ) (node : Node) (arrivals : Stream) (came : Visits) (left : List Stream) → IsReadFor plan.net rows → slice_get plan.net.nodes v ≡ Some node → sends_once node.kind ≡ true → IsArrived plan rows v arrivals → IsResult rows node.kind arrivals came left →
-    (came ≡ visits_of node.kind ((run_of plan rows).stations v)) × (left ≡ streams_below (run_of plan rows) v (outputs_in node.kind))
-made laws plan rows v node arrivals came left read there once a t =
-    let c = laws.sequences plan rows read v node there in
-    let blind = laws.blind rows node.kind (came_of (length node.inputs) ((run_of plan rows).stations v).visits) (once-leaves node.kind once) in (
-      t.sequences ∙ ((λ k. sequence_visits rows node.kind (came_by (a.job k) (a.time k))) ∙ sym (c.visits ∙ blind.visits)),
-      laws.make (run_of plan rows) v (outputs_in node.kind) left t.outflow.count (λ out l. t.outflow.each out l ∙ ((λ k. Some (sequence_stream rows node.kind (came_by (a.job k) (a.time k)) out)) ∙ ap Some (sym (c.stream out ∙ blind.stream out)))),
+-- what comes to a node that can be worked out is few
+pub can-come : (s : Arriving) (v : ℕ) → CanWork s.plan.now s.rows.now s.outputs.now v → CanCome s v
+can-come s v can =
+    record {
+      inside = can.inside;
+      there = can.there;
+      few = λ node there.
+          let xs = ((run_of s.plan.now s.rows.now).stations v).visits in
+          let few = can.few in
+          let some = zip-length (arrives_of xs) (jobs_of xs) (length-map xs _ ∙ sym (length-map xs _)) in
+          let many : length (arrives_of xs) ≡ length xs = length-map xs _ in
+          let same = ap length (can.comes node there) in
+          let all = in_order_of-length (λ (p : ℕ × ℕ). p.0) (arriving s.rows.now v node s.outputs.now) in
+          omega arith;
+    }
+
+-- what came to such a node can be worked on
+pub has-loaded : (laws : CoreLaws) (s : Arriving) (arrived : Arrived) → IsArriving s → AreEarly s.outputs.now → CanWorkAll s.plan.now s.rows.now s.outputs.now s.ready.now → HasArrived s arrived → IsArrivedAt s arrived
+has-loaded laws s arrived h early all come =
+    let v = arrived.number in
+    let can = all come.ready.0 v (slice_get-get_or s.ready.now come.ready.0 v come.ready.1 ∙ ap Some come.ready.2) in
+    let at = get-some s.plan.now.net.nodes v can.inside in
+    let node = at.0 in
+    let there = at.1 in
+    let items = come.items node there in (
+      record {
+        node = node;
+        there = there;
+        once = can.once node there;
+        came = is-arrived s.plan.now s.rows.now s.outputs.now v node arrived.arrivals can there come.ordered items;
+        load = loaded laws s.plan.now s.rows.now s.outputs.now v node arrived.arrivals h.read early can there come.ordered items;
+      },
+      come.ready,
     )
-
--- why it is refused is what the run says
-pub same-late : (laws : CoreLaws) (plan : Plan) (rows : Rows) (v : ℕ) (node : Node) (arrivals : Stream) (first : Option LateVisit) → IsReadFor plan.net rows → slice_get plan.net.nodes v ≡ Some node → sends_once node.kind ≡ true → IsArrived plan rows v arrivals → length arrivals.time ≤ 1048576 →
-    first_of (sequence_late_from plan.net.bound v 0 (sequence_fates rows node.kind (came_in arrivals))) ≡ first →
-    sequence_refusal plan.net.bound v (visits_of node.kind ((run_of plan rows).stations v)) ≡ option_map (λ late. Past late) first
-same-late laws plan rows v node arrivals first read there once a few h =
-    let xs = ((run_of plan rows).stations v).visits in
-    let many : length (jobs_of xs) ≡ length arrivals.time = length-map xs _ ∙ (sym (length-map xs _) ∙ ap length (sym a.time)) in
-    refusal-few plan.net.bound v (visits_of node.kind ((run_of plan rows).stations v)) first (omega arith)
-    (ap (λ (x : Visits). first_of (sequence_late_from plan.net.bound v 0 x.fate)) ((laws.sequences plan rows read v node there).visits ∙ (laws.blind rows node.kind (came_of (length node.inputs) xs) (once-leaves node.kind once)).visits)
-    ∙ ((λ k. first_of (sequence_late_from plan.net.bound v 0 (sequence_fates rows node.kind (came_by (sym a.job k) (sym a.time k))))) ∙ h))
-
-within-limits : (plan : Plan) → (length plan.net.nodes ≤ 64) × (plan.net.bound ≤ 2 ^ 60)
-within-limits plan =
-    let net = plan.net in
-    let a = and_parts _ (mentions_from 0 (length net.columns) (flat_map (λ (node : Node). columns_of_kind node.kind) net.nodes)) plan.sound in
-    let b = and_parts _ (are_distinct same_input (flat_map (λ (node : Node). node.inputs) net.nodes)) a.0 in
-    let c = and_parts _ (list_all (is_sound_node (length net.columns) net.nodes) net.nodes) b.0 in
-    let d = and_parts _ (are_distinct bytes_eq net.columns) c.0 in
-    let e = and_parts _ (list_all is_name net.columns) d.0 in
-    let f = and_parts _ (are_distinct bytes_eq (map (λ (node : Node). node.name) net.nodes)) e.0 in
-    let g = and_parts _ (list_any (λ (node : Node). is_source_kind node.kind) net.nodes) f.0 in
-    let h = and_parts _ (nat_le net.bound (2 ^ 60)) g.0 in
-    let i = and_parts _ (nat_le (length net.columns) 16) h.0 in
-    let nodes = and_parts _ (is_within 1 64 (length net.nodes)) i.0 in
-    let j = and_parts (nat_le 1 (length net.nodes)) (nat_le (length net.nodes) 64) nodes.1 in
-    let few : nat_le (length net.nodes) 64 ≡ true = j.1 in
-    let early : nat_le net.bound (2 ^ 60) ≡ true = h.1 in
-    (grind (arith, nat_tests), grind (arith, nat_tests))
-
-bound-within : (plan : Plan) → plan.net.bound ≤ 2 ^ 60
-bound-within plan = (within-limits plan).1
-
--- how many nodes a ranking has
-ranked-few : (count : ℕ) (nodes : List Node) (ranked : List ℕ) → length (ranked_after count nodes ranked) ≤ length ranked + count
-unfolding ranked_after
-ranked-few zero nodes ranked = omega arith
-ranked-few (suc count) nodes ranked =
-    let ready = first_ready ranked 0 nodes in
-    let next = ranked-few count nodes (ranked ++ option_to_list ready) in
-    let grown = length-append ranked (option_to_list ready) in
-    let one = at-most ready in
-    omega arith
-  where
-    at-most : (o : Option ℕ) → length (option_to_list o) ≤ 1
-    at-most None = omega arith
-    at-most (Some n) = omega arith
-
-pub order-few : (plan : Plan) → length plan.order ≤ 64
-order-few plan =
-    let few = ranked-few (length plan.net.nodes) plan.net.nodes [] in
-    let same = ap length plan.ranked in
-    let most = (within-limits plan).0 in
-    omega arith
-
--- the streams of a node whose visits are on time are early
-left-early : (laws : CoreLaws) (plan : Plan) (rows : Rows) (v : ℕ) (node : Node) (arrivals : Stream) (left : List Stream) → sends_once node.kind ≡ true → EarlyTimes arrivals.time → AreStreams rows node.kind arrivals left →
-    first_of (sequence_late_from plan.net.bound v 0 (sequence_fates rows node.kind (came_in arrivals))) ≡ None → (out : ℕ) (stream : Stream) → slice_get left out ≡ Some stream → EarlyTimes stream.time
-left-early laws plan rows v node arrivals left once came t h out stream e =
-    let inside : out < outputs_in node.kind = subst (λ m. out < m) t.count (slice_get_within left out stream e) in
-    let bound = bound-within plan in
-    subst (λ (s : Stream). EarlyTimes s.time) (sym ((laws.go rows node.kind (came_in arrivals) once).stream out) ∙ some_inj _ _ (sym (t.each out inside) ∙ e))
-    ((laws.keeps node.kind (record { job = picked out (sequence_outs rows node.kind (came_in arrivals)) arrivals.job; time = picked out (sequence_outs rows node.kind (came_in arrivals)) (leaving_times arrivals.time (sequence_fates rows node.kind (came_in arrivals))) })).times (2 ^ 60)
-    (picked-early out (sequence_outs rows node.kind (came_in arrivals)) (leaving_times arrivals.time (sequence_fates rows node.kind (came_in arrivals)))
-    (leaving-early arrivals.time (sequence_fates rows node.kind (came_in arrivals)) came
-    (Each-weaker (λ time. time ≤ plan.net.bound) (λ time. time ≤ 2 ^ 60) (λ time l. omega arith) _ (none-late plan.net.bound v 0 (sequence_fates rows node.kind (came_in arrivals)) h)))))
-
-pub left-ordered : (laws : CoreLaws) (plan : Plan) (rows : Rows) (v outs out : ℕ) (left : List Stream) (stream : Stream) → left ≡ streams_below (run_of plan rows) v outs → length left ≡ outs → slice_get left out ≡ Some stream → IsStream stream
-left-ordered laws plan rows v outs out left stream e count g =
-    let inside : out < outs = subst (λ m. out < m) count (slice_get_within left out stream g) in
-    let same : stream_from ((run_of plan rows).stations v) out ≡ stream = some_inj _ _ (sym (laws.have (run_of plan rows) v outs out inside) ∙ (ap (λ (l : List Stream). slice_get l out) (sym e) ∙ g)) in
-    subst IsStream same ((laws.streams plan rows v).streams out)
 
 decide-eq : (a b : ℕ) → (a ≡ b) ⊎ (a ≢ b)
 decide-eq a b = go (a == b) refl
@@ -270,22 +199,6 @@ decide-eq a b = go (a == b) refl
     go : (t : Bool) → (a == b) ≡ t → (a ≡ b) ⊎ (a ≢ b)
     go true e = inl (grind (arith, nat_tests))
     go false e = inr (λ s. grind (arith, nat_tests))
-
--- what a node that was worked out gives is what the run has
-pub known : (laws : CoreLaws) (plan : Plan) (rows : Rows) (v : ℕ) (node : Node) (arrivals : Stream) (ending : Ending) → IsReadFor plan.net rows → sends_once node.kind ≡ true → IsArrived plan rows v arrivals → IsLoad rows node.kind arrivals → slice_get plan.net.nodes v ≡ Some node →
-    IsEnding plan.net rows v node.kind arrivals ending → IsKnown plan rows v node ending
-known laws plan rows v node arrivals (OnTime came left) read once is load there h =
-    let new = made laws plan rows v node arrivals came left read there once is h.0 in (
-      new.0,
-      new.1,
-      λ out stream g. record {
-        ordered = left-ordered laws plan rows v (outputs_in node.kind) out left stream new.1 h.0.outflow.count g;
-        early = left-early laws plan rows v node arrivals left once load.ordered.early h.0.outflow h.1 out stream g;
-      },
-      same-late laws plan rows v node arrivals None read there once is load.few h.1,
-    )
-known laws plan rows v node arrivals (TooMany fault) read once is load there h = absurd h
-known laws plan rows v node arrivals (TooLate fault) read once is load there h = same-late laws plan rows v node arrivals _ read there once is load.few h
 
 -- to a node that is ready all has come
 pub has-all : (laws : CoreLaws) (plan : Plan) (rows : Rows) (visits : List Visits) (outputs : List (List Stream)) (stands : List Stand) (v : ℕ) → IsReadFor plan.net rows → IsReached plan rows visits outputs stands → is_ready plan.net.nodes stands v ≡ true → HasAll plan rows outputs v

@@ -3,7 +3,7 @@ use Rattle.std.specs.Prelude.{◌≡◌, Some}
 use Rattle.mq_core.specs.Results.{refusal_of}
 use Rattle.mq_core.specs.declared.model.Plan.{Plan}
 use Rattle.mq_core.specs.declared.model.Rows.{Rows}
-use Rattle.mq_engine.specs.Refusals.{over_told, past_told}
+use Rattle.mq_exits.specs.Refusals.{over_told, past_told}
 use Rattle.mq_engine.specs.declared.fault.RunFault.{RunFault}
 use Rattle.mq_engine.specs.declared.fault.RunFault.TheVariants.{Memory, Over, Past}
 

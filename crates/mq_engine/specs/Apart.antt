@@ -17,9 +17,8 @@ use Rattle.mq_core.specs.declared.model.Stream.{Stream}
 use Rattle.mq_core.specs.declared.model.Visits.{Visits}
 use Rattle.mq_join.specs.Gathers.{arrivals_of}
 use Rattle.mq_join.specs.declared.gathered.Gathered.{Gathered}
-use Rattle.mq_engine.specs.Progress.{HasAll}
-use Rattle.mq_engine.specs.Working.{AreEarly, read_by}
-use Rattle.mq_engine.specs.declared.loads.Arriving.{Arriving}
+use Rattle.mq_arrivals.specs.declared.nodes.Arriving.{Arriving}
+use Rattle.mq_engine.specs.Progress.{AreEarly, HasAll, read_by}
 
 -- a fork or a join can be worked out: all has come to it, and that is no more than a node may have
 pub record CanGather (plan : Plan) (rows : Rows) (outputs : List (List Stream)) (v : ℕ) : Type 0 where

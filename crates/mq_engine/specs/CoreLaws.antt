@@ -1,8 +1,8 @@
 -- The laws that the engine rests on: those of runs, and of what is gathered at a join.
-use Rattle.mq_core.specs.SequenceLaws.{ArrivalsAreStreams, SequencesAreBlind, SequencesGoByFates, FatesAreInTime, JobsAreRows, NodesAreSequences, OrdersKeepItems, StreamsRise}
+use Rattle.mq_core.specs.SequenceLaws.{ArrivalsAreStreams, JobsAreRows, NodesAreSequences, SequencesAreBlind, StreamsRise}
 use Rattle.mq_core.specs.NumberLaws.{RefusalIsFirst, RefusalIsNone}
 use Rattle.mq_core.specs.PlanLaws.{NodesAreInLimits, OrdersRank, RowsTellDemands}
-use Rattle.mq_core.specs.RunLaws.{SequencesMakeRuns, OutputsHaveStreams, StreamsMakeOutputs}
+use Rattle.mq_core.specs.RunLaws.{OutputsHaveStreams, SequencesMakeRuns, StreamsMakeOutputs}
 use Rattle.mq_join.specs.Gathers.{GatheredCame}
 use Rattle.mq_stats.specs.RunNumbers.{RunsGiveStreams}
 
@@ -12,11 +12,8 @@ pub record CoreLaws : Type 0 where
   pub demands : RowsTellDemands
   pub arrivals : ArrivalsAreStreams
   pub jobs : JobsAreRows
-  pub fates : FatesAreInTime
-  pub keeps : OrdersKeepItems
   pub sequences : NodesAreSequences
   pub blind : SequencesAreBlind
-  pub go : SequencesGoByFates
   pub streams : StreamsRise
   pub have : OutputsHaveStreams
   pub make : StreamsMakeOutputs

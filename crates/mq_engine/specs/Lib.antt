@@ -2,8 +2,5 @@ pub mod Answer
 pub mod Apart
 pub mod CoreLaws
 pub mod Loads
-pub mod Merges
 pub mod Progress
-pub mod Refusals
 pub mod Waves
-pub mod Working

@@ -1,34 +1,30 @@
 -- How far a run has come: which nodes are done, which of them may be worked out next, and what that gives.
-use Rattle.std.specs.Prelude.{◌≡◌, ◌<◌, ◌≤◌, ◌&&◌, ℕ, Bool, true, false, List, length, Option, Some, None, slice_get, slice_set}
+use Rattle.std.specs.Prelude.{◌≡◌, ◌<◌, ◌≤◌, ◌&&◌, ◌++◌, ◌∷◌, [], ℕ, suc, Bool, true, false, List, length, map, Option, Some, None, slice_get, slice_set}
 use Rattle.std.specs.List.{AllByRecursion, list_all, zip}
 use Rattle.mq_core.specs.Alone.{came}
-use Rattle.mq_core.specs.Came.{came_in}
 use Rattle.mq_core.specs.Laws.{in_order_of}
 use Rattle.mq_core.specs.SequenceLaws.{arrives_of, jobs_of, sends_once}
-use Rattle.mq_core.specs.Sequences.{sequence_fates, sequence_late_from, sequence_refusal, streams_below}
+use Rattle.mq_core.specs.Sequences.{sequence_refusal}
 use Rattle.mq_core.specs.Streams.{by_first}
-use Rattle.mq_core.specs.Results.{first_of, visits_of}
+use Rattle.mq_core.specs.Results.{visits_of}
 use Rattle.mq_core.specs.RunLaws.{HasSequences}
 use Rattle.mq_core.specs.StandardTable.{run_of}
-use Rattle.mq_core.specs.Sound.{outputs_in}
+use Rattle.mq_core.specs.Wiring.{is_source_kind}
 use Rattle.mq_core.specs.declared.model.Input.{Input}
-use Rattle.mq_core.specs.declared.model.Kind.{Kind}
-use Rattle.mq_core.specs.declared.model.Network.{Network}
 use Rattle.mq_core.specs.declared.model.Node.{Node}
 use Rattle.mq_core.specs.declared.model.Plan.{Plan}
 use Rattle.mq_core.specs.declared.model.Rows.{Rows}
 use Rattle.mq_core.specs.declared.model.Stream.{Stream}
 use Rattle.mq_core.specs.declared.model.Visits.{Visits}
-use Rattle.mq_stations.specs.Late.{late_told}
-use Rattle.mq_core.specs.Wiring.{is_source_kind}
-use Rattle.mq_engine.specs.Refusals.{over_told, past_told}
-use Rattle.mq_engine.specs.Working.{AreEarly, IsThere, IsResult, arriving, pairs_read, read_by}
 use Rattle.mq_stations.specs.Leaving.{IsEarlyStream}
+use Rattle.mq_arrivals.specs.Arrivals.{IsThere, arriving, pairs_read}
+use Rattle.mq_exits.specs.Refusals.{over_told, past_told}
+use Rattle.mq_exits.specs.Results.{IsWorkedOut}
+use Rattle.mq_exits.specs.declared.working.NodeResult.{NodeResult}
+use Rattle.mq_exits.specs.declared.working.Ending.{Ending}
+use Rattle.mq_exits.specs.declared.working.Ending.TheVariants.{OnTime, TooMany, TooLate}
 use Rattle.mq_engine.specs.declared.progress.Stand.{Stand}
 use Rattle.mq_engine.specs.declared.progress.Stand.TheVariants.{Waiting, Done, Crowded, Late}
-use Rattle.mq_engine.specs.declared.working.NodeResult.{NodeResult}
-use Rattle.mq_engine.specs.declared.working.Ending.{Ending}
-use Rattle.mq_engine.specs.declared.working.Ending.TheVariants.{OnTime, TooMany, TooLate}
 
 -- a node that is not worked out yet
 abbrev pub is_waiting : Stand → Bool
@@ -65,6 +61,11 @@ pub record AreWithin (nodes : List Node) (order : List ℕ) : Type 0 where
   pub ranked : (rank v : ℕ) → slice_get order rank ≡ Some v → v < length nodes
   pub reads : (v port : ℕ) (node : Node) (input : Input) → slice_get nodes v ≡ Some node → slice_get node.inputs port ≡ Some input → input.node < length nodes
 
+-- what comes by these ports, the first of this number, port after port: time, port and job of each item
+abbrev pub read_by : List (List Stream) → ℕ → List Input → List (ℕ × ℕ × ℕ)
+read_by outputs port [] = []
+read_by outputs port (input ∷ inputs) = map {B = ℕ × ℕ × ℕ} (λ (p : ℕ × ℕ). (p.0, port, p.1)) (pairs_read outputs input) ++ read_by outputs (suc port) inputs
+
 -- all has come to a node: what it reads is there, no stream longer than that, and what comes to it is what comes in the run, with
 -- the port of each and without
 pub record HasAll (plan : Plan) (rows : Rows) (outputs : List (List Stream)) (v : ℕ) : Type 0 where
@@ -94,30 +95,7 @@ pub record CanWork (plan : Plan) (rows : Rows) (outputs : List (List Stream)) (v
 abbrev pub CanWorkAll : Plan → Rows → List (List Stream) → List ℕ → Type 0
 CanWorkAll plan rows outputs ready = (k v : ℕ) → slice_get ready k ≡ Some v → CanWork plan rows outputs v
 
--- how a station ends that was worked out: with the sequences of its arrivals, none of them late, or with the first late visit
-abbrev pub IsEnding : Network → Rows → ℕ → Kind → Stream → Ending → Type 0
-IsEnding net rows v kind arrivals (OnTime visits streams) =
-    IsResult rows kind arrivals visits streams × (first_of (sequence_late_from net.bound v 0 (sequence_fates rows kind (came_in arrivals))) ≡ None)
-IsEnding net rows v kind arrivals (TooMany fault) = ⊥
-IsEnding net rows v kind arrivals (TooLate fault) =
-    first_of (sequence_late_from net.bound v 0 (sequence_fates rows kind (came_in arrivals))) ≡ Some (late_told fault)
-
--- what is known of a node, as the run has it
-abbrev pub IsKnown : Plan → Rows → ℕ → Node → Ending → Type 0
-IsKnown plan rows v node (OnTime visits streams) =
-    (visits ≡ visits_of node.kind ((run_of plan rows).stations v)) × (streams ≡ streams_below (run_of plan rows) v (outputs_in node.kind))
-    × ((out : ℕ) (stream : Stream) → slice_get streams out ≡ Some stream → IsEarlyStream stream)
-    × (sequence_refusal plan.net.bound v (visits_of node.kind ((run_of plan rows).stations v)) ≡ None)
-IsKnown plan rows v node (TooMany fault) =
-    sequence_refusal plan.net.bound v (visits_of node.kind ((run_of plan rows).stations v)) ≡ Some (over_told fault)
-IsKnown plan rows v node (TooLate fault) =
-    sequence_refusal plan.net.bound v (visits_of node.kind ((run_of plan rows).stations v)) ≡ Some (past_told fault)
-
--- what was worked out of a node is what the run has
-abbrev pub IsWorkedOut : Plan → Rows → NodeResult → Type 0
-IsWorkedOut plan rows node_result = (node : Node) × (slice_get plan.net.nodes node_result.number ≡ Some node) × IsKnown plan rows node_result.number node node_result.ending
-
--- so it is of all of these
+-- what was worked out of these nodes is what the run has
 abbrev pub AreWorkedOut : Plan → Rows → List NodeResult → Type 0
 AreWorkedOut plan rows results = AllByRecursion (IsWorkedOut plan rows) results
 
@@ -147,6 +125,10 @@ IsPut node_result visits outputs stands visits' outputs' stands' = IsEndPut node
 -- these are nodes that wait
 abbrev pub AreWaiting : List Stand → List NodeResult → Type 0
 AreWaiting stands results = AllByRecursion (λ node_result. stands_at is_waiting (slice_get stands node_result.number) ≡ true) results
+
+-- the streams of all nodes are early
+abbrev pub AreEarly : List (List Stream) → Type 0
+AreEarly outputs = (u out : ℕ) (streams : List Stream) (stream : Stream) → slice_get outputs u ≡ Some streams → slice_get streams out ≡ Some stream → IsEarlyStream stream
 
 -- what is done so far is what the run has
 pub record IsReached (plan : Plan) (rows : Rows) (visits : List Visits) (outputs : List (List Stream)) (stands : List Stand) : Type 0 where

@@ -6,10 +6,9 @@ use Rattle.mq_core.specs.Theorems.{IsReadFor}
 use Rattle.mq_core.specs.declared.model.Plan.{Plan}
 use Rattle.mq_core.specs.declared.model.Rows.{Rows}
 use Rattle.mq_engine.specs.Apart.{CanGather}
-use Rattle.mq_engine.specs.Loads.{IsResultOf}
-use Rattle.mq_engine.specs.Progress.{CanWork, HaveAll}
-use Rattle.mq_engine.specs.Working.{AreEarly}
-use Rattle.mq_engine.specs.declared.loads.Arriving.{Arriving}
+use Rattle.mq_arrivals.specs.declared.nodes.Arriving.{Arriving}
+use Rattle.mq_exits.specs.Results.{IsResultOf}
+use Rattle.mq_engine.specs.Progress.{AreEarly, CanWork, HaveAll}
 use Rattle.mq_engine.specs.declared.wave.Way.{Way}
 use Rattle.mq_engine.specs.declared.wave.Way.TheVariants.{Crowded, Apart, Station}
 use Rattle.mq_engine.specs.declared.wave.Wave.{Wave}

@@ -1,18 +1,17 @@
 // The first pieces of the stations that are ready: summaries of blocks, and whole stations.
-ghost use Rattle.std.specs.Prelude.{◌≡◌, ◌<◌, ◌≤◌, ℕ, List as Items, length, IfOk, slice_index_or};
+ghost use Rattle.std.specs.Prelude.{◌≡◌, ◌<◌, ℕ, List as Items, length, map, IfOk, slice_index_or};
 ghost use Rattle.mq_crew.specs.Crew.{AreAll};
-ghost use Rattle.mq_engine.specs.Loads.{IsLoaded, IsPart, IsReadyLoad, IsStage, IsTandemPart, IsWhole, IsWorkedAt, blocks_of};
+ghost use Rattle.mq_engine.specs.Loads.{IsPart, IsReadyScanned, IsRouted, IsScanned, IsStage, IsTandemPart, IsWhole, blocks_of};
 ghost use Rattle.mq_stations.specs.Scans.{IsTandemSum};
 ghost use Rattle.mq_maxplus.specs.declared.mp.Mp.{Mp as TheMp};
 ghost use Rattle.mq_engine.specs.declared.firsts.Part.{Part as ThePart};
-ghost use Rattle.mq_engine.specs.declared.firsts.Part.TheVariants.{Whole};
+ghost use Rattle.mq_engine.specs.declared.firsts.Part.TheVariants.{Routed, Whole};
 
-use crate::loads::{Load, Scan};
-use crate::splitting::{parted, routed};
-use crate::working::{Worked, work_out};
+use crate::loads::{Scan, Scanned};
 use mq_base::{List, OutOfMemory};
 use mq_core::Stream;
 use mq_crew::Pieces;
+use mq_exits::{Load, Worked, parted, routed, station_whole};
 use mq_maxplus::Matrix;
 use mq_stations::{TandemScan, tandem_carries, tandem_sum};
 use mq_tandem::Latest;
@@ -42,14 +41,14 @@ pub enum Stage {
     Unbegun,
 }
 
-impl<'a> Pieces for Load<'a> {
+impl<'a> Pieces for Scanned<'a> {
     type Piece = Part;
 
-    ghost fit = { IsReadyLoad };
+    ghost fit = { IsReadyScanned };
 
     ghost size = { λ s. blocks_of s.scan };
 
-    ghost is_piece = { λ s b part. IsPart s.plan.now s.rows.now s.number s.arrivals s.scan b part };
+    ghost is_piece = { λ s b part. IsPart s.load.plan.now s.load.rows.now s.load.number s.load.arrivals s.scan b part };
 
     fn count(&self) -> u32 {
         match &self.scan {
@@ -62,51 +61,57 @@ impl<'a> Pieces for Load<'a> {
 
     fn piece(&self, alloc: Global, b: u32) -> Result<Part, OutOfMemory> {
         match &self.scan {
-            Scan::Unscanned => Ok(Part::Whole(whole(alloc, self)?)),
+            Scan::Unscanned => Ok(Part::Whole(station_whole(alloc, &self.load)?)),
             Scan::OfTandem(scan) => {
-                let sum = tandem_sum(&self.arrivals, scan, b);
+                let sum = tandem_sum(&self.load.arrivals, scan, b);
                 Ok(Part::Product(Box::new(alloc, sum)?))
             }
-            Scan::OfSplit(blocks) => Ok(Part::Routed(routed(alloc, self, blocks, b)?)),
+            Scan::OfSplit(blocks) => Ok(Part::Routed(routed(alloc, &self.load, blocks, b)?)),
             Scan::OfServer(_) | Scan::OfForkJoin(_) => unreachable!(),
         }
     }
 }
 
-// A station that is not scanned, whole.
-fn whole(alloc: Global, load: &Load) -> Result<Worked, OutOfMemory>
-    requires loaded { IsLoaded load.now.plan.now load.now.rows.now load.now.number load.now.arrivals load.now.scan }
-    requires some { 1 ≤ load.now.block }
-    ensures { IfOk result (λ worked. IsWorkedAt load.now.plan.now load.now.rows.now load.now.number load.now.arrivals worked) }
-{
-    let kind = &load.plan.net.nodes.get(load.number as usize).kind;
-    work_out(
-        alloc,
-        &load.plan.net,
-        load.rows,
-        load.number,
-        kind,
-        &load.arrivals,
-        load.block,
-    )
-}
-
 // What is known of a station after its first pieces.
-pub fn stage_of(alloc: Global, load: &Load, group: List<Part>) -> Result<Stage, OutOfMemory>
-    requires loaded { IsLoaded load.now.plan.now load.now.rows.now load.now.number load.now.arrivals load.now.scan }
-    requires group { AreAll (IsPart load.now.plan.now load.now.rows.now load.now.number load.now.arrivals load.now.scan) (blocks_of load.now.scan) group }
-    ensures { IfOk result (λ stage. IsStage load.now.plan.now load.now.rows.now load.now.number load.now.arrivals load.now.scan stage) }
+pub fn stage_of(
+    alloc: Global,
+    load: &Load,
+    scan: &Scan,
+    group: List<Part>,
+) -> Result<Stage, OutOfMemory>
+    requires scanned { IsScanned load.now.plan.now load.now.rows.now load.now.number load.now.arrivals scan.now }
+    requires group { AreAll (IsPart load.now.plan.now load.now.rows.now load.now.number load.now.arrivals scan.now) (blocks_of scan.now) group }
+    ensures { IfOk result (λ stage. IsStage load.now.plan.now load.now.rows.now load.now.number load.now.arrivals scan.now stage) }
 {
-    match &load.scan {
+    match scan {
         Scan::Unscanned => Ok(Stage::Ended(the_whole(group))),
         Scan::OfTandem(scan) => {
             let sums = tandem_sums(alloc, &load.arrivals, scan, &group)?;
             let carries = tandem_carries(alloc, &load.arrivals, scan, &sums)?;
             Ok(Stage::Latest(carries))
         }
-        Scan::OfSplit(blocks) => Ok(Stage::Parted(parted(alloc, load, blocks, group)?)),
+        Scan::OfSplit(_) => {
+            let parts = those_routed(alloc, group)?;
+            Ok(Stage::Parted(parted(alloc, load, &parts)?))
+        }
         Scan::OfServer(_) | Scan::OfForkJoin(_) => Ok(Stage::Unbegun),
     }
+}
+
+// What leaves each of these blocks of a split.
+fn those_routed(alloc: Global, group: List<Part>) -> Result<List<List<Stream>>, OutOfMemory>
+    requires { (b : ℕ) (d : ThePart) → b < length group → IsRouted (slice_index_or group b d) }
+    ensures { IfOk result (λ all. group ≡ map (λ streams. Routed streams) all) }
+{
+    let mut all = Vec::with_capacity(alloc, group.len())?;
+    'parts: for part in group.into_vec() {
+        match part {
+            Part::Routed(streams) => all.push_reserved(streams),
+            Part::Whole(_worked) => unreachable!(),
+            Part::Product(_sum) => unreachable!(),
+        }
+    }
+    Ok(List::from_vec(all))
 }
 
 // The summaries of all blocks of a tandem.

@@ -2,10 +2,9 @@
 ghost use Rattle.mq_engine.specs.CoreLaws.{CoreLaws};
 
 use mq_core::{
-    arrivals_are_streams, fates_are_in_time, jobs_are_rows, nodes_are_in_limits,
-    nodes_are_sequences, orders_keep_items, orders_rank, outputs_have_streams, refusal_is_first,
-    refusal_is_none, rows_tell_demands, sequences_are_blind, sequences_go_by_fates,
-    sequences_make_runs, streams_make_outputs, streams_rise,
+    arrivals_are_streams, jobs_are_rows, nodes_are_in_limits, nodes_are_sequences, orders_rank,
+    outputs_have_streams, refusal_is_first, refusal_is_none, rows_tell_demands,
+    sequences_are_blind, sequences_make_runs, streams_make_outputs, streams_rise,
 };
 use mq_join::gathered_came;
 use mq_stats::runs_give_streams;
@@ -19,11 +18,8 @@ pub fn core_laws()
     rows_tell_demands();
     arrivals_are_streams();
     jobs_are_rows();
-    fates_are_in_time();
-    orders_keep_items();
     nodes_are_sequences();
     sequences_are_blind();
-    sequences_go_by_fates();
     streams_rise();
     outputs_have_streams();
     streams_make_outputs();

@@ -3,19 +3,17 @@ ghost use Rattle.std.specs.Prelude.{◌≡◌, ◌≤◌, IfOk};
 ghost use Rattle.mq_core.specs.Recurrences.{lindley};
 ghost use Rattle.mq_core.specs.Sequences.{IsSoundLoad};
 ghost use Rattle.mq_crew.specs.Crew.{AreAll};
-ghost use Rattle.mq_engine.specs.Loads.{IsAll, IsApplied, IsExit, IsLatest, IsLoaded, IsReadyMiddle, IsStage, IsWorkedAt, applied_of};
-ghost use Rattle.mq_engine.specs.declared.firsts.Stage.TheVariants.{Ended};
+ghost use Rattle.mq_exits.specs.Exits.{IsExit};
+ghost use Rattle.mq_engine.specs.Loads.{IsAll, IsApplied, IsLatest, IsParted, IsReadyMiddle, IsScanned, IsStage, applied_of};
+ghost use Rattle.mq_engine.specs.declared.firsts.Stage.TheVariants.{Ended, Parted};
 
-use crate::exits::Exit;
 use crate::firsts::Stage;
-use crate::loads::{Load, Scan};
-use crate::overtaking::left_at;
-use crate::splitting::the_parts;
-use crate::working::Worked;
+use crate::loads::{Scan, Scanned};
 use mq_base::{List, OutOfMemory};
 use mq_branches::forkjoin_departures;
 use mq_core::Stream;
 use mq_crew::{Gate, Pieces};
+use mq_exits::{Exit, Load, Worked, left_by};
 use mq_pass::chain_departures;
 use mq_scan::block_size;
 use mq_stations::{tandem_joined, tandem_times};
@@ -26,7 +24,7 @@ use std::thread::Threads;
 /// A station after its first pieces.
 #[derive(Drop)]
 pub struct Middle<'a> {
-    pub load: Load<'a>,
+    pub scanned: Scanned<'a>,
     pub stage: Stage,
 }
 
@@ -35,20 +33,20 @@ impl<'a> Pieces for Middle<'a> {
 
     ghost fit = { IsReadyMiddle };
 
-    ghost size = { λ s. applied_of s.load.scan };
+    ghost size = { λ s. applied_of s.scanned.scan };
 
-    ghost is_piece = { λ s b times. IsApplied s.load.arrivals s.load.scan b times };
+    ghost is_piece = { λ s b times. IsApplied s.scanned.load.arrivals s.scanned.scan b times };
 
     fn count(&self) -> u32 {
-        match &self.load.scan {
+        match &self.scanned.scan {
             Scan::OfTandem(scan) => scan.blocks.blocks,
             Scan::Unscanned | Scan::OfServer(_) | Scan::OfForkJoin(_) | Scan::OfSplit(_) => 0,
         }
     }
 
     fn piece(&self, alloc: Global, b: u32) -> Result<List<u64>, OutOfMemory> {
-        let arrivals = &self.load.arrivals;
-        match &self.load.scan {
+        let arrivals = &self.scanned.load.arrivals;
+        match &self.scanned.scan {
             Scan::OfTandem(scan) => tandem_times(alloc, arrivals, scan, latest_of(&self.stage), b),
             Scan::Unscanned | Scan::OfServer(_) | Scan::OfForkJoin(_) | Scan::OfSplit(_) => {
                 unreachable!()
@@ -97,19 +95,20 @@ pub fn exit_of<R: Threads + Sync, G: Gate>(
     alloc: Global,
     workers: u32,
     load: &Load,
+    scan: &Scan,
     stage: Stage,
     group: &List<List<u64>>,
     gate: &G,
 ) -> Result<Exit, OutOfMemory>
-    requires loaded { IsLoaded load.now.plan.now load.now.rows.now load.now.number load.now.arrivals load.now.scan }
-    requires stage { IsStage load.now.plan.now load.now.rows.now load.now.number load.now.arrivals load.now.scan stage }
-    requires group { AreAll (IsApplied load.now.arrivals load.now.scan) (applied_of load.now.scan) group.now }
+    requires scanned { IsScanned load.now.plan.now load.now.rows.now load.now.number load.now.arrivals scan.now }
+    requires stage { IsStage load.now.plan.now load.now.rows.now load.now.number load.now.arrivals scan.now stage }
+    requires group { AreAll (IsApplied load.now.arrivals scan.now) (applied_of scan.now) group.now }
     requires some { 1 ≤ workers }
     requires most { workers ≤ 64 }
     requires block { 1 ≤ load.now.block }
     ensures { IfOk result (λ exit. IsExit load.now.plan.now load.now.rows.now load.now.number load.now.arrivals exit) }
 {
-    match &load.scan {
+    match scan {
         Scan::Unscanned => left_by(rt, alloc, workers, load, the_end(stage)),
         Scan::OfServer(demands) => {
             let departs = server_departures(
@@ -135,25 +134,6 @@ pub fn exit_of<R: Threads + Sync, G: Gate>(
     }
 }
 
-// What is known of a station that is not scanned.
-fn left_by<R: Threads + Sync>(
-    rt: &R,
-    alloc: Global,
-    workers: u32,
-    load: &Load,
-    worked: Worked,
-) -> Result<Exit, OutOfMemory>
-    requires loaded { IsLoaded load.now.plan.now load.now.rows.now load.now.number load.now.arrivals load.now.scan }
-    requires worked { IsWorkedAt load.now.plan.now load.now.rows.now load.now.number load.now.arrivals worked }
-    requires block { 1 ≤ load.now.block }
-    ensures { IfOk result (λ exit. IsExit load.now.plan.now load.now.rows.now load.now.number load.now.arrivals exit) }
-{
-    match worked {
-        Worked::Finished(after) => Ok(Exit::Known(after)),
-        Worked::Departed(departs) => left_at(rt, alloc, workers, load, departs),
-    }
-}
-
 // What one piece told of a station that is not scanned.
 fn the_end(stage: Stage) -> Worked
     requires { IsAll stage }
@@ -163,6 +143,19 @@ fn the_end(stage: Stage) -> Worked
         Stage::Ended(worked) => worked,
         Stage::Latest(_carries) => unreachable!(),
         Stage::Parted(_streams) => unreachable!(),
+        Stage::Unbegun => unreachable!(),
+    }
+}
+
+// What leaves a split after its first pieces.
+fn the_parts(stage: Stage) -> List<Stream>
+    requires { IsParted stage }
+    ensures { stage ≡ Parted result }
+{
+    match stage {
+        Stage::Parted(streams) => streams,
+        Stage::Ended(_worked) => unreachable!(),
+        Stage::Latest(_carries) => unreachable!(),
         Stage::Unbegun => unreachable!(),
     }
 }

@@ -4,21 +4,19 @@ ghost use Rattle.std.specs.Prelude.{◌≡◌, ◌+◌, ◌++◌, ◌≤◌, Con
 ghost use Rattle.std.specs.List.{AllByRecursion, flat_map};
 ghost use Rattle.mq_core.specs.SequenceLaws.{sends_once};
 ghost use Rattle.mq_core.specs.declared.model.Node.{Node as TheNode};
-ghost use Rattle.mq_engine.specs.Loads.{IsResultOf};
+ghost use Rattle.mq_arrivals.specs.Arrivals.{pairs_read};
+ghost use Rattle.mq_exits.specs.Results.{IsResultOf};
 ghost use Rattle.mq_engine.specs.Waves.{AreSorted, IsWave, IsWay};
-ghost use Rattle.mq_engine.specs.Working.{pairs_read};
-ghost use Rattle.mq_engine.specs.declared.working.Ending.TheVariants.{TooMany};
+ghost use Rattle.mq_exits.specs.declared.working.Ending.TheVariants.{TooMany};
 
-use crate::arrivals::stream_of;
 use crate::gathering::apart_results;
 use crate::laws::core_laws;
-use crate::loads::Arriving;
-use crate::merges::is_source;
 use crate::ready::results_of;
-use crate::working::{Ending, NodeResult};
+use mq_arrivals::{Arriving, is_source, stream_of};
 use mq_base::{List, OutOfMemory};
 use mq_core::Kind;
 use mq_crew::Gate;
+use mq_exits::{Ending, NodeResult};
 use mq_stations::OverFault;
 use std::alloc::Global;
 use std::thread::Threads;
@@ -179,6 +177,6 @@ pub fn wave_of<R: Threads + Sync, G: Gate>(
         ready: &stations,
         ..*arriving
     };
-    let served = results_of(rt, alloc, &serving, arriving.workers, gate)?;
+    let served = results_of(rt, alloc, &serving, gate)?;
     with_more(with_more(crowded, gathered)?, served)
 }

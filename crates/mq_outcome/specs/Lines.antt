@@ -50,7 +50,7 @@ over_line name f = codes "mpsim: node " ++ name ++ codes " has " ++ decimal f.co
 
 -- the two forms of a command
 abbrev pub usage_text : List ℕ
-usage_text = codes "mpsim: usage: mpsim MODEL TRACE [--workers N] [--block N] [--jobs] or mpsim --made N [--workers N] [--block N] [--jobs]"
+usage_text = codes "mpsim: usage: mpsim MODEL TRACE [--workers N] [--block N] [--jobs] [--report N] or mpsim --made N [--workers N] [--block N] [--jobs] [--report N]"
 
 -- the line of a fault of the words
 abbrev pub usage_line : UsageFault → List ℕ
@@ -59,6 +59,7 @@ usage_line usage.Form = usage_text ++ 10 ∷ []
 usage_line usage.Workers = codes "mpsim: --workers takes a whole number from 1 to 64" ++ 10 ∷ []
 usage_line usage.Block = codes "mpsim: --block takes a whole number from 1 to 65536" ++ 10 ∷ []
 usage_line usage.Made = codes "mpsim: --made takes a whole number from 0 to 18446744073709551615" ++ 10 ∷ []
+usage_line usage.Report = codes "mpsim: --report takes 1 or 2" ++ 10 ∷ []
 
 -- the line of an outcome, with the name that it speaks of
 abbrev pub line_text : List ℕ → Outcome → List ℕ

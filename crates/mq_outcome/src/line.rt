@@ -127,8 +127,8 @@ fn put_usage_line<E: Sink>(err: &mut E, fault: &UsageFault)
     match fault {
         UsageFault::Words | UsageFault::Form => put_text(
             err,
-            b"mpsim: usage: mpsim MODEL TRACE [--workers N] [--block N] [--jobs] \
-            or mpsim --made N [--workers N] [--block N] [--jobs]",
+            b"mpsim: usage: mpsim MODEL TRACE [--workers N] [--block N] [--jobs] [--report N] \
+            or mpsim --made N [--workers N] [--block N] [--jobs] [--report N]",
         ),
         UsageFault::Workers => {
             put_text(err, b"mpsim: --workers takes a whole number from 1 to 64")
@@ -138,6 +138,7 @@ fn put_usage_line<E: Sink>(err: &mut E, fault: &UsageFault)
             err,
             b"mpsim: --made takes a whole number from 0 to 18446744073709551615",
         ),
+        UsageFault::Report => put_text(err, b"mpsim: --report takes 1 or 2"),
     }
 }
 

@@ -4,3 +4,5 @@ pub mod JobLines
 pub mod Names
 pub mod NodeTotals
 pub mod Spans
+pub mod NodeTails
+pub mod NoWaits

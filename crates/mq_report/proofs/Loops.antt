@@ -11,10 +11,10 @@ use Rattle.mq_core.specs.declared.model.Rows.{Rows}
 use Rattle.mq_report.specs.Text.{line_of, line_at, nodes_text, exit_lines, exit_lines_at, exits_at, exits_text}
 
 -- the node of the next rank
-pub nodes-next : (net : Network) (rows : Rows) (end : State Local) (order : List ℕ) (rank v : ℕ) (node : Node) → slice_get order rank ≡ Some v → slice_get net.nodes v ≡ Some node →
-    nodes_text net rows end (drop rank order) ≡ line_of net.version rows end v node ++ nodes_text net rows end (drop (rank + 1) order)
-nodes-next net rows end order rank v node h there =
-    ap (nodes_text net rows end) (drop_at order rank v h) ∙ ap (λ o. line_at net.version rows end v o ++ nodes_text net rows end (drop (rank + 1) order)) there
+pub nodes-next : (form : ℕ) (net : Network) (rows : Rows) (end : State Local) (order : List ℕ) (rank v : ℕ) (node : Node) → slice_get order rank ≡ Some v → slice_get net.nodes v ≡ Some node →
+    nodes_text form net rows end (drop rank order) ≡ line_of net.version form rows end v node ++ nodes_text form net rows end (drop (rank + 1) order)
+nodes-next form net rows end order rank v node h there =
+    ap (nodes_text form net rows end) (drop_at order rank v h) ∙ ap (λ o. line_at net.version form rows end v o ++ nodes_text form net rows end (drop (rank + 1) order)) there
 
 pub exits-next : (net : Network) (rows : Rows) (end : State Local) (order : List ℕ) (rank v : ℕ) (node : Node) → slice_get order rank ≡ Some v → slice_get net.nodes v ≡ Some node →
     exits_text net rows end (drop rank order) ≡ exit_lines net.nodes rows v node.name (end.stations v) 0 (outputs_in node.kind) ++ exits_text net rows end (drop (rank + 1) order)

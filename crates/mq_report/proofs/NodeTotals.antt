@@ -1,22 +1,17 @@
 -- The totals of the nodes, node by node and piece by piece.
 use Rattle.std.proofs.Common.{◌≡◌, ℕ, ◌+◌, ◌*◌, ◌%◌, ◌^◌, ◌<◌, ◌≤◌, ◌++◌, Bool, true, false, List, [], ◌∷◌, Some, length, length-append, ltb, refl, sym, subst, ap, ◌∙◌, arith}
-use Rattle.std.specs.Prelude.{map, nat_le, slice_get, slice_index_or, ◌-◌}
+use Rattle.std.specs.Prelude.{slice_get, slice_index_or, ◌-◌}
 use Rattle.std.proofs.Math.Nat.{mod-add-div'}
-use Rattle.std.proofs.lemmas.Bool.{and_parts, ltb-true}
+use Rattle.std.proofs.lemmas.Bool.{ltb-true}
 use Rattle.std.proofs.lemmas.Bool.Decides.{nat_tests}
 use Rattle.std.proofs.lemmas.Option.{get_or_from_slice_get, slice_get-get_or, slice_get_within}
-use Rattle.std.specs.List.{AllByRecursion as Each, flat_map, list_all, list_any}
-use Rattle.std.specs.Str.{bytes_eq}
+use Rattle.std.specs.List.{AllByRecursion as Each}
 use Rattle.mq_base.proofs.lemmas.Each.{Each-append}
 use Rattle.mq_base.proofs.lemmas.Between.{length-between}
 use Rattle.mq_base.proofs.lemmas.Lists.{get-last, get-push, some_inj}
-use Rattle.mq_core.specs.Names.{is_name}
-use Rattle.mq_core.specs.Ranges.{is_within}
 use Rattle.mq_core.specs.Results.{totals_of}
 use Rattle.mq_core.specs.Sequences.{sequence_totals}
-use Rattle.mq_core.specs.Sound.{are_distinct, columns_of_kind, is_sound_node, mentions_from, same_input}
 use Rattle.mq_core.specs.StandardTable.{run_of}
-use Rattle.mq_core.specs.Wiring.{is_source_kind}
 use Rattle.mq_core.specs.declared.model.Node.{Node}
 use Rattle.mq_core.specs.declared.model.Plan.{Plan}
 use Rattle.mq_core.specs.declared.model.Rows.{Rows}
@@ -98,23 +93,6 @@ pieces-few (node ∷ all) h =
 
 pub all-few : (plan : Plan) (rows : Rows) (count : ℕ) (all : List NodeVisits) → AreNodeVisits plan rows count all → count < 2 ^ 16 → total_size pieces_of all < 2 ^ 32
 all-few plan rows count all h few = let len = h.len in let most = pieces-few all h.visited in omega arith
-
--- a plan has at most 64 nodes
-pub nodes-few : (plan : Plan) → length plan.net.nodes ≤ 64
-nodes-few plan =
-    let net = plan.net in
-    let a = and_parts _ (mentions_from 0 (length net.columns) (flat_map (λ (node : Node). columns_of_kind node.kind) net.nodes)) plan.sound in
-    let b = and_parts _ (are_distinct same_input (flat_map (λ (node : Node). node.inputs) net.nodes)) a.0 in
-    let c = and_parts _ (list_all (is_sound_node (length net.columns) net.nodes) net.nodes) b.0 in
-    let d = and_parts _ (are_distinct bytes_eq net.columns) c.0 in
-    let e = and_parts _ (list_all is_name net.columns) d.0 in
-    let f = and_parts _ (are_distinct bytes_eq (map (λ (node : Node). node.name) net.nodes)) e.0 in
-    let g = and_parts _ (list_any (λ (node : Node). is_source_kind node.kind) net.nodes) f.0 in
-    let h = and_parts _ (nat_le net.bound (2 ^ 60)) g.0 in
-    let i = and_parts _ (nat_le (length net.columns) 16) h.0 in
-    let j = and_parts _ (is_within 1 64 (length net.nodes)) i.0 in
-    let few : nat_le (length net.nodes) 64 ≡ true = (and_parts (nat_le 1 (length net.nodes)) (nat_le (length net.nodes) 64) j.1).1 in
-    grind (arith, nat_tests)
 
 -- those of a declared node
 pub visits-at : (plan : Plan) (rows : Rows) (v : ℕ) (declared : Node) (its : NodeVisits) → slice_get plan.net.nodes v ≡ Some declared →

@@ -1,3 +1,4 @@
 pub mod Sequences
+pub mod Tails
 pub mod Text
 pub mod Totals

@@ -1,13 +1,13 @@
--- The text of a report: a head, the jobs and the span, a line for each node by rank, which tells of held visits where the model is of
--- version 2, and a line for each output that no input reads, by rank of its node and then output. Where the job lines are asked for, a
--- line for each visit follows, by rank of its node and then position. Words are separated by one space, and each line ends with a line
--- feed.
-use Rattle.std.specs.Prelude.{ℕ, zero, suc, ◌+◌, ◌*◌, ◌/◌, ◌%◌, ◌==◌, ◌&&◌, Bool, if◌then◌else◌, List, [], ◌∷◌, ◌++◌, length, Option, Some, None, slice_get, codes, decimal}
+-- The text of a report, of form 1 or 2: a head, the jobs and the span, a line for each node by rank, and a line for each output that no
+-- input reads, by rank of its node and then output. Where the job lines are asked for, a line for each visit follows, by rank of its
+-- node and then position. A node's line tells percentiles of the waits in form 2, and of held visits in form 2 and where the model is of
+-- version 2. Words are separated by one space, and each line ends with a line feed.
+use Rattle.std.specs.Prelude.{ℕ, zero, suc, ◌+◌, ◌*◌, ◌/◌, ◌%◌, ◌==◌, ◌&&◌, ◌||◌, Bool, if◌then◌else◌, List, [], ◌∷◌, ◌++◌, length, Option, Some, None, slice_get, codes, decimal}
 use Rattle.std.specs.List.{list_any}
 use Rattle.mq_core.specs.Local.{Local}
 use Rattle.mq_core.specs.Machine.{State, Station, Visit}
 use Rattle.mq_core.specs.NetworkRun.{run_in}
-use Rattle.mq_core.specs.Results.{Totals, totals_of, exit_of, servers_in, wait_of, fates_from}
+use Rattle.mq_core.specs.Results.{Totals, totals_of, exit_of, servers_in, wait_of, fates_from, visits_of}
 use Rattle.mq_core.specs.Sound.{outputs_in}
 use Rattle.mq_core.specs.Wiring.{ranking}
 use Rattle.mq_core.specs.declared.model.Fate.{Fate}
@@ -18,10 +18,11 @@ use Rattle.mq_core.specs.declared.model.Kind.TheVariants.{Source, Server, Delay,
 use Rattle.mq_core.specs.declared.model.Network.{Network}
 use Rattle.mq_core.specs.declared.model.Node.{Node}
 use Rattle.mq_core.specs.declared.model.Rows.{Rows}
+use Rattle.mq_stats.specs.Percentiles.{percentile, waits_at}
 
--- the first line, which names the report and its version
-unfoldable pub head_line : List ℕ
-head_line = codes "mpsim report 1" ++ 10 ∷ []
+-- the first line, which names the form of the report
+unfoldable pub head_line : ℕ → List ℕ
+head_line form = codes "mpsim report " ++ decimal form ++ 10 ∷ []
 
 -- the line of the jobs and the span: the number of records, and the time of the last thing that happens
 unfoldable pub jobs_line : ℕ → ℕ → List ℕ
@@ -65,29 +66,49 @@ node_words name word = codes "node " ++ name ++ codes " " ++ word ++ codes " in 
 unfoldable pub node_counts : Totals → List ℕ
 node_counts totals = decimal totals.came ++ codes " out " ++ decimal totals.left ++ codes " lost "
 
--- the visits that a loss station had no place for, and in version 2 those that are held
-unfoldable pub node_losses : ℕ → Totals → List ℕ
-node_losses version totals =
-    if version == 2
+-- the visits that a loss station had no place for, and, where they are told, those that are held
+unfoldable pub node_losses : Bool → Totals → List ℕ
+node_losses tells_held totals =
+    if tells_held
     then decimal totals.lost ++ codes " held " ++ decimal totals.held ++ codes " wait "
     else decimal totals.lost ++ codes " wait "
 
 -- the sum and the greatest of the waiting times
 unfoldable pub node_waits : Totals → List ℕ
-node_waits totals = decimal totals.wait ++ codes " max " ++ decimal totals.longest ++ codes " busy "
+node_waits totals = decimal totals.wait ++ codes " max " ++ decimal totals.longest
+
+-- three percentiles of waiting times
+pub record Tail : Type 0 where
+  pub p50 : ℕ
+  pub p90 : ℕ
+  pub p99 : ℕ
+
+-- the percentiles of the waiting times, where they are told, and the word of the next part
+unfoldable pub node_tail : Option Tail → List ℕ
+node_tail None = codes " busy "
+node_tail (Some tail) = codes " p50 " ++ decimal tail.p50 ++ codes " p90 " ++ decimal tail.p90 ++ codes " p99 " ++ decimal tail.p99 ++ codes " busy "
 
 -- the time that the servers worked, the number of jobs summed over time, and the greatest number of jobs
 unfoldable pub node_tallies : Totals → List ℕ
 node_tallies totals = decimal totals.busy ++ codes " area " ++ decimal totals.area ++ codes " peak " ++ decimal totals.peak ++ codes " util "
 
 -- all the numbers of a node's line but its utilisation
-abbrev pub node_numbers : ℕ → Totals → List ℕ
-node_numbers version totals = node_counts totals ++ (node_losses version totals ++ (node_waits totals ++ node_tallies totals))
+abbrev pub node_numbers : Bool → Totals → Option Tail → List ℕ
+node_numbers tells_held totals tail =
+    node_counts totals ++ (node_losses tells_held totals ++ (node_waits totals ++ (node_tail tail ++ node_tallies totals)))
 
--- the line of a node of this name and kind, with these totals, over this span, in a model of this version
-abbrev pub node_line : ℕ → List ℕ → Kind → Totals → ℕ → List ℕ
-node_line version name kind totals span =
-    node_words name (kind_word kind) ++ (node_numbers version totals ++ utilisation_text totals.busy (servers_in kind) span)
+-- the line of a node of this name and kind, with these totals and these percentiles, over this span
+abbrev pub node_line : Bool → List ℕ → Kind → Totals → Option Tail → ℕ → List ℕ
+node_line tells_held name kind totals tail span =
+    node_words name (kind_word kind) ++ (node_numbers tells_held totals tail ++ utilisation_text totals.busy (servers_in kind) span)
+
+-- held visits are told in form 2, and of models of version 2
+abbrev pub tells_held : ℕ → ℕ → Bool
+tells_held version form = (version == 2) || (form == 2)
+
+-- the percentiles 50, 90 and 99 of these waits, which form 2 tells
+abbrev pub told_tail : ℕ → List ℕ → Option Tail
+told_tail form waits = if form == 2 then Some (record { p50 = percentile 50 waits; p90 = percentile 90 waits; p99 = percentile 99 waits }) else None
 
 -- the name and the output, the number of jobs that left by it, and the sum of their times in the network
 unfoldable pub exit_line : List ℕ → ℕ → ℕ × ℕ → List ℕ
@@ -107,19 +128,21 @@ unfoldable pub exit_lines : List Node → Rows → ℕ → List ℕ → Station 
 exit_lines nodes rows v name station out zero = []
 exit_lines nodes rows v name station out (suc more) = exit_lines_at nodes rows v name station out ++ exit_lines nodes rows v name station (out + 1) more
 
--- the line of a node that has this index, by its totals in the state at the end
-abbrev pub line_of : ℕ → Rows → State Local → ℕ → Node → List ℕ
-line_of version rows end v node = node_line version node.name node.kind (totals_of rows node.kind (end.stations v)) end.clock
+-- the line of a node that has this index, by its totals and its visits in the state at the end
+abbrev pub line_of : ℕ → ℕ → Rows → State Local → ℕ → Node → List ℕ
+line_of version form rows end v node =
+    let station = end.stations v in
+    node_line (tells_held version form) node.name node.kind (totals_of rows node.kind station) (told_tail form (waits_at rows node.kind (visits_of node.kind station))) end.clock
 
 -- the line of a node, if the network has a node of this index
-abbrev pub line_at : ℕ → Rows → State Local → ℕ → Option Node → List ℕ
-line_at version rows end v None = []
-line_at version rows end v (Some node) = line_of version rows end v node
+abbrev pub line_at : ℕ → ℕ → Rows → State Local → ℕ → Option Node → List ℕ
+line_at version form rows end v None = []
+line_at version form rows end v (Some node) = line_of version form rows end v node
 
 -- the lines of these nodes
-abbrev pub nodes_text : Network → Rows → State Local → List ℕ → List ℕ
-nodes_text net rows end [] = []
-nodes_text net rows end (v ∷ order) = line_at net.version rows end v (slice_get net.nodes v) ++ nodes_text net rows end order
+abbrev pub nodes_text : ℕ → Network → Rows → State Local → List ℕ → List ℕ
+nodes_text form net rows end [] = []
+nodes_text form net rows end (v ∷ order) = line_at net.version form rows end v (slice_get net.nodes v) ++ nodes_text form net rows end order
 
 -- the lines of the exits of a node of the network
 abbrev pub exits_at : List Node → Rows → State Local → ℕ → Option Node → List ℕ
@@ -182,12 +205,12 @@ jobs_text net rows end (v ∷ order) = jobs_at rows end v (slice_get net.nodes v
 abbrev pub asked_jobs : Network → Rows → State Local → List ℕ → Bool → List ℕ
 asked_jobs net rows end order jobs = if jobs then jobs_text net rows end order else []
 
--- the report of a state, with the nodes in this order, and with the job lines where they are asked for
-abbrev pub report_text : Network → List ℕ → Rows → State Local → Bool → List ℕ
-report_text net order rows end jobs =
-    (head_line ++ jobs_line (length rows.time) end.clock)
-    ++ (nodes_text net rows end order ++ (exits_text net rows end order ++ asked_jobs net rows end order jobs))
+-- the report of a state, of this form, with the nodes in this order, and with the job lines where they are asked for
+abbrev pub report_text : Network → List ℕ → Rows → State Local → ℕ → Bool → List ℕ
+report_text net order rows end form jobs =
+    (head_line form ++ jobs_line (length rows.time) end.clock)
+    ++ (nodes_text form net rows end order ++ (exits_text net rows end order ++ asked_jobs net rows end order jobs))
 
--- the report of the sequential event-list run of a network over rows, with the job lines where they are asked for
-abbrev pub report_in : Network → Rows → Bool → List ℕ
-report_in net rows jobs = report_text net (ranking net.nodes) rows (run_in net rows) jobs
+-- the report of the sequential event-list run of a network over rows, of this form, with the job lines where they are asked for
+abbrev pub report_in : Network → Rows → ℕ → Bool → List ℕ
+report_in net rows form jobs = report_text net (ranking net.nodes) rows (run_in net rows) form jobs

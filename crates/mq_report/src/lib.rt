@@ -5,7 +5,9 @@ mod jobs;
 mod line;
 mod lines;
 mod sections;
+mod tails;
 mod totals;
 
 pub use sections::report;
+pub use tails::node_tails;
 pub use totals::node_totals;

@@ -1,35 +1,66 @@
 // The lines of a report.
-ghost use Rattle.std.specs.Prelude.{◌≡◌, ◌≤◌, ◌<◌, ◌^◌, ◌++◌};
+ghost use Rattle.std.specs.Prelude.{◌≡◌, ◌≤◌, ◌<◌, ◌^◌, ◌++◌, option_map};
 ghost use Rattle.mq_outside.specs.Outside.{Adds};
-ghost use Rattle.mq_report.specs.Text.{exit_line, head_line, jobs_line, kind_word as word_of_kind, last_digits, node_counts, node_line, node_losses, node_numbers, node_tallies, node_waits, node_words, ten_thousandths, utilisation as utilisation_of, utilisation_text};
+ghost use Rattle.mq_report.specs.Text.{exit_line, head_line, jobs_line, kind_word as word_of_kind, last_digits, node_counts, node_line, node_losses, node_numbers, node_tail, node_tallies, node_waits, node_words, ten_thousandths, utilisation as utilisation_of, utilisation_text};
 ghost use Rattle.mq_core.specs.Results.{servers_in};
 ghost use Rattle.mq_stats.specs.Numbers.{totals_from};
+ghost use Rattle.mq_report.specs.Tails.{tail_from};
 
 use mq_core::{Kind, servers_of};
 use mq_outside::{Gather, Piece, Sink, SinkFault, add_pieces};
-use mq_stats::{Exit, NodeTotals};
+use mq_stats::{Exit, NodeTotals, Percentiles};
 
-/// Adds the head, and the line of the jobs and the span.
-#[tactic(auto, unfolding(crate::specs::Text::head_line, crate::specs::Text::jobs_line))]
-pub fn add_head<O: Sink>(
-    out: &mut O,
-    pending: &mut Gather,
-    jobs: usize,
-    span: u64,
-) -> Result<(), SinkFault>
-    ensures { Adds O.taken O.sure O.faults out.old out.new pending.old pending.new result (head_line ++ jobs_line jobs span) }
+// Adds the first line.
+#[tactic(auto, unfolding(crate::specs::Text::head_line))]
+fn add_first<O: Sink>(out: &mut O, pending: &mut Gather, form: u8) -> Result<(), SinkFault>
+    ensures { Adds O.taken O.sure O.faults out.old out.new pending.old pending.new result (head_line form) }
 {
     add_pieces(
         out,
         pending,
         &[
-            Piece::Text(b"mpsim report 1\njobs "),
+            Piece::Text(b"mpsim report "),
+            Piece::Number(form as u128),
+            Piece::Text(b"\n"),
+        ],
+    )
+}
+
+// Adds the line of the jobs and the span.
+#[tactic(auto, unfolding(crate::specs::Text::jobs_line))]
+fn add_jobs_line<O: Sink>(
+    out: &mut O,
+    pending: &mut Gather,
+    jobs: usize,
+    span: u64,
+) -> Result<(), SinkFault>
+    ensures { Adds O.taken O.sure O.faults out.old out.new pending.old pending.new result (jobs_line jobs span) }
+{
+    add_pieces(
+        out,
+        pending,
+        &[
+            Piece::Text(b"jobs "),
             Piece::Number(jobs as u128),
             Piece::Text(b" span "),
             Piece::Number(span as u128),
             Piece::Text(b"\n"),
         ],
     )
+}
+
+/// Adds the first line, which names the form of the report, and the line of the jobs and the span.
+pub fn add_head<O: Sink>(
+    out: &mut O,
+    pending: &mut Gather,
+    form: u8,
+    jobs: usize,
+    span: u64,
+) -> Result<(), SinkFault>
+    ensures { Adds O.taken O.sure O.faults out.old out.new pending.old pending.new result (head_line form ++ jobs_line jobs span) }
+{
+    add_first(out, pending, form)?;
+    add_jobs_line(out, pending, jobs, span)
 }
 
 fn kind_word(kind: &Kind) -> &'static [u8]
@@ -153,17 +184,17 @@ fn add_counts<O: Sink>(
     )
 }
 
-// Adds the number of those lost, and in version 2 of those held.
+// Adds the number of those lost, and, where they are told, of those held.
 #[tactic(auto, unfolding(crate::specs::Text::node_losses))]
 fn add_losses<O: Sink>(
     out: &mut O,
     pending: &mut Gather,
-    version: u8,
+    tells_held: bool,
     totals: &NodeTotals,
 ) -> Result<(), SinkFault>
-    ensures { Adds O.taken O.sure O.faults out.old out.new pending.old pending.new result (node_losses version (totals_from totals.now)) }
+    ensures { Adds O.taken O.sure O.faults out.old out.new pending.old pending.new result (node_losses tells_held (totals_from totals.now)) }
 {
-    if version == 2 {
+    if tells_held {
         return add_pieces(
             out,
             pending,
@@ -198,9 +229,35 @@ fn add_waits<O: Sink>(
             Piece::Number(totals.wait),
             Piece::Text(b" max "),
             Piece::Number(totals.longest as u128),
-            Piece::Text(b" busy "),
         ],
     )
+}
+
+// Adds percentiles of a node's waits, where they are told.
+#[tactic(auto, unfolding(crate::specs::Text::node_tail))]
+fn add_tail<O: Sink>(
+    out: &mut O,
+    pending: &mut Gather,
+    tail: Option<Percentiles>,
+) -> Result<(), SinkFault>
+    ensures { Adds O.taken O.sure O.faults out.old out.new pending.old pending.new result (node_tail (option_map tail_from tail)) }
+{
+    match tail {
+        None => add_pieces(out, pending, &[Piece::Text(b" busy ")]),
+        Some(tail) => add_pieces(
+            out,
+            pending,
+            &[
+                Piece::Text(b" p50 "),
+                Piece::Number(tail.p50 as u128),
+                Piece::Text(b" p90 "),
+                Piece::Number(tail.p90 as u128),
+                Piece::Text(b" p99 "),
+                Piece::Number(tail.p99 as u128),
+                Piece::Text(b" busy "),
+            ],
+        ),
+    }
 }
 
 // Adds a node's tallies.
@@ -230,33 +287,36 @@ fn add_tallies<O: Sink>(
 fn add_numbers<O: Sink>(
     out: &mut O,
     pending: &mut Gather,
-    version: u8,
+    tells_held: bool,
     totals: &NodeTotals,
+    tail: Option<Percentiles>,
 ) -> Result<(), SinkFault>
-    ensures { Adds O.taken O.sure O.faults out.old out.new pending.old pending.new result (node_numbers version (totals_from totals.now)) }
+    ensures { Adds O.taken O.sure O.faults out.old out.new pending.old pending.new result (node_numbers tells_held (totals_from totals.now) (option_map tail_from tail)) }
 {
     add_counts(out, pending, totals)?;
-    add_losses(out, pending, version, totals)?;
+    add_losses(out, pending, tells_held, totals)?;
     add_waits(out, pending, totals)?;
+    add_tail(out, pending, tail)?;
     add_tallies(out, pending, totals)
 }
 
-/// Adds the line of a node of a model of this version.
+/// Adds the line of a node, with its held visits and percentiles of its waits where they are told.
 pub fn add_node<O: Sink>(
     out: &mut O,
     pending: &mut Gather,
-    version: u8,
+    tells_held: bool,
     name: &[u8],
     kind: &Kind,
     totals: &NodeTotals,
+    tail: Option<Percentiles>,
     span: u64,
 ) -> Result<(), SinkFault>
     requires servers { servers_in kind.now ≤ 8 }
     requires small { totals.now.busy < 2 ^ 100 }
-    ensures { Adds O.taken O.sure O.faults out.old out.new pending.old pending.new result (node_line version name.now kind.now (totals_from totals.now) span) }
+    ensures { Adds O.taken O.sure O.faults out.old out.new pending.old pending.new result (node_line tells_held name.now kind.now (totals_from totals.now) (option_map tail_from tail) span) }
 {
     add_words(out, pending, name, kind)?;
-    add_numbers(out, pending, version, totals)?;
+    add_numbers(out, pending, tells_held, totals, tail)?;
     add_utilisation(out, pending, totals.busy, servers_of(kind), span)
 }
 

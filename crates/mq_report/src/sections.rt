@@ -10,17 +10,21 @@ ghost use Rattle.mq_core.specs.Theorems.{IsReadFor};
 ghost use Rattle.mq_stats.specs.Numbers.{totals_from};
 ghost use Rattle.mq_stats.specs.RunNumbers.{HasFewVisits};
 ghost use Rattle.mq_report.specs.Totals.{AreNodeTotals};
+ghost use Rattle.mq_report.specs.Tails.{AreNodeTails};
 ghost use Rattle.mq_report.specs.Text.{asked_jobs, exit_lines, exit_lines_at, exits_text, is_read as reads_output, line_of, nodes_text, report_in, report_text};
 
 use crate::jobs::add_jobs;
 use crate::lines::{add_exit, add_head, add_node};
+use crate::tails::told_tail;
 use mq_base::List;
 use mq_core::{
     Input, Node, Plan, Rows, Run, exits_are_streams, nodes_are_in_limits, orders_rank,
     outputs_have_streams, outputs_of, runs_are_of_networks, runs_have_sequences, span_is_sequences,
 };
 use mq_outside::{Gather, Sink, SinkFault, flush};
-use mq_stats::{Exit, NodeTotals, last_at, lasts_are_greatest, leaving, runs_give_streams};
+use mq_stats::{
+    Exit, NodeTotals, Percentiles, last_at, lasts_are_greatest, leaving, runs_give_streams,
+};
 
 // Whether one of these inputs reads the output of the node.
 fn reads(inputs: &[Input], node: u32, output: u8) -> bool
@@ -71,8 +75,8 @@ pub fn span_of(plan: &Plan, rows: &Rows, run: &Run) -> u64
     span
 }
 
-// The totals of a node, from those of all.
-fn listed_totals(
+/// The totals of a node, from those of all.
+pub fn listed_totals(
     plan: &Plan,
     rows: &Rows,
     totals: &List<NodeTotals>,
@@ -95,6 +99,8 @@ fn add_node_at<O: Sink>(
     rows: &Rows,
     run: &Run,
     totals: &List<NodeTotals>,
+    tails: &List<Percentiles>,
+    form: u8,
     node: u32,
     declared: &Node,
     span: u64,
@@ -103,18 +109,21 @@ fn add_node_at<O: Sink>(
     requires run { IsRunOf plan.now rows.now run.now }
     requires there { slice_get plan.now.net.nodes node ≡ Some declared.now }
     requires totals { AreNodeTotals plan.now rows.now totals.now }
+    requires tails { form ≡ 2 → AreNodeTails plan.now rows.now tails.now }
     requires span { span ≡ (run_of plan.now rows.now).clock }
-    ensures { Adds O.taken O.sure O.faults out.old out.new pending.old pending.new result (line_of plan.now.net.version rows.now (run_of plan.now rows.now) node declared.now) }
+    ensures { Adds O.taken O.sure O.faults out.old out.new pending.old pending.new result (line_of plan.now.net.version form rows.now (run_of plan.now rows.now) node declared.now) }
 {
     nodes_are_in_limits();
     let own = listed_totals(plan, rows, totals, node, declared);
+    let tail = told_tail(plan, rows, tails, form, node, declared);
     add_node(
         out,
         pending,
-        plan.net.version,
+        plan.net.version == 2 || form == 2,
         declared.name.as_slice(),
         &declared.kind,
         &own,
+        tail,
         span,
     )
 }
@@ -127,19 +136,24 @@ fn add_nodes<O: Sink>(
     rows: &Rows,
     run: &Run,
     totals: &List<NodeTotals>,
+    tails: &List<Percentiles>,
+    form: u8,
     span: u64,
 ) -> Result<(), SinkFault>
     requires read { IsReadFor plan.now.net rows.now }
     requires run { IsRunOf plan.now rows.now run.now }
     requires totals { AreNodeTotals plan.now rows.now totals.now }
+    requires tails { form ≡ 2 → AreNodeTails plan.now rows.now tails.now }
     requires span { span ≡ (run_of plan.now rows.now).clock }
-    ensures { Adds O.taken O.sure O.faults out.old out.new pending.old pending.new result (nodes_text plan.now.net rows.now (run_of plan.now rows.now) plan.now.order) }
+    ensures { Adds O.taken O.sure O.faults out.old out.new pending.old pending.new result (nodes_text form plan.now.net rows.now (run_of plan.now rows.now) plan.now.order) }
 {
     orders_rank();
     for rank in 0..plan.order.len() {
         let node = *plan.order.get(rank);
         let declared = plan.net.nodes.get(node as usize);
-        add_node_at(out, pending, plan, rows, run, totals, node, declared, span)?;
+        add_node_at(
+            out, pending, plan, rows, run, totals, tails, form, node, declared, span,
+        )?;
     }
     Ok(())
 }
@@ -258,24 +272,27 @@ fn add_report<O: Sink>(
     rows: &Rows,
     run: &Run,
     totals: &List<NodeTotals>,
+    tails: &List<Percentiles>,
+    form: u8,
     jobs: bool,
 ) -> Result<(), SinkFault>
     requires read { IsReadFor plan.now.net rows.now }
     requires run { IsRunOf plan.now rows.now run.now }
     requires few { HasFewVisits plan.now rows.now }
     requires totals { AreNodeTotals plan.now rows.now totals.now }
-    ensures { Adds O.taken O.sure O.faults out.old out.new pending.old pending.new result (report_text plan.now.net plan.now.order rows.now (run_of plan.now rows.now) jobs) }
+    requires tails { form ≡ 2 → AreNodeTails plan.now rows.now tails.now }
+    ensures { Adds O.taken O.sure O.faults out.old out.new pending.old pending.new result (report_text plan.now.net plan.now.order rows.now (run_of plan.now rows.now) form jobs) }
 {
     let span = span_of(plan, rows, run);
-    add_head(out, pending, rows.time.len(), span)?;
-    add_nodes(out, pending, plan, rows, run, totals, span)?;
+    add_head(out, pending, form, rows.time.len(), span)?;
+    add_nodes(out, pending, plan, rows, run, totals, tails, form, span)?;
     add_exits(out, pending, plan, rows, run)?;
     add_asked_jobs(out, pending, plan, rows, run, jobs)
 }
 
-/// Writes the report of a run: the counts and times of each node by rank, what leaves by each
+/// Writes the report of a run, of form 1 or 2: the counts and times of each node by rank, what leaves by each
 /// output that no input reads, and, where `jobs` is true, a line for each visit by rank of its node
-/// and then position. No node has more than 1,048,576 visits, as in each run that isn't refused. It takes
+/// and then position. Form 2 tells the percentiles of each node's waits, and form 1 doesn't look at them. No node has more than 1,048,576 visits, as in each run that isn't refused. It takes
 /// no memory of its own.
 ///
 /// After a fault the sink took a first part of the report.
@@ -284,6 +301,8 @@ pub fn report<O: Sink>(
     rows: &Rows,
     run: &Run,
     totals: &List<NodeTotals>,
+    tails: &List<Percentiles>,
+    form: u8,
     jobs: bool,
     out: &mut O,
 ) -> Result<(), SinkFault>
@@ -291,15 +310,26 @@ pub fn report<O: Sink>(
     requires run { IsRunOf plan.now rows.now run.now }
     requires few { HasFewVisits plan.now rows.now }
     requires totals { AreNodeTotals plan.now rows.now totals.now }
-    ensures ok { OnOk result (TakesFirst (O.taken out.old) (O.taken out.new) (O.sure out.old) (O.sure out.new) (report_in plan.now.net rows.now jobs) (length (report_in plan.now.net rows.now jobs))) }
-    ensures err { OnErr result (TakesPrefix (O.taken out.old) (O.taken out.new) (O.sure out.old) (O.sure out.new) (report_in plan.now.net rows.now jobs)) }
+    requires tails { form ≡ 2 → AreNodeTails plan.now rows.now tails.now }
+    ensures ok { OnOk result (TakesFirst (O.taken out.old) (O.taken out.new) (O.sure out.old) (O.sure out.new) (report_in plan.now.net rows.now form jobs) (length (report_in plan.now.net rows.now form jobs))) }
+    ensures err { OnErr result (TakesPrefix (O.taken out.old) (O.taken out.new) (O.sure out.old) (O.sure out.new) (report_in plan.now.net rows.now form jobs)) }
     ensures later { O.faults out.old ≤ O.faults out.new }
     ensures rose { OnErr result (Rose (O.faults out.old) (O.faults out.new)) }
     ensures quiet { OnOk result (O.faults out.new ≡ O.faults out.old) }
-    ensures sure { length (report_in plan.now.net rows.now jobs) ≤ O.sure out.old → O.faults out.new ≡ O.faults out.old }
+    ensures sure { length (report_in plan.now.net rows.now form jobs) ≤ O.sure out.old → O.faults out.new ≡ O.faults out.old }
 {
     let mut pending = Gather::new();
     runs_are_of_networks();
-    add_report(out, &mut pending, plan, rows, run, totals, jobs)?;
+    add_report(
+        out,
+        &mut pending,
+        plan,
+        rows,
+        run,
+        totals,
+        tails,
+        form,
+        jobs,
+    )?;
     flush(out, &mut pending)
 }

@@ -18,7 +18,8 @@ use Rattle.mq_split.specs.Outs.{PiecesJoin, outs_from, picked_stream, piece_of}
 use Rattle.mq_stations.specs.Blocks.{from_of, to_of}
 use Rattle.mq_stations.specs.Leaving.{AreRouted}
 use Rattle.mq_stations.specs.Scans.{AreSplitBlocks, AreSplitParts, HaveParts}
-use Rattle.mq_stations.proofs.lemmas.Blocks.{blocks-all, blocks-few}
+use Rattle.mq_scan.proofs.lemmas.Blocks.{blocks-few}
+use Rattle.mq_stations.proofs.lemmas.Blocks.{blocks-all}
 
 -- Parts of a list.
 get-drop : {X : Type 0} (xs : List X) (n k : ℕ) → slice_get (drop n xs) k ≡ slice_get xs (n + k)

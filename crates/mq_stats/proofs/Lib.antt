@@ -9,5 +9,7 @@ pub mod Telling
 pub mod Fine
 pub mod Held
 pub mod Joins
+pub mod Least
+pub mod Gathering
 pub mod Leaves
 pub mod Lasts

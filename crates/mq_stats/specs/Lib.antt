@@ -2,4 +2,5 @@ pub mod Ahead
 pub mod Departures
 pub mod Lasts
 pub mod Numbers
+pub mod Percentiles
 pub mod RunNumbers

@@ -25,7 +25,7 @@ pub fn wait_of(rows: &Rows, kind: &Kind, job: u32, arrive: u64, fate: Fate) -> u
 }
 
 // How long a visit waited whose bare time this is, in ticks.
-fn wait_beyond(bare: u64, arrive: u64, fate: Fate) -> u64
+pub fn wait_beyond(bare: u64, arrive: u64, fate: Fate) -> u64
     ensures { (rows : TheRows) (kind : TheKind) (job : ℕ) → bare ≡ bare_time rows kind job → result ≡ sequence_wait rows kind job arrive fate }
 {
     match fate {
@@ -45,7 +45,7 @@ fn served(service: u64, fate: Fate) -> u64
 }
 
 // How it is told what the jobs ask for at a node. It is chosen once a node, so that a loop over its visits looks at no kind.
-trait Asking {
+pub trait Asking {
     // It tells this of nodes of this kind.
     ghost tells: { Self → TheKind → Type 0 };
 
@@ -65,7 +65,7 @@ trait Asking {
 
 // The job's value in a column is all that it asks for.
 #[derive(Clone, Copy)]
-struct InColumn(u8);
+pub struct InColumn(pub u8);
 
 impl Asking for InColumn {
     ghost tells = { λ s kind. AsksOnce kind (Column s.0) };
@@ -81,7 +81,7 @@ impl Asking for InColumn {
 
 // Each job asks for this many ticks.
 #[derive(Clone, Copy)]
-struct Alike(u64);
+pub struct Alike(pub u64);
 
 impl Asking for Alike {
     ghost tells = { λ s kind. AsksOnce kind (Fixed s.0) };
@@ -97,7 +97,7 @@ impl Asking for Alike {
 
 // The job asks several servers, by the kind of the node.
 #[derive(Clone, Copy)]
-struct AtServers;
+pub struct AtServers;
 
 impl Asking for AtServers {
     ghost tells = { λ s kind. Unit {0} };

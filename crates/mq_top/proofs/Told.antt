@@ -1,11 +1,12 @@
 -- What is told of a file, and what was read of it.
 use Rattle.std.proofs.Common.{◌≡◌, ℕ, List, [], ◌++◌, ap, ap₂, subst, sym, ◌∙◌}
-use Rattle.std.specs.Prelude.{Bool, true, false, IfSome, Some, None}
+use Rattle.std.specs.Prelude.{true, false, IfSome, Some, None}
 use Rattle.std.specs.declared.option.Option.{Option}
 use Rattle.mq_core.specs.declared.model.Network.{Network}
 use Rattle.mq_model.specs.Model.{model_fault}
 use Rattle.mq_model.specs.NetworkOf.{network_in}
 use Rattle.mq_top.specs.Answer.{answer, answer_over, model_answer}
+use Rattle.mq_top.specs.declared.stages.Wanted.{Wanted}
 use Rattle.mq_top.specs.Ends.{RefusesModel, RefusesTrace}
 use Rattle.mq_outcome.specs.declared.outcome.Outcome.{Outcome}
 use Rattle.mq_outcome.specs.declared.outcome.Outcome.TheVariants.{Done, Usage, Model, Trace, Past, Over, ReadFault, WriteFault, Memory}
@@ -54,7 +55,7 @@ pub told_is : (told : Option (List ℕ)) (bytes : List ℕ) (P : List ℕ → Ty
 told_is told bytes P is h = subst (λ o. IfSome o P) is h
 
 -- an accepted model's network stands for its bytes
-pub answer_is : (net : Network) (model trace : List ℕ) (jobs asked : Bool) → model_fault model ≡ None → net ≡ network_in model → jobs ≡ asked
-    → answer_over net trace jobs ≡ answer model trace asked
-answer_is net model trace jobs asked accepted is same =
-    ap₂ (λ (n : Network) (b : Bool). answer_over n trace b) is same ∙ ap (model_answer model trace asked) (sym accepted)
+pub answer_is : (net : Network) (model trace : List ℕ) (wanted asked : Wanted) → model_fault model ≡ None → net ≡ network_in model → wanted ≡ asked
+    → answer_over net trace wanted ≡ answer model trace asked
+answer_is net model trace wanted asked accepted is same =
+    ap₂ (λ (n : Network) (b : Wanted). answer_over n trace b) is same ∙ ap (model_answer model trace asked) (sym accepted)

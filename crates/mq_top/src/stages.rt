@@ -8,23 +8,28 @@ ghost use Rattle.mq_gen.specs.Accepted.{IsAccepted};
 ghost use Rattle.mq_gen.specs.Made.{made_model, made_trace};
 ghost use Rattle.mq_model.specs.Model.{model_fault};
 ghost use Rattle.mq_model.specs.NetworkOf.{network_in};
+ghost use Rattle.mq_core.specs.Sequences.{IsRunOf};
+ghost use Rattle.mq_report.specs.Tails.{AreNodeTails};
 ghost use Rattle.mq_report.specs.Text.{report_in};
+ghost use Rattle.mq_report.specs.Totals.{AreNodeTotals};
+ghost use Rattle.mq_stats.specs.RunNumbers.{HasFewVisits};
 ghost use Rattle.mq_trace.specs.Trace.{trace_fault, rows_in};
-ghost use Rattle.mq_top.specs.Answer.{answer, answer_over, run_answer};
+ghost use Rattle.mq_top.specs.Answer.{answer, answer_over, run_answer, wanted_by};
 ghost use Rattle.mq_top.specs.Answer.Answer.{Reported};
 ghost use Rattle.mq_top.specs.Ends.{Ends, FailedAt, IsLate, IsOfMade, Reads, RefusesCall, RefusesModel, RefusesTrace, Untouched, takings};
 ghost use Rattle.mq_outcome.specs.Lines.{PutsLine, line_text, name_of as name_of_outcome};
-ghost use Rattle.mq_words.specs.Words.{Asks, Makes, Names, asks_made, jobs_asked, refuses_words, usage_fault};
+ghost use Rattle.mq_words.specs.Words.{Asks, Makes, Names, asks_made, refuses_words, usage_fault};
 
-use mq_core::{Plan, Rows, runs_are_of_networks};
+use mq_base::{List, OutOfMemory};
+use mq_core::{Plan, Rows, Run, runs_are_of_networks};
 use mq_crew::{Gate, Open};
 use mq_engine::{RunFault, run};
 use mq_gen::{made, made_inputs_are_accepted};
 use mq_model::{ModelFault, read_model};
 use mq_outcome::{Outcome, name_of, put_line};
 use mq_outside::{FileFault, Files, Sink};
-use mq_report::{node_totals, report};
-use mq_stats::runs_have_few_visits;
+use mq_report::{node_tails, node_totals, report};
+use mq_stats::{NodeTotals, Percentiles, runs_have_few_visits};
 use mq_trace::{TraceFault, read_trace};
 use mq_words::{Input, Settings, UsageFault, WordsFault, settings_of};
 use std::alloc::Global;
@@ -58,6 +63,15 @@ struct Crew<'a, R, G> {
     ghost some: { 1 ≤ workers },
     ghost most: { workers ≤ 64 },
     ghost block_some: { 1 ≤ block },
+}
+
+// What the report is to have.
+#[derive(Clone, Copy)]
+struct Wanted {
+    // Its form, 1 or 2.
+    form: u8,
+    // Whether it has the lines of the jobs.
+    jobs: bool,
 }
 
 // Judges the bytes of a model.
@@ -147,22 +161,53 @@ fn accept_trace<R: Threads + Sync, G: Gate, F: Files>(
     judge_trace(alloc, crew, plan, &bytes)
 }
 
-// Runs a plan over its rows, and writes the report, with the lines of the jobs where they are asked for.
+// The percentiles of the waits at each node, which form 2 of the report tells; none for form 1.
+fn told_tails<R: Threads + Sync, G: Gate>(
+    alloc: Global,
+    crew: &Crew<R, G>,
+    plan: &Plan,
+    rows: &Rows,
+    run: &Run,
+    totals: &List<NodeTotals>,
+    form: u8,
+) -> Result<List<Percentiles>, OutOfMemory>
+    requires read { IsReadFor plan.now.net rows.now }
+    requires run { IsRunOf plan.now rows.now run.now }
+    requires few { HasFewVisits plan.now rows.now }
+    requires totals { AreNodeTotals plan.now rows.now totals.now }
+    ensures { form ≡ 2 → IfOk result (λ tails. AreNodeTails plan.now rows.now tails) }
+{
+    if form == 1 {
+        return Ok(List::new(alloc));
+    }
+    node_tails(
+        crew.rt,
+        alloc,
+        crew.workers,
+        plan,
+        rows,
+        run,
+        totals,
+        crew.gate,
+    )
+}
+
+// Runs a plan over its rows, and writes the report as it is wanted.
 fn report_run<R: Threads + Sync, G: Gate, O: Sink>(
     alloc: Global,
     crew: &Crew<R, G>,
     plan: &Plan,
     rows: &Rows,
-    jobs: bool,
+    wanted: Wanted,
     out: &mut O,
 ) -> Outcome
     requires { IsReadFor plan.now.net rows.now }
-    ensures ends { Ends (run_answer plan.now.net rows.now jobs (refusal_in plan.now.net rows.now)) result (takings O.taken O.sure out.old out.new) }
+    ensures ends { Ends (run_answer plan.now.net rows.now wanted (refusal_in plan.now.net rows.now)) result (takings O.taken O.sure out.old out.new) }
     ensures unread { (second : Bool) → result ≢ Outcome.ReadFault second }
     ensures later { O.faults out.old ≤ O.faults out.new }
     ensures rose { result ≡ Outcome.WriteFault → Rose (O.faults out.old) (O.faults out.new) }
     ensures quiet { (result ≡ Outcome.WriteFault) ⊎ (O.faults out.new ≡ O.faults out.old) }
-    ensures sure { length (report_in plan.now.net rows.now jobs) ≤ O.sure out.old → O.faults out.new ≡ O.faults out.old }
+    ensures sure { length (report_in plan.now.net rows.now wanted.form wanted.jobs) ≤ O.sure out.old → O.faults out.new ≡ O.faults out.old }
     ensures untouched { Untouched result out.old out.new }
 {
     runs_are_of_networks();
@@ -184,7 +229,19 @@ fn report_run<R: Threads + Sync, G: Gate, O: Sink>(
     let Ok(totals) = node_totals(crew.rt, alloc, crew.workers, plan, rows, &run, crew.gate) else {
         return Outcome::Memory;
     };
-    match report(plan, rows, &run, &totals, jobs, out) {
+    let Ok(tails) = told_tails(alloc, crew, plan, rows, &run, &totals, wanted.form) else {
+        return Outcome::Memory;
+    };
+    match report(
+        plan,
+        rows,
+        &run,
+        &totals,
+        &tails,
+        wanted.form,
+        wanted.jobs,
+        out,
+    ) {
         Ok(()) => Outcome::Done,
         Err(_) => Outcome::WriteFault,
     }
@@ -196,11 +253,11 @@ fn run_trace<R: Threads + Sync, G: Gate, F: Files, O: Sink>(
     crew: &Crew<R, G>,
     plan: &Plan,
     name: &str,
-    jobs: bool,
+    wanted: Wanted,
     files: &mut F,
     out: &mut O,
 ) -> Outcome
-    ensures ends { IfSome (F.told files.old name.now) (λ trace. Ends (answer_over plan.now.net trace jobs) result (takings O.taken O.sure out.old out.new)) }
+    ensures ends { IfSome (F.told files.old name.now) (λ trace. Ends (answer_over plan.now.net trace wanted) result (takings O.taken O.sure out.old out.new)) }
     ensures late { IsLate result }
     ensures counted { F.reads files.new ≡ next_count (F.reads files.old) }
     ensures files_later { F.faults files.old ≤ F.faults files.new }
@@ -214,11 +271,11 @@ fn run_trace<R: Threads + Sync, G: Gate, F: Files, O: Sink>(
     ensures later { O.faults out.old ≤ O.faults out.new }
     ensures rose { result ≡ Outcome.WriteFault → Rose (O.faults out.old) (O.faults out.new) }
     ensures quiet { (result ≡ Outcome.WriteFault) ⊎ (O.faults out.new ≡ O.faults out.old) }
-    ensures sure { (trace text : List ℕ) → F.told files.old name.now ≡ Some trace → answer_over plan.now.net trace jobs ≡ Reported text → length text ≤ O.sure out.old → O.faults out.new ≡ O.faults out.old }
+    ensures sure { (trace text : List ℕ) → F.told files.old name.now ≡ Some trace → answer_over plan.now.net trace wanted ≡ Reported text → length text ≤ O.sure out.old → O.faults out.new ≡ O.faults out.old }
     ensures untouched { Untouched result out.old out.new }
 {
     match accept_trace(alloc, crew, plan, name, files) {
-        Ok(rows) => report_run(alloc, crew, plan, &rows, jobs, out),
+        Ok(rows) => report_run(alloc, crew, plan, &rows, wanted, out),
         Err(outcome) => outcome,
     }
 }
@@ -229,16 +286,16 @@ fn run_accepted<R: Threads + Sync, G: Gate, O: Sink>(
     crew: &Crew<R, G>,
     model: &[u8],
     trace: &[u8],
-    jobs: bool,
+    wanted: Wanted,
     out: &mut O,
 ) -> Outcome
     requires { IsAccepted model.now trace.now }
-    ensures ends { Ends (answer model.now trace.now jobs) result (takings O.taken O.sure out.old out.new) }
+    ensures ends { Ends (answer model.now trace.now wanted) result (takings O.taken O.sure out.old out.new) }
     ensures made { IsOfMade result }
     ensures later { O.faults out.old ≤ O.faults out.new }
     ensures rose { result ≡ Outcome.WriteFault → Rose (O.faults out.old) (O.faults out.new) }
     ensures quiet { (result ≡ Outcome.WriteFault) ⊎ (O.faults out.new ≡ O.faults out.old) }
-    ensures sure { (text : List ℕ) → answer model.now trace.now jobs ≡ Reported text → length text ≤ O.sure out.old → O.faults out.new ≡ O.faults out.old }
+    ensures sure { (text : List ℕ) → answer model.now trace.now wanted ≡ Reported text → length text ≤ O.sure out.old → O.faults out.new ≡ O.faults out.old }
     ensures untouched { Untouched result out.old out.new }
 {
     let plan = match judge_model(alloc, model) {
@@ -246,7 +303,7 @@ fn run_accepted<R: Threads + Sync, G: Gate, O: Sink>(
         Err(outcome) => return outcome,
     };
     match judge_trace(alloc, crew, &plan, trace) {
-        Ok(rows) => report_run(alloc, crew, &plan, &rows, jobs, out),
+        Ok(rows) => report_run(alloc, crew, &plan, &rows, wanted, out),
         Err(outcome) => outcome,
     }
 }
@@ -256,15 +313,15 @@ fn run_made<R: Threads + Sync, G: Gate, O: Sink>(
     alloc: Global,
     crew: &Crew<R, G>,
     number: u64,
-    jobs: bool,
+    wanted: Wanted,
     out: &mut O,
 ) -> Outcome
-    ensures ends { Ends (answer (made_model number) (made_trace number) jobs) result (takings O.taken O.sure out.old out.new) }
+    ensures ends { Ends (answer (made_model number) (made_trace number) wanted) result (takings O.taken O.sure out.old out.new) }
     ensures made { IsOfMade result }
     ensures later { O.faults out.old ≤ O.faults out.new }
     ensures rose { result ≡ Outcome.WriteFault → Rose (O.faults out.old) (O.faults out.new) }
     ensures quiet { (result ≡ Outcome.WriteFault) ⊎ (O.faults out.new ≡ O.faults out.old) }
-    ensures sure { (text : List ℕ) → answer (made_model number) (made_trace number) jobs ≡ Reported text → length text ≤ O.sure out.old → O.faults out.new ≡ O.faults out.old }
+    ensures sure { (text : List ℕ) → answer (made_model number) (made_trace number) wanted ≡ Reported text → length text ≤ O.sure out.old → O.faults out.new ≡ O.faults out.old }
     ensures untouched { Untouched result out.old out.new }
 {
     made_inputs_are_accepted();
@@ -276,7 +333,7 @@ fn run_made<R: Threads + Sync, G: Gate, O: Sink>(
         crew,
         input.model.as_slice(),
         input.trace.as_slice(),
-        jobs,
+        wanted,
         out,
     )
 }
@@ -285,8 +342,8 @@ fn run_made<R: Threads + Sync, G: Gate, O: Sink>(
 /// over the rows, and writes the report: the same as that of a sequential event list. The words are
 /// those behind the program's name: the two names, or `--made` with a number, and among them
 /// `--workers`, from 1 to 64, and `--block`, from 1 to 65,536 jobs, which change nothing but who makes
-/// which piece, and `--jobs`, which asks for a line for each visit. The workers enter the gate with the
-/// pieces of the run and of its totals; who reads a piece of the trace enters none.
+/// which piece, `--jobs`, which asks for a line for each visit, and `--report` with the form of the report, 1 or 2.
+/// The workers enter the gate with the pieces of the run, of its totals and of its percentiles; who reads a piece of the trace enters none.
 ///
 /// Every outcome but `Done` puts one line on `err`, whose faults change no outcome. All memory is
 /// taken before the first byte is written; `out` gains the whole report with `Done`, a first part
@@ -303,7 +360,7 @@ pub fn simulate_gated<R: Threads + Sync, F: Files, O: Sink, E: Sink, G: Gate>(
     // A finished run has written exactly the report of the event list, and a run ends otherwise only with the fault
     // that the definitions give, or with a fault of a device or want of memory.
     ensures ends { (m t model trace : List ℕ) → Names (texts words.now) m t → F.told files.old m ≡ Some model → F.told files.old t ≡ Some trace →
-        Ends (answer model trace (jobs_asked (texts words.now))) result (takings O.taken O.sure out.old out.new) }
+        Ends (answer model trace (wanted_by (texts words.now))) result (takings O.taken O.sure out.old out.new) }
 
     // The words are refused exactly so, and a model is refused whatever is told of the trace.
     ensures usage { (fault : UsageFault) → result ≡ Outcome.Usage fault → usage_fault (texts words.now) ≡ Some fault }
@@ -329,16 +386,16 @@ pub fn simulate_gated<R: Threads + Sync, F: Files, O: Sink, E: Sink, G: Gate>(
     ensures out_later { O.faults out.old ≤ O.faults out.new }
     ensures write { result ≡ Outcome.WriteFault → Rose (O.faults out.old) (O.faults out.new) }
     ensures out_quiet { (result ≡ Outcome.WriteFault) ⊎ (O.faults out.new ≡ O.faults out.old) }
-    ensures sure { (m t model trace text : List ℕ) → Names (texts words.now) m t → F.told files.old m ≡ Some model → F.told files.old t ≡ Some trace → answer model trace (jobs_asked (texts words.now)) ≡ Reported text →
+    ensures sure { (m t model trace text : List ℕ) → Names (texts words.now) m t → F.told files.old m ≡ Some model → F.told files.old t ≡ Some trace → answer model trace (wanted_by (texts words.now)) ≡ Reported text →
         length text ≤ O.sure out.old → O.faults out.new ≡ O.faults out.old }
 
     // With `--made` no file is read. A made input is accepted, so that its run ends with its report, or with a fault of
     // the output or want of memory.
     ensures made { (number : ℕ) → Makes (texts words.now) number →
-        Ends (answer (made_model number) (made_trace number) (jobs_asked (texts words.now))) result (takings O.taken O.sure out.old out.new) }
+        Ends (answer (made_model number) (made_trace number) (wanted_by (texts words.now))) result (takings O.taken O.sure out.old out.new) }
     ensures made_accepted { (number : ℕ) → Makes (texts words.now) number → IsOfMade result }
     ensures made_unread { asks_made (texts words.now) ≡ true → files.new ≡ files.old }
-    ensures made_sure { (number : ℕ) (text : List ℕ) → Makes (texts words.now) number → answer (made_model number) (made_trace number) (jobs_asked (texts words.now)) ≡ Reported text →
+    ensures made_sure { (number : ℕ) (text : List ℕ) → Makes (texts words.now) number → answer (made_model number) (made_trace number) (wanted_by (texts words.now)) ≡ Reported text →
         length text ≤ O.sure out.old → O.faults out.new ≡ O.faults out.old }
     ensures made_line { (number : ℕ) → Makes (texts words.now) number → PutsLine E.taken E.sure E.faults err.old err.new (line_text [] result) }
 
@@ -361,17 +418,21 @@ pub fn simulate_gated<R: Threads + Sync, F: Files, O: Sink, E: Sink, G: Gate>(
         block: settings.block as u32,
         gate,
     };
+    let wanted = Wanted {
+        form: settings.form as u8,
+        jobs: settings.jobs,
+    };
     let (model, trace) = match settings.input {
         Input::Named { model, trace } => (model, trace),
         Input::Made(number) => {
-            let outcome = run_made(alloc, &crew, number, settings.jobs, out);
+            let outcome = run_made(alloc, &crew, number, wanted, out);
             put_line(err, &[], &outcome);
             return outcome;
         }
     };
     match accept_model(alloc, model, files) {
         Ok(plan) => {
-            let outcome = run_trace(alloc, &crew, &plan, trace, settings.jobs, files, out);
+            let outcome = run_trace(alloc, &crew, &plan, trace, wanted, files, out);
             put_line(err, name_of(&plan.net, &outcome), &outcome);
             outcome
         }
@@ -394,7 +455,7 @@ pub fn simulate<R: Threads + Sync, F: Files, O: Sink, E: Sink>(
     // A finished run has written exactly the report of the event list, and a run ends otherwise only with the fault
     // that the definitions give, or with a fault of a device or want of memory.
     ensures ends { (m t model trace : List ℕ) → Names (texts words.now) m t → F.told files.old m ≡ Some model → F.told files.old t ≡ Some trace →
-        Ends (answer model trace (jobs_asked (texts words.now))) result (takings O.taken O.sure out.old out.new) }
+        Ends (answer model trace (wanted_by (texts words.now))) result (takings O.taken O.sure out.old out.new) }
 
     // The words are refused exactly so, and a model is refused whatever is told of the trace.
     ensures usage { (fault : UsageFault) → result ≡ Outcome.Usage fault → usage_fault (texts words.now) ≡ Some fault }
@@ -420,16 +481,16 @@ pub fn simulate<R: Threads + Sync, F: Files, O: Sink, E: Sink>(
     ensures out_later { O.faults out.old ≤ O.faults out.new }
     ensures write { result ≡ Outcome.WriteFault → Rose (O.faults out.old) (O.faults out.new) }
     ensures out_quiet { (result ≡ Outcome.WriteFault) ⊎ (O.faults out.new ≡ O.faults out.old) }
-    ensures sure { (m t model trace text : List ℕ) → Names (texts words.now) m t → F.told files.old m ≡ Some model → F.told files.old t ≡ Some trace → answer model trace (jobs_asked (texts words.now)) ≡ Reported text →
+    ensures sure { (m t model trace text : List ℕ) → Names (texts words.now) m t → F.told files.old m ≡ Some model → F.told files.old t ≡ Some trace → answer model trace (wanted_by (texts words.now)) ≡ Reported text →
         length text ≤ O.sure out.old → O.faults out.new ≡ O.faults out.old }
 
     // With `--made` no file is read. A made input is accepted, so that its run ends with its report, or with a fault of
     // the output or want of memory.
     ensures made { (number : ℕ) → Makes (texts words.now) number →
-        Ends (answer (made_model number) (made_trace number) (jobs_asked (texts words.now))) result (takings O.taken O.sure out.old out.new) }
+        Ends (answer (made_model number) (made_trace number) (wanted_by (texts words.now))) result (takings O.taken O.sure out.old out.new) }
     ensures made_accepted { (number : ℕ) → Makes (texts words.now) number → IsOfMade result }
     ensures made_unread { asks_made (texts words.now) ≡ true → files.new ≡ files.old }
-    ensures made_sure { (number : ℕ) (text : List ℕ) → Makes (texts words.now) number → answer (made_model number) (made_trace number) (jobs_asked (texts words.now)) ≡ Reported text →
+    ensures made_sure { (number : ℕ) (text : List ℕ) → Makes (texts words.now) number → answer (made_model number) (made_trace number) (wanted_by (texts words.now)) ≡ Reported text →
         length text ≤ O.sure out.old → O.faults out.new ≡ O.faults out.old }
     ensures made_line { (number : ℕ) → Makes (texts words.now) number → PutsLine E.taken E.sure E.faults err.old err.new (line_text [] result) }
 

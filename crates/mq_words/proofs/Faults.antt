@@ -4,8 +4,8 @@ use Rattle.std.specs.Prelude.{slice_get, nat_lt, unwrap_or, is_none, option_and_
 use Rattle.std.proofs.lemmas.Bool.{lt-ltb}
 use Rattle.mq_base.specs.Text.{number_of}
 use Rattle.mq_words.specs.Matched.{HasForm, input_of}
-use Rattle.mq_words.specs.Words.{AsksFor, Makes, Names, asks_made, block_asked, made_asked, made_option, names_needed, refuses_words, usage_fault, value_of, words_left, workers_asked}
-use Rattle.mq_words.specs.declared.fault.UsageFault.TheVariants.{Workers, Block, Made}
+use Rattle.mq_words.specs.Words.{AsksFor, Makes, Names, asks_made, block_asked, form_asked, made_asked, made_option, names_needed, refuses_words, usage_fault, value_of, words_left, workers_asked}
+use Rattle.mq_words.specs.declared.fault.UsageFault.TheVariants.{Workers, Block, Made, Report}
 use Rattle.mq_words.specs.declared.fault.UsageFault.TheVariants as fault
 use Rattle.mq_words.specs.declared.fault.UsageFault.{UsageFault}
 use Rattle.mq_words.specs.declared.words.Form.{Form}
@@ -55,9 +55,10 @@ pub no_block : (words : List (List ℕ)) (workers : ℕ) → refuses_words words
     → block_asked words ≡ None → usage_fault words ≡ Some Block
 no_block words workers pass names w e = rw (pass, names, w, e) refl
 
--- the number of the made input is judged last
+-- what is judged of the number of the made input, and of the form of the report
 last : (words : List (List ℕ)) (workers block : ℕ) → refuses_words words ≡ false → has_names words ≡ true → workers_asked words ≡ Some workers
-    → block_asked words ≡ Some block → usage_fault words ≡ (if asks_made words && is_none (made_asked words) then Some Made else None)
+    → block_asked words ≡ Some block
+    → usage_fault words ≡ (if asks_made words && is_none (made_asked words) then Some Made else if is_none (form_asked words) then Some Report else None)
 last words workers block pass names w b = rw (pass, names, w, b) refl
 
 pub no_made : (words : List (List ℕ)) (workers block : ℕ) (f : Form) → refuses_words words ≡ false → workers_asked words ≡ Some workers → block_asked words ≡ Some block
@@ -65,36 +66,50 @@ pub no_made : (words : List (List ℕ)) (workers block : ℕ) (f : Form) → ref
 no_made words workers block (form.Names m t) pass w b h e = some_is_none _ e
 no_made words workers block (form.Made text) pass w b h e =
     last words workers block pass (names_are words (form.Made text) h) w b
-    ∙ (ap (λ (o : Option (List ℕ)). if is_some o && is_none (option_and_then (λ t. number_of t (2 ^ 64 - 1)) o) then Some Made else None) h.0
-    ∙ ap (λ (o : Option ℕ). if is_none o then Some Made else None) (unmapped (number_of text.now (2 ^ 64 - 1)) e))
+    ∙ (ap (λ (o : Option (List ℕ)). judged (is_some o && is_none (option_and_then (λ t. number_of t (2 ^ 64 - 1)) o))) h.0
+    ∙ ap (λ (o : Option ℕ). judged (is_none o)) (unmapped (number_of text.now (2 ^ 64 - 1)) e))
   where
+    judged : Bool → Option UsageFault
+    judged wrong = if wrong then Some Made else if is_none (form_asked words) then Some Report else None
+
     unmapped : (o : Option ℕ) → option_map input.Made o ≡ None → o ≡ None
     unmapped None e = refl
     unmapped (Some n) e = some_is_none _ e
 
-no_fault : (b : Bool) → (if b && false then Some Made else None) ≡ None
-no_fault true = refl
-no_fault false = refl
-
-pub asks_for : (words : List (List ℕ)) (workers block : ℕ) (f : Form) (i : Input) → refuses_words words ≡ false → workers_asked words ≡ Some workers → block_asked words ≡ Some block
-    → HasForm words f → input_of f ≡ Some i → AsksFor words i
-asks_for words workers block (form.Names m t) i pass w b h e =
-    subst (AsksFor words) (some_is _ i e) (record {
-      accepted = last words workers block pass (names_are words (form.Names m t) h) w b ∙ ap (λ b. if b && is_none (made_asked words) then Some Made else None) h.0;
-      named = h.1;
-    })
-asks_for words workers block (form.Made text) i pass w b h e =
-    let asked : made_asked words ≡ number_of text.now (2 ^ 64 - 1) = ap (option_and_then (λ t. number_of t (2 ^ 64 - 1))) h.0 in
-    go (number_of text.now (2 ^ 64 - 1)) asked e
+-- where there is something to read, the number of the made input is right
+input_is_right : (words : List (List ℕ)) (f : Form) (i : Input) → HasForm words f → input_of f ≡ Some i → (asks_made words && is_none (made_asked words)) ≡ false
+input_is_right words (form.Names m t) i h e = ap (λ b. b && is_none (made_asked words)) h.0
+input_is_right words (form.Made text) i h e =
+    ap (λ (o : Option (List ℕ)). asks_made words && is_none (option_and_then (λ t. number_of t (2 ^ 64 - 1)) o)) h.0
+    ∙ go (asks_made words) (number_of text.now (2 ^ 64 - 1)) e
   where
-    go : (o : Option ℕ) → made_asked words ≡ o → option_map input.Made o ≡ Some i → AsksFor words i
-    go None asked e = some_is_none i (sym e)
-    go (Some n) asked e =
-        subst (AsksFor words) (some_is _ i e) (record {
-          accepted = last words workers block pass (names_are words (form.Made text) h) w b
-              ∙ (ap (λ (o : Option ℕ). if asks_made words && is_none o then Some Made else None) asked ∙ no_fault (asks_made words));
-          made = asked;
-        })
+    go : (b : Bool) (o : Option ℕ) → option_map input.Made o ≡ Some i → (b && is_none o) ≡ false
+    go b None e = some_is_none i (sym e)
+    go true (Some n) e = refl
+    go false (Some n) e = refl
+
+-- the form of the report is judged last
+by_report : (words : List (List ℕ)) (workers block : ℕ) (f : Form) (i : Input) → refuses_words words ≡ false → workers_asked words ≡ Some workers
+    → block_asked words ≡ Some block → HasForm words f → input_of f ≡ Some i → usage_fault words ≡ (if is_none (form_asked words) then Some Report else None)
+by_report words workers block f i pass w b h e = last words workers block pass (names_are words f h) w b
+    ∙ ap (λ wrong. if wrong then Some Made else if is_none (form_asked words) then Some Report else None) (input_is_right words f i h e)
+
+pub no_report : (words : List (List ℕ)) (workers block : ℕ) (f : Form) (i : Input) → refuses_words words ≡ false → workers_asked words ≡ Some workers
+    → block_asked words ≡ Some block → HasForm words f → input_of f ≡ Some i → form_asked words ≡ None → usage_fault words ≡ Some Report
+no_report words workers block f i pass w b h e none = by_report words workers block f i pass w b h e ∙ ap (λ (o : Option ℕ). if is_none o then Some Report else None) none
+
+pub asks_for : (words : List (List ℕ)) (workers block report : ℕ) (f : Form) (i : Input) → refuses_words words ≡ false → workers_asked words ≡ Some workers
+    → block_asked words ≡ Some block → form_asked words ≡ Some report → HasForm words f → input_of f ≡ Some i → AsksFor words i
+asks_for words workers block report f i pass w b r h e = go f h e
+    (by_report words workers block f i pass w b h e ∙ ap (λ (o : Option ℕ). if is_none o then Some Report else None) r)
+  where
+    go : (f : Form) → HasForm words f → input_of f ≡ Some i → usage_fault words ≡ None → AsksFor words i
+    go (form.Names m t) h e passes = subst (AsksFor words) (some_is _ i e) (record { accepted = passes; named = h.1 })
+    go (form.Made text) h e passes = made (number_of text.now (2 ^ 64 - 1)) (ap (option_and_then (λ t. number_of t (2 ^ 64 - 1))) h.0) e
+      where
+        made : (o : Option ℕ) → made_asked words ≡ o → option_map input.Made o ≡ Some i → AsksFor words i
+        made None asked e = some_is_none i (sym e)
+        made (Some n) asked e = subst (AsksFor words) (some_is _ i e) (record { accepted = passes; made = asked })
 
 -- ---- what accepted words ask for
 
@@ -112,18 +127,21 @@ same_names words m t n u one other =
 pub same_number : (words : List (List ℕ)) (n k : ℕ) → Makes words n → Makes words k → n ≡ k
 same_number words n k one other = some_is n k (sym one.made ∙ other.made)
 
--- and never for both
-pub not_both : (words : List (List ℕ)) (m t : List ℕ) (n : ℕ) → Names words m t → Makes words n → ⊥
-not_both words m t n named made =
-    let asked : asks_made words ≡ true = some_in (value_of made_option words) made.made in
+-- words that name them ask for no made input
+pub names_alone : (words : List (List ℕ)) (m t : List ℕ) → Names words m t → asks_made words ≡ true → ⊥
+names_alone words m t named asked =
     let fits : has_names words ≡ true = passes (refuses_words words) (has_names words) _ named.accepted in
     true≢false (sym fits ∙ ap₂ (λ (b : Bool) (left : List (List ℕ)). length left == (if b then 0 else 2)) asked named.named)
   where
-    some_in : (o : Option (List ℕ)) → option_and_then (λ text. number_of text (2 ^ 64 - 1)) o ≡ Some n → is_some o ≡ true
-    some_in None e = some_is_none n (sym e)
-    some_in (Some text) e = refl
-
     passes : (refused fits : Bool) (rest : Option UsageFault) → (if refused then Some fault.Words else if not fits then Some fault.Form else rest) ≡ None → fits ≡ true
     passes true fits rest e = some_is_none fault.Words e
     passes false true rest e = refl
     passes false false rest e = some_is_none fault.Form e
+
+-- and never for both
+pub not_both : (words : List (List ℕ)) (m t : List ℕ) (n : ℕ) → Names words m t → Makes words n → ⊥
+not_both words m t n named made = names_alone words m t named (some_in (value_of made_option words) made.made)
+  where
+    some_in : (o : Option (List ℕ)) → option_and_then (λ text. number_of text (2 ^ 64 - 1)) o ≡ Some n → is_some o ≡ true
+    some_in None e = some_is_none n (sym e)
+    some_in (Some text) e = refl

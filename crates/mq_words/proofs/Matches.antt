@@ -12,14 +12,14 @@ use Rattle.clap.specs.declared.parser.matches.ValueSource.TheVariants.{DefaultVa
 use Rattle.clap.proofs.TakesLemmas.{leaf_takes}
 use Rattle.clap.proofs.WalkLemmas.{first_value-rows, one_text-rows}
 use Rattle.mq_words.specs.Matched.{Finds}
-use Rattle.mq_words.specs.Words.{block_option, is_bad_word, jobs_asked, jobs_option, lacks_value, made_option, refuses_words, stands_twice, value_of, words_left, workers_option}
+use Rattle.mq_words.specs.Words.{block_option, is_bad_word, jobs_asked, jobs_option, lacks_value, made_option, refuses_words, report_option, stands_twice, value_of, words_left, workers_option}
 use Rattle.mq_words.proofs.FoundRows.{first_values, found, no_row, other_values, some_row}
-use Rattle.mq_words.proofs.Walks.{app, block_built, jobs_built, made_built, rows_at, rules, trace_built, workers_built}
+use Rattle.mq_words.proofs.Walks.{app, block_built, jobs_built, made_built, report_built, rows_at, rules, trace_built, workers_built}
 use Rattle.mq_words.proofs.Reading.{Given, Holds, both_true, flag_row, text_row}
 use Rattle.mq_words.proofs.ReadWords.{Fits, Reads, neither, reads}
 
 abbrev nothing : Given
-nothing = record { workers = None; block = None; made = None; jobs = false; names = [] }
+nothing = record { workers = None; block = None; made = None; report = None; jobs = false; names = [] }
 
 at_most : (n : ℕ) → nat_lt 2 n ≡ false → n ≤ 2
 at_most n e = elim (cases_lt 2 n) [
@@ -32,14 +32,15 @@ fits words e =
     let p = neither _ (nat_lt 2 (length (words_left words))) e in
     let q = neither _ (lacks_value words) p.0 in
     let r = neither _ (stands_twice jobs_option words) q.0 in
-    let m = neither _ (stands_twice made_option words) r.0 in
+    let o = neither _ (stands_twice report_option words) r.0 in
+    let m = neither _ (stands_twice made_option words) o.0 in
     let s = neither _ (stands_twice block_option words) m.0 in
     let t = neither (list_any is_bad_word words) (stands_twice workers_option words) s.0 in
     let most : length (words_left words) ≤ 2 = at_most (length (words_left words)) p.1 in
-    record { good = t.0; valued = q.1; workers = t.1; block = s.1; made = m.1; jobs = r.1; room = omega arith }
+    record { good = t.0; valued = q.1; workers = t.1; block = s.1; made = m.1; report = o.1; jobs = r.1; room = omega arith }
 
 holds_nothing : Holds nothing nothing_held
-holds_nothing = record { settles = refl; workers = refl; block = refl; made = refl; jobs = refl; model = refl; trace = refl }
+holds_nothing = record { settles = refl; workers = refl; block = refl; made = refl; report = refl; jobs = refl; model = refl; trace = refl }
 
 read : (words : List Text) → refuses_words words ≡ false → Reads 1 nothing words nothing_held
 read words e = reads words 1 nothing nothing_held refl (fits words e) holds_nothing
@@ -61,11 +62,12 @@ keep false rows = refl
 
 finished_is : (h : Held) → finished rules h ≡ with_default (rows_at h) jobs_built
 finished_is h =
-    ap (λ rows. with_default (with_default (with_default (with_default (with_default rows trace_built) workers_built) block_built) made_built) jobs_built) (keep (has_row (codes "model") (rows_at h)) (rows_at h))
-    ∙ (ap (λ rows. with_default (with_default (with_default (with_default rows workers_built) block_built) made_built) jobs_built) (keep (has_row (codes "trace") (rows_at h)) (rows_at h))
-    ∙ (ap (λ rows. with_default (with_default (with_default rows block_built) made_built) jobs_built) (keep (has_row (codes "workers") (rows_at h)) (rows_at h))
-    ∙ (ap (λ rows. with_default (with_default rows made_built) jobs_built) (keep (has_row (codes "block") (rows_at h)) (rows_at h))
-    ∙ ap (λ rows. with_default rows jobs_built) (keep (has_row (codes "made") (rows_at h)) (rows_at h)))))
+    ap (λ rows. with_default (with_default (with_default (with_default (with_default (with_default rows trace_built) workers_built) block_built) made_built) report_built) jobs_built) (keep (has_row (codes "model") (rows_at h)) (rows_at h))
+    ∙ (ap (λ rows. with_default (with_default (with_default (with_default (with_default rows workers_built) block_built) made_built) report_built) jobs_built) (keep (has_row (codes "trace") (rows_at h)) (rows_at h))
+    ∙ (ap (λ rows. with_default (with_default (with_default (with_default rows block_built) made_built) report_built) jobs_built) (keep (has_row (codes "workers") (rows_at h)) (rows_at h))
+    ∙ (ap (λ rows. with_default (with_default (with_default rows made_built) report_built) jobs_built) (keep (has_row (codes "block") (rows_at h)) (rows_at h))
+    ∙ (ap (λ rows. with_default (with_default rows report_built) jobs_built) (keep (has_row (codes "made") (rows_at h)) (rows_at h))
+    ∙ ap (λ rows. with_default rows jobs_built) (keep (has_row (codes "report") (rows_at h)) (rows_at h))))))
 
 other_default : (b : Bool) (id : Text) (rows : List Row) → Rattle.std.specs.Str.bytes_eq (codes "jobs") id ≡ false
     → found id (if b then rows else with_values (codes "jobs") AsWritten DefaultValue (codes "false" ∷ []) rows) ≡ found id rows
@@ -104,5 +106,6 @@ finds words f e is =
       workers = first_value-rows f (codes "workers") ∙ (ap (first_of (codes "workers")) rows ∙ text_is (codes "workers") (value_of workers_option words) (rows_at (end words)) refl r.workers);
       block = first_value-rows f (codes "block") ∙ (ap (first_of (codes "block")) rows ∙ text_is (codes "block") (value_of block_option words) (rows_at (end words)) refl r.block);
       made = first_value-rows f (codes "made") ∙ (ap (first_of (codes "made")) rows ∙ text_is (codes "made") (value_of made_option words) (rows_at (end words)) refl r.made);
+      report = first_value-rows f (codes "report") ∙ (ap (first_of (codes "report")) rows ∙ text_is (codes "report") (value_of report_option words) (rows_at (end words)) refl r.report);
       jobs = one_text-rows f (codes "jobs") ∙ (ap (one_of (codes "jobs")) rows ∙ jobs_text (jobs_asked words) (rows_at (end words)) r.jobs);
     }

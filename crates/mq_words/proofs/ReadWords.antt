@@ -5,9 +5,9 @@ use Rattle.std.specs.List.{list_any}
 use Rattle.std.proofs.lemmas.Slice.Eq.{bytes_eq-Decides}
 use Rattle.clap.specs.Walk.{Held, Text, walked}
 use Rattle.clap.specs.Takes.{walk_passes}
-use Rattle.mq_words.specs.Words.{begins_with_dash, block_option, has_word, is_bad_word, is_option, jobs_option, lacks_value, left_from, made_option, stands_twice, takes_value, value_of, words_left, workers_option}
-use Rattle.mq_words.proofs.Walks.{at, block_walk, jobs_walk, made_walk, model_walk, pends, rules, trace_walk, workers_walk}
-use Rattle.mq_words.proofs.Reading.{Given, Holds, after_jobs, block_turn, block_value_turn, both_true, holds_block, holds_jobs, holds_made, holds_model, holds_trace, holds_workers, jobs_turn, made_turn, made_value_turn, model_turn, or_given, shape, told, trace_turn, workers_turn, workers_value_turn}
+use Rattle.mq_words.specs.Words.{begins_with_dash, block_option, has_word, is_bad_word, is_option, jobs_option, lacks_value, left_from, made_option, report_option, stands_twice, takes_value, value_of, words_left, workers_option}
+use Rattle.mq_words.proofs.Walks.{at, block_walk, jobs_walk, made_walk, model_walk, pends, report_walk, rules, trace_walk, workers_walk}
+use Rattle.mq_words.proofs.Reading.{Given, Holds, after_jobs, block_turn, block_value_turn, both_true, holds_block, holds_jobs, holds_made, holds_model, holds_report, holds_trace, holds_workers, jobs_turn, made_turn, made_value_turn, model_turn, or_given, report_turn, report_value_turn, shape, told, trace_turn, workers_turn, workers_value_turn}
 
 -- the option stands twice, or stands among the words and was given before
 abbrev pub clash : Bool → Text → List Text → Bool
@@ -20,6 +20,7 @@ pub record Fits (g : Given) (words : List Text) : Type 0 where
   pub workers : clash (is_some g.workers) workers_option words ≡ false
   pub block : clash (is_some g.block) block_option words ≡ false
   pub made : clash (is_some g.made) made_option words ≡ false
+  pub report : clash (is_some g.report) report_option words ≡ false
   pub jobs : clash g.jobs jobs_option words ≡ false
   pub room : length g.names + length (words_left words) ≤ 2
 
@@ -81,6 +82,7 @@ fits_workers g v rest f =
         workers = clash_behind true (bytes_eq v workers_option) (has_word workers_option rest) (stands_twice workers_option rest) own.1;
         block = clash_behind (is_some g.block) (bytes_eq v block_option) (has_word block_option rest) (stands_twice block_option rest) f.block;
         made = clash_behind (is_some g.made) (bytes_eq v made_option) (has_word made_option rest) (stands_twice made_option rest) f.made;
+        report = clash_behind (is_some g.report) (bytes_eq v report_option) (has_word report_option rest) (stands_twice report_option rest) f.report;
         jobs = clash_behind g.jobs (bytes_eq v jobs_option) (has_word jobs_option rest) (stands_twice jobs_option rest) f.jobs;
         room = f.room;
       },
@@ -99,6 +101,7 @@ fits_block g v rest f =
         workers = clash_behind (is_some g.workers) (bytes_eq v workers_option) (has_word workers_option rest) (stands_twice workers_option rest) f.workers;
         block = clash_behind true (bytes_eq v block_option) (has_word block_option rest) (stands_twice block_option rest) own.1;
         made = clash_behind (is_some g.made) (bytes_eq v made_option) (has_word made_option rest) (stands_twice made_option rest) f.made;
+        report = clash_behind (is_some g.report) (bytes_eq v report_option) (has_word report_option rest) (stands_twice report_option rest) f.report;
         jobs = clash_behind g.jobs (bytes_eq v jobs_option) (has_word jobs_option rest) (stands_twice jobs_option rest) f.jobs;
         room = f.room;
       },
@@ -117,6 +120,26 @@ fits_made g v rest f =
         workers = clash_behind (is_some g.workers) (bytes_eq v workers_option) (has_word workers_option rest) (stands_twice workers_option rest) f.workers;
         block = clash_behind (is_some g.block) (bytes_eq v block_option) (has_word block_option rest) (stands_twice block_option rest) f.block;
         made = clash_behind true (bytes_eq v made_option) (has_word made_option rest) (stands_twice made_option rest) own.1;
+        report = clash_behind (is_some g.report) (bytes_eq v report_option) (has_word report_option rest) (stands_twice report_option rest) f.report;
+        jobs = clash_behind g.jobs (bytes_eq v jobs_option) (has_word jobs_option rest) (stands_twice jobs_option rest) f.jobs;
+        room = f.room;
+      },
+    )
+
+fits_report : (g : Given) (v : Text) (rest : List Text) → Fits g (report_option ∷ v ∷ rest)
+    → (begins_with_dash v ≡ false) × (g.report ≡ None) × Fits (record g { report = Some v }) rest
+fits_report g v rest f =
+    let value = neither (not (not (begins_with_dash v))) (lacks_value (v ∷ rest)) f.valued in
+    let own = clash_here (is_some g.report) (has_word report_option (v ∷ rest) || stands_twice report_option (v ∷ rest)) f.report in (
+      not_not _ value.0,
+      none_of g.report own.0,
+      record {
+        good = (neither (is_bad_word v) (list_any is_bad_word rest) f.good).1;
+        valued = (neither (takes_value v && _) (lacks_value rest) value.1).1;
+        workers = clash_behind (is_some g.workers) (bytes_eq v workers_option) (has_word workers_option rest) (stands_twice workers_option rest) f.workers;
+        block = clash_behind (is_some g.block) (bytes_eq v block_option) (has_word block_option rest) (stands_twice block_option rest) f.block;
+        made = clash_behind (is_some g.made) (bytes_eq v made_option) (has_word made_option rest) (stands_twice made_option rest) f.made;
+        report = clash_behind true (bytes_eq v report_option) (has_word report_option rest) (stands_twice report_option rest) own.1;
         jobs = clash_behind g.jobs (bytes_eq v jobs_option) (has_word jobs_option rest) (stands_twice jobs_option rest) f.jobs;
         room = f.room;
       },
@@ -125,7 +148,7 @@ fits_made g v rest f =
 fits_jobs : (g : Given) (rest : List Text) → Fits g (jobs_option ∷ rest) → (g.jobs ≡ false) × Fits (record g { jobs = true }) rest
 fits_jobs g rest f =
     let own = clash_here g.jobs (has_word jobs_option rest || stands_twice jobs_option rest) f.jobs in
-    (own.0, record { good = f.good; valued = f.valued; workers = f.workers; block = f.block; made = f.made; jobs = own.1; room = f.room })
+    (own.0, record { good = f.good; valued = f.valued; workers = f.workers; block = f.block; made = f.made; report = f.report; jobs = own.1; room = f.room })
 
 -- ---- an option, with its value
 
@@ -136,9 +159,11 @@ told_workers g v rest e none =
     ap (λ b. or_given g.block (if b then slice_get rest 0 else value_of block_option rest)) (sym (not_option v _ e)) in
     let made : or_given g.made (value_of made_option rest) ≡ or_given g.made (if bytes_eq v made_option then slice_get rest 0 else value_of made_option rest) =
     ap (λ b. or_given g.made (if b then slice_get rest 0 else value_of made_option rest)) (sym (not_option v _ e)) in
+    let report : or_given g.report (value_of report_option rest) ≡ or_given g.report (if bytes_eq v report_option then slice_get rest 0 else value_of report_option rest) =
+    ap (λ b. or_given g.report (if b then slice_get rest 0 else value_of report_option rest)) (sym (not_option v _ e)) in
     let jobs : (g.jobs || has_word jobs_option rest) ≡ (g.jobs || (bytes_eq v jobs_option || has_word jobs_option rest)) =
     ap (λ b. g.jobs || (b || has_word jobs_option rest)) (sym (not_option v _ e)) in
-    λ i. record { workers = workers i; block = block i; made = made i; jobs = jobs i; names = g.names ++ words_left rest }
+    λ i. record { workers = workers i; block = block i; made = made i; report = report i; jobs = jobs i; names = g.names ++ words_left rest }
 
 told_block : (g : Given) (v : Text) (rest : List Text) → begins_with_dash v ≡ false → g.block ≡ None → told (record g { block = Some v }) rest ≡ told g (block_option ∷ v ∷ rest)
 told_block g v rest e none =
@@ -147,9 +172,11 @@ told_block g v rest e none =
     let block : Some v ≡ or_given g.block (Some v) = ap (λ o. or_given o (Some v)) (sym none) in
     let made : or_given g.made (value_of made_option rest) ≡ or_given g.made (if bytes_eq v made_option then slice_get rest 0 else value_of made_option rest) =
     ap (λ b. or_given g.made (if b then slice_get rest 0 else value_of made_option rest)) (sym (not_option v _ e)) in
+    let report : or_given g.report (value_of report_option rest) ≡ or_given g.report (if bytes_eq v report_option then slice_get rest 0 else value_of report_option rest) =
+    ap (λ b. or_given g.report (if b then slice_get rest 0 else value_of report_option rest)) (sym (not_option v _ e)) in
     let jobs : (g.jobs || has_word jobs_option rest) ≡ (g.jobs || (bytes_eq v jobs_option || has_word jobs_option rest)) =
     ap (λ b. g.jobs || (b || has_word jobs_option rest)) (sym (not_option v _ e)) in
-    λ i. record { workers = workers i; block = block i; made = made i; jobs = jobs i; names = g.names ++ words_left rest }
+    λ i. record { workers = workers i; block = block i; made = made i; report = report i; jobs = jobs i; names = g.names ++ words_left rest }
 
 told_made : (g : Given) (v : Text) (rest : List Text) → begins_with_dash v ≡ false → g.made ≡ None → told (record g { made = Some v }) rest ≡ told g (made_option ∷ v ∷ rest)
 told_made g v rest e none =
@@ -158,9 +185,24 @@ told_made g v rest e none =
     let block : or_given g.block (value_of block_option rest) ≡ or_given g.block (if bytes_eq v block_option then slice_get rest 0 else value_of block_option rest) =
     ap (λ b. or_given g.block (if b then slice_get rest 0 else value_of block_option rest)) (sym (not_option v _ e)) in
     let made : Some v ≡ or_given g.made (Some v) = ap (λ o. or_given o (Some v)) (sym none) in
+    let report : or_given g.report (value_of report_option rest) ≡ or_given g.report (if bytes_eq v report_option then slice_get rest 0 else value_of report_option rest) =
+    ap (λ b. or_given g.report (if b then slice_get rest 0 else value_of report_option rest)) (sym (not_option v _ e)) in
     let jobs : (g.jobs || has_word jobs_option rest) ≡ (g.jobs || (bytes_eq v jobs_option || has_word jobs_option rest)) =
     ap (λ b. g.jobs || (b || has_word jobs_option rest)) (sym (not_option v _ e)) in
-    λ i. record { workers = workers i; block = block i; made = made i; jobs = jobs i; names = g.names ++ words_left rest }
+    λ i. record { workers = workers i; block = block i; made = made i; report = report i; jobs = jobs i; names = g.names ++ words_left rest }
+
+told_report : (g : Given) (v : Text) (rest : List Text) → begins_with_dash v ≡ false → g.report ≡ None → told (record g { report = Some v }) rest ≡ told g (report_option ∷ v ∷ rest)
+told_report g v rest e none =
+    let workers : or_given g.workers (value_of workers_option rest) ≡ or_given g.workers (if bytes_eq v workers_option then slice_get rest 0 else value_of workers_option rest) =
+    ap (λ b. or_given g.workers (if b then slice_get rest 0 else value_of workers_option rest)) (sym (not_option v _ e)) in
+    let block : or_given g.block (value_of block_option rest) ≡ or_given g.block (if bytes_eq v block_option then slice_get rest 0 else value_of block_option rest) =
+    ap (λ b. or_given g.block (if b then slice_get rest 0 else value_of block_option rest)) (sym (not_option v _ e)) in
+    let made : or_given g.made (value_of made_option rest) ≡ or_given g.made (if bytes_eq v made_option then slice_get rest 0 else value_of made_option rest) =
+    ap (λ b. or_given g.made (if b then slice_get rest 0 else value_of made_option rest)) (sym (not_option v _ e)) in
+    let report : Some v ≡ or_given g.report (Some v) = ap (λ o. or_given o (Some v)) (sym none) in
+    let jobs : (g.jobs || has_word jobs_option rest) ≡ (g.jobs || (bytes_eq v jobs_option || has_word jobs_option rest)) =
+    ap (λ b. g.jobs || (b || has_word jobs_option rest)) (sym (not_option v _ e)) in
+    λ i. record { workers = workers i; block = block i; made = made i; report = report i; jobs = jobs i; names = g.names ++ words_left rest }
 
 workers_step : (rest : List Text) → ReadBehind rest → Read (workers_option ∷ rest)
 unfolding walk_passes
@@ -201,6 +243,19 @@ made_step (v ∷ rest) behind place g h is fits was =
           (subst (λ w. Holds (told (record g { made = Some v }) rest) (fold (walked rules []) w rest).held) (sym moved) after.held);
     }
 
+report_step : (rest : List Text) → ReadBehind rest → Read (report_option ∷ rest)
+unfolding walk_passes
+report_step [] behind place g h is fits was = unfit fits.valued
+report_step (v ∷ rest) behind place g h is fits was =
+    let f = fits_report g v rest fits in
+    let after = behind place (record g { report = Some v }) (pends (codes "report") v h) is f.2 (holds_report g h v was f.1) in
+    let moved = report_walk place h v f.0 in
+    record {
+      passes = both_true _ _ (report_turn place g h was) (both_true _ _ (report_value_turn place h v f.0) (ap (λ w. walk_passes shape [] w rest) moved ∙ after.passes));
+      held = subst (λ t. Holds t (fold (walked rules []) (at place h) (report_option ∷ v ∷ rest)).held) (told_report g v rest f.0 f.1)
+          (subst (λ w. Holds (told (record g { report = Some v }) rest) (fold (walked rules []) w rest).held) (sym moved) after.held);
+    }
+
 jobs_step : (rest : List Text) → Read rest → Read (jobs_option ∷ rest)
 unfolding walk_passes
 jobs_step rest next place g h is fits was =
@@ -212,6 +267,7 @@ jobs_step rest next place g h is fits was =
       workers = or_given g.workers (value_of workers_option rest);
       block = or_given g.block (value_of block_option rest);
       made = or_given g.made (value_of made_option rest);
+      report = or_given g.report (value_of report_option rest);
       jobs = (ap (λ b. b || true) (sym f.0)) i;
       names = g.names ++ words_left rest;
     } in
@@ -237,10 +293,12 @@ told_word g w rest names e o same =
     ap (λ b. or_given g.block (if b then slice_get rest 0 else value_of block_option rest)) (sym (not_option w _ e)) in
     let made : or_given g.made (value_of made_option rest) ≡ or_given g.made (if bytes_eq w made_option then slice_get rest 0 else value_of made_option rest) =
     ap (λ b. or_given g.made (if b then slice_get rest 0 else value_of made_option rest)) (sym (not_option w _ e)) in
+    let report : or_given g.report (value_of report_option rest) ≡ or_given g.report (if bytes_eq w report_option then slice_get rest 0 else value_of report_option rest) =
+    ap (λ b. or_given g.report (if b then slice_get rest 0 else value_of report_option rest)) (sym (not_option w _ e)) in
     let jobs : (g.jobs || has_word jobs_option rest) ≡ (g.jobs || (bytes_eq w jobs_option || has_word jobs_option rest)) =
     ap (λ b. g.jobs || (b || has_word jobs_option rest)) (sym (not_option w _ e)) in
     let named : names ++ words_left rest ≡ g.names ++ words_left (w ∷ rest) = same ∙ ap (λ left. g.names ++ left) (sym (left_word w rest o)) in
-    λ i. record { workers = workers i; block = block i; made = made i; jobs = jobs i; names = named i }
+    λ i. record { workers = workers i; block = block i; made = made i; report = report i; jobs = jobs i; names = named i }
 
 fits_word : (g : Given) (w : Text) (rest names : List Text) → is_option w ≡ false → length names ≡ suc (length g.names) → Fits g (w ∷ rest) → Fits (record g { names = names }) rest
 fits_word g w rest names o longer f =
@@ -252,6 +310,7 @@ fits_word g w rest names o longer f =
       workers = clash_behind (is_some g.workers) (bytes_eq w workers_option) (has_word workers_option rest) (stands_twice workers_option rest) f.workers;
       block = clash_behind (is_some g.block) (bytes_eq w block_option) (has_word block_option rest) (stands_twice block_option rest) f.block;
       made = clash_behind (is_some g.made) (bytes_eq w made_option) (has_word made_option rest) (stands_twice made_option rest) f.made;
+      report = clash_behind (is_some g.report) (bytes_eq w report_option) (has_word report_option rest) (stands_twice report_option rest) f.report;
       jobs = clash_behind g.jobs (bytes_eq w jobs_option) (has_word jobs_option rest) (stands_twice jobs_option rest) f.jobs;
       room = omega arith;
     }
@@ -306,10 +365,15 @@ step w rest next behind place g h is fits was = by_workers (bytes_eq w workers_o
         let good = (neither (is_bad_word w) (list_any is_bad_word rest) fits.good).0 in
         name_step w rest next (no_dash_here w good o) o g.names place g h refl is fits was
 
+    by_report : (b : Bool) → (bytes_eq w workers_option || bytes_eq w block_option || bytes_eq w made_option) ≡ false → bytes_eq w report_option ≡ b → Reads place g (w ∷ rest) h
+    by_report true not_before e =
+        subst (λ t. Fits g (t ∷ rest) → Reads place g (t ∷ rest) h) (sym (same report_option e)) (λ f. report_step rest behind place g h is f was) fits
+    by_report false not_before e = by_jobs (bytes_eq w jobs_option) (ap (λ b. b || bytes_eq w report_option) not_before ∙ e) refl
+
     by_made : (b : Bool) → (bytes_eq w workers_option || bytes_eq w block_option) ≡ false → bytes_eq w made_option ≡ b → Reads place g (w ∷ rest) h
     by_made true not_before e =
         subst (λ t. Fits g (t ∷ rest) → Reads place g (t ∷ rest) h) (sym (same made_option e)) (λ f. made_step rest behind place g h is f was) fits
-    by_made false not_before e = by_jobs (bytes_eq w jobs_option) (ap (λ b. b || bytes_eq w made_option) not_before ∙ e) refl
+    by_made false not_before e = by_report (bytes_eq w report_option) (ap (λ b. b || bytes_eq w made_option) not_before ∙ e) refl
 
     by_block : (b : Bool) → bytes_eq w workers_option ≡ false → bytes_eq w block_option ≡ b → Reads place g (w ∷ rest) h
     by_block true not_workers e =
@@ -327,10 +391,11 @@ end place g h is fits was =
     let workers : g.workers ≡ or_given g.workers None = given g.workers in
     let block : g.block ≡ or_given g.block None = given g.block in
     let made : g.made ≡ or_given g.made None = given g.made in
+    let report : g.report ≡ or_given g.report None = given g.report in
     let jobs : g.jobs ≡ (g.jobs || false) = either g.jobs in
     record {
       passes = refl;
-      held = subst (λ t. Holds t h) (λ i. record { workers = workers i; block = block i; made = made i; jobs = jobs i; names = (sym (append-nil g.names)) i }) was;
+      held = subst (λ t. Holds t h) (λ i. record { workers = workers i; block = block i; made = made i; report = report i; jobs = jobs i; names = (sym (append-nil g.names)) i }) was;
     }
   where
     given : (o : Option Text) → o ≡ or_given o None

@@ -8,7 +8,7 @@ use Rattle.clap.specs.Walk.{Held, Row, Rule, Text, Step, Walk, has_row, idle, is
 use Rattle.clap.specs.Takes.{bundle_passes, flag_word_passes, settle_passes, step_passes, turn_passes}
 use Rattle.clap.specs.declared.builder.value_parser.Reading.TheVariants.{AsWritten}
 use Rattle.clap.specs.declared.parser.matches.ValueSource.TheVariants.{CommandLine}
-use Rattle.mq_words.specs.Words.{begins_with_dash, block_option, has_word, jobs_option, made_option, value_of, words_left, workers_option}
+use Rattle.mq_words.specs.Words.{begins_with_dash, block_option, has_word, jobs_option, made_option, report_option, value_of, words_left, workers_option}
 use Rattle.mq_words.proofs.FoundRows.{first_use, found, no_row, other_use, row_with}
 use Rattle.mq_words.proofs.Walks.{app, at, jobs_built, model_built, no_dash, no_dashes, pends, plain, waits, rows_at, rules, trace_built}
 
@@ -18,6 +18,7 @@ pub record Given : Type 0 where
   pub workers : Option Text
   pub block : Option Text
   pub made : Option Text
+  pub report : Option Text
   pub jobs : Bool
   pub names : List Text
 
@@ -32,6 +33,7 @@ told g words =
       workers = or_given g.workers (value_of workers_option words);
       block = or_given g.block (value_of block_option words);
       made = or_given g.made (value_of made_option words);
+      report = or_given g.report (value_of report_option words);
       jobs = g.jobs || has_word jobs_option words;
       names = g.names ++ words_left words;
     }
@@ -48,6 +50,7 @@ pub record Holds (g : Given) (h : Held) : Type 0 where
   pub workers : found (codes "workers") (rows_at h) ≡ option_map (text_row (codes "workers")) g.workers
   pub block : found (codes "block") (rows_at h) ≡ option_map (text_row (codes "block")) g.block
   pub made : found (codes "made") (rows_at h) ≡ option_map (text_row (codes "made")) g.made
+  pub report : found (codes "report") (rows_at h) ≡ option_map (text_row (codes "report")) g.report
   pub jobs : found (codes "jobs") (rows_at h) ≡ flag_row g.jobs
   pub model : found (codes "model") (rows_at h) ≡ option_map (text_row (codes "model")) (slice_get g.names 0)
   pub trace : found (codes "trace") (rows_at h) ≡ option_map (text_row (codes "trace")) (slice_get g.names 1)
@@ -69,6 +72,7 @@ holds_workers g h v was none =
       workers = first_use (codes "workers") AsWritten CommandLine (v ∷ []) (rows_at h) free;
       block = other_option (codes "workers") (codes "block") v (rows_at h) refl ∙ was.block;
       made = other_option (codes "workers") (codes "made") v (rows_at h) refl ∙ was.made;
+      report = other_option (codes "workers") (codes "report") v (rows_at h) refl ∙ was.report;
       jobs = other_option (codes "workers") (codes "jobs") v (rows_at h) refl ∙ was.jobs;
       model = other_option (codes "workers") (codes "model") v (rows_at h) refl ∙ was.model;
       trace = other_option (codes "workers") (codes "trace") v (rows_at h) refl ∙ was.trace;
@@ -82,6 +86,7 @@ holds_block g h v was none =
       workers = other_option (codes "block") (codes "workers") v (rows_at h) refl ∙ was.workers;
       block = first_use (codes "block") AsWritten CommandLine (v ∷ []) (rows_at h) free;
       made = other_option (codes "block") (codes "made") v (rows_at h) refl ∙ was.made;
+      report = other_option (codes "block") (codes "report") v (rows_at h) refl ∙ was.report;
       jobs = other_option (codes "block") (codes "jobs") v (rows_at h) refl ∙ was.jobs;
       model = other_option (codes "block") (codes "model") v (rows_at h) refl ∙ was.model;
       trace = other_option (codes "block") (codes "trace") v (rows_at h) refl ∙ was.trace;
@@ -95,9 +100,24 @@ holds_made g h v was none =
       workers = other_option (codes "made") (codes "workers") v (rows_at h) refl ∙ was.workers;
       block = other_option (codes "made") (codes "block") v (rows_at h) refl ∙ was.block;
       made = first_use (codes "made") AsWritten CommandLine (v ∷ []) (rows_at h) free;
+      report = other_option (codes "made") (codes "report") v (rows_at h) refl ∙ was.report;
       jobs = other_option (codes "made") (codes "jobs") v (rows_at h) refl ∙ was.jobs;
       model = other_option (codes "made") (codes "model") v (rows_at h) refl ∙ was.model;
       trace = other_option (codes "made") (codes "trace") v (rows_at h) refl ∙ was.trace;
+    }
+
+pub holds_report : (g : Given) (h : Held) (v : Text) → Holds g h → g.report ≡ None → Holds (record g { report = Some v }) (pends (codes "report") v h)
+holds_report g h v was none =
+    let free : found (codes "report") (rows_at h) ≡ None = was.report ∙ ap (option_map (text_row (codes "report"))) none in
+    record {
+      settles = value_passes (codes "report") (rows_at h) free;
+      workers = other_option (codes "report") (codes "workers") v (rows_at h) refl ∙ was.workers;
+      block = other_option (codes "report") (codes "block") v (rows_at h) refl ∙ was.block;
+      made = other_option (codes "report") (codes "made") v (rows_at h) refl ∙ was.made;
+      report = first_use (codes "report") AsWritten CommandLine (v ∷ []) (rows_at h) free;
+      jobs = other_option (codes "report") (codes "jobs") v (rows_at h) refl ∙ was.jobs;
+      model = other_option (codes "report") (codes "model") v (rows_at h) refl ∙ was.model;
+      trace = other_option (codes "report") (codes "trace") v (rows_at h) refl ∙ was.trace;
     }
 
 abbrev pub after_jobs : Held → Held
@@ -111,6 +131,7 @@ holds_jobs g h was none =
       workers = other_option (codes "jobs") (codes "workers") (codes "true") (rows_at h) refl ∙ was.workers;
       block = other_option (codes "jobs") (codes "block") (codes "true") (rows_at h) refl ∙ was.block;
       made = other_option (codes "jobs") (codes "made") (codes "true") (rows_at h) refl ∙ was.made;
+      report = other_option (codes "jobs") (codes "report") (codes "true") (rows_at h) refl ∙ was.report;
       jobs = first_use (codes "jobs") AsWritten CommandLine (codes "true" ∷ []) (rows_at h) free;
       model = other_option (codes "jobs") (codes "model") (codes "true") (rows_at h) refl ∙ was.model;
       trace = other_option (codes "jobs") (codes "trace") (codes "true") (rows_at h) refl ∙ was.trace;
@@ -124,6 +145,7 @@ holds_model g h v was none =
       workers = other_option (codes "model") (codes "workers") v (rows_at h) refl ∙ was.workers;
       block = other_option (codes "model") (codes "block") v (rows_at h) refl ∙ was.block;
       made = other_option (codes "model") (codes "made") v (rows_at h) refl ∙ was.made;
+      report = other_option (codes "model") (codes "report") v (rows_at h) refl ∙ was.report;
       jobs = other_option (codes "model") (codes "jobs") v (rows_at h) refl ∙ was.jobs;
       model = first_use (codes "model") AsWritten CommandLine (v ∷ []) (rows_at h) free;
       trace = other_option (codes "model") (codes "trace") v (rows_at h) refl
@@ -138,6 +160,7 @@ holds_trace g h m v was one =
       workers = other_option (codes "trace") (codes "workers") v (rows_at h) refl ∙ was.workers;
       block = other_option (codes "trace") (codes "block") v (rows_at h) refl ∙ was.block;
       made = other_option (codes "trace") (codes "made") v (rows_at h) refl ∙ was.made;
+      report = other_option (codes "trace") (codes "report") v (rows_at h) refl ∙ was.report;
       jobs = other_option (codes "trace") (codes "jobs") v (rows_at h) refl ∙ was.jobs;
       model = other_option (codes "trace") (codes "model") v (rows_at h) refl
           ∙ (was.model ∙ ap (λ names. option_map (text_row (codes "model")) (slice_get names 0)) one);
@@ -167,6 +190,9 @@ block_turn place g h was = ap (λ b. b && true) was.settles
 pub made_turn : (place : ℕ) (g : Given) (h : Held) → Holds g h → turn_passes shape [] (at place h) made_option ≡ true
 made_turn place g h was = ap (λ b. b && true) was.settles
 
+pub report_turn : (place : ℕ) (g : Given) (h : Held) → Holds g h → turn_passes shape [] (at place h) report_option ≡ true
+report_turn place g h was = ap (λ b. b && true) was.settles
+
 -- a value of an option passes
 value_word : (v : Text) (h : Held) → begins_with_dash v ≡ false → (bytes_eq v (45 ∷ 45 ∷ []) || flag_word_passes rules false (long_of v) v h) ≡ true
 value_word v h e =
@@ -191,6 +217,12 @@ unfolding walked
 made_value_turn place h v e =
     both_true _ _ (value_word v (waits (codes "made") place h).held e)
     (ap (λ (m : Held × Step). step_passes shape place m.0 m.1) (plain (option (codes "made")) place v (waits (codes "made") place h).held e))
+
+pub report_value_turn : (place : ℕ) (h : Held) (v : Text) → begins_with_dash v ≡ false → turn_passes shape [] (walked rules [] (at place h) report_option) v ≡ true
+unfolding walked
+report_value_turn place h v e =
+    both_true _ _ (value_word v (waits (codes "report") place h).held e)
+    (ap (λ (m : Held × Step). step_passes shape place m.0 m.1) (plain (option (codes "report")) place v (waits (codes "report") place h).held e))
 
 or_true : (b : Bool) → (b || true) ≡ true
 or_true true = refl

@@ -6,7 +6,7 @@ use Rattle.clap.specs.Simple.{App, is_simple, new_app, new_rule, with_rule}
 use Rattle.clap.specs.Walk.{Held, Row, Rule, Text, Walk, idle, walked, settled_rows, reacted, Waiting, Step, subcommand_or_other, plain_word, long_or_other, short_or_plain, option, after_step, pushed, settled, is_pending}
 use Rattle.clap.specs.declared.builder.action.ArgAction.TheVariants.{Set, SetTrue}
 use Rattle.clap.specs.declared.builder.value_parser.ValueParser.TheVariants as parser
-use Rattle.mq_words.specs.Words.{begins_with_dash, block_option, jobs_option, made_option, workers_option}
+use Rattle.mq_words.specs.Words.{begins_with_dash, block_option, jobs_option, made_option, report_option, workers_option}
 
 -- the command
 abbrev pub option_rule : Text → Rule
@@ -20,8 +20,8 @@ bare_app = record { top = record (new_app (codes "mpsim")).top { no_binary_name 
 
 abbrev pub app : App
 app =
-    with_rule (with_rule (with_rule (with_rule (with_rule (with_rule bare_app (new_rule (codes "model"))) (new_rule (codes "trace"))) (option_rule (codes "workers")))
-    (option_rule (codes "block"))) (option_rule (codes "made"))) jobs_rule
+    with_rule (with_rule (with_rule (with_rule (with_rule (with_rule (with_rule bare_app (new_rule (codes "model"))) (new_rule (codes "trace"))) (option_rule (codes "workers")))
+    (option_rule (codes "block"))) (option_rule (codes "made"))) (option_rule (codes "report"))) jobs_rule
 
 -- an argument with one value, as the command is built
 abbrev one_value : Text → Option Text → Option ℕ → Rule
@@ -48,6 +48,9 @@ block_built = one_value (codes "block") (Some (codes "block")) None
 abbrev pub made_built : Rule
 made_built = one_value (codes "made") (Some (codes "made")) None
 
+abbrev pub report_built : Rule
+report_built = one_value (codes "report") (Some (codes "report")) None
+
 abbrev pub jobs_built : Rule
 jobs_built = record jobs_rule {
   range = Some (record { start_inclusive = 0; end_inclusive = 0 });
@@ -57,7 +60,7 @@ jobs_built = record jobs_rule {
 }
 
 abbrev pub rules : List Rule
-rules = model_built ∷ trace_built ∷ workers_built ∷ block_built ∷ made_built ∷ jobs_built ∷ []
+rules = model_built ∷ trace_built ∷ workers_built ∷ block_built ∷ made_built ∷ report_built ∷ jobs_built ∷ []
 
 pub app_is_simple : is_simple app ≡ true
 app_is_simple = refl
@@ -111,6 +114,11 @@ pub made_walk : (place : ℕ) (h : Held) (v : Text) → begins_with_dash v ≡ f
 unfolding walked
 made_walk place h v e =
     ap (λ (m : Held × Step). after_step rules v (waits (codes "made") place h) m.0 m.1) (plain (option (codes "made")) place v (waits (codes "made") place h).held e)
+
+pub report_walk : (place : ℕ) (h : Held) (v : Text) → begins_with_dash v ≡ false → walked rules [] (walked rules [] (at place h) report_option) v ≡ at place (pends (codes "report") v h)
+unfolding walked
+report_walk place h v e =
+    ap (λ (m : Held × Step). after_step rules v (waits (codes "report") place h) m.0 m.1) (plain (option (codes "report")) place v (waits (codes "report") place h).held e)
 
 and_false : (b : Bool) → (b && false) ≡ false
 and_false true = refl

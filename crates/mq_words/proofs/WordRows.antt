@@ -1,8 +1,8 @@
 -- Lists of words, each with its fault or what it asks for, by computing the definitions.
 use Rattle.std.proofs.Common.{◌≡◌, ℕ, List, [], ◌∷◌, Some, None, true, false, refl}
 use Rattle.std.specs.Prelude.{codes}
-use Rattle.mq_words.specs.Words.{block_asked, jobs_asked, made_asked, usage_fault, workers_asked, words_left}
-use Rattle.mq_words.specs.declared.fault.UsageFault.TheVariants.{Words, Form, Workers, Block, Made}
+use Rattle.mq_words.specs.Words.{block_asked, form_asked, jobs_asked, made_asked, usage_fault, workers_asked, words_left}
+use Rattle.mq_words.specs.declared.fault.UsageFault.TheVariants.{Words, Form, Workers, Block, Made, Report}
 
 -- unknown options, and one that lacks its value or stands twice
 help-row : usage_fault (codes "--help" ∷ []) ≡ Some Words
@@ -28,6 +28,12 @@ twice-row = refl
 
 value-twice-row : usage_fault (codes "--block" ∷ codes "1" ∷ codes "m" ∷ codes "t" ∷ codes "--block" ∷ codes "1" ∷ []) ≡ Some Words
 value-twice-row = refl
+
+report-no-value-row : usage_fault (codes "m" ∷ codes "t" ∷ codes "--report" ∷ []) ≡ Some Words
+report-no-value-row = refl
+
+report-twice-row : usage_fault (codes "--report" ∷ codes "1" ∷ codes "m" ∷ codes "t" ∷ codes "--report" ∷ codes "1" ∷ []) ≡ Some Words
+report-twice-row = refl
 
 -- three names, an empty word, no words, one name
 three-row : usage_fault (codes "m" ∷ codes "t" ∷ codes "u" ∷ []) ≡ Some Words
@@ -74,18 +80,27 @@ made-row = refl
 made-block-row : usage_fault (codes "--made" ∷ codes "x" ∷ codes "--block" ∷ codes "0" ∷ []) ≡ Some Block
 made-block-row = refl
 
+report-row : usage_fault (codes "m" ∷ codes "t" ∷ codes "--report" ∷ codes "3" ∷ []) ≡ Some Report
+report-row = refl
+
+no-report-row : usage_fault (codes "--report" ∷ codes "0" ∷ codes "--made" ∷ codes "7" ∷ []) ≡ Some Report
+no-report-row = refl
+
+report-made-row : usage_fault (codes "--report" ∷ codes "3" ∷ codes "--made" ∷ codes "x" ∷ []) ≡ Some Made
+report-made-row = refl
+
 -- accepted words, with the defaults and with all options among the names
 plain-row : (usage_fault (codes "m" ∷ codes "t" ∷ []) ≡ None) × (words_left (codes "m" ∷ codes "t" ∷ []) ≡ codes "m" ∷ codes "t" ∷ [])
     × (workers_asked (codes "m" ∷ codes "t" ∷ []) ≡ Some 4) × (block_asked (codes "m" ∷ codes "t" ∷ []) ≡ Some 4096)
-    × (jobs_asked (codes "m" ∷ codes "t" ∷ []) ≡ false)
-plain-row = (refl, refl, refl, refl, refl)
+    × (form_asked (codes "m" ∷ codes "t" ∷ []) ≡ Some 2) × (jobs_asked (codes "m" ∷ codes "t" ∷ []) ≡ false)
+plain-row = (refl, refl, refl, refl, refl, refl)
 
 abbrev all : List (List ℕ)
-all = codes "--block" ∷ codes "65536" ∷ codes "m" ∷ codes "--jobs" ∷ codes "--workers" ∷ codes "064" ∷ codes "t" ∷ []
+all = codes "--block" ∷ codes "65536" ∷ codes "m" ∷ codes "--jobs" ∷ codes "--workers" ∷ codes "064" ∷ codes "--report" ∷ codes "1" ∷ codes "t" ∷ []
 
 all-row : (usage_fault all ≡ None) × (words_left all ≡ codes "m" ∷ codes "t" ∷ []) × (workers_asked all ≡ Some 64) × (block_asked all ≡ Some 65536)
-    × (jobs_asked all ≡ true)
-all-row = (refl, refl, refl, refl, refl)
+    × (form_asked all ≡ Some 1) × (jobs_asked all ≡ true)
+all-row = (refl, refl, refl, refl, refl, refl)
 
 abbrev made : List (List ℕ)
 made = codes "--jobs" ∷ codes "--made" ∷ codes "18446744073709551615" ∷ []

@@ -3,7 +3,7 @@ use Rattle.std.specs.Prelude.{◌≡◌, ◌-◌, ◌^◌, ℕ, false, List, [],
 use Rattle.clap.specs.Matches.{first_value, one_text}
 use Rattle.clap.specs.declared.parser.matches.Found.{Found}
 use Rattle.mq_base.specs.Text.{number_of}
-use Rattle.mq_words.specs.Words.{asks_made, block_option, jobs_asked, made_option, value_of, words_left, workers_option}
+use Rattle.mq_words.specs.Words.{asks_made, block_option, jobs_asked, made_option, report_option, value_of, words_left, workers_option}
 use Rattle.mq_words.specs.declared.words.Form.{Form}
 use Rattle.mq_words.specs.declared.words.Form.TheVariants as form
 use Rattle.mq_words.specs.declared.words.Input.{Input}
@@ -17,6 +17,7 @@ pub record Finds (words : List (List ℕ)) (found : Found) : Type 0 where
   pub workers : first_value found (codes "workers") ≡ value_of workers_option words
   pub block : first_value found (codes "block") ≡ value_of block_option words
   pub made : first_value found (codes "made") ≡ value_of made_option words
+  pub report : first_value found (codes "report") ≡ value_of report_option words
   pub jobs : one_text found (codes "jobs") ≡ Some (if jobs_asked words then codes "true" else codes "false")
 
 -- the words have this form: two names and no made input, or a made input and no names

@@ -3,14 +3,14 @@ use Rattle.std.specs.Prelude.{◌≡◌, ◌==◌, ◌&&◌, ◌||◌, ℕ, Bool
 use Rattle.std.specs.List.{list_any}
 use Rattle.mq_base.specs.Text.{number_of}
 use Rattle.mq_words.specs.declared.fault.UsageFault.{UsageFault}
-use Rattle.mq_words.specs.declared.fault.UsageFault.TheVariants.{Words, Form, Workers, Block, Made}
+use Rattle.mq_words.specs.declared.fault.UsageFault.TheVariants.{Words, Form, Workers, Block, Made, Report}
 use Rattle.mq_words.specs.declared.fault.WordsFault.{WordsFault}
 use Rattle.mq_words.specs.declared.fault.WordsFault.TheVariants.{Usage, Memory}
 use Rattle.mq_words.specs.declared.words.Input.{Input}
 use Rattle.mq_words.specs.declared.words.Input.TheVariants as input
 use Rattle.mq_words.specs.declared.words.Settings.{Settings}
 
--- the options: three that take a value, and a flag
+-- the options: four that take a value, and a flag
 abbrev pub workers_option : List ℕ
 workers_option = codes "--workers"
 
@@ -19,6 +19,9 @@ block_option = codes "--block"
 
 abbrev pub made_option : List ℕ
 made_option = codes "--made"
+
+abbrev pub report_option : List ℕ
+report_option = codes "--report"
 
 abbrev pub jobs_option : List ℕ
 jobs_option = codes "--jobs"
@@ -29,7 +32,7 @@ begins_with_dash word = slice_index word 0 == 45
 
 -- an option that takes a value
 abbrev pub takes_value : List ℕ → Bool
-takes_value word = bytes_eq word workers_option || bytes_eq word block_option || bytes_eq word made_option
+takes_value word = bytes_eq word workers_option || bytes_eq word block_option || bytes_eq word made_option || bytes_eq word report_option
 
 abbrev pub is_option : List ℕ → Bool
 is_option word = takes_value word || bytes_eq word jobs_option
@@ -74,8 +77,8 @@ words_left words = left_from false words
 -- a word is empty or an unknown option, an option stands twice or lacks its value, or more than two words are left
 abbrev pub refuses_words : List (List ℕ) → Bool
 refuses_words words = list_any is_bad_word words || stands_twice workers_option words
-    || stands_twice block_option words || stands_twice made_option words || stands_twice jobs_option words || lacks_value words
-    || nat_lt 2 (length (words_left words))
+    || stands_twice block_option words || stands_twice made_option words || stands_twice report_option words || stands_twice jobs_option words
+    || lacks_value words || nat_lt 2 (length (words_left words))
 
 -- the word directly behind the option
 abbrev pub value_of : List ℕ → List (List ℕ) → Option (List ℕ)
@@ -108,6 +111,10 @@ asks_made words = is_some (value_of made_option words)
 abbrev pub made_asked : List (List ℕ) → Option ℕ
 made_asked words = option_and_then (λ text. number_of text (2 ^ 64 - 1)) (value_of made_option words)
 
+-- the form of the report, 1 or 2
+abbrev pub form_asked : List (List ℕ) → Option ℕ
+form_asked words = number_asked 2 1 2 (value_of report_option words)
+
 -- the lines of the jobs are asked for
 abbrev pub jobs_asked : List (List ℕ) → Bool
 jobs_asked words = has_word jobs_option words
@@ -124,6 +131,7 @@ usage_fault words =
     else if is_none (workers_asked words) then Some Workers
     else if is_none (block_asked words) then Some Block
     else if asks_made words && is_none (made_asked words) then Some Made
+    else if is_none (form_asked words) then Some Report
     else None
 
 -- the words are accepted, and name this model and this trace
@@ -147,6 +155,7 @@ pub record Asks (words : List (List ℕ)) (s : Settings) : Type 0 where
   pub input : AsksFor words s.input
   pub workers : workers_asked words ≡ Some s.workers
   pub block : block_asked words ≡ Some s.block
+  pub form : form_asked words ≡ Some s.form
   pub jobs : jobs_asked words ≡ s.jobs
 
 -- how words may be refused; want of memory comes only where they pass the rule

@@ -13,6 +13,8 @@ pub enum UsageFault {
     Block,
     /// The number of the made input isn't a number from 0 to 18,446,744,073,709,551,615.
     Made,
+    /// The form of the report isn't 1 or 2.
+    Report,
 }
 
 /// Why there are no settings.

@@ -14,7 +14,7 @@ fn begins_with_dash(word: &str) -> bool
 fn takes_value(word: &str) -> bool
     ensures { result ≡ takes_value_of word.now }
 {
-    word == "--workers" || word == "--block" || word == "--made"
+    word == "--workers" || word == "--block" || word == "--made" || word == "--report"
 }
 
 fn is_option(word: &str) -> bool
@@ -147,6 +147,7 @@ pub fn refuses_words(words: &[&str]) -> bool
         || stands_twice(words, "--workers")
         || stands_twice(words, "--block")
         || stands_twice(words, "--made")
+        || stands_twice(words, "--report")
         || stands_twice(words, "--jobs")
         || lacks_value(words)
         || has_third_name(words)

@@ -36,6 +36,8 @@ pub struct Settings<'a> {
     pub workers: u64,
     /// How many jobs a block has, from 1 to 65,536; 4,096 where the words don't say.
     pub block: u64,
+    /// The form of the report, 1 or 2; 2 where the words don't say.
+    pub form: u64,
     /// Whether the report has the lines of the jobs, one for each visit.
     pub jobs: bool,
 }
@@ -112,6 +114,7 @@ fn matches_of<'a>(alloc: Global, words: &'a [&'a str]) -> Result<ArgMatches<'a>,
         .arg(Arg::new(alloc, "workers").long("workers"))?
         .arg(Arg::new(alloc, "block").long("block"))?
         .arg(Arg::new(alloc, "made").long("made"))?
+        .arg(Arg::new(alloc, "report").long("report"))?
         .arg(
             Arg::new(alloc, "jobs")
                 .long("jobs")
@@ -143,11 +146,15 @@ pub fn settings_of<'a>(alloc: Global, words: &'a [&'a str]) -> Result<Settings<'
     let Some(input) = input_of(form) else {
         return Err(WordsFault::Usage(UsageFault::Made));
     };
+    let Some(report) = number_of(matches.get_str("report"), 2, 1, 2) else {
+        return Err(WordsFault::Usage(UsageFault::Report));
+    };
     let jobs = matches.get_flag("jobs");
     Ok(Settings {
         input,
         workers,
         block,
+        form: report,
         jobs,
     })
 }

@@ -5,3 +5,4 @@ mod crew;
 mod graph;
 mod pass;
 mod stats;
+mod tails;

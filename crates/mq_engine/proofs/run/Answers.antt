@@ -1,7 +1,6 @@
 use Rattle.std.proofs.Common.{◌∙◌, ap, filter, subst, sym}
 use Rattle.std.specs.Prelude.{slice_get}
-use Rattle.mq_engine.specs.Working.{AreEarly}
-use Rattle.mq_engine.specs.Progress.{HasAll, is_ready}
+use Rattle.mq_engine.specs.Progress.{AreEarly, HasAll, is_ready}
 use Rattle.mq_engine.proofs.Endings.{within}
 use Rattle.mq_engine.proofs.Lists.{filter-passes}
 use Rattle.mq_engine.proofs.Waves.{has-all}

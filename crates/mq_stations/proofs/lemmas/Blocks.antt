@@ -1,6 +1,5 @@
 -- The blocks of a station that is scanned, their summaries and their times.
-use Rattle.std.proofs.Common.{◌≡◌, ℕ, ◌+◌, ◌*◌, ◌<◌, ◌≤◌, ◌⊎◌, inl, inr, List, [], ◌++◌, length, map, min, ap, ◌∙◌, subst, arith}
-use Rattle.std.proofs.lemmas.Bool.{cases_lt}
+use Rattle.std.proofs.Common.{◌≡◌, ℕ, ◌+◌, ◌*◌, ◌<◌, ◌≤◌, List, ◌++◌, length, map, min, ap, ◌∙◌, subst, arith}
 use Rattle.mq_maxplus.specs.Maxplus.{affine_act, mp_or_zero}
 use Rattle.mq_maxplus.specs.declared.mp.Mp.TheVariants.{Void}
 use Rattle.mq_scan.specs.Folds.{AreSummaries, carries_after}
@@ -8,7 +7,6 @@ use Rattle.mq_scan.specs.declared.blocks.Blocks.{Blocks}
 use Rattle.mq_scan.proofs.Spans.{block-inside, times-ranges-next}
 use Rattle.mq_server.specs.Jobs.{job}
 use Rattle.mq_stations.specs.Blocks.{AreSumsOf, AreTimesOf}
-use Rattle.std.proofs.Math.Nat.{mul-le-mul_left}
 
 -- a further block
 pub joined-more : {S C : Type 0} (time : C → ℕ) (acted : S → C → C) (start : C) (part : ℕ → S) (blocks : Blocks) (b : ℕ) (times done done' : List ℕ) → b < blocks.blocks → AreTimesOf time acted start part blocks b times →
@@ -37,27 +35,3 @@ are-summaries joined part n blocks sums e len each =
       within = λ b l. block-inside b blocks.block blocks.blocks blocks.n (omega arith) blocks.none_more;
       each = λ b d l. each b d l;
     })
-
--- a scan has no more blocks than jobs
-pub blocks-few : (blocks : Blocks) → blocks.blocks ≤ blocks.n
-blocks-few blocks = go (cases_lt blocks.n blocks.blocks)
-  where
-    go : (blocks.n < blocks.blocks) ⊎ (blocks.blocks ≤ blocks.n) → blocks.blocks ≤ blocks.n
-    go (inr few) = few
-    go (inl many) =
-        let some = blocks.some in
-        let more = blocks.none_more in
-        let a : blocks.block * (blocks.n + 1) ≤ blocks.block * blocks.blocks = mul-le-mul_left blocks.block (omega arith) in
-        let b : blocks.n * 1 ≤ blocks.n * blocks.block = mul-le-mul_left blocks.n some in
-        absurd (omega arith)
-
--- nor more than so many, where they are long enough
-pub blocks-most : (most : ℕ) (blocks : Blocks) → blocks.n ≤ most * blocks.block → blocks.blocks ≤ most
-blocks-most most blocks long = go (cases_lt most blocks.blocks)
-  where
-    go : (most < blocks.blocks) ⊎ (blocks.blocks ≤ most) → blocks.blocks ≤ most
-    go (inr few) = few
-    go (inl many) =
-        let more = blocks.none_more in
-        let a : blocks.block * (most + 1) ≤ blocks.block * blocks.blocks = mul-le-mul_left blocks.block (omega arith) in
-        absurd (omega arith)

@@ -1,8 +1,7 @@
 -- Lists by index, and what a loop has made of one so far.
-use Rattle.std.proofs.Common.{subst, ◌≡◌, ℕ, zero, suc, ◌+◌, ◌<◌, List, [], ◌∷◌, ◌++◌, length, get_or, take, map, Some, sym, ap, ◌∙◌, arith, append_assoc}
+use Rattle.std.proofs.Common.{subst, ◌≡◌, ℕ, zero, suc, ◌+◌, ◌<◌, List, [], ◌∷◌, ◌++◌, length, get_or, take, map, Some, sym, ap, ◌∙◌, arith}
 use Rattle.std.specs.Prelude.{slice_get}
-use Rattle.std.specs.List.{AllByRecursion as Each, flat_map}
-use Rattle.std.proofs.lemmas.List.{append-nil}
+use Rattle.std.specs.List.{AllByRecursion as Each}
 use Rattle.mq_base.proofs.lemmas.Lists.{some_inj}
 
 -- one item more, of what a map has made so far
@@ -15,14 +14,6 @@ pub map-more : {X Y : Type 0} (f : X → Y) (xs : List X) (i : ℕ) (x : X) (don
 map-more f xs i x done done' h p k =
     let next : suc i ≡ i + 1 = omega arith in
     p ∙ (ap (λ l. l ++ f x ∷ []) k ∙ (sym (map-next f xs i x h) ∙ ap (λ n. map f (take n xs)) next))
-
-flat_map-next : {X Y : Type 0} (f : X → List Y) (xs : List X) (i : ℕ) (x : X) → slice_get xs i ≡ Some x → flat_map f (take (suc i) xs) ≡ flat_map f (take i xs) ++ f x
-flat_map-next f [] i x h = absurd cc
-flat_map-next f (y ∷ ys) zero x h = append-nil (f y) ∙ ap f (some_inj y x h)
-flat_map-next f (y ∷ ys) (suc i) x h = ap (λ l. f y ++ l) (flat_map-next f ys i x h) ∙ sym (append_assoc (f y) (flat_map f (take i ys)) (f x))
-
-pub flat_map-more : {X Y : Type 0} (f : X → List Y) (xs : List X) (i : ℕ) (x : X) → slice_get xs i ≡ Some x → flat_map f (take (i + 1) xs) ≡ flat_map f (take i xs) ++ f x
-flat_map-more f xs i x h = let next : i + 1 ≡ suc i = omega arith in ap (λ n. flat_map f (take n xs)) next ∙ flat_map-next f xs i x h
 
 pub Each-get : {X : Type 0} (P : X → Type 0) (xs : List X) (k : ℕ) (x : X) → Each P xs → slice_get xs k ≡ Some x → P x
 Each-get P [] k x h e = absurd cc

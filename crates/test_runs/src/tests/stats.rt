@@ -14,14 +14,14 @@ use mq_stats::{
 use std::alloc::Global;
 use std::test::Fail;
 
-fn list<T: Copy + Drop>(alloc: Global, items: &[T]) -> Result<List<T>, OutOfMemory>
+pub fn list<T: Copy + Drop>(alloc: Global, items: &[T]) -> Result<List<T>, OutOfMemory>
     ensures { IfOk result (λ list. list ≡ items.now) }
 {
     Ok(List::from_vec(Vec::from_slice(alloc, items)?))
 }
 
 // Three jobs with demands 4, 1 and 3, which come at 0, 1 and 2.
-fn three_rows(alloc: Global) -> Result<Rows, OutOfMemory> {
+pub fn three_rows(alloc: Global) -> Result<Rows, OutOfMemory> {
     let mut demands = List::new(alloc);
     demands.push(list(alloc, &[4u64, 1, 3])?)?;
     Ok(Rows {
@@ -33,14 +33,14 @@ fn three_rows(alloc: Global) -> Result<Rows, OutOfMemory> {
 
 // Sequences of visits.
 #[derive(Clone, Copy)]
-struct Columns<'a> {
-    job: &'a [u32],
-    arrive: &'a [u64],
-    found: &'a [u32],
-    fate: &'a [Fate],
+pub struct Columns<'a> {
+    pub job: &'a [u32],
+    pub arrive: &'a [u64],
+    pub found: &'a [u32],
+    pub fate: &'a [Fate],
 }
 
-fn visits_of(alloc: Global, columns: &Columns) -> Result<Visits, OutOfMemory> {
+pub fn visits_of(alloc: Global, columns: &Columns) -> Result<Visits, OutOfMemory> {
     Ok(Visits {
         job: list(alloc, columns.job)?,
         arrive: list(alloc, columns.arrive)?,
@@ -79,20 +79,20 @@ fn are_below(jobs: &[u32], count: usize) -> bool
     jobs.iter().all(|job| (*job as usize) < count)
 }
 
-fn are_small(founds: &List<u32>) -> bool
+pub fn are_small(founds: &List<u32>) -> bool
     ensures { IsTrue result → All (λ found. found ≤ 1048576) founds.now }
 {
     founds.as_slice().iter().all(|found| *found <= 1_048_576)
 }
 
-fn are_even(visits: &Visits) -> bool
-    ensures few { IsTrue result → length visits.now.job < 10 }
+pub fn are_even(visits: &Visits) -> bool
+    ensures few { IsTrue result → length visits.now.job ≤ 1048576 }
     ensures arrives { IsTrue result → length visits.now.arrive ≡ length visits.now.job }
     ensures founds { IsTrue result → length visits.now.found ≡ length visits.now.job }
     ensures fates { IsTrue result → length visits.now.fate ≡ length visits.now.job }
 {
     let count = visits.job.len();
-    count < 10
+    count <= 1_048_576
         && visits.arrive.len() == count
         && visits.found.len() == count
         && visits.fate.len() == count
@@ -117,7 +117,7 @@ fn server_has(alloc: Global, columns: &Columns, wanted: &NodeTotals) -> Result<b
 }
 
 // The visits of three jobs that a server serves one after another.
-const SERVED: Columns<'static> = Columns {
+pub const SERVED: Columns<'static> = Columns {
     job: &[0, 1, 2],
     arrive: &[0, 1, 2],
     found: &[0, 1, 2],
@@ -145,14 +145,14 @@ const LOST: Columns<'static> = Columns {
 };
 
 // The second is held.
-const HELD: Columns<'static> = Columns {
+pub const HELD: Columns<'static> = Columns {
     job: &[0, 1, 2],
     arrive: &[0, 1, 2],
     found: &[0, 1, 2],
     fate: &[Fate::Departs(4), Fate::Held, Fate::Departs(7)],
 };
 
-const NO_VISITS: Columns<'static> = Columns {
+pub const NO_VISITS: Columns<'static> = Columns {
     job: &[],
     arrive: &[],
     found: &[],

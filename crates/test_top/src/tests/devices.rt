@@ -80,7 +80,7 @@ fn a_report_is_written(rt: HostRuntime) -> Result<(), Fail> {
         out: REPORT,
         err: b"",
     };
-    assert!(rt; ends(&rt, rt.alloc(), &["m", "t"], NONE, wanted)?);
+    assert!(rt; ends(&rt, rt.alloc(), &["m", "t", "--report", "1"], NONE, wanted)?);
     Ok(())
 }
 
@@ -129,7 +129,7 @@ fn an_output_that_fails_has_a_first_part(rt: HostRuntime) -> Result<(), Fail> {
             ends(
                 &rt,
                 rt.alloc(),
-                &["m", "t"],
+                &["m", "t", "--report", "1"],
                 failing,
                 wanted(bytes, UNWRITTEN)
             )?
@@ -149,7 +149,8 @@ fn an_output_that_fails_among_the_lines_of_jobs_has_a_first_part(
         err: UNWRITTEN,
     };
     let failing = Failing { out: 19, ..NONE };
-    assert!(rt; ends(&rt, rt.alloc(), &["m", "t", "--jobs"], failing, wanted)?);
+    let words = ["m", "t", "--jobs", "--report", "1"];
+    assert!(rt; ends(&rt, rt.alloc(), &words, failing, wanted)?);
     Ok(())
 }
 
@@ -228,6 +229,7 @@ fn an_error_output_that_takes_nothing_changes_no_status(rt: HostRuntime) -> Resu
         (["m", "t", "--workers", "65"].as_slice(), MODEL, 2),
         (["m", "t", "--block", "0"].as_slice(), MODEL, 2),
         (["--made", "x"].as_slice(), MODEL, 2),
+        (["m", "t", "--report", "0"].as_slice(), MODEL, 2),
         (["m", "t"].as_slice(), b"model 1\n", 3),
         (["m", "t"].as_slice(), b"model 1\nsource s\nsource s\n", 3),
         (["m", "m"].as_slice(), MODEL, 4),

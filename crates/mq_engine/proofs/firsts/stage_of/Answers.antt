@@ -1,14 +1,14 @@
 use Rattle.std.proofs.Common.{subst, sym, arith}
 use Rattle.mq_crew.specs.Crew.{AreAll}
-use Rattle.mq_engine.specs.Loads.{IsLoaded, IsPart, IsStage, IsWholePart, blocks_of}
+use Rattle.mq_engine.specs.Loads.{IsPart, IsStage, IsWholePart, blocks_of}
 use Rattle.mq_engine.specs.declared.firsts.Part.TheVariants.{Whole}
 use Rattle.mq_engine.specs.declared.firsts.Stage.TheVariants.{Ended}
 use Rattle.mq_engine.specs.declared.loads.Scan.{Scan}
-use Rattle.mq_engine.proofs.Scanning.{tandem-sound}
+use Rattle.mq_engine.proofs.Scanning.{routed-group, routed-part, split-at, tandem-sound}
 use Rattle.mq_engine.proofs.firsts.stage_of.Goals as goal
 
 pub tandem_carries-requires-clause-load : goal.tandem_carries-requires-clause-load
-tandem_carries-requires-clause-load c = (tandem-sound _ _ _ _ _ c.in-OfTandem.scan c.requires.loaded c.in-OfTandem.is).0
+tandem_carries-requires-clause-load c = (tandem-sound _ _ _ _ _ c.in-OfTandem.scan c.requires.scanned c.in-OfTandem.is).0
 
 pub returns-in-Unscanned : goal.returns-in-Unscanned
 returns-in-Unscanned c =
@@ -18,12 +18,18 @@ returns-in-Unscanned c =
     let after = subst (IsWholePart load.plan.now load.rows.now load.number load.arrivals) (c.the_whole.ensures d) (group.each 0 d (omega arith)) in
     subst (λ (s : Scan). IsStage load.plan.now load.rows.now load.number load.arrivals s (Ended c.the_whole.result)) (sym c.in-Unscanned.is) after
 
-pub parted-requires-clause-loaded : goal.parted-requires-clause-loaded
-parted-requires-clause-loaded c =
+pub those_routed-requires : goal.those_routed-requires
+those_routed-requires c b d l =
     let load = c.args.load.now in
-    subst (λ (s : Scan). IsLoaded load.plan.now load.rows.now load.number load.arrivals s) c.in-OfSplit.is c.requires.loaded
+    let group = subst (λ (s : Scan). AreAll (IsPart load.plan.now load.rows.now load.number load.arrivals s) (blocks_of s) c.args.group) c.in-OfSplit.is c.requires.group in
+    let count = group.len in
+    routed-part load.plan.now load.rows.now load.number load.arrivals c.in-OfSplit.field-0 b _ (group.each b d (omega arith))
+
+pub parted-requires-clause-split : goal.parted-requires-clause-split
+parted-requires-clause-split c = (split-at _ _ _ _ _ c.in-OfSplit.field-0 c.requires.scanned c.in-OfSplit.is).0
 
 pub parted-requires-clause-group : goal.parted-requires-clause-group
 parted-requires-clause-group c =
     let load = c.args.load.now in
-    subst (λ (s : Scan). AreAll (IsPart load.plan.now load.rows.now load.number load.arrivals s) (blocks_of s) c.args.group) c.in-OfSplit.is c.requires.group
+    let group = subst (λ (s : Scan). AreAll (IsPart load.plan.now load.rows.now load.number load.arrivals s) (blocks_of s) c.args.group) c.in-OfSplit.is c.requires.group in
+    routed-group load.plan.now load.rows.now load.number load.arrivals c.in-OfSplit.field-0 c.args.group c.in_ok-parts-in-OfSplit.parts (split-at _ _ _ _ _ c.in-OfSplit.field-0 c.requires.scanned c.in-OfSplit.is).1 group c.in_ok-parts-in-OfSplit.ensures

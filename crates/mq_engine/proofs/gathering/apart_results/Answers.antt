@@ -1,5 +1,5 @@
-use Rattle.std.proofs.Common.{length, ◌<◌, subst, sym, arith}
-use Rattle.mq_engine.specs.Loads.{IsResultOf}
+use Rattle.std.proofs.Common.{arith}
+use Rattle.mq_exits.specs.Results.{IsResultOf}
 use Rattle.mq_engine.proofs.Gathers.{each-found}
 use Rattle.mq_engine.proofs.gathering.apart_results.Goals as goal
 

@@ -1,4 +1,4 @@
-use Rattle.std.proofs.Common.{◌≡◌, ◌<◌, length, refl, ap, ◌∙◌, arith}
+use Rattle.std.proofs.Common.{length, ap, arith}
 use Rattle.std.proofs.lemmas.Option.{slice_get_within}
 use Rattle.mq_engine.proofs.Gathers.{gather-few, gathered-all, gathered-more}
 use Rattle.mq_engine.proofs.gathering.gathered_at.Goals as goal
@@ -23,14 +23,17 @@ pub add-requires-clause-few : goal.add-requires-clause-few
 add-requires-clause-few c =
     let s = c.args.arriving.now in
     gather-few c.core_laws.ensures s.plan.now s.rows.now s.outputs.now c.args.number c.get.result.now c.requires.gathering.read (c.requires.gathering.can c.args.number c.requires.ready) c.get.ensures
-    c.loop-port.port c.get-in-loop-port.result.now c.loop-port.gathered c.stream_of.result.now c.get-in-loop-port.ensures c.stream_of.ensures.stream.ordered c.stream_of.ensures.items c.loop-port.invariant
+    c.loop-port.port c.get-in-loop-port.result.now c.loop-port.gathered c.stream_of.result.now c.get-in-loop-port.ensures c.stream_of.ensures.stream c.stream_of.ensures.items c.loop-port.invariant
 
 pub loop-port-preserved : goal.loop-port-preserved
 loop-port-preserved c =
-    gathered-more c.args.arriving.now.outputs.now c.get.result.now.inputs c.loop-port.port c.get-in-loop-port.result.now c.stream_of.result.now c.get-in-loop-port.ensures c.stream_of.ensures.stream.ordered c.stream_of.ensures.items c.loop-port.gathered _ c.in_ok-add.ensures.ok c.loop-port.invariant
+    gathered-more c.args.arriving.now.outputs.now c.get.result.now.inputs c.loop-port.port c.get-in-loop-port.result.now c.stream_of.result.now c.get-in-loop-port.ensures c.stream_of.ensures.stream c.stream_of.ensures.items c.loop-port.gathered _ c.in_ok-add.ensures.ok c.loop-port.invariant
 
 pub returns : goal.returns
 returns c =
     let s = c.args.arriving.now in
     gathered-all c.core_laws.ensures s.plan.now s.rows.now s.outputs.now c.args.number c.get.result.now c.requires.gathering.read (c.requires.gathering.can c.args.number c.requires.ready) c.get.ensures
     c.loop-port.port c.loop-port.gathered (omega arith) c.loop-port.invariant c.loop-port.invariant.ports (omega arith)
+
+pub stream_of-requires-clause-ordered : goal.stream_of-requires-clause-ordered
+stream_of-requires-clause-ordered c u out streams stream a b = (c.requires.gathering.early u out streams stream a b).ordered

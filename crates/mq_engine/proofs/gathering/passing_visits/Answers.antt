@@ -1,6 +1,6 @@
-use Rattle.std.proofs.Common.{◌≡◌, List, ℕ, map, sym, ap, ◌∙◌}
+use Rattle.std.proofs.Common.{◌≡◌, ℕ, map, sym, ap, ◌∙◌}
 use Rattle.mq_core.specs.declared.model.Fate.TheVariants.{Departs}
-use Rattle.mq_engine.proofs.Passing.{none-found}
+use Rattle.mq_exits.proofs.Passing.{none-found}
 use Rattle.mq_engine.proofs.gathering.passing_visits.Goals as goal
 
 pub returns : goal.returns

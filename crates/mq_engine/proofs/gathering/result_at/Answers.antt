@@ -1,4 +1,4 @@
-use Rattle.std.proofs.Common.{Some, None, ap, ◌∙◌}
+use Rattle.std.proofs.Common.{Some, ap, ◌∙◌}
 use Rattle.std.specs.Option.{option_map}
 use Rattle.mq_stations.specs.Late.{late_told}
 use Rattle.mq_engine.proofs.Gathers.{apart-known, apart-refusal, fates-few}

@@ -3,7 +3,6 @@ use Rattle.std.proofs.lemmas.Result.{IfOk-weaker}
 use Rattle.mq_core.specs.declared.model.Kind.{Kind}
 use Rattle.mq_join.specs.Gathers.{came_to}
 use Rattle.mq_engine.specs.Apart.{AreSequences}
-use Rattle.mq_engine.proofs.Gathers.{no-station}
 use Rattle.mq_engine.proofs.gathering.sequences_of.Goals as goal
 
 pub returns-in-Fork : goal.returns-in-Fork

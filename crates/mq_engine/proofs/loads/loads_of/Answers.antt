@@ -1,34 +1,32 @@
-use Rattle.std.proofs.Common.{◌<◌, ◌^◌, List, subst, sym, arith}
-use Rattle.std.proofs.lemmas.Result.{IfOk-weaker}
+use Rattle.std.proofs.Common.{◌≤◌, List, length, subst, sym, arith}
 use Rattle.std.specs.List.{AllByRecursion}
 use Rattle.mq_base.proofs.lemmas.Each.{Each-weaker}
-use Rattle.mq_crew.specs.Crew.{total_size}
-use Rattle.mq_engine.specs.Merges.{IsComing, IsReadyOrigin}
-use Rattle.mq_engine.specs.declared.loads.Arrived.{Arrived}
-use Rattle.mq_engine.specs.declared.merges.Coming.{Coming}
-use Rattle.mq_engine.proofs.Comings.{arrived-few, arrived_size, coming_size, comings-few}
+use Rattle.mq_crew.specs.Crew.{AreAll}
+use Rattle.mq_arrivals.specs.Arrivals.{HasArrived}
+use Rattle.mq_arrivals.specs.declared.nodes.Arrived.{Arrived}
+use Rattle.mq_exits.specs.Loads.{IsLoaded}
+use Rattle.mq_engine.specs.Loads.{IsArrivedAt, IsScanFor}
+use Rattle.mq_engine.proofs.Waves.{has-loaded}
 use Rattle.mq_engine.proofs.loads.loads_of.Goals as goal
 
-pub run_parts-requires-clause-fit : goal.run_parts-requires-clause-fit
-run_parts-requires-clause-fit g c κs inside =
+pub made-requires-clause-fit : goal.made-requires-clause-fit
+made-requires-clause-fit g c κs inside =
     let s = c.args.arriving.now in
-    subst (AllByRecursion (λ (z : Coming). IsReadyOrigin z.origin)) (sym c.as_slice.ensures) (Each-weaker (IsComing s 8) _ (λ z h. h.origin) c.in_ok-comings.comings c.in_ok-comings.ensures.each)
+    let all = c.in_ok-arrived.arrived in
+    let len = c.in_ok-arrived.ensures.len in
+    let few = c.requires.arriving.nodes in
+    record {
+      few = subst (λ (l : List Arrived). length l ≤ 64) (sym c.as_slice.ensures) (omega arith);
+      loaded = subst (AllByRecursion (λ (a : Arrived). IsLoaded s.plan.now s.rows.now a.number a.arrivals)) (sym c.as_slice.ensures) (Each-weaker (HasArrived s) _ (λ a h. (has-loaded c.core_laws.ensures s a c.requires.arriving c.requires.early c.requires.can h).0) all c.in_ok-arrived.ensures.each);
+      block = c.requires.arriving.block;
+    }
 
-pub run_parts-requires-clause-few : goal.run_parts-requires-clause-few
-run_parts-requires-clause-few g c κs inside =
+pub all_scanned-requires-clause-arrived : goal.all_scanned-requires-clause-arrived
+all_scanned-requires-clause-arrived g c =
     let s = c.args.arriving.now in
-    let len = c.in_ok-comings.ensures.len in
-    let few = c.requires.few in
-    subst (λ (l : List Coming). total_size coming_size l < 2 ^ 32) (sym c.as_slice.ensures) (comings-few s 8 c.in_ok-comings.comings (omega arith) c.in_ok-comings.ensures.each)
+    Each-weaker (HasArrived s) (IsArrivedAt s) (λ a h. has-loaded c.core_laws.ensures s a c.requires.arriving c.requires.early c.requires.can h) c.in_ok-arrived.arrived c.in_ok-arrived.ensures.each
 
-pub run_parts-requires-2-clause-few : goal.run_parts-requires-2-clause-few
-run_parts-requires-2-clause-few g c κs inside =
-    let len = c.in_ok-comings.ensures.len in
-    let same = c.in_ok-arrived.ensures.len in
-    let few = c.requires.few in
-    subst (λ (l : List Arrived). total_size arrived_size l < 2 ^ 32) (sym c.as_slice-2.ensures) (arrived-few c.in_ok-arrived.arrived (omega arith))
-
-pub returns-clause-of : goal.returns-clause-of
-returns-clause-of g c =
+pub all_scanned-requires-clause-scans : goal.all_scanned-requires-clause-scans
+all_scanned-requires-clause-scans g c =
     let s = c.args.arriving.now in
-    IfOk-weaker c.all_loaded.result _ _ (λ loads h. h s.plan.now s.rows.now s.ready.now c.in_ok-arrived.ensures.of) c.all_loaded.ensures.of
+    subst (λ (l : List Arrived). AreAll (IsScanFor s.plan.now s.rows.now l) (length l) c.in_ok-scans.scans) c.as_slice.ensures c.in_ok-scans.ensures

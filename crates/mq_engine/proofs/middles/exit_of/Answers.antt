@@ -2,28 +2,28 @@ use Rattle.mq_engine.proofs.Scanning.{forkjoin-leaves, forkjoin-sound, server-le
 use Rattle.mq_engine.proofs.middles.exit_of.Goals as goal
 
 pub server_departures-requires-clause-load : goal.server_departures-requires-clause-load
-server_departures-requires-clause-load g c κs inside = server-sound _ _ _ _ _ c.in-OfServer.demands c.requires.loaded c.in-OfServer.is
+server_departures-requires-clause-load g c κs inside = server-sound _ _ _ _ _ c.in-OfServer.demands c.requires.scanned c.in-OfServer.is
 
 pub tandem_joined-requires-clause-load : goal.tandem_joined-requires-clause-load
-tandem_joined-requires-clause-load g c = (tandem-sound _ _ _ _ _ c.in-OfTandem.scan c.requires.loaded c.in-OfTandem.is).0
+tandem_joined-requires-clause-load g c = (tandem-sound _ _ _ _ _ c.in-OfTandem.scan c.requires.scanned c.in-OfTandem.is).0
 
 pub forkjoin_departures-requires-clause-load : goal.forkjoin_departures-requires-clause-load
-forkjoin_departures-requires-clause-load g c κs inside = (forkjoin-sound _ _ _ _ _ c.in-OfForkJoin.scan c.requires.loaded c.in-OfForkJoin.is).0
+forkjoin_departures-requires-clause-load g c κs inside = (forkjoin-sound _ _ _ _ _ c.in-OfForkJoin.scan c.requires.scanned c.in-OfForkJoin.is).0
 
 pub forkjoin_departures-requires-clause-all : goal.forkjoin_departures-requires-clause-all
-forkjoin_departures-requires-clause-all g c κs inside = (forkjoin-sound _ _ _ _ _ c.in-OfForkJoin.scan c.requires.loaded c.in-OfForkJoin.is).1
+forkjoin_departures-requires-clause-all g c κs inside = (forkjoin-sound _ _ _ _ _ c.in-OfForkJoin.scan c.requires.scanned c.in-OfForkJoin.is).1
 
 pub returns-in_ok-departs-in-OfServer : goal.returns-in_ok-departs-in-OfServer
 returns-in_ok-departs-in-OfServer g c =
     let load = c.args.load.now in
-    server-leaves load.plan.now load.rows.now load.number load.arrivals load.scan c.in-OfServer.demands c.in_ok-departs-in-OfServer.departs c.requires.loaded c.in-OfServer.is c.in_ok-departs-in-OfServer.ensures
+    server-leaves load.plan.now load.rows.now load.number load.arrivals c.args.scan.now c.in-OfServer.demands c.in_ok-departs-in-OfServer.departs c.requires.scanned c.in-OfServer.is c.in_ok-departs-in-OfServer.ensures
 
 pub returns-in_ok-departs-in-OfTandem : goal.returns-in_ok-departs-in-OfTandem
 returns-in_ok-departs-in-OfTandem g c =
     let load = c.args.load.now in
-    tandem-leaves load.plan.now load.rows.now load.number load.arrivals load.scan c.in-OfTandem.scan c.in_ok-departs-in-OfTandem.departs c.requires.loaded c.in-OfTandem.is c.in_ok-departs-in-OfTandem.ensures
+    tandem-leaves load.plan.now load.rows.now load.number load.arrivals c.args.scan.now c.in-OfTandem.scan c.in_ok-departs-in-OfTandem.departs c.requires.scanned c.in-OfTandem.is c.in_ok-departs-in-OfTandem.ensures
 
 pub returns-in_ok-departs-in-OfForkJoin : goal.returns-in_ok-departs-in-OfForkJoin
 returns-in_ok-departs-in-OfForkJoin g c =
     let load = c.args.load.now in
-    forkjoin-leaves load.plan.now load.rows.now load.number load.arrivals load.scan c.in-OfForkJoin.scan c.in_ok-departs-in-OfForkJoin.departs c.requires.loaded c.in-OfForkJoin.is c.in_ok-departs-in-OfForkJoin.ensures
+    forkjoin-leaves load.plan.now load.rows.now load.number load.arrivals c.args.scan.now c.in-OfForkJoin.scan c.in_ok-departs-in-OfForkJoin.departs c.requires.scanned c.in-OfForkJoin.is c.in_ok-departs-in-OfForkJoin.ensures

@@ -1,6 +1,6 @@
 use Rattle.std.proofs.Common.{◌≡◌, ◌*◌, ◌≤◌, length, take}
 use Rattle.std.specs.List.{flat_map}
-use Rattle.mq_engine.specs.Working.{pairs_read}
+use Rattle.mq_arrivals.specs.Arrivals.{pairs_read}
 use Rattle.mq_engine.proofs.wave.coming_by_ports.Given as goal
 
 -- what comes by the ports so far

@@ -1,4 +1,4 @@
-use Rattle.std.proofs.Common.{refl, ap, ◌∙◌, arith}
+use Rattle.std.proofs.Common.{ap, ◌∙◌, arith}
 use Rattle.mq_engine.specs.declared.wave.Wave.{Wave}
 use Rattle.mq_engine.proofs.Telling.{sorted-apart, sorted-crowded, sorted-station}
 use Rattle.mq_engine.proofs.wave.sorted_out.Goals as goal

@@ -1,11 +1,12 @@
-use Rattle.std.proofs.Common.{sym, subst}
+use Rattle.std.proofs.Common.{length, ap, sym, subst, arith}
 use Rattle.std.specs.Prelude.{Contains}
 use Rattle.std.specs.List.{AllByRecursion as Each}
 use Rattle.std.proofs.lemmas.Result.{IfOk-weaker}
 use Rattle.mq_base.proofs.lemmas.Each.{Each-append}
-use Rattle.mq_engine.specs.Loads.{IsResultOf}
+use Rattle.mq_exits.specs.Results.{IsResultOf}
 use Rattle.mq_engine.specs.Waves.{IsApartOf, IsStationOf}
-use Rattle.mq_engine.proofs.Telling.{each-contained, results-among}
+use Rattle.mq_engine.specs.Progress.{CanWorkAll}
+use Rattle.mq_engine.proofs.Telling.{can-all, each-contained, results-among, serves}
 use Rattle.mq_engine.proofs.wave.wave_of.Goals as goal
 
 pub returns-clause-known : goal.returns-clause-known
@@ -19,3 +20,17 @@ returns-clause-known g c =
     (λ v h. (each-contained (IsStationOf s) c.in_ok-crowded.field-0.stations.items sorted.stations v (subst (λ l. Contains l v) c.deref-2.ensures.value h)).0) c.in_ok-served.ensures.known in
     let first = subst (Each is) (sym c.in_ok-with_more.ensures) (Each-append is c.in_ok-crowded.field-0.crowded c.in_ok-gathered.gathered sorted.crowded gathered) in
     IfOk-weaker c.with_more-2.result _ _ (λ all e. subst (Each is) (sym e) (Each-append is c.in_ok-with_more.field-0 c.in_ok-served.served first served)) c.with_more-2.ensures
+
+pub results_of-requires-clause-can : goal.results_of-requires-clause-can
+results_of-requires-clause-can g c κs inside =
+    let s = c.args.arriving.now in
+    subst (CanWorkAll s.plan.now s.rows.now s.outputs.now) (sym c.deref-2.ensures.value) (can-all s c.in_ok-crowded.field-0.stations.items c.in_ok-crowded.ensures.sorted.stations)
+
+pub results_of-requires-clause-arriving : goal.results_of-requires-clause-arriving
+results_of-requires-clause-arriving g c κs inside =
+    let s = c.args.arriving.now in
+    let same = ap length c.deref-2.ensures.value in
+    let len = c.in_ok-crowded.ensures.len in
+    let few = c.requires.few in
+    serves (record { plan = s.plan; rows = s.rows; outputs = s.outputs; ready = c.deref-2.result; workers = s.workers; block = s.block }) c.requires.wave.read c.requires.wave.early
+    (subst (CanWorkAll s.plan.now s.rows.now s.outputs.now) (sym c.deref-2.ensures.value) (can-all s c.in_ok-crowded.field-0.stations.items c.in_ok-crowded.ensures.sorted.stations)) (omega arith) c.requires.some c.requires.most c.requires.wave.block

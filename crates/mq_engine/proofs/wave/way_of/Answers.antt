@@ -1,5 +1,4 @@
-use Rattle.std.proofs.Common.{◌≡◌, ◌≤◌, ◌<◌, length, true, false, sym, ◌∙◌, arith}
-use Rattle.mq_core.specs.StandardTable.{run_of}
+use Rattle.std.proofs.Common.{◌≡◌, true, false, sym, ◌∙◌, arith}
 use Rattle.mq_core.specs.Wiring.{is_source_kind}
 use Rattle.mq_engine.proofs.Telling.{all-at, can-gather, can-serve, ports-many, source-few, source-once}
 use Rattle.mq_engine.proofs.wave.way_of.Goals as goal

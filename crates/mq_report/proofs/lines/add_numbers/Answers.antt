@@ -10,5 +10,10 @@ returns-in_err-add_losses g c = adds_both c.in_ok-add_counts.ensures (adds_front
 pub returns-in_err-add_waits : goal.returns-in_err-add_waits
 returns-in_err-add_waits g c = adds_both c.in_ok-add_counts.ensures (adds_both c.in_ok-add_losses.ensures (adds_front _ c.from_residual-in_err-add_waits.ensures.0 _ c.in_err-add_waits.ensures))
 
+pub returns-in_err-add_tail : goal.returns-in_err-add_tail
+returns-in_err-add_tail g c =
+    adds_both c.in_ok-add_counts.ensures (adds_both c.in_ok-add_losses.ensures (adds_both c.in_ok-add_waits.ensures (adds_front _ c.from_residual-in_err-add_tail.ensures.0 _ c.in_err-add_tail.ensures)))
+
 pub returns : goal.returns
-returns g c = adds_both c.in_ok-add_counts.ensures (adds_both c.in_ok-add_losses.ensures (adds_both c.in_ok-add_waits.ensures c.add_tallies.ensures))
+returns g c =
+    adds_both c.in_ok-add_counts.ensures (adds_both c.in_ok-add_losses.ensures (adds_both c.in_ok-add_waits.ensures (adds_both c.in_ok-add_tail.ensures c.add_tallies.ensures)))

@@ -8,8 +8,8 @@ get-declared-requires g c = (c.orders_rank.ensures c.args.plan.now _ _ c.get-nod
 
 pub loop-rank-preserved : goal.loop-rank-preserved
 loop-rank-preserved g c =
-    gathers_added _ (nodes-next c.args.plan.now.net c.args.rows.now (run_of c.args.plan.now c.args.rows.now) c.args.plan.now.order c.loop-rank.rank c.get-node.result.now c.get-declared.result.now c.get-node.ensures c.get-declared.ensures) c.loop-rank.invariant c.in_ok-add_node_at.ensures
+    gathers_added _ (nodes-next c.args.form c.args.plan.now.net c.args.rows.now (run_of c.args.plan.now c.args.rows.now) c.args.plan.now.order c.loop-rank.rank c.get-node.result.now c.get-declared.result.now c.get-node.ensures c.get-declared.ensures) c.loop-rank.invariant c.in_ok-add_node_at.ensures
 
 pub returns-in_err-add_node_at : goal.returns-in_err-add_node_at
 returns-in_err-add_node_at g c =
-    gathers_refused _ c.from_residual.ensures.0 _ (nodes-next c.args.plan.now.net c.args.rows.now (run_of c.args.plan.now c.args.rows.now) c.args.plan.now.order c.loop-rank.rank c.get-node.result.now c.get-declared.result.now c.get-node.ensures c.get-declared.ensures) c.loop-rank.invariant c.in_err-add_node_at.ensures
+    gathers_refused _ c.from_residual.ensures.0 _ (nodes-next c.args.form c.args.plan.now.net c.args.rows.now (run_of c.args.plan.now c.args.rows.now) c.args.plan.now.order c.loop-rank.rank c.get-node.result.now c.get-declared.result.now c.get-node.ensures c.get-declared.ensures) c.loop-rank.invariant c.in_err-add_node_at.ensures

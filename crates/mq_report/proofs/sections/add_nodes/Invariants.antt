@@ -7,4 +7,4 @@ use Rattle.mq_report.proofs.sections.add_nodes.Given as goal
 abbrev pub invariant-loop-rank : goal.invariant-loop-rank
 invariant-loop-rank g l =
     Gathers (g.O.Sink.taken l.initial.out) (g.O.Sink.taken l.out) (g.O.Sink.sure l.initial.out) (g.O.Sink.sure l.out)
-    (g.O.Sink.faults l.initial.out) (g.O.Sink.faults l.out) (l.initial.pending ++ nodes_text l.plan.net l.rows (run_of l.plan l.rows) l.plan.order) l.pending (nodes_text l.plan.net l.rows (run_of l.plan l.rows) (drop l.rank l.plan.order))
+    (g.O.Sink.faults l.initial.out) (g.O.Sink.faults l.out) (l.initial.pending ++ nodes_text l.form l.plan.net l.rows (run_of l.plan l.rows) l.plan.order) l.pending (nodes_text l.form l.plan.net l.rows (run_of l.plan l.rows) (drop l.rank l.plan.order))

@@ -1,4 +1,4 @@
-use Rattle.std.proofs.Common.{◌∙◌, sym, ap, subst}
+use Rattle.std.proofs.Common.{◌∙◌, sym, subst}
 use Rattle.mq_core.specs.Sequences.{sequence_totals}
 use Rattle.mq_stats.specs.Numbers.{AreVisits}
 use Rattle.mq_report.proofs.Runs.{visits_are, visits_inside}

@@ -1,7 +1,7 @@
 use Rattle.std.proofs.Common.{◌≤◌, ◌++◌, ap, ◌∙◌, sym, length, arith}
 use Rattle.std.specs.List.{flat_map}
 use Rattle.mq_base.proofs.lemmas.Lists.{take-all}
-use Rattle.mq_stations.proofs.lemmas.Lists.{flat_map-more}
+use Rattle.mq_base.proofs.lemmas.FlatMaps.{flat_map-more}
 use Rattle.mq_stations.proofs.forkjoin.branch_demands.Goals as goal
 
 pub loop-at-preserved : goal.loop-at-preserved

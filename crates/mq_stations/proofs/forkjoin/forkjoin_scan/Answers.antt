@@ -1,5 +1,5 @@
 use Rattle.std.proofs.Common.{arith}
-use Rattle.mq_stations.proofs.lemmas.Blocks.{blocks-most}
+use Rattle.mq_scan.proofs.lemmas.Blocks.{blocks-most}
 use Rattle.mq_stations.proofs.lemmas.StageFacts.{asked-by_branch}
 use Rattle.mq_stations.proofs.forkjoin.forkjoin_scan.Goals as goal
 

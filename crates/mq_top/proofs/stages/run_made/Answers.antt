@@ -16,9 +16,9 @@ run_accepted-requires g c =
 pub returns-clause-ends : goal.returns-clause-ends
 returns-clause-ends g c =
     subst (λ a. Ends a c.run_accepted.result (takings g.O.Sink.taken g.O.Sink.sure c.args.out.now c.run_accepted.new.out))
-    (ap₂ (λ (m : List ℕ) (t : List ℕ). answer m t c.args.jobs) (c.as_slice.ensures ∙ c.in-Ok.ensures.model) (c.as_slice-2.ensures ∙ c.in-Ok.ensures.trace)) c.run_accepted.ensures.ends
+    (ap₂ (λ (m : List ℕ) (t : List ℕ). answer m t c.args.wanted) (c.as_slice.ensures ∙ c.in-Ok.ensures.model) (c.as_slice-2.ensures ∙ c.in-Ok.ensures.trace)) c.run_accepted.ensures.ends
 
 pub returns-clause-sure : goal.returns-clause-sure
 returns-clause-sure g c text is room =
     c.run_accepted.ensures.sure text
-    (ap₂ (λ (m : List ℕ) (t : List ℕ). answer m t c.args.jobs) (c.as_slice.ensures ∙ c.in-Ok.ensures.model) (c.as_slice-2.ensures ∙ c.in-Ok.ensures.trace) ∙ is) room
+    (ap₂ (λ (m : List ℕ) (t : List ℕ). answer m t c.args.wanted) (c.as_slice.ensures ∙ c.in-Ok.ensures.model) (c.as_slice-2.ensures ∙ c.in-Ok.ensures.trace) ∙ is) room

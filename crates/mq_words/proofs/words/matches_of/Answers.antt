@@ -21,16 +21,18 @@ command_is c =
     let workers_is : rule_of c.long.result ≡ option_rule (codes "workers") = ap rule_of c.long.ensures ∙ ap (λ (r : Rule). record r { long = Some (codes "workers") }) c.new-4.ensures.rule in
     let block_is : rule_of c.long-2.result ≡ option_rule (codes "block") = ap rule_of c.long-2.ensures ∙ ap (λ (r : Rule). record r { long = Some (codes "block") }) c.new-5.ensures.rule in
     let made_is : rule_of c.long-3.result ≡ option_rule (codes "made") = ap rule_of c.long-3.ensures ∙ ap (λ (r : Rule). record r { long = Some (codes "made") }) c.new-6.ensures.rule in
+    let report_is : rule_of c.long-4.result ≡ option_rule (codes "report") = ap rule_of c.long-4.ensures ∙ ap (λ (r : Rule). record r { long = Some (codes "report") }) c.new-7.ensures.rule in
     let jobs_is : rule_of c.action.result ≡ jobs_rule = search rules in
     let bare : app_of c.disable_help_flag.result ≡ bare_app =
     ap app_of_fields c.disable_help_flag.ensures
     ∙ (ap (λ f. app_of_fields (record f { disable_help_flag = true })) c.no_binary_name.ensures ∙ ap set c.new.ensures.app) in
     c.in_ok-command.ensures.shape (search rules)
+    ∙ ap₂ with_rule (c.in_ok-arg-6.ensures.shape (ap (λ (a : Arg). a.global) c.long-4.ensures ∙ c.new-7.ensures.optional.1)
     ∙ ap₂ with_rule (c.in_ok-arg-5.ensures.shape (ap (λ (a : Arg). a.global) c.long-3.ensures ∙ c.new-6.ensures.optional.1)
     ∙ ap₂ with_rule (c.in_ok-arg-4.ensures.shape (ap (λ (a : Arg). a.global) c.long-2.ensures ∙ c.new-5.ensures.optional.1)
     ∙ ap₂ with_rule (c.in_ok-arg-3.ensures.shape (ap (λ (a : Arg). a.global) c.long.ensures ∙ c.new-4.ensures.optional.1)
     ∙ ap₂ with_rule (c.in_ok-arg-2.ensures.shape c.new-3.ensures.optional.1
-    ∙ ap₂ with_rule (c.in_ok-arg.ensures.shape c.new-2.ensures.optional.1 ∙ ap₂ with_rule bare model_is) trace_is) workers_is) block_is) made_is) jobs_is
+    ∙ ap₂ with_rule (c.in_ok-arg.ensures.shape c.new-2.ensures.optional.1 ∙ ap₂ with_rule bare model_is) trace_is) workers_is) block_is) made_is) report_is) jobs_is
 
 pub returns-clause-found : goal.returns-clause-found
 returns-clause-found c pass =

@@ -2,8 +2,8 @@ use Rattle.std.proofs.Common.{rules, ap, sym, ◌≡◌, ◌∙◌, Some, None, 
 use Rattle.std.specs.Prelude.{if◌then◌else◌}
 use Rattle.clap.specs.Matches.{found_of}
 use Rattle.mq_words.specs.Matched.{Finds, HasForm}
-use Rattle.mq_words.specs.Words.{AsksFor, block_asked, jobs_asked, number_asked, refuses_words, workers_asked}
-use Rattle.mq_words.proofs.Faults.{accepted, asks_for, names_are, no_block, no_made, no_workers}
+use Rattle.mq_words.specs.Words.{AsksFor, block_asked, form_asked, jobs_asked, number_asked, refuses_words, workers_asked}
+use Rattle.mq_words.proofs.Faults.{accepted, asks_for, names_are, no_block, no_made, no_report, no_workers}
 use Rattle.mq_words.proofs.words.settings_of.Goals as goal
 
 pub returns-in_default-number_of-clause-refused : goal.returns-in_default-number_of-clause-refused
@@ -41,6 +41,21 @@ returns-in_default-input_of-clause-refused c =
     let none : c.input_of.result ≡ None = search rules in
     no_made words _ _ c.in-Some.form pass (workers ∙ some_workers) (block ∙ some_block) form (sym c.input_of.ensures ∙ none)
 
+pub returns-in_default-number_of-3-clause-refused : goal.returns-in_default-number_of-3-clause-refused
+returns-in_default-number_of-3-clause-refused c =
+    let words : List (List ℕ) = map (λ w. w.now) c.args.words.now in
+    let pass : refuses_words words ≡ false = search rules in
+    let finds : Finds words (found_of c.in-Ok.matches) = c.in-Ok.ensures.found pass in
+    let form : HasForm words c.in-Some.form = c.in-Some.ensures.some words pass finds in
+    let workers : workers_asked words ≡ c.number_of.result = ap (number_asked 4 1 64) (sym finds.workers ∙ sym c.get_str.ensures) ∙ sym c.number_of.ensures in
+    let some_workers : c.number_of.result ≡ Some c.in-Some-number_of.workers = search rules in
+    let block : block_asked words ≡ c.number_of-2.result = ap (number_asked 4096 1 65536) (sym finds.block ∙ sym c.get_str-2.ensures) ∙ sym c.number_of-2.ensures in
+    let some_block : c.number_of-2.result ≡ Some c.in-Some-number_of-2.block = search rules in
+    let some_input : c.input_of.result ≡ Some c.in-Some-input_of.input = search rules in
+    let report : form_asked words ≡ c.number_of-3.result = ap (number_asked 2 1 2) (sym finds.report ∙ sym c.get_str-3.ensures) ∙ sym c.number_of-3.ensures in
+    let none : c.number_of-3.result ≡ None = search rules in
+    no_report words _ _ c.in-Some.form _ pass (workers ∙ some_workers) (block ∙ some_block) form (sym c.input_of.ensures ∙ some_input) (report ∙ none)
+
 pub returns-clause-asked : goal.returns-clause-asked
 returns-clause-asked c =
     let words : List (List ℕ) = map (λ w. w.now) c.args.words.now in
@@ -52,12 +67,15 @@ returns-clause-asked c =
     let block : block_asked words ≡ c.number_of-2.result = ap (number_asked 4096 1 65536) (sym finds.block ∙ sym c.get_str-2.ensures) ∙ sym c.number_of-2.ensures in
     let some_block : c.number_of-2.result ≡ Some c.in-Some-number_of-2.block = search rules in
     let some_input : c.input_of.result ≡ Some c.in-Some-input_of.input = search rules in
-    let input : AsksFor words c.in-Some-input_of.input = asks_for words _ _ c.in-Some.form _ pass (workers ∙ some_workers) (block ∙ some_block) form (sym c.input_of.ensures ∙ some_input) in
+    let report : form_asked words ≡ c.number_of-3.result = ap (number_asked 2 1 2) (sym finds.report ∙ sym c.get_str-3.ensures) ∙ sym c.number_of-3.ensures in
+    let some_report : c.number_of-3.result ≡ Some c.in-Some-number_of-3.report = search rules in
+    let input : AsksFor words c.in-Some-input_of.input = asks_for words _ _ _ c.in-Some.form _ pass (workers ∙ some_workers) (block ∙ some_block) (report ∙ some_report) form (sym c.input_of.ensures ∙ some_input) in
     record {
       accepted = accepted words _ input;
       input = input;
       workers = workers ∙ some_workers;
       block = block ∙ some_block;
+      form = report ∙ some_report;
       jobs = flag_is (jobs_asked words) c.get_flag-jobs.result (λ t. c.get_flag-jobs.ensures.value (finds.jobs ∙ t)) (λ t. c.get_flag-jobs.ensures.other (finds.jobs ∙ t));
     }
   where

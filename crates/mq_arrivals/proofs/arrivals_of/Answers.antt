@@ -1,0 +1,20 @@
+use Rattle.std.proofs.Common.{◌<◌, ◌^◌, List, subst, sym, arith}
+use Rattle.std.specs.List.{AllByRecursion}
+use Rattle.mq_base.proofs.lemmas.Each.{Each-weaker}
+use Rattle.mq_crew.specs.Crew.{total_size}
+use Rattle.mq_arrivals.specs.Merges.{IsComing, IsReadyOrigin}
+use Rattle.mq_arrivals.specs.declared.merges.Coming.{Coming}
+use Rattle.mq_arrivals.proofs.Comings.{coming_size, comings-few}
+use Rattle.mq_arrivals.proofs.arrivals_of.Goals as goal
+
+pub run_parts-requires-clause-fit : goal.run_parts-requires-clause-fit
+run_parts-requires-clause-fit g c κs inside =
+    let s = c.args.arriving.now in
+    subst (AllByRecursion (λ (z : Coming). IsReadyOrigin z.origin)) (sym c.as_slice.ensures) (Each-weaker (IsComing s 8) _ (λ z h. h.origin) c.in_ok-comings.comings c.in_ok-comings.ensures.each)
+
+pub run_parts-requires-clause-few : goal.run_parts-requires-clause-few
+run_parts-requires-clause-few g c κs inside =
+    let s = c.args.arriving.now in
+    let len = c.in_ok-comings.ensures.len in
+    let few = c.requires.nodes in
+    subst (λ (l : List Coming). total_size coming_size l < 2 ^ 32) (sym c.as_slice.ensures) (comings-few s 8 c.in_ok-comings.comings (omega arith) c.in_ok-comings.ensures.each)

@@ -1,0 +1,287 @@
+// What comes to the nodes that are ready, in order of time: the rows of a source, or the streams that the
+// ports of another node read, merged two at a time, port after port, for all nodes side by side.
+ghost use Rattle.std.specs.Prelude.{◌≡◌, ◌+◌, ◌++◌, ◌<◌, ◌≤◌, Contains, [], length, IfOk, slice_index_or};
+ghost use Rattle.std.specs.List.{AllByRecursion};
+ghost use Rattle.mq_core.specs.Streams.{pairs_of};
+ghost use Rattle.mq_core.specs.Wiring.{is_source_kind};
+ghost use Rattle.mq_core.specs.declared.model.Stream.{Stream as TheStream};
+ghost use Rattle.mq_crew.specs.Crew.{AreAll, AreGroups};
+ghost use Rattle.mq_arrivals.specs.Arrivals.{IsArriving, Pairs};
+ghost use Rattle.mq_arrivals.specs.Merges.{ArePairsOf, HasCome, IsAllOf, IsBlockOf, IsComing, IsEnded, IsPair, IsReadyOrigin, IsSortedPiece, has_port, pairs_from, pieces_of};
+
+use crate::nodes::Arriving;
+use crate::rows::{rows_by_time, stream_of};
+use mq_base::{List, OutOfMemory};
+use mq_core::{Kind, Node, Rows, Stream};
+use mq_crew::{Gate, Pieces, run_parts};
+use mq_merge::merge_piece;
+use mq_scan::{Blocks, block_size, cut};
+use std::alloc::Global;
+use std::thread::Threads;
+
+/// What comes to a node by its first ports.
+#[derive(Drop)]
+pub struct Coming<'a> {
+    /// The node, by order of declaration.
+    pub number: u32,
+    pub origin: Origin<'a>,
+}
+
+/// From where it comes, before it is put in order.
+#[derive(Drop)]
+pub enum Origin<'a> {
+    /// The rows, some of which are those of the source.
+    Unsorted(&'a Rows),
+    /// What two ports read, and how it is cut.
+    Ports(&'a Stream, &'a Stream, Blocks),
+    /// What the ports before read, merged, what the next port reads, and how both are cut.
+    Further(Stream, &'a Stream, Blocks),
+    /// What all ports read, merged.
+    Ended(Stream),
+}
+
+impl<'a> Pieces for Coming<'a> {
+    type Piece = Stream;
+
+    ghost fit = { λ s. IsReadyOrigin s.origin };
+
+    ghost size = { λ s. pieces_of s.origin };
+
+    ghost is_piece = { λ s b stream. IsSortedPiece s.number s.origin b stream };
+
+    fn count(&self) -> u32 {
+        match &self.origin {
+            Origin::Unsorted(_) => 1,
+            Origin::Ports(_, _, blocks) => blocks.blocks,
+            Origin::Further(_, _, blocks) => blocks.blocks,
+            Origin::Ended(_) => 0,
+        }
+    }
+
+    fn piece(&self, alloc: Global, b: u32) -> Result<Stream, OutOfMemory> {
+        match &self.origin {
+            Origin::Unsorted(rows) => rows_by_time(alloc, self.number, &rows.source, &rows.time),
+            Origin::Ports(first, second, blocks) => merged_block(alloc, first, second, blocks, b),
+            Origin::Further(first, second, blocks) => merged_block(alloc, first, second, blocks, b),
+            Origin::Ended(_) => unreachable!(),
+        }
+    }
+}
+
+// A block of two streams merged.
+fn merged_block(
+    alloc: Global,
+    first: &Stream,
+    second: &Stream,
+    blocks: &Blocks,
+    b: u32,
+) -> Result<Stream, OutOfMemory>
+    requires pair { IsPair first.now second.now blocks.now }
+    requires inside { b < blocks.now.blocks }
+    ensures { IfOk result (λ merged. IsBlockOf (pairs_of first.now ++ pairs_of second.now) blocks.now b merged) }
+{
+    let (from, to) = blocks.range(b);
+    merge_piece(alloc, first, second, from, to)
+}
+
+// How two streams are cut: for one worker, and where one of them is empty, they are one block.
+fn blocks_of(arriving: &Arriving, first: &Stream, second: &Stream) -> Blocks
+    requires few { length first.now.time + length second.now.time ≤ 1048576 }
+    requires some { 1 ≤ arriving.now.block }
+    ensures { result.n ≡ length first.now.time + length second.now.time }
+{
+    let size = (first.time.len() + second.time.len()) as u32;
+    if arriving.workers == 1 || first.time.is_empty() || second.time.is_empty() {
+        return cut(size, size.max(1));
+    }
+    cut(size, block_size(size, arriving.block))
+}
+
+/// Whether a node of this kind is a source.
+pub fn is_source(kind: &Kind) -> bool
+    ensures { result ≡ is_source_kind kind.now }
+{
+    match kind {
+        Kind::Source => true,
+        _ => false,
+    }
+}
+
+// Whether a node has a port with this number.
+fn reads(node: &Node, port: usize) -> bool
+    ensures { result ≡ has_port node.now port }
+{
+    !is_source(&node.kind) && port < node.inputs.len()
+}
+
+// What comes to a node by its first two ports, or to a source.
+fn opening<'a>(alloc: Global, arriving: &Arriving<'a>, number: u32) -> Coming<'a>
+    requires arriving { IsArriving arriving.now }
+    requires ready { Contains arriving.now.ready.now number }
+    ensures { IsComing arriving.now 2 result }
+{
+    let node = arriving.plan.net.nodes.get(number as usize);
+    if is_source(&node.kind) {
+        let origin = Origin::Unsorted(arriving.rows);
+        return Coming { number, origin };
+    }
+    if !reads(node, 1) {
+        return further(arriving, number, nothing(alloc), 0);
+    }
+    let first = stream_of(arriving.outputs, node.inputs.get(0));
+    let second = stream_of(arriving.outputs, node.inputs.get(1));
+    let blocks = blocks_of(arriving, first, second);
+    let origin = Origin::Ports(first, second, blocks);
+    Coming { number, origin }
+}
+
+// A stream without items.
+fn nothing(alloc: Global) -> Stream
+    ensures job { result.job ≡ [] }
+    ensures time { result.time ≡ [] }
+{
+    Stream {
+        job: List::new(alloc),
+        time: List::new(alloc),
+    }
+}
+
+// The same for all nodes that are ready.
+fn openings<'a>(alloc: Global, arriving: &Arriving<'a>) -> Result<List<Coming<'a>>, OutOfMemory>
+    requires arriving { IsArriving arriving.now }
+    ensures len { IfOk result (λ all. length all ≡ length arriving.now.ready.now) }
+    ensures each { IfOk result (λ all. AllByRecursion (IsComing arriving.now 2) all) }
+{
+    let mut all = List::new(alloc);
+    for at in 0..arriving.ready.len() {
+        all.push(opening(alloc, arriving, arriving.ready[at]))?;
+    }
+    Ok(all)
+}
+
+// What came to a node by these ports, of the pieces in their order.
+pub fn merged_of(alloc: Global, coming: Coming, group: List<Stream>) -> Result<Stream, OutOfMemory>
+    requires ready { IsReadyOrigin coming.origin }
+    requires group { AreAll (IsSortedPiece coming.number coming.origin) (pieces_of coming.origin) group }
+    ensures { IfOk result (λ stream. ArePairsOf (pairs_from coming.entry.number coming.entry.origin) stream) }
+{
+    match &coming.origin {
+        Origin::Unsorted(_) => return Ok(alone(group)),
+        Origin::Ports(_, _, blocks) => return joined(alloc, blocks, group),
+        Origin::Further(_, _, blocks) => return joined(alloc, blocks, group),
+        Origin::Ended(_) => {}
+    }
+    Ok(the_all(coming.origin))
+}
+
+// The stream to which nothing more comes.
+fn the_all(origin: Origin) -> Stream
+    requires { IsEnded origin }
+    ensures { IsAllOf result origin.entry }
+{
+    match origin {
+        Origin::Unsorted(_rows) => unreachable!(),
+        Origin::Ports(_first, _second, _blocks) => unreachable!(),
+        Origin::Further(_before, _next, _blocks) => unreachable!(),
+        Origin::Ended(stream) => stream,
+    }
+}
+
+// The one piece of a group.
+fn alone(group: List<Stream>) -> Stream
+    requires one { length group ≡ 1 }
+    ensures { (d : TheStream) → slice_index_or group 0 d ≡ result }
+{
+    let mut group = group.into_vec();
+    match group.pop() {
+        Some(piece) => piece,
+        None => unreachable!(),
+    }
+}
+
+// Blocks, one behind the other; a single one is taken as it is.
+fn joined(alloc: Global, blocks: &Blocks, group: List<Stream>) -> Result<Stream, OutOfMemory>
+    requires len { length group ≡ blocks.now.blocks }
+    ensures { IfOk result (λ stream. (pairs : Pairs) → blocks.now.n ≡ length pairs → AreAll (IsBlockOf pairs blocks.now) blocks.now.blocks group → ArePairsOf pairs stream) }
+{
+    if group.len() == 1 {
+        return Ok(alone(group));
+    }
+    let mut job = Vec::with_capacity(alloc, blocks.n as usize)?;
+    let mut time = Vec::with_capacity(alloc, blocks.n as usize)?;
+    for b in 0..group.len() {
+        let block = group.get(b);
+        job.extend_from_slice(block.job.as_slice())?;
+        time.extend_from_slice(block.time.as_slice())?;
+    }
+    Ok(Stream {
+        job: List::from_vec(job),
+        time: List::from_vec(time),
+    })
+}
+
+// What comes to a node by one port more, where it has one, and what came before.
+fn further<'a>(arriving: &Arriving<'a>, number: u32, before: Stream, port: usize) -> Coming<'a>
+    requires arriving { IsArriving arriving.now }
+    requires before { HasCome arriving.now number port before }
+    ensures number { result.number ≡ number }
+    ensures coming { IsComing arriving.now (port + 1) result }
+{
+    let node = arriving.plan.net.nodes.get(number as usize);
+    if !reads(node, port) {
+        let origin = Origin::Ended(before);
+        return Coming { number, origin };
+    }
+    let next = stream_of(arriving.outputs, node.inputs.get(port));
+    let blocks = blocks_of(arriving, &before, next);
+    let origin = Origin::Further(before, next, blocks);
+    Coming { number, origin }
+}
+
+// The same for all nodes, of the pieces of what came before.
+fn all_further<'a>(
+    alloc: Global,
+    arriving: &Arriving<'a>,
+    comings: List<Coming<'a>>,
+    groups: List<List<Stream>>,
+    port: usize,
+) -> Result<List<Coming<'a>>, OutOfMemory>
+    requires arriving { IsArriving arriving.now }
+    requires comings { AllByRecursion (IsComing arriving.now port) comings }
+    requires groups { AreGroups (λ c. pieces_of c.origin) (λ c b stream. IsSortedPiece c.number c.origin b stream) comings groups }
+    ensures len { IfOk result (λ all. length all ≡ length comings.entry) }
+    ensures each { IfOk result (λ all. AllByRecursion (IsComing arriving.now (port + 1)) all) }
+{
+    let mut comings = comings.into_vec();
+    let mut groups = groups.into_vec();
+    let mut all = List::new(alloc);
+    while let Some(coming) = comings.pop() {
+        let Some(group) = groups.pop() else {
+            unreachable!()
+        };
+        let number = coming.number;
+        let before = merged_of(alloc, coming, group)?;
+        all.push(further(arriving, number, before, port))?;
+    }
+    Ok(all)
+}
+
+/// What comes to the nodes that are ready, before the last of at most 8 ports is merged: a list of pieces
+/// for each further port.
+pub fn comings_of<'a, R: Threads + Sync, G: Gate>(
+    rt: &R,
+    alloc: Global,
+    arriving: &Arriving<'a>,
+    gate: &G,
+) -> Result<List<Coming<'a>>, OutOfMemory>
+    requires { IsArriving arriving.now }
+    ensures len { IfOk result (λ all. length all ≡ length arriving.now.ready.now) }
+    ensures each { IfOk result (λ all. AllByRecursion (IsComing arriving.now 8) all) }
+{
+    let mut comings = openings(alloc, arriving)?;
+    for port in 2..8 {
+        let groups = run_parts(rt, alloc, arriving.workers, comings.as_slice(), gate)?;
+        comings = all_further(alloc, arriving, comings, groups, port)?;
+    }
+    Ok(comings)
+}

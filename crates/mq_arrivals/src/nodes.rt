@@ -1,0 +1,27 @@
+// The nodes that are ready, and what came to each.
+use mq_base::List;
+use mq_core::{Plan, Rows, Stream};
+
+/// The nodes that are ready, and the streams of those that are done.
+#[derive(Clone, Copy)]
+pub struct Arriving<'a> {
+    pub plan: &'a Plan,
+    pub rows: &'a Rows,
+    /// What left each node, by output: of one that isn't done there is none.
+    pub outputs: &'a [List<Stream>],
+    /// The nodes that are ready, at most 64, by order of declaration.
+    pub ready: &'a [u32],
+    /// How many workers there are: 1 to 64.
+    pub workers: u32,
+    /// How many items a block has at least: 1 at least.
+    pub block: u32,
+}
+
+/// What came to a node.
+#[derive(Drop)]
+pub struct Arrived {
+    /// The node, by order of declaration.
+    pub number: u32,
+    /// The jobs and when they came, in order of time.
+    pub arrivals: Stream,
+}

@@ -1,0 +1,120 @@
+-- What leaves a node, in emission order.
+use Rattle.std.proofs.Common.{◌≡◌, ℕ, zero, suc, ◌<◌, false, true, List, [], ◌∷◌, length, map, Option, Some, sym, refl, ap, ◌∙◌, subst, arith}
+use Rattle.std.specs.Prelude.{slice_get}
+use Rattle.std.specs.List.{zip}
+use Rattle.std.proofs.lemmas.List.{length-map}
+use Rattle.mq_base.proofs.lemmas.Zips.{zip-map}
+use Rattle.mq_core.specs.Came.{came_in}
+use Rattle.mq_core.specs.Laws.{in_order_of}
+use Rattle.mq_core.specs.Results.{Late, first_of}
+use Rattle.mq_core.specs.Fates.{keeps_visits}
+use Rattle.mq_core.specs.SequenceLaws.{FatesAreInTime, SequencesGoByFates, sends_once}
+use Rattle.mq_core.specs.Sequences.{IsStream, sequence_late_from, sequence_stream, stream_in_order, sequence_visits}
+use Rattle.mq_core.specs.OnceOut.{founds_of}
+use Rattle.mq_core.specs.Streams.{by_first, pairs_of, sorted}
+use Rattle.mq_core.specs.declared.model.Demand.{Demand}
+use Rattle.mq_core.specs.declared.model.Fate.{Fate}
+use Rattle.mq_core.specs.declared.model.Fate.TheVariants.{Departs}
+use Rattle.mq_core.specs.declared.model.Kind.{Kind}
+use Rattle.mq_core.specs.declared.model.Kind.TheVariants.{Source, Server, Delay, Loss, Tandem, ForkJoin, Split, Fork, Join}
+use Rattle.mq_core.specs.declared.model.Network.{Network}
+use Rattle.mq_core.specs.declared.model.Rows.{Rows}
+use Rattle.mq_core.specs.declared.model.Stream.{Stream}
+use Rattle.mq_core.proofs.lemmas.Orders.{firsts-order}
+use Rattle.mq_stats.specs.Ahead.{departure_order, departure_times}
+use Rattle.mq_stations.specs.Leaving.{AreDepartures, AreLeft, AreStreams, KeepsOrder, left_by}
+use Rattle.mq_stations.proofs.lemmas.Leaves.{departs-one}
+use Rattle.mq_exits.specs.Afters.{AreOnTime}
+use Rattle.mq_exits.specs.Results.{IsResult}
+use Rattle.mq_base.proofs.lemmas.Zips.{zip-first, zip-jobs, zip-times}
+
+-- where each visit leaves once, none stays for good
+pub once-leaves : (kind : Kind) → sends_once kind ≡ true → keeps_visits kind ≡ false
+once-leaves Source once = refl
+once-leaves (Server demand) once = refl
+once-leaves (Delay demand) once = refl
+once-leaves (Loss places demand) once = refl
+once-leaves (Tandem stages) once = refl
+once-leaves (ForkJoin branches) once = refl
+once-leaves (Split route) once = refl
+once-leaves (Fork outputs) once = refl
+once-leaves Join once = absurd cc
+
+-- where the jobs keep their order, what leaves by position is what the sequences say
+pub kept-streams : SequencesGoByFates → (rows : Rows) (kind : Kind) (arrivals : Stream) (streams : List Stream) → sends_once kind ≡ true → KeepsOrder kind → AreLeft rows kind arrivals streams → AreStreams rows kind arrivals streams
+kept-streams law rows kind arrivals streams once keeps left =
+    record {
+      count = left.count;
+      each = λ out l. left.each out l ∙ ap Some (sym ((law rows kind (came_in arrivals) once).stream out ∙ keeps (left_by rows kind arrivals out)));
+    }
+
+-- at all kinds but a delay they do
+pub keeps-order : (kind : Kind) → ((demand : Demand) → kind ≡ Delay demand → ⊥) → KeepsOrder kind
+keeps-order Source h stream = refl
+keeps-order (Server demand) h stream = refl
+keeps-order (Delay demand) h stream = absurd (h demand refl)
+keeps-order (Loss places demand) h stream = refl
+keeps-order (Tandem stages) h stream = refl
+keeps-order (ForkJoin branches) h stream = refl
+keeps-order (Split route) h stream = refl
+keeps-order (Fork outputs) h stream = refl
+keeps-order Join h stream = refl
+
+-- what has been seen of a node is what it gives
+pub seen-result : SequencesGoByFates → (net : Network) (rows : Rows) (v : ℕ) (kind : Kind) (arrivals : Stream) (fates : List Fate) (found : List ℕ) (streams : List Stream) → sends_once kind ≡ true → AreOnTime net rows v kind arrivals fates streams → found ≡ founds_of arrivals.time fates →
+    IsResult rows kind arrivals (record { job = arrivals.job; arrive = arrivals.time; found = found; fate = fates }) streams
+seen-result law net rows v kind arrivals fates found streams once seen f =
+    record {
+      sequences =
+          let founds : found ≡ (sequence_visits rows kind (came_in arrivals)).found = f ∙ (ap (founds_of arrivals.time) seen.fates_are ∙ sym (law rows kind (came_in arrivals) once).founds) in
+          λ k. record { job = arrivals.job; arrive = arrivals.time; found = founds k; fate = seen.fates_are k };
+      outflow = seen.streams_are;
+    }
+
+-- A delay. A stream of the same items, by time.
+is-sorted : (left leaving : Stream) → IsStream leaving → pairs_of leaving ≡ by_first (pairs_of left) → leaving ≡ sorted left
+is-sorted left leaving s e =
+    let pairs = by_first (pairs_of left) in
+    let even : length (map (λ (p : ℕ × ℕ). p.1) pairs) ≡ length (map (λ (p : ℕ × ℕ). p.0) pairs) = length-map pairs _ ∙ sym (length-map pairs _) in
+    let same = e ∙ sym (zip-map pairs) in
+    let jobs = zip-jobs leaving.time leaving.job _ _ s.even even same in
+    let times = zip-times leaving.time leaving.job _ _ s.even even same in
+    λ k. record { job = jobs k; time = times k }
+
+-- the jobs by departure are what leaves
+pub sorted-streams : SequencesGoByFates → FatesAreInTime → (rows : Rows) (kind : Kind) (arrivals : Stream) (departs : List ℕ) (leaving : Stream) → length arrivals.job ≡ length arrivals.time → AreDepartures rows kind arrivals departs → ((stream : Stream) → stream_in_order kind stream ≡ sorted stream) →
+    IsStream leaving → pairs_of leaving ≡ by_first (zip departs arrivals.job) → AreStreams rows kind arrivals (leaving ∷ [])
+sorted-streams fated law rows kind arrivals departs leaving even d order s e =
+    record {
+      count = sym d.one;
+      each = λ out l. only out (subst (λ n. out < n) d.one l);
+    }
+  where
+    left : Stream
+    left = record { job = arrivals.job; time = departs }
+
+    stream : leaving ≡ sequence_stream rows kind (came_in arrivals) 0
+    stream =
+        is-sorted left leaving s e
+        ∙ (sym (order left) ∙ (ap (stream_in_order kind) (departs-one law rows kind arrivals departs even d) ∙ sym ((fated rows kind (came_in arrivals) d.once).stream 0)))
+
+    only : (out : ℕ) → out < 1 → slice_get (leaving ∷ []) out ≡ Some (sequence_stream rows kind (came_in arrivals) out)
+    only zero l = ap Some stream
+    only (suc out) l = absurd (omega arith)
+
+-- the times of a stream that is these items in order
+pub times-in_order : (s : Stream) (jobs times : List ℕ) → IsStream s → length jobs ≡ length times → pairs_of s ≡ by_first (zip times jobs) → s.time ≡ in_order_of (λ t. t) times
+times-in_order s jobs times h e k =
+    sym (zip-first s.time s.job h.even) ∙ (ap (map (λ (p : ℕ × ℕ). p.0)) k ∙ (firsts-order (zip times jobs) ∙ ap (in_order_of (λ t. t)) (zip-first times jobs e)))
+
+-- where all depart, the departures are those times
+pub departures-of : (times : List ℕ) → departure_times (map (λ t. Departs t) times) ≡ times
+departures-of [] = refl
+departures-of (t ∷ ts) = ap (λ l. t ∷ l) (departures-of ts)
+
+pub departures-order : (times leaving : List ℕ) (fates : List Fate) → fates ≡ map (λ t. Departs t) times → leaving ≡ in_order_of (λ t. t) times → leaving ≡ departure_order fates
+departures-order times leaving fates f e = e ∙ ap (in_order_of (λ t. t)) (sym (ap departure_times f ∙ departures-of times))
+
+-- the first late visit of the same fates
+pub late-by : (bound v : ℕ) (fates fates' : List Fate) (late : Option Late) → fates ≡ fates' → first_of (sequence_late_from bound v 0 fates') ≡ late → first_of (sequence_late_from bound v 0 fates) ≡ late
+late-by bound v fates fates' late e h = ap (λ l. first_of (sequence_late_from bound v 0 l)) e ∙ h

@@ -1,0 +1,10 @@
+pub mod Leavings
+pub mod Passing
+pub mod Early
+pub mod Known
+pub mod Closings
+pub mod Opening
+pub mod DelayOrder
+pub mod SplitBlocks
+pub mod Founding
+pub mod Emptying

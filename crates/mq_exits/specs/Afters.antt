@@ -1,0 +1,58 @@
+-- What becomes of the arrivals at a node: their fates, who found how many, and what leaves.
+use Rattle.std.specs.Prelude.{◌≡◌, ℕ, List, map, Some, None, slice_get}
+use Rattle.mq_core.specs.Came.{came_in}
+use Rattle.mq_core.specs.OnceOut.{founds_of}
+use Rattle.mq_core.specs.Results.{first_of}
+use Rattle.mq_core.specs.Sequences.{sequence_fates, sequence_late_from}
+use Rattle.mq_core.specs.declared.model.Fate.{Fate}
+use Rattle.mq_core.specs.declared.model.Fate.TheVariants.{Departs}
+use Rattle.mq_core.specs.declared.model.Kind.{Kind}
+use Rattle.mq_core.specs.declared.model.Network.{Network}
+use Rattle.mq_core.specs.declared.model.Node.{Node}
+use Rattle.mq_core.specs.declared.model.Plan.{Plan}
+use Rattle.mq_core.specs.declared.model.Rows.{Rows}
+use Rattle.mq_core.specs.declared.model.Stream.{Stream}
+use Rattle.mq_stations.specs.Late.{late_told}
+use Rattle.mq_stations.specs.Leaving.{AreDepartures, AreServed, AreStreams}
+use Rattle.mq_exits.specs.declared.working.After.{After}
+use Rattle.mq_exits.specs.declared.working.After.TheVariants.{Missed, Seen}
+use Rattle.mq_exits.specs.declared.working.Worked.{Worked}
+use Rattle.mq_exits.specs.declared.working.Worked.TheVariants.{Departed, Finished}
+
+-- the fates of the arrivals at a node of this kind, none of them late, and what leaves by each output
+pub record AreOnTime (net : Network) (rows : Rows) (v : ℕ) (kind : Kind) (arrivals : Stream) (fates : List Fate) (streams : List Stream) : Type 0 where
+  pub fates_are : fates ≡ sequence_fates rows kind (came_in arrivals)
+  pub streams_are : AreStreams rows kind arrivals streams
+  pub none : first_of (sequence_late_from net.bound v 0 (sequence_fates rows kind (came_in arrivals))) ≡ None
+
+-- what becomes of the arrivals at a node of this kind: their fates, what each found, and what leaves; or the first that is late
+abbrev pub IsAfter : Network → Rows → ℕ → Kind → Stream → After → Type 0
+IsAfter net rows v kind arrivals (Seen fates found streams) =
+    AreOnTime net rows v kind arrivals fates streams × (found ≡ founds_of arrivals.time fates)
+IsAfter net rows v kind arrivals (Missed fault) =
+    first_of (sequence_late_from net.bound v 0 (sequence_fates rows kind (came_in arrivals))) ≡ Some (late_told fault)
+
+-- the same at a node of the plan
+abbrev pub IsAfterAt : Plan → Rows → ℕ → Stream → After → Type 0
+IsAfterAt plan rows v arrivals after = (node : Node) → slice_get plan.net.nodes v ≡ Some node → IsAfter plan.net rows v node.kind arrivals after
+
+-- the jobs of a station of the plan depart at these times, by position
+abbrev pub AreDeparturesAt : Plan → Rows → ℕ → Stream → List ℕ → Type 0
+AreDeparturesAt plan rows v arrivals departs = (node : Node) → slice_get plan.net.nodes v ≡ Some node → AreDepartures rows node.kind arrivals departs
+
+-- all jobs of a station of the plan depart, at these times, by position
+abbrev pub AllDepartAt : Plan → Rows → ℕ → Stream → List ℕ → Type 0
+AllDepartAt plan rows v arrivals departs = (node : Node) → slice_get plan.net.nodes v ≡ Some node → sequence_fates rows node.kind (came_in arrivals) ≡ map (λ time. Departs time) departs
+
+-- those of a station of the plan keep their order too
+abbrev pub IsServed : Plan → Rows → ℕ → Stream → List ℕ → Type 0
+IsServed plan rows v arrivals departs = (node : Node) → slice_get plan.net.nodes v ≡ Some node → AreServed rows node.kind arrivals departs
+
+-- what one piece tells of a node of this kind: what becomes of its arrivals, or when its jobs depart
+abbrev pub IsWorked : Network → Rows → ℕ → Kind → Stream → Worked → Type 0
+IsWorked net rows v kind arrivals (Finished after) = IsAfter net rows v kind arrivals after
+IsWorked net rows v kind arrivals (Departed departs) = AreDepartures rows kind arrivals departs
+
+-- the same at a node of the plan
+abbrev pub IsWorkedAt : Plan → Rows → ℕ → Stream → Worked → Type 0
+IsWorkedAt plan rows v arrivals worked = (node : Node) → slice_get plan.net.nodes v ≡ Some node → IsWorked plan.net rows v node.kind arrivals worked

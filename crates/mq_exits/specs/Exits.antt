@@ -1,0 +1,97 @@
+-- What is known of a station when all its jobs have left, and its last pieces.
+use Rattle.std.specs.Prelude.{◌≡◌, ◌+◌, ◌*◌, ℕ, List, [], ◌∷◌, length, map, min, Some, None, slice_get}
+use Rattle.mq_base.specs.Lists.{between}
+use Rattle.mq_core.specs.Came.{came_in}
+use Rattle.mq_core.specs.OnceOut.{founds_of}
+use Rattle.mq_core.specs.Results.{first_of}
+use Rattle.mq_core.specs.Sequences.{sequence_fates, sequence_late_from, stream_in_order}
+use Rattle.mq_core.specs.Streams.{sorted}
+use Rattle.mq_core.specs.declared.model.Fate.TheVariants.{Departs}
+use Rattle.mq_core.specs.declared.model.Node.{Node}
+use Rattle.mq_core.specs.declared.model.Plan.{Plan}
+use Rattle.mq_core.specs.declared.model.Rows.{Rows}
+use Rattle.mq_core.specs.declared.model.Stream.{Stream}
+use Rattle.mq_scan.specs.declared.blocks.Blocks.{Blocks}
+use Rattle.mq_stats.specs.Ahead.{IsAhead}
+use Rattle.mq_stations.specs.Late.{late_told}
+use Rattle.mq_stations.specs.Scans.{AreFewBlocks}
+use Rattle.mq_exits.specs.Afters.{AreOnTime, IsAfterAt, IsServed}
+use Rattle.mq_exits.specs.Loads.{IsReadyLoad}
+use Rattle.mq_exits.specs.Splits.{AreSplitStreams}
+use Rattle.mq_exits.specs.declared.exits.Closed.{Closed}
+use Rattle.mq_exits.specs.declared.exits.Closed.TheVariants.{Found, Jobs, Over, Times}
+use Rattle.mq_exits.specs.declared.exits.Emptied.{Emptied}
+use Rattle.mq_exits.specs.declared.exits.Exit.{Exit}
+use Rattle.mq_exits.specs.declared.exits.Exit.TheVariants.{Known, Passed, Served, Sorted}
+use Rattle.mq_exits.specs.declared.overtaking.Overtaken.{Overtaken}
+
+-- jobs that leave a node of the plan do so by time
+abbrev pub Overtakes : Plan → ℕ → Type 0
+Overtakes plan v = (node : Node) → slice_get plan.net.nodes v ≡ Some node → (stream : Stream) → stream_in_order node.kind stream ≡ sorted stream
+
+-- the table of a delay is that of these arrivals, which are in its blocks, 16,384 at most
+pub record IsCounted (arrivals : Stream) (overtaken : Overtaken) : Type 0 where
+  pub ahead : IsAhead arrivals.time (map (λ time. Departs time) overtaken.departs) overtaken.ahead
+  pub blocks : AreFewBlocks (length arrivals.time) 16384 overtaken.blocks
+
+-- what is known of a delay whose jobs were put in the order in which they leave
+pub record IsOvertaken (plan : Plan) (rows : Rows) (v : ℕ) (arrivals : Stream) (overtaken : Overtaken) : Type 0 where
+  pub on_time : (node : Node) → slice_get plan.net.nodes v ≡ Some node → AreOnTime plan.net rows v node.kind arrivals (map (λ time. Departs time) overtaken.departs) (record { job = overtaken.job; time = overtaken.ahead.leaving } ∷ [])
+  pub counted : IsCounted arrivals overtaken
+
+-- what is known of a station when all its jobs have left
+abbrev pub IsExit : Plan → Rows → ℕ → Stream → Exit → Type 0
+IsExit plan rows v arrivals (Known after) = IsAfterAt plan rows v arrivals after
+IsExit plan rows v arrivals (Served departs) = IsServed plan rows v arrivals departs
+IsExit plan rows v arrivals (Sorted overtaken) = IsOvertaken plan rows v arrivals overtaken
+IsExit plan rows v arrivals (Passed streams) = AreSplitStreams plan rows v arrivals streams
+
+-- how many last pieces a station has
+abbrev pub closings_of : Exit → ℕ
+closings_of (Known after) = 0
+closings_of (Served departs) = 3
+closings_of (Sorted overtaken) = overtaken.blocks.blocks
+closings_of (Passed streams) = 2
+
+-- a last piece: these departures, none of them late, or the first that is; how many each found; or the jobs
+abbrev pub IsShut : Plan → Rows → ℕ → Stream → List ℕ → ℕ → Closed → Type 0
+IsShut plan rows v arrivals departs b (Times times) =
+    (b ≡ 0) × (times ≡ departs)
+    × ((node : Node) → slice_get plan.net.nodes v ≡ Some node → first_of (sequence_late_from plan.net.bound v 0 (sequence_fates rows node.kind (came_in arrivals))) ≡ None)
+IsShut plan rows v arrivals departs b (Over fault) =
+    (b ≡ 0)
+    × ((node : Node) → slice_get plan.net.nodes v ≡ Some node → first_of (sequence_late_from plan.net.bound v 0 (sequence_fates rows node.kind (came_in arrivals))) ≡ Some (late_told fault))
+IsShut plan rows v arrivals departs b (Found found) = (b ≡ 1) × (found ≡ founds_of arrivals.time (map (λ time. Departs time) departs))
+IsShut plan rows v arrivals departs b (Jobs jobs) = (b ≡ 2) × (jobs ≡ arrivals.job)
+
+-- what each of these arrivals found, where they depart at these times
+abbrev pub founds_by : Stream → List ℕ → List ℕ
+founds_by arrivals departs = founds_of arrivals.time (map (λ time. Departs time) departs)
+
+-- those of a block of them
+abbrev pub IsFoundBlock : List ℕ → Blocks → ℕ → List ℕ → Type 0
+IsFoundBlock founds blocks b found = found ≡ between (b * blocks.block) (min ((b + 1) * blocks.block) blocks.n) founds
+
+-- a last piece of a delay: how many each visit of a block found
+abbrev pub IsDelayPiece : Stream → Overtaken → ℕ → Closed → Type 0
+IsDelayPiece arrivals overtaken b (Times times) = ⊥
+IsDelayPiece arrivals overtaken b (Over fault) = ⊥
+IsDelayPiece arrivals overtaken b (Found found) = IsFoundBlock (founds_by arrivals overtaken.departs) overtaken.blocks b found
+IsDelayPiece arrivals overtaken b (Jobs jobs) = ⊥
+
+-- a last piece that tells how many visits found
+abbrev pub IsFound : Closed → Type 0
+IsFound (Times times) = ⊥
+IsFound (Over fault) = ⊥
+IsFound (Found found) = Unit {0}
+IsFound (Jobs jobs) = ⊥
+
+abbrev pub IsClosed : Plan → Rows → ℕ → Stream → Exit → ℕ → Closed → Type 0
+IsClosed plan rows v arrivals (Known after) b closed = ⊥
+IsClosed plan rows v arrivals (Served departs) b closed = IsShut plan rows v arrivals departs b closed
+IsClosed plan rows v arrivals (Sorted overtaken) b closed = IsDelayPiece arrivals overtaken b closed
+IsClosed plan rows v arrivals (Passed streams) b closed = IsShut plan rows v arrivals arrivals.time b closed
+
+-- what is known of a station near the end of a wave
+abbrev pub IsReadyExit : Emptied → Type 0
+IsReadyExit l = IsReadyLoad l.load × IsExit l.load.plan.now l.load.rows.now l.load.number l.load.arrivals l.exit

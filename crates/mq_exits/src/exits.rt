@@ -1,0 +1,218 @@
+// The stations whose departures are known, and their last pieces: who found how many, and what leaves.
+ghost use Rattle.std.specs.Prelude.{◌≡◌, ◌<◌, ◌≤◌, length, map, IfOk};
+ghost use Rattle.mq_core.specs.Laws.{Rises};
+ghost use Rattle.mq_core.specs.OnceOut.{founds_of};
+ghost use Rattle.mq_core.specs.declared.model.Fate.TheVariants.{Departs};
+ghost use Rattle.mq_crew.specs.Crew.{AreAll};
+ghost use Rattle.mq_exits.specs.Afters.{AllDepartAt, IsAfterAt, IsServed};
+ghost use Rattle.mq_exits.specs.Exits.{IsClosed, IsExit, IsReadyExit, IsShut, closings_of};
+ghost use Rattle.mq_exits.specs.Loads.{IsLoaded};
+ghost use Rattle.mq_exits.specs.Results.{IsWorkedOut};
+
+use crate::founds::{after_delay, delay_piece};
+use crate::laws::node_laws;
+use crate::load::Load;
+use crate::overtaking::Overtaken;
+use crate::splitting::{passed, passed_of};
+use crate::working::{After, NodeResult, ending_of, found_by_position, nobody};
+use mq_base::{List, OutOfMemory};
+use mq_core::{Fates, Kind, Stream, fates_are_in_time, sequences_go_by_fates};
+use mq_crew::Pieces;
+use mq_stations::{PastFault, first_late_in_turn, only};
+use std::alloc::Global;
+
+/// What is known of a station when all its jobs have left.
+#[derive(Drop)]
+pub enum Exit {
+    /// All.
+    Known(After),
+    /// When its jobs depart, in their order.
+    Served(List<u64>),
+    /// When they depart, and in which order.
+    Sorted(Overtaken),
+    /// What leaves by each output, where they depart as they come.
+    Passed(List<Stream>),
+}
+
+/// A station whose departures are known.
+#[derive(Drop)]
+pub struct Emptied<'a> {
+    pub load: Load<'a>,
+    pub exit: Exit,
+}
+
+/// A last piece of a station, which a worker makes whole: a list, or of what the visits to a delay found a
+/// block.
+#[derive(Drop)]
+pub enum Closed {
+    /// When the jobs leave, in their order: none departs after the bound.
+    Times(List<u64>),
+    /// The first that departs after the bound.
+    Over(PastFault),
+    /// How many each found, or each of a block.
+    Found(List<u32>),
+    /// The jobs, which leave in their order.
+    Jobs(List<u32>),
+}
+
+impl<'a> Pieces for Emptied<'a> {
+    type Piece = Closed;
+
+    ghost fit = { IsReadyExit };
+
+    ghost size = { λ s. closings_of s.exit };
+
+    ghost is_piece = { λ s b closed. IsClosed s.load.plan.now s.load.rows.now s.load.number s.load.arrivals s.exit b closed };
+
+    fn count(&self) -> u32 {
+        match &self.exit {
+            Exit::Known(_) => 0,
+            Exit::Served(_) => 3,
+            Exit::Sorted(overtaken) => overtaken.blocks.blocks,
+            Exit::Passed(_) => 2,
+        }
+    }
+
+    fn piece(&self, alloc: Global, b: u32) -> Result<Closed, OutOfMemory> {
+        match &self.exit {
+            Exit::Served(departs) => closing_of(alloc, &self.load, departs, b),
+            Exit::Sorted(overtaken) => delay_piece(alloc, &self.load.arrivals, overtaken, b),
+            Exit::Passed(_) => passed_of(alloc, &self.load, b),
+            Exit::Known(_) => unreachable!(),
+        }
+    }
+}
+
+// A last piece of a station whose jobs leave in their order, of the departures of all its jobs.
+fn closing_of(
+    alloc: Global,
+    load: &Load,
+    departs: &List<u64>,
+    b: u32,
+) -> Result<Closed, OutOfMemory>
+    requires loaded { IsLoaded load.now.plan.now load.now.rows.now load.now.number load.now.arrivals }
+    requires served { IsServed load.now.plan.now load.now.rows.now load.now.number load.now.arrivals departs.now }
+    requires inside { b < 3 }
+    ensures { IfOk result (λ closed. IsShut load.now.plan.now load.now.rows.now load.now.number load.now.arrivals departs.now b closed) }
+{
+    sequences_go_by_fates();
+    fates_are_in_time();
+    if b == 0 {
+        return times_in_bound(alloc, load, departs);
+    }
+    if b == 1 {
+        return Ok(Closed::Found(found_in_turn(alloc, load, departs)?));
+    }
+    let jobs = Vec::from_slice(alloc, load.arrivals.job.as_slice())?;
+    Ok(Closed::Jobs(List::from_vec(jobs)))
+}
+
+// When the jobs leave that depart so, where these times never fall, or the first departure that is after
+// the bound.
+pub fn times_in_bound(
+    alloc: Global,
+    load: &Load,
+    departs: &List<u64>,
+) -> Result<Closed, OutOfMemory>
+    requires all { AllDepartAt load.now.plan.now load.now.rows.now load.now.number load.now.arrivals departs.now }
+    requires few { length departs.now ≤ 1048576 }
+    requires rising { Rises (λ a b. a ≤ b) departs.now }
+    ensures { IfOk result (λ closed. IsShut load.now.plan.now load.now.rows.now load.now.number load.now.arrivals departs.now 0 closed) }
+{
+    if let Some(past) = first_late_in_turn(load.plan.net.bound, load.number, departs) {
+        return Ok(Closed::Over(past));
+    }
+    let times = Vec::from_slice(alloc, departs.as_slice())?;
+    Ok(Closed::Times(List::from_vec(times)))
+}
+
+// How many jobs each visit found, of the departures. A source holds none.
+fn found_in_turn(alloc: Global, load: &Load, departs: &List<u64>) -> Result<List<u32>, OutOfMemory>
+    requires loaded { IsLoaded load.now.plan.now load.now.rows.now load.now.number load.now.arrivals }
+    requires served { IsServed load.now.plan.now load.now.rows.now load.now.number load.now.arrivals departs.now }
+    ensures { IfOk result (λ found. found ≡ founds_of load.now.arrivals.time (map (λ time. Departs time) departs.now)) }
+{
+    sequences_go_by_fates();
+    fates_are_in_time();
+    match &load.plan.net.nodes.get(load.number as usize).kind {
+        Kind::Source => nobody(alloc, &load.arrivals.time),
+        _ => found_by_position(alloc, &load.arrivals, departs),
+    }
+}
+
+// What a station gives, of its last pieces where it has some.
+pub fn result_of(
+    alloc: Global,
+    emptied: Emptied,
+    group: List<Closed>,
+) -> Result<NodeResult, OutOfMemory>
+    requires ready { IsReadyExit emptied }
+    requires group { AreAll (λ b closed. IsClosed emptied.load.plan.now emptied.load.rows.now emptied.load.number emptied.load.arrivals emptied.exit b closed) (closings_of emptied.exit) group }
+    ensures number { IfOk result (λ node_result. node_result.number ≡ emptied.entry.load.number) }
+    ensures known { IfOk result (λ node_result. IsWorkedOut emptied.entry.load.plan.now emptied.entry.load.rows.now node_result) }
+{
+    node_laws();
+    let Emptied { load, exit } = emptied;
+    let after = after_of(alloc, &load, exit, group)?;
+    let ending = ending_of(load.arrivals, after);
+    Ok(NodeResult {
+        number: load.number,
+        ending,
+    })
+}
+
+// What becomes of the arrivals at a station, of its last pieces where it has some.
+fn after_of(
+    alloc: Global,
+    load: &Load,
+    exit: Exit,
+    group: List<Closed>,
+) -> Result<After, OutOfMemory>
+    requires loaded { IsLoaded load.now.plan.now load.now.rows.now load.now.number load.now.arrivals }
+    requires exit { IsExit load.now.plan.now load.now.rows.now load.now.number load.now.arrivals exit }
+    requires group { AreAll (IsClosed load.now.plan.now load.now.rows.now load.now.number load.now.arrivals exit) (closings_of exit) group }
+    ensures { IfOk result (λ after. IsAfterAt load.now.plan.now load.now.rows.now load.now.number load.now.arrivals after) }
+{
+    match exit {
+        Exit::Known(after) => Ok(after),
+        Exit::Served(departs) => opened(alloc, load, group, departs),
+        Exit::Sorted(overtaken) => after_delay(alloc, load, group, overtaken),
+        Exit::Passed(streams) => Ok(passed(load, group, streams)),
+    }
+}
+
+// What becomes of the arrivals at a station whose jobs leave in their order, of its last pieces and the
+// departures, which are kept as the fates.
+fn opened(
+    alloc: Global,
+    load: &Load,
+    group: List<Closed>,
+    departs: List<u64>,
+) -> Result<After, OutOfMemory>
+    requires loaded { IsLoaded load.now.plan.now load.now.rows.now load.now.number load.now.arrivals }
+    requires served { IsServed load.now.plan.now load.now.rows.now load.now.number load.now.arrivals departs }
+    requires group { AreAll (IsShut load.now.plan.now load.now.rows.now load.now.number load.now.arrivals departs) 3 group }
+    ensures { IfOk result (λ after. IsAfterAt load.now.plan.now load.now.rows.now load.now.number load.now.arrivals after) }
+{
+    sequences_go_by_fates();
+    fates_are_in_time();
+    let mut group = group.into_vec();
+    let job = match group.pop() {
+        Some(Closed::Jobs(job)) => job,
+        _ => unreachable!(),
+    };
+    let found = match group.pop() {
+        Some(Closed::Found(found)) => found,
+        _ => unreachable!(),
+    };
+    match group.pop() {
+        Some(Closed::Times(time)) => {
+            let streams = only(alloc, Stream { job, time })?;
+            Ok(After::Seen(Fates::departures(departs), found, streams))
+        }
+        Some(Closed::Over(past)) => Ok(After::Missed(past)),
+        Some(Closed::Found(_found)) => unreachable!(),
+        Some(Closed::Jobs(_jobs)) => unreachable!(),
+        None => unreachable!(),
+    }
+}

@@ -1,0 +1,78 @@
+//! What the nodes of a wave give, of what came to them and how it leaves: whole stations, splits by blocks, and the
+//! last pieces, which tell whether a visit departs after the bound, how many each found, and which jobs leave.
+#![tactic(auto)]
+
+ghost use Rattle.std.specs.Prelude.{◌≡◌, ◌≤◌, ℕ, List as Items, length, IfOk};
+ghost use Rattle.std.specs.List.{AllByRecursion};
+ghost use Rattle.mq_core.specs.declared.model.Plan.{Plan as ThePlan};
+ghost use Rattle.mq_core.specs.declared.model.Rows.{Rows as TheRows};
+ghost use Rattle.mq_crew.specs.Crew.{AreGroups};
+ghost use Rattle.mq_exits.specs.Exits.{IsClosed, IsReadyExit, closings_of};
+ghost use Rattle.mq_exits.specs.Loads.{IsLoadOf};
+ghost use Rattle.mq_exits.specs.Results.{IsResultOf};
+
+mod exits;
+mod founds;
+mod laws;
+mod load;
+mod overtaking;
+mod splitting;
+mod working;
+
+use crate::exits::result_of;
+pub use exits::{Closed, Emptied, Exit};
+pub use load::Load;
+use mq_base::{List, OutOfMemory};
+use mq_crew::{Gate, run_parts};
+pub use overtaking::{Overtaken, left_by};
+pub use splitting::{parted, routed};
+use std::alloc::Global;
+use std::thread::Threads;
+pub use working::{After, Ending, NodeResult, Worked, nobody, station_whole};
+
+/// What these stations give, at most 64 of them, in some order: of each its visits and what leaves it by each output,
+/// or its first visit that departs after the bound.
+///
+/// 1 to 64 workers make the last pieces of all stations as one list: where the jobs leave in their order
+/// when they do, how many each visit found, and the jobs; of a split in blocks when they leave and zeros; of a
+/// delay by blocks how many each visit found. It refuses for want of memory alone.
+pub fn station_results<R: Threads + Sync, G: Gate>(
+    rt: &R,
+    alloc: Global,
+    workers: u32,
+    those_emptied: List<Emptied>,
+    gate: &G,
+) -> Result<List<NodeResult>, OutOfMemory>
+    requires ready { AllByRecursion IsReadyExit those_emptied }
+    requires few { length those_emptied ≤ 64 }
+    requires some { 1 ≤ workers }
+    requires most { workers ≤ 64 }
+    ensures len { IfOk result (λ results. length results ≡ length those_emptied.entry) }
+    ensures known { IfOk result (λ results. (plan : ThePlan) (rows : TheRows) (ready : Items ℕ) → AllByRecursion (λ l. IsLoadOf plan rows ready l.load) those_emptied.entry → AllByRecursion (IsResultOf plan rows ready) results) }
+{
+    let groups = run_parts(rt, alloc, workers, those_emptied.as_slice(), gate)?;
+    ended(alloc, those_emptied, groups)
+}
+
+// What the stations give, of their last pieces where they have some.
+fn ended(
+    alloc: Global,
+    those_emptied: List<Emptied>,
+    groups: List<List<Closed>>,
+) -> Result<List<NodeResult>, OutOfMemory>
+    requires ready { AllByRecursion IsReadyExit those_emptied }
+    requires groups { AreGroups (λ l. closings_of l.exit) (λ l b closed. IsClosed l.load.plan.now l.load.rows.now l.load.number l.load.arrivals l.exit b closed) those_emptied groups }
+    ensures len { IfOk result (λ results. length results ≡ length those_emptied.entry) }
+    ensures known { IfOk result (λ results. (plan : ThePlan) (rows : TheRows) (ready : Items ℕ) → AllByRecursion (λ l. IsLoadOf plan rows ready l.load) those_emptied.entry → AllByRecursion (IsResultOf plan rows ready) results) }
+{
+    let mut those_emptied = those_emptied.into_vec();
+    let mut groups = groups.into_vec();
+    let mut results = List::new(alloc);
+    while let Some(emptied) = those_emptied.pop() {
+        let Some(group) = groups.pop() else {
+            unreachable!()
+        };
+        results.push(result_of(alloc, emptied, group)?)?;
+    }
+    Ok(results)
+}

@@ -1,0 +1,143 @@
+// A delay, whose jobs may overtake one another: in which order they leave, and what tells how many each
+// found.
+ghost use Rattle.std.specs.Prelude.{◌≡◌, ◌≤◌, length, IfOk};
+ghost use Rattle.std.specs.List.{zip};
+ghost use Rattle.mq_core.specs.Laws.{in_order_of};
+ghost use Rattle.mq_core.specs.Sequences.{IsStream};
+ghost use Rattle.mq_core.specs.Streams.{by_first, pairs_of};
+ghost use Rattle.mq_exits.specs.Afters.{AreDeparturesAt, IsWorkedAt};
+ghost use Rattle.mq_exits.specs.Exits.{IsExit, Overtakes};
+ghost use Rattle.mq_exits.specs.Loads.{IsLoaded};
+ghost use Rattle.mq_stations.specs.Scans.{AreFewBlocks};
+
+use crate::exits::Exit;
+use crate::load::Load;
+use crate::working::{After, Worked};
+use mq_base::{List, OutOfMemory};
+use mq_core::{Kind, Stream, fates_are_in_time, sequences_go_by_fates};
+use mq_delay::delay_leaving;
+use mq_merge::by_time;
+use mq_scan::{Blocks, block_size, cut};
+use mq_stations::first_late_overtaken;
+use mq_stats::{AheadTable, ahead_of_departures};
+use std::alloc::Global;
+use std::thread::Threads;
+
+/// A delay whose jobs were put in the order in which they leave, none of them late.
+#[derive(Drop)]
+pub struct Overtaken {
+    /// When they depart, in ticks, by position.
+    pub departs: List<u64>,
+    /// The jobs as they leave.
+    pub job: List<u32>,
+    /// What tells how many each found, with the departures in order.
+    pub ahead: AheadTable,
+    /// How the visits are cut for that.
+    pub blocks: Blocks,
+}
+
+/// What is known of a station of which one piece told so much, when all its jobs have left. Those of a
+/// delay are put in the order in which they leave, here, where threads can be had.
+pub fn left_by<R: Threads + Sync>(
+    rt: &R,
+    alloc: Global,
+    workers: u32,
+    load: &Load,
+    worked: Worked,
+) -> Result<Exit, OutOfMemory>
+    requires loaded { IsLoaded load.now.plan.now load.now.rows.now load.now.number load.now.arrivals }
+    requires worked { IsWorkedAt load.now.plan.now load.now.rows.now load.now.number load.now.arrivals worked }
+    requires block { 1 ≤ load.now.block }
+    ensures { IfOk result (λ exit. IsExit load.now.plan.now load.now.rows.now load.now.number load.now.arrivals exit) }
+{
+    match worked {
+        Worked::Finished(after) => Ok(Exit::Known(after)),
+        Worked::Departed(departs) => left_at(rt, alloc, workers, load, departs),
+    }
+}
+
+// What is known of a station whose jobs depart at these times, by position. All but those of a delay keep
+// their order.
+fn left_at<R: Threads + Sync>(
+    rt: &R,
+    alloc: Global,
+    workers: u32,
+    load: &Load,
+    departs: List<u64>,
+) -> Result<Exit, OutOfMemory>
+    requires loaded { IsLoaded load.now.plan.now load.now.rows.now load.now.number load.now.arrivals }
+    requires departs { AreDeparturesAt load.now.plan.now load.now.rows.now load.now.number load.now.arrivals departs }
+    requires block { 1 ≤ load.now.block }
+    ensures { IfOk result (λ exit. IsExit load.now.plan.now load.now.rows.now load.now.number load.now.arrivals exit) }
+{
+    match &load.plan.net.nodes.get(load.number as usize).kind {
+        Kind::Delay(_) => overtaken_at(rt, alloc, workers, load, departs),
+        _ => Ok(Exit::Served(departs)),
+    }
+}
+
+// What is known of a delay whose jobs depart at these times, by position.
+fn overtaken_at<R: Threads + Sync>(
+    rt: &R,
+    alloc: Global,
+    workers: u32,
+    load: &Load,
+    departs: List<u64>,
+) -> Result<Exit, OutOfMemory>
+    requires loaded { IsLoaded load.now.plan.now load.now.rows.now load.now.number load.now.arrivals }
+    requires departs { AreDeparturesAt load.now.plan.now load.now.rows.now load.now.number load.now.arrivals departs }
+    requires overtakes { Overtakes load.now.plan.now load.now.number }
+    requires block { 1 ≤ load.now.block }
+    ensures { IfOk result (λ exit. IsExit load.now.plan.now load.now.rows.now load.now.number load.now.arrivals exit) }
+{
+    sequences_go_by_fates();
+    fates_are_in_time();
+    let leaving = by_departure(rt, alloc, workers, &load.arrivals.job, &departs)?;
+    match first_late_overtaken(load.plan.net.bound, load.number, &departs, &leaving.time) {
+        Some(past) => Ok(Exit::Known(After::Missed(past))),
+        None => {
+            let Stream { job, time } = leaving;
+            let ahead = ahead_of_departures(alloc, &load.arrivals.time, &departs, time)?;
+            let blocks = visit_blocks(workers, load);
+            Ok(Exit::Sorted(Overtaken {
+                departs,
+                job,
+                ahead,
+                blocks,
+            }))
+        }
+    }
+}
+
+// How the visits are cut: for one worker they are one block.
+fn visit_blocks(workers: u32, load: &Load) -> Blocks
+    requires few { length load.now.arrivals.time ≤ 1048576 }
+    requires block { 1 ≤ load.now.block }
+    ensures { AreFewBlocks (length load.now.arrivals.time) 16384 result }
+{
+    let visits = load.arrivals.time.len() as u32;
+    if workers == 1 {
+        return cut(visits, visits.max(1));
+    }
+    cut(visits, block_size(visits, load.block))
+}
+
+// The jobs by departure. One worker makes no thread.
+fn by_departure<R: Threads + Sync>(
+    rt: &R,
+    alloc: Global,
+    workers: u32,
+    jobs: &List<u32>,
+    departs: &List<u64>,
+) -> Result<Stream, OutOfMemory>
+    requires even { length jobs.now ≡ length departs.now }
+    ensures stream { IfOk result (λ leaving. IsStream leaving) }
+    ensures items { IfOk result (λ leaving. pairs_of leaving ≡ by_first (zip departs.now jobs.now)) }
+    ensures times { IfOk result (λ leaving. leaving.time ≡ in_order_of (λ time. time) departs.now) }
+{
+    if workers == 1 {
+        let leaving = by_time(alloc, jobs, departs)?;
+        return Ok(leaving);
+    }
+    delay_leaving(rt, alloc, jobs, departs)
+}

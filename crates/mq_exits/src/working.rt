@@ -1,0 +1,195 @@
+// How a node is worked out, from its arrivals to its visits and what leaves it.
+ghost use Rattle.std.specs.Prelude.{◌≡◌, ◌≤◌, ℕ, length, map, true, IfOk};
+ghost use Rattle.mq_core.specs.SequenceLaws.{sends_once};
+ghost use Rattle.mq_core.specs.Sequences.{IsStream};
+ghost use Rattle.mq_core.specs.OnceOut.{founds_of};
+ghost use Rattle.mq_core.specs.Laws.{Rises};
+ghost use Rattle.mq_core.specs.declared.model.Fate.TheVariants.{Departs};
+ghost use Rattle.mq_core.specs.declared.model.Kind.{Kind as TheKind};
+ghost use Rattle.mq_core.specs.declared.model.Network.{Network as TheNetwork};
+ghost use Rattle.mq_core.specs.declared.model.Rows.{Rows as TheRows};
+ghost use Rattle.mq_exits.specs.Afters.{IsAfter, IsWorked, IsWorkedAt};
+ghost use Rattle.mq_exits.specs.Loads.{IsLoaded};
+ghost use Rattle.mq_exits.specs.Results.{IsEnding};
+ghost use Rattle.mq_stations.specs.Leaving.{IsLeaving, IsLoad};
+
+use crate::load::Load;
+use mq_base::{List, OutOfMemory};
+use mq_core::{
+    Fates, Kind, Network, Rows, Stream, Visits, fates_are_in_time, sequences_go_by_fates,
+};
+use mq_stations::{Left, Outflow, OverFault, PastFault, first_late, leaving};
+use mq_stats::{found, found_piece_in_order};
+use std::alloc::Global;
+
+/// A node that was worked out: what it gives.
+#[derive(Drop)]
+pub struct NodeResult {
+    /// The node, by order of declaration.
+    pub number: u32,
+    pub ending: Ending,
+}
+
+/// How a node ends that was worked out.
+#[derive(Drop)]
+pub enum Ending {
+    /// With its visits and what leaves it by each output: no visit departs after the bound.
+    OnTime(Visits, List<Stream>),
+    /// With more visits than it may have: it is not worked out.
+    TooMany(OverFault),
+    /// With the first visit that departs after the bound.
+    TooLate(PastFault),
+}
+
+/// What becomes of the arrivals at a node.
+#[derive(Drop)]
+pub enum After {
+    /// Their fates, how many each found, and what leaves by each output, in emission order: none
+    /// departs after the bound.
+    Seen(Fates, List<u32>, List<Stream>),
+    /// The first that departs after the bound.
+    Missed(PastFault),
+}
+
+/// What one piece tells of a station that is not scanned.
+#[derive(Drop)]
+pub enum Worked {
+    /// What becomes of its arrivals.
+    Finished(After),
+    /// When its jobs depart, by position: none is lost.
+    Departed(List<u64>),
+}
+
+/// What one piece tells of a whole station.
+pub fn station_whole(alloc: Global, load: &Load) -> Result<Worked, OutOfMemory>
+    requires loaded { IsLoaded load.now.plan.now load.now.rows.now load.now.number load.now.arrivals }
+    requires some { 1 ≤ load.now.block }
+    ensures { IfOk result (λ worked. IsWorkedAt load.now.plan.now load.now.rows.now load.now.number load.now.arrivals worked) }
+{
+    let kind = &load.plan.net.nodes.get(load.number as usize).kind;
+    work_out(
+        alloc,
+        &load.plan.net,
+        load.rows,
+        load.number,
+        kind,
+        &load.arrivals,
+        load.block,
+    )
+}
+
+// What one piece tells of a node of this kind, given its arrivals.
+fn work_out(
+    alloc: Global,
+    net: &Network,
+    rows: &Rows,
+    number: u32,
+    kind: &Kind,
+    arrivals: &Stream,
+    block: u32,
+) -> Result<Worked, OutOfMemory>
+    requires once { sends_once kind.now ≡ true }
+    requires load { IsLoad rows.now kind.now arrivals.now }
+    requires some { 1 ≤ block }
+    ensures { IfOk result (λ worked. IsWorked net.now rows.now number kind.now arrivals.now worked) }
+{
+    match leaving(alloc, rows, kind, arrivals, block)? {
+        Left::Departures(departs) => Ok(Worked::Departed(departs)),
+        Left::Streams(outflow) => seen(alloc, net, rows, number, kind, arrivals, outflow),
+    }
+}
+
+// What becomes of the arrivals at a node of this kind, of what leaves it in their order.
+fn seen(
+    alloc: Global,
+    net: &Network,
+    rows: &Rows,
+    number: u32,
+    kind: &Kind,
+    arrivals: &Stream,
+    leaving: Outflow,
+) -> Result<Worked, OutOfMemory>
+    requires once { sends_once kind.now ≡ true }
+    requires load { IsLoad rows.now kind.now arrivals.now }
+    requires leaving { IsLeaving rows.now kind.now arrivals.now leaving.fates leaving.streams }
+    ensures { IfOk result (λ worked. IsWorked net.now rows.now number kind.now arrivals.now worked) }
+{
+    fates_are_in_time();
+    sequences_go_by_fates();
+    match first_late(net.bound, number, &leaving.fates) {
+        Some(past) => Ok(Worked::Finished(After::Missed(past))),
+        None => {
+            let found = found_at(alloc, rows, kind, arrivals, &leaving)?;
+            let after = After::Seen(Fates::each(leaving.fates), found, leaving.streams);
+            Ok(Worked::Finished(after))
+        }
+    }
+}
+
+// How a node ends to which these came.
+pub fn ending_of(arrivals: Stream, after: After) -> Ending
+    ensures { (net : TheNetwork) (rows : TheRows) (v : ℕ) (kind : TheKind) → sends_once kind ≡ true → IsAfter net rows v kind arrivals after → IsEnding net rows v kind arrivals result }
+{
+    sequences_go_by_fates();
+    match after {
+        After::Seen(fate, found, streams) => {
+            let visits = Visits {
+                job: arrivals.job,
+                arrive: arrivals.time,
+                found,
+                fate,
+            };
+            Ending::OnTime(visits, streams)
+        }
+        After::Missed(past) => Ending::TooLate(past),
+    }
+}
+
+// How many jobs each visit to a node of this kind found. A split holds none.
+fn found_at(
+    alloc: Global,
+    rows: &Rows,
+    kind: &Kind,
+    arrivals: &Stream,
+    leaving: &Outflow,
+) -> Result<List<u32>, OutOfMemory>
+    requires once { sends_once kind.now ≡ true }
+    requires load { IsLoad rows.now kind.now arrivals.now }
+    requires leaving { IsLeaving rows.now kind.now arrivals.now leaving.now.fates leaving.now.streams }
+    ensures { IfOk result (λ found. found ≡ founds_of arrivals.now.time leaving.now.fates) }
+{
+    sequences_go_by_fates();
+    fates_are_in_time();
+    match kind {
+        Kind::Split(_) => nobody(alloc, &arrivals.time),
+        _ => found(alloc, &arrivals.time, &leaving.fates),
+    }
+}
+
+// How many jobs each visit found, where the jobs leave at these times, in their order.
+pub fn found_by_position(
+    alloc: Global,
+    arrivals: &Stream,
+    departs: &List<u64>,
+) -> Result<List<u32>, OutOfMemory>
+    requires arrivals { IsStream arrivals.now }
+    requires few { length arrivals.now.time ≤ 1048576 }
+    requires even { length departs.now ≡ length arrivals.now.time }
+    requires departs { Rises (λ a b. a ≤ b) departs.now }
+    ensures { IfOk result (λ found. found ≡ founds_of arrivals.now.time (map (λ time. Departs time) departs.now)) }
+{
+    let count = arrivals.time.len() as u32;
+    let found = found_piece_in_order(alloc, &arrivals.time, departs, 0, count)?;
+    Ok(found)
+}
+
+/// 0 for each of these visits.
+pub fn nobody(alloc: Global, arrive: &List<u64>) -> Result<List<u32>, OutOfMemory>
+    ensures { IfOk result (λ found. found ≡ map (λ _. 0) arrive.now) }
+{
+    let mut found = Vec::with_capacity(alloc, arrive.len())?;
+    for _ in arrive.as_slice() {
+        found.push_reserved(0);
+    }
+    Ok(List::from_vec(found))
+}

@@ -1,0 +1,36 @@
+-- The percentiles of the waits at the nodes, in a list.
+use Rattle.std.specs.Prelude.{◌≡◌, ℕ, List, length, Some, slice_get}
+use Rattle.mq_core.specs.Results.{visits_of}
+use Rattle.mq_core.specs.Sequences.{IsRunOf}
+use Rattle.mq_core.specs.StandardTable.{run_of}
+use Rattle.mq_core.specs.Theorems.{IsReadFor}
+use Rattle.mq_core.specs.declared.model.Node.{Node}
+use Rattle.mq_core.specs.declared.model.Plan.{Plan}
+use Rattle.mq_core.specs.declared.model.Rows.{Rows}
+use Rattle.mq_crew.specs.Crew.{AreAll}
+use Rattle.mq_report.specs.Text.{Tail}
+use Rattle.mq_report.specs.Totals.{AreNodeTotals}
+use Rattle.mq_report.specs.declared.tails.RunTails.{RunTails}
+use Rattle.mq_stats.specs.Percentiles.{ArePercentiles, waits_at}
+use Rattle.mq_stats.specs.RunNumbers.{HasFewVisits}
+use Rattle.mq_stats.specs.declared.tails.Percentiles.{Percentiles}
+
+-- the percentiles, as numbers
+abbrev pub tail_from : Percentiles → Tail
+tail_from tail = record { p50 = tail.p50; p90 = tail.p90; p99 = tail.p99 }
+
+-- these are the percentiles of the waits at a node over the run
+abbrev pub IsTailAt : Plan → Rows → ℕ → Percentiles → Type 0
+IsTailAt plan rows v tail =
+    (node : Node) → slice_get plan.net.nodes v ≡ Some node → ArePercentiles (waits_at rows node.kind (visits_of node.kind ((run_of plan rows).stations v))) tail
+
+-- these are those of all nodes, by node
+abbrev pub AreNodeTails : Plan → Rows → List Percentiles → Type 0
+AreNodeTails plan rows tails = AreAll (IsTailAt plan rows) (length plan.net.nodes) tails
+
+-- it is the run of a plan over rows, in which no node has too many visits, with its totals
+pub record IsRun (of : RunTails) : Type 0 where
+  pub read : IsReadFor of.plan.now.net of.rows.now
+  pub run : IsRunOf of.plan.now of.rows.now of.run.now
+  pub few : HasFewVisits of.plan.now of.rows.now
+  pub totals : AreNodeTotals of.plan.now of.rows.now of.totals.now

@@ -1,0 +1,130 @@
+// The percentiles of the waits at the nodes.
+ghost use Rattle.std.specs.Prelude.{◌≡◌, ◌≤◌, IfOk, Some, length, option_map, slice_get};
+ghost use Rattle.mq_core.specs.Results.{totals_of, visits_of};
+ghost use Rattle.mq_core.specs.Sequences.{IsRunOf};
+ghost use Rattle.mq_core.specs.StandardTable.{run_of};
+ghost use Rattle.mq_core.specs.Theorems.{IsReadFor};
+ghost use Rattle.mq_stats.specs.Numbers.{totals_from};
+ghost use Rattle.mq_stats.specs.Percentiles.{waits_at};
+ghost use Rattle.mq_stats.specs.RunNumbers.{HasFewVisits};
+ghost use Rattle.mq_report.specs.Tails.{AreNodeTails, IsRun, IsTailAt, tail_from};
+ghost use Rattle.mq_report.specs.Text.{told_tail as told_tail_of};
+ghost use Rattle.mq_report.specs.Totals.{AreNodeTotals};
+
+use crate::sections::listed_totals;
+use mq_base::{List, OutOfMemory};
+use mq_core::{Node, Plan, Rows, Run, runs_have_sequences, totals_are_sequences};
+use mq_crew::{Gate, Pieces, made};
+use mq_stats::{NodeTotals, Percentiles, runs_give_visits, tail};
+use std::alloc::Global;
+use std::thread::Threads;
+
+// Where no job waited.
+const NO_WAIT: Percentiles = Percentiles {
+    p50: 0,
+    p90: 0,
+    p99: 0,
+};
+
+/// A run of a plan over rows, with the totals of its nodes. A piece of it is the percentiles of the waits at one node.
+#[derive(Clone, Copy)]
+pub struct RunTails<'a> {
+    pub plan: &'a Plan,
+    pub rows: &'a Rows,
+    pub run: &'a Run,
+    pub totals: &'a List<NodeTotals>,
+}
+
+impl<'a> Pieces for RunTails<'a> {
+    type Piece = Percentiles;
+
+    ghost fit = { IsRun };
+
+    ghost size = { λ of. length of.plan.now.net.nodes };
+
+    ghost is_piece = { λ of. IsTailAt of.plan.now of.rows.now };
+
+    fn count(&self) -> u32 {
+        self.plan.net.nodes.len() as u32
+    }
+
+    fn piece(&self, alloc: Global, b: u32) -> Result<Percentiles, OutOfMemory> {
+        let declared = self.plan.net.nodes.get(b as usize);
+        let totals = listed_totals(self.plan, self.rows, self.totals, b, declared);
+        tail_at(alloc, self.plan, self.rows, self.run, &totals, b, declared)
+    }
+}
+
+// The percentiles of the waits at a node over the run, which are looked for only where a job waited.
+fn tail_at(
+    alloc: Global,
+    plan: &Plan,
+    rows: &Rows,
+    run: &Run,
+    totals: &NodeTotals,
+    node: u32,
+    declared: &Node,
+) -> Result<Percentiles, OutOfMemory>
+    requires read { IsReadFor plan.now.net rows.now }
+    requires run { IsRunOf plan.now rows.now run.now }
+    requires few { HasFewVisits plan.now rows.now }
+    requires there { slice_get plan.now.net.nodes node ≡ Some declared.now }
+    requires totals { totals_from totals.now ≡ totals_of rows.now declared.now.kind ((run_of plan.now rows.now).stations node) }
+    ensures { IfOk result (IsTailAt plan.now rows.now node) }
+{
+    totals_are_sequences();
+    if totals.longest == 0 {
+        return Ok(NO_WAIT);
+    }
+    runs_have_sequences();
+    runs_give_visits();
+    tail(alloc, rows, &declared.kind, run.visits.get(node as usize))
+}
+
+/// The percentiles of the waits at each node over a run with these totals, by node, each a piece that one of 1
+/// to 64 workers makes, who enter the gate. No node has more than 1,048,576 visits. It refuses for want of memory alone.
+pub fn node_tails<R: Threads + Sync, G: Gate>(
+    rt: &R,
+    alloc: Global,
+    workers: u32,
+    plan: &Plan,
+    rows: &Rows,
+    run: &Run,
+    totals: &List<NodeTotals>,
+    gate: &G,
+) -> Result<List<Percentiles>, OutOfMemory>
+    requires some { 1 ≤ workers }
+    requires most { workers ≤ 64 }
+    requires read { IsReadFor plan.now.net rows.now }
+    requires run { IsRunOf plan.now rows.now run.now }
+    requires few { HasFewVisits plan.now rows.now }
+    requires totals { AreNodeTotals plan.now rows.now totals.now }
+    ensures { IfOk result (λ tails. AreNodeTails plan.now rows.now tails) }
+{
+    let nodes = RunTails {
+        plan,
+        rows,
+        run,
+        totals,
+    };
+    made(rt, alloc, workers, &nodes, gate)
+}
+
+/// The percentiles of the waits at a node that the report tells, from those of all nodes.
+pub fn told_tail(
+    plan: &Plan,
+    rows: &Rows,
+    tails: &List<Percentiles>,
+    form: u8,
+    node: u32,
+    declared: &Node,
+) -> Option<Percentiles>
+    requires tails { form ≡ 2 → AreNodeTails plan.now rows.now tails.now }
+    requires there { slice_get plan.now.net.nodes node ≡ Some declared.now }
+    ensures { option_map tail_from result ≡ told_tail_of form (waits_at rows.now declared.now.kind (visits_of declared.now.kind ((run_of plan.now rows.now).stations node))) }
+{
+    if form != 2 {
+        return None;
+    }
+    Some(*tails.get(node as usize))
+}

@@ -1,0 +1,209 @@
+// Worked percentiles of the waits at a node.
+ghost use Rattle.std.specs.Prelude.{◌≡◌, ◌<◌, ◌≤◌, ◌^◌, ℕ, All, List as Items, Some, length, slice_get, IsTrue};
+ghost use Rattle.mq_core.specs.Asked.{HasDemands};
+ghost use Rattle.mq_core.specs.Told.{HasValue, IsTold};
+ghost use Rattle.mq_core.specs.declared.model.Demand.TheVariants.{Column};
+
+use super::stats::{
+    Columns, HELD, NO_VISITS, SERVED, are_even, are_small, list, three_rows, visits_of,
+};
+use mq_base::{List, OutOfMemory};
+use mq_core::{Demand, Fate, Kind, Rows, Stage, Visits};
+use mq_stats::{Percentiles, tail};
+use std::alloc::Global;
+use std::test::Fail;
+
+fn have_values(rows: &Rows, jobs: &List<u32>, column: u8) -> bool
+    ensures { IsTrue result → All (λ job. HasValue rows.now column job) jobs.now }
+{
+    if column as usize >= rows.demands.len() {
+        return false;
+    }
+    let count = rows.demands.get(column as usize).len();
+    jobs.as_slice().iter().all(|job| (*job as usize) < count)
+}
+
+// Whether a column has values of at most 2^36.
+fn is_column_small(rows: &Rows, column: u8) -> bool
+    ensures { IsTrue result → (values : Items ℕ) → slice_get rows.now.demands column ≡ Some values → All (λ value. value ≤ 2 ^ 36) values }
+{
+    if column as usize >= rows.demands.len() {
+        return false;
+    }
+    let values = rows.demands.get(column as usize);
+    values
+        .as_slice()
+        .iter()
+        .all(|value| *value <= 68_719_476_736)
+}
+
+// Whether the rows tell what these jobs ask for in a column.
+fn are_told(rows: &Rows, jobs: &List<u32>, column: u8) -> bool
+    ensures { IsTrue result → All (λ job. IsTold rows.now (Column column) job) jobs.now }
+{
+    have_values(rows, jobs, column) && is_column_small(rows, column)
+}
+
+// Whether these are the percentiles of these visits: p50, p90 and p99.
+fn tail_is(
+    alloc: Global,
+    rows: &Rows,
+    kind: &Kind,
+    visits: &Visits,
+    wanted: (u64, u64, u64),
+) -> Result<bool, OutOfMemory>
+    requires { All (λ job. HasDemands rows.now kind.now job) visits.now.job }
+{
+    if !are_even(visits) || !are_small(&visits.found) {
+        return Ok(false);
+    }
+    let (p50, p90, p99) = wanted;
+    Ok(tail(alloc, rows, kind, visits)? == Percentiles { p50, p90, p99 })
+}
+
+fn tail_of_server_is(
+    alloc: Global,
+    rows: &Rows,
+    visits: &Visits,
+    wanted: (u64, u64, u64),
+) -> Result<bool, OutOfMemory> {
+    if !are_told(rows, &visits.job, 0) {
+        return Ok(false);
+    }
+    let kind = Kind::Server(Demand::Column(0));
+    tail_is(alloc, rows, &kind, visits, wanted)
+}
+
+// Whether a server with these visits of the three jobs has these percentiles.
+fn server_has(
+    alloc: Global,
+    columns: &Columns,
+    wanted: (u64, u64, u64),
+) -> Result<bool, OutOfMemory> {
+    let rows = three_rows(alloc)?;
+    let visits = visits_of(alloc, columns)?;
+    tail_of_server_is(alloc, &rows, &visits, wanted)
+}
+
+// Whether a join does, where each stay is a wait.
+fn join_has(
+    alloc: Global,
+    columns: &Columns,
+    wanted: (u64, u64, u64),
+) -> Result<bool, OutOfMemory> {
+    let rows = three_rows(alloc)?;
+    let visits = visits_of(alloc, columns)?;
+    tail_is(alloc, &rows, &Kind::Join, &visits, wanted)
+}
+
+#[test]
+fn waits_of_three_jobs_have_percentiles(rt: HostRuntime) -> Result<(), Fail> {
+    let one = Columns {
+        job: &[1],
+        arrive: &[1],
+        found: &[0],
+        fate: &[Fate::Departs(5)],
+    };
+    assert!(rt; server_has(rt.alloc(), &SERVED, (3, 3, 3))?);
+    assert!(rt; server_has(rt.alloc(), &NO_VISITS, (0, 0, 0))?);
+    assert!(rt; server_has(rt.alloc(), &one, (3, 3, 3))?);
+    assert!(rt; join_has(rt.alloc(), &SERVED, (4, 6, 6))?);
+    Ok(())
+}
+
+#[test]
+fn lost_and_held_visits_do_not_count(rt: HostRuntime) -> Result<(), Fail> {
+    let lost = Columns {
+        fate: &[Fate::Lost, Fate::Lost, Fate::Departs(8)],
+        ..SERVED
+    };
+    let none = Columns {
+        fate: &[Fate::Lost, Fate::Held, Fate::Lost],
+        ..SERVED
+    };
+    assert!(rt; server_has(rt.alloc(), &lost, (3, 3, 3))?);
+    assert!(rt; server_has(rt.alloc(), &none, (0, 0, 0))?);
+    assert!(rt; join_has(rt.alloc(), &HELD, (4, 5, 5))?);
+    Ok(())
+}
+
+// Ten visits of one job that is served for 4 ticks, which wait 0 to 9 ticks.
+const TEN: Columns<'static> = Columns {
+    job: &[0; 10],
+    arrive: &[0; 10],
+    found: &[0; 10],
+    fate: &[
+        Fate::Departs(13),
+        Fate::Departs(4),
+        Fate::Departs(12),
+        Fate::Departs(5),
+        Fate::Departs(11),
+        Fate::Departs(6),
+        Fate::Departs(10),
+        Fate::Departs(7),
+        Fate::Departs(9),
+        Fate::Departs(8),
+    ],
+};
+
+#[test]
+fn ten_waits_have_three_percentiles(rt: HostRuntime) -> Result<(), Fail> {
+    assert!(rt; server_has(rt.alloc(), &TEN, (4, 8, 9))?);
+    Ok(())
+}
+
+// The jobs that come to the desk of a call centre, a tandem of two stages, with what each asks for there.
+fn desk_rows(alloc: Global) -> Result<Rows, OutOfMemory> {
+    let mut demands = List::new(alloc);
+    demands.push(list(alloc, &[3u64, 2, 2, 1, 1, 2, 1])?)?;
+    demands.push(list(alloc, &[2u64, 4, 2, 3, 1, 1, 2])?)?;
+    Ok(Rows {
+        source: list(alloc, &[0u32; 7])?,
+        time: list(alloc, &[0u64, 3, 4, 4, 7, 9, 9])?,
+        demands,
+    })
+}
+
+const DESK: Columns<'static> = Columns {
+    job: &[0, 1, 2, 3, 4, 5, 6],
+    arrive: &[1, 5, 6, 7, 8, 9, 10],
+    found: &[0, 1, 1, 2, 3, 4, 5],
+    fate: &[
+        Fate::Departs(6),
+        Fate::Departs(11),
+        Fate::Departs(13),
+        Fate::Departs(16),
+        Fate::Departs(17),
+        Fate::Departs(19),
+        Fate::Departs(21),
+    ],
+};
+
+fn tail_of_desk_is(
+    alloc: Global,
+    rows: &Rows,
+    visits: &Visits,
+    wanted: (u64, u64, u64),
+) -> Result<bool, OutOfMemory> {
+    if !are_told(rows, &visits.job, 0) || !are_told(rows, &visits.job, 1) {
+        return Ok(false);
+    }
+    let first = Stage {
+        places: 0,
+        demand: Demand::Column(0),
+    };
+    let second = Stage {
+        places: 1,
+        demand: Demand::Column(1),
+    };
+    let kind = Kind::Tandem(list(alloc, &[first, second])?);
+    tail_is(alloc, rows, &kind, visits, wanted)
+}
+
+#[test]
+fn waits_at_a_desk_have_percentiles(rt: HostRuntime) -> Result<(), Fail> {
+    let rows = desk_rows(rt.alloc())?;
+    let visits = visits_of(rt.alloc(), &DESK)?;
+    assert!(rt; tail_of_desk_is(rt.alloc(), &rows, &visits, (5, 8, 8))?);
+    Ok(())
+}
