@@ -1,5 +1,5 @@
 -- When jobs depart from a station, from their arrivals and their demands, by position.
-use Rattle.std.specs.Prelude.{ℕ, ◌+◌, ◌-◌, max, nat_le, Bool, true, if◌then◌else◌, List, [], ◌∷◌, map, Option, Some, None, slice_get}
+use Rattle.std.specs.Prelude.{ℕ, suc, ◌+◌, ◌-◌, max, nat_le, nat_lt, Bool, true, if◌then◌else◌, List, [], ◌∷◌, map, Option, Some, None, slice_get}
 use Rattle.mq_core.specs.declared.model.Fate.{Fate}
 use Rattle.mq_core.specs.declared.model.Fate.TheVariants.{Departs, Lost}
 
@@ -38,6 +38,25 @@ loss_fates places left (arrive ∷ arrives) (demand ∷ demands) =
     if is_admitted places left arrive
     then (let time = max arrive (time_or_none (slice_get left 0)) + demand in Departs time ∷ loss_fates places (time ∷ left) arrives demands)
     else (Lost ∷ loss_fates places left arrives demands)
+
+-- how many of these departures come after this time
+abbrev pub busy_at : ℕ → List ℕ → ℕ
+busy_at now [] = 0
+busy_at now (time ∷ left) = if nat_lt now time then suc (busy_at now left) else busy_at now left
+
+-- an arrival at a trunk group finds a server where fewer of those admitted before it depart after it than there are servers
+abbrev pub finds_server : ℕ → List ℕ → ℕ → Bool
+finds_server servers left arrive = nat_lt (busy_at arrive left) servers
+
+-- how the arrivals at a trunk group fare, where those admitted before them left at these times, the latest admitted first:
+-- those that find a server depart their demand after they came, the others are lost
+abbrev pub trunk_fates : ℕ → List ℕ → List ℕ → List ℕ → List Fate
+trunk_fates servers left [] demands = []
+trunk_fates servers left (arrive ∷ arrives) [] = []
+trunk_fates servers left (arrive ∷ arrives) (demand ∷ demands) =
+    if finds_server servers left arrive
+    then (Departs (arrive + demand) ∷ trunk_fates servers ((arrive + demand) ∷ left) arrives demands)
+    else (Lost ∷ trunk_fates servers left arrives demands)
 
 -- from servers in series: what leaves one arrives at the next
 abbrev pub in_series : List ℕ → List (List ℕ) → List ℕ

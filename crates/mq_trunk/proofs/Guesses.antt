@@ -2,7 +2,8 @@
 use Rattle.std.proofs.Common.{◌≡◌, ℕ, zero, suc, ◌+◌, Bool, true, false, List, [], ◌∷◌, length, take, map, refl, sym, ap, ◌∙◌, subst, arith}
 use Rattle.std.specs.Prelude.{if◌then◌else◌}
 use Rattle.mq_core.specs.declared.model.Fate.TheVariants.{Departs, Lost}
-use Rattle.mq_trunk.specs.Rounds.{admits, admission_from, departures_in, departures_of, finds_server, left_behind, round_from, trunk_fates}
+use Rattle.mq_core.specs.Recurrences.{finds_server, trunk_fates}
+use Rattle.mq_trunk.specs.Rounds.{admits, admission_from, departures_in, departures_of, left_behind, round_from}
 
 by-verdict : (servers : ℕ) (left : List ℕ) (arrive demand : ℕ) (arrives demands : List ℕ) (b : Bool) →
     map admits (if b then (Departs (arrive + demand) ∷ trunk_fates servers ((arrive + demand) ∷ left) arrives demands) else (Lost ∷ trunk_fates servers left arrives demands))

@@ -4,7 +4,7 @@ use Rattle.std.specs.Prelude.{min, nat_lt, slice_get, slice_index, ⊤, if◌the
 use Rattle.std.proofs.lemmas.List.{length-replicate}
 use Rattle.std.proofs.lemmas.Option.{slice_get-get_or}
 use Rattle.std.proofs.lemmas.Bool.Decides.{nat_tests}
-use Rattle.mq_trunk.specs.Rounds.{busy_at, finds_server}
+use Rattle.mq_core.specs.Recurrences.{busy_at, finds_server}
 use Rattle.mq_trunk.specs.Kept.{IsFalling, IsKept, take_place}
 
 -- one departure more

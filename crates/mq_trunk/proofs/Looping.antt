@@ -7,7 +7,8 @@ use Rattle.std.proofs.lemmas.List.Elements.{All-get_or}
 use Rattle.mq_base.proofs.lemmas.Lists.{drop_at}
 use Rattle.mq_core.specs.Sequences.{IsSoundLoad}
 use Rattle.mq_trunk.specs.Kept.{IsKept, take_place}
-use Rattle.mq_trunk.specs.Rounds.{all_admitted, departures_of, finds_server, left_behind, left_of, round_from}
+use Rattle.mq_core.specs.Recurrences.{finds_server}
+use Rattle.mq_trunk.specs.Rounds.{all_admitted, departures_of, left_behind, left_of, round_from}
 use Rattle.mq_trunk.specs.Windows.{settled_part}
 use Rattle.mq_trunk.proofs.Keeping.{kept-next}
 

@@ -2,7 +2,8 @@
 use Rattle.std.proofs.Common.{◌≡◌, ℕ, zero, suc, ◌+◌, Bool, true, false, List, [], ◌∷◌, length, take, refl, Some, sym, ap, ◌∙◌, arith}
 use Rattle.std.specs.Prelude.{nat_lt, slice_get}
 use Rattle.std.proofs.lemmas.Bool.Decides.{nat_tests}
-use Rattle.mq_trunk.specs.Rounds.{busy_at, departures_of, finds_server, round_from, round_of}
+use Rattle.mq_core.specs.Recurrences.{busy_at, finds_server}
+use Rattle.mq_trunk.specs.Rounds.{departures_of, round_from, round_of}
 
 one-more : (now time : ℕ) (times left : List ℕ) → busy_at now times + busy_at now (time ∷ left) ≡ busy_at now (time ∷ times) + busy_at now left
 one-more now time times left = grind (arith, nat_tests)

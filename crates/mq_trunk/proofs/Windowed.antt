@@ -3,7 +3,8 @@ use Rattle.std.proofs.Common.{◌≡◌, ℕ, zero, suc, ◌+◌, ◌-◌, ◌*�
 use Rattle.std.specs.Prelude.{min, reverse}
 use Rattle.std.proofs.lemmas.Bool.Decides.{nat_tests}
 use Rattle.std.proofs.lemmas.List.{append-nil, reverse-append}
-use Rattle.mq_trunk.specs.Rounds.{admission_from, all_admitted, departures_of, finds_server, left_behind, left_of, round_from}
+use Rattle.mq_core.specs.Recurrences.{finds_server}
+use Rattle.mq_trunk.specs.Rounds.{admission_from, all_admitted, departures_of, left_behind, left_of, round_from}
 use Rattle.mq_trunk.specs.Windows.{next_width, settled_part, window_after}
 use Rattle.mq_trunk.proofs.Guesses.{admission-next}
 use Rattle.mq_trunk.proofs.Looping.{departures-none}

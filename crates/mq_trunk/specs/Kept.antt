@@ -1,6 +1,6 @@
 -- The departures that a judgement needs: as many as there are servers, the latest first.
 use Rattle.std.specs.Prelude.{◌≡◌, ℕ, min, nat_lt, if◌then◌else◌, List, [], ◌∷◌, length, ⊤}
-use Rattle.mq_trunk.specs.Rounds.{busy_at}
+use Rattle.mq_core.specs.Recurrences.{busy_at}
 
 -- none of these times comes after one before it
 abbrev pub IsFalling : List ℕ → Type 0

@@ -1,6 +1,7 @@
 -- What rounds of guesses come to.
 use Rattle.std.specs.Prelude.{◌≡◌, ℕ, ◌+◌, Bool, List, length, slice_get, take, Some, ◌↔◌}
-use Rattle.mq_trunk.specs.Rounds.{admission, departures_of, finds_server, round_of}
+use Rattle.mq_core.specs.Recurrences.{finds_server}
+use Rattle.mq_trunk.specs.Rounds.{admission, departures_of, round_of}
 
 -- a guess is right on this many first arrivals
 abbrev pub IsRightOn : ℕ → ℕ → List ℕ → List ℕ → List Bool → Type 0

@@ -1,26 +1,8 @@
 -- Rounds of guesses at a trunk: which arrivals a guess admits, and what one round makes of it.
-use Rattle.std.specs.Prelude.{ℕ, suc, ◌+◌, nat_lt, Bool, true, false, if◌then◌else◌, List, [], ◌∷◌, map, replicate, reverse}
+use Rattle.std.specs.Prelude.{ℕ, ◌+◌, Bool, true, false, List, [], ◌∷◌, map, replicate, reverse}
+use Rattle.mq_core.specs.Recurrences.{finds_server, trunk_fates}
 use Rattle.mq_core.specs.declared.model.Fate.{Fate}
 use Rattle.mq_core.specs.declared.model.Fate.TheVariants.{Departs, Held, Lost}
-
--- how many of these departures come after this time
-abbrev pub busy_at : ℕ → List ℕ → ℕ
-busy_at now [] = 0
-busy_at now (time ∷ left) = if nat_lt now time then suc (busy_at now left) else busy_at now left
-
--- an arrival finds a server where fewer of those admitted before it depart after it than there are servers
-abbrev pub finds_server : ℕ → List ℕ → ℕ → Bool
-finds_server servers left arrive = nat_lt (busy_at arrive left) servers
-
--- how the arrivals at a trunk fare, where those admitted before them left at these times, the latest admitted first: those
--- that find a server depart their demand after they came, the others are lost
-abbrev pub trunk_fates : ℕ → List ℕ → List ℕ → List ℕ → List Fate
-trunk_fates servers left [] demands = []
-trunk_fates servers left (arrive ∷ arrives) [] = []
-trunk_fates servers left (arrive ∷ arrives) (demand ∷ demands) =
-    if finds_server servers left arrive
-    then (Departs (arrive + demand) ∷ trunk_fates servers ((arrive + demand) ∷ left) arrives demands)
-    else (Lost ∷ trunk_fates servers left arrives demands)
 
 -- whether a visit is admitted; at a trunk none is held
 abbrev pub admits : Fate → Bool

@@ -1,6 +1,6 @@
 ghost use Rattle.std.specs.Prelude.{◌≡◌, ◌+◌, ◌<◌, length, nat_lt};
 ghost use Rattle.mq_trunk.specs.Kept.{IsFalling, take_place};
-ghost use Rattle.mq_trunk.specs.Rounds.{busy_at};
+ghost use Rattle.mq_core.specs.Recurrences.{busy_at};
 
 use mq_base::Steps;
 use std::sync::ledger::Ledger;

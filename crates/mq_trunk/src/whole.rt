@@ -1,7 +1,8 @@
 ghost use Rattle.std.specs.Prelude.{◌≡◌, ◌+◌, ◌≤◌, length, nat_lt, replicate, if◌then◌else◌, IfOk};
 ghost use Rattle.mq_core.specs.Sequences.{IsSoundLoad};
 ghost use Rattle.mq_trunk.specs.Kept.{IsFalling, take_place};
-ghost use Rattle.mq_trunk.specs.Rounds.{busy_at, round_of};
+ghost use Rattle.mq_core.specs.Recurrences.{busy_at};
+ghost use Rattle.mq_trunk.specs.Rounds.{round_of};
 
 use crate::judging::{busy_among, keep_latest};
 use mq_base::{List, OutOfMemory};

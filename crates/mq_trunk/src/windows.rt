@@ -1,7 +1,8 @@
 ghost use Rattle.std.specs.Prelude.{◌≡◌, ◌+◌, ◌-◌, ◌*◌, ◌^◌, ◌≤◌, ◌<◌, ◌++◌, [], drop, length, nat_lt, IfOk, vec_len, vec_capacity};
 ghost use Rattle.mq_core.specs.Sequences.{IsSoundLoad};
 ghost use Rattle.mq_trunk.specs.Kept.{IsFalling, IsKept};
-ghost use Rattle.mq_trunk.specs.Rounds.{admission, all_admitted, busy_at, departures_of, left_of, round_from};
+ghost use Rattle.mq_core.specs.Recurrences.{busy_at};
+ghost use Rattle.mq_trunk.specs.Rounds.{admission, all_admitted, departures_of, left_of, round_from};
 ghost use Rattle.mq_trunk.specs.Windows.{IsWindowRun, next_width, one_window, settled_part, stand_of};
 
 use crate::judging::{busy_among, judge_trunk, keep_latest};

@@ -1,5 +1,5 @@
 use Rattle.std.proofs.Common.{◌-◌, ◌≤◌, length}
-use Rattle.mq_trunk.specs.Rounds.{busy_at}
+use Rattle.mq_core.specs.Recurrences.{busy_at}
 use Rattle.mq_trunk.proofs.judging.busy_among.Given as goal
 
 -- the number lies between the two limits

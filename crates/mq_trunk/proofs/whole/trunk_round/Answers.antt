@@ -2,7 +2,8 @@ use Rattle.std.proofs.Common.{◌≡◌, ◌++◌, ◌+◌, ◌<◌, ◌≤◌, 
 use Rattle.std.specs.Prelude.{nat_lt, replicate, slice_get}
 use Rattle.std.proofs.lemmas.List.{length-take-le}
 use Rattle.mq_trunk.specs.Kept.{IsKept}
-use Rattle.mq_trunk.specs.Rounds.{busy_at, finds_server, left_of, round_from}
+use Rattle.mq_core.specs.Recurrences.{busy_at, finds_server}
+use Rattle.mq_trunk.specs.Rounds.{left_of, round_from}
 use Rattle.mq_trunk.proofs.Keeping.{kept-judges, kept-none}
 use Rattle.mq_trunk.proofs.Looping.{item-at, kept-behind, left-none, left-push, round-all, round-next, take-more}
 use Rattle.mq_trunk.proofs.whole.trunk_round.Goals as goal
