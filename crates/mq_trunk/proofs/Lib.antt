@@ -5,4 +5,5 @@ pub mod Looping
 pub mod Parting
 pub mod Reading
 pub mod Running
+pub mod Streaming
 pub mod Windowed

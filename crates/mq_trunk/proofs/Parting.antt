@@ -6,6 +6,10 @@ use Rattle.mq_base.proofs.lemmas.Lists.{drop_at}
 use Rattle.mq_trunk.specs.Parts.{of_admitted, of_lost}
 use Rattle.mq_trunk.specs.Rounds.{departures_of}
 
+-- what is left begins with the item there
+at-drop : (items : List ℕ) (at : ℕ) → at < length items → drop at items ≡ get_or items at 0 ∷ drop (at + 1) items
+at-drop items at l = let next : suc at ≡ at + 1 = omega arith in drop-cons items at 0 l ∙ ap (λ n. get_or items at 0 ∷ drop n items) next
+
 -- an arrival that is admitted
 pub admitted-next : (done done' all : List ℕ) (admitted : List Bool) (items : List ℕ) (at item : ℕ) → slice_get admitted at ≡ Some true → slice_get items at ≡ Some item → done' ≡ done ++ item ∷ [] →
     done ++ of_admitted (drop at admitted) (drop at items) ≡ all → done' ++ of_admitted (drop (at + 1) admitted) (drop (at + 1) items) ≡ all
@@ -14,9 +18,9 @@ admitted-next done done' all admitted items at item a i p h =
     ∙ (append_assoc done (item ∷ []) (of_admitted (drop (at + 1) admitted) (drop (at + 1) items))
     ∙ (sym (λ k. done ++ of_admitted (drop_at admitted at true a k) (drop_at items at item i k)) ∙ h))
 
-pub lost-past : (done all : List ℕ) (admitted : List Bool) (items : List ℕ) (at item : ℕ) → slice_get admitted at ≡ Some true → slice_get items at ≡ Some item →
+pub lost-past : (done all : List ℕ) (admitted : List Bool) (items : List ℕ) (at : ℕ) → slice_get admitted at ≡ Some true → at < length items →
     done ++ of_lost (drop at admitted) (drop at items) ≡ all → done ++ of_lost (drop (at + 1) admitted) (drop (at + 1) items) ≡ all
-lost-past done all admitted items at item a i h = sym (λ k. done ++ of_lost (drop_at admitted at true a k) (drop_at items at item i k)) ∙ h
+lost-past done all admitted items at a i h = sym (λ k. done ++ of_lost (drop_at admitted at true a k) (at-drop items at i k)) ∙ h
 
 -- one that is lost
 pub lost-next : (done done' all : List ℕ) (admitted : List Bool) (items : List ℕ) (at item : ℕ) → slice_get admitted at ≡ Some false → slice_get items at ≡ Some item → done' ≡ done ++ item ∷ [] →
@@ -26,9 +30,9 @@ lost-next done done' all admitted items at item a i p h =
     ∙ (append_assoc done (item ∷ []) (of_lost (drop (at + 1) admitted) (drop (at + 1) items))
     ∙ (sym (λ k. done ++ of_lost (drop_at admitted at false a k) (drop_at items at item i k)) ∙ h))
 
-pub admitted-past : (done all : List ℕ) (admitted : List Bool) (items : List ℕ) (at item : ℕ) → slice_get admitted at ≡ Some false → slice_get items at ≡ Some item →
+pub admitted-past : (done all : List ℕ) (admitted : List Bool) (items : List ℕ) (at : ℕ) → slice_get admitted at ≡ Some false → at < length items →
     done ++ of_admitted (drop at admitted) (drop at items) ≡ all → done ++ of_admitted (drop (at + 1) admitted) (drop (at + 1) items) ≡ all
-admitted-past done all admitted items at item a i h = sym (λ k. done ++ of_admitted (drop_at admitted at false a k) (drop_at items at item i k)) ∙ h
+admitted-past done all admitted items at a i h = sym (λ k. done ++ of_admitted (drop_at admitted at false a k) (at-drop items at i k)) ∙ h
 
 -- at the end nothing is left
 pub admitted-end : (done all : List ℕ) (admitted : List Bool) (items : List ℕ) (at : ℕ) → length admitted ≤ at → done ++ of_admitted (drop at admitted) (drop at items) ≡ all → done ≡ all
