@@ -1,22 +1,20 @@
 -- What leaves a trunk by each output, from its fates.
-use Rattle.std.proofs.Common.{◌≡◌, ℕ, suc, ◌+◌, ◌≤◌, Bool, true, false, List, [], ◌∷◌, length, map, sym, refl, ap, ◌∙◌, subst, arith}
+use Rattle.std.proofs.Common.{◌≡◌, ℕ, suc, ◌+◌, ◌≤◌, Bool, true, false, List, [], ◌∷◌, length, map, sym, refl, ap, ◌∙◌, arith}
 use Rattle.std.specs.Prelude.{⊤, if◌then◌else◌}
 use Rattle.std.specs.List.{AllByRecursion as Each, zip}
 use Rattle.std.proofs.lemmas.List.{length-map}
 use Rattle.mq_base.proofs.lemmas.Zips.{zip-jobs, zip-map, zip-times}
 use Rattle.mq_core.proofs.lemmas.Rising.{Rises-in_order_of, filter-in_order_of, same_by_key}
-use Rattle.mq_core.specs.Came.{came_in}
-use Rattle.mq_core.specs.EmissionOrder.EmissionOrder.{Overtaking}
 use Rattle.mq_core.specs.Kinds.Loss.{out_of_fate}
-use Rattle.mq_core.specs.Laws.{Rises, in_order_of}
-use Rattle.mq_core.specs.OnceOut.{leaving_times, once_out}
+use Rattle.mq_core.specs.Laws.{Rises}
+use Rattle.mq_core.specs.OnceOut.{leaving_times}
 use Rattle.mq_core.specs.Recurrences.{finds_server, trunk_fates}
 use Rattle.mq_core.specs.Sequences.{IsStream}
 use Rattle.mq_core.specs.Streams.{by_first, pairs_of, picked, sorted}
 use Rattle.mq_core.specs.declared.model.Fate.{Fate}
 use Rattle.mq_core.specs.declared.model.Fate.TheVariants.{Departs, Held, Lost}
 use Rattle.mq_core.specs.declared.model.Stream.{Stream}
-use Rattle.mq_trunk.specs.Parts.{AreParted, fates_by, lost_of, of_admitted, of_lost, trunk_stream}
+use Rattle.mq_trunk.specs.Parts.{fates_by, lost_of, of_admitted, of_lost, trunk_stream}
 use Rattle.mq_trunk.specs.Rounds.{admission, admits, departures_in}
 
 -- At a trunk no visit is held.

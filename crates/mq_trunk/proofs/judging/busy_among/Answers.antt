@@ -1,5 +1,4 @@
-use Rattle.std.proofs.Common.{ℕ, ◌+◌, ◌-◌, ◌*◌, ◌/◌, ◌<◌, ◌≤◌, List, length, arith}
-use Rattle.mq_core.specs.Recurrences.{busy_at}
+use Rattle.std.proofs.Common.{ℕ, ◌+◌, ◌-◌, ◌/◌, ◌<◌, length, arith}
 use Rattle.mq_trunk.proofs.Keeping.{busy-few, falls-later-at, falls-past-at}
 use Rattle.mq_trunk.proofs.judging.busy_among.Goals as goal
 

@@ -1,9 +1,9 @@
-use Rattle.std.proofs.Common.{◌≡◌, ℕ, ◌≤◌, List, Bool, [], length, sym, ap, ◌∙◌, subst, arith}
+use Rattle.std.proofs.Common.{◌≡◌, ℕ, List, Bool, [], length, sym, ap, ◌∙◌, subst, arith}
 use Rattle.mq_core.specs.Recurrences.{trunk_fates}
 use Rattle.mq_core.specs.Sequences.{IsStream}
 use Rattle.mq_core.specs.declared.model.Fate.{Fate}
 use Rattle.mq_core.specs.declared.model.Stream.{Stream}
-use Rattle.mq_trunk.specs.Parts.{fates_by, lost_of, of_admitted}
+use Rattle.mq_trunk.specs.Parts.{fates_by, of_admitted}
 use Rattle.mq_trunk.specs.Rounds.{admission, departures_in, departures_of}
 use Rattle.mq_trunk.proofs.Guesses.{admission-departs}
 use Rattle.mq_trunk.proofs.Parting.{departures-each}

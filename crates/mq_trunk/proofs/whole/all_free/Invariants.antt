@@ -1,5 +1,5 @@
-use Rattle.std.proofs.Common.{◌≡◌, ◌+◌, ◌-◌, ◌≤◌, replicate}
-use Rattle.std.specs.Vec.{vec_len, vec_capacity}
+use Rattle.std.proofs.Common.{◌≡◌, ◌≤◌, replicate}
+use Rattle.std.specs.Vec.{vec_capacity}
 use Rattle.mq_trunk.proofs.whole.all_free.Given as goal
 
 abbrev pub invariant-loop : goal.invariant-loop

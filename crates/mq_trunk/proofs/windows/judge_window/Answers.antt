@@ -1,8 +1,8 @@
-use Rattle.std.proofs.Common.{◌≡◌, ◌++◌, ◌+◌, ◌-◌, ◌<◌, ◌≤◌, ℕ, suc, Bool, true, false, List, [], ◌∷◌, length, Some, sym, ap, ◌∙◌, subst, arith}
+use Rattle.std.proofs.Common.{◌≡◌, ◌++◌, ◌+◌, ◌-◌, ℕ, suc, Bool, true, false, List, [], ◌∷◌, length, Some, sym, ap, ◌∙◌, subst, arith}
 use Rattle.std.specs.Prelude.{nat_lt, slice_get}
 use Rattle.mq_trunk.specs.Kept.{IsKept}
 use Rattle.mq_core.specs.Recurrences.{busy_at, finds_server}
-use Rattle.mq_trunk.specs.Rounds.{departures_of, left_of}
+use Rattle.mq_trunk.specs.Rounds.{left_of}
 use Rattle.mq_trunk.proofs.Keeping.{kept-judges, kept-next}
 use Rattle.mq_trunk.proofs.Looping.{departs-more, departs-same, item-at, left-push, window-all, window-lost, window-next}
 use Rattle.mq_trunk.proofs.windows.judge_window.Goals as goal

@@ -1,6 +1,6 @@
 use Rattle.std.proofs.Common.{◌≡◌, ◌+◌, ◌-◌, ◌≤◌, ◌++◌, ℕ, Bool, List, length, drop, refl, ap, sym, ◌∙◌, arith, subst, length-append}
 use Rattle.std.specs.Prelude.{min}
-use Rattle.mq_trunk.specs.Rounds.{all_admitted, departures_of, left_of, round_from}
+use Rattle.mq_trunk.specs.Rounds.{all_admitted, left_of, round_from}
 use Rattle.mq_trunk.specs.Windows.{next_width, settled_part}
 use Rattle.mq_trunk.proofs.Looping.{departures-few}
 use Rattle.mq_trunk.proofs.Running.{stands}

@@ -1,7 +1,7 @@
-use Rattle.std.proofs.Common.{◌≡◌, ℕ, ◌+◌, ◌<◌, ◌≤◌, Bool, List, [], length, sym, ap, ◌∙◌, subst, arith}
+use Rattle.std.proofs.Common.{ℕ, ◌+◌, ◌<◌, ◌≤◌, Bool, List, length, sym, ap, ◌∙◌, subst, arith}
 use Rattle.mq_trunk.specs.Kept.{IsKept}
 use Rattle.mq_trunk.specs.Rounds.{departures_of, left_of}
-use Rattle.mq_trunk.specs.Windows.{Stand, stand_of}
+use Rattle.mq_trunk.specs.Windows.{stand_of}
 use Rattle.mq_trunk.proofs.Keeping.{kept-none}
 use Rattle.mq_trunk.proofs.Looping.{departures-none, left-none}
 use Rattle.mq_trunk.proofs.Running.{IsOnward, IsStanding, goes-on, settled-all, stands-first}
