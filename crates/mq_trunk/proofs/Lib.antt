@@ -1,0 +1,9 @@
+pub mod Guesses
+pub mod Keeping
+pub mod Known
+pub mod Looping
+pub mod Parting
+pub mod Reading
+pub mod Running
+pub mod Streaming
+pub mod Windowed

@@ -1,0 +1,54 @@
+-- Which jobs leave by which output, as loops over the arrivals find them.
+use Rattle.std.proofs.Common.{◌≡◌, ℕ, suc, ◌+◌, ◌<◌, ◌≤◌, Bool, true, false, List, [], ◌∷◌, ◌++◌, length, get_or, drop, Some, sym, refl, ap, ◌∙◌, arith, append_assoc, drop-cons}
+use Rattle.std.specs.Prelude.{slice_get}
+use Rattle.std.proofs.lemmas.List.{append-nil, drop_all}
+use Rattle.mq_base.proofs.lemmas.Lists.{drop_at}
+use Rattle.mq_trunk.specs.Parts.{of_admitted, of_lost}
+use Rattle.mq_trunk.specs.Rounds.{departures_of}
+
+-- what is left begins with the item there
+at-drop : (items : List ℕ) (at : ℕ) → at < length items → drop at items ≡ get_or items at 0 ∷ drop (at + 1) items
+at-drop items at l = let next : suc at ≡ at + 1 = omega arith in drop-cons items at 0 l ∙ ap (λ n. get_or items at 0 ∷ drop n items) next
+
+-- an arrival that is admitted
+pub admitted-next : (done done' all : List ℕ) (admitted : List Bool) (items : List ℕ) (at item : ℕ) → slice_get admitted at ≡ Some true → slice_get items at ≡ Some item → done' ≡ done ++ item ∷ [] →
+    done ++ of_admitted (drop at admitted) (drop at items) ≡ all → done' ++ of_admitted (drop (at + 1) admitted) (drop (at + 1) items) ≡ all
+admitted-next done done' all admitted items at item a i p h =
+    ap (λ xs. xs ++ of_admitted (drop (at + 1) admitted) (drop (at + 1) items)) p
+    ∙ (append_assoc done (item ∷ []) (of_admitted (drop (at + 1) admitted) (drop (at + 1) items))
+    ∙ (sym (λ k. done ++ of_admitted (drop_at admitted at true a k) (drop_at items at item i k)) ∙ h))
+
+pub lost-past : (done all : List ℕ) (admitted : List Bool) (items : List ℕ) (at : ℕ) → slice_get admitted at ≡ Some true → at < length items →
+    done ++ of_lost (drop at admitted) (drop at items) ≡ all → done ++ of_lost (drop (at + 1) admitted) (drop (at + 1) items) ≡ all
+lost-past done all admitted items at a i h = sym (λ k. done ++ of_lost (drop_at admitted at true a k) (at-drop items at i k)) ∙ h
+
+-- one that is lost
+pub lost-next : (done done' all : List ℕ) (admitted : List Bool) (items : List ℕ) (at item : ℕ) → slice_get admitted at ≡ Some false → slice_get items at ≡ Some item → done' ≡ done ++ item ∷ [] →
+    done ++ of_lost (drop at admitted) (drop at items) ≡ all → done' ++ of_lost (drop (at + 1) admitted) (drop (at + 1) items) ≡ all
+lost-next done done' all admitted items at item a i p h =
+    ap (λ xs. xs ++ of_lost (drop (at + 1) admitted) (drop (at + 1) items)) p
+    ∙ (append_assoc done (item ∷ []) (of_lost (drop (at + 1) admitted) (drop (at + 1) items))
+    ∙ (sym (λ k. done ++ of_lost (drop_at admitted at false a k) (drop_at items at item i k)) ∙ h))
+
+pub admitted-past : (done all : List ℕ) (admitted : List Bool) (items : List ℕ) (at : ℕ) → slice_get admitted at ≡ Some false → at < length items →
+    done ++ of_admitted (drop at admitted) (drop at items) ≡ all → done ++ of_admitted (drop (at + 1) admitted) (drop (at + 1) items) ≡ all
+admitted-past done all admitted items at a i h = sym (λ k. done ++ of_admitted (drop_at admitted at false a k) (at-drop items at i k)) ∙ h
+
+-- at the end nothing is left
+pub admitted-end : (done all : List ℕ) (admitted : List Bool) (items : List ℕ) (at : ℕ) → length admitted ≤ at → done ++ of_admitted (drop at admitted) (drop at items) ≡ all → done ≡ all
+admitted-end done all admitted items at l h = sym (append-nil done) ∙ (ap (λ (xs : List Bool). done ++ of_admitted xs (drop at items)) (sym (drop_all at admitted l)) ∙ h)
+
+pub lost-end : (done all : List ℕ) (admitted : List Bool) (items : List ℕ) (at : ℕ) → length admitted ≤ at → done ++ of_lost (drop at admitted) (drop at items) ≡ all → done ≡ all
+lost-end done all admitted items at l h = sym (append-nil done) ∙ (ap (λ (xs : List Bool). done ++ of_lost xs (drop at items)) (sym (drop_all at admitted l)) ∙ h)
+
+-- each job that is admitted has its departure
+pub departures-each : (times demands : List ℕ) (admitted : List Bool) (jobs : List ℕ) → length demands ≡ length times → length jobs ≡ length times →
+    length (departures_of times demands admitted) ≡ length (of_admitted admitted jobs)
+departures-each [] demands [] jobs d j = refl
+departures-each [] demands (admit ∷ admitted) [] d j = refl
+departures-each [] demands (admit ∷ admitted) (job ∷ jobs) d j = absurd (omega arith)
+departures-each (arrive ∷ times) [] admitted jobs d j = absurd (omega arith)
+departures-each (arrive ∷ times) (demand ∷ demands) [] jobs d j = refl
+departures-each (arrive ∷ times) (demand ∷ demands) (admit ∷ admitted) [] d j = absurd (omega arith)
+departures-each (arrive ∷ times) (demand ∷ demands) (true ∷ admitted) (job ∷ jobs) d j = ap suc (departures-each times demands admitted jobs (omega arith) (omega arith))
+departures-each (arrive ∷ times) (demand ∷ demands) (false ∷ admitted) (job ∷ jobs) d j = departures-each times demands admitted jobs (omega arith) (omega arith)

@@ -1,0 +1,157 @@
+-- What leaves a trunk by each output, from its fates.
+use Rattle.std.proofs.Common.{◌≡◌, ℕ, suc, ◌+◌, ◌≤◌, Bool, true, false, List, [], ◌∷◌, length, map, sym, refl, ap, ◌∙◌, arith}
+use Rattle.std.specs.Prelude.{⊤, if◌then◌else◌}
+use Rattle.std.specs.List.{AllByRecursion as Each, zip}
+use Rattle.std.proofs.lemmas.List.{length-map}
+use Rattle.mq_base.proofs.lemmas.Zips.{zip-jobs, zip-map, zip-times}
+use Rattle.mq_core.proofs.lemmas.Rising.{Rises-in_order_of, filter-in_order_of, same_by_key}
+use Rattle.mq_core.specs.Kinds.Loss.{out_of_fate}
+use Rattle.mq_core.specs.Laws.{Rises}
+use Rattle.mq_core.specs.OnceOut.{leaving_times}
+use Rattle.mq_core.specs.Recurrences.{finds_server, trunk_fates}
+use Rattle.mq_core.specs.Sequences.{IsStream}
+use Rattle.mq_core.specs.Streams.{by_first, pairs_of, picked, sorted}
+use Rattle.mq_core.specs.declared.model.Fate.{Fate}
+use Rattle.mq_core.specs.declared.model.Fate.TheVariants.{Departs, Held, Lost}
+use Rattle.mq_core.specs.declared.model.Stream.{Stream}
+use Rattle.mq_trunk.specs.Parts.{fates_by, lost_of, of_admitted, of_lost, trunk_stream}
+use Rattle.mq_trunk.specs.Rounds.{admission, admits, departures_in}
+
+-- At a trunk no visit is held.
+abbrev pub IsOver : Fate → Type 0
+IsOver (Departs time) = ⊤
+IsOver Lost = ⊤
+IsOver Held = ⊥
+
+pub over-all : (servers : ℕ) (left times demands : List ℕ) → Each IsOver (trunk_fates servers left times demands)
+over-all servers left [] demands = tt
+over-all servers left (arrive ∷ arrives) [] = tt
+over-all servers left (arrive ∷ arrives) (demand ∷ demands) = go (finds_server servers left arrive) (over-all servers ((arrive + demand) ∷ left) arrives demands) (over-all servers left arrives demands)
+  where
+    go : (b : Bool) → Each IsOver (trunk_fates servers ((arrive + demand) ∷ left) arrives demands) → Each IsOver (trunk_fates servers left arrives demands) →
+        Each IsOver (if b then (Departs (arrive + demand) ∷ trunk_fates servers ((arrive + demand) ∷ left) arrives demands) else (Lost ∷ trunk_fates servers left arrives demands))
+    go true h k = (tt, h)
+    go false h k = (tt, k)
+
+-- there is one fate an arrival
+pub fates-each : (servers : ℕ) (left times demands : List ℕ) → length demands ≡ length times → length (trunk_fates servers left times demands) ≡ length times
+fates-each servers left [] demands d = refl
+fates-each servers left (arrive ∷ arrives) [] d = absurd (omega arith)
+fates-each servers left (arrive ∷ arrives) (demand ∷ demands) d = go (finds_server servers left arrive) (fates-each servers ((arrive + demand) ∷ left) arrives demands (omega arith)) (fates-each servers left arrives demands (omega arith))
+  where
+    go : (b : Bool) → length (trunk_fates servers ((arrive + demand) ∷ left) arrives demands) ≡ length arrives → length (trunk_fates servers left arrives demands) ≡ length arrives →
+        length (if b then (Departs (arrive + demand) ∷ trunk_fates servers ((arrive + demand) ∷ left) arrives demands) else (Lost ∷ trunk_fates servers left arrives demands)) ≡ suc (length arrives)
+    go true h k = ap suc h
+    go false h k = ap suc k
+
+-- fates are told by who is admitted and when those depart
+pub fates-back : (fates : List Fate) → Each IsOver fates → fates_by (map admits fates) (departures_in fates) ≡ fates
+fates-back [] o = refl
+fates-back (Departs time ∷ fates) o = ap (λ l. Departs time ∷ l) (fates-back fates o.1)
+fates-back (Lost ∷ fates) o = ap (λ l. Lost ∷ l) (fates-back fates o.1)
+fates-back (Held ∷ fates) o = absurd o.0
+
+-- those that are admitted leave by output 0, and the others by output 1
+admitted-first : (fates : List Fate) (items : List ℕ) → of_admitted (map admits fates) items ≡ picked 0 (map out_of_fate fates) items
+admitted-first [] items = refl
+admitted-first (fate ∷ fates) [] = refl
+admitted-first (Departs time ∷ fates) (item ∷ items) = ap (λ l. item ∷ l) (admitted-first fates items)
+admitted-first (Lost ∷ fates) (item ∷ items) = admitted-first fates items
+admitted-first (Held ∷ fates) (item ∷ items) = ap (λ l. item ∷ l) (admitted-first fates items)
+
+lost-second : (fates : List Fate) (items : List ℕ) → of_lost (map admits fates) items ≡ picked 1 (map out_of_fate fates) items
+lost-second [] items = refl
+lost-second (fate ∷ fates) [] = refl
+lost-second (Departs time ∷ fates) (item ∷ items) = lost-second fates items
+lost-second (Lost ∷ fates) (item ∷ items) = ap (λ l. item ∷ l) (lost-second fates items)
+lost-second (Held ∷ fates) (item ∷ items) = lost-second fates items
+
+-- those that are admitted leave as they depart, and the others as they came
+admitted-leave : (arrive : List ℕ) (fates : List Fate) → length fates ≡ length arrive → Each IsOver fates → picked 0 (map out_of_fate fates) (leaving_times arrive fates) ≡ departures_in fates
+admitted-leave [] [] e o = refl
+admitted-leave [] (fate ∷ fates) e o = absurd (omega arith)
+admitted-leave (time ∷ arrive) [] e o = refl
+admitted-leave (time ∷ arrive) (Departs departs ∷ fates) e o = ap (λ l. departs ∷ l) (admitted-leave arrive fates (omega arith) o.1)
+admitted-leave (time ∷ arrive) (Lost ∷ fates) e o = admitted-leave arrive fates (omega arith) o.1
+admitted-leave (time ∷ arrive) (Held ∷ fates) e o = absurd o.0
+
+lost-leave : (arrive : List ℕ) (fates : List Fate) → picked 1 (map out_of_fate fates) (leaving_times arrive fates) ≡ picked 1 (map out_of_fate fates) arrive
+lost-leave arrive [] = refl
+lost-leave [] (fate ∷ fates) = refl
+lost-leave (time ∷ arrive) (Departs departs ∷ fates) = lost-leave arrive fates
+lost-leave (time ∷ arrive) (Lost ∷ fates) = ap (λ l. time ∷ l) (lost-leave arrive fates)
+lost-leave (time ∷ arrive) (Held ∷ fates) = lost-leave arrive fates
+
+-- those that are lost are in order
+lost-later : (time : ℕ) (admitted : List Bool) (times : List ℕ) → Each (λ other. time ≤ other) times → Each (λ other. time ≤ other) (of_lost admitted times)
+lost-later time [] times h = tt
+lost-later time (admit ∷ admitted) [] h = tt
+lost-later time (true ∷ admitted) (other ∷ times) h = lost-later time admitted times h.1
+lost-later time (false ∷ admitted) (other ∷ times) h = (h.0, lost-later time admitted times h.1)
+
+lost-rises : (admitted : List Bool) (times : List ℕ) → Rises (λ a b. a ≤ b) times → Rises (λ a b. a ≤ b) (of_lost admitted times)
+lost-rises [] times h = tt
+lost-rises (admit ∷ admitted) [] h = tt
+lost-rises (true ∷ admitted) (time ∷ times) h = lost-rises admitted times h.1
+lost-rises (false ∷ admitted) (time ∷ times) h = (lost-later time admitted times h.0, lost-rises admitted times h.1)
+
+lost-even : (admitted : List Bool) (jobs times : List ℕ) → length jobs ≡ length times → length (of_lost admitted jobs) ≡ length (of_lost admitted times)
+lost-even [] jobs times e = refl
+lost-even (admit ∷ admitted) [] [] e = refl
+lost-even (admit ∷ admitted) [] (time ∷ times) e = absurd (omega arith)
+lost-even (admit ∷ admitted) (job ∷ jobs) [] e = absurd (omega arith)
+lost-even (true ∷ admitted) (job ∷ jobs) (time ∷ times) e = lost-even admitted jobs times (omega arith)
+lost-even (false ∷ admitted) (job ∷ jobs) (time ∷ times) e = ap suc (lost-even admitted jobs times (omega arith))
+
+pub lost-stream : (arrivals : Stream) (admitted : List Bool) → IsStream arrivals → IsStream (lost_of arrivals admitted)
+lost-stream arrivals admitted s = record { even = lost-even admitted arrivals.job arrivals.time s.even; rising = lost-rises admitted arrivals.time s.rising }
+
+-- A stream of the same items, by time.
+is-sorted : (left leaving : Stream) → IsStream leaving → pairs_of leaving ≡ by_first (pairs_of left) → leaving ≡ sorted left
+is-sorted left leaving s e =
+    let pairs = by_first (pairs_of left) in
+    let even : length (map (λ (p : ℕ × ℕ). p.1) pairs) ≡ length (map (λ (p : ℕ × ℕ). p.0) pairs) = length-map pairs _ ∙ sym (length-map pairs _) in
+    let same = e ∙ sym (zip-map pairs) in
+    let jobs = zip-jobs leaving.time leaving.job _ _ s.even even same in
+    let times = zip-times leaving.time leaving.job _ _ s.even even same in
+    λ k. record { job = jobs k; time = times k }
+
+-- one that is by time already stays
+pairs-later : (time : ℕ) (times jobs : List ℕ) → Each (λ other. time ≤ other) times → Each (λ (p : ℕ × ℕ). time ≤ p.0) (zip times jobs)
+pairs-later time [] jobs h = tt
+pairs-later time (other ∷ times) [] h = tt
+pairs-later time (other ∷ times) (job ∷ jobs) h = (h.0, pairs-later time times jobs h.1)
+
+pairs-rise : (times jobs : List ℕ) → Rises (λ a b. a ≤ b) times → Rises (λ (p q : ℕ × ℕ). p.0 ≤ q.0) (zip times jobs)
+pairs-rise [] jobs h = tt
+pairs-rise (time ∷ times) [] h = tt
+pairs-rise (time ∷ times) (job ∷ jobs) h = (pairs-later time times jobs h.0, pairs-rise times jobs h.1)
+
+stays-sorted : (stream : Stream) → IsStream stream → stream ≡ sorted stream
+stays-sorted stream s =
+    let pairs = pairs_of stream in
+    is-sorted stream stream s (sym (same_by_key (λ (p : ℕ × ℕ). p.0) (by_first pairs) pairs (Rises-in_order_of (λ (p : ℕ × ℕ). p.0) pairs) (pairs-rise stream.time stream.job s.rising) (λ k. filter-in_order_of (λ (p : ℕ × ℕ). p.0) k pairs)))
+
+-- the jobs that are admitted, by departure, are what leaves by output 0
+pub leaves-first : (servers : ℕ) (arrivals leaving : Stream) (demands : List ℕ) (admitted : List Bool) (departs : List ℕ) → length demands ≡ length arrivals.time → IsStream leaving →
+    admitted ≡ map admits (trunk_fates servers [] arrivals.time demands) → departs ≡ departures_in (trunk_fates servers [] arrivals.time demands) →
+    pairs_of leaving ≡ by_first (zip departs (of_admitted admitted arrivals.job)) → leaving ≡ trunk_stream servers arrivals demands 0
+leaves-first servers arrivals leaving demands admitted departs d s a t e =
+    let fates : List Fate = trunk_fates servers [] arrivals.time demands in
+    let jobs : of_admitted admitted arrivals.job ≡ picked 0 (map out_of_fate fates) arrivals.job = ap (λ (bs : List Bool). of_admitted bs arrivals.job) a ∙ admitted-first fates arrivals.job in
+    let times : departs ≡ picked 0 (map out_of_fate fates) (leaving_times arrivals.time fates) = t ∙ sym (admitted-leave arrivals.time fates (fates-each servers [] arrivals.time demands d) (over-all servers [] arrivals.time demands)) in
+    is-sorted (record { job = picked 0 (map out_of_fate fates) arrivals.job; time = picked 0 (map out_of_fate fates) (leaving_times arrivals.time fates) }) leaving s
+    (e ∙ (λ k. by_first (zip (times k) (jobs k))))
+
+-- those that are lost, as they came, are what leaves by output 1
+pub leaves-second : (servers : ℕ) (arrivals lost : Stream) (demands : List ℕ) (admitted : List Bool) → IsStream arrivals →
+    admitted ≡ map admits (trunk_fates servers [] arrivals.time demands) → lost ≡ lost_of arrivals admitted → lost ≡ trunk_stream servers arrivals demands 1
+leaves-second servers arrivals lost demands admitted s a e =
+    let fates : List Fate = trunk_fates servers [] arrivals.time demands in
+    let jobs : of_lost admitted arrivals.job ≡ picked 1 (map out_of_fate fates) arrivals.job = ap (λ (bs : List Bool). of_lost bs arrivals.job) a ∙ lost-second fates arrivals.job in
+    let times : of_lost admitted arrivals.time ≡ picked 1 (map out_of_fate fates) (leaving_times arrivals.time fates) = ap (λ (bs : List Bool). of_lost bs arrivals.time) a ∙ (lost-second fates arrivals.time ∙ sym (lost-leave arrivals.time fates)) in
+    e ∙ (stays-sorted (lost_of arrivals admitted) (lost-stream arrivals admitted s) ∙ (λ k. sorted (record { job = jobs k; time = times k })))
+
+-- there is one answer an arrival
+pub answers-each : (servers : ℕ) (times demands : List ℕ) (admitted : List Bool) → length demands ≡ length times → admitted ≡ admission servers times demands → length times ≡ length admitted
+answers-each servers times demands admitted d a = sym (ap length a ∙ (length-map (trunk_fates servers [] times demands) admits ∙ fates-each servers [] times demands d))

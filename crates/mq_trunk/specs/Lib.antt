@@ -1,0 +1,5 @@
+pub mod Kept
+pub mod Laws
+pub mod Parts
+pub mod Rounds
+pub mod Windows

@@ -1,0 +1,64 @@
+-- What a trunk settles: the fates of the arrivals, and what leaves by each output.
+use Rattle.std.specs.Prelude.{◌≡◌, ℕ, Bool, true, false, List, [], ◌∷◌, map}
+use Rattle.std.specs.List.{zip}
+use Rattle.mq_core.specs.Came.{came_in}
+use Rattle.mq_core.specs.EmissionOrder.EmissionOrder.{Overtaking}
+use Rattle.mq_core.specs.Kinds.Loss.{out_of_fate}
+use Rattle.mq_core.specs.OnceOut.{once_out}
+use Rattle.mq_core.specs.Recurrences.{trunk_fates}
+use Rattle.mq_core.specs.Sequences.{IsStream}
+use Rattle.mq_core.specs.Streams.{by_first, pairs_of}
+use Rattle.mq_core.specs.declared.model.Fate.{Fate}
+use Rattle.mq_core.specs.declared.model.Fate.TheVariants.{Departs, Lost}
+use Rattle.mq_core.specs.declared.model.Stream.{Stream}
+use Rattle.mq_trunk.specs.Rounds.{admission, departures_in}
+use Rattle.mq_trunk.specs.declared.answer.Trunk.{Trunk}
+
+-- of these items, one an arrival, those of the arrivals that are admitted
+abbrev pub of_admitted : List Bool → List ℕ → List ℕ
+of_admitted [] items = []
+of_admitted (admit ∷ admitted) [] = []
+of_admitted (true ∷ admitted) (item ∷ items) = item ∷ of_admitted admitted items
+of_admitted (false ∷ admitted) (item ∷ items) = of_admitted admitted items
+
+-- and those of the others
+abbrev pub of_lost : List Bool → List ℕ → List ℕ
+of_lost [] items = []
+of_lost (admit ∷ admitted) [] = []
+of_lost (true ∷ admitted) (item ∷ items) = of_lost admitted items
+of_lost (false ∷ admitted) (item ∷ items) = item ∷ of_lost admitted items
+
+-- those that are lost, as they came
+abbrev pub lost_of : Stream → List Bool → Stream
+lost_of arrivals admitted = record { job = of_lost admitted arrivals.job; time = of_lost admitted arrivals.time }
+
+-- the first stream has the jobs that are admitted, by departure, those of one departure by position; the other those that are
+-- lost, as they came
+pub record AreParted (arrivals : Stream) (admitted : List Bool) (departs : List ℕ) (first second : Stream) : Type 0 where
+  pub ordered : IsStream first
+  pub leaving : pairs_of first ≡ by_first (zip departs (of_admitted admitted arrivals.job))
+  pub lost : second ≡ lost_of arrivals admitted
+
+-- the fate of each arrival, by whether it is admitted and the departures of those that are, by position
+abbrev pub fates_by : List Bool → List ℕ → List Fate
+fates_by [] departs = []
+fates_by (false ∷ admitted) departs = Lost ∷ fates_by admitted departs
+fates_by (true ∷ admitted) [] = Lost ∷ fates_by admitted []
+fates_by (true ∷ admitted) (time ∷ departs) = Departs time ∷ fates_by admitted departs
+
+-- what leaves a trunk by an output
+abbrev pub trunk_stream : ℕ → Stream → List ℕ → ℕ → Stream
+trunk_stream servers arrivals demands out =
+    let fates = trunk_fates servers [] arrivals.time demands in
+    once_out Overtaking (came_in arrivals) fates (map out_of_fate fates) out
+
+-- The answer has the admission of the trunk and the departures of those admitted, which tell the fate of each arrival; and what
+-- leaves by each output, by time.
+pub record IsSettled (servers : ℕ) (arrivals : Stream) (demands : List ℕ) (trunk : Trunk) : Type 0 where
+  pub admitted : trunk.admitted ≡ admission servers arrivals.time demands
+  pub departs : trunk.departs ≡ departures_in (trunk_fates servers [] arrivals.time demands)
+  pub fates : fates_by trunk.admitted trunk.departs ≡ trunk_fates servers [] arrivals.time demands
+  pub leaving : trunk.leaving ≡ trunk_stream servers arrivals demands 0
+  pub lost : trunk.lost ≡ trunk_stream servers arrivals demands 1
+  pub leaves : IsStream trunk.leaving
+  pub overflows : IsStream trunk.lost

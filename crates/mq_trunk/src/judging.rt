@@ -1,0 +1,55 @@
+ghost use Rattle.std.specs.Prelude.{◌≡◌, ◌+◌, ◌<◌, length, nat_lt};
+ghost use Rattle.mq_trunk.specs.Kept.{IsFalling, take_place};
+ghost use Rattle.mq_core.specs.Recurrences.{busy_at};
+
+use mq_base::Steps;
+use std::sync::ledger::Ledger;
+
+/// Whether a trunk has a server for one job more: true exactly where fewer are busy than there
+/// are. It counts one step, takes no memory and refuses nothing.
+pub fn judge_trunk<L: Ledger>(busy: u32, servers: u8, steps: &mut Steps<L>) -> bool
+    ensures answer { result ≡ nat_lt busy servers }
+    ensures cost { steps.new ≡ steps.old + 1 }
+{
+    steps.tick();
+    busy < servers as u32
+}
+
+// How many of these departures, the latest first, come after this time: by halves.
+pub fn busy_among(latest: &[u64], now: u64) -> usize
+    requires { IsFalling latest.now }
+    ensures { result ≡ busy_at now latest.now }
+{
+    let mut low = 0;
+    let mut high = latest.len();
+    while low < high {
+        let middle = low + (high - low) / 2;
+        if now < latest[middle] {
+            low = middle + 1;
+        } else {
+            high = middle;
+        }
+    }
+    low
+}
+
+// Puts one departure more in its place among these, the latest first; the earliest goes.
+fn put_in_place(latest: &mut [u64], depart: u64)
+    ensures { latest.new ≡ take_place depart latest.old }
+{
+    let mut held = depart;
+    for at in 0..latest.len() {
+        let other = latest[at];
+        if other < held {
+            latest[at] = held;
+            held = other;
+        }
+    }
+}
+
+// The same in a vector.
+pub fn keep_latest(latest: &mut Vec<u64>, depart: u64)
+    ensures { latest.new.items ≡ take_place depart latest.old.items }
+{
+    put_in_place(latest.as_mut_slice(), depart);
+}

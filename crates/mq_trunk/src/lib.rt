@@ -1,0 +1,22 @@
+//! The trunk: several servers and no place to wait; an arrival that finds all servers busy is
+//! lost. Which arrivals are admitted is settled by rounds of guesses (Greenberg, Lubachevsky and
+//! Mitrani 1991): each round judges every arrival by the departures that a guess gives.
+//!
+//! Of the departures only the latest are kept, one a server, the latest first. An arrival is judged
+//! by them in as many comparisons as the number of servers has binary digits; one that is admitted is
+//! put in its place among them in as many as there are servers. So the rounds of all windows take at
+//! most arrivals times servers.
+#![tactic(auto)]
+
+mod answer;
+mod judging;
+mod laws;
+mod settling;
+mod whole;
+mod windows;
+
+pub use answer::Trunk;
+pub use judging::judge_trunk;
+pub use laws::{guesses_grow, one_guess_stays, rounds_judge_each};
+pub use settling::settle_trunk;
+pub use whole::trunk_round;

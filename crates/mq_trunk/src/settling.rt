@@ -1,0 +1,148 @@
+ghost use Rattle.std.specs.Prelude.{◌≡◌, ◌+◌, ◌*◌, ◌≤◌, length, IfOk};
+ghost use Rattle.std.specs.List.{zip};
+ghost use Rattle.mq_core.specs.Sequences.{IsSoundLoad, IsStream};
+ghost use Rattle.mq_core.specs.Streams.{by_first, pairs_of};
+ghost use Rattle.mq_trunk.specs.Parts.{AreParted, IsSettled, lost_of, of_admitted};
+ghost use Rattle.mq_trunk.specs.Windows.{IsWindowRun};
+
+use crate::answer::Trunk;
+use crate::windows::{Settled, settle_windows};
+use mq_base::{List, OutOfMemory, Steps};
+use mq_core::Stream;
+use mq_merge::by_time;
+use std::alloc::Global;
+use std::sync::ledger::Ledger;
+
+// The jobs that are admitted, by position.
+fn admitted_jobs(
+    alloc: Global,
+    jobs: &List<u32>,
+    admitted: &List<bool>,
+) -> Result<List<u32>, OutOfMemory>
+    requires { length jobs.now ≡ length admitted.now }
+    ensures { IfOk result (λ served. served ≡ of_admitted admitted.now jobs.now) }
+{
+    let mut served = List::new(alloc);
+    for at in 0..admitted.len() {
+        if *admitted.get(at) {
+            served.push(*jobs.get(at))?;
+        }
+    }
+    Ok(served)
+}
+
+// The jobs that are admitted, as they leave.
+fn leaving_jobs(
+    alloc: Global,
+    jobs: &List<u32>,
+    admitted: &List<bool>,
+    departs: &List<u64>,
+) -> Result<Stream, OutOfMemory>
+    requires jobs { length jobs.now ≡ length admitted.now }
+    requires departs { length departs.now ≤ length (of_admitted admitted.now jobs.now) }
+    ensures ordered { IfOk result (λ leaving. IsStream leaving) }
+    ensures items { IfOk result (λ leaving. pairs_of leaving ≡ by_first (zip departs.now (of_admitted admitted.now jobs.now))) }
+{
+    let served = admitted_jobs(alloc, jobs, admitted)?;
+    let leaving = by_time(alloc, &served, departs)?;
+    Ok(leaving)
+}
+
+// The jobs that are lost, as they came.
+fn lost_jobs(alloc: Global, stream: &Stream, admitted: &List<bool>) -> Result<Stream, OutOfMemory>
+    requires jobs { length stream.now.job ≡ length admitted.now }
+    requires times { length stream.now.time ≡ length admitted.now }
+    ensures { IfOk result (λ lost. lost ≡ lost_of stream.now admitted.now) }
+{
+    let mut lost = Stream {
+        job: List::new(alloc),
+        time: List::new(alloc),
+    };
+    for at in 0..admitted.len() {
+        if !*admitted.get(at) {
+            lost.job.push(*stream.job.get(at))?;
+            lost.time.push(*stream.time.get(at))?;
+        }
+    }
+    Ok(lost)
+}
+
+// What leaves by each output.
+#[derive(Drop)]
+struct Parts {
+    leaving: Stream,
+    lost: Stream,
+}
+
+fn parts_of(
+    alloc: Global,
+    stream: &Stream,
+    admitted: &List<bool>,
+    departs: &List<u64>,
+) -> Result<Parts, OutOfMemory>
+    requires jobs { length stream.now.job ≡ length admitted.now }
+    requires times { length stream.now.time ≡ length admitted.now }
+    requires departs { length departs.now ≤ length (of_admitted admitted.now stream.now.job) }
+    ensures { IfOk result (λ parts. AreParted stream.now admitted.now departs.now parts.leaving parts.lost) }
+{
+    let lost = lost_jobs(alloc, stream, admitted)?;
+    let leaving = leaving_jobs(alloc, &stream.job, admitted, departs)?;
+    Ok(Parts { leaving, lost })
+}
+
+// What is settled, with what leaves.
+fn with_parts(alloc: Global, stream: &Stream, settled: Settled) -> Result<Trunk, OutOfMemory>
+    requires jobs { length stream.now.job ≡ length settled.admitted }
+    requires times { length stream.now.time ≡ length settled.admitted }
+    requires departs { length settled.departs ≤ length (of_admitted settled.admitted stream.now.job) }
+    ensures admitted { IfOk result (λ trunk. trunk.admitted ≡ settled.admitted) }
+    ensures departs { IfOk result (λ trunk. trunk.departs ≡ settled.departs) }
+    ensures parts { IfOk result (λ trunk. AreParted stream.now settled.admitted settled.departs trunk.leaving trunk.lost) }
+    ensures rounds { IfOk result (λ trunk. trunk.rounds ≡ settled.rounds) }
+    ensures judged { IfOk result (λ trunk. trunk.judged ≡ settled.judged) }
+{
+    let parts = parts_of(alloc, stream, &settled.admitted, &settled.departs)?;
+    Ok(Trunk {
+        admitted: settled.admitted,
+        departs: settled.departs,
+        leaving: parts.leaving,
+        lost: parts.lost,
+        rounds: settled.rounds,
+        judged: settled.judged,
+    })
+}
+
+/// Which arrivals of the stream a trunk with these servers admits, when they depart, and what leaves
+/// by each output: settled by rounds over windows, one round a window, the first of `first` arrivals.
+/// Those of a window are guessed admitted; its round settles them up to the first that it changes, or
+/// all. The next window begins behind the settled arrivals, and is twice as long where all were
+/// settled; else it has as many arrivals as were settled.
+///
+/// Times and departures are in ticks, demands are ticks of service; there is one demand per item of
+/// the stream, and a first window of at least 1. Each arrival is judged once, which counts one step: a
+/// round judges no arrival behind the first that it changes. `judged` is the sum of the lengths of the
+/// windows, at most twice the arrivals and `first`. There are at most as many rounds as arrivals. It
+/// refuses for want of memory alone; the steps that it made stay.
+pub fn settle_trunk<L: Ledger>(
+    alloc: Global,
+    stream: &Stream,
+    demands: &List<u64>,
+    servers: u8,
+    first: u32,
+    steps: &mut Steps<L>,
+) -> Result<Trunk, OutOfMemory>
+    requires load { IsSoundLoad stream.now.time demands.now }
+    requires stream { IsStream stream.now }
+    requires first { 1 ≤ first }
+    ensures settled { IfOk result (λ trunk. IsSettled servers stream.now demands.now trunk) }
+    ensures run { IfOk result (λ trunk. IsWindowRun servers stream.now.time demands.now first trunk.rounds trunk.judged) }
+    ensures rounds { IfOk result (λ trunk. trunk.rounds ≤ length stream.now.time) }
+    ensures judged { IfOk result (λ trunk. trunk.judged ≤ 2 * length stream.now.time + first) }
+    ensures once { IfOk result (λ trunk. steps.new ≡ steps.old + length stream.now.time) }
+    ensures cost { IfOk result (λ trunk. steps.new ≤ steps.old + trunk.judged) }
+    ensures most { steps.new ≤ steps.old + (2 * length stream.now.time + first) }
+{
+    let settled = settle_windows(alloc, stream, demands, servers, first, steps)?;
+    let trunk = with_parts(alloc, stream, settled)?;
+    Ok(trunk)
+}
