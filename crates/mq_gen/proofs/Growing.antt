@@ -12,7 +12,7 @@ use Rattle.mq_core.specs.declared.model.Demand.{Demand}
 use Rattle.mq_core.specs.declared.model.Demand.TheVariants.{Column, Fixed}
 use Rattle.mq_core.specs.declared.model.Input.{Input}
 use Rattle.mq_core.specs.declared.model.Kind.{Kind}
-use Rattle.mq_core.specs.declared.model.Kind.TheVariants.{Source, Server, Delay, Loss, Tandem, ForkJoin, Split, Fork, Join}
+use Rattle.mq_core.specs.declared.model.Kind.TheVariants.{Source, Server, Delay, Loss, Tandem, ForkJoin, Split, Fork, Join, Trunk}
 use Rattle.mq_core.specs.declared.model.Node.{Node}
 use Rattle.mq_core.specs.declared.model.Route.TheVariants.{Modulo, Turn, Cut}
 use Rattle.mq_core.specs.declared.model.Stage.{Stage}
@@ -75,6 +75,7 @@ kind_stays c d wide (Split (Cut column thresholds)) h =
     and_from _ _ (and_from _ _ (and_from _ _ (below_wider c d wide column both.0) both.1) some.1) all.1
 kind_stays c d wide (Fork outputs) h = h
 kind_stays c d wide Join h = h
+kind_stays c d wide (Trunk servers demand) h = let both = and_parts _ _ h in and_from _ _ both.0 (demand_stays c d wide demand both.1)
 
 -- Nodes are sound over more columns and beside more nodes.
 pub nodes_stay : (c d : ℕ) → c ≤ d → (nodes more xs : List Node) → list_all (is_sound_node c nodes) xs ≡ true → list_all (is_sound_node d (nodes ++ more)) xs ≡ true

@@ -14,7 +14,7 @@ use Rattle.mq_core.specs.Ranges.{is_within}
 use Rattle.mq_core.specs.Wiring.{is_source_kind}
 use Rattle.mq_core.specs.declared.model.Input.{Input}
 use Rattle.mq_core.specs.declared.model.Kind.{Kind}
-use Rattle.mq_core.specs.declared.model.Kind.TheVariants.{Source, Server, Delay, Loss, Tandem, ForkJoin, Split, Fork, Join}
+use Rattle.mq_core.specs.declared.model.Kind.TheVariants.{Source, Server, Delay, Loss, Tandem, ForkJoin, Split, Fork, Join, Trunk}
 use Rattle.mq_core.specs.declared.model.Node.{Node}
 use Rattle.rand_pcg.specs.Lcg.{Lcg}
 use Rattle.rand_pcg.specs.Pcg.{pcg32}
@@ -99,6 +99,7 @@ count_sound (ForkJoin branches) ports h first k = k
 count_sound (Split route) ports h first k = k
 count_sound (Fork outputs) ports h first k = absurd (cc)
 count_sound Join ports h first k = absurd (cc)
+count_sound (Trunk servers d) ports h first k = absurd (cc)
 
 -- the outputs of a node are distinct, and outputs that it has
 record AreOutputs (n : ℕ) (kind : Kind) (ends : List Input) : Type 0 where

@@ -61,6 +61,7 @@ outputs_said columns (kind.Split (route.Turn outputs)) = refl
 outputs_said columns (kind.Split (route.Cut column thresholds)) = refl
 outputs_said columns (kind.Fork outputs) = refl
 outputs_said columns kind.Join = refl
+outputs_said columns (kind.Trunk servers d) = refl
 
 -- an output that there is is given by its node's name
 given_back : (names columns : List Word) (nodes : List Node) (n out : ℕ) → is_output (slice_get nodes n) out ≡ true
@@ -120,6 +121,7 @@ source_said columns (kind.ForkJoin branches) own reads = refl
 source_said columns (kind.Split r) own reads = refl
 source_said columns (kind.Fork outputs) own reads = refl
 source_said columns kind.Join own reads = refl
+source_said columns (kind.Trunk servers d) own reads = refl
 
 pub source_back : (names columns : List Word) (nodes : List Node) → list_any (λ (node : Node). is_source_kind node.kind) nodes ≡ true → list_any is_source (map (node_by names columns) nodes) ≡ true
 source_back names columns [] h = absurd (cc)

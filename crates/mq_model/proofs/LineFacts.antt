@@ -7,7 +7,7 @@ use Rattle.mq_model.specs.Form.{◌>>=◌, Form, Word, stop, word, maybe, one, u
 use Rattle.mq_model.specs.declared.said.SaidDemand.{SaidDemand}
 use Rattle.mq_model.specs.declared.said.SaidKind.{SaidKind}
 use Rattle.mq_model.specs.declared.said.SaidKind.TheVariants.{Server, Delay}
-use Rattle.mq_model.specs.Lines.{key, is_input, input_of, is_up_to, a_name, a_demand, inputs, rising, thresholds, a_route, cut_route, counted_route, modulo_route, way_of, loss_kind, a_stage, stages, stages_behind, tandem_kind, a_branch, branches, all_branches, forkjoin_kind, room_of, is_demand, demand_of, split_kind, fork_kind, join_line, joined_inputs, node_line, first_line, kind_line, line, is_key, is_from_to, greatest_demand, value_of}
+use Rattle.mq_model.specs.Lines.{key, is_input, input_of, is_up_to, a_name, a_demand, inputs, rising, thresholds, a_route, cut_route, counted_route, modulo_route, way_of, loss_kind, a_stage, stages, stages_behind, tandem_kind, a_branch, branches, all_branches, forkjoin_kind, room_of, is_demand, demand_of, split_kind, fork_kind, trunk_kind, join_line, joined_inputs, node_line, first_line, kind_line, line, is_key, is_from_to, greatest_demand, value_of}
 use Rattle.mq_model.proofs.FormFacts.{IsLive}
 
 live_weak : {A : Type 0} (must : Bool) (f : Form A) → IsLive true f → IsLive must f
@@ -166,6 +166,10 @@ live_forkjoin = live_then true all_branches _ live_all (λ all. live_stop _)
 live_fork : IsLive true fork_kind
 live_fork = live_one _ _ (codes "2") refl
 
+live_trunk : IsLive true trunk_kind
+unfolding trunk_kind
+live_trunk = live_then true (one (is_from_to 1 255) value_of) _ (live_one _ _ (codes "1") refl) (λ servers. live_then true a_demand _ live_demand (λ d. live_stop _))
+
 live_join : IsLive true join_line
 unfolding join_line
 live_join = live_then true a_name _ live_name (λ name. live_then true joined_inputs _ live_joined (λ reads. live_stop _))
@@ -191,4 +195,5 @@ pub live_line : IsLive true line
 unfolding line
 live_line =
     live_maybe true _ _ _ (codes "fork") refl (λ _ _. live_node _ live_fork)
-    (live_maybe false _ _ _ (codes "join") refl (λ _ _. live_join) live_first)
+    (live_maybe false _ _ _ (codes "join") refl (λ _ _. live_join)
+    (live_maybe false _ _ _ (codes "trunk") refl (λ _ _. live_node _ live_trunk) live_first))

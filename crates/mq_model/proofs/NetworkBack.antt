@@ -41,6 +41,7 @@ mentions_said columns (kind.Split (route.Turn outputs)) = refl
 mentions_said columns (kind.Split (route.Cut column thresholds)) = refl
 mentions_said columns (kind.Fork outputs) = refl
 mentions_said columns kind.Join = refl
+mentions_said columns (kind.Trunk servers d) = demand_mentions columns d
 
 all_mentions_said : (names columns : List Word) (nodes : List Node) → flat_map mentioned (map (node_by names columns) nodes) ≡ map (name_at columns) (flat_map (λ (node : Node). columns_of_kind node.kind) nodes)
 all_mentions_said names columns [] = refl
@@ -67,6 +68,7 @@ kind_again columns (kind.Split (route.Cut column thresholds)) distinct sound =
     ap (λ n. kind.Split (route.Cut n thresholds)) (number_again columns column [] distinct (ltb-true _ _ count.0))
 kind_again columns (kind.Fork outputs) distinct sound = refl
 kind_again columns kind.Join distinct sound = refl
+kind_again columns (kind.Trunk servers d) distinct sound = ap (λ d. kind.Trunk servers d) (demand_again columns d distinct (and_parts _ _ sound).1)
 
 pub output_within : (nodes : List Node) (n out : ℕ) → is_output (slice_get nodes n) out ≡ true → n < length nodes
 output_within [] n out h = absurd (cc)

@@ -8,20 +8,20 @@ use Rattle.mq_base.proofs.lemmas.Numbers.{number_again}
 use Rattle.mq_core.specs.Names.{is_name}
 use Rattle.mq_core.specs.Ranges.{is_within, rises_from}
 use Rattle.mq_model.specs.Form.{Form, Word, one, read, whole}
-use Rattle.mq_model.specs.Lines.{a_route, fork_kind, join_line, bound_line, counted_route, cut_route, greatest_demand, inputs, is_above, is_from_to, is_key, is_up_to, line, modulo_route, node_line, rising, delay_kind, loss_kind, tandem_kind, forkjoin_kind, server_kind, source_line, split_kind, thresholds, value_of, way_of}
+use Rattle.mq_model.specs.Lines.{a_route, fork_kind, trunk_kind, join_line, bound_line, counted_route, cut_route, greatest_demand, inputs, is_above, is_from_to, is_key, is_up_to, line, modulo_route, node_line, rising, delay_kind, loss_kind, tandem_kind, forkjoin_kind, server_kind, source_line, split_kind, thresholds, value_of, way_of}
 use Rattle.mq_model.specs.Printed.{demand_word, input_word, inputs_words, route_words, said_words}
 use Rattle.mq_model.specs.Said.{reads_of}
 use Rattle.mq_model.specs.declared.said.SaidDemand.{SaidDemand}
 use Rattle.mq_model.specs.declared.said.SaidInput.{SaidInput}
 use Rattle.mq_model.specs.declared.said.SaidKind.{SaidKind}
-use Rattle.mq_model.specs.declared.said.SaidKind.TheVariants.{Source, Server, Delay, Loss, Tandem, ForkJoin, Split, Fork, Join}
+use Rattle.mq_model.specs.declared.said.SaidKind.TheVariants.{Source, Server, Delay, Loss, Tandem, ForkJoin, Split, Fork, Join, Trunk}
 use Rattle.mq_model.specs.declared.said.SaidRoute.{SaidRoute}
 use Rattle.mq_model.specs.declared.said.SaidRoute.TheVariants.{Modulo, Turn, Cut}
 use Rattle.mq_model.specs.declared.said.Said.{Said}
 use Rattle.mq_model.specs.declared.said.Said.TheVariants.{Bound, Node}
 use Rattle.mq_model.proofs.FormFacts.{read_then}
 use Rattle.mq_model.specs.Reading.{with_front}
-use Rattle.mq_model.proofs.ReadFacts.{kind_delay, kind_forkjoin, kind_loss, kind_server, kind_split, kind_tandem, fork_is, line_bound, line_first, line_fork, line_join, line_kind, line_source, read_one_yes, rising_no, rising_yes, route_counted, route_cut, thresholds_first, way_mod, way_turn}
+use Rattle.mq_model.proofs.ReadFacts.{kind_delay, kind_forkjoin, kind_loss, kind_server, kind_split, kind_tandem, fork_is, line_bound, line_first, line_fork, line_join, line_kind, line_source, line_trunk, read_one_yes, rising_no, rising_yes, route_counted, route_cut, thresholds_first, way_mod, way_turn}
 use Rattle.mq_model.proofs.PrintedBranches.{forkjoin_again}
 use Rattle.mq_model.proofs.PrintedStages.{tandem_again}
 use Rattle.mq_model.proofs.PrintedParts.{a_demand_again, inputs_again, joined_again, name_again, within_again, AreInputs}
@@ -112,6 +112,10 @@ split_again route rest sound = rw (read_then a_route _ (route_words route ++ cod
 fork_again : (outputs : ℕ) (rest : List Word) → is_within 2 4 outputs ≡ true → read fork_kind (decimal outputs ∷ rest) ≡ Ok (Fork outputs, rest)
 fork_again outputs rest within = fork_is (decimal outputs ∷ rest) rest outputs (within_again 2 4 outputs rest (omega arith) within)
 
+trunk_again : (servers : ℕ) (d : SaidDemand) (more : List Word) → is_within 1 255 servers ≡ true → IsSoundDemand d → read trunk_kind (decimal servers ∷ demand_word d ∷ more) ≡ Ok (Trunk servers d, more)
+unfolding trunk_kind read
+trunk_again servers d more within sound = rw (read_then, within_again 1 255 servers (demand_word d ∷ more) (omega arith) within, read_then, a_demand_again d more sound) refl
+
 join_again : (name : Word) (reads : List SaidInput) → is_name name ≡ true → is_within 2 8 (length reads) ≡ true → AreInputs reads → read join_line (name ∷ inputs_words reads) ≡ Ok (Node name Join reads, [])
 unfolding join_line read
 join_again name reads named count are = rw (read_then, name_again name (inputs_words reads) named, read_then, joined_again reads count are) refl
@@ -131,28 +135,31 @@ no_reads (input ∷ reads) h = let none = eqb-true _ _ h in absurd (omega arith)
 
 -- the words of a line in its ranges say it
 pub line_again : (said : Said) → IsSoundSaid said → AreInputs (reads_of said) → whole (read line (said_words said)) ≡ Ok said
-line_again (Bound n) sound are = ap whole (line_first _ _ (codes "bound") refl refl refl ∙ line_bound (codes "bound" ∷ decimal n ∷ []) (decimal n ∷ []) (codes "bound") refl refl ∙ bound_again n sound)
+line_again (Bound n) sound are = ap whole (line_first _ _ (codes "bound") refl refl refl refl ∙ line_bound (codes "bound" ∷ decimal n ∷ []) (decimal n ∷ []) (codes "bound") refl refl ∙ bound_again n sound)
 line_again (Node name Source reads) sound are =
-    ap whole (line_first _ _ (codes "source") refl refl refl ∙ line_source (codes "source" ∷ name ∷ []) (name ∷ []) (codes "source") refl refl refl ∙ source_again name sound.0) ∙ ap (λ none. Ok (Node name Source none)) (sym (no_reads reads sound.2))
+    ap whole (line_first _ _ (codes "source") refl refl refl refl ∙ line_source (codes "source" ∷ name ∷ []) (name ∷ []) (codes "source") refl refl refl ∙ source_again name sound.0) ∙ ap (λ none. Ok (Node name Source none)) (sym (no_reads reads sound.2))
 line_again (Node name (Server d) reads) sound are =
-    ap whole (line_first _ _ (codes "server") refl refl refl ∙ line_kind _ _ (codes "server") refl refl refl ∙ kind_server _ _ (codes "server") refl refl
+    ap whole (line_first _ _ (codes "server") refl refl refl refl ∙ line_kind _ _ (codes "server") refl refl refl ∙ kind_server _ _ (codes "server") refl refl
     ∙ node_again name server_kind (Server d) reads _ sound.0 (server_again d (inputs_words reads) sound.1) (inputs_again reads sound.2 are))
 line_again (Node name (Delay d) reads) sound are =
-    ap whole (line_first _ _ (codes "delay") refl refl refl ∙ line_kind _ _ (codes "delay") refl refl refl ∙ kind_delay _ _ (codes "delay") refl refl refl
+    ap whole (line_first _ _ (codes "delay") refl refl refl refl ∙ line_kind _ _ (codes "delay") refl refl refl ∙ kind_delay _ _ (codes "delay") refl refl refl
     ∙ node_again name delay_kind (Delay d) reads _ sound.0 (delay_again d (inputs_words reads) sound.1) (inputs_again reads sound.2 are))
 line_again (Node name (Loss places d) reads) sound are =
-    ap whole (line_first _ _ (codes "loss") refl refl refl ∙ line_kind _ _ (codes "loss") refl refl refl ∙ kind_loss _ _ (codes "loss") refl refl refl refl
+    ap whole (line_first _ _ (codes "loss") refl refl refl refl ∙ line_kind _ _ (codes "loss") refl refl refl ∙ kind_loss _ _ (codes "loss") refl refl refl refl
     ∙ node_again name loss_kind (Loss places d) reads _ sound.0 (loss_again places d (inputs_words reads) sound.1.0 sound.1.1) (inputs_again reads sound.2 are))
 line_again (Node name (Tandem stages) reads) sound are =
-    ap whole (line_first _ _ (codes "tandem") refl refl refl ∙ line_kind _ _ (codes "tandem") refl refl refl ∙ kind_tandem _ _ (codes "tandem") refl refl refl refl refl
+    ap whole (line_first _ _ (codes "tandem") refl refl refl refl ∙ line_kind _ _ (codes "tandem") refl refl refl ∙ kind_tandem _ _ (codes "tandem") refl refl refl refl refl
     ∙ node_again name tandem_kind (Tandem stages) reads _ sound.0 (tandem_again stages (map input_word reads) sound.1) (inputs_again reads sound.2 are))
 line_again (Node name (ForkJoin branches) reads) sound are =
-    ap whole (line_first _ _ (codes "forkjoin") refl refl refl ∙ line_kind _ _ (codes "forkjoin") refl refl refl ∙ kind_forkjoin _ _ (codes "forkjoin") refl refl refl refl refl refl
+    ap whole (line_first _ _ (codes "forkjoin") refl refl refl refl ∙ line_kind _ _ (codes "forkjoin") refl refl refl ∙ kind_forkjoin _ _ (codes "forkjoin") refl refl refl refl refl refl
     ∙ node_again name forkjoin_kind (ForkJoin branches) reads _ sound.0 (forkjoin_again branches (map input_word reads) sound.1) (inputs_again reads sound.2 are))
 line_again (Node name (Split route) reads) sound are =
-    ap whole (line_first _ _ (codes "split") refl refl refl ∙ line_kind _ _ (codes "split") refl refl refl ∙ kind_split _ _ (codes "split") refl refl refl refl refl refl refl
+    ap whole (line_first _ _ (codes "split") refl refl refl refl ∙ line_kind _ _ (codes "split") refl refl refl ∙ kind_split _ _ (codes "split") refl refl refl refl refl refl refl
     ∙ node_again name split_kind (Split route) reads _ sound.0 (split_again route (map input_word reads) sound.1) (inputs_again reads sound.2 are))
 line_again (Node name (Fork outputs) reads) sound are =
     ap whole (line_fork _ _ (codes "fork") refl refl ∙ node_again name fork_kind (Fork outputs) reads _ sound.0 (fork_again outputs (inputs_words reads) sound.1) (inputs_again reads sound.2 are))
 line_again (Node name Join reads) sound are =
     ap whole (line_join _ _ (codes "join") refl refl refl ∙ join_again name reads sound.0 sound.2 are)
+line_again (Node name (Trunk servers d) reads) sound are =
+    ap whole (line_trunk _ _ (codes "trunk") refl refl refl refl
+    ∙ node_again name trunk_kind (Trunk servers d) reads _ sound.0 (trunk_again servers d (inputs_words reads) sound.1.0 sound.1.1) (inputs_again reads sound.2 are))

@@ -45,6 +45,7 @@ few_outputs columns (kind.Split (route.Cut column thresholds)) h =
     omega arith
 few_outputs columns (kind.Fork outputs) h = let most : outputs ≤ 4 = leb-true _ _ (and_parts _ _ h).1 in omega arith
 few_outputs columns kind.Join h = omega arith
+few_outputs columns (kind.Trunk servers d) h = omega arith
 
 small_output : (columns : ℕ) (all nodes : List Node) (n out : ℕ) → list_all (is_sound_node columns all) nodes ≡ true → is_output (slice_get nodes n) out ≡ true → out ≤ 7
 small_output columns all [] n out h output = absurd (cc)
@@ -74,6 +75,7 @@ kind_said columns (kind.Split (route.Cut column thresholds)) named h =
     (all_at is_name columns column [] named (ltb-true _ _ count.0), (count.1, rising.1, small.1))
 kind_said columns (kind.Fork outputs) named h = h
 kind_said columns kind.Join named h = tt
+kind_said columns (kind.Trunk servers d) named h = let both = and_parts _ _ h in (both.0, demand_said columns d named both.1)
 
 count_said : (columns : List Word) (k : Kind) (n : ℕ) → is_sound_count k n ≡ true → is_sound_reads (kind_by columns k) n ≡ true
 count_said columns kind.Source n h = h
@@ -85,6 +87,7 @@ count_said columns (kind.ForkJoin branches) n h = h
 count_said columns (kind.Split r) n h = h
 count_said columns (kind.Fork outputs) n h = h
 count_said columns kind.Join n h = h
+count_said columns (kind.Trunk servers d) n h = h
 
 inputs_said : (names : List Word) (columns : ℕ) (all : List Node) (inputs : List Input) → list_all is_name names ≡ true → length names ≡ length all → list_all (is_sound_node columns all) all ≡ true
     → list_all (λ (i : Input). is_output (slice_get all i.node) i.out) inputs ≡ true → AreInputs (map (input_by names) inputs)

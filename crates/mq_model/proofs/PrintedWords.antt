@@ -18,7 +18,7 @@ use Rattle.mq_model.specs.declared.said.SaidDemand.TheVariants.{Column, Fixed}
 use Rattle.mq_model.specs.declared.said.SaidInput.{SaidInput}
 use Rattle.mq_model.specs.declared.said.SaidStage.{SaidStage}
 use Rattle.mq_model.specs.declared.said.SaidKind.{SaidKind}
-use Rattle.mq_model.specs.declared.said.SaidKind.TheVariants.{Source, Server, Delay, Loss, Tandem, ForkJoin, Split, Fork, Join}
+use Rattle.mq_model.specs.declared.said.SaidKind.TheVariants.{Source, Server, Delay, Loss, Tandem, ForkJoin, Split, Fork, Join, Trunk}
 use Rattle.mq_model.specs.declared.said.SaidRoute.{SaidRoute}
 use Rattle.mq_model.specs.declared.said.SaidRoute.TheVariants.{Modulo, Turn, Cut}
 use Rattle.mq_model.specs.declared.said.Said.{Said}
@@ -123,6 +123,11 @@ fork_solid outputs within =
     let most : outputs ≤ 4 = leb-true _ _ (and_parts _ _ within).1 in
     solid 1 (decimal outputs) (omega arith) (decimal_short outputs 4 1 most (omega arith) (omega arith) (omega arith))
 
+servers_solid : (servers : ℕ) → is_within 1 255 servers ≡ true → is_solid (decimal servers) ≡ true
+servers_solid servers within =
+    let most : servers ≤ 255 = leb-true _ _ (and_parts _ _ within).1 in
+    solid 3 (decimal servers) (omega arith) (decimal_short servers 255 3 most (omega arith) (omega arith) (omega arith))
+
 stage_solid : (stage : SaidStage) → IsSoundStage 1 4 stage → list_all is_solid (stage_words stage) ≡ true
 stage_solid stage sound =
     let most : stage.places ≤ 4 = leb-true _ _ (and_parts _ _ sound.0).1 in
@@ -158,6 +163,7 @@ first_solid (ForkJoin branches) = refl
 first_solid (Split route) = refl
 first_solid (Fork outputs) = refl
 first_solid Join = refl
+first_solid (Trunk servers d) = refl
 
 kind_solid : (kind : SaidKind) → IsSoundKind kind → list_all is_solid (kind_words kind) ≡ true
 kind_solid Source sound = refl
@@ -169,6 +175,7 @@ kind_solid (ForkJoin branches) sound = branches_solid branches sound
 kind_solid (Split route) sound = route_solid route sound
 kind_solid (Fork outputs) sound = and_from _ _ (fork_solid outputs sound) refl
 kind_solid Join sound = refl
+kind_solid (Trunk servers d) sound = and_from _ _ (servers_solid servers sound.0) (and_from _ _ (demand_solid d sound.1) refl)
 
 reads_solid : (kind : SaidKind) (reads : List SaidInput) → AreInputs reads → list_all is_solid (reads_words kind reads) ≡ true
 reads_solid Source reads are = refl
@@ -180,6 +187,7 @@ reads_solid (ForkJoin branches) reads are = inputs_solid reads are
 reads_solid (Split route) reads are = inputs_solid reads are
 reads_solid (Fork outputs) reads are = inputs_solid reads are
 reads_solid Join reads are = inputs_solid reads are
+reads_solid (Trunk servers d) reads are = inputs_solid reads are
 
 pub said_solid : (said : Said) → IsSoundSaid said → AreInputs (reads_of said) → list_all is_solid (said_words said) ≡ true
 said_solid (Bound n) sound are =
@@ -211,6 +219,7 @@ reads_few (ForkJoin branches) reads count = inputs_few reads 1 count
 reads_few (Split route) reads count = inputs_few reads 1 count
 reads_few (Fork outputs) reads count = inputs_few reads 1 count
 reads_few Join reads count = inputs_few reads 2 count
+reads_few (Trunk servers d) reads count = inputs_few reads 1 count
 
 further_count : (stages : List SaidStage) → length (flat_map stage_words stages) ≡ 3 * length stages
 further_count [] = refl
@@ -258,6 +267,7 @@ kind_few (Split (Cut column cuts)) sound =
     omega arith
 kind_few (Fork outputs) sound = omega arith
 kind_few Join sound = omega arith
+kind_few (Trunk servers d) sound = omega arith
 
 pub said_few : (said : Said) → IsSoundSaid said → IsFew (said_words said)
 said_few (Bound n) sound = record { some = omega arith; few = omega arith }

@@ -10,7 +10,7 @@ use Rattle.mq_model.specs.declared.said.Said.TheVariants.{Bound}
 use Rattle.mq_model.specs.declared.said.SaidInput.{SaidInput}
 use Rattle.mq_model.specs.declared.said.SaidKind.TheVariants.{Fork}
 use Rattle.mq_model.specs.declared.said.SaidRoute.TheVariants.{Turn}
-use Rattle.mq_model.specs.Lines.{a_route, counted_route, cut_route, greatest_demand, is_above, is_from_to, is_up_to, modulo_route, rising, thresholds, value_of, way_of, bound_line, first_line, fork_kind, inputs, input_of, is_input, is_key, join_line, joined_inputs, key, kind_line, line, node_line, delay_kind, forkjoin_kind, loss_kind, server_kind, tandem_kind, source_line, split_kind}
+use Rattle.mq_model.specs.Lines.{a_route, counted_route, cut_route, greatest_demand, is_above, is_from_to, is_up_to, modulo_route, rising, thresholds, value_of, way_of, bound_line, first_line, fork_kind, trunk_kind, inputs, input_of, is_input, is_key, join_line, joined_inputs, key, kind_line, line, node_line, delay_kind, forkjoin_kind, loss_kind, server_kind, tandem_kind, source_line, split_kind}
 use Rattle.mq_core.specs.Names.{is_name, is_name_byte}
 use Rattle.std.proofs.lemmas.Grind.{common_steps}
 use Rattle.mq_model.specs.Form.{◌>>=◌, Form, Word, stop, word, maybe, one, read, up_to, whole}
@@ -300,9 +300,13 @@ pub line_join : (all ws : List Word) (w : Word) → all ≡ w ∷ ws → is_key 
 unfolding line
 line_join all ws w e a h = read_maybe_no _ _ _ all ws w e a ∙ read_maybe_yes _ _ _ all ws w e h
 
-pub line_first : (all ws : List Word) (w : Word) → all ≡ w ∷ ws → is_key (codes "fork") w ≡ false → is_key (codes "join") w ≡ false → read line all ≡ read first_line all
+pub line_trunk : (all ws : List Word) (w : Word) → all ≡ w ∷ ws → is_key (codes "fork") w ≡ false → is_key (codes "join") w ≡ false → is_key (codes "trunk") w ≡ true → read line all ≡ read (node_line trunk_kind) ws
 unfolding line
-line_first all ws w e a b = read_maybe_no _ _ _ all ws w e a ∙ read_maybe_no _ _ _ all ws w e b
+line_trunk all ws w e a b h = read_maybe_no _ _ _ all ws w e a ∙ read_maybe_no _ _ _ all ws w e b ∙ read_maybe_yes _ _ _ all ws w e h
+
+pub line_first : (all ws : List Word) (w : Word) → all ≡ w ∷ ws → is_key (codes "fork") w ≡ false → is_key (codes "join") w ≡ false → is_key (codes "trunk") w ≡ false → read line all ≡ read first_line all
+unfolding line
+line_first all ws w e a b d = read_maybe_no _ _ _ all ws w e a ∙ read_maybe_no _ _ _ all ws w e b ∙ read_maybe_no _ _ _ all ws w e d
 
 -- the number of a fork's outputs
 pub fork_is : (ws rest : List Word) (n : ℕ) → read (one (is_from_to 2 4) value_of) ws ≡ Ok (n, rest) → read fork_kind ws ≡ Ok (Fork n, rest)
@@ -333,7 +337,7 @@ line_none all e =
 
 pub line_nothing : (all : List Word) → all ≡ [] → read line all ≡ Err all
 unfolding line
-line_nothing all e = read_maybe_none _ _ _ all e ∙ read_maybe_none _ _ _ all e ∙ line_none all e
+line_nothing all e = read_maybe_none _ _ _ all e ∙ read_maybe_none _ _ _ all e ∙ read_maybe_none _ _ _ all e ∙ line_none all e
 
 -- the kinds that read inputs
 pub kind_server : (all ws : List Word) (w : Word) → all ≡ w ∷ ws → is_key (codes "server") w ≡ true → read kind_line all ≡ read (node_line server_kind) ws

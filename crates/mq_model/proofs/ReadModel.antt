@@ -20,7 +20,7 @@ use Rattle.mq_model.specs.declared.fault.ModelFault.{ModelFault}
 use Rattle.mq_model.specs.declared.fault.ModelFault.TheVariants.{Cycle, NoSource}
 use Rattle.mq_model.specs.declared.front.Front.{Front}
 use Rattle.mq_model.specs.declared.said.SaidKind.{SaidKind}
-use Rattle.mq_model.specs.declared.said.SaidKind.TheVariants.{Source, Server, Delay, Loss, Tandem, ForkJoin, Split, Fork, Join}
+use Rattle.mq_model.specs.declared.said.SaidKind.TheVariants.{Source, Server, Delay, Loss, Tandem, ForkJoin, Split, Fork, Join, Trunk}
 use Rattle.mq_model.specs.declared.said.Said.{Said}
 use Rattle.mq_model.specs.declared.said.Said.TheVariants.{Bound, Node}
 use Rattle.mq_model.proofs.InputFacts.{beside_are, declaring_are, placed_are}
@@ -59,6 +59,7 @@ few_reads (ForkJoin branches) n h = some_few 1 n h
 few_reads (Split route) n h = some_few 1 n h
 few_reads (Fork outputs) n h = some_few 1 n h
 few_reads Join n h = some_few 2 n h
+few_reads (Trunk servers d) n h = some_few 1 n h
 
 narrow : (saids : List Said) → AreSound saids → AreNarrow saids
 narrow [] sound = tt

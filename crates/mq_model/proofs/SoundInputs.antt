@@ -12,7 +12,7 @@ use Rattle.mq_model.specs.NetworkOf.{input_in, kind_in, nodes_in, number_in, sai
 use Rattle.mq_model.specs.Said.{gives, is_among, is_same_input, names_of, outputs_of, reads_of}
 use Rattle.mq_model.specs.declared.said.SaidInput.{SaidInput}
 use Rattle.mq_model.specs.declared.said.SaidKind.{SaidKind}
-use Rattle.mq_model.specs.declared.said.SaidKind.TheVariants.{Source, Server, Delay, Loss, Tandem, ForkJoin, Split, Fork, Join}
+use Rattle.mq_model.specs.declared.said.SaidKind.TheVariants.{Source, Server, Delay, Loss, Tandem, ForkJoin, Split, Fork, Join, Trunk}
 use Rattle.mq_model.specs.declared.said.SaidRoute.TheVariants.{Modulo, Turn, Cut}
 use Rattle.mq_model.specs.declared.said.Said.{Said}
 use Rattle.mq_model.specs.declared.said.Said.TheVariants as said
@@ -120,6 +120,7 @@ outputs_are columns (Split (Turn outputs)) = refl
 outputs_are columns (Split (Cut column thresholds)) = refl
 outputs_are columns (Fork outputs) = refl
 outputs_are columns Join = refl
+outputs_are columns (Trunk servers d) = refl
 
 -- the node of the input's number has its output
 pub given_output : (names columns : List Word) (input : SaidInput) (saids : List Said) → are_distinct bytes_eq (names_of saids) ≡ true → list_any (gives input) saids ≡ true

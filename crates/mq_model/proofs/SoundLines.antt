@@ -7,14 +7,14 @@ use Rattle.mq_core.specs.Names.{is_name}
 use Rattle.mq_core.specs.Ranges.{is_within, rises, rises_from}
 use Rattle.mq_model.specs.Form.{◌>>=◌, Form, Word, stop, word, maybe, one, up_to, read, whole}
 use Rattle.mq_base.specs.Text.{is_number}
-use Rattle.mq_model.specs.Lines.{key, is_input, input_of, is_demand, demand_of, is_from_to, is_up_to, a_name, a_demand, inputs, rising, cut_route, counted_route, server_kind, delay_kind, loss_kind, a_stage, stages, stages_behind, tandem_kind, a_branch, branches, all_branches, forkjoin_kind, room_of, split_kind, a_route, thresholds, way_of, modulo_route, node_line, bound_line, source_line, kind_line, line, is_key, is_above, greatest_demand, value_of, first_line, fork_kind, join_line, joined_inputs}
+use Rattle.mq_model.specs.Lines.{key, is_input, input_of, is_demand, demand_of, is_from_to, is_up_to, a_name, a_demand, inputs, rising, cut_route, counted_route, server_kind, delay_kind, loss_kind, a_stage, stages, stages_behind, tandem_kind, a_branch, branches, all_branches, forkjoin_kind, room_of, split_kind, a_route, thresholds, way_of, modulo_route, node_line, bound_line, source_line, kind_line, line, is_key, is_above, greatest_demand, value_of, first_line, fork_kind, trunk_kind, join_line, joined_inputs}
 use Rattle.mq_model.specs.declared.said.SaidDemand.{SaidDemand}
 use Rattle.mq_model.specs.declared.said.SaidDemand.TheVariants.{Column, Fixed}
 use Rattle.mq_model.specs.declared.said.SaidRoute.{SaidRoute}
 use Rattle.mq_model.specs.declared.said.SaidRoute.TheVariants.{Modulo, Turn, Cut}
 use Rattle.mq_model.specs.declared.said.SaidStage.{SaidStage}
 use Rattle.mq_model.specs.declared.said.SaidKind.{SaidKind}
-use Rattle.mq_model.specs.declared.said.SaidKind.TheVariants.{Source, Server, Delay, Loss, Tandem, ForkJoin, Split, Fork, Join}
+use Rattle.mq_model.specs.declared.said.SaidKind.TheVariants.{Source, Server, Delay, Loss, Tandem, ForkJoin, Split, Fork, Join, Trunk}
 use Rattle.mq_model.specs.declared.said.Said.{Said}
 use Rattle.mq_model.specs.declared.said.Said.TheVariants.{Bound, Node}
 use Rattle.mq_model.proofs.Lists.{AreAll}
@@ -55,6 +55,7 @@ IsSoundKind (ForkJoin branches) = AreSoundBranches branches
 IsSoundKind (Split route) = IsSoundRoute route
 IsSoundKind (Fork outputs) = is_within 2 4 outputs ≡ true
 IsSoundKind Join = Unit {0}
+IsSoundKind (Trunk servers demand) = (is_within 1 255 servers ≡ true) × IsSoundDemand demand
 
 -- a source reads nothing, a join at 2 to 8 ports, and each other node at 1 to 8
 abbrev pub is_sound_reads : SaidKind → ℕ → Bool
@@ -67,6 +68,7 @@ is_sound_reads (ForkJoin branches) reads = is_within 1 8 reads
 is_sound_reads (Split route) reads = is_within 1 8 reads
 is_sound_reads (Fork outputs) reads = is_within 1 8 reads
 is_sound_reads Join reads = is_within 2 8 reads
+is_sound_reads (Trunk servers demand) reads = is_within 1 8 reads
 
 -- a kind that version 1 has, and a line
 abbrev pub is_first_kind : SaidKind → Bool
@@ -79,6 +81,7 @@ is_first_kind (ForkJoin branches) = true
 is_first_kind (Split route) = true
 is_first_kind (Fork outputs) = false
 is_first_kind Join = false
+is_first_kind (Trunk servers demand) = false
 
 abbrev pub is_first : Said → Bool
 is_first (Bound n) = true
@@ -424,6 +427,12 @@ keeps_split = keeps_then IsSoundRoute ReadsSome a_route _ keeps_route (λ route 
 keeps_fork_kind : Keeps (ReadsAny false) fork_kind
 keeps_fork_kind = keeps_one (ReadsAny false) (is_from_to 2 4) (λ w. Fork (value_of w)) (λ w h. (within_from_to 2 4 w h, (λ reads h. h), refl))
 
+keeps_trunk_kind : Keeps (ReadsAny false) trunk_kind
+unfolding trunk_kind
+keeps_trunk_kind =
+    keeps_then (λ servers. is_within 1 255 servers ≡ true) (ReadsAny false) (one (is_from_to 1 255) value_of) _ (keeps_one _ (is_from_to 1 255) value_of (λ w h. within_from_to 1 255 w h))
+    (λ servers within. keeps_then IsSoundDemand (ReadsAny false) a_demand _ keeps_demand (λ demand sound. keeps_stop (ReadsAny false) (Trunk servers demand) ((within, sound), (λ reads h. h), refl)))
+
 keeps_node : (first : Bool) (kind : Form SaidKind) → Keeps (ReadsAny first) kind → Keeps (IsSaidOf first) (node_line kind)
 unfolding node_line
 keeps_node first kind keeps =
@@ -434,6 +443,9 @@ keeps_node first kind keeps =
 
 pub keeps_fork : Keeps (IsSaidOf false) (node_line fork_kind)
 keeps_fork = keeps_node false fork_kind keeps_fork_kind
+
+pub keeps_trunk : Keeps (IsSaidOf false) (node_line trunk_kind)
+keeps_trunk = keeps_node false trunk_kind keeps_trunk_kind
 
 pub keeps_join : Keeps (IsSaidOf false) join_line
 unfolding join_line
@@ -471,4 +483,5 @@ unfolding line
 keeps_line =
     keeps_maybe IsSoundSaid (is_key (codes "fork")) _ _ (λ _ _. keeps_weaker (IsSaidOf false) IsSoundSaid (node_line fork_kind) (λ said is. is.0) keeps_fork)
     (keeps_maybe IsSoundSaid (is_key (codes "join")) _ _ (λ _ _. keeps_weaker (IsSaidOf false) IsSoundSaid join_line (λ said is. is.0) keeps_join)
-    (keeps_weaker (IsSaidOf true) IsSoundSaid first_line (λ said is. is.0) keeps_first))
+    (keeps_maybe IsSoundSaid (is_key (codes "trunk")) _ _ (λ _ _. keeps_weaker (IsSaidOf false) IsSoundSaid (node_line trunk_kind) (λ said is. is.0) keeps_trunk)
+    (keeps_weaker (IsSaidOf true) IsSoundSaid first_line (λ said is. is.0) keeps_first)))

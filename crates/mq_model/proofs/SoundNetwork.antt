@@ -21,7 +21,7 @@ use Rattle.mq_model.specs.NetworkOf.{bound_of, input_in, kind_in, network_of, no
 use Rattle.mq_model.specs.Said.{columns_of, distinct_after, gives, is_among, is_source, is_source_said, mentioned, mentions_of_kind, names_of, reads_of}
 use Rattle.mq_model.specs.declared.said.SaidInput.{SaidInput}
 use Rattle.mq_model.specs.declared.said.SaidKind.{SaidKind}
-use Rattle.mq_model.specs.declared.said.SaidKind.TheVariants.{Source, Server, Delay, Loss, Tandem, ForkJoin, Split, Fork, Join}
+use Rattle.mq_model.specs.declared.said.SaidKind.TheVariants.{Source, Server, Delay, Loss, Tandem, ForkJoin, Split, Fork, Join, Trunk}
 use Rattle.mq_model.specs.declared.said.SaidRoute.TheVariants.{Modulo, Turn, Cut}
 use Rattle.mq_model.specs.declared.said.Said.{Said}
 use Rattle.mq_model.specs.declared.said.Said.TheVariants as said
@@ -61,6 +61,7 @@ columns_are columns (Split (Turn outputs)) = refl
 columns_are columns (Split (Cut column thresholds)) = refl
 columns_are columns (Fork outputs) = refl
 columns_are columns Join = refl
+columns_are columns (Trunk servers d) = demand_columns columns d
 
 mentions_are : (names columns : List Word) (saids : List Said) → flat_map (λ (node : Node). columns_of_kind node.kind) (flat_map (nodes_in names columns) saids) ≡ map (number_in columns) (flat_map mentioned saids)
 mentions_are names columns [] = refl
@@ -80,6 +81,7 @@ source_is columns (ForkJoin branches) = refl
 source_is columns (Split route) = refl
 source_is columns (Fork outputs) = refl
 source_is columns Join = refl
+source_is columns (Trunk servers d) = refl
 
 sources_are : (names columns : List Word) (saids : List Said) → list_any is_source saids ≡ true → list_any (λ (node : Node). is_source_kind node.kind) (flat_map (nodes_in names columns) saids) ≡ true
 sources_are names columns [] h = absurd (cc)
@@ -112,6 +114,7 @@ kind_names (Split (Turn outputs)) sound = refl
 kind_names (Split (Cut column thresholds)) sound = and_from _ _ sound.0 refl
 kind_names (Fork outputs) sound = refl
 kind_names Join sound = refl
+kind_names (Trunk servers d) sound = demand_names d sound.1
 
 mentioned_names : (saids : List Said) → AreSound saids → list_all is_name (flat_map mentioned saids) ≡ true
 mentioned_names [] sound = refl
@@ -149,6 +152,7 @@ kind_sound columns (Split (Cut column thresholds)) sound among =
     and_from _ _ (and_from _ _ (and_from _ _ (number_below columns column (and_parts _ _ among).0) sound.1.0) sound.1.1) sound.1.2
 kind_sound columns (Fork outputs) sound among = sound
 kind_sound columns Join sound among = refl
+kind_sound columns (Trunk servers d) sound among = and_from _ _ sound.0 (demand_in_range columns d sound.1 among)
 
 count_sound : (columns : List Word) (kind : SaidKind) (reads : ℕ) → is_sound_reads kind reads ≡ true → is_sound_count (kind_in columns kind) reads ≡ true
 count_sound columns Source reads h = h
@@ -160,6 +164,7 @@ count_sound columns (ForkJoin branches) reads h = h
 count_sound columns (Split route) reads h = h
 count_sound columns (Fork outputs) reads h = h
 count_sound columns Join reads h = h
+count_sound columns (Trunk servers d) reads h = h
 
 outputs_sound : (names : List Word) (nodes : List Node) (inputs : List SaidInput) → list_all (λ (i : SaidInput). is_output (slice_get nodes (number_in names i.name)) i.out) inputs ≡ true
     → list_all (λ (i : Input). is_output (slice_get nodes i.node) i.out) (map (input_in names) inputs) ≡ true

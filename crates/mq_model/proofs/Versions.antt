@@ -9,24 +9,25 @@ use Rattle.mq_core.specs.declared.model.Kind.{Kind}
 use Rattle.mq_core.specs.declared.model.Kind.TheVariants as kind
 use Rattle.mq_core.specs.declared.model.Node.{Node}
 use Rattle.mq_model.specs.Form.{Word, read, whole}
-use Rattle.mq_model.specs.Lines.{first_line, fork_kind, join_line, line, node_line}
+use Rattle.mq_model.specs.Lines.{first_line, fork_kind, join_line, line, node_line, trunk_kind}
 use Rattle.mq_model.specs.Model.{begins_later}
 use Rattle.mq_model.specs.NetworkOf.{kind_in, nodes_in}
 use Rattle.mq_model.specs.SaidOf.{kind_by, node_by}
 use Rattle.mq_model.specs.declared.said.SaidKind.{SaidKind}
-use Rattle.mq_model.specs.declared.said.SaidKind.TheVariants.{Source, Server, Delay, Loss, Tandem, ForkJoin, Split, Fork, Join}
+use Rattle.mq_model.specs.declared.said.SaidKind.TheVariants.{Source, Server, Delay, Loss, Tandem, ForkJoin, Split, Fork, Join, Trunk}
 use Rattle.mq_model.specs.declared.said.Said.{Said}
 use Rattle.mq_model.specs.declared.said.Said.TheVariants as said
 use Rattle.mq_model.proofs.Lists.{AreAll}
-use Rattle.mq_model.proofs.ReadFacts.{line_first, line_fork, line_join, line_nothing}
-use Rattle.mq_model.proofs.SoundLines.{IsSaidOf, is_first, is_first_kind, keeps_first, keeps_fork, keeps_join, keeps_whole}
+use Rattle.mq_model.proofs.ReadFacts.{line_first, line_fork, line_join, line_nothing, line_trunk}
+use Rattle.mq_model.proofs.SoundLines.{IsSaidOf, is_first, is_first_kind, keeps_first, keeps_fork, keeps_join, keeps_trunk, keeps_whole}
 
 -- By words.
 says_first : (ws : List Word) (said : Said) → begins_later ws ≡ false → whole (read line ws) ≡ Ok said → is_first said ≡ true
 says_first [] said h e = let none = rw (line_nothing [] refl) at e in absurd (cc)
 says_first (w ∷ ws) said h e =
-    let no = or_parts (bytes_eq w (codes "fork")) (bytes_eq w (codes "join")) h in
-    (keeps_whole (IsSaidOf true) first_line (w ∷ ws) said keeps_first (rw (line_first (w ∷ ws) ws w refl no.0 no.1) at e)).1
+    let no = or_parts (bytes_eq w (codes "fork")) (bytes_eq w (codes "join") || bytes_eq w (codes "trunk")) h in
+    let nor = or_parts (bytes_eq w (codes "join")) (bytes_eq w (codes "trunk")) no.1 in
+    (keeps_whole (IsSaidOf true) first_line (w ∷ ws) said keeps_first (rw (line_first (w ∷ ws) ws w refl no.0 nor.0 nor.1) at e)).1
 
 says_later : (ws : List Word) (said : Said) → begins_later ws ≡ true → whole (read line ws) ≡ Ok said → is_first said ≡ false
 says_later [] said h e = absurd (cc)
@@ -34,8 +35,13 @@ says_later (w ∷ ws) said h e =
     elim (cases_Bool (bytes_eq w (codes "fork"))) [
       | inl fork ↦ (keeps_whole (IsSaidOf false) (node_line fork_kind) ws said keeps_fork (rw (line_fork (w ∷ ws) ws w refl fork) at e)).1
       | inr other ↦
-          let join : bytes_eq w (codes "join") ≡ true = rw other at h in
-          (keeps_whole (IsSaidOf false) join_line ws said keeps_join (rw (line_join (w ∷ ws) ws w refl other join) at e)).1
+          let later : (bytes_eq w (codes "join") || bytes_eq w (codes "trunk")) ≡ true = rw other at h in
+          elim (cases_Bool (bytes_eq w (codes "join"))) [
+            | inl join ↦ (keeps_whole (IsSaidOf false) join_line ws said keeps_join (rw (line_join (w ∷ ws) ws w refl other join) at e)).1
+            | inr neither ↦
+                let trunk : bytes_eq w (codes "trunk") ≡ true = rw neither at later in
+                (keeps_whole (IsSaidOf false) (node_line trunk_kind) ws said keeps_trunk (rw (line_trunk (w ∷ ws) ws w refl other neither trunk) at e)).1
+          ]
     ]
 
 -- a line that texts of this version have
@@ -73,6 +79,7 @@ kind_of_version columns version (ForkJoin branches) some of = some
 kind_of_version columns version (Split route) some of = some
 kind_of_version columns version (Fork outputs) some of = of
 kind_of_version columns version Join some of = of
+kind_of_version columns version (Trunk servers d) some of = of
 
 pub nodes_of_version : (names columns : List Word) (version : ℕ) (saids : List Said) → nat_le 1 version ≡ true → AreAll (λ said. is_of version said ≡ true) saids
     → list_all (λ (node : Node). nat_le (version_of node.kind) version) (flat_map (nodes_in names columns) saids) ≡ true
@@ -90,6 +97,7 @@ said_of_version columns version (kind.ForkJoin branches) h = refl
 said_of_version columns version (kind.Split r) h = refl
 said_of_version columns version (kind.Fork outputs) h = h
 said_of_version columns version kind.Join h = h
+said_of_version columns version (kind.Trunk servers d) h = h
 
 pub saids_of_version : (names columns : List Word) (version : ℕ) (nodes : List Node) → list_all (λ (node : Node). nat_le (version_of node.kind) version) nodes ≡ true
     → AreAll (λ said. is_of version said ≡ true) (map (node_by names columns) nodes)

@@ -1,8 +1,9 @@
 -- Texts, each with its first fault.
 use Rattle.std.specs.Prelude.{◌≡◌, ◌^◌, ◌∷◌, ◌++◌, [], ℕ, zero, suc, List, replicate, Option, Some, None, codes}
 use Rattle.std.specs.Fmt.{decimal}
+use Rattle.mq_core.specs.declared.model.Demand.TheVariants.{Column, Fixed}
 use Rattle.mq_core.specs.declared.model.Input.{Input}
-use Rattle.mq_core.specs.declared.model.Kind.TheVariants.{Fork, Join, Source}
+use Rattle.mq_core.specs.declared.model.Kind.TheVariants.{Fork, Join, Source, Trunk}
 use Rattle.mq_core.specs.declared.model.Network.{Network}
 use Rattle.mq_model.specs.Model.{model_fault}
 use Rattle.mq_model.specs.NetworkOf.{network_in}
@@ -54,6 +55,12 @@ line_examples =
     ∷ (codes "model 2\nsource s\nfork f 5 from s\n", Some (BadLine 3 3))
     ∷ (codes "model 2\nsource s\njoin j from s\n", Some (BadLine 3 5))
     ∷ (codes "model 2\nsource s\njoin j from a b c d e f g h i\n", Some (BadLine 3 12))
+    ∷ (codes "model 1\nsource s\ntrunk t 2 =1 from s\n", Some (BadLine 3 1))
+    ∷ (codes "model 2\nsource s\ntrunk t 0 =1 from s\n", Some (BadLine 3 3))
+    ∷ (codes "model 2\nsource s\ntrunk t 256 =1 from s\n", Some (BadLine 3 3))
+    ∷ (codes "model 2\nsource s\ntrunk t 2 from s\n", Some (BadLine 3 4))
+    ∷ (codes "model 2\nsource s\ntrunk t 2 =1\n", Some (BadLine 3 5))
+    ∷ (codes "model 2\nsource s\ntrunk t 2 =1 from a b c d e f g h i\n", Some (BadLine 3 14))
     ∷ (codes "model 1\n" ++ source_lines 65, Some (TooMany 66))
     ∷ (codes "model 1\nsource s" ++ (128 ∷ []), Some (BadByte 2))
     ∷ (replicate 65537 10, Some TooLong)
@@ -79,6 +86,8 @@ input_examples =
     ∷ (codes "model 2\nsource s\nfork f 4 from s\njoin j from f f.1 f.2 f.3\n", None)
     ∷ (codes "model 2\nsource s\nfork f 3 from s\njoin j from f f.3\n", Some (UnknownInput 4 1))
     ∷ (codes "model 2\nsource s\nfork f 2 from s\njoin j from f f.1\nserver q =1 from j.1\n", Some (UnknownInput 5 0))
+    ∷ (codes "model 2\nsource s\ntrunk t 255 k from s\nserver r =1 from t.1 t\n", None)
+    ∷ (codes "model 2\nsource s\ntrunk t 1 k from s\nserver r =1 from t.2\n", Some (UnknownInput 4 0))
     ∷ []
 
 -- the network of a text with carriage returns and a tab
@@ -104,8 +113,25 @@ forked = record {
   version = 2;
 }
 
+-- the text of two trunk groups, of which the second takes what the first loses, and its network
+abbrev pub trunked_text : List ℕ
+trunked_text = codes "model 2\nsource s\ntrunk t 024 call from s\ntrunk u 1 =7 from t.1\n"
+
+abbrev pub trunked : Network
+trunked = record {
+  nodes =
+      record { name = codes "s"; kind = Source; inputs = [] }
+      ∷ record { name = codes "t"; kind = Trunk 24 (Column 0); inputs = output_of 0 0 ∷ [] }
+      ∷ record { name = codes "u"; kind = Trunk 1 (Fixed 7); inputs = output_of 1 1 ∷ [] }
+      ∷ [];
+  columns = codes "call" ∷ [];
+  bound = 2 ^ 60;
+  version = 2;
+}
+
 pub record AreAnswered : Type 0 where
   pub lines : AllAnswered line_examples
   pub inputs : AllAnswered input_examples
   pub network : network_in (codes "model 1\r\n\tsource  s\r\n") ≡ one_source
   pub forks : network_in forked_text ≡ forked
+  pub trunks : network_in trunked_text ≡ trunked

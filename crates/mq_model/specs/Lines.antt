@@ -11,7 +11,7 @@ use Rattle.mq_model.specs.declared.said.SaidRoute.{SaidRoute}
 use Rattle.mq_model.specs.declared.said.SaidRoute.TheVariants.{Modulo, Turn, Cut}
 use Rattle.mq_model.specs.declared.said.SaidStage.{SaidStage}
 use Rattle.mq_model.specs.declared.said.SaidKind.{SaidKind}
-use Rattle.mq_model.specs.declared.said.SaidKind.TheVariants.{Source, Server, Delay, Loss, Tandem, ForkJoin, Split, Fork, Join}
+use Rattle.mq_model.specs.declared.said.SaidKind.TheVariants.{Source, Server, Delay, Loss, Tandem, ForkJoin, Split, Fork, Join, Trunk}
 use Rattle.mq_model.specs.declared.said.Said.{Said}
 use Rattle.mq_model.specs.declared.said.Said.TheVariants.{Bound, Node}
 use Rattle.mq_model.specs.Form.{◌>>=◌, Form, Word, stop, word, maybe, one, up_to}
@@ -193,6 +193,13 @@ split_kind = a_route >>= λ route. stop (Split route)
 abbrev pub fork_kind : Form SaidKind
 fork_kind = one (is_from_to 2 4) (λ w. Fork (value_of w))
 
+-- how many servers a trunk group has, and its demand
+unfoldable pub trunk_kind : Form SaidKind
+trunk_kind = do
+  servers ← one (is_from_to 1 255) value_of
+  demand ← a_demand
+  stop (Trunk servers demand)
+
 unfoldable pub node_line : Form SaidKind → Form Said
 node_line kind = do
   name ← a_name
@@ -228,6 +235,9 @@ kind_line =
 unfoldable pub first_line : Form Said
 first_line = maybe (is_key (codes "bound")) (λ _. bound_line) (maybe (is_key (codes "source")) (λ _. source_line) kind_line)
 
--- those of version 2, which has two more
+-- those of version 2, which has three more
 unfoldable pub line : Form Said
-line = maybe (is_key (codes "fork")) (λ _. node_line fork_kind) (maybe (is_key (codes "join")) (λ _. join_line) first_line)
+line =
+    maybe (is_key (codes "fork")) (λ _. node_line fork_kind)
+    (maybe (is_key (codes "join")) (λ _. join_line)
+    (maybe (is_key (codes "trunk")) (λ _. node_line trunk_kind) first_line))

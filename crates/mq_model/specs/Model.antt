@@ -26,7 +26,7 @@ begins_bound (w ∷ ws) = bytes_eq w (codes "bound")
 -- a line that version 1 doesn't have
 abbrev pub begins_later : List Word → Bool
 begins_later [] = false
-begins_later (w ∷ ws) = bytes_eq w (codes "fork") || bytes_eq w (codes "join")
+begins_later (w ∷ ws) = bytes_eq w (codes "fork") || (bytes_eq w (codes "join") || bytes_eq w (codes "trunk"))
 
 -- a line that begins as none may: as a second bound, behind an earlier one, or as a line of version 2 in a text of version 1
 abbrev pub is_barred : Bool → ℕ → List Word → Bool

@@ -24,7 +24,7 @@ use Rattle.mq_model.specs.declared.said.SaidRoute.{SaidRoute}
 use Rattle.mq_model.specs.declared.said.SaidRoute.TheVariants.{Modulo, Turn, Cut}
 use Rattle.mq_model.specs.declared.said.SaidStage.{SaidStage}
 use Rattle.mq_model.specs.declared.said.SaidKind.{SaidKind}
-use Rattle.mq_model.specs.declared.said.SaidKind.TheVariants.{Source, Server, Delay, Loss, Tandem, ForkJoin, Split, Fork, Join}
+use Rattle.mq_model.specs.declared.said.SaidKind.TheVariants.{Source, Server, Delay, Loss, Tandem, ForkJoin, Split, Fork, Join, Trunk}
 use Rattle.mq_model.specs.declared.said.Said.{Said}
 use Rattle.mq_model.specs.declared.said.Said.TheVariants as said
 
@@ -65,6 +65,7 @@ kind_in columns (ForkJoin branches) = kind.ForkJoin (map (map (demand_in columns
 kind_in columns (Split route) = kind.Split (route_in columns route)
 kind_in columns (Fork outputs) = kind.Fork outputs
 kind_in columns Join = kind.Join
+kind_in columns (Trunk servers d) = kind.Trunk servers (demand_in columns d)
 
 abbrev pub input_in : List Word → SaidInput → Input
 input_in names input = record { node = number_in names input.name; out = input.out }

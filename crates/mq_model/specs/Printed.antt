@@ -12,7 +12,7 @@ use Rattle.mq_model.specs.declared.said.SaidRoute.{SaidRoute}
 use Rattle.mq_model.specs.declared.said.SaidRoute.TheVariants.{Modulo, Turn, Cut}
 use Rattle.mq_model.specs.declared.said.SaidStage.{SaidStage}
 use Rattle.mq_model.specs.declared.said.SaidKind.{SaidKind}
-use Rattle.mq_model.specs.declared.said.SaidKind.TheVariants.{Source, Server, Delay, Loss, Tandem, ForkJoin, Split, Fork, Join}
+use Rattle.mq_model.specs.declared.said.SaidKind.TheVariants.{Source, Server, Delay, Loss, Tandem, ForkJoin, Split, Fork, Join, Trunk}
 use Rattle.mq_model.specs.declared.said.Said.{Said}
 use Rattle.mq_model.specs.declared.said.Said.TheVariants.{Bound, Node}
 
@@ -62,6 +62,7 @@ first_word (ForkJoin branches) = codes "forkjoin"
 first_word (Split route) = codes "split"
 first_word (Fork outputs) = codes "fork"
 first_word Join = codes "join"
+first_word (Trunk servers d) = codes "trunk"
 
 -- what stands between the name and the inputs
 abbrev pub kind_words : SaidKind → List Word
@@ -74,6 +75,7 @@ kind_words (ForkJoin branches) = branches_words branches
 kind_words (Split route) = route_words route
 kind_words (Fork outputs) = decimal outputs ∷ []
 kind_words Join = []
+kind_words (Trunk servers d) = decimal servers ∷ demand_word d ∷ []
 
 -- a source has no inputs to be read
 abbrev pub reads_words : SaidKind → List SaidInput → List Word
@@ -86,6 +88,7 @@ reads_words (ForkJoin branches) reads = inputs_words reads
 reads_words (Split route) reads = inputs_words reads
 reads_words (Fork outputs) reads = inputs_words reads
 reads_words Join reads = inputs_words reads
+reads_words (Trunk servers d) reads = inputs_words reads
 
 abbrev pub said_words : Said → List Word
 said_words (Bound n) = codes "bound" ∷ decimal n ∷ []

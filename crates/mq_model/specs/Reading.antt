@@ -3,7 +3,7 @@ use Rattle.std.specs.Prelude.{◌≡◌, ◌+◌, ◌++◌, ℕ, List, length, d
 use Rattle.std.specs.Borrow.{Bor}
 use Rattle.mq_base.specs.Text.{texts}
 use Rattle.mq_model.specs.Form.{Form, Word}
-use Rattle.mq_model.specs.Lines.{delay_kind, forkjoin_kind, loss_kind, server_kind, split_kind, tandem_kind}
+use Rattle.mq_model.specs.Lines.{delay_kind, fork_kind, forkjoin_kind, loss_kind, server_kind, split_kind, tandem_kind, trunk_kind}
 use Rattle.mq_model.specs.declared.said.SaidKind.{SaidKind}
 use Rattle.mq_model.specs.declared.line.KindWord.{KindWord}
 use Rattle.mq_model.specs.declared.line.KindWord.TheVariants as first
@@ -24,6 +24,8 @@ form_of first.Loss = loss_kind
 form_of first.Tandem = tandem_kind
 form_of first.ForkJoin = forkjoin_kind
 form_of first.Split = split_kind
+form_of first.Fork = fork_kind
+form_of first.Trunk = trunk_kind
 
 -- What was read, and what is left, is what the form says; and the fault is at its index, unless memory ran out.
 abbrev pub Reads : {X : Type 0} → Result X Stop → List Word → Result (X × List Word) (List Word) → Type 0

@@ -10,7 +10,7 @@ use Rattle.mq_model.specs.declared.said.SaidRoute.{SaidRoute}
 use Rattle.mq_model.specs.declared.said.SaidRoute.TheVariants.{Modulo, Turn, Cut}
 use Rattle.mq_model.specs.declared.said.SaidStage.{SaidStage}
 use Rattle.mq_model.specs.declared.said.SaidKind.{SaidKind}
-use Rattle.mq_model.specs.declared.said.SaidKind.TheVariants.{Source, Server, Delay, Loss, Tandem, ForkJoin, Split, Fork, Join}
+use Rattle.mq_model.specs.declared.said.SaidKind.TheVariants.{Source, Server, Delay, Loss, Tandem, ForkJoin, Split, Fork, Join, Trunk}
 use Rattle.mq_model.specs.declared.said.Said.{Said}
 use Rattle.mq_model.specs.declared.said.Said.TheVariants.{Bound, Node}
 
@@ -42,6 +42,7 @@ mentions_of_kind (ForkJoin branches) = flat_map (λ demands. flat_map mentions_o
 mentions_of_kind (Split route) = mentions_of_route route
 mentions_of_kind (Fork outputs) = []
 mentions_of_kind Join = []
+mentions_of_kind (Trunk servers d) = mentions_of_demand d
 
 abbrev pub mentioned : Said → List Word
 mentioned (Bound n) = []
@@ -88,6 +89,7 @@ outputs_of (ForkJoin branches) = 1
 outputs_of (Split route) = outputs_of_route route
 outputs_of (Fork outputs) = outputs
 outputs_of Join = 1
+outputs_of (Trunk servers d) = 2
 
 -- a line declares the node of this input, and the node has the output
 abbrev pub gives : SaidInput → Said → Bool
@@ -107,6 +109,7 @@ is_source_said (ForkJoin branches) = false
 is_source_said (Split route) = false
 is_source_said (Fork outputs) = false
 is_source_said Join = false
+is_source_said (Trunk servers d) = false
 
 abbrev pub is_source : Said → Bool
 is_source (Bound n) = false

@@ -18,7 +18,7 @@ use Rattle.mq_model.specs.declared.said.SaidRoute.{SaidRoute}
 use Rattle.mq_model.specs.declared.said.SaidRoute.TheVariants.{Modulo, Turn, Cut}
 use Rattle.mq_model.specs.declared.said.SaidStage.{SaidStage}
 use Rattle.mq_model.specs.declared.said.SaidKind.{SaidKind}
-use Rattle.mq_model.specs.declared.said.SaidKind.TheVariants.{Source, Server, Delay, Loss, Tandem, ForkJoin, Split, Fork, Join}
+use Rattle.mq_model.specs.declared.said.SaidKind.TheVariants.{Source, Server, Delay, Loss, Tandem, ForkJoin, Split, Fork, Join, Trunk}
 use Rattle.mq_model.specs.declared.said.Said.{Said}
 use Rattle.mq_model.specs.declared.said.Said.TheVariants as said
 
@@ -48,6 +48,7 @@ kind_by columns (kind.ForkJoin branches) = ForkJoin (map (map (demand_by columns
 kind_by columns (kind.Split r) = Split (route_by columns r)
 kind_by columns (kind.Fork outputs) = Fork outputs
 kind_by columns kind.Join = Join
+kind_by columns (kind.Trunk servers d) = Trunk servers (demand_by columns d)
 
 abbrev pub input_by : List Word → Input → SaidInput
 input_by names input = record { name = name_at names input.node; out = input.out }

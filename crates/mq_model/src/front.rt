@@ -118,7 +118,10 @@ fn begins_later(words: &[&[u8]]) -> bool
     if *word == b"fork".as_slice() {
         return true;
     }
-    *word == b"join".as_slice()
+    if *word == b"join".as_slice() {
+        return true;
+    }
+    *word == b"trunk".as_slice()
 }
 
 /// Whether a line begins as none may: as a bound behind an earlier one, or as a line of version 2
@@ -266,6 +269,7 @@ fn add_of_kind(
         SaidKind::ForkJoin(branches) => add_of_branches(alloc, branches.as_slice(), columns),
         SaidKind::Split(route) => add_of_route(alloc, route, columns),
         SaidKind::Fork { .. } | SaidKind::Join => Ok(()),
+        SaidKind::Trunk { demand, .. } => add_of_demand(alloc, demand, columns),
     }
 }
 

@@ -18,7 +18,7 @@ fn has_output(kind: &SaidKind, out: u8) -> bool
         | SaidKind::Tandem(_)
         | SaidKind::ForkJoin(_)
         | SaidKind::Join => out == 0,
-        SaidKind::Loss { .. } => out < 2,
+        SaidKind::Loss { .. } | SaidKind::Trunk { .. } => out < 2,
         SaidKind::Split(SaidRoute::Modulo { outputs, .. })
         | SaidKind::Split(SaidRoute::Turn { outputs })
         | SaidKind::Fork { outputs } => out < *outputs,

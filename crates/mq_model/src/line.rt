@@ -9,11 +9,11 @@ use crate::parts::{
 };
 use crate::route::read_route;
 use crate::said::{Said, SaidKind};
-use crate::station::{read_forkjoin, read_loss, read_tandem};
+use crate::station::{read_forkjoin, read_loss, read_tandem, read_trunk};
 use mq_base::List;
 use std::alloc::Global;
 
-/// The first word of a line whose node reads inputs.
+/// The first word of a line whose node reads 1 to 8 inputs.
 #[derive(Clone, Copy)]
 pub enum KindWord {
     Server,
@@ -22,9 +22,11 @@ pub enum KindWord {
     Tandem,
     ForkJoin,
     Split,
+    Fork,
+    Trunk,
 }
 
-/// The kind that a line's first word names, if the node reads inputs.
+/// The kind that the first word of a line of version 1 names, if the node reads inputs.
 fn kind_word(word: &[u8]) -> Option<KindWord>
     ensures { (all more : List Word) → all ≡ word.now ∷ more → MatchOption result (read kind_line all ≡ Err all) (λ first. read kind_line all ≡ read (node_line (form_of first)) more) }
 {
@@ -49,6 +51,17 @@ fn kind_word(word: &[u8]) -> Option<KindWord>
     None
 }
 
+/// Reads how many outputs a fork has.
+fn read_fork(words: &[&[u8]], at: &mut usize) -> Result<SaidKind, Stop>
+    ensures reads { Reads result (words_from words.now at.new) (read fork_kind (words_from words.now at.old)) }
+    ensures within { at.old ≤ length words.now → at.new ≤ length words.now }
+{
+    let outputs = read_within(words, at, 2, 4)?;
+    Ok(SaidKind::Fork {
+        outputs: outputs as u8,
+    })
+}
+
 /// Reads what stands between the name and the inputs.
 fn read_kind(
     alloc: Global,
@@ -66,18 +79,9 @@ fn read_kind(
         KindWord::Tandem => read_tandem(alloc, words, at),
         KindWord::ForkJoin => read_forkjoin(alloc, words, at),
         KindWord::Split => Ok(SaidKind::Split(read_route(alloc, words, at)?)),
+        KindWord::Fork => read_fork(words, at),
+        KindWord::Trunk => read_trunk(alloc, words, at),
     }
-}
-
-/// Reads how many outputs a fork has.
-fn read_fork_kind(words: &[&[u8]], at: &mut usize) -> Result<SaidKind, Stop>
-    ensures reads { Reads result (words_from words.now at.new) (read fork_kind (words_from words.now at.old)) }
-    ensures within { at.old ≤ length words.now → at.new ≤ length words.now }
-{
-    let outputs = read_within(words, at, 2, 4)?;
-    Ok(SaidKind::Fork {
-        outputs: outputs as u8,
-    })
 }
 
 /// Reads what stands behind the first word, where the node reads inputs.
@@ -112,18 +116,6 @@ fn read_source(alloc: Global, words: &[&[u8]], at: &mut usize) -> Result<Said, S
         kind: SaidKind::Source,
         reads: List::new(alloc),
     })
-}
-
-/// Reads what stands behind `fork`.
-#[tactic(auto, using(crate::proofs::ReadFacts::reading), unfolding(crate::specs::Lines::node_line))]
-fn read_fork(alloc: Global, words: &[&[u8]], at: &mut usize) -> Result<Said, Stop>
-    ensures reads { Reads result (words_from words.now at.new) (read (node_line fork_kind) (words_from words.now at.old)) }
-    ensures within { at.old ≤ length words.now → at.new ≤ length words.now }
-{
-    let name = read_name(alloc, words, at)?;
-    let kind = read_fork_kind(words, at)?;
-    let reads = read_inputs(alloc, words, at)?;
-    Ok(Said::Node { name, kind, reads })
 }
 
 /// Reads what stands behind `join`.
@@ -176,11 +168,15 @@ fn read_any(alloc: Global, words: &[&[u8]], at: &mut usize) -> Result<Said, Stop
     };
     if word == b"fork".as_slice() {
         *at += 1;
-        return read_fork(alloc, words, at);
+        return read_node(alloc, words, at, KindWord::Fork);
     }
     if word == b"join".as_slice() {
         *at += 1;
         return read_join(alloc, words, at);
+    }
+    if word == b"trunk".as_slice() {
+        *at += 1;
+        return read_node(alloc, words, at, KindWord::Trunk);
     }
     read_first(alloc, words, at)
 }

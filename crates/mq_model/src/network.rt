@@ -130,6 +130,10 @@ fn kind_in(alloc: Global, columns: &[List<u8>], kind: &SaidKind) -> Result<Kind,
         SaidKind::Split(route) => Ok(Kind::Split(route_in(alloc, columns, route)?)),
         SaidKind::Fork { outputs } => Ok(Kind::Fork { outputs: *outputs }),
         SaidKind::Join => Ok(Kind::Join),
+        SaidKind::Trunk { servers, demand } => Ok(Kind::Trunk {
+            servers: *servers,
+            demand: demand_in(columns, demand),
+        }),
     }
 }
 

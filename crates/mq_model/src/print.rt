@@ -206,6 +206,7 @@ fn first_word(kind: &Kind) -> &[u8]
         Kind::Split(_) => b"split",
         Kind::Fork { .. } => b"fork",
         Kind::Join => b"join",
+        Kind::Trunk { .. } => b"trunk",
     }
 }
 
@@ -224,6 +225,10 @@ fn push_kind(text: &mut Vec<u8>, net: &Network, kind: &Kind) -> Result<(), OutOf
         Kind::ForkJoin(branches) => push_branches(text, net, branches.as_slice()),
         Kind::Split(route) => push_route(text, net, route),
         Kind::Fork { outputs } => push_number(text, *outputs as u64),
+        Kind::Trunk { servers, demand } => {
+            push_number(text, *servers as u64)?;
+            push_demand(text, net, demand)
+        }
     }
 }
 

@@ -50,6 +50,7 @@ pub enum SaidKind {
     Split(SaidRoute),
     Fork { outputs: u8 },
     Join,
+    Trunk { servers: u8, demand: SaidDemand },
 }
 
 /// A line: the bound of the times, in ticks, or a node with its inputs by port.

@@ -1,7 +1,7 @@
 // What stands between the name of a station and its inputs.
 ghost use Rattle.std.specs.Prelude.{◌≡◌, ◌≤◌, IfOk, length};
 ghost use Rattle.mq_model.specs.Form.{read, up_to};
-ghost use Rattle.mq_model.specs.Lines.{a_branch, a_stage, all_branches, branches as further_branches, demand_of, forkjoin_kind, is_demand, loss_kind, stages as further_stages, stages_behind, tandem_kind};
+ghost use Rattle.mq_model.specs.Lines.{a_branch, a_stage, all_branches, branches as further_branches, demand_of, forkjoin_kind, is_demand, loss_kind, trunk_kind, stages as further_stages, stages_behind, tandem_kind};
 ghost use Rattle.mq_model.specs.Reading.{Reads, ReadsMore, words_from};
 
 use crate::parts::{Stop, read_demand, read_within, word_at};
@@ -22,6 +22,19 @@ pub fn read_loss(alloc: Global, words: &[&[u8]], at: &mut usize) -> Result<SaidK
     let demand = read_demand(alloc, words, at)?;
     Ok(SaidKind::Loss {
         places: places as u32,
+        demand,
+    })
+}
+
+/// Reads the servers of a trunk group and its demand.
+pub fn read_trunk(alloc: Global, words: &[&[u8]], at: &mut usize) -> Result<SaidKind, Stop>
+    ensures reads { Reads result (words_from words.now at.new) (read trunk_kind (words_from words.now at.old)) }
+    ensures within { at.old ≤ length words.now → at.new ≤ length words.now }
+{
+    let servers = read_within(words, at, 1, 255)?;
+    let demand = read_demand(alloc, words, at)?;
+    Ok(SaidKind::Trunk {
+        servers: servers as u8,
         demand,
     })
 }
