@@ -5,7 +5,7 @@
 
 # The outputs of the node of this line.
 function outputs_of(kind) {
-    if (kind == "loss") return 2
+    if (kind == "loss" || kind == "trunk") return 2
     if (kind == "fork") return $3
     if (kind != "split") return 1
     return $3 == "cut" ? from - 4 : $3

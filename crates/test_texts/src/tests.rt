@@ -68,6 +68,43 @@ fn has_fault(alloc: Global, text: &[u8], wanted: ModelFault) -> bool {
     }
 }
 
+#[test]
+fn trunk_groups_are_printed(rt: HostRuntime) {
+    let text =
+        b"model 2\nsource s\ntrunk t 024 call from s\ntrunk u 255 =07 from t.1\ntrunk v 1 call from u.1 t.0 u";
+    let canonical =
+        b"model 2\nbound 1152921504606846976\nsource s\ntrunk t 24 call from s\ntrunk u 255 =7 from t.1\ntrunk v 1 call from u.1 t u\n";
+    assert!(rt; prints(rt.alloc(), text, canonical));
+    assert!(rt; prints(rt.alloc(), canonical, canonical));
+}
+
+// Whether the third line of a text has the first fault, at this word.
+fn fails_at_word(alloc: Global, text: &[u8], word: u32) -> bool {
+    has_fault(alloc, text, ModelFault::BadLine { line: 3, word })
+}
+
+#[test]
+fn a_trunk_group_has_its_faults(rt: HostRuntime) {
+    assert!(rt; fails_at_word(rt.alloc(), b"model 1\nsource s\ntrunk t 2 =1 from s\n", 1));
+    assert!(rt; fails_at_word(rt.alloc(), b"model 2\nsource s\ntrunk t 0 =1 from s\n", 3));
+    assert!(rt; fails_at_word(rt.alloc(), b"model 2\nsource s\ntrunk t 256 =1 from s\n", 3));
+    assert!(rt; fails_at_word(rt.alloc(), b"model 2\nsource s\ntrunk t 2 from s\n", 4));
+    assert!(rt;
+        fails_at_word(
+            rt.alloc(),
+            b"model 2\nsource s\ntrunk t 2 =1 from a b c d e f g h i\n",
+            14
+        )
+    );
+    assert!(rt;
+        has_fault(
+            rt.alloc(),
+            b"model 2\nsource s\ntrunk t 2 =1 from s\nserver q =1 from t.2\n",
+            ModelFault::UnknownInput { line: 4, input: 0 },
+        )
+    );
+}
+
 // The line on the error output tells the line of a cycle's first node alone.
 #[test]
 fn a_cycle_names_its_first_node(rt: HostRuntime) {
