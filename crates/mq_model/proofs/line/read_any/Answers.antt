@@ -14,7 +14,7 @@ returns-then-eq-2-clause-reads c =
 
 pub returns-then-eq-3-clause-reads : goal.returns-then-eq-3-clause-reads
 returns-then-eq-3-clause-reads c =
-    rw (line_trunk _ _ _ c.in-Some.ensures.next (sym (rw c.as_slice.ensures at c.if-eq.ensures)) (sym (rw c.as_slice-2.ensures at c.if-eq-2.ensures)) (sym (rw c.as_slice-3.ensures at c.if-eq-3.ensures))) c.read_node.ensures.reads
+    rw (line_trunk _ _ _ c.in-Some.ensures.next (sym (rw c.as_slice.ensures at c.if-eq.ensures)) (sym (rw c.as_slice-2.ensures at c.if-eq-2.ensures)) (sym (rw c.as_slice-3.ensures at c.if-eq-3.ensures))) c.read_node-then-eq-3.ensures.reads
 
 pub returns-clause-reads : goal.returns-clause-reads
 returns-clause-reads c =
