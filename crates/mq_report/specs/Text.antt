@@ -14,7 +14,7 @@ use Rattle.mq_core.specs.declared.model.Fate.{Fate}
 use Rattle.mq_core.specs.declared.model.Fate.TheVariants.{Departs, Held, Lost}
 use Rattle.mq_core.specs.declared.model.Input.{Input}
 use Rattle.mq_core.specs.declared.model.Kind.{Kind}
-use Rattle.mq_core.specs.declared.model.Kind.TheVariants.{Source, Server, Delay, Loss, Tandem, ForkJoin, Split, Fork, Join}
+use Rattle.mq_core.specs.declared.model.Kind.TheVariants.{Source, Server, Delay, Loss, Tandem, ForkJoin, Split, Fork, Join, Trunk}
 use Rattle.mq_core.specs.declared.model.Network.{Network}
 use Rattle.mq_core.specs.declared.model.Node.{Node}
 use Rattle.mq_core.specs.declared.model.Rows.{Rows}
@@ -39,6 +39,7 @@ kind_word (ForkJoin branches) = codes "forkjoin"
 kind_word (Split route) = codes "split"
 kind_word (Fork outputs) = codes "fork"
 kind_word Join = codes "join"
+kind_word (Trunk servers demand) = codes "trunk"
 
 -- the four digits of a number below 10,000
 abbrev pub last_digits : ℕ → List ℕ
@@ -66,7 +67,7 @@ node_words name word = codes "node " ++ name ++ codes " " ++ word ++ codes " in 
 unfoldable pub node_counts : Totals → List ℕ
 node_counts totals = decimal totals.came ++ codes " out " ++ decimal totals.left ++ codes " lost "
 
--- the visits that a loss station had no place for, and, where they are told, those that are held
+-- the visits that a loss station had no place for, or a trunk group no server, and, where they are told, those that are held
 unfoldable pub node_losses : Bool → Totals → List ℕ
 node_losses tells_held totals =
     if tells_held

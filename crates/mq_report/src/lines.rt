@@ -76,6 +76,7 @@ fn kind_word(kind: &Kind) -> &'static [u8]
         Kind::Split(_) => b"split",
         Kind::Fork { .. } => b"fork",
         Kind::Join => b"join",
+        Kind::Trunk { .. } => b"trunk",
     }
 }
 
@@ -311,7 +312,7 @@ pub fn add_node<O: Sink>(
     tail: Option<Percentiles>,
     span: u64,
 ) -> Result<(), SinkFault>
-    requires servers { servers_in kind.now ≤ 8 }
+    requires servers { servers_in kind.now ≤ 255 }
     requires small { totals.now.busy < 2 ^ 100 }
     ensures { Adds O.taken O.sure O.faults out.old out.new pending.old pending.new result (node_line tells_held name.now kind.now (totals_from totals.now) (option_map tail_from tail) span) }
 {

@@ -20,7 +20,7 @@ use Rattle.mq_core.specs.Streams.{picked, stream_by}
 use Rattle.mq_core.specs.declared.model.Fate.{Fate}
 use Rattle.mq_core.specs.declared.model.Fate.TheVariants.{Departs, Held, Lost}
 use Rattle.mq_core.specs.declared.model.Kind.{Kind}
-use Rattle.mq_core.specs.declared.model.Kind.TheVariants.{Delay, Fork, ForkJoin, Join, Loss, Server, Source, Split, Tandem}
+use Rattle.mq_core.specs.declared.model.Kind.TheVariants.{Delay, Fork, ForkJoin, Join, Loss, Server, Source, Split, Tandem, Trunk}
 use Rattle.mq_core.specs.declared.model.Rows.{Rows}
 use Rattle.mq_core.specs.declared.model.Stream.{Stream}
 use Rattle.mq_stats.proofs.RunSteps.{Each-picked, leaving-even, length-picked, picked-even}
@@ -244,3 +244,4 @@ leaves-of rows (ForkJoin branches) came law keeps each = once-leaves rows (ForkJ
 leaves-of rows (Split route) came law keeps each = once-leaves rows (Split route) came (law rows (Split route) came refl) keeps each (inr refl)
 leaves-of rows (Fork outputs) came law keeps each = fork-leaves rows outputs came
 leaves-of rows Join came law keeps each = join-leaves rows came
+leaves-of rows (Trunk servers demand) came law keeps each = once-leaves rows (Trunk servers demand) came (law rows (Trunk servers demand) came refl) keeps each (inl (omega arith, fares-first (sequence_fates rows (Trunk servers demand) came)))

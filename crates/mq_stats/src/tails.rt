@@ -113,6 +113,7 @@ fn put_waits_of(
         Kind::Tandem(_) | Kind::ForkJoin(_) => {
             put_waits(&AtServers, rows, kind, job, arrive, fate, waits)
         }
+        Kind::Trunk { demand, .. } => put_waits_for(demand, rows, kind, job, arrive, fate, waits),
     }
 }
 

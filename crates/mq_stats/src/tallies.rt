@@ -167,7 +167,8 @@ fn peak_at(kind: &Kind, greatest: u32, found: &[u32], fate: &FateSlice) -> u32
         | Kind::Loss { .. }
         | Kind::Tandem(_)
         | Kind::ForkJoin(_)
-        | Kind::Join => greatest,
+        | Kind::Join
+        | Kind::Trunk { .. } => greatest,
     }
 }
 

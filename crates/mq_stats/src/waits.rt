@@ -111,6 +111,7 @@ impl Asking for AtServers {
             Kind::Source | Kind::Split(_) | Kind::Fork { .. } | Kind::Join => 0,
             Kind::Server(_) | Kind::Delay(_) | Kind::Loss { .. } | Kind::Tandem(_) => bare,
             Kind::ForkJoin(branches) => demand_of_branches(rows, branches, job),
+            Kind::Trunk { .. } => bare,
         }
     }
 }
@@ -215,5 +216,6 @@ pub fn waits_of(
         Kind::Tandem(_) | Kind::ForkJoin(_) => {
             each_wait(&AtServers, rows, kind, job, arrive, fate)
         }
+        Kind::Trunk { demand, .. } => waits_for(demand, rows, kind, job, arrive, fate),
     }
 }
