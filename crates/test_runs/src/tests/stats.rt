@@ -202,6 +202,54 @@ fn servers_have_totals(rt: HostRuntime) -> Result<(), Fail> {
     Ok(())
 }
 
+// Whether a trunk group of two servers has these totals in a run up to 10.
+fn trunk_totals_are(rows: &Rows, visits: &Visits, wanted: &NodeTotals) -> bool {
+    if !are_even(visits) || !are_told(rows, &visits.job) || !are_small(&visits.found) {
+        return false;
+    }
+    if !is_column_small(rows) {
+        return false;
+    }
+    let kind = Kind::Trunk {
+        servers: 2,
+        demand: Demand::Column(0),
+    };
+    totals(rows, &kind, visits, 10) == *wanted
+}
+
+// The third comes while the two before it are served, and is lost.
+const TRUNKS: Columns<'static> = Columns {
+    job: &[0, 2, 1, 1],
+    arrive: &[0, 1, 2, 4],
+    found: &[0, 1, 2, 0],
+    fate: &[
+        Fate::Departs(4),
+        Fate::Departs(4),
+        Fate::Lost,
+        Fate::Departs(5),
+    ],
+};
+
+#[test]
+fn a_trunk_group_has_totals(rt: HostRuntime) -> Result<(), Fail> {
+    let alloc = rt.alloc();
+    let rows = three_rows(alloc)?;
+    let visits = visits_of(alloc, &TRUNKS)?;
+    let wanted = NodeTotals {
+        came: 4,
+        left: 3,
+        lost: 1,
+        held: 0,
+        wait: 0,
+        longest: 0,
+        busy: 8,
+        area: 8,
+        peak: 2,
+    };
+    assert!(rt; trunk_totals_are(&rows, &visits, &wanted));
+    Ok(())
+}
+
 // Whether the totals of a server's visits before a position and of those from it on, added up, are those of all.
 fn totals_join_at(rows: &Rows, visits: &Visits, at: u32) -> bool {
     if !are_even(visits) || !are_told(rows, &visits.job) || !are_small(&visits.found) {
