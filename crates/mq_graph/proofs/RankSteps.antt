@@ -1,3 +1,4 @@
+-- The ranking step by step: which node gets the next rank, and what an order lacks.
 use Rattle.std.proofs.Common.{◌≡◌, ℕ, zero, suc, ◌+◌, ◌-◌, ◌<◌, ◌≤◌, eqb, eqb-true, Bool, true, false, cond, List, ◌++◌, length, get_or, drop, Option, Some, None, refl, subst, arith}
 use Rattle.std.proofs.lemmas.Bool.Decides.{nat_tests}
 use Rattle.std.proofs.Math.Seq.{drop-cons}

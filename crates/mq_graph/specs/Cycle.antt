@@ -1,3 +1,4 @@
+-- Cycles among the inputs of nodes, and that the ranking leaves a node exactly where there is one.
 use Rattle.std.specs.Prelude.{◌≡◌, ℕ, List, [], ◌∷◌, Some, slice_get, ◌↔◌, IsSome}
 use Rattle.mq_core.specs.declared.model.Node.{Node}
 use Rattle.mq_core.specs.Wiring.{inputs_of}

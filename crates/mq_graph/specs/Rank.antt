@@ -1,3 +1,4 @@
+-- What the ranking of some nodes answers: the nodes by rank, or the first declared node that is left.
 use Rattle.std.specs.Prelude.{◌≡◌, ℕ, ◌<◌, not, List, length, Option, Some, None, Result, Ok, Err, IsTrue}
 use Rattle.std.specs.List.{All, find, range_with_len}
 use Rattle.mq_core.specs.declared.model.Input.{Input}

@@ -91,8 +91,8 @@ fn merge_quoted<'a>(
     Ok(merged)
 }
 
-/// A text in at most so many pieces, whose records are those of the text. Where a line feed is part of a quoted field
-/// the text isn't cut.
+/// A text in at most so many pieces, whose records are those of the text. It isn't cut at a line feed that is part of
+/// a quoted field: a piece that begins there is put behind the one before it.
 ///
 /// A piece ends in front of a line feed, so that none but the first begins with a byte order mark.
 pub fn pieces_of<'a, R: Threads + Sync>(
