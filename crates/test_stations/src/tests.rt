@@ -9,3 +9,4 @@ mod merge;
 mod server;
 mod split;
 mod tandem;
+mod trunk;
