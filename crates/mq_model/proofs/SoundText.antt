@@ -13,7 +13,7 @@ use Rattle.mq_core.specs.Sound.{are_distinct}
 use Rattle.mq_model.specs.Form.{Word, read, whole}
 use Rattle.mq_model.specs.Head.{begins_comment, is_head, is_skipped, version_in}
 use Rattle.mq_model.specs.Lines.{first_line, kind_line, line}
-use Rattle.mq_model.specs.Model.{begins_bound, begins_later, is_allowed, is_barred, is_too_many, line_fault, lines_fault, read_fault, said_fault, words_fault}
+use Rattle.mq_model.specs.Model.{begins_bound, begins_later, is_allowed, is_too_many, line_fault, lines_fault, read_fault, said_fault, words_fault}
 use Rattle.mq_model.specs.NetworkOf.{said_of, saids_of}
 use Rattle.mq_model.specs.Said.{columns_of, declared, distinct_after, is_among, names_of}
 use Rattle.mq_model.specs.declared.fault.ModelFault.TheVariants.{BadByte, BadHead}

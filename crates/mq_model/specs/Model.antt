@@ -1,5 +1,5 @@
 -- The first fault of a text.
-use Rattle.std.specs.Prelude.{◌≡◌, ◌≢◌, ◌+◌, ◌-◌, ◌∷◌, ◌++◌, ◌||◌, ◌&&◌, ◌==◌, [], ℕ, List, length, map, get_or, Bool, true, false, not, if◌then◌else◌, nat_le, nat_lt, Option, Some, None, Result, Ok, Err, option_map, codes}
+use Rattle.std.specs.Prelude.{◌≡◌, ◌≢◌, ◌+◌, ◌-◌, ◌∷◌, ◌++◌, ◌||◌, ◌&&◌, ◌==◌, [], ℕ, List, length, map, get_or, Bool, false, not, if◌then◌else◌, nat_le, nat_lt, Option, Some, None, Result, Ok, Err, option_map, codes}
 use Rattle.std.specs.List.{list_all, list_any, flat_map, enumerate_from}
 use Rattle.std.specs.Option.{option_or}
 use Rattle.std.specs.Str.{bytes_eq}
