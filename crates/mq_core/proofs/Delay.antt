@@ -1,3 +1,5 @@
+pub mod Schedules
+pub mod ScheduleNumbers
 pub mod Delays
 pub mod DelayNumbers
 pub mod DelayLaws

@@ -5,3 +5,4 @@ pub mod TandemRows
 pub mod ForkJoinRows
 pub mod LossRows
 pub mod JoinRows
+pub mod TrunkRows

@@ -5,6 +5,7 @@ pub mod Networks
 pub mod Server
 pub mod Delay
 pub mod Tandem
+pub mod Trunk
 pub mod EachKind
 pub mod ForkJoin
 pub mod Fork

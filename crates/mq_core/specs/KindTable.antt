@@ -9,8 +9,9 @@ use Rattle.mq_core.specs.Kinds.Server.{server}
 use Rattle.mq_core.specs.Kinds.Source.{source}
 use Rattle.mq_core.specs.Kinds.Split.{split}
 use Rattle.mq_core.specs.Kinds.Tandem.{tandem}
+use Rattle.mq_core.specs.Kinds.Trunk.{trunk}
 use Rattle.mq_core.specs.declared.model.Kind.{Kind}
-use Rattle.mq_core.specs.declared.model.Kind.TheVariants.{Delay, Fork, ForkJoin, Join, Loss, Server, Source, Split, Tandem}
+use Rattle.mq_core.specs.declared.model.Kind.TheVariants.{Delay, Fork, ForkJoin, Join, Loss, Server, Source, Split, Tandem, Trunk}
 
 -- the behaviours, one row a kind
 abbrev pub behaviour_of : Kind → Behaviour
@@ -23,3 +24,4 @@ behaviour_of (ForkJoin branches) = forkjoin branches
 behaviour_of (Split route) = split route
 behaviour_of (Fork outputs) = fork outputs
 behaviour_of Join = join
+behaviour_of (Trunk servers demand) = trunk servers demand

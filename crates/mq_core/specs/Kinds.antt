@@ -2,6 +2,7 @@ pub mod Source
 pub mod Server
 pub mod Delay
 pub mod Loss
+pub mod Trunk
 pub mod Tandem
 pub mod ForkJoin
 pub mod Split

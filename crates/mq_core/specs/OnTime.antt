@@ -7,7 +7,7 @@ use Rattle.mq_core.specs.Local.{Local}
 use Rattle.mq_core.specs.Standard.{kind_on, node_on, standard_handle}
 use Rattle.mq_core.specs.Run.{IsOnTime}
 use Rattle.mq_core.specs.declared.model.Kind.{Kind}
-use Rattle.mq_core.specs.declared.model.Kind.TheVariants.{Source, Server, Delay, Loss, Tandem, ForkJoin, Split, Fork, Join}
+use Rattle.mq_core.specs.declared.model.Kind.TheVariants.{Source, Server, Delay, Loss, Tandem, ForkJoin, Split, Fork, Join, Trunk}
 use Rattle.mq_core.specs.declared.model.Node.{Node}
 use Rattle.mq_core.specs.declared.model.Rows.{Rows}
 use Rattle.mq_core.specs.Late.{Late}
@@ -20,6 +20,7 @@ use Rattle.mq_core.specs.Kinds.ForkJoin.{forkjoin-late}
 use Rattle.mq_core.specs.Kinds.Split.{split-late}
 use Rattle.mq_core.specs.Kinds.Fork.{fork-late}
 use Rattle.mq_core.specs.Kinds.Join.{join-late}
+use Rattle.mq_core.specs.Kinds.Trunk.{trunk-late}
 
 -- a node schedules nothing earlier than the clock
 kind-late : (rows : Rows) (ports : ℕ) (kind : Kind) (visits : List Visit) (local : Local) (now : ℕ) (event : Event) → Late now (kind_on rows ports kind visits local now event).services
@@ -32,6 +33,7 @@ kind-late rows ports (ForkJoin branches) visits local now event = forkjoin-late 
 kind-late rows ports (Split route) visits local now event = split-late rows route visits local now event
 kind-late rows ports (Fork outputs) visits local now event = fork-late outputs visits local now event
 kind-late rows ports Join visits local now event = join-late ports visits local now event
+kind-late rows ports (Trunk servers demand) visits local now event = trunk-late rows servers demand visits local now event
 
 -- nor where there is no node
 node-late : (rows : Rows) (node : Option Node) (visits : List Visit) (local : Local) (now : ℕ) (event : Event) → Late now (node_on rows node visits local now event).services

@@ -22,7 +22,7 @@ pub record NamesOutput (net : Network) (input : Input) : Type 0 where
 pub record IsInLimits (net : Network) (node : Node) : Type 0 where
   pub kind : IsTrue (is_sound_kind (length net.columns) node.kind)
   pub outputs : outputs_in node.kind ≤ 8
-  pub servers : servers_in node.kind ≤ 8
+  pub servers : servers_in node.kind ≤ 255
   pub ports : length node.inputs ≤ 8
   pub reads : (port : ℕ) (input : Input) → slice_get node.inputs port ≡ Some input → NamesOutput net input
 

@@ -23,8 +23,8 @@ pub fn demand_of(rows: &Rows, demand: &Demand, job: u32) -> u64
 }
 
 /// The bare time of a job at a node of this kind, in ticks: how long it stays where it never
-/// waits. That is its demand at a server, a delay or a loss station, the sum of its demands at a
-/// tandem, the greatest sum of demands of a branch at a fork-join, and 0 at a source, a split, a fork
+/// waits. That is its demand at a server, a delay, a loss station or a trunk group, the sum of its
+/// demands at a tandem, the greatest sum of demands of a branch at a fork-join, and 0 at a source, a split, a fork
 /// or a join.
 ///
 /// The rows have each column that the kind's demands name, and the column has the job. Each demand
@@ -37,7 +37,7 @@ pub fn bare_of(rows: &Rows, kind: &Kind, job: u32) -> u64
         Kind::Source | Kind::Split(_) => 0,
         Kind::Fork { .. } | Kind::Join => 0,
         Kind::Server(demand) | Kind::Delay(demand) => demand_of(rows, demand, job),
-        Kind::Loss { demand, .. } => demand_of(rows, demand, job),
+        Kind::Loss { demand, .. } | Kind::Trunk { demand, .. } => demand_of(rows, demand, job),
         Kind::Tandem(stages) => bare_of_stages(rows, stages, job),
         Kind::ForkJoin(branches) => longest_of(rows, branches, job),
     }

@@ -9,7 +9,8 @@ use crate::model::{Demand, Kind, Route};
 use mq_base::List;
 
 /// How many outputs a node of this kind has: those that its route chooses from at a split, 2 at a
-/// loss station, of which the second is for those that are lost, those that it has at a fork, else 1.
+/// loss station or a trunk group, of which the second is for those that are lost, those that it has at
+/// a fork, else 1.
 ///
 /// They are at most 8, as for every kind in a plan.
 pub fn outputs_of(kind: &Kind) -> u8
@@ -23,6 +24,7 @@ pub fn outputs_of(kind: &Kind) -> u8
         Kind::Split(route) => outputs_of_route(route),
         Kind::Fork { outputs } => *outputs,
         Kind::Join => 1,
+        Kind::Trunk { .. } => 2,
     }
 }
 
@@ -40,12 +42,12 @@ pub fn outputs_of_route(route: &Route) -> u8
 }
 
 /// How many servers a node of this kind has, by which its utilisation is reckoned: one for each
-/// stage of a tandem, those of all branches at a fork-join, and 0 at a source, a delay, a split, a
-/// fork or a join, which have none.
+/// stage of a tandem, those of all branches at a fork-join, those of a trunk group, and 0 at a source,
+/// a delay, a split, a fork or a join, which have none.
 ///
-/// They are at most 8, as for every kind in a plan.
+/// They are at most 255, as for every kind in a plan.
 pub fn servers_of(kind: &Kind) -> u8
-    requires { servers_in kind.now ≤ 8 }
+    requires { servers_in kind.now ≤ 255 }
     ensures { result ≡ servers_in kind.now }
 {
     match kind {
@@ -55,12 +57,13 @@ pub fn servers_of(kind: &Kind) -> u8
         Kind::ForkJoin(branches) => servers_of_branches(branches),
         Kind::Source | Kind::Delay(_) | Kind::Split(_) => 0,
         Kind::Fork { .. } | Kind::Join => 0,
+        Kind::Trunk { servers, .. } => *servers,
     }
 }
 
 // How many servers these branches have together.
 fn servers_of_branches(branches: &List<List<Demand>>) -> u8
-    requires { length (flat_map (λ demands. demands) branches.now) ≤ 8 }
+    requires { length (flat_map (λ demands. demands) branches.now) ≤ 255 }
     ensures { result ≡ length (flat_map (λ demands. demands) branches.now) }
 {
     let mut servers = 0;

@@ -72,6 +72,9 @@ pub enum Kind {
     /// Puts together what comes by all its ports, of which there are 2 to 8: the first of a job by each
     /// port go on as one when the last of them comes, and so do the second, and so on.
     Join,
+    /// 1 to 255 servers, each job with one of them, and no place to wait. A job that finds all servers
+    /// busy is lost: it leaves at once, by output 1.
+    Trunk { servers: u8, demand: Demand },
 }
 
 /// A node of a network.
@@ -95,7 +98,7 @@ pub struct Network {
     /// The latest time, in ticks, at which a job may depart.
     pub bound: u64,
     /// The version of the language that the model is written in, 1 or 2. Forks and joins are nodes of
-    /// models of version 2 alone.
+    /// models of version 2 alone, and so are trunk groups.
     pub version: u8,
 }
 

@@ -138,7 +138,7 @@ module _ (laws : RunLaws) (plan : Plan) (rows : Rows) (read : IsReadFor plan.net
       fates =
           let few = laws.few plan rows read single v in
           let many = length-map (station v).visits (λ (x : Visit). x.arrive) in
-          (arrivals_of rows node.kind).bounded (came_of (length node.inputs) (station v).visits) limit top (laws.limits plan v node here).servers told (omega arith) came
+          (arrivals_of rows node.kind).bounded (came_of (length node.inputs) (station v).visits) limit top (length plan.net.columns) (laws.limits plan v node here).kind told (omega arith) came
 
   even : (v : ℕ) → length (jobs_at v) ≡ length (arrives_at v)
   even v = length-map (station v).visits (λ (x : Visit). x.job) ∙ sym (length-map (station v).visits (λ (x : Visit). x.arrive))

@@ -27,7 +27,7 @@ delay-recurrence rows ports demand =
       stands = λ mixed visits rise out. absurd cc;
       in_time = λ came e. when-delayed (demand_of_job rows demand) came.job came.arrive e;
       stays = λ came e. stay-fates (demand_of_job rows demand) came.job came.arrive _ (at_least-refl (delayed came.arrive (map (demand_of_job rows demand) came.job)));
-      bounded = λ came limit top few told room early.
+      bounded = λ came limit top columns sound told room early.
           let small = asked-small rows demand came.job (Each-weaker _ _ (λ job (t : IsTold rows demand job). t.1) came.job told) in
           departs-by limit (delayed came.arrive (asked rows came.job demand)) (delayed-by limit top came.arrive (asked rows came.job demand) (omega arith) early small);
       blind = λ came. (refl, refl);

@@ -9,9 +9,10 @@ use Rattle.mq_core.specs.Kinds.Server.{server}
 use Rattle.mq_core.specs.Kinds.Source.{source}
 use Rattle.mq_core.specs.Kinds.Split.{split}
 use Rattle.mq_core.specs.Kinds.Tandem.{tandem}
+use Rattle.mq_core.specs.Kinds.Trunk.{trunk}
 use Rattle.mq_core.specs.SequenceLaws.{sends_once}
 use Rattle.mq_core.specs.declared.model.Kind.{Kind}
-use Rattle.mq_core.specs.declared.model.Kind.TheVariants.{Source, Server, Delay, Loss, Tandem, ForkJoin, Split, Fork, Join}
+use Rattle.mq_core.specs.declared.model.Kind.TheVariants.{Source, Server, Delay, Loss, Tandem, ForkJoin, Split, Fork, Join, Trunk}
 use Rattle.mq_core.specs.declared.model.Rows.{Rows}
 use Rattle.mq_core.proofs.EachKind.ExitLaws.{ExitLaws, exits-own}
 use Rattle.mq_core.proofs.EachKind.KindLaws.{Inside, KindLaws, OwnLaws}
@@ -43,6 +44,9 @@ use Rattle.mq_core.proofs.Fork.ForkLimits.{fork-limits}
 use Rattle.mq_core.proofs.Join.JoinExits.{join-exits}
 use Rattle.mq_core.proofs.Join.JoinLaws.{join-inside, join-laws}
 use Rattle.mq_core.proofs.Join.JoinLimits.{join-limits}
+use Rattle.mq_core.proofs.Trunk.TrunkLaws.{trunk-inside, trunk-laws, trunk-own}
+use Rattle.mq_core.proofs.Trunk.TrunkLimits.{trunk-limits}
+use Rattle.mq_core.proofs.Trunk.TrunkRecurrence.{trunk-recurrence}
 use Rattle.mq_core.proofs.Events.Exits.{until-own}
 
 -- what is said of a node between two events
@@ -56,6 +60,7 @@ inside_of rows ports (ForkJoin branches) = forkjoin-inside rows branches
 inside_of rows ports (Split route) = split-inside rows route
 inside_of rows ports (Fork outputs) = fork-inside outputs
 inside_of rows ports Join = join-inside ports
+inside_of rows ports (Trunk servers demand) = trunk-inside rows servers demand
 
 -- the laws of its handler
 pub laws_of : (rows : Rows) (ports : ℕ) (kind : Kind) → KindLaws rows ports (behaviour_of kind) (inside_of rows ports kind)
@@ -68,6 +73,7 @@ laws_of rows ports (ForkJoin branches) = forkjoin-laws rows ports branches
 laws_of rows ports (Split route) = split-laws rows ports route
 laws_of rows ports (Fork outputs) = fork-laws rows ports outputs
 laws_of rows ports Join = join-laws rows ports
+laws_of rows ports (Trunk servers demand) = trunk-laws rows ports servers demand
 
 -- where each visit leaves once, it does so with its own emission
 pub own_of : (rows : Rows) (ports : ℕ) (kind : Kind) → sends_once kind ≡ true → OwnLaws rows ports (behaviour_of kind) (inside_of rows ports kind)
@@ -80,6 +86,7 @@ own_of rows ports (ForkJoin branches) once = forkjoin-own rows ports branches
 own_of rows ports (Split route) once = split-own rows ports route
 own_of rows ports (Fork outputs) once = absurd cc
 own_of rows ports Join once = absurd cc
+own_of rows ports (Trunk servers demand) once = trunk-own rows ports servers demand
 
 -- and the laws of its recurrence
 pub recurrence_of : (rows : Rows) (ports : ℕ) (kind : Kind) → sends_once kind ≡ true → RecurrenceLaws rows ports (behaviour_of kind)
@@ -92,6 +99,7 @@ recurrence_of rows ports (ForkJoin branches) once = forkjoin-recurrence rows por
 recurrence_of rows ports (Split route) once = split-recurrence rows ports route
 recurrence_of rows ports (Fork outputs) once = absurd cc
 recurrence_of rows ports Join once = absurd cc
+recurrence_of rows ports (Trunk servers demand) once = trunk-recurrence rows ports servers demand
 
 -- how its visits leave, and what others find of them
 pub exits_of : (rows : Rows) (ports : ℕ) (kind : Kind) → ExitLaws rows ports (behaviour_of kind) (inside_of rows ports kind)
@@ -104,6 +112,7 @@ exits_of rows ports (ForkJoin branches) = exits-own rows ports (forkjoin branche
 exits_of rows ports (Split route) = exits-own rows ports (split route) (split-inside rows route) (split-own rows ports route) (split-recurrence rows ports route).until
 exits_of rows ports (Fork outputs) = exits-own rows ports (fork outputs) (fork-inside outputs) (fork-own rows ports outputs) (λ time position o. until-own time position o)
 exits_of rows ports Join = join-exits rows ports
+exits_of rows ports (Trunk servers demand) = exits-own rows ports (trunk servers demand) (trunk-inside rows servers demand) (trunk-own rows ports servers demand) (trunk-recurrence rows ports servers demand).until
 
 -- the laws of its ranges
 pub limits_of : (kind : Kind) → LimitLaws (behaviour_of kind)
@@ -116,3 +125,4 @@ limits_of (ForkJoin branches) = forkjoin-limits branches
 limits_of (Split route) = split-limits route
 limits_of (Fork outputs) = fork-limits outputs
 limits_of Join = join-limits
+limits_of (Trunk servers demand) = trunk-limits servers demand

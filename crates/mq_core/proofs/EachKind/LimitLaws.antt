@@ -12,8 +12,8 @@ pub record LimitLaws (b : Behaviour) : Type 0 where
   -- at most 8 copies by one event, and one where it stands in models of the first version
   pub copies : (columns : ℕ) → b.sound columns ≡ true → b.copies ≤ 8
   pub first : b.version ≤ 1 → b.copies ≤ 1
-  -- at most 8 servers
-  pub servers : (columns : ℕ) → b.sound columns ≡ true → b.servers ≤ 8
+  -- at most 255 servers
+  pub servers : (columns : ℕ) → b.sound columns ≡ true → b.servers ≤ 255
   -- at most 8 ports
   pub ports : (inputs : ℕ) → b.ports inputs ≡ true → inputs ≤ 8
   -- where jobs start nothing is read

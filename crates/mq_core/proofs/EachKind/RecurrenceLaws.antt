@@ -1,6 +1,6 @@
 -- What is to be shown of the recurrence of a kind that lets each visit out once: one value a kind, in the kind's folder.
 use Rattle.mq_core.specs.Came.{Came, came_by, came_of}
-use Rattle.std.proofs.Common.{◌≡◌, ℕ, ◌+◌, ◌*◌, ◌^◌, ◌≤◌, List, Option, map, length}
+use Rattle.std.proofs.Common.{◌≡◌, ℕ, ◌+◌, ◌*◌, ◌^◌, ◌≤◌, List, Option, map, length, true}
 use Rattle.std.specs.List.{AllByRecursion as Each}
 use Rattle.mq_core.specs.Behaviour.{Behaviour}
 use Rattle.mq_core.specs.SequenceLaws.{FatesInTime, arrives_of}
@@ -32,7 +32,7 @@ pub record RecurrenceLaws (rows : Rows) (ports : ℕ) (b : Behaviour) : Type 0 w
   -- none departs earlier than after its bare time
   pub stays : (came : Came) → length came.job ≡ length came.arrive → FatesStay (b.bare rows) came.job came.arrive (b.fates rows came)
   -- each job adds at most the demands of 8 servers
-  pub bounded : (came : Came) (limit top : ℕ) → b.servers ≤ 8 → Each (λ job. b.asked rows job) came.job → top + length came.arrive * 2 ^ 39 ≤ limit → AreBy top came.arrive → LeaveBy limit (b.fates rows came)
+  pub bounded : (came : Came) (limit top columns : ℕ) → b.sound columns ≡ true → Each (λ job. b.asked rows job) came.job → top + length came.arrive * 2 ^ 39 ≤ limit → AreBy top came.arrive → LeaveBy limit (b.fates rows came)
   -- by which ports jobs came changes nothing
   pub blind : (came : Came) → (b.fates rows came ≡ b.fates rows (came_by came.job came.arrive)) × (b.outs rows came ≡ b.outs rows (came_by came.job came.arrive))
   -- who leaves later than one comes is there for it

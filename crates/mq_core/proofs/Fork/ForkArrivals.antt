@@ -11,7 +11,7 @@ use Rattle.mq_core.proofs.Passing.PassingSequences.{at-once}
 pub fork-arrivals : (rows : Rows) (outputs : ℕ) → ArrivalLaws rows (fork outputs)
 fork-arrivals rows outputs =
     record {
-      bounded = λ came limit top few told room early. departs-by limit came.arrive (by-later top limit came.arrive (omega arith) early);
+      bounded = λ came limit top columns sound told room early. departs-by limit came.arrive (by-later top limit came.arrive (omega arith) early);
       streamed = λ came limit out early late. through came limit early (nat_lt out outputs);
       in_time = λ leave came even. at-once came.arrive;
       blind = λ leave came. (refl, refl, λ out. same came (nat_lt out outputs));

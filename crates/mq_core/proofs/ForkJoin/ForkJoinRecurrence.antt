@@ -11,6 +11,7 @@ use Rattle.mq_core.specs.declared.model.Demand.{Demand}
 use Rattle.mq_core.specs.declared.model.Kind.TheVariants.{ForkJoin}
 use Rattle.mq_core.specs.declared.model.Rows.{Rows}
 use Rattle.mq_core.proofs.Bounded.BoundedAsked.{all-small}
+use Rattle.mq_core.proofs.ForkJoin.ForkJoinShapes.{all-servers, branches-shaped}
 use Rattle.mq_core.proofs.ForkJoin.ForkJoinBounded.{branches-few, branches-small, forkjoin-by}
 use Rattle.mq_core.proofs.Bounded.BoundedStations.{departs-by}
 use Rattle.mq_core.proofs.Counting.SequenceNumbers.{leaving-numbered}
@@ -31,10 +32,10 @@ forkjoin-recurrence rows ports branches =
       stands = λ mixed visits rise out. absurd cc;
       in_time = λ came e. when-in_forkjoin rows branches came.job came.arrive e;
       stays = λ came e. stay-fates (bare_time rows (ForkJoin branches)) came.job came.arrive _ (stay-in_forkjoin rows branches came.job came.arrive e);
-      bounded = λ came limit top few told room early.
+      bounded = λ came limit top columns sound told room early.
           let small = all-small rows came.job (flat_map (λ (ds : List Demand). ds) branches) (Each-weaker _ _ (λ job (t : AreTold rows (flat_map (λ (ds : List Demand). ds) branches) job). t.small) came.job told) in
           departs-by limit (forkjoin_departs came.arrive (branch_demands rows branches came.job))
-          (forkjoin-by limit top (length came.arrive) came.arrive (branch_demands rows branches came.job) (omega arith) room (branches-few rows came.job branches few) early (branches-small rows came.job branches small));
+          (forkjoin-by limit top (length came.arrive) came.arrive (branch_demands rows branches came.job) (omega arith) room (branches-few rows came.job branches (let l = (branches-shaped columns branches sound).few in let e = all-servers branches in omega arith)) early (branches-small rows came.job branches small));
       blind = λ came. (refl, refl);
       until = λ time position o. until-own time position o;
       finds = λ came. refl;

@@ -35,7 +35,7 @@ wholes-by limit k (o ∷ ms) (time ∷ times) h = go (is_whole_at k o) (wholes-b
 pub join-arrivals : (rows : Rows) → ArrivalLaws rows join
 join-arrivals rows =
     record {
-      bounded = λ came limit top few told room early. matches-by limit came.arrive (by-later top limit came.arrive (omega arith) early) (matches_of came);
+      bounded = λ came limit top columns sound told room early. matches-by limit came.arrive (by-later top limit came.arrive (omega arith) early) (matches_of came);
       streamed = λ came limit out early late. through came limit early out;
       in_time = λ leave. absurd cc;
       blind = λ leave. absurd cc;

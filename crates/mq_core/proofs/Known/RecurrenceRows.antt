@@ -1,6 +1,6 @@
 -- The recurrences of the stations, computed on cases worked by hand.
 use Rattle.std.proofs.Common.{◌≡◌, [], ◌∷◌, refl}
-use Rattle.mq_core.specs.Recurrences.{lindley, delayed, loss_fates, forkjoin_departs, tandem_departs}
+use Rattle.mq_core.specs.Recurrences.{lindley, delayed, loss_fates, trunk_fates, forkjoin_departs, tandem_departs}
 use Rattle.mq_core.specs.declared.model.Fate.TheVariants.{Departs, Lost}
 
 server-row : lindley 0 (0 ∷ 1 ∷ 2 ∷ []) (4 ∷ 1 ∷ 3 ∷ []) ≡ 4 ∷ 5 ∷ 8 ∷ []
@@ -16,6 +16,14 @@ loss-row = refl
 -- the calls at an expert with two places
 expert-row : loss_fates 2 [] (2 ∷ 3 ∷ 6 ∷ 7 ∷ 9 ∷ 10 ∷ []) (6 ∷ 5 ∷ 4 ∷ 3 ∷ 2 ∷ 1 ∷ []) ≡ Departs 8 ∷ Departs 13 ∷ Lost ∷ Lost ∷ Departs 15 ∷ Lost ∷ []
 expert-row = refl
+
+-- the third finds both servers busy, and the fourth comes as the first leaves
+trunk-row : trunk_fates 2 [] (0 ∷ 1 ∷ 2 ∷ 3 ∷ 4 ∷ []) (3 ∷ 3 ∷ 3 ∷ 3 ∷ 3 ∷ []) ≡ Departs 3 ∷ Departs 4 ∷ Lost ∷ Departs 6 ∷ Departs 7 ∷ []
+trunk-row = refl
+
+-- the second leaves before the first, so the third finds its server
+overtaken-row : trunk_fates 2 [] (0 ∷ 1 ∷ 2 ∷ 3 ∷ []) (5 ∷ 1 ∷ 2 ∷ 1 ∷ []) ≡ Departs 5 ∷ Departs 2 ∷ Departs 4 ∷ Lost ∷ []
+overtaken-row = refl
 
 forkjoin-row : forkjoin_departs (0 ∷ 1 ∷ []) (((2 ∷ 2 ∷ []) ∷ []) ∷ ((3 ∷ 3 ∷ []) ∷ []) ∷ []) ≡ 3 ∷ 6 ∷ []
 forkjoin-row = refl

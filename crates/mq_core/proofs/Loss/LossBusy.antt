@@ -55,7 +55,7 @@ abbrev pub behind_front : List ℕ → List ℕ
 behind_front [] = []
 behind_front (p ∷ ps) = ps
 
-work-push : (rows : Rows) (demand : Demand) (ms : List Emission) (m : Emission) → work rows demand (ms ++ m ∷ []) ≡ work rows demand ms + cond (eqb m.out 1) 0 (demand_of_job rows demand m.job)
+pub work-push : (rows : Rows) (demand : Demand) (ms : List Emission) (m : Emission) → work rows demand (ms ++ m ∷ []) ≡ work rows demand ms + cond (eqb m.out 1) 0 (demand_of_job rows demand m.job)
 work-push rows demand [] m = omega arith
 work-push rows demand (y ∷ ys) m = let ih = work-push rows demand ys m in omega arith
 
@@ -157,7 +157,7 @@ module _ (rows : Rows) (places : ℕ) (demand : Demand) (v : ℕ) where
           rw (q, ← both.1) (omega arith)
 
 -- the demands of those that weren't lost are those of all, position by position, that didn't leave by the output of the lost
-work-below : (rows : Rows) (demand : Demand) (k : ℕ) (ms : List Emission) (xs : List Visit) (emitted : List Emission) → Numbered k ms xs → ((q : ℕ) → k ≤ q → emission_at emitted q ≡ emission_at ms q) → work rows demand ms ≡ sum_below (length xs) (λ i. unless_out (emission_at emitted (k + i)) (demand_of_visit rows demand (slice_get xs i)))
+pub work-below : (rows : Rows) (demand : Demand) (k : ℕ) (ms : List Emission) (xs : List Visit) (emitted : List Emission) → Numbered k ms xs → ((q : ℕ) → k ≤ q → emission_at emitted q ≡ emission_at ms q) → work rows demand ms ≡ sum_below (length xs) (λ i. unless_out (emission_at emitted (k + i)) (demand_of_visit rows demand (slice_get xs i)))
 work-below rows demand k [] [] emitted n same = refl
 work-below rows demand k [] (x ∷ xs) emitted n same = absurd n
 work-below rows demand k (m ∷ ms) [] emitted n same = absurd n

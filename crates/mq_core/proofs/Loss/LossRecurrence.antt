@@ -24,7 +24,7 @@ loss-recurrence rows ports places demand =
       stands = λ mixed visits rise out. loss-stream rows places demand visits out rise;
       in_time = λ came e. when-lost places (demand_of_job rows demand) [] came.job came.arrive e;
       stays = λ came e. stay-admitted places (demand_of_job rows demand) [] came.job came.arrive;
-      bounded = λ came limit top few told room early.
+      bounded = λ came limit top columns sound told room early.
           let small = asked-small rows demand came.job (Each-weaker _ _ (λ job (t : IsTold rows demand job). t.1) came.job told) in
           loss-by limit top top places [] came.arrive (asked rows came.job demand) (omega arith) (omega arith) (omega arith) early small;
       blind = λ came. (refl, refl);

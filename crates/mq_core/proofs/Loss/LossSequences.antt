@@ -41,7 +41,7 @@ faring-numbered k (Lost ∷ fates) (x ∷ xs) e = (refl, refl, faring-numbered (
 faring-numbered k (Held ∷ fates) (x ∷ xs) e = (refl, refl, faring-numbered (suc k) fates xs (omega arith))
 
 -- a visit that isn't held
-abbrev IsOver : Fate → Type 0
+abbrev pub IsOver : Fate → Type 0
 IsOver (Departs time) = Unit {0}
 IsOver Lost = Unit {0}
 IsOver Held = ⊥

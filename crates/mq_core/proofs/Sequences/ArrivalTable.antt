@@ -7,7 +7,7 @@ use Rattle.mq_core.specs.SequenceLaws.{FatesAreInTime, SequencesAreBlind, Sequen
 use Rattle.mq_core.specs.Sequences.{sequence_fates, sequence_outs}
 use Rattle.mq_core.specs.Streams.{picked}
 use Rattle.mq_core.specs.declared.model.Kind.{Kind}
-use Rattle.mq_core.specs.declared.model.Kind.TheVariants.{Delay, Fork, ForkJoin, Join, Loss, Server, Source, Split, Tandem}
+use Rattle.mq_core.specs.declared.model.Kind.TheVariants.{Delay, Fork, ForkJoin, Join, Loss, Server, Source, Split, Tandem, Trunk}
 use Rattle.mq_core.specs.declared.model.Rows.{Rows}
 use Rattle.mq_core.specs.declared.model.Stream.{Stream}
 use Rattle.mq_core.proofs.Bounded.BoundedKinds.{leaving-by, picked-by}
@@ -22,7 +22,7 @@ use Rattle.mq_core.proofs.Sequences.SequenceOrder.{orders-keep_items}
 once_arrives : (rows : Rows) (kind : Kind) → sends_once kind ≡ true → ArrivalLaws rows (behaviour_of kind)
 once_arrives rows kind once =
     record {
-      bounded = λ came limit top few told room early. (recurrence_of rows came.ports kind once).bounded came limit top few told room early;
+      bounded = λ came limit top columns sound told room early. (recurrence_of rows came.ports kind once).bounded came limit top columns sound told room early;
       streamed = λ came limit out early late.
           let outs = sequence_outs rows kind came in
           let times = leaving_times came.arrive (sequence_fates rows kind came) in
@@ -50,6 +50,7 @@ arrivals_of rows (ForkJoin branches) = once_arrives rows (ForkJoin branches) ref
 arrivals_of rows (Split route) = once_arrives rows (Split route) refl
 arrivals_of rows (Fork outputs) = fork-arrivals rows outputs
 arrivals_of rows Join = join-arrivals rows
+arrivals_of rows (Trunk servers demand) = once_arrives rows (Trunk servers demand) refl
 
 pub sequences-go-by_fates : SequencesGoByFates
 sequences-go-by_fates rows kind came once = record { founds = (recurrence_of rows came.ports kind once).finds came; stream = (recurrence_of rows came.ports kind once).streams came }

@@ -11,7 +11,7 @@ use Rattle.mq_core.specs.Results.{bare_time, fates_from}
 use Rattle.mq_core.specs.StandardTable.{run_of}
 use Rattle.mq_core.specs.Theorems.{IsReadFor}
 use Rattle.mq_core.specs.declared.model.Kind.{Kind}
-use Rattle.mq_core.specs.declared.model.Kind.TheVariants.{Source, Server, Delay, Loss, Tandem, ForkJoin, Split, Fork, Join}
+use Rattle.mq_core.specs.declared.model.Kind.TheVariants.{Source, Server, Delay, Loss, Tandem, ForkJoin, Split, Fork, Join, Trunk}
 use Rattle.mq_core.specs.declared.model.Node.{Node}
 use Rattle.mq_core.specs.declared.model.Plan.{Plan}
 use Rattle.mq_core.specs.declared.model.Rows.{Rows}
@@ -38,6 +38,7 @@ station_of rows ports (ForkJoin branches) = once_each rows ports (ForkJoin branc
 station_of rows ports (Split route) = once_each rows ports (Split route) refl
 station_of rows ports (Fork outputs) = fork-station rows ports outputs
 station_of rows ports Join = join-station rows ports
+station_of rows ports (Trunk servers demand) = once_each rows ports (Trunk servers demand) refl
 
 -- a node at the end of the run
 node-flowed : (plan : Plan) (rows : Rows) → IsReadFor plan.net rows → (v : ℕ) (node : Node) → slice_get plan.net.nodes v ≡ Some node → HasFlowed rows (length node.inputs) (behaviour_of node.kind) (inside_of rows (length node.inputs) node.kind) ((run_of plan rows).stations v)

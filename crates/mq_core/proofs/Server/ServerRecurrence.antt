@@ -27,7 +27,7 @@ server-recurrence rows ports demand =
       stands = λ mixed visits rise out. absurd cc;
       in_time = λ came e. when-served 0 (demand_of_job rows demand) came.job came.arrive e;
       stays = λ came e. stay-fates (demand_of_job rows demand) came.job came.arrive _ (stay-served 0 (demand_of_job rows demand) came.job came.arrive);
-      bounded = λ came limit top few told room early.
+      bounded = λ came limit top columns sound told room early.
           let small = asked-small rows demand came.job (Each-weaker _ _ (λ job (t : IsTold rows demand job). t.1) came.job told) in
           departs-by limit (lindley 0 came.arrive (asked rows came.job demand)) (lindley-by limit top top 0 came.arrive (asked rows came.job demand) (omega arith) (omega arith) (omega arith) early small);
       blind = λ came. (refl, refl);

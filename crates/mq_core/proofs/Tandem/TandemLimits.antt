@@ -24,7 +24,7 @@ tandem-limits stages =
       outputs = λ columns h. omega arith;
       copies = λ columns sound. omega arith;
       first = λ first. omega arith;
-      servers = λ columns h. (sound-stages columns stages h).few;
+      servers = λ columns h. let l = (sound-stages columns stages h).few in omega arith;
       ports = λ inputs h. within-most 1 8 inputs h;
       reads = λ inputs starts h. absurd cc;
       told = λ net rows read job below h.

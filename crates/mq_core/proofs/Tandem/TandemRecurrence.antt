@@ -20,6 +20,7 @@ use Rattle.mq_core.proofs.Counting.SequenceNumbers.{leaving-numbered}
 use Rattle.mq_core.proofs.Counting.FlowSequences.{departing-leaves, leaving-fates, leaving-outs}
 use Rattle.mq_core.proofs.Tandem.TandemSequences.{tandem-even, tandem_times-late, tandem_times-length}
 use Rattle.mq_core.proofs.Counting.Stays.{FatesStay, stay-fates, stay-none}
+use Rattle.mq_core.proofs.Tandem.TandemShapes.{sound-stages}
 use Rattle.mq_core.proofs.Tandem.TandemStays.{stay-in_tandem}
 use Rattle.mq_core.proofs.EachKind.RecurrenceLaws.{RecurrenceLaws}
 use Rattle.mq_core.proofs.Events.Exits.{until-own}
@@ -50,7 +51,7 @@ tandem-recurrence rows ports stages =
       stands = λ mixed visits rise out. absurd cc;
       in_time = λ came e. fates-at_least came.arrive (tandem_times rows stages came.job came.arrive) (tandem_times-late rows stages came.job came.arrive);
       stays = λ came e. stay-stages rows stages came.job came.arrive e;
-      bounded = λ came limit top few told room early. stages-by rows stages came.job came.arrive limit top few told room early;
+      bounded = λ came limit top columns sound told room early. stages-by rows stages came.job came.arrive limit top (sound-stages columns stages sound).few told room early;
       blind = λ came. (refl, refl);
       until = λ time position o. until-own time position o;
       finds = λ came. refl;

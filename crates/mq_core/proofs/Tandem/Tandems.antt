@@ -16,9 +16,9 @@ use Rattle.mq_core.specs.declared.model.Demand.{Demand}
 use Rattle.mq_core.specs.declared.model.Stage.{Stage}
 use Rattle.mq_core.specs.declared.model.Rows.{Rows}
 use Rattle.mq_core.proofs.Events.Areas.{get-front, get-last}
-use Rattle.mq_core.proofs.Delay.Delays.{CameBefore, position_in}
+use Rattle.mq_core.proofs.Delay.Schedules.{CameBefore, position_in}
 use Rattle.mq_core.proofs.Events.Pending.{earliest-splits, earliest-filter, filter-earliest_other}
-use Rattle.mq_core.proofs.Delay.DelayNumbers.{earliest-each}
+use Rattle.mq_core.proofs.Delay.ScheduleNumbers.{earliest-each}
 use Rattle.mq_core.proofs.Tandem.TandemShapes.{AreStages}
 use Rattle.mq_core.proofs.Server.Serves.{latest-push, pair-inj}
 use Rattle.mq_core.proofs.Tandem.TandemTimes.{ended, time_at, times-solve, time-same}
