@@ -52,8 +52,8 @@ trunk_stream servers arrivals demands out =
     let fates = trunk_fates servers [] arrivals.time demands in
     once_out Overtaking (came_in arrivals) fates (map out_of_fate fates) out
 
--- The answer has the admission of the trunk group and the departures of those admitted, which tell the fate of each arrival; and what
--- leaves by each output, by time.
+-- The answer has the admission of the trunk group and the departures of those admitted, which tell the fate of each arrival;
+-- and what leaves by each output, by time.
 pub record IsSettled (servers : ℕ) (arrivals : Stream) (demands : List ℕ) (trunk : Trunk) : Type 0 where
   pub admitted : trunk.admitted ≡ admission servers arrivals.time demands
   pub departs : trunk.departs ≡ departures_in (trunk_fates servers [] arrivals.time demands)
