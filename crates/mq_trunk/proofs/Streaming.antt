@@ -1,4 +1,4 @@
--- What leaves a trunk by each output, from its fates.
+-- What leaves a trunk group by each output, from its fates.
 use Rattle.std.proofs.Common.{◌≡◌, ℕ, suc, ◌+◌, ◌≤◌, Bool, true, false, List, [], ◌∷◌, length, map, sym, refl, ap, ◌∙◌, arith}
 use Rattle.std.specs.Prelude.{⊤, if◌then◌else◌}
 use Rattle.std.specs.List.{AllByRecursion as Each, zip}
@@ -17,7 +17,7 @@ use Rattle.mq_core.specs.declared.model.Stream.{Stream}
 use Rattle.mq_trunk.specs.Parts.{fates_by, lost_of, of_admitted, of_lost, trunk_stream}
 use Rattle.mq_trunk.specs.Rounds.{admission, admits, departures_in}
 
--- At a trunk no visit is held.
+-- At a trunk group no visit is held.
 abbrev pub IsOver : Fate → Type 0
 IsOver (Departs time) = ⊤
 IsOver Lost = ⊤

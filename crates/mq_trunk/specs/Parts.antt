@@ -1,4 +1,4 @@
--- What a trunk settles: the fates of the arrivals, and what leaves by each output.
+-- What a trunk group settles: the fates of the arrivals, and what leaves by each output.
 use Rattle.std.specs.Prelude.{◌≡◌, ℕ, Bool, true, false, List, [], ◌∷◌, map}
 use Rattle.std.specs.List.{zip}
 use Rattle.mq_core.specs.Came.{came_in}
@@ -46,14 +46,14 @@ fates_by (false ∷ admitted) departs = Lost ∷ fates_by admitted departs
 fates_by (true ∷ admitted) [] = Lost ∷ fates_by admitted []
 fates_by (true ∷ admitted) (time ∷ departs) = Departs time ∷ fates_by admitted departs
 
--- what leaves a trunk by an output
+-- what leaves a trunk group by an output
 abbrev pub trunk_stream : ℕ → Stream → List ℕ → ℕ → Stream
 trunk_stream servers arrivals demands out =
     let fates = trunk_fates servers [] arrivals.time demands in
     once_out Overtaking (came_in arrivals) fates (map out_of_fate fates) out
 
--- The answer has the admission of the trunk and the departures of those admitted, which tell the fate of each arrival; and what
--- leaves by each output, by time.
+-- The answer has the admission of the trunk group and the departures of those admitted, which tell the fate of each arrival;
+-- and what leaves by each output, by time.
 pub record IsSettled (servers : ℕ) (arrivals : Stream) (demands : List ℕ) (trunk : Trunk) : Type 0 where
   pub admitted : trunk.admitted ≡ admission servers arrivals.time demands
   pub departs : trunk.departs ≡ departures_in (trunk_fates servers [] arrivals.time demands)

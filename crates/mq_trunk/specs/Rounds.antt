@@ -1,10 +1,10 @@
--- Rounds of guesses at a trunk: which arrivals a guess admits, and what one round makes of it.
+-- Rounds of guesses at a trunk group: which arrivals a guess admits, and what one round makes of it.
 use Rattle.std.specs.Prelude.{ℕ, ◌+◌, Bool, true, false, List, [], ◌∷◌, map, replicate, reverse}
 use Rattle.mq_core.specs.Recurrences.{finds_server, trunk_fates}
 use Rattle.mq_core.specs.declared.model.Fate.{Fate}
 use Rattle.mq_core.specs.declared.model.Fate.TheVariants.{Departs, Held, Lost}
 
--- whether a visit is admitted; at a trunk none is held
+-- whether a visit is admitted; at a trunk group none is held
 abbrev pub admits : Fate → Bool
 admits (Departs time) = true
 admits Lost = false
@@ -21,7 +21,7 @@ departures_in (Held ∷ fates) = departures_in fates
 abbrev pub admission_from : ℕ → List ℕ → List ℕ → List ℕ → List Bool
 admission_from servers left times demands = map admits (trunk_fates servers left times demands)
 
--- which arrivals a trunk with this many servers admits
+-- which arrivals a trunk group with this many servers admits
 abbrev pub admission : ℕ → List ℕ → List ℕ → List Bool
 admission servers times demands = admission_from servers [] times demands
 

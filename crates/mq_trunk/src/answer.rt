@@ -1,7 +1,7 @@
 use mq_base::List;
 use mq_core::Stream;
 
-/// What the arrivals at a trunk come to.
+/// What the arrivals at a trunk group come to.
 #[derive(Drop)]
 pub struct Trunk {
     /// Whether each arrival is admitted, by position.

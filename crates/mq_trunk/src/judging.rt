@@ -5,7 +5,7 @@ ghost use Rattle.mq_core.specs.Recurrences.{busy_at};
 use mq_base::Steps;
 use std::sync::ledger::Ledger;
 
-/// Whether a trunk has a server for one job more: true exactly where fewer are busy than there
+/// Whether a trunk group has a server for one job more: true exactly where fewer are busy than there
 /// are. It counts one step, takes no memory and refuses nothing.
 pub fn judge_trunk<L: Ledger>(busy: u32, servers: u8, steps: &mut Steps<L>) -> bool
     ensures answer { result ≡ nat_lt busy servers }

@@ -1,11 +1,11 @@
-//! The trunk: several servers and no place to wait; an arrival that finds all servers busy is
+//! The trunk group: several servers and no place to wait; an arrival that finds all servers busy is
 //! lost. Which arrivals are admitted is settled by rounds of guesses (Greenberg, Lubachevsky and
 //! Mitrani 1991): each round judges every arrival by the departures that a guess gives.
 //!
 //! Of the departures only the latest are kept, one a server, the latest first. An arrival is judged
-//! by them in as many comparisons as the number of servers has binary digits; one that is admitted is
-//! put in its place among them in as many as there are servers. So the rounds of all windows take at
-//! most arrivals times servers.
+//! by them in as many comparisons as the number of servers has binary digits, and one that is admitted
+//! takes its place among them in as many as there are servers. A window judges no arrival behind the
+//! first that its round changes, so each arrival is judged once.
 #![tactic(auto)]
 
 mod answer;

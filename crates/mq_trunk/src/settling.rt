@@ -112,11 +112,11 @@ fn with_parts(alloc: Global, stream: &Stream, settled: Settled) -> Result<Trunk,
     })
 }
 
-/// Which arrivals of the stream a trunk with these servers admits, when they depart, and what leaves
-/// by each output: settled by rounds over windows, one round a window, the first of `first` arrivals.
-/// Those of a window are guessed admitted; its round settles them up to the first that it changes, or
-/// all. The next window begins behind the settled arrivals, and is twice as long where all were
-/// settled; else it has as many arrivals as were settled.
+/// Which arrivals of the stream a trunk group with these servers admits, when they depart, and what
+/// leaves by each output: settled by rounds over windows, one round a window, the first of `first`
+/// arrivals. Those of a window are guessed admitted; its round settles them up to the first that it
+/// changes, or all. The next window begins behind the settled arrivals, and is twice as long where all
+/// were settled; else it has as many arrivals as were settled.
 ///
 /// Times and departures are in ticks, demands are ticks of service; there is one demand per item of
 /// the stream, and a first window of at least 1. Each arrival is judged once, which counts one step: a

@@ -37,7 +37,7 @@ fn follow(latest: &mut Vec<u64>, admit: bool, depart: u64)
     }
 }
 
-/// One round: which arrivals of the stream a trunk with these servers admits where, of those
+/// One round: which arrivals of the stream a trunk group with these servers admits where, of those
 /// before each, the ones that the guess admits were admitted and departed their demand after they
 /// came.
 ///

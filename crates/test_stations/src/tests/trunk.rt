@@ -1,4 +1,4 @@
-// Rounds and windows of a trunk, and what leaves it.
+// Rounds and windows of a trunk group, and what leaves it.
 ghost use Rattle.std.specs.Prelude.{◌≡◌, ◌≤◌, ◌<◌, IfOk, length};
 ghost use Rattle.mq_core.specs.Sequences.{IsSoundLoad, IsStream};
 
@@ -74,7 +74,7 @@ fn settled(alloc: Global, load: &Load, servers: u8, first: u32) -> Result<Trunk,
     settle_with::<Brand>(alloc, load, servers, first, Blank::new(1))
 }
 
-// Judges arrivals at trunks of 2, 1 and 255 servers.
+// Judges arrivals at trunk groups of 2, 1 and 255 servers.
 fn judges<L: Ledger, R: Abort>(rt: &R, blank: Blank)
     requires name { blank.name ≡ L.name }
     requires parts { blank.parts ≡ L.parts }
@@ -141,7 +141,7 @@ fn a_round_of_a_trunk_judges_by_the_guess(rt: HostRuntime) -> Result<(), Fail> {
     Ok(())
 }
 
-// What a trunk comes to.
+// What a trunk group comes to.
 #[derive(Clone, Copy)]
 struct Outcome<'a> {
     admitted: &'a [bool],
@@ -264,7 +264,7 @@ fn at_once(alloc: Global, count: usize) -> Result<Load, OutOfMemory>
     Ok(Load { stream, demands })
 }
 
-// Whether of so many jobs at once a trunk of 255 servers takes 255.
+// Whether of so many jobs at once a trunk group of 255 servers takes 255.
 fn full_trunk_takes(alloc: Global, count: usize) -> Result<bool, OutOfMemory>
     requires { count ≤ 1048576 }
 {

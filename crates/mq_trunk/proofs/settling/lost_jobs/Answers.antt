@@ -14,13 +14,13 @@ loop-at-preserved c =
     let times : List ℕ = of_lost (drop (c.loop-at.at + 1) c.args.admitted.now) (drop (c.loop-at.at + 1) c.args.stream.now.time) in
     elim c.if-not-get.branch [
       | then-not-get+in_ok-push+in_ok-push-2 w ↦ record {
-          jobs = lost-next _ _ _ c.args.admitted.now c.args.stream.now.job c.loop-at.at _ (c.get.ensures ∙ ap Some w.if-not-get.true) w.get-then-not-get.ensures (ap (λ (s : Stream). s.job) w.lost-is ∙ w.in_ok-push.ensures.ok) i.jobs;
-          times = lost-next _ _ _ c.args.admitted.now c.args.stream.now.time c.loop-at.at _ (c.get.ensures ∙ ap Some w.if-not-get.true) w.get-then-not-get-2.ensures (ap (λ (s : Stream). s.time) w.lost-is ∙ w.in_ok-push-2.ensures.ok) i.times;
-        }
+        jobs = lost-next _ _ _ c.args.admitted.now c.args.stream.now.job c.loop-at.at _ (c.get.ensures ∙ ap Some w.if-not-get.true) w.get-then-not-get.ensures (ap (λ (s : Stream). s.job) w.lost-is ∙ w.in_ok-push.ensures.ok) i.jobs;
+        times = lost-next _ _ _ c.args.admitted.now c.args.stream.now.time c.loop-at.at _ (c.get.ensures ∙ ap Some w.if-not-get.true) w.get-then-not-get-2.ensures (ap (λ (s : Stream). s.time) w.lost-is ∙ w.in_ok-push-2.ensures.ok) i.times;
+      }
       | else-not-get w ↦ record {
-          jobs = ap (λ (s : Stream). s.job ++ jobs) w.lost-is ∙ lost-past _ _ c.args.admitted.now c.args.stream.now.job c.loop-at.at (c.get.ensures ∙ ap Some w.if-not-get.false) (omega arith) i.jobs;
-          times = ap (λ (s : Stream). s.time ++ times) w.lost-is ∙ lost-past _ _ c.args.admitted.now c.args.stream.now.time c.loop-at.at (c.get.ensures ∙ ap Some w.if-not-get.false) (omega arith) i.times;
-        }
+        jobs = ap (λ (s : Stream). s.job ++ jobs) w.lost-is ∙ lost-past _ _ c.args.admitted.now c.args.stream.now.job c.loop-at.at (c.get.ensures ∙ ap Some w.if-not-get.false) (omega arith) i.jobs;
+        times = ap (λ (s : Stream). s.time ++ times) w.lost-is ∙ lost-past _ _ c.args.admitted.now c.args.stream.now.time c.loop-at.at (c.get.ensures ∙ ap Some w.if-not-get.false) (omega arith) i.times;
+      }
     ]
 
 pub returns : goal.returns
