@@ -28,7 +28,7 @@ use Rattle.mq_core.specs.Theorems.{IsReadFor}
 use Rattle.mq_core.specs.Wiring.{is_source_kind}
 use Rattle.mq_core.specs.declared.model.Input.{Input}
 use Rattle.mq_core.specs.declared.model.Kind.{Kind}
-use Rattle.mq_core.specs.declared.model.Kind.TheVariants.{Source, Server, Delay, Loss, Tandem, ForkJoin, Split, Fork, Join}
+use Rattle.mq_core.specs.declared.model.Kind.TheVariants.{Source, Server, Delay, Loss, Tandem, ForkJoin, Split, Fork, Join, Trunk}
 use Rattle.mq_core.specs.declared.model.Node.{Node}
 use Rattle.mq_core.specs.declared.model.Plan.{Plan}
 use Rattle.mq_core.specs.declared.model.Rows.{Rows}
@@ -112,6 +112,7 @@ apart-other (ForkJoin branches) h = absurd cc
 apart-other (Split route) h = absurd cc
 apart-other (Fork outputs) h = refl
 apart-other Join h = refl
+apart-other (Trunk servers demand) h = absurd cc
 
 pub no-station : (kind : Kind) → ((outputs : ℕ) → kind ≡ Fork outputs → ⊥) → (kind ≡ Join → ⊥) → sends_once kind ≡ false → ⊥
 no-station Source f j h = absurd cc
@@ -123,6 +124,7 @@ no-station (ForkJoin branches) f j h = absurd cc
 no-station (Split route) f j h = absurd cc
 no-station (Fork outputs) f j h = f outputs refl
 no-station Join f j h = j refl
+no-station (Trunk servers demand) f j h = absurd cc
 
 -- what they let out is early where the arrivals are
 wholes-early : (position : ℕ) (matches : List (Option ℕ)) (times : List ℕ) → EarlyTimes times → EarlyTimes (wholes_from position matches times)
@@ -149,6 +151,7 @@ apart-early rows (Split route) came out a h = absurd cc
 apart-early rows (Fork outputs) came out a h = copies-early (nat_lt out outputs) came h
 apart-early rows Join came zero a h = wholes-early 0 (matches_of came) came.arrive h
 apart-early rows Join came (suc out) a h = tt
+apart-early rows (Trunk servers demand) came out a h = absurd cc
 
 -- what leaves a join is one stream
 pub one-stream : (rows : Rows) (came : Came) (visits : Visits) (streams : List Stream) (leaving : Stream) → visits ≡ sequence_visits rows Join came → leaving ≡ sequence_stream rows Join came 0 → streams ≡ leaving ∷ [] → AreSequences rows Join came visits streams

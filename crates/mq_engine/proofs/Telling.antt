@@ -15,7 +15,7 @@ use Rattle.mq_core.specs.Theorems.{IsReadFor}
 use Rattle.mq_core.specs.Wiring.{is_source_kind}
 use Rattle.mq_core.specs.declared.model.Input.{Input}
 use Rattle.mq_core.specs.declared.model.Kind.{Kind}
-use Rattle.mq_core.specs.declared.model.Kind.TheVariants.{Source, Server, Delay, Loss, Tandem, ForkJoin, Split, Fork, Join}
+use Rattle.mq_core.specs.declared.model.Kind.TheVariants.{Source, Server, Delay, Loss, Tandem, ForkJoin, Split, Fork, Join, Trunk}
 use Rattle.mq_core.specs.declared.model.Node.{Node}
 use Rattle.mq_core.specs.declared.model.Plan.{Plan}
 use Rattle.mq_core.specs.declared.model.Rows.{Rows}
@@ -119,6 +119,7 @@ source-once (ForkJoin branches) e = refl
 source-once (Split route) e = refl
 source-once (Fork outputs) e = absurd cc
 source-once Join e = absurd cc
+source-once (Trunk servers demand) e = refl
 
 -- one that is told of these is one of those
 pub results-among : (plan : Plan) (rows : Rows) (some all : List ℕ) (results : List NodeResult) → ((v : ℕ) → Contains some v → Contains all v) → Each (IsResultOf plan rows some) results → Each (IsResultOf plan rows all) results

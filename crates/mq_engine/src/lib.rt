@@ -42,8 +42,9 @@ use std::thread::Threads;
 /// block is cut into blocks of at least that many jobs, at most 16,384 and for a tandem 1,024 of them, and
 /// scanned (Greenberg, Lubachevsky and Mitrani 1991): a server in a single pass (`chain_departures`), a fork-join
 /// server after server of its branches. A split is cut likewise, and what leaves its blocks put one behind the
-/// other. A block is also the first window of a loss station. The gate is entered with each piece and each block
-/// that is drawn. A fork and a join are one piece each. The run is the same for all workers, blocks and gates.
+/// other. A block is also the first window of a loss station and of a trunk group. The gate is entered with each
+/// piece and each block that is drawn. A fork and a join are one piece each. The run is the same for all workers,
+/// blocks and gates.
 ///
 /// It refuses a run in which a node has more than 1,048,576 visits, or a visit departs after the bound:
 /// it names the first node by rank of which that is so, with the number of its visits where they are too

@@ -166,7 +166,9 @@ fn scan_of(
             alloc, rows, branches, arrivals, block,
         )?)),
         Kind::Split(_) => Ok(Scan::OfSplit(split_blocks(arrivals, block))),
-        Kind::Source | Kind::Delay(_) | Kind::Loss { .. } => Ok(Scan::Unscanned),
+        Kind::Source | Kind::Delay(_) | Kind::Loss { .. } | Kind::Trunk { .. } => {
+            Ok(Scan::Unscanned)
+        }
         // Those are no stations, and never come here.
         Kind::Fork { .. } | Kind::Join => Ok(Scan::Unscanned),
     }

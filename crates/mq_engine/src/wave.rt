@@ -72,7 +72,8 @@ fn lets_out_once(kind: &Kind) -> bool
         | Kind::Loss { .. }
         | Kind::Tandem(_)
         | Kind::ForkJoin(_)
-        | Kind::Split(_) => true,
+        | Kind::Split(_)
+        | Kind::Trunk { .. } => true,
         Kind::Fork { .. } | Kind::Join => false,
     }
 }

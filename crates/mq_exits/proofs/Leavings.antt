@@ -11,12 +11,13 @@ use Rattle.mq_core.specs.Fates.{keeps_visits}
 use Rattle.mq_core.specs.SequenceLaws.{FatesAreInTime, SequencesGoByFates, sends_once}
 use Rattle.mq_core.specs.Sequences.{IsStream, sequence_late_from, sequence_stream, stream_in_order, sequence_visits}
 use Rattle.mq_core.specs.OnceOut.{founds_of}
+use Rattle.mq_core.specs.Sound.{outputs_in}
 use Rattle.mq_core.specs.Streams.{by_first, pairs_of, sorted}
 use Rattle.mq_core.specs.declared.model.Demand.{Demand}
 use Rattle.mq_core.specs.declared.model.Fate.{Fate}
 use Rattle.mq_core.specs.declared.model.Fate.TheVariants.{Departs}
 use Rattle.mq_core.specs.declared.model.Kind.{Kind}
-use Rattle.mq_core.specs.declared.model.Kind.TheVariants.{Source, Server, Delay, Loss, Tandem, ForkJoin, Split, Fork, Join}
+use Rattle.mq_core.specs.declared.model.Kind.TheVariants.{Source, Server, Delay, Loss, Tandem, ForkJoin, Split, Fork, Join, Trunk}
 use Rattle.mq_core.specs.declared.model.Network.{Network}
 use Rattle.mq_core.specs.declared.model.Rows.{Rows}
 use Rattle.mq_core.specs.declared.model.Stream.{Stream}
@@ -39,6 +40,7 @@ once-leaves (ForkJoin branches) once = refl
 once-leaves (Split route) once = refl
 once-leaves (Fork outputs) once = refl
 once-leaves Join once = absurd cc
+once-leaves (Trunk servers demand) once = refl
 
 -- where the jobs keep their order, what leaves by position is what the sequences say
 pub kept-streams : SequencesGoByFates → (rows : Rows) (kind : Kind) (arrivals : Stream) (streams : List Stream) → sends_once kind ≡ true → KeepsOrder kind → AreLeft rows kind arrivals streams → AreStreams rows kind arrivals streams
@@ -48,17 +50,18 @@ kept-streams law rows kind arrivals streams once keeps left =
       each = λ out l. left.each out l ∙ ap Some (sym ((law rows kind (came_in arrivals) once).stream out ∙ keeps (left_by rows kind arrivals out)));
     }
 
--- at all kinds but a delay they do
-pub keeps-order : (kind : Kind) → ((demand : Demand) → kind ≡ Delay demand → ⊥) → KeepsOrder kind
-keeps-order Source h stream = refl
-keeps-order (Server demand) h stream = refl
-keeps-order (Delay demand) h stream = absurd (h demand refl)
-keeps-order (Loss places demand) h stream = refl
-keeps-order (Tandem stages) h stream = refl
-keeps-order (ForkJoin branches) h stream = refl
-keeps-order (Split route) h stream = refl
-keeps-order (Fork outputs) h stream = refl
-keeps-order Join h stream = refl
+-- at all kinds with one output but a delay they do
+pub keeps-order : (kind : Kind) → outputs_in kind ≡ 1 → ((demand : Demand) → kind ≡ Delay demand → ⊥) → KeepsOrder kind
+keeps-order Source one h stream = refl
+keeps-order (Server demand) one h stream = refl
+keeps-order (Delay demand) one h stream = absurd (h demand refl)
+keeps-order (Loss places demand) one h stream = refl
+keeps-order (Tandem stages) one h stream = refl
+keeps-order (ForkJoin branches) one h stream = refl
+keeps-order (Split route) one h stream = refl
+keeps-order (Fork outputs) one h stream = refl
+keeps-order Join one h stream = refl
+keeps-order (Trunk servers demand) one h stream = absurd (omega arith)
 
 -- what has been seen of a node is what it gives
 pub seen-result : SequencesGoByFates → (net : Network) (rows : Rows) (v : ℕ) (kind : Kind) (arrivals : Stream) (fates : List Fate) (found : List ℕ) (streams : List Stream) → sends_once kind ≡ true → AreOnTime net rows v kind arrivals fates streams → found ≡ founds_of arrivals.time fates →

@@ -9,6 +9,7 @@ pub struct Load<'a> {
     /// The node, by order of declaration.
     pub number: u32,
     pub arrivals: Stream,
-    /// How many jobs a block has at least, and the first window of a loss station: 1 at least.
+    /// How many jobs a block has at least, and the first window of a loss station or a trunk
+    /// group: 1 at least.
     pub block: u32,
 }

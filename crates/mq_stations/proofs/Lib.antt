@@ -1,4 +1,5 @@
 pub mod lemmas
 mod LossFates
+mod TrunkFates
 mod FirstLate
 mod SplitBlocks

@@ -24,7 +24,8 @@ use Rattle.mq_core.specs.declared.model.Rows.{Rows}
 use Rattle.mq_core.specs.declared.model.Stream.{Stream}
 use Rattle.mq_loss.specs.Rounds.{IsSettled, admits, departures_in}
 use Rattle.mq_loss.specs.declared.answer.Settled.{Settled}
-use Rattle.mq_stations.specs.Losses.{AreAdmittedAndLost, fates_by, out_of_admission}
+use Rattle.mq_trunk.specs.Parts.{fates_by}
+use Rattle.mq_stations.specs.Losses.{AreAdmittedAndLost, out_of_admission}
 use Rattle.mq_stations.specs.Leaving.{IsLeaving, left_by}
 
 -- one arrival further: one that is admitted takes the next departure

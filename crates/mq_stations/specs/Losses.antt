@@ -1,16 +1,7 @@
 -- What becomes of the arrivals at a loss station.
 use Rattle.std.specs.Prelude.{◌≡◌, ℕ, Bool, true, false, List, [], ◌∷◌, map}
 use Rattle.mq_core.specs.Streams.{picked}
-use Rattle.mq_core.specs.declared.model.Fate.{Fate}
-use Rattle.mq_core.specs.declared.model.Fate.TheVariants.{Departs, Lost}
 use Rattle.mq_core.specs.declared.model.Stream.{Stream}
-
--- the fate of each arrival, by whether it is admitted and the departures of those that are, in order
-abbrev pub fates_by : List Bool → List ℕ → List Fate
-fates_by [] departs = []
-fates_by (false ∷ admitted) departs = Lost ∷ fates_by admitted departs
-fates_by (true ∷ admitted) [] = Lost ∷ fates_by admitted []
-fates_by (true ∷ admitted) (time ∷ departs) = Departs time ∷ fates_by admitted departs
 
 -- the output by which an arrival leaves that is admitted or not
 abbrev pub out_of_admission : Bool → ℕ

@@ -15,6 +15,7 @@ mod server;
 mod source;
 mod split;
 mod tandem;
+mod trunk;
 
 pub use blocks::{applied, before_of, joined, sum_of};
 use delay::delay_whole;
@@ -34,13 +35,14 @@ use tandem::tandem_whole;
 pub use tandem::{
     TandemScan, tandem_carries, tandem_joined, tandem_scan, tandem_sum, tandem_times,
 };
+use trunk::trunk_outflow;
 
 /// What leaves a station of this kind, given its arrivals, which it can work on: where no job is lost and
 /// there is one output, when its jobs depart; else their fates, and by each output the jobs and the times
 /// at which they leave, in ticks. The kind lets each job out once, alone, as all do but forks and joins.
 ///
-/// The first window of a loss station is a block, of at least one job. It refuses for want of memory
-/// alone.
+/// The first window of a loss station or a trunk group is a block, of at least one job. It refuses for
+/// want of memory alone.
 // A further kind adds its case here.
 pub fn leaving(
     alloc: Global,
@@ -81,5 +83,9 @@ pub fn leaving(
             Ok(Left::Streams(outflow))
         }
         Kind::Fork { .. } | Kind::Join => unreachable!(),
+        Kind::Trunk { servers, demand } => {
+            let outflow = trunk_outflow(alloc, rows, *servers, demand, arrivals, block)?;
+            Ok(Left::Streams(outflow))
+        }
     }
 }

@@ -3,13 +3,13 @@ ghost use Rattle.std.specs.Prelude.{◌≡◌, ◌<◌, ◌≤◌, length, map, 
 ghost use Rattle.mq_core.specs.Sequences.{IsSoundLoad};
 ghost use Rattle.mq_core.specs.Streams.{picked};
 ghost use Rattle.mq_core.specs.declared.model.Kind.TheVariants.{Loss};
-ghost use Rattle.mq_stations.specs.Losses.{AreAdmittedAndLost, fates_by, out_of_admission};
+ghost use Rattle.mq_stations.specs.Losses.{AreAdmittedAndLost, out_of_admission};
 ghost use Rattle.mq_stations.specs.Leaving.{IsLeaving, IsLoad};
 ghost use Rattle.mq_loss.specs.Rounds.{IsSettled};
 
-use crate::outflow::{Outflow, demands_of};
+use crate::outflow::{Outflow, demands_of, fates_by_admission};
 use mq_base::{List, OutOfMemory, Steps};
-use mq_core::{Demand, Fate, Rows, Stream, fates_are_in_time};
+use mq_core::{Demand, Rows, Stream, fates_are_in_time};
 use mq_loss::{Settled, settle};
 use std::alloc::Global;
 use std::marker::Brand;
@@ -61,31 +61,9 @@ fn settled<L: Ledger>(
     settle(alloc, arrivals, demands, places, window, &mut steps)
 }
 
-// The fate of each arrival.
-// Not inlined, like the one below, so that its loop has the registers to itself.
-#[inline(never)]
-fn fates_by_admission(
-    alloc: Global,
-    admitted: &List<bool>,
-    departs: &List<u64>,
-) -> Result<List<Fate>, OutOfMemory>
-    ensures { IfOk result (λ fates. fates ≡ fates_by admitted.now departs.now) }
-{
-    let mut fates = Vec::with_capacity(alloc, admitted.len())?;
-    let mut next = 0;
-    for at in 0..admitted.len() {
-        if *admitted.get(at) && next < departs.len() {
-            fates.push_reserved(Fate::Departs(*departs.get(next)));
-            next += 1;
-        } else {
-            fates.push_reserved(Fate::Lost);
-        }
-    }
-    Ok(List::from_vec(fates))
-}
-
 // The streams that leave: the jobs that are admitted, at their departures, and the others, which
 // leave as they come.
+// Not inlined, so that its loop has the registers to itself.
 #[inline(never)]
 fn streams_of(
     alloc: Global,

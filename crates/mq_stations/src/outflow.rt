@@ -3,6 +3,7 @@ ghost use Rattle.std.specs.Prelude.{◌≡◌, ◌∷◌, [], All, length, map, 
 ghost use Rattle.mq_core.specs.Handling.{demand_of_job};
 ghost use Rattle.mq_core.specs.declared.model.Fate.TheVariants.{Departs};
 ghost use Rattle.mq_stations.specs.Leaving.{AreAsked};
+ghost use Rattle.mq_trunk.specs.Parts.{fates_by};
 
 use mq_base::{List, OutOfMemory};
 use mq_core::{Demand, Fate, Rows, Stream, demand_of};
@@ -71,6 +72,29 @@ pub fn fates_of(alloc: Global, departs: &List<u64>) -> Result<List<Fate>, OutOfM
     let mut fates = Vec::with_capacity(alloc, departs.len())?;
     for at in 0..departs.len() {
         fates.push_reserved(Fate::Departs(*departs.get(at)));
+    }
+    Ok(List::from_vec(fates))
+}
+
+// The fate of each arrival, by whether it is admitted and the departures of those that are.
+// Not inlined, so that its loop has the registers to itself.
+#[inline(never)]
+pub fn fates_by_admission(
+    alloc: Global,
+    admitted: &List<bool>,
+    departs: &List<u64>,
+) -> Result<List<Fate>, OutOfMemory>
+    ensures { IfOk result (λ fates. fates ≡ fates_by admitted.now departs.now) }
+{
+    let mut fates = Vec::with_capacity(alloc, admitted.len())?;
+    let mut next = 0;
+    for at in 0..admitted.len() {
+        if *admitted.get(at) && next < departs.len() {
+            fates.push_reserved(Fate::Departs(*departs.get(next)));
+            next += 1;
+        } else {
+            fates.push_reserved(Fate::Lost);
+        }
     }
     Ok(List::from_vec(fates))
 }

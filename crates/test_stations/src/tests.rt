@@ -10,3 +10,4 @@ mod server;
 mod split;
 mod tandem;
 mod trunk;
+mod trunk_group;

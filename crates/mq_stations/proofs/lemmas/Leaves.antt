@@ -25,7 +25,7 @@ use Rattle.mq_core.specs.declared.model.Demand.{Demand}
 use Rattle.mq_core.specs.declared.model.Fate.{Fate}
 use Rattle.mq_core.specs.declared.model.Fate.TheVariants.{Departs}
 use Rattle.mq_core.specs.declared.model.Kind.{Kind}
-use Rattle.mq_core.specs.declared.model.Kind.TheVariants.{Delay, Fork, ForkJoin, Join, Loss, Server, Source, Split, Tandem}
+use Rattle.mq_core.specs.declared.model.Kind.TheVariants.{Delay, Fork, ForkJoin, Join, Loss, Server, Source, Split, Tandem, Trunk}
 use Rattle.mq_core.specs.declared.model.Route.{Route}
 use Rattle.mq_core.specs.declared.model.Route.TheVariants.{Cut, Modulo, Turn}
 use Rattle.mq_core.specs.declared.model.Rows.{Rows}
@@ -148,6 +148,7 @@ once-leaves (ForkJoin branches) once = refl
 once-leaves (Split route) once = refl
 once-leaves (Fork outputs) once = refl
 once-leaves Join once = absurd cc
+once-leaves (Trunk servers demand) once = refl
 
 -- forks and joins don't
 pub never-once : (kind : Kind) → ((outputs : ℕ) × (kind ≡ Fork outputs)) ⊎ (kind ≡ Join) → sends_once kind ≡ true → ⊥

@@ -1,6 +1,7 @@
 use Rattle.std.proofs.Common.{◌≡◌, sym, ap, ◌∙◌, subst}
 use Rattle.mq_base.proofs.lemmas.Lists.{some_inj}
 use Rattle.mq_core.specs.Sequences.{stream_in_order}
+use Rattle.mq_core.specs.Sound.{outputs_in}
 use Rattle.mq_core.specs.declared.model.Kind.{Kind}
 use Rattle.mq_core.specs.declared.model.Node.{Node}
 use Rattle.mq_stations.specs.Leaving.{KeepsOrder}
@@ -19,4 +20,5 @@ overtaken_at-requires-clause-overtakes g c κs inside node there stream =
 pub returns-in_default : goal.returns-in_default
 returns-in_default g c node there =
     let same : c.get.result.now.kind ≡ node.kind = ap (λ (n : Node). n.kind) (some_inj _ _ (sym c.get.ensures ∙ there)) in
-    (c.requires.departs node there, subst KeepsOrder same (keeps-order c.get.result.now.kind c.in_default.not-Delay))
+    let departs = c.requires.departs node there in
+    (departs, subst KeepsOrder same (keeps-order c.get.result.now.kind (ap outputs_in same ∙ departs.one) c.in_default.not-Delay))
