@@ -99,7 +99,7 @@ fn work_out(
     }
 }
 
-// What becomes of the arrivals at a node of this kind, of what leaves it in their order.
+// What becomes of the arrivals at a node of this kind, of their fates and what leaves it.
 fn seen(
     alloc: Global,
     net: &Network,

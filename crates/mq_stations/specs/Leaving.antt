@@ -47,7 +47,7 @@ pub record IsLoad (rows : Rows) (kind : Kind) (arrivals : Stream) : Type 0 where
   pub told : HaveDemands rows kind arrivals.job
   pub leaves : (out : ℕ) → IsStream (sequence_stream rows kind (came_in arrivals) out)
 
--- what leaves by an output, by position: at a delay it is not in emission order yet
+-- what leaves by an output, by position: at a delay and a trunk group it is not in emission order yet
 abbrev pub left_by : Rows → Kind → Stream → ℕ → Stream
 left_by rows kind arrivals out =
     let outs = sequence_outs rows kind (came_in arrivals) in
