@@ -10,7 +10,7 @@ use Rattle.mq_core.specs.declared.model.Kind.{Kind}
 use Rattle.mq_core.specs.declared.model.Rows.{Rows}
 use Rattle.mq_stats.specs.Percentiles.{departed_waits, with_wait}
 
-departed-at : (rows : Rows) (kind : Kind) (jobs arrives : List ℕ) (fates : List Fate) (i job arrive : ℕ) (fate : Fate) → slice_get jobs i ≡ Some job → slice_get arrives i ≡ Some arrive → slice_get fates i ≡ Some fate →
+pub departed-at : (rows : Rows) (kind : Kind) (jobs arrives : List ℕ) (fates : List Fate) (i job arrive : ℕ) (fate : Fate) → slice_get jobs i ≡ Some job → slice_get arrives i ≡ Some arrive → slice_get fates i ≡ Some fate →
     departed_waits rows kind (drop i jobs) (drop i arrives) (drop i fates) ≡ with_wait rows kind job arrive fate (departed_waits rows kind (drop (i + 1) jobs) (drop (i + 1) arrives) (drop (i + 1) fates))
 departed-at rows kind jobs arrives fates i job arrive fate j a f = λ k. departed_waits rows kind (drop_at jobs i job j k) (drop_at arrives i arrive a k) (drop_at fates i fate f k)
 

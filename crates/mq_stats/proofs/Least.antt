@@ -67,7 +67,7 @@ becomes-least test w t low a l (x ∷ xs) (suc k) m e = go (test x) refl (λ b n
     go true p rest = rest (min a x) (below-both w a x l (low x p))
     go false p rest = rest a l
 
-least-is : (test : ℕ → Bool) (w : ℕ) → test w ≡ true → ((v : ℕ) → test v ≡ true → w ≤ v) → (xs : List ℕ) (k : ℕ) → k < length xs → get_or xs k w ≡ w → least_of (filter test xs) ≡ w
+pub least-is : (test : ℕ → Bool) (w : ℕ) → test w ≡ true → ((v : ℕ) → test v ≡ true → w ≤ v) → (xs : List ℕ) (k : ℕ) → k < length xs → get_or xs k w ≡ w → least_of (filter test xs) ≡ w
 least-is test w t low [] k m e = absurd (omega arith)
 least-is test w t low (x ∷ xs) zero m e =
     ap (λ b. least_of (cond b (x ∷ filter test xs) (filter test xs))) (ap test e ∙ t)
@@ -78,10 +78,10 @@ least-is test w t low (x ∷ xs) (suc k) m e = go (test x) refl (least-is test w
     go true p rest = becomes-least test w t low x (low x p) xs k (omega arith) e
     go false p rest = rest
 
-at-least : (many n : ℕ) → many ≤ n → nat_le many n ≡ true
+pub at-least : (many n : ℕ) → many ≤ n → nat_le many n ≡ true
 at-least many n l = grind (arith, nat_tests)
 
-reached : (many n : ℕ) → nat_le many n ≡ true → many ≤ n
+pub reached : (many n : ℕ) → nat_le many n ≡ true → many ≤ n
 reached many n e = grind (arith, nat_tests)
 
 -- In a sorted list the last of so many items is the least that at least as many don't pass.

@@ -10,6 +10,7 @@ pub mod Fine
 pub mod Held
 pub mod Joins
 pub mod Least
+pub mod Tables
 pub mod Gathering
 pub mod Leaves
 pub mod Lasts

@@ -1,9 +1,9 @@
 // The percentiles of the waits at a node.
-ghost use Rattle.std.specs.Prelude.{◌≡◌, ◌-◌, ◌<◌, ◌≤◌, ℕ, IfOk, Some, [], length, slice_get, take};
+ghost use Rattle.std.specs.Prelude.{◌≡◌, ◌+◌, ◌-◌, ◌<◌, ◌≤◌, ℕ, List as Items, IfOk, IfSome, Some, [], length, replicate, slice_get, take};
 ghost use Rattle.mq_core.specs.declared.model.Kind.{Kind as TheKind};
 ghost use Rattle.mq_core.specs.declared.model.Rows.{Rows as TheRows};
 ghost use Rattle.mq_stats.specs.Numbers.{AreVisits, AreWaiting, AsksOnce};
-ghost use Rattle.mq_stats.specs.Percentiles.{ArePercentiles, departed_waits, waits_at, with_wait};
+ghost use Rattle.mq_stats.specs.Percentiles.{ArePercentiles, IsReached, IsTableOf, departed_waits, hundredths as hundredths_of, waits_at, with_wait};
 
 use crate::waits::{Alike, Asking, AtServers, InColumn, wait_beyond};
 use mq_base::OutOfMemory;
@@ -62,59 +62,76 @@ fn put_waits<A: Asking>(
     kept
 }
 
-// The same at a node whose jobs ask for this demand alone.
-fn put_waits_for(
-    demand: &Demand,
+// The same in a table: each wait is counted at the index that it is, and the ones that are greater than all of these at
+// the last one.
+// Its loop is not inlined, so that it has the registers to itself.
+#[inline(never)]
+fn count_waits<A: Asking>(
+    asking: &A,
     rows: &Rows,
     kind: &Kind,
     job: &[u32],
     arrive: &[u64],
     fate: &FateSlice,
-    waits: &mut [u64],
+    table: &mut [u32],
 ) -> usize
-    requires tells { AsksOnce kind.now demand.now }
+    requires tells { A.tells asking.now kind.now }
     requires visits { AreWaiting rows.now kind.now job.now arrive.now fate.now }
-    requires room { length waits.old ≡ length job.now }
-    ensures room { length waits.new ≡ length job.now }
+    requires empty { table.old ≡ replicate (length job.now + 1) 0 }
     ensures within { result ≤ length job.now }
-    ensures waits { take result waits.new ≡ departed_waits rows.now kind.now job.now arrive.now fate.now }
+    ensures many { result ≡ length (departed_waits rows.now kind.now job.now arrive.now fate.now) }
+    ensures room { length table.new ≡ length job.now + 1 }
+    ensures table { IsTableOf (departed_waits rows.now kind.now job.now arrive.now fate.now) table.new }
 {
-    match demand {
-        Demand::Column(column) => {
-            put_waits(&InColumn(*column), rows, kind, job, arrive, fate, waits)
-        }
-        Demand::Fixed(ticks) => put_waits(&Alike(*ticks), rows, kind, job, arrive, fate, waits),
+    let last = table.len() - 1;
+    let mut many = 0;
+    for at in 0..job.len() {
+        let ending = fate.at(at);
+        let bare = asking.bare(rows, kind, job[at]);
+        let waited = wait_beyond(bare, arrive[at], ending);
+        let one = one_if_departs(ending);
+        table[waited.min(last as u64) as usize] += one as u32;
+        many += one;
     }
+    many
 }
 
-// The same at a node of this kind. A source, a split, a fork and a join serve no job.
-fn put_waits_of(
-    rows: &Rows,
-    kind: &Kind,
-    job: &[u32],
-    arrive: &[u64],
-    fate: &FateSlice,
-    waits: &mut [u64],
-) -> usize
-    requires visits { AreWaiting rows.now kind.now job.now arrive.now fate.now }
-    requires room { length waits.old ≡ length job.now }
-    ensures room { length waits.new ≡ length job.now }
-    ensures within { result ≤ length job.now }
-    ensures waits { take result waits.new ≡ departed_waits rows.now kind.now job.now arrive.now fate.now }
+// So many hundredths of a number, rounded up.
+fn hundredths(p: usize, many: usize) -> usize
+    requires p { p ≤ 100 }
+    requires few { many ≤ 1048576 }
+    ensures { result ≡ hundredths_of p many }
 {
-    match kind {
-        Kind::Source | Kind::Split(_) | Kind::Fork { .. } | Kind::Join => {
-            put_waits(&Alike(0), rows, kind, job, arrive, fate, waits)
+    (p * many + 99) / 100
+}
+
+// The least wait that so many don't pass, where the table counts it by itself.
+fn reached(table: &[u32], many: usize) -> Option<u64>
+    requires some { 0 < length table.now }
+    requires few { length table.now ≤ 1048577 }
+    ensures { IfSome result (IsReached table.now many) }
+{
+    let mut so_far = 0;
+    for wait in 0..table.len() - 1 {
+        so_far += table[wait] as usize;
+        if many <= so_far {
+            return Some(wait as u64);
         }
-        Kind::Server(demand) | Kind::Delay(demand) => {
-            put_waits_for(demand, rows, kind, job, arrive, fate, waits)
-        }
-        Kind::Loss { demand, .. } => put_waits_for(demand, rows, kind, job, arrive, fate, waits),
-        Kind::Tandem(_) | Kind::ForkJoin(_) => {
-            put_waits(&AtServers, rows, kind, job, arrive, fate, waits)
-        }
-        Kind::Trunk { demand, .. } => put_waits_for(demand, rows, kind, job, arrive, fate, waits),
     }
+    None
+}
+
+// The percentiles of so many waits, where the table counts each of these three by itself.
+fn counted(table: &[u32], many: usize) -> Option<Percentiles>
+    requires some { 0 < length table.now }
+    requires few { length table.now ≤ 1048577 }
+    requires within { many ≤ 1048576 }
+    ensures { (waits : Items ℕ) → many ≡ length waits → IsTableOf waits table.now → IfSome result (ArePercentiles waits) }
+{
+    let p99 = reached(table, hundredths(99, many))?;
+    let p90 = reached(table, hundredths(90, many))?;
+    let p50 = reached(table, hundredths(50, many))?;
+    Some(Percentiles { p50, p90, p99 })
 }
 
 // The last of so many items, or 0 where that is none.
@@ -127,16 +144,98 @@ fn last_of(items: &[u64], many: usize) -> u64
 }
 
 // The percentiles of these waits, which it puts in order.
-fn percentiles_of(waits: &mut [u64]) -> Percentiles
+fn sorted(waits: &mut [u64]) -> Percentiles
     requires few { length waits.old ≤ 1048576 }
     ensures { ArePercentiles waits.old result }
 {
     waits.sort_unstable();
-    let count = waits.len();
+    let many = waits.len();
     Percentiles {
-        p50: last_of(waits, (50 * count + 99) / 100),
-        p90: last_of(waits, (90 * count + 99) / 100),
-        p99: last_of(waits, (99 * count + 99) / 100),
+        p50: last_of(waits, hundredths(50, many)),
+        p90: last_of(waits, hundredths(90, many)),
+        p99: last_of(waits, hundredths(99, many)),
+    }
+}
+
+// The percentiles of the waits at a node, where none of them is greater than there are visits.
+fn counted_tail<A: Asking>(
+    alloc: Global,
+    asking: &A,
+    rows: &Rows,
+    kind: &Kind,
+    job: &[u32],
+    arrive: &[u64],
+    fate: &FateSlice,
+) -> Result<Option<Percentiles>, OutOfMemory>
+    requires tells { A.tells asking.now kind.now }
+    requires visits { AreWaiting rows.now kind.now job.now arrive.now fate.now }
+    ensures { IfOk result (λ tail. IfSome tail (ArePercentiles (departed_waits rows.now kind.now job.now arrive.now fate.now))) }
+{
+    let mut table = vec![in alloc; 0u32; job.len() + 1]?;
+    let many = count_waits(asking, rows, kind, job, arrive, fate, table.as_mut_slice());
+    Ok(counted(table.as_slice(), many))
+}
+
+// The same of any waits.
+fn sorted_tail<A: Asking>(
+    alloc: Global,
+    asking: &A,
+    rows: &Rows,
+    kind: &Kind,
+    job: &[u32],
+    arrive: &[u64],
+    fate: &FateSlice,
+) -> Result<Percentiles, OutOfMemory>
+    requires tells { A.tells asking.now kind.now }
+    requires visits { AreWaiting rows.now kind.now job.now arrive.now fate.now }
+    ensures { IfOk result (ArePercentiles (departed_waits rows.now kind.now job.now arrive.now fate.now)) }
+{
+    let mut waits = vec![in alloc; 0u64; job.len()]?;
+    let kept = put_waits(asking, rows, kind, job, arrive, fate, waits.as_mut_slice());
+    waits.truncate(kept);
+    Ok(sorted(waits.as_mut_slice()))
+}
+
+// The percentiles of the waits at a node whose jobs ask so. They are counted, which is quick; where one of them is
+// greater than there are visits, the waits are sorted.
+fn tail_by<A: Asking>(
+    alloc: Global,
+    asking: &A,
+    rows: &Rows,
+    kind: &Kind,
+    job: &[u32],
+    arrive: &[u64],
+    fate: &FateSlice,
+) -> Result<Percentiles, OutOfMemory>
+    requires tells { A.tells asking.now kind.now }
+    requires visits { AreWaiting rows.now kind.now job.now arrive.now fate.now }
+    ensures { IfOk result (ArePercentiles (departed_waits rows.now kind.now job.now arrive.now fate.now)) }
+{
+    match counted_tail(alloc, asking, rows, kind, job, arrive, fate)? {
+        Some(tail) => Ok(tail),
+        None => sorted_tail(alloc, asking, rows, kind, job, arrive, fate),
+    }
+}
+
+// The same at a node whose jobs ask for this demand alone.
+fn tail_for(
+    alloc: Global,
+    demand: &Demand,
+    rows: &Rows,
+    kind: &Kind,
+    job: &[u32],
+    arrive: &[u64],
+    fate: &FateSlice,
+) -> Result<Percentiles, OutOfMemory>
+    requires tells { AsksOnce kind.now demand.now }
+    requires visits { AreWaiting rows.now kind.now job.now arrive.now fate.now }
+    ensures { IfOk result (ArePercentiles (departed_waits rows.now kind.now job.now arrive.now fate.now)) }
+{
+    match demand {
+        Demand::Column(column) => {
+            tail_by(alloc, &InColumn(*column), rows, kind, job, arrive, fate)
+        }
+        Demand::Fixed(ticks) => tail_by(alloc, &Alike(*ticks), rows, kind, job, arrive, fate),
     }
 }
 
@@ -151,15 +250,19 @@ pub fn tail(
     ensures { IfOk result (ArePercentiles (waits_at rows.now kind.now visits.now)) }
 {
     let (job, arrive) = (visits.job.as_slice(), visits.arrive.as_slice());
-    let mut waits = vec![in alloc; 0u64; job.len()]?;
-    let count = put_waits_of(
-        rows,
-        kind,
-        job,
-        arrive,
-        &visits.fate.as_slice(),
-        waits.as_mut_slice(),
-    );
-    waits.truncate(count);
-    Ok(percentiles_of(waits.as_mut_slice()))
+    let fate = &visits.fate.as_slice();
+    match kind {
+        // These serve no job.
+        Kind::Source | Kind::Split(_) | Kind::Fork { .. } | Kind::Join => {
+            tail_by(alloc, &Alike(0), rows, kind, job, arrive, fate)
+        }
+        Kind::Server(demand) | Kind::Delay(demand) => {
+            tail_for(alloc, demand, rows, kind, job, arrive, fate)
+        }
+        Kind::Loss { demand, .. } => tail_for(alloc, demand, rows, kind, job, arrive, fate),
+        Kind::Tandem(_) | Kind::ForkJoin(_) => {
+            tail_by(alloc, &AtServers, rows, kind, job, arrive, fate)
+        }
+        Kind::Trunk { demand, .. } => tail_for(alloc, demand, rows, kind, job, arrive, fate),
+    }
 }
