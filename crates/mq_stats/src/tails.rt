@@ -62,8 +62,8 @@ fn put_waits<A: Asking>(
     kept
 }
 
-// The same in a table: each wait is counted at the index that it is, and the ones that are greater than all of these at
-// the last one.
+// Counts the same waits in a table, and says how many there are: each at the index that it is, and all that are as great as
+// the last index or greater there.
 // Its loop is not inlined, so that it has the registers to itself.
 #[inline(never)]
 fn count_waits<A: Asking>(
@@ -157,7 +157,7 @@ fn sorted(waits: &mut [u64]) -> Percentiles
     }
 }
 
-// The percentiles of the waits at a node, where none of them is greater than there are visits.
+// The percentiles of the waits at a node, where each of these three is below the number of visits.
 fn counted_tail<A: Asking>(
     alloc: Global,
     asking: &A,
@@ -196,8 +196,8 @@ fn sorted_tail<A: Asking>(
     Ok(sorted(waits.as_mut_slice()))
 }
 
-// The percentiles of the waits at a node whose jobs ask so. They are counted, which is quick; where one of them is
-// greater than there are visits, the waits are sorted.
+// The percentiles of the waits at a node whose jobs ask so. Mostly each is below the number of visits: then a table no longer
+// than the visits tells it, and nothing is put in order. Else the waits are sorted.
 fn tail_by<A: Asking>(
     alloc: Global,
     asking: &A,
