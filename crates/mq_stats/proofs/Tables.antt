@@ -16,7 +16,8 @@ use Rattle.mq_stats.proofs.Counts.{count-cons}
 use Rattle.mq_stats.proofs.Gathering.{departed-at}
 use Rattle.mq_stats.proofs.Least.{at-least, least-is, reached}
 use Rattle.mq_stats.proofs.Passing.{passed-later, up_to}
-use Rattle.mq_stats.specs.Percentiles.{IsReached, IsTableOf, departed_waits, hundredths, least_of, percentile, reaches, with_wait}
+use Rattle.mq_stats.specs.Percentiles.{departed_waits, hundredths, least_of, percentile, reaches, with_wait}
+use Rattle.mq_stats.specs.Tables.{IsReached, IsTableOf}
 
 -- how many of these are this number
 abbrev pub many_at : ℕ → List ℕ → ℕ

@@ -3,4 +3,5 @@ pub mod Departures
 pub mod Lasts
 pub mod Numbers
 pub mod Percentiles
+pub mod Tables
 pub mod RunNumbers

@@ -1,5 +1,5 @@
 -- The waits of the visits that depart from a node, and their percentiles.
-use Rattle.std.specs.Prelude.{◌≡◌, ℕ, ◌+◌, ◌*◌, ◌/◌, ◌<◌, ◌≤◌, ◌==◌, Bool, List, [], ◌∷◌, count_by, fold, get_or, length, min, nat_le, sum, take}
+use Rattle.std.specs.Prelude.{◌≡◌, ℕ, ◌+◌, ◌*◌, ◌/◌, ◌≤◌, Bool, List, [], ◌∷◌, count_by, fold, length, min, nat_le}
 use Rattle.std.specs.List.{filter}
 use Rattle.mq_core.specs.Sequences.{sequence_wait}
 use Rattle.mq_core.specs.declared.model.Fate.{Fate}
@@ -43,16 +43,6 @@ least_of (wait ∷ waits) = fold min wait waits
 -- the least of these waits that at least so many hundredths of them don't pass, or 0 where there are none
 abbrev pub percentile : ℕ → List ℕ → ℕ
 percentile p waits = least_of (filter (reaches (hundredths p (length waits)) waits) waits)
-
--- a table of counts, which has at each index but the last how many of these waits are that number
-pub record IsTableOf (waits table : List ℕ) : Type 0 where
-  pub counts : (wait : ℕ) → wait + 1 < length table → get_or table wait 0 ≡ count_by (λ w. w == wait) waits
-
--- the first index but the last of such a table up to which at least so many are counted
-pub record IsReached (table : List ℕ) (many wait : ℕ) : Type 0 where
-  pub own : wait + 1 < length table
-  pub enough : many ≤ sum (take (wait + 1) table)
-  pub first : 0 < wait → sum (take wait table) < many
 
 -- these are the percentiles of these waits
 pub record ArePercentiles (waits : List ℕ) (tail : Percentiles) : Type 0 where

@@ -3,7 +3,8 @@ ghost use Rattle.std.specs.Prelude.{◌≡◌, ◌+◌, ◌-◌, ◌<◌, ◌≤
 ghost use Rattle.mq_core.specs.declared.model.Kind.{Kind as TheKind};
 ghost use Rattle.mq_core.specs.declared.model.Rows.{Rows as TheRows};
 ghost use Rattle.mq_stats.specs.Numbers.{AreVisits, AreWaiting, AsksOnce};
-ghost use Rattle.mq_stats.specs.Percentiles.{ArePercentiles, IsReached, IsTableOf, departed_waits, hundredths as hundredths_of, waits_at, with_wait};
+ghost use Rattle.mq_stats.specs.Percentiles.{ArePercentiles, departed_waits, hundredths as hundredths_of, waits_at, with_wait};
+ghost use Rattle.mq_stats.specs.Tables.{IsReached, IsTableOf};
 
 use crate::waits::{Alike, Asking, AtServers, InColumn, wait_beyond};
 use mq_base::OutOfMemory;
