@@ -5,7 +5,8 @@ usage: bench.py PROGRAM [--rows N] [--runs R] [--only NAME,..] [-- WORDS..]
 PROGRAM is the built program, or the script that runs it (mpsim). WORDS are added to each call, as --workers 4. It needs
 rustc, which builds the yardstick. For each input: the least and the median time in seconds, the peak of resident memory
 in MB, and the ratio of the least time to the yardstick's least time, which has an input of one server and as many rows.
-The ratio says more than the times.
+The ratio says more than the times. The yardstick writes a report of form 1: where WORDS end with `--report 1`, and `--jobs` isn't
+among them, the report of the server is compared with its.
 """
 import argparse
 import os
@@ -37,6 +38,7 @@ INPUTS = {
     "tandem": Input(["src"], ["tandem t d / 2 e / 1 d / 3 e from src"], {"d": 9, "e": 9}, 12),
     "loss": Input(["src"], ["loss l 3 d from src"], {"d": 9}, 6),
     "overload": Input(["src"], ["loss l 1 =2 from src"], {}, 0),
+    "trunk": Input(["src"], ["trunk t 30 d from src"], {"d": 300}, 10, 2),
     # as a spreadsheet writes it: a column of quoted text that the model doesn't read
     "quoted": Input(["src"], ["server desk d from src"], {"d": 9, "note": '"seen, then called back"'}, 10),
     "fork-and-join": Input(
@@ -128,7 +130,7 @@ def main():
             write_model(model, INPUTS[name])
             write_trace(trace, INPUTS[name], args.rows)
             runs = [measure([args.program, model, trace, *words]) for _ in range(args.runs)]
-            fault = fault_of(runs, yard[0].out if name == "server" and "--jobs" not in words else None)
+            fault = fault_of(runs, yard[0].out if name == "server" and words[-2:] == ["--report", "1"] and "--jobs" not in words else None)
             row(name, runs, f"  ratio {least(runs) / least(yard):6.2f}{fault}")
 
 
