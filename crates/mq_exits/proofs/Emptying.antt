@@ -15,7 +15,7 @@ use Rattle.mq_exits.specs.Results.{IsResultOf, IsWorkedOut}
 use Rattle.mq_exits.specs.declared.exits.Closed.{Closed}
 use Rattle.mq_exits.specs.declared.exits.Emptied.{Emptied}
 use Rattle.mq_exits.specs.declared.exits.Exit.{Exit}
-use Rattle.mq_exits.specs.declared.exits.Exit.TheVariants.{Known, Passed, Served, Sorted}
+use Rattle.mq_exits.specs.declared.exits.Exit.TheVariants.{Known, Passed, Sent, Served, Sorted}
 use Rattle.mq_exits.specs.declared.working.NodeResult.{NodeResult}
 
 abbrev pub emptied_size : Emptied → ℕ
@@ -48,6 +48,7 @@ exit-few plan rows v arrivals (Known after) h = omega arith
 exit-few plan rows v arrivals (Served departs) h = omega arith
 exit-few plan rows v arrivals (Sorted overtaken) h = let few = h.counted.blocks.1 in omega arith
 exit-few plan rows v arrivals (Passed streams) h = omega arith
+exit-few plan rows v arrivals Sent h = omega arith
 
 pub emptied-few : (those_emptied : List Emptied) → length those_emptied ≤ 64 → AllByRecursion IsReadyExit those_emptied → total_size emptied_size those_emptied < 2 ^ 32
 emptied-few those_emptied few ready =

@@ -17,7 +17,7 @@ use Rattle.mq_stations.specs.Leaving.{AreDepartures, AreServed, AreStreams}
 use Rattle.mq_exits.specs.declared.working.After.{After}
 use Rattle.mq_exits.specs.declared.working.After.TheVariants.{Missed, Seen}
 use Rattle.mq_exits.specs.declared.working.Worked.{Worked}
-use Rattle.mq_exits.specs.declared.working.Worked.TheVariants.{Departed, Finished}
+use Rattle.mq_exits.specs.declared.working.Worked.TheVariants.{Departed, Finished, Sent}
 
 -- the fates of the arrivals at a node of this kind, none of them late, and what leaves by each output
 pub record AreOnTime (net : Network) (rows : Rows) (v : ℕ) (kind : Kind) (arrivals : Stream) (fates : List Fate) (streams : List Stream) : Type 0 where
@@ -48,10 +48,11 @@ AllDepartAt plan rows v arrivals departs = (node : Node) → slice_get plan.net.
 abbrev pub IsServed : Plan → Rows → ℕ → Stream → List ℕ → Type 0
 IsServed plan rows v arrivals departs = (node : Node) → slice_get plan.net.nodes v ≡ Some node → AreServed rows node.kind arrivals departs
 
--- what one piece tells of a node of this kind: what becomes of its arrivals, or when its jobs depart
+-- what one piece tells of a node of this kind: what becomes of its arrivals, or when its jobs depart, which may be as they come
 abbrev pub IsWorked : Network → Rows → ℕ → Kind → Stream → Worked → Type 0
 IsWorked net rows v kind arrivals (Finished after) = IsAfter net rows v kind arrivals after
 IsWorked net rows v kind arrivals (Departed departs) = AreDepartures rows kind arrivals departs
+IsWorked net rows v kind arrivals Sent = AreServed rows kind arrivals arrivals.time
 
 -- the same at a node of the plan
 abbrev pub IsWorkedAt : Plan → Rows → ℕ → Stream → Worked → Type 0

@@ -19,10 +19,10 @@ use Rattle.mq_exits.specs.Afters.{AreOnTime, IsAfterAt, IsServed}
 use Rattle.mq_exits.specs.Loads.{IsReadyLoad}
 use Rattle.mq_exits.specs.Splits.{AreSplitStreams}
 use Rattle.mq_exits.specs.declared.exits.Closed.{Closed}
-use Rattle.mq_exits.specs.declared.exits.Closed.TheVariants.{Found, Jobs, Over, Times}
+use Rattle.mq_exits.specs.declared.exits.Closed.TheVariants.{Departures, Found, Jobs, Over, Times}
 use Rattle.mq_exits.specs.declared.exits.Emptied.{Emptied}
 use Rattle.mq_exits.specs.declared.exits.Exit.{Exit}
-use Rattle.mq_exits.specs.declared.exits.Exit.TheVariants.{Known, Passed, Served, Sorted}
+use Rattle.mq_exits.specs.declared.exits.Exit.TheVariants.{Known, Passed, Sent, Served, Sorted}
 use Rattle.mq_exits.specs.declared.overtaking.Overtaken.{Overtaken}
 
 -- jobs that leave a node of the plan do so by time
@@ -45,6 +45,7 @@ IsExit plan rows v arrivals (Known after) = IsAfterAt plan rows v arrivals after
 IsExit plan rows v arrivals (Served departs) = IsServed plan rows v arrivals departs
 IsExit plan rows v arrivals (Sorted overtaken) = IsOvertaken plan rows v arrivals overtaken
 IsExit plan rows v arrivals (Passed streams) = AreSplitStreams plan rows v arrivals streams
+IsExit plan rows v arrivals Sent = IsServed plan rows v arrivals arrivals.time
 
 -- how many last pieces a station has
 abbrev pub closings_of : Exit → ℕ
@@ -52,8 +53,9 @@ closings_of (Known after) = 0
 closings_of (Served departs) = 3
 closings_of (Sorted overtaken) = overtaken.blocks.blocks
 closings_of (Passed streams) = 2
+closings_of Sent = 4
 
--- a last piece: these departures, none of them late, or the first that is; how many each found; or the jobs
+-- a last piece: these departures, none of them late, or the first that is; how many each found; the jobs; or the departures, late or not
 abbrev pub IsShut : Plan → Rows → ℕ → Stream → List ℕ → ℕ → Closed → Type 0
 IsShut plan rows v arrivals departs b (Times times) =
     (b ≡ 0) × (times ≡ departs)
@@ -63,6 +65,7 @@ IsShut plan rows v arrivals departs b (Over fault) =
     × ((node : Node) → slice_get plan.net.nodes v ≡ Some node → first_of (sequence_late_from plan.net.bound v 0 (sequence_fates rows node.kind (came_in arrivals))) ≡ Some (late_told fault))
 IsShut plan rows v arrivals departs b (Found found) = (b ≡ 1) × (found ≡ founds_of arrivals.time (map (λ time. Departs time) departs))
 IsShut plan rows v arrivals departs b (Jobs jobs) = (b ≡ 2) × (jobs ≡ arrivals.job)
+IsShut plan rows v arrivals departs b (Departures times) = (b ≡ 3) × (times ≡ departs)
 
 -- what each of these arrivals found, where they depart at these times
 abbrev pub founds_by : Stream → List ℕ → List ℕ
@@ -78,6 +81,7 @@ IsDelayPiece arrivals overtaken b (Times times) = ⊥
 IsDelayPiece arrivals overtaken b (Over fault) = ⊥
 IsDelayPiece arrivals overtaken b (Found found) = IsFoundBlock (founds_by arrivals overtaken.departs) overtaken.blocks b found
 IsDelayPiece arrivals overtaken b (Jobs jobs) = ⊥
+IsDelayPiece arrivals overtaken b (Departures times) = ⊥
 
 -- a last piece that tells how many visits found
 abbrev pub IsFound : Closed → Type 0
@@ -85,12 +89,14 @@ IsFound (Times times) = ⊥
 IsFound (Over fault) = ⊥
 IsFound (Found found) = Unit {0}
 IsFound (Jobs jobs) = ⊥
+IsFound (Departures times) = ⊥
 
 abbrev pub IsClosed : Plan → Rows → ℕ → Stream → Exit → ℕ → Closed → Type 0
 IsClosed plan rows v arrivals (Known after) b closed = ⊥
 IsClosed plan rows v arrivals (Served departs) b closed = IsShut plan rows v arrivals departs b closed
 IsClosed plan rows v arrivals (Sorted overtaken) b closed = IsDelayPiece arrivals overtaken b closed
 IsClosed plan rows v arrivals (Passed streams) b closed = IsShut plan rows v arrivals arrivals.time b closed
+IsClosed plan rows v arrivals Sent b closed = IsShut plan rows v arrivals arrivals.time b closed
 
 -- what is known of a station near the end of a wave
 abbrev pub IsReadyExit : Emptied → Type 0

@@ -32,6 +32,8 @@ pub enum Exit {
     Sorted(Overtaken),
     /// What leaves by each output, where they depart as they come.
     Passed(List<Stream>),
+    /// That they depart as they come, by one output.
+    Sent,
 }
 
 /// A station whose departures are known.
@@ -53,6 +55,8 @@ pub enum Closed {
     Found(List<u32>),
     /// The jobs, which leave in their order.
     Jobs(List<u32>),
+    /// When the jobs depart, by position, which is kept of the visits.
+    Departures(List<u64>),
 }
 
 impl<'a> Pieces for Emptied<'a> {
@@ -70,6 +74,7 @@ impl<'a> Pieces for Emptied<'a> {
             Exit::Served(_) => 3,
             Exit::Sorted(overtaken) => overtaken.blocks.blocks,
             Exit::Passed(_) => 2,
+            Exit::Sent => 4,
         }
     }
 
@@ -78,6 +83,7 @@ impl<'a> Pieces for Emptied<'a> {
             Exit::Served(departs) => closing_of(alloc, &self.load, departs, b),
             Exit::Sorted(overtaken) => delay_piece(alloc, &self.load.arrivals, overtaken, b),
             Exit::Passed(_) => passed_of(alloc, &self.load, b),
+            Exit::Sent => sent_piece(alloc, &self.load, b),
             Exit::Known(_) => unreachable!(),
         }
     }
@@ -105,6 +111,22 @@ fn closing_of(
     }
     let jobs = Vec::from_slice(alloc, load.arrivals.job.as_slice())?;
     Ok(Closed::Jobs(List::from_vec(jobs)))
+}
+
+// A last piece of a station whose jobs depart as they come: its departures are a piece too, since they are what
+// came.
+fn sent_piece(alloc: Global, load: &Load, b: u32) -> Result<Closed, OutOfMemory>
+    requires loaded { IsLoaded load.now.plan.now load.now.rows.now load.now.number load.now.arrivals }
+    requires served { IsServed load.now.plan.now load.now.rows.now load.now.number load.now.arrivals load.now.arrivals.time }
+    requires inside { b < 4 }
+    ensures { IfOk result (λ closed. IsShut load.now.plan.now load.now.rows.now load.now.number load.now.arrivals load.now.arrivals.time b closed) }
+{
+    let times = &load.arrivals.time;
+    if b < 3 {
+        return closing_of(alloc, load, times, b);
+    }
+    let departs = Vec::from_slice(alloc, times.as_slice())?;
+    Ok(Closed::Departures(List::from_vec(departs)))
 }
 
 // When the jobs leave that depart so, where these times never fall, or the first departure that is after
@@ -178,7 +200,23 @@ fn after_of(
         Exit::Served(departs) => opened(alloc, load, group, departs),
         Exit::Sorted(overtaken) => after_delay(alloc, load, group, overtaken),
         Exit::Passed(streams) => Ok(passed(load, group, streams)),
+        Exit::Sent => sent(alloc, load, group),
     }
+}
+
+// What becomes of the arrivals at a station whose jobs depart as they come, of its last pieces.
+fn sent(alloc: Global, load: &Load, group: List<Closed>) -> Result<After, OutOfMemory>
+    requires loaded { IsLoaded load.now.plan.now load.now.rows.now load.now.number load.now.arrivals }
+    requires served { IsServed load.now.plan.now load.now.rows.now load.now.number load.now.arrivals load.now.arrivals.time }
+    requires group { AreAll (IsShut load.now.plan.now load.now.rows.now load.now.number load.now.arrivals load.now.arrivals.time) 4 group }
+    ensures { IfOk result (λ after. IsAfterAt load.now.plan.now load.now.rows.now load.now.number load.now.arrivals after) }
+{
+    let mut group = group.into_vec();
+    let departs = match group.pop() {
+        Some(Closed::Departures(departs)) => departs,
+        _ => unreachable!(),
+    };
+    opened(alloc, load, List::from_vec(group), departs)
 }
 
 // What becomes of the arrivals at a station whose jobs leave in their order, of its last pieces and the
@@ -213,6 +251,7 @@ fn opened(
         Some(Closed::Over(past)) => Ok(After::Missed(past)),
         Some(Closed::Found(_found)) => unreachable!(),
         Some(Closed::Jobs(_jobs)) => unreachable!(),
+        Some(Closed::Departures(_departs)) => unreachable!(),
         None => unreachable!(),
     }
 }

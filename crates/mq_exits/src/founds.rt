@@ -83,6 +83,7 @@ fn found_in(closed: &Closed) -> &List<u32>
 {
     match closed {
         Closed::Found(found) => found,
-        Closed::Times(_) | Closed::Over(_) | Closed::Jobs(_) => unreachable!(),
+        Closed::Times(_) | Closed::Over(_) | Closed::Jobs(_) | Closed::Departures(_) =>
+            unreachable!(),
     }
 }

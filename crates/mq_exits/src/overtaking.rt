@@ -52,6 +52,7 @@ pub fn left_by<R: Threads + Sync>(
 {
     match worked {
         Worked::Finished(after) => Ok(Exit::Known(after)),
+        Worked::Sent => Ok(Exit::Sent),
         Worked::Departed(departs) => left_at(rt, alloc, workers, load, departs),
     }
 }

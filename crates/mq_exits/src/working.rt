@@ -58,24 +58,29 @@ pub enum Worked {
     Finished(After),
     /// When its jobs depart, by position: none is lost.
     Departed(List<u64>),
+    /// That its jobs depart as they come, by one output.
+    Sent,
 }
 
-/// What one piece tells of a whole station.
+/// What one piece tells of a whole station: of a source, that its jobs depart as they come.
 pub fn station_whole(alloc: Global, load: &Load) -> Result<Worked, OutOfMemory>
     requires loaded { IsLoaded load.now.plan.now load.now.rows.now load.now.number load.now.arrivals }
     requires some { 1 ≤ load.now.block }
     ensures { IfOk result (λ worked. IsWorkedAt load.now.plan.now load.now.rows.now load.now.number load.now.arrivals worked) }
 {
     let kind = &load.plan.net.nodes.get(load.number as usize).kind;
-    work_out(
-        alloc,
-        &load.plan.net,
-        load.rows,
-        load.number,
-        kind,
-        &load.arrivals,
-        load.block,
-    )
+    match kind {
+        Kind::Source => Ok(Worked::Sent),
+        _ => work_out(
+            alloc,
+            &load.plan.net,
+            load.rows,
+            load.number,
+            kind,
+            &load.arrivals,
+            load.block,
+        ),
+    }
 }
 
 // What one piece tells of a node of this kind, given its arrivals.

@@ -18,3 +18,8 @@ pub passed-requires-clause-group : goal.passed-requires-clause-group
 passed-requires-clause-group c =
     let load = c.args.load.now in
     subst (λ (e : Exit). AreAll (IsClosed load.plan.now load.rows.now load.number load.arrivals e) (closings_of e) c.args.group) c.in-Passed.is c.requires.group
+
+pub sent-requires-clause-group : goal.sent-requires-clause-group
+sent-requires-clause-group c =
+    let load = c.args.load.now in
+    subst (λ (e : Exit). AreAll (IsClosed load.plan.now load.rows.now load.number load.arrivals e) (closings_of e) c.args.group) c.in-Sent.is c.requires.group
