@@ -1,12 +1,11 @@
-use Rattle.std.proofs.Common.{◌≡◌, ℕ, ◌<◌, ◌≤◌, ◌^◌, List, [], ◌∷◌, length, map, Some, sym, ap, ◌∙◌, subst, arith}
-use Rattle.std.specs.Prelude.{IsTrue, slice_get, slice_index}
+use Rattle.std.proofs.Common.{◌≡◌, ℕ, ◌<◌, ◌≤◌, ◌^◌, List, [], ◌∷◌, length, map, sym, ap, ◌∙◌, subst, arith}
+use Rattle.std.specs.Prelude.{slice_get, slice_index}
 use Rattle.std.specs.List.{AllByRecursion as Each}
 use Rattle.std.proofs.lemmas.List.{length-map}
 use Rattle.mq_base.proofs.lemmas.Lists.{some_inj}
 use Rattle.mq_core.specs.Handling.{column_value, value_of}
 use Rattle.mq_core.specs.Laws.{Rises}
 use Rattle.mq_core.specs.Sequences.{IsStream}
-use Rattle.mq_core.specs.Sound.{is_sound_kind}
 use Rattle.mq_core.specs.Streams.{by_first, pairs_of, sorted}
 use Rattle.mq_core.specs.Told.{IsTold}
 use Rattle.mq_core.specs.declared.model.Demand.TheVariants.{Column}
@@ -15,7 +14,7 @@ use Rattle.mq_core.specs.declared.model.Rows.{Rows}
 use Rattle.mq_core.specs.declared.model.Stream.{Stream}
 use Rattle.mq_core.proofs.lemmas.Orders.{firsts-order}
 use Rattle.mq_core.proofs.lemmas.Rising.{Rises-in_order_of}
-use Rattle.mq_stations.specs.Leaving.{IsEarlyStream, IsLoad}
+use Rattle.mq_stations.specs.Leaving.{IsLoad, left_by}
 use Rattle.mq_stations.proofs.lemmas.Lists.{Each-get, Each-get_or}
 use Rattle.test_stations.proofs.tests.trunk_group.left_of.Goals as goal
 
@@ -47,13 +46,14 @@ leaving-requires-clause-load c =
     let demands = c.args.case.now.demands.now in
     let kind = Trunk c.args.case.now.servers (Column 0) in
     let r = c.requires in
-    let load : IsLoad c.in_ok-rows.rows kind (record { job = jobs; time = c.args.case.now.arrive.now }) =
-        record {
-          columns = 1;
-          sound = r.sound;
-          ordered = r.early;
-          few = r.few;
-          told = λ k job at. told-by c.in_ok-rows.rows demands job c.in_ok-rows.ensures (Each-get (λ n. n < length demands) jobs k job r.told at) r.small;
-          leaves = λ out. sorted-stream _;
-        } in
+    let arrivals : Stream = record { job = jobs; time = c.args.case.now.arrive.now } in
+    let load : IsLoad c.in_ok-rows.rows kind arrivals =
+    record {
+      columns = 1;
+      sound = r.sound;
+      ordered = r.early;
+      few = r.few;
+      told = λ k job at. told-by c.in_ok-rows.rows demands job c.in_ok-rows.ensures (Each-get (λ n. n < length demands) jobs k job r.told at) r.small;
+      leaves = λ out. sorted-stream (left_by c.in_ok-rows.rows kind arrivals out);
+    } in
     subst (IsLoad c.in_ok-rows.rows kind) (sym c.in_ok-arrivals.ensures) load
