@@ -1,17 +1,8 @@
-use Rattle.std.proofs.Common.{◌≡◌, ◌≤◌, ◌^◌, ℕ, All, List, Option, Some, None, arith, get_or, refl, rules}
+use Rattle.std.proofs.Common.{◌≡◌, ◌≤◌, ◌^◌, ℕ, All, List, Some, get_or, rules}
 use Rattle.std.specs.Prelude.{slice_get}
-use Rattle.mq_core.specs.Handling.{column_value, value_of}
 use Rattle.mq_core.specs.Told.{HasValue}
-use Rattle.mq_core.specs.declared.model.Rows.{Rows}
+use Rattle.test_runs.proofs.Values.{value-small}
 use Rattle.test_runs.proofs.tests.stats.totals_join_at.Goals as goal
-
--- a value of a column whose values are all in their limit
-value-small : (rows : Rows) (job : ℕ) → HasValue rows 0 job → ((values : List ℕ) → slice_get rows.demands 0 ≡ Some values → All (λ value. value ≤ 2 ^ 36) values) → value_of rows 0 job ≤ 2 ^ 36
-value-small rows job told small = go (slice_get rows.demands 0) refl
-  where
-    go : (o : Option (List ℕ)) → slice_get rows.demands 0 ≡ o → column_value o job ≤ 2 ^ 36
-    go None e = omega arith
-    go (Some values) e = small values e job 0 (told.reaches values e)
 
 pub totals_between-before-requires-clause-visits : goal.totals_between-before-requires-clause-visits
 totals_between-before-requires-clause-visits c =
