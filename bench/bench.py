@@ -22,7 +22,8 @@ HERE = os.path.dirname(os.path.abspath(__file__))
 
 # The lines of a model behind its sources, the columns of its trace and what they hold: a number below this one, or this
 # text. From one record to the next the time grows by a number below `step`, or by 1 where that is 0. The model is of this version.
-Input = namedtuple("Input", "sources lines columns step version", defaults=[1])
+# Where a record makes several visits to a node, so many, the trace has as many fewer records: a node has no more than 1,048,576.
+Input = namedtuple("Input", "sources lines columns step version visits", defaults=[1, 1])
 
 INPUTS = {
     "server": Input(["src"], ["server desk d from src"], {"d": 9}, 10),
@@ -46,6 +47,7 @@ INPUTS = {
         ["fork f 2 from src", "server a d from f", "server b e from f.1", "join j from a b"],
         {"d": 9, "e": 9},
         12,
+        2,
         2,
     ),
     "call-centre": Input(
@@ -128,7 +130,7 @@ def main():
         row("yardstick", yard)
         for name in filter(None, args.only.split(",")) if args.only else INPUTS:
             write_model(model, INPUTS[name])
-            write_trace(trace, INPUTS[name], args.rows)
+            write_trace(trace, INPUTS[name], args.rows // INPUTS[name].visits)
             runs = [measure([args.program, model, trace, *words]) for _ in range(args.runs)]
             fault = fault_of(runs, yard[0].out if name == "server" and words[-2:] == ["--report", "1"] and "--jobs" not in words else None)
             row(name, runs, f"  ratio {least(runs) / least(yard):6.2f}{fault}")
