@@ -19,7 +19,7 @@ use Rattle.mq_core.specs.declared.model.Node.{Node}
 use Rattle.mq_core.specs.declared.model.Plan.{Plan}
 use Rattle.mq_core.specs.declared.model.Rows.{Rows}
 
--- what an emission says of a visit: it departs then, or is lost where a loss station lets it out by output 1
+-- what an emission says of a visit: it departs then, or is lost where a loss station or a trunk group lets it out by output 1
 abbrev pub fate_by : Kind → Emission → Fate
 fate_by kind m = (behaviour_of kind).fate m
 

@@ -11,8 +11,8 @@ pub record Branch : Type 0 where
   pub queues : List (List ℕ)
   pub through : ℕ
 
--- what a node keeps: the positions at a server or a loss station, the one in service first; those that a delay has
--- scheduled; the stages of a tandem; the branches of a fork-join; the ports and positions that a join has not matched yet
+-- what a node keeps: the positions at a server or a loss station, the one in service first; those that a delay or a
+-- trunk group has scheduled; the stages of a tandem; the branches of a fork-join; the ports and positions that a join has not matched yet
 pub record Local : Type 0 where
   pub queue : List ℕ
   pub scheduled : List ℕ

@@ -58,7 +58,7 @@ time_of_fate (Departs time) = time
 time_of_fate Lost = 0
 time_of_fate Held = 0
 
--- jobs and times by position, in the order in which they leave: by time and then position at a delay, else by position
+-- jobs and times by position, in the order in which they leave: by time and then position at a delay or a trunk group, else by position
 abbrev pub stream_in_order : Kind → Stream → Stream
 stream_in_order kind stream = stream_by (behaviour_of kind).order stream
 

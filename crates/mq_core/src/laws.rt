@@ -73,8 +73,8 @@ pub fn runs_are_of_networks()
     ensures { RunsAreOfNetworks }
 {}
 
-/// Each node of a plan is in its limits: its numbers, its outputs and servers, at most 8 of each,
-/// and its ports, at most 8, which name outputs of the network.
+/// Each node of a plan is in its limits: its numbers, its outputs, at most 8, its servers, at most
+/// 255, and its ports, at most 8, which name outputs of the network.
 pub fn nodes_are_in_limits()
     ensures { NodesAreInLimits }
 {}
