@@ -1,7 +1,9 @@
--- The sequences of a node that lets each visit out once, from its fates: what each visit found, and what leaves by an output.
-use Rattle.std.specs.Prelude.{Bool, List, [], count_by, false, nat_lt, true, ℕ, ◌++◌, ◌∷◌}
+-- The sequences of a node that lets each visit out once, from its fates: what each visit found, and what leaves by an output. Where
+-- visits are lost, as at a loss station or a trunk group, these leave by output 1.
+use Rattle.std.specs.Prelude.{Bool, List, [], count_by, false, nat_lt, suc, true, ℕ, ◌++◌, ◌∷◌}
 use Rattle.mq_core.specs.Came.{Came}
 use Rattle.mq_core.specs.EmissionOrder.{EmissionOrder}
+use Rattle.mq_core.specs.Machine.{Emission, Visit}
 use Rattle.mq_core.specs.Streams.{picked, stream_by}
 use Rattle.mq_core.specs.declared.model.Fate.{Fate}
 use Rattle.mq_core.specs.declared.model.Fate.TheVariants.{Departs, Held, Lost}
@@ -40,3 +42,21 @@ leaving_times (arrive ∷ arrives) (fate ∷ fates) = leaving_time arrive fate �
 abbrev pub once_out : EmissionOrder → Came → List Fate → List ℕ → ℕ → Stream
 once_out order came fates outs out =
     stream_by order (record { job = picked out outs came.job; time = picked out outs (leaving_times came.arrive fates) })
+
+-- the output by which a visit leaves that fares so: 1 where it is lost, else 0
+abbrev pub out_of_fate : Fate → ℕ
+out_of_fate (Departs time) = 0
+out_of_fate Lost = 1
+out_of_fate Held = 0
+
+-- what a visit lets out that fares so: by output 0 as it departs, or by output 1 at once where it is lost
+abbrev pub faring_by : ℕ → Fate → Visit → Emission
+faring_by position (Departs time) visit = record { out = 0; position = position; job = visit.job; time = time }
+faring_by position Lost visit = record { out = 1; position = position; job = visit.job; time = visit.arrive }
+faring_by position Held visit = record { out = 0; position = position; job = visit.job; time = visit.arrive }
+
+-- what these visits let out that fare so, the first at this position
+abbrev pub faring_from : ℕ → List Fate → List Visit → List Emission
+faring_from position [] visits = []
+faring_from position (fate ∷ fates) [] = []
+faring_from position (fate ∷ fates) (visit ∷ visits) = faring_by position fate visit ∷ faring_from (suc position) fates visits

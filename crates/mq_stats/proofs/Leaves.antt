@@ -10,9 +10,8 @@ use Rattle.mq_core.specs.EmissionOrder.EmissionOrder.{ByPosition, Mixed, Overtak
 use Rattle.mq_core.specs.KindTable.{behaviour_of}
 use Rattle.mq_core.specs.Kinds.Fork.{copies_by}
 use Rattle.mq_core.specs.Kinds.Join.{fate_by_match, is_whole_at, matches_of, wholes_from, wholes_of}
-use Rattle.mq_core.specs.Kinds.Loss.{out_of_fate}
 use Rattle.mq_core.specs.Laws.{in_order_of, insert_by}
-use Rattle.mq_core.specs.OnceOut.{leaving_times}
+use Rattle.mq_core.specs.OnceOut.{leaving_times, out_of_fate}
 use Rattle.mq_core.specs.SequenceLaws.{GoesByFates, KeepsItems, OrdersKeepItems, SequencesGoByFates}
 use Rattle.mq_core.specs.Sequences.{sequence_fates, sequence_outs, sequence_stream, time_of_fate}
 use Rattle.mq_core.specs.Sound.{outputs_in}

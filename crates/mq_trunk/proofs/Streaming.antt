@@ -5,9 +5,8 @@ use Rattle.std.specs.List.{AllByRecursion as Each, zip}
 use Rattle.std.proofs.lemmas.List.{length-map}
 use Rattle.mq_base.proofs.lemmas.Zips.{zip-jobs, zip-map, zip-times}
 use Rattle.mq_core.proofs.lemmas.Rising.{Rises-in_order_of, filter-in_order_of, same_by_key}
-use Rattle.mq_core.specs.Kinds.Loss.{out_of_fate}
 use Rattle.mq_core.specs.Laws.{Rises}
-use Rattle.mq_core.specs.OnceOut.{leaving_times}
+use Rattle.mq_core.specs.OnceOut.{leaving_times, out_of_fate}
 use Rattle.mq_core.specs.Recurrences.{finds_server, trunk_fates}
 use Rattle.mq_core.specs.Sequences.{IsStream}
 use Rattle.mq_core.specs.Streams.{by_first, pairs_of, picked, sorted}

@@ -3,8 +3,7 @@ use Rattle.std.specs.Prelude.{◌≡◌, ℕ, Bool, true, false, List, [], ◌�
 use Rattle.std.specs.List.{zip}
 use Rattle.mq_core.specs.Came.{came_in}
 use Rattle.mq_core.specs.EmissionOrder.EmissionOrder.{Overtaking}
-use Rattle.mq_core.specs.Kinds.Loss.{out_of_fate}
-use Rattle.mq_core.specs.OnceOut.{once_out}
+use Rattle.mq_core.specs.OnceOut.{once_out, out_of_fate}
 use Rattle.mq_core.specs.Recurrences.{trunk_fates}
 use Rattle.mq_core.specs.Sequences.{IsStream}
 use Rattle.mq_core.specs.Streams.{by_first, pairs_of}

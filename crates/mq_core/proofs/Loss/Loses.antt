@@ -11,7 +11,8 @@ use Rattle.mq_core.specs.Machine.{Visit, Emission, finishes_of, emissions_of, em
 use Rattle.mq_core.specs.Laws.{in_order_of}
 use Rattle.mq_core.specs.Local.{Local}
 use Rattle.mq_core.specs.Handling.{demand_of_job, demand_of_visit, demand_at, latest, queues_up, passes_on, front_leaves, front_begins}
-use Rattle.mq_core.specs.Kinds.Loss.{loss_on, faring_by}
+use Rattle.mq_core.specs.Kinds.Loss.{loss_on}
+use Rattle.mq_core.specs.OnceOut.{faring_by}
 use Rattle.mq_core.specs.Recurrences.{time_or_none}
 use Rattle.mq_core.specs.Tallies.{arrival_or}
 use Rattle.mq_core.specs.declared.model.Demand.{Demand}

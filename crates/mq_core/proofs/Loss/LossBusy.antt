@@ -10,7 +10,8 @@ use Rattle.mq_core.specs.Event.Event.{Arrive, Finish}
 use Rattle.mq_core.specs.Machine.{Visit, Emission, finishes_of}
 use Rattle.mq_core.specs.Local.{Local}
 use Rattle.mq_core.specs.Handling.{demand_of_job, demand_of_visit, demand_at, latest, queues_up, passes_on, front_leaves, front_begins, one_if_some}
-use Rattle.mq_core.specs.Kinds.Loss.{loss_on, faring_by}
+use Rattle.mq_core.specs.Kinds.Loss.{loss_on}
+use Rattle.mq_core.specs.OnceOut.{faring_by}
 use Rattle.mq_core.specs.Tallies.{sum_below, emission_at}
 use Rattle.mq_core.specs.declared.model.Demand.{Demand}
 use Rattle.mq_core.specs.declared.model.Rows.{Rows}

@@ -8,7 +8,7 @@ use Rattle.mq_core.specs.Machine.{Visit, Emission}
 use Rattle.mq_core.specs.Handling.{demand_of_job}
 use Rattle.mq_core.specs.Laws.{Rises}
 use Rattle.mq_core.specs.Recurrences.{time_or_none, is_past, is_admitted, loss_fates}
-use Rattle.mq_core.specs.Kinds.Loss.{faring_by, faring_from}
+use Rattle.mq_core.specs.OnceOut.{faring_by, faring_from}
 use Rattle.mq_core.specs.declared.model.Demand.{Demand}
 use Rattle.mq_core.specs.declared.model.Fate.{Fate}
 use Rattle.mq_core.specs.declared.model.Fate.TheVariants.{Departs, Held, Lost}

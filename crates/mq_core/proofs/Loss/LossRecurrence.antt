@@ -2,7 +2,7 @@
 use Rattle.std.proofs.Common.{[], ap, arith, map, refl, ℕ, ◌∙◌}
 use Rattle.mq_base.proofs.lemmas.Each.{Each-weaker}
 use Rattle.mq_core.specs.SequenceLaws.{arrives_of}
-use Rattle.mq_core.specs.Kinds.Loss.{out_of_fate}
+use Rattle.mq_core.specs.OnceOut.{out_of_fate}
 use Rattle.mq_core.specs.Handling.{demand_of_job}
 use Rattle.mq_core.specs.Kinds.Loss.{loss}
 use Rattle.mq_core.specs.Recurrences.{loss_fates}

@@ -4,7 +4,7 @@ use Rattle.std.specs.Prelude.{slice_get}
 use Rattle.std.specs.List.{AllByRecursion as Each}
 use Rattle.mq_base.proofs.lemmas.Each.{Each-weaker, Each-filter_if, Each-any}
 use Rattle.mq_core.specs.SequenceLaws.{arrives_of, jobs_of, FatesInTime}
-use Rattle.mq_core.specs.Kinds.Loss.{out_of_fate, faring_from}
+use Rattle.mq_core.specs.OnceOut.{faring_from, out_of_fate}
 use Rattle.mq_core.specs.Fates.{fate_by}
 use Rattle.mq_core.specs.Handling.{demand_of_job}
 use Rattle.mq_core.specs.Laws.{Rises, in_order_of, stream_of}

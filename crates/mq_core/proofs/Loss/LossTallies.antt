@@ -11,7 +11,8 @@ use Rattle.mq_core.specs.Machine.{Visit, Emission, emissions_of, emission_of}
 use Rattle.mq_core.specs.Laws.{in_order_of}
 use Rattle.mq_core.specs.Local.{Local}
 use Rattle.mq_core.specs.Handling.{demand_of_job, latest, queues_up, passes_on, front_leaves}
-use Rattle.mq_core.specs.Kinds.Loss.{loss_on, faring_from}
+use Rattle.mq_core.specs.Kinds.Loss.{loss_on}
+use Rattle.mq_core.specs.OnceOut.{faring_from}
 use Rattle.mq_core.specs.Recurrences.{loss_fates}
 use Rattle.mq_core.specs.Tallies.{emission_at, staying, arrival_or}
 use Rattle.mq_core.specs.declared.model.Demand.{Demand}

@@ -4,7 +4,7 @@ use Rattle.std.proofs.lemmas.Bool.Decides.{nat_tests}
 use Rattle.std.specs.List.{AllByRecursion as Each}
 use Rattle.mq_core.specs.Machine.{Visit, Emission}
 use Rattle.mq_core.specs.Handling.{demand_of_job}
-use Rattle.mq_core.specs.Kinds.Loss.{faring_by, faring_from}
+use Rattle.mq_core.specs.OnceOut.{faring_by, faring_from}
 use Rattle.mq_core.specs.Recurrences.{busy_at, finds_server, trunk_fates}
 use Rattle.mq_core.specs.declared.model.Demand.{Demand}
 use Rattle.mq_core.specs.declared.model.Fate.{Fate}

@@ -11,7 +11,7 @@ use Rattle.mq_core.specs.Machine.{Visit, Emission, emissions_of, emission_of, fi
 use Rattle.mq_core.specs.Local.{Local}
 use Rattle.mq_core.specs.Fates.{fate_by, unless_lost}
 use Rattle.mq_core.specs.Handling.{demand_of_job, demand_of_visit, latest, passes_on}
-use Rattle.mq_core.specs.Kinds.Loss.{faring_by}
+use Rattle.mq_core.specs.OnceOut.{faring_by}
 use Rattle.mq_core.specs.Kinds.Trunk.{joins_service, trunk_on}
 use Rattle.mq_core.specs.Tallies.{emission_at, sum_below}
 use Rattle.mq_core.specs.declared.model.Demand.{Demand}

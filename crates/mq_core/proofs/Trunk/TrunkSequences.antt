@@ -3,7 +3,7 @@ use Rattle.std.proofs.Common.{List, [], ap, arith, Bool, cond, false, length, ma
 use Rattle.std.specs.List.{AllByRecursion as Each}
 use Rattle.mq_core.specs.Fates.{fate_by}
 use Rattle.mq_core.specs.Handling.{demand_of_job}
-use Rattle.mq_core.specs.Kinds.Loss.{faring_from}
+use Rattle.mq_core.specs.OnceOut.{faring_from}
 use Rattle.mq_core.specs.Machine.{Visit}
 use Rattle.mq_core.specs.Recurrences.{finds_server, trunk_fates}
 use Rattle.mq_core.specs.SequenceLaws.{FatesInTime}

@@ -10,7 +10,7 @@ use Rattle.mq_core.specs.Event.Event.{Arrive, Finish}
 use Rattle.mq_core.specs.Machine.{Visit, Emission, finishes_of, emissions_of, emission_of}
 use Rattle.mq_core.specs.Local.{Local}
 use Rattle.mq_core.specs.Handling.{demand_of_job, demand_of_visit, demand_at, latest, passes_on}
-use Rattle.mq_core.specs.Kinds.Loss.{faring_by}
+use Rattle.mq_core.specs.OnceOut.{faring_by}
 use Rattle.mq_core.specs.Kinds.Trunk.{joins_service, trunk_on}
 use Rattle.mq_core.specs.Recurrences.{busy_at, finds_server}
 use Rattle.mq_core.specs.Tallies.{emission_at, one_if_none, staying, sum_below}

@@ -1,20 +1,20 @@
 -- A loss station, as one value: one server, so many places, and two outputs.
-use Rattle.std.specs.Prelude.{List, [], false, if◌then◌else◌, length, map, nat_lt, suc, true, ℕ, ◌&&◌, ◌==◌, ◌∷◌}
+use Rattle.std.specs.Prelude.{List, [], false, if◌then◌else◌, length, map, nat_lt, true, ℕ, ◌&&◌, ◌==◌, ◌∷◌}
 use Rattle.std.proofs.Common.{Bool}
 use Rattle.mq_core.specs.Behaviour.{Behaviour}
 use Rattle.mq_core.specs.Came.{Came}
 use Rattle.mq_core.specs.Handling.{demand_of_job, one_if_some, latest, passes_on, queues_up, front_leaves}
 use Rattle.mq_core.specs.EmissionOrder.EmissionOrder.{Mixed}
 use Rattle.mq_core.specs.Local.{empty, Local}
-use Rattle.mq_core.specs.Machine.{Emission, Visit, Reaction}
-use Rattle.mq_core.specs.OnceOut.{founds_of, once_out}
+use Rattle.mq_core.specs.Machine.{Visit, Reaction}
+use Rattle.mq_core.specs.OnceOut.{faring_from, founds_of, once_out, out_of_fate}
 use Rattle.mq_core.specs.Ranges.{columns_of_demand, is_sound_demand, is_within}
 use Rattle.mq_core.specs.Recurrences.{loss_fates}
 use Rattle.mq_core.specs.Tallies.{emission_at}
 use Rattle.mq_core.specs.Told.{IsTold}
 use Rattle.mq_core.specs.declared.model.Demand.{Demand}
 use Rattle.mq_core.specs.declared.model.Fate.{Fate}
-use Rattle.mq_core.specs.declared.model.Fate.TheVariants.{Departs, Held, Lost}
+use Rattle.mq_core.specs.declared.model.Fate.TheVariants.{Departs, Lost}
 use Rattle.mq_core.specs.declared.model.Rows.{Rows}
 use Rattle.mq_core.specs.Event.{Event}
 use Rattle.mq_core.specs.Event.Event.{Arrive, Finish}
@@ -27,24 +27,6 @@ loss_on rows places demand visits local now (Arrive time node port job) =
     then queues_up rows demand visits local now local.queue (latest visits)
     else passes_on local 1 (latest visits)
 loss_on rows places demand visits local now (Finish time node server position) = front_leaves rows demand visits local now local.queue
-
--- the output by which a visit leaves a loss station
-abbrev pub out_of_fate : Fate → ℕ
-out_of_fate (Departs time) = 0
-out_of_fate Lost = 1
-out_of_fate Held = 0
-
--- what a visit lets out that fares so: by output 0 as it departs, or by output 1 at once where it is lost
-abbrev pub faring_by : ℕ → Fate → Visit → Emission
-faring_by position (Departs time) visit = record { out = 0; position = position; job = visit.job; time = time }
-faring_by position Lost visit = record { out = 1; position = position; job = visit.job; time = visit.arrive }
-faring_by position Held visit = record { out = 0; position = position; job = visit.job; time = visit.arrive }
-
--- what these visits let out that fare so, the first at this position
-abbrev pub faring_from : ℕ → List Fate → List Visit → List Emission
-faring_from position [] visits = []
-faring_from position (fate ∷ fates) [] = []
-faring_from position (fate ∷ fates) (visit ∷ visits) = faring_by position fate visit ∷ faring_from (suc position) fates visits
 
 -- the fates of the arrivals
 abbrev pub loss_by : Rows → ℕ → Demand → Came → List Fate

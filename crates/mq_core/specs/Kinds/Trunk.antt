@@ -5,10 +5,9 @@ use Rattle.mq_core.specs.Behaviour.{Behaviour}
 use Rattle.mq_core.specs.Came.{Came}
 use Rattle.mq_core.specs.Handling.{begins, demand_of_job, latest, passes_on}
 use Rattle.mq_core.specs.EmissionOrder.EmissionOrder.{Overtaking}
-use Rattle.mq_core.specs.Kinds.Loss.{faring_from, out_of_fate}
 use Rattle.mq_core.specs.Local.{empty, Local}
 use Rattle.mq_core.specs.Machine.{Visit, Reaction}
-use Rattle.mq_core.specs.OnceOut.{founds_of, once_out}
+use Rattle.mq_core.specs.OnceOut.{faring_from, founds_of, once_out, out_of_fate}
 use Rattle.mq_core.specs.Ranges.{columns_of_demand, is_sound_demand, is_within}
 use Rattle.mq_core.specs.Recurrences.{trunk_fates}
 use Rattle.mq_core.specs.Tallies.{emission_at}
