@@ -98,14 +98,6 @@ pub record KeepsItems (kind : Kind) (stream : Stream) : Type 0 where
 abbrev pub OrdersKeepItems : Type 0
 OrdersKeepItems = (kind : Kind) (stream : Stream) → KeepsItems kind stream
 
--- a merge of a merge with more is the merge of all, and a merge has as many items
-pub record IsMerge (xs ys : List (ℕ × ℕ)) : Type 0 where
-  pub twice : by_first (by_first xs ++ ys) ≡ by_first (xs ++ ys)
-  pub long : length (by_first xs) ≡ length xs
-
-abbrev pub MergesTwice : Type 0
-MergesTwice = (xs ys : List (ℕ × ℕ)) → IsMerge xs ys
-
 -- the arrivals and the streams of a node never go back in time
 pub record IsInOrder (s : Station Local) : Type 0 where
   pub arrivals : Rises (λ a b. a ≤ b) (arrives_of s.visits)

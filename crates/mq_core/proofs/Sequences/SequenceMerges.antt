@@ -3,7 +3,7 @@ use Rattle.std.proofs.Common.{◌≡◌, ℕ, suc, Bool, true, false, cond, eqb,
 use Rattle.std.proofs.lemmas.List.{map-append, length-map}
 use Rattle.std.specs.Prelude.{filter, slice_get}
 use Rattle.std.specs.List.{zip, flat_map}
-use Rattle.mq_core.specs.SequenceLaws.{ArrivalsAreStreams, MergesTwice, jobs_of, arrives_of, read_from}
+use Rattle.mq_core.specs.SequenceLaws.{ArrivalsAreStreams, jobs_of, arrives_of, read_from}
 use Rattle.mq_core.specs.Alone.{came}
 use Rattle.mq_core.specs.Sequences.{rows_at}
 use Rattle.mq_core.specs.Event.{Event, time_of, job_of}
@@ -24,12 +24,8 @@ use Rattle.mq_core.specs.declared.model.Plan.{Plan}
 use Rattle.mq_core.specs.declared.model.Rows.{Rows}
 use Rattle.mq_core.proofs.EachKind.AloneRuns.{visits-handled}
 use Rattle.mq_core.proofs.EachKind.Ends.{nothing-pending}
-use Rattle.mq_core.proofs.lemmas.Orders.{in_order_of-map, in_order_of-length}
-use Rattle.mq_core.proofs.lemmas.Rising.{in_order_of-append_left}
+use Rattle.mq_core.proofs.lemmas.Orders.{in_order_of-map}
 use Rattle.mq_core.proofs.Networks.Whole.{arrivals-read}
-
-pub merges-twice : MergesTwice
-merges-twice xs ys = record { twice = in_order_of-append_left (λ (p : ℕ × ℕ). p.0) xs ys; long = in_order_of-length (λ (p : ℕ × ℕ). p.0) xs }
 
 -- the time, the port and the job of an event
 abbrev event_item : Event → ℕ × ℕ × ℕ
