@@ -1,11 +1,14 @@
--- What a sound network gives: outputs that are read at most once, and inputs that are outputs.
+-- What a sound network gives: its limits, outputs that are read at most once, and inputs that are outputs.
 use Rattle.std.proofs.Common.{◌≡◌, ℕ, zero, suc, Bool, true, false, List, [], ◌∷◌, ◌++◌, length, Some, sym, refl, ap, ◌∙◌, subst, eq-eqb}
 use Rattle.std.proofs.lemmas.Bool.{and_parts}
 use Rattle.std.proofs.lemmas.List.Folds.{list_any-append}
-use Rattle.std.specs.Prelude.{◌&&◌, ◌||◌, ◌==◌, not, map, slice_get, IsTrue}
+use Rattle.std.specs.Prelude.{◌&&◌, ◌||◌, ◌==◌, ◌^◌, nat_le, not, map, slice_get, IsTrue}
 use Rattle.std.specs.List.{flat_map, list_all, list_any}
-use Rattle.mq_core.specs.Sound.{is_sound, is_sound_node, are_distinct, same_input, mentions_from, columns_of_kind}
-use Rattle.mq_core.specs.Wiring.{inputs_of}
+use Rattle.std.specs.Str.{bytes_eq}
+use Rattle.mq_core.specs.Names.{is_name}
+use Rattle.mq_core.specs.Ranges.{is_within}
+use Rattle.mq_core.specs.Sound.{is_sound, is_sound_node, are_distinct, same_input, mentions_from, columns_of_kind, version_of}
+use Rattle.mq_core.specs.Wiring.{inputs_of, is_source_kind}
 use Rattle.mq_core.proofs.Networks.Wired.{IsReadOnce}
 use Rattle.mq_core.specs.declared.model.Input.{Input}
 use Rattle.mq_core.specs.declared.model.Network.{Network}
@@ -99,17 +102,33 @@ distinct-read_once (node ∷ nodes) d u out (suc v) q (suc w) r h k =
     let both = distinct-read_once nodes (distinct-behind node.inputs (all_inputs nodes) d) u out v q w r h k in
     (ap suc both.0, both.1)
 
--- the parts of a sound network that its wiring needs
-record Parts (net : Network) : Type 0 where
-  each : list_all (is_sound_node (length net.columns) net.nodes) net.nodes ≡ true
-  distinct : are_distinct same_input (all_inputs net.nodes) ≡ true
+-- the parts of a sound network
+pub record Parts (net : Network) : Type 0 where
+  pub kinds : list_all (λ (node : Node). nat_le (version_of node.kind) net.version) net.nodes ≡ true
+  pub few : nat_le (length net.nodes) 64 ≡ true
+  pub early : nat_le net.bound (2 ^ 60) ≡ true
+  pub each : list_all (is_sound_node (length net.columns) net.nodes) net.nodes ≡ true
+  pub distinct : are_distinct same_input (all_inputs net.nodes) ≡ true
 
-parts : (net : Network) → IsTrue (is_sound net) → Parts net
+pub parts : (net : Network) → IsTrue (is_sound net) → Parts net
 parts net sound =
     let a = and_parts _ (mentions_from 0 (length net.columns) (flat_map (λ (node : Node). columns_of_kind node.kind) net.nodes)) sound in
     let b = and_parts _ (are_distinct same_input (all_inputs net.nodes)) a.0 in
     let c = and_parts _ (list_all (is_sound_node (length net.columns) net.nodes) net.nodes) b.0 in
-    record { each = c.1; distinct = b.1 }
+    let d = and_parts _ (are_distinct bytes_eq net.columns) c.0 in
+    let e = and_parts _ (list_all is_name net.columns) d.0 in
+    let f = and_parts _ (are_distinct bytes_eq (map (λ (node : Node). node.name) net.nodes)) e.0 in
+    let g = and_parts _ (list_any (λ (node : Node). is_source_kind node.kind) net.nodes) f.0 in
+    let h = and_parts _ (nat_le net.bound (2 ^ 60)) g.0 in
+    let i = and_parts _ (nat_le (length net.columns) 16) h.0 in
+    let j = and_parts _ (is_within 1 64 (length net.nodes)) i.0 in
+    record {
+      kinds = (and_parts (is_within 1 2 net.version) _ j.0).1;
+      few = (and_parts (nat_le 1 (length net.nodes)) (nat_le (length net.nodes) 64) j.1).1;
+      early = h.1;
+      each = c.1;
+      distinct = b.1;
+    }
 
 -- in a sound network no output is read twice
 pub sound-read_once : (net : Network) → IsTrue (is_sound net) → IsReadOnce net.nodes

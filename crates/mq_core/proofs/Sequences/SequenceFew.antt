@@ -1,14 +1,11 @@
 -- That no node has more visits than there are rows, where none copies, as in networks of the first version.
-use Rattle.std.proofs.Common.{Bool, List, None, Option, Some, [], ap, arith, cond, eq-eqb, eqb, eqb-true, false, length, length-append, ltb, ltb-true, refl, subst, suc, true, zero, ℕ, ◌*◌, ◌^◌, ◌++◌, ◌+◌, ◌<◌, ◌∷◌, ◌≡◌, ◌≤◌}
+use Rattle.std.proofs.Common.{Bool, List, None, Option, Some, [], ap, arith, cond, eq-eqb, eqb, eqb-true, false, length, length-append, ltb, ltb-true, refl, subst, suc, true, zero, ℕ, ◌*◌, ◌++◌, ◌+◌, ◌<◌, ◌∷◌, ◌≡◌, ◌≤◌}
 use Rattle.std.proofs.lemmas.Bool.Decides.{nat_tests}
 use Rattle.std.proofs.lemmas.Bool.{and_parts}
-use Rattle.std.specs.List.{flat_map, list_all, list_any}
-use Rattle.std.specs.Prelude.{IfSome, map, nat_le, slice_get}
-use Rattle.std.specs.Str.{bytes_eq}
+use Rattle.std.specs.List.{list_all}
+use Rattle.std.specs.Prelude.{IfSome, nat_le, slice_get}
 use Rattle.mq_base.proofs.lemmas.Lists.{some_inj}
-use Rattle.mq_core.specs.Names.{is_name}
-use Rattle.mq_core.specs.Ranges.{is_within}
-use Rattle.mq_core.specs.Sound.{are_distinct, columns_of_kind, is_sound_node, mentions_from, same_input, version_of}
+use Rattle.mq_core.specs.Sound.{version_of}
 use Rattle.mq_core.specs.SequenceLaws.{FirstVersionCopiesNothing, NoNodeCopies, VisitsAreFew, copies_of}
 use Rattle.mq_core.specs.Event.{Event, earliest}
 use Rattle.mq_core.specs.Event.Event.{Arrive, Finish}
@@ -20,7 +17,7 @@ use Rattle.mq_core.specs.Standard.{node_jobs, node_on, node_opening, standard_ha
 use Rattle.mq_core.specs.StandardTable.{run_of, standard}
 use Rattle.mq_core.specs.Tallies.{sum_below}
 use Rattle.mq_core.specs.Theorems.{IsReadFor}
-use Rattle.mq_core.specs.Wiring.{is_source_kind, rank_in, reader_from}
+use Rattle.mq_core.specs.Wiring.{rank_in, reader_from}
 use Rattle.mq_core.specs.declared.model.Node.{Node}
 use Rattle.mq_core.specs.declared.model.Plan.{Plan}
 use Rattle.mq_core.specs.declared.model.Rows.{Rows}
@@ -30,6 +27,7 @@ use Rattle.mq_core.proofs.EachKind.Facts.{node_fact, standard-keeps}
 use Rattle.mq_core.proofs.EachKind.LawTable.{laws_of, limits_of}
 use Rattle.mq_core.proofs.Events.Falls.{Falls, never-grows-from_start}
 use Rattle.mq_core.proofs.Events.Kept.{Fact}
+use Rattle.mq_core.proofs.Networks.Soundness.{parts}
 use Rattle.mq_core.proofs.Networks.Whole.{starts-begin}
 use Rattle.mq_core.proofs.Networks.Wired.{feeds_forward, has_inputs, reads-from}
 
@@ -178,18 +176,7 @@ kinds-of_version version (n ∷ nodes) h (suc v) node e = kinds-of_version versi
 
 pub first-version_copies_nothing : FirstVersionCopiesNothing
 first-version_copies_nothing net sound first v node e =
-    let a = and_parts _ (mentions_from 0 (length net.columns) (flat_map (λ (n : Node). columns_of_kind n.kind) net.nodes)) sound in
-    let b = and_parts _ (are_distinct same_input (flat_map (λ (n : Node). n.inputs) net.nodes)) a.0 in
-    let c = and_parts _ (list_all (is_sound_node (length net.columns) net.nodes) net.nodes) b.0 in
-    let d = and_parts _ (are_distinct bytes_eq net.columns) c.0 in
-    let f = and_parts _ (list_all is_name net.columns) d.0 in
-    let g = and_parts _ (are_distinct bytes_eq (map (λ (n : Node). n.name) net.nodes)) f.0 in
-    let h = and_parts _ (list_any (λ (n : Node). is_source_kind n.kind) net.nodes) g.0 in
-    let i = and_parts _ (nat_le net.bound (2 ^ 60)) h.0 in
-    let j = and_parts _ (nat_le (length net.columns) 16) i.0 in
-    let k = and_parts _ (is_within 1 64 (length net.nodes)) j.0 in
-    let l = (and_parts (is_within 1 2 net.version) _ k.0).1 in
-    let own = kinds-of_version net.version net.nodes l v node e in
+    let own = kinds-of_version net.version net.nodes (parts net sound).kinds v node e in
     (limits_of node.kind).first (below (version_of node.kind) net.version own first)
   where
     below : (a b : ℕ) → nat_le a b ≡ true → b ≡ 1 → a ≤ 1
