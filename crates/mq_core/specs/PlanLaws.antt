@@ -5,8 +5,10 @@ use Rattle.mq_core.specs.Results.{servers_in}
 use Rattle.mq_core.specs.Sound.{is_sound_kind, outputs_in}
 use Rattle.mq_core.specs.Theorems.{IsReadFor}
 use Rattle.mq_core.specs.Wiring.{has, inputs_of}
+use Rattle.mq_core.specs.declared.model.Demand.{Demand}
 use Rattle.mq_core.specs.declared.model.Input.{Input}
 use Rattle.mq_core.specs.declared.model.Kind.{Kind}
+use Rattle.mq_core.specs.declared.model.Kind.TheVariants.{Trunk}
 use Rattle.mq_core.specs.declared.model.Network.{Network}
 use Rattle.mq_core.specs.declared.model.Node.{Node}
 use Rattle.mq_core.specs.declared.model.Plan.{Plan}
@@ -18,11 +20,13 @@ pub record NamesOutput (net : Network) (input : Input) : Type 0 where
   pub there : slice_get net.nodes input.node ≡ Some node
   pub out : input.out < outputs_in node.kind
 
--- a node in its limits, whose inputs are outputs of the network
+-- a node in its limits, whose inputs are outputs of the network; one that is no trunk group has at most 8 servers
 pub record IsInLimits (net : Network) (node : Node) : Type 0 where
   pub kind : IsTrue (is_sound_kind (length net.columns) node.kind)
   pub outputs : outputs_in node.kind ≤ 8
   pub servers : servers_in node.kind ≤ 255
+  pub few : ((servers : ℕ) (demand : Demand) → node.kind ≡ Trunk servers demand → ⊥) → servers_in node.kind ≤ 8
+  pub name : length node.name ≤ 32
   pub ports : length node.inputs ≤ 8
   pub reads : (port : ℕ) (input : Input) → slice_get node.inputs port ≡ Some input → NamesOutput net input
 

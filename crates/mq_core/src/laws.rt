@@ -74,7 +74,8 @@ pub fn runs_are_of_networks()
 {}
 
 /// Each node of a plan is in its limits: its numbers, its outputs, at most 8, its servers, at most
-/// 255, and its ports, at most 8, which name outputs of the network.
+/// 255, and at most 8 but at a trunk group, its name, of at most 32 bytes, and its ports, at most 8,
+/// which name outputs of the network.
 pub fn nodes_are_in_limits()
     ensures { NodesAreInLimits }
 {}

@@ -1,7 +1,6 @@
 pub mod Runs
 pub mod Loops
 pub mod JobLines
-pub mod Names
 pub mod NodeTotals
 pub mod Spans
 pub mod NodeTails

@@ -11,7 +11,9 @@ ghost use Rattle.mq_report.specs.Sequences.{sequence_lines};
 ghost use Rattle.mq_report.specs.Text.{fate_words, jobs_text, node_jobs, visit_line, visit_words};
 
 use crate::line::Line;
-use mq_core::{Fate, Kind, Node, Plan, Rows, Run, Visits, orders_rank, runs_have_sequences};
+use mq_core::{
+    Fate, Kind, Node, Plan, Rows, Run, Visits, nodes_are_in_limits, orders_rank, runs_have_sequences,
+};
 use mq_outside::{Gather, Sink, SinkFault, add_bytes};
 use mq_stats::{runs_give_visits, wait_of};
 
@@ -112,6 +114,7 @@ fn add_jobs_at<O: Sink>(
     requires there { slice_get plan.now.net.nodes node ≡ Some declared.now }
     ensures { Adds O.taken O.sure O.faults out.old out.new pending.old pending.new result (node_jobs rows.now declared.now ((run_of plan.now rows.now).stations node)) }
 {
+    nodes_are_in_limits();
     runs_have_sequences();
     runs_give_visits();
     let name = declared.name.as_slice();

@@ -1,20 +1,27 @@
 -- That a plan's nodes are in their limits, and that its order ranks them.
-use Rattle.std.proofs.Common.{Bool, List, None, Option, Some, [], add-zero, append_assoc, arith, cond, false, length, refl, subst, suc, sym, take, true, zero, zero-add, ℕ, ◌++◌, ◌+◌, ◌<◌, ◌∙◌, ◌∷◌, ◌≡◌}
+use Rattle.std.proofs.Common.{Bool, List, None, Option, Some, [], add-zero, append_assoc, arith, cond, false, length, refl, subst, suc, sym, take, true, zero, zero-add, ℕ, ◌++◌, ◌+◌, ◌<◌, ◌∙◌, ◌∷◌, ◌≡◌, ◌≤◌}
 use Rattle.std.proofs.lemmas.Bool.{and_parts}
 use Rattle.std.proofs.lemmas.Bool.Decides.{nat_tests}
 use Rattle.std.proofs.lemmas.List.{append-nil}
 use Rattle.std.specs.List.{list_all}
 use Rattle.std.specs.Option.{option_to_list}
-use Rattle.std.specs.Prelude.{nat_lt, not, slice_get, ◌&&◌}
+use Rattle.std.specs.Prelude.{codes, nat_lt, not, slice_get, ◌&&◌}
+use Rattle.std.specs.Str.{bytes_eq}
 use Rattle.mq_core.specs.Names.{is_name}
 use Rattle.mq_core.specs.PlanLaws.{IsRankedBehind, NamesOutput, NodesAreInLimits, OrdersRank, RowsTellDemands}
-use Rattle.mq_core.specs.Sound.{is_output, is_sound_count, outputs_in}
+use Rattle.mq_core.specs.Results.{servers_in}
+use Rattle.mq_core.specs.Sound.{is_output, is_sound_count, is_sound_kind, outputs_in}
 use Rattle.mq_core.specs.Wiring.{first_ready, has, inputs_of, ranked_after}
+use Rattle.mq_core.specs.declared.model.Demand.{Demand}
 use Rattle.mq_core.specs.declared.model.Input.{Input}
+use Rattle.mq_core.specs.declared.model.Kind.{Kind}
+use Rattle.mq_core.specs.declared.model.Kind.TheVariants.{Delay, Fork, ForkJoin, Join, Loss, Server, Source, Split, Tandem, Trunk}
 use Rattle.mq_core.specs.declared.model.Network.{Network}
 use Rattle.mq_core.specs.declared.model.Node.{Node}
 use Rattle.mq_base.proofs.lemmas.Lists.{some_inj}
 use Rattle.mq_core.proofs.EachKind.LawTable.{limits_of}
+use Rattle.mq_core.proofs.ForkJoin.ForkJoinShapes.{all-servers, branches-shaped}
+use Rattle.mq_core.proofs.Tandem.TandemShapes.{sound-stages}
 use Rattle.mq_core.proofs.Networks.Soundness.{sound-node}
 use Rattle.mq_core.proofs.Networks.Wired.{all-inputs}
 
@@ -101,6 +108,26 @@ input-at net (i ∷ is) h zero input e = subst (NamesOutput net) (some_inj i inp
     go (Some node) s k = record { node = node; there = s; out = let t : nat_lt i.out (outputs_in node.kind) ≡ true = k in grind (arith, nat_tests) }
 input-at net (i ∷ is) h (suc port) input e = input-at net is (and_parts (is_output (slice_get net.nodes i.node) i.out) _ h).1 port input e
 
+-- all kinds but a trunk group have at most 8 servers
+servers-few : (columns : ℕ) (kind : Kind) → is_sound_kind columns kind ≡ true → ((servers : ℕ) (demand : Demand) → kind ≡ Trunk servers demand → ⊥) → servers_in kind ≤ 8
+servers-few columns Source h other = omega arith
+servers-few columns (Server demand) h other = omega arith
+servers-few columns (Delay demand) h other = omega arith
+servers-few columns (Loss places demand) h other = omega arith
+servers-few columns (Tandem stages) h other = let l = (sound-stages columns stages h).few in omega arith
+servers-few columns (ForkJoin branches) h other = let l = (branches-shaped columns branches h).few in let e = all-servers branches in omega arith
+servers-few columns (Split route) h other = omega arith
+servers-few columns (Fork outputs) h other = omega arith
+servers-few columns Join h other = omega arith
+servers-few columns (Trunk servers demand) h other = absurd (other servers demand refl)
+
+name-short : (name : List ℕ) → is_name name ≡ true → length name ≤ 32
+name-short [] h = absurd cc
+name-short (b ∷ more) h =
+    let parts = (and_parts _ (not (bytes_eq (b ∷ more) (codes "from"))) h).0 in
+    let short : nat_lt (length more) 32 ≡ true = (and_parts _ (nat_lt (length more) 32) parts).1 in
+    grind (arith, nat_tests)
+
 pub nodes-are-in-limits : NodesAreInLimits
 nodes-are-in-limits plan v node e =
     let whole = sound-node plan.net plan.sound v node e in
@@ -111,6 +138,8 @@ nodes-are-in-limits plan v node e =
       kind = c.0;
       outputs = (limits_of node.kind).outputs (length plan.net.columns) c.0;
       servers = (limits_of node.kind).servers (length plan.net.columns) c.0;
+      few = servers-few (length plan.net.columns) node.kind c.0;
+      name = name-short node.name a.1;
       ports = (limits_of node.kind).ports (length node.inputs) c.1;
       reads = input-at plan.net node.inputs b.1;
     }

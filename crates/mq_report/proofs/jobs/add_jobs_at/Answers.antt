@@ -4,7 +4,6 @@ use Rattle.mq_stats.specs.Numbers.{AreVisits}
 use Rattle.mq_report.specs.Sequences.{sequence_lines}
 use Rattle.mq_report.specs.Text.{node_jobs}
 use Rattle.mq_report.proofs.JobLines.{jobs-are}
-use Rattle.mq_report.proofs.Names.{names-short}
 use Rattle.mq_report.proofs.Runs.{visits_are, visits_inside}
 use Rattle.mq_report.proofs.jobs.add_jobs_at.Given as Given
 use Rattle.mq_report.proofs.jobs.add_jobs_at.Goals as goal
@@ -15,7 +14,7 @@ get-visits-requires g c = visits_inside c.runs_have_sequences.ensures c.args.pla
 pub add_visits-requires-clause-name : goal.add_visits-requires-clause-name
 add_visits-requires-clause-name g c =
     let long : length c.as_slice-name.result.now ≡ length c.args.declared.now.name = ap length c.as_slice-name.ensures in
-    let short = names-short c.args.plan.now c.args.node c.args.declared.now c.requires.there in
+    let short = (c.nodes_are_in_limits.ensures c.args.plan.now c.args.node c.args.declared.now c.requires.there).name in
     omega (arith, long, short)
 
 pub add_visits-requires-clause-visits : goal.add_visits-requires-clause-visits
