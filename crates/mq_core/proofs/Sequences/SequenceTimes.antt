@@ -20,7 +20,8 @@ use Rattle.mq_core.proofs.EachKind.StationLaws.{HasFound}
 use Rattle.mq_core.proofs.EachKind.Tallied.{founds-are-counts}
 use Rattle.mq_core.proofs.Sequences.StationTable.{nodes-stay}
 
-by-position : (arrive : List ℕ) (fate : List Fate) → Each (λ (p : ℕ × Fate). LeavesFrom p.0 p.1) (zip arrive fate) → (k a d : ℕ) → slice_get arrive k ≡ Some a → slice_get fate k ≡ Some (Departs d) → a ≤ d
+-- at each position a departure is no earlier than the time there
+pub by-position : (arrive : List ℕ) (fate : List Fate) → Each (λ (p : ℕ × Fate). LeavesFrom p.0 p.1) (zip arrive fate) → (k a d : ℕ) → slice_get arrive k ≡ Some a → slice_get fate k ≡ Some (Departs d) → a ≤ d
 by-position [] fate h k a d e f = absurd cc
 by-position (x ∷ xs) [] h k a d e f = absurd cc
 by-position (x ∷ xs) (y ∷ ys) h zero a d e f =
