@@ -94,16 +94,20 @@ BusyIsServices =
     let end = (run_of plan rows).stations v in
     end.busy ≡ sum_below (length end.visits) (λ position. unless_lost (fate_of node.kind end position) (service_of rows node.kind (slice_get end.visits position)))
 
--- a visit to a node that comes at this time
-pub record ComesAt (s : State Local) (time : ℕ) : Type 0 where
+-- a visit to one of these nodes that comes at this time
+pub record ComesAt (nodes : List Node) (s : State Local) (time : ℕ) : Type 0 where
   pub node : ℕ
+  pub declared : Node
+  pub there : slice_get nodes node ≡ Some declared
   pub position : ℕ
   pub inside : position < length (s.stations node).visits
   pub at : arrival_or 0 (slice_get (s.stations node).visits position) ≡ time
 
--- an emission of a node at this time
-pub record LeavesAt (s : State Local) (time : ℕ) : Type 0 where
+-- an emission of one of these nodes at this time
+pub record LeavesAt (nodes : List Node) (s : State Local) (time : ℕ) : Type 0 where
   pub node : ℕ
+  pub declared : Node
+  pub there : slice_get nodes node ≡ Some declared
   pub before : List Emission
   pub emission : Emission
   pub after : List Emission
@@ -114,7 +118,7 @@ pub record LeavesAt (s : State Local) (time : ℕ) : Type 0 where
 pub record IsLatest (plan : Plan) (s : State Local) (span : ℕ) : Type 0 where
   pub came : (v : ℕ) → v < length plan.net.nodes → AllByRecursion (λ (x : Visit). x.arrive ≤ span) (s.stations v).visits
   pub left : (v : ℕ) → v < length plan.net.nodes → AllByRecursion (λ (m : Emission). m.time ≤ span) (s.stations v).emitted
-  pub reached : (span ≡ 0) ⊎ (ComesAt s span ⊎ LeavesAt s span)
+  pub reached : (span ≡ 0) ⊎ (ComesAt plan.net.nodes s span ⊎ LeavesAt plan.net.nodes s span)
 
 -- the clock at the end is the span
 abbrev pub SpanIsLatest : Type 0

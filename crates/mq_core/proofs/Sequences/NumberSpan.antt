@@ -1,26 +1,17 @@
 -- That the span of a run is the latest time in its sequences.
-use Rattle.std.proofs.Common.{List, None, Option, Some, [], ap, arith, cond, filter, fold, inl, inr, le_antisymm, length, length-append, map, max, option_map, refl, slice_get, subst, suc, sym, zero, ℕ, ◌++◌, ◌+◌, ◌<◌, ◌∙◌, ◌∷◌, ◌≡◌, ◌≤◌, ◌⊎◌}
-use Rattle.std.proofs.lemmas.List.{append-nil}
+use Rattle.std.proofs.Common.{List, None, Option, Some, [], ap, arith, fold, inl, inr, le_antisymm, length, map, max, option_map, refl, slice_get, subst, suc, zero, ℕ, ◌++◌, ◌+◌, ◌<◌, ◌∙◌, ◌∷◌, ◌≡◌, ◌≤◌, ◌⊎◌}
 use Rattle.std.specs.List.{AllByRecursion as Each}
 use Rattle.mq_base.proofs.lemmas.Each.{Each-map}
-use Rattle.mq_core.specs.Alone.{came}
 use Rattle.mq_core.specs.Sequences.{sequence_span, greatest_time, time_of_fate, visits_by_node}
-use Rattle.mq_core.specs.Event.{Event, job_of, time_of}
-use Rattle.mq_core.specs.Event.Event.{Arrive, Finish}
 use Rattle.mq_core.specs.Fates.{ComesAt, IsLatest, LeavesAt, fate_by, fate_of, leaves_with}
 use Rattle.mq_core.specs.KindTable.{behaviour_of}
-use Rattle.mq_core.specs.Laws.{by_time, is_arrival_at, port_of, read_by}
 use Rattle.mq_core.specs.Local.{Local}
-use Rattle.mq_core.specs.Machine.{Emission, State, Station, Visit, emissions_of, opened}
+use Rattle.mq_core.specs.Machine.{Emission, State, Station, Visit}
 use Rattle.mq_core.specs.NumberLaws.{SpanIsSequences}
-use Rattle.mq_core.specs.OnTime.{standard-on_time}
 use Rattle.mq_core.specs.Results.{fates_from, or_held, visits_of}
-use Rattle.mq_core.specs.Run.{run_length, starts}
-use Rattle.mq_core.specs.Standard.{node_on, standard_handle, standard_jobs, standard_opening}
-use Rattle.mq_core.specs.StandardTable.{run_of, standard}
+use Rattle.mq_core.specs.StandardTable.{run_of}
 use Rattle.mq_core.specs.Tallies.{arrival_or}
 use Rattle.mq_core.specs.Theorems.{IsReadFor}
-use Rattle.mq_core.specs.Wiring.{is_source, outputs_read}
 use Rattle.mq_core.specs.declared.model.Fate.TheVariants.{Departs}
 use Rattle.mq_core.specs.declared.model.Kind.{Kind}
 use Rattle.mq_core.specs.declared.model.Node.{Node}
@@ -29,16 +20,11 @@ use Rattle.mq_core.specs.declared.model.Rows.{Rows}
 use Rattle.mq_core.proofs.Sequences.NumberRefusals.{sequences-of_node}
 use Rattle.mq_core.proofs.Sequences.StationTable.{nodes-leave, nodes-reach}
 use Rattle.mq_core.proofs.Counting.SequenceNumbers.{LeavesAs}
-use Rattle.mq_core.proofs.EachKind.Facts.{network-fits}
-use Rattle.mq_core.proofs.EachKind.AloneRuns.{visits-handled}
-use Rattle.mq_core.proofs.EachKind.Ends.{nothing-pending, some-inside as some-node}
+use Rattle.mq_core.proofs.EachKind.Ends.{some-inside as some-node}
 use Rattle.mq_core.proofs.EachKind.LawTable.{exits_of}
 use Rattle.mq_core.proofs.EachKind.Span.{span-is_latest}
 use Rattle.mq_core.proofs.EachKind.StationLaws.{Reaches}
-use Rattle.mq_core.proofs.Events.Kept.{Keeps, kept}
 use Rattle.mq_core.proofs.Lists.NumberLists.{greatest-bounds, greatest-least}
-use Rattle.mq_core.proofs.Networks.Whole.{arrivals-read, starts-begin}
-use Rattle.mq_core.proofs.Networks.Wired.{feeds_forward}
 
 at-map : {X : Type 0} (f : X → ℕ) (xs : List X) (i : ℕ) (x : X) → slice_get xs i ≡ Some x → slice_get (map f xs) i ≡ Some (f x)
 at-map f [] i x h = absurd cc
@@ -76,53 +62,12 @@ fates-early kind now s left k (x ∷ xs) all =
     one None e = omega arith
     one (Some m) e = let l = left k x m here e in early-fate kind now m x l.1 l.0
 
-nothing-came : (visits : List Visit) → came visits ≡ [] → visits ≡ []
-nothing-came [] h = refl
-nothing-came (x ∷ xs) h = absurd cc
-
--- where there is no node nothing leaves
-module _ (plan : Plan) (rows : Rows) where
-  abbrev Silent : ℕ → Station Local → List Event → ℕ → Type 0
-  Silent v s fs now = slice_get plan.net.nodes v ≡ None → s.emitted ≡ []
-
-  quiet-on : (o : Option Node) (emitted : List Emission) (visits : List Visit) (local : Local) (now : ℕ) (event : Event) → o ≡ None → emitted ≡ [] → emitted ++ emissions_of now visits (node_on rows o visits local now event).releases ≡ []
-  quiet-on None emitted visits local now event h e = append-nil emitted ∙ e
-  quiet-on (Some node) emitted visits local now event h e = absurd cc
-
-  silent-keeps : Keeps (standard plan rows) Silent
-  unfolding standard_opening standard_handle
-  silent-keeps =
-      record {
-        opens = λ v none. refl;
-        waits = λ v s fs now later h l f. h;
-        fits = network-fits plan rows;
-        arrives = λ v port job s fs now h soon fit none. quiet-on (slice_get plan.net.nodes v) s.emitted (s.visits ++ record { job = job; arrive = now; port = port; found = standard_jobs plan rows v s.visits s.local } ∷ []) s.local now (Arrive now v port job) none (h none);
-        ends = λ v server position s fs rest now h first none. quiet-on (slice_get plan.net.nodes v) s.emitted s.visits s.local now (Finish now v server position) none (h none);
-      }
-
-  silent-end : (v : ℕ) → slice_get plan.net.nodes v ≡ None → ((run_of plan rows).stations v).emitted ≡ []
-  silent-end v none =
-      kept (standard plan rows) Silent silent-keeps (standard-on_time plan rows) (feeds_forward plan (standard plan rows) refl refl) (starts rows) (starts-begin (standard plan rows) 0 rows.source rows.time) (run_length plan.net.nodes rows) v none
-
 module _ (plan : Plan) (rows : Rows) (read : IsReadFor plan.net rows) where
   abbrev end : State Local
   end = run_of plan rows
 
   abbrev latest : IsLatest plan end end.clock
   latest = span-is_latest plan rows read
-
-  -- where there is no node nothing comes
-  no-visits : (v : ℕ) → slice_get plan.net.nodes v ≡ None → (end.stations v).visits ≡ []
-  no-visits v none =
-      nothing-came (end.stations v).visits
-      (visits-handled (standard plan rows) v (run_length plan.net.nodes rows) (opened (standard plan rows) (starts rows))
-      ∙ ap (map {B = ℕ × ℕ × ℕ} (λ e. (time_of e, port_of e, job_of e)))
-      (arrivals-read plan rows (standard plan rows) (standard-on_time plan rows) refl refl (run_length plan.net.nodes rows) v read (nothing-pending plan rows read)
-      ∙ no-arrivals (slice_get plan.net.nodes v) none))
-    where
-      no-arrivals : (o : Option Node) → o ≡ None → by_time (cond (is_source o) (filter (is_arrival_at v) (starts rows)) (read_by (run_of plan rows) v 0 (outputs_read o))) ≡ []
-      no-arrivals None h = refl
-      no-arrivals (Some node) h = absurd cc
 
   -- the sequences of a node reach to their greatest time
   sequence-within : (v : ℕ) (node : Node) → slice_get plan.net.nodes v ≡ Some node → greatest_time (visits_of node.kind (end.stations v)) ≤ sequence_span (visits_by_node end 0 plan.net.nodes)
@@ -172,19 +117,14 @@ module _ (plan : Plan) (rows : Rows) (read : IsReadFor plan.net rows) where
   reached : end.clock ≤ sequence_span (visits_by_node end 0 plan.net.nodes)
   reached = go latest.reached
     where
-      comes : (v position : ℕ) (o : Option Node) → slice_get plan.net.nodes v ≡ o → position < length ((run_of plan rows).stations v).visits → (p : Option Visit) → slice_get ((run_of plan rows).stations v).visits position ≡ p → arrival_or 0 p ≡ (run_of plan rows).clock → (run_of plan rows).clock ≤ sequence_span (visits_by_node (run_of plan rows) 0 plan.net.nodes)
-      comes v position None here inside p at time = absurd (let none = ap length (no-visits v here) in omega arith)
-      comes v position (Some node) here inside None at time = omega arith
-      comes v position (Some node) here inside (Some x) at time = let one = arrives-within v position node x here at in omega arith
+      comes : (v position : ℕ) (node : Node) → slice_get plan.net.nodes v ≡ Some node → (p : Option Visit) → slice_get ((run_of plan rows).stations v).visits position ≡ p → arrival_or 0 p ≡ (run_of plan rows).clock → (run_of plan rows).clock ≤ sequence_span (visits_by_node (run_of plan rows) 0 plan.net.nodes)
+      comes v position node here None at time = omega arith
+      comes v position node here (Some x) at time = let one = arrives-within v position node x here at in omega arith
 
-      leaves : (v : ℕ) (o : Option Node) (before after : List Emission) (m : Emission) → slice_get plan.net.nodes v ≡ o → ((run_of plan rows).stations v).emitted ≡ before ++ m ∷ after → m.time ≡ (run_of plan rows).clock → (run_of plan rows).clock ≤ sequence_span (visits_by_node (run_of plan rows) 0 plan.net.nodes)
-      leaves v None before after m here inside time = absurd (let none = ap length (sym (silent-end plan rows v here) ∙ inside) in omega (arith, length-append before (m ∷ after)))
-      leaves v (Some node) before after m here inside time = let one = leaves-within v node before after m here inside in omega arith
-
-      go : ((run_of plan rows).clock ≡ 0) ⊎ (ComesAt (run_of plan rows) (run_of plan rows).clock ⊎ LeavesAt (run_of plan rows) (run_of plan rows).clock) → (run_of plan rows).clock ≤ sequence_span (visits_by_node (run_of plan rows) 0 plan.net.nodes)
+      go : ((run_of plan rows).clock ≡ 0) ⊎ (ComesAt plan.net.nodes (run_of plan rows) (run_of plan rows).clock ⊎ LeavesAt plan.net.nodes (run_of plan rows) (run_of plan rows).clock) → (run_of plan rows).clock ≤ sequence_span (visits_by_node (run_of plan rows) 0 plan.net.nodes)
       go (inl h) = omega arith
-      go (inr (inl h)) = comes h.node h.position (slice_get plan.net.nodes h.node) refl h.inside (slice_get ((run_of plan rows).stations h.node).visits h.position) refl h.at
-      go (inr (inr h)) = leaves h.node (slice_get plan.net.nodes h.node) h.before h.after h.emission refl h.inside h.at
+      go (inr (inl h)) = comes h.node h.position h.declared h.there (slice_get ((run_of plan rows).stations h.node).visits h.position) refl h.at
+      go (inr (inr h)) = let one = leaves-within h.node h.declared h.before h.after h.emission h.there h.inside in let time = h.at in omega arith
 
   pub span-sequences : end.clock ≡ sequence_span (visits_by_node end 0 plan.net.nodes)
   span-sequences =

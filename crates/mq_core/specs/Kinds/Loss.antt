@@ -1,5 +1,5 @@
 -- A loss station, as one value: one server, so many places, and two outputs.
-use Rattle.std.specs.Prelude.{List, [], false, if◌then◌else◌, length, map, nat_lt, true, ℕ, ◌&&◌, ◌==◌, ◌∷◌}
+use Rattle.std.specs.Prelude.{List, [], false, if◌then◌else◌, length, map, nat_lt, true, ℕ, ◌&&◌, ◌==◌}
 use Rattle.std.proofs.Common.{Bool}
 use Rattle.mq_core.specs.Behaviour.{Behaviour}
 use Rattle.mq_core.specs.Came.{Came}
