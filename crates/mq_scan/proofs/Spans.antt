@@ -4,7 +4,6 @@ use Rattle.std.proofs.lemmas.Option.{get_or_from_slice_get}
 use Rattle.std.proofs.Math.Seq.{get_or-append_seam}
 use Rattle.std.proofs.Math.ListN.{get_or-append}
 use Rattle.std.proofs.lemmas.List.{map-append}
-use Rattle.std.proofs.Math.Nat.{mul-le-mul_left}
 use native.Mathlib.Decide.{ℕ_discrete}
 use mathlib.Core.Logic.{dite}
 use Rattle.mq_scan.specs.Folds.{extended, span, fold_to, carries_after, AreSummaries, AreBefore, MayTurn}
@@ -131,10 +130,6 @@ times-ranges-next acted start part time done from to all all' e l h s =
     ∙ (ap (λ ts. ts ++ map time (carries_after acted start part from (to - from))) h
     ∙ (sym (map-append time (carries_after acted start part 0 done) (carries_after acted start part from (to - from)))
     ∙ ap (map time) (ranges-next acted start part done from to (carries_after acted start part 0 done) (carries_after acted start part 0 done ++ carries_after acted start part from (to - from)) e l refl refl)))
-
--- a block of a cut begins inside
-pub block-inside : (b block blocks n : ℕ) → b < blocks → blocks * block < n + block → b * block < n
-block-inside b block blocks n l h = let h' : b + 1 ≤ blocks = omega arith in omega (arith, mul-le-mul_left block h')
 
 -- a range is its first job, extended by the others
 pub span-extended : {S : Type 0} (joined : S → S → S) (part : ℕ → S) (from n : ℕ) → extended joined part (part from) (from + 1) n ≡ span joined part from n

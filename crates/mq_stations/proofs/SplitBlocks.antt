@@ -13,12 +13,11 @@ use Rattle.mq_core.specs.declared.model.Route.{Route}
 use Rattle.mq_core.specs.declared.model.Rows.{Rows}
 use Rattle.mq_core.specs.declared.model.Stream.{Stream}
 use Rattle.mq_scan.specs.declared.blocks.Blocks.{Blocks}
-use Rattle.mq_scan.proofs.Spans.{block-inside}
 use Rattle.mq_split.specs.Outs.{PiecesJoin, outs_from, picked_stream, piece_of}
 use Rattle.mq_stations.specs.Blocks.{from_of, to_of}
 use Rattle.mq_stations.specs.Leaving.{AreRouted}
 use Rattle.mq_stations.specs.Scans.{AreSplitBlocks, AreSplitParts, HaveParts}
-use Rattle.mq_scan.proofs.lemmas.Blocks.{blocks-few}
+use Rattle.mq_scan.proofs.lemmas.Blocks.{block-start, blocks-few}
 use Rattle.mq_stations.proofs.lemmas.Blocks.{blocks-all}
 
 -- Parts of a list.
@@ -63,7 +62,7 @@ part-more streams streams' stream part n count p e h k l = ap (λ (s : List Stre
 -- Blocks. Their first index, and the one behind their last.
 pub block-order : (blocks : Blocks) (b : ℕ) → b < blocks.blocks → (from_of blocks b ≤ to_of blocks b) × (to_of blocks b ≤ blocks.n)
 block-order blocks b l =
-    let inside = block-inside b blocks.block blocks.blocks blocks.n l blocks.none_more in
+    let inside = block-start blocks b l in
     let next : (b + 1) * blocks.block ≡ b * blocks.block + blocks.block = omega arith in
     (omega arith, omega arith)
 
@@ -126,7 +125,7 @@ behind-more law out group b streams part jobs times jobs' times' e f j t was rou
     let len = h.len in
     let all = h.all in
     let inside = slice_get_within group b streams e in
-    let within = block-inside b blocks.block blocks.blocks blocks.n (omega arith) blocks.none_more in
+    let within = block-start blocks b (omega arith) in
     let from = from_of blocks b in
     let to = to_of blocks b in
     let start : min (b * blocks.block) blocks.n ≡ from = omega arith in

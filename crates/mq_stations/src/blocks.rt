@@ -4,7 +4,7 @@ ghost use Rattle.mq_scan.specs.Folds.{AreBefore, carries_after};
 ghost use Rattle.mq_stations.specs.Blocks.{AreSumsOf, AreTimesOf, IsSumOf};
 
 use mq_base::{List, OutOfMemory};
-use mq_scan::{Blocks, Step, Timed, carries, summarise, times};
+use mq_scan::{Blocks, Step, Timed, carries, summarise, times, times_append};
 use std::alloc::Global;
 
 /// What the jobs of block `b` do together, which is below the number of blocks of a cut of all jobs.
@@ -66,6 +66,7 @@ pub fn joined<P: Timed>(
     requires group { (b : ℕ) (d : Items ℕ) → b < length group.now → AreTimesOf (P.time_of step.now) P.acted (P.start step.now) (P.part step.now) blocks.now b (slice_index_or group.now b d) }
     ensures { IfOk result (λ departs. departs ≡ map (P.time_of step.now) (carries_after P.acted (P.start step.now) (P.part step.now) 0 (P.size step.now))) }
 {
+    times_append(step);
     let mut departs = Vec::with_capacity(alloc, step.count() as usize)?;
     'parts: for b in 0..group.len() {
         departs.extend_from_slice(group.get(b).as_slice())?;

@@ -31,7 +31,7 @@ blocks-most most blocks long = go (cases_lt most blocks.blocks)
         absurd (omega arith)
 
 -- a block begins inside
-block-start : (blocks : Blocks) (b : ℕ) → b < blocks.blocks → b * blocks.block ≤ blocks.n
+pub block-start : (blocks : Blocks) (b : ℕ) → b < blocks.blocks → b * blocks.block < blocks.n
 block-start blocks b l =
     let more = blocks.none_more in
     let most : blocks.block * (b + 1) ≤ blocks.block * blocks.blocks = mul-le-mul_left blocks.block (omega arith) in

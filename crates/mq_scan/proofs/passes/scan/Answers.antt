@@ -1,6 +1,7 @@
 use Rattle.std.proofs.Common.{◌≡◌, ◌+◌, ◌*◌, ◌<◌, ◌≤◌, ℕ, subst, ap, arith, min, ◌∙◌}
 use Rattle.mq_scan.specs.Folds.{carries_after, fold_to}
-use Rattle.mq_scan.proofs.Spans.{block-inside, ranges-next}
+use Rattle.mq_scan.proofs.Spans.{ranges-next}
+use Rattle.mq_scan.proofs.lemmas.Blocks.{block-start}
 use Rattle.mq_scan.proofs.passes.scan.Goals as goal
 
 pub parts-preserved : goal.parts-preserved
@@ -12,7 +13,7 @@ parts-preserved g c =
     let block : blocks.block ≡ c.args.block = c.cut-blocks.ensures.1 in
     let from : range.0 ≡ c.parts.b * c.args.block = c.range-from.ensures.0 ∙ ap (λ (k : ℕ). c.parts.b * k) block in
     let to : range.1 ≡ min ((c.parts.b + 1) * c.args.block) (g.P.Step.size step) = c.range-from.ensures.1 ∙ (λ i. min ((c.parts.b + 1) * block i) (n i)) in
-    let within : c.parts.b * c.args.block < g.P.Step.size step = subst (λ (z : ℕ × ℕ). c.parts.b * z.0 < z.1) (λ i. (block i, n i)) (block-inside c.parts.b blocks.block blocks.blocks blocks.n c.parts-test.true blocks.none_more) in
+    let within : c.parts.b * c.args.block < g.P.Step.size step = subst (λ (z : ℕ × ℕ). c.parts.b * z.0 < z.1) (λ i. (block i, n i)) (block-start blocks c.parts.b c.parts-test.true) in
     let next : (c.parts.b + 1) * c.args.block ≡ c.parts.b * c.args.block + c.args.block = omega arith in
     let so_far : min (c.parts.b * c.args.block) (g.P.Step.size step) ≡ range.0 = omega arith in
     let some : range.0 ≤ range.1 = omega arith in

@@ -13,7 +13,7 @@ parts-preserved g c =
     let inside = slice_get_within group c.parts.b c.get.result.now c.get.ensures in
     let count = c.requires.len in
     let own = subst (AreTimesOf (g.P.Timed.time_of step) g.P.Step.acted (g.P.Step.start step) (g.P.Step.part step) blocks c.parts.b) (get_or_from_slice_get group c.parts.b c.get.result.now c.get.result.now c.get.ensures) (c.requires.group c.parts.b c.get.result.now inside) in
-    joined-more (g.P.Timed.time_of step) g.P.Step.acted (g.P.Step.start step) (g.P.Step.part step) blocks c.parts.b c.get.result.now c.parts.departs.items c.extend_from_slice.new.self.items (omega arith) own c.parts.invariant (c.in_ok-extend_from_slice.ensures.items ∙ ap (λ (ts : List ℕ). c.parts.departs.items ++ ts) c.as_slice.ensures)
+    joined-more (g.P.Timed.time_of step) g.P.Step.acted (g.P.Step.start step) (g.P.Step.part step) c.times_append.ensures blocks c.parts.b c.get.result.now c.parts.departs.items c.extend_from_slice.new.self.items (omega arith) own c.parts.invariant (c.in_ok-extend_from_slice.ensures.items ∙ ap (λ (ts : List ℕ). c.parts.departs.items ++ ts) c.as_slice.ensures)
 
 pub returns : goal.returns
 returns g c =
