@@ -29,8 +29,6 @@ pub struct Outflow {
 }
 
 /// The demand of each of these jobs, in ticks, by position. It refuses for want of memory alone.
-// Its loop is not inlined, so that it has the registers to itself.
-#[inline(never)]
 pub fn demands_of(
     alloc: Global,
     rows: &Rows,
@@ -40,9 +38,24 @@ pub fn demands_of(
     requires { AreAsked rows.now demand.now jobs.now }
     ensures { IfOk result (λ demands. demands ≡ map (demand_of_job rows.now demand.now) jobs.now) }
 {
+    demands_in(alloc, rows, demand, jobs.as_slice())
+}
+
+// The demand of each job of a slice.
+// Its loop is not inlined, so that it has the registers to itself.
+#[inline(never)]
+pub fn demands_in(
+    alloc: Global,
+    rows: &Rows,
+    demand: &Demand,
+    jobs: &[u32],
+) -> Result<List<u64>, OutOfMemory>
+    requires { AreAsked rows.now demand.now jobs.now }
+    ensures { IfOk result (λ demands. demands ≡ map (demand_of_job rows.now demand.now) jobs.now) }
+{
     let mut demands = Vec::with_capacity(alloc, jobs.len())?;
     for at in 0..jobs.len() {
-        demands.push_reserved(demand_of(rows, demand, *jobs.get(at)));
+        demands.push_reserved(demand_of(rows, demand, jobs[at]));
     }
     Ok(List::from_vec(demands))
 }

@@ -1,19 +1,22 @@
 // A split, whole and by blocks: each job goes on as it comes, by the output of its route.
 ghost use Rattle.std.specs.Prelude.{◌≡◌, ◌<◌, ◌≤◌, ℕ, List as Items, length, map, IfOk};
 ghost use Rattle.mq_base.specs.Lists.{between};
+ghost use Rattle.mq_core.specs.Handling.{demand_of_job};
 ghost use Rattle.mq_core.specs.Kinds.Split.{HasRouteValue, outputs_by, route_value};
 ghost use Rattle.mq_core.specs.Sequences.{IsStream};
+ghost use Rattle.mq_core.specs.Told.{HasDemand};
 ghost use Rattle.mq_core.specs.declared.model.Kind.TheVariants.{Split};
 ghost use Rattle.mq_core.specs.declared.model.Route.{Route as TheRoute};
+ghost use Rattle.mq_core.specs.declared.model.Rows.{Rows as TheRows};
 ghost use Rattle.mq_core.specs.declared.model.Stream.{Stream as TheStream};
 ghost use Rattle.mq_scan.specs.declared.blocks.Blocks.{Blocks as TheBlocks};
 ghost use Rattle.mq_split.specs.Outs.{AreParts, HasOutputs, outs_from, picked_stream};
 ghost use Rattle.mq_stations.specs.Leaving.{AreRouted, IsLeaving, IsLoad};
 ghost use Rattle.mq_stations.specs.Scans.{AreFewBlocks, AreSplitBlocks, AreSplitParts, HaveParts};
 
-use crate::outflow::{Outflow, fates_of};
+use crate::outflow::{Outflow, demands_in, fates_of};
 use mq_base::{List, OutOfMemory};
-use mq_core::{Demand, Route, Rows, Stream, demand_of, outputs_of_route};
+use mq_core::{Demand, Route, Rows, Stream, outputs_of_route};
 use mq_scan::{Blocks, block_size, cut};
 use mq_split::{pieces_join, split, split_between};
 use std::alloc::Global;
@@ -136,8 +139,6 @@ fn jobs_by(group: &List<List<Stream>>, out: usize) -> usize
 }
 
 // The value of each of these jobs that the route looks at; by turns it looks at none.
-// Its loop is not inlined, so that it has the registers to itself.
-#[inline(never)]
 fn values_of(
     alloc: Global,
     rows: &Rows,
@@ -147,21 +148,16 @@ fn values_of(
     requires { AreRouted rows.now route.now jobs.now }
     ensures { IfOk result (λ values. values ≡ map (route_value rows.now route.now) jobs.now) }
 {
-    let mut values = Vec::with_capacity(alloc, jobs.len())?;
-    for at in 0..jobs.len() {
-        values.push_reserved(value_by(rows, route, jobs[at]));
-    }
-    Ok(List::from_vec(values))
+    demands_in(alloc, rows, &looked_at(route), jobs)
 }
 
-fn value_by(rows: &Rows, route: &Route, job: u32) -> u64
-    requires { HasRouteValue rows.now route.now job }
-    ensures { result ≡ route_value rows.now route.now job }
+// What a route looks at, as a demand: a column, and by turns 0.
+fn looked_at(route: &Route) -> Demand
+    ensures told { (rows : TheRows) (job : ℕ) → HasRouteValue rows route.now job → HasDemand rows result job }
+    ensures value { (rows : TheRows) (job : ℕ) → demand_of_job rows result job ≡ route_value rows route.now job }
 {
     match route {
-        Route::Turn { .. } => 0,
-        Route::Modulo { column, .. } | Route::Cut { column, .. } => {
-            demand_of(rows, &Demand::Column(*column), job)
-        }
+        Route::Turn { .. } => Demand::Fixed(0),
+        Route::Modulo { column, .. } | Route::Cut { column, .. } => Demand::Column(*column),
     }
 }
