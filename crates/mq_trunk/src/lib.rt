@@ -3,9 +3,9 @@
 //! Mitrani 1991): each round judges every arrival by the departures that a guess gives.
 //!
 //! Of the departures only the latest are kept, one a server, the latest first. An arrival is judged
-//! by them in as many comparisons as the number of servers has binary digits, and one that is admitted
-//! takes its place among them in as many as there are servers. A window judges no arrival behind the
-//! first that its round changes, so each arrival is judged once.
+//! by them in at most as many comparisons as the number of servers has binary digits, and one that is
+//! admitted takes its place among them in at most as many as there are servers. A window judges no
+//! arrival behind the first that its round changes, so each arrival is judged once.
 #![tactic(auto)]
 
 mod answer;
