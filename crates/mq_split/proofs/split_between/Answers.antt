@@ -1,6 +1,5 @@
-use Rattle.std.proofs.Common.{◌≡◌, ◌≤◌, ◌+◌, length, sym, ap, ◌∙◌, ◌∷◌, [], length-append, arith}
+use Rattle.std.proofs.Common.{◌≡◌, ◌+◌, length, ap, ◌∙◌, ◌∷◌, [], length-append, arith}
 use Rattle.mq_base.proofs.lemmas.Between.{length-between}
-use Rattle.mq_base.specs.Lists.{between}
 use Rattle.mq_core.specs.Streams.{picked}
 use Rattle.mq_split.proofs.Parts.{length-outs_from, parts-next}
 use Rattle.mq_split.specs.Outs.{outs_from, part_between}
