@@ -124,7 +124,7 @@ span-is_latest plan rows read =
     -- at the end no such node holds a job
     over : Reached (standard plan rows) plan.net.nodes leave (run_of plan rows) → ((run_of plan rows).clock ≡ 0) ⊎ (ComesAt plan.net.nodes (run_of plan rows) (run_of plan rows).clock ⊎ LeavesAt plan.net.nodes (run_of plan rows) (run_of plan rows).clock)
     over (inl h) = inl h
-    over (inr (inl h)) = inr (inl (comes h.0 h.1.0 (slice_get plan.net.nodes h.0) refl h.1.1.0 h.1.1.1))
+    over (inr (inl h)) = inr (inl (comes h.0 h.1 (slice_get plan.net.nodes h.0) refl h.2 h.3))
     over (inr (inr (inl h))) = inr (inr h)
     over (inr (inr (inr h))) = absurd (let some = h.1.1 in let none = none-held plan rows read h.0 h.1.0 in omega arith)
 
