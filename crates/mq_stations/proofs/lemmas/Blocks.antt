@@ -1,5 +1,5 @@
 -- The blocks of a station that is scanned, their summaries and their times.
-use Rattle.std.proofs.Common.{◌≡◌, ℕ, ◌+◌, ◌*◌, ◌<◌, List, ◌++◌, length, map, min, ap, ◌∙◌, subst, arith}
+use Rattle.std.proofs.Common.{◌≡◌, ℕ, ◌+◌, ◌-◌, ◌*◌, ◌<◌, List, ◌++◌, length, map, min, ap, ◌∙◌, subst, arith}
 use Rattle.mq_maxplus.specs.Maxplus.{affine_act, mp_or_zero}
 use Rattle.mq_maxplus.specs.declared.mp.Mp.TheVariants.{Void}
 use Rattle.mq_scan.specs.Folds.{AreSummaries, carries_after}
