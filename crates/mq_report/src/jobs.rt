@@ -12,7 +12,8 @@ ghost use Rattle.mq_report.specs.Text.{fate_words, jobs_text, node_jobs, visit_l
 
 use crate::line::Line;
 use mq_core::{
-    Fate, Kind, Node, Plan, Rows, Run, Visits, nodes_are_in_limits, orders_rank, runs_have_sequences,
+    Fate, Kind, Node, Plan, Rows, Run, Visits, nodes_are_in_limits, orders_rank,
+    runs_have_sequences,
 };
 use mq_outside::{Gather, Sink, SinkFault, add_bytes};
 use mq_stats::{runs_give_visits, wait_of};

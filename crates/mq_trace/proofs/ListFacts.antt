@@ -1,8 +1,9 @@
 -- The lists of rows that workers put together.
-use Rattle.std.proofs.Common.{◌≡◌, ◌∙◌, ap, refl, subst, ℕ, ◌+◌, ◌<◌, List, [], ◌∷◌, ◌++◌, length, get_or, arith, inl, inr, length-append}
+use Rattle.std.proofs.Common.{◌≡◌, ◌∙◌, ap, subst, suc, ℕ, ◌+◌, ◌<◌, List, [], ◌∷◌, ◌++◌, length, get_or, arith, inl, inr, length-append}
 use Rattle.std.proofs.Math.ListN.{get_or-append}
 use Rattle.std.proofs.Math.Seq.{get_or-append_seam}
 use Rattle.std.proofs.lemmas.Bool.{cases_lt}
+use Rattle.mq_crew.proofs.lemmas.Groups.{all-last}
 use Rattle.mq_crew.specs.Crew.{AreAll}
 use Rattle.mq_trace.specs.Joined.{Piece, all_numbers}
 
@@ -22,13 +23,5 @@ module _ {X : Type 0} (is : ℕ → X → Type 0) where
   -- the last of some pieces, and those before it
   pub all_last : (n : ℕ) (items rest : List X) (x : X) → items ≡ rest ++ x ∷ [] → AreAll is n items → is (length rest) x × AreAll is (length rest) rest
   all_last n items rest x e all =
-      let whole : AreAll is n (rest ++ x ∷ []) = subst (AreAll is n) e all in
-      let count = length-append rest (x ∷ []) in
-      let len = whole.len in
-      let last : length rest < n = omega arith in (
-        subst (is (length rest)) (get_or-append_seam rest x [] x) (whole.each (length rest) x last),
-        record {
-          len = refl;
-          each = λ b d l. subst (is b) (get_or-append rest (x ∷ []) d b l) (whole.each b d (omega arith));
-        },
-      )
+      let count : n ≡ suc (length rest) = omega (arith, all.len, ap length e, length-append rest (x ∷ [])) in
+      all-last is (length rest) items rest x e (subst (λ m. AreAll is m items) count all)

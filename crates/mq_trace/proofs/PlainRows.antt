@@ -1,20 +1,16 @@
 -- Rows that are read field after field.
-use Rattle.std.proofs.Common.{◌≡◌, ◌∙◌, sym, ap, refl, ℕ, ◌+◌, ◌-◌, ◌*◌, ◌<◌, ◌≤◌, ◌^◌, ◌⊎◌, List, [], ◌∷◌, ◌++◌, length, length-take, drop, take, get_or, Bool, true, false, Some, None, arith, inl, inr}
+use Rattle.std.proofs.Common.{◌≡◌, ◌∙◌, sym, ap, refl, ℕ, ◌+◌, ◌-◌, ◌<◌, ◌≤◌, ◌^◌, ◌⊎◌, List, [], ◌∷◌, ◌++◌, length, length-take, drop, take, get_or, Bool, true, false, Some, None, arith, inl, inr}
 use Rattle.std.specs.Prelude.{◌&&◌, is_none}
-use Rattle.std.specs.Char.{digit_value, is_ascii_digit}
+use Rattle.std.specs.Char.{is_ascii_digit}
 use Rattle.std.specs.List.{list_all}
 use Rattle.std.specs.Str.Parse.{digits_value}
 use Rattle.std.proofs.Math.ListN.{get_or-append}
 use Rattle.std.proofs.Math.Seq.{get_or-append_seam}
 use Rattle.std.proofs.lemmas.Bool.{and_parts, cases_Bool, cases_lt}
 use Rattle.std.proofs.lemmas.Grind.{common_steps}
-use Rattle.std.proofs.lemmas.Int.Digits.{digits_value_more}
 use Rattle.std.proofs.lemmas.List.{length-append, length-drop, length-take-le, take_all, take_more}
-use Rattle.std.proofs.lemmas.List.Folds.{list_all_more}
-use Rattle.std.proofs.lemmas.Str.Parse.{digits_value_short}
 use Rattle.csv.specs.Records.{fields_of}
 use Rattle.mq_base.specs.Text.{number_of}
-use Rattle.mq_base.proofs.lemmas.Numbers.{decimals}
 use Rattle.mq_core.specs.declared.model.Network.{Network}
 use Rattle.mq_trace.specs.Header.{columns_of, is_among}
 use Rattle.mq_trace.specs.Plain.{IsField, IsFirstRow, ends_record, is_plain}
@@ -25,34 +21,6 @@ use Rattle.mq_trace.specs.declared.header.Header.{Header}
 use Rattle.mq_trace.specs.declared.plain.PlainRow.{PlainRow}
 use Rattle.mq_trace.proofs.PlainFacts.{Ends, ends_first, goes_first, goes_over}
 use Rattle.mq_trace.proofs.TraceFacts.{later_field, length_noted, noted}
-
--- where a loop over digits stands: the first of them, and their value
-pub record ReadsDigits (text : List ℕ) (i value : ℕ) : Type 0 where
-  pub digits : list_all is_ascii_digit (take i text) ≡ true
-  pub worth : value ≡ digits_value 10 (take i text)
-
-digit_value-is : (b : ℕ) → 48 ≤ b → b ≤ 57 → digit_value b ≡ b - 48
-digit_value-is b low high = grind (arith, common_steps)
-
--- one more digit
-pub digits_more : (text : List ℕ) (i value next : ℕ) → ReadsDigits text i value → i < length text → 48 ≤ get_or text i 0 → get_or text i 0 ≤ 57
-    → next ≡ value * 10 + (get_or text i 0 - 48) → ReadsDigits text (i + 1) next
-digits_more text i value next h within low high made =
-    let more : digits_value 10 (take (i + 1) text) ≡ digits_value 10 (take i text) * 10 + digit_value (get_or text i 0) = digits_value_more 10 text i within in
-    let all = list_all_more is_ascii_digit text i 0 within in
-    let digit = digit_value-is (get_or text i 0) low high in
-    let was = h.worth in
-    let were = h.digits in
-    record {
-      digits = grind (arith, common_steps, all, were);
-      worth = grind (arith, more, digit, was, made);
-    }
-
--- the value of at most 18 digits
-pub digits_short : (text : List ℕ) (i value : ℕ) → ReadsDigits text i value → i ≤ 18 → value < 10 ^ 18
-digits_short text i value h few =
-    let short : length (take i text) ≤ 18 = omega (arith, length-take i text) in
-    rw h.worth (digits_value_short decimals (take i text) 18 h.digits short)
 
 -- the number of at most 19 digits
 pub number_made : (text : List ℕ) (n value limit : ℕ) → 0 < n → n ≤ 19 → n ≤ length text → list_all is_ascii_digit (take n text) ≡ true → value ≡ digits_value 10 (take n text) → value ≤ limit

@@ -1,4 +1,4 @@
-use Rattle.mq_base.proofs.DigitsLemmas.{ReadsDigits}
+use Rattle.mq_base.proofs.lemmas.Digits.{ReadsDigits}
 use Rattle.mq_base.proofs.text.long_value.Given as goal
 
 abbrev pub invariant-loop-byte : goal.invariant-loop-byte

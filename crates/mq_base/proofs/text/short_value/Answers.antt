@@ -1,5 +1,5 @@
 use Rattle.std.proofs.Common.{arith}
-use Rattle.mq_base.proofs.DigitsLemmas.{reads_more, reads_short}
+use Rattle.mq_base.proofs.lemmas.Digits.{reads_more, reads_short}
 use Rattle.mq_base.proofs.text.short_value.Goals as goal
 
 pub overflow_mul-value : goal.overflow_mul-value

@@ -1,5 +1,5 @@
 use Rattle.std.proofs.Common.{take}
-use Rattle.mq_trace.proofs.PlainRows.{ReadsDigits}
+use Rattle.mq_base.proofs.lemmas.Digits.{ReadsDigits}
 use Rattle.mq_trace.proofs.plain.leading_digits.Given as goal
 
 abbrev pub invariant-loop-index : goal.invariant-loop-index
