@@ -1,5 +1,5 @@
 -- The waits of the visits that depart from a node, and their percentiles.
-use Rattle.std.specs.Prelude.{◌≡◌, ℕ, ◌+◌, ◌*◌, ◌/◌, ◌≤◌, Bool, List, [], ◌∷◌, count_by, fold, length, min, nat_le}
+use Rattle.std.specs.Prelude.{◌≡◌, ℕ, ◌+◌, ◌*◌, ◌/◌, Bool, List, [], ◌∷◌, count_by, fold, length, min, nat_le}
 use Rattle.std.specs.List.{filter}
 use Rattle.mq_core.specs.Sequences.{sequence_wait}
 use Rattle.mq_core.specs.declared.model.Fate.{Fate}

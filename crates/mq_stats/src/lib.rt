@@ -20,6 +20,6 @@ pub use pieces::{
     AheadTable, ahead, ahead_of, ahead_of_departures, found_piece, found_piece_in_order,
 };
 pub use spans::{last_at, span};
-pub use tails::{Percentiles, tail};
+pub use tails::{Percentiles, tail, tail_below};
 pub use tallies::{NodeTotals, totals, totals_added, totals_between, totals_join};
 pub use waits::wait_of;

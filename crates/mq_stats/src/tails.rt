@@ -1,5 +1,5 @@
 // The percentiles of the waits at a node.
-ghost use Rattle.std.specs.Prelude.{◌≡◌, ◌+◌, ◌-◌, ◌<◌, ◌≤◌, ℕ, List as Items, IfOk, IfSome, Some, [], length, replicate, slice_get, take};
+ghost use Rattle.std.specs.Prelude.{◌≡◌, ◌-◌, ◌<◌, ◌≤◌, ℕ, List as Items, IfOk, IfSome, Some, [], get_or, length, slice_get, take};
 ghost use Rattle.mq_core.specs.declared.model.Kind.{Kind as TheKind};
 ghost use Rattle.mq_core.specs.declared.model.Rows.{Rows as TheRows};
 ghost use Rattle.mq_stats.specs.Numbers.{AreVisits, AreWaiting, AsksOnce};
@@ -78,10 +78,11 @@ fn count_waits<A: Asking>(
 ) -> usize
     requires tells { A.tells asking.now kind.now }
     requires visits { AreWaiting rows.now kind.now job.now arrive.now fate.now }
-    requires empty { table.old ≡ replicate (length job.now + 1) 0 }
+    requires some { 0 < length table.old }
+    requires empty { (wait : ℕ) → get_or table.old wait 0 ≡ 0 }
     ensures within { result ≤ length job.now }
     ensures many { result ≡ length (departed_waits rows.now kind.now job.now arrive.now fate.now) }
-    ensures room { length table.new ≡ length job.now + 1 }
+    ensures room { length table.new ≡ length table.old }
     ensures table { IsTableOf (departed_waits rows.now kind.now job.now arrive.now fate.now) table.new }
 {
     let last = table.len() - 1;
@@ -109,7 +110,7 @@ fn hundredths(p: usize, many: usize) -> usize
 // The least wait that so many don't pass, where the table counts it by itself.
 fn reached(table: &[u32], many: usize) -> Option<u64>
     requires some { 0 < length table.now }
-    requires few { length table.now ≤ 1048577 }
+    requires few { length table.now ≤ 1048578 }
     ensures { IfSome result (IsReached table.now many) }
 {
     let mut so_far = 0;
@@ -125,7 +126,7 @@ fn reached(table: &[u32], many: usize) -> Option<u64>
 // The percentiles of so many waits, where the table counts each of these three by itself.
 fn counted(table: &[u32], many: usize) -> Option<Percentiles>
     requires some { 0 < length table.now }
-    requires few { length table.now ≤ 1048577 }
+    requires few { length table.now ≤ 1048578 }
     requires within { many ≤ 1048576 }
     ensures { (waits : Items ℕ) → many ≡ length waits → IsTableOf waits table.now → IfSome result (ArePercentiles waits) }
 {
@@ -158,7 +159,7 @@ fn sorted(waits: &mut [u64]) -> Percentiles
     }
 }
 
-// The percentiles of the waits at a node, where each of these three is below the number of visits.
+// The percentiles of the waits at a node, where each of these three is at most this number and the number of visits.
 fn counted_tail<A: Asking>(
     alloc: Global,
     asking: &A,
@@ -167,12 +168,14 @@ fn counted_tail<A: Asking>(
     job: &[u32],
     arrive: &[u64],
     fate: &FateSlice,
+    longest: u64,
 ) -> Result<Option<Percentiles>, OutOfMemory>
     requires tells { A.tells asking.now kind.now }
     requires visits { AreWaiting rows.now kind.now job.now arrive.now fate.now }
     ensures { IfOk result (λ tail. IfSome tail (ArePercentiles (departed_waits rows.now kind.now job.now arrive.now fate.now))) }
 {
-    let mut table = vec![in alloc; 0u32; job.len() + 1]?;
+    let most = longest.min(job.len() as u64) as usize;
+    let mut table = vec![in alloc; 0u32; most + 2]?;
     let many = count_waits(asking, rows, kind, job, arrive, fate, table.as_mut_slice());
     Ok(counted(table.as_slice(), many))
 }
@@ -197,8 +200,8 @@ fn sorted_tail<A: Asking>(
     Ok(sorted(waits.as_mut_slice()))
 }
 
-// The percentiles of the waits at a node whose jobs ask so. Mostly each is below the number of visits: then a table no longer
-// than the visits tells it, and nothing is put in order. Else the waits are sorted.
+// The percentiles of the waits at a node whose jobs ask so. Mostly each is at most the number of visits: then a table no longer
+// than the visits and the longest wait need tells it, and nothing is put in order. Else the waits are sorted.
 fn tail_by<A: Asking>(
     alloc: Global,
     asking: &A,
@@ -207,12 +210,13 @@ fn tail_by<A: Asking>(
     job: &[u32],
     arrive: &[u64],
     fate: &FateSlice,
+    longest: u64,
 ) -> Result<Percentiles, OutOfMemory>
     requires tells { A.tells asking.now kind.now }
     requires visits { AreWaiting rows.now kind.now job.now arrive.now fate.now }
     ensures { IfOk result (ArePercentiles (departed_waits rows.now kind.now job.now arrive.now fate.now)) }
 {
-    match counted_tail(alloc, asking, rows, kind, job, arrive, fate)? {
+    match counted_tail(alloc, asking, rows, kind, job, arrive, fate, longest)? {
         Some(tail) => Ok(tail),
         None => sorted_tail(alloc, asking, rows, kind, job, arrive, fate),
     }
@@ -227,6 +231,7 @@ fn tail_for(
     job: &[u32],
     arrive: &[u64],
     fate: &FateSlice,
+    longest: u64,
 ) -> Result<Percentiles, OutOfMemory>
     requires tells { AsksOnce kind.now demand.now }
     requires visits { AreWaiting rows.now kind.now job.now arrive.now fate.now }
@@ -234,9 +239,61 @@ fn tail_for(
 {
     match demand {
         Demand::Column(column) => {
-            tail_by(alloc, &InColumn(*column), rows, kind, job, arrive, fate)
+            tail_by(
+                alloc,
+                &InColumn(*column),
+                rows,
+                kind,
+                job,
+                arrive,
+                fate,
+                longest,
+            )
         }
-        Demand::Fixed(ticks) => tail_by(alloc, &Alike(*ticks), rows, kind, job, arrive, fate),
+        Demand::Fixed(ticks) => tail_by(
+            alloc,
+            &Alike(*ticks),
+            rows,
+            kind,
+            job,
+            arrive,
+            fate,
+            longest,
+        ),
+    }
+}
+
+/// The percentiles of the waits of the visits to a node of this kind, as `tail`. Where no wait is above `longest`, in ticks,
+/// it counts them in a table no longer than that. It tells the same where one is. It refuses for want of memory alone.
+pub fn tail_below(
+    alloc: Global,
+    rows: &Rows,
+    kind: &Kind,
+    visits: &Visits,
+    longest: u64,
+) -> Result<Percentiles, OutOfMemory>
+    requires { AreVisits rows.now kind.now visits.now }
+    ensures { IfOk result (ArePercentiles (waits_at rows.now kind.now visits.now)) }
+{
+    let (job, arrive) = (visits.job.as_slice(), visits.arrive.as_slice());
+    let fate = &visits.fate.as_slice();
+    match kind {
+        // These serve no job.
+        Kind::Source | Kind::Split(_) | Kind::Fork { .. } | Kind::Join => {
+            tail_by(alloc, &Alike(0), rows, kind, job, arrive, fate, longest)
+        }
+        Kind::Server(demand) | Kind::Delay(demand) => {
+            tail_for(alloc, demand, rows, kind, job, arrive, fate, longest)
+        }
+        Kind::Loss { demand, .. } => tail_for(
+            alloc, demand, rows, kind, job, arrive, fate, longest,
+        ),
+        Kind::Tandem(_) | Kind::ForkJoin(_) => {
+            tail_by(alloc, &AtServers, rows, kind, job, arrive, fate, longest)
+        }
+        Kind::Trunk { demand, .. } => tail_for(
+            alloc, demand, rows, kind, job, arrive, fate, longest,
+        ),
     }
 }
 
@@ -250,20 +307,5 @@ pub fn tail(
     requires { AreVisits rows.now kind.now visits.now }
     ensures { IfOk result (ArePercentiles (waits_at rows.now kind.now visits.now)) }
 {
-    let (job, arrive) = (visits.job.as_slice(), visits.arrive.as_slice());
-    let fate = &visits.fate.as_slice();
-    match kind {
-        // These serve no job.
-        Kind::Source | Kind::Split(_) | Kind::Fork { .. } | Kind::Join => {
-            tail_by(alloc, &Alike(0), rows, kind, job, arrive, fate)
-        }
-        Kind::Server(demand) | Kind::Delay(demand) => {
-            tail_for(alloc, demand, rows, kind, job, arrive, fate)
-        }
-        Kind::Loss { demand, .. } => tail_for(alloc, demand, rows, kind, job, arrive, fate),
-        Kind::Tandem(_) | Kind::ForkJoin(_) => {
-            tail_by(alloc, &AtServers, rows, kind, job, arrive, fate)
-        }
-        Kind::Trunk { demand, .. } => tail_for(alloc, demand, rows, kind, job, arrive, fate),
-    }
+    tail_below(alloc, rows, kind, visits, visits.job.len() as u64)
 }

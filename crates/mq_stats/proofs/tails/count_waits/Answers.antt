@@ -1,20 +1,18 @@
-use Rattle.std.proofs.Common.{◌≡◌, ℕ, ◌+◌, ◌<◌, List, arith, get_or, length, length-set, ap, ◌∙◌}
-use Rattle.std.proofs.lemmas.List.{length-replicate}
+use Rattle.std.proofs.Common.{ℕ, ◌+◌, ◌<◌, List, arith, get_or, length, length-set, ap, ◌∙◌}
 use Rattle.std.proofs.lemmas.Option.{slice_get-get_or}
 use Rattle.mq_stats.proofs.Gathering.{one-more}
-use Rattle.mq_stats.proofs.Tables.{counts-next, lengths-next, many_at, none-left, set-small, zeros}
+use Rattle.mq_stats.proofs.Tables.{counts-next, lengths-next, many_at, none-left, set-small}
 use Rattle.mq_stats.proofs.tails.count_waits.Goals as goal
 
 pub loop-at-init : goal.loop-at-init
 loop-at-init g c =
-    let long : length c.args.table.now ≡ length c.args.job.now + 1 = ap (λ t. length t) c.requires.empty ∙ length-replicate (length c.args.job.now + 1) 0 in
-    let none : (wait : ℕ) → get_or c.args.table.now wait 0 ≡ 0 = λ wait. ap (λ t. get_or t wait 0) c.requires.empty ∙ zeros (length c.args.job.now + 1) wait in
+    let some = c.requires.some in
     record {
       many = omega arith;
       few = omega arith;
       room = omega arith;
-      small = λ wait. let e = none wait in omega arith;
-      so_far = λ wait l. let e = none wait in omega arith;
+      small = λ wait. let e = c.requires.empty wait in omega arith;
+      so_far = λ wait l. let e = c.requires.empty wait in omega arith;
     }
 
 pub overflow_cast-table : goal.overflow_cast-table
