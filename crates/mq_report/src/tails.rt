@@ -15,7 +15,7 @@ use crate::sections::listed_totals;
 use mq_base::{List, OutOfMemory};
 use mq_core::{Node, Plan, Rows, Run, runs_have_sequences, totals_are_sequences};
 use mq_crew::{Gate, Pieces, made};
-use mq_stats::{NodeTotals, Percentiles, runs_give_visits, tail};
+use mq_stats::{NodeTotals, Percentiles, runs_give_visits, tail_below};
 use std::alloc::Global;
 use std::thread::Threads;
 
@@ -78,7 +78,8 @@ fn tail_at(
     }
     runs_have_sequences();
     runs_give_visits();
-    tail(alloc, rows, &declared.kind, run.visits.get(node as usize))
+    let visits = run.visits.get(node as usize);
+    tail_below(alloc, rows, &declared.kind, visits, totals.longest)
 }
 
 /// The percentiles of the waits at each node over a run with these totals, by node, each a piece that one of 1
