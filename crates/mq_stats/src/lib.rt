@@ -11,6 +11,7 @@ mod pieces;
 mod spans;
 mod tails;
 mod tallies;
+mod wait_counts;
 mod waits;
 
 pub use exits::{Exit, leaving};
@@ -22,4 +23,5 @@ pub use pieces::{
 pub use spans::{last_at, span};
 pub use tails::{Percentiles, tail, tail_below};
 pub use tallies::{NodeTotals, totals, totals_added, totals_between, totals_join};
+pub use wait_counts::{WaitCounts, count_between, counted_percentiles, counts_added, waits_join};
 pub use waits::wait_of;

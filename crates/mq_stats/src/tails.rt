@@ -67,7 +67,7 @@ fn put_waits<A: Asking>(
 // the last index or greater there.
 // Its loop is not inlined, so that it has the registers to itself.
 #[inline(never)]
-fn count_waits<A: Asking>(
+pub fn count_waits<A: Asking>(
     asking: &A,
     rows: &Rows,
     kind: &Kind,
@@ -84,6 +84,7 @@ fn count_waits<A: Asking>(
     ensures many { result ≡ length (departed_waits rows.now kind.now job.now arrive.now fate.now) }
     ensures room { length table.new ≡ length table.old }
     ensures table { IsTableOf (departed_waits rows.now kind.now job.now arrive.now fate.now) table.new }
+    ensures small { (wait : ℕ) → get_or table.new wait 0 ≤ result }
 {
     let last = table.len() - 1;
     let mut many = 0;
@@ -124,7 +125,7 @@ fn reached(table: &[u32], many: usize) -> Option<u64>
 }
 
 // The percentiles of so many waits, where the table counts each of these three by itself.
-fn counted(table: &[u32], many: usize) -> Option<Percentiles>
+pub fn counted(table: &[u32], many: usize) -> Option<Percentiles>
     requires some { 0 < length table.now }
     requires few { length table.now ≤ 1048578 }
     requires within { many ≤ 1048576 }

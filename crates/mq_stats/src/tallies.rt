@@ -203,7 +203,7 @@ fn totals_of(
 }
 
 // The items from one index up to another.
-fn part<T>(items: &List<T>, from: u32, to: u32) -> &[T]
+pub fn part<T>(items: &List<T>, from: u32, to: u32) -> &[T]
     requires order { from ≤ to }
     requires within { to ≤ length items.now }
     ensures { result.now ≡ between from to items.now }
