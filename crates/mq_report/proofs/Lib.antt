@@ -6,3 +6,4 @@ pub mod NodeTotals
 pub mod Spans
 pub mod NodeTails
 pub mod NoWaits
+pub mod CountedTails

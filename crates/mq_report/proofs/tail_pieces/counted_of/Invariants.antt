@@ -1,0 +1,6 @@
+use Rattle.mq_report.specs.TailPieces.{AreCounted}
+use Rattle.mq_report.proofs.tail_pieces.counted_of.Given as goal
+
+-- the nodes so far
+abbrev pub invariant-loop-node : goal.invariant-loop-node
+invariant-loop-node l = AreCounted l.plan l.rows l.node l.counted
