@@ -15,8 +15,8 @@ use Rattle.mq_core.specs.declared.model.Plan.{Plan}
 use Rattle.mq_core.specs.declared.model.Rows.{Rows}
 use Rattle.mq_crew.specs.Crew.{AreAll, total_size}
 use Rattle.mq_report.proofs.NodeTotals.{pieces-all, pushed-at}
-use Rattle.mq_report.specs.Tails.{IsTailAt}
-use Rattle.mq_report.specs.TailPieces.{AreCounted, AreNodeWaits, AreWaitsAt, IsPieceCounts, IsWaited, counted_pieces}
+use Rattle.mq_report.specs.Tails.{AreCounted, IsTailAt}
+use Rattle.mq_report.specs.TailPieces.{AreNodeWaits, AreWaitsAt, IsPieceCounts, IsWaited, counted_pieces}
 use Rattle.mq_report.specs.Totals.{pieces_in, start_of}
 use Rattle.mq_report.specs.declared.tail_pieces.NodeWaits.{NodeWaits}
 use Rattle.mq_stats.specs.Numbers.{visits_between}

@@ -1,18 +1,16 @@
 -- The waits at the nodes, counted by pieces of their visits.
 use Rattle.std.specs.List.{AllByRecursion}
-use Rattle.std.specs.Prelude.{◌≡◌, ◌+◌, ◌≤◌, ◌==◌, ℕ, IfSome, List, Option, cond, length, Some, slice_get}
+use Rattle.std.specs.Prelude.{◌≡◌, ◌+◌, ◌≤◌, ◌==◌, ℕ, List, cond, length, Some, slice_get}
 use Rattle.mq_core.specs.Results.{visits_of}
 use Rattle.mq_core.specs.StandardTable.{run_of}
 use Rattle.mq_core.specs.declared.model.Node.{Node}
 use Rattle.mq_core.specs.declared.model.Plan.{Plan}
 use Rattle.mq_core.specs.declared.model.Rows.{Rows}
-use Rattle.mq_report.specs.Tails.{IsTailAt}
 use Rattle.mq_report.specs.Totals.{pieces_in, start_of}
 use Rattle.mq_report.specs.declared.tail_pieces.NodeWaits.{NodeWaits}
 use Rattle.mq_stats.specs.Numbers.{AreVisits, visits_between}
 use Rattle.mq_stats.specs.Percentiles.{waits_at}
 use Rattle.mq_stats.specs.WaitCounts.{AreCountsTo}
-use Rattle.mq_stats.specs.declared.tails.Percentiles.{Percentiles}
 use Rattle.mq_stats.specs.declared.wait_counts.WaitCounts.{WaitCounts}
 
 -- visits to a node, and a bound up to which a table can count
@@ -41,8 +39,3 @@ pub record AreNodeWaits (plan : Plan) (rows : Rows) (count : ℕ) (all : List No
   pub len : length all ≡ count
   pub waited : AllByRecursion IsWaited all
   pub each : (v : ℕ) (its : NodeWaits) → slice_get all v ≡ Some its → AreWaitsAt plan rows v its
-
--- what was counted of the first nodes, as many as this: percentiles of their waits, where there are any
-pub record AreCounted (plan : Plan) (rows : Rows) (count : ℕ) (counted : List (Option Percentiles)) : Type 0 where
-  pub len : length counted ≡ count
-  pub each : (v : ℕ) (tail : Option Percentiles) → slice_get counted v ≡ Some tail → IfSome tail (IsTailAt plan rows v)

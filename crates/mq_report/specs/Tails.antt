@@ -1,5 +1,5 @@
 -- The percentiles of the waits at the nodes, in a list.
-use Rattle.std.specs.Prelude.{◌≡◌, ℕ, List, length, Some, slice_get}
+use Rattle.std.specs.Prelude.{◌≡◌, ℕ, IfSome, List, Option, length, Some, slice_get}
 use Rattle.mq_core.specs.Results.{visits_of}
 use Rattle.mq_core.specs.Sequences.{IsRunOf}
 use Rattle.mq_core.specs.StandardTable.{run_of}
@@ -28,9 +28,15 @@ IsTailAt plan rows v tail =
 abbrev pub AreNodeTails : Plan → Rows → List Percentiles → Type 0
 AreNodeTails plan rows tails = AreAll (IsTailAt plan rows) (length plan.net.nodes) tails
 
--- it is the run of a plan over rows, in which no node has too many visits, with its totals
+-- what was counted of the first nodes, as many as this: percentiles of their waits, where there are any
+pub record AreCounted (plan : Plan) (rows : Rows) (count : ℕ) (counted : List (Option Percentiles)) : Type 0 where
+  pub len : length counted ≡ count
+  pub each : (v : ℕ) (tail : Option Percentiles) → slice_get counted v ≡ Some tail → IfSome tail (IsTailAt plan rows v)
+
+-- it is the run of a plan over rows, in which no node has too many visits, with its totals and what was counted
 pub record IsRun (of : RunTails) : Type 0 where
   pub read : IsReadFor of.plan.now.net of.rows.now
   pub run : IsRunOf of.plan.now of.rows.now of.run.now
   pub few : HasFewVisits of.plan.now of.rows.now
   pub totals : AreNodeTotals of.plan.now of.rows.now of.totals.now
+  pub counted : AreCounted of.plan.now of.rows.now (length of.plan.now.net.nodes) of.counted.now

@@ -8,7 +8,8 @@ ghost use Rattle.mq_crew.specs.Crew.{AreAll, AreGroups};
 ghost use Rattle.mq_stats.specs.Percentiles.{ArePercentiles, waits_at};
 ghost use Rattle.mq_stats.specs.RunNumbers.{HasFewVisits};
 ghost use Rattle.mq_stats.specs.WaitCounts.{AreCountsTo};
-ghost use Rattle.mq_report.specs.TailPieces.{AreCounted, AreNodeWaits, IsPieceCounts, IsWaited, counted_pieces};
+ghost use Rattle.mq_report.specs.TailPieces.{AreNodeWaits, IsPieceCounts, IsWaited, counted_pieces};
+ghost use Rattle.mq_report.specs.Tails.{AreCounted};
 ghost use Rattle.mq_report.specs.Totals.{AreNodeTotals};
 
 use crate::sections::listed_totals;

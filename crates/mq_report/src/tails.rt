@@ -1,5 +1,5 @@
 // The percentiles of the waits at the nodes.
-ghost use Rattle.std.specs.Prelude.{◌≡◌, ◌≤◌, IfOk, Some, length, option_map, slice_get};
+ghost use Rattle.std.specs.Prelude.{◌≡◌, ◌≤◌, IfOk, IfSome, Some, length, option_map, slice_get};
 ghost use Rattle.mq_core.specs.Results.{totals_of, visits_of};
 ghost use Rattle.mq_core.specs.Sequences.{IsRunOf};
 ghost use Rattle.mq_core.specs.StandardTable.{run_of};
@@ -12,6 +12,7 @@ ghost use Rattle.mq_report.specs.Text.{told_tail as told_tail_of};
 ghost use Rattle.mq_report.specs.Totals.{AreNodeTotals};
 
 use crate::sections::listed_totals;
+use crate::tail_pieces::counted_tails;
 use mq_base::{List, OutOfMemory};
 use mq_core::{Node, Plan, Rows, Run, runs_have_sequences, totals_are_sequences};
 use mq_crew::{Gate, Pieces, made};
@@ -26,13 +27,15 @@ const NO_WAIT: Percentiles = Percentiles {
     p99: 0,
 };
 
-/// A run of a plan over rows, with the totals of its nodes. A piece of it is the percentiles of the waits at one node.
+/// A run of a plan over rows, with the totals of its nodes and what was counted of their waits. A piece of it is the percentiles
+/// of the waits at one node.
 #[derive(Clone, Copy)]
 pub struct RunTails<'a> {
     pub plan: &'a Plan,
     pub rows: &'a Rows,
     pub run: &'a Run,
     pub totals: &'a List<NodeTotals>,
+    pub counted: &'a List<Option<Percentiles>>,
 }
 
 impl<'a> Pieces for RunTails<'a> {
@@ -51,17 +54,21 @@ impl<'a> Pieces for RunTails<'a> {
     fn piece(&self, alloc: Global, b: u32) -> Result<Percentiles, OutOfMemory> {
         let declared = self.plan.net.nodes.get(b as usize);
         let totals = listed_totals(self.plan, self.rows, self.totals, b, declared);
-        tail_at(alloc, self.plan, self.rows, self.run, &totals, b, declared)
+        let counted = *self.counted.get(b as usize);
+        tail_at(
+            alloc, self.plan, self.rows, self.run, &totals, counted, b, declared,
+        )
     }
 }
 
-// The percentiles of the waits at a node over the run, which are looked for only where a job waited.
+// The percentiles of the waits at a node over the run, which are looked for only where a job waited and they weren't counted.
 fn tail_at(
     alloc: Global,
     plan: &Plan,
     rows: &Rows,
     run: &Run,
     totals: &NodeTotals,
+    counted: Option<Percentiles>,
     node: u32,
     declared: &Node,
 ) -> Result<Percentiles, OutOfMemory>
@@ -70,11 +77,15 @@ fn tail_at(
     requires few { HasFewVisits plan.now rows.now }
     requires there { slice_get plan.now.net.nodes node ≡ Some declared.now }
     requires totals { totals_from totals.now ≡ totals_of rows.now declared.now.kind ((run_of plan.now rows.now).stations node) }
+    requires counted { IfSome counted (IsTailAt plan.now rows.now node) }
     ensures { IfOk result (IsTailAt plan.now rows.now node) }
 {
     totals_are_sequences();
     if totals.longest == 0 {
         return Ok(NO_WAIT);
+    }
+    if let Some(tail) = counted {
+        return Ok(tail);
     }
     runs_have_sequences();
     runs_give_visits();
@@ -82,8 +93,9 @@ fn tail_at(
     tail_below(alloc, rows, &declared.kind, visits, totals.longest)
 }
 
-/// The percentiles of the waits at each node over a run with these totals, by node, each a piece that one of 1
-/// to 64 workers makes, who enter the gate. No node has more than 1,048,576 visits. It refuses for want of memory alone.
+/// The percentiles of the waits at each node over a run with these totals, by node. Mostly the waits are counted, by pieces of
+/// the visits; a node with percentiles that aren't counted by themselves is a piece of its own. 1 to 64 workers make the pieces,
+/// who enter the gate. No node has more than 1,048,576 visits. It refuses for want of memory alone.
 pub fn node_tails<R: Threads + Sync, G: Gate>(
     rt: &R,
     alloc: Global,
@@ -102,11 +114,13 @@ pub fn node_tails<R: Threads + Sync, G: Gate>(
     requires totals { AreNodeTotals plan.now rows.now totals.now }
     ensures { IfOk result (λ tails. AreNodeTails plan.now rows.now tails) }
 {
+    let counted = counted_tails(rt, alloc, workers, plan, rows, run, totals, gate)?;
     let nodes = RunTails {
         plan,
         rows,
         run,
         totals,
+        counted: &counted,
     };
     made(rt, alloc, workers, &nodes, gate)
 }

@@ -1,4 +1,4 @@
-use Rattle.mq_report.specs.TailPieces.{AreCounted}
+use Rattle.mq_report.specs.Tails.{AreCounted}
 use Rattle.mq_report.proofs.tail_pieces.counted_of.Given as goal
 
 -- the nodes so far
