@@ -14,4 +14,4 @@ pub mod Tables
 pub mod Gathering
 pub mod Leaves
 pub mod Lasts
-pub mod WaitTables
+pub mod WaitsJoin

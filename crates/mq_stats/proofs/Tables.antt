@@ -51,6 +51,19 @@ up-to-next wait (w ∷ waits) =
 by-next : (wait : ℕ) (table : List ℕ) → sum (take (suc wait) table) ≡ sum (take (wait + 1) table)
 by-next wait table = let same : suc wait ≡ wait + 1 = omega arith in ap (λ n. sum (take n table)) same
 
+-- the counts before a later index are no fewer
+pub sum-rises : (table : List ℕ) (i more : ℕ) → i + more ≤ length table → sum (take i table) ≤ sum (take (i + more) table)
+sum-rises table i zero l =
+    let same : i + 0 ≡ i = omega arith in
+    let here = ap (λ n. sum (take n table)) same in
+    omega arith
+sum-rises table i (suc more) l =
+    let rest = sum-rises table i more (omega arith) in
+    let next = sum_by_more (λ n. n) table (i + more) 0 (omega arith) in
+    let same : i + more + 1 ≡ i + suc more = omega arith in
+    let here = ap (λ n. sum (take n table)) same in
+    omega arith
+
 -- the counts up to an index are those of the waits up to it
 counts-up-to : (waits table : List ℕ) → IsTableOf waits table → (wait : ℕ) → wait + 1 < length table → sum (take (wait + 1) table) ≡ up_to wait waits
 counts-up-to waits table h zero l =

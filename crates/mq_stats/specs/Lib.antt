@@ -6,3 +6,4 @@ pub mod Percentiles
 pub mod Tables
 pub mod RunNumbers
 pub mod WaitCounts
+pub mod Waits

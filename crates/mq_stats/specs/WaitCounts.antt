@@ -8,7 +8,7 @@ use Rattle.mq_stats.specs.Percentiles.{waits_at}
 use Rattle.mq_stats.specs.Tables.{IsTableOf}
 use Rattle.mq_stats.specs.declared.wait_counts.WaitCounts.{WaitCounts}
 
--- they are the counts of these waits: of each number of ticks up to this, and of those that are longer
+-- they are the counts of these waits, of each number of ticks up to this
 pub record AreCountsTo (most : ℕ) (waits : List ℕ) (counts : WaitCounts) : Type 0 where
   pub many : counts.many ≡ length waits
   pub room : length counts.counts ≡ most + 2

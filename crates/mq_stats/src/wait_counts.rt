@@ -1,14 +1,16 @@
 // How many of the waits at a node are each number of ticks, by pieces of its visits.
-ghost use Rattle.std.specs.Prelude.{◌≡◌, ◌+◌, ◌++◌, ◌<◌, ◌≤◌, ℕ, List as Items, IfOk, IfSome, get_or, length};
-ghost use Rattle.mq_stats.specs.Numbers.{AreVisits, AreWaiting, AsksOnce, visits_between};
-ghost use Rattle.mq_stats.specs.Percentiles.{ArePercentiles, departed_waits, waits_at};
+ghost use Rattle.std.specs.Prelude.{◌≡◌, ◌↔◌, ◌+◌, ◌++◌, ◌<◌, ◌≤◌, ℕ, List as Items, IfOk, IfSome, IsSome, get_or, length};
+ghost use Rattle.mq_stats.specs.Numbers.{AreVisits, visits_between};
+ghost use Rattle.mq_stats.specs.Percentiles.{ArePercentiles, hundredths, waits_at};
+ghost use Rattle.mq_stats.specs.Tables.{own_counts};
 ghost use Rattle.mq_stats.specs.WaitCounts.{AreCountsTo, WaitsJoin};
+ghost use Rattle.mq_stats.specs.Waits.{AreWaiting, departed_waits_in};
 
 use crate::tails::{Percentiles, count_waits, counted};
 use crate::tallies::part;
-use crate::waits::{Alike, Asking, AtServers, InColumn};
+use crate::waits::{Alike, Asking, Asks, Waiting, asks_at};
 use mq_base::{List, OutOfMemory};
-use mq_core::{Demand, FateSlice, Kind, Rows, Visits};
+use mq_core::{Kind, Rows, Visits};
 use std::alloc::Global;
 
 /// How many of some waits are each number of ticks up to a greatest one.
@@ -16,109 +18,31 @@ use std::alloc::Global;
 pub struct WaitCounts {
     /// How many waits they are.
     pub many: u32,
-    /// For each number of ticks, how many of them are that long, and behind these how many are longer.
+    /// For each number of ticks, how many of them are that long. One number more stands behind these, for the longer ones.
     pub counts: List<u32>,
 }
 
-// The counts of the waits of visits to a node whose jobs ask so.
+// The counts of the waits of these visits, whose jobs ask so.
 fn counts_by<A: Asking>(
     alloc: Global,
     asking: &A,
-    rows: &Rows,
-    kind: &Kind,
-    job: &[u32],
-    arrive: &[u64],
-    fate: &FateSlice,
+    waiting: &Waiting,
     most: u32,
 ) -> Result<WaitCounts, OutOfMemory>
-    requires tells { A.tells asking.now kind.now }
-    requires visits { AreWaiting rows.now kind.now job.now arrive.now fate.now }
+    requires tells { A.tells asking.now waiting.now.kind.now }
+    requires visits { AreWaiting waiting.now }
     requires most { most ≤ 1048576 }
-    ensures { IfOk result (AreCountsTo most (departed_waits rows.now kind.now job.now arrive.now fate.now)) }
+    ensures { IfOk result (AreCountsTo most (departed_waits_in waiting.now)) }
 {
     let mut table = vec![in alloc; 0u32; most as usize + 2]?;
-    let many = count_waits(asking, rows, kind, job, arrive, fate, table.as_mut_slice());
+    let many = count_waits(asking, waiting, table.as_mut_slice());
     Ok(WaitCounts {
         many: many as u32,
         counts: List::from_vec(table),
     })
 }
 
-// The same at a node whose jobs ask for this demand alone.
-fn counts_for(
-    alloc: Global,
-    demand: &Demand,
-    rows: &Rows,
-    kind: &Kind,
-    job: &[u32],
-    arrive: &[u64],
-    fate: &FateSlice,
-    most: u32,
-) -> Result<WaitCounts, OutOfMemory>
-    requires tells { AsksOnce kind.now demand.now }
-    requires visits { AreWaiting rows.now kind.now job.now arrive.now fate.now }
-    requires most { most ≤ 1048576 }
-    ensures { IfOk result (AreCountsTo most (departed_waits rows.now kind.now job.now arrive.now fate.now)) }
-{
-    match demand {
-        Demand::Column(column) => {
-            counts_by(
-                alloc,
-                &InColumn(*column),
-                rows,
-                kind,
-                job,
-                arrive,
-                fate,
-                most,
-            )
-        }
-        Demand::Fixed(ticks) => counts_by(
-            alloc,
-            &Alike(*ticks),
-            rows,
-            kind,
-            job,
-            arrive,
-            fate,
-            most,
-        ),
-    }
-}
-
-// The same at a node of this kind.
-fn counts_at(
-    alloc: Global,
-    rows: &Rows,
-    kind: &Kind,
-    job: &[u32],
-    arrive: &[u64],
-    fate: &FateSlice,
-    most: u32,
-) -> Result<WaitCounts, OutOfMemory>
-    requires visits { AreWaiting rows.now kind.now job.now arrive.now fate.now }
-    requires most { most ≤ 1048576 }
-    ensures { IfOk result (AreCountsTo most (departed_waits rows.now kind.now job.now arrive.now fate.now)) }
-{
-    match kind {
-        // These serve no job.
-        Kind::Source | Kind::Split(_) | Kind::Fork { .. } | Kind::Join => {
-            counts_by(alloc, &Alike(0), rows, kind, job, arrive, fate, most)
-        }
-        Kind::Server(demand) | Kind::Delay(demand) => {
-            counts_for(alloc, demand, rows, kind, job, arrive, fate, most)
-        }
-        Kind::Loss { demand, .. } => counts_for(alloc, demand, rows, kind, job, arrive, fate, most),
-        Kind::Tandem(_) | Kind::ForkJoin(_) => {
-            counts_by(alloc, &AtServers, rows, kind, job, arrive, fate, most)
-        }
-        Kind::Trunk { demand, .. } => counts_for(
-            alloc, demand, rows, kind, job, arrive, fate, most,
-        ),
-    }
-}
-
-/// The counts of the waits of the visits to a node of this kind from one position up to another that depart: of each number
+/// The counts of the waits of those visits to a node of this kind that depart, from one position up to another: of each number
 /// of ticks up to `most`. It refuses for want of memory alone.
 pub fn count_between(
     alloc: Global,
@@ -135,10 +59,19 @@ pub fn count_between(
     requires within { to ≤ length visits.now.job }
     ensures { IfOk result (AreCountsTo most (waits_at rows.now kind.now (visits_between from to visits.now))) }
 {
-    let job = part(&visits.job, from, to);
-    let arrive = part(&visits.arrive, from, to);
-    let fate = visits.fate.part(from as usize, to as usize);
-    counts_at(alloc, rows, kind, job, arrive, &fate, most)
+    let waiting = Waiting {
+        rows,
+        kind,
+        job: part(&visits.job, from, to),
+        arrive: part(&visits.arrive, from, to),
+        fate: &visits.fate.part(from as usize, to as usize),
+    };
+    match asks_at(kind) {
+        Asks::Nothing => counts_by(alloc, &Alike(0), &waiting, most),
+        Asks::ByColumn(asking) => counts_by(alloc, &asking, &waiting, most),
+        Asks::AllAlike(asking) => counts_by(alloc, &asking, &waiting, most),
+        Asks::ByServers(asking) => counts_by(alloc, &asking, &waiting, most),
+    }
 }
 
 // Adds to each count the other at its index.
@@ -169,12 +102,13 @@ pub fn counts_added(before: WaitCounts, after: &WaitCounts) -> WaitCounts
     }
 }
 
-/// The percentiles of the waits of these counts, where each of the three is counted by itself.
+/// The percentiles of the waits of these counts, where 99 of 100 of them are counted by themselves.
 pub fn counted_percentiles(counts: &WaitCounts) -> Option<Percentiles>
-    requires some { 0 < length counts.now.counts }
+    requires some { 1 < length counts.now.counts }
     requires room { length counts.now.counts ≤ 1048578 }
     requires few { counts.now.many ≤ 1048576 }
-    ensures { (most : ℕ) (waits : Items ℕ) → AreCountsTo most waits counts.now → IfSome result (ArePercentiles waits) }
+    ensures told { IsSome result ↔ (hundredths 99 counts.now.many ≤ own_counts counts.now.counts) }
+    ensures percentiles { (most : ℕ) (waits : Items ℕ) → AreCountsTo most waits counts.now → IfSome result (ArePercentiles waits) }
 {
     counted(counts.counts.as_slice(), counts.many as usize)
 }

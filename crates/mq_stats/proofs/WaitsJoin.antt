@@ -1,7 +1,5 @@
--- Counts of waits are added up, as the waits of neighbouring visits stand one after another.
-use Rattle.std.proofs.Common.{◌≡◌, ℕ, ◌+◌, ◌≤◌, cond, List, [], ◌∷◌, ◌++◌, length, length-append, get_or, refl, sym, ap, ◌∙◌, arith}
-use Rattle.std.specs.Prelude.{◌==◌}
-use Rattle.std.proofs.lemmas.List.Sums.{sum_by-append}
+-- The waits of neighbouring visits stand one after another.
+use Rattle.std.proofs.Common.{◌≡◌, ℕ, ◌≤◌, List, [], ◌∷◌, ◌++◌, length, refl, sym, ap, ◌∙◌, arith}
 use Rattle.mq_base.proofs.lemmas.Between.{between-join, length-between}
 use Rattle.mq_core.specs.Sequences.{sequence_wait}
 use Rattle.mq_core.specs.declared.model.Fate.{Fate}
@@ -10,12 +8,9 @@ use Rattle.mq_core.specs.declared.model.Kind.{Kind}
 use Rattle.mq_core.specs.declared.model.Rows.{Rows}
 use Rattle.mq_core.specs.declared.model.Visits.{Visits}
 use Rattle.mq_stats.proofs.Joins.{totals-whole}
-use Rattle.mq_stats.proofs.Tables.{many_at}
 use Rattle.mq_stats.specs.Numbers.{AreVisits, visits_between}
 use Rattle.mq_stats.specs.Percentiles.{departed_waits, waits_at}
-use Rattle.mq_stats.specs.Tables.{IsTableOf}
-use Rattle.mq_stats.specs.WaitCounts.{AreCountsTo, WaitsJoin}
-use Rattle.mq_stats.specs.declared.wait_counts.WaitCounts.{WaitCounts}
+use Rattle.mq_stats.specs.WaitCounts.{WaitsJoin}
 
 departed-append : (rows : Rows) (kind : Kind) (jobs arrives : List ℕ) (fates : List Fate) (jobs' arrives' : List ℕ) (fates' : List Fate) → length arrives ≡ length jobs → length fates ≡ length jobs →
     departed_waits rows kind (jobs ++ jobs') (arrives ++ arrives') (fates ++ fates') ≡ departed_waits rows kind jobs arrives fates ++ departed_waits rows kind jobs' arrives' fates'
@@ -56,33 +51,3 @@ waits-join = record {
   few = λ rows kind visits. departed-few rows kind visits.job visits.arrive visits.fate;
   whole = totals-whole;
 }
-
--- counts at one index, added up, are those of both
-tables-added : (waits more table other sum : List ℕ) → length other ≡ length table → length sum ≡ length table → IsTableOf waits table → IsTableOf more other → ((at : ℕ) → get_or sum at 0 ≡ get_or table at 0 + get_or other at 0) → IsTableOf (waits ++ more) sum
-tables-added waits more table other sum even room h g added = record {
-  counts = λ wait l.
-      let first = h.counts wait (omega arith) in
-      let second = g.counts wait (omega arith) in
-      let here = added wait in
-      let all : many_at wait (waits ++ more) ≡ many_at wait waits + many_at wait more = sum_by-append (λ w. cond {A = ℕ} (w == wait) 1 0) waits more in
-      omega arith;
-}
-
-pub counts-added : (most : ℕ) (waits more : List ℕ) (before after sum : WaitCounts) → AreCountsTo most waits before → AreCountsTo most more after → sum.many ≡ before.many + after.many → length sum.counts ≡ length before.counts →
-    ((at : ℕ) → get_or sum.counts at 0 ≡ get_or before.counts at 0 + get_or after.counts at 0) → AreCountsTo most (waits ++ more) sum
-counts-added most waits more before after sum b a many room added =
-    let long = b.room in
-    let other = a.room in
-    let first = b.many in
-    let second = a.many in
-    let both = length-append waits more in
-    record {
-      many = omega arith;
-      room = omega arith;
-      table = tables-added waits more before.counts after.counts sum.counts (omega arith) room b.table a.table added;
-      small = λ wait.
-          let here = added wait in
-          let low = b.small wait in
-          let high = a.small wait in
-          omega arith;
-    }
