@@ -1,25 +1,22 @@
 // The waits at the nodes, counted by pieces of their visits.
 ghost use Rattle.std.specs.Prelude.{◌≡◌, ◌<◌, ◌≤◌, length, IfOk, IfSome, Some, slice_get};
 ghost use Rattle.mq_core.specs.Results.{visits_of};
-ghost use Rattle.mq_core.specs.Sequences.{IsRunOf};
 ghost use Rattle.mq_core.specs.StandardTable.{run_of};
-ghost use Rattle.mq_core.specs.Theorems.{IsReadFor};
 ghost use Rattle.mq_crew.specs.Crew.{AreAll, AreGroups};
 ghost use Rattle.mq_stats.specs.Percentiles.{ArePercentiles, waits_at};
-ghost use Rattle.mq_stats.specs.RunNumbers.{HasFewVisits};
 ghost use Rattle.mq_stats.specs.WaitCounts.{AreCountsTo};
 ghost use Rattle.mq_report.specs.TailPieces.{AreNodeWaits, IsPieceCounts, IsWaited, counted_pieces};
-ghost use Rattle.mq_report.specs.Tails.{AreCounted};
-ghost use Rattle.mq_report.specs.Totals.{AreNodeTotals};
+ghost use Rattle.mq_report.specs.Tails.{AreCounted, IsKnown};
 
 use crate::sections::listed_totals;
+use crate::tails::KnownRun;
 use crate::totals::{PIECE, piece_count};
 use mq_base::{List, OutOfMemory};
-use mq_core::{Kind, Node, Plan, Rows, Run, Visits, nodes_are_in_limits, runs_have_sequences};
+use mq_core::{Kind, Node, Rows, Visits, nodes_are_in_limits, runs_have_sequences};
 use mq_crew::{Gate, Pieces, run_parts};
 use mq_stats::{
-    NodeTotals, Percentiles, WaitCounts, count_between, counted_percentiles, counts_added,
-    runs_give_visits, waits_join,
+    Percentiles, WaitCounts, count_between, counted_percentiles, counts_added, runs_give_visits,
+    waits_join,
 };
 use std::alloc::Global;
 use std::thread::Threads;
@@ -69,28 +66,20 @@ impl<'a> Pieces for NodeWaits<'a> {
     }
 }
 
-// The visits to a node over the run with these totals.
-fn waits_of_node<'a>(
-    plan: &'a Plan,
-    rows: &'a Rows,
-    run: &'a Run,
-    totals: &NodeTotals,
-    node: u32,
-    declared: &'a Node,
-) -> NodeWaits<'a>
-    requires read { IsReadFor plan.now.net rows.now }
-    requires run { IsRunOf plan.now rows.now run.now }
-    requires few { HasFewVisits plan.now rows.now }
-    requires there { slice_get plan.now.net.nodes node ≡ Some declared.now }
+// The visits to a node over the run.
+fn waits_of_node<'a>(known: &KnownRun<'a>, node: u32, declared: &'a Node) -> NodeWaits<'a>
+    requires known { IsKnown known.now }
+    requires there { slice_get known.now.plan.now.net.nodes node ≡ Some declared.now }
     ensures waited { IsWaited result }
-    ensures waits { waits_at result.rows.now result.kind.now result.visits.now ≡ waits_at rows.now declared.now.kind (visits_of declared.now.kind ((run_of plan.now rows.now).stations node)) }
+    ensures waits { waits_at result.rows.now result.kind.now result.visits.now ≡ waits_at known.now.rows.now declared.now.kind (visits_of declared.now.kind ((run_of known.now.plan.now known.now.rows.now).stations node)) }
 {
     runs_have_sequences();
     runs_give_visits();
+    let totals = listed_totals(known.plan, known.rows, known.totals, node, declared);
     NodeWaits {
-        rows,
+        rows: known.rows,
         kind: &declared.kind,
-        visits: run.visits.get(node as usize),
+        visits: known.run.visits.get(node as usize),
         most: totals.longest.min(MOST) as u32,
     }
 }
@@ -98,23 +87,17 @@ fn waits_of_node<'a>(
 // The visits to each node over the run, by node.
 fn waits_by_node<'a>(
     alloc: Global,
-    plan: &'a Plan,
-    rows: &'a Rows,
-    run: &'a Run,
-    totals: &List<NodeTotals>,
+    known: &KnownRun<'a>,
 ) -> Result<List<NodeWaits<'a>>, OutOfMemory>
-    requires read { IsReadFor plan.now.net rows.now }
-    requires run { IsRunOf plan.now rows.now run.now }
-    requires few { HasFewVisits plan.now rows.now }
-    requires totals { AreNodeTotals plan.now rows.now totals.now }
-    ensures { IfOk result (λ all. AreNodeWaits plan.now rows.now (length plan.now.net.nodes) all) }
+    requires { IsKnown known.now }
+    ensures { IfOk result (λ all. AreNodeWaits known.now.plan.now known.now.rows.now (length known.now.plan.now.net.nodes) all) }
 {
     nodes_are_in_limits();
+    let plan = known.plan;
     let mut all = List::new(alloc);
     for node in 0..plan.net.nodes.len() {
         let declared = plan.net.nodes.get(node);
-        let its = listed_totals(plan, rows, totals, node as u32, declared);
-        all.push(waits_of_node(plan, rows, run, &its, node as u32, declared))?;
+        all.push(waits_of_node(known, node as u32, declared))?;
     }
     Ok(all)
 }
@@ -138,7 +121,7 @@ fn sum_of_counts(
     Ok(sum)
 }
 
-// The percentiles of the waits at a node, where each of the three is counted by itself.
+// The percentiles of the waits at a node, where its pieces count 99 of 100 of them by themselves.
 fn counted_at(
     alloc: Global,
     node: &NodeWaits,
@@ -159,14 +142,13 @@ fn counted_at(
 // The same of each node.
 fn counted_of(
     alloc: Global,
-    plan: &Plan,
-    rows: &Rows,
+    known: &KnownRun,
     all: &List<NodeWaits>,
     groups: &List<List<WaitCounts>>,
 ) -> Result<List<Option<Percentiles>>, OutOfMemory>
-    requires waits { AreNodeWaits plan.now rows.now (length plan.now.net.nodes) all.now }
+    requires waits { AreNodeWaits known.now.plan.now known.now.rows.now (length known.now.plan.now.net.nodes) all.now }
     requires groups { AreGroups counted_pieces IsPieceCounts all.now groups.now }
-    ensures { IfOk result (λ counted. AreCounted plan.now rows.now (length plan.now.net.nodes) counted) }
+    ensures { IfOk result (λ counted. AreCounted known.now.plan.now known.now.rows.now (length known.now.plan.now.net.nodes) counted) }
 {
     let mut counted = List::new(alloc);
     for node in 0..all.len() {
@@ -175,28 +157,22 @@ fn counted_of(
     Ok(counted)
 }
 
-/// The percentiles of the waits at each node over a run with these totals, by node, where each of the three is counted by
-/// itself. The visits are cut into pieces as for the totals, and 1 to 64 workers make them, who enter the gate.
+/// The percentiles of the waits at each node over a run, by node, where 99 of 100 of them are at most 16,384 ticks. The visits
+/// are cut into pieces as for the totals, and 1 to 64 workers make them, who enter the gate.
 /// It refuses for want of memory alone.
 pub fn counted_tails<R: Threads + Sync, G: Gate>(
     rt: &R,
     alloc: Global,
     workers: u32,
-    plan: &Plan,
-    rows: &Rows,
-    run: &Run,
-    totals: &List<NodeTotals>,
+    known: &KnownRun,
     gate: &G,
 ) -> Result<List<Option<Percentiles>>, OutOfMemory>
     requires some { 1 ≤ workers }
     requires most { workers ≤ 64 }
-    requires read { IsReadFor plan.now.net rows.now }
-    requires run { IsRunOf plan.now rows.now run.now }
-    requires few { HasFewVisits plan.now rows.now }
-    requires totals { AreNodeTotals plan.now rows.now totals.now }
-    ensures { IfOk result (λ counted. AreCounted plan.now rows.now (length plan.now.net.nodes) counted) }
+    requires known { IsKnown known.now }
+    ensures { IfOk result (λ counted. AreCounted known.now.plan.now known.now.rows.now (length known.now.plan.now.net.nodes) counted) }
 {
-    let all = waits_by_node(alloc, plan, rows, run, totals)?;
+    let all = waits_by_node(alloc, known)?;
     let groups = run_parts(rt, alloc, workers, all.as_slice(), gate)?;
-    counted_of(alloc, plan, rows, &all, &groups)
+    counted_of(alloc, known, &all, &groups)
 }

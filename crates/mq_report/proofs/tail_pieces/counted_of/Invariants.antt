@@ -3,4 +3,4 @@ use Rattle.mq_report.proofs.tail_pieces.counted_of.Given as goal
 
 -- the nodes so far
 abbrev pub invariant-loop-node : goal.invariant-loop-node
-invariant-loop-node l = AreCounted l.plan l.rows l.node l.counted
+invariant-loop-node l = AreCounted l.known.plan.now l.known.rows.now l.node l.counted

@@ -3,4 +3,4 @@ use Rattle.mq_report.proofs.tail_pieces.waits_by_node.Given as goal
 
 -- the nodes so far
 abbrev pub invariant-loop-node : goal.invariant-loop-node
-invariant-loop-node l = AreNodeWaits l.plan l.rows l.node l.all
+invariant-loop-node l = AreNodeWaits l.known.plan.now l.known.rows.now l.node l.all
