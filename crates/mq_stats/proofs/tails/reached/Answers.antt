@@ -1,4 +1,4 @@
-use Rattle.std.proofs.Common.{◌≡◌, ◌+◌, ◌<◌, ◌≤◌, ap, arith, length, refl, take}
+use Rattle.std.proofs.Common.{◌≡◌, ◌+◌, ap, arith, length, refl, take}
 use Rattle.std.specs.Prelude.{◌-◌, sum}
 use Rattle.std.proofs.lemmas.List.Sums.{sum_by_more}
 use Rattle.mq_stats.proofs.Tables.{sum-rises}
