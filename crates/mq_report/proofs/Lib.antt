@@ -5,3 +5,4 @@ pub mod NodeTotals
 pub mod Spans
 pub mod NodeTails
 pub mod NoWaits
+pub mod CountedTails

@@ -22,7 +22,7 @@ use Rattle.mq_stats.specs.Numbers.{TotalsJoin, added_totals, totals_from, visits
 use Rattle.mq_stats.specs.declared.tallies.NodeTotals.{NodeTotals}
 
 -- what holds of each item of a list with its index still does when the next has been pushed
-pushed-at : {X : Type 0} (P : ℕ → X → Type 0) (v : ℕ) (xs xs' : List X) (y : X) → length xs ≡ v → ((u : ℕ) (x : X) → slice_get xs u ≡ Some x → P u x) → P v y → xs' ≡ xs ++ y ∷ [] → (u : ℕ) (x : X) → slice_get xs' u ≡ Some x → P u x
+pub pushed-at : {X : Type 0} (P : ℕ → X → Type 0) (v : ℕ) (xs xs' : List X) (y : X) → length xs ≡ v → ((u : ℕ) (x : X) → slice_get xs u ≡ Some x → P u x) → P v y → xs' ≡ xs ++ y ∷ [] → (u : ℕ) (x : X) → slice_get xs' u ≡ Some x → P u x
 pushed-at P v xs xs' y len each at grown u x here = go (ap (λ l. slice_get l u) (sym grown) ∙ here) (ltb u v) refl
   where
     go : slice_get (xs ++ y ∷ []) u ≡ Some x → (b : Bool) → ltb u v ≡ b → P u x
@@ -69,7 +69,7 @@ before-few node b sum piece visited before its =
     omega arith
 
 -- the pieces are all visits
-pieces-all : (count : ℕ) → start_of count (pieces_in count) ≡ count
+pub pieces-all : (count : ℕ) → start_of count (pieces_in count) ≡ count
 pieces-all count =
     let parts = mod-add-div' (count + 16383) 16384 in
     let rest : (count + 16383) % 16384 < 16384 = omega arith in

@@ -2,3 +2,4 @@ pub mod Sequences
 pub mod Tails
 pub mod Text
 pub mod Totals
+pub mod TailPieces

@@ -5,6 +5,7 @@ mod jobs;
 mod line;
 mod lines;
 mod sections;
+mod tail_pieces;
 mod tails;
 mod totals;
 

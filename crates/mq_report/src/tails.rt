@@ -1,21 +1,21 @@
 // The percentiles of the waits at the nodes.
-ghost use Rattle.std.specs.Prelude.{◌≡◌, ◌≤◌, IfOk, Some, length, option_map, slice_get};
-ghost use Rattle.mq_core.specs.Results.{totals_of, visits_of};
+ghost use Rattle.std.specs.Prelude.{◌≡◌, ◌≤◌, IfOk, IfSome, Some, length, option_map, slice_get};
+ghost use Rattle.mq_core.specs.Results.{visits_of};
 ghost use Rattle.mq_core.specs.Sequences.{IsRunOf};
 ghost use Rattle.mq_core.specs.StandardTable.{run_of};
 ghost use Rattle.mq_core.specs.Theorems.{IsReadFor};
-ghost use Rattle.mq_stats.specs.Numbers.{totals_from};
 ghost use Rattle.mq_stats.specs.Percentiles.{waits_at};
 ghost use Rattle.mq_stats.specs.RunNumbers.{HasFewVisits};
-ghost use Rattle.mq_report.specs.Tails.{AreNodeTails, IsRun, IsTailAt, tail_from};
+ghost use Rattle.mq_report.specs.Tails.{AreNodeTails, IsKnown, IsRun, IsTailAt, tail_from};
 ghost use Rattle.mq_report.specs.Text.{told_tail as told_tail_of};
 ghost use Rattle.mq_report.specs.Totals.{AreNodeTotals};
 
 use crate::sections::listed_totals;
+use crate::tail_pieces::counted_tails;
 use mq_base::{List, OutOfMemory};
 use mq_core::{Node, Plan, Rows, Run, runs_have_sequences, totals_are_sequences};
 use mq_crew::{Gate, Pieces, made};
-use mq_stats::{NodeTotals, Percentiles, runs_give_visits, tail};
+use mq_stats::{NodeTotals, Percentiles, runs_give_visits, tail_below};
 use std::alloc::Global;
 use std::thread::Threads;
 
@@ -26,13 +26,21 @@ const NO_WAIT: Percentiles = Percentiles {
     p99: 0,
 };
 
-/// A run of a plan over rows, with the totals of its nodes. A piece of it is the percentiles of the waits at one node.
+/// A run of a plan over rows, with the totals of its nodes.
 #[derive(Clone, Copy)]
-pub struct RunTails<'a> {
+pub struct KnownRun<'a> {
     pub plan: &'a Plan,
     pub rows: &'a Rows,
     pub run: &'a Run,
     pub totals: &'a List<NodeTotals>,
+}
+
+/// What the percentiles of a run are told from: a piece of it is those of the waits at one node.
+#[derive(Clone, Copy)]
+pub struct RunTails<'a> {
+    pub known: KnownRun<'a>,
+    /// Those that were counted, by node.
+    pub counted: &'a List<Option<Percentiles>>,
 }
 
 impl<'a> Pieces for RunTails<'a> {
@@ -40,49 +48,51 @@ impl<'a> Pieces for RunTails<'a> {
 
     ghost fit = { IsRun };
 
-    ghost size = { λ of. length of.plan.now.net.nodes };
+    ghost size = { λ of. length of.known.plan.now.net.nodes };
 
-    ghost is_piece = { λ of. IsTailAt of.plan.now of.rows.now };
+    ghost is_piece = { λ of. IsTailAt of.known.plan.now of.known.rows.now };
 
     fn count(&self) -> u32 {
-        self.plan.net.nodes.len() as u32
+        self.known.plan.net.nodes.len() as u32
     }
 
     fn piece(&self, alloc: Global, b: u32) -> Result<Percentiles, OutOfMemory> {
-        let declared = self.plan.net.nodes.get(b as usize);
-        let totals = listed_totals(self.plan, self.rows, self.totals, b, declared);
-        tail_at(alloc, self.plan, self.rows, self.run, &totals, b, declared)
+        let declared = self.known.plan.net.nodes.get(b as usize);
+        let counted = *self.counted.get(b as usize);
+        tail_at(alloc, &self.known, counted, b, declared)
     }
 }
 
-// The percentiles of the waits at a node over the run, which are looked for only where a job waited.
+// The percentiles of the waits at a node over the run, which are looked for only where a job waited and they weren't counted.
 fn tail_at(
     alloc: Global,
-    plan: &Plan,
-    rows: &Rows,
-    run: &Run,
-    totals: &NodeTotals,
+    known: &KnownRun,
+    counted: Option<Percentiles>,
     node: u32,
     declared: &Node,
 ) -> Result<Percentiles, OutOfMemory>
-    requires read { IsReadFor plan.now.net rows.now }
-    requires run { IsRunOf plan.now rows.now run.now }
-    requires few { HasFewVisits plan.now rows.now }
-    requires there { slice_get plan.now.net.nodes node ≡ Some declared.now }
-    requires totals { totals_from totals.now ≡ totals_of rows.now declared.now.kind ((run_of plan.now rows.now).stations node) }
-    ensures { IfOk result (IsTailAt plan.now rows.now node) }
+    requires known { IsKnown known.now }
+    requires there { slice_get known.now.plan.now.net.nodes node ≡ Some declared.now }
+    requires counted { IfSome counted (IsTailAt known.now.plan.now known.now.rows.now node) }
+    ensures { IfOk result (IsTailAt known.now.plan.now known.now.rows.now node) }
 {
     totals_are_sequences();
+    let totals = listed_totals(known.plan, known.rows, known.totals, node, declared);
     if totals.longest == 0 {
         return Ok(NO_WAIT);
     }
+    if let Some(tail) = counted {
+        return Ok(tail);
+    }
     runs_have_sequences();
     runs_give_visits();
-    tail(alloc, rows, &declared.kind, run.visits.get(node as usize))
+    let visits = known.run.visits.get(node as usize);
+    tail_below(alloc, known.rows, &declared.kind, visits, totals.longest)
 }
 
-/// The percentiles of the waits at each node over a run with these totals, by node, each a piece that one of 1
-/// to 64 workers makes, who enter the gate. No node has more than 1,048,576 visits. It refuses for want of memory alone.
+/// The percentiles of the waits at each node over a run with these totals, by node. Mostly the waits are counted, by pieces of
+/// the visits; a node with percentiles that aren't counted by themselves is a piece of its own. 1 to 64 workers make the pieces,
+/// who enter the gate. No node has more than 1,048,576 visits. It refuses for want of memory alone.
 pub fn node_tails<R: Threads + Sync, G: Gate>(
     rt: &R,
     alloc: Global,
@@ -101,11 +111,16 @@ pub fn node_tails<R: Threads + Sync, G: Gate>(
     requires totals { AreNodeTotals plan.now rows.now totals.now }
     ensures { IfOk result (λ tails. AreNodeTails plan.now rows.now tails) }
 {
-    let nodes = RunTails {
+    let known = KnownRun {
         plan,
         rows,
         run,
         totals,
+    };
+    let counted = counted_tails(rt, alloc, workers, &known, gate)?;
+    let nodes = RunTails {
+        known,
+        counted: &counted,
     };
     made(rt, alloc, workers, &nodes, gate)
 }

@@ -21,7 +21,7 @@ use std::alloc::Global;
 use std::thread::Threads;
 
 // How many visits are a piece: what is read of them fits a processor's own memory.
-const PIECE: u32 = 16_384;
+pub const PIECE: u32 = 16_384;
 
 /// The visits to a node of this kind over a run with this span, in ticks. A piece of them is the totals of
 /// so many neighbours.
@@ -56,7 +56,7 @@ impl<'a> Pieces for NodeVisits<'a> {
 }
 
 // How many pieces so many visits make.
-fn piece_count(count: u32) -> u32
+pub fn piece_count(count: u32) -> u32
     requires { count ≤ 1048576 }
     ensures { result ≡ pieces_in count }
 {

@@ -14,3 +14,4 @@ pub mod Tables
 pub mod Gathering
 pub mod Leaves
 pub mod Lasts
+pub mod WaitsJoin

@@ -1,11 +1,11 @@
 -- Waits that are counted in a table: the first index up to which so many are counted is their percentile.
-use Rattle.std.proofs.Common.{◌≡◌, ℕ, zero, suc, ◌+◌, ◌<◌, ◌≤◌, ◌⊎◌, inl, inr, Bool, true, false, cond, List, [], ◌∷◌, drop, get_or, length, min, replicate, set, take, Some, refl, sym, ap, ◌∙◌, arith}
+use Rattle.std.proofs.Common.{◌≡◌, ℕ, zero, suc, ◌+◌, ◌<◌, ◌≤◌, ◌⊎◌, inl, inr, Bool, true, false, cond, List, [], ◌∷◌, drop, get_or, length, min, set, take, Some, refl, sym, ap, ◌∙◌, arith}
 use Rattle.std.specs.Prelude.{◌≢◌, ◌==◌, count_by, nat_le, slice_get, sum}
 use Rattle.std.specs.List.{Contains, filter}
 use Rattle.std.proofs.lemmas.Bool.{cases_lt}
 use Rattle.std.proofs.lemmas.Bool.Decides.{nat_tests}
 use Rattle.std.proofs.lemmas.Grind.{get_or-set_at}
-use Rattle.std.proofs.lemmas.List.{drop_all, get_or-replicate, get_or-set_other, get_or_past, length-replicate}
+use Rattle.std.proofs.lemmas.List.{drop_all, get_or-set_other}
 use Rattle.std.proofs.lemmas.List.Sums.{sum_by_more}
 use Rattle.mq_core.specs.Sequences.{sequence_wait}
 use Rattle.mq_core.specs.declared.model.Fate.{Fate}
@@ -50,6 +50,19 @@ up-to-next wait (w ∷ waits) =
 
 by-next : (wait : ℕ) (table : List ℕ) → sum (take (suc wait) table) ≡ sum (take (wait + 1) table)
 by-next wait table = let same : suc wait ≡ wait + 1 = omega arith in ap (λ n. sum (take n table)) same
+
+-- the counts before a later index are no fewer
+pub sum-rises : (table : List ℕ) (i more : ℕ) → i + more ≤ length table → sum (take i table) ≤ sum (take (i + more) table)
+sum-rises table i zero l =
+    let same : i + 0 ≡ i = omega arith in
+    let here = ap (λ n. sum (take n table)) same in
+    omega arith
+sum-rises table i (suc more) l =
+    let rest = sum-rises table i more (omega arith) in
+    let next = sum_by_more (λ n. n) table (i + more) 0 (omega arith) in
+    let same : i + more + 1 ≡ i + suc more = omega arith in
+    let here = ap (λ n. sum (take n table)) same in
+    omega arith
 
 -- the counts up to an index are those of the waits up to it
 counts-up-to : (waits table : List ℕ) → IsTableOf waits table → (wait : ℕ) → wait + 1 < length table → sum (take (wait + 1) table) ≡ up_to wait waits
@@ -200,14 +213,6 @@ set-small xs at x i most l h k = go (i == at) refl
     go : (b : Bool) → (i == at) ≡ b → get_or (set xs at x) i 0 ≤ most
     go true e = let own = get_or-set_at xs at i x 0 (is-equal i at e) l in omega arith
     go false e = let other = get_or-set_other xs at i x 0 (not-equal i at e) in omega arith
-
--- An empty table counts none.
-pub zeros : (n i : ℕ) → let zero : ℕ = 0 in get_or (replicate n zero) i zero ≡ zero
-zeros n i = go (cases_lt i n)
-  where
-    go : (i < n) ⊎ (n ≤ i) → let zero : ℕ = 0 in get_or (replicate n zero) i zero ≡ zero
-    go (inl l) = get_or-replicate n i 0 0 l
-    go (inr l) = let long : length (replicate {A = ℕ} n 0) ≡ n = length-replicate n 0 in get_or_past (replicate n 0) i 0 (omega arith)
 
 -- behind the last visit no wait is left
 pub none-left : (rows : Rows) (kind : Kind) (jobs arrives : List ℕ) (fates : List Fate) (i : ℕ) → length jobs ≤ i → departed_waits rows kind (drop i jobs) (drop i arrives) (drop i fates) ≡ []

@@ -5,3 +5,5 @@ pub mod Numbers
 pub mod Percentiles
 pub mod Tables
 pub mod RunNumbers
+pub mod WaitCounts
+pub mod Waits

@@ -25,13 +25,6 @@ pub record AreVisits (rows : Rows) (kind : Kind) (visits : Visits) : Type 0 wher
   pub told : All (λ job. HasDemands rows kind job) visits.job
   pub small : All (λ found. found ≤ 1048576) visits.found
 
--- The same of jobs, arrivals and fates alone.
-pub record AreWaiting (rows : Rows) (kind : Kind) (job arrive : List ℕ) (fate : List Fate) : Type 0 where
-  pub few : length job ≤ 1048576
-  pub arrives : length arrive ≡ length job
-  pub fates : length fate ≡ length job
-  pub told : All (λ j. HasDemands rows kind j) job
-
 -- visits whose columns are these
 abbrev pub visits_of_columns : List ℕ → List ℕ → List ℕ → List Fate → Visits
 visits_of_columns job arrive found fate = record { job = job; arrive = arrive; found = found; fate = fate }

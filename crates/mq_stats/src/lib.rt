@@ -11,6 +11,7 @@ mod pieces;
 mod spans;
 mod tails;
 mod tallies;
+mod wait_counts;
 mod waits;
 
 pub use exits::{Exit, leaving};
@@ -20,6 +21,7 @@ pub use pieces::{
     AheadTable, ahead, ahead_of, ahead_of_departures, found_piece, found_piece_in_order,
 };
 pub use spans::{last_at, span};
-pub use tails::{Percentiles, tail};
+pub use tails::{Percentiles, tail, tail_below};
 pub use tallies::{NodeTotals, totals, totals_added, totals_between, totals_join};
+pub use wait_counts::{WaitCounts, count_between, counted_percentiles, counts_added, waits_join};
 pub use waits::wait_of;

@@ -1,14 +1,15 @@
 // The percentiles of the waits at a node.
-ghost use Rattle.std.specs.Prelude.{◌≡◌, ◌+◌, ◌-◌, ◌<◌, ◌≤◌, ℕ, List as Items, IfOk, IfSome, Some, [], length, replicate, slice_get, take};
+ghost use Rattle.std.specs.Prelude.{◌≡◌, ◌↔◌, ◌-◌, ◌<◌, ◌≤◌, ℕ, List as Items, IfOk, IfSome, IsSome, Some, [], get_or, length, slice_get, take};
 ghost use Rattle.mq_core.specs.declared.model.Kind.{Kind as TheKind};
 ghost use Rattle.mq_core.specs.declared.model.Rows.{Rows as TheRows};
-ghost use Rattle.mq_stats.specs.Numbers.{AreVisits, AreWaiting, AsksOnce};
-ghost use Rattle.mq_stats.specs.Percentiles.{ArePercentiles, departed_waits, hundredths as hundredths_of, waits_at, with_wait};
-ghost use Rattle.mq_stats.specs.Tables.{IsReached, IsTableOf};
+ghost use Rattle.mq_stats.specs.Numbers.{AreVisits};
+ghost use Rattle.mq_stats.specs.Percentiles.{ArePercentiles, hundredths as hundredths_of, waits_at, with_wait};
+ghost use Rattle.mq_stats.specs.Tables.{IsReached, IsTableOf, own_counts};
+ghost use Rattle.mq_stats.specs.Waits.{AreWaiting, departed_waits_in};
 
-use crate::waits::{Alike, Asking, AtServers, InColumn, wait_beyond};
+use crate::waits::{Alike, Asking, Asks, Waiting, asks_at, wait_beyond};
 use mq_base::OutOfMemory;
-use mq_core::{Demand, Fate, FateSlice, Kind, Rows, Visits};
+use mq_core::{Fate, Kind, Rows, Visits};
 use std::alloc::Global;
 
 /// Percentiles of the waits at a node, in ticks, over the visits that depart: the least wait that so many hundredths
@@ -37,22 +38,21 @@ fn one_if_departs(fate: Fate) -> usize
 // is written over, so that the loop looks at no fate twice.
 // Its loop is not inlined, so that it has the registers to itself.
 #[inline(never)]
-fn put_waits<A: Asking>(
-    asking: &A,
-    rows: &Rows,
-    kind: &Kind,
-    job: &[u32],
-    arrive: &[u64],
-    fate: &FateSlice,
-    waits: &mut [u64],
-) -> usize
-    requires tells { A.tells asking.now kind.now }
-    requires visits { AreWaiting rows.now kind.now job.now arrive.now fate.now }
-    requires room { length waits.old ≡ length job.now }
-    ensures room { length waits.new ≡ length job.now }
-    ensures within { result ≤ length job.now }
-    ensures waits { take result waits.new ≡ departed_waits rows.now kind.now job.now arrive.now fate.now }
+fn put_waits<A: Asking>(asking: &A, waiting: &Waiting, waits: &mut [u64]) -> usize
+    requires tells { A.tells asking.now waiting.now.kind.now }
+    requires visits { AreWaiting waiting.now }
+    requires room { length waits.old ≡ length waiting.now.job.now }
+    ensures room { length waits.new ≡ length waiting.now.job.now }
+    ensures within { result ≤ length waiting.now.job.now }
+    ensures waits { take result waits.new ≡ departed_waits_in waiting.now }
 {
+    let Waiting {
+        rows,
+        kind,
+        job,
+        arrive,
+        fate,
+    } = *waiting;
     let mut kept = 0;
     for at in 0..job.len() {
         let ending = fate.at(at);
@@ -67,23 +67,24 @@ fn put_waits<A: Asking>(
 // the last index or greater there.
 // Its loop is not inlined, so that it has the registers to itself.
 #[inline(never)]
-fn count_waits<A: Asking>(
-    asking: &A,
-    rows: &Rows,
-    kind: &Kind,
-    job: &[u32],
-    arrive: &[u64],
-    fate: &FateSlice,
-    table: &mut [u32],
-) -> usize
-    requires tells { A.tells asking.now kind.now }
-    requires visits { AreWaiting rows.now kind.now job.now arrive.now fate.now }
-    requires empty { table.old ≡ replicate (length job.now + 1) 0 }
-    ensures within { result ≤ length job.now }
-    ensures many { result ≡ length (departed_waits rows.now kind.now job.now arrive.now fate.now) }
-    ensures room { length table.new ≡ length job.now + 1 }
-    ensures table { IsTableOf (departed_waits rows.now kind.now job.now arrive.now fate.now) table.new }
+pub fn count_waits<A: Asking>(asking: &A, waiting: &Waiting, table: &mut [u32]) -> usize
+    requires tells { A.tells asking.now waiting.now.kind.now }
+    requires visits { AreWaiting waiting.now }
+    requires some { 0 < length table.old }
+    requires empty { (wait : ℕ) → get_or table.old wait 0 ≡ 0 }
+    ensures within { result ≤ length waiting.now.job.now }
+    ensures many { result ≡ length (departed_waits_in waiting.now) }
+    ensures room { length table.new ≡ length table.old }
+    ensures table { IsTableOf (departed_waits_in waiting.now) table.new }
+    ensures small { (wait : ℕ) → get_or table.new wait 0 ≤ result }
 {
+    let Waiting {
+        rows,
+        kind,
+        job,
+        arrive,
+        fate,
+    } = *waiting;
     let last = table.len() - 1;
     let mut many = 0;
     for at in 0..job.len() {
@@ -106,11 +107,12 @@ fn hundredths(p: usize, many: usize) -> usize
     (p * many + 99) / 100
 }
 
-// The least wait that so many don't pass, where the table counts it by itself.
+// The least wait that so many don't pass, where the table counts so many by themselves.
 fn reached(table: &[u32], many: usize) -> Option<u64>
-    requires some { 0 < length table.now }
-    requires few { length table.now ≤ 1048577 }
-    ensures { IfSome result (IsReached table.now many) }
+    requires some { 1 < length table.now }
+    requires few { length table.now ≤ 1048578 }
+    ensures told { IsSome result ↔ (many ≤ own_counts table.now) }
+    ensures reached { IfSome result (IsReached table.now many) }
 {
     let mut so_far = 0;
     for wait in 0..table.len() - 1 {
@@ -122,12 +124,13 @@ fn reached(table: &[u32], many: usize) -> Option<u64>
     None
 }
 
-// The percentiles of so many waits, where the table counts each of these three by itself.
-fn counted(table: &[u32], many: usize) -> Option<Percentiles>
-    requires some { 0 < length table.now }
-    requires few { length table.now ≤ 1048577 }
+// The percentiles of so many waits, where the table counts 99 of 100 of them by themselves.
+pub fn counted(table: &[u32], many: usize) -> Option<Percentiles>
+    requires some { 1 < length table.now }
+    requires few { length table.now ≤ 1048578 }
     requires within { many ≤ 1048576 }
-    ensures { (waits : Items ℕ) → many ≡ length waits → IsTableOf waits table.now → IfSome result (ArePercentiles waits) }
+    ensures told { IsSome result ↔ (hundredths_of 99 many ≤ own_counts table.now) }
+    ensures percentiles { (waits : Items ℕ) → many ≡ length waits → IsTableOf waits table.now → IfSome result (ArePercentiles waits) }
 {
     let p99 = reached(table, hundredths(99, many))?;
     let p90 = reached(table, hundredths(90, many))?;
@@ -158,22 +161,20 @@ fn sorted(waits: &mut [u64]) -> Percentiles
     }
 }
 
-// The percentiles of the waits at a node, where each of these three is below the number of visits.
+// The percentiles of the waits of these visits, where each of the three is at most this number and the number of visits.
 fn counted_tail<A: Asking>(
     alloc: Global,
     asking: &A,
-    rows: &Rows,
-    kind: &Kind,
-    job: &[u32],
-    arrive: &[u64],
-    fate: &FateSlice,
+    waiting: &Waiting,
+    longest: u64,
 ) -> Result<Option<Percentiles>, OutOfMemory>
-    requires tells { A.tells asking.now kind.now }
-    requires visits { AreWaiting rows.now kind.now job.now arrive.now fate.now }
-    ensures { IfOk result (λ tail. IfSome tail (ArePercentiles (departed_waits rows.now kind.now job.now arrive.now fate.now))) }
+    requires tells { A.tells asking.now waiting.now.kind.now }
+    requires visits { AreWaiting waiting.now }
+    ensures { IfOk result (λ tail. IfSome tail (ArePercentiles (departed_waits_in waiting.now))) }
 {
-    let mut table = vec![in alloc; 0u32; job.len() + 1]?;
-    let many = count_waits(asking, rows, kind, job, arrive, fate, table.as_mut_slice());
+    let most = longest.min(waiting.job.len() as u64) as usize;
+    let mut table = vec![in alloc; 0u32; most + 2]?;
+    let many = count_waits(asking, waiting, table.as_mut_slice());
     Ok(counted(table.as_slice(), many))
 }
 
@@ -181,62 +182,61 @@ fn counted_tail<A: Asking>(
 fn sorted_tail<A: Asking>(
     alloc: Global,
     asking: &A,
-    rows: &Rows,
-    kind: &Kind,
-    job: &[u32],
-    arrive: &[u64],
-    fate: &FateSlice,
+    waiting: &Waiting,
 ) -> Result<Percentiles, OutOfMemory>
-    requires tells { A.tells asking.now kind.now }
-    requires visits { AreWaiting rows.now kind.now job.now arrive.now fate.now }
-    ensures { IfOk result (ArePercentiles (departed_waits rows.now kind.now job.now arrive.now fate.now)) }
+    requires tells { A.tells asking.now waiting.now.kind.now }
+    requires visits { AreWaiting waiting.now }
+    ensures { IfOk result (ArePercentiles (departed_waits_in waiting.now)) }
 {
-    let mut waits = vec![in alloc; 0u64; job.len()]?;
-    let kept = put_waits(asking, rows, kind, job, arrive, fate, waits.as_mut_slice());
+    let mut waits = vec![in alloc; 0u64; waiting.job.len()]?;
+    let kept = put_waits(asking, waiting, waits.as_mut_slice());
     waits.truncate(kept);
     Ok(sorted(waits.as_mut_slice()))
 }
 
-// The percentiles of the waits at a node whose jobs ask so. Mostly each is below the number of visits: then a table no longer
-// than the visits tells it, and nothing is put in order. Else the waits are sorted.
+// The percentiles of the waits of these visits, whose jobs ask so. Mostly each is at most the number of visits: then a table
+// no longer than the visits and the longest wait need tells it, and nothing is put in order. Else the waits are sorted.
 fn tail_by<A: Asking>(
     alloc: Global,
     asking: &A,
-    rows: &Rows,
-    kind: &Kind,
-    job: &[u32],
-    arrive: &[u64],
-    fate: &FateSlice,
+    waiting: &Waiting,
+    longest: u64,
 ) -> Result<Percentiles, OutOfMemory>
-    requires tells { A.tells asking.now kind.now }
-    requires visits { AreWaiting rows.now kind.now job.now arrive.now fate.now }
-    ensures { IfOk result (ArePercentiles (departed_waits rows.now kind.now job.now arrive.now fate.now)) }
+    requires tells { A.tells asking.now waiting.now.kind.now }
+    requires visits { AreWaiting waiting.now }
+    ensures { IfOk result (ArePercentiles (departed_waits_in waiting.now)) }
 {
-    match counted_tail(alloc, asking, rows, kind, job, arrive, fate)? {
+    match counted_tail(alloc, asking, waiting, longest)? {
         Some(tail) => Ok(tail),
-        None => sorted_tail(alloc, asking, rows, kind, job, arrive, fate),
+        None => sorted_tail(alloc, asking, waiting),
     }
 }
 
-// The same at a node whose jobs ask for this demand alone.
-fn tail_for(
+/// The percentiles of the waits of the visits to a node of this kind, as `tail` gives them, by a table that is no longer than a
+/// longest wait of `longest` ticks needs. Where a wait is longer the answer is the same, and may come more slowly. It refuses
+/// for want of memory alone.
+pub fn tail_below(
     alloc: Global,
-    demand: &Demand,
     rows: &Rows,
     kind: &Kind,
-    job: &[u32],
-    arrive: &[u64],
-    fate: &FateSlice,
+    visits: &Visits,
+    longest: u64,
 ) -> Result<Percentiles, OutOfMemory>
-    requires tells { AsksOnce kind.now demand.now }
-    requires visits { AreWaiting rows.now kind.now job.now arrive.now fate.now }
-    ensures { IfOk result (ArePercentiles (departed_waits rows.now kind.now job.now arrive.now fate.now)) }
+    requires { AreVisits rows.now kind.now visits.now }
+    ensures { IfOk result (ArePercentiles (waits_at rows.now kind.now visits.now)) }
 {
-    match demand {
-        Demand::Column(column) => {
-            tail_by(alloc, &InColumn(*column), rows, kind, job, arrive, fate)
-        }
-        Demand::Fixed(ticks) => tail_by(alloc, &Alike(*ticks), rows, kind, job, arrive, fate),
+    let waiting = Waiting {
+        rows,
+        kind,
+        job: visits.job.as_slice(),
+        arrive: visits.arrive.as_slice(),
+        fate: &visits.fate.as_slice(),
+    };
+    match asks_at(kind) {
+        Asks::Nothing => tail_by(alloc, &Alike(0), &waiting, longest),
+        Asks::ByColumn(asking) => tail_by(alloc, &asking, &waiting, longest),
+        Asks::AllAlike(asking) => tail_by(alloc, &asking, &waiting, longest),
+        Asks::ByServers(asking) => tail_by(alloc, &asking, &waiting, longest),
     }
 }
 
@@ -250,20 +250,5 @@ pub fn tail(
     requires { AreVisits rows.now kind.now visits.now }
     ensures { IfOk result (ArePercentiles (waits_at rows.now kind.now visits.now)) }
 {
-    let (job, arrive) = (visits.job.as_slice(), visits.arrive.as_slice());
-    let fate = &visits.fate.as_slice();
-    match kind {
-        // These serve no job.
-        Kind::Source | Kind::Split(_) | Kind::Fork { .. } | Kind::Join => {
-            tail_by(alloc, &Alike(0), rows, kind, job, arrive, fate)
-        }
-        Kind::Server(demand) | Kind::Delay(demand) => {
-            tail_for(alloc, demand, rows, kind, job, arrive, fate)
-        }
-        Kind::Loss { demand, .. } => tail_for(alloc, demand, rows, kind, job, arrive, fate),
-        Kind::Tandem(_) | Kind::ForkJoin(_) => {
-            tail_by(alloc, &AtServers, rows, kind, job, arrive, fate)
-        }
-        Kind::Trunk { demand, .. } => tail_for(alloc, demand, rows, kind, job, arrive, fate),
-    }
+    tail_below(alloc, rows, kind, visits, visits.job.len() as u64)
 }

@@ -5,7 +5,7 @@ ghost use Rattle.mq_core.specs.Results.{is_held, is_lost, numbers_of, one_more, 
 ghost use Rattle.mq_core.specs.Sequences.{sequence_sojourn, sequence_sojourns, sequence_totals};
 ghost use Rattle.mq_stats.specs.Numbers.{AreSmall, AreVisits, TotalsJoin, added_totals, totals_from, visits_between, visits_of_columns};
 
-use crate::waits::waits_of;
+use crate::waits::{Waiting, waits_of};
 use mq_base::List;
 use mq_core::{Fate, FateSlice, Kind, Rows, Visits};
 
@@ -188,7 +188,14 @@ fn totals_of(
 {
     let came = job.len() as u32;
     let stays = stays_of(arrive, found, fate);
-    let waits = waits_of(rows, kind, job, arrive, fate, &stays);
+    let waiting = Waiting {
+        rows,
+        kind,
+        job,
+        arrive,
+        fate,
+    };
+    let waits = waits_of(&waiting, &stays);
     NodeTotals {
         came,
         left: came - stays.lost - stays.held,
@@ -203,7 +210,7 @@ fn totals_of(
 }
 
 // The items from one index up to another.
-fn part<T>(items: &List<T>, from: u32, to: u32) -> &[T]
+pub fn part<T>(items: &List<T>, from: u32, to: u32) -> &[T]
     requires order { from ≤ to }
     requires within { to ≤ length items.now }
     ensures { result.now ≡ between from to items.now }

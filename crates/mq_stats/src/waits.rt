@@ -1,13 +1,14 @@
 // How long the visits to a node waited, and how long they were served.
-ghost use Rattle.std.specs.Prelude.{◌≡◌, ◌≤◌, ◌*◌, ◌^◌, ℕ, All, length, max, fold, sum};
+ghost use Rattle.std.specs.Prelude.{◌≡◌, ◌≤◌, ◌*◌, ◌^◌, ℕ, length, max, fold, sum};
 ghost use Rattle.mq_core.specs.Asked.{HasDemands};
 ghost use Rattle.mq_core.specs.Fates.{service_time};
 ghost use Rattle.mq_core.specs.Results.{bare_time};
-ghost use Rattle.mq_core.specs.Sequences.{sequence_service, sequence_services, sequence_sojourns, sequence_wait, sequence_waits};
+ghost use Rattle.mq_core.specs.Sequences.{sequence_service, sequence_sojourns, sequence_wait};
 ghost use Rattle.mq_core.specs.declared.model.Demand.TheVariants.{Column, Fixed};
 ghost use Rattle.mq_core.specs.declared.model.Kind.{Kind as TheKind};
 ghost use Rattle.mq_core.specs.declared.model.Rows.{Rows as TheRows};
-ghost use Rattle.mq_stats.specs.Numbers.{AreWaiting, AsksOnce};
+ghost use Rattle.mq_stats.specs.Numbers.{AsksOnce};
+ghost use Rattle.mq_stats.specs.Waits.{AreWaiting, AskSo, services_in, waits_in};
 
 use crate::tallies::Stays;
 use mq_core::{Demand, Fate, FateSlice, Kind, Rows, bare_of, demand_of_branches};
@@ -116,6 +117,52 @@ impl Asking for AtServers {
     }
 }
 
+// How the jobs ask at a node, by its kind.
+#[derive(Clone, Copy)]
+pub enum Asks {
+    // For nothing: the node serves no job.
+    Nothing,
+    // For a value in a column.
+    ByColumn(InColumn),
+    // For as many ticks, each of them.
+    AllAlike(Alike),
+    // For what they ask of several servers.
+    ByServers(AtServers),
+}
+
+// How the jobs ask at a node where they ask for this demand alone.
+fn asks_for(demand: &Demand) -> Asks
+    ensures { (kind : TheKind) → AsksOnce kind demand.now → AskSo kind result }
+{
+    match demand {
+        Demand::Column(column) => Asks::ByColumn(InColumn(*column)),
+        Demand::Fixed(ticks) => Asks::AllAlike(Alike(*ticks)),
+    }
+}
+
+// How the jobs ask at a node of this kind.
+pub fn asks_at(kind: &Kind) -> Asks
+    ensures { AskSo kind.now result }
+{
+    match kind {
+        Kind::Source | Kind::Split(_) | Kind::Fork { .. } | Kind::Join => Asks::Nothing,
+        Kind::Server(demand) | Kind::Delay(demand) => asks_for(demand),
+        Kind::Loss { demand, .. } => asks_for(demand),
+        Kind::Tandem(_) | Kind::ForkJoin(_) => Asks::ByServers(AtServers),
+        Kind::Trunk { demand, .. } => asks_for(demand),
+    }
+}
+
+// Visits to a node of this kind, by position, whose waits are worked out: their jobs, when they came and how they ended.
+#[derive(Clone, Copy)]
+pub struct Waiting<'a> {
+    pub rows: &'a Rows,
+    pub kind: &'a Kind,
+    pub job: &'a [u32],
+    pub arrive: &'a [u64],
+    pub fate: &'a FateSlice<'a>,
+}
+
 // The sum and the greatest of the waiting times, and the sum of the services.
 #[derive(Clone, Copy)]
 pub struct Waits {
@@ -124,25 +171,25 @@ pub struct Waits {
     pub busy: u128,
 }
 
-// The waits at a node of this kind, one visit after another.
+// The waits of these visits, one after another.
 // Its loop is not inlined, so that it has the registers to itself.
 #[inline(never)]
-fn each_wait<A: Asking>(
-    asking: &A,
-    rows: &Rows,
-    kind: &Kind,
-    job: &[u32],
-    arrive: &[u64],
-    fate: &FateSlice,
-) -> Waits
-    requires tells { A.tells asking.now kind.now }
-    requires visits { AreWaiting rows.now kind.now job.now arrive.now fate.now }
-    ensures wait { result.wait ≡ sum (sequence_waits rows.now kind.now job.now arrive.now fate.now) }
-    ensures longest { result.longest ≡ fold max 0 (sequence_waits rows.now kind.now job.now arrive.now fate.now) }
-    ensures busy { result.busy ≡ sum (sequence_services rows.now kind.now job.now fate.now) }
-    ensures small { result.wait ≤ length job.now * 2 ^ 64 }
-    ensures small_busy { result.busy ≤ length job.now * 2 ^ 64 }
+fn each_wait<A: Asking>(asking: &A, waiting: &Waiting) -> Waits
+    requires tells { A.tells asking.now waiting.now.kind.now }
+    requires visits { AreWaiting waiting.now }
+    ensures wait { result.wait ≡ sum (waits_in waiting.now) }
+    ensures longest { result.longest ≡ fold max 0 (waits_in waiting.now) }
+    ensures busy { result.busy ≡ sum (services_in waiting.now) }
+    ensures small { result.wait ≤ length waiting.now.job.now * 2 ^ 64 }
+    ensures small_busy { result.busy ≤ length waiting.now.job.now * 2 ^ 64 }
 {
+    let Waiting {
+        rows,
+        kind,
+        job,
+        arrive,
+        fate,
+    } = *waiting;
     let (mut wait, mut longest, mut busy) = (0u128, 0u64, 0u128);
     for at in 0..job.len() {
         let ending = fate.at(at);
@@ -160,62 +207,26 @@ fn each_wait<A: Asking>(
     }
 }
 
-// The waits at a node whose jobs ask for this demand alone.
-fn waits_for(
-    demand: &Demand,
-    rows: &Rows,
-    kind: &Kind,
-    job: &[u32],
-    arrive: &[u64],
-    fate: &FateSlice,
-) -> Waits
-    requires tells { AsksOnce kind.now demand.now }
-    requires visits { AreWaiting rows.now kind.now job.now arrive.now fate.now }
-    ensures wait { result.wait ≡ sum (sequence_waits rows.now kind.now job.now arrive.now fate.now) }
-    ensures longest { result.longest ≡ fold max 0 (sequence_waits rows.now kind.now job.now arrive.now fate.now) }
-    ensures busy { result.busy ≡ sum (sequence_services rows.now kind.now job.now fate.now) }
-    ensures small { result.wait ≤ length job.now * 2 ^ 64 }
-    ensures small_busy { result.busy ≤ length job.now * 2 ^ 64 }
+// The waits of these visits. Where the node serves no job each stay there is a wait.
+pub fn waits_of(waiting: &Waiting, stays: &Stays) -> Waits
+    requires visits { AreWaiting waiting.now }
+    requires stay { stays.now.stay ≡ sum (sequence_sojourns 0 waiting.now.arrive.now waiting.now.fate.now) }
+    requires longest { stays.now.longest ≡ fold max 0 (sequence_sojourns 0 waiting.now.arrive.now waiting.now.fate.now) }
+    requires small { stays.now.stay ≤ length waiting.now.job.now * 2 ^ 64 }
+    ensures wait { result.wait ≡ sum (waits_in waiting.now) }
+    ensures longest { result.longest ≡ fold max 0 (waits_in waiting.now) }
+    ensures busy { result.busy ≡ sum (services_in waiting.now) }
+    ensures small { result.wait ≤ length waiting.now.job.now * 2 ^ 64 }
+    ensures small_busy { result.busy ≤ length waiting.now.job.now * 2 ^ 64 }
 {
-    match demand {
-        Demand::Column(column) => each_wait(&InColumn(*column), rows, kind, job, arrive, fate),
-        Demand::Fixed(ticks) => each_wait(&Alike(*ticks), rows, kind, job, arrive, fate),
-    }
-}
-
-// The waits at a node of this kind. A source, a split, a fork and a join serve no job, so that each stay
-// there is a wait.
-pub fn waits_of(
-    rows: &Rows,
-    kind: &Kind,
-    job: &[u32],
-    arrive: &[u64],
-    fate: &FateSlice,
-    stays: &Stays,
-) -> Waits
-    requires visits { AreWaiting rows.now kind.now job.now arrive.now fate.now }
-    requires stay { stays.now.stay ≡ sum (sequence_sojourns 0 arrive.now fate.now) }
-    requires longest { stays.now.longest ≡ fold max 0 (sequence_sojourns 0 arrive.now fate.now) }
-    requires small { stays.now.stay ≤ length job.now * 2 ^ 64 }
-    ensures wait { result.wait ≡ sum (sequence_waits rows.now kind.now job.now arrive.now fate.now) }
-    ensures longest { result.longest ≡ fold max 0 (sequence_waits rows.now kind.now job.now arrive.now fate.now) }
-    ensures busy { result.busy ≡ sum (sequence_services rows.now kind.now job.now fate.now) }
-    ensures small { result.wait ≤ length job.now * 2 ^ 64 }
-    ensures small_busy { result.busy ≤ length job.now * 2 ^ 64 }
-{
-    match kind {
-        Kind::Source | Kind::Split(_) | Kind::Fork { .. } | Kind::Join => Waits {
+    match asks_at(waiting.kind) {
+        Asks::Nothing => Waits {
             wait: stays.stay,
             longest: stays.longest,
             busy: 0,
         },
-        Kind::Server(demand) | Kind::Delay(demand) => {
-            waits_for(demand, rows, kind, job, arrive, fate)
-        }
-        Kind::Loss { demand, .. } => waits_for(demand, rows, kind, job, arrive, fate),
-        Kind::Tandem(_) | Kind::ForkJoin(_) => {
-            each_wait(&AtServers, rows, kind, job, arrive, fate)
-        }
-        Kind::Trunk { demand, .. } => waits_for(demand, rows, kind, job, arrive, fate),
+        Asks::ByColumn(asking) => each_wait(&asking, waiting),
+        Asks::AllAlike(asking) => each_wait(&asking, waiting),
+        Asks::ByServers(asking) => each_wait(&asking, waiting),
     }
 }

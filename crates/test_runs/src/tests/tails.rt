@@ -9,7 +9,9 @@ use super::stats::{
 };
 use mq_base::{List, OutOfMemory};
 use mq_core::{Demand, Fate, Kind, Rows, Stage, Visits};
-use mq_stats::{Percentiles, tail};
+use mq_stats::{
+    Percentiles, WaitCounts, count_between, counted_percentiles, counts_added, tail, tail_below,
+};
 use std::alloc::Global;
 use std::test::Fail;
 
@@ -205,5 +207,115 @@ fn waits_at_a_desk_have_percentiles(rt: HostRuntime) -> Result<(), Fail> {
     let rows = desk_rows(rt.alloc())?;
     let visits = visits_of(rt.alloc(), &DESK)?;
     assert!(rt; tail_of_desk_is(rt.alloc(), &rows, &visits, (5, 8, 8))?);
+    Ok(())
+}
+
+// Ten visits to a join, which wait 0 to 9 ticks.
+const TEN_AT_A_JOIN: Columns<'static> = Columns {
+    arrive: &[4; 10],
+    ..TEN
+};
+
+// Whether these visits to a join have these percentiles, by a table for waits of up to so many ticks.
+fn join_has_below(
+    alloc: Global,
+    columns: &Columns,
+    longest: u64,
+    wanted: (u64, u64, u64),
+) -> Result<bool, OutOfMemory> {
+    let rows = three_rows(alloc)?;
+    let visits = visits_of(alloc, columns)?;
+    if !are_even(&visits) || !are_small(&visits.found) {
+        return Ok(false);
+    }
+    let (p50, p90, p99) = wanted;
+    Ok(tail_below(alloc, &rows, &Kind::Join, &visits, longest)? == Percentiles { p50, p90, p99 })
+}
+
+#[test]
+fn a_longest_wait_changes_no_percentile(rt: HostRuntime) -> Result<(), Fail> {
+    let alloc = rt.alloc();
+    assert!(rt; join_has_below(alloc, &TEN_AT_A_JOIN, 9, (4, 8, 9))?);
+    assert!(rt; join_has_below(alloc, &TEN_AT_A_JOIN, 8, (4, 8, 9))?);
+    assert!(rt; join_has_below(alloc, &TEN_AT_A_JOIN, 0, (4, 8, 9))?);
+    assert!(rt; join_has_below(alloc, &TEN_AT_A_JOIN, u64::MAX, (4, 8, 9))?);
+    Ok(())
+}
+
+// Whether the waits of ten visits to a join, up to 4 ticks by themselves, are counted so: those of the visits before a
+// position and those of the others, added up.
+fn parts_count(
+    alloc: Global,
+    columns: &Columns,
+    position: u32,
+    many: u32,
+    wanted: &[u32],
+) -> Result<bool, OutOfMemory> {
+    let rows = three_rows(alloc)?;
+    let visits = visits_of(alloc, columns)?;
+    if !are_even(&visits) || !are_small(&visits.found) {
+        return Ok(false);
+    }
+    if visits.job.len() != 10 || position > 10 {
+        return Ok(false);
+    }
+    let before = count_between(alloc, &rows, &Kind::Join, &visits, 4, 0, position)?;
+    let after = count_between(alloc, &rows, &Kind::Join, &visits, 4, position, 10)?;
+    if before.many > 10 || after.many > 10 {
+        return Ok(false);
+    }
+    let sum = counts_added(before, &after);
+    Ok(sum.many == many && sum.counts.as_slice() == wanted)
+}
+
+#[test]
+fn counts_of_parts_add_up(rt: HostRuntime) -> Result<(), Fail> {
+    let alloc = rt.alloc();
+    let lost = Columns {
+        fate: &[Fate::Lost; 10],
+        ..TEN
+    };
+    assert!(rt; parts_count(alloc, &TEN_AT_A_JOIN, 0, 10, &[1, 1, 1, 1, 1, 5])?);
+    assert!(rt; parts_count(alloc, &TEN_AT_A_JOIN, 3, 10, &[1, 1, 1, 1, 1, 5])?);
+    assert!(rt; parts_count(alloc, &TEN_AT_A_JOIN, 10, 10, &[1, 1, 1, 1, 1, 5])?);
+    assert!(rt; parts_count(alloc, &lost, 3, 0, &[0, 0, 0, 0, 0, 0])?);
+    Ok(())
+}
+
+// Whether these counts of so many waits have these percentiles.
+fn counts_have(
+    alloc: Global,
+    many: u32,
+    counts: &[u32],
+    wanted: Option<Percentiles>,
+) -> Result<bool, OutOfMemory> {
+    if many > 10 || counts.len() < 2 || counts.len() > 11 {
+        return Ok(false);
+    }
+    let counts = WaitCounts {
+        many,
+        counts: list(alloc, counts)?,
+    };
+    Ok(counted_percentiles(&counts) == wanted)
+}
+
+#[test]
+fn counts_tell_percentiles_where_each_is_counted(rt: HostRuntime) -> Result<(), Fail> {
+    let alloc = rt.alloc();
+    let all = Percentiles {
+        p50: 4,
+        p90: 8,
+        p99: 9,
+    };
+    let none = Percentiles {
+        p50: 0,
+        p90: 0,
+        p99: 0,
+    };
+    assert!(rt; counts_have(alloc, 10, &[1, 1, 1, 1, 1, 1, 1, 1, 1, 1, 0], Some(all))?);
+    assert!(rt; counts_have(alloc, 10, &[1, 1, 1, 1, 1, 1, 1, 1, 1, 1], None)?);
+    assert!(rt; counts_have(alloc, 10, &[1, 1, 1, 1, 1, 1, 1, 1, 2], None)?);
+    assert!(rt; counts_have(alloc, 10, &[1, 1, 1, 1, 6], None)?);
+    assert!(rt; counts_have(alloc, 0, &[0, 0], Some(none))?);
     Ok(())
 }

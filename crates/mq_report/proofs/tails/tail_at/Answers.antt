@@ -5,19 +5,19 @@ use Rattle.mq_report.proofs.NodeTails.{tail-at}
 use Rattle.mq_report.proofs.NoWaits.{no-tail}
 use Rattle.mq_report.proofs.tails.tail_at.Goals as goal
 
-pub get-requires : goal.get-requires
-get-requires c = visits_inside c.runs_have_sequences.ensures c.args.plan.now c.args.rows.now c.args.run.now c.args.node c.args.declared.now c.requires.run c.requires.there
+pub get-visits-requires : goal.get-visits-requires
+get-visits-requires c = visits_inside c.runs_have_sequences.ensures c.args.known.now.plan.now c.args.known.now.rows.now c.args.known.now.run.now c.args.node c.args.declared.now c.requires.known.run c.requires.there
 
-pub tail-requires : goal.tail-requires
-tail-requires c =
-    subst (AreVisits c.args.rows.now c.args.declared.now.kind)
-    (visits_are c.runs_have_sequences.ensures c.args.plan.now c.args.rows.now c.args.run.now c.args.node c.args.declared.now c.get.result.now c.requires.run c.requires.there c.get.ensures)
-    (c.runs_give_visits.ensures c.args.plan.now c.args.rows.now c.requires.read c.args.node c.args.declared.now c.requires.there (c.requires.few c.args.node c.args.declared.now c.requires.there))
+pub tail_below-requires : goal.tail_below-requires
+tail_below-requires c =
+    subst (AreVisits c.args.known.now.rows.now c.args.declared.now.kind)
+    (visits_are c.runs_have_sequences.ensures c.args.known.now.plan.now c.args.known.now.rows.now c.args.known.now.run.now c.args.node c.args.declared.now c.get-visits.result.now c.requires.known.run c.requires.there c.get-visits.ensures)
+    (c.runs_give_visits.ensures c.args.known.now.plan.now c.args.known.now.rows.now c.requires.known.read c.args.node c.args.declared.now c.requires.there (c.requires.known.few c.args.node c.args.declared.now c.requires.there))
 
 pub returns-then-totals-eq0 : goal.returns-then-totals-eq0
-returns-then-totals-eq0 c = no-tail c.totals_are_sequences.ensures c.args.plan.now c.args.rows.now c.requires.read c.args.node c.args.declared.now c.args.totals.now _ c.requires.there c.requires.totals (search rules) refl refl refl
+returns-then-totals-eq0 c = no-tail c.totals_are_sequences.ensures c.args.known.now.plan.now c.args.known.now.rows.now c.requires.known.read c.args.node c.args.declared.now c.listed_totals-totals.result _ c.requires.there c.listed_totals-totals.ensures.totals (search rules) refl refl refl
 
 pub returns : goal.returns
 returns c =
-    tail-at c.args.plan.now c.args.rows.now c.args.node c.args.declared.now c.get.result.now c.tail.result c.requires.there
-    (visits_are c.runs_have_sequences.ensures c.args.plan.now c.args.rows.now c.args.run.now c.args.node c.args.declared.now c.get.result.now c.requires.run c.requires.there c.get.ensures) c.tail.ensures
+    tail-at c.args.known.now.plan.now c.args.known.now.rows.now c.args.node c.args.declared.now c.get-visits.result.now c.tail_below.result c.requires.there
+    (visits_are c.runs_have_sequences.ensures c.args.known.now.plan.now c.args.known.now.rows.now c.args.known.now.run.now c.args.node c.args.declared.now c.get-visits.result.now c.requires.known.run c.requires.there c.get-visits.ensures) c.tail_below.ensures

@@ -9,6 +9,6 @@ invariant-loop-at g l = record {
   many : l.many + length (departed_waits l.rows l.kind (drop l.at l.job) (drop l.at l.arrive) (drop l.at l.fate)) ≡ length (departed_waits l.rows l.kind l.job l.arrive l.fate);
   few : l.many ≤ l.at;
   room : length l.table ≡ l.last + 1;
-  small : (wait : ℕ) → get_or l.table wait 0 ≤ l.at;
+  small : (wait : ℕ) → get_or l.table wait 0 ≤ l.many;
   so_far : (wait : ℕ) → wait < l.last → get_or l.table wait 0 + count_by (λ w. w == wait) (departed_waits l.rows l.kind (drop l.at l.job) (drop l.at l.arrive) (drop l.at l.fate)) ≡ count_by (λ w. w == wait) (departed_waits l.rows l.kind l.job l.arrive l.fate);
 }

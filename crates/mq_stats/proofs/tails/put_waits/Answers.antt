@@ -5,16 +5,16 @@ use Rattle.mq_stats.proofs.tails.put_waits.Goals as goal
 
 pub overflow_add-kept : goal.overflow_add-kept
 overflow_add-kept g c =
-    let counts = c.one_if_departs-kept.ensures c.args.rows.now c.args.kind.now 0 0 in
-    let most = one-more c.args.rows.now c.args.kind.now 0 0 c.at-ending.result in
+    let counts = c.one_if_departs-kept.ensures c.args.waiting.now.rows.now c.args.waiting.now.kind.now 0 0 in
+    let most = one-more c.args.waiting.now.rows.now c.args.waiting.now.kind.now 0 0 c.at-ending.result in
     omega arith
 
 pub loop-at-preserved : goal.loop-at-preserved
 loop-at-preserved g c =
-    let rows = c.args.rows.now in
-    let kind = c.args.kind.now in
-    let jobs = c.args.job.now in
-    let arrives = c.args.arrive.now in
+    let rows = c.args.waiting.now.rows.now in
+    let kind = c.args.waiting.now.kind.now in
+    let jobs = c.args.waiting.now.job.now in
+    let arrives = c.args.waiting.now.arrive.now in
     let at = c.loop-at.at in
     let more = c.loop-at-test.true in
     let even = c.requires.visits.arrives in
@@ -30,6 +30,6 @@ loop-at-preserved g c =
       kept = omega arith;
       room = length-set c.loop-at.waits c.loop-at.kept c.wait_beyond.result ∙ c.loop-at.invariant.room;
       so_far =
-          puts rows kind jobs arrives c.args.fate.now at _ _ c.at-ending.result c.loop-at.waits _ c.loop-at.kept c.wait_beyond.result c.one_if_departs-kept.result job arrive c.at-ending.ensures
+          puts rows kind jobs arrives c.args.waiting.now.fate.now at _ _ c.at-ending.result c.loop-at.waits _ c.loop-at.kept c.wait_beyond.result c.one_if_departs-kept.result job arrive c.at-ending.ensures
           within waited (counts _ _) c.loop-at.invariant.so_far;
     }

@@ -1,5 +1,7 @@
-use Rattle.std.proofs.Common.{arith}
+use Rattle.std.proofs.Common.{◌≡◌, ◌+◌, ap, arith, length, refl, take}
+use Rattle.std.specs.Prelude.{◌-◌, sum}
 use Rattle.std.proofs.lemmas.List.Sums.{sum_by_more}
+use Rattle.mq_stats.proofs.Tables.{sum-rises}
 use Rattle.mq_stats.proofs.tails.reached.Goals as goal
 
 pub overflow_add-so_far : goal.overflow_add-so_far
@@ -8,8 +10,20 @@ overflow_add-so_far c =
     let small = c.loop-wait.invariant.small in
     omega arith
 
-pub returns-then-many-so_far : goal.returns-then-many-so_far
-returns-then-many-so_far c =
+pub returns-then-many-so_far-clause-told : goal.returns-then-many-so_far-clause-told
+returns-then-many-so_far-clause-told c =
+    let table = c.args.table.now in
+    let wait = c.loop-wait.wait in
+    let more = sum_by_more (λ n. n) table wait 0 (omega arith) in
+    let so_far = c.loop-wait.invariant.so_far in
+    let later = length table - 1 - (wait + 1) in
+    let rises = sum-rises table (wait + 1) later (omega arith) in
+    let last : wait + 1 + later ≡ length table - 1 = omega arith in
+    let end = ap (λ n. sum (take n table)) last in
+    ((λ some. omega arith), (λ enough. refl))
+
+pub returns-then-many-so_far-clause-reached : goal.returns-then-many-so_far-clause-reached
+returns-then-many-so_far-clause-reached c =
     let more = sum_by_more (λ n. n) c.args.table.now c.loop-wait.wait 0 (omega arith) in
     let so_far = c.loop-wait.invariant.so_far in
     record {
@@ -17,6 +31,16 @@ returns-then-many-so_far c =
       enough = omega arith;
       first = λ some. let less = c.loop-wait.invariant.first some in omega arith;
     }
+
+pub returns-clause-told : goal.returns-clause-told
+returns-clause-told c =
+    let table = c.args.table.now in
+    let wait = c.loop-wait.wait in
+    let last : wait ≡ length table - 1 = omega arith in
+    let end = ap (λ n. sum (take n table)) last in
+    let so_far = c.loop-wait.invariant.so_far in
+    let less = c.loop-wait.invariant.first (omega arith) in
+    ((λ some. cc), (λ enough. absurd (omega arith)))
 
 pub loop-wait-preserved : goal.loop-wait-preserved
 loop-wait-preserved c =

@@ -5,18 +5,18 @@ use Rattle.mq_stats.proofs.waits.each_wait.Goals as goal
 
 pub loop-at-preserved : goal.loop-at-preserved
 loop-at-preserved g c =
-    let rows = c.args.rows.now in
-    let kind = c.args.kind.now in
-    let jobs = c.args.job.now in
-    let arrives = c.args.arrive.now in
+    let rows = c.args.waiting.now.rows.now in
+    let kind = c.args.waiting.now.kind.now in
+    let jobs = c.args.waiting.now.job.now in
+    let arrives = c.args.waiting.now.arrive.now in
     let at = c.loop-at.at in
     let more = c.loop-at-test.true in
     let even = c.requires.visits.arrives in
     let came : at < length arrives = omega arith in
     let job = slice_get-get_or jobs at 0 more in
     let arrive = slice_get-get_or arrives at 0 came in
-    let waits = waits-at rows kind jobs arrives c.args.fate.now at _ _ _ job arrive c.at-ending.ensures in
-    let services = services-at rows kind jobs c.args.fate.now at _ _ job c.at-ending.ensures in
+    let waits = waits-at rows kind jobs arrives c.args.waiting.now.fate.now at _ _ _ job arrive c.at-ending.ensures in
+    let services = services-at rows kind jobs c.args.waiting.now.fate.now at _ _ job c.at-ending.ensures in
     let waited = c.wait_beyond-waited.ensures rows kind _ c.bare-bare.ensures in
     record {
       wait = adds c.loop-at.wait _ _ _ _ _ waited waits c.loop-at.invariant.wait;

@@ -1,0 +1,8 @@
+use Rattle.mq_report.proofs.CountedTails.{counted-at, counted-more}
+use Rattle.mq_report.proofs.tail_pieces.counted_of.Goals as goal
+
+pub loop-node-preserved : goal.loop-node-preserved
+loop-node-preserved c =
+    counted-more c.args.known.now.plan.now c.args.known.now.rows.now c.loop-node.node c.loop-node.counted _ _ c.loop-node.invariant
+    (counted-at c.args.known.now.plan.now c.args.known.now.rows.now c.loop-node.node c.get.result.now _ (c.requires.waits.each c.loop-node.node c.get.result.now c.get.ensures) c.in_ok-counted_at.ensures)
+    c.in_ok-push.ensures.ok

@@ -1,0 +1,24 @@
+use Rattle.std.proofs.Common.{arith, sym, ◌∙◌}
+use Rattle.mq_report.proofs.CountedTails.{counts-all, counts-at, counts-few, counts-more}
+use Rattle.mq_report.proofs.tail_pieces.sum_of_counts.Goals as goal
+
+pub counts_added-sum-requires : goal.counts_added-sum-requires
+counts_added-sum-requires c =
+    let its = counts-at c.args.node.now c.args.group.now c.loop-b.b c.get.result.now c.requires.group c.get.ensures in
+    let before = c.loop-b.invariant in
+    record {
+      even = its.room ∙ sym before.room;
+      before = before.small;
+      after = its.small;
+      few = counts-few c.waits_join.ensures c.args.node.now c.loop-b.b c.loop-b.sum c.get.result.now c.requires.waited before its;
+    }
+
+pub loop-b-preserved : goal.loop-b-preserved
+loop-b-preserved c =
+    counts-more c.waits_join.ensures c.args.node.now c.loop-b.b c.loop-b.sum c.get.result.now c.counts_added-sum.result c.requires.waited c.loop-b.invariant
+    (counts-at c.args.node.now c.args.group.now c.loop-b.b c.get.result.now c.requires.group c.get.ensures) c.counts_added-sum.ensures
+
+pub returns : goal.returns
+returns c =
+    let len = c.requires.group.len in
+    counts-all c.waits_join.ensures c.args.node.now c.loop-b.b c.loop-b.sum c.requires.waited c.requires.some (omega arith) c.loop-b.invariant

@@ -1,0 +1,6 @@
+use Rattle.mq_report.specs.TailPieces.{AreNodeWaits}
+use Rattle.mq_report.proofs.tail_pieces.waits_by_node.Given as goal
+
+-- the nodes so far
+abbrev pub invariant-loop-node : goal.invariant-loop-node
+invariant-loop-node l = AreNodeWaits l.known.plan.now l.known.rows.now l.node l.all

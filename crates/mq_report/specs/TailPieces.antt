@@ -1,0 +1,41 @@
+-- The waits at the nodes, counted by pieces of their visits.
+use Rattle.std.specs.List.{AllByRecursion}
+use Rattle.std.specs.Prelude.{◌≡◌, ◌+◌, ◌≤◌, ◌==◌, ℕ, List, cond, length, Some, slice_get}
+use Rattle.mq_core.specs.Results.{visits_of}
+use Rattle.mq_core.specs.StandardTable.{run_of}
+use Rattle.mq_core.specs.declared.model.Node.{Node}
+use Rattle.mq_core.specs.declared.model.Plan.{Plan}
+use Rattle.mq_core.specs.declared.model.Rows.{Rows}
+use Rattle.mq_report.specs.Totals.{pieces_in, start_of}
+use Rattle.mq_report.specs.declared.tail_pieces.NodeWaits.{NodeWaits}
+use Rattle.mq_stats.specs.Numbers.{AreVisits, visits_between}
+use Rattle.mq_stats.specs.Percentiles.{waits_at}
+use Rattle.mq_stats.specs.WaitCounts.{AreCountsTo}
+use Rattle.mq_stats.specs.declared.wait_counts.WaitCounts.{WaitCounts}
+
+-- visits to a node, and a bound up to which a table can count
+pub record IsWaited (node : NodeWaits) : Type 0 where
+  pub visits : AreVisits node.rows.now node.kind.now node.visits.now
+  pub most : node.most ≤ 16384
+
+-- how many pieces they make: none where no wait is counted
+abbrev pub counted_pieces : NodeWaits → ℕ
+counted_pieces node = cond (node.most == 0) 0 (pieces_in (length node.visits.now.job))
+
+-- the counts of the waits of the visits of a piece
+abbrev pub IsPieceCounts : NodeWaits → ℕ → WaitCounts → Type 0
+IsPieceCounts node b counts =
+    let count = length node.visits.now.job in
+    AreCountsTo node.most (waits_at node.rows.now node.kind.now (visits_between (start_of count b) (start_of count (b + 1)) node.visits.now)) counts
+
+-- the waits of these visits are those at a node of the run
+abbrev pub AreWaitsAt : Plan → Rows → ℕ → NodeWaits → Type 0
+AreWaitsAt plan rows v its =
+    (node : Node) → slice_get plan.net.nodes v ≡ Some node →
+    waits_at its.rows.now its.kind.now its.visits.now ≡ waits_at rows node.kind (visits_of node.kind ((run_of plan rows).stations v))
+
+-- the visits to the first nodes, as many as this
+pub record AreNodeWaits (plan : Plan) (rows : Rows) (count : ℕ) (all : List NodeWaits) : Type 0 where
+  pub len : length all ≡ count
+  pub waited : AllByRecursion IsWaited all
+  pub each : (v : ℕ) (its : NodeWaits) → slice_get all v ≡ Some its → AreWaitsAt plan rows v its

@@ -1,0 +1,178 @@
+// The waits at the nodes, counted by pieces of their visits.
+ghost use Rattle.std.specs.Prelude.{◌≡◌, ◌<◌, ◌≤◌, length, IfOk, IfSome, Some, slice_get};
+ghost use Rattle.mq_core.specs.Results.{visits_of};
+ghost use Rattle.mq_core.specs.StandardTable.{run_of};
+ghost use Rattle.mq_crew.specs.Crew.{AreAll, AreGroups};
+ghost use Rattle.mq_stats.specs.Percentiles.{ArePercentiles, waits_at};
+ghost use Rattle.mq_stats.specs.WaitCounts.{AreCountsTo};
+ghost use Rattle.mq_report.specs.TailPieces.{AreNodeWaits, IsPieceCounts, IsWaited, counted_pieces};
+ghost use Rattle.mq_report.specs.Tails.{AreCounted, IsKnown};
+
+use crate::sections::listed_totals;
+use crate::tails::KnownRun;
+use crate::totals::{PIECE, piece_count};
+use mq_base::{List, OutOfMemory};
+use mq_core::{Kind, Node, Rows, Visits, nodes_are_in_limits, runs_have_sequences};
+use mq_crew::{Gate, Pieces, run_parts};
+use mq_stats::{
+    Percentiles, WaitCounts, count_between, counted_percentiles, counts_added, runs_give_visits,
+    waits_join,
+};
+use std::alloc::Global;
+use std::thread::Threads;
+
+// Up to how many ticks waits are counted by themselves: such a table fits a processor's own memory.
+const MOST: u64 = 16_384;
+
+/// The visits to a node of this kind over a run. A piece of them is the counts of the waits of so many neighbours, up
+/// to `most` ticks by themselves. Where that is 0 there are no pieces.
+#[derive(Clone, Copy)]
+pub struct NodeWaits<'a> {
+    pub rows: &'a Rows,
+    pub kind: &'a Kind,
+    pub visits: &'a Visits,
+    pub most: u32,
+}
+
+impl<'a> Pieces for NodeWaits<'a> {
+    type Piece = WaitCounts;
+
+    ghost fit = { IsWaited };
+
+    ghost size = { counted_pieces };
+
+    ghost is_piece = { IsPieceCounts };
+
+    fn count(&self) -> u32 {
+        if self.most == 0 {
+            return 0;
+        }
+        piece_count(self.visits.job.len() as u32)
+    }
+
+    fn piece(&self, alloc: Global, b: u32) -> Result<WaitCounts, OutOfMemory> {
+        let count = self.visits.job.len() as u32;
+        let from = b * PIECE;
+        let to = count.min(from + PIECE);
+        count_between(
+            alloc,
+            self.rows,
+            self.kind,
+            self.visits,
+            self.most,
+            from,
+            to,
+        )
+    }
+}
+
+// The visits to a node over the run.
+fn waits_of_node<'a>(known: &KnownRun<'a>, node: u32, declared: &'a Node) -> NodeWaits<'a>
+    requires known { IsKnown known.now }
+    requires there { slice_get known.now.plan.now.net.nodes node ≡ Some declared.now }
+    ensures waited { IsWaited result }
+    ensures waits { waits_at result.rows.now result.kind.now result.visits.now ≡ waits_at known.now.rows.now declared.now.kind (visits_of declared.now.kind ((run_of known.now.plan.now known.now.rows.now).stations node)) }
+{
+    runs_have_sequences();
+    runs_give_visits();
+    let totals = listed_totals(known.plan, known.rows, known.totals, node, declared);
+    NodeWaits {
+        rows: known.rows,
+        kind: &declared.kind,
+        visits: known.run.visits.get(node as usize),
+        most: totals.longest.min(MOST) as u32,
+    }
+}
+
+// The visits to each node over the run, by node.
+fn waits_by_node<'a>(
+    alloc: Global,
+    known: &KnownRun<'a>,
+) -> Result<List<NodeWaits<'a>>, OutOfMemory>
+    requires { IsKnown known.now }
+    ensures { IfOk result (λ all. AreNodeWaits known.now.plan.now known.now.rows.now (length known.now.plan.now.net.nodes) all) }
+{
+    nodes_are_in_limits();
+    let plan = known.plan;
+    let mut all = List::new(alloc);
+    for node in 0..plan.net.nodes.len() {
+        let declared = plan.net.nodes.get(node);
+        all.push(waits_of_node(known, node as u32, declared))?;
+    }
+    Ok(all)
+}
+
+// The counts of the waits at a node, of those of its pieces one after another.
+fn sum_of_counts(
+    alloc: Global,
+    node: &NodeWaits,
+    group: &List<WaitCounts>,
+) -> Result<WaitCounts, OutOfMemory>
+    requires waited { IsWaited node.now }
+    requires some { 0 < node.now.most }
+    requires group { AreAll (IsPieceCounts node.now) (counted_pieces node.now) group.now }
+    ensures { IfOk result (AreCountsTo node.now.most (waits_at node.now.rows.now node.now.kind.now node.now.visits.now)) }
+{
+    waits_join();
+    let mut sum = count_between(alloc, node.rows, node.kind, node.visits, node.most, 0, 0)?;
+    for b in 0..group.len() {
+        sum = counts_added(sum, group.get(b));
+    }
+    Ok(sum)
+}
+
+// The percentiles of the waits at a node, where its pieces count 99 of 100 of them by themselves.
+fn counted_at(
+    alloc: Global,
+    node: &NodeWaits,
+    group: &List<WaitCounts>,
+) -> Result<Option<Percentiles>, OutOfMemory>
+    requires waited { IsWaited node.now }
+    requires group { AreAll (IsPieceCounts node.now) (counted_pieces node.now) group.now }
+    ensures { IfOk result (λ tail. IfSome tail (ArePercentiles (waits_at node.now.rows.now node.now.kind.now node.now.visits.now))) }
+{
+    if node.most == 0 {
+        return Ok(None);
+    }
+    waits_join();
+    let counts = sum_of_counts(alloc, node, group)?;
+    Ok(counted_percentiles(&counts))
+}
+
+// The same of each node.
+fn counted_of(
+    alloc: Global,
+    known: &KnownRun,
+    all: &List<NodeWaits>,
+    groups: &List<List<WaitCounts>>,
+) -> Result<List<Option<Percentiles>>, OutOfMemory>
+    requires waits { AreNodeWaits known.now.plan.now known.now.rows.now (length known.now.plan.now.net.nodes) all.now }
+    requires groups { AreGroups counted_pieces IsPieceCounts all.now groups.now }
+    ensures { IfOk result (λ counted. AreCounted known.now.plan.now known.now.rows.now (length known.now.plan.now.net.nodes) counted) }
+{
+    let mut counted = List::new(alloc);
+    for node in 0..all.len() {
+        counted.push(counted_at(alloc, all.get(node), groups.get(node))?)?;
+    }
+    Ok(counted)
+}
+
+/// The percentiles of the waits at each node over a run, by node, where 99 of 100 of them are at most 16,384 ticks. The visits
+/// are cut into pieces as for the totals, and 1 to 64 workers make them, who enter the gate.
+/// It refuses for want of memory alone.
+pub fn counted_tails<R: Threads + Sync, G: Gate>(
+    rt: &R,
+    alloc: Global,
+    workers: u32,
+    known: &KnownRun,
+    gate: &G,
+) -> Result<List<Option<Percentiles>>, OutOfMemory>
+    requires some { 1 ≤ workers }
+    requires most { workers ≤ 64 }
+    requires known { IsKnown known.now }
+    ensures { IfOk result (λ counted. AreCounted known.now.plan.now known.now.rows.now (length known.now.plan.now.net.nodes) counted) }
+{
+    let all = waits_by_node(alloc, known)?;
+    let groups = run_parts(rt, alloc, workers, all.as_slice(), gate)?;
+    counted_of(alloc, known, &all, &groups)
+}

@@ -1,0 +1,24 @@
+-- Counts of waits, by pieces of the visits.
+use Rattle.std.specs.Prelude.{◌≡◌, ◌+◌, ◌++◌, ◌≤◌, ℕ, List, get_or, length}
+use Rattle.mq_core.specs.declared.model.Kind.{Kind}
+use Rattle.mq_core.specs.declared.model.Rows.{Rows}
+use Rattle.mq_core.specs.declared.model.Visits.{Visits}
+use Rattle.mq_stats.specs.Numbers.{AreVisits, visits_between}
+use Rattle.mq_stats.specs.Percentiles.{waits_at}
+use Rattle.mq_stats.specs.Tables.{IsTableOf}
+use Rattle.mq_stats.specs.declared.wait_counts.WaitCounts.{WaitCounts}
+
+-- they are the counts of these waits, of each number of ticks up to this
+pub record AreCountsTo (most : ℕ) (waits : List ℕ) (counts : WaitCounts) : Type 0 where
+  pub many : counts.many ≡ length waits
+  pub room : length counts.counts ≡ most + 2
+  pub table : IsTableOf waits counts.counts
+  pub small : (wait : ℕ) → get_or counts.counts wait 0 ≤ counts.many
+
+-- The waits of neighbouring visits, one after another, are those of all of them, and no more than the visits; and the visits
+-- from the first to the last are all.
+pub record WaitsJoin : Type 0 where
+  pub join : (rows : Rows) (kind : Kind) (visits : Visits) → AreVisits rows kind visits → (from middle to : ℕ) → from ≤ middle → middle ≤ to → to ≤ length visits.job →
+      waits_at rows kind (visits_between from middle visits) ++ waits_at rows kind (visits_between middle to visits) ≡ waits_at rows kind (visits_between from to visits)
+  pub few : (rows : Rows) (kind : Kind) (visits : Visits) → length (waits_at rows kind visits) ≤ length visits.job
+  pub whole : (rows : Rows) (kind : Kind) (visits : Visits) → AreVisits rows kind visits → visits_between 0 (length visits.job) visits ≡ visits
