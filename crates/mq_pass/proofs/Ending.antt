@@ -7,8 +7,8 @@ use Rattle.mq_maxplus.specs.declared.mp.Mp.{Mp}
 use Rattle.mq_maxplus.specs.declared.mp.Mp.TheVariants.{Void, At}
 use Rattle.mq_server.specs.Jobs.{job}
 use Rattle.mq_pass.proofs.Serving.{begins}
-use Rattle.mq_pass.specs.Blocks.{carry_at, departs_of, IsKnown}
-use Rattle.mq_pass.specs.Passing.{IsSeen, IsPassed, IsRight}
+use Rattle.mq_pass.specs.Blocks.{carry_at, departs_of, summary_at, IsKnown}
+use Rattle.mq_pass.specs.Passing.{IsSeen, IsPublished, IsPassed, IsRight}
 use Rattle.mq_pass.specs.declared.block.Passed.{Passed}
 
 module _ (times demands : List ℕ) (block : ℕ) (puts looks : List (ℕ × ℕ)) (cut : AreOfCut (job times demands) (length times) block puts) where
@@ -37,17 +37,17 @@ module _ (times demands : List ℕ) (block : ℕ) (puts looks : List (ℕ × ℕ
             let same : (b - 1 + 1) * block ≡ b * block = ap (λ (n : ℕ). n * block) back in
             ap At (is.2 v seen.1) ∙ (known-of (b - 1) (At x) (omega arith) e ∙ ap (carry_at times demands) {x = min ((b - 1 + 1) * block) (length times)} {y = b * block} (omega arith))
 
-    departs-right : (b : ℕ) (o : Option (List ℕ)) → b < blocks → IfSome o (λ l. (c : Mp) × IsSeen looks b c × (l ≡ departs_of times demands block b c)) → IfSome o (λ l. l ≡ departs_of times demands block b (carry_at times demands (b * block)))
+    departs-right : (b : ℕ) (o : Option (List ℕ)) → b < blocks → IfSome o (λ l. (c : Mp) × IsSeen looks b c × (l ≡ departs_of times demands block b c) × IsPublished puts b (summary_at times demands block b) c) → IfSome o (λ l. l ≡ departs_of times demands block b (carry_at times demands (b * block)))
     departs-right b None lt h = h
     departs-right b (Some l) lt h = h.2 ∙ ap (departs_of times demands block b) (seen-right b h.0 lt h.1)
 
     -- a block that was passed over is right
-    pub passed-right : (b : ℕ) (p : Passed) → b < blocks → IsPassed times demands block looks b p → IsRight times demands block b p
+    pub passed-right : (b : ℕ) (p : Passed) → b < blocks → IsPassed times demands block puts looks b p → IsRight times demands block b p
     passed-right b p lt h = record { sum = h.sum; departs = departs-right b p.departs lt h.departs }
 
-    pub all-right : (made : List (ℕ × Passed)) (passed : List Passed) → All (λ p. IsPassed times demands block looks p.0 p.1) made → ((x : ℕ) (d : Passed) → x < blocks → Contains made (x, get_or passed x d))
+    pub all-right : (made : List (ℕ × Passed)) (passed : List Passed) → All (λ p. IsPassed times demands block puts looks p.0 p.1) made → ((x : ℕ) (d : Passed) → x < blocks → Contains made (x, get_or passed x d))
         → (b : ℕ) (d : Passed) → b < blocks → IsRight times demands block b (get_or passed b d)
-    all-right made passed pieces own b d lt = passed-right b (get_or passed b d) lt (All-contains (λ (p : ℕ × Passed). IsPassed times demands block looks p.0 p.1) made (b, get_or passed b d) pieces (own b d lt))
+    all-right made passed pieces own b d lt = passed-right b (get_or passed b d) lt (All-contains (λ (p : ℕ × Passed). IsPassed times demands block puts looks p.0 p.1) made (b, get_or passed b d) pieces (own b d lt))
 
     pub all-known : (b : ℕ) → b < blocks → IsKnown times demands block b (get_or carries b Void)
     all-known b lt = known-of b (get_or carries b Void) lt refl

@@ -1,16 +1,17 @@
 -- What one worker keeps as it passes over blocks, and what two that are joined have together.
-use Rattle.std.proofs.Common.{◌≡◌, ℕ, ◌+◌, ◌-◌, ◌<◌, ◌≤◌, ◌⊎◌, List, [], ◌∷◌, ◌++◌, refl, sym, ap, ◌∙◌, subst, arith, ⊎_elim, Contains, All, Option, Some, None, IfSome, Result, Ok, Err, IfOk, IsOkAnd}
+use Rattle.std.proofs.Common.{◌≡◌, ℕ, ◌+◌, ◌-◌, ◌<◌, ◌≤◌, ◌⊎◌, List, [], ◌∷◌, ◌++◌, refl, sym, ap, ◌∙◌, subst, arith, ⊎_elim, Contains, All, Option, Some, None, IfSome, IfNone, Result, Ok, Err, IfOk, IsOkAnd}
 use Rattle.std.proofs.lemmas.List.Elements.{Contains-append_cases, Contains-append_left, Contains-append_right, All-contains, All-weaker}
 use Rattle.mq_chain.specs.Seats.{Seated, seated}
-use Rattle.mq_chain.specs.Words.{carry_word, block_of}
+use Rattle.mq_chain.specs.Words.{carry_word, block_of, value_of}
 use Rattle.mq_crew.specs.Crew.{IsMadeOf}
 use Rattle.mq_crew.proofs.Working.{IsWorking, works-more, works-ended, made-both}
 use Rattle.mq_maxplus.specs.declared.affine.Affine.{Affine}
 use Rattle.mq_maxplus.specs.declared.mp.Mp.{Mp}
 use Rattle.mq_maxplus.specs.declared.mp.Mp.TheVariants.{Void, At}
+use Rattle.mq_maxplus.specs.Maxplus.{affine_act}
 use Rattle.mq_pass.specs.declared.block.Passed.{Passed}
-use Rattle.mq_pass.specs.Blocks.{departs_of}
-use Rattle.mq_pass.specs.Passing.{IsSeen, HasNoPut, IsGrown, IsOwn, IsPassed, IsPass}
+use Rattle.mq_pass.specs.Blocks.{departs_of, summary_at}
+use Rattle.mq_pass.specs.Passing.{IsSeen, IsUnseen, IsPublished, HasNoPut, IsGrown, IsOwn, IsPassed, IsPass, look_before}
 
 -- what a look found is found among more looks
 pub seen-more : (looks more : List (ℕ × ℕ)) (b : ℕ) (c : Mp) → ((e : ℕ × ℕ) → Contains looks e → Contains more e) → IsSeen looks b c → IsSeen more b c
@@ -18,29 +19,40 @@ seen-more looks more b Void all seen = seen
 seen-more looks more b (At v) all seen = (seen.0, all (carry_word (b - 1), v + 1) seen.1)
 
 module _ (times demands : List ℕ) (block : ℕ) where
-  departs-more : (looks more : List (ℕ × ℕ)) (b : ℕ) (o : Option (List ℕ)) → ((e : ℕ × ℕ) → Contains looks e → Contains more e)
-      → IfSome o (λ l. (c : Mp) × IsSeen looks b c × (l ≡ departs_of times demands block b c)) → IfSome o (λ l. (c : Mp) × IsSeen more b c × (l ≡ departs_of times demands block b c))
-  departs-more looks more b None all h = h
-  departs-more looks more b (Some l) all h = (h.0, seen-more looks more b h.0 all h.1, h.2)
+  module _ (puts stored looks more : List (ℕ × ℕ)) (kept : (e : ℕ × ℕ) → Contains puts e → Contains stored e) (all : (e : ℕ × ℕ) → Contains looks e → Contains more e) where
+    departs-more : (b : ℕ) (o : Option (List ℕ)) → IfSome o (λ l. (c : Mp) × IsSeen looks b c × (l ≡ departs_of times demands block b c) × IsPublished puts b (summary_at times demands block b) c)
+        → IfSome o (λ l. (c : Mp) × IsSeen more b c × (l ≡ departs_of times demands block b c) × IsPublished stored b (summary_at times demands block b) c)
+    departs-more b None h = h
+    departs-more b (Some l) h = (h.0, seen-more looks more b h.0 all h.1, h.2, λ small. kept (carry_word b, value_of (affine_act (summary_at times demands block b) h.0) + 1) (h.3 small))
 
-  pub passed-more : (looks more : List (ℕ × ℕ)) (b : ℕ) (p : Passed) → ((e : ℕ × ℕ) → Contains looks e → Contains more e) → IsPassed times demands block looks b p → IsPassed times demands block more b p
-  passed-more looks more b p all h = record { sum = h.sum; departs = departs-more looks more b p.departs all h.departs }
+    left-more : (b : ℕ) (o : Option (List ℕ)) → IfNone o (IsUnseen looks b) → IfNone o (IsUnseen more b)
+    left-more b None h = (h.0, all (carry_word (b - 1), 0) h.1)
+    left-more b (Some l) h = h
 
-  made-more : (blocks : ℕ) (looks more : List (ℕ × ℕ)) (draws : List ℕ) (made : List (ℕ × Passed)) → ((e : ℕ × ℕ) → Contains looks e → Contains more e)
-      → IsMadeOf (IsPassed times demands block looks) blocks draws made → IsMadeOf (IsPassed times demands block more) blocks draws made
-  made-more blocks looks more draws made all h = record {
-    each = h.each;
-    pieces = All-weaker (λ (p : ℕ × Passed). IsPassed times demands block looks p.0 p.1) (λ (p : ℕ × Passed). IsPassed times demands block more p.0 p.1) (λ p k. passed-more looks more p.0 p.1 all k) made h.pieces;
-    ended = h.ended;
-  }
+    -- what holds of a block holds where more was stored and seen
+    pub passed-more : (b : ℕ) (p : Passed) → IsPassed times demands block puts looks b p → IsPassed times demands block stored more b p
+    passed-more b p h = record { sum = h.sum; departs = departs-more b p.departs h.departs; left = left-more b p.departs h.left }
 
-  works-weaker : (blocks : ℕ) (looks more : List (ℕ × ℕ)) (draws : List ℕ) (made : List (ℕ × Passed)) → ((e : ℕ × ℕ) → Contains looks e → Contains more e)
-      → IsWorking (IsPassed times demands block looks) blocks draws made → IsWorking (IsPassed times demands block more) blocks draws made
-  works-weaker blocks looks more draws made all h = record {
-    each = h.each;
-    pieces = All-weaker (λ (p : ℕ × Passed). IsPassed times demands block looks p.0 p.1) (λ (p : ℕ × Passed). IsPassed times demands block more p.0 p.1) (λ p k. passed-more looks more p.0 p.1 all k) made h.pieces;
-    early = h.early;
-    long = h.long;
+    pieces-more : (made : List (ℕ × Passed)) → All (λ p. IsPassed times demands block puts looks p.0 p.1) made → All (λ p. IsPassed times demands block stored more p.0 p.1) made
+    pieces-more made h = All-weaker (λ (p : ℕ × Passed). IsPassed times demands block puts looks p.0 p.1) (λ (p : ℕ × Passed). IsPassed times demands block stored more p.0 p.1) (λ p k. passed-more p.0 p.1 k) made h
+
+    made-more : (blocks : ℕ) (draws : List ℕ) (made : List (ℕ × Passed)) → IsMadeOf (IsPassed times demands block puts looks) blocks draws made → IsMadeOf (IsPassed times demands block stored more) blocks draws made
+    made-more blocks draws made h = record { each = h.each; pieces = pieces-more made h.pieces; ended = h.ended }
+
+    works-weaker : (blocks : ℕ) (draws : List ℕ) (made : List (ℕ × Passed)) → IsWorking (IsPassed times demands block puts looks) blocks draws made → IsWorking (IsPassed times demands block stored more) blocks draws made
+    works-weaker blocks draws made h = record { each = h.each; pieces = pieces-more made h.pieces; early = h.early; long = h.long }
+
+  -- what a block shows that was left
+  pub left-shows : (puts : List (ℕ × ℕ)) (b : ℕ) (s : Affine) (before : Option Mp) → s ≡ summary_at times demands block b → before ≡ None → 1 ≤ b → IsPassed times demands block puts (look_before b before) b (record { summary = s; departs = None })
+  left-shows puts b s before is none some = record { sum = is; departs = tt; left = (some, subst (λ (z : Option Mp). Contains (look_before b z) (carry_word (b - 1), 0)) (sym none) (0, omega arith, refl)) }
+
+  -- what one shows that was served
+  pub served-shows : (puts : List (ℕ × ℕ)) (b : ℕ) (s : Affine) (before : Option Mp) (c : Mp) (l : List ℕ) → s ≡ summary_at times demands block b → before ≡ Some c → IsSeen (look_before b (Some c)) b c → IsPublished puts b s c
+      → l ≡ departs_of times demands block b c → IsPassed times demands block puts (look_before b before) b (record { summary = s; departs = Some l })
+  served-shows puts b s before c l is some seen put served = record {
+    sum = is;
+    departs = (c, subst (λ (z : Option Mp). IsSeen (look_before b z) b c) (sym some) seen, served, subst (λ (z : Affine). IsPublished puts b z c) is put);
+    left = tt;
   }
 
   nowhere : {X : Type 0} (x : X) → Contains [] x → ⊥
@@ -55,22 +67,25 @@ module _ (times demands : List ℕ) (block : ℕ) where
   fresh-block seat drawn n is own above = subst (λ (z : Seated). HasNoPut z.puts n) (sym is) (λ w x c e. let less : block_of w < n = All-contains (λ d. d < n) seat.draws (block_of w) above (own.drawn w x c) in absurd (omega arith))
 
   -- one block more
-  pub passes-more : (blocks : ℕ) (s : Affine) (seat drawn new : Seated) (made more : List (ℕ × Passed)) (n : ℕ) (p : Passed)
-      → drawn ≡ seated seat.table seat.right (seat.draws ++ n ∷ []) seat.puts seat.looks → All (λ d. d < n) seat.draws → n < blocks → IsGrown n s drawn new → IsPassed times demands block new.looks n p
-      → more ≡ made ++ (n, p) ∷ [] → IsWorking (IsPassed times demands block seat.looks) blocks seat.draws made → IsWorking (IsPassed times demands block new.looks) blocks new.draws more
-  passes-more blocks s seat drawn new made more n p is above less g passed pushed w =
-      let looks : new.looks ≡ seat.looks ++ g.looks.0 = g.looks.1 ∙ ap (λ (z : Seated). z.looks ++ g.looks.0) is in
+  pub passes-more : (blocks : ℕ) (s : Affine) (before : Option Mp) (seat drawn new : Seated) (made more : List (ℕ × Passed)) (n : ℕ) (p : Passed)
+      → drawn ≡ seated seat.table seat.right (seat.draws ++ n ∷ []) seat.puts seat.looks → All (λ d. d < n) seat.draws → n < blocks → IsGrown n s before drawn new → IsPassed times demands block new.puts (look_before n before) n p
+      → more ≡ made ++ (n, p) ∷ [] → IsWorking (IsPassed times demands block seat.puts seat.looks) blocks seat.draws made → IsWorking (IsPassed times demands block new.puts new.looks) blocks new.draws more
+  passes-more blocks s before seat drawn new made more n p is above less g passed pushed w =
+      let looks : new.looks ≡ seat.looks ++ look_before n before = g.looks ∙ ap (λ (z : Seated). z.looks ++ look_before n before) is in
       let draws : new.draws ≡ seat.draws ++ n ∷ [] = g.draws ∙ ap (λ (z : Seated). z.draws) is in
-      let keeps : (e : ℕ × ℕ) → Contains seat.looks e → Contains new.looks e = λ e c. subst (λ (z : List (ℕ × ℕ)). Contains z e) (sym looks) (Contains-append_left seat.looks g.looks.0 e c) in
-      subst (λ (z : List ℕ × List (ℕ × Passed)). IsWorking (IsPassed times demands block new.looks) blocks z.0 z.1) (λ i. (sym draws i, sym pushed i))
-      (works-more (IsPassed times demands block new.looks) blocks seat.draws made n p (works-weaker blocks seat.looks new.looks seat.draws made keeps w) above less passed)
+      let keeps : (e : ℕ × ℕ) → Contains seat.looks e → Contains new.looks e = λ e c. subst (λ (z : List (ℕ × ℕ)). Contains z e) (sym looks) (Contains-append_left seat.looks (look_before n before) e c) in
+      let gains : (e : ℕ × ℕ) → Contains (look_before n before) e → Contains new.looks e = λ e c. subst (λ (z : List (ℕ × ℕ)). Contains z e) (sym looks) (Contains-append_right seat.looks (look_before n before) e c) in
+      let stores : (e : ℕ × ℕ) → Contains seat.puts e → Contains new.puts e = λ e c. g.kept e (subst (λ (z : Seated). Contains z.puts e) (sym is) c) in
+      subst (λ (z : List ℕ × List (ℕ × Passed)). IsWorking (IsPassed times demands block new.puts new.looks) blocks z.0 z.1) (λ i. (sym draws i, sym pushed i))
+      (works-more (IsPassed times demands block new.puts new.looks) blocks seat.draws made n p (works-weaker seat.puts new.puts seat.looks new.looks stores keeps blocks seat.draws made w) above less
+      (passed-more new.puts new.puts (look_before n before) new.looks (λ e c. c) gains n p passed))
 
   -- the last draw has reached the number of blocks
   pub passes-ended : (blocks : ℕ) (seat drawn : Seated) (made : List (ℕ × Passed)) (n : ℕ) → drawn ≡ seated seat.table seat.right (seat.draws ++ n ∷ []) seat.puts seat.looks → blocks ≤ n → IsOwn times demands block seat
-      → IsWorking (IsPassed times demands block seat.looks) blocks seat.draws made → IsPass times demands block blocks drawn made
+      → IsWorking (IsPassed times demands block seat.puts seat.looks) blocks seat.draws made → IsPass times demands block blocks drawn made
   passes-ended blocks seat drawn made n is past own w = record {
     own = own-drawn seat drawn n is own;
-    pieces = subst (λ (z : Seated). IsMadeOf (IsPassed times demands block z.looks) blocks z.draws made) (sym is) (works-ended (IsPassed times demands block seat.looks) blocks seat.draws made n w past);
+    pieces = subst (λ (z : Seated). IsMadeOf (IsPassed times demands block z.puts z.looks) blocks z.draws made) (sym is) (works-ended (IsPassed times demands block seat.puts seat.looks) blocks seat.draws made n w past);
   }
 
   -- two seats that are joined
@@ -90,9 +105,9 @@ module _ (times demands : List ℕ) (block : ℕ) where
       → IsPass times demands block blocks a xs → IsPass times demands block blocks b ys → IsPass times demands block blocks joined (xs ++ ys)
   pass-both blocks a b joined xs ys is m n = subst (λ (z : Seated). IsPass times demands block blocks z (xs ++ ys)) (sym is) (record {
     own = own-both a b (seated a.table (a.right + b.right) (a.draws ++ b.draws) (a.puts ++ b.puts) (a.looks ++ b.looks)) refl refl m.own n.own;
-    pieces = made-both (IsPassed times demands block (a.looks ++ b.looks)) blocks a.draws b.draws xs ys
-        (made-more blocks a.looks (a.looks ++ b.looks) a.draws xs (λ e c. Contains-append_left a.looks b.looks e c) m.pieces)
-        (made-more blocks b.looks (a.looks ++ b.looks) b.draws ys (λ e c. Contains-append_right a.looks b.looks e c) n.pieces);
+    pieces = made-both (IsPassed times demands block (a.puts ++ b.puts) (a.looks ++ b.looks)) blocks a.draws b.draws xs ys
+        (made-more a.puts (a.puts ++ b.puts) a.looks (a.looks ++ b.looks) (λ e c. Contains-append_left a.puts b.puts e c) (λ e c. Contains-append_left a.looks b.looks e c) blocks a.draws xs m.pieces)
+        (made-more b.puts (a.puts ++ b.puts) b.looks (a.looks ++ b.looks) (λ e c. Contains-append_right a.puts b.puts e c) (λ e c. Contains-append_right a.looks b.looks e c) blocks b.draws ys n.pieces);
   })
 
   -- where the lists of two halves of the crew were put together

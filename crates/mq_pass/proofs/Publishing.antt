@@ -1,5 +1,5 @@
 -- What a seat stores of a block.
-use Rattle.std.proofs.Common.{◌≡◌, ◌≢◌, ℕ, zero, suc, ◌+◌, ◌-◌, ◌^◌, ◌≤◌, ◌⊎◌, List, [], ◌∷◌, ◌++◌, max, refl, sym, ap, ◌∙◌, subst, arith, inl, inr, ⊎_elim, Contains}
+use Rattle.std.proofs.Common.{◌≡◌, ◌≢◌, ℕ, zero, suc, ◌+◌, ◌-◌, ◌^◌, ◌≤◌, ◌⊎◌, List, [], ◌∷◌, ◌++◌, max, refl, sym, ap, ◌∙◌, subst, arith, inl, inr, ⊎_elim, Contains, Option}
 use Rattle.std.proofs.lemmas.List.Elements.{Contains-append_cases, Contains-append_left, Contains-append_right}
 use Rattle.mq_base.proofs.lemmas.Lists.{only}
 use Rattle.mq_chain.specs.Seats.{Seated}
@@ -64,8 +64,8 @@ next-of puts looks (suc b) s (At v) carry sum best seen some act =
 
 module _ (times demands : List ℕ) (block : ℕ) where
   -- what a seat gains by one block is of the cut
-  pub grown-own : (b : ℕ) (s : Affine) (old new : Seated) → s ≡ summary_at times demands block b → s.least ≢ Void → Contains old.draws b → IsGrown b s old new → IsOwn times demands block old → IsOwn times demands block new
-  grown-own b s old new is some drew g own = record {
+  pub grown-own : (b : ℕ) (s : Affine) (before : Option Mp) (old new : Seated) → s ≡ summary_at times demands block b → s.least ≢ Void → Contains old.draws b → IsGrown b s before old new → IsOwn times demands block old → IsOwn times demands block new
+  grown-own b s before old new is some drew g own = record {
     cut = record {
       some = own.cut.some;
       sums = λ d x h. ⊎_elim (λ before. own.cut.sums d x before) (λ here. ⊎_elim

@@ -1,5 +1,5 @@
 -- What a worker hands back, and what its seat shows of it.
-use Rattle.std.specs.Prelude.{◌≡◌, ◌≢◌, ℕ, suc, ◌+◌, ◌-◌, ◌*◌, ◌≤◌, ◌⊎◌, ◌<◌, List, [], ◌∷◌, ◌++◌, length, Contains, IfSome, Option, Some, None, slice_get}
+use Rattle.std.specs.Prelude.{◌≡◌, ◌≢◌, ℕ, suc, ◌+◌, ◌-◌, ◌*◌, ◌^◌, ◌≤◌, ◌⊎◌, ◌<◌, List, [], ◌∷◌, ◌++◌, length, Contains, IfNone, IfSome, Option, Some, None, slice_get}
 use Rattle.mq_chain.specs.Cut.{AreOfCut}
 use Rattle.mq_chain.specs.Seats.{Seated}
 use Rattle.mq_chain.specs.Words.{sum_word, best_word, carry_word, block_of, value_of}
@@ -7,6 +7,7 @@ use Rattle.mq_crew.specs.Crew.{IsMadeOf}
 use Rattle.mq_maxplus.specs.declared.affine.Affine.{Affine}
 use Rattle.mq_maxplus.specs.declared.mp.Mp.{Mp}
 use Rattle.mq_maxplus.specs.declared.mp.Mp.TheVariants.{Void, At}
+use Rattle.mq_maxplus.specs.Maxplus.{affine_act}
 use Rattle.mq_server.specs.Jobs.{job}
 use Rattle.mq_pass.specs.Blocks.{carry_at, summary_at, departs_of}
 use Rattle.mq_pass.specs.declared.block.Passed.{Passed}
@@ -21,6 +22,20 @@ abbrev pub IsSeen : List (ℕ × ℕ) → ℕ → Mp → Type 0
 IsSeen looks b Void = b ≡ 0
 IsSeen looks b (At v) = (1 ≤ b) × Contains looks (carry_word (b - 1), v + 1)
 
+-- one of these looks found no carry before block b
+abbrev pub IsUnseen : List (ℕ × ℕ) → ℕ → Type 0
+IsUnseen looks b = (1 ≤ b) × Contains looks (carry_word (b - 1), 0)
+
+-- the look for the carry before block b that found this; before the first block there is none
+abbrev pub look_before : ℕ → Option Mp → List (ℕ × ℕ)
+look_before b None = (carry_word (b - 1), 0) ∷ []
+look_before b (Some Void) = []
+look_before b (Some (At v)) = (carry_word (b - 1), v + 1) ∷ []
+
+-- what a block with this summary makes of the carry before it was stored, if a word holds it
+abbrev pub IsPublished : List (ℕ × ℕ) → ℕ → Affine → Mp → Type 0
+IsPublished puts b s c = value_of (affine_act s c) < 2 ^ 63 → Contains puts (carry_word b, value_of (affine_act s c) + 1)
+
 -- nothing was stored of a block
 abbrev pub HasNoPut : List (ℕ × ℕ) → ℕ → Type 0
 HasNoPut puts b = (w x : ℕ) → Contains puts (w, x) → block_of w ≢ b
@@ -29,13 +44,14 @@ HasNoPut puts b = (w x : ℕ) → Contains puts (w, x) → block_of w ≢ b
 abbrev pub IsPutOf : ℕ → Affine → ℕ → ℕ → Type 0
 IsPutOf b s w x = ((w ≡ sum_word b) × (x ≡ s.add + 1)) ⊎ (((w ≡ best_word b) × (x ≡ value_of s.least + 1)) ⊎ (w ≡ carry_word b))
 
--- what a seat gains by one block: what it stored is of that block, and it may have looked
-pub record IsGrown (b : ℕ) (s : Affine) (old new : Seated) : Type 0 where
+-- what a seat gains by one block: what it stored is of that block, and it looked once for the carry before, and found this
+pub record IsGrown (b : ℕ) (s : Affine) (before : Option Mp) (old new : Seated) : Type 0 where
   pub table : new.table ≡ old.table
   pub right : new.right ≡ old.right
   pub draws : new.draws ≡ old.draws
+  pub kept : (e : ℕ × ℕ) → Contains old.puts e → Contains new.puts e
   pub puts : (w x : ℕ) → Contains new.puts (w, x) → Contains old.puts (w, x) ⊎ IsPutOf b s w x
-  pub looks : (more : List (ℕ × ℕ)) × (new.looks ≡ old.looks ++ more)
+  pub looks : new.looks ≡ old.looks ++ look_before b before
 
 module _ (times demands : List ℕ) (block : ℕ) where
   -- what the seat stored is of this cut, and of blocks that it drew
@@ -43,15 +59,17 @@ module _ (times demands : List ℕ) (block : ℕ) where
     pub cut : AreOfCut (job times demands) (length times) block seat.puts
     pub drawn : (w x : ℕ) → Contains seat.puts (w, x) → Contains seat.draws (block_of w)
 
-  -- of block b: its summary, and the departures from a carry that one of these looks found, unless it was left
-  pub record IsPassed (looks : List (ℕ × ℕ)) (b : ℕ) (p : Passed) : Type 0 where
+  -- Of block b: its summary, and the departures from a carry that one of these looks found; then its own carry is one of these puts.
+  -- It was left only where one of the looks found no carry.
+  pub record IsPassed (puts looks : List (ℕ × ℕ)) (b : ℕ) (p : Passed) : Type 0 where
     pub sum : p.summary ≡ summary_at times demands block b
-    pub departs : IfSome p.departs (λ l. (c : Mp) × IsSeen looks b c × (l ≡ departs_of times demands block b c))
+    pub departs : IfSome p.departs (λ l. (c : Mp) × IsSeen looks b c × (l ≡ departs_of times demands block b c) × IsPublished puts b (summary_at times demands block b) c)
+    pub left : IfNone p.departs (IsUnseen looks b)
 
   -- a worker's seat, and what it hands back with it
   pub record IsPass (blocks : ℕ) (seat : Seated) (made : List (ℕ × Passed)) : Type 0 where
     pub own : IsOwn seat
-    pub pieces : IsMadeOf (IsPassed seat.looks) blocks seat.draws made
+    pub pieces : IsMadeOf (IsPassed seat.puts seat.looks) blocks seat.draws made
 
   -- the departures are those behind all jobs before the block
   pub record IsRight (b : ℕ) (p : Passed) : Type 0 where

@@ -1,10 +1,11 @@
 // One block, by the worker that drew it.
-ghost use Rattle.std.specs.Prelude.{◌≡◌, ℕ, ◌^◌, ◌<◌, ◌≤◌, ◌++◌, Contains, IfOk, IfSome, List};
+ghost use Rattle.std.specs.Prelude.{◌≡◌, ◌^◌, ◌<◌, ◌≤◌, ◌++◌, Contains, IfNone, IfOk, IfSome, Option, Some};
 ghost use Rattle.mq_chain.specs.Seats.{IsSeatOf, seated};
 ghost use Rattle.mq_chain.specs.Stored.{IsShort};
 ghost use Rattle.mq_pass.specs.Blocks.{summary_at};
 ghost use Rattle.mq_maxplus.specs.Within.{IsWithin};
-ghost use Rattle.mq_pass.specs.Passing.{IsSeen, IsGrown, HasNoPut, IsOwn, IsPassed};
+ghost use Rattle.mq_maxplus.specs.declared.mp.Mp.{Mp as TheMp};
+ghost use Rattle.mq_pass.specs.Passing.{IsSeen, IsGrown, IsPublished, HasNoPut, IsOwn, IsPassed, look_before};
 
 use crate::jobs::{Jobs, served, summary_of};
 use mq_base::{List, OutOfMemory};
@@ -23,12 +24,14 @@ pub(crate) struct Passed {
 // The greatest carry that a word holds, and one more.
 const LIMIT: u64 = 1 << 63;
 
-// The carry before a block: none before the first, else the one that a look finds.
+// The carry before a block: `Void` before the first, else the one that a look finds. There is none only
+// where that look found none.
 fn carry_before(chain: &Chain, seat: &mut ChainSeat, b: u32) -> Option<Mp>
     requires own { IsSeatOf chain.now seat.old }
     requires inside { b < chain.now.blocks }
-    ensures looked { (more : List (ℕ × ℕ)) × (seat.new ≡ seated seat.old.table seat.old.right seat.old.draws seat.old.puts (seat.old.looks ++ more)) }
-    ensures found { IfSome result (λ c. IsSeen seat.new.looks b c × IsWithin (2 ^ 63) c) }
+    ensures looked { seat.new ≡ seated seat.old.table seat.old.right seat.old.draws seat.old.puts (seat.old.looks ++ look_before b result) }
+    ensures found { IfSome result (λ c. IsSeen (look_before b (Some c)) b c × IsWithin (2 ^ 63) c) }
+    ensures none { IfNone result (1 ≤ b) }
 {
     if b == 0 {
         return Some(Mp::Void);
@@ -40,7 +43,7 @@ fn carry_before(chain: &Chain, seat: &mut ChainSeat, b: u32) -> Option<Mp>
 }
 
 // Puts a block's summary and, where the carry before it is there and its own is short, its carry. It
-// gives the carry before it.
+// gives the carry before it, or none where a look found none.
 fn publish(chain: &Chain, seat: &mut ChainSeat, b: u32, summary: Affine) -> Option<Mp>
     requires own { IsSeatOf chain.now seat.old }
     requires inside { b < chain.now.blocks }
@@ -48,8 +51,10 @@ fn publish(chain: &Chain, seat: &mut ChainSeat, b: u32, summary: Affine) -> Opti
     requires fresh { HasNoPut seat.old.puts b }
     requires short { IsShort summary }
     requires small { summary.add ≤ 2 ^ 57 }
-    ensures grown { IsGrown b summary seat.old seat.new }
-    ensures found { IfSome result (λ c. IsSeen seat.new.looks b c × IsWithin (2 ^ 63) c) }
+    ensures grown { IsGrown b summary result seat.old seat.new }
+    ensures found { IfSome result (λ c. IsSeen (look_before b (Some c)) b c × IsWithin (2 ^ 63) c) }
+    ensures none { IfNone result (1 ≤ b) }
+    ensures put { IfSome result (IsPublished seat.new.puts b summary) }
 {
     chain.put_summary(seat, b, summary);
     let Some(before) = carry_before(chain, seat, b) else {
@@ -59,14 +64,14 @@ fn publish(chain: &Chain, seat: &mut ChainSeat, b: u32, summary: Affine) -> Opti
         unreachable!()
     };
     if carry >= LIMIT {
-        return None;
+        return Some(before);
     }
     chain.put_carry(seat, b, carry);
     Some(before)
 }
 
 /// One block by the worker that drew it: its summary is put, and where the carry before it is there,
-/// its own carry is put and its jobs are served. Else it is left.
+/// its own carry is put and its jobs are served. It is left only where the look for that carry found none.
 pub(crate) fn pass_block(
     alloc: Global,
     chain: &Chain,
@@ -80,9 +85,8 @@ pub(crate) fn pass_block(
     requires drew { Contains seat.old.draws b }
     requires fresh { HasNoPut seat.old.puts b }
     requires mine { IsOwn jobs.now.step.arrive.now jobs.now.step.demands.now jobs.now.blocks.block seat.old }
-    ensures grown { IsGrown b (summary_at jobs.now.step.arrive.now jobs.now.step.demands.now jobs.now.blocks.block b) seat.old seat.new }
     ensures mine { IsOwn jobs.now.step.arrive.now jobs.now.step.demands.now jobs.now.blocks.block seat.new }
-    ensures passed { IfOk result (λ p. IsPassed jobs.now.step.arrive.now jobs.now.step.demands.now jobs.now.blocks.block seat.new.looks b p) }
+    ensures passed { (before : Option TheMp) × IsGrown b (summary_at jobs.now.step.arrive.now jobs.now.step.demands.now jobs.now.blocks.block b) before seat.old seat.new × IfOk result (λ p. IsPassed jobs.now.step.arrive.now jobs.now.step.demands.now jobs.now.blocks.block seat.new.puts (look_before b before) b p) }
 {
     let summary = summary_of(jobs, b);
     let Some(before) = publish(chain, seat, b, summary) else {

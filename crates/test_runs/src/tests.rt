@@ -3,6 +3,8 @@ mod chain;
 mod claims;
 mod crew;
 mod graph;
+mod meeting;
 mod pass;
 mod stats;
 mod tails;
+mod totals;

@@ -2,6 +2,7 @@
 ghost use Rattle.std.specs.Prelude.{◌≡◌, ℕ, ◌+◌, ◌*◌, ◌<◌, ◌≤◌, ◌^◌, length, IfOk};
 ghost use Rattle.mq_crew.specs.Crew.{AreAll, IsLastOf, total_size};
 
+use super::meeting::Meeting;
 use mq_base::{List, OutOfMemory};
 use mq_chain::ChainSeat;
 use mq_claims::ClaimSeat;
@@ -140,45 +141,31 @@ fn each_part_has_its_own_list(rt: HostRuntime) -> Result<(), Fail> {
     Ok(())
 }
 
-const TURNS: u64 = 2_000_000_000;
-
-// Holds the first entry with piece 0 until one with piece 1 has come, and the other way round.
+// Holds the workers with the first five pieces.
 #[derive(Drop)]
-struct Pair {
-    came: [AtomicU64; 2],
-    alone: AtomicU64,
+struct AtPieces {
+    meeting: Meeting,
 }
 
-impl Gate for Pair {
-    fn enter(&self, _seat: &ClaimSeat, _worker: u32, piece: u32) {
-        if piece > 1 {
-            return;
-        }
-        let here = piece as usize;
-        self.came[here].fetch_add(1, SeqCst);
-        for _ in 0..TURNS {
-            if self.came[1 - here].load(SeqCst) > 0 {
-                return;
-            }
-        }
-        self.alone.fetch_add(1, SeqCst);
+impl Gate for AtPieces {
+    fn enter(&self, _seat: &ClaimSeat, worker: u32, piece: u32) {
+        self.meeting.enter(worker, piece);
     }
 
     fn enter_block(&self, _seat: &ChainSeat, _worker: u32, _block: u32) {}
 }
 
-// Whether two workers make five squares, and neither waits for the other in vain.
-fn two_enter<R: Threads + Sync>(rt: &R, alloc: Global) -> Result<bool, OutOfMemory> {
-    let gate = Pair {
-        came: [AtomicU64::new(0), AtomicU64::new(0)],
-        alone: AtomicU64::new(0),
+// Whether five workers make six squares, and meet.
+fn five_meet<R: Threads + Sync>(rt: &R, alloc: Global) -> Result<bool, OutOfMemory> {
+    let gate = AtPieces {
+        meeting: Meeting::of_nobody(),
     };
-    let squares = run_pieces(rt, alloc, 2, &Squares { count: 5 }, &gate)?;
-    Ok(squares.as_slice() == [0, 1, 4, 9, 16].as_slice() && gate.alone.load(SeqCst) == 0)
+    let squares = run_pieces(rt, alloc, 5, &Squares { count: 6 }, &gate)?;
+    Ok(squares.as_slice() == [0, 1, 4, 9, 16, 25].as_slice() && gate.meeting.is_whole())
 }
 
 #[test]
-fn two_threads_enter(rt: HostRuntime) -> Result<(), Fail> {
-    assert!(rt; two_enter(&rt, rt.alloc())?);
+fn five_workers_enter_each_by_its_number(rt: HostRuntime) -> Result<(), Fail> {
+    assert!(rt; five_meet(&rt, rt.alloc())?);
     Ok(())
 }

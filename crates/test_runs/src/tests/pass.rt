@@ -3,6 +3,7 @@ ghost use Rattle.std.specs.Prelude.{◌≡◌, ◌*◌, ◌^◌, ◌≤◌, leng
 ghost use Rattle.mq_core.specs.Sequences.{IsSoundLoad};
 ghost use Rattle.mq_crew.specs.Crew.{IsLastOf};
 
+use super::meeting::Meeting;
 use mq_base::{List, OutOfMemory};
 use mq_chain::ChainSeat;
 use mq_claims::ClaimSeat;
@@ -188,64 +189,40 @@ fn fewer_than_two_blocks_enter_no_gate(rt: HostRuntime) -> Result<(), Fail> {
     Ok(())
 }
 
-const TURNS: u64 = 2_000_000_000;
-
-// Holds the first entry with block 0 until one with block 1 has come, and the other way round, and
-// counts the entries with each of the first three blocks.
+// Holds the workers with the first five blocks.
 #[derive(Drop)]
-struct Pair {
-    came: [AtomicU64; 3],
-    alone: AtomicU64,
+struct AtBlocks {
+    meeting: Meeting,
 }
 
-impl Gate for Pair {
+impl Gate for AtBlocks {
     fn enter(&self, _seat: &ClaimSeat, _worker: u32, _piece: u32) {}
 
-    fn enter_block(&self, _seat: &ChainSeat, _worker: u32, block: u32) {
-        if block > 2 {
-            return;
-        }
-        let here = block as usize;
-        self.came[here].fetch_add(1, SeqCst);
-        if here == 2 {
-            return;
-        }
-        for _ in 0..TURNS {
-            if self.came[1 - here].load(SeqCst) > 0 {
-                return;
-            }
-        }
-        self.alone.fetch_add(1, SeqCst);
+    fn enter_block(&self, _seat: &ChainSeat, worker: u32, block: u32) {
+        self.meeting.enter(worker, block);
     }
 }
 
-// Whether two workers pass over three blocks, each once, and neither waits for the other in vain.
-fn two_pass<R: Threads + Sync>(rt: &R, alloc: Global) -> Result<bool, OutOfMemory> {
-    let gate = Pair {
-        came: [AtomicU64::new(0), AtomicU64::new(0), AtomicU64::new(0)],
-        alone: AtomicU64::new(0),
+// Whether five workers pass over five blocks, and meet.
+fn five_pass<R: Threads + Sync>(rt: &R, alloc: Global) -> Result<bool, OutOfMemory> {
+    let gate = AtBlocks {
+        meeting: Meeting::of_nobody(),
     };
     let right = departs_are(
         rt,
         alloc,
-        2,
+        5,
         1,
-        [0, 1, 2].as_slice(),
-        [4, 1, 3].as_slice(),
-        [4, 5, 8].as_slice(),
+        [0, 1, 2, 3, 4].as_slice(),
+        [4, 1, 3, 1, 2].as_slice(),
+        [4, 5, 8, 9, 11].as_slice(),
         &gate,
     )?;
-    Ok(
-        right
-            && gate.alone.load(SeqCst) == 0
-            && gate.came[0].load(SeqCst) == 1
-            && gate.came[1].load(SeqCst) == 1
-            && gate.came[2].load(SeqCst) == 1,
-    )
+    Ok(right && gate.meeting.is_whole())
 }
 
 #[test]
-fn two_threads_enter_with_blocks(rt: HostRuntime) -> Result<(), Fail> {
-    assert!(rt; two_pass(&rt, rt.alloc())?);
+fn five_workers_enter_with_blocks_each_by_its_number(rt: HostRuntime) -> Result<(), Fail> {
+    assert!(rt; five_pass(&rt, rt.alloc())?);
     Ok(())
 }

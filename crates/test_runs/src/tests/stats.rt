@@ -1,15 +1,14 @@
-// Worked numbers of visits: totals, exits, the span, and what each visit found.
-ghost use Rattle.std.specs.Prelude.{◌≡◌, ◌<◌, ◌≤◌, ◌^◌, ℕ, All, List as Items, Some, length, slice_get, IfOk, IsTrue};
+// Worked numbers of visits: exits, the span, and what each visit found.
+ghost use Rattle.std.specs.Prelude.{◌≡◌, ◌<◌, ◌≤◌, All, length, IfOk, IsTrue};
 ghost use Rattle.std.specs.List.{AllByRecursion, zip};
 ghost use Rattle.mq_core.specs.SequenceLaws.{LeavesFrom};
 ghost use Rattle.mq_core.specs.Laws.{Rises};
-ghost use Rattle.mq_core.specs.Told.{HasValue};
 
 use mq_base::{List, OutOfMemory};
-use mq_core::{Demand, Fate, Fates, Kind, Rows, Stream, Visits};
+use mq_core::{Fate, Fates, Rows, Stream, Visits};
 use mq_stats::{
-    AheadTable, Exit, NodeTotals, ahead, ahead_of_departures, found, found_piece,
-    found_piece_in_order, last_at, leaving, span, totals, totals_added, totals_between,
+    AheadTable, Exit, ahead, ahead_of_departures, found, found_piece, found_piece_in_order,
+    last_at, leaving, span,
 };
 use std::alloc::Global;
 use std::test::Fail;
@@ -49,30 +48,6 @@ pub fn visits_of(alloc: Global, columns: &Columns) -> Result<Visits, OutOfMemory
     })
 }
 
-fn are_told(rows: &Rows, jobs: &List<u32>) -> bool
-    ensures { IsTrue result → All (λ job. HasValue rows.now 0 job) jobs.now }
-{
-    if rows.demands.is_empty() {
-        return false;
-    }
-    let count = rows.demands.get(0).len();
-    jobs.as_slice().iter().all(|job| (*job as usize) < count)
-}
-
-// Whether the first column has values of at most 2^36.
-fn is_column_small(rows: &Rows) -> bool
-    ensures { IsTrue result → (values : Items ℕ) → slice_get rows.now.demands 0 ≡ Some values → All (λ value. value ≤ 2 ^ 36) values }
-{
-    if rows.demands.is_empty() {
-        return false;
-    }
-    let values = rows.demands.get(0);
-    values
-        .as_slice()
-        .iter()
-        .all(|value| *value <= 68_719_476_736)
-}
-
 fn are_below(jobs: &[u32], count: usize) -> bool
     ensures { IsTrue result → All (λ job. job < count) jobs.now }
 {
@@ -98,24 +73,6 @@ pub fn are_even(visits: &Visits) -> bool
         && visits.fate.len() == count
 }
 
-// Whether a server has these totals in a run up to 10.
-fn totals_are(rows: &Rows, visits: &Visits, wanted: &NodeTotals) -> bool {
-    if !are_even(visits) || !are_told(rows, &visits.job) || !are_small(&visits.found) {
-        return false;
-    }
-    if !is_column_small(rows) {
-        return false;
-    }
-    totals(rows, &Kind::Server(Demand::Column(0)), visits, 10) == *wanted
-}
-
-// Whether a server with these visits of the three jobs has these totals.
-fn server_has(alloc: Global, columns: &Columns, wanted: &NodeTotals) -> Result<bool, OutOfMemory> {
-    let rows = three_rows(alloc)?;
-    let visits = visits_of(alloc, columns)?;
-    Ok(totals_are(&rows, &visits, wanted))
-}
-
 // The visits of three jobs that a server serves one after another.
 pub const SERVED: Columns<'static> = Columns {
     job: &[0, 1, 2],
@@ -124,20 +81,8 @@ pub const SERVED: Columns<'static> = Columns {
     fate: &[Fate::Departs(4), Fate::Departs(5), Fate::Departs(8)],
 };
 
-const SERVED_TOTALS: NodeTotals = NodeTotals {
-    came: 3,
-    left: 3,
-    lost: 0,
-    held: 0,
-    wait: 6,
-    longest: 3,
-    busy: 8,
-    area: 14,
-    peak: 3,
-};
-
 // The second is lost.
-const LOST: Columns<'static> = Columns {
+pub const LOST: Columns<'static> = Columns {
     job: &[0, 1, 2],
     arrive: &[0, 1, 2],
     found: &[0, 1, 1],
@@ -158,152 +103,6 @@ pub const NO_VISITS: Columns<'static> = Columns {
     found: &[],
     fate: &[],
 };
-
-#[test]
-fn servers_have_totals(rt: HostRuntime) -> Result<(), Fail> {
-    let alloc = rt.alloc();
-    let lost = NodeTotals {
-        came: 3,
-        left: 2,
-        lost: 1,
-        held: 0,
-        wait: 2,
-        longest: 2,
-        busy: 7,
-        area: 9,
-        peak: 2,
-    };
-    let held = NodeTotals {
-        came: 3,
-        left: 2,
-        lost: 0,
-        held: 1,
-        wait: 2,
-        longest: 2,
-        busy: 8,
-        area: 18,
-        peak: 3,
-    };
-    let none = NodeTotals {
-        came: 0,
-        left: 0,
-        lost: 0,
-        held: 0,
-        wait: 0,
-        longest: 0,
-        busy: 0,
-        area: 0,
-        peak: 0,
-    };
-    assert!(rt; server_has(alloc, &SERVED, &SERVED_TOTALS)?);
-    assert!(rt; server_has(alloc, &LOST, &lost)?);
-    assert!(rt; server_has(alloc, &HELD, &held)?);
-    assert!(rt; server_has(alloc, &NO_VISITS, &none)?);
-    Ok(())
-}
-
-// Whether a trunk group of two servers has these totals in a run up to 10.
-fn trunk_totals_are(rows: &Rows, visits: &Visits, wanted: &NodeTotals) -> bool {
-    if !are_even(visits) || !are_told(rows, &visits.job) || !are_small(&visits.found) {
-        return false;
-    }
-    if !is_column_small(rows) {
-        return false;
-    }
-    let kind = Kind::Trunk {
-        servers: 2,
-        demand: Demand::Column(0),
-    };
-    totals(rows, &kind, visits, 10) == *wanted
-}
-
-// The third comes while the two before it are served, and is lost.
-const TRUNKS: Columns<'static> = Columns {
-    job: &[0, 2, 1, 1],
-    arrive: &[0, 1, 2, 4],
-    found: &[0, 1, 2, 0],
-    fate: &[
-        Fate::Departs(4),
-        Fate::Departs(4),
-        Fate::Lost,
-        Fate::Departs(5),
-    ],
-};
-
-#[test]
-fn a_trunk_group_has_totals(rt: HostRuntime) -> Result<(), Fail> {
-    let alloc = rt.alloc();
-    let rows = three_rows(alloc)?;
-    let visits = visits_of(alloc, &TRUNKS)?;
-    let wanted = NodeTotals {
-        came: 4,
-        left: 3,
-        lost: 1,
-        held: 0,
-        wait: 0,
-        longest: 0,
-        busy: 8,
-        area: 8,
-        peak: 2,
-    };
-    assert!(rt; trunk_totals_are(&rows, &visits, &wanted));
-    Ok(())
-}
-
-// Whether the totals of a server's visits before a position and of those from it on, added up, are those of all.
-fn totals_join_at(rows: &Rows, visits: &Visits, at: u32) -> bool {
-    if !are_even(visits) || !are_told(rows, &visits.job) || !are_small(&visits.found) {
-        return false;
-    }
-    let count = visits.job.len() as u32;
-    if !is_column_small(rows) || at > count {
-        return false;
-    }
-    let kind = Kind::Server(Demand::Column(0));
-    let before = totals_between(rows, &kind, visits, 10, 0, at);
-    let after = totals_between(rows, &kind, visits, 10, at, count);
-    if before.came != at || after.came != count - at {
-        return false;
-    }
-    totals_added(&before, &after) == totals(rows, &kind, visits, 10)
-}
-
-// Whether that is so of these visits of the three jobs.
-fn server_joins(alloc: Global, columns: &Columns, at: u32) -> Result<bool, OutOfMemory> {
-    let rows = three_rows(alloc)?;
-    let visits = visits_of(alloc, columns)?;
-    Ok(totals_join_at(&rows, &visits, at))
-}
-
-#[test]
-fn totals_of_pieces_add_up(rt: HostRuntime) -> Result<(), Fail> {
-    assert!(rt; server_joins(rt.alloc(), &SERVED, 0)?);
-    assert!(rt; server_joins(rt.alloc(), &SERVED, 1)?);
-    assert!(rt; server_joins(rt.alloc(), &LOST, 2)?);
-    assert!(rt; server_joins(rt.alloc(), &HELD, 2)?);
-    assert!(rt; server_joins(rt.alloc(), &NO_VISITS, 0)?);
-    Ok(())
-}
-
-// The visits of the three jobs that a server serves one after another, with their departures as fates.
-fn served_by_departures(alloc: Global) -> Result<Visits, OutOfMemory> {
-    let departs = list(alloc, &[4u64, 5, 8])?;
-    Ok(Visits {
-        job: list(alloc, SERVED.job)?,
-        arrive: list(alloc, SERVED.arrive)?,
-        found: list(alloc, SERVED.found)?,
-        fate: Fates::departures(departs),
-    })
-}
-
-#[test]
-fn departures_are_fates(rt: HostRuntime) -> Result<(), Fail> {
-    let rows = three_rows(rt.alloc())?;
-    let visits = served_by_departures(rt.alloc())?;
-    assert!(rt; totals_are(&rows, &visits, &SERVED_TOTALS));
-    assert!(rt; totals_join_at(&rows, &visits, 2));
-    Ok(())
-}
 
 // Whether a stream of these rows has this exit.
 fn exit_is(rows: &Rows, stream: &Stream, wanted: Exit) -> bool {

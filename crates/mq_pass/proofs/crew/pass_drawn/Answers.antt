@@ -1,5 +1,8 @@
-use Rattle.std.proofs.Common.{◌≡◌, ◌≤◌, ◌+◌, [], ◌∷◌, ◌++◌, length, length-append, ap, ◌∙◌, arith, is_ok, not, true}
+use Rattle.std.proofs.Common.{◌≡◌, ◌≤◌, ◌+◌, [], ◌∷◌, ◌++◌, length, length-append, ap, ◌∙◌, arith, is_ok, not, true, subst, Result, IfOk}
 use Rattle.mq_chain.specs.Seats.{Seated}
+use Rattle.mq_base.specs.declared.list.OutOfMemory.{OutOfMemory}
+use Rattle.mq_pass.specs.Passing.{IsPassed, look_before}
+use Rattle.mq_pass.specs.declared.block.Passed.{Passed}
 use Rattle.mq_pass.proofs.Passes.{own-drawn, fresh-block, passes-more, passes-ended}
 use Rattle.mq_pass.proofs.crew.pass_drawn.Goals as goal
 
@@ -15,20 +18,22 @@ pass_block-requires-clause-mine g c = own-drawn _ _ _ _ _ _ c.draw-number.ensure
 pub draws-smaller : goal.draws-smaller
 draws-smaller g c =
     let long : length c.draws.seat.draws ≤ c.draw-number.result = c.draws.invariant.works.long c.draw-number.result c.draw-number.ensures.fresh in
-    let draws = c.pass_block.ensures.grown.draws ∙ ap (λ (z : Seated). z.draws) c.draw-number.ensures.drawn in
+    let draws = c.pass_block.ensures.passed.1.draws ∙ ap (λ (z : Seated). z.draws) c.draw-number.ensures.drawn in
     let more : length c.pass_block.new.seat.draws ≡ length c.draws.seat.draws + 1 = ap length draws ∙ length-append c.draws.seat.draws (c.draw-number.result ∷ []) in
     let less = c.if-number-jobs.false in
     omega arith
 
 pub draws-preserved : goal.draws-preserved
 draws-preserved g c =
+    let jobs = c.args.jobs.now in
     let i = c.draws.invariant in
-    let grown = c.pass_block.ensures.grown in
+    let grown = c.pass_block.ensures.passed.1 in
     let drawn = c.draw-number.ensures.drawn in
+    let passed = subst (λ (r : Result Passed OutOfMemory). IfOk r (λ p. IsPassed jobs.step.arrive.now jobs.step.demands.now jobs.blocks.block c.pass_block.new.seat.puts (look_before c.draw-number.result c.pass_block.ensures.passed.0) c.draw-number.result p)) c.in-Ok.is c.pass_block.ensures.passed.2 in
     let pushed : c.push.new.self.items ≡ c.draws.made.items ++ (c.draw-number.result, c.in-Ok.passed) ∷ [] = let ok : is_ok c.push.result ≡ true = c.is_err.ensures.negation ∙ ap not c.if-is_err.false in rw ok at c.push.ensures.items in
     record {
       table = grown.table ∙ (ap (λ (z : Seated). z.table) drawn ∙ i.table);
       right = grown.right ∙ (ap (λ (z : Seated). z.right) drawn ∙ i.right);
       own = c.pass_block.ensures.mine;
-      works = passes-more _ _ _ _ _ c.draws.seat c.draw-number.new.seat c.pass_block.new.seat c.draws.made.items c.push.new.self.items c.draw-number.result c.in-Ok.passed drawn c.draw-number.ensures.fresh (omega arith) grown c.in-Ok.ensures.passed pushed i.works;
+      works = passes-more _ _ _ _ _ c.pass_block.ensures.passed.0 c.draws.seat c.draw-number.new.seat c.pass_block.new.seat c.draws.made.items c.push.new.self.items c.draw-number.result c.in-Ok.passed drawn c.draw-number.ensures.fresh (omega arith) grown passed pushed i.works;
     }

@@ -8,7 +8,7 @@ invariant-draws g l = record {
   table : l.seat.table ≡ l.fn.seat.table;
   right : l.seat.right ≡ l.fn.seat.right;
   own : IsOwn l.jobs.step.arrive.now l.jobs.step.demands.now l.jobs.blocks.block l.seat;
-  works : IsWorking (IsPassed l.jobs.step.arrive.now l.jobs.step.demands.now l.jobs.blocks.block l.seat.looks) l.jobs.blocks.blocks l.seat.draws l.made.items;
+  works : IsWorking (IsPassed l.jobs.step.arrive.now l.jobs.step.demands.now l.jobs.blocks.block l.seat.puts l.seat.looks) l.jobs.blocks.blocks l.seat.draws l.made.items;
 }
 
 abbrev pub decreases-draws : goal.decreases-draws
