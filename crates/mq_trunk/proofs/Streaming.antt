@@ -15,7 +15,7 @@ use Rattle.mq_core.specs.declared.model.Fate.{Fate}
 use Rattle.mq_core.specs.declared.model.Fate.TheVariants.{Departs, Held, Lost}
 use Rattle.mq_core.specs.declared.model.Stream.{Stream}
 use Rattle.mq_trunk.specs.Parts.{fates_by, lost_of, of_admitted, of_lost, trunk_stream}
-use Rattle.mq_trunk.specs.Rounds.{admission, admits, departures_in}
+use Rattle.mq_rounds.specs.Rounds.{admits, departures_in}
 
 -- At a trunk group no visit is held.
 abbrev pub IsOver : Fate → Type 0
@@ -151,7 +151,3 @@ leaves-second servers arrivals lost demands admitted s a e =
     let jobs : of_lost admitted arrivals.job ≡ picked 1 (map out_of_fate fates) arrivals.job = ap (λ (bs : List Bool). of_lost bs arrivals.job) a ∙ lost-second fates arrivals.job in
     let times : of_lost admitted arrivals.time ≡ picked 1 (map out_of_fate fates) (leaving_times arrivals.time fates) = ap (λ (bs : List Bool). of_lost bs arrivals.time) a ∙ (lost-second fates arrivals.time ∙ sym (lost-leave arrivals.time fates)) in
     e ∙ (stays-sorted (lost_of arrivals admitted) (lost-stream arrivals admitted s) ∙ (λ k. sorted (record { job = jobs k; time = times k })))
-
--- there is one answer an arrival
-pub answers-each : (servers : ℕ) (times demands : List ℕ) (admitted : List Bool) → length demands ≡ length times → admitted ≡ admission servers times demands → length times ≡ length admitted
-answers-each servers times demands admitted d a = sym (ap length a ∙ (length-map (trunk_fates servers [] times demands) admits ∙ fates-each servers [] times demands d))

@@ -11,7 +11,8 @@ use Rattle.mq_core.specs.Streams.{by_first, pairs_of}
 use Rattle.mq_core.specs.declared.model.Fate.{Fate}
 use Rattle.mq_core.specs.declared.model.Fate.TheVariants.{Departs, Lost}
 use Rattle.mq_core.specs.declared.model.Stream.{Stream}
-use Rattle.mq_trunk.specs.Rounds.{admission, departures_in}
+use Rattle.mq_rounds.specs.Rounds.{departures_in}
+use Rattle.mq_trunk.specs.Rounds.{admission}
 use Rattle.mq_trunk.specs.declared.answer.Trunk.{Trunk}
 
 -- of these items, one an arrival, those of the arrivals that are admitted

@@ -1,5 +1,5 @@
 -- The departures that a guess gives: in parts, in number, and how a round judges by them.
-use Rattle.std.proofs.Common.{◌≡◌, ℕ, zero, suc, ◌≤◌, Bool, true, false, List, [], ◌∷◌, ◌++◌, length, drop, take, refl, Some, sym, ap, ◌∙◌, arith, append_assoc}
+use Rattle.std.proofs.Common.{◌≡◌, ℕ, zero, suc, ◌+◌, ◌≤◌, Bool, true, false, List, [], ◌∷◌, ◌++◌, length, drop, take, refl, Some, sym, ap, ◌∙◌, arith, append_assoc}
 use Rattle.std.specs.Prelude.{reverse, slice_get}
 use Rattle.std.proofs.lemmas.List.{append-nil, reverse-append}
 use Rattle.mq_base.proofs.lemmas.Lists.{drop_at}
@@ -97,22 +97,29 @@ judged-each rule = λ position arrive times demands guess d g h.
     ∙ ap (λ (ls : List ℕ). Some (rule.judges ls arrive)) (append-nil (left_of rule.departs times demands (take position guess)))
 
 -- what departs behind these, with one arrival more
-pub left-next : (departs : List ℕ → ℕ → ℕ → ℕ) (ds ds' : List ℕ) (left times demands : List ℕ) (admit : Bool) (arrive demand : ℕ) → left ≡ reverse ds →
-    ds' ≡ ds ++ departures_from departs left (arrive ∷ times) (demand ∷ demands) (admit ∷ []) → reverse ds' ≡ left_behind departs admit left arrive demand
-left-next departs ds ds' left times demands true arrive demand l h =
-    ap reverse h
-    ∙ (ap (λ (more : List ℕ). reverse (ds ++ departs left arrive demand ∷ more)) (departures-none departs (departs left arrive demand ∷ left) times demands)
-    ∙ (reverse-append ds (departs left arrive demand ∷ []) ∙ ap (λ (ls : List ℕ). departs left arrive demand ∷ ls) (sym l)))
-left-next departs ds ds' left times demands false arrive demand l h =
-    ap reverse h ∙ (ap (λ (more : List ℕ). reverse (ds ++ more)) (departures-none departs left times demands) ∙ (ap reverse (append-nil ds) ∙ sym l))
+pub left-next : (departs : List ℕ → ℕ → ℕ → ℕ) (ds ds' : List ℕ) (admit : Bool) (arrive demand : ℕ) →
+    ds' ≡ ds ++ departures_from departs (reverse ds) (arrive ∷ []) (demand ∷ []) (admit ∷ []) → reverse ds' ≡ left_behind departs admit (reverse ds) arrive demand
+left-next departs ds ds' true arrive demand h = ap reverse h ∙ reverse-append ds (departs (reverse ds) arrive demand ∷ [])
+left-next departs ds ds' false arrive demand h = ap reverse (h ∙ append-nil ds)
+
+one-departs : (departs : List ℕ → ℕ → ℕ → ℕ) (left times demands : List ℕ) (admit : Bool) (arrive demand : ℕ) →
+    departures_from departs left (arrive ∷ times) (demand ∷ demands) (admit ∷ []) ≡ departures_from departs left (arrive ∷ []) (demand ∷ []) (admit ∷ [])
+one-departs departs left times demands true arrive demand = ap (λ ds. departs left arrive demand ∷ ds) (departures-none departs (departs left arrive demand ∷ left) times demands)
+one-departs departs left times demands false arrive demand = departures-none departs left times demands
 
 -- and behind those of a guess
+pub departures-push : (departs : List ℕ → ℕ → ℕ → ℕ) (times demands : List ℕ) (guess guess' : List Bool) (admit : Bool) (arrive demand : ℕ) → length demands ≡ length times →
+    guess' ≡ guess ++ admit ∷ [] → slice_get times (length guess) ≡ Some arrive → slice_get demands (length guess) ≡ Some demand →
+    departures_of departs times demands guess' ≡ departures_of departs times demands guess ++ departures_from departs (left_of departs times demands guess) (arrive ∷ []) (demand ∷ []) (admit ∷ [])
+departures-push departs times demands guess guess' admit arrive demand e g t d =
+    let at : ℕ = length guess in
+    let left : List ℕ = left_of departs times demands guess in
+    ap (departures_of departs times demands) g
+    ∙ (departures-behind departs times demands guess (admit ∷ []) e
+    ∙ (ap (λ (q : List ℕ × List ℕ). departures_of departs times demands guess ++ departures_from departs left q.0 q.1 (admit ∷ [])) (λ k. (drop_at times at arrive t k, drop_at demands at demand d k))
+    ∙ ap (λ ds. departures_of departs times demands guess ++ ds) (one-departs departs left (drop (at + 1) times) (drop (at + 1) demands) admit arrive demand)))
+
 pub left-push : (departs : List ℕ → ℕ → ℕ → ℕ) (times demands : List ℕ) (guess guess' : List Bool) (admit : Bool) (arrive demand : ℕ) → length demands ≡ length times →
     guess' ≡ guess ++ admit ∷ [] → slice_get times (length guess) ≡ Some arrive → slice_get demands (length guess) ≡ Some demand →
     left_of departs times demands guess' ≡ left_behind departs admit (left_of departs times demands guess) arrive demand
-left-push departs times demands guess guess' admit arrive demand e g t d =
-    left-next departs (departures_of departs times demands guess) (departures_of departs times demands guess') (left_of departs times demands guess) _ _ admit arrive demand refl
-    (ap (departures_of departs times demands) g
-    ∙ (departures-behind departs times demands guess (admit ∷ []) e
-    ∙ ap (λ (q : List ℕ × List ℕ). departures_of departs times demands guess ++ departures_from departs (left_of departs times demands guess) q.0 q.1 (admit ∷ []))
-    (λ k. (drop_at times (length guess) arrive t k, drop_at demands (length guess) demand d k))))
+left-push departs times demands guess guess' admit arrive demand e g t d = left-next departs _ _ admit arrive demand (departures-push departs times demands guess guess' admit arrive demand e g t d)

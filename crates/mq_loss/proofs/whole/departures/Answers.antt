@@ -1,4 +1,4 @@
-use Rattle.std.proofs.Common.{◌≡◌, ◌+◌, ◌≤◌, ℕ, Bool, List, [], length, refl, sym, subst, arith}
+use Rattle.std.proofs.Common.{◌≡◌, ◌+◌, ◌≤◌, ℕ, Bool, List, length, sym, subst, arith}
 use Rattle.std.specs.Prelude.{reverse}
 use Rattle.mq_base.proofs.lemmas.Lists.{drop_at}
 use Rattle.mq_loss.specs.Rounds.{departure_behind}
@@ -17,7 +17,7 @@ loop-at-preserved c =
     let admit : Bool = c.get-admit.result.now in
     let left : List ℕ = reverse c.loop-at.departs in
     let behind : reverse c.follow.new.departs ≡ left_behind departure_behind admit left arrive demand =
-    left-next departure_behind c.loop-at.departs c.follow.new.departs left [] [] admit arrive demand refl c.in_ok-follow.ensures in
+    left-next departure_behind c.loop-at.departs c.follow.new.departs admit arrive demand c.in_ok-follow.ensures in
     let item = item-at c.args.stream.now.time c.args.demands.now at arrive demand c.requires.load c.get-arrive.ensures c.get-demand.ensures in
     record {
       so_far = departures-next c.loop-at.departs c.follow.new.departs _ _ _ left (reverse c.follow.new.departs) c.args.stream.now.time c.args.demands.now at arrive demand admit c.get-arrive.ensures c.get-demand.ensures (drop_at c.args.admitted.now at admit c.get-admit.ensures) c.in_ok-follow.ensures behind c.loop-at.invariant.so_far;

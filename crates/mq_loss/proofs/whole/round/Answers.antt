@@ -1,4 +1,4 @@
-use Rattle.std.proofs.Common.{◌≡◌, ◌++◌, ◌+◌, ◌≤◌, ℕ, Bool, List, [], ◌∷◌, length, refl, sym, ap, ◌∙◌, subst, arith}
+use Rattle.std.proofs.Common.{◌≡◌, ◌++◌, ◌+◌, ◌≤◌, ℕ, Bool, List, [], ◌∷◌, length, sym, ap, ◌∙◌, subst, arith}
 use Rattle.std.specs.Prelude.{reverse}
 use Rattle.mq_base.proofs.lemmas.Lists.{drop_at}
 use Rattle.mq_core.specs.Recurrences.{is_admitted}
@@ -18,7 +18,7 @@ loop-at-preserved c =
     let admit : Bool = c.get-admit.result.now in
     let left : List ℕ = reverse c.loop-at.departs in
     let behind : reverse c.follow.new.departs ≡ left_behind departure_behind admit left arrive demand =
-    left-next departure_behind c.loop-at.departs c.follow.new.departs left [] [] admit arrive demand refl c.in_ok-follow.ensures in
+    left-next departure_behind c.loop-at.departs c.follow.new.departs admit arrive demand c.in_ok-follow.ensures in
     let item = item-at c.args.stream.now.time c.args.demands.now at arrive demand c.requires.load c.get-arrive.ensures c.get-demand.ensures in
     let place : c.finds_place.result ≡ is_admitted c.args.places left arrive = c.finds_place.ensures ∙ ap (λ (ds : List ℕ). is_admitted c.args.places (reverse ds) arrive) c.as_slice.ensures in
     let pushed : c.push.new.self ≡ c.loop-at.answer ++ is_admitted c.args.places left arrive ∷ [] = c.in_ok-push.ensures.ok ∙ ap (λ b. c.loop-at.answer ++ b ∷ []) place in

@@ -1,4 +1,4 @@
-use Rattle.std.proofs.Common.{◌≡◌, ◌+◌, ◌-◌, ◌++◌, suc, ℕ, true, List, [], ◌∷◌, refl, ap, ◌∙◌, arith, subst, sym}
+use Rattle.std.proofs.Common.{◌≡◌, ◌+◌, ◌-◌, ◌++◌, suc, ℕ, true, List, [], ◌∷◌, ap, ◌∙◌, arith, subst, sym}
 use Rattle.mq_core.specs.Recurrences.{is_admitted, time_or_none}
 use Rattle.std.specs.Prelude.{reverse, slice_get}
 use Rattle.mq_loss.specs.Rounds.{departure_behind, loss_rule}
@@ -23,7 +23,7 @@ loop-at-preserved g c =
     let gone : c.push_reserved-in-loop-at.new.self.items ≡ c.loop-at.departs.items ++ departure_behind left arrive demand ∷ [] =
     c.push_reserved-in-loop-at.ensures.items ∙ ap (λ d. c.loop-at.departs.items ++ d ∷ []) later in
     let first : reverse c.push_reserved-in-loop-at.new.self.items ≡ departure_behind left arrive demand ∷ left =
-    left-next departure_behind c.loop-at.departs.items _ left [] [] true arrive demand refl gone in
+    left-next departure_behind c.loop-at.departs.items _ true arrive demand gone in
     let item : IsItem arrive demand = item-at c.args.stream.now.time c.args.demands.now at arrive demand c.requires.load c.get-arrive.ensures c.get.ensures in
     let early : IsEarly (departure_behind left arrive demand ∷ left) (at + 1) = record { limit = early-next left at arrive demand item.early item.small c.loop-at.invariant.early } in
     let answer : c.judge_behind.result ≡ is_admitted c.args.places left arrive =
