@@ -23,6 +23,13 @@ departures_in (Departs time ∷ fates) = time ∷ departures_in fates
 departures_in (Lost ∷ fates) = departures_in fates
 departures_in (Held ∷ fates) = departures_in fates
 
+-- the fate of each arrival, by whether it is admitted and the departures of those that are, by position
+abbrev pub fates_by : List Bool → List ℕ → List Fate
+fates_by [] departs = []
+fates_by (false ∷ admitted) departs = Lost ∷ fates_by admitted departs
+fates_by (true ∷ admitted) [] = Lost ∷ fates_by admitted []
+fates_by (true ∷ admitted) (time ∷ departs) = Departs time ∷ fates_by admitted departs
+
 -- how the arrivals fare by a rule, where those admitted before them left at these times, the latest admitted first
 abbrev pub fates_from : Rule → List ℕ → List ℕ → List ℕ → List Fate
 fates_from rule left [] demands = []

@@ -1,5 +1,5 @@
 -- What becomes of the arrivals at a trunk group.
-use Rattle.std.proofs.Common.{◌≡◌, ℕ, zero, suc, ◌<◌, List, [], ◌∷◌, length, map, Some, sym, ap, ◌∙◌, arith}
+use Rattle.std.proofs.Common.{◌≡◌, ℕ, zero, suc, ◌<◌, List, [], ◌∷◌, length, map, Some, ap, ◌∙◌, arith}
 use Rattle.std.specs.Prelude.{slice_get}
 use Rattle.mq_core.specs.Came.{came_in}
 use Rattle.mq_core.specs.Handling.{demand_of_job}
@@ -10,7 +10,8 @@ use Rattle.mq_core.specs.declared.model.Fate.{Fate}
 use Rattle.mq_core.specs.declared.model.Kind.TheVariants.{Trunk}
 use Rattle.mq_core.specs.declared.model.Rows.{Rows}
 use Rattle.mq_core.specs.declared.model.Stream.{Stream}
-use Rattle.mq_trunk.specs.Parts.{IsSettled, fates_by, trunk_stream}
+use Rattle.mq_rounds.specs.Rounds.{fates_by}
+use Rattle.mq_trunk.specs.Parts.{IsSettled, trunk_stream}
 use Rattle.mq_trunk.specs.declared.answer.Trunk.{Trunk as Settled}
 use Rattle.mq_stations.specs.Leaving.{IsLeaving}
 

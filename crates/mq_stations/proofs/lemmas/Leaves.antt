@@ -1,5 +1,5 @@
 -- What leaves a station, by its kind.
-use Rattle.std.proofs.Common.{◌≡◌, ℕ, zero, suc, ◌+◌, ◌^◌, ◌<◌, ◌≤◌, ◌⊎◌, inl, inr, All, false, true, List, [], ◌∷◌, length, map, max, Some, sym, refl, ap, ◌∙◌, subst, arith}
+use Rattle.std.proofs.Common.{◌≡◌, ℕ, zero, suc, ◌^◌, ◌<◌, ◌≤◌, ◌⊎◌, inl, inr, All, false, true, List, [], ◌∷◌, length, map, Some, sym, refl, ap, ◌∙◌, subst, arith}
 use Rattle.std.specs.Prelude.{nat_le, nat_lt, slice_get}
 use Rattle.std.specs.List.{AllByRecursion as Each, list_all}
 use Rattle.std.proofs.lemmas.Bool.{and_parts}
@@ -13,10 +13,8 @@ use Rattle.mq_core.specs.Sequences.{IsSoundLoad, IsStream, sequence_fates, seque
 use Rattle.mq_core.specs.OnceOut.{leaving_times}
 use Rattle.mq_core.specs.Streams.{picked}
 use Rattle.mq_core.specs.Kinds.Split.{routes_from, is_sound_route, output_by, route_value}
-use Rattle.mq_core.specs.Kinds.ForkJoin.{branch_demands}
-use Rattle.mq_core.specs.Kinds.Tandem.{tandem_times}
 use Rattle.mq_core.specs.Laws.{Rises}
-use Rattle.mq_core.specs.Recurrences.{delayed, forkjoin_departs, lindley}
+use Rattle.mq_core.specs.Recurrences.{delayed, lindley}
 use Rattle.mq_core.specs.Ranges.{is_within, rises}
 use Rattle.mq_core.specs.Sound.{outputs_in}
 use Rattle.mq_core.specs.Handling.{demand_of_job}
@@ -29,7 +27,6 @@ use Rattle.mq_core.specs.declared.model.Kind.TheVariants.{Delay, Fork, ForkJoin,
 use Rattle.mq_core.specs.declared.model.Route.{Route}
 use Rattle.mq_core.specs.declared.model.Route.TheVariants.{Cut, Modulo, Turn}
 use Rattle.mq_core.specs.declared.model.Rows.{Rows}
-use Rattle.mq_core.specs.declared.model.Stage.{Stage}
 use Rattle.mq_core.specs.declared.model.Stream.{Stream}
 use Rattle.mq_split.specs.Outs.{AreParts, HasOutputs, outs_from}
 use Rattle.mq_stations.specs.Leaving.{AreDepartures, AreServed, AreAsked, AreLeft, IsLeaving, IsLoad, left_by}

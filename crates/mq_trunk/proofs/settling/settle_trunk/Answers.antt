@@ -4,14 +4,15 @@ use Rattle.mq_core.specs.Sequences.{IsStream}
 use Rattle.mq_core.specs.declared.model.Fate.{Fate}
 use Rattle.mq_core.specs.declared.model.Stream.{Stream}
 use Rattle.mq_trunk.specs.Kept.{IsKept}
-use Rattle.mq_trunk.specs.Parts.{fates_by, of_admitted}
-use Rattle.mq_rounds.specs.Rounds.{departures_in, departures_of}
+use Rattle.mq_trunk.specs.Parts.{of_admitted}
+use Rattle.mq_rounds.specs.Rounds.{departures_in, departures_of, fates_by}
+use Rattle.mq_rounds.proofs.lemmas.Fates.{fates-back}
 use Rattle.mq_rounds.proofs.lemmas.Guesses.{admission-length}
 use Rattle.mq_trunk.specs.Rounds.{admission, departure_at_once, trunk_rule}
-use Rattle.mq_trunk.proofs.Fates.{admission-is, departures-are}
+use Rattle.mq_trunk.proofs.Fates.{admission-is, departures-are, trunk-over}
 use Rattle.mq_trunk.proofs.Keeping.{kept-none}
 use Rattle.mq_trunk.proofs.Parting.{departures-each}
-use Rattle.mq_trunk.proofs.Streaming.{fates-back, leaves-first, leaves-second, lost-stream, over-all}
+use Rattle.mq_trunk.proofs.Streaming.{leaves-first, leaves-second, lost-stream}
 use Rattle.mq_trunk.proofs.settling.settle_trunk.Goals as goal
 
 pub settle_windows-requires-clause-behind : goal.settle_windows-requires-clause-behind
@@ -48,7 +49,7 @@ returns-clause-settled g c =
     record {
       admitted = admitted;
       departs = departs;
-      fates = (λ k. fates_by (admitted k) (departs k)) ∙ fates-back fates (over-all servers [] arrivals.time demands);
+      fates = (λ k. fates_by (admitted k) (departs k)) ∙ fates-back fates (trunk-over servers arrivals.time demands);
       leaving = leaves-first servers arrivals c.in_ok-trunk.trunk.leaving demands c.in_ok-settled.settled.admitted c.in_ok-settled.settled.departs c.requires.load.each parts.ordered found left parts.leaving;
       lost = leaves-second servers arrivals c.in_ok-trunk.trunk.lost demands c.in_ok-settled.settled.admitted c.requires.stream found parts.lost;
       leaves = parts.ordered;
