@@ -1,9 +1,7 @@
 pub mod Departing
-pub mod Guesses
+pub mod Fates
 pub mod Looping
 pub mod Reading
 pub mod Repeating
 pub mod Rows
-pub mod Running
-pub mod Standing
 pub mod Windowed

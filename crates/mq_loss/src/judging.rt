@@ -1,6 +1,7 @@
 ghost use Rattle.std.specs.Prelude.{◌≡◌, ◌+◌, ◌^◌, ◌≤◌, ◌++◌, ◌∷◌, [], reverse, slice_get, OnOk};
 ghost use Rattle.mq_core.specs.Recurrences.{is_admitted, time_or_none};
-ghost use Rattle.mq_loss.specs.Rounds.{departure_behind, departures_from};
+ghost use Rattle.mq_loss.specs.Rounds.{departure_behind};
+ghost use Rattle.mq_rounds.specs.Rounds.{departures_from};
 
 use mq_base::{List, OutOfMemory, Steps};
 use std::sync::ledger::Ledger;
@@ -72,7 +73,7 @@ pub fn follow(
     requires last { time_or_none (slice_get (reverse departs.old) 0) ≤ 2 ^ 61 }
     requires arrive { arrive ≤ 2 ^ 60 }
     requires demand { demand ≤ 2 ^ 36 }
-    ensures { OnOk result (departs.new ≡ departs.old ++ departures_from (reverse departs.old) (arrive ∷ []) (demand ∷ []) (admit ∷ [])) }
+    ensures { OnOk result (departs.new ≡ departs.old ++ departures_from departure_behind (reverse departs.old) (arrive ∷ []) (demand ∷ []) (admit ∷ [])) }
 {
     if admit {
         serve(departs, arrive, demand)?;

@@ -1,14 +1,17 @@
-ghost use Rattle.mq_loss.specs.Laws.{GuessedAreServed, GuessesGrow, OneGuessStays, RoundsJudgeEach};
+ghost use Rattle.std.specs.Prelude.{ℕ};
+ghost use Rattle.mq_loss.specs.Laws.{GuessedAreServed};
+ghost use Rattle.mq_loss.specs.Rounds.{admission, loss_rule};
+ghost use Rattle.mq_rounds.specs.Laws.{GuessesGrow, OneGuessStays, RoundsJudgeEach};
 
 /// A guess that is right on some first arrivals gives, by one round, one that is right on one
 /// arrival more.
 pub fn guesses_grow()
-    ensures { GuessesGrow }
+    ensures { (places : ℕ) → GuessesGrow (loss_rule places) (admission places) }
 {}
 
 /// Exactly one guess is left as it is by a round: the admission of the station.
 pub fn one_guess_stays()
-    ensures { OneGuessStays }
+    ensures { (places : ℕ) → OneGuessStays (loss_rule places) (admission places) }
 {}
 
 /// Those that a guess admits depart by the server's recurrence.
@@ -18,5 +21,5 @@ pub fn guessed_are_served()
 
 /// A round judges each arrival by the departures of those before it that the guess admits.
 pub fn rounds_judge_each()
-    ensures { RoundsJudgeEach }
+    ensures { (places : ℕ) → RoundsJudgeEach (loss_rule places) }
 {}

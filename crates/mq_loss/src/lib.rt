@@ -3,14 +3,13 @@
 //! Mitrani 1991): each round judges every arrival by the departures that a guess gives.
 #![tactic(auto)]
 
-mod answer;
 mod judging;
 mod laws;
 mod whole;
 mod windows;
 
-pub use answer::Settled;
 pub use judging::judge;
 pub use laws::{guessed_are_served, guesses_grow, one_guess_stays, rounds_judge_each};
+pub use mq_rounds::Settled;
 pub use whole::{round, settle_whole};
 pub use windows::settle;

@@ -1,11 +1,12 @@
 ghost use Rattle.std.specs.Prelude.{◌≡◌, ◌+◌, ◌≤◌, length, reverse, IfOk, IsTrue, ◌↔◌};
 ghost use Rattle.mq_core.specs.Sequences.{IsSoundLoad};
-ghost use Rattle.mq_loss.specs.Rounds.{IsSettled, IsWholeRun, all_admitted, departures_of, round_of};
+ghost use Rattle.mq_loss.specs.Rounds.{IsSettled, IsWholeRun, departure_behind, loss_rule};
+ghost use Rattle.mq_rounds.specs.Rounds.{all_admitted, departures_of, round_of};
 
-use crate::answer::Settled;
 use crate::judging::{finds_place, follow};
 use mq_base::{List, OutOfMemory};
 use mq_core::Stream;
+use mq_rounds::Settled;
 use std::alloc::Global;
 
 // As many arrivals, all guessed admitted.
@@ -34,7 +35,7 @@ pub fn round(
     requires load { IsSoundLoad stream.now.time demands.now }
     requires places { 1 ≤ places }
     requires guess { length guess.now ≡ length stream.now.time }
-    ensures { IfOk result (λ answer. answer ≡ round_of places stream.now.time demands.now guess.now) }
+    ensures { IfOk result (λ answer. answer ≡ round_of (loss_rule places) stream.now.time demands.now guess.now) }
 {
     let mut answer = List::new(alloc);
     let mut departs = List::new(alloc);
@@ -57,7 +58,7 @@ fn departures(
 ) -> Result<List<u64>, OutOfMemory>
     requires load { IsSoundLoad stream.now.time demands.now }
     requires admitted { length admitted.now ≡ length stream.now.time }
-    ensures { IfOk result (λ departs. departs ≡ departures_of stream.now.time demands.now admitted.now) }
+    ensures { IfOk result (λ departs. departs ≡ departures_of departure_behind stream.now.time demands.now admitted.now) }
 {
     let mut departs = List::new(alloc);
     for at in 0..stream.time.len() {

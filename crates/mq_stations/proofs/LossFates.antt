@@ -1,6 +1,6 @@
 -- What becomes of the arrivals at a loss station.
 use Rattle.std.proofs.Common.{◌≡◌, ℕ, zero, suc, ◌+◌, ◌<◌, ◌≤◌, Bool, true, false, not, List, [], ◌∷◌, ◌++◌, length, get_or, drop, map, Some, sym, refl, ap, ◌∙◌, arith, append_assoc, drop-cons, length-append}
-use Rattle.std.specs.Prelude.{⊤, IsTrue, if◌then◌else◌, max, nat_le, slice_get}
+use Rattle.std.specs.Prelude.{IsTrue, if◌then◌else◌, max, nat_le, slice_get}
 use Rattle.std.specs.List.{AllByRecursion as Each}
 use Rattle.std.proofs.lemmas.Bool.{and_parts}
 use Rattle.std.proofs.lemmas.Bool.Decides.{nat_tests}
@@ -21,9 +21,10 @@ use Rattle.mq_core.specs.declared.model.Fate.TheVariants.{Departs, Held, Lost}
 use Rattle.mq_core.specs.declared.model.Kind.TheVariants.{Loss}
 use Rattle.mq_core.specs.declared.model.Rows.{Rows}
 use Rattle.mq_core.specs.declared.model.Stream.{Stream}
-use Rattle.mq_loss.specs.Rounds.{IsSettled, admits, departures_in}
-use Rattle.mq_loss.specs.declared.answer.Settled.{Settled}
-use Rattle.mq_trunk.specs.Parts.{fates_by}
+use Rattle.mq_loss.specs.Rounds.{IsSettled}
+use Rattle.mq_rounds.specs.Rounds.{admits, departures_in, fates_by}
+use Rattle.mq_rounds.proofs.lemmas.Fates.{IsOver, admitted-leave, fates-back, lost-leave}
+use Rattle.mq_rounds.specs.declared.settled.Settled.{Settled}
 use Rattle.mq_stations.specs.Losses.{AreAdmittedAndLost, out_of_admission}
 use Rattle.mq_stations.specs.Leaving.{IsLeaving, left_by}
 
@@ -116,12 +117,7 @@ both (admit ∷ admitted) [] e = absurd (omega arith)
 both (true ∷ admitted) (item ∷ items) e = let h = both admitted items (omega arith) in omega arith
 both (false ∷ admitted) (item ∷ items) e = let h = both admitted items (omega arith) in omega arith
 
--- At a loss station no visit is held.
-abbrev IsOver : Fate → Type 0
-IsOver (Departs time) = ⊤
-IsOver Lost = ⊤
-IsOver Held = ⊥
-
+-- at a loss station no visit is held
 over-all : (places : ℕ) (left arrives demands : List ℕ) → Each IsOver (loss_fates places left arrives demands)
 over-all places left [] demands = tt
 over-all places left (a ∷ arrives) [] = tt
@@ -135,13 +131,6 @@ over-all places left (a ∷ arrives) (d ∷ demands) = go (is_admitted places le
     go true h k = (tt, h)
     go false h k = (tt, k)
 
--- fates are told by who is admitted and when those depart
-fates-back : (fates : List Fate) → Each IsOver fates → fates_by (map admits fates) (departures_in fates) ≡ fates
-fates-back [] o = refl
-fates-back (Departs time ∷ fates) o = ap (λ l. Departs time ∷ l) (fates-back fates o.1)
-fates-back (Lost ∷ fates) o = ap (λ l. Lost ∷ l) (fates-back fates o.1)
-fates-back (Held ∷ fates) o = absurd o.0
-
 pub settled-fates : (rows : Rows) (places : ℕ) (demand : Demand) (arrivals : Stream) (demands : List ℕ) (settled : Settled) (fates : List Fate) → demands ≡ map (demand_of_job rows demand) arrivals.job → IsSettled places arrivals.time demands settled → fates ≡ fates_by settled.admitted settled.departs →
     fates ≡ sequence_fates rows (Loss places demand) (came_in arrivals)
 settled-fates rows places demand arrivals demands settled fates m s f =
@@ -154,22 +143,7 @@ outs-back (Departs time ∷ fates) = ap (λ l. 0 ∷ l) (outs-back fates)
 outs-back (Lost ∷ fates) = ap (λ l. 1 ∷ l) (outs-back fates)
 outs-back (Held ∷ fates) = ap (λ l. 0 ∷ l) (outs-back fates)
 
--- those that are admitted leave as they depart, and the others as they came
-admitted-leave : (arrive : List ℕ) (fates : List Fate) → length fates ≡ length arrive → Each IsOver fates → picked 0 (map out_of_fate fates) (leaving_times arrive fates) ≡ departures_in fates
-admitted-leave [] [] e o = refl
-admitted-leave [] (fate ∷ fates) e o = absurd (omega arith)
-admitted-leave (time ∷ arrive) [] e o = refl
-admitted-leave (time ∷ arrive) (Departs departs ∷ fates) e o = ap (λ l. departs ∷ l) (admitted-leave arrive fates (omega arith) o.1)
-admitted-leave (time ∷ arrive) (Lost ∷ fates) e o = admitted-leave arrive fates (omega arith) o.1
-admitted-leave (time ∷ arrive) (Held ∷ fates) e o = absurd o.0
-
-lost-leave : (arrive : List ℕ) (fates : List Fate) → picked 1 (map out_of_fate fates) (leaving_times arrive fates) ≡ picked 1 (map out_of_fate fates) arrive
-lost-leave arrive [] = refl
-lost-leave [] (fate ∷ fates) = refl
-lost-leave (time ∷ arrive) (Departs departs ∷ fates) = lost-leave arrive fates
-lost-leave (time ∷ arrive) (Lost ∷ fates) = ap (λ l. time ∷ l) (lost-leave arrive fates)
-lost-leave (time ∷ arrive) (Held ∷ fates) = lost-leave arrive fates
-
+-- as many depart as leave by output 0
 admitted-many : (job : List ℕ) (fates : List Fate) → length fates ≡ length job → Each IsOver fates → length (departures_in fates) ≡ length (picked 0 (map out_of_admission (map admits fates)) job)
 admitted-many job [] e o = refl
 admitted-many [] (fate ∷ fates) e o = absurd (omega arith)

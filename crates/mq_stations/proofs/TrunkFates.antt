@@ -10,7 +10,8 @@ use Rattle.mq_core.specs.declared.model.Fate.{Fate}
 use Rattle.mq_core.specs.declared.model.Kind.TheVariants.{Trunk}
 use Rattle.mq_core.specs.declared.model.Rows.{Rows}
 use Rattle.mq_core.specs.declared.model.Stream.{Stream}
-use Rattle.mq_trunk.specs.Parts.{IsSettled, fates_by, trunk_stream}
+use Rattle.mq_rounds.specs.Rounds.{fates_by}
+use Rattle.mq_trunk.specs.Parts.{IsSettled, trunk_stream}
 use Rattle.mq_trunk.specs.declared.answer.Trunk.{Trunk as Settled}
 use Rattle.mq_stations.specs.Leaving.{IsLeaving}
 

@@ -3,7 +3,7 @@ ghost use Rattle.std.specs.Prelude.{◌≡◌, ◌∷◌, [], All, length, map, 
 ghost use Rattle.mq_core.specs.Handling.{demand_of_job};
 ghost use Rattle.mq_core.specs.declared.model.Fate.TheVariants.{Departs};
 ghost use Rattle.mq_stations.specs.Leaving.{AreAsked};
-ghost use Rattle.mq_trunk.specs.Parts.{fates_by};
+ghost use Rattle.mq_rounds.specs.Rounds.{fates_by};
 
 use mq_base::{List, OutOfMemory};
 use mq_core::{Demand, Fate, Rows, Stream, demand_of};

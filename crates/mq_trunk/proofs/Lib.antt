@@ -1,9 +1,6 @@
-pub mod Guesses
+pub mod Fates
 pub mod Keeping
 pub mod Known
 pub mod Looping
 pub mod Parting
-pub mod Reading
-pub mod Running
 pub mod Streaming
-pub mod Windowed

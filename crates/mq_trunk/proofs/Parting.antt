@@ -4,7 +4,8 @@ use Rattle.std.specs.Prelude.{slice_get}
 use Rattle.std.proofs.lemmas.List.{append-nil, drop_all}
 use Rattle.mq_base.proofs.lemmas.Lists.{drop_at}
 use Rattle.mq_trunk.specs.Parts.{of_admitted, of_lost}
-use Rattle.mq_trunk.specs.Rounds.{departures_of}
+use Rattle.mq_rounds.specs.Rounds.{departures_from}
+use Rattle.mq_trunk.specs.Rounds.{departure_at_once}
 
 -- what is left begins with the item there
 at-drop : (items : List ℕ) (at : ℕ) → at < length items → drop at items ≡ get_or items at 0 ∷ drop (at + 1) items
@@ -42,13 +43,13 @@ pub lost-end : (done all : List ℕ) (admitted : List Bool) (items : List ℕ) (
 lost-end done all admitted items at l h = sym (append-nil done) ∙ (ap (λ (xs : List Bool). done ++ of_lost xs (drop at items)) (sym (drop_all at admitted l)) ∙ h)
 
 -- each job that is admitted has its departure
-pub departures-each : (times demands : List ℕ) (admitted : List Bool) (jobs : List ℕ) → length demands ≡ length times → length jobs ≡ length times →
-    length (departures_of times demands admitted) ≡ length (of_admitted admitted jobs)
-departures-each [] demands [] jobs d j = refl
-departures-each [] demands (admit ∷ admitted) [] d j = refl
-departures-each [] demands (admit ∷ admitted) (job ∷ jobs) d j = absurd (omega arith)
-departures-each (arrive ∷ times) [] admitted jobs d j = absurd (omega arith)
-departures-each (arrive ∷ times) (demand ∷ demands) [] jobs d j = refl
-departures-each (arrive ∷ times) (demand ∷ demands) (admit ∷ admitted) [] d j = absurd (omega arith)
-departures-each (arrive ∷ times) (demand ∷ demands) (true ∷ admitted) (job ∷ jobs) d j = ap suc (departures-each times demands admitted jobs (omega arith) (omega arith))
-departures-each (arrive ∷ times) (demand ∷ demands) (false ∷ admitted) (job ∷ jobs) d j = departures-each times demands admitted jobs (omega arith) (omega arith)
+pub departures-each : (left times demands : List ℕ) (admitted : List Bool) (jobs : List ℕ) → length demands ≡ length times → length jobs ≡ length times →
+    length (departures_from departure_at_once left times demands admitted) ≡ length (of_admitted admitted jobs)
+departures-each left [] demands [] jobs d j = refl
+departures-each left [] demands (admit ∷ admitted) [] d j = refl
+departures-each left [] demands (admit ∷ admitted) (job ∷ jobs) d j = absurd (omega arith)
+departures-each left (arrive ∷ times) [] admitted jobs d j = absurd (omega arith)
+departures-each left (arrive ∷ times) (demand ∷ demands) [] jobs d j = refl
+departures-each left (arrive ∷ times) (demand ∷ demands) (admit ∷ admitted) [] d j = absurd (omega arith)
+departures-each left (arrive ∷ times) (demand ∷ demands) (true ∷ admitted) (job ∷ jobs) d j = ap suc (departures-each ((arrive + demand) ∷ left) times demands admitted jobs (omega arith) (omega arith))
+departures-each left (arrive ∷ times) (demand ∷ demands) (false ∷ admitted) (job ∷ jobs) d j = departures-each left times demands admitted jobs (omega arith) (omega arith)

@@ -13,42 +13,10 @@ use Rattle.mq_core.specs.Streams.{by_first, pairs_of, picked, sorted}
 use Rattle.mq_core.specs.declared.model.Fate.{Fate}
 use Rattle.mq_core.specs.declared.model.Fate.TheVariants.{Departs, Held, Lost}
 use Rattle.mq_core.specs.declared.model.Stream.{Stream}
-use Rattle.mq_trunk.specs.Parts.{fates_by, lost_of, of_admitted, of_lost, trunk_stream}
-use Rattle.mq_trunk.specs.Rounds.{admission, admits, departures_in}
-
--- At a trunk group no visit is held.
-abbrev pub IsOver : Fate → Type 0
-IsOver (Departs time) = ⊤
-IsOver Lost = ⊤
-IsOver Held = ⊥
-
-pub over-all : (servers : ℕ) (left times demands : List ℕ) → Each IsOver (trunk_fates servers left times demands)
-over-all servers left [] demands = tt
-over-all servers left (arrive ∷ arrives) [] = tt
-over-all servers left (arrive ∷ arrives) (demand ∷ demands) = go (finds_server servers left arrive) (over-all servers ((arrive + demand) ∷ left) arrives demands) (over-all servers left arrives demands)
-  where
-    go : (b : Bool) → Each IsOver (trunk_fates servers ((arrive + demand) ∷ left) arrives demands) → Each IsOver (trunk_fates servers left arrives demands) →
-        Each IsOver (if b then (Departs (arrive + demand) ∷ trunk_fates servers ((arrive + demand) ∷ left) arrives demands) else (Lost ∷ trunk_fates servers left arrives demands))
-    go true h k = (tt, h)
-    go false h k = (tt, k)
-
--- there is one fate an arrival
-pub fates-each : (servers : ℕ) (left times demands : List ℕ) → length demands ≡ length times → length (trunk_fates servers left times demands) ≡ length times
-fates-each servers left [] demands d = refl
-fates-each servers left (arrive ∷ arrives) [] d = absurd (omega arith)
-fates-each servers left (arrive ∷ arrives) (demand ∷ demands) d = go (finds_server servers left arrive) (fates-each servers ((arrive + demand) ∷ left) arrives demands (omega arith)) (fates-each servers left arrives demands (omega arith))
-  where
-    go : (b : Bool) → length (trunk_fates servers ((arrive + demand) ∷ left) arrives demands) ≡ length arrives → length (trunk_fates servers left arrives demands) ≡ length arrives →
-        length (if b then (Departs (arrive + demand) ∷ trunk_fates servers ((arrive + demand) ∷ left) arrives demands) else (Lost ∷ trunk_fates servers left arrives demands)) ≡ suc (length arrives)
-    go true h k = ap suc h
-    go false h k = ap suc k
-
--- fates are told by who is admitted and when those depart
-pub fates-back : (fates : List Fate) → Each IsOver fates → fates_by (map admits fates) (departures_in fates) ≡ fates
-fates-back [] o = refl
-fates-back (Departs time ∷ fates) o = ap (λ l. Departs time ∷ l) (fates-back fates o.1)
-fates-back (Lost ∷ fates) o = ap (λ l. Lost ∷ l) (fates-back fates o.1)
-fates-back (Held ∷ fates) o = absurd o.0
+use Rattle.mq_trunk.specs.Parts.{lost_of, of_admitted, of_lost, trunk_stream}
+use Rattle.mq_trunk.proofs.Fates.{trunk-each, trunk-over}
+use Rattle.mq_rounds.specs.Rounds.{admits, departures_in}
+use Rattle.mq_rounds.proofs.lemmas.Fates.{admitted-leave, lost-leave}
 
 -- those that are admitted leave by output 0, and the others by output 1
 admitted-first : (fates : List Fate) (items : List ℕ) → of_admitted (map admits fates) items ≡ picked 0 (map out_of_fate fates) items
@@ -64,22 +32,6 @@ lost-second (fate ∷ fates) [] = refl
 lost-second (Departs time ∷ fates) (item ∷ items) = lost-second fates items
 lost-second (Lost ∷ fates) (item ∷ items) = ap (λ l. item ∷ l) (lost-second fates items)
 lost-second (Held ∷ fates) (item ∷ items) = lost-second fates items
-
--- those that are admitted leave as they depart, and the others as they came
-admitted-leave : (arrive : List ℕ) (fates : List Fate) → length fates ≡ length arrive → Each IsOver fates → picked 0 (map out_of_fate fates) (leaving_times arrive fates) ≡ departures_in fates
-admitted-leave [] [] e o = refl
-admitted-leave [] (fate ∷ fates) e o = absurd (omega arith)
-admitted-leave (time ∷ arrive) [] e o = refl
-admitted-leave (time ∷ arrive) (Departs departs ∷ fates) e o = ap (λ l. departs ∷ l) (admitted-leave arrive fates (omega arith) o.1)
-admitted-leave (time ∷ arrive) (Lost ∷ fates) e o = admitted-leave arrive fates (omega arith) o.1
-admitted-leave (time ∷ arrive) (Held ∷ fates) e o = absurd o.0
-
-lost-leave : (arrive : List ℕ) (fates : List Fate) → picked 1 (map out_of_fate fates) (leaving_times arrive fates) ≡ picked 1 (map out_of_fate fates) arrive
-lost-leave arrive [] = refl
-lost-leave [] (fate ∷ fates) = refl
-lost-leave (time ∷ arrive) (Departs departs ∷ fates) = lost-leave arrive fates
-lost-leave (time ∷ arrive) (Lost ∷ fates) = ap (λ l. time ∷ l) (lost-leave arrive fates)
-lost-leave (time ∷ arrive) (Held ∷ fates) = lost-leave arrive fates
 
 -- those that are lost are in order
 lost-later : (time : ℕ) (admitted : List Bool) (times : List ℕ) → Each (λ other. time ≤ other) times → Each (λ other. time ≤ other) (of_lost admitted times)
@@ -138,7 +90,7 @@ pub leaves-first : (servers : ℕ) (arrivals leaving : Stream) (demands : List �
 leaves-first servers arrivals leaving demands admitted departs d s a t e =
     let fates : List Fate = trunk_fates servers [] arrivals.time demands in
     let jobs : of_admitted admitted arrivals.job ≡ picked 0 (map out_of_fate fates) arrivals.job = ap (λ (bs : List Bool). of_admitted bs arrivals.job) a ∙ admitted-first fates arrivals.job in
-    let times : departs ≡ picked 0 (map out_of_fate fates) (leaving_times arrivals.time fates) = t ∙ sym (admitted-leave arrivals.time fates (fates-each servers [] arrivals.time demands d) (over-all servers [] arrivals.time demands)) in
+    let times : departs ≡ picked 0 (map out_of_fate fates) (leaving_times arrivals.time fates) = t ∙ sym (admitted-leave arrivals.time fates (trunk-each servers arrivals.time demands d) (trunk-over servers arrivals.time demands)) in
     is-sorted (record { job = picked 0 (map out_of_fate fates) arrivals.job; time = picked 0 (map out_of_fate fates) (leaving_times arrivals.time fates) }) leaving s
     (e ∙ (λ k. by_first (zip (times k) (jobs k))))
 
@@ -150,7 +102,3 @@ leaves-second servers arrivals lost demands admitted s a e =
     let jobs : of_lost admitted arrivals.job ≡ picked 1 (map out_of_fate fates) arrivals.job = ap (λ (bs : List Bool). of_lost bs arrivals.job) a ∙ lost-second fates arrivals.job in
     let times : of_lost admitted arrivals.time ≡ picked 1 (map out_of_fate fates) (leaving_times arrivals.time fates) = ap (λ (bs : List Bool). of_lost bs arrivals.time) a ∙ (lost-second fates arrivals.time ∙ sym (lost-leave arrivals.time fates)) in
     e ∙ (stays-sorted (lost_of arrivals admitted) (lost-stream arrivals admitted s) ∙ (λ k. sorted (record { job = jobs k; time = times k })))
-
--- there is one answer an arrival
-pub answers-each : (servers : ℕ) (times demands : List ℕ) (admitted : List Bool) → length demands ≡ length times → admitted ≡ admission servers times demands → length times ≡ length admitted
-answers-each servers times demands admitted d a = sym (ap length a ∙ (length-map (trunk_fates servers [] times demands) admits ∙ fates-each servers [] times demands d))

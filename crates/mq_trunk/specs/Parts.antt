@@ -8,9 +8,9 @@ use Rattle.mq_core.specs.Recurrences.{trunk_fates}
 use Rattle.mq_core.specs.Sequences.{IsStream}
 use Rattle.mq_core.specs.Streams.{by_first, pairs_of}
 use Rattle.mq_core.specs.declared.model.Fate.{Fate}
-use Rattle.mq_core.specs.declared.model.Fate.TheVariants.{Departs, Lost}
 use Rattle.mq_core.specs.declared.model.Stream.{Stream}
-use Rattle.mq_trunk.specs.Rounds.{admission, departures_in}
+use Rattle.mq_rounds.specs.Rounds.{departures_in, fates_by}
+use Rattle.mq_trunk.specs.Rounds.{admission}
 use Rattle.mq_trunk.specs.declared.answer.Trunk.{Trunk}
 
 -- of these items, one an arrival, those of the arrivals that are admitted
@@ -37,13 +37,6 @@ pub record AreParted (arrivals : Stream) (admitted : List Bool) (departs : List 
   pub ordered : IsStream first
   pub leaving : pairs_of first ≡ by_first (zip departs (of_admitted admitted arrivals.job))
   pub lost : second ≡ lost_of arrivals admitted
-
--- the fate of each arrival, by whether it is admitted and the departures of those that are, by position
-abbrev pub fates_by : List Bool → List ℕ → List Fate
-fates_by [] departs = []
-fates_by (false ∷ admitted) departs = Lost ∷ fates_by admitted departs
-fates_by (true ∷ admitted) [] = Lost ∷ fates_by admitted []
-fates_by (true ∷ admitted) (time ∷ departs) = Departs time ∷ fates_by admitted departs
 
 -- what leaves a trunk group by an output
 abbrev pub trunk_stream : ℕ → Stream → List ℕ → ℕ → Stream

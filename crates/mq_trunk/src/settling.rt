@@ -3,13 +3,16 @@ ghost use Rattle.std.specs.List.{zip};
 ghost use Rattle.mq_core.specs.Sequences.{IsSoundLoad, IsStream};
 ghost use Rattle.mq_core.specs.Streams.{by_first, pairs_of};
 ghost use Rattle.mq_trunk.specs.Parts.{AreParted, IsSettled, lost_of, of_admitted};
-ghost use Rattle.mq_trunk.specs.Windows.{IsWindowRun};
+ghost use Rattle.mq_rounds.specs.Windows.{IsWindowRun};
+ghost use Rattle.mq_trunk.specs.Rounds.{trunk_rule};
 
 use crate::answer::Trunk;
-use crate::windows::{Settled, settle_windows};
+use crate::whole::all_free;
+use crate::windows::Group;
 use mq_base::{List, OutOfMemory, Steps};
 use mq_core::Stream;
 use mq_merge::by_time;
+use mq_rounds::{Settled, settle_windows};
 use std::alloc::Global;
 use std::sync::ledger::Ledger;
 
@@ -135,14 +138,16 @@ pub fn settle_trunk<L: Ledger>(
     requires stream { IsStream stream.now }
     requires first { 1 ≤ first }
     ensures settled { IfOk result (λ trunk. IsSettled servers stream.now demands.now trunk) }
-    ensures run { IfOk result (λ trunk. IsWindowRun servers stream.now.time demands.now first trunk.rounds trunk.judged) }
+    ensures run { IfOk result (λ trunk. IsWindowRun (trunk_rule servers) stream.now.time demands.now first trunk.rounds trunk.judged) }
     ensures rounds { IfOk result (λ trunk. trunk.rounds ≤ length stream.now.time) }
     ensures judged { IfOk result (λ trunk. trunk.judged ≤ 2 * length stream.now.time + first) }
     ensures once { IfOk result (λ trunk. steps.new ≡ steps.old + length stream.now.time) }
     ensures cost { IfOk result (λ trunk. steps.new ≤ steps.old + trunk.judged) }
     ensures most { steps.new ≤ steps.old + (2 * length stream.now.time + first) }
 {
-    let settled = settle_windows(alloc, stream, demands, servers, first, steps)?;
+    let latest = all_free(alloc, servers)?;
+    let mut group = Group { servers, latest };
+    let settled = settle_windows(alloc, stream, demands, first, &mut group, steps)?;
     let trunk = with_parts(alloc, stream, settled)?;
     Ok(trunk)
 }

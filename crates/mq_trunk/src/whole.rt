@@ -2,7 +2,8 @@ ghost use Rattle.std.specs.Prelude.{◌≡◌, ◌+◌, ◌≤◌, length, nat_l
 ghost use Rattle.mq_core.specs.Sequences.{IsSoundLoad};
 ghost use Rattle.mq_trunk.specs.Kept.{IsFalling, take_place};
 ghost use Rattle.mq_core.specs.Recurrences.{busy_at};
-ghost use Rattle.mq_trunk.specs.Rounds.{round_of};
+ghost use Rattle.mq_rounds.specs.Rounds.{round_of};
+ghost use Rattle.mq_trunk.specs.Rounds.{trunk_rule};
 
 use crate::judging::{busy_among, keep_latest};
 use mq_base::{List, OutOfMemory};
@@ -52,7 +53,7 @@ pub fn trunk_round(
 ) -> Result<List<bool>, OutOfMemory>
     requires load { IsSoundLoad stream.now.time demands.now }
     requires guess { length guess.now ≡ length stream.now.time }
-    ensures { IfOk result (λ answer. answer ≡ round_of servers stream.now.time demands.now guess.now) }
+    ensures { IfOk result (λ answer. answer ≡ round_of (trunk_rule servers) stream.now.time demands.now guess.now) }
 {
     let mut answer = List::new(alloc);
     let mut latest = all_free(alloc, servers)?;

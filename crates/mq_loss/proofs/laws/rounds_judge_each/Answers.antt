@@ -1,5 +1,6 @@
-use Rattle.mq_loss.proofs.Reading.{judged-all}
+use Rattle.mq_loss.specs.Rounds.{loss_rule}
+use Rattle.mq_rounds.proofs.lemmas.Departing.{judged-each}
 use Rattle.mq_loss.proofs.laws.rounds_judge_each.Goals as goal
 
 pub returns : goal.returns
-returns c = λ position places arrive times demands guess d g h. judged-all position places arrive times demands guess d g h
+returns c = λ places. judged-each (loss_rule places)

@@ -1,9 +1,13 @@
 use Rattle.std.proofs.Common.{◌≡◌, ◌++◌, ◌+◌, ◌≤◌, ℕ, Bool, List, [], ◌∷◌, length, sym, ap, ◌∙◌, subst, arith}
 use Rattle.std.specs.Prelude.{reverse}
+use Rattle.mq_base.proofs.lemmas.Lists.{drop_at}
 use Rattle.mq_core.specs.Recurrences.{is_admitted}
-use Rattle.mq_loss.specs.Rounds.{left_behind}
+use Rattle.mq_loss.specs.Rounds.{departure_behind, loss_rule}
 use Rattle.mq_loss.proofs.Departing.{IsEarly}
-use Rattle.mq_loss.proofs.Looping.{item-at, left-early, left-next, round-all, round-next}
+use Rattle.mq_loss.proofs.Looping.{left-early}
+use Rattle.mq_rounds.specs.Rounds.{left_behind}
+use Rattle.mq_rounds.proofs.lemmas.Departing.{left-next}
+use Rattle.mq_rounds.proofs.lemmas.Looping.{item-at, round-all, round-next}
 use Rattle.mq_loss.proofs.whole.round.Goals as goal
 
 pub loop-at-preserved : goal.loop-at-preserved
@@ -13,16 +17,17 @@ loop-at-preserved c =
     let demand : ℕ = c.get-demand.result.now in
     let admit : Bool = c.get-admit.result.now in
     let left : List ℕ = reverse c.loop-at.departs in
-    let behind : reverse c.follow.new.departs ≡ left_behind admit left arrive demand = left-next c.loop-at.departs c.follow.new.departs admit arrive demand c.in_ok-follow.ensures in
+    let behind : reverse c.follow.new.departs ≡ left_behind departure_behind admit left arrive demand =
+    left-next departure_behind c.loop-at.departs c.follow.new.departs admit arrive demand c.in_ok-follow.ensures in
     let item = item-at c.args.stream.now.time c.args.demands.now at arrive demand c.requires.load c.get-arrive.ensures c.get-demand.ensures in
     let place : c.finds_place.result ≡ is_admitted c.args.places left arrive = c.finds_place.ensures ∙ ap (λ (ds : List ℕ). is_admitted c.args.places (reverse ds) arrive) c.as_slice.ensures in
     let pushed : c.push.new.self ≡ c.loop-at.answer ++ is_admitted c.args.places left arrive ∷ [] = c.in_ok-push.ensures.ok ∙ ap (λ b. c.loop-at.answer ++ b ∷ []) place in
     record {
-      so_far = round-next c.args.places c.loop-at.answer c.push.new.self _ c.args.guess.now left (reverse c.follow.new.departs) c.args.stream.now.time c.args.demands.now at arrive demand admit c.get-arrive.ensures c.get-demand.ensures c.get-admit.ensures pushed behind c.loop-at.invariant.so_far;
+      so_far = round-next (loss_rule c.args.places) c.loop-at.answer c.push.new.self _ _ _ left (reverse c.follow.new.departs) c.args.stream.now.time c.args.demands.now at arrive demand admit c.get-arrive.ensures c.get-demand.ensures (drop_at c.args.guess.now at admit c.get-admit.ensures) pushed behind c.loop-at.invariant.so_far;
       early = subst (λ (ls : List ℕ). IsEarly ls (at + 1)) (sym behind) (left-early left admit at arrive demand item c.loop-at.invariant.early);
     }
 
 pub returns : goal.returns
 returns c =
     let ended : length c.args.stream.now.time ≤ c.loop-at.at = omega arith in
-    round-all c.args.places c.loop-at.at _ _ _ _ _ _ ended c.loop-at.invariant.so_far
+    round-all (loss_rule c.args.places) c.loop-at.at _ _ _ _ _ _ ended c.loop-at.invariant.so_far

@@ -1,11 +1,14 @@
 use Rattle.std.proofs.Common.{◌≡◌, Bool, true, false, [], length, sym, ap, ◌∙◌, subst}
-use Rattle.mq_loss.proofs.Repeating.{IsRepeating, ended-right, repeats, round-length, settled-whole}
+use Rattle.mq_loss.specs.Rounds.{loss_rule}
+use Rattle.mq_loss.proofs.Fates.{settled-is}
+use Rattle.mq_loss.proofs.Repeating.{IsRepeating, ended-right, repeats}
+use Rattle.mq_rounds.proofs.lemmas.Guesses.{round-length}
 use Rattle.mq_loss.proofs.whole.settle_whole.Goals as goal
 
 pub same-stays-requires : goal.same-stays-requires
 same-stays-requires c =
     let number = c.loop-stays.invariant.number in
-    ap length c.in_ok-next.ensures ∙ (round-length c.args.places [] c.args.stream.now.time c.args.demands.now c.loop-stays.guess c.requires.load.each number ∙ sym number)
+    ap length c.in_ok-next.ensures ∙ (round-length (loss_rule c.args.places) [] c.args.stream.now.time c.args.demands.now c.loop-stays.guess c.requires.load.each number ∙ sym number)
 
 pub loop-stays-preserved : goal.loop-stays-preserved
 loop-stays-preserved c =
@@ -19,4 +22,4 @@ returns-clause-settled c =
     let ended : c.loop-stays.stays ≡ true = cc in
     let right = ended-right c.args.places c.args.stream.now.time c.args.demands.now c.loop-stays.rounds c.loop-stays.guess c.requires.load.each
     (subst (λ (b : Bool). IsRepeating c.args.places c.args.stream.now.time c.args.demands.now c.loop-stays.rounds c.loop-stays.guess b) ended c.loop-stays.invariant) in
-    settled-whole c.args.places c.args.stream.now.time c.args.demands.now _ c.requires.load.each right c.in_ok-departs.ensures
+    settled-is c.args.places c.args.stream.now.time c.args.demands.now _ c.requires.load.each right c.in_ok-departs.ensures

@@ -1,6 +1,6 @@
 use Rattle.std.proofs.Common.{◌≡◌, ◌≤◌, ◌++◌, drop, length}
 use Rattle.std.specs.Vec.{vec_len, vec_capacity}
-use Rattle.mq_trunk.specs.Parts.{fates_by}
+use Rattle.mq_rounds.specs.Rounds.{fates_by}
 use Rattle.mq_stations.proofs.outflow.fates_by_admission.Given as goal
 
 -- the fates so far and those of what is left are all, for which there is room

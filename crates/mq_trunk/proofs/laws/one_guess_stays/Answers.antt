@@ -1,10 +1,9 @@
-use Rattle.std.proofs.Common.{[], sym, ap, ◌∙◌}
-use Rattle.mq_trunk.specs.Rounds.{round_of}
-use Rattle.mq_trunk.proofs.Guesses.{right-stays, stays-right}
+use Rattle.std.proofs.Common.{subst}
+use Rattle.mq_rounds.specs.Laws.{OneGuessStays}
+use Rattle.mq_rounds.proofs.lemmas.Guesses.{one-stays}
+use Rattle.mq_trunk.specs.Rounds.{trunk_rule}
+use Rattle.mq_trunk.proofs.Fates.{admission-is}
 use Rattle.mq_trunk.proofs.laws.one_guess_stays.Goals as goal
 
 pub returns : goal.returns
-returns c = λ servers times demands guess d g. (
-  (λ h. stays-right servers [] times demands guess d g h),
-  (λ h. ap (round_of servers times demands) h ∙ (right-stays servers [] times demands d ∙ sym h)),
-)
+returns c = λ servers. subst (OneGuessStays (trunk_rule servers)) (admission-is servers) (one-stays (trunk_rule servers))

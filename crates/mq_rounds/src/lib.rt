@@ -1,0 +1,12 @@
+//! Rounds of guesses (Greenberg, Lubachevsky and Mitrani 1991): which arrivals a station admits that
+//! judges each by the departures of those admitted before it. A run of rounds settles them window by
+//! window.
+#![tactic(auto)]
+
+mod judge;
+mod settled;
+mod windows;
+
+pub use judge::Judge;
+pub use settled::Settled;
+pub use windows::settle_windows;
