@@ -1,13 +1,17 @@
 -- What is told of a file, and what was read of it.
-use Rattle.std.proofs.Common.{◌≡◌, ℕ, List, [], ◌++◌, ap, ap₂, subst, sym, ◌∙◌}
+use Rattle.std.proofs.Common.{◌≡◌, ℕ, List, [], ◌++◌, ap, ap₂, refl, subst, sym, ◌∙◌}
 use Rattle.std.specs.Prelude.{true, false, IfSome, Some, None}
 use Rattle.std.specs.declared.option.Option.{Option}
 use Rattle.mq_core.specs.declared.model.Network.{Network}
 use Rattle.mq_model.specs.Model.{model_fault}
 use Rattle.mq_model.specs.NetworkOf.{network_in}
-use Rattle.mq_top.specs.Answer.{answer, answer_over, model_answer}
+use Rattle.mq_core.specs.NetworkRun.{refusal_in}
+use Rattle.mq_core.specs.Results.{Refusal}
+use Rattle.mq_trace.specs.Trace.{rows_in, trace_fault}
+use Rattle.mq_trace.specs.declared.fault.TraceFault.{TraceFault}
+use Rattle.mq_top.specs.Answer.{answer, answer_over, model_answer, run_answer, trace_answer}
 use Rattle.mq_top.specs.declared.stages.Wanted.{Wanted}
-use Rattle.mq_top.specs.Ends.{RefusesModel, RefusesTrace}
+use Rattle.mq_top.specs.Ends.{Ends, RefusesModel, RefusesTrace, Taken}
 use Rattle.mq_outcome.specs.declared.outcome.Outcome.{Outcome}
 use Rattle.mq_outcome.specs.declared.outcome.Outcome.TheVariants.{Done, Usage, Model, Trace, Past, Over, ReadFault, WriteFault, Memory}
 
@@ -59,3 +63,34 @@ pub answer_is : (net : Network) (model trace : List ℕ) (wanted asked : Wanted)
     → answer_over net trace wanted ≡ answer model trace asked
 answer_is net model trace wanted asked accepted is same =
     ap₂ (λ (n : Network) (b : Wanted). answer_over n trace b) is same ∙ ap (model_answer model trace asked) (sym accepted)
+
+-- a fault of a read, and want of memory, may come on the way to each answer to a trace
+unread_ends : (net : Network) (trace : List ℕ) (wanted : Wanted) (fault : Option TraceFault) (t : Taken) → Ends (trace_answer net trace wanted fault) (ReadFault true) t
+unread_ends net trace wanted (Some fault) t = tt
+unread_ends net trace wanted None t = of_run (refusal_in net (rows_in net trace))
+  where
+    of_run : (why : Option Refusal) → Ends (run_answer net (rows_in net trace) wanted why) (ReadFault true) t
+    of_run (Some why) = tt
+    of_run None = tt
+
+memory_ends : (net : Network) (trace : List ℕ) (wanted : Wanted) (fault : Option TraceFault) (t : Taken) → Ends (trace_answer net trace wanted fault) Memory t
+memory_ends net trace wanted (Some fault) t = tt
+memory_ends net trace wanted None t = of_run (refusal_in net (rows_in net trace))
+  where
+    of_run : (why : Option Refusal) → Ends (run_answer net (rows_in net trace) wanted why) Memory t
+    of_run (Some why) = tt
+    of_run None = tt
+
+-- a trace that is refused ends the call as the answer has it
+pub refused_ends : (net : Network) (told : Option (List ℕ)) (wanted : Wanted) (o : Outcome) (t : Taken) → RefusesTrace net o told → IfSome told (λ trace. Ends (answer_over net trace wanted) o t)
+refused_ends net None wanted o t refused = tt
+refused_ends net (Some trace) wanted (Trace f) t refused = subst (λ fault. Ends (trace_answer net trace wanted fault) (Trace f) t) (sym refused.1) refl
+refused_ends net (Some trace) wanted (ReadFault true) t refused = unread_ends net trace wanted (trace_fault net trace) t
+refused_ends net (Some trace) wanted Memory t refused = memory_ends net trace wanted (trace_fault net trace) t
+refused_ends net (Some trace) wanted Done t refused = elim refused [ ]
+refused_ends net (Some trace) wanted (Usage _) t refused = elim refused [ ]
+refused_ends net (Some trace) wanted (Model _) t refused = elim refused [ ]
+refused_ends net (Some trace) wanted (Past _) t refused = elim refused [ ]
+refused_ends net (Some trace) wanted (Over _) t refused = elim refused [ ]
+refused_ends net (Some trace) wanted (ReadFault false) t refused = elim refused [ ]
+refused_ends net (Some trace) wanted WriteFault t refused = elim refused [ ]

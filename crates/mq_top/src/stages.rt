@@ -161,6 +161,14 @@ fn accept_trace<R: Threads + Sync, G: Gate, F: Files>(
     judge_trace(alloc, crew, plan, &bytes)
 }
 
+// What a report tells beside the rows and the run.
+#[derive(Drop)]
+struct Numbers {
+    totals: List<NodeTotals>,
+    // None for form 1.
+    tails: List<Percentiles>,
+}
+
 // The percentiles of the waits at each node, which form 2 of the report tells; none for form 1.
 fn told_tails<R: Threads + Sync, G: Gate>(
     alloc: Global,
@@ -190,6 +198,65 @@ fn told_tails<R: Threads + Sync, G: Gate>(
         totals,
         crew.gate,
     )
+}
+
+// The numbers of a run, for a report of this form.
+fn numbers_of<R: Threads + Sync, G: Gate>(
+    alloc: Global,
+    crew: &Crew<R, G>,
+    plan: &Plan,
+    rows: &Rows,
+    run: &Run,
+    form: u8,
+) -> Result<Numbers, OutOfMemory>
+    requires read { IsReadFor plan.now.net rows.now }
+    requires run { IsRunOf plan.now rows.now run.now }
+    requires few { HasFewVisits plan.now rows.now }
+    ensures totals { IfOk result (λ numbers. AreNodeTotals plan.now rows.now numbers.totals) }
+    ensures tails { form ≡ 2 → IfOk result (λ numbers. AreNodeTails plan.now rows.now numbers.tails) }
+{
+    let totals = node_totals(crew.rt, alloc, crew.workers, plan, rows, run, crew.gate)?;
+    let tails = told_tails(alloc, crew, plan, rows, run, &totals, form)?;
+    Ok(Numbers { totals, tails })
+}
+
+// Writes the report of a run as it is wanted.
+fn report_finished<R: Threads + Sync, G: Gate, O: Sink>(
+    alloc: Global,
+    crew: &Crew<R, G>,
+    plan: &Plan,
+    rows: &Rows,
+    run: &Run,
+    wanted: Wanted,
+    out: &mut O,
+) -> Outcome
+    requires read { IsReadFor plan.now.net rows.now }
+    requires run { IsRunOf plan.now rows.now run.now }
+    requires few { HasFewVisits plan.now rows.now }
+    ensures ends { Ends (Reported (report_in plan.now.net rows.now wanted.form wanted.jobs)) result (takings O.taken O.sure out.old out.new) }
+    ensures unread { (second : Bool) → result ≢ Outcome.ReadFault second }
+    ensures later { O.faults out.old ≤ O.faults out.new }
+    ensures rose { result ≡ Outcome.WriteFault → Rose (O.faults out.old) (O.faults out.new) }
+    ensures quiet { (result ≡ Outcome.WriteFault) ⊎ (O.faults out.new ≡ O.faults out.old) }
+    ensures sure { length (report_in plan.now.net rows.now wanted.form wanted.jobs) ≤ O.sure out.old → O.faults out.new ≡ O.faults out.old }
+    ensures untouched { Untouched result out.old out.new }
+{
+    let Ok(numbers) = numbers_of(alloc, crew, plan, rows, run, wanted.form) else {
+        return Outcome::Memory;
+    };
+    match report(
+        plan,
+        rows,
+        run,
+        &numbers.totals,
+        &numbers.tails,
+        wanted.form,
+        wanted.jobs,
+        out,
+    ) {
+        Ok(()) => Outcome::Done,
+        Err(_) => Outcome::WriteFault,
+    }
 }
 
 // Runs a plan over its rows, and writes the report as it is wanted.
@@ -226,25 +293,7 @@ fn report_run<R: Threads + Sync, G: Gate, O: Sink>(
         Err(RunFault::Past(fault)) => return Outcome::Past(fault),
         Err(RunFault::Memory) => return Outcome::Memory,
     };
-    let Ok(totals) = node_totals(crew.rt, alloc, crew.workers, plan, rows, &run, crew.gate) else {
-        return Outcome::Memory;
-    };
-    let Ok(tails) = told_tails(alloc, crew, plan, rows, &run, &totals, wanted.form) else {
-        return Outcome::Memory;
-    };
-    match report(
-        plan,
-        rows,
-        &run,
-        &totals,
-        &tails,
-        wanted.form,
-        wanted.jobs,
-        out,
-    ) {
-        Ok(()) => Outcome::Done,
-        Err(_) => Outcome::WriteFault,
-    }
+    report_finished(alloc, crew, plan, rows, &run, wanted, out)
 }
 
 // Reads the trace of this name for a plan, runs it, and writes the report.

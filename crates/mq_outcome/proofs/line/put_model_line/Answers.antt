@@ -29,3 +29,6 @@ returns-in-Cycle g c = rw c.in-Cycle.is c.put_numbered-in-Cycle.ensures
 
 pub returns-in-Memory : goal.returns-in-Memory
 returns-in-Memory g c = rw c.in-Memory.is c.put_text-in-Memory.ensures
+
+pub returns-in-TooLong : goal.returns-in-TooLong
+returns-in-TooLong g c = rw c.in-TooLong.is c.put_text.ensures

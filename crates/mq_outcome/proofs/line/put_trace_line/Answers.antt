@@ -20,3 +20,6 @@ returns-in-BadNumber g c = rw c.in-BadNumber.is c.put_numbered_twice.ensures
 
 pub returns-in-Memory : goal.returns-in-Memory
 returns-in-Memory g c = rw c.in-Memory.is c.put_text-in-Memory.ensures
+
+pub returns-in-TooLong : goal.returns-in-TooLong
+returns-in-TooLong g c = rw c.in-TooLong.is c.put_text.ensures

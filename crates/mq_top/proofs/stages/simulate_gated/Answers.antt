@@ -76,6 +76,27 @@ returns-in-Made-clause-made_sure g c number text made is room =
     let makes : Makes words c.in-Made.number = subst (AsksFor words) c.in-Made.is asked.input in
     c.run_made-outcome.ensures.sure text (same_answer number c.in-Made.number (wanted_by words) (asked_for c.in-Ok.settings) (same_number words number c.in-Made.number made makes) (sym (wanted_is words c.in-Ok.settings asked)) ∙ is) room
 
+pub returns-in-Made-clause-ends : goal.returns-in-Made-clause-ends
+returns-in-Made-clause-ends g c m t model trace names told_m told_t =
+    let words : List (List ℕ) = map (λ w. w.now) c.args.words.now in
+    let asked : Asks words c.in-Ok.settings = c.in-Ok.ensures.asked in
+    let makes : Makes words c.in-Made.number = subst (AsksFor words) c.in-Made.is asked.input in
+    elim (not_both words m t c.in-Made.number names makes) [ ]
+
+pub returns-in-Made-clause-model : goal.returns-in-Made-clause-model
+returns-in-Made-clause-model g c m t model fault names told_m is =
+    let words : List (List ℕ) = map (λ w. w.now) c.args.words.now in
+    let asked : Asks words c.in-Ok.settings = c.in-Ok.ensures.asked in
+    let makes : Makes words c.in-Made.number = subst (AsksFor words) c.in-Made.is asked.input in
+    elim (not_both words m t c.in-Made.number names makes) [ ]
+
+pub returns-in-Made-clause-named : goal.returns-in-Made-clause-named
+returns-in-Made-clause-named g c m t model names told_m =
+    let words : List (List ℕ) = map (λ w. w.now) c.args.words.now in
+    let asked : Asks words c.in-Ok.settings = c.in-Ok.ensures.asked in
+    let makes : Makes words c.in-Made.number = subst (AsksFor words) c.in-Made.is asked.input in
+    elim (not_both words m t c.in-Made.number names makes) [ ]
+
 pub returns-in-Made-clause-sure : goal.returns-in-Made-clause-sure
 returns-in-Made-clause-sure g c m t model trace text names told_m told_t is room =
     let words : List (List ℕ) = map (λ w. w.now) c.args.words.now in
@@ -92,6 +113,13 @@ returns-in-Ok-accept_model-clause-made g c number made =
 
 pub returns-in-Ok-accept_model-clause-made_sure : goal.returns-in-Ok-accept_model-clause-made_sure
 returns-in-Ok-accept_model-clause-made_sure g c number text made is room =
+    let words : List (List ℕ) = map (λ w. w.now) c.args.words.now in
+    let asked : Asks words c.in-Ok.settings = c.in-Ok.ensures.asked in
+    let asked_names : Names words c.in-Named.model.now c.in-Named.trace.now = subst (AsksFor words) c.in-Named.is asked.input in
+    elim (not_both words c.in-Named.model.now c.in-Named.trace.now number asked_names made) [ ]
+
+pub returns-in-Ok-accept_model-clause-made_accepted : goal.returns-in-Ok-accept_model-clause-made_accepted
+returns-in-Ok-accept_model-clause-made_accepted g c number made =
     let words : List (List ℕ) = map (λ w. w.now) c.args.words.now in
     let asked : Asks words c.in-Ok.settings = c.in-Ok.ensures.asked in
     let asked_names : Names words c.in-Named.model.now c.in-Named.trace.now = subst (AsksFor words) c.in-Named.is asked.input in

@@ -1,5 +1,5 @@
 use Rattle.std.proofs.Common.{rules}
-use Rattle.mq_top.proofs.stages.report_run.Goals as goal
+use Rattle.mq_top.proofs.stages.report_finished.Goals as goal
 
 pub returns-clause-ends : goal.returns-clause-ends
 returns-clause-ends g c = search rules
