@@ -157,8 +157,8 @@ fn counted_of(
     Ok(counted)
 }
 
-/// The percentiles of the waits at each node over a run, by node, where 99 of 100 of them are at most 16,384 ticks. The visits
-/// are cut into pieces as for the totals, and 1 to 64 workers make them, who enter the gate.
+/// The percentiles of the waits at each node over a run, by node, where some job waited and 99 of 100 of the waits are at most
+/// 16,384 ticks. The visits are cut into pieces as for the totals, and 1 to 64 workers make them, who enter the gate.
 /// It refuses for want of memory alone.
 pub fn counted_tails<R: Threads + Sync, G: Gate>(
     rt: &R,
