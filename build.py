@@ -6,8 +6,8 @@ What has been proved before and has not changed is kept. Each crate is told on t
 
 rt works on one crate of a folder at a time, and keeps those below it from others meanwhile. So each crate is proved in a
 room of its own: a folder with links to its files, to those of the crates below it, and to what was built of these. The crate
-with the most to prove from it up to the program goes first. Several jobs for one crate take up to two thirds more processor
-time for the same proofs, so a crate has more than one only where too few can be proved side by side.
+with the most to prove from it up to the program goes first. Several jobs for one crate take a quarter to two thirds more
+processor time for the same proofs, so a crate has more than one only where fewer crates than processors can be proved.
 """
 import os
 import shutil
@@ -127,10 +127,10 @@ def prove_all(uses):
         for at, name in enumerate(ready):
             if len(running) == most:
                 break
-            # What is further from the program goes first. The jobs are shared out among the crates that can be proved now.
+            # What is further from the program goes first. A processor that no other crate could use takes a part of this one.
             others = [it for it in [*left, *running] if chain[it] > chain[name]]
-            side_by_side = len(running) + len(ready) - at
-            running[name] = begin(name, uses, max(most // side_by_side, 1), min(len(others), 10))
+            side_by_side = min(len(running) + len(ready) - at, most)
+            running[name] = begin(name, uses, -(-most // side_by_side), min(len(others), 10))
             left.remove(name)
         time.sleep(0.2)
         for name in [it for it, check in running.items() if check.poll() is not None]:
