@@ -7,7 +7,6 @@ use Rattle.mq_core.specs.OnceOut.{once_out, out_of_fate}
 use Rattle.mq_core.specs.Recurrences.{trunk_fates}
 use Rattle.mq_core.specs.Sequences.{IsStream}
 use Rattle.mq_core.specs.Streams.{by_first, pairs_of}
-use Rattle.mq_core.specs.declared.model.Fate.{Fate}
 use Rattle.mq_core.specs.declared.model.Stream.{Stream}
 use Rattle.mq_rounds.specs.Rounds.{departures_in, fates_by}
 use Rattle.mq_trunk.specs.Rounds.{admission}
