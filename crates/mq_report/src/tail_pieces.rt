@@ -1,5 +1,5 @@
 // The waits at the nodes, counted by pieces of their visits.
-ghost use Rattle.std.specs.Prelude.{◌≡◌, ◌<◌, ◌≤◌, length, IfOk, IfSome, Some, slice_get};
+ghost use Rattle.std.specs.Prelude.{◌≡◌, ◌⊎◌, ◌<◌, ◌≤◌, length, IfOk, IfSome, Some, slice_get};
 ghost use Rattle.mq_core.specs.Results.{visits_of};
 ghost use Rattle.mq_core.specs.StandardTable.{run_of};
 ghost use Rattle.mq_crew.specs.Crew.{AreAll, AreGroups};
@@ -21,7 +21,7 @@ use mq_stats::{
 use std::alloc::Global;
 use std::thread::Threads;
 
-// Up to how many ticks waits are counted by themselves: such a table fits a processor's own memory.
+// Up to how many ticks waits are counted by pieces: such a table fits a processor's own memory.
 const MOST: u64 = 16_384;
 
 /// The visits to a node of this kind over a run. A piece of them is the counts of the waits of so many neighbours, up
@@ -66,6 +66,14 @@ impl<'a> Pieces for NodeWaits<'a> {
     }
 }
 
+// Up to how many ticks the waits at a node are counted by pieces, of which this is the longest: 0 where that is too long.
+fn counted_up_to(longest: u64) -> u32
+    ensures most { result ≤ 16384 }
+    ensures all { (result ≡ 0) ⊎ (result ≡ longest) }
+{
+    if longest <= MOST { longest as u32 } else { 0 }
+}
+
 // The visits to a node over the run.
 fn waits_of_node<'a>(known: &KnownRun<'a>, node: u32, declared: &'a Node) -> NodeWaits<'a>
     requires known { IsKnown known.now }
@@ -80,7 +88,7 @@ fn waits_of_node<'a>(known: &KnownRun<'a>, node: u32, declared: &'a Node) -> Nod
         rows: known.rows,
         kind: &declared.kind,
         visits: known.run.visits.get(node as usize),
-        most: totals.longest.min(MOST) as u32,
+        most: counted_up_to(totals.longest),
     }
 }
 
@@ -157,8 +165,8 @@ fn counted_of(
     Ok(counted)
 }
 
-/// The percentiles of the waits at each node over a run, by node, where some job waited and 99 of 100 of the waits are at most
-/// 16,384 ticks. The visits are cut into pieces as for the totals, and 1 to 64 workers make them, who enter the gate.
+/// The percentiles of the waits at each node over a run, by node, where some job waited and none longer than 16,384 ticks. The
+/// visits are cut into pieces as for the totals, and 1 to 64 workers make them, who enter the gate.
 /// It refuses for want of memory alone.
 pub fn counted_tails<R: Threads + Sync, G: Gate>(
     rt: &R,
