@@ -26,11 +26,12 @@ use Rattle.mq_crew.proofs.lemmas.Groups.{ArePassing}
 use Rattle.mq_crew.proofs.lemmas.Sizes.{total-most}
 use Rattle.mq_scan.specs.declared.blocks.Blocks.{Blocks}
 use Rattle.mq_scan.proofs.lemmas.Blocks.{behind-begin, behind-end, behind-more, blocks-few, end_of}
-use Rattle.mq_arrivals.specs.Arrivals.{CanCome, HasArrived, IsArriving, Pairs, arriving, pairs_read}
-use Rattle.mq_arrivals.specs.Merges.{ArePairsOf, HasCome, IsAllOf, IsBlockOf, IsComing, IsPair, IsReadyOrigin, IsSortedPiece, arriving_by, has_port, pairs_from, pieces_of}
+use Rattle.mq_arrivals.specs.Arrivals.{CanCome, HasArrived, IsArriving, Pairs, arriving, pairs_read, stream_in}
+use Rattle.mq_arrivals.specs.Merges.{ArePairsOf, HasCome, IsBlockOf, IsComing, IsPair, IsReadyOrigin, IsSortedPiece, arriving_by, has_port, pairs_from, pieces_of}
 use Rattle.mq_arrivals.specs.declared.merges.Coming.{Coming}
 use Rattle.mq_arrivals.specs.declared.merges.Origin.{Origin}
-use Rattle.mq_arrivals.specs.declared.merges.Origin.TheVariants.{Ended, Further, Ports, Unsorted}
+use Rattle.mq_arrivals.specs.declared.merges.Origin.TheVariants.{Ended, Ports, Unsorted}
+use Rattle.mq_arrivals.specs.declared.nodes.Arrivals.{Arrivals}
 use Rattle.mq_arrivals.specs.declared.nodes.Arrived.{Arrived}
 use Rattle.mq_arrivals.specs.declared.nodes.Arriving.{Arriving}
 use Rattle.mq_arrivals.proofs.Sorted.{by_first-rises}
@@ -103,9 +104,6 @@ single-block pairs blocks stream one n own =
 read-more : (outputs : List (List Stream)) (inputs : List Input) (p : ℕ) (input : Input) → slice_get inputs p ≡ Some input → flat_map (pairs_read outputs) (take (p + 1) inputs) ≡ flat_map (pairs_read outputs) (take p inputs) ++ pairs_read outputs input
 read-more outputs inputs p input there = flat_map-more (pairs_read outputs) inputs p input there
 
-first-ports : (outputs : List (List Stream)) (inputs : List Input) (one other : Input) → slice_get inputs 0 ≡ Some one → slice_get inputs 1 ≡ Some other → flat_map (pairs_read outputs) (take 2 inputs) ≡ pairs_read outputs one ++ pairs_read outputs other
-first-ports outputs inputs one other a b = read-more outputs inputs 1 other b ∙ ap (λ l. l ++ pairs_read outputs other) (read-more outputs inputs 0 one a)
-
 -- what comes by the first ports is no more than all that comes
 arriving-less : (rows : Rows) (v : ℕ) (node : Node) (outputs : List (List Stream)) (ports : ℕ) → length (arriving_by rows v node outputs ports) ≤ length (arriving rows v node outputs)
 arriving-less rows v node outputs ports = go (is_source_kind node.kind)
@@ -148,17 +146,10 @@ arriving-other rows v node outputs ports e = ap (λ b. cond b (rows_at v 0 rows.
 pub opens-source : (s : Arriving) (v : ℕ) (node : Node) → is_source_kind node.kind ≡ true → by_first (rows_at v 0 s.rows.now.source s.rows.now.time) ≡ by_first (arriving_by s.rows.now v node s.outputs.now 2)
 opens-source s v node e = ap by_first (sym (arriving-source s.rows.now v node s.outputs.now 2 e))
 
-pub opens-ports : (s : Arriving) (v : ℕ) (node : Node) (i j : Input) (one other : Stream) → is_source_kind node.kind ≡ false → slice_get node.inputs 0 ≡ Some i → slice_get node.inputs 1 ≡ Some j → pairs_of one ≡ pairs_read s.outputs.now i → pairs_of other ≡ pairs_read s.outputs.now j →
-    pairs_of one ++ pairs_of other ≡ arriving_by s.rows.now v node s.outputs.now 2
-opens-ports s v node i j one other e p q a b =
-    (λ k. a k ++ b k) ∙ (sym (first-ports s.outputs.now node.inputs i j p q) ∙ sym (arriving-other s.rows.now v node s.outputs.now 2 e))
-
--- nothing has come by no port
-pub opens-none : (s : Arriving) (v : ℕ) (node : Node) (none : Stream) → is_source_kind node.kind ≡ false → none.time ≡ [] → none.job ≡ [] → pairs_of none ≡ by_first (arriving_by s.rows.now v node s.outputs.now 0)
-opens-none s v node none e t j = (λ k. zip (t k) (j k)) ∙ ap by_first (sym (arriving-other s.rows.now v node s.outputs.now 0 e))
-
-pub empty-stream : (none : Stream) → none.time ≡ [] → none.job ≡ [] → IsStream none
-empty-stream none t j = record { even = ap length j ∙ sym (ap length t); rising = subst (Rises (λ a b. a ≤ b)) (sym t) tt }
+-- what its first port reads has come to a node
+pub opens-port : (s : Arriving) (v : ℕ) (node : Node) (stream : Stream) → is_source_kind node.kind ≡ false → IsStream stream → pairs_of stream ≡ flat_map (pairs_read s.outputs.now) (take 1 node.inputs) → pairs_of stream ≡ by_first (arriving_by s.rows.now v node s.outputs.now 1)
+opens-port s v node stream e ordered items =
+    sym (by_first-rises stream.time stream.job ordered.rising) ∙ ap by_first (items ∙ sym (arriving-other s.rows.now v node s.outputs.now 1 e))
 
 -- what has come to a node of these is the same by any name of the node
 pub has-come-at : (s : Arriving) (v ports : ℕ) (node : Node) (stream : Stream) → Contains s.ready.now v → slice_get s.plan.now.net.nodes v ≡ Some node → IsStream stream → pairs_of stream ≡ by_first (arriving_by s.rows.now v node s.outputs.now ports) → HasCome s v ports stream
@@ -178,18 +169,6 @@ no-port rows v node outputs port = go (is_source_kind node.kind)
     go false h =
         let ended : length node.inputs ≤ port = grind (arith, nat_tests) in
         ap (flat_map (pairs_read outputs)) (take-all node.inputs port ended ∙ sym (take-all node.inputs (port + 1) (omega arith)))
-
--- a node without a second port
-pub one-port : (s : Arriving) (node : Node) (coming : Coming) → slice_get s.plan.now.net.nodes coming.number ≡ Some node → has_port node 1 ≡ false → IsComing s 1 coming → IsComing s 2 coming
-one-port s node coming there none was =
-    record {
-      ready = was.ready;
-      origin = was.origin;
-      few = was.few;
-      items = λ other at.
-          was.items other at
-          ∙ ap by_first (no-port s.rows.now coming.number other s.outputs.now 1 (ap (λ (n : Node). has_port n 1) (some_inj other node (sym at ∙ there)) ∙ none));
-    }
 
 -- two streams together are no more
 pub both-few : (pairs : Pairs) (one other : Stream) → IsStream one → IsStream other → by_first (pairs_of one ++ pairs_of other) ≡ by_first pairs → length pairs ≤ 1048576 → length one.time + length other.time ≤ 1048576
@@ -226,8 +205,8 @@ pub has-come : (s : Arriving) (ports : ℕ) (coming : Coming) (stream : Stream) 
 has-come s ports coming stream h p = record { ready = h.ready; ordered = p.ordered; items = λ node there. p.items ∙ h.items node there }
 
 -- a node to which all has come by eight ports
-pub all-come : NodesAreInLimits → (s : Arriving) (v : ℕ) (stream : Stream) → HasCome s v 8 stream → HasArrived s (record { number = v; arrivals = stream })
-all-come limits s v stream come =
+pub all-come : NodesAreInLimits → (s : Arriving) (v : ℕ) (arrivals : Arrivals) → HasCome s v 8 (stream_in arrivals) → HasArrived s (record { number = v; arrivals = arrivals })
+all-come limits s v arrivals come =
     record {
       ready = come.ready;
       ordered = come.ordered;
@@ -245,32 +224,32 @@ port-there node port = go (is_source_kind node.kind) refl
 -- The pieces of an origin, put together: the rows of a source, blocks, or all that came.
 abbrev pub AreRows : Origin → Type 0
 AreRows (Unsorted rows) = Unit {0}
-AreRows (Ports one other blocks) = ⊥
-AreRows (Further before next blocks) = ⊥
-AreRows (Ended stream) = ⊥
+AreRows (Ports before next blocks) = ⊥
+AreRows (Ended arrivals) = ⊥
 
 abbrev pub AreCut : Blocks → Origin → Type 0
 AreCut blocks (Unsorted rows) = ⊥
-AreCut blocks (Ports one other own) = own ≡ blocks
-AreCut blocks (Further before next own) = own ≡ blocks
-AreCut blocks (Ended stream) = ⊥
+AreCut blocks (Ports before next own) = own ≡ blocks
+AreCut blocks (Ended arrivals) = ⊥
+
+abbrev pub HaveAllCome : Arrivals → Origin → Type 0
+HaveAllCome arrivals (Unsorted rows) = ⊥
+HaveAllCome arrivals (Ports before next blocks) = ⊥
+HaveAllCome arrivals (Ended own) = own ≡ arrivals
 
 pub rows-alone : (v : ℕ) (origin : Origin) (group : List Stream) → AreRows origin → AreAll (IsSortedPiece v origin) (pieces_of origin) group → length group ≡ 1
 rows-alone v (Unsorted rows) group h all = all.len
-rows-alone v (Ports one other blocks) group h all = absurd h
-rows-alone v (Further before next blocks) group h all = absurd h
-rows-alone v (Ended stream) group h all = absurd h
+rows-alone v (Ports before next blocks) group h all = absurd h
+rows-alone v (Ended arrivals) group h all = absurd h
 
 pub of-rows : (v : ℕ) (origin : Origin) (group : List Stream) (stream : Stream) → AreRows origin → AreAll (IsSortedPiece v origin) (pieces_of origin) group → ((d : Stream) → get_or group 0 d ≡ stream) → ArePairsOf (pairs_from v origin) stream
 of-rows v (Unsorted rows) group stream h all alone = subst (ArePairsOf (rows_at v 0 rows.now.source rows.now.time)) (alone stream) (all.each 0 stream (omega arith))
-of-rows v (Ports one other blocks) group stream h all alone = absurd h
-of-rows v (Further before next blocks) group stream h all alone = absurd h
+of-rows v (Ports before next blocks) group stream h all alone = absurd h
 of-rows v (Ended own) group stream h all alone = absurd h
 
 pub blocks-all-there : (v : ℕ) (origin : Origin) (blocks : Blocks) (group : List Stream) → AreCut blocks origin → AreAll (IsSortedPiece v origin) (pieces_of origin) group → length group ≡ blocks.blocks
 blocks-all-there v (Unsorted rows) blocks group h all = absurd h
-blocks-all-there v (Ports one other own) blocks group h all = all.len ∙ ap (λ (b : Blocks). b.blocks) h
-blocks-all-there v (Further before next own) blocks group h all = all.len ∙ ap (λ (b : Blocks). b.blocks) h
+blocks-all-there v (Ports before next own) blocks group h all = all.len ∙ ap (λ (b : Blocks). b.blocks) h
 blocks-all-there v (Ended own) blocks group h all = absurd h
 
 abbrev pub Joins : Blocks → List Stream → Stream → Type 0
@@ -286,19 +265,16 @@ pair-length one other blocks h =
 
 pub of-blocks : (v : ℕ) (origin : Origin) (blocks : Blocks) (group : List Stream) (stream : Stream) → AreCut blocks origin → IsReadyOrigin origin → AreAll (IsSortedPiece v origin) (pieces_of origin) group → Joins blocks group stream → ArePairsOf (pairs_from v origin) stream
 of-blocks v (Unsorted rows) blocks group stream h fit all joins = absurd h
-of-blocks v (Ports one other own) blocks group stream h fit all joins =
+of-blocks v (Ports before next own) blocks group stream h fit all joins =
     let joined : Joins own group stream = subst (λ (b : Blocks). Joins b group stream) (sym h) joins in
-    joined (pairs_of one.now ++ pairs_of other.now) (pair-length one.now other.now own fit) all
-of-blocks v (Further before next own) blocks group stream h fit all joins =
-    let joined : Joins own group stream = subst (λ (b : Blocks). Joins b group stream) (sym h) joins in
-    joined (pairs_of before ++ pairs_of next.now) (pair-length before next.now own fit) all
+    joined (pairs_of (stream_in before) ++ pairs_of next.now) (pair-length (stream_in before) next.now own fit) all
 of-blocks v (Ended own) blocks group stream h fit all joins = absurd h
 
-pub of-all : (v : ℕ) (origin : Origin) (stream : Stream) → IsAllOf stream origin → IsReadyOrigin origin → ArePairsOf (pairs_from v origin) stream
-of-all v (Unsorted rows) stream h fit = absurd h
-of-all v (Ports one other own) stream h fit = absurd h
-of-all v (Further before next own) stream h fit = absurd h
-of-all v (Ended own) stream h fit = subst (ArePairsOf (pairs_of own)) h (record { ordered = fit; items = sym (by_first-rises own.time own.job fit.rising) })
+pub of-all : (v : ℕ) (origin : Origin) (arrivals : Arrivals) → HaveAllCome arrivals origin → IsReadyOrigin origin → ArePairsOf (pairs_from v origin) (stream_in arrivals)
+of-all v (Unsorted rows) arrivals h fit = absurd h
+of-all v (Ports before next blocks) arrivals h fit = absurd h
+of-all v (Ended own) arrivals h fit =
+    subst (λ (a : Arrivals). ArePairsOf (pairs_of (stream_in own)) (stream_in a)) h (record { ordered = fit; items = sym (by_first-rises (stream_in own).time (stream_in own).job fit.rising) })
 
 -- the nodes of a wave, tier by tier
 abbrev pub coming_size : Coming → ℕ
@@ -333,6 +309,5 @@ comings-few s ports comings few each =
 
     one : (v : ℕ) (origin : Origin) → IsReadyOrigin origin → length (pairs_from v origin) ≤ 1048576 → pieces_of origin ≤ 1048576
     one v (Unsorted rows) h few = omega arith
-    one v (Ports a b blocks) h few = pair-few a.now b.now blocks h few
-    one v (Further a b blocks) h few = pair-few a b.now blocks h few
-    one v (Ended stream) h few = omega arith
+    one v (Ports a b blocks) h few = pair-few (stream_in a) b.now blocks h few
+    one v (Ended arrivals) h few = omega arith

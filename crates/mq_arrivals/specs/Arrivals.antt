@@ -9,8 +9,15 @@ use Rattle.mq_core.specs.declared.model.Input.{Input}
 use Rattle.mq_core.specs.declared.model.Node.{Node}
 use Rattle.mq_core.specs.declared.model.Rows.{Rows}
 use Rattle.mq_core.specs.declared.model.Stream.{Stream}
+use Rattle.mq_arrivals.specs.declared.nodes.Arrivals.{Arrivals}
+use Rattle.mq_arrivals.specs.declared.nodes.Arrivals.TheVariants.{Merged, Read}
 use Rattle.mq_arrivals.specs.declared.nodes.Arrived.{Arrived}
 use Rattle.mq_arrivals.specs.declared.nodes.Arriving.{Arriving}
+
+-- what came to a node, as a stream
+abbrev pub stream_in : Arrivals → Stream
+stream_in (Merged stream) = stream
+stream_in (Read stream) = stream.now
 
 -- times, each with its job
 abbrev pub Pairs : Type 0
@@ -62,6 +69,6 @@ pub record IsArriving (s : Arriving) : Type 0 where
 -- what came to one of these nodes is all that comes, by time
 pub record HasArrived (s : Arriving) (arrived : Arrived) : Type 0 where
   pub ready : Contains s.ready.now arrived.number
-  pub ordered : IsStream arrived.arrivals
+  pub ordered : IsStream (stream_in arrived.arrivals)
   pub items : (node : Node) → slice_get s.plan.now.net.nodes arrived.number ≡ Some node →
-      pairs_of arrived.arrivals ≡ by_first (arriving s.rows.now arrived.number node s.outputs.now)
+      pairs_of (stream_in arrived.arrivals) ≡ by_first (arriving s.rows.now arrived.number node s.outputs.now)

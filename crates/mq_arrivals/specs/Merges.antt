@@ -9,11 +9,11 @@ use Rattle.mq_core.specs.declared.model.Node.{Node}
 use Rattle.mq_core.specs.declared.model.Rows.{Rows}
 use Rattle.mq_core.specs.declared.model.Stream.{Stream}
 use Rattle.mq_scan.specs.declared.blocks.Blocks.{Blocks}
-use Rattle.mq_arrivals.specs.Arrivals.{Pairs, pairs_read}
+use Rattle.mq_arrivals.specs.Arrivals.{Pairs, pairs_read, stream_in}
 use Rattle.mq_arrivals.specs.declared.nodes.Arriving.{Arriving}
 use Rattle.mq_arrivals.specs.declared.merges.Coming.{Coming}
 use Rattle.mq_arrivals.specs.declared.merges.Origin.{Origin}
-use Rattle.mq_arrivals.specs.declared.merges.Origin.TheVariants.{Unsorted, Ports, Further, Ended}
+use Rattle.mq_arrivals.specs.declared.merges.Origin.TheVariants.{Unsorted, Ports, Ended}
 
 -- a node has a port with this number
 abbrev pub has_port : Node → ℕ → Bool
@@ -43,44 +43,26 @@ pub record IsPair (one other : Stream) (blocks : Blocks) : Type 0 where
 -- what comes from an origin, before it is put in order
 abbrev pub pairs_from : ℕ → Origin → Pairs
 pairs_from v (Unsorted rows) = rows_at v 0 rows.now.source rows.now.time
-pairs_from v (Ports one other blocks) = pairs_of one.now ++ pairs_of other.now
-pairs_from v (Further before next blocks) = pairs_of before ++ pairs_of next.now
-pairs_from v (Ended stream) = pairs_of stream
+pairs_from v (Ports before next blocks) = pairs_of (stream_in before) ++ pairs_of next.now
+pairs_from v (Ended arrivals) = pairs_of (stream_in arrivals)
 
 -- it can be put in order
 abbrev pub IsReadyOrigin : Origin → Type 0
 IsReadyOrigin (Unsorted rows) = (length rows.now.source ≡ length rows.now.time) × (length rows.now.time ≤ 1048576)
-IsReadyOrigin (Ports one other blocks) = IsPair one.now other.now blocks
-IsReadyOrigin (Further before next blocks) = IsPair before next.now blocks
-IsReadyOrigin (Ended stream) = IsStream stream
+IsReadyOrigin (Ports before next blocks) = IsPair (stream_in before) next.now blocks
+IsReadyOrigin (Ended arrivals) = IsStream (stream_in arrivals)
 
 -- by so many pieces
 abbrev pub pieces_of : Origin → ℕ
 pieces_of (Unsorted rows) = 1
-pieces_of (Ports one other blocks) = blocks.blocks
-pieces_of (Further before next blocks) = blocks.blocks
-pieces_of (Ended stream) = 0
+pieces_of (Ports before next blocks) = blocks.blocks
+pieces_of (Ended arrivals) = 0
 
 -- one of them: all rows of a source, or a block of the two streams merged
 abbrev pub IsSortedPiece : ℕ → Origin → ℕ → Stream → Type 0
 IsSortedPiece v (Unsorted rows) b stream = ArePairsOf (rows_at v 0 rows.now.source rows.now.time) stream
-IsSortedPiece v (Ports one other blocks) b stream = IsBlockOf (pairs_of one.now ++ pairs_of other.now) blocks b stream
-IsSortedPiece v (Further before next blocks) b stream = IsBlockOf (pairs_of before ++ pairs_of next.now) blocks b stream
-IsSortedPiece v (Ended stream) b piece = ⊥
-
--- nothing more comes
-abbrev pub IsEnded : Origin → Type 0
-IsEnded (Unsorted rows) = ⊥
-IsEnded (Ports one other blocks) = ⊥
-IsEnded (Further before next blocks) = ⊥
-IsEnded (Ended stream) = Unit {0}
-
--- this is all that came
-abbrev pub IsAllOf : Stream → Origin → Type 0
-IsAllOf stream (Unsorted rows) = ⊥
-IsAllOf stream (Ports one other blocks) = ⊥
-IsAllOf stream (Further before next blocks) = ⊥
-IsAllOf stream (Ended own) = own ≡ stream
+IsSortedPiece v (Ports before next blocks) b stream = IsBlockOf (pairs_of (stream_in before) ++ pairs_of next.now) blocks b stream
+IsSortedPiece v (Ended arrivals) b stream = ⊥
 
 -- what comes to one of these nodes by its first ports
 pub record IsComing (s : Arriving) (ports : ℕ) (coming : Coming) : Type 0 where

@@ -17,25 +17,25 @@ pub use merges::is_source;
 use mq_base::{List, OutOfMemory};
 use mq_core::{Stream, nodes_are_in_limits};
 use mq_crew::{Gate, run_parts};
-pub use nodes::{Arrived, Arriving};
+pub use nodes::{Arrivals, Arrived, Arriving};
 pub use rows::stream_of;
 use std::alloc::Global;
 use std::thread::Threads;
 
 /// What comes to each of the nodes that are ready, in some order of the nodes: the rows of a source by
 /// time, those of one time in the order of the file, or what the ports of another node read, merged by time and
-/// then port.
+/// then port. What the one port of a node reads is borrowed.
 ///
 /// The workers make a list of pieces for the rows of sources and for two ports of each other node, and one
 /// for each further port. With several workers two streams that have more items than a block are merged
 /// by blocks, between co-ranks. What comes is the same for all workers, blocks and gates. It refuses for
 /// want of memory alone.
-pub fn arrivals_of<R: Threads + Sync, G: Gate>(
+pub fn arrivals_of<'a, R: Threads + Sync, G: Gate>(
     rt: &R,
     alloc: Global,
-    arriving: &Arriving,
+    arriving: &Arriving<'a>,
     gate: &G,
-) -> Result<List<Arrived>, OutOfMemory>
+) -> Result<List<Arrived<'a>>, OutOfMemory>
     requires { IsArriving arriving.now }
     ensures len { IfOk result (λ all. length all ≡ length arriving.now.ready.now) }
     ensures each { IfOk result (λ all. AllByRecursion (HasArrived arriving.now) all) }
@@ -46,12 +46,12 @@ pub fn arrivals_of<R: Threads + Sync, G: Gate>(
 }
 
 // What came to the nodes, of its last pieces.
-fn all_arrived(
+fn all_arrived<'a>(
     alloc: Global,
-    arriving: &Arriving,
-    comings: List<Coming>,
+    arriving: &Arriving<'a>,
+    comings: List<Coming<'a>>,
     groups: List<List<Stream>>,
-) -> Result<List<Arrived>, OutOfMemory>
+) -> Result<List<Arrived<'a>>, OutOfMemory>
     requires comings { AllByRecursion (IsComing arriving.now 8) comings }
     requires groups { AreGroups (λ c. pieces_of c.origin) (λ c b stream. IsSortedPiece c.number c.origin b stream) comings groups }
     ensures len { IfOk result (λ all. length all ≡ length comings.entry) }

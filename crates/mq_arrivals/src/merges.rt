@@ -1,15 +1,17 @@
 // What comes to the nodes that are ready, in order of time: the rows of a source, or the streams that the
 // ports of another node read, merged two at a time, port after port, for all nodes side by side.
-ghost use Rattle.std.specs.Prelude.{◌≡◌, ◌+◌, ◌++◌, ◌<◌, ◌≤◌, Contains, [], length, IfOk, slice_index_or};
-ghost use Rattle.std.specs.List.{AllByRecursion};
+ghost use Rattle.std.specs.Prelude.{◌≡◌, ◌+◌, ◌++◌, ◌<◌, ◌≤◌, Contains, [], length, IfOk, Some, slice_get, slice_index_or, take};
+ghost use Rattle.std.specs.List.{AllByRecursion, flat_map};
+ghost use Rattle.mq_core.specs.Sequences.{IsStream};
 ghost use Rattle.mq_core.specs.Streams.{pairs_of};
 ghost use Rattle.mq_core.specs.Wiring.{is_source_kind};
+ghost use Rattle.mq_core.specs.declared.model.Input.{Input as TheInput};
 ghost use Rattle.mq_core.specs.declared.model.Stream.{Stream as TheStream};
 ghost use Rattle.mq_crew.specs.Crew.{AreAll, AreGroups};
-ghost use Rattle.mq_arrivals.specs.Arrivals.{IsArriving, Pairs};
-ghost use Rattle.mq_arrivals.specs.Merges.{ArePairsOf, HasCome, IsAllOf, IsBlockOf, IsComing, IsEnded, IsPair, IsReadyOrigin, IsSortedPiece, has_port, pairs_from, pieces_of};
+ghost use Rattle.mq_arrivals.specs.Arrivals.{AreOrdered, IsArriving, IsThere, Pairs, pairs_read, stream_in};
+ghost use Rattle.mq_arrivals.specs.Merges.{ArePairsOf, HasCome, IsBlockOf, IsComing, IsPair, IsReadyOrigin, IsSortedPiece, has_port, pairs_from, pieces_of};
 
-use crate::nodes::Arriving;
+use crate::nodes::{Arrivals, Arriving};
 use crate::rows::{rows_by_time, stream_of};
 use mq_base::{List, OutOfMemory};
 use mq_core::{Kind, Node, Rows, Stream};
@@ -32,12 +34,10 @@ pub struct Coming<'a> {
 pub enum Origin<'a> {
     /// The rows, some of which are those of the source.
     Unsorted(&'a Rows),
-    /// What two ports read, and how it is cut.
-    Ports(&'a Stream, &'a Stream, Blocks),
-    /// What the ports before read, merged, what the next port reads, and how both are cut.
-    Further(Stream, &'a Stream, Blocks),
-    /// What all ports read, merged.
-    Ended(Stream),
+    /// What comes by the ports before, what the next port reads, and how both are cut.
+    Ports(Arrivals<'a>, &'a Stream, Blocks),
+    /// What comes by all ports.
+    Ended(Arrivals<'a>),
 }
 
 impl<'a> Pieces for Coming<'a> {
@@ -53,7 +53,6 @@ impl<'a> Pieces for Coming<'a> {
         match &self.origin {
             Origin::Unsorted(_) => 1,
             Origin::Ports(_, _, blocks) => blocks.blocks,
-            Origin::Further(_, _, blocks) => blocks.blocks,
             Origin::Ended(_) => 0,
         }
     }
@@ -61,8 +60,9 @@ impl<'a> Pieces for Coming<'a> {
     fn piece(&self, alloc: Global, b: u32) -> Result<Stream, OutOfMemory> {
         match &self.origin {
             Origin::Unsorted(rows) => rows_by_time(alloc, self.number, &rows.source, &rows.time),
-            Origin::Ports(first, second, blocks) => merged_block(alloc, first, second, blocks, b),
-            Origin::Further(first, second, blocks) => merged_block(alloc, first, second, blocks, b),
+            Origin::Ports(before, next, blocks) => {
+                merged_block(alloc, before.stream(), next, blocks, b)
+            }
             Origin::Ended(_) => unreachable!(),
         }
     }
@@ -125,14 +125,20 @@ fn opening<'a>(alloc: Global, arriving: &Arriving<'a>, number: u32) -> Coming<'a
         let origin = Origin::Unsorted(arriving.rows);
         return Coming { number, origin };
     }
-    if !reads(node, 1) {
-        return further(arriving, number, nothing(alloc), 0);
+    further(arriving, number, by_first_port(alloc, arriving, node), 1)
+}
+
+// What comes to a node by its first port: what that reads.
+fn by_first_port<'a>(alloc: Global, arriving: &Arriving<'a>, node: &Node) -> Arrivals<'a>
+    requires ordered { AreOrdered arriving.now.outputs.now }
+    requires there { (input : TheInput) → slice_get node.now.inputs 0 ≡ Some input → IsThere arriving.now.outputs.now input }
+    ensures stream { IsStream (stream_in result) }
+    ensures items { pairs_of (stream_in result) ≡ flat_map (pairs_read arriving.now.outputs.now) (take 1 node.now.inputs) }
+{
+    if node.inputs.len() == 0 {
+        return Arrivals::Merged(nothing(alloc));
     }
-    let first = stream_of(arriving.outputs, node.inputs.get(0));
-    let second = stream_of(arriving.outputs, node.inputs.get(1));
-    let blocks = blocks_of(arriving, first, second);
-    let origin = Origin::Ports(first, second, blocks);
-    Coming { number, origin }
+    Arrivals::Read(stream_of(arriving.outputs, node.inputs.get(0)))
 }
 
 // A stream without items.
@@ -160,30 +166,25 @@ fn openings<'a>(alloc: Global, arriving: &Arriving<'a>) -> Result<List<Coming<'a
 }
 
 // What came to a node by these ports, of the pieces in their order.
-pub fn merged_of(alloc: Global, coming: Coming, group: List<Stream>) -> Result<Stream, OutOfMemory>
+pub fn merged_of<'a>(
+    alloc: Global,
+    coming: Coming<'a>,
+    group: List<Stream>,
+) -> Result<Arrivals<'a>, OutOfMemory>
     requires ready { IsReadyOrigin coming.origin }
     requires group { AreAll (IsSortedPiece coming.number coming.origin) (pieces_of coming.origin) group }
-    ensures { IfOk result (λ stream. ArePairsOf (pairs_from coming.entry.number coming.entry.origin) stream) }
+    ensures { IfOk result (λ arrivals. ArePairsOf (pairs_from coming.entry.number coming.entry.origin) (stream_in arrivals)) }
 {
-    match &coming.origin {
-        Origin::Unsorted(_) => return Ok(alone(group)),
-        Origin::Ports(_, _, blocks) => return joined(alloc, blocks, group),
-        Origin::Further(_, _, blocks) => return joined(alloc, blocks, group),
-        Origin::Ended(_) => {}
-    }
-    Ok(the_all(coming.origin))
-}
-
-// The stream to which nothing more comes.
-fn the_all(origin: Origin) -> Stream
-    requires { IsEnded origin }
-    ensures { IsAllOf result origin.entry }
-{
+    let Coming {
+        number: _number,
+        origin,
+    } = coming;
     match origin {
-        Origin::Unsorted(_rows) => unreachable!(),
-        Origin::Ports(_first, _second, _blocks) => unreachable!(),
-        Origin::Further(_before, _next, _blocks) => unreachable!(),
-        Origin::Ended(stream) => stream,
+        Origin::Unsorted(_rows) => Ok(Arrivals::Merged(alone(group))),
+        Origin::Ports(_before, _next, blocks) => {
+            Ok(Arrivals::Merged(joined(alloc, &blocks, group)?))
+        }
+        Origin::Ended(arrivals) => Ok(arrivals),
     }
 }
 
@@ -221,9 +222,14 @@ fn joined(alloc: Global, blocks: &Blocks, group: List<Stream>) -> Result<Stream,
 }
 
 // What comes to a node by one port more, where it has one, and what came before.
-fn further<'a>(arriving: &Arriving<'a>, number: u32, before: Stream, port: usize) -> Coming<'a>
+fn further<'a>(
+    arriving: &Arriving<'a>,
+    number: u32,
+    before: Arrivals<'a>,
+    port: usize,
+) -> Coming<'a>
     requires arriving { IsArriving arriving.now }
-    requires before { HasCome arriving.now number port before }
+    requires before { HasCome arriving.now number port (stream_in before) }
     ensures number { result.number ≡ number }
     ensures coming { IsComing arriving.now (port + 1) result }
 {
@@ -233,8 +239,8 @@ fn further<'a>(arriving: &Arriving<'a>, number: u32, before: Stream, port: usize
         return Coming { number, origin };
     }
     let next = stream_of(arriving.outputs, node.inputs.get(port));
-    let blocks = blocks_of(arriving, &before, next);
-    let origin = Origin::Further(before, next, blocks);
+    let blocks = blocks_of(arriving, before.stream(), next);
+    let origin = Origin::Ports(before, next, blocks);
     Coming { number, origin }
 }
 

@@ -1,4 +1,7 @@
 // The nodes that are ready, and what came to each.
+ghost use Rattle.std.specs.Prelude.{◌≡◌};
+ghost use Rattle.mq_arrivals.specs.Arrivals.{stream_in};
+
 use mq_base::List;
 use mq_core::{Plan, Rows, Stream};
 
@@ -17,11 +20,31 @@ pub struct Arriving<'a> {
     pub block: u32,
 }
 
+/// The jobs that came to a node and when, in order of time.
+#[derive(Drop)]
+pub enum Arrivals<'a> {
+    /// The rows of a source, or what several ports read, merged.
+    Merged(Stream),
+    /// What the one port of a node reads.
+    Read(&'a Stream),
+}
+
+impl<'a> Arrivals<'a> {
+    /// They, as a stream.
+    pub fn stream(&self) -> &Stream
+        ensures { result.now ≡ stream_in self.now }
+    {
+        match self {
+            Arrivals::Merged(stream) => stream,
+            Arrivals::Read(stream) => stream,
+        }
+    }
+}
+
 /// What came to a node.
 #[derive(Drop)]
-pub struct Arrived {
+pub struct Arrived<'a> {
     /// The node, by order of declaration.
     pub number: u32,
-    /// The jobs and when they came, in order of time.
-    pub arrivals: Stream,
+    pub arrivals: Arrivals<'a>,
 }

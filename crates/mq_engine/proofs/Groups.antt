@@ -11,6 +11,7 @@ use Rattle.mq_crew.specs.Crew.{AreAll, total_size}
 use Rattle.mq_crew.proofs.lemmas.Groups.{ArePassing, all-last, append-at, append-before}
 use Rattle.mq_crew.proofs.lemmas.Sizes.{total-most}
 use Rattle.mq_scan.proofs.lemmas.Blocks.{blocks-few}
+use Rattle.mq_arrivals.specs.Arrivals.{stream_in}
 use Rattle.mq_arrivals.specs.declared.nodes.Arrived.{Arrived}
 use Rattle.mq_arrivals.specs.declared.nodes.Arriving.{Arriving}
 use Rattle.mq_exits.specs.Exits.{IsReadyExit}
@@ -25,7 +26,7 @@ use Rattle.mq_engine.specs.declared.middles.Middle.{Middle}
 
 -- The loads of the nodes, with how their stations are worked out: those that are left, and what is made of the others.
 abbrev pub IsScannedAt : Arriving → Scanned → Type 0
-IsScannedAt s scanned = IsReadyScanned scanned × IsLoadOf s.plan.now s.rows.now s.ready.now scanned.load
+IsScannedAt s scanned = IsReadyScanned scanned × IsLoadOf s.plan.now s.rows.now s.ready.now scanned.held
 
 pub record AreScanning (s : Arriving) (all left : List Arrived) (scans : List Scan) (done : List Scanned) : Type 0 where
   pub fits : AllByRecursion (IsArrivedAt s) left
@@ -48,7 +49,7 @@ scanning-last s rest one scans others scan all e =
     )
 
 pub scanning-more : (s : Arriving) (all left rest : List Arrived) (one : Arrived) (scans others : List Scan) (scan : Scan) (done done' : List Scanned) (scanned : Scanned) → AreScanning s all left scans done → left ≡ rest ++ one ∷ [] → scans ≡ others ++ scan ∷ [] → done' ≡ done ++ scanned ∷ [] →
-    IsReadFor s.plan.now.net s.rows.now → 1 ≤ s.block → scanned ≡ record { load = record { plan = s.plan; rows = s.rows; number = one.number; arrivals = one.arrivals; block = s.block }; scan = scan } → AreScanning s all rest others done'
+    IsReadFor s.plan.now.net s.rows.now → 1 ≤ s.block → scanned ≡ record { held = record { plan = s.plan; rows = s.rows; number = one.number; arrivals = one.arrivals; block = s.block }; scan = scan } → AreScanning s all rest others done'
 scanning-more s all left rest one scans others scan done done' scanned was a b e read block is =
     let fits : AllByRecursion (IsArrivedAt s) (rest ++ one ∷ []) = subst (AllByRecursion (IsArrivedAt s)) a was.fits in
     let here = (Each-back (IsArrivedAt s) rest (one ∷ []) fits).0 in
@@ -77,22 +78,22 @@ abbrev pub scanned_size : Scanned → ℕ
 scanned_size s = blocks_of s.scan
 
 abbrev pub scanned_piece : Scanned → ℕ → Part → Type 0
-scanned_piece s b part = IsPart s.load.plan.now s.load.rows.now s.load.number s.load.arrivals s.scan b part
+scanned_piece s b part = IsPart s.held.plan.now s.held.rows.now s.held.number (stream_in s.held.arrivals) s.scan b part
 
 abbrev pub middle_size : Middle → ℕ
 middle_size m = applied_of m.scanned.scan
 
 abbrev pub middle_piece : Middle → ℕ → List ℕ → Type 0
-middle_piece m b times = IsApplied m.scanned.load.arrivals m.scanned.scan b times
+middle_piece m b times = IsApplied (stream_in m.scanned.held.arrivals) m.scanned.scan b times
 
 abbrev pub IsScannedOf : Wave → Scanned → Type 0
-IsScannedOf w s = IsLoadOf w.0 w.1 w.2 s.load
+IsScannedOf w s = IsLoadOf w.0 w.1 w.2 s.held
 
 abbrev pub IsMiddleOf : Wave → Middle → Type 0
-IsMiddleOf w m = IsLoadOf w.0 w.1 w.2 m.scanned.load
+IsMiddleOf w m = IsLoadOf w.0 w.1 w.2 m.scanned.held
 
 abbrev pub IsEmptiedOf : Wave → Emptied → Type 0
-IsEmptiedOf w l = IsLoadOf w.0 w.1 w.2 l.load
+IsEmptiedOf w l = IsLoadOf w.0 w.1 w.2 l.held
 
 abbrev pub AreMiddling : List Scanned → List Scanned → List (List Part) → List Middle → Type 0
 AreMiddling = ArePassing scanned_size scanned_piece IsReadyScanned IsReadyMiddle IsScannedOf IsMiddleOf
@@ -109,10 +110,10 @@ scan-few rows kind arrivals (OfSplit blocks) few h = let most = blocks-few block
 
 pub loads-few : (loads : List Scanned) → length loads ≤ 64 → AllByRecursion IsReadyScanned loads → total_size scanned_size loads < 2 ^ 32
 loads-few loads few ready =
-    let most = total-most 1048576 scanned_size loads (Each-weaker IsReadyScanned _ (λ s h. (scan-few s.load.rows.now h.1.loaded.node.kind s.load.arrivals s.scan h.1.loaded.load.few h.1.way).0) loads ready) in
+    let most = total-most 1048576 scanned_size loads (Each-weaker IsReadyScanned _ (λ s h. (scan-few s.held.rows.now h.1.loaded.node.kind (stream_in s.held.arrivals) s.scan h.1.loaded.load.few h.1.way).0) loads ready) in
     omega arith
 
 pub middles-few : (middles : List Middle) → length middles ≤ 64 → AllByRecursion IsReadyMiddle middles → total_size middle_size middles < 2 ^ 32
 middles-few middles few ready =
-    let most = total-most 1048576 middle_size middles (Each-weaker IsReadyMiddle _ (λ m h. (scan-few m.scanned.load.rows.now h.0.1.loaded.node.kind m.scanned.load.arrivals m.scanned.scan h.0.1.loaded.load.few h.0.1.way).1) middles ready) in
+    let most = total-most 1048576 middle_size middles (Each-weaker IsReadyMiddle _ (λ m h. (scan-few m.scanned.held.rows.now h.0.1.loaded.node.kind (stream_in m.scanned.held.arrivals) m.scanned.scan h.0.1.loaded.load.few h.0.1.way).1) middles ready) in
     omega arith

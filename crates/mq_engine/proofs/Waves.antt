@@ -30,7 +30,7 @@ use Rattle.mq_core.specs.declared.model.Stream.{Stream}
 use Rattle.mq_core.specs.declared.model.Visits.{Visits}
 use Rattle.mq_stations.specs.Leaving.{IsEarlyStream, IsLoad}
 use Rattle.mq_stations.proofs.lemmas.Lists.{Each-get}
-use Rattle.mq_arrivals.specs.Arrivals.{CanCome, HasArrived, IsArriving, IsThere, arriving, pairs_by, pairs_in, pairs_read}
+use Rattle.mq_arrivals.specs.Arrivals.{CanCome, HasArrived, IsArriving, IsThere, arriving, pairs_by, pairs_in, pairs_read, stream_in}
 use Rattle.mq_arrivals.specs.declared.nodes.Arrived.{Arrived}
 use Rattle.mq_arrivals.specs.declared.nodes.Arriving.{Arriving}
 use Rattle.mq_exits.specs.Loads.{IsArrived}
@@ -187,8 +187,8 @@ has-loaded laws s arrived h early all come =
         node = node;
         there = there;
         once = can.once node there;
-        came = is-arrived s.plan.now s.rows.now s.outputs.now v node arrived.arrivals can there come.ordered items;
-        load = loaded laws s.plan.now s.rows.now s.outputs.now v node arrived.arrivals h.read early can there come.ordered items;
+        came = is-arrived s.plan.now s.rows.now s.outputs.now v node (stream_in arrived.arrivals) can there come.ordered items;
+        load = loaded laws s.plan.now s.rows.now s.outputs.now v node (stream_in arrived.arrivals) h.read early can there come.ordered items;
       },
       come.ready,
     )

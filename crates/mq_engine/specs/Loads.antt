@@ -15,6 +15,7 @@ use Rattle.mq_core.specs.declared.model.Stream.{Stream}
 use Rattle.mq_stations.specs.Scans.{AreFewBlocks, AreTandemCarries, AreTandemTimes, IsForkJoinScan, IsTandemScan, IsTandemSum}
 use Rattle.mq_stations.specs.declared.tandem.TandemScan.{TandemScan}
 use Rattle.mq_scan.specs.declared.blocks.Blocks.{Blocks}
+use Rattle.mq_arrivals.specs.Arrivals.{stream_in}
 use Rattle.mq_arrivals.specs.declared.nodes.Arrived.{Arrived}
 use Rattle.mq_arrivals.specs.declared.nodes.Arriving.{Arriving}
 use Rattle.mq_exits.specs.Afters.{IsWorkedAt}
@@ -32,12 +33,12 @@ use Rattle.mq_engine.specs.declared.middles.Middle.{Middle}
 
 -- what came to one of these nodes can be worked on
 abbrev pub IsArrivedAt : Arriving → Arrived → Type 0
-IsArrivedAt s arrived = IsLoaded s.plan.now s.rows.now arrived.number arrived.arrivals × Contains s.ready.now arrived.number
+IsArrivedAt s arrived = IsLoaded s.plan.now s.rows.now arrived.number (stream_in arrived.arrivals) × Contains s.ready.now arrived.number
 
 -- what came to each of some nodes can be; they are few
 pub record IsScanning (s : Scanning) : Type 0 where
   pub few : length s.arrived.now ≤ 64
-  pub loaded : AllByRecursion (λ arrived. IsLoaded s.plan.now s.rows.now arrived.number arrived.arrivals) s.arrived.now
+  pub loaded : AllByRecursion (λ arrived. IsLoaded s.plan.now s.rows.now arrived.number (stream_in arrived.arrivals)) s.arrived.now
   pub block : 1 ≤ s.block
 
 -- a scan is that of the kind of its station; of a server it is what its arrivals ask for, of a split its blocks, 16,384 at most
@@ -54,7 +55,7 @@ IsScanAt plan rows v arrivals scan = (node : Node) → slice_get plan.net.nodes 
 
 -- so is that of the node at an index of these
 abbrev pub IsScanFor : Plan → Rows → List Arrived → ℕ → Scan → Type 0
-IsScanFor plan rows all b scan = (arrived : Arrived) → slice_get all b ≡ Some arrived → IsScanAt plan rows arrived.number arrived.arrivals scan
+IsScanFor plan rows all b scan = (arrived : Arrived) → slice_get all b ≡ Some arrived → IsScanAt plan rows arrived.number (stream_in arrived.arrivals) scan
 
 -- what comes to a node of the plan can be worked on in this way
 pub record IsScanned (plan : Plan) (rows : Rows) (v : ℕ) (arrivals : Stream) (scan : Scan) : Type 0 where
@@ -63,7 +64,7 @@ pub record IsScanned (plan : Plan) (rows : Rows) (v : ℕ) (arrivals : Stream) (
 
 -- a load and its scan that can be worked on
 abbrev pub IsReadyScanned : Scanned → Type 0
-IsReadyScanned s = IsReadFor s.load.plan.now.net s.load.rows.now × IsScanned s.load.plan.now s.load.rows.now s.load.number s.load.arrivals s.scan × (1 ≤ s.load.block)
+IsReadyScanned s = IsReadFor s.held.plan.now.net s.held.rows.now × IsScanned s.held.plan.now s.held.rows.now s.held.number (stream_in s.held.arrivals) s.scan × (1 ≤ s.held.block)
 
 -- how many first pieces a station has: one that is not scanned is one, and a server and a fork-join have none yet
 abbrev pub blocks_of : Scan → ℕ
@@ -186,4 +187,4 @@ IsApplied arrivals (OfSplit blocks) b times = ⊥
 
 -- what is known of a station in the middle of a wave
 abbrev pub IsReadyMiddle : Middle → Type 0
-IsReadyMiddle m = IsReadyScanned m.scanned × IsStage m.scanned.load.plan.now m.scanned.load.rows.now m.scanned.load.number m.scanned.load.arrivals m.scanned.scan m.stage
+IsReadyMiddle m = IsReadyScanned m.scanned × IsStage m.scanned.held.plan.now m.scanned.held.rows.now m.scanned.held.number (stream_in m.scanned.held.arrivals) m.scanned.scan m.stage

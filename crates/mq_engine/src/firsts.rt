@@ -1,6 +1,7 @@
 // The first pieces of the stations that are ready: summaries of blocks, and whole stations.
-ghost use Rattle.std.specs.Prelude.{◌≡◌, ◌<◌, ℕ, List as Items, length, map, IfOk, slice_index_or};
+ghost use Rattle.std.specs.Prelude.{◌≡◌, ◌<◌, ◌≤◌, ℕ, List as Items, length, map, IfOk, slice_index_or};
 ghost use Rattle.mq_crew.specs.Crew.{AreAll};
+ghost use Rattle.mq_arrivals.specs.Arrivals.{stream_in};
 ghost use Rattle.mq_engine.specs.Loads.{IsPart, IsReadyScanned, IsRouted, IsScanned, IsStage, IsTandemPart, IsWhole, blocks_of};
 ghost use Rattle.mq_stations.specs.Scans.{IsTandemSum};
 ghost use Rattle.mq_maxplus.specs.declared.mp.Mp.{Mp as TheMp};
@@ -48,7 +49,7 @@ impl<'a> Pieces for Scanned<'a> {
 
     ghost size = { λ s. blocks_of s.scan };
 
-    ghost is_piece = { λ s b part. IsPart s.load.plan.now s.load.rows.now s.load.number s.load.arrivals s.scan b part };
+    ghost is_piece = { λ s b part. IsPart s.held.plan.now s.held.rows.now s.held.number (stream_in s.held.arrivals) s.scan b part };
 
     fn count(&self) -> u32 {
         match &self.scan {
@@ -60,15 +61,25 @@ impl<'a> Pieces for Scanned<'a> {
     }
 
     fn piece(&self, alloc: Global, b: u32) -> Result<Part, OutOfMemory> {
-        match &self.scan {
-            Scan::Unscanned => Ok(Part::Whole(station_whole(alloc, &self.load)?)),
-            Scan::OfTandem(scan) => {
-                let sum = tandem_sum(&self.load.arrivals, scan, b);
-                Ok(Part::Product(Box::new(alloc, sum)?))
-            }
-            Scan::OfSplit(blocks) => Ok(Part::Routed(routed(alloc, &self.load, blocks, b)?)),
-            Scan::OfServer(_) | Scan::OfForkJoin(_) => unreachable!(),
+        part_of(alloc, &self.held.load(), &self.scan, b)
+    }
+}
+
+// A first piece of a station.
+fn part_of(alloc: Global, load: &Load, scan: &Scan, b: u32) -> Result<Part, OutOfMemory>
+    requires scanned { IsScanned load.now.plan.now load.now.rows.now load.now.number load.now.arrivals.now scan.now }
+    requires block { 1 ≤ load.now.block }
+    requires inside { b < blocks_of scan.now }
+    ensures { IfOk result (λ part. IsPart load.now.plan.now load.now.rows.now load.now.number load.now.arrivals.now scan.now b part) }
+{
+    match scan {
+        Scan::Unscanned => Ok(Part::Whole(station_whole(alloc, load)?)),
+        Scan::OfTandem(scan) => {
+            let sum = tandem_sum(load.arrivals, scan, b);
+            Ok(Part::Product(Box::new(alloc, sum)?))
         }
+        Scan::OfSplit(blocks) => Ok(Part::Routed(routed(alloc, load, blocks, b)?)),
+        Scan::OfServer(_) | Scan::OfForkJoin(_) => unreachable!(),
     }
 }
 
@@ -79,15 +90,15 @@ pub fn stage_of(
     scan: &Scan,
     group: List<Part>,
 ) -> Result<Stage, OutOfMemory>
-    requires scanned { IsScanned load.now.plan.now load.now.rows.now load.now.number load.now.arrivals scan.now }
-    requires group { AreAll (IsPart load.now.plan.now load.now.rows.now load.now.number load.now.arrivals scan.now) (blocks_of scan.now) group }
-    ensures { IfOk result (λ stage. IsStage load.now.plan.now load.now.rows.now load.now.number load.now.arrivals scan.now stage) }
+    requires scanned { IsScanned load.now.plan.now load.now.rows.now load.now.number load.now.arrivals.now scan.now }
+    requires group { AreAll (IsPart load.now.plan.now load.now.rows.now load.now.number load.now.arrivals.now scan.now) (blocks_of scan.now) group }
+    ensures { IfOk result (λ stage. IsStage load.now.plan.now load.now.rows.now load.now.number load.now.arrivals.now scan.now stage) }
 {
     match scan {
         Scan::Unscanned => Ok(Stage::Ended(the_whole(group))),
         Scan::OfTandem(scan) => {
-            let sums = tandem_sums(alloc, &load.arrivals, scan, &group)?;
-            let carries = tandem_carries(alloc, &load.arrivals, scan, &sums)?;
+            let sums = tandem_sums(alloc, load.arrivals, scan, &group)?;
+            let carries = tandem_carries(alloc, load.arrivals, scan, &sums)?;
             Ok(Stage::Latest(carries))
         }
         Scan::OfSplit(_) => {

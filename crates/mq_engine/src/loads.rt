@@ -13,7 +13,7 @@ use mq_arrivals::{Arrived, Arriving, arrivals_of};
 use mq_base::{List, OutOfMemory};
 use mq_core::{Kind, Plan, Rows, Stream};
 use mq_crew::{Gate, Pieces, made};
-use mq_exits::Load;
+use mq_exits::Held;
 use mq_scan::Blocks;
 use mq_stations::{ForkJoinScan, TandemScan, demands_of, forkjoin_scan, split_blocks, tandem_scan};
 use std::alloc::Global;
@@ -22,7 +22,7 @@ use std::thread::Threads;
 /// What comes to a node, and how its station is worked out.
 #[derive(Drop)]
 pub struct Scanned<'a> {
-    pub load: Load<'a>,
+    pub held: Held<'a>,
     pub scan: Scan,
 }
 
@@ -46,7 +46,7 @@ pub enum Scan {
 pub struct Scanning<'a> {
     pub plan: &'a Plan,
     pub rows: &'a Rows,
-    pub arrived: &'a [Arrived],
+    pub arrived: &'a [Arrived<'a>],
     pub workers: u32,
     pub block: u32,
 }
@@ -71,7 +71,7 @@ impl<'a> Pieces for Scanning<'a> {
             alloc,
             self.rows,
             kind,
-            &one.arrivals,
+            one.arrivals.stream(),
             self.workers,
             self.block,
         )
@@ -91,7 +91,7 @@ pub fn loads_of<'a, R: Threads + Sync, G: Gate>(
     requires can { CanWorkAll arriving.now.plan.now arriving.now.rows.now arriving.now.outputs.now arriving.now.ready.now }
     ensures len { IfOk result (λ loads. length loads ≡ length arriving.now.ready.now) }
     ensures ready { IfOk result (λ loads. AllByRecursion IsReadyScanned loads) }
-    ensures of { IfOk result (λ loads. AllByRecursion (λ s. IsLoadOf arriving.now.plan.now arriving.now.rows.now arriving.now.ready.now s.load) loads) }
+    ensures of { IfOk result (λ loads. AllByRecursion (λ s. IsLoadOf arriving.now.plan.now arriving.now.rows.now arriving.now.ready.now s.held) loads) }
 {
     core_laws();
     let arrived = arrivals_of(rt, alloc, arriving, gate)?;
@@ -110,15 +110,15 @@ pub fn loads_of<'a, R: Threads + Sync, G: Gate>(
 fn all_scanned<'a>(
     alloc: Global,
     arriving: &Arriving<'a>,
-    arrived: List<Arrived>,
+    arrived: List<Arrived<'a>>,
     scans: List<Scan>,
 ) -> Result<List<Scanned<'a>>, OutOfMemory>
     requires arriving { IsArriving arriving.now }
     requires arrived { AllByRecursion (IsArrivedAt arriving.now) arrived }
     requires scans { AreAll (IsScanFor arriving.now.plan.now arriving.now.rows.now arrived) (length arrived) scans }
-    ensures len { IfOk result (λ loads. length loads ≡ length arrived) }
+    ensures len { IfOk result (λ loads. length loads ≡ length arrived.entry) }
     ensures ready { IfOk result (λ loads. AllByRecursion IsReadyScanned loads) }
-    ensures of { IfOk result (λ loads. AllByRecursion (λ s. IsLoadOf arriving.now.plan.now arriving.now.rows.now arriving.now.ready.now s.load) loads) }
+    ensures of { IfOk result (λ loads. AllByRecursion (λ s. IsLoadOf arriving.now.plan.now arriving.now.rows.now arriving.now.ready.now s.held) loads) }
 {
     let mut arrived = arrived.into_vec();
     let mut scans = scans.into_vec();
@@ -127,14 +127,14 @@ fn all_scanned<'a>(
         let Some(scan) = scans.pop() else {
             unreachable!()
         };
-        let load = Load {
+        let held = Held {
             plan: arriving.plan,
             rows: arriving.rows,
             number: one.number,
             arrivals: one.arrivals,
             block: arriving.block,
         };
-        loads.push(Scanned { load, scan })?;
+        loads.push(Scanned { held, scan })?;
     }
     Ok(loads)
 }

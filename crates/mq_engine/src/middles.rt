@@ -1,8 +1,9 @@
 // The further pieces of the stations that are scanned: their blocks, applied.
-ghost use Rattle.std.specs.Prelude.{◌≡◌, ◌≤◌, IfOk};
+ghost use Rattle.std.specs.Prelude.{◌≡◌, ◌<◌, ◌≤◌, IfOk};
 ghost use Rattle.mq_core.specs.Recurrences.{lindley};
 ghost use Rattle.mq_core.specs.Sequences.{IsSoundLoad};
 ghost use Rattle.mq_crew.specs.Crew.{AreAll};
+ghost use Rattle.mq_arrivals.specs.Arrivals.{stream_in};
 ghost use Rattle.mq_exits.specs.Exits.{IsExit};
 ghost use Rattle.mq_engine.specs.Loads.{IsAll, IsApplied, IsLatest, IsParted, IsReadyMiddle, IsScanned, IsStage, applied_of};
 ghost use Rattle.mq_engine.specs.declared.firsts.Stage.TheVariants.{Ended, Parted};
@@ -35,7 +36,7 @@ impl<'a> Pieces for Middle<'a> {
 
     ghost size = { λ s. applied_of s.scanned.scan };
 
-    ghost is_piece = { λ s b times. IsApplied s.scanned.load.arrivals s.scanned.scan b times };
+    ghost is_piece = { λ s b times. IsApplied (stream_in s.scanned.held.arrivals) s.scanned.scan b times };
 
     fn count(&self) -> u32 {
         match &self.scanned.scan {
@@ -45,12 +46,28 @@ impl<'a> Pieces for Middle<'a> {
     }
 
     fn piece(&self, alloc: Global, b: u32) -> Result<List<u64>, OutOfMemory> {
-        let arrivals = &self.scanned.load.arrivals;
-        match &self.scanned.scan {
-            Scan::OfTandem(scan) => tandem_times(alloc, arrivals, scan, latest_of(&self.stage), b),
-            Scan::Unscanned | Scan::OfServer(_) | Scan::OfForkJoin(_) | Scan::OfSplit(_) => {
-                unreachable!()
-            }
+        let load = self.scanned.held.load();
+        applied(alloc, &load, &self.scanned.scan, &self.stage, b)
+    }
+}
+
+// When the jobs of a block depart.
+fn applied(
+    alloc: Global,
+    load: &Load,
+    scan: &Scan,
+    stage: &Stage,
+    b: u32,
+) -> Result<List<u64>, OutOfMemory>
+    requires scanned { IsScanned load.now.plan.now load.now.rows.now load.now.number load.now.arrivals.now scan.now }
+    requires stage { IsStage load.now.plan.now load.now.rows.now load.now.number load.now.arrivals.now scan.now stage.now }
+    requires inside { b < applied_of scan.now }
+    ensures { IfOk result (λ times. IsApplied load.now.arrivals.now scan.now b times) }
+{
+    match scan {
+        Scan::OfTandem(scan) => tandem_times(alloc, load.arrivals, scan, latest_of(stage), b),
+        Scan::Unscanned | Scan::OfServer(_) | Scan::OfForkJoin(_) | Scan::OfSplit(_) => {
+            unreachable!()
         }
     }
 }
@@ -100,13 +117,13 @@ pub fn exit_of<R: Threads + Sync, G: Gate>(
     group: &List<List<u64>>,
     gate: &G,
 ) -> Result<Exit, OutOfMemory>
-    requires scanned { IsScanned load.now.plan.now load.now.rows.now load.now.number load.now.arrivals scan.now }
-    requires stage { IsStage load.now.plan.now load.now.rows.now load.now.number load.now.arrivals scan.now stage }
-    requires group { AreAll (IsApplied load.now.arrivals scan.now) (applied_of scan.now) group.now }
+    requires scanned { IsScanned load.now.plan.now load.now.rows.now load.now.number load.now.arrivals.now scan.now }
+    requires stage { IsStage load.now.plan.now load.now.rows.now load.now.number load.now.arrivals.now scan.now stage }
+    requires group { AreAll (IsApplied load.now.arrivals.now scan.now) (applied_of scan.now) group.now }
     requires some { 1 ≤ workers }
     requires most { workers ≤ 64 }
     requires block { 1 ≤ load.now.block }
-    ensures { IfOk result (λ exit. IsExit load.now.plan.now load.now.rows.now load.now.number load.now.arrivals exit) }
+    ensures { IfOk result (λ exit. IsExit load.now.plan.now load.now.rows.now load.now.number load.now.arrivals.now exit) }
 {
     match scan {
         Scan::Unscanned => left_by(rt, alloc, workers, load, the_end(stage)),
@@ -116,18 +133,18 @@ pub fn exit_of<R: Threads + Sync, G: Gate>(
                 alloc,
                 workers,
                 load.block,
-                &load.arrivals,
+                load.arrivals,
                 demands,
                 gate,
             )?;
             Ok(Exit::Served(departs))
         }
         Scan::OfTandem(scan) => {
-            let departs = tandem_joined(alloc, &load.arrivals, scan, group)?;
+            let departs = tandem_joined(alloc, load.arrivals, scan, group)?;
             Ok(Exit::Served(departs))
         }
         Scan::OfForkJoin(scan) => {
-            let departs = forkjoin_departures(rt, alloc, workers, &load.arrivals, scan, gate)?;
+            let departs = forkjoin_departures(rt, alloc, workers, load.arrivals, scan, gate)?;
             Ok(Exit::Served(departs))
         }
         Scan::OfSplit(_) => Ok(Exit::Passed(the_parts(stage))),

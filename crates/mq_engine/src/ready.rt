@@ -4,7 +4,7 @@ ghost use Rattle.std.specs.List.{AllByRecursion};
 ghost use Rattle.mq_crew.specs.Crew.{AreGroups};
 ghost use Rattle.mq_core.specs.declared.model.Plan.{Plan as ThePlan};
 ghost use Rattle.mq_core.specs.declared.model.Rows.{Rows as TheRows};
-ghost use Rattle.mq_arrivals.specs.Arrivals.{IsArriving};
+ghost use Rattle.mq_arrivals.specs.Arrivals.{IsArriving, stream_in};
 ghost use Rattle.mq_exits.specs.Exits.{IsReadyExit};
 ghost use Rattle.mq_exits.specs.Loads.{IsLoadOf};
 ghost use Rattle.mq_exits.specs.Results.{IsResultOf};
@@ -17,7 +17,7 @@ use crate::middles::{Middle, exit_of};
 use mq_arrivals::Arriving;
 use mq_base::{List, OutOfMemory};
 use mq_crew::{Gate, run_parts};
-use mq_exits::{Emptied, Load, NodeResult, station_results};
+use mq_exits::{Emptied, Held, NodeResult, station_results};
 use std::alloc::Global;
 use std::thread::Threads;
 
@@ -53,10 +53,10 @@ fn middles_of<'a>(
     groups: List<List<Part>>,
 ) -> Result<List<Middle<'a>>, OutOfMemory>
     requires ready { AllByRecursion IsReadyScanned loads }
-    requires groups { AreGroups (λ s. blocks_of s.scan) (λ s b part. IsPart s.load.plan.now s.load.rows.now s.load.number s.load.arrivals s.scan b part) loads groups }
+    requires groups { AreGroups (λ s. blocks_of s.scan) (λ s b part. IsPart s.held.plan.now s.held.rows.now s.held.number (stream_in s.held.arrivals) s.scan b part) loads groups }
     ensures len { IfOk result (λ middles. length middles ≡ length loads.entry) }
     ensures ready { IfOk result (λ middles. AllByRecursion IsReadyMiddle middles) }
-    ensures of { IfOk result (λ middles. (plan : ThePlan) (rows : TheRows) (ready : Items ℕ) → AllByRecursion (λ s. IsLoadOf plan rows ready s.load) loads.entry → AllByRecursion (λ m. IsLoadOf plan rows ready m.scanned.load) middles) }
+    ensures of { IfOk result (λ middles. (plan : ThePlan) (rows : TheRows) (ready : Items ℕ) → AllByRecursion (λ s. IsLoadOf plan rows ready s.held) loads.entry → AllByRecursion (λ m. IsLoadOf plan rows ready m.scanned.held) middles) }
 {
     let mut loads = loads.into_vec();
     let mut groups = groups.into_vec();
@@ -65,7 +65,7 @@ fn middles_of<'a>(
         let Some(group) = groups.pop() else {
             unreachable!()
         };
-        let stage = stage_of(alloc, &scanned.load, &scanned.scan, group)?;
+        let stage = stage_of(alloc, &scanned.held.load(), &scanned.scan, group)?;
         middles.push(Middle { scanned, stage })?;
     }
     Ok(middles)
@@ -81,12 +81,12 @@ fn all_emptied<'a, R: Threads + Sync, G: Gate>(
     gate: &G,
 ) -> Result<List<Emptied<'a>>, OutOfMemory>
     requires ready { AllByRecursion IsReadyMiddle middles }
-    requires groups { AreGroups (λ m. applied_of m.scanned.scan) (λ m b times. IsApplied m.scanned.load.arrivals m.scanned.scan b times) middles groups }
+    requires groups { AreGroups (λ m. applied_of m.scanned.scan) (λ m b times. IsApplied (stream_in m.scanned.held.arrivals) m.scanned.scan b times) middles groups }
     requires some { 1 ≤ workers }
     requires most { workers ≤ 64 }
     ensures len { IfOk result (λ those_emptied. length those_emptied ≡ length middles.entry) }
     ensures ready { IfOk result (λ those_emptied. AllByRecursion IsReadyExit those_emptied) }
-    ensures of { IfOk result (λ those_emptied. (plan : ThePlan) (rows : TheRows) (ready : Items ℕ) → AllByRecursion (λ m. IsLoadOf plan rows ready m.scanned.load) middles.entry → AllByRecursion (λ l. IsLoadOf plan rows ready l.load) those_emptied) }
+    ensures of { IfOk result (λ those_emptied. (plan : ThePlan) (rows : TheRows) (ready : Items ℕ) → AllByRecursion (λ m. IsLoadOf plan rows ready m.scanned.held) middles.entry → AllByRecursion (λ l. IsLoadOf plan rows ready l.held) those_emptied) }
 {
     let mut middles = middles.into_vec();
     let mut groups = groups.into_vec();
@@ -96,18 +96,18 @@ fn all_emptied<'a, R: Threads + Sync, G: Gate>(
             unreachable!()
         };
         let Middle { scanned, stage } = middle;
-        let (load, scan) = (&scanned.load, &scanned.scan);
-        let exit = exit_of(rt, alloc, workers, load, scan, stage, &group, gate)?;
-        let load = load_alone(scanned);
-        those_emptied.push(Emptied { load, exit })?;
+        let (load, scan) = (scanned.held.load(), &scanned.scan);
+        let exit = exit_of(rt, alloc, workers, &load, scan, stage, &group, gate)?;
+        let held = held_alone(scanned);
+        those_emptied.push(Emptied { held, exit })?;
     }
     Ok(those_emptied)
 }
 
 // What came to a station: its scan, which is large, is let go, since no last piece looks at it.
-fn load_alone<'a>(scanned: Scanned<'a>) -> Load<'a>
-    ensures { result ≡ scanned.entry.load }
+fn held_alone<'a>(scanned: Scanned<'a>) -> Held<'a>
+    ensures { result ≡ scanned.entry.held }
 {
-    let Scanned { load, scan: _scan } = scanned;
-    load
+    let Scanned { held, scan: _scan } = scanned;
+    held
 }

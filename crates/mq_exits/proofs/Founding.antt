@@ -5,7 +5,7 @@ use Rattle.mq_core.specs.declared.model.Fate.TheVariants.{Departs}
 use Rattle.mq_core.specs.declared.model.Stream.{Stream}
 use Rattle.mq_exits.specs.Exits.{IsCounted, IsDelayPiece, IsFound, founds_by}
 use Rattle.mq_exits.specs.declared.exits.Closed.{Closed}
-use Rattle.mq_exits.specs.declared.exits.Closed.TheVariants.{Departures, Found, Jobs, Over, Times}
+use Rattle.mq_exits.specs.declared.exits.Closed.TheVariants.{Came, Departures, Found, Jobs, Over, Times}
 use Rattle.mq_exits.specs.declared.overtaking.Overtaken.{Overtaken}
 use Rattle.mq_exits.proofs.Closings.{founds-length}
 use Rattle.mq_scan.proofs.lemmas.Blocks.{behind-end, end_of}
@@ -22,3 +22,4 @@ tells-found arrivals overtaken b (Over fault) h = h
 tells-found arrivals overtaken b (Found found) h = tt
 tells-found arrivals overtaken b (Jobs jobs) h = h
 tells-found arrivals overtaken b (Departures times) h = h
+tells-found arrivals overtaken b (Came times) h = h

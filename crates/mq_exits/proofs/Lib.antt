@@ -7,4 +7,5 @@ pub mod Opening
 pub mod DelayOrder
 pub mod SplitBlocks
 pub mod Founding
+pub mod Lasts
 pub mod Emptying

@@ -1,5 +1,5 @@
 -- What is known of a station when all its jobs have left, and its last pieces.
-use Rattle.std.specs.Prelude.{◌≡◌, ◌+◌, ◌*◌, ℕ, List, [], ◌∷◌, length, map, min, Some, None, slice_get}
+use Rattle.std.specs.Prelude.{◌≡◌, ◌+◌, ◌*◌, ◌<◌, ℕ, List, [], ◌∷◌, length, map, min, Some, None, slice_get}
 use Rattle.mq_base.specs.Lists.{between}
 use Rattle.mq_core.specs.Came.{came_in}
 use Rattle.mq_core.specs.OnceOut.{founds_of}
@@ -15,11 +15,14 @@ use Rattle.mq_scan.specs.declared.blocks.Blocks.{Blocks}
 use Rattle.mq_stats.specs.Ahead.{IsAhead}
 use Rattle.mq_stations.specs.Late.{late_told}
 use Rattle.mq_stations.specs.Scans.{AreFewBlocks}
+use Rattle.mq_arrivals.specs.Arrivals.{stream_in}
+use Rattle.mq_arrivals.specs.declared.nodes.Arrivals.{Arrivals}
+use Rattle.mq_arrivals.specs.declared.nodes.Arrivals.TheVariants.{Merged, Read}
 use Rattle.mq_exits.specs.Afters.{AreOnTime, IsAfterAt, IsServed}
 use Rattle.mq_exits.specs.Loads.{IsReadyLoad}
 use Rattle.mq_exits.specs.Splits.{AreSplitStreams}
 use Rattle.mq_exits.specs.declared.exits.Closed.{Closed}
-use Rattle.mq_exits.specs.declared.exits.Closed.TheVariants.{Departures, Found, Jobs, Over, Times}
+use Rattle.mq_exits.specs.declared.exits.Closed.TheVariants.{Came, Departures, Found, Jobs, Over, Times}
 use Rattle.mq_exits.specs.declared.exits.Emptied.{Emptied}
 use Rattle.mq_exits.specs.declared.exits.Exit.{Exit}
 use Rattle.mq_exits.specs.declared.exits.Exit.TheVariants.{Known, Passed, Sent, Served, Sorted}
@@ -47,7 +50,7 @@ IsExit plan rows v arrivals (Sorted overtaken) = IsOvertaken plan rows v arrival
 IsExit plan rows v arrivals (Passed streams) = AreSplitStreams plan rows v arrivals streams
 IsExit plan rows v arrivals Sent = IsServed plan rows v arrivals arrivals.time
 
--- how many last pieces a station has
+-- how many last pieces a station has by what is known of it
 abbrev pub closings_of : Exit → ℕ
 closings_of (Known after) = 0
 closings_of (Served departs) = 3
@@ -66,6 +69,7 @@ IsShut plan rows v arrivals departs b (Over fault) =
 IsShut plan rows v arrivals departs b (Found found) = (b ≡ 1) × (found ≡ founds_of arrivals.time (map (λ time. Departs time) departs))
 IsShut plan rows v arrivals departs b (Jobs jobs) = (b ≡ 2) × (jobs ≡ arrivals.job)
 IsShut plan rows v arrivals departs b (Departures times) = (b ≡ 3) × (times ≡ departs)
+IsShut plan rows v arrivals departs b (Came times) = ⊥
 
 -- what each of these arrivals found, where they depart at these times
 abbrev pub founds_by : Stream → List ℕ → List ℕ
@@ -82,6 +86,7 @@ IsDelayPiece arrivals overtaken b (Over fault) = ⊥
 IsDelayPiece arrivals overtaken b (Found found) = IsFoundBlock (founds_by arrivals overtaken.departs) overtaken.blocks b found
 IsDelayPiece arrivals overtaken b (Jobs jobs) = ⊥
 IsDelayPiece arrivals overtaken b (Departures times) = ⊥
+IsDelayPiece arrivals overtaken b (Came times) = ⊥
 
 -- a last piece that tells how many visits found
 abbrev pub IsFound : Closed → Type 0
@@ -90,6 +95,7 @@ IsFound (Over fault) = ⊥
 IsFound (Found found) = Unit {0}
 IsFound (Jobs jobs) = ⊥
 IsFound (Departures times) = ⊥
+IsFound (Came times) = ⊥
 
 abbrev pub IsClosed : Plan → Rows → ℕ → Stream → Exit → ℕ → Closed → Type 0
 IsClosed plan rows v arrivals (Known after) b closed = ⊥
@@ -98,6 +104,29 @@ IsClosed plan rows v arrivals (Sorted overtaken) b closed = IsDelayPiece arrival
 IsClosed plan rows v arrivals (Passed streams) b closed = IsShut plan rows v arrivals arrivals.time b closed
 IsClosed plan rows v arrivals Sent b closed = IsShut plan rows v arrivals arrivals.time b closed
 
+-- how many last pieces copy what came: the visits need jobs and times of their own where it was only read
+abbrev pub copies_of : Arrivals → ℕ
+copies_of (Merged stream) = 0
+copies_of (Read stream) = 2
+
+-- one of them: the jobs, or when they came
+abbrev pub IsCopy : Stream → ℕ → Closed → Type 0
+IsCopy arrivals k (Times times) = ⊥
+IsCopy arrivals k (Over fault) = ⊥
+IsCopy arrivals k (Found found) = ⊥
+IsCopy arrivals k (Jobs jobs) = (k ≡ 0) × (jobs ≡ arrivals.job)
+IsCopy arrivals k (Departures times) = ⊥
+IsCopy arrivals k (Came times) = (k ≡ 1) × (times ≡ arrivals.time)
+
+-- how many last pieces a station has
+abbrev pub lasts_of : Arrivals → Exit → ℕ
+lasts_of arrivals exit = closings_of exit + copies_of arrivals
+
+-- one of them: the copies stand behind the others
+pub record IsLast (plan : Plan) (rows : Rows) (v : ℕ) (arrivals : Arrivals) (exit : Exit) (b : ℕ) (closed : Closed) : Type 0 where
+  pub own : b < closings_of exit → IsClosed plan rows v (stream_in arrivals) exit b closed
+  pub copy : (k : ℕ) → b ≡ closings_of exit + k → IsCopy (stream_in arrivals) k closed
+
 -- what is known of a station near the end of a wave
 abbrev pub IsReadyExit : Emptied → Type 0
-IsReadyExit l = IsReadyLoad l.load × IsExit l.load.plan.now l.load.rows.now l.load.number l.load.arrivals l.exit
+IsReadyExit l = IsReadyLoad l.held × IsExit l.held.plan.now l.held.rows.now l.held.number (stream_in l.held.arrivals) l.exit

@@ -8,6 +8,8 @@ use Rattle.mq_core.specs.declared.model.Plan.{Plan}
 use Rattle.mq_core.specs.declared.model.Rows.{Rows}
 use Rattle.mq_core.specs.declared.model.Stream.{Stream}
 use Rattle.mq_stations.specs.Leaving.{IsLoad}
+use Rattle.mq_arrivals.specs.Arrivals.{stream_in}
+use Rattle.mq_exits.specs.declared.load.Held.{Held}
 use Rattle.mq_exits.specs.declared.load.Load.{Load}
 
 -- the arrivals are those of the run
@@ -23,10 +25,20 @@ pub record IsLoaded (plan : Plan) (rows : Rows) (v : ℕ) (arrivals : Stream) : 
   pub came : IsArrived plan rows v arrivals
   pub load : IsLoad rows node.kind arrivals
 
+-- what a load tells: a plan, rows, a node, and what comes to it
+abbrev pub Told : Type 0
+Told = Plan × Rows × ℕ × Stream
+
+abbrev pub told_of : Load → Told
+told_of load = (load.plan.now, load.rows.now, load.number, load.arrivals.now)
+
+abbrev pub told_by : Held → Told
+told_by held = (held.plan.now, held.rows.now, held.number, stream_in held.arrivals)
+
 -- a load that can be worked on
-abbrev pub IsReadyLoad : Load → Type 0
-IsReadyLoad load = IsReadFor load.plan.now.net load.rows.now × IsLoaded load.plan.now load.rows.now load.number load.arrivals × (1 ≤ load.block)
+abbrev pub IsReadyLoad : Held → Type 0
+IsReadyLoad held = IsReadFor held.plan.now.net held.rows.now × IsLoaded held.plan.now held.rows.now held.number (stream_in held.arrivals) × (1 ≤ held.block)
 
 -- the load of one of these nodes
-abbrev pub IsLoadOf : Plan → Rows → List ℕ → Load → Type 0
-IsLoadOf plan rows ready load = (load.plan.now ≡ plan) × (load.rows.now ≡ rows) × Contains ready load.number
+abbrev pub IsLoadOf : Plan → Rows → List ℕ → Held → Type 0
+IsLoadOf plan rows ready held = (held.plan.now ≡ plan) × (held.rows.now ≡ rows) × Contains ready held.number

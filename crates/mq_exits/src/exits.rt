@@ -5,13 +5,14 @@ ghost use Rattle.mq_core.specs.OnceOut.{founds_of};
 ghost use Rattle.mq_core.specs.declared.model.Fate.TheVariants.{Departs};
 ghost use Rattle.mq_crew.specs.Crew.{AreAll};
 ghost use Rattle.mq_exits.specs.Afters.{AllDepartAt, IsAfterAt, IsServed};
-ghost use Rattle.mq_exits.specs.Exits.{IsClosed, IsExit, IsReadyExit, IsShut, closings_of};
+ghost use Rattle.mq_exits.specs.Exits.{IsClosed, IsExit, IsLast, IsReadyExit, IsShut, closings_of, lasts_of};
 ghost use Rattle.mq_exits.specs.Loads.{IsLoaded};
 ghost use Rattle.mq_exits.specs.Results.{IsWorkedOut};
 
+use crate::copies::{copies, copy_of, taken};
 use crate::founds::{after_delay, delay_piece};
 use crate::laws::node_laws;
-use crate::load::Load;
+use crate::load::{Held, Load};
 use crate::overtaking::Overtaken;
 use crate::splitting::{passed, passed_of};
 use crate::working::{After, NodeResult, ending_of, found_by_position, nobody};
@@ -39,7 +40,7 @@ pub enum Exit {
 /// A station whose departures are known.
 #[derive(Drop)]
 pub struct Emptied<'a> {
-    pub load: Load<'a>,
+    pub held: Held<'a>,
     pub exit: Exit,
 }
 
@@ -53,10 +54,12 @@ pub enum Closed {
     Over(PastFault),
     /// How many each found, or each of a block.
     Found(List<u32>),
-    /// The jobs, which leave in their order.
+    /// The jobs, which leave in their order, or which is kept of the visits.
     Jobs(List<u32>),
     /// When the jobs depart, by position, which is kept of the visits.
     Departures(List<u64>),
+    /// When they came, by position, which is kept of the visits.
+    Came(List<u64>),
 }
 
 impl<'a> Pieces for Emptied<'a> {
@@ -64,28 +67,50 @@ impl<'a> Pieces for Emptied<'a> {
 
     ghost fit = { IsReadyExit };
 
-    ghost size = { λ s. closings_of s.exit };
+    ghost size = { λ s. lasts_of s.held.arrivals s.exit };
 
-    ghost is_piece = { λ s b closed. IsClosed s.load.plan.now s.load.rows.now s.load.number s.load.arrivals s.exit b closed };
+    ghost is_piece = { λ s b closed. IsLast s.held.plan.now s.held.rows.now s.held.number s.held.arrivals s.exit b closed };
 
     fn count(&self) -> u32 {
-        match &self.exit {
-            Exit::Known(_) => 0,
-            Exit::Served(_) => 3,
-            Exit::Sorted(overtaken) => overtaken.blocks.blocks,
-            Exit::Passed(_) => 2,
-            Exit::Sent => 4,
-        }
+        closings(&self.exit) + copies(&self.held.arrivals)
     }
 
     fn piece(&self, alloc: Global, b: u32) -> Result<Closed, OutOfMemory> {
-        match &self.exit {
-            Exit::Served(departs) => closing_of(alloc, &self.load, departs, b),
-            Exit::Sorted(overtaken) => delay_piece(alloc, &self.load.arrivals, overtaken, b),
-            Exit::Passed(_) => passed_of(alloc, &self.load, b),
-            Exit::Sent => sent_piece(alloc, &self.load, b),
-            Exit::Known(_) => unreachable!(),
+        let load = self.held.load();
+        let own = closings(&self.exit);
+        if b < own {
+            return closed_of(alloc, &load, &self.exit, b);
         }
+        copy_of(alloc, load.arrivals, b - own)
+    }
+}
+
+// How many last pieces a station has by what is known of it.
+fn closings(exit: &Exit) -> u32
+    ensures { result ≡ closings_of exit.now }
+{
+    match exit {
+        Exit::Known(_) => 0,
+        Exit::Served(_) => 3,
+        Exit::Sorted(overtaken) => overtaken.blocks.blocks,
+        Exit::Passed(_) => 2,
+        Exit::Sent => 4,
+    }
+}
+
+// One of them.
+fn closed_of(alloc: Global, load: &Load, exit: &Exit, b: u32) -> Result<Closed, OutOfMemory>
+    requires loaded { IsLoaded load.now.plan.now load.now.rows.now load.now.number load.now.arrivals.now }
+    requires exit { IsExit load.now.plan.now load.now.rows.now load.now.number load.now.arrivals.now exit.now }
+    requires inside { b < closings_of exit.now }
+    ensures { IfOk result (λ closed. IsClosed load.now.plan.now load.now.rows.now load.now.number load.now.arrivals.now exit.now b closed) }
+{
+    match exit {
+        Exit::Served(departs) => closing_of(alloc, load, departs, b),
+        Exit::Sorted(overtaken) => delay_piece(alloc, load.arrivals, overtaken, b),
+        Exit::Passed(_) => passed_of(alloc, load, b),
+        Exit::Sent => sent_piece(alloc, load, b),
+        Exit::Known(_) => unreachable!(),
     }
 }
 
@@ -96,10 +121,10 @@ fn closing_of(
     departs: &List<u64>,
     b: u32,
 ) -> Result<Closed, OutOfMemory>
-    requires loaded { IsLoaded load.now.plan.now load.now.rows.now load.now.number load.now.arrivals }
-    requires served { IsServed load.now.plan.now load.now.rows.now load.now.number load.now.arrivals departs.now }
+    requires loaded { IsLoaded load.now.plan.now load.now.rows.now load.now.number load.now.arrivals.now }
+    requires served { IsServed load.now.plan.now load.now.rows.now load.now.number load.now.arrivals.now departs.now }
     requires inside { b < 3 }
-    ensures { IfOk result (λ closed. IsShut load.now.plan.now load.now.rows.now load.now.number load.now.arrivals departs.now b closed) }
+    ensures { IfOk result (λ closed. IsShut load.now.plan.now load.now.rows.now load.now.number load.now.arrivals.now departs.now b closed) }
 {
     sequences_go_by_fates();
     fates_are_in_time();
@@ -116,10 +141,10 @@ fn closing_of(
 // A last piece of a station whose jobs depart as they come: its departures are a piece too, since they are what
 // came.
 fn sent_piece(alloc: Global, load: &Load, b: u32) -> Result<Closed, OutOfMemory>
-    requires loaded { IsLoaded load.now.plan.now load.now.rows.now load.now.number load.now.arrivals }
-    requires served { IsServed load.now.plan.now load.now.rows.now load.now.number load.now.arrivals load.now.arrivals.time }
+    requires loaded { IsLoaded load.now.plan.now load.now.rows.now load.now.number load.now.arrivals.now }
+    requires served { IsServed load.now.plan.now load.now.rows.now load.now.number load.now.arrivals.now load.now.arrivals.now.time }
     requires inside { b < 4 }
-    ensures { IfOk result (λ closed. IsShut load.now.plan.now load.now.rows.now load.now.number load.now.arrivals load.now.arrivals.time b closed) }
+    ensures { IfOk result (λ closed. IsShut load.now.plan.now load.now.rows.now load.now.number load.now.arrivals.now load.now.arrivals.now.time b closed) }
 {
     let times = &load.arrivals.time;
     if b < 3 {
@@ -136,10 +161,10 @@ pub fn times_in_bound(
     load: &Load,
     departs: &List<u64>,
 ) -> Result<Closed, OutOfMemory>
-    requires all { AllDepartAt load.now.plan.now load.now.rows.now load.now.number load.now.arrivals departs.now }
+    requires all { AllDepartAt load.now.plan.now load.now.rows.now load.now.number load.now.arrivals.now departs.now }
     requires few { length departs.now ≤ 1048576 }
     requires rising { Rises (λ a b. a ≤ b) departs.now }
-    ensures { IfOk result (λ closed. IsShut load.now.plan.now load.now.rows.now load.now.number load.now.arrivals departs.now 0 closed) }
+    ensures { IfOk result (λ closed. IsShut load.now.plan.now load.now.rows.now load.now.number load.now.arrivals.now departs.now 0 closed) }
 {
     if let Some(past) = first_late_in_turn(load.plan.net.bound, load.number, departs) {
         return Ok(Closed::Over(past));
@@ -150,15 +175,15 @@ pub fn times_in_bound(
 
 // How many jobs each visit found, of the departures. A source holds none.
 fn found_in_turn(alloc: Global, load: &Load, departs: &List<u64>) -> Result<List<u32>, OutOfMemory>
-    requires loaded { IsLoaded load.now.plan.now load.now.rows.now load.now.number load.now.arrivals }
-    requires served { IsServed load.now.plan.now load.now.rows.now load.now.number load.now.arrivals departs.now }
-    ensures { IfOk result (λ found. found ≡ founds_of load.now.arrivals.time (map (λ time. Departs time) departs.now)) }
+    requires loaded { IsLoaded load.now.plan.now load.now.rows.now load.now.number load.now.arrivals.now }
+    requires served { IsServed load.now.plan.now load.now.rows.now load.now.number load.now.arrivals.now departs.now }
+    ensures { IfOk result (λ found. found ≡ founds_of load.now.arrivals.now.time (map (λ time. Departs time) departs.now)) }
 {
     sequences_go_by_fates();
     fates_are_in_time();
     match &load.plan.net.nodes.get(load.number as usize).kind {
         Kind::Source => nobody(alloc, &load.arrivals.time),
-        _ => found_by_position(alloc, &load.arrivals, departs),
+        _ => found_by_position(alloc, load.arrivals, departs),
     }
 }
 
@@ -169,18 +194,31 @@ pub fn result_of(
     group: List<Closed>,
 ) -> Result<NodeResult, OutOfMemory>
     requires ready { IsReadyExit emptied }
-    requires group { AreAll (λ b closed. IsClosed emptied.load.plan.now emptied.load.rows.now emptied.load.number emptied.load.arrivals emptied.exit b closed) (closings_of emptied.exit) group }
-    ensures number { IfOk result (λ node_result. node_result.number ≡ emptied.entry.load.number) }
-    ensures known { IfOk result (λ node_result. IsWorkedOut emptied.entry.load.plan.now emptied.entry.load.rows.now node_result) }
+    requires group { AreAll (IsLast emptied.held.plan.now emptied.held.rows.now emptied.held.number emptied.held.arrivals emptied.exit) (lasts_of emptied.held.arrivals emptied.exit) group }
+    ensures number { IfOk result (λ node_result. node_result.number ≡ emptied.entry.held.number) }
+    ensures known { IfOk result (λ node_result. IsWorkedOut emptied.entry.held.plan.now emptied.entry.held.rows.now node_result) }
 {
     node_laws();
-    let Emptied { load, exit } = emptied;
-    let after = after_of(alloc, &load, exit, group)?;
-    let ending = ending_of(load.arrivals, after);
-    Ok(NodeResult {
-        number: load.number,
-        ending,
-    })
+    let Emptied { held, exit } = emptied;
+    let Held {
+        plan,
+        rows,
+        number,
+        arrivals,
+        block,
+    } = held;
+    let mut group = group.into_vec();
+    let arrivals = taken(arrivals, &mut group);
+    let load = Load {
+        plan,
+        rows,
+        number,
+        arrivals: &arrivals,
+        block,
+    };
+    let after = after_of(alloc, &load, exit, List::from_vec(group))?;
+    let ending = ending_of(arrivals, after);
+    Ok(NodeResult { number, ending })
 }
 
 // What becomes of the arrivals at a station, of its last pieces where it has some.
@@ -190,10 +228,10 @@ fn after_of(
     exit: Exit,
     group: List<Closed>,
 ) -> Result<After, OutOfMemory>
-    requires loaded { IsLoaded load.now.plan.now load.now.rows.now load.now.number load.now.arrivals }
-    requires exit { IsExit load.now.plan.now load.now.rows.now load.now.number load.now.arrivals exit }
-    requires group { AreAll (IsClosed load.now.plan.now load.now.rows.now load.now.number load.now.arrivals exit) (closings_of exit) group }
-    ensures { IfOk result (λ after. IsAfterAt load.now.plan.now load.now.rows.now load.now.number load.now.arrivals after) }
+    requires loaded { IsLoaded load.now.plan.now load.now.rows.now load.now.number load.now.arrivals.now }
+    requires exit { IsExit load.now.plan.now load.now.rows.now load.now.number load.now.arrivals.now exit }
+    requires group { AreAll (IsClosed load.now.plan.now load.now.rows.now load.now.number load.now.arrivals.now exit) (closings_of exit) group }
+    ensures { IfOk result (λ after. IsAfterAt load.now.plan.now load.now.rows.now load.now.number load.now.arrivals.now after) }
 {
     match exit {
         Exit::Known(after) => Ok(after),
@@ -206,10 +244,10 @@ fn after_of(
 
 // What becomes of the arrivals at a station whose jobs depart as they come, of its last pieces.
 fn sent(alloc: Global, load: &Load, group: List<Closed>) -> Result<After, OutOfMemory>
-    requires loaded { IsLoaded load.now.plan.now load.now.rows.now load.now.number load.now.arrivals }
-    requires served { IsServed load.now.plan.now load.now.rows.now load.now.number load.now.arrivals load.now.arrivals.time }
-    requires group { AreAll (IsShut load.now.plan.now load.now.rows.now load.now.number load.now.arrivals load.now.arrivals.time) 4 group }
-    ensures { IfOk result (λ after. IsAfterAt load.now.plan.now load.now.rows.now load.now.number load.now.arrivals after) }
+    requires loaded { IsLoaded load.now.plan.now load.now.rows.now load.now.number load.now.arrivals.now }
+    requires served { IsServed load.now.plan.now load.now.rows.now load.now.number load.now.arrivals.now load.now.arrivals.now.time }
+    requires group { AreAll (IsShut load.now.plan.now load.now.rows.now load.now.number load.now.arrivals.now load.now.arrivals.now.time) 4 group }
+    ensures { IfOk result (λ after. IsAfterAt load.now.plan.now load.now.rows.now load.now.number load.now.arrivals.now after) }
 {
     let mut group = group.into_vec();
     let departs = match group.pop() {
@@ -227,10 +265,10 @@ fn opened(
     group: List<Closed>,
     departs: List<u64>,
 ) -> Result<After, OutOfMemory>
-    requires loaded { IsLoaded load.now.plan.now load.now.rows.now load.now.number load.now.arrivals }
-    requires served { IsServed load.now.plan.now load.now.rows.now load.now.number load.now.arrivals departs }
-    requires group { AreAll (IsShut load.now.plan.now load.now.rows.now load.now.number load.now.arrivals departs) 3 group }
-    ensures { IfOk result (λ after. IsAfterAt load.now.plan.now load.now.rows.now load.now.number load.now.arrivals after) }
+    requires loaded { IsLoaded load.now.plan.now load.now.rows.now load.now.number load.now.arrivals.now }
+    requires served { IsServed load.now.plan.now load.now.rows.now load.now.number load.now.arrivals.now departs }
+    requires group { AreAll (IsShut load.now.plan.now load.now.rows.now load.now.number load.now.arrivals.now departs) 3 group }
+    ensures { IfOk result (λ after. IsAfterAt load.now.plan.now load.now.rows.now load.now.number load.now.arrivals.now after) }
 {
     sequences_go_by_fates();
     fates_are_in_time();
@@ -252,6 +290,7 @@ fn opened(
         Some(Closed::Found(_found)) => unreachable!(),
         Some(Closed::Jobs(_jobs)) => unreachable!(),
         Some(Closed::Departures(_departs)) => unreachable!(),
+        Some(Closed::Came(_times)) => unreachable!(),
         None => unreachable!(),
     }
 }

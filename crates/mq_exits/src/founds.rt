@@ -38,11 +38,11 @@ pub fn after_delay(
     group: List<Closed>,
     overtaken: Overtaken,
 ) -> Result<After, OutOfMemory>
-    requires overtaken { IsOvertaken load.now.plan.now load.now.rows.now load.now.number load.now.arrivals overtaken }
-    requires group { AreAll (IsDelayPiece load.now.arrivals overtaken) overtaken.blocks.blocks group }
-    ensures { IfOk result (λ after. IsAfterAt load.now.plan.now load.now.rows.now load.now.number load.now.arrivals after) }
+    requires overtaken { IsOvertaken load.now.plan.now load.now.rows.now load.now.number load.now.arrivals.now overtaken }
+    requires group { AreAll (IsDelayPiece load.now.arrivals.now overtaken) overtaken.blocks.blocks group }
+    ensures { IfOk result (λ after. IsAfterAt load.now.plan.now load.now.rows.now load.now.number load.now.arrivals.now after) }
 {
-    let found = founds_joined(alloc, &load.arrivals, &overtaken, &group)?;
+    let found = founds_joined(alloc, load.arrivals, &overtaken, &group)?;
     let Overtaken {
         departs,
         job,
@@ -83,7 +83,10 @@ fn found_in(closed: &Closed) -> &List<u32>
 {
     match closed {
         Closed::Found(found) => found,
-        Closed::Times(_) | Closed::Over(_) | Closed::Jobs(_) | Closed::Departures(_) =>
-            unreachable!(),
+        Closed::Times(_)
+        | Closed::Over(_)
+        | Closed::Jobs(_)
+        | Closed::Departures(_)
+        | Closed::Came(_) => unreachable!(),
     }
 }

@@ -7,10 +7,11 @@ ghost use Rattle.std.specs.List.{AllByRecursion};
 ghost use Rattle.mq_core.specs.declared.model.Plan.{Plan as ThePlan};
 ghost use Rattle.mq_core.specs.declared.model.Rows.{Rows as TheRows};
 ghost use Rattle.mq_crew.specs.Crew.{AreGroups};
-ghost use Rattle.mq_exits.specs.Exits.{IsClosed, IsReadyExit, closings_of};
+ghost use Rattle.mq_exits.specs.Exits.{IsLast, IsReadyExit, lasts_of};
 ghost use Rattle.mq_exits.specs.Loads.{IsLoadOf};
 ghost use Rattle.mq_exits.specs.Results.{IsResultOf};
 
+mod copies;
 mod exits;
 mod founds;
 mod laws;
@@ -21,7 +22,7 @@ mod working;
 
 use crate::exits::result_of;
 pub use exits::{Closed, Emptied, Exit};
-pub use load::Load;
+pub use load::{Held, Load};
 use mq_base::{List, OutOfMemory};
 use mq_crew::{Gate, run_parts};
 pub use overtaking::{Overtaken, left_by};
@@ -35,8 +36,8 @@ pub use working::{After, Ending, NodeResult, Worked, nobody, station_whole};
 ///
 /// 1 to 64 workers make the last pieces of all stations as one list: where the jobs leave in their order
 /// when they do, how many each visit found, and the jobs, and of a source when each visit departs; of a split
-/// in blocks when they leave and zeros; of a delay by blocks how many each visit found. It refuses for want of
-/// memory alone.
+/// in blocks when they leave and zeros; of a delay by blocks how many each visit found. Behind these come, where what
+/// came was only read, the jobs and when they came, which the visits keep. It refuses for want of memory alone.
 pub fn station_results<R: Threads + Sync, G: Gate>(
     rt: &R,
     alloc: Global,
@@ -49,7 +50,7 @@ pub fn station_results<R: Threads + Sync, G: Gate>(
     requires some { 1 ≤ workers }
     requires most { workers ≤ 64 }
     ensures len { IfOk result (λ results. length results ≡ length those_emptied.entry) }
-    ensures known { IfOk result (λ results. (plan : ThePlan) (rows : TheRows) (ready : Items ℕ) → AllByRecursion (λ l. IsLoadOf plan rows ready l.load) those_emptied.entry → AllByRecursion (IsResultOf plan rows ready) results) }
+    ensures known { IfOk result (λ results. (plan : ThePlan) (rows : TheRows) (ready : Items ℕ) → AllByRecursion (λ l. IsLoadOf plan rows ready l.held) those_emptied.entry → AllByRecursion (IsResultOf plan rows ready) results) }
 {
     let groups = run_parts(rt, alloc, workers, those_emptied.as_slice(), gate)?;
     ended(alloc, those_emptied, groups)
@@ -62,9 +63,9 @@ fn ended(
     groups: List<List<Closed>>,
 ) -> Result<List<NodeResult>, OutOfMemory>
     requires ready { AllByRecursion IsReadyExit those_emptied }
-    requires groups { AreGroups (λ l. closings_of l.exit) (λ l b closed. IsClosed l.load.plan.now l.load.rows.now l.load.number l.load.arrivals l.exit b closed) those_emptied groups }
+    requires groups { AreGroups (λ l. lasts_of l.held.arrivals l.exit) (λ l b closed. IsLast l.held.plan.now l.held.rows.now l.held.number l.held.arrivals l.exit b closed) those_emptied groups }
     ensures len { IfOk result (λ results. length results ≡ length those_emptied.entry) }
-    ensures known { IfOk result (λ results. (plan : ThePlan) (rows : TheRows) (ready : Items ℕ) → AllByRecursion (λ l. IsLoadOf plan rows ready l.load) those_emptied.entry → AllByRecursion (IsResultOf plan rows ready) results) }
+    ensures known { IfOk result (λ results. (plan : ThePlan) (rows : TheRows) (ready : Items ℕ) → AllByRecursion (λ l. IsLoadOf plan rows ready l.held) those_emptied.entry → AllByRecursion (IsResultOf plan rows ready) results) }
 {
     let mut those_emptied = those_emptied.into_vec();
     let mut groups = groups.into_vec();

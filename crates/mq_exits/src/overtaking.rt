@@ -45,10 +45,10 @@ pub fn left_by<R: Threads + Sync>(
     load: &Load,
     worked: Worked,
 ) -> Result<Exit, OutOfMemory>
-    requires loaded { IsLoaded load.now.plan.now load.now.rows.now load.now.number load.now.arrivals }
-    requires worked { IsWorkedAt load.now.plan.now load.now.rows.now load.now.number load.now.arrivals worked }
+    requires loaded { IsLoaded load.now.plan.now load.now.rows.now load.now.number load.now.arrivals.now }
+    requires worked { IsWorkedAt load.now.plan.now load.now.rows.now load.now.number load.now.arrivals.now worked }
     requires block { 1 ≤ load.now.block }
-    ensures { IfOk result (λ exit. IsExit load.now.plan.now load.now.rows.now load.now.number load.now.arrivals exit) }
+    ensures { IfOk result (λ exit. IsExit load.now.plan.now load.now.rows.now load.now.number load.now.arrivals.now exit) }
 {
     match worked {
         Worked::Finished(after) => Ok(Exit::Known(after)),
@@ -66,10 +66,10 @@ fn left_at<R: Threads + Sync>(
     load: &Load,
     departs: List<u64>,
 ) -> Result<Exit, OutOfMemory>
-    requires loaded { IsLoaded load.now.plan.now load.now.rows.now load.now.number load.now.arrivals }
-    requires departs { AreDeparturesAt load.now.plan.now load.now.rows.now load.now.number load.now.arrivals departs }
+    requires loaded { IsLoaded load.now.plan.now load.now.rows.now load.now.number load.now.arrivals.now }
+    requires departs { AreDeparturesAt load.now.plan.now load.now.rows.now load.now.number load.now.arrivals.now departs }
     requires block { 1 ≤ load.now.block }
-    ensures { IfOk result (λ exit. IsExit load.now.plan.now load.now.rows.now load.now.number load.now.arrivals exit) }
+    ensures { IfOk result (λ exit. IsExit load.now.plan.now load.now.rows.now load.now.number load.now.arrivals.now exit) }
 {
     match &load.plan.net.nodes.get(load.number as usize).kind {
         Kind::Delay(_) => overtaken_at(rt, alloc, workers, load, departs),
@@ -85,11 +85,11 @@ fn overtaken_at<R: Threads + Sync>(
     load: &Load,
     departs: List<u64>,
 ) -> Result<Exit, OutOfMemory>
-    requires loaded { IsLoaded load.now.plan.now load.now.rows.now load.now.number load.now.arrivals }
-    requires departs { AreDeparturesAt load.now.plan.now load.now.rows.now load.now.number load.now.arrivals departs }
+    requires loaded { IsLoaded load.now.plan.now load.now.rows.now load.now.number load.now.arrivals.now }
+    requires departs { AreDeparturesAt load.now.plan.now load.now.rows.now load.now.number load.now.arrivals.now departs }
     requires overtakes { Overtakes load.now.plan.now load.now.number }
     requires block { 1 ≤ load.now.block }
-    ensures { IfOk result (λ exit. IsExit load.now.plan.now load.now.rows.now load.now.number load.now.arrivals exit) }
+    ensures { IfOk result (λ exit. IsExit load.now.plan.now load.now.rows.now load.now.number load.now.arrivals.now exit) }
 {
     sequences_go_by_fates();
     fates_are_in_time();
@@ -112,9 +112,9 @@ fn overtaken_at<R: Threads + Sync>(
 
 // How the visits are cut: for one worker they are one block.
 fn visit_blocks(workers: u32, load: &Load) -> Blocks
-    requires few { length load.now.arrivals.time ≤ 1048576 }
+    requires few { length load.now.arrivals.now.time ≤ 1048576 }
     requires block { 1 ≤ load.now.block }
-    ensures { AreFewBlocks (length load.now.arrivals.time) 16384 result }
+    ensures { AreFewBlocks (length load.now.arrivals.now.time) 16384 result }
 {
     let visits = load.arrivals.time.len() as u32;
     if workers == 1 {

@@ -35,14 +35,14 @@ pub fn routed(
     blocks: &Blocks,
     b: u32,
 ) -> Result<List<Stream>, OutOfMemory>
-    requires loaded { IsLoaded load.now.plan.now load.now.rows.now load.now.number load.now.arrivals }
+    requires loaded { IsLoaded load.now.plan.now load.now.rows.now load.now.number load.now.arrivals.now }
     requires split { IsSplitAt load.now.plan.now load.now.number }
-    requires all { blocks.now.n ≡ length load.now.arrivals.time }
+    requires all { blocks.now.n ≡ length load.now.arrivals.now.time }
     requires inside { b < blocks.now.blocks }
-    ensures { IfOk result (λ streams. ArePartsAt load.now.plan.now load.now.rows.now load.now.number load.now.arrivals blocks.now b streams) }
+    ensures { IfOk result (λ streams. ArePartsAt load.now.plan.now load.now.rows.now load.now.number load.now.arrivals.now blocks.now b streams) }
 {
     let route = route_at(load);
-    split_part(alloc, load.rows, route, &load.arrivals, blocks, b)
+    split_part(alloc, load.rows, route, load.arrivals, blocks, b)
 }
 
 /// What leaves a split by each output, of what leaves its blocks.
@@ -51,20 +51,20 @@ pub fn parted(
     load: &Load,
     group: &List<List<Stream>>,
 ) -> Result<List<Stream>, OutOfMemory>
-    requires loaded { IsLoaded load.now.plan.now load.now.rows.now load.now.number load.now.arrivals }
+    requires loaded { IsLoaded load.now.plan.now load.now.rows.now load.now.number load.now.arrivals.now }
     requires split { IsSplitAt load.now.plan.now load.now.number }
-    requires group { AreSplitGroup load.now.plan.now load.now.rows.now load.now.number load.now.arrivals group.now }
-    ensures { IfOk result (λ streams. AreSplitStreams load.now.plan.now load.now.rows.now load.now.number load.now.arrivals streams) }
+    requires group { AreSplitGroup load.now.plan.now load.now.rows.now load.now.number load.now.arrivals.now group.now }
+    ensures { IfOk result (λ streams. AreSplitStreams load.now.plan.now load.now.rows.now load.now.number load.now.arrivals.now streams) }
 {
     split_joined(alloc, route_at(load), group)
 }
 
 // A last piece of a split in blocks, whose jobs depart as they come.
 pub fn passed_of(alloc: Global, load: &Load, b: u32) -> Result<Closed, OutOfMemory>
-    requires loaded { IsLoaded load.now.plan.now load.now.rows.now load.now.number load.now.arrivals }
-    requires all { AllDepartAt load.now.plan.now load.now.rows.now load.now.number load.now.arrivals load.now.arrivals.time }
+    requires loaded { IsLoaded load.now.plan.now load.now.rows.now load.now.number load.now.arrivals.now }
+    requires all { AllDepartAt load.now.plan.now load.now.rows.now load.now.number load.now.arrivals.now load.now.arrivals.now.time }
     requires inside { b < 2 }
-    ensures { IfOk result (λ closed. IsShut load.now.plan.now load.now.rows.now load.now.number load.now.arrivals load.now.arrivals.time b closed) }
+    ensures { IfOk result (λ closed. IsShut load.now.plan.now load.now.rows.now load.now.number load.now.arrivals.now load.now.arrivals.now.time b closed) }
 {
     let times = &load.arrivals.time;
     if b == 0 {
@@ -75,9 +75,9 @@ pub fn passed_of(alloc: Global, load: &Load, b: u32) -> Result<Closed, OutOfMemo
 
 // What becomes of the arrivals at such a split, of its last pieces and what leaves it.
 pub fn passed(load: &Load, group: List<Closed>, streams: List<Stream>) -> After
-    requires passed { AreSplitStreams load.now.plan.now load.now.rows.now load.now.number load.now.arrivals streams }
-    requires group { AreAll (IsShut load.now.plan.now load.now.rows.now load.now.number load.now.arrivals load.now.arrivals.time) 2 group }
-    ensures { IsAfterAt load.now.plan.now load.now.rows.now load.now.number load.now.arrivals result }
+    requires passed { AreSplitStreams load.now.plan.now load.now.rows.now load.now.number load.now.arrivals.now streams }
+    requires group { AreAll (IsShut load.now.plan.now load.now.rows.now load.now.number load.now.arrivals.now load.now.arrivals.now.time) 2 group }
+    ensures { IsAfterAt load.now.plan.now load.now.rows.now load.now.number load.now.arrivals.now result }
 {
     let mut group = group.into_vec();
     let found = match group.pop() {

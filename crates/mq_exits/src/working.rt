@@ -64,9 +64,9 @@ pub enum Worked {
 
 /// What one piece tells of a whole station: of a source, that its jobs depart as they come.
 pub fn station_whole(alloc: Global, load: &Load) -> Result<Worked, OutOfMemory>
-    requires loaded { IsLoaded load.now.plan.now load.now.rows.now load.now.number load.now.arrivals }
+    requires loaded { IsLoaded load.now.plan.now load.now.rows.now load.now.number load.now.arrivals.now }
     requires some { 1 ≤ load.now.block }
-    ensures { IfOk result (λ worked. IsWorkedAt load.now.plan.now load.now.rows.now load.now.number load.now.arrivals worked) }
+    ensures { IfOk result (λ worked. IsWorkedAt load.now.plan.now load.now.rows.now load.now.number load.now.arrivals.now worked) }
 {
     let kind = &load.plan.net.nodes.get(load.number as usize).kind;
     match kind {
@@ -77,7 +77,7 @@ pub fn station_whole(alloc: Global, load: &Load) -> Result<Worked, OutOfMemory>
             load.rows,
             load.number,
             kind,
-            &load.arrivals,
+            load.arrivals,
             load.block,
         ),
     }

@@ -1,4 +1,5 @@
 use Rattle.std.proofs.Common.{◌+◌}
+use Rattle.mq_arrivals.specs.Arrivals.{stream_in}
 use Rattle.mq_arrivals.specs.Merges.{IsComing}
 use Rattle.mq_arrivals.proofs.Comings.{Any, coming_piece, coming_size, has-come}
 use Rattle.mq_crew.proofs.lemmas.Groups.{passing-last, passing-more}
@@ -18,7 +19,7 @@ pub further-requires-clause-before : goal.further-requires-clause-before
 further-requires-clause-before c =
     let s = c.args.arriving.now in
     let last = passing-last coming_size coming_piece (IsComing s c.args.port) (IsComing s (c.args.port + 1)) Any Any _ _ _ _ _ _ _ _ c.loop-coming.invariant c.in-Some.ensures.items c.in-Some-pop.ensures.items in
-    has-come s c.args.port c.in-Some.coming c.in_ok-before.before last.0 c.in_ok-before.ensures
+    has-come s c.args.port c.in-Some.coming (stream_in c.in_ok-before.before) last.0 c.in_ok-before.ensures
 
 pub loop-coming-preserved : goal.loop-coming-preserved
 loop-coming-preserved c =

@@ -13,17 +13,17 @@ tandem_carries-requires-clause-load c = (tandem-sound _ _ _ _ _ c.in-OfTandem.sc
 pub returns-in-Unscanned : goal.returns-in-Unscanned
 returns-in-Unscanned c =
     let load = c.args.load.now in
-    let group = subst (λ (s : Scan). AreAll (IsPart load.plan.now load.rows.now load.number load.arrivals s) (blocks_of s) c.args.group) c.in-Unscanned.is c.requires.group in
+    let group = subst (λ (s : Scan). AreAll (IsPart load.plan.now load.rows.now load.number load.arrivals.now s) (blocks_of s) c.args.group) c.in-Unscanned.is c.requires.group in
     let d = Whole c.the_whole.result in
-    let after = subst (IsWholePart load.plan.now load.rows.now load.number load.arrivals) (c.the_whole.ensures d) (group.each 0 d (omega arith)) in
-    subst (λ (s : Scan). IsStage load.plan.now load.rows.now load.number load.arrivals s (Ended c.the_whole.result)) (sym c.in-Unscanned.is) after
+    let after = subst (IsWholePart load.plan.now load.rows.now load.number load.arrivals.now) (c.the_whole.ensures d) (group.each 0 d (omega arith)) in
+    subst (λ (s : Scan). IsStage load.plan.now load.rows.now load.number load.arrivals.now s (Ended c.the_whole.result)) (sym c.in-Unscanned.is) after
 
 pub those_routed-requires : goal.those_routed-requires
 those_routed-requires c b d l =
     let load = c.args.load.now in
-    let group = subst (λ (s : Scan). AreAll (IsPart load.plan.now load.rows.now load.number load.arrivals s) (blocks_of s) c.args.group) c.in-OfSplit.is c.requires.group in
+    let group = subst (λ (s : Scan). AreAll (IsPart load.plan.now load.rows.now load.number load.arrivals.now s) (blocks_of s) c.args.group) c.in-OfSplit.is c.requires.group in
     let count = group.len in
-    routed-part load.plan.now load.rows.now load.number load.arrivals c.in-OfSplit.field-0 b _ (group.each b d (omega arith))
+    routed-part load.plan.now load.rows.now load.number load.arrivals.now c.in-OfSplit.field-0 b _ (group.each b d (omega arith))
 
 pub parted-requires-clause-split : goal.parted-requires-clause-split
 parted-requires-clause-split c = (split-at _ _ _ _ _ c.in-OfSplit.field-0 c.requires.scanned c.in-OfSplit.is).0
@@ -31,5 +31,5 @@ parted-requires-clause-split c = (split-at _ _ _ _ _ c.in-OfSplit.field-0 c.requ
 pub parted-requires-clause-group : goal.parted-requires-clause-group
 parted-requires-clause-group c =
     let load = c.args.load.now in
-    let group = subst (λ (s : Scan). AreAll (IsPart load.plan.now load.rows.now load.number load.arrivals s) (blocks_of s) c.args.group) c.in-OfSplit.is c.requires.group in
-    routed-group load.plan.now load.rows.now load.number load.arrivals c.in-OfSplit.field-0 c.args.group c.in_ok-parts-in-OfSplit.parts (split-at _ _ _ _ _ c.in-OfSplit.field-0 c.requires.scanned c.in-OfSplit.is).1 group c.in_ok-parts-in-OfSplit.ensures
+    let group = subst (λ (s : Scan). AreAll (IsPart load.plan.now load.rows.now load.number load.arrivals.now s) (blocks_of s) c.args.group) c.in-OfSplit.is c.requires.group in
+    routed-group load.plan.now load.rows.now load.number load.arrivals.now c.in-OfSplit.field-0 c.args.group c.in_ok-parts-in-OfSplit.parts (split-at _ _ _ _ _ c.in-OfSplit.field-0 c.requires.scanned c.in-OfSplit.is).1 group c.in_ok-parts-in-OfSplit.ensures

@@ -2,7 +2,7 @@ use Rattle.std.proofs.Common.{◌≤◌, List, length, subst, sym, arith}
 use Rattle.std.specs.List.{AllByRecursion}
 use Rattle.mq_base.proofs.lemmas.Each.{Each-weaker}
 use Rattle.mq_crew.specs.Crew.{AreAll}
-use Rattle.mq_arrivals.specs.Arrivals.{HasArrived}
+use Rattle.mq_arrivals.specs.Arrivals.{HasArrived, stream_in}
 use Rattle.mq_arrivals.specs.declared.nodes.Arrived.{Arrived}
 use Rattle.mq_exits.specs.Loads.{IsLoaded}
 use Rattle.mq_engine.specs.Loads.{IsArrivedAt, IsScanFor}
@@ -17,7 +17,7 @@ made-requires-clause-fit g c κs inside =
     let few = c.requires.arriving.nodes in
     record {
       few = subst (λ (l : List Arrived). length l ≤ 64) (sym c.as_slice.ensures) (omega arith);
-      loaded = subst (AllByRecursion (λ (a : Arrived). IsLoaded s.plan.now s.rows.now a.number a.arrivals)) (sym c.as_slice.ensures) (Each-weaker (HasArrived s) _ (λ a h. (has-loaded c.core_laws.ensures s a c.requires.arriving c.requires.early c.requires.can h).0) all c.in_ok-arrived.ensures.each);
+      loaded = subst (AllByRecursion (λ (a : Arrived). IsLoaded s.plan.now s.rows.now a.number (stream_in a.arrivals))) (sym c.as_slice.ensures) (Each-weaker (HasArrived s) _ (λ a h. (has-loaded c.core_laws.ensures s a c.requires.arriving c.requires.early c.requires.can h).0) all c.in_ok-arrived.ensures.each);
       block = c.requires.arriving.block;
     }
 

@@ -16,14 +16,14 @@ forkjoin_departures-requires-clause-all g c κs inside = (forkjoin-sound _ _ _ _
 pub returns-in_ok-departs-in-OfServer : goal.returns-in_ok-departs-in-OfServer
 returns-in_ok-departs-in-OfServer g c =
     let load = c.args.load.now in
-    server-leaves load.plan.now load.rows.now load.number load.arrivals c.args.scan.now c.in-OfServer.demands c.in_ok-departs-in-OfServer.departs c.requires.scanned c.in-OfServer.is c.in_ok-departs-in-OfServer.ensures
+    server-leaves load.plan.now load.rows.now load.number load.arrivals.now c.args.scan.now c.in-OfServer.demands c.in_ok-departs-in-OfServer.departs c.requires.scanned c.in-OfServer.is c.in_ok-departs-in-OfServer.ensures
 
 pub returns-in_ok-departs-in-OfTandem : goal.returns-in_ok-departs-in-OfTandem
 returns-in_ok-departs-in-OfTandem g c =
     let load = c.args.load.now in
-    tandem-leaves load.plan.now load.rows.now load.number load.arrivals c.args.scan.now c.in-OfTandem.scan c.in_ok-departs-in-OfTandem.departs c.requires.scanned c.in-OfTandem.is c.in_ok-departs-in-OfTandem.ensures
+    tandem-leaves load.plan.now load.rows.now load.number load.arrivals.now c.args.scan.now c.in-OfTandem.scan c.in_ok-departs-in-OfTandem.departs c.requires.scanned c.in-OfTandem.is c.in_ok-departs-in-OfTandem.ensures
 
 pub returns-in_ok-departs-in-OfForkJoin : goal.returns-in_ok-departs-in-OfForkJoin
 returns-in_ok-departs-in-OfForkJoin g c =
     let load = c.args.load.now in
-    forkjoin-leaves load.plan.now load.rows.now load.number load.arrivals c.args.scan.now c.in-OfForkJoin.scan c.in_ok-departs-in-OfForkJoin.departs c.requires.scanned c.in-OfForkJoin.is c.in_ok-departs-in-OfForkJoin.ensures
+    forkjoin-leaves load.plan.now load.rows.now load.number load.arrivals.now c.args.scan.now c.in-OfForkJoin.scan c.in_ok-departs-in-OfForkJoin.departs c.requires.scanned c.in-OfForkJoin.is c.in_ok-departs-in-OfForkJoin.ensures

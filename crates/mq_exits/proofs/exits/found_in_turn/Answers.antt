@@ -7,15 +7,15 @@ use Rattle.mq_exits.proofs.exits.found_in_turn.Goals as goal
 pub found_by_position-requires-clause-even : goal.found_by_position-requires-clause-even
 found_by_position-requires-clause-even c =
     let loaded = c.requires.loaded in
-    served-even c.fates_are_in_time.ensures c.args.load.now.rows.now loaded.node.kind c.args.load.now.arrivals c.args.departs.now loaded.load (c.requires.served loaded.node loaded.there)
+    served-even c.fates_are_in_time.ensures c.args.load.now.rows.now loaded.node.kind c.args.load.now.arrivals.now c.args.departs.now loaded.load (c.requires.served loaded.node loaded.there)
 
 pub found_by_position-requires-clause-departs : goal.found_by_position-requires-clause-departs
 found_by_position-requires-clause-departs c =
     let loaded = c.requires.loaded in
-    served-rises c.sequences_go_by_fates.ensures c.fates_are_in_time.ensures c.args.load.now.rows.now loaded.node.kind c.args.load.now.arrivals c.args.departs.now loaded.load (c.requires.served loaded.node loaded.there)
+    served-rises c.sequences_go_by_fates.ensures c.fates_are_in_time.ensures c.args.load.now.rows.now loaded.node.kind c.args.load.now.arrivals.now c.args.departs.now loaded.load (c.requires.served loaded.node loaded.there)
 
 pub returns-in-Source : goal.returns-in-Source
 returns-in-Source c =
     let load = c.args.load.now in
     let served = c.requires.served c.get.result.now c.get.ensures in
-    IfOk-weaker c.nobody.result _ _ (λ x e. e ∙ sym (passing-finds_none load.rows.now c.get.result.now.kind load.arrivals.job load.arrivals.time _ (inl c.in-Source.is) c.requires.loaded.load.ordered.ordered.rising (sym served.0.fates))) c.nobody.ensures
+    IfOk-weaker c.nobody.result _ _ (λ x e. e ∙ sym (passing-finds_none load.rows.now c.get.result.now.kind load.arrivals.now.job load.arrivals.now.time _ (inl c.in-Source.is) c.requires.loaded.load.ordered.ordered.rising (sym served.0.fates))) c.nobody.ensures

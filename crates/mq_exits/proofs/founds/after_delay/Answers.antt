@@ -9,6 +9,6 @@ pub returns : goal.returns
 returns c node there =
     let load = c.args.load.now in
     let on_time = c.requires.overtaken.on_time node there in (
-      subst (λ (z : List Fate × List Stream). AreOnTime load.plan.now.net load.rows.now load.number node.kind load.arrivals z.0 z.1) (λ k. (sym c.departures.ensures k, sym c.in_ok-streams.ensures k)) on_time,
-      c.in_ok-found.ensures ∙ ap (founds_of load.arrivals.time) (sym c.departures.ensures),
+      subst (λ (z : List Fate × List Stream). AreOnTime load.plan.now.net load.rows.now load.number node.kind load.arrivals.now z.0 z.1) (λ k. (sym c.departures.ensures k, sym c.in_ok-streams.ensures k)) on_time,
+      c.in_ok-found.ensures ∙ ap (founds_of load.arrivals.now.time) (sym c.departures.ensures),
     )

@@ -9,29 +9,29 @@ pub by_departure-requires-clause-even : goal.by_departure-requires-clause-even
 by_departure-requires-clause-even g c κs inside =
     let loaded = c.requires.loaded in
     let load = c.args.load.now in
-    loaded.load.ordered.ordered.even ∙ sym (departs-even c.fates_are_in_time.ensures load.rows.now loaded.node.kind load.arrivals c.args.departs loaded.load (c.requires.departs loaded.node loaded.there))
+    loaded.load.ordered.ordered.even ∙ sym (departs-even c.fates_are_in_time.ensures load.rows.now loaded.node.kind load.arrivals.now c.args.departs loaded.load (c.requires.departs loaded.node loaded.there))
 
 pub first_late_overtaken-requires-clause-few : goal.first_late_overtaken-requires-clause-few
 first_late_overtaken-requires-clause-few g c =
     let loaded = c.requires.loaded in
     let load = c.args.load.now in
-    departs-few c.fates_are_in_time.ensures load.rows.now loaded.node.kind load.arrivals c.args.departs loaded.load (c.requires.departs loaded.node loaded.there)
+    departs-few c.fates_are_in_time.ensures load.rows.now loaded.node.kind load.arrivals.now c.args.departs loaded.load (c.requires.departs loaded.node loaded.there)
 
 pub ahead_of_departures-requires-clause-even : goal.ahead_of_departures-requires-clause-even
 ahead_of_departures-requires-clause-even g c =
     let loaded = c.requires.loaded in
     let load = c.args.load.now in
-    departs-even c.fates_are_in_time.ensures load.rows.now loaded.node.kind load.arrivals c.args.departs loaded.load (c.requires.departs loaded.node loaded.there)
+    departs-even c.fates_are_in_time.ensures load.rows.now loaded.node.kind load.arrivals.now c.args.departs loaded.load (c.requires.departs loaded.node loaded.there)
 
 pub ahead_of_departures-requires-clause-departs : goal.ahead_of_departures-requires-clause-departs
 ahead_of_departures-requires-clause-departs g c =
     let loaded = c.requires.loaded in
     let load = c.args.load.now in
-    departs-later c.fates_are_in_time.ensures load.rows.now loaded.node.kind load.arrivals c.args.departs loaded.load (c.requires.departs loaded.node loaded.there)
+    departs-later c.fates_are_in_time.ensures load.rows.now loaded.node.kind load.arrivals.now c.args.departs loaded.load (c.requires.departs loaded.node loaded.there)
 
 pub returns-in_ok-ahead-in-None : goal.returns-in_ok-ahead-in-None
 returns-in_ok-ahead-in-None g c =
     let load = c.args.load.now in
-    is-overtaken c.sequences_go_by_fates.ensures c.fates_are_in_time.ensures load.plan.now load.rows.now load.number load.arrivals c.args.departs c.in_ok-leaving.leaving c.in_ok-ahead-in-None.ahead c.visit_blocks-blocks.result
+    is-overtaken c.sequences_go_by_fates.ensures c.fates_are_in_time.ensures load.plan.now load.rows.now load.number load.arrivals.now c.args.departs c.in_ok-leaving.leaving c.in_ok-ahead-in-None.ahead c.visit_blocks-blocks.result
     c.requires.loaded c.requires.departs c.requires.overtakes c.in_ok-leaving.ensures.stream c.in_ok-leaving.ensures.items c.in_ok-leaving.ensures.times
     (c.first_late_overtaken.ensures ∙ ap (option_map late_told) c.in-None.is) c.in_ok-ahead-in-None.ensures c.visit_blocks-blocks.ensures

@@ -9,4 +9,4 @@ pub times_in_bound-requires-clause-rising : goal.times_in_bound-requires-clause-
 times_in_bound-requires-clause-rising c = c.requires.loaded.load.ordered.ordered.rising
 
 pub returns : goal.returns
-returns c = (omega arith, c.in_ok-nobody.ensures ∙ sym (none-found c.args.load.now.arrivals.time c.requires.loaded.load.ordered.ordered.rising))
+returns c = (omega arith, c.in_ok-nobody.ensures ∙ sym (none-found c.args.load.now.arrivals.now.time c.requires.loaded.load.ordered.ordered.rising))

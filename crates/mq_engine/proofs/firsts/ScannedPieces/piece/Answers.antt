@@ -1,11 +1,16 @@
-use Rattle.mq_engine.proofs.Scanning.{split-at, tandem-sound}
+use Rattle.std.proofs.Common.{◌≤◌, subst, sym}
+use Rattle.std.proofs.lemmas.Result.{IfOk-weaker}
+use Rattle.mq_exits.specs.Loads.{Told}
+use Rattle.mq_engine.specs.Loads.{IsPart, IsScanned}
 use Rattle.mq_engine.proofs.firsts.ScannedPieces.piece.Goals as goal
 
-pub tandem_sum-sum-requires-clause-load : goal.tandem_sum-sum-requires-clause-load
-tandem_sum-sum-requires-clause-load c = (tandem-sound _ _ _ _ _ c.in-OfTandem.scan c.requires.fit.1 c.in-OfTandem.is).0
+pub part_of-requires-clause-scanned : goal.part_of-requires-clause-scanned
+part_of-requires-clause-scanned c = subst (λ (t : Told). IsScanned t.0 t.1 t.2 t.3 c.args.self.now.scan) (sym c.load.ensures.told) c.requires.fit.1
 
-pub routed-requires-clause-split : goal.routed-requires-clause-split
-routed-requires-clause-split c = (split-at _ _ _ _ _ c.in-OfSplit.blocks c.requires.fit.1 c.in-OfSplit.is).0
+pub part_of-requires-clause-block : goal.part_of-requires-clause-block
+part_of-requires-clause-block c = subst (λ n. 1 ≤ n) (sym c.load.ensures.block) c.requires.fit.2
 
-pub routed-requires-clause-all : goal.routed-requires-clause-all
-routed-requires-clause-all c = (split-at _ _ _ _ _ c.in-OfSplit.blocks c.requires.fit.1 c.in-OfSplit.is).1
+pub returns : goal.returns
+returns c =
+    let s = c.args.self.now in
+    IfOk-weaker c.part_of.result _ _ (λ part h. subst (λ (t : Told). IsPart t.0 t.1 t.2 t.3 s.scan c.args.b part) c.load.ensures.told h) c.part_of.ensures

@@ -1,5 +1,16 @@
-use Rattle.mq_engine.proofs.Scanning.{tandem-sound}
+use Rattle.std.proofs.Common.{subst, sym}
+use Rattle.std.proofs.lemmas.Result.{IfOk-weaker}
+use Rattle.mq_exits.specs.Loads.{Told}
+use Rattle.mq_engine.specs.Loads.{IsApplied, IsScanned, IsStage}
 use Rattle.mq_engine.proofs.middles.MiddlePieces.piece.Goals as goal
 
-pub tandem_times-requires-clause-load : goal.tandem_times-requires-clause-load
-tandem_times-requires-clause-load c = (tandem-sound _ _ _ _ _ c.in-OfTandem.scan c.requires.fit.0.1 c.in-OfTandem.is).0
+pub applied-requires-clause-scanned : goal.applied-requires-clause-scanned
+applied-requires-clause-scanned c = subst (λ (t : Told). IsScanned t.0 t.1 t.2 t.3 c.args.self.now.scanned.scan) (sym c.load-load.ensures.told) c.requires.fit.0.1
+
+pub applied-requires-clause-stage : goal.applied-requires-clause-stage
+applied-requires-clause-stage c = subst (λ (t : Told). IsStage t.0 t.1 t.2 t.3 c.args.self.now.scanned.scan c.args.self.now.stage) (sym c.load-load.ensures.told) c.requires.fit.1
+
+pub returns : goal.returns
+returns c =
+    let m = c.args.self.now in
+    IfOk-weaker c.applied.result _ _ (λ times h. subst (λ (t : Told). IsApplied t.3 m.scanned.scan c.args.b times) c.load-load.ensures.told h) c.applied.ensures

@@ -1,0 +1,83 @@
+// What came to a node that only reads it: its visits keep jobs and times of their own, of two last pieces more.
+ghost use Rattle.std.specs.Prelude.{◌≡◌, ◌<◌, ℕ, List as Items, IfOk};
+ghost use Rattle.mq_core.specs.declared.model.Plan.{Plan as ThePlan};
+ghost use Rattle.mq_core.specs.declared.model.Rows.{Rows as TheRows};
+ghost use Rattle.mq_crew.specs.Crew.{AreAll};
+ghost use Rattle.mq_arrivals.specs.Arrivals.{stream_in};
+ghost use Rattle.mq_exits.specs.Exits.{IsClosed, IsCopy, IsLast, closings_of, copies_of, lasts_of};
+ghost use Rattle.mq_exits.specs.declared.exits.Closed.TheVariants.{Came, Jobs};
+ghost use Rattle.mq_exits.specs.declared.exits.Exit.{Exit as TheExit};
+
+use crate::exits::Closed;
+use mq_arrivals::Arrivals;
+use mq_base::{List, OutOfMemory};
+use mq_core::Stream;
+use std::alloc::Global;
+
+// How many last pieces copy what came.
+pub fn copies(arrivals: &Arrivals) -> u32
+    ensures { result ≡ copies_of arrivals.now }
+{
+    match arrivals {
+        Arrivals::Merged(_) => 0,
+        Arrivals::Read(_) => 2,
+    }
+}
+
+// One of them: the jobs, or when they came.
+pub fn copy_of(alloc: Global, arrivals: &Stream, k: u32) -> Result<Closed, OutOfMemory>
+    requires { k < 2 }
+    ensures { IfOk result (λ closed. IsCopy arrivals.now k closed) }
+{
+    if k == 0 {
+        let jobs = Vec::from_slice(alloc, arrivals.job.as_slice())?;
+        return Ok(Closed::Jobs(List::from_vec(jobs)));
+    }
+    let times = Vec::from_slice(alloc, arrivals.time.as_slice())?;
+    Ok(Closed::Came(List::from_vec(times)))
+}
+
+// What came, as a stream of its own: merged, or put together of the copies, which are taken off the last pieces.
+pub fn taken(arrivals: Arrivals, group: &mut Vec<Closed>) -> Stream
+    requires { (plan : ThePlan) × (rows : TheRows) × (v : ℕ) × (exit : TheExit) × AreAll (IsLast plan rows v arrivals exit) (lasts_of arrivals exit) group.old.items }
+    ensures stream { result ≡ stream_in arrivals.entry }
+    ensures group { (plan : ThePlan) (rows : TheRows) (v : ℕ) (exit : TheExit) → AreAll (IsLast plan rows v arrivals.entry exit) (lasts_of arrivals.entry exit) group.old.items → AreAll (IsClosed plan rows v (stream_in arrivals.entry) exit) (closings_of exit) group.new.items }
+{
+    match arrivals {
+        Arrivals::Merged(stream) => stream,
+        Arrivals::Read(_) => {
+            let Some(time) = group.pop() else {
+                unreachable!()
+            };
+            let Some(job) = group.pop() else {
+                unreachable!()
+            };
+            Stream {
+                job: jobs_in(job),
+                time: times_in(time),
+            }
+        }
+    }
+}
+
+// The jobs, of the piece that tells them.
+fn jobs_in(closed: Closed) -> List<u32>
+    requires { (jobs : Items ℕ) × (closed ≡ Jobs jobs) }
+    ensures { closed ≡ Jobs result }
+{
+    match closed {
+        Closed::Jobs(jobs) => jobs,
+        _ => unreachable!(),
+    }
+}
+
+// When they came, of the piece that tells it.
+fn times_in(closed: Closed) -> List<u64>
+    requires { (times : Items ℕ) × (closed ≡ Came times) }
+    ensures { closed ≡ Came result }
+{
+    match closed {
+        Closed::Came(times) => times,
+        _ => unreachable!(),
+    }
+}
