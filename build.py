@@ -6,7 +6,8 @@ What has been proved before and has not changed is kept. Each crate is told on t
 
 rt works on one crate of a folder at a time, and keeps those below it from others meanwhile. So each crate is proved in a
 room of its own: a folder with links to its files, to those of the crates below it, and to what was built of these. The crate
-with the most to prove from it up to the program goes first.
+with the most to prove from it up to the program goes first. Several jobs for one crate take a quarter to two thirds more
+processor time for the same proofs, so a crate has more than one only where fewer crates than processors can be proved.
 """
 import os
 import shutil
@@ -18,8 +19,8 @@ ROOT = os.path.dirname(os.path.realpath(__file__))
 PROGRAM = "mpsim"
 ROOMS = f"{ROOT}/crates/{PROGRAM}/out/rooms"
 RT = os.environ.get("RT", "rt")
-# The memory, in bytes, that a check by one job is given, and how much of it each further job takes.
-CHECK, MORE = 2 << 30, 0.6
+# The memory, in bytes, that a check by one job is given; each further job takes less.
+CHECK = 2 << 30
 
 
 def tell(text):
@@ -62,7 +63,7 @@ def chains(names, uses):
 
 
 def lanes():
-    """How many checks there are at a time, and by how many jobs each but that with the longest way up."""
+    """How many jobs there are at a time."""
     count = len(os.sched_getaffinity(0))
     free = count * CHECK
     try:
@@ -70,8 +71,7 @@ def lanes():
             free = 1024 * next(int(line.split()[1]) for line in lines if line.startswith("MemAvailable:"))
     except (OSError, StopIteration):
         pass
-    most = max(min(count, free // CHECK), 1)
-    return most, max(min(most, 1 + int((free / most / CHECK - 1) / MORE)), 1)
+    return max(min(count, free // CHECK), 1)
 
 
 def link(name, to, parts):
@@ -119,17 +119,18 @@ def clear():
 def prove_all(uses):
     """Proves all crates below the program. Answers whether all are proved."""
     names = [it for it in uses if it in below(PROGRAM, uses)]
-    chain, (most, jobs) = chains([*names, PROGRAM], uses), lanes()
+    chain, most = chains([*names, PROGRAM], uses), lanes()
     left, running, done = sorted(names, key=lambda it: -chain[it]), {}, set()
     failed = False
     while running or (left and not failed):
-        for name in [] if failed else [it for it in left if done >= below(it, uses)]:
+        ready = [] if failed else [it for it in left if done >= below(it, uses)]
+        for at, name in enumerate(ready):
             if len(running) == most:
                 break
-            # There are more jobs than processors, so that none waits where a crate can't use all of its own; what is further from the
-            # program goes first, and the longest way up has the most jobs.
+            # What is further from the program goes first. A processor that no other crate could use takes a part of this one.
             others = [it for it in [*left, *running] if chain[it] > chain[name]]
-            running[name] = begin(name, uses, jobs if others else most, min(len(others), 10))
+            side_by_side = min(len(running) + len(ready) - at, most)
+            running[name] = begin(name, uses, -(-most // side_by_side), min(len(others), 10))
             left.remove(name)
         time.sleep(0.2)
         for name in [it for it, check in running.items() if check.poll() is not None]:
