@@ -127,10 +127,12 @@ def prove_all(uses):
         for at, name in enumerate(ready):
             if len(running) == most:
                 break
-            # What is further from the program goes first. A processor that no other crate could use takes a part of this one.
+            # What is further from the program goes first. A processor that no other crate could use takes a part of this one, and a
+            # crate that is further from it than all that are left has as many jobs as there are processors.
             others = [it for it in [*left, *running] if chain[it] > chain[name]]
             side_by_side = min(len(running) + len(ready) - at, most)
-            running[name] = begin(name, uses, -(-most // side_by_side), min(len(others), 10))
+            jobs = -(-most // side_by_side) if any(it in others for it in left) else most
+            running[name] = begin(name, uses, jobs, min(len(others), 10))
             left.remove(name)
         time.sleep(0.2)
         for name in [it for it, check in running.items() if check.poll() is not None]:
