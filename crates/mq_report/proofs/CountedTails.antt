@@ -1,9 +1,7 @@
 -- The counts of waits, node by node and piece by piece.
 use Rattle.std.proofs.Common.{◌≡◌, ℕ, ◌+◌, ◌*◌, ◌^◌, ◌<◌, ◌≤◌, ◌++◌, Bool, true, false, cond, List, [], ◌∷◌, Some, None, Option, length, length-append, sym, subst, ap, ◌∙◌, arith}
 use Rattle.std.specs.Prelude.{slice_get, ◌==◌, IfSome}
-use Rattle.std.proofs.Math.Nat.{mod-add-div'}
 use Rattle.std.proofs.lemmas.Bool.Decides.{nat_tests}
-use Rattle.std.proofs.lemmas.Option.{get_or_from_slice_get, slice_get_within}
 use Rattle.std.specs.List.{AllByRecursion as Each}
 use Rattle.mq_base.proofs.lemmas.Each.{Each-append}
 use Rattle.mq_base.proofs.lemmas.Between.{length-between}
@@ -14,7 +12,8 @@ use Rattle.mq_core.specs.declared.model.Node.{Node}
 use Rattle.mq_core.specs.declared.model.Plan.{Plan}
 use Rattle.mq_core.specs.declared.model.Rows.{Rows}
 use Rattle.mq_crew.specs.Crew.{AreAll, total_size}
-use Rattle.mq_report.proofs.NodeTotals.{pieces-all, pushed-at}
+use Rattle.mq_report.proofs.NodeTotals.{among-all, pushed-at}
+use Rattle.mq_report.proofs.Pieces.{few-pieces, pieces-all}
 use Rattle.mq_report.specs.Tails.{AreCounted, IsTailAt}
 use Rattle.mq_report.specs.TailPieces.{AreNodeWaits, AreWaitsAt, IsPieceCounts, IsWaited, counted_pieces}
 use Rattle.mq_report.specs.Totals.{pieces_in, start_of}
@@ -27,24 +26,21 @@ use Rattle.mq_stats.specs.declared.wait_counts.WaitCounts.{WaitCounts}
 
 -- Pieces. The one at an index is among all.
 pub counts-at : (node : NodeWaits) (group : List WaitCounts) (b : ℕ) (counts : WaitCounts) → AreAll (IsPieceCounts node) (counted_pieces node) group → slice_get group b ≡ Some counts → IsPieceCounts node b counts
-counts-at node group b counts all here =
-    let inside = slice_get_within group b counts here in
-    let len = all.len in
-    subst (IsPieceCounts node b) (get_or_from_slice_get group b counts counts here) (all.each b counts (subst (λ (n : ℕ). b < n) len inside))
+counts-at node group b counts all here = among-all (IsPieceCounts node) (counted_pieces node) group b counts all here
 
 -- the counts of the waits before a piece
 abbrev pub AreCountsBefore : NodeWaits → ℕ → WaitCounts → Type 0
-AreCountsBefore node b counts = AreCountsTo node.most (waits_at node.rows.now node.kind.now (visits_between 0 (start_of (length node.visits.now.job) b) node.visits.now)) counts
+AreCountsBefore node b counts = AreCountsTo node.most (waits_at node.rows.now node.kind.now (visits_between 0 (start_of node.size (length node.visits.now.job) b) node.visits.now)) counts
 
 pub counts-more : WaitsJoin → (node : NodeWaits) (b : ℕ) (sum piece sum' : WaitCounts) → IsWaited node → AreCountsBefore node b sum → IsPieceCounts node b piece →
     ((most : ℕ) (waits more : List ℕ) → AreCountsTo most waits sum → AreCountsTo most more piece → AreCountsTo most (waits ++ more) sum') → AreCountsBefore node (b + 1) sum'
 counts-more law node b sum piece sum' waited before its added =
     let count = length node.visits.now.job in
-    let first : 0 ≤ start_of count b = omega arith in
-    let rises : start_of count b ≤ start_of count (b + 1) = omega arith in
-    let within : start_of count (b + 1) ≤ count = omega arith in
+    let first : 0 ≤ start_of node.size count b = omega arith in
+    let rises : start_of node.size count b ≤ start_of node.size count (b + 1) = omega arith in
+    let within : start_of node.size count (b + 1) ≤ count = omega arith in
     subst (λ (waits : List ℕ). AreCountsTo node.most waits sum')
-    (law.join node.rows.now node.kind.now node.visits.now waited.visits 0 (start_of count b) (start_of count (b + 1)) first rises within) (added node.most _ _ before its)
+    (law.join node.rows.now node.kind.now node.visits.now waited.visits 0 (start_of node.size count b) (start_of node.size count (b + 1)) first rises within) (added node.most _ _ before its)
 
 -- together they are no more than came
 pub counts-few : WaitsJoin → (node : NodeWaits) (b : ℕ) (sum piece : WaitCounts) → IsWaited node → AreCountsBefore node b sum → IsPieceCounts node b piece → sum.many + piece.many ≤ 1048576
@@ -52,12 +48,12 @@ counts-few law node b sum piece waited before its =
     let jobs = node.visits.now.job in
     let count = length jobs in
     let few = waited.visits.few in
-    let rises : start_of count b ≤ start_of count (b + 1) = omega arith in
-    let within : start_of count (b + 1) ≤ count = omega arith in
-    let low : length (waits_at node.rows.now node.kind.now (visits_between 0 (start_of count b) node.visits.now)) ≤ length (visits_between 0 (start_of count b) node.visits.now).job = law.few node.rows.now node.kind.now (visits_between 0 (start_of count b) node.visits.now) in
-    let high : length (waits_at node.rows.now node.kind.now (visits_between (start_of count b) (start_of count (b + 1)) node.visits.now)) ≤ length (visits_between (start_of count b) (start_of count (b + 1)) node.visits.now).job = law.few node.rows.now node.kind.now (visits_between (start_of count b) (start_of count (b + 1)) node.visits.now) in
-    let came = length-between jobs 0 (start_of count b) (omega arith) (omega arith) in
-    let more = length-between jobs (start_of count b) (start_of count (b + 1)) rises within in
+    let rises : start_of node.size count b ≤ start_of node.size count (b + 1) = omega arith in
+    let within : start_of node.size count (b + 1) ≤ count = omega arith in
+    let low : length (waits_at node.rows.now node.kind.now (visits_between 0 (start_of node.size count b) node.visits.now)) ≤ length (visits_between 0 (start_of node.size count b) node.visits.now).job = law.few node.rows.now node.kind.now (visits_between 0 (start_of node.size count b) node.visits.now) in
+    let high : length (waits_at node.rows.now node.kind.now (visits_between (start_of node.size count b) (start_of node.size count (b + 1)) node.visits.now)) ≤ length (visits_between (start_of node.size count b) (start_of node.size count (b + 1)) node.visits.now).job = law.few node.rows.now node.kind.now (visits_between (start_of node.size count b) (start_of node.size count (b + 1)) node.visits.now) in
+    let came = length-between jobs 0 (start_of node.size count b) (omega arith) (omega arith) in
+    let more = length-between jobs (start_of node.size count b) (start_of node.size count (b + 1)) rises within in
     let first = before.many in
     let second = its.many in
     omega arith
@@ -69,22 +65,21 @@ some-pieces most pieces l = grind (arith, nat_tests)
 pub counts-all : WaitsJoin → (node : NodeWaits) (b : ℕ) (sum : WaitCounts) → IsWaited node → 0 < node.most → b ≡ counted_pieces node → AreCountsBefore node b sum → AreCountsTo node.most (waits_at node.rows.now node.kind.now node.visits.now) sum
 counts-all law node b sum waited some e before =
     let count = length node.visits.now.job in
-    let end : start_of count b ≡ count = ap (start_of count) (e ∙ some-pieces node.most (pieces_in count) some) ∙ pieces-all count in
+    let end : start_of node.size count b ≡ count = ap (start_of node.size count) (e ∙ some-pieces node.most (pieces_in node.size count) some) ∙ pieces-all node.size count (let least = waited.least in omega arith) in
     subst (λ v. AreCountsTo node.most (waits_at node.rows.now node.kind.now v) sum) (ap (λ n. visits_between 0 n node.visits.now) end ∙ law.whole node.rows.now node.kind.now node.visits.now waited.visits) before
 
 -- Nodes. Few visits make few pieces.
-at-most : (b : Bool) (n : ℕ) → n ≤ 65 → cond b 0 n ≤ 65
+at-most : (b : Bool) (n : ℕ) → n ≤ 72 → cond b 0 n ≤ 72
 at-most true n l = omega arith
 at-most false n l = l
 
-pieces-few : (all : List NodeWaits) → Each IsWaited all → total_size counted_pieces all ≤ length all * 65
+pieces-few : (all : List NodeWaits) → Each IsWaited all → total_size counted_pieces all ≤ length all * 72
 pieces-few [] h = omega arith
 pieces-few (node ∷ all) h =
     let few = h.0.visits.few in
     let rest = pieces-few all h.1 in
-    let parts = mod-add-div' (length node.visits.now.job + 16383) 16384 in
-    let own : pieces_in (length node.visits.now.job) ≤ 65 = omega arith in
-    let one : counted_pieces node ≤ 65 = at-most (node.most == 0) (pieces_in (length node.visits.now.job)) own in
+    let own : pieces_in node.size (length node.visits.now.job) ≤ 72 = few-pieces node.size (length node.visits.now.job) h.0.least h.0.size few in
+    let one : counted_pieces node ≤ 72 = at-most (node.most == 0) (pieces_in node.size (length node.visits.now.job)) own in
     omega arith
 
 pub waits-few : (plan : Plan) (rows : Rows) (count : ℕ) (all : List NodeWaits) → AreNodeWaits plan rows count all → count < 2 ^ 16 → total_size counted_pieces all < 2 ^ 32

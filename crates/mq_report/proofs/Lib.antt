@@ -1,6 +1,7 @@
 pub mod Runs
 pub mod Loops
 pub mod JobLines
+pub mod Pieces
 pub mod NodeTotals
 pub mod Spans
 pub mod NodeTails

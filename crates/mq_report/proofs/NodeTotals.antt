@@ -1,7 +1,6 @@
 -- The totals of the nodes, node by node and piece by piece.
-use Rattle.std.proofs.Common.{◌≡◌, ℕ, ◌+◌, ◌*◌, ◌%◌, ◌^◌, ◌<◌, ◌≤◌, ◌++◌, Bool, true, false, List, [], ◌∷◌, Some, length, length-append, ltb, refl, sym, subst, ap, ◌∙◌, arith}
+use Rattle.std.proofs.Common.{◌≡◌, ℕ, ◌+◌, ◌*◌, ◌^◌, ◌<◌, ◌≤◌, ◌++◌, Bool, true, false, List, [], ◌∷◌, Some, length, length-append, ltb, refl, sym, subst, ap, ◌∙◌, arith}
 use Rattle.std.specs.Prelude.{slice_get, slice_index_or, ◌-◌}
-use Rattle.std.proofs.Math.Nat.{mod-add-div'}
 use Rattle.std.proofs.lemmas.Bool.{ltb-true}
 use Rattle.std.proofs.lemmas.Bool.Decides.{nat_tests}
 use Rattle.std.proofs.lemmas.Option.{get_or_from_slice_get, slice_get-get_or, slice_get_within}
@@ -16,7 +15,8 @@ use Rattle.mq_core.specs.declared.model.Node.{Node}
 use Rattle.mq_core.specs.declared.model.Plan.{Plan}
 use Rattle.mq_core.specs.declared.model.Rows.{Rows}
 use Rattle.mq_crew.specs.Crew.{AreAll, total_size}
-use Rattle.mq_report.specs.Totals.{AreNodeTotals, AreNodeVisits, AreVisitsAt, IsPieceTotals, IsTotalsAt, IsVisited, pieces_in, pieces_of, start_of}
+use Rattle.mq_report.proofs.Pieces.{few-pieces, pieces-all}
+use Rattle.mq_report.specs.Totals.{AreNodeTotals, AreNodeVisits, AreVisitsAt, IsPieceTotals, IsTotalsAt, IsVisited, pieces_of, start_of}
 use Rattle.mq_report.specs.declared.totals.NodeVisits.{NodeVisits}
 use Rattle.mq_stats.specs.Numbers.{TotalsJoin, added_totals, totals_from, visits_between}
 use Rattle.mq_stats.specs.declared.tallies.NodeTotals.{NodeTotals}
@@ -37,24 +37,41 @@ pushed-at P v xs xs' y len each at grown u x here = go (ap (λ l. slice_get l u)
         let same : y ≡ x = some_inj y x (sym (get-last xs y) ∙ (ap (slice_get (xs ++ y ∷ [])) (sym last) ∙ there)) in
         subst (P u) same (subst (λ (n : ℕ). P n y) (sym (last ∙ len)) at)
 
+-- the item at an index is among all
+pub among-all : {X : Type 0} (P : ℕ → X → Type 0) (count : ℕ) (xs : List X) (b : ℕ) (x : X) → AreAll P count xs → slice_get xs b ≡ Some x → P b x
+among-all P count xs b x all here =
+    let inside = slice_get_within xs b x here in
+    let len = all.len in
+    subst (P b) (get_or_from_slice_get xs b x x here) (all.each b x (subst (λ (n : ℕ). b < n) len inside))
+
+-- one item more
+pub all-more : {X : Type 0} (P : ℕ → X → Type 0) (count : ℕ) (xs xs' : List X) (x : X) → AreAll P count xs → P count x → xs' ≡ xs ++ x ∷ [] → AreAll P (count + 1) xs'
+all-more P count xs xs' x all at grown =
+    let len = all.len in
+    let one = length-append xs (x ∷ []) in
+    let longer = ap length grown in
+    let many : length xs' ≡ count + 1 = omega arith in
+    record {
+      len = many;
+      each = λ b d l.
+          pushed-at P count xs xs' x all.len (λ u y here. among-all P count xs u y all here) at grown b (slice_index_or xs' b d) (slice_get-get_or xs' b d (subst (λ (n : ℕ). b < n) (sym many) l));
+    }
+
 -- Pieces. The one at an index is among all.
 pub piece-at : (node : NodeVisits) (group : List NodeTotals) (b : ℕ) (totals : NodeTotals) → AreAll (IsPieceTotals node) (pieces_of node) group → slice_get group b ≡ Some totals → IsPieceTotals node b totals
-piece-at node group b totals all here =
-    let inside = slice_get_within group b totals here in
-    let len = all.len in
-    subst (IsPieceTotals node b) (get_or_from_slice_get group b totals totals here) (all.each b totals (subst (λ (n : ℕ). b < n) len inside))
+piece-at node group b totals all here = among-all (IsPieceTotals node) (pieces_of node) group b totals all here
 
 -- the totals of the visits before a piece, and those of the piece, added up, are those of the visits before the next
 abbrev pub AreBefore : NodeVisits → ℕ → NodeTotals → Type 0
-AreBefore node b totals = totals_from totals ≡ sequence_totals node.rows.now node.kind.now (visits_between 0 (start_of (length node.visits.now.job) b) node.visits.now) node.span
+AreBefore node b totals = totals_from totals ≡ sequence_totals node.rows.now node.kind.now (visits_between 0 (start_of 16384 (length node.visits.now.job) b) node.visits.now) node.span
 
 pub before-more : TotalsJoin → (node : NodeVisits) (b : ℕ) (sum piece sum' : NodeTotals) → IsVisited node → AreBefore node b sum → IsPieceTotals node b piece → totals_from sum' ≡ added_totals (totals_from sum) (totals_from piece) → AreBefore node (b + 1) sum'
 before-more law node b sum piece sum' visited before its added =
     let count = length node.visits.now.job in
-    let first : 0 ≤ start_of count b = omega arith in
-    let rises : start_of count b ≤ start_of count (b + 1) = omega arith in
-    let within : start_of count (b + 1) ≤ count = omega arith in
-    added ∙ ((λ k. added_totals (before k) (its.0 k)) ∙ law.join node.rows.now node.kind.now node.visits.now visited node.span 0 (start_of count b) (start_of count (b + 1)) first rises within)
+    let first : 0 ≤ start_of 16384 count b = omega arith in
+    let rises : start_of 16384 count b ≤ start_of 16384 count (b + 1) = omega arith in
+    let within : start_of 16384 count (b + 1) ≤ count = omega arith in
+    added ∙ ((λ k. added_totals (before k) (its.0 k)) ∙ law.join node.rows.now node.kind.now node.visits.now visited node.span 0 (start_of 16384 count b) (start_of 16384 count (b + 1)) first rises within)
 
 -- together they are no more than came
 pub before-few : (node : NodeVisits) (b : ℕ) (sum piece : NodeTotals) → IsVisited node → AreBefore node b sum → IsPieceTotals node b piece → sum.came + piece.came ≤ 1048576
@@ -62,33 +79,26 @@ before-few node b sum piece visited before its =
     let jobs = node.visits.now.job in
     let count = length jobs in
     let few = visited.few in
-    let rises : start_of count b ≤ start_of count (b + 1) = omega arith in
-    let within : start_of count (b + 1) ≤ count = omega arith in
-    let came : sum.came ≡ start_of count b - 0 = ap (λ t. t.came) before ∙ length-between jobs 0 (start_of count b) (omega arith) (omega arith) in
-    let more : piece.came ≡ start_of count (b + 1) - start_of count b = ap (λ t. t.came) its.0 ∙ length-between jobs (start_of count b) (start_of count (b + 1)) rises within in
+    let rises : start_of 16384 count b ≤ start_of 16384 count (b + 1) = omega arith in
+    let within : start_of 16384 count (b + 1) ≤ count = omega arith in
+    let came : sum.came ≡ start_of 16384 count b - 0 = ap (λ t. t.came) before ∙ length-between jobs 0 (start_of 16384 count b) (omega arith) (omega arith) in
+    let more : piece.came ≡ start_of 16384 count (b + 1) - start_of 16384 count b = ap (λ t. t.came) its.0 ∙ length-between jobs (start_of 16384 count b) (start_of 16384 count (b + 1)) rises within in
     omega arith
 
 -- the pieces are all visits
-pub pieces-all : (count : ℕ) → start_of count (pieces_in count) ≡ count
-pieces-all count =
-    let parts = mod-add-div' (count + 16383) 16384 in
-    let rest : (count + 16383) % 16384 < 16384 = omega arith in
-    omega arith
-
 pub before-all : TotalsJoin → (node : NodeVisits) (b : ℕ) (sum : NodeTotals) → IsVisited node → b ≡ pieces_of node → AreBefore node b sum → totals_from sum ≡ sequence_totals node.rows.now node.kind.now node.visits.now node.span
 before-all law node b sum visited e before =
     let count = length node.visits.now.job in
-    let end : start_of count b ≡ count = ap (start_of count) e ∙ pieces-all count in
+    let end : start_of 16384 count b ≡ count = ap (start_of 16384 count) e ∙ pieces-all 16384 count (omega arith) in
     before ∙ ap (λ v. sequence_totals node.rows.now node.kind.now v node.span) (ap (λ n. visits_between 0 n node.visits.now) end ∙ law.whole node.rows.now node.kind.now node.visits.now visited)
 
 -- Nodes. Few visits make few pieces.
-pieces-few : (all : List NodeVisits) → Each IsVisited all → total_size pieces_of all ≤ length all * 65
+pieces-few : (all : List NodeVisits) → Each IsVisited all → total_size pieces_of all ≤ length all * 72
 pieces-few [] h = omega arith
 pieces-few (node ∷ all) h =
     let few = h.0.few in
     let rest = pieces-few all h.1 in
-    let parts = mod-add-div' (length node.visits.now.job + 16383) 16384 in
-    let one : pieces_of node ≤ 65 = omega arith in
+    let one : pieces_of node ≤ 72 = few-pieces 16384 (length node.visits.now.job) (omega arith) (omega arith) few in
     omega arith
 
 pub all-few : (plan : Plan) (rows : Rows) (count : ℕ) (all : List NodeVisits) → AreNodeVisits plan rows count all → count < 2 ^ 16 → total_size pieces_of all < 2 ^ 32

@@ -13,20 +13,22 @@ use Rattle.mq_stats.specs.Percentiles.{waits_at}
 use Rattle.mq_stats.specs.WaitCounts.{AreCountsTo}
 use Rattle.mq_stats.specs.declared.wait_counts.WaitCounts.{WaitCounts}
 
--- visits to a node, and a bound up to which a table can count
+-- visits to a node, a bound up to which a table can count, and how many visits a piece may have
 pub record IsWaited (node : NodeWaits) : Type 0 where
   pub visits : AreVisits node.rows.now node.kind.now node.visits.now
-  pub most : node.most ≤ 16384
+  pub most : node.most ≤ 131072
+  pub least : 16384 ≤ node.size
+  pub size : node.size ≤ 131072
 
 -- how many pieces they make: none where no wait is counted
 abbrev pub counted_pieces : NodeWaits → ℕ
-counted_pieces node = cond (node.most == 0) 0 (pieces_in (length node.visits.now.job))
+counted_pieces node = cond (node.most == 0) 0 (pieces_in node.size (length node.visits.now.job))
 
 -- the counts of the waits of the visits of a piece
 abbrev pub IsPieceCounts : NodeWaits → ℕ → WaitCounts → Type 0
 IsPieceCounts node b counts =
     let count = length node.visits.now.job in
-    AreCountsTo node.most (waits_at node.rows.now node.kind.now (visits_between (start_of count b) (start_of count (b + 1)) node.visits.now)) counts
+    AreCountsTo node.most (waits_at node.rows.now node.kind.now (visits_between (start_of node.size count b) (start_of node.size count (b + 1)) node.visits.now)) counts
 
 -- the waits of these visits are those at a node of the run
 abbrev pub AreWaitsAt : Plan → Rows → ℕ → NodeWaits → Type 0

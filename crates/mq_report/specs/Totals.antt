@@ -1,6 +1,6 @@
 -- The totals of the nodes, in a list.
 use Rattle.std.specs.List.{AllByRecursion}
-use Rattle.std.specs.Prelude.{◌≡◌, ◌+◌, ◌*◌, ◌/◌, ◌<◌, ◌^◌, ℕ, List, length, min, Some, slice_get, slice_index_or}
+use Rattle.std.specs.Prelude.{◌≡◌, ◌+◌, ◌-◌, ◌*◌, ◌/◌, ◌<◌, ◌^◌, ℕ, List, length, min, Some, slice_get, slice_index_or}
 use Rattle.mq_core.specs.Results.{totals_of}
 use Rattle.mq_core.specs.Sequences.{sequence_totals}
 use Rattle.mq_core.specs.StandardTable.{run_of}
@@ -21,27 +21,27 @@ pub record AreNodeTotals (plan : Plan) (rows : Rows) (totals : List NodeTotals) 
   pub len : length totals ≡ length plan.net.nodes
   pub each : (v : ℕ) (d : NodeTotals) → v < length plan.net.nodes → IsTotalsAt plan rows v (slice_index_or totals v d)
 
--- Pieces. How many they are of so many visits: 16,384 visits are a piece, and the last one may have fewer.
-abbrev pub pieces_in : ℕ → ℕ
-pieces_in count = (count + 16383) / 16384
+-- Pieces of this size. How many they are of so many visits, where the last one may have fewer.
+abbrev pub pieces_in : ℕ → ℕ → ℕ
+pieces_in size count = (count + (size - 1)) / size
 
 -- where the piece at an index begins
-abbrev pub start_of : ℕ → ℕ → ℕ
-start_of count b = min count (b * 16384)
+abbrev pub start_of : ℕ → ℕ → ℕ → ℕ
+start_of size count b = min count (b * size)
 
 -- visits to a node
 abbrev pub IsVisited : NodeVisits → Type 0
 IsVisited node = AreVisits node.rows.now node.kind.now node.visits.now
 
--- how many pieces they make
+-- how many pieces they make, of 16,384 visits each
 abbrev pub pieces_of : NodeVisits → ℕ
-pieces_of node = pieces_in (length node.visits.now.job)
+pieces_of node = pieces_in 16384 (length node.visits.now.job)
 
 -- the totals of the visits of a piece
 abbrev pub IsPieceTotals : NodeVisits → ℕ → NodeTotals → Type 0
 IsPieceTotals node b totals =
     let count = length node.visits.now.job in
-    (totals_from totals ≡ sequence_totals node.rows.now node.kind.now (visits_between (start_of count b) (start_of count (b + 1)) node.visits.now) node.span) × AreSmall totals
+    (totals_from totals ≡ sequence_totals node.rows.now node.kind.now (visits_between (start_of 16384 count b) (start_of 16384 count (b + 1)) node.visits.now) node.span) × AreSmall totals
 
 -- the totals of these visits are those of a node of the run
 abbrev pub AreVisitsAt : Plan → Rows → ℕ → NodeVisits → Type 0

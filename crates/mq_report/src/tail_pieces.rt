@@ -10,7 +10,7 @@ ghost use Rattle.mq_report.specs.Tails.{AreCounted, IsKnown};
 
 use crate::sections::listed_totals;
 use crate::tails::KnownRun;
-use crate::totals::{PIECE, piece_count};
+use crate::totals::{PIECE, piece_count, piece_ends};
 use mq_base::{List, OutOfMemory};
 use mq_core::{Kind, Node, Rows, Visits, nodes_are_in_limits, runs_have_sequences};
 use mq_crew::{Gate, Pieces, run_parts};
@@ -21,10 +21,11 @@ use mq_stats::{
 use std::alloc::Global;
 use std::thread::Threads;
 
-// Up to how many ticks waits are counted by pieces: such a table fits a processor's own memory.
-const MOST: u64 = 16_384;
+// How many visits are a piece where a wait is longer than the totals have visits in a piece, and up to how many ticks
+// waits are counted by pieces: a table is never longer than its piece.
+const LONG_PIECE: u32 = 131_072;
 
-/// The visits to a node of this kind over a run. A piece of them is the counts of the waits of so many neighbours, up
+/// The visits to a node of this kind over a run. A piece of them is the counts of the waits of `size` neighbours, up
 /// to `most` ticks by themselves. Where that is 0 there are no pieces.
 #[derive(Clone, Copy)]
 pub struct NodeWaits<'a> {
@@ -32,6 +33,7 @@ pub struct NodeWaits<'a> {
     pub kind: &'a Kind,
     pub visits: &'a Visits,
     pub most: u32,
+    pub size: u32,
 }
 
 impl<'a> Pieces for NodeWaits<'a> {
@@ -47,13 +49,11 @@ impl<'a> Pieces for NodeWaits<'a> {
         if self.most == 0 {
             return 0;
         }
-        piece_count(self.visits.job.len() as u32)
+        piece_count(self.visits.job.len() as u32, self.size)
     }
 
     fn piece(&self, alloc: Global, b: u32) -> Result<WaitCounts, OutOfMemory> {
-        let count = self.visits.job.len() as u32;
-        let from = b * PIECE;
-        let to = count.min(from + PIECE);
+        let (from, to) = piece_ends(self.visits.job.len() as u32, self.size, b);
         count_between(
             alloc,
             self.rows,
@@ -68,10 +68,24 @@ impl<'a> Pieces for NodeWaits<'a> {
 
 // Up to how many ticks the waits at a node are counted by pieces, of which this is the longest: 0 where that is too long.
 fn counted_up_to(longest: u64) -> u32
-    ensures most { result ≤ 16384 }
+    ensures most { result ≤ 131072 }
     ensures all { (result ≡ 0) ⊎ (result ≡ longest) }
 {
-    if longest <= MOST { longest as u32 } else { 0 }
+    if longest <= LONG_PIECE as u64 {
+        longest as u32
+    } else {
+        0
+    }
+}
+
+// How many visits are a piece, where waits are counted up to so many ticks: a short table fits a processor's own
+// memory, and so do the visits of a short piece.
+fn visits_in_piece(most: u32) -> u32
+    ensures least { 16384 ≤ result }
+    ensures most { result ≤ 131072 }
+    ensures all { most ≤ 131072 → most ≤ result }
+{
+    if most <= PIECE { PIECE } else { LONG_PIECE }
 }
 
 // The visits to a node over the run.
@@ -84,11 +98,13 @@ fn waits_of_node<'a>(known: &KnownRun<'a>, node: u32, declared: &'a Node) -> Nod
     runs_have_sequences();
     runs_give_visits();
     let totals = listed_totals(known.plan, known.rows, known.totals, node, declared);
+    let most = counted_up_to(totals.longest);
     NodeWaits {
         rows: known.rows,
         kind: &declared.kind,
         visits: known.run.visits.get(node as usize),
-        most: counted_up_to(totals.longest),
+        most,
+        size: visits_in_piece(most),
     }
 }
 
@@ -165,8 +181,8 @@ fn counted_of(
     Ok(counted)
 }
 
-/// The percentiles of the waits at each node over a run, by node, where some job waited and none longer than 16,384 ticks. The
-/// visits are cut into pieces as for the totals, and 1 to 64 workers make them, who enter the gate.
+/// The percentiles of the waits at each node over a run, by node, where some job waited and none longer than 131,072 ticks. The
+/// visits are cut into pieces, as for the totals or longer, and 1 to 64 workers make them, who enter the gate.
 /// It refuses for want of memory alone.
 pub fn counted_tails<R: Threads + Sync, G: Gate>(
     rt: &R,

@@ -13,7 +13,9 @@ ghost use Rattle.mq_report.specs.Totals.{AreNodeTotals};
 use crate::sections::listed_totals;
 use crate::tail_pieces::counted_tails;
 use mq_base::{List, OutOfMemory};
-use mq_core::{Node, Plan, Rows, Run, runs_have_sequences, totals_are_sequences};
+use mq_core::{
+    Node, Plan, Rows, Run, nodes_are_in_limits, runs_have_sequences, totals_are_sequences,
+};
 use mq_crew::{Gate, Pieces, made};
 use mq_stats::{NodeTotals, Percentiles, runs_give_visits, tail_below};
 use std::alloc::Global;
@@ -63,7 +65,27 @@ impl<'a> Pieces for RunTails<'a> {
     }
 }
 
-// The percentiles of the waits at a node over the run, which are looked for only where a job waited and they weren't counted.
+// The percentiles of the waits at a node over the run, where they are known by now: no job waited, or they were counted.
+fn known_tail(
+    known: &KnownRun,
+    counted: Option<Percentiles>,
+    node: u32,
+    declared: &Node,
+) -> Option<Percentiles>
+    requires known { IsKnown known.now }
+    requires there { slice_get known.now.plan.now.net.nodes node ≡ Some declared.now }
+    requires counted { IfSome counted (IsTailAt known.now.plan.now known.now.rows.now node) }
+    ensures { IfSome result (IsTailAt known.now.plan.now known.now.rows.now node) }
+{
+    totals_are_sequences();
+    let totals = listed_totals(known.plan, known.rows, known.totals, node, declared);
+    if totals.longest == 0 {
+        return Some(NO_WAIT);
+    }
+    counted
+}
+
+// The percentiles of the waits at a node over the run, which are looked for only where they aren't known by now.
 fn tail_at(
     alloc: Global,
     known: &KnownRun,
@@ -76,23 +98,37 @@ fn tail_at(
     requires counted { IfSome counted (IsTailAt known.now.plan.now known.now.rows.now node) }
     ensures { IfOk result (IsTailAt known.now.plan.now known.now.rows.now node) }
 {
-    totals_are_sequences();
-    let totals = listed_totals(known.plan, known.rows, known.totals, node, declared);
-    if totals.longest == 0 {
-        return Ok(NO_WAIT);
-    }
-    if let Some(tail) = counted {
+    if let Some(tail) = known_tail(known, counted, node, declared) {
         return Ok(tail);
     }
     runs_have_sequences();
     runs_give_visits();
+    let totals = listed_totals(known.plan, known.rows, known.totals, node, declared);
     let visits = known.run.visits.get(node as usize);
     tail_below(alloc, known.rows, &declared.kind, visits, totals.longest)
 }
 
+// The percentiles of the waits at each node, where all are known by now.
+fn known_tails(alloc: Global, of: &RunTails) -> Result<Option<List<Percentiles>>, OutOfMemory>
+    requires { IsRun of.now }
+    ensures { IfOk result (λ known. IfSome known (AreNodeTails of.now.known.plan.now of.now.known.rows.now)) }
+{
+    let plan = of.known.plan;
+    nodes_are_in_limits();
+    let mut tails = List::new(alloc);
+    for node in 0..plan.net.nodes.len() {
+        let declared = plan.net.nodes.get(node);
+        let Some(tail) = known_tail(&of.known, *of.counted.get(node), node as u32, declared) else {
+            return Ok(None);
+        };
+        tails.push(tail)?;
+    }
+    Ok(Some(tails))
+}
+
 /// The percentiles of the waits at each node over a run with these totals, by node. Mostly the waits are counted, by pieces of
 /// the visits; a node with percentiles that aren't counted by themselves is a piece of its own. 1 to 64 workers make the pieces,
-/// who enter the gate. No node has more than 1,048,576 visits. It refuses for want of memory alone.
+/// who enter the gate. Where no piece is left there are no workers. No node has more than 1,048,576 visits. It refuses for want of memory alone.
 pub fn node_tails<R: Threads + Sync, G: Gate>(
     rt: &R,
     alloc: Global,
@@ -122,6 +158,9 @@ pub fn node_tails<R: Threads + Sync, G: Gate>(
         known,
         counted: &counted,
     };
+    if let Some(tails) = known_tails(alloc, &nodes)? {
+        return Ok(tails);
+    }
     made(rt, alloc, workers, &nodes, gate)
 }
 

@@ -1,5 +1,5 @@
 // The totals of the nodes, by pieces of their visits.
-ghost use Rattle.std.specs.Prelude.{◌≡◌, ◌≤◌, ◌<◌, ◌^◌, length, IfOk, Some, slice_get};
+ghost use Rattle.std.specs.Prelude.{◌≡◌, ◌+◌, ◌≤◌, ◌<◌, ◌^◌, length, IfOk, Some, slice_get};
 ghost use Rattle.mq_core.specs.Results.{totals_of};
 ghost use Rattle.mq_core.specs.Sequences.{IsRunOf, sequence_totals};
 ghost use Rattle.mq_core.specs.StandardTable.{run_of};
@@ -7,7 +7,7 @@ ghost use Rattle.mq_core.specs.Theorems.{IsReadFor};
 ghost use Rattle.mq_crew.specs.Crew.{AreAll, AreGroups};
 ghost use Rattle.mq_stats.specs.Numbers.{totals_from};
 ghost use Rattle.mq_stats.specs.RunNumbers.{HasFewVisits};
-ghost use Rattle.mq_report.specs.Totals.{AreNodeTotals, AreNodeVisits, IsPieceTotals, IsVisited, pieces_in, pieces_of};
+ghost use Rattle.mq_report.specs.Totals.{AreNodeTotals, AreNodeVisits, IsPieceTotals, IsVisited, pieces_in, pieces_of, start_of};
 
 use crate::sections::span_of;
 use mq_base::{List, OutOfMemory};
@@ -43,24 +43,38 @@ impl<'a> Pieces for NodeVisits<'a> {
     ghost is_piece = { IsPieceTotals };
 
     fn count(&self) -> u32 {
-        piece_count(self.visits.job.len() as u32)
+        piece_count(self.visits.job.len() as u32, PIECE)
     }
 
     fn piece(&self, _alloc: Global, b: u32) -> Result<NodeTotals, OutOfMemory> {
-        let count = self.visits.job.len() as u32;
-        let from = b * PIECE;
-        let to = count.min(from + PIECE);
+        let (from, to) = piece_ends(self.visits.job.len() as u32, PIECE, b);
         let totals = totals_between(self.rows, self.kind, self.visits, self.span, from, to);
         Ok(totals)
     }
 }
 
-// How many pieces so many visits make.
-pub fn piece_count(count: u32) -> u32
-    requires { count ≤ 1048576 }
-    ensures { result ≡ pieces_in count }
+// How many pieces of this size so many visits make.
+pub fn piece_count(count: u32, size: u32) -> u32
+    requires few { count ≤ 1048576 }
+    requires some { 0 < size }
+    requires short { size ≤ 131072 }
+    ensures { result ≡ pieces_in size count }
 {
-    (count + (PIECE - 1)) / PIECE
+    (count + (size - 1)) / size
+}
+
+// Where the piece at an index begins and ends.
+pub fn piece_ends(count: u32, size: u32, b: u32) -> (u32, u32)
+    requires few { count ≤ 1048576 }
+    requires some { 0 < size }
+    requires short { size ≤ 131072 }
+    requires inside { b < pieces_in size count }
+    ensures from { result.0 ≡ start_of size count b }
+    ensures to { result.1 ≡ start_of size count (b + 1) }
+{
+    let from = b * size;
+    let next = from + size;
+    (from, count.min(next))
 }
 
 // The visits to a node over the run.

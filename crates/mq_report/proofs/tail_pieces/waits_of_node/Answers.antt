@@ -14,6 +14,8 @@ returns-clause-waited c = record {
       (visits_are c.runs_have_sequences.ensures c.args.known.now.plan.now c.args.known.now.rows.now c.args.known.now.run.now c.args.node c.args.declared.now c.get.result.now c.requires.known.run c.requires.there c.get.ensures)
       (c.runs_give_visits.ensures c.args.known.now.plan.now c.args.known.now.rows.now c.requires.known.read c.args.node c.args.declared.now c.requires.there (c.requires.known.few c.args.node c.args.declared.now c.requires.there));
   most = omega arith;
+  least = omega arith;
+  size = omega arith;
 }
 
 pub returns-clause-waits : goal.returns-clause-waits

@@ -1,8 +1,7 @@
-use Rattle.std.proofs.Common.{refl, rules, subst}
+use Rattle.std.proofs.Common.{subst}
 use Rattle.mq_stats.specs.Numbers.{AreVisits}
 use Rattle.mq_report.proofs.Runs.{visits_are, visits_inside}
 use Rattle.mq_report.proofs.NodeTails.{tail-at}
-use Rattle.mq_report.proofs.NoWaits.{no-tail}
 use Rattle.mq_report.proofs.tails.tail_at.Goals as goal
 
 pub get-visits-requires : goal.get-visits-requires
@@ -13,9 +12,6 @@ tail_below-requires c =
     subst (AreVisits c.args.known.now.rows.now c.args.declared.now.kind)
     (visits_are c.runs_have_sequences.ensures c.args.known.now.plan.now c.args.known.now.rows.now c.args.known.now.run.now c.args.node c.args.declared.now c.get-visits.result.now c.requires.known.run c.requires.there c.get-visits.ensures)
     (c.runs_give_visits.ensures c.args.known.now.plan.now c.args.known.now.rows.now c.requires.known.read c.args.node c.args.declared.now c.requires.there (c.requires.known.few c.args.node c.args.declared.now c.requires.there))
-
-pub returns-then-totals-eq0 : goal.returns-then-totals-eq0
-returns-then-totals-eq0 c = no-tail c.totals_are_sequences.ensures c.args.known.now.plan.now c.args.known.now.rows.now c.requires.known.read c.args.node c.args.declared.now c.listed_totals-totals.result _ c.requires.there c.listed_totals-totals.ensures.totals (search rules) refl refl refl
 
 pub returns : goal.returns
 returns c =
