@@ -69,17 +69,17 @@ counts-all law node b sum waited some e before =
     subst (λ v. AreCountsTo node.most (waits_at node.rows.now node.kind.now v) sum) (ap (λ n. visits_between 0 n node.visits.now) end ∙ law.whole node.rows.now node.kind.now node.visits.now waited.visits) before
 
 -- Nodes. Few visits make few pieces.
-at-most : (b : Bool) (n : ℕ) → n ≤ 72 → cond b 0 n ≤ 72
+at-most : (b : Bool) (n : ℕ) → n ≤ 128 → cond b 0 n ≤ 128
 at-most true n l = omega arith
 at-most false n l = l
 
-pieces-few : (all : List NodeWaits) → Each IsWaited all → total_size counted_pieces all ≤ length all * 72
+pieces-few : (all : List NodeWaits) → Each IsWaited all → total_size counted_pieces all ≤ length all * 128
 pieces-few [] h = omega arith
 pieces-few (node ∷ all) h =
     let few = h.0.visits.few in
     let rest = pieces-few all h.1 in
-    let own : pieces_in node.size (length node.visits.now.job) ≤ 72 = few-pieces node.size (length node.visits.now.job) h.0.least h.0.size few in
-    let one : counted_pieces node ≤ 72 = at-most (node.most == 0) (pieces_in node.size (length node.visits.now.job)) own in
+    let own : pieces_in node.size (length node.visits.now.job) ≤ 128 = few-pieces node.size (length node.visits.now.job) h.0.least h.0.size few in
+    let one : counted_pieces node ≤ 128 = at-most (node.most == 0) (pieces_in node.size (length node.visits.now.job)) own in
     omega arith
 
 pub waits-few : (plan : Plan) (rows : Rows) (count : ℕ) (all : List NodeWaits) → AreNodeWaits plan rows count all → count < 2 ^ 16 → total_size counted_pieces all < 2 ^ 32

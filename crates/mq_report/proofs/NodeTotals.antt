@@ -93,12 +93,12 @@ before-all law node b sum visited e before =
     before ∙ ap (λ v. sequence_totals node.rows.now node.kind.now v node.span) (ap (λ n. visits_between 0 n node.visits.now) end ∙ law.whole node.rows.now node.kind.now node.visits.now visited)
 
 -- Nodes. Few visits make few pieces.
-pieces-few : (all : List NodeVisits) → Each IsVisited all → total_size pieces_of all ≤ length all * 72
+pieces-few : (all : List NodeVisits) → Each IsVisited all → total_size pieces_of all ≤ length all * 128
 pieces-few [] h = omega arith
 pieces-few (node ∷ all) h =
     let few = h.0.few in
     let rest = pieces-few all h.1 in
-    let one : pieces_of node ≤ 72 = few-pieces 16384 (length node.visits.now.job) (omega arith) (omega arith) few in
+    let one : pieces_of node ≤ 128 = few-pieces 16384 (length node.visits.now.job) (omega arith) (omega arith) few in
     omega arith
 
 pub all-few : (plan : Plan) (rows : Rows) (count : ℕ) (all : List NodeVisits) → AreNodeVisits plan rows count all → count < 2 ^ 16 → total_size pieces_of all < 2 ^ 32

@@ -19,7 +19,7 @@ pieces-all size count some =
     omega arith
 
 -- few visits make few pieces
-pub few-pieces : (size count : ℕ) → 16384 ≤ size → size ≤ 131072 → count ≤ 1048576 → pieces_in size count ≤ 72
+pub few-pieces : (size count : ℕ) → 16384 ≤ size → size ≤ 1048576 → count ≤ 1048576 → pieces_in size count ≤ 128
 few-pieces size count least most few =
     let parts = mod-add-div' (count + (size - 1)) size in
     let low = mul-le-mul_left (pieces_in size count) least in

@@ -21,10 +21,6 @@ use mq_stats::{
 use std::alloc::Global;
 use std::thread::Threads;
 
-// How many visits are a piece where a wait is longer than the totals have visits in a piece, and up to how many ticks
-// waits are counted by pieces: a table is never longer than its piece.
-const LONG_PIECE: u32 = 131_072;
-
 /// The visits to a node of this kind over a run. A piece of them is the counts of the waits of `size` neighbours, up
 /// to `most` ticks by themselves. Where that is 0 there are no pieces.
 #[derive(Clone, Copy)]
@@ -66,26 +62,29 @@ impl<'a> Pieces for NodeWaits<'a> {
     }
 }
 
-// Up to how many ticks the waits at a node are counted by pieces, of which this is the longest: 0 where that is too long.
-fn counted_up_to(longest: u64) -> u32
-    ensures most { result ≤ 131072 }
+// Up to how many ticks the waits of so many visits are counted by pieces, of which this is the longest: 0 where a table for
+// it would be longer than a piece and than all visits.
+fn counted_up_to(longest: u64, visits: u32) -> u32
+    requires { visits ≤ 1048576 }
+    ensures most { result ≤ 1048576 }
     ensures all { (result ≡ 0) ⊎ (result ≡ longest) }
 {
-    if longest <= LONG_PIECE as u64 {
+    if longest <= PIECE.max(visits) as u64 {
         longest as u32
     } else {
         0
     }
 }
 
-// How many visits are a piece, where waits are counted up to so many ticks: a short table fits a processor's own
-// memory, and so do the visits of a short piece.
+// How many visits are a piece, where waits are counted up to so many ticks: so no table is longer than a whole piece, and one of
+// a short piece fits a processor's own memory.
 fn visits_in_piece(most: u32) -> u32
+    requires { most ≤ 1048576 }
     ensures least { 16384 ≤ result }
-    ensures most { result ≤ 131072 }
-    ensures all { most ≤ 131072 → most ≤ result }
+    ensures most { result ≤ 1048576 }
+    ensures all { most ≤ result }
 {
-    if most <= PIECE { PIECE } else { LONG_PIECE }
+    PIECE.max(most)
 }
 
 // The visits to a node over the run.
@@ -98,11 +97,12 @@ fn waits_of_node<'a>(known: &KnownRun<'a>, node: u32, declared: &'a Node) -> Nod
     runs_have_sequences();
     runs_give_visits();
     let totals = listed_totals(known.plan, known.rows, known.totals, node, declared);
-    let most = counted_up_to(totals.longest);
+    let visits = known.run.visits.get(node as usize);
+    let most = counted_up_to(totals.longest, visits.job.len() as u32);
     NodeWaits {
         rows: known.rows,
         kind: &declared.kind,
-        visits: known.run.visits.get(node as usize),
+        visits,
         most,
         size: visits_in_piece(most),
     }
@@ -181,8 +181,9 @@ fn counted_of(
     Ok(counted)
 }
 
-/// The percentiles of the waits at each node over a run, by node, where some job waited and none longer than 131,072 ticks. The
-/// visits are cut into pieces, as for the totals or longer, and 1 to 64 workers make them, who enter the gate.
+/// The percentiles of the waits at each node over a run, by node, where some job waited, and none longer than 16,384
+/// ticks or as many as there are visits. The visits are cut into pieces, as for the totals, or as long as the longest wait, and 1 to 64
+/// workers make them, who enter the gate.
 /// It refuses for want of memory alone.
 pub fn counted_tails<R: Threads + Sync, G: Gate>(
     rt: &R,

@@ -57,7 +57,7 @@ impl<'a> Pieces for NodeVisits<'a> {
 pub fn piece_count(count: u32, size: u32) -> u32
     requires few { count ≤ 1048576 }
     requires some { 0 < size }
-    requires short { size ≤ 131072 }
+    requires short { size ≤ 1048576 }
     ensures { result ≡ pieces_in size count }
 {
     (count + (size - 1)) / size
@@ -67,7 +67,7 @@ pub fn piece_count(count: u32, size: u32) -> u32
 pub fn piece_ends(count: u32, size: u32, b: u32) -> (u32, u32)
     requires few { count ≤ 1048576 }
     requires some { 0 < size }
-    requires short { size ≤ 131072 }
+    requires short { size ≤ 1048576 }
     requires inside { b < pieces_in size count }
     ensures from { result.0 ≡ start_of size count b }
     ensures to { result.1 ≡ start_of size count (b + 1) }
