@@ -26,12 +26,13 @@ use Rattle.mq_crew.proofs.lemmas.Groups.{ArePassing}
 use Rattle.mq_crew.proofs.lemmas.Sizes.{total-most}
 use Rattle.mq_scan.specs.declared.blocks.Blocks.{Blocks}
 use Rattle.mq_scan.proofs.lemmas.Blocks.{behind-begin, behind-end, behind-more, blocks-few, end_of}
-use Rattle.mq_arrivals.specs.Arrivals.{CanCome, HasArrived, IsArriving, Pairs, arriving, pairs_read, stream_in}
+use Rattle.mq_merge.specs.Borrowed.{stream_in}
+use Rattle.mq_merge.specs.declared.arrivals.Arrivals.{Arrivals}
+use Rattle.mq_arrivals.specs.Arrivals.{CanCome, HasArrived, IsArriving, Pairs, arriving, pairs_read}
 use Rattle.mq_arrivals.specs.Merges.{ArePairsOf, HasCome, IsBlockOf, IsComing, IsPair, IsReadyOrigin, IsSortedPiece, arriving_by, has_port, pairs_from, pieces_of}
 use Rattle.mq_arrivals.specs.declared.merges.Coming.{Coming}
 use Rattle.mq_arrivals.specs.declared.merges.Origin.{Origin}
 use Rattle.mq_arrivals.specs.declared.merges.Origin.TheVariants.{Ended, Ports, Unsorted}
-use Rattle.mq_arrivals.specs.declared.nodes.Arrivals.{Arrivals}
 use Rattle.mq_arrivals.specs.declared.nodes.Arrived.{Arrived}
 use Rattle.mq_arrivals.specs.declared.nodes.Arriving.{Arriving}
 use Rattle.mq_arrivals.proofs.Sorted.{by_first-rises}

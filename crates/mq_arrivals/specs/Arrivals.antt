@@ -9,15 +9,9 @@ use Rattle.mq_core.specs.declared.model.Input.{Input}
 use Rattle.mq_core.specs.declared.model.Node.{Node}
 use Rattle.mq_core.specs.declared.model.Rows.{Rows}
 use Rattle.mq_core.specs.declared.model.Stream.{Stream}
-use Rattle.mq_arrivals.specs.declared.nodes.Arrivals.{Arrivals}
-use Rattle.mq_arrivals.specs.declared.nodes.Arrivals.TheVariants.{Merged, Read}
+use Rattle.mq_merge.specs.Borrowed.{stream_in}
 use Rattle.mq_arrivals.specs.declared.nodes.Arrived.{Arrived}
 use Rattle.mq_arrivals.specs.declared.nodes.Arriving.{Arriving}
-
--- what came to a node, as a stream
-abbrev pub stream_in : Arrivals → Stream
-stream_in (Merged stream) = stream
-stream_in (Read stream) = stream.now
 
 -- times, each with its job
 abbrev pub Pairs : Type 0

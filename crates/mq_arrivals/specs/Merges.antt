@@ -9,7 +9,8 @@ use Rattle.mq_core.specs.declared.model.Node.{Node}
 use Rattle.mq_core.specs.declared.model.Rows.{Rows}
 use Rattle.mq_core.specs.declared.model.Stream.{Stream}
 use Rattle.mq_scan.specs.declared.blocks.Blocks.{Blocks}
-use Rattle.mq_arrivals.specs.Arrivals.{Pairs, pairs_read, stream_in}
+use Rattle.mq_merge.specs.Borrowed.{stream_in}
+use Rattle.mq_arrivals.specs.Arrivals.{Pairs, pairs_read}
 use Rattle.mq_arrivals.specs.declared.nodes.Arriving.{Arriving}
 use Rattle.mq_arrivals.specs.declared.merges.Coming.{Coming}
 use Rattle.mq_arrivals.specs.declared.merges.Origin.{Origin}

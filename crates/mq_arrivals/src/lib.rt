@@ -17,7 +17,7 @@ pub use merges::is_source;
 use mq_base::{List, OutOfMemory};
 use mq_core::{Stream, nodes_are_in_limits};
 use mq_crew::{Gate, run_parts};
-pub use nodes::{Arrivals, Arrived, Arriving};
+pub use nodes::{Arrived, Arriving};
 pub use rows::stream_of;
 use std::alloc::Global;
 use std::thread::Threads;

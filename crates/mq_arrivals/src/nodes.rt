@@ -1,9 +1,7 @@
 // The nodes that are ready, and what came to each.
-ghost use Rattle.std.specs.Prelude.{◌≡◌};
-ghost use Rattle.mq_arrivals.specs.Arrivals.{stream_in};
-
 use mq_base::List;
 use mq_core::{Plan, Rows, Stream};
+use mq_merge::Arrivals;
 
 /// The nodes that are ready, and the streams of those that are done.
 #[derive(Clone, Copy)]
@@ -18,27 +16,6 @@ pub struct Arriving<'a> {
     pub workers: u32,
     /// How many items a block has at least: 1 at least.
     pub block: u32,
-}
-
-/// The jobs that came to a node and when, in order of time.
-#[derive(Drop)]
-pub enum Arrivals<'a> {
-    /// The rows of a source, or what several ports read, merged.
-    Merged(Stream),
-    /// What the one port of a node reads.
-    Read(&'a Stream),
-}
-
-impl<'a> Arrivals<'a> {
-    /// They, as a stream.
-    pub fn stream(&self) -> &Stream
-        ensures { result.now ≡ stream_in self.now }
-    {
-        match self {
-            Arrivals::Merged(stream) => stream,
-            Arrivals::Read(stream) => stream,
-        }
-    }
 }
 
 /// What came to a node.

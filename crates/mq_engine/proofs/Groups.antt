@@ -11,7 +11,7 @@ use Rattle.mq_crew.specs.Crew.{AreAll, total_size}
 use Rattle.mq_crew.proofs.lemmas.Groups.{ArePassing, all-last, append-at, append-before}
 use Rattle.mq_crew.proofs.lemmas.Sizes.{total-most}
 use Rattle.mq_scan.proofs.lemmas.Blocks.{blocks-few}
-use Rattle.mq_arrivals.specs.Arrivals.{stream_in}
+use Rattle.mq_merge.specs.Borrowed.{stream_in}
 use Rattle.mq_arrivals.specs.declared.nodes.Arrived.{Arrived}
 use Rattle.mq_arrivals.specs.declared.nodes.Arriving.{Arriving}
 use Rattle.mq_exits.specs.Exits.{IsReadyExit}

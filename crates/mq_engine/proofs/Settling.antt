@@ -1,27 +1,50 @@
 -- What the nodes worked out in a wave change: which nodes wait, and how many.
-use Rattle.std.proofs.Common.{◌≡◌, ℕ, ◌+◌, ◌<◌, ◌≤◌, ◌⊎◌, inl, inr, Bool, true, false, cond, List, [], ◌∷◌, ◌++◌, length, get_or, set, Option, Some, None, refl, sym, ap, ◌∙◌, subst, arith}
+use Rattle.std.proofs.Common.{◌≡◌, ℕ, ◌+◌, ◌<◌, ◌≤◌, ◌⊎◌, inl, inr, All, Bool, true, false, cond, List, [], ◌∷◌, ◌++◌, length, get_or, set, Option, Some, None, refl, sym, ap, ◌∙◌, subst, arith}
 use Rattle.std.specs.Prelude.{count_by, filter, slice_get}
 use Rattle.std.specs.List.{AllByRecursion as Each}
 use Rattle.std.proofs.lemmas.Bool.{and_parts}
 use Rattle.std.proofs.lemmas.List.{length-set}
 use Rattle.std.proofs.lemmas.List.Sums.{count_by-le-length, length-filter, sum_by-set}
-use Rattle.std.proofs.lemmas.Option.{slice_get-get_or, slice_get_within}
+use Rattle.std.proofs.lemmas.Option.{get_or_from_slice_get, slice_get-get_or, slice_get_within}
 use Rattle.mq_base.proofs.lemmas.Lists.{some_inj}
 use Rattle.mq_base.proofs.lemmas.Each.{Each-back, Each-front, Each-weaker}
+use Rattle.mq_core.specs.declared.model.Node.{Node}
 use Rattle.mq_core.specs.declared.model.Plan.{Plan}
 use Rattle.mq_core.specs.declared.model.Rows.{Rows}
 use Rattle.mq_core.specs.declared.model.Stream.{Stream}
 use Rattle.mq_core.specs.declared.model.Visits.{Visits}
 use Rattle.mq_exits.specs.Results.{IsResultOf}
-use Rattle.mq_engine.specs.Progress.{AreWaiting, AreWorkedOut, IsEndPut, IsPut, IsReached, is_ready, is_waiting, reads_done, stands_at}
+use Rattle.mq_engine.specs.Progress.{AreWaiting, AreWorkedOut, IsEndPut, IsPut, IsReached, Tells, is_ready, is_waiting, reads_done, stands_at}
 use Rattle.mq_engine.specs.declared.progress.Stand.{Stand}
-use Rattle.mq_engine.specs.declared.progress.Stand.TheVariants.{Done, Crowded, Late}
+use Rattle.mq_engine.specs.declared.progress.Stand.TheVariants.{Waiting, Done, Crowded, Late}
 use Rattle.mq_exits.specs.declared.working.Ending.{Ending}
 use Rattle.mq_exits.specs.declared.working.Ending.TheVariants.{OnTime, TooMany, TooLate}
 use Rattle.mq_exits.specs.declared.working.NodeResult.{NodeResult}
 use Rattle.mq_engine.proofs.Lists.{filter-passes}
 use Rattle.mq_core.proofs.lemmas.Plans.{order-few}
 use Rattle.mq_engine.proofs.Waves.{put-keeps}
+
+-- where no node is worked out and all wait, what stands at a node is what the run has
+pub reached-begins : (plan : Plan) (rows : Rows) (visits : List Visits) (outputs : List (List Stream)) (stands : List Stand) → length visits ≡ length plan.net.nodes → length outputs ≡ length plan.net.nodes → All (λ streams. streams ≡ []) outputs →
+    length stands ≡ length plan.net.nodes → All (λ stand. is_waiting stand ≡ true) stands → IsReached plan rows visits outputs stands
+reached-begins plan rows visits outputs stands came left none stand waits =
+    record {
+      came = came;
+      left = left;
+      stand = stand;
+      told = λ v node at there e. tells v node at (ap is_waiting (sym (get_or_from_slice_get stands v at at e)) ∙ waits v at (slice_get_within stands v at e));
+      early = λ u out streams stream a b.
+          let empty : streams ≡ [] = sym (get_or_from_slice_get outputs u streams streams a) ∙ none u streams (slice_get_within outputs u streams a) in
+          let inside = slice_get_within streams out stream b in
+          let no = ap length empty in
+          absurd (omega arith);
+    }
+  where
+    tells : (v : ℕ) (node : Node) (at : Stand) → is_waiting at ≡ true → Tells plan rows visits outputs v node at
+    tells v node Waiting h = tt
+    tells v node Done h = absurd cc
+    tells v node (Crowded fault) h = absurd cc
+    tells v node (Late fault) h = absurd cc
 
 -- a node that waits is there
 stand-there : (stands : List Stand) (v : ℕ) (o : Option Stand) → slice_get stands v ≡ o → stands_at is_waiting o ≡ true → (v < length stands) × ((d : Stand) → is_waiting (get_or stands v d) ≡ true)

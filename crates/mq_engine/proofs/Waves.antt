@@ -30,7 +30,8 @@ use Rattle.mq_core.specs.declared.model.Stream.{Stream}
 use Rattle.mq_core.specs.declared.model.Visits.{Visits}
 use Rattle.mq_stations.specs.Leaving.{IsEarlyStream, IsLoad}
 use Rattle.mq_stations.proofs.lemmas.Lists.{Each-get}
-use Rattle.mq_arrivals.specs.Arrivals.{CanCome, HasArrived, IsArriving, IsThere, arriving, pairs_by, pairs_in, pairs_read, stream_in}
+use Rattle.mq_merge.specs.Borrowed.{stream_in}
+use Rattle.mq_arrivals.specs.Arrivals.{CanCome, HasArrived, IsArriving, IsThere, arriving, pairs_by, pairs_in, pairs_read}
 use Rattle.mq_arrivals.specs.declared.nodes.Arrived.{Arrived}
 use Rattle.mq_arrivals.specs.declared.nodes.Arriving.{Arriving}
 use Rattle.mq_exits.specs.Loads.{IsArrived}

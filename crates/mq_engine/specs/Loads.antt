@@ -15,7 +15,7 @@ use Rattle.mq_core.specs.declared.model.Stream.{Stream}
 use Rattle.mq_stations.specs.Scans.{AreFewBlocks, AreTandemCarries, AreTandemTimes, IsForkJoinScan, IsTandemScan, IsTandemSum}
 use Rattle.mq_stations.specs.declared.tandem.TandemScan.{TandemScan}
 use Rattle.mq_scan.specs.declared.blocks.Blocks.{Blocks}
-use Rattle.mq_arrivals.specs.Arrivals.{stream_in}
+use Rattle.mq_merge.specs.Borrowed.{stream_in}
 use Rattle.mq_arrivals.specs.declared.nodes.Arrived.{Arrived}
 use Rattle.mq_arrivals.specs.declared.nodes.Arriving.{Arriving}
 use Rattle.mq_exits.specs.Afters.{IsWorkedAt}

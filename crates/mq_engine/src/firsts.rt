@@ -1,7 +1,7 @@
 // The first pieces of the stations that are ready: summaries of blocks, and whole stations.
 ghost use Rattle.std.specs.Prelude.{◌≡◌, ◌<◌, ◌≤◌, ℕ, List as Items, length, map, IfOk, slice_index_or};
 ghost use Rattle.mq_crew.specs.Crew.{AreAll};
-ghost use Rattle.mq_arrivals.specs.Arrivals.{stream_in};
+ghost use Rattle.mq_merge.specs.Borrowed.{stream_in};
 ghost use Rattle.mq_engine.specs.Loads.{IsPart, IsReadyScanned, IsRouted, IsScanned, IsStage, IsTandemPart, IsWhole, blocks_of};
 ghost use Rattle.mq_stations.specs.Scans.{IsTandemSum};
 ghost use Rattle.mq_maxplus.specs.declared.mp.Mp.{Mp as TheMp};

@@ -3,7 +3,7 @@ ghost use Rattle.std.specs.Prelude.{◌≡◌, ◌<◌, ◌≤◌, IfOk};
 ghost use Rattle.mq_core.specs.Recurrences.{lindley};
 ghost use Rattle.mq_core.specs.Sequences.{IsSoundLoad};
 ghost use Rattle.mq_crew.specs.Crew.{AreAll};
-ghost use Rattle.mq_arrivals.specs.Arrivals.{stream_in};
+ghost use Rattle.mq_merge.specs.Borrowed.{stream_in};
 ghost use Rattle.mq_exits.specs.Exits.{IsExit};
 ghost use Rattle.mq_engine.specs.Loads.{IsAll, IsApplied, IsLatest, IsParted, IsReadyMiddle, IsScanned, IsStage, applied_of};
 ghost use Rattle.mq_engine.specs.declared.firsts.Stage.TheVariants.{Ended, Parted};

@@ -9,7 +9,7 @@ use Rattle.mq_core.specs.declared.model.Stream.{Stream}
 use Rattle.mq_crew.specs.Crew.{total_size}
 use Rattle.mq_crew.proofs.lemmas.Groups.{ArePassing}
 use Rattle.mq_crew.proofs.lemmas.Sizes.{total-most}
-use Rattle.mq_arrivals.specs.Arrivals.{stream_in}
+use Rattle.mq_merge.specs.Borrowed.{stream_in}
 use Rattle.mq_exits.specs.Exits.{IsExit, IsLast, IsReadyExit, closings_of, lasts_of}
 use Rattle.mq_exits.specs.Loads.{IsLoadOf}
 use Rattle.mq_exits.specs.Results.{IsResultOf, IsWorkedOut}

@@ -5,9 +5,9 @@ use Rattle.mq_core.specs.declared.model.Rows.{Rows}
 use Rattle.mq_core.specs.declared.model.Stream.{Stream}
 use Rattle.mq_crew.specs.Crew.{AreAll}
 use Rattle.mq_crew.proofs.lemmas.Groups.{all-last}
-use Rattle.mq_arrivals.specs.Arrivals.{stream_in}
-use Rattle.mq_arrivals.specs.declared.nodes.Arrivals.{Arrivals}
-use Rattle.mq_arrivals.specs.declared.nodes.Arrivals.TheVariants.{Merged, Read}
+use Rattle.mq_merge.specs.Borrowed.{stream_in}
+use Rattle.mq_merge.specs.declared.arrivals.Arrivals.{Arrivals}
+use Rattle.mq_merge.specs.declared.arrivals.Arrivals.TheVariants.{Merged, Read}
 use Rattle.mq_exits.specs.Exits.{IsClosed, IsCopy, IsLast, closings_of, copies_of, lasts_of}
 use Rattle.mq_exits.specs.declared.exits.Closed.{Closed}
 use Rattle.mq_exits.specs.declared.exits.Closed.TheVariants.{Came, Departures, Found, Jobs, Over, Times}

@@ -15,9 +15,9 @@ use Rattle.mq_scan.specs.declared.blocks.Blocks.{Blocks}
 use Rattle.mq_stats.specs.Ahead.{IsAhead}
 use Rattle.mq_stations.specs.Late.{late_told}
 use Rattle.mq_stations.specs.Scans.{AreFewBlocks}
-use Rattle.mq_arrivals.specs.Arrivals.{stream_in}
-use Rattle.mq_arrivals.specs.declared.nodes.Arrivals.{Arrivals}
-use Rattle.mq_arrivals.specs.declared.nodes.Arrivals.TheVariants.{Merged, Read}
+use Rattle.mq_merge.specs.Borrowed.{stream_in}
+use Rattle.mq_merge.specs.declared.arrivals.Arrivals.{Arrivals}
+use Rattle.mq_merge.specs.declared.arrivals.Arrivals.TheVariants.{Merged, Read}
 use Rattle.mq_exits.specs.Afters.{AreOnTime, IsAfterAt, IsServed}
 use Rattle.mq_exits.specs.Loads.{IsReadyLoad}
 use Rattle.mq_exits.specs.Splits.{AreSplitStreams}

@@ -3,15 +3,15 @@ ghost use Rattle.std.specs.Prelude.{◌≡◌, ◌<◌, ℕ, List as Items, IfOk
 ghost use Rattle.mq_core.specs.declared.model.Plan.{Plan as ThePlan};
 ghost use Rattle.mq_core.specs.declared.model.Rows.{Rows as TheRows};
 ghost use Rattle.mq_crew.specs.Crew.{AreAll};
-ghost use Rattle.mq_arrivals.specs.Arrivals.{stream_in};
+ghost use Rattle.mq_merge.specs.Borrowed.{stream_in};
 ghost use Rattle.mq_exits.specs.Exits.{IsClosed, IsCopy, IsLast, closings_of, copies_of, lasts_of};
 ghost use Rattle.mq_exits.specs.declared.exits.Closed.TheVariants.{Came, Jobs};
 ghost use Rattle.mq_exits.specs.declared.exits.Exit.{Exit as TheExit};
 
 use crate::exits::Closed;
-use mq_arrivals::Arrivals;
 use mq_base::{List, OutOfMemory};
 use mq_core::Stream;
+use mq_merge::Arrivals;
 use std::alloc::Global;
 
 // How many last pieces copy what came.

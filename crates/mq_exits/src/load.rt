@@ -2,8 +2,8 @@
 ghost use Rattle.std.specs.Prelude.{◌≡◌};
 ghost use Rattle.mq_exits.specs.Loads.{told_by, told_of};
 
-use mq_arrivals::Arrivals;
 use mq_core::{Plan, Rows, Stream};
+use mq_merge::Arrivals;
 
 /// What comes to a node of a plan, of which its station is worked out.
 #[derive(Clone, Copy)]

@@ -1,4 +1,5 @@
-use Rattle.mq_arrivals.specs.Arrivals.{HasArrived, stream_in}
+use Rattle.mq_merge.specs.Borrowed.{stream_in}
+use Rattle.mq_arrivals.specs.Arrivals.{HasArrived}
 use Rattle.mq_arrivals.specs.Merges.{IsComing}
 use Rattle.mq_arrivals.proofs.Comings.{Any, all-come, coming_piece, coming_size, has-come}
 use Rattle.mq_crew.proofs.lemmas.Groups.{passing-last, passing-more}

@@ -4,7 +4,7 @@ use Rattle.mq_engine.specs.Progress.{AreEarly, HasAll, is_ready}
 use Rattle.mq_engine.proofs.Endings.{within}
 use Rattle.mq_engine.proofs.Lists.{filter-passes}
 use Rattle.mq_engine.proofs.Waves.{has-all}
-use Rattle.mq_engine.proofs.Settling.{ready-few, ready-wait, results-known}
+use Rattle.mq_engine.proofs.Settling.{reached-begins, ready-few, ready-wait, results-known}
 use Rattle.mq_engine.proofs.run.Goals as goal
 
 pub ready_nodes-requires-clause-within : goal.ready_nodes-requires-clause-within
@@ -35,3 +35,8 @@ settle-requires-clause-waits g c =
 
 pub waves-preserved : goal.waves-preserved
 waves-preserved g c = c.settle.ensures.reached c.args.plan.now c.args.rows.now c.waves.invariant (results-known c.args.plan.now c.args.rows.now c.deref-in-waves-2.result.now c.in_ok-results.results c.in_ok-results.ensures.known)
+
+pub waves-init : goal.waves-init
+waves-init g c =
+    let made = c.in_ok-progress.ensures in
+    reached-begins c.args.plan.now c.args.rows.now _ _ _ (made.came ∙ c.len.ensures) (made.left ∙ c.len.ensures) made.none (made.stand ∙ c.len.ensures) made.waits

@@ -1,5 +1,5 @@
 use Rattle.std.proofs.Common.{◌+◌}
-use Rattle.mq_arrivals.specs.Arrivals.{stream_in}
+use Rattle.mq_merge.specs.Borrowed.{stream_in}
 use Rattle.mq_arrivals.specs.Merges.{IsComing}
 use Rattle.mq_arrivals.proofs.Comings.{Any, coming_piece, coming_size, has-come}
 use Rattle.mq_crew.proofs.lemmas.Groups.{passing-last, passing-more}

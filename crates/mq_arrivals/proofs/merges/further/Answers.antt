@@ -1,6 +1,6 @@
 use Rattle.std.proofs.Common.{◌≡◌, ◌+◌, ◌∙◌, false, true, length, ap, arith, rules}
 use Rattle.mq_core.specs.declared.model.Stream.{Stream}
-use Rattle.mq_arrivals.specs.Arrivals.{stream_in}
+use Rattle.mq_merge.specs.Borrowed.{stream_in}
 use Rattle.mq_arrivals.specs.Merges.{arriving_by, has_port}
 use Rattle.mq_arrivals.specs.declared.merges.Origin.TheVariants.{Ended, Ports}
 use Rattle.mq_arrivals.proofs.Comings.{arriving-few, both-few, can-at, coming-is, ended-port, further-port, port-there}

@@ -1,6 +1,6 @@
 use Rattle.std.proofs.Common.{◌≡◌, false, true, sym, arith, rules}
 use Rattle.mq_core.specs.Wiring.{is_source_kind}
-use Rattle.mq_arrivals.specs.Arrivals.{stream_in}
+use Rattle.mq_merge.specs.Borrowed.{stream_in}
 use Rattle.mq_arrivals.specs.declared.merges.Origin.TheVariants.{Unsorted}
 use Rattle.mq_arrivals.proofs.Comings.{can-at, coming-is, has-come-at, opens-port, opens-source}
 use Rattle.mq_arrivals.proofs.merges.opening.Goals as goal

@@ -2,7 +2,8 @@ use Rattle.std.proofs.Common.{◌≤◌, List, length, subst, sym, arith}
 use Rattle.std.specs.List.{AllByRecursion}
 use Rattle.mq_base.proofs.lemmas.Each.{Each-weaker}
 use Rattle.mq_crew.specs.Crew.{AreAll}
-use Rattle.mq_arrivals.specs.Arrivals.{HasArrived, stream_in}
+use Rattle.mq_merge.specs.Borrowed.{stream_in}
+use Rattle.mq_arrivals.specs.Arrivals.{HasArrived}
 use Rattle.mq_arrivals.specs.declared.nodes.Arrived.{Arrived}
 use Rattle.mq_exits.specs.Loads.{IsLoaded}
 use Rattle.mq_engine.specs.Loads.{IsArrivedAt, IsScanFor}

@@ -1,5 +1,5 @@
 use Rattle.std.proofs.Common.{ap}
-use Rattle.mq_arrivals.specs.Arrivals.{stream_in}
+use Rattle.mq_merge.specs.Borrowed.{stream_in}
 use Rattle.mq_exits.specs.Exits.{copies_of}
 use Rattle.mq_exits.proofs.Lasts.{copy-jobs, copy-times, last-two, same-jobs, same-times}
 use Rattle.mq_exits.proofs.copies.taken.Goals as goal
