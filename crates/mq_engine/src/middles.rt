@@ -128,6 +128,7 @@ pub fn exit_of<R: Threads + Sync, G: Gate>(
     match scan {
         Scan::Unscanned => left_by(rt, alloc, workers, load, the_end(stage)),
         Scan::OfServer(demands) => {
+            drop(stage);
             let departs = server_departures(
                 rt,
                 alloc,
@@ -140,10 +141,12 @@ pub fn exit_of<R: Threads + Sync, G: Gate>(
             Ok(Exit::Served(departs))
         }
         Scan::OfTandem(scan) => {
+            drop(stage);
             let departs = tandem_joined(alloc, load.arrivals, scan, group)?;
             Ok(Exit::Served(departs))
         }
         Scan::OfForkJoin(scan) => {
+            drop(stage);
             let departs = forkjoin_departures(rt, alloc, workers, load.arrivals, scan, gate)?;
             Ok(Exit::Served(departs))
         }
