@@ -7,7 +7,8 @@ What has been proved before and has not changed is kept. Each crate is told on t
 rt works on one crate of a folder at a time, and keeps those below it from others meanwhile. So each crate is proved in a
 room of its own: a folder with links to its files, to those of the crates below it, and to what was built of these. The crate
 with the most to prove from it up to the program goes first. Several jobs for one crate take a quarter to two thirds more
-processor time for the same proofs, so a crate has more than one only where fewer crates than processors can be proved.
+processor time for the same proofs, so a crate has more than one only where fewer crates than processors can be proved, or where
+none that is left is further from the program: what waits for that one is the most.
 """
 import os
 import shutil
