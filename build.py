@@ -7,8 +7,7 @@ What has been proved before and has not changed is kept. Each crate is told on t
 rt works on one crate of a folder at a time, and keeps those below it from others meanwhile. So each crate is proved in a
 room of its own: a folder with links to its files, to those of the crates below it, and to what was built of these. The crate
 with the most to prove from it up to the program goes first. Several jobs for one crate take a quarter to two thirds more
-processor time for the same proofs, so a crate has more than one only where fewer crates than processors can be proved, or where
-none that is left is further from the program: what waits for that one is the most.
+processor time for the same proofs, so a crate has more than one only where fewer crates than processors can be proved.
 """
 import os
 import shutil
@@ -64,7 +63,7 @@ def chains(names, uses):
 
 
 def lanes():
-    """How many jobs there are at a time."""
+    """How many crates are proved at a time at most, and how many jobs one has that is proved alone."""
     count = len(os.sched_getaffinity(0))
     free = count * CHECK
     try:
@@ -128,12 +127,10 @@ def prove_all(uses):
         for at, name in enumerate(ready):
             if len(running) == most:
                 break
-            # What is further from the program goes first. A processor that no other crate could use takes a part of this one, and a
-            # crate that is further from it than all that are left has as many jobs as there are processors.
+            # What is further from the program goes first. A processor that no other crate could use takes a part of this one.
             others = [it for it in [*left, *running] if chain[it] > chain[name]]
             side_by_side = min(len(running) + len(ready) - at, most)
-            jobs = -(-most // side_by_side) if any(it in others for it in left) else most
-            running[name] = begin(name, uses, jobs, min(len(others), 10))
+            running[name] = begin(name, uses, -(-most // side_by_side), min(len(others), 10))
             left.remove(name)
         time.sleep(0.2)
         for name in [it for it, check in running.items() if check.poll() is not None]:
