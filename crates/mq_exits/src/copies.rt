@@ -1,4 +1,4 @@
-// What came to a node that only reads it: its visits keep jobs and times of their own, of two last pieces more.
+// What came to a node that borrowed it: its visits keep jobs and times of their own, copied in two more last pieces.
 ghost use Rattle.std.specs.Prelude.{◌≡◌, ◌<◌, ℕ, List as Items, IfOk};
 ghost use Rattle.mq_core.specs.declared.model.Plan.{Plan as ThePlan};
 ghost use Rattle.mq_core.specs.declared.model.Rows.{Rows as TheRows};

@@ -54,11 +54,11 @@ pub enum Closed {
     Over(PastFault),
     /// How many each found, or each of a block.
     Found(List<u32>),
-    /// The jobs, which leave in their order, or which is kept of the visits.
+    /// The jobs, as they leave, or by position, as the visits keep them.
     Jobs(List<u32>),
-    /// When the jobs depart, by position, which is kept of the visits.
+    /// When the jobs depart, by position, as the visits keep it.
     Departures(List<u64>),
-    /// When they came, by position, which is kept of the visits.
+    /// When they came, by position, as the visits keep it.
     Came(List<u64>),
 }
 

@@ -7,7 +7,7 @@ use mq_core::Stream;
 /// The jobs that came to a node and when, in order of time.
 #[derive(Drop)]
 pub enum Arrivals<'a> {
-    /// The rows of a source, or what several ports read, merged.
+    /// The rows of a source, or what several ports read, merged: nothing, where a node has no port.
     Merged(Stream),
     /// What the one port of a node reads.
     Read(&'a Stream),

@@ -13,12 +13,13 @@ use Rattle.mq_stats.specs.Percentiles.{waits_at}
 use Rattle.mq_stats.specs.WaitCounts.{AreCountsTo}
 use Rattle.mq_stats.specs.declared.wait_counts.WaitCounts.{WaitCounts}
 
--- visits to a node, a bound up to which a table can count, and how many visits a piece may have
+-- visits to a node, a bound up to which a table can count, and how many visits a piece may have: no fewer than a table counts ticks
 pub record IsWaited (node : NodeWaits) : Type 0 where
   pub visits : AreVisits node.rows.now node.kind.now node.visits.now
   pub most : node.most ≤ 1048576
   pub least : 16384 ≤ node.size
   pub size : node.size ≤ 1048576
+  pub whole : node.most ≤ node.size
 
 -- how many pieces they make: none where no wait is counted
 abbrev pub counted_pieces : NodeWaits → ℕ

@@ -62,8 +62,8 @@ impl<'a> Pieces for NodeWaits<'a> {
     }
 }
 
-// Up to how many ticks the waits of so many visits are counted by pieces, of which this is the longest: 0 where a table for
-// it would be longer than a piece and than all visits.
+// Up to how many ticks the waits of so many visits are counted by pieces, where this is the longest wait: 0 where it has more
+// ticks than a piece has visits, and than there are visits.
 fn counted_up_to(longest: u64, visits: u32) -> u32
     requires { visits ≤ 1048576 }
     ensures most { result ≤ 1048576 }
@@ -76,8 +76,8 @@ fn counted_up_to(longest: u64, visits: u32) -> u32
     }
 }
 
-// How many visits are a piece, where waits are counted up to so many ticks: so no table is longer than a whole piece, and one of
-// a short piece fits a processor's own memory.
+// How many visits are a piece, where waits are counted up to so many ticks: no fewer, so that to make a table takes no longer than
+// to look at the visits of a whole piece, and the table of a short piece fits a processor's own memory.
 fn visits_in_piece(most: u32) -> u32
     requires { most ≤ 1048576 }
     ensures least { 16384 ≤ result }
@@ -182,9 +182,8 @@ fn counted_of(
 }
 
 /// The percentiles of the waits at each node over a run, by node, where some job waited, and none longer than 16,384
-/// ticks or as many as there are visits. The visits are cut into pieces, as for the totals, or as long as the longest wait, and 1 to 64
-/// workers make them, who enter the gate.
-/// It refuses for want of memory alone.
+/// ticks, or than as many ticks as there are visits. The visits are cut into pieces as for the totals, or of as many visits as the
+/// longest wait has ticks, and 1 to 64 workers make them, who enter the gate. It refuses for want of memory alone.
 pub fn counted_tails<R: Threads + Sync, G: Gate>(
     rt: &R,
     alloc: Global,

@@ -128,7 +128,8 @@ fn known_tails(alloc: Global, of: &RunTails) -> Result<Option<List<Percentiles>>
 
 /// The percentiles of the waits at each node over a run with these totals, by node. Mostly the waits are counted, by pieces of
 /// the visits; a node with percentiles that aren't counted by themselves is a piece of its own. 1 to 64 workers make the pieces,
-/// who enter the gate. Where no piece is left there are no workers. No node has more than 1,048,576 visits. It refuses for want of memory alone.
+/// who enter the gate. Where no piece is left there are no workers. No node has more than 1,048,576 visits. It refuses for
+/// want of memory alone.
 pub fn node_tails<R: Threads + Sync, G: Gate>(
     rt: &R,
     alloc: Global,

@@ -25,6 +25,7 @@ returns-clause-waited c = record {
   most = omega arith;
   least = omega arith;
   size = omega arith;
+  whole = omega arith;
 }
 
 pub returns-clause-waits : goal.returns-clause-waits
