@@ -18,8 +18,6 @@ mod read;
 mod records;
 mod row;
 mod rows;
-#[cfg(test)]
-mod tests;
 
 pub use fault::TraceFault;
 pub use laws::traces_are_read;

@@ -66,8 +66,8 @@ fn read_apart<R: Threads + Sync>(
     join_rows(rt, alloc, workers, pieces, read.as_slice(), net, &header)
 }
 
-/// Reads a text by so many pieces and workers.
-pub(crate) fn read_text<R: Threads + Sync>(
+// Reads a text by so many pieces and workers.
+fn read_text<R: Threads + Sync>(
     rt: &R,
     alloc: Global,
     workers: u32,
