@@ -3,7 +3,7 @@ use Rattle.std.proofs.Common.{◌≡◌, ℕ, zero, suc, ◌+◌, ◌-◌, ◌*�
 use Rattle.std.proofs.lemmas.Option.{get_or_from_slice_get}
 use Rattle.std.proofs.Math.Seq.{get_or-append_seam}
 use Rattle.std.proofs.Math.ListN.{get_or-append}
-use Rattle.std.proofs.lemmas.List.{map-append}
+use Rattle.std.proofs.lemmas.List.{append-nil, map-append}
 use native.Mathlib.Decide.{ℕ_discrete}
 use mathlib.Core.Logic.{dite}
 use Rattle.mq_scan.specs.Folds.{extended, span, fold_to, carries_after, AreSummaries, AreBefore, MayTurn}
@@ -71,6 +71,14 @@ pub before-more : {S C : Type 0} (acted : S → C → C) (start : C) (part : ℕ
 before-more acted start part block cs b c len all is k d lt = dite (ℕ_discrete k b)
     (λ e. ap (λ (z : ℕ). get_or (cs ++ c ∷ []) z d) (e ∙ sym len) ∙ (get_or-append_seam cs c [] d ∙ (is ∙ ap (λ (z : ℕ). fold_to acted start part (z * block)) (sym e))))
     (λ ne. let long = length-append cs (c ∷ []) in let less : k < length cs = omega arith in get_or-append cs (c ∷ []) d k less ∙ all k d less)
+
+-- no carries yet
+pub carries-begin : {S C : Type 0} (acted : S → C → C) (start : C) (part : ℕ → S) (from : ℕ) (before : List C) → before ≡ before ++ carries_after acted start part from (from - from)
+carries-begin acted start part from before = let none : 0 ≡ from - from = omega arith in sym (append-nil before) ∙ ap (λ (k : ℕ). before ++ carries_after acted start part from k) none
+
+-- nothing read of them yet
+pub times-begin : {S C : Type 0} (acted : S → C → C) (start : C) (part : ℕ → S) (time : C → ℕ) (from : ℕ) (before : List ℕ) → before ≡ before ++ map time (carries_after acted start part from (from - from))
+times-begin acted start part time from before = let none : 0 ≡ from - from = omega arith in sym (append-nil before) ∙ ap (λ (k : ℕ). before ++ map time (carries_after acted start part from k)) none
 
 -- one carry more
 pub carries-more : {S C : Type 0} (acted : S → C → C) (start : C) (part : ℕ → S) (from n : ℕ) → carries_after acted start part from (suc n) ≡ carries_after acted start part from n ++ fold_to acted start part (suc (from + n)) ∷ []

@@ -1,5 +1,5 @@
 -- How many blocks there are, where each begins and ends, and lists that are cut into blocks.
-use Rattle.std.proofs.Common.{◌≡◌, ℕ, ◌+◌, ◌*◌, ◌<◌, ◌≤◌, ◌⊎◌, inl, inr, List, [], ◌++◌, length, min, refl, sym, ap, ◌∙◌, arith}
+use Rattle.std.proofs.Common.{◌≡◌, ℕ, ◌+◌, ◌-◌, ◌*◌, ◌<◌, ◌≤◌, ◌⊎◌, inl, inr, List, [], ◌++◌, length, min, refl, sym, ap, ◌∙◌, arith}
 use Rattle.std.proofs.Math.Nat.{mul-le-mul_left}
 use Rattle.std.proofs.lemmas.Bool.{cases_lt}
 use Rattle.mq_base.proofs.lemmas.Between.{between-all, between-join}
@@ -41,7 +41,11 @@ block-start blocks b l =
 abbrev pub end_of : Blocks → ℕ → ℕ
 end_of blocks b = min (b * blocks.block) blocks.n
 
-start-is : (blocks : Blocks) (b : ℕ) → b < blocks.blocks → b * blocks.block ≡ end_of blocks b
+-- none before the first
+pub none-before : (blocks : Blocks) → end_of blocks 0 ≡ 0
+none-before blocks = omega arith
+
+pub start-is : (blocks : Blocks) (b : ℕ) → b < blocks.blocks → b * blocks.block ≡ end_of blocks b
 start-is blocks b l = let inside = block-start blocks b l in omega arith
 
 pub block-order : (blocks : Blocks) (b : ℕ) → b < blocks.blocks → b * blocks.block ≤ end_of blocks (b + 1)
@@ -50,15 +54,25 @@ block-order blocks b l =
     let most : blocks.block * b ≤ blocks.block * (b + 1) = mul-le-mul_left blocks.block (omega arith) in
     omega arith
 
-last-end : (blocks : Blocks) (b : ℕ) → blocks.blocks ≤ b → end_of blocks b ≡ blocks.n
+pub last-end : (blocks : Blocks) (b : ℕ) → blocks.blocks ≤ b → end_of blocks b ≡ blocks.n
 last-end blocks b l =
     let all = blocks.all in
     let most : blocks.block * blocks.blocks ≤ blocks.block * b = mul-le-mul_left blocks.block l in
     omega arith
 
+-- a block as it is read: it begins where those before it end, is not turned round, and ends inside
+pub block-range : (blocks : Blocks) (b from to : ℕ) → b < blocks.blocks → from ≡ b * blocks.block → to ≡ end_of blocks (b + 1) → (from ≡ end_of blocks b) × (from ≤ to) × (to ≤ blocks.n)
+block-range blocks b from to l begins ends =
+    let start = start-is blocks b l in
+    let order = block-order blocks b l in (begins ∙ start, omega arith, omega arith)
+
+-- what is gathered of the blocks before one has room for it, and then has those up to the next
+pub block-room : (blocks : Blocks) (b from to len room : ℕ) → (from ≡ end_of blocks b) × (from ≤ to) × (to ≤ blocks.n) → to ≡ end_of blocks (b + 1) → len ≡ end_of blocks b → blocks.n ≤ room → (len + (to - from) ≤ room) × (len + (to - from) ≡ end_of blocks (b + 1))
+block-room blocks b from to len room range ends is inside = let all : len + (to - from) ≡ to = omega arith in (omega arith, all ∙ ends)
+
 -- The blocks of a list, one behind the other: none of them, one more, and all.
 pub behind-begin : {X : Type 0} (all : List X) (blocks : Blocks) → [] ≡ between 0 (end_of blocks 0) all
-behind-begin all blocks = let none : end_of blocks 0 ≡ 0 = omega arith in ap (λ n. between 0 n all) (sym none)
+behind-begin all blocks = ap (λ n. between 0 n all) (sym (none-before blocks))
 
 pub behind-more : {X : Type 0} (all : List X) (blocks : Blocks) (b : ℕ) (done block : List X) → b < blocks.blocks → block ≡ between (b * blocks.block) (min ((b + 1) * blocks.block) blocks.n) all → done ≡ between 0 (end_of blocks b) all →
     done ++ block ≡ between 0 (end_of blocks (b + 1)) all

@@ -1,7 +1,19 @@
-use Rattle.std.proofs.Common.{◌≡◌, ◌+◌, suc, ap, arith, subst, sym, ◌∙◌}
-use Rattle.mq_scan.specs.Folds.{fold_to}
-use Rattle.mq_scan.proofs.Spans.{carries-next}
+use Rattle.std.proofs.Common.{◌≡◌, ◌+◌, ◌-◌, ◌++◌, ℕ, suc, ap, arith, refl, subst, sym, ◌∙◌}
+use Rattle.std.specs.Vec.{vec_len}
+use Rattle.mq_scan.specs.Folds.{carries_after, fold_to}
+use Rattle.mq_scan.proofs.Spans.{carries-begin, carries-next}
 use Rattle.mq_scan.proofs.passes.push_carries.Goals as goal
+
+pub acts-init : goal.acts-init
+acts-init g c =
+    let step = c.args.step.now in
+    let none : vec_len c.args.after.now ≡ vec_len c.args.after.now + (c.args.from - c.args.from) = omega arith in
+    record {
+      carry = c.requires.before;
+      items = carries-begin g.P.Step.acted (g.P.Step.start step) (g.P.Step.part step) c.args.from c.args.after.now.items;
+      len = none;
+      room = refl;
+    }
 
 pub advance-requires-clause-can : goal.advance-requires-clause-can
 advance-requires-clause-can g c =
@@ -19,4 +31,18 @@ acts-preserved g c =
       items = carries-next g.P.Step.acted (g.P.Step.start step) (g.P.Step.part step) c.args.from c.acts.at _ _ _ _ (omega arith) carry c.acts.invariant.items c.push_reserved.ensures.items;
       len = omega arith;
       room = omega arith;
+    }
+
+pub push_reserved-requires : goal.push_reserved-requires
+push_reserved-requires g c = omega arith
+
+pub returns : goal.returns
+returns g c =
+    let step = c.args.step.now in
+    let here : c.acts.at ≡ c.args.to = omega arith in
+    record {
+      carry = c.acts.invariant.carry ∙ ap (fold_to g.P.Step.acted (g.P.Step.start step) (g.P.Step.part step)) here;
+      items = c.acts.invariant.items ∙ ap (λ (k : ℕ). c.args.after.now.items ++ carries_after g.P.Step.acted (g.P.Step.start step) (g.P.Step.part step) c.args.from (k - c.args.from)) here;
+      len = c.acts.invariant.len ∙ ap (λ (k : ℕ). vec_len c.args.after.now + (k - c.args.from)) here;
+      room = c.acts.invariant.room;
     }
