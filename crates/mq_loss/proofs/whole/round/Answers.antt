@@ -10,6 +10,15 @@ use Rattle.mq_rounds.proofs.lemmas.Departing.{left-next}
 use Rattle.mq_rounds.proofs.lemmas.Looping.{item-at, round-all, round-next}
 use Rattle.mq_loss.proofs.whole.round.Goals as goal
 
+pub follow-requires-clause-last : goal.follow-requires-clause-last
+follow-requires-clause-last c = let few = c.requires.load.few in let limit = c.loop-at.invariant.early.limit in omega arith
+
+pub follow-requires-clause-arrive : goal.follow-requires-clause-arrive
+follow-requires-clause-arrive c = (item-at c.args.stream.now.time c.args.demands.now c.loop-at.at c.get-arrive.result.now c.get-demand.result.now c.requires.load c.get-arrive.ensures c.get-demand.ensures).early
+
+pub follow-requires-clause-demand : goal.follow-requires-clause-demand
+follow-requires-clause-demand c = (item-at c.args.stream.now.time c.args.demands.now c.loop-at.at c.get-arrive.result.now c.get-demand.result.now c.requires.load c.get-arrive.ensures c.get-demand.ensures).small
+
 pub loop-at-preserved : goal.loop-at-preserved
 loop-at-preserved c =
     let at : ℕ = c.loop-at.at in

@@ -1,4 +1,4 @@
-use Rattle.std.proofs.Common.{◌≡◌, ◌+◌, ◌-◌, ◌++◌, suc, ℕ, true, List, [], ◌∷◌, ap, ◌∙◌, arith, subst, sym}
+use Rattle.std.proofs.Common.{◌≡◌, ◌+◌, ◌-◌, ◌++◌, suc, ℕ, true, List, [], ◌∷◌, ap, ◌∙◌, arith, refl, subst, sym}
 use Rattle.mq_core.specs.Recurrences.{is_admitted, time_or_none}
 use Rattle.std.specs.Prelude.{reverse, slice_get}
 use Rattle.mq_loss.specs.Rounds.{departure_behind, loss_rule}
@@ -8,6 +8,34 @@ use Rattle.mq_rounds.specs.Rounds.{all_admitted}
 use Rattle.mq_rounds.proofs.lemmas.Departing.{left-next}
 use Rattle.mq_rounds.proofs.lemmas.Looping.{IsItem, item-at, round-next}
 use Rattle.mq_loss.proofs.windows.judge_all.Goals as goal
+
+pub loop-at-init : goal.loop-at-init
+loop-at-init g c =
+    record {
+      outcome = refl;
+      departs = refl;
+      last = c.last_of-last.ensures ∙ ap (λ (ds : List ℕ). time_or_none (slice_get (reverse ds) 0)) c.as_slice.ensures.value;
+      early = record { limit = c.requires.early };
+      room = c.requires.room;
+      space = c.requires.space;
+      kept = refl;
+      held = refl;
+      cost = omega arith;
+    }
+
+pub push_reserved-requires : goal.push_reserved-requires
+push_reserved-requires g c = omega arith
+
+pub push_reserved-requires-in-loop-at : goal.push_reserved-requires-in-loop-at
+push_reserved-requires-in-loop-at g c = omega arith
+
+pub overflow_add-last : goal.overflow_add-last
+overflow_add-last g c =
+    let item : IsItem c.get-arrive.result.now c.get.result.now = item-at c.args.stream.now.time c.args.demands.now c.loop-at.at c.get-arrive.result.now c.get.result.now c.requires.load c.get-arrive.ensures c.get.ensures in
+    let few = c.requires.load.few in
+    let limit = c.loop-at.invariant.early.limit in
+    let last = c.loop-at.invariant.last in
+    omega arith
 
 pub loop-at-preserved : goal.loop-at-preserved
 loop-at-preserved g c =
@@ -50,3 +78,12 @@ pub returns-clause-departs : goal.returns-clause-departs
 returns-clause-departs g c =
     let none : c.args.to - c.loop-at.at ≡ 0 = omega arith in
     departs-all _ _ _ _ _ _ none c.loop-at.invariant.departs
+
+pub returns-clause-room : goal.returns-clause-room
+returns-clause-room g c = c.loop-at.invariant.kept
+
+pub returns-clause-space : goal.returns-clause-space
+returns-clause-space g c = c.loop-at.invariant.held
+
+pub returns-clause-cost : goal.returns-clause-cost
+returns-clause-cost g c = omega arith
