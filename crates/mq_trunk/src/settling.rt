@@ -1,7 +1,8 @@
-ghost use Rattle.std.specs.Prelude.{◌≡◌, ◌+◌, ◌*◌, ◌≤◌, length, IfOk};
+ghost use Rattle.std.specs.Prelude.{◌≡◌, ◌+◌, ◌*◌, ◌≤◌, length, IfOk, OnOk};
 ghost use Rattle.std.specs.List.{zip};
 ghost use Rattle.mq_core.specs.Sequences.{IsSoundLoad, IsStream};
 ghost use Rattle.mq_core.specs.Streams.{by_first, pairs_of};
+ghost use Rattle.mq_merge.specs.Merged.{AppendsItem};
 ghost use Rattle.mq_trunk.specs.Parts.{AreParted, IsSettled, lost_of, of_admitted};
 ghost use Rattle.mq_rounds.specs.Windows.{IsWindowRun};
 ghost use Rattle.mq_trunk.specs.Rounds.{trunk_rule};
@@ -51,6 +52,15 @@ fn leaving_jobs(
     Ok(leaving)
 }
 
+// Appends a job and its time.
+fn append_item(lost: &mut Stream, job: u32, time: u64) -> Result<(), OutOfMemory>
+    ensures { OnOk result (AppendsItem lost.old lost.new job time) }
+{
+    lost.job.push(job)?;
+    lost.time.push(time)?;
+    Ok(())
+}
+
 // The jobs that are lost, as they came.
 fn lost_jobs(alloc: Global, stream: &Stream, admitted: &List<bool>) -> Result<Stream, OutOfMemory>
     requires jobs { length stream.now.job ≡ length admitted.now }
@@ -63,8 +73,7 @@ fn lost_jobs(alloc: Global, stream: &Stream, admitted: &List<bool>) -> Result<St
     };
     for at in 0..admitted.len() {
         if !*admitted.get(at) {
-            lost.job.push(*stream.job.get(at))?;
-            lost.time.push(*stream.time.get(at))?;
+            append_item(&mut lost, *stream.job.get(at), *stream.time.get(at))?;
         }
     }
     Ok(lost)

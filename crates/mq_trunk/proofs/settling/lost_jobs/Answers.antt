@@ -3,7 +3,7 @@ use Rattle.mq_core.specs.declared.model.Stream.{Stream}
 use Rattle.mq_trunk.specs.Parts.{of_lost}
 use Rattle.mq_trunk.proofs.Parting.{lost-end, lost-next, lost-past}
 use Rattle.mq_trunk.proofs.settling.lost_jobs.Goals as goal
-use Rattle.mq_trunk.proofs.settling.lost_jobs.Goals.{then-not-get+in_ok-push+in_ok-push-2, else-not-get}
+use Rattle.mq_trunk.proofs.settling.lost_jobs.Goals.{then-not-get+in_ok-append_item, else-not-get}
 
 pub loop-at-preserved : goal.loop-at-preserved
 loop-at-preserved c =
@@ -13,9 +13,9 @@ loop-at-preserved c =
     let jobs : List ℕ = of_lost (drop (c.loop-at.at + 1) c.args.admitted.now) (drop (c.loop-at.at + 1) c.args.stream.now.job) in
     let times : List ℕ = of_lost (drop (c.loop-at.at + 1) c.args.admitted.now) (drop (c.loop-at.at + 1) c.args.stream.now.time) in
     elim c.if-not-get.branch [
-      | then-not-get+in_ok-push+in_ok-push-2 w ↦ record {
-        jobs = lost-next _ _ _ c.args.admitted.now c.args.stream.now.job c.loop-at.at _ (c.get.ensures ∙ ap Some w.if-not-get.true) w.get-then-not-get.ensures (ap (λ (s : Stream). s.job) w.lost-is ∙ w.in_ok-push.ensures.ok) i.jobs;
-        times = lost-next _ _ _ c.args.admitted.now c.args.stream.now.time c.loop-at.at _ (c.get.ensures ∙ ap Some w.if-not-get.true) w.get-then-not-get-2.ensures (ap (λ (s : Stream). s.time) w.lost-is ∙ w.in_ok-push-2.ensures.ok) i.times;
+      | then-not-get+in_ok-append_item w ↦ record {
+        jobs = lost-next _ _ _ c.args.admitted.now c.args.stream.now.job c.loop-at.at _ (c.get.ensures ∙ ap Some w.if-not-get.true) w.get-then-not-get.ensures (ap (λ (s : Stream). s.job) w.lost-is ∙ w.in_ok-append_item.ensures.jobs) i.jobs;
+        times = lost-next _ _ _ c.args.admitted.now c.args.stream.now.time c.loop-at.at _ (c.get.ensures ∙ ap Some w.if-not-get.true) w.get-then-not-get-2.ensures (ap (λ (s : Stream). s.time) w.lost-is ∙ w.in_ok-append_item.ensures.times) i.times;
       }
       | else-not-get w ↦ record {
         jobs = ap (λ (s : Stream). s.job ++ jobs) w.lost-is ∙ lost-past _ _ c.args.admitted.now c.args.stream.now.job c.loop-at.at (c.get.ensures ∙ ap Some w.if-not-get.false) (omega arith) i.jobs;
