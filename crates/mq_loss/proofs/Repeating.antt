@@ -4,7 +4,7 @@ use Rattle.std.specs.Prelude.{◌≢◌, ◌↔◌, IsTrue}
 use Rattle.std.proofs.lemmas.Bool.{cases_lt}
 use Rattle.std.proofs.lemmas.List.{length-replicate, take_all}
 use Rattle.mq_loss.specs.Rounds.{guess_after, loss_rule}
-use Rattle.mq_rounds.specs.Rounds.{admission_of, round_of}
+use Rattle.mq_rounds.specs.Rounds.{admission_of, all_admitted, round_of}
 use Rattle.mq_rounds.proofs.lemmas.Guesses.{admission-length, grows, right-stays, round-length, stays-right}
 
 -- each round so far changed something
@@ -40,6 +40,17 @@ still-few places times demands rounds guess d g h a differ = go (cases_lt rounds
     go (inr l) =
         let is : guess ≡ admission_of (loss_rule places) times demands = sym (take_all rounds guess (omega arith)) ∙ (h ∙ take_all rounds (admission_of (loss_rule places) times demands) (omega arith)) in
         absurd (differ (ap (round_of (loss_rule places) times demands) is ∙ (right-stays (loss_rule places) [] times demands d ∙ sym is)))
+
+-- before the first round
+pub begins : (places : ℕ) (times demands : List ℕ) (guess : List Bool) → guess ≡ all_admitted (length times) → IsRepeating places times demands 0 guess false
+begins places times demands guess e = record {
+  reached = e;
+  right = refl;
+  number = ap length e ∙ length-replicate (length times) true;
+  few = omega arith;
+  going = λ f. record { few = omega arith; changed = λ round l. absurd (omega arith) };
+  ended = λ f. absurd cc;
+}
 
 differs : (stays : Bool) → stays ≡ false → stays ≡ true → ⊥
 differs stays f t = cc
