@@ -1,3 +1,4 @@
 pub mod lemmas
 mod PiecesLemmas
 mod Puts
+mod ReadLemmas

@@ -1,10 +1,21 @@
-use Rattle.std.proofs.Common.{◌≡◌, ◌∙◌, ◌+◌, ◌++◌, List, ℕ, ap, sym, arith, drop, length, length-drop, take}
+use Rattle.std.proofs.Common.{◌≡◌, ◌∙◌, ◌+◌, ◌<◌, ◌≤◌, ◌++◌, List, ℕ, Option, Some, None, ap, sym, arith, drop, length, length-append, length-drop, length-take, min, take}
 use Rattle.std.proofs.lemmas.List.{take-append-drop}
+use Rattle.std.specs.Option.{IfSome, option_map}
 use Rattle.mq_outside.proofs.host.read_to.Goals as goal
 
 -- what stands behind the bytes that were there
 grown : (old now : List ℕ) → take (length old) now ≡ old → now ≡ old ++ drop (length old) now
 grown old now front = sym (take-append-drop (length old) now) ∙ ap (λ l. l ++ drop (length old) now) front
+
+-- Where the bytes read are no more than the limit, so are all: at most one more was asked for.
+within_limit : (known asked : Option (List ℕ)) (old now : List ℕ) (limit most : ℕ) → asked ≡ known → most ≡ min (limit + 1) 18446744073709551615
+    → IfSome (option_map (take most) asked) (λ bytes. now ≡ old ++ bytes) → length now ≤ length old + limit → length now < 9223372036854775808
+    → IfSome known (λ bytes. length bytes ≤ limit)
+within_limit None asked old now limit most same up_to read fits small = tt
+within_limit (Some bytes) asked old now limit most same up_to read fits small =
+    let is : now ≡ old ++ take most bytes = rw same at read in
+    let long : length now ≡ length old + min most (length bytes) = ap length is ∙ length-append old (take most bytes) ∙ ap (λ n. length old + n) (length-take most bytes) in
+    omega (arith, long)
 
 pub returns-in-Ok-clause-grows : goal.returns-in-Ok-clause-grows
 returns-in-Ok-clause-grows g c = (drop (length c.args.into.now.items) c.read_to_end.new.buf.items, grown _ _ c.read_to_end.ensures.appends)
@@ -21,3 +32,10 @@ returns-in-Ok-2-clause-grows g c = (drop (length c.args.into.now.items) c.read_t
 
 pub returns-in-Err-clause-grows : goal.returns-in-Err-clause-grows
 returns-in-Err-clause-grows g c = (drop (length c.args.into.now.items) c.read_to_end.new.buf.items, grown _ _ c.read_to_end.ensures.appends)
+
+pub returns-in-Ok-2-clause-fits : goal.returns-in-Ok-2-clause-fits
+returns-in-Ok-2-clause-fits g c =
+    let new = c.read_to_end.new.buf in
+    let had = c.args.into.now.ok.0 in
+    within_limit _ _ _ _ _ _ (ap (λ b. g.R.Read.remaining b.now) c.take-part.ensures.inner) (c.take-part.ensures.limit ∙ c.saturating_add.ensures) c.in-Ok.ensures.bytes
+    (omega (arith, had, new.ok.0, c.in-Ok.ensures.ok, c.if-count-limit.false)) (omega (arith, new.ok.0, new.ok.1, new.small))
