@@ -1,10 +1,10 @@
 -- What a visit found, from the departures that are gone.
-use Rattle.std.proofs.Common.{◌≡◌, ℕ, zero, suc, ◌+◌, ◌<◌, ◌≤◌, Bool, false, cond, List, [], ◌∷◌, ◌++◌, length, drop, take, Some, refl, sym, ap, ◌∙◌, subst, arith, append_assoc}
+use Rattle.std.proofs.Common.{◌≡◌, ℕ, zero, suc, ◌+◌, ◌-◌, ◌<◌, ◌≤◌, Bool, false, true, cond, List, [], ◌∷◌, ◌++◌, length, length-take, drop, take, Some, refl, sym, ap, ◌∙◌, subst, arith, append_assoc, Fits, w32, w64}
 use Rattle.std.specs.Prelude.{count_by, nat_lt, slice_get}
 use Rattle.std.specs.List.{AllByRecursion as Each, zip}
 use Rattle.std.proofs.lemmas.Bool.Decides.{nat_tests}
-use Rattle.std.proofs.lemmas.List.{take_more}
-use Rattle.std.proofs.lemmas.List.Sums.{sum_by-append, sum_by-le-sum_by}
+use Rattle.std.proofs.lemmas.List.{append-nil, drop_all, take_more}
+use Rattle.std.proofs.lemmas.List.Sums.{count_by-le-length, sum_by-append, sum_by-le-sum_by}
 use Rattle.std.proofs.lemmas.Option.{slice_get_within, get_or_from_slice_get}
 use Rattle.mq_base.proofs.lemmas.Lists.{drop_at}
 use Rattle.mq_core.specs.SequenceLaws.{LeavesFrom}
@@ -146,3 +146,38 @@ told arrives fates departures at time gone stayed e r z p h g s =
     let all = gone-and-there at 0 at time arrives fates (omega arith) e r z h in
     let moved = ap (count_by (is_gone time at)) p ∙ as-many (λ (d : ℕ × ℕ). d.0) (is_gone time at) (departures_from 0 fates) in
     omega arith
+
+-- of so many items no more than all are counted
+few-counted : {X : Type 0} (p : X → Bool) (xs : List X) (at n : ℕ) → n ≡ count_by p (take at xs) → n ≤ at
+few-counted p xs at n is = omega (arith, count_by-le-length p (take at xs), length-take at xs)
+
+one-at-most : (b : Bool) (n : ℕ) → n ≡ cond b 1 0 → n ≤ 1
+one-at-most true n is = omega arith
+one-at-most false n is = omega arith
+
+-- one more, or none, is few too
+pub counted-few : {X : Type 0} (p : X → Bool) (xs : List X) (at n len many more : ℕ) (b : Bool) → n ≡ count_by p (take at xs) → at < len → len ≡ many → many ≤ 1048576 → more ≡ cond b 1 0
+    → n + more ≤ 1048576
+counted-few p xs at n len many more b is l all few one =
+    let few' = few-counted p xs at n is in
+    let one' = one-at-most b more one in
+    omega arith
+
+-- and so many less are few
+pub less-few : {X : Type 0} (p : X → Bool) (xs : List X) (at n len many less : ℕ) → n ≡ count_by p (take at xs) → at < len → len ≡ many → many ≤ 1048576
+    → n - less ≤ 1048576
+less-few p xs at n len many less is l all few =
+    let few' = few-counted p xs at n is in
+    omega arith
+
+pub few-in-32 : (n : ℕ) → n ≤ 1048576 → Fits w32 n
+few-in-32 n few = omega arith
+
+pub few-in-64 : (n : ℕ) → n ≤ 1048576 → Fits w64 n
+few-in-64 n few = omega arith
+
+-- behind the last visit nothing is left
+pub founds-ended : (found all arrives : List ℕ) (before fates : List Fate) (at len : ℕ) → found ++ founds_from before (drop at arrives) fates ≡ all → len ≡ length arrives → len ≤ at → found ≡ all
+founds-ended found all arrives before fates at len whole long l =
+    let none : drop at arrives ≡ [] = drop_all at arrives (omega arith) in
+    sym (append-nil found) ∙ ap (λ rest. found ++ founds_from before rest fates) (sym none) ∙ whole

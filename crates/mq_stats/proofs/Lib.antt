@@ -1,3 +1,4 @@
+pub mod Backs
 pub mod Steps
 pub mod RunSteps
 pub mod Counts

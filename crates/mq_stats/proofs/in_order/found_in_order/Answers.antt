@@ -1,7 +1,7 @@
-use Rattle.std.proofs.Common.{◌≡◌, suc, ◌+◌, ◌-◌, Some, subst, arith, count_by, take}
+use Rattle.std.proofs.Common.{◌≡◌, ◌∙◌, suc, ◌+◌, ◌-◌, Some, subst, arith, count_by, take}
 use Rattle.std.specs.Prelude.{slice_get}
 use Rattle.mq_core.specs.OnceOut.{departs_after}
-use Rattle.mq_stats.proofs.Founds.{count-next, founds-next, rises-at}
+use Rattle.mq_stats.proofs.Founds.{count-next, counted-few, few-in-32, founds-ended, founds-next, rises-at}
 use Rattle.mq_stats.proofs.InOrder.{gone-later, there-behind}
 use Rattle.mq_stats.specs.Departures.{stays}
 use Rattle.mq_stats.proofs.in_order.found_in_order.Goals as goal
@@ -30,3 +30,9 @@ loop-at-preserved c =
       departed = c.gone_by-gone.ensures.departed;
       gone = λ later h. gone-later time later (take index fates) (rises-at arrives at time later c.requires.arrive c.get.ensures (subst (λ n. slice_get arrives n ≡ Some later) next h)) c.gone_by-gone.ensures.gone;
     }
+
+pub overflow_add-stayed : goal.overflow_add-stayed
+overflow_add-stayed c = few-in-32 _ (counted-few stays c.args.fate.now c.loop-at.at _ _ _ _ _ c.loop-at.invariant.stayed c.loop-at-test.true c.len-at-end.ensures c.requires.few c.one_if_stays.ensures)
+
+pub returns : goal.returns
+returns c = c.from_vec.ensures ∙ founds-ended _ _ c.args.arrive.now _ _ _ _ c.loop-at.invariant.so_far c.len-at-end.ensures c.loop-at-test.false

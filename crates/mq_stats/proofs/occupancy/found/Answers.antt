@@ -1,6 +1,6 @@
 use Rattle.std.proofs.Common.{◌≡◌, ◌-◌, ◌≤◌, ◌+◌, sym, ap, ◌∙◌, subst, arith, count_by, take}
 use Rattle.mq_core.specs.OnceOut.{departs_after}
-use Rattle.mq_stats.proofs.Founds.{told, founds-next, count-next, gone-next}
+use Rattle.mq_stats.proofs.Founds.{told, founds-next, count-next, gone-next, counted-few, less-few, few-in-32, few-in-64, founds-ended}
 use Rattle.mq_stats.proofs.Ordered.{ascends}
 use Rattle.mq_stats.specs.Departures.{Ascends, is_gone, stays}
 use Rattle.mq_stats.proofs.occupancy.found.Goals as goal
@@ -31,3 +31,12 @@ loop-at-preserved c =
       len = omega arith;
       room = omega arith;
     }
+
+pub overflow_cast-stayed : goal.overflow_cast-stayed
+overflow_cast-stayed c = few-in-32 _ (less-few stays c.args.fate.now c.loop-at.at _ _ _ _ c.loop-at.invariant.stayed c.loop-at-test.true c.len-at-end.ensures c.requires.few)
+
+pub overflow_add-stayed : goal.overflow_add-stayed
+overflow_add-stayed c = few-in-64 _ (counted-few stays c.args.fate.now c.loop-at.at _ _ _ _ _ c.loop-at.invariant.stayed c.loop-at-test.true c.len-at-end.ensures c.requires.few c.one_if_stays-stayed.ensures)
+
+pub returns : goal.returns
+returns c = c.from_vec.ensures ∙ founds-ended _ _ c.args.arrive.now _ _ _ _ c.loop-at.invariant.so_far c.len-at-end.ensures c.loop-at-test.false
