@@ -1,10 +1,10 @@
 -- Lists that are made item by item.
-use Rattle.std.proofs.Common.{◌≡◌, ◌∙◌, sym, ap, refl, List, [], ◌∷◌, ◌++◌, Bool, true}
+use Rattle.std.proofs.Common.{◌≡◌, ◌∙◌, sym, ap, refl, ℕ, ◌+◌, ◌<◌, ◌≤◌, List, [], ◌∷◌, ◌++◌, length, get_or, take, append_assoc, append-nil, Bool, true}
 use Rattle.std.specs.Prelude.{map}
 use Rattle.std.specs.List.{list_all, flat_map}
 use Rattle.std.proofs.lemmas.Bool.{and_parts, and_from}
 use Rattle.std.proofs.lemmas.Grind.{flat_map-append}
-use Rattle.std.proofs.lemmas.List.{map-append}
+use Rattle.std.proofs.lemmas.List.{map-append, take_all, take_more}
 use Rattle.std.proofs.lemmas.List.Folds.{list_all-append}
 
 -- each item has the property
@@ -48,3 +48,25 @@ all_have f q P each (x ∷ xs) h = let both = and_parts _ _ h in (each x both.0,
 pub flat_twice : {A X : Type 0} (f : A → List X) (xss : List (List A)) → flat_map f (flat_map (λ xs. xs) xss) ≡ flat_map (λ xs. flat_map f xs) xss
 flat_twice f [] = refl
 flat_twice f (xs ∷ xss) = flat_map-append f xs (flat_map (λ xs. xs) xss) ∙ ap (λ more. flat_map f xs ++ more) (flat_twice f xss)
+
+-- A list to which each item of another adds its part: with none, with one item more, and with all.
+pub none_yet : {B : Type 0} (start : List B) → start ≡ start ++ []
+none_yet start = sym (append-nil start)
+
+pub one_more : {A B : Type 0} (parts : List A → List B) (xs : List A) (i : ℕ) (x d : A) (start old new part : List B) → old ≡ start ++ parts (take i xs) → new ≡ old ++ part → x ≡ get_or xs i d → i < length xs
+    → ((ys : List A) → parts (ys ++ x ∷ []) ≡ parts ys ++ part) → new ≡ start ++ parts (take (i + 1) xs)
+one_more parts xs i x d start old new part before added is less last =
+    let here : take (i + 1) xs ≡ take i xs ++ x ∷ [] = take_more xs i d less ∙ ap (λ y. take i xs ++ y ∷ []) (sym is) in
+    added ∙ ap (λ l. l ++ part) before ∙ append_assoc start (parts (take i xs)) part ∙ ap (λ l. start ++ l) (sym (last (take i xs)) ∙ ap parts (sym here))
+
+pub all_are : {A B : Type 0} (parts : List A → List B) (xs : List A) (i : ℕ) (start new : List B) → new ≡ start ++ parts (take i xs) → length xs ≤ i → new ≡ start ++ parts xs
+all_are parts xs i start new before end = before ∙ ap (λ ys. start ++ parts ys) (take_all i xs end)
+
+-- the parts of a list with one item more
+pub last_mapped : {A B : Type 0} (f : A → B) (ys : List A) (x : A) → map f (ys ++ x ∷ []) ≡ map f ys ++ f x ∷ []
+last_mapped f [] x = refl
+last_mapped f (y ∷ ys) x = ap (λ l. f y ∷ l) (last_mapped f ys x)
+
+pub last_told : {A B : Type 0} (f : A → List B) (ys : List A) (x : A) → flat_map f (ys ++ x ∷ []) ≡ flat_map f ys ++ f x
+last_told f [] x = append-nil (f x)
+last_told f (y ∷ ys) x = ap (λ l. f y ++ l) (last_told f ys x) ∙ sym (append_assoc (f y) (flat_map f ys) (f x))
