@@ -1,5 +1,5 @@
 // The network that lines declare: names become numbers.
-ghost use Rattle.std.specs.Prelude.{◌≡◌, ◌≤◌, IfErr, IfOk, length, map};
+ghost use Rattle.std.specs.Prelude.{◌≡◌, ◌≤◌, ◌++◌, IfErr, IfOk, length, map};
 ghost use Rattle.std.specs.List.{flat_map};
 ghost use Rattle.mq_model.specs.NetworkOf.{bound_of, demand_in, input_in, kind_in, network_of, nodes_in, number_in, route_in, stage_in};
 ghost use Rattle.mq_model.specs.Said.{columns_of, names_of};
@@ -157,6 +157,46 @@ fn inputs_in(
     Ok(inputs)
 }
 
+/// The node that a line declares by this name, by the names of the nodes and of the columns.
+fn node_in(
+    alloc: Global,
+    names: &[List<u8>],
+    columns: &[List<u8>],
+    name: &List<u8>,
+    kind: &SaidKind,
+    reads: &[SaidInput],
+) -> Result<Node, ModelFault>
+    requires few { length names.now ≤ 64 }
+    requires few_columns { length columns.now ≤ 16 }
+    ensures ok { IfOk result (λ node. node ≡ record { name = name.now; kind = kind_in columns.now kind.now; inputs = map (input_in names.now) reads.now }) }
+    ensures err { IfErr result (λ e. e ≡ ModelFault.Memory) }
+{
+    let name = copied(alloc, name.as_slice())?;
+    let inputs = inputs_in(alloc, names, reads)?;
+    let kind = kind_in(alloc, columns, kind)?;
+    Ok(Node { name, kind, inputs })
+}
+
+/// Adds the node that a line declares, where it declares one.
+fn add_node(
+    alloc: Global,
+    names: &[List<u8>],
+    columns: &[List<u8>],
+    said: &Said,
+    nodes: &mut List<Node>,
+) -> Result<(), ModelFault>
+    requires few { length names.now ≤ 64 }
+    requires few_columns { length columns.now ≤ 16 }
+    ensures ok { IfOk result (λ _. nodes.new ≡ nodes.old ++ nodes_in names.now columns.now said.now) }
+    ensures err { IfErr result (λ e. e ≡ ModelFault.Memory) }
+{
+    let Said::Node { name, kind, reads } = said else {
+        return Ok(());
+    };
+    nodes.push(node_in(alloc, names, columns, name, kind, reads.as_slice())?)?;
+    Ok(())
+}
+
 /// The nodes that lines declare, by the names of the nodes and of the columns.
 fn nodes_in(
     alloc: Global,
@@ -171,13 +211,7 @@ fn nodes_in(
 {
     let mut nodes = List::new(alloc);
     for said in saids {
-        if let Said::Node { name, kind, reads } = said {
-            nodes.push(Node {
-                name: copied(alloc, name.as_slice())?,
-                kind: kind_in(alloc, columns, kind)?,
-                inputs: inputs_in(alloc, names, reads.as_slice())?,
-            })?;
-        }
+        add_node(alloc, names, columns, said, &mut nodes)?;
     }
     Ok(nodes)
 }
