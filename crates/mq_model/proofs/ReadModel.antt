@@ -1,23 +1,24 @@
 -- What the lines of a text say, and the whole text.
-use Rattle.std.proofs.Common.{◌≡◌, ◌∙◌, sym, ap, refl, subst, ℕ, ◌≤◌, List, [], ◌∷◌, length, true, false, Some, None, IsTrue, arith}
-use Rattle.std.specs.Prelude.{◌==◌, nat_le, nat_lt, get_or, option_map}
+use Rattle.std.proofs.Common.{◌≡◌, ◌∙◌, sym, ap, refl, subst, ℕ, ◌≤◌, List, [], ◌∷◌, length, true, false, Option, Some, None, Result, Ok, Err, IsTrue, arith, inl, inr}
+use Rattle.std.specs.Prelude.{◌==◌, nat_le, nat_lt, get_or, option_map, IfErr, IfOk}
 use Rattle.std.specs.List.{list_any}
 use Rattle.std.specs.Option.{option_or}
-use Rattle.std.proofs.lemmas.Bool.{and_parts}
+use Rattle.std.proofs.lemmas.Bool.{and_parts, cases_Bool}
 use Rattle.std.proofs.lemmas.Grind.{common_steps}
 use Rattle.mq_base.specs.Text.{lines_of}
 use Rattle.mq_core.specs.Sound.{is_sound}
 use Rattle.mq_core.specs.Ranges.{is_within}
 use Rattle.mq_core.specs.declared.model.Network.{Network}
+use Rattle.mq_core.specs.declared.model.Plan.{Plan}
 use Rattle.mq_graph.specs.Rank.{AreWired, left_node}
 use Rattle.mq_model.specs.Front.{IsFront}
 use Rattle.mq_model.specs.Head.{version_in}
-use Rattle.mq_model.specs.Model.{cycle_fault, inputs_fault, lines_fault, model_fault, reads_of_text, source_fault}
+use Rattle.mq_model.specs.Model.{Tells, cycle_fault, inputs_fault, lines_fault, model_fault, reads_of_text, source_fault}
 use Rattle.mq_model.specs.NetworkOf.{network_in, network_of, nodes_of, saids_of, without_mark}
 use Rattle.mq_model.specs.Placed.{AreNarrow, cycle_of, placed_inputs}
 use Rattle.mq_model.specs.Said.{is_source}
 use Rattle.mq_model.specs.declared.fault.ModelFault.{ModelFault}
-use Rattle.mq_model.specs.declared.fault.ModelFault.TheVariants.{Cycle, NoSource}
+use Rattle.mq_model.specs.declared.fault.ModelFault.TheVariants.{Cycle}
 use Rattle.mq_model.specs.declared.front.Front.{Front}
 use Rattle.mq_model.specs.declared.said.SaidKind.{SaidKind}
 use Rattle.mq_model.specs.declared.said.SaidKind.TheVariants.{Source, Server, Delay, Loss, Tandem, ForkJoin, Split, Fork, Join, Trunk}
@@ -27,7 +28,7 @@ use Rattle.mq_model.proofs.InputFacts.{beside_are, declaring_are, placed_are}
 use Rattle.mq_model.proofs.NetworkBack.{sound_is_wired}
 use Rattle.mq_model.proofs.SoundLines.{is_sound_reads}
 use Rattle.mq_model.proofs.SoundNetwork.{unranked_is_small, unranked_is_sound}
-use Rattle.mq_model.proofs.SoundText.{AreSound, told_are_sound}
+use Rattle.mq_model.proofs.SoundText.{AreSound, or_none, told_are_sound}
 
 -- the lines of a text, without a fault of theirs
 pub record Kept (bytes : List ℕ) (front : Front) : Type 0 where
@@ -76,12 +77,15 @@ model_is : (bytes : List ℕ) (front : Front) → Kept bytes front
     → model_fault bytes ≡ option_or (inputs_fault front.saids [] (placed_inputs front.lines front.saids)) (option_or (source_fault front.saids) (cycle_fault (lines_of (without_mark bytes))))
 model_is bytes front k = rw (k.short, k.lines, k.is.saids, k.is.lines, placed_are 1 (lines_of (without_mark bytes))) refl
 
-pub kept_input : (bytes : List ℕ) (front : Front) (e : ModelFault) → Kept bytes front → Some e ≡ inputs_fault front.saids [] (placed_inputs front.lines front.saids) → model_fault bytes ≡ Some e
-kept_input bytes front e k h = model_is bytes front k ∙ rw (← h) refl
+-- a fault of inputs or sources
+or_some : {A : Type 0} (x y z : Option A) (e : A) → Some e ≡ option_or x y → option_or x (option_or y z) ≡ Some e
+or_some None None z e h = absurd (cc)
+or_some None (Some b) z e h = sym h
+or_some (Some a) y z e h = sym h
 
-pub kept_no_source : (bytes : List ℕ) (front : Front) → Kept bytes front → None ≡ inputs_fault front.saids [] (placed_inputs front.lines front.saids) → list_any is_source front.saids ≡ false
-    → model_fault bytes ≡ Some NoSource
-kept_no_source bytes front k h none = model_is bytes front k ∙ rw (← h, none) refl
+pub kept_fault : (bytes : List ℕ) (front : Front) (e : ModelFault) → Kept bytes front
+    → Some e ≡ option_or (inputs_fault front.saids [] (placed_inputs front.lines front.saids)) (source_fault front.saids) → model_fault bytes ≡ Some e
+kept_fault bytes front e k h = model_is bytes front k ∙ or_some (inputs_fault front.saids [] (placed_inputs front.lines front.saids)) (source_fault front.saids) (cycle_fault (lines_of (without_mark bytes))) e h
 
 -- the network of lines without a fault, before its nodes are ranked
 pub record Unranked (bytes : List ℕ) (front : Front) (net : Network) : Type 0 where
@@ -92,7 +96,7 @@ pub record Unranked (bytes : List ℕ) (front : Front) (net : Network) : Type 0 
   pub declared : net ≡ network_in bytes
   pub fault : model_fault bytes ≡ cycle_of front.lines front.saids net.nodes
 
-pub unranked : (bytes : List ℕ) (front : Front) (net : Network) → Kept bytes front → None ≡ inputs_fault front.saids [] (placed_inputs front.lines front.saids) → list_any is_source front.saids ≡ true
+unranked : (bytes : List ℕ) (front : Front) (net : Network) → Kept bytes front → None ≡ inputs_fault front.saids [] (placed_inputs front.lines front.saids) → list_any is_source front.saids ≡ true
     → net ≡ network_of front.version front.saids → Unranked bytes front net
 unranked bytes front net k none source is =
     let ls : List (List ℕ) = lines_of (without_mark bytes) in
@@ -110,3 +114,23 @@ unranked bytes front net k none source is =
       declared = here;
       fault = model_is bytes front k ∙ rw (← none, source) (sym cycles);
     }
+
+some_source : (saids : List Said) → source_fault saids ≡ None → list_any is_source saids ≡ true
+some_source saids h = elim (cases_Bool (list_any is_source saids)) [ inl some ↦ some | inr none ↦ absurd (let k = rw none at h in cc) ]
+
+pub unfaulty : (bytes : List ℕ) (front : Front) → Kept bytes front → None ≡ option_or (inputs_fault front.saids [] (placed_inputs front.lines front.saids)) (source_fault front.saids)
+    → Unranked bytes front (network_of front.version front.saids)
+unfaulty bytes front k h =
+    let none = or_none (inputs_fault front.saids [] (placed_inputs front.lines front.saids)) (source_fault front.saids) (sym h) in
+    unranked bytes front (network_of front.version front.saids) k (sym none.0) (some_source front.saids none.1) refl
+
+-- what comes of the plan's nodes, said of the text
+pub planned : (bytes : List ℕ) (front : Front) (r : Result Plan ModelFault) → Unranked bytes front (network_of front.version front.saids)
+    → IfOk r (λ plan. (cycle_of front.lines front.saids (nodes_of front.saids) ≡ None) × (plan.net ≡ network_of front.version front.saids)) → IfOk r (λ plan. (model_fault bytes ≡ None) × (plan.net ≡ network_in bytes))
+planned bytes front (Ok plan) u h = (u.fault ∙ h.0, h.1 ∙ u.declared)
+planned bytes front (Err e) u h = h
+
+pub unplanned : (bytes : List ℕ) (front : Front) (r : Result Plan ModelFault) → Unranked bytes front (network_of front.version front.saids)
+    → IfErr r (λ e. Tells e (cycle_of front.lines front.saids (nodes_of front.saids))) → IfErr r (λ e. Tells e (model_fault bytes))
+unplanned bytes front (Ok plan) u h = h
+unplanned bytes front (Err e) u h = λ some. u.fault ∙ h some

@@ -1,11 +1,13 @@
 // The reader of a model text.
-ghost use Rattle.std.specs.Prelude.{◌≡◌, ◌≤◌, IfErr, IfOk, None, get_or, length, nat_lt};
+ghost use Rattle.std.specs.Prelude.{◌≡◌, ◌≤◌, [], IfErr, IfOk, IsTrue, None, get_or, length, nat_lt};
+ghost use Rattle.std.specs.Option.{option_or};
+ghost use Rattle.mq_core.specs.Sound.{is_sound};
 ghost use Rattle.mq_core.specs.Wiring.{ranking};
 ghost use Rattle.mq_graph.specs.Rank.{AreWired, HasAll};
-ghost use Rattle.mq_model.specs.Model.{Tells, model_fault};
-ghost use Rattle.mq_model.specs.NetworkOf.{network_in, without_mark};
-ghost use Rattle.mq_model.specs.Placed.{cycle_of, declaring};
-ghost use Rattle.mq_model.specs.Said.{declared};
+ghost use Rattle.mq_model.specs.Model.{Tells, inputs_fault, model_fault, source_fault};
+ghost use Rattle.mq_model.specs.NetworkOf.{network_in, network_of, nodes_of, without_mark};
+ghost use Rattle.mq_model.specs.Placed.{AreNarrow, cycle_of, declaring, placed_inputs};
+ghost use Rattle.mq_model.specs.Said.{columns_of, declared, names_of};
 
 use crate::fault::ModelFault;
 use crate::front::Front;
@@ -17,6 +19,7 @@ use mq_base::List;
 use mq_core::{Network, Plan};
 use mq_graph::{RankFault, rank};
 use std::alloc::Global;
+use std::mem;
 
 /// A text without a byte order mark at its start.
 fn without_mark(text: &[u8]) -> &[u8]
@@ -78,6 +81,46 @@ fn order_of(
     }
 }
 
+/// The first fault of the inputs and the sources of the lines that are kept.
+fn front_fault(front: &Front) -> Option<ModelFault>
+    requires beside { length front.now.lines ≡ length front.now.saids }
+    requires narrow { AreNarrow front.now.saids }
+    ensures { result ≡ option_or (inputs_fault front.now.saids [] (placed_inputs front.now.lines front.now.saids)) (source_fault front.now.saids) }
+{
+    if let Some(fault) = inputs_fault(front.saids.as_slice(), front.lines.as_slice()) {
+        return Some(fault);
+    }
+    if !has_source(front.saids.as_slice()) {
+        return Some(ModelFault::NoSource);
+    }
+    None
+}
+
+/// The plan of lines whose network is sound, where no node is left. The names of the columns go into it.
+fn plan_of(alloc: Global, front: &mut Front) -> Result<Plan, ModelFault>
+    requires names { front.old.names ≡ names_of front.old.saids }
+    requires columns { front.old.columns ≡ columns_of front.old.saids }
+    requires few { length front.old.names ≤ 64 }
+    requires few_columns { length front.old.columns ≤ 16 }
+    requires beside { length front.old.lines ≡ length front.old.saids }
+    requires small { length (nodes_of front.old.saids) ≤ 64 }
+    requires wired { AreWired (nodes_of front.old.saids) }
+    requires sound { IsTrue (is_sound (network_of front.old.version front.old.saids)) }
+    ensures ok { IfOk result (λ plan. (cycle_of front.old.lines front.old.saids (nodes_of front.old.saids) ≡ None) × (plan.net ≡ network_of front.old.version front.old.saids)) }
+    ensures err { IfErr result (λ e. Tells e (cycle_of front.old.lines front.old.saids (nodes_of front.old.saids))) }
+{
+    let columns = mem::replace(&mut front.columns, List::new(alloc));
+    let net = network_of(
+        alloc,
+        front.version,
+        front.names.as_slice(),
+        columns,
+        front.saids.as_slice(),
+    )?;
+    let order = order_of(alloc, &net, front.saids.as_slice(), front.lines.as_slice())?;
+    Ok(Plan { net, order })
+}
+
 /// Reads a model text of at most 65,536 bytes.
 ///
 /// The plan is that of the network that the text declares. A fault is the first one of the text:
@@ -89,22 +132,9 @@ pub fn read_model(alloc: Global, bytes: &[u8]) -> Result<Plan, ModelFault>
     if bytes.len() > 65_536 {
         return Err(ModelFault::TooLong);
     }
-    let front = read_lines(alloc, without_mark(bytes))?;
-    if let Some(fault) = inputs_fault(front.saids.as_slice(), front.lines.as_slice()) {
-        return Err(fault);
+    let mut front = read_lines(alloc, without_mark(bytes))?;
+    match front_fault(&front) {
+        Some(fault) => Err(fault),
+        None => plan_of(alloc, &mut front),
     }
-    if !has_source(front.saids.as_slice()) {
-        return Err(ModelFault::NoSource);
-    }
-    let Front {
-        version,
-        saids,
-        lines,
-        names,
-        columns,
-        ..
-    } = front;
-    let net = network_of(alloc, version, names.as_slice(), columns, saids.as_slice())?;
-    let order = order_of(alloc, &net, saids.as_slice(), lines.as_slice())?;
-    Ok(Plan { net, order })
 }
