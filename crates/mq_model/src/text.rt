@@ -23,6 +23,26 @@ fn no_lines(alloc: Global) -> Front
     }
 }
 
+/// Adds the lines of a text to none.
+fn add_lines(alloc: Global, text: &[u8], front: &mut Front) -> Result<(), ModelFault>
+    requires short { length text.now ≤ 65536 }
+    requires none { IsFront [] front.old }
+    ensures ok { IfOk result (λ _. (lines_fault [] (lines_of text.now) ≡ None) × IsFront (lines_of text.now) front.new) }
+    ensures err { IfErr result (λ e. Tells e (lines_fault [] (lines_of text.now))) }
+{
+    let mut from = 0;
+    let mut number = 1u32;
+    while let Some(span) = next_line(text, from) {
+        read_next(alloc, &text[span.start..span.end], number, front)?;
+        from = span.next;
+        number += 1;
+    }
+    if !front.has_head {
+        return Err(ModelFault::BadHead { line: number });
+    }
+    Ok(())
+}
+
 /// Reads the lines of a text, each apart from inputs and cycles.
 pub fn read_lines(alloc: Global, text: &[u8]) -> Result<Front, ModelFault>
     requires { length text.now ≤ 65536 }
@@ -30,15 +50,6 @@ pub fn read_lines(alloc: Global, text: &[u8]) -> Result<Front, ModelFault>
     ensures err { IfErr result (λ e. Tells e (lines_fault [] (lines_of text.now))) }
 {
     let mut front = no_lines(alloc);
-    let mut from = 0;
-    let mut number = 1u32;
-    while let Some(span) = next_line(text, from) {
-        read_next(alloc, &text[span.start..span.end], number, &mut front)?;
-        from = span.next;
-        number += 1;
-    }
-    if !front.has_head {
-        return Err(ModelFault::BadHead { line: number });
-    }
+    add_lines(alloc, text, &mut front)?;
     Ok(front)
 }

@@ -1,7 +1,7 @@
 use Rattle.std.proofs.Common.{refl, arith}
 use Rattle.std.proofs.lemmas.Result.{err_from_is_err_and}
 use Rattle.mq_model.proofs.TextFacts.{lined_all, lined_fault, lined_more, lined_no_head}
-use Rattle.mq_model.proofs.text.read_lines.Goals as goal
+use Rattle.mq_model.proofs.text.add_lines.Goals as goal
 
 pub returns-in_err-read_next-clause-err : goal.returns-in_err-read_next-clause-err
 returns-in_err-read_next-clause-err c =

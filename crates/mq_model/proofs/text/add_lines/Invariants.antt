@@ -1,6 +1,6 @@
 use Rattle.std.proofs.Common.{◌-◌, length}
 use Rattle.mq_model.proofs.TextFacts.{Lined}
-use Rattle.mq_model.proofs.text.read_lines.Given as goal
+use Rattle.mq_model.proofs.text.add_lines.Given as goal
 
 abbrev pub invariant-loop-span : goal.invariant-loop-span
 invariant-loop-span l = Lined l.text l.from l.number l.front
