@@ -1,8 +1,11 @@
 // The reader of a trace.
 
-ghost use Rattle.std.specs.Prelude.{◌≡◌, ◌^◌, ◌<◌, ◌≤◌, length, map, IfOk};
+ghost use Rattle.std.specs.Prelude.{◌≡◌, ◌^◌, ◌<◌, ◌≤◌, ◌∷◌, [], List, length, map, IfErr, IfOk};
+ghost use Rattle.std.specs.Bool.{MatchBool};
+ghost use Rattle.csv.specs.Records.{fields_of};
 ghost use Rattle.mq_core.specs.Theorems.{IsReadFor};
 ghost use Rattle.mq_trace.specs.Pieces.{ArePieces};
+ghost use Rattle.mq_trace.specs.Records.{Record};
 ghost use Rattle.mq_trace.specs.Trace.{Answers, records_fault, rows_in, text_records, trace_fault};
 
 use crate::each::read_each;
@@ -23,15 +26,23 @@ const PIECE_BYTES: usize = 65_536;
 // So many pieces for each worker, so that none waits long for another.
 const PIECES_EACH: u32 = 4;
 
+/// Reads the first record of a text, if it has one.
+fn first_record(alloc: Global, text: &[u8], row: &mut ByteRecord) -> Result<bool, TraceFault>
+    ensures found { IfOk result (λ found. MatchBool found ((more : List Record) × (text_records text.now ≡ fields_of row.new ∷ more)) (text_records text.now ≡ [])) }
+    ensures memory { IfErr result (λ e. e ≡ TraceFault.Memory) }
+{
+    let mut reader = text_reader(alloc, text);
+    next_record(&mut reader, row)
+}
+
 /// Reads a text whose first record is the header.
 fn read_whole(alloc: Global, text: &[u8], net: &Network) -> Result<Rows, TraceFault>
     requires nodes { length net.now.nodes < 2 ^ 32 }
     requires columns { length net.now.columns ≤ 16 }
     ensures { Answers result (records_fault net.now (text_records text.now)) (rows_in net.now text.now) }
 {
-    let mut reader = text_reader(alloc, text);
     let mut names = ByteRecord::new(alloc);
-    if !next_record(&mut reader, &mut names)? {
+    if !first_record(alloc, text, &mut names)? {
         return Err(TraceFault::BadHeader { field: 1 });
     }
     let header = read_header(alloc, names, net)?;
@@ -56,9 +67,8 @@ fn read_apart<R: Threads + Sync>(
     requires columns { length net.now.columns ≤ 16 }
     ensures { Answers result (records_fault net.now (text_records text.now)) (rows_in net.now text.now) }
 {
-    let mut reader = text_reader(alloc, pieces[0]);
     let mut names = ByteRecord::new(alloc);
-    if !next_record(&mut reader, &mut names)? {
+    if !first_record(alloc, pieces[0], &mut names)? {
         return read_whole(alloc, text, net);
     }
     let header = read_header(alloc, names, net)?;
