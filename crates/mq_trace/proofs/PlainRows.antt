@@ -1,5 +1,5 @@
 -- Rows that are read field after field.
-use Rattle.std.proofs.Common.{◌≡◌, ◌∙◌, sym, ap, refl, ℕ, ◌+◌, ◌<◌, ◌≤◌, ◌^◌, ◌⊎◌, List, [], ◌∷◌, ◌++◌, length, length-take, drop, take, get_or, Bool, true, false, Some, None, arith, inl, inr}
+use Rattle.std.proofs.Common.{◌≡◌, ◌∙◌, sym, ap, refl, ℕ, ◌+◌, ◌<◌, ◌≤◌, ◌^◌, List, [], ◌∷◌, ◌++◌, length, length-take, drop, take, get_or, Bool, true, false, Some, None, arith, inl, inr}
 use Rattle.std.specs.Prelude.{◌&&◌, is_none}
 use Rattle.std.specs.Char.{is_ascii_digit}
 use Rattle.std.specs.List.{list_all}
@@ -13,7 +13,7 @@ use Rattle.csv.specs.Records.{fields_of}
 use Rattle.mq_base.specs.Text.{number_of}
 use Rattle.mq_core.specs.declared.model.Network.{Network}
 use Rattle.mq_trace.specs.Header.{columns_of, is_among}
-use Rattle.mq_trace.specs.Plain.{IsField, IsFirstRow, ends_record, is_plain}
+use Rattle.mq_trace.specs.Plain.{IsColumnField, IsField, IsFirstRow, IsNoted, ends_record, is_plain}
 use Rattle.mq_trace.specs.Reading.{IsHeaderOf}
 use Rattle.mq_trace.specs.Records.{Record}
 use Rattle.mq_trace.specs.Trace.{bad_value, row_fault, source_named}
@@ -75,10 +75,6 @@ pub record RowSoFar (net : Network) (header : Header) (text : List ℕ) (index n
   pub clean : bad_value net 3 (take index (columns_of (fields_of header.names))) later ≡ None
   pub held : (k : ℕ) → k < index → get_or header.reads.items k false ≡ true → get_or values k 0 ≡ digits_value 10 (get_or later k [])
 
--- a column that isn't read, or a field whose number was noted
-abbrev pub IsNoted : Bool → ℕ → List ℕ → Type 0
-IsNoted reads value field = (reads ≡ false) ⊎ (number_of field (2 ^ 36) ≡ Some value)
-
 noted_value : (reads : Bool) (value : ℕ) (field : List ℕ) → IsNoted reads value field → reads ≡ true → value ≡ digits_value 10 field
 noted_value reads value field (inl unread) h = cc
 noted_value reads value field (inr number) h = number_is field (2 ^ 36) value number
@@ -115,11 +111,13 @@ row_begins net header text node time values first behind back second end begins 
 }
 
 -- one more field
-pub row_more : (net : Network) (header : Header) (text : List ℕ) (index node time : ℕ) (old new end from field rest : List ℕ) → IsHeaderOf net header
-    → RowSoFar net header text index node time old end → index < length header.reads.items → end ≡ 44 ∷ from → IsField from field rest
-    → ((k : ℕ) → k < index → get_or new k 0 ≡ get_or old k 0) → IsNoted (get_or header.reads.items index false) (get_or new index 0) field
+pub row_more : (net : Network) (header : Header) (text : List ℕ) (index node time : ℕ) (old new end rest : List ℕ) → IsHeaderOf net header
+    → RowSoFar net header text index node time old end → index < length header.reads.items
+    → ((k : ℕ) → k < index → get_or new k 0 ≡ get_or old k 0) → IsColumnField (get_or header.reads.items index false) (get_or new index 0) end rest
     → RowSoFar net header text (index + 1) node time new rest
-row_more net header text index node time old new end from field rest is so less comma follows same noted_here =
+row_more net header text index node time old new end rest is so less same here =
+    let field = here.field in
+    let noted_here = here.noted in
     let columns = columns_of (fields_of header.names) in
     let size = length_noted net.columns columns header.reads.items is.reads in
     let within : index < length columns = omega arith in
@@ -130,7 +128,7 @@ row_more net header text index node time old new end from field rest is so less 
       first = so.first;
       second = so.second;
       later = so.later ++ field ∷ [];
-      ends = goes_over text (so.first ∷ so.second ∷ so.later) from field rest (so.ends.goes from comma) follows;
+      ends = goes_over text (so.first ∷ so.second ∷ so.later) here.from field rest (so.ends.goes here.from here.comma) here.follows;
       count = length-append so.later (field ∷ []) ∙ ap (λ n. n + 1) so.count;
       source = so.source;
       number = so.number;

@@ -1,8 +1,9 @@
 -- Records that are read as they stand in a text: in their fields no quote stands, but around them.
-use Rattle.std.specs.Prelude.{◌≡◌, ◌⊎◌, ◌∷◌, ◌++◌, ◌<◌, ◌==◌, ◌||◌, [], ℕ, List, Bool, true, false, None, Some, not, length}
+use Rattle.std.specs.Prelude.{◌≡◌, ◌⊎◌, ◌∷◌, ◌++◌, ◌<◌, ◌==◌, ◌^◌, ◌||◌, [], ℕ, List, Bool, true, false, None, Some, not, length}
 use Rattle.std.specs.List.{list_all}
 use Rattle.std.specs.Str.Parse.{digits_value}
 use Rattle.csv.specs.Records.{fields_of}
+use Rattle.mq_base.specs.Text.{number_of}
 use Rattle.csv.specs.declared.parser.State.TheVariants as st
 use Rattle.mq_core.specs.declared.model.Network.{Network}
 use Rattle.mq_trace.specs.Header.{field_of}
@@ -24,6 +25,18 @@ is_plain c = not ((c == 34) || (c == 44) || (c == 13) || (c == 10))
 -- a text begins with this field, as it stands or between quotes, and this is left behind it
 abbrev pub IsField : List ℕ → List ℕ → List ℕ → Type 0
 IsField text field rest = ((list_all is_plain field ≡ true) × (text ≡ field ++ rest)) ⊎ ((has_quote field ≡ false) × (text ≡ 34 ∷ (field ++ 34 ∷ rest)))
+
+-- a column that isn't read, or a field whose number was noted
+abbrev pub IsNoted : Bool → ℕ → List ℕ → Type 0
+IsNoted reads value field = (reads ≡ false) ⊎ (number_of field (2 ^ 36) ≡ Some value)
+
+-- a text begins with a comma and the field of a column, and this is left behind it
+pub record IsColumnField (reads : Bool) (value : ℕ) (text rest : List ℕ) : Type 0 where
+  pub from : List ℕ
+  pub field : List ℕ
+  pub comma : text ≡ 44 ∷ from
+  pub follows : IsField from field rest
+  pub noted : IsNoted reads value field
 
 -- where this text begins a record ends: there is nothing, or a byte that ends one
 abbrev pub ends_record : List ℕ → Bool

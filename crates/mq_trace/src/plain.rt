@@ -5,7 +5,7 @@ ghost use Rattle.std.specs.Char.{is_ascii_digit};
 ghost use Rattle.std.specs.List.{list_all, prefix_len};
 ghost use Rattle.std.specs.Str.Parse.{digits_value};
 ghost use Rattle.mq_base.specs.Text.{number_of};
-ghost use Rattle.mq_trace.specs.Plain.{BeginsWith, IsField, IsFirstRow, ends_record, is_plain};
+ghost use Rattle.mq_trace.specs.Plain.{BeginsWith, IsColumnField, IsField, IsFirstRow, ends_record, is_plain};
 ghost use Rattle.mq_trace.specs.Reading.{IsHeaderOf};
 ghost use Rattle.mq_trace.specs.Records.{Record};
 
@@ -120,6 +120,20 @@ pub fn behind_first(text: &[u8]) -> Option<&[u8]>
     }
 }
 
+/// The field behind a comma, of which this is the text, and what stands behind it. Where the model reads its column the
+/// number goes into `value`.
+fn column_field<'a>(text: &'a [u8], reads: bool, value: &mut u64) -> Option<&'a [u8]>
+    ensures { IfSome result (λ rest. IsColumnField reads value.new text.now rest.now) }
+{
+    let field = behind_byte(b',', text)?;
+    if !reads {
+        return Some(split_field(field)?.1);
+    }
+    let (number, rest) = split_number(field, 1 << 36)?;
+    *value = number;
+    Some(rest)
+}
+
 /// Reads the first record of a text, behind so many others, where it is plain and has no fault. The numbers of its
 /// columns go into `values`.
 pub fn plain_row<'a>(
@@ -141,14 +155,7 @@ pub fn plain_row<'a>(
     let node = find_source(net, name)?;
     let (time, mut end) = split_number(behind_byte(b',', behind)?, 1 << 60)?;
     for (index, reads) in header.reads.as_slice().iter().enumerate() {
-        let field = behind_byte(b',', end)?;
-        end = if *reads {
-            let (value, rest) = split_number(field, 1 << 36)?;
-            values[index] = value;
-            rest
-        } else {
-            split_field(field)?.1
-        };
+        end = column_field(end, *reads, &mut values[index])?;
     }
     Some(PlainRow {
         node: node as u32,
