@@ -140,6 +140,13 @@ name_at r index low h =
     let len : index - 2 < length (columns_of r) = grind (arith, common_steps) in
     (len, later_field r (index - 2) ∙ ap (λ k. get_or r k []) back)
 
+-- a column that is one too many
+pub column_too_many : (r : Record) (index : ℕ) → index ≡ 18 → index < length r → bad_column (index + 1) (take (index - 2) (columns_of r)) (drop (index - 2) (columns_of r)) ≡ Some (index + 1)
+column_too_many r index e h =
+    let at = name_at r index (omega arith) h in
+    let n : ((index + 1) == 19) ≡ true = grind arith in
+    bad_column_step (index + 1) (index - 2) (take (index - 2) (columns_of r)) (columns_of r) at.0 ∙ rw n refl
+
 -- a column that stands among those before it
 pub column_repeats : (r : Record) (index : ℕ) (names : List (Bor (List ℕ))) (name : List ℕ) → 2 ≤ index → index < length r → map (λ s. s.now) names ≡ take (index - 2) (columns_of r)
     → get_or r index [] ≡ name → list_any (λ other. bytes_eq other.now name) names ≡ true

@@ -1,5 +1,5 @@
 -- The header of a trace: its columns, its least faulty field and the least column that it lacks.
-use Rattle.std.specs.Prelude.{◌+◌, ◌∷◌, ◌++◌, ◌||◌, ◌==◌, [], ℕ, List, drop, get_or, Bool, not, Option, Some, None, if◌then◌else◌, position, codes}
+use Rattle.std.specs.Prelude.{◌≡◌, ◌<◌, ◌+◌, ◌-◌, ◌∷◌, ◌++◌, ◌||◌, ◌==◌, [], ℕ, List, drop, take, get_or, Bool, not, Option, Some, None, if◌then◌else◌, position, codes}
 use Rattle.std.specs.List.{list_any}
 use Rattle.std.specs.Str.{bytes_eq}
 use Rattle.mq_core.specs.declared.model.Network.{Network}
@@ -22,6 +22,16 @@ unfoldable pub bad_column : ℕ → List (List ℕ) → List (List ℕ) → Opti
 bad_column number before [] = None
 bad_column number before (name ∷ more) =
     if (number == 19) || is_among before name then Some number else bad_column (number + 1) (before ++ name ∷ []) more
+
+-- of a header's columns from the field at an index on, the number of the first that repeats an earlier one or is field 19
+abbrev pub bad_from : Record → ℕ → Option ℕ
+bad_from header index = bad_column (index + 1) (take (index - 2) (columns_of header)) (drop (index - 2) (columns_of header))
+
+-- the field at an index has this name and none of these faults
+pub record IsNewColumn (header : Record) (index : ℕ) (name : List ℕ) : Type 0 where
+  pub more : take (index + 1 - 2) (columns_of header) ≡ take (index - 2) (columns_of header) ++ name ∷ []
+  pub good : bad_from header index ≡ bad_from header (index + 1)
+  pub few : index < 18
 
 -- the least faulty field of a header, from 1
 unfoldable pub bad_header : Record → Option ℕ

@@ -1,10 +1,10 @@
 // The header of a trace.
 
-ghost use Rattle.std.specs.Prelude.{◌≡◌, ◌+◌, ◌<◌, ◌≤◌, length, map, drop, get_or, List, IfOk, IfErr, None, option_map, position};
+ghost use Rattle.std.specs.Prelude.{◌≡◌, ◌+◌, ◌-◌, ◌<◌, ◌≤◌, ◌&&◌, length, map, take, nat_lt, IfOk, IfErr, None, Some, option_map, position};
 ghost use Rattle.std.specs.List.{list_any};
 ghost use Rattle.std.specs.Str.{bytes_eq};
 ghost use Rattle.csv.specs.Records.{fields_of};
-ghost use Rattle.mq_trace.specs.Header.{bad_header, columns_of, is_among};
+ghost use Rattle.mq_trace.specs.Header.{IsNewColumn, bad_from, bad_header, columns_of, field_of, is_among};
 ghost use Rattle.mq_trace.specs.Trace.{Tells, header_fault};
 ghost use Rattle.mq_trace.specs.Reading.{IsHeaderOf};
 
@@ -46,6 +46,41 @@ fn index_among(names: &[&[u8]], name: &[u8]) -> Option<usize>
     names.iter().position(|other| *other == name)
 }
 
+#[tactic(auto, using(crate::proofs::TraceFacts::field_at_is))]
+/// Whether a record has this field at an index.
+fn has_field(row: &ByteRecord, index: usize, name: &[u8]) -> bool
+    ensures { result ≡ (nat_lt index (length (fields_of row.now)) && bytes_eq (field_of (fields_of row.now) index) name.now) }
+{
+    match row.get(index) {
+        Some(field) => field == name,
+        None => false,
+    }
+}
+
+/// The name at an index of a header, behind these, if its field isn't faulty.
+fn column_name<'a>(
+    row: &'a ByteRecord,
+    index: usize,
+    before: &[&[u8]],
+) -> Result<&'a [u8], TraceFault>
+    requires low { 2 ≤ index }
+    requires high { index ≤ 18 }
+    requires inside { index < length (fields_of row.now) }
+    requires names { map (λ s. s.now) before.now ≡ take (index - 2) (columns_of (fields_of row.now)) }
+    ensures ok { IfOk result (λ name. IsNewColumn (fields_of row.now) index name.now) }
+    ensures err { IfErr result (λ e. (e ≡ TraceFault.BadHeader (index + 1)) × (bad_from (fields_of row.now) index ≡ Some (index + 1))) }
+{
+    let Some(name) = row.get(index) else {
+        unreachable!()
+    };
+    if index == 18 || is_seen(before, name) {
+        return Err(TraceFault::BadHeader {
+            field: index as u32 + 1,
+        });
+    }
+    Ok(name)
+}
+
 #[tactic(auto, using(crate::proofs::TraceFacts::column_steps), unfolding(crate::specs::Header::bad_header))]
 /// The columns of a header without a fault in its fields.
 fn read_columns<'a>(alloc: Global, row: &'a ByteRecord) -> Result<Vec<&'a [u8]>, TraceFault>
@@ -53,31 +88,15 @@ fn read_columns<'a>(alloc: Global, row: &'a ByteRecord) -> Result<Vec<&'a [u8]>,
     ensures size { IfOk result (λ _. (2 ≤ length (fields_of row.now)) × (length (fields_of row.now) ≤ 18)) }
     ensures err { IfErr result (λ e. Tells e (option_map (λ n. TraceFault.BadHeader n) (bad_header (fields_of row.now)))) }
 {
-    let Some(first) = row.get(0) else {
-        return Err(TraceFault::BadHeader { field: 1 });
-    };
-    if first != b"source".as_slice() {
+    if !has_field(row, 0, b"source") {
         return Err(TraceFault::BadHeader { field: 1 });
     }
-    let Some(second) = row.get(1) else {
-        return Err(TraceFault::BadHeader { field: 2 });
-    };
-    if second != b"time".as_slice() {
+    if !has_field(row, 1, b"time") {
         return Err(TraceFault::BadHeader { field: 2 });
     }
     let mut columns = Vec::new(alloc);
     for index in 2..row.len() {
-        let Some(name) = row.get(index) else {
-            unreachable!()
-        };
-        if index == 18 {
-            return Err(TraceFault::BadHeader { field: 19 });
-        }
-        if is_seen(columns.as_slice(), name) {
-            return Err(TraceFault::BadHeader {
-                field: index as u32 + 1,
-            });
-        }
+        let name = column_name(row, index, columns.as_slice())?;
         columns.push(name)?;
     }
     Ok(columns)
