@@ -8,7 +8,7 @@ use Rattle.std.proofs.lemmas.Grind.{common_steps}
 use Rattle.std.proofs.lemmas.List.{get_or-map, length-map, map-append, take-append-le, take_all, take_more}
 use Rattle.std.proofs.lemmas.List.Sums.{fails_before_first, position_or_len_is}
 use Rattle.csv.specs.Records.{fields_of}
-use Rattle.mq_trace.specs.Reading.{HoldsValues, IsHeaderOf, Pushes}
+use Rattle.mq_trace.specs.Reading.{HoldsValues, IsHeaderOf, Pushes, RowsSoFar}
 use Rattle.mq_trace.specs.Records.{Record}
 use Rattle.mq_trace.specs.Header.{columns_of, field_of, is_among, missing_column, bad_header}
 use Rattle.mq_trace.specs.Trace.{index_of, row_fault, records_fault, rows_fault, rows_of, source_named}
@@ -21,14 +21,6 @@ use Rattle.mq_trace.proofs.TraceFacts.{length_noted, noted, rows_fault_append}
 use Rattle.std.proofs.lemmas.List.{ext_get_or}
 use Rattle.std.proofs.lemmas.Bool.{cases_Bool}
 use Rattle.std.proofs.lemmas.Slice.Eq.{bytes_eq-Decides}
-
--- what the rows of the data records so far hold, none of which has a fault
-pub record RowsSoFar (net : Network) (header : Record) (done : List Record) (source time : List ℕ) (demands : List (List ℕ)) : Type 0 where
-  pub clean : rows_fault net header 1 done ≡ None
-  pub sources : source ≡ map (λ r. unwrap_or (source_named net (field_of r 0)) 0) done
-  pub times : time ≡ map (λ r. digits_value 10 (field_of r 1)) done
-  pub width : length demands ≡ length net.columns
-  pub values : (k : ℕ) → k < length net.columns → get_or demands k [] ≡ map (λ r. digits_value 10 (field_of r (index_of header (get_or net.columns k [])))) done
 
 -- no record yet
 pub so_far_none : (net : Network) (header : Record) → RowsSoFar net header [] [] [] (map (λ _. []) net.columns)

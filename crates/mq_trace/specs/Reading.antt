@@ -1,11 +1,12 @@
 -- What a header that was read holds.
-use Rattle.std.specs.Prelude.{◌≡◌, ◌+◌, ◌<◌, ◌≤◌, ◌++◌, ◌∷◌, [], ℕ, Bool, true, false, get_or, length, map, List, None}
+use Rattle.std.specs.Prelude.{◌≡◌, ◌+◌, ◌<◌, ◌≤◌, ◌++◌, ◌∷◌, [], ℕ, Bool, true, false, get_or, length, map, List, None, unwrap_or}
 use Rattle.std.specs.Str.Parse.{digits_value}
 use Rattle.mq_trace.specs.Records.{Record}
 use Rattle.std.specs.List.{position_or_len}
 use Rattle.std.specs.Str.{bytes_eq}
 use Rattle.csv.specs.Records.{fields_of}
 use Rattle.mq_trace.specs.Header.{columns_of, field_of, is_among, missing_column}
+use Rattle.mq_trace.specs.Trace.{index_of, rows_fault, source_named}
 use Rattle.mq_trace.specs.declared.header.Header.{Header}
 use Rattle.mq_core.specs.declared.model.Network.{Network}
 
@@ -24,3 +25,11 @@ HoldsValues reads values r = (index : ℕ) → index < length reads → get_or r
 pub record Pushes (old new : List (List ℕ)) (indices values : List ℕ) : Type 0 where
   pub len : length new ≡ length old
   pub each : (k : ℕ) → k < length old → get_or new k [] ≡ get_or old k [] ++ get_or values (get_or indices k 0) 0 ∷ []
+
+-- what the rows of the data records so far hold, none of which has a fault
+pub record RowsSoFar (net : Network) (header : Record) (done : List Record) (source time : List ℕ) (demands : List (List ℕ)) : Type 0 where
+  pub clean : rows_fault net header 1 done ≡ None
+  pub sources : source ≡ map (λ r. unwrap_or (source_named net (field_of r 0)) 0) done
+  pub times : time ≡ map (λ r. digits_value 10 (field_of r 1)) done
+  pub width : length demands ≡ length net.columns
+  pub values : (k : ℕ) → k < length net.columns → get_or demands k [] ≡ map (λ r. digits_value 10 (field_of r (index_of header (get_or net.columns k [])))) done

@@ -1,10 +1,11 @@
 // The data records that a reader has left, as rows.
 
-ghost use Rattle.std.specs.Prelude.{◌^◌, ◌<◌, length};
+ghost use Rattle.std.specs.Prelude.{◌^◌, ◌<◌, [], length, IfErr, OnOk};
 ghost use Rattle.csv.specs.Records.{fields_of};
 ghost use Rattle.mq_trace.specs.Pieces.{Reads};
-ghost use Rattle.mq_trace.specs.Reading.{IsHeaderOf};
+ghost use Rattle.mq_trace.specs.Reading.{IsHeaderOf, RowsSoFar};
 ghost use Rattle.mq_trace.specs.Records.{IsBetween, records_left};
+ghost use Rattle.mq_trace.specs.Trace.{Tells, rows_fault};
 
 use crate::fault::TraceFault;
 use crate::growing::GrowingRows;
@@ -35,7 +36,34 @@ pub fn room_for(text: &[u8]) -> usize {
     rows.saturating_add(rows / 16).min(MOST_ROWS as usize)
 }
 
-/// Reads the data records that are left. The last turn of the loop is the record that is one too many.
+/// Puts the data records that are left into rows, of which there are none yet. The last turn of the loop is the record
+/// that is one too many.
+fn take_rows(
+    reader: &mut Reader<&[u8]>,
+    net: &Network,
+    header: &Header,
+    row: &mut ByteRecord,
+    rows: &mut GrowingRows,
+) -> Result<(), TraceFault>
+    requires between { IsBetween reader.old }
+    requires header { IsHeaderOf net.now header.now }
+    requires nodes { length net.now.nodes < 2 ^ 32 }
+    requires none { RowsSoFar net.now (fields_of header.now.names) [] rows.old.source rows.old.time rows.old.demands.items }
+    ensures rows { OnOk result (RowsSoFar net.now (fields_of header.now.names) (records_left reader.old) rows.new.source rows.new.time rows.new.demands.items) }
+    ensures fault { IfErr result (λ e. Tells e (rows_fault net.now (fields_of header.now.names) 1 (records_left reader.old))) }
+{
+    let mut values = [0u64; 16];
+    for number in 1..1_048_578u32 {
+        if !next_record(reader, row)? {
+            return Ok(());
+        }
+        let (node, at) = read_row(row, number, net, header, &mut values)?;
+        rows.push(node, at, header.indices.as_slice(), &values)?;
+    }
+    unreachable!()
+}
+
+/// Reads the data records that are left.
 pub fn read_rows(
     alloc: Global,
     room: usize,
@@ -49,14 +77,7 @@ pub fn read_rows(
     ensures { Reads net.now (fields_of header.now.names) (records_left reader.old) result }
 {
     let mut rows = GrowingRows::new(alloc, net.columns.as_slice(), room)?;
-    let mut values = [0u64; 16];
     let mut row = ByteRecord::with_capacity(alloc, RECORD_ROOM, 18)?;
-    for number in 1..1_048_578u32 {
-        if !next_record(reader, &mut row)? {
-            return Ok(rows.into_rows());
-        }
-        let (node, at) = read_row(&row, number, net, header, &mut values)?;
-        rows.push(node, at, header.indices.as_slice(), &values)?;
-    }
-    unreachable!()
+    take_rows(reader, net, header, &mut row, &mut rows)?;
+    Ok(rows.into_rows())
 }

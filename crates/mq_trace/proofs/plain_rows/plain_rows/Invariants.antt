@@ -2,7 +2,7 @@ use Rattle.std.proofs.Common.{◌≡◌, ◌++◌, List, length}
 use Rattle.csv.specs.Records.{fields_of}
 use Rattle.csv.specs.declared.parser.State.TheVariants as st
 use Rattle.mq_trace.specs.Records.{Record, records_at}
-use Rattle.mq_trace.proofs.RowFacts.{RowsSoFar}
+use Rattle.mq_trace.specs.Reading.{RowsSoFar}
 use Rattle.mq_trace.proofs.plain_rows.plain_rows.Given as goal
 
 abbrev pub invariant-loop-rest : goal.invariant-loop-rest

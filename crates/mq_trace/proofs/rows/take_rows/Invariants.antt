@@ -1,8 +1,8 @@
 use Rattle.std.proofs.Common.{◌≡◌, ◌+◌, ◌≤◌, ◌++◌, List, length}
 use Rattle.csv.specs.Records.{fields_of}
-use Rattle.mq_trace.proofs.RowFacts.{RowsSoFar}
+use Rattle.mq_trace.specs.Reading.{RowsSoFar}
 use Rattle.mq_trace.specs.Records.{IsBetween, Record, records_left}
-use Rattle.mq_trace.proofs.rows.read_rows.Given as goal
+use Rattle.mq_trace.proofs.rows.take_rows.Given as goal
 
 abbrev pub invariant-loop-number : goal.invariant-loop-number
 invariant-loop-number l = record {
