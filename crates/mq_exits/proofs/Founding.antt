@@ -1,12 +1,17 @@
 -- What the visits to a delay found, block behind block.
-use Rattle.std.proofs.Common.{◌≡◌, ℕ, ◌≤◌, List, [], map, sym, ◌∙◌}
+use Rattle.std.proofs.Common.{◌≡◌, ℕ, ◌≤◌, List, [], ◌∷◌, map, sym, subst, ◌∙◌}
 use Rattle.mq_base.specs.Lists.{between}
 use Rattle.mq_core.specs.declared.model.Fate.TheVariants.{Departs}
+use Rattle.mq_core.specs.declared.model.Plan.{Plan}
+use Rattle.mq_core.specs.declared.model.Rows.{Rows}
 use Rattle.mq_core.specs.declared.model.Stream.{Stream}
-use Rattle.mq_exits.specs.Exits.{IsCounted, IsDelayPiece, IsFound, founds_by}
+use Rattle.mq_exits.specs.Afters.{IsAfterAt}
+use Rattle.mq_exits.specs.Exits.{IsCounted, IsDelayPiece, IsFound, IsOvertaken, founds_by}
 use Rattle.mq_exits.specs.declared.exits.Closed.{Closed}
 use Rattle.mq_exits.specs.declared.exits.Closed.TheVariants.{Came, Departures, Found, Jobs, Over, Times}
 use Rattle.mq_exits.specs.declared.overtaking.Overtaken.{Overtaken}
+use Rattle.mq_exits.specs.declared.working.After.{After}
+use Rattle.mq_exits.specs.declared.working.After.TheVariants.{Seen}
 use Rattle.mq_exits.proofs.Closings.{founds-length}
 use Rattle.mq_scan.proofs.lemmas.Blocks.{behind-end, end_of}
 
@@ -23,3 +28,9 @@ tells-found arrivals overtaken b (Found found) h = tt
 tells-found arrivals overtaken b (Jobs jobs) h = h
 tells-found arrivals overtaken b (Departures times) h = h
 tells-found arrivals overtaken b (Came times) h = h
+
+-- what becomes of the arrivals at a delay
+pub delays : (plan : Plan) (rows : Rows) (v : ℕ) (arrivals : Stream) (overtaken : Overtaken) (departs found : List ℕ) (leaving : Stream) → IsOvertaken plan rows v arrivals overtaken → departs ≡ overtaken.departs → leaving ≡ record { job = overtaken.job; time = overtaken.ahead.leaving } → found ≡ founds_by arrivals overtaken.departs →
+    (after : After) → after ≡ Seen (map (λ time. Departs time) departs) found (leaving ∷ []) → IsAfterAt plan rows v arrivals after
+delays plan rows v arrivals overtaken departs found leaving known d l f after e =
+    subst (IsAfterAt plan rows v arrivals) (sym (e ∙ (λ k. Seen (map (λ time. Departs time) (d k)) found (l k ∷ [])))) (λ node there. (known.on_time node there, f))

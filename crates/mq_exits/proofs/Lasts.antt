@@ -1,5 +1,5 @@
 -- The last pieces of a station: those by what is known of it, and behind them the copies of what came.
-use Rattle.std.proofs.Common.{◌≡◌, ℕ, suc, ◌≤◌, List, [], ◌∷◌, ◌++◌, ◌∙◌, refl, ap, subst, arith}
+use Rattle.std.proofs.Common.{◌≡◌, ℕ, suc, ◌≤◌, List, [], ◌∷◌, ◌++◌, length, ◌∙◌, refl, ap, subst, arith, length-append}
 use Rattle.mq_core.specs.declared.model.Plan.{Plan}
 use Rattle.mq_core.specs.declared.model.Rows.{Rows}
 use Rattle.mq_core.specs.declared.model.Stream.{Stream}
@@ -21,7 +21,17 @@ copies-few (Read stream) = omega arith
 pub all-own : (plan : Plan) (rows : Rows) (v : ℕ) (arrivals : Arrivals) (exit : Exit) (n : ℕ) (group : List Closed) → n ≡ closings_of exit → AreAll (IsLast plan rows v arrivals exit) n group → AreAll (IsClosed plan rows v (stream_in arrivals) exit) (closings_of exit) group
 all-own plan rows v arrivals exit n group e all = record { len = all.len ∙ e; each = λ b d l. (all.each b d (omega arith)).own l }
 
--- else the last two are the copies
+-- else there are two behind them
+pub two-behind : (plan : Plan) (rows : Rows) (v : ℕ) (arrivals : Arrivals) (exit : Exit) (group : List Closed) → copies_of arrivals ≡ 2 → AreAll (IsLast plan rows v arrivals exit) (lasts_of arrivals exit) group → 2 ≤ length group
+two-behind plan rows v arrivals exit group two all = let count = all.len in omega arith
+
+pub one-behind : (group more : List Closed) (time : Closed) → 2 ≤ length group → group ≡ more ++ time ∷ [] → 1 ≤ length more
+one-behind group more time two e =
+    let a = length-append more (time ∷ []) in
+    let b = ap length e in
+    omega arith
+
+-- these last two are the copies
 pub last-two : (plan : Plan) (rows : Rows) (v : ℕ) (arrivals : Arrivals) (exit : Exit) (group more rest : List Closed) (time job : Closed) → copies_of arrivals ≡ 2 → group ≡ more ++ time ∷ [] → more ≡ rest ++ job ∷ [] → AreAll (IsLast plan rows v arrivals exit) (lasts_of arrivals exit) group →
     IsCopy (stream_in arrivals) 1 time × IsCopy (stream_in arrivals) 0 job × AreAll (IsClosed plan rows v (stream_in arrivals) exit) (closings_of exit) rest
 last-two plan rows v arrivals exit group more rest time job two e f all =

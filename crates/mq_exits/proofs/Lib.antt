@@ -9,3 +9,4 @@ pub mod SplitBlocks
 pub mod Founding
 pub mod Lasts
 pub mod Emptying
+pub mod Telling

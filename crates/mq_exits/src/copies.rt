@@ -1,14 +1,14 @@
 // What came to a node that borrowed it: its visits keep jobs and times of their own, copied in two more last pieces.
-ghost use Rattle.std.specs.Prelude.{◌≡◌, ◌<◌, ℕ, List as Items, IfOk};
+ghost use Rattle.std.specs.Prelude.{◌≡◌, ◌<◌, ℕ, IfOk};
 ghost use Rattle.mq_core.specs.declared.model.Plan.{Plan as ThePlan};
 ghost use Rattle.mq_core.specs.declared.model.Rows.{Rows as TheRows};
 ghost use Rattle.mq_crew.specs.Crew.{AreAll};
 ghost use Rattle.mq_merge.specs.Borrowed.{stream_in};
 ghost use Rattle.mq_exits.specs.Exits.{IsClosed, IsCopy, IsLast, closings_of, copies_of, lasts_of};
-ghost use Rattle.mq_exits.specs.declared.exits.Closed.TheVariants.{Came, Jobs};
 ghost use Rattle.mq_exits.specs.declared.exits.Exit.{Exit as TheExit};
 
 use crate::exits::Closed;
+use crate::taking::{jobs_in, last_of, times_in};
 use mq_base::{List, OutOfMemory};
 use mq_core::Stream;
 use mq_merge::Arrivals;
@@ -46,38 +46,12 @@ pub fn taken(arrivals: Arrivals, group: &mut Vec<Closed>) -> Stream
     match arrivals {
         Arrivals::Merged(stream) => stream,
         Arrivals::Read(_) => {
-            let Some(time) = group.pop() else {
-                unreachable!()
-            };
-            let Some(job) = group.pop() else {
-                unreachable!()
-            };
+            let time = last_of(group);
+            let job = last_of(group);
             Stream {
                 job: jobs_in(job),
                 time: times_in(time),
             }
         }
-    }
-}
-
-// The jobs, of the piece that tells them.
-fn jobs_in(closed: Closed) -> List<u32>
-    requires { (jobs : Items ℕ) × (closed ≡ Jobs jobs) }
-    ensures { closed ≡ Jobs result }
-{
-    match closed {
-        Closed::Jobs(jobs) => jobs,
-        _ => unreachable!(),
-    }
-}
-
-// When they came, of the piece that tells it.
-fn times_in(closed: Closed) -> List<u64>
-    requires { (times : Items ℕ) × (closed ≡ Came times) }
-    ensures { closed ≡ Came result }
-{
-    match closed {
-        Closed::Came(times) => times,
-        _ => unreachable!(),
     }
 }

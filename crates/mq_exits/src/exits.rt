@@ -10,16 +10,17 @@ ghost use Rattle.mq_exits.specs.Loads.{IsLoaded};
 ghost use Rattle.mq_exits.specs.Results.{IsWorkedOut};
 
 use crate::copies::{copies, copy_of, taken};
-use crate::founds::{after_delay, delay_piece};
+use crate::founds::{after_delay, delay_piece, on_time};
 use crate::laws::node_laws;
 use crate::load::{Held, Load};
 use crate::overtaking::Overtaken;
 use crate::splitting::{passed, passed_of};
+use crate::taking::{departures_in, founds_in, jobs_in, last_of, left_in};
 use crate::working::{After, NodeResult, ending_of, found_by_position, nobody};
 use mq_base::{List, OutOfMemory};
-use mq_core::{Fates, Kind, Stream, fates_are_in_time, sequences_go_by_fates};
+use mq_core::{Kind, Stream, fates_are_in_time, sequences_go_by_fates};
 use mq_crew::Pieces;
-use mq_stations::{PastFault, first_late_in_turn, only};
+use mq_stations::{PastFault, first_late_in_turn};
 use std::alloc::Global;
 
 /// What is known of a station when all its jobs have left.
@@ -250,10 +251,7 @@ fn sent(alloc: Global, load: &Load, group: List<Closed>) -> Result<After, OutOfM
     ensures { IfOk result (λ after. IsAfterAt load.now.plan.now load.now.rows.now load.now.number load.now.arrivals.now after) }
 {
     let mut group = group.into_vec();
-    let departs = match group.pop() {
-        Some(Closed::Departures(departs)) => departs,
-        _ => unreachable!(),
-    };
+    let departs = departures_in(last_of(&mut group));
     opened(alloc, load, List::from_vec(group), departs)
 }
 
@@ -273,24 +271,10 @@ fn opened(
     sequences_go_by_fates();
     fates_are_in_time();
     let mut group = group.into_vec();
-    let job = match group.pop() {
-        Some(Closed::Jobs(job)) => job,
-        _ => unreachable!(),
-    };
-    let found = match group.pop() {
-        Some(Closed::Found(found)) => found,
-        _ => unreachable!(),
-    };
-    match group.pop() {
-        Some(Closed::Times(time)) => {
-            let streams = only(alloc, Stream { job, time })?;
-            Ok(After::Seen(Fates::departures(departs), found, streams))
-        }
-        Some(Closed::Over(past)) => Ok(After::Missed(past)),
-        Some(Closed::Found(_found)) => unreachable!(),
-        Some(Closed::Jobs(_jobs)) => unreachable!(),
-        Some(Closed::Departures(_departs)) => unreachable!(),
-        Some(Closed::Came(_times)) => unreachable!(),
-        None => unreachable!(),
+    let job = jobs_in(last_of(&mut group));
+    let found = founds_in(last_of(&mut group));
+    match left_in(last_of(&mut group)) {
+        Ok(time) => on_time(alloc, departs, found, Stream { job, time }),
+        Err(past) => Ok(After::Missed(past)),
     }
 }

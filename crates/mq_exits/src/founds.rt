@@ -1,9 +1,11 @@
 // The last pieces of a delay: block by block how many each visit found.
-ghost use Rattle.std.specs.Prelude.{◌≡◌, ◌<◌, IfOk};
+ghost use Rattle.std.specs.Prelude.{◌≡◌, ◌<◌, [], ◌∷◌, map, IfOk};
+ghost use Rattle.mq_core.specs.declared.model.Fate.TheVariants.{Departs};
 ghost use Rattle.mq_crew.specs.Crew.{AreAll};
 ghost use Rattle.mq_exits.specs.Afters.{IsAfterAt};
 ghost use Rattle.mq_exits.specs.Exits.{IsCounted, IsDelayPiece, IsFound, IsOvertaken, founds_by};
 ghost use Rattle.mq_exits.specs.declared.exits.Closed.TheVariants.{Found};
+ghost use Rattle.mq_exits.specs.declared.working.After.TheVariants.{Seen};
 
 use crate::exits::Closed;
 use crate::load::Load;
@@ -43,6 +45,15 @@ pub fn after_delay(
     ensures { IfOk result (λ after. IsAfterAt load.now.plan.now load.now.rows.now load.now.number load.now.arrivals.now after) }
 {
     let found = founds_joined(alloc, load.arrivals, &overtaken, &group)?;
+    let (departs, leaving) = leaving_of(overtaken);
+    on_time(alloc, departs, found, leaving)
+}
+
+// When the jobs of a delay depart, by position, and what leaves it.
+fn leaving_of(overtaken: Overtaken) -> (List<u64>, Stream)
+    ensures departs { result.0 ≡ overtaken.departs }
+    ensures leaving { result.1 ≡ record { job = overtaken.job; time = overtaken.ahead.leaving } }
+{
     let Overtaken {
         departs,
         job,
@@ -53,6 +64,19 @@ pub fn after_delay(
         job,
         time: ahead.leaving,
     };
+    (departs, leaving)
+}
+
+/// What becomes of arrivals that depart at these times, by position, and leave so by one output: none departs after the
+/// bound.
+pub fn on_time(
+    alloc: Global,
+    departs: List<u64>,
+    found: List<u32>,
+    leaving: Stream,
+) -> Result<After, OutOfMemory>
+    ensures { IfOk result (λ after. after ≡ Seen (map (λ time. Departs time) departs) found (leaving ∷ [])) }
+{
     let streams = only(alloc, leaving)?;
     Ok(After::Seen(Fates::departures(departs), found, streams))
 }

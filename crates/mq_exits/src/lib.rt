@@ -18,6 +18,7 @@ mod laws;
 mod load;
 mod overtaking;
 mod splitting;
+mod taking;
 mod working;
 
 use crate::exits::result_of;

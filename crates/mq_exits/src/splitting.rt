@@ -10,6 +10,7 @@ ghost use Rattle.mq_exits.specs.Splits.{ArePartsAt, AreSplitGroup, AreSplitStrea
 
 use crate::exits::{Closed, times_in_bound};
 use crate::load::Load;
+use crate::taking::{founds_in, last_of, left_in};
 use crate::working::{After, nobody};
 use mq_base::{List, OutOfMemory};
 use mq_core::{Fates, Kind, Route, Stream};
@@ -80,13 +81,9 @@ pub fn passed(load: &Load, group: List<Closed>, streams: List<Stream>) -> After
     ensures { IsAfterAt load.now.plan.now load.now.rows.now load.now.number load.now.arrivals.now result }
 {
     let mut group = group.into_vec();
-    let found = match group.pop() {
-        Some(Closed::Found(found)) => found,
-        _ => unreachable!(),
-    };
-    match group.pop() {
-        Some(Closed::Times(times)) => After::Seen(Fates::departures(times), found, streams),
-        Some(Closed::Over(past)) => After::Missed(past),
-        _ => unreachable!(),
+    let found = founds_in(last_of(&mut group));
+    match left_in(last_of(&mut group)) {
+        Ok(times) => After::Seen(Fates::departures(times), found, streams),
+        Err(past) => After::Missed(past),
     }
 }

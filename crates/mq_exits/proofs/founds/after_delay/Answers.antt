@@ -1,14 +1,9 @@
-use Rattle.std.proofs.Common.{subst, sym, ap, ◌∙◌, List}
-use Rattle.mq_core.specs.OnceOut.{founds_of}
-use Rattle.mq_core.specs.declared.model.Fate.{Fate}
-use Rattle.mq_core.specs.declared.model.Stream.{Stream}
-use Rattle.mq_exits.specs.Afters.{AreOnTime}
+use Rattle.std.proofs.lemmas.Result.{IfOk-weaker}
+use Rattle.mq_exits.proofs.Founding.{delays}
 use Rattle.mq_exits.proofs.founds.after_delay.Goals as goal
 
 pub returns : goal.returns
-returns c node there =
+returns c =
     let load = c.args.load.now in
-    let on_time = c.requires.overtaken.on_time node there in (
-      subst (λ (z : List Fate × List Stream). AreOnTime load.plan.now.net load.rows.now load.number node.kind load.arrivals.now z.0 z.1) (λ k. (sym c.departures.ensures k, sym c.in_ok-streams.ensures k)) on_time,
-      c.in_ok-found.ensures ∙ ap (founds_of load.arrivals.now.time) (sym c.departures.ensures),
-    )
+    let left = c.leaving_of-departs in
+    IfOk-weaker c.on_time.result _ _ (delays load.plan.now load.rows.now load.number load.arrivals.now c.args.overtaken left.result.0 c.in_ok-found.found left.result.1 c.requires.overtaken left.ensures.departs left.ensures.leaving c.in_ok-found.ensures) c.on_time.ensures

@@ -1,0 +1,75 @@
+// Last pieces, taken off the back of those of a station, and what they tell.
+ghost use Rattle.std.specs.Prelude.{◌≡◌, ◌≤◌, ◌⊎◌, ℕ, List as Items, [], ◌∷◌, ◌++◌, length, MatchResult};
+ghost use Rattle.mq_exits.specs.declared.exits.Closed.TheVariants.{Came, Departures, Found, Jobs, Over, Times};
+ghost use Rattle.mq_stations.specs.declared.late.PastFault.{PastFault as ThePast};
+
+use crate::exits::Closed;
+use mq_base::List;
+use mq_stations::PastFault;
+
+// The last of these pieces.
+pub fn last_of(group: &mut Vec<Closed>) -> Closed
+    requires { 1 ≤ length group.old.items }
+    ensures { group.old.items ≡ group.new.items ++ result ∷ [] }
+{
+    let Some(closed) = group.pop() else {
+        unreachable!()
+    };
+    closed
+}
+
+// When the jobs leave, or the first that departs after the bound, of the piece that tells it.
+pub fn left_in(closed: Closed) -> Result<List<u64>, PastFault>
+    requires { ((times : Items ℕ) × (closed ≡ Times times)) ⊎ ((past : ThePast) × (closed ≡ Over past)) }
+    ensures { MatchResult result (λ times. closed ≡ Times times) (λ past. closed ≡ Over past) }
+{
+    match closed {
+        Closed::Times(times) => Ok(times),
+        Closed::Over(past) => Err(past),
+        _ => unreachable!(),
+    }
+}
+
+// How many each found, of the piece that tells it.
+pub fn founds_in(closed: Closed) -> List<u32>
+    requires { (found : Items ℕ) × (closed ≡ Found found) }
+    ensures { closed ≡ Found result }
+{
+    match closed {
+        Closed::Found(found) => found,
+        _ => unreachable!(),
+    }
+}
+
+// When the jobs depart, of the piece that tells it.
+pub fn departures_in(closed: Closed) -> List<u64>
+    requires { (times : Items ℕ) × (closed ≡ Departures times) }
+    ensures { closed ≡ Departures result }
+{
+    match closed {
+        Closed::Departures(times) => times,
+        _ => unreachable!(),
+    }
+}
+
+// The jobs, of the piece that tells them.
+pub fn jobs_in(closed: Closed) -> List<u32>
+    requires { (jobs : Items ℕ) × (closed ≡ Jobs jobs) }
+    ensures { closed ≡ Jobs result }
+{
+    match closed {
+        Closed::Jobs(jobs) => jobs,
+        _ => unreachable!(),
+    }
+}
+
+// When they came, of the piece that tells it.
+pub fn times_in(closed: Closed) -> List<u64>
+    requires { (times : Items ℕ) × (closed ≡ Came times) }
+    ensures { closed ≡ Came result }
+{
+    match closed {
+        Closed::Came(times) => times,
+        _ => unreachable!(),
+    }
+}
