@@ -1,7 +1,7 @@
 -- Blocks that were left, and the carries before them.
 use Rattle.std.proofs.Common.{◌≡◌, ℕ, zero, suc, ◌+◌, ◌*◌, ◌^◌, ◌<◌, ◌≤◌, List, [], ◌∷◌, ◌++◌, length, drop, map, min, refl, sym, ap, ◌∙◌, subst, arith, append_assoc, All, Option, Some, None, get_or}
 use Rattle.std.specs.Prelude.{slice_get}
-use Rattle.std.proofs.lemmas.List.{append-nil, map-append}
+use Rattle.std.proofs.lemmas.List.{append-nil, drop_all, map-append}
 use Rattle.std.proofs.lemmas.List.Elements.{All-push}
 use Rattle.std.proofs.lemmas.Option.{get_or_from_slice_get, slice_get-get_or}
 use Rattle.mq_base.proofs.lemmas.Lists.{drop_at}
@@ -111,3 +111,7 @@ module _ (times demands : List ℕ) (block : ℕ) where
       let len = all.len in
       let less = found.3 in
       slice_get-get_or applied i [] (omega arith) ∙ ap Some (all.each i [] less found.0 found.1 ∙ ap (λ (n : ℕ). departs_of times demands block n (carry_at times demands (n * block))) found.2)
+
+-- behind the last block no number is left
+pub numbers-all : (done numbers : List ℕ) (parts : List Passed) (b : ℕ) → length parts ≤ b → done ++ left_from b (drop b parts) ≡ numbers → done ≡ numbers
+numbers-all done numbers parts b l so_far = sym (append-nil done) ∙ (ap (λ (ps : List Passed). done ++ left_from b ps) (sym (drop_all b parts l)) ∙ so_far)

@@ -2,7 +2,7 @@
 use Rattle.std.proofs.Common.{◌≡◌, ◌≢◌, ℕ, zero, suc, ◌+◌, ◌-◌, ◌^◌, ◌≤◌, ◌⊎◌, List, [], ◌∷◌, ◌++◌, max, refl, sym, ap, ◌∙◌, subst, arith, inl, inr, ⊎_elim, Contains, Option}
 use Rattle.std.proofs.lemmas.List.Elements.{Contains-append_cases, Contains-append_left, Contains-append_right}
 use Rattle.mq_base.proofs.lemmas.Lists.{only}
-use Rattle.mq_chain.specs.Seats.{Seated}
+use Rattle.mq_chain.specs.Seats.{Seated, seated}
 use Rattle.mq_chain.specs.Words.{sum_word, best_word, carry_word, block_of, value_of}
 use Rattle.mq_chain.specs.Stored.{with_summary, HasNoSummary, IsNext}
 use Rattle.mq_maxplus.specs.declared.affine.Affine.{Affine}
@@ -11,7 +11,7 @@ use Rattle.mq_maxplus.specs.declared.mp.Mp.TheVariants.{Void, At}
 use Rattle.mq_maxplus.specs.Maxplus.{mp_max, affine_act, CanAct}
 use Rattle.mq_maxplus.specs.Within.{IsWithin}
 use Rattle.mq_pass.specs.Blocks.{summary_at}
-use Rattle.mq_pass.specs.Passing.{IsSeen, HasNoPut, IsPutOf, IsGrown, IsOwn}
+use Rattle.mq_pass.specs.Passing.{IsSeen, HasNoPut, IsPublished, IsPutOf, IsGrown, IsOwn, look_before}
 
 pub sum-block : (b : ℕ) → block_of (sum_word b) ≡ b
 sum-block b = omega arith
@@ -87,3 +87,37 @@ module _ (times demands : List ℕ) (block : ℕ) where
 
       put-block : (w x : ℕ) → IsPutOf b s w x → block_of w ≡ b
       put-block w x here = ⊎_elim (λ e. let k = e.0 in omega arith) (λ more. ⊎_elim (λ e. let k = e.0 in omega arith) (λ k. omega arith) more) here
+
+-- what a seat gains by a summary and a look
+pub grown-summary : (b : ℕ) (s : Affine) (before : Option Mp) (old mid new : Seated) → mid ≡ seated old.table old.right old.draws (with_summary old.puts b s) old.looks → new ≡ seated mid.table mid.right mid.draws mid.puts (mid.looks ++ look_before b before) → IsGrown b s before old new
+grown-summary b s before old mid new e n =
+    let puts : new.puts ≡ with_summary old.puts b s = ap (λ (z : Seated). z.puts) n ∙ ap (λ (z : Seated). z.puts) e in
+    record {
+      table = ap (λ (z : Seated). z.table) n ∙ ap (λ (z : Seated). z.table) e;
+      right = ap (λ (z : Seated). z.right) n ∙ ap (λ (z : Seated). z.right) e;
+      draws = ap (λ (z : Seated). z.draws) n ∙ ap (λ (z : Seated). z.draws) e;
+      kept = λ p h. subst (λ (z : List (ℕ × ℕ)). Contains z p) (sym puts) (Contains-append_left (old.puts ++ (sum_word b, s.add + 1) ∷ []) _ p (Contains-append_left old.puts _ p h));
+      puts = λ w x h. ⊎_elim (λ was. inl was) (λ new. inr (⊎_elim (λ sum. inl sum) (λ best. inr (inl best)) new)) (put-cases old.puts b s w x (subst (λ (z : List (ℕ × ℕ)). Contains z (w, x)) puts h));
+      looks = ap (λ (z : Seated). z.looks) n ∙ ap (λ (z : Seated). z.looks ++ look_before b before) e;
+    }
+
+-- and by the carry
+pub grown-carry : (b : ℕ) (s : Affine) (before : Option Mp) (old mid new : Seated) (carry : ℕ) → IsGrown b s before old mid → new ≡ seated mid.table mid.right mid.draws (mid.puts ++ (carry_word b, carry + 1) ∷ []) mid.looks → IsGrown b s before old new
+grown-carry b s before old mid new carry g n =
+    let puts : new.puts ≡ mid.puts ++ (carry_word b, carry + 1) ∷ [] = ap (λ (z : Seated). z.puts) n in
+    record {
+      table = ap (λ (z : Seated). z.table) n ∙ g.table;
+      right = ap (λ (z : Seated). z.right) n ∙ g.right;
+      draws = ap (λ (z : Seated). z.draws) n ∙ g.draws;
+      kept = λ p h. subst (λ (z : List (ℕ × ℕ)). Contains z p) (sym puts) (Contains-append_left mid.puts _ p (g.kept p h));
+      puts = λ w x h. ⊎_elim (λ was. g.puts w x was) (λ new. inr (inr (inr (ap (λ (p : ℕ × ℕ). p.0) (only _ _ new))))) (Contains-append_cases mid.puts ((carry_word b, carry + 1) ∷ []) (w, x) (subst (λ (z : List (ℕ × ℕ)). Contains z (w, x)) puts h));
+      looks = ap (λ (z : Seated). z.looks) n ∙ g.looks;
+    }
+
+-- a carry that was put is published, and one that no word holds is none
+pub carry-published : (puts new : List (ℕ × ℕ)) (b : ℕ) (s : Affine) (c : Mp) (carry : ℕ) → affine_act s c ≡ At carry → new ≡ puts ++ (carry_word b, carry + 1) ∷ [] → IsPublished new b s c
+carry-published puts new b s c carry act n short =
+    subst (λ (z : Mp × List (ℕ × ℕ)). Contains z.1 (carry_word b, value_of z.0 + 1)) (λ k. (sym act k, sym n k)) (Contains-append_right puts ((carry_word b, carry + 1) ∷ []) _ (0, omega arith, refl))
+
+pub carry-long : (puts : List (ℕ × ℕ)) (b : ℕ) (s : Affine) (c : Mp) (carry : ℕ) → affine_act s c ≡ At carry → 2 ^ 63 ≤ carry → IsPublished puts b s c
+carry-long puts b s c carry act long short = let value = ap value_of act in absurd (omega arith)

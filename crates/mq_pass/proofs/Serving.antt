@@ -1,6 +1,6 @@
 -- A block's jobs, served job after job, and what they do together.
 use Rattle.std.proofs.Common.{◌≡◌, ◌≢◌, ℕ, zero, suc, ◌+◌, ◌-◌, ◌*◌, ◌^◌, ◌<◌, ◌≤◌, List, [], ◌∷◌, ◌++◌, length, get_or, take, drop, min, max, refl, sym, ap, ◌∙◌, arith, append_assoc, mul-le-mul_right}
-use Rattle.std.proofs.lemmas.List.{drop_more}
+use Rattle.std.proofs.lemmas.List.{append-nil, drop_more}
 use Rattle.std.specs.Prelude.{slice_range}
 use Rattle.mq_chain.specs.Words.{value_of}
 use Rattle.mq_chain.specs.Stored.{IsShort}
@@ -95,3 +95,8 @@ holds b block blocks size from to lt less some f t =
     let inside = begins b block blocks size lt less in
     let e : (b + 1) * block ≡ b * block + block = omega arith in
     (omega arith, omega arith)
+
+-- behind the last job of a range none is left
+pub serve-all : (times demands done all : List ℕ) (i to last : ℕ) → to ≤ i → done ++ lindley last (slice_range times i to) (slice_range demands i to) ≡ all → done ≡ all
+serve-all times demands done all i to last l so_far =
+    sym (append-nil done) ∙ (ap (λ (xs : List ℕ). done ++ lindley last xs (slice_range demands i to)) (sym (range-none times i to l)) ∙ so_far)

@@ -1,4 +1,5 @@
-use Rattle.std.proofs.Common.{◌≡◌, ◌≤◌, ◌+◌, [], ◌∷◌, ◌++◌, length, length-append, ap, ◌∙◌, arith, is_ok, not, true, subst, Result, IfOk}
+use Rattle.std.proofs.Common.{◌≡◌, ◌≤◌, ◌+◌, [], ◌∷◌, ◌++◌, length, length-append, ap, sym, ◌∙◌, arith, ℕ, All, Contains, refl, ◌<◌, is_ok, not, true, subst, Result, IfOk}
+use Rattle.std.proofs.lemmas.List.Elements.{Contains-append_right}
 use Rattle.mq_chain.specs.Seats.{Seated}
 use Rattle.mq_base.specs.declared.list.OutOfMemory.{OutOfMemory}
 use Rattle.mq_pass.specs.Passing.{IsPassed, look_before}
@@ -37,3 +38,24 @@ draws-preserved g c =
       own = c.pass_block.ensures.mine;
       works = passes-more _ _ _ _ _ c.pass_block.ensures.passed.0 c.draws.seat c.draw-number.new.seat c.pass_block.new.seat c.draws.made.items c.push.new.self.items c.draw-number.result c.in-Ok.passed drawn c.draw-number.ensures.fresh (omega arith) grown passed pushed i.works;
     }
+
+pub draw-number-requires-clause-early : goal.draw-number-requires-clause-early
+draw-number-requires-clause-early g c = subst (λ (n : ℕ). All (λ d. d < n) c.draws.seat.draws) (sym c.requires.all) c.draws.invariant.works.early
+
+pub pass_block-requires-clause-drew : goal.pass_block-requires-clause-drew
+pass_block-requires-clause-drew g c =
+    subst (λ (z : Seated). Contains z.draws c.draw-number.result) (sym c.draw-number.ensures.drawn) (Contains-append_right c.draws.seat.draws (c.draw-number.result ∷ []) c.draw-number.result (0, omega arith, refl))
+
+pub returns-in-Err-clause-seat : goal.returns-in-Err-clause-seat
+returns-in-Err-clause-seat g c =
+    let grown = c.pass_block.ensures.passed.1 in
+    let drawn = c.draw-number.ensures.drawn in
+    let i = c.draws.invariant in
+    (grown.table ∙ (ap (λ (z : Seated). z.table) drawn ∙ i.table), grown.right ∙ (ap (λ (z : Seated). z.right) drawn ∙ i.right))
+
+pub returns-then-is_err-clause-seat : goal.returns-then-is_err-clause-seat
+returns-then-is_err-clause-seat g c =
+    let grown = c.pass_block.ensures.passed.1 in
+    let drawn = c.draw-number.ensures.drawn in
+    let i = c.draws.invariant in
+    (grown.table ∙ (ap (λ (z : Seated). z.table) drawn ∙ i.table), grown.right ∙ (ap (λ (z : Seated). z.right) drawn ∙ i.right))

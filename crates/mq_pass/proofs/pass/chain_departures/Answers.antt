@@ -1,4 +1,5 @@
-use Rattle.std.proofs.Common.{◌<◌, ℕ, List, sym, subst, arith, get_or}
+use Rattle.std.proofs.Common.{◌<◌, ℕ, List, sym, subst, ap, ◌∙◌, arith, get_or}
+use Rattle.mq_chain.specs.Seats.{Seated}
 use Rattle.std.proofs.lemmas.Result.{IfOk-at_ok}
 use Rattle.mq_crew.proofs.Working.{all-made, made-within}
 use Rattle.mq_maxplus.specs.declared.mp.Mp.TheVariants.{Void}
@@ -45,3 +46,26 @@ ended-requires-clause-known g c κs within =
     let all = c.in_ok-chain.ensures.0 in
     subst (λ (z : List ℕ × List ℕ × ℕ × ℕ). (b : ℕ) → b < z.3 → IsKnown z.0 z.1 z.2 b (get_or c.in_ok-carries.carries b Void)) (λ i. (sym lists.0 i, sym lists.1 i, sym blocks.0 i, sym blocks.1 i))
     (all-known c.args.stream.now.time c.args.demands.now c.cut-blocks.result.block c.crew-seat.result.0.puts c.crew-seat.result.0.looks pass.own.cut c.cut-blocks.result.blocks c.in_ok-carries.carries (omega arith) (λ b lt. c.in_ok-carries.ensures.each b (omega arith)) (λ part size block b t cut lt inside is. c.in_ok-carries.ensures.folded part size block b t cut (omega arith) inside is))
+
+pub crew-seat-requires-clause-own : goal.crew-seat-requires-clause-own
+crew-seat-requires-clause-own g c κs within = ap (λ (z : Seated). z.table) c.in_ok-chain.ensures.2
+
+pub crew-seat-requires-clause-right : goal.crew-seat-requires-clause-right
+crew-seat-requires-clause-right g c κs within = ap (λ (z : Seated). z.right) c.in_ok-chain.ensures.2
+
+pub crew-seat-requires-clause-load : goal.crew-seat-requires-clause-load
+crew-seat-requires-clause-load g c κs within = c.requires.load
+
+pub crew-seat-requires-clause-all : goal.crew-seat-requires-clause-all
+crew-seat-requires-clause-all g c κs within = c.in_ok-chain.ensures.0
+
+pub crew-seat-requires-clause-fresh : goal.crew-seat-requires-clause-fresh
+crew-seat-requires-clause-fresh g c κs within =
+    let seat = c.in_ok-chain.ensures.2 in
+    (ap (λ (z : Seated). z.draws) seat, ap (λ (z : Seated). z.puts) seat, ap (λ (z : Seated). z.looks) seat)
+
+pub ended-requires-clause-each : goal.ended-requires-clause-each
+ended-requires-clause-each g c κs within = c.in_ok-passed.ensures.len ∙ sym c.jobs_of-jobs.ensures.blocks.1
+
+pub ended-requires-clause-all : goal.ended-requires-clause-all
+ended-requires-clause-all g c κs within = c.in_ok-carries.ensures.len ∙ (c.in_ok-chain.ensures.0 ∙ sym c.jobs_of-jobs.ensures.blocks.1)

@@ -1,8 +1,11 @@
-use Rattle.std.proofs.Common.{ℕ, ◌<◌, List, ◌++◌, ◌∙◌, ap, arith, drop}
+use Rattle.std.proofs.Common.{ℕ, ◌≡◌, ◌*◌, ◌<◌, List, ◌++◌, ◌∙◌, ap, arith, drop, le_refl, length, min, refl}
 use Rattle.std.proofs.lemmas.Option.{slice_get_within}
 use Rattle.mq_pass.specs.Passing.{IsRight, left_from}
 use Rattle.mq_pass.proofs.Lefts.{part-at}
-use Rattle.mq_pass.proofs.Together.{block-next, number-kept, number-taken, right-some, applied-here, applied-is}
+use Rattle.mq_chain.specs.Words.{value_of}
+use Rattle.mq_core.specs.Recurrences.{lindley}
+use Rattle.mq_pass.specs.Blocks.{carry_at}
+use Rattle.mq_pass.proofs.Together.{block-next, blocks-all, number-kept, number-taken, right-some, applied-here, applied-is}
 use Rattle.mq_pass.proofs.rest.together.Goals.{in-Some+in_ok-extend_from_slice, in_default+in_ok-extend_from_slice-2}
 use Rattle.mq_pass.proofs.rest.together.Goals as goal
 
@@ -39,3 +42,26 @@ puts-preserved c =
         behind = let next = w.next-is in let behind = i.behind in omega arith;
       }
     ]
+
+pub puts-init : goal.puts-init
+puts-init c =
+    let jobs = c.args.jobs.now in
+    let arrive = jobs.step.arrive.now in
+    let demands = jobs.step.demands.now in
+    let none : min (0 * jobs.blocks.block) (length arrive) ≡ 0 = omega arith in
+    record {
+      so_far = λ k. c.in_ok-all.ensures.items k ++ lindley (value_of (carry_at arrive demands (none k))) (drop (none k) arrive) (drop (none k) demands);
+      numbers = refl;
+      behind = le_refl 0;
+    }
+
+pub returns : goal.returns
+returns c =
+    let jobs = c.args.jobs.now in
+    let whole = jobs.whole in
+    let all = jobs.blocks.all in
+    let count = c.len-b-end.ensures in
+    let each = c.requires.each in
+    let most = c.puts.auto.b-end in
+    let least = c.puts-test.false in
+    c.from_vec.ensures ∙ blocks-all jobs.step.arrive.now jobs.step.demands.now jobs.step.load.each jobs.blocks.block jobs.blocks.blocks c.puts.b c.puts.all.items _ (omega arith) (omega arith) c.puts.invariant.so_far
