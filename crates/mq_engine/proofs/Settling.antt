@@ -107,6 +107,14 @@ pub record IsSettling (visits0 : List Visits) (outputs0 : List (List Stream)) (s
   pub reached : (plan : Plan) (rows : Rows) → IsReached plan rows visits0 outputs0 stands0 → AreWorkedOut plan rows results0 → IsReached plan rows visits outputs stands × AreWorkedOut plan rows results
   pub fewer : ((stands ≡ stands0) × (results ≡ results0)) ⊎ (count_by is_waiting stands < count_by is_waiting stands0)
 
+-- the last of them is a node that is there
+pub settling-inside : (visits0 visits : List Visits) (outputs0 outputs : List (List Stream)) (stands0 stands : List Stand) (results0 results rest : List NodeResult) (node_result : NodeResult) → IsSettling visits0 outputs0 stands0 results0 visits outputs stands results → results ≡ rest ++ node_result ∷ [] →
+    (node_result.number < length visits) × (node_result.number < length outputs) × (node_result.number < length stands)
+settling-inside visits0 visits outputs0 outputs stands0 stands results0 results rest node_result s e =
+    let inside = waiting-inside stands0 node_result.number (Each-back _ rest (node_result ∷ []) (subst (AreWaiting stands0) e s.waits)).0 in
+    let below = λ (n : ℕ) (same : n ≡ length stands0). subst (λ m. node_result.number < m) (sym same) inside in
+    (below (length visits) s.came, below (length outputs) s.left, below (length stands) s.stand)
+
 pub settling-more : (visits0 visits visits' : List Visits) (outputs0 outputs outputs' : List (List Stream)) (stands0 stands stands' : List Stand) (results0 results rest : List NodeResult) (node_result : NodeResult) → IsSettling visits0 outputs0 stands0 results0 visits outputs stands results → results ≡ rest ++ node_result ∷ [] →
     IsPut node_result visits outputs stands visits' outputs' stands' → IsSettling visits0 outputs0 stands0 results0 visits' outputs' stands' rest
 settling-more visits0 visits visits' outputs0 outputs outputs' stands0 stands stands' results0 results rest node_result s e put =
