@@ -36,12 +36,14 @@ use Rattle.mq_core.specs.declared.model.Stream.{Stream}
 use Rattle.mq_core.specs.declared.model.Visits.{Visits}
 use Rattle.mq_join.specs.Gathers.{AddsPort, came_to}
 use Rattle.mq_join.specs.declared.gathered.Gathered.{Gathered}
-use Rattle.mq_engine.specs.Apart.{AreGathered, AreSequences, CanGather, IsGatheredAt}
+use Rattle.mq_stations.specs.Late.{late_told}
+use Rattle.mq_engine.specs.Apart.{AreGathered, AreSequences, CanGather, IsEndingOf, IsGatheredAt}
 use Rattle.mq_engine.specs.CoreLaws.{CoreLaws}
 use Rattle.mq_arrivals.specs.Arrivals.{pairs_read}
 use Rattle.mq_engine.specs.Progress.{AreEarly, read_by}
 use Rattle.mq_exits.specs.Results.{IsKnown}
-use Rattle.mq_exits.specs.declared.working.Ending.TheVariants.{OnTime}
+use Rattle.mq_exits.specs.declared.working.Ending.{Ending}
+use Rattle.mq_exits.specs.declared.working.Ending.TheVariants.{OnTime, TooMany, TooLate}
 use Rattle.mq_arrivals.proofs.Comings.{pairs-length}
 use Rattle.mq_engine.proofs.Early.{EarlyTimes, stream-early}
 use Rattle.mq_engine.proofs.Waves.{arriving-early}
@@ -239,14 +241,14 @@ module _ (laws : CoreLaws) (plan : Plan) (rows : Rows) (outputs : List (List Str
       (apart-early rows node.kind (came_of (length node.inputs) xs) out (can.apart node there) (arrives-early early))
 
   -- why it is refused
-  pub apart-refusal : (gathered : Gathered) (visits : Visits) (streams : List Stream) (first : Option LateVisit) → IsGatheredAt plan rows v gathered → AreSequences rows node.kind (came_to gathered) visits streams → first_of (sequence_late_from plan.net.bound v 0 visits.fate) ≡ first →
+  apart-refusal : (gathered : Gathered) (visits : Visits) (streams : List Stream) (first : Option LateVisit) → IsGatheredAt plan rows v gathered → AreSequences rows node.kind (came_to gathered) visits streams → first_of (sequence_late_from plan.net.bound v 0 visits.fate) ≡ first →
       sequence_refusal plan.net.bound v (visits_of node.kind ((run_of plan rows).stations v)) ≡ option_map (λ late. Past late) first
   apart-refusal gathered visits streams first g s h =
       refusal-few plan.net.bound v (visits_of node.kind ((run_of plan rows).stations v)) first jobs-few
       (ap (λ (x : Visits). first_of (sequence_late_from plan.net.bound v 0 x.fate)) (sym (visits-are gathered visits streams g s)) ∙ h)
 
   -- what it gives is what the run has
-  pub apart-known : AreEarly outputs → (gathered : Gathered) (visits : Visits) (streams : List Stream) → IsGatheredAt plan rows v gathered → AreSequences rows node.kind (came_to gathered) visits streams → first_of (sequence_late_from plan.net.bound v 0 visits.fate) ≡ None →
+  apart-known : AreEarly outputs → (gathered : Gathered) (visits : Visits) (streams : List Stream) → IsGatheredAt plan rows v gathered → AreSequences rows node.kind (came_to gathered) visits streams → first_of (sequence_late_from plan.net.bound v 0 visits.fate) ≡ None →
       IsKnown plan rows v node (OnTime visits streams)
   apart-known early gathered visits streams g s h = (
     visits-are gathered visits streams g s,
@@ -261,3 +263,11 @@ module _ (laws : CoreLaws) (plan : Plan) (rows : Rows) (outputs : List (List Str
         },
     apart-refusal gathered visits streams None g s h,
   )
+
+  -- so is how it ends
+  pub apart-ended : AreEarly outputs → (gathered : Gathered) (visits : Visits) (streams : List Stream) (ending : Ending) → IsGatheredAt plan rows v gathered → AreSequences rows node.kind (came_to gathered) visits streams → IsEndingOf plan.net.bound v visits streams ending →
+      IsKnown plan rows v node ending
+  apart-ended early gathered visits streams (OnTime seen left) g s h =
+      subst (λ (z : Visits × List Stream). IsKnown plan rows v node (OnTime z.0 z.1)) (λ k. (sym h.0 k, sym h.1 k)) (apart-known early gathered visits streams g s h.2)
+  apart-ended early gathered visits streams (TooMany fault) g s h = absurd h
+  apart-ended early gathered visits streams (TooLate fault) g s h = apart-refusal gathered visits streams (Some (late_told fault)) g s h

@@ -1,10 +1,11 @@
 -- Forks and joins, which are worked out apart from the stations: what is gathered, and what is made of it.
-use Rattle.std.specs.Prelude.{◌≡◌, ◌<◌, ◌≤◌, ℕ, Contains, false, List, length, Some, slice_get, take}
+use Rattle.std.specs.Prelude.{◌≡◌, ◌<◌, ◌≤◌, ℕ, Contains, false, List, length, None, Some, slice_get, take}
 use Rattle.mq_core.specs.Alone.{came}
 use Rattle.mq_core.specs.Came.{Came}
 use Rattle.mq_core.specs.Laws.{in_order_of}
 use Rattle.mq_core.specs.SequenceLaws.{sends_once}
-use Rattle.mq_core.specs.Sequences.{sequence_stream, sequence_visits}
+use Rattle.mq_core.specs.Results.{first_of}
+use Rattle.mq_core.specs.Sequences.{sequence_late_from, sequence_stream, sequence_visits}
 use Rattle.mq_core.specs.Sound.{outputs_in}
 use Rattle.mq_core.specs.StandardTable.{run_of}
 use Rattle.mq_core.specs.Theorems.{IsReadFor}
@@ -18,6 +19,9 @@ use Rattle.mq_core.specs.declared.model.Visits.{Visits}
 use Rattle.mq_join.specs.Gathers.{arrivals_of}
 use Rattle.mq_join.specs.declared.gathered.Gathered.{Gathered}
 use Rattle.mq_arrivals.specs.declared.nodes.Arriving.{Arriving}
+use Rattle.mq_stations.specs.Late.{late_told}
+use Rattle.mq_exits.specs.declared.working.Ending.{Ending}
+use Rattle.mq_exits.specs.declared.working.Ending.TheVariants.{OnTime, TooMany, TooLate}
 use Rattle.mq_engine.specs.Progress.{AreEarly, HasAll, read_by}
 
 -- a fork or a join can be worked out: all has come to it, and that is no more than a node may have
@@ -48,3 +52,9 @@ pub record AreSequences (rows : Rows) (kind : Kind) (came : Came) (seen : Visits
   pub visits : seen ≡ sequence_visits rows kind came
   pub count : length streams ≡ outputs_in kind
   pub each : (out : ℕ) → out < outputs_in kind → slice_get streams out ≡ Some (sequence_stream rows kind came out)
+
+-- how a fork or a join ends of whose arrivals this was made: with it, where no visit is late, or with the first late visit
+abbrev pub IsEndingOf : ℕ → ℕ → Visits → List Stream → Ending → Type 0
+IsEndingOf bound v visits streams (OnTime came left) = (came ≡ visits) × (left ≡ streams) × (first_of (sequence_late_from bound v 0 visits.fate) ≡ None)
+IsEndingOf bound v visits streams (TooMany fault) = ⊥
+IsEndingOf bound v visits streams (TooLate fault) = first_of (sequence_late_from bound v 0 visits.fate) ≡ Some (late_told fault)

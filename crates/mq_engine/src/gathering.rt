@@ -12,7 +12,7 @@ ghost use Rattle.mq_core.specs.declared.model.Rows.{Rows as TheRows};
 ghost use Rattle.mq_join.specs.Gathers.{came_to};
 ghost use Rattle.mq_stations.specs.Late.{late_told};
 ghost use Rattle.mq_exits.specs.Results.{IsResultOf};
-ghost use Rattle.mq_engine.specs.Apart.{AreSequences, IsGathering, IsGatheredAt};
+ghost use Rattle.mq_engine.specs.Apart.{AreSequences, IsEndingOf, IsGathering, IsGatheredAt};
 
 use crate::laws::core_laws;
 use mq_arrivals::{Arriving, stream_of};
@@ -139,6 +139,18 @@ fn late_among(bound: u64, node: u32, fates: &Fates) -> Option<PastFault>
     None
 }
 
+// How a fork or a join ends of whose arrivals this was made.
+fn ending_of(bound: u64, node: u32, sequences: Sequences) -> Ending
+    requires { length sequences.visits.fate ≤ 1048576 }
+    ensures { IsEndingOf bound node sequences.visits sequences.streams result }
+{
+    let Sequences { visits, streams } = sequences;
+    match late_among(bound, node, &visits.fate) {
+        Some(past) => Ending::TooLate(past),
+        None => Ending::OnTime(visits, streams),
+    }
+}
+
 // What a fork or a join gives.
 fn result_at(alloc: Global, arriving: &Arriving, number: u32) -> Result<NodeResult, OutOfMemory>
     requires gathering { IsGathering arriving.now }
@@ -148,17 +160,9 @@ fn result_at(alloc: Global, arriving: &Arriving, number: u32) -> Result<NodeResu
     core_laws();
     let gathered = gathered_at(alloc, arriving, number)?;
     let kind = &arriving.plan.net.nodes.get(number as usize).kind;
-    let Sequences { visits, streams } = sequences_of(alloc, kind, &gathered)?;
-    match late_among(arriving.plan.net.bound, number, &visits.fate) {
-        Some(past) => Ok(NodeResult {
-            number,
-            ending: Ending::TooLate(past),
-        }),
-        None => Ok(NodeResult {
-            number,
-            ending: Ending::OnTime(visits, streams),
-        }),
-    }
+    let sequences = sequences_of(alloc, kind, &gathered)?;
+    let ending = ending_of(arriving.plan.net.bound, number, sequences);
+    Ok(NodeResult { number, ending })
 }
 
 /// What these forks and joins give, one piece a node.
