@@ -1,4 +1,4 @@
-use Rattle.std.proofs.Common.{length, ap, sym, subst, arith}
+use Rattle.std.proofs.Common.{length, ap, sym, subst, arith, length-append}
 use Rattle.std.specs.Prelude.{Contains}
 use Rattle.std.specs.List.{AllByRecursion as Each}
 use Rattle.std.proofs.lemmas.Result.{IfOk-weaker}
@@ -34,3 +34,35 @@ results_of-requires-clause-arriving g c κs inside =
     let few = c.requires.few in
     serves (record { plan = s.plan; rows = s.rows; outputs = s.outputs; ready = c.deref-2.result; workers = s.workers; block = s.block }) c.requires.wave.read c.requires.wave.early
     (subst (CanWorkAll s.plan.now s.rows.now s.outputs.now) (sym c.deref-2.ensures.value) (can-all s c.in_ok-crowded.field-0.stations.items c.in_ok-crowded.ensures.sorted.stations)) (omega arith) c.requires.some c.requires.most c.requires.wave.block
+
+pub results_of-requires-clause-early : goal.results_of-requires-clause-early
+results_of-requires-clause-early g c κs inside = c.requires.wave.early
+
+pub apart_results-requires-clause-gathering : goal.apart_results-requires-clause-gathering
+apart_results-requires-clause-gathering g c κs inside =
+    let s = c.args.arriving.now in
+    record {
+      read = c.requires.wave.read;
+      early = c.requires.wave.early;
+      can = λ v h. (each-contained (IsApartOf s) c.in_ok-crowded.field-0.apart.items c.in_ok-crowded.ensures.sorted.apart v (subst (λ l. Contains l v) c.deref.ensures.value h)).1;
+    }
+
+pub apart_results-requires-clause-few : goal.apart_results-requires-clause-few
+apart_results-requires-clause-few g c κs inside =
+    let same = ap length c.deref.ensures.value in
+    let len = c.in_ok-crowded.ensures.len in
+    let few = c.requires.few in
+    omega arith
+
+pub returns-clause-len : goal.returns-clause-len
+returns-clause-len g c =
+    let wave = c.in_ok-crowded.field-0 in
+    let count = c.in_ok-crowded.ensures.len in
+    let apart = ap length c.deref.ensures.value in
+    let gathered = c.in_ok-gathered.ensures.len in
+    let stations = ap length c.deref-2.ensures.value in
+    let served = c.in_ok-served.ensures.len in
+    let first = ap length c.in_ok-with_more.ensures in
+    let both = length-append wave.crowded c.in_ok-gathered.gathered in
+    let more = length-append c.in_ok-with_more.field-0 c.in_ok-served.served in
+    IfOk-weaker c.with_more-2.result _ _ (λ all e. let many = ap length e in omega arith) c.with_more-2.ensures
