@@ -16,7 +16,7 @@ use Rattle.mq_top.specs.Ends.{Ends, IsOfMade, RefusesModel, RefusesTrace, Taken}
 use Rattle.mq_outcome.specs.declared.outcome.Outcome.{Outcome}
 use Rattle.mq_outcome.specs.declared.outcome.Outcome.TheVariants.{Done, Usage, Model, Trace, Past, Over, ReadFault, WriteFault, Memory}
 
-some_is_none : {A : Type 0} {B : Type 0} (o : Option A) (x : A) → o ≡ Some x → o ≡ None → B
+pub some_is_none : {A : Type 0} {B : Type 0} (o : Option A) (x : A) → o ≡ Some x → o ≡ None → B
 some_is_none o x some none = absurd (true≢false (sym (ap is_some some) ∙ ap is_some none))
 
 -- the answer is a report
