@@ -1,8 +1,10 @@
 // Worked numbers of visits: exits, the span, and what each visit found.
-ghost use Rattle.std.specs.Prelude.{◌≡◌, ◌<◌, ◌≤◌, All, length, IfOk, IsTrue};
+ghost use Rattle.std.specs.Prelude.{◌≡◌, ◌<◌, ◌≤◌, All, List as Items, length, IfOk, IsTrue};
 ghost use Rattle.std.specs.List.{AllByRecursion, zip};
 ghost use Rattle.mq_core.specs.SequenceLaws.{LeavesFrom};
 ghost use Rattle.mq_core.specs.Laws.{Rises};
+ghost use Rattle.mq_core.specs.declared.model.Fate.{Fate as TheFate};
+ghost use Rattle.mq_stats.specs.Ahead.{IsAhead};
 
 use mq_base::{List, OutOfMemory};
 use mq_core::{Fate, Fates, Rows, Stream, Visits};
@@ -19,14 +21,19 @@ pub fn list<T: Copy + Drop>(alloc: Global, items: &[T]) -> Result<List<T>, OutOf
     Ok(List::from_vec(Vec::from_slice(alloc, items)?))
 }
 
-// Three jobs with demands 4, 1 and 3, which come at 0, 1 and 2.
-pub fn three_rows(alloc: Global) -> Result<Rows, OutOfMemory> {
+// One column of demands: 4, 1 and 3.
+fn three_demands(alloc: Global) -> Result<List<List<u64>>, OutOfMemory> {
     let mut demands = List::new(alloc);
     demands.push(list(alloc, &[4u64, 1, 3])?)?;
+    Ok(demands)
+}
+
+// Three jobs with these demands, which come at 0, 1 and 2.
+pub fn three_rows(alloc: Global) -> Result<Rows, OutOfMemory> {
     Ok(Rows {
         source: list(alloc, &[0u32, 0, 0])?,
         time: list(alloc, &[0u64, 1, 2])?,
-        demands,
+        demands: three_demands(alloc)?,
     })
 }
 
@@ -113,24 +120,31 @@ fn exit_is(rows: &Rows, stream: &Stream, wanted: Exit) -> bool {
     leaving(rows, stream) == wanted
 }
 
+fn stream_of(alloc: Global, job: &[u32], time: &[u64]) -> Result<Stream, OutOfMemory> {
+    Ok(Stream {
+        job: list(alloc, job)?,
+        time: list(alloc, time)?,
+    })
+}
+
 // Whether the three jobs that leave at these times have this exit.
 fn jobs_leave(alloc: Global, times: &[u64], wanted: Exit) -> Result<bool, OutOfMemory> {
     let rows = three_rows(alloc)?;
-    let stream = Stream {
-        job: list(alloc, &[0u32, 1, 2])?,
-        time: list(alloc, times)?,
-    };
+    let stream = stream_of(alloc, &[0, 1, 2], times)?;
     Ok(exit_is(&rows, &stream, wanted))
+}
+
+// What goes out by one output: these jobs at these times.
+fn streams_of(alloc: Global, job: &[u32], time: &[u64]) -> Result<List<Stream>, OutOfMemory> {
+    let mut streams = List::new(alloc);
+    streams.push(stream_of(alloc, job, time)?)?;
+    Ok(streams)
 }
 
 // The last event at a node with these visits, whose jobs leave by one output at these times.
 fn last_of(alloc: Global, columns: &Columns, times: &[u64]) -> Result<u64, OutOfMemory> {
     let visits = visits_of(alloc, columns)?;
-    let mut streams = List::new(alloc);
-    streams.push(Stream {
-        job: list(alloc, columns.job)?,
-        time: list(alloc, times)?,
-    })?;
+    let streams = streams_of(alloc, columns.job, times)?;
     Ok(last_at(&visits, &streams))
 }
 
@@ -142,19 +156,21 @@ fn the_last_event_is_at_the_end_of_a_list(rt: HostRuntime) -> Result<(), Fail> {
     Ok(())
 }
 
+// A job that is lost at 9.
+const LOST_AT_NINE: Columns<'static> = Columns {
+    job: &[9],
+    arrive: &[9],
+    found: &[0],
+    fate: &[Fate::Lost],
+};
+
 // The spans of a run of no node, of a server, and of a server and a node that loses a job at 9.
 fn spans(alloc: Global) -> Result<(u64, u64, u64), OutOfMemory> {
-    let lost = Columns {
-        job: &[9],
-        arrive: &[9],
-        found: &[0],
-        fate: &[Fate::Lost],
-    };
     let mut run = List::new(alloc);
     let none = span(&run);
     run.push(visits_of(alloc, &SERVED)?)?;
     let one = span(&run);
-    run.push(visits_of(alloc, &lost)?)?;
+    run.push(visits_of(alloc, &LOST_AT_NINE)?)?;
     Ok((none, one, span(&run)))
 }
 
@@ -188,26 +204,31 @@ fn visits_find(
     Ok(founds.as_slice() == wanted)
 }
 
+const IN_TURN: [Fate; 3] = [Fate::Departs(4), Fate::Departs(5), Fate::Departs(8)];
+
+const AT_ONCE: [Fate; 3] = [Fate::Departs(5), Fate::Departs(3), Fate::Departs(3)];
+
+const TWO_LOST: [Fate; 4] = [Fate::Departs(9), Fate::Lost, Fate::Departs(3), Fate::Lost];
+
+const TWO_HELD: [Fate; 4] = [Fate::Departs(9), Fate::Held, Fate::Departs(3), Fate::Held];
+
+const OVERTAKING: [Fate; 6] = [
+    Fate::Departs(9),
+    Fate::Departs(4),
+    Fate::Departs(3),
+    Fate::Departs(4),
+    Fate::Departs(6),
+    Fate::Departs(8),
+];
+
 #[test]
 fn visits_find_those_who_are_there(rt: HostRuntime) -> Result<(), Fail> {
     let alloc = rt.alloc();
-    let in_turn = [Fate::Departs(4), Fate::Departs(5), Fate::Departs(8)];
-    let at_once = [Fate::Departs(5), Fate::Departs(3), Fate::Departs(3)];
-    let lost = [Fate::Departs(9), Fate::Lost, Fate::Departs(3), Fate::Lost];
-    let held = [Fate::Departs(9), Fate::Held, Fate::Departs(3), Fate::Held];
-    let overtaking = [
-        Fate::Departs(9),
-        Fate::Departs(4),
-        Fate::Departs(3),
-        Fate::Departs(4),
-        Fate::Departs(6),
-        Fate::Departs(8),
-    ];
-    assert!(rt; visits_find(alloc, &[0, 1, 2], &in_turn, &[0, 1, 2])?);
-    assert!(rt; visits_find(alloc, &[0, 3, 3], &at_once, &[0, 1, 1])?);
-    assert!(rt; visits_find(alloc, &[0, 1, 2, 6], &lost, &[0, 1, 1, 1])?);
-    assert!(rt; visits_find(alloc, &[0, 1, 2, 6], &held, &[0, 1, 2, 2])?);
-    assert!(rt; visits_find(alloc, &[0, 1, 2, 4, 4, 7], &overtaking, &[0, 1, 2, 1, 1, 1])?);
+    assert!(rt; visits_find(alloc, &[0, 1, 2], &IN_TURN, &[0, 1, 2])?);
+    assert!(rt; visits_find(alloc, &[0, 3, 3], &AT_ONCE, &[0, 1, 1])?);
+    assert!(rt; visits_find(alloc, &[0, 1, 2, 6], &TWO_LOST, &[0, 1, 1, 1])?);
+    assert!(rt; visits_find(alloc, &[0, 1, 2, 6], &TWO_HELD, &[0, 1, 2, 2])?);
+    assert!(rt; visits_find(alloc, &[0, 1, 2, 4, 4, 7], &OVERTAKING, &[0, 1, 2, 1, 1, 1])?);
     Ok(())
 }
 
@@ -225,6 +246,21 @@ fn table_has(table: &AheadTable, wanted: &Lists) -> bool {
         && table.still.as_slice() == wanted.still
 }
 
+// Whether a table of three visits is this, and those from the second on, which come at these times, found so many.
+fn piece_tells(
+    alloc: Global,
+    arrive: &List<u64>,
+    ahead: &AheadTable,
+    table: &Lists,
+    wanted: &[u32],
+) -> Result<bool, OutOfMemory>
+    requires made { (fate : Items TheFate) × IsAhead arrive.now fate ahead.now }
+    requires within { 3 ≤ length arrive.now }
+{
+    let founds = found_piece(alloc, arrive, ahead, 1, 3)?;
+    Ok(table_has(ahead, table) && founds.as_slice() == wanted)
+}
+
 // Whether the table of three visits is this, and those from the second on found so many.
 fn table_tells(alloc: Global, table: &Lists, wanted: &[u32]) -> Result<bool, OutOfMemory> {
     let arrive = list(alloc, &[0u64, 3, 3])?;
@@ -233,8 +269,7 @@ fn table_tells(alloc: Global, table: &Lists, wanted: &[u32]) -> Result<bool, Out
         &[Fate::Departs(5), Fate::Departs(3), Fate::Departs(3)],
     )?;
     let ahead = ahead(alloc, &arrive, &fate)?;
-    let founds = found_piece(alloc, &arrive, &ahead, 1, 3)?;
-    Ok(table_has(&ahead, table) && founds.as_slice() == wanted)
+    piece_tells(alloc, &arrive, &ahead, table, wanted)
 }
 
 // The same of the departures alone, which are given in order too.
@@ -243,8 +278,7 @@ fn departures_tell(alloc: Global, table: &Lists, wanted: &[u32]) -> Result<bool,
     let departs = list(alloc, &[5u64, 3, 3])?;
     let leaving = list(alloc, &[3u64, 3, 5])?;
     let ahead = ahead_of_departures(alloc, &arrive, &departs, leaving)?;
-    let founds = found_piece(alloc, &arrive, &ahead, 1, 3)?;
-    Ok(table_has(&ahead, table) && founds.as_slice() == wanted)
+    piece_tells(alloc, &arrive, &ahead, table, wanted)
 }
 
 // Whether those from the third on of five visits that leave in order found so many.
