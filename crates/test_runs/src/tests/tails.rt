@@ -1,5 +1,5 @@
 // Worked percentiles of the waits at a node.
-ghost use Rattle.std.specs.Prelude.{◌≡◌, ◌<◌, ◌≤◌, ◌^◌, ℕ, All, List as Items, Some, length, slice_get, IsTrue};
+ghost use Rattle.std.specs.Prelude.{◌≡◌, ◌<◌, ◌≤◌, ◌^◌, ℕ, All, List as Items, Some, get_or, length, slice_get, IsTrue};
 ghost use Rattle.mq_core.specs.Asked.{HasDemands};
 ghost use Rattle.mq_core.specs.Told.{HasValue, IsTold};
 ghost use Rattle.mq_core.specs.declared.model.Demand.TheVariants.{Column};
@@ -98,33 +98,38 @@ fn join_has(
     tail_is(alloc, &rows, &Kind::Join, &visits, wanted)
 }
 
+// One visit of the second job, which waits for 3 ticks.
+const ONE: Columns<'static> = Columns {
+    job: &[1],
+    arrive: &[1],
+    found: &[0],
+    fate: &[Fate::Departs(5)],
+};
+
 #[test]
 fn waits_of_three_jobs_have_percentiles(rt: HostRuntime) -> Result<(), Fail> {
-    let one = Columns {
-        job: &[1],
-        arrive: &[1],
-        found: &[0],
-        fate: &[Fate::Departs(5)],
-    };
     assert!(rt; server_has(rt.alloc(), &SERVED, (3, 3, 3))?);
     assert!(rt; server_has(rt.alloc(), &NO_VISITS, (0, 0, 0))?);
-    assert!(rt; server_has(rt.alloc(), &one, (3, 3, 3))?);
+    assert!(rt; server_has(rt.alloc(), &ONE, (3, 3, 3))?);
     assert!(rt; join_has(rt.alloc(), &SERVED, (4, 6, 6))?);
     Ok(())
 }
 
+// The visits of the three jobs, of which the last alone departs.
+const ONE_DEPARTS: Columns<'static> = Columns {
+    fate: &[Fate::Lost, Fate::Lost, Fate::Departs(8)],
+    ..SERVED
+};
+
+const NONE_DEPARTS: Columns<'static> = Columns {
+    fate: &[Fate::Lost, Fate::Held, Fate::Lost],
+    ..SERVED
+};
+
 #[test]
 fn lost_and_held_visits_do_not_count(rt: HostRuntime) -> Result<(), Fail> {
-    let lost = Columns {
-        fate: &[Fate::Lost, Fate::Lost, Fate::Departs(8)],
-        ..SERVED
-    };
-    let none = Columns {
-        fate: &[Fate::Lost, Fate::Held, Fate::Lost],
-        ..SERVED
-    };
-    assert!(rt; server_has(rt.alloc(), &lost, (3, 3, 3))?);
-    assert!(rt; server_has(rt.alloc(), &none, (0, 0, 0))?);
+    assert!(rt; server_has(rt.alloc(), &ONE_DEPARTS, (3, 3, 3))?);
+    assert!(rt; server_has(rt.alloc(), &NONE_DEPARTS, (0, 0, 0))?);
     assert!(rt; join_has(rt.alloc(), &HELD, (4, 5, 5))?);
     Ok(())
 }
@@ -202,11 +207,16 @@ fn tail_of_desk_is(
     tail_is(alloc, rows, &kind, visits, wanted)
 }
 
+// Whether the desk has these percentiles.
+fn desk_has(alloc: Global, wanted: (u64, u64, u64)) -> Result<bool, OutOfMemory> {
+    let rows = desk_rows(alloc)?;
+    let visits = visits_of(alloc, &DESK)?;
+    tail_of_desk_is(alloc, &rows, &visits, wanted)
+}
+
 #[test]
 fn waits_at_a_desk_have_percentiles(rt: HostRuntime) -> Result<(), Fail> {
-    let rows = desk_rows(rt.alloc())?;
-    let visits = visits_of(rt.alloc(), &DESK)?;
-    assert!(rt; tail_of_desk_is(rt.alloc(), &rows, &visits, (5, 8, 8))?);
+    assert!(rt; desk_has(rt.alloc(), (5, 8, 8))?);
     Ok(())
 }
 
@@ -217,33 +227,76 @@ const TEN_AT_A_JOIN: Columns<'static> = Columns {
 };
 
 // Whether these visits to a join have these percentiles, by a table for waits of up to so many ticks.
-fn join_has_below(
+fn tail_below_is(
     alloc: Global,
-    columns: &Columns,
+    rows: &Rows,
+    visits: &Visits,
+    longest: u64,
+    wanted: (u64, u64, u64),
+) -> Result<bool, OutOfMemory> {
+    if !are_even(visits) || !are_small(&visits.found) {
+        return Ok(false);
+    }
+    let (p50, p90, p99) = wanted;
+    Ok(tail_below(alloc, rows, &Kind::Join, visits, longest)? == Percentiles { p50, p90, p99 })
+}
+
+// Whether the ten visits do.
+fn ten_have_below(
+    alloc: Global,
     longest: u64,
     wanted: (u64, u64, u64),
 ) -> Result<bool, OutOfMemory> {
     let rows = three_rows(alloc)?;
-    let visits = visits_of(alloc, columns)?;
-    if !are_even(&visits) || !are_small(&visits.found) {
-        return Ok(false);
-    }
-    let (p50, p90, p99) = wanted;
-    Ok(tail_below(alloc, &rows, &Kind::Join, &visits, longest)? == Percentiles { p50, p90, p99 })
+    let visits = visits_of(alloc, &TEN_AT_A_JOIN)?;
+    tail_below_is(alloc, &rows, &visits, longest, wanted)
 }
 
 #[test]
 fn a_longest_wait_changes_no_percentile(rt: HostRuntime) -> Result<(), Fail> {
     let alloc = rt.alloc();
-    assert!(rt; join_has_below(alloc, &TEN_AT_A_JOIN, 9, (4, 8, 9))?);
-    assert!(rt; join_has_below(alloc, &TEN_AT_A_JOIN, 8, (4, 8, 9))?);
-    assert!(rt; join_has_below(alloc, &TEN_AT_A_JOIN, 0, (4, 8, 9))?);
-    assert!(rt; join_has_below(alloc, &TEN_AT_A_JOIN, u64::MAX, (4, 8, 9))?);
+    assert!(rt; ten_have_below(alloc, 9, (4, 8, 9))?);
+    assert!(rt; ten_have_below(alloc, 8, (4, 8, 9))?);
+    assert!(rt; ten_have_below(alloc, 0, (4, 8, 9))?);
+    assert!(rt; ten_have_below(alloc, u64::MAX, (4, 8, 9))?);
     Ok(())
+}
+
+// Whether the counts of some waits and of others, up to 10 of each, are so many and these when they are added up.
+fn sum_is(before: WaitCounts, after: &WaitCounts, many: u32, wanted: &[u32]) -> bool
+    requires even { length after.now.counts ≡ length before.counts }
+    requires before { (wait : ℕ) → get_or before.counts wait 0 ≤ before.many }
+    requires after { (wait : ℕ) → get_or after.now.counts wait 0 ≤ after.now.many }
+{
+    if before.many > 10 || after.many > 10 {
+        return false;
+    }
+    let sum = counts_added(before, after);
+    sum.many == many && sum.counts.as_slice() == wanted
 }
 
 // Whether the waits of ten visits to a join, up to 4 ticks by themselves, are counted so: those of the visits before a
 // position and those of the others, added up.
+fn parts_are(
+    alloc: Global,
+    rows: &Rows,
+    visits: &Visits,
+    position: u32,
+    many: u32,
+    wanted: &[u32],
+) -> Result<bool, OutOfMemory> {
+    if !are_even(visits) || !are_small(&visits.found) {
+        return Ok(false);
+    }
+    if visits.job.len() != 10 || position > 10 {
+        return Ok(false);
+    }
+    let before = count_between(alloc, rows, &Kind::Join, visits, 4, 0, position)?;
+    let after = count_between(alloc, rows, &Kind::Join, visits, 4, position, 10)?;
+    Ok(sum_is(before, &after, many, wanted))
+}
+
+// Whether that is so of these visits.
 fn parts_count(
     alloc: Global,
     columns: &Columns,
@@ -253,32 +306,22 @@ fn parts_count(
 ) -> Result<bool, OutOfMemory> {
     let rows = three_rows(alloc)?;
     let visits = visits_of(alloc, columns)?;
-    if !are_even(&visits) || !are_small(&visits.found) {
-        return Ok(false);
-    }
-    if visits.job.len() != 10 || position > 10 {
-        return Ok(false);
-    }
-    let before = count_between(alloc, &rows, &Kind::Join, &visits, 4, 0, position)?;
-    let after = count_between(alloc, &rows, &Kind::Join, &visits, 4, position, 10)?;
-    if before.many > 10 || after.many > 10 {
-        return Ok(false);
-    }
-    let sum = counts_added(before, &after);
-    Ok(sum.many == many && sum.counts.as_slice() == wanted)
+    parts_are(alloc, &rows, &visits, position, many, wanted)
 }
+
+// Ten visits that are lost.
+const TEN_LOST: Columns<'static> = Columns {
+    fate: &[Fate::Lost; 10],
+    ..TEN
+};
 
 #[test]
 fn counts_of_parts_add_up(rt: HostRuntime) -> Result<(), Fail> {
     let alloc = rt.alloc();
-    let lost = Columns {
-        fate: &[Fate::Lost; 10],
-        ..TEN
-    };
     assert!(rt; parts_count(alloc, &TEN_AT_A_JOIN, 0, 10, &[1, 1, 1, 1, 1, 5])?);
     assert!(rt; parts_count(alloc, &TEN_AT_A_JOIN, 3, 10, &[1, 1, 1, 1, 1, 5])?);
     assert!(rt; parts_count(alloc, &TEN_AT_A_JOIN, 10, 10, &[1, 1, 1, 1, 1, 5])?);
-    assert!(rt; parts_count(alloc, &lost, 3, 0, &[0, 0, 0, 0, 0, 0])?);
+    assert!(rt; parts_count(alloc, &TEN_LOST, 3, 0, &[0, 0, 0, 0, 0, 0])?);
     Ok(())
 }
 
