@@ -132,15 +132,19 @@ const TRUNKS: Columns<'static> = Columns {
     ],
 };
 
-#[test]
-fn a_trunk_group_has_totals(rt: HostRuntime) -> Result<(), Fail> {
-    let alloc = rt.alloc();
+// Whether two servers with no place to wait have these totals.
+fn trunks_have(alloc: Global, wanted: &NodeTotals) -> Result<bool, OutOfMemory> {
     let rows = three_rows(alloc)?;
     let visits = visits_of(alloc, &TRUNKS)?;
     let kind = Kind::Trunk {
         servers: 2,
         demand: Demand::Column(0),
     };
+    Ok(totals_are(&rows, &kind, &visits, wanted))
+}
+
+#[test]
+fn a_trunk_group_has_totals(rt: HostRuntime) -> Result<(), Fail> {
     let wanted = NodeTotals {
         came: 4,
         left: 3,
@@ -152,7 +156,7 @@ fn a_trunk_group_has_totals(rt: HostRuntime) -> Result<(), Fail> {
         area: 8,
         peak: 2,
     };
-    assert!(rt; totals_are(&rows, &kind, &visits, &wanted));
+    assert!(rt; trunks_have(rt.alloc(), &wanted)?);
     Ok(())
 }
 
