@@ -4,20 +4,22 @@
 usage: build.py          in any folder; RT names the toolchain's command, where rt is not on the path
 What has been proved before and has not changed is kept. Each crate is told on the error output as it is done.
 
-rt works on one crate of a folder at a time, and keeps those below it from others meanwhile. So each crate is proved in a
-room of its own: a folder with links to its files, to those of the crates below it, and to what was built of these. The crate
-with the most to prove from it up to the program goes first. Several jobs for one crate take a quarter to two thirds more
-processor time for the same proofs, so a crate has more than one only where fewer crates than processors can be proved.
+Each crate is proved from nothing over the statements of those below it, as the gate does. rt itself works on one crate at a time, and
+has each crate read all proofs below it, so this gives the toolchain's own commands. The crate with the most to prove from it up to
+the program goes first. Several jobs for one crate take a quarter to three quarters more processor time for the same proofs, and a small
+one no less time, so a crate has more than one only where it is proved alone.
 """
+import hashlib
 import os
-import shutil
 import subprocess
 import sys
 import time
 
 ROOT = os.path.dirname(os.path.realpath(__file__))
 PROGRAM = "mpsim"
-ROOMS = f"{ROOT}/crates/{PROGRAM}/out/rooms"
+FOLDER = f"{ROOT}/crates/{PROGRAM}"
+# What is proved: the statements of each crate, and beside them of what they were made.
+PROVED = f"{FOLDER}/out/proved"
 RT = os.environ.get("RT", "rt")
 # The memory, in bytes, that a check by one job is given; each further job takes less.
 CHECK = 2 << 30
@@ -28,10 +30,22 @@ def tell(text):
     print(f"mpsim: {text}", file=sys.stderr, flush=True)
 
 
+def said(*words):
+    """What a command of the toolchain tells."""
+    return subprocess.run([RT, *words], stdin=subprocess.DEVNULL, stdout=subprocess.PIPE, text=True, check=True).stdout.strip()
+
+
+def text_of(file):
+    """What a file holds: nothing, where there is none."""
+    if not os.path.isfile(file):
+        return ""
+    with open(file, errors="replace") as text:
+        return text.read()
+
+
 def listed():
     """The crates of crates.txt, lowest first: of each all libraries that it names."""
-    with open(f"{ROOT}/crates.txt") as lines:
-        rows = [line.split(":") for line in lines if line.strip() and not line.startswith("#")]
+    rows = [line.split(":") for line in text_of(f"{ROOT}/crates.txt").splitlines() if line and not line.startswith("#")]
     return {name: uses.split() for name, uses in rows}
 
 
@@ -43,14 +57,18 @@ def below(name, uses):
     return found
 
 
+def files_of(name):
+    """The sources, definitions and proofs of a crate."""
+    found = []
+    for part in ["src", "specs", "proofs"]:
+        for folder, _, files in os.walk(f"{ROOT}/crates/{name}/{part}"):
+            found += [f"{folder}/{it}" for it in files]
+    return sorted(found)
+
+
 def lines_of(name):
     """How many lines of code a crate has."""
-    count = 0
-    for folder, _, files in os.walk(f"{ROOT}/crates/{name}/src"):
-        for file in files:
-            with open(f"{folder}/{file}", "rb") as text:
-                count += text.read().count(b"\n")
-    return count
+    return sum(text_of(it).count("\n") for it in files_of(name) if it.endswith(".rt"))
 
 
 def chains(names, uses):
@@ -62,101 +80,98 @@ def chains(names, uses):
     return chain
 
 
+def stamps(names, uses):
+    """Of each crate a sum of what it is proved from: the toolchain, its files, and the same of the crates below it."""
+    version, made = said("version"), {}
+    for name in names:
+        total = hashlib.sha256(version.encode())
+        for it in uses[name]:
+            total.update(made.get(it, it).encode())
+        for file in files_of(name):
+            with open(file, "rb") as text:
+                total.update(repr((os.path.relpath(file, ROOT), text.read())).encode())
+        made[name] = total.hexdigest()
+    return made
+
+
 def lanes():
     """How many crates are proved at a time at most, and how many jobs one has that is proved alone."""
     count = len(os.sched_getaffinity(0))
     free = count * CHECK
-    try:
-        with open("/proc/meminfo") as lines:
-            free = 1024 * next(int(line.split()[1]) for line in lines if line.startswith("MemAvailable:"))
-    except (OSError, StopIteration):
-        pass
+    for line in text_of("/proc/meminfo").splitlines():
+        if line.startswith("MemAvailable:"):
+            free = 1024 * int(line.split()[1])
     return max(min(count, free // CHECK), 1)
 
 
-def link(name, to, parts):
-    """Links these parts of a crate's folder into a room."""
-    for part in parts:
-        if os.path.isdir(f"{ROOT}/crates/{name}/{part}"):
-            shutil.copytree(f"{ROOT}/crates/{name}/{part}", f"{to}/crates/{name}/{part}", copy_function=os.link)
+def made_by(name, uses, kit, jobs):
+    """The command that proves a library by so many jobs and writes its statements, or the program and writes its code."""
+    words = [f"{kit}/bin/rattle", "build", "--crate-name", name, "src/main.rt" if name == PROGRAM else "src/lib.rt"]
+    for it in ["std", *uses[name]]:
+        words += ["--extern", f"{it}={PROVED if it in uses else f'{kit}/rlibs'}/{it}.rlib"]
+    words += ["-L", f"dependency={kit}/rlibs", "-L", f"dependency={PROVED}", "--links", f"{name}="]
+    words += ["--antt-project", f"{kit}/rattle/logic/antt-project.json", "--logic-built", f"{kit}/logic_built", "--jobs", str(jobs)]
+    if name == PROGRAM:
+        return [*words, "--toolchain", f"{kit}/toolchain", "--backend", "llvm", "-o", f"{PROVED}/{name}.o"]
+    return [*words, "--statements", "-o", f"{PROVED}/{name}.rlib"]
 
 
-def begin(name, uses, jobs, nice):
-    """Begins to prove a crate in a room, by so many jobs, which give way to those that are less nice."""
-    room, lower = f"{ROOMS}/{name}", below(name, uses)
-    os.makedirs(f"{room}/crates")
-    with open(f"{room}/crates.txt", "w") as out:
-        for it in {name, *lower}:
-            print(f"{it}: {' '.join(uses[it])}", file=out)
-    for it in lower:
-        link(it, room, ["src", "specs", "proofs", "out/rlib"])
-    link(name, room, ["src", "specs", "proofs"])
-    if os.path.isdir(f"{ROOT}/crates/{name}/out"):
-        os.rename(f"{ROOT}/crates/{name}/out", f"{room}/crates/{name}/out")
-    with open(f"{room}/log", "w") as log:
-        return subprocess.Popen(
-            ["nice", "-n", str(nice), RT, "lib", "--jobs", str(jobs)], cwd=f"{room}/crates/{name}", stdin=subprocess.DEVNULL, stdout=log, stderr=log
-        )
+def begin(name, uses, kit, jobs, nice):
+    """Begins to prove a crate, by so many jobs, which give way to those that are less nice."""
+    with open(f"{PROVED}/{name}.log", "w") as log:
+        words = ["nice", "-n", str(nice), *made_by(name, uses, kit, jobs)]
+        return subprocess.Popen(words, cwd=f"{ROOT}/crates/{name}", stdin=subprocess.DEVNULL, stdout=log, stderr=log)
 
 
-def end(name):
-    """Takes what a room kept back into the crate's folder; answers what was told in it."""
-    room, out = f"{ROOMS}/{name}", f"crates/{name}/out"
-    if os.path.isdir(f"{room}/{out}") and not os.path.isdir(f"{ROOT}/{out}"):
-        os.rename(f"{room}/{out}", f"{ROOT}/{out}")
-    with open(f"{room}/log", errors="replace") as log:
-        told = log.read()
-    shutil.rmtree(room)
-    return told
-
-
-def clear():
-    """Ends what a run before this one left that was stopped."""
-    for name in os.listdir(ROOMS) if os.path.isdir(ROOMS) else []:
-        end(name)
-
-
-def prove_all(uses):
-    """Proves all crates below the program. Answers whether all are proved."""
-    names = [it for it in uses if it in below(PROGRAM, uses)]
-    chain, most = chains([*names, PROGRAM], uses), lanes()
-    left, running, done = sorted(names, key=lambda it: -chain[it]), {}, set()
+def prove_all(uses, kit):
+    """Proves all crates below the program and then the program. Answers whether all are proved."""
+    names = [it for it in uses if it in below(PROGRAM, uses)] + [PROGRAM]
+    made, chain, most = stamps(names, uses), chains(names, uses), lanes()
+    done = {it for it in names if text_of(f"{PROVED}/{it}.stamp") == made[it]}
+    left, running = sorted([it for it in names if it not in done], key=lambda it: -chain[it]), {}
     failed = False
     while running or (left and not failed):
         ready = [] if failed else [it for it in left if done >= below(it, uses)]
-        for at, name in enumerate(ready):
+        for name in ready:
             if len(running) == most:
                 break
-            # What is further from the program goes first. A processor that no other crate could use takes a part of this one.
+            # What is further from the program goes first.
             others = [it for it in [*left, *running] if chain[it] > chain[name]]
-            side_by_side = min(len(running) + len(ready) - at, most)
-            running[name] = begin(name, uses, -(-most // side_by_side), min(len(others), 10))
+            jobs = 1 if running or len(ready) > 1 else most
+            running[name] = begin(name, uses, kit, jobs, min(len(others), 10))
             left.remove(name)
         time.sleep(0.2)
         for name in [it for it, check in running.items() if check.poll() is not None]:
-            status, told = running.pop(name).returncode, end(name)
-            if status:
-                tell(f"{told}{name} is not proved")
+            if running.pop(name).returncode:
+                tell(f"{text_of(f'{PROVED}/{name}.log')}{name} is not proved")
                 failed = True
                 continue
+            with open(f"{PROVED}/{name}.stamp", "w") as out:
+                out.write(made[name])
             done.add(name)
             tell(f"{name} is proved ({len(done)} of {len(names)})")
     return not failed
 
 
+def link(kit):
+    """Links the program. Answers whether it could, and the program then gave the stored report on the stored example."""
+    words = ["--target", "x86_64-unknown-linux-gnu", "--toolchain", f"{kit}/toolchain", "-o", f"{FOLDER}/out/{PROGRAM}", f"{PROVED}/{PROGRAM}.o"]
+    words += [f"{kit}/c/libos_c.a", f"{kit}/c/liblibc_c.a"]
+    if subprocess.run([f"{kit}/bin/rattle-link", *words], stdin=subprocess.DEVNULL, stdout=sys.stderr).returncode:
+        return False
+    words = [f"{FOLDER}/out/{PROGRAM}", *text_of(f"{FOLDER}/args").split()]
+    ran = subprocess.run(words, cwd=f"{FOLDER}/data", stdin=subprocess.DEVNULL, stdout=subprocess.PIPE)
+    return ran.returncode == 0 and ran.stdout == text_of(f"{FOLDER}/stdout").encode()
+
+
 def main():
-    clear()
-    if not prove_all(listed()):
+    os.makedirs(PROVED, exist_ok=True)
+    kit = os.path.dirname(said("doc"))
+    if not prove_all(listed(), kit):
         return 1
-    tell("building")
-    # What is not proved stops the build. The run on the stored example is the build's own check, and ends with status 0.
-    words = [RT, "run", "--", "data/model.txt", "data/trace.csv"]
-    ran = subprocess.run(words, cwd=f"{ROOT}/crates/{PROGRAM}", stdin=subprocess.DEVNULL, stdout=subprocess.PIPE, stderr=subprocess.STDOUT)
-    if ran.returncode:
-        sys.stderr.buffer.write(ran.stdout)
+    if not link(kit):
         tell("the build failed")
         return 1
-    os.utime(f"{ROOT}/crates/{PROGRAM}/out/{PROGRAM}")
     return 0
 
 
