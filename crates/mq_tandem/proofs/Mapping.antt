@@ -1,8 +1,9 @@
 -- Each item of a list is changed where it stands.
-use Rattle.std.proofs.Common.{◌≡◌, ℕ, suc, ◌+◌, ◌<◌, List, [], ◌∷◌, ◌++◌, All, length, get_or, take, drop, map, set, sym, ap, ◌∙◌, arith}
-use Rattle.std.proofs.lemmas.List.{drop-set-lt, drop-drop, length-map, length-set, take_more_set, get_or-map, get_or-drop, get_or-take}
+use Rattle.std.proofs.Common.{◌≡◌, ℕ, suc, ◌+◌, ◌<◌, ◌≤◌, List, [], ◌∷◌, ◌++◌, All, length, get_or, take, drop, map, set, sym, ap, ◌∙◌, arith}
+use Rattle.std.proofs.lemmas.List.{drop-set-lt, drop-drop, length-map, length-set, take_more, take_more_set, get_or-map, get_or-drop, get_or-take}
 use Rattle.std.proofs.lemmas.List.Elements.{All-cons, All-head, All-nil, All-tail}
 use Rattle.std.proofs.Math.Seq.{take-suc}
+use Rattle.mq_base.proofs.lemmas.Lists.{take-all}
 
 module _ {X : Type 0} (d : X) (f : X → X) where
   -- What is kept meanwhile: those before this index are changed, the others are as they were.
@@ -41,3 +42,13 @@ module _ {X : Type 0} (d : X) (f : X → X) where
 pub All-unmap : {X Y : Type 0} (P : Y → Type 0) (f : X → Y) (xs : List X) → All P (map f xs) → All (λ x. P (f x)) xs
 All-unmap P f [] h = All-nil (λ x. P (f x))
 All-unmap P f (x ∷ xs) h = All-cons (λ x. P (f x)) x xs (All-head P (f x) (map f xs) h) (All-unmap P f xs (All-tail P (f x) (map f xs) h))
+
+-- One item more is taken from another list.
+pub copied-next : {X : Type 0} (now now' from : List X) (index : ℕ) (d y : X) → index < length now → length now ≡ length from → now' ≡ set now index y → get_or from index d ≡ y → take index now ≡ take index from → take (index + 1) now' ≡ take (index + 1) from
+copied-next now now' from index d y inside size s item done =
+    let there : index < length from = omega arith in
+    ap (take (index + 1)) s ∙ (take_more_set now index y inside ∙ ((λ k. done k ++ sym item k ∷ []) ∙ sym (take_more from index d there)))
+
+-- all are taken
+pub copied-all : {X : Type 0} (now from : List X) (index : ℕ) → length now ≡ length from → length from ≤ index → take index now ≡ take index from → now ≡ from
+copied-all now from index size l done = sym (take-all now index (omega arith)) ∙ (done ∙ take-all from index l)

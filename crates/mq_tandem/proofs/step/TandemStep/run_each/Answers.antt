@@ -4,6 +4,12 @@ use Rattle.mq_tandem.specs.Rows.{ran}
 use Rattle.mq_tandem.proofs.Mapping.{mapping-next}
 use Rattle.mq_tandem.proofs.step.TandemStep.run_each.Goals as goal
 
+pub column_behind-column-requires-clause-now : goal.column_behind-column-requires-clause-now
+column_behind-column-requires-clause-now c = c.loop-index.invariant.long ∙ c.requires.size
+
+pub column_behind-column-requires-clause-done : goal.column_behind-column-requires-clause-done
+column_behind-column-requires-clause-done c = c.loop-index.invariant.done
+
 pub loop-index-preserved : goal.loop-index-preserved
 loop-index-preserved c =
     let step = c.args.self.now in
