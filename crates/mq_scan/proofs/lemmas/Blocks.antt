@@ -45,7 +45,7 @@ end_of blocks b = min (b * blocks.block) blocks.n
 pub none-before : (blocks : Blocks) → end_of blocks 0 ≡ 0
 none-before blocks = omega arith
 
-pub start-is : (blocks : Blocks) (b : ℕ) → b < blocks.blocks → b * blocks.block ≡ end_of blocks b
+start-is : (blocks : Blocks) (b : ℕ) → b < blocks.blocks → b * blocks.block ≡ end_of blocks b
 start-is blocks b l = let inside = block-start blocks b l in omega arith
 
 pub block-order : (blocks : Blocks) (b : ℕ) → b < blocks.blocks → b * blocks.block ≤ end_of blocks (b + 1)
