@@ -1,6 +1,6 @@
 -- Pieces that are put at their indices.
-use Rattle.std.proofs.Common.{◌≡◌, ℕ, zero, suc, ◌+◌, ◌<◌, ◌⊎◌, Option, Some, None, IsSome, is_some, List, [], ◌∷◌, ◌++◌, length, get_or, set, refl, sym, ap, ◌∙◌, subst, inl, inr, ⊎_elim, arith, All, Contains, length-set, get_or-set_other, get_or-set_same, append_assoc}
-use Rattle.std.proofs.lemmas.List.{map-append}
+use Rattle.std.proofs.Common.{◌≡◌, ℕ, zero, suc, ◌+◌, ◌<◌, ◌⊎◌, Option, Some, None, IsSome, is_some, List, [], ◌∷◌, ◌++◌, length, get_or, set, refl, sym, ap, ◌∙◌, subst, inl, inr, ⊎_elim, arith, All, Contains, length-set, get_or-set_other, get_or-set_same, append_assoc, replicate}
+use Rattle.std.proofs.lemmas.List.{append-nil, length-replicate, map-append}
 use Rattle.std.proofs.Math.Seq.{get_or-append_seam}
 use Rattle.std.proofs.Math.ListN.{get_or-append}
 use Rattle.std.proofs.lemmas.List.Elements.{Contains-append_cases, Contains-append_left, Contains-append_right, All-contains}
@@ -22,6 +22,11 @@ Some-inj a b e = cc
 
 none-some : {Y : Type 0} (a : Y) → None ≡ Some a → ⊥
 none-some a e = cc
+
+none-there : {X : Type 0} (n x : ℕ) → get_or (replicate {A = Option X} n None) x None ≡ None
+none-there zero x = refl
+none-there (suc n) zero = refl
+none-there (suc n) (suc x) = none-there n x
 
 module _ {X : Type 0} (count : ℕ) (all : List (ℕ × X)) where
   -- what is left are the first of all, and what stands at an index came with its number
@@ -54,6 +59,23 @@ module _ {X : Type 0} (count : ℕ) (all : List (ℕ × X)) where
       }
 
   -- where nothing is left, each index has an item
+  -- no item is placed yet
+  pub place-none : (slots : List (Option X)) → slots ≡ replicate {A = Option X} count None → ((x : ℕ) → x < count → Contains (numbers all) x) → All (λ p. p.0 < count) all → IsPlacing all slots
+  place-none slots vacant each within = record {
+    len = ap length vacant ∙ length-replicate count None;
+    rest = ([], sym (append-nil all));
+    within = within;
+    filled = λ x lt. inl (each x lt);
+    own = λ x p is. absurd (none-some p (sym (ap (λ (l : List (Option X)). get_or l x None) vacant ∙ none-there count x) ∙ is));
+  }
+
+  -- the number of the next item is within
+  pub place-inside : (left : List (ℕ × X)) (slots : List (Option X)) (n : ℕ) (p : X) → IsPlacing (left ++ (n, p) ∷ []) slots → n < length slots
+  place-inside left slots n p w =
+      let less : n < count = All-contains (λ (q : ℕ × X). q.0 < count) (left ++ (n, p) ∷ []) (n, p) w.within (last-in left (n, p)) in
+      let len = w.len in
+      omega arith
+
   pub place-all : (slots : List (Option X)) → IsPlacing [] slots → (x : ℕ) → x < count → IsSome (get_or slots x None)
   place-all slots w x lt = ⊎_elim (λ (k, less, e). absurd (omega arith)) (λ h. h) (w.filled x lt)
 

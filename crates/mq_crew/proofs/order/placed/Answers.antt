@@ -1,6 +1,6 @@
 use Rattle.std.proofs.Common.{◌≡◌, ◌<◌, ◌+◌, ℕ, arith, List, ap, subst, sym, length, ◌∙◌, get_or, None, Some, length-set, length-append, get_or-set_other, [], ◌∷◌, ◌++◌, ◌-◌, take, le_refl, Option, IsSome, is_some, false, Contains}
 use Rattle.std.proofs.lemmas.List.{append-nil, get_or_default}
-use Rattle.mq_crew.proofs.Placing.{IsPlacing, place-more, place-all, taken}
+use Rattle.mq_crew.proofs.Placing.{IsPlacing, place-none, place-inside, place-more, place-all, taken}
 use Rattle.mq_crew.proofs.order.placed.Goals as goal
 
 pub puts-preserved-in-Some : goal.puts-preserved-in-Some
@@ -44,3 +44,11 @@ returns-clause-own g c x d lt =
     let less : x < c.takes.i = omega arith in
     let found = c.puts.invariant.own x (get_or c.takes.items.items x d) (c.takes.invariant.3 x d less) in
     subst (λ (z : List g.row.T.Denot). Contains c.args.made.items (x, get_or z x d)) (sym c.from_vec.ensures) found
+
+pub puts-init : goal.puts-init
+puts-init g c = place-none _ _ _ c.in_ok-slots.ensures c.requires.each c.requires.within
+
+pub index_mut-requires : goal.index_mut-requires
+index_mut-requires g c =
+    subst (λ (n : ℕ). c.in-Some.number < n) (sym c.puts.slots.ok.0)
+    (place-inside _ _ _ _ c.in-Some.number c.in-Some.piece (subst (λ (z : List (ℕ × g.row.T.Denot)). IsPlacing c.args.count c.args.made.items z c.puts.slots.items) c.in-Some.ensures.items c.puts.invariant))
