@@ -39,6 +39,15 @@ put_more t t' t'' s s' s'' f f' f'' bytes rest rest' n h some within gains spent
       still = still ∙ h.still;
     }
 
+-- a put that failed, where so many bytes are sure
+pub put_sure : (t t' : Option (List ℕ)) (s s' f f' f'' : ℕ) (bytes rest : List ℕ) (h : Putting t t' s s' f f' bytes rest)
+    → 0 < length rest → (1 ≤ s' → f'' ≡ f') → length bytes ≤ s → f'' ≡ f
+put_sure t t' s s' f f' f'' bytes rest h some put room =
+    let at : h.count ≤ length bytes = h.took.at_most in
+    let had : s ≤ s' + h.count = h.took.spent in
+    let len : length rest ≡ length bytes - h.count = ap length h.left ∙ length-drop h.count bytes in
+    put (omega arith) ∙ h.still
+
 -- one piece, and then another
 pub takes_then : (t t' t'' : Option (List ℕ)) (s s' s'' : ℕ) (xs ys : List ℕ) (n : ℕ) → TakesFirst t t' s s' xs (length xs) → TakesFirst t' t'' s' s'' ys n
     → TakesFirst t t'' s s'' (xs ++ ys) (length xs + n)

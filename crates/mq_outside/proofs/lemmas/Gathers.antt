@@ -67,6 +67,15 @@ adds_whole {sure = sure} {faults = faults} {a = a} {c = c} {p = p} {left = left}
       calm = λ room. calm (omega arith) ∙ still;
     }
 
+-- what was pending was refused, before a text of its own
+pub adds_refused : {S T E : Type 0} {taken : S → Option (List ℕ)} {sure faults : S → ℕ} {a b : S} {p left text : List ℕ} (r : Result T E) → IsErr r
+    → TakesPrefix (taken a) (taken b) (sure a) (sure b) p → faults a ≤ faults b → Rose (faults a) (faults b) → (length p ≤ sure a → faults b ≡ faults a)
+    → Adds taken sure faults a b p left r text
+adds_refused (Ok x) refused part later rose calm = absurd cc
+adds_refused {p = p} {text = text} (Err e) refused part later rose calm =
+    let both : length (p ++ text) ≡ length p + length text = length-append p text in
+    record { ok = tt; err = takes_front _ _ _ _ p text part; later = later; rose = rose; quiet = tt; calm = λ room. calm (omega arith) }
+
 -- What is pending was refused, behind a writer that began with nothing pending: the sink took a first part of the text.
 pub part_flushed : (t t' t'' : Option (List ℕ)) (s s' s'' : ℕ) (p p' text : List ℕ) → p ≡ [] → GoesOut t t' s s' (p ++ text) p'
     → TakesPrefix t' t'' s' s'' p' → TakesPrefix t t'' s s'' text

@@ -1,5 +1,5 @@
 use denote.Enum.Bare.{same_true, same_false}
-use Rattle.std.proofs.Common.{◌≡◌, refl, sym, ap, ◌∙◌, inl, inr, Err, le_refl, rules}
+use Rattle.std.proofs.Common.{◌≡◌, refl, sym, ap, ◌∙◌, inl, inr, Err, le_refl, rules, true≢false}
 use Rattle.mq_outside.specs.contracts.outside.FileFault.{the_type}
 use Rattle.mq_outside.specs.declared.outside.FileFault.TheVariants.{Failed}
 use Rattle.mq_outside.specs.Outside.{next_count}
@@ -38,7 +38,7 @@ returns-then-eq g c =
       failed = λ e. refl;
       rose = λ e. rw (← faults) next.1;
       quiet = inl (ap (λ f. Err f) is);
-      sure = λ e. absurd cc;
+      sure = λ e. absurd (true≢false (sym e));
       gains = tt;
       whole = tt;
       fits = tt;
