@@ -9,8 +9,9 @@ mod laws;
 mod model;
 mod trace;
 
-ghost use Rattle.std.specs.Prelude.{◌≡◌, IfOk};
-ghost use Rattle.mq_gen.specs.Made.{made_model, made_trace};
+ghost use Rattle.std.specs.Prelude.{◌≡◌, IfOk, OnOk};
+ghost use Rattle.mq_model.specs.Printed.{printed};
+ghost use Rattle.mq_gen.specs.Made.{made_model, made_trace, network_from, sections_from};
 
 use crate::model::made_plan;
 use crate::trace::made_records;
@@ -27,15 +28,24 @@ pub struct MadeInput {
     pub trace: List<u8>,
 }
 
+/// The text of the model that a generator draws, which is left after its last draw.
+fn made_text(alloc: Global, generator: &mut Lcg64Xsh32) -> Result<List<u8>, OutOfMemory>
+    ensures text { IfOk result (λ text. text ≡ printed (network_from (sections_from generator.old))) }
+    ensures moved { OnOk result (generator.new ≡ (sections_from generator.old).generator) }
+{
+    let plan = made_plan(alloc, generator)?;
+    print_model(alloc, &plan)
+}
+
 /// The made input of a number. It refuses for want of memory alone.
 pub fn made(alloc: Global, number: u64) -> Result<MadeInput, OutOfMemory>
     ensures model { IfOk result (λ input. input.model ≡ made_model number) }
     ensures trace { IfOk result (λ input. input.trace ≡ made_trace number) }
 {
     let mut generator = Lcg64Xsh32::new(number, 1);
-    let plan = made_plan(alloc, &mut generator)?;
+    let model = made_text(alloc, &mut generator)?;
     Ok(MadeInput {
-        model: print_model(alloc, &plan)?,
+        model,
         trace: made_records(alloc, &mut generator)?,
     })
 }
