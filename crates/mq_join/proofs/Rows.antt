@@ -68,3 +68,10 @@ pub place-at : (ports at : ℕ) (items : List (ℕ × ℕ)) (rows : List Row) (p
 place-at ports at items rows port job index row indices all here own some e i =
     let same : index ≡ count_by (is_item job port) (take at items) = some_inj index _ (sym i ∙ (ap (λ is. slice_get is at) e ∙ index-at items at (port, job) here)) in
     ap (slice_get row.places.items) same ∙ (all job row own).in_turn some (count_by (is_item job port) (take at items))
+
+-- one row more of which nothing came
+pub fresh-more : (rows : List Row) (row : Row) → AreFresh rows → row.counts ≡ replicate 8 0 → row.places.items ≡ [] → AreFresh (rows ++ row ∷ [])
+fresh-more [] row fresh counts places zero other e = subst (λ (r : Row). (r.counts ≡ replicate 8 0) × (r.places.items ≡ [])) (some_inj _ _ e) (counts, places)
+fresh-more [] row fresh counts places (suc job) other e = absurd cc
+fresh-more (x ∷ rows) row fresh counts places zero other e = fresh zero other e
+fresh-more (x ∷ rows) row fresh counts places (suc job) other e = fresh-more rows row (λ j r f. fresh (suc j) r f) counts places job other e

@@ -1,4 +1,5 @@
-use Rattle.std.proofs.Common.{Some, ◌++◌, ◌∷◌, ◌∙◌, [], ap, arith}
+use Rattle.std.proofs.Common.{Some, ◌++◌, ◌∷◌, ◌∙◌, [], ap, arith, map}
+use Rattle.std.proofs.lemmas.List.{take_all}
 use Rattle.mq_core.specs.Kinds.Join.{fate_by_match}
 use Rattle.mq_join.proofs.Steps.{map-more}
 use Rattle.mq_join.proofs.visits.fates_of.Goals as goal
@@ -13,3 +14,6 @@ loop-at-preserved c =
       len = omega arith;
       room = omega arith;
     }
+
+pub returns : goal.returns
+returns c = c.from_vec.ensures ∙ (c.loop-at.invariant.so_far ∙ ap (map (fate_by_match c.args.arrive.now)) (take_all c.loop-at.at c.args.matches.now (omega arith)))
