@@ -1,7 +1,7 @@
 // The nodes that are ready, worked out by the crew.
 ghost use Rattle.std.specs.Prelude.{◌≡◌, ◌≤◌, ℕ, List as Items, length, IfOk};
 ghost use Rattle.std.specs.List.{AllByRecursion};
-ghost use Rattle.mq_crew.specs.Crew.{AreGroups};
+ghost use Rattle.mq_crew.specs.Crew.{AreAll, AreGroups};
 ghost use Rattle.mq_core.specs.declared.model.Plan.{Plan as ThePlan};
 ghost use Rattle.mq_core.specs.declared.model.Rows.{Rows as TheRows};
 ghost use Rattle.mq_merge.specs.Borrowed.{stream_in};
@@ -96,13 +96,33 @@ fn all_emptied<'a, R: Threads + Sync, G: Gate>(
         let Some(group) = groups.pop() else {
             unreachable!()
         };
-        let Middle { scanned, stage } = middle;
-        let (load, scan) = (scanned.held.load(), &scanned.scan);
-        let exit = exit_of(rt, alloc, workers, &load, scan, stage, &group, gate)?;
-        let held = held_alone(scanned);
-        those_emptied.push(Emptied { held, exit })?;
+        let emptied = emptied_of(rt, alloc, workers, middle, group, gate)?;
+        those_emptied.push(emptied)?;
     }
     Ok(those_emptied)
+}
+
+// A station whose departures are known, of its applied blocks where it is scanned.
+fn emptied_of<'a, R: Threads + Sync, G: Gate>(
+    rt: &R,
+    alloc: Global,
+    workers: u32,
+    middle: Middle<'a>,
+    group: List<List<u64>>,
+    gate: &G,
+) -> Result<Emptied<'a>, OutOfMemory>
+    requires ready { IsReadyMiddle middle }
+    requires group { AreAll (IsApplied (stream_in middle.scanned.held.arrivals) middle.scanned.scan) (applied_of middle.scanned.scan) group }
+    requires some { 1 ≤ workers }
+    requires most { workers ≤ 64 }
+    ensures ready { IfOk result IsReadyExit }
+    ensures same { IfOk result (λ emptied. emptied.held ≡ middle.entry.scanned.held) }
+{
+    let Middle { scanned, stage } = middle;
+    let (load, scan) = (scanned.held.load(), &scanned.scan);
+    let exit = exit_of(rt, alloc, workers, &load, scan, stage, &group, gate)?;
+    let held = held_alone(scanned);
+    Ok(Emptied { held, exit })
 }
 
 // What came to a station: its scan, which is large, is let go, since no last piece looks at it.
