@@ -1,4 +1,4 @@
-use Rattle.std.proofs.Common.{◌∙◌, ap, filter, subst, sym}
+use Rattle.std.proofs.Common.{◌∙◌, ap, filter, length, subst, sym}
 use Rattle.std.specs.Prelude.{slice_get}
 use Rattle.mq_engine.specs.Progress.{AreEarly, HasAll, is_ready}
 use Rattle.mq_engine.proofs.Endings.{within}
@@ -40,3 +40,12 @@ pub waves-init : goal.waves-init
 waves-init g c =
     let made = c.in_ok-progress.ensures in
     reached-begins c.args.plan.now c.args.rows.now _ _ _ (made.came ∙ c.len.ensures) (made.left ∙ c.len.ensures) made.none (made.stand ∙ c.len.ensures) made.waits
+
+pub ready_nodes-requires-clause-count : goal.ready_nodes-requires-clause-count
+ready_nodes-requires-clause-count g c = ap length c.deref.ensures.value ∙ c.waves.invariant.stand
+
+pub settle-requires-clause-came : goal.settle-requires-clause-came
+settle-requires-clause-came g c = c.waves.invariant.came ∙ sym c.waves.invariant.stand
+
+pub settle-requires-clause-left : goal.settle-requires-clause-left
+settle-requires-clause-left g c = c.waves.invariant.left ∙ sym c.waves.invariant.stand

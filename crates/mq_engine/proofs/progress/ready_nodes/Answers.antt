@@ -4,6 +4,15 @@ use Rattle.mq_engine.proofs.Lists.{filter-kept, filter-left}
 use Rattle.mq_engine.proofs.progress.ready_nodes.Goals as goal
 use Rattle.mq_engine.proofs.progress.ready_nodes.Goals.{then-may_work+in_ok-push, else-may_work}
 
+pub may_work-requires-clause-count : goal.may_work-requires-clause-count
+may_work-requires-clause-count c = c.requires.count
+
+pub may_work-requires-clause-inside : goal.may_work-requires-clause-inside
+may_work-requires-clause-inside c = c.requires.within.ranked c.loop-rank.rank c.get-number.result.now c.get-number.ensures
+
+pub may_work-requires-clause-reads : goal.may_work-requires-clause-reads
+may_work-requires-clause-reads c = c.requires.within.reads
+
 pub loop-rank-preserved : goal.loop-rank-preserved
 loop-rank-preserved c =
     elim c.if-may_work.branch [
