@@ -1,5 +1,9 @@
-use Rattle.mq_outside.proofs.lemmas.Gathers.{gathers_added, gathers_refused}
+use Rattle.std.proofs.Common.{refl, arith}
+use Rattle.std.proofs.lemmas.List.{at_drop_all}
+use Rattle.mq_outside.proofs.lemmas.Gathers.{gathers_added, gathers_all, gathers_refused}
 use Rattle.mq_core.specs.StandardTable.{run_of}
+use Rattle.mq_report.specs.Text.{jobs_text}
+use Rattle.mq_report.proofs.Loops.{gathers_begun}
 use Rattle.mq_report.proofs.JobLines.{jobs-next}
 use Rattle.mq_report.proofs.jobs.add_jobs.Goals as goal
 
@@ -13,3 +17,9 @@ loop-rank-preserved g c =
 pub returns-in_err-add_jobs_at : goal.returns-in_err-add_jobs_at
 returns-in_err-add_jobs_at g c =
     gathers_refused _ c.from_residual.ensures.0 _ (jobs-next c.args.plan.now.net c.args.rows.now (run_of c.args.plan.now c.args.rows.now) c.args.plan.now.order c.loop-rank.rank c.get-node.result.now c.get-declared.result.now c.get-node.ensures c.get-declared.ensures) c.loop-rank.invariant c.in_err-add_jobs_at.ensures
+
+pub loop-rank-init : goal.loop-rank-init
+loop-rank-init g c = gathers_begun _ _ _ _ _ _ refl
+
+pub returns : goal.returns
+returns g c = gathers_all (at_drop_all (jobs_text c.args.plan.now.net c.args.rows.now (run_of c.args.plan.now c.args.rows.now)) c.args.plan.now.order c.loop-rank.rank (omega arith)) c.loop-rank.invariant
