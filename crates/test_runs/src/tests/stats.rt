@@ -55,6 +55,25 @@ pub fn visits_of(alloc: Global, columns: &Columns) -> Result<Visits, OutOfMemory
     })
 }
 
+// Jobs, and visits of theirs.
+#[derive(Drop)]
+pub struct Case {
+    pub rows: Rows,
+    pub visits: Visits,
+}
+
+pub fn case_of(alloc: Global, rows: Rows, columns: &Columns) -> Result<Case, OutOfMemory> {
+    Ok(Case {
+        rows,
+        visits: visits_of(alloc, columns)?,
+    })
+}
+
+// The three jobs, with these visits.
+pub fn three_case(alloc: Global, columns: &Columns) -> Result<Case, OutOfMemory> {
+    case_of(alloc, three_rows(alloc)?, columns)
+}
+
 fn are_below(jobs: &[u32], count: usize) -> bool
     ensures { IsTrue result → All (λ job. job < count) jobs.now }
 {
@@ -204,6 +223,7 @@ fn visits_find(
     Ok(founds.as_slice() == wanted)
 }
 
+// Fates of visits.
 const IN_TURN: [Fate; 3] = [Fate::Departs(4), Fate::Departs(5), Fate::Departs(8)];
 
 const AT_ONCE: [Fate; 3] = [Fate::Departs(5), Fate::Departs(3), Fate::Departs(3)];

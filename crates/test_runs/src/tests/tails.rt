@@ -5,7 +5,7 @@ ghost use Rattle.mq_core.specs.Told.{HasValue, IsTold};
 ghost use Rattle.mq_core.specs.declared.model.Demand.TheVariants.{Column};
 
 use super::stats::{
-    Columns, HELD, NO_VISITS, SERVED, are_even, are_small, list, three_rows, visits_of,
+    Columns, HELD, NO_VISITS, SERVED, are_even, are_small, case_of, list, three_case,
 };
 use mq_base::{List, OutOfMemory};
 use mq_core::{Demand, Fate, Kind, Rows, Stage, Visits};
@@ -82,9 +82,10 @@ fn server_has(
     columns: &Columns,
     wanted: (u64, u64, u64),
 ) -> Result<bool, OutOfMemory> {
-    let rows = three_rows(alloc)?;
-    let visits = visits_of(alloc, columns)?;
-    tail_of_server_is(alloc, &rows, &visits, wanted)
+    let case = three_case(alloc, columns)?;
+    let found = tail_of_server_is(alloc, &case.rows, &case.visits, wanted);
+    drop(case);
+    found
 }
 
 // Whether a join does, where each stay is a wait.
@@ -93,9 +94,10 @@ fn join_has(
     columns: &Columns,
     wanted: (u64, u64, u64),
 ) -> Result<bool, OutOfMemory> {
-    let rows = three_rows(alloc)?;
-    let visits = visits_of(alloc, columns)?;
-    tail_is(alloc, &rows, &Kind::Join, &visits, wanted)
+    let case = three_case(alloc, columns)?;
+    let found = tail_is(alloc, &case.rows, &Kind::Join, &case.visits, wanted);
+    drop(case);
+    found
 }
 
 // One visit of the second job, which waits for 3 ticks.
@@ -209,9 +211,10 @@ fn tail_of_desk_is(
 
 // Whether the desk has these percentiles.
 fn desk_has(alloc: Global, wanted: (u64, u64, u64)) -> Result<bool, OutOfMemory> {
-    let rows = desk_rows(alloc)?;
-    let visits = visits_of(alloc, &DESK)?;
-    tail_of_desk_is(alloc, &rows, &visits, wanted)
+    let case = case_of(alloc, desk_rows(alloc)?, &DESK)?;
+    let found = tail_of_desk_is(alloc, &case.rows, &case.visits, wanted);
+    drop(case);
+    found
 }
 
 #[test]
@@ -247,9 +250,10 @@ fn ten_have_below(
     longest: u64,
     wanted: (u64, u64, u64),
 ) -> Result<bool, OutOfMemory> {
-    let rows = three_rows(alloc)?;
-    let visits = visits_of(alloc, &TEN_AT_A_JOIN)?;
-    tail_below_is(alloc, &rows, &visits, longest, wanted)
+    let case = three_case(alloc, &TEN_AT_A_JOIN)?;
+    let found = tail_below_is(alloc, &case.rows, &case.visits, longest, wanted);
+    drop(case);
+    found
 }
 
 #[test]
@@ -304,9 +308,10 @@ fn parts_count(
     many: u32,
     wanted: &[u32],
 ) -> Result<bool, OutOfMemory> {
-    let rows = three_rows(alloc)?;
-    let visits = visits_of(alloc, columns)?;
-    parts_are(alloc, &rows, &visits, position, many, wanted)
+    let case = three_case(alloc, columns)?;
+    let found = parts_are(alloc, &case.rows, &case.visits, position, many, wanted);
+    drop(case);
+    found
 }
 
 // Ten visits that are lost.

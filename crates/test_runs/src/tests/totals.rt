@@ -7,7 +7,7 @@ ghost use Rattle.mq_core.specs.declared.model.Kind.{Kind as TheKind};
 ghost use Rattle.mq_stats.specs.Numbers.{AreVisits};
 
 use super::stats::{
-    Columns, HELD, LOST, NO_VISITS, SERVED, are_even, are_small, list, three_rows, visits_of,
+    Columns, HELD, LOST, NO_VISITS, SERVED, are_even, are_small, list, three_case, three_rows,
 };
 use mq_base::{List, OutOfMemory};
 use mq_core::{Demand, Fate, Fates, Kind, Rows, Visits};
@@ -58,10 +58,11 @@ fn totals_are(rows: &Rows, kind: &Kind, visits: &Visits, wanted: &NodeTotals) ->
 
 // Whether a server with these visits of the three jobs has these totals.
 fn server_has(alloc: Global, columns: &Columns, wanted: &NodeTotals) -> Result<bool, OutOfMemory> {
-    let rows = three_rows(alloc)?;
-    let visits = visits_of(alloc, columns)?;
+    let case = three_case(alloc, columns)?;
     let kind = Kind::Server(Demand::Column(0));
-    Ok(totals_are(&rows, &kind, &visits, wanted))
+    let found = totals_are(&case.rows, &kind, &case.visits, wanted);
+    drop(case);
+    Ok(found)
 }
 
 const SERVED_TOTALS: NodeTotals = NodeTotals {
@@ -134,13 +135,14 @@ const TRUNKS: Columns<'static> = Columns {
 
 // Whether two servers with no place to wait have these totals.
 fn trunks_have(alloc: Global, wanted: &NodeTotals) -> Result<bool, OutOfMemory> {
-    let rows = three_rows(alloc)?;
-    let visits = visits_of(alloc, &TRUNKS)?;
+    let case = three_case(alloc, &TRUNKS)?;
     let kind = Kind::Trunk {
         servers: 2,
         demand: Demand::Column(0),
     };
-    Ok(totals_are(&rows, &kind, &visits, wanted))
+    let found = totals_are(&case.rows, &kind, &case.visits, wanted);
+    drop(case);
+    Ok(found)
 }
 
 #[test]
@@ -181,10 +183,11 @@ fn totals_join_at(rows: &Rows, kind: &Kind, visits: &Visits, at: u32) -> bool
 
 // Whether that is so of these visits of the three jobs to a server.
 fn server_joins(alloc: Global, columns: &Columns, at: u32) -> Result<bool, OutOfMemory> {
-    let rows = three_rows(alloc)?;
-    let visits = visits_of(alloc, columns)?;
+    let case = three_case(alloc, columns)?;
     let kind = Kind::Server(Demand::Column(0));
-    Ok(totals_join_at(&rows, &kind, &visits, at))
+    let found = totals_join_at(&case.rows, &kind, &case.visits, at);
+    drop(case);
+    Ok(found)
 }
 
 #[test]
