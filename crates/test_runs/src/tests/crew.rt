@@ -56,11 +56,10 @@ fn squares_are<R: Threads + Sync>(
 
 #[test]
 fn the_pieces_stand_at_their_places(rt: HostRuntime) -> Result<(), Fail> {
-    let wanted = [0, 1, 4, 9, 16].as_slice();
-    assert!(rt; squares_are(&rt, rt.alloc(), 1, wanted)?);
-    assert!(rt; squares_are(&rt, rt.alloc(), 3, wanted)?);
-    assert!(rt; squares_are(&rt, rt.alloc(), 64, wanted)?);
-    assert!(rt; squares_are(&rt, rt.alloc(), 3, [].as_slice())?);
+    assert!(rt; squares_are(&rt, rt.alloc(), 1, &[0, 1, 4, 9, 16])?);
+    assert!(rt; squares_are(&rt, rt.alloc(), 3, &[0, 1, 4, 9, 16])?);
+    assert!(rt; squares_are(&rt, rt.alloc(), 64, &[0, 1, 4, 9, 16])?);
+    assert!(rt; squares_are(&rt, rt.alloc(), 3, &[])?);
     Ok(())
 }
 
@@ -113,9 +112,9 @@ fn made_are<R: Threads + Sync>(
 
 #[test]
 fn fewer_than_two_enter_no_gate(rt: HostRuntime) -> Result<(), Fail> {
-    assert!(rt; made_are(&rt, rt.alloc(), [].as_slice(), 0)?);
-    assert!(rt; made_are(&rt, rt.alloc(), [0].as_slice(), 0)?);
-    assert!(rt; made_are(&rt, rt.alloc(), [0, 1, 4].as_slice(), 3)?);
+    assert!(rt; made_are(&rt, rt.alloc(), &[], 0)?);
+    assert!(rt; made_are(&rt, rt.alloc(), &[0], 0)?);
+    assert!(rt; made_are(&rt, rt.alloc(), &[0, 1, 4], 3)?);
     Ok(())
 }
 

@@ -57,9 +57,9 @@ fn departs_are<R: Threads + Sync, G: Gate>(
 
 #[test]
 fn every_cut_and_crew_gives_the_recurrence(rt: HostRuntime) -> Result<(), Fail> {
-    let times = [0, 1, 2, 20, 20, 21, 40].as_slice();
-    let demands = [4, 1, 3, 2, 9, 1, 5].as_slice();
-    let wanted = [4, 5, 8, 22, 31, 32, 45].as_slice();
+    let times: &[u64] = &[0, 1, 2, 20, 20, 21, 40];
+    let demands: &[u64] = &[4, 1, 3, 2, 9, 1, 5];
+    let wanted: &[u64] = &[4, 5, 8, 22, 31, 32, 45];
     for workers in [1u32, 2, 3, 64] {
         for block in [1u32, 2, 3, 6, 7, 8] {
             assert!(rt;
@@ -170,9 +170,9 @@ fn none_is_left<R: Threads + Sync>(
 // A worker that is alone finds each carry before.
 #[test]
 fn one_worker_leaves_no_block(rt: HostRuntime) -> Result<(), Fail> {
-    let times = [0, 1, 2].as_slice();
-    let demands = [4, 1, 3].as_slice();
-    let wanted = [4, 5, 8].as_slice();
+    let times: &[u64] = &[0, 1, 2];
+    let demands: &[u64] = &[4, 1, 3];
+    let wanted: &[u64] = &[4, 5, 8];
     assert!(rt; none_is_left(&rt, rt.alloc(), 1, 1, times, demands, wanted, 3)?);
     assert!(rt; none_is_left(&rt, rt.alloc(), 1, 2, times, demands, wanted, 2)?);
     Ok(())
@@ -180,10 +180,10 @@ fn one_worker_leaves_no_block(rt: HostRuntime) -> Result<(), Fail> {
 
 #[test]
 fn fewer_than_two_blocks_enter_no_gate(rt: HostRuntime) -> Result<(), Fail> {
-    let times = [0, 1, 2].as_slice();
-    let demands = [4, 1, 3].as_slice();
-    let wanted = [4, 5, 8].as_slice();
-    let none = [].as_slice();
+    let times: &[u64] = &[0, 1, 2];
+    let demands: &[u64] = &[4, 1, 3];
+    let wanted: &[u64] = &[4, 5, 8];
+    let none: &[u64] = &[];
     assert!(rt; none_is_left(&rt, rt.alloc(), 2, 3, times, demands, wanted, 0)?);
     assert!(rt; none_is_left(&rt, rt.alloc(), 2, 1, none, none, none, 0)?);
     Ok(())
