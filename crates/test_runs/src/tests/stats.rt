@@ -150,7 +150,10 @@ fn stream_of(alloc: Global, job: &[u32], time: &[u64]) -> Result<Stream, OutOfMe
 fn jobs_leave(alloc: Global, times: &[u64], wanted: Exit) -> Result<bool, OutOfMemory> {
     let rows = three_rows(alloc)?;
     let stream = stream_of(alloc, &[0, 1, 2], times)?;
-    Ok(exit_is(&rows, &stream, wanted))
+    let leaves = exit_is(&rows, &stream, wanted);
+    drop(stream);
+    drop(rows);
+    Ok(leaves)
 }
 
 // What goes out by one output: these jobs at these times.
@@ -164,7 +167,10 @@ fn streams_of(alloc: Global, job: &[u32], time: &[u64]) -> Result<List<Stream>, 
 fn last_of(alloc: Global, columns: &Columns, times: &[u64]) -> Result<u64, OutOfMemory> {
     let visits = visits_of(alloc, columns)?;
     let streams = streams_of(alloc, columns.job, times)?;
-    Ok(last_at(&visits, &streams))
+    let last = last_at(&visits, &streams);
+    drop(streams);
+    drop(visits);
+    Ok(last)
 }
 
 #[test]
@@ -289,7 +295,9 @@ fn table_tells(alloc: Global, table: &Lists, wanted: &[u32]) -> Result<bool, Out
         &[Fate::Departs(5), Fate::Departs(3), Fate::Departs(3)],
     )?;
     let ahead = ahead(alloc, &arrive, &fate)?;
-    piece_tells(alloc, &arrive, &ahead, table, wanted)
+    let found = piece_tells(alloc, &arrive, &ahead, table, wanted);
+    drop(ahead);
+    found
 }
 
 // The same of the departures alone, which are given in order too.
@@ -298,7 +306,9 @@ fn departures_tell(alloc: Global, table: &Lists, wanted: &[u32]) -> Result<bool,
     let departs = list(alloc, &[5u64, 3, 3])?;
     let leaving = list(alloc, &[3u64, 3, 5])?;
     let ahead = ahead_of_departures(alloc, &arrive, &departs, leaving)?;
-    piece_tells(alloc, &arrive, &ahead, table, wanted)
+    let found = piece_tells(alloc, &arrive, &ahead, table, wanted);
+    drop(ahead);
+    found
 }
 
 // Whether those from the third on of five visits that leave in order found so many.
