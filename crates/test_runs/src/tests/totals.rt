@@ -7,7 +7,7 @@ ghost use Rattle.mq_core.specs.declared.model.Kind.{Kind as TheKind};
 ghost use Rattle.mq_stats.specs.Numbers.{AreVisits};
 
 use super::stats::{
-    Columns, HELD, LOST, NO_VISITS, SERVED, are_even, are_small, list, three_case, three_rows,
+    Case, Columns, HELD, LOST, NO_VISITS, SERVED, are_even, are_small, list, three_case, three_rows,
 };
 use mq_base::{List, OutOfMemory};
 use mq_core::{Demand, Fate, Fates, Kind, Rows, Visits};
@@ -61,6 +61,7 @@ fn server_has(alloc: Global, columns: &Columns, wanted: &NodeTotals) -> Result<b
     let case = three_case(alloc, columns)?;
     let kind = Kind::Server(Demand::Column(0));
     let found = totals_are(&case.rows, &kind, &case.visits, wanted);
+    drop(kind);
     drop(case);
     Ok(found)
 }
@@ -141,6 +142,7 @@ fn trunks_have(alloc: Global, wanted: &NodeTotals) -> Result<bool, OutOfMemory> 
         demand: Demand::Column(0),
     };
     let found = totals_are(&case.rows, &kind, &case.visits, wanted);
+    drop(kind);
     drop(case);
     Ok(found)
 }
@@ -186,6 +188,7 @@ fn server_joins(alloc: Global, columns: &Columns, at: u32) -> Result<bool, OutOf
     let case = three_case(alloc, columns)?;
     let kind = Kind::Server(Demand::Column(0));
     let found = totals_join_at(&case.rows, &kind, &case.visits, at);
+    drop(kind);
     drop(case);
     Ok(found)
 }
@@ -211,12 +214,23 @@ fn served_by_departures(alloc: Global) -> Result<Visits, OutOfMemory> {
     })
 }
 
+// Whether a server with these visits has these totals, and those of the visits before a position and from it on are
+// these when they are added up.
+fn departures_have(alloc: Global, wanted: &NodeTotals, at: u32) -> Result<bool, OutOfMemory> {
+    let case = Case {
+        rows: three_rows(alloc)?,
+        visits: served_by_departures(alloc)?,
+    };
+    let kind = Kind::Server(Demand::Column(0));
+    let found = totals_are(&case.rows, &kind, &case.visits, wanted)
+        && totals_join_at(&case.rows, &kind, &case.visits, at);
+    drop(kind);
+    drop(case);
+    Ok(found)
+}
+
 #[test]
 fn departures_are_fates(rt: HostRuntime) -> Result<(), Fail> {
-    let rows = three_rows(rt.alloc())?;
-    let visits = served_by_departures(rt.alloc())?;
-    let kind = Kind::Server(Demand::Column(0));
-    assert!(rt; totals_are(&rows, &kind, &visits, &SERVED_TOTALS));
-    assert!(rt; totals_join_at(&rows, &kind, &visits, 2));
+    assert!(rt; departures_have(rt.alloc(), &SERVED_TOTALS, 2)?);
     Ok(())
 }
