@@ -1,4 +1,6 @@
-ghost use Rattle.std.specs.Prelude.{◌≡◌, ◌∷◌, [], IfOk};
+ghost use Rattle.std.specs.Prelude.{◌≡◌, ◌∷◌, [], All, IfOk};
+ghost use Rattle.mq_core.specs.Sequences.{IsSoundLoad};
+ghost use Rattle.mq_forkjoin.specs.Branches.{AreBranches};
 
 use mq_base::{List, OutOfMemory};
 use mq_core::Stream;
@@ -10,9 +12,11 @@ use std::test::Fail;
 fn two_jobs(alloc: Global) -> Result<Stream, OutOfMemory>
     ensures { IfOk result (λ stream. stream.time ≡ 0 ∷ 1 ∷ []) }
 {
+    let job = Vec::from_slice(alloc, &[0, 1])?;
+    let time = Vec::from_slice(alloc, &[0, 1])?;
     Ok(Stream {
-        job: List::from_vec(Vec::from_slice(alloc, &[0, 1])?),
-        time: List::from_vec(Vec::from_slice(alloc, &[0, 1])?),
+        job: List::from_vec(job),
+        time: List::from_vec(time),
     })
 }
 
@@ -44,22 +48,33 @@ fn three_servers(alloc: Global) -> Result<List<List<u64>>, OutOfMemory>
     Ok(demands)
 }
 
+// Whether the two jobs leave servers in such branches, which ask for so much, at these times.
+fn they_leave_at(
+    alloc: Global,
+    demands: &List<List<u64>>,
+    branches: &List<u8>,
+    wanted: [u64; 2],
+) -> Result<bool, OutOfMemory>
+    requires load { All (λ column. IsSoundLoad (0 ∷ 1 ∷ []) column) demands.now }
+    requires branches { AreBranches branches.now demands.now }
+{
+    let stream = two_jobs(alloc)?;
+    let departs = fork_departures(alloc, &stream, demands, branches)?;
+    Ok(departs.as_slice() == wanted.as_slice())
+}
+
 // Whether the two jobs leave the two branches at these times.
 fn they_leave_two_branches_at(alloc: Global, wanted: [u64; 2]) -> Result<bool, OutOfMemory> {
-    let stream = two_jobs(alloc)?;
     let demands = two_branches(alloc)?;
     let branches = List::from_vec(Vec::from_slice(alloc, &[1, 1])?);
-    let departs = fork_departures(alloc, &stream, &demands, &branches)?;
-    Ok(departs.as_slice() == wanted.as_slice())
+    they_leave_at(alloc, &demands, &branches, wanted)
 }
 
 // The same of the three servers.
 fn they_leave_three_servers_at(alloc: Global, wanted: [u64; 2]) -> Result<bool, OutOfMemory> {
-    let stream = two_jobs(alloc)?;
     let demands = three_servers(alloc)?;
     let branches = List::from_vec(Vec::from_slice(alloc, &[2, 1])?);
-    let departs = fork_departures(alloc, &stream, &demands, &branches)?;
-    Ok(departs.as_slice() == wanted.as_slice())
+    they_leave_at(alloc, &demands, &branches, wanted)
 }
 
 #[test]

@@ -5,10 +5,11 @@ use mq_stations::{PastFault, first_late, first_late_in_turn, first_late_overtake
 use std::alloc::Global;
 use std::test::Fail;
 
+const FATES: [Fate; 3] = [Fate::Departs(4), Fate::Departs(8), Fate::Departs(9)];
+
 // Whether this is the first visit to node 1 after the bound, of those that depart at 4, 8 and 9.
 fn is_late(alloc: Global, bound: u64, wanted: Option<PastFault>) -> Result<bool, OutOfMemory> {
-    let fates = [Fate::Departs(4), Fate::Departs(8), Fate::Departs(9)];
-    let fates = List::from_vec(Vec::from_slice(alloc, &fates)?);
+    let fates = List::from_vec(Vec::from_slice(alloc, &FATES)?);
     Ok(first_late(bound, 1, &fates) == wanted)
 }
 
