@@ -1,9 +1,10 @@
 //! What leaves a station, given its arrivals, by its kind: whole, or by blocks of jobs.
 #![tactic(auto)]
 
-ghost use Rattle.std.specs.Prelude.{◌≡◌, ◌≤◌, IfOk, true};
+ghost use Rattle.std.specs.Prelude.{◌≡◌, ◌≤◌, ℕ, List as Items, IfOk, Ok, true};
 ghost use Rattle.mq_core.specs.SequenceLaws.{sends_once};
 ghost use Rattle.mq_stations.specs.Leaving.{IsLeft, IsLoad};
+ghost use Rattle.mq_stations.specs.declared.outflow.Outflow.{Outflow as TheOutflow};
 
 mod blocks;
 mod delay;
@@ -23,7 +24,7 @@ use forkjoin::forkjoin_whole;
 pub use forkjoin::{ForkJoinScan, forkjoin_scan};
 pub use late::{OverFault, PastFault, first_late, first_late_in_turn, first_late_overtaken};
 use loss::loss_outflow;
-use mq_base::OutOfMemory;
+use mq_base::{List, OutOfMemory};
 use mq_core::{Kind, Rows, Stream};
 pub use outflow::{Left, Outflow, demands_of, fates_of, only};
 use server::server_whole;
@@ -57,35 +58,32 @@ pub fn leaving(
     ensures { IfOk result (λ left. IsLeft rows.now kind.now arrivals.now left) }
 {
     match kind {
-        Kind::Source => Ok(Left::Departures(source_departures(alloc, arrivals)?)),
-        Kind::Server(demand) => {
-            let departs = server_whole(alloc, rows, demand, arrivals)?;
-            Ok(Left::Departures(departs))
-        }
-        Kind::Tandem(stages) => {
-            let departs = tandem_whole(alloc, rows, stages, arrivals)?;
-            Ok(Left::Departures(departs))
-        }
-        Kind::ForkJoin(branches) => {
-            let departs = forkjoin_whole(alloc, rows, branches, arrivals)?;
-            Ok(Left::Departures(departs))
-        }
-        Kind::Delay(demand) => {
-            let departs = delay_whole(alloc, rows, demand, arrivals)?;
-            Ok(Left::Departures(departs))
-        }
+        Kind::Source => departures(source_departures(alloc, arrivals)),
+        Kind::Server(demand) => departures(server_whole(alloc, rows, demand, arrivals)),
+        Kind::Tandem(stages) => departures(tandem_whole(alloc, rows, stages, arrivals)),
+        Kind::ForkJoin(branches) => departures(forkjoin_whole(alloc, rows, branches, arrivals)),
+        Kind::Delay(demand) => departures(delay_whole(alloc, rows, demand, arrivals)),
         Kind::Loss { places, demand } => {
-            let outflow = loss_outflow(alloc, rows, *places, demand, arrivals, block)?;
-            Ok(Left::Streams(outflow))
+            streams(loss_outflow(alloc, rows, *places, demand, arrivals, block))
         }
-        Kind::Split(route) => {
-            let outflow = split_outflow(alloc, rows, route, arrivals)?;
-            Ok(Left::Streams(outflow))
-        }
+        Kind::Split(route) => streams(split_outflow(alloc, rows, route, arrivals)),
         Kind::Fork { .. } | Kind::Join => unreachable!(),
         Kind::Trunk { servers, demand } => {
-            let outflow = trunk_outflow(alloc, rows, *servers, demand, arrivals, block)?;
-            Ok(Left::Streams(outflow))
+            streams(trunk_outflow(alloc, rows, *servers, demand, arrivals, block))
         }
     }
+}
+
+// What leaves, where it is these departures.
+fn departures(departs: Result<List<u64>, OutOfMemory>) -> Result<Left, OutOfMemory>
+    ensures { IfOk result (λ left. (times : Items ℕ) × (departs ≡ Ok times) × (left ≡ Left.Departures times)) }
+{
+    Ok(Left::Departures(departs?))
+}
+
+// What leaves, where it is by several outputs.
+fn streams(outflow: Result<Outflow, OutOfMemory>) -> Result<Left, OutOfMemory>
+    ensures { IfOk result (λ left. (out : TheOutflow) × (outflow ≡ Ok out) × (left ≡ Left.Streams out)) }
+{
+    Ok(Left::Streams(outflow?))
 }

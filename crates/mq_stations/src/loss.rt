@@ -1,13 +1,14 @@
 // A loss station: which arrivals find a place, and where each goes.
 ghost use Rattle.std.specs.Prelude.{◌≡◌, ◌<◌, ◌≤◌, length, map, IfOk};
+ghost use Rattle.mq_core.specs.Handling.{demand_of_job};
 ghost use Rattle.mq_core.specs.Sequences.{IsSoundLoad};
 ghost use Rattle.mq_core.specs.Streams.{picked};
 ghost use Rattle.mq_core.specs.declared.model.Kind.TheVariants.{Loss};
 ghost use Rattle.mq_stations.specs.Losses.{AreAdmittedAndLost, out_of_admission};
-ghost use Rattle.mq_stations.specs.Leaving.{IsLeaving, IsLoad};
+ghost use Rattle.mq_stations.specs.Leaving.{AreAsked, IsLeaving, IsLoad};
 ghost use Rattle.mq_loss.specs.Rounds.{IsSettled};
 
-use crate::outflow::{Outflow, demands_of, fates_by_admission};
+use crate::outflow::{Outflow, both, demands_of, fates_by_admission};
 use mq_base::{List, OutOfMemory, Steps};
 use mq_core::{Demand, Rows, Stream, fates_are_in_time};
 use mq_loss::{Settled, settle};
@@ -30,10 +31,7 @@ pub fn loss_outflow(
     ensures { IfOk result (λ leaving. IsLeaving rows.now (Loss places demand.now) arrivals.now leaving.fates leaving.streams) }
 {
     fates_are_in_time();
-    let demands = demands_of(alloc, rows, demand, &arrivals.job)?;
-    let settled = settled::<Brand>(alloc, arrivals, &demands, places, window, Blank::new(1))?;
-    // What comes takes the room that they had.
-    drop(demands);
+    let settled = settled::<Brand>(alloc, rows, places, demand, arrivals, window, Blank::new(1))?;
     let departs = settled.departs;
     let fates = fates_by_admission(alloc, &settled.admitted, &departs)?;
     let streams = streams_of(alloc, arrivals, &settled.admitted, departs)?;
@@ -41,24 +39,28 @@ pub fn loss_outflow(
 }
 
 // Which arrivals find a place, and when those depart, settled with a counter of their own.
+// What comes takes the room that the demands had.
 fn settled<L: Ledger>(
     alloc: Global,
-    arrivals: &Stream,
-    demands: &List<u64>,
+    rows: &Rows,
     places: u32,
+    demand: &Demand,
+    arrivals: &Stream,
     window: u32,
     blank: Blank,
 ) -> Result<Settled, OutOfMemory>
-    requires load { IsSoundLoad arrivals.now.time demands.now }
+    requires asked { AreAsked rows.now demand.now arrivals.now.job }
+    requires load { IsSoundLoad arrivals.now.time (map (demand_of_job rows.now demand.now) arrivals.now.job) }
     requires places { 1 ≤ places }
     requires window { 1 ≤ window }
     requires name { blank.name ≡ L.name }
     requires parts { blank.parts ≡ L.parts }
     requires some { 0 < blank.parts }
-    ensures { IfOk result (λ settled. IsSettled places arrivals.now.time demands.now settled) }
+    ensures { IfOk result (λ settled. IsSettled places arrivals.now.time (map (demand_of_job rows.now demand.now) arrivals.now.job) settled) }
 {
+    let demands = demands_of(alloc, rows, demand, &arrivals.job)?;
     let mut steps = Steps::<L>::new(blank);
-    settle(alloc, arrivals, demands, places, window, &mut steps)
+    settle(alloc, arrivals, &demands, places, window, &mut steps)
 }
 
 // The streams that leave: the jobs that are admitted, at their departures, and the others, which
@@ -88,14 +90,14 @@ fn streams_of(
             time.push_reserved(*arrivals.time.get(at));
         }
     }
-    let mut streams = List::new(alloc);
-    streams.push(Stream {
+    let first = Stream {
         job: List::from_vec(served),
         time: departs,
-    })?;
-    streams.push(Stream {
+    };
+    let second = Stream {
         job: List::from_vec(job),
         time: List::from_vec(time),
-    })?;
+    };
+    let streams = both(alloc, first, second)?;
     Ok(streams)
 }

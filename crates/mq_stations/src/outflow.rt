@@ -121,3 +121,12 @@ pub fn only(alloc: Global, stream: Stream) -> Result<List<Stream>, OutOfMemory>
     streams.push(stream)?;
     Ok(streams)
 }
+
+/// These two streams. It refuses for want of memory alone.
+pub fn both(alloc: Global, first: Stream, second: Stream) -> Result<List<Stream>, OutOfMemory>
+    ensures { IfOk result (λ streams. streams ≡ first ∷ second ∷ []) }
+{
+    let mut streams = only(alloc, first)?;
+    streams.push(second)?;
+    Ok(streams)
+}

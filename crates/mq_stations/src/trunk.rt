@@ -1,12 +1,14 @@
 // A trunk group: which arrivals find a server, and where each goes.
-ghost use Rattle.std.specs.Prelude.{◌≡◌, ◌∷◌, ◌<◌, ◌≤◌, [], IfOk};
+ghost use Rattle.std.specs.Prelude.{◌≡◌, ◌∷◌, ◌<◌, ◌≤◌, [], map, IfOk};
+ghost use Rattle.mq_core.specs.Handling.{demand_of_job};
 ghost use Rattle.mq_core.specs.Sequences.{IsSoundLoad, IsStream};
 ghost use Rattle.mq_core.specs.declared.model.Kind.TheVariants.{Trunk as TheTrunk};
-ghost use Rattle.mq_stations.specs.Leaving.{IsLeaving, IsLoad};
+ghost use Rattle.mq_stations.specs.Leaving.{AreAsked, IsLeaving, IsLoad};
+ghost use Rattle.mq_rounds.specs.Rounds.{fates_by};
 ghost use Rattle.mq_trunk.specs.Parts.{IsSettled};
 
-use crate::outflow::{Outflow, demands_of, fates_by_admission, only};
-use mq_base::{List, OutOfMemory, Steps};
+use crate::outflow::{Outflow, both, demands_of, fates_by_admission};
+use mq_base::{OutOfMemory, Steps};
 use mq_core::{Demand, Rows, Stream};
 use mq_trunk::{Trunk, settle_trunk};
 use std::alloc::Global;
@@ -27,41 +29,50 @@ pub fn trunk_outflow(
     requires some { 1 ≤ window }
     ensures { IfOk result (λ leaving. IsLeaving rows.now (TheTrunk servers demand.now) arrivals.now leaving.fates leaving.streams) }
 {
-    let demands = demands_of(alloc, rows, demand, &arrivals.job)?;
-    let settled = settled::<Brand>(alloc, arrivals, &demands, servers, window, Blank::new(1))?;
-    // What comes takes the room that they had.
-    drop(demands);
-    let fates = fates_by_admission(alloc, &settled.admitted, &settled.departs)?;
-    let streams = both(alloc, settled.leaving, settled.lost)?;
-    Ok(Outflow { fates, streams })
+    let settled = settled::<Brand>(
+        alloc,
+        rows,
+        servers,
+        demand,
+        arrivals,
+        window,
+        Blank::new(1),
+    )?;
+    let outflow = outflow_of(alloc, settled)?;
+    Ok(outflow)
 }
 
 // Which arrivals find a server, and what leaves by each output, settled with a counter of their own.
+// What comes takes the room that the demands had.
 fn settled<L: Ledger>(
     alloc: Global,
-    arrivals: &Stream,
-    demands: &List<u64>,
+    rows: &Rows,
     servers: u8,
+    demand: &Demand,
+    arrivals: &Stream,
     window: u32,
     blank: Blank,
 ) -> Result<Trunk, OutOfMemory>
-    requires load { IsSoundLoad arrivals.now.time demands.now }
+    requires asked { AreAsked rows.now demand.now arrivals.now.job }
+    requires load { IsSoundLoad arrivals.now.time (map (demand_of_job rows.now demand.now) arrivals.now.job) }
     requires stream { IsStream arrivals.now }
     requires window { 1 ≤ window }
     requires name { blank.name ≡ L.name }
     requires parts { blank.parts ≡ L.parts }
     requires some { 0 < blank.parts }
-    ensures { IfOk result (λ settled. IsSettled servers arrivals.now demands.now settled) }
+    ensures { IfOk result (λ settled. IsSettled servers arrivals.now (map (demand_of_job rows.now demand.now) arrivals.now.job) settled) }
 {
+    let demands = demands_of(alloc, rows, demand, &arrivals.job)?;
     let mut steps = Steps::<L>::new(blank);
-    settle_trunk(alloc, arrivals, demands, servers, window, &mut steps)
+    settle_trunk(alloc, arrivals, &demands, servers, window, &mut steps)
 }
 
-// These two streams.
-fn both(alloc: Global, first: Stream, second: Stream) -> Result<List<Stream>, OutOfMemory>
-    ensures { IfOk result (λ streams. streams ≡ first ∷ second ∷ []) }
+// The fates of the arrivals, and what leaves by each output.
+fn outflow_of(alloc: Global, settled: Trunk) -> Result<Outflow, OutOfMemory>
+    ensures fates { IfOk result (λ outflow. outflow.fates ≡ fates_by settled.admitted settled.departs) }
+    ensures streams { IfOk result (λ outflow. outflow.streams ≡ settled.leaving ∷ settled.lost ∷ []) }
 {
-    let mut streams = only(alloc, first)?;
-    streams.push(second)?;
-    Ok(streams)
+    let fates = fates_by_admission(alloc, &settled.admitted, &settled.departs)?;
+    let streams = both(alloc, settled.leaving, settled.lost)?;
+    Ok(Outflow { fates, streams })
 }

@@ -1,11 +1,12 @@
 -- What leaves a station, by its kind.
 use Rattle.std.proofs.Common.{◌≡◌, ℕ, zero, suc, ◌^◌, ◌<◌, ◌≤◌, ◌⊎◌, inl, inr, All, false, true, List, [], ◌∷◌, length, map, Some, sym, refl, ap, ◌∙◌, subst, arith}
-use Rattle.std.specs.Prelude.{nat_le, nat_lt, slice_get}
+use Rattle.std.specs.Prelude.{nat_le, nat_lt, slice_get, IfOk, Result, Ok, Err}
 use Rattle.std.specs.List.{AllByRecursion as Each, list_all}
 use Rattle.std.proofs.lemmas.Bool.{and_parts}
 use Rattle.std.proofs.lemmas.Bool.Decides.{nat_tests}
 use Rattle.std.proofs.lemmas.List.{length-map}
 use Rattle.mq_base.proofs.lemmas.Lists.{some_inj}
+use Rattle.mq_base.specs.declared.list.OutOfMemory.{OutOfMemory}
 use Rattle.mq_core.specs.Came.{came_in}
 use Rattle.mq_core.specs.Fates.{keeps_visits}
 use Rattle.mq_core.specs.SequenceLaws.{SequencesGoByFates, FatesAreInTime, sends_once}
@@ -29,7 +30,10 @@ use Rattle.mq_core.specs.declared.model.Route.TheVariants.{Cut, Modulo, Turn}
 use Rattle.mq_core.specs.declared.model.Rows.{Rows}
 use Rattle.mq_core.specs.declared.model.Stream.{Stream}
 use Rattle.mq_split.specs.Outs.{AreParts, HasOutputs, outs_from}
-use Rattle.mq_stations.specs.Leaving.{AreDepartures, AreServed, AreAsked, AreLeft, IsLeaving, IsLoad, left_by}
+use Rattle.mq_stations.specs.Leaving.{AreDepartures, AreServed, AreAsked, AreLeft, IsLeaving, IsLeft, IsLoad, left_by}
+use Rattle.mq_stations.specs.declared.outflow.Left.{Left}
+use Rattle.mq_stations.specs.declared.outflow.Left.TheVariants.{Departures, Streams}
+use Rattle.mq_stations.specs.declared.outflow.Outflow.{Outflow}
 use Rattle.mq_stations.proofs.lemmas.Lists.{Each-get_or}
 
 -- a departure of each time is at that time
@@ -193,3 +197,15 @@ source-served rows arrivals departs d = (record { once = refl; one = refl; outs 
 -- from a delay all depart too
 pub delay-departs : (rows : Rows) (demand : Demand) (arrivals : Stream) (demands departs : List ℕ) → demands ≡ map (demand_of_job rows demand) arrivals.job → departs ≡ delayed arrivals.time demands → AreDepartures rows (Delay demand) arrivals departs
 delay-departs rows demand arrivals demands departs m d = record { once = refl; one = refl; outs = refl; fates = ap (map (λ time. Departs time)) (sym (d ∙ ap (delayed arrivals.time) m)) }
+
+-- what leaves, where it is departures that were worked out
+pub departs-by : (rows : Rows) (kind : Kind) (arrivals : Stream) (Holds : List ℕ → Type 0) (given : Result (List ℕ) OutOfMemory) (result : Result Left OutOfMemory) → IfOk given Holds → ((departs : List ℕ) → Holds departs → AreDepartures rows kind arrivals departs) →
+    IfOk result (λ left. (times : List ℕ) × (given ≡ Ok times) × (left ≡ Departures times)) → IfOk result (λ left. IsLeft rows kind arrivals left)
+departs-by rows kind arrivals Holds given (Err e) ok are is = tt
+departs-by rows kind arrivals Holds given (Ok left) ok are (times, g, l) = rw l (are times (rw g at ok))
+
+-- the same, where it is by several outputs
+pub streams-by : (rows : Rows) (kind : Kind) (arrivals : Stream) (given : Result Outflow OutOfMemory) (result : Result Left OutOfMemory) → IfOk given (λ out. IsLeaving rows kind arrivals out.fates out.streams) →
+    IfOk result (λ left. (out : Outflow) × (given ≡ Ok out) × (left ≡ Streams out)) → IfOk result (λ left. IsLeft rows kind arrivals left)
+streams-by rows kind arrivals given (Err e) ok is = tt
+streams-by rows kind arrivals given (Ok left) ok (out, g, l) = rw l (rw g at ok)

@@ -96,6 +96,4 @@ returns c =
     let served = c.from_vec.ensures ∙ left-end true _ _ admitted c.args.arrivals.now.job c.loop-at.at ended i.admitted in
     let jobs = c.from_vec-2.ensures ∙ left-end false _ _ admitted c.args.arrivals.now.job c.loop-at.at ended i.jobs in
     let times = c.from_vec-3.ensures ∙ left-end false _ _ admitted c.args.arrivals.now.time c.loop-at.at ended i.times in
-    c.in_ok-push-2.ensures.ok
-    ∙ ((λ k. c.in_ok-push.ensures.ok k ++ record { job = jobs k; time = times k } ∷ [])
-    ∙ (λ k. c.new-streams.ensures k ++ record { job = served k; time = c.args.departs } ∷ [] ++ record { job = picked 1 (map out_of_admission admitted) c.args.arrivals.now.job; time = picked 1 (map out_of_admission admitted) c.args.arrivals.now.time } ∷ []))
+    c.in_ok-streams.ensures ∙ (λ k. record { job = served k; time = c.args.departs } ∷ record { job = jobs k; time = times k } ∷ [])
