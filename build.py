@@ -9,8 +9,11 @@ has each crate read all proofs below it, so this gives the toolchain's own comma
 the program goes first. Several jobs for one crate take a quarter to three quarters more processor time for the same proofs, and a small
 one no less time, so a crate has more than one only where it is proved alone.
 """
+import fcntl
+import functools
 import hashlib
 import os
+import signal
 import subprocess
 import sys
 import time
@@ -30,6 +33,7 @@ def tell(text):
     print(f"mpsim: {text}", file=sys.stderr, flush=True)
 
 
+@functools.lru_cache(maxsize=None)
 def said(*words):
     """What a command of the toolchain tells."""
     return subprocess.run([RT, *words], stdin=subprocess.DEVNULL, stdout=subprocess.PIPE, text=True, check=True).stdout.strip()
@@ -117,7 +121,9 @@ def made_by(name, uses, kit, jobs):
 
 
 def begin(name, uses, kit, jobs, nice):
-    """Begins to prove a crate, by so many jobs, which give way to those that are less nice."""
+    """Begins to prove a crate, by so many jobs, which give way to those that are less nice. What it was proved from before is forgotten."""
+    if os.path.exists(f"{PROVED}/{name}.stamp"):
+        os.remove(f"{PROVED}/{name}.stamp")
     with open(f"{PROVED}/{name}.log", "w") as log:
         words = ["nice", "-n", str(nice), *made_by(name, uses, kit, jobs)]
         return subprocess.Popen(words, cwd=f"{ROOT}/crates/{name}", stdin=subprocess.DEVNULL, stdout=log, stderr=log)
@@ -130,48 +136,64 @@ def prove_all(uses, kit):
     done = {it for it in names if text_of(f"{PROVED}/{it}.stamp") == made[it]}
     left, running = sorted([it for it in names if it not in done], key=lambda it: -chain[it]), {}
     failed = False
-    while running or (left and not failed):
-        ready = [] if failed else [it for it in left if done >= below(it, uses)]
-        for name in ready:
-            if len(running) == most:
-                break
-            # What is further from the program goes first.
-            others = [it for it in [*left, *running] if chain[it] > chain[name]]
-            jobs = 1 if running or len(ready) > 1 else most
-            running[name] = begin(name, uses, kit, jobs, min(len(others), 10))
-            left.remove(name)
-        time.sleep(0.2)
-        for name in [it for it, check in running.items() if check.poll() is not None]:
-            if running.pop(name).returncode:
-                tell(f"{text_of(f'{PROVED}/{name}.log')}{name} is not proved")
-                failed = True
-                continue
-            with open(f"{PROVED}/{name}.stamp", "w") as out:
-                out.write(made[name])
-            done.add(name)
-            tell(f"{name} is proved ({len(done)} of {len(names)})")
+    try:
+        while running or (left and not failed):
+            ready = [] if failed else [it for it in left if done >= below(it, uses)]
+            for name in ready:
+                if len(running) == most:
+                    break
+                # What is further from the program goes first.
+                others = [it for it in [*left, *running] if chain[it] > chain[name]]
+                jobs = 1 if running or len(ready) > 1 else most
+                running[name] = begin(name, uses, kit, jobs, min(len(others), 10))
+                left.remove(name)
+            time.sleep(0.2)
+            for name in [it for it, check in running.items() if check.poll() is not None]:
+                if running.pop(name).returncode:
+                    tell(f"{text_of(f'{PROVED}/{name}.log')}{name} is not proved")
+                    failed = True
+                    continue
+                if stamps(names, uses)[name] != made[name]:
+                    tell(f"{name} has changed meanwhile")
+                    failed = True
+                    continue
+                with open(f"{PROVED}/{name}.stamp", "w") as out:
+                    out.write(made[name])
+                done.add(name)
+                tell(f"{name} is proved ({len(done)} of {len(names)})")
+    finally:
+        for check in running.values():
+            check.terminate()
+            check.wait()
     return not failed
 
 
 def link(kit):
-    """Links the program. Answers whether it could, and the program then gave the stored report on the stored example."""
-    words = ["--target", "x86_64-unknown-linux-gnu", "--toolchain", f"{kit}/toolchain", "-o", f"{FOLDER}/out/{PROGRAM}", f"{PROVED}/{PROGRAM}.o"]
+    """Links the program. Answers whether it could, and the program gives the stored report on the stored example."""
+    program = f"{PROVED}/{PROGRAM}"
+    words = ["--target", "x86_64-unknown-linux-gnu", "--toolchain", f"{kit}/toolchain", "-o", program, f"{program}.o"]
     words += [f"{kit}/c/libos_c.a", f"{kit}/c/liblibc_c.a"]
     if subprocess.run([f"{kit}/bin/rattle-link", *words], stdin=subprocess.DEVNULL, stdout=sys.stderr).returncode:
         return False
-    words = [f"{FOLDER}/out/{PROGRAM}", *text_of(f"{FOLDER}/args").split()]
+    words = [program, *text_of(f"{FOLDER}/args").split()]
     ran = subprocess.run(words, cwd=f"{FOLDER}/data", stdin=subprocess.DEVNULL, stdout=subprocess.PIPE)
     return ran.returncode == 0 and ran.stdout == text_of(f"{FOLDER}/stdout").encode()
 
 
 def main():
+    # A build that is stopped ends its checks too.
+    signal.signal(signal.SIGTERM, lambda *_: sys.exit(1))
     os.makedirs(PROVED, exist_ok=True)
-    kit = os.path.dirname(said("doc"))
-    if not prove_all(listed(), kit):
-        return 1
-    if not link(kit):
-        tell("the build failed")
-        return 1
+    with open(f"{PROVED}/lock", "w") as lock:
+        # One build at a time: a second one waits, and then finds what this one proved.
+        fcntl.flock(lock, fcntl.LOCK_EX)
+        kit = os.path.dirname(said("doc"))
+        if not prove_all(listed(), kit):
+            return 1
+        if not link(kit):
+            tell("the build failed")
+            return 1
+        os.replace(f"{PROVED}/{PROGRAM}", f"{FOLDER}/out/{PROGRAM}")
     return 0
 
 

@@ -10,13 +10,13 @@ ghost use Rattle.mq_exits.specs.Loads.{IsLoaded};
 ghost use Rattle.mq_exits.specs.Results.{IsWorkedOut};
 
 use crate::copies::{copies, copy_of, taken};
-use crate::founds::{after_delay, delay_piece, on_time};
+use crate::founds::{after_delay, delay_piece};
 use crate::laws::node_laws;
 use crate::load::{Held, Load};
 use crate::overtaking::Overtaken;
 use crate::splitting::{passed, passed_of};
 use crate::taking::{departures_in, founds_in, jobs_in, last_of, left_in};
-use crate::working::{After, NodeResult, ending_of, found_by_position, nobody};
+use crate::working::{After, NodeResult, ending_of, found_by_position, nobody, on_time};
 use mq_base::{List, OutOfMemory};
 use mq_core::{Kind, Stream, fates_are_in_time, sequences_go_by_fates};
 use mq_crew::Pieces;

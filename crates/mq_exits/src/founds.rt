@@ -1,19 +1,16 @@
 // The last pieces of a delay: block by block how many each visit found.
-ghost use Rattle.std.specs.Prelude.{◌≡◌, ◌<◌, [], ◌∷◌, map, IfOk};
-ghost use Rattle.mq_core.specs.declared.model.Fate.TheVariants.{Departs};
+ghost use Rattle.std.specs.Prelude.{◌≡◌, ◌<◌, IfOk};
 ghost use Rattle.mq_crew.specs.Crew.{AreAll};
 ghost use Rattle.mq_exits.specs.Afters.{IsAfterAt};
 ghost use Rattle.mq_exits.specs.Exits.{IsCounted, IsDelayPiece, IsFound, IsOvertaken, founds_by};
 ghost use Rattle.mq_exits.specs.declared.exits.Closed.TheVariants.{Found};
-ghost use Rattle.mq_exits.specs.declared.working.After.TheVariants.{Seen};
 
 use crate::exits::Closed;
 use crate::load::Load;
 use crate::overtaking::Overtaken;
-use crate::working::After;
+use crate::working::{After, on_time};
 use mq_base::{List, OutOfMemory};
-use mq_core::{Fates, Stream};
-use mq_stations::only;
+use mq_core::Stream;
 use mq_stats::found_piece;
 use std::alloc::Global;
 
@@ -65,20 +62,6 @@ fn leaving_of(overtaken: Overtaken) -> (List<u64>, Stream)
         time: ahead.leaving,
     };
     (departs, leaving)
-}
-
-/// What becomes of arrivals that depart at these times, by position, and leave so by one output: none departs after the
-/// bound.
-pub fn on_time(
-    alloc: Global,
-    departs: List<u64>,
-    found: List<u32>,
-    leaving: Stream,
-) -> Result<After, OutOfMemory>
-    ensures { IfOk result (λ after. after ≡ Seen (map (λ time. Departs time) departs) found (leaving ∷ [])) }
-{
-    let streams = only(alloc, leaving)?;
-    Ok(After::Seen(Fates::departures(departs), found, streams))
 }
 
 // How many all visits found, block behind block.

@@ -1,5 +1,5 @@
 // How a node is worked out, from its arrivals to its visits and what leaves it.
-ghost use Rattle.std.specs.Prelude.{◌≡◌, ◌≤◌, ℕ, length, map, true, IfOk};
+ghost use Rattle.std.specs.Prelude.{◌≡◌, ◌≤◌, ◌∷◌, [], ℕ, length, map, true, IfOk};
 ghost use Rattle.mq_core.specs.SequenceLaws.{sends_once};
 ghost use Rattle.mq_core.specs.Sequences.{IsStream};
 ghost use Rattle.mq_core.specs.OnceOut.{founds_of};
@@ -11,6 +11,7 @@ ghost use Rattle.mq_core.specs.declared.model.Rows.{Rows as TheRows};
 ghost use Rattle.mq_exits.specs.Afters.{IsAfter, IsWorked, IsWorkedAt};
 ghost use Rattle.mq_exits.specs.Loads.{IsLoaded};
 ghost use Rattle.mq_exits.specs.Results.{IsEnding};
+ghost use Rattle.mq_exits.specs.declared.working.After.TheVariants.{Seen};
 ghost use Rattle.mq_stations.specs.Leaving.{IsLeaving, IsLoad};
 
 use crate::load::Load;
@@ -18,7 +19,7 @@ use mq_base::{List, OutOfMemory};
 use mq_core::{
     Fates, Kind, Network, Rows, Stream, Visits, fates_are_in_time, sequences_go_by_fates,
 };
-use mq_stations::{Left, Outflow, OverFault, PastFault, first_late, leaving};
+use mq_stations::{Left, Outflow, OverFault, PastFault, first_late, leaving, only};
 use mq_stats::{found, found_piece_in_order};
 use std::alloc::Global;
 
@@ -197,4 +198,17 @@ pub fn nobody(alloc: Global, arrive: &List<u64>) -> Result<List<u32>, OutOfMemor
         found.push_reserved(0);
     }
     Ok(List::from_vec(found))
+}
+
+/// What is seen of arrivals that depart at these times, by position, found so many, and leave so by one output.
+pub fn on_time(
+    alloc: Global,
+    departs: List<u64>,
+    found: List<u32>,
+    leaving: Stream,
+) -> Result<After, OutOfMemory>
+    ensures { IfOk result (λ after. after ≡ Seen (map (λ time. Departs time) departs) found (leaving ∷ [])) }
+{
+    let streams = only(alloc, leaving)?;
+    Ok(After::Seen(Fates::departures(departs), found, streams))
 }

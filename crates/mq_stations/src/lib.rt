@@ -74,14 +74,14 @@ pub fn leaving(
     }
 }
 
-// What leaves, where it is these departures.
+// What leaves, where it is these departures, or want of memory.
 fn departures(departs: Result<List<u64>, OutOfMemory>) -> Result<Left, OutOfMemory>
     ensures { IfOk result (λ left. (times : Items ℕ) × (departs ≡ Ok times) × (left ≡ Left.Departures times)) }
 {
     Ok(Left::Departures(departs?))
 }
 
-// What leaves, where it is by several outputs.
+// What leaves, where it is by several outputs, or want of memory.
 fn streams(outflow: Result<Outflow, OutOfMemory>) -> Result<Left, OutOfMemory>
     ensures { IfOk result (λ left. (out : TheOutflow) × (outflow ≡ Ok out) × (left ≡ Left.Streams out)) }
 {

@@ -39,7 +39,7 @@ pub fn loss_outflow(
 }
 
 // Which arrivals find a place, and when those depart, settled with a counter of their own.
-// What comes takes the room that the demands had.
+// The demands are let go here, so that what comes next takes their room.
 fn settled<L: Ledger>(
     alloc: Global,
     rows: &Rows,

@@ -43,7 +43,7 @@ pub fn trunk_outflow(
 }
 
 // Which arrivals find a server, and what leaves by each output, settled with a counter of their own.
-// What comes takes the room that the demands had.
+// The demands are let go here, so that what comes next takes their room.
 fn settled<L: Ledger>(
     alloc: Global,
     rows: &Rows,

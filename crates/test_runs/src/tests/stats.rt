@@ -46,7 +46,7 @@ pub struct Columns<'a> {
     pub fate: &'a [Fate],
 }
 
-pub fn visits_of(alloc: Global, columns: &Columns) -> Result<Visits, OutOfMemory> {
+fn visits_of(alloc: Global, columns: &Columns) -> Result<Visits, OutOfMemory> {
     Ok(Visits {
         job: list(alloc, columns.job)?,
         arrive: list(alloc, columns.arrive)?,
@@ -55,7 +55,7 @@ pub fn visits_of(alloc: Global, columns: &Columns) -> Result<Visits, OutOfMemory
     })
 }
 
-// Jobs, and visits of theirs.
+// Jobs, and visits of theirs. Who owns them drops them before it answers: by a call that is quicker to prove than the end of a scope.
 #[derive(Drop)]
 pub struct Case {
     pub rows: Rows,
