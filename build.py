@@ -173,7 +173,9 @@ def link(kit):
     program = f"{PROVED}/{PROGRAM}"
     words = ["--target", "x86_64-unknown-linux-gnu", "--toolchain", f"{kit}/toolchain", "-o", program, f"{program}.o"]
     words += [f"{kit}/c/libos_c.a", f"{kit}/c/liblibc_c.a"]
-    if subprocess.run([f"{kit}/bin/rattle-link", *words], stdin=subprocess.DEVNULL, stdout=sys.stderr).returncode:
+    ran = subprocess.run([f"{kit}/bin/rattle-link", *words], stdin=subprocess.DEVNULL, stdout=subprocess.PIPE, stderr=subprocess.STDOUT)
+    if ran.returncode:
+        sys.stderr.buffer.write(ran.stdout)
         return False
     words = [program, *text_of(f"{FOLDER}/args").split()]
     ran = subprocess.run(words, cwd=f"{FOLDER}/data", stdin=subprocess.DEVNULL, stdout=subprocess.PIPE)
