@@ -123,6 +123,36 @@ fn matches_of<'a>(alloc: Global, words: &'a [&'a str]) -> Result<ArgMatches<'a>,
     command.try_get_matches_from(words)
 }
 
+// What the words ask for that clap found this in, or their first fault.
+fn settings_in<'a>(matches: &ArgMatches<'a>) -> Result<Settings<'a>, UsageFault>
+    ensures asked { IfOk result (λ settings. (words : List (List ℕ)) → refuses_words_of words ≡ false → Finds words (found_of matches.now) → Asks words settings) }
+    ensures refused { IfErr result (λ fault. (words : List (List ℕ)) → refuses_words_of words ≡ false → Finds words (found_of matches.now) → usage_fault words ≡ Some fault) }
+{
+    let Some(form) = form_of(matches) else {
+        return Err(UsageFault::Form);
+    };
+    let Some(workers) = number_of(matches.get_str("workers"), 4, 1, 64) else {
+        return Err(UsageFault::Workers);
+    };
+    let Some(block) = number_of(matches.get_str("block"), 4_096, 1, 65_536) else {
+        return Err(UsageFault::Block);
+    };
+    let Some(input) = input_of(form) else {
+        return Err(UsageFault::Made);
+    };
+    let Some(report) = number_of(matches.get_str("report"), 2, 1, 2) else {
+        return Err(UsageFault::Report);
+    };
+    let jobs = matches.get_flag("jobs");
+    Ok(Settings {
+        input,
+        workers,
+        block,
+        form: report,
+        jobs,
+    })
+}
+
 /// What the words ask for, or the first fault of the words, or want of memory.
 pub fn settings_of<'a>(alloc: Global, words: &'a [&'a str]) -> Result<Settings<'a>, WordsFault>
     ensures asked { IfOk result (λ settings. Asks (texts words.now) settings) }
@@ -134,27 +164,10 @@ pub fn settings_of<'a>(alloc: Global, words: &'a [&'a str]) -> Result<Settings<'
     let Ok(matches) = matches_of(alloc, words) else {
         return Err(WordsFault::Memory);
     };
-    let Some(form) = form_of(&matches) else {
-        return Err(WordsFault::Usage(UsageFault::Form));
-    };
-    let Some(workers) = number_of(matches.get_str("workers"), 4, 1, 64) else {
-        return Err(WordsFault::Usage(UsageFault::Workers));
-    };
-    let Some(block) = number_of(matches.get_str("block"), 4_096, 1, 65_536) else {
-        return Err(WordsFault::Usage(UsageFault::Block));
-    };
-    let Some(input) = input_of(form) else {
-        return Err(WordsFault::Usage(UsageFault::Made));
-    };
-    let Some(report) = number_of(matches.get_str("report"), 2, 1, 2) else {
-        return Err(WordsFault::Usage(UsageFault::Report));
-    };
-    let jobs = matches.get_flag("jobs");
-    Ok(Settings {
-        input,
-        workers,
-        block,
-        form: report,
-        jobs,
-    })
+    let settings = settings_in(&matches);
+    drop(matches);
+    match settings {
+        Ok(settings) => Ok(settings),
+        Err(fault) => Err(WordsFault::Usage(fault)),
+    }
 }

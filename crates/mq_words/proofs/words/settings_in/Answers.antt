@@ -1,26 +1,19 @@
-use Rattle.std.proofs.Common.{rules, ap, sym, ◌≡◌, ◌∙◌, Some, None, false, true, map, ℕ, List, Bool, codes, refl}
+use Rattle.std.proofs.Common.{rules, ap, sym, ◌≡◌, ◌∙◌, Some, None, false, true, Bool, codes, refl}
 use Rattle.std.specs.Prelude.{if◌then◌else◌}
-use Rattle.clap.specs.Matches.{found_of}
-use Rattle.mq_words.specs.Matched.{Finds, HasForm}
-use Rattle.mq_words.specs.Words.{AsksFor, block_asked, form_asked, jobs_asked, number_asked, refuses_words, workers_asked}
+use Rattle.mq_words.specs.Matched.{HasForm}
+use Rattle.mq_words.specs.Words.{AsksFor, block_asked, form_asked, jobs_asked, number_asked, workers_asked}
 use Rattle.mq_words.proofs.Faults.{accepted, asks_for, names_are, no_block, no_made, no_report, no_workers}
-use Rattle.mq_words.proofs.words.settings_of.Goals as goal
+use Rattle.mq_words.proofs.words.settings_in.Goals as goal
 
 pub returns-in_default-number_of-clause-refused : goal.returns-in_default-number_of-clause-refused
-returns-in_default-number_of-clause-refused c =
-    let words : List (List ℕ) = map (λ w. w.now) c.args.words.now in
-    let pass : refuses_words words ≡ false = search rules in
-    let finds : Finds words (found_of c.in-Ok.matches) = c.in-Ok.ensures.found pass in
+returns-in_default-number_of-clause-refused c words pass finds =
     let form : HasForm words c.in-Some.form = c.in-Some.ensures.some words pass finds in
     let workers : workers_asked words ≡ c.number_of.result = ap (number_asked 4 1 64) (sym finds.workers ∙ sym c.get_str.ensures) ∙ sym c.number_of.ensures in
     let none : c.number_of.result ≡ None = search rules in
     no_workers words pass (names_are words _ form) (workers ∙ none)
 
 pub returns-in_default-number_of-2-clause-refused : goal.returns-in_default-number_of-2-clause-refused
-returns-in_default-number_of-2-clause-refused c =
-    let words : List (List ℕ) = map (λ w. w.now) c.args.words.now in
-    let pass : refuses_words words ≡ false = search rules in
-    let finds : Finds words (found_of c.in-Ok.matches) = c.in-Ok.ensures.found pass in
+returns-in_default-number_of-2-clause-refused c words pass finds =
     let form : HasForm words c.in-Some.form = c.in-Some.ensures.some words pass finds in
     let workers : workers_asked words ≡ c.number_of.result = ap (number_asked 4 1 64) (sym finds.workers ∙ sym c.get_str.ensures) ∙ sym c.number_of.ensures in
     let some : c.number_of.result ≡ Some c.in-Some-number_of.workers = search rules in
@@ -29,10 +22,7 @@ returns-in_default-number_of-2-clause-refused c =
     no_block words c.in-Some-number_of.workers pass (names_are words _ form) (workers ∙ some) (block ∙ none)
 
 pub returns-in_default-input_of-clause-refused : goal.returns-in_default-input_of-clause-refused
-returns-in_default-input_of-clause-refused c =
-    let words : List (List ℕ) = map (λ w. w.now) c.args.words.now in
-    let pass : refuses_words words ≡ false = search rules in
-    let finds : Finds words (found_of c.in-Ok.matches) = c.in-Ok.ensures.found pass in
+returns-in_default-input_of-clause-refused c words pass finds =
     let form : HasForm words c.in-Some.form = c.in-Some.ensures.some words pass finds in
     let workers : workers_asked words ≡ c.number_of.result = ap (number_asked 4 1 64) (sym finds.workers ∙ sym c.get_str.ensures) ∙ sym c.number_of.ensures in
     let some_workers : c.number_of.result ≡ Some c.in-Some-number_of.workers = search rules in
@@ -42,10 +32,7 @@ returns-in_default-input_of-clause-refused c =
     no_made words _ _ c.in-Some.form pass (workers ∙ some_workers) (block ∙ some_block) form (sym c.input_of.ensures ∙ none)
 
 pub returns-in_default-number_of-3-clause-refused : goal.returns-in_default-number_of-3-clause-refused
-returns-in_default-number_of-3-clause-refused c =
-    let words : List (List ℕ) = map (λ w. w.now) c.args.words.now in
-    let pass : refuses_words words ≡ false = search rules in
-    let finds : Finds words (found_of c.in-Ok.matches) = c.in-Ok.ensures.found pass in
+returns-in_default-number_of-3-clause-refused c words pass finds =
     let form : HasForm words c.in-Some.form = c.in-Some.ensures.some words pass finds in
     let workers : workers_asked words ≡ c.number_of.result = ap (number_asked 4 1 64) (sym finds.workers ∙ sym c.get_str.ensures) ∙ sym c.number_of.ensures in
     let some_workers : c.number_of.result ≡ Some c.in-Some-number_of.workers = search rules in
@@ -57,10 +44,7 @@ returns-in_default-number_of-3-clause-refused c =
     no_report words _ _ c.in-Some.form _ pass (workers ∙ some_workers) (block ∙ some_block) form (sym c.input_of.ensures ∙ some_input) (report ∙ none)
 
 pub returns-clause-asked : goal.returns-clause-asked
-returns-clause-asked c =
-    let words : List (List ℕ) = map (λ w. w.now) c.args.words.now in
-    let pass : refuses_words words ≡ false = search rules in
-    let finds : Finds words (found_of c.in-Ok.matches) = c.in-Ok.ensures.found pass in
+returns-clause-asked c words pass finds =
     let form : HasForm words c.in-Some.form = c.in-Some.ensures.some words pass finds in
     let workers : workers_asked words ≡ c.number_of.result = ap (number_asked 4 1 64) (sym finds.workers ∙ sym c.get_str.ensures) ∙ sym c.number_of.ensures in
     let some_workers : c.number_of.result ≡ Some c.in-Some-number_of.workers = search rules in
