@@ -24,6 +24,11 @@ loop-rest-preserved-in-Some c =
       rows = i.rows;
     }
 
+pub push-requires-clause-same : goal.push-requires-clause-same
+push-requires-clause-same c =
+    let n : length c.as_slice-in-loop-rest.result.now ≡ length c.args.net.now.columns = ap length (c.as_slice-in-loop-rest.ensures.value ∙ c.requires.header.indices) ∙ length-map _ _ in
+    c.loop-rest.invariant.rows.width ∙ sym n
+
 pub push-requires-clause-indices : goal.push-requires-clause-indices
 push-requires-clause-indices c = λ k less.
     let n : length c.as_slice-in-loop-rest.result.now ≡ length c.args.net.now.columns = ap length (c.as_slice-in-loop-rest.ensures.value ∙ c.requires.header.indices) ∙ length-map _ _ in

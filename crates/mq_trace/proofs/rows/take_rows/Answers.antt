@@ -35,6 +35,11 @@ returns-in_err-node-clause-fault c =
     let p = err_from_is_err_and c.from_residual-in_err-node.result c.from_residual-in_err-node.ensures.1 in
     rw (p.1, p.2) (λ _. fault)
 
+pub push-requires-clause-same : goal.push-requires-clause-same
+push-requires-clause-same c =
+    let n : length c.as_slice.result.now ≡ length c.args.net.now.columns = ap length (c.as_slice.ensures.value ∙ c.requires.header.indices) ∙ length-map _ _ in
+    c.loop-number.invariant.rows.width ∙ sym n
+
 pub push-requires-clause-indices : goal.push-requires-clause-indices
 push-requires-clause-indices c = λ k less.
     let n : length c.as_slice.result.now ≡ length c.args.net.now.columns = ap length (c.as_slice.ensures.value ∙ c.requires.header.indices) ∙ length-map _ _ in
