@@ -4,6 +4,32 @@ use Rattle.mq_trace.specs.Joined.{IsListAt, all_numbers}
 use Rattle.mq_trace.proofs.ListFacts.{all_last, columns_more}
 use Rattle.mq_trace.proofs.lists.joined.Goals as goal
 
+pub loop-list-init : goal.loop-list-init
+loop-list-init g c =
+    let columns = c.args.lists.now.columns in
+    let is = IsListAt columns c.args.lists.now.read.now in
+    let whole = subst (AreAll is (columns + 2)) (sym c.into_vec-left.ensures) c.in_ok-made.ensures in
+    let sources = all_last is _ _ c.pop.new.self.items _ c.in-Some-Sources.ensures.items whole in
+    let times = all_last is _ _ c.pop-2.new.self.items _ c.in-Some-Numbers.ensures.items sources.1 in
+    let first = length-append c.pop.new.self.items (c.in-Some-Sources.field-0 ∷ []) in
+    let second = length-append c.pop-2.new.self.items (c.in-Some-Numbers.field-0 ∷ []) in
+    record {
+      rest = times.1;
+      count = omega (arith, whole.len, ap length c.in-Some-Sources.ensures.items, first, ap length c.in-Some-Numbers.ensures.items, second, ap length c.in_ok-demands.ensures.items);
+      room = omega (arith, c.in_ok-demands.ensures.capacity);
+      done = λ k less. absurd (omega (arith, less, ap length c.in_ok-demands.ensures.items));
+    }
+
+pub unreachable-requires-in-Sources : goal.unreachable-requires-in-Sources
+unreachable-requires-in-Sources g c =
+    let i = c.loop-list.invariant in
+    let is = IsListAt c.args.lists.now.columns c.args.lists.now.read.now in
+    let rest = c.pop-in-loop-list.new.self.items in
+    let popped : c.loop-list.left.items ≡ rest ++ c.in-Some.list ∷ [] = c.in-Some.ensures.items in
+    let last = all_last is _ _ rest _ popped i.rest in
+    let sources = subst (is (length rest)) c.in-Sources.is last.0 in
+    omega (arith, sources.0, i.count, ap length popped, length-append rest (c.in-Some.list ∷ []))
+
 pub loop-list-preserved : goal.loop-list-preserved
 loop-list-preserved g c =
     let i = c.loop-list.invariant in
