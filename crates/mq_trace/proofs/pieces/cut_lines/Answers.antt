@@ -27,3 +27,9 @@ returns-clause-whole c =
     let same : map now c.push-2.new.self.items ≡ pieces ++ c.loop.rest.now ∷ [] = ap (map now) c.in_ok-push-2.ensures.items ∙ map-append now c.loop.pieces.items (c.loop.rest ∷ []) in
     let all = concat_more pieces c.loop.rest.now [] c.args.text.now (rw (append-nil c.loop.rest.now) c.loop.invariant.whole) in
     rw same (sym (append-nil _) ∙ all)
+
+pub returns-clause-lines : goal.returns-clause-lines
+returns-clause-lines c =
+    let now = λ (s : Bor (List ℕ)). s.now in
+    let i = c.loop.invariant in
+    rw (c.in_ok-push-2.ensures.items, map-append now c.loop.pieces.items (c.loop.rest ∷ [])) (lines_more (map now c.loop.pieces.items) c.loop.rest.now i.lines i.rest)

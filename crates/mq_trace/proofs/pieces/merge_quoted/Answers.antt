@@ -1,7 +1,7 @@
-use Rattle.std.proofs.Common.{◌≡◌, ◌∙◌, ◌<◌, ◌∷◌, ◌++◌, [], List, ℕ, Bor, arith, ap, get_or, length, map, rules, sym}
+use Rattle.std.proofs.Common.{◌≡◌, ◌∙◌, ◌<◌, ◌∷◌, ◌++◌, [], List, ℕ, Bor, arith, ap, get_or, length, map, rules, sym, true}
 use Rattle.std.proofs.lemmas.List.{get_or-map, length-map, map-append}
 use Rattle.mq_trace.specs.Quotes.{is_closed}
-use Rattle.mq_trace.proofs.MergeFacts.{merged_lines, merged_whole, merging_cut, merging_first, merging_on, next_part, rest_less}
+use Rattle.mq_trace.proofs.MergeFacts.{merged_closed, merged_lines, merged_whole, merging_cut, merging_first, merging_on, next_part, rest_less}
 use Rattle.mq_trace.proofs.pieces.merge_quoted.Goals.{then-outside+in_ok-push, else-outside}
 use Rattle.mq_trace.proofs.pieces.merge_quoted.Goals as goal
 
@@ -20,6 +20,11 @@ overflow_add-at c =
     let fits = rw same at part.0 in
     let less = rest_less _ _ _ _ _ _ _ c.loop-k.invariant in
     search rules
+
+pub ends_from-outside-requires : goal.ends_from-outside-requires
+ends_from-outside-requires c =
+    let same = at_piece c.args.pieces.now c.loop-k.k (omega (arith, c.loop-k-test.true)) in
+    c.requires.ends c.loop-k.k (omega (arith, c.loop-k-test.true)) ∙ ap (λ t. is_closed true t) same
 
 pub split_at-requires : goal.split_at-requires
 split_at-requires c =
@@ -47,6 +52,11 @@ loop-k-preserved c =
           (merging_on c.args.text.now texts merged c.loop-k.rest.now c.loop-k.at c.loop-k.k c.loop-k.outside c.loop-k.invariant less c.requires.lines (closed ∙ w.if-outside.false))
     ]
 
+pub returns-clause-most : goal.returns-clause-most
+returns-clause-most c =
+    let size = length-map c.loop-k.merged.items (λ (s : Bor (List ℕ)). s.now) in
+    omega (arith, size, c.loop-k.invariant.few, c.in_ok-push-2.ensures.len)
+
 pub returns-clause-whole : goal.returns-clause-whole
 returns-clause-whole c =
     rw (c.in_ok-push-2.ensures.items, map-append (λ (s : Bor (List ℕ)). s.now) c.loop-k.merged.items (c.loop-k.rest ∷ [])) (merged_whole _ _ _ _ _ _ _ c.loop-k.invariant)
@@ -54,3 +64,7 @@ returns-clause-whole c =
 pub returns-clause-lines : goal.returns-clause-lines
 returns-clause-lines c =
     rw (c.in_ok-push-2.ensures.items, map-append (λ (s : Bor (List ℕ)). s.now) c.loop-k.merged.items (c.loop-k.rest ∷ [])) (merged_lines _ _ _ _ _ _ _ c.loop-k.invariant)
+
+pub returns-clause-closed : goal.returns-clause-closed
+returns-clause-closed c =
+    rw (c.in_ok-push-2.ensures.items, map-append (λ (s : Bor (List ℕ)). s.now) c.loop-k.merged.items (c.loop-k.rest ∷ [])) (merged_closed _ _ _ _ _ _ _ c.loop-k.invariant)
