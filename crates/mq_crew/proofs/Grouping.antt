@@ -42,6 +42,13 @@ module _ {P X : Type 0} (size : P → ℕ) (is_piece : P → ℕ → X → Type 
         },
       )
 
+  -- where there is no part, there is no group
+  pub no-groups : AreGroups size is_piece [] []
+  no-groups = record { len = refl; each = λ i part group a b. absurd (nothing i part a) }
+    where
+      nothing : (i : ℕ) (part : P) → slice_get [] i ≡ Some part → ⊥
+      nothing i part a = cc
+
   -- one group more
   pub group-more : (parts : List P) (i : ℕ) (part : P) (groups groups' : List (List X)) (group : List X) → slice_get parts i ≡ Some part → AreGroups size is_piece (take i parts) groups → AreAll (is_piece part) (size part) group → groups' ≡ groups ++ group ∷ [] →
       AreGroups size is_piece (take (i + 1) parts) groups'
