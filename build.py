@@ -6,8 +6,8 @@ What has been proved before and has not changed is kept. Each crate is told on t
 
 Each crate is proved from nothing over the statements of those below it, as the gate does. rt itself works on one crate at a time, and
 has each crate read all proofs below it, so this gives the toolchain's own commands. The crate with the most to prove from it up to
-the program goes first. Several jobs for one crate take a quarter to three quarters more processor time for the same proofs, and a small
-one no less time, so a crate has more than one only where it is proved alone.
+the program goes first. Several jobs for one crate take a quarter to three quarters more processor time for the same proofs, so a crate
+has more than one only where it would take longer than all that can be proved beside it.
 """
 import fcntl
 import functools
@@ -75,13 +75,22 @@ def lines_of(name):
     return sum(text_of(it).count("\n") for it in files_of(name) if it.endswith(".rt"))
 
 
-def chains(names, uses):
-    """How many lines are proved from each crate on up to the program, at most."""
+def chains(lines, uses):
+    """How many lines are proved from each crate on up to the program, at most. The crates are given lowest first."""
     chain = {}
-    for name in reversed(names):
+    for name in reversed(lines):
         above = [chain[it] for it in chain if name in uses[it]]
-        chain[name] = lines_of(name) + max(above, default=0)
+        chain[name] = lines[name] + max(above, default=0)
     return chain
+
+
+def jobs_for(name, left, running, lines, uses, most):
+    """How many jobs a crate has: so many that it isn't the last to end of all that can be proved beside it by the others."""
+    beside = sum(lines[it] for it in left if it != name and name not in below(it, uses)) + sum(lines[it] // 2 for it in running)
+    jobs = 1
+    while jobs < most and lines[name] * (most - jobs) > beside * jobs:
+        jobs += 1
+    return jobs
 
 
 def stamps(names, uses):
@@ -99,7 +108,7 @@ def stamps(names, uses):
 
 
 def lanes():
-    """How many crates are proved at a time at most, and how many jobs one has that is proved alone."""
+    """How many crates are proved at a time at most, and how many jobs one has at most."""
     count = len(os.sched_getaffinity(0))
     free = count * CHECK
     for line in text_of("/proc/meminfo").splitlines():
@@ -132,7 +141,8 @@ def begin(name, uses, kit, jobs, nice):
 def prove_all(uses, kit):
     """Proves all crates below the program and then the program. Answers whether all are proved."""
     names = [it for it in uses if it in below(PROGRAM, uses)] + [PROGRAM]
-    made, chain, most = stamps(names, uses), chains(names, uses), lanes()
+    lines = {it: lines_of(it) for it in names}
+    made, chain, most = stamps(names, uses), chains(lines, uses), lanes()
     done = {it for it in names if text_of(f"{PROVED}/{it}.stamp") == made[it]}
     left, running = sorted([it for it in names if it not in done], key=lambda it: -chain[it]), {}
     failed = False
@@ -144,7 +154,7 @@ def prove_all(uses, kit):
                     break
                 # What is further from the program goes first.
                 others = [it for it in [*left, *running] if chain[it] > chain[name]]
-                jobs = 1 if running or len(ready) > 1 else most
+                jobs = jobs_for(name, left, running, lines, uses, most)
                 running[name] = begin(name, uses, kit, jobs, min(len(others), 10))
                 left.remove(name)
             time.sleep(0.2)
