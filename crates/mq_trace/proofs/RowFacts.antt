@@ -152,16 +152,16 @@ index_absent names columns name is e =
     let n = length-map names (λ (s : Bor (List ℕ)). s.now) in
     rw (← is) (a ∙ rw (m, n) (grind (arith, common_steps, e)))
 
--- the first column of the model that the header lacks
-pub missing_at : (net : Network) (header : Record) (i : ℕ) → i < length net.columns → ((k : ℕ) → k < i → is_among (columns_of header) (get_or net.columns k []) ≡ true)
-    → is_among (columns_of header) (get_or net.columns i []) ≡ false → missing_column net header ≡ Some i
-missing_at net header i h there lacks =
-    let p = position_or_len_is (λ name. not (is_among (columns_of header) name)) net.columns i [] (omega arith) (λ k less. rw (there k less) refl) (λ _. rw lacks refl) in
+-- the first column of the model that isn't among others
+pub missing_at : (names others : List (List ℕ)) (i : ℕ) → i < length names → ((k : ℕ) → k < i → is_among others (get_or names k []) ≡ true)
+    → is_among others (get_or names i []) ≡ false → position (λ name. not (is_among others name)) names ≡ Some i
+missing_at names others i h there lacks =
+    let p = position_or_len_is (λ name. not (is_among others name)) names i [] (omega arith) (λ k less. rw (there k less) refl) (λ _. rw lacks refl) in
     rw (p, lt-ltb _ _ h) refl
 
-pub none_is_missing : (net : Network) (header : Record) → ((k : ℕ) → k < length net.columns → is_among (columns_of header) (get_or net.columns k []) ≡ true) → missing_column net header ≡ None
-none_is_missing net header there =
-    let p = position_or_len_is (λ name. not (is_among (columns_of header) name)) net.columns (length net.columns) [] (omega arith) (λ k less. rw (there k less) refl) (λ h. absurd (omega arith)) in
+pub none_is_missing : (names others : List (List ℕ)) → ((k : ℕ) → k < length names → is_among others (get_or names k []) ≡ true) → position (λ name. not (is_among others name)) names ≡ None
+none_is_missing names others there =
+    let p = position_or_len_is (λ name. not (is_among others name)) names (length names) [] (omega arith) (λ k less. rw (there k less) refl) (λ h. absurd (omega arith)) in
     rw p (grind (arith, common_steps))
 
 -- the default makes no difference at an index that is there

@@ -1,7 +1,7 @@
 // The header of a trace.
 
-ghost use Rattle.std.specs.Prelude.{◌≡◌, ◌+◌, ◌-◌, ◌<◌, ◌≤◌, ◌&&◌, length, map, take, nat_lt, IfOk, IfErr, None, Some, option_map, position};
-ghost use Rattle.std.specs.List.{list_any};
+ghost use Rattle.std.specs.Prelude.{◌≡◌, ◌+◌, ◌-◌, ◌<◌, ◌≤◌, ◌&&◌, length, map, take, nat_lt, IfOk, IfErr, None, Some, not, option_map, position};
+ghost use Rattle.std.specs.List.{list_any, position_or_len};
 ghost use Rattle.std.specs.Str.{bytes_eq};
 ghost use Rattle.csv.specs.Records.{fields_of};
 ghost use Rattle.mq_trace.specs.Header.{IsNewColumn, bad_from, bad_header, columns_of, field_of, is_among};
@@ -112,6 +112,25 @@ fn listed(alloc: Global, names: &[List<u8>], columns: &[&[u8]]) -> Result<Vec<bo
         .collect(alloc)
 }
 
+/// Of each column of the model, its index among these names of a text.
+fn indices_among(alloc: Global, net: &Network, names: &[&[u8]]) -> Result<Vec<usize>, TraceFault>
+    requires { length net.now.columns ≤ 16 }
+    ensures none { IfOk result (λ _. position (λ name. not (is_among (map (λ s. s.now) names.now) name)) net.now.columns ≡ None) }
+    ensures indices { IfOk result (λ v. v.items ≡ map (λ name. position_or_len (λ other. bytes_eq other name) (map (λ s. s.now) names.now)) net.now.columns) }
+    ensures err { IfErr result (λ e. Tells e (option_map (λ n. TraceFault.MissingColumn n) (position (λ name. not (is_among (map (λ s. s.now) names.now) name)) net.now.columns))) }
+{
+    let mut indices = Vec::new(alloc);
+    let mut column = 0u32;
+    for name in net.columns.as_slice() {
+        let Some(index) = index_among(names, name.as_slice()) else {
+            return Err(TraceFault::MissingColumn { column });
+        };
+        indices.push(index)?;
+        column += 1;
+    }
+    Ok(indices)
+}
+
 /// Reads a header for a network.
 pub fn read_header(alloc: Global, names: ByteRecord, net: &Network) -> Result<Header, TraceFault>
     requires { length net.now.columns ≤ 16 }
@@ -119,15 +138,7 @@ pub fn read_header(alloc: Global, names: ByteRecord, net: &Network) -> Result<He
     ensures err { IfErr result (λ e. Tells e (header_fault net.now (fields_of names))) }
 {
     let columns = read_columns(alloc, &names)?;
-    let mut indices = Vec::new(alloc);
-    let mut column = 0u32;
-    for name in net.columns.as_slice() {
-        let Some(index) = index_among(columns.as_slice(), name.as_slice()) else {
-            return Err(TraceFault::MissingColumn { column });
-        };
-        indices.push(index)?;
-        column += 1;
-    }
+    let indices = indices_among(alloc, net, columns.as_slice())?;
     let reads = listed(alloc, net.columns.as_slice(), columns.as_slice())?;
     drop(columns);
     Ok(Header {
