@@ -2,6 +2,7 @@ use Rattle.std.proofs.Common.{◌≡◌, ◌∙◌, ◌+◌, ◌-◌, ◌++◌, 
 use Rattle.mq_crew.specs.Crew.{AreAll}
 use Rattle.mq_trace.specs.Joined.{IsListAt, all_numbers}
 use Rattle.mq_trace.proofs.ListFacts.{all_last, columns_more}
+use Rattle.mq_trace.proofs.lists.joined.Goals.{in_default-via-in-Some+in_default, in_default-via-in_default, in_default-pop-via-in-Some+in_default, in_default-pop-via-in_default}
 use Rattle.mq_trace.proofs.lists.joined.Goals as goal
 
 pub loop-list-init : goal.loop-list-init
@@ -70,3 +71,38 @@ returns g c =
       width = ap length c.from_vec.ensures ∙ all;
       values = λ k less. ap (λ l. get_or l k []) c.from_vec.ensures ∙ i.done k (omega (arith, all, less));
     }
+
+pub unreachable-requires : goal.unreachable-requires
+unreachable-requires g c =
+    let columns = c.args.lists.now.columns in
+    let is = IsListAt columns c.args.lists.now.read.now in
+    let whole = subst (AreAll is (columns + 2)) (sym c.into_vec-left.ensures) c.in_ok-made.ensures in
+    elim c.in_default.branch [
+      | in_default-via-in-Some+in_default w ↦
+          let popped : c.into_vec-left.result.items ≡ c.pop.new.self.items ++ w.in_default.field-0 ∷ [] = rw w.in_default.is at c.pop.ensures.items in
+          let last = (all_last is _ _ c.pop.new.self.items _ popped whole).0 in
+          let place : length c.pop.new.self.items ≡ columns + 1 = omega (arith, whole.len, ap length popped, length-append c.pop.new.self.items (w.in_default.field-0 ∷ [])) in
+          grind (arith, last, place)
+      | in_default-via-in_default w ↦
+          let none = rw w.in_default.is at c.pop.ensures.cases in
+          omega (arith, none.0, whole.len, c.into_vec-left.result.ok.0)
+    ]
+
+pub unreachable-requires-in_default-pop : goal.unreachable-requires-in_default-pop
+unreachable-requires-in_default-pop g c =
+    let columns = c.args.lists.now.columns in
+    let is = IsListAt columns c.args.lists.now.read.now in
+    let whole = subst (AreAll is (columns + 2)) (sym c.into_vec-left.ensures) c.in_ok-made.ensures in
+    let sources = all_last is _ _ c.pop.new.self.items _ c.in-Some-Sources.ensures.items whole in
+    let first = length-append c.pop.new.self.items (c.in-Some-Sources.field-0 ∷ []) in
+    let size : length c.pop.new.self.items ≡ columns + 1 = omega (arith, whole.len, ap length c.in-Some-Sources.ensures.items, first) in
+    elim c.in_default-pop.branch [
+      | in_default-pop-via-in-Some+in_default w ↦
+          let popped : c.pop.new.self.items ≡ c.pop-2.new.self.items ++ w.in_default-pop.field-0 ∷ [] = rw w.in_default-pop.is at c.pop-2.ensures.items in
+          let last = (all_last is _ _ c.pop-2.new.self.items _ popped sources.1).0 in
+          let place : length c.pop-2.new.self.items ≡ columns = omega (arith, size, ap length popped, length-append c.pop-2.new.self.items (w.in_default-pop.field-0 ∷ [])) in
+          grind (arith, last, place)
+      | in_default-pop-via-in_default w ↦
+          let none = rw w.in_default-pop.is at c.pop-2.ensures.cases in
+          omega (arith, none.0, size, c.pop.new.self.ok.0)
+    ]
