@@ -111,6 +111,5 @@ pub fn pieces_of<'a, R: Threads + Sync>(
 {
     let lines = cut_lines(alloc, text, count)?;
     let ends = find_ends(rt, alloc, workers, &lines.as_slice()[..lines.len() - 1])?;
-    let merged = merge_quoted(alloc, text, lines.as_slice(), ends.as_slice())?;
-    Ok(merged)
+    merge_quoted(alloc, text, lines.as_slice(), ends.as_slice())
 }
