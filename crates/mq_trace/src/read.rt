@@ -1,16 +1,17 @@
 // The reader of a trace.
 
-ghost use Rattle.std.specs.Prelude.{◌≡◌, ◌^◌, ◌<◌, ◌≤◌, ◌∷◌, [], List, length, map, IfErr, IfOk};
+ghost use Rattle.std.specs.Prelude.{◌≡◌, ◌^◌, ◌<◌, ◌≤◌, ◌∷◌, [], List, length, map, flat_map, get_or, IfErr, IfOk};
 ghost use Rattle.std.specs.Bool.{MatchBool};
 ghost use Rattle.csv.specs.Records.{fields_of};
 ghost use Rattle.mq_core.specs.Theorems.{IsReadFor};
-ghost use Rattle.mq_trace.specs.Pieces.{ArePieces};
+ghost use Rattle.mq_trace.specs.Pieces.{ArePieces, Reads};
+ghost use Rattle.mq_trace.specs.Reading.{IsHeaderOf};
 ghost use Rattle.mq_trace.specs.Records.{Record};
-ghost use Rattle.mq_trace.specs.Trace.{Answers, records_fault, rows_in, text_records, trace_fault};
+ghost use Rattle.mq_trace.specs.Trace.{Answers, data_of, records_fault, rows_in, text_records, trace_fault};
 
 use crate::each::read_each;
 use crate::fault::TraceFault;
-use crate::header::read_header;
+use crate::header::{Header, read_header};
 use crate::join::join_rows;
 use crate::piece::read_piece;
 use crate::pieces::pieces_of;
@@ -49,6 +50,28 @@ fn read_whole(alloc: Global, text: &[u8], net: &Network) -> Result<Rows, TraceFa
     read_piece(alloc, 0, text, net, &header)
 }
 
+/// Reads the data records of each piece, and puts the rows of all one behind the other.
+fn read_joined<R: Threads + Sync>(
+    rt: &R,
+    alloc: Global,
+    workers: u32,
+    pieces: &[&[u8]],
+    net: &Network,
+    header: &Header,
+) -> Result<Rows, TraceFault>
+    requires one { 1 ≤ workers }
+    requires most { workers ≤ 64 }
+    requires few { length pieces.now < 2 ^ 32 }
+    requires header { IsHeaderOf net.now header.now }
+    requires nodes { length net.now.nodes < 2 ^ 32 }
+    requires columns { length net.now.columns ≤ 16 }
+    requires first { 1 ≤ length (text_records (get_or (map (λ s. s.now) pieces.now) 0 [])) }
+    ensures { Reads net.now (fields_of header.now.names) (data_of (flat_map text_records (map (λ s. s.now) pieces.now))) result }
+{
+    let read = read_each(rt, alloc, workers, pieces, net, header)?;
+    join_rows(rt, alloc, workers, pieces, read.as_slice(), net, header)
+}
+
 /// The same, by pieces. Where the first has no record the header stands in a later one, and the text is read whole.
 fn read_apart<R: Threads + Sync>(
     rt: &R,
@@ -72,8 +95,7 @@ fn read_apart<R: Threads + Sync>(
         return read_whole(alloc, text, net);
     }
     let header = read_header(alloc, names, net)?;
-    let read = read_each(rt, alloc, workers, pieces, net, &header)?;
-    join_rows(rt, alloc, workers, pieces, read.as_slice(), net, &header)
+    read_joined(rt, alloc, workers, pieces, net, &header)
 }
 
 // Reads a text by so many pieces and workers.

@@ -39,15 +39,8 @@ returns-in_err-header g c =
     let p = err_from_is_err_and c.from_residual-in_err-header.result c.from_residual-in_err-header.ensures.1 in
     rw (p.1, p.2) (header_tells c.args.net.now (text_records c.args.text.now) _ c.in_err-header.field-0.0 header c.in_err-header.ensures.err)
 
-pub read_each-requires-clause-first : goal.read_each-requires-clause-first
-read_each-requires-clause-first g c =
-    let there : c.in_ok-first_record.field-0 ≡ true = search rules in
-    let found = rw there at c.in_ok-first_record.ensures.found in
-    let first = get_or-map (λ (s : Bor (List ℕ)). s.now) c.args.pieces.now 0 _ [] c.requires.some in
-    λ _ _. some_record _ _ found.0 (ap text_records first ∙ found.1)
-
-pub join_rows-requires-clause-first : goal.join_rows-requires-clause-first
-join_rows-requires-clause-first g c =
+pub read_joined-requires-clause-first : goal.read_joined-requires-clause-first
+read_joined-requires-clause-first g c =
     let there : c.in_ok-first_record.field-0 ≡ true = search rules in
     let found = rw there at c.in_ok-first_record.ensures.found in
     let first = get_or-map (λ (s : Bor (List ℕ)). s.now) c.args.pieces.now 0 _ [] c.requires.some in
@@ -61,4 +54,4 @@ returns g c =
     let first = get_or-map now c.args.pieces.now 0 _ [] c.requires.some in
     let header = header_in_first c.args.text.now (map now c.args.pieces.now) _ found.0 c.requires.pieces (rw (length-map c.args.pieces.now now) c.requires.some) (ap text_records first ∙ found.1) in
     let read = c.in_ok-header.ensures.ok in
-    whole_answers c.args.net.now (text_records c.args.text.now) _ _ c.join_rows.result c.requires.pieces header read.0 (rw read.1 at c.join_rows.ensures)
+    whole_answers c.args.net.now (text_records c.args.text.now) _ _ c.read_joined.result c.requires.pieces header read.0 (rw read.1 at c.read_joined.ensures)
