@@ -28,6 +28,9 @@ by_columns : (net : Network) (header r : Record) (n node time : ℕ) → n ≤ 1
 unfolding row_fault
 by_columns net header r n node at few size source time = rw (le-ltb 1048576 n few, eq-eqb _ _ size, source, time) refl
 
+pub read_values-requires-clause-len : goal.read_values-requires-clause-len
+read_values-requires-clause-len c = sym c.len.ensures ∙ c.if-len.false ∙ c.len-2.ensures
+
 pub returns-in_default-find_source-clause-fault : goal.returns-in_default-find_source-clause-fault
 returns-in_default-find_source-clause-fault c =
     let F = fields_of c.args.row.now in
