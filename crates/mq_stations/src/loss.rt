@@ -98,6 +98,5 @@ fn streams_of(
         job: List::from_vec(job),
         time: List::from_vec(time),
     };
-    let streams = both(alloc, first, second)?;
-    Ok(streams)
+    both(alloc, first, second)
 }

@@ -70,8 +70,7 @@ pub fn split_part(
     let (from, to) = blocks.range(b);
     let jobs = jobs_between(&arrivals.job, from, to);
     let values = values_of(alloc, rows, route, jobs)?;
-    let streams = split_between(alloc, arrivals, values.as_slice(), route, from, to)?;
-    Ok(streams)
+    split_between(alloc, arrivals, values.as_slice(), route, from, to)
 }
 
 // The jobs at the indices from one up to another.

@@ -38,8 +38,7 @@ pub fn trunk_outflow(
         window,
         Blank::new(1),
     )?;
-    let outflow = outflow_of(alloc, settled)?;
-    Ok(outflow)
+    outflow_of(alloc, settled)
 }
 
 // Which arrivals find a server, and what leaves by each output, settled with a counter of their own.
@@ -69,10 +68,9 @@ fn settled<L: Ledger>(
 
 // The fates of the arrivals, and what leaves by each output.
 fn outflow_of(alloc: Global, settled: Trunk) -> Result<Outflow, OutOfMemory>
-    ensures fates { IfOk result (λ outflow. outflow.fates ≡ fates_by settled.admitted settled.departs) }
-    ensures streams { IfOk result (λ outflow. outflow.streams ≡ settled.leaving ∷ settled.lost ∷ []) }
+    ensures { IfOk result (λ outflow. (outflow.fates ≡ fates_by settled.admitted settled.departs) × (outflow.streams ≡ settled.leaving ∷ settled.lost ∷ [])) }
 {
-    let fates = fates_by_admission(alloc, &settled.admitted, &settled.departs)?;
     let streams = both(alloc, settled.leaving, settled.lost)?;
+    let fates = fates_by_admission(alloc, &settled.admitted, &settled.departs)?;
     Ok(Outflow { fates, streams })
 }

@@ -1,4 +1,5 @@
 use Rattle.std.proofs.Common.{Global, Vec, ◌≤◌, ◌++◌, ◌∷◌, [], ℕ, List, Bool, true, false, length, map, Some, ap, ◌∙◌, arith}
+use Rattle.std.proofs.lemmas.Result.{IfOk-weaker}
 use Rattle.std.specs.Vec.{vec_len, vec_capacity}
 use Rattle.mq_core.specs.Streams.{picked}
 use Rattle.mq_stations.specs.Losses.{out_of_admission}
@@ -96,4 +97,4 @@ returns c =
     let served = c.from_vec.ensures ∙ left-end true _ _ admitted c.args.arrivals.now.job c.loop-at.at ended i.admitted in
     let jobs = c.from_vec-2.ensures ∙ left-end false _ _ admitted c.args.arrivals.now.job c.loop-at.at ended i.jobs in
     let times = c.from_vec-3.ensures ∙ left-end false _ _ admitted c.args.arrivals.now.time c.loop-at.at ended i.times in
-    c.in_ok-streams.ensures ∙ (λ k. record { job = served k; time = c.args.departs } ∷ record { job = jobs k; time = times k } ∷ [])
+    IfOk-weaker c.both.result _ _ (λ streams e. e ∙ (λ k. record { job = served k; time = c.args.departs } ∷ record { job = jobs k; time = times k } ∷ [])) c.both.ensures

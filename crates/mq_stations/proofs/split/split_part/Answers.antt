@@ -1,5 +1,6 @@
 use Rattle.std.proofs.Common.{◌≡◌, ◌∙◌, List, ℕ, length, map, ap, subst, sym, arith}
 use Rattle.std.proofs.lemmas.List.{length-map}
+use Rattle.std.proofs.lemmas.Result.{IfOk-weaker}
 use Rattle.mq_base.proofs.lemmas.Between.{length-between}
 use Rattle.mq_base.specs.Lists.{between}
 use Rattle.mq_core.specs.Kinds.Split.{route_value}
@@ -47,5 +48,8 @@ returns c =
     let to = c.range-from.result.1 in
     let values : c.as_slice.result.now ≡ between from to (map value arrivals.job) =
     c.as_slice.ensures ∙ (c.in_ok-values.ensures ∙ (ap (map value) c.jobs_between-jobs.ensures ∙ map-between value arrivals.job from to)) in
-    subst (λ (z : ℕ × ℕ). ArePartsBetween c.args.route.now arrivals (between z.0 z.1 (map value arrivals.job)) z.0 z.1 c.in_ok-streams.streams) (λ k. (c.range-from.ensures.0 k, c.range-from.ensures.1 k))
-    (subst (λ (vs : List ℕ). ArePartsBetween c.args.route.now arrivals vs from to c.in_ok-streams.streams) values c.in_ok-streams.ensures)
+    IfOk-weaker c.split_between.result _ _
+    (λ streams h.
+    subst (λ (z : ℕ × ℕ). ArePartsBetween c.args.route.now arrivals (between z.0 z.1 (map value arrivals.job)) z.0 z.1 streams) (λ k. (c.range-from.ensures.0 k, c.range-from.ensures.1 k))
+    (subst (λ (vs : List ℕ). ArePartsBetween c.args.route.now arrivals vs from to streams) values h))
+    c.split_between.ensures

@@ -1,4 +1,5 @@
 use Rattle.std.proofs.Common.{refl}
+use Rattle.std.proofs.lemmas.Result.{IfOk-weaker}
 use Rattle.mq_core.specs.declared.model.Kind.TheVariants.{Trunk}
 use Rattle.mq_stations.proofs.TrunkFates.{leaves-by}
 use Rattle.mq_stations.proofs.lemmas.Leaves.{asked-each, load-sound}
@@ -12,5 +13,5 @@ settled-requires-clause-load c = load-sound c.args.rows.now (Trunk c.args.server
 
 pub returns : goal.returns
 returns c =
-    let outflow = c.in_ok-outflow.outflow in
-    leaves-by c.args.rows.now c.args.servers c.args.demand.now c.args.arrivals.now _ c.in_ok-settled.settled outflow.fates outflow.streams refl c.in_ok-settled.ensures c.in_ok-outflow.ensures.fates c.in_ok-outflow.ensures.streams
+    IfOk-weaker c.outflow_of.result _ _
+    (λ outflow h. leaves-by c.args.rows.now c.args.servers c.args.demand.now c.args.arrivals.now _ c.in_ok-settled.settled outflow.fates outflow.streams refl c.in_ok-settled.ensures h.0 h.1) c.outflow_of.ensures
