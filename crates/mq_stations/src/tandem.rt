@@ -1,9 +1,10 @@
 // A tandem, whole and by blocks.
-ghost use Rattle.std.specs.Prelude.{◌≡◌, ◌<◌, ◌≤◌, ◌+◌, ◌*◌, ◌/◌, [], ℕ, List as Items, length, map, max, IfOk, slice_index_or};
+ghost use Rattle.std.specs.Prelude.{◌≡◌, ◌<◌, ◌≤◌, ◌+◌, ◌*◌, ◌/◌, [], ℕ, All, List as Items, length, map, max, IfOk, slice_index_or};
+ghost use Rattle.mq_core.specs.Handling.{demand_of_job};
 ghost use Rattle.mq_core.specs.Recurrences.{tandem_departs};
 ghost use Rattle.mq_core.specs.declared.model.Kind.TheVariants.{Tandem};
 ghost use Rattle.mq_stations.specs.Scans.{AreTandemCarries, AreTandemTimes, IsTandemScan, IsTandemSum};
-ghost use Rattle.mq_stations.specs.Leaving.{AreServed, IsLoad};
+ghost use Rattle.mq_stations.specs.Leaving.{AreAsked, AreServed, IsLoad};
 ghost use Rattle.mq_maxplus.specs.declared.mp.Mp.{Mp as TheMp};
 ghost use Rattle.mq_tandem.specs.Rows.{IsTandemLoad};
 
@@ -37,8 +38,7 @@ pub fn tandem_whole(
     requires { IsLoad rows.now (Tandem stages.now) arrivals.now }
     ensures { IfOk result (λ departs. AreServed rows.now (Tandem stages.now) arrivals.now departs) }
 {
-    let asked = stage_demands(alloc, stages)?;
-    let demands = all_demands_of(alloc, rows, &asked, &arrivals.job)?;
+    let demands = demands_of_stages(alloc, rows, stages, &arrivals.job)?;
     let places = stage_places(alloc, stages)?;
     tandem_departures(alloc, arrivals, &demands, &places)
 }
@@ -57,8 +57,7 @@ pub fn tandem_scan(
     ensures { IfOk result (λ scan. IsTandemScan rows.now stages.now arrivals.now scan) }
 {
     let size = arrivals.job.len() as u32;
-    let asked = stage_demands(alloc, stages)?;
-    let demands = all_demands_of(alloc, rows, &asked, &arrivals.job)?;
+    let demands = demands_of_stages(alloc, rows, stages, &arrivals.job)?;
     let places = stage_places(alloc, stages)?;
     let blocks = cut(size, long_block(size, block));
     Ok(TandemScan {
@@ -143,6 +142,20 @@ pub fn tandem_joined(
     let step = TandemStep::new(arrivals, &scan.demands, &scan.places);
     carries_hold_departures(&step);
     joined(alloc, &step, &scan.blocks, group)
+}
+
+// What each job asks for at each stage, in ticks.
+fn demands_of_stages(
+    alloc: Global,
+    rows: &Rows,
+    stages: &List<Stage>,
+    jobs: &List<u32>,
+) -> Result<List<List<u64>>, OutOfMemory>
+    requires { All (λ demand. AreAsked rows.now demand jobs.now) (map (λ stage. stage.demand) stages.now) }
+    ensures { IfOk result (λ demands. demands ≡ map (λ demand. map (demand_of_job rows.now demand) jobs.now) (map (λ stage. stage.demand) stages.now)) }
+{
+    let asked = stage_demands(alloc, stages)?;
+    all_demands_of(alloc, rows, &asked, jobs)
 }
 
 // What the stages ask for.
