@@ -13,11 +13,7 @@ use std::alloc::Global;
 fn all_of(alloc: Global, count: usize) -> Result<List<bool>, OutOfMemory>
     ensures { IfOk result (λ guess. guess ≡ all_admitted count) }
 {
-    let mut guess = List::new(alloc);
-    for _ in 0..count {
-        guess.push(true)?;
-    }
-    Ok(guess)
+    Ok(List::from_vec(vec![in alloc; true; count]?))
 }
 
 /// One round: which arrivals of the stream a loss station with these places admits where, of those

@@ -1,4 +1,4 @@
-use Rattle.std.proofs.Common.{◌≡◌, ◌+◌, ◌-◌, ◌≤◌, ◌++◌, ℕ, Bool, List, [], length, take, drop, ap, sym, ◌∙◌, arith, subst}
+use Rattle.std.proofs.Common.{◌≡◌, ◌+◌, ◌-◌, ◌≤◌, ◌++◌, ℕ, Bool, List, [], length, length-append, take, drop, ap, sym, ◌∙◌, arith, subst}
 use Rattle.std.specs.Prelude.{min, reverse}
 use Rattle.std.proofs.lemmas.List.{length-drop, take_all}
 use Rattle.mq_loss.specs.Rounds.{departure_behind, loss_rule}
@@ -20,6 +20,16 @@ judge_all-requires-clause-early g c =
     departures-early c.args.stream.now.time c.args.demands.now settled load.early load.small in
     let now : IsEarly (reverse c.args.departs.now.items) c.args.from = subst (λ (q : List ℕ × ℕ). IsEarly (reverse q.0) q.1) (λ k. (sym c.requires.departs k, sym c.requires.from k)) early in
     now.limit
+
+-- what was there before is within what is there now
+reaches : (now before more : List Bool) (from : ℕ) → now ≡ before ++ more → from ≡ length before → from ≤ length now
+reaches now before more from e f = let all = ap length e ∙ length-append before more in omega arith
+
+pub slice_bounds-unchanged_of-start : goal.slice_bounds-unchanged_of-start
+slice_bounds-unchanged_of-start g c = let within = reaches _ _ _ c.args.from (c.as_slice.ensures.value ∙ c.judge_all.ensures.outcome) c.requires.from in omega arith
+
+pub slice_bounds-unchanged_of-count : goal.slice_bounds-unchanged_of-count
+slice_bounds-unchanged_of-count g c = let within = reaches _ _ _ c.args.from (c.as_slice.ensures.value ∙ c.judge_all.ensures.outcome) c.requires.from in omega arith
 
 -- no more depart than are settled
 left : (g : _) (c : After-len-left g) → length c.args.departs.now.items ≤ length c.args.admitted.now.items
