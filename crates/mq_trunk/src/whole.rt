@@ -14,11 +14,7 @@ use std::alloc::Global;
 pub fn all_free(alloc: Global, servers: u8) -> Result<Vec<u64>, OutOfMemory>
     ensures { IfOk result (λ latest. latest.items ≡ replicate servers 0) }
 {
-    let mut latest = Vec::with_capacity(alloc, servers as usize)?;
-    for _ in 0..servers as usize {
-        latest.push_reserved(0);
-    }
-    Ok(latest)
+    Ok(vec![in alloc; 0; servers as usize]?)
 }
 
 // Whether fewer of these departures, the latest first, come after an arrival than there are servers.

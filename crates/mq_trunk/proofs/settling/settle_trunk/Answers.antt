@@ -6,6 +6,7 @@ use Rattle.mq_core.specs.declared.model.Stream.{Stream}
 use Rattle.mq_trunk.specs.Kept.{IsKept}
 use Rattle.mq_trunk.specs.Parts.{of_admitted}
 use Rattle.mq_rounds.specs.Rounds.{departures_in, departures_of, fates_by}
+use Rattle.mq_rounds.specs.Windows.{IsWindowRun}
 use Rattle.mq_rounds.proofs.lemmas.Fates.{fates-back}
 use Rattle.mq_rounds.proofs.lemmas.Guesses.{admission-length}
 use Rattle.mq_trunk.specs.Rounds.{admission, departure_at_once, trunk_rule}
@@ -55,3 +56,8 @@ returns-clause-settled g c =
       leaves = parts.ordered;
       overflows = subst IsStream (sym parts.lost) (lost-stream arrivals c.in_ok-settled.settled.admitted c.requires.stream);
     }
+
+pub returns-clause-run : goal.returns-clause-run
+returns-clause-run g c =
+    let trunk = c.in_ok-trunk.ensures in
+    subst (λ (q : ℕ × ℕ). IsWindowRun (trunk_rule c.args.servers) c.args.stream.now.time c.args.demands.now c.args.first q.0 q.1) (λ k. (sym trunk.rounds k, sym trunk.judged k)) c.in_ok-settled.ensures.run
