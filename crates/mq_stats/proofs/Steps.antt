@@ -1,6 +1,7 @@
 -- One step of a loop over sequences, and its end.
-use Rattle.std.proofs.Common.{◌≡◌, ℕ, ◌+◌, Bool, List, [], ◌∷◌, length, refl, cond, drop, Some, sym, ap, ◌∙◌, arith, max}
+use Rattle.std.proofs.Common.{◌≡◌, ℕ, ◌+◌, ◌≤◌, Bool, List, [], ◌∷◌, length, refl, cond, drop, Some, sym, ap, ◌∙◌, arith, max}
 use Rattle.std.specs.Prelude.{slice_get, fold, slice_index, ◌-◌, count_by, sum}
+use Rattle.std.proofs.lemmas.List.{drop_all}
 use Rattle.mq_base.proofs.lemmas.Lists.{drop_at, sum-cons}
 use Rattle.mq_core.specs.Sequences.{sequence_wait, sequence_waits, sequence_service, sequence_services, sequence_sojourn, sequence_sojourns, stream_sojourns}
 use Rattle.mq_core.specs.Results.{numbers_of, one_more}
@@ -42,6 +43,19 @@ sojourns-at span arrives fates i arrive fate a f = λ k. sequence_sojourns span 
 pub numbers-at : (founds : List ℕ) (fates : List Fate) (i found : ℕ) (fate : Fate) → slice_get founds i ≡ Some found → slice_get fates i ≡ Some fate →
     numbers_of (drop i founds) (drop i fates) ≡ one_more found fate ∷ numbers_of (drop (i + 1) founds) (drop (i + 1) fates)
 numbers-at founds fates i found fate a f = λ k. numbers_of (drop_at founds i found a k) (drop_at fates i fate f k)
+
+-- Behind the last visit nothing is left.
+pub waits-end : (rows : Rows) (kind : Kind) (jobs arrives : List ℕ) (fates : List Fate) (i : ℕ) → length jobs ≤ i → sequence_waits rows kind (drop i jobs) (drop i arrives) (drop i fates) ≡ []
+waits-end rows kind jobs arrives fates i l = ap (λ rest. sequence_waits rows kind rest (drop i arrives) (drop i fates)) (drop_all i jobs l)
+
+pub services-end : (rows : Rows) (kind : Kind) (jobs : List ℕ) (fates : List Fate) (i : ℕ) → length jobs ≤ i → sequence_services rows kind (drop i jobs) (drop i fates) ≡ []
+services-end rows kind jobs fates i l = ap (λ rest. sequence_services rows kind rest (drop i fates)) (drop_all i jobs l)
+
+pub sojourns-end : (span : ℕ) (arrives : List ℕ) (fates : List Fate) (i : ℕ) → length arrives ≤ i → sequence_sojourns span (drop i arrives) (drop i fates) ≡ []
+sojourns-end span arrives fates i l = ap (λ rest. sequence_sojourns span rest (drop i fates)) (drop_all i arrives l)
+
+pub numbers-end : (founds : List ℕ) (fates : List Fate) (i : ℕ) → length founds ≤ i → numbers_of (drop i founds) (drop i fates) ≡ []
+numbers-end founds fates i l = ap (λ rest. numbers_of rest (drop i fates)) (drop_all i founds l)
 
 pub leaves-at : (rows : Rows) (jobs times : List ℕ) (i job time : ℕ) → slice_get jobs i ≡ Some job → slice_get times i ≡ Some time →
     stream_sojourns rows (drop i jobs) (drop i times) ≡ (time - slice_index rows.time job) ∷ stream_sojourns rows (drop (i + 1) jobs) (drop (i + 1) times)

@@ -1,11 +1,11 @@
-use Rattle.std.proofs.Common.{◌∙◌, ℕ, ◌+◌, Some, ap, arith, count_by, length, map, sym, take}
+use Rattle.std.proofs.Common.{◌∙◌, ℕ, ◌+◌, Some, ap, arith, count_by, length, map, sym, take, ◌≤◌, subst}
 use Rattle.std.specs.Prelude.{slice_get}
 use Rattle.std.specs.List.{zip}
 use Rattle.std.proofs.lemmas.List.{length-map}
 use Rattle.mq_core.specs.Laws.{in_order_of}
 use Rattle.mq_core.specs.declared.model.Fate.{Fate}
 use Rattle.mq_core.specs.declared.model.Fate.TheVariants.{Departs}
-use Rattle.mq_stats.proofs.Founds.{count-next}
+use Rattle.mq_stats.proofs.Founds.{count-next, counted-few, few-in-32, few-in-64}
 use Rattle.mq_stats.proofs.Telling.{all-stay, count-most, counts-next, departs-get, departures-of, length-zip, one-longer, zip-get}
 use Rattle.mq_stats.specs.Ahead.{leaves_at_once}
 use Rattle.mq_stats.proofs.pieces.ahead_of_departures.Goals as goal
@@ -30,13 +30,23 @@ loop-at-preserved c =
       kept = counts-next c.loop-at.kept.items _ (λ k. k) at _ i.kept_many kept (omega arith) i.kept;
       still = counts-next c.loop-at.still.items _ (λ k. count_by once (take k visits)) at _ i.still_many still (omega arith) i.still;
       few_at_once = omega arith;
-      kept_many = omega arith;
-      still_many = omega arith;
-      kept_len = omega arith;
-      still_len = omega arith;
-      kept_room = omega arith;
-      still_room = omega arith;
+      kept_many = kept_longer ∙ ap (λ n. n + 1) i.kept_many;
+      still_many = still_longer ∙ ap (λ n. n + 1) i.still_many;
+      kept_len = c.push_reserved-in-loop-at.ensures.len ∙ ap (λ n. n + 1) i.kept_len;
+      still_len = c.push_reserved-in-loop-at-2.ensures.len ∙ ap (λ n. n + 1) i.still_len;
+      kept_room = subst (λ room. length c.args.departs.now + 1 ≤ room) (sym c.push_reserved-in-loop-at.ensures.capacity) i.kept_room;
+      still_room = subst (λ room. length c.args.departs.now + 1 ≤ room) (sym c.push_reserved-in-loop-at-2.ensures.capacity) i.still_room;
     }
+
+pub overflow_add-at_once : goal.overflow_add-at_once
+overflow_add-at_once c =
+    few-in-64 _
+    (counted-few (λ (p : ℕ × Fate). leaves_at_once p.0 p.1) (zip c.args.arrive.now (map (λ time. Departs time) c.args.departs.now)) c.loop-at.at _ _ _ _ _ c.loop-at.invariant.at_once c.loop-at-test.true (c.len-at-end.ensures ∙ c.requires.even) c.requires.few c.one_if_same_time-at_once.ensures)
+
+pub overflow_cast-at_once : goal.overflow_cast-at_once
+overflow_cast-at_once c =
+    few-in-32 _
+    (counted-few (λ (p : ℕ × Fate). leaves_at_once p.0 p.1) (zip c.args.arrive.now (map (λ time. Departs time) c.args.departs.now)) c.loop-at.at _ _ _ _ _ c.loop-at.invariant.at_once c.loop-at-test.true (c.len-at-end.ensures ∙ c.requires.even) c.requires.few c.one_if_same_time-at_once.ensures)
 
 pub returns : goal.returns
 returns c =

@@ -1,4 +1,4 @@
-use Rattle.std.proofs.Common.{◌≡◌, ◌+◌, ◌≤◌, refl, sym, ap, ◌∙◌, subst, arith, drop, get_or, take, map, length-set}
+use Rattle.std.proofs.Common.{◌≡◌, ℕ, ◌+◌, ◌-◌, ◌<◌, ◌≤◌, refl, sym, ap, ◌∙◌, subst, arith, drop, get_or, take, map, length-set}
 use Rattle.std.proofs.lemmas.List.Sums.{count_by-le-length}
 use Rattle.std.specs.Prelude.{nat_le}
 use Rattle.std.proofs.lemmas.Option.{slice_get-get_or}
@@ -37,3 +37,13 @@ loop-index-preserved c =
       inside = omega (arith, passed.least);
       len = long ∙ c.loop-index.invariant.len;
     }
+
+-- a round passes a departure or goes on to the next visit
+fewer-rounds : (n n' m index left passed : ℕ) → n' ≡ n → passed ≤ 1 → index < n → left + passed ≤ m → n' - (index + (1 - passed)) + (m - (left + passed)) < n - index + (m - left)
+fewer-rounds n n' m index left passed same bit l inside = omega arith
+
+pub loop-index-smaller : goal.loop-index-smaller
+loop-index-smaller c =
+    let passed = c.one_if_passed-passed.ensures in
+    let most = count_by-le-length (λ t. nat_le t (get_or c.args.arrive.now (c.args.first + c.loop-index.index) 0)) c.args.departs.now in
+    fewer-rounds _ _ _ _ _ c.one_if_passed-passed.result (length-set c.loop-index.found c.loop-index.index c.saturating_sub.result) passed.bit c.loop-index-test.true (omega (arith, passed.least))

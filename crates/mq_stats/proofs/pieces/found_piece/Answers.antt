@@ -1,11 +1,13 @@
-use Rattle.std.proofs.Common.{◌≡◌, ◌-◌, ◌+◌, ◌≤◌, ap, ◌∙◌, sym, subst, arith, take, count_by}
+use Rattle.std.proofs.Common.{◌≡◌, ℕ, ◌-◌, ◌+◌, ◌≤◌, List, ◌++◌, ap, le_refl, length, ◌∙◌, sym, subst, arith, take, count_by}
 use Rattle.std.specs.Prelude.{nat_le}
+use Rattle.std.proofs.Math.Seq.{take-length}
+use Rattle.std.proofs.lemmas.List.{take-append-le}
 use Rattle.std.proofs.lemmas.List.Sums.{count_by-le-length}
 use Rattle.mq_core.specs.OnceOut.{departs_after}
 use Rattle.mq_core.specs.Laws.{Rises}
 use Rattle.mq_stats.proofs.Founds.{founds-next}
 use Rattle.mq_stats.proofs.Passing.{up_to}
-use Rattle.mq_stats.proofs.Telling.{founds-start, leaving-rises, length-zip, passed-next, still-told, there-is, told}
+use Rattle.mq_stats.proofs.Telling.{founds-start, leaving-rises, length-zip, one-longer, passed-next, still-told, there-is, told}
 use Rattle.mq_stats.proofs.pieces.found_piece.Goals as goal
 
 pub loop-at-init : goal.loop-at-init
@@ -16,6 +18,7 @@ loop-at-init c =
       so_far = λ fate h. founds-start c.args.from _ c.args.arrive.now fate c.in_ok-found.ensures.items;
       left = λ time h. omega arith;
       came = λ time h. omega arith;
+      many = omega (arith, ap length c.in_ok-found.ensures.items);
       len = omega arith;
       room = omega arith;
     }
@@ -78,6 +81,16 @@ loop-at-preserved c =
           founds-next c.loop-at.found.items c.push_reserved.new.self.items _ arrive fate at time _ here.0 c.get-time.ensures here.1 there c.push_reserved.ensures.items (c.loop-at.invariant.so_far fate h);
       left = λ later h. passed-next arrive c.args.ahead.now.leaving at time later _ rising c.get-time.ensures h left;
       came = λ later h. passed-next arrive arrive at time later _ rising c.get-time.ensures h came;
+      many = let longer = one-longer c.loop-at.found.items _ _ c.push_reserved.ensures.items in omega arith;
       len = omega arith;
       room = omega arith;
     }
+
+-- what is found so far is the first part of all
+first-part : (done rest all : List ℕ) (n : ℕ) → length done ≡ n → done ++ rest ≡ all → done ≡ take n all
+first-part done rest all n many is = sym (ap (λ k. take k (done ++ rest)) (sym many) ∙ (take-append-le (length done) done rest (le_refl (length done)) ∙ take-length done)) ∙ ap (take n) is
+
+pub returns : goal.returns
+returns c = λ fate h.
+    let many : length c.loop-at.found.items ≡ c.args.to - c.args.from = omega (arith, c.loop-at.invariant.many) in
+    c.from_vec.ensures ∙ first-part c.loop-at.found.items _ _ (c.args.to - c.args.from) many (c.loop-at.invariant.so_far fate h)

@@ -1,7 +1,8 @@
-use Rattle.std.proofs.Common.{◌<◌, arith, length}
+use Rattle.std.proofs.Common.{◌+◌, ◌<◌, ◌≤◌, ap, ◌∙◌, arith, length, max, sym}
+use Rattle.std.specs.Prelude.{fold}
 use Rattle.std.proofs.lemmas.Option.{slice_get-get_or}
 use Rattle.mq_core.specs.Results.{is_held, is_lost}
-use Rattle.mq_stats.proofs.Steps.{adds, counts, grows, numbers-at, sojourns-at}
+use Rattle.mq_stats.proofs.Steps.{adds, counts, grows, numbers-at, numbers-end, sojourns-at, sojourns-end}
 use Rattle.mq_stats.proofs.tallies.stays_of.Goals as goal
 
 pub loop-at-preserved : goal.loop-at-preserved
@@ -26,3 +27,14 @@ loop-at-preserved c =
       few_held = omega arith;
       small = omega arith;
     }
+
+pub returns-clause-stay : goal.returns-clause-stay
+returns-clause-stay c = sym (ap (fold (λ a y. a + y) c.loop-at.stay) (sojourns-end 0 c.args.arrive.now c.args.fate.now c.loop-at.at c.loop-at-test.false)) ∙ c.loop-at.invariant.stay
+
+pub returns-clause-longest : goal.returns-clause-longest
+returns-clause-longest c = sym (ap (fold max c.loop-at.longest) (sojourns-end 0 c.args.arrive.now c.args.fate.now c.loop-at.at c.loop-at-test.false)) ∙ c.loop-at.invariant.longest
+
+pub returns-clause-greatest : goal.returns-clause-greatest
+returns-clause-greatest c =
+    let last : length c.args.found.now ≤ c.loop-at.at = omega (arith, c.requires.founds) in
+    sym (ap (fold max c.loop-at.greatest) (numbers-end c.args.found.now c.args.fate.now c.loop-at.at last)) ∙ c.loop-at.invariant.greatest

@@ -3,6 +3,13 @@ use Rattle.mq_core.specs.Results.{is_departed}
 use Rattle.mq_stats.proofs.Held.{fates-counted}
 use Rattle.mq_stats.proofs.tallies.totals_of.Goals as goal
 
+pub overflow_sub-result : goal.overflow_sub-result
+overflow_sub-result c =
+    let all = fates-counted c.args.fate.now in
+    let stays = c.stays_of-stays.ensures in
+    let fates = c.requires.fates in
+    omega arith
+
 pub overflow_sub-result-2 : goal.overflow_sub-result-2
 overflow_sub-result-2 c =
     let all = fates-counted c.args.fate.now in

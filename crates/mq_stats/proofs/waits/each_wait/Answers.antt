@@ -1,6 +1,7 @@
-use Rattle.std.proofs.Common.{◌<◌, arith, length}
+use Rattle.std.proofs.Common.{◌+◌, ◌<◌, ap, ◌∙◌, arith, length, max, sym}
+use Rattle.std.specs.Prelude.{fold}
 use Rattle.std.proofs.lemmas.Option.{slice_get-get_or}
-use Rattle.mq_stats.proofs.Steps.{adds, grows, services-at, waits-at}
+use Rattle.mq_stats.proofs.Steps.{adds, grows, services-at, services-end, waits-at, waits-end}
 use Rattle.mq_stats.proofs.waits.each_wait.Goals as goal
 
 pub loop-at-preserved : goal.loop-at-preserved
@@ -25,3 +26,18 @@ loop-at-preserved g c =
       small = omega arith;
       small_busy = omega arith;
     }
+
+pub returns-clause-wait : goal.returns-clause-wait
+returns-clause-wait g c =
+    let waiting = c.args.waiting.now in
+    sym (ap (fold (λ a y. a + y) c.loop-at.wait) (waits-end waiting.rows.now waiting.kind.now waiting.job.now waiting.arrive.now waiting.fate.now c.loop-at.at c.loop-at-test.false)) ∙ c.loop-at.invariant.wait
+
+pub returns-clause-longest : goal.returns-clause-longest
+returns-clause-longest g c =
+    let waiting = c.args.waiting.now in
+    sym (ap (fold max c.loop-at.longest) (waits-end waiting.rows.now waiting.kind.now waiting.job.now waiting.arrive.now waiting.fate.now c.loop-at.at c.loop-at-test.false)) ∙ c.loop-at.invariant.longest
+
+pub returns-clause-busy : goal.returns-clause-busy
+returns-clause-busy g c =
+    let waiting = c.args.waiting.now in
+    sym (ap (fold (λ a y. a + y) c.loop-at.busy) (services-end waiting.rows.now waiting.kind.now waiting.job.now waiting.fate.now c.loop-at.at c.loop-at-test.false)) ∙ c.loop-at.invariant.busy
