@@ -37,7 +37,8 @@ departed-join rows kind visits h from middle to l m n =
     sym (departed-append rows kind before.job before.arrive before.fate after.job after.arrive after.fate (omega arith) (omega arith))
     ∙ (λ k. departed_waits rows kind (between-join visits.job from middle to l m k) (between-join visits.arrive from middle to l m k) (between-join visits.fate from middle to l m k))
 
-departed-few : (rows : Rows) (kind : Kind) (jobs arrives : List ℕ) (fates : List Fate) → length (departed_waits rows kind jobs arrives fates) ≤ length jobs
+-- no more depart than come
+pub departed-few : (rows : Rows) (kind : Kind) (jobs arrives : List ℕ) (fates : List Fate) → length (departed_waits rows kind jobs arrives fates) ≤ length jobs
 departed-few rows kind [] arrives fates = omega arith
 departed-few rows kind (j ∷ jobs) [] fates = omega arith
 departed-few rows kind (j ∷ jobs) (x ∷ arrives) [] = omega arith

@@ -7,6 +7,7 @@ ghost use Rattle.mq_stats.specs.Percentiles.{ArePercentiles, hundredths as hundr
 ghost use Rattle.mq_stats.specs.Tables.{IsReached, IsTableOf, own_counts};
 ghost use Rattle.mq_stats.specs.Waits.{AreWaiting, departed_waits_in};
 
+use crate::wait_counts::{counted_percentiles, counts_by};
 use crate::waits::{Alike, Asking, Asks, Waiting, asks_at, wait_beyond};
 use mq_base::OutOfMemory;
 use mq_core::{Fate, Kind, Rows, Visits};
@@ -172,10 +173,9 @@ fn counted_tail<A: Asking>(
     requires visits { AreWaiting waiting.now }
     ensures { IfOk result (λ tail. IfSome tail (ArePercentiles (departed_waits_in waiting.now))) }
 {
-    let most = longest.min(waiting.job.len() as u64) as usize;
-    let mut table = vec![in alloc; 0u32; most + 2]?;
-    let many = count_waits(asking, waiting, table.as_mut_slice());
-    Ok(counted(table.as_slice(), many))
+    let most = longest.min(waiting.job.len() as u64) as u32;
+    let counts = counts_by(alloc, asking, waiting, most)?;
+    Ok(counted_percentiles(&counts))
 }
 
 // The same of any waits.
@@ -212,6 +212,19 @@ fn tail_by<A: Asking>(
     }
 }
 
+// The same, by how the jobs ask at the node.
+fn tail_of(alloc: Global, waiting: &Waiting, longest: u64) -> Result<Percentiles, OutOfMemory>
+    requires visits { AreWaiting waiting.now }
+    ensures { IfOk result (ArePercentiles (departed_waits_in waiting.now)) }
+{
+    match asks_at(waiting.kind) {
+        Asks::Nothing => tail_by(alloc, &Alike(0), waiting, longest),
+        Asks::ByColumn(asking) => tail_by(alloc, &asking, waiting, longest),
+        Asks::AllAlike(asking) => tail_by(alloc, &asking, waiting, longest),
+        Asks::ByServers(asking) => tail_by(alloc, &asking, waiting, longest),
+    }
+}
+
 /// The percentiles of the waits of the visits to a node of this kind, as `tail` gives them, by a table that is no longer than a
 /// longest wait of `longest` ticks needs. Where a wait is longer the answer is the same, and may come more slowly. It refuses
 /// for want of memory alone.
@@ -232,12 +245,7 @@ pub fn tail_below(
         arrive: visits.arrive.as_slice(),
         fate: &visits.fate.as_slice(),
     };
-    match asks_at(kind) {
-        Asks::Nothing => tail_by(alloc, &Alike(0), &waiting, longest),
-        Asks::ByColumn(asking) => tail_by(alloc, &asking, &waiting, longest),
-        Asks::AllAlike(asking) => tail_by(alloc, &asking, &waiting, longest),
-        Asks::ByServers(asking) => tail_by(alloc, &asking, &waiting, longest),
-    }
+    tail_of(alloc, &waiting, longest)
 }
 
 /// The percentiles of the waits of the visits to a node of this kind. It refuses for want of memory alone.

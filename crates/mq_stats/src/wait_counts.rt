@@ -23,7 +23,7 @@ pub struct WaitCounts {
 }
 
 // The counts of the waits of these visits, whose jobs ask so.
-fn counts_by<A: Asking>(
+pub fn counts_by<A: Asking>(
     alloc: Global,
     asking: &A,
     waiting: &Waiting,
@@ -40,6 +40,20 @@ fn counts_by<A: Asking>(
         many: many as u32,
         counts: List::from_vec(table),
     })
+}
+
+// The same, by how the jobs ask at the node.
+fn counts_of(alloc: Global, waiting: &Waiting, most: u32) -> Result<WaitCounts, OutOfMemory>
+    requires visits { AreWaiting waiting.now }
+    requires most { most ≤ 1048576 }
+    ensures { IfOk result (AreCountsTo most (departed_waits_in waiting.now)) }
+{
+    match asks_at(waiting.kind) {
+        Asks::Nothing => counts_by(alloc, &Alike(0), waiting, most),
+        Asks::ByColumn(asking) => counts_by(alloc, &asking, waiting, most),
+        Asks::AllAlike(asking) => counts_by(alloc, &asking, waiting, most),
+        Asks::ByServers(asking) => counts_by(alloc, &asking, waiting, most),
+    }
 }
 
 /// The counts of the waits of those visits to a node of this kind that depart, from one position up to another: of each number
@@ -66,12 +80,7 @@ pub fn count_between(
         arrive: part(&visits.arrive, from, to),
         fate: &visits.fate.part(from as usize, to as usize),
     };
-    match asks_at(kind) {
-        Asks::Nothing => counts_by(alloc, &Alike(0), &waiting, most),
-        Asks::ByColumn(asking) => counts_by(alloc, &asking, &waiting, most),
-        Asks::AllAlike(asking) => counts_by(alloc, &asking, &waiting, most),
-        Asks::ByServers(asking) => counts_by(alloc, &asking, &waiting, most),
-    }
+    counts_of(alloc, &waiting, most)
 }
 
 // Adds to each count the other at its index.

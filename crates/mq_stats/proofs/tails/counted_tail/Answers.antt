@@ -1,11 +1,13 @@
-use Rattle.std.proofs.Common.{subst, sym, ◌∙◌}
-use Rattle.mq_stats.specs.Tables.{IsTableOf}
+use Rattle.std.proofs.Common.{arith}
 use Rattle.mq_stats.specs.Waits.{departed_waits_in}
-use Rattle.mq_stats.proofs.Backs.{written_back}
+use Rattle.mq_stats.proofs.WaitsJoin.{departed-few}
 use Rattle.mq_stats.proofs.tails.counted_tail.Goals as goal
 
+pub counted_percentiles-requires-clause-few : goal.counted_percentiles-requires-clause-few
+counted_percentiles-requires-clause-few g c =
+    let waiting = c.args.waiting.now in
+    let waits = departed-few waiting.rows.now waiting.kind.now waiting.job.now waiting.arrive.now waiting.fate.now in
+    omega (arith, waits, c.in_ok-counts.ensures.many, c.requires.visits.few)
+
 pub returns : goal.returns
-returns g c =
-    let waits = departed_waits_in c.args.waiting.now in
-    let is = written_back c.count_waits-many.new.table c.in_ok-table.table.items c.as_slice.result.now c.in_ok-table.table.len c.as_slice.ensures.value (c.count_waits-many.ensures.room ∙ c.as_mut_slice.ensures.len) in
-    c.counted.ensures.percentiles waits c.count_waits-many.ensures.many (subst (IsTableOf waits) (sym is) c.count_waits-many.ensures.table)
+returns g c = c.counted_percentiles.ensures.percentiles _ (departed_waits_in c.args.waiting.now) c.in_ok-counts.ensures
