@@ -6,7 +6,7 @@ ghost use Rattle.mq_stats.specs.Numbers.{AreLeaving};
 use mq_core::{Rows, Stream};
 
 /// What leaves a network by an output.
-#[derive(Clone, Copy, Debug, PartialEq, Eq)]
+#[derive(Clone, Copy, PartialEq, Eq)]
 pub struct Exit {
     /// How many jobs leave.
     pub count: u32,

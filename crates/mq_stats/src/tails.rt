@@ -15,7 +15,7 @@ use std::alloc::Global;
 
 /// Percentiles of the waits at a node, in ticks, over the visits that depart: the least wait that so many hundredths
 /// of them don't pass, or 0 where no visit departs.
-#[derive(Clone, Copy, Debug, PartialEq, Eq)]
+#[derive(Clone, Copy, PartialEq, Eq)]
 pub struct Percentiles {
     /// Half of the waits are at most this.
     pub p50: u64,

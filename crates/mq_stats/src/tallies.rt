@@ -10,7 +10,7 @@ use mq_base::List;
 use mq_core::{Fate, FateSlice, Kind, Rows, Visits};
 
 /// The totals of a node over a run.
-#[derive(Clone, Copy, Debug, PartialEq, Eq)]
+#[derive(Clone, Copy, PartialEq, Eq)]
 pub struct NodeTotals {
     /// How many jobs came.
     pub came: u32,
