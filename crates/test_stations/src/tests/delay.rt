@@ -1,4 +1,4 @@
-// Jobs that overtake others, and jobs that leave at one time.
+// A job that overtakes another.
 ghost use Rattle.std.specs.Prelude.{◌≡◌, length, IfOk};
 ghost use Rattle.mq_core.specs.Sequences.{IsSoundLoad};
 
@@ -76,20 +76,5 @@ const OVERTAKING: Case<'static> = Case {
 #[test]
 fn a_job_overtakes_one_that_takes_longer(rt: HostRuntime) -> Result<(), Fail> {
     assert!(rt; leaves_so(&rt, rt.alloc(), &OVERTAKING)?);
-    Ok(())
-}
-
-const AT_ONE_TIME: Case<'static> = Case {
-    jobs: &[7, 3, 5, 1],
-    arrive: &[0, 3, 3, 3],
-    demands: &[5, 2, 0, 2],
-    departs: &[5, 5, 3, 5],
-    leaving: &[5, 7, 3, 1],
-    times: &[3, 5, 5, 5],
-};
-
-#[test]
-fn jobs_of_one_departure_leave_by_position(rt: HostRuntime) -> Result<(), Fail> {
-    assert!(rt; leaves_so(&rt, rt.alloc(), &AT_ONE_TIME)?);
     Ok(())
 }

@@ -3,10 +3,9 @@ ghost use Rattle.mq_core.specs.Sequences.{IsSoundLoad};
 
 use mq_base::{List, OutOfMemory, Steps};
 use mq_core::Stream;
-use mq_loss::{Settled, judge, round, settle, settle_whole};
+use mq_loss::{Settled, round, settle, settle_whole};
 use std::alloc::Global;
 use std::marker::Brand;
-use std::process::Abort;
 use std::sync::ledger::{Blank, Ledger};
 use std::test::Fail;
 
@@ -70,35 +69,6 @@ fn settled(alloc: Global, load: &Load, places: u32, first: u32) -> Result<Settle
     requires first { 1 ≤ first }
 {
     settle_with::<Brand>(alloc, load, places, first, Blank::new(1))
-}
-
-// Judges arrivals behind departures at 2 and 4.
-fn judges<L: Ledger, R: Abort>(rt: &R, departs: &List<u64>, blank: Blank)
-    requires name { blank.name ≡ L.name }
-    requires parts { blank.parts ≡ L.parts }
-    requires some { 0 < blank.parts }
-{
-    let mut steps = Steps::<L>::new(blank);
-    assert!(rt; !judge(departs, 1, 3, &mut steps));
-    assert!(rt; judge(departs, 1, 4, &mut steps));
-    assert!(rt; !judge(departs, 2, 1, &mut steps));
-    assert!(rt; judge(departs, 2, 2, &mut steps));
-    assert!(rt; judge(departs, 3, 0, &mut steps));
-}
-
-// The same with a counter that nothing reads.
-fn judge_each(rt: &impl Abort, departs: &List<u64>) {
-    judges::<Brand, _>(rt, departs, Blank::new(1));
-}
-
-#[test]
-fn an_arrival_at_a_departure_is_admitted(rt: HostRuntime) -> Result<(), Fail> {
-    let alloc = rt.alloc();
-    let mut departs = List::new(alloc);
-    departs.push(2u64)?;
-    departs.push(4u64)?;
-    judge_each(&rt, &departs);
-    Ok(())
 }
 
 // What a station comes to.
@@ -214,68 +184,6 @@ fn windows_settle_all(rt: HostRuntime) -> Result<(), Fail> {
         ..of_two
     };
     assert!(rt; windows_come_to(rt.alloc(), 4, 4, &of_four)?);
-    Ok(())
-}
-
-fn is_so(found: &Settled, admitted: &[bool], departs: &[u64]) -> bool {
-    found.admitted.as_slice() == admitted && found.departs.as_slice() == departs
-}
-
-// Whether two places, one of them to wait in, take these in whole rounds.
-fn two_places_take(
-    alloc: Global,
-    load: &Load,
-    admitted: &[bool],
-    departs: &[u64],
-) -> Result<bool, OutOfMemory>
-    requires { IsSoundLoad load.now.stream.time load.now.demands }
-{
-    let found = settle_whole(alloc, &load.stream, &load.demands, 2)?;
-    Ok(is_so(&found, admitted, departs))
-}
-
-// The same in windows, the first of them of this size.
-fn two_places_take_in(
-    alloc: Global,
-    load: &Load,
-    first: u32,
-    admitted: &[bool],
-    departs: &[u64],
-) -> Result<bool, OutOfMemory>
-    requires load { IsSoundLoad load.now.stream.time load.now.demands }
-    requires first { 1 ≤ first }
-{
-    let found = settled(alloc, load, 2, first)?;
-    Ok(is_so(&found, admitted, departs))
-}
-
-// The same in windows, whatever the size of the first.
-fn two_places_take_in_each(
-    alloc: Global,
-    load: &Load,
-    admitted: &[bool],
-    departs: &[u64],
-) -> Result<bool, OutOfMemory>
-    requires { IsSoundLoad load.now.stream.time load.now.demands }
-{
-    for first in 1..8 {
-        if !two_places_take_in(alloc, load, first, admitted, departs)? {
-            return Ok(false);
-        }
-    }
-    Ok(true)
-}
-
-#[test]
-fn two_places_hold_one_that_waits(rt: HostRuntime) -> Result<(), Fail> {
-    let alloc = rt.alloc();
-    let load = each_tick(alloc, 6)?;
-    let admitted = [true, true, true, false, true, false];
-    let departs = [2, 4, 6, 8];
-    assert!(rt;
-        two_places_take(alloc, &load, &admitted, &departs)?
-            && two_places_take_in_each(alloc, &load, &admitted, &departs)?
-    );
     Ok(())
 }
 

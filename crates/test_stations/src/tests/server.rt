@@ -8,7 +8,7 @@ use mq_base::{List, OutOfMemory};
 use mq_core::Stream;
 use mq_maxplus::{Affine, Mp};
 use mq_scan::{Step, apply, carries, cut, scan, summarise};
-use mq_server::{ServerStep, departures, departures_behind};
+use mq_server::ServerStep;
 use std::alloc::Global;
 use std::test::Fail;
 
@@ -32,27 +32,6 @@ fn three_jobs(alloc: Global) -> Result<Load, OutOfMemory>
         },
         demands: List::from_vec(Vec::from_slice(alloc, &[4, 1, 3])?),
     })
-}
-
-// Whether the jobs leave at these times.
-fn they_leave_at(alloc: Global, wanted: &[u64]) -> Result<bool, OutOfMemory> {
-    let load = three_jobs(alloc)?;
-    let departs = departures(alloc, &load.stream, &load.demands)?;
-    Ok(departs.as_slice() == wanted)
-}
-
-// The same where they come from other servers.
-fn from_others_they_leave_at(alloc: Global, wanted: &[u64]) -> Result<bool, OutOfMemory> {
-    let load = three_jobs(alloc)?;
-    let departs = departures_behind(alloc, &load.stream.time, &load.demands)?;
-    Ok(departs.as_slice() == wanted)
-}
-
-#[test]
-fn a_job_begins_when_the_one_before_it_leaves(rt: HostRuntime) -> Result<(), Fail> {
-    assert!(rt; they_leave_at(rt.alloc(), &[4, 5, 8])?);
-    assert!(rt; from_others_they_leave_at(rt.alloc(), &[4, 5, 8])?);
-    Ok(())
 }
 
 // Whether a scan by blocks of this size gives these departures.

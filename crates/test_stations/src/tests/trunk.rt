@@ -1,13 +1,12 @@
-// Rounds and windows of a trunk group, and what leaves it.
+// Rounds and windows of a trunk group.
 ghost use Rattle.std.specs.Prelude.{◌≡◌, ◌≤◌, ◌<◌, IfOk, length};
 ghost use Rattle.mq_core.specs.Sequences.{IsSoundLoad, IsStream};
 
 use mq_base::{List, OutOfMemory, Steps};
 use mq_core::Stream;
-use mq_trunk::{Trunk, judge_trunk, settle_trunk, trunk_round};
+use mq_trunk::{Trunk, settle_trunk, trunk_round};
 use std::alloc::Global;
 use std::marker::Brand;
-use std::process::Abort;
 use std::sync::ledger::{Blank, Ledger};
 use std::test::Fail;
 
@@ -74,31 +73,6 @@ fn settled(alloc: Global, load: &Load, servers: u8, first: u32) -> Result<Trunk,
     settle_with::<Brand>(alloc, load, servers, first, Blank::new(1))
 }
 
-// Judges arrivals at trunk groups of 2, 1 and 255 servers.
-fn judges<L: Ledger, R: Abort>(rt: &R, blank: Blank)
-    requires name { blank.name ≡ L.name }
-    requires parts { blank.parts ≡ L.parts }
-    requires some { 0 < blank.parts }
-{
-    let mut steps = Steps::<L>::new(blank);
-    assert!(rt; judge_trunk(1, 2, &mut steps));
-    assert!(rt; !judge_trunk(2, 2, &mut steps));
-    assert!(rt; judge_trunk(0, 1, &mut steps));
-    assert!(rt; judge_trunk(254, 255, &mut steps));
-    assert!(rt; !judge_trunk(255, 255, &mut steps));
-}
-
-// The same with a counter that nothing reads.
-fn judge_each(rt: &impl Abort) {
-    judges::<Brand, _>(rt, Blank::new(1));
-}
-
-#[test]
-fn an_arrival_is_admitted_where_a_server_is_free(rt: HostRuntime) -> Result<(), Fail> {
-    judge_each(&rt);
-    Ok(())
-}
-
 // Whether a round of this load at two servers answers this guess so.
 fn round_answers(
     alloc: Global,
@@ -141,140 +115,66 @@ fn a_round_of_a_trunk_judges_by_the_guess(rt: HostRuntime) -> Result<(), Fail> {
     Ok(())
 }
 
-// What a trunk group comes to.
+/// What comes to a trunk group of so many servers, and in how many rounds and judgements it is settled.
 #[derive(Clone, Copy)]
-struct Outcome<'a> {
-    admitted: &'a [bool],
-    departs: &'a [u64],
-    leaving: &'a [u32],
-    times: &'a [u64],
-    lost: &'a [u32],
-    overflows: &'a [u64],
-    rounds: u32,
-    judged: u64,
-}
-
-// Whether a stream has these jobs at these times.
-fn has(stream: &Stream, jobs: &[u32], times: &[u64]) -> bool {
-    stream.job.as_slice() == jobs && stream.time.as_slice() == times
-}
-
-fn comes_to(found: &Trunk, wanted: &Outcome<'_>) -> bool {
-    found.admitted.as_slice() == wanted.admitted
-        && found.departs.as_slice() == wanted.departs
-        && has(&found.leaving, wanted.leaving, wanted.times)
-        && has(&found.lost, wanted.lost, wanted.overflows)
-        && (found.rounds, found.judged) == (wanted.rounds, wanted.judged)
-}
-
-// Whether this load comes to this at so many servers, with a first window of five.
-fn trunk_comes_to(
-    alloc: Global,
-    load: &Load,
+struct Case<'a> {
+    jobs: &'a [u32],
+    arrive: &'a [u64],
+    demands: &'a [u64],
     servers: u8,
-    wanted: &Outcome<'_>,
-) -> Result<bool, OutOfMemory>
-    requires load { IsSoundLoad load.now.stream.time load.now.demands }
-    requires stream { IsStream load.now.stream }
-{
-    let found = settled(alloc, load, servers, 5)?;
-    Ok(comes_to(&found, wanted))
+    counts: (u32, u64),
 }
+
+// Whether a case is settled in so many, with a first window of five.
+fn takes_so_many(alloc: Global, case: &Case<'_>) -> Result<bool, OutOfMemory>
+    requires load { IsSoundLoad case.now.arrive.now case.now.demands.now }
+    requires stream { IsStream (record { job = case.now.jobs.now; time = case.now.arrive.now }) }
+{
+    let load = load_of(alloc, case.jobs, case.arrive, case.demands)?;
+    let found = settled(alloc, &load, case.servers, 5)?;
+    Ok((found.rounds, found.judged) == case.counts)
+}
+
+// The third finds both servers busy.
+const ONE_LOST: Case<'static> = Case {
+    jobs: &[0, 1, 2, 3, 4],
+    arrive: &[0, 1, 2, 3, 4],
+    demands: &[3, 3, 3, 3, 3],
+    servers: 2,
+    counts: (2, 7),
+};
+
+const OVERTAKING: Case<'static> = Case {
+    jobs: &[0, 1],
+    arrive: &[0, 1],
+    demands: &[5, 1],
+    servers: 2,
+    counts: (1, 2),
+};
+
+// Every other one is lost.
+const SINGLE: Case<'static> = Case {
+    jobs: &[5, 8, 6, 7],
+    arrive: &[0, 1, 2, 3],
+    demands: &[2, 9, 2, 9],
+    servers: 1,
+    counts: (2, 6),
+};
+
+const ENOUGH_SERVERS: Case<'static> = Case {
+    jobs: &[7, 3, 5],
+    arrive: &[0, 3, 3],
+    demands: &[5, 2, 0],
+    servers: 255,
+    counts: (1, 3),
+};
 
 #[test]
 fn windows_settle_a_trunk(rt: HostRuntime) -> Result<(), Fail> {
-    let jobs = [0, 1, 2, 3, 4];
-    let load = load_of(rt.alloc(), &jobs, &[0, 1, 2, 3, 4], &[3, 3, 3, 3, 3])?;
-    let wanted = Outcome {
-        admitted: &[true, true, false, true, true],
-        departs: &[3, 4, 6, 7],
-        leaving: &[0, 1, 3, 4],
-        times: &[3, 4, 6, 7],
-        lost: &[2],
-        overflows: &[2],
-        rounds: 2,
-        judged: 7,
-    };
-    assert!(rt; trunk_comes_to(rt.alloc(), &load, 2, &wanted)?);
-    Ok(())
-}
-
-#[test]
-fn a_job_of_a_trunk_overtakes_one_that_takes_longer(rt: HostRuntime) -> Result<(), Fail> {
-    let load = load_of(rt.alloc(), &[0, 1], &[0, 1], &[5, 1])?;
-    let wanted = Outcome {
-        admitted: &[true, true],
-        departs: &[5, 2],
-        leaving: &[1, 0],
-        times: &[2, 5],
-        lost: &[],
-        overflows: &[],
-        rounds: 1,
-        judged: 2,
-    };
-    assert!(rt; trunk_comes_to(rt.alloc(), &load, 2, &wanted)?);
-    Ok(())
-}
-
-#[test]
-fn a_single_server_takes_the_next_at_a_departure(rt: HostRuntime) -> Result<(), Fail> {
-    let load = load_of(rt.alloc(), &[5, 8, 6, 7], &[0, 1, 2, 3], &[2, 9, 2, 9])?;
-    let wanted = Outcome {
-        admitted: &[true, false, true, false],
-        departs: &[2, 4],
-        leaving: &[5, 6],
-        times: &[2, 4],
-        lost: &[8, 7],
-        overflows: &[1, 3],
-        rounds: 2,
-        judged: 6,
-    };
-    assert!(rt; trunk_comes_to(rt.alloc(), &load, 1, &wanted)?);
-    Ok(())
-}
-
-#[test]
-fn jobs_of_a_trunk_of_one_departure_leave_by_position(rt: HostRuntime) -> Result<(), Fail> {
-    let load = load_of(rt.alloc(), &[7, 3, 5], &[0, 3, 3], &[5, 2, 0])?;
-    let wanted = Outcome {
-        admitted: &[true, true, true],
-        departs: &[5, 5, 3],
-        leaving: &[5, 7, 3],
-        times: &[3, 5, 5],
-        lost: &[],
-        overflows: &[],
-        rounds: 1,
-        judged: 3,
-    };
-    assert!(rt; trunk_comes_to(rt.alloc(), &load, 255, &wanted)?);
-    Ok(())
-}
-
-// So many jobs that come at 0, each served for a tick.
-fn at_once(alloc: Global, count: usize) -> Result<Load, OutOfMemory>
-    requires { count ≤ 1048576 }
-    ensures load { IfOk result (λ load. IsSoundLoad load.stream.time load.demands) }
-    ensures stream { IfOk result (λ load. IsStream load.stream) }
-{
-    let stream = Stream {
-        job: List::from_vec(vec![in alloc; 0; count]?),
-        time: List::from_vec(vec![in alloc; 0; count]?),
-    };
-    let demands = List::from_vec(vec![in alloc; 1; count]?);
-    Ok(Load { stream, demands })
-}
-
-// Whether of so many jobs at once a trunk group of 255 servers takes 255.
-fn full_trunk_takes(alloc: Global, count: usize) -> Result<bool, OutOfMemory>
-    requires { count ≤ 1048576 }
-{
-    let load = at_once(alloc, count)?;
-    let found = settled(alloc, &load, 255, 4096)?;
-    Ok(found.departs.len() == 255 && found.lost.job.len() == 45)
-}
-
-#[test]
-fn a_trunk_of_255_servers_takes_as_many(rt: HostRuntime) -> Result<(), Fail> {
-    assert!(rt; full_trunk_takes(rt.alloc(), 300)?);
+    let alloc = rt.alloc();
+    assert!(rt; takes_so_many(alloc, &ONE_LOST)?);
+    assert!(rt; takes_so_many(alloc, &OVERTAKING)?);
+    assert!(rt; takes_so_many(alloc, &SINGLE)?);
+    assert!(rt; takes_so_many(alloc, &ENOUGH_SERVERS)?);
     Ok(())
 }

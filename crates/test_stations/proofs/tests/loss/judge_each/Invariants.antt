@@ -1,4 +1,0 @@
-use Rattle.test_stations.proofs.tests.loss.judge_each.Given as goal
-
-abbrev pub ghosts-judges : goal.ghosts-judges
-ghosts-judges g a = record { name = a.blank.name; parts = a.blank.parts }
