@@ -61,13 +61,18 @@ fn add_both(alloc: Global, gathered: &mut Gathered, case: &Case) -> Result<(), O
     add(alloc, gathered, &case.second)
 }
 
+// Whether the visits to a join find so many.
+fn find(alloc: Global, gathered: &Gathered, found: &[u32]) -> Result<bool, OutOfMemory> {
+    let joined = join_visits(alloc, gathered)?;
+    Ok(joined.visits.found.as_slice() == found)
+}
+
 // Whether what comes to the join of a case has its ports, and finds so many.
 fn is_told(alloc: Global, gathered: &Gathered, case: &Case) -> Result<bool, OutOfMemory> {
-    let joined = join_visits(alloc, gathered)?;
     Ok(
         gathered.ports == 2
             && gathered.port.as_slice() == case.ports
-            && joined.visits.found.as_slice() == case.found,
+            && find(alloc, gathered, case.found)?,
     )
 }
 
@@ -125,11 +130,16 @@ const IN_TURN: Case<'static> = Case {
     found: &[0, 1, 2, 1, 0],
 };
 
+fn all_join_so(alloc: Global) -> Result<bool, OutOfMemory> {
+    Ok(
+        joins_so(alloc, &QUICK_AND_SLOW)?
+            && joins_so(alloc, &LOST_ON_THE_WAY)?
+            && joins_so(alloc, &IN_TURN)?,
+    )
+}
+
 #[test]
 fn a_visit_comes_by_its_port_and_finds_those_who_wait(rt: HostRuntime) -> Result<(), Fail> {
-    let alloc = rt.alloc();
-    assert!(rt; joins_so(alloc, &QUICK_AND_SLOW)?);
-    assert!(rt; joins_so(alloc, &LOST_ON_THE_WAY)?);
-    assert!(rt; joins_so(alloc, &IN_TURN)?);
+    assert!(rt; all_join_so(rt.alloc())?);
     Ok(())
 }

@@ -86,7 +86,21 @@ fn comes_to(found: &Settled, wanted: &Outcome<'_>) -> bool {
         && (found.rounds, found.judged) == (wanted.rounds, wanted.judged)
 }
 
-// Whether so many arrivals come to this in whole rounds.
+// Whether a load comes to this in whole rounds.
+fn load_comes_to(
+    alloc: Global,
+    load: &Load,
+    places: u32,
+    wanted: &Outcome<'_>,
+) -> Result<bool, OutOfMemory>
+    requires load { IsSoundLoad load.now.stream.time load.now.demands }
+    requires places { 1 ≤ places }
+{
+    let found = settle_whole(alloc, &load.stream, &load.demands, places)?;
+    Ok(comes_to(&found, wanted))
+}
+
+// Whether so many arrivals do, one a tick.
 fn whole_comes_to(
     alloc: Global,
     count: u32,
@@ -97,8 +111,7 @@ fn whole_comes_to(
     requires places { 1 ≤ places }
 {
     let load = each_tick(alloc, count)?;
-    let found = settle_whole(alloc, &load.stream, &load.demands, places)?;
-    Ok(comes_to(&found, wanted))
+    load_comes_to(alloc, &load, places, wanted)
 }
 
 // Whether so many arrivals come to this in windows, the first of them of this size.
@@ -151,10 +164,15 @@ fn rounds_answer(alloc: Global, load: &Load) -> Result<bool, OutOfMemory>
     Ok(true)
 }
 
+// The same of one arrival a tick.
+fn four_answer(alloc: Global) -> Result<bool, OutOfMemory> {
+    let load = each_tick(alloc, 4)?;
+    rounds_answer(alloc, &load)
+}
+
 #[test]
 fn a_round_judges_by_the_guess(rt: HostRuntime) -> Result<(), Fail> {
-    let load = each_tick(rt.alloc(), 4)?;
-    assert!(rt; rounds_answer(rt.alloc(), &load)?);
+    assert!(rt; four_answer(rt.alloc())?);
     Ok(())
 }
 

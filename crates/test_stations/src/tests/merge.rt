@@ -1,5 +1,5 @@
 // A merge by pieces, between co-ranks.
-ghost use Rattle.std.specs.Prelude.{◌≡◌, ◌≤◌, length, IfOk};
+ghost use Rattle.std.specs.Prelude.{◌≡◌, length, IfOk};
 ghost use Rattle.mq_core.specs.Sequences.{IsStream};
 
 use mq_base::{List, OutOfMemory};
@@ -30,43 +30,28 @@ fn two(alloc: Global) -> Result<Stream, OutOfMemory>
     })
 }
 
-// What a stream has.
-#[derive(Clone, Copy)]
-struct Items<'a> {
-    jobs: &'a [u32],
-    times: &'a [u64],
-}
-
-fn has(stream: &Stream, wanted: &Items) -> bool {
-    stream.job.as_slice() == wanted.jobs && stream.time.as_slice() == wanted.times
-}
-
-// Whether the items of both streams merged, between two indices, are these.
-fn piece_has(alloc: Global, from: u32, to: u32, wanted: &Items) -> Result<bool, OutOfMemory>
-    requires order { from ≤ to }
-    requires within { to ≤ 5 }
+// Whether the last two of the five items of both streams merged are jobs 2 and 4, at 3.
+fn piece_is_so(alloc: Global, a: &Stream, b: &Stream) -> Result<bool, OutOfMemory>
+    requires a { IsStream a.now }
+    requires b { IsStream b.now }
+    requires three { length a.now.time ≡ 3 }
+    requires two { length b.now.time ≡ 2 }
 {
-    let (a, b) = (three(alloc)?, two(alloc)?);
-    let piece = merge_piece(alloc, &a, &b, from, to)?;
-    Ok(has(&piece, wanted))
+    let piece = merge_piece(alloc, a, b, 3, 5)?;
+    Ok(piece.job.as_slice() == [2, 4].as_slice() && piece.time.as_slice() == [3, 3].as_slice())
 }
 
-// Whether so many of the items before an index come from each.
-fn ranks_are(alloc: Global, index: u32, wanted: (u32, u32)) -> Result<bool, OutOfMemory>
-    requires { index ≤ 5 }
-{
-    let (a, b) = (three(alloc)?, two(alloc)?);
-    Ok(co_rank(&a, &b, index) == wanted)
+// Whether two of the first three items come from the one stream and one from the other, and the piece behind
+// them is so.
+fn is_cut_so(alloc: Global) -> Result<bool, OutOfMemory> {
+    let a = three(alloc)?;
+    let b = two(alloc)?;
+    let so = piece_is_so(alloc, &a, &b)?;
+    Ok(so && co_rank(&a, &b, 3) == (2, 1))
 }
 
 #[test]
 fn a_merge_is_cut_at_co_ranks(rt: HostRuntime) -> Result<(), Fail> {
-    let alloc = rt.alloc();
-    let piece = Items {
-        jobs: &[2, 4],
-        times: &[3, 3],
-    };
-    assert!(rt; ranks_are(alloc, 3, (2, 1))?);
-    assert!(rt; piece_has(alloc, 3, 5, &piece)?);
+    assert!(rt; is_cut_so(rt.alloc())?);
     Ok(())
 }

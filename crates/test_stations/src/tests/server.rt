@@ -35,22 +35,37 @@ fn three_jobs(alloc: Global) -> Result<Load, OutOfMemory>
 }
 
 // Whether a scan by blocks of this size gives these departures.
-fn blocks_give(alloc: Global, block: u32, wanted: &[Mp]) -> Result<bool, OutOfMemory>
+fn block_gives(
+    alloc: Global,
+    step: &ServerStep,
+    block: u32,
+    wanted: &[Mp],
+) -> Result<bool, OutOfMemory>
     requires { 1 ≤ block }
 {
-    let load = three_jobs(alloc)?;
-    let after = scan(&ServerStep::new(&load.stream, &load.demands), alloc, block)?;
+    let after = scan(step, alloc, block)?;
     Ok(after.as_slice() == wanted)
+}
+
+// Whether scans by blocks of 1, 2, 3 and 4 jobs do.
+fn each_block_gives(alloc: Global, step: &ServerStep, wanted: &[Mp]) -> Result<bool, OutOfMemory> {
+    for block in 1..5 {
+        if !block_gives(alloc, step, block, wanted)? {
+            return Ok(false);
+        }
+    }
+    Ok(true)
+}
+
+// Whether the three jobs leave at these times by each of them.
+fn they_leave_at(alloc: Global, wanted: &[Mp]) -> Result<bool, OutOfMemory> {
+    let load = three_jobs(alloc)?;
+    each_block_gives(alloc, &ServerStep::new(&load.stream, &load.demands), wanted)
 }
 
 #[test]
 fn every_block_gives_the_same_departures(rt: HostRuntime) -> Result<(), Fail> {
-    let alloc = rt.alloc();
-    let departs = [Mp::At(4), Mp::At(5), Mp::At(8)];
-    assert!(rt; blocks_give(alloc, 1, &departs)?);
-    assert!(rt; blocks_give(alloc, 2, &departs)?);
-    assert!(rt; blocks_give(alloc, 3, &departs)?);
-    assert!(rt; blocks_give(alloc, 4, &departs)?);
+    assert!(rt; they_leave_at(rt.alloc(), &[Mp::At(4), Mp::At(5), Mp::At(8)])?);
     Ok(())
 }
 
@@ -76,38 +91,57 @@ fn affine(add: u64, least: u64) -> Affine {
 }
 
 // Whether these are the summaries of the blocks of this size.
-fn sums_are(alloc: Global, block: u32, wanted: &[Affine]) -> Result<bool, OutOfMemory>
+fn sums_are(
+    alloc: Global,
+    step: &ServerStep,
+    block: u32,
+    wanted: &[Affine],
+) -> Result<bool, OutOfMemory>
     requires { 1 ≤ block }
 {
-    let load = three_jobs(alloc)?;
-    let sums = sums_of(alloc, &ServerStep::new(&load.stream, &load.demands), block)?;
+    let sums = sums_of(alloc, step, block)?;
     Ok(sums.as_slice() == wanted)
 }
 
 // Whether these are the departures before the blocks of two jobs.
-fn carries_are(alloc: Global, wanted: &[Mp]) -> Result<bool, OutOfMemory> {
-    let load = three_jobs(alloc)?;
-    let step = ServerStep::new(&load.stream, &load.demands);
-    let sums = sums_of(alloc, &step, 2)?;
-    let before = carries(&step, alloc, &sums)?;
+fn carries_are(alloc: Global, step: &ServerStep, wanted: &[Mp]) -> Result<bool, OutOfMemory> {
+    let sums = sums_of(alloc, step, 2)?;
+    let before = carries(step, alloc, &sums)?;
     Ok(before.as_slice() == wanted)
 }
 
 // Whether these are the departures in the second of them, behind the departure at 5.
-fn second_block_gives(alloc: Global, wanted: &[Mp]) -> Result<bool, OutOfMemory> {
-    let load = three_jobs(alloc)?;
-    let step = ServerStep::new(&load.stream, &load.demands);
-    let after = apply(&step, alloc, 2, 3, Mp::At(5))?;
+fn second_block_gives(alloc: Global, step: &ServerStep, wanted: &[Mp]) -> Result<bool, OutOfMemory>
+    requires arrive { step.now.arrive.now ≡ 0 ∷ 1 ∷ 2 ∷ [] }
+    requires demands { step.now.demands.now ≡ 4 ∷ 1 ∷ 3 ∷ [] }
+{
+    let after = apply(step, alloc, 2, 3, Mp::At(5))?;
     Ok(after.as_slice() == wanted)
+}
+
+// Whether summaries, carries and departures are those of the three jobs.
+fn are_put_together(alloc: Global, step: &ServerStep) -> Result<bool, OutOfMemory>
+    requires arrive { step.now.arrive.now ≡ 0 ∷ 1 ∷ 2 ∷ [] }
+    requires demands { step.now.demands.now ≡ 4 ∷ 1 ∷ 3 ∷ [] }
+{
+    let jobs = [affine(4, 4), affine(1, 2), affine(3, 5)];
+    let pairs = [affine(5, 5), affine(3, 5)];
+    Ok(
+        sums_are(alloc, step, 1, &jobs)?
+            && sums_are(alloc, step, 2, &pairs)?
+            && carries_are(alloc, step, &[Mp::Void, Mp::At(5)])?
+            && second_block_gives(alloc, step, &[Mp::At(8)])?,
+    )
+}
+
+// The same of what is made of these jobs.
+fn they_are_put_together(alloc: Global) -> Result<bool, OutOfMemory> {
+    let load = three_jobs(alloc)?;
+    are_put_together(alloc, &ServerStep::new(&load.stream, &load.demands))
 }
 
 #[test]
 fn the_blocks_of_a_scan_are_put_together(rt: HostRuntime) -> Result<(), Fail> {
-    let alloc = rt.alloc();
-    let jobs = [affine(4, 4), affine(1, 2), affine(3, 5)];
-    assert!(rt; sums_are(alloc, 1, &jobs)?);
-    assert!(rt; sums_are(alloc, 2, &[affine(5, 5), affine(3, 5)])?);
-    assert!(rt; carries_are(alloc, &[Mp::Void, Mp::At(5)])?);
-    assert!(rt; second_block_gives(alloc, &[Mp::At(8)])?);
+    assert!(rt; they_are_put_together(rt.alloc())?);
     Ok(())
 }

@@ -55,25 +55,57 @@ fn are_parts(streams: &List<Stream>) -> bool {
         && has(streams.get(2), &[2], &[2])
 }
 
-// Whether so leave the last two of three items, of values 9, 10 and 20, by the cuts.
-fn piece_sends(alloc: Global) -> Result<bool, OutOfMemory> {
-    let (route, stream) = (cut(alloc, [10, 20])?, three(alloc)?);
-    let values = List::from_vec(Vec::from_slice(alloc, &[9, 10, 20])?);
-    let streams = split_piece(alloc, &stream, &values, &route, 1, 3)?;
+// Whether so leave the last two of three items by a route, of values in a list.
+fn piece_sends(
+    alloc: Global,
+    stream: &Stream,
+    values: &List<u64>,
+    route: &Route,
+) -> Result<bool, OutOfMemory>
+    requires stream { IsStream stream.now }
+    requires three { length stream.now.time ≡ 3 }
+    requires values { length values.now ≡ 3 }
+    requires route { HasOutputs route.now }
+{
+    let streams = split_piece(alloc, stream, values, route, 1, 3)?;
     Ok(are_parts(&streams))
 }
 
-// The same by their own values.
-fn own_values_send(alloc: Global) -> Result<bool, OutOfMemory> {
-    let (route, stream) = (cut(alloc, [10, 20])?, three(alloc)?);
-    let streams = split_between(alloc, &stream, &[10, 20], &route, 1, 3)?;
+// The same of their own values, 10 and 20.
+fn own_values_send(alloc: Global, stream: &Stream, route: &Route) -> Result<bool, OutOfMemory>
+    requires stream { IsStream stream.now }
+    requires three { length stream.now.time ≡ 3 }
+    requires route { HasOutputs route.now }
+{
+    let streams = split_between(alloc, stream, &[10, 20], route, 1, 3)?;
     Ok(are_parts(&streams))
+}
+
+// Whether they leave so both ways.
+fn both_send(
+    alloc: Global,
+    stream: &Stream,
+    values: &List<u64>,
+    route: &Route,
+) -> Result<bool, OutOfMemory>
+    requires stream { IsStream stream.now }
+    requires three { length stream.now.time ≡ 3 }
+    requires values { length values.now ≡ 3 }
+    requires route { HasOutputs route.now }
+{
+    Ok(piece_sends(alloc, stream, values, route)? && own_values_send(alloc, stream, route)?)
+}
+
+// Whether they do by the cuts, of values 9, 10 and 20.
+fn cuts_send(alloc: Global) -> Result<bool, OutOfMemory> {
+    let stream = three(alloc)?;
+    let values = List::from_vec(Vec::from_slice(alloc, &[9, 10, 20])?);
+    let route = cut(alloc, [10, 20])?;
+    both_send(alloc, &stream, &values, &route)
 }
 
 #[test]
 fn the_items_of_a_piece_leave_by_their_outputs(rt: HostRuntime) -> Result<(), Fail> {
-    let alloc = rt.alloc();
-    assert!(rt; piece_sends(alloc)?);
-    assert!(rt; own_values_send(alloc)?);
+    assert!(rt; cuts_send(rt.alloc())?);
     Ok(())
 }

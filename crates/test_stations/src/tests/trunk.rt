@@ -4,7 +4,7 @@ ghost use Rattle.mq_core.specs.Sequences.{IsSoundLoad, IsStream};
 
 use mq_base::{List, OutOfMemory, Steps};
 use mq_core::Stream;
-use mq_trunk::{Trunk, settle_trunk, trunk_round};
+use mq_trunk::{settle_trunk, trunk_round};
 use std::alloc::Global;
 use std::marker::Brand;
 use std::sync::ledger::{Blank, Ledger};
@@ -38,39 +38,30 @@ fn load_of(
     Ok(Load { stream, demands })
 }
 
-// Settles with a counter of its own.
-fn settle_with<L: Ledger>(
+// The rounds and judgements of a load, with a first window of five and a counter of its own.
+fn counts_with<L: Ledger>(
     alloc: Global,
     load: &Load,
     servers: u8,
-    first: u32,
     blank: Blank,
-) -> Result<Trunk, OutOfMemory>
+) -> Result<(u32, u64), OutOfMemory>
     requires load { IsSoundLoad load.now.stream.time load.now.demands }
     requires stream { IsStream load.now.stream }
-    requires first { 1 ≤ first }
     requires name { blank.name ≡ L.name }
     requires parts { blank.parts ≡ L.parts }
     requires some { 0 < blank.parts }
 {
     let mut steps = Steps::<L>::new(blank);
-    settle_trunk(
-        alloc,
-        &load.stream,
-        &load.demands,
-        servers,
-        first,
-        &mut steps,
-    )
+    let found = settle_trunk(alloc, &load.stream, &load.demands, servers, 5, &mut steps)?;
+    Ok((found.rounds, found.judged))
 }
 
 // The same with a counter that nothing reads.
-fn settled(alloc: Global, load: &Load, servers: u8, first: u32) -> Result<Trunk, OutOfMemory>
+fn counts_of(alloc: Global, load: &Load, servers: u8) -> Result<(u32, u64), OutOfMemory>
     requires load { IsSoundLoad load.now.stream.time load.now.demands }
     requires stream { IsStream load.now.stream }
-    requires first { 1 ≤ first }
 {
-    settle_with::<Brand>(alloc, load, servers, first, Blank::new(1))
+    counts_with::<Brand>(alloc, load, servers, Blank::new(1))
 }
 
 // Whether a round of this load at two servers answers this guess so.
@@ -107,11 +98,16 @@ fn rounds_answer(alloc: Global, load: &Load) -> Result<bool, OutOfMemory>
     Ok(true)
 }
 
+// The same of one arrival a tick, each served for 3 ticks.
+fn each_tick_answers(alloc: Global) -> Result<bool, OutOfMemory> {
+    let jobs = [0, 1, 2, 3, 4];
+    let load = load_of(alloc, &jobs, &[0, 1, 2, 3, 4], &[3, 3, 3, 3, 3])?;
+    rounds_answer(alloc, &load)
+}
+
 #[test]
 fn a_round_of_a_trunk_judges_by_the_guess(rt: HostRuntime) -> Result<(), Fail> {
-    let jobs = [0, 1, 2, 3, 4];
-    let load = load_of(rt.alloc(), &jobs, &[0, 1, 2, 3, 4], &[3, 3, 3, 3, 3])?;
-    assert!(rt; rounds_answer(rt.alloc(), &load)?);
+    assert!(rt; each_tick_answers(rt.alloc())?);
     Ok(())
 }
 
@@ -125,14 +121,15 @@ struct Case<'a> {
     counts: (u32, u64),
 }
 
-// Whether a case is settled in so many, with a first window of five.
+// Whether a case is settled in so many.
 fn takes_so_many(alloc: Global, case: &Case<'_>) -> Result<bool, OutOfMemory>
     requires load { IsSoundLoad case.now.arrive.now case.now.demands.now }
     requires stream { IsStream (record { job = case.now.jobs.now; time = case.now.arrive.now }) }
 {
     let load = load_of(alloc, case.jobs, case.arrive, case.demands)?;
-    let found = settled(alloc, &load, case.servers, 5)?;
-    Ok((found.rounds, found.judged) == case.counts)
+    let counts = counts_of(alloc, &load, case.servers)?;
+    drop(load);
+    Ok(counts == case.counts)
 }
 
 // The third finds both servers busy.
@@ -169,12 +166,17 @@ const ENOUGH_SERVERS: Case<'static> = Case {
     counts: (1, 3),
 };
 
+fn all_take_so_many(alloc: Global) -> Result<bool, OutOfMemory> {
+    Ok(
+        takes_so_many(alloc, &ONE_LOST)?
+            && takes_so_many(alloc, &OVERTAKING)?
+            && takes_so_many(alloc, &SINGLE)?
+            && takes_so_many(alloc, &ENOUGH_SERVERS)?,
+    )
+}
+
 #[test]
 fn windows_settle_a_trunk(rt: HostRuntime) -> Result<(), Fail> {
-    let alloc = rt.alloc();
-    assert!(rt; takes_so_many(alloc, &ONE_LOST)?);
-    assert!(rt; takes_so_many(alloc, &OVERTAKING)?);
-    assert!(rt; takes_so_many(alloc, &SINGLE)?);
-    assert!(rt; takes_so_many(alloc, &ENOUGH_SERVERS)?);
+    assert!(rt; all_take_so_many(rt.alloc())?);
     Ok(())
 }
