@@ -64,7 +64,9 @@ fn add_both(alloc: Global, gathered: &mut Gathered, case: &Case) -> Result<(), O
 // Whether the visits to a join find so many.
 fn find(alloc: Global, gathered: &Gathered, found: &[u32]) -> Result<bool, OutOfMemory> {
     let joined = join_visits(alloc, gathered)?;
-    Ok(joined.visits.found.as_slice() == found)
+    let so = joined.visits.found.as_slice() == found;
+    drop(joined);
+    Ok(so)
 }
 
 // Whether what comes to the join of a case has its ports, and finds so many.

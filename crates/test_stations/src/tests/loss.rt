@@ -36,39 +36,29 @@ fn each_tick(alloc: Global, count: u32) -> Result<Load, OutOfMemory>
     })
 }
 
-// Settles with a counter of its own.
+// Settles one place with a counter of its own.
 fn settle_with<L: Ledger>(
     alloc: Global,
     load: &Load,
-    places: u32,
     first: u32,
     blank: Blank,
 ) -> Result<Settled, OutOfMemory>
     requires load { IsSoundLoad load.now.stream.time load.now.demands }
-    requires places { 1 ≤ places }
     requires first { 1 ≤ first }
     requires name { blank.name ≡ L.name }
     requires parts { blank.parts ≡ L.parts }
     requires some { 0 < blank.parts }
 {
     let mut steps = Steps::<L>::new(blank);
-    settle(
-        alloc,
-        &load.stream,
-        &load.demands,
-        places,
-        first,
-        &mut steps,
-    )
+    settle(alloc, &load.stream, &load.demands, 1, first, &mut steps)
 }
 
 // The same with a counter that nothing reads.
-fn settled(alloc: Global, load: &Load, places: u32, first: u32) -> Result<Settled, OutOfMemory>
+fn settled(alloc: Global, load: &Load, first: u32) -> Result<Settled, OutOfMemory>
     requires load { IsSoundLoad load.now.stream.time load.now.demands }
-    requires places { 1 ≤ places }
     requires first { 1 ≤ first }
 {
-    settle_with::<Brand>(alloc, load, places, first, Blank::new(1))
+    settle_with::<Brand>(alloc, load, first, Blank::new(1))
 }
 
 // What a station comes to.
@@ -87,34 +77,40 @@ fn comes_to(found: &Settled, wanted: &Outcome<'_>) -> bool {
 }
 
 // Whether a load comes to this in whole rounds.
+fn rounds_come_to(alloc: Global, load: &Load, wanted: &Outcome<'_>) -> Result<bool, OutOfMemory>
+    requires { IsSoundLoad load.now.stream.time load.now.demands }
+{
+    let found = settle_whole(alloc, &load.stream, &load.demands, 1)?;
+    let so = comes_to(&found, wanted);
+    drop(found);
+    Ok(so)
+}
+
+// The same of so many arrivals, one a tick.
+fn whole_comes_to(alloc: Global, count: u32, wanted: &Outcome<'_>) -> Result<bool, OutOfMemory>
+    requires { count ≤ 1048576 }
+{
+    let load = each_tick(alloc, count)?;
+    rounds_come_to(alloc, &load, wanted)
+}
+
+// Whether a load comes to this in windows, the first of them of this size.
 fn load_comes_to(
     alloc: Global,
     load: &Load,
-    places: u32,
+    first: u32,
     wanted: &Outcome<'_>,
 ) -> Result<bool, OutOfMemory>
     requires load { IsSoundLoad load.now.stream.time load.now.demands }
-    requires places { 1 ≤ places }
+    requires first { 1 ≤ first }
 {
-    let found = settle_whole(alloc, &load.stream, &load.demands, places)?;
-    Ok(comes_to(&found, wanted))
+    let found = settled(alloc, load, first)?;
+    let so = comes_to(&found, wanted);
+    drop(found);
+    Ok(so)
 }
 
-// Whether so many arrivals do, one a tick.
-fn whole_comes_to(
-    alloc: Global,
-    count: u32,
-    places: u32,
-    wanted: &Outcome<'_>,
-) -> Result<bool, OutOfMemory>
-    requires count { count ≤ 1048576 }
-    requires places { 1 ≤ places }
-{
-    let load = each_tick(alloc, count)?;
-    load_comes_to(alloc, &load, places, wanted)
-}
-
-// Whether so many arrivals come to this in windows, the first of them of this size.
+// The same of so many arrivals, one a tick.
 fn windows_come_to(
     alloc: Global,
     count: u32,
@@ -125,8 +121,7 @@ fn windows_come_to(
     requires first { 1 ≤ first }
 {
     let load = each_tick(alloc, count)?;
-    let found = settled(alloc, &load, 1, first)?;
-    Ok(comes_to(&found, wanted))
+    load_comes_to(alloc, &load, first, wanted)
 }
 
 // Whether a round of this load answers this guess so.
@@ -184,7 +179,7 @@ fn rounds_settle_all(rt: HostRuntime) -> Result<(), Fail> {
         rounds: 4,
         judged: 16,
     };
-    assert!(rt; whole_comes_to(rt.alloc(), 4, 1, &wanted)?);
+    assert!(rt; whole_comes_to(rt.alloc(), 4, &wanted)?);
     Ok(())
 }
 
@@ -213,7 +208,7 @@ fn no_arrival_takes_no_window(rt: HostRuntime) -> Result<(), Fail> {
         rounds: 1,
         judged: 0,
     };
-    assert!(rt; whole_comes_to(rt.alloc(), 0, 1, &whole)?);
+    assert!(rt; whole_comes_to(rt.alloc(), 0, &whole)?);
     let windows = Outcome { rounds: 0, ..whole };
     assert!(rt; windows_come_to(rt.alloc(), 0, 4096, &windows)?);
     Ok(())
@@ -228,12 +223,21 @@ fn is_every_other(admitted: &[bool]) -> bool {
     true
 }
 
-// Whether of a long overload every other arrival is admitted, by few judgements.
+// Whether of a long load every other arrival is admitted, by few judgements.
+fn takes_few(alloc: Global, load: &Load) -> Result<bool, OutOfMemory>
+    requires { IsSoundLoad load.now.stream.time load.now.demands }
+{
+    let found = settled(alloc, load, 4096)?;
+    let is_short = found.judged <= 404_096 && found.departs.len() == 100_000;
+    let so = is_short && is_every_other(found.admitted.as_slice());
+    drop(found);
+    Ok(so)
+}
+
+// Whether it is so of an overload.
 fn overload_takes_few(alloc: Global) -> Result<bool, OutOfMemory> {
     let load = each_tick(alloc, 200_000)?;
-    let found = settled(alloc, &load, 1, 4096)?;
-    let is_short = found.judged <= 404_096 && found.departs.len() == 100_000;
-    Ok(is_short && is_every_other(found.admitted.as_slice()))
+    takes_few(alloc, &load)
 }
 
 #[test]

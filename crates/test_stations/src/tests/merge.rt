@@ -47,7 +47,10 @@ fn is_cut_so(alloc: Global) -> Result<bool, OutOfMemory> {
     let a = three(alloc)?;
     let b = two(alloc)?;
     let so = piece_is_so(alloc, &a, &b)?;
-    Ok(so && co_rank(&a, &b, 3) == (2, 1))
+    let ranks = co_rank(&a, &b, 3);
+    drop(a);
+    drop(b);
+    Ok(so && ranks == (2, 1))
 }
 
 #[test]

@@ -53,7 +53,9 @@ fn counts_with<L: Ledger>(
 {
     let mut steps = Steps::<L>::new(blank);
     let found = settle_trunk(alloc, &load.stream, &load.demands, servers, 5, &mut steps)?;
-    Ok((found.rounds, found.judged))
+    let counts = (found.rounds, found.judged);
+    drop(found);
+    Ok(counts)
 }
 
 // The same with a counter that nothing reads.
