@@ -1,0 +1,37 @@
+#!/usr/bin/env python3
+"""Draws the made input of a number, by the page of the model's language and none of the program's code.
+
+usage: drawn.py NUMBER MODEL TRACE          writes the two texts into these files
+"""
+import sys
+
+number, model, trace = int(sys.argv[1]), sys.argv[2], sys.argv[3]
+# PCG32: a state of 64 bits that begins with the number, on stream 1.
+MULTIPLIER, STEP = 6364136223846793005, 2 * 1 + 1
+state = (number + STEP) * MULTIPLIER + STEP & 2**64 - 1
+
+
+def draw(end):
+    """A number from 0 up to an end: the next output modulo it."""
+    global state
+    mixed, turn = (state >> 18 ^ state) >> 27 & 2**32 - 1, state >> 59
+    state = state * MULTIPLIER + STEP & 2**64 - 1
+    return ((mixed >> turn | mixed << (-turn & 31)) & 2**32 - 1) % end
+
+
+lines, read = ["model 1", f"bound {2**60}", "source s0", "source s1"], "s0 s1"
+for node in range(draw(12) + 1):
+    kind = draw(6)
+    places = draw(4) + 1 if kind in (2, 3) else 0
+    said = ["server {} a", "delay {} b", "loss {} {} a", "tandem {} a / {} b", "forkjoin {} a | b b", "split {} 2 turn"][kind]
+    lines.append(said.format(f"n{node}", places) + f" from {read}")
+    read = f"n{node} n{node}.1" if kind in (2, 5) else f"n{node}"
+with open(model, "w") as file:
+    file.writelines(f"{line}\n" for line in lines)
+
+time = 0
+with open(trace, "w") as file:
+    file.write("source,time,a,b\n")
+    for _ in range(draw(20001) + 20000):
+        time += draw(12)
+        file.write(f"s{draw(2)},{time},{draw(10)},{draw(6)}\n")
