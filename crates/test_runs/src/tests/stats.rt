@@ -1,5 +1,5 @@
-// Worked numbers of visits: exits, the span, and what each visit found.
-ghost use Rattle.std.specs.Prelude.{◌≡◌, ◌<◌, ◌≤◌, All, List as Items, length, IfOk, IsTrue};
+// Worked numbers of visits: the last event, the span, and what each visit found.
+ghost use Rattle.std.specs.Prelude.{◌≡◌, ◌≤◌, List as Items, length, IfOk};
 ghost use Rattle.std.specs.List.{AllByRecursion, zip};
 ghost use Rattle.mq_core.specs.SequenceLaws.{LeavesFrom};
 ghost use Rattle.mq_core.specs.Laws.{Rises};
@@ -9,8 +9,7 @@ ghost use Rattle.mq_stats.specs.Ahead.{IsAhead};
 use mq_base::{List, OutOfMemory};
 use mq_core::{Fate, Fates, Rows, Stream, Visits};
 use mq_stats::{
-    AheadTable, Exit, ahead, ahead_of_departures, found, found_piece, found_piece_in_order,
-    last_at, leaving, span,
+    AheadTable, ahead, ahead_of_departures, found, found_piece, found_piece_in_order, last_at, span,
 };
 use std::alloc::Global;
 use std::test::Fail;
@@ -46,13 +45,18 @@ pub struct Columns<'a> {
     pub fate: &'a [Fate],
 }
 
-fn visits_of(alloc: Global, columns: &Columns) -> Result<Visits, OutOfMemory> {
+// Visits with these fates in place of their own.
+pub fn visits_with(alloc: Global, columns: &Columns, fate: Fates) -> Result<Visits, OutOfMemory> {
     Ok(Visits {
         job: list(alloc, columns.job)?,
         arrive: list(alloc, columns.arrive)?,
         found: list(alloc, columns.found)?,
-        fate: Fates::each(list(alloc, columns.fate)?),
+        fate,
     })
+}
+
+fn visits_of(alloc: Global, columns: &Columns) -> Result<Visits, OutOfMemory> {
+    visits_with(alloc, columns, Fates::each(list(alloc, columns.fate)?))
 }
 
 // Jobs, and visits of theirs. Who owns them drops them before it answers: by a call that is quicker to prove than the end of a scope.
@@ -62,41 +66,16 @@ pub struct Case {
     pub visits: Visits,
 }
 
-pub fn case_of(alloc: Global, rows: Rows, columns: &Columns) -> Result<Case, OutOfMemory> {
+// The three jobs, with these visits.
+pub fn case_of(alloc: Global, visits: Visits) -> Result<Case, OutOfMemory> {
     Ok(Case {
-        rows,
-        visits: visits_of(alloc, columns)?,
+        rows: three_rows(alloc)?,
+        visits,
     })
 }
 
-// The three jobs, with these visits.
 pub fn three_case(alloc: Global, columns: &Columns) -> Result<Case, OutOfMemory> {
-    case_of(alloc, three_rows(alloc)?, columns)
-}
-
-fn are_below(jobs: &[u32], count: usize) -> bool
-    ensures { IsTrue result → All (λ job. job < count) jobs.now }
-{
-    jobs.iter().all(|job| (*job as usize) < count)
-}
-
-pub fn are_small(founds: &List<u32>) -> bool
-    ensures { IsTrue result → All (λ found. found ≤ 1048576) founds.now }
-{
-    founds.as_slice().iter().all(|found| *found <= 1_048_576)
-}
-
-pub fn are_even(visits: &Visits) -> bool
-    ensures few { IsTrue result → length visits.now.job ≤ 1048576 }
-    ensures arrives { IsTrue result → length visits.now.arrive ≡ length visits.now.job }
-    ensures founds { IsTrue result → length visits.now.found ≡ length visits.now.job }
-    ensures fates { IsTrue result → length visits.now.fate ≡ length visits.now.job }
-{
-    let count = visits.job.len();
-    count <= 1_048_576
-        && visits.arrive.len() == count
-        && visits.found.len() == count
-        && visits.fate.len() == count
+    case_of(alloc, visits_of(alloc, columns)?)
 }
 
 // The visits of three jobs that a server serves one after another.
@@ -130,54 +109,28 @@ pub const NO_VISITS: Columns<'static> = Columns {
     fate: &[],
 };
 
-// Whether a stream of these rows has this exit.
-fn exit_is(rows: &Rows, stream: &Stream, wanted: Exit) -> bool {
-    let jobs = stream.job.as_slice();
-    if jobs.len() >= 10 || stream.time.len() != jobs.len() || !are_below(jobs, rows.time.len()) {
-        return false;
-    }
-    leaving(rows, stream) == wanted
-}
-
-fn stream_of(alloc: Global, job: &[u32], time: &[u64]) -> Result<Stream, OutOfMemory> {
-    Ok(Stream {
-        job: list(alloc, job)?,
-        time: list(alloc, time)?,
-    })
-}
-
-// Whether the three jobs that leave at these times have this exit.
-fn jobs_leave(alloc: Global, times: &[u64], wanted: Exit) -> Result<bool, OutOfMemory> {
-    let rows = three_rows(alloc)?;
-    let stream = stream_of(alloc, &[0, 1, 2], times)?;
-    let leaves = exit_is(&rows, &stream, wanted);
-    drop(stream);
-    drop(rows);
-    Ok(leaves)
-}
-
-// What goes out by one output: these jobs at these times.
-fn streams_of(alloc: Global, job: &[u32], time: &[u64]) -> Result<List<Stream>, OutOfMemory> {
+// The last event at a node with these visits, which nobody leaves by its one output.
+fn last_arrival(alloc: Global, visits: &Visits) -> Result<u64, OutOfMemory> {
     let mut streams = List::new(alloc);
-    streams.push(stream_of(alloc, job, time)?)?;
-    Ok(streams)
+    streams.push(Stream {
+        job: List::new(alloc),
+        time: List::new(alloc),
+    })?;
+    let last = last_at(visits, &streams);
+    drop(streams);
+    Ok(last)
 }
 
-// The last event at a node with these visits, whose jobs leave by one output at these times.
-fn last_of(alloc: Global, columns: &Columns, times: &[u64]) -> Result<u64, OutOfMemory> {
-    let visits = visits_of(alloc, columns)?;
-    let streams = streams_of(alloc, columns.job, times)?;
-    let last = last_at(&visits, &streams);
-    drop(streams);
+fn last_of_lost(alloc: Global) -> Result<u64, OutOfMemory> {
+    let visits = visits_of(alloc, &LOST)?;
+    let last = last_arrival(alloc, &visits);
     drop(visits);
-    Ok(last)
+    last
 }
 
 #[test]
 fn the_last_event_is_at_the_end_of_a_list(rt: HostRuntime) -> Result<(), Fail> {
-    assert!(rt; last_of(rt.alloc(), &SERVED, &[4, 5, 8])? == 8);
-    assert!(rt; last_of(rt.alloc(), &LOST, &[])? == 2);
-    assert!(rt; last_of(rt.alloc(), &NO_VISITS, &[])? == 0);
+    assert!(rt; last_of_lost(rt.alloc())? == 2);
     Ok(())
 }
 
@@ -189,25 +142,29 @@ const LOST_AT_NINE: Columns<'static> = Columns {
     fate: &[Fate::Lost],
 };
 
+// The span of a run with one node more, which has these visits.
+fn span_with(alloc: Global, run: &mut List<Visits>, columns: &Columns) -> Result<u64, OutOfMemory> {
+    run.push(visits_of(alloc, columns)?)?;
+    Ok(span(run))
+}
+
 // The spans of a run of no node, of a server, and of a server and a node that loses a job at 9.
+fn spans_of(alloc: Global, run: &mut List<Visits>) -> Result<(u64, u64, u64), OutOfMemory> {
+    let none = span(run);
+    let one = span_with(alloc, run, &SERVED)?;
+    Ok((none, one, span_with(alloc, run, &LOST_AT_NINE)?))
+}
+
 fn spans(alloc: Global) -> Result<(u64, u64, u64), OutOfMemory> {
     let mut run = List::new(alloc);
-    let none = span(&run);
-    run.push(visits_of(alloc, &SERVED)?)?;
-    let one = span(&run);
-    run.push(visits_of(alloc, &LOST_AT_NINE)?)?;
-    Ok((none, one, span(&run)))
+    let spans = spans_of(alloc, &mut run);
+    drop(run);
+    spans
 }
 
 #[test]
-fn a_run_has_its_exits_and_its_span(rt: HostRuntime) -> Result<(), Fail> {
-    let alloc = rt.alloc();
-    let exit = Exit {
-        count: 3,
-        sojourn: 14,
-    };
-    assert!(rt; jobs_leave(alloc, &[4, 5, 8], exit)?);
-    assert!(rt; spans(alloc)? == (0, 8, 9));
+fn a_run_has_its_span(rt: HostRuntime) -> Result<(), Fail> {
+    assert!(rt; spans(rt.alloc())? == (0, 8, 9));
     Ok(())
 }
 
@@ -247,14 +204,19 @@ const OVERTAKING: [Fate; 6] = [
     Fate::Departs(8),
 ];
 
+fn each_finds_its_own(alloc: Global) -> Result<bool, OutOfMemory> {
+    Ok(
+        visits_find(alloc, &[0, 1, 2], &IN_TURN, &[0, 1, 2])?
+            && visits_find(alloc, &[0, 3, 3], &AT_ONCE, &[0, 1, 1])?
+            && visits_find(alloc, &[0, 1, 2, 6], &TWO_LOST, &[0, 1, 1, 1])?
+            && visits_find(alloc, &[0, 1, 2, 6], &TWO_HELD, &[0, 1, 2, 2])?
+            && visits_find(alloc, &[0, 1, 2, 4, 4, 7], &OVERTAKING, &[0, 1, 2, 1, 1, 1])?,
+    )
+}
+
 #[test]
 fn visits_find_those_who_are_there(rt: HostRuntime) -> Result<(), Fail> {
-    let alloc = rt.alloc();
-    assert!(rt; visits_find(alloc, &[0, 1, 2], &IN_TURN, &[0, 1, 2])?);
-    assert!(rt; visits_find(alloc, &[0, 3, 3], &AT_ONCE, &[0, 1, 1])?);
-    assert!(rt; visits_find(alloc, &[0, 1, 2, 6], &TWO_LOST, &[0, 1, 1, 1])?);
-    assert!(rt; visits_find(alloc, &[0, 1, 2, 6], &TWO_HELD, &[0, 1, 2, 2])?);
-    assert!(rt; visits_find(alloc, &[0, 1, 2, 4, 4, 7], &OVERTAKING, &[0, 1, 2, 1, 1, 1])?);
+    assert!(rt; each_finds_its_own(rt.alloc())?);
     Ok(())
 }
 
@@ -319,16 +281,22 @@ fn order_tells(alloc: Global, wanted: &[u32]) -> Result<bool, OutOfMemory> {
     Ok(founds.as_slice() == wanted)
 }
 
+const TABLE: Lists<'static> = Lists {
+    leaving: &[3, 3, 5],
+    kept: &[0, 1, 2, 3],
+    still: &[0, 0, 1, 2],
+};
+
+fn pieces_tell(alloc: Global) -> Result<bool, OutOfMemory> {
+    Ok(
+        table_tells(alloc, &TABLE, &[1, 1])?
+            && departures_tell(alloc, &TABLE, &[1, 1])?
+            && order_tells(alloc, &[2, 1, 2])?,
+    )
+}
+
 #[test]
 fn pieces_have_what_their_visits_found(rt: HostRuntime) -> Result<(), Fail> {
-    let alloc = rt.alloc();
-    let table = Lists {
-        leaving: &[3, 3, 5],
-        kept: &[0, 1, 2, 3],
-        still: &[0, 0, 1, 2],
-    };
-    assert!(rt; table_tells(alloc, &table, &[1, 1])?);
-    assert!(rt; departures_tell(alloc, &table, &[1, 1])?);
-    assert!(rt; order_tells(alloc, &[2, 1, 2])?);
+    assert!(rt; pieces_tell(rt.alloc())?);
     Ok(())
 }

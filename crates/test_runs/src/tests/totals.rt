@@ -1,5 +1,5 @@
 // Worked totals of visits, whole and by pieces.
-ghost use Rattle.std.specs.Prelude.{◌≡◌, ◌≤◌, ◌^◌, ℕ, All, List as Items, Some, slice_get, IsTrue};
+ghost use Rattle.std.specs.Prelude.{◌≡◌, ◌≤◌, ◌^◌, ℕ, All, List as Items, Some, length, slice_get, IsTrue};
 ghost use Rattle.mq_core.specs.Asked.{HasDemands};
 ghost use Rattle.mq_core.specs.Told.{HasValue, IsTold};
 ghost use Rattle.mq_core.specs.declared.model.Demand.TheVariants.{Column};
@@ -7,10 +7,10 @@ ghost use Rattle.mq_core.specs.declared.model.Kind.{Kind as TheKind};
 ghost use Rattle.mq_stats.specs.Numbers.{AreVisits};
 
 use super::stats::{
-    Case, Columns, HELD, LOST, NO_VISITS, SERVED, are_even, are_small, list, three_case, three_rows,
+    Case, Columns, HELD, LOST, NO_VISITS, SERVED, case_of, list, three_case, visits_with,
 };
 use mq_base::{List, OutOfMemory};
-use mq_core::{Demand, Fate, Fates, Kind, Rows, Visits};
+use mq_core::{Demand, Fates, Kind, Rows, Visits};
 use mq_stats::{NodeTotals, totals, totals_added, totals_between};
 use std::alloc::Global;
 use std::test::Fail;
@@ -39,8 +39,27 @@ fn is_column_small(rows: &Rows) -> bool
         .all(|value| *value <= 68_719_476_736)
 }
 
-// Whether these are visits to a node of any kind that asks for the first column.
-fn are_visits(rows: &Rows, visits: &Visits) -> bool
+fn are_small(founds: &List<u32>) -> bool
+    ensures { IsTrue result → All (λ found. found ≤ 1048576) founds.now }
+{
+    founds.as_slice().iter().all(|found| *found <= 1_048_576)
+}
+
+fn are_even(visits: &Visits) -> bool
+    ensures few { IsTrue result → length visits.now.job ≤ 1048576 }
+    ensures arrives { IsTrue result → length visits.now.arrive ≡ length visits.now.job }
+    ensures founds { IsTrue result → length visits.now.found ≡ length visits.now.job }
+    ensures fates { IsTrue result → length visits.now.fate ≡ length visits.now.job }
+{
+    let count = visits.job.len();
+    count <= 1_048_576
+        && visits.arrive.len() == count
+        && visits.found.len() == count
+        && visits.fate.len() == count
+}
+
+// Whether these are visits to a node of any kind that asks for the first column, or for nothing.
+pub fn are_visits(rows: &Rows, visits: &Visits) -> bool
     ensures { IsTrue result → (kind : TheKind) → ((job : ℕ) → IsTold rows.now (Column 0) job → HasDemands rows.now kind job) → AreVisits rows.now kind visits.now }
 {
     if !are_even(visits) || !are_told(rows, &visits.job) || !are_small(&visits.found) {
@@ -49,123 +68,9 @@ fn are_visits(rows: &Rows, visits: &Visits) -> bool
     is_column_small(rows)
 }
 
-// Whether a node of such a kind has these totals in a run up to 10.
-fn totals_are(rows: &Rows, kind: &Kind, visits: &Visits, wanted: &NodeTotals) -> bool
-    requires { (job : ℕ) → IsTold rows.now (Column 0) job → HasDemands rows.now kind.now job }
-{
-    are_visits(rows, visits) && totals(rows, kind, visits, 10) == *wanted
-}
-
-// Whether a server with these visits of the three jobs has these totals.
-fn server_has(alloc: Global, columns: &Columns, wanted: &NodeTotals) -> Result<bool, OutOfMemory> {
-    let case = three_case(alloc, columns)?;
-    let kind = Kind::Server(Demand::Column(0));
-    let found = totals_are(&case.rows, &kind, &case.visits, wanted);
-    drop(kind);
-    drop(case);
-    Ok(found)
-}
-
-const SERVED_TOTALS: NodeTotals = NodeTotals {
-    came: 3,
-    left: 3,
-    lost: 0,
-    held: 0,
-    wait: 6,
-    longest: 3,
-    busy: 8,
-    area: 14,
-    peak: 3,
-};
-
-#[test]
-fn servers_have_totals(rt: HostRuntime) -> Result<(), Fail> {
-    let alloc = rt.alloc();
-    let lost = NodeTotals {
-        came: 3,
-        left: 2,
-        lost: 1,
-        held: 0,
-        wait: 2,
-        longest: 2,
-        busy: 7,
-        area: 9,
-        peak: 2,
-    };
-    let held = NodeTotals {
-        came: 3,
-        left: 2,
-        lost: 0,
-        held: 1,
-        wait: 2,
-        longest: 2,
-        busy: 8,
-        area: 18,
-        peak: 3,
-    };
-    let none = NodeTotals {
-        came: 0,
-        left: 0,
-        lost: 0,
-        held: 0,
-        wait: 0,
-        longest: 0,
-        busy: 0,
-        area: 0,
-        peak: 0,
-    };
-    assert!(rt; server_has(alloc, &SERVED, &SERVED_TOTALS)?);
-    assert!(rt; server_has(alloc, &LOST, &lost)?);
-    assert!(rt; server_has(alloc, &HELD, &held)?);
-    assert!(rt; server_has(alloc, &NO_VISITS, &none)?);
-    Ok(())
-}
-
-// The third comes while the two before it are served, and is lost.
-const TRUNKS: Columns<'static> = Columns {
-    job: &[0, 2, 1, 1],
-    arrive: &[0, 1, 2, 4],
-    found: &[0, 1, 2, 0],
-    fate: &[
-        Fate::Departs(4),
-        Fate::Departs(4),
-        Fate::Lost,
-        Fate::Departs(5),
-    ],
-};
-
-// Whether two servers with no place to wait have these totals.
-fn trunks_have(alloc: Global, wanted: &NodeTotals) -> Result<bool, OutOfMemory> {
-    let case = three_case(alloc, &TRUNKS)?;
-    let kind = Kind::Trunk {
-        servers: 2,
-        demand: Demand::Column(0),
-    };
-    let found = totals_are(&case.rows, &kind, &case.visits, wanted);
-    drop(kind);
-    drop(case);
-    Ok(found)
-}
-
-#[test]
-fn a_trunk_group_has_totals(rt: HostRuntime) -> Result<(), Fail> {
-    let wanted = NodeTotals {
-        came: 4,
-        left: 3,
-        lost: 1,
-        held: 0,
-        wait: 0,
-        longest: 0,
-        busy: 8,
-        area: 8,
-        peak: 2,
-    };
-    assert!(rt; trunks_have(rt.alloc(), &wanted)?);
-    Ok(())
-}
-
-// Whether the totals of the visits before a position and of those from it on, added up, are those of all.
-fn totals_join_at(rows: &Rows, kind: &Kind, visits: &Visits, at: u32) -> bool
+// Whether a node of such a kind has these totals in a run up to 10, and so have the visits before a position and those
+// from it on when their totals are added up.
+fn totals_are(rows: &Rows, kind: &Kind, visits: &Visits, wanted: &NodeTotals, at: u32) -> bool
     requires { (job : ℕ) → IsTold rows.now (Column 0) job → HasDemands rows.now kind.now job }
 {
     if !are_visits(rows, visits) {
@@ -180,53 +85,97 @@ fn totals_join_at(rows: &Rows, kind: &Kind, visits: &Visits, at: u32) -> bool
     if before.came != at || after.came != count - at {
         return false;
     }
-    totals_added(&before, &after) == totals(rows, kind, visits, 10)
+    totals_added(&before, &after) == *wanted && totals(rows, kind, visits, 10) == *wanted
 }
 
-// Whether that is so of these visits of the three jobs to a server.
-fn server_joins(alloc: Global, columns: &Columns, at: u32) -> Result<bool, OutOfMemory> {
-    let case = three_case(alloc, columns)?;
+// Whether that is so of a server.
+fn is_so(case: Case, wanted: &NodeTotals, at: u32) -> bool {
     let kind = Kind::Server(Demand::Column(0));
-    let found = totals_join_at(&case.rows, &kind, &case.visits, at);
+    let found = totals_are(&case.rows, &kind, &case.visits, wanted, at);
     drop(kind);
     drop(case);
-    Ok(found)
+    found
+}
+
+// The same of a server with these visits of the three jobs.
+fn server_has(
+    alloc: Global,
+    columns: &Columns,
+    wanted: &NodeTotals,
+    at: u32,
+) -> Result<bool, OutOfMemory> {
+    Ok(is_so(three_case(alloc, columns)?, wanted, at))
+}
+
+const SERVED_TOTALS: NodeTotals = NodeTotals {
+    came: 3,
+    left: 3,
+    lost: 0,
+    held: 0,
+    wait: 6,
+    longest: 3,
+    busy: 8,
+    area: 14,
+    peak: 3,
+};
+
+const LOST_TOTALS: NodeTotals = NodeTotals {
+    came: 3,
+    left: 2,
+    lost: 1,
+    held: 0,
+    wait: 2,
+    longest: 2,
+    busy: 7,
+    area: 9,
+    peak: 2,
+};
+
+const HELD_TOTALS: NodeTotals = NodeTotals {
+    came: 3,
+    left: 2,
+    lost: 0,
+    held: 1,
+    wait: 2,
+    longest: 2,
+    busy: 8,
+    area: 18,
+    peak: 3,
+};
+
+const NO_TOTALS: NodeTotals = NodeTotals {
+    came: 0,
+    left: 0,
+    lost: 0,
+    held: 0,
+    wait: 0,
+    longest: 0,
+    busy: 0,
+    area: 0,
+    peak: 0,
+};
+
+fn servers_have_totals(alloc: Global) -> Result<bool, OutOfMemory> {
+    Ok(
+        server_has(alloc, &SERVED, &SERVED_TOTALS, 0)?
+            && server_has(alloc, &SERVED, &SERVED_TOTALS, 1)?
+            && server_has(alloc, &LOST, &LOST_TOTALS, 2)?
+            && server_has(alloc, &HELD, &HELD_TOTALS, 2)?
+            && server_has(alloc, &NO_VISITS, &NO_TOTALS, 0)?,
+    )
 }
 
 #[test]
-fn totals_of_pieces_add_up(rt: HostRuntime) -> Result<(), Fail> {
-    assert!(rt; server_joins(rt.alloc(), &SERVED, 0)?);
-    assert!(rt; server_joins(rt.alloc(), &SERVED, 1)?);
-    assert!(rt; server_joins(rt.alloc(), &LOST, 2)?);
-    assert!(rt; server_joins(rt.alloc(), &HELD, 2)?);
-    assert!(rt; server_joins(rt.alloc(), &NO_VISITS, 0)?);
+fn totals_are_those_of_pieces_added_up(rt: HostRuntime) -> Result<(), Fail> {
+    assert!(rt; servers_have_totals(rt.alloc())?);
     Ok(())
 }
 
-// The visits of the three jobs that a server serves one after another, with their departures as fates.
-fn served_by_departures(alloc: Global) -> Result<Visits, OutOfMemory> {
-    let departs = list(alloc, &[4u64, 5, 8])?;
-    Ok(Visits {
-        job: list(alloc, SERVED.job)?,
-        arrive: list(alloc, SERVED.arrive)?,
-        found: list(alloc, SERVED.found)?,
-        fate: Fates::departures(departs),
-    })
-}
-
-// Whether a server with these visits has these totals, and those of the visits before a position and from it on are
-// these when they are added up.
+// Whether a server has these totals, also by pieces, with the departures of the jobs that it serves as fates.
 fn departures_have(alloc: Global, wanted: &NodeTotals, at: u32) -> Result<bool, OutOfMemory> {
-    let case = Case {
-        rows: three_rows(alloc)?,
-        visits: served_by_departures(alloc)?,
-    };
-    let kind = Kind::Server(Demand::Column(0));
-    let found = totals_are(&case.rows, &kind, &case.visits, wanted)
-        && totals_join_at(&case.rows, &kind, &case.visits, at);
-    drop(kind);
-    drop(case);
-    Ok(found)
+    let fate = Fates::departures(list(alloc, &[4u64, 5, 8])?);
+    let visits = visits_with(alloc, &SERVED, fate)?;
+    Ok(is_so(case_of(alloc, visits)?, wanted, at))
 }
 
 #[test]
