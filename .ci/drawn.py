@@ -1,5 +1,5 @@
 #!/usr/bin/env python3
-"""Draws the made input of a number, by the page of the model's language and none of the program's code.
+"""Draws the made input of a number as mq_gen/specs/Made.antt defines it, by none of the program's code.
 
 usage: drawn.py NUMBER MODEL TRACE          writes the two texts into these files
 """

@@ -46,12 +46,18 @@ fn is_extended(alloc: Global) -> Result<bool, OutOfMemory> {
     Ok(list.as_slice() == [0, 1, 7, 8].as_slice())
 }
 
+fn lists_are_kept(alloc: Global) -> Result<bool, OutOfMemory> {
+    Ok(
+        keeps_its_items(alloc)?
+            && keeps_the_first(alloc)?
+            && stays_the_same_as_a_vector(alloc)?
+            && is_extended(alloc)?,
+    )
+}
+
 #[test]
 fn a_list_keeps_its_items(rt: HostRuntime) -> Result<(), Fail> {
-    assert!(rt; keeps_its_items(rt.alloc())?);
-    assert!(rt; keeps_the_first(rt.alloc())?);
-    assert!(rt; stays_the_same_as_a_vector(rt.alloc())?);
-    assert!(rt; is_extended(rt.alloc())?);
+    assert!(rt; lists_are_kept(rt.alloc())?);
     Ok(())
 }
 
