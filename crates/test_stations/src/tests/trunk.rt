@@ -1,5 +1,5 @@
 // Rounds and windows of a trunk group.
-ghost use Rattle.std.specs.Prelude.{◌≡◌, ◌≤◌, ◌<◌, IfOk, length};
+ghost use Rattle.std.specs.Prelude.{◌≡◌, ◌<◌, IfOk, length};
 ghost use Rattle.mq_core.specs.Sequences.{IsSoundLoad, IsStream};
 
 use mq_base::{List, OutOfMemory, Steps};
