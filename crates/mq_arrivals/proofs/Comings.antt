@@ -294,6 +294,10 @@ AreGoingOn s port = ArePassing coming_size coming_piece (IsComing s port) (IsCom
 abbrev pub AreArriving : Arriving → List Coming → List Coming → List (List Stream) → List Arrived → Type 0
 AreArriving s = ArePassing coming_size coming_piece (IsComing s 8) (HasArrived s) Any Any
 
+-- without its last a list is shorter
+pub last-shorter : {X : Type 0} (xs rest : List X) (x : X) → xs ≡ rest ++ x ∷ [] → length rest < length xs
+last-shorter xs rest x e = let all = ap length e in let more = length-append rest (x ∷ []) in omega arith
+
 pub comings-few : (s : Arriving) (ports : ℕ) (comings : List Coming) → length comings ≤ 64 → Each (IsComing s ports) comings → total_size coming_size comings < 2 ^ 32
 comings-few s ports comings few each =
     let most = total-most 1048576 coming_size comings (Each-weaker (IsComing s ports) _ (λ c h. one c.number c.origin h.origin h.few) comings each) in

@@ -1,7 +1,7 @@
 use Rattle.mq_merge.specs.Borrowed.{stream_in}
 use Rattle.mq_arrivals.specs.Arrivals.{HasArrived}
 use Rattle.mq_arrivals.specs.Merges.{IsComing}
-use Rattle.mq_arrivals.proofs.Comings.{Any, all-come, coming_piece, coming_size, has-come}
+use Rattle.mq_arrivals.proofs.Comings.{Any, all-come, coming_piece, coming_size, has-come, last-shorter}
 use Rattle.mq_crew.proofs.lemmas.Groups.{passing-last, passing-more}
 use Rattle.mq_arrivals.proofs.all_arrived.Goals as goal
 
@@ -21,3 +21,6 @@ loop-coming-preserved c =
     let last = passing-last coming_size coming_piece (IsComing s 8) (HasArrived s) Any Any _ _ _ _ _ _ _ _ c.loop-coming.invariant c.in-Some.ensures.items c.in-Some-pop.ensures.items in
     let come = has-come s 8 c.in-Some.coming (stream_in c.in_ok-arrivals.arrivals) last.0 c.in_ok-arrivals.ensures in
     passing-more coming_size coming_piece (IsComing s 8) (HasArrived s) Any Any _ _ _ _ _ _ _ _ _ _ c.loop-coming.invariant c.in-Some.ensures.items c.in-Some-pop.ensures.items (all-come c.nodes_are_in_limits.ensures s c.in-Some.coming.number c.in_ok-arrivals.arrivals come) (λ k h. tt) c.in_ok-push.ensures.ok
+
+pub loop-coming-smaller : goal.loop-coming-smaller
+loop-coming-smaller c = last-shorter _ _ _ c.in-Some.ensures.items

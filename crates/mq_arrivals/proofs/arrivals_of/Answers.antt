@@ -1,10 +1,10 @@
 use Rattle.std.proofs.Common.{◌<◌, ◌^◌, List, subst, sym, arith}
 use Rattle.std.specs.List.{AllByRecursion}
 use Rattle.mq_base.proofs.lemmas.Each.{Each-weaker}
-use Rattle.mq_crew.specs.Crew.{total_size}
+use Rattle.mq_crew.specs.Crew.{AreGroups, total_size}
 use Rattle.mq_arrivals.specs.Merges.{IsComing, IsReadyOrigin}
 use Rattle.mq_arrivals.specs.declared.merges.Coming.{Coming}
-use Rattle.mq_arrivals.proofs.Comings.{coming_size, comings-few}
+use Rattle.mq_arrivals.proofs.Comings.{coming_piece, coming_size, comings-few}
 use Rattle.mq_arrivals.proofs.arrivals_of.Goals as goal
 
 pub run_parts-requires-clause-fit : goal.run_parts-requires-clause-fit
@@ -18,3 +18,6 @@ run_parts-requires-clause-few g c κs inside =
     let len = c.in_ok-comings.ensures.len in
     let few = c.requires.nodes in
     subst (λ (l : List Coming). total_size coming_size l < 2 ^ 32) (sym c.as_slice.ensures) (comings-few s 8 c.in_ok-comings.comings (omega arith) c.in_ok-comings.ensures.each)
+
+pub all_arrived-requires-clause-groups : goal.all_arrived-requires-clause-groups
+all_arrived-requires-clause-groups g c = subst (λ (l : List Coming). AreGroups coming_size coming_piece l c.in_ok-groups.groups) c.as_slice.ensures c.in_ok-groups.ensures

@@ -1,10 +1,10 @@
 use Rattle.std.proofs.Common.{◌≡◌, ◌<◌, ◌^◌, List, subst, sym, arith}
 use Rattle.std.specs.List.{AllByRecursion}
 use Rattle.mq_base.proofs.lemmas.Each.{Each-weaker}
-use Rattle.mq_crew.specs.Crew.{total_size}
+use Rattle.mq_crew.specs.Crew.{AreGroups, total_size}
 use Rattle.mq_arrivals.specs.Merges.{IsComing, IsReadyOrigin}
 use Rattle.mq_arrivals.specs.declared.merges.Coming.{Coming}
-use Rattle.mq_arrivals.proofs.Comings.{coming_size, comings-few}
+use Rattle.mq_arrivals.proofs.Comings.{coming_piece, coming_size, comings-few}
 use Rattle.mq_arrivals.proofs.merges.comings_of.Goals as goal
 
 pub run_parts-requires-clause-fit : goal.run_parts-requires-clause-fit
@@ -24,3 +24,6 @@ returns-clause-each g c =
     let s = c.args.arriving.now in
     let ended : c.loop-port.port ≡ 8 = omega arith in
     subst (λ p. AllByRecursion (IsComing s p) c.loop-port.comings) ended c.loop-port.invariant.each
+
+pub all_further-requires-clause-groups : goal.all_further-requires-clause-groups
+all_further-requires-clause-groups g c = subst (λ (l : List Coming). AreGroups coming_size coming_piece l c.in_ok-groups.groups) c.as_slice.ensures c.in_ok-groups.ensures

@@ -1,9 +1,9 @@
-use Rattle.std.proofs.Common.{◌≡◌, ◌==◌, ◌++◌, ◌∙◌, ◌∷◌, [], true, false, ap, drop, arith}
+use Rattle.std.proofs.Common.{◌≡◌, ◌≤◌, ◌==◌, ◌++◌, ◌∙◌, ◌∷◌, [], true, false, ap, drop, length, arith}
 use Rattle.std.specs.List.{zip}
 use Rattle.std.specs.Vec.{vec_len, vec_capacity}
 use Rattle.std.proofs.lemmas.Bool.Decides.{nat_tests}
 use Rattle.mq_core.specs.Sequences.{rows_at}
-use Rattle.mq_arrivals.proofs.Sorted.{count-at, rows-skip, rows-take, zip-push}
+use Rattle.mq_arrivals.proofs.Sorted.{count-at, rows-end, rows-skip, rows-take, zip-push}
 use Rattle.mq_arrivals.proofs.rows.rows_of.Goals as goal
 use Rattle.mq_arrivals.proofs.rows.rows_of.Goals.{then-get-node, else-get-node}
 
@@ -49,3 +49,8 @@ loop-job-preserved c =
             space = omega arith;
           })
     ]
+
+pub returns-clause-items : goal.returns-clause-items
+returns-clause-items c =
+    let ended : length c.args.source.now ≤ c.loop-job.job = omega arith in
+    (λ k. zip (c.from_vec-2.ensures k) (c.from_vec.ensures k)) ∙ rows-end c.args.node c.loop-job.job _ c.args.source.now c.args.time.now _ ended c.loop-job.invariant.items
