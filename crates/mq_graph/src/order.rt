@@ -9,7 +9,7 @@ use mq_core::{Input, Network, Node};
 use std::alloc::Global;
 
 /// Why a network has no order.
-#[derive(Clone, Copy, Debug, PartialEq, Eq)]
+#[derive(Clone, Copy, PartialEq, Eq)]
 pub enum RankFault {
     /// The inputs hold a cycle. The node is the first declared one that the ranking leaves: it
     /// stands on a cycle or behind one.
