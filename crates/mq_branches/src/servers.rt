@@ -155,6 +155,7 @@ pub fn serve_all<R: Threads + Sync, G: Gate>(
 {
     let groups = run_parts(rt, alloc, workers, tasks.as_slice(), gate)?;
     let begun = begun_all(alloc, tasks, &groups)?;
+    drop(groups);
     let groups = run_parts(rt, alloc, workers, begun.as_slice(), gate)?;
     finished_all(alloc, &begun, &groups)
 }

@@ -1,5 +1,5 @@
 use Rattle.std.proofs.Common.{◌∙◌, refl, rules}
-use Rattle.mq_branches.proofs.Branching.{advancing-begins, advancing-ends, advancing-more, last-through}
+use Rattle.mq_branches.proofs.Branching.{advancing-begins, advancing-ends, advancing-more, last-shorter, last-through}
 use Rattle.mq_branches.proofs.branches.advanced.Goals as goal
 
 pub loop-branch-init : goal.loop-branch-init
@@ -8,6 +8,15 @@ loop-branch-init c =
 
 pub resumed-requires-clause-through : goal.resumed-requires-clause-through
 resumed-requires-clause-through c = last-through _ _ _ _ _ _ _ _ _ _ c.loop-branch.invariant c.in-Some.ensures.items c.in-Some-pop.ensures.items
+
+pub resumed-requires-clause-running : goal.resumed-requires-clause-running
+resumed-requires-clause-running c = c.loop-branch.invariant.behind
+
+pub resumed-requires-clause-long : goal.resumed-requires-clause-long
+resumed-requires-clause-long c = c.loop-branch.invariant.long
+
+pub loop-branch-smaller : goal.loop-branch-smaller
+loop-branch-smaller c = last-shorter _ _ _ c.in-Some.ensures.items
 
 pub loop-branch-preserved : goal.loop-branch-preserved
 loop-branch-preserved c = advancing-more _ _ _ _ _ _ _ _ _ _ _ c.loop-branch.invariant c.in-Some.ensures.items c.in-Some-pop.ensures.items c.in_ok-done.ensures
