@@ -1,7 +1,7 @@
 use mq_base::List;
 
 /// What the arrivals at a station come to that admits or loses each.
-#[derive(Debug, Drop)]
+#[derive(Drop)]
 pub struct Settled {
     /// Whether each arrival is admitted, by position.
     pub admitted: List<bool>,
