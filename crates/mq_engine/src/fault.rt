@@ -6,7 +6,7 @@ use mq_base::OutOfMemory;
 use mq_stations::{OverFault, PastFault};
 
 /// Why there is no run.
-#[derive(Clone, Copy, Debug, PartialEq, Eq)]
+#[derive(Clone, Copy, PartialEq, Eq)]
 pub enum RunFault {
     /// A node has more visits than it may have: the first node by rank that has, or one of whose visits
     /// departs after the bound.

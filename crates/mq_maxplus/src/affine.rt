@@ -8,7 +8,7 @@ use crate::Mp;
 /// The map `x -> max(x + add, least)`. A job that needs `add` ticks of service makes it of the last
 /// departure before it, where `least` is when it would leave an empty server (Greenberg, Lubachevsky
 /// and Mitrani, 1991).
-#[derive(Clone, Copy, Debug, PartialEq, Eq)]
+#[derive(Clone, Copy, PartialEq, Eq)]
 pub struct Affine {
     /// What is added, in ticks.
     pub add: u64,

@@ -69,7 +69,7 @@ impl Gather {
 }
 
 /// A piece of a line.
-#[derive(Clone, Copy, Debug)]
+#[derive(Clone, Copy)]
 pub enum Piece<'a> {
     /// These bytes.
     Text(&'a [u8]),

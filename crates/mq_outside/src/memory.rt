@@ -11,7 +11,7 @@ use std::alloc::Global;
 use std::marker::Model;
 
 /// A file in memory.
-#[derive(Debug, Drop)]
+#[derive(Drop)]
 pub struct MemFile {
     /// The name that a read gives.
     pub name: String,
@@ -31,7 +31,7 @@ impl Model for MemFile {
 /// Files in memory, of which the first of a name is meant.
 ///
 /// A read fails exactly where its number, from 1, is among `failing`, or no file has the name.
-#[derive(Debug, Drop)]
+#[derive(Drop)]
 pub struct MemFiles {
     files: Vec<MemFile>,
     failing: Vec<u64>,
@@ -141,7 +141,7 @@ impl Files for MemFiles {
 ///
 /// A put takes at most `most` bytes. It fails where its number, from 1, is among `failing`; any other put only where
 /// no spare byte is left, no further memory was given and the put isn't empty.
-#[derive(Debug, Drop)]
+#[derive(Drop)]
 pub struct MemSink {
     bytes: Vec<u8>,
     most: usize,

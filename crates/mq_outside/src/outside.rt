@@ -5,7 +5,7 @@ ghost use Rattle.std.specs.Io.KnownBytes.{append_known};
 ghost use Rattle.mq_outside.specs.Outside.{next_count, Rose, GainsFile};
 
 /// Why a file was not read.
-#[derive(Clone, Copy, Debug, PartialEq, Eq)]
+#[derive(Clone, Copy, PartialEq, Eq)]
 pub enum FileFault {
     /// The device failed, or the name is absent. The count of faults rose.
     Failed,
@@ -16,7 +16,7 @@ pub enum FileFault {
 }
 
 /// Why a sink took nothing.
-#[derive(Clone, Copy, Debug, PartialEq, Eq)]
+#[derive(Clone, Copy, PartialEq, Eq)]
 pub enum SinkFault {
     /// The device failed. The count of faults rose.
     Failed,

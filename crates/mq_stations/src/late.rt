@@ -11,7 +11,7 @@ use mq_base::List;
 use mq_core::Fate;
 
 /// A visit that departs after the bound.
-#[derive(Clone, Copy, Debug, PartialEq, Eq)]
+#[derive(Clone, Copy, PartialEq, Eq)]
 pub struct PastFault {
     /// The node, by order of declaration, from 0.
     pub node: u32,
@@ -22,7 +22,7 @@ pub struct PastFault {
 }
 
 /// A node with more visits than the 1,048,576 that it may have.
-#[derive(Clone, Copy, Debug, PartialEq, Eq)]
+#[derive(Clone, Copy, PartialEq, Eq)]
 pub struct OverFault {
     /// The node, by order of declaration, from 0.
     pub node: u32,

@@ -5,7 +5,7 @@ use std::alloc::{AllocError, AllocFailed};
 
 /// The first fault of a trace, or want of memory. A `row` is the number of a data record and a `field`
 /// the number of a field in its record, both from 1.
-#[derive(Clone, Copy, Debug, PartialEq, Eq)]
+#[derive(Clone, Copy, PartialEq, Eq)]
 pub enum TraceFault {
     /// The text has more than 134,217,728 bytes.
     TooLong,

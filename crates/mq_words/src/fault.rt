@@ -1,6 +1,6 @@
 // How words are refused.
 /// Why the words are refused.
-#[derive(Clone, Copy, Debug, PartialEq, Eq)]
+#[derive(Clone, Copy, PartialEq, Eq)]
 pub enum UsageFault {
     /// A word is empty or an unknown option, an option stands twice or lacks its value, or more
     /// than two words are left.
@@ -18,7 +18,7 @@ pub enum UsageFault {
 }
 
 /// Why there are no settings.
-#[derive(Clone, Copy, Debug, PartialEq, Eq)]
+#[derive(Clone, Copy, PartialEq, Eq)]
 pub enum WordsFault {
     /// The words are refused.
     Usage(UsageFault),

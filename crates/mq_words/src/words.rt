@@ -14,7 +14,7 @@ use mq_base::read_number;
 use std::alloc::Global;
 
 /// What is to be read.
-#[derive(Clone, Copy, Debug)]
+#[derive(Clone, Copy)]
 pub enum Input<'a> {
     /// Two files.
     Named {
@@ -28,7 +28,7 @@ pub enum Input<'a> {
 }
 
 /// What accepted words ask for.
-#[derive(Clone, Copy, Debug)]
+#[derive(Clone, Copy)]
 pub struct Settings<'a> {
     /// What is to be read.
     pub input: Input<'a>,
