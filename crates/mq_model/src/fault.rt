@@ -3,7 +3,7 @@ use mq_base::OutOfMemory;
 use std::alloc::{AllocError, AllocFailed};
 
 /// The first fault of a text. Lines and words count from 1; inputs, by their port, and nodes, in order of declaration, from 0.
-#[derive(Clone, Copy, Debug, PartialEq, Eq)]
+#[derive(Clone, Copy, PartialEq, Eq)]
 pub enum ModelFault {
     /// The text has more than 65,536 bytes.
     TooLong,

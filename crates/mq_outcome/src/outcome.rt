@@ -8,7 +8,7 @@ use mq_trace::TraceFault;
 use mq_words::UsageFault;
 
 /// How a call ends.
-#[derive(Clone, Copy, Debug, PartialEq, Eq)]
+#[derive(Clone, Copy, PartialEq, Eq)]
 pub enum Outcome {
     /// The whole report was written.
     Done,
