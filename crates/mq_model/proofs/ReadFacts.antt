@@ -103,12 +103,6 @@ unfolding read up_to
 up_to_yes zero p value all ws w some e h = absurd (omega arith)
 up_to_yes (suc n) p value all ws w some e h = let back : suc n - 1 ≡ n = omega arith in rw (back, e, h, read_then (up_to n p value) (λ more. stop (value w ∷ more)) ws) (front_of (value w) (read (up_to n p value) ws))
 
-pub keyed : (w k lit : Word) → lit ≡ k → false ≡ not (bytes_eq w lit) → is_key k w ≡ true
-keyed w k lit e h = let same : bytes_eq w lit ≡ true = grind (arith, common_steps, h) in rw (← e) same
-
-pub not_keyed : (w k lit : Word) → lit ≡ k → true ≡ not (bytes_eq w lit) → is_key k w ≡ false
-not_keyed w k lit e h = let other : bytes_eq w lit ≡ false = grind (arith, common_steps, h) in rw (← e) other
-
 -- a fault within a part is the fault of the whole
 pub stops : {X Y : Type 0} (e : Stop) (left : List Word) (part : Result (X × List Word) (List Word)) (all : Result (Y × List Word) (List Word))
     → Reads {X = X} (Err e) left part → ((l : List Word) → part ≡ Err l → all ≡ Err l) → Reads {X = Y} (Err e) left all

@@ -12,7 +12,7 @@ ghost use Rattle.mq_model.specs.Said.{added, columns_after, declared, is_among, 
 use crate::fault::ModelFault;
 use crate::line::{LineFault, read_line};
 use crate::said::{Said, SaidDemand, SaidKind, SaidRoute, SaidStage};
-use crate::word::copied;
+use crate::word::{copied, is_key};
 use mq_base::{List, next_word};
 use std::alloc::Global;
 
@@ -69,10 +69,10 @@ fn begins_comment(words: &[&[u8]]) -> bool
 fn is_version(word: &[u8]) -> bool
     ensures { result ≡ is_version word.now }
 {
-    if word == b"1".as_slice() {
+    if is_key(b"1", word) {
         return true;
     }
-    word == b"2".as_slice()
+    is_key(b"2", word)
 }
 
 /// Whether these are the words of a head.
@@ -105,7 +105,7 @@ fn begins_bound(words: &[&[u8]]) -> bool
     let Some(word) = words.first() else {
         return false;
     };
-    *word == b"bound".as_slice()
+    is_key(b"bound", word)
 }
 
 /// Whether a line begins as one that version 1 doesn't have.
@@ -115,13 +115,13 @@ fn begins_later(words: &[&[u8]]) -> bool
     let Some(word) = words.first() else {
         return false;
     };
-    if *word == b"fork".as_slice() {
+    if is_key(b"fork", word) {
         return true;
     }
-    if *word == b"join".as_slice() {
+    if is_key(b"join", word) {
         return true;
     }
-    *word == b"trunk".as_slice()
+    is_key(b"trunk", word)
 }
 
 /// Whether a line begins as none may: as a bound behind an earlier one, or as a line of version 2
@@ -330,7 +330,11 @@ fn add_said(alloc: Global, said: Said, number: u32, front: &mut Front) -> Result
     ensures ok { IfOk result (λ _. (added_fault front.old number said ≡ None) × (front.new ≡ with_said front.old number said)) }
     ensures err { IfErr result (λ e. Tells e (added_fault front.old number said)) }
 {
-    add_names(alloc, &said, number, front)?;
+    if let Err(fault) = add_names(alloc, &said, number, front) {
+        // A call of `drop` is proved once for a type.
+        drop(said);
+        return Err(fault);
+    }
     front.saids.push(said)?;
     front.lines.push(number)?;
     Ok(())

@@ -10,6 +10,7 @@ use crate::parts::{
 use crate::route::read_route;
 use crate::said::{Said, SaidKind};
 use crate::station::{read_forkjoin, read_loss, read_tandem, read_trunk};
+use crate::word::is_key;
 use mq_base::List;
 use std::alloc::Global;
 
@@ -30,22 +31,22 @@ pub enum KindWord {
 fn kind_word(word: &[u8]) -> Option<KindWord>
     ensures { (all more : List Word) → all ≡ word.now ∷ more → MatchOption result (read kind_line all ≡ Err all) (λ first. read kind_line all ≡ read (node_line (form_of first)) more) }
 {
-    if word == b"server".as_slice() {
+    if is_key(b"server", word) {
         return Some(KindWord::Server);
     }
-    if word == b"delay".as_slice() {
+    if is_key(b"delay", word) {
         return Some(KindWord::Delay);
     }
-    if word == b"loss".as_slice() {
+    if is_key(b"loss", word) {
         return Some(KindWord::Loss);
     }
-    if word == b"tandem".as_slice() {
+    if is_key(b"tandem", word) {
         return Some(KindWord::Tandem);
     }
-    if word == b"forkjoin".as_slice() {
+    if is_key(b"forkjoin", word) {
         return Some(KindWord::ForkJoin);
     }
-    if word == b"split".as_slice() {
+    if is_key(b"split", word) {
         return Some(KindWord::Split);
     }
     None
@@ -85,15 +86,20 @@ fn read_kind(
 }
 
 /// Reads what stands behind the first word, where the node reads inputs.
-#[tactic(auto, using(crate::proofs::ReadFacts::reading), unfolding(crate::specs::Lines::node_line))]
 fn read_node(alloc: Global, words: &[&[u8]], at: &mut usize, first: KindWord) -> Result<Said, Stop>
     ensures reads { Reads result (words_from words.now at.new) (read (node_line (form_of first)) (words_from words.now at.old)) }
     ensures within { at.old ≤ length words.now → at.new ≤ length words.now }
 {
     let name = read_name(alloc, words, at)?;
     let kind = read_kind(alloc, words, at, first)?;
-    let reads = read_inputs(alloc, words, at)?;
-    Ok(Said::Node { name, kind, reads })
+    match read_inputs(alloc, words, at) {
+        Ok(reads) => Ok(Said::Node { name, kind, reads }),
+        // A call of `drop` is proved once for a type, here and below.
+        Err(stop) => {
+            drop(kind);
+            Err(stop)
+        }
+    }
 }
 
 /// Reads what stands behind `bound`.
@@ -119,7 +125,6 @@ fn read_source(alloc: Global, words: &[&[u8]], at: &mut usize) -> Result<Said, S
 }
 
 /// Reads what stands behind `join`.
-#[tactic(auto, using(crate::proofs::ReadFacts::reading), unfolding(crate::specs::Lines::join_line))]
 fn read_join(alloc: Global, words: &[&[u8]], at: &mut usize) -> Result<Said, Stop>
     ensures reads { Reads result (words_from words.now at.new) (read join_line (words_from words.now at.old)) }
     ensures within { at.old ≤ length words.now → at.new ≤ length words.now }
@@ -142,11 +147,11 @@ fn read_first(alloc: Global, words: &[&[u8]], at: &mut usize) -> Result<Said, St
     let Some(word) = word_at(words, *at) else {
         return Err(Stop::Word);
     };
-    if word == b"bound".as_slice() {
+    if is_key(b"bound", word) {
         *at += 1;
         return read_bound(words, at);
     }
-    if word == b"source".as_slice() {
+    if is_key(b"source", word) {
         *at += 1;
         return read_source(alloc, words, at);
     }
@@ -166,15 +171,15 @@ fn read_any(alloc: Global, words: &[&[u8]], at: &mut usize) -> Result<Said, Stop
     let Some(word) = word_at(words, *at) else {
         return Err(Stop::Word);
     };
-    if word == b"fork".as_slice() {
+    if is_key(b"fork", word) {
         *at += 1;
         return read_node(alloc, words, at, KindWord::Fork);
     }
-    if word == b"join".as_slice() {
+    if is_key(b"join", word) {
         *at += 1;
         return read_join(alloc, words, at);
     }
-    if word == b"trunk".as_slice() {
+    if is_key(b"trunk", word) {
         *at += 1;
         return read_node(alloc, words, at, KindWord::Trunk);
     }
@@ -197,6 +202,7 @@ pub fn read_line(alloc: Global, words: &[&[u8]]) -> Result<Said, LineFault>
     match read_any(alloc, words, &mut at) {
         Ok(said) => {
             if at < words.len() {
+                drop(said);
                 return Err(LineFault::Word(at + 1));
             }
             Ok(said)

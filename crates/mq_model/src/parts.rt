@@ -5,7 +5,7 @@ ghost use Rattle.mq_model.specs.Lines.{a_demand, a_name, input_of, inputs, is_fr
 ghost use Rattle.mq_model.specs.Reading.{Reads, words_from};
 
 use crate::said::{SaidDemand, SaidInput};
-use crate::word::{copied, demand_said, input_said, is_demand, is_input, is_name};
+use crate::word::{copied, demand_said, input_said, is_demand, is_input, is_key, is_name};
 use mq_base::{List, OutOfMemory, read_number};
 use std::alloc::{AllocError, Global};
 
@@ -94,7 +94,7 @@ pub fn read_key(words: &[&[u8]], at: &mut usize, text: &[u8]) -> Result<(), Stop
     let Some(word) = word_at(words, *at) else {
         return Err(Stop::Word);
     };
-    if word != text {
+    if !is_key(text, word) {
         return Err(Stop::Word);
     }
     *at += 1;

@@ -134,7 +134,15 @@ pub fn read_model(alloc: Global, bytes: &[u8]) -> Result<Plan, ModelFault>
     }
     let mut front = read_lines(alloc, without_mark(bytes))?;
     match front_fault(&front) {
-        Some(fault) => Err(fault),
-        None => plan_of(alloc, &mut front),
+        // A call of `drop` is proved once for a type.
+        Some(fault) => {
+            drop(front);
+            Err(fault)
+        }
+        None => {
+            let plan = plan_of(alloc, &mut front);
+            drop(front);
+            plan
+        }
     }
 }

@@ -6,7 +6,7 @@ ghost use Rattle.mq_model.specs.Reading.{Reads, ReadsMore, words_from};
 
 use crate::parts::{Stop, read_name, read_within, word_at};
 use crate::said::SaidRoute;
-use crate::word::GREATEST_DEMAND;
+use crate::word::{GREATEST_DEMAND, is_key};
 use mq_base::{List, read_number};
 use std::alloc::Global;
 
@@ -62,7 +62,6 @@ fn read_thresholds(alloc: Global, words: &[&[u8]], at: &mut usize) -> Result<Lis
 }
 
 /// Reads what stands behind `cut`.
-#[tactic(auto, using(crate::proofs::ReadFacts::reading), unfolding(crate::specs::Lines::cut_route))]
 fn read_cut(alloc: Global, words: &[&[u8]], at: &mut usize) -> Result<SaidRoute, Stop>
     ensures reads { Reads result (words_from words.now at.new) (read cut_route (words_from words.now at.old)) }
     ensures within { at.old ≤ length words.now → at.new ≤ length words.now }
@@ -95,11 +94,11 @@ fn read_way(alloc: Global, words: &[&[u8]], at: &mut usize, outputs: u8) -> Resu
     let Some(word) = word_at(words, *at) else {
         return Err(Stop::Word);
     };
-    if word == b"mod".as_slice() {
+    if is_key(b"mod", word) {
         *at += 1;
         return read_modulo(alloc, words, at, outputs);
     }
-    if word == b"turn".as_slice() {
+    if is_key(b"turn", word) {
         *at += 1;
         return Ok(SaidRoute::Turn { outputs });
     }
@@ -124,7 +123,7 @@ pub fn read_route(alloc: Global, words: &[&[u8]], at: &mut usize) -> Result<Said
     let Some(word) = word_at(words, *at) else {
         return Err(Stop::Word);
     };
-    if word == b"cut".as_slice() {
+    if is_key(b"cut", word) {
         *at += 1;
         return read_cut(alloc, words, at);
     }

@@ -6,7 +6,7 @@ ghost use Rattle.mq_model.specs.Reading.{Reads, ReadsMore, words_from};
 
 use crate::parts::{Stop, read_demand, read_within, word_at};
 use crate::said::{SaidDemand, SaidKind, SaidStage};
-use crate::word::{demand_said, is_demand};
+use crate::word::{demand_said, is_demand, is_key};
 use mq_base::List;
 use std::alloc::Global;
 
@@ -66,7 +66,7 @@ fn add_stages(
         let Some(word) = word_at(&*words, *at) else {
             return Ok(());
         };
-        if word != b"/".as_slice() {
+        if !is_key(b"/", word) {
             return Ok(());
         }
         *at += 1;
@@ -173,7 +173,7 @@ fn add_branches(
         let Some(word) = word_at(&*words, *at) else {
             return Ok(());
         };
-        if word != b"|".as_slice() {
+        if !is_key(b"|", word) {
             return Ok(());
         }
         *at += 1;

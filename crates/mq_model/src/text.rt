@@ -50,6 +50,12 @@ pub fn read_lines(alloc: Global, text: &[u8]) -> Result<Front, ModelFault>
     ensures err { IfErr result (λ e. Tells e (lines_fault [] (lines_of text.now))) }
 {
     let mut front = no_lines(alloc);
-    add_lines(alloc, text, &mut front)?;
-    Ok(front)
+    match add_lines(alloc, text, &mut front) {
+        Ok(()) => Ok(front),
+        // A call of `drop` is proved once for a type.
+        Err(fault) => {
+            drop(front);
+            Err(fault)
+        }
+    }
 }

@@ -2,7 +2,7 @@
 ghost use Rattle.std.specs.Prelude.{◌≡◌, IfOk, true};
 ghost use Rattle.std.specs.List.{list_all};
 ghost use Rattle.mq_core.specs.Names.{is_name, is_name_byte};
-ghost use Rattle.mq_model.specs.Lines.{demand_of, input_of, is_demand, is_input};
+ghost use Rattle.mq_model.specs.Lines.{demand_of, input_of, is_demand, is_input, is_key};
 
 use crate::said::{SaidDemand, SaidInput};
 use mq_base::{List, read_number};
@@ -23,6 +23,13 @@ pub fn copied_numbers(alloc: Global, numbers: &[u64]) -> Result<List<u64>, Alloc
     ensures { IfOk result (λ v. v ≡ numbers.now) }
 {
     Ok(List::from_vec(numbers.to_vec(alloc)?))
+}
+
+/// Whether a word is this one.
+pub fn is_key(key: &[u8], word: &[u8]) -> bool
+    ensures { result ≡ is_key key.now word.now }
+{
+    word == key
 }
 
 /// Whether these bytes may stand in a name, behind its first.

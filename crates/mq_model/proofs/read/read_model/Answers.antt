@@ -18,18 +18,18 @@ returns-in-Some-clause-err c = λ h.
     let k = kept c.args.bytes.now c.without_mark.result.now c.in_ok-front.front c.if-bytes-gt65536.false c.without_mark.ensures c.in_ok-front.ensures.ok in
     kept_fault c.args.bytes.now c.in_ok-front.front c.in-Some.fault k c.in-Some.ensures
 
-pub plan_of-requires : goal.plan_of-requires
-plan_of-requires c =
+pub plan_of-plan-requires : goal.plan_of-plan-requires
+plan_of-plan-requires c =
     let k = kept c.args.bytes.now c.without_mark.result.now c.in_ok-front.front c.if-bytes-gt65536.false c.without_mark.ensures c.in_ok-front.ensures.ok in
     let u = unfaulty c.args.bytes.now c.in_ok-front.front k c.in-None.ensures in
     record { names = k.is.names ∙ ap names_of (sym k.is.saids); columns = k.is.columns ∙ ap columns_of (sym k.is.saids); few = k.is.few_names; few_columns = k.is.few_columns; beside = u.beside; small = u.few; wired = u.wired; sound = u.sound }
 
-pub returns-clause-ok : goal.returns-clause-ok
-returns-clause-ok c =
+pub returns-in-None-clause-ok : goal.returns-in-None-clause-ok
+returns-in-None-clause-ok c =
     let k = kept c.args.bytes.now c.without_mark.result.now c.in_ok-front.front c.if-bytes-gt65536.false c.without_mark.ensures c.in_ok-front.ensures.ok in
-    planned c.args.bytes.now c.in_ok-front.front _ (unfaulty c.args.bytes.now c.in_ok-front.front k c.in-None.ensures) c.plan_of.ensures.ok
+    planned c.args.bytes.now c.in_ok-front.front _ (unfaulty c.args.bytes.now c.in_ok-front.front k c.in-None.ensures) c.plan_of-plan.ensures.ok
 
-pub returns-clause-err : goal.returns-clause-err
-returns-clause-err c =
+pub returns-in-None-clause-err : goal.returns-in-None-clause-err
+returns-in-None-clause-err c =
     let k = kept c.args.bytes.now c.without_mark.result.now c.in_ok-front.front c.if-bytes-gt65536.false c.without_mark.ensures c.in_ok-front.ensures.ok in
-    unplanned c.args.bytes.now c.in_ok-front.front _ (unfaulty c.args.bytes.now c.in_ok-front.front k c.in-None.ensures) c.plan_of.ensures.err
+    unplanned c.args.bytes.now c.in_ok-front.front _ (unfaulty c.args.bytes.now c.in_ok-front.front k c.in-None.ensures) c.plan_of-plan.ensures.err
