@@ -13,7 +13,7 @@ use crate::fault::ModelFault;
 use crate::line::{LineFault, read_line};
 use crate::said::{Said, SaidDemand, SaidKind, SaidRoute, SaidStage};
 use crate::word::{copied, is_key};
-use mq_base::{List, next_word};
+use mq_base::{List, OutOfMemory, next_word};
 use std::alloc::Global;
 
 /// What the lines so far say: their heads and bounds, each line of the grammar with its number,
@@ -31,10 +31,9 @@ pub struct Front {
 }
 
 /// The words of a line.
-fn split_words<'a>(alloc: Global, line: &'a [u8]) -> Result<Vec<&'a [u8]>, ModelFault>
+fn split_words<'a>(alloc: Global, line: &'a [u8]) -> Result<Vec<&'a [u8]>, OutOfMemory>
     ensures words { IfOk result (λ v. texts v.items ≡ words_of line.now) }
     ensures few { IfOk result (λ v. length v.items ≤ length line.now) }
-    ensures memory { IfErr result (λ e. e ≡ ModelFault.Memory) }
 {
     let mut words = Vec::new(alloc);
     let mut from = 0;
@@ -82,7 +81,7 @@ fn is_head(words: &[&[u8]]) -> bool
     if words.len() != 2 {
         return false;
     }
-    if words[0] != b"model".as_slice() {
+    if !is_key(b"model", words[0]) {
         return false;
     }
     is_version(words[1])
@@ -95,7 +94,7 @@ fn version_said(words: &[&[u8]]) -> u8
     if words.len() < 2 {
         return 1;
     }
-    if words[1] == b"2".as_slice() { 2 } else { 1 }
+    if is_key(b"2", words[1]) { 2 } else { 1 }
 }
 
 /// Whether a line begins as a bound does.
@@ -170,9 +169,8 @@ fn add_column(
     alloc: Global,
     name: &List<u8>,
     columns: &mut List<List<u8>>,
-) -> Result<(), ModelFault>
-    ensures ok { IfOk result (λ _. columns.new ≡ added columns.old name.now) }
-    ensures err { IfErr result (λ e. e ≡ ModelFault.Memory) }
+) -> Result<(), OutOfMemory>
+    ensures { IfOk result (λ _. columns.new ≡ added columns.old name.now) }
 {
     if !is_among(columns.as_slice(), name.as_slice()) {
         columns.push(copied(alloc, name.as_slice())?)?;
@@ -184,9 +182,8 @@ fn add_of_demand(
     alloc: Global,
     demand: &SaidDemand,
     columns: &mut List<List<u8>>,
-) -> Result<(), ModelFault>
-    ensures ok { IfOk result (λ _. columns.new ≡ columns_after columns.old (mentions_of_demand demand.now)) }
-    ensures err { IfErr result (λ e. e ≡ ModelFault.Memory) }
+) -> Result<(), OutOfMemory>
+    ensures { IfOk result (λ _. columns.new ≡ columns_after columns.old (mentions_of_demand demand.now)) }
 {
     match demand {
         SaidDemand::Column(column) => add_column(alloc, column, columns),
@@ -198,9 +195,8 @@ fn add_of_stages(
     alloc: Global,
     stages: &[SaidStage],
     columns: &mut List<List<u8>>,
-) -> Result<(), ModelFault>
-    ensures ok { IfOk result (λ _. columns.new ≡ columns_after columns.old (flat_map (λ (stage : SaidStage). mentions_of_demand stage.demand) stages.now)) }
-    ensures err { IfErr result (λ e. e ≡ ModelFault.Memory) }
+) -> Result<(), OutOfMemory>
+    ensures { IfOk result (λ _. columns.new ≡ columns_after columns.old (flat_map (λ (stage : SaidStage). mentions_of_demand stage.demand) stages.now)) }
 {
     for stage in stages {
         add_of_demand(alloc, &stage.demand, columns)?;
@@ -212,9 +208,8 @@ fn add_of_demands(
     alloc: Global,
     demands: &[SaidDemand],
     columns: &mut List<List<u8>>,
-) -> Result<(), ModelFault>
-    ensures ok { IfOk result (λ _. columns.new ≡ columns_after columns.old (flat_map mentions_of_demand demands.now)) }
-    ensures err { IfErr result (λ e. e ≡ ModelFault.Memory) }
+) -> Result<(), OutOfMemory>
+    ensures { IfOk result (λ _. columns.new ≡ columns_after columns.old (flat_map mentions_of_demand demands.now)) }
 {
     for demand in demands {
         add_of_demand(alloc, demand, columns)?;
@@ -227,9 +222,8 @@ fn add_of_branches(
     alloc: Global,
     branches: &[List<SaidDemand>],
     columns: &mut List<List<u8>>,
-) -> Result<(), ModelFault>
-    ensures ok { IfOk result (λ _. columns.new ≡ columns_after columns.old (flat_map (λ demands. flat_map mentions_of_demand demands) branches.now)) }
-    ensures err { IfErr result (λ e. e ≡ ModelFault.Memory) }
+) -> Result<(), OutOfMemory>
+    ensures { IfOk result (λ _. columns.new ≡ columns_after columns.old (flat_map (λ demands. flat_map mentions_of_demand demands) branches.now)) }
 {
     for demands in branches {
         add_of_demands(alloc, demands.as_slice(), columns)?;
@@ -241,9 +235,8 @@ fn add_of_route(
     alloc: Global,
     route: &SaidRoute,
     columns: &mut List<List<u8>>,
-) -> Result<(), ModelFault>
-    ensures ok { IfOk result (λ _. columns.new ≡ columns_after columns.old (mentions_of_route route.now)) }
-    ensures err { IfErr result (λ e. e ≡ ModelFault.Memory) }
+) -> Result<(), OutOfMemory>
+    ensures { IfOk result (λ _. columns.new ≡ columns_after columns.old (mentions_of_route route.now)) }
 {
     match route {
         SaidRoute::Modulo { column, .. } | SaidRoute::Cut { column, .. } => add_column(
@@ -257,9 +250,8 @@ fn add_of_kind(
     alloc: Global,
     kind: &SaidKind,
     columns: &mut List<List<u8>>,
-) -> Result<(), ModelFault>
-    ensures ok { IfOk result (λ _. columns.new ≡ columns_after columns.old (mentions_of_kind kind.now)) }
-    ensures err { IfErr result (λ e. e ≡ ModelFault.Memory) }
+) -> Result<(), OutOfMemory>
+    ensures { IfOk result (λ _. columns.new ≡ columns_after columns.old (mentions_of_kind kind.now)) }
 {
     match kind {
         SaidKind::Source => Ok(()),
@@ -274,9 +266,8 @@ fn add_of_kind(
 }
 
 /// Adds the columns that a line mentions.
-fn add_columns(alloc: Global, said: &Said, columns: &mut List<List<u8>>) -> Result<(), ModelFault>
-    ensures ok { IfOk result (λ _. columns.new ≡ columns_after columns.old (mentioned said.now)) }
-    ensures err { IfErr result (λ e. e ≡ ModelFault.Memory) }
+fn add_columns(alloc: Global, said: &Said, columns: &mut List<List<u8>>) -> Result<(), OutOfMemory>
+    ensures { IfOk result (λ _. columns.new ≡ columns_after columns.old (mentioned said.now)) }
 {
     let Said::Node { kind, .. } = said else {
         return Ok(());

@@ -1,13 +1,12 @@
 // The network that lines declare: names become numbers.
-ghost use Rattle.std.specs.Prelude.{◌≡◌, ◌≤◌, ◌++◌, IfErr, IfOk, length, map};
+ghost use Rattle.std.specs.Prelude.{◌≡◌, ◌≤◌, ◌++◌, IfOk, length, map};
 ghost use Rattle.std.specs.List.{flat_map};
 ghost use Rattle.mq_model.specs.NetworkOf.{bound_of, demand_in, input_in, kind_in, network_of, nodes_in, number_in, route_in, stage_in};
 ghost use Rattle.mq_model.specs.Said.{columns_of, names_of};
 
-use crate::fault::ModelFault;
 use crate::said::{Said, SaidDemand, SaidInput, SaidKind, SaidRoute, SaidStage};
 use crate::word::{copied, copied_numbers};
-use mq_base::List;
+use mq_base::{List, OutOfMemory};
 use mq_core::{Demand, Input, Kind, Network, Node, Route, Stage};
 use std::alloc::Global;
 
@@ -39,10 +38,9 @@ fn demand_in(columns: &[List<u8>], demand: &SaidDemand) -> Demand
     }
 }
 
-fn route_in(alloc: Global, columns: &[List<u8>], route: &SaidRoute) -> Result<Route, ModelFault>
+fn route_in(alloc: Global, columns: &[List<u8>], route: &SaidRoute) -> Result<Route, OutOfMemory>
     requires { length columns.now ≤ 16 }
-    ensures ok { IfOk result (λ r. r ≡ route_in columns.now route.now) }
-    ensures err { IfErr result (λ e. e ≡ ModelFault.Memory) }
+    ensures { IfOk result (λ r. r ≡ route_in columns.now route.now) }
 {
     match route {
         SaidRoute::Modulo { outputs, column } => Ok(Route::Modulo {
@@ -61,10 +59,9 @@ fn stages_in(
     alloc: Global,
     columns: &[List<u8>],
     stages: &[SaidStage],
-) -> Result<List<Stage>, ModelFault>
+) -> Result<List<Stage>, OutOfMemory>
     requires { length columns.now ≤ 16 }
-    ensures ok { IfOk result (λ all. all ≡ map (stage_in columns.now) stages.now) }
-    ensures err { IfErr result (λ e. e ≡ ModelFault.Memory) }
+    ensures { IfOk result (λ all. all ≡ map (stage_in columns.now) stages.now) }
 {
     let mut all = List::new(alloc);
     for stage in stages {
@@ -80,10 +77,9 @@ fn demands_in(
     alloc: Global,
     columns: &[List<u8>],
     demands: &[SaidDemand],
-) -> Result<List<Demand>, ModelFault>
+) -> Result<List<Demand>, OutOfMemory>
     requires { length columns.now ≤ 16 }
-    ensures ok { IfOk result (λ all. all ≡ map (demand_in columns.now) demands.now) }
-    ensures err { IfErr result (λ e. e ≡ ModelFault.Memory) }
+    ensures { IfOk result (λ all. all ≡ map (demand_in columns.now) demands.now) }
 {
     let mut all = List::new(alloc);
     for demand in demands {
@@ -96,10 +92,9 @@ fn branches_in(
     alloc: Global,
     columns: &[List<u8>],
     branches: &[List<SaidDemand>],
-) -> Result<List<List<Demand>>, ModelFault>
+) -> Result<List<List<Demand>>, OutOfMemory>
     requires { length columns.now ≤ 16 }
-    ensures ok { IfOk result (λ all. all ≡ map (map (demand_in columns.now)) branches.now) }
-    ensures err { IfErr result (λ e. e ≡ ModelFault.Memory) }
+    ensures { IfOk result (λ all. all ≡ map (map (demand_in columns.now)) branches.now) }
 {
     let mut all = List::new(alloc);
     for demands in branches {
@@ -108,10 +103,9 @@ fn branches_in(
     Ok(all)
 }
 
-fn kind_in(alloc: Global, columns: &[List<u8>], kind: &SaidKind) -> Result<Kind, ModelFault>
+fn kind_in(alloc: Global, columns: &[List<u8>], kind: &SaidKind) -> Result<Kind, OutOfMemory>
     requires { length columns.now ≤ 16 }
-    ensures ok { IfOk result (λ k. k ≡ kind_in columns.now kind.now) }
-    ensures err { IfErr result (λ e. e ≡ ModelFault.Memory) }
+    ensures { IfOk result (λ k. k ≡ kind_in columns.now kind.now) }
 {
     match kind {
         SaidKind::Source => Ok(Kind::Source),
@@ -142,10 +136,9 @@ fn inputs_in(
     alloc: Global,
     names: &[List<u8>],
     reads: &[SaidInput],
-) -> Result<List<Input>, ModelFault>
+) -> Result<List<Input>, OutOfMemory>
     requires { length names.now ≤ 64 }
-    ensures ok { IfOk result (λ inputs. inputs ≡ map (input_in names.now) reads.now) }
-    ensures err { IfErr result (λ e. e ≡ ModelFault.Memory) }
+    ensures { IfOk result (λ inputs. inputs ≡ map (input_in names.now) reads.now) }
 {
     let mut inputs = List::new(alloc);
     for read in reads {
@@ -165,11 +158,10 @@ fn node_in(
     name: &List<u8>,
     kind: &SaidKind,
     reads: &[SaidInput],
-) -> Result<Node, ModelFault>
+) -> Result<Node, OutOfMemory>
     requires few { length names.now ≤ 64 }
     requires few_columns { length columns.now ≤ 16 }
-    ensures ok { IfOk result (λ node. node ≡ record { name = name.now; kind = kind_in columns.now kind.now; inputs = map (input_in names.now) reads.now }) }
-    ensures err { IfErr result (λ e. e ≡ ModelFault.Memory) }
+    ensures { IfOk result (λ node. node ≡ record { name = name.now; kind = kind_in columns.now kind.now; inputs = map (input_in names.now) reads.now }) }
 {
     let name = copied(alloc, name.as_slice())?;
     let inputs = inputs_in(alloc, names, reads)?;
@@ -184,11 +176,10 @@ fn add_node(
     columns: &[List<u8>],
     said: &Said,
     nodes: &mut List<Node>,
-) -> Result<(), ModelFault>
+) -> Result<(), OutOfMemory>
     requires few { length names.now ≤ 64 }
     requires few_columns { length columns.now ≤ 16 }
-    ensures ok { IfOk result (λ _. nodes.new ≡ nodes.old ++ nodes_in names.now columns.now said.now) }
-    ensures err { IfErr result (λ e. e ≡ ModelFault.Memory) }
+    ensures { IfOk result (λ _. nodes.new ≡ nodes.old ++ nodes_in names.now columns.now said.now) }
 {
     let Said::Node { name, kind, reads } = said else {
         return Ok(());
@@ -203,11 +194,10 @@ fn nodes_in(
     names: &[List<u8>],
     columns: &[List<u8>],
     saids: &[Said],
-) -> Result<List<Node>, ModelFault>
+) -> Result<List<Node>, OutOfMemory>
     requires few { length names.now ≤ 64 }
     requires few_columns { length columns.now ≤ 16 }
-    ensures ok { IfOk result (λ nodes. nodes ≡ flat_map (nodes_in names.now columns.now) saids.now) }
-    ensures err { IfErr result (λ e. e ≡ ModelFault.Memory) }
+    ensures { IfOk result (λ nodes. nodes ≡ flat_map (nodes_in names.now columns.now) saids.now) }
 {
     let mut nodes = List::new(alloc);
     for said in saids {
@@ -235,13 +225,12 @@ pub fn network_of(
     names: &[List<u8>],
     columns: List<List<u8>>,
     saids: &[Said],
-) -> Result<Network, ModelFault>
+) -> Result<Network, OutOfMemory>
     requires names { names.now ≡ names_of saids.now }
     requires columns { columns ≡ columns_of saids.now }
     requires few { length names.now ≤ 64 }
     requires few_columns { length columns ≤ 16 }
-    ensures ok { IfOk result (λ net. net ≡ network_of version saids.now) }
-    ensures err { IfErr result (λ e. e ≡ ModelFault.Memory) }
+    ensures { IfOk result (λ net. net ≡ network_of version saids.now) }
 {
     let nodes = nodes_in(alloc, names, columns.as_slice(), saids)?;
     Ok(Network {
