@@ -44,21 +44,18 @@ fn source(alloc: Global, number: usize) -> Result<Node, OutOfMemory>
     })
 }
 
-/// Two sources, which the first section reads.
-fn no_sections(alloc: Global) -> Result<Sections, OutOfMemory>
-    ensures { IfOk result (λ s. (generator : Lcg) → with_generator s generator ≡ no_sections generator) }
+/// Adds two sources to no sections, and their outputs, which the first section reads.
+fn add_sources(alloc: Global, sections: &mut Sections) -> Result<(), OutOfMemory>
+    requires nodes { sections.old.nodes ≡ [] }
+    requires columns { sections.old.columns ≡ [] }
+    requires ends { sections.old.ends ≡ [] }
+    ensures { OnOk result ((generator : Lcg) → with_generator sections.new generator ≡ no_sections generator) }
 {
-    let mut nodes = List::new(alloc);
-    nodes.push(source(alloc, 0)?)?;
-    nodes.push(source(alloc, 1)?)?;
-    let mut ends = List::new(alloc);
-    ends.push(Input { node: 0, out: 0 })?;
-    ends.push(Input { node: 1, out: 0 })?;
-    Ok(Sections {
-        nodes,
-        columns: List::new(alloc),
-        ends,
-    })
+    sections.nodes.push(source(alloc, 0)?)?;
+    sections.nodes.push(source(alloc, 1)?)?;
+    sections.ends.push(Input { node: 0, out: 0 })?;
+    sections.ends.push(Input { node: 1, out: 0 })?;
+    Ok(())
 }
 
 fn is_among(columns: &[List<u8>], name: &[u8]) -> bool
@@ -122,16 +119,17 @@ fn stages(
 ) -> Result<List<Stage>, OutOfMemory>
     ensures { IfOk result (λ all. all ≡ record { places = 0; demand = first } ∷ record { places = places; demand = second } ∷ []) }
 {
-    let mut all = List::new(alloc);
-    all.push(Stage {
-        places: 0,
-        demand: first,
-    })?;
-    all.push(Stage {
-        places,
-        demand: second,
-    })?;
-    Ok(all)
+    let all = [
+        Stage {
+            places: 0,
+            demand: first,
+        },
+        Stage {
+            places,
+            demand: second,
+        },
+    ];
+    Ok(List::from_vec(Vec::from_slice(alloc, &all)?))
 }
 
 /// A branch of one server, and one of two.
@@ -142,15 +140,9 @@ fn branches(
 ) -> Result<List<List<Demand>>, OutOfMemory>
     ensures { IfOk result (λ all. all ≡ (single ∷ []) ∷ (double ∷ double ∷ []) ∷ []) }
 {
-    let mut one = List::new(alloc);
-    one.push(single)?;
-    let mut two = List::new(alloc);
-    two.push(double)?;
-    two.push(double)?;
-    let mut all = List::new(alloc);
-    all.push(one)?;
-    all.push(two)?;
-    Ok(all)
+    let one = List::from_vec(Vec::from_slice(alloc, &[single])?);
+    let two = List::from_vec(Vec::from_slice(alloc, &[double, double])?);
+    Ok(List::from_vec(Vec::from_array(alloc, [one, two])?))
 }
 
 /// The kind of a section by its draw, over these columns, with these places where it has any.
@@ -193,12 +185,12 @@ fn outputs_from(alloc: Global, node: u32, kind: &Kind) -> Result<List<Input>, Ou
     requires { outputs_in kind.now ≤ 8 }
     ensures { IfOk result (λ ends. ends ≡ outputs_from node kind.now) }
 {
-    let mut ends = List::new(alloc);
-    ends.push(Input { node, out: 0 })?;
+    let first = Input { node, out: 0 };
     if outputs_of(kind) == 2 {
-        ends.push(Input { node, out: 1 })?;
+        let ends = [first, Input { node, out: 1 }];
+        return Ok(List::from_vec(Vec::from_slice(alloc, &ends)?));
     }
-    Ok(ends)
+    Ok(List::from_vec(Vec::from_slice(alloc, &[first])?))
 }
 
 /// Adds a section, which reads each output of the section before it.
@@ -215,27 +207,38 @@ fn add_section(
     let drawn = draw(generator, 6);
     let places = places_by(drawn, generator);
     mention_all(alloc, &mut sections.columns, drawn)?;
+    let name = numbered(alloc, b'n', sections.nodes.len() - 2)?;
     let kind = kind_by(alloc, sections.columns.as_slice(), places, drawn)?;
-    let outputs = outputs_from(alloc, sections.nodes.len() as u32, &kind)?;
+    let outputs = match outputs_from(alloc, sections.nodes.len() as u32, &kind) {
+        Ok(outputs) => outputs,
+        // A call of `drop` is proved once for a type.
+        Err(fault) => {
+            drop(kind);
+            return Err(fault);
+        }
+    };
     let inputs = mem::replace(&mut sections.ends, outputs);
-    sections.nodes.push(Node {
-        name: numbered(alloc, b'n', sections.nodes.len() - 2)?,
-        kind,
-        inputs,
-    })?;
+    sections.nodes.push(Node { name, kind, inputs })?;
     Ok(())
 }
 
-/// All sections that a generator draws, 1 to 12.
-fn all_sections(alloc: Global, generator: &mut Lcg64Xsh32) -> Result<Sections, OutOfMemory>
-    ensures { IfOk result (λ s. with_generator s generator.new ≡ sections_from generator.old) }
+/// Adds all sections that a generator draws, 1 to 12, to none.
+fn add_sections(
+    alloc: Global,
+    sections: &mut Sections,
+    generator: &mut Lcg64Xsh32,
+) -> Result<(), OutOfMemory>
+    requires nodes { sections.old.nodes ≡ [] }
+    requires columns { sections.old.columns ≡ [] }
+    requires ends { sections.old.ends ≡ [] }
+    ensures { OnOk result (with_generator sections.new generator.new ≡ sections_from generator.old) }
 {
     let count = draw(generator, 12) + 1;
-    let mut sections = no_sections(alloc)?;
+    add_sources(alloc, sections)?;
     for _section in 0..count {
-        add_section(alloc, &mut sections, generator)?;
+        add_section(alloc, sections, generator)?;
     }
-    Ok(sections)
+    Ok(())
 }
 
 /// The plan of the network that a generator draws. The generator is left after its last draw.
@@ -243,13 +246,19 @@ pub(crate) fn made_plan(alloc: Global, generator: &mut Lcg64Xsh32) -> Result<Pla
     ensures net { IfOk result (λ plan. plan.net ≡ network_from (sections_from generator.old)) }
     ensures moved { OnOk result (generator.new ≡ (sections_from generator.old).generator) }
 {
-    let sections = all_sections(alloc, generator)?;
+    let mut sections = Sections {
+        nodes: List::new(alloc),
+        columns: List::new(alloc),
+        ends: List::new(alloc),
+    };
+    add_sections(alloc, &mut sections, generator)?;
     let net = Network {
         nodes: sections.nodes,
         columns: sections.columns,
         bound: 1 << 60,
         version: 1,
     };
+    drop(sections.ends);
     match rank(alloc, &net) {
         Ok(order) => Ok(Plan { net, order }),
         Err(RankFault::Cycle { .. }) => unreachable!("each section reads only nodes before it"),

@@ -1,11 +1,11 @@
 use Rattle.std.proofs.Common.{◌+◌, ◌∙◌, ap}
 use Rattle.mq_gen.specs.Made.{no_sections}
 use Rattle.mq_gen.proofs.Sections.{under_way, under_way_ends, under_way_next, under_way_small}
-use Rattle.mq_gen.proofs.model.all_sections.Goals as goal
+use Rattle.mq_gen.proofs.model.add_sections.Goals as goal
 
 pub loop-section-init : goal.loop-section-init
 loop-section-init c = record {
-  way = under_way c.args.generator.now _ (c.in_ok-sections.ensures c.draw-count.new.generator ∙ ap no_sections c.draw-count.ensures.moved);
+  way = under_way c.args.generator.now _ (c.in_ok-add_sources.ensures c.draw-count.new.generator ∙ ap no_sections c.draw-count.ensures.moved);
   whole = ap (λ n. n + 1) c.draw-count.ensures.drawn;
 }
 

@@ -1,7 +1,7 @@
 use Rattle.std.proofs.Common.{◌≡◌}
 use Rattle.mq_gen.specs.Drawing.{with_generator}
 use Rattle.mq_gen.proofs.Sections.{IsUnderWay, sections_count}
-use Rattle.mq_gen.proofs.model.all_sections.Given as goal
+use Rattle.mq_gen.proofs.model.add_sections.Given as goal
 
 abbrev pub invariant-loop-section : goal.invariant-loop-section
 invariant-loop-section l = record {
