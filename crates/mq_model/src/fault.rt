@@ -1,6 +1,6 @@
 // Why a text is no model.
 use mq_base::OutOfMemory;
-use std::alloc::{AllocError, AllocFailed};
+use std::alloc::AllocError;
 
 /// The first fault of a text. Lines and words count from 1; inputs, by their port, and nodes, in order of declaration, from 0.
 #[derive(Clone, Copy, PartialEq, Eq)]
@@ -37,17 +37,6 @@ impl From<AllocError> for ModelFault {
     ghost from_gives = { λ _ e. e ≡ Memory };
 
     fn from(_: AllocError) -> ModelFault {
-        ModelFault::Memory
-    }
-}
-
-impl<T: Drop> From<AllocFailed<T>> for ModelFault {
-    ghost use Rattle.mq_model.specs.declared.fault.ModelFault.TheVariants.{Memory};
-    ghost use Rattle.std.specs.Prelude.{◌≡◌};
-
-    ghost from_gives = { λ _ e. e ≡ Memory };
-
-    fn from(_: AllocFailed<T>) -> ModelFault {
         ModelFault::Memory
     }
 }
