@@ -54,12 +54,19 @@ fn squares_are<R: Threads + Sync>(
     Ok(found.as_slice() == wanted)
 }
 
+fn squares_stand<R: Threads + Sync>(rt: &R, alloc: Global) -> Result<bool, OutOfMemory> {
+    let five: &[u64] = &[0, 1, 4, 9, 16];
+    Ok(
+        squares_are(rt, alloc, 1, five)?
+            && squares_are(rt, alloc, 3, five)?
+            && squares_are(rt, alloc, 64, five)?
+            && squares_are(rt, alloc, 3, &[])?,
+    )
+}
+
 #[test]
 fn the_pieces_stand_at_their_places(rt: HostRuntime) -> Result<(), Fail> {
-    assert!(rt; squares_are(&rt, rt.alloc(), 1, &[0, 1, 4, 9, 16])?);
-    assert!(rt; squares_are(&rt, rt.alloc(), 3, &[0, 1, 4, 9, 16])?);
-    assert!(rt; squares_are(&rt, rt.alloc(), 64, &[0, 1, 4, 9, 16])?);
-    assert!(rt; squares_are(&rt, rt.alloc(), 3, &[])?);
+    assert!(rt; squares_stand(&rt, rt.alloc())?);
     Ok(())
 }
 

@@ -32,7 +32,28 @@ fn list_of(alloc: Global, items: &[u64]) -> Result<List<u64>, OutOfMemory>
     Ok(List::from_vec(Vec::from_slice(alloc, items)?))
 }
 
-// Whether the jobs that come at these times, with these demands, depart so.
+// Whether the jobs of a stream, with these demands, depart so.
+fn pass_gives<R: Threads + Sync, G: Gate>(
+    rt: &R,
+    alloc: Global,
+    workers: u32,
+    block: u32,
+    stream: &Stream,
+    demands: &List<u64>,
+    wanted: &[u64],
+    gate: &G,
+) -> Result<bool, OutOfMemory>
+    requires load { IsSoundLoad stream.now.time demands.now }
+    requires some_workers { 1 ≤ workers }
+    requires most_workers { workers ≤ 64 }
+    requires some { 1 ≤ block }
+    requires few { length stream.now.time ≤ 16384 * block }
+{
+    let departs = chain_departures(rt, alloc, workers, block, stream, demands, gate)?;
+    Ok(departs.as_slice() == wanted)
+}
+
+// Whether those that come at these times do.
 fn departs_are<R: Threads + Sync, G: Gate>(
     rt: &R,
     alloc: Global,
@@ -51,8 +72,10 @@ fn departs_are<R: Threads + Sync, G: Gate>(
 {
     let stream = stream_of(alloc, times)?;
     let demands = list_of(alloc, demands)?;
-    let departs = chain_departures(rt, alloc, workers, block, &stream, &demands, gate)?;
-    Ok(departs.as_slice() == wanted)
+    let right = pass_gives(rt, alloc, workers, block, &stream, &demands, wanted, gate);
+    drop(stream);
+    drop(demands);
+    right
 }
 
 #[test]
@@ -98,7 +121,29 @@ fn many(alloc: Global, jobs: u32) -> Result<(Stream, List<u64>), OutOfMemory>
     Ok((stream, List::from_vec(demands)))
 }
 
-// Whether 3,000 jobs depart as the recurrence says.
+// Whether the jobs of a stream depart as the recurrence says.
+fn pass_is_plain<R: Threads + Sync>(
+    rt: &R,
+    alloc: Global,
+    workers: u32,
+    block: u32,
+    stream: &Stream,
+    demands: &List<u64>,
+) -> Result<bool, OutOfMemory>
+    requires load { IsSoundLoad stream.now.time demands.now }
+    requires some_workers { 1 ≤ workers }
+    requires most_workers { workers ≤ 64 }
+    requires some { 1 ≤ block }
+    requires few { length stream.now.time ≤ 16384 * block }
+{
+    let plain = departures(alloc, stream, demands)?;
+    let wanted = plain.as_slice();
+    let right = pass_gives(rt, alloc, workers, block, stream, demands, wanted, &Open);
+    drop(plain);
+    right
+}
+
+// Whether 3,000 jobs do.
 fn many_depart<R: Threads + Sync>(
     rt: &R,
     alloc: Global,
@@ -110,9 +155,10 @@ fn many_depart<R: Threads + Sync>(
     requires some { 1 ≤ block }
 {
     let (stream, demands) = many(alloc, 3000)?;
-    let plain = departures(alloc, &stream, &demands)?;
-    let departs = chain_departures(rt, alloc, workers, block, &stream, &demands, &Open)?;
-    Ok(departs.as_slice() == plain.as_slice())
+    let right = pass_is_plain(rt, alloc, workers, block, &stream, &demands);
+    drop(stream);
+    drop(demands);
+    right
 }
 
 #[test]

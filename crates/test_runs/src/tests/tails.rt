@@ -207,16 +207,16 @@ const TEN_LOST: Columns<'static> = Columns {
     ..TEN
 };
 
-const COUNTS: [u32; 6] = [1, 1, 1, 1, 1, 5];
+const COUNTS: &[u32] = &[1, 1, 1, 1, 1, 5];
 
-const NO_COUNTS: [u32; 6] = [0; 6];
+const NO_COUNTS: &[u32] = &[0; 6];
 
 fn parts_add_up(alloc: Global) -> Result<bool, OutOfMemory> {
     Ok(
-        join_has(alloc, &TEN_AT_A_JOIN, Asked::Parts(0, 10, &COUNTS))?
-            && join_has(alloc, &TEN_AT_A_JOIN, Asked::Parts(3, 10, &COUNTS))?
-            && join_has(alloc, &TEN_AT_A_JOIN, Asked::Parts(10, 10, &COUNTS))?
-            && join_has(alloc, &TEN_LOST, Asked::Parts(3, 0, &NO_COUNTS))?,
+        join_has(alloc, &TEN_AT_A_JOIN, Asked::Parts(0, 10, COUNTS))?
+            && join_has(alloc, &TEN_AT_A_JOIN, Asked::Parts(3, 10, COUNTS))?
+            && join_has(alloc, &TEN_AT_A_JOIN, Asked::Parts(10, 10, COUNTS))?
+            && join_has(alloc, &TEN_LOST, Asked::Parts(3, 0, NO_COUNTS))?,
     )
 }
 
