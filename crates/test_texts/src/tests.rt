@@ -12,8 +12,9 @@ mod words;
 // Whether the canonical text of what a text declares is this one.
 fn is_printed(alloc: Global, text: &[u8], wanted: &[u8]) -> Result<bool, ModelFault> {
     let plan = read_model(alloc, text)?;
-    let printed = print_model(alloc, &plan)?;
-    Ok(printed.as_slice() == wanted)
+    let printed = print_model(alloc, &plan);
+    drop(plan);
+    Ok(printed?.as_slice() == wanted)
 }
 
 fn prints(alloc: Global, text: &[u8], wanted: &[u8]) -> bool {
