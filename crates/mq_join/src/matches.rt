@@ -134,6 +134,5 @@ pub fn matches_of(alloc: Global, gathered: &Gathered) -> Result<List<Option<u32>
 {
     let mut rows = new_rows(alloc, jobs_in(&gathered.stream.job))?;
     let indices = count_items(alloc, gathered, rows.as_mut_slice())?;
-    let matches = places_of(alloc, gathered, rows.as_slice(), indices.as_slice())?;
-    Ok(matches)
+    places_of(alloc, gathered, rows.as_slice(), indices.as_slice())
 }

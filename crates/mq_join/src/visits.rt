@@ -109,8 +109,7 @@ fn founds_of(alloc: Global, matches: &List<Option<u32>>) -> Result<List<u32>, Ou
     ensures { IfOk result (λ founds. founds ≡ opens_from 0 [] matches.now) }
 {
     let closings = closings_of(alloc, matches)?;
-    let founds = founds_by(alloc, matches, closings.as_slice())?;
-    Ok(founds)
+    founds_by(alloc, matches, closings.as_slice())
 }
 
 // Whether a match is whole at this position.
