@@ -1,10 +1,21 @@
-use Rattle.std.proofs.Common.{refl, ap, arith, drop}
+use Rattle.std.proofs.Common.{refl, ap, arith, drop, subst}
 use Rattle.std.proofs.lemmas.List.{drop_all}
+use Rattle.std.proofs.lemmas.List.Elements.{All-get_or}
+use Rattle.std.proofs.lemmas.Option.{get_or_from_slice_get, slice_get_within}
 use Rattle.mq_outside.proofs.lemmas.Gathers.{gathers_added, gathers_all, gathers_refused}
+use Rattle.mq_core.specs.Asked.{HasDemands}
 use Rattle.mq_report.specs.Sequences.{sequence_lines}
 use Rattle.mq_report.proofs.Loops.{gathers_begun}
 use Rattle.mq_report.proofs.JobLines.{lines-next}
 use Rattle.mq_report.proofs.jobs.add_visits.Goals as goal
+
+pub add_visit-requires-clause-told : goal.add_visit-requires-clause-told
+add_visit-requires-clause-told g c =
+    let jobs = c.args.visits.now.job in
+    let at = c.loop-at.at in
+    let inside = slice_get_within jobs at c.get.result.now c.get.ensures in
+    let told = All-get_or (λ job. HasDemands c.args.rows.now c.args.kind.now job) jobs at 0 inside c.requires.visits.told in
+    subst (λ job. HasDemands c.args.rows.now c.args.kind.now job) (get_or_from_slice_get jobs at c.get.result.now 0 c.get.ensures) told
 
 pub loop-at-preserved : goal.loop-at-preserved
 loop-at-preserved g c =
