@@ -73,6 +73,12 @@ before-more law node b sum piece sum' visited before its added =
     let within : start_of 16384 count (b + 1) ≤ count = omega arith in
     added ∙ ((λ k. added_totals (before k) (its.0 k)) ∙ law.join node.rows.now node.kind.now node.visits.now visited node.span 0 (start_of 16384 count b) (start_of 16384 count (b + 1)) first rises within)
 
+-- no visit stands before the first piece
+pub before-none : (node : NodeVisits) (sum : NodeTotals) → totals_from sum ≡ sequence_totals node.rows.now node.kind.now (visits_between 0 0 node.visits.now) node.span → AreBefore node 0 sum
+before-none node sum h =
+    let none : 0 ≡ start_of 16384 (length node.visits.now.job) 0 = omega arith in
+    h ∙ ap (λ n. sequence_totals node.rows.now node.kind.now (visits_between 0 n node.visits.now) node.span) none
+
 -- together they are no more than came
 pub before-few : (node : NodeVisits) (b : ℕ) (sum piece : NodeTotals) → IsVisited node → AreBefore node b sum → IsPieceTotals node b piece → sum.came + piece.came ≤ 1048576
 before-few node b sum piece visited before its =

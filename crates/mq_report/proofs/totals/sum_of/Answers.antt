@@ -1,6 +1,12 @@
 use Rattle.std.proofs.Common.{arith}
-use Rattle.mq_report.proofs.NodeTotals.{before-all, before-few, before-more, piece-at}
+use Rattle.mq_report.proofs.NodeTotals.{before-all, before-few, before-more, before-none, piece-at}
 use Rattle.mq_report.proofs.totals.sum_of.Goals as goal
+
+pub loop-b-init : goal.loop-b-init
+loop-b-init c = record {
+  totals = before-none c.args.node.now c.totals_between-sum.result c.totals_between-sum.ensures.totals;
+  small = c.totals_between-sum.ensures.small;
+}
 
 pub totals_added-sum-requires : goal.totals_added-sum-requires
 totals_added-sum-requires c =
