@@ -89,7 +89,7 @@ no-report-row = refl
 report-made-row : usage_fault (codes "--report" ∷ codes "3" ∷ codes "--made" ∷ codes "x" ∷ []) ≡ Some Made
 report-made-row = refl
 
--- accepted words, with the defaults and with all options among the names
+-- accepted words, with the defaults and with options among the names
 plain-row : (usage_fault (codes "m" ∷ codes "t" ∷ []) ≡ None) × (words_left (codes "m" ∷ codes "t" ∷ []) ≡ codes "m" ∷ codes "t" ∷ [])
     × (workers_asked (codes "m" ∷ codes "t" ∷ []) ≡ Some 4) × (block_asked (codes "m" ∷ codes "t" ∷ []) ≡ Some 4096)
     × (form_asked (codes "m" ∷ codes "t" ∷ []) ≡ Some 2) × (jobs_asked (codes "m" ∷ codes "t" ∷ []) ≡ false)
@@ -101,6 +101,13 @@ all = codes "--block" ∷ codes "65536" ∷ codes "m" ∷ codes "--jobs" ∷ cod
 all-row : (usage_fault all ≡ None) × (words_left all ≡ codes "m" ∷ codes "t" ∷ []) × (workers_asked all ≡ Some 64) × (block_asked all ≡ Some 65536)
     × (form_asked all ≡ Some 1) × (jobs_asked all ≡ true)
 all-row = (refl, refl, refl, refl, refl, refl)
+
+abbrev most : List (List ℕ)
+most = codes "--block" ∷ codes "65536" ∷ codes "m" ∷ codes "--workers" ∷ codes "064" ∷ codes "--jobs" ∷ codes "t" ∷ []
+
+most-row : (usage_fault most ≡ None) × (words_left most ≡ codes "m" ∷ codes "t" ∷ []) × (workers_asked most ≡ Some 64) × (block_asked most ≡ Some 65536)
+    × (form_asked most ≡ Some 2) × (jobs_asked most ≡ true)
+most-row = (refl, refl, refl, refl, refl, refl)
 
 abbrev made : List (List ℕ)
 made = codes "--jobs" ∷ codes "--made" ∷ codes "18446744073709551615" ∷ []

@@ -1,5 +1,5 @@
-//! Tests of the calls that read words or give texts, by what they give to any caller: what accepted words ask for, and the
-//! canonical text of a model; and of what these stand on: lists, lines, files and sinks.
+//! Tests of the call that gives texts, by what it gives to any caller: the canonical text of a model; and of what it stands on: lists,
+//! lines, files and sinks.
 #![tactic(auto)]
 
 #[cfg(test)]

@@ -7,7 +7,6 @@ use std::alloc::Global;
 
 mod base;
 mod outside;
-mod words;
 
 // Whether the canonical text of what a text declares is this one.
 fn is_printed(alloc: Global, text: &[u8], wanted: &[u8]) -> Result<bool, ModelFault> {
