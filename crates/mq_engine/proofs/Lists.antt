@@ -19,6 +19,11 @@ get-some [] i l = absurd (omega arith)
 get-some (x ∷ xs) zero l = (x, refl)
 get-some (x ∷ xs) (suc i) l = get-some xs i (omega arith)
 
+-- a list of no length has no items
+pub no-items : {X : Type 0} (xs : List X) → length xs ≡ 0 → xs ≡ []
+no-items [] h = refl
+no-items (x ∷ xs) h = absurd (omega arith)
+
 -- an index that is written
 pub get-set_same : {X : Type 0} (xs : List X) (i : ℕ) (x : X) → i < length xs → slice_get (set xs i x) i ≡ Some x
 get-set_same [] i x l = absurd (omega arith)

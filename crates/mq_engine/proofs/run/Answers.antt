@@ -1,8 +1,8 @@
-use Rattle.std.proofs.Common.{◌∙◌, ap, filter, length, subst, sym}
+use Rattle.std.proofs.Common.{◌∙◌, ap, arith, eqb-true, filter, length, subst, sym}
 use Rattle.std.specs.Prelude.{slice_get}
 use Rattle.mq_engine.specs.Progress.{AreEarly, HasAll, is_ready}
 use Rattle.mq_engine.proofs.Endings.{within}
-use Rattle.mq_engine.proofs.Lists.{filter-passes}
+use Rattle.mq_engine.proofs.Lists.{filter-passes, no-items}
 use Rattle.mq_engine.proofs.Waves.{has-all}
 use Rattle.mq_engine.proofs.Settling.{reached-begins, ready-few, ready-wait, results-known}
 use Rattle.mq_engine.proofs.run.Goals as goal
@@ -27,6 +27,12 @@ wave_of-requires-clause-wave g c κs inside =
           (has-all c.core_laws.ensures c.args.plan.now c.args.rows.now c.waves.progress.visits.items c.waves.progress.outputs.items c.waves.progress.stands.items v c.requires.read c.waves.invariant passes);
       block = c.requires.block;
     }
+
+pub ended-requires-clause-stuck : goal.ended-requires-clause-stuck
+ended-requires-clause-stuck g c =
+    let none = eqb-true _ _ (sym c.is_empty.ensures ∙ c.if-is_empty.true) in
+    let size = c.in_ok-ready.ready.ok.0 in
+    sym (c.in_ok-ready.ensures ∙ ap (λ stands. filter (is_ready c.args.plan.now.net.nodes stands) c.args.plan.now.order) c.deref.ensures.value) ∙ no-items c.in_ok-ready.ready.items (omega arith)
 
 pub settle-requires-clause-waits : goal.settle-requires-clause-waits
 settle-requires-clause-waits g c =

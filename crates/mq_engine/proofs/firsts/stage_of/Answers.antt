@@ -18,6 +18,13 @@ returns-in-Unscanned c =
     let after = subst (IsWholePart load.plan.now load.rows.now load.number load.arrivals.now) (c.the_whole.ensures d) (group.each 0 d (omega arith)) in
     subst (λ (s : Scan). IsStage load.plan.now load.rows.now load.number load.arrivals.now s (Ended c.the_whole.result)) (sym c.in-Unscanned.is) after
 
+pub tandem_sums-requires : goal.tandem_sums-requires
+tandem_sums-requires c b d l =
+    let load = c.args.load.now in
+    let group = subst (λ (s : Scan). AreAll (IsPart load.plan.now load.rows.now load.number load.arrivals.now s) (blocks_of s) c.args.group) c.in-OfTandem.is c.requires.group in
+    let count = group.len in
+    group.each b d (omega arith)
+
 pub those_routed-requires : goal.those_routed-requires
 those_routed-requires c b d l =
     let load = c.args.load.now in

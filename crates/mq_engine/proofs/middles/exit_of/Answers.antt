@@ -1,3 +1,7 @@
+use Rattle.std.proofs.Common.{arith, subst}
+use Rattle.mq_crew.specs.Crew.{AreAll}
+use Rattle.mq_engine.specs.Loads.{IsApplied, applied_of}
+use Rattle.mq_engine.specs.declared.loads.Scan.{Scan}
 use Rattle.mq_engine.proofs.Scanning.{forkjoin-leaves, forkjoin-sound, server-leaves, server-sound, tandem-leaves, tandem-sound}
 use Rattle.mq_engine.proofs.middles.exit_of.Goals as goal
 
@@ -6,6 +10,12 @@ server_departures-requires-clause-load g c κs inside = server-sound _ _ _ _ _ c
 
 pub tandem_joined-requires-clause-load : goal.tandem_joined-requires-clause-load
 tandem_joined-requires-clause-load g c = (tandem-sound _ _ _ _ _ c.in-OfTandem.scan c.requires.scanned c.in-OfTandem.is).0
+
+pub tandem_joined-requires-clause-group : goal.tandem_joined-requires-clause-group
+tandem_joined-requires-clause-group g c b d l =
+    let all = subst (λ (s : Scan). AreAll (IsApplied c.args.load.now.arrivals.now s) (applied_of s) c.args.group.now) c.in-OfTandem.is c.requires.group in
+    let count = all.len in
+    all.each b d (omega arith)
 
 pub forkjoin_departures-requires-clause-load : goal.forkjoin_departures-requires-clause-load
 forkjoin_departures-requires-clause-load g c κs inside = (forkjoin-sound _ _ _ _ _ c.in-OfForkJoin.scan c.requires.scanned c.in-OfForkJoin.is).0

@@ -3,6 +3,9 @@ use Rattle.mq_core.specs.Wiring.{is_source_kind}
 use Rattle.mq_engine.proofs.Telling.{all-at, can-gather, can-serve, ports-many, source-few, source-once}
 use Rattle.mq_engine.proofs.wave.way_of.Goals as goal
 
+pub get-requires : goal.get-requires
+get-requires c = (all-at c.args.arriving.now c.args.number c.requires.wave c.requires.ready).inside
+
 pub returns-then-is_source : goal.returns-then-is_source
 returns-then-is_source c =
     let s = c.args.arriving.now in

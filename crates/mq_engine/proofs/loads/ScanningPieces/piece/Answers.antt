@@ -1,6 +1,6 @@
 use Rattle.std.proofs.Common.{◌∙◌, get_or, subst, sym}
 use Rattle.std.proofs.lemmas.List.Elements.{All-from_recursion}
-use Rattle.std.proofs.lemmas.Option.{slice_get-get_or}
+use Rattle.std.proofs.lemmas.Option.{slice_get-get_or, slice_get_within}
 use Rattle.std.proofs.lemmas.Result.{IfOk-weaker}
 use Rattle.mq_base.proofs.lemmas.Lists.{some_inj}
 use Rattle.mq_core.specs.declared.model.Node.{Node}
@@ -11,6 +11,12 @@ use Rattle.mq_stations.specs.Leaving.{IsLoad}
 use Rattle.mq_exits.specs.Loads.{IsLoaded}
 use Rattle.mq_engine.specs.Loads.{IsScanAt, IsScanFor, IsScanOf}
 use Rattle.mq_engine.proofs.loads.ScanningPieces.piece.Goals as goal
+
+pub get-requires : goal.get-requires
+get-requires c =
+    let s = c.args.self.now in
+    let here = All-from_recursion (λ (a : Arrived). IsLoaded s.plan.now s.rows.now a.number (stream_in a.arrivals)) s.arrived.now c.requires.fit.loaded c.args.b c.index-self-b.result c.requires.inside in
+    slice_get_within s.plan.now.net.nodes _ here.node here.there
 
 pub scan_of-requires-clause-load : goal.scan_of-requires-clause-load
 scan_of-requires-clause-load c =
