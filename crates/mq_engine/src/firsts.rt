@@ -98,6 +98,7 @@ pub fn stage_of(
         Scan::Unscanned => Ok(Stage::Ended(the_whole(group))),
         Scan::OfTandem(scan) => {
             let sums = tandem_sums(alloc, load.arrivals, scan, &group)?;
+            drop(group);
             let carries = tandem_carries(alloc, load.arrivals, scan, &sums)?;
             Ok(Stage::Latest(carries))
         }
@@ -105,7 +106,10 @@ pub fn stage_of(
             let parts = those_routed(alloc, group)?;
             Ok(Stage::Parted(parted(alloc, load, &parts)?))
         }
-        Scan::OfServer(_) | Scan::OfForkJoin(_) => Ok(Stage::Unbegun),
+        Scan::OfServer(_) | Scan::OfForkJoin(_) => {
+            drop(group);
+            Ok(Stage::Unbegun)
+        }
     }
 }
 

@@ -94,8 +94,8 @@ fn forked(alloc: Global, gathered: &Gathered, outputs: u8) -> Result<Sequences, 
     ensures { IfOk result (λ all. (rows : TheRows) → AreSequences rows (Fork outputs) (came_to gathered.now) all.visits all.streams) }
 {
     sequences_are_blind();
-    let visits = passing_visits(alloc, &gathered.stream)?;
     let streams = fork_copies(alloc, &gathered.stream, outputs)?;
+    let visits = passing_visits(alloc, &gathered.stream)?;
     Ok(Sequences { visits, streams })
 }
 
@@ -104,8 +104,14 @@ fn joined(alloc: Global, gathered: &Gathered) -> Result<Sequences, OutOfMemory>
     ensures { IfOk result (λ all. (rows : TheRows) → AreSequences rows Join (came_to gathered.now) all.visits all.streams) }
 {
     let Joined { visits, leaving } = join_visits(alloc, gathered)?;
-    let streams = only(alloc, leaving)?;
-    Ok(Sequences { visits, streams })
+    match only(alloc, leaving) {
+        Ok(streams) => Ok(Sequences { visits, streams }),
+        // Here and below a call of `drop` lets go of what is left at an exit: it is proved once for a type.
+        Err(fault) => {
+            drop(visits);
+            Err(fault)
+        }
+    }
 }
 
 // What is made of the arrivals at a fork or a join.
@@ -146,7 +152,11 @@ fn ending_of(bound: u64, node: u32, sequences: Sequences) -> Ending
 {
     let Sequences { visits, streams } = sequences;
     match late_among(bound, node, &visits.fate) {
-        Some(past) => Ending::TooLate(past),
+        Some(past) => {
+            drop(visits);
+            drop(streams);
+            Ending::TooLate(past)
+        }
         None => Ending::OnTime(visits, streams),
     }
 }
@@ -160,9 +170,17 @@ fn result_at(alloc: Global, arriving: &Arriving, number: u32) -> Result<NodeResu
     core_laws();
     let gathered = gathered_at(alloc, arriving, number)?;
     let kind = &arriving.plan.net.nodes.get(number as usize).kind;
-    let sequences = sequences_of(alloc, kind, &gathered)?;
-    let ending = ending_of(arriving.plan.net.bound, number, sequences);
-    Ok(NodeResult { number, ending })
+    match sequences_of(alloc, kind, &gathered) {
+        Ok(sequences) => {
+            drop(gathered);
+            let ending = ending_of(arriving.plan.net.bound, number, sequences);
+            Ok(NodeResult { number, ending })
+        }
+        Err(fault) => {
+            drop(gathered);
+            Err(fault)
+        }
+    }
 }
 
 /// What these forks and joins give, one piece a node.
@@ -182,6 +200,5 @@ pub fn apart_results<R: Threads + Sync, G: Gate>(
     let apart = Apart {
         arriving: *arriving,
     };
-    let results = made(rt, alloc, arriving.workers, &apart, gate)?;
-    Ok(results)
+    made(rt, alloc, arriving.workers, &apart, gate)
 }

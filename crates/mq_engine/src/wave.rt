@@ -174,10 +174,12 @@ pub fn wave_of<R: Threads + Sync, G: Gate>(
         ..*arriving
     };
     let gathered = apart_results(rt, alloc, &gathering, gate)?;
+    drop(apart);
+    let results = with_more(crowded, gathered)?;
     let serving = Arriving {
         ready: &stations,
         ..*arriving
     };
     let served = results_of(rt, alloc, &serving, gate)?;
-    with_more(with_more(crowded, gathered)?, served)
+    with_more(results, served)
 }

@@ -18,8 +18,8 @@ returns-clause-known g c =
     (λ v h. (each-contained (IsApartOf s) c.in_ok-crowded.field-0.apart.items sorted.apart v (subst (λ l. Contains l v) c.deref.ensures.value h)).0) c.in_ok-gathered.ensures.known in
     let served = results-among s.plan.now s.rows.now c.deref-2.result.now s.ready.now c.in_ok-served.served
     (λ v h. (each-contained (IsStationOf s) c.in_ok-crowded.field-0.stations.items sorted.stations v (subst (λ l. Contains l v) c.deref-2.ensures.value h)).0) c.in_ok-served.ensures.known in
-    let first = subst (Each is) (sym c.in_ok-with_more.ensures) (Each-append is c.in_ok-crowded.field-0.crowded c.in_ok-gathered.gathered sorted.crowded gathered) in
-    IfOk-weaker c.with_more-2.result _ _ (λ all e. subst (Each is) (sym e) (Each-append is c.in_ok-with_more.field-0 c.in_ok-served.served first served)) c.with_more-2.ensures
+    let first = subst (Each is) (sym c.in_ok-results.ensures) (Each-append is c.in_ok-crowded.field-0.crowded c.in_ok-gathered.gathered sorted.crowded gathered) in
+    IfOk-weaker c.with_more-2.result _ _ (λ all e. subst (Each is) (sym e) (Each-append is c.in_ok-results.results c.in_ok-served.served first served)) c.with_more-2.ensures
 
 pub results_of-requires-clause-can : goal.results_of-requires-clause-can
 results_of-requires-clause-can g c κs inside =
@@ -62,7 +62,7 @@ returns-clause-len g c =
     let gathered = c.in_ok-gathered.ensures.len in
     let stations = ap length c.deref-2.ensures.value in
     let served = c.in_ok-served.ensures.len in
-    let first = ap length c.in_ok-with_more.ensures in
+    let first = ap length c.in_ok-results.ensures in
     let both = length-append wave.crowded c.in_ok-gathered.gathered in
-    let more = length-append c.in_ok-with_more.field-0 c.in_ok-served.served in
+    let more = length-append c.in_ok-results.results c.in_ok-served.served in
     IfOk-weaker c.with_more-2.result _ _ (λ all e. let many = ap length e in omega arith) c.with_more-2.ensures
