@@ -39,12 +39,42 @@ pub fn results_of<R: Threads + Sync, G: Gate>(
     ensures known { IfOk result (λ results. AllByRecursion (IsResultOf arriving.now.plan.now arriving.now.rows.now arriving.now.ready.now) results) }
 {
     let workers = arriving.workers;
+    let middles = begun(rt, alloc, arriving, gate)?;
+    match run_parts(rt, alloc, workers, middles.as_slice(), gate) {
+        Ok(groups) => {
+            let those_emptied = all_emptied(rt, alloc, workers, middles, groups, gate)?;
+            station_results(rt, alloc, workers, those_emptied, gate)
+        }
+        // Here and below a call of `drop` lets go of what is left at an exit: it is proved once for a type.
+        Err(fault) => {
+            drop(middles);
+            Err(fault)
+        }
+    }
+}
+
+// What comes to the nodes that are ready, and what is known of their stations after their first pieces.
+fn begun<'a, R: Threads + Sync, G: Gate>(
+    rt: &R,
+    alloc: Global,
+    arriving: &Arriving<'a>,
+    gate: &G,
+) -> Result<List<Middle<'a>>, OutOfMemory>
+    requires arriving { IsArriving arriving.now }
+    requires early { AreEarly arriving.now.outputs.now }
+    requires can { CanWorkAll arriving.now.plan.now arriving.now.rows.now arriving.now.outputs.now arriving.now.ready.now }
+    ensures len { IfOk result (λ middles. length middles ≡ length arriving.now.ready.now) }
+    ensures ready { IfOk result (λ middles. AllByRecursion IsReadyMiddle middles) }
+    ensures of { IfOk result (λ middles. AllByRecursion (λ m. IsLoadOf arriving.now.plan.now arriving.now.rows.now arriving.now.ready.now m.scanned.held) middles) }
+{
     let loads = loads_of(rt, alloc, arriving, gate)?;
-    let groups = run_parts(rt, alloc, workers, loads.as_slice(), gate)?;
-    let middles = middles_of(alloc, loads, groups)?;
-    let groups = run_parts(rt, alloc, workers, middles.as_slice(), gate)?;
-    let those_emptied = all_emptied(rt, alloc, workers, middles, groups, gate)?;
-    station_results(rt, alloc, workers, those_emptied, gate)
+    match run_parts(rt, alloc, arriving.workers, loads.as_slice(), gate) {
+        Ok(groups) => middles_of(alloc, loads, groups),
+        Err(fault) => {
+            drop(loads);
+            Err(fault)
+        }
+    }
 }
 
 // The stations after their first pieces.
@@ -66,8 +96,14 @@ fn middles_of<'a>(
         let Some(group) = groups.pop() else {
             unreachable!()
         };
-        let stage = stage_of(alloc, &scanned.held.load(), &scanned.scan, group)?;
-        middles.push(Middle { scanned, stage })?;
+        match stage_of(alloc, &scanned.held.load(), &scanned.scan, group) {
+            Ok(stage) => middles.push(Middle { scanned, stage })?,
+            Err(fault) => {
+                drop(scanned);
+                drop(middles);
+                return Err(fault);
+            }
+        }
     }
     Ok(middles)
 }
@@ -96,8 +132,13 @@ fn all_emptied<'a, R: Threads + Sync, G: Gate>(
         let Some(group) = groups.pop() else {
             unreachable!()
         };
-        let emptied = emptied_of(rt, alloc, workers, middle, group, gate)?;
-        those_emptied.push(emptied)?;
+        match emptied_of(rt, alloc, workers, middle, group, gate) {
+            Ok(emptied) => those_emptied.push(emptied)?,
+            Err(fault) => {
+                drop(those_emptied);
+                return Err(fault);
+            }
+        }
     }
     Ok(those_emptied)
 }
@@ -120,15 +161,25 @@ fn emptied_of<'a, R: Threads + Sync, G: Gate>(
 {
     let Middle { scanned, stage } = middle;
     let (load, scan) = (scanned.held.load(), &scanned.scan);
-    let exit = exit_of(rt, alloc, workers, &load, scan, stage, &group, gate)?;
-    let held = held_alone(scanned);
-    Ok(Emptied { held, exit })
+    match exit_of(rt, alloc, workers, &load, scan, stage, &group, gate) {
+        Ok(exit) => {
+            drop(group);
+            let held = held_alone(scanned);
+            Ok(Emptied { held, exit })
+        }
+        Err(fault) => {
+            drop(group);
+            drop(scanned);
+            Err(fault)
+        }
+    }
 }
 
 // What came to a station: its scan, which is large, is let go, since no last piece looks at it.
 fn held_alone<'a>(scanned: Scanned<'a>) -> Held<'a>
     ensures { result ≡ scanned.entry.held }
 {
-    let Scanned { held, scan: _scan } = scanned;
+    let Scanned { held, scan } = scanned;
+    drop(scan);
     held
 }

@@ -18,8 +18,8 @@ emptied_of-requires-clause-group g c κs inside =
 
 pub loop-middle-preserved : goal.loop-middle-preserved
 loop-middle-preserved g c =
-    passing-more middle_size middle_piece IsReadyMiddle IsReadyExit IsMiddleOf IsEmptiedOf _ _ _ _ _ _ _ _ _ _ c.loop-middle.invariant c.in-Some.ensures.items c.in-Some-pop.ensures.items c.in_ok-emptied.ensures.ready
-    (λ w h. subst (λ (l : Held). IsLoadOf w.0 w.1 w.2 l) (sym c.in_ok-emptied.ensures.same) h) c.in_ok-push.ensures.ok
+    passing-more middle_size middle_piece IsReadyMiddle IsReadyExit IsMiddleOf IsEmptiedOf _ _ _ _ _ _ _ _ _ _ c.loop-middle.invariant c.in-Some.ensures.items c.in-Some-pop.ensures.items c.in-Ok.ensures.ready
+    (λ w h. subst (λ (l : Held). IsLoadOf w.0 w.1 w.2 l) (sym c.in-Ok.ensures.same) h) c.in_ok-push-in-Ok.ensures.ok
 
 pub returns-clause-of : goal.returns-clause-of
 returns-clause-of g c plan rows ready h = (c.loop-middle.invariant.of (plan, rows, ready) (subst (AllByRecursion (IsMiddleOf (plan, rows, ready))) (sym c.into_vec-middles.ensures) h)).1

@@ -22,8 +22,8 @@ exit_of-requires-clause-group g c κs inside =
     let scan = c.args.middle.scanned.scan in
     subst (λ (t : Told). AreAll (IsApplied t.3 scan) (applied_of scan) c.args.group) (sym c.load-load.ensures.told) c.requires.group
 
-pub returns-clause-ready : goal.returns-clause-ready
-returns-clause-ready g c =
+pub returns-in-Ok-clause-ready : goal.returns-in-Ok-clause-ready
+returns-in-Ok-clause-ready g c =
     let ready = c.requires.ready.0 in
-    let exit = subst (λ (t : Told). IsExit t.0 t.1 t.2 t.3 c.in_ok-exit.exit) c.load-load.ensures.told c.in_ok-exit.ensures in
-    subst (λ (l : Held). IsReadyExit (record { held = l; exit = c.in_ok-exit.exit })) (sym c.held_alone-held.ensures) ((ready.0, ready.1.loaded, ready.2), exit)
+    let exit = subst (λ (t : Told). IsExit t.0 t.1 t.2 t.3 c.in-Ok.exit) c.load-load.ensures.told c.in-Ok.ensures in
+    subst (λ (l : Held). IsReadyExit (record { held = l; exit = c.in-Ok.exit })) (sym c.held_alone-held.ensures) ((ready.0, ready.1.loaded, ready.2), exit)

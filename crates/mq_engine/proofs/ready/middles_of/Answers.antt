@@ -21,8 +21,8 @@ stage_of-requires-clause-group c =
 pub loop-scanned-preserved : goal.loop-scanned-preserved
 loop-scanned-preserved c =
     let last = passing-last scanned_size scanned_piece IsReadyScanned IsReadyMiddle IsScannedOf IsMiddleOf _ _ _ _ _ _ _ _ c.loop-scanned.invariant c.in-Some.ensures.items c.in-Some-pop.ensures.items in
-    let staged = subst (λ (t : Told). IsStage t.0 t.1 t.2 t.3 c.in-Some.scanned.scan c.in_ok-stage.stage) c.load.ensures.told c.in_ok-stage.ensures in
-    passing-more scanned_size scanned_piece IsReadyScanned IsReadyMiddle IsScannedOf IsMiddleOf _ _ _ _ _ _ _ _ _ _ c.loop-scanned.invariant c.in-Some.ensures.items c.in-Some-pop.ensures.items (last.0, staged) (λ w h. h) c.in_ok-push.ensures.ok
+    let staged = subst (λ (t : Told). IsStage t.0 t.1 t.2 t.3 c.in-Some.scanned.scan c.in-Ok.stage) c.load.ensures.told c.in-Ok.ensures in
+    passing-more scanned_size scanned_piece IsReadyScanned IsReadyMiddle IsScannedOf IsMiddleOf _ _ _ _ _ _ _ _ _ _ c.loop-scanned.invariant c.in-Some.ensures.items c.in-Some-pop.ensures.items (last.0, staged) (λ w h. h) c.in_ok-push-in-Ok.ensures.ok
 
 pub returns-clause-of : goal.returns-clause-of
 returns-clause-of c plan rows ready h = (c.loop-scanned.invariant.of (plan, rows, ready) (subst (AllByRecursion (IsScannedOf (plan, rows, ready))) (sym c.into_vec-loads.ensures) h)).1
