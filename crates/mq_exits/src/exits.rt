@@ -217,9 +217,17 @@ pub fn result_of(
         arrivals: &arrivals,
         block,
     };
-    let after = after_of(alloc, &load, exit, List::from_vec(group))?;
-    let ending = ending_of(arrivals, after);
-    Ok(NodeResult { number, ending })
+    match after_of(alloc, &load, exit, List::from_vec(group)) {
+        Ok(after) => {
+            let ending = ending_of(arrivals, after);
+            Ok(NodeResult { number, ending })
+        }
+        // Here and below a call of `drop` lets go of what is left at an exit: it is proved once for a type.
+        Err(fault) => {
+            drop(arrivals);
+            Err(fault)
+        }
+    }
 }
 
 // What becomes of the arrivals at a station, of its last pieces where it has some.
@@ -235,7 +243,10 @@ fn after_of(
     ensures { IfOk result (λ after. IsAfterAt load.now.plan.now load.now.rows.now load.now.number load.now.arrivals.now after) }
 {
     match exit {
-        Exit::Known(after) => Ok(after),
+        Exit::Known(after) => {
+            drop(group);
+            Ok(after)
+        }
         Exit::Served(departs) => opened(alloc, load, group, departs),
         Exit::Sorted(overtaken) => after_delay(alloc, load, group, overtaken),
         Exit::Passed(streams) => Ok(passed(load, group, streams)),
@@ -275,6 +286,11 @@ fn opened(
     let found = founds_in(last_of(&mut group));
     match left_in(last_of(&mut group)) {
         Ok(time) => on_time(alloc, departs, found, Stream { job, time }),
-        Err(past) => Ok(After::Missed(past)),
+        Err(past) => {
+            drop(departs);
+            drop(job);
+            drop(found);
+            Ok(After::Missed(past))
+        }
     }
 }

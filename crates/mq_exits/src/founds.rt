@@ -41,9 +41,19 @@ pub fn after_delay(
     requires group { AreAll (IsDelayPiece load.now.arrivals.now overtaken) overtaken.blocks.blocks group }
     ensures { IfOk result (λ after. IsAfterAt load.now.plan.now load.now.rows.now load.now.number load.now.arrivals.now after) }
 {
-    let found = founds_joined(alloc, load.arrivals, &overtaken, &group)?;
-    let (departs, leaving) = leaving_of(overtaken);
-    on_time(alloc, departs, found, leaving)
+    // A call of `drop` lets go of what is left at an exit: it is proved once for a type.
+    match founds_joined(alloc, load.arrivals, &overtaken, &group) {
+        Ok(found) => {
+            drop(group);
+            let (departs, leaving) = leaving_of(overtaken);
+            on_time(alloc, departs, found, leaving)
+        }
+        Err(fault) => {
+            drop(group);
+            drop(overtaken);
+            Err(fault)
+        }
+    }
 }
 
 // When the jobs of a delay depart, by position, and what leaves it.

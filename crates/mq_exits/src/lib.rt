@@ -53,8 +53,14 @@ pub fn station_results<R: Threads + Sync, G: Gate>(
     ensures len { IfOk result (λ results. length results ≡ length those_emptied.entry) }
     ensures known { IfOk result (λ results. (plan : ThePlan) (rows : TheRows) (ready : Items ℕ) → AllByRecursion (λ l. IsLoadOf plan rows ready l.held) those_emptied.entry → AllByRecursion (IsResultOf plan rows ready) results) }
 {
-    let groups = run_parts(rt, alloc, workers, those_emptied.as_slice(), gate)?;
-    ended(alloc, those_emptied, groups)
+    match run_parts(rt, alloc, workers, those_emptied.as_slice(), gate) {
+        Ok(groups) => ended(alloc, those_emptied, groups),
+        // Here and below a call of `drop` lets go of what is left at an exit: it is proved once for a type.
+        Err(fault) => {
+            drop(those_emptied);
+            Err(fault)
+        }
+    }
 }
 
 // What the stations give, of their last pieces where they have some.
@@ -75,7 +81,13 @@ fn ended(
         let Some(group) = groups.pop() else {
             unreachable!()
         };
-        results.push(result_of(alloc, emptied, group)?)?;
+        match result_of(alloc, emptied, group) {
+            Ok(node_result) => results.push(node_result)?,
+            Err(fault) => {
+                drop(results);
+                return Err(fault);
+            }
+        }
     }
     Ok(results)
 }

@@ -95,17 +95,27 @@ fn overtaken_at<R: Threads + Sync>(
     fates_are_in_time();
     let leaving = by_departure(rt, alloc, workers, &load.arrivals.job, &departs)?;
     match first_late_overtaken(load.plan.net.bound, load.number, &departs, &leaving.time) {
-        Some(past) => Ok(Exit::Known(After::Missed(past))),
+        // Here and below a call of `drop` lets go of what is left at an exit: it is proved once for a type.
+        Some(past) => {
+            drop(departs);
+            drop(leaving);
+            Ok(Exit::Known(After::Missed(past)))
+        }
         None => {
             let Stream { job, time } = leaving;
-            let ahead = ahead_of_departures(alloc, &load.arrivals.time, &departs, time)?;
-            let blocks = visit_blocks(workers, load);
-            Ok(Exit::Sorted(Overtaken {
-                departs,
-                job,
-                ahead,
-                blocks,
-            }))
+            match ahead_of_departures(alloc, &load.arrivals.time, &departs, time) {
+                Ok(ahead) => Ok(Exit::Sorted(Overtaken {
+                    departs,
+                    job,
+                    ahead,
+                    blocks: visit_blocks(workers, load),
+                })),
+                Err(fault) => {
+                    drop(departs);
+                    drop(job);
+                    Err(fault)
+                }
+            }
         }
     }
 }

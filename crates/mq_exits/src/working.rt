@@ -123,12 +123,21 @@ fn seen(
     fates_are_in_time();
     sequences_go_by_fates();
     match first_late(net.bound, number, &leaving.fates) {
-        Some(past) => Ok(Worked::Finished(After::Missed(past))),
-        None => {
-            let found = found_at(alloc, rows, kind, arrivals, &leaving)?;
-            let after = After::Seen(Fates::each(leaving.fates), found, leaving.streams);
-            Ok(Worked::Finished(after))
+        // Here and below a call of `drop` lets go of what is left at an exit: it is proved once for a type.
+        Some(past) => {
+            drop(leaving);
+            Ok(Worked::Finished(After::Missed(past)))
         }
+        None => match found_at(alloc, rows, kind, arrivals, &leaving) {
+            Ok(found) => {
+                let after = After::Seen(Fates::each(leaving.fates), found, leaving.streams);
+                Ok(Worked::Finished(after))
+            }
+            Err(fault) => {
+                drop(leaving);
+                Err(fault)
+            }
+        },
     }
 }
 
@@ -147,7 +156,10 @@ pub fn ending_of(arrivals: Stream, after: After) -> Ending
             };
             Ending::OnTime(visits, streams)
         }
-        After::Missed(past) => Ending::TooLate(past),
+        After::Missed(past) => {
+            drop(arrivals);
+            Ending::TooLate(past)
+        }
     }
 }
 
@@ -185,8 +197,7 @@ pub fn found_by_position(
     ensures { IfOk result (λ found. found ≡ founds_of arrivals.now.time (map (λ time. Departs time) departs.now)) }
 {
     let count = arrivals.time.len() as u32;
-    let found = found_piece_in_order(alloc, &arrivals.time, departs, 0, count)?;
-    Ok(found)
+    found_piece_in_order(alloc, &arrivals.time, departs, 0, count)
 }
 
 /// 0 for each of these visits.
@@ -209,6 +220,12 @@ pub fn on_time(
 ) -> Result<After, OutOfMemory>
     ensures { IfOk result (λ after. after ≡ Seen (map (λ time. Departs time) departs) found (leaving ∷ [])) }
 {
-    let streams = only(alloc, leaving)?;
-    Ok(After::Seen(Fates::departures(departs), found, streams))
+    match only(alloc, leaving) {
+        Ok(streams) => Ok(After::Seen(Fates::departures(departs), found, streams)),
+        Err(fault) => {
+            drop(departs);
+            drop(found);
+            Err(fault)
+        }
+    }
 }

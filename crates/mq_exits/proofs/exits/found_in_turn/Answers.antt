@@ -1,8 +1,12 @@
 use Rattle.std.proofs.Common.{sym, ◌∙◌, inl}
 use Rattle.std.proofs.lemmas.Result.{IfOk-weaker}
 use Rattle.mq_stations.proofs.lemmas.Leaves.{served-even, served-rises}
+use Rattle.mq_exits.proofs.Opening.{loaded-inside}
 use Rattle.mq_exits.proofs.Passing.{passing-finds_none}
 use Rattle.mq_exits.proofs.exits.found_in_turn.Goals as goal
+
+pub get-requires : goal.get-requires
+get-requires c = loaded-inside _ _ _ _ c.requires.loaded
 
 pub found_by_position-requires-clause-even : goal.found_by_position-requires-clause-even
 found_by_position-requires-clause-even c =

@@ -66,8 +66,8 @@ returns-in-Ok c =
     IfOk-weaker c.on_time.result _ _ (opens c.sequences_go_by_fates.ensures c.fates_are_in_time.ensures load.plan.now load.rows.now load.number load.arrivals.now c.args.departs c.in-Ok.time c.founds_in-found.result c.jobs_in-job.result c.requires.loaded c.requires.served
     (subst (is 0) c.in-Ok.ensures times.0) (subst (is 1) c.founds_in-found.ensures found.0) (subst (is 2) c.jobs_in-job.ensures jobs.0)) c.on_time.ensures
 
-pub returns-in-Err : goal.returns-in-Err
-returns-in-Err c =
+pub returns : goal.returns
+returns c =
     let load = c.args.load.now in
     let is = IsShut load.plan.now load.rows.now load.number load.arrivals.now c.args.departs in
     let whole = subst (AreAll is 3) (sym c.into_vec-group.ensures) c.requires.group in

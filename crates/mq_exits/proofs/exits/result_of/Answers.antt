@@ -21,12 +21,12 @@ after_of-requires-clause-group c =
     subst (λ (z : Stream × List Closed). AreAll (IsClosed held.plan.now held.rows.now held.number z.0 exit) (closings_of exit) z.1) (λ k. (sym c.taken-arrivals.ensures.stream k, sym c.from_vec.ensures k))
     (c.taken-arrivals.ensures.group held.plan.now held.rows.now held.number exit whole)
 
-pub returns-clause-known : goal.returns-clause-known
-returns-clause-known c =
+pub returns-in-Ok-clause-known : goal.returns-in-Ok-clause-known
+returns-in-Ok-clause-known c =
     let held = c.args.emptied.held in
     let stream = c.taken-arrivals.result in
     let loaded = subst (IsLoaded held.plan.now held.rows.now held.number) (sym c.taken-arrivals.ensures.stream) c.requires.ready.0.1 in
-    let after = c.in_ok-after.ensures loaded.node loaded.there in (
+    let after = c.in-Ok.ensures loaded.node loaded.there in (
       loaded.node,
       loaded.there,
       known c.node_laws.ensures held.plan.now held.rows.now held.number loaded.node stream c.ending_of-ending.result c.requires.ready.0.0 loaded.once loaded.came loaded.load loaded.there (c.ending_of-ending.ensures held.plan.now.net held.rows.now held.number loaded.node.kind loaded.once after),

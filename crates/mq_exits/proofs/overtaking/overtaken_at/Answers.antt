@@ -29,9 +29,9 @@ ahead_of_departures-requires-clause-departs g c =
     let load = c.args.load.now in
     departs-later c.fates_are_in_time.ensures load.rows.now loaded.node.kind load.arrivals.now c.args.departs loaded.load (c.requires.departs loaded.node loaded.there)
 
-pub returns-in_ok-ahead-in-None : goal.returns-in_ok-ahead-in-None
-returns-in_ok-ahead-in-None g c =
+pub returns-in-Ok : goal.returns-in-Ok
+returns-in-Ok g c =
     let load = c.args.load.now in
-    is-overtaken c.sequences_go_by_fates.ensures c.fates_are_in_time.ensures load.plan.now load.rows.now load.number load.arrivals.now c.args.departs c.in_ok-leaving.leaving c.in_ok-ahead-in-None.ahead c.visit_blocks-blocks.result
+    is-overtaken c.sequences_go_by_fates.ensures c.fates_are_in_time.ensures load.plan.now load.rows.now load.number load.arrivals.now c.args.departs c.in_ok-leaving.leaving c.in-Ok.ahead c.visit_blocks.result
     c.requires.loaded c.requires.departs c.requires.overtakes c.in_ok-leaving.ensures.stream c.in_ok-leaving.ensures.items c.in_ok-leaving.ensures.times
-    (c.first_late_overtaken.ensures ∙ ap (option_map late_told) c.in-None.is) c.in_ok-ahead-in-None.ensures c.visit_blocks-blocks.ensures
+    (c.first_late_overtaken.ensures ∙ ap (option_map late_told) c.in-None.is) c.in-Ok.ensures c.visit_blocks.ensures

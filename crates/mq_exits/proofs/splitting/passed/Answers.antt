@@ -46,8 +46,8 @@ returns-in-Ok c =
     passes load.plan.now load.rows.now load.number load.arrivals.now c.in-Ok.times c.departures.result c.founds_in-found.result c.args.streams c.requires.passed
     (subst (is 0) c.in-Ok.ensures times.0) (subst (is 1) c.founds_in-found.ensures found.0) c.departures.ensures
 
-pub returns-in-Err : goal.returns-in-Err
-returns-in-Err c =
+pub returns : goal.returns
+returns c =
     let load = c.args.load.now in
     let is = IsShut load.plan.now load.rows.now load.number load.arrivals.now load.arrivals.now.time in
     let whole = subst (AreAll is 2) (sym c.into_vec-group.ensures) c.requires.group in

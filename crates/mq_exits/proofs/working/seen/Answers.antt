@@ -5,12 +5,12 @@ use Rattle.mq_stations.specs.Late.{late_told}
 use Rattle.mq_exits.proofs.Leavings.{late-by}
 use Rattle.mq_exits.proofs.working.seen.Goals as goal
 
-pub returns-in_ok-found-in-None : goal.returns-in_ok-found-in-None
-returns-in_ok-found-in-None c = (
+pub returns-in-Ok : goal.returns-in-Ok
+returns-in-Ok c = (
   record {
     fates_are = c.each.ensures ∙ c.requires.leaving.leave;
     streams_are = c.requires.leaving.outflow;
     none = late-by c.args.net.now.bound c.args.number _ _ _ (sym c.requires.leaving.leave) (c.first_late.ensures ∙ ap (option_map late_told) c.in-None.is);
   },
-  c.in_ok-found-in-None.ensures ∙ ap (founds_of c.args.arrivals.now.time) (sym c.each.ensures),
+  c.in-Ok.ensures ∙ ap (founds_of c.args.arrivals.now.time) (sym c.each.ensures),
 )
