@@ -7,7 +7,7 @@ What has been proved before and has not changed is kept. Each crate is told on t
 Each crate is proved from nothing over the statements of those below it, as the gate does. rt itself works on one crate at a time, and
 has each crate read all proofs below it, so this gives the toolchain's own commands. The crate with the most to prove from it up to
 the program goes first. Several jobs for one crate take a quarter to three quarters more processor time for the same proofs, so a crate
-has more than one only where it would take longer than all that can be proved beside it.
+has more than one only where processors would wait for it.
 """
 import fcntl
 import functools
@@ -85,10 +85,12 @@ def chains(lines, uses):
 
 
 def jobs_for(name, left, running, lines, uses, most):
-    """How many jobs a crate has: so many that it isn't the last to end of all that can be proved beside it by the others."""
+    """How many jobs a crate has, where there are `most` in all and `running` tells those of each crate that is being proved: as many of the free
+    ones as it takes that fewer lines come to each of them than to each of the others, of what can be proved beside it. What is being proved is
+    taken to be half done."""
     beside = sum(lines[it] for it in left if it != name and name not in below(it, uses)) + sum(lines[it] // 2 for it in running)
     jobs = 1
-    while jobs < most and lines[name] * (most - jobs) > beside * jobs:
+    while jobs < most - sum(running.values()) and lines[name] * (most - jobs) > beside * jobs:
         jobs += 1
     return jobs
 
@@ -108,7 +110,7 @@ def stamps(names, uses):
 
 
 def lanes():
-    """How many crates are proved at a time at most, and how many jobs one has at most."""
+    """How many jobs there are at a time, of all crates that are being proved."""
     count = len(os.sched_getaffinity(0))
     free = count * CHECK
     for line in text_of("/proc/meminfo").splitlines():
@@ -144,18 +146,18 @@ def prove_all(uses, kit):
     lines = {it: lines_of(it) for it in names}
     made, chain, most = stamps(names, uses), chains(lines, uses), lanes()
     done = {it for it in names if text_of(f"{PROVED}/{it}.stamp") == made[it]}
-    left, running = sorted([it for it in names if it not in done], key=lambda it: -chain[it]), {}
+    left, running, jobs = sorted([it for it in names if it not in done], key=lambda it: -chain[it]), {}, {}
     failed = False
     try:
         while running or (left and not failed):
             ready = [] if failed else [it for it in left if done >= below(it, uses)]
             for name in ready:
-                if len(running) == most:
+                if sum(jobs[it] for it in running) >= most:
                     break
                 # What is further from the program goes first.
                 others = [it for it in [*left, *running] if chain[it] > chain[name]]
-                jobs = jobs_for(name, left, running, lines, uses, most)
-                running[name] = begin(name, uses, kit, jobs, min(len(others), 10))
+                jobs[name] = jobs_for(name, left, {it: jobs[it] for it in running}, lines, uses, most)
+                running[name] = begin(name, uses, kit, jobs[name], min(len(others), 10))
                 left.remove(name)
             time.sleep(0.2)
             for name in [it for it, check in running.items() if check.poll() is not None]:

@@ -19,13 +19,22 @@ def draw(end):
     return ((mixed >> turn | mixed << (-turn & 31)) & 2**32 - 1) % end
 
 
+# The line of a section by its draw.
+KINDS = {
+    0: "server {name} a",
+    1: "delay {name} b",
+    2: "loss {name} {places} a",
+    3: "tandem {name} a / {places} b",
+    4: "forkjoin {name} a | b b",
+    5: "split {name} 2 turn",
+}
 lines, read = ["model 1", f"bound {2**60}", "source s0", "source s1"], "s0 s1"
 for node in range(draw(12) + 1):
     kind = draw(6)
     places = draw(4) + 1 if kind in (2, 3) else 0
-    said = ["server {} a", "delay {} b", "loss {} {} a", "tandem {} a / {} b", "forkjoin {} a | b b", "split {} 2 turn"][kind]
-    lines.append(said.format(f"n{node}", places) + f" from {read}")
-    read = f"n{node} n{node}.1" if kind in (2, 5) else f"n{node}"
+    name = f"n{node}"
+    lines.append(KINDS[kind].format(name=name, places=places) + f" from {read}")
+    read = f"{name} {name}.1" if kind in (2, 5) else name
 with open(model, "w") as file:
     file.writelines(f"{line}\n" for line in lines)
 

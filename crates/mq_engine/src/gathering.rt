@@ -106,7 +106,7 @@ fn joined(alloc: Global, gathered: &Gathered) -> Result<Sequences, OutOfMemory>
     let Joined { visits, leaving } = join_visits(alloc, gathered)?;
     match only(alloc, leaving) {
         Ok(streams) => Ok(Sequences { visits, streams }),
-        // Here and below a call of `drop` lets go of what is left at an exit: it is proved once for a type.
+        // Here and below what is large goes by a call of `drop`, which is proved once for a type.
         Err(fault) => {
             drop(visits);
             Err(fault)

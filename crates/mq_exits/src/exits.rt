@@ -222,7 +222,7 @@ pub fn result_of(
             let ending = ending_of(arrivals, after);
             Ok(NodeResult { number, ending })
         }
-        // Here and below a call of `drop` lets go of what is left at an exit: it is proved once for a type.
+        // Here and below what is large goes by a call of `drop`, which is proved once for a type.
         Err(fault) => {
             drop(arrivals);
             Err(fault)

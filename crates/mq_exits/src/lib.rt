@@ -55,7 +55,7 @@ pub fn station_results<R: Threads + Sync, G: Gate>(
 {
     match run_parts(rt, alloc, workers, those_emptied.as_slice(), gate) {
         Ok(groups) => ended(alloc, those_emptied, groups),
-        // Here and below a call of `drop` lets go of what is left at an exit: it is proved once for a type.
+        // Here and below what is large goes by a call of `drop`, which is proved once for a type.
         Err(fault) => {
             drop(those_emptied);
             Err(fault)

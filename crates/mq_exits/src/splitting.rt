@@ -84,7 +84,7 @@ pub fn passed(load: &Load, group: List<Closed>, streams: List<Stream>) -> After
     let found = founds_in(last_of(&mut group));
     match left_in(last_of(&mut group)) {
         Ok(times) => After::Seen(Fates::departures(times), found, streams),
-        // A call of `drop` lets go of what is left at an exit: it is proved once for a type.
+        // What is large goes by a call of `drop`, which is proved once for a type.
         Err(past) => {
             drop(found);
             drop(streams);

@@ -94,7 +94,7 @@ fn read_node(alloc: Global, words: &[&[u8]], at: &mut usize, first: KindWord) ->
     let kind = read_kind(alloc, words, at, first)?;
     match read_inputs(alloc, words, at) {
         Ok(reads) => Ok(Said::Node { name, kind, reads }),
-        // A call of `drop` is proved once for a type, here and below.
+        // Here and below what is large goes by a call of `drop`, which is proved once for a type.
         Err(stop) => {
             drop(kind);
             Err(stop)

@@ -134,7 +134,7 @@ pub fn read_model(alloc: Global, bytes: &[u8]) -> Result<Plan, ModelFault>
     }
     let mut front = read_lines(alloc, without_mark(bytes))?;
     match front_fault(&front) {
-        // A call of `drop` is proved once for a type.
+        // What is large goes by a call of `drop`, which is proved once for a type.
         Some(fault) => {
             drop(front);
             Err(fault)

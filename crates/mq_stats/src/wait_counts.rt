@@ -22,7 +22,7 @@ pub struct WaitCounts {
     pub counts: List<u32>,
 }
 
-// The counts of the waits of these visits, whose jobs ask so.
+/// The counts of the waits of these visits, whose jobs ask so.
 pub fn counts_by<A: Asking>(
     alloc: Global,
     asking: &A,

@@ -17,17 +17,22 @@ fn network(alloc: Global, nodes: List<Node>) -> Network {
     }
 }
 
-// A server that reads itself alone.
-fn circle(alloc: Global) -> Result<Network, OutOfMemory> {
-    let mut inputs = List::new(alloc);
-    inputs.push(Input { node: 0, out: 0 })?;
-    let node = Node {
+// A server that reads these.
+fn server(alloc: Global, inputs: &[Input]) -> Result<Node, OutOfMemory> {
+    Ok(Node {
         name: List::new(alloc),
         kind: Kind::Server(Demand::Fixed(1)),
-        inputs,
-    };
+        inputs: List::from_vec(Vec::from_slice(alloc, inputs)?),
+    })
+}
+
+// A server that reads itself alone, behind so many that read nothing.
+fn circle(alloc: Global, node: u32) -> Result<Network, OutOfMemory> {
     let mut nodes = List::new(alloc);
-    nodes.push(node)?;
+    for _ in 0..node {
+        nodes.push(server(alloc, &[])?)?;
+    }
+    nodes.push(server(alloc, &[Input { node, out: 0 }])?)?;
     Ok(network(alloc, nodes))
 }
 
@@ -57,9 +62,9 @@ fn nothing_is_ranked(alloc: Global) -> bool {
     comes_to(alloc, &network(alloc, List::new(alloc)), Ok(&[]))
 }
 
-fn circle_is_left(alloc: Global) -> Result<bool, OutOfMemory> {
-    let cycle = Err(RankFault::Cycle { node: 0 });
-    Ok(comes_to(alloc, &circle(alloc)?, cycle))
+fn circle_is_left(alloc: Global, node: u32) -> Result<bool, OutOfMemory> {
+    let net = circle(alloc, node)?;
+    Ok(comes_to(alloc, &net, Err(RankFault::Cycle { node })))
 }
 
 #[test]
@@ -67,6 +72,7 @@ fn a_network_without_a_source_is_ranked(rt: HostRuntime) -> Result<(), Fail> {
     cycles_are_left();
     let alloc = rt.alloc();
     assert!(rt; nothing_is_ranked(alloc));
-    assert!(rt; circle_is_left(alloc)?);
+    assert!(rt; circle_is_left(alloc, 0)?);
+    assert!(rt; circle_is_left(alloc, 1)?);
     Ok(())
 }

@@ -76,22 +76,34 @@ fn comes_to(found: &Settled, wanted: &Outcome<'_>) -> bool {
         && (found.rounds, found.judged) == (wanted.rounds, wanted.judged)
 }
 
-// Whether a load comes to this in whole rounds.
-fn rounds_come_to(alloc: Global, load: &Load, wanted: &Outcome<'_>) -> Result<bool, OutOfMemory>
-    requires { IsSoundLoad load.now.stream.time load.now.demands }
+// Whether a load comes to this in whole rounds, at a station with so many places.
+fn rounds_come_to(
+    alloc: Global,
+    load: &Load,
+    places: u32,
+    wanted: &Outcome<'_>,
+) -> Result<bool, OutOfMemory>
+    requires load { IsSoundLoad load.now.stream.time load.now.demands }
+    requires some { 1 ≤ places }
 {
-    let found = settle_whole(alloc, &load.stream, &load.demands, 1)?;
+    let found = settle_whole(alloc, &load.stream, &load.demands, places)?;
     let so = comes_to(&found, wanted);
     drop(found);
     Ok(so)
 }
 
 // The same of so many arrivals, one a tick.
-fn whole_comes_to(alloc: Global, count: u32, wanted: &Outcome<'_>) -> Result<bool, OutOfMemory>
-    requires { count ≤ 1048576 }
+fn whole_comes_to(
+    alloc: Global,
+    count: u32,
+    places: u32,
+    wanted: &Outcome<'_>,
+) -> Result<bool, OutOfMemory>
+    requires count { count ≤ 1048576 }
+    requires some { 1 ≤ places }
 {
     let load = each_tick(alloc, count)?;
-    rounds_come_to(alloc, &load, wanted)
+    rounds_come_to(alloc, &load, places, wanted)
 }
 
 // Whether a load comes to this in windows, the first of them of this size.
@@ -179,7 +191,14 @@ fn rounds_settle_all(rt: HostRuntime) -> Result<(), Fail> {
         rounds: 4,
         judged: 16,
     };
-    assert!(rt; whole_comes_to(rt.alloc(), 4, &wanted)?);
+    assert!(rt; whole_comes_to(rt.alloc(), 4, 1, &wanted)?);
+    let two_places = Outcome {
+        admitted: &[true, true, true, false, true, false],
+        departs: &[2, 4, 6, 8],
+        rounds: 4,
+        judged: 24,
+    };
+    assert!(rt; whole_comes_to(rt.alloc(), 6, 2, &two_places)?);
     Ok(())
 }
 
@@ -208,7 +227,7 @@ fn no_arrival_takes_no_window(rt: HostRuntime) -> Result<(), Fail> {
         rounds: 1,
         judged: 0,
     };
-    assert!(rt; whole_comes_to(rt.alloc(), 0, &whole)?);
+    assert!(rt; whole_comes_to(rt.alloc(), 0, 1, &whole)?);
     let windows = Outcome { rounds: 0, ..whole };
     assert!(rt; windows_come_to(rt.alloc(), 0, 4096, &windows)?);
     Ok(())

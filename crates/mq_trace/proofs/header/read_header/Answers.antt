@@ -1,11 +1,9 @@
 use Rattle.std.proofs.Common.{◌≡◌, ◌∙◌, List, ℕ, Bor, None, ap, refl, sym}
-use Rattle.std.specs.Prelude.{map, position, not}
+use Rattle.std.specs.Prelude.{map}
 use Rattle.std.proofs.lemmas.Result.{err_from_is_err_and}
 use Rattle.std.proofs.lemmas.Simd.{map-map}
-use Rattle.std.specs.List.{position_or_len}
-use Rattle.std.specs.Str.{bytes_eq}
 use Rattle.csv.specs.Records.{fields_of}
-use Rattle.mq_trace.specs.Header.{columns_of, is_among, missing_column}
+use Rattle.mq_trace.specs.Header.{is_among, missing_column}
 use Rattle.mq_trace.proofs.header.read_header.Goals as goal
 
 pub returns-in_err-indices-clause-err : goal.returns-in_err-indices-clause-err
