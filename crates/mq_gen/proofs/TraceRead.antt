@@ -12,7 +12,7 @@ use Rattle.mq_base.proofs.lemmas.Numbers.{number_again, number_of-decimal}
 use Rattle.mq_base.specs.Text.{number_of}
 use Rattle.mq_core.specs.declared.model.Network.{Network}
 use Rattle.mq_core.specs.declared.model.Node.{Node}
-use Rattle.mq_trace.specs.Header.{bad_column, bad_header, field_of, is_among}
+use Rattle.mq_trace.specs.Header.{bad_column, bad_header, columns_of, field_of, is_among}
 use Rattle.mq_trace.specs.Trace.{bad_value, data_of, header_fault, header_of, records_fault, row_fault, rows_fault, rows_in, rows_of, source_named, text_records, trace_fault, two_marks}
 use Rattle.mq_trace.proofs.RowFacts.{none_is_missing}
 use Rattle.mq_gen.specs.Made.{Drawn, column_a, column_b, fields_of, header_fields, records_from, source_name, source_node, trace_text}
@@ -73,7 +73,7 @@ rows_clean net row (r ∷ rs) reads drawn few =
 
 header_clean : (net : Network) → ReadsTraces net → header_fault net header_fields ≡ None
 unfolding bad_header bad_column
-header_clean net reads = rw (none_is_missing net header_fields reads.columns) refl
+header_clean net reads = rw (none_is_missing net.columns (columns_of header_fields) reads.columns) refl
 
 fault_is : (net : Network) (text : List ℕ) → length text ≤ 134217728 → starts_with (λ a b. a == b) text two_marks ≡ false → trace_fault net text ≡ records_fault net (text_records text)
 fault_is net text short unmarked =
