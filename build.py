@@ -84,13 +84,13 @@ def chains(lines, uses):
     return chain
 
 
-def jobs_for(name, left, running, lines, uses, most):
-    """How many jobs a crate has, where there are `most` in all and `running` tells those of each crate that is being proved: as many of the free
-    ones as it takes that fewer lines come to each of them than to each of the others, of what can be proved beside it. What is being proved is
-    taken to be half done."""
+def jobs_for(name, left, running, lines, uses, most, room):
+    """How many jobs a crate has on so many processors, where memory has room for so many jobs and those in `running` are being proved, each by
+    its own: as many as it takes that fewer lines come to each job than to each of the other processors, of what can be proved beside it. What is
+    being proved is taken to be half done."""
     beside = sum(lines[it] for it in left if it != name and name not in below(it, uses)) + sum(lines[it] // 2 for it in running)
     jobs = 1
-    while jobs < most - sum(running.values()) and lines[name] * (most - jobs) > beside * jobs:
+    while jobs < min(most, room - sum(running.values())) and lines[name] * (most - jobs) > beside * jobs:
         jobs += 1
     return jobs
 
@@ -110,13 +110,14 @@ def stamps(names, uses):
 
 
 def lanes():
-    """How many jobs there are at a time, of all crates that are being proved."""
+    """How many crates are proved at a time at most, and for how many jobs memory has room."""
     count = len(os.sched_getaffinity(0))
     free = count * CHECK
     for line in text_of("/proc/meminfo").splitlines():
         if line.startswith("MemAvailable:"):
             free = 1024 * int(line.split()[1])
-    return max(min(count, free // CHECK), 1)
+    room = max(free // CHECK, 1)
+    return min(count, room), room
 
 
 def made_by(name, uses, kit, jobs):
@@ -144,7 +145,7 @@ def prove_all(uses, kit):
     """Proves all crates below the program and then the program. Answers whether all are proved."""
     names = [it for it in uses if it in below(PROGRAM, uses)] + [PROGRAM]
     lines = {it: lines_of(it) for it in names}
-    made, chain, most = stamps(names, uses), chains(lines, uses), lanes()
+    made, chain, (most, room) = stamps(names, uses), chains(lines, uses), lanes()
     done = {it for it in names if text_of(f"{PROVED}/{it}.stamp") == made[it]}
     left, running, jobs = sorted([it for it in names if it not in done], key=lambda it: -chain[it]), {}, {}
     failed = False
@@ -152,11 +153,11 @@ def prove_all(uses, kit):
         while running or (left and not failed):
             ready = [] if failed else [it for it in left if done >= below(it, uses)]
             for name in ready:
-                if sum(jobs[it] for it in running) >= most:
+                if len(running) == most or sum(jobs[it] for it in running) >= room:
                     break
                 # What is further from the program goes first.
                 others = [it for it in [*left, *running] if chain[it] > chain[name]]
-                jobs[name] = jobs_for(name, left, {it: jobs[it] for it in running}, lines, uses, most)
+                jobs[name] = jobs_for(name, left, {it: jobs[it] for it in running}, lines, uses, most, room)
                 running[name] = begin(name, uses, kit, jobs[name], min(len(others), 10))
                 left.remove(name)
             time.sleep(0.2)
