@@ -58,7 +58,11 @@ fn split_field(text: &[u8]) -> Option<(&[u8], &[u8])>
     ensures { IfSome result (λ p. IsField text.now p.0.now p.1.now) }
 {
     if let Some(quoted) = behind_byte(b'"', text) {
-        let (field, end) = quoted.split_at(memchr(b'"', quoted)?);
+        // Here and below a `let` with an `else` stands in place of `?`: its code has half as many steps to prove.
+        let Some(index) = memchr(b'"', quoted) else {
+            return None;
+        };
+        let (field, end) = quoted.split_at(index);
         return Some((field, &end[1..]));
     }
     Some(text.split_at(field_length(text)))
@@ -110,12 +114,19 @@ pub fn behind_record(text: &[u8]) -> Option<&[u8]>
 pub fn behind_first(text: &[u8]) -> Option<&[u8]>
     ensures { IfSome result (λ rest. (first : Record) × BeginsWith text.now first rest.now) }
 {
-    let mut field = behind_byte(b',', split_field(text)?.1)?;
+    let Some(first) = split_field(text) else {
+        return None;
+    };
+    let Some(mut field) = behind_byte(b',', first.1) else {
+        return None;
+    };
     loop {
-        let end = split_field(field)?.1;
-        match behind_byte(b',', end) {
+        let Some(split) = split_field(field) else {
+            return None;
+        };
+        match behind_byte(b',', split.1) {
             Some(next) => field = next,
-            None => return behind_record(end),
+            None => return behind_record(split.1),
         }
     }
 }
@@ -125,11 +136,18 @@ pub fn behind_first(text: &[u8]) -> Option<&[u8]>
 fn column_field<'a>(text: &'a [u8], reads: bool, value: &mut u64) -> Option<&'a [u8]>
     ensures { IfSome result (λ rest. IsColumnField reads value.new text.now rest.now) }
 {
-    let field = behind_byte(b',', text)?;
+    let Some(field) = behind_byte(b',', text) else {
+        return None;
+    };
     if !reads {
-        return Some(split_field(field)?.1);
+        let Some(split) = split_field(field) else {
+            return None;
+        };
+        return Some(split.1);
     }
-    let (number, rest) = split_number(field, 1 << 36)?;
+    let Some((number, rest)) = split_number(field, 1 << 36) else {
+        return None;
+    };
     *value = number;
     Some(rest)
 }
@@ -151,15 +169,30 @@ pub fn plain_row<'a>(
     if before >= MOST_ROWS as usize {
         return None;
     }
-    let (name, behind) = split_field(text)?;
-    let node = find_source(net, name)?;
-    let (time, mut end) = split_number(behind_byte(b',', behind)?, 1 << 60)?;
+    let Some((name, behind)) = split_field(text) else {
+        return None;
+    };
+    let Some(node) = find_source(net, name) else {
+        return None;
+    };
+    let Some(field) = behind_byte(b',', behind) else {
+        return None;
+    };
+    let Some((time, mut end)) = split_number(field, 1 << 60) else {
+        return None;
+    };
     for (index, reads) in header.reads.as_slice().iter().enumerate() {
-        end = column_field(end, *reads, &mut values[index])?;
+        let Some(next) = column_field(end, *reads, &mut values[index]) else {
+            return None;
+        };
+        end = next;
     }
+    let Some(rest) = behind_record(end) else {
+        return None;
+    };
     Some(PlainRow {
         node: node as u32,
         time,
-        rest: behind_record(end)?,
+        rest,
     })
 }

@@ -2,21 +2,21 @@ use Rattle.std.proofs.Common.{◌++◌, ◌∷◌, []}
 use Rattle.mq_trace.proofs.PlainFacts.{first_behind, goes_first, goes_over}
 use Rattle.mq_trace.proofs.plain.behind_first.Goals as goal
 
-pub loop-end-init : goal.loop-end-init
-loop-end-init c =
-    let (name, end) = c.in_ok-split_field.field-0 in
-    (name.now ∷ [], goes_first c.args.text.now name.now end.now c.in_ok-field.field.now c.in_ok-split_field.ensures c.in_ok-field.ensures)
+pub loop-split-init : goal.loop-split-init
+loop-split-init c =
+    let (name, end) = c.in-Some.first in
+    (name.now ∷ [], goes_first c.args.text.now name.now end.now c.in-Some-behind_byte.field.now c.in-Some.ensures c.in-Some-behind_byte.ensures)
 
-pub loop-end-preserved : goal.loop-end-preserved
-loop-end-preserved c =
-    let (fields, goes) = c.loop-end.invariant in
-    let (field, end) = c.in_ok-end.field-0 in
-    let ends = goes_over c.args.text.now fields c.loop-end.field.now field.now end.now goes c.in_ok-end.ensures in
-    (fields ++ field.now ∷ [], ends.goes c.in-Some.next.now c.in-Some.ensures)
+pub loop-split-preserved : goal.loop-split-preserved
+loop-split-preserved c =
+    let (fields, goes) = c.loop-split.invariant in
+    let (field, end) = c.in-Some-split_field.split in
+    let ends = goes_over c.args.text.now fields c.loop-split.field.now field.now end.now goes c.in-Some-split_field.ensures in
+    (fields ++ field.now ∷ [], ends.goes c.in-Some-behind_byte-2.next.now c.in-Some-behind_byte-2.ensures)
 
 pub returns-in-None : goal.returns-in-None
 returns-in-None c =
-    let (fields, goes) = c.loop-end.invariant in
-    let (field, end) = c.in_ok-end.field-0 in
+    let (fields, goes) = c.loop-split.invariant in
+    let (field, end) = c.in-Some-split_field.split in
     first_behind c.args.text.now (fields ++ field.now ∷ []) end.now c.behind_record.result
-    (goes_over c.args.text.now fields c.loop-end.field.now field.now end.now goes c.in_ok-end.ensures) c.behind_record.ensures.ends c.behind_record.ensures.rest
+    (goes_over c.args.text.now fields c.loop-split.field.now field.now end.now goes c.in-Some-split_field.ensures) c.behind_record.ensures.ends c.behind_record.ensures.rest

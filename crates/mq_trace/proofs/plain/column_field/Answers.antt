@@ -4,20 +4,20 @@ use Rattle.mq_trace.proofs.plain.column_field.Goals as goal
 
 pub returns-then-not-reads : goal.returns-then-not-reads
 returns-then-not-reads c = record {
-  from = c.in_ok-field.field.now;
-  field = c.in_ok-split_field.field-0.0.now;
-  comma = c.in_ok-field.ensures;
-  follows = c.in_ok-split_field.ensures;
+  from = c.in-Some.field.now;
+  field = c.in-Some-split_field.split.0.now;
+  comma = c.in-Some.ensures;
+  follows = c.in-Some-split_field.ensures;
   noted = inl c.if-not-reads.true;
 }
 
 pub returns : goal.returns
 returns c =
-    let (digits, split, number) = c.in_ok-number.ensures in
+    let (digits, split, number) = c.in-Some-split_number.ensures in
     record {
-      from = c.in_ok-field.field.now;
+      from = c.in-Some.field.now;
       field = digits;
-      comma = c.in_ok-field.ensures;
-      follows = number_field c.in_ok-field.field.now digits c.in_ok-number.rest.now (2 ^ 36) c.in_ok-number.number split number;
+      comma = c.in-Some.ensures;
+      follows = number_field c.in-Some.field.now digits c.in-Some-split_number.rest.now (2 ^ 36) c.in-Some-split_number.number split number;
       noted = inr number;
     }

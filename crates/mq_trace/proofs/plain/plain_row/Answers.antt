@@ -6,10 +6,10 @@ use Rattle.mq_trace.proofs.plain.plain_row.Goals as goal
 
 pub loop-index-init : goal.loop-index-init
 loop-index-init c =
-    let (digits, split, number) = c.in_ok-time.ensures in
+    let (digits, split, number) = c.in-Some-split_number.ensures in
     record {
       room = c.requires.room;
-      so_far = row_begins _ _ _ _ _ _ c.in_ok-name.name.now c.in_ok-name.behind.now c.in_ok-behind_byte.field-0.now digits c.in_ok-time.end.now c.in_ok-name.ensures c.in_ok-behind_byte.ensures (number_field c.in_ok-behind_byte.field-0.now digits c.in_ok-time.end.now (2 ^ 60) c.in_ok-time.time split number) (sym c.in_ok-node.ensures) number;
+      so_far = row_begins _ _ _ _ _ _ c.in-Some.name.now c.in-Some.behind.now c.in-Some-behind_byte.field.now digits c.in-Some-split_number.end.now c.in-Some.ensures c.in-Some-behind_byte.ensures (number_field c.in-Some-behind_byte.field.now digits c.in-Some-split_number.end.now (2 ^ 60) c.in-Some-split_number.time split number) (sym c.in-Some-find_source.ensures) number;
     }
 
 pub bounds-values-index : goal.bounds-values-index
@@ -31,7 +31,7 @@ loop-index-preserved c =
     let reads = c.args.header.now.reads.items in
     let few = reads_few c.args.net.now c.args.header.now c.requires.header in
     let less : index < length reads = omega (arith, c.loop-index-test.true, ap length c.as_slice-reads-items.ensures.value) in
-    let here = rw c.as_slice-reads-items.ensures.value at c.in_ok-end.ensures in
+    let here = rw c.as_slice-reads-items.ensures.value at c.in-Some-column_field.ensures in
     record {
       room = length-set old index value ∙ i.room;
       so_far = row_more _ _ _ index _ _ old (set old index value) _ _ c.requires.header i.so_far less
@@ -43,4 +43,4 @@ pub returns : goal.returns
 returns c =
     let i = c.loop-index.invariant in
     let all : c.loop-index.index ≡ length c.args.header.now.reads.items = omega (arith, c.loop-index-test.false, c.loop-index.auto.index-end, ap length c.as_slice-reads-items.ensures.value) in
-    row_ends _ _ _ _ c.loop-index.index _ _ _ c.requires.header i.so_far all c.in_ok-behind_record.ensures.ends c.in_ok-behind_record.ensures.rest (omega arith)
+    row_ends _ _ _ _ c.loop-index.index _ _ _ c.requires.header i.so_far all c.in-Some-behind_record.ensures.ends c.in-Some-behind_record.ensures.rest (omega arith)

@@ -6,7 +6,7 @@ pub returns-in-Some : goal.returns-in-Some
 returns-in-Some c =
     let e = c.split_at.ensures in
     rw (take_rest c.split_at.result.1.now 1)
-    (quoted_field c.args.text.now c.in-Some.quoted.now c.split_at.result.0.now c.split_at.result.1.now c.in_ok-memchr.field-0 c.in-Some.ensures c.in_ok-memchr.ensures e.front e.back)
+    (quoted_field c.args.text.now c.in-Some.quoted.now c.split_at.result.0.now c.split_at.result.1.now c.in-Some-memchr.index c.in-Some.ensures c.in-Some-memchr.ensures e.front e.back)
 
 pub returns : goal.returns
 returns c =
