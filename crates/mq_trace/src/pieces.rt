@@ -32,14 +32,14 @@ fn cut_lines<'a>(alloc: Global, text: &'a [u8], count: u32) -> Result<Vec<&'a [u
     ensures lines { IfOk result (λ v. AreLines (map (λ s. s.now) v.items)) }
 {
     let size = text.len() / count as usize;
-    let mut pieces = Vec::new(alloc);
+    let mut pieces = Vec::with_capacity(alloc, count as usize)?;
     let mut rest = text;
     for _ in 1..count {
         let (piece, more) = rest.split_at(line_from(rest, size.min(rest.len())));
-        pieces.push(piece)?;
+        pieces.push_reserved(piece);
         rest = more;
     }
-    pieces.push(rest)?;
+    pieces.push_reserved(rest);
     Ok(pieces)
 }
 
@@ -73,7 +73,7 @@ fn merge_quoted<'a>(
     ensures lines { IfOk result (λ v. AreLines (map (λ s. s.now) v.items)) }
     ensures closed { IfOk result (λ v. AreClosed (map (λ s. s.now) v.items)) }
 {
-    let mut merged = Vec::new(alloc);
+    let mut merged = Vec::with_capacity(alloc, pieces.len())?;
     let mut rest = text;
     let mut at = 0;
     let mut outside = true;
@@ -82,12 +82,12 @@ fn merge_quoted<'a>(
         outside = ends_from(pieces[k], outside, ends[k]);
         if outside {
             let (piece, more) = rest.split_at(at);
-            merged.push(piece)?;
+            merged.push_reserved(piece);
             rest = more;
             at = 0;
         }
     }
-    merged.push(rest)?;
+    merged.push_reserved(rest);
     Ok(merged)
 }
 
