@@ -69,6 +69,5 @@ pub fn read_each<R: Threads + Sync>(
         net,
         header,
     };
-    let read = made(rt, alloc, workers, &all, &Open)?;
-    Ok(read)
+    made(rt, alloc, workers, &all, &Open)
 }

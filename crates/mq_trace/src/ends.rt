@@ -47,6 +47,5 @@ pub fn find_ends<R: Threads + Sync>(
     ensures len { IfOk result (λ l. length l ≡ length pieces.now) }
     ensures each { IfOk result (λ l. (i : ℕ) → i < length pieces.now → get_or l i false ≡ is_closed true (get_or (map (λ s. s.now) pieces.now) i [])) }
 {
-    let ends = made(rt, alloc, workers, &Ends { pieces }, &Open)?;
-    Ok(ends)
+    made(rt, alloc, workers, &Ends { pieces }, &Open)
 }

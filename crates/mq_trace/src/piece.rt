@@ -46,9 +46,15 @@ fn read_by_csv(
 {
     let mut reader = text_reader(alloc, piece);
     if at == 0 {
-        pass_header(alloc, &mut reader)?;
+        // Here and below a call of `drop` lets go of what is left at an exit: it is proved once for a type.
+        if let Err(fault) = pass_header(alloc, &mut reader) {
+            drop(reader);
+            return Err(fault);
+        }
     }
-    read_rows(alloc, room, &mut reader, net, header)
+    let read = read_rows(alloc, room, &mut reader, net, header);
+    drop(reader);
+    read
 }
 
 /// Reads the data records of a piece, without the header where it is the first. They are numbered from 1. Records that

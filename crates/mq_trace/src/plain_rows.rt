@@ -50,9 +50,14 @@ fn plain_rows(
             continue;
         }
         let Some(row) = plain_row(rest, rows.source.len(), net, header, &mut values) else {
+            // Here and below a call of `drop` lets go of what is left at an exit: it is proved once for a type.
+            drop(rows);
             return Ok(None);
         };
-        rows.push(row.node, row.time, header.indices.as_slice(), &values)?;
+        if let Err(fault) = rows.push(row.node, row.time, header.indices.as_slice(), &values) {
+            drop(rows);
+            return Err(fault);
+        }
         rest = row.rest;
     }
     Ok(Some(rows.into_rows()))

@@ -43,11 +43,23 @@ fn read_whole(alloc: Global, text: &[u8], net: &Network) -> Result<Rows, TraceFa
     ensures { Answers result (records_fault net.now (text_records text.now)) (rows_in net.now text.now) }
 {
     let mut names = ByteRecord::new(alloc);
-    if !first_record(alloc, text, &mut names)? {
-        return Err(TraceFault::BadHeader { field: 1 });
+    // Here and below a call of `drop` lets go of what is left at an exit: it is proved once for a type.
+    match first_record(alloc, text, &mut names) {
+        Ok(true) => {
+            let header = read_header(alloc, names, net)?;
+            let read = read_piece(alloc, 0, text, net, &header);
+            drop(header);
+            read
+        }
+        Ok(false) => {
+            drop(names);
+            Err(TraceFault::BadHeader { field: 1 })
+        }
+        Err(fault) => {
+            drop(names);
+            Err(fault)
+        }
     }
-    let header = read_header(alloc, names, net)?;
-    read_piece(alloc, 0, text, net, &header)
 }
 
 /// Reads the data records of each piece, and puts the rows of all one behind the other.
@@ -91,11 +103,22 @@ fn read_apart<R: Threads + Sync>(
     ensures { Answers result (records_fault net.now (text_records text.now)) (rows_in net.now text.now) }
 {
     let mut names = ByteRecord::new(alloc);
-    if !first_record(alloc, pieces[0], &mut names)? {
-        return read_whole(alloc, text, net);
+    match first_record(alloc, pieces[0], &mut names) {
+        Ok(true) => {
+            let header = read_header(alloc, names, net)?;
+            let read = read_joined(rt, alloc, workers, pieces, net, &header);
+            drop(header);
+            read
+        }
+        Ok(false) => {
+            drop(names);
+            read_whole(alloc, text, net)
+        }
+        Err(fault) => {
+            drop(names);
+            Err(fault)
+        }
     }
-    let header = read_header(alloc, names, net)?;
-    read_joined(rt, alloc, workers, pieces, net, &header)
 }
 
 // Reads a text by so many pieces and workers.

@@ -40,7 +40,7 @@ pub loop-rest-preserved : goal.loop-rest-preserved
 loop-rest-preserved c =
     let i = c.loop-rest.invariant in
     let first = c.in-Some-plain_row.ensures in
-    let pushed = c.in_ok-push.ensures in
+    let pushed = c.in_default-push.ensures in
     let count : c.len.result + 1 ≡ 1 + length i.done = omega (arith, c.len.ensures, so_far_count _ _ _ _ _ _ i.rows) in
     record {
       room = c.plain_row.auto.values ∙ i.room;

@@ -29,29 +29,29 @@ whole_answers : (net : Network) (rs all : List Record) (header : Record) (result
     → Reads net header (data_of all) result → Answers result (records_fault net rs) (rows_of net (header_of rs) (data_of rs))
 whole_answers net rs all header result same is clean reads = rw (is, clean, same) reads
 
-pub returns-in_err-header : goal.returns-in_err-header
-returns-in_err-header g c =
+pub returns-in_err-header-in-Ok-true : goal.returns-in_err-header-in-Ok-true
+returns-in_err-header-in-Ok-true g c =
     let now = λ (s : Bor (List ℕ)). s.now in
-    let there : c.in_ok-first_record.field-0 ≡ true = search rules in
-    let found = rw there at c.in_ok-first_record.ensures.found in
+    let there : c.in-Ok-true.field-0 ≡ true = search rules in
+    let found = rw there at c.in-Ok-true.ensures.found in
     let first = get_or-map now c.args.pieces.now 0 _ [] c.requires.some in
     let header = header_in_first c.args.text.now (map now c.args.pieces.now) _ found.0 c.requires.pieces (rw (length-map c.args.pieces.now now) c.requires.some) (ap text_records first ∙ found.1) in
-    let p = err_from_is_err_and c.from_residual-in_err-header.result c.from_residual-in_err-header.ensures.1 in
-    rw (p.1, p.2) (header_tells c.args.net.now (text_records c.args.text.now) _ c.in_err-header.field-0.0 header c.in_err-header.ensures.err)
+    let p = err_from_is_err_and c.from_residual.result c.from_residual.ensures.1 in
+    rw (p.1, p.2) (header_tells c.args.net.now (text_records c.args.text.now) _ c.in_err-header-in-Ok-true.field-0.0 header c.in_err-header-in-Ok-true.ensures.err)
 
-pub read_joined-requires-clause-first : goal.read_joined-requires-clause-first
-read_joined-requires-clause-first g c =
-    let there : c.in_ok-first_record.field-0 ≡ true = search rules in
-    let found = rw there at c.in_ok-first_record.ensures.found in
+pub read_joined-read-requires-clause-first : goal.read_joined-read-requires-clause-first
+read_joined-read-requires-clause-first g c =
+    let there : c.in-Ok-true.field-0 ≡ true = search rules in
+    let found = rw there at c.in-Ok-true.ensures.found in
     let first = get_or-map (λ (s : Bor (List ℕ)). s.now) c.args.pieces.now 0 _ [] c.requires.some in
     λ _ _. some_record _ _ found.0 (ap text_records first ∙ found.1)
 
-pub returns : goal.returns
-returns g c =
+pub returns-in_ok-header-in-Ok-true : goal.returns-in_ok-header-in-Ok-true
+returns-in_ok-header-in-Ok-true g c =
     let now = λ (s : Bor (List ℕ)). s.now in
-    let there : c.in_ok-first_record.field-0 ≡ true = search rules in
-    let found = rw there at c.in_ok-first_record.ensures.found in
+    let there : c.in-Ok-true.field-0 ≡ true = search rules in
+    let found = rw there at c.in-Ok-true.ensures.found in
     let first = get_or-map now c.args.pieces.now 0 _ [] c.requires.some in
     let header = header_in_first c.args.text.now (map now c.args.pieces.now) _ found.0 c.requires.pieces (rw (length-map c.args.pieces.now now) c.requires.some) (ap text_records first ∙ found.1) in
-    let read = c.in_ok-header.ensures.ok in
-    whole_answers c.args.net.now (text_records c.args.text.now) _ _ c.read_joined.result c.requires.pieces header read.0 (rw read.1 at c.read_joined.ensures)
+    let read = c.in_ok-header-in-Ok-true.ensures.ok in
+    whole_answers c.args.net.now (text_records c.args.text.now) _ _ c.read_joined-read.result c.requires.pieces header read.0 (rw read.1 at c.read_joined-read.ensures)

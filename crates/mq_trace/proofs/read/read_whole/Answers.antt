@@ -3,7 +3,7 @@ use Rattle.mq_trace.specs.Trace.{text_records}
 use Rattle.mq_trace.proofs.RowFacts.{no_header}
 use Rattle.mq_trace.proofs.read.read_whole.Goals as goal
 
-pub returns-then-not-branch : goal.returns-then-not-branch
-returns-then-not-branch c = λ _.
-    let gone : c.in_ok-first_record.field-0 ≡ false = search rules in
-    no_header c.args.net.now (text_records c.args.text.now) (rw gone at c.in_ok-first_record.ensures.found)
+pub returns-in-Ok-false : goal.returns-in-Ok-false
+returns-in-Ok-false c = λ _.
+    let gone : c.in-Ok-false.field-0 ≡ false = search rules in
+    no_header c.args.net.now (text_records c.args.text.now) (rw gone at c.in-Ok-false.ensures.found)
