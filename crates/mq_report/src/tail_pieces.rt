@@ -118,12 +118,12 @@ fn waits_by_node<'a>(
 {
     nodes_are_in_limits();
     let plan = known.plan;
-    let mut all = List::new(alloc);
+    let mut all = Vec::with_capacity(alloc, plan.net.nodes.len())?;
     for node in 0..plan.net.nodes.len() {
         let declared = plan.net.nodes.get(node);
-        all.push(waits_of_node(known, node as u32, declared))?;
+        all.push_reserved(waits_of_node(known, node as u32, declared));
     }
-    Ok(all)
+    Ok(List::from_vec(all))
 }
 
 // The counts of the waits at a node, of those of its pieces one after another.
@@ -176,7 +176,14 @@ fn counted_of(
 {
     let mut counted = List::new(alloc);
     for node in 0..all.len() {
-        counted.push(counted_at(alloc, all.get(node), groups.get(node))?)?;
+        // A call of `drop` lets go of what is left at an exit: it is proved once for a type.
+        match counted_at(alloc, all.get(node), groups.get(node)) {
+            Ok(tail) => counted.push(tail)?,
+            Err(fault) => {
+                drop(counted);
+                return Err(fault);
+            }
+        }
     }
     Ok(counted)
 }

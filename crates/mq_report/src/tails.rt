@@ -159,10 +159,22 @@ pub fn node_tails<R: Threads + Sync, G: Gate>(
         known,
         counted: &counted,
     };
-    if let Some(tails) = known_tails(alloc, &nodes)? {
-        return Ok(tails);
+    // A call of `drop` lets go of what is left at an exit: it is proved once for a type.
+    match known_tails(alloc, &nodes) {
+        Ok(Some(tails)) => {
+            drop(counted);
+            Ok(tails)
+        }
+        Ok(None) => {
+            let tails = made(rt, alloc, workers, &nodes, gate);
+            drop(counted);
+            tails
+        }
+        Err(fault) => {
+            drop(counted);
+            Err(fault)
+        }
     }
-    made(rt, alloc, workers, &nodes, gate)
 }
 
 /// The percentiles of the waits at a node that the report tells, from those of all nodes.

@@ -7,5 +7,5 @@ counted_at-requires-clause-group c = c.requires.groups.each c.loop-node.node c.g
 pub loop-node-preserved : goal.loop-node-preserved
 loop-node-preserved c =
     counted-more c.args.known.now.plan.now c.args.known.now.rows.now c.loop-node.node c.loop-node.counted _ _ c.loop-node.invariant
-    (counted-at c.args.known.now.plan.now c.args.known.now.rows.now c.loop-node.node c.get.result.now _ (c.requires.waits.each c.loop-node.node c.get.result.now c.get.ensures) c.in_ok-counted_at.ensures)
-    c.in_ok-push.ensures.ok
+    (counted-at c.args.known.now.plan.now c.args.known.now.rows.now c.loop-node.node c.get.result.now _ (c.requires.waits.each c.loop-node.node c.get.result.now c.get.ensures) c.in-Ok.ensures)
+    c.in_ok-push-in-Ok.ensures.ok
