@@ -41,8 +41,14 @@ pub fn arrivals_of<'a, R: Threads + Sync, G: Gate>(
     ensures each { IfOk result (λ all. AllByRecursion (HasArrived arriving.now) all) }
 {
     let comings = comings_of(rt, alloc, arriving, gate)?;
-    let groups = run_parts(rt, alloc, arriving.workers, comings.as_slice(), gate)?;
-    all_arrived(alloc, arriving, comings, groups)
+    match run_parts(rt, alloc, arriving.workers, comings.as_slice(), gate) {
+        Ok(groups) => all_arrived(alloc, arriving, comings, groups),
+        // Here and below a call of `drop` lets go of what is left at an exit: it is proved once for a type.
+        Err(fault) => {
+            drop(comings);
+            Err(fault)
+        }
+    }
 }
 
 // What came to the nodes, of its last pieces.
@@ -66,8 +72,13 @@ fn all_arrived<'a>(
             unreachable!()
         };
         let number = coming.number;
-        let arrivals = merged_of(alloc, coming, group)?;
-        all.push(Arrived { number, arrivals })?;
+        match merged_of(alloc, coming, group) {
+            Ok(arrivals) => all.push(Arrived { number, arrivals })?,
+            Err(fault) => {
+                drop(all);
+                return Err(fault);
+            }
+        }
     }
     Ok(all)
 }

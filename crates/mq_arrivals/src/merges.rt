@@ -182,10 +182,18 @@ pub fn merged_of<'a>(
     } = coming;
     match origin {
         Origin::Unsorted(_rows) => Ok(Arrivals::Merged(alone(group))),
-        Origin::Ports(_before, _next, blocks) => {
-            Ok(Arrivals::Merged(joined(alloc, &blocks, group)?))
+        // Here and below a call of `drop` lets go of what is left at an exit: it is proved once for a type.
+        Origin::Ports(before, _next, blocks) => {
+            drop(before);
+            match joined(alloc, &blocks, group) {
+                Ok(stream) => Ok(Arrivals::Merged(stream)),
+                Err(fault) => Err(fault),
+            }
         }
-        Origin::Ended(arrivals) => Ok(arrivals),
+        Origin::Ended(arrivals) => {
+            drop(group);
+            Ok(arrivals)
+        }
     }
 }
 
@@ -209,6 +217,16 @@ fn joined(alloc: Global, blocks: &Blocks, group: List<Stream>) -> Result<Stream,
     if group.len() == 1 {
         return Ok(alone(group));
     }
+    let stream = behind(alloc, blocks, &group);
+    drop(group);
+    stream
+}
+
+// Blocks, one behind the other.
+fn behind(alloc: Global, blocks: &Blocks, group: &List<Stream>) -> Result<Stream, OutOfMemory>
+    requires len { length group.now ≡ blocks.now.blocks }
+    ensures { IfOk result (λ stream. (pairs : Pairs) → blocks.now.n ≡ length pairs → AreAll (IsBlockOf pairs blocks.now) blocks.now.blocks group.now → ArePairsOf pairs stream) }
+{
     let mut job = Vec::with_capacity(alloc, blocks.n as usize)?;
     let mut time = Vec::with_capacity(alloc, blocks.n as usize)?;
     for b in 0..group.len() {
@@ -267,8 +285,13 @@ fn all_further<'a>(
             unreachable!()
         };
         let number = coming.number;
-        let before = merged_of(alloc, coming, group)?;
-        all.push(further(arriving, number, before, port))?;
+        match merged_of(alloc, coming, group) {
+            Ok(before) => all.push(further(arriving, number, before, port))?,
+            Err(fault) => {
+                drop(all);
+                return Err(fault);
+            }
+        }
     }
     Ok(all)
 }
@@ -287,8 +310,13 @@ pub fn comings_of<'a, R: Threads + Sync, G: Gate>(
 {
     let mut comings = openings(alloc, arriving)?;
     for port in 2..8 {
-        let groups = run_parts(rt, alloc, arriving.workers, comings.as_slice(), gate)?;
-        comings = all_further(alloc, arriving, comings, groups, port)?;
+        match run_parts(rt, alloc, arriving.workers, comings.as_slice(), gate) {
+            Ok(groups) => comings = all_further(alloc, arriving, comings, groups, port)?,
+            Err(fault) => {
+                drop(comings);
+                return Err(fault);
+            }
+        }
     }
     Ok(comings)
 }

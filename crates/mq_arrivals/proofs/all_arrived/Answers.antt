@@ -19,8 +19,8 @@ pub loop-coming-preserved : goal.loop-coming-preserved
 loop-coming-preserved c =
     let s = c.args.arriving.now in
     let last = passing-last coming_size coming_piece (IsComing s 8) (HasArrived s) Any Any _ _ _ _ _ _ _ _ c.loop-coming.invariant c.in-Some.ensures.items c.in-Some-pop.ensures.items in
-    let come = has-come s 8 c.in-Some.coming (stream_in c.in_ok-arrivals.arrivals) last.0 c.in_ok-arrivals.ensures in
-    passing-more coming_size coming_piece (IsComing s 8) (HasArrived s) Any Any _ _ _ _ _ _ _ _ _ _ c.loop-coming.invariant c.in-Some.ensures.items c.in-Some-pop.ensures.items (all-come c.nodes_are_in_limits.ensures s c.in-Some.coming.number c.in_ok-arrivals.arrivals come) (λ k h. tt) c.in_ok-push.ensures.ok
+    let come = has-come s 8 c.in-Some.coming (stream_in c.in-Ok.arrivals) last.0 c.in-Ok.ensures in
+    passing-more coming_size coming_piece (IsComing s 8) (HasArrived s) Any Any _ _ _ _ _ _ _ _ _ _ c.loop-coming.invariant c.in-Some.ensures.items c.in-Some-pop.ensures.items (all-come c.nodes_are_in_limits.ensures s c.in-Some.coming.number c.in-Ok.arrivals come) (λ k h. tt) c.in_ok-push-in-Ok.ensures.ok
 
 pub loop-coming-smaller : goal.loop-coming-smaller
 loop-coming-smaller c = last-shorter _ _ _ c.in-Some.ensures.items

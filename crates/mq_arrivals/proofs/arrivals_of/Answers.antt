@@ -20,4 +20,4 @@ run_parts-requires-clause-few g c κs inside =
     subst (λ (l : List Coming). total_size coming_size l < 2 ^ 32) (sym c.as_slice.ensures) (comings-few s 8 c.in_ok-comings.comings (omega arith) c.in_ok-comings.ensures.each)
 
 pub all_arrived-requires-clause-groups : goal.all_arrived-requires-clause-groups
-all_arrived-requires-clause-groups g c = subst (λ (l : List Coming). AreGroups coming_size coming_piece l c.in_ok-groups.groups) c.as_slice.ensures c.in_ok-groups.ensures
+all_arrived-requires-clause-groups g c = subst (λ (l : List Coming). AreGroups coming_size coming_piece l c.in-Ok.groups) c.as_slice.ensures c.in-Ok.ensures

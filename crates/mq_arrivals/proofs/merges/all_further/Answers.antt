@@ -19,12 +19,12 @@ pub further-requires-clause-before : goal.further-requires-clause-before
 further-requires-clause-before c =
     let s = c.args.arriving.now in
     let last = passing-last coming_size coming_piece (IsComing s c.args.port) (IsComing s (c.args.port + 1)) Any Any _ _ _ _ _ _ _ _ c.loop-coming.invariant c.in-Some.ensures.items c.in-Some-pop.ensures.items in
-    has-come s c.args.port c.in-Some.coming (stream_in c.in_ok-before.before) last.0 c.in_ok-before.ensures
+    has-come s c.args.port c.in-Some.coming (stream_in c.in-Ok.before) last.0 c.in-Ok.ensures
 
 pub loop-coming-preserved : goal.loop-coming-preserved
 loop-coming-preserved c =
     let s = c.args.arriving.now in
-    passing-more coming_size coming_piece (IsComing s c.args.port) (IsComing s (c.args.port + 1)) Any Any _ _ _ _ _ _ _ _ _ _ c.loop-coming.invariant c.in-Some.ensures.items c.in-Some-pop.ensures.items c.further.ensures.coming (λ k h. tt) c.in_ok-push.ensures.ok
+    passing-more coming_size coming_piece (IsComing s c.args.port) (IsComing s (c.args.port + 1)) Any Any _ _ _ _ _ _ _ _ _ _ c.loop-coming.invariant c.in-Some.ensures.items c.in-Some-pop.ensures.items c.further.ensures.coming (λ k h. tt) c.in_ok-push-in-Ok.ensures.ok
 
 pub loop-coming-smaller : goal.loop-coming-smaller
 loop-coming-smaller c = last-shorter _ _ _ c.in-Some.ensures.items

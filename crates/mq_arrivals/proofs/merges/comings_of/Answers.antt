@@ -26,4 +26,4 @@ returns-clause-each g c =
     subst (λ p. AllByRecursion (IsComing s p) c.loop-port.comings) ended c.loop-port.invariant.each
 
 pub all_further-requires-clause-groups : goal.all_further-requires-clause-groups
-all_further-requires-clause-groups g c = subst (λ (l : List Coming). AreGroups coming_size coming_piece l c.in_ok-groups.groups) c.as_slice.ensures c.in_ok-groups.ensures
+all_further-requires-clause-groups g c = subst (λ (l : List Coming). AreGroups coming_size coming_piece l c.in-Ok.groups) c.as_slice.ensures c.in-Ok.ensures
