@@ -52,12 +52,23 @@ fn begun<'a>(
 {
     let mut branches = List::new(alloc);
     for at in 0..scan.demands.len() {
-        let arrive = copy_of(alloc, &arrivals.time)?;
         let servers = scan.demands.get(at);
-        branches.push(Branch { arrive, servers })?;
+        match copy_of(alloc, &arrivals.time) {
+            Ok(arrive) => branches.push(Branch { arrive, servers })?,
+            // Here and below a call of `drop` lets go of what is left at an exit: it is proved once for a type.
+            Err(fault) => {
+                drop(branches);
+                return Err(fault);
+            }
+        }
     }
-    let latest = copy_of(alloc, &arrivals.time)?;
-    Ok(Passage { branches, latest })
+    match copy_of(alloc, &arrivals.time) {
+        Ok(latest) => Ok(Passage { branches, latest }),
+        Err(fault) => {
+            drop(branches);
+            Err(fault)
+        }
+    }
 }
 
 fn copy_of(alloc: Global, times: &List<u64>) -> Result<List<u64>, OutOfMemory>
@@ -138,17 +149,29 @@ fn resumed<'a>(
         latest,
     } = passage;
     if tier.server < servers.len() {
-        branches.push(Branch {
+        let branch = Branch {
             arrive: departs,
             servers,
-        })?;
-        return Ok(Passage { branches, latest });
+        };
+        return match branches.push(branch) {
+            Ok(()) => Ok(Passage { branches, latest }),
+            Err(fault) => {
+                drop(branches);
+                drop(latest);
+                Err(fault)
+            }
+        };
     }
-    let later = later_times(alloc, &departs, &latest)?;
-    Ok(Passage {
-        branches,
-        latest: later,
-    })
+    let later = later_times(alloc, &departs, &latest);
+    drop(departs);
+    drop(latest);
+    match later {
+        Ok(latest) => Ok(Passage { branches, latest }),
+        Err(fault) => {
+            drop(branches);
+            Err(fault)
+        }
+    }
 }
 
 // The jobs behind this server of each branch, which they leave at these times.
@@ -179,7 +202,14 @@ fn advanced<'a>(
         let Some(through) = lists.pop() else {
             unreachable!()
         };
-        done = resumed(alloc, &next, done, branch.servers, through)?;
+        match resumed(alloc, &next, done, branch.servers, through) {
+            Ok(passage) => done = passage,
+            Err(fault) => {
+                drop(left);
+                drop(lists);
+                return Err(fault);
+            }
+        }
     }
     Ok(done)
 }
@@ -211,8 +241,15 @@ pub fn forkjoin_departures<R: Threads + Sync, G: Gate>(
             scan,
             server,
         };
-        let departs = next_departures(rt, alloc, workers, &tier, &passage.branches, gate)?;
-        passage = advanced(alloc, &tier, passage, departs)?;
+        match next_departures(rt, alloc, workers, &tier, &passage.branches, gate) {
+            Ok(departs) => passage = advanced(alloc, &tier, passage, departs)?,
+            Err(fault) => {
+                drop(passage);
+                return Err(fault);
+            }
+        }
     }
-    Ok(passage.latest)
+    let Passage { branches, latest } = passage;
+    drop(branches);
+    Ok(latest)
 }

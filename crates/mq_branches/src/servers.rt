@@ -114,7 +114,14 @@ fn begun_all<'a>(
     for at in 0..tasks.len() {
         let task = tasks.get(at);
         let group = groups.get(at);
-        all.push(begun(alloc, task, group)?)?;
+        match begun(alloc, task, group) {
+            Ok(carried) => all.push(carried)?,
+            // Here and below a call of `drop` lets go of what is left at an exit: it is proved once for a type.
+            Err(fault) => {
+                drop(all);
+                return Err(fault);
+            }
+        }
     }
     Ok(all)
 }
@@ -154,8 +161,19 @@ pub fn serve_all<R: Threads + Sync, G: Gate>(
     ensures { IfOk result (λ all. all ≡ map (λ task. lindley 0 task.arrive.now task.demands.now) tasks.now) }
 {
     let groups = run_parts(rt, alloc, workers, tasks.as_slice(), gate)?;
-    let begun = begun_all(alloc, tasks, &groups)?;
+    let carried = begun_all(alloc, tasks, &groups);
     drop(groups);
-    let groups = run_parts(rt, alloc, workers, begun.as_slice(), gate)?;
-    finished_all(alloc, &begun, &groups)
+    let begun = carried?;
+    match run_parts(rt, alloc, workers, begun.as_slice(), gate) {
+        Ok(groups) => {
+            let departs = finished_all(alloc, &begun, &groups);
+            drop(groups);
+            drop(begun);
+            departs
+        }
+        Err(fault) => {
+            drop(begun);
+            Err(fault)
+        }
+    }
 }

@@ -18,10 +18,10 @@ pub loop-at-preserved : goal.loop-at-preserved
 loop-at-preserved c =
     let was = c.loop-at.invariant in
     let task = Each-get IsTask c.args.tasks.now c.loop-at.at c.get-task.result.now c.requires.tasks c.get-task.ensures in
-    let own : IsCarried c.in_ok-begun.field-0 = subst (λ (t : Task). IsTask t × AreCarriesOf t c.in_ok-begun.field-0.before) (sym c.in_ok-begun.ensures.task) (task, c.in_ok-begun.ensures.before) in
+    let own : IsCarried c.in-Ok.carried = subst (λ (t : Task). IsTask t × AreCarriesOf t c.in-Ok.carried.before) (sym c.in-Ok.ensures.task) (task, c.in-Ok.ensures.before) in
     record {
-      tasks = tasks-more c.args.tasks.now c.loop-at.at c.get-task.result.now _ _ c.in_ok-begun.field-0 c.get-task.ensures c.in_ok-begun.ensures.task c.in_ok-push.ensures.ok was.tasks;
-      begun = subst (AllByRecursion IsCarried) (sym c.in_ok-push.ensures.ok) (Each-append IsCarried c.loop-at.all (c.in_ok-begun.field-0 ∷ []) was.begun (own, tt));
+      tasks = tasks-more c.args.tasks.now c.loop-at.at c.get-task.result.now _ _ c.in-Ok.carried c.get-task.ensures c.in-Ok.ensures.task c.in_ok-push-in-Ok.ensures.ok was.tasks;
+      begun = subst (AllByRecursion IsCarried) (sym c.in_ok-push-in-Ok.ensures.ok) (Each-append IsCarried c.loop-at.all (c.in-Ok.carried ∷ []) was.begun (own, tt));
     }
 
 pub returns-clause-tasks : goal.returns-clause-tasks

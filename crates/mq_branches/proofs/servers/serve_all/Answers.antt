@@ -18,7 +18,7 @@ run_parts-requires-2-clause-few g c κs inside =
     let few = c.requires.few in
     subst (λ (l : List Carried). total_size begun_size l < 2 ^ 32) (sym c.as_slice-2.ensures) (begun-few c.in_ok-begun.begun (omega arith) c.in_ok-begun.ensures.begun)
 
-pub returns : goal.returns
-returns g c =
-    IfOk-weaker c.finished_all.result _ _
-    (λ all e. e ∙ (tasks-map (λ (t : Task). lindley 0 t.arrive.now t.demands.now) c.in_ok-begun.begun ∙ ap (map (λ (t : Task). lindley 0 t.arrive.now t.demands.now)) c.in_ok-begun.ensures.tasks)) c.finished_all.ensures
+pub returns-in-Ok : goal.returns-in-Ok
+returns-in-Ok g c =
+    IfOk-weaker c.finished_all-departs.result _ _
+    (λ all e. e ∙ (tasks-map (λ (t : Task). lindley 0 t.arrive.now t.demands.now) c.in_ok-begun.begun ∙ ap (map (λ (t : Task). lindley 0 t.arrive.now t.demands.now)) c.in_ok-begun.ensures.tasks)) c.finished_all-departs.ensures
