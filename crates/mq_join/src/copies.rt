@@ -11,11 +11,18 @@ use std::alloc::Global;
 pub fn copy_of(alloc: Global, stream: &Stream) -> Result<Stream, OutOfMemory>
     ensures { IfOk result (λ copy. copy ≡ stream.now) }
 {
-    let mut job = List::new(alloc);
-    job.extend_from_slice(stream.job.as_slice())?;
-    let mut time = List::new(alloc);
-    time.extend_from_slice(stream.time.as_slice())?;
-    Ok(Stream { job, time })
+    let job = List::from_vec(Vec::from_slice(alloc, stream.job.as_slice())?);
+    match Vec::from_slice(alloc, stream.time.as_slice()) {
+        Ok(times) => {
+            let time = List::from_vec(times);
+            Ok(Stream { job, time })
+        }
+        // Here and below a call of `drop` lets go of what is left at an exit: it is proved once for a type.
+        Err(_) => {
+            drop(job);
+            Err(OutOfMemory)
+        }
+    }
 }
 
 /// The streams that leave a fork to which this stream comes: one an output, each with all items of the
@@ -26,7 +33,13 @@ pub fn fork_copies(alloc: Global, stream: &Stream, outputs: u8) -> Result<List<S
 {
     let mut streams = List::new(alloc);
     for _ in 0..outputs {
-        streams.push(copy_of(alloc, stream)?)?;
+        match copy_of(alloc, stream) {
+            Ok(copy) => streams.push(copy)?,
+            Err(fault) => {
+                drop(streams);
+                return Err(fault);
+            }
+        }
     }
     Ok(streams)
 }

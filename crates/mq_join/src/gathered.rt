@@ -65,11 +65,30 @@ impl Gathered {
             &self.stream.time,
             &stream.time,
         )?;
-        let job = jobs_at(alloc, &self.stream.job, &stream.job, &indices)?;
-        let port = ports_at(alloc, &self.port, self.ports, &indices)?;
-        self.stream = Stream { job, time };
-        self.port = port;
-        self.ports += 1;
-        Ok(())
+        match jobs_at(alloc, &self.stream.job, &stream.job, &indices) {
+            Ok(job) => {
+                let ports = ports_at(alloc, &self.port, self.ports, &indices);
+                drop(indices);
+                match ports {
+                    Ok(port) => {
+                        self.stream = Stream { job, time };
+                        self.port = port;
+                        self.ports += 1;
+                        Ok(())
+                    }
+                    // A call of `drop` lets go of what is left at an exit: it is proved once for a type.
+                    Err(fault) => {
+                        drop(job);
+                        drop(time);
+                        Err(fault)
+                    }
+                }
+            }
+            Err(fault) => {
+                drop(indices);
+                drop(time);
+                Err(fault)
+            }
+        }
     }
 }

@@ -133,6 +133,16 @@ pub fn matches_of(alloc: Global, gathered: &Gathered) -> Result<List<Option<u32>
     ensures behind { IfOk result (λ matches. AreBehind matches) }
 {
     let mut rows = new_rows(alloc, jobs_in(&gathered.stream.job))?;
-    let indices = count_items(alloc, gathered, rows.as_mut_slice())?;
-    places_of(alloc, gathered, rows.as_slice(), indices.as_slice())
+    match count_items(alloc, gathered, rows.as_mut_slice()) {
+        Ok(indices) => {
+            let places = places_of(alloc, gathered, rows.as_slice(), indices.as_slice());
+            drop(rows);
+            places
+        }
+        // A call of `drop` lets go of what is left at an exit: it is proved once for a type.
+        Err(fault) => {
+            drop(rows);
+            Err(fault)
+        }
+    }
 }

@@ -30,10 +30,18 @@ fn numbered(alloc: Global, times: &List<u64>, first: usize) -> Result<Stream, Ou
     ensures job { IfOk result (λ stream. stream.job ≡ range_with_len first (length times.now)) }
     ensures time { IfOk result (λ stream. stream.time ≡ times.now) }
 {
-    let mut time = List::new(alloc);
-    time.extend_from_slice(times.as_slice())?;
     let job = indices_from(alloc, first, times.len())?;
-    Ok(Stream { job, time })
+    match Vec::from_slice(alloc, times.as_slice()) {
+        Ok(times) => {
+            let time = List::from_vec(times);
+            Ok(Stream { job, time })
+        }
+        // Here and below a call of `drop` lets go of what is left at an exit: it is proved once for a type.
+        Err(_) => {
+            drop(job);
+            Err(OutOfMemory)
+        }
+    }
 }
 
 // The indices of the items of two lists, of which those of the second stand behind those of the first, by
@@ -52,9 +60,18 @@ pub fn indices_by_time(
     ensures items { IfOk result (λ order. pairs_of order ≡ by_first (zip (first.now ++ second.now) (range_with_len 0 (length first.now + length second.now)))) }
 {
     let front = numbered(alloc, first, 0)?;
-    let behind = numbered(alloc, second, first.len())?;
-    let order = merge_two(alloc, &front, &behind)?;
-    Ok(order)
+    match numbered(alloc, second, first.len()) {
+        Ok(behind) => {
+            let order = merge_two(alloc, &front, &behind);
+            drop(front);
+            drop(behind);
+            order
+        }
+        Err(fault) => {
+            drop(front);
+            Err(fault)
+        }
+    }
 }
 
 // The job at an index of two lists, one behind the other.

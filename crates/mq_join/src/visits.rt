@@ -165,15 +165,30 @@ fn visits_of(
     requires behind { AreBehind matches.now }
     ensures { IfOk result (λ visits. (rows : Rows) → visits ≡ sequence_visits rows Join (came_to gathered.now)) }
 {
-    let Stream { job, time: arrive } = copy_of(alloc, &gathered.stream)?;
     let found = founds_of(alloc, matches)?;
-    let fate = fates_of(alloc, &arrive, matches)?;
-    Ok(Visits {
-        job,
-        arrive,
-        found,
-        fate: Fates::each(fate),
-    })
+    match fates_of(alloc, &gathered.stream.time, matches) {
+        Ok(fate) => match copy_of(alloc, &gathered.stream) {
+            Ok(came) => {
+                let Stream { job, time: arrive } = came;
+                Ok(Visits {
+                    job,
+                    arrive,
+                    found,
+                    fate: Fates::each(fate),
+                })
+            }
+            // Here and below a call of `drop` lets go of what is left at an exit: it is proved once for a type.
+            Err(fault) => {
+                drop(found);
+                drop(fate);
+                Err(fault)
+            }
+        },
+        Err(fault) => {
+            drop(found);
+            Err(fault)
+        }
+    }
 }
 
 /// What a join gives for what comes to it: the i-th items of a job by all ports are a match, and
@@ -183,7 +198,21 @@ pub fn join_visits(alloc: Global, gathered: &Gathered) -> Result<Joined, OutOfMe
     ensures { IfOk result (λ joined. AreJoined (came_to gathered.now) joined) }
 {
     let matches = matches_of(alloc, gathered)?;
-    let leaving = leaving_of(alloc, &gathered.stream, &matches)?;
-    let visits = visits_of(alloc, gathered, &matches)?;
-    Ok(Joined { visits, leaving })
+    match leaving_of(alloc, &gathered.stream, &matches) {
+        Ok(leaving) => {
+            let seen = visits_of(alloc, gathered, &matches);
+            drop(matches);
+            match seen {
+                Ok(visits) => Ok(Joined { visits, leaving }),
+                Err(fault) => {
+                    drop(leaving);
+                    Err(fault)
+                }
+            }
+        }
+        Err(fault) => {
+            drop(matches);
+            Err(fault)
+        }
+    }
 }

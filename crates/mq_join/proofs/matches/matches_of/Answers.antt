@@ -5,15 +5,15 @@ use Rattle.mq_join.proofs.Behind.{matches-behind}
 use Rattle.mq_join.proofs.Steps.{matches-many, zip-many}
 use Rattle.mq_join.proofs.matches.matches_of.Goals as goal
 
-pub returns-clause-matches : goal.returns-clause-matches
-returns-clause-matches c = c.places_of.ensures
+pub returns-in-Ok-clause-matches : goal.returns-in-Ok-clause-matches
+returns-in-Ok-clause-matches c = c.places_of-places.ensures
 
-pub returns-clause-many : goal.returns-clause-many
-returns-clause-many c =
+pub returns-in-Ok-clause-many : goal.returns-in-Ok-clause-many
+returns-in-Ok-clause-many c =
     let g = c.args.gathered.now in
-    IfOk-weaker c.places_of.result _ _ (λ matches is. ap length is ∙ (matches-many g.ports (items_of g) ∙ zip-many g.port g.stream.job (sym g.jobs))) c.places_of.ensures
+    IfOk-weaker c.places_of-places.result _ _ (λ matches is. ap length is ∙ (matches-many g.ports (items_of g) ∙ zip-many g.port g.stream.job (sym g.jobs))) c.places_of-places.ensures
 
-pub returns-clause-behind : goal.returns-clause-behind
-returns-clause-behind c =
+pub returns-in-Ok-clause-behind : goal.returns-in-Ok-clause-behind
+returns-in-Ok-clause-behind c =
     let g = c.args.gathered.now in
-    IfOk-weaker c.places_of.result _ _ (λ matches is. subst AreBehind (sym is) (matches-behind g.ports g.port g.stream.job g.below)) c.places_of.ensures
+    IfOk-weaker c.places_of-places.result _ _ (λ matches is. subst AreBehind (sym is) (matches-behind g.ports g.port g.stream.job g.below)) c.places_of-places.ensures

@@ -1,33 +1,43 @@
-use Rattle.std.proofs.Common.{◌∙◌, ◌≤◌, ap, length, length-append, subst, sym}
+use Rattle.std.proofs.Common.{◌∙◌, ◌≤◌, Err, IfOk, Ok, Result, ap, length, length-append, subst, sym}
 use Rattle.std.specs.List.{range_with_len}
+use Rattle.std.proofs.lemmas.Result.{IfOk-weaker}
 use Rattle.mq_core.specs.Laws.{Rises}
 use Rattle.mq_join.proofs.Gathering.{merged-indices, numbered-stream, order-inside, order-many}
 use Rattle.mq_join.proofs.order.indices_by_time.Goals as goal
 
-pub merge_two-requires-clause-a : goal.merge_two-requires-clause-a
-merge_two-requires-clause-a c =
+both : {T E : Type 0} (r : Result T E) (P Q : T → Type 0) → IfOk r P → IfOk r Q → IfOk r (λ x. P x × Q x)
+both (Ok x) P Q p q = (p, q)
+both (Err y) P Q p q = tt
+
+pub merge_two-order-requires-clause-a : goal.merge_two-order-requires-clause-a
+merge_two-order-requires-clause-a c =
     record {
       even = numbered-stream c.in_ok-front.front c.args.first.now 0 c.in_ok-front.ensures.time c.in_ok-front.ensures.job;
       rising = subst (Rises (λ a b. a ≤ b)) (sym c.in_ok-front.ensures.time) c.requires.first;
     }
 
-pub merge_two-requires-clause-b : goal.merge_two-requires-clause-b
-merge_two-requires-clause-b c =
+pub merge_two-order-requires-clause-b : goal.merge_two-order-requires-clause-b
+merge_two-order-requires-clause-b c =
     record {
-      even = numbered-stream c.in_ok-behind.behind c.args.second.now c.len.result c.in_ok-behind.ensures.time c.in_ok-behind.ensures.job;
-      rising = subst (Rises (λ a b. a ≤ b)) (sym c.in_ok-behind.ensures.time) c.requires.second;
+      even = numbered-stream c.in-Ok.behind c.args.second.now c.len.result c.in-Ok.ensures.time c.in-Ok.ensures.job;
+      rising = subst (Rises (λ a b. a ≤ b)) (sym c.in-Ok.ensures.time) c.requires.second;
     }
 
-pub returns : goal.returns
-returns c =
-    let order = c.in_ok-order.order in
-    let stream = c.in_ok-order.ensures.stream in
-    let items =
-    merged-indices c.in_ok-front.front c.in_ok-behind.behind order c.args.first.now c.args.second.now c.in_ok-front.ensures.time c.in_ok-behind.ensures.time c.in_ok-front.ensures.job
-    (c.in_ok-behind.ensures.job ∙ ap (λ k. range_with_len k (length c.args.second.now)) c.len.ensures) c.in_ok-order.ensures.items in
-    record {
-      stream = stream;
-      many = order-many order _ _ stream (length-append c.args.first.now c.args.second.now) items;
-      inside = order-inside order _ _ stream items;
-      items = items;
-    }
+pub returns-in-Ok-clause-stream : goal.returns-in-Ok-clause-stream
+returns-in-Ok-clause-stream c = c.merge_two-order.ensures.stream
+
+pub returns-in-Ok-clause-items : goal.returns-in-Ok-clause-items
+returns-in-Ok-clause-items c =
+    IfOk-weaker c.merge_two-order.result _ _
+    (λ order items. merged-indices c.in_ok-front.front c.in-Ok.behind order c.args.first.now c.args.second.now c.in_ok-front.ensures.time c.in-Ok.ensures.time c.in_ok-front.ensures.job
+    (c.in-Ok.ensures.job ∙ ap (λ k. range_with_len k (length c.args.second.now)) c.len.ensures) items) c.merge_two-order.ensures.items
+
+pub returns-in-Ok-clause-many : goal.returns-in-Ok-clause-many
+returns-in-Ok-clause-many c =
+    IfOk-weaker c.merge_two-order.result _ _ (λ order h. order-many order _ _ h.0 (length-append c.args.first.now c.args.second.now) h.1)
+    (both c.merge_two-order.result _ _ c.merge_two-order.ensures.stream (returns-in-Ok-clause-items c))
+
+pub returns-in-Ok-clause-inside : goal.returns-in-Ok-clause-inside
+returns-in-Ok-clause-inside c =
+    IfOk-weaker c.merge_two-order.result _ _ (λ order h. order-inside order _ _ h.0 h.1)
+    (both c.merge_two-order.result _ _ c.merge_two-order.ensures.stream (returns-in-Ok-clause-items c))
