@@ -45,8 +45,32 @@ pub fn chain_departures<R: Threads + Sync, G: Gate>(
     let (seat, made) = crew(
         rt, alloc, &chain, seat, 0, workers, stream, demands, &blocks, gate,
     );
-    let carries = chain.close(alloc, seat)?;
-    let passed = placed(alloc, blocks.blocks, made?)?;
-    let jobs = jobs_of(stream, demands, &blocks);
-    ended(rt, alloc, workers, &jobs, &carries, &passed, gate)
+    // Here and below a call of `drop` lets go of what is left at an exit: it is proved once for a type.
+    let carries = match chain.close(alloc, seat) {
+        Ok(carries) => carries,
+        Err(fault) => {
+            drop(made);
+            return Err(fault);
+        }
+    };
+    let pieces = match made {
+        Ok(pieces) => pieces,
+        Err(fault) => {
+            drop(carries);
+            return Err(fault);
+        }
+    };
+    match placed(alloc, blocks.blocks, pieces) {
+        Ok(passed) => {
+            let jobs = jobs_of(stream, demands, &blocks);
+            let departs = ended(rt, alloc, workers, &jobs, &carries, &passed, gate);
+            drop(carries);
+            drop(passed);
+            departs
+        }
+        Err(fault) => {
+            drop(carries);
+            Err(fault)
+        }
+    }
 }

@@ -92,6 +92,17 @@ pub(crate) fn ended<G: Gate, R: Threads + Sync>(
         jobs: *jobs,
         left: left.as_slice(),
     };
-    let applied = made(rt, alloc, workers, &rest, gate)?;
-    together(alloc, jobs, passed, &applied)
+    match made(rt, alloc, workers, &rest, gate) {
+        Ok(applied) => {
+            let departs = together(alloc, jobs, passed, &applied);
+            drop(applied);
+            drop(left);
+            departs
+        }
+        // A call of `drop` lets go of what is left at an exit: it is proved once for a type.
+        Err(fault) => {
+            drop(left);
+            Err(fault)
+        }
+    }
 }

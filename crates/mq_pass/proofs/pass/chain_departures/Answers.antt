@@ -11,41 +11,41 @@ use Rattle.mq_pass.proofs.pass.chain_departures.Goals as goal
 
 pub placed-requires-clause-each : goal.placed-requires-clause-each
 placed-requires-clause-each g c =
-    let pass : IsPass c.args.stream.now.time c.args.demands.now c.cut-blocks.result.block c.cut-blocks.result.blocks c.crew-seat.result.0 c.in_ok-made.field-0.items
-    = IfOk-at_ok (λ v. IsPass c.args.stream.now.time c.args.demands.now c.cut-blocks.result.block c.cut-blocks.result.blocks c.crew-seat.result.0 v.items) c.in_ok-made.was c.crew-seat.ensures.passed in
-    all-made _ _ _ _ c.in_ok-carries.ensures.drawn pass.pieces
+    let pass : IsPass c.args.stream.now.time c.args.demands.now c.cut-blocks.result.block c.cut-blocks.result.blocks c.crew-seat.result.0 c.in-Ok-made.pieces.items
+    = IfOk-at_ok (λ v. IsPass c.args.stream.now.time c.args.demands.now c.cut-blocks.result.block c.cut-blocks.result.blocks c.crew-seat.result.0 v.items) c.in-Ok-made.is c.crew-seat.ensures.passed in
+    all-made _ _ _ _ c.in-Ok.ensures.drawn pass.pieces
 
 pub placed-requires-clause-within : goal.placed-requires-clause-within
 placed-requires-clause-within g c =
-    let pass : IsPass c.args.stream.now.time c.args.demands.now c.cut-blocks.result.block c.cut-blocks.result.blocks c.crew-seat.result.0 c.in_ok-made.field-0.items
-    = IfOk-at_ok (λ v. IsPass c.args.stream.now.time c.args.demands.now c.cut-blocks.result.block c.cut-blocks.result.blocks c.crew-seat.result.0 v.items) c.in_ok-made.was c.crew-seat.ensures.passed in
+    let pass : IsPass c.args.stream.now.time c.args.demands.now c.cut-blocks.result.block c.cut-blocks.result.blocks c.crew-seat.result.0 c.in-Ok-made.pieces.items
+    = IfOk-at_ok (λ v. IsPass c.args.stream.now.time c.args.demands.now c.cut-blocks.result.block c.cut-blocks.result.blocks c.crew-seat.result.0 v.items) c.in-Ok-made.is c.crew-seat.ensures.passed in
     made-within _ _ _ _ pass.pieces
 
-pub ended-requires-clause-right : goal.ended-requires-clause-right
-ended-requires-clause-right g c κs within =
-    let pass : IsPass c.args.stream.now.time c.args.demands.now c.cut-blocks.result.block c.cut-blocks.result.blocks c.crew-seat.result.0 c.in_ok-made.field-0.items
-    = IfOk-at_ok (λ v. IsPass c.args.stream.now.time c.args.demands.now c.cut-blocks.result.block c.cut-blocks.result.blocks c.crew-seat.result.0 v.items) c.in_ok-made.was c.crew-seat.ensures.passed in
+pub ended-departs-requires-clause-right : goal.ended-departs-requires-clause-right
+ended-departs-requires-clause-right g c κs within =
+    let pass : IsPass c.args.stream.now.time c.args.demands.now c.cut-blocks.result.block c.cut-blocks.result.blocks c.crew-seat.result.0 c.in-Ok-made.pieces.items
+    = IfOk-at_ok (λ v. IsPass c.args.stream.now.time c.args.demands.now c.cut-blocks.result.block c.cut-blocks.result.blocks c.crew-seat.result.0 v.items) c.in-Ok-made.is c.crew-seat.ensures.passed in
     let lists = c.jobs_of-jobs.ensures.lists in
     let blocks = c.jobs_of-jobs.ensures.blocks in
     let less = c.cut-blocks.result.none_more in
     let n = c.cut-blocks.ensures.0 in
     let len = c.len.ensures in
     let all = c.in_ok-chain.ensures.0 in
-    subst (λ (z : List ℕ × List ℕ × ℕ × ℕ). (b : ℕ) (d : Passed) → b < z.3 → IsRight z.0 z.1 z.2 b (get_or c.in_ok-passed.passed b d)) (λ i. (sym lists.0 i, sym lists.1 i, sym blocks.0 i, sym blocks.1 i))
-    (all-right c.args.stream.now.time c.args.demands.now c.cut-blocks.result.block c.crew-seat.result.0.puts c.crew-seat.result.0.looks pass.own.cut c.cut-blocks.result.blocks c.in_ok-carries.carries (omega arith) (λ b lt. c.in_ok-carries.ensures.each b (omega arith)) (λ part size block b t cut lt inside is. c.in_ok-carries.ensures.folded part size block b t cut (omega arith) inside is) c.in_ok-made.field-0.items c.in_ok-passed.passed pass.pieces.pieces c.in_ok-passed.ensures.own)
+    subst (λ (z : List ℕ × List ℕ × ℕ × ℕ). (b : ℕ) (d : Passed) → b < z.3 → IsRight z.0 z.1 z.2 b (get_or c.in-Ok-placed.passed b d)) (λ i. (sym lists.0 i, sym lists.1 i, sym blocks.0 i, sym blocks.1 i))
+    (all-right c.args.stream.now.time c.args.demands.now c.cut-blocks.result.block c.crew-seat.result.0.puts c.crew-seat.result.0.looks pass.own.cut c.cut-blocks.result.blocks c.in-Ok.carries (omega arith) (λ b lt. c.in-Ok.ensures.each b (omega arith)) (λ part size block b t cut lt inside is. c.in-Ok.ensures.folded part size block b t cut (omega arith) inside is) c.in-Ok-made.pieces.items c.in-Ok-placed.passed pass.pieces.pieces c.in-Ok-placed.ensures.own)
 
-pub ended-requires-clause-known : goal.ended-requires-clause-known
-ended-requires-clause-known g c κs within =
-    let pass : IsPass c.args.stream.now.time c.args.demands.now c.cut-blocks.result.block c.cut-blocks.result.blocks c.crew-seat.result.0 c.in_ok-made.field-0.items
-    = IfOk-at_ok (λ v. IsPass c.args.stream.now.time c.args.demands.now c.cut-blocks.result.block c.cut-blocks.result.blocks c.crew-seat.result.0 v.items) c.in_ok-made.was c.crew-seat.ensures.passed in
+pub ended-departs-requires-clause-known : goal.ended-departs-requires-clause-known
+ended-departs-requires-clause-known g c κs within =
+    let pass : IsPass c.args.stream.now.time c.args.demands.now c.cut-blocks.result.block c.cut-blocks.result.blocks c.crew-seat.result.0 c.in-Ok-made.pieces.items
+    = IfOk-at_ok (λ v. IsPass c.args.stream.now.time c.args.demands.now c.cut-blocks.result.block c.cut-blocks.result.blocks c.crew-seat.result.0 v.items) c.in-Ok-made.is c.crew-seat.ensures.passed in
     let lists = c.jobs_of-jobs.ensures.lists in
     let blocks = c.jobs_of-jobs.ensures.blocks in
     let less = c.cut-blocks.result.none_more in
     let n = c.cut-blocks.ensures.0 in
     let len = c.len.ensures in
     let all = c.in_ok-chain.ensures.0 in
-    subst (λ (z : List ℕ × List ℕ × ℕ × ℕ). (b : ℕ) → b < z.3 → IsKnown z.0 z.1 z.2 b (get_or c.in_ok-carries.carries b Void)) (λ i. (sym lists.0 i, sym lists.1 i, sym blocks.0 i, sym blocks.1 i))
-    (all-known c.args.stream.now.time c.args.demands.now c.cut-blocks.result.block c.crew-seat.result.0.puts c.crew-seat.result.0.looks pass.own.cut c.cut-blocks.result.blocks c.in_ok-carries.carries (omega arith) (λ b lt. c.in_ok-carries.ensures.each b (omega arith)) (λ part size block b t cut lt inside is. c.in_ok-carries.ensures.folded part size block b t cut (omega arith) inside is))
+    subst (λ (z : List ℕ × List ℕ × ℕ × ℕ). (b : ℕ) → b < z.3 → IsKnown z.0 z.1 z.2 b (get_or c.in-Ok.carries b Void)) (λ i. (sym lists.0 i, sym lists.1 i, sym blocks.0 i, sym blocks.1 i))
+    (all-known c.args.stream.now.time c.args.demands.now c.cut-blocks.result.block c.crew-seat.result.0.puts c.crew-seat.result.0.looks pass.own.cut c.cut-blocks.result.blocks c.in-Ok.carries (omega arith) (λ b lt. c.in-Ok.ensures.each b (omega arith)) (λ part size block b t cut lt inside is. c.in-Ok.ensures.folded part size block b t cut (omega arith) inside is))
 
 pub crew-seat-requires-clause-own : goal.crew-seat-requires-clause-own
 crew-seat-requires-clause-own g c κs within = ap (λ (z : Seated). z.table) c.in_ok-chain.ensures.2
@@ -64,8 +64,8 @@ crew-seat-requires-clause-fresh g c κs within =
     let seat = c.in_ok-chain.ensures.2 in
     (ap (λ (z : Seated). z.draws) seat, ap (λ (z : Seated). z.puts) seat, ap (λ (z : Seated). z.looks) seat)
 
-pub ended-requires-clause-each : goal.ended-requires-clause-each
-ended-requires-clause-each g c κs within = c.in_ok-passed.ensures.len ∙ sym c.jobs_of-jobs.ensures.blocks.1
+pub ended-departs-requires-clause-each : goal.ended-departs-requires-clause-each
+ended-departs-requires-clause-each g c κs within = c.in-Ok-placed.ensures.len ∙ sym c.jobs_of-jobs.ensures.blocks.1
 
-pub ended-requires-clause-all : goal.ended-requires-clause-all
-ended-requires-clause-all g c κs within = c.in_ok-carries.ensures.len ∙ (c.in_ok-chain.ensures.0 ∙ sym c.jobs_of-jobs.ensures.blocks.1)
+pub ended-departs-requires-clause-all : goal.ended-departs-requires-clause-all
+ended-departs-requires-clause-all g c κs within = c.in-Ok.ensures.len ∙ (c.in_ok-chain.ensures.0 ∙ sym c.jobs_of-jobs.ensures.blocks.1)

@@ -18,8 +18,8 @@ invariant_of-rest g c =
       few = omega arith;
     }
 
-pub together-requires-clause-applied : goal.together-requires-clause-applied
-together-requires-clause-applied g c =
+pub together-departs-requires-clause-applied : goal.together-departs-requires-clause-applied
+together-departs-requires-clause-applied g c =
     let jobs = c.args.jobs.now in
-    applied-of jobs.step.arrive.now jobs.step.demands.now jobs.blocks.block c.as_slice.result.now (left_from 0 c.args.passed.now) c.in_ok-applied.applied
-    (ap (map (λ (q : Left). q.block)) c.as_slice.ensures ∙ c.in_ok-left.ensures.numbers) c.in_ok-applied.ensures
+    applied-of jobs.step.arrive.now jobs.step.demands.now jobs.blocks.block c.as_slice.result.now (left_from 0 c.args.passed.now) c.in-Ok.applied
+    (ap (map (λ (q : Left). q.block)) c.as_slice.ensures ∙ c.in_ok-left.ensures.numbers) c.in-Ok.ensures
