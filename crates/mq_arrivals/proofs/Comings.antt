@@ -284,15 +284,14 @@ coming_size coming = pieces_of coming.origin
 abbrev pub coming_piece : Coming → ℕ → Stream → Type 0
 coming_piece coming b stream = IsSortedPiece coming.number coming.origin b stream
 
--- of a node no more is known
-abbrev pub Any : {P : Type 0} → Unit {0} → P → Type 0
-Any k p = Unit {0}
+abbrev pub IsComingBy : Arriving × ℕ → Coming → Type 0
+IsComingBy k coming = IsComing k.0 k.1 coming
 
-abbrev pub AreGoingOn : Arriving → ℕ → List Coming → List Coming → List (List Stream) → List Coming → Type 0
-AreGoingOn s port = ArePassing coming_size coming_piece (IsComing s port) (IsComing s (port + 1)) Any Any
+abbrev pub HasComeBy : Arriving × ℕ → Arrived → Type 0
+HasComeBy k arrived = HasCome k.0 arrived.number k.1 (stream_in arrived.arrivals)
 
-abbrev pub AreArriving : Arriving → List Coming → List Coming → List (List Stream) → List Arrived → Type 0
-AreArriving s = ArePassing coming_size coming_piece (IsComing s 8) (HasArrived s) Any Any
+abbrev pub AreMerging : List Coming → List Coming → List (List Stream) → List Arrived → Type 0
+AreMerging = ArePassing coming_size coming_piece (λ coming. IsReadyOrigin coming.origin) (λ arrived. Unit {0}) IsComingBy HasComeBy
 
 -- without its last a list is shorter
 pub last-shorter : {X : Type 0} (xs rest : List X) (x : X) → xs ≡ rest ++ x ∷ [] → length rest < length xs

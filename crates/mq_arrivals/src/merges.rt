@@ -1,6 +1,6 @@
 // What comes to the nodes that are ready, in order of time: the rows of a source, or the streams that the
 // ports of another node read, merged two at a time, port after port, for all nodes side by side.
-ghost use Rattle.std.specs.Prelude.{◌≡◌, ◌+◌, ◌++◌, ◌<◌, ◌≤◌, Contains, [], length, IfOk, Some, slice_get, slice_index_or, take};
+ghost use Rattle.std.specs.Prelude.{◌≡◌, ℕ, ◌+◌, ◌++◌, ◌<◌, ◌≤◌, Contains, [], length, IfOk, Some, slice_get, slice_index_or, take};
 ghost use Rattle.std.specs.List.{AllByRecursion, flat_map};
 ghost use Rattle.mq_core.specs.Sequences.{IsStream};
 ghost use Rattle.mq_core.specs.Streams.{pairs_of};
@@ -11,8 +11,9 @@ ghost use Rattle.mq_crew.specs.Crew.{AreAll, AreGroups};
 ghost use Rattle.mq_merge.specs.Borrowed.{stream_in};
 ghost use Rattle.mq_arrivals.specs.Arrivals.{AreOrdered, IsArriving, IsThere, Pairs, pairs_read};
 ghost use Rattle.mq_arrivals.specs.Merges.{ArePairsOf, HasCome, IsBlockOf, IsComing, IsPair, IsReadyOrigin, IsSortedPiece, has_port, pairs_from, pieces_of};
+ghost use Rattle.mq_arrivals.specs.declared.nodes.Arriving.{Arriving as TheArriving};
 
-use crate::nodes::Arriving;
+use crate::nodes::{Arrived, Arriving};
 use crate::rows::{rows_by_time, stream_of};
 use mq_base::{List, OutOfMemory};
 use mq_core::{Kind, Node, Rows, Stream};
@@ -167,7 +168,7 @@ fn openings<'a>(alloc: Global, arriving: &Arriving<'a>) -> Result<List<Coming<'a
 }
 
 // What came to a node by these ports, of the pieces in their order.
-pub fn merged_of<'a>(
+fn merged_of<'a>(
     alloc: Global,
     coming: Coming<'a>,
     group: List<Stream>,
@@ -263,6 +264,36 @@ fn further<'a>(
     Coming { number, origin }
 }
 
+/// What came to the nodes by these ports, of the pieces of each.
+pub fn all_merged<'a>(
+    alloc: Global,
+    comings: List<Coming<'a>>,
+    groups: List<List<Stream>>,
+) -> Result<List<Arrived<'a>>, OutOfMemory>
+    requires comings { AllByRecursion (λ c. IsReadyOrigin c.origin) comings }
+    requires groups { AreGroups (λ c. pieces_of c.origin) (λ c b stream. IsSortedPiece c.number c.origin b stream) comings groups }
+    ensures len { IfOk result (λ all. length all ≡ length comings.entry) }
+    ensures come { IfOk result (λ all. (s : TheArriving) (ports : ℕ) → AllByRecursion (IsComing s ports) comings.entry → AllByRecursion (λ a. HasCome s a.number ports (stream_in a.arrivals)) all) }
+{
+    let mut comings = comings.into_vec();
+    let mut groups = groups.into_vec();
+    let mut all = List::new(alloc);
+    while let Some(coming) = comings.pop() {
+        let Some(group) = groups.pop() else {
+            unreachable!()
+        };
+        let number = coming.number;
+        match merged_of(alloc, coming, group) {
+            Ok(arrivals) => all.push(Arrived { number, arrivals })?,
+            Err(fault) => {
+                drop(all);
+                return Err(fault);
+            }
+        }
+    }
+    Ok(all)
+}
+
 // The same for all nodes, of the pieces of what came before.
 fn all_further<'a>(
     alloc: Global,
@@ -277,21 +308,12 @@ fn all_further<'a>(
     ensures len { IfOk result (λ all. length all ≡ length comings.entry) }
     ensures each { IfOk result (λ all. AllByRecursion (IsComing arriving.now (port + 1)) all) }
 {
-    let mut comings = comings.into_vec();
-    let mut groups = groups.into_vec();
+    let merged = all_merged(alloc, comings, groups)?;
+    let mut left = merged.into_vec();
     let mut all = List::new(alloc);
-    while let Some(coming) = comings.pop() {
-        let Some(group) = groups.pop() else {
-            unreachable!()
-        };
-        let number = coming.number;
-        match merged_of(alloc, coming, group) {
-            Ok(before) => all.push(further(arriving, number, before, port))?,
-            Err(fault) => {
-                drop(all);
-                return Err(fault);
-            }
-        }
+    while let Some(arrived) = left.pop() {
+        let Arrived { number, arrivals } = arrived;
+        all.push(further(arriving, number, arrivals, port))?;
     }
     Ok(all)
 }

@@ -1,9 +1,0 @@
-use Rattle.std.proofs.Common.{length}
-use Rattle.mq_arrivals.proofs.Comings.{AreArriving}
-use Rattle.mq_arrivals.proofs.all_arrived.Given as goal
-
-abbrev pub invariant-loop-coming : goal.invariant-loop-coming
-invariant-loop-coming l = AreArriving l.arriving l.initial.comings.items l.comings.items l.groups.items l.all
-
-abbrev pub decreases-loop-coming : goal.decreases-loop-coming
-decreases-loop-coming l = length l.comings.items
