@@ -52,23 +52,12 @@ fn begun<'a>(
 {
     let mut branches = List::new(alloc);
     for at in 0..scan.demands.len() {
+        let arrive = copy_of(alloc, &arrivals.time)?;
         let servers = scan.demands.get(at);
-        match copy_of(alloc, &arrivals.time) {
-            Ok(arrive) => branches.push(Branch { arrive, servers })?,
-            // Here and below a call of `drop` lets go of what is left at an exit: it is proved once for a type.
-            Err(fault) => {
-                drop(branches);
-                return Err(fault);
-            }
-        }
+        branches.push(Branch { arrive, servers })?;
     }
-    match copy_of(alloc, &arrivals.time) {
-        Ok(latest) => Ok(Passage { branches, latest }),
-        Err(fault) => {
-            drop(branches);
-            Err(fault)
-        }
-    }
+    let latest = copy_of(alloc, &arrivals.time)?;
+    Ok(Passage { branches, latest })
 }
 
 fn copy_of(alloc: Global, times: &List<u64>) -> Result<List<u64>, OutOfMemory>
@@ -155,6 +144,7 @@ fn resumed<'a>(
         };
         return match branches.push(branch) {
             Ok(()) => Ok(Passage { branches, latest }),
+            // Here and below a call of `drop` lets go of what is left at an exit: it is proved once for a type.
             Err(fault) => {
                 drop(branches);
                 drop(latest);
@@ -202,14 +192,7 @@ fn advanced<'a>(
         let Some(through) = lists.pop() else {
             unreachable!()
         };
-        match resumed(alloc, &next, done, branch.servers, through) {
-            Ok(passage) => done = passage,
-            Err(fault) => {
-                drop(left);
-                drop(lists);
-                return Err(fault);
-            }
-        }
+        done = resumed(alloc, &next, done, branch.servers, through)?;
     }
     Ok(done)
 }

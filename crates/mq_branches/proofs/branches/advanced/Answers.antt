@@ -19,7 +19,7 @@ pub loop-branch-smaller : goal.loop-branch-smaller
 loop-branch-smaller c = last-shorter _ _ _ c.in-Some.ensures.items
 
 pub loop-branch-preserved : goal.loop-branch-preserved
-loop-branch-preserved c = advancing-more _ _ _ _ _ _ _ _ _ _ _ c.loop-branch.invariant c.in-Some.ensures.items c.in-Some-pop.ensures.items c.in-Ok.ensures
+loop-branch-preserved c = advancing-more _ _ _ _ _ _ _ _ _ _ _ c.loop-branch.invariant c.in-Some.ensures.items c.in-Some-pop.ensures.items c.in_ok-done.ensures
 
 pub returns : goal.returns
 returns c = advancing-ends _ _ _ _ _ _ c.loop-branch.invariant (search rules)
