@@ -16,7 +16,6 @@ import os
 import signal
 import subprocess
 import sys
-import time
 
 ROOT = os.path.dirname(os.path.realpath(__file__))
 PROGRAM = "mpsim"
@@ -70,6 +69,12 @@ def files_of(name):
     return sorted(found)
 
 
+def looks_of(name):
+    """When each file of a crate was last written, and its size."""
+    looks = [(it, os.stat(it)) for it in files_of(name)]
+    return [(it, look.st_mtime_ns, look.st_size) for it, look in looks]
+
+
 def lines_of(name):
     """How many lines of code a crate has."""
     return sum(text_of(it).count("\n") for it in files_of(name) if it.endswith(".rt"))
@@ -110,7 +115,7 @@ def stamps(names, uses):
 
 
 def lanes():
-    """How many crates are proved at a time at most, and for how many jobs memory has room."""
+    """On how many processors crates are proved, and for how many jobs memory has room."""
     count = len(os.sched_getaffinity(0))
     free = count * CHECK
     for line in text_of("/proc/meminfo").splitlines():
@@ -144,7 +149,7 @@ def begin(name, uses, kit, jobs, nice):
 def prove_all(uses, kit):
     """Proves all crates below the program and then the program. Answers whether all are proved."""
     names = [it for it in uses if it in below(PROGRAM, uses)] + [PROGRAM]
-    lines = {it: lines_of(it) for it in names}
+    lines, looks = {it: lines_of(it) for it in names}, {it: looks_of(it) for it in names}
     made, chain, (most, room) = stamps(names, uses), chains(lines, uses), lanes()
     done = {it for it in names if text_of(f"{PROVED}/{it}.stamp") == made[it]}
     left, running, jobs = sorted([it for it in names if it not in done], key=lambda it: -chain[it]), {}, {}
@@ -153,20 +158,22 @@ def prove_all(uses, kit):
         while running or (left and not failed):
             ready = [] if failed else [it for it in left if done >= below(it, uses)]
             for name in ready:
-                if len(running) == most or sum(jobs[it] for it in running) >= room:
+                # One crate more than there are processors, so that none waits where a check of several jobs has work for one alone.
+                if len(running) > most or sum(jobs[it] for it in running) >= room:
                     break
                 # What is further from the program goes first.
                 others = [it for it in [*left, *running] if chain[it] > chain[name]]
                 jobs[name] = jobs_for(name, left, {it: jobs[it] for it in running}, lines, uses, most, room)
                 running[name] = begin(name, uses, kit, jobs[name], min(len(others), 10))
                 left.remove(name)
-            time.sleep(0.2)
+            # Until a check has ended.
+            os.waitid(os.P_ALL, 0, os.WEXITED | os.WNOWAIT)
             for name in [it for it, check in running.items() if check.poll() is not None]:
                 if running.pop(name).returncode:
                     tell(f"{text_of(f'{PROVED}/{name}.log')}{name} is not proved")
                     failed = True
                     continue
-                if stamps(names, uses)[name] != made[name]:
+                if any(looks_of(it) != looks[it] for it in [name, *below(name, uses)]):
                     tell(f"{name} has changed meanwhile")
                     failed = True
                     continue
