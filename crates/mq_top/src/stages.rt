@@ -161,14 +161,6 @@ fn accept_trace<R: Threads + Sync, G: Gate, F: Files>(
     judge_trace(alloc, crew, plan, &bytes)
 }
 
-// What a report tells beside the rows and the run.
-#[derive(Drop)]
-struct Numbers {
-    totals: List<NodeTotals>,
-    // None for form 1.
-    tails: List<Percentiles>,
-}
-
 // The percentiles of the waits at each node, which form 2 of the report tells; none for form 1.
 fn told_tails<R: Threads + Sync, G: Gate>(
     alloc: Global,
@@ -200,26 +192,6 @@ fn told_tails<R: Threads + Sync, G: Gate>(
     )
 }
 
-// The numbers of a run, for a report of this form.
-fn numbers_of<R: Threads + Sync, G: Gate>(
-    alloc: Global,
-    crew: &Crew<R, G>,
-    plan: &Plan,
-    rows: &Rows,
-    run: &Run,
-    form: u8,
-) -> Result<Numbers, OutOfMemory>
-    requires read { IsReadFor plan.now.net rows.now }
-    requires run { IsRunOf plan.now rows.now run.now }
-    requires few { HasFewVisits plan.now rows.now }
-    ensures totals { IfOk result (λ numbers. AreNodeTotals plan.now rows.now numbers.totals) }
-    ensures tails { form ≡ 2 → IfOk result (λ numbers. AreNodeTails plan.now rows.now numbers.tails) }
-{
-    let totals = node_totals(crew.rt, alloc, crew.workers, plan, rows, run, crew.gate)?;
-    let tails = told_tails(alloc, crew, plan, rows, run, &totals, form)?;
-    Ok(Numbers { totals, tails })
-}
-
 // Writes the report of a run as it is wanted.
 fn report_finished<R: Threads + Sync, G: Gate, O: Sink>(
     alloc: Global,
@@ -241,19 +213,26 @@ fn report_finished<R: Threads + Sync, G: Gate, O: Sink>(
     ensures sure { length (report_in plan.now.net rows.now wanted.form wanted.jobs) ≤ O.sure out.old → O.faults out.new ≡ O.faults out.old }
     ensures untouched { Untouched result out.old out.new }
 {
-    let Ok(numbers) = numbers_of(alloc, crew, plan, rows, run, wanted.form) else {
+    let Ok(totals) = node_totals(crew.rt, alloc, crew.workers, plan, rows, run, crew.gate) else {
         return Outcome::Memory;
     };
-    match report(
+    let Ok(tails) = told_tails(alloc, crew, plan, rows, run, &totals, wanted.form) else {
+        drop(totals);
+        return Outcome::Memory;
+    };
+    let written = report(
         plan,
         rows,
         run,
-        &numbers.totals,
-        &numbers.tails,
+        &totals,
+        &tails,
         wanted.form,
         wanted.jobs,
         out,
-    ) {
+    );
+    drop(tails);
+    drop(totals);
+    match written {
         Ok(()) => Outcome::Done,
         Err(_) => Outcome::WriteFault,
     }
@@ -293,7 +272,9 @@ fn report_run<R: Threads + Sync, G: Gate, O: Sink>(
         Err(RunFault::Past(fault)) => return Outcome::Past(fault),
         Err(RunFault::Memory) => return Outcome::Memory,
     };
-    report_finished(alloc, crew, plan, rows, &run, wanted, out)
+    let outcome = report_finished(alloc, crew, plan, rows, &run, wanted, out);
+    drop(run);
+    outcome
 }
 
 // Reads the trace of this name for a plan, runs it, and writes the report.
@@ -324,7 +305,11 @@ fn run_trace<R: Threads + Sync, G: Gate, F: Files, O: Sink>(
     ensures untouched { Untouched result out.old out.new }
 {
     match accept_trace(alloc, crew, plan, name, files) {
-        Ok(rows) => report_run(alloc, crew, plan, &rows, wanted, out),
+        Ok(rows) => {
+            let outcome = report_run(alloc, crew, plan, &rows, wanted, out);
+            drop(rows);
+            outcome
+        }
         Err(outcome) => outcome,
     }
 }
@@ -352,8 +337,16 @@ fn run_accepted<R: Threads + Sync, G: Gate, O: Sink>(
         Err(outcome) => return outcome,
     };
     match judge_trace(alloc, crew, &plan, trace) {
-        Ok(rows) => report_run(alloc, crew, &plan, &rows, wanted, out),
-        Err(outcome) => outcome,
+        Ok(rows) => {
+            let outcome = report_run(alloc, crew, &plan, &rows, wanted, out);
+            drop(rows);
+            drop(plan);
+            outcome
+        }
+        Err(outcome) => {
+            drop(plan);
+            outcome
+        }
     }
 }
 
@@ -461,7 +454,7 @@ pub fn simulate_gated<R: Threads + Sync, F: Files, O: Sink, E: Sink, G: Gate>(
             return outcome;
         }
     };
-    let crew = Crew {
+    let crew = &Crew {
         rt,
         workers: settings.workers as u32,
         block: settings.block as u32,
@@ -474,15 +467,16 @@ pub fn simulate_gated<R: Threads + Sync, F: Files, O: Sink, E: Sink, G: Gate>(
     let (model, trace) = match settings.input {
         Input::Named { model, trace } => (model, trace),
         Input::Made(number) => {
-            let outcome = run_made(alloc, &crew, number, wanted, out);
+            let outcome = run_made(alloc, crew, number, wanted, out);
             put_line(err, &[], &outcome);
             return outcome;
         }
     };
     match accept_model(alloc, model, files) {
         Ok(plan) => {
-            let outcome = run_trace(alloc, &crew, &plan, trace, wanted, files, out);
+            let outcome = run_trace(alloc, crew, &plan, trace, wanted, files, out);
             put_line(err, name_of(&plan.net, &outcome), &outcome);
+            drop(plan);
             outcome
         }
         Err(outcome) => {

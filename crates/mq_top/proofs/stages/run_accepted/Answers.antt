@@ -19,13 +19,13 @@ returns-in-Err-clause-made g c =
 
 -- nor is the trace
 
-pub returns-clause-ends : goal.returns-clause-ends
-returns-clause-ends g c =
+pub returns-in-Err-judge_trace-clause-ends : goal.returns-in-Err-judge_trace-clause-ends
+returns-in-Err-judge_trace-clause-ends g c =
     (ends_at_trace c.args.model.now c.args.trace.now c.args.wanted c.in-Ok.plan.net c.in-Err-judge_trace.outcome _ c.requires c.in-Ok.ensures.accepted.1 c.in-Err-judge_trace.ensures.refused
     (λ e. c.judge_trace.ensures.unread (c.in-Err-judge_trace.is ∙ ap Err e))).ends
 
-pub returns-clause-made : goal.returns-clause-made
-returns-clause-made g c =
+pub returns-in-Err-judge_trace-clause-made : goal.returns-in-Err-judge_trace-clause-made
+returns-in-Err-judge_trace-clause-made g c =
     (ends_at_trace c.args.model.now c.args.trace.now c.args.wanted c.in-Ok.plan.net c.in-Err-judge_trace.outcome nothing c.requires c.in-Ok.ensures.accepted.1 c.in-Err-judge_trace.ensures.refused
     (λ e. c.judge_trace.ensures.unread (c.in-Err-judge_trace.is ∙ ap Err e))).made
 
@@ -33,15 +33,15 @@ returns-clause-made g c =
 
 pub returns-in-Ok-judge_trace-clause-ends : goal.returns-in-Ok-judge_trace-clause-ends
 returns-in-Ok-judge_trace-clause-ends g c =
-    (ends_at_run c.args.model.now c.args.trace.now c.args.wanted c.in-Ok.plan.net c.in-Ok-judge_trace.rows c.report_run.result (takings g.O.Sink.taken g.O.Sink.sure c.args.out.now c.report_run.new.out)
-    c.requires c.in-Ok.ensures.accepted.1 c.in-Ok-judge_trace.ensures.accepted.1 c.report_run.ensures.ends c.report_run.ensures.unread).ends
+    (ends_at_run c.args.model.now c.args.trace.now c.args.wanted c.in-Ok.plan.net c.in-Ok-judge_trace.rows c.report_run-outcome.result (takings g.O.Sink.taken g.O.Sink.sure c.args.out.now c.report_run-outcome.new.out)
+    c.requires c.in-Ok.ensures.accepted.1 c.in-Ok-judge_trace.ensures.accepted.1 c.report_run-outcome.ensures.ends c.report_run-outcome.ensures.unread).ends
 
 pub returns-in-Ok-judge_trace-clause-made : goal.returns-in-Ok-judge_trace-clause-made
 returns-in-Ok-judge_trace-clause-made g c =
-    (ends_at_run c.args.model.now c.args.trace.now c.args.wanted c.in-Ok.plan.net c.in-Ok-judge_trace.rows c.report_run.result (takings g.O.Sink.taken g.O.Sink.sure c.args.out.now c.report_run.new.out)
-    c.requires c.in-Ok.ensures.accepted.1 c.in-Ok-judge_trace.ensures.accepted.1 c.report_run.ensures.ends c.report_run.ensures.unread).made
+    (ends_at_run c.args.model.now c.args.trace.now c.args.wanted c.in-Ok.plan.net c.in-Ok-judge_trace.rows c.report_run-outcome.result (takings g.O.Sink.taken g.O.Sink.sure c.args.out.now c.report_run-outcome.new.out)
+    c.requires c.in-Ok.ensures.accepted.1 c.in-Ok-judge_trace.ensures.accepted.1 c.report_run-outcome.ensures.ends c.report_run-outcome.ensures.unread).made
 
 pub returns-in-Ok-judge_trace-clause-sure : goal.returns-in-Ok-judge_trace-clause-sure
 returns-in-Ok-judge_trace-clause-sure g c text is room =
-    c.report_run.ensures.sure (subst (λ t. length t ≤ g.O.Sink.sure c.args.out.now)
+    c.report_run-outcome.ensures.sure (subst (λ t. length t ≤ g.O.Sink.sure c.args.out.now)
     (sym (report_is c.args.model.now c.args.trace.now c.args.wanted c.in-Ok.plan.net c.in-Ok-judge_trace.rows text c.requires c.in-Ok.ensures.accepted.1 c.in-Ok-judge_trace.ensures.accepted.1 is)) room)

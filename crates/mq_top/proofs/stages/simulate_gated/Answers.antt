@@ -88,34 +88,34 @@ returns-in-Err-clause-named g c m t model names told_m =
 
 -- ---- once the model was accepted
 
-names_of : (g : Given.Over) (c : goal.After-drop-plan-in-Ok-accept_model-2 g) → Names (texts c.args.words.now) c.in-Named.model.now c.in-Named.trace.now
+names_of : (g : Given.Over) (c : goal.After-drop g) → Names (texts c.args.words.now) c.in-Named.model.now c.in-Named.trace.now
 names_of g c = subst (AsksFor (texts c.args.words.now)) c.in-Named.is c.in-Ok.ensures.asked.input
 
 -- the network is that of the named model, which has no fault
-read : (g : Given.Over) (c : goal.After-drop-plan-in-Ok-accept_model-2 g) (m t model : List ℕ) → Names (texts c.args.words.now) m t → g.F.Files.told c.args.files.now m ≡ Some model
+read : (g : Given.Over) (c : goal.After-drop g) (m t model : List ℕ) → Names (texts c.args.words.now) m t → g.F.Files.told c.args.files.now m ≡ Some model
     → (model_fault model ≡ None) × (c.in-Ok-accept_model.plan.net ≡ network_in model)
 read g c m t model names told_m =
     told_is _ model (λ bytes. (model_fault bytes ≡ None) × (c.in-Ok-accept_model.plan.net ≡ network_in bytes))
     (ap (g.F.Files.told c.args.files.now) (sym (same_names (texts c.args.words.now) m t _ _ names (names_of g c)).0) ∙ told_m) c.in-Ok-accept_model.ensures.accepted
 
-trace_told : (g : Given.Over) (c : goal.After-drop-plan-in-Ok-accept_model-2 g) (m t trace : List ℕ) → Names (texts c.args.words.now) m t → g.F.Files.told c.args.files.now t ≡ Some trace
+trace_told : (g : Given.Over) (c : goal.After-drop g) (m t trace : List ℕ) → Names (texts c.args.words.now) m t → g.F.Files.told c.args.files.now t ≡ Some trace
     → g.F.Files.told c.accept_model.new.files c.in-Named.trace.now ≡ Some trace
 trace_told g c m t trace names told_t =
     c.accept_model.ensures.same_told c.in-Named.trace.now ∙ (ap (g.F.Files.told c.args.files.now) (sym (same_names (texts c.args.words.now) m t _ _ names (names_of g c)).1) ∙ told_t)
 
 -- the answer over the network is that to the named model
-same : (g : Given.Over) (c : goal.After-drop-plan-in-Ok-accept_model-2 g) (m t model trace : List ℕ) → Names (texts c.args.words.now) m t → g.F.Files.told c.args.files.now m ≡ Some model
+same : (g : Given.Over) (c : goal.After-drop g) (m t model trace : List ℕ) → Names (texts c.args.words.now) m t → g.F.Files.told c.args.files.now m ≡ Some model
     → answer_over c.in-Ok-accept_model.plan.net trace (asked_for c.in-Ok.settings) ≡ answer model trace (wanted_by (texts c.args.words.now))
 same g c m t model trace names told_m =
     let is = read g c m t model names told_m in
     answer_is c.in-Ok-accept_model.plan.net model trace (asked_for c.in-Ok.settings) (wanted_by (texts c.args.words.now)) is.0 is.1 (wanted_is (texts c.args.words.now) c.in-Ok.settings c.in-Ok.ensures.asked)
 
 -- the read of the model counted no fault
-calm : (g : Given.Over) (c : goal.After-drop-plan-in-Ok-accept_model-2 g) → g.F.Files.faults c.accept_model.new.files ≡ g.F.Files.faults c.args.files.now
+calm : (g : Given.Over) (c : goal.After-drop g) → g.F.Files.faults c.accept_model.new.files ≡ g.F.Files.faults c.args.files.now
 calm g c = ok_quiet c.accept_model.result c.in-Ok-accept_model.plan _ c.in-Ok-accept_model.is c.accept_model.ensures.quiet
 
 -- nor did that of a trace whose name is sure
-sure : (g : Given.Over) (c : goal.After-drop-plan-in-Ok-accept_model-2 g) (m t : List ℕ) → Names (texts c.args.words.now) m t → g.F.Files.is_sure c.args.files.now t ≡ true
+sure : (g : Given.Over) (c : goal.After-drop g) (m t : List ℕ) → Names (texts c.args.words.now) m t → g.F.Files.is_sure c.args.files.now t ≡ true
     → g.F.Files.faults c.run_trace-outcome.new.files ≡ g.F.Files.faults c.accept_model.new.files
 sure g c m t names sure_t =
     c.run_trace-outcome.ensures.sure_name
