@@ -106,20 +106,21 @@ fn matches_of<'a>(alloc: Global, words: &'a [&'a str]) -> Result<ArgMatches<'a>,
     ensures found { refuses_words_of (texts words.now) ≡ false → IfOk result (λ matches. Finds (texts words.now) (found_of matches)) }
     ensures memory { refuses_words_of (texts words.now) ≡ false → IfErr result (λ error. kind_of error ≡ ErrorKind.OutOfMemory) }
 {
+    let arguments = vec![in alloc;
+        Arg::new(alloc, "model"),
+        Arg::new(alloc, "trace"),
+        Arg::new(alloc, "workers").long("workers"),
+        Arg::new(alloc, "block").long("block"),
+        Arg::new(alloc, "made").long("made"),
+        Arg::new(alloc, "report").long("report"),
+        Arg::new(alloc, "jobs")
+            .long("jobs")
+            .action(ArgAction::SetTrue),
+    ]?;
     let command = Command::new(alloc, "mpsim")
         .no_binary_name(true)
         .disable_help_flag(true)
-        .arg(Arg::new(alloc, "model"))?
-        .arg(Arg::new(alloc, "trace"))?
-        .arg(Arg::new(alloc, "workers").long("workers"))?
-        .arg(Arg::new(alloc, "block").long("block"))?
-        .arg(Arg::new(alloc, "made").long("made"))?
-        .arg(Arg::new(alloc, "report").long("report"))?
-        .arg(
-            Arg::new(alloc, "jobs")
-                .long("jobs")
-                .action(ArgAction::SetTrue),
-        )?;
+        .args(arguments)?;
     command.try_get_matches_from(words)
 }
 
