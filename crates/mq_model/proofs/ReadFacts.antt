@@ -1,11 +1,11 @@
 -- The words from an index on, and what one word does.
-use Rattle.std.proofs.Common.{◌≡◌, ◌∙◌, sym, ap, refl, ℕ, zero, suc, ◌+◌, ◌<◌, ◌≤◌, List, [], ◌∷◌, ◌++◌, length, drop, map, Bool, true, false, Some, None, Result, Ok, Err, Bor, arith, append_assoc, ◌-◌, ◌^◌, inl, inr}
-use Rattle.std.specs.Prelude.{slice_get, ◌&&◌, not, nat_le, nat_lt, get_or, codes}
+use Rattle.std.proofs.Common.{◌≡◌, ◌∙◌, sym, ap, refl, ℕ, zero, suc, ◌+◌, ◌<◌, ◌≤◌, List, [], ◌∷◌, ◌++◌, length, drop, take, Bool, true, false, Some, None, Result, Ok, Err, Bor, arith, append_assoc, ◌-◌, ◌^◌, inl, inr}
+use Rattle.std.specs.Prelude.{◌&&◌, not, nat_le, nat_lt, get_or, codes}
 use Rattle.std.specs.Char.{is_ascii_lowercase}
 use Rattle.std.specs.List.{list_all}
 use Rattle.std.specs.Str.{bytes_eq}
 use Rattle.std.proofs.lemmas.Bool.{cases_Bool}
-use Rattle.mq_base.specs.Text.{is_number, number_of}
+use Rattle.mq_base.specs.Text.{is_number, number_of, texts}
 use Rattle.mq_model.specs.declared.said.Said.TheVariants.{Bound}
 use Rattle.mq_model.specs.declared.said.SaidInput.{SaidInput}
 use Rattle.mq_model.specs.declared.said.SaidKind.TheVariants.{Fork}
@@ -14,21 +14,25 @@ use Rattle.mq_model.specs.Lines.{a_route, counted_route, cut_route, greatest_dem
 use Rattle.mq_core.specs.Names.{is_name, is_name_byte}
 use Rattle.std.proofs.lemmas.Grind.{common_steps}
 use Rattle.mq_model.specs.Form.{◌>>=◌, Form, Word, stop, word, maybe, one, read, up_to, whole}
-use Rattle.mq_model.specs.Reading.{Reads, ReadsMore, with_front, words_from}
+use Rattle.mq_model.specs.Reading.{Reads, ReadsMore, with_front}
 use Rattle.mq_model.specs.declared.parts.Stop.{Stop}
 use Rattle.mq_model.specs.declared.parts.Stop.TheVariants as why
 use Rattle.mq_model.proofs.FormFacts.{go_on, read_then}
 
-pub words_more : (words : List (Bor (List ℕ))) (at : ℕ) (w : Bor (List ℕ)) → slice_get words at ≡ Some w → words_from words at ≡ w.now ∷ words_from words (at + 1)
-words_more [] at w h = cc
-words_more (x ∷ words) zero w h = let e : x ≡ w = cc in grind (arith, common_steps, e)
-words_more (x ∷ words) (suc at) w h = let again = words_more words at w h in grind (arith, common_steps, again)
+-- the first word and those behind it
+abbrev pub first_of : List (Bor (List ℕ)) → Word
+first_of words = (get_or words 0 (record { ref_ptr = (0, 0); now = [] })).now
 
-pub words_none : (words : List (Bor (List ℕ))) (at : ℕ) → slice_get words at ≡ None → words_from words at ≡ []
-words_none [] zero h = refl
-words_none [] (suc at) h = refl
-words_none (x ∷ words) zero h = cc
-words_none (x ∷ words) (suc at) h = let again = words_none words at h in grind (arith, common_steps, again)
+pub words_first : (words : List (Bor (List ℕ))) → 1 ≤ length words → texts words ≡ first_of words ∷ texts (take (length words - 1) (drop 1 words))
+words_first [] h = absurd (omega arith)
+words_first (x ∷ words) h = grind (arith, common_steps)
+
+pub texts_length : (words : List (Bor (List ℕ))) → length (texts words) ≡ length words
+texts_length words = grind (arith, common_steps)
+
+pub words_end : (words : List (Bor (List ℕ))) → length words < 1 → texts words ≡ []
+words_end [] h = refl
+words_end (x ∷ words) h = absurd (omega arith)
 
 pub read_one_none : {A : Type 0} (p : Word → Bool) (value : Word → A) (ws : List Word) → ws ≡ [] → read (one p value) ws ≡ Err ws
 unfolding read
@@ -43,7 +47,7 @@ pub read_one_yes : {A : Type 0} (p : Word → Bool) (value : Word → A) (all ws
 unfolding read
 read_one_yes p value all ws w e h = rw (e, h) refl
 
-pub ruleset reading = (common_steps, words_more, words_none, read_one_none, read_one_no, read_one_yes, read_then)
+pub ruleset reading = (common_steps, words_first, words_end, read_one_none, read_one_no, read_one_yes, read_then)
 
 -- a word with a byte, by its parts
 pub name_parts : (w : Word) → 1 ≤ length w
@@ -51,18 +55,7 @@ pub name_parts : (w : Word) → 1 ≤ length w
 name_parts [] h = absurd (omega arith)
 name_parts (b ∷ more) h = refl
 
--- the words at an index in range
-pub words_at : (words : List (Bor (List ℕ))) (at : ℕ) (d : Bor (List ℕ)) → at < length words → words_from words at ≡ (get_or words at d).now ∷ words_from words (at + 1)
-words_at [] at d h = absurd (omega arith)
-words_at (x ∷ words) zero d h = grind (arith, common_steps)
-words_at (x ∷ words) (suc at) d h = let again = words_at words at d (omega arith) in grind (arith, common_steps, again)
-
-pub words_past : (words : List (Bor (List ℕ))) (at : ℕ) → length words ≤ at → words_from words at ≡ []
-words_past words at h = grind (arith, common_steps)
-
 pub ruleset names = (common_steps, name_parts)
-
-pub ruleset places = (common_steps, words_at, words_past)
 
 -- behind none
 pub front_of_none : {A : Type 0} (r : Result (List A × List Word) (List Word)) → r ≡ with_front [] r
@@ -370,15 +363,46 @@ unfolding kind_line
 kind_other all ws w e a b c d f h =
     read_maybe_no _ _ _ all ws w e a ∙ read_maybe_no _ _ _ all ws w e b ∙ read_maybe_no _ _ _ all ws w e c ∙ read_maybe_no _ _ _ all ws w e d ∙ read_maybe_no _ _ _ all ws w e f ∙ read_word_no _ _ all ws w e h
 
-pub tail_length : (words : List (Bor (List ℕ))) (at : ℕ) → at ≤ length words → at + 1 + length (words_from words at) ≡ length (map (λ (w : Bor (List ℕ)). w.now) words) + 1
-tail_length words at h = grind (arith, common_steps)
+same_left : {A : Type 0} (b a : A) (ws left : List Word) (r : Result (A × List Word) (List Word)) → r ≡ Ok (b, ws) → r ≡ Ok (a, left) → ws ≡ left
+same_left {A} b a ws left r h e = let same : (b, ws) ≡ (a, left) = cc in ap (λ (q : A × List Word). q.1) same
 
-whole_left : {A : Type 0} (r : Result (A × List Word) (List Word)) (x : A) (left ws : List Word) (w : Word) → r ≡ Ok (x, left) → left ≡ w ∷ ws → whole r ≡ Err left
-whole_left r x left ws w e h = rw (e, h) refl
+-- what is left is no longer than what there was
+pub left_of_read : {A : Type 0} (f : Form A) (ws left : List Word) (a : A) → read f ws ≡ Ok (a, left) → length left ≤ length ws
+unfolding read
+left_of_read (stop b) ws left a e = rw (same_left b a ws left (Ok (b, ws)) refl e) (omega arith)
+left_of_read (word p f) [] left a e = absurd (cc)
+left_of_read (word p f) (w ∷ ws) left a e =
+    elim (cases_Bool (p w)) [
+      | inl good ↦ let k = left_of_read (f w) ws left a (rw good at e) in omega (arith, k)
+      | inr bad ↦ let k = rw bad at e in absurd (cc)
+    ]
+left_of_read (maybe p f g) [] left a e = left_of_read g [] left a e
+left_of_read (maybe p f g) (w ∷ ws) left a e =
+    elim (cases_Bool (p w)) [
+      | inl good ↦ let k = left_of_read (f w) ws left a (rw good at e) in omega (arith, k)
+      | inr bad ↦ left_of_read g (w ∷ ws) left a (rw bad at e)
+    ]
+
+pub left_of_fault : {A : Type 0} (f : Form A) (ws left : List Word) → read f ws ≡ Err left → length left ≤ length ws
+unfolding read
+left_of_fault (stop b) ws left e = absurd (cc)
+left_of_fault (word p f) [] left e = let same : [] ≡ left = cc in rw (sym same) (omega arith)
+left_of_fault (word p f) (w ∷ ws) left e =
+    elim (cases_Bool (p w)) [
+      | inl good ↦ let k = left_of_fault (f w) ws left (rw good at e) in omega (arith, k)
+      | inr bad ↦ let k = rw bad at e in let same : w ∷ ws ≡ left = cc in rw (sym same) (omega arith)
+    ]
+left_of_fault (maybe p f g) [] left e = left_of_fault g [] left e
+left_of_fault (maybe p f g) (w ∷ ws) left e =
+    elim (cases_Bool (p w)) [
+      | inl good ↦ let k = left_of_fault (f w) ws left (rw good at e) in omega (arith, k)
+      | inr bad ↦ left_of_fault g (w ∷ ws) left (rw bad at e)
+    ]
 
 -- words are left behind a line
-pub whole_more : {A : Type 0} (r : Result (A × List Word) (List Word)) (x : A) (words : List (Bor (List ℕ))) (at : ℕ) → at < length words → r ≡ Ok (x, words_from words at) → whole r ≡ Err (words_from words at)
-whole_more r x words at h e = whole_left r x (words_from words at) _ _ e (words_at words at (record { ref_ptr = (0, 0); now = [] }) h)
+pub whole_more : {A : Type 0} (r : Result (A × List Word) (List Word)) (x : A) (left : List Word) → 1 ≤ length left → r ≡ Ok (x, left) → whole r ≡ Err left
+whole_more r x [] some e = absurd (omega arith)
+whole_more r x (w ∷ left) some e = rw e refl
 
 pub whole_fault : {A : Type 0} (r : Result (A × List Word) (List Word)) (left : List Word) → r ≡ Err left → whole r ≡ Err left
 whole_fault r left e = rw e refl

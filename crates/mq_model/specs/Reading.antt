@@ -1,7 +1,5 @@
 -- How the code's readers of words follow a form.
-use Rattle.std.specs.Prelude.{◌≡◌, ◌+◌, ◌++◌, ℕ, List, length, drop, Result, Ok, Err}
-use Rattle.std.specs.Borrow.{Bor}
-use Rattle.mq_base.specs.Text.{texts}
+use Rattle.std.specs.Prelude.{◌≡◌, ◌+◌, ◌++◌, List, length, Result, Ok, Err}
 use Rattle.mq_model.specs.Form.{Form, Word}
 use Rattle.mq_model.specs.Lines.{delay_kind, fork_kind, forkjoin_kind, loss_kind, server_kind, split_kind, tandem_kind, trunk_kind}
 use Rattle.mq_model.specs.declared.said.SaidKind.{SaidKind}
@@ -11,10 +9,6 @@ use Rattle.mq_model.specs.declared.parts.Stop.{Stop}
 use Rattle.mq_model.specs.declared.parts.Stop.TheVariants as why
 use Rattle.mq_model.specs.declared.line.LineFault.{LineFault}
 use Rattle.mq_model.specs.declared.line.LineFault.TheVariants as fault
-
--- the words from an index on
-abbrev pub words_from : List (Bor (List ℕ)) → ℕ → List Word
-words_from words at = drop at (texts words)
 
 -- what may stand behind the name, by a line's first word
 abbrev pub form_of : KindWord → Form SaidKind
@@ -27,7 +21,7 @@ form_of first.Split = split_kind
 form_of first.Fork = fork_kind
 form_of first.Trunk = trunk_kind
 
--- What was read, and what is left, is what the form says; and the fault is at its index, unless memory ran out.
+-- What was read, and what is left, is what the form says; and a fault is at the first of those that are left, unless memory ran out.
 abbrev pub Reads : {X : Type 0} → Result X Stop → List Word → Result (X × List Word) (List Word) → Type 0
 Reads (Ok x) left said = said ≡ Ok (x, left)
 Reads (Err why.Word) left said = said ≡ Err left

@@ -1,12 +1,11 @@
 // A line, by its first word.
-ghost use Rattle.std.specs.Prelude.{◌≡◌, ◌≤◌, ◌∷◌, List, Err, MatchOption, length};
+ghost use Rattle.std.specs.Prelude.{◌≡◌, ◌∷◌, List, Err, MatchOption};
 ghost use Rattle.mq_model.specs.Form.{Word, read, whole};
 ghost use Rattle.mq_model.specs.Lines.{bound_line, first_line, fork_kind, join_line, kind_line, line, node_line, source_line};
-ghost use Rattle.mq_model.specs.Reading.{Reads, ReadsLine, form_of, words_from};
+ghost use Rattle.mq_base.specs.Text.{texts};
+ghost use Rattle.mq_model.specs.Reading.{Reads, ReadsLine, form_of};
 
-use crate::parts::{
-    Stop, read_demand, read_inputs, read_joined_inputs, read_name, read_within, word_at,
-};
+use crate::parts::{Stop, read_demand, read_inputs, read_joined_inputs, read_name, read_within};
 use crate::route::read_route;
 use crate::said::{Said, SaidKind};
 use crate::station::{read_forkjoin, read_loss, read_tandem, read_trunk};
@@ -53,46 +52,38 @@ fn kind_word(word: &[u8]) -> Option<KindWord>
 }
 
 /// Reads how many outputs a fork has.
-fn read_fork(words: &[&[u8]], at: &mut usize) -> Result<SaidKind, Stop>
-    ensures reads { Reads result (words_from words.now at.new) (read fork_kind (words_from words.now at.old)) }
-    ensures within { at.old ≤ length words.now → at.new ≤ length words.now }
+fn read_fork(words: &mut &[&[u8]]) -> Result<SaidKind, Stop>
+    ensures { Reads result (texts words.new.now) (read fork_kind (texts words.old.now)) }
 {
-    let outputs = read_within(words, at, 2, 4)?;
+    let outputs = read_within(words, 2, 4)?;
     Ok(SaidKind::Fork {
         outputs: outputs as u8,
     })
 }
 
 /// Reads what stands between the name and the inputs.
-fn read_kind(
-    alloc: Global,
-    words: &[&[u8]],
-    at: &mut usize,
-    first: KindWord,
-) -> Result<SaidKind, Stop>
-    ensures reads { Reads result (words_from words.now at.new) (read (form_of first) (words_from words.now at.old)) }
-    ensures within { at.old ≤ length words.now → at.new ≤ length words.now }
+fn read_kind(alloc: Global, words: &mut &[&[u8]], first: KindWord) -> Result<SaidKind, Stop>
+    ensures { Reads result (texts words.new.now) (read (form_of first) (texts words.old.now)) }
 {
     match first {
-        KindWord::Server => Ok(SaidKind::Server(read_demand(alloc, words, at)?)),
-        KindWord::Delay => Ok(SaidKind::Delay(read_demand(alloc, words, at)?)),
-        KindWord::Loss => read_loss(alloc, words, at),
-        KindWord::Tandem => read_tandem(alloc, words, at),
-        KindWord::ForkJoin => read_forkjoin(alloc, words, at),
-        KindWord::Split => Ok(SaidKind::Split(read_route(alloc, words, at)?)),
-        KindWord::Fork => read_fork(words, at),
-        KindWord::Trunk => read_trunk(alloc, words, at),
+        KindWord::Server => Ok(SaidKind::Server(read_demand(alloc, words)?)),
+        KindWord::Delay => Ok(SaidKind::Delay(read_demand(alloc, words)?)),
+        KindWord::Loss => read_loss(alloc, words),
+        KindWord::Tandem => read_tandem(alloc, words),
+        KindWord::ForkJoin => read_forkjoin(alloc, words),
+        KindWord::Split => Ok(SaidKind::Split(read_route(alloc, words)?)),
+        KindWord::Fork => read_fork(words),
+        KindWord::Trunk => read_trunk(alloc, words),
     }
 }
 
 /// Reads what stands behind the first word, where the node reads inputs.
-fn read_node(alloc: Global, words: &[&[u8]], at: &mut usize, first: KindWord) -> Result<Said, Stop>
-    ensures reads { Reads result (words_from words.now at.new) (read (node_line (form_of first)) (words_from words.now at.old)) }
-    ensures within { at.old ≤ length words.now → at.new ≤ length words.now }
+fn read_node(alloc: Global, words: &mut &[&[u8]], first: KindWord) -> Result<Said, Stop>
+    ensures { Reads result (texts words.new.now) (read (node_line (form_of first)) (texts words.old.now)) }
 {
-    let name = read_name(alloc, words, at)?;
-    let kind = read_kind(alloc, words, at, first)?;
-    match read_inputs(alloc, words, at) {
+    let name = read_name(alloc, words)?;
+    let kind = read_kind(alloc, words, first)?;
+    match read_inputs(alloc, words) {
         Ok(reads) => Ok(Said::Node { name, kind, reads }),
         // Here and below what is large goes by a call of `drop`, which is proved once for a type.
         Err(stop) => {
@@ -103,20 +94,18 @@ fn read_node(alloc: Global, words: &[&[u8]], at: &mut usize, first: KindWord) ->
 }
 
 /// Reads what stands behind `bound`.
-fn read_bound(words: &[&[u8]], at: &mut usize) -> Result<Said, Stop>
-    ensures reads { Reads result (words_from words.now at.new) (read bound_line (words_from words.now at.old)) }
-    ensures within { at.old ≤ length words.now → at.new ≤ length words.now }
+fn read_bound(words: &mut &[&[u8]]) -> Result<Said, Stop>
+    ensures { Reads result (texts words.new.now) (read bound_line (texts words.old.now)) }
 {
-    let bound = read_within(words, at, 0, 1 << 60)?;
+    let bound = read_within(words, 0, 1 << 60)?;
     Ok(Said::Bound(bound))
 }
 
 /// Reads what stands behind `source`.
-fn read_source(alloc: Global, words: &[&[u8]], at: &mut usize) -> Result<Said, Stop>
-    ensures reads { Reads result (words_from words.now at.new) (read source_line (words_from words.now at.old)) }
-    ensures within { at.old ≤ length words.now → at.new ≤ length words.now }
+fn read_source(alloc: Global, words: &mut &[&[u8]]) -> Result<Said, Stop>
+    ensures { Reads result (texts words.new.now) (read source_line (texts words.old.now)) }
 {
-    let name = read_name(alloc, words, at)?;
+    let name = read_name(alloc, words)?;
     Ok(Said::Node {
         name,
         kind: SaidKind::Source,
@@ -125,12 +114,11 @@ fn read_source(alloc: Global, words: &[&[u8]], at: &mut usize) -> Result<Said, S
 }
 
 /// Reads what stands behind `join`.
-fn read_join(alloc: Global, words: &[&[u8]], at: &mut usize) -> Result<Said, Stop>
-    ensures reads { Reads result (words_from words.now at.new) (read join_line (words_from words.now at.old)) }
-    ensures within { at.old ≤ length words.now → at.new ≤ length words.now }
+fn read_join(alloc: Global, words: &mut &[&[u8]]) -> Result<Said, Stop>
+    ensures { Reads result (texts words.new.now) (read join_line (texts words.old.now)) }
 {
-    let name = read_name(alloc, words, at)?;
-    let reads = read_joined_inputs(alloc, words, at)?;
+    let name = read_name(alloc, words)?;
+    let reads = read_joined_inputs(alloc, words)?;
     Ok(Said::Node {
         name,
         kind: SaidKind::Join,
@@ -140,50 +128,48 @@ fn read_join(alloc: Global, words: &[&[u8]], at: &mut usize) -> Result<Said, Sto
 
 /// Reads a line of version 1 by its first word.
 #[tactic(auto, using(crate::proofs::ReadFacts::choices), unfolding(crate::specs::Lines::first_line))]
-fn read_first(alloc: Global, words: &[&[u8]], at: &mut usize) -> Result<Said, Stop>
-    ensures reads { Reads result (words_from words.now at.new) (read first_line (words_from words.now at.old)) }
-    ensures within { at.old ≤ length words.now → at.new ≤ length words.now }
+fn read_first(alloc: Global, words: &mut &[&[u8]]) -> Result<Said, Stop>
+    ensures { Reads result (texts words.new.now) (read first_line (texts words.old.now)) }
 {
-    let Some(word) = word_at(words, *at) else {
+    let [word, rest @ ..] = *words else {
         return Err(Stop::Word);
     };
     if is_key(b"bound", word) {
-        *at += 1;
-        return read_bound(words, at);
+        *words = rest;
+        return read_bound(words);
     }
     if is_key(b"source", word) {
-        *at += 1;
-        return read_source(alloc, words, at);
+        *words = rest;
+        return read_source(alloc, words);
     }
     let Some(first) = kind_word(word) else {
         return Err(Stop::Word);
     };
-    *at += 1;
-    read_node(alloc, words, at, first)
+    *words = rest;
+    read_node(alloc, words, first)
 }
 
 /// Reads a line by its first word.
 #[tactic(auto, using(crate::proofs::ReadFacts::choices), unfolding(crate::specs::Lines::line))]
-fn read_any(alloc: Global, words: &[&[u8]], at: &mut usize) -> Result<Said, Stop>
-    ensures reads { Reads result (words_from words.now at.new) (read line (words_from words.now at.old)) }
-    ensures within { at.old ≤ length words.now → at.new ≤ length words.now }
+fn read_any(alloc: Global, words: &mut &[&[u8]]) -> Result<Said, Stop>
+    ensures { Reads result (texts words.new.now) (read line (texts words.old.now)) }
 {
-    let Some(word) = word_at(words, *at) else {
+    let [word, rest @ ..] = *words else {
         return Err(Stop::Word);
     };
     if is_key(b"fork", word) {
-        *at += 1;
-        return read_node(alloc, words, at, KindWord::Fork);
+        *words = rest;
+        return read_node(alloc, words, KindWord::Fork);
     }
     if is_key(b"join", word) {
-        *at += 1;
-        return read_join(alloc, words, at);
+        *words = rest;
+        return read_join(alloc, words);
     }
     if is_key(b"trunk", word) {
-        *at += 1;
-        return read_node(alloc, words, at, KindWord::Trunk);
+        *words = rest;
+        return read_node(alloc, words, KindWord::Trunk);
     }
-    read_first(alloc, words, at)
+    read_first(alloc, words)
 }
 
 /// Why a line is none.
@@ -196,18 +182,18 @@ pub enum LineFault {
 
 /// Reads a line.
 pub fn read_line(alloc: Global, words: &[&[u8]]) -> Result<Said, LineFault>
-    ensures { ReadsLine result (words_from words.now 0) (whole (read line (words_from words.now 0))) }
+    ensures { ReadsLine result (texts words.now) (whole (read line (texts words.now))) }
 {
-    let mut at = 0;
-    match read_any(alloc, words, &mut at) {
+    let mut left = words;
+    match read_any(alloc, &mut left) {
         Ok(said) => {
-            if at < words.len() {
+            if !left.is_empty() {
                 drop(said);
-                return Err(LineFault::Word(at + 1));
+                return Err(LineFault::Word(words.len() - left.len() + 1));
             }
             Ok(said)
         }
-        Err(Stop::Word) => Err(LineFault::Word(at + 1)),
+        Err(Stop::Word) => Err(LineFault::Word(words.len() - left.len() + 1)),
         Err(Stop::Memory) => Err(LineFault::Memory),
     }
 }

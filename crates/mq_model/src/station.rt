@@ -1,10 +1,11 @@
 // What stands between the name of a station and its inputs.
-ghost use Rattle.std.specs.Prelude.{◌≡◌, ◌≤◌, IfOk, length};
+ghost use Rattle.std.specs.Prelude.{◌≤◌, IfOk, length};
 ghost use Rattle.mq_model.specs.Form.{read, up_to};
 ghost use Rattle.mq_model.specs.Lines.{a_branch, a_stage, all_branches, branches as further_branches, demand_of, forkjoin_kind, is_demand, loss_kind, trunk_kind, stages as further_stages, stages_behind, tandem_kind};
-ghost use Rattle.mq_model.specs.Reading.{Reads, ReadsMore, words_from};
+ghost use Rattle.mq_base.specs.Text.{texts};
+ghost use Rattle.mq_model.specs.Reading.{Reads, ReadsMore};
 
-use crate::parts::{Stop, read_demand, read_within, word_at};
+use crate::parts::{Stop, read_demand, read_within};
 use crate::said::{SaidDemand, SaidKind, SaidStage};
 use crate::word::{demand_said, is_demand, is_key};
 use mq_base::List;
@@ -14,12 +15,11 @@ use std::alloc::Global;
 const MOST_PLACES: u64 = 1 << 20;
 
 /// Reads the places of a loss station and its demand.
-pub fn read_loss(alloc: Global, words: &[&[u8]], at: &mut usize) -> Result<SaidKind, Stop>
-    ensures reads { Reads result (words_from words.now at.new) (read loss_kind (words_from words.now at.old)) }
-    ensures within { at.old ≤ length words.now → at.new ≤ length words.now }
+pub fn read_loss(alloc: Global, words: &mut &[&[u8]]) -> Result<SaidKind, Stop>
+    ensures { Reads result (texts words.new.now) (read loss_kind (texts words.old.now)) }
 {
-    let places = read_within(words, at, 1, MOST_PLACES)?;
-    let demand = read_demand(alloc, words, at)?;
+    let places = read_within(words, 1, MOST_PLACES)?;
+    let demand = read_demand(alloc, words)?;
     Ok(SaidKind::Loss {
         places: places as u32,
         demand,
@@ -27,12 +27,11 @@ pub fn read_loss(alloc: Global, words: &[&[u8]], at: &mut usize) -> Result<SaidK
 }
 
 /// Reads the servers of a trunk group and its demand.
-pub fn read_trunk(alloc: Global, words: &[&[u8]], at: &mut usize) -> Result<SaidKind, Stop>
-    ensures reads { Reads result (words_from words.now at.new) (read trunk_kind (words_from words.now at.old)) }
-    ensures within { at.old ≤ length words.now → at.new ≤ length words.now }
+pub fn read_trunk(alloc: Global, words: &mut &[&[u8]]) -> Result<SaidKind, Stop>
+    ensures { Reads result (texts words.new.now) (read trunk_kind (texts words.old.now)) }
 {
-    let servers = read_within(words, at, 1, 255)?;
-    let demand = read_demand(alloc, words, at)?;
+    let servers = read_within(words, 1, 255)?;
+    let demand = read_demand(alloc, words)?;
     Ok(SaidKind::Trunk {
         servers: servers as u8,
         demand,
@@ -40,12 +39,11 @@ pub fn read_trunk(alloc: Global, words: &[&[u8]], at: &mut usize) -> Result<Said
 }
 
 /// Reads the places and the demand of a stage behind a slash.
-fn read_stage(alloc: Global, words: &[&[u8]], at: &mut usize) -> Result<SaidStage, Stop>
-    ensures reads { Reads result (words_from words.now at.new) (read a_stage (words_from words.now at.old)) }
-    ensures within { at.old ≤ length words.now → at.new ≤ length words.now }
+fn read_stage(alloc: Global, words: &mut &[&[u8]]) -> Result<SaidStage, Stop>
+    ensures { Reads result (texts words.new.now) (read a_stage (texts words.old.now)) }
 {
-    let places = read_within(words, at, 1, 4)?;
-    let demand = read_demand(alloc, words, at)?;
+    let places = read_within(words, 1, 4)?;
+    let demand = read_demand(alloc, words)?;
     Ok(SaidStage {
         places: places as u8,
         demand,
@@ -53,24 +51,18 @@ fn read_stage(alloc: Global, words: &[&[u8]], at: &mut usize) -> Result<SaidStag
 }
 
 /// Adds the stages at hand, at most 3, each behind a slash; there may be none.
-fn add_stages(
-    alloc: Global,
-    words: &[&[u8]],
-    at: &mut usize,
-    stages: &mut List<SaidStage>,
-) -> Result<(), Stop>
-    ensures reads { ReadsMore result stages.old stages.new (words_from words.now at.new) (read (further_stages 3) (words_from words.now at.old)) }
-    ensures within { at.old ≤ length words.now → at.new ≤ length words.now }
+fn add_stages(alloc: Global, words: &mut &[&[u8]], stages: &mut List<SaidStage>) -> Result<(), Stop>
+    ensures { ReadsMore result stages.old stages.new (texts words.new.now) (read (further_stages 3) (texts words.old.now)) }
 {
     for count in 0..3u8 {
-        let Some(word) = word_at(&*words, *at) else {
+        let [word, rest @ ..] = *words else {
             return Ok(());
         };
         if !is_key(b"/", word) {
             return Ok(());
         }
-        *at += 1;
-        let stage = read_stage(alloc, words, at)?;
+        *words = rest;
+        let stage = read_stage(alloc, words)?;
         stages.push(stage)?;
     }
     Ok(())
@@ -79,19 +71,17 @@ fn add_stages(
 /// Reads 1 to 3 stages behind the first, which has this demand.
 fn read_stages(
     alloc: Global,
-    words: &[&[u8]],
-    at: &mut usize,
+    words: &mut &[&[u8]],
     first: SaidDemand,
 ) -> Result<List<SaidStage>, Stop>
-    ensures reads { Reads result (words_from words.now at.new) (read (stages_behind first) (words_from words.now at.old)) }
-    ensures within { at.old ≤ length words.now → at.new ≤ length words.now }
+    ensures { Reads result (texts words.new.now) (read (stages_behind first) (texts words.old.now)) }
 {
     let mut stages = List::new(alloc);
     stages.push(SaidStage {
         places: 0,
         demand: first,
     })?;
-    add_stages(alloc, words, at, &mut stages)?;
+    add_stages(alloc, words, &mut stages)?;
     if stages.len() < 2 {
         return Err(Stop::Word);
     }
@@ -99,54 +89,41 @@ fn read_stages(
 }
 
 /// Reads the 2 to 4 stages of a tandem.
-pub fn read_tandem(alloc: Global, words: &[&[u8]], at: &mut usize) -> Result<SaidKind, Stop>
-    ensures reads { Reads result (words_from words.now at.new) (read tandem_kind (words_from words.now at.old)) }
-    ensures within { at.old ≤ length words.now → at.new ≤ length words.now }
+pub fn read_tandem(alloc: Global, words: &mut &[&[u8]]) -> Result<SaidKind, Stop>
+    ensures { Reads result (texts words.new.now) (read tandem_kind (texts words.old.now)) }
 {
-    let first = read_demand(alloc, words, at)?;
-    let stages = read_stages(alloc, words, at, first)?;
+    let first = read_demand(alloc, words)?;
+    let stages = read_stages(alloc, words, first)?;
     Ok(SaidKind::Tandem(stages))
 }
 
 /// Reads the demands at hand, at most so many; there may be none.
-fn read_demand_list(
-    alloc: Global,
-    words: &[&[u8]],
-    at: &mut usize,
-    most: u8,
-) -> Result<List<SaidDemand>, Stop>
-    ensures reads { Reads result (words_from words.now at.new) (read (up_to most is_demand demand_of) (words_from words.now at.old)) }
-    ensures within { at.old ≤ length words.now → at.new ≤ length words.now }
+fn read_demand_list(alloc: Global, words: &mut &[&[u8]], most: u8) -> Result<List<SaidDemand>, Stop>
+    ensures reads { Reads result (texts words.new.now) (read (up_to most is_demand demand_of) (texts words.old.now)) }
     ensures few { IfOk result (λ demands. length demands ≤ most) }
 {
     let mut demands = List::new(alloc);
     for count in 0..most {
-        let Some(word) = word_at(&*words, *at) else {
+        let [word, rest @ ..] = *words else {
             return Ok(demands);
         };
         if !is_demand(word) {
             return Ok(demands);
         }
         demands.push(demand_said(alloc, word)?)?;
-        *at += 1;
+        *words = rest;
     }
     Ok(demands)
 }
 
 /// Reads a branch of a fork-join, 1 to 4 demands, where so many are left of the line's 8.
-fn read_branch(
-    alloc: Global,
-    words: &[&[u8]],
-    at: &mut usize,
-    left: u8,
-) -> Result<List<SaidDemand>, Stop>
+fn read_branch(alloc: Global, words: &mut &[&[u8]], left: u8) -> Result<List<SaidDemand>, Stop>
     requires { 1 ≤ left }
-    ensures reads { Reads result (words_from words.now at.new) (read (a_branch left) (words_from words.now at.old)) }
-    ensures within { at.old ≤ length words.now → at.new ≤ length words.now }
+    ensures reads { Reads result (texts words.new.now) (read (a_branch left) (texts words.old.now)) }
     ensures few { IfOk result (λ demands. length demands ≤ left) }
     ensures short { IfOk result (λ demands. length demands ≤ 4) }
 {
-    let demands = read_demand_list(alloc, words, at, left.min(4))?;
+    let demands = read_demand_list(alloc, words, left.min(4))?;
     if demands.is_empty() {
         return Err(Stop::Word);
     }
@@ -157,27 +134,25 @@ fn read_branch(
 /// 8 demands; there may be none.
 fn add_branches(
     alloc: Global,
-    words: &[&[u8]],
-    at: &mut usize,
+    words: &mut &[&[u8]],
     left: u8,
     branches: &mut List<List<SaidDemand>>,
 ) -> Result<(), Stop>
-    ensures reads { ReadsMore result branches.old branches.new (words_from words.now at.new) (read (further_branches 7 left) (words_from words.now at.old)) }
-    ensures within { at.old ≤ length words.now → at.new ≤ length words.now }
+    ensures { ReadsMore result branches.old branches.new (texts words.new.now) (read (further_branches 7 left) (texts words.old.now)) }
 {
     let mut left = left;
     for count in 0..7u8 {
         if left == 0 {
             return Ok(());
         }
-        let Some(word) = word_at(&*words, *at) else {
+        let [word, rest @ ..] = *words else {
             return Ok(());
         };
         if !is_key(b"|", word) {
             return Ok(());
         }
-        *at += 1;
-        let demands = read_branch(alloc, words, at, left)?;
+        *words = rest;
+        let demands = read_branch(alloc, words, left)?;
         left -= demands.len() as u8;
         branches.push(demands)?;
     }
@@ -185,19 +160,14 @@ fn add_branches(
 }
 
 /// Reads 2 to 8 branches with a bar between each two, and at most 8 demands in all.
-fn read_branches(
-    alloc: Global,
-    words: &[&[u8]],
-    at: &mut usize,
-) -> Result<List<List<SaidDemand>>, Stop>
-    ensures reads { Reads result (words_from words.now at.new) (read all_branches (words_from words.now at.old)) }
-    ensures within { at.old ≤ length words.now → at.new ≤ length words.now }
+fn read_branches(alloc: Global, words: &mut &[&[u8]]) -> Result<List<List<SaidDemand>>, Stop>
+    ensures { Reads result (texts words.new.now) (read all_branches (texts words.old.now)) }
 {
-    let first = read_branch(alloc, words, at, 8)?;
+    let first = read_branch(alloc, words, 8)?;
     let left = 8 - first.len() as u8;
     let mut branches = List::new(alloc);
     branches.push(first)?;
-    add_branches(alloc, words, at, left, &mut branches)?;
+    add_branches(alloc, words, left, &mut branches)?;
     if branches.len() < 2 {
         return Err(Stop::Word);
     }
@@ -205,10 +175,9 @@ fn read_branches(
 }
 
 /// Reads the branches of a fork-join.
-pub fn read_forkjoin(alloc: Global, words: &[&[u8]], at: &mut usize) -> Result<SaidKind, Stop>
-    ensures reads { Reads result (words_from words.now at.new) (read forkjoin_kind (words_from words.now at.old)) }
-    ensures within { at.old ≤ length words.now → at.new ≤ length words.now }
+pub fn read_forkjoin(alloc: Global, words: &mut &[&[u8]]) -> Result<SaidKind, Stop>
+    ensures { Reads result (texts words.new.now) (read forkjoin_kind (texts words.old.now)) }
 {
-    let branches = read_branches(alloc, words, at)?;
+    let branches = read_branches(alloc, words)?;
     Ok(SaidKind::ForkJoin(branches))
 }

@@ -2,17 +2,17 @@ use Rattle.std.proofs.Common.{refl}
 use Rattle.std.proofs.lemmas.Result.{err_from_is_err_and}
 use Rattle.mq_model.specs.Form.{read}
 use Rattle.mq_model.specs.Lines.{a_name}
-use Rattle.mq_model.specs.Reading.{words_from}
+use Rattle.mq_base.specs.Text.{texts}
 use Rattle.mq_model.proofs.FormFacts.{read_then}
 use Rattle.mq_model.proofs.ReadFacts.{stops}
 use Rattle.mq_model.proofs.line.read_source.Goals as goal
 
-pub returns-in_err-name-clause-reads : goal.returns-in_err-name-clause-reads
+pub returns-in_err-name : goal.returns-in_err-name
 unfolding read
-returns-in_err-name-clause-reads c =
+returns-in_err-name c =
     let p = err_from_is_err_and c.from_residual.result c.from_residual.ensures.1 in
-    rw (p.1, p.2) (stops c.in_err-name.field-0.0 _ (read a_name (words_from c.args.words.now c.args.at.now)) _ c.in_err-name.ensures.reads (λ l e. rw (read_then, e) refl))
+    rw (p.1, p.2) (stops c.in_err-name.field-0.0 _ (read a_name (texts c.args.words.now.now)) _ c.in_err-name.ensures (λ l e. rw (read_then, e) refl))
 
-pub returns-clause-reads : goal.returns-clause-reads
+pub returns : goal.returns
 unfolding read
-returns-clause-reads c = rw (read_then, c.in_ok-name.ensures.reads, c.new.ensures) refl
+returns c = rw (read_then, c.in_ok-name.ensures, c.new.ensures) refl

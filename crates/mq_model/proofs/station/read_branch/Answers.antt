@@ -2,7 +2,7 @@ use Rattle.std.proofs.Common.{◌∙◌, refl, rules}
 use Rattle.std.proofs.lemmas.Result.{err_from_is_err_and}
 use Rattle.mq_model.specs.Form.{read, up_to}
 use Rattle.mq_model.specs.Lines.{demand_of, is_demand}
-use Rattle.mq_model.specs.Reading.{words_from}
+use Rattle.mq_base.specs.Text.{texts}
 use Rattle.mq_model.proofs.BranchFacts.{branch_by, most_of}
 use Rattle.mq_model.proofs.ReadFacts.{none_is_fault, some_are, stops}
 use Rattle.mq_model.proofs.station.read_branch.Goals as goal
@@ -10,7 +10,7 @@ use Rattle.mq_model.proofs.station.read_branch.Goals as goal
 pub returns-in_err-demands-clause-reads : goal.returns-in_err-demands-clause-reads
 returns-in_err-demands-clause-reads c =
     let p = err_from_is_err_and c.from_residual.result c.from_residual.ensures.1 in
-    rw (p.1, p.2) (stops c.in_err-demands.field-0.0 _ (read (up_to c.min.result is_demand demand_of) (words_from c.args.words.now c.args.at.now)) _ c.in_err-demands.ensures.reads
+    rw (p.1, p.2) (stops c.in_err-demands.field-0.0 _ (read (up_to c.min.result is_demand demand_of) (texts c.args.words.now.now)) _ c.in_err-demands.ensures.reads
     (λ l e. branch_by c.args.left c.min.result _ (c.min.ensures ∙ most_of c.args.left c.requires) ∙ rw e refl))
 
 pub returns-then-is_empty-clause-reads : goal.returns-then-is_empty-clause-reads

@@ -2,29 +2,29 @@ use Rattle.std.proofs.Common.{◌∙◌, ◌-◌, ◌<◌, length, refl, arith}
 use Rattle.std.proofs.lemmas.Result.{err_from_is_err_and}
 use Rattle.mq_model.specs.Form.{read}
 use Rattle.mq_model.specs.Lines.{a_branch, branches}
-use Rattle.mq_model.specs.Reading.{words_from}
+use Rattle.mq_base.specs.Text.{texts}
 use Rattle.mq_model.proofs.BranchFacts.{all_by, all_no_first}
 use Rattle.mq_model.proofs.ReadFacts.{lone, several, stops, stops_behind}
 use Rattle.mq_model.proofs.station.read_branches.Goals as goal
 
-pub returns-in_err-first-clause-reads : goal.returns-in_err-first-clause-reads
-returns-in_err-first-clause-reads c =
+pub returns-in_err-first : goal.returns-in_err-first
+returns-in_err-first c =
     let p = err_from_is_err_and c.from_residual.result c.from_residual.ensures.1 in
-    rw (p.1, p.2) (stops c.in_err-first.field-0.0 _ (read (a_branch 8) (words_from c.args.words.now c.args.at.now)) _ c.in_err-first.ensures.reads (λ l e. all_no_first _ l e))
+    rw (p.1, p.2) (stops c.in_err-first.field-0.0 _ (read (a_branch 8) (texts c.args.words.now.now)) _ c.in_err-first.ensures.reads (λ l e. all_no_first _ l e))
 
-pub returns-in_err-add_branches-clause-reads : goal.returns-in_err-add_branches-clause-reads
-returns-in_err-add_branches-clause-reads c =
+pub returns-in_err-add_branches : goal.returns-in_err-add_branches
+returns-in_err-add_branches c =
     let p = err_from_is_err_and c.from_residual-in_err-add_branches.result c.from_residual-in_err-add_branches.ensures.1 in
     let few : length c.in_ok-first.first < 8 = omega (arith, c.in_ok-first.ensures.short) in
-    rw (p.1, p.2) (stops_behind (Unit {0}) c.in_err-add_branches.field-0.0 _ _ _ (read (branches 7 (8 - c.len.result)) (words_from c.args.words.now c.read_branch.new.at)) _ c.in_err-add_branches.ensures.reads
+    rw (p.1, p.2) (stops_behind (Unit {0}) c.in_err-add_branches.field-0.0 _ _ _ (read (branches 7 (8 - c.len.result)) (texts c.read_branch.new.words.now)) _ c.in_err-add_branches.ensures
     (λ l e. all_by _ _ c.in_ok-first.first few c.in_ok-first.ensures.reads ∙ rw (rw c.len.ensures at e) refl))
 
-pub returns-then-len-lt2-clause-reads : goal.returns-then-len-lt2-clause-reads
-returns-then-len-lt2-clause-reads c =
+pub returns-then-len-lt2 : goal.returns-then-len-lt2
+returns-then-len-lt2 c =
     let few : length c.in_ok-first.first < 8 = omega (arith, c.in_ok-first.ensures.short) in
-    all_by _ _ c.in_ok-first.first few c.in_ok-first.ensures.reads ∙ lone _ _ _ _ (rw (c.len.ensures, c.in_ok-push.ensures.ok, c.new-branches.ensures) at c.in_ok-add_branches.ensures.reads) (omega (arith, c.len.ensures))
+    all_by _ _ c.in_ok-first.first few c.in_ok-first.ensures.reads ∙ lone _ _ _ _ (rw (c.len.ensures, c.in_ok-push.ensures.ok, c.new-branches.ensures) at c.in_ok-add_branches.ensures) (omega (arith, c.len.ensures))
 
-pub returns-clause-reads : goal.returns-clause-reads
-returns-clause-reads c =
+pub returns : goal.returns
+returns c =
     let few : length c.in_ok-first.first < 8 = omega (arith, c.in_ok-first.ensures.short) in
-    all_by _ _ c.in_ok-first.first few c.in_ok-first.ensures.reads ∙ several _ _ _ _ (rw (c.len.ensures, c.in_ok-push.ensures.ok, c.new-branches.ensures) at c.in_ok-add_branches.ensures.reads) (omega (arith, c.len.ensures))
+    all_by _ _ c.in_ok-first.first few c.in_ok-first.ensures.reads ∙ several _ _ _ _ (rw (c.len.ensures, c.in_ok-push.ensures.ok, c.new-branches.ensures) at c.in_ok-add_branches.ensures) (omega (arith, c.len.ensures))
