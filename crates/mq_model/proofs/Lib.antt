@@ -33,3 +33,4 @@ pub mod InputFacts
 pub mod CanonicalFacts
 pub mod SpacedWords
 pub mod ReadModel
+pub mod WordFacts

@@ -1,6 +1,6 @@
 -- Words with a space between each two, and words behind a space each.
-use Rattle.std.proofs.Common.{◌≡◌, ◌∙◌, sym, ap, refl, ℕ, List, [], ◌∷◌, ◌++◌, map, Result, Ok, Err, append_assoc, append-nil}
-use Rattle.std.specs.Prelude.{OnOk, codes, decimal}
+use Rattle.std.proofs.Common.{◌≡◌, ◌∙◌, sym, ap, refl, ℕ, List, [], ◌∷◌, ◌++◌, map, append_assoc, append-nil}
+use Rattle.std.specs.Prelude.{codes, decimal}
 use Rattle.std.specs.List.{flat_map, join_with_byte}
 use Rattle.mq_core.specs.declared.model.Network.{Network}
 use Rattle.mq_model.specs.Form.{Word}
@@ -16,10 +16,6 @@ joined w (v ∷ ws) = ap (λ l. w ++ 32 ∷ l) (joined v ws)
 pub spaced_more : (ws more : List Word) → spaced (ws ++ more) ≡ spaced ws ++ spaced more
 spaced_more [] more = refl
 spaced_more (w ∷ ws) more = ap (λ l. 32 ∷ w ++ l) (spaced_more ws more) ∙ sym (append_assoc (32 ∷ w) (spaced ws) (spaced more))
-
-pub on_ok : {T E P Q : Type 0} (r : Result T E) → (P → Q) → OnOk r P → OnOk r Q
-on_ok (Ok x) f h = f h
-on_ok (Err e) f h = h
 
 -- What a text is after the words of a node's line, where they are added part by part.
 pub node_text : (old first name start named kinded end : List ℕ) (kind reads : List Word) → start ≡ old ++ first → named ≡ start ++ 32 ∷ name → kinded ≡ named ++ spaced kind → end ≡ kinded ++ spaced reads

@@ -7,7 +7,7 @@ ghost use Rattle.mq_model.specs.Front.{AddsLine, added_fault, grammar_fault, nam
 ghost use Rattle.mq_model.specs.Head.{begins_comment, is_head, is_version, version_said};
 ghost use Rattle.mq_model.specs.Lines.{line};
 ghost use Rattle.mq_model.specs.Model.{Tells, begins_bound, begins_later, is_allowed, is_barred};
-ghost use Rattle.mq_model.specs.Said.{added, columns_after, declared, is_among, mentioned, mentions_of_demand, mentions_of_kind, mentions_of_route};
+ghost use Rattle.mq_model.specs.Said.{added, columns_after, declared, is_among, mentioned, mentions_of_demand};
 
 use crate::fault::ModelFault;
 use crate::line::{LineFault, read_line};
@@ -55,13 +55,13 @@ fn all_allowed(line: &[u8]) -> bool
 fn begins_comment(words: &[&[u8]]) -> bool
     ensures { result ≡ begins_comment (texts words.now) }
 {
-    let Some(word) = words.first() else {
+    let [word, ..] = words else {
         return true;
     };
-    match word.first() {
-        Some(byte) => *byte == b'#',
-        None => false,
-    }
+    let [first, ..] = *word else {
+        return false;
+    };
+    *first == b'#'
 }
 
 /// Whether a word is the number of a version.
@@ -111,7 +111,7 @@ fn begins_bound(words: &[&[u8]]) -> bool
 fn begins_later(words: &[&[u8]]) -> bool
     ensures { result ≡ begins_later (texts words.now) }
 {
-    let Some(word) = words.first() else {
+    let [word, ..] = words else {
         return false;
     };
     if is_key(b"fork", word) {
@@ -231,40 +231,6 @@ fn add_of_branches(
     Ok(())
 }
 
-fn add_of_route(
-    alloc: Global,
-    route: &SaidRoute,
-    columns: &mut List<List<u8>>,
-) -> Result<(), OutOfMemory>
-    ensures { IfOk result (λ _. columns.new ≡ columns_after columns.old (mentions_of_route route.now)) }
-{
-    match route {
-        SaidRoute::Modulo { column, .. } | SaidRoute::Cut { column, .. } => add_column(
-            alloc, column, columns,
-        ),
-        SaidRoute::Turn { .. } => Ok(()),
-    }
-}
-
-fn add_of_kind(
-    alloc: Global,
-    kind: &SaidKind,
-    columns: &mut List<List<u8>>,
-) -> Result<(), OutOfMemory>
-    ensures { IfOk result (λ _. columns.new ≡ columns_after columns.old (mentions_of_kind kind.now)) }
-{
-    match kind {
-        SaidKind::Source => Ok(()),
-        SaidKind::Server(demand) | SaidKind::Delay(demand) | SaidKind::Loss { demand, .. } =>
-            add_of_demand(alloc, demand, columns),
-        SaidKind::Tandem(stages) => add_of_stages(alloc, stages.as_slice(), columns),
-        SaidKind::ForkJoin(branches) => add_of_branches(alloc, branches.as_slice(), columns),
-        SaidKind::Split(route) => add_of_route(alloc, route, columns),
-        SaidKind::Fork { .. } | SaidKind::Join => Ok(()),
-        SaidKind::Trunk { demand, .. } => add_of_demand(alloc, demand, columns),
-    }
-}
-
 /// Adds the columns that a line mentions.
 fn add_columns(alloc: Global, said: &Said, columns: &mut List<List<u8>>) -> Result<(), OutOfMemory>
     ensures { IfOk result (λ _. columns.new ≡ columns_after columns.old (mentioned said.now)) }
@@ -272,7 +238,18 @@ fn add_columns(alloc: Global, said: &Said, columns: &mut List<List<u8>>) -> Resu
     let Said::Node { kind, .. } = said else {
         return Ok(());
     };
-    add_of_kind(alloc, kind, columns)
+    match kind {
+        SaidKind::Source | SaidKind::Fork { .. } | SaidKind::Join => Ok(()),
+        SaidKind::Server(demand)
+        | SaidKind::Delay(demand)
+        | SaidKind::Loss { demand, .. }
+        | SaidKind::Trunk { demand, .. } => add_of_demand(alloc, demand, columns),
+        SaidKind::Tandem(stages) => add_of_stages(alloc, stages.as_slice(), columns),
+        SaidKind::ForkJoin(branches) => add_of_branches(alloc, branches.as_slice(), columns),
+        SaidKind::Split(SaidRoute::Modulo { column, .. })
+        | SaidKind::Split(SaidRoute::Cut { column, .. }) => add_column(alloc, column, columns),
+        SaidKind::Split(SaidRoute::Turn { .. }) => Ok(()),
+    }
 }
 
 /// What the words of a line say.

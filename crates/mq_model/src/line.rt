@@ -1,7 +1,7 @@
 // A line, by its first word.
 ghost use Rattle.std.specs.Prelude.{◌≡◌, ◌∷◌, List, Err, MatchOption};
 ghost use Rattle.mq_model.specs.Form.{Word, read, whole};
-ghost use Rattle.mq_model.specs.Lines.{bound_line, first_line, fork_kind, join_line, kind_line, line, node_line, source_line};
+ghost use Rattle.mq_model.specs.Lines.{first_line, fork_kind, join_line, kind_line, line, node_line, source_line};
 ghost use Rattle.mq_base.specs.Text.{texts};
 ghost use Rattle.mq_model.specs.Reading.{Reads, ReadsLine, form_of};
 
@@ -93,14 +93,6 @@ fn read_node(alloc: Global, words: &mut &[&[u8]], first: KindWord) -> Result<Sai
     }
 }
 
-/// Reads what stands behind `bound`.
-fn read_bound(words: &mut &[&[u8]]) -> Result<Said, Stop>
-    ensures { Reads result (texts words.new.now) (read bound_line (texts words.old.now)) }
-{
-    let bound = read_within(words, 0, 1 << 60)?;
-    Ok(Said::Bound(bound))
-}
-
 /// Reads what stands behind `source`.
 fn read_source(alloc: Global, words: &mut &[&[u8]]) -> Result<Said, Stop>
     ensures { Reads result (texts words.new.now) (read source_line (texts words.old.now)) }
@@ -136,7 +128,7 @@ fn read_first(alloc: Global, words: &mut &[&[u8]]) -> Result<Said, Stop>
     };
     if is_key(b"bound", word) {
         *words = rest;
-        return read_bound(words);
+        return Ok(Said::Bound(read_within(words, 0, 1 << 60)?));
     }
     if is_key(b"source", word) {
         *words = rest;

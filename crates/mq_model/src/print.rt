@@ -1,6 +1,6 @@
 // The canonical text of a plan.
 ghost use Rattle.std.specs.Prelude.{◌≡◌, ◌∷◌, ◌++◌, [], IfOk, List, OnOk, codes, decimal, map};
-ghost use Rattle.std.specs.List.{flat_map, join_with_byte};
+ghost use Rattle.std.specs.List.{flat_map};
 ghost use Rattle.mq_model.specs.Form.{Word};
 ghost use Rattle.mq_model.specs.Printed.{barred_words, branches_words, demand_word, first_word, input_word, inputs_words, kind_words, line_text, printed, reads_words, route_words, said_words, spaced, stage_words, stages_words};
 ghost use Rattle.mq_model.specs.SaidOf.{demand_by, input_by, kind_by, name_at, names_in, node_by, route_by, stage_by};
@@ -242,20 +242,14 @@ fn push_reads(text: &mut Vec<u8>, net: &Network, node: &Node) -> Result<(), OutO
     }
 }
 
-/// Adds the words of a node's line.
-fn push_node_words(text: &mut Vec<u8>, net: &Network, node: &Node) -> Result<(), OutOfMemory>
-    ensures { OnOk result (text.new.items ≡ text.old.items ++ join_with_byte 32 (said_words (node_by (names_in net.now) net.now.columns node.now))) }
+/// Adds a node's line.
+fn push_node(text: &mut Vec<u8>, net: &Network, node: &Node) -> Result<(), OutOfMemory>
+    ensures { OnOk result (text.new.items ≡ text.old.items ++ line_text (said_words (node_by (names_in net.now) net.now.columns node.now))) }
 {
     text.extend_from_slice(first_word(&node.kind))?;
     push_word(text, node.name.as_slice())?;
     push_kind(text, net, &node.kind)?;
-    push_reads(text, net, node)
-}
-
-fn push_node(text: &mut Vec<u8>, net: &Network, node: &Node) -> Result<(), OutOfMemory>
-    ensures { OnOk result (text.new.items ≡ text.old.items ++ line_text (said_words (node_by (names_in net.now) net.now.columns node.now))) }
-{
-    push_node_words(text, net, node)?;
+    push_reads(text, net, node)?;
     text.push(b'\n')?;
     Ok(())
 }

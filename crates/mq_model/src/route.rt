@@ -1,7 +1,7 @@
 // The route of a split.
 ghost use Rattle.std.specs.Prelude.{◌≡◌, MatchOption, false, true};
 ghost use Rattle.mq_model.specs.Form.{read};
-ghost use Rattle.mq_model.specs.Lines.{a_route, counted_route, cut_route, is_above, modulo_route, rising, thresholds, value_of, way_of};
+ghost use Rattle.mq_model.specs.Lines.{a_route, counted_route, cut_route, is_above, rising, thresholds, value_of, way_of};
 ghost use Rattle.mq_base.specs.Text.{texts};
 ghost use Rattle.mq_model.specs.Reading.{Reads, ReadsMore};
 
@@ -64,14 +64,6 @@ fn read_cut(alloc: Global, words: &mut &[&[u8]]) -> Result<SaidRoute, Stop>
     Ok(SaidRoute::Cut { column, thresholds })
 }
 
-/// Reads what stands behind `mod`.
-fn read_modulo(alloc: Global, words: &mut &[&[u8]], outputs: u8) -> Result<SaidRoute, Stop>
-    ensures { Reads result (texts words.new.now) (read (modulo_route outputs) (texts words.old.now)) }
-{
-    let column = read_name(alloc, words)?;
-    Ok(SaidRoute::Modulo { outputs, column })
-}
-
 /// Reads what stands behind the number of outputs.
 #[tactic(auto, using(crate::proofs::ReadFacts::choices), unfolding(crate::specs::Lines::way_of))]
 fn read_way(alloc: Global, words: &mut &[&[u8]], outputs: u8) -> Result<SaidRoute, Stop>
@@ -82,7 +74,8 @@ fn read_way(alloc: Global, words: &mut &[&[u8]], outputs: u8) -> Result<SaidRout
     };
     if is_key(b"mod", word) {
         *words = rest;
-        return read_modulo(alloc, words, outputs);
+        let column = read_name(alloc, words)?;
+        return Ok(SaidRoute::Modulo { outputs, column });
     }
     if is_key(b"turn", word) {
         *words = rest;

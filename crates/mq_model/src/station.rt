@@ -1,7 +1,7 @@
 // What stands between the name of a station and its inputs.
 ghost use Rattle.std.specs.Prelude.{◌≤◌, IfOk, length};
 ghost use Rattle.mq_model.specs.Form.{read, up_to};
-ghost use Rattle.mq_model.specs.Lines.{a_branch, a_stage, all_branches, branches as further_branches, demand_of, forkjoin_kind, is_demand, loss_kind, trunk_kind, stages as further_stages, stages_behind, tandem_kind};
+ghost use Rattle.mq_model.specs.Lines.{a_branch, a_stage, branches as further_branches, demand_of, forkjoin_kind, is_demand, loss_kind, trunk_kind, stages as further_stages, tandem_kind};
 ghost use Rattle.mq_base.specs.Text.{texts};
 ghost use Rattle.mq_model.specs.Reading.{Reads, ReadsMore};
 
@@ -68,14 +68,11 @@ fn add_stages(alloc: Global, words: &mut &[&[u8]], stages: &mut List<SaidStage>)
     Ok(())
 }
 
-/// Reads 1 to 3 stages behind the first, which has this demand.
-fn read_stages(
-    alloc: Global,
-    words: &mut &[&[u8]],
-    first: SaidDemand,
-) -> Result<List<SaidStage>, Stop>
-    ensures { Reads result (texts words.new.now) (read (stages_behind first) (texts words.old.now)) }
+/// Reads the 2 to 4 stages of a tandem.
+pub fn read_tandem(alloc: Global, words: &mut &[&[u8]]) -> Result<SaidKind, Stop>
+    ensures { Reads result (texts words.new.now) (read tandem_kind (texts words.old.now)) }
 {
+    let first = read_demand(alloc, words)?;
     let mut stages = List::new(alloc);
     stages.push(SaidStage {
         places: 0,
@@ -85,15 +82,6 @@ fn read_stages(
     if stages.len() < 2 {
         return Err(Stop::Word);
     }
-    Ok(stages)
-}
-
-/// Reads the 2 to 4 stages of a tandem.
-pub fn read_tandem(alloc: Global, words: &mut &[&[u8]]) -> Result<SaidKind, Stop>
-    ensures { Reads result (texts words.new.now) (read tandem_kind (texts words.old.now)) }
-{
-    let first = read_demand(alloc, words)?;
-    let stages = read_stages(alloc, words, first)?;
     Ok(SaidKind::Tandem(stages))
 }
 
@@ -159,9 +147,9 @@ fn add_branches(
     Ok(())
 }
 
-/// Reads 2 to 8 branches with a bar between each two, and at most 8 demands in all.
-fn read_branches(alloc: Global, words: &mut &[&[u8]]) -> Result<List<List<SaidDemand>>, Stop>
-    ensures { Reads result (texts words.new.now) (read all_branches (texts words.old.now)) }
+/// Reads the 2 to 8 branches of a fork-join, with a bar between each two, and at most 8 demands in all.
+pub fn read_forkjoin(alloc: Global, words: &mut &[&[u8]]) -> Result<SaidKind, Stop>
+    ensures { Reads result (texts words.new.now) (read forkjoin_kind (texts words.old.now)) }
 {
     let first = read_branch(alloc, words, 8)?;
     let left = 8 - first.len() as u8;
@@ -171,13 +159,5 @@ fn read_branches(alloc: Global, words: &mut &[&[u8]]) -> Result<List<List<SaidDe
     if branches.len() < 2 {
         return Err(Stop::Word);
     }
-    Ok(branches)
-}
-
-/// Reads the branches of a fork-join.
-pub fn read_forkjoin(alloc: Global, words: &mut &[&[u8]]) -> Result<SaidKind, Stop>
-    ensures { Reads result (texts words.new.now) (read forkjoin_kind (texts words.old.now)) }
-{
-    let branches = read_branches(alloc, words)?;
     Ok(SaidKind::ForkJoin(branches))
 }
