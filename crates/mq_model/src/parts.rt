@@ -3,7 +3,7 @@ ghost use Rattle.std.specs.Prelude.{◌≡◌, ◌<◌, ◌≤◌, IfOk};
 ghost use Rattle.mq_model.specs.Form.{one, read, up_to};
 ghost use Rattle.mq_model.specs.Lines.{a_demand, a_name, input_of, inputs, is_from_to, is_input, joined_inputs, key, value_of};
 ghost use Rattle.mq_base.specs.Text.{texts};
-ghost use Rattle.mq_model.specs.Reading.{Reads};
+ghost use Rattle.mq_model.specs.Reading.{Reads, ReadsMore};
 
 use crate::said::{SaidDemand, SaidInput};
 use crate::word::{copied, demand_said, input_said, is_demand, is_input, is_key, is_name};
@@ -106,23 +106,21 @@ pub fn read_within(words: &mut &[&[u8]], least: u64, most: u64) -> Result<u64, S
     Ok(number)
 }
 
-/// Reads the inputs at hand, at most 8; there may be none.
-#[tactic(auto, using(crate::proofs::ReadFacts::reading))]
-fn read_input_list(alloc: Global, words: &mut &[&[u8]]) -> Result<List<SaidInput>, Stop>
-    ensures { Reads result (texts words.new.now) (read (up_to 8 is_input input_of) (texts words.old.now)) }
+/// Adds the inputs at hand, at most 8; there may be none.
+fn add_inputs(alloc: Global, words: &mut &[&[u8]], reads: &mut List<SaidInput>) -> Result<(), Stop>
+    ensures { ReadsMore result reads.old reads.new (texts words.new.now) (read (up_to 8 is_input input_of) (texts words.old.now)) }
 {
-    let mut reads = List::new(alloc);
     for count in 0..8u8 {
         let [word, rest @ ..] = *words else {
-            return Ok(reads);
+            return Ok(());
         };
         if !is_input(word) {
-            return Ok(reads);
+            return Ok(());
         }
         reads.push(input_said(alloc, word)?)?;
         *words = rest;
     }
-    Ok(reads)
+    Ok(())
 }
 
 /// Reads the inputs that end a line.
@@ -130,7 +128,8 @@ pub fn read_inputs(alloc: Global, words: &mut &[&[u8]]) -> Result<List<SaidInput
     ensures { Reads result (texts words.new.now) (read inputs (texts words.old.now)) }
 {
     read_key(words, b"from")?;
-    let reads = read_input_list(alloc, words)?;
+    let mut reads = List::new(alloc);
+    add_inputs(alloc, words, &mut reads)?;
     if reads.is_empty() {
         return Err(Stop::Word);
     }

@@ -1,5 +1,5 @@
 // What stands between the name of a station and its inputs.
-ghost use Rattle.std.specs.Prelude.{◌≤◌, IfOk, length};
+ghost use Rattle.std.specs.Prelude.{◌+◌, ◌≤◌, IfOk, length};
 ghost use Rattle.mq_model.specs.Form.{read, up_to};
 ghost use Rattle.mq_model.specs.Lines.{a_branch, a_stage, branches as further_branches, demand_of, forkjoin_kind, is_demand, loss_kind, trunk_kind, stages as further_stages, tandem_kind};
 ghost use Rattle.mq_base.specs.Text.{texts};
@@ -85,23 +85,27 @@ pub fn read_tandem(alloc: Global, words: &mut &[&[u8]]) -> Result<SaidKind, Stop
     Ok(SaidKind::Tandem(stages))
 }
 
-/// Reads the demands at hand, at most so many; there may be none.
-fn read_demand_list(alloc: Global, words: &mut &[&[u8]], most: u8) -> Result<List<SaidDemand>, Stop>
-    ensures reads { Reads result (texts words.new.now) (read (up_to most is_demand demand_of) (texts words.old.now)) }
-    ensures few { IfOk result (λ demands. length demands ≤ most) }
+/// Adds the demands at hand, at most so many; there may be none.
+fn add_demands(
+    alloc: Global,
+    words: &mut &[&[u8]],
+    most: u8,
+    demands: &mut List<SaidDemand>,
+) -> Result<(), Stop>
+    ensures reads { ReadsMore result demands.old demands.new (texts words.new.now) (read (up_to most is_demand demand_of) (texts words.old.now)) }
+    ensures few { IfOk result (λ _. length demands.new ≤ length demands.old + most) }
 {
-    let mut demands = List::new(alloc);
     for count in 0..most {
         let [word, rest @ ..] = *words else {
-            return Ok(demands);
+            return Ok(());
         };
         if !is_demand(word) {
-            return Ok(demands);
+            return Ok(());
         }
         demands.push(demand_said(alloc, word)?)?;
         *words = rest;
     }
-    Ok(demands)
+    Ok(())
 }
 
 /// Reads a branch of a fork-join, 1 to 4 demands, where so many are left of the line's 8.
@@ -111,7 +115,8 @@ fn read_branch(alloc: Global, words: &mut &[&[u8]], left: u8) -> Result<List<Sai
     ensures few { IfOk result (λ demands. length demands ≤ left) }
     ensures short { IfOk result (λ demands. length demands ≤ 4) }
 {
-    let demands = read_demand_list(alloc, words, left.min(4))?;
+    let mut demands = List::new(alloc);
+    add_demands(alloc, words, left.min(4), &mut demands)?;
     if demands.is_empty() {
         return Err(Stop::Word);
     }

@@ -1,12 +1,7 @@
 use Rattle.std.proofs.Common.{sym, ◌≡◌, ◌∙◌, refl, arith, ◌-◌, ◌+◌, append-nil}
-use Rattle.mq_model.specs.Form.{read, up_to}
 use Rattle.mq_model.specs.Lines.{input_of, is_input}
-use Rattle.mq_base.specs.Text.{texts}
-use Rattle.mq_model.proofs.ReadFacts.{front_of_none, up_to_no, up_to_none, up_to_yes, up_to_zero, with_front_twice, words_end, words_first}
-use Rattle.mq_model.proofs.parts.read_input_list.Goals as goal
-
-pub loop-count-init : goal.loop-count-init
-loop-count-init c = rw c.new-reads.ensures (front_of_none (read (up_to 8 is_input input_of) (texts c.args.words.now.now)))
+use Rattle.mq_model.proofs.ReadFacts.{up_to_no, up_to_none, up_to_yes, up_to_zero, with_front_twice, words_end, words_first}
+use Rattle.mq_model.proofs.parts.add_inputs.Goals as goal
 
 pub returns-in_default : goal.returns-in_default
 returns-in_default c =

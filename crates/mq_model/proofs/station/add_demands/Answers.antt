@@ -1,14 +1,12 @@
 use Rattle.std.proofs.Common.{◌≡◌, ◌∙◌, ◌-◌, ◌+◌, [], ◌∷◌, sym, refl, arith, append-nil, length-append}
-use Rattle.mq_model.specs.Form.{read, up_to}
 use Rattle.mq_model.specs.Lines.{demand_of, is_demand}
-use Rattle.mq_base.specs.Text.{texts}
-use Rattle.mq_model.proofs.ReadFacts.{front_of_none, up_to_no, up_to_none, up_to_yes, up_to_zero, with_front_twice, words_end, words_first}
-use Rattle.mq_model.proofs.station.read_demand_list.Goals as goal
+use Rattle.mq_model.proofs.ReadFacts.{up_to_no, up_to_none, up_to_yes, up_to_zero, with_front_twice, words_end, words_first}
+use Rattle.mq_model.proofs.station.add_demands.Goals as goal
 
 pub loop-count-init : goal.loop-count-init
 loop-count-init c =
     let same : c.args.most - 0 ≡ c.args.most = omega arith in
-    record { reads = rw (same, c.new-demands.ensures) (front_of_none (read (up_to c.args.most is_demand demand_of) (texts c.args.words.now.now))); few = rw c.new-demands.ensures (omega arith) }
+    record { reads = rw same refl; few = omega arith }
 
 pub returns-in_default-clause-reads : goal.returns-in_default-clause-reads
 returns-in_default-clause-reads c =
