@@ -1,5 +1,5 @@
 -- The counts of waits, node by node and piece by piece.
-use Rattle.std.proofs.Common.{◌≡◌, ℕ, ◌+◌, ◌*◌, ◌^◌, ◌<◌, ◌≤◌, ◌++◌, Bool, true, false, cond, List, [], ◌∷◌, Some, None, Option, length, length-append, sym, subst, ap, ◌∙◌, arith}
+use Rattle.std.proofs.Common.{◌≡◌, ℕ, ◌+◌, ◌*◌, ◌^◌, ◌<◌, ◌≤◌, ◌++◌, Bool, true, false, cond, List, [], ◌∷◌, Some, None, Option, length, length-append, refl, sym, subst, ap, ◌∙◌, arith}
 use Rattle.std.specs.Prelude.{slice_get, ◌==◌, IfSome}
 use Rattle.std.proofs.lemmas.Bool.Decides.{nat_tests}
 use Rattle.std.specs.List.{AllByRecursion as Each}
@@ -90,6 +90,13 @@ pub waits-of : (plan : Plan) (rows : Rows) (v : ℕ) (declared : Node) (its : No
     waits_at its.rows.now its.kind.now its.visits.now ≡ waits_at rows declared.kind (visits_of declared.kind ((run_of plan rows).stations v)) → AreWaitsAt plan rows v its
 waits-of plan rows v declared its here e node there = e ∙ ap (λ (n : Node). waits_at rows n.kind (visits_of n.kind ((run_of plan rows).stations v))) (some_inj declared node (sym here ∙ there))
 
+-- the visits to no node, and to all nodes
+pub waits-none : (plan : Plan) (rows : Rows) (all : List NodeWaits) → all ≡ [] → AreNodeWaits plan rows 0 all
+waits-none plan rows all none = rw none (record { len = refl; waited = tt; each = λ v its here. absurd cc })
+
+pub waits-all : (plan : Plan) (rows : Rows) (count : ℕ) (all all' : List NodeWaits) → AreNodeWaits plan rows count all → count ≡ length plan.net.nodes → all' ≡ all → AreNodeWaits plan rows (length plan.net.nodes) all'
+waits-all plan rows count all all' so_far e same = rw same (subst (λ n. AreNodeWaits plan rows n all) e so_far)
+
 -- the visits to one node more
 pub waits-more : (plan : Plan) (rows : Rows) (v : ℕ) (all all' : List NodeWaits) (its : NodeWaits) → AreNodeWaits plan rows v all → IsWaited its → AreWaitsAt plan rows v its → all' ≡ all ++ its ∷ [] → AreNodeWaits plan rows (v + 1) all'
 waits-more plan rows v all all' its so_far waited at grown =
@@ -106,6 +113,13 @@ waits-more plan rows v all all' its so_far waited at grown =
 pub counted-at : (plan : Plan) (rows : Rows) (v : ℕ) (its : NodeWaits) (tail : Option Percentiles) → AreWaitsAt plan rows v its → IfSome tail (ArePercentiles (waits_at its.rows.now its.kind.now its.visits.now)) → IfSome tail (IsTailAt plan rows v)
 counted-at plan rows v its None at h = tt
 counted-at plan rows v its (Some tail) at h = λ node there. subst (λ (waits : List ℕ). ArePercentiles waits tail) (at node there) h
+
+-- no node, and all nodes
+pub counted-none : (plan : Plan) (rows : Rows) (counted : List (Option Percentiles)) → counted ≡ [] → AreCounted plan rows 0 counted
+counted-none plan rows counted none = rw none (record { len = refl; each = λ v tail here. absurd cc })
+
+pub counted-all : (plan : Plan) (rows : Rows) (count : ℕ) (counted : List (Option Percentiles)) → AreCounted plan rows count counted → count ≡ length plan.net.nodes → AreCounted plan rows (length plan.net.nodes) counted
+counted-all plan rows count counted so_far e = subst (λ n. AreCounted plan rows n counted) e so_far
 
 -- one node more
 pub counted-more : (plan : Plan) (rows : Rows) (v : ℕ) (counted counted' : List (Option Percentiles)) (tail : Option Percentiles) → AreCounted plan rows v counted → IfSome tail (IsTailAt plan rows v) → counted' ≡ counted ++ tail ∷ [] → AreCounted plan rows (v + 1) counted'

@@ -44,6 +44,10 @@ among-all P count xs b x all here =
     let len = all.len in
     subst (P b) (get_or_from_slice_get xs b x x here) (all.each b x (subst (λ (n : ℕ). b < n) len inside))
 
+-- no item
+pub all-none : {X : Type 0} (P : ℕ → X → Type 0) (xs : List X) → xs ≡ [] → AreAll P 0 xs
+all-none P xs none = rw none (record { len = refl; each = λ b d low. absurd (omega arith) })
+
 -- one item more
 pub all-more : {X : Type 0} (P : ℕ → X → Type 0) (count : ℕ) (xs xs' : List X) (x : X) → AreAll P count xs → P count x → xs' ≡ xs ++ x ∷ [] → AreAll P (count + 1) xs'
 all-more P count xs xs' x all at grown =
@@ -115,6 +119,13 @@ pub visits-at : (plan : Plan) (rows : Rows) (v : ℕ) (declared : Node) (its : N
     sequence_totals its.rows.now its.kind.now its.visits.now its.span ≡ totals_of rows declared.kind ((run_of plan rows).stations v) → AreVisitsAt plan rows v its
 visits-at plan rows v declared its here e node there = e ∙ ap (λ (n : Node). totals_of rows n.kind ((run_of plan rows).stations v)) (some_inj declared node (sym here ∙ there))
 
+-- the visits to no node, and to all nodes
+pub visits-none : (plan : Plan) (rows : Rows) (all : List NodeVisits) → all ≡ [] → AreNodeVisits plan rows 0 all
+visits-none plan rows all none = rw none (record { len = refl; visited = tt; each = λ v its here. absurd cc })
+
+pub visits-all : (plan : Plan) (rows : Rows) (count : ℕ) (all : List NodeVisits) → AreNodeVisits plan rows count all → count ≡ length plan.net.nodes → AreNodeVisits plan rows (length plan.net.nodes) all
+visits-all plan rows count all so_far e = subst (λ n. AreNodeVisits plan rows n all) e so_far
+
 -- the visits to one node more
 pub visits-more : (plan : Plan) (rows : Rows) (v : ℕ) (all all' : List NodeVisits) (its : NodeVisits) → AreNodeVisits plan rows v all → IsVisited its → AreVisitsAt plan rows v its → all' ≡ all ++ its ∷ [] → AreNodeVisits plan rows (v + 1) all'
 visits-more plan rows v all all' its so_far visited at grown =
@@ -131,6 +142,9 @@ visits-more plan rows v all all' its so_far visited at grown =
 pub record AreTotalsTo (plan : Plan) (rows : Rows) (count : ℕ) (totals : List NodeTotals) : Type 0 where
   pub len : length totals ≡ count
   pub each : (v : ℕ) (its : NodeTotals) → slice_get totals v ≡ Some its → IsTotalsAt plan rows v its
+
+pub totals-none : (plan : Plan) (rows : Rows) (totals : List NodeTotals) → totals ≡ [] → AreTotalsTo plan rows 0 totals
+totals-none plan rows totals none = rw none (record { len = refl; each = λ v its here. absurd cc })
 
 -- those of a node, of all its visits
 pub totals-at : (plan : Plan) (rows : Rows) (v : ℕ) (node : NodeVisits) (its : NodeTotals) → AreVisitsAt plan rows v node → totals_from its ≡ sequence_totals node.rows.now node.kind.now node.visits.now node.span → its.busy < 2 ^ 100 → IsTotalsAt plan rows v its

@@ -1,5 +1,5 @@
 use Rattle.std.proofs.Common.{arith}
-use Rattle.mq_report.proofs.CountedTails.{waits-more, waits-of}
+use Rattle.mq_report.proofs.CountedTails.{waits-all, waits-more, waits-none, waits-of}
 use Rattle.mq_report.proofs.tail_pieces.waits_by_node.Goals as goal
 
 pub push_reserved-requires : goal.push_reserved-requires
@@ -11,3 +11,12 @@ loop-node-preserved c = record {
   so_far = waits-more c.args.known.now.plan.now c.args.known.now.rows.now c.loop-node.node c.loop-node.all.items _ c.waits_of_node.result c.loop-node.invariant.so_far c.waits_of_node.ensures.waited
       (waits-of c.args.known.now.plan.now c.args.known.now.rows.now c.loop-node.node c.get-declared.result.now c.waits_of_node.result c.get-declared.ensures c.waits_of_node.ensures.waits) c.push_reserved.ensures.items;
 }
+
+pub loop-node-init : goal.loop-node-init
+loop-node-init c = record {
+  room = omega (arith, c.in_ok-all.ensures.capacity);
+  so_far = waits-none c.args.known.now.plan.now c.args.known.now.rows.now _ c.in_ok-all.ensures.items;
+}
+
+pub returns : goal.returns
+returns c = waits-all c.args.known.now.plan.now c.args.known.now.rows.now c.loop-node.node c.loop-node.all.items c.from_vec.result c.loop-node.invariant.so_far (omega arith) c.from_vec.ensures

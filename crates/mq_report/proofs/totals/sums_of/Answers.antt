@@ -1,5 +1,5 @@
 use Rattle.std.proofs.Common.{arith}
-use Rattle.mq_report.proofs.NodeTotals.{totals-all, totals-at, totals-more}
+use Rattle.mq_report.proofs.NodeTotals.{totals-all, totals-at, totals-more, totals-none}
 use Rattle.mq_report.proofs.totals.sums_of.Goals as goal
 
 pub loop-node-preserved : goal.loop-node-preserved
@@ -10,3 +10,6 @@ loop-node-preserved c =
 
 pub returns : goal.returns
 returns c = totals-all c.args.plan.now c.args.rows.now c.loop-node.node c.loop-node.totals c.loop-node.invariant (omega arith)
+
+pub loop-node-init : goal.loop-node-init
+loop-node-init c = totals-none c.args.plan.now c.args.rows.now _ c.new-totals.ensures
