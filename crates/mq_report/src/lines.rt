@@ -1,7 +1,7 @@
 // The lines of a report.
 ghost use Rattle.std.specs.Prelude.{◌≡◌, ◌≤◌, ◌<◌, ◌^◌, ◌++◌, option_map};
 ghost use Rattle.mq_outside.specs.Outside.{Adds};
-ghost use Rattle.mq_report.specs.Text.{exit_line, head_line, jobs_line, kind_word as word_of_kind, last_digits, node_counts, node_line, node_losses, node_numbers, node_tail, node_tallies, node_waits, node_words, ten_thousandths, utilisation as utilisation_of, utilisation_text};
+ghost use Rattle.mq_report.specs.Text.{exit_line, head_line, jobs_line, kind_word as word_of_kind, last_digits, node_counts, node_line, node_losses, node_tail, node_tallies, node_waits, node_words, ten_thousandths, utilisation as utilisation_of, utilisation_text};
 ghost use Rattle.mq_core.specs.Results.{servers_in};
 ghost use Rattle.mq_stats.specs.Numbers.{totals_from};
 ghost use Rattle.mq_report.specs.Tails.{tail_from};
@@ -10,46 +10,8 @@ use mq_core::{Kind, servers_of};
 use mq_outside::{Gather, Piece, Sink, SinkFault, add_pieces};
 use mq_stats::{Exit, NodeTotals, Percentiles};
 
-// Adds the first line.
-#[tactic(auto, unfolding(crate::specs::Text::head_line))]
-fn add_first<O: Sink>(out: &mut O, pending: &mut Gather, form: u8) -> Result<(), SinkFault>
-    ensures { Adds O.taken O.sure O.faults out.old out.new pending.old pending.new result (head_line form) }
-{
-    add_pieces(
-        out,
-        pending,
-        &[
-            Piece::Text(b"mpsim report "),
-            Piece::Number(form as u128),
-            Piece::Text(b"\n"),
-        ],
-    )
-}
-
-// Adds the line of the jobs and the span.
-#[tactic(auto, unfolding(crate::specs::Text::jobs_line))]
-fn add_jobs_line<O: Sink>(
-    out: &mut O,
-    pending: &mut Gather,
-    jobs: usize,
-    span: u64,
-) -> Result<(), SinkFault>
-    ensures { Adds O.taken O.sure O.faults out.old out.new pending.old pending.new result (jobs_line jobs span) }
-{
-    add_pieces(
-        out,
-        pending,
-        &[
-            Piece::Text(b"jobs "),
-            Piece::Number(jobs as u128),
-            Piece::Text(b" span "),
-            Piece::Number(span as u128),
-            Piece::Text(b"\n"),
-        ],
-    )
-}
-
 /// Adds the first line, which names the form of the report, and the line of the jobs and the span.
+#[tactic(auto, unfolding(crate::specs::Text::head_line, crate::specs::Text::jobs_line))]
 pub fn add_head<O: Sink>(
     out: &mut O,
     pending: &mut Gather,
@@ -59,8 +21,19 @@ pub fn add_head<O: Sink>(
 ) -> Result<(), SinkFault>
     ensures { Adds O.taken O.sure O.faults out.old out.new pending.old pending.new result (head_line form ++ jobs_line jobs span) }
 {
-    add_first(out, pending, form)?;
-    add_jobs_line(out, pending, jobs, span)
+    add_pieces(
+        out,
+        pending,
+        &[
+            Piece::Text(b"mpsim report "),
+            Piece::Number(form as u128),
+            Piece::Text(b"\njobs "),
+            Piece::Number(jobs as u128),
+            Piece::Text(b" span "),
+            Piece::Number(span as u128),
+            Piece::Text(b"\n"),
+        ],
+    )
 }
 
 fn kind_word(kind: &Kind) -> &'static [u8]
@@ -141,15 +114,16 @@ fn add_utilisation<O: Sink>(
     add_share(out, pending, utilisation(busy, servers, span))
 }
 
-// Adds a node's name and the word of its kind.
-#[tactic(auto, unfolding(crate::specs::Text::node_words))]
-fn add_words<O: Sink>(
+// Adds a node's name, the word of its kind, and its counts.
+#[tactic(auto, unfolding(crate::specs::Text::node_words, crate::specs::Text::node_counts))]
+fn add_counts<O: Sink>(
     out: &mut O,
     pending: &mut Gather,
     name: &[u8],
     kind: &Kind,
+    totals: &NodeTotals,
 ) -> Result<(), SinkFault>
-    ensures { Adds O.taken O.sure O.faults out.old out.new pending.old pending.new result (node_words name.now (word_of_kind kind.now)) }
+    ensures { Adds O.taken O.sure O.faults out.old out.new pending.old pending.new result (node_words name.now (word_of_kind kind.now) ++ node_counts (totals_from totals.now)) }
 {
     add_pieces(
         out,
@@ -160,23 +134,6 @@ fn add_words<O: Sink>(
             Piece::Text(b" "),
             Piece::Text(kind_word(kind)),
             Piece::Text(b" in "),
-        ],
-    )
-}
-
-// Adds a node's counts.
-#[tactic(auto, unfolding(crate::specs::Text::node_counts))]
-fn add_counts<O: Sink>(
-    out: &mut O,
-    pending: &mut Gather,
-    totals: &NodeTotals,
-) -> Result<(), SinkFault>
-    ensures { Adds O.taken O.sure O.faults out.old out.new pending.old pending.new result (node_counts (totals_from totals.now)) }
-{
-    add_pieces(
-        out,
-        pending,
-        &[
             Piece::Number(totals.came as u128),
             Piece::Text(b" out "),
             Piece::Number(totals.left as u128),
@@ -284,23 +241,6 @@ fn add_tallies<O: Sink>(
     )
 }
 
-// Adds a node's totals, each behind its word.
-fn add_numbers<O: Sink>(
-    out: &mut O,
-    pending: &mut Gather,
-    tells_held: bool,
-    totals: &NodeTotals,
-    tail: Option<Percentiles>,
-) -> Result<(), SinkFault>
-    ensures { Adds O.taken O.sure O.faults out.old out.new pending.old pending.new result (node_numbers tells_held (totals_from totals.now) (option_map tail_from tail)) }
-{
-    add_counts(out, pending, totals)?;
-    add_losses(out, pending, tells_held, totals)?;
-    add_waits(out, pending, totals)?;
-    add_tail(out, pending, tail)?;
-    add_tallies(out, pending, totals)
-}
-
 /// Adds the line of a node, with its held visits and percentiles of its waits where they are told.
 pub fn add_node<O: Sink>(
     out: &mut O,
@@ -316,8 +256,11 @@ pub fn add_node<O: Sink>(
     requires small { totals.now.busy < 2 ^ 100 }
     ensures { Adds O.taken O.sure O.faults out.old out.new pending.old pending.new result (node_line tells_held name.now kind.now (totals_from totals.now) (option_map tail_from tail) span) }
 {
-    add_words(out, pending, name, kind)?;
-    add_numbers(out, pending, tells_held, totals, tail)?;
+    add_counts(out, pending, name, kind, totals)?;
+    add_losses(out, pending, tells_held, totals)?;
+    add_waits(out, pending, totals)?;
+    add_tail(out, pending, tail)?;
+    add_tallies(out, pending, totals)?;
     add_utilisation(out, pending, totals.busy, servers_of(kind), span)
 }
 

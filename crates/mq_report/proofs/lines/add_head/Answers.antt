@@ -1,8 +1,15 @@
-use Rattle.mq_outside.proofs.lemmas.Gathers.{adds_both, adds_front}
+use Rattle.std.proofs.Common.{◌≡◌, ◌++◌, ◌∷◌, [], List, ℕ, append_assoc, subst, sym}
+use Rattle.std.specs.Prelude.{codes, decimal}
+use Rattle.mq_outside.specs.Outside.{Adds}
+use Rattle.mq_report.specs.Text.{head_line, jobs_line}
 use Rattle.mq_report.proofs.lines.add_head.Goals as goal
 
-pub returns-in_err-add_first : goal.returns-in_err-add_first
-returns-in_err-add_first g c = adds_front _ c.from_residual.ensures.0 _ c.in_err-add_first.ensures
+-- both lines, piece by piece
+pieces : (a b c d e f g h : List ℕ) → (a ++ b ++ c) ++ (d ++ e ++ f ++ g ++ h) ≡ a ++ (b ++ ((c ++ d) ++ (e ++ (f ++ (g ++ h)))))
+pieces a b c d e f g h = simp append_assoc
 
 pub returns : goal.returns
-returns g c = adds_both c.in_ok-add_first.ensures c.add_jobs_line.ensures
+unfolding head_line jobs_line
+returns g c =
+    subst (Adds g.O.Sink.taken g.O.Sink.sure g.O.Sink.faults _ _ _ _ c.add_pieces.result)
+    (sym (pieces (codes "mpsim report ") (decimal c.args.form) (10 ∷ []) (codes "jobs ") (decimal c.args.jobs) (codes " span ") (decimal c.args.span) (10 ∷ []))) c.add_pieces.ensures
