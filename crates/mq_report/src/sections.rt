@@ -11,7 +11,7 @@ ghost use Rattle.mq_stats.specs.Numbers.{totals_from};
 ghost use Rattle.mq_stats.specs.RunNumbers.{HasFewVisits};
 ghost use Rattle.mq_report.specs.Totals.{AreNodeTotals};
 ghost use Rattle.mq_report.specs.Tails.{AreNodeTails};
-ghost use Rattle.mq_report.specs.Text.{asked_jobs, exit_lines, exit_lines_at, exits_text, is_read as reads_output, line_of, nodes_text, report_in, report_text};
+ghost use Rattle.mq_report.specs.Text.{exit_lines, exit_lines_at, exits_text, is_read as reads_output, line_of, nodes_text, report_in, report_text};
 
 use crate::jobs::add_jobs;
 use crate::lines::{add_exit, add_head, add_node};
@@ -244,26 +244,6 @@ fn add_exits<O: Sink>(
     Ok(())
 }
 
-// Adds the job lines, where they are asked for.
-fn add_asked_jobs<O: Sink>(
-    out: &mut O,
-    pending: &mut Gather,
-    plan: &Plan,
-    rows: &Rows,
-    run: &Run,
-    jobs: bool,
-) -> Result<(), SinkFault>
-    requires read { IsReadFor plan.now.net rows.now }
-    requires run { IsRunOf plan.now rows.now run.now }
-    requires few { HasFewVisits plan.now rows.now }
-    ensures { Adds O.taken O.sure O.faults out.old out.new pending.old pending.new result (asked_jobs plan.now.net rows.now (run_of plan.now rows.now) plan.now.order jobs) }
-{
-    if !jobs {
-        return Ok(());
-    }
-    add_jobs(out, pending, plan, rows, run)
-}
-
 // Adds the whole report.
 fn add_report<O: Sink>(
     out: &mut O,
@@ -287,7 +267,10 @@ fn add_report<O: Sink>(
     add_head(out, pending, form, rows.time.len(), span)?;
     add_nodes(out, pending, plan, rows, run, totals, tails, form, span)?;
     add_exits(out, pending, plan, rows, run)?;
-    add_asked_jobs(out, pending, plan, rows, run, jobs)
+    if !jobs {
+        return Ok(());
+    }
+    add_jobs(out, pending, plan, rows, run)
 }
 
 /// Writes the report of a run, of form 1 or 2: the counts and times of each node by rank, what leaves by each

@@ -1,4 +1,5 @@
 use Rattle.std.proofs.Common.{◌≡◌, ◌++◌, sym, ℕ}
+use Rattle.std.proofs.lemmas.List.{append-nil}
 use Rattle.mq_outside.proofs.lemmas.Gathers.{adds_both, adds_front}
 use Rattle.mq_report.specs.Text.{head_line, jobs_line}
 use Rattle.mq_report.proofs.sections.add_report.Goals as goal
@@ -22,7 +23,12 @@ returns-in_err-add_exits g c =
     rw (sym (head_is c.args.form _ _ _ _ c.len.ensures c.span_of-span.ensures))
     (adds_both c.in_ok-add_head.ensures (adds_both c.in_ok-add_nodes.ensures (adds_front _ c.from_residual-in_err-add_exits.ensures.0 _ c.in_err-add_exits.ensures)))
 
+pub returns-then-not-jobs : goal.returns-then-not-jobs
+returns-then-not-jobs g c =
+    rw (sym (head_is c.args.form _ _ _ _ c.len.ensures c.span_of-span.ensures), c.if-not-jobs.true)
+    (adds_both c.in_ok-add_head.ensures (adds_both c.in_ok-add_nodes.ensures (rw append-nil c.in_ok-add_exits.ensures)))
+
 pub returns : goal.returns
 returns g c =
-    rw (sym (head_is c.args.form _ _ _ _ c.len.ensures c.span_of-span.ensures))
-    (adds_both c.in_ok-add_head.ensures (adds_both c.in_ok-add_nodes.ensures (adds_both c.in_ok-add_exits.ensures c.add_asked_jobs.ensures)))
+    rw (sym (head_is c.args.form _ _ _ _ c.len.ensures c.span_of-span.ensures), c.if-not-jobs.false)
+    (adds_both c.in_ok-add_head.ensures (adds_both c.in_ok-add_nodes.ensures (adds_both c.in_ok-add_exits.ensures c.add_jobs.ensures)))
