@@ -4,7 +4,6 @@ ghost use Rattle.mq_core.specs.Results.{visits_of};
 ghost use Rattle.mq_core.specs.StandardTable.{run_of};
 ghost use Rattle.mq_crew.specs.Crew.{AreAll, AreGroups};
 ghost use Rattle.mq_stats.specs.Percentiles.{ArePercentiles, waits_at};
-ghost use Rattle.mq_stats.specs.WaitCounts.{AreCountsTo};
 ghost use Rattle.mq_report.specs.TailPieces.{AreNodeWaits, IsPieceCounts, IsWaited, counted_pieces};
 ghost use Rattle.mq_report.specs.Tails.{AreCounted, IsKnown};
 
@@ -126,25 +125,6 @@ fn waits_by_node<'a>(
     Ok(List::from_vec(all))
 }
 
-// The counts of the waits at a node, of those of its pieces one after another.
-fn sum_of_counts(
-    alloc: Global,
-    node: &NodeWaits,
-    group: &List<WaitCounts>,
-) -> Result<WaitCounts, OutOfMemory>
-    requires waited { IsWaited node.now }
-    requires some { 0 < node.now.most }
-    requires group { AreAll (IsPieceCounts node.now) (counted_pieces node.now) group.now }
-    ensures { IfOk result (AreCountsTo node.now.most (waits_at node.now.rows.now node.now.kind.now node.now.visits.now)) }
-{
-    waits_join();
-    let mut sum = count_between(alloc, node.rows, node.kind, node.visits, node.most, 0, 0)?;
-    for b in 0..group.len() {
-        sum = counts_added(sum, group.get(b));
-    }
-    Ok(sum)
-}
-
 // The percentiles of the waits at a node, where its pieces count 99 of 100 of them by themselves.
 fn counted_at(
     alloc: Global,
@@ -159,8 +139,11 @@ fn counted_at(
         return Ok(None);
     }
     waits_join();
-    let counts = sum_of_counts(alloc, node, group)?;
-    Ok(counted_percentiles(&counts))
+    let mut sum = count_between(alloc, node.rows, node.kind, node.visits, node.most, 0, 0)?;
+    for b in 0..group.len() {
+        sum = counts_added(sum, group.get(b));
+    }
+    Ok(counted_percentiles(&sum))
 }
 
 // The same of each node.

@@ -1,5 +1,5 @@
 use Rattle.mq_report.proofs.CountedTails.{AreCountsBefore}
-use Rattle.mq_report.proofs.tail_pieces.sum_of_counts.Given as goal
+use Rattle.mq_report.proofs.tail_pieces.counted_at.Given as goal
 
 -- the counts of the waits before the next piece
 abbrev pub invariant-loop-b : goal.invariant-loop-b
