@@ -1,5 +1,5 @@
 // The network that a generator draws, and its plan.
-ghost use Rattle.std.specs.Prelude.{◌≡◌, ◌+◌, ◌∷◌, ◌<◌, ◌≤◌, [], IfOk, OnOk, decimal, length};
+ghost use Rattle.std.specs.Prelude.{◌≡◌, ◌+◌, ◌++◌, ◌∷◌, ◌<◌, ◌≤◌, [], IfOk, OnOk, decimal, length};
 ghost use Rattle.mq_core.specs.Sound.{outputs_in};
 ghost use Rattle.rand_pcg.specs.Lcg.{Lcg};
 ghost use Rattle.mq_gen.specs.Drawing.{with_generator};
@@ -34,14 +34,20 @@ fn numbered(alloc: Global, letter: u8, number: usize) -> Result<List<u8>, OutOfM
     Ok(List::from_vec(name))
 }
 
-fn source(alloc: Global, number: usize) -> Result<Node, OutOfMemory>
-    ensures { IfOk result (λ node. node ≡ source_node number) }
+/// Adds a source, and its output, which the first section reads.
+fn add_source(alloc: Global, sections: &mut Sections, node: u32) -> Result<(), OutOfMemory>
+    ensures nodes { OnOk result (sections.new.nodes ≡ sections.old.nodes ++ source_node node ∷ []) }
+    ensures columns { OnOk result (sections.new.columns ≡ sections.old.columns) }
+    ensures ends { OnOk result (sections.new.ends ≡ sections.old.ends ++ record { node = node; out = 0 } ∷ []) }
 {
-    Ok(Node {
-        name: numbered(alloc, b's', number)?,
+    let name = numbered(alloc, b's', node as usize)?;
+    sections.nodes.push(Node {
+        name,
         kind: Kind::Source,
         inputs: List::new(alloc),
-    })
+    })?;
+    sections.ends.push(Input { node, out: 0 })?;
+    Ok(())
 }
 
 /// Adds two sources to no sections, and their outputs, which the first section reads.
@@ -51,10 +57,8 @@ fn add_sources(alloc: Global, sections: &mut Sections) -> Result<(), OutOfMemory
     requires ends { sections.old.ends ≡ [] }
     ensures { OnOk result ((generator : Lcg) → with_generator sections.new generator ≡ no_sections generator) }
 {
-    sections.nodes.push(source(alloc, 0)?)?;
-    sections.nodes.push(source(alloc, 1)?)?;
-    sections.ends.push(Input { node: 0, out: 0 })?;
-    sections.ends.push(Input { node: 1, out: 0 })?;
+    add_source(alloc, sections, 0)?;
+    add_source(alloc, sections, 1)?;
     Ok(())
 }
 
@@ -140,9 +144,10 @@ fn branches(
 ) -> Result<List<List<Demand>>, OutOfMemory>
     ensures { IfOk result (λ all. all ≡ (single ∷ []) ∷ (double ∷ double ∷ []) ∷ []) }
 {
-    let one = List::from_vec(Vec::from_slice(alloc, &[single])?);
-    let two = List::from_vec(Vec::from_slice(alloc, &[double, double])?);
-    Ok(List::from_vec(Vec::from_array(alloc, [one, two])?))
+    let mut all = Vec::with_capacity(alloc, 2)?;
+    all.push_reserved(List::from_vec(Vec::from_slice(alloc, &[single])?));
+    all.push_reserved(List::from_vec(Vec::from_slice(alloc, &[double, double])?));
+    Ok(List::from_vec(all))
 }
 
 /// The kind of a section by its draw, over these columns, with these places where it has any.
