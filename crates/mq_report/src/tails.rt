@@ -115,15 +115,15 @@ fn known_tails(alloc: Global, of: &RunTails) -> Result<Option<List<Percentiles>>
 {
     let plan = of.known.plan;
     nodes_are_in_limits();
-    let mut tails = List::new(alloc);
+    let mut tails = Vec::with_capacity(alloc, plan.net.nodes.len())?;
     for node in 0..plan.net.nodes.len() {
         let declared = plan.net.nodes.get(node);
         let Some(tail) = known_tail(&of.known, *of.counted.get(node), node as u32, declared) else {
             return Ok(None);
         };
-        tails.push(tail)?;
+        tails.push_reserved(tail);
     }
-    Ok(Some(tails))
+    Ok(Some(List::from_vec(tails)))
 }
 
 /// The percentiles of the waits at each node over a run with these totals, by node. Mostly the waits are counted, by pieces of
