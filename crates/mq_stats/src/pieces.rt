@@ -106,8 +106,7 @@ pub fn ahead(
     ensures { IfOk result (λ ahead. IsAhead arrive.now fate.now ahead) }
 {
     let leaving = leaving_of(alloc, fate)?;
-    let table = ahead_of(alloc, arrive, fate, leaving)?;
-    Ok(table)
+    ahead_of(alloc, arrive, fate, leaving)
 }
 
 /// The table of visits of which none is lost, as `ahead_of`, of their departures by position, in ticks, in
