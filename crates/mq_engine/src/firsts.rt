@@ -97,14 +97,29 @@ pub fn stage_of(
     match scan {
         Scan::Unscanned => Ok(Stage::Ended(the_whole(group))),
         Scan::OfTandem(scan) => {
-            let sums = tandem_sums(alloc, load.arrivals, scan, &group)?;
+            let summed = tandem_sums(alloc, load.arrivals, scan, &group);
+            // What is large goes by a call of `drop`, which is proved once for a type.
             drop(group);
-            let carries = tandem_carries(alloc, load.arrivals, scan, &sums)?;
+            let Ok(sums) = summed else {
+                return Err(OutOfMemory);
+            };
+            let carried = tandem_carries(alloc, load.arrivals, scan, &sums);
+            drop(sums);
+            let Ok(carries) = carried else {
+                return Err(OutOfMemory);
+            };
             Ok(Stage::Latest(carries))
         }
         Scan::OfSplit(_) => {
-            let parts = those_routed(alloc, group)?;
-            Ok(Stage::Parted(parted(alloc, load, &parts)?))
+            let Ok(parts) = those_routed(alloc, group) else {
+                return Err(OutOfMemory);
+            };
+            let joined = parted(alloc, load, &parts);
+            drop(parts);
+            let Ok(streams) = joined else {
+                return Err(OutOfMemory);
+            };
+            Ok(Stage::Parted(streams))
         }
         Scan::OfServer(_) | Scan::OfForkJoin(_) => {
             drop(group);

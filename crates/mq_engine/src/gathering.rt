@@ -67,7 +67,12 @@ fn gathered_at(alloc: Global, arriving: &Arriving, number: u32) -> Result<Gather
     let inputs = &arriving.plan.net.nodes.get(number as usize).inputs;
     let mut gathered = Gathered::new(alloc);
     for port in 0..inputs.len() {
-        gathered.add(alloc, stream_of(arriving.outputs, inputs.get(port)))?;
+        let stream = stream_of(arriving.outputs, inputs.get(port));
+        let Ok(()) = gathered.add(alloc, stream) else {
+            // Here and below what is large goes by a call of `drop`, which is proved once for a type.
+            drop(gathered);
+            return Err(OutOfMemory);
+        };
     }
     Ok(gathered)
 }
@@ -79,8 +84,17 @@ fn passing_visits(alloc: Global, stream: &Stream) -> Result<Visits, OutOfMemory>
 {
     let job = Vec::from_slice(alloc, stream.job.as_slice())?;
     let arrive = Vec::from_slice(alloc, stream.time.as_slice())?;
-    let departs = Vec::from_slice(alloc, stream.time.as_slice())?;
-    let found = nobody(alloc, &stream.time)?;
+    let Ok(departs) = Vec::from_slice(alloc, stream.time.as_slice()) else {
+        drop(job);
+        drop(arrive);
+        return Err(OutOfMemory);
+    };
+    let Ok(found) = nobody(alloc, &stream.time) else {
+        drop(job);
+        drop(arrive);
+        drop(departs);
+        return Err(OutOfMemory);
+    };
     Ok(Visits {
         job: List::from_vec(job),
         arrive: List::from_vec(arrive),
@@ -106,7 +120,6 @@ fn joined(alloc: Global, gathered: &Gathered) -> Result<Sequences, OutOfMemory>
     let Joined { visits, leaving } = join_visits(alloc, gathered)?;
     match only(alloc, leaving) {
         Ok(streams) => Ok(Sequences { visits, streams }),
-        // Here and below what is large goes by a call of `drop`, which is proved once for a type.
         Err(fault) => {
             drop(visits);
             Err(fault)

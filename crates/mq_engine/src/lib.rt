@@ -70,7 +70,11 @@ pub fn run<R: Threads + Sync, G: Gate>(
     core_laws();
     let mut progress = beginning(alloc, plan.net.nodes.len())?;
     'waves: loop {
-        let ready = ready_nodes(alloc, plan, &progress.stands)?;
+        let Ok(ready) = ready_nodes(alloc, plan, &progress.stands) else {
+            // Here and below what is large goes by a call of `drop`, which is proved once for a type.
+            drop(progress);
+            return Err(RunFault::Memory);
+        };
         if ready.is_empty() {
             return ended(plan, rows, progress);
         }
@@ -82,7 +86,10 @@ pub fn run<R: Threads + Sync, G: Gate>(
             workers,
             block,
         };
-        let results = wave_of(rt, alloc, &arriving, gate)?;
+        let Ok(results) = wave_of(rt, alloc, &arriving, gate) else {
+            drop(progress);
+            return Err(RunFault::Memory);
+        };
         settle(&mut progress, results);
     }
 }

@@ -102,7 +102,11 @@ pub fn loads_of<'a, R: Threads + Sync, G: Gate>(
         workers: arriving.workers,
         block: arriving.block,
     };
-    let scans = made(rt, alloc, arriving.workers, &scanning, gate)?;
+    let Ok(scans) = made(rt, alloc, arriving.workers, &scanning, gate) else {
+        // Here and below what is large goes by a call of `drop`, which is proved once for a type.
+        drop(arrived);
+        return Err(OutOfMemory);
+    };
     all_scanned(alloc, arriving, arrived, scans)
 }
 
@@ -120,9 +124,13 @@ fn all_scanned<'a>(
     ensures ready { IfOk result (λ loads. AllByRecursion IsReadyScanned loads) }
     ensures of { IfOk result (λ loads. AllByRecursion (λ s. IsLoadOf arriving.now.plan.now arriving.now.rows.now arriving.now.ready.now s.held) loads) }
 {
+    let Ok(mut loads) = Vec::with_capacity(alloc, arrived.len()) else {
+        drop(arrived);
+        drop(scans);
+        return Err(OutOfMemory);
+    };
     let mut arrived = arrived.into_vec();
     let mut scans = scans.into_vec();
-    let mut loads = List::new(alloc);
     while let Some(one) = arrived.pop() {
         let Some(scan) = scans.pop() else {
             unreachable!()
@@ -134,9 +142,9 @@ fn all_scanned<'a>(
             arrivals: one.arrivals,
             block: arriving.block,
         };
-        loads.push(Scanned { held, scan })?;
+        loads.push_reserved(Scanned { held, scan });
     }
-    Ok(loads)
+    Ok(List::from_vec(loads))
 }
 
 // How a station of this kind is worked out. A station of one block is one whole piece, and for one
@@ -166,10 +174,7 @@ fn scan_of(
             alloc, rows, branches, arrivals, block,
         )?)),
         Kind::Split(_) => Ok(Scan::OfSplit(split_blocks(arrivals, block))),
-        Kind::Source | Kind::Delay(_) | Kind::Loss { .. } | Kind::Trunk { .. } => {
-            Ok(Scan::Unscanned)
-        }
-        // Those are no stations, and never come here.
-        Kind::Fork { .. } | Kind::Join => Ok(Scan::Unscanned),
+        // The other stations, and those that are none and never come here.
+        _ => Ok(Scan::Unscanned),
     }
 }

@@ -12,6 +12,7 @@ use mq_core::{Fates, Input, Node, Plan, Stream, Visits};
 use mq_exits::{Ending, NodeResult};
 use mq_stations::{OverFault, PastFault};
 use std::alloc::Global;
+use std::mem::replace;
 
 /// What stands at a node.
 #[derive(Clone, Copy)]
@@ -42,17 +43,19 @@ pub fn beginning(alloc: Global, nodes: usize) -> Result<Progress, OutOfMemory>
     ensures stand { IfOk result (λ progress. length progress.stands.items ≡ nodes) }
     ensures waits { IfOk result (λ progress. All (λ stand. is_waiting stand ≡ true) progress.stands.items) }
 {
-    let mut progress = Progress {
-        visits: Vec::new(alloc),
-        outputs: Vec::new(alloc),
-        stands: Vec::new(alloc),
-    };
+    let mut visits = Vec::with_capacity(alloc, nodes)?;
+    let mut outputs = Vec::with_capacity(alloc, nodes)?;
+    let mut stands = Vec::with_capacity(alloc, nodes)?;
     for _ in 0..nodes {
-        progress.visits.push(no_visits(alloc))?;
-        progress.outputs.push(List::new(alloc))?;
-        progress.stands.push(Stand::Waiting)?;
+        visits.push_reserved(no_visits(alloc));
+        outputs.push_reserved(List::new(alloc));
+        stands.push_reserved(Stand::Waiting);
     }
-    Ok(progress)
+    Ok(Progress {
+        visits,
+        outputs,
+        stands,
+    })
 }
 
 fn no_visits(alloc: Global) -> Visits {
@@ -140,8 +143,9 @@ fn put(progress: &mut Progress, node_result: NodeResult)
     let at = node_result.number as usize;
     match node_result.ending {
         Ending::OnTime(visits, streams) => {
-            progress.visits[at] = visits;
-            progress.outputs[at] = streams;
+            // A call of `drop` lets go of what stood there: it is proved once for a type.
+            drop(replace(&mut progress.visits[at], visits));
+            drop(replace(&mut progress.outputs[at], streams));
             progress.stands[at] = Stand::Done;
         }
         Ending::TooMany(over) => progress.stands[at] = Stand::Crowded(over),

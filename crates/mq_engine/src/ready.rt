@@ -89,23 +89,29 @@ fn middles_of<'a>(
     ensures ready { IfOk result (λ middles. AllByRecursion IsReadyMiddle middles) }
     ensures of { IfOk result (λ middles. (plan : ThePlan) (rows : TheRows) (ready : Items ℕ) → AllByRecursion (λ s. IsLoadOf plan rows ready s.held) loads.entry → AllByRecursion (λ m. IsLoadOf plan rows ready m.scanned.held) middles) }
 {
+    let Ok(mut middles) = Vec::with_capacity(alloc, loads.len()) else {
+        drop(loads);
+        drop(groups);
+        return Err(OutOfMemory);
+    };
     let mut loads = loads.into_vec();
     let mut groups = groups.into_vec();
-    let mut middles = List::new(alloc);
     while let Some(scanned) = loads.pop() {
         let Some(group) = groups.pop() else {
             unreachable!()
         };
         match stage_of(alloc, &scanned.held.load(), &scanned.scan, group) {
-            Ok(stage) => middles.push(Middle { scanned, stage })?,
+            Ok(stage) => middles.push_reserved(Middle { scanned, stage }),
             Err(fault) => {
                 drop(scanned);
+                drop(loads);
+                drop(groups);
                 drop(middles);
                 return Err(fault);
             }
         }
     }
-    Ok(middles)
+    Ok(List::from_vec(middles))
 }
 
 // The stations whose departures are known, of their applied blocks where they are scanned.
@@ -125,22 +131,28 @@ fn all_emptied<'a, R: Threads + Sync, G: Gate>(
     ensures ready { IfOk result (λ those_emptied. AllByRecursion IsReadyExit those_emptied) }
     ensures of { IfOk result (λ those_emptied. (plan : ThePlan) (rows : TheRows) (ready : Items ℕ) → AllByRecursion (λ m. IsLoadOf plan rows ready m.scanned.held) middles.entry → AllByRecursion (λ l. IsLoadOf plan rows ready l.held) those_emptied) }
 {
+    let Ok(mut those_emptied) = Vec::with_capacity(alloc, middles.len()) else {
+        drop(middles);
+        drop(groups);
+        return Err(OutOfMemory);
+    };
     let mut middles = middles.into_vec();
     let mut groups = groups.into_vec();
-    let mut those_emptied = List::new(alloc);
     while let Some(middle) = middles.pop() {
         let Some(group) = groups.pop() else {
             unreachable!()
         };
         match emptied_of(rt, alloc, workers, middle, group, gate) {
-            Ok(emptied) => those_emptied.push(emptied)?,
+            Ok(emptied) => those_emptied.push_reserved(emptied),
             Err(fault) => {
+                drop(middles);
+                drop(groups);
                 drop(those_emptied);
                 return Err(fault);
             }
         }
     }
-    Ok(those_emptied)
+    Ok(List::from_vec(those_emptied))
 }
 
 // A station whose departures are known, of its applied blocks where it is scanned.

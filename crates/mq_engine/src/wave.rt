@@ -136,18 +136,20 @@ fn sorted_out(alloc: Global, arriving: &Arriving) -> Result<Wave, OutOfMemory>
     Ok(wave)
 }
 
-// These results, and more behind them.
-fn with_more(
-    results: List<NodeResult>,
-    more: List<NodeResult>,
+// These results, and those behind them.
+fn all_results(
+    wave: Wave,
+    gathered: List<NodeResult>,
+    served: List<NodeResult>,
 ) -> Result<List<NodeResult>, OutOfMemory>
-    ensures { IfOk result (λ all. all ≡ results ++ more) }
+    ensures { IfOk result (λ all. all ≡ wave.crowded ++ gathered ++ served) }
 {
-    let mut results = results;
-    'more: for node_result in more.into_vec() {
-        results.push(node_result)?;
-    }
-    Ok(results)
+    let mut results = wave.crowded.into_vec();
+    let mut gathered = gathered.into_vec();
+    let mut served = served.into_vec();
+    results.append(&mut gathered)?;
+    results.append(&mut served)?;
+    Ok(List::from_vec(results))
 }
 
 /// What the nodes that are ready give.
@@ -164,22 +166,24 @@ pub fn wave_of<R: Threads + Sync, G: Gate>(
     ensures len { IfOk result (λ results. length results ≡ length arriving.now.ready.now) }
     ensures known { IfOk result (λ results. AllByRecursion (IsResultOf arriving.now.plan.now arriving.now.rows.now arriving.now.ready.now) results) }
 {
-    let Wave {
-        crowded,
-        apart,
-        stations,
-    } = sorted_out(alloc, arriving)?;
+    let wave = sorted_out(alloc, arriving)?;
     let gathering = Arriving {
-        ready: &apart,
+        ready: &wave.apart,
         ..*arriving
     };
-    let gathered = apart_results(rt, alloc, &gathering, gate)?;
-    drop(apart);
-    let results = with_more(crowded, gathered)?;
+    let Ok(gathered) = apart_results(rt, alloc, &gathering, gate) else {
+        // What is large goes by a call of `drop`, which is proved once for a type.
+        drop(wave);
+        return Err(OutOfMemory);
+    };
     let serving = Arriving {
-        ready: &stations,
+        ready: &wave.stations,
         ..*arriving
     };
-    let served = results_of(rt, alloc, &serving, gate)?;
-    with_more(results, served)
+    let Ok(served) = results_of(rt, alloc, &serving, gate) else {
+        drop(wave);
+        drop(gathered);
+        return Err(OutOfMemory);
+    };
+    all_results(wave, gathered, served)
 }

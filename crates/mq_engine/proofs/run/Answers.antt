@@ -13,11 +13,11 @@ ready_nodes-requires-clause-within g c = within c.core_laws.ensures c.args.plan.
 pub wave_of-requires-clause-few : goal.wave_of-requires-clause-few
 wave_of-requires-clause-few g c κs inside =
     ready-few c.args.plan.now c.waves.progress.stands.items c.deref-in-waves-2.result.now
-    (c.deref-in-waves-2.ensures.value ∙ (c.in_ok-ready.ensures ∙ ap (λ stands. filter (is_ready c.args.plan.now.net.nodes stands) c.args.plan.now.order) c.deref.ensures.value))
+    (c.deref-in-waves-2.ensures.value ∙ (c.in-Ok.ensures ∙ ap (λ stands. filter (is_ready c.args.plan.now.net.nodes stands) c.args.plan.now.order) c.deref.ensures.value))
 
 pub wave_of-requires-clause-wave : goal.wave_of-requires-clause-wave
 wave_of-requires-clause-wave g c κs inside =
-    let same = sym (c.deref-in-waves-2.ensures.value ∙ (c.in_ok-ready.ensures ∙ ap (λ stands. filter (is_ready c.args.plan.now.net.nodes stands) c.args.plan.now.order) c.deref.ensures.value)) in
+    let same = sym (c.deref-in-waves-2.ensures.value ∙ (c.in-Ok.ensures ∙ ap (λ stands. filter (is_ready c.args.plan.now.net.nodes stands) c.args.plan.now.order) c.deref.ensures.value)) in
     record {
       read = c.requires.read;
       early = subst AreEarly (sym c.deref-in-waves.ensures.value) c.waves.invariant.early;
@@ -31,16 +31,16 @@ wave_of-requires-clause-wave g c κs inside =
 pub ended-requires-clause-stuck : goal.ended-requires-clause-stuck
 ended-requires-clause-stuck g c =
     let none = eqb-true _ _ (sym c.is_empty.ensures ∙ c.if-is_empty.true) in
-    let size = c.in_ok-ready.ready.ok.0 in
-    sym (c.in_ok-ready.ensures ∙ ap (λ stands. filter (is_ready c.args.plan.now.net.nodes stands) c.args.plan.now.order) c.deref.ensures.value) ∙ no-items c.in_ok-ready.ready.items (omega arith)
+    let size = c.in-Ok.ready.ok.0 in
+    sym (c.in-Ok.ensures ∙ ap (λ stands. filter (is_ready c.args.plan.now.net.nodes stands) c.args.plan.now.order) c.deref.ensures.value) ∙ no-items c.in-Ok.ready.items (omega arith)
 
 pub settle-requires-clause-waits : goal.settle-requires-clause-waits
 settle-requires-clause-waits g c =
-    ready-wait c.args.plan.now c.args.rows.now c.waves.progress.stands.items c.deref-in-waves-2.result.now c.in_ok-results.results
-    (c.deref-in-waves-2.ensures.value ∙ (c.in_ok-ready.ensures ∙ ap (λ stands. filter (is_ready c.args.plan.now.net.nodes stands) c.args.plan.now.order) c.deref.ensures.value)) c.in_ok-results.ensures.known
+    ready-wait c.args.plan.now c.args.rows.now c.waves.progress.stands.items c.deref-in-waves-2.result.now c.in-Ok-wave_of.results
+    (c.deref-in-waves-2.ensures.value ∙ (c.in-Ok.ensures ∙ ap (λ stands. filter (is_ready c.args.plan.now.net.nodes stands) c.args.plan.now.order) c.deref.ensures.value)) c.in-Ok-wave_of.ensures.known
 
 pub waves-preserved : goal.waves-preserved
-waves-preserved g c = c.settle.ensures.reached c.args.plan.now c.args.rows.now c.waves.invariant (results-known c.args.plan.now c.args.rows.now c.deref-in-waves-2.result.now c.in_ok-results.results c.in_ok-results.ensures.known)
+waves-preserved g c = c.settle.ensures.reached c.args.plan.now c.args.rows.now c.waves.invariant (results-known c.args.plan.now c.args.rows.now c.deref-in-waves-2.result.now c.in-Ok-wave_of.results c.in-Ok-wave_of.ensures.known)
 
 pub waves-init : goal.waves-init
 waves-init g c =

@@ -30,4 +30,4 @@ all_scanned-requires-clause-arrived g c =
 pub all_scanned-requires-clause-scans : goal.all_scanned-requires-clause-scans
 all_scanned-requires-clause-scans g c =
     let s = c.args.arriving.now in
-    subst (λ (l : List Arrived). AreAll (IsScanFor s.plan.now s.rows.now l) (length l) c.in_ok-scans.scans) c.as_slice.ensures c.in_ok-scans.ensures
+    subst (λ (l : List Arrived). AreAll (IsScanFor s.plan.now s.rows.now l) (length l) c.in-Ok.scans) c.as_slice.ensures c.in-Ok.ensures

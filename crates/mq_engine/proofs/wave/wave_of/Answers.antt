@@ -1,4 +1,4 @@
-use Rattle.std.proofs.Common.{length, ap, sym, subst, arith, length-append}
+use Rattle.std.proofs.Common.{◌++◌, length, ap, sym, subst, arith, length-append}
 use Rattle.std.specs.Prelude.{Contains}
 use Rattle.std.specs.List.{AllByRecursion as Each}
 use Rattle.std.proofs.lemmas.Result.{IfOk-weaker}
@@ -12,28 +12,28 @@ use Rattle.mq_engine.proofs.wave.wave_of.Goals as goal
 pub returns-clause-known : goal.returns-clause-known
 returns-clause-known g c =
     let s = c.args.arriving.now in
-    let sorted = c.in_ok-crowded.ensures.sorted in
+    let sorted = c.in_ok-wave.ensures.sorted in
     let is = IsResultOf s.plan.now s.rows.now s.ready.now in
-    let gathered = results-among s.plan.now s.rows.now c.deref.result.now s.ready.now c.in_ok-gathered.gathered
-    (λ v h. (each-contained (IsApartOf s) c.in_ok-crowded.field-0.apart.items sorted.apart v (subst (λ l. Contains l v) c.deref.ensures.value h)).0) c.in_ok-gathered.ensures.known in
-    let served = results-among s.plan.now s.rows.now c.deref-2.result.now s.ready.now c.in_ok-served.served
-    (λ v h. (each-contained (IsStationOf s) c.in_ok-crowded.field-0.stations.items sorted.stations v (subst (λ l. Contains l v) c.deref-2.ensures.value h)).0) c.in_ok-served.ensures.known in
-    let first = subst (Each is) (sym c.in_ok-results.ensures) (Each-append is c.in_ok-crowded.field-0.crowded c.in_ok-gathered.gathered sorted.crowded gathered) in
-    IfOk-weaker c.with_more-2.result _ _ (λ all e. subst (Each is) (sym e) (Each-append is c.in_ok-results.results c.in_ok-served.served first served)) c.with_more-2.ensures
+    let gathered = results-among s.plan.now s.rows.now c.deref.result.now s.ready.now c.in-Ok.gathered
+    (λ v h. (each-contained (IsApartOf s) c.in_ok-wave.wave.apart.items sorted.apart v (subst (λ l. Contains l v) c.deref.ensures.value h)).0) c.in-Ok.ensures.known in
+    let served = results-among s.plan.now s.rows.now c.deref-2.result.now s.ready.now c.in-Ok-results_of.served
+    (λ v h. (each-contained (IsStationOf s) c.in_ok-wave.wave.stations.items sorted.stations v (subst (λ l. Contains l v) c.deref-2.ensures.value h)).0) c.in-Ok-results_of.ensures.known in
+    let both = Each-append is c.in_ok-wave.wave.crowded c.in-Ok.gathered sorted.crowded gathered in
+    IfOk-weaker c.all_results.result _ _ (λ all e. subst (Each is) (sym e) (Each-append is (c.in_ok-wave.wave.crowded ++ c.in-Ok.gathered) c.in-Ok-results_of.served both served)) c.all_results.ensures
 
 pub results_of-requires-clause-can : goal.results_of-requires-clause-can
 results_of-requires-clause-can g c κs inside =
     let s = c.args.arriving.now in
-    subst (CanWorkAll s.plan.now s.rows.now s.outputs.now) (sym c.deref-2.ensures.value) (can-all s c.in_ok-crowded.field-0.stations.items c.in_ok-crowded.ensures.sorted.stations)
+    subst (CanWorkAll s.plan.now s.rows.now s.outputs.now) (sym c.deref-2.ensures.value) (can-all s c.in_ok-wave.wave.stations.items c.in_ok-wave.ensures.sorted.stations)
 
 pub results_of-requires-clause-arriving : goal.results_of-requires-clause-arriving
 results_of-requires-clause-arriving g c κs inside =
     let s = c.args.arriving.now in
     let same = ap length c.deref-2.ensures.value in
-    let len = c.in_ok-crowded.ensures.len in
+    let len = c.in_ok-wave.ensures.len in
     let few = c.requires.few in
     serves (record { plan = s.plan; rows = s.rows; outputs = s.outputs; ready = c.deref-2.result; workers = s.workers; block = s.block }) c.requires.wave.read c.requires.wave.early
-    (subst (CanWorkAll s.plan.now s.rows.now s.outputs.now) (sym c.deref-2.ensures.value) (can-all s c.in_ok-crowded.field-0.stations.items c.in_ok-crowded.ensures.sorted.stations)) (omega arith) c.requires.some c.requires.most c.requires.wave.block
+    (subst (CanWorkAll s.plan.now s.rows.now s.outputs.now) (sym c.deref-2.ensures.value) (can-all s c.in_ok-wave.wave.stations.items c.in_ok-wave.ensures.sorted.stations)) (omega arith) c.requires.some c.requires.most c.requires.wave.block
 
 pub results_of-requires-clause-early : goal.results_of-requires-clause-early
 results_of-requires-clause-early g c κs inside = c.requires.wave.early
@@ -44,25 +44,24 @@ apart_results-requires-clause-gathering g c κs inside =
     record {
       read = c.requires.wave.read;
       early = c.requires.wave.early;
-      can = λ v h. (each-contained (IsApartOf s) c.in_ok-crowded.field-0.apart.items c.in_ok-crowded.ensures.sorted.apart v (subst (λ l. Contains l v) c.deref.ensures.value h)).1;
+      can = λ v h. (each-contained (IsApartOf s) c.in_ok-wave.wave.apart.items c.in_ok-wave.ensures.sorted.apart v (subst (λ l. Contains l v) c.deref.ensures.value h)).1;
     }
 
 pub apart_results-requires-clause-few : goal.apart_results-requires-clause-few
 apart_results-requires-clause-few g c κs inside =
     let same = ap length c.deref.ensures.value in
-    let len = c.in_ok-crowded.ensures.len in
+    let len = c.in_ok-wave.ensures.len in
     let few = c.requires.few in
     omega arith
 
 pub returns-clause-len : goal.returns-clause-len
 returns-clause-len g c =
-    let wave = c.in_ok-crowded.field-0 in
-    let count = c.in_ok-crowded.ensures.len in
+    let wave = c.in_ok-wave.wave in
+    let count = c.in_ok-wave.ensures.len in
     let apart = ap length c.deref.ensures.value in
-    let gathered = c.in_ok-gathered.ensures.len in
+    let gathered = c.in-Ok.ensures.len in
     let stations = ap length c.deref-2.ensures.value in
-    let served = c.in_ok-served.ensures.len in
-    let first = ap length c.in_ok-results.ensures in
-    let both = length-append wave.crowded c.in_ok-gathered.gathered in
-    let more = length-append c.in_ok-results.results c.in_ok-served.served in
-    IfOk-weaker c.with_more-2.result _ _ (λ all e. let many = ap length e in omega arith) c.with_more-2.ensures
+    let served = c.in-Ok-results_of.ensures.len in
+    let both = length-append wave.crowded c.in-Ok.gathered in
+    let more = length-append (wave.crowded ++ c.in-Ok.gathered) c.in-Ok-results_of.served in
+    IfOk-weaker c.all_results.result _ _ (λ all e. let many = ap length e in omega arith) c.all_results.ensures
