@@ -34,7 +34,12 @@ pub fn forkjoin_whole(
 {
     let asked = branch_demands(alloc, branches)?;
     let demands = all_demands_of(alloc, rows, &asked, &arrivals.job)?;
-    let servers = branch_servers(alloc, branches)?;
+    let Ok(servers) = branch_servers(alloc, branches) else {
+        // Here and below a call of `drop` lets go of what is left at an exit: it is proved once for a type.
+        drop(asked);
+        drop(demands);
+        return Err(OutOfMemory);
+    };
     fork_departures(alloc, arrivals, &demands, &servers)
 }
 
@@ -69,7 +74,14 @@ fn demands_of_branches(
 {
     let mut demands = List::new(alloc);
     for at in 0..branches.len() {
-        demands.push(all_demands_of(alloc, rows, branches.get(at), jobs)?)?;
+        let Ok(each) = all_demands_of(alloc, rows, branches.get(at), jobs) else {
+            drop(demands);
+            return Err(OutOfMemory);
+        };
+        let Ok(()) = demands.push(each) else {
+            drop(demands);
+            return Err(OutOfMemory);
+        };
     }
     Ok(demands)
 }

@@ -32,9 +32,23 @@ pub fn loss_outflow(
 {
     fates_are_in_time();
     let settled = settled::<Brand>(alloc, rows, places, demand, arrivals, window, Blank::new(1))?;
-    let departs = settled.departs;
-    let fates = fates_by_admission(alloc, &settled.admitted, &departs)?;
-    let streams = streams_of(alloc, arrivals, &settled.admitted, departs)?;
+    let Settled {
+        admitted,
+        departs,
+        ..
+    } = settled;
+    let Ok(fates) = fates_by_admission(alloc, &admitted, &departs) else {
+        // Here and below a call of `drop` lets go of what is left at an exit: it is proved once for a type.
+        drop(admitted);
+        drop(departs);
+        return Err(OutOfMemory);
+    };
+    let left = streams_of(alloc, arrivals, &admitted, departs);
+    drop(admitted);
+    let Ok(streams) = left else {
+        drop(fates);
+        return Err(OutOfMemory);
+    };
     Ok(Outflow { fates, streams })
 }
 
@@ -79,9 +93,21 @@ fn streams_of(
     ensures { IfOk result (λ streams. AreAdmittedAndLost arrivals.now admitted.now departs streams) }
 {
     let lost = admitted.len() - departs.len();
-    let mut served = Vec::with_capacity(alloc, departs.len())?;
-    let mut job = Vec::with_capacity(alloc, lost)?;
-    let mut time = Vec::with_capacity(alloc, lost)?;
+    let Ok(mut served) = Vec::with_capacity(alloc, departs.len()) else {
+        drop(departs);
+        return Err(OutOfMemory);
+    };
+    let Ok(mut job) = Vec::with_capacity(alloc, lost) else {
+        drop(departs);
+        drop(served);
+        return Err(OutOfMemory);
+    };
+    let Ok(mut time) = Vec::with_capacity(alloc, lost) else {
+        drop(departs);
+        drop(served);
+        drop(job);
+        return Err(OutOfMemory);
+    };
     for at in 0..admitted.len() {
         if *admitted.get(at) {
             served.push_reserved(*arrivals.job.get(at));

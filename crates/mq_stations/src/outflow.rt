@@ -70,11 +70,16 @@ pub fn all_demands_of(
     requires { All (λ demand. AreAsked rows.now demand jobs.now) asked.now }
     ensures { IfOk result (λ demands. demands ≡ map (λ demand. map (demand_of_job rows.now demand) jobs.now) asked.now) }
 {
-    let mut demands = List::new(alloc);
+    let mut demands = Vec::with_capacity(alloc, asked.len())?;
     for at in 0..asked.len() {
-        demands.push(demands_of(alloc, rows, asked.get(at), jobs)?)?;
+        let Ok(each) = demands_of(alloc, rows, asked.get(at), jobs) else {
+            // Here and below a call of `drop` lets go of what is left at an exit: it is proved once for a type.
+            drop(demands);
+            return Err(OutOfMemory);
+        };
+        demands.push_reserved(each);
     }
-    Ok(demands)
+    Ok(List::from_vec(demands))
 }
 
 /// The fates of visits that depart at these times, in ticks. It refuses for want of memory alone.
@@ -126,7 +131,13 @@ pub fn only(alloc: Global, stream: Stream) -> Result<List<Stream>, OutOfMemory>
 pub fn both(alloc: Global, first: Stream, second: Stream) -> Result<List<Stream>, OutOfMemory>
     ensures { IfOk result (λ streams. streams ≡ first ∷ second ∷ []) }
 {
-    let mut streams = only(alloc, first)?;
-    streams.push(second)?;
+    let Ok(mut streams) = only(alloc, first) else {
+        drop(second);
+        return Err(OutOfMemory);
+    };
+    let Ok(()) = streams.push(second) else {
+        drop(streams);
+        return Err(OutOfMemory);
+    };
     Ok(streams)
 }

@@ -32,8 +32,14 @@ pub fn split_outflow(
     ensures { IfOk result (λ leaving. IsLeaving rows.now (Split route.now) arrivals.now leaving.fates leaving.streams) }
 {
     let values = values_of(alloc, rows, route, arrivals.job.as_slice())?;
-    let streams = split(alloc, arrivals, &values, route)?;
-    let fates = fates_of(alloc, &arrivals.time)?;
+    let left = split(alloc, arrivals, &values, route);
+    // Here and below a call of `drop` lets go of what is left: it is proved once for a type.
+    drop(values);
+    let streams = left?;
+    let Ok(fates) = fates_of(alloc, &arrivals.time) else {
+        drop(streams);
+        return Err(OutOfMemory);
+    };
     Ok(Outflow { fates, streams })
 }
 
@@ -95,7 +101,14 @@ pub fn split_joined(
 {
     let mut streams = List::new(alloc);
     for out in 0..outputs_of_route(route) {
-        streams.push(joined_output(alloc, group, out as usize)?)?;
+        let Ok(stream) = joined_output(alloc, group, out as usize) else {
+            drop(streams);
+            return Err(OutOfMemory);
+        };
+        let Ok(()) = streams.push(stream) else {
+            drop(streams);
+            return Err(OutOfMemory);
+        };
     }
     Ok(streams)
 }

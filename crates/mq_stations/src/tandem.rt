@@ -39,7 +39,11 @@ pub fn tandem_whole(
     ensures { IfOk result (λ departs. AreServed rows.now (Tandem stages.now) arrivals.now departs) }
 {
     let demands = demands_of_stages(alloc, rows, stages, &arrivals.job)?;
-    let places = stage_places(alloc, stages)?;
+    let Ok(places) = stage_places(alloc, stages) else {
+        // Here and below a call of `drop` lets go of what is left at an exit: it is proved once for a type.
+        drop(demands);
+        return Err(OutOfMemory);
+    };
     tandem_departures(alloc, arrivals, &demands, &places)
 }
 
@@ -58,7 +62,10 @@ pub fn tandem_scan(
 {
     let size = arrivals.job.len() as u32;
     let demands = demands_of_stages(alloc, rows, stages, &arrivals.job)?;
-    let places = stage_places(alloc, stages)?;
+    let Ok(places) = stage_places(alloc, stages) else {
+        drop(demands);
+        return Err(OutOfMemory);
+    };
     let blocks = cut(size, long_block(size, block));
     Ok(TandemScan {
         demands,

@@ -70,7 +70,25 @@ fn settled<L: Ledger>(
 fn outflow_of(alloc: Global, settled: Trunk) -> Result<Outflow, OutOfMemory>
     ensures { IfOk result (λ outflow. (outflow.fates ≡ fates_by settled.admitted settled.departs) × (outflow.streams ≡ settled.leaving ∷ settled.lost ∷ [])) }
 {
-    let streams = both(alloc, settled.leaving, settled.lost)?;
-    let fates = fates_by_admission(alloc, &settled.admitted, &settled.departs)?;
+    let Trunk {
+        admitted,
+        departs,
+        leaving,
+        lost,
+        ..
+    } = settled;
+    let Ok(streams) = both(alloc, leaving, lost) else {
+        // Here and below a call of `drop` lets go of what is left at an exit: it is proved once for a type.
+        drop(admitted);
+        drop(departs);
+        return Err(OutOfMemory);
+    };
+    let fated = fates_by_admission(alloc, &admitted, &departs);
+    drop(admitted);
+    drop(departs);
+    let Ok(fates) = fated else {
+        drop(streams);
+        return Err(OutOfMemory);
+    };
     Ok(Outflow { fates, streams })
 }

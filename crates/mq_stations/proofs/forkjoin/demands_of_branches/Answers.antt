@@ -13,7 +13,7 @@ all_demands_of-requires c =
 pub loop-at-preserved : goal.loop-at-preserved
 loop-at-preserved c =
     map-more (λ (demands : List Demand). map (λ demand. map (demand_of_job c.args.rows.now demand) c.args.jobs.now) demands) c.args.branches.now c.loop-at.at c.get.result.now _ _ c.get.ensures
-    (c.in_ok-push.ensures.ok ∙ ap (λ (lists : List (List ℕ)). c.loop-at.demands ++ lists ∷ []) c.in_ok-all_demands_of.ensures) c.loop-at.invariant
+    (c.in-Ok-push.ensures.ok ∙ ap (λ (lists : List (List ℕ)). c.loop-at.demands ++ lists ∷ []) c.in-Ok.ensures) c.loop-at.invariant
 
 pub returns : goal.returns
 returns c =

@@ -13,12 +13,12 @@ settled-requires-clause-load c = load-sound c.args.rows.now (Loss c.args.places 
 pub settled-requires-clause-places : goal.settled-requires-clause-places
 settled-requires-clause-places c = some-places c.requires.load.columns c.args.places c.args.demand.now c.requires.load.sound
 
-pub streams_of-requires : goal.streams_of-requires
-streams_of-requires c =
+pub streams_of-left-requires : goal.streams_of-left-requires
+streams_of-left-requires c =
     let even = settled-even c.fates_are_in_time.ensures c.args.rows.now c.args.places c.args.demand.now c.args.arrivals.now _ c.in_ok-settled.settled c.requires.load.ordered.ordered.even refl c.in_ok-settled.ensures in
     record { jobs = even.jobs; times = even.times; departs = even.departs }
 
 pub returns : goal.returns
 returns c =
-    loses c.fates_are_in_time.ensures c.args.rows.now c.args.places c.args.demand.now c.args.arrivals.now _ c.in_ok-settled.settled c.in_ok-fates.fates c.in_ok-streams.streams c.requires.load.ordered.ordered.even refl
-    c.in_ok-settled.ensures c.in_ok-fates.ensures c.in_ok-streams.ensures
+    loses c.fates_are_in_time.ensures c.args.rows.now c.args.places c.args.demand.now c.args.arrivals.now _ c.in_ok-settled.settled c.in-Ok.fates c.in-Ok-left.streams c.requires.load.ordered.ordered.even refl
+    c.in_ok-settled.ensures c.in-Ok.ensures c.in-Ok-left.ensures

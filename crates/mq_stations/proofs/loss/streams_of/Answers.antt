@@ -17,15 +17,15 @@ pub loop-at-init : goal.loop-at-init
 loop-at-init c =
     let all = both c.args.admitted.now c.args.arrivals.now.job c.requires.jobs in
     let departs = c.requires.departs in
-    let served = c.in_ok-served.ensures.exact in
-    let job = c.in_ok-job.ensures.exact in
-    let time = c.in_ok-time.ensures.exact in
-    let none = c.in_ok-job.ensures.len in
-    let nothing = c.in_ok-time.ensures.len in
+    let served = c.in-Ok.ensures.exact in
+    let job = c.in-Ok-with_capacity.ensures.exact in
+    let time = c.in-Ok-with_capacity-2.ensures.exact in
+    let none = c.in-Ok-with_capacity.ensures.len in
+    let nothing = c.in-Ok-with_capacity-2.ensures.len in
     record {
-      admitted = ap (λ (xs : List ℕ). xs ++ picked 0 (map out_of_admission c.args.admitted.now) c.args.arrivals.now.job) c.in_ok-served.ensures.items;
-      jobs = ap (λ (xs : List ℕ). xs ++ picked 1 (map out_of_admission c.args.admitted.now) c.args.arrivals.now.job) c.in_ok-job.ensures.items;
-      times = ap (λ (xs : List ℕ). xs ++ picked 1 (map out_of_admission c.args.admitted.now) c.args.arrivals.now.time) c.in_ok-time.ensures.items;
+      admitted = ap (λ (xs : List ℕ). xs ++ picked 0 (map out_of_admission c.args.admitted.now) c.args.arrivals.now.job) c.in-Ok.ensures.items;
+      jobs = ap (λ (xs : List ℕ). xs ++ picked 1 (map out_of_admission c.args.admitted.now) c.args.arrivals.now.job) c.in-Ok-with_capacity.ensures.items;
+      times = ap (λ (xs : List ℕ). xs ++ picked 1 (map out_of_admission c.args.admitted.now) c.args.arrivals.now.time) c.in-Ok-with_capacity-2.ensures.items;
       even = omega arith;
       room = omega arith;
       space = omega arith;

@@ -16,10 +16,10 @@ loop-out-preserved c =
     let was = c.loop-out.invariant in
     let count : length c.loop-out.streams ≡ c.loop-out.out = was.count in
     record {
-      count = ap length c.in_ok-push.ensures.ok ∙ (length-append c.loop-out.streams (c.in_ok-joined_output.field-0 ∷ []) ∙ ap (λ n. n + 1) count);
+      count = ap length c.in-Ok-push.ensures.ok ∙ (length-append c.loop-out.streams (c.in-Ok.stream ∷ []) ∙ ap (λ n. n + 1) count);
       parts = λ arrivals values blocks h.
-          part-more c.loop-out.streams _ c.in_ok-joined_output.field-0 (picked_stream (outs_from c.args.route.now 0 values) arrivals) c.loop-out.out count c.in_ok-push.ensures.ok
-          (c.in_ok-joined_output.ensures c.args.route.now arrivals values blocks (omega arith) h) (was.parts arrivals values blocks h);
+          part-more c.loop-out.streams _ c.in-Ok.stream (picked_stream (outs_from c.args.route.now 0 values) arrivals) c.loop-out.out count c.in-Ok-push.ensures.ok
+          (c.in-Ok.ensures c.args.route.now arrivals values blocks (omega arith) h) (was.parts arrivals values blocks h);
     }
 
 pub returns : goal.returns

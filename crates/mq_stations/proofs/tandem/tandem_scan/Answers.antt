@@ -18,6 +18,6 @@ returns c =
       asked = map (λ (s : Stage). s.demand) c.args.stages.now;
       asks = refl;
       demands = c.in_ok-demands.ensures;
-      places = c.in_ok-places.ensures;
+      places = c.in-Ok.ensures;
       blocks = (omega arith, blocks-most 1024 c.cut-blocks.result (omega arith));
     }

@@ -12,7 +12,7 @@ pub tandem_departures-requires-clause-load : goal.tandem_departures-requires-cla
 tandem_departures-requires-clause-load c = loads-sound c.args.rows.now (Tandem c.args.stages.now) _ _ c.args.arrivals.now _ c.requires refl (demands-told c.args.rows.now _ c.args.arrivals.now.job c.requires.told) c.in_ok-demands.ensures
 
 pub tandem_departures-requires-clause-stages : goal.tandem_departures-requires-clause-stages
-tandem_departures-requires-clause-stages c = stages-are c.requires.columns c.args.stages.now _ _ (λ demand. map (demand_of_job c.args.rows.now demand) c.args.arrivals.now.job) _ c.requires.sound refl c.in_ok-places.ensures c.in_ok-demands.ensures
+tandem_departures-requires-clause-stages c = stages-are c.requires.columns c.args.stages.now _ _ (λ demand. map (demand_of_job c.args.rows.now demand) c.args.arrivals.now.job) _ c.requires.sound refl c.in-Ok.ensures c.in_ok-demands.ensures
 
 pub returns : goal.returns
-returns c = IfOk-weaker c.tandem_departures.result _ _ (λ departs d. tandem-served c.requires.columns c.args.rows.now c.args.stages.now c.args.arrivals.now _ _ _ departs c.requires.sound refl c.in_ok-demands.ensures c.in_ok-places.ensures d) c.tandem_departures.ensures
+returns c = IfOk-weaker c.tandem_departures.result _ _ (λ departs d. tandem-served c.requires.columns c.args.rows.now c.args.stages.now c.args.arrivals.now _ _ _ departs c.requires.sound refl c.in_ok-demands.ensures c.in-Ok.ensures d) c.tandem_departures.ensures
