@@ -174,7 +174,12 @@ fn scan_of(
             alloc, rows, branches, arrivals, block,
         )?)),
         Kind::Split(_) => Ok(Scan::OfSplit(split_blocks(arrivals, block))),
-        // The other stations, and those that are none and never come here.
-        _ => Ok(Scan::Unscanned),
+        // The last two are no stations, and never come here.
+        Kind::Source
+        | Kind::Delay(_)
+        | Kind::Loss { .. }
+        | Kind::Trunk { .. }
+        | Kind::Fork { .. }
+        | Kind::Join => Ok(Scan::Unscanned),
     }
 }
