@@ -1,5 +1,5 @@
 #!/usr/bin/env python3
-"""Proves and builds mpsim and the crates that it stands on, as many side by side as processors and memory allow.
+"""Proves and builds mpsim and the crates that it stands on, side by side: one more than there are processors, where memory allows.
 
 usage: build.py          in any folder; RT names the toolchain's command, where rt is not on the path
 What has been proved before and has not changed is kept. Each crate is told on the error output as it is done.
@@ -70,7 +70,7 @@ def files_of(name):
 
 
 def looks_of(name):
-    """When each file of a crate was last written, and its size."""
+    """When each file of a crate was last written, and its size. One that is written again has changed, whatever it holds then."""
     looks = [(it, os.stat(it)) for it in files_of(name)]
     return [(it, look.st_mtime_ns, look.st_size) for it, look in looks]
 
@@ -115,7 +115,7 @@ def stamps(names, uses):
 
 
 def lanes():
-    """On how many processors crates are proved, and for how many jobs memory has room."""
+    """For how many jobs there are processors and memory, and for how many memory has room."""
     count = len(os.sched_getaffinity(0))
     free = count * CHECK
     for line in text_of("/proc/meminfo").splitlines():
@@ -146,6 +146,12 @@ def begin(name, uses, kit, jobs, nice):
         return subprocess.Popen(words, cwd=f"{ROOT}/crates/{name}", stdin=subprocess.DEVNULL, stdout=log, stderr=log)
 
 
+def wait_for_one(checks):
+    """Waits until one of these processes has ended, which keeps its status. Another child that has ended is let go."""
+    while (ended := os.waitid(os.P_ALL, 0, os.WEXITED | os.WNOWAIT).si_pid) not in checks:
+        os.waitpid(ended, 0)
+
+
 def prove_all(uses, kit):
     """Proves all crates below the program and then the program. Answers whether all are proved."""
     names = [it for it in uses if it in below(PROGRAM, uses)] + [PROGRAM]
@@ -158,7 +164,7 @@ def prove_all(uses, kit):
         while running or (left and not failed):
             ready = [] if failed else [it for it in left if done >= below(it, uses)]
             for name in ready:
-                # One crate more than there are processors, so that none waits where a check of several jobs has work for one alone.
+                # One crate more than there are processors, so that none waits while a check reads, writes, or has work for one job alone.
                 if len(running) > most or sum(jobs[it] for it in running) >= room:
                     break
                 # What is further from the program goes first.
@@ -166,11 +172,12 @@ def prove_all(uses, kit):
                 jobs[name] = jobs_for(name, left, {it: jobs[it] for it in running}, lines, uses, most, room)
                 running[name] = begin(name, uses, kit, jobs[name], min(len(others), 10))
                 left.remove(name)
-            # Until a check has ended.
-            os.waitid(os.P_ALL, 0, os.WEXITED | os.WNOWAIT)
+            wait_for_one([check.pid for check in running.values()])
             for name in [it for it, check in running.items() if check.poll() is not None]:
-                if running.pop(name).returncode:
-                    tell(f"{text_of(f'{PROVED}/{name}.log')}{name} is not proved")
+                status = running.pop(name).returncode
+                if status:
+                    why = f"the check of {name} was ended by signal {-status}" if status < 0 else f"{name} is not proved"
+                    tell(f"{text_of(f'{PROVED}/{name}.log')}{why}")
                     failed = True
                     continue
                 if any(looks_of(it) != looks[it] for it in [name, *below(name, uses)]):
@@ -203,8 +210,9 @@ def link(kit):
 
 
 def main():
-    # A build that is stopped ends its checks too.
+    # A build that is stopped ends its checks too, and the status of a check is kept until it is asked for.
     signal.signal(signal.SIGTERM, lambda *_: sys.exit(1))
+    signal.signal(signal.SIGCHLD, signal.SIG_DFL)
     os.makedirs(PROVED, exist_ok=True)
     with open(f"{PROVED}/lock", "w") as lock:
         # One build at a time: a second one waits, and then finds what this one proved.
