@@ -1,20 +1,15 @@
 -- No match is whole before a visit of it, and each is whole at a visit.
-use Rattle.std.proofs.Common.{◌≡◌, ℕ, zero, suc, ◌<◌, ◌≤◌, List, [], ◌∷◌, ◌++◌, length, take, drop, Some, refl, sym, ap, arith, ◌∙◌}
+use Rattle.std.proofs.Common.{◌≡◌, ℕ, zero, suc, ◌<◌, ◌≤◌, List, [], ◌∷◌, ◌++◌, length, take, drop, Some, sym, ap, arith, ◌∙◌}
 use Rattle.std.proofs.lemmas.List.{length-take-le, take-append-drop}
 use Rattle.std.proofs.lemmas.Option.{slice_get_within}
 use Rattle.std.specs.List.{zip}
 use Rattle.std.specs.Prelude.{count_by, slice_get}
-use Rattle.mq_base.proofs.lemmas.Lists.{drop_suc, some_inj}
+use Rattle.mq_base.proofs.lemmas.Lists.{drop_suc, get-some, some_inj}
 use Rattle.mq_core.specs.Kinds.Join.{is_item, match_of, matches_from}
 use Rattle.mq_core.proofs.lemmas.Matches.{match-behind}
 use Rattle.mq_join.specs.Below.{AreBelow}
 use Rattle.mq_join.specs.Items.{AreBehind}
 use Rattle.mq_join.proofs.Steps.{match-at, match-below, matches-many}
-
-pub item-there : {X : Type 0} (xs : List X) (i : ℕ) → i < length xs → (x : X) × (slice_get xs i ≡ Some x)
-item-there [] i l = absurd (omega arith)
-item-there (x ∷ xs) zero l = (x, refl)
-item-there (x ∷ xs) (suc i) l = item-there xs i (omega arith)
 
 -- the port of an item
 pub zip-first : (xs ys : List ℕ) (i : ℕ) (p : ℕ × ℕ) → slice_get (zip xs ys) i ≡ Some p → slice_get xs i ≡ Some p.0
@@ -44,7 +39,7 @@ module _ (ports : ℕ) (port job : List ℕ) (below : AreBelow ports port) where
   matches-behind position place e =
       let many = matches-many ports items in
       let l = slice_get_within (matches_from ports items [] items) position (Some place) e in
-      let x = item-there items position (omega arith) in
+      let x = get-some items position (omega arith) in
       let whole = some_inj _ (Some place) (sym (match-at ports items position x.0 x.1) ∙ e) in
       let r = behind-one position place x.0 x.1 whole in
       let a = r.0 in

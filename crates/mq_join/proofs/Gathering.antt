@@ -7,7 +7,7 @@ use Rattle.std.proofs.lemmas.Bool.Decides.{nat_tests}
 use Rattle.std.proofs.lemmas.Option.{slice_get-get_or}
 use Rattle.std.proofs.lemmas.List.FromFn.{length-range_with_len}
 use Rattle.mq_base.proofs.lemmas.Lists.{some_inj}
-use Rattle.mq_base.proofs.lemmas.Zips.{zip-append}
+use Rattle.mq_base.proofs.lemmas.Zips.{zip-append, zip-length}
 use Rattle.mq_core.proofs.lemmas.Orders.{Each-order, in_order_of-length, in_order_of-map}
 use Rattle.mq_core.specs.Laws.{in_order_of}
 use Rattle.mq_core.specs.Sequences.{IsStream}
@@ -17,7 +17,6 @@ use Rattle.mq_join.specs.Below.{AreBelow}
 use Rattle.mq_join.specs.Gathers.{arrivals_of}
 use Rattle.mq_join.specs.Items.{port_at}
 use Rattle.mq_join.specs.declared.gathered.Gathered.{Gathered}
-use Rattle.mq_join.proofs.Steps.{zip-many}
 
 abbrev pub Triples : Type 0
 Triples = List (ℕ × ℕ × ℕ)
@@ -81,8 +80,8 @@ order-inside order times n s e =
 pub order-many : (order : Stream) (times : List ℕ) (n : ℕ) → IsStream order → length times ≡ n → pairs_of order ≡ by_first (zip times (range_with_len 0 n)) → length order.job ≡ n
 order-many order times n s many e =
     let a = in_order_of-length (λ (p : ℕ × ℕ). p.0) (zip times (range_with_len 0 n)) in
-    let b = zip-many times (range_with_len 0 n) (many ∙ sym (length-range_with_len 0 n)) in
-    let c = zip-many order.time order.job (sym s.even) in
+    let b = zip-length times (range_with_len 0 n) (length-range_with_len 0 n ∙ sym many) in
+    let c = zip-length order.time order.job s.even in
     let d = ap length e in
     let f = s.even in
     omega arith
@@ -158,7 +157,7 @@ map-append f (x ∷ xs) ys = ap (λ l. f x ∷ l) (map-append f xs ys)
 triples-append : (ts ps js us qs ks : List ℕ) → length ps ≡ length ts → length js ≡ length ts → triples (ts ++ us) (ps ++ qs) (js ++ ks) ≡ triples ts ps js ++ triples us qs ks
 triples-append ts ps js us qs ks a b =
     let inner : zip (ps ++ qs) (js ++ ks) ≡ zip ps js ++ zip qs ks = zip-append ps qs js ks (b ∙ sym a) in
-    let many : length (zip ps js) ≡ length ts = zip-many ps js (a ∙ sym b) ∙ a in
+    let many : length (zip ps js) ≡ length ts = zip-length ps js (b ∙ sym a) ∙ a in
     let outer : zip (ts ++ us) (zip (ps ++ qs) (js ++ ks)) ≡ zip ts (zip ps js) ++ zip us (zip qs ks) = ap (zip (ts ++ us)) inner ∙ zip-append ts us (zip ps js) (zip qs ks) many in
     ap (map {B = ℕ × ℕ × ℕ} (λ (p : ℕ × (ℕ × ℕ)). (p.0, p.1.0, p.1.1))) outer ∙ map-append (λ (p : ℕ × (ℕ × ℕ)). (p.0, p.1.0, p.1.1)) (zip ts (zip ps js)) (zip us (zip qs ks))
 

@@ -3,25 +3,13 @@ use Rattle.std.proofs.Common.{◌≡◌, ℕ, zero, suc, ◌<◌, ◌≤◌, Boo
 use Rattle.std.proofs.lemmas.List.{length-take-le}
 use Rattle.std.proofs.lemmas.List.Sums.{count_by-le-length}
 use Rattle.std.specs.Prelude.{count_by, slice_get, slice_index}
-use Rattle.mq_base.proofs.lemmas.Lists.{some_inj}
+use Rattle.mq_base.proofs.lemmas.Lists.{get-set_other, get-set_same, some_inj}
 use Rattle.mq_core.specs.Kinds.Join.{is_item, match_of}
 use Rattle.mq_core.proofs.lemmas.Matches.{match-none}
 use Rattle.mq_join.specs.Items.{AreCounted, AreFresh, IsCounted, indices_from}
 use Rattle.mq_join.specs.declared.matches.Row.{Row}
 use Rattle.mq_join.proofs.Counting.{row-other}
 use Rattle.mq_join.proofs.Steps.{index-at}
-
-set-same : {X : Type 0} (xs : List X) (i : ℕ) (x : X) → i < length xs → slice_get (set xs i x) i ≡ Some x
-set-same [] i x l = absurd (omega arith)
-set-same (y ∷ xs) zero x l = refl
-set-same (y ∷ xs) (suc i) x l = set-same xs i x (omega arith)
-
-set-other : {X : Type 0} (xs : List X) (i j : ℕ) (x : X) → (j ≡ i → ⊥) → slice_get (set xs i x) j ≡ slice_get xs j
-set-other [] i j x n = refl
-set-other (y ∷ xs) zero zero x n = absurd (n refl)
-set-other (y ∷ xs) zero (suc j) x n = refl
-set-other (y ∷ xs) (suc i) zero x n = refl
-set-other (y ∷ xs) (suc i) (suc j) x n = set-other xs i j x (λ e. n (ap suc e))
 
 -- An item more, of one job.
 pub rows-next : (ports : ℕ) (before : List (ℕ × ℕ)) (port job : ℕ) (old new : List Row) (row : Row) → new ≡ set old job row → job < length old → AreCounted ports before old → IsCounted ports job (before ++ (port, job) ∷ []) row.counts row.places.items →
@@ -34,11 +22,11 @@ rows-next ports before port job old new row e l all own j r at = go (eqb job j) 
     go : (b : Bool) → eqb job j ≡ b → IsCounted ports j (before ++ (port, job) ∷ []) r.counts r.places.items
     go true f =
         let same = eqb-true job j f in
-        let is : row ≡ r = some_inj row r (sym (set-same old job row l) ∙ (ap (slice_get (set old job row)) same ∙ here)) in
+        let is : row ≡ r = some_inj row r (sym (get-set_same old job row l) ∙ (ap (slice_get (set old job row)) same ∙ here)) in
         subst (λ (s : Row). IsCounted ports j (before ++ (port, job) ∷ []) s.counts s.places.items) is (subst (λ n. IsCounted ports n (before ++ (port, job) ∷ []) row.counts row.places.items) same own)
     go false f =
         let apart : j ≡ job → ⊥ = λ q. let c = eq-eqb job j (sym q) in absurd cc in
-        row-other ports port job j before r.counts r.places.items f (all j r (sym (set-other old job j row apart) ∙ here))
+        row-other ports port job j before r.counts r.places.items f (all j r (sym (get-set_other old job j row apart) ∙ here))
 
 -- no job has more items than came
 pub row-few : (ports at : ℕ) (items : List (ℕ × ℕ)) (rows : List Row) (port job : ℕ) (row : Row) → AreCounted ports (take at items) rows → slice_get rows job ≡ Some row → port < ports → at ≤ length items → slice_index row.counts port ≤ at

@@ -3,7 +3,7 @@ use Rattle.std.proofs.Common.{◌≡◌, ℕ, zero, suc, ◌+◌, ◌-◌, ◌<�
 use Rattle.std.proofs.lemmas.List.{append-nil, drop_all}
 use Rattle.std.specs.List.{zip}
 use Rattle.std.specs.Prelude.{count_by, slice_get}
-use Rattle.mq_base.proofs.lemmas.Lists.{drop_at, some_inj}
+use Rattle.mq_base.proofs.lemmas.Lists.{drop_at, some_inj, take-at}
 use Rattle.mq_core.specs.Kinds.Join.{is_item, later_place, match_of, matches_from, place_from, place_or}
 use Rattle.mq_join.specs.Items.{indices_from}
 
@@ -16,28 +16,18 @@ pub replicate-many : {X : Type 0} (n : ℕ) (x : X) → length (replicate n x) �
 replicate-many zero x = refl
 replicate-many (suc n) x = ap suc (replicate-many n x)
 
-pub take_at : {X : Type 0} (xs : List X) (i : ℕ) (x : X) → slice_get xs i ≡ Some x → take (i + 1) xs ≡ take i xs ++ x ∷ []
-take_at [] i x e = absurd cc
-take_at (y ∷ xs) zero x e = ap (λ z. z ∷ []) (some_inj y x e)
-take_at (y ∷ xs) (suc i) x e = let same : suc i + 1 ≡ suc (i + 1) = omega arith in ap (λ n. take n (y ∷ xs)) same ∙ ap (λ l. y ∷ l) (take_at xs i x e)
-
 pub zip-at : (xs ys : List ℕ) (i x y : ℕ) → slice_get xs i ≡ Some x → slice_get ys i ≡ Some y → slice_get (zip xs ys) i ≡ Some (x, y)
 zip-at [] ys i x y e f = absurd cc
 zip-at (a ∷ xs) [] i x y e f = absurd cc
 zip-at (a ∷ xs) (b ∷ ys) zero x y e f = λ k. Some (some_inj a x e k, some_inj b y f k)
 zip-at (a ∷ xs) (b ∷ ys) (suc i) x y e f = zip-at xs ys i x y e f
 
-pub zip-many : (xs ys : List ℕ) → length xs ≡ length ys → length (zip xs ys) ≡ length xs
-zip-many [] ys e = refl
-zip-many (x ∷ xs) [] e = absurd (omega arith)
-zip-many (x ∷ xs) (y ∷ ys) e = ap suc (zip-many xs ys (omega arith))
-
 -- a walk over items that gives one value an item, from those before it
 module _ {X Y : Type 0} (walk : List X → List X → List Y) (one : List X → X → Y) (next : (before xs : List X) (x : X) → walk before (x ∷ xs) ≡ one before x ∷ walk (before ++ x ∷ []) xs) where
   pub walk-next : (items : List X) (at : ℕ) (x : X) → slice_get items at ≡ Some x → (done all : List Y) → done ++ walk (take at items) (drop at items) ≡ all → (done ++ one (take at items) x ∷ []) ++ walk (take (at + 1) items) (drop (at + 1) items) ≡ all
   walk-next items at x e done all h =
       append_assoc done (one (take at items) x ∷ []) (walk (take (at + 1) items) (drop (at + 1) items))
-      ∙ (ap (λ ys. done ++ one (take at items) x ∷ ys) (ap (λ before. walk before (drop (at + 1) items)) (take_at items at x e))
+      ∙ (ap (λ ys. done ++ one (take at items) x ∷ ys) (ap (λ before. walk before (drop (at + 1) items)) (take-at items at x e))
       ∙ (ap (λ ys. done ++ ys) (sym (next (take at items) (drop (at + 1) items) x)) ∙ (ap (λ rest. done ++ walk (take at items) rest) (sym (drop_at items at x e)) ∙ h)))
 
   pub walk-end : ((before : List X) → walk before [] ≡ []) → (items : List X) (at : ℕ) → length items ≤ at → (done all : List Y) → done ++ walk (take at items) (drop at items) ≡ all → done ≡ all

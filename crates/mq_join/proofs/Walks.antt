@@ -2,15 +2,14 @@
 use Rattle.std.proofs.Common.{◌≡◌, ℕ, suc, ◌+◌, ◌-◌, ◌<◌, ◌≤◌, Bool, true, false, cond, eqb, eqb-true, eq-eqb, List, [], ◌∷◌, ◌++◌, append_assoc, length, take, drop, set, Option, Some, None, refl, sym, ap, arith, ◌∙◌, get_or-set_other, get_or-set_same}
 use Rattle.std.proofs.lemmas.List.{append-nil, drop_all}
 use Rattle.std.specs.Prelude.{count_by, slice_get, slice_index}
-use Rattle.mq_base.proofs.lemmas.Lists.{drop_at}
+use Rattle.mq_base.proofs.lemmas.Lists.{drop_at, take-at}
 use Rattle.mq_core.specs.Kinds.Join.{is_open_at, is_whole_at, opens_from, wholes_from}
 use Rattle.mq_join.specs.Items.{AreBehind}
 use Rattle.mq_join.proofs.Counting.{count-next, is_closed, opens-before}
-use Rattle.mq_join.proofs.Steps.{take_at}
 
 -- a match more, of those that are whole at a position
 whole-next : (place at : ℕ) (matches : List (Option ℕ)) (o : Option ℕ) → slice_get matches at ≡ Some o → count_by (is_whole_at place) (take (at + 1) matches) ≡ count_by (is_whole_at place) (take at matches) + cond (is_whole_at place o) 1 0
-whole-next place at matches o e = ap (count_by (is_whole_at place)) (take_at matches at o e) ∙ count-next (is_whole_at place) (take at matches) o
+whole-next place at matches o e = ap (count_by (is_whole_at place)) (take-at matches at o e) ∙ count-next (is_whole_at place) (take at matches) o
 
 -- how many are whole at each position, a held visit further, and one that leaves
 pub closings-held : (many at : ℕ) (matches : List (Option ℕ)) (closings : List ℕ) → slice_get matches at ≡ Some None → ((place : ℕ) → place < many → slice_index closings place ≡ count_by (is_whole_at place) (take at matches)) →
@@ -41,7 +40,7 @@ found-next at closed matches o done all behind e inside c h =
     let next : suc at ≡ at + 1 = omega arith in
     append_assoc done ((at - closed) ∷ []) (opens_from (at + 1) (take (at + 1) matches) (drop (at + 1) matches))
     ∙ (ap (λ v. done ++ v ∷ opens_from (at + 1) (take (at + 1) matches) (drop (at + 1) matches)) value
-    ∙ (ap (λ b. done ++ count_by (is_open_at at) (take at matches) ∷ opens_from (at + 1) b (drop (at + 1) matches)) (take_at matches at o e)
+    ∙ (ap (λ b. done ++ count_by (is_open_at at) (take at matches) ∷ opens_from (at + 1) b (drop (at + 1) matches)) (take-at matches at o e)
     ∙ (ap (λ n. done ++ count_by (is_open_at at) (take at matches) ∷ opens_from n (take at matches ++ o ∷ []) (drop (at + 1) matches)) (sym next)
     ∙ (ap (λ rest. done ++ opens_from at (take at matches) rest) (sym (drop_at matches at o e)) ∙ h))))
 

@@ -7,22 +7,21 @@ use mq_base::{List, OutOfMemory};
 use mq_core::Stream;
 use std::alloc::Global;
 
+// The stream of these jobs and a copy of these times.
+pub fn with_times(alloc: Global, job: List<u32>, times: &List<u64>) -> Result<Stream, OutOfMemory>
+    ensures job { IfOk result (λ stream. stream.job ≡ job) }
+    ensures time { IfOk result (λ stream. stream.time ≡ times.now) }
+{
+    let time = List::from_vec(Vec::from_slice(alloc, times.as_slice())?);
+    Ok(Stream { job, time })
+}
+
 // A stream with the same items.
 pub fn copy_of(alloc: Global, stream: &Stream) -> Result<Stream, OutOfMemory>
     ensures { IfOk result (λ copy. copy ≡ stream.now) }
 {
     let job = List::from_vec(Vec::from_slice(alloc, stream.job.as_slice())?);
-    match Vec::from_slice(alloc, stream.time.as_slice()) {
-        Ok(times) => {
-            let time = List::from_vec(times);
-            Ok(Stream { job, time })
-        }
-        // Here and below a call of `drop` lets go of what is left at an exit: it is proved once for a type.
-        Err(_) => {
-            drop(job);
-            Err(OutOfMemory)
-        }
-    }
+    with_times(alloc, job, &stream.time)
 }
 
 /// The streams that leave a fork to which this stream comes: one an output, each with all items of the
@@ -33,13 +32,11 @@ pub fn fork_copies(alloc: Global, stream: &Stream, outputs: u8) -> Result<List<S
 {
     let mut streams = List::new(alloc);
     for _ in 0..outputs {
-        match copy_of(alloc, stream) {
-            Ok(copy) => streams.push(copy)?,
-            Err(fault) => {
-                drop(streams);
-                return Err(fault);
-            }
-        }
+        let Ok(copy) = copy_of(alloc, stream) else {
+            drop(streams);
+            return Err(OutOfMemory);
+        };
+        streams.push(copy)?;
     }
     Ok(streams)
 }

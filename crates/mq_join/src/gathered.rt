@@ -65,30 +65,21 @@ impl Gathered {
             &self.stream.time,
             &stream.time,
         )?;
-        match jobs_at(alloc, &self.stream.job, &stream.job, &indices) {
-            Ok(job) => {
-                let ports = ports_at(alloc, &self.port, self.ports, &indices);
-                drop(indices);
-                match ports {
-                    Ok(port) => {
-                        self.stream = Stream { job, time };
-                        self.port = port;
-                        self.ports += 1;
-                        Ok(())
-                    }
-                    // A call of `drop` lets go of what is left at an exit: it is proved once for a type.
-                    Err(fault) => {
-                        drop(job);
-                        drop(time);
-                        Err(fault)
-                    }
-                }
-            }
-            Err(fault) => {
-                drop(indices);
-                drop(time);
-                Err(fault)
-            }
-        }
+        let Ok(job) = jobs_at(alloc, &self.stream.job, &stream.job, &indices) else {
+            drop(indices);
+            drop(time);
+            return Err(OutOfMemory);
+        };
+        let ports = ports_at(alloc, &self.port, self.ports, &indices);
+        drop(indices);
+        let Ok(port) = ports else {
+            drop(job);
+            drop(time);
+            return Err(OutOfMemory);
+        };
+        self.stream = Stream { job, time };
+        self.port = port;
+        self.ports += 1;
+        Ok(())
     }
 }

@@ -1,5 +1,5 @@
 // Where the match of each item is whole: the items of a job with the same index, one at each port.
-ghost use Rattle.std.specs.Prelude.{◌≡◌, ◌+◌, ◌<◌, ◌≤◌, ℕ, ◌++◌, List, [], ◌∷◌, IfOk, OnOk, count_by, length, nat_lt, replicate, slice_get, slice_index, slice_set, take};
+ghost use Rattle.std.specs.Prelude.{◌≡◌, ◌+◌, ◌<◌, ◌≤◌, ℕ, ◌++◌, List, [], ◌∷◌, IfOk, OnOk, count_by, length, nat_lt, replicate, slice_get, slice_index, take};
 ghost use Rattle.std.specs.List.{list_all};
 ghost use Rattle.mq_core.specs.Kinds.Join.{is_item, matches_of as matches_in};
 ghost use Rattle.mq_join.specs.Below.{AreBelow};
@@ -133,16 +133,11 @@ pub fn matches_of(alloc: Global, gathered: &Gathered) -> Result<List<Option<u32>
     ensures behind { IfOk result (λ matches. AreBehind matches) }
 {
     let mut rows = new_rows(alloc, jobs_in(&gathered.stream.job))?;
-    match count_items(alloc, gathered, rows.as_mut_slice()) {
-        Ok(indices) => {
-            let places = places_of(alloc, gathered, rows.as_slice(), indices.as_slice());
-            drop(rows);
-            places
-        }
-        // A call of `drop` lets go of what is left at an exit: it is proved once for a type.
-        Err(fault) => {
-            drop(rows);
-            Err(fault)
-        }
-    }
+    let Ok(indices) = count_items(alloc, gathered, rows.as_mut_slice()) else {
+        drop(rows);
+        return Err(OutOfMemory);
+    };
+    let places = places_of(alloc, gathered, rows.as_slice(), indices.as_slice());
+    drop(rows);
+    places
 }

@@ -7,6 +7,7 @@ ghost use Rattle.mq_core.specs.Streams.{by_first, pairs_of};
 ghost use Rattle.mq_join.specs.Below.{AreBelow};
 ghost use Rattle.mq_join.specs.Items.{port_at};
 
+use crate::copies::with_times;
 use mq_base::{List, OutOfMemory};
 use mq_core::Stream;
 use mq_merge::merge_two;
@@ -31,17 +32,7 @@ fn numbered(alloc: Global, times: &List<u64>, first: usize) -> Result<Stream, Ou
     ensures time { IfOk result (λ stream. stream.time ≡ times.now) }
 {
     let job = indices_from(alloc, first, times.len())?;
-    match Vec::from_slice(alloc, times.as_slice()) {
-        Ok(times) => {
-            let time = List::from_vec(times);
-            Ok(Stream { job, time })
-        }
-        // Here and below a call of `drop` lets go of what is left at an exit: it is proved once for a type.
-        Err(_) => {
-            drop(job);
-            Err(OutOfMemory)
-        }
-    }
+    with_times(alloc, job, times)
 }
 
 // The indices of the items of two lists, of which those of the second stand behind those of the first, by
@@ -60,18 +51,14 @@ pub fn indices_by_time(
     ensures items { IfOk result (λ order. pairs_of order ≡ by_first (zip (first.now ++ second.now) (range_with_len 0 (length first.now + length second.now)))) }
 {
     let front = numbered(alloc, first, 0)?;
-    match numbered(alloc, second, first.len()) {
-        Ok(behind) => {
-            let order = merge_two(alloc, &front, &behind);
-            drop(front);
-            drop(behind);
-            order
-        }
-        Err(fault) => {
-            drop(front);
-            Err(fault)
-        }
-    }
+    let Ok(behind) = numbered(alloc, second, first.len()) else {
+        drop(front);
+        return Err(OutOfMemory);
+    };
+    let order = merge_two(alloc, &front, &behind);
+    drop(front);
+    drop(behind);
+    order
 }
 
 // The job at an index of two lists, one behind the other.

@@ -166,29 +166,22 @@ fn visits_of(
     ensures { IfOk result (λ visits. (rows : Rows) → visits ≡ sequence_visits rows Join (came_to gathered.now)) }
 {
     let found = founds_of(alloc, matches)?;
-    match fates_of(alloc, &gathered.stream.time, matches) {
-        Ok(fate) => match copy_of(alloc, &gathered.stream) {
-            Ok(came) => {
-                let Stream { job, time: arrive } = came;
-                Ok(Visits {
-                    job,
-                    arrive,
-                    found,
-                    fate: Fates::each(fate),
-                })
-            }
-            // Here and below a call of `drop` lets go of what is left at an exit: it is proved once for a type.
-            Err(fault) => {
-                drop(found);
-                drop(fate);
-                Err(fault)
-            }
-        },
-        Err(fault) => {
-            drop(found);
-            Err(fault)
-        }
-    }
+    let Ok(fate) = fates_of(alloc, &gathered.stream.time, matches) else {
+        drop(found);
+        return Err(OutOfMemory);
+    };
+    let Ok(came) = copy_of(alloc, &gathered.stream) else {
+        drop(found);
+        drop(fate);
+        return Err(OutOfMemory);
+    };
+    let Stream { job, time: arrive } = came;
+    Ok(Visits {
+        job,
+        arrive,
+        found,
+        fate: Fates::each(fate),
+    })
 }
 
 /// What a join gives for what comes to it: the i-th items of a job by all ports are a match, and
@@ -198,21 +191,15 @@ pub fn join_visits(alloc: Global, gathered: &Gathered) -> Result<Joined, OutOfMe
     ensures { IfOk result (λ joined. AreJoined (came_to gathered.now) joined) }
 {
     let matches = matches_of(alloc, gathered)?;
-    match leaving_of(alloc, &gathered.stream, &matches) {
-        Ok(leaving) => {
-            let seen = visits_of(alloc, gathered, &matches);
-            drop(matches);
-            match seen {
-                Ok(visits) => Ok(Joined { visits, leaving }),
-                Err(fault) => {
-                    drop(leaving);
-                    Err(fault)
-                }
-            }
-        }
-        Err(fault) => {
-            drop(matches);
-            Err(fault)
-        }
-    }
+    let Ok(leaving) = leaving_of(alloc, &gathered.stream, &matches) else {
+        drop(matches);
+        return Err(OutOfMemory);
+    };
+    let seen = visits_of(alloc, gathered, &matches);
+    drop(matches);
+    let Ok(visits) = seen else {
+        drop(leaving);
+        return Err(OutOfMemory);
+    };
+    Ok(Joined { visits, leaving })
 }

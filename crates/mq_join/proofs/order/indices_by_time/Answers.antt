@@ -23,21 +23,21 @@ merge_two-order-requires-clause-b c =
       rising = subst (Rises (λ a b. a ≤ b)) (sym c.in-Ok.ensures.time) c.requires.second;
     }
 
-pub returns-in-Ok-clause-stream : goal.returns-in-Ok-clause-stream
-returns-in-Ok-clause-stream c = c.merge_two-order.ensures.stream
+pub returns-clause-stream : goal.returns-clause-stream
+returns-clause-stream c = c.merge_two-order.ensures.stream
 
-pub returns-in-Ok-clause-items : goal.returns-in-Ok-clause-items
-returns-in-Ok-clause-items c =
+pub returns-clause-items : goal.returns-clause-items
+returns-clause-items c =
     IfOk-weaker c.merge_two-order.result _ _
     (λ order items. merged-indices c.in_ok-front.front c.in-Ok.behind order c.args.first.now c.args.second.now c.in_ok-front.ensures.time c.in-Ok.ensures.time c.in_ok-front.ensures.job
     (c.in-Ok.ensures.job ∙ ap (λ k. range_with_len k (length c.args.second.now)) c.len.ensures) items) c.merge_two-order.ensures.items
 
-pub returns-in-Ok-clause-many : goal.returns-in-Ok-clause-many
-returns-in-Ok-clause-many c =
+pub returns-clause-many : goal.returns-clause-many
+returns-clause-many c =
     IfOk-weaker c.merge_two-order.result _ _ (λ order h. order-many order _ _ h.0 (length-append c.args.first.now c.args.second.now) h.1)
-    (both c.merge_two-order.result _ _ c.merge_two-order.ensures.stream (returns-in-Ok-clause-items c))
+    (both c.merge_two-order.result _ _ c.merge_two-order.ensures.stream (returns-clause-items c))
 
-pub returns-in-Ok-clause-inside : goal.returns-in-Ok-clause-inside
-returns-in-Ok-clause-inside c =
+pub returns-clause-inside : goal.returns-clause-inside
+returns-clause-inside c =
     IfOk-weaker c.merge_two-order.result _ _ (λ order h. order-inside order _ _ h.0 h.1)
-    (both c.merge_two-order.result _ _ c.merge_two-order.ensures.stream (returns-in-Ok-clause-items c))
+    (both c.merge_two-order.result _ _ c.merge_two-order.ensures.stream (returns-clause-items c))

@@ -6,8 +6,8 @@ use Rattle.mq_join.specs.Items.{port_at}
 use Rattle.mq_join.proofs.Gathering.{port-arrivals, ports-below, triples}
 use Rattle.mq_join.proofs.gathered.Gathered.add.Goals as goal
 
-pub invariant_of-self : goal.invariant_of-self
-invariant_of-self c =
+pub invariant_of-self-2 : goal.invariant_of-self-2
+invariant_of-self-2 c =
     let old = c.args.self.now in
     let order = c.in_ok-indices.field-0 in
     let jobs : length c.in-Ok.job ≡ length order.job = ap length c.in-Ok.ensures ∙ length-map order.job (slice_index (old.stream.job ++ c.args.stream.now.job)) in
@@ -25,8 +25,8 @@ invariant_of-self c =
       few = omega arith;
     }
 
-pub returns-in-Ok-ports-clause-ok : goal.returns-in-Ok-ports-clause-ok
-returns-in-Ok-ports-clause-ok c =
+pub returns-clause-ok : goal.returns-clause-ok
+returns-clause-ok c =
     let old = c.args.self.now in
     let order = c.in_ok-indices.field-0 in
     let ports : length c.in-Ok-ports.port ≡ length order.job = ap length c.in-Ok-ports.ensures ∙ length-map order.job (port_at old.port old.ports) in
