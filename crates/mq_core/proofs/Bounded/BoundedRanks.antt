@@ -1,11 +1,11 @@
 -- No departure of a run passes the latest that there may be, node by node in the order of ranks.
 use Rattle.mq_base.proofs.lemmas.Each.{Each-weaker}
+use Rattle.mq_core.proofs.lemmas.Plans.{ranked-few}
 use Rattle.mq_core.specs.Came.{came_of}
-use Rattle.std.proofs.Common.{◌≡◌, ◌⊎◌, inl, inr, ℕ, zero, suc, ◌+◌, ◌*◌, ◌^◌, ◌<◌, ◌≤◌, Bool, true, false, eqb, List, [], ◌∷◌, ◌++◌, length, take, Option, Some, None, sym, refl, ap, ◌∙◌, subst, arith, eqb-true, le-ltb, length-append}
+use Rattle.std.proofs.Common.{◌≡◌, ◌⊎◌, inl, inr, ℕ, zero, suc, ◌+◌, ◌*◌, ◌^◌, ◌<◌, ◌≤◌, Bool, true, false, eqb, List, [], ◌∷◌, length, take, Option, Some, None, sym, refl, ap, ◌∙◌, subst, arith, eqb-true, le-ltb}
 use Rattle.std.proofs.lemmas.Bool.{cases_Bool, cases_lt}
 use Rattle.std.proofs.lemmas.List.{length-map}
 use Rattle.std.proofs.lemmas.List.Elements.{recursion_from_All}
-use Rattle.std.specs.Option.{option_to_list}
 use Rattle.std.specs.Prelude.{◌||◌, slice_get}
 use Rattle.std.specs.List.{AllByRecursion as Each, zip}
 use Rattle.mq_core.specs.Asked.{HasDemands}
@@ -20,7 +20,7 @@ use Rattle.mq_core.specs.Results.{Late, first_of, most_visits, refusal_by, strea
 use Rattle.mq_core.specs.StandardTable.{run_of}
 use Rattle.mq_core.specs.Streams.{pairs_of}
 use Rattle.mq_core.specs.Theorems.{IsReadFor}
-use Rattle.mq_core.specs.Wiring.{first_ready, has, is_source_kind, outputs_read, ranked_after}
+use Rattle.mq_core.specs.Wiring.{has, is_source_kind, outputs_read}
 use Rattle.mq_core.specs.declared.model.Fate.{Fate}
 use Rattle.mq_core.specs.declared.model.Fate.TheVariants.{Departs, Held, Lost}
 use Rattle.mq_core.specs.declared.model.Input.{Input}
@@ -50,20 +50,6 @@ has-at (v ∷ order) (suc rank) node h = go (eqb v node) refl h (has-at order ra
     go false e k ih = let i = ih k in record { index = suc i.index; before = let l = i.before in omega arith; at = i.at }
 
 -- a ranking has no more nodes than there are
-ranked-few : (count : ℕ) (nodes : List Node) (ranked : List ℕ) → length (ranked_after count nodes ranked) ≤ length ranked + count
-unfolding ranked_after
-ranked-few zero nodes ranked = omega arith
-ranked-few (suc count) nodes ranked =
-    let ready = first_ready ranked 0 nodes in
-    let next = ranked-few count nodes (ranked ++ option_to_list ready) in
-    let grown = length-append ranked (option_to_list ready) in
-    let one = at-most ready in
-    omega arith
-  where
-    at-most : (o : Option ℕ) → length (option_to_list o) ≤ 1
-    at-most None = omega arith
-    at-most (Some n) = omega arith
-
 order-few : (plan : Plan) → length plan.order ≤ length plan.net.nodes
 order-few plan = let few = ranked-few (length plan.net.nodes) plan.net.nodes [] in let same = ap length plan.ranked in omega arith
 

@@ -2,6 +2,7 @@
 use Rattle.std.proofs.Common.{◌≡◌, ℕ, suc, ◌+◌, ◌-◌, ◌*◌, ◌≤◌, eqb, List, [], ◌∷◌, ◌++◌, length, Some, ap, arith, length-append}
 use Rattle.std.specs.Prelude.{filter, not}
 use Rattle.std.specs.List.{AllByRecursion as Each}
+use Rattle.mq_base.proofs.lemmas.Lists.{get-front}
 use Rattle.mq_core.specs.Event.{Event, time_of, earliest}
 use Rattle.mq_core.specs.Event.Event.{Finish}
 use Rattle.mq_core.specs.Handling.{demand_at, demand_of_visit, latest}
@@ -10,7 +11,7 @@ use Rattle.mq_core.specs.Machine.{Visit, Emission, emissions_of}
 use Rattle.mq_core.specs.Tallies.{sum_below, staying, emission_at}
 use Rattle.mq_core.specs.declared.model.Demand.{Demand}
 use Rattle.mq_core.specs.declared.model.Rows.{Rows}
-use Rattle.mq_core.proofs.Events.Areas.{get-front, sum-same}
+use Rattle.mq_core.proofs.Events.Areas.{sum-same}
 use Rattle.mq_core.proofs.Delay.Delays.{Delaying}
 use Rattle.mq_core.proofs.Delay.Schedules.{CameBefore, to_leave}
 use Rattle.mq_core.proofs.Delay.ScheduleNumbers.{remaining-ends, scheduling-busy_waits, scheduling-earlier, scheduling-emits, scheduling-fewer, scheduling-number}
@@ -46,7 +47,7 @@ module _ (rows : Rows) (demand : Demand) (v : ℕ) where
       let a = remaining-append now fs (Finish (now + demand_at rows demand (visits ++ x ∷ []) (latest (visits ++ x ∷ []))) v 0 (latest (visits ++ x ∷ [])) ∷ []) in
       let size : length (visits ++ x ∷ []) ≡ suc (length visits) = omega (arith, length-append visits (x ∷ [])) in
       let b = ap (λ n. sum_below n (λ p. demand_at rows demand (visits ++ x ∷ []) p)) size in
-      let c = sum-same (length visits) (λ p. demand_at rows demand (visits ++ x ∷ []) p) (λ p. demand_at rows demand visits p) (λ k l. ap (demand_of_visit rows demand) (get-front k visits (x ∷ []) l)) in
+      let c = sum-same (length visits) (λ p. demand_at rows demand (visits ++ x ∷ []) p) (λ p. demand_at rows demand visits p) (λ k l. ap (demand_of_visit rows demand) (get-front visits (x ∷ []) k l)) in
       let d = ap (demand_at rows demand (visits ++ x ∷ [])) (latest-push visits x) in
       omega arith
 

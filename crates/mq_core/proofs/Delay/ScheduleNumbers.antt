@@ -4,6 +4,7 @@ use Rattle.std.proofs.lemmas.List.{append-nil, length-map}
 use Rattle.std.specs.Prelude.{filter, not}
 use Rattle.std.specs.List.{AllByRecursion as Each}
 use Rattle.mq_base.proofs.lemmas.Each.{Each-back}
+use Rattle.mq_base.proofs.lemmas.Lists.{get-last}
 use Rattle.mq_core.specs.Event.{Event, time_of, earliest}
 use Rattle.mq_core.specs.Event.Event.{Finish}
 use Rattle.mq_core.specs.Handling.{demand_at, demand_of_job, demand_of_visit, latest}
@@ -12,7 +13,6 @@ use Rattle.mq_core.specs.Tallies.{staying, emission_at}
 use Rattle.mq_core.specs.declared.model.Demand.{Demand}
 use Rattle.mq_core.specs.declared.model.Rows.{Rows}
 use Rattle.mq_core.proofs.Delay.Schedules.{Scheduling, CameBefore, position_in, is_service, to_leave, lets-out, scheduling-ends}
-use Rattle.mq_core.proofs.Events.Areas.{get-last}
 use Rattle.mq_core.proofs.Events.Pending.{Splits, earliest-splits}
 use Rattle.mq_core.proofs.Events.Remaining.{remaining, remaining-append, remaining-waits}
 use Rattle.mq_core.proofs.Server.Serves.{latest-push}

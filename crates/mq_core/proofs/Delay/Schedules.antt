@@ -1,11 +1,12 @@
 -- What holds between two events of a node that serves jobs at once, each beside the others, and that a service begun and a finish keep it.
-use Rattle.std.proofs.Common.{◌≡◌, ℕ, zero, suc, ◌+◌, ◌<◌, ◌≤◌, Bool, true, false, cond, eqb, List, [], ◌∷◌, ◌++◌, length, map, Option, Some, None, sym, refl, ap, ◌∙◌, subst, arith, eq-eqb, eqb-true, append_assoc, length-append}
+use Rattle.std.proofs.Common.{◌≡◌, ℕ, suc, ◌+◌, ◌<◌, ◌≤◌, Bool, true, false, cond, eqb, List, [], ◌∷◌, ◌++◌, length, map, Option, Some, None, sym, refl, ap, ◌∙◌, subst, arith, eq-eqb, eqb-true, append_assoc, length-append}
 use Rattle.std.proofs.lemmas.Bool.Decides.{nat_tests}
 use Rattle.std.proofs.lemmas.List.{append-nil, map-append}
 use Rattle.std.proofs.lemmas.List.Elements.{filter-append}
 use Rattle.std.specs.Prelude.{filter, slice_get, not, ◌&&◌}
 use Rattle.std.specs.List.{AllByRecursion as Each}
 use Rattle.mq_base.proofs.lemmas.Each.{Each-append, Each-front, Each-back, Each-weaker, Each-both, Each-map, filter-all, filter-yes, filter-no}
+use Rattle.mq_base.proofs.lemmas.Lists.{get-front, get-last, get-some}
 use Rattle.mq_core.specs.Event.{Event, time_of, is_sooner, order_key, earliest}
 use Rattle.mq_core.specs.Event.Event.{Arrive, Finish}
 use Rattle.mq_core.specs.Machine.{Visit, Emission, emissions_of, emission_of}
@@ -18,7 +19,6 @@ use Rattle.mq_core.proofs.Lists.Order.{below-irrefl}
 use Rattle.mq_core.proofs.Events.Pending.{Splits, earliest-splits, filter-earliest_alike, filter-earliest_other}
 use Rattle.mq_core.proofs.lemmas.Rising.{Rises-append, same_by_key, Rises-in_order_of, filter-in_order_of}
 use Rattle.mq_core.proofs.Server.Serves.{latest-push}
-use Rattle.mq_core.proofs.Events.Areas.{get-front, get-last}
 use Rattle.mq_core.proofs.Events.EmissionsAt.{unknown, found-behind, other-behind}
 use Rattle.mq_core.proofs.Events.Falls.{sum_below-one}
 
@@ -83,7 +83,7 @@ scheduling-waits flow v visits scheduled emitted fs now later l h =
 pub to_leave-push : (v : ℕ) (visits : List Visit) (x : Visit) (fs : List Event) → Each (λ f. (is_service v f ≡ true) × (position_in f < length visits)) fs → map (to_leave (visits ++ x ∷ [])) fs ≡ map (to_leave visits) fs
 to_leave-push v visits x [] h = refl
 to_leave-push v visits x (f ∷ fs) h =
-    λ i. record { out = 0; position = position_in f; job = job_in (get-front (position_in f) visits (x ∷ []) h.0.1 i); time = time_of f } ∷ to_leave-push v visits x fs h.1 i
+    λ i. record { out = 0; position = position_in f; job = job_in (get-front visits (x ∷ []) (position_in f) h.0.1 i); time = time_of f } ∷ to_leave-push v visits x fs h.1 i
 
 -- those behind a position that leaves later came before, and so does one that comes now
 pub came_before-push : (visits : List Visit) (now : ℕ) (x : Visit) (fs : List Event) → x.arrive ≡ now → Each (λ f. now < time_of f) fs → Each (λ f. CameBefore visits (position_in f) (time_of f)) fs → Each (λ f. CameBefore (visits ++ x ∷ []) (position_in f) (time_of f)) fs
@@ -103,7 +103,7 @@ came_before-push visits now x (g ∷ gs) at s b = (one, came_before-push visits 
         go true e = let q = ap (arrival_or 0) (ap (slice_get (visits ++ x ∷ [])) (eqb-true p (length visits) e) ∙ get-last visits x) in let t = s.0 in omega arith
         go false e =
             let there : p < length visits = less p (length visits) (λ k. let c = eq-eqb p (length visits) k in absurd cc) (let z = size in omega arith) in
-            subst (λ o. arrival_or 0 o < time_of g) (sym (get-front p visits (x ∷ []) there)) (b.0 p l there)
+            subst (λ o. arrival_or 0 o < time_of g) (sym (get-front visits (x ∷ []) p there)) (b.0 p l there)
 
 -- an arrival that is served
 pub scheduling-joins : (rows : Rows) (demand : Demand) (flow : List Emission) (v : ℕ) (visits : List Visit) (scheduled : List ℕ) (emitted : List Emission) (fs : List Event) (now : ℕ) (x : Visit) → x.arrive ≡ now → Each (λ f. now < time_of f) fs → Scheduling flow v visits scheduled emitted fs now →
@@ -211,11 +211,6 @@ others [] back e r = Each-weaker _ _ (λ g l q. omega arith) back r.0
 others (f ∷ front) back e r =
     let before : position_in f < position_in e = (Each-back (λ g. position_in f < position_in g) front (e ∷ back) r.0).0 in
     ((λ q. omega arith), others front back e r.1)
-
-get-some : (xs : List Visit) (p : ℕ) → p < length xs → (x : Visit) × (slice_get xs p ≡ Some x)
-get-some [] p l = absurd (omega arith)
-get-some (y ∷ ys) zero l = (y, refl)
-get-some (y ∷ ys) (suc p) l = get-some ys p (omega arith)
 
 -- a finish lets out its position
 pub lets-out : (visits : List Visit) (now v server position : ℕ) → position < length visits → emissions_of now visits (record { out = 0; position = position } ∷ []) ≡ to_leave visits (Finish now v server position) ∷ []

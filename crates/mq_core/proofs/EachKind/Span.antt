@@ -2,6 +2,7 @@
 use Rattle.std.proofs.Common.{List, None, Option, Some, [], ap, arith, eq-eqb, false, inl, inr, length, length-append, refl, subst, suc, sym, zero, ℕ, ◌++◌, ◌<◌, ◌∙◌, ◌∷◌, ◌≡◌, ◌⊎◌}
 use Rattle.std.specs.List.{AllByRecursion as Each}
 use Rattle.std.specs.Prelude.{IfSome, filter, slice_get}
+use Rattle.mq_base.proofs.lemmas.Lists.{get-last}
 use Rattle.mq_core.specs.Event.{Event, earliest}
 use Rattle.mq_core.specs.Event.Event.{Arrive, Finish}
 use Rattle.mq_core.specs.Fates.{ComesAt, LeavesAt, SpanIsLatest, keeps_visits}
@@ -22,7 +23,6 @@ use Rattle.mq_core.proofs.EachKind.Facts.{node_fact, standard-keeps}
 use Rattle.mq_core.proofs.EachKind.KindLaws.{IsFilled}
 use Rattle.mq_core.proofs.EachKind.LawTable.{laws_of}
 use Rattle.mq_core.proofs.EachKind.Tallied.{KnownAt, areas-by, known-keeps}
-use Rattle.mq_core.proofs.Events.Areas.{get-last}
 use Rattle.mq_core.proofs.Events.Forward.{emissions-now}
 use Rattle.mq_core.proofs.Events.Kept.{Fact, Holds, Keeps, holds-happens, holds-start, holds-until, kept}
 use Rattle.mq_core.proofs.Events.Past.{IsPast}

@@ -1,6 +1,6 @@
 -- That the area of a node is the sum of the sojourns so far.
 -- Sums over positions, and visits by position.
-use Rattle.std.proofs.Common.{◌≡◌, ℕ, zero, suc, ◌+◌, ◌*◌, ◌<◌, ◌≤◌, List, [], ◌∷◌, ◌++◌, length, Some, refl, arith}
+use Rattle.std.proofs.Common.{◌≡◌, ℕ, zero, suc, ◌+◌, ◌*◌, ◌<◌, ◌≤◌, List, [], ◌∷◌, length, refl, arith}
 use Rattle.std.proofs.Math.Nat.{add-mul}
 use Rattle.std.specs.Prelude.{slice_get}
 use Rattle.std.specs.List.{AllByRecursion as Each}
@@ -10,6 +10,10 @@ use Rattle.mq_core.specs.Tallies.{sum_below, arrival_or}
 pub sum-same : (n : ℕ) (f g : ℕ → ℕ) → ((k : ℕ) → k < n → f k ≡ g k) → sum_below n f ≡ sum_below n g
 sum-same zero f g h = refl
 sum-same (suc n) f g h = omega (arith, h n (omega arith), sum-same n f g (λ k l. h k (omega arith)))
+
+pub sum-none : (n : ℕ) (f : ℕ → ℕ) → ((k : ℕ) → k < n → f k ≡ 0) → sum_below n f ≡ 0
+sum-none zero f h = refl
+sum-none (suc n) f h = let a = h n (omega arith) in let b = sum-none n f (λ k l. h k (omega arith)) in omega arith
 
 pub sum-grows : (n d : ℕ) (f g h : ℕ → ℕ) → ((k : ℕ) → k < n → f k ≡ g k + h k * d) → sum_below n f ≡ sum_below n g + sum_below n h * d
 sum-grows zero d f g h e = omega arith
@@ -23,12 +27,3 @@ pub get-visit : (now : ℕ) (visits : List Visit) (k : ℕ) → k < length visit
 get-visit now [] k l h = absurd (omega arith)
 get-visit now (x ∷ xs) zero l h = h.0
 get-visit now (x ∷ xs) (suc k) l h = get-visit now xs k (omega arith) h.1
-
-pub get-front : (k : ℕ) (xs ys : List Visit) → k < length xs → slice_get (xs ++ ys) k ≡ slice_get xs k
-get-front k [] ys l = absurd (omega arith)
-get-front zero (x ∷ xs) ys l = refl
-get-front (suc k) (x ∷ xs) ys l = get-front k xs ys (omega arith)
-
-pub get-last : (xs : List Visit) (x : Visit) → slice_get (xs ++ x ∷ []) (length xs) ≡ Some x
-get-last [] x = refl
-get-last (y ∷ xs) x = get-last xs x

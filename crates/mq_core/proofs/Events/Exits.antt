@@ -1,11 +1,12 @@
 -- What each visit found, by the emissions with which visits leave, however a kind tells these.
 use Rattle.std.proofs.Common.{◌≡◌, ℕ, suc, ◌-◌, ◌<◌, Bool, true, false, eqb, eqb-true, eq-eqb, List, [], ◌∷◌, ◌++◌, length, Option, Some, None, sym, refl, ap, ◌∙◌, arith, length-append}
 use Rattle.std.specs.Prelude.{nat_lt, slice_get}
+use Rattle.mq_base.proofs.lemmas.Lists.{get-front, get-last}
 use Rattle.mq_core.specs.Event.{Event, earliest}
 use Rattle.mq_core.specs.Event.Event.{Arrive, Finish}
 use Rattle.mq_core.specs.Machine.{Visit, Emission, Table, Station, acted, aged}
 use Rattle.mq_core.specs.Tallies.{arrival_or, found_or, one_if_none, sum_below, one_if_there}
-use Rattle.mq_core.proofs.Events.Areas.{get-front, get-last, sum-same}
+use Rattle.mq_core.proofs.Events.Areas.{sum-same}
 use Rattle.mq_core.proofs.Events.Kept.{Fact, Fits, Keeps}
 use Rattle.mq_core.proofs.Events.Later.{one_if_later}
 
@@ -82,7 +83,7 @@ keeps-founds_by {L} t P Q exit there keeps leaves =
         inside = less p (length s.visits) (λ k. let c = eq-eqb p (length s.visits) k in absurd cc) (omega (arith, length-append s.visits (x ∷ [])))
 
         front : slice_get (s.visits ++ x ∷ []) p ≡ slice_get s.visits p
-        front = get-front p s.visits (x ∷ []) inside
+        front = get-front s.visits (x ∷ []) p inside
 
 -- whoever leaves later than one comes is there for it
 pub until-own : (time position : ℕ) (o : Option Emission) → one_if_there (λ t p (m : Emission). nat_lt t m.time) time position o ≡ one_if_later time o

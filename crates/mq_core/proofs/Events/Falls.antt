@@ -4,6 +4,7 @@ use Rattle.std.proofs.Math.Nat.{suc-mul}
 use Rattle.std.specs.Prelude.{filter, IfSome}
 use Rattle.std.specs.List.{AllByRecursion as Each}
 use Rattle.mq_base.proofs.lemmas.Each.{Each-append, Each-front, Each-back, not_true}
+use Rattle.mq_core.proofs.Events.Areas.{sum-same}
 use Rattle.mq_core.specs.Event.{Event, time_of, node_of, earliest}
 use Rattle.mq_core.specs.Event.Event.{Arrive, Finish}
 use Rattle.mq_core.specs.Machine.{Emission, Service, Table, State, Station, after, happens, caused, arrivals_of, arrival_of, emissions_at, finishes_of, reaction, until, acted, aged, opened}
@@ -15,10 +16,6 @@ use Rattle.mq_core.proofs.Events.Steps.{after-some, after-none, after-zero, stat
 use Rattle.mq_core.proofs.Events.Forward.{Each-arrivals, Each-finishes}
 use Rattle.mq_core.proofs.Events.Kept.{Begins, Fact, Keeps, Holds, holds-happens, holds-until, holds-start}
 
-sum_below-same : (n : ℕ) (f g : ℕ → ℕ) → ((k : ℕ) → k < n → f k ≡ g k) → sum_below n f ≡ sum_below n g
-sum_below-same zero f g h = refl
-sum_below-same (suc n) f g h = omega (arith, h n (omega arith), sum_below-same n f g (λ k l. h k (omega arith)))
-
 -- one summand changes
 pub sum_below-one : (n u : ℕ) (f g : ℕ → ℕ) → u < n → ((k : ℕ) → (k ≡ u → ⊥) → f k ≡ g k) → sum_below n f + g u ≡ sum_below n g + f u
 sum_below-one zero u f g l h = absurd (omega arith)
@@ -27,7 +24,7 @@ sum_below-one (suc n) u f g l h = go (eqb n u) refl (sum_below-one n u f g)
     go : (b : Bool) → eqb n u ≡ b → (u < n → ((k : ℕ) → (k ≡ u → ⊥) → f k ≡ g k) → sum_below n f + g u ≡ sum_below n g + f u) → (f n + sum_below n f) + g u ≡ (g n + sum_below n g) + f u
     go true e ih =
         let same : n ≡ u = eqb-true n u e in
-        let rest = sum_below-same n f g (λ k m. h k (λ q. omega arith)) in
+        let rest = sum-same n f g (λ k m. h k (λ q. omega arith)) in
         omega (arith, ap f same, ap g same)
     go false e ih =
         let other : n ≢ u = λ q. let c = eq-eqb n u q in absurd cc in

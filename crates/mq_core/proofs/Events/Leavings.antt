@@ -4,12 +4,12 @@ use Rattle.std.specs.Prelude.{slice_get}
 use Rattle.std.specs.Option.{option_map}
 use Rattle.std.specs.List.{AllByRecursion as Each}
 use Rattle.mq_base.proofs.lemmas.Each.{Each-append, Each-weaker}
-use Rattle.mq_base.proofs.lemmas.Lists.{some_inj}
+use Rattle.mq_base.proofs.lemmas.Lists.{get-front, get-last, some_inj}
 use Rattle.mq_core.specs.Event.{Event, earliest}
 use Rattle.mq_core.specs.Event.Event.{Arrive, Finish}
 use Rattle.mq_core.specs.Machine.{Visit, Emission, Table, Station, acted, aged}
 use Rattle.mq_core.specs.Tallies.{sum_below, arrival_or, emission_at}
-use Rattle.mq_core.proofs.Events.Areas.{get-front, get-last, get-visit, sum-same, sum-grows}
+use Rattle.mq_core.proofs.Events.Areas.{get-visit, sum-same, sum-grows}
 use Rattle.mq_core.proofs.Events.Founds.{emission_at-append, found-each}
 use Rattle.mq_core.proofs.Events.Kept.{Fact, Fits, Keeps}
 
@@ -137,7 +137,7 @@ keeps-areas_by {L} t P Q left keeps leaves =
             omega arith
         own-late k time false other l e =
             let inside : k < length s.visits = less (λ c. let d = eq-eqb k (length s.visits) c in absurd cc) (omega (arith, size)) in
-            subst (λ o. arrival_or 0 o ≤ time) (sym (get-front k s.visits (x ∷ []) inside))
+            subst (λ o. arrival_or 0 o ≤ time) (sym (get-front s.visits (x ∷ []) k inside))
             (later now (arrival_or 0 (slice_get s.visits k)) time _ _ (leaves.arrives v port job s fs now q fit h k inside) (get-visit now s.visits k inside a.came) (a.late k time inside) e)
           where
             less : (k ≡ length s.visits → ⊥) → k < suc (length s.visits) → k < length s.visits
@@ -150,7 +150,7 @@ keeps-areas_by {L} t P Q left keeps leaves =
               own,
               index,
               sum-same (length s.visits) (stay_by left v now (acted t s (Arrive now v port job))) (stay_by left v now s)
-                  (λ k l. (λ i. now-same now _ _ (leaves.arrives v port job s fs now q fit h k l) i - arrival_or 0 (get-front k s.visits (x ∷ []) l i))),
+                  (λ k l. (λ i. now-same now _ _ (leaves.arrives v port job s fs now q fit h k l) i - arrival_or 0 (get-front s.visits (x ∷ []) k l i))),
             )
 
 -- emissions now let out a position for good, or now

@@ -6,6 +6,7 @@ use Rattle.std.proofs.lemmas.List.{append-nil}
 use Rattle.std.specs.Prelude.{filter, ◌&&◌, slice_get, IfSome}
 use Rattle.std.specs.List.{AllByRecursion as Each}
 use Rattle.mq_base.proofs.lemmas.Each.{Each-append, Each-front, Each-back, Each-weaker, Each-map, Each-any, Each-filter, Each-filter_if, Each-both, filter-none, filter-all, filter-yes, filter-no, filter-and, filter-swap}
+use Rattle.mq_core.proofs.Events.EmissionsAt.{neq-eqb}
 use Rattle.mq_core.specs.Event.{Event, time_of, node_of, is_sooner, order_key, earliest}
 use Rattle.mq_core.specs.Event.Event.{Arrive, Finish}
 use Rattle.mq_core.specs.Machine.{Emission, Table, State, Station, after, handled, happens, caused, arrivals_of, emissions_at, finishes_of, reaction, until, opened}
@@ -107,11 +108,8 @@ arrivals-rise {L} t on_time forward v (suc n) s = go (earliest t.rank s.pending)
 brought-at : (v q : ℕ) (stream : List Emission) → filter (is_at_port v q) (brought v q stream) ≡ brought v q stream
 brought-at v q stream = filter-all (is_at_port v q) (brought v q stream) (Each-map (λ _. Unit {0}) (λ f. is_at_port v q f ≡ true) (λ m. Arrive m.time v q m.job) (λ m _. rw (eq-eqb v v refl, eq-eqb q q refl) refl) stream (Each-any _ (λ _. tt) stream))
 
-neq-eqb' : (a b : ℕ) → (a ≡ b → ⊥) → eqb a b ≡ false
-neq-eqb' a b h = grind (arith, nat_tests)
-
 brought-other : (v q r : ℕ) (stream : List Emission) → (r ≡ q → ⊥) → filter (is_at_port v q) (brought v r stream) ≡ []
-brought-other v q r stream h = filter-none (is_at_port v q) (brought v r stream) (Each-map (λ _. Unit {0}) (λ f. is_at_port v q f ≡ false) (λ m. Arrive m.time v r m.job) (λ m _. rw (eq-eqb v v refl, neq-eqb' r q h) refl) stream (Each-any _ (λ _. tt) stream))
+brought-other v q r stream h = filter-none (is_at_port v q) (brought v r stream) (Each-map (λ _. Unit {0}) (λ f. is_at_port v q f ≡ false) (λ m. Arrive m.time v r m.job) (λ m _. rw (eq-eqb v v refl, neq-eqb r q h) refl) stream (Each-any _ (λ _. tt) stream))
 
 -- what an input reads, if there is one
 abbrev from_input : {L : Type 0} → State L → ℕ → ℕ → Option (ℕ × ℕ) → List Event

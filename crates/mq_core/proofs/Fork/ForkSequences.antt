@@ -17,12 +17,12 @@ use Rattle.mq_core.specs.Tallies.{arrival_or, emission_at, found_or, sum_below}
 use Rattle.mq_core.specs.declared.model.Fate.{Fate}
 use Rattle.mq_core.specs.declared.model.Fate.TheVariants.{Departs}
 use Rattle.mq_core.specs.Results.{fates_by, or_held}
-use Rattle.mq_base.proofs.lemmas.Lists.{some_inj}
+use Rattle.mq_base.proofs.lemmas.Lists.{get-some, some_inj}
 use Rattle.mq_core.specs.Tallies.{one_if_there}
 use Rattle.mq_core.proofs.Join.Entries.{count-push}
-use Rattle.mq_core.proofs.Join.Joinings.{get-some}
 use Rattle.mq_core.proofs.Fork.Forks.{copied-found, copied-position, find-back, find-front}
 use Rattle.mq_base.proofs.lemmas.Each.{Each-append, Each-weaker}
+use Rattle.mq_core.proofs.Events.Areas.{sum-none}
 
 copied-time : (outputs p : ℕ) (x : Visit) → Each (λ (m : Emission). m.time ≡ x.arrive) (copied outputs p x)
 copied-time zero p x = tt
@@ -129,10 +129,6 @@ rise-get (z ∷ xs) zero zero x y r l e f = absurd (omega arith)
 rise-get (z ∷ xs) zero (suc j) x y r l e f = subst (λ (v : Visit). v.arrive ≤ y.arrive) (some_inj z x e) (each-get z.arrive xs j y r.0 f)
 rise-get (z ∷ xs) (suc i) zero x y r l e f = absurd (omega arith)
 rise-get (z ∷ xs) (suc i) (suc j) x y r l e f = rise-get xs i j x y r.1 (omega arith) e f
-
-sum-none : (n : ℕ) (f : ℕ → ℕ) → ((k : ℕ) → k < n → f k ≡ 0) → sum_below n f ≡ 0
-sum-none zero f h = refl
-sum-none (suc n) f h = let a = h n (omega arith) in let b = sum-none n f (λ k l. h k (omega arith)) in omega arith
 
 -- nobody is still there
 none-there : (outputs : ℕ) (s : Station Local) → CopiedAt 0 s.emitted s.visits → Rises (λ a b. a ≤ b) (arrives_of s.visits) → (p : ℕ) → p < length s.visits → sum_below p (λ k. one_if_there (fork outputs).there (arrival_or 0 (slice_get s.visits p)) p (emission_at s.emitted k)) ≡ 0

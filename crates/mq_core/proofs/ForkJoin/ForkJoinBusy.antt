@@ -6,6 +6,8 @@ use Rattle.std.proofs.lemmas.List.{map-append}
 use Rattle.std.proofs.lemmas.List.Sums.{sum_by-append, sum_by-cons}
 use Rattle.std.specs.Prelude.{filter, count_by}
 use Rattle.std.specs.List.{AllByRecursion as Each, flat_map}
+use Rattle.mq_base.proofs.lemmas.Lists.{get-front}
+use Rattle.mq_core.proofs.Events.EmissionsAt.{neq-eqb}
 use Rattle.mq_core.specs.Event.{Event, time_of, earliest, sooner_of}
 use Rattle.mq_core.specs.Event.Event.{Arrive, Finish}
 use Rattle.mq_core.specs.Machine.{Visit, Emission, Service, finishes_of}
@@ -15,14 +17,13 @@ use Rattle.mq_core.specs.Kinds.ForkJoin.{Moved, ForkJoinMoved, is_busy, busy_ser
 use Rattle.mq_core.specs.Tallies.{sum_below}
 use Rattle.mq_core.specs.declared.model.Demand.{Demand}
 use Rattle.mq_core.specs.declared.model.Rows.{Rows}
-use Rattle.mq_core.proofs.Events.Areas.{get-front, sum-same}
+use Rattle.mq_core.proofs.Events.Areas.{sum-same}
 use Rattle.mq_core.proofs.Events.Pending.{earliest-splits, earliest-filter}
 use Rattle.mq_core.proofs.Events.Remaining.{remaining, remaining-append, remaining-waits}
-use Rattle.mq_core.proofs.Server.Serves.{last_served, latest-push, positions}
+use Rattle.mq_core.proofs.Server.Serves.{last_served, latest-push, positions, positions-length}
 use Rattle.mq_core.proofs.ForkJoin.ForkJoinServers.{Stands, Series, is_at_server, next_at, departing, departing-length}
 use Rattle.mq_core.proofs.ForkJoin.ForkJoinSeries.{series-still}
 use Rattle.mq_core.proofs.ForkJoin.ForkJoinBranches.{Branching, count_of, branching-still}
-use Rattle.mq_core.proofs.ForkJoin.ForkJoinLoads.{positions-length}
 use Rattle.mq_core.proofs.ForkJoin.ForkJoins.{IsServed, ForkJoining, taken-each}
 
 -- the sum of f over this many numbers from the first on
@@ -53,9 +54,6 @@ sum_from-one : (low n k : ℕ) (f g : ℕ → ℕ) → low ≤ k → k < low + n
 sum_from-one low zero k f g l u h = absurd (omega arith)
 sum_from-one low (suc n) k f g l u h = go (eqb k low) refl (sum_from-one (low + 1) n k f g)
   where
-    neq-eqb : (a b : ℕ) → (a ≡ b → ⊥) → eqb a b ≡ false
-    neq-eqb a b h = grind (arith, nat_tests)
-
     less : (a b : ℕ) → a ≤ b → eqb b a ≡ false → a + 1 ≤ b
     less a b l e = grind (arith, nat_tests)
 
@@ -168,7 +166,7 @@ module _ (rows : Rows) (v now : ℕ) (all : List Visit) where
 
 -- a visit more changes nothing of the services that have begun
 front-sum : (rows : Rows) (d : Demand) (n : ℕ) (visits : List Visit) (x : Visit) → n ≤ length visits → sum_below n (λ p. demand_at rows d (visits ++ x ∷ []) p) ≡ sum_below n (λ p. demand_at rows d visits p)
-front-sum rows d n visits x l = sum-same n _ _ (λ k u. ap (demand_of_visit rows d) (get-front k visits (x ∷ []) (omega arith)))
+front-sum rows d n visits x l = sum-same n _ _ (λ k u. ap (demand_of_visit rows d) (get-front visits (x ∷ []) k (omega arith)))
 
 begun-front : (rows : Rows) (visits : List Visit) (x : Visit) (n : ℕ) (demands : List (List Demand)) (branches : List Branch) → n ≤ length visits → branches_begun rows (visits ++ x ∷ []) n demands branches ≡ branches_begun rows visits n demands branches
 begun-front rows visits x n [] branches l = refl

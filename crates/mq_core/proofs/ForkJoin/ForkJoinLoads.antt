@@ -12,7 +12,7 @@ use Rattle.mq_core.specs.Handling.{latest}
 use Rattle.mq_core.specs.Kinds.ForkJoin.{Moved, ForkJoinMoved, goes_in, goes_on, finishes_at, each_branch, least_through, forkjoin_on}
 use Rattle.mq_core.specs.declared.model.Demand.{Demand}
 use Rattle.mq_core.specs.declared.model.Rows.{Rows}
-use Rattle.mq_core.proofs.Server.Serves.{positions}
+use Rattle.mq_core.proofs.Server.Serves.{positions-length}
 use Rattle.mq_core.proofs.ForkJoin.ForkJoinServers.{Stands, Series, Lets, is_at_server, departing, departing-length}
 use Rattle.mq_core.proofs.ForkJoin.ForkJoinSeries.{series-still}
 use Rattle.mq_core.proofs.Events.Pending.{earliest-filter}
@@ -102,10 +102,6 @@ forkjoining-arrives-falls rows demands onward v port job local earlier visits em
     let b = times-least (most_inside (each_branch (λ first ds queues. goes_in rows visits now first ds queues (latest visits)) 0 demands local.branches).branches) (most_inside local.branches) onward (arrives-most rows visits now (latest visits) 0 demands local.branches) in
     let c = h.shape.few in
     omega arith
-
-pub positions-length : (k : ℕ) (xs : List Visit) → length (positions k xs) ≡ length xs
-positions-length k [] = refl
-positions-length k (x ∷ xs) = ap suc (positions-length (suc k) xs)
 
 module _ (rows : Rows) (v : ℕ) where
   -- who isn't through a branch is at one of its servers

@@ -3,6 +3,7 @@ use Rattle.std.proofs.Common.{◌≡◌, ℕ, zero, suc, ◌+◌, ◌-◌, List,
 use Rattle.std.proofs.lemmas.List.Sums.{sum_by-append, sum_by-cons}
 use Rattle.std.specs.Prelude.{slice_get, filter, sum_by}
 use Rattle.std.specs.List.{flat_map}
+use Rattle.mq_core.proofs.Events.Areas.{sum-none}
 use Rattle.mq_core.specs.Event.{Event}
 use Rattle.mq_core.specs.Handling.{demand_of_visit, demand_at}
 use Rattle.mq_core.specs.Local.{Branch}
@@ -22,13 +23,9 @@ sum-plus : (n : ℕ) (f g h : ℕ → ℕ) → ((p : ℕ) → h p ≡ f p + g p)
 sum-plus zero f g h e = omega arith
 sum-plus (suc n) f g h e = let a = e n in let r = sum-plus n f g h e in omega arith
 
-sum-none : (n : ℕ) → sum_below n (λ _. 0) ≡ 0
-sum-none zero = refl
-sum-none (suc n) = let r = sum-none n in omega arith
-
 module _ (rows : Rows) (v : ℕ) (all : List Visit) (n now : ℕ) where
   series-idle : (server : ℕ) (ds : List Demand) (visits : List Visit) (queues : List (List ℕ)) (ended : List Visit) (pend : ℕ → List Event) → Series rows v server ds visits queues ended pend now → count_in queues ≡ 0 → series_begun rows all n ds queues ≡ sum_below n (λ p. sum_by (λ d. demand_at rows d all p) ds)
-  series-idle server [] visits queues ended pend h e = sym (sum-none n)
+  series-idle server [] visits queues ended pend h e = sym (sum-none n (λ _. 0) (λ k l. refl))
   series-idle server (d ∷ ds) visits [] ended pend h e = absurd h
   series-idle server (d ∷ ds) visits (queue ∷ queues) ended pend (gone, here, h, rest) e =
       let one : n - (length queue - 1) ≡ n = omega arith in
@@ -41,7 +38,7 @@ module _ (rows : Rows) (v : ℕ) (all : List Visit) (n now : ℕ) where
 
   branches-idle : (server : ℕ) (demands : List (List Demand)) (visits : List Visit) (branches : List Branch) (endeds : List (List Visit)) (pend : ℕ → List Event) → Branching rows v server demands visits branches endeds pend now → most_inside branches ≡ 0 →
       branches_begun rows all n demands branches ≡ sum_below n (λ p. sum_by (λ d. demand_at rows d all p) (flat_map (λ ds. ds) demands))
-  branches-idle server [] visits branches endeds pend h e = sym (sum-none n)
+  branches-idle server [] visits branches endeds pend h e = sym (sum-none n (λ _. 0) (λ k l. refl))
   branches-idle server (ds ∷ more) visits [] endeds pend h e = absurd h
   branches-idle server (ds ∷ more) visits (b ∷ bs) [] pend h e = absurd h
   branches-idle server (ds ∷ more) visits (b ∷ bs) (f ∷ fs) pend h e =

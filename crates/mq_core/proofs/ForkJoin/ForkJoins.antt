@@ -6,6 +6,7 @@ use Rattle.std.proofs.lemmas.List.Elements.{filter-append}
 use Rattle.std.specs.Prelude.{slice_get, filter}
 use Rattle.std.specs.List.{AllByRecursion as Each}
 use Rattle.mq_base.proofs.lemmas.Each.{Each-append, Each-back, Each-front, Each-both, Each-map, not_true}
+use Rattle.mq_base.proofs.lemmas.Lists.{get-front}
 use Rattle.mq_core.specs.Event.{Event, time_of, earliest}
 use Rattle.mq_core.specs.Event.Event.{Arrive, Finish}
 use Rattle.mq_core.specs.Machine.{Visit, Emission, Service, Release, finishes_of, emissions_of, emission_of}
@@ -16,7 +17,6 @@ use Rattle.mq_core.specs.Emitting.{passed_from}
 use Rattle.mq_core.specs.Tallies.{arrival_or}
 use Rattle.mq_core.specs.declared.model.Demand.{Demand}
 use Rattle.mq_core.specs.declared.model.Rows.{Rows}
-use Rattle.mq_core.proofs.Events.Areas.{get-front}
 use Rattle.mq_core.proofs.Events.Pending.{earliest-splits, earliest-filter, filter-earliest_other}
 use Rattle.mq_core.proofs.Server.Serves.{demand_of-push, latest-push, length-push, slice_get-middle}
 use Rattle.mq_core.proofs.ForkJoin.ForkJoinServers.{Series, Lets, is_at_server, position_in, begins_alone-behind}
@@ -136,7 +136,7 @@ forkjoining-arrives rows demands v port local visits emitted fs now x at soon h 
         go false e =
             let other : (p ≡ length visits → ⊥) = (λ k. let c = eq-eqb p (length visits) k in absurd cc) in
             let inner : p < length visits = less p (length visits) other (omega (arith, length-push visits x)) in
-            subst (λ o. arrival_or 0 o < time_of f) (sym (get-front p visits (x ∷ []) inner)) (before p l inner)
+            subst (λ o. arrival_or 0 o < time_of f) (sym (get-front visits (x ∷ []) p inner)) (before p l inner)
           where
             less : (a b : ℕ) → (a ≡ b → ⊥) → a < suc b → a < b
             less a b n l = omega arith

@@ -6,13 +6,13 @@ use Rattle.std.proofs.lemmas.List.Elements.{filter-append}
 use Rattle.std.specs.List.{AllByRecursion as Each, list_any}
 use Rattle.std.specs.Prelude.{count_by, filter, nat_le, slice_get, ◌&&◌, ◌==◌, ◌||◌}
 use Rattle.mq_base.proofs.lemmas.Each.{Each-append}
-use Rattle.mq_base.proofs.lemmas.Lists.{some_inj}
+use Rattle.mq_base.proofs.lemmas.Lists.{get-front, get-last, some_inj}
 use Rattle.mq_core.specs.Event.{Event}
 use Rattle.mq_core.specs.Handling.{latest}
 use Rattle.mq_core.specs.Kinds.Join.{has_entry, has_job, is_by, is_of, taken_out, without_first}
 use Rattle.mq_core.specs.Machine.{Emission, Visit}
 use Rattle.mq_core.proofs.Join.Entries.{by-job, by-port, count-cons, taken-each}
-use Rattle.mq_core.proofs.Join.Joinings.{Joining, get-at, get-before, of_row, of_row-push}
+use Rattle.mq_core.proofs.Join.Joinings.{Joining, of_row, of_row-push}
 use Rattle.mq_core.proofs.Server.Serves.{latest-push}
 
 -- the positions of the visits of a row by a port, the first visit being at this one
@@ -116,11 +116,11 @@ module _ (ports : ℕ) (visits : List Visit) (held : List (ℕ × ℕ)) (emitted
   joined = held ++ (x.port, latest (visits ++ x ∷ [])) ∷ []
 
   last-own : slice_get more (latest more) ≡ Some x
-  last-own = ap (slice_get more) (latest-push visits x) ∙ get-at visits x
+  last-own = ap (slice_get more) (latest-push visits x) ∙ get-last visits x
 
   filter-same : (job port : ℕ) (es : List (ℕ × ℕ)) → Each (λ (e : ℕ × ℕ). e.1 < length visits) es → filter (is_by more job port) es ≡ filter (is_by visits job port) es
   filter-same job port [] k = refl
-  filter-same job port (e ∷ es) k = λ i. cond (has_job job (get-before visits (x ∷ []) e.1 k.0 i) && (e.0 == port)) (e ∷ filter-same job port es k.1 i) (filter-same job port es k.1 i)
+  filter-same job port (e ∷ es) k = λ i. cond (has_job job (get-front visits (x ∷ []) e.1 k.0 i) && (e.0 == port)) (e ∷ filter-same job port es k.1 i) (filter-same job port es k.1 i)
 
   -- before a match is taken out
   fronts-joined : (job port : ℕ) → port < ports → spots (filter (is_by more job port) joined) ≡ drop (length (of_row job emitted)) (rowed job port 0 more)
@@ -146,7 +146,7 @@ module _ (ports : ℕ) (visits : List Visit) (held : List (ℕ × ℕ)) (emitted
     where
       both : (es : List (ℕ × ℕ)) → Each (λ (e : ℕ × ℕ). e.1 < length visits) es → Each (λ (e : ℕ × ℕ). (y : Visit) × (slice_get visits e.1 ≡ Some y) × (y.port ≡ e.0)) es → Each (λ (e : ℕ × ℕ). (y : Visit) × (slice_get more e.1 ≡ Some y) × (y.port ≡ e.0)) es
       both [] k o = tt
-      both (e ∷ es) k o = ((o.0.0, get-before visits (x ∷ []) e.1 k.0 ∙ o.0.1, o.0.2), both es k.1 o.1)
+      both (e ∷ es) k o = ((o.0.0, get-front visits (x ∷ []) e.1 k.0 ∙ o.0.1, o.0.2), both es k.1 o.1)
 
   -- no match is whole now
   pub entered-waits : Entered ports more joined emitted

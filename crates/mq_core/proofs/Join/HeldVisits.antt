@@ -1,5 +1,5 @@
 -- That the visits to a join that haven't left are those that have an entry.
-use Rattle.mq_base.proofs.lemmas.Lists.{some_inj}
+use Rattle.mq_base.proofs.lemmas.Lists.{get-none, get-some, some_inj}
 use Rattle.mq_core.specs.Event.{Event}
 use Rattle.std.proofs.Common.{List, [], Some, suc, zero, ◌∷◌, ap, arith, false, length, refl, subst, sym, true, ℕ, ◌<◌, ◌∙◌, ◌≡◌, ◌≤◌, ◌⊎◌, inl, inr}
 use Rattle.std.proofs.lemmas.Bool.{cases_lt}
@@ -20,7 +20,7 @@ use Rattle.mq_core.proofs.EachKind.Facts.{kind_fact, node_fact, standard-keeps}
 use Rattle.mq_core.proofs.Events.Kept.{kept}
 use Rattle.mq_core.proofs.Join.HeldEntries.{entry-stays}
 use Rattle.mq_core.proofs.Join.JoinLaws.{Joined}
-use Rattle.mq_core.proofs.Join.Joinings.{get-none, get-some, of_row}
+use Rattle.mq_core.proofs.Join.Joinings.{of_row}
 use Rattle.mq_core.proofs.Networks.Whole.{starts-begin}
 use Rattle.mq_core.proofs.Networks.Wired.{feeds_forward}
 

@@ -3,6 +3,7 @@ use Rattle.std.proofs.Common.{◌≡◌, ◌⊎◌, inl, inr, ℕ, ◌<◌, ◌�
 use Rattle.std.proofs.lemmas.List.{append-nil}
 use Rattle.std.specs.List.{AllByRecursion as Each}
 use Rattle.std.specs.Prelude.{count_by, slice_get}
+use Rattle.mq_base.proofs.lemmas.Lists.{get-front, get-last, get-none}
 use Rattle.mq_core.specs.Event.{Event}
 use Rattle.mq_core.specs.Event.Event.{Arrive}
 use Rattle.mq_core.specs.Handling.{latest}
@@ -14,7 +15,7 @@ use Rattle.mq_core.specs.Tallies.{arrival_or, one_if_none}
 use Rattle.mq_core.specs.Tallies.{one_if_there}
 use Rattle.mq_core.proofs.Join.JoinSequences.{row-each}
 use Rattle.mq_core.proofs.Join.JoinLaws.{ExitsNow, Joined, exit-more, exits-before, exits-there, join-inside}
-use Rattle.mq_core.proofs.Join.Joinings.{get-at, get-before, get-none, of_row}
+use Rattle.mq_core.proofs.Join.Joinings.{of_row}
 use Rattle.mq_core.proofs.Join.Numbers.{take-all, take-front}
 use Rattle.mq_core.proofs.EachKind.ExitLaws.{ExitLaws}
 use Rattle.mq_core.proofs.EachKind.KindLaws.{after_visit}
@@ -57,7 +58,7 @@ module _ (ports now v : ℕ) (local : Local) (visits : List Visit) (emitted : Li
 
   -- each earlier visit stays as it was, or leaves now
   pub exits-arrive : (k : ℕ) → k < length visits → ExitsNow now (length visits) (joined_exit visits emitted k (slice_get visits k)) (joined_exit more after k (slice_get more k))
-  exits-arrive k l = subst (λ o. ExitsNow now (length visits) (joined_exit visits emitted k (slice_get visits k)) (joined_exit more after k o)) (sym (get-before visits (x ∷ []) k l)) (go (slice_get visits k))
+  exits-arrive k l = subst (λ o. ExitsNow now (length visits) (joined_exit visits emitted k (slice_get visits k)) (joined_exit more after k o)) (sym (get-front visits (x ∷ []) k l)) (go (slice_get visits k))
     where
       go : (o : Option Visit) → ExitsNow now (length visits) (joined_exit visits emitted k o) (joined_exit more after k o)
       go None = inl refl
@@ -70,7 +71,7 @@ module _ (ports now v : ℕ) (local : Local) (visits : List Visit) (emitted : Li
       let c = h.joining.counts x.job x.port here in
       let none = get-none (of_row x.job emitted) (count_by (is_of x.job x.port) visits) (omega arith) in
       let same : take (length visits) (visits ++ x ∷ []) ≡ visits = take-front visits (x ∷ []) (length visits) (omega arith) ∙ take-all visits in
-      subst (λ o. ExitsNow now (length visits) None (joined_exit more after (length visits) o)) (sym (get-at visits x))
+      subst (λ o. ExitsNow now (length visits) None (joined_exit more after (length visits) o)) (sym (get-last visits x))
       (subst (λ ys. ExitsNow now (length visits) None (slice_get (of_row x.job after) (count_by (is_of x.job x.port) ys))) (sym same)
       (subst (λ o. ExitsNow now (length visits) o (slice_get (of_row x.job after) (count_by (is_of x.job x.port) visits))) none (row x.job (count_by (is_of x.job x.port) visits))))
 

@@ -3,13 +3,14 @@ use Rattle.std.proofs.Common.{◌≡◌, inl, inr, ℕ, suc, ◌+◌, ◌<◌, �
 use Rattle.std.proofs.lemmas.List.{append-nil}
 use Rattle.std.specs.Option.{option_map}
 use Rattle.std.specs.Prelude.{count_by, slice_get, ◌&&◌}
+use Rattle.mq_base.proofs.lemmas.Lists.{get-last, get-none}
 use Rattle.mq_core.specs.Came.{came_of}
 use Rattle.mq_core.specs.Event.{Event}
 use Rattle.mq_core.specs.Handling.{latest}
 use Rattle.mq_core.specs.Kinds.Join.{is_item, is_matched, is_of, is_whole_at, match_of, matched_from, matches_from, matches_of}
 use Rattle.mq_core.specs.Machine.{Emission, Visit}
 use Rattle.mq_core.proofs.Join.Entries.{count-push, matched-all}
-use Rattle.mq_core.proofs.Join.Joinings.{Joining, counts-joined, items_of, get-at, get-none, items-count, items-length, items-push, joining-matches, joining-waits, lacks, of_row, of_row-push}
+use Rattle.mq_core.proofs.Join.Joinings.{Joining, counts-joined, items_of, items-count, items-length, items-push, joining-matches, joining-waits, lacks, of_row, of_row-push}
 use Rattle.mq_core.proofs.lemmas.Matches.{Grows, match-grows}
 
 -- what a visit lets out at this position, where its match is whole there
@@ -99,7 +100,7 @@ module _ (ports : ℕ) (visits : List Visit) (held : List (ℕ × ℕ)) (emitted
       let m : Emission = record { out = 0; position = length visits; job = x.job; time = x.arrive } in
       let now = joining-matches ports visits held emitted fs x here h m refl refl matched in
       let row : of_row x.job (emitted ++ m ∷ []) ≡ of_row x.job emitted ++ m ∷ [] = of_row-push x.job emitted m ∙ ap (λ b. of_row x.job emitted ++ cond b (m ∷ []) []) (eq-eqb x.job x.job refl) in
-      let got : slice_get (of_row x.job (emitted ++ m ∷ [])) index ≡ Some m = ap (λ l. slice_get l index) row ∙ (ap (slice_get (of_row x.job emitted ++ m ∷ [])) (next matched) ∙ get-at (of_row x.job emitted) m) in
+      let got : slice_get (of_row x.job (emitted ++ m ∷ [])) index ≡ Some m = ap (λ l. slice_get l index) row ∙ (ap (slice_get (of_row x.job emitted ++ m ∷ [])) (next matched) ∙ get-last (of_row x.job emitted) m) in
       let whole : match_of ports x.job index (items_of more) ≡ Some (length visits) = sym (now.places x.job index) ∙ ap (option_map (λ (n : Emission). n.position)) got in
       ap (λ l. l ++ m ∷ []) left
       ∙ (ap (λ b. flow_by ports visits ++ cond b (m ∷ []) []) (sym (eq-eqb (length visits) (length visits) refl))

@@ -18,9 +18,10 @@ use Rattle.mq_core.specs.Tallies.{one_if_there}
 use Rattle.mq_core.proofs.Join.Entries.{matched-all, taken-length}
 use Rattle.mq_core.proofs.Join.HeldEntries.{Entered, entered-matches, entered-waits}
 use Rattle.mq_core.proofs.Join.JoinFlow.{flow_by, flow-matches, flow-waits}
-use Rattle.mq_core.proofs.Join.Joinings.{Joining, get-before, joining-matches, joining-waits, of_row, of_row-push}
+use Rattle.mq_core.proofs.Join.Joinings.{Joining, joining-matches, joining-waits, of_row, of_row-push}
 use Rattle.mq_core.proofs.Join.Numbers.{number-joined, number-matches}
 use Rattle.mq_base.proofs.lemmas.Each.{Each-append}
+use Rattle.mq_base.proofs.lemmas.Lists.{get-front}
 use Rattle.mq_core.specs.Ranges.{is_within}
 use Rattle.mq_core.proofs.Counting.Released.{emission-one, times-one}
 use Rattle.mq_core.proofs.Fork.ForkLaws.{no-service}
@@ -110,7 +111,7 @@ exit-more job ms m i = subst (λ l. ExitsNow m.time m.position (slice_get (of_ro
     last (k ∷ l) (suc n) u = last l n (omega arith)
 
     go : (b : Bool) → (i < length (of_row job ms)) ⊎ (length (of_row job ms) ≤ i) → ExitsNow m.time m.position (slice_get (of_row job ms) i) (slice_get (of_row job ms ++ cond b (m ∷ []) []) i)
-    go b (inl l) = inl (get-before (of_row job ms) (cond b (m ∷ []) []) i l)
+    go b (inl l) = inl (get-front (of_row job ms) (cond b (m ∷ []) []) i l)
     go false (inr l) = inl (ap (λ k. slice_get k i) (append-nil (of_row job ms)))
     go true (inr l) = last (of_row job ms) i l
 

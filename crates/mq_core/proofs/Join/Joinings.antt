@@ -1,5 +1,5 @@
 -- What holds of a join between two events.
-use Rattle.std.proofs.Common.{◌≡◌, ◌⊎◌, inl, inr, ℕ, zero, suc, ◌+◌, ◌<◌, ◌≤◌, Bool, true, false, cond, eqb, eqb-true, eq-eqb, List, [], ◌∷◌, ◌++◌, length, map, Option, Some, None, refl, sym, ap, arith, subst, ◌∙◌, length-append}
+use Rattle.std.proofs.Common.{◌≡◌, ◌⊎◌, inl, inr, ℕ, suc, ◌+◌, ◌<◌, ◌≤◌, Bool, true, false, cond, eqb, eqb-true, eq-eqb, List, [], ◌∷◌, ◌++◌, length, map, Option, Some, None, refl, sym, ap, arith, subst, ◌∙◌, length-append}
 use Rattle.std.proofs.lemmas.Bool.{cases_lt}
 use Rattle.std.proofs.lemmas.List.{append-nil}
 use Rattle.std.specs.List.{AllByRecursion as Each, zip}
@@ -12,6 +12,7 @@ use Rattle.mq_core.specs.Machine.{Emission, Visit}
 use Rattle.mq_core.proofs.Join.Entries.{count-cons, count-push, matched-all, taken-each, taken-others, taken-own, unmatched-one}
 use Rattle.mq_core.proofs.lemmas.Matches.{Grows, match-all, match-grows, match-lacks, match-none}
 use Rattle.mq_base.proofs.lemmas.Each.{Each-append, Each-weaker}
+use Rattle.mq_base.proofs.lemmas.Lists.{get-front, get-last, get-none, get-some}
 use Rattle.mq_core.proofs.Server.Serves.{latest-push, slice_get-middle}
 
 -- the emissions of a row
@@ -21,25 +22,6 @@ of_row job emitted = filter (λ (m : Emission). m.job == job) emitted
 -- the items of these visits
 abbrev pub items_of : List Visit → List (ℕ × ℕ)
 items_of visits = zip (map (λ (x : Visit). x.port) visits) (map (λ (x : Visit). x.job) visits)
-
-pub get-before : {X : Type 0} (xs ys : List X) (i : ℕ) → i < length xs → slice_get (xs ++ ys) i ≡ slice_get xs i
-get-before [] ys i l = absurd (omega arith)
-get-before (x ∷ xs) ys zero l = refl
-get-before (x ∷ xs) ys (suc i) l = get-before xs ys i (omega arith)
-
-pub get-at : {X : Type 0} (xs : List X) (y : X) → slice_get (xs ++ y ∷ []) (length xs) ≡ Some y
-get-at [] y = refl
-get-at (x ∷ xs) y = get-at xs y
-
-pub get-none : {X : Type 0} (xs : List X) (i : ℕ) → length xs ≤ i → slice_get xs i ≡ None
-get-none [] i l = refl
-get-none (x ∷ xs) zero l = absurd (omega arith)
-get-none (x ∷ xs) (suc i) l = get-none xs i (omega arith)
-
-pub get-some : {X : Type 0} (xs : List X) (i : ℕ) → i < length xs → (x : X) × (slice_get xs i ≡ Some x)
-get-some [] i l = absurd (omega arith)
-get-some (x ∷ xs) zero l = (x, refl)
-get-some (x ∷ xs) (suc i) l = get-some xs i (omega arith)
 
 pub items-push : (xs : List Visit) (x : Visit) → items_of (xs ++ x ∷ []) ≡ items_of xs ++ (x.port, x.job) ∷ []
 items-push [] x = refl
@@ -102,7 +84,7 @@ module _ (ports : ℕ) (visits : List Visit) (held : List (ℕ × ℕ)) (emitted
   count-same job port [] k = refl
   count-same job port (e ∷ es) k =
       count-cons (is_by more job port) e es
-      ∙ ((λ i. cond (has_job job (get-before visits (x ∷ []) e.1 k.0 i) && (e.0 == port)) 1 0 + count-same job port es k.1 i)
+      ∙ ((λ i. cond (has_job job (get-front visits (x ∷ []) e.1 k.0 i) && (e.0 == port)) 1 0 + count-same job port es k.1 i)
       ∙ sym (count-cons (is_by visits job port) e es))
 
   last-own : slice_get more (latest more) ≡ Some x
@@ -132,7 +114,7 @@ module _ (ports : ℕ) (visits : List Visit) (held : List (ℕ × ℕ)) (emitted
   old-place job i ms l =
       let one = get-some (of_row job emitted) i l in
       let was = sym (h.places job i) ∙ ap (option_map (λ (m : Emission). m.position)) one.1 in
-      ap (option_map (λ (m : Emission). m.position)) (get-before (of_row job emitted) ms i l ∙ one.1) ∙ sym (grows-some (length visits) (one.0).position _ _ (grown job i) was)
+      ap (option_map (λ (m : Emission). m.position)) (get-front (of_row job emitted) ms i l ∙ one.1) ∙ sym (grows-some (length visits) (one.0).position _ _ (grown job i) was)
 
   -- where one port has no more than i, there is none
   no-place : (job i k : ℕ) → k < ports → count_by (is_of job k) more ≤ i → match_of ports job i (items_of more) ≡ None
@@ -241,7 +223,7 @@ module _ (ports : ℕ) (visits : List Visit) (held : List (ℕ × ℕ)) (emitted
                   let own = eqb-true i (length (of_row job emitted)) f in
                   let none = sym (h.places job i) ∙ ap (option_map (λ (n : Emission). n.position)) (get-none (of_row job emitted) i l) in
                   let whole = match-all ports job i (items_of more) (λ k u. let a = all k u in let c = counts-joined job k u in let d = ap (λ j. count_by (is_by more j k) joined) same in let g = items-count job k more in omega arith) in
-                  ap (option_map (λ (n : Emission). n.position)) (ap (slice_get (of_row job emitted ++ m ∷ [])) own ∙ get-at (of_row job emitted) m)
+                  ap (option_map (λ (n : Emission). n.position)) (ap (slice_get (of_row job emitted ++ m ∷ [])) own ∙ get-last (of_row job emitted) m)
                   ∙ (ap Some at ∙ sym (grows-new (length visits) whole.0 _ _ (grown job i) none whole.1))
               last false f =
                   let other : i ≡ length (of_row job emitted) → ⊥ = λ q. let c = eq-eqb i (length (of_row job emitted)) q in absurd cc in

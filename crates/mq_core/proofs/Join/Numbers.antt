@@ -3,18 +3,18 @@ use Rattle.std.proofs.lemmas.Bool.Decides.{nat_tests}
 use Rattle.std.proofs.Common.{◌≡◌, ◌⊎◌, inl, inr, ℕ, zero, suc, ◌+◌, ◌<◌, ◌≤◌, Bool, true, false, cond, eqb, eqb-true, eq-eqb, ltb, List, [], ◌∷◌, ◌++◌, length, take, Option, Some, None, refl, sym, ap, arith, subst, ◌∙◌, length-append}
 use Rattle.std.proofs.lemmas.Bool.{cases_lt}
 use Rattle.std.proofs.lemmas.List.{append-nil}
-use Rattle.mq_base.proofs.lemmas.Lists.{some_inj}
+use Rattle.mq_base.proofs.lemmas.Lists.{get-front, get-last, get-none, get-some, some_inj}
 use Rattle.std.specs.List.{AllByRecursion as Each}
 use Rattle.std.specs.Prelude.{count_by, slice_get, ◌&&◌, ◌==◌}
 use Rattle.mq_core.specs.Event.{Event}
 use Rattle.mq_core.specs.Kinds.Join.{index_of, is_matched, is_of, joined_exit, taken_out}
 use Rattle.mq_core.specs.Machine.{Emission, Visit}
 use Rattle.mq_core.specs.Tallies.{one_if_none, sum_below}
-use Rattle.mq_core.proofs.Events.Areas.{sum-same}
+use Rattle.mq_core.proofs.Events.Areas.{sum-none, sum-same}
 use Rattle.mq_base.proofs.lemmas.Each.{Each-append}
 use Rattle.mq_core.specs.Handling.{latest}
 use Rattle.mq_core.proofs.Join.Entries.{count-push, matched-all, taken-length}
-use Rattle.mq_core.proofs.Join.Joinings.{Joining, counts-joined, get-at, get-before, get-none, get-some, of_row, of_row-push}
+use Rattle.mq_core.proofs.Join.Joinings.{Joining, counts-joined, of_row, of_row-push}
 
 -- 1 where this visit is the one of a row and a port that has so many before it
 abbrev pub hit : ℕ → ℕ → ℕ → List Visit → ℕ → Option Visit → ℕ
@@ -55,16 +55,12 @@ hits job port index ys (suc n) l =
     step true a = grind (arith, nat_tests)
 
 -- sums may be taken in either order
-sum-zero : (n : ℕ) (f : ℕ → ℕ) → ((k : ℕ) → k < n → f k ≡ 0) → sum_below n f ≡ 0
-sum-zero zero f h = refl
-sum-zero (suc n) f h = let a = h n (omega arith) in let b = sum-zero n f (λ k l. h k (omega arith)) in omega arith
-
 sum-both : (n : ℕ) (f g : ℕ → ℕ) → sum_below n (λ p. f p + g p) ≡ sum_below n f + sum_below n g
 sum-both zero f g = refl
 sum-both (suc n) f g = let a = sum-both n f g in omega arith
 
 sum-swap : (n m : ℕ) (f : ℕ → ℕ → ℕ) → sum_below n (λ p. sum_below m (λ k. f k p)) ≡ sum_below m (λ k. sum_below n (λ p. f k p))
-sum-swap n zero f = sum-zero n (λ p. 0) (λ k l. refl)
+sum-swap n zero f = sum-none n (λ p. 0) (λ k l. refl)
 sum-swap n (suc m) f = sum-both n (λ p. f m p) (λ p. sum_below m (λ k. f k p)) ∙ ap (λ s. sum_below n (λ p. f m p) + s) (sum-swap n m f)
 
 sum-ones : (n : ℕ) (f : ℕ → ℕ) → ((k : ℕ) → k < n → f k ≡ 1) → sum_below n f ≡ n
@@ -83,7 +79,7 @@ sum-alone (suc n) u f l h = go (eqb u n) refl (sum-alone n u f)
     go true e ih =
         let same = eqb-true u n e in
         let own = ap f same in
-        let none = sum-zero n f (λ k m. h k (λ q. omega arith)) in
+        let none = sum-none n f (λ k m. h k (λ q. omega arith)) in
         omega arith
     go false e ih =
         let other : u ≡ n → ⊥ = λ q. let c = eq-eqb u n q in absurd cc in
@@ -125,7 +121,7 @@ emission-more visits emitted m ports job p v of l =
         which : (l : List Emission) (i : ℕ) → (i < length l) ⊎ (length l ≤ i) → one_if_none (slice_get (l ++ m ∷ []) i) + cond (i == length l) 1 0 ≡ one_if_none (slice_get l i)
         which l i (inl u) =
             let one = get-some l i u in
-            let a = ap one_if_none (get-before l (m ∷ []) i u ∙ one.1) in
+            let a = ap one_if_none (get-front l (m ∷ []) i u ∙ one.1) in
             let b = ap one_if_none one.1 in
             let c : ◌≡◌ {A = ℕ} (cond (i == length l) 1 0) 0 = grind (arith, nat_tests) in
             omega arith
@@ -134,7 +130,7 @@ emission-more visits emitted m ports job p v of l =
             last : (b : Bool) → eqb i (length l) ≡ b → one_if_none (slice_get (l ++ m ∷ []) i) + cond (eqb i (length l)) 1 0 ≡ one_if_none (slice_get l i)
             last true f =
                 let at = eqb-true i (length l) f in
-                let a = ap one_if_none (ap (slice_get (l ++ m ∷ [])) at ∙ get-at l m) in
+                let a = ap one_if_none (ap (slice_get (l ++ m ∷ [])) at ∙ get-last l m) in
                 let b = ap one_if_none (get-none l i u) in
                 let c : ◌≡◌ {A = ℕ} (cond (eqb i (length l)) 1 0) 1 = ap (λ t. cond t 1 0) f in
                 omega arith
@@ -172,7 +168,7 @@ module _ (ports : ℕ) (visits : List Visit) (held : List (ℕ × ℕ)) (emitted
   -- the visits before it are as they were
   before : (ms : List Emission) (p : ℕ) → p < length visits → one_if_none (joined_exit more ms p (slice_get more p)) ≡ one_if_none (joined_exit visits ms p (slice_get visits p))
   before ms p l =
-      ap (λ o. one_if_none (joined_exit more ms p o)) (get-before visits (x ∷ []) p l) ∙ same (slice_get visits p)
+      ap (λ o. one_if_none (joined_exit more ms p o)) (get-front visits (x ∷ []) p l) ∙ same (slice_get visits p)
     where
       same : (o : Option Visit) → one_if_none (joined_exit more ms p o) ≡ one_if_none (joined_exit visits ms p o)
       same None = refl
@@ -181,7 +177,7 @@ module _ (ports : ℕ) (visits : List Visit) (held : List (ℕ × ℕ)) (emitted
   -- it has not left by the emissions before it
   own : one_if_none (joined_exit more emitted (length visits) (slice_get more (length visits))) ≡ 1
   own =
-      ap (λ o. one_if_none (joined_exit more emitted (length visits) o)) (get-at visits x)
+      ap (λ o. one_if_none (joined_exit more emitted (length visits) o)) (get-last visits x)
       ∙ (ap (λ l. one_if_none (slice_get (of_row x.job emitted) (count_by (is_of x.job x.port) l))) (take-front visits (x ∷ []) (length visits) (omega arith) ∙ take-all visits)
       ∙ ap one_if_none (get-none (of_row x.job emitted) (count_by (is_of x.job x.port) visits) (let c = h.counts x.job x.port here in omega arith)))
 

@@ -1,5 +1,5 @@
 -- Sums and greatest numbers of lists.
-use Rattle.std.proofs.Common.{◌≡◌, ℕ, zero, suc, ◌+◌, ◌<◌, ◌≤◌, List, [], ◌∷◌, Some, arith, length, max, fold, refl, slice_get}
+use Rattle.std.proofs.Common.{◌≡◌, ℕ, zero, suc, ◌+◌, ◌≤◌, List, [], ◌∷◌, Some, arith, max, fold, slice_get}
 use Rattle.std.specs.List.{AllByRecursion as Each}
 use Rattle.mq_core.specs.Tallies.{sum_below}
 
@@ -38,9 +38,3 @@ greatest-bounds (y ∷ xs) (suc i) x h =
 pub sum_below-first : (n : ℕ) (f : ℕ → ℕ) → sum_below (suc n) f ≡ f 0 + sum_below n (λ i. f (suc i))
 sum_below-first zero f = omega arith
 sum_below-first (suc n) f = let one = sum_below-first n f in omega arith
-
--- a number below the length is that of an item
-pub at-below : {X : Type 0} (xs : List X) (i : ℕ) → i < length xs → (x : X) × (slice_get xs i ≡ Some x)
-at-below [] i l = absurd (omega arith)
-at-below (x ∷ xs) zero l = (x, refl)
-at-below (x ∷ xs) (suc i) l = at-below xs i (omega arith)

@@ -5,6 +5,7 @@ use Rattle.std.proofs.lemmas.List.{append-nil, length-map}
 use Rattle.std.specs.Prelude.{slice_get}
 use Rattle.std.specs.List.{AllByRecursion as Each}
 use Rattle.mq_base.proofs.lemmas.Each.{Each-append, Each-weaker}
+use Rattle.mq_base.proofs.lemmas.Lists.{get-front, get-last}
 use Rattle.mq_core.specs.Event.{Event, time_of, earliest, sooner_of}
 use Rattle.mq_core.specs.Event.Event.{Arrive, Finish}
 use Rattle.mq_core.specs.Machine.{Visit, Emission, finishes_of, emissions_of, emission_of}
@@ -17,7 +18,6 @@ use Rattle.mq_core.specs.Recurrences.{time_or_none}
 use Rattle.mq_core.specs.Tallies.{arrival_or}
 use Rattle.mq_core.specs.declared.model.Demand.{Demand}
 use Rattle.mq_core.specs.declared.model.Rows.{Rows}
-use Rattle.mq_core.proofs.Events.Areas.{get-front, get-last}
 use Rattle.mq_core.proofs.Loss.LossFlow.{leaves_at, fate_if, left_if, fared, left_by, fared-push, left_by-push, count_after, has_place}
 use Rattle.mq_core.proofs.Counting.Reordered.{in_order-push}
 use Rattle.mq_core.proofs.Server.Serves.{latest-push, queues_up-releases, pair-inj}
@@ -137,7 +137,7 @@ to_leave-push visits x m soon h =
     let inside = h.inside in
     record {
       visit = h.visit;
-      own = get-front m.position visits (x ∷ []) h.inside ∙ h.own;
+      own = get-front visits (x ∷ []) m.position h.inside ∙ h.own;
       job = h.job;
       out = h.out;
       inside = omega (arith, length-append visits (x ∷ []));
@@ -154,7 +154,7 @@ to_leave-push visits x m soon h =
     go p true e l u =
         let k : p < length visits = below p (length visits) e in
         let old = h.behind p l k in
-        let front = ap (arrival_or 0) (get-front p visits (x ∷ []) k) in
+        let front = ap (arrival_or 0) (get-front visits (x ∷ []) p k) in
         omega arith
     go p false e l u =
         let k : p ≡ length visits = same p (length visits) e u in

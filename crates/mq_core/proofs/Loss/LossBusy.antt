@@ -5,6 +5,7 @@ use Rattle.std.proofs.lemmas.List.{append-nil}
 use Rattle.std.specs.Prelude.{slice_get}
 use Rattle.std.specs.List.{AllByRecursion as Each}
 use Rattle.std.specs.Option.{option_map}
+use Rattle.mq_base.proofs.lemmas.Lists.{get-front, get-last}
 use Rattle.mq_core.specs.Event.{Event, time_of, earliest, sooner_of}
 use Rattle.mq_core.specs.Event.Event.{Arrive, Finish}
 use Rattle.mq_core.specs.Machine.{Visit, Emission, finishes_of}
@@ -18,7 +19,7 @@ use Rattle.mq_core.specs.declared.model.Rows.{Rows}
 use Rattle.mq_core.specs.Fates.{fate_by, unless_lost}
 use Rattle.mq_core.specs.declared.model.Fate.TheVariants.{Departs, Lost}
 use Rattle.mq_core.specs.declared.model.Kind.TheVariants.{Loss}
-use Rattle.mq_core.proofs.Events.Areas.{get-front, get-last, sum-same}
+use Rattle.mq_core.proofs.Events.Areas.{sum-same}
 use Rattle.mq_core.proofs.Counting.SequenceNumbers.{Numbered}
 use Rattle.mq_core.proofs.Events.EmissionsAt.{neq-eqb}
 use Rattle.mq_core.proofs.Loss.Loses.{Losing, ToLeave, front_finish, all_fared, all_left, place-free}
@@ -69,7 +70,7 @@ asked_at-front : (rows : Rows) (demand : Demand) (visits : List Visit) (x : Visi
 asked_at-front rows demand visits x [] h = refl
 asked_at-front rows demand visits x (m ∷ ms) h =
     let ih = asked_at-front rows demand visits x ms h.1 in
-    let own = ap (demand_of_visit rows demand) (get-front m.position visits (x ∷ []) h.0.inside) in
+    let own = ap (demand_of_visit rows demand) (get-front visits (x ∷ []) m.position h.0.inside) in
     omega arith
 
 -- what the station has worked, what is left of the service, and the demands of those that wait, are all that was asked of it

@@ -3,6 +3,7 @@ use Rattle.std.proofs.Common.{◌≡◌, inl, inr, ℕ, suc, ◌+◌, ◌≤◌,
 use Rattle.std.specs.Prelude.{slice_get}
 use Rattle.std.specs.List.{AllByRecursion as Each}
 use Rattle.mq_base.proofs.lemmas.Each.{Each-weaker, Each-filter_if, Each-any}
+use Rattle.mq_core.proofs.Loss.LossFlow.{leaves_at}
 use Rattle.mq_core.specs.SequenceLaws.{arrives_of, jobs_of, FatesInTime}
 use Rattle.mq_core.specs.OnceOut.{faring_from, out_of_fate}
 use Rattle.mq_core.specs.Fates.{fate_by}
@@ -85,14 +86,11 @@ faring-outs k (Held ∷ fates) (x ∷ xs) e = ap (λ l. 0 ∷ l) (faring-outs (s
 abbrev loss_flow : Rows → ℕ → Demand → ℕ → List ℕ → List Visit → List Emission
 loss_flow rows places demand k left xs = faring_from k (loss_fates places left (map (λ (x : Visit). x.arrive) xs) (map (λ (x : Visit). demand_of_job rows demand x.job) xs)) xs
 
-abbrev departure : Rows → Demand → List ℕ → Visit → ℕ
-departure rows demand left x = max x.arrive (time_or_none (slice_get left 0)) + demand_of_job rows demand x.job
-
 -- the same where the first of them is admitted, or isn't
 abbrev flow_if : Rows → ℕ → Demand → ℕ → List ℕ → Visit → List Visit → Bool → List Emission
 flow_if rows places demand k left x xs b =
     faring_from k
-    (cond b (Departs (departure rows demand left x) ∷ loss_fates places (departure rows demand left x ∷ left) (map (λ (y : Visit). y.arrive) xs) (map (λ (y : Visit). demand_of_job rows demand y.job) xs)) (Lost ∷ loss_fates places left (map (λ (y : Visit). y.arrive) xs) (map (λ (y : Visit). demand_of_job rows demand y.job) xs)))
+    (cond b (Departs (leaves_at rows demand left x) ∷ loss_fates places (leaves_at rows demand left x ∷ left) (map (λ (y : Visit). y.arrive) xs) (map (λ (y : Visit). demand_of_job rows demand y.job) xs)) (Lost ∷ loss_fates places left (map (λ (y : Visit). y.arrive) xs) (map (λ (y : Visit). demand_of_job rows demand y.job) xs)))
     (x ∷ xs)
 
 -- who is admitted leaves no earlier than this one before, and who is lost no earlier than this arrival before
@@ -104,7 +102,7 @@ loss-behind rows places demand last low k left [] h r = tt
 loss-behind rows places demand last low k left (x ∷ xs) h r = go (is_admitted places left x.arrive) (λ l e. loss-behind rows places demand last low (suc k) l xs e r.1)
   where
     go : (b : Bool) → ((l : List ℕ) → last ≤ time_or_none (slice_get l 0) → Each (IsBehind last low) (loss_flow rows places demand (suc k) l xs)) → Each (IsBehind last low) (flow_if rows places demand k left x xs b)
-    go true ih = ((λ e. omega arith, λ e. absurd (omega arith)), ih (departure rows demand left x ∷ left) (omega arith))
+    go true ih = ((λ e. omega arith, λ e. absurd (omega arith)), ih (leaves_at rows demand left x ∷ left) (omega arith))
     go false ih = ((λ e. absurd (omega arith), λ e. r.0), ih left h)
 
 -- of two that leave by one output the later in position leaves no earlier
@@ -117,8 +115,8 @@ loss-by_position rows places demand k left (x ∷ xs) r = go (is_admitted places
   where
     go : (b : Bool) → ((l : List ℕ) → Rises ByPosition (loss_flow rows places demand (suc k) l xs)) → Rises ByPosition (flow_if rows places demand k left x xs b)
     go true ih = (
-      Each-weaker _ _ (λ n h e. h.0 (sym e)) (loss_flow rows places demand (suc k) (departure rows demand left x ∷ left) xs) (loss-behind rows places demand (departure rows demand left x) x.arrive (suc k) (departure rows demand left x ∷ left) xs (omega arith) r.0),
-      ih (departure rows demand left x ∷ left),
+      Each-weaker _ _ (λ n h e. h.0 (sym e)) (loss_flow rows places demand (suc k) (leaves_at rows demand left x ∷ left) xs) (loss-behind rows places demand (leaves_at rows demand left x) x.arrive (suc k) (leaves_at rows demand left x ∷ left) xs (omega arith) r.0),
+      ih (leaves_at rows demand left x ∷ left),
     )
     go false ih = (
       Each-weaker _ _ (λ n h e. h.1 (sym e)) (loss_flow rows places demand (suc k) left xs) (loss-behind rows places demand 0 x.arrive (suc k) left xs (omega arith) r.0),

@@ -1,7 +1,7 @@
 -- That a run has sequences, and that sequences which agree with it make the run.
 use Rattle.std.proofs.Common.{◌≡◌, ◌⊎◌, inl, inr, ℕ, zero, suc, ◌+◌, ◌<◌, ◌≤◌, List, [], ◌∷◌, ◌++◌, length, Option, Some, None, sym, refl, ap, ◌∙◌, arith, slice_get, option_map, length-append}
 use Rattle.std.proofs.lemmas.Bool.{cases_lt}
-use Rattle.mq_base.proofs.lemmas.Lists.{get-last}
+use Rattle.mq_base.proofs.lemmas.Lists.{get-front, get-last}
 use Rattle.mq_core.specs.Sequences.{visits_by_node, streams_by_node, streams_below}
 use Rattle.mq_core.specs.Local.{Local}
 use Rattle.mq_core.specs.Machine.{State}
@@ -67,12 +67,6 @@ sequences-make_runs plan rows run visits_long outputs_long has =
     outputs v y None here e = absurd cc
     outputs v y (Some node) here e = (has v node here).outputs ∙ e
 
--- an index in two lists put together
-at-front : {X : Type 0} (xs ys : List X) (i : ℕ) → i < length xs → slice_get (xs ++ ys) i ≡ slice_get xs i
-at-front [] ys i l = absurd (omega arith)
-at-front (x ∷ xs) ys zero l = refl
-at-front (x ∷ xs) ys (suc i) l = at-front xs ys i (omega arith)
-
 below-long : (end : State Local) (v outs : ℕ) → length (streams_below end v outs) ≡ outs
 below-long end v zero = refl
 below-long end v (suc outs) = let rest = below-long end v outs in omega (arith, length-append (streams_below end v outs) (stream_from (end.stations v) outs ∷ []))
@@ -82,7 +76,7 @@ outputs-have_streams end v zero out l = absurd (omega arith)
 outputs-have_streams end v (suc outs) out l = go (cases_lt out outs) (outputs-have_streams end v outs out)
   where
     go : (out < outs) ⊎ (outs ≤ out) → (out < outs → slice_get (streams_below end v outs) out ≡ Some (stream_from (end.stations v) out)) → slice_get (streams_below end v outs ++ stream_from (end.stations v) outs ∷ []) out ≡ Some (stream_from (end.stations v) out)
-    go (inl k) earlier = at-front (streams_below end v outs) (stream_from (end.stations v) outs ∷ []) out (let a = below-long end v outs in omega arith) ∙ earlier k
+    go (inl k) earlier = get-front (streams_below end v outs) (stream_from (end.stations v) outs ∷ []) out (let a = below-long end v outs in omega arith) ∙ earlier k
     go (inr k) earlier =
         let same : out ≡ outs = omega arith in
         ap (slice_get (streams_below end v outs ++ stream_from (end.stations v) outs ∷ [])) (same ∙ sym (below-long end v outs))

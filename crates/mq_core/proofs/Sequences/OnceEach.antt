@@ -3,6 +3,7 @@ use Rattle.std.proofs.Common.{◌≡◌, ◌⊎◌, inl, inr, ℕ, suc, ◌+◌,
 use Rattle.std.proofs.lemmas.List.{length-map}
 use Rattle.std.specs.Option.{option_map}
 use Rattle.std.specs.Prelude.{slice_get}
+use Rattle.mq_base.proofs.lemmas.Lists.{get-some}
 use Rattle.mq_core.specs.Came.{came_of}
 use Rattle.mq_core.specs.Fates.{fate_by, leaves_with}
 use Rattle.mq_core.specs.KindTable.{behaviour_of}
@@ -17,7 +18,6 @@ use Rattle.mq_core.specs.declared.model.Fate.TheVariants.{Departs}
 use Rattle.mq_core.specs.declared.model.Kind.{Kind}
 use Rattle.mq_core.specs.declared.model.Rows.{Rows}
 use Rattle.mq_core.proofs.Sequences.SequenceFlow.{flow-leaves, leaves-at}
-use Rattle.mq_core.proofs.Lists.NumberLists.{at-below}
 use Rattle.mq_core.proofs.Sequences.SequencesEqual.{flow-fates, station-stream, station-founds}
 use Rattle.mq_core.proofs.Counting.SequenceNumbers.{FoundAs, LeavesAs, Numbered, found_as-here, found_as-next, order-found, order-own}
 use Rattle.mq_core.proofs.Counting.Stays.{FatesStay}
@@ -60,7 +60,7 @@ module _ (rows : Rows) (ports : ℕ) (kind : Kind) (once : sends_once kind ≡ t
   once-reaches before after m inside =
       let own = order-own kind (flow_of rows ports kind s.visits) s.visits numbered before after m (sym left ∙ inside) in
       let found : leaves_with kind s m.position ≡ Some m = (own_of rows ports kind once).exits s m.position ∙ (ap (λ l. emission_at l m.position) left ∙ own.0) in
-      let visit = at-below s.visits m.position own.1 in
+      let visit = get-some s.visits m.position own.1 in
       record { position = m.position; visit = visit.0; here = visit.1; at = go visit.0 (once-leaves m.position visit.0 m visit.1 found) found }
     where
       go : (x : Visit) → LeavesAs kind m x → leaves_with kind s m.position ≡ Some m → (x.arrive ≡ m.time) ⊎ (option_map (fate_by kind) (leaves_with kind s m.position) ≡ Some (Departs m.time))

@@ -1,8 +1,9 @@
 -- That visits, emissions and streams never go back in time, and that to order a stream keeps its items.
-use Rattle.std.proofs.Common.{IfSome, List, [], ap, arith, length, map, refl, suc, sym, ℕ, ◌++◌, ◌<◌, ◌∙◌, ◌∷◌, ◌≡◌, ◌≤◌}
+use Rattle.std.proofs.Common.{IfSome, List, [], arith, length, map, refl, sym, ℕ, ◌++◌, ◌<◌, ◌∙◌, ◌∷◌, ◌≡◌, ◌≤◌}
 use Rattle.std.proofs.lemmas.List.{length-map}
 use Rattle.std.specs.List.{AllByRecursion as Each, zip}
 use Rattle.mq_base.proofs.lemmas.Each.{Each-append, Each-map, Each-weaker}
+use Rattle.mq_base.proofs.lemmas.Zips.{zip-length}
 use Rattle.mq_core.specs.SequenceLaws.{OrdersKeepItems, StreamsRise}
 use Rattle.mq_core.specs.Event.Event.{Arrive, Finish}
 use Rattle.mq_core.specs.KindTable.{behaviour_of}
@@ -90,12 +91,6 @@ zip-second P [] ys h = tt
 zip-second P (x ∷ xs) [] h = tt
 zip-second P (x ∷ xs) (y ∷ ys) h = (h.0, zip-second P xs ys h.1)
 
-zip-length : (xs ys : List ℕ) → length ys ≡ length xs → length (zip xs ys) ≡ length ys
-zip-length [] [] e = refl
-zip-length [] (y ∷ ys) e = absurd (omega arith)
-zip-length (x ∷ xs) [] e = refl
-zip-length (x ∷ xs) (y ∷ ys) e = ap suc (zip-length xs ys (omega arith))
-
 pub orders-keep_items : OrdersKeepItems
 orders-keep_items kind stream = let h = go (behaviour_of kind).order in record { jobs = h.0; times = h.1; many = h.2 }
   where
@@ -108,5 +103,5 @@ orders-keep_items kind stream = let h = go (behaviour_of kind).order in record {
     go Overtaking = (
       λ limit h. Each-map _ (λ job. job < limit) (λ (p : ℕ × ℕ). p.1) (λ p l. l) (by_first (pairs_of stream)) (Each-order {X = ℕ × ℕ} _ (λ (p : ℕ × ℕ). p.0) (pairs_of stream) (zip-second (λ job. job < limit) stream.time stream.job h)),
       λ limit h. Each-map _ (λ time. time ≤ limit) (λ (p : ℕ × ℕ). p.0) (λ p l. l) (by_first (pairs_of stream)) (Each-order {X = ℕ × ℕ} _ (λ (p : ℕ × ℕ). p.0) (pairs_of stream) (zip-first (λ time. time ≤ limit) stream.time stream.job h)),
-      λ e. length-map (by_first (pairs_of stream)) (λ (p : ℕ × ℕ). p.1) ∙ (in_order_of-length {X = ℕ × ℕ} (λ (p : ℕ × ℕ). p.0) (pairs_of stream) ∙ zip-length stream.time stream.job e),
+      λ e. length-map (by_first (pairs_of stream)) (λ (p : ℕ × ℕ). p.1) ∙ (in_order_of-length {X = ℕ × ℕ} (λ (p : ℕ × ℕ). p.0) (pairs_of stream) ∙ (zip-length stream.time stream.job e ∙ sym e)),
     )

@@ -2,6 +2,7 @@
 use Rattle.std.proofs.Common.{List, Some, [], ap, arith, length, length-append, refl, subst, suc, sym, ℕ, ◌*◌, ◌++◌, ◌+◌, ◌-◌, ◌∙◌, ◌∷◌, ◌≡◌, ◌≤◌}
 use Rattle.std.proofs.lemmas.List.{append-nil}
 use Rattle.std.specs.List.{AllByRecursion as Each}
+use Rattle.mq_base.proofs.lemmas.Lists.{get-front}
 use Rattle.mq_core.specs.Event.{Event, earliest, sooner_of, time_of}
 use Rattle.mq_core.specs.Event.Event.{Finish}
 use Rattle.mq_core.specs.Handling.{demand_at, demand_of_visit, front_begins, front_leaves, queues_up, latest, one_if_some}
@@ -11,7 +12,7 @@ use Rattle.mq_core.specs.Kinds.Server.{served}
 use Rattle.mq_core.specs.Tallies.{sum_below}
 use Rattle.mq_core.specs.declared.model.Demand.{Demand}
 use Rattle.mq_core.specs.declared.model.Rows.{Rows}
-use Rattle.mq_core.proofs.Events.Areas.{get-front, sum-same}
+use Rattle.mq_core.proofs.Events.Areas.{sum-same}
 use Rattle.mq_core.proofs.Events.Remaining.{remaining}
 use Rattle.mq_core.proofs.Server.Serves.{Serving, last_served, latest-push, next_finish, pair-inj, positions}
 
@@ -33,7 +34,7 @@ module _ (rows : Rows) (demand : Demand) (v : ℕ) where
           omega arith
 
   front-sum : (n : ℕ) (visits : List Visit) (x : Visit) → n ≤ length visits → sum_below n (λ p. demand_at rows demand (visits ++ x ∷ []) p) ≡ sum_below n (λ p. demand_at rows demand visits p)
-  front-sum n visits x l = sum-same n _ _ (λ k u. ap (demand_of_visit rows demand) (get-front k visits (x ∷ []) (omega arith)))
+  front-sum n visits x l = sum-same n _ _ (λ k u. ap (demand_of_visit rows demand) (get-front visits (x ∷ []) k (omega arith)))
 
   pub busy-arrives : (local : Local) (visits : List Visit) (queue : List ℕ) (emitted : List Emission) (fs : List Event) (now busy : ℕ) (x : Visit) → Serving rows demand v visits queue emitted fs now → busy + remaining now fs ≡ begun rows demand visits queue →
       busy + remaining now (fs ++ finishes_of v (queues_up rows demand (visits ++ x ∷ []) local now queue (latest (visits ++ x ∷ []))).services) ≡ begun rows demand (visits ++ x ∷ []) (queues_up rows demand (visits ++ x ∷ []) local now queue (latest (visits ++ x ∷ []))).local.queue

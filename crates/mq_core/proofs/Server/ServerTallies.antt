@@ -1,8 +1,8 @@
 -- The number in a server, and who leaves it before whom.
 use Rattle.std.proofs.Common.{Bool, List, None, Some, [], ap, arith, eq-eqb, eqb, false, length, length-append, refl, subst, suc, sym, true, zero, ℕ, ◌++◌, ◌+◌, ◌<◌, ◌∙◌, ◌∷◌, ◌≡◌, ◌≢◌, ◌≤◌}
-use Rattle.std.proofs.lemmas.Bool.Decides.{nat_tests}
 use Rattle.std.specs.List.{AllByRecursion as Each}
 use Rattle.std.specs.Prelude.{find, slice_get}
+use Rattle.mq_core.proofs.Events.EmissionsAt.{neq-eqb}
 use Rattle.mq_core.specs.Event.{Event, earliest, sooner_of, time_of}
 use Rattle.mq_core.specs.Event.Event.{Finish}
 use Rattle.mq_core.specs.Handling.{front_leaves}
@@ -13,7 +13,7 @@ use Rattle.mq_core.specs.Tallies.{arrival_or, emission_at, one_if_none, staying,
 use Rattle.mq_core.specs.declared.model.Demand.{Demand}
 use Rattle.mq_core.specs.declared.model.Rows.{Rows}
 use Rattle.mq_core.proofs.Counting.Released.{one-release}
-use Rattle.mq_core.proofs.Server.Serves.{Serving, came_before, last_served, next_finish, pair-inj, positions}
+use Rattle.mq_core.proofs.Server.Serves.{Serving, came_before, last_served, next_finish, pair-inj, positions, positions-length}
 
 -- a position that was let out is found
 pub served-found : (rows : Rows) (demand : Demand) (k last p : ℕ) (visits : List Visit) → k ≤ p → p < k + length visits → (m : Emission) × (find (λ (x : Emission). eqb x.position p) (served_from rows demand k last visits) ≡ Some m)
@@ -47,13 +47,7 @@ served-not_found rows demand k last p [] l = refl
 served-not_found rows demand k last p (x ∷ xs) l =
     let no : eqb k p ≡ false = neq-eqb k p (λ e. omega arith) in
     rw no (served-not_found rows demand (suc k) (served rows demand last x) p xs (omega arith))
-  where
-    neq-eqb : (a b : ℕ) → (a ≡ b → ⊥) → eqb a b ≡ false
-    neq-eqb a b h = grind (arith, nat_tests)
 
-pub positions-length : (k : ℕ) (xs : List Visit) → length (positions k xs) ≡ length xs
-positions-length k [] = refl
-positions-length k (x ∷ xs) = ap suc (positions-length (suc k) xs)
 
 pub serving-number : (rows : Rows) (demand : Demand) (v : ℕ) (visits : List Visit) (queue : List ℕ) (emitted : List Emission) (fs : List Event) (now : ℕ) → Serving rows demand v visits queue emitted fs now → length queue ≡ staying visits (emission_at emitted)
 serving-number rows demand v visits queue emitted fs now h =

@@ -71,6 +71,10 @@ slice_get-middle (y ∷ xs) ys x = slice_get-middle xs ys x
 pub latest-push : (xs : List Visit) (x : Visit) → latest (xs ++ x ∷ []) ≡ length xs
 latest-push xs x = omega (arith, length-append xs (x ∷ []))
 
+pub positions-length : (k : ℕ) (xs : List Visit) → length (positions k xs) ≡ length xs
+positions-length k [] = refl
+positions-length k (x ∷ xs) = ap suc (positions-length (suc k) xs)
+
 pub positions-push : (k : ℕ) (xs : List Visit) (x : Visit) → positions k (xs ++ x ∷ []) ≡ positions k xs ++ (k + length xs) ∷ []
 positions-push k [] x = ap (λ n. n ∷ []) (omega arith)
 positions-push k (y ∷ xs) x = ap (λ l. k ∷ l) (positions-push (suc k) xs x ∙ ap (λ n. positions (suc k) xs ++ n ∷ []) (omega arith))

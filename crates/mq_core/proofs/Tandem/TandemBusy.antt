@@ -5,6 +5,7 @@ use Rattle.std.proofs.lemmas.List.{map-append}
 use Rattle.std.specs.Prelude.{filter, slice_get, nat_le, nat_lt, ◌&&◌}
 use Rattle.std.specs.List.{AllByRecursion as Each}
 use Rattle.mq_base.proofs.lemmas.Each.{Each-weaker, filter-none, filter-all}
+use Rattle.mq_base.proofs.lemmas.Lists.{get-front}
 use Rattle.mq_core.specs.Event.{Event, time_of, earliest}
 use Rattle.mq_core.specs.Event.Event.{Arrive, Finish}
 use Rattle.mq_core.specs.Machine.{Visit, Emission, Release, Service, finishes_of}
@@ -16,7 +17,7 @@ use Rattle.mq_core.specs.Kinds.Tandem.{Swept, has_room, leaves, moves, sweep, ma
 use Rattle.mq_core.specs.declared.model.Kind.TheVariants.{Tandem}
 use Rattle.mq_core.specs.declared.model.Stage.{Stage}
 use Rattle.mq_core.specs.declared.model.Rows.{Rows}
-use Rattle.mq_core.proofs.Events.Areas.{get-front, sum-same}
+use Rattle.mq_core.proofs.Events.Areas.{sum-same}
 use Rattle.mq_core.proofs.Events.Pending.{Splits, earliest-splits}
 use Rattle.mq_core.proofs.Events.Remaining.{remaining, remaining-append, remaining-waits}
 use Rattle.mq_core.proofs.Server.Serves.{latest-push}
@@ -236,7 +237,7 @@ tandeming-busy_arrives rows (stage ∷ stages) v local visits (line ∷ lines) e
     let p = a.parts in
     let size : length line.queue ≡ a.here = ap length a.waiting ∙ upwards-length a.left a.here in
     let more : length (visits ++ x ∷ []) ≡ suc (length visits) = omega (arith, length-append visits (x ∷ [])) in
-    let old = begun-same rows visits (visits ++ x ∷ []) (length visits) (length visits) (stage ∷ stages) (line ∷ lines) (λ k l. get-front k visits (x ∷ []) l) (omega arith) in
+    let old = begun-same rows visits (visits ++ x ∷ []) (length visits) (length visits) (stage ∷ stages) (line ∷ lines) (λ k l. get-front visits (x ∷ []) k l) (omega arith) in
     let new = entered-begun rows v (visits ++ x ∷ []) now 0 (length visits) stage stages line lines (omega arith) in
     let sum = remaining-append now fs (finishes_of v (begins_alone rows stage.demand (visits ++ x ∷ []) now 0 line.queue (length visits))) in
     rw (latest-push visits x, more) (omega (arith, e, old, new, sum))

@@ -3,6 +3,7 @@ use Rattle.std.proofs.Common.{◌≡◌, ℕ, zero, suc, ◌+◌, ◌<◌, ◌�
 use Rattle.std.proofs.lemmas.Bool.Decides.{nat_tests}
 use Rattle.std.proofs.lemmas.List.{append-nil}
 use Rattle.std.specs.Prelude.{slice_get, map}
+use Rattle.mq_core.specs.SequenceLaws.{arrives_of, jobs_of}
 use Rattle.mq_core.specs.Machine.{Visit, Emission, emission_of}
 use Rattle.mq_core.specs.Handling.{demand_of_job}
 use Rattle.mq_core.specs.Recurrences.{stage_departs, each_before, firsts, rest, last_time, tandem_departs}
@@ -21,15 +22,9 @@ abbrev values : (ℕ → ℕ) → ℕ → ℕ → List ℕ
 values f k zero = []
 values f k (suc n) = f k ∷ values f (suc k) n
 
-abbrev jobs_in : List Visit → List ℕ
-jobs_in visits = map (λ (x : Visit). x.job) visits
-
-abbrev arrives_in : List Visit → List ℕ
-arrives_in visits = map (λ (x : Visit). x.arrive) visits
-
 -- what the visits ask for at each stage
 abbrev asked_in : Rows → List Stage → List Visit → List (List ℕ)
-asked_in rows stages visits = map (λ (stage : Stage). map (demand_of_job rows stage.demand) (jobs_in visits)) stages
+asked_in rows stages visits = map (λ (stage : Stage). map (demand_of_job rows stage.demand) (jobs_of visits)) stages
 
 asked-first : (rows : Rows) (stages : List Stage) (x : Visit) (xs : List Visit) → firsts (asked_in rows stages (x ∷ xs)) ≡ asked_of rows stages (Some x)
 asked-first rows [] x xs = refl
@@ -37,7 +32,7 @@ asked-first rows (stage ∷ stages) x xs = ap (λ l. demand_of_job rows stage.de
 
 asked-rest : (rows : Rows) (stages : List Stage) (x : Visit) (xs : List Visit) → map rest (asked_in rows stages (x ∷ xs)) ≡ asked_in rows stages xs
 asked-rest rows [] x xs = refl
-asked-rest rows (stage ∷ stages) x xs = ap (λ l. map (demand_of_job rows stage.demand) (jobs_in xs) ∷ l) (asked-rest rows stages x xs)
+asked-rest rows (stage ∷ stages) x xs = ap (λ l. map (demand_of_job rows stage.demand) (jobs_of xs) ∷ l) (asked-rest rows stages x xs)
 
 last-across : (stage : Stage) (stages : List Stage) (time : ℕ → ℕ → ℕ) (k : ℕ) → last_time (across time (stage ∷ stages) k) ≡ time (length stages) k
 last-across stage [] time k = refl
@@ -55,7 +50,7 @@ module _ (rows : Rows) (stage : Stage) (stages : List Stage) (visits : List Visi
   last k = time_at rows (stage ∷ stages) visits (length (stage ∷ stages)) k
 
   departs-from : (before xs : List Visit) (k : ℕ) → visits ≡ before ++ xs → length before ≡ k →
-      tandem_departs (places_of (stage ∷ stages)) (history rows (stage ∷ stages) visits k) (arrives_in xs) (asked_in rows (stage ∷ stages) xs) ≡ values last k (length xs)
+      tandem_departs (places_of (stage ∷ stages)) (history rows (stage ∷ stages) visits k) (arrives_of xs) (asked_in rows (stage ∷ stages) xs) ≡ values last k (length xs)
   departs-from before [] k e n = refl
   departs-from before (x ∷ xs) k e n =
       let here : slice_get visits k ≡ Some x = (λ i. slice_get (e i) (sym n i)) ∙ slice_get-middle before xs x in
@@ -64,7 +59,7 @@ module _ (rows : Rows) (stage : Stage) (stages : List Stage) (visits : List Visi
       ∙ ap (λ o. row_of rows (stage ∷ stages) o (history rows (stage ∷ stages) visits k)) (sym here) in
       let time = ap last_time (row ∙ row-is_across rows (stage ∷ stages) visits k) ∙ last-across stage stages (λ s. time_at rows (stage ∷ stages) visits (suc s)) k in
       let more = departs-from (before ++ x ∷ []) xs (suc k) (e ∙ push-before before x xs) (push-length before x ∙ ap suc n) in
-      (λ i. time i ∷ tandem_departs (places_of (stage ∷ stages)) (each_before (row i) (history rows (stage ∷ stages) visits k)) (arrives_in xs) (asked-rest rows (stage ∷ stages) x xs i))
+      (λ i. time i ∷ tandem_departs (places_of (stage ∷ stages)) (each_before (row i) (history rows (stage ∷ stages) visits k)) (arrives_of xs) (asked-rest rows (stage ∷ stages) x xs i))
       ∙ ap (λ l. last k ∷ l) more
 
   outs-from : (before xs : List Visit) (k : ℕ) → visits ≡ before ++ xs → length before ≡ k → outs visits last k ++ leaving_from k (values last k (length xs)) xs ≡ outs visits last (length visits)

@@ -1,13 +1,13 @@
 -- When each job leaves each stage of a tandem, by its position, and the equations that these times solve.
 use Rattle.std.proofs.Common.{◌≡◌, ℕ, zero, suc, ◌+◌, ◌-◌, ◌<◌, ◌≤◌, List, [], ◌∷◌, ◌++◌, length, Option, sym, refl, ap, ◌∙◌, arith, max}
 use Rattle.std.specs.Prelude.{slice_get, map}
+use Rattle.mq_base.proofs.lemmas.Lists.{get-front}
 use Rattle.mq_core.specs.Machine.{Visit}
 use Rattle.mq_core.specs.Handling.{demand_of_visit, demand_at}
 use Rattle.mq_core.specs.Recurrences.{time_or_none, room_in, stage_departs, each_before}
 use Rattle.mq_core.specs.Tallies.{arrival_or}
 use Rattle.mq_core.specs.declared.model.Stage.{Stage}
 use Rattle.mq_core.specs.declared.model.Rows.{Rows}
-use Rattle.mq_core.proofs.Events.Areas.{get-front}
 
 -- the value of f this many places and one before k, or 0 where there is none
 abbrev pub ago : (ℕ → ℕ) → ℕ → ℕ → ℕ
@@ -158,13 +158,13 @@ module _ (rows : Rows) (stages : List Stage) where
   history-same visits more zero l = refl
   history-same visits more (suc k) l =
       let old = history-same visits more k (omega arith) in
-      let here = get-front k visits more (omega arith) in
+      let here = get-front visits more k (omega arith) in
       λ i. each_before (row_of rows stages (here i) (old i)) (old i)
 
   -- a further visit changes no time of those before it
   pub time-same : (visits more : List Visit) (s k : ℕ) → k < length visits → time_at rows stages (visits ++ more) s k ≡ time_at rows stages visits s k
-  time-same visits more zero k l = ap (arrival_or 0) (get-front k visits more l)
+  time-same visits more zero k l = ap (arrival_or 0) (get-front visits more k l)
   time-same visits more (suc s) k l =
       let old = history-same visits more k (omega arith) in
-      let here = get-front k visits more l in
+      let here = get-front visits more k l in
       λ i. entry (row_of rows stages (here i) (old i)) s

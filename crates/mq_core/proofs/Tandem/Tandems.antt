@@ -5,6 +5,7 @@ use Rattle.std.proofs.lemmas.List.{append-nil}
 use Rattle.std.specs.Prelude.{slice_get, filter, nat_lt}
 use Rattle.std.specs.List.{AllByRecursion as Each}
 use Rattle.mq_base.proofs.lemmas.Each.{Each-append, Each-both, Each-front, Each-back, Each-map}
+use Rattle.mq_base.proofs.lemmas.Lists.{get-front, get-last}
 use Rattle.mq_core.specs.Event.{Event, time_of, earliest, sooner_of}
 use Rattle.mq_core.specs.Event.Event.{Arrive, Finish}
 use Rattle.mq_core.specs.Machine.{Visit, Emission, Service, emissions_of, finishes_of}
@@ -15,7 +16,6 @@ use Rattle.mq_core.specs.Tallies.{arrival_or}
 use Rattle.mq_core.specs.declared.model.Demand.{Demand}
 use Rattle.mq_core.specs.declared.model.Stage.{Stage}
 use Rattle.mq_core.specs.declared.model.Rows.{Rows}
-use Rattle.mq_core.proofs.Events.Areas.{get-front, get-last}
 use Rattle.mq_core.proofs.Delay.Schedules.{CameBefore, position_in}
 use Rattle.mq_core.proofs.Events.Pending.{earliest-splits, earliest-filter, filter-earliest_other}
 use Rattle.mq_core.proofs.Delay.ScheduleNumbers.{earliest-each}
@@ -70,7 +70,7 @@ behind-push now visits x k time at l h p u i = go (eqb p (length visits)) refl
     go false e =
         let other : p ≡ length visits → ⊥ = grind (arith, nat_tests) in
         let inside : p < length visits = less other in
-        subst (λ o. arrival_or 0 o < time) (sym (get-front p visits (x ∷ []) inside)) (h p u inside)
+        subst (λ o. arrival_or 0 o < time) (sym (get-front visits (x ∷ []) p inside)) (h p u inside)
       where
         less : (p ≡ length visits → ⊥) → p < length visits
         less other = omega (arith, length-append visits (x ∷ []))
@@ -97,7 +97,7 @@ tandeming-arrives rows (stage ∷ stages) v local visits (line ∷ lines) emitte
           (subst (λ n. Stages rows v Blocked (visits ++ x ∷ []) (time_at rows (stage ∷ stages) (visits ++ x ∷ [])) 0 n (stage ∷ stages) (record line { queue = line.queue ++ length visits ∷ [] } ∷ lines) emitted (fs ++ finishes_of v (begins_alone rows stage.demand (visits ++ x ∷ []) now 0 line.queue (length visits))) now) (one-more visits x)
           (stages-entered rows v (visits ++ x ∷ []) (time_at rows (stage ∷ stages) (visits ++ x ∷ [])) 0 (length visits) stage stages line lines emitted fs now (ap (arrival_or 0) (get-last visits x) ∙ at)
           (stages-agree rows v Blocked visits (visits ++ x ∷ []) (time_at rows (stage ∷ stages) visits) (time_at rows (stage ∷ stages) (visits ++ x ∷ [])) (length visits)
-          (λ s k l. time-same rows (stage ∷ stages) visits (x ∷ []) s k l) (λ k l. get-front k visits (x ∷ []) l) 0 (length visits) (stage ∷ stages) (line ∷ lines) emitted fs now (omega arith) h.tidy)));
+          (λ s k l. time-same rows (stage ∷ stages) visits (x ∷ []) s k l) (λ k l. get-front visits (x ∷ []) k l) 0 (length visits) (stage ∷ stages) (line ∷ lines) emitted fs now (omega arith) h.tidy)));
       only = Each-append _ fs _ h.only (within-only v 0 1 (length (stage ∷ stages)) _ (omega arith) (begins_alone-within rows stage.demand (visits ++ x ∷ []) now 0 line.queue (latest (visits ++ x ∷ [])) 0 1 (omega arith) (omega arith)));
       behind =
           Each-append _ fs _ (Each-both _ _ _ (λ f l k. behind-push now visits x (position_in f) (time_of f) at l k) fs soon h.behind)

@@ -5,6 +5,7 @@ use Rattle.std.proofs.lemmas.List.Elements.{filter-append}
 use Rattle.std.specs.Prelude.{filter, not, slice_get}
 use Rattle.std.specs.List.{AllByRecursion as Each}
 use Rattle.mq_base.proofs.lemmas.Each.{Each-append, Each-both, Each-map, Each-weaker, filter-none, filter-no}
+use Rattle.mq_base.proofs.lemmas.Lists.{get-last}
 use Rattle.mq_core.specs.Event.{Event, time_of, earliest}
 use Rattle.mq_core.specs.Event.Event.{Arrive, Finish}
 use Rattle.mq_core.specs.Machine.{Visit, Emission, finishes_of, emissions_of, emission_of}
@@ -18,7 +19,7 @@ use Rattle.mq_core.specs.declared.model.Demand.{Demand}
 use Rattle.mq_core.specs.declared.model.Rows.{Rows}
 use Rattle.mq_core.specs.declared.model.Fate.TheVariants.{Lost}
 use Rattle.mq_core.proofs.Delay.Schedules.{Scheduling, came_before-push, position_in, scheduling-ends, scheduling-joins, scheduling-opens, scheduling-waits, to_leave, to_leave-push}
-use Rattle.mq_core.proofs.Events.Areas.{get-last, sum-same}
+use Rattle.mq_core.proofs.Events.Areas.{sum-same}
 use Rattle.mq_core.proofs.Events.EmissionsAt.{found-behind, neq-eqb, other-behind, unknown}
 use Rattle.mq_core.proofs.Events.Pending.{Splits, earliest-splits}
 use Rattle.mq_core.proofs.Loss.LossFlow.{fate_if, left_if}

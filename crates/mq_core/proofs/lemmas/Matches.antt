@@ -3,7 +3,7 @@ use Rattle.std.proofs.Common.{Bool, List, None, Option, Some, [], ap, arith, con
 use Rattle.std.proofs.lemmas.Bool.{cases_lt}
 use Rattle.std.proofs.lemmas.List.{append-nil}
 use Rattle.std.proofs.lemmas.List.Sums.{sum_by-append, sum_by-cons}
-use Rattle.mq_base.proofs.lemmas.Lists.{some_inj}
+use Rattle.mq_base.proofs.lemmas.Lists.{get-last, get-none, some_inj}
 use Rattle.std.specs.Prelude.{count_by, slice_get, ◌&&◌}
 use Rattle.mq_core.specs.Kinds.Join.{is_item, later_place, match_of, place_from, place_or}
 
@@ -167,15 +167,6 @@ get-within [] ys i l = absurd (omega arith)
 get-within (x ∷ xs) ys zero l = (x, refl, refl)
 get-within (x ∷ xs) ys (suc i) l = get-within xs ys i (omega arith)
 
-get-behind : (xs : List ℕ) (i : ℕ) → length xs ≤ i → slice_get xs i ≡ None
-get-behind [] i l = refl
-get-behind (x ∷ xs) zero l = absurd (omega arith)
-get-behind (x ∷ xs) (suc i) l = get-behind xs i (omega arith)
-
-get-end : (xs : List ℕ) (y : ℕ) → slice_get (xs ++ y ∷ []) (length xs) ≡ Some y
-get-end [] y = refl
-get-end (x ∷ xs) y = get-end xs y
-
 -- one item more, of the row
 module _ (ports job : ℕ) (items : List (ℕ × ℕ)) (y : ℕ × ℕ) (places : List ℕ) (h : ArePlaces ports job items places) where
   -- those that were whole stay
@@ -190,14 +181,14 @@ module _ (ports job : ℕ) (items : List (ℕ × ℕ)) (y : ℕ × ℕ) (places 
     where
       go : (i < length places) ⊎ (length places ≤ i) → slice_get places i ≡ match_of ports job i (items ++ y ∷ [])
       go (inl u) = ap (λ ps. slice_get ps i) (sym (append-nil places)) ∙ kept-place [] i u
-      go (inr u) = get-behind places i u ∙ sym (match-none ports job i (items ++ y ∷ []) k l (omega arith))
+      go (inr u) = get-none places i u ∙ sym (match-none ports job i (items ++ y ∷ []) k l (omega arith))
 
   -- where each port has more, the next is whole at this item
   pub places-grow : ((k : ℕ) → k < ports → length places < count_by (is_item job k) (items ++ y ∷ [])) → ArePlaces ports job (items ++ y ∷ []) (places ++ length items ∷ [])
   places-grow all i = go (cases_lt i (length places)) (eqb i (length places)) refl
     where
       none : match_of ports job (length places) items ≡ None
-      none = sym (h (length places)) ∙ get-behind places (length places) (omega arith)
+      none = sym (h (length places)) ∙ get-none places (length places) (omega arith)
 
       one-more : (k : ℕ) → count_by (is_item job k) (items ++ y ∷ []) ≤ suc (count_by (is_item job k) items)
       one-more k = let a = sum_by-append (λ x. cond (is_item job k x) 1 0) items (y ∷ []) in let b = sum_by-cons (λ x. cond (is_item job k x) 1 0) y [] in let c = most (is_item job k y) in omega arith
@@ -211,11 +202,11 @@ module _ (ports job : ℕ) (items : List (ℕ × ℕ)) (y : ℕ × ℕ) (places 
       go (inr u) true e =
           let same = eqb-true i (length places) e in
           let whole = match-all ports job (length places) (items ++ y ∷ []) all in
-          ap (slice_get (places ++ length items ∷ [])) same ∙ (get-end places (length items) ∙ (sym (grown-new (length items) whole.0 _ _ (match-grows ports job (length places) items y) none whole.1) ∙ ap (λ n. match_of ports job n (items ++ y ∷ [])) (sym same)))
+          ap (slice_get (places ++ length items ∷ [])) same ∙ (get-last places (length items) ∙ (sym (grown-new (length items) whole.0 _ _ (match-grows ports job (length places) items y) none whole.1) ∙ ap (λ n. match_of ports job n (items ++ y ∷ [])) (sym same)))
       go (inr u) false e =
           let apart : i ≡ length places → ⊥ = λ q. let c = eq-eqb i (length places) q in absurd cc in
           let lacks = match-lacks ports job (length places) items none in
-          get-behind (places ++ length items ∷ []) i (beyond apart) ∙ sym (match-none ports job i (items ++ y ∷ []) lacks.0 lacks.1 (above apart (one-more lacks.0) lacks.2))
+          get-none (places ++ length items ∷ []) i (beyond apart) ∙ sym (match-none ports job i (items ++ y ∷ []) lacks.0 lacks.1 (above apart (one-more lacks.0) lacks.2))
         where
           beyond : (i ≡ length places → ⊥) → length (places ++ length items ∷ []) ≤ i
           beyond apart = let size = length-append places (length items ∷ []) in omega arith

@@ -15,7 +15,7 @@ within-limits plan =
     (grind (arith, nat_tests), grind (arith, nat_tests))
 
 -- how many nodes a ranking has
-ranked-few : (count : ℕ) (nodes : List Node) (ranked : List ℕ) → length (ranked_after count nodes ranked) ≤ length ranked + count
+pub ranked-few : (count : ℕ) (nodes : List Node) (ranked : List ℕ) → length (ranked_after count nodes ranked) ≤ length ranked + count
 unfolding ranked_after
 ranked-few zero nodes ranked = omega arith
 ranked-few (suc count) nodes ranked =
