@@ -17,23 +17,16 @@ use Rattle.mq_core.specs.Tallies.{one_if_there}
 use Rattle.mq_core.proofs.Join.Entries.{count-push}
 use Rattle.mq_core.proofs.Join.JoinFlow.{flow_by}
 use Rattle.mq_core.proofs.Join.Joinings.{Joining, items-count, items_of, of_row}
+use Rattle.mq_core.proofs.Server.Serves.{length-push, slice_get-middle}
 
 -- the emission of a match is at the arrival of the visit at its position
 index-middle : (pre zs : List Visit) (z : Visit) → slice_index (arrives_of (pre ++ z ∷ zs)) (length pre) ≡ z.arrive
 index-middle [] zs z = refl
 index-middle (y ∷ pre) zs z = index-middle pre zs z
 
-get-middle : (pre zs : List Visit) (z : Visit) → slice_get (pre ++ z ∷ zs) (length pre) ≡ Some z
-get-middle [] zs z = refl
-get-middle (y ∷ pre) zs z = get-middle pre zs z
-
 take-middle : (pre zs : List Visit) → take (length pre) (pre ++ zs) ≡ pre
 take-middle [] zs = refl
 take-middle (y ∷ pre) zs = ap (λ l. y ∷ l) (take-middle pre zs)
-
-behind-one : (pre zs : List Visit) (z : Visit) → length (pre ++ z ∷ []) ≡ suc (length pre)
-behind-one [] zs z = refl
-behind-one (y ∷ pre) zs z = ap suc (behind-one pre zs z)
 
 abbrev AtVisit : List Visit → Emission → Type 0
 AtVisit visits m = slice_index (arrives_of visits) m.position ≡ m.time
@@ -42,7 +35,7 @@ matched-times : (visits pre zs : List Visit) (ms : List (Option ℕ)) → visits
 matched-times visits pre zs [] e = tt
 matched-times visits pre [] (o ∷ ms) e = tt
 matched-times visits pre (z ∷ zs) (o ∷ ms) e =
-    go (is_whole_at (length pre) o) (subst (λ n. Each (AtVisit visits) (matched_from n ms zs)) (behind-one pre zs z) (matched-times visits (pre ++ z ∷ []) zs ms (e ∙ sym (append_assoc pre (z ∷ []) zs))))
+    go (is_whole_at (length pre) o) (subst (λ n. Each (AtVisit visits) (matched_from n ms zs)) (length-push pre z) (matched-times visits (pre ++ z ∷ []) zs ms (e ∙ sym (append_assoc pre (z ∷ []) zs))))
   where
     go : (b : Bool) → Each (AtVisit visits) (matched_from (suc (length pre)) ms zs) → Each (AtVisit visits) (cond b (record { out = 0; position = length pre; job = z.job; time = z.arrive } ∷ matched_from (suc (length pre)) ms zs) (matched_from (suc (length pre)) ms zs))
     go true h = (ap (λ l. slice_index (arrives_of l) (length pre)) e ∙ index-middle pre zs z, h)
@@ -69,7 +62,7 @@ module _ (ports : ℕ) (s : Station Local) (fs : List Event) (h : Joining ports 
   -- the emission with which a visit leaves is that of its match
   exit-place : (pre zs : List Visit) (z : Visit) → s.visits ≡ pre ++ z ∷ zs → option_map (λ (m : Emission). m.position) (join.exit s (length pre)) ≡ match_of ports z.job (count_by (is_item z.job z.port) (items_of pre)) (items_of s.visits)
   exit-place pre zs z e =
-      ap (λ o. option_map (λ (m : Emission). m.position) (joined_exit s.visits s.emitted (length pre) o)) (ap (λ l. slice_get l (length pre)) e ∙ get-middle pre zs z)
+      ap (λ o. option_map (λ (m : Emission). m.position) (joined_exit s.visits s.emitted (length pre) o)) (ap (λ l. slice_get l (length pre)) e ∙ slice_get-middle pre zs z)
       ∙ (h.places z.job (index_of s.visits (length pre) z)
       ∙ ap (λ n. match_of ports z.job n (items_of s.visits)) (ap (λ l. count_by (is_of z.job z.port) (take (length pre) l)) e ∙ (ap (count_by (is_of z.job z.port)) (take-middle pre (z ∷ zs)) ∙ sym (items-count z.job z.port pre))))
 
@@ -89,7 +82,7 @@ module _ (ports : ℕ) (s : Station Local) (fs : List Event) (h : Joining ports 
   fares-from pre (z ∷ zs) e =
       let one = fares-one (arrives_of s.visits) (join.exit s (length pre)) _ (exit-place pre zs z e) (exit-time (length pre)) in
       let more : fates_by join s (suc (length pre)) zs ≡ map (fate_by_match (arrives_of s.visits)) (matches_from ports (items_of s.visits) (items_of pre ++ (z.port, z.job) ∷ []) (items_of zs)) =
-      ap (λ n. fates_by join s n zs) (sym (behind-one pre zs z)) ∙ (fares-from (pre ++ z ∷ []) zs (e ∙ sym (append_assoc pre (z ∷ []) zs)) ∙ ap (λ b. map (fate_by_match (arrives_of s.visits)) (matches_from ports (items_of s.visits) b (items_of zs))) (items-pre pre z)) in
+      ap (λ n. fates_by join s n zs) (sym (length-push pre z)) ∙ (fares-from (pre ++ z ∷ []) zs (e ∙ sym (append_assoc pre (z ∷ []) zs)) ∙ ap (λ b. map (fate_by_match (arrives_of s.visits)) (matches_from ports (items_of s.visits) b (items_of zs))) (items-pre pre z)) in
       λ i. one i ∷ more i
 
   -- the fates of its visits are those of the recurrence
@@ -107,7 +100,7 @@ module _ (ports : ℕ) (s : Station Local) (fs : List Event) (h : Joining ports 
       map (λ (x : Visit). x.found) zs ≡ opens_from (length pre) before (matches_from ports (items_of s.visits) (items_of pre) (items_of zs))
   finds-from pre [] before e opens found size = refl
   finds-from pre (z ∷ zs) before e opens found size =
-      let here : slice_get s.visits (length pre) ≡ Some z = ap (λ l. slice_get l (length pre)) e ∙ get-middle pre zs z in
+      let here : slice_get s.visits (length pre) ≡ Some z = ap (λ l. slice_get l (length pre)) e ∙ slice_get-middle pre zs z in
       let one : z.found ≡ count_by (is_open_at (length pre)) before = sym (ap (found_or 0) here) ∙ (found (length pre) (omega arith) ∙ sym (opens (arrival_or 0 (slice_get s.visits (length pre))) (length pre))) in
       let place = match_of ports z.job (count_by (is_item z.job z.port) (items_of pre)) (items_of s.visits) in
       let more =
@@ -115,10 +108,10 @@ module _ (ports : ℕ) (s : Station Local) (fs : List Event) (h : Joining ports 
       (λ time p.
       count-push (is_open_at p) before place
       ∙ ((λ i. opens time p i + sym (there-one time p (join.exit s (length pre)) place (exit-place pre zs z e)) i)
-      ∙ (swapped time p ∙ ap (λ n. sum_below n (λ k. one_if_there join.there time p (join.exit s k))) (sym (behind-one pre zs z)))))
-      found (let b = behind-one pre zs z in omega arith) in
+      ∙ (swapped time p ∙ ap (λ n. sum_below n (λ k. one_if_there join.there time p (join.exit s k))) (sym (length-push pre z)))))
+      found (let b = length-push pre z in omega arith) in
       let rest : map (λ (x : Visit). x.found) zs ≡ opens_from (suc (length pre)) (before ++ match_of ports z.job (count_by (is_item z.job z.port) (items_of pre)) (items_of s.visits) ∷ []) (matches_from ports (items_of s.visits) (items_of pre ++ (z.port, z.job) ∷ []) (items_of zs)) =
-      more ∙ (λ i. opens_from (behind-one pre zs z i) (before ++ match_of ports z.job (count_by (is_item z.job z.port) (items_of pre)) (items_of s.visits) ∷ []) (matches_from ports (items_of s.visits) (items-pre pre z i) (items_of zs))) in
+      more ∙ (λ i. opens_from (length-push pre z i) (before ++ match_of ports z.job (count_by (is_item z.job z.port) (items_of pre)) (items_of s.visits) ∷ []) (matches_from ports (items_of s.visits) (items-pre pre z i) (items_of zs))) in
       λ i. one i ∷ rest i
     where
       swapped : (time p : ℕ) → sum_below (length pre) (λ k. one_if_there join.there time p (join.exit s k)) + one_if_there join.there time p (join.exit s (length pre)) ≡ sum_below (suc (length pre)) (λ k. one_if_there join.there time p (join.exit s k))

@@ -14,7 +14,7 @@ use Rattle.mq_core.specs.declared.model.Demand.{Demand}
 use Rattle.mq_core.specs.declared.model.Rows.{Rows}
 use Rattle.mq_core.proofs.Events.Areas.{sum-same}
 use Rattle.mq_core.proofs.Events.Remaining.{remaining}
-use Rattle.mq_core.proofs.Server.Serves.{Serving, last_served, latest-push, next_finish, pair-inj, positions}
+use Rattle.mq_core.proofs.Server.Serves.{Serving, last_served, latest-push, next_finish, pair-inj, positions, positions-length}
 
 -- the demands of the jobs whose service has begun
 abbrev pub begun : Rows → Demand → List Visit → List ℕ → ℕ
@@ -42,13 +42,6 @@ module _ (rows : Rows) (demand : Demand) (v : ℕ) where
     where
       size : length (visits ++ x ∷ []) ≡ suc (length visits)
       size = omega (arith, length-append visits (x ∷ []))
-
-      fewer : (here : List Visit) → length (positions (length h.gone) here) ≡ length here
-      fewer here = count (length h.gone) here
-        where
-          count : (k : ℕ) (xs : List Visit) → length (positions k xs) ≡ length xs
-          count k [] = refl
-          count k (z ∷ zs) = ap suc (count (suc k) zs)
 
       go : (q : List ℕ) → queue ≡ q → (here : List Visit) → queue ≡ positions (length h.gone) here → fs ≡ next_finish rows demand v (length h.gone) (last_served rows demand 0 h.gone) here → busy + remaining now (fs ++ finishes_of v (queues_up rows demand (visits ++ x ∷ []) local now queue (latest (visits ++ x ∷ []))).services) ≡ begun rows demand (visits ++ x ∷ []) (queues_up rows demand (visits ++ x ∷ []) local now queue (latest (visits ++ x ∷ []))).local.queue
       go [] p [] w n =
@@ -80,14 +73,10 @@ module _ (rows : Rows) (demand : Demand) (v : ℕ) where
           (let r = ap (remaining now) n in let f = ap (λ q. sum_below (length visits - (length q - 1)) (λ i. demand_at rows demand visits i)) w in omega arith) in
           rw (w, ← both.1) (more ys size old)
         where
-          count : (k : ℕ) (xs : List Visit) → length (positions k xs) ≡ length xs
-          count k [] = refl
-          count k (z ∷ zs) = ap suc (count (suc k) zs)
-
           more : (zs : List Visit) → length visits ≡ length h.gone + suc (length zs) → busy ≡ sum_below (length visits - (length (positions (length h.gone) (y ∷ zs)) - 1)) (λ i. demand_at rows demand visits i) → busy + remaining now (finishes_of v (front_begins rows demand visits now (positions (suc (length h.gone)) zs))) ≡ begun rows demand visits (positions (suc (length h.gone)) zs)
           more [] size old = let b : length visits - (1 - 1) ≡ length visits - (0 - 1) = omega arith in let c = ap (λ j. sum_below j (λ i. demand_at rows demand visits i)) b in omega arith
           more (z ∷ zs) size old =
-              let l = count (suc (suc (length h.gone))) zs in
+              let l = positions-length (suc (suc (length h.gone))) zs in
               let b : length visits - (suc (length (positions (suc (suc (length h.gone))) zs)) - 1) ≡ suc (length visits - (suc (suc (length (positions (suc (suc (length h.gone))) zs))) - 1)) = omega arith in
               let k : length visits - (suc (suc (length (positions (suc (suc (length h.gone))) zs))) - 1) ≡ suc (length h.gone) = omega arith in
               let c = ap (λ j. sum_below j (λ i. demand_at rows demand visits i)) b in

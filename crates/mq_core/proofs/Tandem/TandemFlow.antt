@@ -3,6 +3,7 @@ use Rattle.std.proofs.Common.{◌≡◌, ℕ, zero, suc, ◌+◌, ◌<◌, ◌�
 use Rattle.std.proofs.lemmas.Bool.Decides.{nat_tests}
 use Rattle.std.proofs.lemmas.List.{append-nil}
 use Rattle.std.specs.Prelude.{slice_get, map}
+use Rattle.mq_base.proofs.lemmas.Lists.{get-some}
 use Rattle.mq_core.specs.SequenceLaws.{arrives_of, jobs_of}
 use Rattle.mq_core.specs.Machine.{Visit, Emission, emission_of}
 use Rattle.mq_core.specs.Handling.{demand_of_job}
@@ -13,7 +14,7 @@ use Rattle.mq_core.specs.Tallies.{sum_below, emission_at, one_if_none, staying}
 use Rattle.mq_core.specs.declared.model.Stage.{Stage}
 use Rattle.mq_core.specs.declared.model.Rows.{Rows}
 use Rattle.mq_core.proofs.Events.EmissionsAt.{found-behind, other-behind}
-use Rattle.mq_core.proofs.Server.Serves.{slice_get-middle}
+use Rattle.mq_core.proofs.Server.Serves.{length-push, slice_get-middle}
 use Rattle.mq_core.proofs.Tandem.TandemTimes.{across, places_of, asked_of, row_of, history, time_at, row-is_across}
 use Rattle.mq_core.proofs.Tandem.TandemStages.{outs}
 
@@ -41,9 +42,6 @@ last-across stage (next ∷ stages) time k = last-across next stages (λ s. time
 push-before : (before : List Visit) (x : Visit) (xs : List Visit) → before ++ x ∷ xs ≡ (before ++ x ∷ []) ++ xs
 push-before before x xs = sym (append_assoc before (x ∷ []) xs)
 
-push-length : (before : List Visit) (x : Visit) → length (before ++ x ∷ []) ≡ suc (length before)
-push-length before x = omega (arith, length-append before (x ∷ []))
-
 module _ (rows : Rows) (stage : Stage) (stages : List Stage) (visits : List Visit) where
   -- when the jobs leave the last stage
   abbrev last : ℕ → ℕ
@@ -58,7 +56,7 @@ module _ (rows : Rows) (stage : Stage) (stages : List Stage) (visits : List Visi
       ap (λ d. stage_departs x.arrive (places_of (stage ∷ stages)) d (history rows (stage ∷ stages) visits k)) (asked-first rows (stage ∷ stages) x xs)
       ∙ ap (λ o. row_of rows (stage ∷ stages) o (history rows (stage ∷ stages) visits k)) (sym here) in
       let time = ap last_time (row ∙ row-is_across rows (stage ∷ stages) visits k) ∙ last-across stage stages (λ s. time_at rows (stage ∷ stages) visits (suc s)) k in
-      let more = departs-from (before ++ x ∷ []) xs (suc k) (e ∙ push-before before x xs) (push-length before x ∙ ap suc n) in
+      let more = departs-from (before ++ x ∷ []) xs (suc k) (e ∙ push-before before x xs) (length-push before x ∙ ap suc n) in
       (λ i. time i ∷ tandem_departs (places_of (stage ∷ stages)) (each_before (row i) (history rows (stage ∷ stages) visits k)) (arrives_of xs) (asked-rest rows (stage ∷ stages) x xs i))
       ∙ ap (λ l. last k ∷ l) more
 
@@ -69,22 +67,17 @@ module _ (rows : Rows) (stage : Stage) (stages : List Stage) (visits : List Visi
       let m : Emission = record { out = 0; position = k; job = x.job; time = last k } in
       sym (append_assoc (outs visits last k) (m ∷ []) (leaving_from (suc k) (values last (suc k) (length xs)) xs))
       ∙ (ap (λ o. (outs visits last k ++ emission_of (last k) 0 k o) ++ leaving_from (suc k) (values last (suc k) (length xs)) xs) (sym here)
-      ∙ outs-from (before ++ x ∷ []) xs (suc k) (e ∙ push-before before x xs) (push-length before x ∙ ap suc n))
+      ∙ outs-from (before ++ x ∷ []) xs (suc k) (e ∙ push-before before x xs) (length-push before x ∙ ap suc n))
 
   -- what all visits let out
   pub outs-flow : outs visits last (length visits) ≡ tandem_flow rows (stage ∷ stages) visits
   outs-flow = sym (ap (λ l. leaving_from 0 l visits) (departs-from [] visits 0 refl refl) ∙ outs-from [] visits 0 refl refl)
 
 -- the emissions of the first positions
-some-visit : (visits : List Visit) (k : ℕ) → k < length visits → (x : Visit) × (slice_get visits k ≡ Some x)
-some-visit [] k l = absurd (omega arith)
-some-visit (x ∷ xs) zero l = (x, refl)
-some-visit (x ∷ xs) (suc k) l = some-visit xs k (omega arith)
-
 outs-none : (visits : List Visit) (f : ℕ → ℕ) (out p : ℕ) → out ≤ length visits → out ≤ p → emission_at (outs visits f out) p ≡ None
 outs-none visits f zero p l u = refl
 outs-none visits f (suc out) p l u =
-    let x = some-visit visits out (omega arith) in
+    let x = get-some visits out (omega arith) in
     let other : out ≡ p → ⊥ = λ e. omega arith in
     ap (λ o. emission_at (outs visits f out ++ emission_of (f out) 0 out o) p) x.1
     ∙ (other-behind p (outs visits f out) (record { out = 0; position = out; job = x.0.job; time = f out }) other ∙ outs-none visits f out p (omega arith) (omega arith))
@@ -94,7 +87,7 @@ outs-some visits f zero p l u = absurd (omega arith)
 outs-some visits f (suc out) p l u = go (eqb out p) refl (outs-some visits f out p)
   where
     x : (y : Visit) × (slice_get visits out ≡ Some y)
-    x = some-visit visits out (omega arith)
+    x = get-some visits out (omega arith)
 
     go : (b : Bool) → eqb out p ≡ b → (out ≤ length visits → p < out → (o : Emission) × (emission_at (outs visits f out) p ≡ Some o)) → (o : Emission) × (emission_at (outs visits f (suc out)) p ≡ Some o)
     go true e ih =
@@ -117,7 +110,7 @@ outs-some visits f (suc out) p l u = go (eqb out p) refl (outs-some visits f out
 pub outs-length : (visits : List Visit) (f : ℕ → ℕ) (out : ℕ) → out ≤ length visits → length (outs visits f out) ≡ out
 outs-length visits f zero l = refl
 outs-length visits f (suc out) l =
-    let x = some-visit visits out (omega arith) in
+    let x = get-some visits out (omega arith) in
     let old = outs-length visits f out (omega arith) in
     let more = length-append (outs visits f out) (record { out = 0; position = out; job = x.0.job; time = f out } ∷ []) in
     ap (λ o. length (outs visits f out ++ emission_of (f out) 0 out o)) x.1 ∙ omega arith
