@@ -1,5 +1,5 @@
 -- What holds of a join between two events.
-use Rattle.std.proofs.Common.{◌≡◌, ◌⊎◌, inl, inr, ℕ, suc, ◌+◌, ◌<◌, ◌≤◌, Bool, true, false, cond, eqb, eqb-true, eq-eqb, List, [], ◌∷◌, ◌++◌, length, map, Option, Some, None, refl, sym, ap, arith, subst, ◌∙◌, length-append}
+use Rattle.std.proofs.Common.{◌≡◌, ◌⊎◌, inl, inr, ℕ, suc, ◌+◌, ◌<◌, ◌≤◌, Bool, true, false, cond, eqb, eqb-true, eq-eqb, List, [], ◌∷◌, ◌++◌, length, map, Some, None, refl, sym, ap, arith, subst, ◌∙◌, length-append}
 use Rattle.std.proofs.lemmas.Bool.{cases_lt}
 use Rattle.std.proofs.lemmas.List.{append-nil}
 use Rattle.std.specs.List.{AllByRecursion as Each, zip}
@@ -10,7 +10,7 @@ use Rattle.mq_core.specs.Handling.{latest}
 use Rattle.mq_core.specs.Kinds.Join.{has_job, is_by, is_item, is_matched, is_of, match_of, taken_out}
 use Rattle.mq_core.specs.Machine.{Emission, Visit}
 use Rattle.mq_core.proofs.Join.Entries.{count-cons, count-push, matched-all, taken-each, taken-others, taken-own, unmatched-one}
-use Rattle.mq_core.proofs.lemmas.Matches.{Grows, match-all, match-grows, match-lacks, match-none}
+use Rattle.mq_core.proofs.lemmas.Matches.{Grows, grown-new, grown-some, match-all, match-grows, match-lacks, match-none}
 use Rattle.mq_base.proofs.lemmas.Each.{Each-append, Each-weaker}
 use Rattle.mq_base.proofs.lemmas.Lists.{get-front, get-last, get-none, get-some}
 use Rattle.mq_core.proofs.Server.Serves.{latest-push, slice_get-middle}
@@ -59,16 +59,6 @@ pub record Joining (ports : ℕ) (visits : List Visit) (held : List (ℕ × ℕ)
   pub places : (job i : ℕ) → option_map (λ (m : Emission). m.position) (slice_get (of_row job emitted) i) ≡ match_of ports job i (items_of visits)
   pub known : Each (λ (m : Emission). m.position < length visits) emitted
 
-grows-some : (last q : ℕ) (o p : Option ℕ) → Grows last o p → o ≡ Some q → p ≡ Some q
-grows-some last q o p (inl (r, l, a, b)) e = b ∙ (sym a ∙ e)
-grows-some last q o p (inr (inl (a, b))) e = absurd (let c = sym a ∙ e in cc)
-grows-some last q o p (inr (inr (a, b))) e = absurd (let c = sym a ∙ e in cc)
-
-grows-new : (last q : ℕ) (o p : Option ℕ) → Grows last o p → o ≡ None → p ≡ Some q → p ≡ Some last
-grows-new last q o p (inl (r, l, a, b)) e f = absurd (let c = sym a ∙ e in cc)
-grows-new last q o p (inr (inl (a, b))) e f = absurd (let c = sym b ∙ f in cc)
-grows-new last q o p (inr (inr (a, b))) e f = b
-
 -- one visit more, at one of the ports
 module _ (ports : ℕ) (visits : List Visit) (held : List (ℕ × ℕ)) (emitted : List Emission) (fs : List Event) (x : Visit) (here : x.port < ports) (h : Joining ports visits held emitted fs) where
   abbrev more : List Visit
@@ -114,7 +104,7 @@ module _ (ports : ℕ) (visits : List Visit) (held : List (ℕ × ℕ)) (emitted
   old-place job i ms l =
       let one = get-some (of_row job emitted) i l in
       let was = sym (h.places job i) ∙ ap (option_map (λ (m : Emission). m.position)) one.1 in
-      ap (option_map (λ (m : Emission). m.position)) (get-front (of_row job emitted) ms i l ∙ one.1) ∙ sym (grows-some (length visits) (one.0).position _ _ (grown job i) was)
+      ap (option_map (λ (m : Emission). m.position)) (get-front (of_row job emitted) ms i l ∙ one.1) ∙ sym (grown-some (length visits) (one.0).position _ _ (grown job i) was)
 
   -- where one port has no more than i, there is none
   no-place : (job i k : ℕ) → k < ports → count_by (is_of job k) more ≤ i → match_of ports job i (items_of more) ≡ None
@@ -224,7 +214,7 @@ module _ (ports : ℕ) (visits : List Visit) (held : List (ℕ × ℕ)) (emitted
                   let none = sym (h.places job i) ∙ ap (option_map (λ (n : Emission). n.position)) (get-none (of_row job emitted) i l) in
                   let whole = match-all ports job i (items_of more) (λ k u. let a = all k u in let c = counts-joined job k u in let d = ap (λ j. count_by (is_by more j k) joined) same in let g = items-count job k more in omega arith) in
                   ap (option_map (λ (n : Emission). n.position)) (ap (slice_get (of_row job emitted ++ m ∷ [])) own ∙ get-last (of_row job emitted) m)
-                  ∙ (ap Some at ∙ sym (grows-new (length visits) whole.0 _ _ (grown job i) none whole.1))
+                  ∙ (ap Some at ∙ sym (grown-new (length visits) whole.0 _ _ (grown job i) none whole.1))
               last false f =
                   let other : i ≡ length (of_row job emitted) → ⊥ = λ q. let c = eq-eqb i (length (of_row job emitted)) q in absurd cc in
                   let size = length-append (of_row job emitted) (m ∷ []) in

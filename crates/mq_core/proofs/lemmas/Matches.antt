@@ -152,12 +152,13 @@ match-behind ports pre post item q l e =
 abbrev pub ArePlaces : ℕ → ℕ → List (ℕ × ℕ) → List ℕ → Type 0
 ArePlaces ports job items places = (i : ℕ) → slice_get places i ≡ match_of ports job i items
 
-grown-some : (last q : ℕ) (before after : Option ℕ) → Grows last before after → before ≡ Some q → after ≡ Some q
+-- what was a place stays it, and a new one is this
+pub grown-some : (last q : ℕ) (before after : Option ℕ) → Grows last before after → before ≡ Some q → after ≡ Some q
 grown-some last q before after (inl (r, l, a, b)) e = b ∙ (sym a ∙ e)
 grown-some last q before after (inr (inl (a, b))) e = absurd (let c = sym a ∙ e in cc)
 grown-some last q before after (inr (inr (a, b))) e = absurd (let c = sym a ∙ e in cc)
 
-grown-new : (last q : ℕ) (before after : Option ℕ) → Grows last before after → before ≡ None → after ≡ Some q → after ≡ Some last
+pub grown-new : (last q : ℕ) (before after : Option ℕ) → Grows last before after → before ≡ None → after ≡ Some q → after ≡ Some last
 grown-new last q before after (inl (r, l, a, b)) e f = absurd (let c = sym a ∙ e in cc)
 grown-new last q before after (inr (inl (a, b))) e f = absurd (let c = sym b ∙ f in cc)
 grown-new last q before after (inr (inr (a, b))) e f = b
