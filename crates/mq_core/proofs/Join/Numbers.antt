@@ -145,7 +145,7 @@ emission-more visits emitted m ports job p v of l =
                 beyond other = let size = length-append l (m ∷ []) in omega arith
 
 -- the port of a visit
-port-of : (ports : ℕ) (ys : List Visit) (p : ℕ) (v : Visit) → Each (λ (y : Visit). y.port < ports) ys → slice_get ys p ≡ Some v → v.port < ports
+pub port-of : (ports : ℕ) (ys : List Visit) (p : ℕ) (v : Visit) → Each (λ (y : Visit). y.port < ports) ys → slice_get ys p ≡ Some v → v.port < ports
 port-of ports [] p v h e = absurd cc
 port-of ports (y ∷ ys) zero v h e = subst (λ (z : Visit). z.port < ports) (some_inj y v e) h.0
 port-of ports (y ∷ ys) (suc p) v h e = port-of ports ys p v h.1 e
