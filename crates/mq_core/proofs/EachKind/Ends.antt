@@ -1,9 +1,9 @@
 -- That a run ends: the weight of what is pending falls with each event.
-use Rattle.std.proofs.Common.{Bool, List, None, Option, Some, [], ap, arith, eq-eqb, eqb, eqb-true, false, length, length-append, refl, subst, suc, sym, true, zero, ℕ, ◌*◌, ◌++◌, ◌+◌, ◌-◌, ◌<◌, ◌^◌, ◌∙◌, ◌∷◌, ◌≡◌, ◌≤◌}
+use Rattle.std.proofs.Common.{Bool, List, None, Option, Some, [], ap, arith, eq-eqb, eqb, eqb-true, false, length, refl, subst, suc, sym, true, zero, ℕ, ◌*◌, ◌++◌, ◌+◌, ◌-◌, ◌<◌, ◌^◌, ◌∙◌, ◌∷◌, ◌≡◌, ◌≤◌}
 use Rattle.std.proofs.Math.Nat.{mul-suc, mul_assoc, mul_comm, suc-mul}
 use Rattle.std.proofs.lemmas.List.{append-nil}
 use Rattle.std.specs.List.{AllByRecursion as Each}
-use Rattle.std.specs.Option.{option_map, option_to_list}
+use Rattle.std.specs.Option.{option_map}
 use Rattle.std.specs.Prelude.{IfSome, IsSome, filter, slice_get}
 use Rattle.mq_core.specs.Event.{Event, earliest, node_of}
 use Rattle.mq_core.specs.Event.Event.{Arrive, Finish}
@@ -19,7 +19,7 @@ use Rattle.mq_core.specs.Standard.{jobs_in, node_jobs, node_on, node_opening, st
 use Rattle.mq_core.specs.StandardTable.{run_of, standard}
 use Rattle.mq_core.specs.Tallies.{one_if_none, staying, sum_below}
 use Rattle.mq_core.specs.Theorems.{IsReadFor}
-use Rattle.mq_core.specs.Wiring.{first_ready, is_source, rank_in, ranked_after, reader_from}
+use Rattle.mq_core.specs.Wiring.{is_source, rank_in, reader_from}
 use Rattle.mq_core.specs.declared.model.Kind.{Kind}
 use Rattle.mq_core.specs.declared.model.Node.{Node}
 use Rattle.mq_core.specs.declared.model.Plan.{Plan}
@@ -31,6 +31,7 @@ use Rattle.mq_core.proofs.Events.Falls.{Falls, done-from_start, sum_over, total,
 use Rattle.mq_core.proofs.Events.Kept.{Fact, kept}
 use Rattle.mq_core.proofs.Networks.Whole.{starts-begin}
 use Rattle.mq_core.proofs.Networks.Wired.{feeds_forward, has_inputs, rank_in-has, reads-from}
+use Rattle.mq_core.proofs.lemmas.Plans.{ranked-few}
 
 -- what the jobs in a node still weigh, where each emission weighs at most this much
 abbrev pub kind_load : Rows → ℕ → ℕ → Kind → Local → ℕ
@@ -113,16 +114,6 @@ node-ends-falls : (rows : Rows) (o : Option Node) (onward v : ℕ) (s : Station 
 node-ends-falls rows None onward v s fs rest rank now server position fact first l there = absurd (there refl)
 node-ends-falls rows (Some node) onward v s fs rest rank now server position fact first l there = (laws_of rows (length node.inputs) node.kind).takes onward rank v server position s fs rest now first fact
 
--- an order has at most as many nodes as the network
-ranked-length : (count : ℕ) (nodes : List Node) (ranked : List ℕ) → length (ranked_after count nodes ranked) ≤ length ranked + count
-unfolding ranked_after
-ranked-length zero nodes ranked = omega arith
-ranked-length (suc count) nodes ranked = go (first_ready ranked 0 nodes) (ranked-length count nodes)
-  where
-    go : (r : Option ℕ) → ((xs : List ℕ) → length (ranked_after count nodes xs) ≤ length xs + count) → length (ranked_after count nodes (ranked ++ option_to_list r)) ≤ length ranked + suc count
-    go None ih = let l = ih (ranked ++ []) in omega (arith, length-append ranked [])
-    go (Some n) ih = let l = ih (ranked ++ n ∷ []) in omega (arith, length-append ranked (n ∷ []))
-
 load-opening : (rows : Rows) (onward : ℕ) (o : Option Node) → node_load rows onward o (node_opening o) ≡ 0
 load-opening rows onward None = refl
 load-opening rows onward (Some node) = (laws_of rows (length node.inputs) node.kind).weightless onward
@@ -200,7 +191,7 @@ module _ (plan : Plan) (rows : Rows) (read : IsReadFor plan.net rows) where
   rank-inside v l =
       let a : rank_in (plan.order ++ []) v < length plan.order = rank_in-has plan.order [] v (plan.whole v l) in
       let b : rank_in plan.order v < length plan.order = subst (λ xs. rank_in xs v < length plan.order) (append-nil plan.order) a in
-      let c : length plan.order ≤ size = subst (λ xs. length xs ≤ size) (sym plan.ranked) (let d = ranked-length size plan.net.nodes [] in omega arith) in
+      let c : length plan.order ≤ size = subst (λ xs. length xs ≤ size) (sym plan.ranked) (let d = ranked-few size plan.net.nodes [] in omega arith) in
       omega arith
 
   falls : Falls (standard plan rows) fact 1 size weight onward load
