@@ -9,6 +9,7 @@ use Rattle.mq_base.proofs.lemmas.Each.{Each-weaker, filter-none, filter-yes, fil
 use Rattle.mq_core.specs.Laws.{Rises, in_order_of, insert_by}
 use Rattle.mq_core.specs.Machine.{Visit, Emission}
 use Rattle.mq_core.specs.Tallies.{sum_below, emission_at, one_if_none, staying}
+use Rattle.mq_core.proofs.Events.Areas.{sum-both, sum-none, sum-same}
 use Rattle.mq_core.proofs.Events.EmissionsAt.{neq-eqb}
 use Rattle.mq_core.proofs.lemmas.Rising.{Rises-append, same_by_key, filter-in_order_of, Rises-in_order_of}
 use Rattle.mq_core.proofs.Counting.SequenceNumbers.{Numbered}
@@ -176,30 +177,17 @@ emission_at-in_order key p (m ∷ ms) h =
     emission_at-insert key p m (in_order_of key ms) (omega arith)
     ∙ ap (λ o. cond (eqb m.position p) (Some m) o) (emission_at-in_order key p ms (omega arith))
 
-sum-alike : (n : ℕ) (f g : ℕ → ℕ) → ((k : ℕ) → k < n → f k ≡ g k) → sum_below n f ≡ sum_below n g
-sum-alike zero f g h = refl
-sum-alike (suc n) f g h = let a = h n (omega arith) in let b = sum-alike n f g (λ k l. h k (omega arith)) in omega arith
-
 -- the positions below n among these are all of them
 sum-times : (n : ℕ) (ms : List Emission) → Each (λ (m : Emission). m.position < n) ms → sum_below n (λ p. times_at p ms) ≡ length ms
-sum-times n [] h = none n
-  where
-    none : (k : ℕ) → sum_below k (λ p. 0) ≡ 0
-    none zero = refl
-    none (suc k) = let e = none k in omega arith
+sum-times n [] h = sum-none n _ (λ k l. refl)
 sum-times n (m ∷ ms) h =
-    let a = parts n in
+    let a = sum-both n (λ p. cond (eqb m.position p) 1 0) (λ p. times_at p ms) (λ p. times_at p (m ∷ ms)) (λ p. refl) in
     let b = one n h.0 in
     let c = sum-times n ms h.1 in
     omega arith
   where
-    parts : (k : ℕ) → sum_below k (λ p. times_at p (m ∷ ms)) ≡ sum_below k (λ p. cond (eqb m.position p) 1 0) + sum_below k (λ p. times_at p ms)
-    parts zero = omega arith
-    parts (suc k) = let e = parts k in omega arith
-
     above : (k : ℕ) → k ≤ m.position → sum_below k (λ p. cond (eqb m.position p) 1 0) ≡ 0
-    above zero l = refl
-    above (suc k) l = let e = above k (omega arith) in rw (neq-eqb m.position k (λ q. omega arith)) (omega arith)
+    above k l = sum-none k _ (λ p u. ap (λ b. cond b 1 0) (neq-eqb m.position p (λ q. omega arith)))
 
     one : (k : ℕ) → m.position < k → sum_below k (λ p. cond (eqb m.position p) 1 0) ≡ 1
     one zero l = absurd (omega arith)
@@ -217,7 +205,7 @@ sum-times n (m ∷ ms) h =
 -- where each position was let out or is still to leave, once in all, as many stay as are to leave
 pub staying-coming : (visits : List Visit) (emitted coming : List Emission) → ((p : ℕ) → p < length visits → times_at p emitted + times_at p coming ≡ 1) → Each (λ (m : Emission). m.position < length visits) coming → staying visits (emission_at emitted) ≡ length coming
 staying-coming visits emitted coming once inside =
-    sum-alike (length visits) _ _ (λ p l. go p (times_at p emitted) refl (once p l)) ∙ sum-times (length visits) coming inside
+    sum-same (length visits) _ _ (λ p l. go p (times_at p emitted) refl (once p l)) ∙ sum-times (length visits) coming inside
   where
     go : (p count : ℕ) → times_at p emitted ≡ count → times_at p emitted + times_at p coming ≡ 1 → one_if_none (emission_at emitted p) ≡ times_at p coming
     go p zero e h = ap one_if_none (emission_at-none p emitted e) ∙ omega arith

@@ -27,6 +27,7 @@ use Rattle.mq_core.specs.declared.model.Rows.{Rows}
 use Rattle.mq_core.proofs.EachKind.Facts.{node_fact, standard-keeps}
 use Rattle.mq_core.proofs.EachKind.LawTable.{inside_of, laws_of, limits_of}
 use Rattle.mq_core.proofs.EachKind.Shapes.{node-sound}
+use Rattle.mq_core.proofs.Events.Areas.{sum-none}
 use Rattle.mq_core.proofs.Events.Falls.{Falls, done-from_start, sum_over, total, weigh}
 use Rattle.mq_core.proofs.Events.Kept.{Fact, kept}
 use Rattle.mq_core.proofs.Networks.Whole.{starts-begin}
@@ -117,10 +118,6 @@ node-ends-falls rows (Some node) onward v s fs rest rank now server position fac
 load-opening : (rows : Rows) (onward : ℕ) (o : Option Node) → node_load rows onward o (node_opening o) ≡ 0
 load-opening rows onward None = refl
 load-opening rows onward (Some node) = (laws_of rows (length node.inputs) node.kind).weightless onward
-
-pub sum_below-zero : (n : ℕ) (f : ℕ → ℕ) → ((k : ℕ) → f k ≡ 0) → sum_below n f ≡ 0
-sum_below-zero zero f h = refl
-sum_below-zero (suc n) f h = omega (arith, h n, sum_below-zero n f h)
 
 pub starts-weight : (weight : ℕ → ℕ) (most : ℕ) → ((v : ℕ) → weight v ≤ most) → (job : ℕ) (sources times : List ℕ) → sum_over (weigh weight) (starts_from job sources times) ≤ most * length times
 starts-weight weight most h job [] times = omega arith
@@ -231,7 +228,7 @@ module _ (plan : Plan) (rows : Rows) (read : IsReadFor plan.net rows) where
       enough =
           let a = starts-weight weight (weight_of most size) (λ v. weight-rises most _ _ (omega arith)) 0 rows.source rows.time in
           let c = long-enough size (length rows.time) in
-          let b = sum_below-zero size (λ v. load v (record { local = node_opening (slice_get plan.net.nodes v); visits = []; emitted = []; area = 0; busy = 0 })) (λ v. load-opening rows (onward v) (slice_get plan.net.nodes v)) in
+          let b = sum-none size (λ v. load v (record { local = node_opening (slice_get plan.net.nodes v); visits = []; emitted = []; area = 0; busy = 0 })) (λ v l. load-opening rows (onward v) (slice_get plan.net.nodes v)) in
           omega arith
 
   -- what holds of each node at the end

@@ -7,9 +7,10 @@ use Rattle.mq_core.specs.Event.{Event}
 use Rattle.mq_core.specs.Handling.{latest}
 use Rattle.mq_core.specs.Kinds.Fork.{copied, copied_from, copies}
 use Rattle.mq_core.specs.Machine.{Emission, Release, Visit, emission_of, emissions_of}
-use Rattle.mq_core.specs.Tallies.{emission_at, one_if_none, staying, sum_below}
+use Rattle.mq_core.specs.Tallies.{emission_at, one_if_none, staying}
 use Rattle.mq_base.proofs.lemmas.Each.{Each-append, Each-weaker}
 use Rattle.mq_core.proofs.EachKind.StationLaws.{Arrived}
+use Rattle.mq_core.proofs.Events.Areas.{sum-none}
 use Rattle.mq_core.proofs.Server.Serves.{latest-push, slice_get-middle}
 
 -- every visit went on at once by each output, of which there is one, and nothing is pending
@@ -123,11 +124,7 @@ copied_from-found outputs k p (x ∷ xs) l u = go (eqb k p) refl (copied_from-fo
 pub forking-number : (outputs : ℕ) (visits : List Visit) (emitted : List Emission) (fs : List Event) → Forking outputs visits emitted fs → 0 ≡ staying visits (emission_at emitted)
 forking-number zero visits emitted fs h = absurd (let s = h.some in omega arith)
 forking-number (suc outputs) visits emitted fs h =
-    sym (ap (λ l. staying visits (emission_at l)) h.left ∙ none (length visits) (λ k l. let r = copied_from-found outputs 0 k visits (omega arith) (omega arith) in ap one_if_none r.1))
-  where
-    none : (n : ℕ) → ((j : ℕ) → j < n → one_if_none (emission_at (copied_from (suc outputs) 0 visits) j) ≡ 0) → sum_below n (λ p. one_if_none (emission_at (copied_from (suc outputs) 0 visits) p)) ≡ 0
-    none zero g = refl
-    none (suc n) g = omega (arith, g n (omega arith), none n (λ j l. g j (omega arith)))
+    sym (ap (λ l. staying visits (emission_at l)) h.left ∙ sum-none (length visits) _ (λ k l. let r = copied_from-found outputs 0 k visits (omega arith) (omega arith) in ap one_if_none r.1))
 
 -- each copy is when its visit came
 pub copies-arrived : (outputs k : ℕ) (all xs : List Visit) → ((i : ℕ) (x : Visit) → slice_get xs i ≡ Some x → slice_get all (k + i) ≡ Some x) → Each (Arrived all) (copied_from outputs k xs)

@@ -1,9 +1,9 @@
 -- At the end each job was served at every server of a fork-join.
-use Rattle.std.proofs.Common.{◌≡◌, ℕ, zero, suc, ◌+◌, ◌-◌, List, [], ◌∷◌, ◌++◌, length, sym, refl, ap, ◌∙◌, arith}
+use Rattle.std.proofs.Common.{◌≡◌, ℕ, ◌+◌, ◌-◌, List, [], ◌∷◌, ◌++◌, length, sym, refl, ap, ◌∙◌, arith}
 use Rattle.std.proofs.lemmas.List.Sums.{sum_by-append, sum_by-cons}
 use Rattle.std.specs.Prelude.{slice_get, filter, sum_by}
 use Rattle.std.specs.List.{flat_map}
-use Rattle.mq_core.proofs.Events.Areas.{sum-none}
+use Rattle.mq_core.proofs.Events.Areas.{sum-both, sum-none}
 use Rattle.mq_core.specs.Event.{Event}
 use Rattle.mq_core.specs.Handling.{demand_of_visit, demand_at}
 use Rattle.mq_core.specs.Local.{Branch}
@@ -19,10 +19,6 @@ use Rattle.mq_core.proofs.ForkJoin.ForkJoinBusy.{series_begun, branches_begun}
 use Rattle.mq_core.proofs.ForkJoin.ForkJoinEnds.{forkjoining-done}
 use Rattle.mq_core.proofs.Events.Remaining.{remaining}
 
-sum-plus : (n : ℕ) (f g h : ℕ → ℕ) → ((p : ℕ) → h p ≡ f p + g p) → sum_below n f + sum_below n g ≡ sum_below n h
-sum-plus zero f g h e = omega arith
-sum-plus (suc n) f g h e = let a = e n in let r = sum-plus n f g h e in omega arith
-
 module _ (rows : Rows) (v : ℕ) (all : List Visit) (n now : ℕ) where
   series-idle : (server : ℕ) (ds : List Demand) (visits : List Visit) (queues : List (List ℕ)) (ended : List Visit) (pend : ℕ → List Event) → Series rows v server ds visits queues ended pend now → count_in queues ≡ 0 → series_begun rows all n ds queues ≡ sum_below n (λ p. sum_by (λ d. demand_at rows d all p) ds)
   series-idle server [] visits queues ended pend h e = sym (sum-none n (λ _. 0) (λ k l. refl))
@@ -33,7 +29,7 @@ module _ (rows : Rows) (v : ℕ) (all : List Visit) (n now : ℕ) where
       let a = ap (λ k. sum_below k (λ p. demand_at rows d all p)) one in
       let b = ap (λ k. series_begun rows all k ds queues) two in
       let r = series-idle (server + 1) ds (departing rows d 0 gone) queues ended pend rest (omega arith) in
-      let s = sum-plus n (λ p. demand_at rows d all p) (λ p. sum_by (λ e. demand_at rows e all p) ds) (λ p. sum_by (λ e. demand_at rows e all p) (d ∷ ds)) (λ p. sum_by-cons (λ e. demand_at rows e all p) d ds) in
+      let s = sum-both n (λ p. demand_at rows d all p) (λ p. sum_by (λ e. demand_at rows e all p) ds) (λ p. sum_by (λ e. demand_at rows e all p) (d ∷ ds)) (λ p. sum_by-cons (λ e. demand_at rows e all p) d ds) in
       omega arith
 
   branches-idle : (server : ℕ) (demands : List (List Demand)) (visits : List Visit) (branches : List Branch) (endeds : List (List Visit)) (pend : ℕ → List Event) → Branching rows v server demands visits branches endeds pend now → most_inside branches ≡ 0 →
@@ -44,7 +40,7 @@ module _ (rows : Rows) (v : ℕ) (all : List Visit) (n now : ℕ) where
   branches-idle server (ds ∷ more) visits (b ∷ bs) (f ∷ fs) pend h e =
       let a = series-idle server ds visits b.queues f pend h.0 (omega arith) in
       let r = branches-idle (server + length ds) more visits bs fs pend h.2 (omega arith) in
-      let s = sum-plus n (λ p. sum_by (λ d. demand_at rows d all p) ds) (λ p. sum_by (λ d. demand_at rows d all p) (flat_map (λ ds. ds) more)) (λ p. sum_by (λ d. demand_at rows d all p) (ds ++ flat_map (λ ds. ds) more)) (λ p. sum_by-append (λ d. demand_at rows d all p) ds (flat_map (λ ds. ds) more)) in
+      let s = sum-both n (λ p. sum_by (λ d. demand_at rows d all p) ds) (λ p. sum_by (λ d. demand_at rows d all p) (flat_map (λ ds. ds) more)) (λ p. sum_by (λ d. demand_at rows d all p) (ds ++ flat_map (λ ds. ds) more)) (λ p. sum_by-append (λ d. demand_at rows d all p) ds (flat_map (λ ds. ds) more)) in
       omega arith
 
 -- the busy tally of a fork-join with nothing to finish is the sum of all that its visits asked for

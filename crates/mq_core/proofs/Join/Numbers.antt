@@ -10,7 +10,7 @@ use Rattle.mq_core.specs.Event.{Event}
 use Rattle.mq_core.specs.Kinds.Join.{index_of, is_matched, is_of, joined_exit, taken_out}
 use Rattle.mq_core.specs.Machine.{Emission, Visit}
 use Rattle.mq_core.specs.Tallies.{one_if_none, sum_below}
-use Rattle.mq_core.proofs.Events.Areas.{sum-none, sum-same}
+use Rattle.mq_core.proofs.Events.Areas.{sum-both, sum-none, sum-same}
 use Rattle.mq_base.proofs.lemmas.Each.{Each-append}
 use Rattle.mq_core.specs.Handling.{latest}
 use Rattle.mq_core.proofs.Join.Entries.{count-push, matched-all, taken-length}
@@ -55,13 +55,9 @@ hits job port index ys (suc n) l =
     step true a = grind (arith, nat_tests)
 
 -- sums may be taken in either order
-sum-both : (n : ℕ) (f g : ℕ → ℕ) → sum_below n (λ p. f p + g p) ≡ sum_below n f + sum_below n g
-sum-both zero f g = refl
-sum-both (suc n) f g = let a = sum-both n f g in omega arith
-
 sum-swap : (n m : ℕ) (f : ℕ → ℕ → ℕ) → sum_below n (λ p. sum_below m (λ k. f k p)) ≡ sum_below m (λ k. sum_below n (λ p. f k p))
 sum-swap n zero f = sum-none n (λ p. 0) (λ k l. refl)
-sum-swap n (suc m) f = sum-both n (λ p. f m p) (λ p. sum_below m (λ k. f k p)) ∙ ap (λ s. sum_below n (λ p. f m p) + s) (sum-swap n m f)
+sum-swap n (suc m) f = sym (sum-both n (λ p. f m p) (λ p. sum_below m (λ k. f k p)) _ (λ p. refl)) ∙ ap (λ s. sum_below n (λ p. f m p) + s) (sum-swap n m f)
 
 sum-ones : (n : ℕ) (f : ℕ → ℕ) → ((k : ℕ) → k < n → f k ≡ 1) → sum_below n f ≡ n
 sum-ones zero f h = refl
@@ -209,7 +205,7 @@ module _ (ports : ℕ) (visits : List Visit) (held : List (ℕ × ℕ)) (emitted
 
       each : staying_by more (emitted ++ m ∷ []) + sum_below (length more) (λ p. sum_below ports (λ k. hit x.job k (length (of_row x.job emitted)) more p (slice_get more p))) ≡ staying_by more emitted
       each =
-          sym (sum-both (length more) (λ p. one_if_none (joined_exit more (emitted ++ m ∷ []) p (slice_get more p))) (λ p. sum_below ports (λ k. hit x.job k (length (of_row x.job emitted)) more p (slice_get more p))))
+          sum-both (length more) (λ p. one_if_none (joined_exit more (emitted ++ m ∷ []) p (slice_get more p))) (λ p. sum_below ports (λ k. hit x.job k (length (of_row x.job emitted)) more p (slice_get more p))) _ (λ p. refl)
           ∙ sum-same (length more) _ _ (λ p l. let y = get-some more p l in
           subst (λ o. one_if_none (joined_exit more (emitted ++ m ∷ []) p o) + sum_below ports (λ k. hit x.job k (length (of_row x.job emitted)) more p o) ≡ one_if_none (joined_exit more emitted p o)) (sym y.1)
           (emission-more more emitted m ports x.job p y.0 of (port-of ports more p y.0 all-ported y.1)))

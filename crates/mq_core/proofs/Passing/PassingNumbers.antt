@@ -1,10 +1,11 @@
 -- That a node which sends each job on holds none.
-use Rattle.std.proofs.Common.{Bool, List, Some, [], ap, arith, eq-eqb, eqb, false, length, refl, suc, sym, true, zero, ℕ, ◌+◌, ◌<◌, ◌∙◌, ◌∷◌, ◌≡◌, ◌≢◌, ◌≤◌}
+use Rattle.std.proofs.Common.{Bool, List, Some, [], ap, arith, eq-eqb, eqb, false, length, refl, suc, sym, true, ℕ, ◌+◌, ◌<◌, ◌∙◌, ◌∷◌, ◌≡◌, ◌≢◌, ◌≤◌}
 use Rattle.std.specs.Prelude.{find}
 use Rattle.mq_core.specs.Event.{Event}
 use Rattle.mq_core.specs.Machine.{Emission, Visit}
 use Rattle.mq_core.specs.Emitting.{passed_from}
-use Rattle.mq_core.specs.Tallies.{emission_at, one_if_none, staying, sum_below}
+use Rattle.mq_core.specs.Tallies.{emission_at, one_if_none, staying}
+use Rattle.mq_core.proofs.Events.Areas.{sum-none}
 use Rattle.mq_core.proofs.Passing.Passes.{Passing}
 
 pub passed-found : (out : Visit → ℕ → ℕ) (k p : ℕ) (visits : List Visit) → k ≤ p → p < k + length visits → (m : Emission) × (find (λ (x : Emission). eqb x.position p) (passed_from out k visits) ≡ Some m)
@@ -23,8 +24,4 @@ passed-found out k p (x ∷ xs) l u = go (eqb k p) refl (passed-found out (suc k
 
 pub passing-number : (out : Visit → ℕ → ℕ) (visits : List Visit) (emitted : List Emission) (fs : List Event) → Passing out visits emitted fs → 0 ≡ staying visits (emission_at emitted)
 passing-number out visits emitted fs h =
-    sym (ap (λ l. staying visits (emission_at l)) h.left ∙ none (length visits) (λ k l. let r = passed-found out 0 k visits (omega arith) (omega arith) in ap one_if_none r.1))
-  where
-    none : (n : ℕ) → ((j : ℕ) → j < n → one_if_none (emission_at (passed_from out 0 visits) j) ≡ 0) → sum_below n (λ p. one_if_none (emission_at (passed_from out 0 visits) p)) ≡ 0
-    none zero g = refl
-    none (suc n) g = omega (arith, g n (omega arith), none n (λ j l. g j (omega arith)))
+    sym (ap (λ l. staying visits (emission_at l)) h.left ∙ sum-none (length visits) _ (λ k l. let r = passed-found out 0 k visits (omega arith) (omega arith) in ap one_if_none r.1))

@@ -1,5 +1,5 @@
 -- The sequences of a source and of a split: one emission a visit, its fates and its outputs.
-use Rattle.std.proofs.Common.{List, [], refl, suc, ℕ, ◌∷◌, ap, map, ◌≡◌, arith, zero}
+use Rattle.std.proofs.Common.{List, [], refl, suc, ℕ, ◌∷◌, ap, map, ◌≡◌, arith}
 use Rattle.mq_core.specs.Machine.{Visit, Emission}
 use Rattle.mq_core.specs.Emitting.{passed_from}
 use Rattle.mq_core.specs.SequenceLaws.{arrives_of, jobs_of, FatesInTime}
@@ -9,7 +9,6 @@ use Rattle.mq_core.specs.declared.model.Fate.TheVariants.{Departs}
 use Rattle.mq_core.specs.declared.model.Kind.{Kind}
 use Rattle.mq_core.specs.declared.model.Route.{Route}
 use Rattle.mq_core.specs.declared.model.Rows.{Rows}
-use Rattle.mq_core.specs.Tallies.{sum_below}
 use Rattle.mq_core.proofs.Counting.SequenceNumbers.{Numbered}
 use Rattle.mq_core.proofs.Counting.Unlost.{Departing}
 use Rattle.mq_core.proofs.Counting.Stays.{cons}
@@ -35,7 +34,3 @@ split-outs rows route k (x ∷ xs) = ap (λ l. output_by rows route x.job k ∷ 
 pub at-once : (arrive : List ℕ) → FatesInTime arrive (map (λ time. Departs time) arrive)
 at-once [] = record { even = omega arith; each = tt }
 at-once (a ∷ later) = cons a a later _ (omega arith) (at-once later)
-
-pub no_sum : (n : ℕ) → sum_below n (λ _. 0) ≡ 0
-no_sum zero = refl
-no_sum (suc n) = omega (arith, no_sum n)

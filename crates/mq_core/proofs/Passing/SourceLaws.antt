@@ -7,8 +7,8 @@ use Rattle.mq_core.specs.declared.model.Kind.TheVariants.{Source}
 use Rattle.mq_core.specs.declared.model.Rows.{Rows}
 use Rattle.mq_core.proofs.Counting.Released.{emission-one, one-release, times-one}
 use Rattle.mq_core.proofs.Counting.Services.{services-by, services-count}
-use Rattle.mq_core.proofs.Passing.PassingSequences.{no_sum}
 use Rattle.mq_core.proofs.EachKind.KindLaws.{Inside, KindLaws, OwnLaws}
+use Rattle.mq_core.proofs.Events.Areas.{sum-none}
 use Rattle.mq_core.proofs.Passing.Passes.{Passing, no_finish, passing-arrives}
 use Rattle.mq_core.proofs.Passing.PassingNumbers.{passing-number}
 use Rattle.mq_core.proofs.Server.Serves.{latest-push}
@@ -43,7 +43,7 @@ source-laws rows ports =
       works = λ v area s fs now later l f h b. omega arith;
       busy_arrives = λ v port s fs now x at soon h b. b;
       busy_ends = λ rank v server position s fs rest now first h b. b;
-      served = λ v s now h k. k ∙ (sym (no_sum (length s.visits)) ∙ (services-by rows Source s.visits (λ o. 0) refl (λ x. refl) ∙ services-count rows Source s.visits s.emitted (λ m. refl)));
+      served = λ v s now h k. k ∙ (sym (sum-none (length s.visits) (λ _. 0) (λ k l. refl)) ∙ (services-by rows Source s.visits (λ o. 0) refl (λ x. refl) ∙ services-count rows Source s.visits s.emitted (λ m. refl)));
     }
 
 -- each visit leaves with its own emission

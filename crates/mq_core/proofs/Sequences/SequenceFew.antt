@@ -22,9 +22,10 @@ use Rattle.mq_core.specs.declared.model.Node.{Node}
 use Rattle.mq_core.specs.declared.model.Plan.{Plan}
 use Rattle.mq_core.specs.declared.model.Rows.{Rows}
 use Rattle.mq_core.proofs.Sequences.SequenceMerges.{visits-nowhere}
-use Rattle.mq_core.proofs.EachKind.Ends.{source-inside, starts-inside, starts-weight, sum_below-zero, some-inside}
+use Rattle.mq_core.proofs.EachKind.Ends.{source-inside, starts-inside, starts-weight, some-inside}
 use Rattle.mq_core.proofs.EachKind.Facts.{node_fact, standard-keeps}
 use Rattle.mq_core.proofs.EachKind.LawTable.{laws_of, limits_of}
+use Rattle.mq_core.proofs.Events.Areas.{sum-none}
 use Rattle.mq_core.proofs.Events.Falls.{Falls, never-grows-from_start}
 use Rattle.mq_core.proofs.Events.Kept.{Fact}
 use Rattle.mq_core.proofs.Networks.Soundness.{parts}
@@ -147,7 +148,7 @@ module _ (plan : Plan) (rows : Rows) (read : IsReadFor plan.net rows) (single : 
       (starts-inside size 0 rows.source rows.time (λ k source e. source-inside plan.net.nodes source (read.sources k source e)))
       (run_length plan.net.nodes rows) in
       let a = starts-weight weight 1 (λ u. at-most (ltb (rank u) (suc (rank v)))) 0 rows.source rows.time in
-      let b = sum_below-zero size (λ u. load u (record { local = node_opening (slice_get plan.net.nodes u); visits = []; emitted = []; area = 0; busy = 0 })) (λ u. opening (before u) (eqb u v) (slice_get plan.net.nodes u)) in
+      let b = sum-none size (λ u. load u (record { local = node_opening (slice_get plan.net.nodes u); visits = []; emitted = []; area = 0; busy = 0 })) (λ u l. opening (before u) (eqb u v) (slice_get plan.net.nodes u)) in
       let c = sum_below-least size v (λ u. load u (end.stations u)) l in
       let d : load v (end.stations v) ≡ length (end.stations v).visits = own (rank v) v (node_jobs (slice_get plan.net.nodes v) (end.stations v).visits (end.stations v).local) (length (end.stations v).visits) in
       omega arith

@@ -2,7 +2,6 @@
 use Rattle.std.proofs.Common.{Bool, List, None, Some, [], ap, arith, eq-eqb, eqb, false, length, length-append, refl, subst, suc, sym, true, zero, ℕ, ◌++◌, ◌+◌, ◌<◌, ◌∙◌, ◌∷◌, ◌≡◌, ◌≢◌, ◌≤◌}
 use Rattle.std.specs.List.{AllByRecursion as Each}
 use Rattle.std.specs.Prelude.{find, slice_get}
-use Rattle.mq_core.proofs.Events.EmissionsAt.{neq-eqb}
 use Rattle.mq_core.specs.Event.{Event, earliest, sooner_of, time_of}
 use Rattle.mq_core.specs.Event.Event.{Finish}
 use Rattle.mq_core.specs.Handling.{front_leaves}
@@ -13,6 +12,8 @@ use Rattle.mq_core.specs.Tallies.{arrival_or, emission_at, one_if_none, staying,
 use Rattle.mq_core.specs.declared.model.Demand.{Demand}
 use Rattle.mq_core.specs.declared.model.Rows.{Rows}
 use Rattle.mq_core.proofs.Counting.Released.{one-release}
+use Rattle.mq_core.proofs.Events.Areas.{sum-none}
+use Rattle.mq_core.proofs.Events.EmissionsAt.{neq-eqb}
 use Rattle.mq_core.proofs.Server.Serves.{Serving, came_before, last_served, next_finish, pair-inj, positions, positions-length}
 
 -- a position that was let out is found
@@ -32,11 +33,7 @@ served-found rows demand k last p (x ∷ xs) l u = go (eqb k p) refl (served-fou
 
 -- the first a summands are 0, and the next b are 1
 pub sum-step : (a b : ℕ) (f : ℕ → ℕ) → ((k : ℕ) → k < a → f k ≡ 0) → ((k : ℕ) → a ≤ k → k < a + b → f k ≡ 1) → sum_below (a + b) f ≡ b
-sum-step a zero f h k = let e : a + 0 ≡ a = omega arith in subst (λ n. sum_below n f ≡ 0) (sym e) (none a (λ j l. h j l))
-  where
-    none : (n : ℕ) → ((j : ℕ) → j < n → f j ≡ 0) → sum_below n f ≡ 0
-    none zero g = refl
-    none (suc n) g = omega (arith, g n (omega arith), none n (λ j l. g j (omega arith)))
+sum-step a zero f h k = let e : a + 0 ≡ a = omega arith in subst (λ n. sum_below n f ≡ 0) (sym e) (sum-none a f h)
 sum-step a (suc b) f h k =
     let e : a + suc b ≡ suc (a + b) = omega arith in
     subst (λ n. sum_below n f ≡ suc b) (sym e) (omega (arith, k (a + b) (omega arith) (omega arith), sum-step a b f h (λ j l u. k j l (omega arith))))
@@ -47,7 +44,6 @@ served-not_found rows demand k last p [] l = refl
 served-not_found rows demand k last p (x ∷ xs) l =
     let no : eqb k p ≡ false = neq-eqb k p (λ e. omega arith) in
     rw no (served-not_found rows demand (suc k) (served rows demand last x) p xs (omega arith))
-
 
 pub serving-number : (rows : Rows) (demand : Demand) (v : ℕ) (visits : List Visit) (queue : List ℕ) (emitted : List Emission) (fs : List Event) (now : ℕ) → Serving rows demand v visits queue emitted fs now → length queue ≡ staying visits (emission_at emitted)
 serving-number rows demand v visits queue emitted fs now h =

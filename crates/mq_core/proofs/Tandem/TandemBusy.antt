@@ -17,7 +17,7 @@ use Rattle.mq_core.specs.Kinds.Tandem.{Swept, has_room, leaves, moves, sweep, ma
 use Rattle.mq_core.specs.declared.model.Kind.TheVariants.{Tandem}
 use Rattle.mq_core.specs.declared.model.Stage.{Stage}
 use Rattle.mq_core.specs.declared.model.Rows.{Rows}
-use Rattle.mq_core.proofs.Events.Areas.{sum-same}
+use Rattle.mq_core.proofs.Events.Areas.{sum-both, sum-none, sum-same}
 use Rattle.mq_core.proofs.Events.Pending.{Splits, earliest-splits}
 use Rattle.mq_core.proofs.Events.Remaining.{remaining, remaining-append, remaining-waits}
 use Rattle.mq_core.proofs.Server.Serves.{latest-push}
@@ -250,21 +250,13 @@ tandeming-busy_ends rows rank stages v server position visits lines emitted fs r
     let swept = sweep-begun rows v visits (time_at rows stages visits) 0 (length visits) stages (marked server lines) emitted rest now (times-solve rows stages visits) loose in
     omega (arith, e, swept, marked-begun rows visits (length visits) server stages lines, remaining-first rank fs rest now v server position first, remaining-append now rest (finishes_of v (sweep rows visits now 0 stages (marked server lines)).services))
 
-sum-both : (n : ℕ) (f g h : ℕ → ℕ) → ((k : ℕ) → h k ≡ f k + g k) → sum_below n f + sum_below n g ≡ sum_below n h
-sum-both zero f g h e = refl
-sum-both (suc n) f g h e = omega (arith, e n, sum-both n f g h e)
-
 -- where no stage holds a job, all services have begun
 begun-all : (rows : Rows) (visits : List Visit) (n : ℕ) (stages : List Stage) (lines : List Line) → length lines ≡ length stages → Each (λ (line : Line). line.queue ≡ []) lines → begun_in rows visits n stages lines ≡ sum_below n (λ p. service_of rows (Tandem stages) (slice_get visits p))
-begun-all rows visits n [] lines l h = sym (zeros n)
+begun-all rows visits n [] lines l h = sym (sum-none n _ (λ p u. none (slice_get visits p)))
   where
     none : (o : Option Visit) → service_of rows (Tandem []) o ≡ 0
     none None = refl
     none (Some x) = refl
-
-    zeros : (n : ℕ) → sum_below n (λ p. service_of rows (Tandem []) (slice_get visits p)) ≡ 0
-    zeros zero = refl
-    zeros (suc n) = omega (arith, none (slice_get visits n), zeros n)
 begun-all rows visits n (stage ∷ stages) [] l h = absurd (omega arith)
 begun-all rows visits n (stage ∷ stages) (line ∷ lines) l h =
     let size = ap length h.0 in

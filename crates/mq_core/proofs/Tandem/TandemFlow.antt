@@ -13,6 +13,7 @@ use Rattle.mq_core.specs.Kinds.Tandem.{tandem_flow}
 use Rattle.mq_core.specs.Tallies.{sum_below, emission_at, one_if_none, staying}
 use Rattle.mq_core.specs.declared.model.Stage.{Stage}
 use Rattle.mq_core.specs.declared.model.Rows.{Rows}
+use Rattle.mq_core.proofs.Events.Areas.{sum-none}
 use Rattle.mq_core.proofs.Events.EmissionsAt.{found-behind, other-behind}
 use Rattle.mq_core.proofs.Server.Serves.{length-push, slice_get-middle}
 use Rattle.mq_core.proofs.Tandem.TandemTimes.{across, places_of, asked_of, row_of, history, time_at, row-is_across}
@@ -123,12 +124,8 @@ sum-split (suc n) out f l none one = go (eqb out (suc n)) refl (sum-split n)
     go : (b : Bool) → eqb out (suc n) ≡ b → ((m : ℕ) (g : ℕ → ℕ) → m ≤ n → ((k : ℕ) → k < m → g k ≡ 0) → ((k : ℕ) → m ≤ k → g k ≡ 1) → sum_below n g + m ≡ n) → (f n + sum_below n f) + out ≡ suc n
     go true e ih =
         let same : out ≡ suc n = grind (arith, nat_tests) in
-        let zeros = all n (λ k u. none k (omega arith)) in
+        let zeros = sum-none n f (λ k u. none k (omega arith)) in
         omega (arith, none n (omega arith), zeros)
-      where
-        all : (m : ℕ) → ((k : ℕ) → k < m → f k ≡ 0) → sum_below m f ≡ 0
-        all zero h = refl
-        all (suc m) h = omega (arith, h m (omega arith), all m (λ k u. h k (omega arith)))
     go false e ih =
         let other : out ≡ suc n → ⊥ = grind (arith, nat_tests) in
         omega (arith, one n (low other), ih out f (low other) none one)
