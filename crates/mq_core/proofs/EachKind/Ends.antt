@@ -143,11 +143,6 @@ inside-some [] v l h = absurd (omega arith)
 inside-some (node ∷ nodes) zero l h = absurd cc
 inside-some (node ∷ nodes) (suc v) l h = inside-some nodes v (omega arith) h
 
-pub some-inside : (nodes : List Node) (v : ℕ) (node : Node) → slice_get nodes v ≡ Some node → v < length nodes
-some-inside [] v node h = absurd cc
-some-inside (n ∷ nodes) zero node h = omega arith
-some-inside (n ∷ nodes) (suc v) node h = let l = some-inside nodes v node h in omega arith
-
 -- what sums up to nothing is nothing everywhere
 sum-nothing : (n : ℕ) (f : ℕ → ℕ) → sum_below n f ≡ 0 → (k : ℕ) → k < n → f k ≡ 0
 sum-nothing zero f e k l = absurd (omega arith)

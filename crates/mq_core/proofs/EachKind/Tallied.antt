@@ -17,7 +17,7 @@ use Rattle.mq_core.specs.Wiring.{reader_from}
 use Rattle.mq_core.specs.declared.model.Node.{Node}
 use Rattle.mq_core.specs.declared.model.Plan.{Plan}
 use Rattle.mq_core.specs.declared.model.Rows.{Rows}
-use Rattle.mq_core.proofs.EachKind.Ends.{inside-some, some-inside}
+use Rattle.mq_core.proofs.EachKind.Ends.{inside-some}
 use Rattle.std.proofs.lemmas.Option.{slice_get_within}
 use Rattle.mq_core.proofs.EachKind.StationLaws.{HasLeft}
 use Rattle.mq_core.proofs.EachKind.Facts.{node_fact, some-port, standard-keeps}
@@ -133,7 +133,7 @@ areas-by plan rows v inside =
 
 pub areas-are-sojourns : AreasAreSojourns
 areas-are-sojourns plan rows read v node here =
-    (areas-by plan rows v (some-inside plan.net.nodes v node here)).area
+    (areas-by plan rows v (slice_get_within plan.net.nodes v node here)).area
     ∙ sum-same (length end.visits) _ _ (λ k l. ap (λ n. n - arrival_or 0 (slice_get end.visits k)) (ap (λ o. until_or (run_of plan rows).clock (time_of_exit (node_exit o end k))) here ∙ alike (leaves_with node.kind end k)))
   where
     end : Station Local
@@ -148,7 +148,7 @@ founds-are-counts plan rows read v node here p l =
     ((kept (standard plan rows)
     (λ u s fs now. KnownAt plan rows u s fs now × (u < length plan.net.nodes → FoundsBy (exit_at plan rows) (λ w. node_there (slice_get plan.net.nodes w)) u s))
     (keeps-founds_by (standard plan rows) (KnownAt plan rows) (λ u. u < length plan.net.nodes) (exit_at plan rows) (λ u. node_there (slice_get plan.net.nodes u)) (known-keeps plan rows) (exits-in_time plan rows))
-    (standard-on_time plan rows) (feeds_forward plan (standard plan rows) refl refl) (starts rows) (starts-begin (standard plan rows) 0 rows.source rows.time) (run_length plan.net.nodes rows) v).1 (some-inside plan.net.nodes v node here)).each p l
+    (standard-on_time plan rows) (feeds_forward plan (standard plan rows) refl refl) (starts rows) (starts-begin (standard plan rows) 0 rows.source rows.time) (run_length plan.net.nodes rows) v).1 (slice_get_within plan.net.nodes v node here)).each p l
     ∙ ap (λ o. sum_below p (λ k. one_if_there (node_there o) (arrival_or 0 (slice_get end.visits p)) p (node_exit o end k))) here
   where
     end : Station Local
@@ -159,4 +159,4 @@ pub nodes-left : (plan : Plan) (rows : Rows) (v : ℕ) (node : Node) → slice_g
 nodes-left plan rows v node here p x m at leaves =
     let s = (run_of plan rows).stations v in
     let left : time_of_exit (node_exit (slice_get plan.net.nodes v) s p) ≡ Some m.time = ap (λ o. time_of_exit (node_exit o s p)) here ∙ ap time_of_exit leaves in
-    subst (λ o. arrival_or 0 o ≤ m.time) at ((areas-by plan rows v (some-inside plan.net.nodes v node here)).late p m.time (slice_get_within s.visits p x at) left)
+    subst (λ o. arrival_or 0 o ≤ m.time) at ((areas-by plan rows v (slice_get_within plan.net.nodes v node here)).late p m.time (slice_get_within s.visits p x at) left)

@@ -1,5 +1,6 @@
 -- What a node has let out so far: nothing later than now, and its own visits alone.
-use Rattle.std.proofs.Common.{List, None, Option, Some, [], arith, length, length-append, refl, suc, zero, ℕ, ◌++◌, ◌<◌, ◌∷◌, ◌≡◌, ◌≤◌}
+use Rattle.std.proofs.Common.{List, None, Option, Some, [], arith, length, length-append, refl, ℕ, ◌++◌, ◌<◌, ◌∷◌, ◌≡◌, ◌≤◌}
+use Rattle.std.proofs.lemmas.Option.{slice_get_within}
 use Rattle.std.specs.List.{AllByRecursion as Each}
 use Rattle.std.specs.Prelude.{slice_get}
 use Rattle.mq_base.proofs.lemmas.Each.{Each-append, Each-weaker}
@@ -13,12 +14,6 @@ pub record IsPast {L : Type 0} (s : Station L) (now : ℕ) : Type 0 where
   pub left : Each (λ (m : Emission). m.time ≤ now) s.emitted
   pub known : Each (λ (m : Emission). m.position < length s.visits) s.emitted
 
--- a position that is a visit's is below their number
-below-all : (xs : List Visit) (k : ℕ) (x : Visit) → slice_get xs k ≡ Some x → k < length xs
-below-all [] k x e = absurd cc
-below-all (y ∷ xs) zero x e = omega arith
-below-all (y ∷ xs) (suc k) x e = let l = below-all xs k x e in omega arith
-
 -- only visits are let out
 pub emissions-known : (now : ℕ) (visits : List Visit) (releases : List Release) → Each (λ (m : Emission). m.position < length visits) (emissions_of now visits releases)
 emissions-known now visits [] = tt
@@ -26,7 +21,7 @@ emissions-known now visits (r ∷ releases) = go (slice_get visits r.position) r
   where
     go : (o : Option Visit) → slice_get visits r.position ≡ o → Each (λ (m : Emission). m.position < length visits) (emissions_of now visits releases) → Each (λ (m : Emission). m.position < length visits) (emission_of now r.out r.position o ++ emissions_of now visits releases)
     go None e ih = ih
-    go (Some x) e ih = (below-all visits r.position x e, ih)
+    go (Some x) e ih = (slice_get_within visits r.position x e, ih)
 
 -- what is let out at an event is let out then
 pub emissions-time : (now : ℕ) (visits : List Visit) (releases : List Release) → Each (λ (m : Emission). m.time ≡ now) (emissions_of now visits releases)

@@ -3,6 +3,7 @@ use Rattle.std.proofs.Common.{◌≡◌, ℕ, zero, suc, ◌+◌, ◌<◌, ◌�
 use Rattle.std.proofs.lemmas.Bool.Decides.{nat_tests}
 use Rattle.std.proofs.lemmas.List.{append-nil, map-append}
 use Rattle.std.proofs.lemmas.List.Elements.{filter-append}
+use Rattle.std.proofs.lemmas.Option.{slice_get_within}
 use Rattle.mq_core.proofs.Events.Founds.{found-each}
 use Rattle.std.specs.List.{AllByRecursion as Each}
 use Rattle.std.specs.Option.{option_map}
@@ -162,15 +163,10 @@ zeros-from before (x ∷ xs) rise none found =
     past : (a t : ℕ) → t ≤ a → ◌≡◌ {A = ℕ} (cond (departs_after a (Departs t)) 1 0) 0
     past a t l = grind (arith, nat_tests)
 
-found-get : (xs : List Visit) (k : ℕ) (x : Visit) → slice_get xs k ≡ Some x → k < length xs
-found-get [] k x e = absurd cc
-found-get (y ∷ ys) zero x e = omega arith
-found-get (y ∷ ys) (suc k) x e = let l = found-get ys k x e in omega arith
-
 pub fork-finds : (outputs : ℕ) (s : Station Local) → 1 ≤ outputs → s.emitted ≡ copied_from outputs 0 s.visits → Rises (λ a b. a ≤ b) (arrives_of s.visits) →
     ((p : ℕ) → p < length s.visits → found_or 0 (slice_get s.visits p) ≡ sum_below p (λ k. one_if_there (fork outputs).there (arrival_or 0 (slice_get s.visits p)) p (emission_at s.emitted k))) →
     map (λ (x : Visit). x.found) s.visits ≡ founds_of (arrives_of s.visits) (map (λ time. Departs time) (arrives_of s.visits))
 fork-finds zero s l left rise found = absurd (omega arith)
 fork-finds (suc outputs) s l left rise found =
     let copied = subst (λ e. CopiedAt 0 e s.visits) (sym left) (copied-each outputs 0 [] s.visits tt) in
-    zeros-from [] s.visits rise (λ k x e. refl) (λ k x e. ap (found_or 0) (sym e) ∙ (found k (found-get s.visits k x e) ∙ none-there (suc outputs) s copied rise k (found-get s.visits k x e)))
+    zeros-from [] s.visits rise (λ k x e. refl) (λ k x e. ap (found_or 0) (sym e) ∙ (found k (slice_get_within s.visits k x e) ∙ none-there (suc outputs) s copied rise k (slice_get_within s.visits k x e)))

@@ -1,6 +1,7 @@
 -- That a run has sequences, and that sequences which agree with it make the run.
 use Rattle.std.proofs.Common.{◌≡◌, ◌⊎◌, inl, inr, ℕ, zero, suc, ◌+◌, ◌<◌, ◌≤◌, List, [], ◌∷◌, ◌++◌, length, Option, Some, None, sym, refl, ap, ◌∙◌, arith, slice_get, option_map, length-append}
 use Rattle.std.proofs.lemmas.Bool.{cases_lt}
+use Rattle.std.proofs.lemmas.Option.{slice_get_within}
 use Rattle.mq_base.proofs.lemmas.Lists.{get-front, get-last}
 use Rattle.mq_core.specs.Sequences.{visits_by_node, streams_by_node, streams_below}
 use Rattle.mq_core.specs.Local.{Local}
@@ -82,14 +83,9 @@ outputs-have_streams end v (suc outs) out l = go (cases_lt out outs) (outputs-ha
         ap (slice_get (streams_below end v outs ++ stream_from (end.stations v) outs ∷ [])) (same ∙ sym (below-long end v outs))
         ∙ (get-last (streams_below end v outs) (stream_from (end.stations v) outs) ∙ ap (λ k. Some (stream_from (end.stations v) k)) (sym same))
 
-at-inside : {X : Type 0} (xs : List X) (i : ℕ) (x : X) → slice_get xs i ≡ Some x → i < length xs
-at-inside [] i x h = absurd cc
-at-inside (y ∷ xs) zero x h = omega arith
-at-inside (y ∷ xs) (suc i) x h = let rest = at-inside xs i x h in omega arith
-
 pub streams-make_outputs : StreamsMakeOutputs
 streams-make_outputs end v outs streams long has =
     same-indices streams (streams_below end v outs) (long ∙ sym (below-long end v outs))
     (λ out y e.
-    let inside : out < outs = (let a = at-inside (streams_below end v outs) out y e in let b = below-long end v outs in omega arith) in
+    let inside : out < outs = (let a = slice_get_within (streams_below end v outs) out y e in let b = below-long end v outs in omega arith) in
     has out inside ∙ (sym (outputs-have_streams end v outs out inside) ∙ e))

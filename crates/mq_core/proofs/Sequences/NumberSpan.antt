@@ -1,5 +1,6 @@
 -- That the span of a run is the latest time in its sequences.
 use Rattle.std.proofs.Common.{List, None, Option, Some, [], ap, arith, fold, inl, inr, le_antisymm, length, map, max, option_map, refl, slice_get, subst, suc, zero, ℕ, ◌++◌, ◌+◌, ◌<◌, ◌∙◌, ◌∷◌, ◌≡◌, ◌≤◌, ◌⊎◌}
+use Rattle.std.proofs.lemmas.Option.{slice_get_within}
 use Rattle.std.specs.List.{AllByRecursion as Each}
 use Rattle.mq_base.proofs.lemmas.Each.{Each-map}
 use Rattle.mq_core.specs.Sequences.{sequence_span, greatest_time, time_of_fate, visits_by_node}
@@ -20,7 +21,6 @@ use Rattle.mq_core.specs.declared.model.Rows.{Rows}
 use Rattle.mq_core.proofs.Sequences.NumberRefusals.{sequences-of_node}
 use Rattle.mq_core.proofs.Sequences.StationTable.{nodes-leave, nodes-reach}
 use Rattle.mq_core.proofs.Counting.SequenceNumbers.{LeavesAs}
-use Rattle.mq_core.proofs.EachKind.Ends.{some-inside as some-node}
 use Rattle.mq_core.proofs.EachKind.LawTable.{exits_of}
 use Rattle.mq_core.proofs.EachKind.Span.{span-is_latest}
 use Rattle.mq_core.proofs.EachKind.StationLaws.{Reaches}
@@ -36,12 +36,6 @@ fate-at : (kind : Kind) (s : Station Local) (k i : ℕ) (xs : List Visit) → i 
 fate-at kind s k i [] l = absurd (omega arith)
 fate-at kind s k zero (x ∷ xs) l = let index : k ≡ k + zero = omega arith in ap (λ n. Some (or_held (fate_of kind s n))) index
 fate-at kind s k (suc i) (x ∷ xs) l = let index : suc k + i ≡ k + suc i = omega arith in fate-at kind s (suc k) i xs (omega arith) ∙ ap (λ n. Some (or_held (fate_of kind s n))) index
-
--- where an item stands is inside
-some-inside : (xs : List Visit) (i : ℕ) (x : Visit) → slice_get xs i ≡ Some x → i < length xs
-some-inside [] i x e = absurd cc
-some-inside (y ∷ xs) zero x e = omega arith
-some-inside (y ∷ xs) (suc i) x e = let l = some-inside xs i x e in omega arith
 
 -- who leaves so departs no later than at that time
 early-fate : (kind : Kind) (now : ℕ) (m : Emission) (x : Visit) → LeavesAs kind m x → m.time ≤ now → time_of_fate (fate_by kind m) ≤ now
@@ -92,7 +86,7 @@ module _ (plan : Plan) (rows : Rows) (read : IsReadFor plan.net rows) where
       go (inr e) =
           let s = (run_of plan rows).stations v in
           let index : 0 + reached.position ≡ reached.position = omega arith in
-          let fate : slice_get (fates_from node.kind s 0 s.visits) reached.position ≡ Some (Departs m.time) = fate-at node.kind s 0 reached.position s.visits (some-inside s.visits reached.position reached.visit reached.here) ∙ (ap (λ n. Some (or_held (fate_of node.kind s n))) index ∙ ap (λ o. Some (or_held o)) e) in
+          let fate : slice_get (fates_from node.kind s 0 s.visits) reached.position ≡ Some (Departs m.time) = fate-at node.kind s 0 reached.position s.visits (slice_get_within s.visits reached.position reached.visit reached.here) ∙ (ap (λ n. Some (or_held (fate_of node.kind s n))) index ∙ ap (λ o. Some (or_held o)) e) in
           let one : m.time ≤ fold max 0 (map time_of_fate (fates_from node.kind s 0 s.visits)) = greatest-bounds (map time_of_fate (fates_from node.kind s 0 s.visits)) reached.position m.time (at-map time_of_fate (fates_from node.kind s 0 s.visits) reached.position (Departs m.time) fate) in
           let two = sequence-within v node here in
           omega arith
@@ -100,7 +94,7 @@ module _ (plan : Plan) (rows : Rows) (read : IsReadFor plan.net rows) where
   node-early : (v : ℕ) (node : Node) → slice_get plan.net.nodes v ≡ Some node → greatest_time (visits_of node.kind (end.stations v)) ≤ end.clock
   node-early v node here =
       let s = end.stations v in
-      let inside = some-node plan.net.nodes v node here in
+      let inside = slice_get_within plan.net.nodes v node here in
       let one = greatest-least end.clock (map (λ (x : Visit). x.arrive) s.visits) (Each-map _ _ (λ (x : Visit). x.arrive) (λ x h. h) s.visits (latest.came v inside)) in
       let left : (p : ℕ) (x : Visit) (m : Emission) → slice_get s.visits p ≡ Some x → leaves_with node.kind s p ≡ Some m → (m.time ≤ end.clock) × LeavesAs node.kind m x = λ p x m at e. ((exits_of rows (length node.inputs) node.kind).among s p end.clock m (latest.left v inside) e, nodes-leave plan rows read v node here p x m at e) in
       let fates = fates-early node.kind end.clock s left 0 s.visits (λ i x e. ap (slice_get s.visits) (let same : 0 + i ≡ i = omega arith in same) ∙ e) in

@@ -2,6 +2,7 @@
 use Rattle.std.proofs.Common.{Bool, List, None, Option, Some, [], ap, arith, cond, eq-eqb, eqb, eqb-true, false, length, length-append, ltb, ltb-true, refl, subst, suc, true, zero, ℕ, ◌*◌, ◌++◌, ◌+◌, ◌<◌, ◌∷◌, ◌≡◌, ◌≤◌}
 use Rattle.std.proofs.lemmas.Bool.Decides.{nat_tests}
 use Rattle.std.proofs.lemmas.Bool.{and_parts}
+use Rattle.std.proofs.lemmas.Option.{slice_get_within}
 use Rattle.std.specs.List.{list_all}
 use Rattle.std.specs.Prelude.{IfSome, nat_le, slice_get}
 use Rattle.mq_base.proofs.lemmas.Lists.{some_inj}
@@ -22,7 +23,7 @@ use Rattle.mq_core.specs.declared.model.Node.{Node}
 use Rattle.mq_core.specs.declared.model.Plan.{Plan}
 use Rattle.mq_core.specs.declared.model.Rows.{Rows}
 use Rattle.mq_core.proofs.Sequences.SequenceMerges.{visits-nowhere}
-use Rattle.mq_core.proofs.EachKind.Ends.{source-inside, starts-inside, starts-weight, some-inside}
+use Rattle.mq_core.proofs.EachKind.Ends.{source-inside, starts-inside, starts-weight}
 use Rattle.mq_core.proofs.EachKind.Facts.{node_fact, standard-keeps}
 use Rattle.mq_core.proofs.EachKind.LawTable.{laws_of, limits_of}
 use Rattle.mq_core.proofs.Events.Areas.{sum-none}
@@ -190,5 +191,5 @@ visits-are-few plan rows read single v = go (slice_get plan.net.nodes v) refl
     visits = ((run_of plan rows).stations v).visits
 
     go : (o : Option Node) → slice_get plan.net.nodes v ≡ o → length visits ≤ length rows.time
-    go (Some node) e = visits-inside plan rows read single v (some-inside plan.net.nodes v node e)
+    go (Some node) e = visits-inside plan rows read single v (slice_get_within plan.net.nodes v node e)
     go None e = let none = visits-nowhere plan rows read v e in omega arith
