@@ -10,8 +10,8 @@ use Rattle.mq_core.specs.Laws.{Rises, in_order_of, insert_by}
 use Rattle.mq_core.specs.Machine.{Visit, Emission}
 use Rattle.mq_core.specs.Tallies.{sum_below, emission_at, one_if_none, staying}
 use Rattle.mq_core.proofs.Events.Areas.{sum-both, sum-none, sum-same}
-use Rattle.mq_core.proofs.Events.EmissionsAt.{neq-eqb}
 use Rattle.mq_core.proofs.lemmas.Rising.{Rises-append, same_by_key, filter-in_order_of, Rises-in_order_of}
+use Rattle.mq_core.proofs.lemmas.Tests.{neq-eqb}
 use Rattle.mq_core.proofs.Counting.SequenceNumbers.{Numbered}
 
 Rises-front : {X : Type 0} (R : X → X → Type 0) (xs ys : List X) → Rises R (xs ++ ys) → Rises R xs

@@ -20,8 +20,8 @@ use Rattle.mq_core.specs.Tallies.{arrival_or, emission_at, found_or}
 use Rattle.mq_core.specs.declared.model.Fate.{Fate}
 use Rattle.mq_core.specs.declared.model.Fate.TheVariants.{Departs, Lost}
 use Rattle.mq_core.specs.declared.model.Kind.{Kind}
-use Rattle.mq_core.proofs.Events.EmissionsAt.{neq-eqb}
 use Rattle.mq_core.proofs.lemmas.Orders.{filter-order, short-order}
+use Rattle.mq_core.proofs.lemmas.Tests.{neq-eqb}
 use Rattle.mq_core.proofs.Events.Later.{leaving_later, one_if_later}
 
 -- one emission a visit, by position from this one on, with its job

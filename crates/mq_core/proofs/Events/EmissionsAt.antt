@@ -1,12 +1,9 @@
 -- The emission of a position, in a list of emissions that grows.
 use Rattle.std.proofs.Common.{◌≡◌, ℕ, ◌<◌, ◌≤◌, Bool, true, false, cond, eqb, List, [], ◌∷◌, ◌++◌, Some, None, refl, arith, eq-eqb}
-use Rattle.std.proofs.lemmas.Bool.Decides.{nat_tests}
 use Rattle.std.specs.List.{AllByRecursion as Each}
 use Rattle.mq_core.specs.Machine.{Emission}
 use Rattle.mq_core.specs.Tallies.{emission_at}
-
-pub neq-eqb : (a b : ℕ) → (a ≡ b → ⊥) → eqb a b ≡ false
-neq-eqb a b h = grind (arith, nat_tests)
+use Rattle.mq_core.proofs.lemmas.Tests.{neq-eqb}
 
 -- a position past all those that were let out
 pub unknown : (n p : ℕ) (ms : List Emission) → n ≤ p → Each (λ (m : Emission). m.position < n) ms → emission_at ms p ≡ None

@@ -6,7 +6,6 @@ use Rattle.std.proofs.lemmas.List.{append-nil}
 use Rattle.std.specs.Prelude.{filter, ◌&&◌, slice_get, IfSome}
 use Rattle.std.specs.List.{AllByRecursion as Each}
 use Rattle.mq_base.proofs.lemmas.Each.{Each-append, Each-front, Each-back, Each-weaker, Each-map, Each-any, Each-filter, Each-filter_if, Each-both, filter-none, filter-all, filter-yes, filter-no, filter-and, filter-swap}
-use Rattle.mq_core.proofs.Events.EmissionsAt.{neq-eqb}
 use Rattle.mq_core.specs.Event.{Event, time_of, node_of, is_sooner, order_key, earliest}
 use Rattle.mq_core.specs.Event.Event.{Arrive, Finish}
 use Rattle.mq_core.specs.Machine.{Emission, Table, State, Station, after, handled, happens, caused, arrivals_of, emissions_at, finishes_of, reaction, until, opened}
@@ -17,6 +16,7 @@ use Rattle.mq_core.proofs.Events.Pending.{earliest-splits, Splits-least}
 use Rattle.mq_core.proofs.Events.Steps.{handled-zero, handled-some, handled-none}
 use Rattle.mq_core.proofs.Events.Forward.{no_earlier_trans, Each-arrivals, Each-finishes, pending-no_earlier}
 use Rattle.mq_core.proofs.lemmas.Rising.{same_by_key, filter-in_order_of, Rises-in_order_of, Rises-append, Rises-filter, Rises-weaker}
+use Rattle.mq_core.proofs.lemmas.Tests.{neq-eqb}
 use Rattle.mq_core.proofs.Events.Arrivals.{added, handled-in_order, is_at_port, stream-added, none-added}
 
 -- the arrivals at a node: what starts there and what its ports read, by time, then port, then index

@@ -7,7 +7,6 @@ use Rattle.std.proofs.lemmas.List.Sums.{sum_by-append, sum_by-cons}
 use Rattle.std.specs.Prelude.{filter, count_by}
 use Rattle.std.specs.List.{AllByRecursion as Each, flat_map}
 use Rattle.mq_base.proofs.lemmas.Lists.{get-front}
-use Rattle.mq_core.proofs.Events.EmissionsAt.{neq-eqb}
 use Rattle.mq_core.specs.Event.{Event, time_of, earliest, sooner_of}
 use Rattle.mq_core.specs.Event.Event.{Arrive, Finish}
 use Rattle.mq_core.specs.Machine.{Visit, Emission, Service, finishes_of}
@@ -25,6 +24,7 @@ use Rattle.mq_core.proofs.ForkJoin.ForkJoinServers.{Stands, Series, is_at_server
 use Rattle.mq_core.proofs.ForkJoin.ForkJoinSeries.{series-still}
 use Rattle.mq_core.proofs.ForkJoin.ForkJoinBranches.{Branching, count_of, branching-still}
 use Rattle.mq_core.proofs.ForkJoin.ForkJoins.{IsServed, ForkJoining, taken-each}
+use Rattle.mq_core.proofs.lemmas.Tests.{neq-eqb}
 
 -- the sum of f over this many numbers from the first on
 abbrev pub sum_from : ℕ → ℕ → (ℕ → ℕ) → ℕ

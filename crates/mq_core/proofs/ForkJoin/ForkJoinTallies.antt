@@ -12,12 +12,12 @@ use Rattle.mq_core.specs.Emitting.{passed_from}
 use Rattle.mq_core.specs.Tallies.{sum_below, emission_at, one_if_none, staying, arrival_or}
 use Rattle.mq_core.specs.declared.model.Demand.{Demand}
 use Rattle.mq_core.specs.declared.model.Rows.{Rows}
-use Rattle.mq_core.proofs.Events.EmissionsAt.{neq-eqb}
 use Rattle.mq_core.proofs.Server.Serves.{length-push}
 use Rattle.mq_core.proofs.ForkJoin.ForkJoinServers.{Lets, is_at_server}
 use Rattle.mq_core.proofs.ForkJoin.ForkJoinBranches.{ForkJoinMoves, through_every, through_every-length}
 use Rattle.mq_core.proofs.ForkJoin.ForkJoins.{CameBefore, ForkJoining, taken-each, forkjoining-enters, forkjoining-moves}
 use Rattle.mq_core.proofs.ForkJoin.ForkJoinLoads.{most-staying}
+use Rattle.mq_core.proofs.lemmas.Tests.{neq-eqb}
 
 -- a position is among those let out exactly if it is below their number
 let_out-found : (k p : ℕ) (xs : List Visit) → k ≤ p → p < k + length xs → one_if_none (emission_at (passed_from (λ _ _. 0) k xs) p) ≡ 0

@@ -21,12 +21,12 @@ use Rattle.mq_core.specs.declared.model.Fate.TheVariants.{Departs, Lost}
 use Rattle.mq_core.specs.declared.model.Kind.TheVariants.{Loss}
 use Rattle.mq_core.proofs.Events.Areas.{sum-same}
 use Rattle.mq_core.proofs.Counting.SequenceNumbers.{Numbered}
-use Rattle.mq_core.proofs.Events.EmissionsAt.{neq-eqb}
 use Rattle.mq_core.proofs.Loss.Loses.{Losing, ToLeave, front_finish, all_fared, all_left, place-free}
 use Rattle.mq_core.proofs.Loss.LossFlow.{leaves_at, fate_if, fared-push, fared-numbered, has_place}
 use Rattle.mq_core.proofs.Lists.NumberLists.{sum_below-first}
 use Rattle.mq_core.proofs.Events.Remaining.{remaining}
 use Rattle.mq_core.proofs.Server.Serves.{latest-push, pair-inj}
+use Rattle.mq_core.proofs.lemmas.Tests.{neq-eqb}
 
 -- this number, or 0 for one that left by the output of the lost
 abbrev pub unless_out : Option Emission → ℕ → ℕ

@@ -14,7 +14,7 @@ use Rattle.mq_core.proofs.EachKind.Ends.{end-fact}
 use Rattle.mq_core.proofs.EachKind.Facts.{node_fact}
 use Rattle.mq_core.proofs.EachKind.Flows.{kind-flow}
 use Rattle.mq_core.proofs.EachKind.LawTable.{recurrence_of}
-use Rattle.mq_core.proofs.Events.EmissionsAt.{neq-eqb}
+use Rattle.mq_core.proofs.lemmas.Tests.{neq-eqb}
 
 pub nodes-flow : NodesFlow
 nodes-flow plan rows read v node e =

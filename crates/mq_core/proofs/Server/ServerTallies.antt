@@ -13,8 +13,8 @@ use Rattle.mq_core.specs.declared.model.Demand.{Demand}
 use Rattle.mq_core.specs.declared.model.Rows.{Rows}
 use Rattle.mq_core.proofs.Counting.Released.{one-release}
 use Rattle.mq_core.proofs.Events.Areas.{sum-none}
-use Rattle.mq_core.proofs.Events.EmissionsAt.{neq-eqb}
 use Rattle.mq_core.proofs.Server.Serves.{Serving, came_before, last_served, next_finish, pair-inj, positions, positions-length}
+use Rattle.mq_core.proofs.lemmas.Tests.{neq-eqb}
 
 -- a position that was let out is found
 pub served-found : (rows : Rows) (demand : Demand) (k last p : ℕ) (visits : List Visit) → k ≤ p → p < k + length visits → (m : Emission) × (find (λ (x : Emission). eqb x.position p) (served_from rows demand k last visits) ≡ Some m)

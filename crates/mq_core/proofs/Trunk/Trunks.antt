@@ -20,12 +20,13 @@ use Rattle.mq_core.specs.declared.model.Rows.{Rows}
 use Rattle.mq_core.specs.declared.model.Fate.TheVariants.{Lost}
 use Rattle.mq_core.proofs.Delay.Schedules.{Scheduling, came_before-push, position_in, scheduling-ends, scheduling-joins, scheduling-opens, scheduling-waits, to_leave, to_leave-push}
 use Rattle.mq_core.proofs.Events.Areas.{sum-same}
-use Rattle.mq_core.proofs.Events.EmissionsAt.{found-behind, neq-eqb, other-behind, unknown}
+use Rattle.mq_core.proofs.Events.EmissionsAt.{found-behind, other-behind, unknown}
 use Rattle.mq_core.proofs.Events.Pending.{Splits, earliest-splits}
 use Rattle.mq_core.proofs.Loss.LossFlow.{fate_if, left_if}
 use Rattle.mq_core.proofs.Server.Serves.{latest-push}
 use Rattle.mq_core.proofs.Trunk.TrunkFlow.{busy_at-all, busy_at-append, busy_at-past, faring-push, served_by, trunk_flow, trunk_left, trunk_left-push}
 use Rattle.mq_core.proofs.lemmas.Rising.{Rises-append}
+use Rattle.mq_core.proofs.lemmas.Tests.{neq-eqb}
 
 -- who left and who is still to leave are all visits, as they fare, and the servers that are busy from now on are those of the
 -- pending finishes
