@@ -3,4 +3,3 @@ pub mod Orders
 pub mod Plans
 pub mod Rising
 pub mod Matches
-pub mod Tests

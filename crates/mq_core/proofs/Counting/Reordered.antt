@@ -1,5 +1,5 @@
 -- A list that is put in order, item by item, and emissions that stand in another order than that of their positions.
-use Rattle.std.proofs.Common.{◌≡◌, ℕ, zero, suc, ◌+◌, ◌<◌, ◌≤◌, Bool, true, false, cond, eqb, ltb, List, [], ◌∷◌, ◌++◌, length, Some, None, sym, refl, ap, ◌∙◌, subst, arith, eqb-true, eq-eqb}
+use Rattle.std.proofs.Common.{◌≡◌, ℕ, zero, suc, ◌+◌, ◌<◌, ◌≤◌, Bool, true, false, cond, eqb, ltb, List, [], ◌∷◌, ◌++◌, length, Some, None, sym, refl, ap, ◌∙◌, subst, arith, eqb-true, eq-eqb, ne_eqb}
 use Rattle.std.proofs.lemmas.Bool.Decides.{nat_tests}
 use Rattle.std.proofs.lemmas.List.{append-nil}
 use Rattle.std.proofs.lemmas.List.Elements.{filter-append}
@@ -11,7 +11,6 @@ use Rattle.mq_core.specs.Machine.{Visit, Emission}
 use Rattle.mq_core.specs.Tallies.{sum_below, emission_at, one_if_none, staying}
 use Rattle.mq_core.proofs.Events.Areas.{sum-both, sum-none, sum-same}
 use Rattle.mq_core.proofs.lemmas.Rising.{Rises-append, same_by_key, filter-in_order_of, Rises-in_order_of}
-use Rattle.mq_core.proofs.lemmas.Tests.{neq-eqb}
 use Rattle.mq_core.proofs.Counting.SequenceNumbers.{Numbered}
 
 Rises-front : {X : Type 0} (R : X → X → Type 0) (xs ys : List X) → Rises R (xs ++ ys) → Rises R xs
@@ -52,7 +51,7 @@ in_order-push {X} key front back all m h low high = same_by_key key (front ++ m 
         go : (b : Bool) → eqb (key m) k ≡ b → filter (λ a. eqb (key a) k) front ++ filter (λ a. eqb (key a) k) (m ∷ back) ≡ (filter (λ a. eqb (key a) k) front ++ filter (λ a. eqb (key a) k) back) ++ filter (λ a. eqb (key a) k) (m ∷ [])
         go true e =
             let same : key m ≡ k = eqb-true (key m) k e in
-            let none : filter (λ a. eqb (key a) k) back ≡ [] = filter-none (λ a. eqb (key a) k) back (Each-weaker _ _ (λ b l. neq-eqb (key b) k (λ q. omega arith)) back high) in
+            let none : filter (λ a. eqb (key a) k) back ≡ [] = filter-none (λ a. eqb (key a) k) back (Each-weaker _ _ (λ b l. ne_eqb (key b) k (λ q. omega arith)) back high) in
             ap (λ l. filter (λ a. eqb (key a) k) front ++ l) (filter-yes (λ a. eqb (key a) k) m back e ∙ ap (λ l. m ∷ l) none)
             ∙ sym (ap (λ l. (filter (λ a. eqb (key a) k) front ++ l) ++ filter (λ a. eqb (key a) k) (m ∷ [])) none
             ∙ (ap (λ l. l ++ filter (λ a. eqb (key a) k) (m ∷ [])) (append-nil (filter (λ a. eqb (key a) k) front)) ∙ ap (λ l. filter (λ a. eqb (key a) k) front ++ l) (filter-yes (λ a. eqb (key a) k) m [] e)))
@@ -90,7 +89,7 @@ times_at-below k p (m ∷ ms) [] n l = absurd n
 times_at-below k p (m ∷ ms) (x ∷ xs) n l =
     let ih = times_at-below (suc k) p ms xs n.2 (omega arith) in
     let at = n.0 in
-    rw (neq-eqb m.position p (λ e. omega arith)) (omega arith)
+    rw (ne_eqb m.position p (λ e. omega arith)) (omega arith)
 
 -- where emissions stand by position there is one of each
 pub times_at-numbered : (k p : ℕ) (ms : List Emission) (xs : List Visit) → Numbered k ms xs → k ≤ p → p < k + length xs → times_at p ms ≡ 1
@@ -109,7 +108,7 @@ times_at-numbered k p (m ∷ ms) (x ∷ xs) n l u = go (eqb k p) refl (times_at-
         let other : k ≡ p → ⊥ = λ q. let c = eq-eqb k p q in absurd cc in
         let at = n.0 in
         let one = ih (above k p other l) (omega arith) in
-        rw (neq-eqb m.position p (λ q. other (sym at ∙ q))) (omega arith)
+        rw (ne_eqb m.position p (λ q. other (sym at ∙ q))) (omega arith)
       where
         above : (a b : ℕ) → (a ≡ b → ⊥) → a ≤ b → suc a ≤ b
         above a b h l = omega arith
@@ -122,7 +121,7 @@ times_at-beyond k p (m ∷ ms) [] n l = absurd n
 times_at-beyond k p (m ∷ ms) (x ∷ xs) n l =
     let ih = times_at-beyond (suc k) p ms xs n.2 (omega arith) in
     let at = n.0 in
-    rw (neq-eqb m.position p (λ e. omega arith)) (omega arith)
+    rw (ne_eqb m.position p (λ e. omega arith)) (omega arith)
 
 -- so there is one at most
 pub times_at-once : (p : ℕ) (ms : List Emission) (xs : List Visit) → Numbered 0 ms xs → times_at p ms ≤ 1
@@ -187,7 +186,7 @@ sum-times n (m ∷ ms) h =
     omega arith
   where
     above : (k : ℕ) → k ≤ m.position → sum_below k (λ p. cond (eqb m.position p) 1 0) ≡ 0
-    above k l = sum-none k _ (λ p u. ap (λ b. cond b 1 0) (neq-eqb m.position p (λ q. omega arith)))
+    above k l = sum-none k _ (λ p u. ap (λ b. cond b 1 0) (ne_eqb m.position p (λ q. omega arith)))
 
     one : (k : ℕ) → m.position < k → sum_below k (λ p. cond (eqb m.position p) 1 0) ≡ 1
     one zero l = absurd (omega arith)

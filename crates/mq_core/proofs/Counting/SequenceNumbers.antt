@@ -1,5 +1,5 @@
 -- Emissions with one for each position: who is found, whose fate, and what each visit found.
-use Rattle.std.proofs.Common.{Bool, List, None, Option, Some, [], ap, arith, cond, eq-eqb, eqb, eqb-true, false, inl, inr, length, length-append, ltb, map, refl, subst, suc, sym, true, ℕ, ◌++◌, ◌+◌, ◌<◌, ◌∙◌, ◌∷◌, ◌≡◌, ◌≢◌, ◌≤◌, ◌⊎◌}
+use Rattle.std.proofs.Common.{Bool, List, None, Option, Some, [], ap, arith, cond, eq-eqb, eqb, eqb-true, false, inl, inr, length, length-append, ltb, map, ne_eqb, refl, subst, suc, sym, true, ℕ, ◌++◌, ◌+◌, ◌<◌, ◌∙◌, ◌∷◌, ◌≡◌, ◌≢◌, ◌≤◌, ◌⊎◌}
 use Rattle.std.proofs.lemmas.Bool.Decides.{nat_tests}
 use Rattle.std.proofs.lemmas.List.Elements.{filter-append}
 use Rattle.std.proofs.lemmas.List.Sums.{sum_by-append}
@@ -21,7 +21,6 @@ use Rattle.mq_core.specs.declared.model.Fate.{Fate}
 use Rattle.mq_core.specs.declared.model.Fate.TheVariants.{Departs, Lost}
 use Rattle.mq_core.specs.declared.model.Kind.{Kind}
 use Rattle.mq_core.proofs.lemmas.Orders.{filter-order, short-order}
-use Rattle.mq_core.proofs.lemmas.Tests.{neq-eqb}
 use Rattle.mq_core.proofs.Events.Later.{leaving_later, one_if_later}
 
 -- one emission a visit, by position from this one on, with its job
@@ -65,7 +64,7 @@ numbered-once k q (m ∷ ms) [] n = absurd n
 numbered-once k q (m ∷ ms) (x ∷ xs) n = go (eqb m.position q) refl (numbered-once (suc k) q ms xs n.2)
   where
     none : m.position ≡ q → length (filter (λ (o : Emission). eqb o.position q) ms) ≡ 0
-    none e = ap length (filter-none (λ (o : Emission). eqb o.position q) ms (Each-weaker _ _ (λ o h. neq-eqb o.position q (λ f. let a = h.0 in let b = n.0 in omega arith)) ms (numbered-inside (suc k) ms xs n.2)))
+    none e = ap length (filter-none (λ (o : Emission). eqb o.position q) ms (Each-weaker _ _ (λ o h. ne_eqb o.position q (λ f. let a = h.0 in let b = n.0 in omega arith)) ms (numbered-inside (suc k) ms xs n.2)))
 
     go : (b : Bool) → eqb m.position q ≡ b → length (filter (λ (o : Emission). eqb o.position q) ms) ≤ 1 → length (cond b (m ∷ filter (λ (o : Emission). eqb o.position q) ms) (filter (λ (o : Emission). eqb o.position q) ms)) ≤ 1
     go true e ih = let a = none (eqb-true m.position q e) in omega arith
@@ -133,7 +132,7 @@ FoundAs k emitted ms = (q : ℕ) → k ≤ q → emission_at emitted q ≡ emiss
 
 pub found_as-next : (k : ℕ) (emitted ms : List Emission) (m : Emission) → m.position ≡ k → FoundAs k emitted (m ∷ ms) → FoundAs (suc k) emitted ms
 found_as-next k emitted ms m at h q l =
-    let no : eqb m.position q ≡ false = neq-eqb m.position q (λ e. omega arith) in
+    let no : eqb m.position q ≡ false = ne_eqb m.position q (λ e. omega arith) in
     h q (omega arith) ∙ ap (λ b. cond b (Some m) (emission_at ms q)) no
 
 pub found_as-here : (k : ℕ) (emitted ms : List Emission) (m : Emission) → m.position ≡ k → FoundAs k emitted (m ∷ ms) → emission_at emitted k ≡ Some m

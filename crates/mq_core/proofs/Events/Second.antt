@@ -1,5 +1,5 @@
 -- That the arrivals at a node are handled in the order that they have alone.
-use Rattle.std.proofs.Common.{◌≡◌, ℕ, zero, suc, ◌+◌, ◌<◌, ◌≤◌, Bool, true, false, eqb, List, [], ◌∷◌, ◌++◌, Option, Some, None, sym, refl, ap, ◌∙◌, subst, arith, eq-eqb, eqb-true}
+use Rattle.std.proofs.Common.{◌≡◌, ℕ, zero, suc, ◌+◌, ◌<◌, ◌≤◌, Bool, true, false, eqb, List, [], ◌∷◌, ◌++◌, Option, Some, None, sym, refl, ap, ◌∙◌, subst, arith, eq-eqb, eqb-true, ne_eqb}
 use Rattle.std.proofs.lemmas.Bool.Decides.{nat_tests}
 use Rattle.std.proofs.lemmas.List.Elements.{filter-append}
 use Rattle.std.proofs.lemmas.List.{append-nil}
@@ -16,7 +16,6 @@ use Rattle.mq_core.proofs.Events.Pending.{earliest-splits, Splits-least}
 use Rattle.mq_core.proofs.Events.Steps.{handled-zero, handled-some, handled-none}
 use Rattle.mq_core.proofs.Events.Forward.{no_earlier_trans, Each-arrivals, Each-finishes, pending-no_earlier}
 use Rattle.mq_core.proofs.lemmas.Rising.{same_by_key, filter-in_order_of, Rises-in_order_of, Rises-append, Rises-filter, Rises-weaker}
-use Rattle.mq_core.proofs.lemmas.Tests.{neq-eqb}
 use Rattle.mq_core.proofs.Events.Arrivals.{added, handled-in_order, is_at_port, stream-added, none-added}
 
 -- the arrivals at a node: what starts there and what its ports read, by time, then port, then index
@@ -109,7 +108,7 @@ brought-at : (v q : ℕ) (stream : List Emission) → filter (is_at_port v q) (b
 brought-at v q stream = filter-all (is_at_port v q) (brought v q stream) (Each-map (λ _. Unit {0}) (λ f. is_at_port v q f ≡ true) (λ m. Arrive m.time v q m.job) (λ m _. rw (eq-eqb v v refl, eq-eqb q q refl) refl) stream (Each-any _ (λ _. tt) stream))
 
 brought-other : (v q r : ℕ) (stream : List Emission) → (r ≡ q → ⊥) → filter (is_at_port v q) (brought v r stream) ≡ []
-brought-other v q r stream h = filter-none (is_at_port v q) (brought v r stream) (Each-map (λ _. Unit {0}) (λ f. is_at_port v q f ≡ false) (λ m. Arrive m.time v r m.job) (λ m _. rw (eq-eqb v v refl, neq-eqb r q h) refl) stream (Each-any _ (λ _. tt) stream))
+brought-other v q r stream h = filter-none (is_at_port v q) (brought v r stream) (Each-map (λ _. Unit {0}) (λ f. is_at_port v q f ≡ false) (λ m. Arrive m.time v r m.job) (λ m _. rw (eq-eqb v v refl, ne_eqb r q h) refl) stream (Each-any _ (λ _. tt) stream))
 
 -- what an input reads, if there is one
 abbrev from_input : {L : Type 0} → State L → ℕ → ℕ → Option (ℕ × ℕ) → List Event

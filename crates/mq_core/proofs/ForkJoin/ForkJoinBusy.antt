@@ -1,5 +1,5 @@
 -- How long the servers of a fork-join are busy.
-use Rattle.std.proofs.Common.{◌≡◌, inr, ℕ, zero, suc, ◌+◌, ◌-◌, ◌*◌, ◌<◌, ◌≤◌, Bool, true, false, cond, eqb, ltb, eq-eqb, eqb-true, List, [], ◌∷◌, ◌++◌, length, Some, sym, refl, ap, ◌∙◌, subst, arith, length-append, map}
+use Rattle.std.proofs.Common.{◌≡◌, inr, ℕ, zero, suc, ◌+◌, ◌-◌, ◌*◌, ◌<◌, ◌≤◌, Bool, true, false, cond, eqb, ltb, eq-eqb, eqb-true, List, [], ◌∷◌, ◌++◌, length, Some, sym, refl, ap, ◌∙◌, subst, arith, length-append, map, ne_eqb}
 use Rattle.std.proofs.lemmas.Bool.{ltb-true, ltb-false}
 use Rattle.std.proofs.lemmas.Bool.Decides.{nat_tests}
 use Rattle.std.proofs.lemmas.List.{map-append}
@@ -24,7 +24,6 @@ use Rattle.mq_core.proofs.ForkJoin.ForkJoinServers.{Stands, Series, is_at_server
 use Rattle.mq_core.proofs.ForkJoin.ForkJoinSeries.{series-still}
 use Rattle.mq_core.proofs.ForkJoin.ForkJoinBranches.{Branching, count_of, branching-still}
 use Rattle.mq_core.proofs.ForkJoin.ForkJoins.{IsServed, ForkJoining, taken-each}
-use Rattle.mq_core.proofs.lemmas.Tests.{neq-eqb}
 
 -- the sum of f over this many numbers from the first on
 abbrev pub sum_from : ℕ → ℕ → (ℕ → ℕ) → ℕ
@@ -61,7 +60,7 @@ sum_from-one low (suc n) k f g l u h = go (eqb k low) refl (sum_from-one (low + 
     go true e ih =
         let at = eqb-true k low e in
         let own : f low ≡ suc (g low) = h low ∙ ap (λ b. cond b (suc (g low)) (g low)) e in
-        let rest = sum_from-same (low + 1) n f g (λ j m. h j ∙ ap (λ b. cond b (suc (g j)) (g j)) (neq-eqb k j (λ i. omega arith))) in
+        let rest = sum_from-same (low + 1) n f g (λ j m. h j ∙ ap (λ b. cond b (suc (g j)) (g j)) (ne_eqb k j (λ i. omega arith))) in
         omega arith
     go false e ih =
         let own : f low ≡ g low = h low ∙ ap (λ b. cond b (suc (g low)) (g low)) e in

@@ -1,5 +1,5 @@
 -- The number in a fork-join, and what it lets out.
-use Rattle.std.proofs.Common.{◌≡◌, inl, inr, ℕ, zero, suc, ◌+◌, ◌-◌, ◌<◌, ◌≤◌, Bool, true, false, cond, eqb, ltb, eqb-true, List, [], ◌∷◌, ◌++◌, length, Option, Some, None, sym, refl, ap, ◌∙◌, subst, arith}
+use Rattle.std.proofs.Common.{◌≡◌, inl, inr, ℕ, zero, suc, ◌+◌, ◌-◌, ◌<◌, ◌≤◌, Bool, true, false, cond, eqb, ltb, eqb-true, List, [], ◌∷◌, ◌++◌, length, Option, Some, None, sym, refl, ap, ◌∙◌, subst, arith, ne_eqb}
 use Rattle.std.proofs.lemmas.Bool.{ltb-true, ltb-false}
 use Rattle.std.proofs.lemmas.Bool.Decides.{nat_tests}
 use Rattle.std.specs.Prelude.{slice_get, filter}
@@ -17,7 +17,6 @@ use Rattle.mq_core.proofs.ForkJoin.ForkJoinServers.{Lets, is_at_server}
 use Rattle.mq_core.proofs.ForkJoin.ForkJoinBranches.{ForkJoinMoves, through_every, through_every-length}
 use Rattle.mq_core.proofs.ForkJoin.ForkJoins.{CameBefore, ForkJoining, taken-each, forkjoining-enters, forkjoining-moves}
 use Rattle.mq_core.proofs.ForkJoin.ForkJoinLoads.{most-staying}
-use Rattle.mq_core.proofs.lemmas.Tests.{neq-eqb}
 
 -- a position is among those let out exactly if it is below their number
 let_out-found : (k p : ℕ) (xs : List Visit) → k ≤ p → p < k + length xs → one_if_none (emission_at (passed_from (λ _ _. 0) k xs) p) ≡ 0
@@ -33,7 +32,7 @@ let_out-found k p (x ∷ xs) l u = go (eqb k p) refl (let_out-found (suc k) p xs
 
 let_out-not_found : (k p : ℕ) (xs : List Visit) → k + length xs ≤ p → one_if_none (emission_at (passed_from (λ _ _. 0) k xs) p) ≡ 1
 let_out-not_found k p [] l = refl
-let_out-not_found k p (x ∷ xs) l = rw (neq-eqb k p (λ e. omega arith)) (let_out-not_found (suc k) p xs (omega arith))
+let_out-not_found k p (x ∷ xs) l = rw (ne_eqb k p (λ e. omega arith)) (let_out-not_found (suc k) p xs (omega arith))
 
 -- the first a summands are 0, and all behind them 1
 sum-behind : (a n : ℕ) (f : ℕ → ℕ) → ((k : ℕ) → k < a → f k ≡ 0) → ((k : ℕ) → a ≤ k → f k ≡ 1) → sum_below n f ≡ n - a

@@ -1,5 +1,5 @@
 -- How busy a loss station is.
-use Rattle.std.proofs.Common.{◌≡◌, ℕ, suc, ◌+◌, ◌-◌, ◌*◌, ◌<◌, ◌≤◌, Bool, true, false, cond, eqb, ltb, List, [], ◌∷◌, ◌++◌, length, map, Some, sym, refl, ap, ◌∙◌, subst, arith, None, Option}
+use Rattle.std.proofs.Common.{◌≡◌, ℕ, suc, ◌+◌, ◌-◌, ◌*◌, ◌<◌, ◌≤◌, Bool, true, false, cond, eqb, ltb, List, [], ◌∷◌, ◌++◌, length, map, Some, sym, refl, ap, ◌∙◌, subst, arith, None, Option, ne_eqb}
 use Rattle.std.proofs.lemmas.Bool.Decides.{nat_tests}
 use Rattle.std.proofs.lemmas.List.{append-nil}
 use Rattle.std.specs.Prelude.{slice_get}
@@ -26,7 +26,6 @@ use Rattle.mq_core.proofs.Loss.LossFlow.{leaves_at, fate_if, fared-push, fared-n
 use Rattle.mq_core.proofs.Lists.NumberLists.{sum_below-first}
 use Rattle.mq_core.proofs.Events.Remaining.{remaining}
 use Rattle.mq_core.proofs.Server.Serves.{latest-push, pair-inj}
-use Rattle.mq_core.proofs.lemmas.Tests.{neq-eqb}
 
 -- this number, or 0 for one that left by the output of the lost
 abbrev pub unless_out : Option Emission → ℕ → ℕ
@@ -178,7 +177,7 @@ work-below rows demand k (m ∷ ms) (x ∷ xs) emitted n same =
         equal a b h = grind (arith, nat_tests)
 
     next : (q : ℕ) → suc k ≤ q → emission_at emitted q ≡ emission_at ms q
-    next q l = same q (omega arith) ∙ ap (λ b. cond b (Some m) (emission_at ms q)) (neq-eqb m.position q (λ e. let p = n.0 in omega arith))
+    next q l = same q (omega arith) ∙ ap (λ b. cond b (Some m) (emission_at ms q)) (ne_eqb m.position q (λ e. let p = n.0 in omega arith))
 
 -- with nothing to finish it has worked all that was asked of it
 pub losing-busy_done : (rows : Rows) (places : ℕ) (demand : Demand) (visits : List Visit) (emitted : List Emission) (now busy : ℕ) → ((q : ℕ) → emission_at emitted q ≡ emission_at (all_fared rows places demand visits) q) → LossBusy rows places demand visits [] [] now busy → busy ≡ sum_below (length visits) (λ p. unless_out (emission_at emitted p) (demand_of_visit rows demand (slice_get visits p)))

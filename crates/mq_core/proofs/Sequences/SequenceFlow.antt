@@ -1,5 +1,5 @@
 -- That each node lets out its flow, and each visit leaves as the flow says.
-use Rattle.std.proofs.Common.{List, true, Some, [], ap, arith, cond, eq-eqb, eqb, false, length, subst, suc, sym, zero, ℕ, ◌+◌, ◌∙◌, ◌∷◌, ◌≡◌}
+use Rattle.std.proofs.Common.{List, true, Some, [], ap, arith, cond, eq-eqb, eqb, false, length, subst, suc, sym, zero, ℕ, ◌+◌, ◌∙◌, ◌∷◌, ◌≡◌, ne_eqb}
 use Rattle.std.specs.Prelude.{slice_get}
 use Rattle.mq_core.specs.SequenceLaws.{NodesFlow, sends_once}
 use Rattle.mq_core.specs.Machine.{Emission, Visit}
@@ -14,7 +14,6 @@ use Rattle.mq_core.proofs.EachKind.Ends.{end-fact}
 use Rattle.mq_core.proofs.EachKind.Facts.{node_fact}
 use Rattle.mq_core.proofs.EachKind.Flows.{kind-flow}
 use Rattle.mq_core.proofs.EachKind.LawTable.{recurrence_of}
-use Rattle.mq_core.proofs.lemmas.Tests.{neq-eqb}
 
 pub nodes-flow : NodesFlow
 nodes-flow plan rows read v node e =
@@ -35,6 +34,6 @@ leaves-at kind k (o ∷ ms) (y ∷ ys) n h zero x m e f =
     subst (LeavesAs kind m) (some_inj y x e) (subst (λ z. LeavesAs kind z y) own h.0)
 leaves-at kind k (o ∷ ms) (y ∷ ys) n h (suc i) x m e f =
     let p = n.0 in
-    let other : eqb o.position (k + suc i) ≡ false = neq-eqb o.position (k + suc i) (λ q. omega arith) in
+    let other : eqb o.position (k + suc i) ≡ false = ne_eqb o.position (k + suc i) (λ q. omega arith) in
     let index : suc k + i ≡ k + suc i = omega arith in
     leaves-at kind (suc k) ms ys n.2 h.1 i x m e (ap (emission_at ms) index ∙ (ap (λ b. cond b (Some o) (emission_at ms (k + suc i))) (sym other) ∙ f))

@@ -1,5 +1,5 @@
 -- The number in a server, and who leaves it before whom.
-use Rattle.std.proofs.Common.{Bool, List, None, Some, [], ap, arith, eq-eqb, eqb, false, length, length-append, refl, subst, suc, sym, true, zero, ℕ, ◌++◌, ◌+◌, ◌<◌, ◌∙◌, ◌∷◌, ◌≡◌, ◌≢◌, ◌≤◌}
+use Rattle.std.proofs.Common.{Bool, List, None, Some, [], ap, arith, eq-eqb, eqb, false, length, length-append, ne_eqb, refl, subst, suc, sym, true, zero, ℕ, ◌++◌, ◌+◌, ◌<◌, ◌∙◌, ◌∷◌, ◌≡◌, ◌≢◌, ◌≤◌}
 use Rattle.std.specs.List.{AllByRecursion as Each}
 use Rattle.std.specs.Prelude.{find, slice_get}
 use Rattle.mq_core.specs.Event.{Event, earliest, sooner_of, time_of}
@@ -14,7 +14,6 @@ use Rattle.mq_core.specs.declared.model.Rows.{Rows}
 use Rattle.mq_core.proofs.Counting.Released.{one-release}
 use Rattle.mq_core.proofs.Events.Areas.{sum-none}
 use Rattle.mq_core.proofs.Server.Serves.{Serving, came_before, last_served, next_finish, pair-inj, positions, positions-length}
-use Rattle.mq_core.proofs.lemmas.Tests.{neq-eqb}
 
 -- a position that was let out is found
 pub served-found : (rows : Rows) (demand : Demand) (k last p : ℕ) (visits : List Visit) → k ≤ p → p < k + length visits → (m : Emission) × (find (λ (x : Emission). eqb x.position p) (served_from rows demand k last visits) ≡ Some m)
@@ -42,7 +41,7 @@ sum-step a (suc b) f h k =
 pub served-not_found : (rows : Rows) (demand : Demand) (k last p : ℕ) (visits : List Visit) → k + length visits ≤ p → emission_at (served_from rows demand k last visits) p ≡ None
 served-not_found rows demand k last p [] l = refl
 served-not_found rows demand k last p (x ∷ xs) l =
-    let no : eqb k p ≡ false = neq-eqb k p (λ e. omega arith) in
+    let no : eqb k p ≡ false = ne_eqb k p (λ e. omega arith) in
     rw no (served-not_found rows demand (suc k) (served rows demand last x) p xs (omega arith))
 
 pub serving-number : (rows : Rows) (demand : Demand) (v : ℕ) (visits : List Visit) (queue : List ℕ) (emitted : List Emission) (fs : List Event) (now : ℕ) → Serving rows demand v visits queue emitted fs now → length queue ≡ staying visits (emission_at emitted)

@@ -1,5 +1,5 @@
 -- A trunk group between two events.
-use Rattle.std.proofs.Common.{◌≡◌, ◌⊎◌, inl, inr, ℕ, suc, ◌+◌, ◌<◌, ◌≤◌, Bool, true, false, cond, eqb, ltb, List, [], ◌∷◌, ◌++◌, length, map, Some, sym, refl, ap, ◌∙◌, subst, arith, length-append, eqb-true}
+use Rattle.std.proofs.Common.{◌≡◌, ◌⊎◌, inl, inr, ℕ, suc, ◌+◌, ◌<◌, ◌≤◌, Bool, true, false, cond, eqb, ltb, List, [], ◌∷◌, ◌++◌, length, map, Some, sym, refl, ap, ◌∙◌, subst, arith, length-append, eqb-true, ne_eqb}
 use Rattle.std.proofs.lemmas.List.{append-nil, length-map, map-append}
 use Rattle.std.proofs.lemmas.List.Elements.{filter-append}
 use Rattle.std.specs.Prelude.{filter, not, slice_get}
@@ -26,7 +26,6 @@ use Rattle.mq_core.proofs.Loss.LossFlow.{fate_if, left_if}
 use Rattle.mq_core.proofs.Server.Serves.{latest-push}
 use Rattle.mq_core.proofs.Trunk.TrunkFlow.{busy_at-all, busy_at-append, busy_at-past, faring-push, served_by, trunk_flow, trunk_left, trunk_left-push}
 use Rattle.mq_core.proofs.lemmas.Rising.{Rises-append}
-use Rattle.mq_core.proofs.lemmas.Tests.{neq-eqb}
 
 -- who left and who is still to leave are all visits, as they fare, and the servers that are busy from now on are those of the
 -- pending finishes
@@ -89,7 +88,7 @@ scheduling-passes flow v visits scheduled emitted fs now x at soon h =
     apart : (k : ℕ) (b : Bool) → eqb x.arrive k ≡ b → (filter (λ (a : Emission). eqb a.time k) (map (to_leave visits) fs) ≡ []) ⊎ (filter (λ (a : Emission). eqb a.time k) (m ∷ []) ≡ [])
     apart k true e =
         let moment : x.arrive ≡ k = eqb-true x.arrive k e in
-        inl (filter-none (λ (a : Emission). eqb a.time k) (map (to_leave visits) fs) (Each-map (λ f. now < time_of f) (λ (a : Emission). eqb a.time k ≡ false) (to_leave visits) (λ f l. neq-eqb (time_of f) k (λ q. omega arith)) fs soon))
+        inl (filter-none (λ (a : Emission). eqb a.time k) (map (to_leave visits) fs) (Each-map (λ f. now < time_of f) (λ (a : Emission). eqb a.time k ≡ false) (to_leave visits) (λ f l. ne_eqb (time_of f) k (λ q. omega arith)) fs soon))
     apart k false e = inr (filter-no (λ (a : Emission). eqb a.time k) m [] e)
 
     same : staying (visits ++ x ∷ []) (emission_at (emitted ++ m ∷ [])) ≡ length fs
