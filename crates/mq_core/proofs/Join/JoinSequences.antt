@@ -16,17 +16,14 @@ use Rattle.mq_core.specs.Results.{fates_by, or_held}
 use Rattle.mq_core.specs.Tallies.{one_if_there}
 use Rattle.mq_core.proofs.Join.Entries.{count-push}
 use Rattle.mq_core.proofs.Join.JoinFlow.{flow_by}
-use Rattle.mq_core.proofs.Join.Joinings.{Joining, items-count, items_of, of_row}
+use Rattle.mq_core.proofs.Join.Joinings.{Joining, items-count, items-push, items_of, of_row}
+use Rattle.mq_core.proofs.Join.Numbers.{take-middle}
 use Rattle.mq_core.proofs.Server.Serves.{length-push, slice_get-middle}
 
 -- the emission of a match is at the arrival of the visit at its position
 index-middle : (pre zs : List Visit) (z : Visit) → slice_index (arrives_of (pre ++ z ∷ zs)) (length pre) ≡ z.arrive
 index-middle [] zs z = refl
 index-middle (y ∷ pre) zs z = index-middle pre zs z
-
-take-middle : (pre zs : List Visit) → take (length pre) (pre ++ zs) ≡ pre
-take-middle [] zs = refl
-take-middle (y ∷ pre) zs = ap (λ l. y ∷ l) (take-middle pre zs)
 
 abbrev AtVisit : List Visit → Emission → Type 0
 AtVisit visits m = slice_index (arrives_of visits) m.position ≡ m.time
@@ -73,16 +70,12 @@ module _ (ports : ℕ) (s : Station Local) (fs : List Event) (h : Joining ports 
       go None f = absurd cc
       go (Some v) f = row-each (AtVisit s.visits) v.job s.emitted (index_of s.visits p v) m times f
 
-  items-pre : (pre : List Visit) (z : Visit) → items_of (pre ++ z ∷ []) ≡ items_of pre ++ (z.port, z.job) ∷ []
-  items-pre [] z = refl
-  items-pre (y ∷ pre) z = ap (λ l. (y.port, y.job) ∷ l) (items-pre pre z)
-
   fares-from : (pre zs : List Visit) → s.visits ≡ pre ++ zs → fates_by join s (length pre) zs ≡ map (fate_by_match (arrives_of s.visits)) (matches_from ports (items_of s.visits) (items_of pre) (items_of zs))
   fares-from pre [] e = refl
   fares-from pre (z ∷ zs) e =
       let one = fares-one (arrives_of s.visits) (join.exit s (length pre)) _ (exit-place pre zs z e) (exit-time (length pre)) in
       let more : fates_by join s (suc (length pre)) zs ≡ map (fate_by_match (arrives_of s.visits)) (matches_from ports (items_of s.visits) (items_of pre ++ (z.port, z.job) ∷ []) (items_of zs)) =
-      ap (λ n. fates_by join s n zs) (sym (length-push pre z)) ∙ (fares-from (pre ++ z ∷ []) zs (e ∙ sym (append_assoc pre (z ∷ []) zs)) ∙ ap (λ b. map (fate_by_match (arrives_of s.visits)) (matches_from ports (items_of s.visits) b (items_of zs))) (items-pre pre z)) in
+      ap (λ n. fates_by join s n zs) (sym (length-push pre z)) ∙ (fares-from (pre ++ z ∷ []) zs (e ∙ sym (append_assoc pre (z ∷ []) zs)) ∙ ap (λ b. map (fate_by_match (arrives_of s.visits)) (matches_from ports (items_of s.visits) b (items_of zs))) (items-push pre z)) in
       λ i. one i ∷ more i
 
   -- the fates of its visits are those of the recurrence
@@ -111,7 +104,7 @@ module _ (ports : ℕ) (s : Station Local) (fs : List Event) (h : Joining ports 
       ∙ (swapped time p ∙ ap (λ n. sum_below n (λ k. one_if_there join.there time p (join.exit s k))) (sym (length-push pre z)))))
       found (let b = length-push pre z in omega arith) in
       let rest : map (λ (x : Visit). x.found) zs ≡ opens_from (suc (length pre)) (before ++ match_of ports z.job (count_by (is_item z.job z.port) (items_of pre)) (items_of s.visits) ∷ []) (matches_from ports (items_of s.visits) (items_of pre ++ (z.port, z.job) ∷ []) (items_of zs)) =
-      more ∙ (λ i. opens_from (length-push pre z i) (before ++ match_of ports z.job (count_by (is_item z.job z.port) (items_of pre)) (items_of s.visits) ∷ []) (matches_from ports (items_of s.visits) (items-pre pre z i) (items_of zs))) in
+      more ∙ (λ i. opens_from (length-push pre z i) (before ++ match_of ports z.job (count_by (is_item z.job z.port) (items_of pre)) (items_of s.visits) ∷ []) (matches_from ports (items_of s.visits) (items-push pre z i) (items_of zs))) in
       λ i. one i ∷ rest i
     where
       swapped : (time p : ℕ) → sum_below (length pre) (λ k. one_if_there join.there time p (join.exit s k)) + one_if_there join.there time p (join.exit s (length pre)) ≡ sum_below (suc (length pre)) (λ k. one_if_there join.there time p (join.exit s k))

@@ -3,7 +3,7 @@ use Rattle.std.proofs.lemmas.Bool.Decides.{nat_tests}
 use Rattle.std.proofs.Common.{◌≡◌, ◌⊎◌, inl, inr, ℕ, zero, suc, ◌+◌, ◌<◌, ◌≤◌, Bool, true, false, cond, eqb, eqb-true, eq-eqb, ltb, List, [], ◌∷◌, ◌++◌, length, take, Option, Some, None, refl, sym, ap, arith, subst, ◌∙◌, length-append}
 use Rattle.std.proofs.lemmas.Bool.{cases_lt}
 use Rattle.std.proofs.lemmas.List.{append-nil}
-use Rattle.mq_base.proofs.lemmas.Lists.{get-front, get-last, get-none, get-some, some_inj}
+use Rattle.mq_base.proofs.lemmas.Lists.{get-front, get-last, get-none, get-some, some_inj, take-all}
 use Rattle.std.specs.List.{AllByRecursion as Each}
 use Rattle.std.specs.Prelude.{count_by, slice_get, ◌&&◌, ◌==◌}
 use Rattle.mq_core.specs.Event.{Event}
@@ -29,14 +29,13 @@ take-push (z ∷ ys) zero y e = go e
     go f = ap (λ v. v ∷ []) (some_inj z y f)
 take-push (z ∷ ys) (suc n) y e = ap (λ l. z ∷ l) (take-push ys n y e)
 
-pub take-all : (ys : List Visit) → take (length ys) ys ≡ ys
-take-all [] = refl
-take-all (y ∷ ys) = ap (λ l. y ∷ l) (take-all ys)
-
 pub take-front : (ys more : List Visit) (n : ℕ) → n ≤ length ys → take n (ys ++ more) ≡ take n ys
 take-front ys more zero l = refl
 take-front [] more (suc n) l = absurd (omega arith)
 take-front (y ∷ ys) more (suc n) l = ap (λ k. y ∷ k) (take-front ys more n (omega arith))
+
+pub take-middle : (ys more : List Visit) → take (length ys) (ys ++ more) ≡ ys
+take-middle ys more = take-front ys more (length ys) (omega arith) ∙ take-all ys (length ys) (omega arith)
 
 -- one such visit, where there are more than so many
 hits : (job port index : ℕ) (ys : List Visit) (n : ℕ) → n ≤ length ys → sum_below n (λ p. hit job port index ys p (slice_get ys p)) ≡ cond (ltb index (count_by (is_of job port) (take n ys))) 1 0
@@ -174,7 +173,7 @@ module _ (ports : ℕ) (visits : List Visit) (held : List (ℕ × ℕ)) (emitted
   own : one_if_none (joined_exit more emitted (length visits) (slice_get more (length visits))) ≡ 1
   own =
       ap (λ o. one_if_none (joined_exit more emitted (length visits) o)) (get-last visits x)
-      ∙ (ap (λ l. one_if_none (slice_get (of_row x.job emitted) (count_by (is_of x.job x.port) l))) (take-front visits (x ∷ []) (length visits) (omega arith) ∙ take-all visits)
+      ∙ (ap (λ l. one_if_none (slice_get (of_row x.job emitted) (count_by (is_of x.job x.port) l))) (take-middle visits (x ∷ []))
       ∙ ap one_if_none (get-none (of_row x.job emitted) (count_by (is_of x.job x.port) visits) (let c = h.counts x.job x.port here in omega arith)))
 
   pub number-joined : length held ≡ staying_by visits emitted → length joined ≡ staying_by more emitted
@@ -213,7 +212,7 @@ module _ (ports : ℕ) (visits : List Visit) (held : List (ℕ × ℕ)) (emitted
       all : sum_below (length more) (λ p. sum_below ports (λ k. hit x.job k (length (of_row x.job emitted)) more p (slice_get more p))) ≡ ports
       all =
           sum-swap (length more) ports (λ k p. hit x.job k (length (of_row x.job emitted)) more p (slice_get more p))
-          ∙ sum-ones ports _ (λ k l. hits x.job k (length (of_row x.job emitted)) more (length more) (omega arith) ∙ (ap (λ ys. cond (ltb (length (of_row x.job emitted)) (count_by (is_of x.job k) ys)) 1 0) (take-all more) ∙ above (length (of_row x.job emitted)) (count_by (is_of x.job k) more) (let c = counts-joined ports visits held emitted fs x here h x.job k l in let d = matched-all more x.job ports joined matched k l in omega arith)))
+          ∙ sum-ones ports _ (λ k l. hits x.job k (length (of_row x.job emitted)) more (length more) (omega arith) ∙ (ap (λ ys. cond (ltb (length (of_row x.job emitted)) (count_by (is_of x.job k) ys)) 1 0) (take-all more (length more) (omega arith)) ∙ above (length (of_row x.job emitted)) (count_by (is_of x.job k) more) (let c = counts-joined ports visits held emitted fs x here h x.job k l in let d = matched-all more x.job ports joined matched k l in omega arith)))
         where
           above : (a b : ℕ) → a < b → ◌≡◌ {A = ℕ} (cond (ltb a b) 1 0) 1
           above a b l = grind (arith, nat_tests)
