@@ -5,6 +5,7 @@ use Rattle.std.proofs.lemmas.List.{append-nil}
 use Rattle.std.specs.List.{AllByRecursion as Each}
 use Rattle.std.specs.Option.{option_map}
 use Rattle.std.specs.Prelude.{IfSome, IsSome, filter, slice_get}
+use Rattle.mq_base.proofs.lemmas.Lists.{get-some}
 use Rattle.mq_core.specs.Event.{Event, earliest, node_of}
 use Rattle.mq_core.specs.Event.Event.{Arrive, Finish}
 use Rattle.mq_core.specs.Fates.{IsEnded, fate_by, fate_of, keeps_visits, leaves_with}
@@ -139,9 +140,7 @@ source-inside (node ∷ nodes) zero h = omega arith
 source-inside (node ∷ nodes) (suc v) h = let l = source-inside nodes v h in omega arith
 
 pub inside-some : (nodes : List Node) (v : ℕ) → v < length nodes → slice_get nodes v ≡ None → ⊥
-inside-some [] v l h = absurd (omega arith)
-inside-some (node ∷ nodes) zero l h = absurd cc
-inside-some (node ∷ nodes) (suc v) l h = inside-some nodes v (omega arith) h
+inside-some nodes v l h = let some = sym (get-some nodes v l).1 ∙ h in absurd cc
 
 -- what sums up to nothing is nothing everywhere
 sum-nothing : (n : ℕ) (f : ℕ → ℕ) → sum_below n f ≡ 0 → (k : ℕ) → k < n → f k ≡ 0

@@ -4,6 +4,7 @@ use Rattle.std.proofs.lemmas.Bool.{ltb-true, ltb-false}
 use Rattle.std.proofs.lemmas.Bool.Decides.{nat_tests}
 use Rattle.std.proofs.Math.Nat.{suc-mul, add-mul}
 use Rattle.std.specs.Prelude.{slice_get, filter}
+use Rattle.mq_base.proofs.lemmas.Lists.{get-some}
 use Rattle.mq_core.specs.Event.{Event, earliest, sooner_of}
 use Rattle.mq_core.specs.Event.Event.{Arrive, Finish}
 use Rattle.mq_core.specs.Machine.{Visit, Emission, emissions_of, emission_of, finishes_of}
@@ -312,14 +313,9 @@ forkjoining-shows rows demands rank v server position local visits emitted fs re
         go zero e = absurd (let a = no-load demands local.branches e in let b = falling.falls in omega arith)
         go (suc n) e = let a = falling.most in omega arith
 
-    some-visit : (k : ℕ) (xs : List Visit) → k < length xs → slice_get xs k ≡ None → ⊥
-    some-visit k [] l e = omega arith
-    some-visit zero (x ∷ xs) l e = cc
-    some-visit (suc k) (x ∷ xs) l e = some-visit k xs (omega arith) e
-
     go : (b : Bool) → ltb (least_through local.branches) (least_through after) ≡ b → (o : Option Visit) → slice_get visits (least_through local.branches) ≡ o →
         ((m : Emission) × (more : List Emission) × (emissions_of now visits (rises (least_through local.branches) (least_through after)) ≡ m ∷ more)) ⊎ (0 < length visits - least_through after)
-    go true e None s = absurd (some-visit (least_through local.branches) visits inside s)
+    go true e None s = absurd (let some = sym (get-some visits (least_through local.branches) inside).1 ∙ s in cc)
     go true e (Some x) s =
         inl (
           record { out = 0; position = least_through local.branches; job = x.job; time = now },

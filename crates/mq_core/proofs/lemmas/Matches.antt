@@ -3,7 +3,7 @@ use Rattle.std.proofs.Common.{Bool, List, None, Option, Some, [], ap, arith, con
 use Rattle.std.proofs.lemmas.Bool.{cases_lt}
 use Rattle.std.proofs.lemmas.List.{append-nil}
 use Rattle.std.proofs.lemmas.List.Sums.{sum_by-append, sum_by-cons}
-use Rattle.mq_base.proofs.lemmas.Lists.{get-last, get-none, some_inj}
+use Rattle.mq_base.proofs.lemmas.Lists.{get-front, get-last, get-none, get-some, some_inj}
 use Rattle.std.specs.Prelude.{count_by, slice_get, ◌&&◌}
 use Rattle.mq_core.specs.Kinds.Join.{is_item, later_place, match_of, place_from, place_or}
 
@@ -163,18 +163,13 @@ grown-new last q before after (inl (r, l, a, b)) e f = absurd (let c = sym a ∙
 grown-new last q before after (inr (inl (a, b))) e f = absurd (let c = sym b ∙ f in cc)
 grown-new last q before after (inr (inr (a, b))) e f = b
 
-get-within : (xs ys : List ℕ) (i : ℕ) → i < length xs → (q : ℕ) × (slice_get xs i ≡ Some q) × (slice_get (xs ++ ys) i ≡ Some q)
-get-within [] ys i l = absurd (omega arith)
-get-within (x ∷ xs) ys zero l = (x, refl, refl)
-get-within (x ∷ xs) ys (suc i) l = get-within xs ys i (omega arith)
-
 -- one item more, of the row
 module _ (ports job : ℕ) (items : List (ℕ × ℕ)) (y : ℕ × ℕ) (places : List ℕ) (h : ArePlaces ports job items places) where
   -- those that were whole stay
   kept-place : (more : List ℕ) (i : ℕ) → i < length places → slice_get (places ++ more) i ≡ match_of ports job i (items ++ y ∷ [])
   kept-place more i l =
-      let r = get-within places more i l in
-      r.2 ∙ sym (grown-some (length items) r.0 _ _ (match-grows ports job i items y) (sym (h i) ∙ r.1))
+      let r = get-some places i l in
+      get-front places more i l ∙ (r.1 ∙ sym (grown-some (length items) r.0 _ _ (match-grows ports job i items y) (sym (h i) ∙ r.1)))
 
   -- where one port has no more than there are, none is new
   pub places-stay : (k : ℕ) → k < ports → count_by (is_item job k) (items ++ y ∷ []) ≤ length places → ArePlaces ports job (items ++ y ∷ []) places
