@@ -18,7 +18,7 @@ use Rattle.mq_core.specs.declared.model.Rows.{Rows}
 use Rattle.mq_core.proofs.Lists.Order.{below-irrefl}
 use Rattle.mq_core.proofs.Events.Pending.{Splits, earliest-splits, filter-earliest_alike, filter-earliest_other}
 use Rattle.mq_core.proofs.lemmas.Rising.{Rises-append, same_by_key, Rises-in_order_of, filter-in_order_of}
-use Rattle.mq_core.proofs.Server.Serves.{latest-push}
+use Rattle.mq_core.proofs.Server.Serves.{get-latest, latest-push}
 use Rattle.mq_core.proofs.Events.EmissionsAt.{unknown, found-behind, other-behind}
 use Rattle.mq_core.proofs.Events.Falls.{sum_below-one}
 
@@ -142,9 +142,6 @@ scheduling-joins rows demand flow v visits scheduled emitted fs now x at soon h 
     added : Emission
     added = departing rows demand (length visits) x
 
-    self : slice_get (visits ++ x ∷ []) (latest (visits ++ x ∷ [])) ≡ Some x
-    self = ap (slice_get (visits ++ x ∷ [])) index ∙ get-last visits x
-
     grown : staying (visits ++ x ∷ []) (emission_at (emitted ++ [])) ≡ length (fs ++ new ∷ [])
     grown =
         let a : staying (visits ++ x ∷ []) (emission_at (emitted ++ [])) ≡ sum_below (suc (length visits)) (λ p. one_if_none (emission_at emitted p)) = (λ i. sum_below (size i) (λ p. one_if_none (emission_at (append-nil emitted i) p))) in
@@ -154,13 +151,13 @@ scheduling-joins rows demand flow v visits scheduled emitted fs now x at soon h 
         a ∙ omega arith
 
     same : to_leave (visits ++ x ∷ []) new ≡ added
-    same = λ i. record { out = 0; position = spot i; job = job_in (self i); time = moment i }
+    same = λ i. record { out = 0; position = spot i; job = job_in (get-latest visits x i); time = moment i }
       where
         spot : latest (visits ++ x ∷ []) ≡ length visits
         spot = index
 
         moment : now + demand_at rows demand (visits ++ x ∷ []) (latest (visits ++ x ∷ [])) ≡ x.arrive + demand_of_job rows demand x.job
-        moment = ap (λ o. now + demand_of_visit rows demand o) self ∙ ap (λ n. n + demand_of_job rows demand x.job) (sym at)
+        moment = ap (λ o. now + demand_of_visit rows demand o) (get-latest visits x) ∙ ap (λ n. n + demand_of_job rows demand x.job) (sym at)
 
 -- finishes of a node's server 0 at one time are alike
 alike_services : (rank : ℕ → ℕ) (v k : ℕ) (e f : Event) → (is_service v e && eqb (time_of e) k) ≡ true → (is_service v f && eqb (time_of f) k) ≡ true → is_sooner rank e f ≡ false

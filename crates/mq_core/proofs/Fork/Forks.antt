@@ -11,7 +11,7 @@ use Rattle.mq_core.specs.Tallies.{emission_at, one_if_none, staying}
 use Rattle.mq_base.proofs.lemmas.Each.{Each-append, Each-weaker}
 use Rattle.mq_core.proofs.EachKind.StationLaws.{Arrived}
 use Rattle.mq_core.proofs.Events.Areas.{sum-none}
-use Rattle.mq_core.proofs.Server.Serves.{latest-push, slice_get-middle}
+use Rattle.mq_core.proofs.Server.Serves.{get-latest, latest-push}
 
 -- every visit went on at once by each output, of which there is one, and nothing is pending
 pub record Forking (outputs : ℕ) (visits : List Visit) (emitted : List Emission) (fs : List Event) : Type 0 where
@@ -70,11 +70,10 @@ pub forking-arrives : (outputs now : ℕ) (visits : List Visit) (emitted : List 
     Forking outputs (visits ++ x ∷ []) (emitted ++ emissions_of now (visits ++ x ∷ []) (copies outputs (latest (visits ++ x ∷ [])))) (fs ++ [])
 forking-arrives outputs now visits emitted fs x at h =
     let place : latest (visits ++ x ∷ []) ≡ length visits = latest-push visits x in
-    let middle : slice_get (visits ++ x ∷ []) (latest (visits ++ x ∷ [])) ≡ Some x = ap (slice_get (visits ++ x ∷ [])) place ∙ slice_get-middle visits [] x in
     let same : length visits ≡ 0 + length visits = omega arith in
     record {
       left =
-          ap (λ l. emitted ++ l) (copies-out outputs now (latest (visits ++ x ∷ [])) (visits ++ x ∷ []) x middle at)
+          ap (λ l. emitted ++ l) (copies-out outputs now (latest (visits ++ x ∷ [])) (visits ++ x ∷ []) x (get-latest visits x) at)
           ∙ (ap (λ l. l ++ copied outputs (latest (visits ++ x ∷ [])) x) h.left
           ∙ (ap (λ n. copied_from outputs 0 visits ++ copied outputs n x) (place ∙ same) ∙ sym (copied_from-push outputs 0 visits x)));
       none = append-nil fs ∙ h.none;

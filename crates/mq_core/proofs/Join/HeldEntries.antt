@@ -6,14 +6,14 @@ use Rattle.std.proofs.lemmas.List.Elements.{filter-append}
 use Rattle.std.specs.List.{AllByRecursion as Each, list_any}
 use Rattle.std.specs.Prelude.{count_by, filter, nat_le, slice_get, ◌&&◌, ◌==◌, ◌||◌}
 use Rattle.mq_base.proofs.lemmas.Each.{Each-append}
-use Rattle.mq_base.proofs.lemmas.Lists.{get-front, get-last, some_inj}
+use Rattle.mq_base.proofs.lemmas.Lists.{get-front, some_inj}
 use Rattle.mq_core.specs.Event.{Event}
 use Rattle.mq_core.specs.Handling.{latest}
 use Rattle.mq_core.specs.Kinds.Join.{has_entry, has_job, is_by, is_of, taken_out, without_first}
 use Rattle.mq_core.specs.Machine.{Emission, Visit}
 use Rattle.mq_core.proofs.Join.Entries.{by-job, by-port, count-cons, taken-each}
 use Rattle.mq_core.proofs.Join.Joinings.{Joining, of_row, of_row-push}
-use Rattle.mq_core.proofs.Server.Serves.{latest-push}
+use Rattle.mq_core.proofs.Server.Serves.{get-latest, latest-push}
 
 -- the positions of the visits of a row by a port, the first visit being at this one
 abbrev pub rowed : ℕ → ℕ → ℕ → List Visit → List ℕ
@@ -115,9 +115,6 @@ module _ (ports : ℕ) (visits : List Visit) (held : List (ℕ × ℕ)) (emitted
   abbrev joined : List (ℕ × ℕ)
   joined = held ++ (x.port, latest (visits ++ x ∷ [])) ∷ []
 
-  last-own : slice_get more (latest more) ≡ Some x
-  last-own = ap (slice_get more) (latest-push visits x) ∙ get-last visits x
-
   filter-same : (job port : ℕ) (es : List (ℕ × ℕ)) → Each (λ (e : ℕ × ℕ). e.1 < length visits) es → filter (is_by more job port) es ≡ filter (is_by visits job port) es
   filter-same job port [] k = refl
   filter-same job port (e ∷ es) k = λ i. cond (has_job job (get-front visits (x ∷ []) e.1 k.0 i) && (e.0 == port)) (e ∷ filter-same job port es k.1 i) (filter-same job port es k.1 i)
@@ -139,10 +136,10 @@ module _ (ports : ℕ) (visits : List Visit) (held : List (ℕ × ℕ)) (emitted
           go false = refl
 
       last : spots (filter (is_by more job port) ((x.port, latest more) ∷ [])) ≡ cond (is_of job port x) ((0 + length visits) ∷ []) []
-      last = own (slice_get more (latest more)) last-own ∙ ap (λ n. cond (is_of job port x) (n ∷ []) []) (latest-push visits x ∙ (let same : length visits ≡ 0 + length visits = omega arith in same))
+      last = own (slice_get more (latest more)) (get-latest visits x) ∙ ap (λ n. cond (is_of job port x) (n ∷ []) []) (latest-push visits x ∙ (let same : length visits ≡ 0 + length visits = omega arith in same))
 
   owned-joined : Each (λ (e : ℕ × ℕ). (y : Visit) × (slice_get more e.1 ≡ Some y) × (y.port ≡ e.0)) joined
-  owned-joined = Each-append _ held _ (both held h.entries entered.owned) ((x, last-own, refl), tt)
+  owned-joined = Each-append _ held _ (both held h.entries entered.owned) ((x, (get-latest visits x), refl), tt)
     where
       both : (es : List (ℕ × ℕ)) → Each (λ (e : ℕ × ℕ). e.1 < length visits) es → Each (λ (e : ℕ × ℕ). (y : Visit) × (slice_get visits e.1 ≡ Some y) × (y.port ≡ e.0)) es → Each (λ (e : ℕ × ℕ). (y : Visit) × (slice_get more e.1 ≡ Some y) × (y.port ≡ e.0)) es
       both [] k o = tt

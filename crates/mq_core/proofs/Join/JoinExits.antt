@@ -21,7 +21,7 @@ use Rattle.mq_core.proofs.EachKind.ExitLaws.{ExitLaws}
 use Rattle.mq_core.proofs.EachKind.KindLaws.{after_visit}
 use Rattle.mq_core.proofs.Events.Leavings.{StaysOrLeaves, time_of_exit}
 use Rattle.mq_core.proofs.Passing.Passes.{no_finish}
-use Rattle.mq_core.proofs.Server.Serves.{latest-push, slice_get-middle}
+use Rattle.mq_core.proofs.Server.Serves.{get-latest, latest-push}
 
 -- one visit more, at one of the ports
 module _ (ports now v : ℕ) (local : Local) (visits : List Visit) (emitted : List Emission) (fs : List Event) (x : Visit) (at : x.arrive ≡ now) (here : x.port < ports) (h : Joined ports visits local.held emitted fs) where
@@ -35,16 +35,13 @@ module _ (ports now v : ℕ) (local : Local) (visits : List Visit) (emitted : Li
   lets-out : (after ≡ emitted) ⊎ ((m : Emission) × (after ≡ emitted ++ m ∷ []) × (m.position ≡ length visits) × (m.time ≡ now))
   lets-out = go (is_matched (visits ++ x ∷ []) x.job ports (local.held ++ (x.port, latest (visits ++ x ∷ [])) ∷ []))
     where
-      middle : slice_get (visits ++ x ∷ []) (latest (visits ++ x ∷ [])) ≡ Some x
-      middle = ap (slice_get (visits ++ x ∷ [])) (latest-push visits x) ∙ slice_get-middle visits [] x
-
       m : Emission
       m = record { out = 0; position = length visits; job = x.job; time = now }
 
       go : (b : Bool) → (emitted ++ emissions_of now (visits ++ x ∷ []) (matches (visits ++ x ∷ []) x.job ports local (local.held ++ (x.port, latest (visits ++ x ∷ [])) ∷ []) b).releases ≡ emitted)
           ⊎ ((n : Emission) × (emitted ++ emissions_of now (visits ++ x ∷ []) (matches (visits ++ x ∷ []) x.job ports local (local.held ++ (x.port, latest (visits ++ x ∷ [])) ∷ []) b).releases ≡ emitted ++ n ∷ []) × (n.position ≡ length visits) × (n.time ≡ now))
       go false = inl (append-nil emitted)
-      go true = inr (m, ap (λ o. emitted ++ (emission_of now 0 (latest (visits ++ x ∷ [])) o ++ [])) middle ∙ (λ i. emitted ++ record { out = 0; position = latest-push visits x i; job = x.job; time = now } ∷ []), refl, refl)
+      go true = inr (m, ap (λ o. emitted ++ (emission_of now 0 (latest (visits ++ x ∷ [])) o ++ [])) (get-latest visits x) ∙ (λ i. emitted ++ record { out = 0; position = latest-push visits x i; job = x.job; time = now } ∷ []), refl, refl)
 
   row : (job i : ℕ) → ExitsNow now (length visits) (slice_get (of_row job emitted) i) (slice_get (of_row job after) i)
   row job i = go lets-out

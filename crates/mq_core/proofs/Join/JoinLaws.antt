@@ -26,7 +26,7 @@ use Rattle.mq_core.specs.Ranges.{is_within}
 use Rattle.mq_core.proofs.Counting.Released.{emission-one, times-one}
 use Rattle.mq_core.proofs.Fork.ForkLaws.{no-service}
 use Rattle.mq_core.proofs.Passing.Passes.{no_finish}
-use Rattle.mq_core.proofs.Server.Serves.{latest-push, slice_get-middle}
+use Rattle.mq_core.proofs.Server.Serves.{get-latest, latest-push}
 
 -- what holds of it between two events, where each visit came by a port that it has
 pub record Joined (ports : ℕ) (visits : List Visit) (held : List (ℕ × ℕ)) (emitted : List Emission) (fs : List Event) : Type 0 where
@@ -62,12 +62,9 @@ joined-arrives ports now v local visits emitted fs x at here h = go (is_matched 
     m : Emission
     m = record { out = 0; position = length visits; job = x.job; time = x.arrive }
 
-    middle : slice_get (visits ++ x ∷ []) (latest (visits ++ x ∷ [])) ≡ Some x
-    middle = ap (slice_get (visits ++ x ∷ [])) (latest-push visits x) ∙ slice_get-middle visits [] x
-
     -- what it lets out at a match
     out : emission_of now 0 (latest (visits ++ x ∷ [])) (slice_get (visits ++ x ∷ []) (latest (visits ++ x ∷ []))) ++ [] ≡ m ∷ []
-    out = ap (λ o. emission_of now 0 (latest (visits ++ x ∷ [])) o ++ []) middle ∙ (λ i. record { out = 0; position = latest-push visits x i; job = x.job; time = sym at i } ∷ [])
+    out = ap (λ o. emission_of now 0 (latest (visits ++ x ∷ [])) o ++ []) (get-latest visits x) ∙ (λ i. record { out = 0; position = latest-push visits x i; job = x.job; time = sym at i } ∷ [])
 
     ported : Each (λ (y : Visit). y.port < ports) (visits ++ x ∷ [])
     ported = Each-append _ visits (x ∷ []) h.ported (here, tt)

@@ -13,7 +13,7 @@ use Rattle.mq_core.proofs.Join.Entries.{count-cons, count-push, matched-all, tak
 use Rattle.mq_core.proofs.lemmas.Matches.{Grows, grown-new, grown-some, match-all, match-grows, match-lacks, match-none}
 use Rattle.mq_base.proofs.lemmas.Each.{Each-append, Each-weaker}
 use Rattle.mq_base.proofs.lemmas.Lists.{get-front, get-last, get-none, get-some}
-use Rattle.mq_core.proofs.Server.Serves.{latest-push, slice_get-middle}
+use Rattle.mq_core.proofs.Server.Serves.{get-latest, latest-push}
 
 -- the emissions of a row
 abbrev pub of_row : ℕ → List Emission → List Emission
@@ -77,15 +77,12 @@ module _ (ports : ℕ) (visits : List Visit) (held : List (ℕ × ℕ)) (emitted
       ∙ ((λ i. cond (has_job job (get-front visits (x ∷ []) e.1 k.0 i) && (e.0 == port)) 1 0 + count-same job port es k.1 i)
       ∙ sym (count-cons (is_by visits job port) e es))
 
-  last-own : slice_get more (latest more) ≡ Some x
-  last-own = ap (slice_get more) (latest-push visits x) ∙ slice_get-middle visits [] x
-
   -- before a match is taken out
   pub counts-joined : (job port : ℕ) → port < ports → count_by (is_by more job port) joined + length (of_row job emitted) ≡ count_by (is_of job port) more
   counts-joined job port l =
       let a = count-push (is_by more job port) held (x.port, latest more) in
       let b = count-same job port held h.entries in
-      let c : ◌≡◌ {A = ℕ} (cond (is_by more job port (x.port, latest more)) 1 0) (cond (is_of job port x) 1 0) = ap (λ o. cond (has_job job o && (x.port == port)) 1 0) last-own in
+      let c : ◌≡◌ {A = ℕ} (cond (is_by more job port (x.port, latest more)) 1 0) (cond (is_of job port x) 1 0) = ap (λ o. cond (has_job job o && (x.port == port)) 1 0) (get-latest visits x) in
       let d = count-push (is_of job port) visits x in
       let e = h.counts job port l in
       omega arith

@@ -71,6 +71,10 @@ slice_get-middle (y ∷ xs) ys x = slice_get-middle xs ys x
 pub latest-push : (xs : List Visit) (x : Visit) → latest (xs ++ x ∷ []) ≡ length xs
 latest-push xs x = omega (arith, length-append xs (x ∷ []))
 
+-- the latest visit
+pub get-latest : (xs : List Visit) (x : Visit) → slice_get (xs ++ x ∷ []) (latest (xs ++ x ∷ [])) ≡ Some x
+get-latest xs x = ap (slice_get (xs ++ x ∷ [])) (latest-push xs x) ∙ slice_get-middle xs [] x
+
 pub positions-length : (k : ℕ) (xs : List Visit) → length (positions k xs) ≡ length xs
 positions-length k [] = refl
 positions-length k (x ∷ xs) = ap suc (positions-length (suc k) xs)
