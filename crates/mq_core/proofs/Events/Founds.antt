@@ -25,10 +25,11 @@ found-each P (k ∷ ks) q m h e = go (eqb k.position q) e (found-each P ks q m h
     go true f ih = subst P (some_inj k m f) h.0
     go false f ih = ih f
 
-later-one : (a b : ℕ) → a < b → ◌≡◌ {A = ℕ} (cond (ltb a b) 1 0) 1
+-- 1 where a time is later, else 0
+pub later-one : (a b : ℕ) → a < b → ◌≡◌ {A = ℕ} (cond (ltb a b) 1 0) 1
 later-one a b h = grind (arith, nat_tests)
 
-later-none : (a b : ℕ) → b ≤ a → ◌≡◌ {A = ℕ} (cond (ltb a b) 1 0) 0
+pub later-none : (a b : ℕ) → b ≤ a → ◌≡◌ {A = ℕ} (cond (ltb a b) 1 0) 0
 later-none a b h = grind (arith, nat_tests)
 
 -- an emission now of an earlier position counts as before

@@ -1,7 +1,6 @@
 -- How many jobs a fork-join holds, and how many finishes are still to come.
-use Rattle.std.proofs.Common.{◌≡◌, ◌⊎◌, inl, inr, ℕ, zero, suc, ◌+◌, ◌-◌, ◌*◌, ◌<◌, ◌≤◌, Bool, true, false, cond, eqb, ltb, eq-eqb, eqb-true, List, [], ◌∷◌, ◌++◌, length, Option, Some, None, sym, refl, ap, ◌∙◌, subst, arith, length-append, map, max}
+use Rattle.std.proofs.Common.{◌≡◌, ◌⊎◌, inl, inr, ℕ, zero, suc, ◌+◌, ◌-◌, ◌*◌, ◌<◌, ◌≤◌, Bool, true, false, cond, eqb, ltb, eq-eqb, eqb-true, List, [], ◌∷◌, ◌++◌, length, Option, Some, None, sym, refl, ap, ◌∙◌, subst, arith, length-append, map, max, ltb-true}
 use Rattle.std.proofs.lemmas.Bool.{ltb-true, ltb-false}
-use Rattle.std.proofs.lemmas.Bool.Decides.{nat_tests}
 use Rattle.std.proofs.Math.Nat.{suc-mul, add-mul}
 use Rattle.std.specs.Prelude.{slice_get, filter}
 use Rattle.mq_base.proofs.lemmas.Lists.{get-some}
@@ -219,11 +218,8 @@ emitted-at_most now least least' visits = go (ltb least least')
 emitted-few : (now least least' : ℕ) (visits : List Visit) → least ≤ least' → least + length (emissions_of now visits (rises least least')) ≤ least'
 emitted-few now least least' visits l = go (ltb least least') refl (emitted-at_most now least least' visits)
   where
-    less : (a b : ℕ) → ltb a b ≡ true → a < b
-    less a b e = grind (arith, nat_tests)
-
     go : (b : Bool) → ltb least least' ≡ b → length (emissions_of now visits (rises least least')) ≤ 1 → least + length (emissions_of now visits (rises least least')) ≤ least'
-    go true e k = let a = less least least' e in omega arith
+    go true e k = let a = ltb-true least least' e in omega arith
     go false e k = let none = ap (λ b. length (emissions_of now visits (cond b (record { out = 0; position = least } ∷ []) []))) e in omega arith
 
 -- a finish of a fork-join: the least count doesn't fall, and a finish less is to come

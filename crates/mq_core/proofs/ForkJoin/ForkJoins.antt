@@ -1,6 +1,5 @@
 -- A fork-join between two events, and the steps that keep what is said of it.
-use Rattle.std.proofs.Common.{◌≡◌, inl, inr, ℕ, suc, ◌+◌, ◌<◌, ◌≤◌, Bool, true, false, cond, eqb, ltb, eq-eqb, eqb-true, List, [], ◌∷◌, ◌++◌, length, Some, sym, refl, ap, ◌∙◌, subst, arith, map}
-use Rattle.std.proofs.lemmas.Bool.Decides.{nat_tests}
+use Rattle.std.proofs.Common.{◌≡◌, inl, inr, ℕ, suc, ◌+◌, ◌<◌, ◌≤◌, Bool, true, false, cond, eqb, ltb, eq-eqb, eqb-true, List, [], ◌∷◌, ◌++◌, length, Some, sym, refl, ap, ◌∙◌, subst, arith, map, lt-ltb, le-ltb}
 use Rattle.std.proofs.lemmas.List.{append-nil}
 use Rattle.std.proofs.lemmas.List.Elements.{filter-append}
 use Rattle.std.specs.Prelude.{slice_get, filter}
@@ -163,13 +162,10 @@ rises through_every later = cond (ltb through_every later) (record { out = 0; po
 lets-out : (now position rose least least' : ℕ) (visits ended later : List Visit) (emitted : List Emission) → emitted ≡ passed_from (λ _ _. 0) 0 ended → length ended ≡ least → length later ≡ least' → Alike visits later → Lets ended now position later rose →
     emitted ++ emissions_of now visits (rises least least') ≡ passed_from (λ _ _. 0) 0 later
 lets-out now position rose least least' visits ended later emitted left one two alike (inl (same, none)) =
-    let still : ltb least least' ≡ false = (let l = ap length same in not_less least least' (omega arith)) in
+    let still : ltb least least' ≡ false = (let l = ap length same in le-ltb least least' (omega arith)) in
     ap (λ b. emitted ++ emissions_of now visits (cond b (record { out = 0; position = least } ∷ []) [])) still ∙ (append-nil emitted ∙ (left ∙ ap (passed_from (λ _ _. 0) 0) (sym same)))
-  where
-    not_less : (a b : ℕ) → b ≤ a → ltb a b ≡ false
-    not_less a b l = grind (arith, nat_tests)
 lets-out now position rose least least' visits ended later emitted left one two alike (inr (z, same, more, at, index)) =
-    let rises' : ltb least least' ≡ true = (let l = ap length same in less least least' (omega (arith, length-push ended z))) in
+    let rises' : ltb least least' ≡ true = (let l = ap length same in lt-ltb least least' (omega (arith, length-push ended z))) in
     let found = alike (length ended) z (ap (λ l. slice_get l (length ended)) same ∙ slice_get-middle ended [] z) in
     let who : slice_get visits least ≡ Some found.0 = ap (slice_get visits) (sym one) ∙ found.1 in
     let spot : least ≡ 0 + length ended = omega arith in
@@ -178,9 +174,6 @@ lets-out now position rose least least' visits ended later emitted left one two 
     ∙ (ap (λ l. l ++ record { out = 0; position = least; job = found.0.job; time = now } ∷ []) left
     ∙ (ap (λ (p : ℕ × ℕ × ℕ). passed_from (λ _ _. 0) 0 ended ++ record { out = 0; position = p.0; job = p.1; time = p.2 } ∷ []) (λ i. (spot i, sym found.2 i, sym at i))
     ∙ (sym (let_out-push 0 ended z) ∙ ap (passed_from (λ _ _. 0) 0) (sym same)))))
-  where
-    less : (a b : ℕ) → a < b → ltb a b ≡ true
-    less a b l = grind (arith, nat_tests)
 
 -- a finish at a fork-join
 pub forkjoining-moves : (rows : Rows) (demands : List (List Demand)) (rank : ℕ → ℕ) (v server position : ℕ) (visits : List Visit) (branches : List Branch) (emitted : List Emission) (fs rest : List Event) (now : ℕ) → earliest rank fs ≡ Some (Finish now v server position, rest) → (h : ForkJoining rows demands v visits branches emitted fs now) →

@@ -13,6 +13,7 @@ use Rattle.mq_core.specs.Tallies.{one_if_none, sum_below}
 use Rattle.mq_core.proofs.Events.Areas.{sum-both, sum-none, sum-same}
 use Rattle.mq_base.proofs.lemmas.Each.{Each-append}
 use Rattle.mq_core.specs.Handling.{latest}
+use Rattle.mq_core.proofs.Events.Founds.{later-one}
 use Rattle.mq_core.proofs.Join.Entries.{count-push, matched-all, taken-length}
 use Rattle.mq_core.proofs.Join.Joinings.{Joining, counts-joined, of_row, of_row-push}
 
@@ -212,7 +213,4 @@ module _ (ports : ℕ) (visits : List Visit) (held : List (ℕ × ℕ)) (emitted
       all : sum_below (length more) (λ p. sum_below ports (λ k. hit x.job k (length (of_row x.job emitted)) more p (slice_get more p))) ≡ ports
       all =
           sum-swap (length more) ports (λ k p. hit x.job k (length (of_row x.job emitted)) more p (slice_get more p))
-          ∙ sum-ones ports _ (λ k l. hits x.job k (length (of_row x.job emitted)) more (length more) (omega arith) ∙ (ap (λ ys. cond (ltb (length (of_row x.job emitted)) (count_by (is_of x.job k) ys)) 1 0) (take-all more (length more) (omega arith)) ∙ above (length (of_row x.job emitted)) (count_by (is_of x.job k) more) (let c = counts-joined ports visits held emitted fs x here h x.job k l in let d = matched-all more x.job ports joined matched k l in omega arith)))
-        where
-          above : (a b : ℕ) → a < b → ◌≡◌ {A = ℕ} (cond (ltb a b) 1 0) 1
-          above a b l = grind (arith, nat_tests)
+          ∙ sum-ones ports _ (λ k l. hits x.job k (length (of_row x.job emitted)) more (length more) (omega arith) ∙ (ap (λ ys. cond (ltb (length (of_row x.job emitted)) (count_by (is_of x.job k) ys)) 1 0) (take-all more (length more) (omega arith)) ∙ later-one (length (of_row x.job emitted)) (count_by (is_of x.job k) more) (let c = counts-joined ports visits held emitted fs x here h x.job k l in let d = matched-all more x.job ports joined matched k l in omega arith)))

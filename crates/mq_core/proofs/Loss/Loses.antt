@@ -1,5 +1,5 @@
 -- A loss station between two events.
-use Rattle.std.proofs.Common.{◌≡◌, ℕ, suc, ◌+◌, ◌<◌, ◌≤◌, Bool, true, false, cond, ltb, List, [], ◌∷◌, ◌++◌, length, map, Some, sym, refl, ap, ◌∙◌, subst, arith, length-append, append_assoc}
+use Rattle.std.proofs.Common.{◌≡◌, ℕ, suc, ◌+◌, ◌<◌, ◌≤◌, Bool, true, false, cond, ltb, List, [], ◌∷◌, ◌++◌, length, map, Some, sym, refl, ap, ◌∙◌, subst, arith, length-append, append_assoc, ltb-true}
 use Rattle.std.proofs.lemmas.Bool.Decides.{nat_tests}
 use Rattle.std.proofs.lemmas.List.{append-nil, length-map}
 use Rattle.std.specs.Prelude.{slice_get}
@@ -18,6 +18,7 @@ use Rattle.mq_core.specs.Recurrences.{time_or_none}
 use Rattle.mq_core.specs.Tallies.{arrival_or}
 use Rattle.mq_core.specs.declared.model.Demand.{Demand}
 use Rattle.mq_core.specs.declared.model.Rows.{Rows}
+use Rattle.mq_core.proofs.Events.Founds.{later-one}
 use Rattle.mq_core.proofs.Loss.LossFlow.{leaves_at, fate_if, left_if, fared, left_by, fared-push, left_by-push, count_after, has_place}
 use Rattle.mq_core.proofs.Counting.Reordered.{in_order-push}
 use Rattle.mq_core.proofs.Server.Serves.{latest-push, queues_up-releases, pair-inj}
@@ -126,10 +127,7 @@ count_later-push k (y ∷ ys) m = let ih = count_later-push k ys m in omega arit
 -- all that leave later are later
 count_later-all : (now : ℕ) (ms : List Emission) → Each (λ (m : Emission). now < m.time) ms → count_later now ms ≡ length ms
 count_later-all now [] h = refl
-count_later-all now (m ∷ ms) h = let ih = count_later-all now ms h.1 in let e = one now m.time h.0 in omega arith
-  where
-    one : (a b : ℕ) → a < b → ◌≡◌ {A = ℕ} (cond (ltb a b) 1 0) 1
-    one a b l = grind (arith, nat_tests)
+count_later-all now (m ∷ ms) h = let ih = count_later-all now ms h.1 in let e = later-one now m.time h.0 in omega arith
 
 -- what is still to leave stays so behind a visit that comes before it leaves
 to_leave-push : (visits : List Visit) (x : Visit) (m : Emission) → x.arrive < m.time → ToLeave visits m → ToLeave (visits ++ x ∷ []) m
@@ -144,15 +142,12 @@ to_leave-push visits x m soon h =
       behind = λ p l u. go p (ltb p (length visits)) refl l (omega (arith, length-append visits (x ∷ [])));
     }
   where
-    below : (a b : ℕ) → ltb a b ≡ true → a < b
-    below a b e = grind (arith, nat_tests)
-
     same : (a b : ℕ) → ltb a b ≡ false → a < suc b → a ≡ b
     same a b e l = grind (arith, nat_tests)
 
     go : (p : ℕ) (b : Bool) → ltb p (length visits) ≡ b → m.position < p → p < suc (length visits) → arrival_or 0 (slice_get (visits ++ x ∷ []) p) < m.time
     go p true e l u =
-        let k : p < length visits = below p (length visits) e in
+        let k : p < length visits = ltb-true p (length visits) e in
         let old = h.behind p l k in
         let front = ap (arrival_or 0) (get-front visits (x ∷ []) p k) in
         omega arith

@@ -14,6 +14,7 @@ use Rattle.mq_core.specs.declared.model.Fate.{Fate}
 use Rattle.mq_core.specs.declared.model.Fate.TheVariants.{Departs, Held, Lost}
 use Rattle.mq_core.specs.declared.model.Rows.{Rows}
 use Rattle.mq_core.proofs.Counting.SequenceNumbers.{Numbered}
+use Rattle.mq_core.proofs.Events.Founds.{later-none}
 
 -- when a visit leaves that is admitted, from the departures before it, the latest first
 abbrev pub leaves_at : Rows → Demand → List ℕ → Visit → ℕ
@@ -78,10 +79,7 @@ has_place places left now = ltb (count_after now left) places
 
 none-after : (now : ℕ) (times : List ℕ) → Each (λ time. time ≤ now) times → count_after now times ≡ 0
 none-after now [] h = refl
-none-after now (time ∷ times) h = let e = none-after now times h.1 in let n = not-after now time h.0 in omega arith
-  where
-    not-after : (a b : ℕ) → b ≤ a → ◌≡◌ {A = ℕ} (cond (ltb a b) 1 0) 0
-    not-after a b l = grind (arith, nat_tests)
+none-after now (time ∷ times) h = let e = none-after now times h.1 in let n = later-none now time h.0 in omega arith
 
 all-past : (now k : ℕ) (times : List ℕ) → Each (λ time. time ≤ now) times → is_past now (slice_get times k) ≡ true
 all-past now k [] h = refl

@@ -1,6 +1,5 @@
 -- How the visits to a trunk group fare, one after another, and how many servers are busy.
-use Rattle.std.proofs.Common.{◌≡◌, ℕ, suc, ◌+◌, ◌<◌, ◌≤◌, Bool, true, false, cond, ltb, List, [], ◌∷◌, ◌++◌, length, map, refl, ap, ◌∙◌, arith}
-use Rattle.std.proofs.lemmas.Bool.Decides.{nat_tests}
+use Rattle.std.proofs.Common.{◌≡◌, ℕ, suc, ◌+◌, ◌<◌, ◌≤◌, Bool, true, false, cond, ltb, List, [], ◌∷◌, ◌++◌, length, map, refl, ap, ◌∙◌, arith, lt-ltb, le-ltb}
 use Rattle.std.specs.List.{AllByRecursion as Each}
 use Rattle.mq_core.specs.Machine.{Visit, Emission}
 use Rattle.mq_core.specs.Handling.{demand_of_job}
@@ -73,14 +72,8 @@ busy_at-append now (x ∷ xs) ys = go (ltb now x) (busy_at-append now xs ys)
 -- departures that come later each keep a server busy
 pub busy_at-all : (now : ℕ) (times : List ℕ) → Each (λ time. now < time) times → busy_at now times ≡ length times
 busy_at-all now [] h = refl
-busy_at-all now (time ∷ times) h = ap (λ b. cond b (suc (busy_at now times)) (busy_at now times)) (later now time h.0) ∙ ap suc (busy_at-all now times h.1)
-  where
-    later : (a b : ℕ) → a < b → ltb a b ≡ true
-    later a b l = grind (arith, nat_tests)
+busy_at-all now (time ∷ times) h = ap (λ b. cond b (suc (busy_at now times)) (busy_at now times)) (lt-ltb now time h.0) ∙ ap suc (busy_at-all now times h.1)
 
 -- a departure that is past keeps none busy
 pub busy_at-past : (now time : ℕ) → time ≤ now → busy_at now (time ∷ []) ≡ 0
-busy_at-past now time l = ap (λ b. cond b 1 0) (past now time l)
-  where
-    past : (a b : ℕ) → b ≤ a → ltb a b ≡ false
-    past a b l = grind (arith, nat_tests)
+busy_at-past now time l = ap (λ b. cond b 1 0) (le-ltb now time l)
