@@ -3,6 +3,7 @@ use Rattle.mq_base.proofs.lemmas.Each.{Each-weaker}
 use Rattle.mq_core.proofs.lemmas.Plans.{ranked-few}
 use Rattle.mq_core.specs.Came.{came_of}
 use Rattle.std.proofs.Common.{◌≡◌, ◌⊎◌, inl, inr, ℕ, zero, suc, ◌+◌, ◌*◌, ◌^◌, ◌<◌, ◌≤◌, Bool, true, false, eqb, List, [], ◌∷◌, length, take, Option, Some, None, sym, refl, ap, ◌∙◌, subst, arith, eqb-true, le-ltb}
+use Rattle.std.proofs.Math.Nat.{mul-le-mul_right}
 use Rattle.std.proofs.lemmas.Bool.{cases_Bool, cases_lt}
 use Rattle.std.proofs.lemmas.List.{length-map}
 use Rattle.std.proofs.lemmas.List.Elements.{recursion_from_All}
@@ -165,12 +166,9 @@ module _ (laws : RunLaws) (plan : Plan) (rows : Rows) (read : IsReadFor plan.net
           node-by v node (last + suc rank * added) (last + rank * added) here (omega arith)
           (arrives-by rank v node (last + rank * added) (omega arith) (subst (λ n. slice_get plan.order n ≡ Some v) same index) here before)
 
-  wide : (ranks nodes add : ℕ) → ranks ≤ nodes → ranks * add ≤ nodes * add
-  wide ranks nodes add l = grind arith
-
   fine : last + length plan.net.nodes * added ≤ plan.net.bound → IsFineBelow plan rows (length plan.order)
   fine room r v node l index here =
-      let few = wide (length plan.order) (length plan.net.nodes) added (order-few plan) in
+      let few = mul-le-mul_right added (order-few plan) in
       let by = by-weaker v node (last + length plan.order * added) plan.net.bound (omega arith) (ranks-by (length plan.order) r v node l index here) in
       let late = none-late plan.net.bound v 0 (sequence_fates rows node.kind (came_of (length node.inputs) (station v).visits)) by.fates in
       ap (sequence_refusal plan.net.bound v) (laws.sequences plan rows read v node here).visits

@@ -1,6 +1,6 @@
 -- That a run ends: the weight of what is pending falls with each event.
 use Rattle.std.proofs.Common.{Bool, List, None, Option, Some, [], ap, arith, eq-eqb, eqb, eqb-true, false, length, refl, subst, suc, sym, true, zero, ℕ, ◌*◌, ◌++◌, ◌+◌, ◌-◌, ◌<◌, ◌^◌, ◌∙◌, ◌∷◌, ◌≡◌, ◌≤◌}
-use Rattle.std.proofs.Math.Nat.{mul-suc, mul_assoc, mul_comm, suc-mul}
+use Rattle.std.proofs.Math.Nat.{mul-le-mul_right, mul-suc, mul_assoc, mul_comm, suc-mul}
 use Rattle.std.proofs.lemmas.List.{append-nil}
 use Rattle.std.specs.List.{AllByRecursion as Each}
 use Rattle.std.specs.Option.{option_map}
@@ -85,14 +85,11 @@ long-enough nodes rows = grow (weight_of 8 nodes) (9 * nodes) rows (8 ^ nodes) (
   where
     grow : (w n r e : ℕ) → w ≤ n * e → w * r ≤ n * r * e
     grow w n r e l =
-        let a : w * r ≤ (n * e) * r = wide w (n * e) r l in
+        let a : w * r ≤ (n * e) * r = mul-le-mul_right r l in
         let b : (n * e) * r ≡ n * (e * r) = mul_assoc n e r in
         let c : n * (e * r) ≡ n * (r * e) = ap (λ x. n * x) (mul_comm e r) in
         let d : n * (r * e) ≡ n * r * e = sym (mul_assoc n r e) in
         omega arith
-      where
-        wide : (a b c : ℕ) → a ≤ b → a * c ≤ b * c
-        wide a b c h = grind arith
 
 -- the most that one event of the kinds lets out
 abbrev pub most : ℕ

@@ -1,5 +1,6 @@
 -- The laws of a fork.
-use Rattle.std.proofs.Common.{◌≡◌, ℕ, zero, suc, ◌*◌, ◌≤◌, true, List, [], ◌∷◌, ◌++◌, length, Option, Some, None, refl, sym, ap, arith, ◌∙◌, Bool, false, cond, eqb, eqb-true}
+use Rattle.std.proofs.Common.{◌≡◌, ℕ, zero, suc, ◌≤◌, true, List, [], ◌∷◌, ◌++◌, length, Option, Some, None, refl, sym, ap, arith, ◌∙◌, Bool, false, cond, eqb, eqb-true}
+use Rattle.std.proofs.Math.Nat.{mul-le-mul_right}
 use Rattle.mq_base.proofs.lemmas.Lists.{some_inj}
 use Rattle.mq_core.specs.Fates.{unless_lost}
 use Rattle.mq_core.specs.Handling.{latest}
@@ -58,7 +59,7 @@ fork-laws rows ports outputs =
       enters = λ v port s fs now x at f. let l = copies-few outputs now (latest (s.visits ++ x ∷ [])) (s.visits ++ x ∷ []) in omega arith;
       leaves = λ rank v server position s fs rest now first h. omega arith;
       weightless = λ onward. refl;
-      adds = λ onward v port job s visits fs now f. let a = few _ outputs onward (copies-few outputs now (latest visits) visits) in omega arith;
+      adds = λ onward v port job s visits fs now f. let a = mul-le-mul_right onward (copies-few outputs now (latest visits) visits) in omega arith;
       takes = λ onward rank v server position s fs rest now first f. absurd (no_finish rank fs rest _ f.none first);
       idle = λ v. refl;
       works = λ v area s fs now later l f h b. omega arith;
@@ -66,9 +67,6 @@ fork-laws rows ports outputs =
       busy_ends = λ rank v server position s fs rest now first h b. b;
       served = λ v s now h k. k ∙ no-service (length s.visits) _ _;
     }
-  where
-    few : (n m onward : ℕ) → n ≤ m → n * onward ≤ m * onward
-    few n m onward l = grind arith
 
 -- what is found at a position is of it
 found-position : (ms : List Emission) (q : ℕ) (m : Emission) → emission_at ms q ≡ Some m → m.position ≡ q

@@ -1,7 +1,7 @@
 -- How many jobs a fork-join holds, and how many finishes are still to come.
 use Rattle.std.proofs.Common.{◌≡◌, ◌⊎◌, inl, inr, ℕ, zero, suc, ◌+◌, ◌-◌, ◌*◌, ◌<◌, ◌≤◌, Bool, true, false, cond, eqb, ltb, eq-eqb, eqb-true, List, [], ◌∷◌, ◌++◌, length, Option, Some, None, sym, refl, ap, ◌∙◌, subst, arith, length-append, map, max, ltb-true}
 use Rattle.std.proofs.lemmas.Bool.{ltb-true, ltb-false}
-use Rattle.std.proofs.Math.Nat.{suc-mul, add-mul}
+use Rattle.std.proofs.Math.Nat.{suc-mul, add-mul, mul-le-mul_right}
 use Rattle.std.specs.Prelude.{slice_get, filter}
 use Rattle.mq_base.proofs.lemmas.Lists.{get-some}
 use Rattle.mq_core.specs.Event.{Event, earliest, sooner_of}
@@ -270,13 +270,8 @@ forkjoining-ends-falls rows demands rank onward v server position local visits e
     let few = emitted-few now (least_through local.branches) (least_through after) visits f.rose in
     add_up (most_inside after) count (most_inside local.branches) _ _ onward (let a = f.most in let b = f.most' in let c = f.high in let d = f.high' in omega arith) f.falls
   where
-    grows : (a b w : ℕ) → a ≤ b → a * w ≤ b * w
-    grows zero b w l = omega arith
-    grows (suc a) zero w l = absurd (omega arith)
-    grows (suc a) (suc b) w l = let r = grows a b w (omega arith) in let m = suc-mul a w in let k = suc-mul b w in omega arith
-
     add_up : (a c b l l' w : ℕ) → a + c ≤ b → l' + 1 ≤ l → (l' + a * w) + c * w + 1 ≤ l + b * w
-    add_up a c b l l' w h k = let s = add-mul a c w in let g = grows (a + c) b w h in omega arith
+    add_up a c b l l' w h k = let s = add-mul a c w in let g = mul-le-mul_right w h in omega arith
 
 -- a finish at a fork-join lets out no more than it takes from those inside
 pub forkjoining-ends-few : (rows : Rows) (demands : List (List Demand)) (rank : ℕ → ℕ) (v server position : ℕ) (local : Local) (visits : List Visit) (emitted : List Emission) (fs rest : List Event) (now : ℕ) → earliest rank fs ≡ Some (Finish now v server position, rest) → ForkJoining rows demands v visits local.branches emitted fs now →
