@@ -12,7 +12,7 @@ use Rattle.mq_core.specs.Handling.{latest}
 use Rattle.mq_core.specs.Kinds.Join.{has_entry, has_job, is_by, is_of, taken_out, without_first}
 use Rattle.mq_core.specs.Machine.{Emission, Visit}
 use Rattle.mq_core.proofs.Join.Entries.{by-job, by-port, count-cons, taken-each}
-use Rattle.mq_core.proofs.Join.Joinings.{Joining, of_row, of_row-push}
+use Rattle.mq_core.proofs.Join.Joinings.{Joining, of_row, row-push}
 use Rattle.mq_core.proofs.Server.Serves.{get-latest, latest-push}
 
 -- the positions of the visits of a row by a port, the first visit being at this one
@@ -139,7 +139,7 @@ module _ (ports : ℕ) (visits : List Visit) (held : List (ℕ × ℕ)) (emitted
       last = own (slice_get more (latest more)) (get-latest visits x) ∙ ap (λ n. cond (is_of job port x) (n ∷ []) []) (latest-push visits x ∙ (let same : length visits ≡ 0 + length visits = omega arith in same))
 
   owned-joined : Each (λ (e : ℕ × ℕ). (y : Visit) × (slice_get more e.1 ≡ Some y) × (y.port ≡ e.0)) joined
-  owned-joined = Each-append _ held _ (both held h.entries entered.owned) ((x, (get-latest visits x), refl), tt)
+  owned-joined = Each-append _ held _ (both held h.entries entered.owned) ((x, get-latest visits x, refl), tt)
     where
       both : (es : List (ℕ × ℕ)) → Each (λ (e : ℕ × ℕ). e.1 < length visits) es → Each (λ (e : ℕ × ℕ). (y : Visit) × (slice_get visits e.1 ≡ Some y) × (y.port ≡ e.0)) es → Each (λ (e : ℕ × ℕ). (y : Visit) × (slice_get more e.1 ≡ Some y) × (y.port ≡ e.0)) es
       both [] k o = tt
@@ -157,16 +157,13 @@ module _ (ports : ℕ) (visits : List Visit) (held : List (ℕ × ℕ)) (emitted
         owned = taken-each more x.job joined (λ (e : ℕ × ℕ). (y : Visit) × (slice_get more e.1 ≡ Some y) × (y.port ≡ e.0)) ports owned-joined;
       }
     where
-      row : (job : ℕ) (b : Bool) → (x.job == job) ≡ b → of_row job (emitted ++ m ∷ []) ≡ of_row job emitted ++ cond b (m ∷ []) []
-      row job b e = of_row-push job emitted m ∙ ap (λ c. of_row job emitted ++ cond c (m ∷ []) []) (ap (λ j. j == job) of ∙ e)
-
       front : (job port : ℕ) → port < ports → (b : Bool) → (x.job == job) ≡ b → spots (filter (is_by more job port) (taken_out more x.job ports joined)) ≡ drop (length (of_row job (emitted ++ m ∷ []))) (rowed job port 0 more)
       front job port l false e =
           ap spots (others-filter more x.job joined ports port job (λ q. let c = sym (eq-eqb x.job job q) ∙ e in cc))
-          ∙ (fronts-joined job port l ∙ ap (λ n. drop n (rowed job port 0 more)) (sym (ap length (row job false e ∙ append-nil (of_row job emitted)))))
+          ∙ (fronts-joined job port l ∙ ap (λ n. drop n (rowed job port 0 more)) (sym (ap length (row-push x.job job emitted m false of e ∙ append-nil (of_row job emitted)))))
       front job port l true e =
           let same = eqb-true x.job job e in
-          let size : length (of_row job emitted) + 1 ≡ length (of_row job (emitted ++ m ∷ [])) = (let a = ap length (row job true e) in let b = length-append (of_row job emitted) (m ∷ []) in omega arith) in
+          let size : length (of_row job emitted) + 1 ≡ length (of_row job (emitted ++ m ∷ [])) = (let a = ap length (row-push x.job job emitted m true of e) in let b = length-append (of_row job emitted) (m ∷ []) in omega arith) in
           ap (λ j. spots (filter (is_by more j port) (taken_out more x.job ports joined))) (sym same)
           ∙ (ap spots (own-filter more x.job joined ports port l)
           ∙ (ap (λ j. spots (drop 1 (filter (is_by more j port) joined))) same

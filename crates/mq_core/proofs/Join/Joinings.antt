@@ -47,6 +47,10 @@ of_row-push job (k ∷ ms) m = go (k.job == job) (of_row-push job ms m)
     go true ih = ap (λ l. k ∷ l) ih
     go false ih = ih
 
+-- an emission of this row or of another
+pub row-push : (own job : ℕ) (ms : List Emission) (m : Emission) (b : Bool) → m.job ≡ own → (own == job) ≡ b → of_row job (ms ++ m ∷ []) ≡ of_row job ms ++ cond b (m ∷ []) []
+row-push own job ms m b of e = of_row-push job ms m ∙ ap (λ c. of_row job ms ++ cond c (m ∷ []) []) (ap (λ j. j == job) of ∙ e)
+
 -- what holds of it
 pub record Joining (ports : ℕ) (visits : List Visit) (held : List (ℕ × ℕ)) (emitted : List Emission) (fs : List Event) : Type 0 where
   pub none : fs ≡ []
@@ -172,19 +176,16 @@ module _ (ports : ℕ) (visits : List Visit) (held : List (ℕ × ℕ)) (emitted
       all : (k : ℕ) → k < ports → 1 ≤ count_by (is_by more x.job k) joined
       all = matched-all more x.job ports joined matched
 
-      row : (job : ℕ) (b : Bool) → (x.job == job) ≡ b → of_row job (emitted ++ m ∷ []) ≡ of_row job emitted ++ cond b (m ∷ []) []
-      row job b e = of_row-push job emitted m ∙ ap (λ c. of_row job emitted ++ cond c (m ∷ []) []) (ap (λ j. j == job) of ∙ e)
-
       count : (job port : ℕ) → port < ports → (b : Bool) → (x.job == job) ≡ b → count_by (is_by more job port) (taken_out more x.job ports joined) + length (of_row job (emitted ++ m ∷ [])) ≡ count_by (is_of job port) more
       count job port l false e =
           let a = taken-others more x.job joined ports port job (λ q. let c = sym (eq-eqb x.job job q) ∙ e in cc) in
-          let b = ap length (row job false e ∙ append-nil (of_row job emitted)) in
+          let b = ap length (row-push x.job job emitted m false of e ∙ append-nil (of_row job emitted)) in
           let c = counts-joined job port l in
           omega arith
       count job port l true e =
           let same = eqb-true x.job job e in
           let a = taken-own more x.job joined ports all port l in
-          let r = ap length (row job true e) in
+          let r = ap length (row-push x.job job emitted m true of e) in
           let s = length-append (of_row job emitted) (m ∷ []) in
           let c = counts-joined job port l in
           let d = ap (λ j. count_by (is_by more j port) (taken_out more x.job ports joined)) same in
@@ -192,7 +193,7 @@ module _ (ports : ℕ) (visits : List Visit) (held : List (ℕ × ℕ)) (emitted
           omega arith
 
       place : (job i : ℕ) (b : Bool) → (x.job == job) ≡ b → option_map (λ (n : Emission). n.position) (slice_get (of_row job (emitted ++ m ∷ [])) i) ≡ match_of ports job i (items_of more)
-      place job i b e = ap (λ ms. option_map (λ (n : Emission). n.position) (slice_get ms i)) (row job b e) ∙ go b e (cases_lt i (length (of_row job emitted)))
+      place job i b e = ap (λ ms. option_map (λ (n : Emission). n.position) (slice_get ms i)) (row-push x.job job emitted m b of e) ∙ go b e (cases_lt i (length (of_row job emitted)))
         where
           go : (b : Bool) → (x.job == job) ≡ b → (i < length (of_row job emitted)) ⊎ (length (of_row job emitted) ≤ i) → option_map (λ (n : Emission). n.position) (slice_get (of_row job emitted ++ cond b (m ∷ []) []) i) ≡ match_of ports job i (items_of more)
           go b e (inl l) = old-place job i (cond b (m ∷ []) []) l
