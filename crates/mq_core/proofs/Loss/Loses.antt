@@ -21,7 +21,7 @@ use Rattle.mq_core.specs.declared.model.Rows.{Rows}
 use Rattle.mq_core.proofs.Events.Founds.{later-one}
 use Rattle.mq_core.proofs.Loss.LossFlow.{leaves_at, fate_if, left_if, fared, left_by, fared-push, left_by-push, count_after, has_place}
 use Rattle.mq_core.proofs.Counting.Reordered.{in_order-push}
-use Rattle.mq_core.proofs.Server.Serves.{latest-push, queues_up-releases, pair-inj}
+use Rattle.mq_core.proofs.Server.Serves.{latest-push, queues_up-releases, pair-inj, get-latest}
 
 -- the last of some departures, behind one at this time
 abbrev pub last_of : ℕ → List Emission → ℕ
@@ -183,6 +183,11 @@ module _ (rows : Rows) (places : ℕ) (demand : Demand) (v : ℕ) (visits : List
       ∙ (count_later-all now h.coming coming-later
       ∙ (sym (length-map h.coming (λ (m : Emission). m.position)) ∙ ap length (sym h.waiting))))
 
+  -- what is still to leave stays so behind a visit that comes now
+  still-to_leave : (x : Visit) → x.arrive ≡ now → (ms : List Emission) → Each (λ (k : Emission). now < k.time) ms → Each (ToLeave visits) ms → Each (ToLeave (visits ++ x ∷ [])) ms
+  still-to_leave x at [] p q = tt
+  still-to_leave x at (k ∷ ms) p q = (to_leave-push visits x k (let l = p.0 in omega arith) q.0, still-to_leave x at ms p.1 q.1)
+
   -- an arrival that is admitted
   losing-queues_up : (local : Local) (x : Visit) → x.arrive ≡ now → ltb (length queue) places ≡ true →
       Losing rows places demand v (visits ++ x ∷ [])
@@ -205,7 +210,7 @@ module _ (rows : Rows) (places : ℕ) (demand : Demand) (v : ℕ) (visits : List
         past = h.past;
         last = last_of-push h.done h.coming m ∙ ap (λ l. time_or_none (slice_get l 0)) (sym departed);
         chain = behind h.coming h.chain leaves-last;
-        held = Each-append _ h.coming (m ∷ []) (Each-both' h.coming coming-later h.held) (own, tt);
+        held = Each-append _ h.coming (m ∷ []) (still-to_leave x at h.coming coming-later h.held) (own, tt);
         taken = λ k l. ap (count_after k) departed ∙ (ap (λ n. cond (ltb k time) 1 0 + n) (h.taken k l) ∙ sym (count_later-push k h.coming m));
       }
     where
@@ -254,10 +259,6 @@ module _ (rows : Rows) (places : ℕ) (demand : Demand) (v : ℕ) (visits : List
       behind [] c e = tt
       behind (k ∷ ms) c e = chained-push rows demand k.time ms m (e ms k refl) c
 
-      Each-both' : (ms : List Emission) → Each (λ (k : Emission). now < k.time) ms → Each (ToLeave visits) ms → Each (ToLeave (visits ++ x ∷ [])) ms
-      Each-both' [] p q = tt
-      Each-both' (k ∷ ms) p q = (to_leave-push visits x k (let l = p.0 in omega arith) q.0, Each-both' ms p.1 q.1)
-
       own : ToLeave (visits ++ x ∷ []) m
       own =
           record {
@@ -299,7 +300,7 @@ module _ (rows : Rows) (places : ℕ) (demand : Demand) (v : ℕ) (visits : List
         past = h.past;
         last = h.last ∙ ap (λ l. time_or_none (slice_get l 0)) (sym departed);
         chain = h.chain;
-        held = held h.coming coming-later h.held;
+        held = still-to_leave x at h.coming coming-later h.held;
         taken = λ k l. ap (count_after k) departed ∙ h.taken k l;
       }
     where
@@ -321,12 +322,8 @@ module _ (rows : Rows) (places : ℕ) (demand : Demand) (v : ℕ) (visits : List
       one : emitted ++ emissions_of now (visits ++ x ∷ []) (record { out = 1; position = latest (visits ++ x ∷ []) } ∷ []) ≡ emitted ++ m ∷ []
       one =
           let p : latest (visits ++ x ∷ []) ≡ length visits = latest-push visits x in
-          ap (λ o. emitted ++ (emission_of now 1 (latest (visits ++ x ∷ [])) o ++ [])) (ap (slice_get (visits ++ x ∷ [])) p ∙ get-last visits x)
+          ap (λ o. emitted ++ (emission_of now 1 (latest (visits ++ x ∷ [])) o ++ [])) (get-latest visits x)
           ∙ (λ i. emitted ++ record { out = 1; position = p i; job = x.job; time = sym at i } ∷ [])
-
-      held : (ms : List Emission) → Each (λ (k : Emission). now < k.time) ms → Each (ToLeave visits) ms → Each (ToLeave (visits ++ x ∷ [])) ms
-      held [] p q = tt
-      held (k ∷ ms) p q = (to_leave-push visits x k (let l = p.0 in omega arith) q.0, held ms p.1 q.1)
 
 -- an arrival at a loss station
 pub losing-arrives : (rows : Rows) (places : ℕ) (demand : Demand) (v port : ℕ) (local : Local) (visits : List Visit) (emitted : List Emission) (fs : List Event) (now : ℕ) (x : Visit) → x.arrive ≡ now → Each (λ f. now < time_of f) fs → Losing rows places demand v visits local.queue emitted fs now →

@@ -1,13 +1,12 @@
 -- A node that sends each job on at once.
 use Rattle.std.proofs.Common.{List, Some, [], ap, arith, length, subst, suc, sym, ℕ, ◌++◌, ◌+◌, ◌∙◌, ◌∷◌, ◌≡◌}
 use Rattle.std.proofs.lemmas.List.{append-nil}
-use Rattle.std.specs.Prelude.{slice_get}
 use Rattle.mq_core.specs.Event.{Event, earliest}
 use Rattle.mq_core.specs.Handling.{latest}
 use Rattle.mq_core.specs.Local.{Local}
 use Rattle.mq_core.specs.Machine.{Emission, Reaction, Station, Visit, emission_of, emissions_of}
 use Rattle.mq_core.specs.Emitting.{passed_from}
-use Rattle.mq_core.proofs.Server.Serves.{latest-push, slice_get-middle}
+use Rattle.mq_core.proofs.Server.Serves.{get-latest, latest-push}
 
 -- every visit went on at once, and nothing is pending
 pub record Passing (out : Visit → ℕ → ℕ) (visits : List Visit) (emitted : List Emission) (fs : List Event) : Type 0 where
@@ -26,10 +25,9 @@ pub passing-arrives : (out : Visit → ℕ → ℕ) (v now by : ℕ) (visits : L
 passing-arrives out v now by visits emitted fs x at where' h =
     let index : latest (visits ++ x ∷ []) ≡ length visits = latest-push visits x in
     let same : length visits ≡ 0 + length visits = omega arith in
-    let middle : slice_get (visits ++ x ∷ []) (latest (visits ++ x ∷ [])) ≡ Some x = ap (slice_get (visits ++ x ∷ [])) index ∙ slice_get-middle visits [] x in
     record {
       left =
-          ap (λ o. emitted ++ (emission_of now by (latest (visits ++ x ∷ [])) o ++ [])) middle
+          ap (λ o. emitted ++ (emission_of now by (latest (visits ++ x ∷ [])) o ++ [])) (get-latest visits x)
           ∙ (ap (λ l. l ++ record { out = by; position = latest (visits ++ x ∷ []); job = x.job; time = now } ∷ []) h.left
           ∙ (ap (λ (p : ℕ × ℕ × ℕ). passed_from out 0 visits ++ record { out = p.0; position = p.1; job = x.job; time = p.2 } ∷ []) (λ i. (((where' ∙ ap (out x) (index ∙ same)) i), ((index ∙ same) i), (sym at) i))
           ∙ sym (passed_from-push out 0 visits x)));

@@ -2,10 +2,9 @@
 use Rattle.std.proofs.Common.{◌≡◌, ◌⊎◌, inl, inr, ℕ, suc, ◌+◌, ◌<◌, ◌≤◌, Bool, true, false, cond, eqb, ltb, List, [], ◌∷◌, ◌++◌, length, map, Some, sym, refl, ap, ◌∙◌, subst, arith, length-append, eqb-true, ne_eqb}
 use Rattle.std.proofs.lemmas.List.{append-nil, length-map, map-append}
 use Rattle.std.proofs.lemmas.List.Elements.{filter-append}
-use Rattle.std.specs.Prelude.{filter, not, slice_get}
+use Rattle.std.specs.Prelude.{filter, not}
 use Rattle.std.specs.List.{AllByRecursion as Each}
 use Rattle.mq_base.proofs.lemmas.Each.{Each-append, Each-both, Each-map, Each-weaker, filter-none, filter-no}
-use Rattle.mq_base.proofs.lemmas.Lists.{get-last}
 use Rattle.mq_core.specs.Event.{Event, time_of, earliest}
 use Rattle.mq_core.specs.Event.Event.{Arrive, Finish}
 use Rattle.mq_core.specs.Machine.{Visit, Emission, finishes_of, emissions_of, emission_of}
@@ -23,7 +22,7 @@ use Rattle.mq_core.proofs.Events.Areas.{sum-same}
 use Rattle.mq_core.proofs.Events.EmissionsAt.{found-behind, other-behind, unknown}
 use Rattle.mq_core.proofs.Events.Pending.{Splits, earliest-splits}
 use Rattle.mq_core.proofs.Loss.LossFlow.{fate_if, left_if}
-use Rattle.mq_core.proofs.Server.Serves.{latest-push}
+use Rattle.mq_core.proofs.Server.Serves.{get-latest, latest-push}
 use Rattle.mq_core.proofs.Trunk.TrunkFlow.{busy_at-all, busy_at-append, busy_at-past, faring-push, served_by, trunk_flow, trunk_left, trunk_left-push}
 use Rattle.mq_core.proofs.lemmas.Rising.{Rises-append}
 
@@ -81,7 +80,7 @@ scheduling-passes flow v visits scheduled emitted fs now x at soon h =
     one : emitted ++ emissions_of now (visits ++ x ∷ []) (record { out = 1; position = latest (visits ++ x ∷ []) } ∷ []) ≡ emitted ++ m ∷ []
     one =
         let p : latest (visits ++ x ∷ []) ≡ length visits = latest-push visits x in
-        ap (λ o. emitted ++ (emission_of now 1 (latest (visits ++ x ∷ [])) o ++ [])) (ap (slice_get (visits ++ x ∷ [])) p ∙ get-last visits x)
+        ap (λ o. emitted ++ (emission_of now 1 (latest (visits ++ x ∷ [])) o ++ [])) (get-latest visits x)
         ∙ (λ i. emitted ++ record { out = 1; position = p i; job = x.job; time = sym at i } ∷ [])
 
     -- nothing that is still to leave does so as this leaves
@@ -148,7 +147,7 @@ module _ (rows : Rows) (servers : ℕ) (demand : Demand) (v : ℕ) (visits : Lis
 
         moment : now + demand_at rows demand (visits ++ x ∷ []) (latest (visits ++ x ∷ [])) ≡ served_by rows demand x
         moment =
-            ap (λ o. now + demand_of_visit rows demand o) (ap (slice_get (visits ++ x ∷ [])) (latest-push visits x) ∙ get-last visits x)
+            ap (λ o. now + demand_of_visit rows demand o) (get-latest visits x)
             ∙ ap (λ n. n + demand_of_job rows demand x.job) (sym at)
 
     -- an arrival that finds none
