@@ -1,5 +1,5 @@
 -- A branch of a fork-join between two events: servers in series.
-use Rattle.std.proofs.Common.{◌≡◌, ◌⊎◌, ℕ, zero, suc, ◌+◌, ◌≤◌, Bool, false, eqb, eq-eqb, eqb-true, List, [], ◌∷◌, ◌++◌, length, Some, sym, refl, ap, ◌∙◌, subst, arith, append_assoc, length-append, max}
+use Rattle.std.proofs.Common.{◌≡◌, ◌⊎◌, ℕ, zero, suc, ◌+◌, ◌≤◌, Bool, false, eqb, eq-eqb, eqb-true, List, [], ◌∷◌, ◌++◌, length, Some, sym, refl, ap, ◌∙◌, subst, arith, append_assoc, length-append}
 use Rattle.std.proofs.lemmas.List.{map-append}
 use Rattle.std.proofs.lemmas.List.Elements.{filter-append}
 use Rattle.std.specs.Prelude.{slice_get, filter, ◌==◌}
@@ -12,7 +12,7 @@ use Rattle.mq_core.specs.Handling.{demand_of_job, demand_at, begins_at, begins_a
 use Rattle.mq_core.specs.Kinds.Server.{served}
 use Rattle.mq_core.specs.declared.model.Demand.{Demand}
 use Rattle.mq_core.specs.declared.model.Rows.{Rows}
-use Rattle.mq_core.proofs.Server.Serves.{last_served, last_served-push, length-push, max-least, positions, positions-push, pair-inj, slice_get-middle}
+use Rattle.mq_core.proofs.Server.Serves.{last_served, last_served-push, length-push, max-least, positions, positions-push, pair-inj, slice_get-middle, max-last}
 
 -- a finish of this server
 abbrev pub is_at_server : ℕ → Event → Bool
@@ -139,11 +139,8 @@ module _ (rows : Rows) (v : ℕ) where
   next-begins all demand now server visits gone (z ∷ zs) asks p l c =
       let own = asks demand (length gone) z (ap (λ l. slice_get l (length gone)) p ∙ slice_get-middle gone zs z) in
       let low : z.arrive ≤ now = c.0 in
-      let time : now + demand_at rows demand all (length gone) ≡ served rows demand (last_served rows demand 0 gone) z = ap (λ d. now + d) own ∙ ap (λ m. m + demand_of_job rows demand z.job) (sym (max_last z.arrive (last_served rows demand 0 gone) now l low)) in
+      let time : now + demand_at rows demand all (length gone) ≡ served rows demand (last_served rows demand 0 gone) z = ap (λ d. now + d) own ∙ ap (λ m. m + demand_of_job rows demand z.job) (sym (max-last z.arrive (last_served rows demand 0 gone) now l low)) in
       λ i. Finish (time i) v server (length gone) ∷ []
-    where
-      max_last : (a b n : ℕ) → b ≡ n → a ≤ n → max a b ≡ n
-      max_last a b n e h = omega arith
 
   -- the front leaves a server
   pub stands-ends : (all : List Visit) (rank : ℕ → ℕ) (demand : Demand) (now server finished position : ℕ) (visits : List Visit) (queue : List ℕ) (gone ys : List Visit) (y : Visit) (old pend new : List Event) → Asks rows all visits → earliest rank old ≡ Some (Finish now v finished position, pend) →

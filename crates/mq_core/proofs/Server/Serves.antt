@@ -107,6 +107,9 @@ queues_up-releases rows demand visits local now (front ∷ queue) position = ref
 pub max-least : (a b : ℕ) → b ≤ a → max a b ≡ a
 max-least a b h = omega arith
 
+pub max-last : (a b n : ℕ) → b ≡ n → a ≤ n → max a b ≡ n
+max-last a b n e h = omega arith
+
 pub demand_of-push : (rows : Rows) (demand : Demand) (visits : List Visit) (x : Visit) → demand_at rows demand (visits ++ x ∷ []) (length visits) ≡ demand_of_job rows demand x.job
 demand_of-push rows demand visits x = ap (demand_of_visit rows demand) (slice_get-middle visits [] x)
 
@@ -161,11 +164,8 @@ next-begins rows demand v visits now gone (z ∷ zs) p l c =
     let middle : slice_get visits (length gone) ≡ Some z = ap (λ l. slice_get l (length gone)) p ∙ slice_get-middle gone zs z in
     let low : z.arrive ≤ now = c.0 in
     let time : now + demand_at rows demand visits (length gone) ≡ served rows demand (last_served rows demand 0 gone) z =
-    ap (λ o. now + demand_of_visit rows demand o) middle ∙ ap (λ m. m + demand_of_job rows demand z.job) (sym (max_last z.arrive (last_served rows demand 0 gone) now l low)) in
+    ap (λ o. now + demand_of_visit rows demand o) middle ∙ ap (λ m. m + demand_of_job rows demand z.job) (sym (max-last z.arrive (last_served rows demand 0 gone) now l low)) in
     λ i. Finish (time i) v 0 (length gone) ∷ []
-  where
-    max_last : (a b n : ℕ) → b ≡ n → a ≤ n → max a b ≡ n
-    max_last a b n e h = omega arith
 
 -- a finish at a server
 pub serving-ends : (rows : Rows) (demand : Demand) (rank : ℕ → ℕ) (v server position : ℕ) (local : Local) (visits : List Visit) (queue : List ℕ) (emitted : List Emission) (fs rest : List Event) (now : ℕ) → earliest rank fs ≡ Some (Finish now v server position, rest) → Serving rows demand v visits queue emitted fs now →
