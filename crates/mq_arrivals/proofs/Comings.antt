@@ -293,10 +293,6 @@ HasComeBy k arrived = HasCome k.0 arrived.number k.1 (stream_in arrived.arrivals
 abbrev pub AreMerging : List Coming → List Coming → List (List Stream) → List Arrived → Type 0
 AreMerging = ArePassing coming_size coming_piece (λ coming. IsReadyOrigin coming.origin) (λ arrived. Unit {0}) IsComingBy HasComeBy
 
--- without its last a list is shorter
-pub last-shorter : {X : Type 0} (xs rest : List X) (x : X) → xs ≡ rest ++ x ∷ [] → length rest < length xs
-last-shorter xs rest x e = let all = ap length e in let more = length-append rest (x ∷ []) in omega arith
-
 pub comings-few : (s : Arriving) (ports : ℕ) (comings : List Coming) → length comings ≤ 64 → Each (IsComing s ports) comings → total_size coming_size comings < 2 ^ 32
 comings-few s ports comings few each =
     let most = total-most 1048576 coming_size comings (Each-weaker (IsComing s ports) _ (λ c h. one c.number c.origin h.origin h.few) comings each) in

@@ -167,10 +167,6 @@ snoc-inj (a ∷ xs) (b ∷ ys) x y h =
     let rest = snoc-inj xs ys x y parts.1 in
     ((λ k. parts.0 k ∷ rest.0 k), rest.1)
 
--- without its last a list is shorter
-pub last-shorter : {X : Type 0} (xs rest : List X) (x : X) → xs ≡ rest ++ x ∷ [] → length rest < length xs
-last-shorter xs rest x e = let count = ap length e in let more = length-append rest (x ∷ []) in omega arith
-
 -- what is kept while branches are put to those behind the tier, from the back
 pub record AreAdvancing (arrive : List ℕ) (demands : List (List (List ℕ))) (server : ℕ) (branches : List Branch) (lists : List (List ℕ)) (done : Passage) : Type 0 where
   pub running : AllByRecursion (IsRunning arrive server) branches

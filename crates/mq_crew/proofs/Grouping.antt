@@ -5,6 +5,7 @@ use Rattle.std.proofs.lemmas.Bool.{cases_lt}
 use Rattle.std.proofs.lemmas.List.{get_or-drop, get_or-take, length-take-le}
 use Rattle.std.proofs.lemmas.Option.{slice_get_within}
 use Rattle.std.proofs.Math.Seq.{drop-cons}
+use Rattle.mq_base.proofs.lemmas.Lists.{get-last, get-push, get-take}
 use Rattle.mq_crew.specs.Crew.{AreAll, AreGroups, IsPieceOf, total_size}
 
 -- one item more, of what is taken
@@ -59,16 +60,9 @@ module _ {P X : Type 0} (size : P → ℕ) (is_piece : P → ℕ → X → Type 
       let count = all.len in
       record {
         len = let h = ap length e ∙ length-append groups (group ∷ []) in omega arith;
-        each = λ k other g a b. go k other g (slice_get-front parts (i + 1) k other a) (ap (λ l. slice_get l k) (sym e) ∙ b) (cases_lt k i);
+        each = λ k other g a b. go k other g (get-take parts (i + 1) k other a) (ap (λ l. slice_get l k) (sym e) ∙ b) (cases_lt k i);
       }
     where
-      slice_get-front : {Y : Type 0} (xs : List Y) (n k : ℕ) (y : Y) → slice_get (take n xs) k ≡ Some y → (k < n) × (slice_get xs k ≡ Some y)
-      slice_get-front [] zero k y h = absurd cc
-      slice_get-front [] (suc n) k y h = absurd cc
-      slice_get-front (x ∷ xs) zero k y h = absurd cc
-      slice_get-front (x ∷ xs) (suc n) zero y h = (omega arith, h)
-      slice_get-front (x ∷ xs) (suc n) (suc k) y h = let r = slice_get-front xs n k y h in (let l = r.0 in omega arith, r.1)
-
       slice_get-take : {Y : Type 0} (xs : List Y) (n k : ℕ) → k < n → slice_get (take n xs) k ≡ slice_get xs k
       slice_get-take [] zero k l = refl
       slice_get-take [] (suc n) k l = refl
@@ -76,21 +70,12 @@ module _ {P X : Type 0} (size : P → ℕ) (is_piece : P → ℕ → X → Type 
       slice_get-take (x ∷ xs) (suc n) zero l = refl
       slice_get-take (x ∷ xs) (suc n) (suc k) l = slice_get-take xs n k (omega arith)
 
-      append-before : {Y : Type 0} (xs : List Y) (y : Y) (k : ℕ) → k < length xs → slice_get (xs ++ y ∷ []) k ≡ slice_get xs k
-      append-before [] y k l = absurd (omega arith)
-      append-before (x ∷ xs) y zero l = refl
-      append-before (x ∷ xs) y (suc k) l = append-before xs y k (omega arith)
-
-      append-at : {Y : Type 0} (xs : List Y) (y : Y) → slice_get (xs ++ y ∷ []) (length xs) ≡ Some y
-      append-at [] y = refl
-      append-at (x ∷ xs) y = append-at xs y
-
       go : (k : ℕ) (other : P) (g : List X) → (k < i + 1) × (slice_get parts k ≡ Some other) → slice_get (groups ++ group ∷ []) k ≡ Some g → (k < i) ⊎ (i ≤ k) → AreAll (is_piece other) (size other) g
       go k other g a b (inl less) =
           let long = slice_get_within parts i part at in
           let before : length (take i parts) ≡ i = length-take-le i parts (omega arith) in
           let count = all.len in
-          all.each k other g (slice_get-take parts i k less ∙ a.1) (sym (append-before groups group k (omega arith)) ∙ b)
+          all.each k other g (slice_get-take parts i k less ∙ a.1) (sym (get-push groups group k (omega arith)) ∙ b)
       go k other g a b (inr more) =
           let l = a.0 in
           let same : k ≡ i = omega arith in
@@ -98,7 +83,7 @@ module _ {P X : Type 0} (size : P → ℕ) (is_piece : P → ℕ → X → Type 
           let before : length (take i parts) ≡ i = length-take-le i parts (omega arith) in
           let count : length groups ≡ i = all.len ∙ before in
           let is-part : Some part ≡ Some other = sym at ∙ (ap (slice_get parts) (sym same) ∙ a.1) in
-          let is-group : Some group ≡ Some g = sym (append-at groups group) ∙ (ap (slice_get (groups ++ group ∷ [])) (count ∙ sym same) ∙ b) in
+          let is-group : Some group ≡ Some g = sym (get-last groups group) ∙ (ap (slice_get (groups ++ group ∷ [])) (count ∙ sym same) ∙ b) in
           let p : part ≡ other = cc in
           let q : group ≡ g = cc in
           subst (λ (z : P × List X). AreAll (is_piece z.0) (size z.0) z.1) (λ j. (p j, q j)) own

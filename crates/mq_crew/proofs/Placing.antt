@@ -6,7 +6,7 @@ use Rattle.std.proofs.Math.ListN.{get_or-append}
 use Rattle.std.proofs.lemmas.List.Elements.{Contains-append_cases, Contains-append_left, Contains-append_right, All-contains}
 use native.Mathlib.Decide.{ℕ_discrete}
 use mathlib.Core.Logic.{dite}
-use Rattle.mq_base.proofs.lemmas.Lists.{only}
+use Rattle.mq_base.proofs.lemmas.Lists.{only, some_inj}
 use Rattle.mq_crew.specs.Crew.{numbers}
 
 All-front : {Y : Type 0} (P : Y → Type 0) (xs ys : List Y) → All P (xs ++ ys) → All P xs
@@ -16,9 +16,6 @@ All-front P (x ∷ xs) ys h (suc k) d lt = All-front P xs ys (λ j e l. h (suc j
 
 last-in : {Y : Type 0} (xs : List Y) (y : Y) → Contains (xs ++ y ∷ []) y
 last-in xs y = Contains-append_right xs (y ∷ []) y (0, omega arith, refl)
-
-Some-inj : {Y : Type 0} (a b : Y) → Some a ≡ Some b → a ≡ b
-Some-inj a b e = cc
 
 none-some : {Y : Type 0} (a : Y) → None ≡ Some a → ⊥
 none-some a e = cc
@@ -53,7 +50,7 @@ module _ {X : Type 0} (count : ℕ) (all : List (ℕ × X)) where
             (λ h. ⊎_elim (λ l. inl l) (λ r. absurd (ne (only n x r))) (Contains-append_cases (numbers left) (n ∷ []) x (subst (λ xs. Contains xs x) (map-append (λ (q : ℕ × X). q.0) left ((n, p) ∷ [])) h)))
             (λ h. inr (subst IsSome (sym (get_or-set_other slots n x (Some p) None ne)) h)) (w.filled x lt));
         own = λ x q e. dite (ℕ_discrete x n)
-            (λ eq. let same : p ≡ q = Some-inj p q (sym here ∙ (ap (λ (k : ℕ). get_or (set slots n (Some p)) k None) (sym eq) ∙ e)) in
+            (λ eq. let same : p ≡ q = some_inj p q (sym here ∙ (ap (λ (k : ℕ). get_or (set slots n (Some p)) k None) (sym eq) ∙ e)) in
             subst (λ xs. Contains xs (x, q)) (sym more) (Contains-append_left (left ++ (n, p) ∷ []) w.rest.0 (x, q) (subst (λ (z : ℕ × X). Contains (left ++ (n, p) ∷ []) z) (λ i. (sym eq i, same i)) (last-in left (n, p)))))
             (λ ne. w.own x q (sym (get_or-set_other slots n x (Some p) None ne) ∙ e));
       }

@@ -11,9 +11,7 @@ use Rattle.mq_core.specs.declared.model.Stream.{Stream}
 use Rattle.mq_engine.specs.Progress.{AreEarly}
 use Rattle.mq_arrivals.specs.Arrivals.{Pairs, pairs_by, pairs_in, pairs_read}
 use Rattle.mq_base.proofs.lemmas.Zips.{zip-first}
-
-abbrev pub EarlyTimes : List ℕ → Type 0
-EarlyTimes times = Each (λ time. time ≤ 2 ^ 60) times
+use Rattle.mq_exits.proofs.Early.{EarlyTimes}
 
 abbrev pub EarlyPairs : Pairs → Type 0
 EarlyPairs pairs = Each (λ (p : ℕ × ℕ). p.0 ≤ 2 ^ 60) pairs

@@ -5,7 +5,7 @@ use Rattle.std.specs.Option.{option_map}
 use Rattle.std.specs.List.{list_all}
 use Rattle.std.proofs.lemmas.Bool.{cases_lt}
 use Rattle.std.proofs.lemmas.Option.{slice_get-map, slice_get_within}
-use Rattle.mq_base.proofs.lemmas.Lists.{some_inj}
+use Rattle.mq_base.proofs.lemmas.Lists.{get-some, get-take, some_inj}
 use Rattle.mq_core.specs.Sequences.{IsRunOf}
 use Rattle.mq_core.specs.NumberLaws.{IsFineBelow}
 use Rattle.mq_core.specs.Results.{refusal_of}
@@ -23,7 +23,7 @@ use Rattle.mq_stations.specs.declared.late.OverFault.{OverFault}
 use Rattle.mq_stations.specs.declared.late.PastFault.{PastFault}
 use Rattle.mq_engine.specs.declared.progress.Stand.{Stand}
 use Rattle.mq_engine.specs.declared.progress.Stand.TheVariants.{Waiting, Done, Crowded, Late}
-use Rattle.mq_engine.proofs.Lists.{filter-none, get-some, get-take, has-index}
+use Rattle.mq_engine.proofs.Lists.{filter-none, has-index}
 
 all-pass : {X : Type 0} (test : X → Bool) (xs : List X) → ((k : ℕ) (x : X) → slice_get xs k ≡ Some x → test x ≡ true) → list_all test xs ≡ true
 all-pass test [] h = refl

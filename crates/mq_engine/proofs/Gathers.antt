@@ -6,6 +6,7 @@ use Rattle.std.specs.Option.{option_map}
 use Rattle.std.proofs.lemmas.List.{append-nil, length-map}
 use Rattle.std.proofs.lemmas.Option.{slice_get_within}
 use Rattle.mq_base.proofs.lemmas.Lists.{some_inj, take-all}
+use Rattle.mq_exits.proofs.Early.{EarlyTimes}
 use Rattle.mq_core.proofs.lemmas.Orders.{in_order_of-length}
 use Rattle.mq_core.proofs.lemmas.Rising.{in_order_of-append_left}
 use Rattle.mq_core.specs.Alone.{came}
@@ -45,7 +46,7 @@ use Rattle.mq_exits.specs.Results.{IsKnown}
 use Rattle.mq_exits.specs.declared.working.Ending.{Ending}
 use Rattle.mq_exits.specs.declared.working.Ending.TheVariants.{OnTime, TooMany, TooLate}
 use Rattle.mq_arrivals.proofs.Comings.{pairs-length}
-use Rattle.mq_engine.proofs.Early.{EarlyTimes, stream-early}
+use Rattle.mq_engine.proofs.Early.{stream-early}
 use Rattle.mq_engine.proofs.Waves.{arriving-early}
 use Rattle.mq_exits.proofs.Known.{left-ordered, refusal-few}
 

@@ -1,7 +1,7 @@
 -- Lists by index, and what a loop has made of one so far.
-use Rattle.std.proofs.Common.{◌==◌, ◌||◌, ◌&&◌, ◌≡◌, ◌≢◌, ℕ, zero, suc, ◌+◌, ◌<◌, Bool, true, false, cond, IsTrue, List, [], ◌∷◌, ◌++◌, length, set, take, Some, sym, refl, ap, ◌∙◌, arith, eqb-true}
+use Rattle.std.proofs.Common.{◌==◌, ◌||◌, ◌&&◌, ◌≡◌, ℕ, zero, suc, ◌+◌, Bool, true, false, cond, IsTrue, List, [], ◌∷◌, ◌++◌, length, take, Some, sym, refl, ap, ◌∙◌, arith, eqb-true}
 use Rattle.std.specs.Prelude.{filter, slice_get}
-use Rattle.std.specs.List.{AllByRecursion as Each, list_all, zip}
+use Rattle.std.specs.List.{AllByRecursion as Each, list_all}
 use Rattle.std.proofs.lemmas.Bool.{and_parts}
 use Rattle.std.proofs.lemmas.List.Folds.{list_all_at, list_all_more}
 use Rattle.std.proofs.lemmas.Option.{get_or_from_slice_get, slice_get_within}
@@ -13,29 +13,10 @@ pub Each-at : {X : Type 0} (P : X → Type 0) (xs : List X) → ((k : ℕ) (x : 
 Each-at P [] h = tt
 Each-at P (x ∷ xs) h = (h zero x refl, Each-at P xs (λ k y e. h (suc k) y e))
 
--- what stands at an index
-pub get-some : {X : Type 0} (xs : List X) (i : ℕ) → i < length xs → (x : X) × (slice_get xs i ≡ Some x)
-get-some [] i l = absurd (omega arith)
-get-some (x ∷ xs) zero l = (x, refl)
-get-some (x ∷ xs) (suc i) l = get-some xs i (omega arith)
-
 -- a list of no length has no items
 pub no-items : {X : Type 0} (xs : List X) → length xs ≡ 0 → xs ≡ []
 no-items [] h = refl
 no-items (x ∷ xs) h = absurd (omega arith)
-
--- an index that is written
-pub get-set_same : {X : Type 0} (xs : List X) (i : ℕ) (x : X) → i < length xs → slice_get (set xs i x) i ≡ Some x
-get-set_same [] i x l = absurd (omega arith)
-get-set_same (y ∷ ys) zero x l = refl
-get-set_same (y ∷ ys) (suc i) x l = get-set_same ys i x (omega arith)
-
-pub get-set_other : {X : Type 0} (xs : List X) (i j : ℕ) (x : X) → j ≢ i → slice_get (set xs i x) j ≡ slice_get xs j
-get-set_other [] i j x l = refl
-get-set_other (y ∷ ys) zero zero x l = absurd (l refl)
-get-set_other (y ∷ ys) zero (suc j) x l = refl
-get-set_other (y ∷ ys) (suc i) zero x l = refl
-get-set_other (y ∷ ys) (suc i) (suc j) x l = get-set_other ys i j x (λ e. l (ap suc e))
 
 -- what a list has, and what its front has
 pub has-index : (xs : List ℕ) (n : ℕ) → IsTrue (has xs n) → (q : ℕ) × (slice_get xs q ≡ Some n)
@@ -45,19 +26,6 @@ has-index (m ∷ ms) n h = go (m == n) refl (λ k. has-index ms n k) h
     go : (b : Bool) → (m == n) ≡ b → (IsTrue (has ms n) → (q : ℕ) × (slice_get ms q ≡ Some n)) → IsTrue (b || has ms n) → (q : ℕ) × (slice_get (m ∷ ms) q ≡ Some n)
     go true e ih k = (0, ap Some (eqb-true m n e))
     go false e ih k = (suc (ih k).0, (ih k).1)
-
-pub get-take : {X : Type 0} (xs : List X) (rank q : ℕ) (x : X) → slice_get (take rank xs) q ≡ Some x → (q < rank) × (slice_get xs q ≡ Some x)
-get-take [] zero q x h = absurd cc
-get-take [] (suc rank) q x h = absurd cc
-get-take (y ∷ ys) zero q x h = absurd cc
-get-take (y ∷ ys) (suc rank) zero x h = (omega arith, h)
-get-take (y ∷ ys) (suc rank) (suc q) x h = let r = get-take ys rank q x h in (let l = r.0 in omega arith, r.1)
-
--- how long a zip is
-pub zip-length : (ts js : List ℕ) → length js ≡ length ts → length (zip ts js) ≡ length ts
-zip-length [] js h = refl
-zip-length (t ∷ ts) [] h = absurd (omega arith)
-zip-length (t ∷ ts) (j ∷ js) h = let rest = zip-length ts js (omega arith) in omega arith
 
 -- what all pass, each passes
 pub all-get : {X : Type 0} (test : X → Bool) (xs : List X) (k : ℕ) (x : X) → list_all test xs ≡ true → slice_get xs k ≡ Some x → test x ≡ true

@@ -5,7 +5,7 @@ use Rattle.std.specs.List.{AllByRecursion as Each, flat_map}
 use Rattle.std.proofs.lemmas.List.{length-map}
 use Rattle.std.proofs.lemmas.Option.{slice_get-get_or}
 use Rattle.mq_base.proofs.lemmas.Each.{Each-append, Each-weaker}
-use Rattle.mq_base.proofs.lemmas.Lists.{some_inj, take-all}
+use Rattle.mq_base.proofs.lemmas.Lists.{get-some, some_inj, take-all}
 use Rattle.mq_core.proofs.lemmas.Orders.{in_order_of-length}
 use Rattle.mq_core.specs.SequenceLaws.{arrives_of, jobs_of, sends_once}
 use Rattle.mq_core.specs.Sequences.{IsStream, rows_at}
@@ -33,9 +33,9 @@ use Rattle.mq_arrivals.specs.declared.nodes.Arriving.{Arriving}
 use Rattle.mq_exits.specs.declared.working.Ending.TheVariants.{TooMany}
 use Rattle.mq_exits.specs.declared.working.NodeResult.{NodeResult}
 use Rattle.mq_base.proofs.lemmas.FlatMaps.{flat_map-more}
+use Rattle.mq_base.proofs.lemmas.Zips.{zip-length}
 use Rattle.mq_arrivals.proofs.Comings.{pairs-length}
 use Rattle.mq_exits.proofs.Known.{refusal-many}
-use Rattle.mq_engine.proofs.Lists.{get-some, zip-length}
 use Rattle.mq_engine.proofs.Waves.{can-come}
 
 -- the item at an index of a list is in it

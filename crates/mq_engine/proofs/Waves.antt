@@ -7,8 +7,9 @@ use Rattle.std.proofs.lemmas.Bool.Decides.{nat_tests}
 use Rattle.std.proofs.lemmas.List.{length-map, length-set}
 use Rattle.std.proofs.lemmas.Option.{slice_get-get_or, slice_get_within}
 use Rattle.mq_base.proofs.lemmas.FlatMaps.{flat_map-same}
-use Rattle.mq_base.proofs.lemmas.Lists.{some_inj}
-use Rattle.mq_base.proofs.lemmas.Zips.{zip-jobs, zip-times}
+use Rattle.mq_base.proofs.lemmas.Lists.{get-set_other, get-set_same, get-some, some_inj}
+use Rattle.mq_base.proofs.lemmas.Zips.{zip-jobs, zip-length, zip-times}
+use Rattle.mq_stations.proofs.lemmas.Leaves.{once-leaves}
 use Rattle.mq_core.proofs.lemmas.Orders.{in_order_of-length}
 use Rattle.mq_core.specs.Alone.{came as came_at}
 use Rattle.mq_core.specs.Came.{came_by, came_of}
@@ -40,14 +41,13 @@ use Rattle.mq_exits.specs.declared.working.Ending.{Ending}
 use Rattle.mq_exits.specs.declared.working.Ending.TheVariants.{OnTime, TooMany, TooLate}
 use Rattle.mq_exits.specs.declared.working.NodeResult.{NodeResult}
 use Rattle.mq_exits.proofs.Known.{fine-few}
-use Rattle.mq_exits.proofs.Leavings.{once-leaves}
 use Rattle.mq_engine.specs.CoreLaws.{CoreLaws}
 use Rattle.mq_engine.specs.Loads.{IsArrivedAt}
 use Rattle.mq_engine.specs.Progress.{AreEarly, CanWork, CanWorkAll, HasAll, IsEndPut, IsPut, IsReached, Tells, is_done, is_read, is_ready, is_waiting, read_by, reads_done, stands_at}
 use Rattle.mq_engine.specs.declared.progress.Stand.{Stand}
 use Rattle.mq_engine.specs.declared.progress.Stand.TheVariants.{Waiting, Done, Crowded, Late}
 use Rattle.mq_engine.proofs.Early.{EarlyPairs, flat-early, reads-early, rows-early, stream-early}
-use Rattle.mq_engine.proofs.Lists.{Each-at, all-get, get-set_other, get-set_same, get-some, zip-length}
+use Rattle.mq_engine.proofs.Lists.{Each-at, all-get}
 
 -- a node all of whose inputs are done
 pub record IsReady (plan : Plan) (stands : List Stand) (v : ℕ) (node : Node) : Type 0 where

@@ -21,8 +21,8 @@ use Rattle.mq_stations.specs.Scans.{AreFewBlocks}
 use Rattle.mq_exits.specs.Afters.{AreDeparturesAt}
 use Rattle.mq_exits.specs.Loads.{IsLoaded}
 use Rattle.mq_exits.specs.Exits.{IsOvertaken, Overtakes}
-use Rattle.mq_stations.proofs.lemmas.Leaves.{departs-even}
-use Rattle.mq_exits.proofs.Leavings.{departures-order, late-by, once-leaves, sorted-streams}
+use Rattle.mq_stations.proofs.lemmas.Leaves.{departs-even, once-leaves}
+use Rattle.mq_exits.proofs.Leavings.{departures-order, late-by, sorted-streams}
 
 -- none of its jobs departs before it came
 pub departs-later : FatesAreInTime → (rows : Rows) (kind : Kind) (arrivals : Stream) (departs : List ℕ) → IsLoad rows kind arrivals → AreDepartures rows kind arrivals departs →

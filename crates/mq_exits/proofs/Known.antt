@@ -7,6 +7,7 @@ use Rattle.std.proofs.lemmas.List.{length-map}
 use Rattle.std.proofs.lemmas.Option.{slice_get_within}
 use Rattle.mq_base.proofs.lemmas.Lists.{some_inj}
 use Rattle.mq_base.proofs.lemmas.Each.{Each-weaker}
+use Rattle.mq_stations.proofs.lemmas.Leaves.{once-leaves}
 use Rattle.mq_core.proofs.lemmas.Plans.{within-limits}
 use Rattle.mq_core.specs.Came.{came_by, came_in, came_of}
 use Rattle.mq_core.specs.SequenceLaws.{StreamsRise, jobs_of, sends_once}
@@ -32,7 +33,6 @@ use Rattle.mq_exits.specs.Results.{IsEnding, IsKnown, IsResult}
 use Rattle.mq_exits.specs.declared.working.Ending.{Ending}
 use Rattle.mq_exits.specs.declared.working.Ending.TheVariants.{OnTime, TooMany, TooLate}
 use Rattle.mq_exits.proofs.Early.{EarlyTimes, leaving-early, picked-early}
-use Rattle.mq_exits.proofs.Leavings.{once-leaves}
 
 -- A refusal. Of a node with no more visits than it may have it is the first late visit.
 pub refusal-few : (bound v : ℕ) (visits : Visits) (first : Option LateVisit) → length visits.job ≤ 1048576 → first_of (sequence_late_from bound v 0 visits.fate) ≡ first → sequence_refusal bound v visits ≡ option_map (λ late. Past late) first

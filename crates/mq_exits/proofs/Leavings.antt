@@ -1,13 +1,10 @@
 -- What leaves a node, in emission order.
-use Rattle.std.proofs.Common.{◌≡◌, ℕ, zero, suc, ◌<◌, false, true, List, [], ◌∷◌, length, map, Option, Some, sym, refl, ap, ◌∙◌, subst, arith}
+use Rattle.std.proofs.Common.{◌≡◌, ℕ, zero, suc, ◌<◌, true, List, [], ◌∷◌, length, map, Option, Some, sym, refl, ap, ◌∙◌, subst, arith}
 use Rattle.std.specs.Prelude.{slice_get}
 use Rattle.std.specs.List.{zip}
-use Rattle.std.proofs.lemmas.List.{length-map}
-use Rattle.mq_base.proofs.lemmas.Zips.{zip-map}
 use Rattle.mq_core.specs.Came.{came_in}
 use Rattle.mq_core.specs.Laws.{in_order_of}
 use Rattle.mq_core.specs.Results.{Late, first_of}
-use Rattle.mq_core.specs.Fates.{keeps_visits}
 use Rattle.mq_core.specs.SequenceLaws.{FatesAreInTime, SequencesGoByFates, sends_once}
 use Rattle.mq_core.specs.Sequences.{IsStream, sequence_late_from, sequence_stream, stream_in_order, sequence_visits}
 use Rattle.mq_core.specs.OnceOut.{founds_of}
@@ -21,26 +18,13 @@ use Rattle.mq_core.specs.declared.model.Kind.TheVariants.{Source, Server, Delay,
 use Rattle.mq_core.specs.declared.model.Network.{Network}
 use Rattle.mq_core.specs.declared.model.Rows.{Rows}
 use Rattle.mq_core.specs.declared.model.Stream.{Stream}
-use Rattle.mq_core.proofs.lemmas.Orders.{firsts-order}
+use Rattle.mq_core.proofs.lemmas.Orders.{firsts-order, is-sorted}
 use Rattle.mq_stats.specs.Ahead.{departure_order, departure_times}
 use Rattle.mq_stations.specs.Leaving.{AreDepartures, AreLeft, AreStreams, KeepsOrder, left_by}
 use Rattle.mq_stations.proofs.lemmas.Leaves.{departs-one}
 use Rattle.mq_exits.specs.Afters.{AreOnTime}
 use Rattle.mq_exits.specs.Results.{IsResult}
-use Rattle.mq_base.proofs.lemmas.Zips.{zip-first, zip-jobs, zip-times}
-
--- where each visit leaves once, none stays for good
-pub once-leaves : (kind : Kind) → sends_once kind ≡ true → keeps_visits kind ≡ false
-once-leaves Source once = refl
-once-leaves (Server demand) once = refl
-once-leaves (Delay demand) once = refl
-once-leaves (Loss places demand) once = refl
-once-leaves (Tandem stages) once = refl
-once-leaves (ForkJoin branches) once = refl
-once-leaves (Split route) once = refl
-once-leaves (Fork outputs) once = refl
-once-leaves Join once = absurd cc
-once-leaves (Trunk servers demand) once = refl
+use Rattle.mq_base.proofs.lemmas.Zips.{zip-first}
 
 -- where the jobs keep their order, what leaves by position is what the sequences say
 pub kept-streams : SequencesGoByFates → (rows : Rows) (kind : Kind) (arrivals : Stream) (streams : List Stream) → sends_once kind ≡ true → KeepsOrder kind → AreLeft rows kind arrivals streams → AreStreams rows kind arrivals streams
@@ -74,17 +58,7 @@ seen-result law net rows v kind arrivals fates found streams once seen f =
       outflow = seen.streams_are;
     }
 
--- A delay. A stream of the same items, by time.
-is-sorted : (left leaving : Stream) → IsStream leaving → pairs_of leaving ≡ by_first (pairs_of left) → leaving ≡ sorted left
-is-sorted left leaving s e =
-    let pairs = by_first (pairs_of left) in
-    let even : length (map (λ (p : ℕ × ℕ). p.1) pairs) ≡ length (map (λ (p : ℕ × ℕ). p.0) pairs) = length-map pairs _ ∙ sym (length-map pairs _) in
-    let same = e ∙ sym (zip-map pairs) in
-    let jobs = zip-jobs leaving.time leaving.job _ _ s.even even same in
-    let times = zip-times leaving.time leaving.job _ _ s.even even same in
-    λ k. record { job = jobs k; time = times k }
-
--- the jobs by departure are what leaves
+-- A delay. The jobs by departure are what leaves.
 pub sorted-streams : SequencesGoByFates → FatesAreInTime → (rows : Rows) (kind : Kind) (arrivals : Stream) (departs : List ℕ) (leaving : Stream) → length arrivals.job ≡ length arrivals.time → AreDepartures rows kind arrivals departs → ((stream : Stream) → stream_in_order kind stream ≡ sorted stream) →
     IsStream leaving → pairs_of leaving ≡ by_first (zip departs arrivals.job) → AreStreams rows kind arrivals (leaving ∷ [])
 sorted-streams fated law rows kind arrivals departs leaving even d order s e =

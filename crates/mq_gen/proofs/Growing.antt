@@ -1,5 +1,5 @@
 -- What stays of a list of nodes when one more stands behind it.
-use Rattle.std.proofs.Common.{◌≡◌, ◌∙◌, refl, sym, subst, ℕ, zero, suc, ◌<◌, ◌≤◌, List, [], ◌∷◌, ◌++◌, length, Bool, true, false, Some, arith, inl, inr}
+use Rattle.std.proofs.Common.{◌≡◌, ◌∙◌, refl, sym, subst, ℕ, zero, suc, ◌<◌, ◌≤◌, List, [], ◌∷◌, ◌++◌, length, Bool, true, false, arith, inl, inr}
 use Rattle.std.specs.Prelude.{◌&&◌, ◌==◌, nat_lt, slice_get}
 use Rattle.std.specs.List.{list_all, list_any}
 use Rattle.std.proofs.lemmas.Bool.{and_from, and_left, and_parts, eqb-true, lt-ltb, ltb-true, ne_eqb, not-true, not_from_false, or_cases, or_from, or_left, or_right}
@@ -30,10 +30,6 @@ pub output_within : (nodes : List Node) (n out : ℕ) → is_output (slice_get n
 output_within [] n out h = absurd (cc)
 output_within (node ∷ nodes) zero out h = omega arith
 output_within (node ∷ nodes) (suc n) out h = let low = output_within nodes n out h in omega arith
-
-pub last_node : (nodes : List Node) (node : Node) → slice_get (nodes ++ node ∷ []) (length nodes) ≡ Some node
-last_node [] node = refl
-last_node (other ∷ nodes) node = last_node nodes node
 
 -- Kinds are sound over more columns.
 demand_stays : (c d : ℕ) → c ≤ d → (demand : Demand) → is_sound_demand c demand ≡ true → is_sound_demand d demand ≡ true

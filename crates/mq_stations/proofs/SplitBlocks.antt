@@ -5,7 +5,7 @@ use Rattle.std.proofs.lemmas.Bool.{cases_lt}
 use Rattle.std.proofs.lemmas.List.{drop-map, take-map}
 use Rattle.std.proofs.lemmas.Option.{get_or_from_slice_get, slice_get_within}
 use Rattle.mq_base.proofs.lemmas.Between.{length-between}
-use Rattle.mq_base.proofs.lemmas.Lists.{get-last, get-push, some_inj}
+use Rattle.mq_base.proofs.lemmas.Lists.{get-last, get-push, get-take, some_inj}
 use Rattle.mq_base.specs.Lists.{between}
 use Rattle.mq_core.specs.Kinds.Split.{outputs_by}
 use Rattle.mq_core.specs.Streams.{picked}
@@ -26,15 +26,9 @@ get-drop xs zero k = let e : k ≡ 0 + k = omega arith in ap (slice_get xs) e
 get-drop [] (suc n) k = refl
 get-drop (x ∷ xs) (suc n) k = let e : suc (n + k) ≡ suc n + k = omega arith in get-drop xs n k ∙ ap (slice_get (x ∷ xs)) e
 
-get-take : {X : Type 0} (xs : List X) (n k : ℕ) (x : X) → slice_get (take n xs) k ≡ Some x → slice_get xs k ≡ Some x
-get-take xs zero k x h = absurd cc
-get-take [] (suc n) k x h = h
-get-take (y ∷ ys) (suc n) zero x h = h
-get-take (y ∷ ys) (suc n) (suc k) x h = get-take ys n k x h
-
 -- what is told of all jobs is told of those at these indices
 pub told-between : (rows : Rows) (route : Route) (jobs : List ℕ) (from to : ℕ) → AreRouted rows route jobs → AreRouted rows route (between from to jobs)
-told-between rows route jobs from to told k job e = told (from + k) job (sym (get-drop jobs from k) ∙ get-take (drop from jobs) (to - from) k job e)
+told-between rows route jobs from to told k job e = told (from + k) job (sym (get-drop jobs from k) ∙ (get-take (drop from jobs) (to - from) k job e).1)
 
 pub map-between : {X Y : Type 0} (f : X → Y) (xs : List X) (from to : ℕ) → map f (between from to xs) ≡ between from to (map f xs)
 map-between f xs from to = sym (ap (take (to - from)) (drop-map f from xs) ∙ take-map f (to - from) (drop from xs))

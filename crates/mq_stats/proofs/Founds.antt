@@ -3,10 +3,10 @@ use Rattle.std.proofs.Common.{◌≡◌, ℕ, zero, suc, ◌+◌, ◌-◌, ◌<�
 use Rattle.std.specs.Prelude.{count_by, nat_lt, slice_get}
 use Rattle.std.specs.List.{AllByRecursion as Each, zip}
 use Rattle.std.proofs.lemmas.Bool.Decides.{nat_tests}
-use Rattle.std.proofs.lemmas.List.{append-nil, drop_all, take_more}
+use Rattle.std.proofs.lemmas.List.{append-nil, drop_all}
 use Rattle.std.proofs.lemmas.List.Sums.{count_by-le-length, sum_by-append, sum_by-le-sum_by}
 use Rattle.std.proofs.lemmas.Option.{slice_get_within, get_or_from_slice_get}
-use Rattle.mq_base.proofs.lemmas.Lists.{drop_at}
+use Rattle.mq_base.proofs.lemmas.Lists.{drop_at, take-at}
 use Rattle.mq_core.specs.SequenceLaws.{LeavesFrom}
 use Rattle.mq_core.specs.OnceOut.{departs_after, founds_from}
 use Rattle.mq_core.specs.Streams.{by_first}
@@ -78,13 +78,10 @@ gone-and-there at position (suc i) time (a ∷ arrives) (Departs d ∷ fates) s 
     let all = count-cons stays (Departs d) (take i fates) in
     omega arith
 
-pub take_at : {X : Type 0} (xs : List X) (i : ℕ) (x : X) → slice_get xs i ≡ Some x → take (i + 1) xs ≡ take i xs ++ x ∷ []
-take_at xs i x h = take_more xs i x (slice_get_within xs i x h) ∙ ap (λ y. take i xs ++ y ∷ []) (get_or_from_slice_get xs i x x h)
-
 -- of one item more as many more pass a test
 pub count-next : {X : Type 0} (test : X → Bool) (xs : List X) (i : ℕ) (x : X) → slice_get xs i ≡ Some x → count_by test (take (i + 1) xs) ≡ count_by test (take i xs) + cond (test x) 1 0
 count-next test xs i x h =
-    let both = ap (count_by test) (take_at xs i x h) ∙ sum_by-append (λ y. cond (test y) 1 0) (take i xs) (x ∷ []) in
+    let both = ap (count_by test) (take-at xs i x h) ∙ sum_by-append (λ y. cond (test y) 1 0) (take i xs) (x ∷ []) in
     omega arith
 
 -- One visit further. What is found so far, with what is left, is all.
@@ -95,7 +92,7 @@ founds-next done done' all arrives fates i arrive found fate a f n p h =
     let rest = founds_from (take (i + 1) fates) (drop (i + 1) arrives) (drop (i + 1) fates) in
     let here : founds_from (take i fates) (drop i arrives) (drop i fates) ≡ count ∷ founds_from (take i fates ++ fate ∷ []) (drop (i + 1) arrives) (drop (i + 1) fates) =
     λ k. founds_from (take i fates) (drop_at arrives i arrive a k) (drop_at fates i fate f k) in
-    let next : founds_from (take i fates) (drop i arrives) (drop i fates) ≡ count ∷ rest = here ∙ ap (λ before. count ∷ founds_from before (drop (i + 1) arrives) (drop (i + 1) fates)) (sym (take_at fates i fate f)) in
+    let next : founds_from (take i fates) (drop i arrives) (drop i fates) ≡ count ∷ rest = here ∙ ap (λ before. count ∷ founds_from before (drop (i + 1) arrives) (drop (i + 1) fates)) (sym (take-at fates i fate f)) in
     ap (λ l. l ++ rest) p
     ∙ (append_assoc done (found ∷ []) rest
     ∙ (ap (λ x. done ++ x ∷ rest) n

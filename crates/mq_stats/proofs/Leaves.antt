@@ -3,6 +3,7 @@ use Rattle.std.proofs.Common.{◌≡◌, ℕ, zero, suc, ◌<◌, ◌≤◌, ◌
 use Rattle.std.specs.Prelude.{⊤, ◌==◌, if◌then◌else◌, nat_lt}
 use Rattle.std.specs.List.{AllByRecursion as Each, zip}
 use Rattle.std.proofs.lemmas.Bool.Decides.{nat_tests}
+use Rattle.mq_base.proofs.lemmas.Zips.{zip-first}
 use Rattle.mq_core.proofs.lemmas.Orders.{firsts-order}
 use Rattle.mq_core.specs.Came.{Came}
 use Rattle.mq_core.specs.EmissionOrder.{EmissionOrder}
@@ -43,16 +44,11 @@ order-each : (P : ℕ → Type 0) (key : ℕ → ℕ) (xs : List ℕ) → Each P
 order-each P key [] h = tt
 order-each P key (x ∷ xs) h = let parts = insert-each P key x (in_order_of key xs) h in (parts.0, order-each P key xs parts.1)
 
-zip-firsts : (xs ys : List ℕ) → length ys ≡ length xs → map (λ (p : ℕ × ℕ). p.0) (zip xs ys) ≡ xs
-zip-firsts [] ys h = refl
-zip-firsts (x ∷ xs) [] h = absurd (omega arith)
-zip-firsts (x ∷ xs) (y ∷ ys) h = ap (λ l. x ∷ l) (zip-firsts xs ys (omega arith))
-
 stream-each : (P : ℕ → Type 0) (order : EmissionOrder) (stream : Stream) → length stream.job ≡ length stream.time → Each P (stream_by order stream).time → Each P stream.time
 stream-each P ByPosition stream e h = h
 stream-each P Mixed stream e h = h
 stream-each P Overtaking stream e h =
-    order-each P (λ t. t) stream.time (subst (Each P) (firsts-order (zip stream.time stream.job) ∙ ap (in_order_of (λ t. t)) (zip-firsts stream.time stream.job e)) h)
+    order-each P (λ t. t) stream.time (subst (Each P) (firsts-order (zip stream.time stream.job) ∙ ap (in_order_of (λ t. t)) (zip-first stream.time stream.job e)) h)
 
 -- Fates. Each visit that departs leaves by output 0.
 abbrev ByFirst : List ℕ → List Fate → Type 0

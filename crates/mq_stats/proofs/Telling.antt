@@ -9,8 +9,8 @@ use Rattle.std.proofs.lemmas.List.{append-nil, length-take, length-take-le, take
 use Rattle.std.proofs.lemmas.List.Sums.{sum_by-append, sum_by-take-drop, count_by-le-length}
 use Rattle.std.proofs.lemmas.Option.{slice_get_within}
 use Rattle.mq_core.proofs.lemmas.Orders.{firsts-order}
-use Rattle.mq_base.proofs.lemmas.Lists.{get-last, get-push, some_inj}
-use Rattle.mq_base.proofs.lemmas.Zips.{zip-drop}
+use Rattle.mq_base.proofs.lemmas.Lists.{get-last, get-push, get-some, some_inj}
+use Rattle.mq_base.proofs.lemmas.Zips.{zip-drop, zip-length}
 use Rattle.mq_base.proofs.lemmas.Each.{Each-weaker}
 use Rattle.mq_core.proofs.lemmas.Rising.{Rises-in_order_of}
 use Rattle.mq_core.proofs.lemmas.Rising.{Rises-drop}
@@ -145,11 +145,6 @@ once-by time (suc r) (a ∷ arrives) (f ∷ fates) n e u h z = go (cases_lt time
         let here : cond {A = ℕ} (d == a) 1 0 ≡ cond (d == time) 1 0 = ap (λ t. cond (d == t) 1 0) same in
         omega arith
 
-pub length-zip : (arrives : List ℕ) (fates : List Fate) → length fates ≡ length arrives → length (zip arrives fates) ≡ length arrives
-length-zip [] fates e = refl
-length-zip (a ∷ arrives) [] e = absurd (omega arith)
-length-zip (a ∷ arrives) (f ∷ fates) e = ap suc (length-zip arrives fates (omega arith))
-
 later-drop : (i : ℕ) (arrives : List ℕ) (fates : List Fate) → Each (λ (p : ℕ × Fate). LeavesFrom p.0 p.1) (zip arrives fates) → Each (λ (p : ℕ × Fate). LeavesFrom p.0 p.1) (zip (drop i arrives) (drop i fates))
 later-drop zero arrives fates z = z
 later-drop (suc i) [] fates z = tt
@@ -247,7 +242,7 @@ tells arrive fate ahead at time left came kept before later h g l c k b n =
     let many = length-take-le at fate (omega arith) in
     let most = count_by-le-length once (take came z) in
     let some = length-take came z in
-    let zs = length-zip arrive fate even in
+    let zs = zip-length arrive fate even in
     record {
       order = omega arith;
       few = omega arith;
@@ -275,12 +270,6 @@ founds-behind (suc i) before (a ∷ arrives) (f ∷ fates) =
 
 pub founds-start : (i : ℕ) (none : List ℕ) (arrives : List ℕ) (fates : List Fate) → none ≡ [] → none ++ founds_from (take i fates) (drop i arrives) (drop i fates) ≡ drop i (founds_of arrives fates)
 founds-start i none arrives fates e = ap (λ l. l ++ founds_from (take i fates) (drop i arrives) (drop i fates)) e ∙ founds-behind i [] arrives fates
-
--- there is an item at an index
-pub there-is : {X : Type 0} (items : List X) (i : ℕ) → i < length items → (item : X) × (slice_get items i ≡ Some item)
-there-is [] i l = absurd (omega arith)
-there-is (x ∷ items) zero l = (x, refl)
-there-is (x ∷ items) (suc i) l = there-is items i (omega arith)
 
 -- the departures in order never fall
 pub leaving-rises : (arrive : List ℕ) (fate : List Fate) (ahead : AheadTable) → IsAhead arrive fate ahead → Rises (λ a b. a ≤ b) ahead.leaving
@@ -369,7 +358,7 @@ fills-next found arrives departs all first index left passed value time h even l
     go (inr m) =
         let none : passed ≡ 0 = omega arith in
         let up = most none in
-        let here = there-is departs (first + index) (omega arith) in
+        let here = get-some departs (first + index) (omega arith) in
         let told = in-order time (first + index) departs h (omega arith) in
         let next : index + (1 - passed) ≡ index + 1 = omega arith in
         let on : first + (index + 1) ≡ first + index + 1 = omega arith in

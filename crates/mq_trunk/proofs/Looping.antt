@@ -1,5 +1,5 @@
 -- One item further in the loops over arrivals.
-use Rattle.std.proofs.Common.{◌≡◌, ℕ, zero, suc, ◌+◌, Bool, true, false, List, [], ◌∷◌, ◌++◌, drop, take, Some, sym, ap, ◌∙◌, subst, arith, append_assoc}
+use Rattle.std.proofs.Common.{◌≡◌, ℕ, suc, ◌+◌, Bool, true, false, List, [], ◌∷◌, ◌++◌, drop, Some, sym, ap, ◌∙◌, subst, append_assoc}
 use Rattle.std.specs.Prelude.{slice_get, if◌then◌else◌}
 use Rattle.std.proofs.lemmas.List.{append-nil}
 use Rattle.mq_core.specs.Recurrences.{finds_server}
@@ -16,15 +16,6 @@ pub kept-behind : (servers : ℕ) (latest latest' left : List ℕ) (admit : Bool
     latest' ≡ (if admit then take_place (arrive + demand) latest else latest) → IsKept servers latest' (left_behind departure_at_once admit left arrive demand)
 kept-behind servers latest latest' left true arrive demand h e = subst (λ (ls : List ℕ). IsKept servers ls ((arrive + demand) ∷ left)) (sym e) (kept-next servers latest left (arrive + demand) h)
 kept-behind servers latest latest' left false arrive demand h e = subst (λ (ls : List ℕ). IsKept servers ls left) (sym e) h
-
--- the first items with one more
-pub take-more : {X : Type 0} (xs : List X) (i : ℕ) (x : X) → slice_get xs i ≡ Some x → take (i + 1) xs ≡ take i xs ++ x ∷ []
-take-more xs i x h = let next : suc i ≡ i + 1 = omega arith in ap (λ n. take n xs) (sym next) ∙ take-suc xs i x h
-  where
-    take-suc : {X : Type 0} (xs : List X) (i : ℕ) (x : X) → slice_get xs i ≡ Some x → take (suc i) xs ≡ take i xs ++ x ∷ []
-    take-suc [] i x h = absurd (cc)
-    take-suc (y ∷ xs) zero x h = let same : y ≡ x = cc in ap (λ z. z ∷ []) same
-    take-suc (y ∷ xs) (suc i) x h = ap (λ l. y ∷ l) (take-suc xs i x h)
 
 -- an arrival that finds a server is settled, and the window goes on
 pub window-next : (servers : ℕ) (done done' all : List Bool) (left left' times demands : List ℕ) (at count rest arrive demand : ℕ) → count ≡ suc rest → slice_get times at ≡ Some arrive → slice_get demands at ≡ Some demand →

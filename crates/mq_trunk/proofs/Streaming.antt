@@ -1,8 +1,7 @@
 -- What leaves a trunk group by each output, from its fates.
 use Rattle.std.proofs.Common.{◌≡◌, ℕ, suc, ◌≤◌, Bool, true, false, List, [], ◌∷◌, length, map, sym, refl, ap, ◌∙◌, arith}
 use Rattle.std.specs.List.{AllByRecursion as Each, zip}
-use Rattle.std.proofs.lemmas.List.{length-map}
-use Rattle.mq_base.proofs.lemmas.Zips.{zip-jobs, zip-map, zip-times}
+use Rattle.mq_core.proofs.lemmas.Orders.{is-sorted}
 use Rattle.mq_core.proofs.lemmas.Rising.{Rises-in_order_of, filter-in_order_of, same_by_key}
 use Rattle.mq_core.specs.Laws.{Rises}
 use Rattle.mq_core.specs.OnceOut.{leaving_times, out_of_fate}
@@ -56,17 +55,7 @@ lost-even (false ∷ admitted) (job ∷ jobs) (time ∷ times) e = ap suc (lost-
 pub lost-stream : (arrivals : Stream) (admitted : List Bool) → IsStream arrivals → IsStream (lost_of arrivals admitted)
 lost-stream arrivals admitted s = record { even = lost-even admitted arrivals.job arrivals.time s.even; rising = lost-rises admitted arrivals.time s.rising }
 
--- A stream of the same items, by time.
-is-sorted : (left leaving : Stream) → IsStream leaving → pairs_of leaving ≡ by_first (pairs_of left) → leaving ≡ sorted left
-is-sorted left leaving s e =
-    let pairs = by_first (pairs_of left) in
-    let even : length (map (λ (p : ℕ × ℕ). p.1) pairs) ≡ length (map (λ (p : ℕ × ℕ). p.0) pairs) = length-map pairs _ ∙ sym (length-map pairs _) in
-    let same = e ∙ sym (zip-map pairs) in
-    let jobs = zip-jobs leaving.time leaving.job _ _ s.even even same in
-    let times = zip-times leaving.time leaving.job _ _ s.even even same in
-    λ k. record { job = jobs k; time = times k }
-
--- one that is by time already stays
+-- A stream that is by time already stays.
 pairs-later : (time : ℕ) (times jobs : List ℕ) → Each (λ other. time ≤ other) times → Each (λ (p : ℕ × ℕ). time ≤ p.0) (zip times jobs)
 pairs-later time [] jobs h = tt
 pairs-later time (other ∷ times) [] h = tt

@@ -3,6 +3,7 @@ use Rattle.std.proofs.Common.{◌≡◌, ◌∙◌, ◌==◌, ◌&&◌, ◌-◌,
 use Rattle.std.specs.Prelude.{slice_get, nat_lt, unwrap_or, is_none, option_and_then, if◌then◌else◌}
 use Rattle.std.proofs.lemmas.Bool.{lt-ltb}
 use Rattle.mq_base.specs.Text.{number_of}
+use Rattle.mq_base.proofs.lemmas.Lists.{some_inj}
 use Rattle.mq_words.specs.Matched.{HasForm, input_of}
 use Rattle.mq_words.specs.Words.{AsksFor, Makes, Names, asks_made, block_asked, form_asked, made_asked, made_option, names_needed, refuses_words, usage_fault, value_of, words_left, workers_asked}
 use Rattle.mq_words.specs.declared.fault.UsageFault.TheVariants.{Workers, Block, Made, Report}
@@ -17,15 +18,12 @@ use Rattle.mq_words.proofs.ReadWords.{neither}
 some_is_none : {A B : Type 0} (x : A) → Some x ≡ None → B
 some_is_none x e = absurd (true≢false (ap is_some e))
 
-some_is : {A : Type 0} (x y : A) → Some x ≡ Some y → x ≡ y
-some_is x y e = ap (λ o. unwrap_or o x) e
-
 -- ---- the words that are left
 
 pub two_left : (left : List (List ℕ)) (m t : List ℕ) → slice_get left 0 ≡ Some m → slice_get left 1 ≡ Some t → nat_lt 2 (length left) ≡ false → left ≡ m ∷ t ∷ []
 two_left [] m t first second few = some_is_none m (sym first)
 two_left (x ∷ []) m t first second few = some_is_none t (sym second)
-two_left (x ∷ y ∷ []) m t first second few = ap₂ (λ (a b : List ℕ). a ∷ b ∷ []) (some_is x m first) (some_is y t second)
+two_left (x ∷ y ∷ []) m t first second few = ap₂ (λ (a b : List ℕ). a ∷ b ∷ []) (some_inj x m first) (some_inj y t second)
 two_left (x ∷ y ∷ z ∷ left) m t first second few = absurd (true≢false (sym (lt-ltb 2 (length (x ∷ y ∷ z ∷ left)) (omega arith)) ∙ few))
 
 -- no more than two words are left
@@ -104,12 +102,12 @@ asks_for words workers block report f i pass w b r h e = go f h e
     (by_report words workers block f i pass w b h e ∙ ap (λ (o : Option ℕ). if is_none o then Some Report else None) r)
   where
     go : (f : Form) → HasForm words f → input_of f ≡ Some i → usage_fault words ≡ None → AsksFor words i
-    go (form.Names m t) h e passes = subst (AsksFor words) (some_is _ i e) (record { accepted = passes; named = h.1 })
+    go (form.Names m t) h e passes = subst (AsksFor words) (some_inj _ i e) (record { accepted = passes; named = h.1 })
     go (form.Made text) h e passes = made (number_of text.now (2 ^ 64 - 1)) (ap (option_and_then (λ t. number_of t (2 ^ 64 - 1))) h.0) e
       where
         made : (o : Option ℕ) → made_asked words ≡ o → option_map input.Made o ≡ Some i → AsksFor words i
         made None asked e = some_is_none i (sym e)
-        made (Some n) asked e = subst (AsksFor words) (some_is _ i e) (record { accepted = passes; made = asked })
+        made (Some n) asked e = subst (AsksFor words) (some_inj _ i e) (record { accepted = passes; made = asked })
 
 -- ---- what accepted words ask for
 
@@ -125,7 +123,7 @@ same_names words m t n u one other =
 
 -- or they ask for one made input
 pub same_number : (words : List (List ℕ)) (n k : ℕ) → Makes words n → Makes words k → n ≡ k
-same_number words n k one other = some_is n k (sym one.made ∙ other.made)
+same_number words n k one other = some_inj n k (sym one.made ∙ other.made)
 
 -- words that name them ask for no made input
 pub names_alone : (words : List (List ℕ)) (m t : List ℕ) → Names words m t → asks_made words ≡ true → ⊥

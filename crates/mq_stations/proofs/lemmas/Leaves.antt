@@ -139,7 +139,7 @@ splits rows route arrivals fates values streams s v f h = record { leave = f; ou
 
 -- Stations whose jobs all depart.
 -- where each leaves once, none stays for good
-once-leaves : (kind : Kind) → sends_once kind ≡ true → keeps_visits kind ≡ false
+pub once-leaves : (kind : Kind) → sends_once kind ≡ true → keeps_visits kind ≡ false
 once-leaves Source once = refl
 once-leaves (Server demand) once = refl
 once-leaves (Delay demand) once = refl

@@ -1,8 +1,9 @@
 use Rattle.std.proofs.Common.{◌+◌, ◌∷◌, [], ap, arith, length, length-append, subst, sym}
 use Rattle.std.specs.List.{AllByRecursion}
 use Rattle.mq_base.proofs.lemmas.Each.{Each-append, Each-back, Each-front, Each-weaker}
+use Rattle.mq_base.proofs.lemmas.Lists.{last-shorter}
 use Rattle.mq_arrivals.specs.Merges.{IsComing}
-use Rattle.mq_arrivals.proofs.Comings.{HasComeBy, last-shorter}
+use Rattle.mq_arrivals.proofs.Comings.{HasComeBy}
 use Rattle.mq_arrivals.proofs.merges.all_further.Goals as goal
 
 pub all_merged-requires-clause-comings : goal.all_merged-requires-clause-comings

@@ -1,12 +1,13 @@
 use Rattle.std.proofs.Common.{List, ap, arith, length, subst, sym}
 use Rattle.std.specs.List.{AllByRecursion}
+use Rattle.mq_base.proofs.lemmas.Lists.{last-shorter}
 use Rattle.mq_core.specs.declared.model.Stream.{Stream}
 use Rattle.mq_crew.specs.Crew.{AreGroups}
 use Rattle.mq_crew.proofs.lemmas.Groups.{passing-last, passing-more}
 use Rattle.mq_merge.specs.Borrowed.{stream_in}
 use Rattle.mq_arrivals.specs.Merges.{IsComing, IsReadyOrigin}
 use Rattle.mq_arrivals.specs.declared.merges.Coming.{Coming}
-use Rattle.mq_arrivals.proofs.Comings.{HasComeBy, IsComingBy, coming_piece, coming_size, has-come, last-shorter}
+use Rattle.mq_arrivals.proofs.Comings.{HasComeBy, IsComingBy, coming_piece, coming_size, has-come}
 use Rattle.mq_arrivals.proofs.merges.all_merged.Goals as goal
 
 pub merged_of-requires-clause-ready : goal.merged_of-requires-clause-ready

@@ -1,5 +1,6 @@
 use Rattle.std.proofs.Common.{◌∙◌, refl, rules}
-use Rattle.mq_branches.proofs.Branching.{advancing-begins, advancing-ends, advancing-more, last-shorter, last-through}
+use Rattle.mq_base.proofs.lemmas.Lists.{last-shorter}
+use Rattle.mq_branches.proofs.Branching.{advancing-begins, advancing-ends, advancing-more, last-through}
 use Rattle.mq_branches.proofs.branches.advanced.Goals as goal
 
 pub loop-branch-init : goal.loop-branch-init

@@ -1,8 +1,8 @@
 use Rattle.std.proofs.Common.{length, sym, ap, ◌∙◌, subst, inr}
 use Rattle.std.proofs.lemmas.Result.{IfOk-weaker}
+use Rattle.mq_stations.proofs.lemmas.Leaves.{once-leaves}
 use Rattle.mq_core.specs.Came.{came_in}
 use Rattle.mq_core.specs.SequenceLaws.{FatesInTime}
-use Rattle.mq_exits.proofs.Leavings.{once-leaves}
 use Rattle.mq_exits.proofs.Passing.{passing-finds_none}
 use Rattle.mq_exits.proofs.working.found_at.Goals as goal
 

@@ -1,9 +1,10 @@
 use Rattle.std.proofs.Common.{◌∙◌, ℕ, ◌+◌, ap, arith, count_by, length, take, ◌≤◌, subst, sym}
 use Rattle.std.specs.Prelude.{slice_get}
 use Rattle.std.specs.List.{zip}
+use Rattle.mq_base.proofs.lemmas.Zips.{zip-length}
 use Rattle.mq_core.specs.declared.model.Fate.{Fate}
 use Rattle.mq_stats.proofs.Founds.{count-next, counted-few, few-in-32, few-in-64}
-use Rattle.mq_stats.proofs.Telling.{count-most, counts-next, one-longer, length-zip, zip-get}
+use Rattle.mq_stats.proofs.Telling.{count-most, counts-next, one-longer, zip-get}
 use Rattle.mq_stats.specs.Ahead.{leaves_at_once}
 use Rattle.mq_stats.specs.Departures.{stays}
 use Rattle.mq_stats.proofs.pieces.ahead_of.Goals as goal
@@ -58,7 +59,7 @@ overflow_cast-at_once c =
 
 pub returns : goal.returns
 returns c =
-    let visits = length-zip c.args.arrive.now c.args.fate.now c.requires.even in
+    let visits = zip-length c.args.arrive.now c.args.fate.now c.requires.even in
     let kept = ap length c.from_vec.ensures in
     let still = ap length c.from_vec-2.ensures in
     let kept_many = c.loop-at.invariant.kept_many in

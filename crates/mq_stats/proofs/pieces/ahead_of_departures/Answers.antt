@@ -2,11 +2,12 @@ use Rattle.std.proofs.Common.{◌∙◌, ℕ, ◌+◌, Some, ap, arith, count_by
 use Rattle.std.specs.Prelude.{slice_get}
 use Rattle.std.specs.List.{zip}
 use Rattle.std.proofs.lemmas.List.{length-map}
+use Rattle.mq_base.proofs.lemmas.Zips.{zip-length}
 use Rattle.mq_core.specs.Laws.{in_order_of}
 use Rattle.mq_core.specs.declared.model.Fate.{Fate}
 use Rattle.mq_core.specs.declared.model.Fate.TheVariants.{Departs}
 use Rattle.mq_stats.proofs.Founds.{count-next, counted-few, few-in-32, few-in-64}
-use Rattle.mq_stats.proofs.Telling.{all-stay, count-most, counts-next, departs-get, departures-of, length-zip, one-longer, zip-get}
+use Rattle.mq_stats.proofs.Telling.{all-stay, count-most, counts-next, departs-get, departures-of, one-longer, zip-get}
 use Rattle.mq_stats.specs.Ahead.{leaves_at_once}
 use Rattle.mq_stats.proofs.pieces.ahead_of_departures.Goals as goal
 
@@ -53,7 +54,7 @@ returns c =
     let departs = c.args.departs.now in
     let many = length-map departs (λ time. Departs time) in
     let even = many ∙ c.requires.even in
-    let visits = length-zip c.args.arrive.now (map (λ time. Departs time) departs) even in
+    let visits = zip-length c.args.arrive.now (map (λ time. Departs time) departs) even in
     let kept = ap length c.from_vec.ensures in
     let still = ap length c.from_vec-2.ensures in
     let kept_many = c.loop-at.invariant.kept_many in

@@ -3,11 +3,13 @@ use Rattle.std.specs.Prelude.{nat_le}
 use Rattle.std.proofs.Math.Seq.{take-length}
 use Rattle.std.proofs.lemmas.List.{take-append-le}
 use Rattle.std.proofs.lemmas.List.Sums.{count_by-le-length}
+use Rattle.mq_base.proofs.lemmas.Zips.{zip-length}
+use Rattle.mq_base.proofs.lemmas.Lists.{get-some}
 use Rattle.mq_core.specs.OnceOut.{departs_after}
 use Rattle.mq_core.specs.Laws.{Rises}
 use Rattle.mq_stats.proofs.Founds.{founds-next}
 use Rattle.mq_stats.proofs.Passing.{up_to}
-use Rattle.mq_stats.proofs.Telling.{founds-start, leaving-rises, length-zip, one-longer, passed-next, still-told, there-is, told}
+use Rattle.mq_stats.proofs.Telling.{founds-start, leaving-rises, one-longer, passed-next, still-told, told}
 use Rattle.mq_stats.proofs.pieces.found_piece.Goals as goal
 
 pub loop-at-init : goal.loop-at-init
@@ -31,13 +33,13 @@ get-requires c =
     let came = c.passed_by-came.ensures ∙ ap (up_to c.get-time.result.now) c.as_slice-in-loop-at.ensures in
     let most = count_by-le-length (λ t. nat_le t c.get-time.result.now) c.args.arrive.now in
     let many = c.requires.made.1.still.many in
-    let visits = length-zip c.args.arrive.now c.requires.made.0 c.requires.made.1.comings.even in
+    let visits = zip-length c.args.arrive.now c.requires.made.0 c.requires.made.1.comings.even in
     omega arith
 
 pub get-requires-in-loop-at : goal.get-requires-in-loop-at
 get-requires-in-loop-at c =
     let many = c.requires.made.1.still.many in
-    let visits = length-zip c.args.arrive.now c.requires.made.0 c.requires.made.1.comings.even in
+    let visits = zip-length c.args.arrive.now c.requires.made.0 c.requires.made.1.comings.even in
     omega arith
 
 pub overflow_sub-at_once : goal.overflow_sub-at_once
@@ -76,7 +78,7 @@ loop-at-preserved c =
     record {
       so_far = λ fate h.
           let t = told c.args.arrive.now fate c.args.ahead.now _ _ c.loop-at.at c.get-time.result.now _ _ _ _ _ h c.get-time.ensures c.as_slice.ensures c.passed_by-left.ensures c.as_slice-in-loop-at.ensures c.passed_by-came.ensures c.get-in-loop-at-2.ensures c.get-in-loop-at.ensures c.get.ensures in
-          let here = there-is fate at (let even = h.comings.even in omega arith) in
+          let here = get-some fate at (let even = h.comings.even in omega arith) in
           let there : c.get-in-loop-at-2.result.now + (c.get.result.now - c.get-in-loop-at.result.now) - c.passed_by-left.result ≡ count_by (departs_after time) (take at fate) = omega (arith, t.found) in
           founds-next c.loop-at.found.items c.push_reserved.new.self.items _ arrive fate at time _ here.0 c.get-time.ensures here.1 there c.push_reserved.ensures.items (c.loop-at.invariant.so_far fate h);
       left = λ later h. passed-next arrive c.args.ahead.now.leaving at time later _ rising c.get-time.ensures h left;

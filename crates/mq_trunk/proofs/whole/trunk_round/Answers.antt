@@ -3,13 +3,13 @@ use Rattle.std.specs.Prelude.{nat_lt, slice_get}
 use Rattle.std.proofs.lemmas.List.{length-take-le}
 use Rattle.mq_trunk.specs.Kept.{IsKept}
 use Rattle.mq_core.specs.Recurrences.{busy_at, finds_server}
-use Rattle.mq_base.proofs.lemmas.Lists.{drop_at}
+use Rattle.mq_base.proofs.lemmas.Lists.{drop_at, take-at}
 use Rattle.mq_rounds.specs.Rounds.{left_of, round_from}
 use Rattle.mq_rounds.proofs.lemmas.Departing.{left-none, left-push}
 use Rattle.mq_rounds.proofs.lemmas.Looping.{item-at, round-all, round-next}
 use Rattle.mq_trunk.specs.Rounds.{departure_at_once, trunk_rule}
 use Rattle.mq_trunk.proofs.Keeping.{kept-judges, kept-none}
-use Rattle.mq_trunk.proofs.Looping.{kept-behind, take-more}
+use Rattle.mq_trunk.proofs.Looping.{kept-behind}
 use Rattle.mq_trunk.proofs.whole.trunk_round.Goals as goal
 
 pub loop-at-init : goal.loop-at-init
@@ -42,7 +42,7 @@ loop-at-preserved c =
     let number : at ≡ length (take at guess) = sym (length-take-le at guess (let l = c.loop-at-test.true in let n = c.requires.guess in omega arith)) in
     let came : slice_get times (length (take at guess)) ≡ Some arrive = subst (λ (n : ℕ). slice_get times n ≡ Some arrive) number c.get-arrive.ensures in
     let asked : slice_get demands (length (take at guess)) ≡ Some demand = subst (λ (n : ℕ). slice_get demands n ≡ Some demand) number c.get-demand.ensures in
-    let behind = left-push departure_at_once times demands (take at guess) (take (at + 1) guess) admit arrive demand c.requires.load.each (take-more guess at admit c.get-admit.ensures) came asked in
+    let behind = left-push departure_at_once times demands (take at guess) (take (at + 1) guess) admit arrive demand c.requires.load.each (take-at guess at admit c.get-admit.ensures) came asked in
     let server : c.has_server.result ≡ finds_server c.args.servers left arrive =
     c.has_server.ensures
     ∙ (ap (λ (ls : List ℕ). nat_lt (busy_at arrive ls) c.args.servers) c.as_slice.ensures.value
