@@ -116,7 +116,7 @@ fn add_utilisation<O: Sink>(
 
 // Adds a node's name, the word of its kind, and its counts.
 #[tactic(auto, unfolding(crate::specs::Text::node_words, crate::specs::Text::node_counts))]
-fn add_counts<O: Sink>(
+fn add_name_and_counts<O: Sink>(
     out: &mut O,
     pending: &mut Gather,
     name: &[u8],
@@ -256,7 +256,7 @@ pub fn add_node<O: Sink>(
     requires small { totals.now.busy < 2 ^ 100 }
     ensures { Adds O.taken O.sure O.faults out.old out.new pending.old pending.new result (node_line tells_held name.now kind.now (totals_from totals.now) (option_map tail_from tail) span) }
 {
-    add_counts(out, pending, name, kind, totals)?;
+    add_name_and_counts(out, pending, name, kind, totals)?;
     add_losses(out, pending, tells_held, totals)?;
     add_waits(out, pending, totals)?;
     add_tail(out, pending, tail)?;

@@ -159,7 +159,6 @@ fn counted_of(
 {
     let mut counted = List::new(alloc);
     for node in 0..all.len() {
-        // A call of `drop` lets go of what is left at an exit: it is proved once for a type.
         match counted_at(alloc, all.get(node), groups.get(node)) {
             Ok(tail) => counted.push(tail)?,
             Err(fault) => {

@@ -159,7 +159,6 @@ pub fn node_tails<R: Threads + Sync, G: Gate>(
         known,
         counted: &counted,
     };
-    // A call of `drop` lets go of what is left at an exit: it is proved once for a type.
     match known_tails(alloc, &nodes) {
         Ok(Some(tails)) => {
             drop(counted);

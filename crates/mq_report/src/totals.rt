@@ -181,7 +181,6 @@ pub fn node_totals<R: Threads + Sync, G: Gate>(
     ensures { IfOk result (λ totals. AreNodeTotals plan.now rows.now totals) }
 {
     let all = visits_by_node(alloc, plan, rows, run)?;
-    // A call of `drop` lets go of what is left at an exit: it is proved once for a type.
     match run_parts(rt, alloc, workers, all.as_slice(), gate) {
         Ok(groups) => {
             let totals = sums_of(alloc, plan, rows, &all, &groups);

@@ -2,7 +2,7 @@ use Rattle.std.proofs.Common.{◌≡◌, ◌++◌, List, ℕ, append_assoc, subs
 use Rattle.std.specs.Prelude.{codes, decimal}
 use Rattle.mq_outside.specs.Outside.{Adds}
 use Rattle.mq_report.specs.Text.{kind_word, node_counts, node_words}
-use Rattle.mq_report.proofs.lines.add_counts.Goals as goal
+use Rattle.mq_report.proofs.lines.add_name_and_counts.Goals as goal
 
 -- words and counts, piece by piece
 pieces : (a b c d e f g h i : List ℕ) → (a ++ b ++ c ++ d ++ e) ++ (f ++ g ++ h ++ i) ≡ a ++ (b ++ (c ++ (d ++ (e ++ (f ++ (g ++ (h ++ i)))))))
