@@ -2,6 +2,8 @@
 //! another node read, merged.
 #![tactic(auto)]
 
+// Where a call of `drop` lets go of what is left, that spares proof: a call is proved once for a type, the end of a scope anew at each exit.
+
 ghost use Rattle.std.specs.Prelude.{◌≡◌, length, IfOk};
 ghost use Rattle.std.specs.List.{AllByRecursion};
 ghost use Rattle.mq_arrivals.specs.Arrivals.{HasArrived, IsArriving};
@@ -42,7 +44,6 @@ pub fn arrivals_of<'a, R: Threads + Sync, G: Gate>(
     let comings = comings_of(rt, alloc, arriving, gate)?;
     match run_parts(rt, alloc, arriving.workers, comings.as_slice(), gate) {
         Ok(groups) => all_merged(alloc, comings, groups),
-        // A call of `drop` lets go of what is left at an exit: it is proved once for a type.
         Err(fault) => {
             drop(comings);
             Err(fault)

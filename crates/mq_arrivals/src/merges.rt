@@ -154,7 +154,7 @@ fn nothing(alloc: Global) -> Stream
     }
 }
 
-// The same for all nodes that are ready.
+// What comes to the nodes that are ready by their first two ports, or to the sources among them.
 fn openings<'a>(alloc: Global, arriving: &Arriving<'a>) -> Result<List<Coming<'a>>, OutOfMemory>
     requires arriving { IsArriving arriving.now }
     ensures len { IfOk result (λ all. length all ≡ length arriving.now.ready.now) }
@@ -167,7 +167,7 @@ fn openings<'a>(alloc: Global, arriving: &Arriving<'a>) -> Result<List<Coming<'a
     Ok(all)
 }
 
-// What came to a node by these ports, of the pieces in their order.
+// What came to a node by the ports so far, put together from its pieces.
 fn merged_of<'a>(
     alloc: Global,
     coming: Coming<'a>,
@@ -183,7 +183,6 @@ fn merged_of<'a>(
     } = coming;
     match origin {
         Origin::Unsorted(_rows) => Ok(Arrivals::Merged(alone(group))),
-        // Here and below a call of `drop` lets go of what is left at an exit: it is proved once for a type.
         Origin::Ports(before, _next, blocks) => {
             drop(before);
             match joined(alloc, &blocks, group) {
@@ -210,7 +209,7 @@ fn alone(group: List<Stream>) -> Stream
     }
 }
 
-// Blocks, one behind the other; a single one is taken as it is.
+// The stream of these blocks: a single one is taken as it is, and several are copied.
 fn joined(alloc: Global, blocks: &Blocks, group: List<Stream>) -> Result<Stream, OutOfMemory>
     requires len { length group ≡ blocks.now.blocks }
     ensures { IfOk result (λ stream. (pairs : Pairs) → blocks.now.n ≡ length pairs → AreAll (IsBlockOf pairs blocks.now) blocks.now.blocks group → ArePairsOf pairs stream) }
@@ -223,7 +222,7 @@ fn joined(alloc: Global, blocks: &Blocks, group: List<Stream>) -> Result<Stream,
     stream
 }
 
-// Blocks, one behind the other.
+// Copies blocks into one stream, one behind the other.
 fn behind(alloc: Global, blocks: &Blocks, group: &List<Stream>) -> Result<Stream, OutOfMemory>
     requires len { length group.now ≡ blocks.now.blocks }
     ensures { IfOk result (λ stream. (pairs : Pairs) → blocks.now.n ≡ length pairs → AreAll (IsBlockOf pairs blocks.now) blocks.now.blocks group.now → ArePairsOf pairs stream) }
@@ -264,7 +263,7 @@ fn further<'a>(
     Coming { number, origin }
 }
 
-/// What came to the nodes by these ports, of the pieces of each.
+/// What came to the nodes by the ports so far, put together from the pieces of each.
 pub fn all_merged<'a>(
     alloc: Global,
     comings: List<Coming<'a>>,
@@ -294,7 +293,7 @@ pub fn all_merged<'a>(
     Ok(all)
 }
 
-// The same for all nodes, of the pieces of what came before.
+// What comes to the nodes by one port more, where they have one, and what came before, put together from its pieces.
 fn all_further<'a>(
     alloc: Global,
     arriving: &Arriving<'a>,

@@ -144,7 +144,6 @@ fn resumed<'a>(
         };
         return match branches.push(branch) {
             Ok(()) => Ok(Passage { branches, latest }),
-            // Here and below a call of `drop` lets go of what is left at an exit: it is proved once for a type.
             Err(fault) => {
                 drop(branches);
                 drop(latest);

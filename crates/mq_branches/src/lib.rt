@@ -2,6 +2,8 @@
 //! that have it.
 #![tactic(auto)]
 
+// Where a call of `drop` lets go of what is left, that spares proof: a call is proved once for a type, the end of a scope anew at each exit.
+
 mod branches;
 mod servers;
 

@@ -1,5 +1,5 @@
 // Servers that are scanned side by side, as the next servers of the branches of fork-joins.
-ghost use Rattle.std.specs.Prelude.{◌≡◌, ◌≤◌, ◌<◌, ◌^◌, length, map, IfOk};
+ghost use Rattle.std.specs.Prelude.{◌≡◌, ◌≤◌, ◌<◌, length, map, IfOk};
 ghost use Rattle.std.specs.List.{AllByRecursion};
 ghost use Rattle.mq_core.specs.Recurrences.{lindley};
 ghost use Rattle.mq_crew.specs.Crew.{AreAll, AreGroups};
@@ -116,7 +116,6 @@ fn begun_all<'a>(
         let group = groups.get(at);
         match begun(alloc, task, group) {
             Ok(carried) => all.push(carried)?,
-            // Here and below a call of `drop` lets go of what is left at an exit: it is proved once for a type.
             Err(fault) => {
                 drop(all);
                 return Err(fault);

@@ -1,5 +1,5 @@
 // What the rule of the claims tells of every schedule of their workers.
-ghost use Rattle.std.specs.Prelude.{◌≡◌, ◌≢◌, ℕ, [], List};
+ghost use Rattle.std.specs.Prelude.{◌≢◌, ℕ, [], List};
 ghost use Rattle.mq_claims.specs.declared.hand.Hand.{Hand};
 ghost use Rattle.mq_claims.specs.Drawing.{IsDrawn};
 ghost use Rattle.mq_claims.specs.Machine.{IsShown, Name, Worker, Reached, HasEnded, EachHasOne};

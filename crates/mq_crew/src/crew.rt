@@ -1,5 +1,5 @@
 // Workers that draw numbers and make pieces.
-ghost use Rattle.std.specs.Prelude.{◌≡◌, ℕ, ◌+◌, ◌<◌, ◌≤◌, [], IfOk};
+ghost use Rattle.std.specs.Prelude.{◌≡◌, ◌+◌, ◌<◌, ◌≤◌, [], IfOk};
 ghost use Rattle.std.specs.Thread.{IsSync, IsSend};
 ghost use Rattle.mq_claims.specs.Seats.{IsSeatOf};
 ghost use Rattle.mq_crew.specs.Crew.{IsMadeOf, AreAll};

@@ -1,5 +1,5 @@
 // Pieces that come with their numbers, put at their indices.
-ghost use Rattle.std.specs.Prelude.{◌≡◌, ℕ, ◌<◌, ◌≤◌, length, map, All, Contains, IfOk, Some, slice_index_or, replicate, None, ◌++◌, IsOkAnd};
+ghost use Rattle.std.specs.Prelude.{◌≡◌, ℕ, ◌<◌, length, map, All, Contains, IfOk, Some, slice_index_or, replicate, None, ◌++◌, IsOkAnd};
 
 use mq_base::{List, OutOfMemory};
 use std::alloc::Global;

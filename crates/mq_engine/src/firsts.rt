@@ -98,7 +98,6 @@ pub fn stage_of(
         Scan::Unscanned => Ok(Stage::Ended(the_whole(group))),
         Scan::OfTandem(scan) => {
             let summed = tandem_sums(alloc, load.arrivals, scan, &group);
-            // What is large goes by a call of `drop`, which is proved once for a type.
             drop(group);
             let Ok(sums) = summed else {
                 return Err(OutOfMemory);

@@ -69,7 +69,6 @@ fn gathered_at(alloc: Global, arriving: &Arriving, number: u32) -> Result<Gather
     for port in 0..inputs.len() {
         let stream = stream_of(arriving.outputs, inputs.get(port));
         let Ok(()) = gathered.add(alloc, stream) else {
-            // Here and below what is large goes by a call of `drop`, which is proved once for a type.
             drop(gathered);
             return Err(OutOfMemory);
         };

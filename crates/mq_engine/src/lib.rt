@@ -1,6 +1,8 @@
 //! The engine: a run of a network, in waves over the nodes whose inputs are done.
 #![tactic(auto)]
 
+// Where a call of `drop` lets go of what is left, that spares proof: a call is proved once for a type, the end of a scope anew at each exit.
+
 ghost use Rattle.std.specs.Prelude.{◌≡◌, ◌≤◌, [], filter, IfErr, IfOk, None};
 ghost use Rattle.mq_core.specs.Sequences.{IsRunOf};
 ghost use Rattle.mq_core.specs.Results.{refusal_of};
@@ -71,7 +73,6 @@ pub fn run<R: Threads + Sync, G: Gate>(
     let mut progress = beginning(alloc, plan.net.nodes.len())?;
     'waves: loop {
         let Ok(ready) = ready_nodes(alloc, plan, &progress.stands) else {
-            // Here and below what is large goes by a call of `drop`, which is proved once for a type.
             drop(progress);
             return Err(RunFault::Memory);
         };

@@ -103,7 +103,6 @@ pub fn loads_of<'a, R: Threads + Sync, G: Gate>(
         block: arriving.block,
     };
     let Ok(scans) = made(rt, alloc, arriving.workers, &scanning, gate) else {
-        // Here and below what is large goes by a call of `drop`, which is proved once for a type.
         drop(arrived);
         return Err(OutOfMemory);
     };

@@ -45,7 +45,6 @@ pub fn results_of<R: Threads + Sync, G: Gate>(
             let those_emptied = all_emptied(rt, alloc, workers, middles, groups, gate)?;
             station_results(rt, alloc, workers, those_emptied, gate)
         }
-        // Here and below what is large goes by a call of `drop`, which is proved once for a type.
         Err(fault) => {
             drop(middles);
             Err(fault)

@@ -136,7 +136,7 @@ fn sorted_out(alloc: Global, arriving: &Arriving) -> Result<Wave, OutOfMemory>
     Ok(wave)
 }
 
-// These results, and those behind them.
+// The results of a wave: of its nodes with too many visits, and behind them these. Nothing else of the wave is looked at.
 fn all_results(
     wave: Wave,
     gathered: List<NodeResult>,
@@ -172,7 +172,6 @@ pub fn wave_of<R: Threads + Sync, G: Gate>(
         ..*arriving
     };
     let Ok(gathered) = apart_results(rt, alloc, &gathering, gate) else {
-        // What is large goes by a call of `drop`, which is proved once for a type.
         drop(wave);
         return Err(OutOfMemory);
     };

@@ -222,7 +222,6 @@ pub fn result_of(
             let ending = ending_of(arrivals, after);
             Ok(NodeResult { number, ending })
         }
-        // Here and below what is large goes by a call of `drop`, which is proved once for a type.
         Err(fault) => {
             drop(arrivals);
             Err(fault)

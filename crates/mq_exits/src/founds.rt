@@ -41,7 +41,6 @@ pub fn after_delay(
     requires group { AreAll (IsDelayPiece load.now.arrivals.now overtaken) overtaken.blocks.blocks group }
     ensures { IfOk result (λ after. IsAfterAt load.now.plan.now load.now.rows.now load.now.number load.now.arrivals.now after) }
 {
-    // What is large goes by a call of `drop`, which is proved once for a type.
     match founds_joined(alloc, load.arrivals, &overtaken, &group) {
         Ok(found) => {
             drop(group);

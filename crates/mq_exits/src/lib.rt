@@ -2,6 +2,8 @@
 //! last pieces, which tell whether a visit departs after the bound, how many each found, and which jobs leave.
 #![tactic(auto)]
 
+// Where a call of `drop` lets go of what is left, that spares proof: a call is proved once for a type, the end of a scope anew at each exit.
+
 ghost use Rattle.std.specs.Prelude.{◌≡◌, ◌≤◌, ℕ, List as Items, length, IfOk};
 ghost use Rattle.std.specs.List.{AllByRecursion};
 ghost use Rattle.mq_core.specs.declared.model.Plan.{Plan as ThePlan};
@@ -55,7 +57,6 @@ pub fn station_results<R: Threads + Sync, G: Gate>(
 {
     match run_parts(rt, alloc, workers, those_emptied.as_slice(), gate) {
         Ok(groups) => ended(alloc, those_emptied, groups),
-        // Here and below what is large goes by a call of `drop`, which is proved once for a type.
         Err(fault) => {
             drop(those_emptied);
             Err(fault)

@@ -95,7 +95,6 @@ fn overtaken_at<R: Threads + Sync>(
     fates_are_in_time();
     let leaving = by_departure(rt, alloc, workers, &load.arrivals.job, &departs)?;
     match first_late_overtaken(load.plan.net.bound, load.number, &departs, &leaving.time) {
-        // Here and below what is large goes by a call of `drop`, which is proved once for a type.
         Some(past) => {
             drop(departs);
             drop(leaving);

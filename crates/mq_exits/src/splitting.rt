@@ -84,7 +84,6 @@ pub fn passed(load: &Load, group: List<Closed>, streams: List<Stream>) -> After
     let found = founds_in(last_of(&mut group));
     match left_in(last_of(&mut group)) {
         Ok(times) => After::Seen(Fates::departures(times), found, streams),
-        // What is large goes by a call of `drop`, which is proved once for a type.
         Err(past) => {
             drop(found);
             drop(streams);

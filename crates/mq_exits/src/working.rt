@@ -123,7 +123,6 @@ fn seen(
     fates_are_in_time();
     sequences_go_by_fates();
     match first_late(net.bound, number, &leaving.fates) {
-        // Here and below what is large goes by a call of `drop`, which is proved once for a type.
         Some(past) => {
             drop(leaving);
             Ok(Worked::Finished(After::Missed(past)))

@@ -4,6 +4,8 @@
 //! and 1 to 12 other nodes, then 20,000 to 40,000 records.
 #![tactic(auto)]
 
+// Where a call of `drop` lets go of what is left, that spares proof: a call is proved once for a type, the end of a scope anew at each exit.
+
 mod draws;
 mod laws;
 mod model;

@@ -216,7 +216,6 @@ fn add_section(
     let kind = kind_by(alloc, sections.columns.as_slice(), places, drawn)?;
     let outputs = match outputs_from(alloc, sections.nodes.len() as u32, &kind) {
         Ok(outputs) => outputs,
-        // What is large goes by a call of `drop`, which is proved once for a type.
         Err(fault) => {
             drop(kind);
             return Err(fault);

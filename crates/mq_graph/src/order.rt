@@ -1,6 +1,6 @@
 ghost use Rattle.std.specs.Prelude.{◌≡◌, ◌<◌, ◌≤◌, ℕ, length, IsErrOf, OnOk};
 ghost use Rattle.std.specs.List.{list_all};
-ghost use Rattle.mq_core.specs.Wiring.{has, first_ready, ranking};
+ghost use Rattle.mq_core.specs.Wiring.{has, first_ready};
 ghost use Rattle.mq_graph.specs.Cycle.{HasCycle};
 ghost use Rattle.mq_graph.specs.Rank.{AreWired, Answers, first_outside};
 

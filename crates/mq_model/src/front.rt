@@ -299,7 +299,6 @@ fn add_said(alloc: Global, said: Said, number: u32, front: &mut Front) -> Result
     ensures err { IfErr result (λ e. Tells e (added_fault front.old number said)) }
 {
     if let Err(fault) = add_names(alloc, &said, number, front) {
-        // What is large goes by a call of `drop`, which is proved once for a type.
         drop(said);
         return Err(fault);
     }

@@ -1,5 +1,5 @@
 // The inputs of a text, and its sources.
-ghost use Rattle.std.specs.Prelude.{◌≡◌, ◌≤◌, ◌+◌, ◌||◌, [], length, nat_lt};
+ghost use Rattle.std.specs.Prelude.{◌≡◌, ◌≤◌, ◌||◌, [], length, nat_lt};
 ghost use Rattle.std.specs.List.{flat_map, list_any};
 ghost use Rattle.mq_model.specs.Model.{inputs_fault};
 ghost use Rattle.mq_model.specs.Placed.{AreNarrow, FaultOfReads, placed_inputs};

@@ -1,6 +1,8 @@
 //! The model text: its grammar, its first fault, and the network that it declares.
 #![tactic(auto)]
 
+// Where a call of `drop` lets go of what is left, that spares proof: a call is proved once for a type, the end of a scope anew at each exit.
+
 mod fault;
 mod front;
 mod inputs;

@@ -85,7 +85,6 @@ fn read_node(alloc: Global, words: &mut &[&[u8]], first: KindWord) -> Result<Sai
     let kind = read_kind(alloc, words, first)?;
     match read_inputs(alloc, words) {
         Ok(reads) => Ok(Said::Node { name, kind, reads }),
-        // Here and below what is large goes by a call of `drop`, which is proved once for a type.
         Err(stop) => {
             drop(kind);
             Err(stop)

@@ -134,7 +134,6 @@ pub fn read_model(alloc: Global, bytes: &[u8]) -> Result<Plan, ModelFault>
     }
     let mut front = read_lines(alloc, without_mark(bytes))?;
     match front_fault(&front) {
-        // What is large goes by a call of `drop`, which is proved once for a type.
         Some(fault) => {
             drop(front);
             Err(fault)

@@ -52,7 +52,6 @@ pub fn read_lines(alloc: Global, text: &[u8]) -> Result<Front, ModelFault>
     let mut front = no_lines(alloc);
     match add_lines(alloc, text, &mut front) {
         Ok(()) => Ok(front),
-        // What is large goes by a call of `drop`, which is proved once for a type.
         Err(fault) => {
             drop(front);
             Err(fault)

@@ -1,10 +1,7 @@
 // A server's jobs, cut into blocks.
-ghost use Rattle.std.specs.Prelude.{◌≡◌, ◌+◌, ◌*◌, ◌^◌, ◌<◌, ◌≤◌, length, min, IfOk};
-ghost use Rattle.mq_chain.specs.Cut.{block_summary};
+ghost use Rattle.std.specs.Prelude.{◌≡◌, ◌*◌, ◌^◌, ◌<◌, ◌≤◌, length, IfOk};
 ghost use Rattle.mq_chain.specs.Stored.{IsShort};
-ghost use Rattle.mq_chain.specs.Words.{value_of};
 ghost use Rattle.mq_core.specs.Sequences.{IsSoundLoad};
-ghost use Rattle.mq_core.specs.Recurrences.{lindley};
 ghost use Rattle.mq_pass.specs.Blocks.{summary_at, departs_of};
 ghost use Rattle.mq_maxplus.specs.Within.{IsWithin};
 

@@ -1,5 +1,5 @@
 // The blocks that were left, with the carries before them.
-ghost use Rattle.std.specs.Prelude.{◌≡◌, ℕ, ◌+◌, ◌*◌, ◌<◌, ◌≤◌, ◌++◌, [], All, IfOk, OnOk, length, map, min, slice_index_or};
+ghost use Rattle.std.specs.Prelude.{◌≡◌, ℕ, ◌+◌, ◌*◌, ◌<◌, ◌++◌, [], All, IfOk, OnOk, length, map, slice_index_or};
 ghost use Rattle.mq_maxplus.specs.Maxplus.{affine_act, CanAct};
 ghost use Rattle.mq_maxplus.specs.declared.mp.Mp.TheVariants.{Void};
 ghost use Rattle.mq_pass.specs.Blocks.{IsKnown};

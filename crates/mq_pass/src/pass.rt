@@ -45,7 +45,6 @@ pub fn chain_departures<R: Threads + Sync, G: Gate>(
     let (seat, made) = crew(
         rt, alloc, &chain, seat, 0, workers, stream, demands, &blocks, gate,
     );
-    // Here and below a call of `drop` lets go of what is left at an exit: it is proved once for a type.
     let carries = match chain.close(alloc, seat) {
         Ok(carries) => carries,
         Err(fault) => {

@@ -99,7 +99,6 @@ pub(crate) fn ended<G: Gate, R: Threads + Sync>(
             drop(left);
             departs
         }
-        // A call of `drop` lets go of what is left at an exit: it is proved once for a type.
         Err(fault) => {
             drop(left);
             Err(fault)

@@ -5,7 +5,7 @@ ghost use Rattle.mq_maxplus.specs.declared.mp.Mp.TheVariants.{Void};
 ghost use Rattle.mq_maxplus.specs.Maxplus.{affine_act, affine_then, mp_or_zero, CanAct, CanThen};
 ghost use Rattle.mq_maxplus.proofs.Laws.{acts as acts_law, joins as joins_law};
 ghost use Rattle.mq_server.specs.Jobs.{job, IsLateLoad};
-ghost use Rattle.mq_server.specs.Bounds.{late-enough, spans_act as acts_of, spans_join as joins_of};
+ghost use Rattle.mq_server.specs.Bounds.{spans_act as acts_of, spans_join as joins_of};
 
 use mq_base::List;
 use mq_core::Stream;

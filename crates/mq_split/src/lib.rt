@@ -1,7 +1,7 @@
 //! The split, which sends each job on by one of its outputs.
 #![tactic(auto)]
 
-ghost use Rattle.std.specs.Prelude.{◌≡◌, ◌==◌, ◌+◌, ◌<◌, ◌≤◌, ◌^◌, ℕ, length, count_by, nat_le, IfOk};
+ghost use Rattle.std.specs.Prelude.{◌≡◌, ◌==◌, ◌+◌, ◌<◌, ◌≤◌, length, count_by, nat_le, IfOk};
 ghost use Rattle.mq_base.specs.Lists.{between};
 ghost use Rattle.mq_core.specs.Sequences.{IsStream};
 ghost use Rattle.mq_core.specs.Streams.{picked};

@@ -35,7 +35,6 @@ pub fn forkjoin_whole(
     let asked = branch_demands(alloc, branches)?;
     let demands = all_demands_of(alloc, rows, &asked, &arrivals.job)?;
     let Ok(servers) = branch_servers(alloc, branches) else {
-        // Here and below a call of `drop` lets go of what is left at an exit: it is proved once for a type.
         drop(asked);
         drop(demands);
         return Err(OutOfMemory);

@@ -1,6 +1,8 @@
 //! What leaves a station, given its arrivals, by its kind: whole, or by blocks of jobs.
 #![tactic(auto)]
 
+// Where a call of `drop` lets go of what is left, that spares proof: a call is proved once for a type, the end of a scope anew at each exit.
+
 ghost use Rattle.std.specs.Prelude.{◌≡◌, ◌≤◌, ℕ, List as Items, IfOk, Ok, true};
 ghost use Rattle.mq_core.specs.SequenceLaws.{sends_once};
 ghost use Rattle.mq_stations.specs.Leaving.{IsLeft, IsLoad};

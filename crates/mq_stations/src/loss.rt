@@ -38,7 +38,6 @@ pub fn loss_outflow(
         ..
     } = settled;
     let Ok(fates) = fates_by_admission(alloc, &admitted, &departs) else {
-        // Here and below a call of `drop` lets go of what is left at an exit: it is proved once for a type.
         drop(admitted);
         drop(departs);
         return Err(OutOfMemory);

@@ -1,5 +1,5 @@
 // What leaves a station, and what several kinds of station have in common.
-ghost use Rattle.std.specs.Prelude.{◌≡◌, ◌∷◌, [], All, length, map, IfOk};
+ghost use Rattle.std.specs.Prelude.{◌≡◌, ◌∷◌, [], All, map, IfOk};
 ghost use Rattle.mq_core.specs.Handling.{demand_of_job};
 ghost use Rattle.mq_core.specs.declared.model.Fate.TheVariants.{Departs};
 ghost use Rattle.mq_stations.specs.Leaving.{AreAsked};
@@ -73,7 +73,6 @@ pub fn all_demands_of(
     let mut demands = Vec::with_capacity(alloc, asked.len())?;
     for at in 0..asked.len() {
         let Ok(each) = demands_of(alloc, rows, asked.get(at), jobs) else {
-            // Here and below a call of `drop` lets go of what is left at an exit: it is proved once for a type.
             drop(demands);
             return Err(OutOfMemory);
         };

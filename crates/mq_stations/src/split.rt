@@ -33,7 +33,6 @@ pub fn split_outflow(
 {
     let values = values_of(alloc, rows, route, arrivals.job.as_slice())?;
     let left = split(alloc, arrivals, &values, route);
-    // Here and below a call of `drop` lets go of what is left: it is proved once for a type.
     drop(values);
     let streams = left?;
     let Ok(fates) = fates_of(alloc, &arrivals.time) else {

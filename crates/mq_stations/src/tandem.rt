@@ -40,7 +40,6 @@ pub fn tandem_whole(
 {
     let demands = demands_of_stages(alloc, rows, stages, &arrivals.job)?;
     let Ok(places) = stage_places(alloc, stages) else {
-        // Here and below a call of `drop` lets go of what is left at an exit: it is proved once for a type.
         drop(demands);
         return Err(OutOfMemory);
     };

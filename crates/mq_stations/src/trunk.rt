@@ -78,7 +78,6 @@ fn outflow_of(alloc: Global, settled: Trunk) -> Result<Outflow, OutOfMemory>
         ..
     } = settled;
     let Ok(streams) = both(alloc, leaving, lost) else {
-        // Here and below a call of `drop` lets go of what is left at an exit: it is proved once for a type.
         drop(admitted);
         drop(departs);
         return Err(OutOfMemory);

@@ -1,5 +1,5 @@
 // How many jobs each visit found, where no job overtakes another.
-ghost use Rattle.std.specs.Prelude.{◌≡◌, ◌<◌, ◌≤◌, ℕ, length, true, take, count_by, IfOk, Some, slice_get};
+ghost use Rattle.std.specs.Prelude.{◌≡◌, ◌<◌, ◌≤◌, length, true, take, count_by, IfOk, slice_get};
 ghost use Rattle.mq_core.specs.OnceOut.{departs_after, founds_of};
 ghost use Rattle.mq_core.specs.Laws.{Rises};
 ghost use Rattle.mq_stats.specs.Departures.{departures_rise, stays, stays_at};

@@ -1,5 +1,5 @@
 // How many jobs each visit found, by pieces: from a table that is made once for all of them.
-ghost use Rattle.std.specs.Prelude.{◌≡◌, ◌+◌, ◌<◌, ◌≤◌, ℕ, List as Items, cond, count_by, length, map, nat_le, IfOk};
+ghost use Rattle.std.specs.Prelude.{◌≡◌, ◌+◌, ◌<◌, ◌≤◌, List as Items, cond, count_by, length, map, nat_le, IfOk};
 ghost use Rattle.std.specs.List.{AllByRecursion, zip};
 ghost use Rattle.mq_base.specs.Lists.{between};
 ghost use Rattle.mq_core.specs.SequenceLaws.{LeavesFrom};

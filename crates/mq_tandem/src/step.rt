@@ -1,8 +1,8 @@
 // A tandem's jobs, which act on the latest departures one after another.
-ghost use Rattle.std.specs.Prelude.{◌≡◌, ℕ, ◌+◌, ◌-◌, ◌<◌, ◌≤◌, [], ◌∷◌, ◌++◌, All, Some, drop, length, map, slice_get, slice_index_or, sum, take};
+ghost use Rattle.std.specs.Prelude.{◌≡◌, ℕ, ◌+◌, ◌-◌, ◌<◌, ◌≤◌, All, Some, drop, length, slice_get, sum};
 ghost use Rattle.mq_core.specs.Sequences.{IsSoundLoad};
 ghost use Rattle.mq_maxplus.specs.Maxplus.{mp_or_zero, Fits};
-ghost use Rattle.mq_maxplus.specs.Matrices.{entry, matrix_act, matrix_then, CanMatrixAct, CanMatrixThen};
+ghost use Rattle.mq_maxplus.specs.Matrices.{entry, matrix_act, matrix_then, CanMatrixThen};
 ghost use Rattle.mq_maxplus.proofs.MatrixLaws.{acts as acts_law, joins as joins_law};
 ghost use Rattle.mq_tandem.specs.Stages.{AreStages};
 ghost use Rattle.mq_tandem.specs.Rows.{job_act, job_matrix, kept, last_row, none_kept, room_row, zero_row, CanActOnTimes, IsTandemLoad};

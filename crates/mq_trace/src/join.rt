@@ -1,6 +1,6 @@
 // The rows of pieces, one behind the other.
 
-ghost use Rattle.std.specs.Prelude.{◌≡◌, ◌+◌, ◌^◌, ◌<◌, ◌≤◌, ℕ, [], length, get_or, map, flat_map, slice_index_or, Ok, OnOk, IfErr};
+ghost use Rattle.std.specs.Prelude.{◌≡◌, ◌+◌, ◌<◌, ◌≤◌, ℕ, [], length, get_or, map, flat_map, slice_index_or, Ok, OnOk, IfErr};
 ghost use Rattle.csv.specs.Records.{fields_of};
 ghost use Rattle.mq_core.specs.declared.model.Rows.{Rows};
 ghost use Rattle.mq_trace.specs.Joined.{AreJoined, HaveColumns};

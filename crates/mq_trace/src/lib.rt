@@ -1,6 +1,8 @@
 //! The reader of a trace: comma-separated records, of which the first names the columns and each further one is a job.
 #![tactic(auto)]
 
+// Where a call of `drop` lets go of what is left, that spares proof: a call is proved once for a type, the end of a scope anew at each exit.
+
 mod each;
 mod ends;
 mod fault;

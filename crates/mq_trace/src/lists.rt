@@ -1,7 +1,7 @@
 // The rows of pieces, put one behind the other: one list a piece of work, which a worker makes whole.
 
 ghost use Rattle.std.specs.Prelude.{◌≡◌, ◌+◌, ◌-◌, ◌<◌, ◌≤◌, length, IfOk};
-ghost use Rattle.mq_trace.specs.Joined.{AreJoined, HasColumns, HaveColumns, IsListAt, all_numbers, all_sources, piece_numbers, piece_sources};
+ghost use Rattle.mq_trace.specs.Joined.{AreJoined, HaveColumns, IsListAt, all_numbers, all_sources, piece_numbers, piece_sources};
 
 use crate::fault::TraceFault;
 use mq_base::{List, OutOfMemory};

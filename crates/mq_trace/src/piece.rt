@@ -46,7 +46,6 @@ fn read_by_csv(
 {
     let mut reader = text_reader(alloc, piece);
     if at == 0 {
-        // Here and below a call of `drop` lets go of what is left at an exit: it is proved once for a type.
         if let Err(fault) = pass_header(alloc, &mut reader) {
             drop(reader);
             return Err(fault);

@@ -50,7 +50,6 @@ fn plain_rows(
             continue;
         }
         let Some(row) = plain_row(rest, rows.source.len(), net, header, &mut values) else {
-            // Here and below a call of `drop` lets go of what is left at an exit: it is proved once for a type.
             drop(rows);
             return Ok(None);
         };

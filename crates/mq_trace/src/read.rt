@@ -43,7 +43,6 @@ fn read_whole(alloc: Global, text: &[u8], net: &Network) -> Result<Rows, TraceFa
     ensures { Answers result (records_fault net.now (text_records text.now)) (rows_in net.now text.now) }
 {
     let mut names = ByteRecord::new(alloc);
-    // Here and below a call of `drop` lets go of what is left at an exit: it is proved once for a type.
     match first_record(alloc, text, &mut names) {
         Ok(true) => {
             let header = read_header(alloc, names, net)?;

@@ -1,12 +1,12 @@
 // A data record of a trace.
 
-ghost use Rattle.std.specs.Prelude.{◌&&◌, ◌≡◌, ◌≢◌, ◌+◌, ◌^◌, ◌<◌, ◌≤◌, ℕ, length, get_or, true, false, None, Some, IfOk, IfErr, drop};
+ghost use Rattle.std.specs.Prelude.{◌&&◌, ◌≡◌, ◌+◌, ◌^◌, ◌<◌, length, None, Some, IfOk, IfErr, drop};
 ghost use Rattle.std.specs.Str.Parse.{digits_value};
 ghost use Rattle.std.specs.Str.{bytes_eq};
 ghost use Rattle.csv.specs.Records.{fields_of};
 ghost use Rattle.mq_core.specs.Wiring.{is_source_kind};
 ghost use Rattle.mq_trace.specs.Header.{columns_of, field_of};
-ghost use Rattle.mq_trace.specs.Trace.{Tells, bad_value, row_fault, source_named};
+ghost use Rattle.mq_trace.specs.Trace.{bad_value, row_fault, source_named};
 ghost use Rattle.mq_trace.specs.Reading.{IsHeaderOf, HoldsValues};
 
 use crate::fault::TraceFault;

@@ -77,7 +77,6 @@ pub fn read_rows(
     ensures { Reads net.now (fields_of header.now.names) (records_left reader.old) result }
 {
     let mut rows = GrowingRows::new(alloc, net.columns.as_slice(), room)?;
-    // A call of `drop` lets go of what is left at an exit: it is proved once for a type.
     let Ok(mut row) = ByteRecord::with_capacity(alloc, RECORD_ROOM, 18) else {
         drop(rows);
         return Err(TraceFault::Memory);

@@ -1,4 +1,4 @@
-ghost use Rattle.std.specs.Prelude.{◌≡◌, ◌+◌, ◌<◌, length, nat_lt};
+ghost use Rattle.std.specs.Prelude.{◌≡◌, ◌+◌, ◌<◌, nat_lt};
 ghost use Rattle.mq_trunk.specs.Kept.{IsFalling, take_place};
 ghost use Rattle.mq_core.specs.Recurrences.{busy_at};
 

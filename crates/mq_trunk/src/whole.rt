@@ -1,4 +1,4 @@
-ghost use Rattle.std.specs.Prelude.{◌≡◌, ◌+◌, ◌≤◌, length, nat_lt, replicate, if◌then◌else◌, IfOk};
+ghost use Rattle.std.specs.Prelude.{◌≡◌, ◌+◌, length, nat_lt, replicate, if◌then◌else◌, IfOk};
 ghost use Rattle.mq_core.specs.Sequences.{IsSoundLoad};
 ghost use Rattle.mq_trunk.specs.Kept.{IsFalling, take_place};
 ghost use Rattle.mq_core.specs.Recurrences.{busy_at};
