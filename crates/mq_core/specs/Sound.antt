@@ -28,7 +28,7 @@ abbrev pub is_output : Option Node → ℕ → Bool
 is_output None out = false
 is_output (Some node) out = nat_lt out (outputs_in node.kind)
 
--- a source reads nothing, and each other node at 1 to 8 ports
+-- a source reads nothing, a join at 2 to 8 ports, and each other node at 1 to 8
 abbrev pub is_sound_count : Kind → ℕ → Bool
 is_sound_count kind inputs = (behaviour_of kind).ports inputs
 

@@ -84,7 +84,7 @@ pub struct Node {
     pub name: List<u8>,
     /// What it does with the jobs that come.
     pub kind: Kind,
-    /// What each port reads, by port: 1 to 8, and none at a source.
+    /// What each port reads, by port: none at a source, 2 to 8 at a join, and else 1 to 8.
     pub inputs: List<Input>,
 }
 
@@ -137,9 +137,9 @@ pub struct Rows {
 /// Jobs that go along a connection, by time: two lists of one length, whose times never fall.
 #[derive(Drop)]
 pub struct Stream {
-    /// The jobs, in the order in which they pass.
+    /// The jobs, in the order in which they come by.
     pub job: List<u32>,
-    /// When each job passes, in ticks.
+    /// When each job comes by, in ticks.
     pub time: List<u64>,
 }
 

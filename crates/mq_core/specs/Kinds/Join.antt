@@ -27,7 +27,7 @@ abbrev pub is_matched : List Visit → ℕ → ℕ → List (ℕ × ℕ) → Boo
 is_matched visits job zero held = true
 is_matched visits job (suc ports) held = list_any (is_by visits job ports) held && is_matched visits job ports held
 
--- without the first that passes
+-- without the first for which the test holds
 abbrev pub without_first : {X : Type 0} → (X → Bool) → List X → List X
 without_first test [] = []
 without_first test (x ∷ xs) = if test x then xs else x ∷ without_first test xs
