@@ -111,7 +111,7 @@ Untouched (Over f) before now = now ≡ before
 Untouched (ReadFault second) before now = now ≡ before
 Untouched Memory before now = now ≡ before
 
--- how a command may end before the model is read; want of memory comes only where the words pass the rule
+-- how a command may end before the model is read; want of memory comes only where the words meet the rule
 abbrev pub RefusesCall : List (List ℕ) → Outcome → Type 0
 RefusesCall words (Usage f) = usage_fault words ≡ Some f
 RefusesCall words Memory = refuses_words words ≡ false

@@ -51,7 +51,7 @@ of_row-push job (k ∷ ms) m = go (k.job == job) (of_row-push job ms m)
 pub row-push : (own job : ℕ) (ms : List Emission) (m : Emission) (b : Bool) → m.job ≡ own → (own == job) ≡ b → of_row job (ms ++ m ∷ []) ≡ of_row job ms ++ cond b (m ∷ []) []
 row-push own job ms m b of e = of_row-push job ms m ∙ ap (λ c. of_row job ms ++ cond c (m ∷ []) []) (ap (λ j. j == job) of ∙ e)
 
--- what holds of it
+-- what holds of a join between two events
 pub record Joining (ports : ℕ) (visits : List Visit) (held : List (ℕ × ℕ)) (emitted : List Emission) (fs : List Event) : Type 0 where
   pub none : fs ≡ []
   pub some : 1 ≤ ports
