@@ -5,7 +5,8 @@ use Rattle.std.specs.List.{list_any}
 use Rattle.std.proofs.lemmas.Slice.Eq.{bytes_eq-Decides}
 use Rattle.clap.specs.Walk.{Held, Text, walked}
 use Rattle.clap.specs.Takes.{walk_passes}
-use Rattle.mq_words.specs.Words.{begins_with_dash, block_option, has_word, is_bad_word, is_option, jobs_option, lacks_value, left_from, made_option, report_option, stands_twice, takes_value, value_of, words_left, workers_option}
+use Rattle.mq_base.specs.Text.{begins_with_dash}
+use Rattle.mq_words.specs.Words.{block_option, has_word, is_bad_word, is_option, jobs_option, lacks_value, left_from, made_option, report_option, stands_twice, takes_value, value_of, words_left, workers_option}
 use Rattle.mq_words.proofs.Walks.{at, block_walk, jobs_walk, made_walk, model_walk, pends, report_walk, rules, trace_walk, workers_walk}
 use Rattle.mq_words.proofs.Reading.{Given, Holds, after_jobs, block_turn, block_value_turn, both_true, holds_block, holds_jobs, holds_made, holds_model, holds_report, holds_trace, holds_workers, jobs_turn, made_turn, made_value_turn, model_turn, or_given, report_turn, report_value_turn, shape, told, trace_turn, workers_turn, workers_value_turn}
 

@@ -8,7 +8,8 @@ use Rattle.clap.specs.Walk.{Held, Row, Text, Step, Walk, has_row, idle, is_pendi
 use Rattle.clap.specs.Takes.{bundle_passes, flag_word_passes, settle_passes, step_passes, turn_passes}
 use Rattle.clap.specs.declared.builder.value_parser.Reading.TheVariants.{AsWritten}
 use Rattle.clap.specs.declared.parser.matches.ValueSource.TheVariants.{CommandLine}
-use Rattle.mq_words.specs.Words.{begins_with_dash, block_option, has_word, jobs_option, made_option, report_option, value_of, words_left, workers_option}
+use Rattle.mq_base.specs.Text.{begins_with_dash}
+use Rattle.mq_words.specs.Words.{block_option, has_word, jobs_option, made_option, report_option, value_of, words_left, workers_option}
 use Rattle.mq_words.proofs.FoundRows.{first_use, found, no_row, other_use, row_with}
 use Rattle.mq_words.proofs.Walks.{app, at, jobs_built, model_built, no_dash, no_dashes, pends, plain, waits, rows_at, rules, trace_built}
 

@@ -6,7 +6,8 @@ use Rattle.clap.specs.Simple.{App, is_simple, new_app, new_rule, with_rule}
 use Rattle.clap.specs.Walk.{Held, Row, Rule, Text, Walk, idle, walked, settled_rows, reacted, Waiting, Step, subcommand_or_other, plain_word, long_or_other, short_or_plain, option, after_step, pushed, settled, is_pending}
 use Rattle.clap.specs.declared.builder.action.ArgAction.TheVariants.{Set, SetTrue}
 use Rattle.clap.specs.declared.builder.value_parser.ValueParser.TheVariants as parser
-use Rattle.mq_words.specs.Words.{begins_with_dash, block_option, jobs_option, made_option, report_option, workers_option}
+use Rattle.mq_base.specs.Text.{begins_with_dash}
+use Rattle.mq_words.specs.Words.{block_option, jobs_option, made_option, report_option, workers_option}
 
 -- the command
 abbrev pub option_rule : Text → Rule

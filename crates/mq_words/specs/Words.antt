@@ -1,7 +1,7 @@
 -- The words behind the program's name: which lists are refused and why, and what the others ask for.
-use Rattle.std.specs.Prelude.{◌≡◌, ◌==◌, ◌&&◌, ◌||◌, ℕ, Bool, true, false, not, List, [], ◌∷◌, length, codes, bytes_eq, slice_index, slice_get, nat_lt, nat_le, ◌-◌, ◌^◌, Option, Some, None, is_some, is_none, option_and_then, if◌then◌else◌}
+use Rattle.std.specs.Prelude.{◌≡◌, ◌==◌, ◌&&◌, ◌||◌, ℕ, Bool, true, false, not, List, [], ◌∷◌, length, codes, bytes_eq, slice_get, nat_lt, nat_le, ◌-◌, ◌^◌, Option, Some, None, is_some, is_none, option_and_then, if◌then◌else◌}
 use Rattle.std.specs.List.{list_any}
-use Rattle.mq_base.specs.Text.{number_of}
+use Rattle.mq_base.specs.Text.{begins_with_dash, number_of}
 use Rattle.mq_words.specs.declared.fault.UsageFault.{UsageFault}
 use Rattle.mq_words.specs.declared.fault.UsageFault.TheVariants.{Words, Form, Workers, Block, Made, Report}
 use Rattle.mq_words.specs.declared.fault.WordsFault.{WordsFault}
@@ -25,10 +25,6 @@ report_option = codes "--report"
 
 abbrev pub jobs_option : List ℕ
 jobs_option = codes "--jobs"
-
--- the word begins with a dash
-abbrev pub begins_with_dash : List ℕ → Bool
-begins_with_dash word = slice_index word 0 == 45
 
 -- an option that takes a value
 abbrev pub takes_value : List ℕ → Bool

@@ -2,13 +2,9 @@
 ghost use Rattle.std.specs.Prelude.{◌≡◌, ◌≤◌, ◌∷◌, [], true, length, IsNone, IfSome, nat_lt};
 ghost use Rattle.std.specs.List.{list_any};
 ghost use Rattle.mq_base.specs.Text.{texts};
-ghost use Rattle.mq_words.specs.Words.{begins_with_dash as begins_with_dash_of, begins_with_value as begins_with_value_of, has_word as has_word_of, is_option as is_option_of, is_bad_word as is_bad_word_of, is_unknown as is_unknown_of, left_from, lacks_value as lacks_value_of, refuses_words as refuses_words_of, stands_twice as stands_twice_of, takes_value as takes_value_of, words_left};
+ghost use Rattle.mq_words.specs.Words.{begins_with_value as begins_with_value_of, has_word as has_word_of, is_option as is_option_of, is_bad_word as is_bad_word_of, is_unknown as is_unknown_of, left_from, lacks_value as lacks_value_of, refuses_words as refuses_words_of, stands_twice as stands_twice_of, takes_value as takes_value_of, words_left};
 
-fn begins_with_dash(word: &str) -> bool
-    ensures { result ≡ begins_with_dash_of word.now }
-{
-    word.as_bytes().first() == Some(&b'-')
-}
+use mq_base::begins_with_dash;
 
 // The word is an option that takes a value.
 fn takes_value(word: &str) -> bool
