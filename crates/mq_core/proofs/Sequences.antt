@@ -14,3 +14,4 @@ pub mod NumberRuns
 pub mod OnceEach
 pub mod StationTable
 pub mod ArrivalTable
+pub mod AloneSequences

@@ -2,7 +2,7 @@
 ghost use Rattle.mq_core.specs.Theorems.{EventsGoForward, ArrivalsAreRead, NodesRunAlone, VisitsAreArrivals};
 ghost use Rattle.mq_core.specs.NetworkRun.{RunsAreOfNetworks};
 ghost use Rattle.mq_core.specs.PlanLaws.{NodesAreInLimits, OrdersRank, RowsTellDemands};
-ghost use Rattle.mq_core.specs.Alone.{NodesFlowAlone};
+ghost use Rattle.mq_core.specs.Alone.{NodesFareAlone, NodesFlowAlone};
 ghost use Rattle.mq_core.specs.Bounded.{DeparturesAreBounded};
 ghost use Rattle.mq_core.specs.Fates.{AreasAreSojourns, BusyIsServices, FoundsAreCounts, HeldAreEntries, RunEnds, SpanIsLatest};
 ghost use Rattle.mq_core.specs.SequenceLaws.{ArrivalsAreStreams, SequencesAreBlind, SequencesGoByFates, DepartsInTime, FatesAreInTime, JobsAreRows, FirstVersionCopiesNothing, NodesAreSequences, NodesFlow, OrdersKeepItems, StreamsRise, VisitsAreFew, VisitsStayBareTime};
@@ -46,6 +46,12 @@ pub fn areas_are_sojourns()
 /// A node alone lets out the recurrence of its kind over its visits, in emission order.
 pub fn nodes_flow_alone()
     ensures { NodesFlowAlone }
+{}
+
+/// The visits to a node alone fare as the recurrence of its kind says of its arrivals: each departs at
+/// its time, is lost, or is held.
+pub fn nodes_fare_alone()
+    ensures { NodesFareAlone }
 {}
 
 /// Each visit found as many as the earlier ones that were still there.

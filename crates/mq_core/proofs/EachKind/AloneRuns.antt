@@ -14,6 +14,7 @@ use Rattle.mq_core.specs.Alone.{IsLoad, came, come_at, NodesFlowAlone}
 use Rattle.mq_core.specs.StandardTable.{standard}
 use Rattle.mq_core.specs.OnTime.{standard-on_time}
 use Rattle.mq_core.specs.Wiring.{inputs_of}
+use Rattle.mq_core.specs.declared.model.Node.{Node}
 use Rattle.mq_core.specs.declared.model.Plan.{Plan}
 use Rattle.mq_core.specs.declared.model.Rows.{Rows}
 use Rattle.mq_core.proofs.Events.Steps.{after-some, after-none, after-zero, handled-zero, handled-some, handled-none}
@@ -84,12 +85,20 @@ lone-visits plan rows v arrivals load count done =
     visits-handled (alone (standard plan rows)) v count (opened (alone (standard plan rows)) arrivals)
     ∙ ap (map {B = ℕ × ℕ × ℕ} (λ e. (time_of e, port_of e, job_of e))) (alone-arrivals (standard plan rows) (standard-on_time plan rows) v arrivals load.here load.ordered count done ∙ sym (filter-all (is_arrival_at v) arrivals load.here))
 
-pub nodes-flow_alone : NodesFlowAlone
-nodes-flow_alone plan rows v node here arrivals load count done =
+-- what holds of it at the end
+pub lone-end : (plan : Plan) (rows : Rows) (v : ℕ) (node : Node) → slice_get plan.net.nodes v ≡ Some node → (arrivals : List Event) → IsLoad (length (inputs_of plan.net.nodes v)) v arrivals → (count : ℕ) → (after count (alone (standard plan rows)) (opened (alone (standard plan rows)) arrivals)).pending ≡ [] →
+    kind_fact rows (length node.inputs) node.kind v ((after count (alone (standard plan rows)) (opened (alone (standard plan rows)) arrivals)).stations v) [] (after count (alone (standard plan rows)) (opened (alone (standard plan rows)) arrivals)).clock
+lone-end plan rows v node here arrivals load count done =
     let fact = lone-fact plan rows arrivals (begins plan rows v arrivals load.here load.fit) count v in
     let one = subst (λ o. node_fact rows o v (end.stations v) (filter (is_finish_at v) end.pending) end.clock) here fact in
-    let two = subst (λ l. kind_fact rows (length node.inputs) node.kind v (end.stations v) (filter (is_finish_at v) l) end.clock) done one in
-    record { visited = lone-visits plan rows v arrivals load count done; left = kind-flow rows (length node.inputs) node.kind v (end.stations v) end.clock two }
+    subst (λ l. kind_fact rows (length node.inputs) node.kind v (end.stations v) (filter (is_finish_at v) l) end.clock) done one
+  where
+    end : State Local
+    end = after count (alone (standard plan rows)) (opened (alone (standard plan rows)) arrivals)
+
+pub nodes-flow_alone : NodesFlowAlone
+nodes-flow_alone plan rows v node here arrivals load count done =
+    record { visited = lone-visits plan rows v arrivals load count done; left = kind-flow rows (length node.inputs) node.kind v (end.stations v) end.clock (lone-end plan rows v node here arrivals load count done) }
   where
     end : State Local
     end = after count (alone (standard plan rows)) (opened (alone (standard plan rows)) arrivals)
