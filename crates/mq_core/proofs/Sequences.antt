@@ -15,3 +15,4 @@ pub mod OnceEach
 pub mod StationTable
 pub mod ArrivalTable
 pub mod AloneSequences
+pub mod SinceRows

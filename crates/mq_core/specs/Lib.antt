@@ -36,4 +36,5 @@ pub mod PlanLaws
 pub mod NumberLaws
 pub mod SequenceLaws
 pub mod RunLaws
+pub mod RowLaws
 pub mod Bounded

@@ -7,6 +7,7 @@ ghost use Rattle.mq_core.specs.Bounded.{DeparturesAreBounded};
 ghost use Rattle.mq_core.specs.Fates.{AreasAreSojourns, BusyIsServices, FoundsAreCounts, HeldAreEntries, RunEnds, SpanIsLatest};
 ghost use Rattle.mq_core.specs.SequenceLaws.{ArrivalsAreStreams, SequencesAreBlind, SequencesGoByFates, DepartsInTime, FatesAreInTime, JobsAreRows, FirstVersionCopiesNothing, NodesAreSequences, NodesFlow, OrdersKeepItems, StreamsRise, VisitsAreFew, VisitsStayBareTime};
 ghost use Rattle.mq_core.specs.NumberLaws.{ExitsAreStreams, FineGrows, RefusalIsFirst, RefusalIsNone, SpanIsSequences, TotalsAreSequences};
+ghost use Rattle.mq_core.specs.RowLaws.{NoneBeforeItsRow};
 ghost use Rattle.mq_core.specs.RunLaws.{SequencesMakeRuns, OutputsHaveStreams, RunsHaveSequences, StreamsMakeOutputs};
 
 use crate::handlers::Handlers;
@@ -167,6 +168,13 @@ pub fn streams_rise()
 /// The job of each visit is a row.
 pub fn jobs_are_rows()
     ensures { JobsAreRows }
+{}
+
+/// No visit comes, and nothing leaves a node, before the time of its job's row: what an exit sums up
+/// is the sum of the times at which its jobs left, less those of their rows, and no difference is cut
+/// off at 0.
+pub fn none_before_its_row()
+    ensures { NoneBeforeItsRow }
 {}
 
 /// No job departs before it came from a node where visits don't stay for good.
