@@ -10,3 +10,4 @@ pub mod JoinExits
 pub mod JoinLimits
 pub mod JoinArrivals
 pub mod HeldVisits
+pub mod MatchedTimes

@@ -37,4 +37,5 @@ pub mod NumberLaws
 pub mod SequenceLaws
 pub mod RunLaws
 pub mod RowLaws
+pub mod Matched
 pub mod Bounded

@@ -7,6 +7,7 @@ ghost use Rattle.mq_core.specs.Bounded.{DeparturesAreBounded};
 ghost use Rattle.mq_core.specs.Fates.{AreasAreSojourns, BusyIsServices, FoundsAreCounts, HeldAreEntries, RunEnds, SpanIsLatest};
 ghost use Rattle.mq_core.specs.SequenceLaws.{ArrivalsAreStreams, SequencesAreBlind, SequencesGoByFates, DepartsInTime, FatesAreInTime, JobsAreRows, FirstVersionCopiesNothing, NodesAreSequences, NodesFlow, OrdersKeepItems, StreamsRise, VisitsAreFew, VisitsStayBareTime};
 ghost use Rattle.mq_core.specs.NumberLaws.{ExitsAreStreams, FineGrows, RefusalIsFirst, RefusalIsNone, SpanIsSequences, TotalsAreSequences};
+ghost use Rattle.mq_core.specs.Matched.{VisitsFareByMatch};
 ghost use Rattle.mq_core.specs.RowLaws.{NoneBeforeItsRow};
 ghost use Rattle.mq_core.specs.RunLaws.{SequencesMakeRuns, OutputsHaveStreams, RunsHaveSequences, StreamsMakeOutputs};
 
@@ -37,6 +38,12 @@ pub fn the_run_ends()
 /// a visit departs when its entry is taken out, and is held where it never is.
 pub fn held_are_entries()
     ensures { HeldAreEntries }
+{}
+
+/// The i-th visits of a job to a join by all its ports are a match: each departs as the last of them
+/// comes, and is held where by one port no i-th ever comes.
+pub fn visits_fare_by_match()
+    ensures { VisitsFareByMatch }
 {}
 
 /// The area of a node is the sum of the sojourns of its visits.

@@ -124,7 +124,7 @@ each-get low [] j y h e = absurd cc
 each-get low (z ∷ ys) zero y h e = subst (λ (v : Visit). low ≤ v.arrive) (some_inj z y e) h.0
 each-get low (z ∷ ys) (suc j) y h e = each-get low ys j y h.1 e
 
-rise-get : (xs : List Visit) (i j : ℕ) (x y : Visit) → Rises (λ a b. a ≤ b) (arrives_of xs) → i < j → slice_get xs i ≡ Some x → slice_get xs j ≡ Some y → x.arrive ≤ y.arrive
+pub rise-get : (xs : List Visit) (i j : ℕ) (x y : Visit) → Rises (λ a b. a ≤ b) (arrives_of xs) → i < j → slice_get xs i ≡ Some x → slice_get xs j ≡ Some y → x.arrive ≤ y.arrive
 rise-get [] i j x y r l e f = absurd cc
 rise-get (z ∷ xs) zero zero x y r l e f = absurd (omega arith)
 rise-get (z ∷ xs) zero (suc j) x y r l e f = subst (λ (v : Visit). v.arrive ≤ y.arrive) (some_inj z x e) (each-get z.arrive xs j y r.0 f)

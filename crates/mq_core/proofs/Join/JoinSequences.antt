@@ -63,7 +63,7 @@ module _ (ports : ℕ) (s : Station Local) (fs : List Event) (h : Joining ports 
       ∙ (h.places z.job (index_of s.visits (length pre) z)
       ∙ ap (λ n. match_of ports z.job n (items_of s.visits)) (ap (λ l. count_by (is_of z.job z.port) (take (length pre) l)) e ∙ (ap (count_by (is_of z.job z.port)) (take-middle pre (z ∷ zs)) ∙ sym (items-count z.job z.port pre))))
 
-  exit-time : (p : ℕ) (m : Emission) → join.exit s p ≡ Some m → slice_index (arrives_of s.visits) m.position ≡ m.time
+  pub exit-time : (p : ℕ) (m : Emission) → join.exit s p ≡ Some m → slice_index (arrives_of s.visits) m.position ≡ m.time
   exit-time p m e = go (slice_get s.visits p) e
     where
       go : (o : Option Visit) → joined_exit s.visits s.emitted p o ≡ Some m → slice_index (arrives_of s.visits) m.position ≡ m.time

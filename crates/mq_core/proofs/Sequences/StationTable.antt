@@ -41,7 +41,7 @@ station_of rows ports Join = join-station rows ports
 station_of rows ports (Trunk servers demand) = once_each rows ports (Trunk servers demand) refl
 
 -- a node at the end of the run
-node-flowed : (plan : Plan) (rows : Rows) → IsReadFor plan.net rows → (v : ℕ) (node : Node) → slice_get plan.net.nodes v ≡ Some node → HasFlowed rows (length node.inputs) (behaviour_of node.kind) (inside_of rows (length node.inputs) node.kind) ((run_of plan rows).stations v)
+pub node-flowed : (plan : Plan) (rows : Rows) → IsReadFor plan.net rows → (v : ℕ) (node : Node) → slice_get plan.net.nodes v ≡ Some node → HasFlowed rows (length node.inputs) (behaviour_of node.kind) (inside_of rows (length node.inputs) node.kind) ((run_of plan rows).stations v)
 node-flowed plan rows read v node e =
     let s = (run_of plan rows).stations v in
     record {

@@ -122,7 +122,7 @@ place-own job port position (z ∷ pre) post item e =
     go false n ih = ap (λ m. place_from job port m (suc position) (pre ++ item ∷ post)) (let same : 0 + n ≡ n = omega arith in same) ∙ ih
 
 -- a match is whole no earlier than at each of its places
-match-least : (ports job i : ℕ) (items : List (ℕ × ℕ)) (port p q : ℕ) → port < ports → place_from job port i 0 items ≡ Some p → match_of ports job i items ≡ Some q → p ≤ q
+pub match-least : (ports job i : ℕ) (items : List (ℕ × ℕ)) (port p q : ℕ) → port < ports → place_from job port i 0 items ≡ Some p → match_of ports job i items ≡ Some q → p ≤ q
 match-least zero job i items port p q l e f = absurd (omega arith)
 match-least (suc ports) job i items port p q l e f = go (eqb port ports) refl (place_from job ports i 0 items) refl (match_of ports job i items) refl (match-least ports job i items port p)
   where
