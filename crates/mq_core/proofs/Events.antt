@@ -16,3 +16,4 @@ pub mod Founds
 pub mod Leavings
 pub mod Exits
 pub mod Settled
+pub mod Grown

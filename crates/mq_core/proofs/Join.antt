@@ -11,3 +11,4 @@ pub mod JoinLimits
 pub mod JoinArrivals
 pub mod HeldVisits
 pub mod MatchedTimes
+pub mod TakenOut

@@ -1,10 +1,12 @@
 -- When the visits to a join depart. The i-th visits of a job by all ports are a match: each of them departs as the last of them comes.
-use Rattle.std.specs.Prelude.{List, Some, count_by, length, slice_get, take, ℕ, ◌<◌, ◌≡◌, ◌≤◌}
+use Rattle.std.specs.Prelude.{List, Some, count_by, false, length, slice_get, suc, take, true, ℕ, ◌<◌, ◌≡◌, ◌≤◌}
 use Rattle.mq_core.specs.Fates.{fate_of}
-use Rattle.mq_core.specs.Kinds.Join.{index_of, is_of}
-use Rattle.mq_core.specs.Machine.{Visit}
+use Rattle.mq_core.specs.Kinds.Join.{has_entry, index_of, is_of}
+use Rattle.mq_core.specs.Local.{Local}
+use Rattle.mq_core.specs.Machine.{Station, Visit, after, opened}
 use Rattle.mq_core.specs.Results.{or_held}
-use Rattle.mq_core.specs.StandardTable.{run_of}
+use Rattle.mq_core.specs.Run.{run_length, starts}
+use Rattle.mq_core.specs.StandardTable.{run_of, standard}
 use Rattle.mq_core.specs.Theorems.{IsReadFor}
 use Rattle.mq_core.specs.declared.model.Fate.{Fate}
 use Rattle.mq_core.specs.declared.model.Fate.TheVariants.{Departs, Held, Lost}
@@ -49,3 +51,18 @@ VisitsFareByMatch =
     let s = (run_of plan rows).stations v in
     (position : ℕ) (visit : Visit) → slice_get s.visits position ≡ Some visit →
     FaresByMatch (length node.inputs) s.visits visit.job (index_of s.visits position visit) (or_held (fate_of node.kind s position))
+
+-- the entry of the visit at this position is taken out: before, the visit had it or hadn't come yet, and now it is there and has none
+pub record IsTakenOut (position : ℕ) (before now : Station Local) : Type 0 where
+  pub had : position < length before.visits → has_entry position before.local.held ≡ true
+  pub here : position < length now.visits
+  pub gone : has_entry position now.local.held ≡ false
+
+-- a visit to a join departs at the time of the step that takes its entry out
+abbrev pub DepartsAsTakenOut : Type 0
+DepartsAsTakenOut =
+    (plan : Plan) (rows : Rows) (count v position : ℕ) (node : Node) → slice_get plan.net.nodes v ≡ Some node → node.kind ≡ Join → count < run_length plan.net.nodes rows →
+    let before = after count (standard plan rows) (opened (standard plan rows) (starts rows)) in
+    let now = after (suc count) (standard plan rows) (opened (standard plan rows) (starts rows)) in
+    IsTakenOut position (before.stations v) (now.stations v) →
+    fate_of node.kind ((run_of plan rows).stations v) position ≡ Some (Departs now.clock)

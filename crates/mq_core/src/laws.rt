@@ -7,7 +7,7 @@ ghost use Rattle.mq_core.specs.Bounded.{DeparturesAreBounded};
 ghost use Rattle.mq_core.specs.Fates.{AreasAreSojourns, BusyIsServices, FoundsAreCounts, HeldAreEntries, RunEnds, SpanIsLatest};
 ghost use Rattle.mq_core.specs.SequenceLaws.{ArrivalsAreStreams, SequencesAreBlind, SequencesGoByFates, DepartsInTime, FatesAreInTime, JobsAreRows, FirstVersionCopiesNothing, NodesAreSequences, NodesFlow, OrdersKeepItems, StreamsRise, VisitsAreFew, VisitsStayBareTime};
 ghost use Rattle.mq_core.specs.NumberLaws.{ExitsAreStreams, FineGrows, RefusalIsFirst, RefusalIsNone, SpanIsSequences, TotalsAreSequences};
-ghost use Rattle.mq_core.specs.Matched.{VisitsFareByMatch};
+ghost use Rattle.mq_core.specs.Matched.{DepartsAsTakenOut, VisitsFareByMatch};
 ghost use Rattle.mq_core.specs.RowLaws.{NoneBeforeItsRow};
 ghost use Rattle.mq_core.specs.RunLaws.{SequencesMakeRuns, OutputsHaveStreams, RunsHaveSequences, StreamsMakeOutputs};
 
@@ -38,6 +38,11 @@ pub fn the_run_ends()
 /// a visit departs when its entry is taken out, and is held where it never is.
 pub fn held_are_entries()
     ensures { HeldAreEntries }
+{}
+
+/// A visit to a join departs at the time of the step that takes its entry out.
+pub fn departs_as_taken_out()
+    ensures { DepartsAsTakenOut }
 {}
 
 /// The i-th visits of a job to a join by all its ports are a match: each departs as the last of them

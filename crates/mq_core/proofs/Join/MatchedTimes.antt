@@ -1,6 +1,7 @@
 -- That each visit to a join departs as the last item of its match comes, or is held where one never does.
 use Rattle.std.proofs.Common.{◌≡◌, ◌⊎◌, inl, inr, ℕ, zero, suc, ◌+◌, ◌-◌, ◌<◌, ◌≤◌, Bool, true, false, cond, eqb-true, List, [], ◌∷◌, length, max, take, Option, Some, None, refl, sym, ap, arith, subst, ◌∙◌}
 use Rattle.std.proofs.lemmas.Bool.{and_parts, cases_lt}
+use Rattle.std.proofs.lemmas.Option.{get_or_from_slice_get, slice_get-map}
 use Rattle.std.specs.Option.{option_map}
 use Rattle.std.specs.Prelude.{count_by, slice_get, slice_index, ◌==◌}
 use Rattle.mq_base.proofs.lemmas.Lists.{get-some, some_inj}
@@ -86,9 +87,7 @@ match-reached (suc ports) job i items q l e = go (place_from job ports i 0 items
 
 -- the arrival at a position
 index-at : (xs : List Visit) (p : ℕ) (x : Visit) → slice_get xs p ≡ Some x → slice_index (arrives_of xs) p ≡ x.arrive
-index-at [] p x e = absurd cc
-index-at (y ∷ xs) zero x e = ap (λ (v : Visit). v.arrive) (some_inj y x e)
-index-at (y ∷ xs) (suc p) x e = index-at xs p x e
+index-at xs p x e = get_or_from_slice_get (arrives_of xs) p x.arrive 0 (slice_get-map (λ (v : Visit). v.arrive) xs p ∙ ap (option_map (λ (v : Visit). v.arrive)) e)
 
 -- who comes at no later position comes no later
 no_later : (xs : List Visit) (i j : ℕ) (x y : Visit) → Rises (λ a b. a ≤ b) (arrives_of xs) → i ≤ j → slice_get xs i ≡ Some x → slice_get xs j ≡ Some y → x.arrive ≤ y.arrive

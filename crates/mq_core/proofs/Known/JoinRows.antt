@@ -1,12 +1,14 @@
 -- Forks and joins worked by hand: each row below says what a run of a small network gives, and holds by computing the event list.
-use Rattle.std.proofs.Common.{◌≡◌, arith, false, [], ◌∷◌, refl}
+use Rattle.std.proofs.Common.{◌≡◌, ℕ, zero, suc, ◌+◌, ◌<◌, ◌≤◌, arith, false, List, [], ◌∷◌, refl, sum}
 use Rattle.std.specs.Prelude.{IsTrue, codes}
 use Rattle.mq_core.specs.Came.{Came, came_of}
 use Rattle.mq_core.specs.Event.{earliest, is_below, order_key, sooner_of}
 use Rattle.mq_core.specs.Local.{Local}
-use Rattle.mq_core.specs.Machine.{State, after, step}
+use Rattle.mq_core.specs.Machine.{State, Visit, after, step}
+use Rattle.mq_core.specs.Matched.{IsMatchedAt, IsUnmatched, Item}
 use Rattle.mq_core.specs.NetworkRun.{run_in}
 use Rattle.mq_core.specs.Results.{exit_of, stream_from, totals_of, visits_of}
+use Rattle.mq_core.specs.RowLaws.{row_times}
 use Rattle.mq_core.specs.Sequences.{sequence_stream, sequence_totals, sequence_visits}
 use Rattle.mq_core.specs.Sound.{is_sound}
 use Rattle.mq_core.specs.Wiring.{first_ready, port_reading, rank_in, ranked_after, reader_from}
@@ -61,6 +63,33 @@ assembled-sequences : (sequence_visits two Join came_whole ≡ whole_visits) × 
     × (sequence_totals two Join whole_visits 6 ≡ record { came = 4; left = 4; lost = 0; held = 0; wait = 6; longest = 4; busy = 0; area = 6; peak = 3 })
 assembled-sequences = (refl, refl, refl)
 
+-- what left, left 8 later than its rows came
+assembled-exit : 8 + sum (row_times two (0 ∷ 1 ∷ [])) ≡ sum (3 ∷ 6 ∷ [])
+assembled-exit = refl
+
+-- The match of the first job is whole at 3, when its part comes by the first port.
+abbrev comes : (job arrive port found : ℕ) → Visit
+comes job arrive port found = record { job = job; arrive = arrive; port = port; found = found }
+
+abbrev parts : List Visit
+parts = comes 0 1 1 0 ∷ comes 1 2 1 1 ∷ comes 0 3 0 2 ∷ comes 1 6 0 1 ∷ []
+
+parts-came : came_of 2 parts ≡ came_whole
+parts-came = refl
+
+abbrev first_parts : (port : ℕ) → port < 2 → Item parts 0 port 0
+first_parts zero inside = record { position = 2; visit = comes 0 3 0 2; here = refl; of = refl; by = refl; behind = refl }
+first_parts (suc zero) inside = record { position = 0; visit = comes 0 1 1 0; here = refl; of = refl; by = refl; behind = refl }
+first_parts (suc (suc port)) inside = absurd (omega arith)
+
+first-early : (port : ℕ) (inside : port < 2) → (first_parts port inside).visit.arrive ≤ 3
+first-early zero inside = omega arith
+first-early (suc zero) inside = omega arith
+first-early (suc (suc port)) inside = absurd (omega arith)
+
+matched-row : IsMatchedAt 2 parts 0 0 3
+matched-row = record { item = first_parts; early = first-early; last = 0; inside = omega arith; then = refl }
+
 -- A loss station loses the second job, whose other part is held.
 abbrev less_visits : Visits
 less_visits = record { job = 0 ∷ 1 ∷ 0 ∷ []; arrive = 1 ∷ 2 ∷ 3 ∷ []; found = 0 ∷ 1 ∷ 2 ∷ []; fate = Departs 3 ∷ Held ∷ Departs 3 ∷ [] }
@@ -83,3 +112,10 @@ held-row = at-end 16 (parts_net (Loss 1 (Fixed 3))) two IsHeld (omega arith) ref
 held-sequences : (sequence_visits two Join came_less ≡ less_visits) × (sequence_stream two Join came_less 0 ≡ record { job = 0 ∷ []; time = 3 ∷ [] })
     × (sequence_totals two Join less_visits 3 ≡ record { came = 3; left = 2; lost = 0; held = 1; wait = 2; longest = 2; busy = 0; area = 3; peak = 3 })
 held-sequences = (refl, refl, refl)
+
+-- by the first port no part of the second job ever comes
+abbrev fewer_parts : List Visit
+fewer_parts = comes 0 1 1 0 ∷ comes 1 2 1 1 ∷ comes 0 3 0 2 ∷ []
+
+unmatched-row : (came_of 2 fewer_parts ≡ came_less) × IsUnmatched 2 fewer_parts 1 0
+unmatched-row = (refl, record { port = 0; inside = omega arith; few = omega arith })

@@ -2,7 +2,6 @@
 use Rattle.std.proofs.Common.{◌≡◌, ℕ, zero, suc, ◌+◌, ◌<◌, ◌≤◌, Bool, true, false, eqb, List, [], ◌∷◌, ◌++◌, length, Option, Some, None, sym, refl, subst, arith}
 use Rattle.std.specs.Prelude.{slice_get}
 use Rattle.std.specs.List.{AllByRecursion as Each}
-use Rattle.mq_base.proofs.lemmas.Lists.{some_inj}
 use Rattle.mq_base.proofs.lemmas.Each.{Each-append, Each-front, Each-back, Each-any, Each-map, Each-flat_map}
 use Rattle.mq_core.specs.SequenceLaws.{JobsAreRows}
 use Rattle.mq_core.specs.Event.{Event, time_of, node_of, earliest}
@@ -11,6 +10,7 @@ use Rattle.mq_core.specs.Machine.{Visit, Emission, Release, Service, Table, Stat
 use Rattle.mq_core.specs.Run.{run_length, starts, starts_from}
 use Rattle.mq_core.specs.StandardTable.{standard, run_of}
 use Rattle.mq_core.proofs.Events.Pending.{earliest-splits}
+use Rattle.mq_core.proofs.ForkJoin.ForkJoinSums.{each-at}
 use Rattle.mq_core.proofs.Events.Steps.{after-some, after-none, after-zero, station-other, station-own}
 
 -- an arrival of a job below n
@@ -26,17 +26,12 @@ pub record JobsBelow {L : Type 0} (n : ℕ) (s : State L) : Type 0 where
   pub pending : Each (BringsBelow n) s.pending
   pub visits : (v : ℕ) → VisitsBelow n (s.stations v).visits
 
-get-below : (n : ℕ) (visits : List Visit) (k : ℕ) (x : Visit) → VisitsBelow n visits → slice_get visits k ≡ Some x → x.job < n
-get-below n [] k x h e = absurd cc
-get-below n (y ∷ ys) zero x h e = subst (λ (z : Visit). z.job < n) (some_inj y x e) h.0
-get-below n (y ∷ ys) (suc k) x h e = get-below n ys k x h.1 e
-
 emissions-below : (n now : ℕ) (visits : List Visit) (releases : List Release) → VisitsBelow n visits → Each (λ (m : Emission). m.job < n) (emissions_of now visits releases)
 emissions-below n now visits releases h = Each-flat_map (λ _. Unit {0}) _ _ (λ r _. go r (slice_get visits r.position) refl) releases (Each-any _ (λ _. tt) releases)
   where
     go : (r : Release) (o : Option Visit) → slice_get visits r.position ≡ o → Each (λ (m : Emission). m.job < n) (emission_of now r.out r.position o)
     go r None e = tt
-    go r (Some x) e = (get-below n visits r.position x h e, tt)
+    go r (Some x) e = (each-at (λ (y : Visit). y.job < n) visits r.position x h e, tt)
 
 caused-below : {L : Type 0} (t : Table L) (n : ℕ) (s : Station L) (e : Event) → VisitsBelow n (visits_after t s e) → Each (BringsBelow n) (caused t s e)
 caused-below t n s e h =

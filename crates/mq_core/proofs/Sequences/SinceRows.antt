@@ -1,7 +1,7 @@
 -- That no job comes to a node, or leaves one, before the time of its row.
 use Rattle.std.proofs.Common.{◌≡◌, ℕ, zero, suc, ◌+◌, ◌-◌, ◌≤◌, Bool, true, false, eqb, List, [], ◌∷◌, ◌++◌, map, Option, Some, None, sum, sum_by, slice_index, sym, refl, subst, arith}
 use Rattle.std.proofs.lemmas.List.Sums.{sum_by-cons}
-use Rattle.std.proofs.lemmas.Option.{slice_get_within}
+use Rattle.std.proofs.lemmas.Option.{get_or_from_slice_get, slice_get_within}
 use Rattle.std.specs.Prelude.{slice_get}
 use Rattle.std.specs.List.{AllByRecursion as Each}
 use Rattle.mq_base.proofs.lemmas.Each.{Each-append, Each-front, Each-back, Each-any, Each-filter, Each-map, Each-flat_map, Each-weaker}
@@ -136,12 +136,7 @@ starts-current job sources times = Each-any _ (λ f. omega arith) (starts_from j
 
 -- a row is no later than itself
 row-since : (rows : Rows) (k time : ℕ) → slice_get rows.time k ≡ Some time → IsSinceRow rows k time
-row-since rows k time e = record { row = slice_get_within rows.time k time e; since = let same = index-at rows.time k time e in omega arith }
-  where
-    index-at : (times : List ℕ) (k time : ℕ) → slice_get times k ≡ Some time → slice_index times k ≡ time
-    index-at [] k time e = absurd cc
-    index-at (t ∷ ts) zero time e = some_inj t time e
-    index-at (t ∷ ts) (suc k) time e = index-at ts k time e
+row-since rows k time e = record { row = slice_get_within rows.time k time e; since = let same = get_or_from_slice_get rows.time k time 0 e in omega arith }
 
 -- an item of a stream is an emission
 stream-at : (rows : Rows) (ms : List Emission) (k job time : ℕ) → Each (λ (m : Emission). IsSinceRow rows m.job m.time) ms → slice_get (map (λ (m : Emission). m.job) ms) k ≡ Some job → slice_get (map (λ (m : Emission). m.time) ms) k ≡ Some time → IsSinceRow rows job time
