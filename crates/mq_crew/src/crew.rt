@@ -87,9 +87,9 @@ fn crew<P: Pieces, G: Gate, R: Threads + Sync>(
     (mine, merged(a, b))
 }
 
-/// All pieces, each at its index, made by 1 to 64 workers that draw the indices. Each worker
-/// enters the gate with a number that it drew, and then makes that piece. It refuses for want of
-/// memory alone.
+/// All pieces, each at its index, made by 1 to 64 workers that draw the indices, of which no more start
+/// than there are pieces. Each worker enters the gate with a number that it drew, and then makes that
+/// piece. It refuses for want of memory alone.
 pub fn run_pieces<P: Pieces, G: Gate, R: Threads + Sync>(
     rt: &R,
     alloc: Global,
@@ -103,6 +103,7 @@ pub fn run_pieces<P: Pieces, G: Gate, R: Threads + Sync>(
     ensures { IfOk result (λ l. AreAll (P.is_piece pieces.now) (P.size pieces.now) l) }
 {
     let count = pieces.count();
+    let workers = workers.min(count).max(1);
     let (claims, seat) = Claims::new(alloc, count, workers)?;
     let (seat, made) = crew(rt, alloc, &claims, seat, 0, workers, pieces, gate);
     claims.close(seat);

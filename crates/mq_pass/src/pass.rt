@@ -19,8 +19,9 @@ use std::thread::Threads;
 /// of jobs from a table, publish the last departure of each block there, and go on from the one that
 /// the block before published. What a worker found no carry for is left, and done at the end.
 ///
-/// There are 1 to 64 workers, and at most 16,384 blocks of at least one job. The gate is entered with
-/// each block that is drawn, where there are two or more. It refuses for want of memory alone.
+/// There are 1 to 64 workers, of which no more start than there are blocks, and at most 16,384 blocks of
+/// at least one job. The gate is entered with each block that is drawn, where there are two or more. It
+/// refuses for want of memory alone.
 pub fn chain_departures<R: Threads + Sync, G: Gate>(
     rt: &R,
     alloc: Global,
@@ -41,6 +42,7 @@ pub fn chain_departures<R: Threads + Sync, G: Gate>(
     if blocks.blocks <= 1 {
         return departures(alloc, stream, demands);
     }
+    let workers = workers.min(blocks.blocks);
     let (chain, seat) = Chain::new(alloc, blocks.blocks, workers)?;
     let (seat, made) = crew(
         rt, alloc, &chain, seat, 0, workers, stream, demands, &blocks, gate,

@@ -114,7 +114,6 @@ pub fn joined<R: Threads + Sync>(
     ensures { IfOk result (AreJoined lists.now.columns lists.now.read.now) }
 {
     let mut demands = Vec::with_capacity(alloc, lists.columns as usize)?;
-    let workers = workers.min(lists.columns + 2);
     let mut left = made(rt, alloc, workers, lists, &Open)?.into_vec();
     let source = match left.pop() {
         Some(RowList::Sources(source)) => source,

@@ -56,10 +56,15 @@ fn squares_are<R: Threads + Sync>(
 
 fn squares_stand<R: Threads + Sync>(rt: &R, alloc: Global) -> Result<bool, OutOfMemory> {
     let five: &[u64] = &[0, 1, 4, 9, 16];
+    let mut many = Vec::new(alloc);
+    for b in 0..100u64 {
+        many.push(b * b)?;
+    }
     Ok(
         squares_are(rt, alloc, 1, five)?
             && squares_are(rt, alloc, 3, five)?
             && squares_are(rt, alloc, 64, five)?
+            && squares_are(rt, alloc, 64, &many)?
             && squares_are(rt, alloc, 3, &[])?,
     )
 }
@@ -161,17 +166,33 @@ impl Gate for AtPieces {
     fn enter_block(&self, _seat: &ChainSeat, _worker: u32, _block: u32) {}
 }
 
-// Whether five workers make six squares, and meet.
-fn five_meet<R: Threads + Sync>(rt: &R, alloc: Global) -> Result<bool, OutOfMemory> {
+// Whether so many workers make so many squares, and the first five of them meet.
+fn five_meet<R: Threads + Sync>(
+    rt: &R,
+    alloc: Global,
+    workers: u32,
+    count: u32,
+) -> Result<bool, OutOfMemory>
+    requires some { 1 ≤ workers }
+    requires most { workers ≤ 64 }
+    requires few { count ≤ 6 }
+{
     let gate = AtPieces {
         meeting: Meeting::of_nobody(),
     };
-    let squares = run_pieces(rt, alloc, 5, &Squares { count: 6 }, &gate)?;
-    Ok(squares.as_slice() == [0, 1, 4, 9, 16, 25].as_slice() && gate.meeting.is_whole())
+    let squares = run_pieces(rt, alloc, workers, &Squares { count }, &gate)?;
+    let wanted: &[u64] = &[0, 1, 4, 9, 16, 25];
+    Ok(squares.as_slice() == &wanted[..count as usize] && gate.meeting.is_whole())
 }
 
 #[test]
 fn five_workers_enter_each_by_its_number(rt: HostRuntime) -> Result<(), Fail> {
-    assert!(rt; five_meet(&rt, rt.alloc())?);
+    assert!(rt; five_meet(&rt, rt.alloc(), 5, 6)?);
+    Ok(())
+}
+
+#[test]
+fn no_more_workers_start_than_there_are_pieces(rt: HostRuntime) -> Result<(), Fail> {
+    assert!(rt; five_meet(&rt, rt.alloc(), 64, 5)?);
     Ok(())
 }

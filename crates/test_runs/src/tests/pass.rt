@@ -249,15 +249,18 @@ impl Gate for AtBlocks {
     }
 }
 
-// Whether five workers pass over five blocks, and meet.
-fn five_pass<R: Threads + Sync>(rt: &R, alloc: Global) -> Result<bool, OutOfMemory> {
+// Whether five of so many workers pass over five blocks, and meet.
+fn five_pass<R: Threads + Sync>(rt: &R, alloc: Global, workers: u32) -> Result<bool, OutOfMemory>
+    requires some { 1 ≤ workers }
+    requires most { workers ≤ 64 }
+{
     let gate = AtBlocks {
         meeting: Meeting::of_nobody(),
     };
     let right = departs_are(
         rt,
         alloc,
-        5,
+        workers,
         1,
         [0, 1, 2, 3, 4].as_slice(),
         [4, 1, 3, 1, 2].as_slice(),
@@ -269,6 +272,12 @@ fn five_pass<R: Threads + Sync>(rt: &R, alloc: Global) -> Result<bool, OutOfMemo
 
 #[test]
 fn five_workers_enter_with_blocks_each_by_its_number(rt: HostRuntime) -> Result<(), Fail> {
-    assert!(rt; five_pass(&rt, rt.alloc())?);
+    assert!(rt; five_pass(&rt, rt.alloc(), 5)?);
+    Ok(())
+}
+
+#[test]
+fn no_more_workers_start_than_there_are_blocks(rt: HostRuntime) -> Result<(), Fail> {
+    assert!(rt; five_pass(&rt, rt.alloc(), 64)?);
     Ok(())
 }
