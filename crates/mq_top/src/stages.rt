@@ -41,6 +41,12 @@ const MODEL_LIMIT: u64 = 65_536;
 // The most bytes that the text of a trace may have.
 const TRACE_LIMIT: u64 = 134_217_728;
 
+// Rows of no more than so many blocks are one worker's: to start threads would take longer than they save.
+const FEW_BLOCKS: u64 = 16;
+
+// Whoever asks for blocks of fewer jobs than so many has them shared, however few the rows are.
+const LEAST_BLOCK: u32 = 64;
+
 // What the words ask for, or how the call ends.
 fn accept_words<'a>(alloc: Global, words: &'a [&'a str]) -> Result<Settings<'a>, Outcome>
     ensures asked { IfOk result (λ settings. Asks (texts words.now) settings) }
@@ -161,6 +167,19 @@ fn accept_trace<R: Threads + Sync, G: Gate, F: Files>(
     judge_trace(alloc, crew, plan, &bytes)
 }
 
+// How many of these workers work out a run over rows.
+fn workers_for(rows: &Rows, workers: u32, block: u32) -> u32
+    requires { 1 ≤ workers }
+    ensures some { 1 ≤ result }
+    ensures most { result ≤ workers }
+{
+    if LEAST_BLOCK <= block && rows.time.len() as u64 <= block as u64 * FEW_BLOCKS {
+        1
+    } else {
+        workers
+    }
+}
+
 // The percentiles of the waits at each node, which form 2 of the report tells; none for form 1.
 fn told_tails<R: Threads + Sync, G: Gate>(
     alloc: Global,
@@ -258,6 +277,12 @@ fn report_run<R: Threads + Sync, G: Gate, O: Sink>(
 {
     runs_are_of_networks();
     runs_have_few_visits();
+    let crew = &Crew {
+        rt: crew.rt,
+        workers: workers_for(rows, crew.workers, crew.block),
+        block: crew.block,
+        gate: crew.gate,
+    };
     let run = match run(
         crew.rt,
         alloc,
