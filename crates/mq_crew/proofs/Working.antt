@@ -7,10 +7,10 @@ use Rattle.mq_claims.specs.Counts.{late, times, IsAllBelow}
 use Rattle.mq_claims.proofs.Weighs.{weigh-append, times-there, once-lt}
 use Rattle.mq_crew.specs.Crew.{numbers, IsMadeOf, AreAll}
 
-lt-true : (d n : ℕ) → d < n → nat_lt d n ≡ true
+pub lt-true : (d n : ℕ) → d < n → nat_lt d n ≡ true
 lt-true d n h = grind (arith, nat_tests)
 
-lt-false : (d n : ℕ) → n ≤ d → nat_lt d n ≡ false
+pub lt-false : (d n : ℕ) → n ≤ d → nat_lt d n ≡ false
 lt-false d n h = grind (arith, nat_tests)
 
 pub filter-whole : (count : ℕ) (ds : List ℕ) → All (λ d. d < count) ds → filter (λ d. nat_lt d count) ds ≡ ds
@@ -51,6 +51,16 @@ All-cond P d ds false h r = r
 All-filter-self : (p : ℕ → Bool) (P : ℕ → Type 0) → ((z : ℕ) → p z ≡ true → P z) → (xs : List ℕ) → All P (filter p xs)
 All-filter-self p P h [] = λ k d lt. absurd (omega arith)
 All-filter-self p P h (x ∷ xs) = All-cond P x (filter p xs) (p x) (h x) (All-filter-self p P h xs)
+
+-- what holds of the draws and the lists of two halves, where the lists of both were put together
+pub both-ok : {V E X : Type 0} (items : V → List (ℕ × X)) (P Q R : List ℕ → List (ℕ × X) → Type 0) (first second r : Result V E) (ds es cs : List ℕ) → cs ≡ ds ++ es
+    → IfOk r (λ v. IsOkAnd first (λ a. IsOkAnd second (λ b. items v ≡ items a ++ items b))) → ((xs ys : List (ℕ × X)) → P ds xs → Q es ys → R (ds ++ es) (xs ++ ys))
+    → IfOk first (λ v. P ds (items v)) → IfOk second (λ v. Q es (items v)) → IfOk r (λ v. R cs (items v))
+both-ok items P Q R first second (Err e) ds es cs all put both a b = tt
+both-ok items P Q R (Err e) second (Ok v) ds es cs all put both a b = absurd put
+both-ok items P Q R (Ok x) (Err e) (Ok v) ds es cs all put both a b = absurd put
+both-ok {X = X} items P Q R (Ok x) (Ok y) (Ok v) ds es cs all put both a b =
+    subst (λ (z : List ℕ × List (ℕ × X)). R z.0 z.1) (λ i. (sym all i, sym put i)) (both (items x) (items y) a b)
 
 module _ {X : Type 0} (is_piece : ℕ → X → Type 0) (count : ℕ) where
   pub record IsWorking (draws : List ℕ) (made : List (ℕ × X)) : Type 0 where
@@ -122,11 +132,8 @@ module _ {X : Type 0} (is_piece : ℕ → X → Type 0) (count : ℕ) where
   pub both-made : {V E : Type 0} (items : V → List (ℕ × X)) (first second r : Result V E) (ds es cs : List ℕ) → cs ≡ ds ++ es
       → IfOk r (λ v. IsOkAnd first (λ a. IsOkAnd second (λ b. items v ≡ items a ++ items b)))
       → IfOk first (λ v. IsMadeOf is_piece count ds (items v)) → IfOk second (λ v. IsMadeOf is_piece count es (items v)) → IfOk r (λ v. IsMadeOf is_piece count cs (items v))
-  both-made items first second (Err e) ds es cs all put a b = tt
-  both-made items (Err e) second (Ok v) ds es cs all put a b = absurd put
-  both-made items (Ok x) (Err e) (Ok v) ds es cs all put a b = absurd put
-  both-made items (Ok x) (Ok y) (Ok v) ds es cs all put a b =
-      subst (λ (z : List ℕ × List (ℕ × X)). IsMadeOf is_piece count z.0 z.1) (λ i. (sym all i, sym put i)) (made-both ds es (items x) (items y) a b)
+  both-made items first second r ds es cs all put a b =
+      both-ok items (IsMadeOf is_piece count) (IsMadeOf is_piece count) (IsMadeOf is_piece count) first second r ds es cs all put (made-both ds es) a b
 
   -- what was put at the indices are the pieces
   pub all-placed : {E : Type 0} (made : List (ℕ × X)) (r : Result (List X) E) → All (λ p. is_piece p.0 p.1) made

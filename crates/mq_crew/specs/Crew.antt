@@ -1,10 +1,17 @@
 -- What a worker hands back, and what the gate asks of a seat.
-use Rattle.std.specs.Prelude.{◌≡◌, ℕ, ◌+◌, ◌-◌, ◌<◌, ◌≤◌, List, [], ◌∷◌, ◌++◌, length, map, filter, All, nat_lt, Some, slice_get, slice_index_or}
+use Rattle.std.specs.Prelude.{◌≡◌, ◌≢◌, ℕ, ◌+◌, ◌-◌, ◌<◌, ◌≤◌, List, [], ◌∷◌, ◌++◌, length, map, filter, All, Contains, nat_lt, Some, slice_get, slice_index_or}
+use Rattle.std.specs.List.{AllByRecursion, flat_map}
 use Rattle.mq_claims.specs.Counts.{late}
+use Rattle.mq_claims.specs.Machine.{Worker, indices, Name, Reached, HasEnded}
 
 -- the number is the last of the draws
 abbrev pub IsLastOf : List ℕ → ℕ → Type 0
 IsLastOf draws number = (before : List ℕ) × (draws ≡ before ++ number ∷ [])
+
+-- each number is above those before it
+abbrev pub Rise : List ℕ → Type 0
+Rise [] = Unit {0}
+Rise (x ∷ xs) = AllByRecursion (λ y. x < y) xs × Rise xs
 
 module _ {X : Type 0} where
   abbrev pub numbers : List (ℕ × X) → List ℕ
@@ -20,6 +27,32 @@ module _ {X : Type 0} where
   pub record AreAll (is_piece : ℕ → X → Type 0) (count : ℕ) (items : List X) : Type 0 where
     pub len : length items ≡ count
     pub each : (b : ℕ) (d : X) → b < count → is_piece b (slice_index_or items b d)
+
+  -- A worker of the machine that has ended: its draws are the numbers of its pieces, and one that has reached the count
+  pub record HasWorked (count : ℕ) (w : Worker X) : Type 0 where
+    pub late : ℕ
+    pub drew : w.draws ≡ indices w.done ++ late ∷ []
+    pub past : count ≤ late
+    pub early : AllByRecursion (λ d. d < count) (indices w.done)
+    pub rise : Rise w.draws
+
+  -- the draws and the pieces are those of so many workers, one behind the other
+  pub record AreWorked (count many : ℕ) (draws : List ℕ) (made : List (ℕ × X)) : Type 0 where
+    pub workers : List (Worker X)
+    pub many_are : length workers ≡ many
+    pub draws_are : flat_map (λ w. w.draws) workers ≡ draws
+    pub made_are : flat_map (λ w. w.done) workers ≡ made
+    pub each : AllByRecursion (HasWorked count) workers
+
+  -- A schedule of the machine has ended, of at most so many workers and no more than there are pieces but one at least. The items are the pieces that they recorded, each at its index
+  pub record AreRecorded (most count : ℕ) (items : List X) : Type 0 where
+    pub next : ℕ
+    pub state : Name → Worker X
+    pub reached : Reached count next state
+    pub some : (w : Name) × ((state w).draws ≢ [])
+    pub ended : HasEnded count state
+    pub few : (w : Name) → (state w).draws ≢ [] → (w.0 ≡ 0) × (w.1 < most) × (w.1 ≤ count - 1)
+    pub each : (x : ℕ) (d : X) → x < count → (w : Name) × Contains (state w).draws x × Contains (state w).done (x, slice_index_or items x d)
 
 module _ {P : Type 0} (size : P → ℕ) where
   -- how many pieces these have together

@@ -2,7 +2,7 @@
 ghost use Rattle.std.specs.Prelude.{◌≡◌, ◌+◌, ◌<◌, ◌≤◌, [], IfOk};
 ghost use Rattle.std.specs.Thread.{IsSync, IsSend};
 ghost use Rattle.mq_claims.specs.Seats.{IsSeatOf};
-ghost use Rattle.mq_crew.specs.Crew.{IsMadeOf, AreAll};
+ghost use Rattle.mq_crew.specs.Crew.{IsMadeOf, AreAll, AreRecorded, AreWorked};
 
 use crate::order::{merged, placed};
 use crate::{Gate, Pieces};
@@ -26,6 +26,7 @@ fn work<P: Pieces, G: Gate>(
     requires fresh { seat.draws ≡ [] }
     ensures seat { (result.0.table ≡ seat.table) × (result.0.right ≡ seat.right) }
     ensures made { IfOk result.1 (λ v. IsMadeOf (P.is_piece pieces.now) (P.size pieces.now) result.0.draws v.items) }
+    ensures worked { IfOk result.1 (λ v. AreWorked (P.size pieces.now) 1 result.0.draws v.items) }
 {
     let count = pieces.count();
     let mut made = Vec::new(alloc);
@@ -67,6 +68,7 @@ fn crew<P: Pieces, G: Gate, R: Threads + Sync>(
     requires fresh { seat.draws ≡ [] }
     ensures seat { (result.0.table ≡ seat.table) × (result.0.right ≡ seat.right) }
     ensures made { IfOk result.1 (λ v. IsMadeOf (P.is_piece pieces.now) (P.size pieces.now) result.0.draws v.items) }
+    ensures worked { IfOk result.1 (λ v. AreWorked (P.size pieces.now) workers result.0.draws v.items) }
 {
     if workers == 1 {
         return work(alloc, claims, seat, first, pieces, gate);
@@ -76,11 +78,11 @@ fn crew<P: Pieces, G: Gate, R: Threads + Sync>(
     let other = claims.split(&mut seat, high);
     let front = move || -> (ClaimSeat, Result<Vec<(u32, P::Piece)>, OutOfMemory>)
         requires { IsSync R.row × IsSync P.row × IsSync G.row × IsSend P.Piece.row × P.fit pieces.now × (1 ≤ low) × (first + low ≤ 64) × IsSeatOf claims.now seat × (seat.right ≡ low) × (claims.now.limit ≡ P.size pieces.now) × (seat.draws ≡ []) }
-        ensures { (result.0.table ≡ seat.table) × (result.0.right ≡ seat.right) × IfOk result.1 (λ v. IsMadeOf (P.is_piece pieces.entry.now) (P.size pieces.entry.now) result.0.draws v.items) }
+        ensures { (result.0.table ≡ seat.table) × (result.0.right ≡ seat.right) × IfOk result.1 (λ v. IsMadeOf (P.is_piece pieces.entry.now) (P.size pieces.entry.now) result.0.draws v.items) × IfOk result.1 (λ v. AreWorked (P.size pieces.entry.now) low result.0.draws v.items) }
     { crew(rt, alloc, claims, seat, first, low, pieces, gate) };
     let back = move || -> (ClaimSeat, Result<Vec<(u32, P::Piece)>, OutOfMemory>)
         requires { IsSync R.row × IsSync P.row × IsSync G.row × IsSend P.Piece.row × P.fit pieces.now × (1 ≤ high) × (first + low + high ≤ 64) × IsSeatOf claims.now other × (other.right ≡ high) × (claims.now.limit ≡ P.size pieces.now) × (other.draws ≡ []) }
-        ensures { (result.0.table ≡ other.table) × (result.0.right ≡ other.right) × IfOk result.1 (λ v. IsMadeOf (P.is_piece pieces.entry.now) (P.size pieces.entry.now) result.0.draws v.items) }
+        ensures { (result.0.table ≡ other.table) × (result.0.right ≡ other.right) × IfOk result.1 (λ v. IsMadeOf (P.is_piece pieces.entry.now) (P.size pieces.entry.now) result.0.draws v.items) × IfOk result.1 (λ v. AreWorked (P.size pieces.entry.now) high result.0.draws v.items) }
     { crew(rt, alloc, claims, other, first + low, high, pieces, gate) };
     let ((mut mine, a), (its, b)) = join(rt, front, back);
     claims.join(&mut mine, its);
@@ -89,7 +91,8 @@ fn crew<P: Pieces, G: Gate, R: Threads + Sync>(
 
 /// All pieces, each at its index, made by 1 to 64 workers that draw the indices, of which no more start
 /// than there are pieces. Each worker enters the gate with a number that it drew, and then makes that
-/// piece. It refuses for want of memory alone.
+/// piece. They are those that such a schedule of the machine of workers records. It refuses for want of
+/// memory alone.
 pub fn run_pieces<P: Pieces, G: Gate, R: Threads + Sync>(
     rt: &R,
     alloc: Global,
@@ -100,7 +103,8 @@ pub fn run_pieces<P: Pieces, G: Gate, R: Threads + Sync>(
     requires fit { P.fit pieces.now }
     requires some { 1 ≤ workers }
     requires most { workers ≤ 64 }
-    ensures { IfOk result (λ l. AreAll (P.is_piece pieces.now) (P.size pieces.now) l) }
+    ensures all { IfOk result (λ l. AreAll (P.is_piece pieces.now) (P.size pieces.now) l) }
+    ensures recorded { IfOk result (λ l. AreRecorded workers (P.size pieces.now) l) }
 {
     let count = pieces.count();
     let workers = workers.min(count).max(1);

@@ -1,6 +1,7 @@
 use Rattle.std.proofs.Common.{◌≡◌, ◌≤◌, ◌<◌, ℕ, arith, List, ap, subst, sym, length, ◌++◌, ◌∷◌, [], length-append, ◌∙◌, ◌+◌, is_ok, not, true}
 use Rattle.mq_claims.specs.Seats.{Seated}
-use Rattle.mq_crew.specs.Crew.{IsMadeOf}
+use Rattle.mq_crew.specs.Crew.{AreWorked, IsMadeOf, Rise}
+use Rattle.mq_crew.proofs.Schedules.{one-worked, rise-more}
 use Rattle.mq_crew.proofs.Working.{IsWorking, works-ended, works-more}
 use Rattle.mq_crew.proofs.crew.work.Goals as goal
 
@@ -11,6 +12,14 @@ returns-then-number-count-clause-made g c =
     let count = c.draws.invariant.2 in
     subst (λ (ds : List ℕ). IsMadeOf (g.P.Pieces.is_piece c.args.pieces.now) (g.P.Pieces.size c.args.pieces.now) ds c.draws.made.items) (sym drew)
     (works-ended (g.P.Pieces.is_piece c.args.pieces.now) _ c.draws.seat.draws _ c.claim-number.result w (omega arith))
+
+pub returns-then-number-count-clause-worked : goal.returns-then-number-count-clause-worked
+returns-then-number-count-clause-worked g c =
+    let w = c.draws.invariant.3 in
+    let drew = ap (λ (z : Seated). z.draws) c.claim-number.ensures.drawn in
+    let count = c.draws.invariant.2 in
+    subst (λ (ds : List ℕ). AreWorked (g.P.Pieces.size c.args.pieces.now) 1 ds c.draws.made.items) (sym drew)
+    (one-worked _ c.draws.seat.draws c.draws.made.items c.claim-number.result w.each w.early c.draws.invariant.4 c.claim-number.ensures.fresh (omega arith))
 
 pub draws-smaller : goal.draws-smaller
 draws-smaller g c =
@@ -34,4 +43,5 @@ draws-preserved g c =
       count,
       subst (λ (z : List ℕ × List (ℕ × g.row.P-Piece.Denot)). IsWorking (g.P.Pieces.is_piece c.args.pieces.now) (g.P.Pieces.size c.args.pieces.now) z.0 z.1) (λ i. (sym drew i, sym pushed i))
           (works-more (g.P.Pieces.is_piece c.args.pieces.now) _ c.draws.seat.draws c.draws.made.items c.claim-number.result c.in-Ok.piece w c.claim-number.ensures.fresh (omega arith) c.in-Ok.ensures),
+      subst Rise (sym drew) (rise-more c.draws.seat.draws c.claim-number.result c.draws.invariant.4 c.claim-number.ensures.fresh),
     )
