@@ -1,6 +1,4 @@
-// Two threads make pieces of one run.
-ghost use Rattle.std.specs.Prelude.{◌<◌};
-
+// Two threads make the pieces of each list of a run.
 use super::{MODEL, TRACE, files_with};
 use mq_base::OutOfMemory;
 use mq_chain::ChainSeat;
@@ -14,64 +12,195 @@ use std::sync::atomic::Ordering::SeqCst;
 use std::test::Fail;
 use std::thread::Threads;
 
-// A source and a tandem of three stages.
-const TANDEM: &[u8] = b"model 1\nsource src\ntandem line a / 2 b / 1 c from src\n";
-
-// A source and a fork-join of two branches, one of them of two servers.
-const FORKJOIN: &[u8] = b"model 1\nsource src\nforkjoin both a b | c from src\n";
-
-// A source and a split.
-const SPLIT: &[u8] = b"model 1\nsource src\nsplit ways 2 turn from src\n";
-
-// A source, and two forks that are ready at one time.
-const FORKS: &[u8] =
-    b"model 2\nsource src\nfork f 2 from src\nfork a 2 from f\nfork b 2 from f.1\n";
-
-// Their jobs.
+// Three jobs, of which each is a block.
 const JOBS: &[u8] = b"source,time,a,b,c\nsrc,0,2,3,1\nsrc,1,1,1,4\nsrc,2,2,1,1\n";
 
-// How often a held entry looks whether the other has come.
+// A run whose form of report is this, and how many pieces each list of it has, in the order in which they are made. A list of no
+// piece or of one enters no gate, and isn't told. First come the 4 last pieces of the source (when its jobs leave, how many each
+// found, the jobs, and when each departs), then the lists of the other nodes, and behind these the totals, a piece for each node.
+#[derive(Clone, Copy)]
+struct Case<'a> {
+    model: &'a [u8],
+    trace: &'a [u8],
+    form: &'a str,
+    lists: &'a [usize],
+    // How many blocks each single pass has.
+    passes: &'a [usize],
+}
+
+// A server. Its blocks are passed over by themselves, and its last pieces are 5: when the jobs leave, how many each found, the
+// jobs, and of what came the jobs and the times.
+const SERVER: Case = Case {
+    model: MODEL,
+    trace: TRACE,
+    form: "2",
+    lists: &[4, 5, 2],
+    passes: &[3],
+};
+
+// The same where two blocks are left by the single pass: the crew applies them.
+const LEFT: Case = Case {
+    lists: &[4, 2, 5, 2],
+    ..SERVER
+};
+
+// A tandem of three stages: a summary of each job, an applied block of each, and its last pieces, as a server's.
+const TANDEM: Case = Case {
+    model: b"model 1\nsource src\ntandem line a / 2 b / 1 c from src\n",
+    trace: JOBS,
+    form: "2",
+    lists: &[4, 3, 3, 5, 2],
+    passes: &[],
+};
+
+// A tandem of two stages, whose jobs come at one time and block each other.
+const BLOCKING: Case = Case {
+    model: b"model 1\nsource src\ntandem t =1 / 1 =3 from src\n",
+    trace: b"source,time\nsrc,0\nsrc,0\nsrc,0\n",
+    ..TANDEM
+};
+
+// A fork-join of two branches, of two servers and of one: summaries and applied blocks of the first server of both branches, then
+// of the second server of the first branch, and its last pieces, as a server's.
+const FORKJOIN: Case = Case {
+    model: b"model 1\nsource src\nforkjoin both a b | c from src\n",
+    lists: &[4, 6, 6, 3, 3, 5, 2],
+    ..TANDEM
+};
+
+// A split: what leaves each block, and its last pieces, which are 4: when the jobs leave, how many each found, and of what came
+// the jobs and the times.
+const SPLIT: Case = Case {
+    model: b"model 1\nsource src\nsplit ways 2 turn from src\n",
+    lists: &[4, 3, 4, 2],
+    ..TANDEM
+};
+
+// Two forks that are ready at one time, and are a list of two pieces, behind another, which is alone.
+const FORKS: Case = Case {
+    model: b"model 2\nsource src\nfork f 2 from src\nfork a 2 from f\nfork b 2 from f.1\n",
+    lists: &[4, 2, 4],
+    ..TANDEM
+};
+
+// A delay. Its last pieces are of each job, a block, how many it found, and of what came the jobs and the times.
+const DELAY: Case = Case {
+    model: b"model 1\nsource src\ndelay w a from src\n",
+    lists: &[4, 5, 2],
+    ..TANDEM
+};
+
+// Two sources: the rows of each, how each is worked out, each whole, and the last pieces of both. Behind them three blocks of what
+// both let out, merged; the loss station itself is one piece.
+const MERGE: Case = Case {
+    model: b"model 1\nsource src\nsource web\nloss l 1 a from src web\n",
+    trace: b"source,time,a\nsrc,0,1\nweb,1,1\nsrc,2,1\n",
+    lists: &[2, 2, 2, 8, 3, 3],
+    ..TANDEM
+};
+
+// Two tandems at which jobs wait: behind the totals the waits of both are counted.
+const WAITS: Case = Case {
+    model: b"model 1\nsource src\ntandem first =1 / 1 =2 from src\ntandem then =1 / 1 =3 from first\n",
+    lists: &[4, 3, 3, 5, 3, 3, 5, 3, 2],
+    ..TANDEM
+};
+
+// The same with waits too long to be counted: the percentiles are a piece for each node.
+const LONG_WAITS: Case = Case {
+    model: b"model 1\nsource src\ntandem first =1 / 1 =20000 from src\ntandem then =1 / 1 =30000 from first\n",
+    lists: &[4, 3, 3, 5, 3, 3, 5, 3, 3],
+    ..TANDEM
+};
+
+// In the first form of the report there are no percentiles.
+const UNTOLD_WAITS: Case = Case {
+    form: "1",
+    lists: &[4, 3, 3, 5, 3, 3, 5, 3],
+    ..LONG_WAITS
+};
+
+// How often a held entry looks whether the others have come.
 const TURNS: u64 = 2_000_000_000;
 
-// The entries with the numbers 0, 1 and 2. In each list the one with 0 is held until the one with 1 has come, and
-// the other way round.
+// Counts entries by their numbers. An entry with 0 or 1 is held until the numbers below `zero` or `one` have come as often as its
+// own: so none of the two goes on before the other has come, and each of them needs a thread.
 #[derive(Drop)]
 struct Entries {
-    came: [AtomicU64; 3],
+    came: [AtomicU64; 8],
+    above: AtomicU64,
+    zero: usize,
+    one: usize,
     run_out: AtomicU64,
 }
 
 impl Entries {
-    fn none() -> Entries {
+    fn held(zero: usize, one: usize) -> Entries {
         Entries {
-            came: [AtomicU64::new(0), AtomicU64::new(0), AtomicU64::new(0)],
+            came: [
+                AtomicU64::new(0),
+                AtomicU64::new(0),
+                AtomicU64::new(0),
+                AtomicU64::new(0),
+                AtomicU64::new(0),
+                AtomicU64::new(0),
+                AtomicU64::new(0),
+                AtomicU64::new(0),
+            ],
+            above: AtomicU64::new(0),
+            zero,
+            one,
             run_out: AtomicU64::new(0),
         }
     }
 
     fn enter(&self, number: u32) {
-        if number > 2 {
+        let Some(own) = self.came.get(number as usize) else {
+            self.above.fetch_add(1, SeqCst);
             return;
+        };
+        let before = own.fetch_add(1, SeqCst);
+        let below = match number {
+            0 => self.zero,
+            1 => self.one,
+            _ => 0,
+        };
+        for other in self.came.iter().take(below) {
+            self.hold(other, before);
         }
-        let here = number as usize;
-        let before = self.came[here].fetch_add(1, SeqCst);
-        if here == 2 {
-            return;
-        }
+    }
+
+    // Until another number has come more often than so.
+    fn hold(&self, other: &AtomicU64, before: u64) {
         for _ in 0..TURNS {
-            if self.came[1 - here].load(SeqCst) > before {
+            if other.load(SeqCst) > before {
                 return;
             }
         }
         self.run_out.fetch_add(1, SeqCst);
     }
 
-    // How often this number came.
-    fn times(&self, number: usize) -> u64
-        requires { number < 3 }
-    {
-        self.came[number].load(SeqCst)
+    // Whether each number of lists of so many pieces came once, nothing else came, and no hold ran out.
+    fn are(&self, lists: &[usize]) -> bool {
+        let mut right = self.above.load(SeqCst) == 0 && self.run_out.load(SeqCst) == 0;
+        for number in 0..self.came.len() {
+            if self.came[number].load(SeqCst) != longer(lists, number) {
+                right = false;
+            }
+        }
+        right
     }
+}
+
+// How many lists have more pieces than so.
+fn longer(lists: &[usize], number: usize) -> u64 {
+    let mut count = 0;
+    for size in lists {
+        if *size > number {
+            count += 1;
+        }
+    }
+    count
 }
 
 // Counts the pieces that are made apart from the blocks of a single pass.
@@ -91,93 +220,114 @@ impl Gate for Held {
     }
 }
 
-// A gate that no entry has come to.
-fn nobody() -> Held {
+// Who has block 1 is held until block 2 has come, and so until block 0 is done, whose carry it finds: at most one block is left.
+fn with_carries() -> Held {
     Held {
-        pieces: Entries::none(),
-        blocks: Entries::none(),
+        pieces: Entries::held(2, 2),
+        blocks: Entries::held(2, 3),
     }
 }
 
-// Whether the run of this model over this trace with this gate is done.
-fn is_done<R: Threads + Sync>(
+// Who has block 0 is held until block 2 has come, and so until block 1 is done, for which there is no carry: both are left.
+fn without_carries() -> Held {
+    Held {
+        pieces: Entries::held(2, 2),
+        blocks: Entries::held(3, 2),
+    }
+}
+
+// Whether a run by two workers, who enter this gate, is done, and has these lists.
+fn has_lists<R: Threads + Sync>(
     rt: &R,
     alloc: Global,
-    model: &[u8],
-    trace: &[u8],
+    case: Case<'_>,
     gate: &Held,
 ) -> Result<bool, OutOfMemory> {
-    let mut files = files_with(alloc, model, trace, 0)?;
+    let mut files = files_with(alloc, case.model, case.trace, 0)?;
     let mut out = MemSink::new(alloc, 1024, Vec::new(alloc));
     let mut err = MemSink::new(alloc, 1024, Vec::new(alloc));
-    let words = ["m", "t", "--workers", "2", "--block", "1"];
+    let words = [
+        "m",
+        "t",
+        "--workers",
+        "2",
+        "--block",
+        "1",
+        "--report",
+        case.form,
+    ];
     let outcome = simulate_gated(rt, alloc, &words, &mut files, &mut out, &mut err, gate);
-    Ok(outcome == Outcome::Done)
+    Ok(outcome == Outcome::Done && gate.pieces.are(case.lists) && gate.blocks.are(case.passes))
 }
 
 #[test]
 fn two_threads_enter_the_gate_at_a_server(rt: HostRuntime) -> Result<(), Fail> {
-    let gate = nobody();
-    assert!(rt; is_done(&rt, rt.alloc(), MODEL, TRACE, &gate)?);
-    assert!(rt; gate.blocks.run_out.load(SeqCst) == 0);
-    assert!(rt; gate.pieces.run_out.load(SeqCst) == 0);
-    // once with each block, whoever draws it; its last lists are pieces
-    for number in 0..3usize {
-        assert!(rt; gate.blocks.times(number) == 1);
-        assert!(rt; gate.pieces.times(number) >= 1);
-    }
+    assert!(rt; has_lists(&rt, rt.alloc(), SERVER, &with_carries())?);
+    Ok(())
+}
+
+#[test]
+fn two_threads_enter_the_gate_at_blocks_that_were_left(rt: HostRuntime) -> Result<(), Fail> {
+    assert!(rt; has_lists(&rt, rt.alloc(), LEFT, &without_carries())?);
     Ok(())
 }
 
 #[test]
 fn two_threads_enter_the_gate_at_a_tandem(rt: HostRuntime) -> Result<(), Fail> {
-    let gate = nobody();
-    assert!(rt; is_done(&rt, rt.alloc(), TANDEM, JOBS, &gate)?);
-    assert!(rt; gate.pieces.run_out.load(SeqCst) == 0);
-    // once for a summary, once for an applied block, and once for the last lists of the tandem
-    for number in 0..3usize {
-        assert!(rt; gate.pieces.times(number) >= 3);
-        assert!(rt; gate.blocks.times(number) == 0);
-    }
+    assert!(rt; has_lists(&rt, rt.alloc(), TANDEM, &with_carries())?);
+    Ok(())
+}
+
+#[test]
+fn two_threads_enter_the_gate_at_a_tandem_of_two_stages(rt: HostRuntime) -> Result<(), Fail> {
+    assert!(rt; has_lists(&rt, rt.alloc(), BLOCKING, &with_carries())?);
     Ok(())
 }
 
 #[test]
 fn two_threads_enter_the_gate_at_a_forkjoin(rt: HostRuntime) -> Result<(), Fail> {
-    let gate = nobody();
-    assert!(rt; is_done(&rt, rt.alloc(), FORKJOIN, JOBS, &gate)?);
-    assert!(rt; gate.pieces.run_out.load(SeqCst) == 0);
-    // a summary and an applied block of each job at the first servers and again at the second, and the
-    // last lists
-    for number in 0..3usize {
-        assert!(rt; gate.pieces.times(number) >= 5);
-        assert!(rt; gate.blocks.times(number) == 0);
-    }
+    assert!(rt; has_lists(&rt, rt.alloc(), FORKJOIN, &with_carries())?);
     Ok(())
 }
 
 #[test]
 fn two_threads_enter_the_gate_at_a_split(rt: HostRuntime) -> Result<(), Fail> {
-    let gate = nobody();
-    assert!(rt; is_done(&rt, rt.alloc(), SPLIT, JOBS, &gate)?);
-    assert!(rt; gate.pieces.run_out.load(SeqCst) == 0);
-    // once for a block, and once for the last lists of the source
-    for number in 0..3usize {
-        assert!(rt; gate.pieces.times(number) >= 2);
-        assert!(rt; gate.blocks.times(number) == 0);
-    }
+    assert!(rt; has_lists(&rt, rt.alloc(), SPLIT, &with_carries())?);
     Ok(())
 }
 
 #[test]
 fn two_threads_enter_the_gate_at_two_forks(rt: HostRuntime) -> Result<(), Fail> {
-    let gate = nobody();
-    assert!(rt; is_done(&rt, rt.alloc(), FORKS, JOBS, &gate)?);
-    assert!(rt; gate.pieces.run_out.load(SeqCst) == 0);
-    // once for the last lists of the source, once for a fork, and once for the totals
-    for number in 0..2usize {
-        assert!(rt; gate.pieces.times(number) >= 3);
-        assert!(rt; gate.blocks.times(number) == 0);
-    }
+    assert!(rt; has_lists(&rt, rt.alloc(), FORKS, &with_carries())?);
+    Ok(())
+}
+
+#[test]
+fn two_threads_enter_the_gate_at_a_delay(rt: HostRuntime) -> Result<(), Fail> {
+    assert!(rt; has_lists(&rt, rt.alloc(), DELAY, &with_carries())?);
+    Ok(())
+}
+
+#[test]
+fn two_threads_enter_the_gate_at_a_merge(rt: HostRuntime) -> Result<(), Fail> {
+    assert!(rt; has_lists(&rt, rt.alloc(), MERGE, &with_carries())?);
+    Ok(())
+}
+
+#[test]
+fn two_threads_enter_the_gate_at_percentiles(rt: HostRuntime) -> Result<(), Fail> {
+    assert!(rt; has_lists(&rt, rt.alloc(), WAITS, &with_carries())?);
+    Ok(())
+}
+
+#[test]
+fn two_threads_enter_the_gate_at_percentiles_of_long_waits(rt: HostRuntime) -> Result<(), Fail> {
+    assert!(rt; has_lists(&rt, rt.alloc(), LONG_WAITS, &with_carries())?);
+    Ok(())
+}
+
+#[test]
+fn nobody_enters_the_gate_at_percentiles_that_are_not_told(rt: HostRuntime) -> Result<(), Fail> {
+    assert!(rt; has_lists(&rt, rt.alloc(), UNTOLD_WAITS, &with_carries())?);
     Ok(())
 }
