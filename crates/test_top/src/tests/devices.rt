@@ -1,4 +1,6 @@
 // A read or a put that fails.
+ghost use Rattle.std.specs.Prelude.{◌≤◌};
+
 use super::{MODEL, TRACE, files_of, files_with};
 use mq_base::OutOfMemory;
 use mq_model::ModelFault;
@@ -135,6 +137,76 @@ fn an_output_that_fails_has_a_first_part(rt: HostRuntime) -> Result<(), Fail> {
             )?
         );
     }
+    Ok(())
+}
+
+// The call centre of the examples.
+const CALLS: &[u8] = b"model 1\n\
+    # calls by phone and by web\n\
+    bound 1000\n\
+    source phone\n\
+    source web\n\
+    server greet g from phone web\n\
+    split menu cut kind 1 from greet\n\
+    loss expert 2 e from menu.1\n\
+    tandem desk a / 1 b from menu expert.1\n\
+    delay wrap =2 from desk expert\n";
+
+const CALLERS: &[u8] = b"source,time,g,kind,e,a,b\n\
+    phone,0,1,0,0,3,2\n\
+    web,0,1,1,6,1,1\n\
+    phone,2,1,1,5,2,1\n\
+    web,3,2,0,0,2,4\n\
+    phone,4,1,1,4,2,2\n\
+    web,4,1,1,3,1,3\n\
+    phone,7,1,0,0,1,1\n\
+    web,8,1,1,2,2,2\n\
+    phone,9,0,0,0,2,1\n\
+    web,9,1,1,4,1,2\n";
+
+const CALLS_REPORT: &[u8] = b"mpsim report 1\n\
+    jobs 10 span 23\n\
+    node phone source in 5 out 5 lost 0 wait 0 max 0 busy 0 area 0 peak 0 util -\n\
+    node web source in 5 out 5 lost 0 wait 0 max 0 busy 0 area 0 peak 0 util -\n\
+    node greet server in 10 out 10 lost 0 wait 4 max 2 busy 10 area 14 peak 3 util 0.4347\n\
+    node menu split in 10 out 10 lost 0 wait 0 max 0 busy 0 area 0 peak 0 util -\n\
+    node expert loss in 6 out 3 lost 3 wait 9 max 5 busy 13 area 22 peak 2 util 0.5652\n\
+    node desk tandem in 7 out 7 lost 0 wait 30 max 8 busy 27 area 57 peak 6 util 0.5869\n\
+    node wrap delay in 10 out 10 lost 0 wait 0 max 0 busy 20 area 20 peak 2 util -\n\
+    exit wrap.0 10 sojourn 113\n";
+
+// Whether the call over the call centre ends as it has to where its output takes 64 bytes a put, and fails behind so many puts: with
+// what these took, or, where all was put by then, with the whole report.
+fn ends_behind<R: Threads + Sync>(rt: &R, alloc: Global, puts: usize) -> Result<bool, OutOfMemory>
+    requires { puts ≤ 16 }
+{
+    let mut files = files_with(alloc, CALLS, CALLERS, 0)?;
+    let mut out = MemSink::new(alloc, 64, Vec::from_slice(alloc, &[puts as u64 + 1])?);
+    out.reserve(1024)?;
+    let mut err = sink(alloc, 0)?;
+    let words = ["m", "t", "--report", "1"];
+    let outcome = simulate(rt, alloc, &words, &mut files, &mut out, &mut err);
+    Ok(match CALLS_REPORT.get(..puts * 64) {
+        Some(first) => {
+            outcome == Outcome::WriteFault && out.bytes() == first && err.bytes() == UNWRITTEN
+        }
+        None => outcome == Outcome::Done && out.bytes() == CALLS_REPORT && err.bytes().is_empty(),
+    })
+}
+
+// Whether it does at each of its ten puts, and behind the last.
+fn ends_behind_each<R: Threads + Sync>(rt: &R, alloc: Global) -> Result<bool, OutOfMemory> {
+    for puts in 0..11 {
+        if !ends_behind(rt, alloc, puts)? {
+            return Ok(false);
+        }
+    }
+    Ok(true)
+}
+
+#[test]
+fn an_output_that_fails_at_any_put_has_a_first_part(rt: HostRuntime) -> Result<(), Fail> {
+    assert!(rt; ends_behind_each(&rt, rt.alloc())?);
     Ok(())
 }
 
