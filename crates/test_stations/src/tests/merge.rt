@@ -1,10 +1,10 @@
-// A merge by pieces, between co-ranks.
+// A merge of two streams, whole and by pieces, between co-ranks.
 ghost use Rattle.std.specs.Prelude.{◌≡◌, length, IfOk};
 ghost use Rattle.mq_core.specs.Sequences.{IsStream};
 
 use mq_base::{List, OutOfMemory};
 use mq_core::Stream;
-use mq_merge::{co_rank, merge_piece};
+use mq_merge::{co_rank, merge_piece, merge_two};
 use std::alloc::Global;
 use std::test::Fail;
 
@@ -30,6 +30,26 @@ fn two(alloc: Global) -> Result<Stream, OutOfMemory>
     })
 }
 
+// Whether both streams merged are jobs 3, 0, 1, 2 and 4 at 0, 1, 3, 3 and 3: at 3 those of the first come first.
+fn whole_is_so(alloc: Global, a: &Stream, b: &Stream) -> Result<bool, OutOfMemory>
+    requires a { IsStream a.now }
+    requires b { IsStream b.now }
+{
+    let whole = merge_two(alloc, a, b)?;
+    Ok(whole.job.as_slice() == [3, 0, 1, 2, 4].as_slice()
+        && whole.time.as_slice() == [0, 1, 3, 3, 3].as_slice())
+}
+
+// The same of both streams, made here.
+fn is_merged_so(alloc: Global) -> Result<bool, OutOfMemory> {
+    let a = three(alloc)?;
+    let b = two(alloc)?;
+    let so = whole_is_so(alloc, &a, &b);
+    drop(a);
+    drop(b);
+    so
+}
+
 // Whether the last two of the five items of both streams merged are jobs 2 and 4, at 3.
 fn piece_is_so(alloc: Global, a: &Stream, b: &Stream) -> Result<bool, OutOfMemory>
     requires a { IsStream a.now }
@@ -51,6 +71,12 @@ fn is_cut_so(alloc: Global) -> Result<bool, OutOfMemory> {
     drop(a);
     drop(b);
     Ok(so && ranks == (2, 1))
+}
+
+#[test]
+fn a_merge_takes_the_first_stream_first_at_one_time(rt: HostRuntime) -> Result<(), Fail> {
+    assert!(rt; is_merged_so(rt.alloc())?);
+    Ok(())
 }
 
 #[test]
