@@ -1,0 +1,5 @@
+pub mod Book
+pub mod Draws
+pub mod Ends
+pub mod Scenario
+pub mod Sweep
