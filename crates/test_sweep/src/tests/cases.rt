@@ -8,6 +8,13 @@ use std::sync::Wait;
 use std::test::Fail;
 use std::thread::Threads;
 
+// The lines of three outcomes.
+const USAGE: &[u8] = b"mpsweep: usage: mpsweep TRACE MODEL..\n";
+
+const UNREAD: &[u8] = b"mpsweep: cannot read file 3\n";
+
+const UNWRITTEN: &[u8] = b"mpsweep: cannot write the reports\n";
+
 // How the sweep of these words ends, and what the output and the error output gained. The read and the put of these numbers fail.
 fn ended<R: Threads + Wait + Sync>(
     rt: &R,
@@ -56,7 +63,7 @@ fn a_trace_alone_is_a_fault_of_the_words(rt: HostRuntime) -> Result<(), Fail> {
     let (outcome, out, err) = ended(&rt, rt.alloc(), &["t"], 0, 0)?;
     assert!(rt; outcome == SweepOutcome::Usage);
     assert!(rt; out.is_empty());
-    assert!(rt; err.as_slice() == b"mpsweep: usage: mpsweep TRACE MODEL..\n");
+    assert!(rt; err.as_slice() == USAGE);
     let (outcome, _, _) = ended(&rt, rt.alloc(), &["t", "-m"], 0, 0)?;
     assert!(rt; outcome == SweepOutcome::Usage);
     Ok(())
@@ -68,7 +75,7 @@ fn a_file_that_is_absent_is_named_by_its_word(rt: HostRuntime) -> Result<(), Fai
     assert!(rt; outcome == SweepOutcome::ReadFault { word: 3 });
     assert!(rt; outcome.status() == 6);
     assert!(rt; out.is_empty());
-    assert!(rt; err.as_slice() == b"mpsweep: cannot read file 3\n");
+    assert!(rt; err.as_slice() == UNREAD);
     let (outcome, _, _) = ended(&rt, rt.alloc(), &["t", "m"], 1, 0)?;
     assert!(rt; outcome == SweepOutcome::ReadFault { word: 1 });
     Ok(())
@@ -80,6 +87,6 @@ fn a_put_that_fails_leaves_a_first_part(rt: HostRuntime) -> Result<(), Fail> {
     assert!(rt; outcome == SweepOutcome::WriteFault);
     assert!(rt; outcome.status() == 7);
     assert!(rt; out.as_slice() == &FIRST[..64]);
-    assert!(rt; err.as_slice() == b"mpsweep: cannot write the reports\n");
+    assert!(rt; err.as_slice() == UNWRITTEN);
     Ok(())
 }
