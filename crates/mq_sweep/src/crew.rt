@@ -32,7 +32,7 @@ trait Task: Sync {
 
 // The models over the trace, each of which is a number, the book of what their runs gave, and the gate that the workers enter.
 #[derive(Drop)]
-struct Scenarios<'a, 't, G> {
+struct Runs<'a, 't, G> {
     alloc: Global,
     trace: &'a [u8],
     models: &'a [List<u8>],
@@ -40,7 +40,7 @@ struct Scenarios<'a, 't, G> {
     gate: &'a G,
 }
 
-impl<'a, 't, G: SweepGate> Task for Scenarios<'a, 't, G> {
+impl<'a, 't, G: SweepGate> Task for Runs<'a, 't, G> {
     // Enters the gate, runs the model of this number, and puts what it gave into the book. Where memory runs out there is no entry.
     fn run<R: Threads + Wait + Sync>(&self, rt: &R, worker: u32, number: u32) {
         self.gate.enter(worker, number);
@@ -127,7 +127,7 @@ pub fn by_workers<'t, R: Threads + Wait + Sync, G: SweepGate>(
 {
     let (queue, taker) = Numbers::filled(rt, alloc, models.len() as u32)?;
     let book = Mutex::new(Book::new(alloc, trace));
-    let task = Scenarios {
+    let task = Runs {
         alloc,
         trace,
         models,
