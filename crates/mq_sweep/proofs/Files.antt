@@ -1,16 +1,15 @@
 -- The files of the words, of which some may be too long.
-use Rattle.std.proofs.Common.{◌≡◌, ◌∙◌, ℕ, zero, suc, ◌+◌, ◌-◌, ◌<◌, ◌≤◌, Bool, true, false, cond, List, [], ◌∷◌, ◌++◌, length, map, get_or, Option, Some, None, ap, sym, refl, subst, arith, nat_lt, below_more, true≢false, Result, Ok, Err, OnOk, is_err}
+use Rattle.std.proofs.Common.{◌≡◌, ◌∙◌, ℕ, zero, suc, ◌+◌, ◌-◌, ◌<◌, ◌≤◌, Bool, true, false, cond, List, [], ◌∷◌, ◌++◌, length, map, get_or, Option, Some, None, ap, sym, refl, subst, arith, nat_lt, below_more, le-ltb, lt-ltb, true≢false, Result, Ok, Err, OnOk, is_err}
 use Rattle.std.proofs.lemmas.List.{get_or-map, length-map, same_lists, get_or_default, get_or_push, get_or_append_left}
-use Rattle.std.proofs.lemmas.List.Recursion.{and_at}
 use Rattle.std.specs.Borrow.{Bor}
 use Rattle.std.specs.List.{list_all}
 use Rattle.mq_base.specs.Text.{texts}
+use Rattle.mq_base.proofs.lemmas.Tests.{all_at}
 use Rattle.mq_outside.specs.Outside.{next_count}
-use Rattle.std.proofs.lemmas.Bool.Decides.{nat_tests}
 use Rattle.std.specs.Prelude.{IfSome, unwrap_or}
-use Rattle.mq_sweep.specs.Sweep.{AreFiles, all_done, answer_unless, first_long, limit_of, sweep_answer, sweep_text, swept, told_at}
+use Rattle.mq_sweep.specs.Sweep.{AreFiles, all_done, answer_unless, first_long, limit_of, sweep_answer, sweep_text, swept, told_of_word}
 use Rattle.mq_sweep.specs.Sweep.SweepAnswer.{Swept}
-use Rattle.mq_sweep.specs.Ends.{AreRead, AreShort, HasRead, IsLong, IsReached, Reads, RefusesRead, RefusesReading, SweepEnds}
+use Rattle.mq_sweep.specs.Ends.{AreRead, AreShort, HasRead, IsLong, ReadsUpTo, Reads, RefusesRead, RefusesReading, SweepEnds}
 use Rattle.mq_sweep.specs.declared.outcome.SweepOutcome.{SweepOutcome}
 use Rattle.mq_sweep.specs.declared.outcome.SweepOutcome.TheVariants.{Done, Refused, Usage, TooLong, ReadFault, WriteFault, Memory}
 use Rattle.mq_top.specs.Ends.{Taken}
@@ -21,12 +20,6 @@ use Rattle.mq_top.specs.Ends.{Taken}
 abbrev Within : ℕ → ℕ → List (List ℕ) → Type 0
 Within count word files = (i : ℕ) → i < count → length (get_or files i []) ≤ limit_of (word + i)
 
-not_less : (a b : ℕ) → b ≤ a → nat_lt a b ≡ false
-not_less a b h = grind (arith, nat_tests)
-
-is_less : (a b : ℕ) → a < b → nat_lt a b ≡ true
-is_less a b h = grind (arith, nat_tests)
-
 within_rest : (count word : ℕ) (bytes : List ℕ) (files : List (List ℕ)) → Within (count + 1) word (bytes ∷ files) → Within count (word + 1) files
 within_rest count word bytes files w i less =
     let same : word + suc i ≡ word + 1 + i = omega arith in
@@ -36,7 +29,7 @@ within_first : (count word : ℕ) (bytes : List ℕ) (files : List (List ℕ)) �
 within_first count word bytes files w =
     let same : word + 0 ≡ word = omega arith in
     let short : length bytes ≤ limit_of word = subst (λ (n : ℕ). length bytes ≤ limit_of n) same (w 0 (omega arith)) in
-    not_less (limit_of word) (length bytes) short
+    le-ltb (limit_of word) (length bytes) short
 
 pub none_long : (word : ℕ) (files : List (List ℕ)) → Within (length files) word files → first_long word files ≡ None
 none_long word [] w = refl
@@ -48,7 +41,7 @@ pub one_long : (word at : ℕ) (files : List (List ℕ)) → at < length files �
 one_long word at [] less w long = absurd (omega arith)
 one_long word zero (bytes ∷ files) less w long =
     let same : word + 0 ≡ word = omega arith in
-    let here : nat_lt (limit_of word) (length bytes) ≡ true = is_less (limit_of word) (length bytes) (subst (λ (n : ℕ). limit_of n < length bytes) same long) in
+    let here : nat_lt (limit_of word) (length bytes) ≡ true = lt-ltb (limit_of word) (length bytes) (subst (λ (n : ℕ). limit_of n < length bytes) same long) in
     rw here (ap Some (sym same))
 one_long word (suc at) (bytes ∷ files) less w long =
     let w' : Within (at + 1) word (bytes ∷ files) = λ i h. w i (omega arith) in
@@ -119,15 +112,15 @@ read_more count told files bytes len read is i b less e =
     (λ b e. get_or_push files bytes [] count len ∙ (read_here (count + 1) (get_or told count None) bytes b is e).0) i less b e
 
 -- a word that is reached
-reached : (words index : ℕ) (told : List (Option (List ℕ))) → index < words → AreShort index told → IsReached words (index + 1) told
+reached : (words index : ℕ) (told : List (Option (List ℕ))) → index < words → AreShort index told → ReadsUpTo words (index + 1) told
 reached words index told less short = let same : index ≡ index + 1 - 1 = omega arith in record { some = omega arith; most = omega arith; short = subst (λ (n : ℕ). AreShort n told) same short }
 
 pub refused_here : (words index : ℕ) (told : List (Option (List ℕ))) (o : SweepOutcome) → index < words → AreShort index told → RefusesRead (index + 1) (get_or told index None) o → RefusesReading words told o
 refused_here words index told (TooLong w) less short r =
     let same : index ≡ index + 1 - 1 = omega arith in
-    let long : IsLong (index + 1) (told_at told (index + 1)) = subst (λ (n : ℕ). IsLong (index + 1) (get_or told n None)) same r.1 in
-    subst (λ (n : ℕ). IsReached words n told × IsLong n (told_at told n)) (sym r.0) (reached words index told less short, long)
-refused_here words index told (ReadFault w) less short r = subst (λ (n : ℕ). IsReached words n told) (sym r) (reached words index told less short)
+    let long : IsLong (index + 1) (told_of_word told (index + 1)) = subst (λ (n : ℕ). IsLong (index + 1) (get_or told n None)) same r.1 in
+    subst (λ (n : ℕ). ReadsUpTo words n told × IsLong n (told_of_word told n)) (sym r.0) (reached words index told less short, long)
+refused_here words index told (ReadFault w) less short r = subst (λ (n : ℕ). ReadsUpTo words n told) (sym r) (reached words index told less short)
 refused_here words index told Memory less short r = tt
 refused_here words index told Done less short r = elim r [ ]
 refused_here words index told Refused less short r = elim r [ ]
@@ -151,7 +144,7 @@ reads_here words index before between now told WriteFault less small read e r = 
 pub sure_at : (sure : List ℕ → Bool) (words : List (Bor (List ℕ))) (i : ℕ) (d : Bor (List ℕ)) → i < length words → list_all sure (texts words) ≡ true → sure (get_or words i d).now ≡ true
 sure_at sure words i d less all =
     let inside : i < length (texts words) = omega (arith, length-map words (λ (t : Bor (List ℕ)). t.now)) in
-    ap sure (sym (get_or-map (λ (t : Bor (List ℕ)). t.now) words i d d.now less)) ∙ and_at (list_all sure) sure refl (λ x xs. refl) (texts words) i d.now inside all
+    ap sure (sym (get_or-map (λ (t : Bor (List ℕ)). t.now) words i d d.now less)) ∙ all_at sure (texts words) i d.now all inside
 
 -- ---- how a sweep ends
 

@@ -1,4 +1,4 @@
-pub mod Draws
+pub mod QueueRule
 pub mod Runs
 pub mod Texts
 pub mod Files

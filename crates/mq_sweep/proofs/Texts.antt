@@ -1,30 +1,25 @@
 -- The text of one model more.
 use Rattle.std.proofs.Common.{◌≡◌, ◌∙◌, ℕ, ◌+◌, ◌<◌, Bool, true, false, ◌&&◌, ◌==◌, List, [], ◌∷◌, ◌++◌, length, get_or, take, ap, sym, refl, append_assoc, append-nil, length-take-le, arith}
+use Rattle.std.proofs.Math.Bool.{and-true, and_assoc}
 use Rattle.std.proofs.lemmas.List.{take_more}
 use Rattle.mq_sweep.specs.Scenario.{scenario_status}
-use Rattle.mq_sweep.specs.Sweep.{all_done, parts_from, scenario_part, sweep_text}
+use Rattle.mq_sweep.specs.Sweep.{all_done, lines_from, scenario_lines, sweep_text}
 
 pub parts_push : (trace : List ℕ) (number : ℕ) (models : List (List ℕ)) (model : List ℕ)
-    → parts_from trace number (models ++ model ∷ []) ≡ parts_from trace number models ++ scenario_part trace (number + length models) model
+    → lines_from trace number (models ++ model ∷ []) ≡ lines_from trace number models ++ scenario_lines trace (number + length models) model
 parts_push trace number [] model =
     let same : number ≡ number + 0 = omega arith in
-    append-nil (scenario_part trace number model) ∙ ap (λ (n : ℕ). scenario_part trace n model) same
+    append-nil (scenario_lines trace number model) ∙ ap (λ (n : ℕ). scenario_lines trace n model) same
 parts_push trace number (m ∷ models) model =
     let same : number + 1 + length models ≡ number + length (m ∷ models) = omega arith in
-    ap (λ (t : List ℕ). scenario_part trace number m ++ t) (parts_push trace (number + 1) models model)
-    ∙ (sym (append_assoc (scenario_part trace number m) (parts_from trace (number + 1) models) (scenario_part trace (number + 1 + length models) model))
-    ∙ ap (λ (n : ℕ). parts_from trace number (m ∷ models) ++ scenario_part trace n model) same)
-
-and_assoc : (a b d : Bool) → (a && (b && d)) ≡ ((a && b) && d)
-and_assoc a b d = elim a as (λ x. (x && (b && d)) ≡ ((x && b) && d)) [ true ↦ refl | false ↦ refl ]
-
-and_true : (a : Bool) → (a && true) ≡ a
-and_true a = elim a as (λ x. (x && true) ≡ x) [ true ↦ refl | false ↦ refl ]
+    ap (λ (t : List ℕ). scenario_lines trace number m ++ t) (parts_push trace (number + 1) models model)
+    ∙ (sym (append_assoc (scenario_lines trace number m) (lines_from trace (number + 1) models) (scenario_lines trace (number + 1 + length models) model))
+    ∙ ap (λ (n : ℕ). lines_from trace number (m ∷ models) ++ scenario_lines trace n model) same)
 
 pub done_push : (trace : List ℕ) (models : List (List ℕ)) (model : List ℕ) → all_done trace (models ++ model ∷ []) ≡ (all_done trace models && (scenario_status trace model == 0))
-done_push trace [] model = and_true (scenario_status trace model == 0)
+done_push trace [] model = and-true (scenario_status trace model == 0)
 done_push trace (m ∷ models) model =
-    ap (λ (b : Bool). (scenario_status trace m == 0) && b) (done_push trace models model) ∙ and_assoc (scenario_status trace m == 0) (all_done trace models) (scenario_status trace model == 0)
+    ap (λ (b : Bool). (scenario_status trace m == 0) && b) (done_push trace models model) ∙ sym (and_assoc (scenario_status trace m == 0) (all_done trace models) (scenario_status trace model == 0))
 
 -- ---- in a loop over the models
 
@@ -32,12 +27,12 @@ module _ (trace : List ℕ) (models : List (List ℕ)) (n : ℕ) (model : List �
   one_more : take (n + 1) models ≡ take n models ++ model ∷ []
   one_more = take_more models n [] less ∙ ap (λ (m : List ℕ). take n models ++ m ∷ []) here
 
-  pub text_more : (old new : List ℕ) → old ≡ sweep_text trace (take n models) → new ≡ old ++ scenario_part trace n model → new ≡ sweep_text trace (take (n + 1) models)
+  pub text_more : (old new : List ℕ) → old ≡ sweep_text trace (take n models) → new ≡ old ++ scenario_lines trace n model → new ≡ sweep_text trace (take (n + 1) models)
   text_more old new is more =
       let long : 0 + length (take n models) ≡ n = let h = length-take-le n models (omega arith) in omega arith in
       more
-      ∙ (ap (λ (t : List ℕ). t ++ scenario_part trace n model) is
-      ∙ sym (ap (λ (ms : List (List ℕ)). sweep_text trace ms) one_more ∙ (parts_push trace 0 (take n models) model ∙ ap (λ (k : ℕ). sweep_text trace (take n models) ++ scenario_part trace k model) long)))
+      ∙ (ap (λ (t : List ℕ). t ++ scenario_lines trace n model) is
+      ∙ sym (ap (λ (ms : List (List ℕ)). sweep_text trace ms) one_more ∙ (parts_push trace 0 (take n models) model ∙ ap (λ (k : ℕ). sweep_text trace (take n models) ++ scenario_lines trace k model) long)))
 
   pub done_more : (old new : Bool) (status : ℕ) → old ≡ all_done trace (take n models) → new ≡ (old && (status == 0)) → status ≡ scenario_status trace model → new ≡ all_done trace (take (n + 1) models)
   done_more old new status is more same =

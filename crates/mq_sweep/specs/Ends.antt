@@ -3,7 +3,7 @@ use Rattle.std.specs.Prelude.{◌≡◌, ◌≤◌, ◌<◌, ◌+◌, ◌-◌, �
 use Rattle.std.specs.Io.KnownBytes.{append_known}
 use Rattle.mq_outside.specs.Outside.{TakesPrefix}
 use Rattle.mq_top.specs.Ends.{Taken}
-use Rattle.mq_sweep.specs.Sweep.{SweepAnswer, limit_of, told_at}
+use Rattle.mq_sweep.specs.Sweep.{SweepAnswer, limit_of, told_of_word}
 use Rattle.mq_sweep.specs.Sweep.SweepAnswer.{LongFile, Swept}
 use Rattle.mq_sweep.specs.declared.outcome.SweepOutcome.{SweepOutcome}
 use Rattle.mq_sweep.specs.declared.outcome.SweepOutcome.TheVariants.{Done, Refused, Usage, TooLong, ReadFault, WriteFault, Memory}
@@ -74,16 +74,16 @@ RefusesRead word told Refused = ⊥
 RefusesRead word told Usage = ⊥
 RefusesRead word told WriteFault = ⊥
 
--- the word is one of so many, and the files of those before it aren't too long
-pub record IsReached (words word : ℕ) (told : List (Option (List ℕ))) : Type 0 where
+-- the reading came up to this word, of so many: the files of those before it aren't too long
+pub record ReadsUpTo (words word : ℕ) (told : List (Option (List ℕ))) : Type 0 where
   pub some : 1 ≤ word
   pub most : word ≤ words
   pub short : AreShort (word - 1) told
 
 -- how the reading of so many words may be refused
 abbrev pub RefusesReading : ℕ → List (Option (List ℕ)) → SweepOutcome → Type 0
-RefusesReading words told (TooLong word) = IsReached words word told × IsLong word (told_at told word)
-RefusesReading words told (ReadFault word) = IsReached words word told
+RefusesReading words told (TooLong word) = ReadsUpTo words word told × IsLong word (told_of_word told word)
+RefusesReading words told (ReadFault word) = ReadsUpTo words word told
 RefusesReading words told Memory = Unit {0}
 RefusesReading words told Done = ⊥
 RefusesReading words told Refused = ⊥

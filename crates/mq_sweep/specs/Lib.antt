@@ -1,5 +1,5 @@
 pub mod Book
-pub mod Draws
+pub mod QueueRule
 pub mod Ends
 pub mod Scenario
 pub mod Sweep

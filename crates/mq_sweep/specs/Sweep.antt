@@ -1,33 +1,30 @@
 -- The text of a sweep: what each model gives over one trace.
-use Rattle.std.specs.Prelude.{◌≡◌, ◌==◌, ◌&&◌, ◌||◌, ℕ, ◌+◌, ◌-◌, Bool, true, List, [], ◌∷◌, ◌++◌, length, map, codes, decimal, Option, Some, None, nat_lt, slice_index, slice_index_or, if◌then◌else◌}
+use Rattle.std.specs.Prelude.{◌≡◌, ◌==◌, ◌&&◌, ◌||◌, ℕ, ◌+◌, ◌-◌, Bool, true, List, [], ◌∷◌, ◌++◌, length, map, codes, decimal, Option, Some, None, nat_lt, slice_index_or, if◌then◌else◌}
 use Rattle.std.specs.List.{list_any}
+use Rattle.mq_words.specs.Words.{begins_with_dash}
 use Rattle.mq_sweep.specs.Scenario.{scenario_status, scenario_text}
 
--- the lines of a scenario: its head, with a number from 1 and the status, and what the run wrote
-abbrev pub part : (number status : ℕ) → List ℕ → List ℕ
-part number status text = codes "scenario " ++ decimal (number + 1) ++ codes " status " ++ decimal status ++ 10 ∷ [] ++ text
+-- what a run wrote, behind the head of its scenario: a number from 1, and the status
+abbrev pub headed : (number status : ℕ) → List ℕ → List ℕ
+headed number status text = codes "scenario " ++ decimal (number + 1) ++ codes " status " ++ decimal status ++ 10 ∷ [] ++ text
 
--- those of the model with this number, from 0, over a trace
-abbrev pub scenario_part : List ℕ → ℕ → List ℕ → List ℕ
-scenario_part trace number model = part number (scenario_status trace model) (scenario_text trace model)
+-- the lines of the scenario of a model with this number, from 0, over a trace
+abbrev pub scenario_lines : List ℕ → ℕ → List ℕ → List ℕ
+scenario_lines trace number model = headed number (scenario_status trace model) (scenario_text trace model)
 
 -- those of these models, of which the first has this number
-abbrev pub parts_from : List ℕ → ℕ → List (List ℕ) → List ℕ
-parts_from trace number [] = []
-parts_from trace number (model ∷ models) = scenario_part trace number model ++ parts_from trace (number + 1) models
+abbrev pub lines_from : List ℕ → ℕ → List (List ℕ) → List ℕ
+lines_from trace number [] = []
+lines_from trace number (model ∷ models) = scenario_lines trace number model ++ lines_from trace (number + 1) models
 
 -- the text of a sweep
 abbrev pub sweep_text : List ℕ → List (List ℕ) → List ℕ
-sweep_text trace models = parts_from trace 0 models
+sweep_text trace models = lines_from trace 0 models
 
 -- whether the status of each model's run is 0
 abbrev pub all_done : List ℕ → List (List ℕ) → Bool
 all_done trace [] = true
 all_done trace (model ∷ models) = (scenario_status trace model == 0) && all_done trace models
-
--- the word begins with a dash
-abbrev pub begins_with_dash : List ℕ → Bool
-begins_with_dash word = slice_index word 0 == 45
 
 -- there aren't 2 to 65 words, or one begins with a dash
 abbrev pub refuses_words : List (List ℕ) → Bool
@@ -60,10 +57,10 @@ answer_unless (Some word) files = LongFile word
 abbrev pub sweep_answer : List (List ℕ) → SweepAnswer
 sweep_answer files = answer_unless (first_long 1 files) files
 
--- what is told of the file that a word names
-abbrev pub told_at : List (Option (List ℕ)) → ℕ → Option (List ℕ)
-told_at told word = slice_index_or told (word - 1) None
+-- what is told of the file that a word names, of what is told of those of all words
+abbrev pub told_of_word : List (Option (List ℕ)) → ℕ → Option (List ℕ)
+told_of_word told word = slice_index_or told (word - 1) None
 
--- all of it is told: these are the files
+-- all files are told, and these are their contents
 abbrev pub AreFiles : List (Option (List ℕ)) → List (List ℕ) → Type 0
 AreFiles told files = told ≡ map Some files

@@ -1,4 +1,4 @@
-//! Many models over one trace: each run by one of several workers, who draw the models from a queue.
+//! Many models over one trace: each run by one of several workers, who take the models from a queue.
 #![tactic(auto)]
 
 mod book;
@@ -17,5 +17,5 @@ pub use crew::by_workers;
 pub use entry::Entry;
 pub use gate::{SweepGate, SweepOpen};
 pub use outcome::SweepOutcome;
-pub use queue::{Numbers, Taker};
+pub use queue::QueueSeat;
 pub use top::sweep;

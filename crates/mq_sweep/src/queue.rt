@@ -1,7 +1,7 @@
-// The queue of the numbers of the models, under a rule: each number that was put was taken once or is left.
+// The queue of the numbers of the models, under the rule that each number that was put was taken or is left.
 ghost use Rattle.std.specs.Prelude.{◌≡◌, ◌+◌, ◌-◌, ◌/◌, ◌≤◌, ℕ, List, [], ◌∷◌, ◌++◌, IfOk, IfSome, IfNone};
 ghost use Rattle.std.specs.List.{range_with_len};
-ghost use Rattle.mq_sweep.specs.Draws.{IsShared, taking};
+ghost use Rattle.mq_sweep.specs.QueueRule.{IsTakenOrLeft, seat_state};
 
 use crossbeam_queue::protocol::{Join, Lesson, Outcome, Protocol, Split};
 use crossbeam_queue::{Pass, RuledArrayQueue};
@@ -11,85 +11,89 @@ use std::collections::LinkedList;
 use std::marker::Model;
 use std::sync::Wait;
 
-/// What a pass has put and taken, and its parts, of 64, of the right to know what all have. No value of it is made.
-pub struct Hand {
-    pub parts: u64,
+/// What a seat knows: what it put, what it took, and its share of a right of 64 that all seats have together. No value of it is
+/// made.
+pub struct Tally {
+    pub right: u64,
     pub put: LinkedList<u32>,
     pub taken: LinkedList<u32>,
 }
 
-/// The rule that nothing is lost and nothing comes twice.
-pub struct Fair;
+// The rule that nothing is lost and nothing comes twice.
+struct Rule;
 
-impl Protocol<u32, Hand> for Fair {
+impl Protocol<u32, Tally> for Rule {
     ghost use Rattle.std.specs.Prelude.{[]};
-    ghost use Rattle.mq_sweep.specs.Draws.{Balanced, hand};
+    ghost use Rattle.mq_sweep.specs.QueueRule.{Balanced, tally};
 
     ghost holds = { Balanced };
 
-    ghost first = { hand 64 [] [] };
+    ghost first = { tally 64 [] [] };
 }
 
-/// A pass gives half of its parts to a new one.
-pub struct Cut;
+// A seat gives half of its right to a new one.
+struct GiveHalf;
 
-impl Split<Hand> for Cut {
+impl Split<Tally> for GiveHalf {
     ghost use Rattle.std.specs.Prelude.{[], ◌-◌, ◌/◌};
-    ghost use Rattle.mq_sweep.specs.Draws.{hand};
+    ghost use Rattle.mq_sweep.specs.QueueRule.{tally};
 
-    ghost left = { λ v. hand (v.parts - v.parts / 2) v.put v.taken };
+    ghost left = { λ v. tally (v.right - v.right / 2) v.put v.taken };
 
-    ghost right = { λ v. hand (v.parts / 2) [] [] };
+    ghost right = { λ v. tally (v.right / 2) [] [] };
 }
 
-impl Join<Hand> for Cut {
+// A seat takes in all that another has.
+struct Both;
+
+impl Join<Tally> for Both {
     ghost use Rattle.std.specs.Prelude.{[], ◌+◌, ◌++◌};
-    ghost use Rattle.mq_sweep.specs.Draws.{hand};
+    ghost use Rattle.mq_sweep.specs.QueueRule.{tally};
 
-    ghost both = { λ v w. hand (v.parts + w.parts) (v.put ++ w.put) (v.taken ++ w.taken) };
+    ghost both = { λ v w. tally (v.right + w.right) (v.put ++ w.put) (v.taken ++ w.taken) };
 
-    ghost spent = { hand 0 [] [] };
+    ghost spent = { tally 0 [] [] };
 }
 
-/// A number is put.
-pub struct Puts;
+// A number is put.
+struct Puts;
 
-impl Outcome<u32, Hand> for Puts {
+impl Outcome<u32, Tally> for Puts {
     ghost use Rattle.std.specs.Prelude.{◌≡◌, [], ◌∷◌, ◌++◌};
-    ghost use Rattle.mq_sweep.specs.Draws.{hand};
+    ghost use Rattle.mq_sweep.specs.QueueRule.{tally};
 
-    ghost then = { λ v x w. w ≡ hand v.parts (v.put ++ x ∷ []) v.taken };
+    ghost then = { λ v x w. w ≡ tally v.right (v.put ++ x ∷ []) v.taken };
 }
 
-impl Lesson<u32, Hand> for Puts {
-    ghost use Rattle.mq_sweep.specs.Draws.{IsBalanced};
+impl Lesson<u32, Tally> for Puts {
+    ghost use Rattle.mq_sweep.specs.QueueRule.{KnowsLeft};
 
-    ghost fact = { IsBalanced };
+    ghost fact = { KnowsLeft };
 }
 
-/// A number is taken.
-pub struct Takes;
+// A number is taken.
+struct Takes;
 
-impl Outcome<u32, Hand> for Takes {
+impl Outcome<u32, Tally> for Takes {
     ghost use Rattle.std.specs.Prelude.{◌≡◌, [], ◌∷◌, ◌++◌};
-    ghost use Rattle.mq_sweep.specs.Draws.{hand};
+    ghost use Rattle.mq_sweep.specs.QueueRule.{tally};
 
-    ghost then = { λ v x w. w ≡ hand v.parts v.put (v.taken ++ x ∷ []) };
+    ghost then = { λ v x w. w ≡ tally v.right v.put (v.taken ++ x ∷ []) };
 }
 
-impl Lesson<u32, Hand> for Takes {
-    ghost use Rattle.mq_sweep.specs.Draws.{IsBalanced};
+impl Lesson<u32, Tally> for Takes {
+    ghost use Rattle.mq_sweep.specs.QueueRule.{KnowsLeft};
 
-    ghost fact = { IsBalanced };
+    ghost fact = { KnowsLeft };
 }
 
 /// A queue of numbers, which contracts see as its name.
 #[derive(Drop)]
-pub struct Numbers {
-    queue: RuledArrayQueue<u32, Hand, Fair>,
+pub struct NumberQueue {
+    queue: RuledArrayQueue<u32, Tally, Rule>,
 }
 
-impl Model for Numbers {
+impl Model for NumberQueue {
     ghost use Rattle.atomic_table.specs.Seated.{TableId, table_id_coded};
 
     ghost Value = { TableId };
@@ -99,86 +103,86 @@ impl Model for Numbers {
     ghost view = { λ n. n.queue.table.shared.table_id };
 }
 
-/// The right to take numbers from a queue: a token of one thread, with no bytes. What it holds is seen by contracts alone: its
-/// parts, of 64, of the right to know what all have, what it put, and what it took.
+/// The right to take numbers from a queue, and to make seats: a token of one thread, with no bytes. What it holds is seen by
+/// contracts alone: its share of the right, of 64, what it put, and what it took.
 #[derive(Drop)]
-pub struct Taker {
-    pass: Pass<u32, Hand>,
+pub struct QueueSeat {
+    pass: Pass<u32, Tally>,
 }
 
-impl Model for Taker {
+impl Model for QueueSeat {
     ghost use Rattle.std.specs.Prelude.{◌≡◌, []};
     ghost use Rattle.crossbeam_queue.specs.Passes.{view as known};
-    ghost use Rattle.mq_sweep.specs.Draws.{Taking, taking, taking_code};
+    ghost use Rattle.mq_sweep.specs.QueueRule.{SeatState, seat_state, seat_code};
 
-    ghost Value = { Taking };
+    ghost Value = { SeatState };
 
-    ghost coded = { taking_code };
+    ghost coded = { seat_code };
 
-    ghost view = { λ t. taking t.pass.table_id (known t.pass).parts (known t.pass).put (known t.pass).taken };
+    ghost view = { λ t. seat_state t.pass.table_id (known t.pass).right (known t.pass).put (known t.pass).taken };
 
     ghost invariant = { λ t. t.pass.me.1 ≡ [] };
 }
 
-impl Numbers {
-    /// A queue of the numbers from 0 up to this count, and the taker that put them, which has every part. It refuses for want of
-    /// memory alone.
+impl NumberQueue {
+    /// A queue of the numbers from 0 up to this count, and the seat that put them, which has all of the right. It refuses for want
+    /// of memory alone.
     pub fn filled<R: Wait>(
         rt: &R,
         alloc: Global,
         count: u32,
-    ) -> Result<(Numbers, Taker), OutOfMemory>
+    ) -> Result<(NumberQueue, QueueSeat), OutOfMemory>
         requires { 1 ≤ count }
-        ensures { IfOk result (λ r. r.1 ≡ taking r.0 64 (range_with_len 0 count) []) }
+        ensures { IfOk result (λ r. r.1 ≡ seat_state r.0 64 (range_with_len 0 count) []) }
     {
-        let (queue, mut pass) = RuledArrayQueue::<u32, Hand, Fair>::ruled(alloc, count as usize)?;
+        let (queue, mut pass) = RuledArrayQueue::<u32, Tally, Rule>::ruled(alloc, count as usize)?;
         'puts: for number in 0..count {
             match queue.push_as::<Puts, R>(rt, &mut pass, number) {
                 Ok(()) => {}
                 Err(_) => unreachable!(),
             }
         }
-        Ok((Numbers { queue }, Taker { pass }))
+        Ok((NumberQueue { queue }, QueueSeat { pass }))
     }
 
     /// Takes the number at the front; none only where the queue was empty at one moment of the call.
-    pub fn take<R: Wait>(&self, rt: &R, taker: &mut Taker) -> Option<u32>
-        requires own { taker.old.table ≡ self.now }
-        requires part { 1 ≤ taker.old.parts }
-        ensures some { IfSome result (λ number. taker.new ≡ taking taker.old.table taker.old.parts taker.old.put (taker.old.taken ++ number ∷ [])) }
-        ensures none { IfNone result (taker.new ≡ taker.old) }
+    pub fn take<R: Wait>(&self, rt: &R, seat: &mut QueueSeat) -> Option<u32>
+        requires own { seat.old.table ≡ self.now }
+        requires right { 1 ≤ seat.old.right }
+        ensures some { IfSome result (λ number. seat.new ≡ seat_state seat.old.table seat.old.right seat.old.put (seat.old.taken ++ number ∷ [])) }
+        ensures none { IfNone result (seat.new ≡ seat.old) }
     {
-        self.queue.pop_as::<Takes, R>(rt, &mut taker.pass)
+        self.queue.pop_as::<Takes, R>(rt, &mut seat.pass)
     }
 
-    /// Gives half of the parts to a new taker.
-    pub fn halve(&self, taker: &mut Taker) -> Taker
-        requires own { taker.old.table ≡ self.now }
-        requires two { 2 ≤ taker.old.parts }
-        ensures left { taker.new ≡ taking taker.old.table (taker.old.parts - taker.old.parts / 2) taker.old.put taker.old.taken }
-        ensures given { result ≡ taking taker.old.table (taker.old.parts / 2) [] [] }
+    /// Gives half of the seat's right to a new seat.
+    pub fn split(&self, seat: &mut QueueSeat) -> QueueSeat
+        requires own { seat.old.table ≡ self.now }
+        requires two { 2 ≤ seat.old.right }
+        ensures left { seat.new ≡ seat_state seat.old.table (seat.old.right - seat.old.right / 2) seat.old.put seat.old.taken }
+        ensures given { result ≡ seat_state seat.old.table (seat.old.right / 2) [] [] }
     {
-        let pass = self.queue.another::<Cut>(&mut taker.pass);
-        Taker { pass }
+        let pass = self.queue.another::<GiveHalf>(&mut seat.pass);
+        QueueSeat { pass }
     }
 
-    /// Takes in all that another taker of this queue holds.
-    pub fn join(&self, taker: &mut Taker, other: Taker)
-        requires own { taker.old.table ≡ self.now }
+    /// Takes in the right of another seat of this queue, and what it put and took.
+    pub fn join(&self, seat: &mut QueueSeat, other: QueueSeat)
+        requires own { seat.old.table ≡ self.now }
         requires its { other.table ≡ self.now }
-        requires part { 1 ≤ taker.old.parts }
-        ensures { taker.new ≡ taking taker.old.table (taker.old.parts + other.parts) (taker.old.put ++ other.put) (taker.old.taken ++ other.taken) }
+        requires right { 1 ≤ seat.old.right }
+        ensures { seat.new ≡ seat_state seat.old.table (seat.old.right + other.right) (seat.old.put ++ other.put) (seat.old.taken ++ other.taken) }
     {
-        self.queue.absorb::<Cut>(&mut taker.pass, other.pass);
+        self.queue.absorb::<Both>(&mut seat.pass, other.pass);
     }
 
-    /// What a taker that has every part knows: each number that was put was taken or is left, as often as it was put.
-    pub fn tell(&self, taker: &mut Taker)
-        requires own { taker.old.table ≡ self.now }
-        requires every { taker.old.parts ≡ 64 }
-        ensures same { taker.new ≡ taker.old }
-        ensures shared { (left : List ℕ) × IsShared taker.old.put taker.old.taken left }
+    /// What a seat with all of the right learns: each number that was put was taken or is left, as often as it was put.
+    pub fn learn(&self, seat: &mut QueueSeat)
+        requires own { seat.old.table ≡ self.now }
+        requires every { seat.old.right ≡ 64 }
+        ensures same { seat.new ≡ seat.old }
+        ensures shared { (left : List ℕ) × IsTakenOrLeft seat.old.put seat.old.taken left }
     {
-        self.queue.learn_as::<Takes>(&mut taker.pass);
+        self.queue.learn_as::<Takes>(&mut seat.pass);
     }
 }

@@ -4,7 +4,8 @@ ghost use Rattle.std.specs.List.{list_all, list_any};
 ghost use Rattle.mq_base.specs.Text.{texts};
 ghost use Rattle.mq_outside.specs.Outside.{next_count, Rose};
 ghost use Rattle.mq_sweep.specs.Ends.{AreRead, AreShort, HasRead, Reads, RefusesRead, RefusesReading};
-ghost use Rattle.mq_sweep.specs.Sweep.{begins_with_dash as begins_with_dash_of, limit_of, refuses_words as refuses_words_of};
+ghost use Rattle.mq_sweep.specs.Sweep.{limit_of, refuses_words as refuses_words_of};
+ghost use Rattle.mq_words.specs.Words.{begins_with_dash as begins_with_dash_of};
 
 use crate::SweepOutcome;
 use mq_base::List;
@@ -23,10 +24,7 @@ const MOST_WORDS: usize = 65;
 fn begins_with_dash(word: &str) -> bool
     ensures { result ≡ begins_with_dash_of word.now }
 {
-    match word.as_bytes() {
-        [first, ..] => *first == b'-',
-        [] => false,
-    }
+    word.as_bytes().first() == Some(&b'-')
 }
 
 // Whether a word begins with a dash.

@@ -43,9 +43,8 @@ pub fn run_scenario<R: Threads + Sync>(
     let outcome = simulate_bytes(
         rt, alloc, model, trace, 1, BLOCK, FORM, false, &mut out, &mut err,
     );
-    match outcome {
-        Outcome::Memory => return Err(OutOfMemory),
-        _ => {}
+    if outcome == Outcome::Memory {
+        return Err(OutOfMemory);
     }
     if out.faults() != 0 || err.faults() != 0 {
         return Err(OutOfMemory);

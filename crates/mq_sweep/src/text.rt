@@ -2,7 +2,7 @@
 ghost use Rattle.std.specs.Prelude.{◌≡◌, ◌==◌, ◌&&◌, ◌+◌, ◌-◌, ◌^◌, ◌<◌, ◌++◌, All, Contains, length, IfOk, IfSome, OnOk};
 ghost use Rattle.mq_sweep.specs.Book.{IsEntryOf};
 ghost use Rattle.mq_sweep.specs.Scenario.{scenario_status};
-ghost use Rattle.mq_sweep.specs.Sweep.{all_done, part, scenario_part, sweep_text};
+ghost use Rattle.mq_sweep.specs.Sweep.{all_done, headed, scenario_lines, sweep_text};
 
 use crate::scenario::run_scenario;
 use crate::{Book, Entry};
@@ -18,7 +18,7 @@ pub struct Scenarios {
     pub done: bool,
 }
 
-// The entries of a book of this trace; of another trace none.
+// The entries of a book of this trace; of a book of another trace none.
 fn entries_of<'b>(book: &'b Book, trace: &[u8]) -> &'b [Entry]
     ensures { All (IsEntryOf trace.now) result.now }
 {
@@ -29,7 +29,7 @@ fn entries_of<'b>(book: &'b Book, trace: &[u8]) -> &'b [Entry]
 }
 
 // An entry with this number and this model, if there is one.
-fn found<'b>(entries: &'b [Entry], number: u32, model: &[u8]) -> Option<&'b Entry>
+fn find_entry<'b>(entries: &'b [Entry], number: u32, model: &[u8]) -> Option<&'b Entry>
     ensures there { IfSome result (λ entry. Contains entries.now entry.now) }
     ensures model { IfSome result (λ entry. entry.now.model ≡ model.now) }
 {
@@ -41,10 +41,10 @@ fn found<'b>(entries: &'b [Entry], number: u32, model: &[u8]) -> Option<&'b Entr
     None
 }
 
-// Adds the lines of a scenario.
-fn add_part(number: u32, status: u8, told: &[u8], text: &mut Vec<u8>) -> Result<(), OutOfMemory>
+// Adds the lines of a scenario: its head, and what its run wrote.
+fn add_lines(number: u32, status: u8, wrote: &[u8], text: &mut Vec<u8>) -> Result<(), OutOfMemory>
     requires { number + 1 < 2 ^ 32 }
-    ensures { OnOk result (text.new.items ≡ text.old.items ++ part number status told.now) }
+    ensures { OnOk result (text.new.items ≡ text.old.items ++ headed number status wrote.now) }
 {
     let mut digits = Buffer::new();
     text.extend_from_slice(b"scenario ")?;
@@ -52,7 +52,7 @@ fn add_part(number: u32, status: u8, told: &[u8], text: &mut Vec<u8>) -> Result<
     text.extend_from_slice(b" status ")?;
     text.extend_from_slice(digits.format(status).as_bytes())?;
     text.extend_from_slice(b"\n")?;
-    text.extend_from_slice(told)?;
+    text.extend_from_slice(wrote)?;
     Ok(())
 }
 
@@ -63,7 +63,8 @@ fn is_done(done: bool, status: u8) -> bool
     done && status == 0
 }
 
-// Adds the lines of this model, from an entry or from a run of the caller's own, and gives the status.
+// Adds the lines of the scenario of this model, and gives its status: from its entry, or, where no worker put one, from a run made
+// here.
 fn add_scenario<R: Threads + Sync>(
     rt: &R,
     alloc: Global,
@@ -75,20 +76,20 @@ fn add_scenario<R: Threads + Sync>(
 ) -> Result<u8, OutOfMemory>
     requires right { All (IsEntryOf trace.now) entries.now }
     requires room { number + 1 < 2 ^ 32 }
-    ensures text { OnOk result (text.new.items ≡ text.old.items ++ scenario_part trace.now number model.now) }
+    ensures text { OnOk result (text.new.items ≡ text.old.items ++ scenario_lines trace.now number model.now) }
     ensures status { IfOk result (λ status. status ≡ scenario_status trace.now model.now) }
 {
-    if let Some(entry) = found(entries, number, model) {
-        add_part(number, entry.status, entry.text.as_slice(), text)?;
+    if let Some(entry) = find_entry(entries, number, model) {
+        add_lines(number, entry.status, entry.text.as_slice(), text)?;
         return Ok(entry.status);
     }
     let entry = run_scenario(rt, alloc, number, model, trace)?;
-    add_part(number, entry.status, entry.text.as_slice(), text)?;
+    add_lines(number, entry.status, entry.text.as_slice(), text)?;
     Ok(entry.status)
 }
 
-/// The text of the sweep of these models, from the entries of a book and, where it has none, from runs of the caller's own. It
-/// refuses for want of memory alone.
+/// The text of the sweep of these models, in their order: from the entries of a book, and from runs made here where it has none.
+/// It refuses for want of memory alone.
 pub fn scenarios_of<R: Threads + Sync>(
     rt: &R,
     alloc: Global,

@@ -6,7 +6,7 @@ ghost use Rattle.mq_outcome.specs.Lines.{PutsLine};
 ghost use Rattle.mq_outside.specs.Outside.{Rose};
 ghost use Rattle.mq_top.specs.Ends.{FailedAt, takings};
 ghost use Rattle.mq_sweep.specs.Ends.{IsLong, IsOfRun, Reads, StopsBy, SweepEnds, Untouched, sweep_line};
-ghost use Rattle.mq_sweep.specs.Sweep.{AreFiles, limit_of, refuses_words as refuses_words_of, sweep_answer, swept, told_at};
+ghost use Rattle.mq_sweep.specs.Sweep.{AreFiles, limit_of, refuses_words as refuses_words_of, sweep_answer, swept, told_of_word};
 ghost use Rattle.mq_sweep.specs.Sweep.SweepAnswer.{Swept};
 
 use crate::crew::by_workers;
@@ -36,7 +36,7 @@ fn scenarios_in<R: Threads + Wait + Sync, G: SweepGate>(
 {
     let trace = contents[0].as_slice();
     let models = &contents[1..];
-    let (book, _pass) = by_workers(rt, alloc, workers, trace, models, gate)?;
+    let (book, _seat) = by_workers(rt, alloc, workers, trace, models, gate)?;
     scenarios_of(rt, alloc, trace, models, &book)
 }
 
@@ -107,8 +107,8 @@ fn sweep_words<R: Threads + Wait + Sync, F: Files, O: Sink, G: SweepGate>(
         SweepEnds (sweep_answer contents) result (takings O.taken O.sure out.old out.new) }
     ensures usage { IsTrue (refuses_words_of (texts words.now)) ↔ (result ≡ SweepOutcome.Usage) }
     ensures unread { IsTrue (refuses_words_of (texts words.now)) → files.new ≡ files.old }
-    ensures too_long { (w : ℕ) → result ≡ SweepOutcome.TooLong w → (1 ≤ w) × (w ≤ length words.now) × IsLong w (told_at (map (F.told files.old) (texts words.now)) w) }
-    ensures too_long_comes { (w : ℕ) (bytes : Items ℕ) → refuses_words_of (texts words.now) ≡ false → 1 ≤ w → told_at (map (F.told files.old) (texts words.now)) w ≡ Some bytes → limit_of w < length bytes →
+    ensures too_long { (w : ℕ) → result ≡ SweepOutcome.TooLong w → (1 ≤ w) × (w ≤ length words.now) × IsLong w (told_of_word (map (F.told files.old) (texts words.now)) w) }
+    ensures too_long_comes { (w : ℕ) (bytes : Items ℕ) → refuses_words_of (texts words.now) ≡ false → 1 ≤ w → told_of_word (map (F.told files.old) (texts words.now)) w ≡ Some bytes → limit_of w < length bytes →
         StopsBy w result }
     ensures read_fault { (w : ℕ) → result ≡ SweepOutcome.ReadFault w → (1 ≤ w) × (w ≤ length words.now) × FailedAt w (F.reads files.old) (F.reads files.new) (F.faults files.new) × Rose (F.faults files.old) (F.faults files.new) }
     ensures reads { Reads (length words.now) result (F.reads files.old) (F.reads files.new) }
@@ -166,8 +166,8 @@ pub fn sweep<R: Threads + Wait + Sync, F: Files, O: Sink, E: Sink, G: SweepGate>
     // The words are refused exactly so, and a file is too long whatever is told of the others.
     ensures usage { IsTrue (refuses_words_of (texts words.now)) ↔ (result ≡ SweepOutcome.Usage) }
     ensures unread { IsTrue (refuses_words_of (texts words.now)) → files.new ≡ files.old }
-    ensures too_long { (w : ℕ) → result ≡ SweepOutcome.TooLong w → (1 ≤ w) × (w ≤ length words.now) × IsLong w (told_at (map (F.told files.old) (texts words.now)) w) }
-    ensures too_long_comes { (w : ℕ) (bytes : Items ℕ) → refuses_words_of (texts words.now) ≡ false → 1 ≤ w → told_at (map (F.told files.old) (texts words.now)) w ≡ Some bytes → limit_of w < length bytes →
+    ensures too_long { (w : ℕ) → result ≡ SweepOutcome.TooLong w → (1 ≤ w) × (w ≤ length words.now) × IsLong w (told_of_word (map (F.told files.old) (texts words.now)) w) }
+    ensures too_long_comes { (w : ℕ) (bytes : Items ℕ) → refuses_words_of (texts words.now) ≡ false → 1 ≤ w → told_of_word (map (F.told files.old) (texts words.now)) w ≡ Some bytes → limit_of w < length bytes →
         StopsBy w result }
 
     // A fault of a device is counted, and a counted fault is answered.

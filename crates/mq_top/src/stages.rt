@@ -352,6 +352,8 @@ fn run_bytes<R: Threads + Sync, G: Gate, O: Sink, E: Sink>(
     err: &mut E,
 ) -> Outcome
     ensures ends { Ends (answer model.now trace.now wanted) result (takings O.taken O.sure out.old out.new) }
+    ensures model { (fault : ModelFault) → model_fault model.now ≡ Some fault → RefusesModel result (Some model.now) }
+    ensures model_only { (fault : ModelFault) → result ≡ Outcome.Model fault → model_fault model.now ≡ Some fault }
     ensures usage { (fault : UsageFault) → result ≢ Outcome.Usage fault }
     ensures unread { (second : Bool) → result ≢ Outcome.ReadFault second }
     ensures never { (result ≢ Outcome.Model ModelFault.Memory) × (result ≢ Outcome.Trace TraceFault.Memory) }
@@ -433,6 +435,8 @@ pub fn simulate_bytes<R: Threads + Sync, O: Sink, E: Sink>(
     // A finished run has written exactly the report of the event list, and a run ends otherwise only with the fault
     // that the definitions give, or with a fault of a device or want of memory.
     ensures ends { Ends (answer model.now trace.now (record { form = form; jobs = jobs })) result (takings O.taken O.sure out.old out.new) }
+    ensures model { (fault : ModelFault) → model_fault model.now ≡ Some fault → RefusesModel result (Some model.now) }
+    ensures model_only { (fault : ModelFault) → result ≡ Outcome.Model fault → model_fault model.now ≡ Some fault }
     ensures usage { (fault : UsageFault) → result ≢ Outcome.Usage fault }
     ensures unread { (second : Bool) → result ≢ Outcome.ReadFault second }
     ensures never { (result ≢ Outcome.Model ModelFault.Memory) × (result ≢ Outcome.Trace TraceFault.Memory) }

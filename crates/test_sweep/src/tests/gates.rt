@@ -1,12 +1,16 @@
-// Two threads run models of one sweep.
-use super::files_of;
+// Two threads run the models of one sweep.
+use super::files_with;
+use mq_base::OutOfMemory;
 use mq_outside::MemSink;
 use mq_sweep::{SweepGate, SweepOutcome, sweep};
+use std::alloc::Global;
+use std::sync::Wait;
 use std::sync::atomic::AtomicU64;
 use std::sync::atomic::Ordering::SeqCst;
 use std::test::Fail;
+use std::thread::Threads;
 
-// How often a held entry looks whether the other has come.
+// How often an entry that is held looks whether the other has come.
 const TURNS: u64 = 2_000_000_000;
 
 // The entries with the models 0 and 1, of which each is held until the other has come.
@@ -32,30 +36,27 @@ impl SweepGate for Held {
     }
 }
 
-#[test]
-fn two_threads_enter_the_gate(rt: HostRuntime) -> Result<(), Fail> {
-    let alloc = rt.alloc();
+// Whether a sweep of two models by two workers is done, each model came once, and none was held in vain.
+fn both_come<R: Threads + Wait + Sync>(rt: &R, alloc: Global) -> Result<bool, OutOfMemory> {
     let gate = Held {
         came: [AtomicU64::new(0), AtomicU64::new(0)],
         run_out: AtomicU64::new(0),
     };
-    let mut files = files_of(alloc, 0)?;
+    let mut files = files_with(alloc, Vec::new(alloc), 0)?;
     let mut out = MemSink::new(alloc, 1024, Vec::new(alloc));
     let mut err = MemSink::new(alloc, 1024, Vec::new(alloc));
-    let outcome = sweep(
-        &rt,
-        alloc,
-        &["t", "m", "m"],
-        2,
-        &mut files,
-        &mut out,
-        &mut err,
-        &gate,
-    );
-    assert!(rt; outcome == SweepOutcome::Done);
-    assert!(rt; gate.run_out.load(SeqCst) == 0);
-    for number in 0..2usize {
-        assert!(rt; gate.came[number].load(SeqCst) == 1);
-    }
+    let words = &["t", "m", "m"];
+    let outcome = sweep(rt, alloc, words, 2, &mut files, &mut out, &mut err, &gate);
+    Ok(
+        outcome == SweepOutcome::Done
+            && gate.came[0].load(SeqCst) == 1
+            && gate.came[1].load(SeqCst) == 1
+            && gate.run_out.load(SeqCst) == 0,
+    )
+}
+
+#[test]
+fn two_threads_enter_the_gate(rt: HostRuntime) -> Result<(), Fail> {
+    assert!(rt; both_come(&rt, rt.alloc())?);
     Ok(())
 }

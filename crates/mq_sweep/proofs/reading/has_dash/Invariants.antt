@@ -1,6 +1,6 @@
 use Rattle.std.proofs.Common.{◌≡◌, length, map}
 use Rattle.std.specs.List.{list_any}
-use Rattle.mq_sweep.specs.Sweep.{begins_with_dash}
+use Rattle.mq_words.specs.Words.{begins_with_dash}
 use Rattle.mq_sweep.proofs.reading.has_dash.Given as goal
 
 -- what is left is answered as the whole

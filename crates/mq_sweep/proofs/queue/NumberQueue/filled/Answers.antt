@@ -1,14 +1,14 @@
 use Rattle.std.proofs.Common.{◌≡◌, ◌∙◌, ap, arith}
-use Rattle.mq_sweep.specs.declared.queue.Hand.{Hand}
+use Rattle.mq_sweep.specs.declared.queue.Tally.{Tally}
 use Rattle.crossbeam_queue.specs.Passes.{view}
-use Rattle.mq_sweep.proofs.Draws.{begins, learns, not_full, put_more, puts}
-use Rattle.mq_sweep.proofs.queue.Numbers.filled.Goals as goal
+use Rattle.mq_sweep.proofs.QueueRule.{begins, learns, not_full, put_more, puts}
+use Rattle.mq_sweep.proofs.queue.NumberQueue.filled.Goals as goal
 
 pub ruled-requires-clause-rule : goal.ruled-requires-clause-rule
 ruled-requires-clause-rule g c = begins
 
 pub push_as-requires-clause-rule : goal.push_as-requires-clause-rule
-push_as-requires-clause-rule g c = let parts : (view c.puts.pass).parts ≡ 64 = ap (λ (v : Hand). v.parts) c.puts.invariant.put in (puts _ _ _ _ (omega arith), learns _ _)
+push_as-requires-clause-rule g c = let right : (view c.puts.pass).right ≡ 64 = ap (λ (v : Tally). v.right) c.puts.invariant.put in (puts _ _ _ _ (omega arith), learns _ _)
 
 pub unreachable-requires : goal.unreachable-requires
 unreachable-requires g c =

@@ -1,5 +1,5 @@
-use Rattle.mq_sweep.proofs.Draws.{learns}
-use Rattle.mq_sweep.proofs.queue.Numbers.tell.Goals as goal
+use Rattle.mq_sweep.proofs.QueueRule.{learns}
+use Rattle.mq_sweep.proofs.queue.NumberQueue.learn.Goals as goal
 
 pub learn_as-requires-clause-rule : goal.learn_as-requires-clause-rule
 learn_as-requires-clause-rule c = learns _ _
