@@ -37,7 +37,7 @@ scenario_answer trace model = answer model trace (record { form = 2; jobs = fals
 abbrev pub line_of : List ℕ → Answer → List ℕ
 line_of model a = line_text (name_of (network_in model) (outcome_of a)) (outcome_of a)
 
--- the status of the run
+-- The status of the run. It and the text are opened by name alone, so that no goal of the sweep goes into a run.
 unfoldable pub scenario_status : (trace model : List ℕ) → ℕ
 scenario_status trace model = status_of (outcome_of (scenario_answer trace model))
 

@@ -43,8 +43,9 @@ pub fn run_scenario<R: Threads + Sync>(
     let outcome = simulate_bytes(
         rt, alloc, model, trace, 1, BLOCK, FORM, false, &mut out, &mut err,
     );
-    if outcome == Outcome::Memory {
-        return Err(OutOfMemory);
+    match outcome {
+        Outcome::Memory => return Err(OutOfMemory),
+        _ => {}
     }
     if out.faults() != 0 || err.faults() != 0 {
         return Err(OutOfMemory);
