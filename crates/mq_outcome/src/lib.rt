@@ -4,5 +4,5 @@
 mod line;
 mod outcome;
 
-pub use line::{name_of, put_line};
+pub use line::{name_of, put_line, put_pieces};
 pub use outcome::Outcome;

@@ -53,8 +53,8 @@ fn try_pieces<E: Sink>(err: &mut E, pieces: &[Piece<'_>]) -> Result<(), SinkFaul
     flush(err, &mut pending)
 }
 
-// Puts these pieces, which are a line. What becomes of it changes nothing.
-fn put_pieces<E: Sink>(err: &mut E, pieces: &[Piece<'_>])
+/// Puts these pieces, which are a line. What becomes of it changes nothing.
+pub fn put_pieces<E: Sink>(err: &mut E, pieces: &[Piece<'_>])
     ensures { PutsLine E.taken E.sure E.faults err.old err.new (pieces_text pieces.now) }
 {
     let _ = try_pieces(err, pieces);

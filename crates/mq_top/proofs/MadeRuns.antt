@@ -1,18 +1,17 @@
 -- What follows for the answer, and for how a run ends, where the model and the trace are accepted.
-use Rattle.std.proofs.Common.{◌≡◌, ◌∙◌, ℕ, Bool, true, false, List, Option, Some, None, is_some, refl, sym, ap, ap₂, subst, true≢false}
+use Rattle.std.proofs.Common.{◌≡◌, ◌∙◌, ℕ, Bool, List, [], Option, Some, None, is_some, refl, sym, ap, ap₂, subst, true≢false}
 use Rattle.std.specs.Prelude.{◌≢◌}
-use Rattle.mq_core.specs.NetworkRun.{refusal_in}
 use Rattle.mq_core.specs.declared.model.Network.{Network}
-use Rattle.mq_core.specs.declared.model.Rows.{Rows}
 use Rattle.mq_gen.specs.Accepted.{IsAccepted}
 use Rattle.mq_gen.specs.Made.{made_model, made_trace}
 use Rattle.mq_model.specs.NetworkOf.{network_in}
 use Rattle.mq_report.specs.Text.{report_in}
 use Rattle.mq_trace.specs.Trace.{rows_in}
-use Rattle.mq_top.specs.Answer.{Answer, answer, model_answer, run_answer, trace_answer}
-use Rattle.mq_top.specs.Answer.Answer.{ModelRefused, TraceRefused, Refused, Reported}
+use Rattle.mq_top.specs.Answer.{answer, model_answer, run_answer, trace_answer}
+use Rattle.mq_top.specs.Answer.Answer.{Reported}
 use Rattle.mq_top.specs.declared.stages.Wanted.{Wanted}
-use Rattle.mq_top.specs.Ends.{Ends, IsOfMade, RefusesModel, RefusesTrace, Taken}
+use Rattle.mq_top.specs.Ends.{Ends, IsOfMade, Taken}
+use Rattle.mq_outcome.specs.Lines.{line_text, name_of}
 use Rattle.mq_outcome.specs.declared.outcome.Outcome.{Outcome}
 use Rattle.mq_outcome.specs.declared.outcome.Outcome.TheVariants.{Done, Usage, Model, Trace, Past, Over, ReadFault, WriteFault, Memory}
 
@@ -30,64 +29,9 @@ pub same_accepted : (model trace model' trace' : List ℕ) → model' ≡ model 
 same_accepted model trace model' trace' m t accepted =
     subst (λ text. IsAccepted text trace') (sym m) (subst (λ text. IsAccepted model text) (sym t) accepted)
 
--- a way for a run to end, which is none of a refusal
-pub record EndsAccepted (model trace : List ℕ) (wanted : Wanted) (o : Outcome) (t : Taken) : Type 0 where
-  pub ends : Ends (answer model trace wanted) o t
-  pub made : IsOfMade o
-
-wants_memory : (model trace : List ℕ) (wanted : Wanted) (o : Outcome) (t : Taken) → IsAccepted model trace → o ≡ Memory → EndsAccepted model trace wanted o t
-wants_memory model trace wanted o t a e =
-    subst (λ p. EndsAccepted model trace wanted p t) (sym e)
-    (record { ends = subst (λ b. Ends b Memory t) (sym (accepted_answer model trace wanted a)) tt; made = tt })
-
--- the model isn't refused but for want of memory
-pub ends_at_model : (model trace : List ℕ) (wanted : Wanted) (o : Outcome) (t : Taken) → IsAccepted model trace → RefusesModel o (Some model) → o ≢ ReadFault false → EndsAccepted model trace wanted o t
-ends_at_model model trace wanted o t a refused unread = wants_memory model trace wanted o t a (go o refused unread)
-  where
-    go : (p : Outcome) → RefusesModel p (Some model) → p ≢ ReadFault false → p ≡ Memory
-    go (Model f) r u = some_is_none _ f r.1 a.model
-    go (ReadFault false) r u = absurd (u refl)
-    go Memory r u = refl
-    go Done r u = elim r [ ]
-    go (Usage _) r u = elim r [ ]
-    go (Trace _) r u = elim r [ ]
-    go (Past _) r u = elim r [ ]
-    go (Over _) r u = elim r [ ]
-    go (ReadFault true) r u = elim r [ ]
-    go WriteFault r u = elim r [ ]
-
--- nor is the trace
-pub ends_at_trace : (model trace : List ℕ) (wanted : Wanted) (net : Network) (o : Outcome) (t : Taken) → IsAccepted model trace → net ≡ network_in model → RefusesTrace net o (Some trace) → o ≢ ReadFault true
-    → EndsAccepted model trace wanted o t
-ends_at_trace model trace wanted net o t a is refused unread =
-    wants_memory model trace wanted o t a (go o (subst (λ n. RefusesTrace n o (Some trace)) is refused) unread)
-  where
-    go : (p : Outcome) → RefusesTrace (network_in model) p (Some trace) → p ≢ ReadFault true → p ≡ Memory
-    go (Trace f) r u = some_is_none _ f r.1 a.trace
-    go (ReadFault true) r u = absurd (u refl)
-    go Memory r u = refl
-    go Done r u = elim r [ ]
-    go (Usage _) r u = elim r [ ]
-    go (Model _) r u = elim r [ ]
-    go (Past _) r u = elim r [ ]
-    go (Over _) r u = elim r [ ]
-    go (ReadFault false) r u = elim r [ ]
-    go WriteFault r u = elim r [ ]
-
--- the run's own answer is that to the two texts
-run_is : (model trace : List ℕ) (wanted : Wanted) (net : Network) (rows : Rows) → IsAccepted model trace → net ≡ network_in model → rows ≡ rows_in net trace
-    → run_answer net rows wanted (refusal_in net rows) ≡ answer model trace wanted
-run_is model trace wanted net rows a net_is rows_are =
-    let same : rows ≡ rows_in (network_in model) trace = rows_are ∙ ap (λ n. rows_in n trace) net_is in
-    ap (λ (n : Network). run_answer n rows wanted (refusal_in n rows)) net_is
-    ∙ (ap (λ (r : Rows). run_answer (network_in model) r wanted (refusal_in (network_in model) r)) same
-    ∙ (sym (ap (trace_answer (network_in model) trace wanted) a.trace) ∙ sym (ap (model_answer model trace wanted) a.model)))
-
-pub ends_at_run : (model trace : List ℕ) (wanted : Wanted) (net : Network) (rows : Rows) (o : Outcome) (t : Taken) → IsAccepted model trace → net ≡ network_in model → rows ≡ rows_in net trace
-    → Ends (run_answer net rows wanted (refusal_in net rows)) o t → ((second : Bool) → o ≢ ReadFault second) → EndsAccepted model trace wanted o t
-ends_at_run model trace wanted net rows o t a net_is rows_are ends unread =
-    let whole : Ends (answer model trace wanted) o t = subst (λ b. Ends b o t) (run_is model trace wanted net rows a net_is rows_are) ends in
-    record { ends = whole; made = go o (subst (λ b. Ends b o t) (accepted_answer model trace wanted a) whole) unread }
+-- a run ends with none of a refusal
+pub made_outcome : (model trace : List ℕ) (wanted : Wanted) (o : Outcome) (t : Taken) → IsAccepted model trace → Ends (answer model trace wanted) o t → ((second : Bool) → o ≢ ReadFault second) → IsOfMade o
+made_outcome model trace wanted o t a ends unread = go o (subst (λ b. Ends b o t) (accepted_answer model trace wanted a) ends) unread
   where
     go : (p : Outcome) → Ends (Reported (report_in (network_in model) (rows_in (network_in model) trace) wanted.form wanted.jobs)) p t → ((second : Bool) → p ≢ ReadFault second) → IsOfMade p
     go Done e u = tt
@@ -100,19 +44,17 @@ ends_at_run model trace wanted net rows o t a net_is rows_are ends unread =
     go (Past _) e u = elim e [ ]
     go (Over _) e u = elim e [ ]
 
--- the report that is written is that of the answer
-pub report_is : (model trace : List ℕ) (wanted : Wanted) (net : Network) (rows : Rows) (text : List ℕ) → IsAccepted model trace → net ≡ network_in model → rows ≡ rows_in net trace
-    → answer model trace wanted ≡ Reported text → report_in net rows wanted.form wanted.jobs ≡ text
-report_is model trace wanted net rows text a net_is rows_are is =
-    ap (λ (n : Network). report_in n rows wanted.form wanted.jobs) net_is
-    ∙ (ap (λ (r : Rows). report_in (network_in model) r wanted.form wanted.jobs) (rows_are ∙ ap (λ n. rows_in n trace) net_is)
-    ∙ ap text_of (sym (accepted_answer model trace wanted a) ∙ is))
-  where
-    text_of : Answer → List ℕ
-    text_of (Reported t) = t
-    text_of (ModelRefused f) = text
-    text_of (TraceRefused f) = text
-    text_of (Refused why) = text
+-- its line speaks of no name
+pub made_line : (net : Network) (o : Outcome) → IsOfMade o → line_text (name_of net o) o ≡ line_text [] o
+made_line net Done made = refl
+made_line net WriteFault made = refl
+made_line net Memory made = refl
+made_line net (ReadFault _) made = elim made [ ]
+made_line net (Usage _) made = elim made [ ]
+made_line net (Model _) made = elim made [ ]
+made_line net (Trace _) made = elim made [ ]
+made_line net (Past _) made = elim made [ ]
+made_line net (Over _) made = elim made [ ]
 
 -- the answer for one number, with a report as it is wanted
 pub same_answer : (number asked : ℕ) (wanted said : Wanted) → number ≡ asked → wanted ≡ said → answer (made_model asked) (made_trace asked) said ≡ answer (made_model number) (made_trace number) wanted

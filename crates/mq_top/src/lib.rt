@@ -8,4 +8,4 @@ mod stages;
 pub use mq_outcome::Outcome;
 // Who matches on an outcome names the fault of the words here, without the crate that reads them.
 pub use mq_words::UsageFault;
-pub use stages::{simulate, simulate_gated};
+pub use stages::{simulate, simulate_bytes, simulate_gated};

@@ -4,7 +4,6 @@ ghost use Rattle.mq_outside.specs.Outside.{next_count, Rose};
 ghost use Rattle.mq_base.specs.Text.{texts};
 ghost use Rattle.mq_core.specs.NetworkRun.{refusal_in};
 ghost use Rattle.mq_core.specs.Theorems.{IsReadFor};
-ghost use Rattle.mq_gen.specs.Accepted.{IsAccepted};
 ghost use Rattle.mq_gen.specs.Made.{made_model, made_trace};
 ghost use Rattle.mq_model.specs.Model.{model_fault};
 ghost use Rattle.mq_model.specs.NetworkOf.{network_in};
@@ -339,49 +338,79 @@ fn run_trace<R: Threads + Sync, G: Gate, F: Files, O: Sink>(
     }
 }
 
-// Runs two texts that are accepted, and writes the report.
-fn run_accepted<R: Threads + Sync, G: Gate, O: Sink>(
+// Judges the bytes of a trace for a plan, runs the plan over them, and writes the report.
+fn run_text<R: Threads + Sync, G: Gate, O: Sink>(
+    alloc: Global,
+    crew: &Crew<R, G>,
+    plan: &Plan,
+    trace: &[u8],
+    wanted: Wanted,
+    out: &mut O,
+) -> Outcome
+    ensures ends { Ends (answer_over plan.now.net trace.now wanted) result (takings O.taken O.sure out.old out.new) }
+    ensures late { IsLate result }
+    ensures unread { result ≢ Outcome.ReadFault true }
+    ensures later { O.faults out.old ≤ O.faults out.new }
+    ensures rose { result ≡ Outcome.WriteFault → Rose (O.faults out.old) (O.faults out.new) }
+    ensures quiet { (result ≡ Outcome.WriteFault) ⊎ (O.faults out.new ≡ O.faults out.old) }
+    ensures sure { (text : List ℕ) → answer_over plan.now.net trace.now wanted ≡ Reported text → length text ≤ O.sure out.old → O.faults out.new ≡ O.faults out.old }
+    ensures untouched { Untouched result out.old out.new }
+{
+    match judge_trace(alloc, crew, plan, trace) {
+        Ok(rows) => {
+            let outcome = report_run(alloc, crew, plan, &rows, wanted, out);
+            drop(rows);
+            outcome
+        }
+        Err(outcome) => outcome,
+    }
+}
+
+// Runs the texts of a model and of a trace, writes the report, and puts the line of the outcome.
+fn run_bytes<R: Threads + Sync, G: Gate, O: Sink, E: Sink>(
     alloc: Global,
     crew: &Crew<R, G>,
     model: &[u8],
     trace: &[u8],
     wanted: Wanted,
     out: &mut O,
+    err: &mut E,
 ) -> Outcome
-    requires { IsAccepted model.now trace.now }
     ensures ends { Ends (answer model.now trace.now wanted) result (takings O.taken O.sure out.old out.new) }
-    ensures made { IsOfMade result }
+    ensures model { (fault : ModelFault) → model_fault model.now ≡ Some fault → RefusesModel result (Some model.now) }
+    ensures model_only { (fault : ModelFault) → result ≡ Outcome.Model fault → model_fault model.now ≡ Some fault }
+    ensures usage { (fault : UsageFault) → result ≢ Outcome.Usage fault }
+    ensures unread { (second : Bool) → result ≢ Outcome.ReadFault second }
+    ensures never { (result ≢ Outcome.Model ModelFault.Memory) × (result ≢ Outcome.Trace TraceFault.Memory) }
     ensures later { O.faults out.old ≤ O.faults out.new }
     ensures rose { result ≡ Outcome.WriteFault → Rose (O.faults out.old) (O.faults out.new) }
     ensures quiet { (result ≡ Outcome.WriteFault) ⊎ (O.faults out.new ≡ O.faults out.old) }
     ensures sure { (text : List ℕ) → answer model.now trace.now wanted ≡ Reported text → length text ≤ O.sure out.old → O.faults out.new ≡ O.faults out.old }
     ensures untouched { Untouched result out.old out.new }
+    ensures line { PutsLine E.taken E.sure E.faults err.old err.new (line_text (name_of_outcome (network_in model.now) result) result) }
 {
-    let plan = match judge_model(alloc, model) {
-        Ok(plan) => plan,
-        Err(outcome) => return outcome,
-    };
-    match judge_trace(alloc, crew, &plan, trace) {
-        Ok(rows) => {
-            let outcome = report_run(alloc, crew, &plan, &rows, wanted, out);
-            drop(rows);
+    match judge_model(alloc, model) {
+        Ok(plan) => {
+            let outcome = run_text(alloc, crew, &plan, trace, wanted, out);
+            put_line(err, name_of(&plan.net, &outcome), &outcome);
             drop(plan);
             outcome
         }
         Err(outcome) => {
-            drop(plan);
+            put_line(err, &[], &outcome);
             outcome
         }
     }
 }
 
-// Runs the made input of this number, and writes the report.
-fn run_made<R: Threads + Sync, G: Gate, O: Sink>(
+// Runs the made input of this number, writes the report, and puts the line of the outcome.
+fn run_made<R: Threads + Sync, G: Gate, O: Sink, E: Sink>(
     alloc: Global,
     crew: &Crew<R, G>,
     number: u64,
     wanted: Wanted,
     out: &mut O,
+    err: &mut E,
 ) -> Outcome
     ensures ends { Ends (answer (made_model number) (made_trace number) wanted) result (takings O.taken O.sure out.old out.new) }
     ensures made { IsOfMade result }
@@ -390,19 +419,70 @@ fn run_made<R: Threads + Sync, G: Gate, O: Sink>(
     ensures quiet { (result ≡ Outcome.WriteFault) ⊎ (O.faults out.new ≡ O.faults out.old) }
     ensures sure { (text : List ℕ) → answer (made_model number) (made_trace number) wanted ≡ Reported text → length text ≤ O.sure out.old → O.faults out.new ≡ O.faults out.old }
     ensures untouched { Untouched result out.old out.new }
+    ensures line { PutsLine E.taken E.sure E.faults err.old err.new (line_text [] result) }
 {
     made_inputs_are_accepted();
-    let Ok(input) = made(alloc, number) else {
-        return Outcome::Memory;
+    match made(alloc, number) {
+        Ok(input) => run_bytes(
+            alloc,
+            crew,
+            input.model.as_slice(),
+            input.trace.as_slice(),
+            wanted,
+            out,
+            err,
+        ),
+        Err(_) => {
+            put_line(err, &[], &Outcome::Memory);
+            Outcome::Memory
+        }
+    }
+}
+
+/// Runs the texts of a model and of a trace, and writes the report: what `simulate` does once both are read. `workers`, from 1 to 64,
+/// and `block`, from 1 to 65,536 jobs, change nothing but who makes which piece; `form` is that of the report, 1 or 2, and `jobs` asks
+/// for a line for each visit. It never answers `Usage` or `ReadFault`.
+pub fn simulate_bytes<R: Threads + Sync, O: Sink, E: Sink>(
+    rt: &R,
+    alloc: Global,
+    model: &[u8],
+    trace: &[u8],
+    workers: u32,
+    block: u32,
+    form: u8,
+    jobs: bool,
+    out: &mut O,
+    err: &mut E,
+) -> Outcome
+    requires workers { (1 ≤ workers) × (workers ≤ 64) }
+    requires block { (1 ≤ block) × (block ≤ 65536) }
+    requires form { (1 ≤ form) × (form ≤ 2) }
+    // A finished run has written exactly the report of the event list, and a run ends otherwise only with the fault
+    // that the definitions give, or with a fault of a device or want of memory.
+    ensures ends { Ends (answer model.now trace.now (record { form = form; jobs = jobs })) result (takings O.taken O.sure out.old out.new) }
+    ensures model { (fault : ModelFault) → model_fault model.now ≡ Some fault → RefusesModel result (Some model.now) }
+    ensures model_only { (fault : ModelFault) → result ≡ Outcome.Model fault → model_fault model.now ≡ Some fault }
+    ensures usage { (fault : UsageFault) → result ≢ Outcome.Usage fault }
+    ensures unread { (second : Bool) → result ≢ Outcome.ReadFault second }
+    ensures never { (result ≢ Outcome.Model ModelFault.Memory) × (result ≢ Outcome.Trace TraceFault.Memory) }
+
+    // A fault of a device is counted, and a counted fault is answered.
+    ensures out_later { O.faults out.old ≤ O.faults out.new }
+    ensures write { result ≡ Outcome.WriteFault → Rose (O.faults out.old) (O.faults out.new) }
+    ensures out_quiet { (result ≡ Outcome.WriteFault) ⊎ (O.faults out.new ≡ O.faults out.old) }
+    ensures sure { (text : List ℕ) → answer model.now trace.now (record { form = form; jobs = jobs }) ≡ Reported text → length text ≤ O.sure out.old → O.faults out.new ≡ O.faults out.old }
+
+    // What the two outputs gain.
+    ensures untouched { Untouched result out.old out.new }
+    ensures line { PutsLine E.taken E.sure E.faults err.old err.new (line_text (name_of_outcome (network_in model.now) result) result) }
+{
+    let crew = &Crew {
+        rt,
+        workers,
+        block,
+        gate: &Open,
     };
-    run_accepted(
-        alloc,
-        crew,
-        input.model.as_slice(),
-        input.trace.as_slice(),
-        wanted,
-        out,
-    )
+    run_bytes(alloc, crew, model, trace, Wanted { form, jobs }, out, err)
 }
 
 /// Reads the model and the trace that the words name, or makes those of a number, runs the network
@@ -491,11 +571,7 @@ pub fn simulate_gated<R: Threads + Sync, F: Files, O: Sink, E: Sink, G: Gate>(
     };
     let (model, trace) = match settings.input {
         Input::Named { model, trace } => (model, trace),
-        Input::Made(number) => {
-            let outcome = run_made(alloc, crew, number, wanted, out);
-            put_line(err, &[], &outcome);
-            return outcome;
-        }
+        Input::Made(number) => return run_made(alloc, crew, number, wanted, out, err),
     };
     match accept_model(alloc, model, files) {
         Ok(plan) => {

@@ -1,24 +1,36 @@
-use Rattle.std.proofs.Common.{◌∙◌, ap₂, subst, rules, List, ℕ}
+use Rattle.std.proofs.Common.{◌≡◌, ◌∙◌, ap₂, subst, rules, List, ℕ}
 use Rattle.mq_gen.specs.Accepted.{IsAccepted}
 use Rattle.mq_gen.specs.Made.{made_model, made_trace}
+use Rattle.mq_model.specs.NetworkOf.{network_in}
+use Rattle.mq_outcome.specs.Lines.{PutsLine}
 use Rattle.mq_top.specs.Answer.{answer}
-use Rattle.mq_top.specs.Ends.{Ends, takings}
-use Rattle.mq_top.proofs.MadeRuns.{same_accepted}
+use Rattle.mq_top.specs.Ends.{Ends, IsOfMade, takings}
+use Rattle.mq_top.proofs.MadeRuns.{made_line, made_outcome}
+use Rattle.mq_top.proofs.stages.run_made.Given as Given
 use Rattle.mq_top.proofs.stages.run_made.Goals as goal
 
-pub run_accepted-requires : goal.run_accepted-requires
-run_accepted-requires g c =
+-- the answer to the texts that were run is that to the made texts
+same : (g : Given.Over) (c : goal.After-drop-input-in-Ok g) → answer c.as_slice.result.now c.as_slice-in-Ok.result.now c.args.wanted ≡ answer (made_model c.args.number) (made_trace c.args.number) c.args.wanted
+same g c = ap₂ (λ (m : List ℕ) (t : List ℕ). answer m t c.args.wanted) (c.as_slice.ensures ∙ c.in-Ok.ensures.model) (c.as_slice-in-Ok.ensures ∙ c.in-Ok.ensures.trace)
+
+ends_made : (g : Given.Over) (c : goal.After-drop-input-in-Ok g) → Ends (answer (made_model c.args.number) (made_trace c.args.number) c.args.wanted) c.run_bytes.result (takings g.O.Sink.taken g.O.Sink.sure c.args.out.now c.run_bytes.new.out)
+ends_made g c = subst (λ a. Ends a c.run_bytes.result (takings g.O.Sink.taken g.O.Sink.sure c.args.out.now c.run_bytes.new.out)) (same g c) c.run_bytes.ensures.ends
+
+is_made : (g : Given.Over) (c : goal.After-drop-input-in-Ok g) → IsOfMade c.run_bytes.result
+is_made g c =
     let accepted : IsAccepted (made_model c.args.number) (made_trace c.args.number) = c.made_inputs_are_accepted.ensures c.args.number (search rules) in
-    let same : IsAccepted c.as_slice.result.now c.as_slice-2.result.now =
-    same_accepted _ _ _ _ (c.as_slice.ensures ∙ c.in-Ok.ensures.model) (c.as_slice-2.ensures ∙ c.in-Ok.ensures.trace) accepted in
-    search rules
+    made_outcome (made_model c.args.number) (made_trace c.args.number) c.args.wanted c.run_bytes.result _ accepted (ends_made g c) c.run_bytes.ensures.unread
 
-pub returns-clause-ends : goal.returns-clause-ends
-returns-clause-ends g c =
-    subst (λ a. Ends a c.run_accepted.result (takings g.O.Sink.taken g.O.Sink.sure c.args.out.now c.run_accepted.new.out))
-    (ap₂ (λ (m : List ℕ) (t : List ℕ). answer m t c.args.wanted) (c.as_slice.ensures ∙ c.in-Ok.ensures.model) (c.as_slice-2.ensures ∙ c.in-Ok.ensures.trace)) c.run_accepted.ensures.ends
+pub returns-in-Ok-clause-ends : goal.returns-in-Ok-clause-ends
+returns-in-Ok-clause-ends g c = ends_made g c
 
-pub returns-clause-sure : goal.returns-clause-sure
-returns-clause-sure g c text is room =
-    c.run_accepted.ensures.sure text
-    (ap₂ (λ (m : List ℕ) (t : List ℕ). answer m t c.args.wanted) (c.as_slice.ensures ∙ c.in-Ok.ensures.model) (c.as_slice-2.ensures ∙ c.in-Ok.ensures.trace) ∙ is) room
+pub returns-in-Ok-clause-made : goal.returns-in-Ok-clause-made
+returns-in-Ok-clause-made g c = is_made g c
+
+pub returns-in-Ok-clause-sure : goal.returns-in-Ok-clause-sure
+returns-in-Ok-clause-sure g c text is room = c.run_bytes.ensures.sure text (same g c ∙ is) room
+
+pub returns-in-Ok-clause-line : goal.returns-in-Ok-clause-line
+returns-in-Ok-clause-line g c =
+    subst (λ (line : List ℕ). PutsLine g.E.Sink.taken g.E.Sink.sure g.E.Sink.faults c.args.err.now c.run_bytes.new.err line)
+    (made_line (network_in c.as_slice.result.now) c.run_bytes.result (is_made g c)) c.run_bytes.ensures.line

@@ -315,11 +315,11 @@ returns-in-Err-accept_model-clause-named g c m t model names told_m =
 
 -- ---- a made input
 
-makes_of : (g : Given.Over) (c : goal.After-put_line-in-Made g) → Makes (texts c.args.words.now) c.in-Made.number
+makes_of : (g : Given.Over) (c : goal.After-run_made g) → Makes (texts c.args.words.now) c.in-Made.number
 makes_of g c = subst (AsksFor (texts c.args.words.now)) c.in-Made.is c.in-Ok.ensures.asked.input
 
 -- the answer for the number that was read is that for the number that the words ask for
-same_made : (g : Given.Over) (c : goal.After-put_line-in-Made g) (number : ℕ) → Makes (texts c.args.words.now) number
+same_made : (g : Given.Over) (c : goal.After-run_made g) (number : ℕ) → Makes (texts c.args.words.now) number
     → answer (made_model c.in-Made.number) (made_trace c.in-Made.number) (asked_for c.in-Ok.settings) ≡ answer (made_model number) (made_trace number) (wanted_by (texts c.args.words.now))
 same_made g c number makes =
     same_answer number c.in-Made.number (wanted_by (texts c.args.words.now)) (asked_for c.in-Ok.settings) (same_number (texts c.args.words.now) number c.in-Made.number makes (makes_of g c))
@@ -327,19 +327,19 @@ same_made g c number makes =
 
 pub returns-in-Made-clause-made : goal.returns-in-Made-clause-made
 returns-in-Made-clause-made g c number makes =
-    subst (λ a. Ends a c.run_made-outcome.result (takings g.O.Sink.taken g.O.Sink.sure c.args.out.now c.run_made-outcome.new.out)) (same_made g c number makes) c.run_made-outcome.ensures.ends
+    subst (λ a. Ends a c.run_made.result (takings g.O.Sink.taken g.O.Sink.sure c.args.out.now c.run_made.new.out)) (same_made g c number makes) c.run_made.ensures.ends
 
 pub returns-in-Made-clause-made_sure : goal.returns-in-Made-clause-made_sure
-returns-in-Made-clause-made_sure g c number text makes is room = c.run_made-outcome.ensures.sure text (same_made g c number makes ∙ is) room
+returns-in-Made-clause-made_sure g c number text makes is room = c.run_made.ensures.sure text (same_made g c number makes ∙ is) room
 
 pub returns-in-Made-clause-made_accepted : goal.returns-in-Made-clause-made_accepted
-returns-in-Made-clause-made_accepted g c number makes = c.run_made-outcome.ensures.made
+returns-in-Made-clause-made_accepted g c number makes = c.run_made.ensures.made
 
 pub returns-in-Made-clause-ends : goal.returns-in-Made-clause-ends
 returns-in-Made-clause-ends g c m t model trace names told_m told_t = elim (not_both (texts c.args.words.now) m t _ names (makes_of g c)) [ ]
 
 pub returns-in-Made-clause-usage : goal.returns-in-Made-clause-usage
-returns-in-Made-clause-usage g c fault is = elim (subst IsOfMade is c.run_made-outcome.ensures.made) [ ]
+returns-in-Made-clause-usage g c fault is = elim (subst IsOfMade is c.run_made.ensures.made) [ ]
 
 pub returns-in-Made-clause-usage_comes : goal.returns-in-Made-clause-usage_comes
 returns-in-Made-clause-usage_comes g c fault is = some_is_none _ fault is c.in-Ok.ensures.asked.accepted
@@ -351,37 +351,37 @@ pub returns-in-Made-clause-model : goal.returns-in-Made-clause-model
 returns-in-Made-clause-model g c m t model fault names told_m is = elim (not_both (texts c.args.words.now) m t _ names (makes_of g c)) [ ]
 
 pub returns-in-Made-clause-model_only : goal.returns-in-Made-clause-model_only
-returns-in-Made-clause-model_only g c m t model fault names told_m is = elim (subst IsOfMade is c.run_made-outcome.ensures.made) [ ]
+returns-in-Made-clause-model_only g c m t model fault names told_m is = elim (subst IsOfMade is c.run_made.ensures.made) [ ]
 
 pub returns-in-Made-clause-never : goal.returns-in-Made-clause-never
-returns-in-Made-clause-never g c = (λ e. subst IsOfMade e c.run_made-outcome.ensures.made, λ e. subst IsOfMade e c.run_made-outcome.ensures.made)
+returns-in-Made-clause-never g c = (λ e. subst IsOfMade e c.run_made.ensures.made, λ e. subst IsOfMade e c.run_made.ensures.made)
 
 pub returns-in-Made-clause-first : goal.returns-in-Made-clause-first
-returns-in-Made-clause-first g c e = elim (subst IsOfMade e c.run_made-outcome.ensures.made) [ ]
+returns-in-Made-clause-first g c e = elim (subst IsOfMade e c.run_made.ensures.made) [ ]
 
 pub returns-in-Made-clause-second : goal.returns-in-Made-clause-second
-returns-in-Made-clause-second g c e = elim (subst IsOfMade e c.run_made-outcome.ensures.made) [ ]
+returns-in-Made-clause-second g c e = elim (subst IsOfMade e c.run_made.ensures.made) [ ]
 
 pub returns-in-Made-clause-reads : goal.returns-in-Made-clause-reads
 returns-in-Made-clause-reads g c asked = absurd (true≢false (sym (makes_asks (texts c.args.words.now) c.in-Made.number (makes_of g c)) ∙ asked))
 
 pub returns-in-Made-clause-first_name : goal.returns-in-Made-clause-first_name
-returns-in-Made-clause-first_name g c m t names sure_m few e = subst IsOfMade e c.run_made-outcome.ensures.made
+returns-in-Made-clause-first_name g c m t names sure_m few e = subst IsOfMade e c.run_made.ensures.made
 
 pub returns-in-Made-clause-second_name : goal.returns-in-Made-clause-second_name
-returns-in-Made-clause-second_name g c m t names sure_t few e = subst IsOfMade e c.run_made-outcome.ensures.made
+returns-in-Made-clause-second_name g c m t names sure_t few e = subst IsOfMade e c.run_made.ensures.made
 
 pub returns-in-Made-clause-write : goal.returns-in-Made-clause-write
-returns-in-Made-clause-write g c = c.run_made-outcome.ensures.rose
+returns-in-Made-clause-write g c = c.run_made.ensures.rose
 
 pub returns-in-Made-clause-out_quiet : goal.returns-in-Made-clause-out_quiet
-returns-in-Made-clause-out_quiet g c = c.run_made-outcome.ensures.quiet
+returns-in-Made-clause-out_quiet g c = c.run_made.ensures.quiet
 
 pub returns-in-Made-clause-sure : goal.returns-in-Made-clause-sure
 returns-in-Made-clause-sure g c m t model trace text names told_m told_t is room = elim (not_both (texts c.args.words.now) m t _ names (makes_of g c)) [ ]
 
 pub returns-in-Made-clause-untouched : goal.returns-in-Made-clause-untouched
-returns-in-Made-clause-untouched g c = c.run_made-outcome.ensures.untouched
+returns-in-Made-clause-untouched g c = c.run_made.ensures.untouched
 
 pub returns-in-Made-clause-named : goal.returns-in-Made-clause-named
 returns-in-Made-clause-named g c m t model names told_m = elim (not_both (texts c.args.words.now) m t _ names (makes_of g c)) [ ]

@@ -1,0 +1,4 @@
+pub mod QueueRule
+pub mod Runs
+pub mod Texts
+pub mod Files

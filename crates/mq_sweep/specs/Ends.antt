@@ -1,0 +1,131 @@
+-- How a sweep may end, for each answer, and what it leaves.
+use Rattle.std.specs.Prelude.{◌≡◌, ◌≤◌, ◌<◌, ◌+◌, ◌-◌, ◌^◌, ℕ, true, false, List, [], ◌∷◌, ◌++◌, length, codes, decimal, Option, Some, None, IfSome, slice_index_or}
+use Rattle.std.specs.Io.KnownBytes.{append_known}
+use Rattle.mq_outside.specs.Outside.{TakesPrefix}
+use Rattle.mq_top.specs.Ends.{Taken}
+use Rattle.mq_sweep.specs.Sweep.{SweepAnswer, limit_of, told_of_word}
+use Rattle.mq_sweep.specs.Sweep.SweepAnswer.{LongFile, Swept}
+use Rattle.mq_sweep.specs.declared.outcome.SweepOutcome.{SweepOutcome}
+use Rattle.mq_sweep.specs.declared.outcome.SweepOutcome.TheVariants.{Done, Refused, Usage, TooLong, ReadFault, WriteFault, Memory}
+
+-- the sweep ends with the answer, or with a fault of a device or want of memory on the way to it; the output gained the
+-- whole text after Done and Refused, and a first part of it after a fault of the output
+abbrev pub SweepEnds : SweepAnswer → SweepOutcome → Taken → Type 0
+SweepEnds (LongFile word) (TooLong found) t = found ≡ word
+SweepEnds (LongFile word) (ReadFault failed) t = failed ≤ word
+SweepEnds (LongFile word) Memory t = Unit {0}
+SweepEnds (LongFile word) Done t = ⊥
+SweepEnds (LongFile word) Refused t = ⊥
+SweepEnds (LongFile word) Usage t = ⊥
+SweepEnds (LongFile word) WriteFault t = ⊥
+SweepEnds (Swept text true) Done t = t.now ≡ append_known t.before text
+SweepEnds (Swept text true) Refused t = ⊥
+SweepEnds (Swept text false) Done t = ⊥
+SweepEnds (Swept text false) Refused t = t.now ≡ append_known t.before text
+SweepEnds (Swept text done) WriteFault t = TakesPrefix t.before t.now t.sure_before t.sure_now text
+SweepEnds (Swept text done) (ReadFault failed) t = Unit {0}
+SweepEnds (Swept text done) Memory t = Unit {0}
+SweepEnds (Swept text done) Usage t = ⊥
+SweepEnds (Swept text done) (TooLong found) t = ⊥
+
+-- after every outcome but Done, Refused and WriteFault nothing changed
+abbrev pub Untouched : {A : Type 0} → SweepOutcome → A → A → Type 0
+Untouched Done before now = Unit {0}
+Untouched Refused before now = Unit {0}
+Untouched WriteFault before now = Unit {0}
+Untouched Usage before now = now ≡ before
+Untouched (TooLong word) before now = now ≡ before
+Untouched (ReadFault word) before now = now ≡ before
+Untouched Memory before now = now ≡ before
+
+-- so many reads were made; it is stated where their number is below 2 ^ 63 at entry
+abbrev pub HasRead : (count before now : ℕ) → Type 0
+HasRead count before now = before < 2 ^ 63 → now ≡ before + count
+
+-- how many reads a sweep of so many words made, by its outcome; want of memory may come before each of them
+abbrev pub Reads : ℕ → SweepOutcome → ℕ → ℕ → Type 0
+Reads words Usage before now = now ≡ before
+Reads words (TooLong word) before now = HasRead word before now
+Reads words (ReadFault word) before now = HasRead word before now
+Reads words Memory before now = (count : ℕ) × (count ≤ words) × HasRead count before now
+Reads words Done before now = HasRead words before now
+Reads words Refused before now = HasRead words before now
+Reads words WriteFault before now = HasRead words before now
+
+-- the files of the first words are told with no more bytes than their limits
+abbrev pub AreShort : ℕ → List (Option (List ℕ)) → Type 0
+AreShort count told = (i : ℕ) (bytes : List ℕ) → i < count → slice_index_or told i None ≡ Some bytes → length bytes ≤ limit_of (i + 1)
+
+-- what was read by the first words is what is told
+abbrev pub AreRead : ℕ → List (Option (List ℕ)) → List (List ℕ) → Type 0
+AreRead count told files = (i : ℕ) (bytes : List ℕ) → i < count → slice_index_or told i None ≡ Some bytes → slice_index_or files i [] ≡ bytes
+
+-- the file of a word is told longer than its limit
+abbrev pub IsLong : ℕ → Option (List ℕ) → Type 0
+IsLong word told = IfSome told (λ bytes. limit_of word < length bytes)
+
+-- how the read of one word may be refused
+abbrev pub RefusesRead : ℕ → Option (List ℕ) → SweepOutcome → Type 0
+RefusesRead word told (TooLong found) = (found ≡ word) × IsLong word told
+RefusesRead word told (ReadFault failed) = failed ≡ word
+RefusesRead word told Memory = Unit {0}
+RefusesRead word told Done = ⊥
+RefusesRead word told Refused = ⊥
+RefusesRead word told Usage = ⊥
+RefusesRead word told WriteFault = ⊥
+
+-- the reading came up to this word, of so many: the files of those before it aren't too long
+pub record ReadsUpTo (words word : ℕ) (told : List (Option (List ℕ))) : Type 0 where
+  pub some : 1 ≤ word
+  pub most : word ≤ words
+  pub short : AreShort (word - 1) told
+
+-- how the reading of so many words may be refused
+abbrev pub RefusesReading : ℕ → List (Option (List ℕ)) → SweepOutcome → Type 0
+RefusesReading words told (TooLong word) = ReadsUpTo words word told × IsLong word (told_of_word told word)
+RefusesReading words told (ReadFault word) = ReadsUpTo words word told
+RefusesReading words told Memory = Unit {0}
+RefusesReading words told Done = ⊥
+RefusesReading words told Refused = ⊥
+RefusesReading words told Usage = ⊥
+RefusesReading words told WriteFault = ⊥
+
+-- the sweep ends by this word at the latest, before any run
+abbrev pub StopsBy : ℕ → SweepOutcome → Type 0
+StopsBy word (TooLong found) = found ≤ word
+StopsBy word (ReadFault failed) = failed ≤ word
+StopsBy word Memory = Unit {0}
+StopsBy word Done = ⊥
+StopsBy word Refused = ⊥
+StopsBy word Usage = ⊥
+StopsBy word WriteFault = ⊥
+
+-- the status with which the program ends
+abbrev pub sweep_status : SweepOutcome → ℕ
+sweep_status Done = 0
+sweep_status Refused = 11
+sweep_status Usage = 2
+sweep_status (TooLong word) = 3
+sweep_status (ReadFault word) = 6
+sweep_status WriteFault = 7
+sweep_status Memory = 8
+
+-- the line that an outcome puts on the error output
+abbrev pub sweep_line : SweepOutcome → List ℕ
+sweep_line Done = []
+sweep_line Refused = []
+sweep_line Usage = codes "mpsweep: usage: mpsweep TRACE MODEL.." ++ 10 ∷ []
+sweep_line (TooLong word) = codes "mpsweep: file " ++ decimal word ++ codes " is too long" ++ 10 ∷ []
+sweep_line (ReadFault word) = codes "mpsweep: cannot read file " ++ decimal word ++ 10 ∷ []
+sweep_line WriteFault = codes "mpsweep: cannot write the reports" ++ 10 ∷ []
+sweep_line Memory = codes "mpsweep: out of memory" ++ 10 ∷ []
+
+-- an outcome that comes once all files were read
+abbrev pub IsOfRun : SweepOutcome → Type 0
+IsOfRun Done = Unit {0}
+IsOfRun Refused = Unit {0}
+IsOfRun WriteFault = Unit {0}
+IsOfRun Memory = Unit {0}
+IsOfRun Usage = ⊥
+IsOfRun (TooLong word) = ⊥
+IsOfRun (ReadFault word) = ⊥

@@ -1,0 +1,5 @@
+pub mod Book
+pub mod QueueRule
+pub mod Ends
+pub mod Scenario
+pub mod Sweep

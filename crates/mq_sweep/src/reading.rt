@@ -1,0 +1,111 @@
+// The files that the words name.
+ghost use Rattle.std.specs.Prelude.{◌≡◌, ◌⊎◌, ◌≤◌, ℕ, List as Items, true, length, map, IfOk, IfErr, IfSome, IsErrOf, OnOk};
+ghost use Rattle.std.specs.List.{list_all, list_any};
+ghost use Rattle.mq_base.specs.Text.{texts};
+ghost use Rattle.mq_outside.specs.Outside.{next_count, Rose};
+ghost use Rattle.mq_sweep.specs.Ends.{AreRead, AreShort, HasRead, Reads, RefusesRead, RefusesReading};
+ghost use Rattle.mq_sweep.specs.Sweep.{limit_of, refuses_words as refuses_words_of};
+ghost use Rattle.mq_words.specs.Words.{begins_with_dash as begins_with_dash_of};
+
+use crate::SweepOutcome;
+use mq_base::List;
+use mq_outside::{FileFault, Files};
+use std::alloc::Global;
+
+// The most bytes that the text of a trace may have.
+const TRACE_LIMIT: u64 = 134_217_728;
+
+// The most bytes that the text of a model may have.
+const MODEL_LIMIT: u64 = 65_536;
+
+// The most words: a trace and 64 models.
+const MOST_WORDS: usize = 65;
+
+fn begins_with_dash(word: &str) -> bool
+    ensures { result ≡ begins_with_dash_of word.now }
+{
+    word.as_bytes().first() == Some(&b'-')
+}
+
+// Whether a word begins with a dash.
+fn has_dash(words: &[&str]) -> bool
+    ensures { result ≡ list_any begins_with_dash_of (texts words.now) }
+{
+    let mut left = words;
+    'words: while let [first, rest @ ..] = left {
+        if begins_with_dash(first) {
+            return true;
+        }
+        left = rest;
+    }
+    false
+}
+
+/// Whether the words are refused: there aren't 2 to 65, or one begins with a dash.
+pub fn refuses_words(words: &[&str]) -> bool
+    ensures { result ≡ refuses_words_of (texts words.now) }
+{
+    words.len() < 2 || words.len() > MOST_WORDS || has_dash(words)
+}
+
+// Reads the file that a word names; words count from 1.
+fn read_one<F: Files>(
+    alloc: Global,
+    word: u32,
+    name: &str,
+    files: &mut F,
+) -> Result<List<u8>, SweepOutcome>
+    ensures counted { F.reads files.new ≡ next_count (F.reads files.old) }
+    ensures later { F.faults files.old ≤ F.faults files.new }
+    ensures failed { (w : ℕ) → IsErrOf result (SweepOutcome.ReadFault w) → F.faults files.new ≡ F.reads files.new }
+    ensures rose { (w : ℕ) → IsErrOf result (SweepOutcome.ReadFault w) → Rose (F.faults files.old) (F.faults files.new) }
+    ensures quiet { IsErrOf result (SweepOutcome.ReadFault word) ⊎ (F.faults files.new ≡ F.faults files.old) }
+    ensures sure { F.is_sure files.old name.now ≡ true → F.faults files.new ≡ F.faults files.old }
+    ensures same_told { (n : Items ℕ) → F.told files.new n ≡ F.told files.old n }
+    ensures same_sure { (n : Items ℕ) → F.is_sure files.new n ≡ F.is_sure files.old n }
+    ensures read { IfOk result (λ bytes. IfSome (F.told files.old name.now) (λ told. (bytes ≡ told) × (length told ≤ limit_of word))) }
+    ensures refused { IfErr result (λ outcome. RefusesRead word (F.told files.old name.now) outcome) }
+{
+    let limit = if word == 1 { TRACE_LIMIT } else { MODEL_LIMIT };
+    let mut bytes = Vec::new(alloc);
+    match files.read(name, limit, &mut bytes) {
+        Ok(()) => Ok(List::from_vec(bytes)),
+        Err(FileFault::Failed) => Err(SweepOutcome::ReadFault { word }),
+        Err(FileFault::TooLong) => Err(SweepOutcome::TooLong { word }),
+        Err(FileFault::Memory) => Err(SweepOutcome::Memory),
+    }
+}
+
+/// Reads the files of all words in their order. A refusal is that of the first word whose read is refused.
+pub fn read_files<F: Files>(
+    alloc: Global,
+    words: &[&str],
+    files: &mut F,
+) -> Result<List<List<u8>>, SweepOutcome>
+    requires { length words.now ≤ 65 }
+    ensures len { IfOk result (λ contents. length contents ≡ length words.now) }
+    ensures read { IfOk result (λ contents. AreRead (length words.now) (map (F.told files.old) (texts words.now)) contents) }
+    ensures short { OnOk result (AreShort (length words.now) (map (F.told files.old) (texts words.now))) }
+    ensures refused { IfErr result (RefusesReading (length words.now) (map (F.told files.old) (texts words.now))) }
+    ensures all { OnOk result (HasRead (length words.now) (F.reads files.old) (F.reads files.new)) }
+    ensures reads { IfErr result (λ outcome. Reads (length words.now) outcome (F.reads files.old) (F.reads files.new)) }
+    ensures failed { (w : ℕ) → IsErrOf result (SweepOutcome.ReadFault w) → F.faults files.new ≡ F.reads files.new }
+    ensures rose { (w : ℕ) → IsErrOf result (SweepOutcome.ReadFault w) → Rose (F.faults files.old) (F.faults files.new) }
+    ensures later { F.faults files.old ≤ F.faults files.new }
+    ensures quiet { ((w : ℕ) × IsErrOf result (SweepOutcome.ReadFault w)) ⊎ (F.faults files.new ≡ F.faults files.old) }
+    ensures sure { list_all (F.is_sure files.old) (texts words.now) ≡ true → F.faults files.new ≡ F.faults files.old }
+    ensures same_told { (n : Items ℕ) → F.told files.new n ≡ F.told files.old n }
+    ensures same_sure { (n : Items ℕ) → F.is_sure files.new n ≡ F.is_sure files.old n }
+{
+    let mut contents = List::new(alloc);
+    'words: for (index, name) in words.iter().enumerate() {
+        let bytes = match read_one(alloc, index as u32 + 1, name, files) {
+            Ok(bytes) => bytes,
+            Err(outcome) => return Err(outcome),
+        };
+        if contents.push(bytes).is_err() {
+            return Err(SweepOutcome::Memory);
+        }
+    }
+    Ok(contents)
+}

@@ -1,0 +1,61 @@
+// One model over the trace.
+ghost use Rattle.std.specs.Prelude.{◌≡◌, ◌++◌, IfOk};
+ghost use Rattle.mq_sweep.specs.Book.{IsEntryOf};
+
+use crate::Entry;
+use mq_base::{List, OutOfMemory};
+use mq_outside::MemSink;
+use mq_top::{Outcome, simulate_bytes};
+use std::alloc::Global;
+use std::thread::Threads;
+
+// The jobs of a block of a station.
+const BLOCK: u32 = 4_096;
+
+// The form of the report.
+const FORM: u8 = 2;
+
+// Both of these, one after the other.
+fn joined(alloc: Global, first: &[u8], second: &[u8]) -> Result<List<u8>, OutOfMemory>
+    ensures { IfOk result (λ both. both ≡ first.now ++ second.now) }
+{
+    let mut both = Vec::with_capacity(alloc, first.len())?;
+    both.extend_from_slice(first)?;
+    both.extend_from_slice(second)?;
+    Ok(List::from_vec(both))
+}
+
+/// What the run of a model over a trace gives: by one worker, with form 2 of the report and no lines of jobs. Where one of
+/// the two sinks in memory counts a fault, memory ran out.
+pub fn run_scenario<R: Threads + Sync>(
+    rt: &R,
+    alloc: Global,
+    number: u32,
+    model: &[u8],
+    trace: &[u8],
+) -> Result<Entry, OutOfMemory>
+    ensures number { IfOk result (λ entry. entry.number ≡ number) }
+    ensures model { IfOk result (λ entry. entry.model ≡ model.now) }
+    ensures right { IfOk result (λ entry. IsEntryOf trace.now entry) }
+{
+    let mut out = MemSink::new(alloc, usize::MAX, Vec::new(alloc));
+    let mut err = MemSink::new(alloc, usize::MAX, Vec::new(alloc));
+    let outcome = simulate_bytes(
+        rt, alloc, model, trace, 1, BLOCK, FORM, false, &mut out, &mut err,
+    );
+    match outcome {
+        Outcome::Memory => return Err(OutOfMemory),
+        _ => {}
+    }
+    if out.faults() != 0 || err.faults() != 0 {
+        return Err(OutOfMemory);
+    }
+    let text = joined(alloc, out.bytes(), err.bytes())?;
+    let model = List::from_vec(Vec::from_slice(alloc, model)?);
+    Ok(Entry {
+        number,
+        model,
+        status: outcome.status(),
+        text,
+    })
+}

@@ -1,0 +1,194 @@
+// The call that the program makes.
+ghost use Rattle.std.specs.Prelude.{◌≡◌, ◌⊎◌, ◌-◌, ◌^◌, ◌<◌, ◌≤◌, ◌↔◌, ℕ, List as Items, Bool, true, false, length, map, Some, IsTrue, IfOk};
+ghost use Rattle.std.specs.List.{list_all};
+ghost use Rattle.mq_base.specs.Text.{texts};
+ghost use Rattle.mq_outcome.specs.Lines.{PutsLine};
+ghost use Rattle.mq_outside.specs.Outside.{Rose};
+ghost use Rattle.mq_top.specs.Ends.{FailedAt, takings};
+ghost use Rattle.mq_sweep.specs.Ends.{IsLong, IsOfRun, Reads, StopsBy, SweepEnds, Untouched, sweep_line};
+ghost use Rattle.mq_sweep.specs.Sweep.{AreFiles, limit_of, refuses_words as refuses_words_of, sweep_answer, swept, told_of_word};
+ghost use Rattle.mq_sweep.specs.Sweep.SweepAnswer.{Swept};
+
+use crate::crew::by_workers;
+use crate::outcome::put_sweep_line;
+use crate::reading::{read_files, refuses_words};
+use crate::text::{Scenarios, scenarios_of};
+use crate::{SweepGate, SweepOutcome};
+use mq_base::{List, OutOfMemory};
+use mq_outside::{Files, Sink, put_all};
+use std::alloc::Global;
+use std::sync::Wait;
+use std::thread::Threads;
+
+// What the sweep of these files writes: of a trace, and 1 to 64 models.
+fn scenarios_in<R: Threads + Wait + Sync, G: SweepGate>(
+    rt: &R,
+    alloc: Global,
+    contents: &[List<u8>],
+    workers: u32,
+    gate: &G,
+) -> Result<Scenarios, OutOfMemory>
+    requires some { 1 ≤ workers }
+    requires most { workers ≤ 64 }
+    requires two { 2 ≤ length contents.now }
+    requires few { length contents.now ≤ 65 }
+    ensures { IfOk result (λ scenarios. swept contents.now ≡ Swept scenarios.text.items scenarios.done) }
+{
+    let trace = contents[0].as_slice();
+    let models = &contents[1..];
+    let (book, _seat) = by_workers(rt, alloc, workers, trace, models, gate)?;
+    scenarios_of(rt, alloc, trace, models, &book)
+}
+
+// Writes the text of a sweep.
+fn write_text<O: Sink>(scenarios: &Scenarios, out: &mut O) -> SweepOutcome
+    ensures ends { SweepEnds (Swept scenarios.now.text.items scenarios.now.done) result (takings O.taken O.sure out.old out.new) }
+    ensures late { IsOfRun result }
+    ensures later { O.faults out.old ≤ O.faults out.new }
+    ensures rose { result ≡ SweepOutcome.WriteFault → Rose (O.faults out.old) (O.faults out.new) }
+    ensures quiet { (result ≡ SweepOutcome.WriteFault) ⊎ (O.faults out.new ≡ O.faults out.old) }
+    ensures sure { length scenarios.now.text.items ≤ O.sure out.old → O.faults out.new ≡ O.faults out.old }
+    ensures untouched { Untouched result out.old out.new }
+{
+    match put_all(out, &scenarios.text) {
+        Ok(()) => {
+            if scenarios.done {
+                SweepOutcome::Done
+            } else {
+                SweepOutcome::Refused
+            }
+        }
+        Err(_) => SweepOutcome::WriteFault,
+    }
+}
+
+// Runs the models in these files over the trace, and writes what they give.
+fn run_files<R: Threads + Wait + Sync, O: Sink, G: SweepGate>(
+    rt: &R,
+    alloc: Global,
+    contents: &[List<u8>],
+    workers: u32,
+    out: &mut O,
+    gate: &G,
+) -> SweepOutcome
+    requires some { 1 ≤ workers }
+    requires most { workers ≤ 64 }
+    requires two { 2 ≤ length contents.now }
+    requires few { length contents.now ≤ 65 }
+    ensures ends { SweepEnds (swept contents.now) result (takings O.taken O.sure out.old out.new) }
+    ensures late { IsOfRun result }
+    ensures later { O.faults out.old ≤ O.faults out.new }
+    ensures rose { result ≡ SweepOutcome.WriteFault → Rose (O.faults out.old) (O.faults out.new) }
+    ensures quiet { (result ≡ SweepOutcome.WriteFault) ⊎ (O.faults out.new ≡ O.faults out.old) }
+    ensures sure { (text : Items ℕ) (done : Bool) → swept contents.now ≡ Swept text done → length text ≤ O.sure out.old → O.faults out.new ≡ O.faults out.old }
+    ensures untouched { Untouched result out.old out.new }
+{
+    let Ok(scenarios) = scenarios_in(rt, alloc, contents, workers, gate) else {
+        return SweepOutcome::Memory;
+    };
+    let outcome = write_text(&scenarios, out);
+    drop(scenarios);
+    outcome
+}
+
+// All of a sweep but the line on the error output.
+fn sweep_words<R: Threads + Wait + Sync, F: Files, O: Sink, G: SweepGate>(
+    rt: &R,
+    alloc: Global,
+    words: &[&str],
+    workers: u32,
+    files: &mut F,
+    out: &mut O,
+    gate: &G,
+) -> SweepOutcome
+    requires some { 1 ≤ workers }
+    requires most { workers ≤ 64 }
+    ensures ends { (contents : Items (Items ℕ)) → refuses_words_of (texts words.now) ≡ false → AreFiles (map (F.told files.old) (texts words.now)) contents →
+        SweepEnds (sweep_answer contents) result (takings O.taken O.sure out.old out.new) }
+    ensures usage { IsTrue (refuses_words_of (texts words.now)) ↔ (result ≡ SweepOutcome.Usage) }
+    ensures unread { IsTrue (refuses_words_of (texts words.now)) → files.new ≡ files.old }
+    ensures too_long { (w : ℕ) → result ≡ SweepOutcome.TooLong w → (1 ≤ w) × (w ≤ length words.now) × IsLong w (told_of_word (map (F.told files.old) (texts words.now)) w) }
+    ensures too_long_comes { (w : ℕ) (bytes : Items ℕ) → refuses_words_of (texts words.now) ≡ false → 1 ≤ w → told_of_word (map (F.told files.old) (texts words.now)) w ≡ Some bytes → limit_of w < length bytes →
+        StopsBy w result }
+    ensures read_fault { (w : ℕ) → result ≡ SweepOutcome.ReadFault w → (1 ≤ w) × (w ≤ length words.now) × FailedAt w (F.reads files.old) (F.reads files.new) (F.faults files.new) × Rose (F.faults files.old) (F.faults files.new) }
+    ensures reads { Reads (length words.now) result (F.reads files.old) (F.reads files.new) }
+    ensures sure_names { list_all (F.is_sure files.old) (texts words.now) ≡ true → F.faults files.new ≡ F.faults files.old }
+    ensures files_quiet { ((w : ℕ) × (result ≡ SweepOutcome.ReadFault w)) ⊎ (F.faults files.new ≡ F.faults files.old) }
+    ensures files_later { F.faults files.old ≤ F.faults files.new }
+    ensures same_told { (n : Items ℕ) → F.told files.new n ≡ F.told files.old n }
+    ensures same_sure { (n : Items ℕ) → F.is_sure files.new n ≡ F.is_sure files.old n }
+    ensures out_later { O.faults out.old ≤ O.faults out.new }
+    ensures write { result ≡ SweepOutcome.WriteFault → Rose (O.faults out.old) (O.faults out.new) }
+    ensures out_quiet { (result ≡ SweepOutcome.WriteFault) ⊎ (O.faults out.new ≡ O.faults out.old) }
+    ensures sure { (contents : Items (Items ℕ)) (text : Items ℕ) (done : Bool) → AreFiles (map (F.told files.old) (texts words.now)) contents → sweep_answer contents ≡ Swept text done →
+        length text ≤ O.sure out.old → O.faults out.new ≡ O.faults out.old }
+    ensures untouched { Untouched result out.old out.new }
+{
+    if refuses_words(words) {
+        return SweepOutcome::Usage;
+    }
+    match read_files(alloc, words, files) {
+        Ok(contents) => {
+            let outcome = run_files(rt, alloc, contents.as_slice(), workers, out, gate);
+            drop(contents);
+            outcome
+        }
+        Err(outcome) => outcome,
+    }
+}
+
+/// Runs each of up to 64 models over one trace, and writes what the runs give, in the order of the words. The words are those
+/// behind the program's name: the name of the trace, and those of the models. 1 to 64 workers take the models from a queue, enter
+/// the gate with each and run it as one worker does, with form 2 of the report and no lines of jobs; of a model whose run found
+/// no memory there the caller makes the run. Of each model the text has the line `scenario I status S`, with I from 1 and the
+/// status of that run, then what the run writes on its output, and then its line on the error output.
+///
+/// `Usage`, `TooLong`, `ReadFault`, `WriteFault` and `Memory` put one line on `err`, whose faults change no outcome. All memory is
+/// taken before the first byte is written; `out` gains the whole text with `Done` and `Refused`, a first part of it with
+/// `WriteFault`, and else nothing. It may wait for its workers.
+pub fn sweep<R: Threads + Wait + Sync, F: Files, O: Sink, E: Sink, G: SweepGate>(
+    rt: &R,
+    alloc: Global,
+    words: &[&str],
+    workers: u32,
+    files: &mut F,
+    out: &mut O,
+    err: &mut E,
+    gate: &G,
+) -> SweepOutcome
+    requires some { 1 ≤ workers }
+    requires most { workers ≤ 64 }
+    // A finished sweep has written exactly the text of the single runs, and a sweep ends otherwise only with a file that is too
+    // long, with a fault of a device or want of memory.
+    ensures ends { (contents : Items (Items ℕ)) → refuses_words_of (texts words.now) ≡ false → AreFiles (map (F.told files.old) (texts words.now)) contents →
+        SweepEnds (sweep_answer contents) result (takings O.taken O.sure out.old out.new) }
+
+    // The words are refused exactly so, and a file is too long whatever is told of the others.
+    ensures usage { IsTrue (refuses_words_of (texts words.now)) ↔ (result ≡ SweepOutcome.Usage) }
+    ensures unread { IsTrue (refuses_words_of (texts words.now)) → files.new ≡ files.old }
+    ensures too_long { (w : ℕ) → result ≡ SweepOutcome.TooLong w → (1 ≤ w) × (w ≤ length words.now) × IsLong w (told_of_word (map (F.told files.old) (texts words.now)) w) }
+    ensures too_long_comes { (w : ℕ) (bytes : Items ℕ) → refuses_words_of (texts words.now) ≡ false → 1 ≤ w → told_of_word (map (F.told files.old) (texts words.now)) w ≡ Some bytes → limit_of w < length bytes →
+        StopsBy w result }
+
+    // A fault of a device is counted, and a counted fault is answered.
+    ensures read_fault { (w : ℕ) → result ≡ SweepOutcome.ReadFault w → (1 ≤ w) × (w ≤ length words.now) × FailedAt w (F.reads files.old) (F.reads files.new) (F.faults files.new) × Rose (F.faults files.old) (F.faults files.new) }
+    ensures reads { Reads (length words.now) result (F.reads files.old) (F.reads files.new) }
+    ensures sure_names { list_all (F.is_sure files.old) (texts words.now) ≡ true → F.faults files.new ≡ F.faults files.old }
+    ensures files_quiet { ((w : ℕ) × (result ≡ SweepOutcome.ReadFault w)) ⊎ (F.faults files.new ≡ F.faults files.old) }
+    ensures files_later { F.faults files.old ≤ F.faults files.new }
+    ensures same_told { (n : Items ℕ) → F.told files.new n ≡ F.told files.old n }
+    ensures same_sure { (n : Items ℕ) → F.is_sure files.new n ≡ F.is_sure files.old n }
+    ensures out_later { O.faults out.old ≤ O.faults out.new }
+    ensures write { result ≡ SweepOutcome.WriteFault → Rose (O.faults out.old) (O.faults out.new) }
+    ensures out_quiet { (result ≡ SweepOutcome.WriteFault) ⊎ (O.faults out.new ≡ O.faults out.old) }
+    ensures sure { (contents : Items (Items ℕ)) (text : Items ℕ) (done : Bool) → AreFiles (map (F.told files.old) (texts words.now)) contents → sweep_answer contents ≡ Swept text done →
+        length text ≤ O.sure out.old → O.faults out.new ≡ O.faults out.old }
+
+    // What the two outputs gain.
+    ensures untouched { Untouched result out.old out.new }
+    ensures line { PutsLine E.taken E.sure E.faults err.old err.new (sweep_line result) }
+{
+    let outcome = sweep_words(rt, alloc, words, workers, files, out, gate);
+    put_sweep_line(err, &outcome);
+    outcome
+}
