@@ -12,6 +12,6 @@ mod rows;
 
 pub use edit::Edit;
 pub use fault::EditFault;
-pub use laws::edited_rows_are_read;
+pub use laws::{edited_rows_are_read, edits_are_answered};
 pub use read::read_edits;
 pub use rows::edited;

@@ -79,16 +79,18 @@ pub fn put_text<'a, E: Sink>(err: &mut E, program: &'a [u8], text: &'a [u8])
 {
     put_pieces(
         err,
-        &[
-            Piece::Text(program),
-            Piece::Text(text),
-            Piece::Text(b"\n"),
-        ],
+        &[Piece::Text(program), Piece::Text(text), Piece::Text(b"\n")],
     );
 }
 
 // Puts a line with a name in it.
-fn put_named<'a, E: Sink>(err: &mut E, program: &'a [u8], front: &'a [u8], name: &'a [u8], back: &'a [u8])
+fn put_named<'a, E: Sink>(
+    err: &mut E,
+    program: &'a [u8],
+    front: &'a [u8],
+    name: &'a [u8],
+    back: &'a [u8],
+)
     ensures { PutsLine E.taken E.sure E.faults err.old err.new (program.now ++ front.now ++ name.now ++ back.now ++ 10 ∷ []) }
 {
     put_pieces(
@@ -104,7 +106,13 @@ fn put_named<'a, E: Sink>(err: &mut E, program: &'a [u8], front: &'a [u8], name:
 }
 
 /// Puts a line with a number in it, which begins with a program's name.
-pub fn put_numbered<'a, E: Sink>(err: &mut E, program: &'a [u8], front: &'a [u8], number: u32, back: &'a [u8])
+pub fn put_numbered<'a, E: Sink>(
+    err: &mut E,
+    program: &'a [u8],
+    front: &'a [u8],
+    number: u32,
+    back: &'a [u8],
+)
     ensures { PutsLine E.taken E.sure E.faults err.old err.new (program.now ++ front.now ++ decimal number ++ back.now ++ 10 ∷ []) }
 {
     put_pieces(
@@ -155,16 +163,8 @@ fn put_usage_line<E: Sink>(err: &mut E, fault: &UsageFault)
             b"usage: mpsim MODEL TRACE [--workers N] [--block N] [--jobs] [--report N] \
             or mpsim --made N [--workers N] [--block N] [--jobs] [--report N]",
         ),
-        UsageFault::Workers => put_text(
-            err,
-            MPSIM,
-            b"--workers takes a whole number from 1 to 64",
-        ),
-        UsageFault::Block => put_text(
-            err,
-            MPSIM,
-            b"--block takes a whole number from 1 to 65536",
-        ),
+        UsageFault::Workers => put_text(err, MPSIM, b"--workers takes a whole number from 1 to 64"),
+        UsageFault::Block => put_text(err, MPSIM, b"--block takes a whole number from 1 to 65536"),
         UsageFault::Made => put_text(
             err,
             MPSIM,
