@@ -1,7 +1,5 @@
 -- The lines of a text of edits, taken off one by one.
-use Rattle.std.proofs.Common.{◌≡◌, ◌∙◌, sym, ap, refl, ℕ, ◌+◌, ◌<◌, ◌≤◌, List, [], ◌∷◌, ◌++◌, length, drop, Option, Some, None, arith, append_assoc, append-nil, length-append}
-use Rattle.std.specs.List.{flat_map}
-use Rattle.std.proofs.lemmas.Grind.{common_steps, flat_map-append}
+use Rattle.std.proofs.Common.{◌≡◌, ◌∙◌, sym, refl, ℕ, ◌+◌, ◌<◌, ◌≤◌, List, [], ◌∷◌, ◌++◌, length, drop, Some, None, arith, append_assoc}
 use Rattle.mq_base.specs.Text.{lines_of, words_of}
 use Rattle.mq_core.specs.declared.model.Network.{Network}
 use Rattle.mq_edits.specs.Edits.{edits_of_lines, edits_of_words, lines_fault, rows_added, words_fault}
@@ -29,9 +27,6 @@ no_lines : (net : Network) (rows number : ℕ) → lines_fault net rows number [
 unfolding lines_fault
 no_lines net rows number = refl
 
-pub lined_none : (net : Network) (first : ℕ) (text : List ℕ) (edits : List Edit) → edits ≡ [] → Lined net first text 0 1 edits first
-lined_none net first text edits none = record { all = rw none refl; fault = refl; within = omega arith; short = omega arith }
-
 pub lined_more : (net : Network) (first : ℕ) (text line : List ℕ) (from next number : ℕ) (edits edits' : List Edit) (rows rows' : ℕ) → Lined net first text from number edits rows
     → lines_of (drop from text) ≡ line ∷ lines_of (drop next text) → from < next → next ≤ length text
     → words_fault net rows number (words_of line) ≡ None → edits' ≡ edits ++ edits_of_words net (words_of line) → rows' ≡ rows + rows_added (words_of line)
@@ -50,7 +45,3 @@ lined_fault net first text line from next number edits rows e lined is told = li
 pub lined_clean : (net : Network) (first : ℕ) (text : List ℕ) (from number : ℕ) (edits : List Edit) (rows : ℕ) → Lined net first text from number edits rows → lines_of (drop from text) ≡ []
     → lines_fault net first 1 (lines_of text) ≡ None
 lined_clean net first text from number edits rows lined none = lined.fault ∙ rw none (no_lines net rows number)
-
-pub lined_all : (net : Network) (first : ℕ) (text : List ℕ) (from number : ℕ) (edits : List Edit) (rows : ℕ) → Lined net first text from number edits rows → lines_of (drop from text) ≡ []
-    → edits ≡ edits_of_lines net (lines_of text)
-lined_all net first text from number edits rows lined none = sym (lined.all ∙ rw none (append-nil edits))

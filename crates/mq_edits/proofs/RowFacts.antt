@@ -1,7 +1,6 @@
 -- What edits make of a list that has one item a row, and of rows that are read for a network.
-use Rattle.std.proofs.Common.{◌≡◌, ◌∙◌, sym, ap, refl, ℕ, zero, suc, ◌+◌, ◌<◌, ◌≤◌, ◌^◌, List, [], ◌∷◌, ◌++◌, length, drop, get_or, map, set, take, Some, arith, length-append}
-use Rattle.std.specs.Prelude.{All, IsTrue, fold, slice_get}
-use Rattle.std.specs.List.{enumerate_from}
+use Rattle.std.proofs.Common.{◌≡◌, ◌∙◌, sym, ap, refl, ℕ, zero, suc, ◌+◌, ◌<◌, ◌≤◌, ◌^◌, List, [], ◌∷◌, ◌++◌, length, drop, get_or, set, take, Some, arith, length-append}
+use Rattle.std.specs.Prelude.{All, IsTrue, slice_get}
 use Rattle.std.proofs.lemmas.Grind.{common_steps}
 use Rattle.std.proofs.lemmas.List.Sums.{fold-append}
 use Rattle.std.proofs.lemmas.Option.{slice_get-get_or}
@@ -10,7 +9,7 @@ use Rattle.mq_core.specs.Theorems.{IsReadFor}
 use Rattle.mq_core.specs.Wiring.{is_source}
 use Rattle.mq_core.specs.declared.model.Network.{Network}
 use Rattle.mq_core.specs.declared.model.Rows.{Rows}
-use Rattle.mq_edits.specs.Edited.{AreEditsFor, AreInEach, AreInPlace, HasPlace, HaveNumbers, IsEditFor, edited_by, edited_columns, edited_list, edited_rows, number_of, rows_after, source_of, time_of, values_of}
+use Rattle.mq_edits.specs.Edited.{AreEditsFor, AreInEach, AreInPlace, HasPlace, HaveNumbers, IsEditFor, edited_by, edited_columns, edited_list, edited_rows, number_of, rows_after, source_of}
 use Rattle.mq_edits.specs.declared.edit.Edit.{Edit}
 use Rattle.mq_edits.specs.declared.edit.Edit.TheVariants.{Set, Add}
 
@@ -54,9 +53,6 @@ edit_at net rows (e ∷ edits) (suc k) edit read is = edit_at net (rows_after ro
 
 pub have_numbers : (net : Network) (rows place : ℕ) (edits : List Edit) → AreEditsFor net rows edits → place ≤ length net.columns → HaveNumbers place edits
 have_numbers net rows place edits read less = λ k edit is. let (n, e) = edit_at net rows edits k edit read is in omega (arith, e.each, less)
-
-pub fewer_numbers : (place more : ℕ) (edits : List Edit) → HaveNumbers more edits → place ≤ more → HaveNumbers place edits
-fewer_numbers place more edits have less = λ k edit is. let h = have k edit is in omega (arith, h, less)
 
 pub in_each : (net : Network) (rows : Rows) (edits : List Edit) → IsReadFor net rows → AreEditsFor net (length rows.source) edits → AreInEach rows.demands edits
 in_each net rows edits read fit = λ k column is.

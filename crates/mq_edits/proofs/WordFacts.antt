@@ -1,7 +1,6 @@
 -- The words of a line: which fault they have, and that those without one say an edit that is read.
-use Rattle.std.proofs.Common.{◌≡◌, ◌∙◌, sym, ap, refl, ℕ, zero, suc, ◌+◌, ◌-◌, ◌<◌, ◌≤◌, ◌^◌, List, [], ◌∷◌, ◌++◌, length, length-drop, drop, get_or, map, take, Bool, true, false, Option, Some, None, arith, Bor, inl, inr, eq-eqb}
-use Rattle.std.specs.Prelude.{All, IsTrue, codes, is_none, position, slice_get, unwrap_or, ◌&&◌, ◌==◌, nat_lt}
-use Rattle.std.specs.List.{flat_map}
+use Rattle.std.proofs.Common.{◌≡◌, ◌∙◌, sym, ap, refl, ℕ, zero, suc, ◌+◌, ◌-◌, ◌<◌, ◌≤◌, ◌^◌, List, [], ◌∷◌, ◌++◌, length, length-drop, drop, get_or, map, take, true, false, Option, Some, None, arith, Bor, inl, inr, eq-eqb}
+use Rattle.std.specs.Prelude.{All, IsTrue, codes, position, slice_get, ◌&&◌, ◌==◌, nat_lt}
 use Rattle.std.specs.Option.{option_or}
 use Rattle.std.specs.Str.{bytes_eq}
 use Rattle.std.specs.Str.Parse.{digits_value}
@@ -21,9 +20,8 @@ use Rattle.mq_trace.specs.Trace.{source_named}
 use Rattle.mq_edits.specs.Edited.{AreEditsFor, HasPlace, IsEditFor, rows_after}
 use Rattle.mq_edits.specs.Edits.{add_fault, add_in, count_fault, edits_of_lines, edits_of_words, is_add, is_record, is_set, lines_fault, record_named, row_fault, rows_added, set_fault, set_in, source_in, time_in, value_fault, values_in, word_at, words_fault}
 use Rattle.mq_edits.specs.declared.edit.Edit.{Edit}
-use Rattle.mq_edits.specs.declared.edit.Edit.TheVariants.{Set, Add}
 use Rattle.mq_edits.specs.declared.fault.EditFault.{EditFault}
-use Rattle.mq_edits.specs.declared.fault.EditFault.TheVariants.{BadLine, BadNumber, TooManyRows, UnknownRow, UnknownSource}
+use Rattle.mq_edits.specs.declared.fault.EditFault.TheVariants.{BadNumber, UnknownRow, UnknownSource}
 
 -- Numbers.
 pub no_number : (text : List ℕ) (limit : ℕ) → None ≡ number_of text limit → is_number text limit ≡ false

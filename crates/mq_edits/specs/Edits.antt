@@ -1,5 +1,5 @@
 -- What a text of edits says: its first fault, if it has one, and the edits that it declares.
-use Rattle.std.specs.Prelude.{◌≡◌, ◌≢◌, ◌+◌, ◌-◌, ◌^◌, ◌∷◌, ◌++◌, ◌&&◌, ◌==◌, [], ℕ, Bool, List, codes, drop, get_or, if◌then◌else◌, is_none, length, map, min, nat_lt, Option, Some, None, unwrap_or}
+use Rattle.std.specs.Prelude.{◌≡◌, ◌≢◌, ◌+◌, ◌-◌, ◌^◌, ◌∷◌, ◌&&◌, ◌==◌, [], ℕ, Bool, List, codes, drop, get_or, if◌then◌else◌, is_none, length, map, min, nat_lt, Option, Some, None, unwrap_or}
 use Rattle.std.specs.List.{flat_map}
 use Rattle.std.specs.Option.{option_or}
 use Rattle.std.specs.Str.{bytes_eq}

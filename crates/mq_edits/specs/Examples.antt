@@ -1,12 +1,11 @@
 -- Texts of edits, each for a trace of so many data records, with its first fault, and edits that texts declare.
-use Rattle.std.specs.Prelude.{◌≡◌, ◌^◌, ◌∷◌, ◌++◌, [], ℕ, List, Option, Some, None, codes}
+use Rattle.std.specs.Prelude.{◌≡◌, ◌^◌, ◌∷◌, [], ℕ, List, Option, Some, None, codes}
 use Rattle.mq_core.specs.declared.model.Demand.TheVariants.{Column}
 use Rattle.mq_core.specs.declared.model.Kind.TheVariants.{Server, Source}
 use Rattle.mq_core.specs.declared.model.Network.{Network}
 use Rattle.mq_core.specs.declared.model.Rows.{Rows}
 use Rattle.mq_edits.specs.Edited.{edited_rows}
 use Rattle.mq_edits.specs.Edits.{edits_fault, edits_in}
-use Rattle.mq_edits.specs.declared.edit.Edit.{Edit}
 use Rattle.mq_edits.specs.declared.edit.Edit.TheVariants.{Set, Add}
 use Rattle.mq_edits.specs.declared.fault.EditFault.{EditFault}
 use Rattle.mq_edits.specs.declared.fault.EditFault.TheVariants.{BadLine, TooManyRows, UnknownRow, UnknownSource, BadNumber}

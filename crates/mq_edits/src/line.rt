@@ -1,38 +1,19 @@
 // A line of a text of edits.
-ghost use Rattle.std.specs.Prelude.{◌&&◌, ◌≡◌, ◌+◌, ◌^◌, ◌<◌, ◌≤◌, ◌∷◌, [], IfErr, IfOk, length, map, None};
+ghost use Rattle.std.specs.Prelude.{◌≡◌, ◌+◌, ◌^◌, ◌<◌, ◌≤◌, ◌∷◌, [], IfErr, IfOk, length, map, None};
 ghost use Rattle.std.specs.Str.Parse.{digits_value};
-ghost use Rattle.std.specs.Str.{bytes_eq};
 ghost use Rattle.mq_base.specs.Text.{texts};
-ghost use Rattle.mq_core.specs.Wiring.{is_source_kind};
-ghost use Rattle.mq_trace.specs.Trace.{source_named};
 ghost use Rattle.mq_edits.specs.Edits.{Tells, add_fault, add_in, count_fault, edits_of_words, record_named, row_fault, set_fault, set_in, source_in, time_in, value_fault, values_in, words_fault};
 ghost use Rattle.mq_edits.specs.declared.edit.Edit.TheVariants.{Add, Set};
 
 use crate::edit::Edit;
 use crate::fault::EditFault;
 use mq_base::{List, read_number};
-use mq_core::{Kind, Network, Node};
+use mq_core::Network;
+use mq_trace::find_source;
 use std::alloc::Global;
 
 // The most data records that there may be.
 const MOST_ROWS: u32 = 1_048_576;
-
-// Whether a node is the source of this name.
-fn is_source_named(node: &Node, name: &[u8]) -> bool
-    ensures { result ≡ (is_source_kind node.now.kind && bytes_eq node.now.name name.now) }
-{
-    matches!(node.kind, Kind::Source) && node.name.as_slice() == name
-}
-
-// The source node of this name, if there is one.
-fn find_source(net: &Network, name: &[u8]) -> Option<usize>
-    ensures { result ≡ source_named net.now name.now }
-{
-    net.nodes
-        .as_slice()
-        .iter()
-        .position(|node| is_source_named(node, name))
-}
 
 // What the words of a row say.
 #[derive(Drop)]

@@ -1,4 +1,4 @@
-use Rattle.std.proofs.Common.{◌≡◌, ◌∙◌, sym, ap, arith, length, ◌+◌}
+use Rattle.std.proofs.Common.{◌∙◌, sym, ap, arith, ◌+◌}
 use Rattle.std.proofs.lemmas.Result.{err_from_is_err_and}
 use Rattle.mq_base.specs.Text.{texts}
 use Rattle.mq_trace.specs.Trace.{source_named}

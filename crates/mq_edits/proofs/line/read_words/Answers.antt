@@ -1,4 +1,4 @@
-use Rattle.std.proofs.Common.{◌≡◌, ◌∙◌, sym, [], get_or, true, false, arith, rules}
+use Rattle.std.proofs.Common.{◌≡◌, ◌∙◌, [], get_or, true, false, rules}
 use Rattle.std.proofs.lemmas.Result.{IfErr-weaker}
 use Rattle.mq_edits.specs.Edits.{is_add, is_set}
 use Rattle.mq_edits.proofs.WordFacts.{add_told, set_told}

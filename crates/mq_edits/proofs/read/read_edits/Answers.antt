@@ -1,5 +1,3 @@
-use Rattle.mq_base.specs.Text.{lines_of}
-use Rattle.mq_model.specs.NetworkOf.{without_mark}
 use Rattle.mq_edits.proofs.WordFacts.{lines_read}
 use Rattle.mq_edits.proofs.read.read_edits.Goals as goal
 

@@ -1,4 +1,4 @@
-use Rattle.std.proofs.Common.{◌∙◌, ap, arith, refl, sym}
+use Rattle.std.proofs.Common.{arith}
 use Rattle.mq_edits.proofs.RowFacts.{edited_are_read, have_numbers, in_each, in_place}
 use Rattle.mq_edits.proofs.rows.edited.Goals as goal
 

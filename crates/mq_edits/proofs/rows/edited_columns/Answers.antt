@@ -1,4 +1,4 @@
-use Rattle.std.proofs.Common.{◌∙◌, ap, arith, refl}
+use Rattle.std.proofs.Common.{arith, refl}
 use Rattle.mq_edits.proofs.RowFacts.{columns_more, there}
 use Rattle.mq_edits.proofs.rows.edited_columns.Goals as goal
 
