@@ -1,6 +1,5 @@
 -- Files that are read one after another.
-use Rattle.std.proofs.Common.{◌≡◌, ◌∙◌, sym, ap, refl, subst, ℕ, zero, suc, ◌+◌, ◌<◌, ◌≤◌, Bool, true, false, List, [], ◌∷◌, ◌++◌, length, take, Option, Some, None, arith, length-append, true≢false}
-use Rattle.std.proofs.lemmas.Grind.{common_steps}
+use Rattle.std.proofs.Common.{◌≡◌, ◌∙◌, sym, ap, refl, subst, ℕ, zero, suc, ◌+◌, Bool, false, List, [], ◌∷◌, ◌++◌, length, Option, arith, length-append}
 use Rattle.mq_outside.specs.Outside.{Rose, next_count}
 use Rattle.mq_edit.specs.Reading.{ReadsNames, counted, last_of}
 
@@ -12,18 +11,6 @@ last_behind : (names : List (List ℕ)) (name : List ℕ) (more : List (List ℕ
 last_behind [] name more = refl
 last_behind (first ∷ []) name more = refl
 last_behind (first ∷ next ∷ names) name more = last_behind (next ∷ names) name more
-
--- none is read
-pub reads_none : {F : Type 0} (told : F → List ℕ → Option (List ℕ)) (is_sure : F → List ℕ → Bool) (reads faults : F → ℕ) (files : F) → ReadsNames told is_sure reads faults files files [] false
-reads_none told is_sure reads faults files = record {
-  counts = refl;
-  at = λ e. absurd (true≢false (sym e));
-  rose = λ e. absurd (true≢false (sym e));
-  quiet = λ _. refl;
-  sure = λ name e _. refl;
-  same_told = λ name. refl;
-  same_sure = λ name. refl;
-}
 
 -- some are read, none of which failed, and then further ones
 pub reads_both : {F : Type 0} (told : F → List ℕ → Option (List ℕ)) (is_sure : F → List ℕ → Bool) (reads faults : F → ℕ) (a b c : F) (names : List (List ℕ)) (name : List ℕ) (more : List (List ℕ)) (failed : Bool)

@@ -1,5 +1,5 @@
 -- The answer as far as the files are told, and how a call ends by it.
-use Rattle.std.proofs.Common.{◌≡◌, ◌≢◌, ◌∙◌, ◌⊎◌, inl, inr, ℕ, suc, ◌+◌, ◌<◌, ◌≤◌, Bool, true, false, List, [], ◌∷◌, ◌++◌, Option, Some, None, refl, sym, ap, subst, arith, length, get_or, take, Bor, true≢false}
+use Rattle.std.proofs.Common.{◌≡◌, ◌∙◌, ◌⊎◌, inl, inr, ℕ, suc, ◌+◌, ◌≤◌, true, false, List, [], ◌∷◌, Option, Some, None, refl, sym, ap, subst, arith, length, get_or, take, Bor, true≢false}
 use Rattle.std.specs.Prelude.{IfSome, ◌==◌}
 use Rattle.std.proofs.lemmas.Bool.{cases_Bool, eqb-true}
 use Rattle.mq_base.specs.Text.{texts}
@@ -23,7 +23,7 @@ use Rattle.mq_trace.specs.Trace.{rows_in, trace_fault}
 use Rattle.mq_trace.specs.declared.fault.TraceFault.{TraceFault}
 use Rattle.mq_edit.specs.Answer.{Answer, after_answer, answer_told, before_answer, edited_report, edits_answer, edits_told, model_answer, refused_by, run_answer, trace_answer, trace_told}
 use Rattle.mq_edit.specs.Answer.Answer.{Refused, Reported}
-use Rattle.mq_edit.specs.Ends.{Breaks, Ends, IsBehindModel, IsBehindTrace, IsOfRun, IsText, RefusesEdits, RefusesModel, RefusesTrace, reads_of}
+use Rattle.mq_edit.specs.Ends.{Breaks, Ends, IsText, RefusesModel}
 use Rattle.mq_edit.specs.Words.{name_at, refuses_words}
 use Rattle.mq_edit.proofs.FileFacts.{if_told}
 use Rattle.mq_edit.specs.declared.outcome.EditOutcome.{EditOutcome}
@@ -91,12 +91,6 @@ model_breaks bytes trace edits (Some f) o b = inr b
 
 -- ---- refusals
 
--- the run before the edits is refused
-pub refused_before : (plan : Plan) (rows edited : Rows) (f : RunFault) → refusal_of plan rows ≡ refusal_in plan.net rows → IsCause plan rows f → Ends (run_answer plan.net rows edited) (refused_by false f)
-refused_before plan rows edited (fault.Over f) same cause = rw (sym same ∙ cause) (inl refl)
-refused_before plan rows edited (fault.Past f) same cause = rw (sym same ∙ cause) (inl refl)
-refused_before plan rows edited fault.Memory same cause = before_breaks plan.net rows edited (refusal_in plan.net rows) Memory tt
-
 -- the run after them is
 pub refused_after : (plan : Plan) (rows edited : Rows) (f : RunFault) → refusal_in plan.net rows ≡ None → refusal_of plan edited ≡ refusal_in plan.net edited → IsCause plan edited f → Ends (run_answer plan.net rows edited) (refused_by true f)
 refused_after plan rows edited (fault.Over f) none same cause = rw (none, sym same ∙ cause) (inl refl)
@@ -123,52 +117,12 @@ before_text net rows edited (Some refusal) = tt
 
 -- ---- the edits
 
-pub edits_end : (net : Network) (rows : Rows) (n : ℕ) (told : Option (List ℕ)) (edits : List Edit) (o : EditOutcome) → n ≡ length rows.source
-    → IfSome told (λ bytes. (edits_fault net n bytes ≡ None) × (edits ≡ edits_in net bytes)) → Ends (run_answer net rows (edited_rows rows edits)) o → IfSome (edits_told net rows told) (λ answer. Ends answer o)
-edits_end net rows n None edits o same accepted ends = tt
-edits_end net rows n (Some bytes) edits o same accepted ends =
-    let none = rw same at accepted.0 in
-    rw none (subst (λ es. Ends (run_answer net rows (edited_rows rows es)) o) accepted.1 ends)
-
 pub edits_text : (net : Network) (rows : Rows) (n : ℕ) (told : Option (List ℕ)) (edits : List Edit) → n ≡ length rows.source
     → IfSome told (λ bytes. (edits_fault net n bytes ≡ None) × (edits ≡ edits_in net bytes)) → IfSome (edits_told net rows told) (IsText (edited_report net rows (edited_rows rows edits)))
 edits_text net rows n None edits same accepted = tt
 edits_text net rows n (Some bytes) edits same accepted =
     let none = rw same at accepted.0 in
     rw (none, accepted.1) (before_text net rows (edited_rows rows (edits_in net bytes)) (refusal_in net rows))
-
-pub edits_refused : (net : Network) (rows : Rows) (n : ℕ) (told : Option (List ℕ)) (o : EditOutcome) → n ≡ length rows.source → RefusesEdits net n told o → IfSome (edits_told net rows told) (λ answer. Ends answer o)
-edits_refused net rows n None o same r = tt
-edits_refused net rows n (Some bytes) (Edits f) same r = let is = rw same at r.1 in rw is (inl refl)
-edits_refused net rows n (Some bytes) (ReadFault file) same r = edits_told_breaks net rows (Some bytes) (ReadFault file) (omega (arith, r))
-edits_refused net rows n (Some bytes) Memory same r = edits_told_breaks net rows (Some bytes) Memory tt
-edits_refused net rows n (Some bytes) Done same r = elim r [ ]
-edits_refused net rows n (Some bytes) Usage same r = elim r [ ]
-edits_refused net rows n (Some bytes) (Model f) same r = elim r [ ]
-edits_refused net rows n (Some bytes) (Trace f) same r = elim r [ ]
-edits_refused net rows n (Some bytes) (Over edited f) same r = elim r [ ]
-edits_refused net rows n (Some bytes) (Past edited f) same r = elim r [ ]
-edits_refused net rows n (Some bytes) WriteFault same r = elim r [ ]
-
--- ---- the trace
-
-pub trace_end : (net : Network) (rows : Rows) (told edits : Option (List ℕ)) (P : Answer → Type 0) → IfSome told (λ bytes. (trace_fault net bytes ≡ None) × (rows ≡ rows_in net bytes))
-    → IfSome (edits_told net rows edits) P → IfSome (trace_told net told edits) P
-trace_end net rows None edits P accepted ends = tt
-trace_end net rows (Some bytes) edits P accepted ends = rw accepted.0 (subst (λ rs. IfSome (edits_told net rs edits) P) accepted.1 ends)
-
-pub trace_refused : (net : Network) (told edits : Option (List ℕ)) (o : EditOutcome) → RefusesTrace net told o → IfSome (trace_told net told edits) (λ answer. Ends answer o)
-trace_refused net None edits o r = tt
-trace_refused net (Some bytes) edits (Trace f) r = let is = r.1 in rw is (inl refl)
-trace_refused net (Some bytes) edits (ReadFault file) r = trace_told_breaks net (Some bytes) edits (ReadFault file) (omega (arith, r))
-trace_refused net (Some bytes) edits Memory r = trace_told_breaks net (Some bytes) edits Memory tt
-trace_refused net (Some bytes) edits Done r = elim r [ ]
-trace_refused net (Some bytes) edits Usage r = elim r [ ]
-trace_refused net (Some bytes) edits (Model f) r = elim r [ ]
-trace_refused net (Some bytes) edits (Edits f) r = elim r [ ]
-trace_refused net (Some bytes) edits (Over edited f) r = elim r [ ]
-trace_refused net (Some bytes) edits (Past edited f) r = elim r [ ]
-trace_refused net (Some bytes) edits WriteFault r = elim r [ ]
 
 -- ---- the model
 

@@ -7,7 +7,6 @@ use Rattle.mq_core.specs.declared.model.Network.{Network}
 use Rattle.mq_core.specs.declared.model.Rows.{Rows}
 use Rattle.mq_edits.specs.Edited.{edited_rows}
 use Rattle.mq_edits.specs.Edits.{edits_fault, edits_in}
-use Rattle.mq_edits.specs.declared.edit.Edit.{Edit}
 use Rattle.mq_edits.specs.declared.fault.EditFault.{EditFault}
 use Rattle.mq_engine.specs.declared.fault.RunFault.{RunFault}
 use Rattle.mq_engine.specs.declared.fault.RunFault.TheVariants as fault

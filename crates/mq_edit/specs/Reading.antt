@@ -1,5 +1,5 @@
 -- How files change that are read one after another.
-use Rattle.std.specs.Prelude.{◌≡◌, ◌+◌, ℕ, zero, suc, Bool, true, false, List, [], ◌∷◌, length, Option, Some, None, Result, Ok, Err}
+use Rattle.std.specs.Prelude.{◌≡◌, ℕ, zero, suc, Bool, true, false, List, [], ◌∷◌, length, Option, Some, None, Result, Ok, Err}
 use Rattle.mq_outside.specs.declared.outside.FileFault.{FileFault}
 use Rattle.mq_outside.specs.declared.outside.FileFault.TheVariants.{Failed, TooLong, Memory}
 use Rattle.mq_outside.specs.Outside.{Rose, next_count}

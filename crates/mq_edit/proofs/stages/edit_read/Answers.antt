@@ -1,4 +1,3 @@
-use Rattle.std.proofs.Common.{◌≡◌, ◌∙◌, sym, ap}
 use Rattle.mq_edits.specs.Edited.{edited_rows}
 use Rattle.mq_edit.specs.Answer.{edited_report, edits_told}
 use Rattle.mq_edit.proofs.Cases.{edits_refusal_unwritten, writes_nothing}

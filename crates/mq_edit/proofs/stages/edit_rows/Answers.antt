@@ -1,10 +1,7 @@
-use Rattle.std.proofs.Common.{◌≡◌, ◌∙◌, sym, ap}
-use Rattle.std.specs.Prelude.{None}
-use Rattle.mq_core.specs.NetworkRun.{refusal_in}
+use Rattle.std.proofs.Common.{◌∙◌, sym}
 use Rattle.mq_edits.specs.Edited.{edited_rows}
 use Rattle.mq_edit.specs.Answer.{edited_report, run_answer}
 use Rattle.mq_edit.proofs.Told.{refused_after, reported, written_ends}
-use Rattle.mq_edit.proofs.stages.edit_rows.Given as Given
 use Rattle.mq_edit.proofs.stages.edit_rows.Goals as goal
 
 pub returns-in-Ok-edit_kept-clause-ends : goal.returns-in-Ok-edit_kept-clause-ends

@@ -1,13 +1,12 @@
-use Rattle.std.proofs.Common.{◌≡◌, ◌∙◌, sym, ap, subst, [], ◌∷◌, ◌+◌, List, get_or, take, ℕ, false}
+use Rattle.std.proofs.Common.{◌∙◌, sym, subst, [], ◌∷◌, ◌+◌}
 use Rattle.mq_base.specs.Text.{texts}
 use Rattle.mq_edit.specs.Answer.{answer_told}
 use Rattle.mq_edit.specs.Ends.{Ends, IsText, is_unread}
 use Rattle.mq_edit.specs.Reading.{ReadsNames}
-use Rattle.mq_edit.specs.Words.{name_at, refuses_words}
+use Rattle.mq_edit.specs.Words.{name_at}
 use Rattle.mq_edit.proofs.Cases.{model_refusal_count, model_refusal_unwritten, writes_nothing}
 use Rattle.mq_edit.proofs.Readings.{reads_both}
 use Rattle.mq_edit.proofs.Told.{first_name, first_names, model_behind, model_refused, named, names_are, text_is, text_told, trace_named}
-use Rattle.mq_edit.proofs.stages.edit_trace.Given as Given
 use Rattle.mq_edit.proofs.stages.edit_trace.Goals as goal
 
 pub returns-in-Ok-clause-ends : goal.returns-in-Ok-clause-ends

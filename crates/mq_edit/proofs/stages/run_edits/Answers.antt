@@ -1,4 +1,4 @@
-use Rattle.std.proofs.Common.{◌≡◌, ◌∙◌, sym, ap, [], ◌∷◌}
+use Rattle.std.proofs.Common.{[], ◌∷◌}
 use Rattle.mq_edit.specs.Answer.{trace_told}
 use Rattle.mq_edit.proofs.Cases.{trace_count, trace_refusal_count, trace_refusal_unwritten, writes_nothing}
 use Rattle.mq_edit.proofs.Readings.{reads_both}

@@ -1,4 +1,4 @@
-use Rattle.std.proofs.Common.{◌≡◌, ◌∙◌, sym, ℕ, List, [], ◌∷◌, ◌++◌, codes, decimal, append_assoc, subst}
+use Rattle.std.proofs.Common.{◌≡◌, ◌∙◌, sym, ℕ, [], ◌∷◌, ◌++◌, codes, decimal, append_assoc, subst}
 use Rattle.std.proofs.lemmas.Result.{on_err_weaker}
 use Rattle.mq_outside.specs.Outside.{GoesOut}
 use Rattle.mq_outside.proofs.lemmas.Gathers.{part_flushed}
