@@ -1,0 +1,8 @@
+//! The blocks of a station that are done again, behind those that stay.
+#![tactic(auto)]
+
+mod blocks;
+mod lone;
+
+pub use blocks::{Done, redo_block, redone};
+pub use lone::{DelayStep, RouteStep};
