@@ -1,16 +1,17 @@
 -- The carries of a range, one by one, and blocks that are done one after another.
-use Rattle.std.proofs.Common.{◌≡◌, ℕ, zero, suc, ◌+◌, ◌-◌, ◌*◌, ◌<◌, ◌≤◌, ◌⊎◌, inl, inr, List, [], ◌∷◌, ◌++◌, length, get_or, map, min, refl, sym, ap, ◌∙◌, subst, arith, Some, slice_get, length-append}
+use Rattle.std.proofs.Common.{◌≡◌, ℕ, zero, suc, ◌+◌, ◌-◌, ◌*◌, ◌<◌, ◌≤◌, ◌⊎◌, inl, inr, List, [], ◌∷◌, ◌++◌, length, get_or, map, min, refl, sym, ap, ◌∙◌, subst, arith, Some, slice_get, length-append, take}
 use Rattle.std.proofs.Math.ListN.{get_or-append}
 use Rattle.std.proofs.Math.Seq.{get_or-append_seam}
 use native.Mathlib.Decide.{ℕ_discrete}
 use mathlib.Core.Logic.{dite}
 use Rattle.mq_scan.specs.Folds.{carries_after, fold_to}
-use Rattle.std.proofs.Math.Nat.{mul-le-mul_left}
+use Rattle.std.proofs.Math.Nat.{mul-le-mul_left, mul-le-mul_right}
+use Rattle.std.proofs.lemmas.List.{get_or-take, length-take-le}
 use Rattle.std.proofs.lemmas.Bool.{cases_lt}
 use Rattle.mq_base.proofs.lemmas.Lists.{some_inj}
 use Rattle.mq_scan.proofs.lemmas.Blocks.{block-start}
 use Rattle.mq_scan.specs.declared.blocks.Blocks.{Blocks}
-use Rattle.mq_redo.specs.Doing.{AreBehind}
+use Rattle.mq_redo.specs.Doing.{AreBehind, AreDone, AreStaying}
 
 module _ {S C : Type 0} (acted : S → C → C) (start : C) (part : ℕ → S) where
   -- as many carries as jobs
@@ -56,3 +57,32 @@ block-some blocks b from to l begins ends =
     let some = blocks.some in
     let next : (b + 1) * blocks.block ≡ b * blocks.block + blocks.block = omega arith in
     omega arith
+
+-- Jobs that are the same below an index: the carries up to it.
+module _ {S C : Type 0} (acted : S → C → C) (start : C) (earlier part : ℕ → S) (end : ℕ) (same : (k : ℕ) → k < end → earlier k ≡ part k) where
+  pub fold-same : (n : ℕ) → n ≤ end → fold_to acted start earlier n ≡ fold_to acted start part n
+  fold-same zero l = refl
+  fold-same (suc n) l = (λ i. acted (same n (omega arith) i) (fold-same n (omega arith) i))
+
+  pub carries-same : (from n : ℕ) → from + n ≤ end → carries_after acted start earlier from n ≡ carries_after acted start part from n
+  carries-same from zero l = refl
+  carries-same from (suc n) l = (λ i. fold-same (suc from) (omega arith) i ∷ carries-same (suc from) n (omega arith) i)
+
+-- blocks that stay are done
+pub staying-done : {S C : Type 0} (time : C → ℕ) (acted : S → C → C) (start : C) (part : ℕ → S) (blocks : Blocks) (first : ℕ) (times : List ℕ) (carries kept : List C) →
+    first * blocks.block ≤ blocks.n → AreStaying time acted start part blocks.block first times carries → kept ≡ take first carries → AreDone time acted start part blocks first times kept
+staying-done time acted start part blocks first times carries kept inside h is =
+    let end : min (first * blocks.block) blocks.n ≡ first * blocks.block = omega arith in
+    let many = h.many in
+    let count : length kept ≡ first = ap length is ∙ length-take-le first carries many in
+    record {
+      count_is = count;
+      times_are = h.times_are ∙ (ap (map time) (carries-same acted start h.earlier part (first * blocks.block) h.same 0 (first * blocks.block) (omega arith)) ∙ ap (λ (n : ℕ). map time (carries_after acted start part 0 n)) (sym end));
+      behind = λ k d l.
+          let within = h.within in
+          let less : k < first = omega arith in
+          let up : (k + 1) * blocks.block ≤ first * blocks.block = mul-le-mul_right blocks.block (omega arith) in
+          let a : min ((k + 1) * blocks.block) h.jobs ≡ (k + 1) * blocks.block = omega arith in
+          let b : min ((k + 1) * blocks.block) blocks.n ≡ (k + 1) * blocks.block = omega arith in
+          ap (λ (cs : List _). get_or cs k d) is ∙ (get_or-take first carries k d less ∙ (h.behind k d (omega arith) ∙ (ap (fold_to acted start h.earlier) a ∙ (fold-same acted start h.earlier part (first * blocks.block) h.same ((k + 1) * blocks.block) up ∙ ap (fold_to acted start part) (sym b)))));
+    }

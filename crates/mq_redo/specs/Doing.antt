@@ -14,3 +14,13 @@ module _ {S C : Type 0} where
     pub count_is : length carries ≡ count
     pub times_are : times ≡ map time (carries_after acted start part 0 (min (count * blocks.block) blocks.n))
     pub behind : AreBehind acted start part blocks.block blocks.n carries
+
+  -- so many first blocks of an earlier run stay, since its jobs in them are the same: what was read of their carries, and the carries behind them and others
+  pub record AreStaying (time : C → ℕ) (acted : S → C → C) (start : C) (part : ℕ → S) (block first : ℕ) (times : List ℕ) (carries : List C) : Type 0 where
+    pub earlier : ℕ → S
+    pub jobs : ℕ
+    pub within : first * block ≤ jobs
+    pub same : (k : ℕ) → k < first * block → earlier k ≡ part k
+    pub times_are : times ≡ map time (carries_after acted start earlier 0 (first * block))
+    pub many : first ≤ length carries
+    pub behind : AreBehind acted start earlier block jobs carries

@@ -1,7 +1,7 @@
 // Blocks of a scan that are done again, from the carry behind those that stay.
 ghost use Rattle.std.specs.Prelude.{◌≡◌, ◌+◌, ◌-◌, ◌*◌, ◌<◌, ◌≤◌, ◌++◌, length, map, IfOk};
 ghost use Rattle.mq_scan.specs.Folds.{carries_after, fold_to};
-ghost use Rattle.mq_redo.specs.Doing.{AreDone};
+ghost use Rattle.mq_redo.specs.Doing.{AreDone, AreStaying};
 
 use mq_base::{List, OutOfMemory, Steps};
 use mq_scan::{Blocks, Step, Timed, apply};
@@ -91,4 +91,38 @@ pub fn redone<P: Timed, L: Ledger>(
         carries.push(carry)?;
     }
     Ok(Done { times, carries })
+}
+
+/// All blocks of a cut of a station's jobs, where so many first blocks of an earlier run stay: `times` is what was read
+/// of the carries of their jobs, and `carries` has the carry behind each of them, and perhaps behind others. The blocks
+/// behind them are done again, each with one step, also where memory runs out. It refuses for want of memory alone.
+pub fn redone_behind<P: Timed, L: Ledger>(
+    step: &P,
+    alloc: Global,
+    blocks: &Blocks,
+    times: Vec<u64>,
+    carries: &[P::Carry],
+    first: u32,
+    steps: &mut Steps<L>,
+) -> Result<Done<P::Carry>, OutOfMemory>
+    requires all { blocks.now.n ≡ P.size step.now }
+    requires few { blocks.now.block ≤ 65536 }
+    requires inside { first * blocks.now.block ≤ blocks.now.n }
+    requires stays { AreStaying (P.time_of step.now) P.acted (P.start step.now) (P.part step.now) blocks.now.block first times.items carries.now }
+    ensures done { IfOk result (λ done. AreDone (P.time_of step.now) P.acted (P.start step.now) (P.part step.now) blocks.now blocks.now.blocks done.times.items done.carries.items) }
+    ensures steps { steps.old ≤ steps.new }
+    ensures spent { steps.new + first ≤ steps.old + blocks.now.blocks }
+{
+    let mut kept = Vec::with_capacity(alloc, first as usize)?;
+    kept.extend_from_slice(&carries[..first as usize])?;
+    redone(
+        step,
+        alloc,
+        blocks,
+        Done {
+            times,
+            carries: kept,
+        },
+        steps,
+    )
 }

@@ -4,5 +4,5 @@
 mod blocks;
 mod lone;
 
-pub use blocks::{Done, redo_block, redone};
+pub use blocks::{Done, redo_block, redone, redone_behind};
 pub use lone::{DelayStep, RouteStep};
