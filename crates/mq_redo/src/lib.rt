@@ -2,7 +2,9 @@
 #![tactic(auto)]
 
 mod blocks;
+mod departures;
 mod lone;
 
 pub use blocks::{Done, redo_block, redone, redone_behind};
+pub use departures::departures_behind;
 pub use lone::{DelayStep, RouteStep};
