@@ -1,0 +1,37 @@
+use Rattle.std.proofs.Common.{◌≡◌, ◌∙◌, ◌*◌, ℕ, List, ap, length, map, min, refl, subst, sym}
+use Rattle.mq_core.specs.Handling.{demand_of_job}
+use Rattle.mq_core.specs.Recurrences.{lindley}
+use Rattle.mq_core.specs.declared.model.Kind.TheVariants.{Server}
+use Rattle.mq_maxplus.specs.Maxplus.{affine_act, mp_or_zero}
+use Rattle.mq_maxplus.specs.declared.mp.Mp.TheVariants.{Void}
+use Rattle.mq_redo.specs.Doing.{AreDone}
+use Rattle.mq_redo.specs.Staying.{HaveStayed}
+use Rattle.mq_scan.specs.Folds.{carries_after}
+use Rattle.mq_server.specs.Jobs.{job}
+use Rattle.mq_stations.proofs.lemmas.Blocks.{blocks-all}
+use Rattle.mq_stations.proofs.lemmas.Leaves.{load-sound, server-served}
+use Rattle.mq_rework.proofs.servers.served_again.Goals as goal
+
+pub new-step-requires : goal.new-step-requires
+new-step-requires g c = load-sound c.args.rows.now (Server c.args.demand.now) c.args.demand.now c.args.arrivals.now c.in_ok-demands.demands c.requires.load c.requires.load.told c.in_ok-demands.ensures
+
+pub returns-clause-served : goal.returns-clause-served
+returns-clause-served g c =
+    let step = c.new-step.result in
+    let blocks = c.args.blocks.now in
+    let all : min (blocks.blocks * blocks.block) blocks.n ≡ length step.arrive.now = blocks-all blocks ∙ (c.requires.all ∙ ap length (sym c.new-step.ensures.arrive)) in
+    server-served c.args.rows.now c.args.demand.now c.args.arrivals.now c.in_ok-demands.demands c.in_ok-done.done.times.items c.in_ok-demands.ensures
+    (c.in_ok-done.ensures.done.times_are ∙ (ap (λ (n : ℕ). map mp_or_zero (carries_after affine_act Void (job step.arrive.now step.demands.now) 0 n)) all ∙ (c.carries_are_departures.ensures ∙ (λ i. lindley 0 (c.new-step.ensures.arrive i) (c.new-step.ensures.demands i)))))
+
+pub returns-clause-marked : goal.returns-clause-marked
+returns-clause-marked g c =
+    let blocks = c.args.blocks.now in
+    let done = c.in_ok-done.done in
+    record {
+      blocks = blocks;
+      all = c.requires.all;
+      block_is = refl;
+      times = done.times.items;
+      fates_are = refl;
+      done = subst (λ (z : List ℕ × List ℕ). AreDone mp_or_zero affine_act Void (job z.0 z.1) blocks blocks.blocks done.times.items done.carries.items) (λ i. (c.new-step.ensures.arrive i, (c.new-step.ensures.demands ∙ c.in_ok-demands.ensures) i)) c.in_ok-done.ensures.done;
+    }

@@ -1,0 +1,9 @@
+//! A station whose arrivals differ from those of a kept run: the blocks before the first difference stay, and the others
+//! are done again.
+#![tactic(auto)]
+
+mod delays;
+mod servers;
+
+pub use delays::delayed_again;
+pub use servers::served_again;
