@@ -4,6 +4,8 @@
 
 mod delays;
 mod servers;
+mod tandems;
 
 pub use delays::delayed_again;
 pub use servers::served_again;
+pub use tandems::staged_again;
