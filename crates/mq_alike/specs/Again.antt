@@ -1,5 +1,5 @@
 -- How much of a run is done again after its rows were edited: in blocks, node by node.
-use Rattle.std.specs.Prelude.{◌+◌, ◌-◌, ◌/◌, ◌==◌, ◌&&◌, Bool, true, false, if◌then◌else◌, ℕ, suc, List, [], ◌∷◌, length, Option, None, Some, slice_get, sum_by}
+use Rattle.std.specs.Prelude.{◌≡◌, ◌<◌, ◌≤◌, ◌+◌, ◌-◌, ◌/◌, ◌==◌, ◌&&◌, Bool, true, false, if◌then◌else◌, ℕ, suc, List, [], ◌∷◌, length, Option, None, Some, slice_get, sum_by}
 use Rattle.std.specs.List.{list_all}
 use Rattle.mq_core.specs.Handling.{demand_of_job}
 use Rattle.mq_core.specs.Kinds.Split.{route_value}
@@ -99,3 +99,22 @@ again net old new block = sum_by (λ v. again_of block (slice_get net.nodes v) (
 
 abbrev pub all_blocks : Network → Rows → ℕ → ℕ
 all_blocks net rows block = sum_by (λ v. blocks_of block (slice_get net.nodes v) (coming_in net rows v)) (ranking net.nodes)
+
+-- a visit is in both runs at a position, and asks for the same in both
+pub record IsAlikeAt (kind : Kind) (old new : Coming) (k : ℕ) : Type 0 where
+  pub job : ℕ
+  pub arrive : ℕ
+  pub old_job : slice_get old.job k ≡ Some job
+  pub new_job : slice_get new.job k ≡ Some job
+  pub old_arrive : slice_get old.arrive k ≡ Some arrive
+  pub new_arrive : slice_get new.arrive k ≡ Some arrive
+  pub asks : asks_same old.rows new.rows kind job ≡ true
+
+-- the visits before the first difference are in both runs, and it comes no later than where one has ended
+pub record AlikeBelow (kind : Kind) (old new : Coming) : Type 0 where
+  pub each : (k : ℕ) → k < alike kind old new → IsAlikeAt kind old new k
+  pub old_few : alike kind old new ≤ length old.job
+  pub new_few : alike kind old new ≤ length new.job
+
+abbrev pub AlikeIsFirst : Type 0
+AlikeIsFirst = (kind : Kind) (old new : Coming) → AlikeBelow kind old new

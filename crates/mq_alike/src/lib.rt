@@ -2,5 +2,7 @@
 #![tactic(auto)]
 
 mod comparing;
+mod laws;
 
 pub use comparing::alike;
+pub use laws::alike_is_first;
