@@ -3,9 +3,11 @@
 #![tactic(auto)]
 
 mod delays;
+mod laws;
 mod servers;
 mod tandems;
 
 pub use delays::delayed_again;
+pub use laws::blocks_stay;
 pub use servers::served_again;
 pub use tandems::staged_again;
