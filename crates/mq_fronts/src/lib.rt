@@ -1,0 +1,8 @@
+//! A fork-join as a scan: its jobs act on the latest departure from each of its servers, one after another.
+#![tactic(auto)]
+
+mod fork;
+mod step;
+
+pub use fork::ForkJoinStep;
+pub use step::Jobs;
