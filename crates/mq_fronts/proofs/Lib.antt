@@ -1,1 +1,2 @@
+mod Departing
 pub mod Serving

@@ -47,7 +47,7 @@ spans_join s from n m le =
     (record { step = refl; meet = refl; first = omega arith; second = omega arith })
 
 -- the fold is what all jobs before an index make
-fold-is : (s : ForkJoinStep) (n : ℕ) → fold_to jobs_act (replicate 8 0) (one_job s) n ≡ range_run s.arrive.now s.begins.now s.demands.now 0 n (replicate 8 0)
+pub fold-is : (s : ForkJoinStep) (n : ℕ) → fold_to jobs_act (replicate 8 0) (one_job s) n ≡ range_run s.arrive.now s.begins.now s.demands.now 0 n (replicate 8 0)
 fold-is s zero = refl
 fold-is s (suc n) =
     let one : n + 1 - n ≡ 1 = omega arith in

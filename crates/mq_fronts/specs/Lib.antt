@@ -1,3 +1,4 @@
 pub mod Bounds
+pub mod Branches
 pub mod Fronts
 pub mod Runs

@@ -2,7 +2,9 @@
 #![tactic(auto)]
 
 mod fork;
+mod laws;
 mod step;
 
 pub use fork::ForkJoinStep;
+pub use laws::carries_hold_departures;
 pub use step::Jobs;
