@@ -1,2 +1,3 @@
 mod First
 mod Same
+mod Whole

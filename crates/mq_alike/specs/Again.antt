@@ -4,7 +4,9 @@ use Rattle.std.specs.List.{list_all}
 use Rattle.mq_core.specs.Handling.{demand_of_job}
 use Rattle.mq_core.specs.Kinds.Split.{route_value}
 use Rattle.mq_core.specs.NetworkRun.{run_in}
-use Rattle.mq_core.specs.SequenceLaws.{arrives_of, jobs_of}
+use Rattle.mq_core.specs.Came.{came_by}
+use Rattle.mq_core.specs.SequenceLaws.{arrives_of, jobs_of, sends_once}
+use Rattle.mq_core.specs.Sequences.{sequence_fates, sequence_outs}
 use Rattle.mq_core.specs.Wiring.{ranking}
 use Rattle.mq_core.specs.declared.model.Demand.{Demand}
 use Rattle.mq_core.specs.declared.model.Kind.{Kind}
@@ -118,3 +120,15 @@ pub record AlikeBelow (kind : Kind) (old new : Coming) : Type 0 where
 
 abbrev pub AlikeIsFirst : Type 0
 AlikeIsFirst = (kind : Kind) (old new : Coming) → AlikeBelow kind old new
+
+-- a run comes to a node with no difference: its sequences there are those of the other, by its arrivals and what they ask for
+pub record IsWhole (kind : Kind) (old new : Coming) : Type 0 where
+  pub jobs : old.job ≡ new.job
+  pub arrives : old.arrive ≡ new.arrive
+  pub fates : sequence_fates old.rows kind (came_by old.job old.arrive) ≡ sequence_fates new.rows kind (came_by new.job new.arrive)
+  pub outs : sequence_outs old.rows kind (came_by old.job old.arrive) ≡ sequence_outs new.rows kind (came_by new.job new.arrive)
+
+abbrev pub SequencesStay : Type 0
+SequencesStay =
+    (kind : Kind) (old new : Coming) → sends_once kind ≡ true → length old.arrive ≡ length old.job → length new.arrive ≡ length new.job →
+    alike kind old new ≡ length old.job → alike kind old new ≡ length new.job → IsWhole kind old new
