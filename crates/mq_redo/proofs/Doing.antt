@@ -58,13 +58,13 @@ block-some blocks b from to l begins ends =
     let next : (b + 1) * blocks.block ≡ b * blocks.block + blocks.block = omega arith in
     omega arith
 
--- Jobs that are the same below an index: the carries up to it.
-module _ {S C : Type 0} (acted : S → C → C) (start : C) (earlier part : ℕ → S) (end : ℕ) (same : (k : ℕ) → k < end → earlier k ≡ part k) where
-  pub fold-same : (n : ℕ) → n ≤ end → fold_to acted start earlier n ≡ fold_to acted start part n
+-- Jobs that do the same below an index: the carries up to it.
+module _ {S C : Type 0} (acted : S → C → C) (start : C) (does : ℕ → C → C) (part : ℕ → S) (end : ℕ) (same : (k : ℕ) → k < end → (c : C) → does k c ≡ acted (part k) c) where
+  pub fold-same : (n : ℕ) → n ≤ end → fold_to does start (λ k. k) n ≡ fold_to acted start part n
   fold-same zero l = refl
-  fold-same (suc n) l = (λ i. acted (same n (omega arith) i) (fold-same n (omega arith) i))
+  fold-same (suc n) l = ap (does n) (fold-same n (omega arith)) ∙ same n (omega arith) (fold_to acted start part n)
 
-  pub carries-same : (from n : ℕ) → from + n ≤ end → carries_after acted start earlier from n ≡ carries_after acted start part from n
+  pub carries-same : (from n : ℕ) → from + n ≤ end → carries_after does start (λ k. k) from n ≡ carries_after acted start part from n
   carries-same from zero l = refl
   carries-same from (suc n) l = (λ i. fold-same (suc from) (omega arith) i ∷ carries-same (suc from) n (omega arith) i)
 
@@ -77,12 +77,12 @@ staying-done time acted start part blocks first times carries kept inside h is =
     let count : length kept ≡ first = ap length is ∙ length-take-le first carries many in
     record {
       count_is = count;
-      times_are = h.times_are ∙ (ap (map time) (carries-same acted start h.earlier part (first * blocks.block) h.same 0 (first * blocks.block) (omega arith)) ∙ ap (λ (n : ℕ). map time (carries_after acted start part 0 n)) (sym end));
+      times_are = h.times_are ∙ (ap (map time) (carries-same acted start h.does part (first * blocks.block) h.same 0 (first * blocks.block) (omega arith)) ∙ ap (λ (n : ℕ). map time (carries_after acted start part 0 n)) (sym end));
       behind = λ k d l.
           let within = h.within in
           let less : k < first = omega arith in
           let up : (k + 1) * blocks.block ≤ first * blocks.block = mul-le-mul_right blocks.block (omega arith) in
           let a : min ((k + 1) * blocks.block) h.jobs ≡ (k + 1) * blocks.block = omega arith in
           let b : min ((k + 1) * blocks.block) blocks.n ≡ (k + 1) * blocks.block = omega arith in
-          ap (λ (cs : List _). get_or cs k d) is ∙ (get_or-take first carries k d less ∙ (h.behind k d (omega arith) ∙ (ap (fold_to acted start h.earlier) a ∙ (fold-same acted start h.earlier part (first * blocks.block) h.same ((k + 1) * blocks.block) up ∙ ap (fold_to acted start part) (sym b)))));
+          ap (λ (cs : List _). get_or cs k d) is ∙ (get_or-take first carries k d less ∙ (h.behind k d (omega arith) ∙ (ap (fold_to h.does start (λ k. k)) a ∙ (fold-same acted start h.does part (first * blocks.block) h.same ((k + 1) * blocks.block) up ∙ ap (fold_to acted start part) (sym b)))));
     }

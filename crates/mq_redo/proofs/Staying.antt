@@ -6,8 +6,8 @@ use Rattle.mq_core.specs.declared.model.Fate.TheVariants.{Departs, Held, Lost}
 use Rattle.mq_scan.specs.Folds.{carries_after, fold_to}
 use Rattle.mq_scan.specs.declared.blocks.Blocks.{Blocks}
 use Rattle.mq_redo.specs.Doing.{AreBehind, AreDone, AreStaying}
-use Rattle.mq_redo.specs.Staying.{HaveStayed, IsMarked}
-use Rattle.mq_redo.proofs.Doing.{kept-few}
+use Rattle.mq_redo.specs.Staying.{DoneTellsJobs, HaveStayed, IsMarked}
+use Rattle.mq_redo.proofs.Doing.{carries-same, fold-same, kept-few}
 
 module _ {S C : Type 0} (time : C → ℕ) (acted : S → C → C) (start : C) (part : ℕ → S) where
   -- what is read of the first carries of a range
@@ -36,15 +36,15 @@ staying time acted start part block first fates carries times h is =
     let first_in : first * m.blocks.block ≤ m.blocks.n = subst (λ (b : ℕ). first * b ≤ m.blocks.n) (sym size) (subst (λ (n : ℕ). first * block ≤ n) (sym n_is) within) in
     let few = kept-few m.blocks first first_in in
     let count = m.done.count_is in
-    let all : m.times ≡ map time (carries_after acted start h.earlier 0 m.blocks.n) = m.done.times_are ∙ ap (λ (n : ℕ). map time (carries_after acted start h.earlier 0 n)) (marked-all time acted start h.earlier m.blocks) in
+    let all : m.times ≡ map time (carries_after h.does start (λ k. k) 0 m.blocks.n) = m.done.times_are ∙ ap (λ (n : ℕ). map time (carries_after h.does start (λ k. k) 0 n)) (marked-all time h.does start (λ k. k) m.blocks) in
     record {
-      earlier = h.earlier;
+      does = h.does;
       jobs = h.jobs;
       within = within;
       same = h.same;
-      times_are = is ∙ (ap (take (first * block)) all ∙ times-take time acted start h.earlier 0 m.blocks.n (first * block) (omega arith));
+      times_are = is ∙ (ap (take (first * block)) all ∙ times-take time h.does start (λ k. k) 0 m.blocks.n (first * block) (omega arith));
       many = omega arith;
-      behind = subst (λ (n : ℕ). AreBehind acted start h.earlier block n carries) n_is (subst (λ (b : ℕ). AreBehind acted start h.earlier b m.blocks.n carries) size m.done.behind);
+      behind = subst (λ (n : ℕ). AreBehind h.does start (λ k. k) block n carries) n_is (subst (λ (b : ℕ). AreBehind h.does start (λ k. k) b m.blocks.n carries) size m.done.behind);
     }
 
 -- so many visits depart
@@ -54,8 +54,8 @@ staying-many time acted start part block first fates carries h =
     let m = h.marked in
     let within = h.within in
     let n_is = m.all in
-    let all : m.times ≡ map time (carries_after acted start h.earlier 0 m.blocks.n) = m.done.times_are ∙ ap (λ (n : ℕ). map time (carries_after acted start h.earlier 0 n)) (marked-all time acted start h.earlier m.blocks) in
-    let many : length m.times ≡ m.blocks.n = ap length all ∙ times-many time acted start h.earlier 0 m.blocks.n in
+    let all : m.times ≡ map time (carries_after h.does start (λ k. k) 0 m.blocks.n) = m.done.times_are ∙ ap (λ (n : ℕ). map time (carries_after h.does start (λ k. k) 0 n)) (marked-all time h.does start (λ k. k) m.blocks) in
+    let many : length m.times ≡ m.blocks.n = ap length all ∙ times-many time h.does start (λ k. k) 0 m.blocks.n in
     omega arith
 
 -- a visit of those that all depart
@@ -71,3 +71,22 @@ departs_inj a b e = ap time_in e
     time_in (Departs time) = time
     time_in Lost = 0
     time_in Held = 0
+
+-- blocks that are done tell what their jobs make of carries
+module _ {S C : Type 0} (time : C → ℕ) (acted : S → C → C) (start : C) (part : ℕ → S) where
+  abbrev does_by : ℕ → C → C
+  does_by k c = acted (part k) c
+
+  pub done-tells : DoneTellsJobs time acted start part
+  done-tells blocks fates times carries is h = record {
+    blocks = blocks;
+    all = refl;
+    block_is = refl;
+    times = times;
+    fates_are = is;
+    done = record {
+      count_is = h.count_is;
+      times_are = h.times_are ∙ ap (map time) (sym (carries-same acted start does_by part (min (blocks.blocks * blocks.block) blocks.n) (λ k l c. refl) 0 (min (blocks.blocks * blocks.block) blocks.n) (omega arith)));
+      behind = λ k d l. h.behind k d l ∙ sym (fold-same acted start does_by part (min ((k + 1) * blocks.block) blocks.n) (λ j m c. refl) (min ((k + 1) * blocks.block) blocks.n) (omega arith));
+    };
+  }

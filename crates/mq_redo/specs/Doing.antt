@@ -15,12 +15,12 @@ module _ {S C : Type 0} where
     pub times_are : times ≡ map time (carries_after acted start part 0 (min (count * blocks.block) blocks.n))
     pub behind : AreBehind acted start part blocks.block blocks.n carries
 
-  -- so many first blocks of an earlier run stay, since its jobs in them are the same: what was read of their carries, and the carries behind them and others
+  -- so many first blocks of an earlier run stay, since its jobs in them do the same: what was read of their carries, and the carries behind them and others
   pub record AreStaying (time : C → ℕ) (acted : S → C → C) (start : C) (part : ℕ → S) (block first : ℕ) (times : List ℕ) (carries : List C) : Type 0 where
-    pub earlier : ℕ → S
+    pub does : ℕ → C → C
     pub jobs : ℕ
     pub within : first * block ≤ jobs
-    pub same : (k : ℕ) → k < first * block → earlier k ≡ part k
-    pub times_are : times ≡ map time (carries_after acted start earlier 0 (first * block))
+    pub same : (k : ℕ) → k < first * block → (c : C) → does k c ≡ acted (part k) c
+    pub times_are : times ≡ map time (carries_after does start (λ k. k) 0 (first * block))
     pub many : first ≤ length carries
-    pub behind : AreBehind acted start earlier block jobs carries
+    pub behind : (k : ℕ) (d : C) → k < length carries → slice_index_or carries k d ≡ fold_to does start (λ k. k) (min ((k + 1) * block) jobs)

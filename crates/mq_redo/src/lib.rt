@@ -3,8 +3,10 @@
 
 mod blocks;
 mod departures;
+mod laws;
 mod lone;
 
 pub use blocks::{Done, redo_block, redone, redone_behind};
 pub use departures::departures_behind;
+pub use laws::done_tells_jobs;
 pub use lone::{DelayStep, RouteStep};
