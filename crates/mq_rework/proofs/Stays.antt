@@ -13,10 +13,10 @@ use Rattle.mq_core.specs.declared.model.Fate.{Fate}
 use Rattle.mq_core.specs.declared.model.Kind.TheVariants.{Delay, Server, Tandem}
 use Rattle.mq_core.specs.declared.model.Rows.{Rows}
 use Rattle.mq_core.specs.declared.model.Stage.{Stage}
-use Rattle.mq_maxplus.specs.Maxplus.{affine, mp_plus}
-use Rattle.mq_maxplus.specs.Matrices.{entry, unit_matrix}
+use Rattle.mq_maxplus.specs.Maxplus.{affine, affine_act, mp_plus}
+use Rattle.mq_maxplus.specs.Matrices.{entry, matrix_act, unit_matrix}
 use Rattle.mq_maxplus.specs.declared.mp.Mp.TheVariants.{At}
-use Rattle.mq_rework.specs.Delays.{delay_job}
+use Rattle.mq_rework.specs.Delays.{delay_job, latest_alone}
 use Rattle.mq_rework.specs.Stages.{asks_at_stages, places_of}
 use Rattle.mq_rework.specs.Stays.{DelaysStay, ServersStay, TandemsStay}
 use Rattle.mq_server.specs.Jobs.{job}
@@ -57,15 +57,15 @@ module _ (law : AlikeIsFirst) where
       let below = law (Server demand) old new in
       let few = below.old_few in
       record {
-        earlier = job old.arrive (map (demand_of_job old.rows demand) old.job);
+        does = λ k last. affine_act (job old.arrive (map (demand_of_job old.rows demand) old.job) k) last;
         jobs = length old.arrive;
         marked = marked;
         within = omega arith;
-        same = λ k l.
+        same = λ k l c.
             let h = below.each k (omega arith) in
             let d = one-same demand old new k h.job h.old_job h.new_job h.asks in
             let a = arrive-same old new k h.arrive h.old_arrive h.new_arrive in
-            (λ i. affine (d i) (At (a i + d i)));
+            (λ i. affine_act (affine (d i) (At (a i + d i))) c);
       }
 
   pub delays-stay : DelaysStay
@@ -73,11 +73,11 @@ module _ (law : AlikeIsFirst) where
       let below = law (Delay demand) old new in
       let few = below.old_few in
       record {
-        earlier = delay_job old.arrive (map (demand_of_job old.rows demand) old.job);
+        does = λ k last. latest_alone (delay_job old.arrive (map (demand_of_job old.rows demand) old.job) k) last;
         jobs = length old.arrive;
         marked = marked;
         within = omega arith;
-        same = λ k l.
+        same = λ k l c.
             let h = below.each k (omega arith) in
             let d = one-same demand old new k h.job h.old_job h.new_job h.asks in
             let a = arrive-same old new k h.arrive h.old_arrive h.new_arrive in
@@ -90,14 +90,14 @@ module _ (law : AlikeIsFirst) where
       let few = below.old_few in
       let asked = map (λ (stage : Stage). stage.demand) stages in
       record {
-        earlier = job_matrix (places_of stages) old.arrive (asks_at_stages old.rows stages old.job);
+        does = λ k rows. matrix_act (job_matrix (places_of stages) old.arrive (asks_at_stages old.rows stages old.job) k) rows;
         jobs = length old.arrive;
         marked = marked;
         within = omega arith;
-        same = λ k l.
+        same = λ k l c.
             let h = below.each k (omega arith) in
             let d : firsts (map (drop k) (asks_at_stages old.rows stages old.job)) ≡ firsts (map (drop k) (asks_at_stages new.rows stages new.job)) =
             asked-firsts old.rows asked old.job k h.job h.old_job ∙ (asked-same old.rows new.rows h.job stages h.asks ∙ sym (asked-firsts new.rows asked new.job k h.job h.new_job)) in
             let a = arrive-same old new k h.arrive h.old_arrive h.new_arrive in
-            (λ i. map (λ rows. passed (mp_plus (entry rows (zero_row (places_of stages))) (At (a i))) (kept (places_of stages)) (d i) rows) (unit_matrix (zero_row (places_of stages) + 1)));
+            (λ i. matrix_act (map (λ rows. passed (mp_plus (entry rows (zero_row (places_of stages))) (At (a i))) (kept (places_of stages)) (d i) rows) (unit_matrix (zero_row (places_of stages) + 1))) c);
       }

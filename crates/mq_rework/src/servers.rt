@@ -5,14 +5,15 @@ ghost use Rattle.mq_core.specs.declared.model.Fate.TheVariants.{Departs};
 ghost use Rattle.mq_core.specs.declared.model.Kind.TheVariants.{Server};
 ghost use Rattle.mq_maxplus.specs.Maxplus.{affine_act, mp_or_zero};
 ghost use Rattle.mq_maxplus.specs.declared.mp.Mp.TheVariants.{Void};
-ghost use Rattle.mq_redo.specs.Staying.{HaveStayed, IsMarked};
+ghost use Rattle.mq_redo.specs.Staying.{HaveStayed};
 ghost use Rattle.mq_server.specs.Jobs.{job};
+ghost use Rattle.mq_rework.specs.Stays.{IsMarkedServer, coming_as};
 ghost use Rattle.mq_stations.specs.Leaving.{AreServed, IsLoad};
 
 use mq_base::{OutOfMemory, Steps};
 use mq_core::{Demand, Fates, Rows, Stream};
 use mq_maxplus::Mp;
-use mq_redo::{Done, departures_behind};
+use mq_redo::{Done, departures_behind, done_tells_jobs};
 use mq_scan::Blocks;
 use mq_server::{ServerStep, carries_are_departures};
 use mq_stations::demands_of;
@@ -38,13 +39,14 @@ pub fn served_again<L: Ledger>(
     requires inside { first * blocks.now.block ≤ blocks.now.n }
     requires stays { HaveStayed mp_or_zero affine_act Void (job arrivals.now.time (map (demand_of_job rows.now demand.now) arrivals.now.job)) blocks.now.block first fates.now carries.now }
     ensures served { IfOk result (λ done. AreServed rows.now (Server demand.now) arrivals.now done.times.items) }
-    ensures marked { IfOk result (λ done. IsMarked mp_or_zero affine_act Void (job arrivals.now.time (map (demand_of_job rows.now demand.now) arrivals.now.job)) (length arrivals.now.time) blocks.now.block (map (λ time. Departs time) done.times.items) done.carries.items) }
+    ensures marked { IfOk result (λ done. IsMarkedServer demand.now (coming_as rows.now arrivals.now) blocks.now.block (map (λ time. Departs time) done.times.items) done.carries.items) }
     ensures steps { steps.old ≤ steps.new }
     ensures spent { steps.new + first ≤ steps.old + blocks.now.blocks }
 {
     let demands = demands_of(alloc, rows, demand, &arrivals.job)?;
     let step = ServerStep::new(arrivals, &demands);
     carries_are_departures(&step);
+    done_tells_jobs(&step);
     let done = departures_behind(&step, alloc, blocks, fates, carries, first, steps)?;
     Ok(done)
 }

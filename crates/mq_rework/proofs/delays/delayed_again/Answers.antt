@@ -1,7 +1,8 @@
 use Rattle.std.proofs.Common.{◌≡◌, ◌∙◌, ◌*◌, ℕ, List, ap, length, map, min, refl, subst, sym}
 use Rattle.mq_core.specs.Recurrences.{delayed}
+use Rattle.mq_core.specs.declared.model.Fate.TheVariants.{Departs}
 use Rattle.mq_core.specs.declared.model.Kind.TheVariants.{Delay}
-use Rattle.mq_redo.specs.Doing.{AreDone}
+use Rattle.mq_redo.specs.Staying.{HaveStayed, IsMarked}
 use Rattle.mq_scan.specs.Folds.{carries_after}
 use Rattle.mq_stations.proofs.lemmas.Blocks.{blocks-all}
 use Rattle.mq_stations.proofs.lemmas.Leaves.{delay-departs, load-sound}
@@ -25,11 +26,6 @@ pub returns-clause-marked : goal.returns-clause-marked
 returns-clause-marked g c =
     let blocks = c.args.blocks.now in
     let done = c.in_ok-done.done in
-    record {
-      blocks = blocks;
-      all = c.requires.all;
-      block_is = refl;
-      times = done.times.items;
-      fates_are = refl;
-      done = subst (λ (z : List ℕ × List ℕ). AreDone own_time latest_alone 0 (delay_job z.0 z.1) blocks blocks.blocks done.times.items done.carries.items) (λ i. (c.new-step.ensures.arrive i, (c.new-step.ensures.demands ∙ c.in_ok-demands.ensures) i)) c.in_ok-done.ensures.done;
-    }
+    subst (λ (z : List ℕ × List ℕ × ℕ). IsMarked own_time (λ k last. latest_alone (delay_job z.0 z.1 k) last) 0 z.2 blocks.block (map (λ time. Departs time) done.times.items) done.carries.items)
+    (λ i. (c.new-step.ensures.arrive i, (c.new-step.ensures.demands ∙ c.in_ok-demands.ensures) i, c.requires.all i))
+    (c.done_tells_jobs.ensures blocks _ done.times.items done.carries.items refl c.in_ok-done.ensures.done)

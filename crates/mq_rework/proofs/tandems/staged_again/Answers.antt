@@ -1,11 +1,11 @@
 use Rattle.std.proofs.Common.{◌≡◌, ◌∙◌, ◌*◌, [], ℕ, List, ap, length, map, min, refl, subst, sym}
 use Rattle.mq_core.specs.Handling.{demand_of_job}
 use Rattle.mq_core.specs.Recurrences.{tandem_departs}
+use Rattle.mq_core.specs.declared.model.Fate.TheVariants.{Departs}
 use Rattle.mq_core.specs.declared.model.Kind.TheVariants.{Tandem}
 use Rattle.mq_maxplus.specs.Matrices.{matrix_act}
-use Rattle.mq_redo.specs.Doing.{AreDone}
-use Rattle.mq_redo.specs.Staying.{HaveStayed}
 use Rattle.mq_rework.specs.Stages.{asks_at_stages, last_departure, places_of}
+use Rattle.mq_redo.specs.Staying.{HaveStayed, IsMarked}
 use Rattle.mq_scan.specs.Folds.{carries_after}
 use Rattle.mq_stations.proofs.lemmas.Blocks.{blocks-all}
 use Rattle.mq_stations.proofs.lemmas.StageFacts.{demands-told, loads-sound, stages-are, tandem-served}
@@ -55,11 +55,6 @@ returns-clause-marked g c =
     let done = c.in_ok-done.done in
     let p : c.new-step.result.places.now ≡ places_of c.args.stages.now = step.places ∙ scan.places in
     let d : c.new-step.result.demands.now ≡ asks_at_stages rows c.args.stages.now jobs = step.demands ∙ (scan.demands ∙ ap (map (λ demand. map (demand_of_job rows demand) jobs)) scan.asks) in
-    record {
-      blocks = blocks;
-      all = c.requires.all;
-      block_is = refl;
-      times = done.times.items;
-      fates_are = refl;
-      done = subst (λ (z : List ℕ × List ℕ × List (List ℕ)). AreDone (last_departure z.0) matrix_act (none_kept z.0) (job_matrix z.0 z.1 z.2) blocks blocks.blocks done.times.items done.carries.items) (λ i. (p i, step.arrive i, d i)) c.in_ok-done.ensures.done;
-    }
+    subst (λ (z : List ℕ × List ℕ × List (List ℕ) × ℕ). IsMarked (last_departure z.0) (λ k rows. matrix_act (job_matrix z.0 z.1 z.2 k) rows) (none_kept z.0) z.3 blocks.block (map (λ time. Departs time) done.times.items) done.carries.items)
+    (λ i. (p i, step.arrive i, d i, c.requires.all i))
+    (c.done_tells_jobs.ensures blocks _ done.times.items done.carries.items refl c.in_ok-done.ensures.done)
