@@ -46,6 +46,13 @@ spans_join s from n m le =
     subst (λ (z : Jobs × Jobs). CanJoin z.0 z.1) (λ i. (sym (span-is s from n) i, sym (span-is s (from + n + 1) m) i))
     (record { step = refl; meet = refl; first = omega arith; second = omega arith })
 
+-- what one job makes of the latest departures
+pub one-acts : (s : ForkJoinStep) (k : ℕ) (last : List ℕ) → jobs_act (one_job s k) last ≡ job_run (get_or s.arrive.now k 0) 0 s.begins.now (asked_at s.demands.now k) last
+one-acts s k last =
+    let one : k + 1 - k ≡ 1 = omega arith in
+    let index : k + 0 ≡ k = omega arith in
+    ap (λ (n : ℕ). range_run s.arrive.now s.begins.now s.demands.now k n last) one ∙ (λ i. job_run (get_or s.arrive.now (index i) 0) 0 s.begins.now (asked_at s.demands.now (index i)) last)
+
 -- the fold is what all jobs before an index make
 pub fold-is : (s : ForkJoinStep) (n : ℕ) → fold_to jobs_act (replicate 8 0) (one_job s) n ≡ range_run s.arrive.now s.begins.now s.demands.now 0 n (replicate 8 0)
 fold-is s zero = refl

@@ -11,13 +11,14 @@ abbrev pub servers_of : List (List (List ℕ)) → List (List ℕ)
 servers_of branches = flat_map (λ branch. branch) branches
 
 -- of each server of a branch, and of all, whether it is the first of its branch
-abbrev pub begins_in : List (List ℕ) → List Bool
-begins_in [] = []
-begins_in (column ∷ columns) = true ∷ map (λ _. false) columns
+module _ {X : Type 0} where
+  abbrev pub begins_in : List X → List Bool
+  begins_in [] = []
+  begins_in (server ∷ servers) = true ∷ map (λ _. false) servers
 
-abbrev pub begins_of : List (List (List ℕ)) → List Bool
-begins_of [] = []
-begins_of (branch ∷ branches) = begins_in branch ++ begins_of branches
+  abbrev pub begins_of : List (List X) → List Bool
+  begins_of [] = []
+  begins_of (branch ∷ branches) = begins_in branch ++ begins_of branches
 
 -- the carries of the scan of a fork-join of these branches, of which one has a server, are its departures
 abbrev pub CarriesHoldDepartures : ForkJoinStep → Type 0

@@ -26,14 +26,14 @@ use Rattle.mq_tandem.specs.Rows.{job_matrix, kept, passed, zero_row}
 map-get : {X Y : Type 0} (f : X → Y) (xs : List X) (k : ℕ) (x : X) → slice_get xs k ≡ Some x → slice_get (map f xs) k ≡ Some (f x)
 map-get f xs k x e = slice_get-map f xs k ∙ ap (option_map f) e
 
-map-index : (f : ℕ → ℕ) (xs : List ℕ) (k x : ℕ) → slice_get xs k ≡ Some x → get_or (map f xs) k 0 ≡ f x
+pub map-index : (f : ℕ → ℕ) (xs : List ℕ) (k x : ℕ) → slice_get xs k ≡ Some x → get_or (map f xs) k 0 ≡ f x
 map-index f xs k x e = get_or_from_slice_get (map f xs) k (f x) 0 (map-get f xs k x e)
 
 -- one demand, of a visit in both runs
 one-same : (demand : Demand) (old new : Coming) (k j : ℕ) → slice_get old.job k ≡ Some j → slice_get new.job k ≡ Some j → same_demand old.rows new.rows j demand ≡ true → get_or (map (demand_of_job old.rows demand) old.job) k 0 ≡ get_or (map (demand_of_job new.rows demand) new.job) k 0
 one-same demand old new k j a b e = map-index (demand_of_job old.rows demand) old.job k j a ∙ (eqb-true (demand_of_job old.rows demand j) (demand_of_job new.rows demand j) e ∙ sym (map-index (demand_of_job new.rows demand) new.job k j b))
 
-arrive-same : (old new : Coming) (k t : ℕ) → slice_get old.arrive k ≡ Some t → slice_get new.arrive k ≡ Some t → get_or old.arrive k 0 ≡ get_or new.arrive k 0
+pub arrive-same : (old new : Coming) (k t : ℕ) → slice_get old.arrive k ≡ Some t → slice_get new.arrive k ≡ Some t → get_or old.arrive k 0 ≡ get_or new.arrive k 0
 arrive-same old new k t a b = get_or_from_slice_get old.arrive k t 0 a ∙ sym (get_or_from_slice_get new.arrive k t 0 b)
 
 -- the demands of a job at all stages

@@ -1,3 +1,4 @@
+pub mod Branching
 pub mod Delays
 pub mod Stages
 pub mod Stays

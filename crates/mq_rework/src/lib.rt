@@ -3,11 +3,13 @@
 #![tactic(auto)]
 
 mod delays;
+mod forkjoins;
 mod laws;
 mod servers;
 mod tandems;
 
 pub use delays::delayed_again;
+pub use forkjoins::branched_again;
 pub use laws::blocks_stay;
 pub use servers::served_again;
 pub use tandems::staged_again;
