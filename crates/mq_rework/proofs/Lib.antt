@@ -1,3 +1,5 @@
 mod Alone
 mod Branched
+mod Parts
+mod Routed
 mod Stays

@@ -1,4 +1,5 @@
 pub mod Branching
 pub mod Delays
+pub mod Routing
 pub mod Stages
 pub mod Stays

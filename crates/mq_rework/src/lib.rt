@@ -6,10 +6,12 @@ mod delays;
 mod forkjoins;
 mod laws;
 mod servers;
+mod splits;
 mod tandems;
 
 pub use delays::delayed_again;
 pub use forkjoins::branched_again;
 pub use laws::blocks_stay;
 pub use servers::served_again;
+pub use splits::{Rerouted, routed_again};
 pub use tandems::staged_again;
