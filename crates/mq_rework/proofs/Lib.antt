@@ -1,5 +1,6 @@
 mod Alone
 mod Branched
+mod Holding
 mod Parts
 mod Routed
 mod Stays

@@ -2,6 +2,7 @@
 //! are done again.
 #![tactic(auto)]
 
+mod counts;
 mod delays;
 mod forkjoins;
 mod laws;
@@ -9,6 +10,7 @@ mod servers;
 mod splits;
 mod tandems;
 
+pub use counts::{blocks_hold, counted};
 pub use delays::delayed_again;
 pub use forkjoins::branched_again;
 pub use laws::blocks_stay;
