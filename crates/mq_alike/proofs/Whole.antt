@@ -6,9 +6,10 @@ use Rattle.mq_core.specs.Came.{came_by}
 use Rattle.mq_core.specs.Handling.{demand_of_job}
 use Rattle.mq_core.specs.Kinds.ForkJoin.{branch_demands}
 use Rattle.mq_core.specs.Kinds.Split.{output_at, route_value, routes_from}
-use Rattle.mq_core.specs.OnceOut.{out_of_fate}
+use Rattle.mq_core.specs.KindTable.{behaviour_of}
+use Rattle.mq_core.specs.OnceOut.{founds_of, once_out, out_of_fate}
 use Rattle.mq_core.specs.Recurrences.{delayed, forkjoin_departs, lindley, loss_fates, tandem_departs, trunk_fates}
-use Rattle.mq_core.specs.SequenceLaws.{sends_once}
+use Rattle.mq_core.specs.SequenceLaws.{SequencesGoByFates, sends_once}
 use Rattle.mq_core.specs.Sequences.{sequence_fates, sequence_outs}
 use Rattle.mq_core.specs.declared.model.Demand.{Demand}
 use Rattle.mq_core.specs.declared.model.Fate.TheVariants.{Departs}
@@ -112,12 +113,19 @@ outs-same (Fork outputs) rows rows' jobs arrives once h = absurd cc
 outs-same Join rows rows' jobs arrives once h = absurd cc
 outs-same (Trunk servers demand) rows rows' jobs arrives once h = ap (λ ds. map out_of_fate (trunk_fates servers [] arrives ds)) (one-each rows rows' demand jobs h)
 
-pub whole : SequencesStay
-whole kind old new once a b c d =
+pub whole : SequencesGoByFates → SequencesStay
+whole law kind old new once a b c d =
     let s = all-same kind old.rows new.rows old.job old.arrive new.job new.arrive a b c d in
+    let fates = fates-same kind old.rows new.rows old.job old.arrive once s.ask ∙ (λ i. sequence_fates new.rows kind (came_by (s.jobs_are i) (s.arrives_are i))) in
+    let outs = outs-same kind old.rows new.rows old.job old.arrive once s.ask ∙ (λ i. sequence_outs new.rows kind (came_by (s.jobs_are i) (s.arrives_are i))) in
+    let before = law old.rows kind (came_by old.job old.arrive) once in
+    let after = law new.rows kind (came_by new.job new.arrive) once in
+    let founds = before.founds ∙ ((λ i. founds_of (s.arrives_are i) (fates i)) ∙ sym after.founds) in
     record {
       jobs = s.jobs_are;
       arrives = s.arrives_are;
-      fates = fates-same kind old.rows new.rows old.job old.arrive once s.ask ∙ (λ i. sequence_fates new.rows kind (came_by (s.jobs_are i) (s.arrives_are i)));
-      outs = outs-same kind old.rows new.rows old.job old.arrive once s.ask ∙ (λ i. sequence_outs new.rows kind (came_by (s.jobs_are i) (s.arrives_are i)));
+      fates = fates;
+      outs = outs;
+      visits = (λ i. record { job = s.jobs_are i; arrive = s.arrives_are i; found = founds i; fate = fates i });
+      stream = λ out. before.stream out ∙ ((λ i. once_out (behaviour_of kind).order (came_by (s.jobs_are i) (s.arrives_are i)) (fates i) (outs i) out) ∙ sym (after.stream out));
     }

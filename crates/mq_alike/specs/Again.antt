@@ -6,7 +6,7 @@ use Rattle.mq_core.specs.Kinds.Split.{route_value}
 use Rattle.mq_core.specs.NetworkRun.{run_in}
 use Rattle.mq_core.specs.Came.{came_by}
 use Rattle.mq_core.specs.SequenceLaws.{arrives_of, jobs_of, sends_once}
-use Rattle.mq_core.specs.Sequences.{sequence_fates, sequence_outs}
+use Rattle.mq_core.specs.Sequences.{sequence_fates, sequence_outs, sequence_stream, sequence_visits}
 use Rattle.mq_core.specs.Wiring.{ranking}
 use Rattle.mq_core.specs.declared.model.Demand.{Demand}
 use Rattle.mq_core.specs.declared.model.Kind.{Kind}
@@ -127,6 +127,8 @@ pub record IsWhole (kind : Kind) (old new : Coming) : Type 0 where
   pub arrives : old.arrive ≡ new.arrive
   pub fates : sequence_fates old.rows kind (came_by old.job old.arrive) ≡ sequence_fates new.rows kind (came_by new.job new.arrive)
   pub outs : sequence_outs old.rows kind (came_by old.job old.arrive) ≡ sequence_outs new.rows kind (came_by new.job new.arrive)
+  pub visits : sequence_visits old.rows kind (came_by old.job old.arrive) ≡ sequence_visits new.rows kind (came_by new.job new.arrive)
+  pub stream : (out : ℕ) → sequence_stream old.rows kind (came_by old.job old.arrive) out ≡ sequence_stream new.rows kind (came_by new.job new.arrive) out
 
 abbrev pub SequencesStay : Type 0
 SequencesStay =

@@ -1,13 +1,17 @@
 // The laws of what is the same in two runs.
 ghost use Rattle.mq_alike.specs.Again.{AlikeIsFirst, SequencesStay};
 
+use mq_core::sequences_go_by_fates;
+
 /// The visits before the first difference of two runs are the same in both. It does nothing when it runs.
 pub fn alike_is_first()
     ensures { AlikeIsFirst }
 {}
 
-/// Where two runs have no difference at a node that lets each job out once, alone, its fates and outputs are the same. It
+/// Where two runs have no difference at a node that lets each job out once, alone, its visits and streams are the same. It
 /// does nothing when it runs.
 pub fn sequences_stay()
     ensures { SequencesStay }
-{}
+{
+    sequences_go_by_fates();
+}
