@@ -90,3 +90,18 @@ module _ {S C : Type 0} (time : C → ℕ) (acted : S → C → C) (start : C) (
       behind = λ k d l. h.behind k d l ∙ sym (fold-same acted start does_by part (min ((k + 1) * blocks.block) blocks.n) (λ j m c. refl) (min ((k + 1) * blocks.block) blocks.n) (omega arith));
     };
   }
+
+-- what is kept of a node without visits
+pub marked-none : {C : Type 0} (time : C → ℕ) (does : ℕ → C → C) (start : C) (block : ℕ) → 1 ≤ block → IsMarked time does start 0 block [] []
+marked-none time does start block some = record {
+  blocks = record { n = 0; block = block; blocks = 0; some = some; all = omega arith; none_more = omega arith };
+  all = refl;
+  block_is = refl;
+  times = [];
+  fates_are = refl;
+  done = record {
+    count_is = refl;
+    times_are = ap (λ (n : ℕ). map time (carries_after does start (λ k. k) 0 n)) {x = 0} {y = min (0 * block) 0} (omega arith);
+    behind = λ k d l. absurd (omega arith);
+  };
+}
