@@ -160,6 +160,25 @@ fn accept_trace<R: Threads + Sync, G: Gate, F: Files>(
     judge_trace(alloc, crew, plan, &bytes)
 }
 
+// Rows of no more than so many blocks are worked out by one worker: to start threads would take longer than they save. Whoever
+// asks for blocks of fewer jobs than this wants them shared.
+const FEW_BLOCKS: u64 = 16;
+const LEAST_BLOCK: u32 = 64;
+
+// How many of the workers work out a run over these rows.
+fn workers_for(rows: &Rows, workers: u32, block: u32) -> u32
+    requires some { 1 ≤ workers }
+    requires most { workers ≤ 64 }
+    ensures some { 1 ≤ result }
+    ensures most { result ≤ 64 }
+{
+    if LEAST_BLOCK <= block && rows.time.len() as u64 <= block as u64 * FEW_BLOCKS {
+        1
+    } else {
+        workers
+    }
+}
+
 // The percentiles of the waits at each node, which form 2 of the report tells; none for form 1.
 fn told_tails<R: Threads + Sync, G: Gate>(
     alloc: Global,
@@ -179,10 +198,11 @@ fn told_tails<R: Threads + Sync, G: Gate>(
     if form == 1 {
         return Ok(List::new(alloc));
     }
+    let workers = workers_for(rows, crew.workers, crew.block);
     node_tails(
         crew.rt,
         alloc,
-        crew.workers,
+        workers,
         plan,
         rows,
         run,
@@ -212,7 +232,8 @@ fn report_finished<R: Threads + Sync, G: Gate, O: Sink>(
     ensures sure { length (report_in plan.now.net rows.now wanted.form wanted.jobs) ≤ O.sure out.old → O.faults out.new ≡ O.faults out.old }
     ensures untouched { Untouched result out.old out.new }
 {
-    let Ok(totals) = node_totals(crew.rt, alloc, crew.workers, plan, rows, run, crew.gate) else {
+    let workers = workers_for(rows, crew.workers, crew.block);
+    let Ok(totals) = node_totals(crew.rt, alloc, workers, plan, rows, run, crew.gate) else {
         return Outcome::Memory;
     };
     let Ok(tails) = told_tails(alloc, crew, plan, rows, run, &totals, wanted.form) else {
@@ -257,12 +278,13 @@ fn report_run<R: Threads + Sync, G: Gate, O: Sink>(
 {
     runs_are_of_networks();
     runs_have_few_visits();
+    let workers = workers_for(rows, crew.workers, crew.block);
     let run = match run(
         crew.rt,
         alloc,
         plan,
         rows,
-        crew.workers,
+        workers,
         crew.block,
         crew.gate,
     ) {
