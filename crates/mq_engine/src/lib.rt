@@ -23,13 +23,14 @@ mod wave;
 
 use crate::laws::core_laws;
 use crate::progress::{Progress, Stand, beginning, ready_nodes, settle};
-use crate::wave::wave_of;
+
 pub use fault::RunFault;
 use mq_arrivals::Arriving;
 use mq_base::List;
 use mq_core::{Plan, Rows, Run};
 use mq_crew::Gate;
 pub use mq_pass::chain_departures;
+pub use wave::{Way, wave_of, way_of};
 pub use mq_stations::{OverFault, PastFault};
 use std::alloc::Global;
 use std::thread::Threads;

@@ -1,0 +1,269 @@
+// A kept run, and its edits.
+ghost use Rattle.std.specs.Prelude.{◌≡◌, ◌+◌, ◌≤◌, length, IfErr, IfOk, OnErr, OnOk};
+ghost use Rattle.mq_core.specs.Theorems.{IsReadFor};
+ghost use Rattle.mq_edits.specs.Edited.{AreEditsFor, edited_rows};
+ghost use Rattle.mq_engine.specs.Answer.{IsCause};
+ghost use Rattle.mq_kept.specs.Again.{again, all_blocks};
+ghost use Rattle.mq_kept.specs.Keeping.{IsKeptRun};
+
+use crate::marks::Marks;
+use crate::turns::{Before, Turn, turn_of};
+use mq_arrivals::Arriving;
+use mq_base::{List, OutOfMemory, Steps};
+use mq_core::{Fates, Plan, Rows, Run, Stream, Visits};
+use mq_edits::{Edit, edited};
+use mq_engine::RunFault;
+use std::alloc::Global;
+use std::marker::{Brand, Model};
+use std::mem::replace;
+use std::sync::ledger::{Blank, Ledger};
+use std::thread::Threads;
+
+/// How much an edit did again.
+#[derive(Clone, Copy, PartialEq, Eq)]
+pub struct Redone {
+    /// How many blocks were done again, over all counted nodes: sources, servers, delays, splits, tandems, fork-joins.
+    pub again: u64,
+    /// How many blocks they have.
+    pub all: u64,
+}
+
+/// A run that is kept with its rows. It borrows its plan.
+#[derive(Drop)]
+pub struct Kept<'p> {
+    plan: &'p Plan,
+    rows: Rows,
+    run: Run,
+    marks: List<Marks>,
+    workers: u32,
+    block: u32,
+}
+
+// A whole run: what is kept of it.
+#[derive(Drop)]
+struct Whole {
+    run: Run,
+    marks: List<Marks>,
+    redone: Redone,
+}
+
+impl<'p> Model for Kept<'p> {
+    ghost use Rattle.mq_kept.specs.Keeping.{IsKeptRun, KeptRun};
+
+    ghost Value = { KeptRun };
+
+    ghost view = { λ k. record { plan = k.plan.now; rows = k.rows; run = k.run; workers = k.workers; block = k.block } };
+
+    ghost invariant = { λ k. IsKeptRun (record { plan = k.plan.now; rows = k.rows; run = k.run; workers = k.workers; block = k.block }) };
+}
+
+impl<'p> Kept<'p> {
+    /// The run of a plan over the rows that were read for its network, kept with them. The block of every node has
+    /// `block` jobs, 64 to 65,536. It refuses as `run` does.
+    pub fn start<R: Threads + Sync>(
+        rt: &R,
+        alloc: Global,
+        plan: &'p Plan,
+        rows: Rows,
+        workers: u32,
+        block: u32,
+    ) -> Result<Kept<'p>, RunFault>
+        requires read { IsReadFor plan.now.net rows }
+        requires some { 1 ≤ workers }
+        requires most { workers ≤ 64 }
+        requires block { 64 ≤ block }
+        requires large { block ≤ 65536 }
+        ensures plan { IfOk result (λ kept. kept.plan ≡ plan.now) }
+        ensures rows { IfOk result (λ kept. kept.rows ≡ rows) }
+        ensures numbers { IfOk result (λ kept. (kept.workers ≡ workers) × (kept.block ≡ block)) }
+        ensures kept { IfOk result IsKeptRun }
+        ensures cause { IfErr result (λ fault. IsCause plan.now rows fault) }
+    {
+        let Whole { run, marks, .. } = begun::<R, Brand>(
+            rt,
+            alloc,
+            plan,
+            &rows,
+            workers,
+            block,
+            Blank::new(1),
+        )?;
+        Ok(Kept {
+            plan,
+            rows,
+            run,
+            marks,
+            workers,
+            block,
+        })
+    }
+
+    /// Makes edits in the kept rows, and does again what they touch.
+    pub fn edit<R: Threads + Sync, L: Ledger>(
+        &mut self,
+        rt: &R,
+        alloc: Global,
+        edits: &List<Edit>,
+        steps: &mut Steps<L>,
+    ) -> Result<Redone, RunFault>
+        requires edits { AreEditsFor self.old.plan.net (length self.old.rows.source) edits.now }
+        ensures stays { (self.new.plan ≡ self.old.plan) × (self.new.workers ≡ self.old.workers) × (self.new.block ≡ self.old.block) }
+        ensures rows { OnOk result (self.new.rows ≡ edited_rows self.old.rows edits.now) }
+        ensures kept { IsKeptRun self.new }
+        ensures redone { IfOk result (λ redone. redone ≡ record { again = again self.old.plan.net self.old.rows (edited_rows self.old.rows edits.now) self.old.block; all = all_blocks self.old.plan.net (edited_rows self.old.rows edits.now) self.old.block }) }
+        ensures err { OnErr result (self.new ≡ self.old) }
+        ensures cause { IfErr result (λ fault. IsCause self.old.plan (edited_rows self.old.rows edits.now) fault) }
+        ensures steps { steps.old ≤ steps.new }
+        ensures spent { steps.new ≤ steps.old + again self.old.plan.net self.old.rows (edited_rows self.old.rows edits.now) self.old.block }
+    {
+        let rows = edited(alloc, &self.rows, edits)?;
+        self.replace_rows(rt, alloc, rows, steps)
+    }
+
+    /// Makes these the kept rows, and does again what they change of the run. It refuses as `run` over them does, and
+    /// then the kept rows and run are as before.
+    pub fn replace_rows<R: Threads + Sync, L: Ledger>(
+        &mut self,
+        rt: &R,
+        alloc: Global,
+        rows: Rows,
+        steps: &mut Steps<L>,
+    ) -> Result<Redone, RunFault> {
+        let before = Before {
+            rows: &self.rows,
+            visits: self.run.visits.as_slice(),
+            outputs: self.run.outputs.as_slice(),
+            marks: self.marks.as_slice(),
+        };
+        let whole = run_again(
+            rt,
+            alloc,
+            self.plan,
+            &rows,
+            &before,
+            self.workers,
+            self.block,
+            steps,
+        )?;
+        let Whole { run, marks, redone } = whole;
+        drop(replace(&mut self.rows, rows));
+        drop(replace(&mut self.run, run));
+        drop(replace(&mut self.marks, marks));
+        Ok(redone)
+    }
+
+    /// The rows.
+    pub fn rows(&self) -> &Rows
+        ensures { result.now ≡ self.now.rows }
+    {
+        &self.rows
+    }
+
+    /// The run over the rows.
+    pub fn run(&self) -> &Run
+        ensures run { result.now ≡ self.now.run }
+        ensures kept { IsKeptRun self.now }
+    {
+        &self.run
+    }
+}
+
+// A run of which nothing was kept yet, with a counter of its own.
+fn begun<R: Threads + Sync, L: Ledger>(
+    rt: &R,
+    alloc: Global,
+    plan: &Plan,
+    rows: &Rows,
+    workers: u32,
+    block: u32,
+    blank: Blank,
+) -> Result<Whole, RunFault> {
+    let mut steps = Steps::<L>::new(blank);
+    let (visits, outputs, marks): (&[Visits], &[List<Stream>], &[Marks]) = (&[], &[], &[]);
+    let before = Before {
+        rows,
+        visits,
+        outputs,
+        marks,
+    };
+    run_again(rt, alloc, plan, rows, &before, workers, block, &mut steps)
+}
+
+// The run of a plan over these rows, node after node by rank, each behind the blocks that stay of the kept run.
+fn run_again<R: Threads + Sync, L: Ledger>(
+    rt: &R,
+    alloc: Global,
+    plan: &Plan,
+    rows: &Rows,
+    before: &Before,
+    workers: u32,
+    block: u32,
+    steps: &mut Steps<L>,
+) -> Result<Whole, RunFault> {
+    let nodes = plan.net.nodes.len();
+    let Nothing {
+        mut visits,
+        mut outputs,
+        mut marks,
+    } = no_nodes(alloc, nodes)?;
+    let mut redone = Redone { again: 0, all: 0 };
+    for rank in 0..plan.order.len() {
+        let number = *plan.order.get(rank);
+        let ready = [number];
+        let arriving = Arriving {
+            plan,
+            rows,
+            outputs: outputs.as_slice(),
+            ready: &ready,
+            workers,
+            block,
+        };
+        let turn = turn_of(rt, alloc, &arriving, before, steps)?;
+        redone.again += turn.again;
+        redone.all += turn.all;
+        visits[number as usize] = turn.visits;
+        outputs[number as usize] = turn.streams;
+        marks[number as usize] = turn.marks;
+    }
+    Ok(Whole {
+        run: Run {
+            visits: List::from_vec(visits),
+            outputs: List::from_vec(outputs),
+        },
+        marks: List::from_vec(marks),
+        redone,
+    })
+}
+
+// What is known of each node before the first.
+#[derive(Drop)]
+struct Nothing {
+    visits: Vec<Visits>,
+    outputs: Vec<List<Stream>>,
+    marks: Vec<Marks>,
+}
+
+fn no_nodes(alloc: Global, nodes: usize) -> Result<Nothing, OutOfMemory> {
+    let mut visits = Vec::with_capacity(alloc, nodes)?;
+    let mut outputs = Vec::with_capacity(alloc, nodes)?;
+    let mut marks = Vec::with_capacity(alloc, nodes)?;
+    for _ in 0..nodes {
+        visits.push_reserved(no_visits(alloc));
+        outputs.push_reserved(List::new(alloc));
+        marks.push_reserved(Marks::Unmarked);
+    }
+    Ok(Nothing {
+        visits,
+        outputs,
+        marks,
+    })
+}
+
+fn no_visits(alloc: Global) -> Visits {
+    Visits {
+        job: List::new(alloc),
+        arrive: List::new(alloc),
+        found: List::new(alloc),
+        fate: Fates::departures(List::new(alloc)),
+    }
+}
