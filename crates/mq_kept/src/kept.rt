@@ -3,7 +3,7 @@ ghost use Rattle.std.specs.Prelude.{◌≡◌, ◌+◌, ◌≤◌, length, IfErr
 ghost use Rattle.mq_core.specs.Theorems.{IsReadFor};
 ghost use Rattle.mq_edits.specs.Edited.{AreEditsFor, edited_rows};
 ghost use Rattle.mq_engine.specs.Answer.{IsCause};
-ghost use Rattle.mq_kept.specs.Again.{again, all_blocks};
+ghost use Rattle.mq_alike.specs.Again.{again, all_blocks};
 ghost use Rattle.mq_kept.specs.Keeping.{IsKeptRun};
 
 use crate::marks::Marks;

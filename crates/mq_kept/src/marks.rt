@@ -1,6 +1,8 @@
 // What is kept of a node beside its visits: from where its jobs can be gone through again.
+ghost use Rattle.std.specs.Prelude.{◌≡◌, IfOk};
+ghost use Rattle.mq_kept.specs.Marking.{delay_carries, forkjoin_carries, server_carries, split_carries, split_outs, tandem_carries};
+
 use mq_base::{List, OutOfMemory};
-use mq_core::{Fate, Fates};
 use mq_maxplus::Mp;
 use mq_tandem::Latest;
 use std::alloc::Global;
@@ -22,24 +24,74 @@ pub enum Marks {
     Split(List<u8>, List<u64>),
 }
 
-// The departures of the first visits, with room for so many.
-pub fn first_departures(
-    alloc: Global,
-    fates: &Fates,
-    count: usize,
-    room: usize,
-) -> Result<Vec<u64>, OutOfMemory> {
-    let mut times = Vec::with_capacity(alloc, room)?;
-    for at in 0..count {
-        match fates.at(at) {
-            Fate::Departs(time) => times.push_reserved(time),
-            Fate::Lost | Fate::Held => unreachable!(),
+impl Marks {
+    /// The carries of a server: none where nothing is kept. The same of the others.
+    pub fn server(&self) -> &[Mp]
+        ensures { result.now ≡ server_carries self.now }
+    {
+        match self {
+            Marks::Server(carries) => carries.as_slice(),
+            Marks::Unmarked | Marks::Delay(_) | Marks::Tandem(_) => &[],
+            Marks::ForkJoin(_) | Marks::Split(_, _) => &[],
         }
     }
-    Ok(times)
+
+    pub fn delay(&self) -> &[u64]
+        ensures { result.now ≡ delay_carries self.now }
+    {
+        match self {
+            Marks::Delay(carries) => carries.as_slice(),
+            Marks::Unmarked | Marks::Server(_) | Marks::Tandem(_) => &[],
+            Marks::ForkJoin(_) | Marks::Split(_, _) => &[],
+        }
+    }
+
+    pub fn tandem(&self) -> &[Latest]
+        ensures { result.now ≡ tandem_carries self.now }
+    {
+        match self {
+            Marks::Tandem(carries) => carries.as_slice(),
+            Marks::Unmarked | Marks::Server(_) | Marks::Delay(_) => &[],
+            Marks::ForkJoin(_) | Marks::Split(_, _) => &[],
+        }
+    }
+
+    pub fn forkjoin(&self) -> &[[u64; 8]]
+        ensures { result.now ≡ forkjoin_carries self.now }
+    {
+        match self {
+            Marks::ForkJoin(carries) => carries.as_slice(),
+            Marks::Unmarked | Marks::Server(_) | Marks::Delay(_) => &[],
+            Marks::Tandem(_) | Marks::Split(_, _) => &[],
+        }
+    }
+
+    pub fn split(&self) -> &[u8]
+        ensures { result.now ≡ split_carries self.now }
+    {
+        match self {
+            Marks::Split(carries, _) => carries.as_slice(),
+            Marks::Unmarked | Marks::Server(_) | Marks::Delay(_) => &[],
+            Marks::Tandem(_) | Marks::ForkJoin(_) => &[],
+        }
+    }
+
+    /// The output of each job of a split.
+    pub fn outs(&self) -> &[u64]
+        ensures { result.now ≡ split_outs self.now }
+    {
+        match self {
+            Marks::Split(_, outs) => outs.as_slice(),
+            Marks::Unmarked | Marks::Server(_) | Marks::Delay(_) => &[],
+            Marks::Tandem(_) | Marks::ForkJoin(_) => &[],
+        }
+    }
 }
 
-pub fn copied_marks(alloc: Global, marks: &Marks) -> Result<Marks, OutOfMemory> {
+/// The same once more.
+pub fn copied_marks(alloc: Global, marks: &Marks) -> Result<Marks, OutOfMemory>
+    ensures { IfOk result (λ copies. copies ≡ marks.now) }
+{
     match marks {
         Marks::Unmarked => Ok(Marks::Unmarked),
         Marks::Server(carries) => Ok(Marks::Server(copied(alloc, carries)?)),
@@ -54,6 +106,9 @@ pub fn copied_marks(alloc: Global, marks: &Marks) -> Result<Marks, OutOfMemory> 
     }
 }
 
-pub fn copied<T: Copy + Drop>(alloc: Global, items: &List<T>) -> Result<List<T>, OutOfMemory> {
+/// The items of a list once more.
+pub fn copied<T: Copy + Drop>(alloc: Global, items: &List<T>) -> Result<List<T>, OutOfMemory>
+    ensures { IfOk result (λ copies. copies ≡ items.now) }
+{
     Ok(List::from_vec(Vec::from_slice(alloc, items.as_slice())?))
 }

@@ -1,8 +1,15 @@
 // Whether what a node reads is the same in two runs.
+ghost use Rattle.std.specs.Prelude.{◌≡◌, ◌≢◌, false, length, true};
+
 use mq_core::Stream;
 
-/// Whether two streams are the same.
-pub fn is_same_stream(one: &Stream, other: &Stream) -> bool {
+/// Whether two streams are the same, each with as many times as jobs.
+pub fn is_same_stream(one: &Stream, other: &Stream) -> bool
+    requires one { length one.now.time ≡ length one.now.job }
+    requires other { length other.now.time ≡ length other.now.job }
+    ensures same { result ≡ true → one.now ≡ other.now }
+    ensures differs { result ≡ false → one.now ≢ other.now }
+{
     if one.job.len() != other.job.len() {
         return false;
     }

@@ -1,4 +1,8 @@
 // One node of a run that is done again, when all that it reads is done.
+ghost use Rattle.std.specs.Prelude.{◌≡◌, ◌≤◌, IfErr, IfOk, length, slice_index};
+ghost use Rattle.mq_engine.specs.Waves.{IsWave};
+ghost use Rattle.mq_kept.specs.Turns.{IsBefore, IsFaultAt, IsTurn, again_behind};
+
 use crate::copies::{copied_streams, copied_visits};
 use crate::marks::{Marks, copied_marks};
 use crate::stations::{Reworked, Stays, work_again};
@@ -44,7 +48,19 @@ pub fn turn_of<R: Threads + Sync, L: Ledger>(
     arriving: &Arriving,
     before: &Before,
     steps: &mut Steps<L>,
-) -> Result<Turn, RunFault> {
+) -> Result<Turn, RunFault>
+    requires wave { IsWave arriving.now }
+    requires one { length arriving.now.ready.now ≡ 1 }
+    requires some { 1 ≤ arriving.now.workers }
+    requires most { arriving.now.workers ≤ 64 }
+    requires block { 64 ≤ arriving.now.block }
+    requires large { arriving.now.block ≤ 65536 }
+    requires before { IsBefore arriving.now.plan.now arriving.now.block before.now }
+    ensures turn { IfOk result (IsTurn arriving.now before.now (slice_index arriving.now.ready.now 0)) }
+    ensures cause { IfErr result (IsFaultAt arriving.now.plan.now arriving.now.rows.now (slice_index arriving.now.ready.now 0)) }
+    ensures steps { steps.old ≤ steps.new }
+    ensures spent { steps.new ≤ steps.old + again_behind arriving.now before.now (slice_index arriving.now.ready.now 0) }
+{
     let number = arriving.ready[0];
     match way_of(arriving, number) {
         Way::Crowded(count) => Err(RunFault::Over(OverFault {
@@ -107,7 +123,7 @@ fn kept_turn(
 ) -> Result<Turn, OutOfMemory> {
     let count = visits.job.len() as u32;
     let (again, all) = counted(kind, &cut(count, block), count, count);
-    let visits = copied_visits(alloc, kind, visits)?;
+    let visits = copied_visits(alloc, visits)?;
     let streams = copied_streams(alloc, streams)?;
     let marks = copied_marks(alloc, marks)?;
     Ok(Turn {
