@@ -8,63 +8,12 @@ use Rattle.mq_core.specs.declared.model.Node.{Node}
 use Rattle.mq_core.specs.declared.model.Plan.{Plan}
 use Rattle.mq_core.specs.declared.model.Rows.{Rows}
 use Rattle.mq_core.specs.declared.model.Visits.{Visits}
-use Rattle.mq_maxplus.specs.declared.mp.Mp.{Mp}
 use Rattle.mq_rework.specs.Branching.{IsMarkedForkJoin}
 use Rattle.mq_rework.specs.Routing.{IsMarkedSplit}
 use Rattle.mq_rework.specs.Stays.{IsMarkedDelay, IsMarkedServer, IsMarkedTandem}
+use Rattle.mq_kept.specs.Carries.{delay_carries, forkjoin_carries, server_carries, split_carries, split_outs, tandem_carries}
 use Rattle.mq_kept.specs.declared.marks.Marks.{Marks}
-use Rattle.mq_kept.specs.declared.marks.Marks.TheVariants.{Unmarked, Server as ServerMarks, Delay as DelayMarks, Tandem as TandemMarks, ForkJoin as ForkJoinMarks, Split as SplitMarks}
 use Rattle.mq_kept.specs.declared.stations.Stays.{Stays}
-
--- the carries of a server; none where there are those of another kind, or nothing is kept; the same of the others
-abbrev pub server_carries : Marks → List Mp
-server_carries Unmarked = []
-server_carries (ServerMarks carries) = carries
-server_carries (DelayMarks carries) = []
-server_carries (TandemMarks carries) = []
-server_carries (ForkJoinMarks carries) = []
-server_carries (SplitMarks carries outs) = []
-
-abbrev pub delay_carries : Marks → List ℕ
-delay_carries Unmarked = []
-delay_carries (ServerMarks carries) = []
-delay_carries (DelayMarks carries) = carries
-delay_carries (TandemMarks carries) = []
-delay_carries (ForkJoinMarks carries) = []
-delay_carries (SplitMarks carries outs) = []
-
-abbrev pub tandem_carries : Marks → List (List Mp)
-tandem_carries Unmarked = []
-tandem_carries (ServerMarks carries) = []
-tandem_carries (DelayMarks carries) = []
-tandem_carries (TandemMarks carries) = carries
-tandem_carries (ForkJoinMarks carries) = []
-tandem_carries (SplitMarks carries outs) = []
-
-abbrev pub forkjoin_carries : Marks → List (List ℕ)
-forkjoin_carries Unmarked = []
-forkjoin_carries (ServerMarks carries) = []
-forkjoin_carries (DelayMarks carries) = []
-forkjoin_carries (TandemMarks carries) = []
-forkjoin_carries (ForkJoinMarks carries) = carries
-forkjoin_carries (SplitMarks carries outs) = []
-
-abbrev pub split_carries : Marks → List ℕ
-split_carries Unmarked = []
-split_carries (ServerMarks carries) = []
-split_carries (DelayMarks carries) = []
-split_carries (TandemMarks carries) = []
-split_carries (ForkJoinMarks carries) = []
-split_carries (SplitMarks carries outs) = carries
-
--- the output of each job of a split
-abbrev pub split_outs : Marks → List ℕ
-split_outs Unmarked = []
-split_outs (ServerMarks carries) = []
-split_outs (DelayMarks carries) = []
-split_outs (TandemMarks carries) = []
-split_outs (ForkJoinMarks carries) = []
-split_outs (SplitMarks carries outs) = outs
 
 -- this is kept of a node of this kind to which this comes, and whose visits have these fates; of a source, a loss station, a fork, a join and a trunk group nothing is asked
 abbrev pub IsKeptNode : Kind → Coming → ℕ → List Fate → Marks → Type 0

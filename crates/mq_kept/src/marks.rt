@@ -1,6 +1,6 @@
 // What is kept of a node beside its visits: from where its jobs can be gone through again.
 ghost use Rattle.std.specs.Prelude.{◌≡◌, IfOk};
-ghost use Rattle.mq_kept.specs.Marking.{delay_carries, forkjoin_carries, server_carries, split_carries, split_outs, tandem_carries};
+ghost use Rattle.mq_kept.specs.Carries.{delay_carries, forkjoin_carries, server_carries, split_carries, split_outs, tandem_carries};
 
 use mq_base::{List, OutOfMemory};
 use mq_maxplus::Mp;
