@@ -22,12 +22,12 @@ use Rattle.mq_kept.specs.declared.turns.Before.{Before}
 use Rattle.mq_kept.specs.declared.turns.Turn.{Turn}
 
 -- the run of a plan over rows that were read for it, which isn't refused, with what is kept of its nodes; no stream has a time after 2^60
-pub record AreKept (plan : Plan) (rows : Rows) (block : ℕ) (run : Run) (marks : List Marks) : Type 0 where
+pub record AreKept (plan : Plan) (rows : Rows) (block : ℕ) (run : Run) (held : List Marks) : Type 0 where
   pub read : IsReadFor plan.net rows
   pub is_run : IsRunOf plan rows run
   pub fine : refusal_of plan rows ≡ None
   pub early : AreEarly run.outputs
-  pub marks : AreMarks plan.net.nodes rows block run.visits marks
+  pub marks : AreMarks plan.net.nodes rows block run.visits held
 
 -- nothing is kept
 pub record IsNothing (before : Before) : Type 0 where

@@ -63,10 +63,6 @@ pub fn work_again<R: Threads + Sync, L: Ledger>(
     ensures spent { (node : TheNode) → slice_get load.now.plan.now.net.nodes load.now.number ≡ Some node → steps.new ≤ steps.old + blocks_behind load.now.block node.kind (length load.now.arrivals.now.job) stays.now.blocks }
 {
     match &load.plan.net.nodes.get(load.number as usize).kind {
-        Kind::Source => Ok(Reworked {
-            exit: Exit::Sent,
-            marks: Marks::Unmarked,
-        }),
         Kind::Server(demand) => server_again(rt, alloc, workers, load, demand, stays, steps),
         Kind::Delay(demand) => delay_again(rt, alloc, workers, load, demand, stays, steps),
         Kind::Tandem(stages) => tandem_again(rt, alloc, workers, load, stages, stays, steps),
@@ -74,7 +70,7 @@ pub fn work_again<R: Threads + Sync, L: Ledger>(
             forkjoin_again(rt, alloc, workers, load, branches, stays, steps)
         }
         Kind::Split(route) => split_again(alloc, load, route, stays, steps),
-        Kind::Loss { .. } | Kind::Trunk { .. } | Kind::Fork { .. } | Kind::Join => {
+        Kind::Source | Kind::Loss { .. } | Kind::Trunk { .. } | Kind::Fork { .. } | Kind::Join => {
             worked_anew(rt, alloc, workers, load)
         }
     }
@@ -309,7 +305,7 @@ fn split_again<L: Ledger>(
     })
 }
 
-// A station whose blocks aren't kept.
+// A station of whose blocks nothing is kept.
 fn worked_anew<R: Threads + Sync>(
     rt: &R,
     alloc: Global,

@@ -1,5 +1,5 @@
 // One node of a run that is done again, when all that it reads is done.
-ghost use Rattle.std.specs.Prelude.{◌≡◌, ◌≤◌, IfErr, IfOk, length, slice_index};
+ghost use Rattle.std.specs.Prelude.{◌≡◌, ◌+◌, ◌≤◌, IfErr, IfOk, length, slice_index};
 ghost use Rattle.mq_engine.specs.Waves.{IsWave};
 ghost use Rattle.mq_kept.specs.Turns.{IsBefore, IsFaultAt, IsTurn, again_behind};
 
