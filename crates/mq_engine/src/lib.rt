@@ -21,10 +21,10 @@ mod progress;
 mod ready;
 mod wave;
 
-use crate::laws::core_laws;
 use crate::progress::{Progress, Stand, beginning, ready_nodes, settle};
 
 pub use fault::RunFault;
+pub use laws::core_laws;
 use mq_arrivals::Arriving;
 use mq_base::List;
 use mq_core::{Plan, Rows, Run};
