@@ -1,16 +1,17 @@
 // A kept run, and its edits.
-ghost use Rattle.std.specs.Prelude.{◌≡◌, ◌+◌, ◌≤◌, length, IfErr, IfOk, OnErr, OnOk};
+ghost use Rattle.std.specs.Prelude.{◌≡◌, ◌+◌, ◌<◌, ◌≤◌, length, IfErr, IfOk, OnErr, OnOk};
+ghost use Rattle.mq_alike.specs.Again.{again, all_blocks};
 ghost use Rattle.mq_core.specs.Theorems.{IsReadFor};
 ghost use Rattle.mq_edits.specs.Edited.{AreEditsFor, edited_rows};
 ghost use Rattle.mq_engine.specs.Answer.{IsCause};
-ghost use Rattle.mq_alike.specs.Again.{again, all_blocks};
 ghost use Rattle.mq_kept.specs.Keeping.{IsKeptRun};
+ghost use Rattle.mq_kept.specs.Turns.{AreKept};
 
+use crate::again::{Redone, Whole, run_again};
 use crate::marks::Marks;
-use crate::turns::{Before, Turn, turn_of};
-use mq_arrivals::Arriving;
-use mq_base::{List, OutOfMemory, Steps};
-use mq_core::{Fates, Plan, Rows, Run, Stream, Visits};
+use crate::turns::Before;
+use mq_base::{List, Steps};
+use mq_core::{Plan, Rows, Run, Stream, Visits, runs_are_of_networks, runs_have_sequences};
 use mq_edits::{Edit, edited};
 use mq_engine::RunFault;
 use std::alloc::Global;
@@ -18,15 +19,6 @@ use std::marker::{Brand, Model};
 use std::mem::replace;
 use std::sync::ledger::{Blank, Ledger};
 use std::thread::Threads;
-
-/// How much an edit did again.
-#[derive(Clone, Copy, PartialEq, Eq)]
-pub struct Redone {
-    /// How many blocks were done again, over all counted nodes: sources, servers, delays, splits, tandems, fork-joins.
-    pub again: u64,
-    /// How many blocks they have.
-    pub all: u64,
-}
 
 /// A run that is kept with its rows. It borrows its plan.
 #[derive(Drop)]
@@ -39,22 +31,14 @@ pub struct Kept<'p> {
     block: u32,
 }
 
-// A whole run: what is kept of it.
-#[derive(Drop)]
-struct Whole {
-    run: Run,
-    marks: List<Marks>,
-    redone: Redone,
-}
-
 impl<'p> Model for Kept<'p> {
-    ghost use Rattle.mq_kept.specs.Keeping.{IsKeptRun, KeptRun};
+    ghost use Rattle.mq_kept.specs.Keeping.{IsKept, KeptRun};
 
     ghost Value = { KeptRun };
 
     ghost view = { λ k. record { plan = k.plan.now; rows = k.rows; run = k.run; workers = k.workers; block = k.block } };
 
-    ghost invariant = { λ k. IsKeptRun (record { plan = k.plan.now; rows = k.rows; run = k.run; workers = k.workers; block = k.block }) };
+    ghost invariant = { λ k. IsKept k.plan.now k.rows k.run k.marks k.workers k.block };
 }
 
 impl<'p> Kept<'p> {
@@ -79,20 +63,12 @@ impl<'p> Kept<'p> {
         ensures kept { IfOk result IsKeptRun }
         ensures cause { IfErr result (λ fault. IsCause plan.now rows fault) }
     {
-        let Whole { run, marks, .. } = begun::<R, Brand>(
-            rt,
-            alloc,
-            plan,
-            &rows,
-            workers,
-            block,
-            Blank::new(1),
-        )?;
+        let whole = begun::<R, Brand>(rt, alloc, plan, &rows, workers, block, Blank::new(1))?;
         Ok(Kept {
             plan,
             rows,
-            run,
-            marks,
+            run: whole.run,
+            marks: whole.marks,
             workers,
             block,
         })
@@ -128,7 +104,19 @@ impl<'p> Kept<'p> {
         alloc: Global,
         rows: Rows,
         steps: &mut Steps<L>,
-    ) -> Result<Redone, RunFault> {
+    ) -> Result<Redone, RunFault>
+        requires read { IsReadFor self.old.plan.net rows }
+        ensures stays { (self.new.plan ≡ self.old.plan) × (self.new.workers ≡ self.old.workers) × (self.new.block ≡ self.old.block) }
+        ensures rows { OnOk result (self.new.rows ≡ rows) }
+        ensures kept { IsKeptRun self.new }
+        ensures redone { IfOk result (λ redone. redone ≡ record { again = again self.old.plan.net self.old.rows rows self.old.block; all = all_blocks self.old.plan.net rows self.old.block }) }
+        ensures err { OnErr result (self.new ≡ self.old) }
+        ensures cause { IfErr result (λ fault. IsCause self.old.plan rows fault) }
+        ensures steps { steps.old ≤ steps.new }
+        ensures spent { steps.new ≤ steps.old + again self.old.plan.net self.old.rows rows self.old.block }
+    {
+        runs_have_sequences();
+        runs_are_of_networks();
         let before = Before {
             rows: &self.rows,
             visits: self.run.visits.as_slice(),
@@ -177,7 +165,18 @@ fn begun<R: Threads + Sync, L: Ledger>(
     workers: u32,
     block: u32,
     blank: Blank,
-) -> Result<Whole, RunFault> {
+) -> Result<Whole, RunFault>
+    requires read { IsReadFor plan.now.net rows.now }
+    requires some { 1 ≤ workers }
+    requires most { workers ≤ 64 }
+    requires block { 64 ≤ block }
+    requires large { block ≤ 65536 }
+    requires name { blank.name ≡ L.name }
+    requires parts { blank.parts ≡ L.parts }
+    requires whole { 0 < blank.parts }
+    ensures kept { IfOk result (λ whole. AreKept plan.now rows.now block whole.run whole.marks) }
+    ensures cause { IfErr result (λ fault. IsCause plan.now rows.now fault) }
+{
     let mut steps = Steps::<L>::new(blank);
     let (visits, outputs, marks): (&[Visits], &[List<Stream>], &[Marks]) = (&[], &[], &[]);
     let before = Before {
@@ -187,83 +186,4 @@ fn begun<R: Threads + Sync, L: Ledger>(
         marks,
     };
     run_again(rt, alloc, plan, rows, &before, workers, block, &mut steps)
-}
-
-// The run of a plan over these rows, node after node by rank, each behind the blocks that stay of the kept run.
-fn run_again<R: Threads + Sync, L: Ledger>(
-    rt: &R,
-    alloc: Global,
-    plan: &Plan,
-    rows: &Rows,
-    before: &Before,
-    workers: u32,
-    block: u32,
-    steps: &mut Steps<L>,
-) -> Result<Whole, RunFault> {
-    let nodes = plan.net.nodes.len();
-    let Nothing {
-        mut visits,
-        mut outputs,
-        mut marks,
-    } = no_nodes(alloc, nodes)?;
-    let mut redone = Redone { again: 0, all: 0 };
-    for rank in 0..plan.order.len() {
-        let number = *plan.order.get(rank);
-        let ready = [number];
-        let arriving = Arriving {
-            plan,
-            rows,
-            outputs: outputs.as_slice(),
-            ready: &ready,
-            workers,
-            block,
-        };
-        let turn = turn_of(rt, alloc, &arriving, before, steps)?;
-        redone.again += turn.again;
-        redone.all += turn.all;
-        visits[number as usize] = turn.visits;
-        outputs[number as usize] = turn.streams;
-        marks[number as usize] = turn.marks;
-    }
-    Ok(Whole {
-        run: Run {
-            visits: List::from_vec(visits),
-            outputs: List::from_vec(outputs),
-        },
-        marks: List::from_vec(marks),
-        redone,
-    })
-}
-
-// What is known of each node before the first.
-#[derive(Drop)]
-struct Nothing {
-    visits: Vec<Visits>,
-    outputs: Vec<List<Stream>>,
-    marks: Vec<Marks>,
-}
-
-fn no_nodes(alloc: Global, nodes: usize) -> Result<Nothing, OutOfMemory> {
-    let mut visits = Vec::with_capacity(alloc, nodes)?;
-    let mut outputs = Vec::with_capacity(alloc, nodes)?;
-    let mut marks = Vec::with_capacity(alloc, nodes)?;
-    for _ in 0..nodes {
-        visits.push_reserved(no_visits(alloc));
-        outputs.push_reserved(List::new(alloc));
-        marks.push_reserved(Marks::Unmarked);
-    }
-    Ok(Nothing {
-        visits,
-        outputs,
-        marks,
-    })
-}
-
-fn no_visits(alloc: Global) -> Visits {
-    Visits {
-        job: List::new(alloc),
-        arrive: List::new(alloc),
-        found: List::new(alloc),
-        fate: Fates::departures(List::new(alloc)),
-    }
 }

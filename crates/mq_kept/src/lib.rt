@@ -1,6 +1,7 @@
 //! A run that is kept with its rows, so that edits of them do again only what they can touch.
 #![tactic(auto)]
 
+mod again;
 mod copies;
 mod kept;
 mod marks;
@@ -8,6 +9,7 @@ mod stations;
 mod streams;
 mod turns;
 
-pub use kept::{Kept, Redone};
+pub use again::Redone;
+pub use kept::Kept;
 pub use mq_engine::RunFault;
 pub use mq_redo::redo_block;
