@@ -1,10 +1,10 @@
 -- What is kept of the nodes, as far as a run has come by rank.
-use Rattle.std.proofs.Common.{◌≡◌, ◌≢◌, ℕ, ◌+◌, ◌<◌, ◌≤◌, ◌⊎◌, inl, inr, List, [], length, set, Option, Some, None, refl, sym, ap, ◌∙◌, subst, arith}
+use Rattle.std.proofs.Common.{◌≡◌, ◌≢◌, ℕ, ◌+◌, ◌<◌, ◌≤◌, ◌⊎◌, inl, inr, List, length, set, Some, sym, ap, ◌∙◌, subst, arith}
 use Rattle.std.specs.Prelude.{slice_get}
 use Rattle.std.proofs.lemmas.List.{length-set}
 use Rattle.mq_base.proofs.lemmas.Lists.{get-set_other, get-set_same, some_inj}
 use Rattle.mq_alike.specs.Again.{Coming, coming_in}
-use Rattle.mq_core.specs.NetworkRun.{RunsAreOfNetworks, run_in}
+use Rattle.mq_core.specs.NetworkRun.{RunsAreOfNetworks}
 use Rattle.mq_core.specs.RunLaws.{RunsHaveSequences}
 use Rattle.mq_core.specs.SequenceLaws.{arrives_of, jobs_of}
 use Rattle.mq_core.specs.Local.{Local}
