@@ -76,5 +76,5 @@ returns-clause-spent g c =
     let last = c.loop-rank-test.false in
     let so_far = c.loop-rank.invariant.spent in
     let all : c.loop-rank.worked.redone.again ≡ all_again c.args.plan.now.net c.args.before.now c.args.rows.now c.args.block =
-        ap (λ (r : Redone). r.again) (all-redone c.core_laws.ensures c.args.plan.now c.args.rows.now c.args.block c.args.before.now c.loop-rank.worked c.loop-rank.rank c.requires.read (omega arith) c.loop-rank.invariant.worked) in
+    ap (λ (r : Redone). r.again) (all-redone c.core_laws.ensures c.args.plan.now c.args.rows.now c.args.block c.args.before.now c.loop-rank.worked c.loop-rank.rank c.requires.read (omega arith) c.loop-rank.invariant.worked) in
     omega arith
