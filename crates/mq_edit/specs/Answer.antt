@@ -10,7 +10,7 @@ use Rattle.mq_edits.specs.Edits.{edits_fault, edits_in}
 use Rattle.mq_edits.specs.declared.fault.EditFault.{EditFault}
 use Rattle.mq_engine.specs.declared.fault.RunFault.{RunFault}
 use Rattle.mq_engine.specs.declared.fault.RunFault.TheVariants as fault
-use Rattle.mq_kept.specs.Again.{again, all_blocks}
+use Rattle.mq_alike.specs.Again.{again, all_blocks}
 use Rattle.mq_model.specs.Model.{model_fault}
 use Rattle.mq_model.specs.NetworkOf.{network_in}
 use Rattle.mq_model.specs.declared.fault.ModelFault.{ModelFault}

@@ -4,7 +4,7 @@ ghost use Rattle.mq_base.specs.Text.{texts};
 ghost use Rattle.mq_core.specs.Theorems.{IsReadFor};
 ghost use Rattle.mq_edits.specs.Edited.{AreEditsFor, edited_rows};
 ghost use Rattle.mq_engine.specs.Answer.{IsCause};
-ghost use Rattle.mq_kept.specs.Again.{again, all_blocks};
+ghost use Rattle.mq_alike.specs.Again.{again, all_blocks};
 ghost use Rattle.mq_kept.specs.Keeping.{IsKeptRun};
 ghost use Rattle.mq_model.specs.Model.{model_fault};
 ghost use Rattle.mq_model.specs.NetworkOf.{network_in};
