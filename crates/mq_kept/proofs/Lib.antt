@@ -1,6 +1,10 @@
+pub mod Asking
 pub mod Behind
+pub mod KeptRuns
 pub mod Marked
 pub mod None
 pub mod Ranks
+pub mod SameNodes
+pub mod Turning
 pub mod Within
 pub mod Worked

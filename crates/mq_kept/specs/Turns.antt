@@ -15,9 +15,14 @@ use Rattle.mq_engine.specs.Progress.{AreEarly}
 use Rattle.mq_engine.specs.declared.fault.RunFault.{RunFault}
 use Rattle.mq_engine.specs.declared.fault.RunFault.TheVariants.{Memory, Over, Past}
 use Rattle.mq_exits.specs.Results.{IsWorkedOut}
+use Rattle.mq_exits.specs.declared.load.Held.{Held}
+use Rattle.mq_exits.specs.declared.working.Ending.{Ending}
 use Rattle.mq_exits.specs.declared.working.Ending.TheVariants.{OnTime, TooLate, TooMany}
-use Rattle.mq_kept.specs.Marking.{AreMarks, IsKeptNode, coming_by, coming_of}
+use Rattle.mq_merge.specs.Borrowed.{stream_in}
+use Rattle.mq_rework.specs.Stays.{coming_as}
+use Rattle.mq_kept.specs.Marking.{AreMarks, IsKeptNode, IsStaying, coming_by, coming_of}
 use Rattle.mq_kept.specs.declared.marks.Marks.{Marks}
+use Rattle.mq_kept.specs.declared.stations.Stays.{Stays}
 use Rattle.mq_kept.specs.declared.turns.Before.{Before}
 use Rattle.mq_kept.specs.declared.turns.Turn.{Turn}
 
@@ -73,3 +78,15 @@ abbrev pub IsFaultAt : Plan → Rows → ℕ → RunFault → Type 0
 IsFaultAt plan rows v (Over fault) = IsWorkedOut plan rows (record { number = v; ending = TooMany fault })
 IsFaultAt plan rows v (Past fault) = IsWorkedOut plan rows (record { number = v; ending = TooLate fault })
 IsFaultAt plan rows v Memory = Unit {0}
+
+-- a node ended with this fault
+abbrev pub IsFaultOf : Ending → RunFault → Type 0
+IsFaultOf ending (Over fault) = ending ≡ TooMany fault
+IsFaultOf ending (Past fault) = ending ≡ TooLate fault
+IsFaultOf ending Memory = ⊥
+
+-- these blocks of a node stay to which this came in a run
+abbrev pub IsStayingAt : Held → Stays → Type 0
+IsStayingAt held stays =
+    (node : Node) → slice_get held.plan.now.net.nodes held.number ≡ Some node →
+    (old : Coming) × IsStaying node.kind old (coming_as held.rows.now (stream_in held.arrivals)) held.block stays

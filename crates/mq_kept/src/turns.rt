@@ -1,18 +1,34 @@
 // One node of a run that is done again, when all that it reads is done.
-ghost use Rattle.std.specs.Prelude.{◌≡◌, ◌+◌, ◌≤◌, IfErr, IfOk, length, slice_index};
+ghost use Rattle.std.specs.Prelude.{◌≡◌, ◌<◌, ◌≤◌, ◌+◌, ◌∷◌, ◌⊎◌, ◌==◌, ◌&&◌, ◌^◌, [], ℕ, false, true, if◌then◌else◌, length, slice_get, slice_index, IfErr, IfOk, Some};
+ghost use Rattle.mq_alike.specs.Again.{alike, blocks_in, is_counted};
+ghost use Rattle.mq_arrivals.specs.Arrivals.{AreOrdered, IsThere, pairs_read};
+ghost use Rattle.mq_core.specs.Streams.{pairs_of};
+ghost use Rattle.mq_core.specs.declared.model.Input.{Input as Port};
+ghost use Rattle.mq_core.specs.declared.model.Node.{Node as TheNode};
+ghost use Rattle.mq_core.specs.declared.model.Visits.{Visits as TheVisits};
+ghost use Rattle.mq_engine.specs.Apart.{CanGather};
+ghost use Rattle.mq_engine.specs.Progress.{CanWork};
 ghost use Rattle.mq_engine.specs.Waves.{IsWave};
-ghost use Rattle.mq_kept.specs.Turns.{IsBefore, IsFaultAt, IsTurn, again_behind};
+ghost use Rattle.mq_exits.specs.Loads.{IsReadyLoad};
+ghost use Rattle.mq_exits.specs.Results.{IsWorkedOut};
+ghost use Rattle.mq_exits.specs.declared.working.Ending.TheVariants.{OnTime, TooLate, TooMany};
+ghost use Rattle.mq_kept.specs.Marking.{IsKeptNode, IsStaying, blocks_behind, coming_of};
+ghost use Rattle.mq_kept.specs.Turns.{IsBefore, IsFaultAt, IsFaultOf, IsStayingAt, IsTurn, again_behind, came_before};
+ghost use Rattle.mq_kept.specs.declared.marks.Marks.{Marks as TheMarks};
+ghost use Rattle.mq_merge.specs.Borrowed.{stream_in};
+ghost use Rattle.mq_rework.specs.Stays.{coming_as};
+ghost use Rattle.mq_stations.specs.Leaving.{HaveDemands};
 
 use crate::copies::{copied_streams, copied_visits};
 use crate::marks::{Marks, copied_marks};
 use crate::stations::{Reworked, Stays, work_again};
 use crate::streams::is_same_stream;
-use mq_alike::alike;
-use mq_arrivals::{Arriving, arrivals_of, stream_of};
+use mq_alike::{alike, alike_is_first, sequences_stay};
+use mq_arrivals::{Arrived, Arriving, arrivals_of, stream_of};
 use mq_base::{List, OutOfMemory, Steps};
-use mq_core::{Fates, Kind, Node, Rows, Stream, Visits};
+use mq_core::{Fates, Kind, Node, Rows, Stream, Visits, runs_have_sequences};
 use mq_crew::Open;
-use mq_engine::{RunFault, Way, wave_of, way_of};
+use mq_engine::{RunFault, Way, core_laws, wave_of, way_of};
 use mq_exits::{Emptied, Ending, Held, NodeResult, station_results};
 use mq_rework::counted;
 use mq_scan::cut;
@@ -79,27 +95,43 @@ fn apart_turn<R: Threads + Sync>(
     arriving: &Arriving,
     before: &Before,
     number: u32,
-) -> Result<Turn, RunFault> {
+) -> Result<Turn, RunFault>
+    requires wave { IsWave arriving.now }
+    requires one { arriving.now.ready.now ≡ number ∷ [] }
+    requires some { 1 ≤ arriving.now.workers }
+    requires most { arriving.now.workers ≤ 64 }
+    requires block { 64 ≤ arriving.now.block }
+    requires large { arriving.now.block ≤ 65536 }
+    requires before { IsBefore arriving.now.plan.now arriving.now.block before.now }
+    requires can { CanGather arriving.now.plan.now arriving.now.rows.now arriving.now.outputs.now number }
+    ensures turn { IfOk result (IsTurn arriving.now before.now number) }
+    ensures cause { IfErr result (IsFaultAt arriving.now.plan.now arriving.now.rows.now number) }
+{
+    core_laws();
+    runs_have_sequences();
     let node = arriving.plan.net.nodes.get(number as usize);
     if reads_the_same(arriving.outputs, before.outputs, node) {
-        let (visits, streams) = (
-            &before.visits[number as usize],
-            &before.outputs[number as usize],
-        );
         return Ok(kept_turn(
             alloc,
             &node.kind,
-            visits,
-            streams,
-            &Marks::Unmarked,
+            before,
+            number,
             arriving.block,
         )?);
     }
     let results = wave_of(rt, alloc, arriving, &Open)?;
-    Ok(turn_by(the_only(results), Marks::Unmarked, 0, 0)?)
+    turn_by(the_only(results), Marks::Unmarked, 0, 0)
 }
 
-fn reads_the_same(outputs: &[List<Stream>], earlier: &[List<Stream>], node: &Node) -> bool {
+// Whether each port of a node reads the same as in the kept run.
+fn reads_the_same(outputs: &[List<Stream>], earlier: &[List<Stream>], node: &Node) -> bool
+    requires ordered { AreOrdered outputs.now }
+    requires there { (port : ℕ) (input : Port) → slice_get node.now.inputs port ≡ Some input → IsThere outputs.now input }
+    requires earlier_ordered { AreOrdered earlier.now }
+    requires earlier_there { 1 ≤ length earlier.now → (port : ℕ) (input : Port) → slice_get node.now.inputs port ≡ Some input → IsThere earlier.now input }
+    ensures some { result ≡ true → 1 ≤ length earlier.now }
+    ensures same { result ≡ true → (port : ℕ) (input : Port) → slice_get node.now.inputs port ≡ Some input → pairs_read earlier.now input ≡ pairs_read outputs.now input }
+{
     if earlier.is_empty() {
         return false;
     }
@@ -112,20 +144,32 @@ fn reads_the_same(outputs: &[List<Stream>], earlier: &[List<Stream>], node: &Nod
     true
 }
 
-// What a node gives that has no difference.
+// What a node of this kind gave, which has no difference.
 fn kept_turn(
     alloc: Global,
     kind: &Kind,
-    visits: &Visits,
-    streams: &List<Stream>,
-    marks: &Marks,
+    before: &Before,
+    number: u32,
     block: u32,
-) -> Result<Turn, OutOfMemory> {
-    let count = visits.job.len() as u32;
+) -> Result<Turn, OutOfMemory>
+    requires visits { number < length before.now.visits.now }
+    requires outputs { number < length before.now.outputs.now }
+    requires marks { number < length before.now.marks.now }
+    requires few { length (came_before before.now number).job ≤ 1048576 }
+    requires some { 1 ≤ block }
+    ensures visits { IfOk result (λ turn. slice_get before.now.visits.now number ≡ Some turn.visits) }
+    ensures streams { IfOk result (λ turn. slice_get before.now.outputs.now number ≡ Some turn.streams) }
+    ensures marks { IfOk result (λ turn. slice_get before.now.marks.now number ≡ Some turn.marks) }
+    ensures again { IfOk result (λ turn. turn.again ≡ 0) }
+    ensures all { IfOk result (λ turn. turn.all ≡ (if is_counted kind.now then blocks_in block (length (came_before before.now number).job) else 0)) }
+    ensures few { IfOk result (λ turn. turn.all < 2 ^ 32) }
+{
+    let old = &before.visits[number as usize];
+    let count = old.job.len() as u32;
     let (again, all) = counted(kind, &cut(count, block), count, count);
-    let visits = copied_visits(alloc, visits)?;
-    let streams = copied_streams(alloc, streams)?;
-    let marks = copied_marks(alloc, marks)?;
+    let visits = copied_visits(alloc, old)?;
+    let streams = copied_streams(alloc, &before.outputs[number as usize])?;
+    let marks = copied_marks(alloc, &before.marks[number as usize])?;
     Ok(Turn {
         visits,
         streams,
@@ -143,60 +187,103 @@ fn station_turn<R: Threads + Sync, L: Ledger>(
     before: &Before,
     number: u32,
     steps: &mut Steps<L>,
-) -> Result<Turn, RunFault> {
+) -> Result<Turn, RunFault>
+    requires wave { IsWave arriving.now }
+    requires one { arriving.now.ready.now ≡ number ∷ [] }
+    requires some { 1 ≤ arriving.now.workers }
+    requires most { arriving.now.workers ≤ 64 }
+    requires block { 64 ≤ arriving.now.block }
+    requires large { arriving.now.block ≤ 65536 }
+    requires before { IsBefore arriving.now.plan.now arriving.now.block before.now }
+    requires can { CanWork arriving.now.plan.now arriving.now.rows.now arriving.now.outputs.now number }
+    ensures turn { IfOk result (IsTurn arriving.now before.now number) }
+    ensures cause { IfErr result (IsFaultAt arriving.now.plan.now arriving.now.rows.now number) }
+    ensures steps { steps.old ≤ steps.new }
+    ensures spent { steps.new ≤ steps.old + again_behind arriving.now before.now number }
+{
+    core_laws();
+    runs_have_sequences();
+    alike_is_first();
+    sequences_stay();
     let kind = &arriving.plan.net.nodes.get(number as usize).kind;
-    let arrived = arrivals_of(rt, alloc, arriving, &Open)?;
-    let mut arrived = arrived.into_vec();
-    let Some(one) = arrived.pop() else {
+    let held = held_at(rt, alloc, arriving, number)?;
+    let arrivals = held.arrivals.stream();
+    let count = arrivals.job.len() as u32;
+    let (same, visits) = alike_at(before, arriving.rows, kind, number, arrivals);
+    if is_unchanged(before, same, visits, count) {
+        drop(held);
+        return Ok(kept_turn(alloc, kind, before, number, arriving.block)?);
+    }
+    let (again, all) = counted(kind, &cut(count, arriving.block), same, visits);
+    let (fates, unmarked) = (Fates::departures(List::new(alloc)), Marks::Unmarked);
+    let stays = stays_at(before, number, &fates, &unmarked, same / arriving.block);
+    let turn = worked_turn(
+        rt,
+        alloc,
+        arriving.workers,
+        held,
+        &stays,
+        again as u64,
+        all as u64,
+        steps,
+    );
+    drop(fates);
+    drop(unmarked);
+    turn
+}
+
+// What came to the one station that is ready.
+fn held_at<'a, R: Threads + Sync>(
+    rt: &R,
+    alloc: Global,
+    arriving: &Arriving<'a>,
+    number: u32,
+) -> Result<Held<'a>, OutOfMemory>
+    requires wave { IsWave arriving.now }
+    requires one { arriving.now.ready.now ≡ number ∷ [] }
+    requires some { 1 ≤ arriving.now.workers }
+    requires most { arriving.now.workers ≤ 64 }
+    requires can { CanWork arriving.now.plan.now arriving.now.rows.now arriving.now.outputs.now number }
+    ensures ready { IfOk result IsReadyLoad }
+    ensures number { IfOk result (λ held. held.number ≡ number) }
+    ensures plan { IfOk result (λ held. held.plan.now ≡ arriving.now.plan.now) }
+    ensures rows { IfOk result (λ held. held.rows.now ≡ arriving.now.rows.now) }
+    ensures block { IfOk result (λ held. held.block ≡ arriving.now.block) }
+{
+    core_laws();
+    let all = arrivals_of(rt, alloc, arriving, &Open)?;
+    let mut all = all.into_vec();
+    let Some(arrived) = all.pop() else {
         unreachable!()
     };
-    let held = Held {
+    let Arrived { number, arrivals } = arrived;
+    Ok(Held {
         plan: arriving.plan,
         rows: arriving.rows,
         number,
-        arrivals: one.arrivals,
+        arrivals,
         block: arriving.block,
-    };
-    let load = held.load();
-    let count = load.arrivals.job.len() as u32;
-    let nothing = Fates::departures(List::new(alloc));
-    let (same, visits) = alike_at(before, arriving.rows, kind, number, load.arrivals);
-    let stays = if before.visits.is_empty() {
-        Stays {
-            fates: &nothing,
-            marks: &Marks::Unmarked,
-            blocks: 0,
-        }
-    } else {
-        let old = &before.visits[number as usize];
-        if same == count && same == visits {
-            let streams = &before.outputs[number as usize];
-            let marks = &before.marks[number as usize];
-            return Ok(kept_turn(alloc, kind, old, streams, marks, arriving.block)?);
-        }
-        Stays {
-            fates: &old.fate,
-            marks: &before.marks[number as usize],
-            blocks: same / arriving.block,
-        }
-    };
-    let blocks = cut(count, arriving.block);
-    let (again, all) = counted(kind, &blocks, same, visits);
-    let Reworked { exit, marks } = work_again(rt, alloc, arriving.workers, &load, &stays, steps)?;
-    let mut emptied = List::new(alloc);
-    emptied.push(Emptied { held, exit })?;
-    let results = station_results(rt, alloc, arriving.workers, emptied, &Open)?;
-    turn_by(the_only(results), marks, again as u64, all as u64)
+    })
 }
 
-// How many first visits to a node are the same as the kept ones, and how many those are.
+// How many first visits to a node are the same as the kept ones, and how many those are: none where nothing is kept.
 fn alike_at(
     before: &Before,
     rows: &Rows,
     kind: &Kind,
     number: u32,
     arrivals: &Stream,
-) -> (u32, u32) {
+) -> (u32, u32)
+    requires inside { 1 ≤ length before.now.visits.now → number < length before.now.visits.now }
+    requires earlier { HaveDemands before.now.rows.now kind.now (came_before before.now number).job }
+    requires even { length (came_before before.now number).arrive ≡ length (came_before before.now number).job }
+    requires few { length (came_before before.now number).job ≤ 1048576 }
+    requires rows { HaveDemands rows.now kind.now arrivals.now.job }
+    requires now_even { length arrivals.now.time ≡ length arrivals.now.job }
+    requires now_few { length arrivals.now.job ≤ 1048576 }
+    ensures same { result.0 ≡ alike kind.now (came_before before.now number) (coming_as rows.now arrivals.now) }
+    ensures visits { result.1 ≡ length (came_before before.now number).job }
+{
     if before.visits.is_empty() {
         return (0, 0);
     }
@@ -205,7 +292,80 @@ fn alike_at(
     (same, visits.job.len() as u32)
 }
 
-fn the_only(results: List<NodeResult>) -> NodeResult {
+// Whether a node has no difference, of whose visits so many are the same as the kept ones.
+fn is_unchanged(before: &Before, same: u32, visits: u32, count: u32) -> bool
+    ensures yes { result ≡ true → (1 ≤ length before.now.visits.now) × (same ≡ visits) × (same ≡ count) }
+    ensures no { result ≡ false → (before.now.visits.now ≡ []) ⊎ (((same == visits) && (same == count)) ≡ false) }
+{
+    !before.visits.is_empty() && same == visits && same == count
+}
+
+// What stays of a node, so many first blocks, where something is kept: else these fates, of no visits, and marks.
+fn stays_at<'a>(
+    before: &Before<'a>,
+    number: u32,
+    fates: &'a Fates,
+    unmarked: &'a Marks,
+    blocks: u32,
+) -> Stays<'a>
+    requires visits { 1 ≤ length before.now.visits.now → number < length before.now.visits.now }
+    requires marks { 1 ≤ length before.now.visits.now → number < length before.now.marks.now }
+    ensures first { result.blocks ≡ blocks }
+    ensures none { before.now.visits.now ≡ [] → (result.fates.now ≡ fates.now) × (result.marks.now ≡ unmarked.now) }
+    ensures kept { (seen : TheVisits) (mark : TheMarks) → slice_get before.now.visits.now number ≡ Some seen → slice_get before.now.marks.now number ≡ Some mark → (result.fates.now ≡ seen.fate) × (result.marks.now ≡ mark) }
+{
+    if before.visits.is_empty() {
+        return Stays {
+            fates,
+            marks: unmarked,
+            blocks,
+        };
+    }
+    Stays {
+        fates: &before.visits[number as usize].fate,
+        marks: &before.marks[number as usize],
+        blocks,
+    }
+}
+
+// What a station gives that is gone through again, of whose blocks so many are done again.
+fn worked_turn<R: Threads + Sync, L: Ledger>(
+    rt: &R,
+    alloc: Global,
+    workers: u32,
+    held: Held,
+    stays: &Stays,
+    again: u64,
+    all: u64,
+    steps: &mut Steps<L>,
+) -> Result<Turn, RunFault>
+    requires ready { IsReadyLoad held }
+    requires large { held.block ≤ 65536 }
+    requires some { 1 ≤ workers }
+    requires most { workers ≤ 64 }
+    requires stays { IsStayingAt held stays.now }
+    ensures known { IfOk result (λ turn. IsWorkedOut held.entry.plan.now held.entry.rows.now (record { number = held.entry.number; ending = OnTime turn.visits turn.streams })) }
+    ensures marks { IfOk result (λ turn. (node : TheNode) → slice_get held.entry.plan.now.net.nodes held.entry.number ≡ Some node → IsKeptNode node.kind (coming_of held.entry.rows.now turn.visits) held.entry.block turn.visits.fate turn.marks) }
+    ensures again { IfOk result (λ turn. turn.again ≡ again) }
+    ensures all { IfOk result (λ turn. turn.all ≡ all) }
+    ensures cause { IfErr result (IsFaultAt held.entry.plan.now held.entry.rows.now held.entry.number) }
+    ensures steps { steps.old ≤ steps.new }
+    ensures spent { (node : TheNode) → slice_get held.entry.plan.now.net.nodes held.entry.number ≡ Some node → steps.new ≤ steps.old + blocks_behind held.entry.block node.kind (length (stream_in held.entry.arrivals).job) stays.now.blocks }
+{
+    core_laws();
+    let load = held.load();
+    let Reworked { exit, marks } = work_again(rt, alloc, workers, &load, stays, steps)?;
+    let mut emptied = List::new(alloc);
+    emptied.push(Emptied { held, exit })?;
+    let results = station_results(rt, alloc, workers, emptied, &Open)?;
+    turn_by(the_only(results), marks, again, all)
+}
+
+// The result of the only node.
+fn the_only(results: List<NodeResult>) -> NodeResult
+    requires { length results ≡ 1 }
+    ensures { results ≡ result ∷ [] }
+{
     let mut results = results.into_vec();
     let Some(result) = results.pop() else {
         unreachable!()
@@ -213,7 +373,14 @@ fn the_only(results: List<NodeResult>) -> NodeResult {
     result
 }
 
-fn turn_by(node_result: NodeResult, marks: Marks, again: u64, all: u64) -> Result<Turn, RunFault> {
+// What a node gives that ended so.
+fn turn_by(node_result: NodeResult, marks: Marks, again: u64, all: u64) -> Result<Turn, RunFault>
+    ensures ends { IfOk result (λ turn. node_result.ending ≡ OnTime turn.visits turn.streams) }
+    ensures marks { IfOk result (λ turn. turn.marks ≡ marks) }
+    ensures again { IfOk result (λ turn. turn.again ≡ again) }
+    ensures all { IfOk result (λ turn. turn.all ≡ all) }
+    ensures cause { IfErr result (IsFaultOf node_result.ending) }
+{
     match node_result.ending {
         Ending::OnTime(visits, streams) => Ok(Turn {
             visits,

@@ -1,0 +1,10 @@
+use Rattle.std.proofs.Common.{get_or}
+use Rattle.mq_kept.proofs.Turning.{crowded-at, ready-all}
+use Rattle.mq_kept.proofs.turns.turn_of.Goals as goal
+
+pub returns-in-Crowded-clause-cause : goal.returns-in-Crowded-clause-cause
+returns-in-Crowded-clause-cause g c =
+    let s = c.args.arriving.now in
+    let v = get_or s.ready.now 0 0 in
+    let inside = (ready-all s c.requires.wave c.requires.one).inside in
+    crowded-at s.plan.now s.rows.now v c.in-Crowded.count inside c.in-Crowded.ensures
