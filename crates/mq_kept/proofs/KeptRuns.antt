@@ -1,15 +1,14 @@
 -- What is known of a node of a run that is kept, since it wasn't refused.
-use Rattle.std.proofs.Common.{◌≡◌, ℕ, zero, suc, ◌+◌, ◌++◌, ◌<◌, ◌≤◌, ◌⊎◌, inl, inr, false, List, [], ◌∷◌, length, map, Option, Some, None, refl, sym, ap, ◌∙◌, subst, arith}
+use Rattle.std.proofs.Common.{◌≡◌, ℕ, zero, suc, ◌++◌, ◌<◌, ◌≤◌, ◌⊎◌, inl, inr, false, List, [], ◌∷◌, length, map, Option, Some, None, refl, sym, ap, ◌∙◌, subst, arith}
 use Rattle.std.specs.Prelude.{slice_get}
 use Rattle.std.proofs.lemmas.Bool.{cases_lt}
-use Rattle.std.proofs.lemmas.List.{length-map}
 use Rattle.std.proofs.lemmas.Option.{slice_get_within}
 use Rattle.mq_base.proofs.lemmas.Lists.{some_inj}
 use Rattle.mq_core.specs.Alone.{came}
 use Rattle.mq_core.specs.Laws.{in_order_of}
 use Rattle.mq_core.specs.NumberLaws.{IsFineBelow}
 use Rattle.mq_core.specs.Results.{Refusal, refusal_of, stream_from, visits_of}
-use Rattle.mq_core.specs.RunLaws.{HasSequences, RunsHaveSequences}
+use Rattle.mq_core.specs.RunLaws.{RunsHaveSequences}
 use Rattle.mq_core.specs.SequenceLaws.{jobs_of, read_from}
 use Rattle.mq_core.specs.Sequences.{IsRunOf, sequence_refusal}
 use Rattle.mq_core.specs.StandardTable.{run_of}

@@ -1,10 +1,13 @@
 pub mod Asking
 pub mod Behind
+pub mod CameBefore
+pub mod Ended
 pub mod KeptRuns
 pub mod Marked
 pub mod None
+pub mod Numbers
 pub mod Ranks
 pub mod SameNodes
-pub mod Turning
+pub mod Unchanged
 pub mod Within
 pub mod Worked

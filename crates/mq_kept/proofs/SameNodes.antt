@@ -1,9 +1,8 @@
 -- A node whose visits and streams are the same in two runs of a plan.
-use Rattle.std.proofs.Common.{◌≡◌, ℕ, zero, suc, ◌+◌, ◌<◌, ◌≤◌, ◌⊎◌, inl, inr, Bool, true, false, List, [], ◌∷◌, ◌++◌, length, map, take, Option, Some, None, refl, sym, ap, ◌∙◌, subst, arith}
+use Rattle.std.proofs.Common.{◌≡◌, ℕ, zero, suc, ◌+◌, ◌<◌, ◌≤◌, ◌⊎◌, inl, inr, true, false, List, [], ◌∷◌, ◌++◌, length, map, Some, None, refl, sym, ap, ◌∙◌, subst, arith}
 use Rattle.std.specs.Prelude.{slice_get}
 use Rattle.std.proofs.lemmas.Bool.{cases_lt}
-use Rattle.std.proofs.lemmas.Option.{slice_get_within}
-use Rattle.mq_base.proofs.lemmas.Lists.{get-some, some_inj}
+use Rattle.mq_base.proofs.lemmas.Lists.{some_inj}
 use Rattle.mq_stations.proofs.lemmas.Leaves.{once-leaves}
 use Rattle.mq_alike.specs.Again.{Coming, IsWhole}
 use Rattle.mq_arrivals.specs.Arrivals.{pairs_read}
@@ -48,21 +47,21 @@ below-same end end' v (suc outs) h = (λ i. below-same end end' v outs h i ++ h 
 
 pub known-stays : (plan : Plan) (old new : Rows) (v : ℕ) (node : Node) (visits : Visits) (streams : List Stream) → IsSameAt plan old new v node.kind → IsKnown plan old v node (OnTime visits streams) → IsKnown plan new v node (OnTime visits streams)
 known-stays plan old new v node visits streams s k = (
-    k.0 ∙ s.visits,
-    k.1 ∙ below-same (run_of plan old) (run_of plan new) v (outputs_in node.kind) s.stream,
-    k.2,
-    ap (sequence_refusal plan.net.bound v) (sym s.visits) ∙ k.3,
-  )
+  k.0 ∙ s.visits,
+  k.1 ∙ below-same (run_of plan old) (run_of plan new) v (outputs_in node.kind) s.stream,
+  k.2,
+  ap (sequence_refusal plan.net.bound v) (sym s.visits) ∙ k.3,
+)
 
 -- what a node keeps of a run is known
 pub has-known : (plan : Plan) (rows : Rows) (v : ℕ) (node : Node) (visits : List Visits) (outputs : List (List Stream)) (came : Visits) (left : List Stream) → HasSequences (run_of plan rows) (record { visits = visits; outputs = outputs }) v node → slice_get visits v ≡ Some came → slice_get outputs v ≡ Some left →
     ((out : ℕ) (stream : Stream) → slice_get left out ≡ Some stream → IsEarlyStream stream) → sequence_refusal plan.net.bound v (visits_of node.kind ((run_of plan rows).stations v)) ≡ None → IsKnown plan rows v node (OnTime came left)
 has-known plan rows v node visits outputs came left h a b early fine = (
-    some_inj came _ (sym a ∙ h.visits),
-    some_inj left _ (sym b ∙ h.outputs),
-    early,
-    fine,
-  )
+  some_inj came _ (sym a ∙ h.visits),
+  some_inj left _ (sym b ∙ h.outputs),
+  early,
+  fine,
+)
 
 -- what comes, with the port of each, is told by the triples of it
 abbrev came_from : ℕ → List (ℕ × ℕ × ℕ) → Came

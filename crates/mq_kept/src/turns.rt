@@ -2,7 +2,6 @@
 ghost use Rattle.std.specs.Prelude.{◌≡◌, ◌<◌, ◌≤◌, ◌+◌, ◌∷◌, ◌⊎◌, ◌==◌, ◌&&◌, ◌^◌, [], ℕ, false, true, if◌then◌else◌, length, slice_get, slice_index, IfErr, IfOk, Some};
 ghost use Rattle.mq_alike.specs.Again.{alike, blocks_in, is_counted};
 ghost use Rattle.mq_arrivals.specs.Arrivals.{AreOrdered, IsThere, pairs_read};
-ghost use Rattle.mq_core.specs.Streams.{pairs_of};
 ghost use Rattle.mq_core.specs.declared.model.Input.{Input as Port};
 ghost use Rattle.mq_core.specs.declared.model.Node.{Node as TheNode};
 ghost use Rattle.mq_core.specs.declared.model.Visits.{Visits as TheVisits};
@@ -11,8 +10,8 @@ ghost use Rattle.mq_engine.specs.Progress.{CanWork};
 ghost use Rattle.mq_engine.specs.Waves.{IsWave};
 ghost use Rattle.mq_exits.specs.Loads.{IsReadyLoad};
 ghost use Rattle.mq_exits.specs.Results.{IsWorkedOut};
-ghost use Rattle.mq_exits.specs.declared.working.Ending.TheVariants.{OnTime, TooLate, TooMany};
-ghost use Rattle.mq_kept.specs.Marking.{IsKeptNode, IsStaying, blocks_behind, coming_of};
+ghost use Rattle.mq_exits.specs.declared.working.Ending.TheVariants.{OnTime};
+ghost use Rattle.mq_kept.specs.Marking.{IsKeptNode, blocks_behind, coming_of};
 ghost use Rattle.mq_kept.specs.Turns.{IsBefore, IsFaultAt, IsFaultOf, IsStayingAt, IsTurn, again_behind, came_before};
 ghost use Rattle.mq_kept.specs.declared.marks.Marks.{Marks as TheMarks};
 ghost use Rattle.mq_merge.specs.Borrowed.{stream_in};
@@ -111,13 +110,7 @@ fn apart_turn<R: Threads + Sync>(
     runs_have_sequences();
     let node = arriving.plan.net.nodes.get(number as usize);
     if reads_the_same(arriving.outputs, before.outputs, node) {
-        return Ok(kept_turn(
-            alloc,
-            &node.kind,
-            before,
-            number,
-            arriving.block,
-        )?);
+        return Ok(kept_turn(alloc, &node.kind, before, number, arriving.block)?);
     }
     let results = wave_of(rt, alloc, arriving, &Open)?;
     turn_by(the_only(results), Marks::Unmarked, 0, 0)
@@ -267,13 +260,7 @@ fn held_at<'a, R: Threads + Sync>(
 }
 
 // How many first visits to a node are the same as the kept ones, and how many those are: none where nothing is kept.
-fn alike_at(
-    before: &Before,
-    rows: &Rows,
-    kind: &Kind,
-    number: u32,
-    arrivals: &Stream,
-) -> (u32, u32)
+fn alike_at(before: &Before, rows: &Rows, kind: &Kind, number: u32, arrivals: &Stream) -> (u32, u32)
     requires inside { 1 ≤ length before.now.visits.now → number < length before.now.visits.now }
     requires earlier { HaveDemands before.now.rows.now kind.now (came_before before.now number).job }
     requires even { length (came_before before.now number).arrive ≡ length (came_before before.now number).job }

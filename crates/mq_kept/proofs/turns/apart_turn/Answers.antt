@@ -1,8 +1,10 @@
-use Rattle.std.proofs.Common.{length, ap, sym, subst, refl, arith}
+use Rattle.std.proofs.Common.{subst}
 use Rattle.std.specs.List.{AllByRecursion}
 use Rattle.mq_exits.specs.Results.{IsResultOf}
 use Rattle.mq_kept.proofs.KeptRuns.{kept-there}
-use Rattle.mq_kept.proofs.Turning.{apart-ended, apart-turn, came-few, ended-fault, ended-known, kept-ordered, kept-outputs, kept-within}
+use Rattle.mq_kept.proofs.CameBefore.{came-few, kept-ordered, kept-outputs, kept-within}
+use Rattle.mq_kept.proofs.Ended.{ended-fault, ended-known}
+use Rattle.mq_kept.proofs.Unchanged.{apart-ended, apart-turn}
 use Rattle.mq_kept.proofs.turns.apart_turn.Goals as goal
 
 pub reads_the_same-requires-clause-ordered : goal.reads_the_same-requires-clause-ordered

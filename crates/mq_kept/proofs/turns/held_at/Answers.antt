@@ -2,7 +2,7 @@ use Rattle.std.proofs.Common.{length, ap, sym, subst, arith}
 use Rattle.std.specs.List.{AllByRecursion}
 use Rattle.mq_arrivals.specs.Arrivals.{HasArrived}
 use Rattle.mq_engine.proofs.Telling.{serves}
-use Rattle.mq_kept.proofs.Turning.{can-one, held-one}
+use Rattle.mq_kept.proofs.Ended.{can-one, held-one}
 use Rattle.mq_kept.proofs.turns.held_at.Goals as goal
 
 pub arrivals_of-requires-after_bounds : goal.arrivals_of-requires-after_bounds

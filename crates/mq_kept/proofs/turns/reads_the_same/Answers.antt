@@ -1,10 +1,6 @@
-use Rattle.std.proofs.Common.{◌≡◌, ℕ, ◌<◌, ◌≤◌, ◌⊎◌, inl, inr, Some, ap, sym, ◌∙◌, refl, subst, arith}
-use Rattle.std.specs.Prelude.{slice_get}
-use Rattle.std.proofs.lemmas.Bool.{cases_lt}
+use Rattle.std.proofs.Common.{ap, sym, ◌∙◌, arith}
 use Rattle.std.proofs.lemmas.Option.{slice_get_within}
-use Rattle.mq_arrivals.specs.Arrivals.{pairs_read}
 use Rattle.mq_core.specs.Streams.{pairs_of}
-use Rattle.mq_core.specs.declared.model.Input.{Input}
 use Rattle.mq_kept.proofs.SameNodes.{ports-more}
 use Rattle.mq_kept.proofs.turns.reads_the_same.Goals as goal
 

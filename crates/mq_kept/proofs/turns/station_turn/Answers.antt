@@ -9,7 +9,10 @@ use Rattle.mq_exits.specs.Results.{IsWorkedOut}
 use Rattle.mq_exits.specs.declared.working.Ending.TheVariants.{OnTime}
 use Rattle.mq_kept.specs.Marking.{IsKeptNode, blocks_behind, coming_of}
 use Rattle.mq_kept.specs.Turns.{came_before}
-use Rattle.mq_kept.proofs.Turning.{before-even, before-few, before-told, kept-visits, kept-within, loaded-at, station-again, station-all, station-ended, station-spent, station-unchanged, staying-at, staying-by}
+use Rattle.mq_kept.proofs.CameBefore.{before-even, before-few, before-told, kept-visits, kept-within, staying-at, staying-by}
+use Rattle.mq_kept.proofs.Ended.{loaded-at, station-ended}
+use Rattle.mq_kept.proofs.Numbers.{station-again, station-all, station-spent}
+use Rattle.mq_kept.proofs.Unchanged.{station-unchanged}
 use Rattle.mq_rework.specs.Stays.{coming_as}
 use Rattle.mq_kept.proofs.turns.station_turn.Goals as goal
 
@@ -46,11 +49,10 @@ returns-then-is_unchanged-clause-turn g c =
     let before = c.args.before.now in
     let yes = c.is_unchanged.ensures.yes c.if-is_unchanged.true in
     let k = kept-visits s.plan.now s.block before c.requires.before yes.0 in
-    let same = c.alike_at-same.ensures.same in
     let loaded = loaded-at c.in_ok-held.held s.plan.now s.rows.now c.args.number c.stream-arrivals.result.now c.in_ok-held.ensures.ready c.in_ok-held.ensures.plan c.in_ok-held.ensures.rows c.in_ok-held.ensures.number c.stream-arrivals.ensures in
     let h = c.in_ok-kept_turn.ensures in
-    station-unchanged c.runs_have_sequences.ensures c.core_laws.ensures s before c.args.number c.get.result.now c.in_ok-kept_turn.field-0 c.get.ensures k c.sequences_stay.ensures c.alike_is_first.ensures c.stream-arrivals.result.now loaded c.requires.wave.read
-    (c.requires.can.once c.get.result.now c.get.ensures) (sym same ∙ (yes.1 ∙ c.alike_at-same.ensures.visits)) (sym same ∙ (yes.2 ∙ c.len-count.ensures)) h.visits h.streams h.marks h.again h.all h.few
+    station-unchanged c.runs_have_sequences.ensures c.core_laws.ensures s before c.args.number c.get.result.now c.in_ok-kept_turn.field-0 c.get.ensures k c.sequences_stay.ensures c.alike_is_first.ensures c.stream-arrivals.result.now loaded c.requires.wave.read c.alike_at-same.result.0 c.alike_at-same.result.1 c.len-count.result
+    (c.requires.can.once c.get.result.now c.get.ensures) c.alike_at-same.ensures.same c.alike_at-same.ensures.visits c.len-count.ensures yes.1 yes.2 h.visits h.streams h.marks h.again h.all h.few
 
 pub counted-again-requires : goal.counted-again-requires
 counted-again-requires g c =

@@ -1,5 +1,5 @@
 use Rattle.std.proofs.Common.{get_or}
-use Rattle.mq_kept.proofs.Turning.{crowded-at, ready-all}
+use Rattle.mq_kept.proofs.Ended.{crowded-at, ready-all}
 use Rattle.mq_kept.proofs.turns.turn_of.Goals as goal
 
 pub returns-in-Crowded-clause-cause : goal.returns-in-Crowded-clause-cause

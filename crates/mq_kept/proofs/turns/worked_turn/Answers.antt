@@ -6,7 +6,7 @@ use Rattle.mq_core.specs.declared.model.Node.{Node}
 use Rattle.mq_exits.specs.Loads.{Told}
 use Rattle.mq_exits.specs.declared.exits.Emptied.{Emptied}
 use Rattle.mq_kept.specs.Marking.{IsKeptNode}
-use Rattle.mq_kept.proofs.Turning.{ended-fault, ended-marks, ended-on_time, held-known}
+use Rattle.mq_kept.proofs.Ended.{ended-fault, ended-marks, ended-on_time, held-known}
 use Rattle.mq_merge.specs.Borrowed.{stream_in}
 use Rattle.mq_rework.specs.Stays.{coming_as}
 use Rattle.mq_kept.proofs.turns.worked_turn.Goals as goal
