@@ -22,7 +22,6 @@ mod ready;
 mod wave;
 
 use crate::progress::{Progress, Stand, beginning, ready_nodes, settle};
-
 pub use fault::RunFault;
 pub use laws::core_laws;
 use mq_arrivals::Arriving;
@@ -30,10 +29,10 @@ use mq_base::List;
 use mq_core::{Plan, Rows, Run};
 use mq_crew::Gate;
 pub use mq_pass::chain_departures;
-pub use wave::{Way, wave_of, way_of};
 pub use mq_stations::{OverFault, PastFault};
 use std::alloc::Global;
 use std::thread::Threads;
+pub use wave::{Way, wave_of, way_of};
 
 /// The run of a plan over the rows that were read for its network: the visits to each node, and
 /// what leaves it by each output.
