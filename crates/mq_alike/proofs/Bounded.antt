@@ -15,7 +15,7 @@ use Rattle.mq_core.specs.declared.model.Network.{Network}
 use Rattle.mq_core.specs.declared.model.Node.{Node}
 use Rattle.mq_core.specs.declared.model.Rows.{Rows}
 use Rattle.mq_core.specs.declared.model.Stage.{Stage}
-use Rattle.mq_alike.specs.Again.{AgainIsBounded, Coming, again, again_at, again_of, alike, alike_from, asks_same, blocks_in, blocks_of, coming_in, is_counted, same_demand, same_visit}
+use Rattle.mq_alike.specs.Again.{AgainIsBounded, Coming, again, again_at, again_of, alike, alike_from, asks_same, blocks_in, blocks_of, coming_in, is_counted, is_worked, same_demand, same_visit, worked_of}
 
 -- of one node
 at-within : (block : ℕ) (kind : Kind) (old new : Coming) → again_at block kind old new ≤ blocks_in block (length new.job)
@@ -32,6 +32,28 @@ node-within block (Some node) old new = go (is_counted node.kind) (at-within blo
     go : (b : Bool) → again_at block node.kind old new ≤ blocks_in block (length new.job) → cond b (again_at block node.kind old new) 0 ≤ cond b (blocks_in block (length new.job)) 0
     go true h = h
     go false h = omega arith
+
+-- what is worked is counted
+pub worked-within : (block : ℕ) (node : Option Node) (old new : Coming) → worked_of block node old new ≤ again_of block node old new
+worked-within block None old new = omega arith
+worked-within block (Some node) old new = go (is_worked node.kind) (is_counted node.kind) (both node.kind)
+  where
+    both : (kind : Kind) → is_worked kind ≡ true → is_counted kind ≡ true
+    both Source e = refl
+    both (Server demand) e = refl
+    both (Delay demand) e = refl
+    both (Loss places demand) e = e
+    both (Tandem stages) e = refl
+    both (ForkJoin branches) e = refl
+    both (Split route) e = refl
+    both (Fork outputs) e = e
+    both Join e = e
+    both (Trunk servers demand) e = e
+
+    go : (a b : Bool) → (a ≡ true → b ≡ true) → cond a (again_at block node.kind old new) 0 ≤ cond b (again_at block node.kind old new) 0
+    go true true h = omega arith
+    go true false h = absurd (let e = h refl in cc)
+    go false b h = omega arith
 
 -- a job asks for the same by the same rows
 stages-self : (rows : Rows) (job : ℕ) (stages : List Stage) → list_all (λ (stage : Stage). same_demand rows rows job stage.demand) stages ≡ true
@@ -93,4 +115,5 @@ pub bounded : AgainIsBounded
 bounded = record {
   within = λ net old new block. sum_by-le-sum_by (λ v. again_of block (slice_get net.nodes v) (coming_in net old v) (coming_in net new v)) (λ v. blocks_of block (slice_get net.nodes v) (coming_in net new v)) (ranking net.nodes) (λ v. node-within block (slice_get net.nodes v) (coming_in net old v) (coming_in net new v));
   none = λ net rows block. zeros (λ v. again_of block (slice_get net.nodes v) (coming_in net rows v) (coming_in net rows v)) (ranking net.nodes) (λ v. node-none block (slice_get net.nodes v) (coming_in net rows v) (came-even net rows v));
+  worked_within = λ net old new block. sum_by-le-sum_by (λ v. worked_of block (slice_get net.nodes v) (coming_in net old v) (coming_in net new v)) (λ v. again_of block (slice_get net.nodes v) (coming_in net old v) (coming_in net new v)) (ranking net.nodes) (λ v. worked-within block (slice_get net.nodes v) (coming_in net old v) (coming_in net new v));
 }

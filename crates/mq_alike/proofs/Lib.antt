@@ -1,4 +1,4 @@
-mod Bounded
+pub mod Bounded
 mod First
 mod Same
 mod Whole

@@ -18,7 +18,7 @@ use Rattle.mq_core.specs.declared.model.Kind.TheVariants.{Delay, Fork, ForkJoin,
 use Rattle.mq_core.specs.declared.model.Route.{Route}
 use Rattle.mq_core.specs.declared.model.Rows.{Rows}
 use Rattle.mq_core.specs.declared.model.Stage.{Stage}
-use Rattle.mq_alike.specs.Again.{Coming, IsWhole, SequencesStay, alike_from, asks_same, same_demand, same_visit}
+use Rattle.mq_alike.specs.Again.{Coming, IsUnchanged, SequencesStay, alike_from, asks_same, same_demand, same_visit}
 
 -- all visits are the same: the two have the same jobs at the same times, which ask for the same
 record AllSame (kind : Kind) (rows rows' : Rows) (jobs arrives jobs' arrives' : List ℕ) : Type 0 where

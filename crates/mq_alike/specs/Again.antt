@@ -46,6 +46,19 @@ is_counted (Fork outputs) = false
 is_counted Join = false
 is_counted (Trunk servers demand) = false
 
+-- a node whose jobs are worked block by block; those of a source depart as they come
+abbrev pub is_worked : Kind → Bool
+is_worked Source = false
+is_worked (Server demand) = true
+is_worked (Delay demand) = true
+is_worked (Loss places demand) = false
+is_worked (Tandem stages) = true
+is_worked (ForkJoin branches) = true
+is_worked (Split route) = true
+is_worked (Fork outputs) = false
+is_worked Join = false
+is_worked (Trunk servers demand) = false
+
 -- what comes to a node in a run over rows: of each visit its job, and when it came
 pub record Coming : Type 0 where
   pub rows : Rows
@@ -86,11 +99,17 @@ coming_in net rows v = record {
   arrive = arrives_of ((run_in net rows).stations v).visits;
 }
 
--- how many blocks of a node are done again, and how many it has, where they are counted
+-- how many blocks of a node are done again, where they are counted
 abbrev pub again_of : ℕ → Option Node → Coming → Coming → ℕ
 again_of block None old new = 0
 again_of block (Some node) old new = if is_counted node.kind then again_at block node.kind old new else 0
 
+-- how many of them are worked: all but those of sources
+abbrev pub worked_of : ℕ → Option Node → Coming → Coming → ℕ
+worked_of block None old new = 0
+worked_of block (Some node) old new = if is_worked node.kind then again_at block node.kind old new else 0
+
+-- how many blocks a node has, where they are counted
 abbrev pub blocks_of : ℕ → Option Node → Coming → ℕ
 blocks_of block None new = 0
 blocks_of block (Some node) new = if is_counted node.kind then blocks_in block (length new.job) else 0
@@ -99,13 +118,17 @@ blocks_of block (Some node) new = if is_counted node.kind then blocks_in block (
 abbrev pub again : Network → Rows → Rows → ℕ → ℕ
 again net old new block = sum_by (λ v. again_of block (slice_get net.nodes v) (coming_in net old v) (coming_in net new v)) (ranking net.nodes)
 
+abbrev pub worked : Network → Rows → Rows → ℕ → ℕ
+worked net old new block = sum_by (λ v. worked_of block (slice_get net.nodes v) (coming_in net old v) (coming_in net new v)) (ranking net.nodes)
+
 abbrev pub all_blocks : Network → Rows → ℕ → ℕ
 all_blocks net rows block = sum_by (λ v. blocks_of block (slice_get net.nodes v) (coming_in net rows v)) (ranking net.nodes)
 
--- no more blocks are done again than there are, and none where the rows are the same
+-- no more blocks are done again than there are, and none where the rows are the same; no more are worked than are done again
 pub record AgainIsBounded : Type 0 where
   pub within : (net : Network) (old new : Rows) (block : ℕ) → again net old new block ≤ all_blocks net new block
   pub none : (net : Network) (rows : Rows) (block : ℕ) → again net rows rows block ≡ 0
+  pub worked_within : (net : Network) (old new : Rows) (block : ℕ) → worked net old new block ≤ again net old new block
 
 -- a visit is in both runs at a position, and asks for the same in both
 pub record IsAlikeAt (kind : Kind) (old new : Coming) (k : ℕ) : Type 0 where
@@ -128,7 +151,7 @@ abbrev pub AlikeIsFirst : Type 0
 AlikeIsFirst = (kind : Kind) (old new : Coming) → AlikeBelow kind old new
 
 -- a run comes to a node with no difference: its sequences there are those of the other, by its arrivals and what they ask for
-pub record IsWhole (kind : Kind) (old new : Coming) : Type 0 where
+pub record IsUnchanged (kind : Kind) (old new : Coming) : Type 0 where
   pub jobs : old.job ≡ new.job
   pub arrives : old.arrive ≡ new.arrive
   pub fates : sequence_fates old.rows kind (came_by old.job old.arrive) ≡ sequence_fates new.rows kind (came_by new.job new.arrive)
@@ -139,4 +162,4 @@ pub record IsWhole (kind : Kind) (old new : Coming) : Type 0 where
 abbrev pub SequencesStay : Type 0
 SequencesStay =
     (kind : Kind) (old new : Coming) → sends_once kind ≡ true → length old.arrive ≡ length old.job → length new.arrive ≡ length new.job →
-    alike kind old new ≡ length old.job → alike kind old new ≡ length new.job → IsWhole kind old new
+    alike kind old new ≡ length old.job → alike kind old new ≡ length new.job → IsUnchanged kind old new

@@ -8,7 +8,8 @@ pub fn alike_is_first()
     ensures { AlikeIsFirst }
 {}
 
-/// No more blocks of a run are done again than it has, and none where the rows are the same. It does nothing when it runs.
+/// No more blocks of a run are done again than it has, and none where the rows are the same; no more are worked than are done
+/// again. It does nothing when it runs.
 pub fn again_is_bounded()
     ensures { AgainIsBounded }
 {}

@@ -15,14 +15,14 @@ use Rattle.mq_engine.specs.CoreLaws.{CoreLaws}
 use Rattle.mq_exits.specs.declared.load.Held.{Held}
 use Rattle.mq_kept.proofs.KeptRuns.{kept-demands, kept-few}
 use Rattle.mq_kept.proofs.None.{kept-none}
-use Rattle.mq_kept.specs.Marking.{IsKeptNode, IsStaying, coming_by}
-use Rattle.mq_kept.specs.Turns.{AreKept, IsBefore, IsStayingAt, came_before, coming_to}
-use Rattle.mq_kept.specs.declared.marks.Marks.TheVariants.{Unmarked}
-use Rattle.mq_kept.specs.declared.marks.Marks.{Marks}
+use Rattle.mq_kept.specs.KeptNodes.{IsKeptNode, IsStayingNode, coming_by}
+use Rattle.mq_kept.specs.NodeRuns.{AreKept, IsBefore, IsStayingAt, came_before, coming_to}
+use Rattle.mq_kept.specs.declared.checkpoints.Checkpoints.TheVariants.{Nothing}
+use Rattle.mq_kept.specs.declared.checkpoints.Checkpoints.{Checkpoints}
 use Rattle.mq_kept.specs.declared.stations.Stays.{Stays}
-use Rattle.mq_kept.specs.declared.turns.Before.{Before}
+use Rattle.mq_kept.specs.declared.nodes.Before.{Before}
 use Rattle.mq_merge.specs.Borrowed.{stream_in}
-use Rattle.mq_rework.specs.Stays.{coming_as}
+use Rattle.mq_redo.specs.Kept.{coming_as}
 use Rattle.mq_stations.specs.Leaving.{HaveDemands}
 use Rattle.std.proofs.Common.{◌≡◌, ℕ, ◌*◌, ◌/◌, ◌<◌, ◌≤◌, inl, inr, List, [], length, Some, refl, sym, ap, ◌∙◌, subst, arith}
 use Rattle.std.proofs.lemmas.List.{length-map}
@@ -39,41 +39,33 @@ run-came plan before v node h = ap (coming_by before.rows.now) h.visits
 
 -- blocks before the first difference stay
 pub staying-by : (has : RunsHaveSequences) (plan : Plan) (block : ℕ) (before : Before) (v : ℕ) (node : Node) (new : Coming) (same : ℕ) (stays : Stays) → slice_get plan.net.nodes v ≡ Some node → 1 ≤ block → IsBefore plan block before → same ≡ alike node.kind (came_before before v) new → stays.blocks ≡ same / block →
-    (before.visits.now ≡ [] → (stays.fates.now ≡ []) × (stays.marks.now ≡ Unmarked)) →
-    ((seen : Visits) (mark : Marks) → slice_get before.visits.now v ≡ Some seen → slice_get before.marks.now v ≡ Some mark → (stays.fates.now ≡ seen.fate) × (stays.marks.now ≡ mark)) →
-    IsStaying node.kind (came_before before v) new block stays
+    (before.visits.now ≡ [] → (stays.fates.now ≡ []) × (stays.checkpoints.now ≡ Nothing)) →
+    ((seen : Visits) (points : Checkpoints) → slice_get before.visits.now v ≡ Some seen → slice_get before.checkpoints.now v ≡ Some points → (stays.fates.now ≡ seen.fate) × (stays.checkpoints.now ≡ points)) →
+    IsStayingNode node.kind (came_before before v) new block stays
 staying-by has plan block before v node new same stays there some (inl none) is first nothing kept =
     let none_came = nothing-came before v none.visits in
     let h = nothing none.visits in
     let whole = div-add-mod' same block in
     let many = ap (λ (b : ℕ). b * block) first in
-    record {
-      even = subst (λ (c : Coming). length c.arrive ≡ length c.job) (sym none_came) refl;
-      kept = subst (λ (p : Coming × List Fate × Marks). IsKeptNode node.kind p.0 block p.1 p.2) (λ i. (sym none_came i, sym h.0 i, sym h.1 i)) (kept-none node.kind before.rows.now block some);
-      same = omega arith;
-    }
+    (subst (λ (p : Coming × List Fate × Checkpoints). IsKeptNode node.kind p.0 block p.1 p.2) (λ i. (sym none_came i, sym h.0 i, sym h.1 i)) (kept-none node.kind before.rows.now block some), record { even = subst (λ (c : Coming). length c.arrive ≡ length c.job) (sym none_came) refl; same = omega arith })
 staying-by has plan block before v node new same stays there some (inr k) is first nothing kept =
     let sequences = has plan before.rows.now (record { visits = before.visits.now; outputs = before.outputs.now }) k.is_run v node there in
     let seen = visits_of node.kind ((run_of plan before.rows.now).stations v) in
-    let inside : v < length before.marks.now = subst (λ (n : ℕ). v < n) (sym k.marks.count) (slice_get_within plan.net.nodes v node there) in
-    let mark = get-some before.marks.now v inside in
-    let h = kept seen mark.0 sequences.visits mark.1 in
+    let inside : v < length before.checkpoints.now = subst (λ (n : ℕ). v < n) (sym k.checkpoints.count) (slice_get_within plan.net.nodes v node there) in
+    let points = get-some before.checkpoints.now v inside in
+    let h = kept seen points.0 sequences.visits points.1 in
     let came = run-came plan before v node sequences in
     let xs = ((run_of plan before.rows.now).stations v).visits in
     let whole = div-add-mod' same block in
     let many = ap (λ (b : ℕ). b * block) first in
-    record {
-      even = subst (λ (c : Coming). length c.arrive ≡ length c.job) (sym came) (length-map xs _ ∙ sym (length-map xs _));
-      kept = subst (λ (p : Coming × List Fate × Marks). IsKeptNode node.kind p.0 block p.1 p.2) (λ i. (sym came i, sym h.0 i, sym h.1 i)) (k.marks.each v node seen mark.0 there sequences.visits mark.1);
-      same = omega arith;
-    }
+    (subst (λ (p : Coming × List Fate × Checkpoints). IsKeptNode node.kind p.0 block p.1 p.2) (λ i. (sym came i, sym h.0 i, sym h.1 i)) (k.checkpoints.each v node seen points.0 there sequences.visits points.1), record { even = subst (λ (c : Coming). length c.arrive ≡ length c.job) (sym came) (length-map xs _ ∙ sym (length-map xs _)); same = omega arith })
 
 -- where something is kept it is a run
-pub kept-outputs : (plan : Plan) (block : ℕ) (before : Before) → IsBefore plan block before → 1 ≤ length before.outputs.now → AreKept plan before.rows.now block (record { visits = before.visits.now; outputs = before.outputs.now }) before.marks.now
+pub kept-outputs : (plan : Plan) (block : ℕ) (before : Before) → IsBefore plan block before → 1 ≤ length before.outputs.now → AreKept plan before.rows.now block (record { visits = before.visits.now; outputs = before.outputs.now }) before.checkpoints.now
 kept-outputs plan block before (inl none) some = absurd (let long = ap length none.outputs in omega arith)
 kept-outputs plan block before (inr k) some = k
 
-pub kept-visits : (plan : Plan) (block : ℕ) (before : Before) → IsBefore plan block before → 1 ≤ length before.visits.now → AreKept plan before.rows.now block (record { visits = before.visits.now; outputs = before.outputs.now }) before.marks.now
+pub kept-visits : (plan : Plan) (block : ℕ) (before : Before) → IsBefore plan block before → 1 ≤ length before.visits.now → AreKept plan before.rows.now block (record { visits = before.visits.now; outputs = before.outputs.now }) before.checkpoints.now
 kept-visits plan block before (inl none) some = absurd (let long = ap length none.visits in omega arith)
 kept-visits plan block before (inr k) some = k
 
@@ -84,13 +76,13 @@ kept-ordered plan block before (inr k) u out streams stream a b = (k.early u out
 
 -- a node of it
 module _ (has : RunsHaveSequences) (laws : CoreLaws) (plan : Plan) (block : ℕ) (before : Before) (v : ℕ) (node : Node) (there : slice_get plan.net.nodes v ≡ Some node)
-    (k : AreKept plan before.rows.now block (record { visits = before.visits.now; outputs = before.outputs.now }) before.marks.now) where
-  pub kept-within : (v < length before.visits.now) × (v < length before.outputs.now) × (v < length before.marks.now)
+    (k : AreKept plan before.rows.now block (record { visits = before.visits.now; outputs = before.outputs.now }) before.checkpoints.now) where
+  pub kept-within : (v < length before.visits.now) × (v < length before.outputs.now) × (v < length before.checkpoints.now)
   kept-within =
       let h = has plan before.rows.now (record { visits = before.visits.now; outputs = before.outputs.now }) k.is_run v node there in (
         slice_get_within before.visits.now v _ h.visits,
         slice_get_within before.outputs.now v _ h.outputs,
-        subst (λ (n : ℕ). v < n) (sym k.marks.count) (slice_get_within plan.net.nodes v node there),
+        subst (λ (n : ℕ). v < n) (sym k.checkpoints.count) (slice_get_within plan.net.nodes v node there),
       )
 
   pub came-few : length (came_before before v).job ≤ 1048576
@@ -125,7 +117,7 @@ module _ (has : RunsHaveSequences) (laws : CoreLaws) (plan : Plan) (block : ℕ)
 
 -- so these blocks of it stay
 pub staying-at : (held : Held) (plan : Plan) (rows : Rows) (v block : ℕ) (node : Node) (arrivals : Stream) (old : Coming) (stays : Stays) → held.plan.now ≡ plan → held.rows.now ≡ rows → held.number ≡ v → held.block ≡ block → arrivals ≡ stream_in held.arrivals → slice_get plan.net.nodes v ≡ Some node →
-    IsStaying node.kind old (coming_as rows arrivals) block stays → IsStayingAt held stays
+    IsStayingNode node.kind old (coming_as rows arrivals) block stays → IsStayingAt held stays
 staying-at held plan rows v block node arrivals old stays a b c d e there h =
-    subst (λ (t : Plan × Rows × ℕ × ℕ × Stream). (n : Node) → slice_get t.0.net.nodes t.2 ≡ Some n → (x : Coming) × IsStaying n.kind x (coming_as t.1 t.4) t.3 stays) (λ i. (sym a i, sym b i, sym c i, sym d i, e i))
-    (λ n g. (old, subst (λ (m : Node). IsStaying m.kind old (coming_as rows arrivals) block stays) (some_inj node n (sym there ∙ g)) h))
+    subst (λ (t : Plan × Rows × ℕ × ℕ × Stream). (n : Node) → slice_get t.0.net.nodes t.2 ≡ Some n → (x : Coming) × IsStayingNode n.kind x (coming_as t.1 t.4) t.3 stays) (λ i. (sym a i, sym b i, sym c i, sym d i, e i))
+    (λ n g. (old, subst (λ (m : Node). IsStayingNode m.kind old (coming_as rows arrivals) block stays) (some_inj node n (sym there ∙ g)) h))

@@ -31,13 +31,13 @@ use Rattle.mq_exits.specs.declared.working.Ending.TheVariants.{OnTime, TooLate, 
 use Rattle.mq_exits.specs.declared.working.Ending.{Ending}
 use Rattle.mq_exits.specs.declared.working.NodeResult.{NodeResult}
 use Rattle.mq_kept.proofs.SameNodes.{visits-by}
-use Rattle.mq_kept.specs.Marking.{IsKeptNode, coming_of}
-use Rattle.mq_kept.specs.Turns.{IsFaultAt, IsFaultOf, IsTurn, again_behind, blocks_at}
-use Rattle.mq_kept.specs.declared.marks.Marks.{Marks}
-use Rattle.mq_kept.specs.declared.turns.Before.{Before}
-use Rattle.mq_kept.specs.declared.turns.Turn.{Turn}
+use Rattle.mq_kept.specs.KeptNodes.{IsKeptNode, coming_of}
+use Rattle.mq_kept.specs.NodeRuns.{IsFaultAt, IsFaultOf, IsNodeRun, again_behind, blocks_at}
+use Rattle.mq_kept.specs.declared.checkpoints.Checkpoints.{Checkpoints}
+use Rattle.mq_kept.specs.declared.nodes.Before.{Before}
+use Rattle.mq_kept.specs.declared.nodes.NodeRun.{NodeRun}
 use Rattle.mq_merge.specs.Borrowed.{stream_in}
-use Rattle.mq_rework.specs.Stays.{coming_as}
+use Rattle.mq_redo.specs.Kept.{coming_as}
 use Rattle.std.proofs.Common.{◌≡◌, ℕ, zero, suc, ◌^◌, ◌<◌, ◌≤◌, List, [], ◌∷◌, ◌++◌, length, get_or, Some, refl, sym, ap, ◌∙◌, subst, arith}
 use Rattle.std.proofs.lemmas.List.{length-map}
 use Rattle.std.proofs.lemmas.Option.{slice_get-get_or}
@@ -74,15 +74,15 @@ module _ (plan : Plan) (rows : Rows) (v : ℕ) where
       (at.0, at.1, refusal-many plan.net.bound v count (visits_of at.0.kind ((run_of plan rows).stations v)) (length-map xs _ ∙ many.0) many.1)
 
 -- what is kept of a station that was gone through again is kept of its visits
-pub worked-marks : (laws : CoreLaws) (plan : Plan) (rows : Rows) (v block : ℕ) (arrivals : Stream) (visits : Visits) (streams : List Stream) (marks : Marks) → IsReadFor plan.net rows → IsLoaded plan rows v arrivals → IsWorkedOut plan rows (record { number = v; ending = OnTime visits streams }) →
-    ((node : Node) → slice_get plan.net.nodes v ≡ Some node → IsKeptNode node.kind (coming_as rows arrivals) block (sequence_fates rows node.kind (came_in arrivals)) marks) →
-    (node : Node) → slice_get plan.net.nodes v ≡ Some node → IsKeptNode node.kind (coming_of rows visits) block visits.fate marks
-worked-marks laws plan rows v block arrivals visits streams marks read loaded w kept node there =
+pub worked-checkpoints : (laws : CoreLaws) (plan : Plan) (rows : Rows) (v block : ℕ) (arrivals : Stream) (visits : Visits) (streams : List Stream) (checkpoints : Checkpoints) → IsReadFor plan.net rows → IsLoaded plan rows v arrivals → IsWorkedOut plan rows (record { number = v; ending = OnTime visits streams }) →
+    ((node : Node) → slice_get plan.net.nodes v ≡ Some node → IsKeptNode node.kind (coming_as rows arrivals) block (sequence_fates rows node.kind (came_in arrivals)) checkpoints) →
+    (node : Node) → slice_get plan.net.nodes v ≡ Some node → IsKeptNode node.kind (coming_of rows visits) block visits.fate checkpoints
+worked-checkpoints laws plan rows v block arrivals visits streams checkpoints read loaded w kept node there =
     let mine = some_inj w.0 loaded.node (sym w.1 ∙ loaded.there) in
     let known = subst (λ (n : Node). IsKnown plan rows v n (OnTime visits streams)) mine w.2 in
     let is = visits-by laws plan rows v arrivals visits streams read loaded known in
-    subst (λ (n : Node). IsKeptNode n.kind (coming_of rows visits) block visits.fate marks) (some_inj loaded.node node (sym loaded.there ∙ there))
-    (subst (λ (x : Visits). IsKeptNode loaded.node.kind (coming_of rows x) block x.fate marks) (sym is) (kept loaded.node loaded.there))
+    subst (λ (n : Node). IsKeptNode n.kind (coming_of rows visits) block visits.fate checkpoints) (some_inj loaded.node node (sym loaded.there ∙ there))
+    (subst (λ (x : Visits). IsKeptNode loaded.node.kind (coming_of rows x) block x.fate checkpoints) (sym is) (kept loaded.node loaded.there))
 
 -- the only station that is ready can be worked out
 pub can-one : (s : Arriving) (v : ℕ) → s.ready.now ≡ v ∷ [] → CanWork s.plan.now s.rows.now s.outputs.now v → CanWorkAll s.plan.now s.rows.now s.outputs.now s.ready.now
@@ -109,8 +109,8 @@ pub ended-known : (plan : Plan) (rows : Rows) (v : ℕ) (results : List NodeResu
 ended-known plan rows v results r e all = result-at plan rows v r (subst (Each (IsResultOf plan rows (v ∷ []))) e all).0
 
 -- how it ended
-pub ended-fault : (plan : Plan) (rows : Rows) (v : ℕ) (ending : Ending) (result : Result Turn RunFault) → IsWorkedOut plan rows (record { number = v; ending = ending }) → IfErr result (IsFaultOf ending) → IfErr result (IsFaultAt plan rows v)
-ended-fault plan rows v ending (Ok turn) w h = tt
+pub ended-fault : (plan : Plan) (rows : Rows) (v : ℕ) (ending : Ending) (result : Result NodeRun RunFault) → IsWorkedOut plan rows (record { number = v; ending = ending }) → IfErr result (IsFaultOf ending) → IfErr result (IsFaultAt plan rows v)
+ended-fault plan rows v ending (Ok gives) w h = tt
 ended-fault plan rows v ending (Err fault) w h = fault-at plan rows v ending fault w h
 
 -- the only result of a station that was held is how it ended
@@ -122,34 +122,34 @@ held-known held exit list results r e known only =
     ended-known held.plan.now held.rows.now held.number results r only (known held.plan.now held.rows.now ready own)
 
 -- what it gives
-pub ended-on_time : (plan : Plan) (rows : Rows) (v : ℕ) (ending : Ending) (result : Result Turn RunFault) → IsWorkedOut plan rows (record { number = v; ending = ending }) → IfOk result (λ turn. ending ≡ OnTime turn.visits turn.streams) →
-    IfOk result (λ turn. IsWorkedOut plan rows (record { number = v; ending = OnTime turn.visits turn.streams }))
-ended-on_time plan rows v ending (Ok turn) w e = ended-so plan rows v ending (OnTime turn.visits turn.streams) e w
+pub ended-on_time : (plan : Plan) (rows : Rows) (v : ℕ) (ending : Ending) (result : Result NodeRun RunFault) → IsWorkedOut plan rows (record { number = v; ending = ending }) → IfOk result (λ gives. ending ≡ OnTime gives.visits gives.streams) →
+    IfOk result (λ gives. IsWorkedOut plan rows (record { number = v; ending = OnTime gives.visits gives.streams }))
+ended-on_time plan rows v ending (Ok gives) w e = ended-so plan rows v ending (OnTime gives.visits gives.streams) e w
 ended-on_time plan rows v ending (Err fault) w e = tt
 
-pub ended-marks : (laws : CoreLaws) (plan : Plan) (rows : Rows) (v block : ℕ) (arrivals : Stream) (ending : Ending) (marks : Marks) (result : Result Turn RunFault) → IsReadFor plan.net rows → IsLoaded plan rows v arrivals → IsWorkedOut plan rows (record { number = v; ending = ending }) →
-    IfOk result (λ turn. ending ≡ OnTime turn.visits turn.streams) → IfOk result (λ turn. turn.marks ≡ marks) →
-    ((node : Node) → slice_get plan.net.nodes v ≡ Some node → IsKeptNode node.kind (coming_as rows arrivals) block (sequence_fates rows node.kind (came_in arrivals)) marks) →
-    IfOk result (λ turn. (node : Node) → slice_get plan.net.nodes v ≡ Some node → IsKeptNode node.kind (coming_of rows turn.visits) block turn.visits.fate turn.marks)
-ended-marks laws plan rows v block arrivals ending marks (Ok turn) read loaded w e m kept =
-    worked-marks laws plan rows v block arrivals turn.visits turn.streams turn.marks read loaded (ended-so plan rows v ending (OnTime turn.visits turn.streams) e w)
+pub ended-checkpoints : (laws : CoreLaws) (plan : Plan) (rows : Rows) (v block : ℕ) (arrivals : Stream) (ending : Ending) (checkpoints : Checkpoints) (result : Result NodeRun RunFault) → IsReadFor plan.net rows → IsLoaded plan rows v arrivals → IsWorkedOut plan rows (record { number = v; ending = ending }) →
+    IfOk result (λ gives. ending ≡ OnTime gives.visits gives.streams) → IfOk result (λ gives. gives.checkpoints ≡ checkpoints) →
+    ((node : Node) → slice_get plan.net.nodes v ≡ Some node → IsKeptNode node.kind (coming_as rows arrivals) block (sequence_fates rows node.kind (came_in arrivals)) checkpoints) →
+    IfOk result (λ gives. (node : Node) → slice_get plan.net.nodes v ≡ Some node → IsKeptNode node.kind (coming_of rows gives.visits) block gives.visits.fate gives.checkpoints)
+ended-checkpoints laws plan rows v block arrivals ending checkpoints (Ok gives) read loaded w e m kept =
+    worked-checkpoints laws plan rows v block arrivals gives.visits gives.streams gives.checkpoints read loaded (ended-so plan rows v ending (OnTime gives.visits gives.streams) e w)
     (λ node there. subst (IsKeptNode node.kind (coming_as rows arrivals) block (sequence_fates rows node.kind (came_in arrivals))) (sym m) (kept node there))
-ended-marks laws plan rows v block arrivals ending marks (Err fault) read loaded w e m kept = tt
+ended-checkpoints laws plan rows v block arrivals ending checkpoints (Err fault) read loaded w e m kept = tt
 
 -- What a station gives that was gone through again.
-pub station-ended : (s : Arriving) (before : Before) (v : ℕ) (result : Result Turn RunFault) (again all : ℕ) → again ≡ again_behind s before v → all ≡ blocks_at s v → again < 2 ^ 32 → all < 2 ^ 32 →
-    IfOk result (λ turn. IsWorkedOut s.plan.now s.rows.now (record { number = v; ending = OnTime turn.visits turn.streams })) →
-    IfOk result (λ turn. (node : Node) → slice_get s.plan.now.net.nodes v ≡ Some node → IsKeptNode node.kind (coming_of s.rows.now turn.visits) s.block turn.visits.fate turn.marks) →
-    IfOk result (λ turn. turn.again ≡ again) → IfOk result (λ turn. turn.all ≡ all) → IfOk result (IsTurn s before v)
-station-ended s before v (Ok turn) again all a b few few' known marks c d = record {
+pub station-ended : (s : Arriving) (before : Before) (v : ℕ) (result : Result NodeRun RunFault) (again all : ℕ) → again ≡ again_behind s before v → all ≡ blocks_at s v → again < 2 ^ 32 → all < 2 ^ 32 →
+    IfOk result (λ gives. IsWorkedOut s.plan.now s.rows.now (record { number = v; ending = OnTime gives.visits gives.streams })) →
+    IfOk result (λ gives. (node : Node) → slice_get s.plan.now.net.nodes v ≡ Some node → IsKeptNode node.kind (coming_of s.rows.now gives.visits) s.block gives.visits.fate gives.checkpoints) →
+    IfOk result (λ gives. gives.again ≡ again) → IfOk result (λ gives. gives.all ≡ all) → IfOk result (IsNodeRun s before v)
+station-ended s before v (Ok gives) again all a b few few' known checkpoints c d = record {
   known = known;
-  marks = marks;
+  checkpoints = checkpoints;
   again = c ∙ a;
   all = d ∙ b;
   again_few = subst (λ (n : ℕ). n < 2 ^ 32) (sym c) few;
   all_few = subst (λ (n : ℕ). n < 2 ^ 32) (sym d) few';
 }
-station-ended s before v (Err fault) again all a b few few' known marks c d = tt
+station-ended s before v (Err fault) again all a b few few' known checkpoints c d = tt
 
 -- what is held is what came to the one station
 pub loaded-at : (held : Held) (plan : Plan) (rows : Rows) (v : ℕ) (arrivals : Stream) → IsReadyLoad held → held.plan.now ≡ plan → held.rows.now ≡ rows → held.number ≡ v → arrivals ≡ stream_in held.arrivals → IsLoaded plan rows v arrivals

@@ -2,12 +2,12 @@ pub mod Asking
 pub mod Behind
 pub mod CameBefore
 pub mod Ended
+pub mod KeptNodes
 pub mod KeptRuns
-pub mod Marked
 pub mod None
 pub mod Numbers
 pub mod Ranks
 pub mod SameNodes
 pub mod Unchanged
 pub mod Within
-pub mod Worked
+pub mod WorkedTo

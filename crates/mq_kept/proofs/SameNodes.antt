@@ -4,7 +4,7 @@ use Rattle.std.specs.Prelude.{slice_get}
 use Rattle.std.proofs.lemmas.Bool.{cases_lt}
 use Rattle.mq_base.proofs.lemmas.Lists.{some_inj}
 use Rattle.mq_stations.proofs.lemmas.Leaves.{once-leaves}
-use Rattle.mq_alike.specs.Again.{Coming, IsWhole}
+use Rattle.mq_alike.specs.Again.{Coming, IsUnchanged}
 use Rattle.mq_arrivals.specs.Arrivals.{pairs_read}
 use Rattle.mq_core.specs.Alone.{came}
 use Rattle.mq_core.specs.Came.{Came, came_by, came_in, came_of}
@@ -26,12 +26,12 @@ use Rattle.mq_core.specs.declared.model.Plan.{Plan}
 use Rattle.mq_core.specs.declared.model.Rows.{Rows}
 use Rattle.mq_core.specs.declared.model.Stream.{Stream}
 use Rattle.mq_core.specs.declared.model.Visits.{Visits}
-use Rattle.mq_rework.specs.Stays.{coming_as}
+use Rattle.mq_redo.specs.Kept.{coming_as}
 use Rattle.mq_stations.specs.Leaving.{IsEarlyStream}
 use Rattle.mq_exits.specs.Loads.{IsArrived, IsLoaded}
 use Rattle.mq_exits.specs.Results.{IsKnown}
 use Rattle.mq_exits.specs.declared.working.Ending.TheVariants.{OnTime}
-use Rattle.mq_kept.specs.Turns.{coming_to}
+use Rattle.mq_kept.specs.NodeRuns.{coming_to}
 use Rattle.mq_engine.specs.CoreLaws.{CoreLaws}
 use Rattle.mq_engine.specs.Progress.{read_by}
 
@@ -122,7 +122,7 @@ module _ (laws : CoreLaws) (plan : Plan) (old new : Rows) (v : ℕ) (node : Node
   abbrev is : Coming
   is = record { rows = new; job = jobs_of news; arrive = arrives_of news }
 
-  pub whole-same : sends_once node.kind ≡ true → IsWhole node.kind was is → IsSameAt plan old new v node.kind
+  pub whole-same : sends_once node.kind ≡ true → IsUnchanged node.kind was is → IsSameAt plan old new v node.kind
   whole-same once w =
       let before = laws.sequences plan old read v node there in
       let after = laws.sequences plan new read' v node there in

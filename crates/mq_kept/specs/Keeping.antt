@@ -7,8 +7,8 @@ use Rattle.mq_core.specs.declared.model.Plan.{Plan}
 use Rattle.mq_core.specs.declared.model.Rows.{Rows}
 use Rattle.mq_core.specs.declared.model.Run.{Run}
 use Rattle.mq_engine.specs.Progress.{AreEarly}
-use Rattle.mq_kept.specs.Marking.{AreMarks}
-use Rattle.mq_kept.specs.declared.marks.Marks.{Marks}
+use Rattle.mq_kept.specs.KeptNodes.{AreCheckpoints}
+use Rattle.mq_kept.specs.declared.checkpoints.Checkpoints.{Checkpoints}
 
 -- what contracts see of a kept run
 pub record KeptRun : Type 0 where
@@ -29,7 +29,7 @@ pub record IsKeptRun (k : KeptRun) : Type 0 where
   pub fine : refusal_of k.plan k.rows ≡ None
 
 -- what the type keeps: this of its parts, that no stream has a time after 2^60, and what is kept of each node
-pub record IsKept (plan : Plan) (rows : Rows) (run : Run) (held : List Marks) (workers block : ℕ) : Type 0 where
+pub record IsKept (plan : Plan) (rows : Rows) (run : Run) (points : List Checkpoints) (workers block : ℕ) : Type 0 where
   pub whole : IsKeptRun (record { plan = plan; rows = rows; run = run; workers = workers; block = block })
   pub early : AreEarly run.outputs
-  pub marks : AreMarks plan.net.nodes rows block run.visits held
+  pub checkpoints : AreCheckpoints plan.net.nodes rows block run.visits points

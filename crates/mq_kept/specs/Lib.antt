@@ -1,5 +1,5 @@
 pub mod Carries
 pub mod Keeping
-pub mod Marking
+pub mod KeptNodes
+pub mod NodeRuns
 pub mod Totals
-pub mod Turns

@@ -2,7 +2,7 @@
 ghost use Rattle.std.specs.Prelude.{◌≡◌, ℕ, List as Items, map, IfOk, Some};
 ghost use Rattle.mq_core.specs.declared.model.Fate.TheVariants.{Departs};
 
-use crate::marks::copied;
+use crate::checkpoints::copied;
 use mq_base::{List, OutOfMemory};
 use mq_core::{Fate, Fates, Stream, Visits};
 use std::alloc::Global;

@@ -1,15 +1,16 @@
 // A kept run, and its edits.
 ghost use Rattle.std.specs.Prelude.{◌≡◌, ◌+◌, ◌<◌, ◌≤◌, length, IfErr, IfOk, OnErr, OnOk};
-ghost use Rattle.mq_alike.specs.Again.{again, all_blocks};
+ghost use Rattle.mq_alike.specs.Again.{again, all_blocks, worked};
 ghost use Rattle.mq_core.specs.Theorems.{IsReadFor};
 ghost use Rattle.mq_edits.specs.Edited.{AreEditsFor, edited_rows};
 ghost use Rattle.mq_engine.specs.Answer.{IsCause};
 ghost use Rattle.mq_kept.specs.Keeping.{IsKeptRun};
-ghost use Rattle.mq_kept.specs.Turns.{AreKept};
+ghost use Rattle.mq_kept.specs.NodeRuns.{AreKept};
 
 use crate::again::{Redone, Whole, run_again};
-use crate::marks::Marks;
-use crate::turns::Before;
+use crate::checkpoints::Checkpoints;
+use crate::nodes::Before;
+use mq_alike::again_is_bounded;
 use mq_base::{List, Steps};
 use mq_core::{Plan, Rows, Run, Stream, Visits, runs_are_of_networks, runs_have_sequences};
 use mq_edits::{Edit, edited};
@@ -26,7 +27,7 @@ pub struct Kept<'p> {
     plan: &'p Plan,
     rows: Rows,
     run: Run,
-    marks: List<Marks>,
+    checkpoints: List<Checkpoints>,
     workers: u32,
     block: u32,
 }
@@ -38,7 +39,7 @@ impl<'p> Model for Kept<'p> {
 
     ghost view = { λ k. record { plan = k.plan.now; rows = k.rows; run = k.run; workers = k.workers; block = k.block } };
 
-    ghost invariant = { λ k. IsKept k.plan.now k.rows k.run k.marks k.workers k.block };
+    ghost invariant = { λ k. IsKept k.plan.now k.rows k.run k.checkpoints k.workers k.block };
 }
 
 impl<'p> Kept<'p> {
@@ -68,13 +69,17 @@ impl<'p> Kept<'p> {
             plan,
             rows,
             run: whole.run,
-            marks: whole.marks,
+            checkpoints: whole.checkpoints,
             workers,
             block,
         })
     }
 
-    /// Makes edits in the kept rows, and does again what they touch.
+    /// Makes these edits, in their order, in the kept rows, and does again what they touch: of each node whose blocks are
+    /// counted the blocks from its first difference on. It tells how many these are, and how many blocks there are in
+    /// all. Each block that is worked counts one step: no more than are told, since the jobs of a source depart as they
+    /// come. It refuses as `run` over the edited rows does. Then the kept rows and run are as before, and the steps
+    /// stay counted. The kept run and the new one stand side by side until it is done.
     pub fn edit<R: Threads + Sync, L: Ledger>(
         &mut self,
         rt: &R,
@@ -90,7 +95,9 @@ impl<'p> Kept<'p> {
         ensures err { OnErr result (self.new ≡ self.old) }
         ensures cause { IfErr result (λ fault. IsCause self.old.plan (edited_rows self.old.rows edits.now) fault) }
         ensures steps { steps.old ≤ steps.new }
-        ensures spent { steps.new ≤ steps.old + again self.old.plan.net self.old.rows (edited_rows self.old.rows edits.now) self.old.block }
+        ensures spent { steps.new ≤ steps.old + worked self.old.plan.net self.old.rows (edited_rows self.old.rows edits.now) self.old.block }
+        ensures counted { OnOk result (steps.new ≡ steps.old + worked self.old.plan.net self.old.rows (edited_rows self.old.rows edits.now) self.old.block) }
+        ensures most { steps.new ≤ steps.old + again self.old.plan.net self.old.rows (edited_rows self.old.rows edits.now) self.old.block }
     {
         let rows = edited(alloc, &self.rows, edits)?;
         self.replace_rows(rt, alloc, rows, steps)
@@ -113,15 +120,18 @@ impl<'p> Kept<'p> {
         ensures err { OnErr result (self.new ≡ self.old) }
         ensures cause { IfErr result (λ fault. IsCause self.old.plan rows fault) }
         ensures steps { steps.old ≤ steps.new }
-        ensures spent { steps.new ≤ steps.old + again self.old.plan.net self.old.rows rows self.old.block }
+        ensures spent { steps.new ≤ steps.old + worked self.old.plan.net self.old.rows rows self.old.block }
+        ensures counted { OnOk result (steps.new ≡ steps.old + worked self.old.plan.net self.old.rows rows self.old.block) }
+        ensures most { steps.new ≤ steps.old + again self.old.plan.net self.old.rows rows self.old.block }
     {
         runs_have_sequences();
         runs_are_of_networks();
+        again_is_bounded();
         let before = Before {
             rows: &self.rows,
             visits: self.run.visits.as_slice(),
             outputs: self.run.outputs.as_slice(),
-            marks: self.marks.as_slice(),
+            checkpoints: self.checkpoints.as_slice(),
         };
         let whole = run_again(
             rt,
@@ -133,10 +143,14 @@ impl<'p> Kept<'p> {
             self.block,
             steps,
         )?;
-        let Whole { run, marks, redone } = whole;
+        let Whole {
+            run,
+            checkpoints,
+            redone,
+        } = whole;
         drop(replace(&mut self.rows, rows));
         drop(replace(&mut self.run, run));
-        drop(replace(&mut self.marks, marks));
+        drop(replace(&mut self.checkpoints, checkpoints));
         Ok(redone)
     }
 
@@ -174,16 +188,20 @@ fn begun<R: Threads + Sync, L: Ledger>(
     requires name { blank.name ≡ L.name }
     requires parts { blank.parts ≡ L.parts }
     requires whole { 0 < blank.parts }
-    ensures kept { IfOk result (λ whole. AreKept plan.now rows.now block whole.run whole.marks) }
+    ensures kept { IfOk result (λ whole. AreKept plan.now rows.now block whole.run whole.checkpoints) }
     ensures cause { IfErr result (λ fault. IsCause plan.now rows.now fault) }
 {
     let mut steps = Steps::<L>::new(blank);
-    let (visits, outputs, marks): (&[Visits], &[List<Stream>], &[Marks]) = (&[], &[], &[]);
+    let (visits, outputs, checkpoints): (&[Visits], &[List<Stream>], &[Checkpoints]) = (
+        &[],
+        &[],
+        &[],
+    );
     let before = Before {
         rows,
         visits,
         outputs,
-        marks,
+        checkpoints,
     };
     run_again(rt, alloc, plan, rows, &before, workers, block, &mut steps)
 }

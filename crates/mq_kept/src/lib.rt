@@ -2,12 +2,12 @@
 #![tactic(auto)]
 
 mod again;
+mod checkpoints;
 mod copies;
 mod kept;
-mod marks;
+mod nodes;
 mod stations;
 mod streams;
-mod turns;
 
 pub use again::Redone;
 pub use kept::Kept;

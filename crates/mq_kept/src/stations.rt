@@ -1,24 +1,25 @@
 // A station whose arrivals differ from those of the kept run: it keeps the blocks before the first difference, and does
 // the others again.
-ghost use Rattle.std.specs.Prelude.{◌≡◌, ◌+◌, ◌≤◌, Some, length, slice_get, IfOk};
+ghost use Rattle.std.specs.Prelude.{◌≡◌, ◌+◌, ◌≤◌, Some, length, slice_get, IfOk, OnOk};
 ghost use Rattle.mq_alike.specs.Again.{Coming as TheComing, blocks_in};
 ghost use Rattle.mq_core.specs.Came.{came_in};
 ghost use Rattle.mq_core.specs.Sequences.{sequence_fates};
 ghost use Rattle.mq_core.specs.declared.model.Kind.TheVariants.{Delay, ForkJoin, Server, Split, Tandem};
 ghost use Rattle.mq_core.specs.declared.model.Node.{Node as TheNode};
+ghost use Rattle.mq_exits.specs.Afters.{IsWorkedAt};
 ghost use Rattle.mq_exits.specs.Exits.{IsExit};
 ghost use Rattle.mq_exits.specs.Loads.{IsLoaded};
-ghost use Rattle.mq_kept.specs.Marking.{IsKeptNode, IsNodeOf, IsStaying, blocks_behind};
-ghost use Rattle.mq_rework.specs.Stays.{coming_as};
+ghost use Rattle.mq_exits.specs.declared.working.Worked.TheVariants.{Departed};
+ghost use Rattle.mq_kept.specs.KeptNodes.{IsKeptNode, IsNodeOf, IsStayingNode, blocks_behind};
+ghost use Rattle.mq_redo.specs.Kept.{coming_as};
 
-use crate::marks::Marks;
+use crate::checkpoints::Checkpoints;
 use mq_alike::alike_is_first;
 use mq_base::{List, OutOfMemory, Steps};
 use mq_core::{Demand, Fates, Kind, Route, Stage};
 use mq_exits::{Exit, Load, Worked, left_by, station_whole};
-use mq_rework::{
-    blocks_hold, blocks_stay, branched_again, delayed_again, routed_again, served_again,
-    staged_again,
+use mq_redo::{
+    blocks_hold, branched_again, delayed_again, routed_again, served_again, staged_again,
 };
 use mq_scan::cut;
 use std::alloc::Global;
@@ -31,7 +32,7 @@ pub struct Stays<'a> {
     /// How its kept visits end.
     pub fates: &'a Fates,
     /// What is kept of its blocks.
-    pub marks: &'a Marks,
+    pub checkpoints: &'a Checkpoints,
     /// How many first blocks stay.
     pub blocks: u32,
 }
@@ -40,11 +41,11 @@ pub struct Stays<'a> {
 #[derive(Drop)]
 pub struct Reworked {
     pub exit: Exit,
-    pub marks: Marks,
+    pub checkpoints: Checkpoints,
 }
 
 /// What is known of a station that is gone through again behind the blocks that stay. A loss station and a trunk group
-/// are worked out anew.
+/// are worked out anew, and the jobs of a source depart as they come. It refuses for want of memory alone.
 pub fn work_again<R: Threads + Sync, L: Ledger>(
     rt: &R,
     alloc: Global,
@@ -56,11 +57,12 @@ pub fn work_again<R: Threads + Sync, L: Ledger>(
     requires loaded { IsLoaded load.now.plan.now load.now.rows.now load.now.number load.now.arrivals.now }
     requires some { 1 ≤ load.now.block }
     requires large { load.now.block ≤ 65536 }
-    requires stays { (node : TheNode) → slice_get load.now.plan.now.net.nodes load.now.number ≡ Some node → (old : TheComing) × IsStaying node.kind old (coming_as load.now.rows.now load.now.arrivals.now) load.now.block stays.now }
+    requires stays { (node : TheNode) → slice_get load.now.plan.now.net.nodes load.now.number ≡ Some node → (old : TheComing) × IsStayingNode node.kind old (coming_as load.now.rows.now load.now.arrivals.now) load.now.block stays.now }
     ensures exit { IfOk result (λ r. IsExit load.now.plan.now load.now.rows.now load.now.number load.now.arrivals.now r.exit) }
-    ensures marks { IfOk result (λ r. (node : TheNode) → slice_get load.now.plan.now.net.nodes load.now.number ≡ Some node → IsKeptNode node.kind (coming_as load.now.rows.now load.now.arrivals.now) load.now.block (sequence_fates load.now.rows.now node.kind (came_in load.now.arrivals.now)) r.marks) }
+    ensures checkpoints { IfOk result (λ r. (node : TheNode) → slice_get load.now.plan.now.net.nodes load.now.number ≡ Some node → IsKeptNode node.kind (coming_as load.now.rows.now load.now.arrivals.now) load.now.block (sequence_fates load.now.rows.now node.kind (came_in load.now.arrivals.now)) r.checkpoints) }
     ensures steps { steps.old ≤ steps.new }
     ensures spent { (node : TheNode) → slice_get load.now.plan.now.net.nodes load.now.number ≡ Some node → steps.new ≤ steps.old + blocks_behind load.now.block node.kind (length load.now.arrivals.now.job) stays.now.blocks }
+    ensures counted { OnOk result ((node : TheNode) → slice_get load.now.plan.now.net.nodes load.now.number ≡ Some node → steps.new ≡ steps.old + blocks_behind load.now.block node.kind (length load.now.arrivals.now.job) stays.now.blocks) }
 {
     match &load.plan.net.nodes.get(load.number as usize).kind {
         Kind::Server(demand) => server_again(rt, alloc, workers, load, demand, stays, steps),
@@ -90,17 +92,17 @@ fn server_again<R: Threads + Sync, L: Ledger>(
     requires some { 1 ≤ load.now.block }
     requires large { load.now.block ≤ 65536 }
     requires node { IsNodeOf load.now.plan.now load.now.number (Server demand.now) }
-    requires stays { (old : TheComing) × IsStaying (Server demand.now) old (coming_as load.now.rows.now load.now.arrivals.now) load.now.block stays.now }
+    requires stays { (old : TheComing) × IsStayingNode (Server demand.now) old (coming_as load.now.rows.now load.now.arrivals.now) load.now.block stays.now }
     ensures exit { IfOk result (λ r. IsExit load.now.plan.now load.now.rows.now load.now.number load.now.arrivals.now r.exit) }
-    ensures marks { IfOk result (λ r. IsKeptNode (Server demand.now) (coming_as load.now.rows.now load.now.arrivals.now) load.now.block (sequence_fates load.now.rows.now (Server demand.now) (came_in load.now.arrivals.now)) r.marks) }
+    ensures checkpoints { IfOk result (λ r. IsKeptNode (Server demand.now) (coming_as load.now.rows.now load.now.arrivals.now) load.now.block (sequence_fates load.now.rows.now (Server demand.now) (came_in load.now.arrivals.now)) r.checkpoints) }
     ensures steps { steps.old ≤ steps.new }
     ensures spent { steps.new + stays.now.blocks ≤ steps.old + blocks_in load.now.block (length load.now.arrivals.now.job) }
+    ensures counted { OnOk result (steps.new + stays.now.blocks ≡ steps.old + blocks_in load.now.block (length load.now.arrivals.now.job)) }
 {
     alike_is_first();
-    blocks_stay();
     let blocks = cut(load.arrivals.time.len() as u32, load.block);
     blocks_hold(&blocks);
-    let (carries, first) = (stays.marks.server(), stays.blocks);
+    let (carries, first) = (stays.checkpoints.server(), stays.blocks);
     let done = served_again(
         alloc,
         load.rows,
@@ -112,15 +114,9 @@ fn server_again<R: Threads + Sync, L: Ledger>(
         first,
         steps,
     )?;
-    let marks = Marks::Server(List::from_vec(done.carries));
-    let worked = Worked::Departed(List::from_vec(done.times));
-    match left_by(rt, alloc, workers, load, worked) {
-        Ok(exit) => Ok(Reworked { exit, marks }),
-        Err(fault) => {
-            drop(marks);
-            Err(fault)
-        }
-    }
+    let checkpoints = Checkpoints::Server(List::from_vec(done.carries));
+    let reworked = departed(rt, alloc, workers, load, done.times, checkpoints)?;
+    Ok(reworked)
 }
 
 // A delay.
@@ -137,17 +133,17 @@ fn delay_again<R: Threads + Sync, L: Ledger>(
     requires some { 1 ≤ load.now.block }
     requires large { load.now.block ≤ 65536 }
     requires node { IsNodeOf load.now.plan.now load.now.number (Delay demand.now) }
-    requires stays { (old : TheComing) × IsStaying (Delay demand.now) old (coming_as load.now.rows.now load.now.arrivals.now) load.now.block stays.now }
+    requires stays { (old : TheComing) × IsStayingNode (Delay demand.now) old (coming_as load.now.rows.now load.now.arrivals.now) load.now.block stays.now }
     ensures exit { IfOk result (λ r. IsExit load.now.plan.now load.now.rows.now load.now.number load.now.arrivals.now r.exit) }
-    ensures marks { IfOk result (λ r. IsKeptNode (Delay demand.now) (coming_as load.now.rows.now load.now.arrivals.now) load.now.block (sequence_fates load.now.rows.now (Delay demand.now) (came_in load.now.arrivals.now)) r.marks) }
+    ensures checkpoints { IfOk result (λ r. IsKeptNode (Delay demand.now) (coming_as load.now.rows.now load.now.arrivals.now) load.now.block (sequence_fates load.now.rows.now (Delay demand.now) (came_in load.now.arrivals.now)) r.checkpoints) }
     ensures steps { steps.old ≤ steps.new }
     ensures spent { steps.new + stays.now.blocks ≤ steps.old + blocks_in load.now.block (length load.now.arrivals.now.job) }
+    ensures counted { OnOk result (steps.new + stays.now.blocks ≡ steps.old + blocks_in load.now.block (length load.now.arrivals.now.job)) }
 {
     alike_is_first();
-    blocks_stay();
     let blocks = cut(load.arrivals.time.len() as u32, load.block);
     blocks_hold(&blocks);
-    let (carries, first) = (stays.marks.delay(), stays.blocks);
+    let (carries, first) = (stays.checkpoints.delay(), stays.blocks);
     let done = delayed_again(
         alloc,
         load.rows,
@@ -159,15 +155,9 @@ fn delay_again<R: Threads + Sync, L: Ledger>(
         first,
         steps,
     )?;
-    let marks = Marks::Delay(List::from_vec(done.carries));
-    let worked = Worked::Departed(List::from_vec(done.times));
-    match left_by(rt, alloc, workers, load, worked) {
-        Ok(exit) => Ok(Reworked { exit, marks }),
-        Err(fault) => {
-            drop(marks);
-            Err(fault)
-        }
-    }
+    let checkpoints = Checkpoints::Delay(List::from_vec(done.carries));
+    let reworked = departed(rt, alloc, workers, load, done.times, checkpoints)?;
+    Ok(reworked)
 }
 
 // A tandem.
@@ -184,17 +174,17 @@ fn tandem_again<R: Threads + Sync, L: Ledger>(
     requires some { 1 ≤ load.now.block }
     requires large { load.now.block ≤ 65536 }
     requires node { IsNodeOf load.now.plan.now load.now.number (Tandem stages.now) }
-    requires stays { (old : TheComing) × IsStaying (Tandem stages.now) old (coming_as load.now.rows.now load.now.arrivals.now) load.now.block stays.now }
+    requires stays { (old : TheComing) × IsStayingNode (Tandem stages.now) old (coming_as load.now.rows.now load.now.arrivals.now) load.now.block stays.now }
     ensures exit { IfOk result (λ r. IsExit load.now.plan.now load.now.rows.now load.now.number load.now.arrivals.now r.exit) }
-    ensures marks { IfOk result (λ r. IsKeptNode (Tandem stages.now) (coming_as load.now.rows.now load.now.arrivals.now) load.now.block (sequence_fates load.now.rows.now (Tandem stages.now) (came_in load.now.arrivals.now)) r.marks) }
+    ensures checkpoints { IfOk result (λ r. IsKeptNode (Tandem stages.now) (coming_as load.now.rows.now load.now.arrivals.now) load.now.block (sequence_fates load.now.rows.now (Tandem stages.now) (came_in load.now.arrivals.now)) r.checkpoints) }
     ensures steps { steps.old ≤ steps.new }
     ensures spent { steps.new + stays.now.blocks ≤ steps.old + blocks_in load.now.block (length load.now.arrivals.now.job) }
+    ensures counted { OnOk result (steps.new + stays.now.blocks ≡ steps.old + blocks_in load.now.block (length load.now.arrivals.now.job)) }
 {
     alike_is_first();
-    blocks_stay();
     let blocks = cut(load.arrivals.time.len() as u32, load.block);
     blocks_hold(&blocks);
-    let (carries, first) = (stays.marks.tandem(), stays.blocks);
+    let (carries, first) = (stays.checkpoints.tandem(), stays.blocks);
     let done = staged_again(
         alloc,
         load.rows,
@@ -206,15 +196,9 @@ fn tandem_again<R: Threads + Sync, L: Ledger>(
         first,
         steps,
     )?;
-    let marks = Marks::Tandem(List::from_vec(done.carries));
-    let worked = Worked::Departed(List::from_vec(done.times));
-    match left_by(rt, alloc, workers, load, worked) {
-        Ok(exit) => Ok(Reworked { exit, marks }),
-        Err(fault) => {
-            drop(marks);
-            Err(fault)
-        }
-    }
+    let checkpoints = Checkpoints::Tandem(List::from_vec(done.carries));
+    let reworked = departed(rt, alloc, workers, load, done.times, checkpoints)?;
+    Ok(reworked)
 }
 
 // A fork-join.
@@ -231,16 +215,17 @@ fn forkjoin_again<R: Threads + Sync, L: Ledger>(
     requires some { 1 ≤ load.now.block }
     requires large { load.now.block ≤ 65536 }
     requires node { IsNodeOf load.now.plan.now load.now.number (ForkJoin branches.now) }
-    requires stays { (old : TheComing) × IsStaying (ForkJoin branches.now) old (coming_as load.now.rows.now load.now.arrivals.now) load.now.block stays.now }
+    requires stays { (old : TheComing) × IsStayingNode (ForkJoin branches.now) old (coming_as load.now.rows.now load.now.arrivals.now) load.now.block stays.now }
     ensures exit { IfOk result (λ r. IsExit load.now.plan.now load.now.rows.now load.now.number load.now.arrivals.now r.exit) }
-    ensures marks { IfOk result (λ r. IsKeptNode (ForkJoin branches.now) (coming_as load.now.rows.now load.now.arrivals.now) load.now.block (sequence_fates load.now.rows.now (ForkJoin branches.now) (came_in load.now.arrivals.now)) r.marks) }
+    ensures checkpoints { IfOk result (λ r. IsKeptNode (ForkJoin branches.now) (coming_as load.now.rows.now load.now.arrivals.now) load.now.block (sequence_fates load.now.rows.now (ForkJoin branches.now) (came_in load.now.arrivals.now)) r.checkpoints) }
     ensures steps { steps.old ≤ steps.new }
     ensures spent { steps.new + stays.now.blocks ≤ steps.old + blocks_in load.now.block (length load.now.arrivals.now.job) }
+    ensures counted { OnOk result (steps.new + stays.now.blocks ≡ steps.old + blocks_in load.now.block (length load.now.arrivals.now.job)) }
 {
     alike_is_first();
     let blocks = cut(load.arrivals.time.len() as u32, load.block);
     blocks_hold(&blocks);
-    let (carries, first) = (stays.marks.forkjoin(), stays.blocks);
+    let (carries, first) = (stays.checkpoints.forkjoin(), stays.blocks);
     let done = branched_again(
         alloc,
         load.rows,
@@ -252,12 +237,36 @@ fn forkjoin_again<R: Threads + Sync, L: Ledger>(
         first,
         steps,
     )?;
-    let marks = Marks::ForkJoin(List::from_vec(done.carries));
-    let worked = Worked::Departed(List::from_vec(done.times));
-    match left_by(rt, alloc, workers, load, worked) {
-        Ok(exit) => Ok(Reworked { exit, marks }),
+    let checkpoints = Checkpoints::ForkJoin(List::from_vec(done.carries));
+    let reworked = departed(rt, alloc, workers, load, done.times, checkpoints)?;
+    Ok(reworked)
+}
+
+// What is known of a station whose jobs depart at these times, in ticks, with its checkpoints.
+fn departed<R: Threads + Sync>(
+    rt: &R,
+    alloc: Global,
+    workers: u32,
+    load: &Load,
+    times: Vec<u64>,
+    checkpoints: Checkpoints,
+) -> Result<Reworked, OutOfMemory>
+    requires loaded { IsLoaded load.now.plan.now load.now.rows.now load.now.number load.now.arrivals.now }
+    requires some { 1 ≤ load.now.block }
+    requires worked { IsWorkedAt load.now.plan.now load.now.rows.now load.now.number load.now.arrivals.now (Departed times.items) }
+    ensures exit { IfOk result (λ r. IsExit load.now.plan.now load.now.rows.now load.now.number load.now.arrivals.now r.exit) }
+    ensures checkpoints { IfOk result (λ r. r.checkpoints ≡ checkpoints) }
+{
+    match left_by(
+        rt,
+        alloc,
+        workers,
+        load,
+        Worked::Departed(List::from_vec(times)),
+    ) {
+        Ok(exit) => Ok(Reworked { exit, checkpoints }),
         Err(fault) => {
-            drop(marks);
+            drop(checkpoints);
             Err(fault)
         }
     }
@@ -275,16 +284,17 @@ fn split_again<L: Ledger>(
     requires some { 1 ≤ load.now.block }
     requires large { load.now.block ≤ 65536 }
     requires node { IsNodeOf load.now.plan.now load.now.number (Split route.now) }
-    requires stays { (old : TheComing) × IsStaying (Split route.now) old (coming_as load.now.rows.now load.now.arrivals.now) load.now.block stays.now }
+    requires stays { (old : TheComing) × IsStayingNode (Split route.now) old (coming_as load.now.rows.now load.now.arrivals.now) load.now.block stays.now }
     ensures exit { IfOk result (λ r. IsExit load.now.plan.now load.now.rows.now load.now.number load.now.arrivals.now r.exit) }
-    ensures marks { IfOk result (λ r. IsKeptNode (Split route.now) (coming_as load.now.rows.now load.now.arrivals.now) load.now.block (sequence_fates load.now.rows.now (Split route.now) (came_in load.now.arrivals.now)) r.marks) }
+    ensures checkpoints { IfOk result (λ r. IsKeptNode (Split route.now) (coming_as load.now.rows.now load.now.arrivals.now) load.now.block (sequence_fates load.now.rows.now (Split route.now) (came_in load.now.arrivals.now)) r.checkpoints) }
     ensures steps { steps.old ≤ steps.new }
     ensures spent { steps.new + stays.now.blocks ≤ steps.old + blocks_in load.now.block (length load.now.arrivals.now.job) }
+    ensures counted { OnOk result (steps.new + stays.now.blocks ≡ steps.old + blocks_in load.now.block (length load.now.arrivals.now.job)) }
 {
     alike_is_first();
     let blocks = cut(load.arrivals.job.len() as u32, load.block);
     blocks_hold(&blocks);
-    let (outs, carries) = (stays.marks.outs(), stays.marks.split());
+    let (outs, carries) = (stays.checkpoints.outs(), stays.checkpoints.split());
     let rerouted = routed_again(
         alloc,
         load.rows,
@@ -298,10 +308,10 @@ fn split_again<L: Ledger>(
     )?;
     Ok(Reworked {
         exit: Exit::Passed(rerouted.streams),
-        marks: Marks::Split(
-            List::from_vec(rerouted.carries),
-            List::from_vec(rerouted.outs),
-        ),
+        checkpoints: Checkpoints::Split {
+            carries: List::from_vec(rerouted.carries),
+            outs: List::from_vec(rerouted.outs),
+        },
     })
 }
 
@@ -320,6 +330,6 @@ fn worked_anew<R: Threads + Sync>(
     let exit = left_by(rt, alloc, workers, load, worked)?;
     Ok(Reworked {
         exit,
-        marks: Marks::Unmarked,
+        checkpoints: Checkpoints::Nothing,
     })
 }

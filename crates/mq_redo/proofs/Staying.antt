@@ -1,12 +1,12 @@
 -- What stays of a kept run.
-use Rattle.std.proofs.Common.{◌≡◌, ℕ, zero, suc, ◌+◌, ◌-◌, ◌*◌, ◌<◌, ◌≤◌, List, [], ◌∷◌, ◌++◌, length, map, min, take, refl, sym, ap, ◌∙◌, subst, arith, Some, slice_get}
+use Rattle.std.proofs.Common.{◌≡◌, ℕ, zero, suc, ◌+◌, ◌*◌, ◌<◌, ◌≤◌, List, [], ◌∷◌, length, map, min, take, refl, sym, ap, ◌∙◌, subst, arith, Some, slice_get}
 use Rattle.mq_base.proofs.lemmas.Lists.{some_inj}
 use Rattle.mq_core.specs.declared.model.Fate.{Fate}
 use Rattle.mq_core.specs.declared.model.Fate.TheVariants.{Departs, Held, Lost}
 use Rattle.mq_scan.specs.Folds.{carries_after, fold_to}
 use Rattle.mq_scan.specs.declared.blocks.Blocks.{Blocks}
-use Rattle.mq_redo.specs.Doing.{AreBehind, AreDone, AreStaying}
-use Rattle.mq_redo.specs.Staying.{DoneTellsJobs, HaveStayed, IsMarked}
+use Rattle.mq_redo.specs.Doing.{AreBehind, AreStaying}
+use Rattle.mq_redo.specs.Staying.{DoneAreKept, IsKeptScan, IsKeptStation}
 use Rattle.mq_redo.proofs.Doing.{carries-same, fold-same, kept-few}
 
 module _ {S C : Type 0} (time : C → ℕ) (acted : S → C → C) (start : C) (part : ℕ → S) where
@@ -22,41 +22,35 @@ module _ {S C : Type 0} (time : C → ℕ) (acted : S → C → C) (start : C) (
   times-many from (suc n) = ap suc (times-many (suc from) n)
 
   -- all jobs of a run that is kept
-  pub marked-all : (blocks : Blocks) → min (blocks.blocks * blocks.block) blocks.n ≡ blocks.n
-  marked-all blocks = let all = blocks.all in omega arith
+  pub scan-all : (blocks : Blocks) → min (blocks.blocks * blocks.block) blocks.n ≡ blocks.n
+  scan-all blocks = let all = blocks.all in omega arith
 
--- what stays, as it is gone through
-pub staying : {S C : Type 0} (time : C → ℕ) (acted : S → C → C) (start : C) (part : ℕ → S) (block first : ℕ) (fates : List Fate) (carries : List C) (times : List ℕ) →
-    (h : HaveStayed time acted start part block first fates carries) → times ≡ take (first * block) h.marked.times → AreStaying time acted start part block first times carries
-staying time acted start part block first fates carries times h is =
-    let m = h.marked in
-    let within = h.within in
-    let n_is = m.all in
-    let size = m.block_is in
-    let first_in : first * m.blocks.block ≤ m.blocks.n = subst (λ (b : ℕ). first * b ≤ m.blocks.n) (sym size) (subst (λ (n : ℕ). first * block ≤ n) (sym n_is) within) in
-    let few = kept-few m.blocks first first_in in
-    let count = m.done.count_is in
-    let all : m.times ≡ map time (carries_after h.does start (λ k. k) 0 m.blocks.n) = m.done.times_are ∙ ap (λ (n : ℕ). map time (carries_after h.does start (λ k. k) 0 n)) (marked-all time h.does start (λ k. k) m.blocks) in
-    record {
-      does = h.does;
-      jobs = h.jobs;
-      within = within;
-      same = h.same;
-      times_are = is ∙ (ap (take (first * block)) all ∙ times-take time h.does start (λ k. k) 0 m.blocks.n (first * block) (omega arith));
-      many = omega arith;
-      behind = subst (λ (n : ℕ). AreBehind h.does start (λ k. k) block n carries) n_is (subst (λ (b : ℕ). AreBehind h.does start (λ k. k) b m.blocks.n carries) size m.done.behind);
-    }
+-- what was read of all jobs that are kept
+module _ {C : Type 0} (time : C → ℕ) (does : ℕ → C → C) (start : C) (jobs block : ℕ) (times : List ℕ) (carries : List C) (scan : IsKeptScan time does start jobs block times carries) where
+  all-times : times ≡ map time (carries_after does start (λ k. k) 0 scan.blocks.n)
+  all-times = scan.done.times_are ∙ ap (λ (n : ℕ). map time (carries_after does start (λ k. k) 0 n)) (scan-all time does start (λ k. k) scan.blocks)
 
--- so many visits depart
-pub staying-many : {S C : Type 0} (time : C → ℕ) (acted : S → C → C) (start : C) (part : ℕ → S) (block first : ℕ) (fates : List Fate) (carries : List C) →
-    (h : HaveStayed time acted start part block first fates carries) → first * block ≤ length h.marked.times
-staying-many time acted start part block first fates carries h =
-    let m = h.marked in
-    let within = h.within in
-    let n_is = m.all in
-    let all : m.times ≡ map time (carries_after h.does start (λ k. k) 0 m.blocks.n) = m.done.times_are ∙ ap (λ (n : ℕ). map time (carries_after h.does start (λ k. k) 0 n)) (marked-all time h.does start (λ k. k) m.blocks) in
-    let many : length m.times ≡ m.blocks.n = ap length all ∙ times-many time h.does start (λ k. k) 0 m.blocks.n in
-    omega arith
+  -- of each job
+  pub kept-many : length times ≡ jobs
+  kept-many = ap length all-times ∙ (times-many time does start (λ k. k) 0 scan.blocks.n ∙ scan.all)
+
+  -- what stays, as it is gone through
+  pub staying : {S : Type 0} (acted : S → C → C) (part : ℕ → S) (first : ℕ) (read : List ℕ) → first * block ≤ jobs → ((k : ℕ) → k < first * block → (c : C) → does k c ≡ acted (part k) c) → read ≡ take (first * block) times → AreStaying time acted start part block first read carries
+  staying acted part first read within same is =
+      let n_is = scan.all in
+      let size = scan.block_is in
+      let first_in : first * scan.blocks.block ≤ scan.blocks.n = subst (λ (b : ℕ). first * b ≤ scan.blocks.n) (sym size) (subst (λ (n : ℕ). first * block ≤ n) (sym n_is) within) in
+      let few = kept-few scan.blocks first first_in in
+      let count = scan.done.count_is in
+      record {
+        does = does;
+        jobs = jobs;
+        within = within;
+        same = same;
+        times_are = is ∙ (ap (take (first * block)) all-times ∙ times-take time does start (λ k. k) 0 scan.blocks.n (first * block) (omega arith));
+        many = omega arith;
+        behind = subst (λ (n : ℕ). AreBehind does start (λ k. k) block n carries) n_is (subst (λ (b : ℕ). AreBehind does start (λ k. k) b scan.blocks.n carries) size scan.done.behind);
+      }
 
 -- a visit of those that all depart
 pub departs-at : (times : List ℕ) (k : ℕ) (fate : Fate) → slice_get (map (λ time. Departs time) times) k ≡ Some fate → (time : ℕ) × (fate ≡ Departs time) × (slice_get times k ≡ Some time)
@@ -72,18 +66,16 @@ departs_inj a b e = ap time_in e
     time_in Lost = 0
     time_in Held = 0
 
--- blocks that are done tell what their jobs make of carries
+-- blocks that are done are kept
 module _ {S C : Type 0} (time : C → ℕ) (acted : S → C → C) (start : C) (part : ℕ → S) where
   abbrev does_by : ℕ → C → C
   does_by k c = acted (part k) c
 
-  pub done-tells : DoneTellsJobs time acted start part
-  done-tells blocks fates times carries is h = record {
+  pub done-kept : DoneAreKept time acted start part
+  done-kept blocks times carries h = record {
     blocks = blocks;
     all = refl;
     block_is = refl;
-    times = times;
-    fates_are = is;
     done = record {
       count_is = h.count_is;
       times_are = h.times_are ∙ ap (map time) (sym (carries-same acted start does_by part (min (blocks.blocks * blocks.block) blocks.n) (λ k l c. refl) 0 (min (blocks.blocks * blocks.block) blocks.n) (omega arith)));
@@ -92,16 +84,18 @@ module _ {S C : Type 0} (time : C → ℕ) (acted : S → C → C) (start : C) (
   }
 
 -- what is kept of a node without visits
-pub marked-none : {C : Type 0} (time : C → ℕ) (does : ℕ → C → C) (start : C) (block : ℕ) → 1 ≤ block → IsMarked time does start 0 block [] []
-marked-none time does start block some = record {
-  blocks = record { n = 0; block = block; blocks = 0; some = some; all = omega arith; none_more = omega arith };
-  all = refl;
-  block_is = refl;
-  times = [];
-  fates_are = refl;
-  done = record {
-    count_is = refl;
-    times_are = ap (λ (n : ℕ). map time (carries_after does start (λ k. k) 0 n)) {x = 0} {y = min (0 * block) 0} (omega arith);
-    behind = λ k d l. absurd (omega arith);
-  };
-}
+module _ {C : Type 0} (time : C → ℕ) (does : ℕ → C → C) (start : C) (block : ℕ) (some : 1 ≤ block) where
+  pub scan-none : IsKeptScan time does start 0 block [] []
+  scan-none = record {
+    blocks = record { n = 0; block = block; blocks = 0; some = some; all = omega arith; none_more = omega arith };
+    all = refl;
+    block_is = refl;
+    done = record {
+      count_is = refl;
+      times_are = ap (λ (n : ℕ). map time (carries_after does start (λ k. k) 0 n)) {x = 0} {y = min (0 * block) 0} (omega arith);
+      behind = λ k d l. absurd (omega arith);
+    };
+  }
+
+  pub station-none : IsKeptStation time does start 0 block [] []
+  station-none = record { times = []; fates_are = refl; scan = scan-none }

@@ -6,9 +6,9 @@ abbrev pub invariant-loop : goal.invariant-loop
 invariant-loop l = record {
   came : length l.visits.items ≡ l.counter;
   left : length l.outputs.items ≡ l.counter;
-  marks : length l.marks.items ≡ l.counter;
+  checkpoints : length l.checkpoints.items ≡ l.counter;
   none : All (λ streams. streams ≡ []) l.outputs.items;
   room_came : l.nodes ≤ vec_capacity l.visits;
   room_left : l.nodes ≤ vec_capacity l.outputs;
-  room_marks : l.nodes ≤ vec_capacity l.marks;
+  room_checkpoints : l.nodes ≤ vec_capacity l.checkpoints;
 }

@@ -1,6 +1,6 @@
 use Rattle.std.proofs.Common.{arith}
 use Rattle.mq_core.specs.declared.model.Kind.TheVariants.{ForkJoin}
-use Rattle.mq_rework.specs.Stays.{coming_as}
+use Rattle.mq_redo.specs.Kept.{coming_as}
 use Rattle.mq_kept.proofs.Within.{staying-within}
 use Rattle.mq_kept.proofs.stations.forkjoin_again.Goals as goal
 

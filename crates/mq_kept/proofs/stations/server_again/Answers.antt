@@ -1,7 +1,6 @@
 use Rattle.std.proofs.Common.{arith}
 use Rattle.mq_core.specs.declared.model.Kind.TheVariants.{Server}
-use Rattle.mq_rework.specs.Stays.{coming_as}
-use Rattle.mq_kept.specs.Carries.{server_carries}
+use Rattle.mq_redo.specs.Kept.{coming_as}
 use Rattle.mq_kept.proofs.Within.{staying-within}
 use Rattle.mq_kept.proofs.stations.server_again.Goals as goal
 
@@ -14,10 +13,5 @@ served_again-requires-clause-inside g c =
     let all = c.cut-blocks.ensures.0 in
     rw c.cut-blocks.ensures.1 (omega arith)
 
-pub served_again-requires-clause-stays : goal.served_again-requires-clause-stays
-served_again-requires-clause-stays g c =
-    let load = c.args.load.now in
-    let stays = c.args.stays.now in
-    let h = c.requires.stays in
-    rw (c.cut-blocks.ensures.1, c.server-carries.ensures)
-    (c.blocks_stay.ensures.servers c.args.demand.now h.0 (coming_as load.rows.now load.arrivals.now) load.block stays.blocks stays.fates.now (server_carries stays.marks.now) h.1.even h.1.kept h.1.same)
+pub served_again-requires-clause-kept : goal.served_again-requires-clause-kept
+served_again-requires-clause-kept g c = let h = c.requires.stays in (h.0, rw (c.cut-blocks.ensures.1, c.server-carries.ensures) h.1.0, rw c.cut-blocks.ensures.1 h.1.1)

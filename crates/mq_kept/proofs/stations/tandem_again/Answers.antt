@@ -1,7 +1,6 @@
 use Rattle.std.proofs.Common.{arith}
 use Rattle.mq_core.specs.declared.model.Kind.TheVariants.{Tandem}
-use Rattle.mq_rework.specs.Stays.{coming_as}
-use Rattle.mq_kept.specs.Carries.{tandem_carries}
+use Rattle.mq_redo.specs.Kept.{coming_as}
 use Rattle.mq_kept.proofs.Within.{staying-within}
 use Rattle.mq_kept.proofs.stations.tandem_again.Goals as goal
 
@@ -14,10 +13,5 @@ staged_again-requires-clause-inside g c =
     let all = c.cut-blocks.ensures.0 in
     rw c.cut-blocks.ensures.1 (omega arith)
 
-pub staged_again-requires-clause-stays : goal.staged_again-requires-clause-stays
-staged_again-requires-clause-stays g c =
-    let load = c.args.load.now in
-    let stays = c.args.stays.now in
-    let h = c.requires.stays in
-    rw (c.cut-blocks.ensures.1, c.tandem-carries.ensures)
-    (c.blocks_stay.ensures.tandems c.args.stages.now h.0 (coming_as load.rows.now load.arrivals.now) load.block stays.blocks stays.fates.now (tandem_carries stays.marks.now) h.1.even h.1.kept h.1.same)
+pub staged_again-requires-clause-kept : goal.staged_again-requires-clause-kept
+staged_again-requires-clause-kept g c = let h = c.requires.stays in (h.0, rw (c.cut-blocks.ensures.1, c.tandem-carries.ensures) h.1.0, rw c.cut-blocks.ensures.1 h.1.1)

@@ -1,8 +1,8 @@
-use Rattle.std.proofs.Common.{◌≡◌, ◌+◌, ◌++◌, ◌<◌, ℕ, List, [], ◌∷◌, length, map, take, ap, sym, subst, arith, ◌∙◌, Some, slice_get, append_assoc}
+use Rattle.std.proofs.Common.{◌≡◌, ◌+◌, ◌++◌, List, [], ◌∷◌, length, map, take, ap, sym, subst, arith, ◌∙◌, slice_get, append_assoc}
 use Rattle.std.proofs.lemmas.List.{map-append}
 use Rattle.std.proofs.lemmas.Option.{slice_get_within}
-use Rattle.mq_base.proofs.lemmas.Lists.{some_inj, take-at, map-all, take-all}
-use Rattle.mq_scan.specs.Folds.{carries_after, fold_to}
+use Rattle.mq_base.proofs.lemmas.Lists.{some_inj, take-at}
+use Rattle.mq_scan.specs.Folds.{fold_to}
 use Rattle.mq_redo.proofs.Doing.{carry-at}
 use Rattle.mq_redo.proofs.blocks.push_read.Goals as goal
 

@@ -1,5 +1,4 @@
-use Rattle.std.proofs.Common.{◌≡◌, ◌+◌, ◌-◌, ◌*◌, ◌<◌, ◌≤◌, ◌++◌, ℕ, suc, List, [], ◌∷◌, length, length-append, map, min, Some, slice_get, ap, arith, subst, sym, ◌∙◌}
-use Rattle.mq_base.proofs.lemmas.Lists.{some_inj}
+use Rattle.std.proofs.Common.{◌≡◌, ◌+◌, ◌-◌, ◌++◌, ℕ, List, [], ◌∷◌, length, length-append, map, ap, arith, subst, sym, ◌∙◌}
 use Rattle.mq_scan.specs.Folds.{carries_after, fold_to}
 use Rattle.mq_scan.proofs.Spans.{times-ranges-next}
 use Rattle.mq_scan.proofs.lemmas.Blocks.{block-range, end_of}

@@ -1,4 +1,4 @@
-use Rattle.std.proofs.Common.{◌≡◌, ◌+◌, ◌≤◌, ◌*◌, length}
+use Rattle.std.proofs.Common.{◌≡◌, ◌+◌, ◌≤◌, length}
 use Rattle.mq_scan.specs.Folds.{fold_to}
 use Rattle.mq_scan.proofs.lemmas.Blocks.{end_of}
 use Rattle.mq_redo.specs.Doing.{AreDone}

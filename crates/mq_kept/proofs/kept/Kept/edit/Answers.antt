@@ -1,5 +1,6 @@
 use Rattle.std.proofs.Common.{◌≡◌, ◌+◌, ◌≤◌, ◌∙◌, IfOk, ap, subst}
-use Rattle.mq_alike.specs.Again.{again, all_blocks}
+use Rattle.std.specs.Prelude.{OnOk}
+use Rattle.mq_alike.specs.Again.{again, all_blocks, worked}
 use Rattle.mq_core.specs.declared.model.Rows.{Rows}
 use Rattle.mq_edits.specs.Edited.{edited_rows}
 use Rattle.mq_kept.specs.Keeping.{KeptRun}
@@ -14,5 +15,17 @@ returns-clause-redone g c =
 pub returns-clause-spent : goal.returns-clause-spent
 returns-clause-spent g c =
     let k = c.args.self.now in
-    subst (λ (rows : Rows). c.replace_rows.new.steps ≤ c.args.steps.now + again k.plan.net k.rows rows k.block)
+    subst (λ (rows : Rows). c.replace_rows.new.steps ≤ c.args.steps.now + worked k.plan.net k.rows rows k.block)
     (c.in_ok-rows.ensures.exact ∙ ap (λ (seen : KeptRun). edited_rows seen.rows c.args.edits.now) c.self.view_is) c.replace_rows.ensures.spent
+
+pub returns-clause-counted : goal.returns-clause-counted
+returns-clause-counted g c =
+    let k = c.args.self.now in
+    subst (λ (rows : Rows). OnOk c.replace_rows.result (c.replace_rows.new.steps ≡ c.args.steps.now + worked k.plan.net k.rows rows k.block))
+    (c.in_ok-rows.ensures.exact ∙ ap (λ (seen : KeptRun). edited_rows seen.rows c.args.edits.now) c.self.view_is) c.replace_rows.ensures.counted
+
+pub returns-clause-most : goal.returns-clause-most
+returns-clause-most g c =
+    let k = c.args.self.now in
+    subst (λ (rows : Rows). c.replace_rows.new.steps ≤ c.args.steps.now + again k.plan.net k.rows rows k.block)
+    (c.in_ok-rows.ensures.exact ∙ ap (λ (seen : KeptRun). edited_rows seen.rows c.args.edits.now) c.self.view_is) c.replace_rows.ensures.most

@@ -1,2 +1,0 @@
-mod Departing
-pub mod Serving

@@ -1,4 +1,0 @@
-pub mod Bounds
-pub mod Branches
-pub mod Fronts
-pub mod Runs

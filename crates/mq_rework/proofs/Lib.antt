@@ -1,6 +1,0 @@
-mod Alone
-mod Branched
-mod Holding
-mod Parts
-mod Routed
-mod Stays

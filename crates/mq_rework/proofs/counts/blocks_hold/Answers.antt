@@ -1,5 +1,0 @@
-use Rattle.mq_rework.proofs.Holding.{holds}
-use Rattle.mq_rework.proofs.counts.blocks_hold.Goals as goal
-
-pub returns : goal.returns
-returns c = holds c.args.blocks.now

@@ -1,6 +1,0 @@
-use Rattle.std.proofs.Common.{◌≡◌, ◌++◌}
-use Rattle.mq_rework.specs.Branching.{begins_with}
-use Rattle.mq_rework.proofs.forkjoins.push_begins.Given as goal
-
-abbrev pub invariant-loop-server : goal.invariant-loop-server
-invariant-loop-server l = l.begins.items ≡ l.fn.begins.items ++ begins_with l.server
