@@ -8,11 +8,14 @@ ghost use Rattle.mq_core.specs.Streams.{by_first, pairs_of};
 ghost use Rattle.mq_core.specs.Laws.{in_order_of};
 ghost use Rattle.mq_core.specs.Recurrences.{delayed};
 
+mod step;
+
 use mq_base::{List, OutOfMemory};
 use mq_core::Stream;
 use mq_merge::par_by_time;
 use std::alloc::Global;
 use std::thread::Threads;
+pub use step::DelayStep;
 
 /// What a delay does with its arrivals.
 #[derive(Drop)]

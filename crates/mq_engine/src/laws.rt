@@ -9,7 +9,7 @@ use mq_core::{
 use mq_join::gathered_came;
 use mq_stats::runs_give_streams;
 
-// The laws of runs that the engine rests on. It does nothing when it runs.
+/// The laws of runs that the engine rests on. It does nothing when it runs.
 pub fn core_laws()
     ensures { CoreLaws }
 {

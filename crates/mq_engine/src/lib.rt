@@ -21,10 +21,9 @@ mod progress;
 mod ready;
 mod wave;
 
-use crate::laws::core_laws;
 use crate::progress::{Progress, Stand, beginning, ready_nodes, settle};
-use crate::wave::wave_of;
 pub use fault::RunFault;
+pub use laws::core_laws;
 use mq_arrivals::Arriving;
 use mq_base::List;
 use mq_core::{Plan, Rows, Run};
@@ -33,6 +32,7 @@ pub use mq_pass::chain_departures;
 pub use mq_stations::{OverFault, PastFault};
 use std::alloc::Global;
 use std::thread::Threads;
+pub use wave::{Way, wave_of, way_of};
 
 /// The run of a plan over the rows that were read for its network: the visits to each node, and
 /// what leaves it by each output.

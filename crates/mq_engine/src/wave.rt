@@ -79,7 +79,7 @@ fn lets_out_once(kind: &Kind) -> bool
 }
 
 // How a node is worked out to which all has come. A source has no more visits than a trace may have rows.
-fn way_of(arriving: &Arriving, number: u32) -> Way
+pub fn way_of(arriving: &Arriving, number: u32) -> Way
     requires wave { IsWave arriving.now }
     requires ready { Contains arriving.now.ready.now number }
     ensures { IsWay arriving.now number result }

@@ -1,2 +1,4 @@
 pub mod Recurrence
 pub mod ForkJoining
+mod Departing
+mod Serving

@@ -1,1 +1,5 @@
+pub mod Bounds
 pub mod Branches
+pub mod Fronts
+pub mod Runs
+pub mod Servers

@@ -6,10 +6,17 @@ ghost use Rattle.mq_core.specs.Sequences.{IsSoundLoad};
 ghost use Rattle.mq_core.specs.Recurrences.{forkjoin_departs, in_series, later_of};
 ghost use Rattle.mq_forkjoin.specs.Branches.{AreBranches, branches_of};
 
+mod laws;
+mod scan;
+mod step;
+
+pub use laws::carries_hold_departures;
 use mq_base::{List, OutOfMemory};
 use mq_core::Stream;
 use mq_server::departures_behind;
+pub use scan::Jobs;
 use std::alloc::Global;
+pub use step::ForkJoinStep;
 
 /// When each job leaves a fork-join: one departure a job, by position, in ticks. A job comes to
 /// every branch at once, goes through the servers of each one after the other, and leaves when it

@@ -31,7 +31,7 @@ pub struct Front {
 }
 
 /// The words of a line.
-fn split_words<'a>(alloc: Global, line: &'a [u8]) -> Result<Vec<&'a [u8]>, OutOfMemory>
+pub fn split_words<'a>(alloc: Global, line: &'a [u8]) -> Result<Vec<&'a [u8]>, OutOfMemory>
     ensures words { IfOk result (λ v. texts v.items ≡ words_of line.now) }
     ensures few { IfOk result (λ v. length v.items ≤ length line.now) }
 {

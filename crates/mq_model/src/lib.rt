@@ -19,6 +19,7 @@ mod text;
 mod word;
 
 pub use fault::ModelFault;
+pub use front::split_words;
 pub use laws::{examples_are_answered, first_bad_word, printed_models_are_read};
 pub use print::print_model;
-pub use read::read_model;
+pub use read::{read_model, without_mark};

@@ -22,7 +22,7 @@ use std::alloc::Global;
 use std::mem;
 
 /// A text without a byte order mark at its start.
-fn without_mark(text: &[u8]) -> &[u8]
+pub fn without_mark(text: &[u8]) -> &[u8]
     ensures { result.now ≡ without_mark text.now }
 {
     match text {

@@ -15,64 +15,68 @@ use Rattle.mq_outcome.specs.declared.outcome.Outcome.TheVariants.{Done, Usage, M
 use Rattle.mq_words.specs.declared.fault.UsageFault.{UsageFault}
 use Rattle.mq_words.specs.declared.fault.UsageFault.TheVariants as usage
 
--- the line of a fault of a model
-abbrev pub model_line : ModelFault → List ℕ
-model_line model.TooLong = codes "mpsim: model: longer than 65536 bytes" ++ 10 ∷ []
-model_line (model.BadByte l) = codes "mpsim: model line " ++ decimal l ++ codes ": byte not allowed" ++ 10 ∷ []
-model_line (model.BadHead l) = codes "mpsim: model line " ++ decimal l ++ codes ": expected model 1 or model 2" ++ 10 ∷ []
-model_line (model.BadLine l w) = codes "mpsim: model line " ++ decimal l ++ codes ": word " ++ decimal w ++ codes " not allowed" ++ 10 ∷ []
-model_line (model.NameTwice l) = codes "mpsim: model line " ++ decimal l ++ codes ": name declared twice" ++ 10 ∷ []
-model_line (model.TooMany l) = codes "mpsim: model line " ++ decimal l ++ codes ": too many nodes or columns" ++ 10 ∷ []
-model_line (model.UnknownInput l i) = codes "mpsim: model line " ++ decimal l ++ codes ": input " ++ decimal i ++ codes " unknown" ++ 10 ∷ []
-model_line (model.OutputTaken l i) = codes "mpsim: model line " ++ decimal l ++ codes ": input " ++ decimal i ++ codes " already read" ++ 10 ∷ []
-model_line model.NoSource = codes "mpsim: model: no source" ++ 10 ∷ []
-model_line (model.Cycle l node) = codes "mpsim: model line " ++ decimal l ++ codes ": node on or behind a cycle" ++ 10 ∷ []
-model_line model.Memory = codes "mpsim: out of memory" ++ 10 ∷ []
+-- how the lines of the program `mpsim` begin
+abbrev pub mpsim : List ℕ
+mpsim = codes "mpsim: "
 
--- the line of a fault of a trace, with the name of the column that is missing
-abbrev pub trace_line : List ℕ → TraceFault → List ℕ
-trace_line name trace.TooLong = codes "mpsim: trace: longer than 134217728 bytes" ++ 10 ∷ []
-trace_line name (trace.BadHeader f) = codes "mpsim: trace header: field " ++ decimal f ++ codes " not allowed" ++ 10 ∷ []
-trace_line name (trace.MissingColumn c) = codes "mpsim: trace header: column " ++ name ++ codes " missing" ++ 10 ∷ []
-trace_line name trace.TooManyRows = codes "mpsim: trace: more than 1048576 records" ++ 10 ∷ []
-trace_line name (trace.BadCount r) = codes "mpsim: trace record " ++ decimal r ++ codes ": wrong number of fields" ++ 10 ∷ []
-trace_line name (trace.UnknownSource r) = codes "mpsim: trace record " ++ decimal r ++ codes ": unknown source" ++ 10 ∷ []
-trace_line name (trace.BadNumber r f) = codes "mpsim: trace record " ++ decimal r ++ codes ": field " ++ decimal f ++ codes " is not a number in range" ++ 10 ∷ []
-trace_line name trace.Memory = codes "mpsim: out of memory" ++ 10 ∷ []
+-- the line of a fault of a model, which begins with a program's name
+abbrev pub model_line : List ℕ → ModelFault → List ℕ
+model_line program model.TooLong = program ++ codes "model: longer than 65536 bytes" ++ 10 ∷ []
+model_line program (model.BadByte l) = program ++ codes "model line " ++ decimal l ++ codes ": byte not allowed" ++ 10 ∷ []
+model_line program (model.BadHead l) = program ++ codes "model line " ++ decimal l ++ codes ": expected model 1 or model 2" ++ 10 ∷ []
+model_line program (model.BadLine l w) = program ++ codes "model line " ++ decimal l ++ codes ": word " ++ decimal w ++ codes " not allowed" ++ 10 ∷ []
+model_line program (model.NameTwice l) = program ++ codes "model line " ++ decimal l ++ codes ": name declared twice" ++ 10 ∷ []
+model_line program (model.TooMany l) = program ++ codes "model line " ++ decimal l ++ codes ": too many nodes or columns" ++ 10 ∷ []
+model_line program (model.UnknownInput l i) = program ++ codes "model line " ++ decimal l ++ codes ": input " ++ decimal i ++ codes " unknown" ++ 10 ∷ []
+model_line program (model.OutputTaken l i) = program ++ codes "model line " ++ decimal l ++ codes ": input " ++ decimal i ++ codes " already read" ++ 10 ∷ []
+model_line program model.NoSource = program ++ codes "model: no source" ++ 10 ∷ []
+model_line program (model.Cycle l node) = program ++ codes "model line " ++ decimal l ++ codes ": node on or behind a cycle" ++ 10 ∷ []
+model_line program model.Memory = program ++ codes "out of memory" ++ 10 ∷ []
 
--- the line of a visit that departs after the bound, with the name of its node
-abbrev pub past_line : List ℕ → PastFault → List ℕ
-past_line name f = codes "mpsim: node " ++ name ++ codes " position " ++ decimal f.position ++ codes " passes the bound at time " ++ decimal f.time ++ 10 ∷ []
+-- the line of a fault of a trace, which begins with a program's name, with the name of the column that is missing
+abbrev pub trace_line : List ℕ → List ℕ → TraceFault → List ℕ
+trace_line program name trace.TooLong = program ++ codes "trace: longer than 134217728 bytes" ++ 10 ∷ []
+trace_line program name (trace.BadHeader f) = program ++ codes "trace header: field " ++ decimal f ++ codes " not allowed" ++ 10 ∷ []
+trace_line program name (trace.MissingColumn c) = program ++ codes "trace header: column " ++ name ++ codes " missing" ++ 10 ∷ []
+trace_line program name trace.TooManyRows = program ++ codes "trace: more than 1048576 records" ++ 10 ∷ []
+trace_line program name (trace.BadCount r) = program ++ codes "trace record " ++ decimal r ++ codes ": wrong number of fields" ++ 10 ∷ []
+trace_line program name (trace.UnknownSource r) = program ++ codes "trace record " ++ decimal r ++ codes ": unknown source" ++ 10 ∷ []
+trace_line program name (trace.BadNumber r f) = program ++ codes "trace record " ++ decimal r ++ codes ": field " ++ decimal f ++ codes " is not a number in range" ++ 10 ∷ []
+trace_line program name trace.Memory = program ++ codes "out of memory" ++ 10 ∷ []
 
--- the line of a node of this name that has too many visits
-abbrev pub over_line : List ℕ → OverFault → List ℕ
-over_line name f = codes "mpsim: node " ++ name ++ codes " has " ++ decimal f.count ++ codes " visits" ++ 10 ∷ []
+-- the line of a visit that departs after the bound, with the name of its node, and what stands behind that
+abbrev pub past_line : List ℕ → List ℕ → PastFault → List ℕ → List ℕ
+past_line program name f back = program ++ codes "node " ++ name ++ codes " position " ++ decimal f.position ++ codes " passes the bound at time " ++ decimal f.time ++ back ++ 10 ∷ []
+
+-- the line of a node of this name that has too many visits, and what stands behind that
+abbrev pub over_line : List ℕ → List ℕ → OverFault → List ℕ → List ℕ
+over_line program name f back = program ++ codes "node " ++ name ++ codes " has " ++ decimal f.count ++ codes " visits" ++ back ++ 10 ∷ []
 
 -- the two forms of a command
 abbrev pub usage_text : List ℕ
-usage_text = codes "mpsim: usage: mpsim MODEL TRACE [--workers N] [--block N] [--jobs] [--report N] or mpsim --made N [--workers N] [--block N] [--jobs] [--report N]"
+usage_text = codes "usage: mpsim MODEL TRACE [--workers N] [--block N] [--jobs] [--report N] or mpsim --made N [--workers N] [--block N] [--jobs] [--report N]"
 
 -- the line of a fault of the words
 abbrev pub usage_line : UsageFault → List ℕ
-usage_line usage.Words = usage_text ++ 10 ∷ []
-usage_line usage.Form = usage_text ++ 10 ∷ []
-usage_line usage.Workers = codes "mpsim: --workers takes a whole number from 1 to 64" ++ 10 ∷ []
-usage_line usage.Block = codes "mpsim: --block takes a whole number from 1 to 65536" ++ 10 ∷ []
-usage_line usage.Made = codes "mpsim: --made takes a whole number from 0 to 18446744073709551615" ++ 10 ∷ []
-usage_line usage.Report = codes "mpsim: --report takes 1 or 2" ++ 10 ∷ []
+usage_line usage.Words = mpsim ++ usage_text ++ 10 ∷ []
+usage_line usage.Form = mpsim ++ usage_text ++ 10 ∷ []
+usage_line usage.Workers = mpsim ++ codes "--workers takes a whole number from 1 to 64" ++ 10 ∷ []
+usage_line usage.Block = mpsim ++ codes "--block takes a whole number from 1 to 65536" ++ 10 ∷ []
+usage_line usage.Made = mpsim ++ codes "--made takes a whole number from 0 to 18446744073709551615" ++ 10 ∷ []
+usage_line usage.Report = mpsim ++ codes "--report takes 1 or 2" ++ 10 ∷ []
 
 -- the line of an outcome, with the name that it speaks of
 abbrev pub line_text : List ℕ → Outcome → List ℕ
 line_text name Done = []
 line_text name (Usage f) = usage_line f
-line_text name (Model f) = model_line f
-line_text name (Trace f) = trace_line name f
-line_text name (Past f) = past_line name f
-line_text name (Over f) = over_line name f
-line_text name (ReadFault false) = codes "mpsim: cannot read the model" ++ 10 ∷ []
-line_text name (ReadFault true) = codes "mpsim: cannot read the trace" ++ 10 ∷ []
-line_text name WriteFault = codes "mpsim: cannot write the report" ++ 10 ∷ []
-line_text name Memory = codes "mpsim: out of memory" ++ 10 ∷ []
+line_text name (Model f) = model_line mpsim f
+line_text name (Trace f) = trace_line mpsim name f
+line_text name (Past f) = past_line mpsim name f []
+line_text name (Over f) = over_line mpsim name f []
+line_text name (ReadFault false) = mpsim ++ codes "cannot read the model" ++ 10 ∷ []
+line_text name (ReadFault true) = mpsim ++ codes "cannot read the trace" ++ 10 ∷ []
+line_text name WriteFault = mpsim ++ codes "cannot write the report" ++ 10 ∷ []
+line_text name Memory = mpsim ++ codes "out of memory" ++ 10 ∷ []
 
 -- the name of a node, if there is one
 abbrev pub node_name : Option Node → List ℕ

@@ -4,5 +4,8 @@
 mod line;
 mod outcome;
 
-pub use line::{name_of, put_line, put_pieces};
+pub use line::{
+    fault_name, name_of, node_name, put_line, put_model_line, put_numbered, put_over_line,
+    put_past_line, put_pieces, put_text, put_trace_line,
+};
 pub use outcome::Outcome;

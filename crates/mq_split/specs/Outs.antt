@@ -20,6 +20,11 @@ outs_from route position (value ∷ values) = output_at route value position ∷
 abbrev pub picked_stream : List ℕ → Stream → ℕ → Stream
 picked_stream outs stream out = record { job = picked out outs stream.job; time = picked out outs stream.time }
 
+-- one stream per output, each with the jobs and times whose output it is
+pub record ArePicked (route : Route) (jobs times outs : List ℕ) (streams : List Stream) : Type 0 where
+  pub count : length streams ≡ outputs_by route
+  pub parts : (out : ℕ) → out < outputs_by route → slice_get streams out ≡ Some (picked_stream outs (record { job = jobs; time = times }) out)
+
 -- one stream per output, each with the items that go there
 pub record AreParts (route : Route) (stream : Stream) (values : List ℕ) (streams : List Stream) : Type 0 where
   pub count : length streams ≡ outputs_by route

@@ -6,11 +6,14 @@ ghost use Rattle.mq_base.specs.Lists.{between};
 ghost use Rattle.mq_core.specs.Sequences.{IsStream};
 ghost use Rattle.mq_core.specs.Streams.{picked};
 ghost use Rattle.mq_core.specs.Kinds.Split.{output_at, outputs_by};
-ghost use Rattle.mq_split.specs.Outs.{AreParts, ArePartsBetween, ArePieces, HasOutputs, PiecesJoin, outs_from};
+ghost use Rattle.mq_split.specs.Outs.{AreParts, ArePartsBetween, ArePicked, ArePieces, HasOutputs, PiecesJoin, outs_from};
+
+mod step;
 
 use mq_base::{List, OutOfMemory};
 use mq_core::{Route, Stream, outputs_of_route};
 use std::alloc::Global;
+pub use step::RouteStep;
 
 // How many of the thresholds are at most the value.
 fn passed(thresholds: &[u64], value: u64) -> usize
@@ -111,6 +114,27 @@ fn pick(
     })
 }
 
+/// One stream for each output of a route, by its number, each with the jobs and times whose output it is, in their
+/// order. There is one time and one output a job, by position. It refuses for want of memory alone.
+pub fn streams_by(
+    alloc: Global,
+    jobs: &[u32],
+    times: &[u64],
+    outs: &[u8],
+    route: &Route,
+) -> Result<List<Stream>, OutOfMemory>
+    requires route { HasOutputs route.now }
+    requires jobs { length jobs.now ≡ length outs.now }
+    requires times { length times.now ≡ length outs.now }
+    ensures { IfOk result (ArePicked route.now jobs.now times.now outs.now) }
+{
+    let mut streams = List::new(alloc);
+    for out in 0..outputs_of_route(route) {
+        streams.push(pick(alloc, jobs, times, outs, out)?)?;
+    }
+    Ok(streams)
+}
+
 /// The items at the indices from `from` up to `to` as they leave a split, of the values of these items
 /// alone: one stream per output, by its number, each with the jobs that its route sends there, in their
 /// order. `values` has one value of the route's column per item of them, in their order. The route has 2 to
@@ -134,10 +158,7 @@ pub fn split_between(
     let jobs = part(&stream.job, first, end);
     let times = part(&stream.time, first, end);
     let outs = outs_of(alloc, values, route, first)?;
-    let mut streams = List::new(alloc);
-    for out in 0..outputs_of_route(route) {
-        streams.push(pick(alloc, jobs, times, outs.as_slice(), out)?)?;
-    }
+    let streams = streams_by(alloc, jobs, times, outs.as_slice(), route)?;
     Ok(streams)
 }
 

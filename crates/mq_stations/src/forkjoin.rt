@@ -85,8 +85,11 @@ fn demands_of_branches(
     Ok(demands)
 }
 
-// What the servers ask for, branch after branch.
-fn branch_demands(alloc: Global, branches: &List<List<Demand>>) -> Result<List<Demand>, OutOfMemory>
+/// What the servers ask for, branch after branch. It refuses for want of memory alone.
+pub fn branch_demands(
+    alloc: Global,
+    branches: &List<List<Demand>>,
+) -> Result<List<Demand>, OutOfMemory>
     ensures { IfOk result (λ asked. asked ≡ flat_map (λ demands. demands) branches.now) }
 {
     let mut asked = Vec::new(alloc);

@@ -60,7 +60,8 @@ pub fn demands_in(
     Ok(List::from_vec(demands))
 }
 
-// What each job asks for at each server, in ticks: one list a server, with one demand a job.
+/// What each job asks for at each server, in ticks: one list a server, with one demand a job. It refuses for want of memory
+/// alone.
 pub fn all_demands_of(
     alloc: Global,
     rows: &Rows,

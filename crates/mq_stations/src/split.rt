@@ -149,8 +149,8 @@ fn jobs_by(group: &List<List<Stream>>, out: usize) -> usize
     count
 }
 
-// The value of each of these jobs that the route looks at; by turns it looks at none.
-fn values_of(
+/// The value of each of these jobs that the route looks at; by turns it looks at none. It refuses for want of memory alone.
+pub fn values_of(
     alloc: Global,
     rows: &Rows,
     route: &Route,

@@ -1,0 +1,4 @@
+pub mod Bounded
+mod First
+mod Same
+mod Whole

@@ -1,0 +1,4 @@
+mod Cases
+mod FileFacts
+mod Readings
+mod Told

@@ -1,0 +1,215 @@
+// The call that the program makes, stage by stage.
+ghost use Rattle.std.specs.Prelude.{◌≡◌, ◌≢◌, ◌↔◌, ◌+◌, ◌<◌, ◌≤◌, [], ◌∷◌, ℕ, List, false, true, take, length, IfErr, IfOk, IfSome, None, OnErr, OnOk, Some};
+ghost use Rattle.mq_base.specs.Text.{texts};
+ghost use Rattle.mq_core.specs.Theorems.{IsReadFor};
+ghost use Rattle.mq_edits.specs.Edited.{AreEditsFor, edited_rows};
+ghost use Rattle.mq_engine.specs.Answer.{IsCause};
+ghost use Rattle.mq_alike.specs.Again.{again, all_blocks};
+ghost use Rattle.mq_kept.specs.Keeping.{IsKeptRun};
+ghost use Rattle.mq_model.specs.Model.{model_fault};
+ghost use Rattle.mq_model.specs.NetworkOf.{network_in};
+ghost use Rattle.mq_model.specs.declared.fault.ModelFault.{ModelFault};
+ghost use Rattle.mq_outcome.specs.Lines.{PutsLine};
+ghost use Rattle.mq_trace.specs.Trace.{trace_fault};
+ghost use Rattle.mq_trace.specs.declared.fault.TraceFault.{TraceFault};
+ghost use Rattle.mq_edits.specs.declared.fault.EditFault.{EditFault};
+ghost use Rattle.mq_edit.specs.Answer.{answer_told, edited_report, edits_told, refused_by, run_answer, trace_told};
+ghost use Rattle.mq_edit.specs.Ends.{Ends, IsBehindModel, IsBehindTrace, IsOfRun, IsReadCount, IsText, Writes, is_unread};
+ghost use Rattle.mq_edit.specs.Lines.{line_text, name_of as name_of_outcome};
+ghost use Rattle.mq_edit.specs.Reading.{ReadsNames};
+ghost use Rattle.mq_edit.specs.Words.{name_at, refuses_words};
+
+use crate::files::{WORKERS, accept_edits, accept_model, accept_trace};
+use crate::line::{name_of, put_line};
+use crate::outcome::EditOutcome;
+use crate::words::refuses_words;
+use crate::write::write_kept;
+use mq_base::{List, Steps};
+use mq_core::{Plan, Rows, runs_are_of_networks};
+use mq_edits::{Edit, EditFault};
+use mq_kept::{Kept, Redone, RunFault};
+use mq_model::ModelFault;
+use mq_outside::{Files, Sink};
+use mq_trace::TraceFault;
+use std::alloc::Global;
+use std::marker::Brand;
+use std::sync::ledger::{Blank, Ledger};
+use std::thread::Threads;
+
+// How many jobs are a block.
+const BLOCK: u32 = 4096;
+
+// How a call ends whose run is refused, before the edits or after them.
+fn refused_run(edited: bool, fault: RunFault) -> EditOutcome
+    ensures { result ≡ refused_by edited fault }
+{
+    match fault {
+        RunFault::Over(fault) => EditOutcome::Over { edited, fault },
+        RunFault::Past(fault) => EditOutcome::Past { edited, fault },
+        RunFault::Memory => EditOutcome::Memory,
+    }
+}
+
+// Makes edits in a kept run, whose steps are counted by a counter of their own.
+fn edit_kept<R: Threads + Sync, L: Ledger>(
+    rt: &R,
+    alloc: Global,
+    kept: &mut Kept,
+    edits: &List<Edit>,
+    blank: Blank,
+) -> Result<Redone, RunFault>
+    requires edits { AreEditsFor kept.old.plan.net (length kept.old.rows.source) edits.now }
+    requires name { blank.name ≡ L.name }
+    requires parts { blank.parts ≡ L.parts }
+    requires some { 0 < blank.parts }
+    ensures plan { kept.new.plan ≡ kept.old.plan }
+    ensures rows { OnOk result (kept.new.rows ≡ edited_rows kept.old.rows edits.now) }
+    ensures kept { IsKeptRun kept.new }
+    ensures redone { IfOk result (λ redone. redone ≡ record { again = again kept.old.plan.net kept.old.rows (edited_rows kept.old.rows edits.now) kept.old.block; all = all_blocks kept.old.plan.net (edited_rows kept.old.rows edits.now) kept.old.block }) }
+    ensures cause { IfErr result (λ fault. IsCause kept.old.plan (edited_rows kept.old.rows edits.now) fault) }
+{
+    let mut steps = Steps::<L>::new(blank);
+    kept.edit(rt, alloc, edits, &mut steps)
+}
+
+// Runs a plan over its rows, makes edits in them, and writes the report of the edited rows.
+fn edit_rows<R: Threads + Sync, O: Sink>(
+    rt: &R,
+    alloc: Global,
+    plan: &Plan,
+    rows: Rows,
+    edits: &List<Edit>,
+    out: &mut O,
+) -> EditOutcome
+    requires read { IsReadFor plan.now.net rows }
+    requires edits { AreEditsFor plan.now.net (length rows.source) edits.now }
+    ensures ends { Ends (run_answer plan.now.net rows (edited_rows rows edits.now)) result }
+    ensures of_run { IsOfRun result }
+    ensures writes { Writes O.taken O.sure O.faults out.old out.new result (edited_report plan.now.net rows (edited_rows rows edits.now)) }
+{
+    runs_are_of_networks();
+    let mut kept = match Kept::start(rt, alloc, plan, rows, WORKERS, BLOCK) {
+        Ok(kept) => kept,
+        Err(fault) => return refused_run(false, fault),
+    };
+    match edit_kept::<R, Brand>(rt, alloc, &mut kept, edits, Blank::new(1)) {
+        Ok(redone) => {
+            let outcome = write_kept(rt, alloc, plan, &kept, redone, out);
+            drop(kept);
+            outcome
+        }
+        Err(fault) => {
+            drop(kept);
+            refused_run(true, fault)
+        }
+    }
+}
+
+// Reads the edits of this name for a plan and its rows, makes them, and writes the report.
+fn edit_read<R: Threads + Sync, F: Files, O: Sink>(
+    rt: &R,
+    alloc: Global,
+    plan: &Plan,
+    rows: Rows,
+    edits: &str,
+    files: &mut F,
+    out: &mut O,
+) -> EditOutcome
+    requires read { IsReadFor plan.now.net rows }
+    ensures ends { IfSome (edits_told plan.now.net rows (F.told files.old edits.now)) (λ answer. Ends answer result) }
+    ensures behind { IsBehindTrace result }
+    ensures reads { ReadsNames F.told F.is_sure F.reads F.faults files.old files.new (edits.now ∷ []) (is_unread result) }
+    ensures writes { (text : List ℕ) × Writes O.taken O.sure O.faults out.old out.new result text × IfSome (edits_told plan.now.net rows (F.told files.old edits.now)) (IsText text) }
+{
+    match accept_edits(alloc, plan, rows.source.len() as u32, edits, files) {
+        Ok(edits) => {
+            let outcome = edit_rows(rt, alloc, plan, rows, &edits, out);
+            drop(edits);
+            outcome
+        }
+        Err(outcome) => {
+            drop(rows);
+            outcome
+        }
+    }
+}
+
+// Reads the trace and the edits of these names for a plan, runs it, makes the edits, and writes the report.
+fn run_edits<R: Threads + Sync, F: Files, O: Sink>(
+    rt: &R,
+    alloc: Global,
+    plan: &Plan,
+    trace: &str,
+    edits: &str,
+    files: &mut F,
+    out: &mut O,
+) -> EditOutcome
+    ensures ends { IfSome (trace_told plan.now.net (F.told files.old trace.now) (F.told files.old edits.now)) (λ answer. Ends answer result) }
+    ensures behind { IsBehindModel result }
+    ensures trace { (fault : TraceFault) → result ≡ EditOutcome.Trace fault → IfSome (F.told files.old trace.now) (λ bytes. trace_fault plan.now.net bytes ≡ Some fault) }
+    ensures reads { (n : ℕ) × IsReadCount result (n + 2) × ReadsNames F.told F.is_sure F.reads F.faults files.old files.new (trace.now ∷ take n (edits.now ∷ [])) (is_unread result) }
+    ensures writes { (text : List ℕ) × Writes O.taken O.sure O.faults out.old out.new result text × IfSome (trace_told plan.now.net (F.told files.old trace.now) (F.told files.old edits.now)) (IsText text) }
+{
+    match accept_trace(rt, alloc, plan, trace, files) {
+        Ok(rows) => edit_read(rt, alloc, plan, rows, edits, files, out),
+        Err(outcome) => outcome,
+    }
+}
+
+/// Reads the model, the trace and the edits that the three words name, in this order, runs the network over the trace,
+/// makes the edits, so that only what they can touch is done again, and writes the report of the edited trace, of form 2
+/// and without the lines of the jobs, and behind it how many blocks of 4,096 jobs were done again, and of how many. The
+/// words are those behind the program's name. There are 4 workers.
+///
+/// Every outcome but `Done` puts one line on `err`, whose faults change no outcome. All memory is taken before the first
+/// byte is written; `out` gains the whole text with `Done`, a first part of it with `WriteFault`, and else nothing.
+pub fn edit_trace<R: Threads + Sync, F: Files, O: Sink, E: Sink>(
+    rt: &R,
+    alloc: Global,
+    words: &[&str],
+    files: &mut F,
+    out: &mut O,
+    err: &mut E,
+) -> EditOutcome
+    // The words are refused exactly so, and then nothing is read.
+    ensures usage { (result ≡ EditOutcome.Usage) ↔ (refuses_words (texts words.now) ≡ true) }
+    ensures unread { refuses_words (texts words.now) ≡ true → files.new ≡ files.old }
+
+    // The call ends with the answer of the definitions, as far as the files are told, or with a fault of a device or want of memory.
+    ensures ends { refuses_words (texts words.now) ≡ false →
+        IfSome (answer_told (F.told files.old (name_at (texts words.now) 0)) (F.told files.old (name_at (texts words.now) 1)) (F.told files.old (name_at (texts words.now) 2))) (λ answer. Ends answer result) }
+
+    // A fault of the model or the trace is theirs, whatever is told of the files behind it.
+    ensures model { (fault : ModelFault) → result ≡ EditOutcome.Model fault → IfSome (F.told files.old (name_at (texts words.now) 0)) (λ bytes. model_fault bytes ≡ Some fault) }
+    ensures trace { (fault : TraceFault) → result ≡ EditOutcome.Trace fault → IfSome (F.told files.old (name_at (texts words.now) 0)) (λ model.
+        IfSome (F.told files.old (name_at (texts words.now) 1)) (λ bytes. trace_fault (network_in model) bytes ≡ Some fault)) }
+    ensures never { (result ≢ EditOutcome.Model ModelFault.Memory) × (result ≢ EditOutcome.Trace TraceFault.Memory) × (result ≢ EditOutcome.Edits EditFault.Memory) }
+
+    // The files are read in order; a fault of a read is counted, and a counted fault is answered.
+    ensures reads { refuses_words (texts words.now) ≡ false →
+        (n : ℕ) × IsReadCount result n × ReadsNames F.told F.is_sure F.reads F.faults files.old files.new (take n (texts words.now)) (is_unread result) }
+
+    // What the two outputs gain.
+    ensures writes { (text : List ℕ) × Writes O.taken O.sure O.faults out.old out.new result text × (refuses_words (texts words.now) ≡ false →
+        IfSome (answer_told (F.told files.old (name_at (texts words.now) 0)) (F.told files.old (name_at (texts words.now) 1)) (F.told files.old (name_at (texts words.now) 2))) (IsText text)) }
+    ensures line { (name : List ℕ) × PutsLine E.taken E.sure E.faults err.old err.new (line_text name result) ×
+        IfSome (F.told files.old (name_at (texts words.now) 0)) (λ model. name ≡ name_of_outcome (network_in model) result) }
+{
+    if refuses_words(words) {
+        let outcome = EditOutcome::Usage;
+        put_line(err, &[], &outcome);
+        return outcome;
+    }
+    match accept_model(alloc, words[0], files) {
+        Ok(plan) => {
+            let outcome = run_edits(rt, alloc, &plan, words[1], words[2], files, out);
+            put_line(err, name_of(&plan.net, &outcome), &outcome);
+            drop(plan);
+            outcome
+        }
+        Err(outcome) => {
+            put_line(err, &[], &outcome);
+            outcome
+        }
+    }
+}

@@ -1,0 +1,3 @@
+mod ReadFacts
+mod RowFacts
+mod WordFacts

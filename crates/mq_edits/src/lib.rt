@@ -1,0 +1,17 @@
+//! Edits of a trace: their text, and the rows that they make of those of the trace.
+#![tactic(auto)]
+
+// Where a call of `drop` lets go of what is left, that spares proof: a call is proved once for a type, the end of a scope anew at each exit.
+
+mod edit;
+mod fault;
+mod laws;
+mod line;
+mod read;
+mod rows;
+
+pub use edit::Edit;
+pub use fault::EditFault;
+pub use laws::{edited_rows_are_read, edits_are_answered};
+pub use read::read_edits;
+pub use rows::edited;

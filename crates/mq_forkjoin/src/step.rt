@@ -1,0 +1,54 @@
+// The jobs of a fork-join.
+ghost use Rattle.std.specs.Prelude.{◌≡◌, ◌<◌, ◌^◌, All, length, slice_index};
+ghost use Rattle.mq_forkjoin.specs.Runs.{IsForkJoinLoad, asked_at, job_run};
+
+use mq_base::List;
+use mq_core::Stream;
+
+/// The jobs of a fork-join, which act on the latest departure from each of its servers, branch after branch: before the
+/// first job each is 0.
+#[derive(Clone, Copy)]
+pub struct ForkJoinStep<'a> {
+    /// When the jobs come, by position, in ticks.
+    pub arrive: &'a List<u64>,
+    /// What they need at each server, branch after branch, by position, in ticks of service.
+    pub demands: &'a List<List<u64>>,
+    /// Of each server, 8 at most, whether it is the first of its branch.
+    pub begins: &'a List<bool>,
+    ghost load: { IsForkJoinLoad arrive.now begins.now demands.now },
+}
+
+impl<'a> ForkJoinStep<'a> {
+    /// The jobs of a stream. It takes no memory.
+    pub fn new(
+        stream: &'a Stream,
+        demands: &'a List<List<u64>>,
+        begins: &'a List<bool>,
+    ) -> ForkJoinStep<'a>
+        requires { IsForkJoinLoad stream.now.time begins.now demands.now }
+        ensures arrive { result.arrive.now ≡ stream.now.time }
+        ensures demands { result.demands.now ≡ demands.now }
+        ensures begins { result.begins.now ≡ begins.now }
+    {
+        ForkJoinStep {
+            arrive: &stream.time,
+            demands,
+            begins,
+        }
+    }
+
+    /// Lets the job at an index go through all branches.
+    pub fn serve(&self, last: &mut [u64; 8], at: usize)
+        requires inside { at < length self.now.arrive.now }
+        requires fits { All (λ time. time < 2 ^ 64) (job_run (slice_index self.now.arrive.now at) 0 self.now.begins.now (asked_at self.now.demands.now at) last.old) }
+        ensures { last.new ≡ job_run (slice_index self.now.arrive.now at) 0 self.now.begins.now (asked_at self.now.demands.now at) last.old }
+    {
+        let came = *self.arrive.get(at);
+        let mut time = 0u64;
+        for server in 0..self.begins.len() {
+            let begun = if *self.begins.get(server) { came } else { time };
+            time = begun.max(last[server]) + *self.demands.get(server).get(at);
+            last[server] = time;
+        }
+    }
+}

@@ -1,0 +1,160 @@
+-- How the one node that is ready ended.
+use Rattle.mq_arrivals.specs.Arrivals.{HasArrived}
+use Rattle.mq_arrivals.specs.declared.nodes.Arrived.{Arrived}
+use Rattle.mq_arrivals.specs.declared.nodes.Arriving.{Arriving}
+use Rattle.mq_base.proofs.lemmas.Each.{Each-back}
+use Rattle.mq_base.proofs.lemmas.Lists.{get-some, some_inj}
+use Rattle.mq_core.specs.Came.{came_in}
+use Rattle.mq_core.specs.Results.{visits_of}
+use Rattle.mq_core.specs.Sequences.{sequence_fates}
+use Rattle.mq_core.specs.StandardTable.{run_of}
+use Rattle.mq_core.specs.Theorems.{IsReadFor}
+use Rattle.mq_core.specs.declared.model.Node.{Node}
+use Rattle.mq_core.specs.declared.model.Plan.{Plan}
+use Rattle.mq_core.specs.declared.model.Rows.{Rows}
+use Rattle.mq_core.specs.declared.model.Stream.{Stream}
+use Rattle.mq_core.specs.declared.model.Visits.{Visits}
+use Rattle.mq_engine.proofs.Telling.{serves}
+use Rattle.mq_engine.proofs.Waves.{has-loaded}
+use Rattle.mq_engine.specs.CoreLaws.{CoreLaws}
+use Rattle.mq_engine.specs.Progress.{CanWork, CanWorkAll, HasAll}
+use Rattle.mq_engine.specs.Waves.{IsCrowded, IsWave}
+use Rattle.mq_engine.specs.declared.fault.RunFault.TheVariants.{Memory, Over, Past}
+use Rattle.mq_engine.specs.declared.fault.RunFault.{RunFault}
+use Rattle.mq_exits.proofs.Known.{refusal-many}
+use Rattle.mq_exits.specs.Loads.{IsLoadOf, IsLoaded, IsReadyLoad}
+use Rattle.mq_exits.specs.Results.{IsKnown, IsResultOf, IsWorkedOut}
+use Rattle.mq_exits.specs.declared.exits.Emptied.{Emptied}
+use Rattle.mq_exits.specs.declared.exits.Exit.{Exit}
+use Rattle.mq_exits.specs.declared.load.Held.{Held}
+use Rattle.mq_exits.specs.declared.working.Ending.TheVariants.{OnTime, TooLate, TooMany}
+use Rattle.mq_exits.specs.declared.working.Ending.{Ending}
+use Rattle.mq_exits.specs.declared.working.NodeResult.{NodeResult}
+use Rattle.mq_kept.proofs.SameNodes.{visits-by}
+use Rattle.mq_kept.specs.KeptNodes.{IsKeptNode, coming_of}
+use Rattle.mq_kept.specs.NodeRuns.{IsFaultAt, IsFaultOf, IsNodeRun, again_behind, blocks_at}
+use Rattle.mq_kept.specs.declared.checkpoints.Checkpoints.{Checkpoints}
+use Rattle.mq_kept.specs.declared.nodes.Before.{Before}
+use Rattle.mq_kept.specs.declared.nodes.NodeRun.{NodeRun}
+use Rattle.mq_merge.specs.Borrowed.{stream_in}
+use Rattle.mq_redo.specs.Kept.{coming_as}
+use Rattle.std.proofs.Common.{◌≡◌, ℕ, zero, suc, ◌^◌, ◌<◌, ◌≤◌, List, [], ◌∷◌, ◌++◌, length, get_or, Some, refl, sym, ap, ◌∙◌, subst, arith}
+use Rattle.std.proofs.lemmas.List.{length-map}
+use Rattle.std.proofs.lemmas.Option.{slice_get-get_or}
+use Rattle.std.specs.List.{AllByRecursion as Each}
+use Rattle.std.specs.Prelude.{Contains, IfErr, IfOk, Result, Ok, Err, slice_get}
+
+-- the only node that is ready
+pub contains-one : (v w : ℕ) → Contains (v ∷ []) w → w ≡ v
+contains-one v w h = go h.0 h.1 h.2
+  where
+    go : (i : ℕ) → i < 1 → get_or (v ∷ []) i w ≡ w → w ≡ v
+    go zero l e = sym e
+    go (suc i) l e = absurd (omega arith)
+
+-- how it ended, by its number
+module _ (plan : Plan) (rows : Rows) (v : ℕ) where
+  pub result-at : (r : NodeResult) → IsResultOf plan rows (v ∷ []) r → IsWorkedOut plan rows (record { number = v; ending = r.ending })
+  result-at r h = subst (λ (n : ℕ). IsWorkedOut plan rows (record { number = n; ending = r.ending })) (contains-one v r.number h.0) h.1
+
+  pub ended-so : (ending ending' : Ending) → ending ≡ ending' → IsWorkedOut plan rows (record { number = v; ending = ending }) → IsWorkedOut plan rows (record { number = v; ending = ending' })
+  ended-so ending ending' e = subst (λ (x : Ending). IsWorkedOut plan rows (record { number = v; ending = x })) e
+
+  -- with a fault
+  pub fault-at : (ending : Ending) (fault : RunFault) → IsWorkedOut plan rows (record { number = v; ending = ending }) → IsFaultOf ending fault → IsFaultAt plan rows v fault
+  fault-at ending (Over fault) w h = ended-so ending (TooMany fault) h w
+  fault-at ending (Past fault) w h = ended-so ending (TooLate fault) h w
+  fault-at ending Memory w h = tt
+
+  -- with too many visits
+  pub crowded-at : (count : ℕ) → v < length plan.net.nodes → IsCrowded plan rows v count → IsFaultAt plan rows v (Over (record { node = v; count = count }))
+  crowded-at count inside many =
+      let at = get-some plan.net.nodes v inside in
+      let xs = ((run_of plan rows).stations v).visits in
+      (at.0, at.1, refusal-many plan.net.bound v count (visits_of at.0.kind ((run_of plan rows).stations v)) (length-map xs _ ∙ many.0) many.1)
+
+-- what is kept of a station that was gone through again is kept of its visits
+pub worked-checkpoints : (laws : CoreLaws) (plan : Plan) (rows : Rows) (v block : ℕ) (arrivals : Stream) (visits : Visits) (streams : List Stream) (checkpoints : Checkpoints) → IsReadFor plan.net rows → IsLoaded plan rows v arrivals → IsWorkedOut plan rows (record { number = v; ending = OnTime visits streams }) →
+    ((node : Node) → slice_get plan.net.nodes v ≡ Some node → IsKeptNode node.kind (coming_as rows arrivals) block (sequence_fates rows node.kind (came_in arrivals)) checkpoints) →
+    (node : Node) → slice_get plan.net.nodes v ≡ Some node → IsKeptNode node.kind (coming_of rows visits) block visits.fate checkpoints
+worked-checkpoints laws plan rows v block arrivals visits streams checkpoints read loaded w kept node there =
+    let mine = some_inj w.0 loaded.node (sym w.1 ∙ loaded.there) in
+    let known = subst (λ (n : Node). IsKnown plan rows v n (OnTime visits streams)) mine w.2 in
+    let is = visits-by laws plan rows v arrivals visits streams read loaded known in
+    subst (λ (n : Node). IsKeptNode n.kind (coming_of rows visits) block visits.fate checkpoints) (some_inj loaded.node node (sym loaded.there ∙ there))
+    (subst (λ (x : Visits). IsKeptNode loaded.node.kind (coming_of rows x) block x.fate checkpoints) (sym is) (kept loaded.node loaded.there))
+
+-- the only station that is ready can be worked out
+pub can-one : (s : Arriving) (v : ℕ) → s.ready.now ≡ v ∷ [] → CanWork s.plan.now s.rows.now s.outputs.now v → CanWorkAll s.plan.now s.rows.now s.outputs.now s.ready.now
+can-one s v one can = subst (CanWorkAll s.plan.now s.rows.now s.outputs.now) (sym one) here
+  where
+    here : CanWorkAll s.plan.now s.rows.now s.outputs.now (v ∷ [])
+    here zero w e = subst (CanWork s.plan.now s.rows.now s.outputs.now) (some_inj v w e) can
+    here (suc k) w e = absurd cc
+
+-- what came to it, and that it can be worked on
+pub held-one : (laws : CoreLaws) (s : Arriving) (v : ℕ) (all rest : List Arrived) (arrived : Arrived) → IsWave s → s.ready.now ≡ v ∷ [] → 1 ≤ s.workers → s.workers ≤ 64 → CanWork s.plan.now s.rows.now s.outputs.now v → Each (HasArrived s) all → all ≡ rest ++ arrived ∷ [] →
+    IsLoaded s.plan.now s.rows.now arrived.number (stream_in arrived.arrivals) × (arrived.number ≡ v)
+held-one laws s v all rest arrived wave one some most can each e =
+    let ready = ap length one in
+    let can' = can-one s v one can in
+    let here = (Each-back (HasArrived s) rest (arrived ∷ []) (subst (Each (HasArrived s)) e each)).0 in
+    let arriving = serves s wave.read wave.early can' (omega arith) some most wave.block in (
+      (has-loaded laws s arrived arriving wave.early can' here).0,
+      contains-one v arrived.number (subst (λ (l : List ℕ). Contains l arrived.number) one here.ready),
+    )
+
+-- The only result of a node.
+pub ended-known : (plan : Plan) (rows : Rows) (v : ℕ) (results : List NodeResult) (r : NodeResult) → results ≡ r ∷ [] → Each (IsResultOf plan rows (v ∷ [])) results → IsWorkedOut plan rows (record { number = v; ending = r.ending })
+ended-known plan rows v results r e all = result-at plan rows v r (subst (Each (IsResultOf plan rows (v ∷ []))) e all).0
+
+-- how it ended
+pub ended-fault : (plan : Plan) (rows : Rows) (v : ℕ) (ending : Ending) (result : Result NodeRun RunFault) → IsWorkedOut plan rows (record { number = v; ending = ending }) → IfErr result (IsFaultOf ending) → IfErr result (IsFaultAt plan rows v)
+ended-fault plan rows v ending (Ok gives) w h = tt
+ended-fault plan rows v ending (Err fault) w h = fault-at plan rows v ending fault w h
+
+-- the only result of a station that was held is how it ended
+pub held-known : (held : Held) (exit : Exit) (list : List Emptied) (results : List NodeResult) (r : NodeResult) → list ≡ record { held = held; exit = exit } ∷ [] →
+    ((plan : Plan) (rows : Rows) (ready : List ℕ) → Each (λ l. IsLoadOf plan rows ready l.held) list → Each (IsResultOf plan rows ready) results) → results ≡ r ∷ [] → IsWorkedOut held.plan.now held.rows.now (record { number = held.number; ending = r.ending })
+held-known held exit list results r e known only =
+    let ready = held.number ∷ [] in
+    let own = subst (Each (λ (l : Emptied). IsLoadOf held.plan.now held.rows.now ready l.held)) (sym e) ((refl, refl, (0, omega arith, refl)), tt) in
+    ended-known held.plan.now held.rows.now held.number results r only (known held.plan.now held.rows.now ready own)
+
+-- what it gives
+pub ended-on_time : (plan : Plan) (rows : Rows) (v : ℕ) (ending : Ending) (result : Result NodeRun RunFault) → IsWorkedOut plan rows (record { number = v; ending = ending }) → IfOk result (λ gives. ending ≡ OnTime gives.visits gives.streams) →
+    IfOk result (λ gives. IsWorkedOut plan rows (record { number = v; ending = OnTime gives.visits gives.streams }))
+ended-on_time plan rows v ending (Ok gives) w e = ended-so plan rows v ending (OnTime gives.visits gives.streams) e w
+ended-on_time plan rows v ending (Err fault) w e = tt
+
+pub ended-checkpoints : (laws : CoreLaws) (plan : Plan) (rows : Rows) (v block : ℕ) (arrivals : Stream) (ending : Ending) (checkpoints : Checkpoints) (result : Result NodeRun RunFault) → IsReadFor plan.net rows → IsLoaded plan rows v arrivals → IsWorkedOut plan rows (record { number = v; ending = ending }) →
+    IfOk result (λ gives. ending ≡ OnTime gives.visits gives.streams) → IfOk result (λ gives. gives.checkpoints ≡ checkpoints) →
+    ((node : Node) → slice_get plan.net.nodes v ≡ Some node → IsKeptNode node.kind (coming_as rows arrivals) block (sequence_fates rows node.kind (came_in arrivals)) checkpoints) →
+    IfOk result (λ gives. (node : Node) → slice_get plan.net.nodes v ≡ Some node → IsKeptNode node.kind (coming_of rows gives.visits) block gives.visits.fate gives.checkpoints)
+ended-checkpoints laws plan rows v block arrivals ending checkpoints (Ok gives) read loaded w e m kept =
+    worked-checkpoints laws plan rows v block arrivals gives.visits gives.streams gives.checkpoints read loaded (ended-so plan rows v ending (OnTime gives.visits gives.streams) e w)
+    (λ node there. subst (IsKeptNode node.kind (coming_as rows arrivals) block (sequence_fates rows node.kind (came_in arrivals))) (sym m) (kept node there))
+ended-checkpoints laws plan rows v block arrivals ending checkpoints (Err fault) read loaded w e m kept = tt
+
+-- What a station gives that was gone through again.
+pub station-ended : (s : Arriving) (before : Before) (v : ℕ) (result : Result NodeRun RunFault) (again all : ℕ) → again ≡ again_behind s before v → all ≡ blocks_at s v → again < 2 ^ 32 → all < 2 ^ 32 →
+    IfOk result (λ gives. IsWorkedOut s.plan.now s.rows.now (record { number = v; ending = OnTime gives.visits gives.streams })) →
+    IfOk result (λ gives. (node : Node) → slice_get s.plan.now.net.nodes v ≡ Some node → IsKeptNode node.kind (coming_of s.rows.now gives.visits) s.block gives.visits.fate gives.checkpoints) →
+    IfOk result (λ gives. gives.again ≡ again) → IfOk result (λ gives. gives.all ≡ all) → IfOk result (IsNodeRun s before v)
+station-ended s before v (Ok gives) again all a b few few' known checkpoints c d = record {
+  known = known;
+  checkpoints = checkpoints;
+  again = c ∙ a;
+  all = d ∙ b;
+  again_few = subst (λ (n : ℕ). n < 2 ^ 32) (sym c) few;
+  all_few = subst (λ (n : ℕ). n < 2 ^ 32) (sym d) few';
+}
+station-ended s before v (Err fault) again all a b few few' known checkpoints c d = tt
+
+-- what is held is what came to the one station
+pub loaded-at : (held : Held) (plan : Plan) (rows : Rows) (v : ℕ) (arrivals : Stream) → IsReadyLoad held → held.plan.now ≡ plan → held.rows.now ≡ rows → held.number ≡ v → arrivals ≡ stream_in held.arrivals → IsLoaded plan rows v arrivals
+loaded-at held plan rows v arrivals ready a b c d = subst (λ (t : Plan × Rows × ℕ × Stream). IsLoaded t.0 t.1 t.2 t.3) (λ i. (a i, b i, c i, sym d i)) ready.1
+
+-- to the only node that is ready all has come
+pub ready-all : (s : Arriving) → IsWave s → length s.ready.now ≡ 1 → HasAll s.plan.now s.rows.now s.outputs.now (get_or s.ready.now 0 0)
+ready-all s wave one = wave.all 0 (get_or s.ready.now 0 0) (slice_get-get_or s.ready.now 0 0 (omega arith))

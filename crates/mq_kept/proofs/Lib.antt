@@ -1,0 +1,13 @@
+pub mod Asking
+pub mod Behind
+pub mod CameBefore
+pub mod Ended
+pub mod KeptNodes
+pub mod KeptRuns
+pub mod None
+pub mod Numbers
+pub mod Ranks
+pub mod SameNodes
+pub mod Unchanged
+pub mod Within
+pub mod WorkedTo

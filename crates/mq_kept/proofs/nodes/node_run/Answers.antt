@@ -1,0 +1,19 @@
+use Rattle.std.proofs.Common.{get_or, arith}
+use Rattle.mq_kept.proofs.Ended.{crowded-at, ready-all}
+use Rattle.mq_kept.proofs.Numbers.{apart-worked}
+use Rattle.mq_kept.proofs.nodes.node_run.Goals as goal
+
+pub returns-in-Crowded-clause-cause : goal.returns-in-Crowded-clause-cause
+returns-in-Crowded-clause-cause g c =
+    let s = c.args.arriving.now in
+    let v = get_or s.ready.now 0 0 in
+    let inside = (ready-all s c.requires.wave c.requires.one).inside in
+    crowded-at s.plan.now s.rows.now v c.in-Crowded.count inside c.in-Crowded.ensures
+
+pub returns-in-Apart-clause-counted : goal.returns-in-Apart-clause-counted
+returns-in-Apart-clause-counted g c =
+    let s = c.args.arriving.now in
+    let v = get_or s.ready.now 0 0 in
+    let inside = (ready-all s c.requires.wave c.requires.one).inside in
+    let none = apart-worked s c.args.before.now v inside ? in
+    ?

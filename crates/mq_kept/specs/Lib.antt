@@ -1,0 +1,5 @@
+pub mod Carries
+pub mod Keeping
+pub mod KeptNodes
+pub mod NodeRuns
+pub mod Totals

@@ -1,0 +1,207 @@
+// A kept run, and its edits.
+ghost use Rattle.std.specs.Prelude.{◌≡◌, ◌+◌, ◌<◌, ◌≤◌, length, IfErr, IfOk, OnErr, OnOk};
+ghost use Rattle.mq_alike.specs.Again.{again, all_blocks, worked};
+ghost use Rattle.mq_core.specs.Theorems.{IsReadFor};
+ghost use Rattle.mq_edits.specs.Edited.{AreEditsFor, edited_rows};
+ghost use Rattle.mq_engine.specs.Answer.{IsCause};
+ghost use Rattle.mq_kept.specs.Keeping.{IsKeptRun};
+ghost use Rattle.mq_kept.specs.NodeRuns.{AreKept};
+
+use crate::again::{Redone, Whole, run_again};
+use crate::checkpoints::Checkpoints;
+use crate::nodes::Before;
+use mq_alike::again_is_bounded;
+use mq_base::{List, Steps};
+use mq_core::{Plan, Rows, Run, Stream, Visits, runs_are_of_networks, runs_have_sequences};
+use mq_edits::{Edit, edited};
+use mq_engine::RunFault;
+use std::alloc::Global;
+use std::marker::{Brand, Model};
+use std::mem::replace;
+use std::sync::ledger::{Blank, Ledger};
+use std::thread::Threads;
+
+/// A run that is kept with its rows. It borrows its plan.
+#[derive(Drop)]
+pub struct Kept<'p> {
+    plan: &'p Plan,
+    rows: Rows,
+    run: Run,
+    checkpoints: List<Checkpoints>,
+    workers: u32,
+    block: u32,
+}
+
+impl<'p> Model for Kept<'p> {
+    ghost use Rattle.mq_kept.specs.Keeping.{IsKept, KeptRun};
+
+    ghost Value = { KeptRun };
+
+    ghost view = { λ k. record { plan = k.plan.now; rows = k.rows; run = k.run; workers = k.workers; block = k.block } };
+
+    ghost invariant = { λ k. IsKept k.plan.now k.rows k.run k.checkpoints k.workers k.block };
+}
+
+impl<'p> Kept<'p> {
+    /// The run of a plan over the rows that were read for its network, kept with them. The block of every node has
+    /// `block` jobs, 64 to 65,536. It refuses as `run` does.
+    pub fn start<R: Threads + Sync>(
+        rt: &R,
+        alloc: Global,
+        plan: &'p Plan,
+        rows: Rows,
+        workers: u32,
+        block: u32,
+    ) -> Result<Kept<'p>, RunFault>
+        requires read { IsReadFor plan.now.net rows }
+        requires some { 1 ≤ workers }
+        requires most { workers ≤ 64 }
+        requires block { 64 ≤ block }
+        requires large { block ≤ 65536 }
+        ensures plan { IfOk result (λ kept. kept.plan ≡ plan.now) }
+        ensures rows { IfOk result (λ kept. kept.rows ≡ rows) }
+        ensures numbers { IfOk result (λ kept. (kept.workers ≡ workers) × (kept.block ≡ block)) }
+        ensures kept { IfOk result IsKeptRun }
+        ensures cause { IfErr result (λ fault. IsCause plan.now rows fault) }
+    {
+        let whole = begun::<R, Brand>(rt, alloc, plan, &rows, workers, block, Blank::new(1))?;
+        Ok(Kept {
+            plan,
+            rows,
+            run: whole.run,
+            checkpoints: whole.checkpoints,
+            workers,
+            block,
+        })
+    }
+
+    /// Makes these edits, in their order, in the kept rows, and does again what they touch: of each node whose blocks are
+    /// counted the blocks from its first difference on. It tells how many these are, and how many blocks there are in
+    /// all. Each block that is worked counts one step: no more than are told, since the jobs of a source depart as they
+    /// come. It refuses as `run` over the edited rows does. Then the kept rows and run are as before, and the steps
+    /// stay counted. The kept run and the new one stand side by side until it is done.
+    pub fn edit<R: Threads + Sync, L: Ledger>(
+        &mut self,
+        rt: &R,
+        alloc: Global,
+        edits: &List<Edit>,
+        steps: &mut Steps<L>,
+    ) -> Result<Redone, RunFault>
+        requires edits { AreEditsFor self.old.plan.net (length self.old.rows.source) edits.now }
+        ensures stays { (self.new.plan ≡ self.old.plan) × (self.new.workers ≡ self.old.workers) × (self.new.block ≡ self.old.block) }
+        ensures rows { OnOk result (self.new.rows ≡ edited_rows self.old.rows edits.now) }
+        ensures kept { IsKeptRun self.new }
+        ensures redone { IfOk result (λ redone. redone ≡ record { again = again self.old.plan.net self.old.rows (edited_rows self.old.rows edits.now) self.old.block; all = all_blocks self.old.plan.net (edited_rows self.old.rows edits.now) self.old.block }) }
+        ensures err { OnErr result (self.new ≡ self.old) }
+        ensures cause { IfErr result (λ fault. IsCause self.old.plan (edited_rows self.old.rows edits.now) fault) }
+        ensures steps { steps.old ≤ steps.new }
+        ensures spent { steps.new ≤ steps.old + worked self.old.plan.net self.old.rows (edited_rows self.old.rows edits.now) self.old.block }
+        ensures counted { OnOk result (steps.new ≡ steps.old + worked self.old.plan.net self.old.rows (edited_rows self.old.rows edits.now) self.old.block) }
+        ensures most { steps.new ≤ steps.old + again self.old.plan.net self.old.rows (edited_rows self.old.rows edits.now) self.old.block }
+    {
+        let rows = edited(alloc, &self.rows, edits)?;
+        self.replace_rows(rt, alloc, rows, steps)
+    }
+
+    /// Makes these the kept rows, and does again what they change of the run. It refuses as `run` over them does, and
+    /// then the kept rows and run are as before.
+    pub fn replace_rows<R: Threads + Sync, L: Ledger>(
+        &mut self,
+        rt: &R,
+        alloc: Global,
+        rows: Rows,
+        steps: &mut Steps<L>,
+    ) -> Result<Redone, RunFault>
+        requires read { IsReadFor self.old.plan.net rows }
+        ensures stays { (self.new.plan ≡ self.old.plan) × (self.new.workers ≡ self.old.workers) × (self.new.block ≡ self.old.block) }
+        ensures rows { OnOk result (self.new.rows ≡ rows) }
+        ensures kept { IsKeptRun self.new }
+        ensures redone { IfOk result (λ redone. redone ≡ record { again = again self.old.plan.net self.old.rows rows self.old.block; all = all_blocks self.old.plan.net rows self.old.block }) }
+        ensures err { OnErr result (self.new ≡ self.old) }
+        ensures cause { IfErr result (λ fault. IsCause self.old.plan rows fault) }
+        ensures steps { steps.old ≤ steps.new }
+        ensures spent { steps.new ≤ steps.old + worked self.old.plan.net self.old.rows rows self.old.block }
+        ensures counted { OnOk result (steps.new ≡ steps.old + worked self.old.plan.net self.old.rows rows self.old.block) }
+        ensures most { steps.new ≤ steps.old + again self.old.plan.net self.old.rows rows self.old.block }
+    {
+        runs_have_sequences();
+        runs_are_of_networks();
+        again_is_bounded();
+        let before = Before {
+            rows: &self.rows,
+            visits: self.run.visits.as_slice(),
+            outputs: self.run.outputs.as_slice(),
+            checkpoints: self.checkpoints.as_slice(),
+        };
+        let whole = run_again(
+            rt,
+            alloc,
+            self.plan,
+            &rows,
+            &before,
+            self.workers,
+            self.block,
+            steps,
+        )?;
+        let Whole {
+            run,
+            checkpoints,
+            redone,
+        } = whole;
+        drop(replace(&mut self.rows, rows));
+        drop(replace(&mut self.run, run));
+        drop(replace(&mut self.checkpoints, checkpoints));
+        Ok(redone)
+    }
+
+    /// The rows.
+    pub fn rows(&self) -> &Rows
+        ensures { result.now ≡ self.now.rows }
+    {
+        &self.rows
+    }
+
+    /// The run over the rows.
+    pub fn run(&self) -> &Run
+        ensures run { result.now ≡ self.now.run }
+        ensures kept { IsKeptRun self.now }
+    {
+        &self.run
+    }
+}
+
+// A run of which nothing was kept yet, with a counter of its own.
+fn begun<R: Threads + Sync, L: Ledger>(
+    rt: &R,
+    alloc: Global,
+    plan: &Plan,
+    rows: &Rows,
+    workers: u32,
+    block: u32,
+    blank: Blank,
+) -> Result<Whole, RunFault>
+    requires read { IsReadFor plan.now.net rows.now }
+    requires some { 1 ≤ workers }
+    requires most { workers ≤ 64 }
+    requires block { 64 ≤ block }
+    requires large { block ≤ 65536 }
+    requires name { blank.name ≡ L.name }
+    requires parts { blank.parts ≡ L.parts }
+    requires whole { 0 < blank.parts }
+    ensures kept { IfOk result (λ whole. AreKept plan.now rows.now block whole.run whole.checkpoints) }
+    ensures cause { IfErr result (λ fault. IsCause plan.now rows.now fault) }
+{
+    let mut steps = Steps::<L>::new(blank);
+    let (visits, outputs, checkpoints): (&[Visits], &[List<Stream>], &[Checkpoints]) = (
+        &[],
+        &[],
+        &[],
+    );
+    let before = Before {
+        rows,
+        visits,
+        outputs,
+        checkpoints,
+    };
+    run_again(rt, alloc, plan, rows, &before, workers, block, &mut steps)
+}

@@ -1,0 +1,15 @@
+//! A run that is kept with its rows, so that edits of them do again only what they can touch.
+#![tactic(auto)]
+
+mod again;
+mod checkpoints;
+mod copies;
+mod kept;
+mod nodes;
+mod stations;
+mod streams;
+
+pub use again::Redone;
+pub use kept::Kept;
+pub use mq_engine::RunFault;
+pub use mq_redo::redo_block;

@@ -1,0 +1,335 @@
+// A station whose arrivals differ from those of the kept run: it keeps the blocks before the first difference, and does
+// the others again.
+ghost use Rattle.std.specs.Prelude.{◌≡◌, ◌+◌, ◌≤◌, Some, length, slice_get, IfOk, OnOk};
+ghost use Rattle.mq_alike.specs.Again.{Coming as TheComing, blocks_in};
+ghost use Rattle.mq_core.specs.Came.{came_in};
+ghost use Rattle.mq_core.specs.Sequences.{sequence_fates};
+ghost use Rattle.mq_core.specs.declared.model.Kind.TheVariants.{Delay, ForkJoin, Server, Split, Tandem};
+ghost use Rattle.mq_core.specs.declared.model.Node.{Node as TheNode};
+ghost use Rattle.mq_exits.specs.Afters.{IsWorkedAt};
+ghost use Rattle.mq_exits.specs.Exits.{IsExit};
+ghost use Rattle.mq_exits.specs.Loads.{IsLoaded};
+ghost use Rattle.mq_exits.specs.declared.working.Worked.TheVariants.{Departed};
+ghost use Rattle.mq_kept.specs.KeptNodes.{IsKeptNode, IsNodeOf, IsStayingNode, blocks_behind};
+ghost use Rattle.mq_redo.specs.Kept.{coming_as};
+
+use crate::checkpoints::Checkpoints;
+use mq_alike::alike_is_first;
+use mq_base::{List, OutOfMemory, Steps};
+use mq_core::{Demand, Fates, Kind, Route, Stage};
+use mq_exits::{Exit, Load, Worked, left_by, station_whole};
+use mq_redo::{
+    blocks_hold, branched_again, delayed_again, routed_again, served_again, staged_again,
+};
+use mq_scan::cut;
+use std::alloc::Global;
+use std::sync::ledger::Ledger;
+use std::thread::Threads;
+
+/// What stays of a node's kept run.
+#[derive(Clone, Copy)]
+pub struct Stays<'a> {
+    /// How its kept visits end.
+    pub fates: &'a Fates,
+    /// What is kept of its blocks.
+    pub checkpoints: &'a Checkpoints,
+    /// How many first blocks stay.
+    pub blocks: u32,
+}
+
+/// What is known of a station that was gone through again, when all its jobs have left.
+#[derive(Drop)]
+pub struct Reworked {
+    pub exit: Exit,
+    pub checkpoints: Checkpoints,
+}
+
+/// What is known of a station that is gone through again behind the blocks that stay. A loss station and a trunk group
+/// are worked out anew, and the jobs of a source depart as they come. It refuses for want of memory alone.
+pub fn work_again<R: Threads + Sync, L: Ledger>(
+    rt: &R,
+    alloc: Global,
+    workers: u32,
+    load: &Load,
+    stays: &Stays,
+    steps: &mut Steps<L>,
+) -> Result<Reworked, OutOfMemory>
+    requires loaded { IsLoaded load.now.plan.now load.now.rows.now load.now.number load.now.arrivals.now }
+    requires some { 1 ≤ load.now.block }
+    requires large { load.now.block ≤ 65536 }
+    requires stays { (node : TheNode) → slice_get load.now.plan.now.net.nodes load.now.number ≡ Some node → (old : TheComing) × IsStayingNode node.kind old (coming_as load.now.rows.now load.now.arrivals.now) load.now.block stays.now }
+    ensures exit { IfOk result (λ r. IsExit load.now.plan.now load.now.rows.now load.now.number load.now.arrivals.now r.exit) }
+    ensures checkpoints { IfOk result (λ r. (node : TheNode) → slice_get load.now.plan.now.net.nodes load.now.number ≡ Some node → IsKeptNode node.kind (coming_as load.now.rows.now load.now.arrivals.now) load.now.block (sequence_fates load.now.rows.now node.kind (came_in load.now.arrivals.now)) r.checkpoints) }
+    ensures steps { steps.old ≤ steps.new }
+    ensures spent { (node : TheNode) → slice_get load.now.plan.now.net.nodes load.now.number ≡ Some node → steps.new ≤ steps.old + blocks_behind load.now.block node.kind (length load.now.arrivals.now.job) stays.now.blocks }
+    ensures counted { OnOk result ((node : TheNode) → slice_get load.now.plan.now.net.nodes load.now.number ≡ Some node → steps.new ≡ steps.old + blocks_behind load.now.block node.kind (length load.now.arrivals.now.job) stays.now.blocks) }
+{
+    match &load.plan.net.nodes.get(load.number as usize).kind {
+        Kind::Server(demand) => server_again(rt, alloc, workers, load, demand, stays, steps),
+        Kind::Delay(demand) => delay_again(rt, alloc, workers, load, demand, stays, steps),
+        Kind::Tandem(stages) => tandem_again(rt, alloc, workers, load, stages, stays, steps),
+        Kind::ForkJoin(branches) => {
+            forkjoin_again(rt, alloc, workers, load, branches, stays, steps)
+        }
+        Kind::Split(route) => split_again(alloc, load, route, stays, steps),
+        Kind::Source | Kind::Loss { .. } | Kind::Trunk { .. } | Kind::Fork { .. } | Kind::Join => {
+            worked_anew(rt, alloc, workers, load)
+        }
+    }
+}
+
+// A server.
+fn server_again<R: Threads + Sync, L: Ledger>(
+    rt: &R,
+    alloc: Global,
+    workers: u32,
+    load: &Load,
+    demand: &Demand,
+    stays: &Stays,
+    steps: &mut Steps<L>,
+) -> Result<Reworked, OutOfMemory>
+    requires loaded { IsLoaded load.now.plan.now load.now.rows.now load.now.number load.now.arrivals.now }
+    requires some { 1 ≤ load.now.block }
+    requires large { load.now.block ≤ 65536 }
+    requires node { IsNodeOf load.now.plan.now load.now.number (Server demand.now) }
+    requires stays { (old : TheComing) × IsStayingNode (Server demand.now) old (coming_as load.now.rows.now load.now.arrivals.now) load.now.block stays.now }
+    ensures exit { IfOk result (λ r. IsExit load.now.plan.now load.now.rows.now load.now.number load.now.arrivals.now r.exit) }
+    ensures checkpoints { IfOk result (λ r. IsKeptNode (Server demand.now) (coming_as load.now.rows.now load.now.arrivals.now) load.now.block (sequence_fates load.now.rows.now (Server demand.now) (came_in load.now.arrivals.now)) r.checkpoints) }
+    ensures steps { steps.old ≤ steps.new }
+    ensures spent { steps.new + stays.now.blocks ≤ steps.old + blocks_in load.now.block (length load.now.arrivals.now.job) }
+    ensures counted { OnOk result (steps.new + stays.now.blocks ≡ steps.old + blocks_in load.now.block (length load.now.arrivals.now.job)) }
+{
+    alike_is_first();
+    let blocks = cut(load.arrivals.time.len() as u32, load.block);
+    blocks_hold(&blocks);
+    let (carries, first) = (stays.checkpoints.server(), stays.blocks);
+    let done = served_again(
+        alloc,
+        load.rows,
+        demand,
+        load.arrivals,
+        &blocks,
+        stays.fates,
+        carries,
+        first,
+        steps,
+    )?;
+    let checkpoints = Checkpoints::Server(List::from_vec(done.carries));
+    let reworked = departed(rt, alloc, workers, load, done.times, checkpoints)?;
+    Ok(reworked)
+}
+
+// A delay.
+fn delay_again<R: Threads + Sync, L: Ledger>(
+    rt: &R,
+    alloc: Global,
+    workers: u32,
+    load: &Load,
+    demand: &Demand,
+    stays: &Stays,
+    steps: &mut Steps<L>,
+) -> Result<Reworked, OutOfMemory>
+    requires loaded { IsLoaded load.now.plan.now load.now.rows.now load.now.number load.now.arrivals.now }
+    requires some { 1 ≤ load.now.block }
+    requires large { load.now.block ≤ 65536 }
+    requires node { IsNodeOf load.now.plan.now load.now.number (Delay demand.now) }
+    requires stays { (old : TheComing) × IsStayingNode (Delay demand.now) old (coming_as load.now.rows.now load.now.arrivals.now) load.now.block stays.now }
+    ensures exit { IfOk result (λ r. IsExit load.now.plan.now load.now.rows.now load.now.number load.now.arrivals.now r.exit) }
+    ensures checkpoints { IfOk result (λ r. IsKeptNode (Delay demand.now) (coming_as load.now.rows.now load.now.arrivals.now) load.now.block (sequence_fates load.now.rows.now (Delay demand.now) (came_in load.now.arrivals.now)) r.checkpoints) }
+    ensures steps { steps.old ≤ steps.new }
+    ensures spent { steps.new + stays.now.blocks ≤ steps.old + blocks_in load.now.block (length load.now.arrivals.now.job) }
+    ensures counted { OnOk result (steps.new + stays.now.blocks ≡ steps.old + blocks_in load.now.block (length load.now.arrivals.now.job)) }
+{
+    alike_is_first();
+    let blocks = cut(load.arrivals.time.len() as u32, load.block);
+    blocks_hold(&blocks);
+    let (carries, first) = (stays.checkpoints.delay(), stays.blocks);
+    let done = delayed_again(
+        alloc,
+        load.rows,
+        demand,
+        load.arrivals,
+        &blocks,
+        stays.fates,
+        carries,
+        first,
+        steps,
+    )?;
+    let checkpoints = Checkpoints::Delay(List::from_vec(done.carries));
+    let reworked = departed(rt, alloc, workers, load, done.times, checkpoints)?;
+    Ok(reworked)
+}
+
+// A tandem.
+fn tandem_again<R: Threads + Sync, L: Ledger>(
+    rt: &R,
+    alloc: Global,
+    workers: u32,
+    load: &Load,
+    stages: &List<Stage>,
+    stays: &Stays,
+    steps: &mut Steps<L>,
+) -> Result<Reworked, OutOfMemory>
+    requires loaded { IsLoaded load.now.plan.now load.now.rows.now load.now.number load.now.arrivals.now }
+    requires some { 1 ≤ load.now.block }
+    requires large { load.now.block ≤ 65536 }
+    requires node { IsNodeOf load.now.plan.now load.now.number (Tandem stages.now) }
+    requires stays { (old : TheComing) × IsStayingNode (Tandem stages.now) old (coming_as load.now.rows.now load.now.arrivals.now) load.now.block stays.now }
+    ensures exit { IfOk result (λ r. IsExit load.now.plan.now load.now.rows.now load.now.number load.now.arrivals.now r.exit) }
+    ensures checkpoints { IfOk result (λ r. IsKeptNode (Tandem stages.now) (coming_as load.now.rows.now load.now.arrivals.now) load.now.block (sequence_fates load.now.rows.now (Tandem stages.now) (came_in load.now.arrivals.now)) r.checkpoints) }
+    ensures steps { steps.old ≤ steps.new }
+    ensures spent { steps.new + stays.now.blocks ≤ steps.old + blocks_in load.now.block (length load.now.arrivals.now.job) }
+    ensures counted { OnOk result (steps.new + stays.now.blocks ≡ steps.old + blocks_in load.now.block (length load.now.arrivals.now.job)) }
+{
+    alike_is_first();
+    let blocks = cut(load.arrivals.time.len() as u32, load.block);
+    blocks_hold(&blocks);
+    let (carries, first) = (stays.checkpoints.tandem(), stays.blocks);
+    let done = staged_again(
+        alloc,
+        load.rows,
+        stages,
+        load.arrivals,
+        &blocks,
+        stays.fates,
+        carries,
+        first,
+        steps,
+    )?;
+    let checkpoints = Checkpoints::Tandem(List::from_vec(done.carries));
+    let reworked = departed(rt, alloc, workers, load, done.times, checkpoints)?;
+    Ok(reworked)
+}
+
+// A fork-join.
+fn forkjoin_again<R: Threads + Sync, L: Ledger>(
+    rt: &R,
+    alloc: Global,
+    workers: u32,
+    load: &Load,
+    branches: &List<List<Demand>>,
+    stays: &Stays,
+    steps: &mut Steps<L>,
+) -> Result<Reworked, OutOfMemory>
+    requires loaded { IsLoaded load.now.plan.now load.now.rows.now load.now.number load.now.arrivals.now }
+    requires some { 1 ≤ load.now.block }
+    requires large { load.now.block ≤ 65536 }
+    requires node { IsNodeOf load.now.plan.now load.now.number (ForkJoin branches.now) }
+    requires stays { (old : TheComing) × IsStayingNode (ForkJoin branches.now) old (coming_as load.now.rows.now load.now.arrivals.now) load.now.block stays.now }
+    ensures exit { IfOk result (λ r. IsExit load.now.plan.now load.now.rows.now load.now.number load.now.arrivals.now r.exit) }
+    ensures checkpoints { IfOk result (λ r. IsKeptNode (ForkJoin branches.now) (coming_as load.now.rows.now load.now.arrivals.now) load.now.block (sequence_fates load.now.rows.now (ForkJoin branches.now) (came_in load.now.arrivals.now)) r.checkpoints) }
+    ensures steps { steps.old ≤ steps.new }
+    ensures spent { steps.new + stays.now.blocks ≤ steps.old + blocks_in load.now.block (length load.now.arrivals.now.job) }
+    ensures counted { OnOk result (steps.new + stays.now.blocks ≡ steps.old + blocks_in load.now.block (length load.now.arrivals.now.job)) }
+{
+    alike_is_first();
+    let blocks = cut(load.arrivals.time.len() as u32, load.block);
+    blocks_hold(&blocks);
+    let (carries, first) = (stays.checkpoints.forkjoin(), stays.blocks);
+    let done = branched_again(
+        alloc,
+        load.rows,
+        branches,
+        load.arrivals,
+        &blocks,
+        stays.fates,
+        carries,
+        first,
+        steps,
+    )?;
+    let checkpoints = Checkpoints::ForkJoin(List::from_vec(done.carries));
+    let reworked = departed(rt, alloc, workers, load, done.times, checkpoints)?;
+    Ok(reworked)
+}
+
+// What is known of a station whose jobs depart at these times, in ticks, with its checkpoints.
+fn departed<R: Threads + Sync>(
+    rt: &R,
+    alloc: Global,
+    workers: u32,
+    load: &Load,
+    times: Vec<u64>,
+    checkpoints: Checkpoints,
+) -> Result<Reworked, OutOfMemory>
+    requires loaded { IsLoaded load.now.plan.now load.now.rows.now load.now.number load.now.arrivals.now }
+    requires some { 1 ≤ load.now.block }
+    requires worked { IsWorkedAt load.now.plan.now load.now.rows.now load.now.number load.now.arrivals.now (Departed times.items) }
+    ensures exit { IfOk result (λ r. IsExit load.now.plan.now load.now.rows.now load.now.number load.now.arrivals.now r.exit) }
+    ensures checkpoints { IfOk result (λ r. r.checkpoints ≡ checkpoints) }
+{
+    match left_by(
+        rt,
+        alloc,
+        workers,
+        load,
+        Worked::Departed(List::from_vec(times)),
+    ) {
+        Ok(exit) => Ok(Reworked { exit, checkpoints }),
+        Err(fault) => {
+            drop(checkpoints);
+            Err(fault)
+        }
+    }
+}
+
+// A split.
+fn split_again<L: Ledger>(
+    alloc: Global,
+    load: &Load,
+    route: &Route,
+    stays: &Stays,
+    steps: &mut Steps<L>,
+) -> Result<Reworked, OutOfMemory>
+    requires loaded { IsLoaded load.now.plan.now load.now.rows.now load.now.number load.now.arrivals.now }
+    requires some { 1 ≤ load.now.block }
+    requires large { load.now.block ≤ 65536 }
+    requires node { IsNodeOf load.now.plan.now load.now.number (Split route.now) }
+    requires stays { (old : TheComing) × IsStayingNode (Split route.now) old (coming_as load.now.rows.now load.now.arrivals.now) load.now.block stays.now }
+    ensures exit { IfOk result (λ r. IsExit load.now.plan.now load.now.rows.now load.now.number load.now.arrivals.now r.exit) }
+    ensures checkpoints { IfOk result (λ r. IsKeptNode (Split route.now) (coming_as load.now.rows.now load.now.arrivals.now) load.now.block (sequence_fates load.now.rows.now (Split route.now) (came_in load.now.arrivals.now)) r.checkpoints) }
+    ensures steps { steps.old ≤ steps.new }
+    ensures spent { steps.new + stays.now.blocks ≤ steps.old + blocks_in load.now.block (length load.now.arrivals.now.job) }
+    ensures counted { OnOk result (steps.new + stays.now.blocks ≡ steps.old + blocks_in load.now.block (length load.now.arrivals.now.job)) }
+{
+    alike_is_first();
+    let blocks = cut(load.arrivals.job.len() as u32, load.block);
+    blocks_hold(&blocks);
+    let (outs, carries) = (stays.checkpoints.outs(), stays.checkpoints.split());
+    let rerouted = routed_again(
+        alloc,
+        load.rows,
+        route,
+        load.arrivals,
+        &blocks,
+        outs,
+        carries,
+        stays.blocks,
+        steps,
+    )?;
+    Ok(Reworked {
+        exit: Exit::Passed(rerouted.streams),
+        checkpoints: Checkpoints::Split {
+            carries: List::from_vec(rerouted.carries),
+            outs: List::from_vec(rerouted.outs),
+        },
+    })
+}
+
+// A station of whose blocks nothing is kept.
+fn worked_anew<R: Threads + Sync>(
+    rt: &R,
+    alloc: Global,
+    workers: u32,
+    load: &Load,
+) -> Result<Reworked, OutOfMemory>
+    requires loaded { IsLoaded load.now.plan.now load.now.rows.now load.now.number load.now.arrivals.now }
+    requires some { 1 ≤ load.now.block }
+    ensures exit { IfOk result (λ r. IsExit load.now.plan.now load.now.rows.now load.now.number load.now.arrivals.now r.exit) }
+{
+    let worked = station_whole(alloc, load)?;
+    let exit = left_by(rt, alloc, workers, load, worked)?;
+    Ok(Reworked {
+        exit,
+        checkpoints: Checkpoints::Nothing,
+    })
+}

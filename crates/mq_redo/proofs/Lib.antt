@@ -1,0 +1,7 @@
+mod Alone
+mod Begins
+pub mod Doing
+mod Holding
+mod Routed
+mod Same
+pub mod Staying

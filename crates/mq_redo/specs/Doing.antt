@@ -1,0 +1,26 @@
+-- The blocks of a scan that are done: what is read of the carries of their jobs, and the carry behind each.
+use Rattle.std.specs.Prelude.{◌≡◌, ◌+◌, ◌*◌, ◌<◌, ◌≤◌, ℕ, List, length, map, min, slice_index_or}
+use Rattle.mq_scan.specs.Folds.{carries_after, fold_to}
+use Rattle.mq_scan.specs.declared.blocks.Blocks.{Blocks}
+
+module _ {S C : Type 0} where
+  -- item k is the carry behind block k of n jobs
+  abbrev pub AreBehind : (S → C → C) → C → (ℕ → S) → ℕ → ℕ → List C → Type 0
+  AreBehind acted start part block n carries =
+      (k : ℕ) (d : C) → k < length carries → slice_index_or carries k d ≡ fold_to acted start part (min ((k + 1) * block) n)
+
+  -- so many first blocks are done
+  pub record AreDone (time : C → ℕ) (acted : S → C → C) (start : C) (part : ℕ → S) (blocks : Blocks) (count : ℕ) (times : List ℕ) (carries : List C) : Type 0 where
+    pub count_is : length carries ≡ count
+    pub times_are : times ≡ map time (carries_after acted start part 0 (min (count * blocks.block) blocks.n))
+    pub behind : AreBehind acted start part blocks.block blocks.n carries
+
+  -- so many first blocks of an earlier run stay, since its jobs in them do the same: what was read of their carries, and the carries behind them and others
+  pub record AreStaying (time : C → ℕ) (acted : S → C → C) (start : C) (part : ℕ → S) (block first : ℕ) (times : List ℕ) (carries : List C) : Type 0 where
+    pub does : ℕ → C → C
+    pub jobs : ℕ
+    pub within : first * block ≤ jobs
+    pub same : (k : ℕ) → k < first * block → (c : C) → does k c ≡ acted (part k) c
+    pub times_are : times ≡ map time (carries_after does start (λ k. k) 0 (first * block))
+    pub many : first ≤ length carries
+    pub behind : (k : ℕ) (d : C) → k < length carries → slice_index_or carries k d ≡ fold_to does start (λ k. k) (min ((k + 1) * block) jobs)

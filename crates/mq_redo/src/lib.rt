@@ -1,0 +1,20 @@
+//! The blocks of a station that are done again, behind those of a kept run that stay.
+#![tactic(auto)]
+
+mod blocks;
+mod counts;
+mod delays;
+mod departures;
+mod forkjoins;
+mod laws;
+mod servers;
+mod splits;
+mod tandems;
+
+pub use blocks::{Done, redo_block, redone_behind};
+pub use counts::{blocks_hold, counted};
+pub use delays::delayed_again;
+pub use forkjoins::branched_again;
+pub use servers::served_again;
+pub use splits::{Rerouted, routed_again};
+pub use tandems::staged_again;
