@@ -112,9 +112,10 @@ pub record IsAlikeAt (kind : Kind) (old new : Coming) (k : ℕ) : Type 0 where
   pub new_arrive : slice_get new.arrive k ≡ Some arrive
   pub asks : asks_same old.rows new.rows kind job ≡ true
 
--- the visits before the first difference are in both runs, and it comes no later than where one has ended
+-- the visits before the first difference are in both runs, which differ there or one of which has ended; it comes no later than where one has ended
 pub record AlikeBelow (kind : Kind) (old new : Coming) : Type 0 where
   pub each : (k : ℕ) → k < alike kind old new → IsAlikeAt kind old new k
+  pub differs : IsAlikeAt kind old new (alike kind old new) → ⊥
   pub old_few : alike kind old new ≤ length old.job
   pub new_few : alike kind old new ≤ length new.job
 
