@@ -1,5 +1,5 @@
 // Blocks of a scan that are done again, from the carry behind those that stay.
-ghost use Rattle.std.specs.Prelude.{◌≡◌, ◌+◌, ◌-◌, ◌*◌, ◌<◌, ◌≤◌, ◌++◌, length, map, IfOk};
+ghost use Rattle.std.specs.Prelude.{◌≡◌, ◌+◌, ◌-◌, ◌*◌, ◌<◌, ◌≤◌, ◌++◌, length, map, IfOk, OnOk};
 ghost use Rattle.mq_scan.specs.Folds.{carries_after, fold_to};
 ghost use Rattle.mq_redo.specs.Doing.{AreDone, AreStaying};
 
@@ -72,6 +72,7 @@ pub fn redone<P: Timed, L: Ledger>(
     ensures done { IfOk result (λ done. AreDone (P.time_of step.now) P.acted (P.start step.now) (P.part step.now) blocks.now blocks.now.blocks done.times.items done.carries.items) }
     ensures steps { steps.old ≤ steps.new }
     ensures spent { steps.new + length kept.carries.items ≤ steps.old + blocks.now.blocks }
+    ensures counted { OnOk result (steps.new + length kept.carries.items ≡ steps.old + blocks.now.blocks) }
 {
     let Done {
         mut times,
@@ -112,6 +113,7 @@ pub fn redone_behind<P: Timed, L: Ledger>(
     ensures done { IfOk result (λ done. AreDone (P.time_of step.now) P.acted (P.start step.now) (P.part step.now) blocks.now blocks.now.blocks done.times.items done.carries.items) }
     ensures steps { steps.old ≤ steps.new }
     ensures spent { steps.new + first ≤ steps.old + blocks.now.blocks }
+    ensures counted { OnOk result (steps.new + first ≡ steps.old + blocks.now.blocks) }
 {
     let mut kept = Vec::with_capacity(alloc, first as usize)?;
     kept.extend_from_slice(&carries[..first as usize])?;

@@ -1,5 +1,5 @@
 // Departures of an earlier run, which stay where its jobs are the same.
-ghost use Rattle.std.specs.Prelude.{◌≡◌, ◌+◌, ◌*◌, ◌≤◌, ℕ, List as Items, length, map, take, IfOk};
+ghost use Rattle.std.specs.Prelude.{◌≡◌, ◌+◌, ◌*◌, ◌≤◌, ℕ, List as Items, length, map, take, IfOk, OnOk};
 ghost use Rattle.mq_core.specs.declared.model.Fate.TheVariants.{Departs};
 ghost use Rattle.mq_redo.specs.Doing.{AreDone};
 ghost use Rattle.mq_redo.specs.Staying.{HaveStayed};
@@ -52,6 +52,7 @@ pub fn departures_behind<P: Timed, L: Ledger>(
     ensures done { IfOk result (λ done. AreDone (P.time_of step.now) P.acted (P.start step.now) (P.part step.now) blocks.now blocks.now.blocks done.times.items done.carries.items) }
     ensures steps { steps.old ≤ steps.new }
     ensures spent { steps.new + first ≤ steps.old + blocks.now.blocks }
+    ensures counted { OnOk result (steps.new + first ≡ steps.old + blocks.now.blocks) }
 {
     let jobs = blocks.n;
     let times = first_departures(alloc, fates, first * blocks.block, jobs)?;
