@@ -1,3 +1,4 @@
+mod Bounded
 mod First
 mod Same
 mod Whole

@@ -102,6 +102,11 @@ again net old new block = sum_by (λ v. again_of block (slice_get net.nodes v) (
 abbrev pub all_blocks : Network → Rows → ℕ → ℕ
 all_blocks net rows block = sum_by (λ v. blocks_of block (slice_get net.nodes v) (coming_in net rows v)) (ranking net.nodes)
 
+-- no more blocks are done again than there are, and none where the rows are the same
+pub record AgainIsBounded : Type 0 where
+  pub within : (net : Network) (old new : Rows) (block : ℕ) → again net old new block ≤ all_blocks net new block
+  pub none : (net : Network) (rows : Rows) (block : ℕ) → again net rows rows block ≡ 0
+
 -- a visit is in both runs at a position, and asks for the same in both
 pub record IsAlikeAt (kind : Kind) (old new : Coming) (k : ℕ) : Type 0 where
   pub job : ℕ

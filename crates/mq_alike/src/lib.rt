@@ -5,4 +5,4 @@ mod comparing;
 mod laws;
 
 pub use comparing::alike;
-pub use laws::{alike_is_first, sequences_stay};
+pub use laws::{again_is_bounded, alike_is_first, sequences_stay};

@@ -1,5 +1,5 @@
 // A delay, behind the blocks that stay.
-ghost use Rattle.std.specs.Prelude.{◌≡◌, ◌+◌, ◌*◌, ◌≤◌, length, map, slice_index, IfOk};
+ghost use Rattle.std.specs.Prelude.{◌≡◌, ◌+◌, ◌*◌, ◌≤◌, length, map, slice_index, IfOk, OnOk};
 ghost use Rattle.mq_core.specs.Handling.{demand_of_job};
 ghost use Rattle.mq_core.specs.declared.model.Fate.TheVariants.{Departs};
 ghost use Rattle.mq_core.specs.declared.model.Kind.TheVariants.{Delay};
@@ -38,6 +38,7 @@ pub fn delayed_again<L: Ledger>(
     ensures marked { IfOk result (λ done. IsMarkedDelay demand.now (coming_as rows.now arrivals.now) blocks.now.block (map (λ time. Departs time) done.times.items) done.carries.items) }
     ensures steps { steps.old ≤ steps.new }
     ensures spent { steps.new + first ≤ steps.old + blocks.now.blocks }
+    ensures counted { OnOk result (steps.new + first ≡ steps.old + blocks.now.blocks) }
 {
     let demands = demands_of(alloc, rows, demand, &arrivals.job)?;
     let step = DelayStep::new(arrivals, &demands);

@@ -1,5 +1,5 @@
 // A fork-join, behind the blocks that stay.
-ghost use Rattle.std.specs.Prelude.{◌≡◌, ◌+◌, ◌*◌, ◌≤◌, ◌++◌, All, fold, length, map, max, replicate, IfOk};
+ghost use Rattle.std.specs.Prelude.{◌≡◌, ◌+◌, ◌*◌, ◌≤◌, ◌++◌, All, fold, length, map, max, replicate, IfOk, OnOk};
 ghost use Rattle.std.specs.List.{flat_map};
 ghost use Rattle.mq_alike.specs.Again.{Coming as TheComing, alike};
 ghost use Rattle.mq_core.specs.Handling.{demand_of_job};
@@ -42,6 +42,7 @@ pub fn branched_again<L: Ledger>(
     ensures marked { IfOk result (λ done. IsMarkedForkJoin branches.now (coming_as rows.now arrivals.now) blocks.now.block (map (λ time. Departs time) done.times.items) done.carries.items) }
     ensures steps { steps.old ≤ steps.new }
     ensures spent { steps.new + first ≤ steps.old + blocks.now.blocks }
+    ensures counted { OnOk result (steps.new + first ≡ steps.old + blocks.now.blocks) }
 {
     alike_is_first();
     let asked = branch_demands(alloc, branches)?;

@@ -1,5 +1,5 @@
 // A split, behind the blocks that stay.
-ghost use Rattle.std.specs.Prelude.{◌≡◌, ◌==◌, ◌+◌, ◌*◌, ◌≤◌, ◌<◌, ℕ, length, map, count_by, Some, slice_get, take, IfOk};
+ghost use Rattle.std.specs.Prelude.{◌≡◌, ◌==◌, ◌+◌, ◌*◌, ◌≤◌, ◌<◌, ℕ, length, map, count_by, Some, slice_get, take, IfOk, OnOk};
 ghost use Rattle.mq_alike.specs.Again.{Coming as TheComing};
 ghost use Rattle.mq_core.specs.Handling.{demand_of_job};
 ghost use Rattle.mq_core.specs.Kinds.Split.{HasRouteValue, outputs_by, route_value};
@@ -55,6 +55,7 @@ pub fn routed_again<L: Ledger>(
     ensures marked { IfOk result (λ r. IsMarkedSplit route.now (coming_as rows.now arrivals.now) blocks.now.block r.outs.items r.carries.items) }
     ensures steps { steps.old ≤ steps.new }
     ensures spent { steps.new + first ≤ steps.old + blocks.now.blocks }
+    ensures counted { OnOk result (steps.new + first ≡ steps.old + blocks.now.blocks) }
 {
     alike_is_first();
     let jobs = blocks.n;

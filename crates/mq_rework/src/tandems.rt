@@ -1,5 +1,5 @@
 // A tandem, behind the blocks that stay.
-ghost use Rattle.std.specs.Prelude.{◌≡◌, ◌+◌, ◌*◌, ◌≤◌, length, map, IfOk};
+ghost use Rattle.std.specs.Prelude.{◌≡◌, ◌+◌, ◌*◌, ◌≤◌, length, map, IfOk, OnOk};
 ghost use Rattle.mq_core.specs.declared.model.Fate.TheVariants.{Departs};
 ghost use Rattle.mq_core.specs.declared.model.Kind.TheVariants.{Tandem};
 ghost use Rattle.mq_maxplus.specs.Matrices.{matrix_act};
@@ -40,6 +40,7 @@ pub fn staged_again<L: Ledger>(
     ensures marked { IfOk result (λ done. IsMarkedTandem stages.now (coming_as rows.now arrivals.now) blocks.now.block (map (λ time. Departs time) done.times.items) done.carries.items) }
     ensures steps { steps.old ≤ steps.new }
     ensures spent { steps.new + first ≤ steps.old + blocks.now.blocks }
+    ensures counted { OnOk result (steps.new + first ≡ steps.old + blocks.now.blocks) }
 {
     let scan = tandem_scan(alloc, rows, stages, arrivals, blocks.block)?;
     let step = TandemStep::new(arrivals, &scan.demands, &scan.places);
