@@ -12,13 +12,13 @@
 //! let Redone { again, all } = kept.edit(rt, alloc, &edits, &mut steps)?;
 //! ```
 //!
-//! - [`read_edits`] reads a text of edits for a network and so many rows, or refuses it for its first fault
-//!   ([`EditFault`]); [`edited`] gives the rows that a list of [`Edit`] makes.
-//! - [`Kept`] is a run that is kept with its rows. After `edit` its rows are those that `edited` gives, and its run is that
-//!   of a whole run over them; `rows` and `run` show them. Where the edited rows are refused ([`RunFault`]) the rows and
-//!   the run are as before. [`Redone`] tells how many blocks come from the first difference on, and how many there are.
-//! - [`redo_block`] goes through one block of a scan, and counts one step.
-//! - [`edit_trace`] is all that the program does: three names in, a report and a line out, and an [`EditOutcome`], which
+//! - `read_edits` reads a text of edits for a network and so many rows, or refuses it for its first fault
+//!   (`EditFault`); `edited` gives the rows that a list of `Edit` makes.
+//! - `Kept` is a run that is kept with its rows. After `edit` its rows are those that `edited` gives, and its run is that
+//!   of a whole run over them; `rows` and `run` show them. Where the edited rows are refused (`RunFault`) the rows and
+//!   the run are as before. `Redone` tells how many blocks come from the first difference on, and how many there are.
+//! - `redo_block` goes through one block of a scan, and counts one step.
+//! - `edit_trace` is all that the program does: three names in, a report and a line out, and an `EditOutcome`, which
 //!   has a status.
 //!
 //! The example stands as a test in `test_edits`.
