@@ -8,9 +8,11 @@
 //! let rows = read_trace(rt, alloc, 4, trace, &plan.net)?;
 //! let mut kept = Kept::start(rt, alloc, &plan, rows, 4, 64)?;
 //! let edits = read_edits(alloc, b"add src 3 2\n", &plan.net, kept.rows().source.len() as u32)?;
-//! let mut steps = Steps::<Brand>::new(Blank::new(1));
-//! let Redone { again, all } = kept.edit(rt, alloc, &edits, &mut steps)?;
+//! let Redone { again, all } = kept.edit(rt, alloc, &edits, steps)?;
 //! ```
+//!
+//! `steps` is a counter, `&mut Steps<L>`. The example stands as a test in `test_edits`, where `edit_with` of
+//! `src/tests/library.rt` makes one.
 //!
 //! - `read_edits` reads a text of edits for a network and so many rows, or refuses it for its first fault
 //!   (`EditFault`); `edited` gives the rows that a list of `Edit` makes.
@@ -20,8 +22,6 @@
 //! - `redo_block` goes through one block of a scan, and counts one step.
 //! - `edit_trace` is all that the program does: three names in, a report and a line out, and an `EditOutcome`, which
 //!   has a status.
-//!
-//! The example stands as a test in `test_edits`.
 #![tactic(auto)]
 
 // Where a call of `drop` lets go of what is left, that spares proof: a call is proved once for a type, the end of a scope anew at each exit.
