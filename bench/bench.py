@@ -64,7 +64,8 @@ INPUTS = {
     ),
 }
 
-Measure = namedtuple("Measure", "seconds megabytes status out err")
+# Times are in seconds: what passed, and what processors worked.
+Measure = namedtuple("Measure", "seconds worked megabytes status out err")
 
 
 def write_model(path, given):
@@ -91,7 +92,7 @@ def measure(words):
     err = child.stderr.read()
     _, status, usage = os.wait4(child.pid, 0)
     child.returncode = os.waitstatus_to_exitcode(status)
-    return Measure(time.perf_counter() - began, usage.ru_maxrss / 1024, child.returncode, out, err)
+    return Measure(time.perf_counter() - began, usage.ru_utime + usage.ru_stime, usage.ru_maxrss / 1024, child.returncode, out, err)
 
 
 def least(runs):

@@ -25,11 +25,11 @@ pub data Answer : Type 0 where
   Refused : EditOutcome → Answer
   Reported : List ℕ → Answer
 
--- how many blocks were done again
+-- the last line: how many blocks come from the first differences on, and how many there are
 abbrev pub again_line : ℕ → ℕ → List ℕ
 again_line again all = codes "again " ++ decimal again ++ codes " of " ++ decimal all ++ codes " blocks" ++ 10 ∷ []
 
--- the report of edited rows, of form 2 and without the lines of the jobs, and how many blocks of 4,096 jobs were done again
+-- the report of edited rows, of form 2 and without the lines of the jobs, and the line of blocks of 4,096 jobs
 abbrev pub edited_report : Network → Rows → Rows → List ℕ
 edited_report net rows edited = report_in net edited 2 false ++ again_line (again net rows edited 4096) (all_blocks net edited 4096)
 

@@ -156,10 +156,13 @@ fn run_edits<R: Threads + Sync, F: Files, O: Sink>(
     }
 }
 
-/// Reads the model, the trace and the edits that the three words name, in this order, runs the network over the trace,
-/// makes the edits, so that only what they can touch is done again, and writes the report of the edited trace, of form 2
-/// and without the lines of the jobs, and behind it how many blocks of 4,096 jobs were done again, and of how many. The
-/// words are those behind the program's name. There are 4 workers.
+/// Reads the model, the trace and the edits that the three words name, in this order, keeps the run of the network over
+/// the trace, makes the edits, and writes the report of the edited trace, of form 2 and without the lines of the jobs,
+/// and behind it a line of two numbers: how many blocks of 4,096 jobs come from the first difference on, of the nodes
+/// that are counted, and how many these nodes have. The words are those behind the program's name. There are 4 workers.
+///
+/// A call ends with the first of these: `Usage`, the model's fault, the trace's, that of the edits, the refusal of the
+/// run over the trace, and that of the run over the edited trace; or a file can't be read, before it is judged.
 ///
 /// Every outcome but `Done` puts one line on `err`, whose faults change no outcome. All memory is taken before the first
 /// byte is written; `out` gains the whole text with `Done`, a first part of it with `WriteFault`, and else nothing.

@@ -23,7 +23,7 @@ use mq_stats::{NodeTotals, Percentiles, runs_have_few_visits};
 use std::alloc::Global;
 use std::thread::Threads;
 
-// Puts the line that tells how many blocks were done again.
+// Puts the last line: how many blocks come from the first differences on, and how many there are.
 fn put_again<O: Sink>(out: &mut O, redone: Redone) -> Result<(), SinkFault>
     ensures ok { OnOk result (TakesFirst (O.taken out.old) (O.taken out.new) (O.sure out.old) (O.sure out.new) (again_line redone.again redone.all) (length (again_line redone.again redone.all))) }
     ensures err { OnErr result (TakesPrefix (O.taken out.old) (O.taken out.new) (O.sure out.old) (O.sure out.new) (again_line redone.again redone.all)) }
@@ -47,7 +47,7 @@ fn put_again<O: Sink>(out: &mut O, redone: Redone) -> Result<(), SinkFault>
     flush(out, &mut pending)
 }
 
-// Puts the report of a run, of form 2 and without the lines of the jobs, and behind it how many blocks were done again.
+// Puts the report of a run, of form 2 and without the lines of the jobs, and behind it the line of blocks.
 fn put_report<O: Sink>(
     plan: &Plan,
     rows: &Rows,
@@ -73,7 +73,7 @@ fn put_report<O: Sink>(
     put_again(out, redone)
 }
 
-/// Writes the report of a kept run, and how many blocks were done again.
+/// Writes the report of a kept run, and behind it the line of blocks.
 pub fn write_kept<R: Threads + Sync, O: Sink>(
     rt: &R,
     alloc: Global,

@@ -4,6 +4,9 @@ ghost use Rattle.mq_edits.specs.Edited.{number_of, source_of, values_of};
 
 use mq_base::List;
 
+/// The most data records that there may be.
+pub const MOST_ROWS: u32 = 1_048_576;
+
 /// An edit of the rows of a trace, one of which is a data record.
 #[derive(Drop)]
 pub enum Edit {

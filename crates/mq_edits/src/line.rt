@@ -5,15 +5,12 @@ ghost use Rattle.mq_base.specs.Text.{texts};
 ghost use Rattle.mq_edits.specs.Edits.{Tells, add_fault, add_in, count_fault, edits_of_words, record_named, row_fault, set_fault, set_in, source_in, time_in, value_fault, values_in, words_fault};
 ghost use Rattle.mq_edits.specs.declared.edit.Edit.TheVariants.{Add, Set};
 
-use crate::edit::Edit;
+use crate::edit::{Edit, MOST_ROWS};
 use crate::fault::EditFault;
 use mq_base::{List, read_number};
 use mq_core::Network;
 use mq_trace::find_source;
 use std::alloc::Global;
-
-// The most data records that there may be.
-const MOST_ROWS: u32 = 1_048_576;
 
 // What the words of a row say.
 #[derive(Drop)]

@@ -4,20 +4,17 @@ ghost use Rattle.mq_core.specs.Theorems.{IsReadFor};
 ghost use Rattle.mq_core.specs.declared.model.Network.{Network};
 ghost use Rattle.mq_edits.specs.Edited.{AreEditsFor, AreInEach, AreInPlace, HaveNumbers, edited_columns, edited_list, edited_rows, number_of, source_of};
 
-use crate::edit::{Edit, number_of, source_of};
+use crate::edit::{Edit, MOST_ROWS, number_of, source_of};
 use mq_base::{List, OutOfMemory};
 use mq_core::Rows;
 use std::alloc::Global;
-
-// The most rows that there may be.
-const MOST_ROWS: usize = 1_048_576;
 
 // A list of these items, with room for those that edits may add.
 fn copied<T: Copy + Drop>(alloc: Global, items: &[T], edits: usize) -> Result<Vec<T>, OutOfMemory>
     requires { length items.now ≤ 1048576 }
     ensures { IfOk result (λ v. v.items ≡ items.now) }
 {
-    let room = items.len() + edits.min(MOST_ROWS - items.len());
+    let room = items.len() + edits.min(MOST_ROWS as usize - items.len());
     let mut copy = Vec::with_capacity(alloc, room)?;
     copy.extend_from_slice(items)?;
     Ok(copy)

@@ -1,10 +1,12 @@
 // Traces that are run, edited and reported again, over files and sinks in memory.
 use mq_base::OutOfMemory;
-use mq_edit::{EditFault, EditOutcome, edit_trace};
+use mq_edit::{EditFault, EditOutcome, OverFault, PastFault, edit_trace};
 use mq_outside::{MemFile, MemFiles, MemSink};
 use std::alloc::Global;
 use std::test::Fail;
 use std::thread::Threads;
+
+mod library;
 
 const MODEL: &[u8] = b"model 1\nsource src\nserver desk d from src\n";
 
@@ -179,6 +181,135 @@ fn faults_of_edits_are_told(rt: HostRuntime) -> Result<(), Fail> {
         let wanted = Ending {
             outcome: EditOutcome::Edits(*fault),
             status: 10,
+            out: b"",
+            err: line,
+        };
+        assert!(rt; ends(&rt, rt.alloc(), &["m", "t", "e"], given, 0, wanted)?);
+    }
+    Ok(())
+}
+
+// The greatest text of edits, and one of a byte more, which are spaces behind an edit.
+#[test]
+fn a_text_of_edits_has_a_greatest_length(rt: HostRuntime) -> Result<(), Fail> {
+    let mut edits = Vec::from_slice(rt.alloc(), b"add src 3 2")?;
+    edits.resize(16_777_216, b' ')?;
+    let given = Given {
+        edits: &edits,
+        ..ADDED
+    };
+    let wanted = Ending {
+        outcome: EditOutcome::Done,
+        status: 0,
+        out: REPORT,
+        err: b"",
+    };
+    assert!(rt; ends(&rt, rt.alloc(), &["m", "t", "e"], given, 0, wanted)?);
+    edits.push(b' ')?;
+    let given = Given {
+        edits: &edits,
+        ..ADDED
+    };
+    let wanted = Ending {
+        outcome: EditOutcome::Edits(EditFault::TooLong),
+        status: 10,
+        out: b"",
+        err: b"mpedit: edits: too long\n",
+    };
+    assert!(rt; ends(&rt, rt.alloc(), &["m", "t", "e"], given, 0, wanted)?);
+    Ok(())
+}
+
+// The desk's last job leaves at 8, and the one that is added at 10.
+#[test]
+fn a_run_that_passes_the_bound_is_told(rt: HostRuntime) -> Result<(), Fail> {
+    let cases: [(&[u8], bool, u32, u64, &[u8]); 2] = [
+        (
+            b"model 1\nbound 7\nsource src\nserver desk d from src\n",
+            false,
+            2,
+            8,
+            b"mpedit: node desk position 2 passes the bound at time 8 before the edits\n",
+        ),
+        (
+            b"model 1\nbound 9\nsource src\nserver desk d from src\n",
+            true,
+            3,
+            10,
+            b"mpedit: node desk position 3 passes the bound at time 10 after the edits\n",
+        ),
+    ];
+    for (model, edited, position, time, line) in cases.iter() {
+        let given = Given { model, ..ADDED };
+        let fault = PastFault {
+            node: 1,
+            position: *position,
+            time: *time,
+        };
+        let wanted = Ending {
+            outcome: EditOutcome::Past {
+                edited: *edited,
+                fault,
+            },
+            status: 5,
+            out: b"",
+            err: line,
+        };
+        assert!(rt; ends(&rt, rt.alloc(), &["m", "t", "e"], given, 0, wanted)?);
+    }
+    Ok(())
+}
+
+// Five forks in a row make 1,024 jobs of one.
+const FORKS: &[u8] =
+    b"model 2\nsource s\nfork a 4 from s\nfork b 4 from a a.1 a.2 a.3\nfork c 4 from b b.1 b.2 b.3\n\
+    fork d 4 from c c.1 c.2 c.3\nfork e 4 from d d.1 d.2 d.3\ndelay w =0 from e e.1 e.2 e.3\n";
+
+// A head, and so many lines behind it.
+fn lines(alloc: Global, head: &[u8], line: &[u8], count: u32) -> Result<Vec<u8>, OutOfMemory> {
+    let mut text = Vec::from_slice(alloc, head)?;
+    for _ in 0..count {
+        text.extend_from_slice(line)?;
+    }
+    Ok(text)
+}
+
+// 1,025 rows are too many visits: those of the trace, or one of the trace and as many more as edits add.
+#[test]
+fn a_run_with_too_many_visits_is_told(rt: HostRuntime) -> Result<(), Fail> {
+    let cases: [(u32, u32, bool, &[u8]); 2] = [
+        (
+            1025,
+            0,
+            false,
+            b"mpedit: node w has 1049600 visits before the edits\n",
+        ),
+        (
+            1,
+            1024,
+            true,
+            b"mpedit: node w has 1049600 visits after the edits\n",
+        ),
+    ];
+    for (rows, adds, edited, line) in cases.iter() {
+        let trace = lines(rt.alloc(), b"source,time\n", b"s,0\n", *rows)?;
+        let edits = lines(rt.alloc(), b"", b"add s 0\n", *adds)?;
+        let given = Given {
+            model: FORKS,
+            trace: &trace,
+            edits: &edits,
+            failing: 0,
+        };
+        let fault = OverFault {
+            node: 6,
+            count: 1_049_600,
+        };
+        let wanted = Ending {
+            outcome: EditOutcome::Over {
+                edited: *edited,
+                fault,
+            },
+            status: 9,
             out: b"",
             err: line,
         };
