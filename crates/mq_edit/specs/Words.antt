@@ -1,10 +1,7 @@
 -- The words behind the program's name: the names of three files.
-use Rattle.std.specs.Prelude.{◌==◌, ◌||◌, ℕ, Bool, List, get_or, length, not, slice_index, []}
+use Rattle.std.specs.Prelude.{◌==◌, ◌||◌, ℕ, Bool, List, get_or, length, not, []}
 use Rattle.std.specs.List.{list_any}
-
--- the word begins with a dash
-abbrev pub begins_with_dash : List ℕ → Bool
-begins_with_dash word = slice_index word 0 == 45
+use Rattle.mq_base.specs.Text.{begins_with_dash}
 
 -- there aren't three words, or one begins with a dash
 abbrev pub refuses_words : List (List ℕ) → Bool

@@ -1,7 +1,7 @@
 -- The text of a sweep: what each model gives over one trace.
 use Rattle.std.specs.Prelude.{◌≡◌, ◌==◌, ◌&&◌, ◌||◌, ℕ, ◌+◌, ◌-◌, Bool, true, List, [], ◌∷◌, ◌++◌, length, map, codes, decimal, Option, Some, None, nat_lt, slice_index_or, if◌then◌else◌}
 use Rattle.std.specs.List.{list_any}
-use Rattle.mq_words.specs.Words.{begins_with_dash}
+use Rattle.mq_base.specs.Text.{begins_with_dash}
 use Rattle.mq_sweep.specs.Scenario.{scenario_status, scenario_text}
 
 -- what a run wrote, behind the head of its scenario: a number from 1, and the status

@@ -1,14 +1,13 @@
 // The files that the words name.
 ghost use Rattle.std.specs.Prelude.{◌≡◌, ◌⊎◌, ◌≤◌, ℕ, List as Items, true, length, map, IfOk, IfErr, IfSome, IsErrOf, OnOk};
-ghost use Rattle.std.specs.List.{list_all, list_any};
+ghost use Rattle.std.specs.List.{list_all};
 ghost use Rattle.mq_base.specs.Text.{texts};
 ghost use Rattle.mq_outside.specs.Outside.{next_count, Rose};
 ghost use Rattle.mq_sweep.specs.Ends.{AreRead, AreShort, HasRead, Reads, RefusesRead, RefusesReading};
 ghost use Rattle.mq_sweep.specs.Sweep.{limit_of, refuses_words as refuses_words_of};
-ghost use Rattle.mq_words.specs.Words.{begins_with_dash as begins_with_dash_of};
 
 use crate::SweepOutcome;
-use mq_base::List;
+use mq_base::{List, any_begins_with_dash};
 use mq_outside::{FileFault, Files};
 use std::alloc::Global;
 
@@ -21,31 +20,11 @@ const MODEL_LIMIT: u64 = 65_536;
 // The most words: a trace and 64 models.
 const MOST_WORDS: usize = 65;
 
-fn begins_with_dash(word: &str) -> bool
-    ensures { result ≡ begins_with_dash_of word.now }
-{
-    word.as_bytes().first() == Some(&b'-')
-}
-
-// Whether a word begins with a dash.
-fn has_dash(words: &[&str]) -> bool
-    ensures { result ≡ list_any begins_with_dash_of (texts words.now) }
-{
-    let mut left = words;
-    'words: while let [first, rest @ ..] = left {
-        if begins_with_dash(first) {
-            return true;
-        }
-        left = rest;
-    }
-    false
-}
-
 /// Whether the words are refused: there aren't 2 to 65, or one begins with a dash.
 pub fn refuses_words(words: &[&str]) -> bool
     ensures { result ≡ refuses_words_of (texts words.now) }
 {
-    words.len() < 2 || words.len() > MOST_WORDS || has_dash(words)
+    words.len() < 2 || words.len() > MOST_WORDS || any_begins_with_dash(words)
 }
 
 // Reads the file that a word names; words count from 1.
