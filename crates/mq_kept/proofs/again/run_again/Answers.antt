@@ -1,8 +1,7 @@
-use Rattle.std.proofs.Common.{◌≡◌, ◌+◌, ◌≤◌, ◌∙◌, List, refl, sym, ap, subst, arith}
+use Rattle.std.proofs.Common.{◌+◌, ◌≤◌, ◌∙◌, List, refl, sym, subst, arith}
 use Rattle.mq_core.specs.declared.model.Stream.{Stream}
 use Rattle.mq_core.specs.declared.model.Visits.{Visits}
 use Rattle.mq_kept.specs.NodeRuns.{AreKept}
-use Rattle.mq_kept.specs.declared.again.Redone.{Redone}
 use Rattle.mq_kept.specs.declared.checkpoints.Checkpoints.{Checkpoints}
 use Rattle.mq_kept.proofs.Ranks.{IsDoneTo, rank-wave}
 use Rattle.mq_kept.proofs.WorkedTo.{all-kept, all-redone, all-spent, fault-is-cause, in-checkpoints, in-outputs, in-visits, spent-more, spent-within, sums-fit, node-run-by, worked-begins, worked-more, worked_in_run}
