@@ -1,5 +1,5 @@
 -- What is kept of a node beside its visits: the carries behind its blocks, by its kind.
-use Rattle.std.specs.Prelude.{◌≡◌, ◌*◌, ◌≤◌, ◌-◌, ℕ, if◌then◌else◌, List, [], length, Option, Some, None, slice_get}
+use Rattle.std.specs.Prelude.{◌≡◌, ◌-◌, ℕ, if◌then◌else◌, List, [], length, Option, Some, None, slice_get}
 use Rattle.mq_alike.specs.Again.{Coming, blocks_in, is_worked}
 use Rattle.mq_core.specs.declared.model.Fate.{Fate}
 use Rattle.mq_core.specs.declared.model.Kind.{Kind}

@@ -1,8 +1,7 @@
-use Rattle.std.proofs.Common.{◌≡◌, ◌+◌, ◌≤◌, ◌∙◌, List, refl, sym, ap, subst, arith}
+use Rattle.std.proofs.Common.{◌+◌, ◌≤◌, ◌∙◌, List, refl, sym, subst, arith}
 use Rattle.mq_core.specs.declared.model.Stream.{Stream}
 use Rattle.mq_core.specs.declared.model.Visits.{Visits}
 use Rattle.mq_kept.specs.NodeRuns.{AreKept}
-use Rattle.mq_kept.specs.declared.again.Redone.{Redone}
 use Rattle.mq_kept.specs.declared.checkpoints.Checkpoints.{Checkpoints}
 use Rattle.mq_kept.proofs.Ranks.{IsDoneTo, rank-wave}
 use Rattle.mq_kept.proofs.WorkedTo.{all-kept, all-redone, all-spent, fault-is-cause, in-checkpoints, in-outputs, in-visits, spent-more, spent-within, sums-fit, node-run-by, worked-begins, worked-more, worked_in_run}
@@ -53,7 +52,7 @@ loop-rank-preserved g c =
     record {
       worked = worked-more c.core_laws.ensures c.args.plan.now c.args.rows.now c.args.block c.args.before.now c.loop-rank.worked c.loop-rank.rank c.get-number.result.now c.loop-rank.invariant.worked c.get-number.ensures c.in-Ok.gives t c.put.new.worked c.put.ensures.came c.put.ensures.left c.put.ensures.checkpoints c.put.ensures.redone;
       steps = let so_far = c.loop-rank.invariant.steps in let more = c.node_run.ensures.steps in omega arith;
-      spent = spent-more c.core_laws.ensures c.args.plan.now c.args.rows.now c.args.block c.args.before.now c.loop-rank.worked c.loop-rank.rank c.get-number.result.now c.loop-rank.invariant.worked c.get-number.ensures c.runs_are_of_networks.ensures c.loop-rank.steps c.args.steps.now c.node_run.new.steps c.loop-rank.invariant.spent c.node_run.ensures.counted;
+      spent = spent-more c.core_laws.ensures c.args.plan.now c.args.rows.now c.args.block c.args.before.now c.loop-rank.worked c.loop-rank.rank c.get-number.result.now c.loop-rank.invariant.worked c.get-number.ensures c.runs_are_of_networks.ensures c.loop-rank.steps c.args.steps.now c.node_run.new.steps c.loop-rank.invariant.spent c.in-Ok.ensures.counted;
     }
 
 pub returns-clause-kept : goal.returns-clause-kept

@@ -1,4 +1,6 @@
-use Rattle.std.proofs.Common.{get_or, arith}
+use Rattle.std.proofs.Common.{◌≡◌, ◌+◌, get_or, arith}
+use Rattle.std.proofs.lemmas.Result.{IfOk-weaker}
+use Rattle.mq_kept.specs.NodeRuns.{IsNodeRun, worked_behind}
 use Rattle.mq_kept.proofs.Ended.{crowded-at, ready-all}
 use Rattle.mq_kept.proofs.Numbers.{apart-worked}
 use Rattle.mq_kept.proofs.nodes.node_run.Goals as goal
@@ -15,5 +17,6 @@ returns-in-Apart-clause-counted g c =
     let s = c.args.arriving.now in
     let v = get_or s.ready.now 0 0 in
     let inside = (ready-all s c.requires.wave c.requires.one).inside in
-    let none = apart-worked s c.args.before.now v inside ? in
-    ?
+    let none = apart-worked s c.args.before.now v inside c.in-Apart.ensures in
+    let same : c.args.steps.now ≡ c.args.steps.now + worked_behind s c.args.before.now v = omega arith in
+    IfOk-weaker c.apart_run.result (IsNodeRun s c.args.before.now v) (λ gives. c.args.steps.now ≡ c.args.steps.now + worked_behind s c.args.before.now v) (λ gives h. same) c.apart_run.ensures.gives

@@ -9,7 +9,7 @@ use Rattle.mq_core.specs.declared.model.Stream.{Stream}
 use Rattle.mq_exits.specs.Results.{IsWorkedOut}
 use Rattle.mq_exits.specs.declared.working.Ending.TheVariants.{OnTime}
 use Rattle.mq_kept.specs.KeptNodes.{IsKeptNode, blocks_behind, coming_of}
-use Rattle.mq_kept.specs.NodeRuns.{came_before}
+use Rattle.mq_kept.specs.NodeRuns.{IsNodeRun, came_before}
 use Rattle.mq_kept.proofs.CameBefore.{before-even, before-few, before-told, kept-visits, kept-within, staying-at, staying-by}
 use Rattle.mq_kept.proofs.Ended.{loaded-at, station-ended}
 use Rattle.mq_kept.proofs.Numbers.{none-worked, station-again, station-all, station-worked}
@@ -94,7 +94,12 @@ returns-clause-gives g c =
     station-ended s before c.args.number result c.counted-again.result.0 c.counted-again.result.1 again all (omega arith) (omega arith) known checkpoints w.again w.all
 
 pub returns-then-is_unchanged-clause-counted : goal.returns-then-is_unchanged-clause-counted
-returns-then-is_unchanged-clause-counted g c = ?
+returns-then-is_unchanged-clause-counted g c =
+    let s = c.args.arriving.now in
+    let gives = c.in_ok-unchanged_run.field-0 in
+    let run : IsNodeRun s c.args.before.now c.args.number gives = returns-then-is_unchanged-clause-gives g c in
+    let none = none-worked s c.args.before.now c.args.number gives.again run.again c.in_ok-unchanged_run.ensures.again in
+    omega arith
 
 pub returns-clause-spent : goal.returns-clause-spent
 returns-clause-spent g c =

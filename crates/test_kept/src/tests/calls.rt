@@ -1,0 +1,107 @@
+// Jobs that count how often they are looked at: those of blocks that stay are not.
+ghost use Rattle.std.specs.Prelude.{◌≡◌, ◌+◌, ◌≤◌};
+
+use mq_base::{OutOfMemory, Steps};
+use mq_redo::redone_behind;
+use mq_scan::{Step, Timed, cut};
+use std::alloc::Global;
+use std::cell::Cell;
+use std::marker::Brand;
+use std::sync::ledger::{Blank, Ledger};
+use std::test::Fail;
+
+// So many jobs, each of which leaves its number, from 1, to the next. It counts the jobs that are asked for.
+#[derive(Drop)]
+struct Watched<'a> {
+    jobs: u32,
+    asked: &'a Cell<u32>,
+}
+
+impl<'a> Step for Watched<'a> {
+    type Carry = u64;
+
+    type Summary = u64;
+
+    ghost size = { λ s. s.jobs };
+
+    ghost start = { λ s. 0 };
+
+    ghost part = { λ s at. at + 1 };
+
+    ghost joined = { λ a b. b };
+
+    ghost acted = { λ s c. s };
+
+    ghost can_join = { λ a b. Unit {0} };
+
+    ghost can_act = { λ s c. Unit {0} };
+
+    fn count(&self) -> u32 {
+        self.jobs
+    }
+
+    fn first(&self) -> u64 {
+        0
+    }
+
+    fn one(&self, at: u32) -> u64 {
+        self.asked.set(self.asked.get().wrapping_add(1));
+        at as u64 + 1
+    }
+
+    fn then(_a: u64, b: u64) -> u64
+        ensures { result ≡ b }
+    {
+        b
+    }
+
+    fn act(s: u64, _c: u64) -> u64
+        ensures { result ≡ s }
+    {
+        s
+    }
+
+    ghost spans_join = { λ s from n m le. tt };
+
+    ghost spans_act = { λ s from n le. tt };
+
+    ghost joins = { λ a b c _ _ _ _ i. c };
+
+    ghost acts = { λ a b c _ _ _ _ i. b };
+}
+
+impl<'a> Timed for Watched<'a> {
+    ghost time_of = { λ s carry. carry };
+
+    ghost can_time = { λ s carry. Unit {0} };
+
+    fn time(&self, carry: &u64) -> u64 {
+        *carry
+    }
+
+    ghost folds_time = { λ s n le. tt };
+}
+
+// How many of five jobs, in blocks of two, are asked for behind the first block, and how many there are when all are done.
+fn asked_behind<L: Ledger>(alloc: Global, blank: Blank) -> Result<(u32, usize), OutOfMemory>
+    requires name { blank.name ≡ L.name }
+    requires parts { blank.parts ≡ L.parts }
+    requires some { 1 ≤ blank.parts }
+{
+    let mut steps = Steps::<L>::new(blank);
+    let asked = Cell::new(0);
+    let step = Watched {
+        jobs: 5,
+        asked: &asked,
+    };
+    let times = vec![in alloc; 1, 2]?;
+    let done = redone_behind(&step, alloc, &cut(5, 2), times, &[2], 1, &mut steps)?;
+    Ok((asked.get(), done.times.len()))
+}
+
+#[test]
+fn jobs_of_blocks_that_stay_are_not_asked_for(rt: HostRuntime) -> Result<(), Fail> {
+    let (asked, all) = asked_behind::<Brand>(rt.alloc(), Blank::new(1))?;
+    assert!(rt; asked == 3 && all == 5);
+    Ok(())
+}
