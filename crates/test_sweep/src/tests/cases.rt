@@ -1,4 +1,6 @@
 // Models that run and models that are refused, by few workers and by many; words that are refused.
+ghost use Rattle.std.specs.Prelude.{◌≤◌};
+
 use super::{Ending, FIRST, ends, files_with};
 use mq_base::OutOfMemory;
 use mq_sweep::SweepOutcome;
