@@ -18,9 +18,9 @@ use crate::splitting::{passed, passed_of};
 use crate::taking::{departures_in, founds_in, jobs_in, last_of, left_in};
 use crate::working::{After, NodeResult, ending_of, found_by_position, nobody, on_time};
 use mq_base::{List, OutOfMemory};
-use mq_core::{Kind, Stream, fates_are_in_time, sequences_go_by_fates};
+use mq_core::{Kind, PastFault, Stream, fates_are_in_time, sequences_go_by_fates};
 use mq_crew::Pieces;
-use mq_stations::{PastFault, first_late_in_turn};
+use mq_stations::first_late_in_turn;
 use std::alloc::Global;
 
 /// What is known of a station when all its jobs have left.

@@ -18,9 +18,10 @@ ghost use Rattle.mq_stations.specs.Leaving.{IsLeaving, IsLoad};
 use crate::load::Load;
 use mq_base::{List, OutOfMemory};
 use mq_core::{
-    Fates, Kind, Network, Rows, Stream, Visits, fates_are_in_time, sequences_go_by_fates,
+    Fates, Kind, Network, OverFault, PastFault, Rows, Stream, Visits, fates_are_in_time,
+    sequences_go_by_fates,
 };
-use mq_stations::{Left, Outflow, OverFault, PastFault, first_late, leaving, only};
+use mq_stations::{Left, Outflow, first_late, leaving, only};
 use mq_stats::{found, found_piece_in_order};
 use std::alloc::Global;
 
