@@ -343,9 +343,12 @@ fn worked_run<R: Threads + Sync, L: Ledger>(
 {
     core_laws();
     let load = held.load();
-    let Reworked { exit, checkpoints } = work_again(rt, alloc, workers, &load, stays, steps)?;
+    let Reworked {
+        completion,
+        checkpoints,
+    } = work_again(rt, alloc, workers, &load, stays, steps)?;
     let mut emptied = List::new(alloc);
-    emptied.push(Emptied { held, exit })?;
+    emptied.push(Emptied { held, completion })?;
     let results = station_results(rt, alloc, workers, emptied, &Open)?;
     run_by(the_only(results), checkpoints, again, all)
 }
