@@ -13,7 +13,6 @@ mod nodes;
 mod rows;
 
 use crate::merges::{all_merged, comings_of};
-pub use merges::is_source;
 use mq_base::{List, OutOfMemory};
 use mq_core::nodes_are_in_limits;
 use mq_crew::{Gate, run_parts};

@@ -4,7 +4,6 @@ ghost use Rattle.std.specs.Prelude.{◌≡◌, ℕ, ◌+◌, ◌++◌, ◌<◌, 
 ghost use Rattle.std.specs.List.{AllByRecursion, flat_map};
 ghost use Rattle.mq_core.specs.Sequences.{IsStream};
 ghost use Rattle.mq_core.specs.Streams.{pairs_of};
-ghost use Rattle.mq_core.specs.Wiring.{is_source_kind};
 ghost use Rattle.mq_core.specs.declared.model.Input.{Input as TheInput};
 ghost use Rattle.mq_core.specs.declared.model.Stream.{Stream as TheStream};
 ghost use Rattle.mq_crew.specs.Crew.{AreAll, AreGroups};
@@ -16,7 +15,7 @@ ghost use Rattle.mq_arrivals.specs.declared.nodes.Arriving.{Arriving as TheArriv
 use crate::nodes::{Arrived, Arriving};
 use crate::rows::{rows_by_time, stream_of};
 use mq_base::{List, OutOfMemory};
-use mq_core::{Kind, Node, Rows, Stream};
+use mq_core::{Node, Rows, Stream, is_source};
 use mq_crew::{Gate, Pieces, run_parts};
 use mq_merge::{Arrivals, merge_piece};
 use mq_scan::{Blocks, block_size, cut};
@@ -97,16 +96,6 @@ fn blocks_of(arriving: &Arriving, first: &Stream, second: &Stream) -> Blocks
         return cut(size, size.max(1));
     }
     cut(size, block_size(size, arriving.block))
-}
-
-/// Whether a node of this kind is a source.
-pub fn is_source(kind: &Kind) -> bool
-    ensures { result ≡ is_source_kind kind.now }
-{
-    match kind {
-        Kind::Source => true,
-        _ => false,
-    }
 }
 
 // Whether a node has a port with this number.

@@ -15,13 +15,13 @@ use Rattle.atomic_table.proofs.Lists.{set_again, set_else}
 use Rattle.mq_claims.specs.Counts.{late, once_below, IsAllBelow}
 use Rattle.mq_claims.specs.Drawing.{IsDrawn}
 use Rattle.mq_claims.proofs.Drawings.{drawn-le, drawn-fresh, drawn-once, drawn-more, drawn-same, drawn-split, drawn-join, drawn-whole, two-le-weigh}
-use Rattle.mq_chain.specs.declared.hand.Hand.{Hand}
-use Rattle.mq_chain.specs.declared.hand.Deal.{Deal}
+use Rattle.mq_chain.specs.declared.view.ChainView.{ChainView}
+use Rattle.mq_chain.specs.declared.view.Deal.{Deal}
 use Rattle.mq_chain.specs.Words.{sum_word, best_word, carry_word, block_of, mp_of_word}
 use Rattle.mq_chain.specs.Stored.{IsFold, IsNext, IsClosed}
 use Rattle.mq_chain.specs.Posting.{IsPut, Follows, Stands}
 use Rattle.mq_chain.specs.Rule.{Kept, Draws, Stores, Sees, SeesOnce}
-use Rattle.mq_chain.specs.Views.{hand, right_of, draws_of}
+use Rattle.mq_chain.specs.Views.{chain_view, right_of, draws_of}
 use Rattle.mq_chain.specs.Machine as m
 use Rattle.mq_chain.specs.Machine.{MayPut, Runs}
 use Rattle.mq_chain.proofs.Postings.{posted-view, posted-store, posted-snoc, posted-join, unput}
@@ -30,16 +30,16 @@ word-some : (n : ℕ) → n ≢ 0 → mp_of_word n ≡ At (n - 1)
 word-some n ne = grind (arith, nat_tests)
 
 module _ (deal : Deal) where
-  abbrev Drawn : ℕ → List Hand → Type 0
+  abbrev Drawn : ℕ → List ChainView → Type 0
   Drawn = IsDrawn right_of draws_of deal.blocks deal.seats
 
   abbrev M : Type 0
-  M = Me (Unit {0}) Hand
+  M = Me (Unit {0}) ChainView
 
   pub draws : (slots id : ℕ) (me : M) → 1 ≤ me.0.right → late deal.blocks me.0.draws ≡ 0 → Allows (Kept deal) slots id me 0 (λ n. (n + 1) % 2 ^ 64) (Draws (step slots 0 1 0 none) me)
   draws slots id me right early s k homes at fits =
       let n : ℕ = get_or s.words 0 0 in
-      let w : Hand = hand me.0.right (me.0.draws ++ n ∷ []) me.0.puts me.0.looks in
+      let w : ChainView = chain_view me.0.right (me.0.draws ++ n ∷ []) me.0.puts me.0.looks in
       let small = k.small in
       let top = drawn-le right_of draws_of deal.blocks deal.seats n s.views k.drawn in
       let long = k.long in
@@ -60,11 +60,11 @@ module _ (deal : Deal) where
       )
 
   pub stores : (slots id : ℕ) (me : M) (a x : ℕ) → 1 ≤ a → a < 3 * deal.blocks + 1 → 1 ≤ x → x ≤ 2 ^ 63 → Contains me.0.draws (block_of a) → ((y : ℕ) → ¬ Contains me.0.puts (a, y))
-      → ((s : State (Unit {0}) Hand) → Kept deal s → get_elem? s.views id ≡ some me.0 → (b : ℕ) → carry_word b ≡ a → Stands (set s.words a x) b)
-      → ((s : State (Unit {0}) Hand) → Kept deal s → get_elem? s.views id ≡ some me.0 → MayPut s.words me.0.looks a x)
+      → ((s : State (Unit {0}) ChainView) → Kept deal s → get_elem? s.views id ≡ some me.0 → (b : ℕ) → carry_word b ≡ a → Stands (set s.words a x) b)
+      → ((s : State (Unit {0}) ChainView) → Kept deal s → get_elem? s.views id ≡ some me.0 → MayPut s.words me.0.looks a x)
       → Allows (Kept deal) slots id me a (λ _. x) (λ _. Stores (step slots a x 0 none) me x)
   stores slots id me a x le inside some_x most mine fresh now may s k homes at fits =
-      let w : Hand = hand me.0.right me.0.draws (me.0.puts ++ (a, x) ∷ []) me.0.looks in
+      let w : ChainView = chain_view me.0.right me.0.draws (me.0.puts ++ (a, x) ∷ []) me.0.looks in
       let long = k.long in
       let first : get_or (set s.words a x) 0 0 ≡ get_or s.words 0 0 = get_or-set_other s.words a 0 x 0 (λ e. absurd (omega arith)) in
       let right : 1 ≤ me.0.right
@@ -83,7 +83,7 @@ module _ (deal : Deal) where
         refl,
       )
 
-  found-le : (s : State (Unit {0}) Hand) → Kept deal s → (a : ℕ) → 1 ≤ a → get_or s.words a 0 ≤ 2 ^ 63
+  found-le : (s : State (Unit {0}) ChainView) → Kept deal s → (a : ℕ) → 1 ≤ a → get_or s.words a 0 ≤ 2 ^ 63
   found-le s k a le = dite (ℕ_discrete (get_or s.words a 0) 0) (λ e. omega arith)
       (λ ne. let by = k.posted.known a le ne in (k.posted.own by.0 by.1 by.2 a (get_or s.words a 0) by.3).3)
 
@@ -92,7 +92,7 @@ module _ (deal : Deal) where
       let a : ℕ = carry_word b in
       let le : 1 ≤ a = omega arith in
       let n : ℕ = get_or s.words a 0 in
-      let w : Hand = hand me.0.right me.0.draws me.0.puts (me.0.looks ++ (a, n) ∷ []) in (
+      let w : ChainView = chain_view me.0.right me.0.draws me.0.puts (me.0.looks ++ (a, n) ∷ []) in (
         w,
         keeps,
         tt,
@@ -123,38 +123,38 @@ module _ (deal : Deal) where
     me.0,
     keeps,
     tt,
-    subst (λ (z : List ℕ × List Hand). Kept deal record { words = z.0; homes = s.homes; views = z.1 }) (λ i. (sym (set-get_or s.words 0 0) i, sym (set_again s.views id me.0 at) i)) k,
+    subst (λ (z : List ℕ × List ChainView). Kept deal record { words = z.0; homes = s.homes; views = z.1 }) (λ i. (sym (set-get_or s.words 0 0) i, sym (set_again s.views id me.0 at) i)) k,
     (refl, drawn-once right_of draws_of deal.blocks deal.seats (get_or s.words 0 0) s.views id me.0 k.drawn at),
   )
 
-  pub splits : (id share : ℕ) (v : Hand) → 1 ≤ share → share < v.right → late deal.blocks v.draws ≡ 0 → Splits (Kept deal) id v (hand (v.right - share) v.draws v.puts v.looks) (hand share [] [] [])
+  pub splits : (id share : ℕ) (v : ChainView) → 1 ≤ share → share < v.right → late deal.blocks v.draws ≡ 0 → Splits (Kept deal) id v (chain_view (v.right - share) v.draws v.puts v.looks) (chain_view share [] [] [])
   splits id share v some_share less early s k at =
-      let l : Hand = hand (v.right - share) v.draws v.puts v.looks in record {
+      let l : ChainView = chain_view (v.right - share) v.draws v.puts v.looks in record {
         small = k.small;
         long = k.long;
-        drawn = drawn-split right_of draws_of deal.blocks deal.seats (get_or s.words 0 0) s.views id share v l (hand share [] [] []) k.drawn at some_share less early refl refl refl refl;
+        drawn = drawn-split right_of draws_of deal.blocks deal.seats (get_or s.words 0 0) s.views id share v l (chain_view share [] [] []) k.drawn at some_share less early refl refl refl refl;
         run = m.splits s.words s.views id share v k.run at some_share less;
-        posted = posted-snoc deal.blocks s.words (set s.views id l) (hand share [] [] []) (posted-view deal.blocks s.words s.words s.views id v l (λ _ _. refl) k.posted at refl (λ b c. c) (λ a x c. inl c)) refl refl;
+        posted = posted-snoc deal.blocks s.words (set s.views id l) (chain_view share [] [] []) (posted-view deal.blocks s.words s.words s.views id v l (λ _ _. refl) k.posted at refl (λ b c. c) (λ a x c. inl c)) refl refl;
       }
 
-  pub joins : (id other : ℕ) (v w : Hand) → 1 ≤ v.right → 1 ≤ w.right → Joins (Kept deal) id v other w (hand (v.right + w.right) (v.draws ++ w.draws) (v.puts ++ w.puts) (v.looks ++ w.looks)) (hand 0 [] [] [])
+  pub joins : (id other : ℕ) (v w : ChainView) → 1 ≤ v.right → 1 ≤ w.right → Joins (Kept deal) id v other w (chain_view (v.right + w.right) (v.draws ++ w.draws) (v.puts ++ w.puts) (v.looks ++ w.looks)) (chain_view 0 [] [] [])
   joins id other v w right right' s k at apart to =
-      let both : Hand = hand (v.right + w.right) (v.draws ++ w.draws) (v.puts ++ w.puts) (v.looks ++ w.looks) in
+      let both : ChainView = chain_view (v.right + w.right) (v.draws ++ w.draws) (v.puts ++ w.puts) (v.looks ++ w.looks) in
       let there = sym (set_else s.views id other both apart) ∙ to in record {
         small = k.small;
         long = k.long;
-        drawn = drawn-join right_of draws_of deal.blocks deal.seats (get_or s.words 0 0) s.views id other v w both (hand 0 [] [] []) k.drawn at apart there refl refl refl refl;
+        drawn = drawn-join right_of draws_of deal.blocks deal.seats (get_or s.words 0 0) s.views id other v w both (chain_view 0 [] [] []) k.drawn at apart there refl refl refl refl;
         run = m.joins s.words s.views id other v w k.run (at, right) apart (there, right');
-        posted = posted-join deal.blocks s.words s.views id other v w both (hand 0 [] [] []) k.posted at apart there refl refl refl refl refl;
+        posted = posted-join deal.blocks s.words s.views id other v w both (chain_view 0 [] [] []) k.posted at apart there refl refl refl refl refl;
       }
 
   -- the view with the whole right has stored all that stands
-  pub all-mine : (s : State (Unit {0}) Hand) (id : ℕ) (v : Hand) → Kept deal s → get_elem? s.views id ≡ some v → v.right ≡ deal.seats → (a : ℕ) → 1 ≤ a → get_or s.words a 0 ≢ 0 → Contains v.puts (a, get_or s.words a 0)
+  pub all-mine : (s : State (Unit {0}) ChainView) (id : ℕ) (v : ChainView) → Kept deal s → get_elem? s.views id ≡ some v → v.right ≡ deal.seats → (a : ℕ) → 1 ≤ a → get_or s.words a 0 ≢ 0 → Contains v.puts (a, get_or s.words a 0)
   all-mine s id v k at whole a le there =
       let by = k.posted.known a le there in
       let theirs = (k.posted.own by.0 by.1 by.2 a (get_or s.words a 0) by.3).4 in
       dite (ℕ_discrete by.0 id)
-      (λ e. subst (λ (z : Hand). Contains z.puts (a, get_or s.words a 0)) (same by.1 (sym by.2 ∙ (ap (get_elem? s.views) e ∙ at))) by.3)
+      (λ e. subst (λ (z : ChainView). Contains z.puts (a, get_or s.words a 0)) (same by.1 (sym by.2 ∙ (ap (get_elem? s.views) e ∙ at))) by.3)
       (λ ne.
       let two = two-le-weigh right_of s.views id by.0 v by.1 ne at by.2 in
       let rights = k.drawn.rights in
@@ -162,11 +162,11 @@ module _ (deal : Deal) where
       let gone = subst (λ (z : List ℕ). Contains z (block_of a)) none theirs in
       let l = gone.1 in absurd (omega arith))
     where
-      same : (u : Hand) → some u ≡ some v → u ≡ v
+      same : (u : ChainView) → some u ≡ some v → u ≡ v
       same u e = mathlib.Core.Option.some-injective u v e
 
   -- a carry that stands is the fold of the summaries
-  pub folds : (s : State (Unit {0}) Hand) (id : ℕ) (v : Hand) → Kept deal s → get_elem? s.views id ≡ some v → v.right ≡ deal.seats → (b c : ℕ) → b < deal.blocks → get_or s.words (carry_word b) 0 ≡ c + 1 → IsFold v.puts b c
+  pub folds : (s : State (Unit {0}) ChainView) (id : ℕ) (v : ChainView) → Kept deal s → get_elem? s.views id ≡ some v → v.right ≡ deal.seats → (b c : ℕ) → b < deal.blocks → get_or s.words (carry_word b) 0 ≡ c + 1 → IsFold v.puts b c
   folds s id v k at whole zero c lt is =
       let f = k.posted.stands 0 lt (λ z. absurd (omega arith)) in
       let sum = all-mine s id v k at whole (sum_word 0) (omega arith) f.0 in
@@ -200,11 +200,11 @@ module _ (deal : Deal) where
       nonzero : (n : ℕ) → n ≢ 0 → n ≡ (n - 1) + 1
       nonzero n ne = dite (ℕ_discrete n 0) (λ e. absurd (ne e)) (λ h. omega arith)
 
-  put-mine : (s : State (Unit {0}) Hand) (id : ℕ) (v : Hand) → Kept deal s → get_elem? s.views id ≡ some v → (a x : ℕ) → Contains v.puts (a, x) → (get_or s.words a 0 ≡ x) × (1 ≤ x)
+  put-mine : (s : State (Unit {0}) ChainView) (id : ℕ) (v : ChainView) → Kept deal s → get_elem? s.views id ≡ some v → (a x : ℕ) → Contains v.puts (a, x) → (get_or s.words a 0 ≡ x) × (1 ≤ x)
   put-mine s id v k at a x c = let o = k.posted.own id v at a x c in (o.1, o.2)
 
   -- a carry that is next stands once it is stored
-  pub carry-stands : (id : ℕ) (me : M) (b c : ℕ) → b < deal.blocks → IsNext me.0.puts me.0.looks b c → (s : State (Unit {0}) Hand) → Kept deal s → get_elem? s.views id ≡ some me.0 → (d : ℕ) → carry_word d ≡ carry_word b → Stands (set s.words (carry_word b) (c + 1)) d
+  pub carry-stands : (id : ℕ) (me : M) (b c : ℕ) → b < deal.blocks → IsNext me.0.puts me.0.looks b c → (s : State (Unit {0}) ChainView) → Kept deal s → get_elem? s.views id ≡ some me.0 → (d : ℕ) → carry_word d ≡ carry_word b → Stands (set s.words (carry_word b) (c + 1)) d
   carry-stands id me b c lt next s k at d e =
       let same : d ≡ b = omega arith in
       let long = k.long in
@@ -247,11 +247,11 @@ module _ (deal : Deal) where
           )
 
   -- a sum that the seat put is there
-  pub sum-there : (id : ℕ) (v : Hand) (b x : ℕ) (s : State (Unit {0}) Hand) → Kept deal s → get_elem? s.views id ≡ some v → Contains v.puts (sum_word b, x + 1) → get_or s.words (sum_word b) 0 ≢ 0
+  pub sum-there : (id : ℕ) (v : ChainView) (b x : ℕ) (s : State (Unit {0}) ChainView) → Kept deal s → get_elem? s.views id ≡ some v → Contains v.puts (sum_word b, x + 1) → get_or s.words (sum_word b) 0 ≢ 0
   sum-there id v b x s k at c z = let o = put-mine s id v k at (sum_word b) (x + 1) c in let e = o.0 in absurd (omega arith)
 
   -- a carry that is next may be put
-  pub may-carry : (id : ℕ) (me : M) (b c : ℕ) → IsNext me.0.puts me.0.looks b c → (s : State (Unit {0}) Hand) → Kept deal s → get_elem? s.views id ≡ some me.0 → MayPut s.words me.0.looks (carry_word b) (c + 1)
+  pub may-carry : (id : ℕ) (me : M) (b c : ℕ) → IsNext me.0.puts me.0.looks b c → (s : State (Unit {0}) ChainView) → Kept deal s → get_elem? s.views id ≡ some me.0 → MayPut s.words me.0.looks (carry_word b) (c + 1)
   may-carry id me zero c (sum, best) s k at =
       let s1 = put-mine s id me.0 k at (sum_word 0) (sum.0 + 1) sum.1 in
       let t1 = put-mine s id me.0 k at (best_word 0) (c + 1) best in
@@ -277,11 +277,11 @@ module _ (deal : Deal) where
   mp-of n = dite (ℕ_discrete n 0) (λ e. inl (e, rw e refl)) (λ ne. inr (n - 1, omega arith, word-some n ne))
 
   -- at the end the seat drew each number that was drawn
-  pub all-drawn : (id : ℕ) (v : Hand) → v.right ≡ deal.seats → (ws : List ℕ) (xs : List (Unit {0})) → Final (Seen (Kept deal) id v) ws xs → IsAllBelow v.draws
+  pub all-drawn : (id : ℕ) (v : ChainView) → v.right ≡ deal.seats → (ws : List ℕ) (xs : List (Unit {0})) → Final (Seen (Kept deal) id v) ws xs → IsAllBelow v.draws
   all-drawn id v whole ws xs (s, (k, at), _, _, _) = (drawn-whole right_of draws_of deal.blocks deal.seats (get_or s.words 0 0) s.views id v k.drawn at whole).1
 
   -- what the end says of a block
-  pub closes : (id : ℕ) (v : Hand) → v.right ≡ deal.seats → (ws : List ℕ) (xs : List (Unit {0})) → Final (Seen (Kept deal) id v) ws xs → (b : ℕ) → b < deal.blocks → IsClosed v.puts v.looks b (mp_of_word (get_or ws (carry_word b) 0))
+  pub closes : (id : ℕ) (v : ChainView) → v.right ≡ deal.seats → (ws : List ℕ) (xs : List (Unit {0})) → Final (Seen (Kept deal) id v) ws xs → (b : ℕ) → b < deal.blocks → IsClosed v.puts v.looks b (mp_of_word (get_or ws (carry_word b) 0))
   closes id v whole ws xs (s, (k, at), same, _, _) b lt =
       subst (λ (z : List ℕ). IsClosed v.puts v.looks b (mp_of_word (get_or z (carry_word b) 0))) same
       (⊎_elim
@@ -298,12 +298,12 @@ module _ (deal : Deal) where
       (mp-of (get_or s.words (carry_word b) 0)))
 
   -- the table at the start
-  pub opens : deal.blocks + deal.seats < 2 ^ 60 → (ws : List ℕ) → ws ≡ replicate (3 * deal.blocks + 1) 0 → Kept deal (opening ws [] (hand deal.seats [] [] []))
+  pub opens : deal.blocks + deal.seats < 2 ^ 60 → (ws : List ℕ) → ws ≡ replicate (3 * deal.blocks + 1) 0 → Kept deal (opening ws [] (chain_view deal.seats [] [] []))
   opens small ws zeros =
       let none : (w : ℕ) → get_or ws w 0 ≡ 0 = λ w. ap (λ (z : List ℕ). get_or z w 0) zeros ∙ zeros-there (3 * deal.blocks + 1) w in record {
         small = small;
         long = ap length zeros ∙ length-replicate (3 * deal.blocks + 1) 0;
-        drawn = subst (λ (z : ℕ). Drawn z (hand deal.seats [] [] [] ∷ [])) (sym (none 0)) record {
+        drawn = subst (λ (z : ℕ). Drawn z (chain_view deal.seats [] [] [] ∷ [])) (sym (none 0)) record {
           counted = omega arith;
           once = λ x. none-below x;
           rights = omega arith;
@@ -311,7 +311,7 @@ module _ (deal : Deal) where
           lates = first-only (λ u. late deal.blocks (draws_of u) ≤ right_of u) (omega arith);
           past = omega arith;
         };
-        run = subst (λ (z : List ℕ). Runs deal.blocks deal.seats z (hand deal.seats [] [] [] ∷ [])) (sym zeros) m.starts;
+        run = subst (λ (z : List ℕ). Runs deal.blocks deal.seats z (chain_view deal.seats [] [] [] ∷ [])) (sym zeros) m.starts;
         posted = record {
           own = first-only (λ u. (w x : ℕ) → Contains u.puts (w, x) → IsPut ws u.draws w x) (λ w x c. let l = c.1 in absurd (omega arith));
           known = λ w le ne. absurd (ne (none w));
@@ -328,8 +328,8 @@ module _ (deal : Deal) where
       zeros-there (suc n) zero = refl
       zeros-there (suc n) (suc w) = zeros-there n w
 
-      first-only : (P : Hand → Type 0) → P (hand deal.seats [] [] []) → (j : ℕ) (u : Hand) → get_elem? (hand deal.seats [] [] [] ∷ []) j ≡ some u → P u
-      first-only P p zero u e = subst P (mathlib.Core.Option.some-injective (hand deal.seats [] [] []) u e) p
+      first-only : (P : ChainView → Type 0) → P (chain_view deal.seats [] [] []) → (j : ℕ) (u : ChainView) → get_elem? (chain_view deal.seats [] [] [] ∷ []) j ≡ some u → P u
+      first-only P p zero u e = subst P (mathlib.Core.Option.some-injective (chain_view deal.seats [] [] []) u e) p
       first-only P p (suc j) u e = absurd (mathlib.Core.Option.some-ne-none u (sym e))
 
 -- a sum or a best is no carry

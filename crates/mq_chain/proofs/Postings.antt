@@ -9,7 +9,7 @@ use Rattle.atomic_table.proofs.Lists.{at_longer, set_else}
 use Rattle.mq_claims.specs.Drawing.{IsDrawn}
 use Rattle.mq_claims.proofs.Weighs.{times-here}
 use Rattle.mq_claims.proofs.Drawings.{each-set, each-snoc, drawn-alone}
-use Rattle.mq_chain.specs.declared.hand.Hand.{Hand}
+use Rattle.mq_chain.specs.declared.view.ChainView.{ChainView}
 use Rattle.mq_chain.specs.Words.{sum_word, best_word, carry_word, block_of}
 use Rattle.mq_chain.specs.Posting.{IsPut, IsPosted, Follows, Stands}
 use Rattle.mq_chain.specs.Views.{right_of, draws_of}
@@ -44,20 +44,20 @@ module _ {A : Type 0} where
   same-view : (l : List A) (i j : ℕ) (v u : A) → j ≡ i → get_elem? l i ≡ some v → get_elem? l j ≡ some u → u ≡ v
   same-view l i j v u e at to = some-injective u v (sym to ∙ (ap (get_elem? l) e ∙ at))
 
-abbrev Known : List ℕ → List Hand → ℕ → Type 0
-Known ws vs w = (at : ℕ) × (v : Hand) × (get_elem? vs at ≡ some v) × Contains v.puts (w, get_or ws w 0)
+abbrev Known : List ℕ → List ChainView → ℕ → Type 0
+Known ws vs w = (at : ℕ) × (v : ChainView) × (get_elem? vs at ≡ some v) × Contains v.puts (w, get_or ws w 0)
 
 -- who stored a word is still there where a view changes that keeps what it had stored
-known-view : (ws : List ℕ) (vs : List Hand) (i : ℕ) (v w : Hand) → get_elem? vs i ≡ some v → ((e : ℕ × ℕ) → Contains v.puts e → Contains w.puts e) → (a : ℕ) → Known ws vs a → Known ws (set vs i w) a
+known-view : (ws : List ℕ) (vs : List ChainView) (i : ℕ) (v w : ChainView) → get_elem? vs i ≡ some v → ((e : ℕ × ℕ) → Contains v.puts e → Contains w.puts e) → (a : ℕ) → Known ws vs a → Known ws (set vs i w) a
 known-view ws vs i v w at puts a (j, u, to, c) = dite (ℕ_discrete j i)
-    (λ e. (i, w, at-set-here vs i v w at, puts (a, get_or ws a 0) (subst (λ (z : Hand). Contains z.puts (a, get_or ws a 0)) (same-view vs i j v u e at to) c)))
+    (λ e. (i, w, at-set-here vs i v w at, puts (a, get_or ws a 0) (subst (λ (z : ChainView). Contains z.puts (a, get_or ws a 0)) (same-view vs i j v u e at to) c)))
     (λ ne. (j, u, set_else vs i j w ne ∙ to, c))
 
-known-words : (ws ws' : List ℕ) (vs : List Hand) (a : ℕ) → get_or ws' a 0 ≡ get_or ws a 0 → Known ws vs a → Known ws' vs a
+known-words : (ws ws' : List ℕ) (vs : List ChainView) (a : ℕ) → get_or ws' a 0 ≡ get_or ws a 0 → Known ws vs a → Known ws' vs a
 known-words ws ws' vs a same (j, u, to, c) = (j, u, to, subst (λ (z : ℕ). Contains u.puts (a, z)) (sym same) c)
 
 -- A view changes, the words behind the first do not. It has what it had stored, its draws are among the new ones, and each look is old or found what stands
-pub posted-view : (blocks : ℕ) (ws ws' : List ℕ) (vs : List Hand) (i : ℕ) (v w : Hand) → SameBehind ws ws' → IsPosted blocks ws vs → get_elem? vs i ≡ some v
+pub posted-view : (blocks : ℕ) (ws ws' : List ℕ) (vs : List ChainView) (i : ℕ) (v w : ChainView) → SameBehind ws ws' → IsPosted blocks ws vs → get_elem? vs i ≡ some v
     → w.puts ≡ v.puts → ((b : ℕ) → Contains v.draws b → Contains w.draws b)
     → ((a x : ℕ) → Contains w.looks (a, x) → Contains v.looks (a, x) ⊎ ((1 ≤ a) × (get_or ws a 0 ≡ x)))
     → IsPosted blocks ws' (set vs i w)
@@ -74,14 +74,14 @@ posted-view blocks ws ws' vs i v w same k at puts draws looks = record {
 
 module _ (blocks seats : ℕ) where
   -- who drew the block of a word and has stored nothing there finds 0 there
-  pub unput : (next : ℕ) (ws : List ℕ) (vs : List Hand) (i : ℕ) (v : Hand) (a : ℕ) → IsDrawn right_of draws_of blocks seats next vs → IsPosted blocks ws vs → get_elem? vs i ≡ some v
+  pub unput : (next : ℕ) (ws : List ℕ) (vs : List ChainView) (i : ℕ) (v : ChainView) (a : ℕ) → IsDrawn right_of draws_of blocks seats next vs → IsPosted blocks ws vs → get_elem? vs i ≡ some v
       → 1 ≤ a → Contains v.draws (block_of a) → ((x : ℕ) → ¬ Contains v.puts (a, x)) → get_or ws a 0 ≡ 0
   unput next ws vs i v a d k at le mine none = dite (ℕ_discrete (get_or ws a 0) 0) (λ e. e)
       (λ there.
       let by = k.known a le there in
       let theirs = k.own by.0 by.1 by.2 a (get_or ws a 0) by.3 in
       let here = drawn-alone right_of draws_of blocks seats next vs i by.0 v by.1 d at by.2 (block_of a) (times-of v.draws (block_of a) mine) (times-of by.1.draws (block_of a) theirs.4) in
-      absurd (none (get_or ws a 0) (subst (λ (z : Hand). Contains z.puts (a, get_or ws a 0)) (same-view vs i by.0 v by.1 here at by.2) by.3)))
+      absurd (none (get_or ws a 0) (subst (λ (z : ChainView). Contains z.puts (a, get_or ws a 0)) (same-view vs i by.0 v by.1 here at by.2) by.3)))
     where
       times-of : (xs : List ℕ) (x : ℕ) → Contains xs x → 1 ≤ Rattle.mq_claims.specs.Counts.times x xs
       times-of xs x (j, lt, e) = subst (λ (z : ℕ). 1 ≤ Rattle.mq_claims.specs.Counts.times z xs) e (times-here xs j x lt)
@@ -108,7 +108,7 @@ stands-else ws a x b none other f there =
     )
 
 -- a view stores a value in a word of a block that it drew, where it had stored nothing
-pub posted-store : (blocks : ℕ) (ws : List ℕ) (vs : List Hand) (i : ℕ) (v w : Hand) (a x : ℕ) → IsPosted blocks ws vs → get_elem? vs i ≡ some v
+pub posted-store : (blocks : ℕ) (ws : List ℕ) (vs : List ChainView) (i : ℕ) (v w : ChainView) (a x : ℕ) → IsPosted blocks ws vs → get_elem? vs i ≡ some v
     → get_or ws a 0 ≡ 0 → 1 ≤ a → a < length ws → 1 ≤ x → x ≤ 2 ^ 63 → Contains v.draws (block_of a)
     → w.puts ≡ v.puts ++ (a, x) ∷ [] → w.draws ≡ v.draws → w.looks ≡ v.looks → ((b : ℕ) → carry_word b ≡ a → Stands (set ws a x) b)
     → IsPosted blocks (set ws a x) (set vs i w)
@@ -136,7 +136,7 @@ posted-store blocks ws vs i v w a x k at none le inside some_x most mine puts dr
     only d e (suc j, lt, is) = absurd (omega arith)
 
 -- a new view comes that has stored and seen nothing
-pub posted-snoc : (blocks : ℕ) (ws : List ℕ) (vs : List Hand) (r : Hand) → IsPosted blocks ws vs → r.puts ≡ [] → r.looks ≡ [] → IsPosted blocks ws (vs ++ r ∷ [])
+pub posted-snoc : (blocks : ℕ) (ws : List ℕ) (vs : List ChainView) (r : ChainView) → IsPosted blocks ws vs → r.puts ≡ [] → r.looks ≡ [] → IsPosted blocks ws (vs ++ r ∷ [])
 posted-snoc blocks ws vs r k puts looks = record {
   own = each-snoc (λ u. (a x : ℕ) → Contains u.puts (a, x) → IsPut ws u.draws a x) vs r (λ a x c. absurd (nowhere r.puts (a, x) puts c)) k.own;
   known = λ a le there. let by = k.known a le there in (by.0, by.1, at_longer vs (r ∷ []) by.0 by.1 by.2, by.3);
@@ -148,7 +148,7 @@ posted-snoc blocks ws vs r k puts looks = record {
     nowhere xs e none c = let h = subst (λ (z : List (ℕ × ℕ)). Contains z e) none c in let l = h.1 in absurd (omega arith)
 
 -- a view takes in what another had stored and seen
-pub posted-join : (blocks : ℕ) (ws : List ℕ) (vs : List Hand) (i other : ℕ) (v w both gone : Hand) → IsPosted blocks ws vs → get_elem? vs i ≡ some v → other ≢ i → get_elem? vs other ≡ some w
+pub posted-join : (blocks : ℕ) (ws : List ℕ) (vs : List ChainView) (i other : ℕ) (v w both gone : ChainView) → IsPosted blocks ws vs → get_elem? vs i ≡ some v → other ≢ i → get_elem? vs other ≡ some w
     → both.draws ≡ v.draws ++ w.draws → both.puts ≡ v.puts ++ w.puts → both.looks ≡ v.looks ++ w.looks → gone.puts ≡ [] → gone.looks ≡ [] → IsPosted blocks ws (set (set vs i both) other gone)
 posted-join blocks ws vs i other v w both gone k at apart to draws puts looks none blind = record {
   own = each-set (λ _ u. (a x : ℕ) → Contains u.puts (a, x) → IsPut ws u.draws a x) (set vs i both) other gone (λ a x c. absurd (nowhere gone.puts (a, x) none c))
@@ -174,7 +174,7 @@ posted-join blocks ws vs i other v w both gone k at apart to draws puts looks no
 
     moved : (a : ℕ) → Known ws vs a → Known ws (set (set vs i both) other gone) a
     moved a (j, u, from, c) = dite (ℕ_discrete j other)
-        (λ e. (i, both, here, subst (λ (z : List (ℕ × ℕ)). Contains z (a, get_or ws a 0)) (sym puts) (Contains-append_right v.puts w.puts (a, get_or ws a 0) (subst (λ (z : Hand). Contains z.puts (a, get_or ws a 0)) (same-view vs other j w u e to from) c))))
+        (λ e. (i, both, here, subst (λ (z : List (ℕ × ℕ)). Contains z (a, get_or ws a 0)) (sym puts) (Contains-append_right v.puts w.puts (a, get_or ws a 0) (subst (λ (z : ChainView). Contains z.puts (a, get_or ws a 0)) (same-view vs other j w u e to from) c))))
         (λ ne. dite (ℕ_discrete j i)
-        (λ e. (i, both, here, subst (λ (z : List (ℕ × ℕ)). Contains z (a, get_or ws a 0)) (sym puts) (Contains-append_left v.puts w.puts (a, get_or ws a 0) (subst (λ (z : Hand). Contains z.puts (a, get_or ws a 0)) (same-view vs i j v u e at from) c))))
+        (λ e. (i, both, here, subst (λ (z : List (ℕ × ℕ)). Contains z (a, get_or ws a 0)) (sym puts) (Contains-append_left v.puts w.puts (a, get_or ws a 0) (subst (λ (z : ChainView). Contains z.puts (a, get_or ws a 0)) (same-view vs i j v u e at from) c))))
         (λ nei. (j, u, set_else (set vs i both) other j gone ne ∙ (set_else vs i j both nei ∙ from), c)))

@@ -2,15 +2,15 @@
 use Rattle.std.proofs.Common.{◌≡◌, ◌≢◌, ℕ, zero, suc, ◌+◌, ◌-◌, ◌*◌, ◌≤◌, ◌⊎◌, List, [], ◌∷◌, get_or, set, refl, sym, ap, ◌∙◌, subst, inl, inr, ⊎_elim, arith, get_or-set_other, max, replicate}
 use native.Mathlib.Decide.{ℕ_discrete}
 use mathlib.Core.Logic.{dite}
-use Rattle.mq_chain.specs.declared.hand.Hand.{Hand}
+use Rattle.mq_chain.specs.declared.view.ChainView.{ChainView}
 use Rattle.mq_chain.specs.Machine.{Leads, starts, draws, puts, sees, splits, joins, Runs, MayPut, IsCarry, IsFolded}
 use Rattle.mq_chain.specs.Words.{sum_word, best_word, carry_word}
 use Rattle.mq_chain.specs.Posting.{Follows, Stands}
 use Rattle.mq_chain.proofs.Postings.{stands-same, kept-word, stands-else}
 
-module _ (blocks : ℕ) (words : List ℕ) (views : List Hand) where
+module _ (blocks : ℕ) (words : List ℕ) (views : List ChainView) where
   -- a word behind the first that holds something never changes
-  pub stays : (ws : List ℕ) (vs : List Hand) → Leads blocks words views ws vs → (w : ℕ) → 1 ≤ w → get_or words w 0 ≢ 0 → get_or ws w 0 ≡ get_or words w 0
+  pub stays : (ws : List ℕ) (vs : List ChainView) → Leads blocks words views ws vs → (w : ℕ) → 1 ≤ w → get_or words w 0 ≢ 0 → get_or ws w 0 ≡ get_or words w 0
   stays _ _ starts w some there = refl
   stays _ _ (draws ws vs i v before at early) w some there = get_or-set_other ws 0 w (get_or ws 0 0 + 1) 0 (λ e. absurd (omega arith)) ∙ stays ws vs before w some there
   stays _ _ (puts ws vs i v a x before at mine inside none some_x may) w some there = kept-word ws a x w (get_or words w 0) none there (stays ws vs before w some there)
@@ -62,7 +62,7 @@ zeros (suc n) (suc w) = zeros n w
 
 module _ (blocks seats : ℕ) where
   -- each carry that stands follows from its block and the carry before
-  pub stands : (ws : List ℕ) (vs : List Hand) → Runs blocks seats ws vs → (b : ℕ) → Stands ws b
+  pub stands : (ws : List ℕ) (vs : List ChainView) → Runs blocks seats ws vs → (b : ℕ) → Stands ws b
   stands _ _ starts b = λ there. absurd (there (zeros (3 * blocks + 1) (carry_word b)))
   stands _ _ (draws ws vs i v before at early) b = stands-same ws (set ws 0 (get_or ws 0 0 + 1)) b (λ w some. get_or-set_other ws 0 w (get_or ws 0 0 + 1) 0 (λ e. absurd (omega arith))) (stands ws vs before b)
   stands _ _ (puts ws vs i v a x before at mine inside none some_x may) b = put-stands ws v.looks a x b none may (stands ws vs before b)
@@ -71,6 +71,6 @@ module _ (blocks seats : ℕ) where
   stands _ _ (joins ws vs i other v u before at apart to) b = stands ws vs before b
 
   -- so it is the fold
-  pub folded : (ws : List ℕ) (vs : List Hand) → Runs blocks seats ws vs → (b : ℕ) → get_or ws (carry_word b) 0 ≢ 0 → IsFolded ws b
+  pub folded : (ws : List ℕ) (vs : List ChainView) → Runs blocks seats ws vs → (b : ℕ) → get_or ws (carry_word b) 0 ≢ 0 → IsFolded ws b
   folded ws vs run zero there = let s = stands ws vs run zero there in (s.0, s.1, s.2)
   folded ws vs run (suc b) there = let s = stands ws vs run (suc b) there in (folded ws vs run b s.2.0, s.0, s.1, s.2.1)

@@ -3,13 +3,13 @@ use Rattle.std.specs.Prelude.{◌≡◌, ◌≢◌, ℕ, ◌+◌, ◌*◌, ◌^�
 use Rattle.atomic_table.specs.Table.{State, Me, Step}
 use Rattle.mq_claims.specs.Counts.{times}
 use Rattle.mq_claims.specs.Drawing.{IsDrawn}
-use Rattle.mq_chain.specs.declared.hand.Hand.{Hand}
-use Rattle.mq_chain.specs.declared.hand.Deal.{Deal}
+use Rattle.mq_chain.specs.declared.view.ChainView.{ChainView}
+use Rattle.mq_chain.specs.declared.view.Deal.{Deal}
 use Rattle.mq_chain.specs.Posting.{IsPosted}
-use Rattle.mq_chain.specs.Views.{hand, right_of, draws_of}
+use Rattle.mq_chain.specs.Views.{chain_view, right_of, draws_of}
 use Rattle.mq_chain.specs.Machine.{Runs}
 
-pub record Kept (deal : Deal) (s : State (Unit {0}) Hand) : Type 0 where
+pub record Kept (deal : Deal) (s : State (Unit {0}) ChainView) : Type 0 where
   pub small : deal.blocks + deal.seats < 2 ^ 60
   pub long : length s.words ≡ 3 * deal.blocks + 1
   pub drawn : IsDrawn right_of draws_of deal.blocks deal.seats (slice_index s.words 0) s.views
@@ -19,20 +19,20 @@ pub record Kept (deal : Deal) (s : State (Unit {0}) Hand) : Type 0 where
 
 -- what a seat knows, and the slots that it holds: none
 abbrev Sat : Type 0
-Sat = Me (Unit {0}) Hand
+Sat = Me (Unit {0}) ChainView
 
 -- the number found is above all that the seat drew, and was appended to them
 abbrev pub Draws : Step (Unit {0}) → Sat → ℕ → Sat → Type 0
-Draws step v found w = All (λ d. d < found) v.0.draws × (w ≡ (hand v.0.right (v.0.draws ++ found ∷ []) v.0.puts v.0.looks, v.1)) × (found + 1 < 2 ^ 64)
+Draws step v found w = All (λ d. d < found) v.0.draws × (w ≡ (chain_view v.0.right (v.0.draws ++ found ∷ []) v.0.puts v.0.looks, v.1)) × (found + 1 < 2 ^ 64)
 
 -- the word and the value were appended to what the seat stored
 abbrev pub Stores : Step (Unit {0}) → Sat → ℕ → Sat → Type 0
-Stores step v stored w = w ≡ (hand v.0.right v.0.draws (v.0.puts ++ (step.word, step.first) ∷ []) v.0.looks, v.1)
+Stores step v stored w = w ≡ (chain_view v.0.right v.0.draws (v.0.puts ++ (step.word, step.first) ∷ []) v.0.looks, v.1)
 
 -- The word and what it held were appended to the looks. It held what the seat had stored there, or had seen there
 abbrev pub Sees : Step (Unit {0}) → Sat → ℕ → Sat → Type 0
 Sees step v found w =
-    (w ≡ (hand v.0.right v.0.draws v.0.puts (v.0.looks ++ (step.word, found) ∷ []), v.1))
+    (w ≡ (chain_view v.0.right v.0.draws v.0.puts (v.0.looks ++ (step.word, found) ∷ []), v.1))
     × ((x : ℕ) → Contains v.0.puts (step.word, x) → found ≡ x)
     × ((x : ℕ) → x ≢ 0 → Contains v.0.looks (step.word, x) → found ≡ x)
     × (found ≤ 2 ^ 63)

@@ -6,10 +6,10 @@ ghost use Rattle.mq_chain.specs.Cut.{AreFolded};
 ghost use Rattle.mq_chain.specs.Words.{carry_word, word_of, mp_of_word};
 ghost use Rattle.mq_chain.specs.Stored.{HasNoSummary, IsShort, with_summary, IsNext, IsClosed};
 ghost use Rattle.mq_chain.specs.Rule.{Kept, Draws, Stores, Sees, SeesOnce};
-ghost use Rattle.mq_chain.specs.Views.{hand};
+ghost use Rattle.mq_chain.specs.Views.{chain_view};
 ghost use Rattle.mq_chain.specs.Seats.{IsSeatOf, seated};
 
-use crate::hand::{Deal, Hand};
+use crate::view::{ChainView, Deal};
 use atomic_table::{Join, Play, Seat, Split, Table, TableRule};
 use mq_base::{List, OutOfMemory};
 use mq_maxplus::{Affine, Mp};
@@ -18,34 +18,34 @@ use std::marker::{Brand, Model, PhantomData};
 
 struct Rule;
 
-impl TableRule<(), Hand, Deal> for Rule {
+impl TableRule<(), ChainView, Deal> for Rule {
     ghost holds = { λ deal s. Kept deal s };
 
-    ghost first = { λ deal. hand deal.seats [] [] [] };
+    ghost first = { λ deal. chain_view deal.seats [] [] [] };
 }
 
 struct Draw;
 
-impl Play<(), Hand> for Draw {
+impl Play<(), ChainView> for Draw {
     ghost then = { Draws };
 }
 
 struct Put;
 
-impl Play<(), Hand> for Put {
+impl Play<(), ChainView> for Put {
     ghost then = { Stores };
 }
 
 struct Look;
 
-impl Play<(), Hand> for Look {
+impl Play<(), ChainView> for Look {
     ghost then = { Sees };
 }
 
 // A look by which a seat learns that no number stands in it twice.
 struct LookOnce;
 
-impl Play<(), Hand> for LookOnce {
+impl Play<(), ChainView> for LookOnce {
     ghost then = { SeesOnce };
 }
 
@@ -62,18 +62,18 @@ struct GiveAway<N: Share> {
     share: PhantomData<N>,
 }
 
-impl<N: Share> Split<Hand> for GiveAway<N> {
-    ghost left = { λ v. hand (v.right - N.share) v.draws v.puts v.looks };
+impl<N: Share> Split<ChainView> for GiveAway<N> {
+    ghost left = { λ v. chain_view (v.right - N.share) v.draws v.puts v.looks };
 
-    ghost right = { λ v. hand N.share [] [] [] };
+    ghost right = { λ v. chain_view N.share [] [] [] };
 }
 
 struct Both;
 
-impl Join<Hand> for Both {
-    ghost both = { λ v w. hand (v.right + w.right) (v.draws ++ w.draws) (v.puts ++ w.puts) (v.looks ++ w.looks) };
+impl Join<ChainView> for Both {
+    ghost both = { λ v w. chain_view (v.right + w.right) (v.draws ++ w.draws) (v.puts ++ w.puts) (v.looks ++ w.looks) };
 
-    ghost spent = { hand 0 [] [] [] };
+    ghost spent = { chain_view 0 [] [] [] };
 }
 
 /// The carries of blocks of jobs, each the last departure after its block, in a table that its seats
@@ -82,7 +82,7 @@ impl Join<Hand> for Both {
 /// call but `new` and `close` is one or two atomic steps, none of which is tried again.
 #[derive(Drop)]
 pub struct Chain {
-    table: Table<(), Hand, Deal, Rule, Global>,
+    table: Table<(), ChainView, Deal, Rule, Global>,
 }
 
 impl Model for Chain {
@@ -103,7 +103,7 @@ impl Model for Chain {
 /// contracts alone and takes no memory.
 #[derive(Drop)]
 pub struct ChainSeat {
-    seat: Seat<(), Hand>,
+    seat: Seat<(), ChainView>,
 }
 
 impl Model for ChainSeat {

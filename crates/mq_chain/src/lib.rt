@@ -2,8 +2,8 @@
 #![tactic(auto)]
 
 mod chain;
-mod hand;
 mod laws;
+mod view;
 
 pub use chain::{Chain, ChainSeat};
 pub use laws::{carries_are_folded, words_stay};

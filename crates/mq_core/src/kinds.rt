@@ -1,12 +1,20 @@
-// How many outputs and servers a kind of node has.
+// Whether a kind of node is a source, and how many outputs and servers it has.
 ghost use Rattle.std.specs.Prelude.{◌≡◌, ◌≤◌, length};
 ghost use Rattle.std.specs.List.{flat_map};
 ghost use Rattle.mq_core.specs.Results.{servers_in};
 ghost use Rattle.mq_core.specs.Kinds.Split.{outputs_by};
 ghost use Rattle.mq_core.specs.Sound.{outputs_in};
+ghost use Rattle.mq_core.specs.Wiring.{is_source_kind};
 
 use crate::model::{Demand, Kind, Route};
 use mq_base::List;
+
+/// Whether a node of this kind is a source.
+pub fn is_source(kind: &Kind) -> bool
+    ensures { result ≡ is_source_kind kind.now }
+{
+    matches!(kind, Kind::Source)
+}
 
 /// How many outputs a node of this kind has: those that its route chooses from at a split, 2 at a
 /// loss station or a trunk group, of which the second is for those that are lost, those that it has at

@@ -7,11 +7,12 @@ mod handlers;
 mod kinds;
 mod laws;
 mod model;
+mod refusals;
 
 pub use demands::{bare_of, demand_of, demand_of_branches};
 pub use fate_lists::{FateSlice, Fates};
 pub use handlers::{Handlers, Standard};
-pub use kinds::{outputs_of, outputs_of_route, servers_of};
+pub use kinds::{is_source, outputs_of, outputs_of_route, servers_of};
 pub use laws::{
     areas_are_sojourns, arrivals_are_read, arrivals_are_streams, busy_is_services, departs_in_time,
     departures_are_bounded, events_go_forward, exits_are_streams, fates_are_in_time, fine_grows,
@@ -26,3 +27,4 @@ pub use laws::{
 pub use model::{
     Demand, Fate, Input, Kind, Network, Node, Plan, Route, Rows, Run, Stage, Stream, Visits,
 };
+pub use refusals::{OverFault, PastFault};

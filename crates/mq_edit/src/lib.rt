@@ -33,11 +33,11 @@ mod stages;
 mod words;
 mod write;
 
+// Who matches on an outcome names its faults here, without the crates that find them.
+pub use mq_core::{OverFault, PastFault};
 pub use mq_edits::{Edit, EditFault, edited, read_edits};
 pub use mq_kept::{Kept, Redone, RunFault, redo_block};
-// Who matches on an outcome names its faults here, without the crates that find them.
 pub use mq_model::ModelFault;
-pub use mq_stations::{OverFault, PastFault};
 pub use mq_trace::TraceFault;
 pub use outcome::EditOutcome;
 pub use stages::edit_trace;

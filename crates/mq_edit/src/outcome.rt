@@ -2,9 +2,9 @@
 ghost use Rattle.std.specs.Prelude.{◌≡◌};
 ghost use Rattle.mq_edit.specs.Status.{status_of};
 
+use mq_core::{OverFault, PastFault};
 use mq_edits::EditFault;
 use mq_model::ModelFault;
-use mq_stations::{OverFault, PastFault};
 use mq_trace::TraceFault;
 
 /// How a call ends.

@@ -19,8 +19,8 @@ use Rattle.mq_core.specs.declared.model.Visits.{Visits}
 use Rattle.mq_exits.specs.Refusals.{over_told, past_told}
 use Rattle.mq_engine.specs.CoreLaws.{CoreLaws}
 use Rattle.mq_engine.specs.Progress.{AreWithin, IsReached, is_done, is_read, is_ready, is_waiting, reads_done, stands_at}
-use Rattle.mq_stations.specs.declared.late.OverFault.{OverFault}
-use Rattle.mq_stations.specs.declared.late.PastFault.{PastFault}
+use Rattle.mq_core.specs.declared.refusals.OverFault.{OverFault}
+use Rattle.mq_core.specs.declared.refusals.PastFault.{PastFault}
 use Rattle.mq_engine.specs.declared.progress.Stand.{Stand}
 use Rattle.mq_engine.specs.declared.progress.Stand.TheVariants.{Waiting, Done, Crowded, Late}
 use Rattle.mq_engine.proofs.Lists.{filter-none, has-index}

@@ -14,7 +14,7 @@ use Rattle.mq_scan.proofs.lemmas.Blocks.{blocks-few}
 use Rattle.mq_merge.specs.Borrowed.{stream_in}
 use Rattle.mq_arrivals.specs.declared.nodes.Arrived.{Arrived}
 use Rattle.mq_arrivals.specs.declared.nodes.Arriving.{Arriving}
-use Rattle.mq_exits.specs.Exits.{IsReadyExit}
+use Rattle.mq_exits.specs.Exits.{IsReadyCompletion}
 use Rattle.mq_exits.specs.Loads.{IsLoadOf}
 use Rattle.mq_exits.specs.declared.exits.Emptied.{Emptied}
 use Rattle.mq_engine.specs.Loads.{IsApplied, IsArrivedAt, IsPart, IsReadyMiddle, IsReadyScanned, IsScanFor, IsScanOf, applied_of, blocks_of}
@@ -99,7 +99,7 @@ abbrev pub AreMiddling : List Scanned → List Scanned → List (List Part) → 
 AreMiddling = ArePassing scanned_size scanned_piece IsReadyScanned IsReadyMiddle IsScannedOf IsMiddleOf
 
 abbrev pub AreEmptied : List Middle → List Middle → List (List (List ℕ)) → List Emptied → Type 0
-AreEmptied = ArePassing middle_size middle_piece IsReadyMiddle IsReadyExit IsMiddleOf IsEmptiedOf
+AreEmptied = ArePassing middle_size middle_piece IsReadyMiddle IsReadyCompletion IsMiddleOf IsEmptiedOf
 
 scan-few : (rows : Rows) (kind : Kind) (arrivals : Stream) (scan : Scan) → length arrivals.time ≤ 1048576 → IsScanOf rows kind arrivals scan → (blocks_of scan ≤ 1048576) × (applied_of scan ≤ 1048576)
 scan-few rows kind arrivals Unscanned few h = (omega arith, omega arith)

@@ -10,7 +10,7 @@ use Rattle.mq_core.specs.declared.model.Node.{Node}
 use Rattle.mq_core.specs.declared.model.Plan.{Plan}
 use Rattle.mq_core.specs.declared.model.Route.{Route}
 use Rattle.mq_core.specs.declared.model.Rows.{Rows}
-use Rattle.mq_core.specs.declared.model.Stage.{Stage as TandemStage}
+use Rattle.mq_core.specs.declared.model.Stage.{Stage}
 use Rattle.mq_core.specs.declared.model.Stream.{Stream}
 use Rattle.mq_stations.specs.Scans.{AreFewBlocks, AreTandemCarries, AreTandemTimes, IsForkJoinScan, IsTandemScan, IsTandemSum}
 use Rattle.mq_stations.specs.declared.tandem.TandemScan.{TandemScan}
@@ -23,8 +23,8 @@ use Rattle.mq_exits.specs.Loads.{IsLoaded}
 use Rattle.mq_exits.specs.Splits.{ArePartsAt, AreSplitStreams}
 use Rattle.mq_engine.specs.declared.firsts.Part.{Part}
 use Rattle.mq_engine.specs.declared.firsts.Part.TheVariants.{Product, Routed, Whole}
-use Rattle.mq_engine.specs.declared.firsts.Stage.{Stage}
-use Rattle.mq_engine.specs.declared.firsts.Stage.TheVariants.{Ended, Latest, Parted, Unbegun}
+use Rattle.mq_engine.specs.declared.firsts.Interim.{Interim}
+use Rattle.mq_engine.specs.declared.firsts.Interim.TheVariants.{Ended, Latest, Parted, Unbegun}
 use Rattle.mq_engine.specs.declared.loads.Scan.{Scan}
 use Rattle.mq_engine.specs.declared.loads.Scan.TheVariants.{OfForkJoin, OfServer, OfSplit, OfTandem, Unscanned}
 use Rattle.mq_engine.specs.declared.loads.Scanned.{Scanned}
@@ -45,7 +45,7 @@ pub record IsScanning (s : Scanning) : Type 0 where
 abbrev pub IsScanOf : Rows → Kind → Stream → Scan → Type 0
 IsScanOf rows kind arrivals Unscanned = Unit {0}
 IsScanOf rows kind arrivals (OfServer demands) = (demand : Demand) × (kind ≡ Server demand) × (demands ≡ map (demand_of_job rows demand) arrivals.job)
-IsScanOf rows kind arrivals (OfTandem scan) = (stages : List TandemStage) × (kind ≡ Tandem stages) × IsTandemScan rows stages arrivals scan
+IsScanOf rows kind arrivals (OfTandem scan) = (stages : List Stage) × (kind ≡ Tandem stages) × IsTandemScan rows stages arrivals scan
 IsScanOf rows kind arrivals (OfForkJoin scan) = (branches : List (List Demand)) × (kind ≡ ForkJoin branches) × IsForkJoinScan rows branches arrivals scan
 IsScanOf rows kind arrivals (OfSplit blocks) = (route : Route) × (kind ≡ Split route) × AreFewBlocks (length arrivals.time) 16384 blocks
 
@@ -121,61 +121,61 @@ IsPart plan rows v arrivals (OfForkJoin scan) b part = ⊥
 IsPart plan rows v arrivals (OfSplit blocks) b part = IsSplitPart plan rows v arrivals blocks b part
 
 -- the station was one first piece
-abbrev pub IsAll : Stage → Type 0
+abbrev pub IsAll : Interim → Type 0
 IsAll (Ended worked) = Unit {0}
 IsAll (Latest carries) = ⊥
 IsAll (Parted streams) = ⊥
 IsAll Unbegun = ⊥
 
 -- the latest departures before each block are known
-abbrev pub IsLatest : Stage → Type 0
+abbrev pub IsLatest : Interim → Type 0
 IsLatest (Ended worked) = ⊥
 IsLatest (Latest carries) = Unit {0}
 IsLatest (Parted streams) = ⊥
 IsLatest Unbegun = ⊥
 
 -- what leaves a split is known
-abbrev pub IsParted : Stage → Type 0
+abbrev pub IsParted : Interim → Type 0
 IsParted (Ended worked) = ⊥
 IsParted (Latest carries) = ⊥
 IsParted (Parted streams) = Unit {0}
 IsParted Unbegun = ⊥
 
 -- what one piece told of the station is known
-abbrev pub IsEnded : Plan → Rows → ℕ → Stream → Stage → Type 0
+abbrev pub IsEnded : Plan → Rows → ℕ → Stream → Interim → Type 0
 IsEnded plan rows v arrivals (Ended worked) = IsWorkedAt plan rows v arrivals worked
 IsEnded plan rows v arrivals (Latest carries) = ⊥
 IsEnded plan rows v arrivals (Parted streams) = ⊥
 IsEnded plan rows v arrivals Unbegun = ⊥
 
 -- the latest departures before the blocks of a tandem are known
-abbrev pub IsTandemStage : Stream → TandemScan → Stage → Type 0
-IsTandemStage arrivals scan (Ended worked) = ⊥
-IsTandemStage arrivals scan (Latest carries) = AreTandemCarries arrivals scan carries
-IsTandemStage arrivals scan (Parted streams) = ⊥
-IsTandemStage arrivals scan Unbegun = ⊥
+abbrev pub IsTandemInterim : Stream → TandemScan → Interim → Type 0
+IsTandemInterim arrivals scan (Ended worked) = ⊥
+IsTandemInterim arrivals scan (Latest carries) = AreTandemCarries arrivals scan carries
+IsTandemInterim arrivals scan (Parted streams) = ⊥
+IsTandemInterim arrivals scan Unbegun = ⊥
 
 -- nothing is known yet, as of a server and of a fork-join, which come later
-abbrev pub IsUnbegun : Stage → Type 0
+abbrev pub IsUnbegun : Interim → Type 0
 IsUnbegun (Ended worked) = ⊥
 IsUnbegun (Latest carries) = ⊥
 IsUnbegun (Parted streams) = ⊥
 IsUnbegun Unbegun = Unit {0}
 
 -- what leaves a split is known
-abbrev pub IsSplitStage : Plan → Rows → ℕ → Stream → Stage → Type 0
-IsSplitStage plan rows v arrivals (Ended worked) = ⊥
-IsSplitStage plan rows v arrivals (Latest carries) = ⊥
-IsSplitStage plan rows v arrivals (Parted streams) = AreSplitStreams plan rows v arrivals streams
-IsSplitStage plan rows v arrivals Unbegun = ⊥
+abbrev pub IsSplitInterim : Plan → Rows → ℕ → Stream → Interim → Type 0
+IsSplitInterim plan rows v arrivals (Ended worked) = ⊥
+IsSplitInterim plan rows v arrivals (Latest carries) = ⊥
+IsSplitInterim plan rows v arrivals (Parted streams) = AreSplitStreams plan rows v arrivals streams
+IsSplitInterim plan rows v arrivals Unbegun = ⊥
 
 -- what is known of a station after its first pieces: what one told, the carry before each block, what leaves a split, or nothing of a server and of a fork-join
-abbrev pub IsStage : Plan → Rows → ℕ → Stream → Scan → Stage → Type 0
-IsStage plan rows v arrivals Unscanned stage = IsEnded plan rows v arrivals stage
-IsStage plan rows v arrivals (OfServer demands) stage = IsUnbegun stage
-IsStage plan rows v arrivals (OfTandem scan) stage = IsTandemStage arrivals scan stage
-IsStage plan rows v arrivals (OfForkJoin scan) stage = IsUnbegun stage
-IsStage plan rows v arrivals (OfSplit blocks) stage = IsSplitStage plan rows v arrivals stage
+abbrev pub IsInterim : Plan → Rows → ℕ → Stream → Scan → Interim → Type 0
+IsInterim plan rows v arrivals Unscanned interim = IsEnded plan rows v arrivals interim
+IsInterim plan rows v arrivals (OfServer demands) interim = IsUnbegun interim
+IsInterim plan rows v arrivals (OfTandem scan) interim = IsTandemInterim arrivals scan interim
+IsInterim plan rows v arrivals (OfForkJoin scan) interim = IsUnbegun interim
+IsInterim plan rows v arrivals (OfSplit blocks) interim = IsSplitInterim plan rows v arrivals interim
 
 -- a further piece: when the jobs of a block depart
 abbrev pub IsApplied : Stream → Scan → ℕ → List ℕ → Type 0
@@ -187,4 +187,4 @@ IsApplied arrivals (OfSplit blocks) b times = ⊥
 
 -- what is known of a station in the middle of a wave
 abbrev pub IsReadyMiddle : Middle → Type 0
-IsReadyMiddle m = IsReadyScanned m.scanned × IsStage m.scanned.held.plan.now m.scanned.held.rows.now m.scanned.held.number (stream_in m.scanned.held.arrivals) m.scanned.scan m.stage
+IsReadyMiddle m = IsReadyScanned m.scanned × IsInterim m.scanned.held.plan.now m.scanned.held.rows.now m.scanned.held.number (stream_in m.scanned.held.arrivals) m.scanned.scan m.interim

@@ -3,7 +3,7 @@ ghost use Rattle.std.specs.Prelude.{◌≡◌};
 ghost use Rattle.mq_engine.specs.declared.fault.RunFault.TheVariants.{Memory};
 
 use mq_base::OutOfMemory;
-use mq_stations::{OverFault, PastFault};
+use mq_core::{OverFault, PastFault};
 
 /// Why there is no run.
 #[derive(Clone, Copy, PartialEq, Eq)]

@@ -2,7 +2,7 @@
 ghost use Rattle.std.specs.Prelude.{◌≡◌, ◌<◌, ◌≤◌, ℕ, List as Items, length, map, IfOk, slice_index_or};
 ghost use Rattle.mq_crew.specs.Crew.{AreAll};
 ghost use Rattle.mq_merge.specs.Borrowed.{stream_in};
-ghost use Rattle.mq_engine.specs.Loads.{IsPart, IsReadyScanned, IsRouted, IsScanned, IsStage, IsTandemPart, IsWhole, blocks_of};
+ghost use Rattle.mq_engine.specs.Loads.{IsPart, IsReadyScanned, IsRouted, IsScanned, IsInterim, IsTandemPart, IsWhole, blocks_of};
 ghost use Rattle.mq_stations.specs.Scans.{IsTandemSum};
 ghost use Rattle.mq_maxplus.specs.declared.mp.Mp.{Mp as TheMp};
 ghost use Rattle.mq_engine.specs.declared.firsts.Part.{Part as ThePart};
@@ -31,7 +31,7 @@ pub enum Part {
 
 /// What is known of a station after its first pieces.
 #[derive(Drop)]
-pub enum Stage {
+pub enum Interim {
     /// What one piece told of it.
     Ended(Worked),
     /// The latest departures of a tandem before each block.
@@ -84,18 +84,18 @@ fn part_of(alloc: Global, load: &Load, scan: &Scan, b: u32) -> Result<Part, OutO
 }
 
 // What is known of a station after its first pieces.
-pub fn stage_of(
+pub fn interim_of(
     alloc: Global,
     load: &Load,
     scan: &Scan,
     group: List<Part>,
-) -> Result<Stage, OutOfMemory>
+) -> Result<Interim, OutOfMemory>
     requires scanned { IsScanned load.now.plan.now load.now.rows.now load.now.number load.now.arrivals.now scan.now }
     requires group { AreAll (IsPart load.now.plan.now load.now.rows.now load.now.number load.now.arrivals.now scan.now) (blocks_of scan.now) group }
-    ensures { IfOk result (λ stage. IsStage load.now.plan.now load.now.rows.now load.now.number load.now.arrivals.now scan.now stage) }
+    ensures { IfOk result (λ interim. IsInterim load.now.plan.now load.now.rows.now load.now.number load.now.arrivals.now scan.now interim) }
 {
     match scan {
-        Scan::Unscanned => Ok(Stage::Ended(the_whole(group))),
+        Scan::Unscanned => Ok(Interim::Ended(the_whole(group))),
         Scan::OfTandem(scan) => {
             let summed = tandem_sums(alloc, load.arrivals, scan, &group);
             drop(group);
@@ -107,7 +107,7 @@ pub fn stage_of(
             let Ok(carries) = carried else {
                 return Err(OutOfMemory);
             };
-            Ok(Stage::Latest(carries))
+            Ok(Interim::Latest(carries))
         }
         Scan::OfSplit(_) => {
             let Ok(parts) = those_routed(alloc, group) else {
@@ -118,11 +118,11 @@ pub fn stage_of(
             let Ok(streams) = joined else {
                 return Err(OutOfMemory);
             };
-            Ok(Stage::Parted(streams))
+            Ok(Interim::Parted(streams))
         }
         Scan::OfServer(_) | Scan::OfForkJoin(_) => {
             drop(group);
-            Ok(Stage::Unbegun)
+            Ok(Interim::Unbegun)
         }
     }
 }

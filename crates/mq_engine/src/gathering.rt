@@ -17,11 +17,11 @@ ghost use Rattle.mq_engine.specs.Apart.{AreSequences, IsEndingOf, IsGathering, I
 use crate::laws::core_laws;
 use mq_arrivals::{Arriving, stream_of};
 use mq_base::{List, OutOfMemory};
-use mq_core::{Fate, Fates, Kind, Stream, Visits, sequences_are_blind};
+use mq_core::{Fate, Fates, Kind, PastFault, Stream, Visits, sequences_are_blind};
 use mq_crew::{Gate, Pieces, made};
 use mq_exits::{Ending, NodeResult, nobody};
 use mq_join::{Gathered, Joined, fork_copies, join_visits};
-use mq_stations::{PastFault, only};
+use mq_stations::only;
 use std::alloc::Global;
 use std::thread::Threads;
 

@@ -4,17 +4,17 @@ ghost use Rattle.mq_core.specs.Recurrences.{lindley};
 ghost use Rattle.mq_core.specs.Sequences.{IsSoundLoad};
 ghost use Rattle.mq_crew.specs.Crew.{AreAll};
 ghost use Rattle.mq_merge.specs.Borrowed.{stream_in};
-ghost use Rattle.mq_exits.specs.Exits.{IsExit};
-ghost use Rattle.mq_engine.specs.Loads.{IsAll, IsApplied, IsLatest, IsParted, IsReadyMiddle, IsScanned, IsStage, applied_of};
-ghost use Rattle.mq_engine.specs.declared.firsts.Stage.TheVariants.{Ended, Parted};
+ghost use Rattle.mq_exits.specs.Exits.{IsCompletion};
+ghost use Rattle.mq_engine.specs.Loads.{IsAll, IsApplied, IsLatest, IsParted, IsReadyMiddle, IsScanned, IsInterim, applied_of};
+ghost use Rattle.mq_engine.specs.declared.firsts.Interim.TheVariants.{Ended, Parted};
 
-use crate::firsts::Stage;
+use crate::firsts::Interim;
 use crate::loads::{Scan, Scanned};
 use mq_base::{List, OutOfMemory};
 use mq_branches::forkjoin_departures;
 use mq_core::Stream;
 use mq_crew::{Gate, Pieces};
-use mq_exits::{Exit, Load, Worked, left_by};
+use mq_exits::{Completion, Load, Worked, left_by};
 use mq_pass::chain_departures;
 use mq_scan::block_size;
 use mq_stations::{tandem_joined, tandem_times};
@@ -26,7 +26,7 @@ use std::thread::Threads;
 #[derive(Drop)]
 pub struct Middle<'a> {
     pub scanned: Scanned<'a>,
-    pub stage: Stage,
+    pub interim: Interim,
 }
 
 impl<'a> Pieces for Middle<'a> {
@@ -47,7 +47,7 @@ impl<'a> Pieces for Middle<'a> {
 
     fn piece(&self, alloc: Global, b: u32) -> Result<List<u64>, OutOfMemory> {
         let load = self.scanned.held.load();
-        applied(alloc, &load, &self.scanned.scan, &self.stage, b)
+        applied(alloc, &load, &self.scanned.scan, &self.interim, b)
     }
 }
 
@@ -56,16 +56,16 @@ fn applied(
     alloc: Global,
     load: &Load,
     scan: &Scan,
-    stage: &Stage,
+    interim: &Interim,
     b: u32,
 ) -> Result<List<u64>, OutOfMemory>
     requires scanned { IsScanned load.now.plan.now load.now.rows.now load.now.number load.now.arrivals.now scan.now }
-    requires stage { IsStage load.now.plan.now load.now.rows.now load.now.number load.now.arrivals.now scan.now stage.now }
+    requires interim { IsInterim load.now.plan.now load.now.rows.now load.now.number load.now.arrivals.now scan.now interim.now }
     requires inside { b < applied_of scan.now }
     ensures { IfOk result (λ times. IsApplied load.now.arrivals.now scan.now b times) }
 {
     match scan {
-        Scan::OfTandem(scan) => tandem_times(alloc, load.arrivals, scan, latest_of(stage), b),
+        Scan::OfTandem(scan) => tandem_times(alloc, load.arrivals, scan, latest_of(interim), b),
         Scan::Unscanned | Scan::OfServer(_) | Scan::OfForkJoin(_) | Scan::OfSplit(_) => {
             unreachable!()
         }
@@ -73,13 +73,13 @@ fn applied(
 }
 
 // The latest departures of a tandem before each block.
-fn latest_of(stage: &Stage) -> &List<Latest>
-    requires { IsLatest stage.now }
-    ensures { stage.now ≡ Stage.Latest result.now }
+fn latest_of(interim: &Interim) -> &List<Latest>
+    requires { IsLatest interim.now }
+    ensures { interim.now ≡ Interim.Latest result.now }
 {
-    match stage {
-        Stage::Latest(carries) => carries,
-        Stage::Ended(_) | Stage::Parted(_) | Stage::Unbegun => unreachable!(),
+    match interim {
+        Interim::Latest(carries) => carries,
+        Interim::Ended(_) | Interim::Parted(_) | Interim::Unbegun => unreachable!(),
     }
 }
 
@@ -107,29 +107,29 @@ fn server_departures<R: Threads + Sync, G: Gate>(
 // What is known of a station when all its jobs have left: of its applied blocks, where it has some. The
 // single pass of a server is made here, the branches of a fork-join are scanned here, and the jobs of a
 // delay are put in order.
-pub fn exit_of<R: Threads + Sync, G: Gate>(
+pub fn completion_of<R: Threads + Sync, G: Gate>(
     rt: &R,
     alloc: Global,
     workers: u32,
     load: &Load,
     scan: &Scan,
-    stage: Stage,
+    interim: Interim,
     group: &List<List<u64>>,
     gate: &G,
-) -> Result<Exit, OutOfMemory>
+) -> Result<Completion, OutOfMemory>
     requires scanned { IsScanned load.now.plan.now load.now.rows.now load.now.number load.now.arrivals.now scan.now }
-    requires stage { IsStage load.now.plan.now load.now.rows.now load.now.number load.now.arrivals.now scan.now stage }
+    requires interim { IsInterim load.now.plan.now load.now.rows.now load.now.number load.now.arrivals.now scan.now interim }
     requires group { AreAll (IsApplied load.now.arrivals.now scan.now) (applied_of scan.now) group.now }
     requires some { 1 ≤ workers }
     requires most { workers ≤ 64 }
     requires block { 1 ≤ load.now.block }
-    ensures { IfOk result (λ exit. IsExit load.now.plan.now load.now.rows.now load.now.number load.now.arrivals.now exit) }
+    ensures { IfOk result (λ completion. IsCompletion load.now.plan.now load.now.rows.now load.now.number load.now.arrivals.now completion) }
 {
     match scan {
-        Scan::Unscanned => left_by(rt, alloc, workers, load, the_end(stage)),
-        // Here and below the stage goes first: beside what departs, it would take five times as long to prove.
+        Scan::Unscanned => left_by(rt, alloc, workers, load, the_end(interim)),
+        // Here and below what is known so far goes first: beside what departs, it would take five times as long to prove.
         Scan::OfServer(demands) => {
-            drop(stage);
+            drop(interim);
             let departs = server_departures(
                 rt,
                 alloc,
@@ -139,44 +139,44 @@ pub fn exit_of<R: Threads + Sync, G: Gate>(
                 demands,
                 gate,
             )?;
-            Ok(Exit::Served(departs))
+            Ok(Completion::Served(departs))
         }
         Scan::OfTandem(scan) => {
-            drop(stage);
+            drop(interim);
             let departs = tandem_joined(alloc, load.arrivals, scan, group)?;
-            Ok(Exit::Served(departs))
+            Ok(Completion::Served(departs))
         }
         Scan::OfForkJoin(scan) => {
-            drop(stage);
+            drop(interim);
             let departs = forkjoin_departures(rt, alloc, workers, load.arrivals, scan, gate)?;
-            Ok(Exit::Served(departs))
+            Ok(Completion::Served(departs))
         }
-        Scan::OfSplit(_) => Ok(Exit::Passed(the_parts(stage))),
+        Scan::OfSplit(_) => Ok(Completion::Passed(the_parts(interim))),
     }
 }
 
 // What one piece told of a station that is not scanned.
-fn the_end(stage: Stage) -> Worked
-    requires { IsAll stage }
-    ensures { stage ≡ Ended result }
+fn the_end(interim: Interim) -> Worked
+    requires { IsAll interim }
+    ensures { interim ≡ Ended result }
 {
-    match stage {
-        Stage::Ended(worked) => worked,
-        Stage::Latest(_carries) => unreachable!(),
-        Stage::Parted(_streams) => unreachable!(),
-        Stage::Unbegun => unreachable!(),
+    match interim {
+        Interim::Ended(worked) => worked,
+        Interim::Latest(_carries) => unreachable!(),
+        Interim::Parted(_streams) => unreachable!(),
+        Interim::Unbegun => unreachable!(),
     }
 }
 
 // What leaves a split after its first pieces.
-fn the_parts(stage: Stage) -> List<Stream>
-    requires { IsParted stage }
-    ensures { stage ≡ Parted result }
+fn the_parts(interim: Interim) -> List<Stream>
+    requires { IsParted interim }
+    ensures { interim ≡ Parted result }
 {
-    match stage {
-        Stage::Parted(streams) => streams,
-        Stage::Ended(_worked) => unreachable!(),
-        Stage::Latest(_carries) => unreachable!(),
-        Stage::Unbegun => unreachable!(),
+    match interim {
+        Interim::Parted(streams) => streams,
+        Interim::Ended(_worked) => unreachable!(),
+        Interim::Latest(_carries) => unreachable!(),
+        Interim::Unbegun => unreachable!(),
     }
 }

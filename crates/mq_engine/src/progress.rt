@@ -8,9 +8,8 @@ ghost use Rattle.mq_core.specs.declared.model.Rows.{Rows as TheRows};
 ghost use Rattle.mq_engine.specs.Progress.{AreWaiting, AreWithin, AreWorkedOut, IsPut, IsReached, is_done, is_read, is_ready, is_waiting};
 
 use mq_base::{List, OutOfMemory};
-use mq_core::{Fates, Input, Node, Plan, Stream, Visits};
+use mq_core::{Fates, Input, Node, OverFault, PastFault, Plan, Stream, Visits};
 use mq_exits::{Ending, NodeResult};
-use mq_stations::{OverFault, PastFault};
 use std::alloc::Global;
 use std::mem::replace;
 

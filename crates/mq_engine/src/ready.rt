@@ -6,15 +6,15 @@ ghost use Rattle.mq_core.specs.declared.model.Plan.{Plan as ThePlan};
 ghost use Rattle.mq_core.specs.declared.model.Rows.{Rows as TheRows};
 ghost use Rattle.mq_merge.specs.Borrowed.{stream_in};
 ghost use Rattle.mq_arrivals.specs.Arrivals.{IsArriving};
-ghost use Rattle.mq_exits.specs.Exits.{IsReadyExit};
+ghost use Rattle.mq_exits.specs.Exits.{IsReadyCompletion};
 ghost use Rattle.mq_exits.specs.Loads.{IsLoadOf};
 ghost use Rattle.mq_exits.specs.Results.{IsResultOf};
 ghost use Rattle.mq_engine.specs.Loads.{IsApplied, IsPart, IsReadyMiddle, IsReadyScanned, applied_of, blocks_of};
 ghost use Rattle.mq_engine.specs.Progress.{AreEarly, CanWorkAll};
 
-use crate::firsts::{Part, stage_of};
+use crate::firsts::{Part, interim_of};
 use crate::loads::{Scanned, loads_of};
-use crate::middles::{Middle, exit_of};
+use crate::middles::{Middle, completion_of};
 use mq_arrivals::Arriving;
 use mq_base::{List, OutOfMemory};
 use mq_crew::{Gate, run_parts};
@@ -99,8 +99,8 @@ fn middles_of<'a>(
         let Some(group) = groups.pop() else {
             unreachable!()
         };
-        match stage_of(alloc, &scanned.held.load(), &scanned.scan, group) {
-            Ok(stage) => middles.push_reserved(Middle { scanned, stage }),
+        match interim_of(alloc, &scanned.held.load(), &scanned.scan, group) {
+            Ok(interim) => middles.push_reserved(Middle { scanned, interim }),
             Err(fault) => {
                 drop(scanned);
                 drop(loads);
@@ -127,7 +127,7 @@ fn all_emptied<'a, R: Threads + Sync, G: Gate>(
     requires some { 1 ≤ workers }
     requires most { workers ≤ 64 }
     ensures len { IfOk result (λ those_emptied. length those_emptied ≡ length middles.entry) }
-    ensures ready { IfOk result (λ those_emptied. AllByRecursion IsReadyExit those_emptied) }
+    ensures ready { IfOk result (λ those_emptied. AllByRecursion IsReadyCompletion those_emptied) }
     ensures of { IfOk result (λ those_emptied. (plan : ThePlan) (rows : TheRows) (ready : Items ℕ) → AllByRecursion (λ m. IsLoadOf plan rows ready m.scanned.held) middles.entry → AllByRecursion (λ l. IsLoadOf plan rows ready l.held) those_emptied) }
 {
     let Ok(mut those_emptied) = Vec::with_capacity(alloc, middles.len()) else {
@@ -167,16 +167,16 @@ fn emptied_of<'a, R: Threads + Sync, G: Gate>(
     requires group { AreAll (IsApplied (stream_in middle.scanned.held.arrivals) middle.scanned.scan) (applied_of middle.scanned.scan) group }
     requires some { 1 ≤ workers }
     requires most { workers ≤ 64 }
-    ensures ready { IfOk result IsReadyExit }
+    ensures ready { IfOk result IsReadyCompletion }
     ensures same { IfOk result (λ emptied. emptied.held ≡ middle.entry.scanned.held) }
 {
-    let Middle { scanned, stage } = middle;
+    let Middle { scanned, interim } = middle;
     let (load, scan) = (scanned.held.load(), &scanned.scan);
-    match exit_of(rt, alloc, workers, &load, scan, stage, &group, gate) {
-        Ok(exit) => {
+    match completion_of(rt, alloc, workers, &load, scan, interim, &group, gate) {
+        Ok(completion) => {
             drop(group);
             let held = held_alone(scanned);
-            Ok(Emptied { held, exit })
+            Ok(Emptied { held, completion })
         }
         Err(fault) => {
             drop(group);

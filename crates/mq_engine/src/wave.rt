@@ -12,12 +12,11 @@ ghost use Rattle.mq_exits.specs.declared.working.Ending.TheVariants.{TooMany};
 use crate::gathering::apart_results;
 use crate::laws::core_laws;
 use crate::ready::results_of;
-use mq_arrivals::{Arriving, is_source, stream_of};
+use mq_arrivals::{Arriving, stream_of};
 use mq_base::{List, OutOfMemory};
-use mq_core::Kind;
+use mq_core::{Kind, OverFault, is_source};
 use mq_crew::Gate;
 use mq_exits::{Ending, NodeResult};
-use mq_stations::OverFault;
 use std::alloc::Global;
 use std::thread::Threads;
 

@@ -11,19 +11,19 @@ use Rattle.mq_merge.specs.declared.arrivals.Arrivals.TheVariants.{Merged, Read}
 use Rattle.mq_exits.specs.Exits.{IsClosed, IsCopy, IsLast, closings_of, copies_of, lasts_of}
 use Rattle.mq_exits.specs.declared.exits.Closed.{Closed}
 use Rattle.mq_exits.specs.declared.exits.Closed.TheVariants.{Came, Departures, Found, Jobs, Over, Times}
-use Rattle.mq_exits.specs.declared.exits.Exit.{Exit}
+use Rattle.mq_exits.specs.declared.exits.Completion.{Completion}
 
 pub copies-few : (arrivals : Arrivals) → copies_of arrivals ≤ 2
 copies-few (Merged stream) = omega arith
 copies-few (Read stream) = omega arith
 
 -- where nothing is copied, they are those by what is known
-pub all-own : (plan : Plan) (rows : Rows) (v : ℕ) (arrivals : Arrivals) (exit : Exit) (n : ℕ) (group : List Closed) → n ≡ closings_of exit → AreAll (IsLast plan rows v arrivals exit) n group → AreAll (IsClosed plan rows v (stream_in arrivals) exit) (closings_of exit) group
-all-own plan rows v arrivals exit n group e all = record { len = all.len ∙ e; each = λ b d l. (all.each b d (omega arith)).own l }
+pub all-own : (plan : Plan) (rows : Rows) (v : ℕ) (arrivals : Arrivals) (completion : Completion) (n : ℕ) (group : List Closed) → n ≡ closings_of completion → AreAll (IsLast plan rows v arrivals completion) n group → AreAll (IsClosed plan rows v (stream_in arrivals) completion) (closings_of completion) group
+all-own plan rows v arrivals completion n group e all = record { len = all.len ∙ e; each = λ b d l. (all.each b d (omega arith)).own l }
 
 -- else there are two behind them
-pub two-behind : (plan : Plan) (rows : Rows) (v : ℕ) (arrivals : Arrivals) (exit : Exit) (group : List Closed) → copies_of arrivals ≡ 2 → AreAll (IsLast plan rows v arrivals exit) (lasts_of arrivals exit) group → 2 ≤ length group
-two-behind plan rows v arrivals exit group two all = let count = all.len in omega arith
+pub two-behind : (plan : Plan) (rows : Rows) (v : ℕ) (arrivals : Arrivals) (completion : Completion) (group : List Closed) → copies_of arrivals ≡ 2 → AreAll (IsLast plan rows v arrivals completion) (lasts_of arrivals completion) group → 2 ≤ length group
+two-behind plan rows v arrivals completion group two all = let count = all.len in omega arith
 
 pub one-behind : (group more : List Closed) (time : Closed) → 2 ≤ length group → group ≡ more ++ time ∷ [] → 1 ≤ length more
 one-behind group more time two e =
@@ -32,15 +32,15 @@ one-behind group more time two e =
     omega arith
 
 -- these last two are the copies
-pub last-two : (plan : Plan) (rows : Rows) (v : ℕ) (arrivals : Arrivals) (exit : Exit) (group more rest : List Closed) (time job : Closed) → copies_of arrivals ≡ 2 → group ≡ more ++ time ∷ [] → more ≡ rest ++ job ∷ [] → AreAll (IsLast plan rows v arrivals exit) (lasts_of arrivals exit) group →
-    IsCopy (stream_in arrivals) 1 time × IsCopy (stream_in arrivals) 0 job × AreAll (IsClosed plan rows v (stream_in arrivals) exit) (closings_of exit) rest
-last-two plan rows v arrivals exit group more rest time job two e f all =
-    let is = IsLast plan rows v arrivals exit in
-    let n = closings_of exit in
-    let count : lasts_of arrivals exit ≡ suc (suc n) = omega arith in
+pub last-two : (plan : Plan) (rows : Rows) (v : ℕ) (arrivals : Arrivals) (completion : Completion) (group more rest : List Closed) (time job : Closed) → copies_of arrivals ≡ 2 → group ≡ more ++ time ∷ [] → more ≡ rest ++ job ∷ [] → AreAll (IsLast plan rows v arrivals completion) (lasts_of arrivals completion) group →
+    IsCopy (stream_in arrivals) 1 time × IsCopy (stream_in arrivals) 0 job × AreAll (IsClosed plan rows v (stream_in arrivals) completion) (closings_of completion) rest
+last-two plan rows v arrivals completion group more rest time job two e f all =
+    let is = IsLast plan rows v arrivals completion in
+    let n = closings_of completion in
+    let count : lasts_of arrivals completion ≡ suc (suc n) = omega arith in
     let one = all-last is (suc n) group more time e (subst (λ m. AreAll is m group) count all) in
     let other = all-last is n more rest job f one.1 in
-    (one.0.copy 1 (omega arith), other.0.copy 0 (omega arith), all-own plan rows v arrivals exit n rest refl other.1)
+    (one.0.copy 1 (omega arith), other.0.copy 0 (omega arith), all-own plan rows v arrivals completion n rest refl other.1)
 
 -- what a copy tells
 pub copy-jobs : (stream : Stream) (closed : Closed) → IsCopy stream 0 closed → closed ≡ Jobs stream.job

@@ -4,7 +4,7 @@ use Rattle.mq_core.specs.declared.model.Plan.{Plan}
 use Rattle.mq_core.specs.declared.model.Rows.{Rows}
 use Rattle.mq_core.specs.declared.model.Stream.{Stream}
 use Rattle.mq_crew.specs.Crew.{AreAll}
-use Rattle.mq_stations.specs.declared.late.PastFault.{PastFault}
+use Rattle.mq_core.specs.declared.refusals.PastFault.{PastFault}
 use Rattle.mq_exits.specs.Exits.{IsShut}
 use Rattle.mq_exits.specs.declared.exits.Closed.{Closed}
 use Rattle.mq_exits.specs.declared.exits.Closed.TheVariants.{Came, Departures, Found, Jobs, Over, Times}

@@ -24,8 +24,8 @@ use Rattle.mq_exits.specs.Splits.{AreSplitStreams}
 use Rattle.mq_exits.specs.declared.exits.Closed.{Closed}
 use Rattle.mq_exits.specs.declared.exits.Closed.TheVariants.{Came, Departures, Found, Jobs, Over, Times}
 use Rattle.mq_exits.specs.declared.exits.Emptied.{Emptied}
-use Rattle.mq_exits.specs.declared.exits.Exit.{Exit}
-use Rattle.mq_exits.specs.declared.exits.Exit.TheVariants.{Known, Passed, Sent, Served, Sorted}
+use Rattle.mq_exits.specs.declared.exits.Completion.{Completion}
+use Rattle.mq_exits.specs.declared.exits.Completion.TheVariants.{Known, Passed, Sent, Served, Sorted}
 use Rattle.mq_exits.specs.declared.overtaking.Overtaken.{Overtaken}
 
 -- jobs that leave a node of the plan do so by time
@@ -43,15 +43,15 @@ pub record IsOvertaken (plan : Plan) (rows : Rows) (v : ℕ) (arrivals : Stream)
   pub counted : IsCounted arrivals overtaken
 
 -- what is known of a station when all its jobs have left
-abbrev pub IsExit : Plan → Rows → ℕ → Stream → Exit → Type 0
-IsExit plan rows v arrivals (Known after) = IsAfterAt plan rows v arrivals after
-IsExit plan rows v arrivals (Served departs) = IsServed plan rows v arrivals departs
-IsExit plan rows v arrivals (Sorted overtaken) = IsOvertaken plan rows v arrivals overtaken
-IsExit plan rows v arrivals (Passed streams) = AreSplitStreams plan rows v arrivals streams
-IsExit plan rows v arrivals Sent = IsServed plan rows v arrivals arrivals.time
+abbrev pub IsCompletion : Plan → Rows → ℕ → Stream → Completion → Type 0
+IsCompletion plan rows v arrivals (Known after) = IsAfterAt plan rows v arrivals after
+IsCompletion plan rows v arrivals (Served departs) = IsServed plan rows v arrivals departs
+IsCompletion plan rows v arrivals (Sorted overtaken) = IsOvertaken plan rows v arrivals overtaken
+IsCompletion plan rows v arrivals (Passed streams) = AreSplitStreams plan rows v arrivals streams
+IsCompletion plan rows v arrivals Sent = IsServed plan rows v arrivals arrivals.time
 
 -- how many last pieces a station has by what is known of it
-abbrev pub closings_of : Exit → ℕ
+abbrev pub closings_of : Completion → ℕ
 closings_of (Known after) = 0
 closings_of (Served departs) = 3
 closings_of (Sorted overtaken) = overtaken.blocks.blocks
@@ -97,7 +97,7 @@ IsFound (Jobs jobs) = ⊥
 IsFound (Departures times) = ⊥
 IsFound (Came times) = ⊥
 
-abbrev pub IsClosed : Plan → Rows → ℕ → Stream → Exit → ℕ → Closed → Type 0
+abbrev pub IsClosed : Plan → Rows → ℕ → Stream → Completion → ℕ → Closed → Type 0
 IsClosed plan rows v arrivals (Known after) b closed = ⊥
 IsClosed plan rows v arrivals (Served departs) b closed = IsShut plan rows v arrivals departs b closed
 IsClosed plan rows v arrivals (Sorted overtaken) b closed = IsDelayPiece arrivals overtaken b closed
@@ -119,14 +119,14 @@ IsCopy arrivals k (Departures times) = ⊥
 IsCopy arrivals k (Came times) = (k ≡ 1) × (times ≡ arrivals.time)
 
 -- how many last pieces a station has
-abbrev pub lasts_of : Arrivals → Exit → ℕ
-lasts_of arrivals exit = closings_of exit + copies_of arrivals
+abbrev pub lasts_of : Arrivals → Completion → ℕ
+lasts_of arrivals completion = closings_of completion + copies_of arrivals
 
 -- one of them: the copies stand behind the others
-pub record IsLast (plan : Plan) (rows : Rows) (v : ℕ) (arrivals : Arrivals) (exit : Exit) (b : ℕ) (closed : Closed) : Type 0 where
-  pub own : b < closings_of exit → IsClosed plan rows v (stream_in arrivals) exit b closed
-  pub copy : (k : ℕ) → b ≡ closings_of exit + k → IsCopy (stream_in arrivals) k closed
+pub record IsLast (plan : Plan) (rows : Rows) (v : ℕ) (arrivals : Arrivals) (completion : Completion) (b : ℕ) (closed : Closed) : Type 0 where
+  pub own : b < closings_of completion → IsClosed plan rows v (stream_in arrivals) completion b closed
+  pub copy : (k : ℕ) → b ≡ closings_of completion + k → IsCopy (stream_in arrivals) k closed
 
 -- what is known of a station near the end of a wave
-abbrev pub IsReadyExit : Emptied → Type 0
-IsReadyExit l = IsReadyLoad l.held × IsExit l.held.plan.now l.held.rows.now l.held.number (stream_in l.held.arrivals) l.exit
+abbrev pub IsReadyCompletion : Emptied → Type 0
+IsReadyCompletion l = IsReadyLoad l.held × IsCompletion l.held.plan.now l.held.rows.now l.held.number (stream_in l.held.arrivals) l.completion

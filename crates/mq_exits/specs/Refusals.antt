@@ -2,8 +2,8 @@
 use Rattle.mq_core.specs.Results.{Refusal}
 use Rattle.mq_core.specs.Results.Refusal.{Over, Past}
 use Rattle.mq_stations.specs.Late.{late_told}
-use Rattle.mq_stations.specs.declared.late.OverFault.{OverFault}
-use Rattle.mq_stations.specs.declared.late.PastFault.{PastFault}
+use Rattle.mq_core.specs.declared.refusals.OverFault.{OverFault}
+use Rattle.mq_core.specs.declared.refusals.PastFault.{PastFault}
 
 -- a node with too many visits
 abbrev pub over_told : OverFault → Refusal

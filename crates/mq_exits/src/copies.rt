@@ -5,7 +5,7 @@ ghost use Rattle.mq_core.specs.declared.model.Rows.{Rows as TheRows};
 ghost use Rattle.mq_crew.specs.Crew.{AreAll};
 ghost use Rattle.mq_merge.specs.Borrowed.{stream_in};
 ghost use Rattle.mq_exits.specs.Exits.{IsClosed, IsCopy, IsLast, closings_of, copies_of, lasts_of};
-ghost use Rattle.mq_exits.specs.declared.exits.Exit.{Exit as TheExit};
+ghost use Rattle.mq_exits.specs.declared.exits.Completion.{Completion as TheCompletion};
 
 use crate::exits::Closed;
 use crate::taking::{jobs_in, last_of, times_in};
@@ -39,9 +39,9 @@ pub fn copy_of(alloc: Global, arrivals: &Stream, k: u32) -> Result<Closed, OutOf
 
 // What came, as a stream of its own: merged, or put together of the copies, which are taken off the last pieces.
 pub fn taken(arrivals: Arrivals, group: &mut Vec<Closed>) -> Stream
-    requires { (plan : ThePlan) × (rows : TheRows) × (v : ℕ) × (exit : TheExit) × AreAll (IsLast plan rows v arrivals exit) (lasts_of arrivals exit) group.old.items }
+    requires { (plan : ThePlan) × (rows : TheRows) × (v : ℕ) × (completion : TheCompletion) × AreAll (IsLast plan rows v arrivals completion) (lasts_of arrivals completion) group.old.items }
     ensures stream { result ≡ stream_in arrivals.entry }
-    ensures group { (plan : ThePlan) (rows : TheRows) (v : ℕ) (exit : TheExit) → AreAll (IsLast plan rows v arrivals.entry exit) (lasts_of arrivals.entry exit) group.old.items → AreAll (IsClosed plan rows v (stream_in arrivals.entry) exit) (closings_of exit) group.new.items }
+    ensures group { (plan : ThePlan) (rows : TheRows) (v : ℕ) (completion : TheCompletion) → AreAll (IsLast plan rows v arrivals.entry completion) (lasts_of arrivals.entry completion) group.old.items → AreAll (IsClosed plan rows v (stream_in arrivals.entry) completion) (closings_of completion) group.new.items }
 {
     match arrivals {
         Arrivals::Merged(stream) => stream,

@@ -5,7 +5,7 @@ ghost use Rattle.mq_core.specs.OnceOut.{founds_of};
 ghost use Rattle.mq_core.specs.declared.model.Fate.TheVariants.{Departs};
 ghost use Rattle.mq_crew.specs.Crew.{AreAll};
 ghost use Rattle.mq_exits.specs.Afters.{AllDepartAt, IsAfterAt, IsServed};
-ghost use Rattle.mq_exits.specs.Exits.{IsClosed, IsExit, IsLast, IsReadyExit, IsShut, closings_of, lasts_of};
+ghost use Rattle.mq_exits.specs.Exits.{IsClosed, IsCompletion, IsLast, IsReadyCompletion, IsShut, closings_of, lasts_of};
 ghost use Rattle.mq_exits.specs.Loads.{IsLoaded};
 ghost use Rattle.mq_exits.specs.Results.{IsWorkedOut};
 
@@ -18,14 +18,14 @@ use crate::splitting::{passed, passed_of};
 use crate::taking::{departures_in, founds_in, jobs_in, last_of, left_in};
 use crate::working::{After, NodeResult, ending_of, found_by_position, nobody, on_time};
 use mq_base::{List, OutOfMemory};
-use mq_core::{Kind, Stream, fates_are_in_time, sequences_go_by_fates};
+use mq_core::{Kind, PastFault, Stream, fates_are_in_time, sequences_go_by_fates};
 use mq_crew::Pieces;
-use mq_stations::{PastFault, first_late_in_turn};
+use mq_stations::first_late_in_turn;
 use std::alloc::Global;
 
 /// What is known of a station when all its jobs have left.
 #[derive(Drop)]
-pub enum Exit {
+pub enum Completion {
     /// All.
     Known(After),
     /// When its jobs depart, in their order.
@@ -42,7 +42,7 @@ pub enum Exit {
 #[derive(Drop)]
 pub struct Emptied<'a> {
     pub held: Held<'a>,
-    pub exit: Exit,
+    pub completion: Completion,
 }
 
 /// A last piece of a station, which a worker makes whole: a list, or of what the visits to a delay found a
@@ -66,52 +66,57 @@ pub enum Closed {
 impl<'a> Pieces for Emptied<'a> {
     type Piece = Closed;
 
-    ghost fit = { IsReadyExit };
+    ghost fit = { IsReadyCompletion };
 
-    ghost size = { λ s. lasts_of s.held.arrivals s.exit };
+    ghost size = { λ s. lasts_of s.held.arrivals s.completion };
 
-    ghost is_piece = { λ s b closed. IsLast s.held.plan.now s.held.rows.now s.held.number s.held.arrivals s.exit b closed };
+    ghost is_piece = { λ s b closed. IsLast s.held.plan.now s.held.rows.now s.held.number s.held.arrivals s.completion b closed };
 
     fn count(&self) -> u32 {
-        closings(&self.exit) + copies(&self.held.arrivals)
+        closings(&self.completion) + copies(&self.held.arrivals)
     }
 
     fn piece(&self, alloc: Global, b: u32) -> Result<Closed, OutOfMemory> {
         let load = self.held.load();
-        let own = closings(&self.exit);
+        let own = closings(&self.completion);
         if b < own {
-            return closed_of(alloc, &load, &self.exit, b);
+            return closed_of(alloc, &load, &self.completion, b);
         }
         copy_of(alloc, load.arrivals, b - own)
     }
 }
 
 // How many last pieces a station has by what is known of it.
-fn closings(exit: &Exit) -> u32
-    ensures { result ≡ closings_of exit.now }
+fn closings(completion: &Completion) -> u32
+    ensures { result ≡ closings_of completion.now }
 {
-    match exit {
-        Exit::Known(_) => 0,
-        Exit::Served(_) => 3,
-        Exit::Sorted(overtaken) => overtaken.blocks.blocks,
-        Exit::Passed(_) => 2,
-        Exit::Sent => 4,
+    match completion {
+        Completion::Known(_) => 0,
+        Completion::Served(_) => 3,
+        Completion::Sorted(overtaken) => overtaken.blocks.blocks,
+        Completion::Passed(_) => 2,
+        Completion::Sent => 4,
     }
 }
 
 // One of them.
-fn closed_of(alloc: Global, load: &Load, exit: &Exit, b: u32) -> Result<Closed, OutOfMemory>
+fn closed_of(
+    alloc: Global,
+    load: &Load,
+    completion: &Completion,
+    b: u32,
+) -> Result<Closed, OutOfMemory>
     requires loaded { IsLoaded load.now.plan.now load.now.rows.now load.now.number load.now.arrivals.now }
-    requires exit { IsExit load.now.plan.now load.now.rows.now load.now.number load.now.arrivals.now exit.now }
-    requires inside { b < closings_of exit.now }
-    ensures { IfOk result (λ closed. IsClosed load.now.plan.now load.now.rows.now load.now.number load.now.arrivals.now exit.now b closed) }
+    requires completion { IsCompletion load.now.plan.now load.now.rows.now load.now.number load.now.arrivals.now completion.now }
+    requires inside { b < closings_of completion.now }
+    ensures { IfOk result (λ closed. IsClosed load.now.plan.now load.now.rows.now load.now.number load.now.arrivals.now completion.now b closed) }
 {
-    match exit {
-        Exit::Served(departs) => closing_of(alloc, load, departs, b),
-        Exit::Sorted(overtaken) => delay_piece(alloc, load.arrivals, overtaken, b),
-        Exit::Passed(_) => passed_of(alloc, load, b),
-        Exit::Sent => sent_piece(alloc, load, b),
-        Exit::Known(_) => unreachable!(),
+    match completion {
+        Completion::Served(departs) => closing_of(alloc, load, departs, b),
+        Completion::Sorted(overtaken) => delay_piece(alloc, load.arrivals, overtaken, b),
+        Completion::Passed(_) => passed_of(alloc, load, b),
+        Completion::Sent => sent_piece(alloc, load, b),
+        Completion::Known(_) => unreachable!(),
     }
 }
 
@@ -194,13 +199,13 @@ pub fn result_of(
     emptied: Emptied,
     group: List<Closed>,
 ) -> Result<NodeResult, OutOfMemory>
-    requires ready { IsReadyExit emptied }
-    requires group { AreAll (IsLast emptied.held.plan.now emptied.held.rows.now emptied.held.number emptied.held.arrivals emptied.exit) (lasts_of emptied.held.arrivals emptied.exit) group }
+    requires ready { IsReadyCompletion emptied }
+    requires group { AreAll (IsLast emptied.held.plan.now emptied.held.rows.now emptied.held.number emptied.held.arrivals emptied.completion) (lasts_of emptied.held.arrivals emptied.completion) group }
     ensures number { IfOk result (λ node_result. node_result.number ≡ emptied.entry.held.number) }
     ensures known { IfOk result (λ node_result. IsWorkedOut emptied.entry.held.plan.now emptied.entry.held.rows.now node_result) }
 {
     node_laws();
-    let Emptied { held, exit } = emptied;
+    let Emptied { held, completion } = emptied;
     let Held {
         plan,
         rows,
@@ -217,7 +222,7 @@ pub fn result_of(
         arrivals: &arrivals,
         block,
     };
-    match after_of(alloc, &load, exit, List::from_vec(group)) {
+    match after_of(alloc, &load, completion, List::from_vec(group)) {
         Ok(after) => {
             let ending = ending_of(arrivals, after);
             Ok(NodeResult { number, ending })
@@ -233,23 +238,23 @@ pub fn result_of(
 fn after_of(
     alloc: Global,
     load: &Load,
-    exit: Exit,
+    completion: Completion,
     group: List<Closed>,
 ) -> Result<After, OutOfMemory>
     requires loaded { IsLoaded load.now.plan.now load.now.rows.now load.now.number load.now.arrivals.now }
-    requires exit { IsExit load.now.plan.now load.now.rows.now load.now.number load.now.arrivals.now exit }
-    requires group { AreAll (IsClosed load.now.plan.now load.now.rows.now load.now.number load.now.arrivals.now exit) (closings_of exit) group }
+    requires completion { IsCompletion load.now.plan.now load.now.rows.now load.now.number load.now.arrivals.now completion }
+    requires group { AreAll (IsClosed load.now.plan.now load.now.rows.now load.now.number load.now.arrivals.now completion) (closings_of completion) group }
     ensures { IfOk result (λ after. IsAfterAt load.now.plan.now load.now.rows.now load.now.number load.now.arrivals.now after) }
 {
-    match exit {
-        Exit::Known(after) => {
+    match completion {
+        Completion::Known(after) => {
             drop(group);
             Ok(after)
         }
-        Exit::Served(departs) => opened(alloc, load, group, departs),
-        Exit::Sorted(overtaken) => after_delay(alloc, load, group, overtaken),
-        Exit::Passed(streams) => Ok(passed(load, group, streams)),
-        Exit::Sent => sent(alloc, load, group),
+        Completion::Served(departs) => opened(alloc, load, group, departs),
+        Completion::Sorted(overtaken) => after_delay(alloc, load, group, overtaken),
+        Completion::Passed(streams) => Ok(passed(load, group, streams)),
+        Completion::Sent => sent(alloc, load, group),
     }
 }
 

@@ -9,7 +9,7 @@ ghost use Rattle.std.specs.List.{AllByRecursion};
 ghost use Rattle.mq_core.specs.declared.model.Plan.{Plan as ThePlan};
 ghost use Rattle.mq_core.specs.declared.model.Rows.{Rows as TheRows};
 ghost use Rattle.mq_crew.specs.Crew.{AreGroups};
-ghost use Rattle.mq_exits.specs.Exits.{IsLast, IsReadyExit, lasts_of};
+ghost use Rattle.mq_exits.specs.Exits.{IsLast, IsReadyCompletion, lasts_of};
 ghost use Rattle.mq_exits.specs.Loads.{IsLoadOf};
 ghost use Rattle.mq_exits.specs.Results.{IsResultOf};
 
@@ -24,7 +24,7 @@ mod taking;
 mod working;
 
 use crate::exits::result_of;
-pub use exits::{Closed, Emptied, Exit};
+pub use exits::{Closed, Completion, Emptied};
 pub use load::{Held, Load};
 use mq_base::{List, OutOfMemory};
 use mq_crew::{Gate, run_parts};
@@ -48,7 +48,7 @@ pub fn station_results<R: Threads + Sync, G: Gate>(
     those_emptied: List<Emptied>,
     gate: &G,
 ) -> Result<List<NodeResult>, OutOfMemory>
-    requires ready { AllByRecursion IsReadyExit those_emptied }
+    requires ready { AllByRecursion IsReadyCompletion those_emptied }
     requires few { length those_emptied ≤ 64 }
     requires some { 1 ≤ workers }
     requires most { workers ≤ 64 }
@@ -70,8 +70,8 @@ fn ended(
     those_emptied: List<Emptied>,
     groups: List<List<Closed>>,
 ) -> Result<List<NodeResult>, OutOfMemory>
-    requires ready { AllByRecursion IsReadyExit those_emptied }
-    requires groups { AreGroups (λ l. lasts_of l.held.arrivals l.exit) (λ l b closed. IsLast l.held.plan.now l.held.rows.now l.held.number l.held.arrivals l.exit b closed) those_emptied groups }
+    requires ready { AllByRecursion IsReadyCompletion those_emptied }
+    requires groups { AreGroups (λ l. lasts_of l.held.arrivals l.completion) (λ l b closed. IsLast l.held.plan.now l.held.rows.now l.held.number l.held.arrivals l.completion b closed) those_emptied groups }
     ensures len { IfOk result (λ results. length results ≡ length those_emptied.entry) }
     ensures known { IfOk result (λ results. (plan : ThePlan) (rows : TheRows) (ready : Items ℕ) → AllByRecursion (λ l. IsLoadOf plan rows ready l.held) those_emptied.entry → AllByRecursion (IsResultOf plan rows ready) results) }
 {

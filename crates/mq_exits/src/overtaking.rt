@@ -6,11 +6,11 @@ ghost use Rattle.mq_core.specs.Laws.{in_order_of};
 ghost use Rattle.mq_core.specs.Sequences.{IsStream};
 ghost use Rattle.mq_core.specs.Streams.{by_first, pairs_of};
 ghost use Rattle.mq_exits.specs.Afters.{AreDeparturesAt, IsWorkedAt};
-ghost use Rattle.mq_exits.specs.Exits.{IsExit, Overtakes};
+ghost use Rattle.mq_exits.specs.Exits.{IsCompletion, Overtakes};
 ghost use Rattle.mq_exits.specs.Loads.{IsLoaded};
 ghost use Rattle.mq_stations.specs.Scans.{AreFewBlocks};
 
-use crate::exits::Exit;
+use crate::exits::Completion;
 use crate::load::Load;
 use crate::working::{After, Worked};
 use mq_base::{List, OutOfMemory};
@@ -44,36 +44,44 @@ pub fn left_by<R: Threads + Sync>(
     workers: u32,
     load: &Load,
     worked: Worked,
-) -> Result<Exit, OutOfMemory>
+) -> Result<Completion, OutOfMemory>
     requires loaded { IsLoaded load.now.plan.now load.now.rows.now load.now.number load.now.arrivals.now }
     requires worked { IsWorkedAt load.now.plan.now load.now.rows.now load.now.number load.now.arrivals.now worked }
     requires block { 1 ≤ load.now.block }
-    ensures { IfOk result (λ exit. IsExit load.now.plan.now load.now.rows.now load.now.number load.now.arrivals.now exit) }
+    ensures { IfOk result (λ completion. IsCompletion load.now.plan.now load.now.rows.now load.now.number load.now.arrivals.now completion) }
 {
     match worked {
-        Worked::Finished(after) => Ok(Exit::Known(after)),
-        Worked::Sent => Ok(Exit::Sent),
-        Worked::Departed(departs) => left_at(rt, alloc, workers, load, departs),
+        Worked::Finished(after) => Ok(Completion::Known(after)),
+        Worked::Sent => Ok(Completion::Sent),
+        Worked::Departed(departs) => completion_by_departures(rt, alloc, workers, load, departs),
     }
 }
 
 // What is known of a station whose jobs depart at these times, by position. All but those of a delay keep
 // their order.
-fn left_at<R: Threads + Sync>(
+fn completion_by_departures<R: Threads + Sync>(
     rt: &R,
     alloc: Global,
     workers: u32,
     load: &Load,
     departs: List<u64>,
-) -> Result<Exit, OutOfMemory>
+) -> Result<Completion, OutOfMemory>
     requires loaded { IsLoaded load.now.plan.now load.now.rows.now load.now.number load.now.arrivals.now }
     requires departs { AreDeparturesAt load.now.plan.now load.now.rows.now load.now.number load.now.arrivals.now departs }
     requires block { 1 ≤ load.now.block }
-    ensures { IfOk result (λ exit. IsExit load.now.plan.now load.now.rows.now load.now.number load.now.arrivals.now exit) }
+    ensures { IfOk result (λ completion. IsCompletion load.now.plan.now load.now.rows.now load.now.number load.now.arrivals.now completion) }
 {
     match &load.plan.net.nodes.get(load.number as usize).kind {
         Kind::Delay(_) => overtaken_at(rt, alloc, workers, load, departs),
-        _ => Ok(Exit::Served(departs)),
+        Kind::Source
+        | Kind::Server(_)
+        | Kind::Loss { .. }
+        | Kind::Tandem(_)
+        | Kind::ForkJoin(_)
+        | Kind::Split(_)
+        | Kind::Fork { .. }
+        | Kind::Join
+        | Kind::Trunk { .. } => Ok(Completion::Served(departs)),
     }
 }
 
@@ -84,12 +92,12 @@ fn overtaken_at<R: Threads + Sync>(
     workers: u32,
     load: &Load,
     departs: List<u64>,
-) -> Result<Exit, OutOfMemory>
+) -> Result<Completion, OutOfMemory>
     requires loaded { IsLoaded load.now.plan.now load.now.rows.now load.now.number load.now.arrivals.now }
     requires departs { AreDeparturesAt load.now.plan.now load.now.rows.now load.now.number load.now.arrivals.now departs }
     requires overtakes { Overtakes load.now.plan.now load.now.number }
     requires block { 1 ≤ load.now.block }
-    ensures { IfOk result (λ exit. IsExit load.now.plan.now load.now.rows.now load.now.number load.now.arrivals.now exit) }
+    ensures { IfOk result (λ completion. IsCompletion load.now.plan.now load.now.rows.now load.now.number load.now.arrivals.now completion) }
 {
     sequences_go_by_fates();
     fates_are_in_time();
@@ -98,12 +106,12 @@ fn overtaken_at<R: Threads + Sync>(
         Some(past) => {
             drop(departs);
             drop(leaving);
-            Ok(Exit::Known(After::Missed(past)))
+            Ok(Completion::Known(After::Missed(past)))
         }
         None => {
             let Stream { job, time } = leaving;
             match ahead_of_departures(alloc, &load.arrivals.time, &departs, time) {
-                Ok(ahead) => Ok(Exit::Sorted(Overtaken {
+                Ok(ahead) => Ok(Completion::Sorted(Overtaken {
                     departs,
                     job,
                     ahead,

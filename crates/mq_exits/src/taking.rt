@@ -1,11 +1,11 @@
 // Last pieces, taken off the back of those of a station, and what they tell.
 ghost use Rattle.std.specs.Prelude.{◌≡◌, ◌≤◌, ◌⊎◌, ℕ, List as Items, [], ◌∷◌, ◌++◌, length, MatchResult};
 ghost use Rattle.mq_exits.specs.declared.exits.Closed.TheVariants.{Came, Departures, Found, Jobs, Over, Times};
-ghost use Rattle.mq_stations.specs.declared.late.PastFault.{PastFault as ThePast};
+ghost use Rattle.mq_core.specs.declared.refusals.PastFault.{PastFault as ThePast};
 
 use crate::exits::Closed;
 use mq_base::List;
-use mq_stations::PastFault;
+use mq_core::PastFault;
 
 // The last of these pieces.
 pub fn last_of(group: &mut Vec<Closed>) -> Closed

@@ -1,7 +1,8 @@
 // How a node is worked out, from its arrivals to its visits and what leaves it.
 ghost use Rattle.std.specs.Prelude.{◌≡◌, ◌≤◌, ◌∷◌, [], ℕ, length, map, true, IfOk};
+ghost use Rattle.mq_core.specs.Came.{came_in};
 ghost use Rattle.mq_core.specs.SequenceLaws.{sends_once};
-ghost use Rattle.mq_core.specs.Sequences.{IsStream};
+ghost use Rattle.mq_core.specs.Sequences.{IsStream, sequence_fates};
 ghost use Rattle.mq_core.specs.OnceOut.{founds_of};
 ghost use Rattle.mq_core.specs.Laws.{Rises};
 ghost use Rattle.mq_core.specs.declared.model.Fate.TheVariants.{Departs};
@@ -17,9 +18,10 @@ ghost use Rattle.mq_stations.specs.Leaving.{IsLeaving, IsLoad};
 use crate::load::Load;
 use mq_base::{List, OutOfMemory};
 use mq_core::{
-    Fates, Kind, Network, Rows, Stream, Visits, fates_are_in_time, sequences_go_by_fates,
+    Fates, Kind, Network, OverFault, PastFault, Rows, Stream, Visits, fates_are_in_time,
+    sequences_go_by_fates,
 };
-use mq_stations::{Left, Outflow, OverFault, PastFault, first_late, leaving, only};
+use mq_stations::{Left, Outflow, first_late, leaving, only};
 use mq_stats::{found, found_piece_in_order};
 use std::alloc::Global;
 
@@ -127,16 +129,18 @@ fn seen(
             drop(leaving);
             Ok(Worked::Finished(After::Missed(past)))
         }
-        None => match found_at(alloc, rows, kind, arrivals, &leaving) {
-            Ok(found) => {
-                let after = After::Seen(Fates::each(leaving.fates), found, leaving.streams);
-                Ok(Worked::Finished(after))
+        None => {
+            let Outflow { fates, streams } = leaving;
+            let fates = Fates::each(fates);
+            match found_at(alloc, rows, kind, arrivals, &fates) {
+                Ok(found) => Ok(Worked::Finished(After::Seen(fates, found, streams))),
+                Err(fault) => {
+                    drop(fates);
+                    drop(streams);
+                    Err(fault)
+                }
             }
-            Err(fault) => {
-                drop(leaving);
-                Err(fault)
-            }
-        },
+        }
     }
 }
 
@@ -168,18 +172,18 @@ fn found_at(
     rows: &Rows,
     kind: &Kind,
     arrivals: &Stream,
-    leaving: &Outflow,
+    fates: &Fates,
 ) -> Result<List<u32>, OutOfMemory>
     requires once { sends_once kind.now ≡ true }
     requires load { IsLoad rows.now kind.now arrivals.now }
-    requires leaving { IsLeaving rows.now kind.now arrivals.now leaving.now.fates leaving.now.streams }
-    ensures { IfOk result (λ found. found ≡ founds_of arrivals.now.time leaving.now.fates) }
+    requires leave { fates.now ≡ sequence_fates rows.now kind.now (came_in arrivals.now) }
+    ensures { IfOk result (λ found. found ≡ founds_of arrivals.now.time fates.now) }
 {
     sequences_go_by_fates();
     fates_are_in_time();
     match kind {
         Kind::Split(_) => nobody(alloc, &arrivals.time),
-        _ => found(alloc, &arrivals.time, &leaving.fates),
+        _ => found(alloc, &arrivals.time, fates),
     }
 }
 

@@ -25,7 +25,7 @@ use Rattle.mq_exits.proofs.Known.{refusal-many}
 use Rattle.mq_exits.specs.Loads.{IsLoadOf, IsLoaded, IsReadyLoad}
 use Rattle.mq_exits.specs.Results.{IsKnown, IsResultOf, IsWorkedOut}
 use Rattle.mq_exits.specs.declared.exits.Emptied.{Emptied}
-use Rattle.mq_exits.specs.declared.exits.Exit.{Exit}
+use Rattle.mq_exits.specs.declared.exits.Completion.{Completion}
 use Rattle.mq_exits.specs.declared.load.Held.{Held}
 use Rattle.mq_exits.specs.declared.working.Ending.TheVariants.{OnTime, TooLate, TooMany}
 use Rattle.mq_exits.specs.declared.working.Ending.{Ending}
@@ -114,9 +114,9 @@ ended-fault plan rows v ending (Ok gives) w h = tt
 ended-fault plan rows v ending (Err fault) w h = fault-at plan rows v ending fault w h
 
 -- the only result of a station that was held is how it ended
-pub held-known : (held : Held) (exit : Exit) (list : List Emptied) (results : List NodeResult) (r : NodeResult) → list ≡ record { held = held; exit = exit } ∷ [] →
+pub held-known : (held : Held) (completion : Completion) (list : List Emptied) (results : List NodeResult) (r : NodeResult) → list ≡ record { held = held; completion = completion } ∷ [] →
     ((plan : Plan) (rows : Rows) (ready : List ℕ) → Each (λ l. IsLoadOf plan rows ready l.held) list → Each (IsResultOf plan rows ready) results) → results ≡ r ∷ [] → IsWorkedOut held.plan.now held.rows.now (record { number = held.number; ending = r.ending })
-held-known held exit list results r e known only =
+held-known held completion list results r e known only =
     let ready = held.number ∷ [] in
     let own = subst (Each (λ (l : Emptied). IsLoadOf held.plan.now held.rows.now ready l.held)) (sym e) ((refl, refl, (0, omega arith, refl)), tt) in
     ended-known held.plan.now held.rows.now held.number results r only (known held.plan.now held.rows.now ready own)

@@ -25,13 +25,12 @@ use crate::streams::is_same_stream;
 use mq_alike::{alike, alike_is_first, sequences_stay};
 use mq_arrivals::{Arrived, Arriving, arrivals_of, stream_of};
 use mq_base::{List, OutOfMemory, Steps};
-use mq_core::{Fates, Kind, Node, Rows, Stream, Visits, runs_have_sequences};
+use mq_core::{Fates, Kind, Node, OverFault, Rows, Stream, Visits, runs_have_sequences};
 use mq_crew::Open;
 use mq_engine::{RunFault, Way, core_laws, wave_of, way_of};
 use mq_exits::{Emptied, Ending, Held, NodeResult, station_results};
 use mq_redo::counted;
 use mq_scan::cut;
-use mq_stations::OverFault;
 use std::alloc::Global;
 use std::sync::ledger::Ledger;
 use std::thread::Threads;
@@ -344,9 +343,12 @@ fn worked_run<R: Threads + Sync, L: Ledger>(
 {
     core_laws();
     let load = held.load();
-    let Reworked { exit, checkpoints } = work_again(rt, alloc, workers, &load, stays, steps)?;
+    let Reworked {
+        completion,
+        checkpoints,
+    } = work_again(rt, alloc, workers, &load, stays, steps)?;
     let mut emptied = List::new(alloc);
-    emptied.push(Emptied { held, exit })?;
+    emptied.push(Emptied { held, completion })?;
     let results = station_results(rt, alloc, workers, emptied, &Open)?;
     run_by(the_only(results), checkpoints, again, all)
 }

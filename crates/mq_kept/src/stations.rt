@@ -7,7 +7,7 @@ ghost use Rattle.mq_core.specs.Sequences.{sequence_fates};
 ghost use Rattle.mq_core.specs.declared.model.Kind.TheVariants.{Delay, ForkJoin, Server, Split, Tandem};
 ghost use Rattle.mq_core.specs.declared.model.Node.{Node as TheNode};
 ghost use Rattle.mq_exits.specs.Afters.{IsWorkedAt};
-ghost use Rattle.mq_exits.specs.Exits.{IsExit};
+ghost use Rattle.mq_exits.specs.Exits.{IsCompletion};
 ghost use Rattle.mq_exits.specs.Loads.{IsLoaded};
 ghost use Rattle.mq_exits.specs.declared.working.Worked.TheVariants.{Departed};
 ghost use Rattle.mq_kept.specs.KeptNodes.{IsKeptNode, IsNodeOf, IsStayingNode, blocks_behind};
@@ -17,7 +17,7 @@ use crate::checkpoints::Checkpoints;
 use mq_alike::alike_is_first;
 use mq_base::{List, OutOfMemory, Steps};
 use mq_core::{Demand, Fates, Kind, Route, Stage};
-use mq_exits::{Exit, Load, Worked, left_by, station_whole};
+use mq_exits::{Completion, Load, Worked, left_by, station_whole};
 use mq_redo::{
     blocks_hold, branched_again, delayed_again, routed_again, served_again, staged_again,
 };
@@ -40,7 +40,7 @@ pub struct Stays<'a> {
 /// What is known of a station that was gone through again, when all its jobs have left.
 #[derive(Drop)]
 pub struct Reworked {
-    pub exit: Exit,
+    pub completion: Completion,
     pub checkpoints: Checkpoints,
 }
 
@@ -58,7 +58,7 @@ pub fn work_again<R: Threads + Sync, L: Ledger>(
     requires some { 1 ≤ load.now.block }
     requires large { load.now.block ≤ 65536 }
     requires stays { (node : TheNode) → slice_get load.now.plan.now.net.nodes load.now.number ≡ Some node → (old : TheComing) × IsStayingNode node.kind old (coming_as load.now.rows.now load.now.arrivals.now) load.now.block stays.now }
-    ensures exit { IfOk result (λ r. IsExit load.now.plan.now load.now.rows.now load.now.number load.now.arrivals.now r.exit) }
+    ensures completion { IfOk result (λ r. IsCompletion load.now.plan.now load.now.rows.now load.now.number load.now.arrivals.now r.completion) }
     ensures checkpoints { IfOk result (λ r. (node : TheNode) → slice_get load.now.plan.now.net.nodes load.now.number ≡ Some node → IsKeptNode node.kind (coming_as load.now.rows.now load.now.arrivals.now) load.now.block (sequence_fates load.now.rows.now node.kind (came_in load.now.arrivals.now)) r.checkpoints) }
     ensures steps { steps.old ≤ steps.new }
     ensures spent { (node : TheNode) → slice_get load.now.plan.now.net.nodes load.now.number ≡ Some node → steps.new ≤ steps.old + blocks_behind load.now.block node.kind (length load.now.arrivals.now.job) stays.now.blocks }
@@ -93,7 +93,7 @@ fn server_again<R: Threads + Sync, L: Ledger>(
     requires large { load.now.block ≤ 65536 }
     requires node { IsNodeOf load.now.plan.now load.now.number (Server demand.now) }
     requires stays { (old : TheComing) × IsStayingNode (Server demand.now) old (coming_as load.now.rows.now load.now.arrivals.now) load.now.block stays.now }
-    ensures exit { IfOk result (λ r. IsExit load.now.plan.now load.now.rows.now load.now.number load.now.arrivals.now r.exit) }
+    ensures completion { IfOk result (λ r. IsCompletion load.now.plan.now load.now.rows.now load.now.number load.now.arrivals.now r.completion) }
     ensures checkpoints { IfOk result (λ r. IsKeptNode (Server demand.now) (coming_as load.now.rows.now load.now.arrivals.now) load.now.block (sequence_fates load.now.rows.now (Server demand.now) (came_in load.now.arrivals.now)) r.checkpoints) }
     ensures steps { steps.old ≤ steps.new }
     ensures spent { steps.new + stays.now.blocks ≤ steps.old + blocks_in load.now.block (length load.now.arrivals.now.job) }
@@ -134,7 +134,7 @@ fn delay_again<R: Threads + Sync, L: Ledger>(
     requires large { load.now.block ≤ 65536 }
     requires node { IsNodeOf load.now.plan.now load.now.number (Delay demand.now) }
     requires stays { (old : TheComing) × IsStayingNode (Delay demand.now) old (coming_as load.now.rows.now load.now.arrivals.now) load.now.block stays.now }
-    ensures exit { IfOk result (λ r. IsExit load.now.plan.now load.now.rows.now load.now.number load.now.arrivals.now r.exit) }
+    ensures completion { IfOk result (λ r. IsCompletion load.now.plan.now load.now.rows.now load.now.number load.now.arrivals.now r.completion) }
     ensures checkpoints { IfOk result (λ r. IsKeptNode (Delay demand.now) (coming_as load.now.rows.now load.now.arrivals.now) load.now.block (sequence_fates load.now.rows.now (Delay demand.now) (came_in load.now.arrivals.now)) r.checkpoints) }
     ensures steps { steps.old ≤ steps.new }
     ensures spent { steps.new + stays.now.blocks ≤ steps.old + blocks_in load.now.block (length load.now.arrivals.now.job) }
@@ -175,7 +175,7 @@ fn tandem_again<R: Threads + Sync, L: Ledger>(
     requires large { load.now.block ≤ 65536 }
     requires node { IsNodeOf load.now.plan.now load.now.number (Tandem stages.now) }
     requires stays { (old : TheComing) × IsStayingNode (Tandem stages.now) old (coming_as load.now.rows.now load.now.arrivals.now) load.now.block stays.now }
-    ensures exit { IfOk result (λ r. IsExit load.now.plan.now load.now.rows.now load.now.number load.now.arrivals.now r.exit) }
+    ensures completion { IfOk result (λ r. IsCompletion load.now.plan.now load.now.rows.now load.now.number load.now.arrivals.now r.completion) }
     ensures checkpoints { IfOk result (λ r. IsKeptNode (Tandem stages.now) (coming_as load.now.rows.now load.now.arrivals.now) load.now.block (sequence_fates load.now.rows.now (Tandem stages.now) (came_in load.now.arrivals.now)) r.checkpoints) }
     ensures steps { steps.old ≤ steps.new }
     ensures spent { steps.new + stays.now.blocks ≤ steps.old + blocks_in load.now.block (length load.now.arrivals.now.job) }
@@ -216,7 +216,7 @@ fn forkjoin_again<R: Threads + Sync, L: Ledger>(
     requires large { load.now.block ≤ 65536 }
     requires node { IsNodeOf load.now.plan.now load.now.number (ForkJoin branches.now) }
     requires stays { (old : TheComing) × IsStayingNode (ForkJoin branches.now) old (coming_as load.now.rows.now load.now.arrivals.now) load.now.block stays.now }
-    ensures exit { IfOk result (λ r. IsExit load.now.plan.now load.now.rows.now load.now.number load.now.arrivals.now r.exit) }
+    ensures completion { IfOk result (λ r. IsCompletion load.now.plan.now load.now.rows.now load.now.number load.now.arrivals.now r.completion) }
     ensures checkpoints { IfOk result (λ r. IsKeptNode (ForkJoin branches.now) (coming_as load.now.rows.now load.now.arrivals.now) load.now.block (sequence_fates load.now.rows.now (ForkJoin branches.now) (came_in load.now.arrivals.now)) r.checkpoints) }
     ensures steps { steps.old ≤ steps.new }
     ensures spent { steps.new + stays.now.blocks ≤ steps.old + blocks_in load.now.block (length load.now.arrivals.now.job) }
@@ -254,7 +254,7 @@ fn departed<R: Threads + Sync>(
     requires loaded { IsLoaded load.now.plan.now load.now.rows.now load.now.number load.now.arrivals.now }
     requires some { 1 ≤ load.now.block }
     requires worked { IsWorkedAt load.now.plan.now load.now.rows.now load.now.number load.now.arrivals.now (Departed times.items) }
-    ensures exit { IfOk result (λ r. IsExit load.now.plan.now load.now.rows.now load.now.number load.now.arrivals.now r.exit) }
+    ensures completion { IfOk result (λ r. IsCompletion load.now.plan.now load.now.rows.now load.now.number load.now.arrivals.now r.completion) }
     ensures checkpoints { IfOk result (λ r. r.checkpoints ≡ checkpoints) }
 {
     match left_by(
@@ -264,7 +264,10 @@ fn departed<R: Threads + Sync>(
         load,
         Worked::Departed(List::from_vec(times)),
     ) {
-        Ok(exit) => Ok(Reworked { exit, checkpoints }),
+        Ok(completion) => Ok(Reworked {
+            completion,
+            checkpoints,
+        }),
         Err(fault) => {
             drop(checkpoints);
             Err(fault)
@@ -285,7 +288,7 @@ fn split_again<L: Ledger>(
     requires large { load.now.block ≤ 65536 }
     requires node { IsNodeOf load.now.plan.now load.now.number (Split route.now) }
     requires stays { (old : TheComing) × IsStayingNode (Split route.now) old (coming_as load.now.rows.now load.now.arrivals.now) load.now.block stays.now }
-    ensures exit { IfOk result (λ r. IsExit load.now.plan.now load.now.rows.now load.now.number load.now.arrivals.now r.exit) }
+    ensures completion { IfOk result (λ r. IsCompletion load.now.plan.now load.now.rows.now load.now.number load.now.arrivals.now r.completion) }
     ensures checkpoints { IfOk result (λ r. IsKeptNode (Split route.now) (coming_as load.now.rows.now load.now.arrivals.now) load.now.block (sequence_fates load.now.rows.now (Split route.now) (came_in load.now.arrivals.now)) r.checkpoints) }
     ensures steps { steps.old ≤ steps.new }
     ensures spent { steps.new + stays.now.blocks ≤ steps.old + blocks_in load.now.block (length load.now.arrivals.now.job) }
@@ -307,7 +310,7 @@ fn split_again<L: Ledger>(
         steps,
     )?;
     Ok(Reworked {
-        exit: Exit::Passed(rerouted.streams),
+        completion: Completion::Passed(rerouted.streams),
         checkpoints: Checkpoints::Split {
             carries: List::from_vec(rerouted.carries),
             outs: List::from_vec(rerouted.outs),
@@ -324,12 +327,12 @@ fn worked_anew<R: Threads + Sync>(
 ) -> Result<Reworked, OutOfMemory>
     requires loaded { IsLoaded load.now.plan.now load.now.rows.now load.now.number load.now.arrivals.now }
     requires some { 1 ≤ load.now.block }
-    ensures exit { IfOk result (λ r. IsExit load.now.plan.now load.now.rows.now load.now.number load.now.arrivals.now r.exit) }
+    ensures completion { IfOk result (λ r. IsCompletion load.now.plan.now load.now.rows.now load.now.number load.now.arrivals.now r.completion) }
 {
     let worked = station_whole(alloc, load)?;
-    let exit = left_by(rt, alloc, workers, load, worked)?;
+    let completion = left_by(rt, alloc, workers, load, worked)?;
     Ok(Reworked {
-        exit,
+        completion,
         checkpoints: Checkpoints::Nothing,
     })
 }

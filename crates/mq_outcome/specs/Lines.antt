@@ -4,8 +4,8 @@ use Rattle.std.specs.Io.KnownBytes.{append_known}
 use Rattle.mq_outside.specs.Outside.{TakesPrefix, Rose}
 use Rattle.mq_core.specs.declared.model.Network.{Network}
 use Rattle.mq_core.specs.declared.model.Node.{Node}
-use Rattle.mq_stations.specs.declared.late.OverFault.{OverFault}
-use Rattle.mq_stations.specs.declared.late.PastFault.{PastFault}
+use Rattle.mq_core.specs.declared.refusals.OverFault.{OverFault}
+use Rattle.mq_core.specs.declared.refusals.PastFault.{PastFault}
 use Rattle.mq_model.specs.declared.fault.ModelFault.{ModelFault}
 use Rattle.mq_model.specs.declared.fault.ModelFault.TheVariants as model
 use Rattle.mq_trace.specs.declared.fault.TraceFault.{TraceFault}

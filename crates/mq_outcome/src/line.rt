@@ -5,10 +5,9 @@ ghost use Rattle.mq_outside.specs.Pieces.{pieces_text};
 ghost use Rattle.mq_outcome.specs.Lines.{PutsLine, fault_name, line_text, model_line, node_name, trace_line, over_line, past_line, usage_line, name_of as name_of_outcome};
 
 use crate::outcome::Outcome;
-use mq_core::Network;
+use mq_core::{Network, OverFault, PastFault};
 use mq_model::ModelFault;
 use mq_outside::{Gather, Piece, Sink, SinkFault, add_pieces, flush};
-use mq_stations::{OverFault, PastFault};
 use mq_trace::TraceFault;
 use mq_words::UsageFault;
 

@@ -2,8 +2,8 @@
 ghost use Rattle.std.specs.Prelude.{◌≡◌};
 ghost use Rattle.mq_outcome.specs.Status.{status_of};
 
+use mq_core::{OverFault, PastFault};
 use mq_model::ModelFault;
-use mq_stations::{OverFault, PastFault};
 use mq_trace::TraceFault;
 use mq_words::UsageFault;
 

@@ -21,8 +21,8 @@ pub struct Done<C> {
 /// before them. There is one job at least, and at most 65,536. It counts one step, also where memory runs out, and
 /// refuses for want of memory alone.
 pub fn redo_block<P: Step, L: Ledger>(
-    step: &P,
     alloc: Global,
+    step: &P,
     from: u32,
     to: u32,
     carry: P::Carry,
@@ -36,7 +36,7 @@ pub fn redo_block<P: Step, L: Ledger>(
     ensures step { steps.new ≡ steps.old + 1 }
 {
     steps.tick();
-    apply(step, alloc, from, to, carry)
+    apply(alloc, step, from, to, carry)
 }
 
 // Appends what is read of the carries after jobs, the first at this index.
@@ -59,8 +59,8 @@ fn push_read<P: Timed>(
 /// All blocks of a cut of a station's jobs, where the first are done: those behind them are done one after another.
 /// Each of these counts one step, also where memory runs out. It refuses for want of memory alone.
 pub fn redone<P: Timed, L: Ledger>(
-    step: &P,
     alloc: Global,
+    step: &P,
     blocks: &Blocks,
     kept: Done<P::Carry>,
     steps: &mut Steps<L>,
@@ -86,7 +86,7 @@ pub fn redone<P: Timed, L: Ledger>(
     };
     'parts: for b in first..count {
         let (from, to) = blocks.range(b);
-        let after = redo_block(step, alloc, from, to, carry, steps)?;
+        let after = redo_block(alloc, step, from, to, carry, steps)?;
         push_read(step, from, &after, &mut times)?;
         carry = *after.get((to - from - 1) as usize);
         carries.push(carry)?;
@@ -98,8 +98,8 @@ pub fn redone<P: Timed, L: Ledger>(
 /// of the carries of their jobs, and `carries` has the carry behind each of them, and perhaps behind others. The blocks
 /// behind them are done again, each with one step, also where memory runs out. It refuses for want of memory alone.
 pub fn redone_behind<P: Timed, L: Ledger>(
-    step: &P,
     alloc: Global,
+    step: &P,
     blocks: &Blocks,
     times: Vec<u64>,
     carries: &[P::Carry],
@@ -118,8 +118,8 @@ pub fn redone_behind<P: Timed, L: Ledger>(
     let mut kept = Vec::with_capacity(alloc, first as usize)?;
     kept.extend_from_slice(&carries[..first as usize])?;
     redone(
-        step,
         alloc,
+        step,
         blocks,
         Done {
             times,

@@ -46,6 +46,6 @@ pub fn delayed_again<L: Ledger>(
     let demands = demands_of(alloc, rows, demand, &arrivals.job)?;
     let step = DelayStep::new(arrivals, &demands);
     done_are_kept(&step);
-    let done = departures_behind(&step, alloc, blocks, fates, carries, first, steps)?;
+    let done = departures_behind(alloc, &step, blocks, fates, carries, first, steps)?;
     Ok(done)
 }

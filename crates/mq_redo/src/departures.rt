@@ -37,8 +37,8 @@ fn first_departures(
 /// an earlier run stay: `fates` and `carries` are those of all its visits and blocks. The other blocks are done again,
 /// each with one step, also where memory runs out. It refuses for want of memory alone.
 pub fn departures_behind<P: Timed, L: Ledger>(
-    step: &P,
     alloc: Global,
+    step: &P,
     blocks: &Blocks,
     fates: &Fates,
     carries: &[P::Carry],
@@ -56,5 +56,5 @@ pub fn departures_behind<P: Timed, L: Ledger>(
 {
     let jobs = blocks.n;
     let times = first_departures(alloc, fates, first * blocks.block, jobs)?;
-    redone_behind(step, alloc, blocks, times, carries, first, steps)
+    redone_behind(alloc, step, blocks, times, carries, first, steps)
 }

@@ -51,7 +51,7 @@ pub fn branched_again<L: Ledger>(
     let step = ForkJoinStep::new(arrivals, &demands, &begins);
     carries_hold_departures(&step);
     done_are_kept(&step);
-    let done = departures_behind(&step, alloc, blocks, fates, carries, first, steps)?;
+    let done = departures_behind(alloc, &step, blocks, fates, carries, first, steps)?;
     Ok(done)
 }
 

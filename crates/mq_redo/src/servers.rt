@@ -48,6 +48,6 @@ pub fn served_again<L: Ledger>(
     let step = ServerStep::new(arrivals, &demands);
     carries_are_departures(&step);
     done_are_kept(&step);
-    let done = departures_behind(&step, alloc, blocks, fates, carries, first, steps)?;
+    let done = departures_behind(alloc, &step, blocks, fates, carries, first, steps)?;
     Ok(done)
 }

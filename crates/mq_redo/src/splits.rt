@@ -58,7 +58,7 @@ pub fn routed_again<L: Ledger>(
     let step = RouteStep::new(route, &values);
     done_are_kept(&step);
     let stay = first_outs(alloc, outs, first * blocks.block, jobs)?;
-    let done = redone_behind(&step, alloc, blocks, stay, carries, first, steps)?;
+    let done = redone_behind(alloc, &step, blocks, stay, carries, first, steps)?;
     let outs = narrow_outs(alloc, &done.times)?;
     let streams = streams_by(
         alloc,

@@ -47,6 +47,6 @@ pub fn staged_again<L: Ledger>(
     let step = TandemStep::new(arrivals, &scan.demands, &scan.places);
     carries_hold_departures(&step);
     done_are_kept(&step);
-    let done = departures_behind(&step, alloc, blocks, fates, carries, first, steps)?;
+    let done = departures_behind(alloc, &step, blocks, fates, carries, first, steps)?;
     Ok(done)
 }

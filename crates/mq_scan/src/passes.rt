@@ -23,8 +23,8 @@ pub fn summarise<P: Step>(step: &P, from: u32, to: u32) -> P::Summary
 /// The carry before each block, where the items are the summaries of the blocks of one cut of all
 /// jobs, the first of them or all. It refuses for want of memory alone.
 pub fn carries<P: Step>(
-    step: &P,
     alloc: Global,
+    step: &P,
     sums: &List<P::Summary>,
 ) -> Result<List<P::Carry>, OutOfMemory>
     requires { (block : ℕ) × AreSummaries P.joined (P.part step.now) (P.size step.now) block sums.now }
@@ -43,8 +43,8 @@ pub fn carries<P: Step>(
 /// The carry after each job from one index up to another, where `carry` is the one before them. There
 /// is one at least. It refuses for want of memory alone.
 pub fn apply<P: Step>(
-    step: &P,
     alloc: Global,
+    step: &P,
     from: u32,
     to: u32,
     carry: P::Carry,
@@ -63,8 +63,8 @@ pub fn apply<P: Step>(
 /// The time that is read of the carry after each job from one index up to another, where `carry` is
 /// the one before them. There is one at least. It refuses for want of memory alone.
 pub fn times<P: Timed>(
-    step: &P,
     alloc: Global,
+    step: &P,
     from: u32,
     to: u32,
     carry: P::Carry,
@@ -122,7 +122,7 @@ fn push_carries<P: Step>(
 
 /// The carry after each job, block after block. It refuses for want of memory alone.
 // One thread knows the carry before each block when it comes there, and so needs no summaries.
-pub fn scan<P: Step>(step: &P, alloc: Global, block: u32) -> Result<List<P::Carry>, OutOfMemory>
+pub fn scan<P: Step>(alloc: Global, step: &P, block: u32) -> Result<List<P::Carry>, OutOfMemory>
     requires { 1 ≤ block }
     ensures { IfOk result (λ after. after ≡ carries_after P.acted (P.start step.now) (P.part step.now) 0 (P.size step.now)) }
 {
@@ -138,7 +138,7 @@ pub fn scan<P: Step>(step: &P, alloc: Global, block: u32) -> Result<List<P::Carr
 
 /// The time that is read of the carry after each job, block after block. It refuses for want of
 /// memory alone.
-pub fn scan_times<P: Timed>(step: &P, alloc: Global, block: u32) -> Result<List<u64>, OutOfMemory>
+pub fn scan_times<P: Timed>(alloc: Global, step: &P, block: u32) -> Result<List<u64>, OutOfMemory>
     requires { 1 ≤ block }
     ensures { IfOk result (λ times. times ≡ map (P.time_of step.now) (carries_after P.acted (P.start step.now) (P.part step.now) 0 (P.size step.now))) }
 {

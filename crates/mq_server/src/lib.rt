@@ -54,7 +54,7 @@ pub fn departures_behind(
 fn departures_of(alloc: Global, step: &ServerStep) -> Result<List<u64>, OutOfMemory>
     ensures { IfOk result (λ departs. departs ≡ lindley 0 step.now.arrive.now step.now.demands.now) }
 {
-    scan_times(step, alloc, BLOCK)
+    scan_times(alloc, step, BLOCK)
 }
 
 /// Law. The carries of the fold of a server's jobs, of each the time, are Lindley's departures.

@@ -1,6 +1,6 @@
 -- A visit that departs after the bound.
 use Rattle.mq_core.specs.Results.{Late}
-use Rattle.mq_stations.specs.declared.late.PastFault.{PastFault}
+use Rattle.mq_core.specs.declared.refusals.PastFault.{PastFault}
 
 -- the visit that a fault names
 abbrev pub late_told : PastFault → Late

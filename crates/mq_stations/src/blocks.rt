@@ -31,7 +31,7 @@ pub fn before_of<P: Step>(
     ensures len { IfOk result (λ before. length before ≡ blocks.now.blocks) }
     ensures each { IfOk result (λ before. AreBefore P.acted (P.start step.now) (P.part step.now) blocks.now.block before) }
 {
-    carries(step, alloc, sums)
+    carries(alloc, step, sums)
 }
 
 /// When the jobs of block `b` of a cut of all jobs depart, in ticks, from the carry before each block. It
@@ -50,7 +50,7 @@ pub fn applied<P: Timed>(
     ensures { IfOk result (λ times. AreTimesOf (P.time_of step.now) P.acted (P.start step.now) (P.part step.now) blocks.now b times) }
 {
     let (from, to) = blocks.range(b);
-    times(step, alloc, from, to, *before.get(b as usize))
+    times(alloc, step, from, to, *before.get(b as usize))
 }
 
 /// When all jobs depart, in ticks, of the departures of each block, one after another. It refuses for want

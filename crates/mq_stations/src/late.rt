@@ -8,27 +8,7 @@ ghost use Rattle.mq_core.specs.declared.model.Fate.TheVariants.{Departs};
 ghost use Rattle.mq_stations.specs.Late.{late_told};
 
 use mq_base::List;
-use mq_core::Fate;
-
-/// A visit that departs after the bound.
-#[derive(Clone, Copy, PartialEq, Eq)]
-pub struct PastFault {
-    /// The node, by order of declaration, from 0.
-    pub node: u32,
-    /// The position of the visit among those to the node, from 0.
-    pub position: u32,
-    /// When it departs, in ticks.
-    pub time: u64,
-}
-
-/// A node with more visits than the 1,048,576 that it may have.
-#[derive(Clone, Copy, PartialEq, Eq)]
-pub struct OverFault {
-    /// The node, by order of declaration, from 0.
-    pub node: u32,
-    /// How many visits it has.
-    pub count: u32,
-}
+use mq_core::{Fate, PastFault};
 
 /// The first of these visits to a node, by position, that departs after the bound, if there is one. There
 /// are at most 1,048,576.

@@ -24,7 +24,7 @@ pub use blocks::{applied, before_of, joined, sum_of};
 use delay::delay_whole;
 use forkjoin::forkjoin_whole;
 pub use forkjoin::{ForkJoinScan, branch_demands, forkjoin_scan};
-pub use late::{OverFault, PastFault, first_late, first_late_in_turn, first_late_overtaken};
+pub use late::{first_late, first_late_in_turn, first_late_overtaken};
 use loss::loss_outflow;
 use mq_base::{List, OutOfMemory};
 use mq_core::{Kind, Rows, Stream};

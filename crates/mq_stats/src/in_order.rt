@@ -6,16 +6,16 @@ ghost use Rattle.mq_stats.specs.Departures.{departures_rise, stays, stays_at};
 
 use crate::occupancy::one_if_stays;
 use mq_base::{List, OutOfMemory};
-use mq_core::Fate;
+use mq_core::{Fate, Fates};
 use std::alloc::Global;
 
 /// Whether the visits that aren't lost depart in the order in which they came, and none is held.
-pub fn leave_in_order(fate: &List<Fate>) -> bool
+pub fn leave_in_order(fate: &Fates) -> bool
     ensures { result ≡ departures_rise 0 fate.now }
 {
     let mut latest = 0;
     for at in 0..fate.len() {
-        match *fate.get(at) {
+        match fate.at(at) {
             Fate::Departs(time) => {
                 if time < latest {
                     return false;
@@ -37,7 +37,7 @@ struct Gone {
 }
 
 // The same by a later time, of the visits before `to`.
-fn gone_by(fate: &List<Fate>, so_far: Gone, to: usize, time: u64) -> Gone
+fn gone_by(fate: &Fates, so_far: Gone, to: usize, time: u64) -> Gone
     requires few { length fate.now ≤ 1048576 }
     requires order { so_far.index ≤ to }
     requires within { to ≤ length fate.now }
@@ -50,7 +50,7 @@ fn gone_by(fate: &List<Fate>, so_far: Gone, to: usize, time: u64) -> Gone
 {
     let mut departed = so_far.departed;
     for index in so_far.index..to {
-        match *fate.get(index) {
+        match fate.at(index) {
             Fate::Departs(departure) => {
                 if departure > time {
                     return Gone { index, departed };
@@ -73,7 +73,7 @@ fn gone_by(fate: &List<Fate>, so_far: Gone, to: usize, time: u64) -> Gone
 pub fn found_in_order(
     alloc: Global,
     arrive: &List<u64>,
-    fate: &List<Fate>,
+    fate: &Fates,
 ) -> Result<List<u32>, OutOfMemory>
     requires even { length fate.now ≡ length arrive.now }
     requires few { length arrive.now ≤ 1048576 }
@@ -90,7 +90,7 @@ pub fn found_in_order(
     for at in 0..arrive.len() {
         gone = gone_by(fate, gone, at, *arrive.get(at));
         found.push_reserved(stayed - gone.departed);
-        stayed += one_if_stays(fate.get(at)) as u32;
+        stayed += one_if_stays(fate.at(at)) as u32;
     }
     Ok(List::from_vec(found))
 }

@@ -9,19 +9,19 @@ ghost use Rattle.mq_stats.specs.Departures.{Ascends, departures_from, is_gone, s
 
 use crate::in_order::{found_in_order, leave_in_order};
 use mq_base::{List, OutOfMemory};
-use mq_core::Fate;
+use mq_core::{Fate, Fates};
 use mq_merge::sort_by_first;
 use std::alloc::Global;
 
 // The departures, by position, each with its position.
-fn departures_of(alloc: Global, fates: &List<Fate>) -> Result<Vec<(u64, u32)>, OutOfMemory>
+fn departures_of(alloc: Global, fates: &Fates) -> Result<Vec<(u64, u32)>, OutOfMemory>
     requires few { length fates.now ≤ 1048576 }
     ensures { IfOk result (λ departures. departures.items ≡ departures_from 0 fates.now) }
 {
     let mut departures = Vec::with_capacity(alloc, fates.len())?;
     for at in 0..fates.len() {
-        if let Fate::Departs(time) = fates.get(at) {
-            departures.push_reserved((*time, at as u32));
+        if let Fate::Departs(time) = fates.at(at) {
+            departures.push_reserved((time, at as u32));
         }
     }
     Ok(departures)
@@ -29,10 +29,7 @@ fn departures_of(alloc: Global, fates: &List<Fate>) -> Result<Vec<(u64, u32)>, O
 
 /// The departures, each with the position of its visit, by time, those of one time by position. It
 /// refuses for want of memory alone.
-pub fn departures_in_order(
-    alloc: Global,
-    fates: &List<Fate>,
-) -> Result<Vec<(u64, u32)>, OutOfMemory>
+pub fn departures_in_order(alloc: Global, fates: &Fates) -> Result<Vec<(u64, u32)>, OutOfMemory>
     requires few { length fates.now ≤ 1048576 }
     ensures { IfOk result (λ departures. departures.items ≡ by_first (departures_from 0 fates.now)) }
 {
@@ -63,8 +60,8 @@ fn gone_by(departures: &[(u64, u32)], from: usize, time: u64, position: u32) -> 
 }
 
 /// 1 for a visit that isn't lost, and 0 for one that is.
-pub fn one_if_stays(fate: &Fate) -> usize
-    ensures { result ≡ cond (stays fate.now) 1 0 }
+pub fn one_if_stays(fate: Fate) -> usize
+    ensures { result ≡ cond (stays fate) 1 0 }
 {
     match fate {
         Fate::Departs(_) | Fate::Held => 1,
@@ -80,7 +77,7 @@ pub fn one_if_stays(fate: &Fate) -> usize
 /// departures are put in order: only earlier visits can have departed before a visit comes, and of
 /// those that depart at its very time the ones that come later are told by their position, so one
 /// pass over the departures in their order tells how many are gone.
-pub fn found(alloc: Global, arrive: &List<u64>, fate: &List<Fate>) -> Result<List<u32>, OutOfMemory>
+pub fn found(alloc: Global, arrive: &List<u64>, fate: &Fates) -> Result<List<u32>, OutOfMemory>
     requires even { length fate.now ≡ length arrive.now }
     requires few { length arrive.now ≤ 1048576 }
     requires arrive { Rises (λ a b. a ≤ b) arrive.now }
@@ -97,7 +94,7 @@ pub fn found(alloc: Global, arrive: &List<u64>, fate: &List<Fate>) -> Result<Lis
     for at in 0..arrive.len() {
         gone = gone_by(&departures, gone, *arrive.get(at), at as u32);
         found.push_reserved((stayed - gone) as u32);
-        stayed += one_if_stays(fate.get(at));
+        stayed += one_if_stays(fate.at(at));
     }
     Ok(List::from_vec(found))
 }

@@ -12,7 +12,7 @@ ghost use Rattle.mq_stats.specs.Ahead.{IsAhead, leaves_at_once, departure_order}
 use crate::occupancy::{departures_in_order, one_if_stays};
 use crate::passed::passed_by;
 use mq_base::{List, OutOfMemory};
-use mq_core::Fate;
+use mq_core::{Fate, Fates};
 use std::alloc::Global;
 
 /// What is known of all visits to a node, so that the number of jobs that some of them found can be
@@ -28,7 +28,7 @@ pub struct AheadTable {
 }
 
 // The departures in order.
-fn leaving_of(alloc: Global, fate: &List<Fate>) -> Result<List<u64>, OutOfMemory>
+fn leaving_of(alloc: Global, fate: &Fates) -> Result<List<u64>, OutOfMemory>
     requires few { length fate.now ≤ 1048576 }
     ensures { IfOk result (λ leaving. leaving ≡ departure_order fate.now) }
 {
@@ -48,11 +48,11 @@ fn one_if_same_time(arrive: u64, departs: u64) -> usize
 }
 
 // 1 for a visit that departs as it comes, and 0 for another.
-fn one_if_at_once(arrive: u64, fate: &Fate) -> usize
-    ensures { result ≡ cond (leaves_at_once arrive fate.now) 1 0 }
+fn one_if_at_once(arrive: u64, fate: Fate) -> usize
+    ensures { result ≡ cond (leaves_at_once arrive fate) 1 0 }
 {
     match fate {
-        Fate::Departs(time) => one_if_same_time(arrive, *time),
+        Fate::Departs(time) => one_if_same_time(arrive, time),
         Fate::Lost | Fate::Held => 0,
     }
 }
@@ -63,7 +63,7 @@ fn one_if_at_once(arrive: u64, fate: &Fate) -> usize
 pub fn ahead_of(
     alloc: Global,
     arrive: &List<u64>,
-    fate: &List<Fate>,
+    fate: &Fates,
     leaving: List<u64>,
 ) -> Result<AheadTable, OutOfMemory>
     requires even { length fate.now ≡ length arrive.now }
@@ -79,8 +79,8 @@ pub fn ahead_of(
     kept.push_reserved(0);
     still.push_reserved(0);
     for at in 0..fate.len() {
-        stayed += one_if_stays(fate.get(at));
-        at_once += one_if_at_once(*arrive.get(at), fate.get(at));
+        stayed += one_if_stays(fate.at(at));
+        at_once += one_if_at_once(*arrive.get(at), fate.at(at));
         kept.push_reserved(stayed as u32);
         still.push_reserved(at_once as u32);
     }
@@ -94,11 +94,7 @@ pub fn ahead_of(
 /// The table of the visits of these arrivals and fates, as `ahead_of`, whose departures it puts in order
 /// itself. No time of arrival falls, and no job leaves before it came. It refuses for want of memory
 /// alone.
-pub fn ahead(
-    alloc: Global,
-    arrive: &List<u64>,
-    fate: &List<Fate>,
-) -> Result<AheadTable, OutOfMemory>
+pub fn ahead(alloc: Global, arrive: &List<u64>, fate: &Fates) -> Result<AheadTable, OutOfMemory>
     requires even { length fate.now ≡ length arrive.now }
     requires few { length arrive.now ≤ 1048576 }
     requires arrive { Rises (λ a b. a ≤ b) arrive.now }

@@ -46,7 +46,7 @@ pub fn tandem_departures(
     requires stages { AreStages places.now demands.now }
     ensures { IfOk result (λ departs. departs ≡ tandem_departs places.now (map (λ _. []) places.now) stream.now.time demands.now) }
 {
-    scan_times(&TandemStep::new(stream, demands, places), alloc, BLOCK)
+    scan_times(alloc, &TandemStep::new(stream, demands, places), BLOCK)
 }
 
 /// Law. The carries of the fold of a tandem's jobs, of each the time, are its departures.

@@ -30,7 +30,7 @@ use mq_outside::{FileFault, Files, Sink};
 use mq_report::{node_tails, node_totals, report};
 use mq_stats::{NodeTotals, Percentiles, runs_have_few_visits};
 use mq_trace::{TraceFault, read_trace};
-use mq_words::{Input, Settings, UsageFault, WordsFault, settings_of};
+use mq_words::{Settings, Subject, UsageFault, WordsFault, settings_of};
 use std::alloc::Global;
 use std::thread::Threads;
 
@@ -569,9 +569,9 @@ pub fn simulate_gated<R: Threads + Sync, F: Files, O: Sink, E: Sink, G: Gate>(
         form: settings.form as u8,
         jobs: settings.jobs,
     };
-    let (model, trace) = match settings.input {
-        Input::Named { model, trace } => (model, trace),
-        Input::Made(number) => return run_made(alloc, crew, number, wanted, out, err),
+    let (model, trace) = match settings.subject {
+        Subject::Named { model, trace } => (model, trace),
+        Subject::Made(number) => return run_made(alloc, crew, number, wanted, out, err),
     };
     match accept_model(alloc, model, files) {
         Ok(plan) => {

@@ -13,13 +13,13 @@ use crate::fault::TraceFault;
 use crate::header::Header;
 use csv::ByteRecord;
 use mq_base::read_number;
-use mq_core::{Kind, Network, Node};
+use mq_core::{Network, Node, is_source};
 
 /// Whether a node is the source of this name.
 fn is_source_named(node: &Node, name: &[u8]) -> bool
     ensures { result ≡ (is_source_kind node.now.kind && bytes_eq node.now.name name.now) }
 {
-    matches!(node.kind, Kind::Source) && node.name.as_slice() == name
+    is_source(&node.kind) && node.name.as_slice() == name
 }
 
 /// The source node of this name, if there is one.

@@ -4,15 +4,15 @@ use Rattle.std.specs.Prelude.{slice_get, nat_lt, unwrap_or, is_none, option_and_
 use Rattle.std.proofs.lemmas.Bool.{lt-ltb}
 use Rattle.mq_base.specs.Text.{number_of}
 use Rattle.mq_base.proofs.lemmas.Lists.{some_inj}
-use Rattle.mq_words.specs.Matched.{HasForm, input_of}
+use Rattle.mq_words.specs.Matched.{HasForm, subject_of}
 use Rattle.mq_words.specs.Words.{AsksFor, Makes, Names, asks_made, block_asked, form_asked, made_asked, made_option, names_needed, refuses_words, usage_fault, value_of, words_left, workers_asked}
 use Rattle.mq_words.specs.declared.fault.UsageFault.TheVariants.{Workers, Block, Made, Report}
 use Rattle.mq_words.specs.declared.fault.UsageFault.TheVariants as fault
 use Rattle.mq_words.specs.declared.fault.UsageFault.{UsageFault}
 use Rattle.mq_words.specs.declared.words.Form.{Form}
 use Rattle.mq_words.specs.declared.words.Form.TheVariants as form
-use Rattle.mq_words.specs.declared.words.Input.{Input}
-use Rattle.mq_words.specs.declared.words.Input.TheVariants as input
+use Rattle.mq_words.specs.declared.words.Subject.{Subject}
+use Rattle.mq_words.specs.declared.words.Subject.TheVariants as subject
 use Rattle.mq_words.proofs.ReadWords.{neither}
 
 some_is_none : {A B : Type 0} (x : A) → Some x ≡ None → B
@@ -60,7 +60,7 @@ last : (words : List (List ℕ)) (workers block : ℕ) → refuses_words words �
 last words workers block pass names w b = rw (pass, names, w, b) refl
 
 pub no_made : (words : List (List ℕ)) (workers block : ℕ) (f : Form) → refuses_words words ≡ false → workers_asked words ≡ Some workers → block_asked words ≡ Some block
-    → HasForm words f → input_of f ≡ None → usage_fault words ≡ Some Made
+    → HasForm words f → subject_of f ≡ None → usage_fault words ≡ Some Made
 no_made words workers block (form.Names m t) pass w b h e = some_is_none _ e
 no_made words workers block (form.Made text) pass w b h e =
     last words workers block pass (names_are words (form.Made text) h) w b
@@ -70,50 +70,50 @@ no_made words workers block (form.Made text) pass w b h e =
     judged : Bool → Option UsageFault
     judged wrong = if wrong then Some Made else if is_none (form_asked words) then Some Report else None
 
-    unmapped : (o : Option ℕ) → option_map input.Made o ≡ None → o ≡ None
+    unmapped : (o : Option ℕ) → option_map subject.Made o ≡ None → o ≡ None
     unmapped None e = refl
     unmapped (Some n) e = some_is_none _ e
 
 -- where there is something to read, the number of the made input is right
-input_is_right : (words : List (List ℕ)) (f : Form) (i : Input) → HasForm words f → input_of f ≡ Some i → (asks_made words && is_none (made_asked words)) ≡ false
-input_is_right words (form.Names m t) i h e = ap (λ b. b && is_none (made_asked words)) h.0
-input_is_right words (form.Made text) i h e =
+subject_is_right : (words : List (List ℕ)) (f : Form) (i : Subject) → HasForm words f → subject_of f ≡ Some i → (asks_made words && is_none (made_asked words)) ≡ false
+subject_is_right words (form.Names m t) i h e = ap (λ b. b && is_none (made_asked words)) h.0
+subject_is_right words (form.Made text) i h e =
     ap (λ (o : Option (List ℕ)). asks_made words && is_none (option_and_then (λ t. number_of t (2 ^ 64 - 1)) o)) h.0
     ∙ go (asks_made words) (number_of text.now (2 ^ 64 - 1)) e
   where
-    go : (b : Bool) (o : Option ℕ) → option_map input.Made o ≡ Some i → (b && is_none o) ≡ false
+    go : (b : Bool) (o : Option ℕ) → option_map subject.Made o ≡ Some i → (b && is_none o) ≡ false
     go b None e = some_is_none i (sym e)
     go true (Some n) e = refl
     go false (Some n) e = refl
 
 -- the form of the report is judged last
-by_report : (words : List (List ℕ)) (workers block : ℕ) (f : Form) (i : Input) → refuses_words words ≡ false → workers_asked words ≡ Some workers
-    → block_asked words ≡ Some block → HasForm words f → input_of f ≡ Some i → usage_fault words ≡ (if is_none (form_asked words) then Some Report else None)
+by_report : (words : List (List ℕ)) (workers block : ℕ) (f : Form) (i : Subject) → refuses_words words ≡ false → workers_asked words ≡ Some workers
+    → block_asked words ≡ Some block → HasForm words f → subject_of f ≡ Some i → usage_fault words ≡ (if is_none (form_asked words) then Some Report else None)
 by_report words workers block f i pass w b h e = last words workers block pass (names_are words f h) w b
-    ∙ ap (λ wrong. if wrong then Some Made else if is_none (form_asked words) then Some Report else None) (input_is_right words f i h e)
+    ∙ ap (λ wrong. if wrong then Some Made else if is_none (form_asked words) then Some Report else None) (subject_is_right words f i h e)
 
-pub no_report : (words : List (List ℕ)) (workers block : ℕ) (f : Form) (i : Input) → refuses_words words ≡ false → workers_asked words ≡ Some workers
-    → block_asked words ≡ Some block → HasForm words f → input_of f ≡ Some i → form_asked words ≡ None → usage_fault words ≡ Some Report
+pub no_report : (words : List (List ℕ)) (workers block : ℕ) (f : Form) (i : Subject) → refuses_words words ≡ false → workers_asked words ≡ Some workers
+    → block_asked words ≡ Some block → HasForm words f → subject_of f ≡ Some i → form_asked words ≡ None → usage_fault words ≡ Some Report
 no_report words workers block f i pass w b h e none = by_report words workers block f i pass w b h e ∙ ap (λ (o : Option ℕ). if is_none o then Some Report else None) none
 
-pub asks_for : (words : List (List ℕ)) (workers block report : ℕ) (f : Form) (i : Input) → refuses_words words ≡ false → workers_asked words ≡ Some workers
-    → block_asked words ≡ Some block → form_asked words ≡ Some report → HasForm words f → input_of f ≡ Some i → AsksFor words i
+pub asks_for : (words : List (List ℕ)) (workers block report : ℕ) (f : Form) (i : Subject) → refuses_words words ≡ false → workers_asked words ≡ Some workers
+    → block_asked words ≡ Some block → form_asked words ≡ Some report → HasForm words f → subject_of f ≡ Some i → AsksFor words i
 asks_for words workers block report f i pass w b r h e = go f h e
     (by_report words workers block f i pass w b h e ∙ ap (λ (o : Option ℕ). if is_none o then Some Report else None) r)
   where
-    go : (f : Form) → HasForm words f → input_of f ≡ Some i → usage_fault words ≡ None → AsksFor words i
+    go : (f : Form) → HasForm words f → subject_of f ≡ Some i → usage_fault words ≡ None → AsksFor words i
     go (form.Names m t) h e passes = subst (AsksFor words) (some_inj _ i e) (record { accepted = passes; named = h.1 })
     go (form.Made text) h e passes = made (number_of text.now (2 ^ 64 - 1)) (ap (option_and_then (λ t. number_of t (2 ^ 64 - 1))) h.0) e
       where
-        made : (o : Option ℕ) → made_asked words ≡ o → option_map input.Made o ≡ Some i → AsksFor words i
+        made : (o : Option ℕ) → made_asked words ≡ o → option_map subject.Made o ≡ Some i → AsksFor words i
         made None asked e = some_is_none i (sym e)
         made (Some n) asked e = subst (AsksFor words) (some_inj _ i e) (record { accepted = passes; made = asked })
 
 -- ---- what accepted words ask for
 
-pub accepted : (words : List (List ℕ)) (i : Input) → AsksFor words i → usage_fault words ≡ None
-accepted words (input.Named m t) asked = asked.accepted
-accepted words (input.Made number) asked = asked.accepted
+pub accepted : (words : List (List ℕ)) (i : Subject) → AsksFor words i → usage_fault words ≡ None
+accepted words (subject.Named m t) asked = asked.accepted
+accepted words (subject.Made number) asked = asked.accepted
 
 -- the words name one model and one trace
 pub same_names : (words : List (List ℕ)) (m t n u : List ℕ) → Names words m t → Names words n u → (m ≡ n) × (t ≡ u)

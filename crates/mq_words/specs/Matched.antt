@@ -6,8 +6,8 @@ use Rattle.mq_base.specs.Text.{number_of}
 use Rattle.mq_words.specs.Words.{asks_made, block_option, jobs_asked, made_option, report_option, value_of, words_left, workers_option}
 use Rattle.mq_words.specs.declared.words.Form.{Form}
 use Rattle.mq_words.specs.declared.words.Form.TheVariants as form
-use Rattle.mq_words.specs.declared.words.Input.{Input}
-use Rattle.mq_words.specs.declared.words.Input.TheVariants as input
+use Rattle.mq_words.specs.declared.words.Subject.{Subject}
+use Rattle.mq_words.specs.declared.words.Subject.TheVariants as subject
 
 -- each option has the word directly behind it, the flag is set where it stands, and of the words left the first is the
 -- model's name and the second the trace's
@@ -26,6 +26,6 @@ HasForm words (form.Names model trace) = (asks_made words ≡ false) × (words_l
 HasForm words (form.Made text) = (value_of made_option words ≡ Some text.now) × (words_left words ≡ [])
 
 -- what is to be read, unless the text for the number of the made input isn't one
-abbrev pub input_of : Form → Option Input
-input_of (form.Names model trace) = Some (input.Named model trace)
-input_of (form.Made text) = option_map input.Made (number_of text.now (2 ^ 64 - 1))
+abbrev pub subject_of : Form → Option Subject
+subject_of (form.Names model trace) = Some (subject.Named model trace)
+subject_of (form.Made text) = option_map subject.Made (number_of text.now (2 ^ 64 - 1))

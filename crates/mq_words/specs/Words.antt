@@ -6,8 +6,8 @@ use Rattle.mq_words.specs.declared.fault.UsageFault.{UsageFault}
 use Rattle.mq_words.specs.declared.fault.UsageFault.TheVariants.{Words, Form, Workers, Block, Made, Report}
 use Rattle.mq_words.specs.declared.fault.WordsFault.{WordsFault}
 use Rattle.mq_words.specs.declared.fault.WordsFault.TheVariants.{Usage, Memory}
-use Rattle.mq_words.specs.declared.words.Input.{Input}
-use Rattle.mq_words.specs.declared.words.Input.TheVariants as input
+use Rattle.mq_words.specs.declared.words.Subject.{Subject}
+use Rattle.mq_words.specs.declared.words.Subject.TheVariants as subject
 use Rattle.mq_words.specs.declared.words.Settings.{Settings}
 
 -- the options: four that take a value, and a flag
@@ -140,15 +140,15 @@ pub record Makes (words : List (List ℕ)) (number : ℕ) : Type 0 where
   pub accepted : usage_fault words ≡ None
   pub made : made_asked words ≡ Some number
 
--- the words are accepted, and ask for this input
-abbrev pub AsksFor : List (List ℕ) → Input → Type 0
-AsksFor words (input.Named model trace) = Names words model.now trace.now
-AsksFor words (input.Made number) = Makes words number
+-- the words are accepted, and ask for this
+abbrev pub AsksFor : List (List ℕ) → Subject → Type 0
+AsksFor words (subject.Named model trace) = Names words model.now trace.now
+AsksFor words (subject.Made number) = Makes words number
 
 -- the words are accepted, and ask for these settings
 pub record Asks (words : List (List ℕ)) (s : Settings) : Type 0 where
   pub accepted : usage_fault words ≡ None
-  pub input : AsksFor words s.input
+  pub subject : AsksFor words s.subject
   pub workers : workers_asked words ≡ Some s.workers
   pub block : block_asked words ≡ Some s.block
   pub form : form_asked words ≡ Some s.form

@@ -6,4 +6,4 @@ mod rule;
 mod words;
 
 pub use fault::{UsageFault, WordsFault};
-pub use words::{Input, Settings, settings_of};
+pub use words::{Settings, Subject, settings_of};

@@ -3,7 +3,7 @@ ghost use Rattle.std.specs.Prelude.{◌≡◌, ℕ, List, Some, false, option_ma
 ghost use Rattle.clap.specs.Matches.{found_of};
 ghost use Rattle.clap.specs.Values.{kind_of};
 ghost use Rattle.mq_base.specs.Text.{texts};
-ghost use Rattle.mq_words.specs.Matched.{Finds, HasForm, input_of as input_of_form};
+ghost use Rattle.mq_words.specs.Matched.{Finds, HasForm, subject_of as subject_of_form};
 ghost use Rattle.mq_words.specs.Words.{Asks, number_asked, refuses_words as refuses_words_of, usage_fault, RefusesWords};
 
 use crate::fault::{UsageFault, WordsFault};
@@ -15,7 +15,7 @@ use std::alloc::Global;
 
 /// What is to be read.
 #[derive(Clone, Copy)]
-pub enum Input<'a> {
+pub enum Subject<'a> {
     /// Two files.
     Named {
         /// The name of the model's file.
@@ -31,7 +31,7 @@ pub enum Input<'a> {
 #[derive(Clone, Copy)]
 pub struct Settings<'a> {
     /// What is to be read.
-    pub input: Input<'a>,
+    pub subject: Subject<'a>,
     /// How many workers, from 1 to 64; 4 where the words don't say.
     pub workers: u64,
     /// How many jobs a block has, from 1 to 65,536; 4,096 where the words don't say.
@@ -89,13 +89,13 @@ fn form_of<'a>(matches: &ArgMatches<'a>) -> Option<Form<'a>>
 }
 
 // What is to be read, unless the text behind `--made` is no number.
-fn input_of<'a>(form: Form<'a>) -> Option<Input<'a>>
-    ensures { result ≡ input_of_form form.entry }
+fn subject_of<'a>(form: Form<'a>) -> Option<Subject<'a>>
+    ensures { result ≡ subject_of_form form.entry }
 {
     match form {
-        Form::Names { model, trace } => Some(Input::Named { model, trace }),
+        Form::Names { model, trace } => Some(Subject::Named { model, trace }),
         Form::Made(text) => match read_number(text.as_bytes(), u64::MAX) {
-            Some(number) => Some(Input::Made(number)),
+            Some(number) => Some(Subject::Made(number)),
             None => None,
         },
     }
@@ -138,7 +138,7 @@ fn settings_in<'a>(matches: &ArgMatches<'a>) -> Result<Settings<'a>, UsageFault>
     let Some(block) = number_of(matches.get_str("block"), 4_096, 1, 65_536) else {
         return Err(UsageFault::Block);
     };
-    let Some(input) = input_of(form) else {
+    let Some(subject) = subject_of(form) else {
         return Err(UsageFault::Made);
     };
     let Some(report) = number_of(matches.get_str("report"), 2, 1, 2) else {
@@ -146,7 +146,7 @@ fn settings_in<'a>(matches: &ArgMatches<'a>) -> Result<Settings<'a>, UsageFault>
     };
     let jobs = matches.get_flag("jobs");
     Ok(Settings {
-        input,
+        subject,
         workers,
         block,
         form: report,

@@ -2,18 +2,18 @@ use Rattle.std.proofs.Common.{List, [], ◌∷◌, ap, arith, length, length-app
 use Rattle.std.specs.List.{AllByRecursion}
 use Rattle.mq_crew.specs.Crew.{AreGroups}
 use Rattle.mq_crew.proofs.lemmas.Groups.{passing-last, passing-more}
-use Rattle.mq_exits.specs.Exits.{IsReadyExit}
+use Rattle.mq_exits.specs.Exits.{IsReadyCompletion}
 use Rattle.mq_exits.specs.declared.exits.Closed.{Closed}
 use Rattle.mq_exits.specs.declared.exits.Emptied.{Emptied}
 use Rattle.mq_exits.proofs.Emptying.{IsEmptiedOf, IsGivenOf, emptied_piece, emptied_size, result-of}
 use Rattle.mq_exits.proofs.ended.Goals as goal
 
 pub result_of-requires-clause-group : goal.result_of-requires-clause-group
-result_of-requires-clause-group c = (passing-last emptied_size emptied_piece IsReadyExit (λ node_result. Unit {0}) IsEmptiedOf IsGivenOf _ _ _ _ _ _ _ _ c.loop-emptied.invariant c.in-Some.ensures.items c.in-Some-pop.ensures.items).1
+result_of-requires-clause-group c = (passing-last emptied_size emptied_piece IsReadyCompletion (λ node_result. Unit {0}) IsEmptiedOf IsGivenOf _ _ _ _ _ _ _ _ c.loop-emptied.invariant c.in-Some.ensures.items c.in-Some-pop.ensures.items).1
 
 pub loop-emptied-preserved : goal.loop-emptied-preserved
 loop-emptied-preserved c =
-    passing-more emptied_size emptied_piece IsReadyExit (λ node_result. Unit {0}) IsEmptiedOf IsGivenOf _ _ _ _ _ _ _ _ _ _ c.loop-emptied.invariant c.in-Some.ensures.items c.in-Some-pop.ensures.items tt
+    passing-more emptied_size emptied_piece IsReadyCompletion (λ node_result. Unit {0}) IsEmptiedOf IsGivenOf _ _ _ _ _ _ _ _ _ _ c.loop-emptied.invariant c.in-Some.ensures.items c.in-Some-pop.ensures.items tt
     (λ w h. result-of w c.in-Some.emptied c.in-Ok.node_result h c.in-Ok.ensures.number c.in-Ok.ensures.known) c.in_ok-push-in-Ok.ensures.ok
 
 pub returns-clause-known : goal.returns-clause-known
@@ -21,7 +21,7 @@ returns-clause-known c plan rows ready h = (c.loop-emptied.invariant.of (plan, r
 
 pub loop-emptied-init : goal.loop-emptied-init
 loop-emptied-init c = record {
-  fits = subst (AllByRecursion IsReadyExit) (sym c.into_vec-those_emptied.ensures) c.requires.ready;
+  fits = subst (AllByRecursion IsReadyCompletion) (sym c.into_vec-those_emptied.ensures) c.requires.ready;
   groups = subst (λ (z : List Emptied × List (List Closed)). AreGroups emptied_size emptied_piece z.0 z.1) (λ k. (sym c.into_vec-those_emptied.ensures k, sym c.into_vec-groups.ensures k)) c.requires.groups;
   len = let none = ap length c.new-results.ensures in omega arith;
   made = subst (AllByRecursion (λ node_result. Unit {0})) (sym c.new-results.ensures) tt;
@@ -29,7 +29,7 @@ loop-emptied-init c = record {
 }
 
 pub result_of-requires-clause-ready : goal.result_of-requires-clause-ready
-result_of-requires-clause-ready c = (passing-last emptied_size emptied_piece IsReadyExit (λ node_result. Unit {0}) IsEmptiedOf IsGivenOf _ _ _ _ _ _ _ _ c.loop-emptied.invariant c.in-Some.ensures.items c.in-Some-pop.ensures.items).0
+result_of-requires-clause-ready c = (passing-last emptied_size emptied_piece IsReadyCompletion (λ node_result. Unit {0}) IsEmptiedOf IsGivenOf _ _ _ _ _ _ _ _ c.loop-emptied.invariant c.in-Some.ensures.items c.in-Some-pop.ensures.items).0
 
 pub unreachable-requires : goal.unreachable-requires
 unreachable-requires c =

@@ -181,7 +181,7 @@ fn visits_find(
     requires fate { AllByRecursion (λ p. LeavesFrom p.0 p.1) (zip arrive.now fate.now) }
 {
     let arrive = list(alloc, arrive)?;
-    let fate = list(alloc, fate)?;
+    let fate = Fates::each(list(alloc, fate)?);
     let founds = found(alloc, &arrive, &fate)?;
     Ok(founds.as_slice() == wanted)
 }
@@ -252,10 +252,7 @@ fn piece_tells(
 // Whether the table of three visits is this, and those from the second on found so many.
 fn table_tells(alloc: Global, table: &Lists, wanted: &[u32]) -> Result<bool, OutOfMemory> {
     let arrive = list(alloc, &[0u64, 3, 3])?;
-    let fate = list(
-        alloc,
-        &[Fate::Departs(5), Fate::Departs(3), Fate::Departs(3)],
-    )?;
+    let fate = Fates::departures(list(alloc, &[5u64, 3, 3])?);
     let ahead = ahead(alloc, &arrive, &fate)?;
     let found = piece_tells(alloc, &arrive, &ahead, table, wanted);
     drop(ahead);

@@ -43,7 +43,7 @@ fn block_gives(
 ) -> Result<bool, OutOfMemory>
     requires { 1 ≤ block }
 {
-    let after = scan(step, alloc, block)?;
+    let after = scan(alloc, step, block)?;
     Ok(after.as_slice() == wanted)
 }
 
@@ -106,7 +106,7 @@ fn sums_are(
 // Whether these are the departures before the blocks of two jobs.
 fn carries_are(alloc: Global, step: &ServerStep, wanted: &[Mp]) -> Result<bool, OutOfMemory> {
     let sums = sums_of(alloc, step, 2)?;
-    let before = carries(step, alloc, &sums)?;
+    let before = carries(alloc, step, &sums)?;
     Ok(before.as_slice() == wanted)
 }
 
@@ -115,7 +115,7 @@ fn second_block_gives(alloc: Global, step: &ServerStep, wanted: &[Mp]) -> Result
     requires arrive { step.now.arrive.now ≡ 0 ∷ 1 ∷ 2 ∷ [] }
     requires demands { step.now.demands.now ≡ 4 ∷ 1 ∷ 3 ∷ [] }
 {
-    let after = apply(step, alloc, 2, 3, Mp::At(5))?;
+    let after = apply(alloc, step, 2, 3, Mp::At(5))?;
     Ok(after.as_slice() == wanted)
 }
 

@@ -2,7 +2,7 @@ use Rattle.std.proofs.Common.{List, ℕ, [], ◌∷◌, length, ap, subst, sym, 
 use Rattle.std.specs.List.{AllByRecursion}
 use Rattle.mq_crew.specs.Crew.{AreGroups}
 use Rattle.mq_crew.proofs.lemmas.Groups.{passing-last, passing-more}
-use Rattle.mq_exits.specs.Exits.{IsReadyExit}
+use Rattle.mq_exits.specs.Exits.{IsReadyCompletion}
 use Rattle.mq_exits.specs.Loads.{IsLoadOf}
 use Rattle.mq_exits.specs.declared.load.Held.{Held}
 use Rattle.mq_engine.specs.Loads.{IsReadyMiddle}
@@ -12,16 +12,16 @@ use Rattle.mq_engine.proofs.ready.all_emptied.Goals as goal
 
 pub emptied_of-requires-clause-ready : goal.emptied_of-requires-clause-ready
 emptied_of-requires-clause-ready g c κs inside =
-    (passing-last middle_size middle_piece IsReadyMiddle IsReadyExit IsMiddleOf IsEmptiedOf _ _ _ _ _ _ _ _ c.loop-middle.invariant.are c.in-Some.ensures.items c.in-Some-pop.ensures.items).0
+    (passing-last middle_size middle_piece IsReadyMiddle IsReadyCompletion IsMiddleOf IsEmptiedOf _ _ _ _ _ _ _ _ c.loop-middle.invariant.are c.in-Some.ensures.items c.in-Some-pop.ensures.items).0
 
 pub emptied_of-requires-clause-group : goal.emptied_of-requires-clause-group
 emptied_of-requires-clause-group g c κs inside =
-    (passing-last middle_size middle_piece IsReadyMiddle IsReadyExit IsMiddleOf IsEmptiedOf _ _ _ _ _ _ _ _ c.loop-middle.invariant.are c.in-Some.ensures.items c.in-Some-pop.ensures.items).1
+    (passing-last middle_size middle_piece IsReadyMiddle IsReadyCompletion IsMiddleOf IsEmptiedOf _ _ _ _ _ _ _ _ c.loop-middle.invariant.are c.in-Some.ensures.items c.in-Some-pop.ensures.items).1
 
 pub loop-middle-preserved : goal.loop-middle-preserved
 loop-middle-preserved g c =
     record {
-      are = passing-more middle_size middle_piece IsReadyMiddle IsReadyExit IsMiddleOf IsEmptiedOf _ _ _ _ _ _ _ _ _ _ c.loop-middle.invariant.are c.in-Some.ensures.items c.in-Some-pop.ensures.items c.in-Ok-emptied_of.ensures.ready
+      are = passing-more middle_size middle_piece IsReadyMiddle IsReadyCompletion IsMiddleOf IsEmptiedOf _ _ _ _ _ _ _ _ _ _ c.loop-middle.invariant.are c.in-Some.ensures.items c.in-Some-pop.ensures.items c.in-Ok-emptied_of.ensures.ready
           (λ w h. subst (λ (l : Held). IsLoadOf w.0 w.1 w.2 l) (sym c.in-Ok-emptied_of.ensures.same) h) c.push_reserved.ensures.items;
       room = let room = c.loop-middle.invariant.room in let same = c.push_reserved.ensures.capacity in omega arith;
     }
@@ -44,7 +44,7 @@ loop-middle-init g c = record {
     fits = subst (AllByRecursion IsReadyMiddle) (sym c.into_vec-middles.ensures) c.requires.ready;
     groups = subst (λ (z : List Middle × List (List (List ℕ))). AreGroups middle_size middle_piece z.0 z.1) (λ k. (sym c.into_vec-middles.ensures k, sym c.into_vec-groups.ensures k)) c.requires.groups;
     len = let none = ap length c.in-Ok.ensures.items in omega arith;
-    made = subst (AllByRecursion IsReadyExit) (sym c.in-Ok.ensures.items) tt;
+    made = subst (AllByRecursion IsReadyCompletion) (sym c.in-Ok.ensures.items) tt;
     of = λ w h. (h, subst (AllByRecursion (IsEmptiedOf w)) (sym c.in-Ok.ensures.items) tt);
   };
   room =

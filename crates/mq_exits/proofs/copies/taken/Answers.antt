@@ -33,5 +33,5 @@ returns-in-Read-clause-stream c =
     λ k. record { job = job k; time = time k }
 
 pub returns-in-Read-clause-group : goal.returns-in-Read-clause-group
-returns-in-Read-clause-group c plan rows v exit all =
-    (last-two plan rows v c.args.arrivals exit _ _ _ _ _ (ap copies_of c.in-Read.is) c.last_of-time.ensures c.last_of-job.ensures all).2
+returns-in-Read-clause-group c plan rows v completion all =
+    (last-two plan rows v c.args.arrivals completion _ _ _ _ _ (ap copies_of c.in-Read.is) c.last_of-time.ensures c.last_of-job.ensures all).2

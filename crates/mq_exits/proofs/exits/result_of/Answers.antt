@@ -10,16 +10,16 @@ use Rattle.mq_exits.proofs.exits.result_of.Goals as goal
 pub taken-arrivals-requires : goal.taken-arrivals-requires
 taken-arrivals-requires c =
     let held = c.args.emptied.held in
-    let exit = c.args.emptied.exit in
-    (held.plan.now, held.rows.now, held.number, exit, subst (AreAll (IsLast held.plan.now held.rows.now held.number held.arrivals exit) (lasts_of held.arrivals exit)) (sym c.into_vec-group.ensures) c.requires.group)
+    let completion = c.args.emptied.completion in
+    (held.plan.now, held.rows.now, held.number, completion, subst (AreAll (IsLast held.plan.now held.rows.now held.number held.arrivals completion) (lasts_of held.arrivals completion)) (sym c.into_vec-group.ensures) c.requires.group)
 
 pub after_of-requires-clause-group : goal.after_of-requires-clause-group
 after_of-requires-clause-group c =
     let held = c.args.emptied.held in
-    let exit = c.args.emptied.exit in
-    let whole = subst (AreAll (IsLast held.plan.now held.rows.now held.number held.arrivals exit) (lasts_of held.arrivals exit)) (sym c.into_vec-group.ensures) c.requires.group in
-    subst (λ (z : Stream × List Closed). AreAll (IsClosed held.plan.now held.rows.now held.number z.0 exit) (closings_of exit) z.1) (λ k. (sym c.taken-arrivals.ensures.stream k, sym c.from_vec.ensures k))
-    (c.taken-arrivals.ensures.group held.plan.now held.rows.now held.number exit whole)
+    let completion = c.args.emptied.completion in
+    let whole = subst (AreAll (IsLast held.plan.now held.rows.now held.number held.arrivals completion) (lasts_of held.arrivals completion)) (sym c.into_vec-group.ensures) c.requires.group in
+    subst (λ (z : Stream × List Closed). AreAll (IsClosed held.plan.now held.rows.now held.number z.0 completion) (closings_of completion) z.1) (λ k. (sym c.taken-arrivals.ensures.stream k, sym c.from_vec.ensures k))
+    (c.taken-arrivals.ensures.group held.plan.now held.rows.now held.number completion whole)
 
 pub returns-in-Ok-clause-known : goal.returns-in-Ok-clause-known
 returns-in-Ok-clause-known c =

@@ -1,9 +1,11 @@
 use Rattle.std.proofs.Common.{ap, sym, ◌∙◌}
 use Rattle.std.specs.Option.{option_map}
-use Rattle.mq_core.specs.OnceOut.{founds_of}
 use Rattle.mq_stations.specs.Late.{late_told}
 use Rattle.mq_exits.proofs.Leavings.{late-by}
 use Rattle.mq_exits.proofs.working.seen.Goals as goal
+
+pub found_at-requires-clause-leave : goal.found_at-requires-clause-leave
+found_at-requires-clause-leave c = c.each.ensures ∙ c.requires.leaving.leave
 
 pub returns-in-Ok : goal.returns-in-Ok
 returns-in-Ok c = (
@@ -12,5 +14,5 @@ returns-in-Ok c = (
     streams_are = c.requires.leaving.outflow;
     none = late-by c.args.net.now.bound c.args.number _ _ _ (sym c.requires.leaving.leave) (c.first_late.ensures ∙ ap (option_map late_told) c.in-None.is);
   },
-  c.in-Ok.ensures ∙ ap (founds_of c.args.arrivals.now.time) (sym c.each.ensures),
+  c.in-Ok.ensures,
 )

@@ -22,10 +22,10 @@ loop-at-preserved c =
     let there : c.loop-at.stayed - c.gone_by-gone.result.departed ≡ count_by (departs_after time) (take at fates) = omega arith in
     let next : at + 1 ≡ suc at = omega arith in
     record {
-      so_far = founds-next c.loop-at.found.items c.push_reserved.new.self.items _ arrives fates at time _ _ c.get.ensures c.get-in-loop-at.ensures there c.push_reserved.ensures.items c.loop-at.invariant.so_far;
+      so_far = founds-next c.loop-at.found.items c.push_reserved.new.self.items _ arrives fates at time _ _ c.get.ensures c.at.ensures there c.push_reserved.ensures.items c.loop-at.invariant.so_far;
       len = omega arith;
       room = omega arith;
-      stayed = let more = count-next stays fates at _ c.get-in-loop-at.ensures in let one = c.one_if_stays.ensures in omega arith;
+      stayed = let more = count-next stays fates at _ c.at.ensures in let one = c.one_if_stays.ensures in omega arith;
       index = omega arith;
       departed = c.gone_by-gone.ensures.departed;
       gone = λ later h. gone-later time later (take index fates) (rises-at arrives at time later c.requires.arrive c.get.ensures (subst (λ n. slice_get arrives n ≡ Some later) next h)) c.gone_by-gone.ensures.gone;

@@ -7,12 +7,12 @@ use Rattle.mq_stats.proofs.occupancy.departures_of.Goals.{in-Departs, in_default
 
 pub loop-at-preserved : goal.loop-at-preserved
 loop-at-preserved c =
-    elim c.match-get.branch [
+    elim c.match-at.branch [
       | in-Departs w ↦
           let len = ap vec_len w.departures-is in
           let room = ap vec_capacity w.departures-is in
           record {
-            so_far = departs-next c.loop-at.departures.items c.match-get.departures.items _ c.args.fates.now c.loop-at.at w.in-Departs.time (c.get.ensures ∙ ap Some w.in-Departs.is) (ap (λ v. v.items) w.departures-is ∙ w.push_reserved.ensures.items) c.loop-at.invariant.so_far;
+            so_far = departs-next c.loop-at.departures.items c.match-at.departures.items _ c.args.fates.now c.loop-at.at w.in-Departs.time (c.at.ensures ∙ ap Some w.in-Departs.is) (ap (λ v. v.items) w.departures-is ∙ w.push_reserved.ensures.items) c.loop-at.invariant.so_far;
             len = omega arith;
             room = omega arith;
           }
@@ -22,7 +22,7 @@ loop-at-preserved c =
           record {
             so_far =
                 ap (λ v. v.items ++ departures_from (c.loop-at.at + 1) (drop (c.loop-at.at + 1) c.args.fates.now)) w.departures-is
-                ∙ none-next c.loop-at.departures.items _ c.args.fates.now c.loop-at.at _ c.get.ensures (no-departure c.loop-at.at _ w.in_default.not-Departs) c.loop-at.invariant.so_far;
+                ∙ none-next c.loop-at.departures.items _ c.args.fates.now c.loop-at.at _ c.at.ensures (no-departure c.loop-at.at _ w.in_default.not-Departs) c.loop-at.invariant.so_far;
             len = omega arith;
             room = omega arith;
           }

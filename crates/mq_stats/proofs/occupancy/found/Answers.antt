@@ -25,8 +25,8 @@ loop-at-preserved c =
     let all = told arrives fates departures at time _ _ c.requires.even c.requires.arrive c.requires.fate c.in_ok-departures.ensures c.get.ensures gone c.loop-at.invariant.stayed in
     let there : c.loop-at.stayed - c.gone_by-gone.result ≡ count_by (departs_after time) (take at fates) = omega arith in
     record {
-      so_far = founds-next c.loop-at.found.items c.push_reserved.new.self.items _ arrives fates at time _ _ c.get.ensures c.get-in-loop-at.ensures there c.push_reserved.ensures.items c.loop-at.invariant.so_far;
-      stayed = (λ k. c.loop-at.invariant.stayed k + c.one_if_stays-stayed.ensures k) ∙ sym (count-next stays fates at _ c.get-in-loop-at.ensures);
+      so_far = founds-next c.loop-at.found.items c.push_reserved.new.self.items _ arrives fates at time _ _ c.get.ensures c.at.ensures there c.push_reserved.ensures.items c.loop-at.invariant.so_far;
+      stayed = (λ k. c.loop-at.invariant.stayed k + c.one_if_stays-stayed.ensures k) ∙ sym (count-next stays fates at _ c.at.ensures);
       gone = λ later h. subst (λ n. n ≤ count_by (is_gone later (at + 1)) departures) (sym gone) (gone-next arrives departures at time later c.requires.arrive c.get.ensures h);
       len = omega arith;
       room = omega arith;

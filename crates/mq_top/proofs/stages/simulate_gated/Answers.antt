@@ -89,7 +89,7 @@ returns-in-Err-clause-named g c m t model names told_m =
 -- ---- once the model was accepted
 
 names_of : (g : Given.Over) (c : goal.After-drop g) → Names (texts c.args.words.now) c.in-Named.model.now c.in-Named.trace.now
-names_of g c = subst (AsksFor (texts c.args.words.now)) c.in-Named.is c.in-Ok.ensures.asked.input
+names_of g c = subst (AsksFor (texts c.args.words.now)) c.in-Named.is c.in-Ok.ensures.asked.subject
 
 -- the network is that of the named model, which has no fault
 read : (g : Given.Over) (c : goal.After-drop g) (m t model : List ℕ) → Names (texts c.args.words.now) m t → g.F.Files.told c.args.files.now m ≡ Some model
@@ -221,7 +221,7 @@ returns-in-Ok-accept_model-clause-named g c m t model names told_m =
 -- ---- at the model
 
 names_at_model : (g : Given.Over) (c : goal.After-put_line-in-Err-accept_model g) → Names (texts c.args.words.now) c.in-Named.model.now c.in-Named.trace.now
-names_at_model g c = subst (AsksFor (texts c.args.words.now)) c.in-Named.is c.in-Ok.ensures.asked.input
+names_at_model g c = subst (AsksFor (texts c.args.words.now)) c.in-Named.is c.in-Ok.ensures.asked.subject
 
 refused : (g : Given.Over) (c : goal.After-put_line-in-Err-accept_model g) (m t model : List ℕ) → Names (texts c.args.words.now) m t → g.F.Files.told c.args.files.now m ≡ Some model
     → RefusesModel c.in-Err-accept_model.outcome (Some model)
@@ -316,7 +316,7 @@ returns-in-Err-accept_model-clause-named g c m t model names told_m =
 -- ---- a made input
 
 makes_of : (g : Given.Over) (c : goal.After-run_made g) → Makes (texts c.args.words.now) c.in-Made.number
-makes_of g c = subst (AsksFor (texts c.args.words.now)) c.in-Made.is c.in-Ok.ensures.asked.input
+makes_of g c = subst (AsksFor (texts c.args.words.now)) c.in-Made.is c.in-Ok.ensures.asked.subject
 
 -- the answer for the number that was read is that for the number that the words ask for
 same_made : (g : Given.Over) (c : goal.After-run_made g) (number : ℕ) → Makes (texts c.args.words.now) number

@@ -7,7 +7,7 @@ use Rattle.mq_core.specs.declared.model.Node.{Node}
 use Rattle.mq_stations.specs.Leaving.{KeepsOrder}
 use Rattle.mq_exits.proofs.Leavings.{keeps-order}
 use Rattle.mq_exits.proofs.Opening.{loaded-inside}
-use Rattle.mq_exits.proofs.overtaking.left_at.Goals as goal
+use Rattle.mq_exits.proofs.overtaking.completion_by_departures.Goals as goal
 
 pub get-requires : goal.get-requires
 get-requires g c = loaded-inside _ _ _ _ c.requires.loaded

@@ -1,11 +1,11 @@
 use Rattle.std.proofs.Common.{subst, sym, arith}
 use Rattle.mq_crew.specs.Crew.{AreAll}
-use Rattle.mq_engine.specs.Loads.{IsPart, IsStage, IsWholePart, blocks_of}
+use Rattle.mq_engine.specs.Loads.{IsPart, IsInterim, IsWholePart, blocks_of}
 use Rattle.mq_engine.specs.declared.firsts.Part.TheVariants.{Whole}
-use Rattle.mq_engine.specs.declared.firsts.Stage.TheVariants.{Ended}
+use Rattle.mq_engine.specs.declared.firsts.Interim.TheVariants.{Ended}
 use Rattle.mq_engine.specs.declared.loads.Scan.{Scan}
 use Rattle.mq_engine.proofs.Scanning.{routed-group, routed-part, split-at, tandem-sound}
-use Rattle.mq_engine.proofs.firsts.stage_of.Goals as goal
+use Rattle.mq_engine.proofs.firsts.interim_of.Goals as goal
 
 pub tandem_carries-carried-requires-clause-load : goal.tandem_carries-carried-requires-clause-load
 tandem_carries-carried-requires-clause-load c = (tandem-sound _ _ _ _ _ c.in-OfTandem.scan c.requires.scanned c.in-OfTandem.is).0
@@ -16,7 +16,7 @@ returns-in-Unscanned c =
     let group = subst (λ (s : Scan). AreAll (IsPart load.plan.now load.rows.now load.number load.arrivals.now s) (blocks_of s) c.args.group) c.in-Unscanned.is c.requires.group in
     let d = Whole c.the_whole.result in
     let after = subst (IsWholePart load.plan.now load.rows.now load.number load.arrivals.now) (c.the_whole.ensures d) (group.each 0 d (omega arith)) in
-    subst (λ (s : Scan). IsStage load.plan.now load.rows.now load.number load.arrivals.now s (Ended c.the_whole.result)) (sym c.in-Unscanned.is) after
+    subst (λ (s : Scan). IsInterim load.plan.now load.rows.now load.number load.arrivals.now s (Ended c.the_whole.result)) (sym c.in-Unscanned.is) after
 
 pub tandem_sums-summed-requires : goal.tandem_sums-summed-requires
 tandem_sums-summed-requires c b d l =

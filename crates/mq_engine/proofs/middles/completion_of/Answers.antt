@@ -3,7 +3,7 @@ use Rattle.mq_crew.specs.Crew.{AreAll}
 use Rattle.mq_engine.specs.Loads.{IsApplied, applied_of}
 use Rattle.mq_engine.specs.declared.loads.Scan.{Scan}
 use Rattle.mq_engine.proofs.Scanning.{forkjoin-leaves, forkjoin-sound, server-leaves, server-sound, tandem-leaves, tandem-sound}
-use Rattle.mq_engine.proofs.middles.exit_of.Goals as goal
+use Rattle.mq_engine.proofs.middles.completion_of.Goals as goal
 
 pub server_departures-requires-clause-load : goal.server_departures-requires-clause-load
 server_departures-requires-clause-load g c κs inside = server-sound _ _ _ _ _ c.in-OfServer.demands c.requires.scanned c.in-OfServer.is
