@@ -248,7 +248,11 @@ def main(words):
     os.makedirs(PROVED, exist_ok=True)
     with open(f"{PROVED}/lock", "w") as lock:
         # One build at a time, of whatever program: a second one waits, and then finds what this one proved.
-        fcntl.flock(lock, fcntl.LOCK_EX)
+        try:
+            fcntl.flock(lock, fcntl.LOCK_EX | fcntl.LOCK_NB)
+        except BlockingIOError:
+            tell(program, "waiting for another build")
+            fcntl.flock(lock, fcntl.LOCK_EX)
         return 0 if build(program) else 1
 
 
