@@ -1,8 +1,8 @@
 #!/usr/bin/env python3
-"""Proves and builds mpsim and the crates that it stands on, side by side: one more than there are processors, where memory allows.
+"""Proves and builds a program and the crates that it stands on, side by side: one more than there are processors, where memory allows.
 
-usage: build.py          in any folder; RT names the toolchain's command, where rt is not on the path
-What has been proved before and has not changed is kept. Each crate is told on the error output as it is done.
+usage: build.py [PROGRAM]     in any folder; mpsim where no program is named. RT names the toolchain's command, where rt is not on the path
+What has been proved before and has not changed is kept, for all programs. Each crate is told on the error output as it is done.
 
 Each crate is proved from nothing over the statements of those below it, as the gate does. rt itself works on one crate at a time, and
 has each crate read all proofs below it, so this gives the toolchain's own commands. The crate with the most to prove from it up to
@@ -13,23 +13,22 @@ import fcntl
 import functools
 import hashlib
 import os
+import shutil
 import signal
 import subprocess
 import sys
 
 ROOT = os.path.dirname(os.path.realpath(__file__))
-PROGRAM = "mpsim"
-FOLDER = f"{ROOT}/crates/{PROGRAM}"
-# What is proved: the statements of each crate, and beside them of what they were made.
-PROVED = f"{FOLDER}/out/proved"
+# What is proved, whichever program it was proved for: the statements of each crate, and beside them of what they were made.
+PROVED = f"{ROOT}/crates/mpsim/out/proved"
 RT = os.environ.get("RT", "rt")
 # The memory, in bytes, that a check by one job is given; each further job takes less.
 CHECK = 2 << 30
 
 
-def tell(text):
-    """Puts a line on the error output."""
-    print(f"mpsim: {text}", file=sys.stderr, flush=True)
+def tell(program, text):
+    """Puts a line on the error output, which begins with the program's name."""
+    print(f"{program}: {text}", file=sys.stderr, flush=True)
 
 
 @functools.lru_cache(maxsize=None)
@@ -50,6 +49,11 @@ def listed():
     """The crates of crates.txt, lowest first: of each all libraries that it names."""
     rows = [line.split(":") for line in text_of(f"{ROOT}/crates.txt").splitlines() if line and not line.startswith("#")]
     return {name: uses.split() for name, uses in rows}
+
+
+def is_program(name):
+    """Whether a crate is a program, and no library."""
+    return os.path.isfile(f"{ROOT}/crates/{name}/src/main.rt")
 
 
 def below(name, uses):
@@ -126,13 +130,13 @@ def lanes():
 
 
 def made_by(name, uses, kit, jobs):
-    """The command that proves a library by so many jobs and writes its statements, or the program and writes its code."""
-    words = [f"{kit}/bin/rattle", "build", "--crate-name", name, "src/main.rt" if name == PROGRAM else "src/lib.rt"]
+    """The command that proves a library by so many jobs and writes its statements, or a program and writes its code."""
+    words = [f"{kit}/bin/rattle", "build", "--crate-name", name, "src/main.rt" if is_program(name) else "src/lib.rt"]
     for it in ["std", *uses[name]]:
         words += ["--extern", f"{it}={PROVED if it in uses else f'{kit}/rlibs'}/{it}.rlib"]
     words += ["-L", f"dependency={kit}/rlibs", "-L", f"dependency={PROVED}", "--links", f"{name}="]
     words += ["--antt-project", f"{kit}/rattle/logic/antt-project.json", "--logic-built", f"{kit}/logic_built", "--jobs", str(jobs)]
-    if name == PROGRAM:
+    if is_program(name):
         return [*words, "--toolchain", f"{kit}/toolchain", "--backend", "llvm", "-o", f"{PROVED}/{name}.o"]
     return [*words, "--statements", "-o", f"{PROVED}/{name}.rlib"]
 
@@ -152,14 +156,17 @@ def wait_for_one(checks):
         os.waitpid(ended, 0)
 
 
-def prove_all(uses, kit):
+def prove_all(program, uses, kit):
     """Proves all crates below the program and then the program. Answers whether all are proved."""
-    names = [it for it in uses if it in below(PROGRAM, uses)] + [PROGRAM]
+    names = [it for it in uses if it in below(program, uses)] + [program]
     lines, looks = {it: lines_of(it) for it in names}, {it: looks_of(it) for it in names}
     made, chain, (most, room) = stamps(names, uses), chains(lines, uses), lanes()
     done = {it for it in names if text_of(f"{PROVED}/{it}.stamp") == made[it]}
     left, running, jobs = sorted([it for it in names if it not in done], key=lambda it: -chain[it]), {}, {}
     failed = False
+    if left:
+        time = "" if done else ", some nine to fourteen minutes on four processors"
+        tell(program, f"proving {len(left)} of {len(names)} crates, once{time}")
     try:
         while running or (left and not failed):
             ready = [] if failed else [it for it in left if done >= below(it, uses)]
@@ -177,17 +184,17 @@ def prove_all(uses, kit):
                 status = running.pop(name).returncode
                 if status:
                     why = f"the check of {name} was ended by signal {-status}" if status < 0 else f"{name} is not proved"
-                    tell(f"{text_of(f'{PROVED}/{name}.log')}{why}")
+                    tell(program, f"{text_of(f'{PROVED}/{name}.log')}{why}")
                     failed = True
                     continue
                 if any(looks_of(it) != looks[it] for it in [name, *below(name, uses)]):
-                    tell(f"{name} has changed meanwhile")
+                    tell(program, f"{name} has changed meanwhile")
                     failed = True
                     continue
                 with open(f"{PROVED}/{name}.stamp", "w") as out:
                     out.write(made[name])
                 done.add(name)
-                tell(f"{name} is proved ({len(done)} of {len(names)})")
+                tell(program, f"{name} is proved ({len(done)} of {len(names)})")
     finally:
         for check in running.values():
             check.terminate()
@@ -195,37 +202,59 @@ def prove_all(uses, kit):
     return not failed
 
 
-def link(kit):
-    """Links the program. Answers whether it could, and the program gives the stored report on the stored example."""
-    program = f"{PROVED}/{PROGRAM}"
-    words = ["--target", "x86_64-unknown-linux-gnu", "--toolchain", f"{kit}/toolchain", "-o", program, f"{program}.o"]
+def link(program, kit):
+    """Links the program. Answers whether it could."""
+    words = ["--target", "x86_64-unknown-linux-gnu", "--toolchain", f"{kit}/toolchain", "-o", f"{PROVED}/{program}", f"{PROVED}/{program}.o"]
     words += [f"{kit}/c/libos_c.a", f"{kit}/c/liblibc_c.a"]
     ran = subprocess.run([f"{kit}/bin/rattle-link", *words], stdin=subprocess.DEVNULL, stdout=subprocess.PIPE, stderr=subprocess.STDOUT)
     if ran.returncode:
         sys.stderr.buffer.write(ran.stdout)
+    return ran.returncode == 0
+
+
+def does_as_stored(program):
+    """Whether the linked program does what is stored with the stored example: what it writes on its output, and its status."""
+    folder = f"{ROOT}/crates/{program}"
+    words = [f"{PROVED}/{program}", *text_of(f"{folder}/args").splitlines()]
+    ran = subprocess.run(words, cwd=f"{folder}/data", stdin=subprocess.DEVNULL, stdout=subprocess.PIPE)
+    return ran.stdout == text_of(f"{folder}/stdout").encode() and ran.returncode == int(text_of(f"{folder}/status") or 0)
+
+
+def build(program):
+    """Proves and builds the program. Answers whether it is there."""
+    kit = os.path.dirname(said("doc"))
+    if not prove_all(program, listed(), kit):
         return False
-    words = [program, *text_of(f"{FOLDER}/args").split()]
-    ran = subprocess.run(words, cwd=f"{FOLDER}/data", stdin=subprocess.DEVNULL, stdout=subprocess.PIPE)
-    return ran.returncode == 0 and ran.stdout == text_of(f"{FOLDER}/stdout").encode()
+    if not link(program, kit) or not does_as_stored(program):
+        tell(program, "the build failed")
+        return False
+    os.makedirs(f"{ROOT}/crates/{program}/out", exist_ok=True)
+    os.replace(f"{PROVED}/{program}", f"{ROOT}/crates/{program}/out/{program}")
+    return True
 
 
-def main():
+def main(words):
+    program = words[0] if words else "mpsim"
+    if len(words) > 1 or not is_program(program):
+        print("usage: build.py [PROGRAM]", file=sys.stderr)
+        return 2
+    if not shutil.which(RT):
+        tell(program, f"{RT}, the toolchain's command, is not on the path; RT names it")
+        return 1
     # A build that is stopped ends its checks too, and the status of a check is kept until it is asked for.
-    signal.signal(signal.SIGTERM, lambda *_: sys.exit(1))
+    for stop in [signal.SIGTERM, signal.SIGINT]:
+        signal.signal(stop, lambda *_: sys.exit(1))
     signal.signal(signal.SIGCHLD, signal.SIG_DFL)
     os.makedirs(PROVED, exist_ok=True)
     with open(f"{PROVED}/lock", "w") as lock:
-        # One build at a time: a second one waits, and then finds what this one proved.
-        fcntl.flock(lock, fcntl.LOCK_EX)
-        kit = os.path.dirname(said("doc"))
-        if not prove_all(listed(), kit):
-            return 1
-        if not link(kit):
-            tell("the build failed")
-            return 1
-        os.replace(f"{PROVED}/{PROGRAM}", f"{FOLDER}/out/{PROGRAM}")
-    return 0
+        # One build at a time, of whatever program: a second one waits, and then finds what this one proved.
+        try:
+            fcntl.flock(lock, fcntl.LOCK_EX | fcntl.LOCK_NB)
+        except BlockingIOError:
+            tell(program, "waiting for another build")
+            fcntl.flock(lock, fcntl.LOCK_EX)
+        return 0 if build(program) else 1
 
 
 if __name__ == "__main__":
-    sys.exit(main())
+    sys.exit(main(sys.argv[1:]))

@@ -1,5 +1,5 @@
-// An allocator that refuses one allocation: that of the number REFUSED, from 1, of the program that loads it. The file TOLD is
-// there afterwards exactly where it has refused. The gate builds it with the kit's compiler, which has no headers.
+// What refuses the program that loads it one allocation, that of the number REFUSED, from 1, or each thread behind the first THREADS.
+// The file TOLD is there afterwards exactly where it has refused. The gate builds it with the kit's compiler, which has no headers.
 typedef unsigned long size;
 
 extern void *__libc_malloc(size), *__libc_calloc(size, size), *__libc_realloc(void *, size), *__libc_memalign(size, size);
@@ -7,18 +7,20 @@ extern char *getenv(const char *);
 extern size strtoul(const char *, char **, int);
 extern int creat(const char *, unsigned), unlink(const char *);
 extern int *__errno_location(void);
+extern void *dlsym(void *, const char *);
 
-enum { NO_MEMORY = 12 };
+enum { NO_THREAD = 11, NO_MEMORY = 12 };
 
-static size refused, count;
+static size refused, count, threads = -1, started;
 static const char *told;
 
 __attribute__((constructor)) static void begin(void) {
-    const char *number = getenv("REFUSED");
+    const char *number = getenv("REFUSED"), *most = getenv("THREADS");
     told = getenv("TOLD");
-    if (number && told) {
+    if (told) {
         unlink(told);
-        refused = strtoul(number, 0, 10);
+        refused = number ? strtoul(number, 0, 10) : refused;
+        threads = most ? strtoul(most, 0, 10) : threads;
     }
 }
 
@@ -46,4 +48,15 @@ int posix_memalign(void **to, size align, size bytes) {
         *to = room;
     }
     return room ? 0 : NO_MEMORY;
+}
+
+typedef int starts(size *, const void *, void *(*)(void *), void *);
+
+int pthread_create(size *thread, const void *how, void *(*run)(void *), void *with) {
+    if (__atomic_add_fetch(&started, 1, __ATOMIC_SEQ_CST) > threads) {
+        creat(told, 0600);
+        return NO_THREAD;
+    }
+    // the next library's function of this name, which is the C library's
+    return ((starts *)dlsym((void *)-1, "pthread_create"))(thread, how, run, with);
 }

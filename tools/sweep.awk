@@ -1,25 +1,37 @@
-# Makes a table of a sweep, a line for each model and each of its nodes, to be read by a spreadsheet:
-#     mpsweep TRACE MODEL.. | awk -v node=NAME -f tools/sweep.awk >table.csv
-# Without -v node every node has its line. A model whose run was refused has one line, with its status and the line that says why.
+# Makes a table of a sweep, a row for each scenario and each of its nodes, to be read by a spreadsheet:
+#     mpsweep TRACE MODEL.. | awk -f tools/sweep.awk >table.csv
+# With -v node=NAME that node alone has rows. With -v models="$(echo MODEL..)" each row has the name of its model, where the names have no blanks.
+# A model whose run was refused has one row, with its status, and in the last column the line that says why. Where there is no sweep the status is 1.
 BEGIN {
     OFS = ","
-    print "scenario,status,node,kind,in,out,lost,held,wait,max,p50,p90,p99,busy,area,peak,util"
+    split(models, model, " ")
+    print "scenario,model,status,node,kind,in,out,lost,held,wait,max,p50,p90,p99,busy,area,peak,util,line"
 }
 
-$1 == "scenario" && $3 == "status" && NF == 4 {
+# A field of the table.
+function field(text) {
+    gsub(/"/, "\"\"", text)
+    return text ~ /[",]/ ? "\"" text "\"" : text
+}
+
+$1 == "scenario" && NF == 4 {
     scenario = $2
     status = $4
+    begins = scenario OFS field(model[scenario]) OFS status
     next
 }
 
 status != 0 {
-    gsub(/"/, "\"\"")
-    print scenario, status, "\"" $0 "\""
+    print begins ",,,,,,,,,,,,,,," OFS field($0)
     next
 }
 
 $1 == "node" && (node == "" || $2 == node) {
-    line = scenario OFS status OFS $2 OFS $3
-    for (i = 5; i <= NF; i += 2) line = line OFS $i
-    print line
+    row = begins OFS $2 OFS $3
+    for (at = 5; at <= NF; at += 2) row = row OFS ($at == "-" ? "" : $at)
+    print row OFS
+}
+
+END {
+    if (!scenario) exit 1
 }
