@@ -194,13 +194,7 @@ impl Entries {
 
 // How many lists have more pieces than so.
 fn longer(lists: &[usize], number: usize) -> u64 {
-    let mut count = 0;
-    for size in lists {
-        if *size > number {
-            count += 1;
-        }
-    }
-    count
+    lists.iter().filter(|size| **size > number).count() as u64
 }
 
 // Counts the pieces that are made apart from the blocks of a single pass.
@@ -228,7 +222,8 @@ fn with_carries() -> Held {
     }
 }
 
-// Who has block 0 is held until block 2 has come, and so until block 1 is done, for which there is no carry: both are left.
+// Who has block 0 is held until block 2 has come, and so until block 1 is left, for which there is no carry yet: then there is none
+// for block 2 either.
 fn without_carries() -> Held {
     Held {
         pieces: Entries::held(2, 2),
