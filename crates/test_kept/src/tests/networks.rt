@@ -75,7 +75,8 @@ fn edited_runs_are_as_from_nothing(rt: HostRuntime) -> Result<(), Fail> {
 }
 
 // Each kind of node, and a split by turns, by thresholds and by a column modulo 3.
-const WIDE: &[u8] = b"model 2\nsource a\nsource b\nsplit p 2 turn from a\nsplit c cut k 3 6 from b\nfork f 2 from p\n\
+const WIDE: &[u8] =
+    b"model 2\nsource a\nsource b\nsplit p 2 turn from a\nsplit c cut k 3 6 from b\nfork f 2 from p\n\
     server s k from f p.1\ndelay w m from f.1 c\njoin j from s w\nloss l 2 m from j\nsplit x 3 mod k from l l.1\n\
     trunk t 2 m from x c.1\nforkjoin g k m | m from c.2 t.1 x.1\ntandem q k / 2 m / 1 =1 from t g x.2\n";
 

@@ -36,8 +36,10 @@ fn whole_is_so(alloc: Global, a: &Stream, b: &Stream) -> Result<bool, OutOfMemor
     requires b { IsStream b.now }
 {
     let whole = merge_two(alloc, a, b)?;
-    Ok(whole.job.as_slice() == [3, 0, 1, 2, 4].as_slice()
-        && whole.time.as_slice() == [0, 1, 3, 3, 3].as_slice())
+    Ok(
+        whole.job.as_slice() == [3, 0, 1, 2, 4].as_slice()
+            && whole.time.as_slice() == [0, 1, 3, 3, 3].as_slice(),
+    )
 }
 
 // The same of both streams, made here.
