@@ -1,7 +1,7 @@
 // Networks of many kinds, with edits that look random.
 ghost use Rattle.mq_core.specs.Theorems.{IsReadFor};
 
-use super::cases::{Given, edited, edits_of, given};
+use super::cases::{Case, case_of, edited, edits_of};
 use super::draws::{Draws, drawn_edit, drawn_trace};
 use super::same::is_as_from_nothing;
 use mq_base::OutOfMemory;
@@ -29,7 +29,7 @@ fn stays_the_same<R: Threads + Sync>(
     let count = 60 + draws.below(200) as u32;
     let trace = drawn_trace(alloc, &plan, count, &mut draws)?;
     drop(plan);
-    let Given { plan, rows } = given(rt, alloc, model, trace.as_slice())?;
+    let Case { plan, rows } = case_of(rt, alloc, model, trace.as_slice())?;
     is_kept_through(rt, alloc, &plan, rows, &mut draws)
 }
 
@@ -75,7 +75,8 @@ fn edited_runs_are_as_from_nothing(rt: HostRuntime) -> Result<(), Fail> {
 }
 
 // Each kind of node, and a split by turns, by thresholds and by a column modulo 3.
-const WIDE: &[u8] = b"model 2\nsource a\nsource b\nsplit p 2 turn from a\nsplit c cut k 3 6 from b\nfork f 2 from p\n\
+const WIDE: &[u8] =
+    b"model 2\nsource a\nsource b\nsplit p 2 turn from a\nsplit c cut k 3 6 from b\nfork f 2 from p\n\
     server s k from f p.1\ndelay w m from f.1 c\njoin j from s w\nloss l 2 m from j\nsplit x 3 mod k from l l.1\n\
     trunk t 2 m from x c.1\nforkjoin g k m | m from c.2 t.1 x.1\ntandem q k / 2 m / 1 =1 from t g x.2\n";
 
