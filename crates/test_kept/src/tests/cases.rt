@@ -19,25 +19,25 @@ use std::thread::Threads;
 
 /// A model and rows of a trace that were read.
 #[derive(Drop)]
-pub struct Given {
+pub struct Case {
     pub plan: Plan,
     pub rows: Rows,
 }
 
 /// Reads a model and a trace.
-pub fn given<R: Threads + Sync>(
+pub fn case_of<R: Threads + Sync>(
     rt: &R,
     alloc: Global,
     model: &[u8],
     trace: &[u8],
-) -> Result<Given, OutOfMemory>
-    ensures { IfOk result (λ given. IsReadFor given.plan.net given.rows) }
+) -> Result<Case, OutOfMemory>
+    ensures { IfOk result (λ case. IsReadFor case.plan.net case.rows) }
 {
     let Ok(plan) = read_model(alloc, model) else {
         return Err(OutOfMemory)
     };
     match read_trace(rt, alloc, 1, trace, &plan.net) {
-        Ok(rows) => Ok(Given { plan, rows }),
+        Ok(rows) => Ok(Case { plan, rows }),
         Err(_) => {
             drop(plan);
             Err(OutOfMemory)
@@ -92,7 +92,7 @@ const TRACE: &[u8] = b"source,time,d\nsrc,0,4\nsrc,1,1\nsrc,2,3\n";
 #[test]
 fn one_row_more(rt: HostRuntime) -> Result<(), Fail> {
     let alloc = rt.alloc();
-    let Given { plan, rows } = given(&rt, alloc, MODEL, TRACE)?;
+    let Case { plan, rows } = case_of(&rt, alloc, MODEL, TRACE)?;
     let edits = edits_of(alloc, &plan, &rows, b"add src 3 2")?;
     let Ok(mut kept) = Kept::start(&rt, alloc, &plan, rows, 4, 4096) else {
         return Err(OutOfMemory.into())
@@ -126,7 +126,7 @@ fn long_trace(alloc: Global) -> Result<Vec<u8>, OutOfMemory> {
 fn one_row_of_two_hundred(rt: HostRuntime) -> Result<(), Fail> {
     let alloc = rt.alloc();
     let trace = long_trace(alloc)?;
-    let Given { plan, rows } = given(&rt, alloc, MODEL, &trace)?;
+    let Case { plan, rows } = case_of(&rt, alloc, MODEL, &trace)?;
     let edits = edits_of(alloc, &plan, &rows, b"set 150 src 1490 5")?;
     let Ok(mut kept) = Kept::start(&rt, alloc, &plan, rows, 4, 64) else {
         return Err(OutOfMemory.into())
@@ -142,7 +142,7 @@ fn one_row_of_two_hundred(rt: HostRuntime) -> Result<(), Fail> {
 fn a_run_is_refused_at_the_start(rt: HostRuntime) -> Result<(), Fail> {
     let alloc = rt.alloc();
     let late = b"source,time,d\nsrc,0,4\nsrc,1,1\nsrc,2,4\n";
-    let Given { plan, rows } = given(&rt, alloc, EARLY, late)?;
+    let Case { plan, rows } = case_of(&rt, alloc, EARLY, late)?;
     match Kept::start(&rt, alloc, &plan, rows, 1, 64) {
         Err(RunFault::Past(past)) => assert!(rt; past.node == 1 && past.position == 2),
         _ => return Err(OutOfMemory.into()),
@@ -153,7 +153,7 @@ fn a_run_is_refused_at_the_start(rt: HostRuntime) -> Result<(), Fail> {
 #[test]
 fn a_refused_edit_changes_nothing(rt: HostRuntime) -> Result<(), Fail> {
     let alloc = rt.alloc();
-    let Given { plan, rows } = given(&rt, alloc, EARLY, TRACE)?;
+    let Case { plan, rows } = case_of(&rt, alloc, EARLY, TRACE)?;
     let late = edits_of(alloc, &plan, &rows, b"add src 3 2")?;
     let early = edits_of(alloc, &plan, &rows, b"set 3 src 2 1\nadd src 3 2")?;
     let Ok(mut kept) = Kept::start(&rt, alloc, &plan, rows, 1, 64) else {

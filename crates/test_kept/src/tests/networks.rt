@@ -1,7 +1,7 @@
 // Networks of many kinds, with edits that look random.
 ghost use Rattle.mq_core.specs.Theorems.{IsReadFor};
 
-use super::cases::{Given, edited, edits_of, given};
+use super::cases::{Case, case_of, edited, edits_of};
 use super::draws::{Draws, drawn_edit, drawn_trace};
 use super::same::is_as_from_nothing;
 use mq_base::OutOfMemory;
@@ -29,7 +29,7 @@ fn stays_the_same<R: Threads + Sync>(
     let count = 60 + draws.below(200) as u32;
     let trace = drawn_trace(alloc, &plan, count, &mut draws)?;
     drop(plan);
-    let Given { plan, rows } = given(rt, alloc, model, trace.as_slice())?;
+    let Case { plan, rows } = case_of(rt, alloc, model, trace.as_slice())?;
     is_kept_through(rt, alloc, &plan, rows, &mut draws)
 }
 
