@@ -95,7 +95,7 @@ fn asked_behind<L: Ledger>(alloc: Global, blank: Blank) -> Result<(u32, usize), 
         asked: &asked,
     };
     let times = vec![in alloc; 1, 2]?;
-    let done = redone_behind(&step, alloc, &cut(5, 2), times, &[2], 1, &mut steps)?;
+    let done = redone_behind(alloc, &step, &cut(5, 2), times, &[2], 1, &mut steps)?;
     Ok((asked.get(), done.times.len()))
 }
 
