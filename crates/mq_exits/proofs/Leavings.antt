@@ -1,20 +1,19 @@
 -- What leaves a node, in emission order.
-use Rattle.std.proofs.Common.{◌≡◌, ℕ, zero, suc, ◌<◌, true, List, [], ◌∷◌, length, map, Option, Some, sym, refl, ap, ◌∙◌, subst, arith}
+use Rattle.std.proofs.Common.{◌≡◌, ℕ, zero, suc, ◌<◌, true, false, List, [], ◌∷◌, length, map, Option, Some, sym, refl, ap, ◌∙◌, subst, arith}
 use Rattle.std.specs.Prelude.{slice_get}
 use Rattle.std.specs.List.{zip}
 use Rattle.mq_core.specs.Came.{came_in}
+use Rattle.mq_core.specs.EmissionOrder.{EmissionOrder}
+use Rattle.mq_core.specs.EmissionOrder.EmissionOrder.{ByPosition, Mixed, Overtaking}
 use Rattle.mq_core.specs.Laws.{in_order_of}
 use Rattle.mq_core.specs.Results.{Late, first_of}
 use Rattle.mq_core.specs.SequenceLaws.{FatesAreInTime, SequencesGoByFates, sends_once}
 use Rattle.mq_core.specs.Sequences.{IsStream, sequence_late_from, sequence_stream, stream_in_order, sequence_visits}
 use Rattle.mq_core.specs.OnceOut.{founds_of}
-use Rattle.mq_core.specs.Sound.{outputs_in}
-use Rattle.mq_core.specs.Streams.{by_first, pairs_of, sorted}
-use Rattle.mq_core.specs.declared.model.Demand.{Demand}
+use Rattle.mq_core.specs.Streams.{by_first, pairs_of, sorted, stream_by}
 use Rattle.mq_core.specs.declared.model.Fate.{Fate}
 use Rattle.mq_core.specs.declared.model.Fate.TheVariants.{Departs}
 use Rattle.mq_core.specs.declared.model.Kind.{Kind}
-use Rattle.mq_core.specs.declared.model.Kind.TheVariants.{Source, Server, Delay, Loss, Tandem, ForkJoin, Split, Fork, Join, Trunk}
 use Rattle.mq_core.specs.declared.model.Network.{Network}
 use Rattle.mq_core.specs.declared.model.Rows.{Rows}
 use Rattle.mq_core.specs.declared.model.Stream.{Stream}
@@ -23,6 +22,7 @@ use Rattle.mq_stats.specs.Ahead.{departure_order, departure_times}
 use Rattle.mq_stations.specs.Leaving.{AreDepartures, AreLeft, AreStreams, KeepsOrder, left_by}
 use Rattle.mq_stations.proofs.lemmas.Leaves.{departs-one}
 use Rattle.mq_exits.specs.Afters.{AreOnTime}
+use Rattle.mq_exits.specs.Exits.{overtaking}
 use Rattle.mq_exits.specs.Results.{IsResult}
 use Rattle.mq_base.proofs.lemmas.Zips.{zip-first}
 
@@ -34,18 +34,17 @@ kept-streams law rows kind arrivals streams once keeps left =
       each = λ out l. left.each out l ∙ ap Some (sym ((law rows kind (came_in arrivals) once).stream out ∙ keeps (left_by rows kind arrivals out)));
     }
 
--- at all kinds with one output but a delay they do
-pub keeps-order : (kind : Kind) → outputs_in kind ≡ 1 → ((demand : Demand) → kind ≡ Delay demand → ⊥) → KeepsOrder kind
-keeps-order Source one h stream = refl
-keeps-order (Server demand) one h stream = refl
-keeps-order (Delay demand) one h stream = absurd (h demand refl)
-keeps-order (Loss places demand) one h stream = refl
-keeps-order (Tandem stages) one h stream = refl
-keeps-order (ForkJoin branches) one h stream = refl
-keeps-order (Split route) one h stream = refl
-keeps-order (Fork outputs) one h stream = refl
-keeps-order Join one h stream = refl
-keeps-order (Trunk servers demand) one h stream = absurd (omega arith)
+-- what leaves in an order in which jobs may overtake one another leaves by time
+pub by-time : (order : EmissionOrder) → overtaking order ≡ true → (stream : Stream) → stream_by order stream ≡ sorted stream
+by-time ByPosition h stream = absurd cc
+by-time Mixed h stream = absurd cc
+by-time Overtaking h stream = refl
+
+-- what leaves in another keeps its order
+pub by-position : (order : EmissionOrder) → overtaking order ≡ false → (stream : Stream) → stream_by order stream ≡ stream
+by-position ByPosition h stream = refl
+by-position Mixed h stream = refl
+by-position Overtaking h stream = absurd cc
 
 -- what has been seen of a node is what it gives
 pub seen-result : SequencesGoByFates → (net : Network) (rows : Rows) (v : ℕ) (kind : Kind) (arrivals : Stream) (fates : List Fate) (found : List ℕ) (streams : List Stream) → sends_once kind ≡ true → AreOnTime net rows v kind arrivals fates streams → found ≡ founds_of arrivals.time fates →

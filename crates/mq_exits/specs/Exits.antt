@@ -1,12 +1,16 @@
 -- What is known of a station when all its jobs have left, and its last pieces.
-use Rattle.std.specs.Prelude.{◌≡◌, ◌+◌, ◌*◌, ◌<◌, ℕ, List, [], ◌∷◌, length, map, min, Some, None, slice_get}
+use Rattle.std.specs.Prelude.{◌≡◌, ◌+◌, ◌*◌, ◌<◌, ℕ, Bool, true, false, List, [], ◌∷◌, length, map, min, Some, None, slice_get}
 use Rattle.mq_base.specs.Lists.{between}
 use Rattle.mq_core.specs.Came.{came_in}
+use Rattle.mq_core.specs.EmissionOrder.{EmissionOrder}
+use Rattle.mq_core.specs.EmissionOrder.EmissionOrder.{ByPosition, Mixed, Overtaking}
+use Rattle.mq_core.specs.KindTable.{behaviour_of}
 use Rattle.mq_core.specs.OnceOut.{founds_of}
 use Rattle.mq_core.specs.Results.{first_of}
 use Rattle.mq_core.specs.Sequences.{sequence_fates, sequence_late_from, stream_in_order}
 use Rattle.mq_core.specs.Streams.{sorted}
 use Rattle.mq_core.specs.declared.model.Fate.TheVariants.{Departs}
+use Rattle.mq_core.specs.declared.model.Kind.{Kind}
 use Rattle.mq_core.specs.declared.model.Node.{Node}
 use Rattle.mq_core.specs.declared.model.Plan.{Plan}
 use Rattle.mq_core.specs.declared.model.Rows.{Rows}
@@ -27,6 +31,16 @@ use Rattle.mq_exits.specs.declared.exits.Emptied.{Emptied}
 use Rattle.mq_exits.specs.declared.exits.Completion.{Completion}
 use Rattle.mq_exits.specs.declared.exits.Completion.TheVariants.{Known, Passed, Sent, Served, Sorted}
 use Rattle.mq_exits.specs.declared.overtaking.Overtaken.{Overtaken}
+
+-- whether jobs that leave in this order may overtake one another
+abbrev pub overtaking : EmissionOrder → Bool
+overtaking ByPosition = false
+overtaking Mixed = false
+overtaking Overtaking = true
+
+-- whether jobs that leave a node of this kind may
+abbrev pub may_overtake : Kind → Bool
+may_overtake kind = overtaking (behaviour_of kind).order
 
 -- jobs that leave a node of the plan do so by time
 abbrev pub Overtakes : Plan → ℕ → Type 0

@@ -6,7 +6,7 @@ ghost use Rattle.mq_core.specs.Laws.{in_order_of};
 ghost use Rattle.mq_core.specs.Sequences.{IsStream};
 ghost use Rattle.mq_core.specs.Streams.{by_first, pairs_of};
 ghost use Rattle.mq_exits.specs.Afters.{AreDeparturesAt, IsWorkedAt};
-ghost use Rattle.mq_exits.specs.Exits.{IsCompletion, Overtakes};
+ghost use Rattle.mq_exits.specs.Exits.{IsCompletion, Overtakes, may_overtake};
 ghost use Rattle.mq_exits.specs.Loads.{IsLoaded};
 ghost use Rattle.mq_stations.specs.Scans.{AreFewBlocks};
 
@@ -57,8 +57,8 @@ pub fn left_by<R: Threads + Sync>(
     }
 }
 
-// What is known of a station whose jobs depart at these times, by position. All but those of a delay keep
-// their order.
+// What is known of a station whose jobs depart at these times, by position. Where they can't overtake one
+// another they leave in their order.
 fn completion_by_departures<R: Threads + Sync>(
     rt: &R,
     alloc: Global,
@@ -71,8 +71,21 @@ fn completion_by_departures<R: Threads + Sync>(
     requires block { 1 ≤ load.now.block }
     ensures { IfOk result (λ completion. IsCompletion load.now.plan.now load.now.rows.now load.now.number load.now.arrivals.now completion) }
 {
-    match &load.plan.net.nodes.get(load.number as usize).kind {
-        Kind::Delay(_) => overtaken_at(rt, alloc, workers, load, departs),
+    let kind = &load.plan.net.nodes.get(load.number as usize).kind;
+    if may_overtake(kind) {
+        overtaken_at(rt, alloc, workers, load, departs)
+    } else {
+        Ok(Completion::Served(departs))
+    }
+}
+
+// Whether jobs that leave a node of this kind may overtake one another.
+// A further kind adds its case here.
+fn may_overtake(kind: &Kind) -> bool
+    ensures { result ≡ may_overtake kind.now }
+{
+    match kind {
+        Kind::Delay(_) | Kind::Trunk { .. } => true,
         Kind::Source
         | Kind::Server(_)
         | Kind::Loss { .. }
@@ -80,8 +93,7 @@ fn completion_by_departures<R: Threads + Sync>(
         | Kind::ForkJoin(_)
         | Kind::Split(_)
         | Kind::Fork { .. }
-        | Kind::Join
-        | Kind::Trunk { .. } => Ok(Completion::Served(departs)),
+        | Kind::Join => false,
     }
 }
 

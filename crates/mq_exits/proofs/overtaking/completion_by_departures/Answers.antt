@@ -1,12 +1,10 @@
-use Rattle.std.proofs.Common.{◌≡◌, sym, ap, ◌∙◌, subst}
+use Rattle.std.proofs.Common.{◌≡◌, sym, ap, ◌∙◌}
 use Rattle.mq_base.proofs.lemmas.Lists.{some_inj}
-use Rattle.mq_core.specs.Sequences.{stream_in_order}
-use Rattle.mq_core.specs.Sound.{outputs_in}
-use Rattle.mq_core.specs.declared.model.Kind.{Kind}
+use Rattle.mq_core.specs.KindTable.{behaviour_of}
 use Rattle.mq_core.specs.declared.model.Node.{Node}
-use Rattle.mq_stations.specs.Leaving.{KeepsOrder}
-use Rattle.mq_exits.proofs.Leavings.{keeps-order}
+use Rattle.mq_exits.proofs.Leavings.{by-position, by-time}
 use Rattle.mq_exits.proofs.Opening.{loaded-inside}
+use Rattle.mq_exits.specs.Exits.{may_overtake}
 use Rattle.mq_exits.proofs.overtaking.completion_by_departures.Goals as goal
 
 pub get-requires : goal.get-requires
@@ -15,10 +13,9 @@ get-requires g c = loaded-inside _ _ _ _ c.requires.loaded
 pub overtaken_at-requires-clause-overtakes : goal.overtaken_at-requires-clause-overtakes
 overtaken_at-requires-clause-overtakes g c κs inside node there stream =
     let same : node.kind ≡ c.get.result.now.kind = ap (λ (n : Node). n.kind) (some_inj _ _ (sym there ∙ c.get.ensures)) in
-    ap (λ (k : Kind). stream_in_order k stream) (same ∙ c.in-Delay.is)
+    by-time (behaviour_of node.kind).order (ap may_overtake same ∙ (sym c.may_overtake.ensures ∙ c.if-may_overtake.true)) stream
 
-pub returns-in_default : goal.returns-in_default
-returns-in_default g c node there =
-    let same : c.get.result.now.kind ≡ node.kind = ap (λ (n : Node). n.kind) (some_inj _ _ (sym c.get.ensures ∙ there)) in
-    let departs = c.requires.departs node there in
-    (departs, subst KeepsOrder same (keeps-order c.get.result.now.kind (ap outputs_in same ∙ departs.one) c.in_default.not-Delay))
+pub returns-else-may_overtake : goal.returns-else-may_overtake
+returns-else-may_overtake g c node there =
+    let same : node.kind ≡ c.get.result.now.kind = ap (λ (n : Node). n.kind) (some_inj _ _ (sym there ∙ c.get.ensures)) in
+    (c.requires.departs node there, by-position (behaviour_of node.kind).order (ap may_overtake same ∙ (sym c.may_overtake.ensures ∙ c.if-may_overtake.false)))

@@ -5,12 +5,12 @@ use Rattle.mq_exits.proofs.Leavings.{late-by}
 use Rattle.mq_exits.proofs.working.seen.Goals as goal
 
 pub found_at-requires-clause-leave : goal.found_at-requires-clause-leave
-found_at-requires-clause-leave c = c.each.ensures ∙ c.requires.leaving.leave
+found_at-requires-clause-leave c = c.each-fates.ensures ∙ c.requires.leaving.leave
 
 pub returns-in-Ok : goal.returns-in-Ok
 returns-in-Ok c = (
   record {
-    fates_are = c.each.ensures ∙ c.requires.leaving.leave;
+    fates_are = c.each-fates.ensures ∙ c.requires.leaving.leave;
     streams_are = c.requires.leaving.outflow;
     none = late-by c.args.net.now.bound c.args.number _ _ _ (sym c.requires.leaving.leave) (c.first_late.ensures ∙ ap (option_map late_told) c.in-None.is);
   },

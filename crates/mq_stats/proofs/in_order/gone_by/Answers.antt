@@ -9,7 +9,7 @@ pub loop-index-preserved : goal.loop-index-preserved
 loop-index-preserved c =
     elim c.match-at.branch [
       | in-Departs+else-departure-time w ↦
-          let step = departed-step c.args.time c.args.fate.now c.loop-index.index w.in-Departs.departure c.at.result.now c.at.ensures w.in-Departs.is w.if-departure-time.false c.loop-index.departed c.loop-index.invariant.departed c.loop-index.invariant.gone in
+          let step = departed-step c.args.time c.args.fate.now c.loop-index.index w.in-Departs.departure c.at.result c.at.ensures w.in-Departs.is w.if-departure-time.false c.loop-index.departed c.loop-index.invariant.departed c.loop-index.invariant.gone in
           record { departed = w.departed-is ∙ step.0; gone = step.1 }
       | in-Lost w ↦
           let step = lost-step c.args.time c.args.fate.now c.loop-index.index (c.at.ensures ∙ ap (λ x. Some x) w.in-Lost.is) c.loop-index.departed c.loop-index.invariant.departed c.loop-index.invariant.gone in
