@@ -1,5 +1,5 @@
 -- How many blocks are done again: no more than there are, and none where the rows are the same.
-use Rattle.std.proofs.Common.{◌==◌, ◌&&◌, ◌≡◌, ◌+◌, ◌-◌, ◌/◌, ℕ, suc, ◌≤◌, Bool, true, false, cond, List, [], ◌∷◌, length, Option, None, Some, slice_get, refl, sym, ap, ◌∙◌, arith, eq-eqb}
+use Rattle.std.proofs.Common.{◌==◌, ◌&&◌, ◌≡◌, ◌+◌, ◌-◌, ◌/◌, ℕ, suc, ◌≤◌, Bool, true, false, cond, List, [], ◌∷◌, length, Option, None, Some, slice_get, refl, sym, ◌∙◌, arith, eq-eqb}
 use Rattle.std.specs.Prelude.{sum_by}
 use Rattle.std.specs.List.{list_all}
 use Rattle.std.proofs.lemmas.List.{length-map}
@@ -15,7 +15,7 @@ use Rattle.mq_core.specs.declared.model.Network.{Network}
 use Rattle.mq_core.specs.declared.model.Node.{Node}
 use Rattle.mq_core.specs.declared.model.Rows.{Rows}
 use Rattle.mq_core.specs.declared.model.Stage.{Stage}
-use Rattle.mq_alike.specs.Again.{AgainIsBounded, Coming, again, again_at, again_of, alike, alike_from, asks_same, blocks_in, blocks_of, coming_in, is_counted, is_worked, same_demand, same_visit, worked_of}
+use Rattle.mq_alike.specs.Again.{AgainIsBounded, Coming, again_at, again_of, alike, alike_from, asks_same, blocks_in, blocks_of, coming_in, is_counted, is_worked, same_demand, same_visit, worked_of}
 
 -- of one node
 at-within : (block : ℕ) (kind : Kind) (old new : Coming) → again_at block kind old new ≤ blocks_in block (length new.job)

@@ -2,3 +2,4 @@ pub mod Bounded
 mod First
 mod Same
 mod Whole
+mod Known

@@ -1,6 +1,6 @@
 -- Where two runs have no difference at a node, its fates and outputs are the same.
-use Rattle.std.proofs.Common.{◌==◌, ◌&&◌, ◌≡◌, ℕ, zero, suc, ◌+◌, Bool, true, false, cond, List, [], ◌∷◌, length, map, refl, sym, ap, ◌∙◌, arith, eqb-true}
-use Rattle.std.specs.List.{AllByRecursion as Each, flat_map, list_all}
+use Rattle.std.proofs.Common.{◌==◌, ◌&&◌, ◌≡◌, ℕ, suc, Bool, true, false, cond, List, [], ◌∷◌, length, map, refl, sym, ap, ◌∙◌, arith, eqb-true}
+use Rattle.std.specs.List.{AllByRecursion as Each, list_all}
 use Rattle.std.proofs.lemmas.Bool.{and_parts}
 use Rattle.mq_core.specs.Came.{came_by}
 use Rattle.mq_core.specs.Handling.{demand_of_job}
@@ -18,7 +18,7 @@ use Rattle.mq_core.specs.declared.model.Kind.TheVariants.{Delay, Fork, ForkJoin,
 use Rattle.mq_core.specs.declared.model.Route.{Route}
 use Rattle.mq_core.specs.declared.model.Rows.{Rows}
 use Rattle.mq_core.specs.declared.model.Stage.{Stage}
-use Rattle.mq_alike.specs.Again.{Coming, IsUnchanged, SequencesStay, alike_from, asks_same, same_demand, same_visit}
+use Rattle.mq_alike.specs.Again.{SequencesStay, alike_from, asks_same, same_demand, same_visit}
 
 -- all visits are the same: the two have the same jobs at the same times, which ask for the same
 record AllSame (kind : Kind) (rows rows' : Rows) (jobs arrives jobs' arrives' : List ℕ) : Type 0 where

@@ -1,4 +1,4 @@
-use Rattle.std.proofs.Common.{◌≡◌, ◌∙◌, ◌<◌, ◌≤◌, ℕ, length, sym, arith, Bool, true, false}
+use Rattle.std.proofs.Common.{◌≡◌, ◌∙◌, sym, arith}
 use Rattle.mq_base.proofs.lemmas.Lists.{get-some}
 use Rattle.mq_alike.proofs.Same.{alike-differ, alike-more, ended-at}
 use Rattle.mq_alike.proofs.comparing.alike.Goals as goal

@@ -1,4 +1,4 @@
-use Rattle.std.proofs.Common.{◌≡◌, ◌∙◌, sym}
+use Rattle.std.proofs.Common.{◌∙◌, sym}
 use Rattle.std.specs.List.{list_all}
 use Rattle.mq_alike.specs.Again.{same_demand}
 use Rattle.mq_alike.proofs.Same.{all-fails, all-more}

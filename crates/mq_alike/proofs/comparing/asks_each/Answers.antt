@@ -1,5 +1,4 @@
-use Rattle.std.proofs.Common.{◌≡◌, ◌∙◌, sym}
-use Rattle.std.specs.List.{list_all}
+use Rattle.std.proofs.Common.{◌∙◌, sym}
 use Rattle.mq_alike.specs.Again.{same_demand}
 use Rattle.mq_alike.proofs.Same.{all-fails, all-more}
 use Rattle.mq_alike.proofs.comparing.asks_each.Goals as goal
