@@ -54,17 +54,32 @@ fn squares_are<R: Threads + Sync>(
     Ok(found.as_slice() == wanted)
 }
 
+// The first hundred squares.
+fn hundred(alloc: Global) -> Result<Vec<u64>, OutOfMemory>
+    ensures { IfOk result (λ squares. length squares.items ≡ 100) }
+{
+    let mut squares = Vec::new(alloc);
+    'fills: for b in 0..100u64 {
+        squares.push(b * b)?;
+    }
+    Ok(squares)
+}
+
+// Whether 64 workers make the first hundred.
+fn hundred_stand<R: Threads + Sync>(rt: &R, alloc: Global) -> Result<bool, OutOfMemory> {
+    let wanted = hundred(alloc)?;
+    let stand = squares_are(rt, alloc, 64, &wanted);
+    drop(wanted);
+    stand
+}
+
 fn squares_stand<R: Threads + Sync>(rt: &R, alloc: Global) -> Result<bool, OutOfMemory> {
     let five: &[u64] = &[0, 1, 4, 9, 16];
-    let mut many = Vec::new(alloc);
-    for b in 0..100u64 {
-        many.push(b * b)?;
-    }
     Ok(
         squares_are(rt, alloc, 1, five)?
             && squares_are(rt, alloc, 3, five)?
             && squares_are(rt, alloc, 64, five)?
-            && squares_are(rt, alloc, 64, &many)?
+            && hundred_stand(rt, alloc)?
             && squares_are(rt, alloc, 3, &[])?,
     )
 }
