@@ -328,7 +328,8 @@ def others():
 
 shutil.rmtree(FOLDER, ignore_errors=True)
 FOLDER.mkdir(parents=True)
-(FOLDER / "mpsim").symlink_to(PROGRAM)
-(FOLDER / "examples").symlink_to(ROOT / "examples")
+# Copies, since the folder may stand where no link may.
+shutil.copy2(PROGRAM, FOLDER / "mpsim")
+shutil.copytree(ROOT / "examples", FOLDER / "examples")
 for recipe in two_servers, many_servers, links, priorities, breaks, rework, patience, buffers, logs, others:
     recipe()
