@@ -1,5 +1,5 @@
 // The fates of visits, which take the room of their departures where all visits depart.
-ghost use Rattle.std.specs.Prelude.{◌≡◌, ◌<◌, ◌≤◌, Some, length, map, slice_get};
+ghost use Rattle.std.specs.Prelude.{◌≡◌, ◌<◌, ◌≤◌, IfErr, IfOk, Some, length, map, slice_get};
 ghost use Rattle.mq_base.specs.Lists.{between};
 ghost use Rattle.mq_core.specs.declared.model.Fate.TheVariants.{Departs};
 
@@ -50,6 +50,18 @@ impl Fates {
     {
         Fates {
             kept: Kept::Each(fates),
+        }
+    }
+
+    /// When the visits depart, in ticks, where it is kept that none is lost or held; else the fates themselves. It takes no
+    /// memory.
+    pub fn into_departures(self) -> Result<List<u64>, Fates>
+        ensures departures { IfOk result (λ times. self ≡ map (λ time. Departs time) times) }
+        ensures fates { IfErr result (λ fates. fates ≡ self) }
+    {
+        match self.kept {
+            Kept::Departures(times) => Ok(times),
+            Kept::Each(fates) => Err(Fates::each(fates)),
         }
     }
 
