@@ -143,7 +143,7 @@ fn nothing(alloc: Global) -> Stream
     }
 }
 
-// What comes to the nodes that are ready by their first two ports, or to the sources among them.
+// What comes by their first two ports to the nodes that are ready, or to the sources among them.
 fn openings<'a>(alloc: Global, arriving: &Arriving<'a>) -> Result<List<Coming<'a>>, OutOfMemory>
     requires arriving { IsArriving arriving.now }
     ensures len { IfOk result (λ all. length all ≡ length arriving.now.ready.now) }

@@ -1,4 +1,4 @@
-// Jobs put in order of the times at which they pass.
+// Jobs put in order of the times at which they come by.
 ghost use Rattle.std.specs.Prelude.{◌≡◌, ◌≤◌, length, IfOk};
 ghost use Rattle.std.specs.List.{zip};
 ghost use Rattle.mq_core.specs.Sequences.{IsStream};
@@ -11,7 +11,7 @@ use mq_core::Stream;
 use std::alloc::Global;
 use std::thread::Threads;
 
-/// The stream of these jobs, which pass at these times: the jobs by time, those of one time in their
+/// The stream of these jobs, which come by at these times: the jobs by time, those of one time in their
 /// order. The times, in ticks, may stand in any order; there is a job for each. It refuses for want
 /// of memory alone.
 pub fn by_time(alloc: Global, jobs: &List<u32>, times: &List<u64>) -> Result<Stream, OutOfMemory>

@@ -1,5 +1,5 @@
 -- The words that a reader is lent, and what the first of them does.
-use Rattle.std.proofs.Common.{◌≡◌, ◌∙◌, sym, ap, refl, ℕ, zero, suc, ◌+◌, ◌<◌, ◌≤◌, List, [], ◌∷◌, ◌++◌, length, drop, take, Bool, true, false, Some, None, Result, Ok, Err, Bor, arith, append_assoc, ◌-◌, ◌^◌, inl, inr}
+use Rattle.std.proofs.Common.{◌≡◌, ◌∙◌, sym, ap, refl, ℕ, zero, suc, ◌<◌, ◌≤◌, List, [], ◌∷◌, ◌++◌, length, drop, take, Bool, true, false, Some, None, Result, Ok, Err, Bor, arith, append_assoc, ◌-◌, ◌^◌, inl, inr}
 use Rattle.std.specs.Prelude.{◌&&◌, not, nat_le, nat_lt, get_or, codes}
 use Rattle.std.specs.Char.{is_ascii_lowercase}
 use Rattle.std.specs.List.{list_all}

@@ -4,7 +4,7 @@ use Rattle.std.specs.Prelude.{◌≡◌, ◌∷◌, ◌++◌, [], ℕ, zero, suc
 abbrev pub Word : Type 0
 Word = List ℕ
 
--- Nothing more, with what was said; a word that passes a test, and more; or, where the next word passes a test, the first way on, and else the second.
+-- Nothing more, with what was said; a word for which a test holds, and more; or, where it holds for the next word, the first way on, and else the second.
 pub data Form (A : Type 0) : Type 0 where
   stop : A → Form A
   word : (Word → Bool) → (Word → Form A) → Form A
@@ -35,7 +35,7 @@ whole (Err left) = Err left
 abbrev pub one : {A : Type 0} → (Word → Bool) → (Word → A) → Form A
 one p value = word p (λ w. stop (value w))
 
--- at most n words that pass
+-- at most n words for which the test holds
 unfoldable pub up_to : {A : Type 0} → ℕ → (Word → Bool) → (Word → A) → Form (List A)
 up_to zero p value = stop []
 up_to (suc n) p value = maybe p (λ w. up_to n p value >>= λ more. stop (value w ∷ more)) (stop [])

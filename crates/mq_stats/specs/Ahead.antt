@@ -32,7 +32,7 @@ leaves_at_once arrive (Departs time) = time == arrive
 leaves_at_once arrive Lost = false
 leaves_at_once arrive Held = false
 
--- for each index, and for the end, how many of the items before it pass a test
+-- for each index, and for the end, for how many of the items before it a test holds
 pub record AreCounts {X : Type 0} (test : X → Bool) (items : List X) (counts : List ℕ) : Type 0 where
   pub many : length counts ≡ length items + 1
   pub at_indices : (index : ℕ) → index ≤ length items → slice_get counts index ≡ Some (count_by test (take index items))

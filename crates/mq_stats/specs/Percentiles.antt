@@ -40,7 +40,7 @@ abbrev pub least_of : List ℕ → ℕ
 least_of [] = 0
 least_of (wait ∷ waits) = fold min wait waits
 
--- the least of these waits that at least so many hundredths of them don't pass, or 0 where there are none
+-- the least of these waits that at least so many hundredths of them don't exceed, or 0 where there are none
 abbrev pub percentile : ℕ → List ℕ → ℕ
 percentile p waits = least_of (filter (reaches (hundredths p (length waits)) waits) waits)
 

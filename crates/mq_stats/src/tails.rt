@@ -14,7 +14,7 @@ use mq_core::{Fate, Kind, Rows, Visits};
 use std::alloc::Global;
 
 /// Percentiles of the waits at a node, in ticks, over the visits that depart: the least wait that so many hundredths
-/// of them don't pass, or 0 where no visit departs.
+/// of them don't exceed, or 0 where no visit departs.
 #[derive(Clone, Copy, PartialEq, Eq)]
 pub struct Percentiles {
     /// Half of the waits are at most this.
@@ -108,7 +108,7 @@ fn hundredths(p: usize, many: usize) -> usize
     (p * many + 99) / 100
 }
 
-// The least wait that so many don't pass, where the table counts so many by themselves.
+// The least wait that so many don't exceed, where the table counts so many by themselves.
 fn reached(table: &[u32], many: usize) -> Option<u64>
     requires some { 1 < length table.now }
     requires few { length table.now ≤ 1048578 }

@@ -1,4 +1,4 @@
--- What clap finds in words that pass the rule.
+-- What clap finds in words that meet the rule.
 use Rattle.std.specs.Prelude.{◌≡◌, ◌-◌, ◌^◌, ℕ, false, List, [], ◌∷◌, Option, Some, option_map, codes, slice_get, if◌then◌else◌}
 use Rattle.clap.specs.Matches.{first_value, one_text}
 use Rattle.clap.specs.declared.parser.matches.Found.{Found}

@@ -154,7 +154,7 @@ pub record Asks (words : List (List ℕ)) (s : Settings) : Type 0 where
   pub form : form_asked words ≡ Some s.form
   pub jobs : jobs_asked words ≡ s.jobs
 
--- how words may be refused; want of memory comes only where they pass the rule
+-- how words may be refused; want of memory comes only where they meet the rule
 abbrev pub RefusesWords : List (List ℕ) → WordsFault → Type 0
 RefusesWords words (Usage f) = usage_fault words ≡ Some f
 RefusesWords words Memory = refuses_words words ≡ false

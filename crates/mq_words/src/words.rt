@@ -101,7 +101,7 @@ fn subject_of<'a>(form: Form<'a>) -> Option<Subject<'a>>
     }
 }
 
-// What clap finds in the words, which it takes where they pass the rule.
+// What clap finds in the words, which it takes where they meet the rule.
 fn matches_of<'a>(alloc: Global, words: &'a [&'a str]) -> Result<ArgMatches<'a>, Error>
     ensures found { refuses_words_of (texts words.now) ≡ false → IfOk result (λ matches. Finds (texts words.now) (found_of matches)) }
     ensures memory { refuses_words_of (texts words.now) ≡ false → IfErr result (λ error. kind_of error ≡ ErrorKind.OutOfMemory) }
@@ -166,6 +166,7 @@ pub fn settings_of<'a>(alloc: Global, words: &'a [&'a str]) -> Result<Settings<'
         return Err(WordsFault::Memory);
     };
     let settings = settings_in(&matches);
+    // They are let go before the settings are handed on.
     drop(matches);
     match settings {
         Ok(settings) => Ok(settings),

@@ -82,6 +82,7 @@ get-set_other (y ∷ ys) zero (suc j) x l = refl
 get-set_other (y ∷ ys) (suc i) zero x l = refl
 get-set_other (y ∷ ys) (suc i) (suc j) x l = get-set_other ys i j x (λ e. l (ap suc e))
 
+-- the sum of a list with one number before it
 pub sum-cons : (x : ℕ) (xs : List ℕ) → sum (x ∷ xs) ≡ x + sum xs
 sum-cons x xs = sum_by-cons (λ y. y) x xs
 
