@@ -8,7 +8,7 @@ loop-time-preserved c =
     let index = c.loop-time.time-index in
     let times = c.args.times.now in
     let more : map (λ time. Departs time) (take (index + 1) times) ≡ map (λ time. Departs time) (take index times) ++ Departs (get_or times index 0) ∷ [] =
-        ap (map (λ time. Departs time)) (take_more times index 0 (omega arith)) ∙ map-append (λ time. Departs time) (take index times) (get_or times index 0 ∷ []) in
+    ap (map (λ time. Departs time)) (take_more times index 0 (omega arith)) ∙ map-append (λ time. Departs time) (take index times) (get_or times index 0 ∷ []) in
     record {
       so_far = c.push_reserved.ensures.items ∙ (ap (λ fates. fates ++ Departs (get_or times index 0) ∷ []) c.loop-time.invariant.so_far ∙ sym more);
       len = omega arith;

@@ -1,6 +1,5 @@
-use Rattle.std.proofs.Common.{◌≡◌, ◌+◌, ◌++◌, ◌∷◌, [], List, length, get_or, map, set, take, ap, refl, sym, ◌∙◌, append_assoc, arith}
+use Rattle.std.proofs.Common.{◌≡◌, ◌+◌, ◌++◌, ◌∷◌, [], length, get_or, map, set, take, ap, sym, ◌∙◌, append_assoc, arith}
 use Rattle.std.proofs.lemmas.List.{append-nil, length-set, length-take-le, map-append, take-take, take_all, take_more, take_more_set}
-use Rattle.mq_core.specs.declared.model.Fate.{Fate}
 use Rattle.mq_core.specs.declared.model.Fate.TheVariants.{Departs}
 use Rattle.mq_core.proofs.fate_lists.put_each.Goals as goal
 
@@ -27,7 +26,7 @@ loop-at-preserved c =
     let fate = Departs (get_or times at 0) in
     let next : from + (at + 1) ≡ from + at + 1 = omega arith in
     let more : map (λ time. Departs time) (take (at + 1) times) ≡ map (λ time. Departs time) (take at times) ++ fate ∷ [] =
-        ap (map (λ time. Departs time)) (take_more times at 0 (omega arith)) ∙ map-append (λ time. Departs time) (take at times) (get_or times at 0 ∷ []) in
+    ap (map (λ time. Departs time)) (take_more times at 0 (omega arith)) ∙ map-append (λ time. Departs time) (take at times) (get_or times at 0 ∷ []) in
     record {
       so_far =
           ap (λ n. take n (set fates (from + at) fate)) next
