@@ -1,5 +1,5 @@
 // The rows that edits make of those of a trace.
-ghost use Rattle.std.specs.Prelude.{◌≡◌, ◌≤◌, ◌×◌, ℕ, IfOk, List as Items, OnErr, OnOk, Some, drop as behind, length, map, slice_get};
+ghost use Rattle.std.specs.Prelude.{◌≡◌, ◌≤◌, ℕ, IfOk, List as Items, OnErr, OnOk, Some, drop as behind, length, map, slice_get};
 ghost use Rattle.std.specs.List.{AllZip};
 ghost use Rattle.mq_core.specs.Theorems.{IsReadFor};
 ghost use Rattle.mq_core.specs.declared.model.Network.{Network};
