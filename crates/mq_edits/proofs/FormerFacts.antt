@@ -1,10 +1,10 @@
 -- Lists that are edited from an index on, and put back.
 use Rattle.std.proofs.Common.{◌≡◌, ◌∙◌, sym, ap, refl, ℕ, zero, suc, ◌+◌, ◌-◌, ◌<◌, ◌≤◌, List, [], ◌∷◌, ◌++◌, length, drop, get_or, map, min, set, take, Some, arith, append_assoc, length-append, length-drop, subst}
-use Rattle.std.specs.Prelude.{Err, Ok, OnErr, OnOk, Result, fold, slice_get}
+use Rattle.std.specs.Prelude.{Err, Ok, OnErr, OnOk, Result, slice_get}
 use Rattle.std.specs.List.{AllZip}
 use Rattle.std.proofs.lemmas.Grind.{common_steps}
 use Rattle.std.proofs.lemmas.List.Elements.{length_all_zip}
-use Rattle.std.proofs.lemmas.List.{set-append_right, set_at, take-append-drop, take_all, take_at, length-take, append-nil, drop_all}
+use Rattle.std.proofs.lemmas.List.{set-append_right, set_at, take-append-drop, take_at, append-nil, drop_all}
 use Rattle.mq_base.proofs.lemmas.Lists.{drop_at, get-some, some_inj}
 use Rattle.mq_core.specs.Theorems.{IsReadFor}
 use Rattle.mq_core.specs.declared.model.Network.{Network}
@@ -218,7 +218,7 @@ rows_back former old new s =
     let source : list_before former.from former.rows.source new.source ≡ old.source = back former.from old.source former.rows.source new.source s.source s.sources in
     let time : list_before former.from former.rows.time new.time ≡ old.time = back former.from old.time former.rows.time new.time s.time s.times in
     let demands : columns_before former.from former.rows.demands new.demands ≡ old.demands =
-        ap (λ formers. columns_before former.from formers new.demands) s.demands ∙ each_back former.from old.demands new.demands s.columns in
+    ap (λ formers. columns_before former.from formers new.demands) s.demands ∙ each_back former.from old.demands new.demands s.columns in
     (λ i. record { source = source i; time = time i; demands = demands i })
 
 -- a copy of all rows

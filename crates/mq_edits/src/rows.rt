@@ -125,7 +125,14 @@ fn edit_columns(
     ensures stays { AllZip (StaysUpTo from) columns.old.items columns.new.items }
 {
     for at in 0..columns.len() {
-        edit_numbers(alloc, &mut columns[at], former.get(at).as_slice(), edits, from, at + 1)?;
+        edit_numbers(
+            alloc,
+            &mut columns[at],
+            former.get(at).as_slice(),
+            edits,
+            from,
+            at + 1,
+        )?;
     }
     Ok(())
 }
@@ -147,7 +154,13 @@ fn edit_lists(
     ensures before { rows_before former.now rows.new ≡ rows.old }
 {
     let FormerRows { from, rows: were } = former;
-    edit_sources(alloc, &mut rows.source, were.source.as_slice(), edits, *from)?;
+    edit_sources(
+        alloc,
+        &mut rows.source,
+        were.source.as_slice(),
+        edits,
+        *from,
+    )?;
     edit_numbers(alloc, &mut rows.time, were.time.as_slice(), edits, *from, 0)?;
     let mut columns = replace(&mut rows.demands, List::new(alloc)).into_vec();
     let done = edit_columns(alloc, &mut columns, &were.demands, edits, *from);

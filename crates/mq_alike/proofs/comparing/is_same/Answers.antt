@@ -11,4 +11,4 @@ returns-then-job-former c = λ job arrive new_job new_time a b d e.
     let time = some_inj new_time c.get-3.result.now (sym e ∙ c.get-3.ensures) in
     let less : ltb c.get-job.result.now c.args.former.now.from ≡ true = lt-ltb c.get-job.result.now c.args.former.now.from c.if-job-former.true in
     less ∙ sym (visits_below c.args.former.now c.args.rows.now c.get-job.result.now c.args.kind.now job arrive new_job new_time (old ∙ c.if-get-job.false) new (at ∙ c.if-get.false ∙ sym time) c.if-job-former.true
-        (c.requires.earlier c.args.at job a) (c.requires.rows c.args.at new_job d))
+    (c.requires.earlier c.args.at job a) (c.requires.rows c.args.at new_job d))

@@ -1,4 +1,4 @@
-use Rattle.std.proofs.Common.{◌≡◌, ◌∙◌, ◌<◌, ◌++◌, ap, arith, length, take}
+use Rattle.std.proofs.Common.{◌∙◌, ◌<◌, ◌++◌, ap, arith, length, take}
 use Rattle.std.proofs.lemmas.List.Elements.{length_all_zip}
 use Rattle.mq_base.proofs.lemmas.Lists.{take-all}
 use Rattle.mq_edits.specs.Former.{HasRoom, columns_before}

@@ -1,4 +1,4 @@
-use Rattle.std.proofs.Common.{◌≡◌, ◌∙◌, ◌<◌, arith, drop, length, refl}
+use Rattle.std.proofs.Common.{◌∙◌, ◌<◌, arith, drop, length, refl}
 use Rattle.mq_edits.proofs.FormerFacts.{each_same, each_set, edited_done, edited_next, mapped_is}
 use Rattle.mq_edits.proofs.rows.edit_columns.Goals as goal
 

@@ -1,4 +1,4 @@
-use Rattle.std.proofs.Common.{◌≡◌, ◌∙◌, ◌≤◌, ℕ, List, ap, arith, length, refl, subst, sym}
+use Rattle.std.proofs.Common.{◌∙◌, ℕ, List, ap, arith, length, refl, subst, sym}
 use Rattle.std.specs.Prelude.{slice_get}
 use Rattle.std.specs.List.{AllZip}
 use Rattle.mq_edits.specs.Former.{StaysUpTo}
@@ -68,7 +68,7 @@ pub edit_columns-done-requires-clause-can : goal.edit_columns-done-requires-clau
 edit_columns-done-requires-clause-can c =
     let (net, read, fit) = c.requires.read in
     λ k column is. can_edit net c.args.rows.now c.args.edits.now c.args.former.now.from column read fit c.requires.first
-        (read.columns k column (sym (ap (λ (columns : List (List ℕ)). slice_get columns k) (c.into_vec-columns.ensures ∙ c.replace.ensures.value)) ∙ is))
+    (read.columns k column (sym (ap (λ (columns : List (List ℕ)). slice_get columns k) (c.into_vec-columns.ensures ∙ c.replace.ensures.value)) ∙ is))
 
 pub edit_columns-done-requires-clause-numbers : goal.edit_columns-done-requires-clause-numbers
 edit_columns-done-requires-clause-numbers c =

@@ -1,4 +1,4 @@
-use Rattle.std.proofs.Common.{arith, length}
+use Rattle.std.proofs.Common.{arith}
 use Rattle.mq_edits.proofs.FormerFacts.{first_low}
 use Rattle.mq_edits.proofs.RowFacts.{edited_are_read}
 use Rattle.mq_edits.proofs.rows.edit_rows.Goals as goal

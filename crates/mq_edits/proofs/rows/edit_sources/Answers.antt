@@ -1,4 +1,4 @@
-use Rattle.std.proofs.Common.{◌≡◌, ◌∙◌, ◌++◌, ◌<◌, ◌≤◌, ◌+◌, ◌-◌, [], ◌∷◌, ap, arith, length, length-append, refl, set, sym, take, Some}
+use Rattle.std.proofs.Common.{◌≡◌, ◌∙◌, ◌++◌, ◌≤◌, ◌+◌, ap, arith, length, length-append, refl, sym, take, Some}
 use Rattle.std.proofs.lemmas.Grind.{common_steps}
 use Rattle.std.proofs.lemmas.List.{length_push, length-set, take-append-drop}
 use Rattle.mq_edits.specs.Edited.{edited_by, source_of}
@@ -10,7 +10,7 @@ use Rattle.mq_edits.proofs.rows.edit_sources.Goals.{in-Set, in-Add+in_ok-push-in
 pub loop-edit-init : goal.loop-edit-init
 loop-edit-init c =
     let same : take c.args.from c.args.sources.now ++ c.in_ok-list.list.items ≡ c.args.sources.now =
-        ap (λ l. take c.args.from c.args.sources.now ++ l) (c.in_ok-list.ensures ∙ c.requires.former) ∙ take-append-drop c.args.from c.args.sources.now in
+    ap (λ l. take c.args.from c.args.sources.now ++ l) (c.in_ok-list.ensures ∙ c.requires.former) ∙ take-append-drop c.args.from c.args.sources.now in
     record { made = same; places = rw same c.requires.can.places; long = let l = ap length c.in_ok-list.ensures in omega arith }
 
 pub overflow_sub-row : goal.overflow_sub-row
@@ -41,9 +41,11 @@ loop-edit-preserved c =
     let both : (front ++ c.match-edit.list.items ≡ edited_by source_of (front ++ c.loop-edit.list.items) c.edit-item.result) × (length c.loop-edit.list.items ≤ length c.match-edit.list.items) = elim c.match-edit.branch [
       | in-Set w ↦
           let first = first_at (length c.args.sources.now) c.args.edits.now c.loop-edit.edit-index _ _ _ _ (at ∙ ap Some w.in-Set.is) in
-          let same : length c.match-edit.list.items ≡ length c.loop-edit.list.items = ap (λ v. length v.items) w.list-is ∙ length-set _ _ _ in
-          (ap (λ v. front ++ v.items) w.list-is ∙ set_behind front c.loop-edit.list.items c.args.from w.in-Set.row c.source_of-source.result count (omega (arith, first, c.requires.can.first))
-            ∙ rw (c.source_of-source.ensures, w.in-Set.is) refl, omega arith)
+          let same : length c.match-edit.list.items ≡ length c.loop-edit.list.items = ap (λ v. length v.items) w.list-is ∙ length-set _ _ _ in (
+            ap (λ v. front ++ v.items) w.list-is ∙ set_behind front c.loop-edit.list.items c.args.from w.in-Set.row c.source_of-source.result count (omega (arith, first, c.requires.can.first))
+                ∙ rw (c.source_of-source.ensures, w.in-Set.is) refl,
+            omega arith,
+          )
       | in-Add+in_ok-push-in-Add w ↦
           let is = ap (λ v. v.items) w.list-is ∙ w.in_ok-push-in-Add.ensures.items in
           let more : length c.match-edit.list.items ≡ length c.loop-edit.list.items + 1 = ap length is ∙ length_push _ _ in
