@@ -2,8 +2,9 @@
 """mpsim once more, as a plain sequential event list: what the program's answers are compared with.
 
 It is a check, for reading, and no second engine. It takes the words of `mpsim` and gives the same bytes, status and line, written from
-docs/MODEL.md, docs/REPORT.md and docs/ERRORS.md alone. A heap has the events; nodes.py has a class for each kind of node, and texts.py
-reads what is read. `--workers` and `--block` are judged and change nothing here. It never answers want of memory.
+docs/MODEL.md, docs/REPORT.md and docs/ERRORS.md alone. A heap has the events; nodes.py has a class for each kind of node, texts.py reads
+models, traces and words, and generator.py draws made inputs. `--workers` and `--block` are judged and change nothing here. It never answers
+want of memory.
 """
 
 from __future__ import annotations
@@ -14,8 +15,9 @@ import re
 import sys
 from typing import Callable, Iterator, NamedTuple, Optional
 
+from generator import made
 from nodes import COMES, DONE, KINDS, Node, VISITS, Visit
-from texts import COLUMNS, GREATEST_TIME, Line, Refused, Row, lines_of, read_trace, settings_of, words_of
+from texts import COLUMNS, GREATEST_TIME, Line, Refused, Row, Settings, lines_of, read_trace, settings_of, words_of
 
 MODEL_BYTES, NODES = 65_536, 64
 
@@ -41,7 +43,7 @@ class Network:
         self.nodes = ranked(declared)
 
     def run(self, rows: list[Row]):
-        """Runs until nothing is pending. Then the first node that has too many visits, or is late, refuses the run."""
+        """Runs until nothing is pending."""
         self.events: list[tuple] = []
         self.span = self.sent = 0
         self.exits: dict[tuple[str, int], list[int]] = {}   # the times in the network of those who left it, by output
@@ -55,8 +57,15 @@ class Network:
                 self.nodes[rank].done(where, whom, self.span)
             else:
                 self.nodes[rank].come(*whom, where, self.span)
+
+    def judge(self):
+        """Refuses the run for the first node that has too many visits, or else a visit past the bound, the first by position."""
         for node in self.nodes:
-            judge(node, self.bound)
+            if len(node.visits) > VISITS:
+                raise Refused(9, f'node {node.name} has {len(node.visits)} visits')
+            for visit in node.visits:
+                if visit.departed is not None and visit.departed > self.bound:
+                    raise Refused(5, f'node {node.name} position {visit.position} passes the bound at time {visit.departed}')
 
     def at(self, time: int, node: Node, what: int, where: int, turn: int, whom):
         """Puts an event. At one time the node of lower rank goes first; at one node what is done goes before who comes, by server, and
@@ -85,15 +94,6 @@ def ranked(declared: list[Node]) -> list[Node]:
         order.append(following)
         names.add(following.name)
     return order
-
-
-def judge(node: Node, bound: int):
-    """Refuses a node with too many visits, or else its first visit, by position, that leaves past the bound."""
-    if len(node.visits) > VISITS:
-        raise Refused(9, f'node {node.name} has {len(node.visits)} visits')
-    for visit in node.visits:
-        if visit.departed is not None and visit.departed > bound:
-            raise Refused(5, f'node {node.name} position {visit.position} passes the bound at time {visit.departed}')
 
 
 def read_model(text: str) -> Network:
@@ -196,16 +196,30 @@ class Answer(NamedTuple):
 Reader = Callable[[str], Optional[bytes]]   # the content of a file, or none where it can't be read
 
 
-def simulate(words: list[str], read: Reader) -> Answer:
+Look = Callable[[Network], None]            # what is shown each network when it has run, and before it is judged
+
+
+def simulate(words: list[str], read: Reader, look: Look = lambda network: None) -> Answer:
     """What `mpsim` answers to its words."""
     try:
         settings = settings_of(words)
-        network = read_model(text_of(settings.names[0], 'the model', read))
-        rows = read_trace(text_of(settings.names[1], 'the trace', read), network.sources, network.columns)
+        texts = texts_of(settings, read)
+        network = read_model(next(texts))
+        rows = read_trace(next(texts), network.sources, network.columns)
         network.run(rows)
+        look(network)
+        network.judge()
     except Refused as refusal:
         return Answer(refusal.status, '', f'mpsim: {refusal.line}\n')
-    return Answer(0, ''.join(line + '\n' for line in report(network, rows, settings.form, settings.jobs)), '')
+    return Answer(0, ''.join(f'{line}\n' for line in report(network, rows, settings.form, settings.jobs)), '')
+
+
+def texts_of(settings: Settings, read: Reader) -> Iterator[str]:
+    """The model, and then, when that has been judged, the trace."""
+    if settings.made is not None:
+        yield from made(settings.made)
+    for name, what in zip(settings.names, ('the model', 'the trace')):
+        yield text_of(name, what, read)
 
 
 def text_of(name: str, what: str, read: Reader) -> str:
