@@ -1,4 +1,4 @@
-"""mpedit beside stored texts, and beside runs of mpsim over rows that another program edits, which counts the blocks by itself (edited.py)."""
+"""mpedit beside stored texts, and beside the reference, which runs the edited rows from nothing and counts the blocks by itself (edits.py)."""
 import sys
 
 from programs import CALL, CASES, CHECKS, DESK_FILES, EXAMPLES, ROOT, Check, form_of, run
@@ -19,8 +19,8 @@ def bound_by(bound):
 
 class Edits(Check):
     def as_apart(self, *words):
-        """mpedit does what the other program does."""
-        apart = run(sys.executable, CHECKS / "edited.py", ROOT / "mpsim", *words)
+        """mpedit does what the reference does."""
+        apart = run(sys.executable, CHECKS / "edits.py", *words)
         ran = run("mpedit", *words)
         self.did(ran, apart.status, apart.out, apart.line)
         return ran
