@@ -124,6 +124,14 @@ class Check(unittest.TestCase):
             file.writelines(bytes_of(it) for it in parts)
         return path
 
+    def fail(self, told):
+        """Ends a case that differs. The files of the test are kept, in a folder that the command line then names."""
+        if any(self.folder.iterdir()):
+            kept = tempfile.mkdtemp(prefix="check-differs-")
+            shutil.copytree(self.folder, kept, symlinks=True, dirs_exist_ok=True)
+            told = told.replace(str(self.folder), kept)
+        super().fail(told)
+
     def same(self, what, written, wanted):
         """A case: two texts, or values, are the same."""
         self.cases += 1
@@ -140,15 +148,12 @@ class Check(unittest.TestCase):
     def did(self, ran, status=0, out=b"", line=b""):
         """A case: a run ended with this status, and wrote these texts, or what stands in these files, byte for byte."""
         self.cases += 1
-        out, line, told = bytes_of(out), bytes_of(line), [ran.command]
-        if ran.status != status:
-            told.append(f"status {ran.status}, wanted {status}")
-        if ran.out != out:
-            told.append("output:\n" + difference(ran.out, out))
-        if ran.line != line:
-            told.append("error output:\n" + difference(ran.line, line))
-        if told[1:]:
-            self.fail("\n".join(told))
+        out, line, told = bytes_of(out), bytes_of(line), []
+        for name, written, wanted in ("output", ran.out, out), ("error output", ran.line, line):
+            if written != wanted:
+                told.append(f"{name}:\n{difference(written, wanted)}")
+        if told or ran.status != status:
+            self.fail("\n".join([ran.command, f"status {ran.status}" + f", wanted {status}" * (ran.status != status), *told]))
 
     def writes(self, report, *words, **more):
         """mpsim writes this report with these words, and those for its form, and nothing else."""

@@ -9,7 +9,7 @@ import re
 import shutil
 
 from pages import blocks
-from programs import EXAMPLES, PROGRAMS, ROOT, Check, executable, run
+from programs import EXAMPLES, PROGRAMS, ROOT, Check, difference, executable, run
 
 PAGES = ["README.md", *(f"docs/{file.name}" for file in sorted((ROOT / "docs").glob("*.md")))]
 # A block is a command where it begins with one of these, or with the name of a file in a folder.
@@ -102,7 +102,7 @@ class Documents(Check):
     def shows(self, page, block, ran, text):
         """A case: the lines of a block stand in what was written, in this order."""
         missing = stands_in(block.text, text)
-        self.holds(f"{page} line {block.line}: {missing!r} isn't written by\n{ran.command}\nwhich writes\n{text[:2000]}", missing is None)
+        self.holds(f"{page} line {block.line}: {missing!r} isn't written by\n{ran.command}\n{difference(text.encode(), block.text.encode())}", not missing)
 
     def runs_below(self, page, heading, found):
         """Runs what stands below a heading, and compares it with what is shown."""
