@@ -35,7 +35,8 @@ ENOUGH = 400    # cases, in which each of the expected should occur
 MOST = 3        # cases that differ, after which no more are run
 
 OF_NETWORKS = [f'a model of {LARGEST} nodes', *(f'visits to a {kind}' for kind in KINDS), 'jobs that come at one time by two ports',
-               'a job that comes as another leaves', 'a job that overtakes', 'a lost job', 'a held visit', 'a visit past the bound']
+               'a job that comes as another leaves', 'a job that overtakes', 'a lost job', 'a held visit', 'a job that comes twice to a join by one port',
+               'a visit past the bound']
 OF_TEXTS = ['a fault in a model', 'a fault in a trace', 'a model that is cut', 'a trace that is cut']
 EXPECTED = {
     'mpsim': ['status 0', 'status 2', 'status 3', 'status 4', 'status 5', 'lines of jobs', 'form 1', 'form 2', *OF_NETWORKS, *OF_TEXTS],
@@ -115,10 +116,13 @@ def seen_in(network: Network) -> Iterator[str]:
     for node in network.nodes:
         if node.visits:
             yield f'visits to a {node.kind}'
-        left, last = set(), 0
+        left, last, parts = set(), 0, set()
         for before, visit in zip([None, *node.visits], node.visits):
             if before and before.arrived == visit.arrived and before.port != visit.port:
                 yield 'jobs that come at one time by two ports'
+            if node.kind == 'join' and (visit.job, visit.port) in parts:
+                yield 'a job that comes twice to a join by one port'
+            parts.add((visit.job, visit.port))
             if visit.arrived in left:
                 yield 'a job that comes as another leaves'
             if visit.lost:
@@ -160,7 +164,7 @@ def compare(comparison: Comparison, seed: int, count: int, threads: int, folder:
     with ThreadPoolExecutor(threads) as pool:
         indices = iter(range(count))
         running = deque(pool.submit(comparison.result_of, seed, index) for _, index in zip(range(4 * threads), indices))
-        while running:
+        while running and differing < MOST:
             result = running.popleft().result()
             ran += 1
             occurred.update(result.occurred)
@@ -169,7 +173,7 @@ def compare(comparison: Comparison, seed: int, count: int, threads: int, folder:
                 case = smaller(case_of(comparison.tool, seed, result.index), comparison.differs)
                 print(f'case {result.index} of seed {seed} differs:')
                 print(comparison.keep(case, folder / f'{comparison.tool}-{seed}-{result.index}'), flush=True)
-            following = next(indices, None) if differing < MOST else None
+            following = next(indices, None)
             if following is not None:
                 running.append(pool.submit(comparison.result_of, seed, following))
     return told(comparison.tool, ran, differing, occurred)

@@ -13,7 +13,7 @@ COLUMNS = ('d', 'e', 'kind', 'time')   # a column may have the name of the secon
 SOURCES = ('src', 'phone', 'web_2')
 NAMES = ('a', 'b', 'desk', 'expert_1', 'turn', 'mod', 'cut', 'model', 'x9', 'join', 'n' * 32)
 KINDS = ('server', 'delay', 'loss', 'tandem', 'forkjoin', 'split')
-LATER_KINDS = KINDS + ('fork', 'fork', 'join', 'join', 'join', 'trunk', 'trunk')
+LATER_KINDS = KINDS + ('fork', 'fork', 'fork', 'join', 'join', 'join', 'trunk', 'trunk')
 ODD_WORDS = ('from', 'model', '=1', '=', 'source', '/', '|', '0', '1', '9', '4294967296', '68719476737', 'a.8', 'A', 'x-y', '#', 'turn', 'd')
 BLOCKS = (1, 1, 2, 3, 4, 5, 7, 16, 63, 64, 100, 4_096, 65_536)
 ODD_COMMANDS = ('', '-', '--', '--help', '--workers', '--jobs', '--made', '--workers=8', '--block', '0', '-1', '65', 'model.txt', '--report')
@@ -138,9 +138,9 @@ class Growing:
         return []
 
 
-def model_of(draw: Drawing, sources: Optional[list[str]] = None, faults: float = 0.1) -> Model:
+def model_of(draw: Drawing, sources: Optional[list[str]] = None, faults: float = 0.1, nodes: int = 0) -> Model:
     version = 2 if draw.chance(0.7) else 1
-    nodes = LARGEST if draw.chance(0.4) else draw.randint(1, LARGEST)
+    nodes = nodes or (LARGEST if draw.chance(0.4) else draw.randint(1, LARGEST))
     sources = sources or draw.some(SOURCES, 1, 2)
     columns = draw.some(COLUMNS, 0, 4) or ['d']
     growing = Growing(draw, sources, version, columns)
@@ -196,44 +196,43 @@ def faulty_model(draw: Drawing, text: str) -> str:
 # Traces.
 
 class Rows(NamedTuple):
-    """How the records of a trace are drawn."""
+    """The records of a trace before they are written: their source, their time, and their values in these columns."""
     sources: list[str]
     columns: list[str]
-    count: int
+    records: list[list[str]]
 
 
-def row_of(draw: Drawing, rows: Rows, time: int) -> list[str]:
+def rows_of(draw: Drawing, sources: list[str], columns: list[str], count: int) -> Rows:
+    time = 2 ** 60 - 60 if draw.chance(0.03) else 0
+    gaps = draw.choice(((0, 0, 1), (0, 1, 2, 3), (0, 0, 0, 0, 5, 9), (2, 4, 6)))
+    records = []
+    for _ in range(count):
+        time += draw.choice(gaps)
+        records.append([draw.choice(sources), number(draw, time), *values_of(draw, columns)])
+    if draw.chance(0.3):
+        draw.shuffle(records)
+    return Rows(sources, columns, records)
+
+
+def values_of(draw: Drawing, columns: list[str]) -> list[str]:
     small = (0, 0, 1, 1, 2, 3, 5, 8)
-    values = [draw.choice(small) if draw.random() < 0.99 else draw.randrange(2 ** 36 + 1) for _ in rows.columns]
-    return [draw.choice(rows.sources), *(number(draw, value) for value in [time, *values])]
+    return [number(draw, draw.choice(small) if draw.random() < 0.99 else draw.randrange(2 ** 36 + 1)) for _ in columns]
 
 
 def number(draw: Drawing, value: int) -> str:
     return f'{value:03}' if draw.random() < 0.01 else str(value)
 
 
-def records_of(draw: Drawing, rows: Rows) -> list[list[str]]:
-    time = 2 ** 60 - 60 if draw.chance(0.03) else 0
-    gaps = draw.choice(((0, 0, 1), (0, 1, 2, 3), (0, 0, 0, 0, 5, 9), (2, 4, 6)))
-    records = []
-    for _ in range(rows.count):
-        time += draw.choice(gaps)
-        records.append(row_of(draw, rows, time))
-    if draw.chance(0.3):
-        draw.shuffle(records)
-    return records
-
-
 def trace_of(draw: Drawing, rows: Rows, faults: float = 0.1) -> str:
-    """A trace with the columns in any order, and perhaps some that nobody reads."""
+    """A trace with the columns in any order, and perhaps one that nobody reads."""
     order = list(range(2, 2 + len(rows.columns)))
     draw.shuffle(order)
-    table = [['source', 'time', *rows.columns], *records_of(draw, rows)]
+    table = [['source', 'time', *rows.columns], *rows.records]
     table = [record[:2] + [record[place] for place in order] for record in table]
     if draw.chance(0.3):
         place = draw.randint(2, len(table[0]))
-        for number, record in enumerate(table):
-            record.insert(place, draw.choice(('', 'x', '"a, ""b"""', '"\r\n\n"', 'a"b', '"c"d', '-1')) if number else '"no\nte"')
+        for index, record in enumerate(table):
+            record.insert(place, draw.choice(('', 'x', '"a, ""b"""', '"\r\n\n"', 'a"b', '"c"d', '-1')) if index else '"no\nte"')
     if draw.chance(faults, 'a fault in a trace'):
         faulty_records(draw, table)
     elif draw.chance(0.2):
@@ -254,11 +253,6 @@ def faulty_records(draw: Drawing, table: list[list[str]]):
     record[field:field + draw.randint(0, 1)] = [draw.choice(odd)] * draw.choice((0, 1, 1, 1))
 
 
-def size_of(draw: Drawing, large: float, least: int, most: int) -> int:
-    """How many records: mostly few, and in this share of traces so many."""
-    return draw.randint(least, most) if draw.chance(large) else draw.randint(0, 40)
-
-
 # Commands.
 
 def cut(draw: Drawing, share: float, what: str, text: str) -> str:
@@ -268,7 +262,7 @@ def cut(draw: Drawing, share: float, what: str, text: str) -> str:
 
 def mpsim(draw: Drawing) -> Case:
     model = model_of(draw)
-    trace = trace_of(draw, Rows(model.sources, model.columns, size_of(draw, 0.05, 100, 600)))
+    trace = trace_of(draw, rows_of(draw, model.sources, model.columns, draw.randint(0, 600 if draw.chance(0.07) else 40)))
     files = {'model.txt': cut(draw, 0.05, 'model', model.text), 'trace.csv': cut(draw, 0.08, 'trace', trace)}
     pieces = [['model.txt'], ['trace.csv']]
     for share, piece in ((0.7, ['--workers', str(draw.choice((1, 2, 2, 3, 4, 8, 64)))]), (0.7, ['--block', str(draw.choice(BLOCKS))]),
@@ -290,23 +284,30 @@ def faulty_words(draw: Drawing, words: list[str]) -> list[str]:
 
 
 def mpedit(draw: Drawing) -> Case:
-    model = model_of(draw, faults=0.03)
-    rows = Rows(model.sources, model.columns, size_of(draw, 0.04, 4_000, 8_200))
-    trace = trace_of(draw, rows, faults=0.03)
-    files = {'model.txt': cut(draw, 0.02, 'model', model.text), 'trace.csv': cut(draw, 0.02, 'trace', trace),
+    """Some traces have as many records as one block or two, or nearly, and small models."""
+    large = draw.chance(0.1)
+    model = model_of(draw, faults=0.05, nodes=draw.randint(1, 4) if large else 0)
+    count = draw.choice((4_095, 4_096, 4_097, 4_097, 5_000, 8_192)) if large else draw.randint(0, 40)
+    rows = rows_of(draw, model.sources, model.columns, count)
+    files = {'model.txt': cut(draw, 0.04, 'model', model.text), 'trace.csv': cut(draw, 0.04, 'trace', trace_of(draw, rows, 0.05)),
              'edits.txt': cut(draw, 0.1, 'text of edits', edits_of(draw, rows))}
     return Case('mpedit', faulty_words(draw, ['model.txt', 'trace.csv', 'edits.txt']), files, draw.marks)
 
 
 def edits_of(draw: Drawing, rows: Rows) -> str:
-    lines, count = [], rows.count
-    for _ in range(draw.choice((0, 1, 1, 2, 3, 8))):
-        row = row_of(draw, rows, draw.randint(0, 3 * count + 3))
-        if count and draw.chance(0.7):
-            lines.append(' '.join(['set', str(draw.randint(1, count)), *row]))
+    lines, records = [], list(rows.records)
+    for _ in range(draw.choice((0, 1, 1, 1, 2, 3, 8))):
+        count = len(records)
+        record = [draw.choice(rows.sources), str(draw.randint(0, draw.choice((3 * count + 3, 400)))), *values_of(draw, rows.columns)]
+        if count and draw.chance(0.8):
+            place = draw.choice([place for place in (0, 4_094, 4_095, 4_096, count - 1) if place < count] + [draw.randrange(count)])
+            if draw.chance(0.6):   # the same source, and mostly the same time
+                record[:2] = [records[place][0], records[place][1] if draw.chance(0.8) else record[1]]
+            records[place] = record
+            lines.append(' '.join(['set', str(place + 1), *record]))
         else:
-            lines.append(' '.join(['add', *row]))
-            count += 1
+            records.append(record)
+            lines.append(' '.join(['add', *record]))
     lines = [spaced(draw, line) for line in lines]
     if draw.chance(0.1):
         lines.insert(draw.randint(0, len(lines)), draw.choice(('', ' ', '\t\r')))
@@ -319,6 +320,6 @@ def mpsweep(draw: Drawing) -> Case:
     count = draw.choice((1, 2, 3, 3, 4, 5, 6, 40 if draw.chance(0.1) else 2))
     files = {f'model-{number}.txt': cut(draw, 0.03, 'model', model_of(draw, sources, 0.05).text) for number in range(1, count + 1)}
     words = ['trace.csv', *files]
-    trace = trace_of(draw, Rows(sources, list(COLUMNS), size_of(draw, 0.03, 100, 600)), faults=0.05)
+    trace = trace_of(draw, rows_of(draw, sources, list(COLUMNS), draw.randint(0, 400 if draw.chance(0.05) else 40)), faults=0.05)
     files['trace.csv'] = cut(draw, 0.05, 'trace', trace)
     return Case('mpsweep', faulty_words(draw, words), files, draw.marks)

@@ -150,10 +150,11 @@ def read_trace(text: str, sources, columns: list[str]) -> list[Row]:
     for column in columns:
         if column not in header[2:]:
             raise Refused(4, f'trace header: column {column} missing')
+    places = {column: header.index(column, 2) for column in columns}
+    rows = [row_of(number, record, len(header), sources, places) for number, record in enumerate(records[:RECORDS], 1)]
     if len(records) > RECORDS:
         raise Refused(4, f'trace: more than {RECORDS} records')
-    places = {column: header.index(column, 2) for column in columns}
-    return [row_of(number, record, len(header), sources, places) for number, record in enumerate(records, 1)]
+    return rows
 
 
 def row_of(number: int, record: list[str], fields: int, sources, places: dict[str, int]) -> Row:
