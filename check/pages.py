@@ -1,5 +1,6 @@
-"""The blocks of code of README.md and of the pages in docs."""
+"""The blocks of code of README.md and of the pages in docs, and the sections of the man pages."""
 import collections
+import re
 from typing import NamedTuple
 
 from programs import ROOT
@@ -41,3 +42,10 @@ def sections(page):
     for block in blocks(page):
         texts[block.heading].append(block.text)
     return texts
+
+
+def section(program, name):
+    """The lines of a section of a program's man page, with dashes as they are shown."""
+    text = (ROOT / "docs" / f"{program}.1").read_text().replace("\\-", "-")
+    sections = re.split(r"^\.SH ", text, flags=re.MULTILINE)
+    return next(it for it in sections if it.strip('"').startswith(name)).splitlines()[1:]

@@ -4,6 +4,7 @@ import re
 import shlex
 import shutil
 
+from pages import section
 from programs import PROGRAMS, ROOT, Check, run
 
 
@@ -19,12 +20,6 @@ def forms_of(program):
 def options_of(text):
     """The options that a text names, in order, each once."""
     return sorted(set(re.findall(r"--[a-z]+", text)))
-
-
-def section(page, name):
-    """The lines of a section of a man page, with dashes as they are written."""
-    sections = re.split(r"^\.SH ", text_of(f"docs/{page}.1").replace("\\-", "-"), flags=re.MULTILINE)
-    return next(it for it in sections if it.strip('"').startswith(name)).splitlines()[1:]
 
 
 def plain(line):
