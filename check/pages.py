@@ -44,7 +44,7 @@ def sections(page):
     return texts
 
 
-def section(program, name):
+def manual_section(program, name):
     """The lines of a section of a program's man page, with dashes as they are shown."""
     text = (ROOT / "docs" / f"{program}.1").read_text().replace("\\-", "-")
     sections = re.split(r"^\.SH ", text, flags=re.MULTILINE)

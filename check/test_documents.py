@@ -139,6 +139,20 @@ class Documents(Check):
         commands = {block.heading for block in blocks("docs/MODEL.md") if is_command(block)}
         self.same("headings of docs/MODEL.md with commands", sorted(commands), RECIPES)
 
+    def test_files_that_are_named(self):
+        """Links of pages lead to files and headings, and files of the repository that they name are there."""
+        anchor_of = lambda heading: re.sub(r"[^\w -]", "", heading.lower()).replace(" ", "-")
+        for page in [*PAGES, *(str(file.relative_to(ROOT)) for file in sorted(ROOT.glob("crates/*/README.md")))]:
+            text, folder = (ROOT / page).read_text(), (ROOT / page).parent
+            for link, anchor in re.findall(r"\]\(([\w./-]*)(?:#([\w-]+))?\)", text):
+                file = folder / link if link else ROOT / page
+                self.holds(f"{page}: {link} isn't there", file.exists())
+                if anchor:
+                    names = [anchor_of(line.lstrip("#").strip()) for line in file.read_text().splitlines() if line.startswith("#")]
+                    self.holds(f"{page}: {link}#{anchor} isn't there", anchor in names)
+            for name in re.findall(r"`((?:\.ci|check|tools|bench|docs|examples|completions)/[\w./*-]+)[` ]", text):
+                self.holds(f"{page}: {name} isn't there", any(ROOT.glob(name)))
+
 
 for page in PAGES:
     for heading, found in headings(page).items():

@@ -2,14 +2,14 @@
 import os
 import shutil
 
-from pages import section
+from pages import manual_section
 from programs import DESK_FILES, EXAMPLES, PROGRAMS, ROOT, Check, difference, run
 
 
 def commands_of(program):
     """The commands of the examples of a program's page, each with the lines that stand below it."""
     found, within = [], False
-    for line in section(program, "EXAMPLES"):
+    for line in manual_section(program, "EXAMPLES"):
         within = line == ".nf" or within and line != ".fi"
         if not within or line.startswith("."):
             continue

@@ -4,7 +4,7 @@ import re
 import shlex
 import shutil
 
-from pages import section
+from pages import manual_section
 from programs import PROGRAMS, ROOT, Check, run
 
 
@@ -60,14 +60,14 @@ class Options(Check):
                 self.same("docs/ERRORS.md", (line, status), (f"`{program}: usage: {' or '.join(forms)}`", "2"))
                 head = re.findall(r"^# (?:Runs the program:|or) \./(.*)$", text_of(program), flags=re.MULTILINE)
                 self.same(f"the head of the script {program}", head, forms)
-                synopsis = " ".join("\n" if it == ".br" else plain(it) for it in section(program, "SYNOPSIS"))
+                synopsis = " ".join("\n" if it == ".br" else plain(it) for it in manual_section(program, "SYNOPSIS"))
                 self.same(f"docs/{program}.1", [it.strip() for it in synopsis.split("\n")], forms)
 
     def test_names_of_options(self):
         for program in PROGRAMS:
             with self.subTest(program):
                 options = options_of(" ".join(forms_of(program)))
-                described = "\n".join(it for it in section(program, "OPTIONS") if it.startswith(".B"))
+                described = "\n".join(it for it in manual_section(program, "OPTIONS") if it.startswith(".B"))
                 self.same(f"docs/{program}.1", options_of(described), options)
                 self.same(f"completions/_{program}", sorted(re.findall(r"^ *'(--[a-z]+)\[", text_of(f"completions/_{program}"), flags=re.MULTILINE)), options)
                 if (ROOT / "completions" / f"{program}.bash").is_file():
@@ -86,7 +86,7 @@ class Options(Check):
 
     def test_ranges_of_numbers(self):
         """The numbers of the line that refuses an option's value stand in its descriptions."""
-        rows, page = rows_of("README.md", "## Options"), "\n".join(section("mpsim", "OPTIONS"))
+        rows, page = rows_of("README.md", "## Options"), "\n".join(manual_section("mpsim", "OPTIONS"))
         described = {options_of(it)[0]: it for it in page.split(".TP")[1:]}
         for line, _, _ in rows_of("docs/ERRORS.md"):
             for option in re.findall(r"`mpsim: (--[a-z]+) takes ", line):
@@ -100,7 +100,7 @@ class Options(Check):
         for program in PROGRAMS:
             with self.subTest(program):
                 told = {status for _, cell, _ in rows_of("docs/ERRORS.md", ERRORS[program]) for status in cell.split(", ")} | {"0"}
-                page = re.findall(r"^\.B (\d+)$", "\n".join(section(program, "EXIT STATUS")), flags=re.MULTILINE)
+                page = re.findall(r"^\.B (\d+)$", "\n".join(manual_section(program, "EXIT STATUS")), flags=re.MULTILINE)
                 self.same(f"docs/{program}.1", page, sorted(told, key=int))
         cells = [cell for cell, _ in rows_of("docs/EDITS.md", "## How it ends")]
         self.same("docs/EDITS.md", sorted(int(it) for cell in cells for it in cell.split(", ")), sorted(map(int, told)))
