@@ -92,8 +92,7 @@ class Documents(Check):
         """What a command writes on its output, and into files that weren't there."""
         before = {file: file.stat().st_mtime_ns for file in self.top.rglob("*") if file.is_file()}
         ran = run("sh", "-e", "-c", command, folder=folder, settings=self.settings)
-        self.cases += 1
-        self.assertEqual((ran.status, ran.line), (0, b""), ran.command)
+        self.did(ran._replace(out=b""))
         new = [file for file in sorted(self.top.rglob("*")) if file.is_file() and file.stat().st_mtime_ns != before.get(file)]
         for file in new:
             self.holds(f"{ran.command}\nwrites nothing into {file.name}", file.stat().st_size)

@@ -1,9 +1,9 @@
 """mpedit beside stored texts, and beside the reference, which runs the edited rows from nothing and counts the blocks by itself (edits.py)."""
 import sys
 
+from inputs import lines_of, records, two_nodes, unescaped
 from programs import CALL, CASES, CHECKS, DESK_FILES, EXAMPLES, ROOT, Check, form_of, run
 from refusals import each_refused, first_refused_mutely
-from inputs import lines_of, records, two_nodes, unescaped
 
 LATE, MOVED = EXAMPLES / "edits" / "late-caller", EXAMPLES / "edits" / "shift-moved"
 STORED = ROOT / "crates" / "mpedit" / "stdout"

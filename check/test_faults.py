@@ -2,8 +2,8 @@
 
 The texts are lines of files in examples/cases.
 """
-from programs import DESK, EXAMPLES, Check
 from inputs import lines_of, unescaped
+from programs import DESK, EXAMPLES, Check
 
 NO_JOB = """mpsim report 1
 jobs 0 span 0

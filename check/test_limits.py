@@ -1,6 +1,6 @@
 """Limits, each at its end and one past it, and large inputs, which have to be done in little time."""
-from programs import CASES, DESK, EXAMPLES, Check
 from inputs import line_feeds, records, two_nodes
+from programs import CASES, DESK, EXAMPLES, Check
 
 ONE_SOURCE = EXAMPLES / "source" / "model.txt"
 # Rows of jobs, one a tick, each with the demand that is put in.

@@ -1,7 +1,7 @@
 """Made inputs (--made): what the program writes for a number it writes over the two texts that generator.py draws for it."""
 from generator import made
-from programs import EXAMPLES, Check, run
 from inputs import lines_of, unescaped
+from programs import EXAMPLES, Check, run
 
 
 class Made(Check):

@@ -1,7 +1,7 @@
 """mpsweep: a sweep writes what the single runs of mpsim write, whatever the order; its refusals, and faults of devices, memory and threads."""
+from inputs import line_feeds
 from programs import CASES, DESK_FILES, EXAMPLES, ROOT, Check, run
 from refusals import each_refused, first_refused_mutely, refusing
-from inputs import line_feeds
 
 DAY = EXAMPLES / "sweep"
 STORED = ROOT / "crates" / "mpsweep" / "stdout"

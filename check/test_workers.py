@@ -1,6 +1,8 @@
 """Workers: a text that is read in pieces, threads that come in any order, and how many threads a run starts."""
-from programs import CALL, DESK, DESK_FILES, EXAMPLES, PROGRAMS, Check, run
+import shutil
+
 from inputs import lines_of, unescaped
+from programs import CALL, DESK, DESK_FILES, EXAMPLES, PROGRAMS, Check, run
 
 CALL_FILES = CALL / "model.txt", CALL / "trace.csv"
 # Half of the bytes from which on a trace is cut into pieces.
@@ -31,7 +33,7 @@ class Workers(Check):
             self.writes(CALL / "report.txt", "--workers", "64", "--block", "1", *CALL_FILES)
 
     def test_threads_that_start(self):
-        if run("strace", "-f", "-o", "/dev/null", "-e", "trace=clone,clone3", "true").status:
+        if not shutil.which("strace") or run("strace", "-f", "-o", "/dev/null", "-e", "trace=clone,clone3", "true").status:
             self.skipTest("no strace here, so the threads of a run are not counted")
         # Few rows are one worker's, and one worker starts none. Four workers read the trace of made input 7, which is cut into three pieces: the ends
         # of two, the rows of three, and more lists of rows than workers want one, two and three threads.
