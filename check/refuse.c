@@ -1,5 +1,5 @@
 // What refuses the program that loads it one allocation, that of the number REFUSED, from 1, or each thread behind the first THREADS.
-// The file TOLD is there afterwards exactly where it has refused. The gate builds it with the kit's compiler, which has no headers.
+// The file TOLD is there afterwards exactly where it has refused. refusals.py builds it with the kit's compiler, which has no headers.
 typedef unsigned long size;
 
 extern void *__libc_malloc(size), *__libc_calloc(size, size), *__libc_realloc(void *, size), *__libc_memalign(size, size);

@@ -1,0 +1,48 @@
+"""Refuses the programs memory and threads, one allocation after another, by refuse.c."""
+import atexit
+import pathlib
+import shutil
+import subprocess
+import tempfile
+
+from programs import CHECKS, executable, once, run
+
+
+@once
+def library():
+    """What refuses, built with the compiler of the kit: it is loaded before a program's own libraries."""
+    folder = tempfile.mkdtemp(prefix="check-")
+    atexit.register(shutil.rmtree, folder, ignore_errors=True)
+    kit = pathlib.Path(subprocess.run(["rt", "doc"], stdout=subprocess.PIPE, text=True, check=True).stdout.strip()).parent / "toolchain"
+    words = [kit / "bin" / "clang", "--target=x86_64-unknown-linux-gnu", f"--sysroot={kit}", "-fuse-ld=lld", "-nostdlib", "-shared", "-fPIC", "-O1"]
+    subprocess.run([*words, "-o", f"{folder}/refuse.so", CHECKS / "refuse.c"], check=True)
+    return f"{folder}/refuse.so"
+
+
+def refusing(check, name, *words, line=None, **settings):
+    """Runs a program in whose run this is refused: REFUSED, the number of an allocation, or THREADS, all threads behind so many. What it did, and
+    whether anything was refused."""
+    told = check.folder / "told"
+    settings = {"LD_PRELOAD": library(), "TOLD": str(told), **settings}
+    ran = run(executable(name), *words, settings=settings, line=line, seconds=60)
+    return ran, told.is_file()
+
+
+def each_refused(check, status, out, name, *words):
+    """Each allocation is refused in turn: the program ends with status 8, its line and nothing written, or with this status and output, as where none
+    is refused."""
+    number, refused = 0, True
+    while refused:
+        number += 1
+        ran, refused = refusing(check, name, *words, REFUSED=str(number))
+        if refused and ran.status == 8:
+            check.did(ran, 8, "", f"{name}: out of memory\n")
+        else:
+            check.did(ran, status, out)
+    check.holds(f"{ran.command}\nmakes {number - 1} allocations, wanted 20 or more", number > 20)
+
+
+def first_refused_mutely(check, name, *words):
+    """The first allocation is refused, and the error output is full."""
+    ran, _ = refusing(check, name, *words, line="/dev/full", REFUSED="1")
+    check.did(ran, 8)

@@ -1,0 +1,160 @@
+"""What stands in README and docs is what the programs do: commands are run, and what stands below them has to be in what they write.
+
+A block of code that begins with a command is run as a shell reads it, in a folder that is like the top one. The blocks behind it, up to the next command
+or heading, have lines of what it writes, on its output or into files. A line above a block that a check can't run says so (pages.py). The recipes of
+docs/MODEL.md have a check of their own, which takes every block below their headings.
+"""
+import os
+import re
+import shutil
+
+from pages import blocks
+from programs import EXAMPLES, PROGRAMS, ROOT, Check, difference, executable, run
+
+PAGES = ["README.md", *(f"docs/{file.name}" for file in sorted((ROOT / "docs").glob("*.md")))]
+# A block is a command where it begins with one of these, or with the name of a file in a folder.
+COMMANDS = ["awk", "cat", "cd", "cp", "diff", "for", "gzip", "install", "man", "python3", "rt", "sed", "sh", "tar"]
+# Programs that draw, which need not be there.
+DRAWING = ["dot", "gnuplot"]
+# Headings of docs/MODEL.md whose commands test_recipes.py runs.
+RECIPES = ["A trace from a log", "Two servers at one queue"]
+# The other blocks of code that have texts of the examples, or what a program writes: for each the command that shows it.
+SHOWN = {
+    ("README.md", "An example"): ["cat callcentre/model.txt", "cat callcentre/trace.csv", "cat callcentre/report.txt"],
+    ("docs/MODEL.md", "The model by example"): ["cat callcentre/model.txt"],
+    ("docs/MODEL.md", "The trace"): ["cat callcentre/trace.csv"],
+    ("docs/EDITS.md", "One caller comes later"): ["cat edits/late-caller/edits.txt"],
+    ("docs/EDITS.md", "A shift is moved"): ["cat edits/shift-moved/edits.awk"],
+    ("docs/REPORT.md", "The report"): ["../mpsim desk/model.txt desk/trace.csv", "../mpsim desk/model.txt desk/trace.csv --jobs"],
+    ("docs/REPORT.md", "L, W, and the other letters of the field"): ["cat callcentre/report.txt"],
+    ("docs/REPORT.md", "Form 1"): ["../mpsim desk/model.txt desk/trace.csv --report 1"],
+    ("docs/REPORT.md", "A sweep"): [
+        "sed 's/model 1/model 9/' desk/model.txt >nine.txt; ../mpsweep desk/trace.csv desk/model.txt nine.txt || [ $? = 11 ]"
+    ],
+    ("docs/REPORT.md", "An edited trace"): ["echo add src 3 2 >edits.txt; ../mpedit desk/model.txt desk/trace.csv edits.txt"],
+    ("docs/SWEEPS.md", "An example"): ["cat sweep/agents-12.txt"],
+}
+
+
+def is_command(block):
+    first = block.text.split(None, 1)[0]
+    return first in COMMANDS or re.match(r"[./\w-]*/[\w-]+", first) is not None and (ROOT / first).is_file()
+
+
+def usage_of(block):
+    """The program of whose words a block of one line gives the form, or None."""
+    found = re.fullmatch(r"\./(\w+) ([A-Z. ]+)\n", block.text)
+    return found and found[1]
+
+
+def stands_in(lines, text):
+    """The first of these lines that doesn't stand in a text behind those before it, or None."""
+    rest = iter(text.splitlines())
+    return next((line for line in lines.splitlines() if line not in rest), None)
+
+
+def headings(page):
+    """The blocks of a page by the heading that they stand below."""
+    found = {}
+    for block in blocks(page):
+        found.setdefault(block.heading, []).append(block)
+    return found
+
+
+class Documents(Check):
+    def setUp(self):
+        """A folder like the top one, but for the sources, with files that pages name, a home, and stand-ins for programs that draw."""
+        super().setUp()
+        self.top, self.home = self.folder / "top", self.folder / "home"
+        shutil.copytree(EXAMPLES, self.top / "examples")
+        for name in "tools", "completions", "docs":
+            (self.top / name).symlink_to(ROOT / name)
+        for name, program in PROGRAMS.items():
+            (self.top / name).symlink_to(program)
+            (self.top / "crates" / name / "out").mkdir(parents=True)
+            (self.top / "crates" / name / "out" / name).symlink_to(executable(name))
+        for name in DRAWING:
+            self.file(name, "#!/bin/sh\nexec cat\n").chmod(0o755)
+        self.settings = {"HOME": str(self.home), "PATH": f"{self.folder}:{os.environ['PATH']}"}
+
+    def gives(self, heading):
+        """Files that the commands below a heading work on, which its page doesn't give."""
+        model, trace = (EXAMPLES / "sweep" / "agents-12.txt").read_text(), EXAMPLES / "sweep" / "trace.csv"
+        if heading == "Models by a loop":
+            self.file("top/model.txt", model.replace("trunk agents 12", "trunk agents AGENTS"))
+        if heading == "More than 64 models":
+            for agents in range(1, 201):
+                self.file(f"top/agents-{agents:03}.txt", model.replace("trunk agents 12", f"trunk agents {agents}"))
+        if heading in ("Models by a loop", "More than 64 models"):
+            shutil.copy(trace, self.top)
+
+    def told(self, command, folder):
+        """What a command writes on its output, and into files that weren't there."""
+        before = {file: file.stat().st_mtime_ns for file in self.top.rglob("*") if file.is_file()}
+        ran = run("sh", "-e", "-c", command, folder=folder, settings=self.settings)
+        self.did(ran._replace(out=b""))
+        new = [file for file in sorted(self.top.rglob("*")) if file.is_file() and file.stat().st_mtime_ns != before.get(file)]
+        for file in new:
+            self.holds(f"{ran.command}\nwrites nothing into {file.name}", file.stat().st_size)
+        return ran, b"".join([ran.out, *(file.read_bytes() for file in new)]).decode()
+
+    def shows(self, page, block, ran, text):
+        """A case: the lines of a block stand in what was written, in this order."""
+        missing = stands_in(block.text, text)
+        self.holds(f"{page} line {block.line}: {missing!r} isn't written by\n{ran.command}\n{difference(text.encode(), block.text.encode())}", not missing)
+
+    def runs_below(self, page, heading, found):
+        """Runs what stands below a heading, and compares it with what is shown."""
+        self.gives(heading)
+        wanted, last = list(SHOWN.get((page, heading), [])), None
+        for block in found:
+            if block.is_marked or block.text.startswith("#!"):
+                last = None
+            elif usage_of(block):
+                usage = run(usage_of(block)).line.decode()
+                self.same(f"{page} line {block.line}", usage, block.text.replace("./", f"{usage_of(block)}: usage: "))
+            elif is_command(block):
+                last = self.told(block.text, self.top)
+            elif last:
+                self.shows(page, block, *last)
+            elif wanted:
+                self.shows(page, block, *self.told(wanted.pop(0), self.top / "examples"))
+        self.same(f"{page}, {heading}: texts that are shown", wanted, [])
+
+    def test_table_of_a_sweep(self):
+        """The numbers in the table of docs/SWEEPS.md."""
+        page = (ROOT / "docs" / "SWEEPS.md").read_text()
+        rows = re.findall(r"^\| (\d+) \| ([\d,]+) \| ([\d,]+) s \| ([\d,]+) s \|$", page, flags=re.MULTILINE)
+        command = next(it.text for it in blocks("docs/SWEEPS.md") if it.text.startswith("cd examples/sweep"))
+        _, text = self.told(command, self.top)
+        table = [line.split(",") for line in text.splitlines()[1:]]
+        wanted = [(re.sub(r"\D", "", row[1]).lstrip("0"), *(f"{int(row[at]):,}" for at in (5, 11, 12))) for row in table]
+        self.same("the table of docs/SWEEPS.md", rows, wanted)
+
+    def test_commands_are_run(self):
+        """Each block that begins with a command is run, by this check or by that of the recipes, but for few that are marked."""
+        marked = [block for page in PAGES for block in blocks(page) if block.is_marked]
+        self.holds(f"{len(marked)} blocks are marked", len(marked) <= 3)
+        commands = {block.heading for block in blocks("docs/MODEL.md") if is_command(block)}
+        self.same("headings of docs/MODEL.md with commands", sorted(commands), RECIPES)
+
+    def test_files_that_are_named(self):
+        """Links of pages lead to files and headings, and files of the repository that they name are there."""
+        anchor_of = lambda heading: re.sub(r"[^\w -]", "", heading.lower()).replace(" ", "-")
+        for page in [*PAGES, *(str(file.relative_to(ROOT)) for file in sorted(ROOT.glob("crates/*/README.md")))]:
+            text, folder = (ROOT / page).read_text(), (ROOT / page).parent
+            for link, anchor in re.findall(r"\]\(([\w./-]*)(?:#([\w-]+))?\)", text):
+                file = folder / link if link else ROOT / page
+                self.holds(f"{page}: {link} isn't there", file.exists())
+                if anchor:
+                    names = [anchor_of(line.lstrip("#").strip()) for line in file.read_text().splitlines() if line.startswith("#")]
+                    self.holds(f"{page}: {link}#{anchor} isn't there", anchor in names)
+            for name in re.findall(r"`((?:\.ci|check|tools|bench|docs|examples|completions)/[\w./*-]+)[` ]", text):
+                self.holds(f"{page}: {name} isn't there", any(ROOT.glob(name)))
+
+
+for page in PAGES:
+    for heading, found in headings(page).items():
+        if (page, heading) in SHOWN or page != "docs/MODEL.md" and any(it.is_marked or is_command(it) or usage_of(it) for it in found):
+            name = re.sub(r"\W+", "_", f"{page.rsplit('/')[-1][:-3]}_{heading}".lower())
+            setattr(Documents, f"test_{name}", lambda self, of=(page, heading, found): self.runs_below(*of))

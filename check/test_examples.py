@@ -1,0 +1,46 @@
+"""The examples and the cases: folders with a model and a trace, and what a call over them answers.
+
+report.txt is what the call writes, in the form that its first line names, line.txt its line on the error output, and `status` its status, which is 0
+where no file tells it. Where there are several calls, or other words, each line of the file `words` is a call. jobs.txt has the report with the lines
+of the jobs. The answer is the same whatever the workers and the block are.
+"""
+import shlex
+
+from programs import CASES, EXAMPLES, Check, form_of, run
+
+# Workers and jobs in a block.
+SETTINGS = [("1", "5"), ("4", "1"), ("4", "4096"), ("64", "1")]
+# These have examples of mpsweep and of mpedit, and the cases.
+OTHERS = ["cases", "edits", "sweep"]
+FOLDERS = [it for it in sorted(EXAMPLES.iterdir()) if it.is_dir() and it.name not in OTHERS] + [it for it in sorted(CASES.iterdir()) if it.is_dir()]
+
+
+class Examples(Check):
+    def answers(self, folder):
+        report, line, jobs = (folder / f"{name}.txt" for name in ("report", "line", "jobs"))
+        self.assertTrue(report.is_file() or line.is_file(), f"{folder} has no answer")
+        status = int((folder / "status").read_text()) if (folder / "status").is_file() else 0
+        wanted = status, report if report.is_file() else b"", line if line.is_file() else b""
+        form = form_of(wanted[1])
+        told = (folder / "words").is_file()
+        for words in (folder / "words").read_text().splitlines() if told else ["model.txt trace.csv"]:
+            self.did(run("mpsim", *shlex.split(words), *form, folder=folder), *wanted)
+        if jobs.is_file():
+            self.writes(jobs, "model.txt", "trace.csv", "--jobs", folder=folder)
+        if line.is_file() and told:
+            return
+        for workers, block in SETTINGS:
+            self.did(run("mpsim", "--workers", workers, "model.txt", "--block", block, "trace.csv", *form, folder=folder), *wanted)
+            if jobs.is_file():
+                self.writes(jobs, "--workers", workers, "model.txt", "--jobs", "--block", block, "trace.csv", folder=folder)
+
+    def test_options_among_the_names(self):
+        server = CASES / "server"
+        self.did(run("mpsim", "model.txt", "--report", "1", "trace.csv", folder=server), 0, server / "report.txt")
+        words = "--block 65536 model.txt --workers 064 --jobs trace.csv --report 1".split()
+        self.did(run("mpsim", *words, folder=server), 0, server / "jobs.txt")
+
+
+for folder in FOLDERS:
+    name = folder.name if folder.parent == EXAMPLES else f"case_{folder.name}"
+    setattr(Examples, f"test_{name}", lambda self, folder=folder: self.answers(folder))

@@ -1,0 +1,227 @@
+"""The recipes of docs/MODEL.md, with the models, traces and commands that stand there.
+
+What the page shows of an answer has to be in it. Where it calls a recipe exact, or says between which runs the truth is, random traces are run beside
+a simulation of the real rule (rules.py).
+"""
+import shutil
+
+from pages import sections
+from programs import EXAMPLES, PROGRAMS, Check, run
+from rules import blocked, drawn, queued, simulated
+
+TRACES = 20
+MODEL = sections("docs/MODEL.md")
+
+
+def visits(text, *nodes):
+    """Of each job its wait and its departure at one of these nodes; None where it is lost."""
+    lines = [line.split() for line in text.splitlines() if line.startswith("job ")]
+    return {int(w[1]): (int(w[6]), int(w[8])) if w[5] == "wait" else None for w in lines if w[2] in nodes}
+
+
+def table(columns, rows):
+    return "".join(",".join(map(str, row)) + "\n" for row in [columns.split(","), *rows])
+
+
+class Recipes(Check):
+    def setUp(self):
+        super().setUp()
+        (self.folder / "mpsim").symlink_to(PROGRAMS["mpsim"])
+        (self.folder / "examples").symlink_to(EXAMPLES)
+
+    def kept(self, **texts):
+        """Writes these texts into the folder: model_txt is model.txt."""
+        for name, text in texts.items():
+            self.file(name.replace("_", "."), text)
+
+    def told(self, command, shell="sh"):
+        """What a command writes in the folder."""
+        ran = run(shell, "-c", command, folder=self.folder)
+        self.assertEqual(ran.status, 0, f"{ran.command}\n{ran.line.decode()}")
+        return ran.out.decode()
+
+    def served(self, commands):
+        """What both runs of a recipe write, with the lines of the jobs of the second."""
+        return self.told(commands.rstrip() + " --jobs")
+
+    def report(self, model, trace):
+        """The report of two texts, with the lines of the jobs."""
+        self.kept(model_txt=model, trace_csv=trace)
+        return self.told("./mpsim model.txt trace.csv --jobs")
+
+    def shows(self, what, text, lines):
+        """A case: each of these lines stands in a text."""
+        missing = set(lines.splitlines()) - set(text.splitlines())
+        self.same(f"{what}: lines that aren't in the answer", sorted(missing), [])
+
+    def test_two_servers_at_one_queue(self):
+        turns, trace, lines, tellers, commands, _ = MODEL["Two servers at one queue"]
+        mod = turns.replace("split turns 2 turn", "split turns 2 mod teller")
+        self.shows("by turns", self.report(turns, trace), lines)
+        self.kept(turns_txt=turns, tellers_txt=mod, tellers_py=tellers)
+        text = self.served(commands)
+        self.same("by tellers", visits(text, "ann", "ben"), {1: (0, 6), 2: (0, 2), 3: (0, 3), 4: (0, 4)})
+        self.same("who serves", sorted(visits(text, "ben")), [2, 3, 4])
+
+        for seed in range(TRACES):
+            rows = drawn(seed, ["door"], (4, 4))
+            text = self.report(turns, table("source,time,d", rows))
+            self.same("equal services", visits(text, "ann", "ben"), simulated(queued(rows, ["door"]), 2))
+            rows = drawn(seed, ["door", "gate"], (0, 9), (0, 5))
+            self.kept(trace_csv=table("source,time,d,w", rows))
+            for inputs in "door gate", "gate door":
+                two = lambda text: text.replace("source door", "source door\nsource gate").replace("from door", f"from {inputs}")
+                self.kept(turns_txt=two(turns), tellers_txt=two(mod))
+                jobs = queued(rows, inputs.split())
+                self.same("two sources", visits(self.served(commands), "ann", "ben"), simulated(jobs, 2))
+                # Behind a way that takes w ticks: by the time at which a job is through it, then as they came to it.
+                behind = lambda text: two(text).replace(f"from {inputs}", f"from way\ndelay way w from {inputs}")
+                self.kept(turns_txt=behind(turns), tellers_txt=behind(mod))
+                jobs = sorted((job._replace(time=job.time + rows[job.number - 1][3]) for job in jobs), key=lambda job: job.time)
+                self.same("behind a delay", visits(self.served(commands), "ann", "ben"), simulated(jobs, 2))
+
+    def test_many_servers_at_one_queue(self):
+        tellers, commands, splits = MODEL["Two servers at one queue"][3:]
+        names = [f"s{k}" for k in range(14)]
+        ends = [f"{split}.{out}" for split in ("first", "second") for out in range(7)]
+        servers = "".join(f"server {name} d from {end}\n" for name, end in zip(names, ends))
+        gathered = f"delay left =0 from {' '.join(names[:7])}\ndelay right =0 from {' '.join(names[7:])}\ndelay out =0 from left right\n"
+        self.kept(
+            tellers_py=tellers.replace("[(0, 0), (0, 1)]", "[(0, teller) for teller in range(14)]"),
+            turns_txt="model 1\nsource door\nserver turns d from door\n",
+            tellers_txt="model 1\nsource door\n" + splits + servers + gathered,
+        )
+        for seed in range(5):
+            rows = drawn(seed, ["door"], (0, 40))
+            self.kept(trace_csv=table("source,time,d", rows))
+            self.same("14 servers", visits(self.served(commands), *names), simulated(queued(rows, ["door"]), 14))
+
+        # 55 servers behind a source: 64 nodes.
+        lines = ["model 1", "source door", "split banks cut teller 8 16 24 32 40 48 from door"]
+        for bank in range(7):
+            own = range(8 * bank, min(8 * bank + 8, 55))
+            lines.append(f"split bank{bank} cut teller {' '.join(map(str, own[1:]))} from banks.{bank}")
+            lines += [f"server s{k} d from bank{bank}.{k - own[0]}" for k in own]
+        self.same("64 nodes", len(lines), 65)
+        text = self.report("\n".join(lines) + "\n", table("source,time,d,teller", [("door", 0, 1, k) for k in range(55)]))
+        self.same("55 servers", visits(text, *(f"s{k}" for k in range(55))), {k + 1: (0, 1) for k in range(55)})
+
+    def test_links(self):
+        model, trace = MODEL["Links"]
+        self.shows("links", self.report(model, trace), "job 4 first arrive 30 lost\nexit first.1 1 sojourn 0\n")
+        for seed in range(TRACES):
+            rows = drawn(seed, ["left", "right"], (1, 9))
+            text = self.report(model, table("source,time,bytes", rows))
+            self.same("links", visits(text, "first"), simulated(queued(rows, ["left", "right"]), places=3))
+
+    def test_priorities(self):
+        model, trace = MODEL["Priorities"]
+        alone = model.replace("from urgent plain", "from urgent")
+        waits = lambda ends: [ends[job][0] for job in (3, 5)]
+        self.same("first run", waits(visits(self.report(model, trace), "desk")), [8, 13])
+        self.same("second run", waits(visits(self.report(alone, trace), "desk")), [0, 1])
+        shown = [(source, int(time), int(demand)) for source, time, demand in (line.split(",") for line in trace.split()[1:])]
+        first_urgent = lambda rows: simulated(queued(rows, ["urgent", "plain"], urgent=lambda row: row[0] == "urgent"), urgent_first=True)
+        self.same("in truth", waits(first_urgent(shown)), [3, 4])
+        for seed in range(TRACES):
+            rows = drawn(seed, ["urgent", "plain"], (1, 6))
+            truth = first_urgent(rows)
+            both, one = (visits(self.report(text, table("source,time,d", rows)), "desk") for text in (model, alone))
+            most = max(demand for source, _, demand in rows if source == "plain")
+            for job, (source, _, _) in enumerate(rows, 1):
+                if source == "urgent":
+                    self.holds(f"urgent job {job} of {rows}", one[job][0] <= truth[job][0] <= min(both[job][0], one[job][0] + most))
+                else:
+                    self.holds(f"plain job {job} of {rows}", both[job][0] <= truth[job][0])
+
+    def test_shifts_and_breaks(self):
+        model, trace, lines = MODEL["Shifts and breaks"]
+        self.shows("breaks", self.report(model, trace), lines + "exit kind.0 3 sojourn 43\n")
+        for seed in range(TRACES):
+            rows = [(*row, int(row[0] == "pause")) for row in drawn(seed, ["pause", "door", "door", "door"], (1, 6))]
+            found = visits(self.report(model, table("source,time,d,pausing", rows)), "desk")
+            jobs = queued(rows, ["pause", "door"], urgent=lambda row: row[0] == "pause")
+            self.same("breaks", found, simulated(jobs))
+            # Where a break begins as soon as a service ends, those who wait when it comes wait for longer, and nobody else.
+            soon = simulated(jobs, urgent_first=True)
+            for job in (job for job in jobs if not job.urgent):
+                waits = range(job.time, job.time + soon[job.number][0] + 1)
+                stands = any(other.urgent and other.time in waits for other in jobs)
+                longer = stands and soon[job.number] > found[job.number]
+                self.holds(f"who waits when a break comes: {job} of {rows}", soon[job.number] == found[job.number] or longer)
+
+    def test_feedback_and_rework(self):
+        model, first, script, lines = MODEL["Feedback and rework"]
+        self.kept(model_txt=model, first_csv=first, rework_py=script)
+        self.shows("rework", self.told("python3 rework.py"), lines)
+        for seed in range(TRACES):
+            rows = [(*row[:3], max(0, row[3] - 4)) for row in drawn(seed, ["new"], (1, 6), (1, 9))]
+            self.kept(first_csv=table("source,time,d,back", rows))
+            found = visits(self.told("python3 rework.py"), "desk")
+            ends = simulated(queued(rows, ["new"], back=lambda row: row[3]))
+            firsts = {job: end for job, end in found.items() if job <= len(rows)}
+            self.same("first visits", firsts, {job: end for job, end in sorted(ends.items()) if job > 0})
+            seconds = sorted(end for job, end in found.items() if job > len(rows))
+            self.same("second visits", seconds, sorted(end for job, end in ends.items() if job < 0))
+
+    def test_customers_who_give_up(self):
+        model = "model 1\nsource door\nloss desk 3 =4 from door\n"
+        text = self.report(model, table("source,time", [("door", time) for time in range(5)]))
+        self.same("patience", visits(text, "desk"), {1: (0, 4), 2: (3, 8), 3: (6, 12), 4: None, 5: (8, 16)})
+        for seed in range(TRACES):
+            rows = drawn(seed, ["door"])
+            # Nobody is served who would wait for more than 8 ticks; all others are, one after another.
+            free, wanted = 0, {}
+            for job, (_, time) in enumerate(rows, 1):
+                wait = max(0, free - time)
+                wanted[job] = (wait, time + wait + 4) if wait <= 8 else None
+                free = time + wait + 4 if wait <= 8 else free
+            self.same("patience", visits(self.report(model, table("source,time", rows)), "desk"), wanted)
+
+    def test_buffers_of_more_than_4(self):
+        two, head = lambda line: f"model 1\nsource parts\ntandem line {line} from parts\n", "source,time,a,b"
+        for seed in range(TRACES):
+            rows = drawn(seed, ["parts"], (0, 5), (0, 9))
+            jobs, trace = queued(rows, ["parts"], back=lambda row: row[3]), table(head, rows)
+            departs = lambda text, node="line": {job: end[1] for job, end in visits(text, node).items()}
+            for places, line in (5, "a / 1 =0 / 4 b"), (8, "a / 4 =0 / 4 b"), (12, "a / 4 =0 / 4 =0 / 4 b"):
+                self.same(f"{places} places", departs(self.report(two(line), trace)), blocked(jobs, places))
+            # With 20 places the truth is between servers in a row and 12 places.
+            late, truth = departs(self.report(two("a / 4 =0 / 4 =0 / 4 b"), trace)), blocked(jobs, 20)
+            soon = departs(self.report("model 1\nsource parts\nserver one a from parts\nserver two b from one\n", trace), "two")
+            self.holds(f"20 places: {rows}", all(soon[job] <= truth[job] <= late[job] for job in truth))
+
+    def test_trace_from_a_log(self):
+        log, model, by_awk, trace, by_python, commands = MODEL["A trace from a log"]
+        self.kept(calls_log=log, model_txt=model, trace_py=by_python)
+        self.told(by_awk)
+        self.same("a log by awk", (self.folder / "trace.csv").read_text(), trace)
+        self.same("a log by Python", self.told("python3 trace.py <calls.log"), trace)
+        self.told("gzip -c trace.csv >trace.csv.gz")
+        wanted = self.told("./mpsim model.txt trace.csv")
+        for command in commands.splitlines():
+            # The last two are for bash or zsh.
+            shell = "bash" if "<(" in command else "sh"
+            if shutil.which(shell):
+                self.same(command, self.told(command, shell), wanted)
+        # The end of a run.
+        self.kept(model_txt=model.replace("model 1", "model 1\nbound 200"))
+        self.refuses(5, "mpsim: node desk position 1 passes the bound at time 220", "mpsim", "model.txt", "trace.csv", folder=self.folder)
+
+    def test_every_tenth_job(self):
+        """It is picked by two splits."""
+        model = "model 1\nsource x\nsplit half 2 turn from x\nsplit fifth 5 turn from half.1\ndelay picked =0 from fifth.4\n"
+        text = self.report(model, table("source,time", [("x", time) for time in range(35)]))
+        self.same("every tenth", sorted(visits(text, "picked")), [10, 20, 30])
+
+    def test_trunk_groups(self):
+        model, lines = MODEL["Trunk groups"]
+        text = self.report(model, table("source,time,hold", [("calls", time, 3) for time in range(5)]))
+        self.shows("trunk groups", text, lines + "job 3 lines arrive 2 lost\n")
+
+    def test_forks_and_joins(self):
+        """As docs/REPORT.md shows them."""
+        model, lines = MODEL["Forks and joins"][0], sections("docs/REPORT.md")["Forks and joins"]
+        trace = table("source,time", [("src", 0), ("src", 1)])
+        self.shows("forks and joins", self.report(model, trace), lines[0])
+        self.shows("held", self.report(model.replace("server a =3", "loss a 1 =3"), trace), lines[1])
