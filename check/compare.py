@@ -4,8 +4,9 @@
 check/compare.py --seed S --count N [--tool mpsim|mpedit|mpsweep] [--program PATH] [--threads N] [--keep FOLDER]
 
 The program is the executable that the script of that name at the root runs, where no other is named. A case that differs is made smaller
-as long as it differs, and kept in a folder: its files, `words`, and of each of the two its output, line and status. At the end it is told
-what occurred; where one of the things that should occur in 400 cases didn't, that is a failure too. The status is 0, or 1 after a failure.
+as long as it differs (smaller.py), and kept in a folder: its files, `words`, and of each of the two its output, line and status. After
+three of these no more are run. At the end it is told in how many cases what occurred; where one of the things that should occur in 400
+cases didn't, that is a failure too. The status is 0, or 1 after a failure. What is drawn stands in drawn.py.
 """
 
 from __future__ import annotations
@@ -65,7 +66,10 @@ class Comparison:
     def result_of(self, seed: int, index: int) -> Result:
         case = case_of(self.tool, seed, index)
         occurred = set(case.marks)
-        wanted = reference_answer(case, lambda network: occurred.update(seen_in(network)))
+        try:
+            wanted = reference_answer(case, lambda network: occurred.update(seen_in(network)))
+        except Exception as error:
+            raise RuntimeError(f'the reference fails on case {index} of seed {seed}') from error
         occurred.update(seen_of(case, wanted))
         return Result(index, wanted, self.program_answer(case), occurred)
 
