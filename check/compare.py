@@ -40,7 +40,8 @@ OF_NETWORKS = [f'a model of {LARGEST} nodes', *(f'visits to a {kind}' for kind i
                'a visit past the bound']
 OF_TEXTS = ['a fault in a model', 'a fault in a trace', 'a model that is cut', 'a trace that is cut']
 EXPECTED = {
-    'mpsim': ['status 0', 'status 2', 'status 3', 'status 4', 'status 5', 'lines of jobs', 'form 1', 'form 2', *OF_NETWORKS, *OF_TEXTS],
+    'mpsim': ['status 0', 'status 2', 'status 3', 'status 4', 'status 5', 'lines of jobs', 'form 1', 'form 2',
+              'several workers, and blocks of fewer jobs than there are', *OF_NETWORKS, *OF_TEXTS],
     'mpedit': ['status 0', 'status 2', 'status 3', 'status 4', 'status 5', 'status 10', *OF_NETWORKS, *OF_TEXTS, 'a fault in edits',
                'a text of edits that is cut', 'a run that is refused before the edits', 'a run that is refused after the edits',
                'no block again', 'some blocks again and others not'],
@@ -152,6 +153,9 @@ def seen_of(case: Case, answer: Answer) -> Iterator[str]:
             yield 'lines of jobs'
         elif words[:2] == ['mpsim', 'report']:
             yield f'form {words[2]}'
+        elif words[0] == 'jobs' and case.tool == 'mpsim':
+            if option_of(case.words, '--workers', 4) > 1 and option_of(case.words, '--block', 4_096) < int(words[1]):
+                yield 'several workers, and blocks of fewer jobs than there are'
         elif words[0] == 'scenario':
             yield f'scenarios of status {words[3]}'
         elif words[0] == 'again':
@@ -159,6 +163,10 @@ def seen_of(case: Case, answer: Answer) -> Iterator[str]:
     for when in ('before', 'after'):
         if f' {when} the edits' in answer.error:
             yield f'a run that is refused {when} the edits'
+
+
+def option_of(words: list[str], option: str, otherwise: int) -> int:
+    return int(words[words.index(option) + 1]) if option in words else otherwise
 
 
 def compare(comparison: Comparison, seed: int, count: int, threads: int, folder: Path) -> int:
