@@ -4,8 +4,9 @@
 check/compare.py --seed S --count N [--tool mpsim|mpedit|mpsweep] [--program PATH] [--threads N] [--keep FOLDER]
 
 The program is the executable that the script of that name at the root runs, where no other is named. A case that differs is made smaller
-as long as it differs, and kept in a folder: its files, `words`, and of each of the two its output, line and status. At the end it is told
-what occurred; where one of the things that should occur in 400 cases didn't, that is a failure too. The status is 0, or 1 after a failure.
+as long as it differs (smaller.py), and kept in a folder: its files, `words`, and of each of the two its output, line and status. After
+three of these no more are run. At the end it is told in how many cases what occurred; where one of the things that should occur in 400
+cases didn't, that is a failure too. The status is 0, or 1 after a failure. What is drawn stands in drawn.py.
 """
 
 from __future__ import annotations
@@ -39,7 +40,8 @@ OF_NETWORKS = [f'a model of {LARGEST} nodes', *(f'visits to a {kind}' for kind i
                'a visit past the bound']
 OF_TEXTS = ['a fault in a model', 'a fault in a trace', 'a model that is cut', 'a trace that is cut']
 EXPECTED = {
-    'mpsim': ['status 0', 'status 2', 'status 3', 'status 4', 'status 5', 'lines of jobs', 'form 1', 'form 2', *OF_NETWORKS, *OF_TEXTS],
+    'mpsim': ['status 0', 'status 2', 'status 3', 'status 4', 'status 5', 'lines of jobs', 'form 1', 'form 2',
+              'several workers, and blocks of fewer jobs than there are', *OF_NETWORKS, *OF_TEXTS],
     'mpedit': ['status 0', 'status 2', 'status 3', 'status 4', 'status 5', 'status 10', *OF_NETWORKS, *OF_TEXTS, 'a fault in edits',
                'a text of edits that is cut', 'a run that is refused before the edits', 'a run that is refused after the edits',
                'no block again', 'some blocks again and others not'],
@@ -65,7 +67,10 @@ class Comparison:
     def result_of(self, seed: int, index: int) -> Result:
         case = case_of(self.tool, seed, index)
         occurred = set(case.marks)
-        wanted = reference_answer(case, lambda network: occurred.update(seen_in(network)))
+        try:
+            wanted = reference_answer(case, lambda network: occurred.update(seen_in(network)))
+        except Exception as error:
+            raise RuntimeError(f'the reference fails on case {index} of seed {seed}') from error
         occurred.update(seen_of(case, wanted))
         return Result(index, wanted, self.program_answer(case), occurred)
 
@@ -148,6 +153,9 @@ def seen_of(case: Case, answer: Answer) -> Iterator[str]:
             yield 'lines of jobs'
         elif words[:2] == ['mpsim', 'report']:
             yield f'form {words[2]}'
+        elif words[0] == 'jobs' and case.tool == 'mpsim':
+            if option_of(case.words, '--workers', 4) > 1 and option_of(case.words, '--block', 4_096) < int(words[1]):
+                yield 'several workers, and blocks of fewer jobs than there are'
         elif words[0] == 'scenario':
             yield f'scenarios of status {words[3]}'
         elif words[0] == 'again':
@@ -155,6 +163,10 @@ def seen_of(case: Case, answer: Answer) -> Iterator[str]:
     for when in ('before', 'after'):
         if f' {when} the edits' in answer.error:
             yield f'a run that is refused {when} the edits'
+
+
+def option_of(words: list[str], option: str, otherwise: int) -> int:
+    return int(words[words.index(option) + 1]) if option in words else otherwise
 
 
 def compare(comparison: Comparison, seed: int, count: int, threads: int, folder: Path) -> int:

@@ -3,8 +3,8 @@
 
 It is a check, for reading, and no second engine. It takes the words of `mpsim` and gives the same bytes, status and line, written from
 docs/MODEL.md, docs/REPORT.md and docs/ERRORS.md alone. A heap has the events; nodes.py has a class for each kind of node, texts.py reads
-models, traces and words, and generator.py draws made inputs. `--workers` and `--block` are judged and change nothing here. It never answers
-want of memory.
+models, traces and words, and generator.py draws made inputs. `--workers` and `--block` are judged and change nothing here. Want of memory
+and faults of the output it doesn't answer.
 """
 
 from __future__ import annotations

@@ -3,26 +3,26 @@
 from __future__ import annotations
 
 import re
+from time import monotonic
 from typing import Callable, Iterator
 
 from drawn import Case
 
-TRIES = 2_000
+SECONDS = 40
 
 
 def smaller(case: Case, differs: Callable[[Case], bool]) -> Case:
-    """A case that differs, of which nothing can be taken away alone, or what is left after so many tries."""
-    tries = 0
-    while tries < TRIES:
+    """A case that differs, of which nothing can be taken away alone, or what is left after so many seconds."""
+    end = monotonic() + SECONDS
+    found = True
+    while found:
+        found = False
         for candidate in candidates(case):
-            tries += 1
+            if monotonic() > end:
+                break
             if differs(candidate):
-                case = candidate
+                case, found = candidate, True
                 break
-            if tries == TRIES:
-                break
-        else:
-            break
     return case
 
 
