@@ -28,7 +28,7 @@ class Visit:
 class Node:
     """What all kinds have in common."""
     kind = ''
-    version = 1          # of the models in which it may stand
+    version = 1          # of the models in which it may stand, or later ones
     least_inputs = 1
     outputs = 1
     servers = 0          # by which `util` divides
@@ -152,7 +152,7 @@ class Queues(Node):
         if len(self.queues[server]) == 1:
             self.serve(server, visit, now)
 
-    def next_one(self, server: int, now: int) -> Visit:
+    def take_out(self, server: int, now: int) -> Visit:
         """Who stands in front goes from the server, and the next one begins there."""
         visit = self.queues[server].popleft()
         if self.queues[server]:
@@ -170,7 +170,7 @@ class Server(Queues):
         self.queue_up(0, visit, now)
 
     def done(self, server, visit, now):
-        self.leave(self.next_one(0, now), now)
+        self.leave(self.take_out(0, now), now)
 
 
 class Loss(Server):
@@ -217,7 +217,7 @@ class Tandem(Queues):
 
     def move_on(self, server: int, now: int):
         """A job goes on from the server, and who is blocked before it takes its place."""
-        visit = self.next_one(server, now)
+        visit = self.take_out(server, now)
         if server + 1 < self.servers:
             self.queue_up(server + 1, visit, now)
         else:
@@ -257,7 +257,7 @@ class ForkJoin(Queues):
             self.queue_up(branch[0], visit, now)
 
     def done(self, server, visit, now):
-        self.next_one(server, now)
+        self.take_out(server, now)
         if not any(server == branch[-1] for branch in self.branches):
             self.queue_up(server + 1, visit, now)
             return
