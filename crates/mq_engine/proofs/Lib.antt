@@ -7,3 +7,5 @@ pub mod Scanning
 pub mod Groups
 pub mod Gathers
 pub mod Telling
+pub mod Kept
+pub mod Numbers
