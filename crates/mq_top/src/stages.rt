@@ -28,7 +28,7 @@ use mq_outcome::{Outcome, name_of, put_line};
 use mq_outside::{FileFault, Files, Sink};
 use mq_report::report;
 use mq_stats::runs_have_few_visits;
-use mq_trace::{TraceFault, read_trace};
+use mq_trace::{TraceFault, read_trace, take_trace};
 use mq_words::{Settings, Subject, UsageFault, WordsFault, settings_of};
 use std::alloc::Global;
 use std::thread::Threads;
@@ -110,6 +110,25 @@ fn judge_trace<R: Threads + Sync, G: Gate>(
     }
 }
 
+// The same of bytes that are handed over: they are let go before the rows are put together.
+fn judge_own_trace<R: Threads + Sync, G: Gate>(
+    alloc: Global,
+    crew: &Crew<R, G>,
+    plan: &Plan,
+    bytes: Vec<u8>,
+) -> Result<Rows, Outcome>
+    ensures read { IfOk result (λ rows. IsReadFor plan.now.net rows) }
+    ensures accepted { IfOk result (λ rows. (trace_fault plan.now.net bytes.items ≡ None) × (rows ≡ rows_in plan.now.net bytes.items)) }
+    ensures refused { IfErr result (λ outcome. RefusesTrace plan.now.net outcome (Some bytes.items)) }
+    ensures unread { result ≢ Err (Outcome.ReadFault true) }
+{
+    match take_trace(crew.rt, alloc, crew.workers, bytes, &plan.net) {
+        Ok(rows) => Ok(rows),
+        Err(TraceFault::Memory) => Err(Outcome::Memory),
+        Err(fault) => Err(Outcome::Trace(fault)),
+    }
+}
+
 // Reads the model of this name, and judges it.
 fn accept_model<F: Files>(alloc: Global, name: &str, files: &mut F) -> Result<Plan, Outcome>
     ensures counted { F.reads files.new ≡ next_count (F.reads files.old) }
@@ -162,7 +181,7 @@ fn accept_trace<R: Threads + Sync, G: Gate, F: Files>(
         Err(FileFault::TooLong) => return Err(Outcome::Trace(TraceFault::TooLong)),
         Err(FileFault::Memory) => return Err(Outcome::Memory),
     }
-    judge_trace(alloc, crew, plan, &bytes)
+    judge_own_trace(alloc, crew, plan, bytes)
 }
 
 // How many of these workers work out a run over rows.
