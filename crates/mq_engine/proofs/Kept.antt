@@ -182,7 +182,7 @@ module _ (plan : Plan) (rows : Rows) (form : ℕ) (counts : List NodeCount) (out
       at_fault w other at e g (inr apart) = r.told w other at e (set-away plan stands v node stand there r.stand w at apart g)
 
 -- a node worked out that is put down keeps what is told
-put-ending : (plan : Plan) (rows : Rows) (form v : ℕ) (node : Node) (ending : Ending) (count : NodeCount) (counts counts' : List NodeCount) (outputs outputs' : List (List Stream)) (stands stands' : List Stand) → slice_get plan.net.nodes v ≡ Some node → IsCounting plan rows form counts outputs stands → IsKnown plan rows v node ending → IsToldOf plan rows form v ending count →
+pub put-ending : (plan : Plan) (rows : Rows) (form v : ℕ) (node : Node) (ending : Ending) (count : NodeCount) (counts counts' : List NodeCount) (outputs outputs' : List (List Stream)) (stands stands' : List Stand) → slice_get plan.net.nodes v ≡ Some node → IsCounting plan rows form counts outputs stands → IsKnown plan rows v node ending → IsToldOf plan rows form v ending count →
     IsEndCounted v ending count counts outputs stands counts' outputs' stands' → IsCounting plan rows form counts' outputs' stands'
 put-ending plan rows form v node (OnTime came left) count counts counts' outputs outputs' stands stands' there r k is h =
     subst (λ (p : List NodeCount × List (List Stream) × List Stand). IsCounting plan rows form p.0 p.1 p.2) (λ i. (sym h.0 i, sym h.1 i, sym h.2 i)) (on-time plan rows form counts outputs stands v node there r came left count k (is node there))

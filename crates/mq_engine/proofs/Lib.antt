@@ -9,3 +9,5 @@ pub mod Gathers
 pub mod Telling
 pub mod Kept
 pub mod Numbers
+pub mod Sent
+pub mod Sending

@@ -4,4 +4,5 @@ pub mod CoreLaws
 pub mod Counting
 pub mod Loads
 pub mod Progress
+pub mod Sources
 pub mod Waves

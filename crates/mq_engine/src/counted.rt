@@ -8,10 +8,11 @@ ghost use Rattle.mq_engine.specs.CoreLaws.{CoreLaws};
 ghost use Rattle.mq_engine.specs.Counting.{IsCounting};
 ghost use Rattle.mq_engine.specs.Progress.{is_ready};
 
-use crate::counting::{Counting, beginning_counts, let_go, settle_counts};
+use crate::counting::{Counting, beginning_counts, let_go, settle_counts, settle_sent};
 use crate::fault::RunFault;
 use crate::laws::core_laws;
 use crate::progress::{Stand, ready_nodes};
+use crate::sources::sources_sent;
 use crate::told::counts_of_wave;
 use crate::wave::wave_of;
 use mq_arrivals::Arriving;
@@ -25,7 +26,7 @@ use std::thread::Threads;
 /// What the run of a plan over the rows that were read for its network tells, in a report of this form: the numbers of
 /// each node, and of what leaves the network.
 ///
-/// It is worked out as `run` does it. Behind each wave the numbers of its nodes are told, and their visits are let go; what leaves
+/// Sources come first: what came to one is what leaves it, and is handed on whole. The other nodes are worked out as `run` does it. Behind each wave the numbers of its nodes are told, and their visits are let go; what leaves
 /// a node is let go when all nodes that read some of it are worked out. It refuses as `run` does.
 pub fn run_counted<R: Threads + Sync, G: Gate>(
     rt: &R,
@@ -63,6 +64,14 @@ pub fn run_counted<R: Threads + Sync, G: Gate>(
             workers,
             block,
         };
+        let Ok(sent) = sources_sent(rt, alloc, &arriving, gate) else {
+            drop(counting);
+            return Err(RunFault::Memory);
+        };
+        if !sent.is_empty() {
+            settle_sent(&mut counting, sent);
+            continue 'waves;
+        }
         let Ok(results) = wave_of(rt, alloc, &arriving, gate) else {
             drop(counting);
             return Err(RunFault::Memory);

@@ -1,12 +1,14 @@
 // How far a run has come that is counted as it goes.
-ghost use Rattle.std.specs.Prelude.{◌≡◌, ◌<◌, ◌≤◌, ◌==◌, ◌&&◌, ℕ, All, [], true, false, count_by, length, slice_set, IfOk};
-ghost use Rattle.std.specs.List.{list_any};
+ghost use Rattle.std.specs.Prelude.{◌≡◌, ◌<◌, ◌≤◌, ◌==◌, ◌&&◌, ℕ, All, [], true, false, count_by, length, slice_get, slice_set, IfOk};
+ghost use Rattle.std.specs.List.{AllByRecursion, list_any};
 ghost use Rattle.mq_core.specs.declared.model.Plan.{Plan as ThePlan};
 ghost use Rattle.mq_core.specs.declared.model.Rows.{Rows as TheRows};
 ghost use Rattle.mq_engine.specs.Counting.{AreTold, IsCountPut, IsCounting, IsUnread};
-ghost use Rattle.mq_engine.specs.Progress.{AreWaiting, AreWorkedOut, is_waiting};
+ghost use Rattle.mq_engine.specs.Progress.{AreWaiting, AreWorkedOut, is_waiting, stands_at};
+ghost use Rattle.mq_engine.specs.Sources.{IsSentOf, IsSentPut};
 
 use crate::progress::Stand;
+use crate::sources::{SentEnding, SentNode};
 use mq_base::{List, OutOfMemory};
 use mq_core::{Input, Node, Plan, Stream};
 use mq_counts::NodeCount;
@@ -112,6 +114,38 @@ fn put_count(counting: &mut Counting, node_result: NodeResult, count: NodeCount)
             drop(count);
             counting.stands[at] = Stand::Late(past);
         }
+    }
+}
+
+// Puts down how these sources ended.
+pub fn settle_sent(counting: &mut Counting, sent: List<SentNode>)
+    requires waits { AllByRecursion (λ one. stands_at is_waiting (slice_get counting.old.stands.items one.number) ≡ true) sent }
+    requires came { length counting.old.counts.items ≡ length counting.old.stands.items }
+    requires left { length counting.old.outputs.items ≡ length counting.old.stands.items }
+    ensures reached { (plan : ThePlan) (rows : TheRows) (form : ℕ) → IsCounting plan rows form counting.old.counts.items counting.old.outputs.items counting.old.stands.items → AllByRecursion (IsSentOf plan rows) sent → IsCounting plan rows form counting.new.counts.items counting.new.outputs.items counting.new.stands.items }
+    ensures fewer { 1 ≤ length sent → count_by is_waiting counting.new.stands.items < count_by is_waiting counting.old.stands.items }
+{
+    let mut sent = sent.into_vec();
+    while let Some(one) = sent.pop() {
+        put_sent(counting, one);
+    }
+}
+
+// Puts down how a source ended: what it let out is kept as it came.
+fn put_sent(counting: &mut Counting, one: SentNode)
+    requires came { one.number < length counting.old.counts.items }
+    requires left { one.number < length counting.old.outputs.items }
+    requires stand { one.number < length counting.old.stands.items }
+    ensures { IsSentPut one counting.old.counts.items counting.old.outputs.items counting.old.stands.items counting.new.counts.items counting.new.outputs.items counting.new.stands.items }
+{
+    let at = one.number as usize;
+    match one.ending {
+        SentEnding::Sent(streams, count) => {
+            drop(replace(&mut counting.counts[at], count));
+            drop(replace(&mut counting.outputs[at], streams));
+            counting.stands[at] = Stand::Done;
+        }
+        SentEnding::Missed(past) => counting.stands[at] = Stand::Late(past),
     }
 }
 

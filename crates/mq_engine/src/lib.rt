@@ -21,6 +21,7 @@ mod loads;
 mod middles;
 mod progress;
 mod ready;
+mod sources;
 mod told;
 mod wave;
 

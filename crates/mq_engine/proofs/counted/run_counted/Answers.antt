@@ -5,11 +5,30 @@ use Rattle.mq_engine.specs.Progress.{AreEarly, HasAll, is_ready}
 use Rattle.mq_engine.proofs.Endings.{within}
 use Rattle.mq_engine.proofs.Lists.{filter-passes, no-items}
 use Rattle.mq_engine.proofs.Kept.{counting-begins, counting-has}
+use Rattle.mq_engine.proofs.Sending.{sent-of, sent-wait}
 use Rattle.mq_engine.proofs.Settling.{ready-few, ready-wait, results-known}
 use Rattle.mq_engine.proofs.counted.run_counted.Goals as goal
 
 pub ready_nodes-requires-clause-within : goal.ready_nodes-requires-clause-within
 ready_nodes-requires-clause-within g c = within c.core_laws.ensures c.args.plan.now
+
+pub sources_sent-requires-clause-few : goal.sources_sent-requires-clause-few
+sources_sent-requires-clause-few g c κs inside =
+    ready-few c.args.plan.now c.waves.counting.stands.items c.deref-in-waves-2.result.now
+    (c.deref-in-waves-2.ensures.value ∙ (c.in-Ok.ensures ∙ ap (λ stands. filter (is_ready c.args.plan.now.net.nodes stands) c.args.plan.now.order) c.deref.ensures.value))
+
+pub sources_sent-requires-clause-wave : goal.sources_sent-requires-clause-wave
+sources_sent-requires-clause-wave g c κs inside =
+    let same = sym (c.deref-in-waves-2.ensures.value ∙ (c.in-Ok.ensures ∙ ap (λ stands. filter (is_ready c.args.plan.now.net.nodes stands) c.args.plan.now.order) c.deref.ensures.value)) in
+    record {
+      read = c.requires.read;
+      early = subst AreEarly (sym c.deref-in-waves.ensures.value) c.waves.invariant.early;
+      all = λ k v e.
+          let passes = filter-passes (is_ready c.args.plan.now.net.nodes c.waves.counting.stands.items) c.args.plan.now.order k v (ap (λ l. slice_get l k) same ∙ e) in
+          subst (λ outputs. HasAll c.args.plan.now c.args.rows.now outputs v) (sym c.deref-in-waves.ensures.value)
+          (counting-has c.core_laws.ensures c.args.plan.now c.args.rows.now c.args.form c.waves.counting.counts.items c.waves.counting.outputs.items c.waves.counting.stands.items v c.requires.read c.waves.invariant passes);
+      block = c.requires.block;
+    }
 
 pub wave_of-requires-clause-few : goal.wave_of-requires-clause-few
 wave_of-requires-clause-few g c κs inside =
@@ -82,3 +101,12 @@ settle_counts-requires-clause-came g c = c.waves.invariant.came ∙ sym c.waves.
 
 pub settle_counts-requires-clause-left : goal.settle_counts-requires-clause-left
 settle_counts-requires-clause-left g c = c.waves.invariant.left ∙ sym c.waves.invariant.stand
+
+pub settle_sent-requires-clause-waits : goal.settle_sent-requires-clause-waits
+settle_sent-requires-clause-waits g c =
+    sent-wait c.args.plan.now c.args.rows.now c.waves.counting.stands.items c.deref-in-waves-2.result.now c.in-Ok-sources_sent.sent
+    (c.deref-in-waves-2.ensures.value ∙ (c.in-Ok.ensures ∙ ap (λ stands. filter (is_ready c.args.plan.now.net.nodes stands) c.args.plan.now.order) c.deref.ensures.value)) c.in-Ok-sources_sent.ensures
+
+pub waves-preserved-then-not-is_empty : goal.waves-preserved-then-not-is_empty
+waves-preserved-then-not-is_empty g c =
+    c.settle_sent.ensures.reached c.args.plan.now c.args.rows.now c.args.form c.waves.invariant (sent-of c.args.plan.now c.args.rows.now c.deref-in-waves-2.result.now c.in-Ok-sources_sent.sent c.in-Ok-sources_sent.ensures)
