@@ -140,8 +140,8 @@ fn put_sent(counting: &mut Counting, one: SentNode)
 {
     let at = one.number as usize;
     match one.ending {
-        SentEnding::Sent(streams, count) => {
-            drop(replace(&mut counting.counts[at], count));
+        SentEnding::Sent(streams, told) => {
+            drop(replace(&mut counting.counts[at], told));
             drop(replace(&mut counting.outputs[at], streams));
             counting.stands[at] = Stand::Done;
         }

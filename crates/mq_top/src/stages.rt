@@ -328,8 +328,8 @@ fn report_counts<R: Threads + Sync, G: Gate, O: Sink>(
         crew.gate,
     ) {
         Ok(counts) => counts,
-        Err(RunFault::Over(fault)) => return Outcome::Over(fault),
-        Err(RunFault::Past(fault)) => return Outcome::Past(fault),
+        Err(RunFault::Over(over)) => return Outcome::Over(over),
+        Err(RunFault::Past(past)) => return Outcome::Past(past),
         Err(RunFault::Memory) => return Outcome::Memory,
     };
     let outcome = report_told(plan, rows, &counts, None, wanted, out);
