@@ -18,7 +18,7 @@ use Rattle.mq_counts.proofs.Spans.{ended, grown}
 use Rattle.mq_counts.specs.Counts.{AreExits, AreNodeCounts, AreVisitsIn, IsCountIn, IsCountOf, IsVisitsIn, is_read}
 use Rattle.mq_counts.specs.Tails.{IsTailOf}
 use Rattle.mq_counts.specs.Totals.{AreLongestOf, AreTotalsOf, IsTotalsOf, IsVisited}
-use Rattle.mq_counts.specs.declared.counts.Ended.{Ended}
+use Rattle.mq_counts.specs.declared.counts.NodeSequences.{NodeSequences}
 use Rattle.mq_counts.specs.declared.counts.NodeCount.{NodeCount}
 use Rattle.mq_counts.specs.declared.totals.NodeVisits.{NodeVisits}
 use Rattle.mq_stats.specs.Lasts.{LastsAreGreatest}
@@ -27,22 +27,22 @@ use Rattle.mq_stats.specs.declared.exits.Exit.{Exit}
 use Rattle.mq_stats.specs.declared.tallies.NodeTotals.{NodeTotals}
 
 -- Visits. Those of none, and of one more.
-pub visits-in-none : (rows : Rows) (all : List Ended) (visits : List NodeVisits) → visits ≡ [] → AreVisitsIn rows all 0 visits
-visits-in-none rows all visits none = rw none (record { len = refl; visited = tt; each = λ i its here ended there. absurd cc })
+pub visits-in-none : (rows : Rows) (all : List NodeSequences) (visits : List NodeVisits) → visits ≡ [] → AreVisitsIn rows all 0 visits
+visits-in-none rows all visits none = rw none (record { len = refl; visited = tt; each = λ i its here sequences there. absurd cc })
 
-pub visits-in-more : (rows : Rows) (all : List Ended) (i : ℕ) (visits visits' : List NodeVisits) (ended : Ended) (its : NodeVisits) → AreVisitsIn rows all i visits → slice_get all i ≡ Some ended → IsVisited its → IsVisitsIn rows ended its → visits' ≡ visits ++ its ∷ [] → AreVisitsIn rows all (i + 1) visits'
-visits-in-more rows all i visits visits' ended its so_far here visited are grown =
+pub visits-in-more : (rows : Rows) (all : List NodeSequences) (i : ℕ) (visits visits' : List NodeVisits) (sequences : NodeSequences) (its : NodeVisits) → AreVisitsIn rows all i visits → slice_get all i ≡ Some sequences → IsVisited its → IsVisitsIn rows sequences its → visits' ≡ visits ++ its ∷ [] → AreVisitsIn rows all (i + 1) visits'
+visits-in-more rows all i visits visits' sequences its so_far here visited are grown =
     let one = length-append visits (its ∷ []) in
     let len = so_far.len in
     let longer = ap length grown in
     record {
       len = omega arith;
       visited = subst (Each IsVisited) (sym grown) (Each-append IsVisited visits (its ∷ []) so_far.visited (visited, tt));
-      each = pushed-at (λ j (x : NodeVisits). (e : Ended) → slice_get all j ≡ Some e → IsVisitsIn rows e x) i visits visits' its so_far.len so_far.each
-          (λ e there. subst (λ (x : Ended). IsVisitsIn rows x its) (some_inj ended e (sym here ∙ there)) are) grown;
+      each = pushed-at (λ j (x : NodeVisits). (e : NodeSequences) → slice_get all j ≡ Some e → IsVisitsIn rows e x) i visits visits' its so_far.len so_far.each
+          (λ e there. subst (λ (x : NodeSequences). IsVisitsIn rows x its) (some_inj sequences e (sym here ∙ there)) are) grown;
     }
 
-pub visits-in-all : (rows : Rows) (all : List Ended) (i : ℕ) (visits : List NodeVisits) → AreVisitsIn rows all i visits → i ≡ length all → AreVisitsIn rows all (length all) visits
+pub visits-in-all : (rows : Rows) (all : List NodeSequences) (i : ℕ) (visits : List NodeVisits) → AreVisitsIn rows all i visits → i ≡ length all → AreVisitsIn rows all (length all) visits
 visits-in-all rows all i visits so_far e = subst (λ n. AreVisitsIn rows all n visits) e so_far
 
 -- totals have the longest of the waits
@@ -76,9 +76,9 @@ pub exits-all : (nodes : List Node) (rows : Rows) (v : ℕ) (streams : List Stre
 exits-all nodes rows v streams out exits so_far e = record { len = so_far.len ∙ e; each = λ o stream exit there here free. so_far.each o exit here stream there free }
 
 -- What is told of a node.
-pub is-count : (nodes : List Node) (rows : Rows) (form : ℕ) (ended : Ended) (its : NodeVisits) (count : NodeCount) → IsVisitsIn rows ended its → IsTotalsOf its count.totals → count.last ≡ its.span → AreExits nodes rows ended.number ended.streams.now count.exits →
-    (form ≡ 2 → IsTailOf its count.tail) → IsCountOf nodes rows form ended.number ended.kind.now ended.visits.now ended.streams.now count
-is-count nodes rows form ended its count are totals last exits tail = record {
+pub is-count : (nodes : List Node) (rows : Rows) (form : ℕ) (sequences : NodeSequences) (its : NodeVisits) (count : NodeCount) → IsVisitsIn rows sequences its → IsTotalsOf its count.totals → count.last ≡ its.span → AreExits nodes rows sequences.number sequences.streams.now count.exits →
+    (form ≡ 2 → IsTailOf its count.tail) → IsCountOf nodes rows form sequences.number sequences.kind.now sequences.visits.now sequences.streams.now count
+is-count nodes rows form sequences its count are totals last exits tail = record {
   last = last ∙ are.span;
   totals = totals.0 ∙ (λ k. sequence_totals (are.table k) (are.kind k) (are.visits k) (sym last k));
   small = totals.1;
@@ -100,7 +100,7 @@ module _ (law : LastsAreGreatest) (plan : Plan) (rows : Rows) (read : IsReadFor 
   last-all v span l h = let len = are.len in ended plan rows v span (omega arith) h
 
 -- that of the node at an index
-pub count-in : (nodes : List Node) (rows : Rows) (form : ℕ) (all : List Ended) (i : ℕ) (ended : Ended) (count : NodeCount) → slice_get all i ≡ Some ended →
-    IsCountOf nodes rows form ended.number ended.kind.now ended.visits.now ended.streams.now count → IsCountIn nodes rows form all i count
-count-in nodes rows form all i ended count here are other there =
-    subst (λ (e : Ended). IsCountOf nodes rows form e.number e.kind.now e.visits.now e.streams.now count) (some_inj ended other (sym here ∙ there)) are
+pub count-in : (nodes : List Node) (rows : Rows) (form : ℕ) (all : List NodeSequences) (i : ℕ) (sequences : NodeSequences) (count : NodeCount) → slice_get all i ≡ Some sequences →
+    IsCountOf nodes rows form sequences.number sequences.kind.now sequences.visits.now sequences.streams.now count → IsCountIn nodes rows form all i count
+count-in nodes rows form all i sequences count here are other there =
+    subst (λ (e : NodeSequences). IsCountOf nodes rows form e.number e.kind.now e.visits.now e.streams.now count) (some_inj sequences other (sym here ∙ there)) are

@@ -18,11 +18,11 @@ use Rattle.mq_core.specs.declared.model.Rows.{Rows}
 use Rattle.mq_core.specs.declared.model.Stream.{Stream}
 use Rattle.mq_core.specs.declared.model.Visits.{Visits}
 use Rattle.mq_counts.proofs.Lists.{pushed-at}
-use Rattle.mq_counts.specs.Counts.{AreCounts, AreCountsOf, AreNodeCounts, IsCountAt, IsCountOf, IsEnded}
+use Rattle.mq_counts.specs.Counts.{AreCountable, AreCounts, AreCountsOf, AreNodeCounts, IsCountAt, IsCountOf}
 use Rattle.mq_counts.specs.Later.{HeldStayOn, held_on}
-use Rattle.mq_counts.specs.Runs.{AreEndedBy, IsEndedIn}
+use Rattle.mq_counts.specs.Runs.{AreFirstSequences, AreSequencesOf}
 use Rattle.mq_counts.specs.declared.counts.Counts.{Counts}
-use Rattle.mq_counts.specs.declared.counts.Ended.{Ended}
+use Rattle.mq_counts.specs.declared.counts.NodeSequences.{NodeSequences}
 use Rattle.mq_counts.specs.declared.counts.NodeCount.{NodeCount}
 use Rattle.mq_stats.specs.Lasts.{LastsAreGreatest}
 use Rattle.mq_stats.specs.Numbers.{AreLeaving, totals_from}
@@ -36,32 +36,32 @@ streams-leave plan rows v (suc outs) leave =
     Each-append (AreLeaving rows) (streams_below (run_of plan rows) v outs) (stream_from ((run_of plan rows).stations v) outs ∷ []) (streams-leave plan rows v outs leave) (leave outs, tt)
 
 -- no node, one node more, and all nodes
-pub ended-none : (plan : Plan) (rows : Rows) (all : List Ended) → all ≡ [] → AreEndedBy plan rows 0 all
-ended-none plan rows all none = rw none (record { len = refl; ended = tt; each = λ v ended here node there. absurd cc })
+pub sequences-none : (plan : Plan) (rows : Rows) (all : List NodeSequences) → all ≡ [] → AreFirstSequences plan rows 0 all
+sequences-none plan rows all none = rw none (record { len = refl; countable = tt; each = λ v sequences here node there. absurd cc })
 
-pub ended-more : (plan : Plan) (rows : Rows) (v : ℕ) (all all' : List Ended) (node : Node) (ended : Ended) → AreEndedBy plan rows v all → slice_get plan.net.nodes v ≡ Some node → IsEnded rows ended → IsEndedIn plan rows v node ended → all' ≡ all ++ ended ∷ [] → AreEndedBy plan rows (v + 1) all'
-ended-more plan rows v all all' node ended so_far here own is grown =
-    let one = length-append all (ended ∷ []) in
+pub sequences-more : (plan : Plan) (rows : Rows) (v : ℕ) (all all' : List NodeSequences) (node : Node) (sequences : NodeSequences) → AreFirstSequences plan rows v all → slice_get plan.net.nodes v ≡ Some node → AreCountable rows sequences → AreSequencesOf plan rows v node sequences → all' ≡ all ++ sequences ∷ [] → AreFirstSequences plan rows (v + 1) all'
+sequences-more plan rows v all all' node sequences so_far here own is grown =
+    let one = length-append all (sequences ∷ []) in
     let len = so_far.len in
     let longer = ap length grown in
     record {
       len = omega arith;
-      ended = subst (Each (IsEnded rows)) (sym grown) (Each-append (IsEnded rows) all (ended ∷ []) so_far.ended (own, tt));
-      each = pushed-at (λ u (x : Ended). (n : Node) → slice_get plan.net.nodes u ≡ Some n → IsEndedIn plan rows u n x) v all all' ended so_far.len so_far.each
-          (λ n there. subst (λ (m : Node). IsEndedIn plan rows v m ended) (some_inj node n (sym here ∙ there)) is) grown;
+      countable = subst (Each (AreCountable rows)) (sym grown) (Each-append (AreCountable rows) all (sequences ∷ []) so_far.countable (own, tt));
+      each = pushed-at (λ u (x : NodeSequences). (n : Node) → slice_get plan.net.nodes u ≡ Some n → AreSequencesOf plan rows u n x) v all all' sequences so_far.len so_far.each
+          (λ n there. subst (λ (m : Node). AreSequencesOf plan rows v m sequences) (some_inj node n (sym here ∙ there)) is) grown;
     }
 
-pub ended-all : (plan : Plan) (rows : Rows) (v : ℕ) (all : List Ended) → AreEndedBy plan rows v all → v ≡ length plan.net.nodes → AreEndedBy plan rows (length plan.net.nodes) all
-ended-all plan rows v all so_far e = subst (λ n. AreEndedBy plan rows n all) e so_far
+pub sequences-all : (plan : Plan) (rows : Rows) (v : ℕ) (all : List NodeSequences) → AreFirstSequences plan rows v all → v ≡ length plan.net.nodes → AreFirstSequences plan rows (length plan.net.nodes) all
+sequences-all plan rows v all so_far e = subst (λ n. AreFirstSequences plan rows n all) e so_far
 
 -- what is told of them is told of the nodes of the run
-pub node-counts : (plan : Plan) (rows : Rows) (form : ℕ) (all : List Ended) (counts : List NodeCount) → AreEndedBy plan rows (length plan.net.nodes) all → AreCountsOf plan.net.nodes rows form all counts → AreNodeCounts plan rows form counts
-node-counts plan rows form all counts ended are = record {
-  len = are.len ∙ ended.len;
+pub node-counts : (plan : Plan) (rows : Rows) (form : ℕ) (all : List NodeSequences) (counts : List NodeCount) → AreFirstSequences plan rows (length plan.net.nodes) all → AreCountsOf plan.net.nodes rows form all counts → AreNodeCounts plan rows form counts
+node-counts plan rows form all counts sequences are = record {
+  len = are.len ∙ sequences.len;
   each = λ v node count there here.
-      let inside : v < length all = subst (λ (n : ℕ). v < n) (sym ended.len) (slice_get_within plan.net.nodes v node there) in
+      let inside : v < length all = subst (λ (n : ℕ). v < n) (sym sequences.len) (slice_get_within plan.net.nodes v node there) in
       let its = get-some all v inside in
-      let of = ended.each v its.0 its.1 node there in
+      let of = sequences.each v its.0 its.1 node there in
       let is = subst (λ (c : NodeCount). IsCountOf plan.net.nodes rows form its.0.number its.0.kind.now its.0.visits.now its.0.streams.now c) (get_or_from_slice_get counts v count count here) (are.each v count inside its.0 its.1) in
       subst (λ (p : ℕ × Kind × Visits × List Stream). IsCountOf plan.net.nodes rows form p.0 p.1 p.2 p.3 count) (λ i. (of.number i, of.kind i, of.visits i, of.streams i)) is;
 }

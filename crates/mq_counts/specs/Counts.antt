@@ -14,7 +14,7 @@ use Rattle.mq_core.specs.declared.model.Stream.{Stream}
 use Rattle.mq_core.specs.declared.model.Visits.{Visits}
 use Rattle.mq_crew.specs.Crew.{AreAll}
 use Rattle.mq_counts.specs.declared.counts.Counts.{Counts}
-use Rattle.mq_counts.specs.declared.counts.Ended.{Ended}
+use Rattle.mq_counts.specs.declared.counts.NodeSequences.{NodeSequences}
 use Rattle.mq_counts.specs.declared.counts.NodeCount.{NodeCount}
 use Rattle.mq_counts.specs.declared.totals.NodeVisits.{NodeVisits}
 use Rattle.mq_counts.specs.Totals.{IsVisited}
@@ -27,10 +27,10 @@ use Rattle.mq_stats.specs.declared.exits.Exit.{Exit}
 abbrev pub is_read : List Node → ℕ → ℕ → Bool
 is_read nodes v out = list_any (λ (node : Node). list_any (λ (i : Input). (i.node == v) && (i.out == out)) node.inputs) nodes
 
--- visits to a node, and what left it, such as the numbers are worked out from
-pub record IsEnded (rows : Rows) (ended : Ended) : Type 0 where
-  pub visits : AreVisits rows ended.kind.now ended.visits.now
-  pub streams : AllByRecursion (AreLeaving rows) ended.streams.now
+-- the numbers of a node can be worked out from its visits and what left it
+pub record AreCountable (rows : Rows) (sequences : NodeSequences) : Type 0 where
+  pub visits : AreVisits rows sequences.kind.now sequences.visits.now
+  pub streams : AllByRecursion (AreLeaving rows) sequences.streams.now
 
 -- what leaves by each output that no input reads
 pub record AreExits (nodes : List Node) (rows : Rows) (v : ℕ) (streams : List Stream) (exits : List Exit) : Type 0 where
@@ -47,26 +47,26 @@ pub record IsCountOf (nodes : List Node) (rows : Rows) (form v : ℕ) (kind : Ki
   pub exits : AreExits nodes rows v streams count.exits
 
 -- the same of the node at an index
-abbrev pub IsCountIn : List Node → Rows → ℕ → List Ended → ℕ → NodeCount → Type 0
+abbrev pub IsCountIn : List Node → Rows → ℕ → List NodeSequences → ℕ → NodeCount → Type 0
 IsCountIn nodes rows form all i count =
-    (ended : Ended) → slice_get all i ≡ Some ended → IsCountOf nodes rows form ended.number ended.kind.now ended.visits.now ended.streams.now count
+    (sequences : NodeSequences) → slice_get all i ≡ Some sequences → IsCountOf nodes rows form sequences.number sequences.kind.now sequences.visits.now sequences.streams.now count
 
 -- of each node
-abbrev pub AreCountsOf : List Node → Rows → ℕ → List Ended → List NodeCount → Type 0
+abbrev pub AreCountsOf : List Node → Rows → ℕ → List NodeSequences → List NodeCount → Type 0
 AreCountsOf nodes rows form all counts = AreAll (IsCountIn nodes rows form all) (length all) counts
 
--- these visits are those of what ended, up to its last event
-pub record IsVisitsIn (rows : Rows) (ended : Ended) (its : NodeVisits) : Type 0 where
+-- these visits are those of a node, up to the last event there
+pub record IsVisitsIn (rows : Rows) (sequences : NodeSequences) (its : NodeVisits) : Type 0 where
   pub table : its.rows.now ≡ rows
-  pub kind : its.kind.now ≡ ended.kind.now
-  pub visits : its.visits.now ≡ ended.visits.now
-  pub span : its.span ≡ last_event ended.visits.now ended.streams.now
+  pub kind : its.kind.now ≡ sequences.kind.now
+  pub visits : its.visits.now ≡ sequences.visits.now
+  pub span : its.span ≡ last_event sequences.visits.now sequences.streams.now
 
 -- those of the first of these, as many as this
-pub record AreVisitsIn (rows : Rows) (all : List Ended) (count : ℕ) (visits : List NodeVisits) : Type 0 where
+pub record AreVisitsIn (rows : Rows) (all : List NodeSequences) (count : ℕ) (visits : List NodeVisits) : Type 0 where
   pub len : length visits ≡ count
   pub visited : AllByRecursion IsVisited visits
-  pub each : (i : ℕ) (its : NodeVisits) → slice_get visits i ≡ Some its → (ended : Ended) → slice_get all i ≡ Some ended → IsVisitsIn rows ended its
+  pub each : (i : ℕ) (its : NodeVisits) → slice_get visits i ≡ Some its → (sequences : NodeSequences) → slice_get all i ≡ Some sequences → IsVisitsIn rows sequences its
 
 -- The run of a plan. What is told of a node is that of its visits and streams in the run.
 abbrev pub IsCountAt : Plan → Rows → ℕ → ℕ → Node → NodeCount → Type 0

@@ -5,7 +5,7 @@ ghost use Rattle.mq_core.specs.Sequences.{sequence_exit};
 ghost use Rattle.mq_core.specs.StandardTable.{run_of};
 ghost use Rattle.mq_core.specs.Theorems.{IsReadFor};
 ghost use Rattle.mq_stats.specs.Numbers.{AreLeaving};
-ghost use Rattle.mq_counts.specs.Counts.{AreCounts, AreCountsOf, AreExits, AreNodeCounts, AreVisitsIn, IsCountOf, IsEnded, IsVisitsIn, is_read as reads_output};
+ghost use Rattle.mq_counts.specs.Counts.{AreCountable, AreCounts, AreCountsOf, AreExits, AreNodeCounts, AreVisitsIn, IsCountOf, IsVisitsIn, is_read as reads_output};
 ghost use Rattle.mq_counts.specs.Tails.{AreTailsOf, IsTailIn, IsTailOf};
 ghost use Rattle.mq_counts.specs.declared.totals.NodeVisits.{NodeVisits as TheVisits};
 ghost use Rattle.mq_counts.specs.Totals.{AreLongestOf, AreTotalsOf, IsTotalsOf, IsVisited};
@@ -19,9 +19,9 @@ use mq_stats::{Exit, NodeTotals, Percentiles, last_at, lasts_are_greatest, leavi
 use std::alloc::Global;
 use std::thread::Threads;
 
-/// What came to a node, and what left it by each output.
+/// The sequences of a node: what came to it, and what left it by each output.
 #[derive(Clone, Copy)]
-pub struct Ended<'a> {
+pub struct NodeSequences<'a> {
     /// The node, by order of declaration.
     pub number: u32,
     pub kind: &'a Kind,
@@ -69,27 +69,27 @@ pub fn is_read(nodes: &[Node], node: u32, output: usize) -> bool
         .any(|other| reads(other.inputs.as_slice(), node, output))
 }
 
-// The visits of what ended, up to its last event.
-fn visits_in<'a>(rows: &'a Rows, ended: &Ended<'a>) -> NodeVisits<'a>
-    requires { IsEnded rows.now ended.now }
+// The visits to a node, up to the last event there.
+fn visits_in<'a>(rows: &'a Rows, sequences: &NodeSequences<'a>) -> NodeVisits<'a>
+    requires { AreCountable rows.now sequences.now }
     ensures visited { IsVisited result }
-    ensures its { IsVisitsIn rows.now ended.now result }
+    ensures its { IsVisitsIn rows.now sequences.now result }
 {
     NodeVisits {
         rows,
-        kind: ended.kind,
-        visits: ended.visits,
-        span: last_at(ended.visits, ended.streams),
+        kind: sequences.kind,
+        visits: sequences.visits,
+        span: last_at(sequences.visits, sequences.streams),
     }
 }
 
-// The same of all that ended.
+// The same of each node.
 fn all_visits<'a>(
     alloc: Global,
     rows: &'a Rows,
-    all: &List<Ended<'a>>,
+    all: &List<NodeSequences<'a>>,
 ) -> Result<List<NodeVisits<'a>>, OutOfMemory>
-    requires { AllByRecursion (IsEnded rows.now) all.now }
+    requires { AllByRecursion (AreCountable rows.now) all.now }
     ensures { IfOk result (λ visits. AreVisitsIn rows.now all.now (length all.now) visits) }
 {
     let mut visits = List::new(alloc);
@@ -170,17 +170,17 @@ fn count_at(
     alloc: Global,
     nodes: &[Node],
     rows: &Rows,
-    ended: &Ended,
+    sequences: &NodeSequences,
     its: &NodeVisits,
     totals: &NodeTotals,
     tail: Percentiles,
 ) -> Result<NodeCount, OutOfMemory>
-    requires ended { IsEnded rows.now ended.now }
-    requires its { IsVisitsIn rows.now ended.now its.now }
+    requires countable { AreCountable rows.now sequences.now }
+    requires its { IsVisitsIn rows.now sequences.now its.now }
     requires totals { IsTotalsOf its.now totals.now }
-    ensures { IfOk result (λ count. (form : ℕ) → (form ≡ 2 → IsTailOf its.now tail) → IsCountOf nodes.now rows.now form ended.now.number ended.now.kind.now ended.now.visits.now ended.now.streams.now count) }
+    ensures { IfOk result (λ count. (form : ℕ) → (form ≡ 2 → IsTailOf its.now tail) → IsCountOf nodes.now rows.now form sequences.now.number sequences.now.kind.now sequences.now.visits.now sequences.now.streams.now count) }
 {
-    let exits = exits_at(alloc, nodes, rows, ended.number, ended.streams)?;
+    let exits = exits_at(alloc, nodes, rows, sequences.number, sequences.streams)?;
     Ok(NodeCount {
         totals: *totals,
         last: its.span,
@@ -194,13 +194,13 @@ fn counts_at(
     alloc: Global,
     nodes: &[Node],
     rows: &Rows,
-    all: &List<Ended>,
+    all: &List<NodeSequences>,
     visits: &List<NodeVisits>,
     totals: &List<NodeTotals>,
     tails: &List<Percentiles>,
     form: u8,
 ) -> Result<List<NodeCount>, OutOfMemory>
-    requires ended { AllByRecursion (IsEnded rows.now) all.now }
+    requires countable { AllByRecursion (AreCountable rows.now) all.now }
     requires visits { AreVisitsIn rows.now all.now (length all.now) visits.now }
     requires totals { AreTotalsOf visits.now totals.now }
     requires tails { form ≡ 2 → AreTailsOf visits.now tails.now }
@@ -209,8 +209,8 @@ fn counts_at(
     let mut counts = List::new(alloc);
     for at in 0..all.len() {
         let tail = tail_told(tails, form, at);
-        let (ended, its) = (all.get(at), visits.get(at));
-        match count_at(alloc, nodes, rows, ended, its, totals.get(at), tail) {
+        let (sequences, its) = (all.get(at), visits.get(at));
+        match count_at(alloc, nodes, rows, sequences, its, totals.get(at), tail) {
             Ok(count) => counts.push(count)?,
             Err(fault) => {
                 drop(counts);
@@ -228,7 +228,7 @@ fn counts_with<R: Threads + Sync, G: Gate>(
     workers: u32,
     nodes: &[Node],
     rows: &Rows,
-    all: &List<Ended>,
+    all: &List<NodeSequences>,
     visits: &List<NodeVisits>,
     totals: &List<NodeTotals>,
     form: u8,
@@ -237,7 +237,7 @@ fn counts_with<R: Threads + Sync, G: Gate>(
     requires some { 1 ≤ workers }
     requires most { workers ≤ 64 }
     requires few { length all.now < 2 ^ 16 }
-    requires ended { AllByRecursion (IsEnded rows.now) all.now }
+    requires countable { AllByRecursion (AreCountable rows.now) all.now }
     requires visits { AreVisitsIn rows.now all.now (length all.now) visits.now }
     requires totals { AreTotalsOf visits.now totals.now }
     ensures { IfOk result (λ counts. AreCountsOf nodes.now rows.now form all.now counts) }
@@ -257,14 +257,14 @@ pub fn counts_of<R: Threads + Sync, G: Gate>(
     workers: u32,
     nodes: &[Node],
     rows: &Rows,
-    all: &List<Ended>,
+    all: &List<NodeSequences>,
     form: u8,
     gate: &G,
 ) -> Result<List<NodeCount>, OutOfMemory>
     requires some { 1 ≤ workers }
     requires most { workers ≤ 64 }
     requires few { length all.now < 2 ^ 16 }
-    requires ended { AllByRecursion (IsEnded rows.now) all.now }
+    requires countable { AllByRecursion (AreCountable rows.now) all.now }
     ensures { IfOk result (λ counts. AreCountsOf nodes.now rows.now form all.now counts) }
 {
     let visits = all_visits(alloc, rows, all)?;

@@ -10,5 +10,5 @@ mod tail_pieces;
 mod tails;
 mod totals;
 
-pub use counts::{Counts, Ended, NodeCount, counted, counts_of, is_read};
+pub use counts::{Counts, NodeCount, NodeSequences, counted, counts_of, is_read};
 pub use runs::{counts_of_run, totals_at};

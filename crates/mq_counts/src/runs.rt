@@ -6,10 +6,10 @@ ghost use Rattle.mq_core.specs.StandardTable.{run_of};
 ghost use Rattle.mq_core.specs.Theorems.{IsReadFor};
 ghost use Rattle.mq_stats.specs.Numbers.{totals_from};
 ghost use Rattle.mq_stats.specs.RunNumbers.{HasFewVisits};
-ghost use Rattle.mq_counts.specs.Counts.{AreCounts, IsEnded};
-ghost use Rattle.mq_counts.specs.Runs.{AreEndedBy, IsEndedIn};
+ghost use Rattle.mq_counts.specs.Counts.{AreCountable, AreCounts};
+ghost use Rattle.mq_counts.specs.Runs.{AreFirstSequences, AreSequencesOf};
 
-use crate::counts::{Counts, Ended, counted, counts_of};
+use crate::counts::{Counts, NodeSequences, counted, counts_of};
 use crate::later::{held_stay_on, totals_until};
 use mq_base::{List, OutOfMemory};
 use mq_core::{
@@ -22,18 +22,24 @@ use std::alloc::Global;
 use std::thread::Threads;
 
 // What came to a node over the run, and what left it.
-fn ended_at<'a>(plan: &Plan, rows: &Rows, run: &'a Run, node: u32, declared: &'a Node) -> Ended<'a>
+fn sequences_at<'a>(
+    plan: &Plan,
+    rows: &Rows,
+    run: &'a Run,
+    node: u32,
+    declared: &'a Node,
+) -> NodeSequences<'a>
     requires read { IsReadFor plan.now.net rows.now }
     requires run { IsRunOf plan.now rows.now run.now }
     requires few { HasFewVisits plan.now rows.now }
     requires there { slice_get plan.now.net.nodes node ≡ Some declared.now }
-    ensures ended { IsEnded rows.now result }
-    ensures its { IsEndedIn plan.now rows.now node declared.now result }
+    ensures countable { AreCountable rows.now result }
+    ensures its { AreSequencesOf plan.now rows.now node declared.now result }
 {
     runs_have_sequences();
     runs_give_visits();
     runs_give_streams();
-    Ended {
+    NodeSequences {
         number: node,
         kind: &declared.kind,
         visits: run.visits.get(node as usize),
@@ -42,22 +48,22 @@ fn ended_at<'a>(plan: &Plan, rows: &Rows, run: &'a Run, node: u32, declared: &'a
 }
 
 // The same of each node, by node.
-fn ended_by_node<'a>(
+fn sequences_by_node<'a>(
     alloc: Global,
     plan: &'a Plan,
     rows: &Rows,
     run: &'a Run,
-) -> Result<List<Ended<'a>>, OutOfMemory>
+) -> Result<List<NodeSequences<'a>>, OutOfMemory>
     requires read { IsReadFor plan.now.net rows.now }
     requires run { IsRunOf plan.now rows.now run.now }
     requires few { HasFewVisits plan.now rows.now }
-    ensures { IfOk result (λ all. AreEndedBy plan.now rows.now (length plan.now.net.nodes) all) }
+    ensures { IfOk result (λ all. AreFirstSequences plan.now rows.now (length plan.now.net.nodes) all) }
 {
     nodes_are_in_limits();
     let mut all = List::new(alloc);
     for node in 0..plan.net.nodes.len() {
         let declared = plan.net.nodes.get(node);
-        all.push(ended_at(plan, rows, run, node as u32, declared))?;
+        all.push(sequences_at(plan, rows, run, node as u32, declared))?;
     }
     Ok(all)
 }
@@ -81,7 +87,7 @@ pub fn counts_of_run<R: Threads + Sync, G: Gate>(
     requires few { HasFewVisits plan.now rows.now }
     ensures { IfOk result (AreCounts plan.now rows.now form) }
 {
-    let all = ended_by_node(alloc, plan, rows, run)?;
+    let all = sequences_by_node(alloc, plan, rows, run)?;
     let nodes = plan.net.nodes.as_slice();
     match counts_of(rt, alloc, workers, nodes, rows, &all, form, gate) {
         Ok(counts) => {

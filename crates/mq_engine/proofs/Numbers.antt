@@ -21,8 +21,8 @@ use Rattle.mq_core.specs.declared.model.Stream.{Stream}
 use Rattle.mq_core.specs.declared.model.Visits.{Visits}
 use Rattle.mq_counts.proofs.Endings.{streams-leave}
 use Rattle.mq_counts.proofs.Lists.{each-has, pushed-at}
-use Rattle.mq_counts.specs.Counts.{AreCountsOf, AreNodeCounts, IsCountAt, IsCountOf, IsEnded}
-use Rattle.mq_counts.specs.declared.counts.Ended.{Ended}
+use Rattle.mq_counts.specs.Counts.{AreCountable, AreCountsOf, AreNodeCounts, IsCountAt, IsCountOf}
+use Rattle.mq_counts.specs.declared.counts.NodeSequences.{NodeSequences}
 use Rattle.mq_counts.specs.declared.counts.NodeCount.{NodeCount}
 use Rattle.mq_exits.proofs.Known.{fine-few}
 use Rattle.mq_exits.specs.Results.{IsKnown, IsWorkedOut}
@@ -31,7 +31,7 @@ use Rattle.mq_exits.specs.declared.working.Ending.TheVariants.{OnTime, TooMany, 
 use Rattle.mq_exits.specs.declared.working.NodeResult.{NodeResult}
 use Rattle.mq_stats.specs.Numbers.{AreLeaving, AreVisits}
 use Rattle.mq_stats.specs.RunNumbers.{RunsGiveStreams, RunsGiveVisits}
-use Rattle.mq_engine.specs.Counting.{AreEnded, AreTold, IsCounting, IsEndedAt, IsEndedOf, IsNobody, IsToldOf}
+use Rattle.mq_engine.specs.Counting.{AreResultSequences, AreSequencesAt, AreTold, AreWaveSequences, IsCounting, IsNobody, IsToldOf}
 use Rattle.mq_engine.specs.Progress.{AreWorkedOut, is_waiting}
 use Rattle.mq_engine.specs.declared.progress.Stand.{Stand}
 use Rattle.mq_engine.specs.declared.progress.Stand.TheVariants.{Waiting, Done}
@@ -68,42 +68,42 @@ nobody-visits rows kind visits none =
     }
 
 -- Those of none, and of one more.
-pub ended-none : (plan : Plan) (rows : Rows) (results : List NodeResult) (all : List Ended) → all ≡ [] → AreEnded plan rows results 0 all
-ended-none plan rows results all none = rw none (record { len = refl; ended = tt; each = λ i ended here node_result there. absurd cc })
+pub sequences-none : (plan : Plan) (rows : Rows) (results : List NodeResult) (all : List NodeSequences) → all ≡ [] → AreWaveSequences plan rows results 0 all
+sequences-none plan rows results all none = rw none (record { len = refl; countable = tt; each = λ i sequences here node_result there. absurd cc })
 
-pub ended-more : (plan : Plan) (rows : Rows) (results : List NodeResult) (i : ℕ) (all all' : List Ended) (node_result : NodeResult) (ended : Ended) → AreEnded plan rows results i all → slice_get results i ≡ Some node_result → IsEnded rows ended → IsEndedOf plan node_result ended → all' ≡ all ++ ended ∷ [] → AreEnded plan rows results (i + 1) all'
-ended-more plan rows results i all all' node_result ended so_far here own of grown =
-    let one = length-append all (ended ∷ []) in
+pub sequences-more : (plan : Plan) (rows : Rows) (results : List NodeResult) (i : ℕ) (all all' : List NodeSequences) (node_result : NodeResult) (sequences : NodeSequences) → AreWaveSequences plan rows results i all → slice_get results i ≡ Some node_result → AreCountable rows sequences → AreResultSequences plan node_result sequences → all' ≡ all ++ sequences ∷ [] → AreWaveSequences plan rows results (i + 1) all'
+sequences-more plan rows results i all all' node_result sequences so_far here own of grown =
+    let one = length-append all (sequences ∷ []) in
     let len = so_far.len in
     let longer = ap length grown in
     record {
       len = omega arith;
-      ended = subst (Each (IsEnded rows)) (sym grown) (Each-append (IsEnded rows) all (ended ∷ []) so_far.ended (own, tt));
-      each = pushed-at (λ j (x : Ended). (r : NodeResult) → slice_get results j ≡ Some r → IsEndedOf plan r x) i all all' ended so_far.len so_far.each
-          (λ r there. subst (λ (x : NodeResult). IsEndedOf plan x ended) (some_inj node_result r (sym here ∙ there)) of) grown;
+      countable = subst (Each (AreCountable rows)) (sym grown) (Each-append (AreCountable rows) all (sequences ∷ []) so_far.countable (own, tt));
+      each = pushed-at (λ j (x : NodeSequences). (r : NodeResult) → slice_get results j ≡ Some r → AreResultSequences plan r x) i all all' sequences so_far.len so_far.each
+          (λ r there. subst (λ (x : NodeResult). AreResultSequences plan x sequences) (some_inj node_result r (sym here ∙ there)) of) grown;
     }
 
-pub ended-all : (plan : Plan) (rows : Rows) (results : List NodeResult) (i : ℕ) (all : List Ended) → AreEnded plan rows results i all → i ≡ length results → AreEnded plan rows results (length results) all
-ended-all plan rows results i all so_far e = subst (λ n. AreEnded plan rows results n all) e so_far
+pub sequences-all : (plan : Plan) (rows : Rows) (results : List NodeResult) (i : ℕ) (all : List NodeSequences) → AreWaveSequences plan rows results i all → i ≡ length results → AreWaveSequences plan rows results (length results) all
+sequences-all plan rows results i all so_far e = subst (λ n. AreWaveSequences plan rows results n all) e so_far
 
 -- what is told of them is told of the nodes of the run
-told-at : (plan : Plan) (rows : Rows) (form v : ℕ) (node : Node) (ending : Ending) (ended : Ended) (count : NodeCount) → slice_get plan.net.nodes v ≡ Some node → IsKnown plan rows v node ending → IsEndedAt plan v ending ended →
-    IsCountOf plan.net.nodes rows form ended.number ended.kind.now ended.visits.now ended.streams.now count → IsToldOf plan rows form v ending count
-told-at plan rows form v node (OnTime came left) ended count there k of is = λ other here.
+told-at : (plan : Plan) (rows : Rows) (form v : ℕ) (node : Node) (ending : Ending) (sequences : NodeSequences) (count : NodeCount) → slice_get plan.net.nodes v ≡ Some node → IsKnown plan rows v node ending → AreSequencesAt plan v ending sequences →
+    IsCountOf plan.net.nodes rows form sequences.number sequences.kind.now sequences.visits.now sequences.streams.now count → IsToldOf plan rows form v ending count
+told-at plan rows form v node (OnTime came left) sequences count there k of is = λ other here.
     let same : node ≡ other = some_inj node other (sym there ∙ here) in
     subst (λ (n : Node). IsCountAt plan rows form v n count) same
     (subst (λ (p : ℕ × Kind × Visits × List Stream). IsCountOf plan.net.nodes rows form p.0 p.1 p.2 p.3 count) (λ i. (of.0 i, of.1 node there i, (of.2 ∙ k.0) i, (of.3 ∙ k.1) i)) is)
-told-at plan rows form v node (TooMany fault) ended count there k of is = tt
-told-at plan rows form v node (TooLate fault) ended count there k of is = tt
+told-at plan rows form v node (TooMany fault) sequences count there k of is = tt
+told-at plan rows form v node (TooLate fault) sequences count there k of is = tt
 
-pub told-all : (plan : Plan) (rows : Rows) (form : ℕ) (results : List NodeResult) (all : List Ended) (counts : List NodeCount) → AreWorkedOut plan rows results → AreEnded plan rows results (length results) all → AreCountsOf plan.net.nodes rows form all counts → AreTold plan rows form results counts
-told-all plan rows form results all counts known ended are = record {
-  len = are.len ∙ ended.len;
+pub told-all : (plan : Plan) (rows : Rows) (form : ℕ) (results : List NodeResult) (all : List NodeSequences) (counts : List NodeCount) → AreWorkedOut plan rows results → AreWaveSequences plan rows results (length results) all → AreCountsOf plan.net.nodes rows form all counts → AreTold plan rows form results counts
+told-all plan rows form results all counts known sequences are = record {
+  len = are.len ∙ sequences.len;
   each = λ b d l node_result there.
-      let inside : b < length all = subst (λ (n : ℕ). b < n) (sym ended.len) l in
+      let inside : b < length all = subst (λ (n : ℕ). b < n) (sym sequences.len) l in
       let its = get-some all b inside in
       let own = each-has (IsWorkedOut plan rows) results b node_result known there in
-      told-at plan rows form node_result.number own.0 node_result.ending its.0 (slice_index_or counts b d) own.1 own.2 (ended.each b its.0 its.1 node_result there) (are.each b d inside its.0 its.1);
+      told-at plan rows form node_result.number own.0 node_result.ending its.0 (slice_index_or counts b d) own.1 own.2 (sequences.each b its.0 its.1 node_result there) (are.each b d inside its.0 its.1);
 }
 
 -- where all nodes are done

@@ -12,8 +12,8 @@ use Rattle.mq_core.specs.declared.model.Rows.{Rows}
 use Rattle.mq_core.specs.declared.model.Stream.{Stream}
 use Rattle.mq_core.specs.declared.model.Visits.{Visits}
 use Rattle.mq_crew.specs.Crew.{AreAll}
-use Rattle.mq_counts.specs.Counts.{IsCountAt, IsEnded}
-use Rattle.mq_counts.specs.declared.counts.Ended.{Ended}
+use Rattle.mq_counts.specs.Counts.{AreCountable, IsCountAt}
+use Rattle.mq_counts.specs.declared.counts.NodeSequences.{NodeSequences}
 use Rattle.mq_counts.specs.declared.counts.NodeCount.{NodeCount}
 use Rattle.mq_exits.specs.Refusals.{over_told, past_told}
 use Rattle.mq_exits.specs.declared.working.Ending.{Ending}
@@ -89,17 +89,17 @@ abbrev pub AreTold : Plan → Rows → ℕ → List NodeResult → List NodeCoun
 AreTold plan rows form results counts = AreAll (IsToldIn plan rows form results) (length results) counts
 
 -- what came to a node that ended on time, and what left it
-abbrev pub IsEndedAt : Plan → ℕ → Ending → Ended → Type 0
-IsEndedAt plan v (OnTime came left) ended =
-    (ended.number ≡ v) × ((node : Node) → slice_get plan.net.nodes v ≡ Some node → ended.kind.now ≡ node.kind) × (ended.visits.now ≡ came) × (ended.streams.now ≡ left)
-IsEndedAt plan v (TooMany fault) ended = Unit {0}
-IsEndedAt plan v (TooLate fault) ended = Unit {0}
+abbrev pub AreSequencesAt : Plan → ℕ → Ending → NodeSequences → Type 0
+AreSequencesAt plan v (OnTime came left) sequences =
+    (sequences.number ≡ v) × ((node : Node) → slice_get plan.net.nodes v ≡ Some node → sequences.kind.now ≡ node.kind) × (sequences.visits.now ≡ came) × (sequences.streams.now ≡ left)
+AreSequencesAt plan v (TooMany fault) sequences = Unit {0}
+AreSequencesAt plan v (TooLate fault) sequences = Unit {0}
 
-abbrev pub IsEndedOf : Plan → NodeResult → Ended → Type 0
-IsEndedOf plan node_result ended = IsEndedAt plan node_result.number node_result.ending ended
+abbrev pub AreResultSequences : Plan → NodeResult → NodeSequences → Type 0
+AreResultSequences plan node_result sequences = AreSequencesAt plan node_result.number node_result.ending sequences
 
 -- those of the first of these, as many as this
-pub record AreEnded (plan : Plan) (rows : Rows) (results : List NodeResult) (count : ℕ) (all : List Ended) : Type 0 where
+pub record AreWaveSequences (plan : Plan) (rows : Rows) (results : List NodeResult) (count : ℕ) (all : List NodeSequences) : Type 0 where
   pub len : length all ≡ count
-  pub ended : AllByRecursion (IsEnded rows) all
-  pub each : (i : ℕ) (ended : Ended) → slice_get all i ≡ Some ended → (node_result : NodeResult) → slice_get results i ≡ Some node_result → IsEndedOf plan node_result ended
+  pub countable : AllByRecursion (AreCountable rows) all
+  pub each : (i : ℕ) (sequences : NodeSequences) → slice_get all i ≡ Some sequences → (node_result : NodeResult) → slice_get results i ≡ Some node_result → AreResultSequences plan node_result sequences

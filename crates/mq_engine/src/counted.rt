@@ -26,8 +26,9 @@ use std::thread::Threads;
 /// What the run of a plan over the rows that were read for its network tells, in a report of this form: the numbers of
 /// each node, and of what leaves the network.
 ///
-/// Sources come first: what came to one is what leaves it, and is handed on whole. The other nodes are worked out as `run` does it. Behind each wave the numbers of its nodes are told, and their visits are let go; what leaves
-/// a node is let go when all nodes that read some of it are worked out. It refuses as `run` does.
+/// Sources come first: what came to one is what leaves it, and is handed on whole. The other nodes are worked out as `run` does
+/// it. Behind each wave the numbers of its nodes are told, and their visits are let go; what leaves a node is let go when all nodes
+/// that read some of it are worked out. It refuses as `run` does.
 pub fn run_counted<R: Threads + Sync, G: Gate>(
     rt: &R,
     alloc: Global,

@@ -2,15 +2,15 @@
 ghost use Rattle.std.specs.Prelude.{◌≡◌, ◌≤◌, [], length, IfOk};
 ghost use Rattle.std.specs.List.{AllByRecursion};
 ghost use Rattle.mq_core.specs.Theorems.{IsReadFor};
-ghost use Rattle.mq_counts.specs.Counts.{IsEnded};
+ghost use Rattle.mq_counts.specs.Counts.{AreCountable};
 ghost use Rattle.mq_exits.specs.Results.{IsWorkedOut};
-ghost use Rattle.mq_engine.specs.Counting.{AreEnded, AreTold, IsEndedOf, IsNobody};
+ghost use Rattle.mq_engine.specs.Counting.{AreResultSequences, AreTold, AreWaveSequences, IsNobody};
 ghost use Rattle.mq_engine.specs.Progress.{AreWorkedOut};
 
 use crate::progress::no_visits;
 use mq_base::{List, OutOfMemory};
 use mq_core::{Plan, Rows, Stream, Visits};
-use mq_counts::{Ended, NodeCount, counts_of};
+use mq_counts::{NodeCount, NodeSequences, counts_of};
 use mq_crew::Gate;
 use mq_exits::{Ending, NodeResult};
 use mq_stats::{runs_give_streams, runs_give_visits};
@@ -18,32 +18,32 @@ use std::alloc::Global;
 use std::thread::Threads;
 
 // What came to a node and what left it. Where it is refused nothing is looked at: neither is told.
-fn ended_of<'a>(
+fn sequences_of<'a>(
     plan: &'a Plan,
     rows: &Rows,
     node_result: &'a NodeResult,
     nobody: &'a Visits,
     nothing: &'a List<Stream>,
-) -> Ended<'a>
+) -> NodeSequences<'a>
     requires read { IsReadFor plan.now.net rows.now }
     requires known { IsWorkedOut plan.now rows.now node_result.now }
     requires nobody { IsNobody nobody.now }
     requires nothing { nothing.now ≡ [] }
-    ensures ended { IsEnded rows.now result }
-    ensures of { IsEndedOf plan.now node_result.now result }
+    ensures countable { AreCountable rows.now result }
+    ensures of { AreResultSequences plan.now node_result.now result }
 {
     runs_give_visits();
     runs_give_streams();
     let kind = &plan.net.nodes.get(node_result.number as usize).kind;
     let number = node_result.number;
     match &node_result.ending {
-        Ending::OnTime(visits, streams) => Ended {
+        Ending::OnTime(visits, streams) => NodeSequences {
             number,
             kind,
             visits,
             streams,
         },
-        Ending::TooMany(_) | Ending::TooLate(_) => Ended {
+        Ending::TooMany(_) | Ending::TooLate(_) => NodeSequences {
             number,
             kind,
             visits: nobody,
@@ -53,23 +53,23 @@ fn ended_of<'a>(
 }
 
 // The same of each node.
-fn all_ended<'a>(
+fn all_sequences<'a>(
     alloc: Global,
     plan: &'a Plan,
     rows: &Rows,
     results: &'a List<NodeResult>,
     nobody: &'a Visits,
     nothing: &'a List<Stream>,
-) -> Result<List<Ended<'a>>, OutOfMemory>
+) -> Result<List<NodeSequences<'a>>, OutOfMemory>
     requires read { IsReadFor plan.now.net rows.now }
     requires known { AreWorkedOut plan.now rows.now results.now }
     requires nobody { IsNobody nobody.now }
     requires nothing { nothing.now ≡ [] }
-    ensures { IfOk result (AreEnded plan.now rows.now results.now (length results.now)) }
+    ensures { IfOk result (AreWaveSequences plan.now rows.now results.now (length results.now)) }
 {
     let mut all = List::new(alloc);
     for at in 0..results.len() {
-        all.push(ended_of(plan, rows, results.get(at), nobody, nothing))?;
+        all.push(sequences_of(plan, rows, results.get(at), nobody, nothing))?;
     }
     Ok(all)
 }
@@ -96,7 +96,7 @@ fn counts_beside<R: Threads + Sync, G: Gate>(
     requires nothing { nothing.now ≡ [] }
     ensures { IfOk result (AreTold plan.now rows.now form results.now) }
 {
-    let all = all_ended(alloc, plan, rows, results, nobody, nothing)?;
+    let all = all_sequences(alloc, plan, rows, results, nobody, nothing)?;
     let nodes = plan.net.nodes.as_slice();
     let counts = counts_of(rt, alloc, workers, nodes, rows, &all, form, gate);
     drop(all);

@@ -285,7 +285,15 @@ fn report_jobs<R: Threads + Sync, G: Gate, O: Sink>(
 {
     runs_are_of_networks();
     runs_have_few_visits();
-    let run = match run(crew.rt, alloc, plan, rows, crew.workers, crew.block, crew.gate) {
+    let run = match run(
+        crew.rt,
+        alloc,
+        plan,
+        rows,
+        crew.workers,
+        crew.block,
+        crew.gate,
+    ) {
         Ok(run) => run,
         Err(RunFault::Over(fault)) => return Outcome::Over(fault),
         Err(RunFault::Past(fault)) => return Outcome::Past(fault),

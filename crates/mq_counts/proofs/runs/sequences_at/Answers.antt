@@ -4,7 +4,7 @@ use Rattle.mq_core.specs.Sound.{outputs_in}
 use Rattle.mq_stats.specs.Numbers.{AreLeaving, AreVisits}
 use Rattle.mq_counts.proofs.Endings.{streams-leave}
 use Rattle.mq_counts.proofs.Sequences.{outputs_are, outputs_inside, visits_are, visits_inside}
-use Rattle.mq_counts.proofs.runs.ended_at.Goals as goal
+use Rattle.mq_counts.proofs.runs.sequences_at.Goals as goal
 
 pub get-requires : goal.get-requires
 get-requires c = visits_inside c.runs_have_sequences.ensures c.args.plan.now c.args.rows.now c.args.run.now c.args.node c.args.declared.now c.requires.run c.requires.there
@@ -12,8 +12,8 @@ get-requires c = visits_inside c.runs_have_sequences.ensures c.args.plan.now c.a
 pub get-requires-2 : goal.get-requires-2
 get-requires-2 c = outputs_inside c.runs_have_sequences.ensures c.args.plan.now c.args.rows.now c.args.run.now c.args.node c.args.declared.now c.requires.run c.requires.there
 
-pub returns-clause-ended : goal.returns-clause-ended
-returns-clause-ended c =
+pub returns-clause-countable : goal.returns-clause-countable
+returns-clause-countable c =
     let few = c.requires.few c.args.node c.args.declared.now c.requires.there in
     record {
       visits =

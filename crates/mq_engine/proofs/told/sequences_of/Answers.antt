@@ -4,10 +4,10 @@ use Rattle.mq_core.specs.declared.model.Node.{Node}
 use Rattle.mq_exits.specs.Results.{IsKnown}
 use Rattle.mq_stats.specs.Numbers.{AreVisits}
 use Rattle.mq_engine.proofs.Numbers.{known-streams, known-visits}
-use Rattle.mq_engine.proofs.told.ended_of.Goals as goal
+use Rattle.mq_engine.proofs.told.sequences_of.Goals as goal
 
-pub returns-in-OnTime-clause-ended : goal.returns-in-OnTime-clause-ended
-returns-in-OnTime-clause-ended c =
+pub returns-in-OnTime-clause-countable : goal.returns-in-OnTime-clause-countable
+returns-in-OnTime-clause-countable c =
     let plan = c.args.plan.now in
     let rows = c.args.rows.now in
     let v = c.args.node_result.now.number in
